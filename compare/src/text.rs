@@ -1,0 +1,64 @@
+//! The proved reader and writer held against the second implementation: answers and whole buffers.
+
+use second::generate;
+use second::random::Random;
+
+/// What a service answers and leaves in the buffer it was lent.
+type Left<T> = (Result<usize, (u32, u32)>, Vec<T>);
+
+/// How often each answer came: place 0 for a count, else the refusal's number.
+pub type Answers = [u64; 17];
+
+/// Reads a generated text into a buffer, both ways; tells the difference if there is one.
+pub fn reading(random: &mut Random, answers: &mut Answers) -> Result<(), String> {
+    let text = generate::text(random);
+    let lines = text.iter().filter(|byte| **byte == b'\n').count();
+    let rows = junk(random, lines * 4, |bits| bits as u32);
+    let proved = left(&rows, |rows| fickle::read_rows(&text, rows).map_err(|no| (no.number, no.line)));
+    let second = left(&rows, |rows| second::text::read_rows(&text, rows).map_err(|no| (no.number, no.line)));
+    same("read_rows", &format!("{:?}", String::from_utf8_lossy(&text)), proved, second, answers)
+}
+
+/// Writes a generated row buffer as text, both ways.
+pub fn writing(random: &mut Random, answers: &mut Answers) -> Result<(), String> {
+    let rows = generate::row_buffer(random);
+    let text = junk(random, rows.len() * 2, |bits| bits as u8);
+    let proved = left(&text, |text| fickle::write_text(&rows, text).map_err(|no| (no.number, no.line)));
+    let second = left(&text, |text| second::text::write_text(&rows, text).map_err(|no| (no.number, no.line)));
+    same("write_text", &format!("{rows:?}"), proved, second, answers)
+}
+
+/// A buffer full of junk: about as long as needed, at times too short, at times longer.
+fn junk<T>(random: &mut Random, about: usize, number: fn(u64) -> T) -> Vec<T> {
+    let length = match random.below(8) {
+        0 => random.below(about + 1),
+        1 => about.saturating_sub(1),
+        2 => about,
+        _ => about + random.below(16),
+    };
+    (0..length).map(|_| number(random.bits())).collect()
+}
+
+/// Lends a copy of a buffer to a service.
+fn left<T: Clone>(buffer: &[T], service: impl FnOnce(&mut [T]) -> Result<usize, (u32, u32)>) -> Left<T> {
+    let mut lent = buffer.to_vec();
+    (service(&mut lent), lent)
+}
+
+/// Counts the answer, or tells the difference between the two.
+fn same<T: PartialEq>(
+    service: &str,
+    input: &str,
+    proved: Left<T>,
+    second: Left<T>,
+    answers: &mut Answers,
+) -> Result<(), String> {
+    if proved.0 != second.0 {
+        return Err(format!("{service} of {input}: {:?}, second {:?}", proved.0, second.0));
+    }
+    if proved.1 != second.1 {
+        return Err(format!("{service} of {input}: the buffers differ"));
+    }
+    answers[proved.0.map_or_else(|(number, _)| number as usize, |_| 0)] += 1;
+    Ok(())
+}

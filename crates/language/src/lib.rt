@@ -1,0 +1,39 @@
+// What every service shares: the letters of records, and the answer of a service that fills a lent buffer.
+ghost use mathlib.Core.Path.{_≡_};
+ghost use Rattle.language.specs.Rows.{numbers-after};
+
+// What filling a lent buffer answers: how many rows or bytes were written, or a refusal's number and line.
+pub enum Filled {
+    Done(usize),
+    Refused(u32, u32),
+}
+
+// How many made-numbers follow the letter of an ASCII code; 3, more than any record has, where it is no letter's.
+pub fn count_numbers(code: u32) -> u32
+    ensures { λ r. ⌜ r ≡ numbers-after code ⌝ }
+{
+    match code {
+        67 => 2,
+        70 => 2,
+        77 => 2,
+        80 => 1,
+        88 => 1,
+        83 => 0,
+        66 => 2,
+        86 => 1,
+        84 => 0,
+        76 => 0,
+        78 => 0,
+        73 => 1,
+        90 => 0,
+        71 => 1,
+        75 => 1,
+        87 => 1,
+        82 => 2,
+        65 => 1,
+        85 => 1,
+        81 => 2,
+        74 => 0,
+        _ => 3,
+    }
+}

@@ -1,0 +1,5 @@
+pub mod Decimals
+pub mod Digits
+pub mod Lines
+pub mod Texts
+pub mod RoundTrip

@@ -1,0 +1,15 @@
+//! The second implementation of the label rules in Fickle II, written from document 01:
+//! a tree, a typing pass and an evaluator over it. It is what the proved services are compared with.
+
+pub mod agree;
+pub mod check;
+pub mod generate;
+pub mod headings;
+pub mod machine;
+pub mod plain;
+pub mod programs;
+pub mod random;
+pub mod rows;
+pub mod text;
+pub mod tree;
+pub mod typing;
