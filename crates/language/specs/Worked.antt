@@ -1,14 +1,15 @@
 -- The starred lines of document 01, "Worked programs": one table, one theorem, by computation.
+-- After them stand programs that the plausible errors of document 01 would get wrong.
 use mathlib.Core.Path.{_≡_, refl}
 use Prim.Native.Nat.{ℕ}
-use mathlib.Core.Bool.{true}
+use mathlib.Core.Bool.{true, false}
 use mathlib.Core.List.{List, [], _∷_, map}
 use lib.ListN.{replicate}
 use Rattle.language.specs.Lists.{nth}
 use Rattle.language.specs.Results.{Checked, accept, refuse, bind-checked, need-checked, require}
 use Rattle.language.specs.Results.{earlier}
 use Rattle.language.specs.Rows.{Record, written, row-of, C-class, F-field, M-method, P-parameter}
-use Rattle.language.specs.Rows.{S-start, B-block, V-local, T-true, I-slot, G-get, K-cast, W-new}
+use Rattle.language.specs.Rows.{S-start, B-block, V-local, T-true, N-null, I-slot, G-get, K-cast, W-new}
 use Rattle.language.specs.Rows.{R-change, A-assign, U-set, Q-call, letter-among, record-of, rows-of}
 use Rattle.language.specs.Rows.{numbers-of}
 use Rattle.language.specs.Tree.{count, size, heading-lines, method-lines, methods-lines, class-lines}
@@ -27,7 +28,7 @@ use Rattle.language.specs.Form.{form}
 use Rattle.language.specs.Headings.{same-types, lines-within, check-fields, check-parameters}
 use Rattle.language.specs.Headings.{check-effects, check-methods, check-class, check-classes}
 use Rattle.language.specs.Headings.{headings}
-use Rattle.language.specs.Verdict.{Verdict, refused, whole-rows, three-passes, check, verdict}
+use Rattle.language.specs.Verdict.{Verdict, accepted, refused, whole-rows, three-passes, check, verdict}
 use Rattle.language.specs.Evaluation.{truth, raised, spent, eval, call-at, run}
 use Rattle.language.specs.Translation.{position, plain-slot, read-slot, _⊕_, reads, copies}
 use Rattle.language.specs.Translation.{plain-change, translate, plain-classes, plain-program}
@@ -40,9 +41,10 @@ use Rattle.language.specs.Store.{stored, runnable, run-of}
 abbrev pub numbers-in : List Record → List ℕ
 numbers-in rs = numbers-of (map row-of rs)
 
--- What is asked of a program: its verdict, its translation, or a run of one of the two with so much fuel.
+-- What is asked of a program: its verdict, its translation, the verdict on that, or a run of one of the two with so
+-- much fuel.
 pub data Question : Type 0 where
-  verdict-of-it translation-of-it : Question
+  verdict-of-it translation-of-it plain-verdict : Question
   run-with plain-run-with : ℕ → Question
 
 pub data Reply : Type 0 where
@@ -59,8 +61,13 @@ abbrev pub run-plain : Checked (List ℕ) → ℕ → Answer
 run-plain (accept ns) fuel = run-of ns fuel lent .answer
 run-plain (refuse n l) fuel = Answer.refused n l
 
+abbrev pub judge-plain : Checked (List ℕ) → Verdict
+judge-plain (accept ns) = verdict ns
+judge-plain (refuse n l) = refused n l
+
 abbrev pub ask : List ℕ → Question → Reply
 ask ns verdict-of-it = judged (verdict ns)
+ask ns plain-verdict = judged (judge-plain (translation ns))
 ask ns translation-of-it = translated (translation ns)
 ask ns (run-with fuel) = answered (run-of ns fuel lent .answer)
 ask ns (plain-run-with fuel) = answered (run-plain (translation ns) fuel)
@@ -135,6 +142,21 @@ null-receiver =
     ∷ written V-local 1 0 ∷ written Q-call 0 1 ∷ written I-slot 1 0
     ∷ written K-cast 2 0 ∷ written W-new 1 0 ∷ []
 
+-- Two state classes with a field of the same name below their root; it is set, the class changed, and the field read.
+abbrev pub same-field : List Record
+same-field =
+    written C-class 1 0 ∷ written C-class 2 1 ∷ written F-field 255 0 ∷ written C-class 2 1
+    ∷ written F-field 255 0 ∷ written S-start 0 0 ∷ written B-block 1 4 ∷ written V-local 1 0
+    ∷ written A-assign 1 0 ∷ written W-new 2 0 ∷ written U-set 0 0 ∷ written R-change 1 2 ∷ written T-true 0 0
+    ∷ written R-change 1 3 ∷ written G-get 0 0 ∷ written R-change 1 3 ∷ []
+
+-- Two methods, of which the second gives null for bool.
+abbrev pub second-method : List Record
+second-method =
+    written C-class 0 0 ∷ written M-method 255 0 ∷ written B-block 0 1 ∷ written T-true 0 0
+    ∷ written M-method 255 1 ∷ written B-block 0 1 ∷ written N-null 0 0 ∷ written S-start 0 0
+    ∷ written B-block 0 1 ∷ written T-true 0 0 ∷ []
+
 -- The table.
 unfoldable pub table : List Example
 table =
@@ -152,6 +174,15 @@ table =
     ∷ asked state-under-object verdict-of-it (judged (refused 5 1))
     ∷ asked change-this verdict-of-it (judged (refused 10 2))
     ∷ asked null-receiver (run-with 10000) (answered (ran (ended (raised 2)) 5 1 0))
+    -- The implementor is taken after the arguments have run.
+    ∷ asked null-receiver (plain-run-with 10000) (answered (ran (ended (raised 2)) 25 2 0))
+    -- Fields below the root are not copied.
+    ∷ asked same-field (run-with 10000) (answered (ran (gave (truth false)) 9 1 3))
+    ∷ asked same-field (plain-run-with 10000) (answered (ran (gave (truth false)) 86 5 0))
+    -- The else arm of R does not end with a copy, whose type may be bool.
+    ∷ asked program-d plain-verdict (judged accepted)
+    -- Every method is typed.
+    ∷ asked second-method verdict-of-it (judged (refused 9 5))
     ∷ []
 
 -- Each example of the table has its reply.
