@@ -1,8 +1,8 @@
 -- What a count of the numbers to write tells of the answer and the buffer. Assumes nothing.
 use mathlib.Core.Path.{_≡_, refl, sym, ap, _∙_}
-use mathlib.Core.Bool.{Bool, true, false, false≢true, cond}
+use mathlib.Core.Bool.{true, false, false≢true}
 use mathlib.Core.List.{List, [], _∷_, _++_}
-use Prim.Native.Nat.{ℕ, zero, suc, _+_, _-_, _/_, _≤_, _<_}
+use Prim.Native.Nat.{ℕ, suc, _+_, _-_, _/_, _≤_, _<_}
 use native.Mathlib.Numerals.{add-one}
 use native.Mathlib.Omega.{arith}
 use borrow.Author.Tests.{le-leb, lt-leb}
@@ -10,7 +10,6 @@ use lib.ListN.{length, getD, take, drop, set, replicate, length-append, length-d
 use lib.Seq.{sets, sets-eq, length-sets, length-take-le, take-append-seam, take-suc, drop-cons, set-at, append-snoc}
 use Rattle.language.specs.Results.{Checked, accept, refuse}
 use Rattle.language.specs.Filling.{before, answer, buffer, tally, is-made, made-numbers}
-use Rattle.language.specs.declared.Filled.{Filled}
 use Rattle.language.specs.declared.Filled.the-variants.{Done, Refused}
 
 -- two lists written one after the other

@@ -1,15 +1,15 @@
 -- Laws of letters and rows. Assumes nothing.
-use mathlib.Core.Path.{_≡_, refl, sym, ap, _∙_}
+use mathlib.Core.Path.{_≡_, refl, sym, _∙_}
 use mathlib.Core.Option.{Option, none, some}
 use mathlib.Core.Bool.{Bool, true, false, false≢true, _&&_, cond}
 use mathlib.Core.List.{List, [], _∷_}
-use Prim.Native.Nat.{ℕ, zero, suc, _<_, _≤_}
+use Prim.Native.Nat.{ℕ, zero, suc, _<_}
 use native.Mathlib.Omega.{arith}
 use borrow.Author.Tests.{eqb-true, ltb-true}
 use lib.Dec.{eqb, leb, ltb, leb·suc-zero, eqb·suc-zero}
 use Rattle.language.specs.Limits.{largest}
 use Rattle.language.specs.Lists.{bind-option, given, choice}
-use Rattle.language.specs.Rows.{Letter, letters, code, numbers, letter-among, numbers-after, most-at, well-made, Record, written, row, record-of, is-row}
+use Rattle.language.specs.Rows.{Letter, letters, code, numbers, letter-among, numbers-after, well-made, Record, written, row, record-of, is-row}
 
 -- a test of every letter
 abbrev every : (Letter → Bool) → List Letter → Bool

@@ -1,9 +1,9 @@
 -- Reading what the writer made gives the rows back, and writing what the reader read gives the text back.
 -- Assumes nothing.
 use mathlib.Core.Path.{_≡_, refl, sym, ap, _∙_}
-use mathlib.Core.Bool.{Bool, true, false, _&&_, cond, false≢true}
+use mathlib.Core.Bool.{Bool, true, false, cond, false≢true}
 use mathlib.Core.List.{List, [], _∷_, _++_, append-assoc}
-use Prim.Native.Nat.{ℕ, zero, suc, _+_, _%_, _≤_, _<_}
+use Prim.Native.Nat.{ℕ, zero, suc, _+_, _%_, _≤_}
 use native.Mathlib.Omega.{arith}
 use borrow.Author.Tests.{le-leb, leb-true, eq-eqb, eqb-true}
 use lib.Dec.{eqb, leb}
@@ -15,7 +15,7 @@ use Rattle.language.specs.Rows.{numbers-after, row, is-row}
 use Rattle.language.proofs.Rows.{are-numbers, is-row-by}
 use Rattle.text.specs.Decimals.{decimal-of, digits}
 use Rattle.text.specs.Lines.{field, is-end, taken, number-of, closed, then-line, numbered, line-of, line-text}
-use Rattle.text.specs.Texts.{with-line, no-more, read-lines, read-text, write-lines, write-rows}
+use Rattle.text.specs.Texts.{with-line, read-lines, read-text, write-lines, write-rows}
 use Rattle.text.specs.declared.Decimal.{Decimal}
 use Rattle.text.specs.declared.Decimal.the-variants.{Is, Bad}
 use Rattle.text.specs.declared.Taken.{Taken}

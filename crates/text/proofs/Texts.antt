@@ -1,22 +1,21 @@
 -- Laws of whole texts: what holds between two lines while a text is parsed or rows are formatted. Assumes nothing.
-use mathlib.Core.Path.{_≡_, refl, sym, ap, _∙_}
+use mathlib.Core.Path.{_≡_, refl, ap, _∙_}
 use mathlib.Core.Bool.{Bool, true, false, cond, false≢true}
-use mathlib.Core.List.{List, [], _∷_, _++_}
+use mathlib.Core.List.{List, [], _∷_}
 use mathlib.Core.Logic.{_⊎_, ⊎-elim}
 use Prim.Native.Nat.{ℕ, zero, suc, _+_, _-_, _*_, _/_, _%_, _≤_, _<_}
 use native.Mathlib.Omega.{arith}
 use borrow.Author.Tests.{eq-eqb, ne-eqb}
 use lib.Dec.{eqb}
-use lib.ListN.{length, getD, take, drop, length-append, length-drop, drop-of-length-le}
+use lib.ListN.{length, getD, drop, length-append, length-drop, drop-of-length-le}
 use lib.Seq.{drop-cons, drop-drop, sets}
 use Rattle.language.specs.Results.{Checked, accept, refuse}
 use Rattle.language.specs.Rows.{row, is-row}
 use Rattle.language.specs.Filling.{before, tally, is-made, made-numbers}
-use Rattle.language.specs.declared.Filled.{Filled}
 use Rattle.language.specs.declared.Filled.the-variants.{Done, Refused}
 use Rattle.language.proofs.Filling.{Left, left-start, left-refused, left-unmade, left-done, left-full, left-step}
 use Rattle.text.specs.Lines.{line-of, line-text}
-use Rattle.text.specs.Texts.{with-line, no-more, read-lines, read-text, write-lines, write-rows}
+use Rattle.text.specs.Texts.{with-line, read-lines, read-text, write-lines, write-rows}
 use Rattle.text.specs.Places.{line-at}
 use Rattle.text.specs.declared.Line.{Line}
 use Rattle.text.specs.declared.Line.the-variants.{Row, Malformed}

@@ -5,8 +5,6 @@ use borrow.Author.Tests.{ne-eqb}
 use Rattle.language.specs.Rows.{numbers-after, letter-among}
 use Rattle.language.proofs.count_numbers.Statement.{statement}
 use Rattle.language.proofs.count_numbers.Tie as tie
-use Rattle.language.proofs.count_numbers.Reads as reads
-use Rattle.language.proofs.count_numbers.Lts as lts
 
 returns : tie.Need-returns
 unfolding numbers-after letter-among
@@ -95,8 +93,9 @@ returns-21 c = sym (ap numbers-after (c .match .keys21))
 returns-22 : tie.Need-returns-22
 unfolding numbers-after letter-among
 returns-22 c =
+    let start = c .before in
     let r = c .match .rest in
-    let x = c .before .args .code in
+    let x = start .args .code in
     simp (
       ne-eqb 67 x (λ e. (r .0 .0 .0 .0 .0 .0 .0 .0 .0 .0 .0 .0 .0 .0 .0 .0 .0 .0 .0 .0 .1) (sym e)),
       ne-eqb 70 x (λ e. (r .0 .0 .0 .0 .0 .0 .0 .0 .0 .0 .0 .0 .0 .0 .0 .0 .0 .0 .0 .1) (sym e)),

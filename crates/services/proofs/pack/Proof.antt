@@ -1,14 +1,10 @@
-use mathlib.Core.Path.{_≡_, refl, sym, ap, _∙_}
-use mathlib.Core.List.{List, [], _∷_, _++_}
-use Prim.Native.Nat.{ℕ, suc, _+_, _-_, _*_, _≤_, _<_}
-use native.Mathlib.Omega.{arith}
-use lib.ListN.{length, getD, take, drop, set, length-set}
+-- `services::pack` meets its contract. Assumes nothing.
+use mathlib.Core.Path.{sym, ap}
+use Prim.Native.Nat.{_-_}
 use borrow.Author.Needs.{needs}
 use Rattle.services.specs.Packed.{packed}
 use Rattle.services.proofs.pack.Statement.{statement}
 use Rattle.services.proofs.pack.Tie as tie
-use Rattle.services.proofs.pack.Reads as reads
-use Rattle.services.proofs.pack.Lts as lts
 
 enum-known-answer : tie.Need-enum-known-answer
 enum-known-answer c = search needs
@@ -32,7 +28,9 @@ returns : tie.Need-returns
 returns c = search needs
 
 returns-2 : tie.Need-returns-2
-returns-2 c = sym (ap packed (c .before .answer2 .given .1))
+returns-2 c =
+    let the-answer2 = c .before .answer2 in
+    sym (ap packed (the-answer2 .given .1))
 
 pub pack-spec : {M : Type 1} → statement M
 pack-spec =

@@ -1,12 +1,8 @@
-use mathlib.Core.Path.{_≡_, refl, sym, ap, _∙_}
-use mathlib.Core.List.{List, [], _∷_, _++_}
-use Prim.Native.Nat.{ℕ, suc, _+_, _-_, _*_, _≤_, _<_}
+-- `text::write_decimal` meets its contract. Assumes nothing.
+use Prim.Native.Nat.{ℕ, _+_, _-_, _<_}
 use native.Mathlib.Omega.{arith}
-use lib.ListN.{length, getD, take, drop, set, length-set}
-use borrow.Author.Needs.{needs}
+use lib.ListN.{length-set}
 use Prim.Native.Nat.{ℕ, _<_}
-use lib.Seq.{sets, length-sets}
-use Rattle.text.specs.Decimals.{digits}
 use Rattle.text.proofs.Decimals.{length-low, length-high, write-low, write-high}
 use borrow.Fn.Kinds.{In}
 use borrow.Fn.PlainCycle.{Measures, is, falls, and}
@@ -47,13 +43,17 @@ write-decimal-slice-write-text : (t : ℕ) → write-decimal-lts.Need-slice-writ
   write-decimal-below t,
   write-decimal.Post,
 ) (write-decimal-at t) write-decimal.Post
-write-decimal-slice-write-text t c = omega (arith, c .before .before .pre .1, length-low (c .before .before .args .n) (c .if1 .taken))
+write-decimal-slice-write-text t c =
+    let start = c .before .before in
+    omega (arith, start .pre .1, length-low (start .args .n) (c .if1 .taken))
 
 write-decimal-add-result : (t : ℕ) → write-decimal-lts.Need-add-result (
   write-decimal-below t,
   write-decimal.Post,
 ) (write-decimal-at t) write-decimal.Post
-write-decimal-add-result t c = omega (arith, c .before .before .pre .1, c .before .before .good .0 .0, length-low (c .before .before .args .n) (c .if1 .taken))
+write-decimal-add-result t c =
+    let start = c .before .before in
+    omega (arith, start .pre .1, start .good .0 .0, length-low (start .args .n) (c .if1 .taken))
 
 write-decimal-same-length : (t : ℕ) → write-decimal-lts.Need-same-length (
   write-decimal-below t,
@@ -65,13 +65,29 @@ write-decimal-returns : (t : ℕ) → write-decimal-lts.Need-returns (
   write-decimal-below t,
   write-decimal.Post,
 ) (write-decimal-at t) write-decimal.Post
-write-decimal-returns t c = (omega (arith, length-low (c .before .before .args .n) (c .if1 .taken)), write-low (c .before .before .args .text .now) (c .before .before .args .at) (c .before .before .args .n) (c .if1 .taken))
+write-decimal-returns t c =
+    let start = c .before .before in
+    let n = start .args .n in (
+      omega (arith, length-low n (c .if1 .taken)),
+      write-low (start .args .text .now) (start .args .at) n (c
+          .if1 .taken),
+    )
 
 write-decimal-write-decimal-requires : (t : ℕ) → write-decimal-lts.Need-write-decimal-requires (
   write-decimal-below t,
   write-decimal.Post,
 ) (write-decimal-at t) write-decimal.Post
-write-decimal-write-decimal-requires t c κs = (omega (arith, c .before .before .before .pre .0, c .before .if1 .left), omega (arith, c .before .before .before .pre .1, length-high (c .before .before .before .args .n) (c .before .if1 .left)))
+write-decimal-write-decimal-requires t c κs =
+    let start = c .before .before .before in
+    let the-if1 = c .before .if1 in (
+      omega (arith, start .pre .0, the-if1 .left),
+      omega (
+        arith,
+        start .pre .1,
+        length-high (start .args .n)
+            (the-if1 .left),
+      ),
+    )
 
 write-decimal-add-text-2 : (t : ℕ) → write-decimal-lts.Need-add-text-2 (
   write-decimal-below t,
@@ -89,25 +105,59 @@ write-decimal-slice-write-text-2 : (t : ℕ) → write-decimal-lts.Need-slice-wr
   write-decimal-below t,
   write-decimal.Post,
 ) (write-decimal-at t) write-decimal.Post
-write-decimal-slice-write-text-2 t c = omega (arith, c .before .before .before .before .before .before .pre .1, length-high (c .before .before .before .before .before .before .args .n) (c .before .before .before .before .if1 .left), c .before .before .write-decimal .ensures .0, c .before .before .write-decimal .kept .0)
+write-decimal-slice-write-text-2 t c =
+    let start = c .before .before .before .before .before .before in
+    let the-if1 = c .before .before .before .before .if1 in
+    let the-write-decimal = c .before .before .write-decimal in
+    omega (
+      arith,
+      start .pre .1,
+      length-high (start .args .n) (the-if1 .left),
+      the-write-decimal .ensures .0,
+      the-write-decimal .kept .0,
+    )
 
 write-decimal-add-result-2 : (t : ℕ) → write-decimal-lts.Need-add-result-2 (
   write-decimal-below t,
   write-decimal.Post,
 ) (write-decimal-at t) write-decimal.Post
-write-decimal-add-result-2 t c = omega (arith, c .before .before .before .before .before .before .pre .1, c .before .before .before .before .before .before .good .0 .0, length-high (c .before .before .before .before .before .before .args .n) (c .before .before .before .before .if1 .left), c .before .before .write-decimal .ensures .0)
+write-decimal-add-result-2 t c =
+    let start = c .before .before .before .before .before .before in
+    let the-if1 = c .before .before .before .before .if1 in
+    let the-write-decimal = c .before .before .write-decimal in
+    omega (
+      arith,
+      start .pre .1,
+      start .good .0 .0,
+      length-high (start .args .n) (the-if1 .left),
+      the-write-decimal .ensures .0,
+    )
 
 write-decimal-same-length-2 : (t : ℕ) → write-decimal-lts.Need-same-length-2 (
   write-decimal-below t,
   write-decimal.Post,
 ) (write-decimal-at t) write-decimal.Post
-write-decimal-same-length-2 t c = simp length-set (c .before .before .write-decimal .kept .0)
+write-decimal-same-length-2 t c =
+    let the-write-decimal = c .before .before .write-decimal in
+    simp length-set (the-write-decimal .kept .0)
 
 write-decimal-returns-2 : (t : ℕ) → write-decimal-lts.Need-returns-2 (
   write-decimal-below t,
   write-decimal.Post,
 ) (write-decimal-at t) write-decimal.Post
-write-decimal-returns-2 t c = (omega (arith, length-high (c .before .before .before .before .before .before .args .n) (c .before .before .before .before .if1 .left), c .before .before .write-decimal .ensures .0), rw (c .before .before .write-decimal .ensures .1, c .before .before .write-decimal .ensures .0) (write-high (c .before .before .before .before .before .before .args .text .now) (c .before .before .before .before .before .before .args .at) (c .before .before .before .before .before .before .args .n) (c .before .before .before .before .if1 .left)))
+write-decimal-returns-2 t c =
+    let start = c .before .before .before .before .before .before in
+    let the-if1 = c .before .before .before .before .if1 in
+    let the-write-decimal = c .before .before .write-decimal in
+    let n = start .args .n in (
+      omega (arith, length-high n (the-if1 .left), the-write-decimal .ensures .0),
+      rw (
+        the-write-decimal
+            .ensures .1,
+        the-write-decimal .ensures .0,
+      ) (write-high (start .args .text .now) (start .args .at) n
+          (the-if1 .left)),
+    )
 
 pub +write-decimal-spec : {M : Type 1} → statement M
 +write-decimal-spec = close μ-write-decimal λ t. write-decimal-lts.spec (

@@ -1,14 +1,13 @@
-use mathlib.Core.Path.{_≡_, refl, sym, ap, subst, _∙_}
+-- `text::find_field` meets its contract. Assumes nothing.
+use mathlib.Core.Path.{_≡_, sym, ap, _∙_}
 use native.Mathlib.Omega.{arith}
-use Prim.Native.Nat.{ℕ, suc, _+_, _-_, _*_, _≤_, _<_}
-use lib.ListN.{length, getD, take, drop}
+use Prim.Native.Nat.{ℕ, _+_, _-_, _≤_}
+use lib.ListN.{length, take, drop}
 use mathlib.Core.List.{List, _++_, append-nil}
 use Rattle.text.specs.Lines.{field}
 use Rattle.text.proofs.Lines.{field-end, field-all, field-more, is-tab, is-feed, is-other}
 use Rattle.text.proofs.find_field.Statement.{statement}
 use Rattle.text.proofs.find_field.Tie as tie
-use Rattle.text.proofs.find_field.Reads as reads
-use Rattle.text.proofs.find_field.Lts as lts
 
 abbrev Inv-loop : tie.InvT-loop
 Inv-loop s at e₀ e = (at ≤ e) × (e ≤ length s) × (field (drop at s) ≡ take (e - at) (drop at s) ++ field (drop e s))
@@ -32,7 +31,16 @@ part-result-end : tie.Need-part-result-end Inv-loop μ-loop
 part-result-end c = omega arith
 
 returns : tie.Need-returns Inv-loop μ-loop
-returns c = sym (c .before .before .before .before .loop .inv .2 ∙ (ap (λ (l : List ℕ). take (c .before .before .before .before .loop .e - c .before .before .before .before .before .args .at) (drop (c .before .before .before .before .before .args .at) (c .before .before .before .before .before .args .s .now)) ++ l) (field-end (c .before .before .before .before .before .args .s .now) (c .before .before .before .before .loop .e) (c .before .before .before .loop-test .taken) (is-tab _ (c .before .if1 .taken))) ∙ append-nil (take (c .before .before .before .before .loop .e - c .before .before .before .before .before .args .at) (drop (c .before .before .before .before .before .args .at) (c .before .before .before .before .before .args .s .now)))))
+returns c =
+    let start = c .before .before .before .before .before in
+    let the-loop = c .before .before .before .before .loop in
+    let the-loop-test = c .before .before .before .loop-test in
+    let the-if1 = c .before .if1 in
+    let s = start .args .s .now in
+    let at = start .args .at in
+    sym (the-loop .inv .2 ∙ (ap (λ (l : List ℕ). take (the-loop .e - at) (drop at s) ++ l) (field-end s
+    (the-loop .e) (the-loop-test .taken) (is-tab _ (the-if1 .taken))) ∙ append-nil (take (the-loop .e - at)
+    (drop at s))))
 
 sub-result-2 : tie.Need-sub-result-2 Inv-loop μ-loop
 sub-result-2 c = omega arith
@@ -44,7 +52,16 @@ part-result-end-2 : tie.Need-part-result-end-2 Inv-loop μ-loop
 part-result-end-2 c = omega arith
 
 returns-2 : tie.Need-returns-2 Inv-loop μ-loop
-returns-2 c = sym (c .before .before .before .before .before .loop .inv .2 ∙ (ap (λ (l : List ℕ). take (c .before .before .before .before .before .loop .e - c .before .before .before .before .before .before .args .at) (drop (c .before .before .before .before .before .before .args .at) (c .before .before .before .before .before .before .args .s .now)) ++ l) (field-end (c .before .before .before .before .before .before .args .s .now) (c .before .before .before .before .before .loop .e) (c .before .before .before .before .loop-test .taken) (is-feed _ (c .before .if2 .taken))) ∙ append-nil (take (c .before .before .before .before .before .loop .e - c .before .before .before .before .before .before .args .at) (drop (c .before .before .before .before .before .before .args .at) (c .before .before .before .before .before .before .args .s .now)))))
+returns-2 c =
+    let start = c .before .before .before .before .before .before in
+    let the-loop = c .before .before .before .before .before .loop in
+    let the-loop-test = c .before .before .before .before .loop-test in
+    let the-if2 = c .before .if2 in
+    let s = start .args .s .now in
+    let at = start .args .at in
+    sym (the-loop .inv .2 ∙ (ap (λ (l : List ℕ). take (the-loop .e - at) (drop at s) ++ l) (field-end s
+    (the-loop .e) (the-loop-test .taken) (is-feed _ (the-if2 .taken))) ∙ append-nil (take (the-loop .e -
+    at) (drop at s))))
 
 add-e : tie.Need-add-e Inv-loop μ-loop
 add-e c = omega arith
@@ -53,7 +70,16 @@ loop-less : tie.Need-loop-less Inv-loop μ-loop
 loop-less c = omega arith
 
 loop-again : tie.Need-loop-again Inv-loop μ-loop
-loop-again c = (omega arith, omega arith, field-more (c .before .before .before .before .before .args .s .now) (c .before .before .before .before .before .args .at) (c .before .before .before .before .loop .e) (c .before .before .before .before .loop .inv .0) (c .before .before .before .loop-test .taken) (is-other _ (c .before .if1 .left) (c .if2 .left)) (c .before .before .before .before .loop .inv .2))
+loop-again c =
+    let start = c .before .before .before .before .before in
+    let the-loop = c .before .before .before .before .loop in
+    let the-loop-test = c .before .before .before .loop-test in
+    let the-if1 = c .before .if1 in (
+      omega arith,
+      omega arith,
+      field-more (start .args .s .now) (start .args .at) (the-loop .e) (the-loop
+          .inv .0) (the-loop-test .taken) (is-other _ (the-if1 .left) (c .if2 .left)) (the-loop .inv .2),
+    )
 
 sub-result-3 : tie.Need-sub-result-3 Inv-loop μ-loop
 sub-result-3 c = omega arith
@@ -65,7 +91,14 @@ part-result-end-3 : tie.Need-part-result-end-3 Inv-loop μ-loop
 part-result-end-3 c = omega arith
 
 returns-3 : tie.Need-returns-3 Inv-loop μ-loop
-returns-3 c = let n : length (c .before .before .before .args .s .now) ≡ c .before .before .loop .e = omega arith in ap (λ (k : ℕ). take (k - c .before .before .before .args .at) (drop (c .before .before .before .args .at) (c .before .before .before .args .s .now))) n ∙ sym (c .before .before .loop .inv .2 ∙ (ap (λ (l : List ℕ). take (c .before .before .loop .e - c .before .before .before .args .at) (drop (c .before .before .before .args .at) (c .before .before .before .args .s .now)) ++ l) (field-all (c .before .before .before .args .s .now) (c .before .before .loop .e) (omega arith)) ∙ append-nil (take (c .before .before .loop .e - c .before .before .before .args .at) (drop (c .before .before .before .args .at) (c .before .before .before .args .s .now)))))
+returns-3 c =
+    let start = c .before .before .before in
+    let the-loop = c .before .before .loop in
+    let s = start .args .s .now in
+    let at = start .args .at in
+    let n : length s ≡ the-loop .e = omega arith in ap (λ (k : ℕ). take (k - at) (drop at s)) n ∙ sym
+    (the-loop .inv .2 ∙ (ap (λ (l : List ℕ). take (the-loop .e - at) (drop at s) ++ l) (field-all s
+    (the-loop .e) (omega arith)) ∙ append-nil (take (the-loop .e - at) (drop at s))))
 
 pub find-field-spec : {M : Type 1} → statement M
 find-field-spec =

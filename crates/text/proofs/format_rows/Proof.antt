@@ -1,18 +1,14 @@
-use mathlib.Core.Path.{_≡_, refl, sym, ap, _∙_}
-use mathlib.Core.List.{List, [], _∷_, _++_}
-use Prim.Native.Nat.{ℕ, suc, _+_, _-_, _*_, _≤_, _<_}
+-- `text::format_rows` meets its contract. Assumes nothing.
+use mathlib.Core.Path.{refl, sym, _∙_}
+use Prim.Native.Nat.{_+_, _-_}
 use native.Mathlib.Omega.{arith}
-use lib.ListN.{length, getD, take, drop, set, length-set}
+use lib.ListN.{getD}
 use borrow.Author.Needs.{needs}
 use Rattle.text.proofs.Lines.{row-known}
 use Rattle.text.proofs.Texts.{Formatting, formatting-odd, formatting-odd-held, formatting-start, formatting-done, formatting-full, formatting-row, formatting-over, formatting-over-held, formatting-bad, formatting-bad-held, formatting-fits, formatting-step}
 use borrow.Author.Tests.{not-true, not-false}
 use Rattle.text.proofs.format_rows.Statement.{statement}
 use Rattle.text.proofs.format_rows.Tie as tie
-use Rattle.text.proofs.format_rows.Reads as reads
-use Rattle.text.proofs.format_rows.Lts as lts
-use Rattle.text.proofs.is_row.Reads as is-row-reads
-use Rattle.text.proofs.write_line.Reads as write-line-reads
 
 abbrev Inv-loop : tie.InvT-loop
 Inv-loop rows held₀ i₀ at₀ line₀ held i at line = Formatting rows held₀ held i at line
@@ -21,79 +17,190 @@ abbrev μ-loop : tie.MeasureT-loop
 μ-loop rows held₀ i₀ at₀ line₀ held i at line = 60001 - line
 
 returns : tie.Need-returns Inv-loop μ-loop
-returns c = (formatting-odd (c .before .before .before .args .rows .now) (c .if1 .taken), λ m. formatting-odd-held (c .before .before .before .args .rows .now) (c .if1 .taken) m)
+returns c =
+    let start = c .before .before .before in
+    let rows = start .args .rows .now in
+    (formatting-odd rows (c .if1 .taken), λ m. formatting-odd-held rows (c .if1 .taken) m)
 
 loop-holds : tie.Need-loop-holds Inv-loop μ-loop
-loop-holds c = formatting-start (c .before .before .before .args .rows .now) (c .before .before .before .args .held .now) (c .if1 .left)
+loop-holds c =
+    let start = c .before .before .before in
+    formatting-start (start .args .rows .now) (start .args .held .now) (c .if1 .left)
 
 same-length : tie.Need-same-length Inv-loop μ-loop
-same-length c = c .before .before .loop .inv .left .long
+same-length c =
+    let the-loop = c .before .before .loop in
+    the-loop .inv .left .long
 
 returns-2 : tie.Need-returns-2 Inv-loop μ-loop
-returns-2 c = (formatting-over (c .before .before .loop .inv) (c .before .loop-test .taken) (c .if2 .taken), λ m. formatting-over-held (c .before .before .loop .inv) (c .before .loop-test .taken) (c .if2 .taken) m)
+returns-2 c =
+    let the-loop = c .before .before .loop in
+    let the-loop-test = c .before .loop-test in (
+      formatting-over (the-loop .inv) (the-loop-test .taken) (c .if2 .taken),
+      λ m. formatting-over-held
+          (the-loop .inv) (the-loop-test .taken) (c .if2 .taken) m,
+    )
 
 mul-code : tie.Need-mul-code Inv-loop μ-loop
-mul-code c = omega (arith, formatting-row (c .before .before .loop .inv) (c .before .loop-test .taken))
+mul-code c =
+    let the-loop = c .before .before .loop in
+    let the-loop-test = c .before .loop-test in
+    omega (arith, formatting-row (the-loop .inv) (the-loop-test .taken))
 
 shared-slice-read-code : tie.Need-shared-slice-read-code Inv-loop μ-loop
-shared-slice-read-code c = omega (arith, formatting-row (c .before .before .before .loop .inv) (c .before .before .loop-test .taken))
+shared-slice-read-code c =
+    let the-loop = c .before .before .before .loop in
+    let the-loop-test = c .before .before .loop-test in
+    omega (arith, formatting-row (the-loop .inv) (the-loop-test .taken))
 
 add-a : tie.Need-add-a Inv-loop μ-loop
-add-a c = omega (arith, formatting-row (c .before .before .before .loop .inv) (c .before .before .loop-test .taken))
+add-a c =
+    let the-loop = c .before .before .before .loop in
+    let the-loop-test = c .before .before .loop-test in
+    omega (arith, formatting-row (the-loop .inv) (the-loop-test .taken))
 
 mul-a : tie.Need-mul-a Inv-loop μ-loop
-mul-a c = omega (arith, formatting-row (c .before .before .before .loop .inv) (c .before .before .loop-test .taken))
+mul-a c =
+    let the-loop = c .before .before .before .loop in
+    let the-loop-test = c .before .before .loop-test in
+    omega (arith, formatting-row (the-loop .inv) (the-loop-test .taken))
 
 shared-slice-read-a : tie.Need-shared-slice-read-a Inv-loop μ-loop
-shared-slice-read-a c = omega (arith, formatting-row (c .before .before .before .before .loop .inv) (c .before .before .before .loop-test .taken))
+shared-slice-read-a c =
+    let the-loop = c .before .before .before .before .loop in
+    let the-loop-test = c .before .before .before .loop-test in
+    omega (arith, formatting-row (the-loop .inv) (the-loop-test .taken))
 
 add-b : tie.Need-add-b Inv-loop μ-loop
-add-b c = omega (arith, formatting-row (c .before .before .before .before .loop .inv) (c .before .before .before .loop-test .taken))
+add-b c =
+    let the-loop = c .before .before .before .before .loop in
+    let the-loop-test = c .before .before .before .loop-test in
+    omega (arith, formatting-row (the-loop .inv) (the-loop-test .taken))
 
 mul-b : tie.Need-mul-b Inv-loop μ-loop
-mul-b c = omega (arith, formatting-row (c .before .before .before .before .loop .inv) (c .before .before .before .loop-test .taken))
+mul-b c =
+    let the-loop = c .before .before .before .before .loop in
+    let the-loop-test = c .before .before .before .loop-test in
+    omega (arith, formatting-row (the-loop .inv) (the-loop-test .taken))
 
 shared-slice-read-b : tie.Need-shared-slice-read-b Inv-loop μ-loop
-shared-slice-read-b c = omega (arith, formatting-row (c .before .before .before .before .before .loop .inv) (c .before .before .before .before .loop-test .taken))
+shared-slice-read-b c =
+    let the-loop = c .before .before .before .before .before .loop in
+    let the-loop-test = c .before .before .before .before .loop-test in
+    omega (arith, formatting-row (the-loop .inv) (the-loop-test .taken))
 
 add-is-row : tie.Need-add-is-row Inv-loop μ-loop
-add-is-row c = omega (arith, formatting-row (c .before .before .before .before .before .loop .inv) (c .before .before .before .before .loop-test .taken))
+add-is-row c =
+    let the-loop = c .before .before .before .before .before .loop in
+    let the-loop-test = c .before .before .before .before .loop-test in
+    omega (arith, formatting-row (the-loop .inv) (the-loop-test .taken))
 
 mul-is-row : tie.Need-mul-is-row Inv-loop μ-loop
-mul-is-row c = omega (arith, formatting-row (c .before .before .before .before .before .loop .inv) (c .before .before .before .before .loop-test .taken))
+mul-is-row c =
+    let the-loop = c .before .before .before .before .before .loop in
+    let the-loop-test = c .before .before .before .before .loop-test in
+    omega (arith, formatting-row (the-loop .inv) (the-loop-test .taken))
 
 shared-slice-read-is-row : tie.Need-shared-slice-read-is-row Inv-loop μ-loop
-shared-slice-read-is-row c = omega (arith, formatting-row (c .before .before .before .before .before .before .loop .inv) (c .before .before .before .before .before .loop-test .taken))
+shared-slice-read-is-row c =
+    let the-loop = c .before .before .before .before .before .before .loop in
+    let the-loop-test = c .before .before .before .before .before .loop-test in
+    omega (arith, formatting-row (the-loop .inv) (the-loop-test .taken))
 
 is-row-requires : tie.Need-is-row-requires Inv-loop μ-loop
 is-row-requires c κs = search needs
 
 same-length-2 : tie.Need-same-length-2 Inv-loop μ-loop
-same-length-2 c = c .before .before .before .before .before .before .before .before .loop .inv .left .long
+same-length-2 c =
+    let the-loop = c .before .before .before .before .before .before .before .before .loop in
+    the-loop .inv .left .long
 
 returns-3 : tie.Need-returns-3 Inv-loop μ-loop
-returns-3 c = (formatting-bad (c .before .before .before .before .before .before .before .before .loop .inv) (c .before .before .before .before .before .before .before .loop-test .taken) (c .before .before .before .before .before .before .if2 .left) (getD (c .before .before .before .before .before .before .before .before .before .before .before .before .args .rows .now) (c .before .before .before .before .before .before .before .before .loop .i) 0) (getD (c .before .before .before .before .before .before .before .before .before .before .before .before .args .rows .now) ((c .before .before .before .before .before .before .before .before .loop .i) + 1) 0) (getD (c .before .before .before .before .before .before .before .before .before .before .before .before .args .rows .now) ((c .before .before .before .before .before .before .before .before .loop .i) + 2) 0) (getD (c .before .before .before .before .before .before .before .before .before .before .before .before .args .rows .now) ((c .before .before .before .before .before .before .before .before .loop .i) + 3) 0) refl refl refl refl (sym (c .before .is-row .ensures) ∙ not-true (c .before .is-row .result) (c .if3 .taken)), λ m. formatting-bad-held (c .before .before .before .before .before .before .before .before .loop .inv) (c .before .before .before .before .before .before .before .loop-test .taken) (c .before .before .before .before .before .before .if2 .left) (getD (c .before .before .before .before .before .before .before .before .before .before .before .before .args .rows .now) (c .before .before .before .before .before .before .before .before .loop .i) 0) (getD (c .before .before .before .before .before .before .before .before .before .before .before .before .args .rows .now) ((c .before .before .before .before .before .before .before .before .loop .i) + 1) 0) (getD (c .before .before .before .before .before .before .before .before .before .before .before .before .args .rows .now) ((c .before .before .before .before .before .before .before .before .loop .i) + 2) 0) (getD (c .before .before .before .before .before .before .before .before .before .before .before .before .args .rows .now) ((c .before .before .before .before .before .before .before .before .loop .i) + 3) 0) refl refl refl refl (sym (c .before .is-row .ensures) ∙ not-true (c .before .is-row .result) (c .if3 .taken)) m)
+returns-3 c =
+    let start = c .before .before .before .before .before .before .before .before .before .before .before
+    .before in
+    let the-loop = c .before .before .before .before .before .before .before .before .loop in
+    let the-loop-test = c .before .before .before .before .before .before .before .loop-test in
+    let the-if2 = c .before .before .before .before .before .before .if2 in
+    let the-is-row = c .before .is-row in
+    let rows = start .args .rows .now in (
+      formatting-bad (the-loop .inv) (the-loop-test .taken) (the-if2 .left) (getD rows (the-loop .i) 0) (getD
+          rows ((the-loop .i) + 1) 0) (getD rows ((the-loop .i) + 2) 0) (getD rows ((the-loop .i) + 3) 0) refl
+          refl refl refl (sym (the-is-row .ensures) ∙ not-true (the-is-row .result) (c .if3 .taken)),
+      λ m.
+          formatting-bad-held (the-loop .inv) (the-loop-test .taken) (the-if2 .left) (getD rows (the-loop .i) 0)
+          (getD rows ((the-loop .i) + 1) 0) (getD rows ((the-loop .i) + 2) 0) (getD rows ((the-loop .i) + 3) 0)
+          refl refl refl refl (sym (the-is-row .ensures) ∙ not-true (the-is-row .result) (c .if3 .taken)) m,
+    )
 
 write-line-requires : tie.Need-write-line-requires Inv-loop μ-loop
-write-line-requires c κs = (row-known (getD (c .before .before .before .before .before .before .before .before .before .before .before .before .before .args .rows .now) (c .before .before .before .before .before .before .before .before .before .loop .i) 0) (getD (c .before .before .before .before .before .before .before .before .before .before .before .before .before .args .rows .now) ((c .before .before .before .before .before .before .before .before .before .loop .i) + 1) 0) (getD (c .before .before .before .before .before .before .before .before .before .before .before .before .before .args .rows .now) ((c .before .before .before .before .before .before .before .before .before .loop .i) + 2) 0) (getD (c .before .before .before .before .before .before .before .before .before .before .before .before .before .args .rows .now) ((c .before .before .before .before .before .before .before .before .before .loop .i) + 3) 0) (sym (c .before .before .is-row .ensures) ∙ not-false (c .before .before .is-row .result) (c .before .if3 .left)), formatting-fits (c .before .before .before .before .before .before .before .before .before .loop .inv) (c .before .before .before .before .before .before .before .before .loop-test .taken) (c .before .before .before .before .before .before .before .if2 .left) (getD (c .before .before .before .before .before .before .before .before .before .before .before .before .before .args .rows .now) (c .before .before .before .before .before .before .before .before .before .loop .i) 0) (getD (c .before .before .before .before .before .before .before .before .before .before .before .before .before .args .rows .now) ((c .before .before .before .before .before .before .before .before .before .loop .i) + 1) 0) (getD (c .before .before .before .before .before .before .before .before .before .before .before .before .before .args .rows .now) ((c .before .before .before .before .before .before .before .before .before .loop .i) + 2) 0) (getD (c .before .before .before .before .before .before .before .before .before .before .before .before .before .args .rows .now) ((c .before .before .before .before .before .before .before .before .before .loop .i) + 3) 0) refl refl refl refl (sym (c .before .before .is-row .ensures) ∙ not-false (c .before .before .is-row .result) (c .before .if3 .left)) (c .before .before .before .before .before .before .before .before .before .before .before .before .before .pre))
+write-line-requires c κs =
+    let start = c .before .before .before .before .before .before .before .before .before .before .before
+    .before .before in
+    let the-loop = c .before .before .before .before .before .before .before .before .before .loop in
+    let the-loop-test = c .before .before .before .before .before .before .before .before .loop-test in
+    let the-if2 = c .before .before .before .before .before .before .before .if2 in
+    let the-is-row = c .before .before .is-row in
+    let the-if3 = c .before .if3 in
+    let rows = start .args .rows .now in (
+      row-known (getD rows (the-loop .i) 0) (getD rows ((the-loop .i) + 1) 0) (getD rows ((the-loop .i) + 2)
+          0) (getD rows ((the-loop .i) + 3) 0) (sym (the-is-row .ensures) ∙ not-false (the-is-row .result)
+          (the-if3 .left)),
+      formatting-fits (the-loop .inv) (the-loop-test .taken) (the-if2 .left) (getD rows
+          (the-loop .i) 0) (getD rows ((the-loop .i) + 1) 0) (getD rows ((the-loop .i) + 2) 0) (getD rows
+          ((the-loop .i) + 3) 0) refl refl refl refl (sym (the-is-row .ensures) ∙ not-false (the-is-row .result)
+          (the-if3 .left)) (start .pre),
+    )
 
 add-i : tie.Need-add-i Inv-loop μ-loop
-add-i c = omega (arith, formatting-row (c .before .before .before .before .before .before .before .before .before .before .before .before .loop .inv) (c .before .before .before .before .before .before .before .before .before .before .before .loop-test .taken))
+add-i c =
+    let the-loop = c .before .before .before .before .before .before .before .before .before .before .before
+    .before .loop in
+    let the-loop-test = c .before .before .before .before .before .before .before .before .before .before
+    .before .loop-test in
+    omega (arith, formatting-row (the-loop .inv) (the-loop-test .taken))
 
 add-line : tie.Need-add-line Inv-loop μ-loop
-add-line c = omega (arith, c .before .before .before .before .before .before .before .before .before .before .if2 .left)
+add-line c =
+    let the-if2 = c .before .before .before .before .before .before .before .before .before .before .if2 in
+    omega (arith, the-if2 .left)
 
 loop-less : tie.Need-loop-less Inv-loop μ-loop
-loop-less c = omega (arith, c .before .before .before .before .before .before .before .before .before .before .if2 .left)
+loop-less c =
+    let the-if2 = c .before .before .before .before .before .before .before .before .before .before .if2 in
+    omega (arith, the-if2 .left)
 
 loop-again : tie.Need-loop-again Inv-loop μ-loop
-loop-again c = formatting-step (c .before .before .before .before .before .before .before .before .before .before .before .before .loop .inv) (c .before .before .before .before .before .before .before .before .before .before .before .loop-test .taken) (c .before .before .before .before .before .before .before .before .before .before .if2 .left) (getD (c .before .before .before .before .before .before .before .before .before .before .before .before .before .before .before .before .args .rows .now) (c .before .before .before .before .before .before .before .before .before .before .before .before .loop .i) 0) (getD (c .before .before .before .before .before .before .before .before .before .before .before .before .before .before .before .before .args .rows .now) ((c .before .before .before .before .before .before .before .before .before .before .before .before .loop .i) + 1) 0) (getD (c .before .before .before .before .before .before .before .before .before .before .before .before .before .before .before .before .args .rows .now) ((c .before .before .before .before .before .before .before .before .before .before .before .before .loop .i) + 2) 0) (getD (c .before .before .before .before .before .before .before .before .before .before .before .before .before .before .before .before .args .rows .now) ((c .before .before .before .before .before .before .before .before .before .before .before .before .loop .i) + 3) 0) refl refl refl refl (sym (c .before .before .before .before .before .is-row .ensures) ∙ not-false (c .before .before .before .before .before .is-row .result) (c .before .before .before .before .if3 .left)) (c .before .before .write-line .last .0) (c .before .before .write-line .result) (c .before .before .write-line .ensures .1) (c .before .before .write-line .ensures .0)
+loop-again c =
+    let start = c .before .before .before .before .before .before .before .before .before .before .before
+    .before .before .before .before .before in
+    let the-loop = c .before .before .before .before .before .before .before .before .before .before .before
+    .before .loop in
+    let the-loop-test = c .before .before .before .before .before .before .before .before .before .before
+    .before .loop-test in
+    let the-if2 = c .before .before .before .before .before .before .before .before .before .before .if2 in
+    let the-is-row = c .before .before .before .before .before .is-row in
+    let the-if3 = c .before .before .before .before .if3 in
+    let the-write-line = c .before .before .write-line in
+    let rows = start .args .rows .now in
+    formatting-step (the-loop .inv) (the-loop-test .taken) (the-if2 .left) (getD rows (the-loop .i) 0) (getD
+    rows ((the-loop .i) + 1) 0) (getD rows ((the-loop .i) + 2) 0) (getD rows ((the-loop .i) + 3) 0) refl
+    refl refl refl (sym (the-is-row .ensures) ∙ not-false (the-is-row .result) (the-if3 .left))
+    (the-write-line .last .0) (the-write-line .result) (the-write-line .ensures .1) (the-write-line
+    .ensures .0)
 
 same-length-3 : tie.Need-same-length-3 Inv-loop μ-loop
-same-length-3 c = c .before .loop .inv .left .long
+same-length-3 c =
+    let the-loop = c .before .loop in
+    the-loop .inv .left .long
 
 returns-4 : tie.Need-returns-4 Inv-loop μ-loop
-returns-4 c = (formatting-done (c .before .loop .inv) (c .loop-test .left), λ m. formatting-full (c .before .loop .inv) (c .loop-test .left) m)
+returns-4 c =
+    let the-loop = c .before .loop in (
+      formatting-done (the-loop .inv) (c .loop-test .left),
+      λ m. formatting-full (the-loop .inv) (c .loop-test
+          .left) m,
+    )
 
 pub format-rows-spec : {M : Type 1} → statement M
 format-rows-spec =

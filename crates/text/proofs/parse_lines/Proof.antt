@@ -1,16 +1,11 @@
-use mathlib.Core.Path.{_≡_, refl, sym, ap, _∙_}
-use mathlib.Core.List.{List, [], _∷_, _++_}
-use Prim.Native.Nat.{ℕ, suc, _+_, _-_, _*_, _≤_, _<_}
+-- `text::parse_lines` meets its contract. Assumes nothing.
+use mathlib.Core.Path.{sym, _∙_}
+use Prim.Native.Nat.{_-_}
 use native.Mathlib.Omega.{arith}
-use lib.ListN.{length, getD, take, drop, set, length-set}
 use borrow.Author.Needs.{needs}
 use Rattle.text.proofs.Texts.{Parsing, parsing-start, parsing-done, parsing-full, parsing-over, parsing-over-held, parsing-bad, parsing-bad-held, parsing-fits, parsing-step}
 use Rattle.text.proofs.parse_lines.Statement.{statement}
 use Rattle.text.proofs.parse_lines.Tie as tie
-use Rattle.text.proofs.parse_lines.Reads as reads
-use Rattle.text.proofs.parse_lines.Lts as lts
-use Rattle.text.proofs.put_row.Reads as put-row-reads
-use Rattle.text.proofs.read_line.Reads as read-line-reads
 
 abbrev Inv-loop : tie.InvT-loop
 Inv-loop text held₀ at₀ line₀ held at line = Parsing text held₀ held at line
@@ -19,13 +14,23 @@ abbrev μ-loop : tie.MeasureT-loop
 μ-loop text held₀ at₀ line₀ held at line = 60001 - line
 
 loop-holds : tie.Need-loop-holds Inv-loop μ-loop
-loop-holds c = parsing-start (c .before .before .args .text .now) (c .before .before .args .held .now)
+loop-holds c =
+    let start = c .before .before in
+    parsing-start (start .args .text .now) (start .args .held .now)
 
 same-length : tie.Need-same-length Inv-loop μ-loop
-same-length c = c .before .before .loop .inv .left .long
+same-length c =
+    let the-loop = c .before .before .loop in
+    the-loop .inv .left .long
 
 returns : tie.Need-returns Inv-loop μ-loop
-returns c = (parsing-over (c .before .before .loop .inv) (c .before .loop-test .taken) (c .if1 .taken), λ m. parsing-over-held (c .before .before .loop .inv) (c .before .loop-test .taken) (c .if1 .taken) m)
+returns c =
+    let the-loop = c .before .before .loop in
+    let the-loop-test = c .before .loop-test in (
+      parsing-over (the-loop .inv) (the-loop-test .taken) (c .if1 .taken),
+      λ m. parsing-over-held (the-loop
+          .inv) (the-loop-test .taken) (c .if1 .taken) m,
+    )
 
 read-line-requires : tie.Need-read-line-requires Inv-loop μ-loop
 read-line-requires c κs = search needs
@@ -37,43 +42,98 @@ enum-told : tie.Need-enum-told Inv-loop μ-loop
 enum-told c = search needs
 
 same-length-2 : tie.Need-same-length-2 Inv-loop μ-loop
-same-length-2 c = c .before .before .before .before .before .loop .inv .left .long
+same-length-2 c =
+    let the-loop = c .before .before .before .before .before .loop in
+    the-loop .inv .left .long
 
 returns-2 : tie.Need-returns-2 Inv-loop μ-loop
-returns-2 c = (parsing-bad (c .before .before .before .before .before .loop .inv) (c .before .before .before .before .loop-test .taken) (c .before .before .before .if1 .left) (sym (c .before .before .read-line .ensures) ∙ c .enum-told .given .1), λ m. parsing-bad-held (c .before .before .before .before .before .loop .inv) (c .before .before .before .before .loop-test .taken) (c .before .before .before .if1 .left) (sym (c .before .before .read-line .ensures) ∙ c .enum-told .given .1) m)
+returns-2 c =
+    let the-loop = c .before .before .before .before .before .loop in
+    let the-loop-test = c .before .before .before .before .loop-test in
+    let the-if1 = c .before .before .before .if1 in
+    let the-read-line = c .before .before .read-line in (
+      parsing-bad (the-loop .inv) (the-loop-test .taken) (the-if1 .left) (sym (the-read-line .ensures) ∙ c
+          .enum-told .given .1),
+      λ m. parsing-bad-held (the-loop .inv) (the-loop-test .taken) (the-if1 .left)
+          (sym (the-read-line .ensures) ∙ c .enum-told .given .1) m,
+    )
 
 cast-put-row : tie.Need-cast-put-row Inv-loop μ-loop
-cast-put-row c = omega (arith, c .before .before .before .before .before .before .before .loop .inv .low, c .before .before .before .before .before .if1 .left)
+cast-put-row c =
+    let the-loop = c .before .before .before .before .before .before .before .loop in
+    let the-if1 = c .before .before .before .before .before .if1 in
+    omega (arith, the-loop .inv .low, the-if1 .left)
 
 sub-put-row : tie.Need-sub-put-row Inv-loop μ-loop
-sub-put-row c = omega (arith, c .before .before .before .before .before .before .before .loop .inv .low, c .before .before .before .before .before .if1 .left)
+sub-put-row c =
+    let the-loop = c .before .before .before .before .before .before .before .loop in
+    let the-if1 = c .before .before .before .before .before .if1 in
+    omega (arith, the-loop .inv .low, the-if1 .left)
 
 mul-put-row : tie.Need-mul-put-row Inv-loop μ-loop
-mul-put-row c = omega (arith, c .before .before .before .before .before .before .before .loop .inv .low, c .before .before .before .before .before .if1 .left)
+mul-put-row c =
+    let the-loop = c .before .before .before .before .before .before .before .loop in
+    let the-if1 = c .before .before .before .before .before .if1 in
+    omega (arith, the-loop .inv .low, the-if1 .left)
 
 put-row-requires : tie.Need-put-row-requires Inv-loop μ-loop
-put-row-requires c κs = parsing-fits (c .before .before .before .before .before .before .before .loop .inv) (c .before .before .before .before .before .before .loop-test .taken) (c .before .before .before .before .before .if1 .left) (c .before .before .l .given .0 .0) (c .before .before .l .given .0 .1 .0) (c .before .before .l .given .0 .1 .1 .0) (c .before .before .l .given .0 .1 .1 .1 .0) (sym (c .before .before .before .before .read-line .ensures) ∙ c .before .before .l .given .1) (c .before .before .before .before .before .before .before .before .before .before .pre)
+put-row-requires c κs =
+    let start = c .before .before .before .before .before .before .before .before .before .before in
+    let the-loop = c .before .before .before .before .before .before .before .loop in
+    let the-loop-test = c .before .before .before .before .before .before .loop-test in
+    let the-if1 = c .before .before .before .before .before .if1 in
+    let the-read-line = c .before .before .before .before .read-line in
+    let the-l = c .before .before .l in
+    parsing-fits (the-loop .inv) (the-loop-test .taken) (the-if1 .left) (the-l .given .0 .0) (the-l .given .0
+    .1 .0) (the-l .given .0 .1 .1 .0) (the-l .given .0 .1 .1 .1 .0) (sym (the-read-line .ensures) ∙ the-l
+    .given .1) (start .pre)
 
 add-line : tie.Need-add-line Inv-loop μ-loop
-add-line c = omega (arith, c .before .before .before .before .before .before .before .before .before .before .loop .inv .low, c .before .before .before .before .before .before .before .before .if1 .left)
+add-line c =
+    let the-loop = c .before .before .before .before .before .before .before .before .before .before .loop in
+    let the-if1 = c .before .before .before .before .before .before .before .before .if1 in
+    omega (arith, the-loop .inv .low, the-if1 .left)
 
 loop-less : tie.Need-loop-less Inv-loop μ-loop
-loop-less c = omega (arith, c .before .before .before .before .before .before .before .before .before .before .loop .inv .low, c .before .before .before .before .before .before .before .before .if1 .left)
+loop-less c =
+    let the-loop = c .before .before .before .before .before .before .before .before .before .before .loop in
+    let the-if1 = c .before .before .before .before .before .before .before .before .if1 in
+    omega (arith, the-loop .inv .low, the-if1 .left)
 
 loop-again : tie.Need-loop-again Inv-loop μ-loop
-loop-again c = parsing-step (c .before .before .before .before .before .before .before .before .before .before .loop .inv) (c .before .before .before .before .before .before .before .before .before .loop-test .taken) (c .before .before .before .before .before .before .before .before .if1 .left) (c .before .before .before .before .before .l .given .0 .0) (c .before .before .before .before .before .l .given .0 .1 .0) (c .before .before .before .before .before .l .given .0 .1 .1 .0) (c .before .before .before .before .before .l .given .0 .1 .1 .1 .0) (sym (c .before .before .before .before .before .before .before .read-line .ensures) ∙ c .before .before .before .before .before .l .given .1) (c .before .before .put-row .last .0) (c .before .before .put-row .ensures)
+loop-again c =
+    let the-loop = c .before .before .before .before .before .before .before .before .before .before .loop in
+    let the-loop-test = c .before .before .before .before .before .before .before .before .before .loop-test in
+    let the-if1 = c .before .before .before .before .before .before .before .before .if1 in
+    let the-read-line = c .before .before .before .before .before .before .before .read-line in
+    let the-l = c .before .before .before .before .before .l in
+    let the-put-row = c .before .before .put-row in
+    parsing-step (the-loop .inv) (the-loop-test .taken) (the-if1 .left) (the-l .given .0 .0) (the-l .given .0
+    .1 .0) (the-l .given .0 .1 .1 .0) (the-l .given .0 .1 .1 .1 .0) (sym (the-read-line .ensures) ∙ the-l
+    .given .1) (the-put-row .last .0) (the-put-row .ensures)
 
 cast-t17 : tie.Need-cast-t17 Inv-loop μ-loop
-cast-t17 c = omega (arith, c .before .loop .inv .low, c .before .loop .inv .high)
+cast-t17 c =
+    let the-loop = c .before .loop in
+    omega (arith, the-loop .inv .low, the-loop .inv .high)
 
 sub-t18 : tie.Need-sub-t18 Inv-loop μ-loop
-sub-t18 c = omega (arith, c .before .loop .inv .low, c .before .loop .inv .high)
+sub-t18 c =
+    let the-loop = c .before .loop in
+    omega (arith, the-loop .inv .low, the-loop .inv .high)
 
 same-length-3 : tie.Need-same-length-3 Inv-loop μ-loop
-same-length-3 c = c .before .loop .inv .left .long
+same-length-3 c =
+    let the-loop = c .before .loop in
+    the-loop .inv .left .long
 
 returns-3 : tie.Need-returns-3 Inv-loop μ-loop
-returns-3 c = (parsing-done (c .before .loop .inv) (c .loop-test .left), λ m. parsing-full (c .before .loop .inv) (c .loop-test .left) m)
+returns-3 c =
+    let the-loop = c .before .loop in (
+      parsing-done (the-loop .inv) (c .loop-test .left),
+      λ m. parsing-full (the-loop .inv) (c .loop-test
+          .left) m,
+    )
 
 pub parse-lines-spec : {M : Type 1} → statement M
 parse-lines-spec =

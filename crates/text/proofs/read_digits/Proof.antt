@@ -1,17 +1,14 @@
-use mathlib.Core.Path.{_≡_, refl, sym, ap, subst, _∙_}
+-- `text::read_digits` meets its contract. Assumes nothing.
+use mathlib.Core.Path.{_≡_, refl, sym, ap, _∙_}
 use native.Mathlib.Omega.{arith}
-use Prim.Native.Nat.{ℕ, suc, _+_, _-_, _*_, _≤_, _<_}
-use lib.ListN.{length, getD, take, drop}
+use Prim.Native.Nat.{_+_, _-_, _≤_}
+use lib.ListN.{length, getD, drop}
 use borrow.Author.Needs.{needs}
-use Rattle.text.specs.Decimals.{scan, digit-of, add-digit}
+use Rattle.text.specs.Decimals.{scan, add-digit}
 use Rattle.text.proofs.Decimals.{scan-bad, scan-more, scan-end, digit-low, digit-high, digit-small}
-use Rattle.text.specs.declared.Decimal.the-variants.{Is, Bad}
 use Rattle.text.specs.declared.Decimal.{Decimal}
 use Rattle.text.proofs.read_digits.Statement.{statement}
 use Rattle.text.proofs.read_digits.Tie as tie
-use Rattle.text.proofs.read_digits.Reads as reads
-use Rattle.text.proofs.read_digits.Lts as lts
-use Rattle.text.proofs.read_digit.Reads as digit-reads
 
 abbrev Inv-loop : tie.InvT-loop
 Inv-loop s v₀ i₀ v i = (i ≤ length s) × (v ≤ 65535) × (scan (Decimal.Is 0) s ≡ scan (Decimal.Is v) (drop i s))
@@ -35,16 +32,46 @@ enum-told : tie.Need-enum-told Inv-loop μ-loop
 enum-told c = search needs
 
 returns : tie.Need-returns Inv-loop μ-loop
-returns c = sym ((c .before .before .before .before .before .loop .inv .2 ∙ (scan-more (c .before .before .before .before .before .before .before .args .s .now) (c .before .before .before .before .before .loop .i) (c .before .before .before .before .before .loop .v) (c .before .before .before .before .loop-test .taken) ∙ ap (λ (d : Decimal). scan (add-digit (c .before .before .before .before .before .loop .v) d) (drop (c .before .before .before .before .before .loop .i + 1) (c .before .before .before .before .before .before .before .args .s .now))) (sym (c .before .before .read-digit .ensures) ∙ c .enum-told .given .1))) ∙ scan-bad (drop (c .before .before .before .before .before .loop .i + 1) (c .before .before .before .before .before .before .before .args .s .now)))
+returns c =
+    let start = c .before .before .before .before .before .before .before in
+    let the-loop = c .before .before .before .before .before .loop in
+    let the-loop-test = c .before .before .before .before .loop-test in
+    let the-read-digit = c .before .before .read-digit in
+    let s = start .args .s .now in
+    sym ((the-loop .inv .2 ∙ (scan-more s (the-loop .i) (the-loop .v) (the-loop-test .taken) ∙ ap (λ (d :
+    Decimal). scan (add-digit (the-loop .v) d) (drop (the-loop .i + 1) s)) (sym (the-read-digit .ensures) ∙
+    c .enum-told .given .1))) ∙ scan-bad (drop (the-loop .i + 1) s))
 
 mul-w : tie.Need-mul-w Inv-loop μ-loop
-mul-w c = omega (arith, c .before .before .before .before .before .before .loop .inv .1)
+mul-w c =
+    let the-loop = c .before .before .before .before .before .before .loop in
+    omega (arith, the-loop .inv .1)
 
 add-w : tie.Need-add-w Inv-loop μ-loop
-add-w c = omega (arith, c .before .before .before .before .before .before .loop .inv .1, digit-small (getD (c .before .before .before .before .before .before .before .before .args .s .now) (c .before .before .before .before .before .before .loop .i) 0) (c .before .d .given .0 .0) (sym (c .before .before .before .read-digit .ensures) ∙ c .before .d .given .1))
+add-w c =
+    let start = c .before .before .before .before .before .before .before .before in
+    let the-loop = c .before .before .before .before .before .before .loop in
+    let the-read-digit = c .before .before .before .read-digit in
+    let the-d = c .before .d in
+    omega (
+      arith,
+      the-loop .inv .1,
+      digit-small (getD (start .args .s .now) (the-loop .i) 0) (the-d .given .0
+          .0) (sym (the-read-digit .ensures) ∙ the-d .given .1),
+    )
 
 returns-2 : tie.Need-returns-2 Inv-loop μ-loop
-returns-2 c = sym ((c .before .before .before .before .before .before .before .loop .inv .2 ∙ (scan-more (c .before .before .before .before .before .before .before .before .before .args .s .now) (c .before .before .before .before .before .before .before .loop .i) (c .before .before .before .before .before .before .before .loop .v) (c .before .before .before .before .before .before .loop-test .taken) ∙ ap (λ (d : Decimal). scan (add-digit (c .before .before .before .before .before .before .before .loop .v) d) (drop (c .before .before .before .before .before .before .before .loop .i + 1) (c .before .before .before .before .before .before .before .before .before .args .s .now))) (sym (c .before .before .before .before .read-digit .ensures) ∙ c .before .before .d .given .1))) ∙ (ap (λ (d : Decimal). scan d (drop (c .before .before .before .before .before .before .before .loop .i + 1) (c .before .before .before .before .before .before .before .before .before .args .s .now))) (digit-high (c .before .before .before .before .before .before .before .loop .v) (c .before .before .d .given .0 .0) (c .if1 .taken)) ∙ scan-bad (drop (c .before .before .before .before .before .before .before .loop .i + 1) (c .before .before .before .before .before .before .before .before .before .args .s .now))))
+returns-2 c =
+    let start = c .before .before .before .before .before .before .before .before .before in
+    let the-loop = c .before .before .before .before .before .before .before .loop in
+    let the-loop-test = c .before .before .before .before .before .before .loop-test in
+    let the-read-digit = c .before .before .before .before .read-digit in
+    let the-d = c .before .before .d in
+    let s = start .args .s .now in
+    sym ((the-loop .inv .2 ∙ (scan-more s (the-loop .i) (the-loop .v) (the-loop-test .taken) ∙ ap (λ (d :
+    Decimal). scan (add-digit (the-loop .v) d) (drop (the-loop .i + 1) s)) (sym (the-read-digit .ensures) ∙
+    the-d .given .1))) ∙ (ap (λ (d : Decimal). scan d (drop (the-loop .i + 1) s)) (digit-high (the-loop .v)
+    (the-d .given .0 .0) (c .if1 .taken)) ∙ scan-bad (drop (the-loop .i + 1) s)))
 
 add-i : tie.Need-add-i Inv-loop μ-loop
 add-i c = omega arith
@@ -53,10 +80,26 @@ loop-less : tie.Need-loop-less Inv-loop μ-loop
 loop-less c = omega arith
 
 loop-again : tie.Need-loop-again Inv-loop μ-loop
-loop-again c = (omega arith, omega arith, (c .before .before .before .before .before .before .before .loop .inv .2 ∙ (scan-more (c .before .before .before .before .before .before .before .before .before .args .s .now) (c .before .before .before .before .before .before .before .loop .i) (c .before .before .before .before .before .before .before .loop .v) (c .before .before .before .before .before .before .loop-test .taken) ∙ ap (λ (d : Decimal). scan (add-digit (c .before .before .before .before .before .before .before .loop .v) d) (drop (c .before .before .before .before .before .before .before .loop .i + 1) (c .before .before .before .before .before .before .before .before .before .args .s .now))) (sym (c .before .before .before .before .read-digit .ensures) ∙ c .before .before .d .given .1))) ∙ ap (λ (d : Decimal). scan d (drop (c .before .before .before .before .before .before .before .loop .i + 1) (c .before .before .before .before .before .before .before .before .before .args .s .now))) (digit-low (c .before .before .before .before .before .before .before .loop .v) (c .before .before .d .given .0 .0) (c .if1 .left)))
+loop-again c =
+    let start = c .before .before .before .before .before .before .before .before .before in
+    let the-loop = c .before .before .before .before .before .before .before .loop in
+    let the-loop-test = c .before .before .before .before .before .before .loop-test in
+    let the-read-digit = c .before .before .before .before .read-digit in
+    let the-d = c .before .before .d in
+    let s = start .args .s .now in (
+      omega arith,
+      omega arith,
+      (the-loop .inv .2 ∙ (scan-more s (the-loop .i) (the-loop .v) (the-loop-test
+          .taken) ∙ ap (λ (d : Decimal). scan (add-digit (the-loop .v) d) (drop (the-loop .i + 1) s)) (sym
+          (the-read-digit .ensures) ∙ the-d .given .1))) ∙ ap (λ (d : Decimal). scan d (drop (the-loop .i + 1)
+          s)) (digit-low (the-loop .v) (the-d .given .0 .0) (c .if1 .left)),
+    )
 
 returns-3 : tie.Need-returns-3 Inv-loop μ-loop
-returns-3 c = sym (c .before .loop .inv .2 ∙ scan-end (c .before .before .before .args .s .now) (c .before .loop .i) (c .before .loop .v) (omega arith))
+returns-3 c =
+    let start = c .before .before .before in
+    let the-loop = c .before .loop in
+    sym (the-loop .inv .2 ∙ scan-end (start .args .s .now) (the-loop .i) (the-loop .v) (omega arith))
 
 pub read-digits-spec : {M : Type 1} → statement M
 read-digits-spec =

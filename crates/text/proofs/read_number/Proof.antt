@@ -1,27 +1,24 @@
-use mathlib.Core.Path.{_≡_, refl, sym, ap, _∙_}
-use mathlib.Core.List.{List, [], _∷_, _++_}
-use Prim.Native.Nat.{ℕ, suc, _+_, _-_, _*_, _≤_, _<_}
-use native.Mathlib.Omega.{arith}
-use lib.ListN.{length, getD, take, drop, set, length-set}
+-- `text::read_number` meets its contract. Assumes nothing.
+use mathlib.Core.Path.{sym, _∙_}
+use Prim.Native.Nat.{_-_}
 use borrow.Author.Needs.{needs}
-use Rattle.text.specs.Places.{taken-at}
-use borrow.Author.Tests.{le-ltb, lt-ltb, le-leb, lt-leb, eq-eqb, ne-eqb}
 use Rattle.text.proofs.Lines.{number-past, number-no-tab, number-bad, number-good}
 use Rattle.text.proofs.read_number.Statement.{statement}
 use Rattle.text.proofs.read_number.Tie as tie
-use Rattle.text.proofs.read_number.Reads as reads
-use Rattle.text.proofs.read_number.Lts as lts
-use Rattle.text.proofs.find_field.Reads as find-field-reads
-use Rattle.text.proofs.read_decimal.Reads as read-decimal-reads
 
 returns : tie.Need-returns
-returns c = number-past (c .before .before .args .at) (c .before .before .args .s .now) (c .if1 .taken)
+returns c =
+    let start = c .before .before in
+    number-past (start .args .at) (start .args .s .now) (c .if1 .taken)
 
 shared-slice-read-if2 : tie.Need-shared-slice-read-if2
 shared-slice-read-if2 c = search needs
 
 returns-2 : tie.Need-returns-2
-returns-2 c = number-no-tab (c .before .before .before .before .args .at) (c .before .before .before .before .args .s .now) (c .before .before .if1 .left) (c .if2 .taken)
+returns-2 c =
+    let start = c .before .before .before .before in
+    let the-if1 = c .before .before .if1 in
+    number-no-tab (start .args .at) (start .args .s .now) (the-if1 .left) (c .if2 .taken)
 
 add-find-field : tie.Need-add-find-field
 add-find-field c = search needs
@@ -39,7 +36,14 @@ enum-told : tie.Need-enum-told
 enum-told c = search needs
 
 returns-3 : tie.Need-returns-3
-returns-3 c = number-bad (c .before .before .before .before .before .before .before .before .args .at) (c .before .before .before .before .before .before .before .before .args .s .now) (c .before .before .before .before .before .before .if1 .left) (c .before .before .before .before .if2 .left) (c .before .before .before .find-field .result .now) (c .before .before .before .find-field .ensures) (sym (c .before .before .read-decimal .ensures) ∙ c .enum-told .given .1)
+returns-3 c =
+    let start = c .before .before .before .before .before .before .before .before in
+    let the-if1 = c .before .before .before .before .before .before .if1 in
+    let the-if2 = c .before .before .before .before .if2 in
+    let the-find-field = c .before .before .before .find-field in
+    let the-read-decimal = c .before .before .read-decimal in
+    number-bad (start .args .at) (start .args .s .now) (the-if1 .left) (the-if2 .left) (the-find-field
+    .result .now) (the-find-field .ensures) (sym (the-read-decimal .ensures) ∙ c .enum-told .given .1)
 
 add-t6 : tie.Need-add-t6
 add-t6 c = search needs
@@ -48,7 +52,16 @@ add-t11 : tie.Need-add-t11
 add-t11 c = search needs
 
 returns-4 : tie.Need-returns-4
-returns-4 c = number-good (c .before .before .before .before .before .before .before .before .before .args .at) (c .before .before .before .before .before .before .before .before .before .args .s .now) (c .before .before .before .before .before .before .before .if1 .left) (c .before .before .before .before .before .if2 .left) (c .before .before .before .before .find-field .result .now) (c .before .before .before .before .find-field .ensures) (c .before .d .given .0 .0) (sym (c .before .before .before .read-decimal .ensures) ∙ c .before .d .given .1)
+returns-4 c =
+    let start = c .before .before .before .before .before .before .before .before .before in
+    let the-if1 = c .before .before .before .before .before .before .before .if1 in
+    let the-if2 = c .before .before .before .before .before .if2 in
+    let the-find-field = c .before .before .before .before .find-field in
+    let the-read-decimal = c .before .before .before .read-decimal in
+    let the-d = c .before .d in
+    number-good (start .args .at) (start .args .s .now) (the-if1 .left) (the-if2 .left) (the-find-field
+    .result .now) (the-find-field .ensures) (the-d .given .0 .0) (sym (the-read-decimal .ensures) ∙ the-d
+    .given .1)
 
 pub read-number-spec : {M : Type 1} → statement M
 read-number-spec =

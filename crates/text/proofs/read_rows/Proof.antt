@@ -1,22 +1,19 @@
-use mathlib.Core.Path.{_≡_, refl, sym, ap, _∙_}
-use mathlib.Core.List.{List, [], _∷_, _++_}
-use Prim.Native.Nat.{ℕ, suc, _+_, _-_, _*_, _≤_, _<_}
+-- `text::read_rows` meets its contract. Assumes nothing.
+use Prim.Native.Nat.{_-_}
 use native.Mathlib.Omega.{arith}
-use lib.ListN.{length, getD, take, drop, set, length-set}
 use borrow.Author.Needs.{needs}
 use mathlib.Core.Logic.{inl, inr}
 use Rattle.language.proofs.Filling.{replicate-long}
 use Rattle.text.proofs.read_rows.Statement.{statement}
 use Rattle.text.proofs.read_rows.Tie as tie
-use Rattle.text.proofs.read_rows.Reads as reads
-use Rattle.text.proofs.read_rows.Lts as lts
-use Rattle.text.proofs.read_through.Reads as read-through-reads
 
 slice-aggregate-read-through : tie.Need-slice-aggregate-read-through
 slice-aggregate-read-through c = search needs
 
 read-through-requires : tie.Need-read-through-requires
-read-through-requires c κs = inl (omega (arith, c .before .before .if1 .taken, replicate-long 1024))
+read-through-requires c κs =
+    let the-if1 = c .before .before .if1 in
+    inl (omega (arith, the-if1 .taken, replicate-long 1024))
 
 same-length : tie.Need-same-length
 same-length c = search needs
@@ -28,7 +25,9 @@ slice-aggregate-read-through-2 : tie.Need-slice-aggregate-read-through-2
 slice-aggregate-read-through-2 c = search needs
 
 read-through-requires-2 : tie.Need-read-through-requires-2
-read-through-requires-2 c κs = inl (omega (arith, c .before .before .if2 .taken, replicate-long 16384))
+read-through-requires-2 c κs =
+    let the-if2 = c .before .before .if2 in
+    inl (omega (arith, the-if2 .taken, replicate-long 16384))
 
 same-length-2 : tie.Need-same-length-2
 same-length-2 c = search needs

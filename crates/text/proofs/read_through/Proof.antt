@@ -1,8 +1,8 @@
-use mathlib.Core.Path.{_≡_, refl, sym, ap, _∙_}
-use mathlib.Core.List.{List, [], _∷_, _++_}
-use Prim.Native.Nat.{ℕ, suc, _+_, _-_, _*_, _≤_, _<_}
+-- `text::read_through` meets its contract. Assumes nothing.
+use mathlib.Core.Path.{_≡_, sym, _∙_}
+use Prim.Native.Nat.{_-_, _*_}
 use native.Mathlib.Omega.{arith}
-use lib.ListN.{length, getD, take, drop, set, length-set}
+use lib.ListN.{length}
 use borrow.Author.Needs.{needs}
 use Rattle.text.proofs.Texts.{read-whole, read-fits}
 use Rattle.text.specs.Texts.{read-text}
@@ -10,10 +10,6 @@ use Rattle.language.proofs.Filling.{filled-refused, filled-made, filled-short, 
 use Rattle.language.specs.Filling.{made-numbers}
 use Rattle.text.proofs.read_through.Statement.{statement}
 use Rattle.text.proofs.read_through.Tie as tie
-use Rattle.text.proofs.read_through.Reads as reads
-use Rattle.text.proofs.read_through.Lts as lts
-use Rattle.text.proofs.copy_numbers.Reads as copy-numbers-reads
-use Rattle.text.proofs.parse_lines.Reads as parse-lines-reads
 
 parse-lines-requires : tie.Need-parse-lines-requires
 parse-lines-requires c κs = search needs
@@ -28,19 +24,79 @@ same-length : tie.Need-same-length
 same-length c = search needs
 
 returns : tie.Need-returns
-returns c = let r = filled-refused 4 (read-text (c .before .before .before .before .before .before .before .before .before .args .text .now)) (c .enum-told .given .0 .0) (c .enum-told .given .0 .1 .0) (length (c .before .before .before .before .before .before .before .before .before .args .rows .now)) (c .before .before .before .before .before .before .before .before .before .args .rows .now) (sym (c .before .before .before .before .parse-lines .ensures .0) ∙ c .enum-told .given .1) in (c .before .before .before .before .parse-lines .ensures .0 ∙ r .0, r .1)
+returns c =
+    let start = c .before .before .before .before .before .before .before .before .before in
+    let the-parse-lines = c .before .before .before .before .parse-lines in
+    let rows = start .args .rows .now in
+    let r = filled-refused 4 (read-text (start .args .text .now)) (c .enum-told .given .0 .0) (c .enum-told
+    .given .0 .1 .0) (length rows) rows (sym (the-parse-lines .ensures .0) ∙ c .enum-told .given .1) in
+    (the-parse-lines .ensures .0 ∙ r .0, r .1)
 
 same-length-2 : tie.Need-same-length-2
 same-length-2 c = search needs
 
 returns-2 : tie.Need-returns-2
-returns-2 c = filled-short 4 (read-text (c .before .before .before .before .before .before .before .before .before .before .before .args .text .now)) (c .before .before .parsed .given .0 .0) (c .before .before .before .before .before .before .before .before .before .before .before .args .rows .now) (sym (c .before .before .before .before .before .before .parse-lines .ensures .0) ∙ c .before .before .parsed .given .1) (omega (arith, filled-made 4 (read-text (c .before .before .before .before .before .before .before .before .before .before .before .args .text .now)) (c .before .before .parsed .given .0 .0) (c .before .before .before .before .before .before .before .before .before .before .before .args .rows .now) (sym (c .before .before .before .before .before .before .parse-lines .ensures .0) ∙ c .before .before .parsed .given .1) .1, c .if1 .taken))
+returns-2 c =
+    let start = c .before .before .before .before .before .before .before .before .before .before .before in
+    let the-parse-lines = c .before .before .before .before .before .before .parse-lines in
+    let the-parsed = c .before .before .parsed in
+    let text = start .args .text .now in
+    let rows = start .args .rows .now in
+    filled-short 4 (read-text text) (the-parsed .given .0 .0) rows (sym (the-parse-lines .ensures .0) ∙
+    the-parsed .given .1) (omega (
+      arith,
+      filled-made 4 (read-text text) (the-parsed .given .0 .0) rows (sym
+          (the-parse-lines .ensures .0) ∙ the-parsed .given .1) .1,
+      c .if1 .taken,
+    ))
 
 mul-copy-numbers : tie.Need-mul-copy-numbers
-mul-copy-numbers c = omega (arith, filled-made 4 (read-text (c .before .before .before .before .before .before .before .before .before .before .before .before .before .args .text .now)) (c .before .before .before .before .parsed .given .0 .0) (c .before .before .before .before .before .before .before .before .before .before .before .before .before .args .rows .now) (sym (c .before .before .before .before .before .before .before .before .parse-lines .ensures .0) ∙ c .before .before .before .before .parsed .given .1) .1, (read-fits (c .before .before .before .before .before .before .before .before .before .before .before .before .before .args .text .now) (c .before .before .before .before .before .before .before .before .before .before .before .before .before .args .held .now) (c .before .before .before .before .before .before .before .before .before .before .before .before .before .pre)), c .before .before .before .before .before .before .before .before .before .before .before .before .before .good .1 .0)
+mul-copy-numbers c =
+    let start = c .before .before .before .before .before .before .before .before .before .before .before
+    .before .before in
+    let the-parse-lines = c .before .before .before .before .before .before .before .before .parse-lines in
+    let the-parsed = c .before .before .before .before .parsed in
+    let text = start .args .text .now in
+    omega (
+      arith,
+      filled-made 4 (read-text text) (the-parsed .given .0 .0) (start .args .rows .now) (sym
+          (the-parse-lines .ensures .0) ∙ the-parsed .given .1) .1,
+      (read-fits text (start .args .held .now)
+          (start .pre)),
+      start .good .1 .0,
+    )
 
 copy-numbers-requires : tie.Need-copy-numbers-requires
-copy-numbers-requires c κs = (let e : length (made-numbers (read-text (c .before .before .before .before .before .before .before .before .before .before .before .before .before .args .text .now))) ≡ (c .before .before .before .before .parsed .given .0 .0) * 4 = omega (arith, filled-made 4 (read-text (c .before .before .before .before .before .before .before .before .before .before .before .before .before .args .text .now)) (c .before .before .before .before .parsed .given .0 .0) (c .before .before .before .before .before .before .before .before .before .before .before .before .before .args .rows .now) (sym (c .before .before .before .before .before .before .before .before .parse-lines .ensures .0) ∙ c .before .before .before .before .parsed .given .1) .1, read-whole 60000 1 (c .before .before .before .before .before .before .before .before .before .before .before .before .before .args .text .now)) in (omega (arith, e, (read-fits (c .before .before .before .before .before .before .before .before .before .before .before .before .before .args .text .now) (c .before .before .before .before .before .before .before .before .before .before .before .before .before .args .held .now) (c .before .before .before .before .before .before .before .before .before .before .before .before .before .pre)), c .before .before .before .before .before .before .before .before .parse-lines .kept .1 .0), omega (arith, e, filled-made 4 (read-text (c .before .before .before .before .before .before .before .before .before .before .before .before .before .args .text .now)) (c .before .before .before .before .parsed .given .0 .0) (c .before .before .before .before .before .before .before .before .before .before .before .before .before .args .rows .now) (sym (c .before .before .before .before .before .before .before .before .parse-lines .ensures .0) ∙ c .before .before .before .before .parsed .given .1) .1, read-whole 60000 1 (c .before .before .before .before .before .before .before .before .before .before .before .before .before .args .text .now), c .before .before .if1 .left)))
+copy-numbers-requires c κs =
+    let start = c .before .before .before .before .before .before .before .before .before .before .before
+    .before .before in
+    let the-parse-lines = c .before .before .before .before .before .before .before .before .parse-lines in
+    let the-parsed = c .before .before .before .before .parsed in
+    let the-if1 = c .before .before .if1 in
+    let text = start .args .text .now in
+    let rows = start .args .rows .now in
+    (let e : length (made-numbers (read-text text)) ≡ (the-parsed .given .0 .0) * 4 = omega (
+      arith,
+      filled-made 4 (read-text text) (the-parsed .given .0 .0) rows (sym (the-parse-lines .ensures .0) ∙
+          the-parsed .given .1) .1,
+      read-whole 60000 1 text,
+    ) in (
+      omega (
+        arith,
+        e,
+        (read-fits text (start .args
+            .held .now) (start .pre)),
+        the-parse-lines .kept .1 .0,
+      ),
+      omega (
+        arith,
+        e,
+        filled-made 4 (read-text
+            text) (the-parsed .given .0 .0) rows (sym (the-parse-lines .ensures .0) ∙ the-parsed .given .1) .1,
+        read-whole 60000 1 text,
+        the-if1 .left,
+      ),
+    ))
 
 same-length-3 : tie.Need-same-length-3
 same-length-3 c = search needs
@@ -49,7 +105,36 @@ same-length-4 : tie.Need-same-length-4
 same-length-4 c = search needs
 
 returns-3 : tie.Need-returns-3
-returns-3 c = (let e : length (made-numbers (read-text (c .before .before .before .before .before .before .before .before .before .before .before .before .before .before .before .before .args .text .now))) ≡ (c .before .before .before .before .before .before .before .parsed .given .0 .0) * 4 = omega (arith, filled-made 4 (read-text (c .before .before .before .before .before .before .before .before .before .before .before .before .before .before .before .before .args .text .now)) (c .before .before .before .before .before .before .before .parsed .given .0 .0) (c .before .before .before .before .before .before .before .before .before .before .before .before .before .before .before .before .args .rows .now) (sym (c .before .before .before .before .before .before .before .before .before .before .before .parse-lines .ensures .0) ∙ c .before .before .before .before .before .before .before .parsed .given .1) .1, read-whole 60000 1 (c .before .before .before .before .before .before .before .before .before .before .before .before .before .before .before .before .args .text .now)) in filled-done 4 (read-text (c .before .before .before .before .before .before .before .before .before .before .before .before .before .before .before .before .args .text .now)) (c .before .before .before .before .before .before .before .parsed .given .0 .0) (c .before .before .before .before .before .before .before .before .before .before .before .before .before .before .before .before .args .rows .now) (sym (c .before .before .before .before .before .before .before .before .before .before .before .parse-lines .ensures .0) ∙ c .before .before .before .before .before .before .before .parsed .given .1) (omega (arith, filled-made 4 (read-text (c .before .before .before .before .before .before .before .before .before .before .before .before .before .before .before .before .args .text .now)) (c .before .before .before .before .before .before .before .parsed .given .0 .0) (c .before .before .before .before .before .before .before .before .before .before .before .before .before .before .before .before .args .rows .now) (sym (c .before .before .before .before .before .before .before .before .before .before .before .parse-lines .ensures .0) ∙ c .before .before .before .before .before .before .before .parsed .given .1) .1, read-whole 60000 1 (c .before .before .before .before .before .before .before .before .before .before .before .before .before .before .before .before .args .text .now), c .before .before .before .before .before .if1 .left)) (c .before .before .before .before .before .before .before .before .before .before .before .parse-lines .last .1 .0) (c .before .before .copy-numbers .last .1 .0) (omega (arith, (read-fits (c .before .before .before .before .before .before .before .before .before .before .before .before .before .before .before .before .args .text .now) (c .before .before .before .before .before .before .before .before .before .before .before .before .before .before .before .before .args .held .now) (c .before .before .before .before .before .before .before .before .before .before .before .before .before .before .before .before .pre)), c .before .before .before .before .before .before .before .before .before .before .before .parse-lines .kept .1 .0)) (λ m. ((c .before .before .before .before .before .before .before .before .before .before .before .before .before .before .before .before .args .held .now), c .before .before .before .before .before .before .before .before .before .before .before .parse-lines .kept .1 .0, c .before .before .before .before .before .before .before .before .before .before .before .parse-lines .ensures .1 m)) (c .before .before .copy-numbers .ensures ∙ rw e))
+returns-3 c =
+    let start = c .before .before .before .before .before .before .before .before .before .before .before
+    .before .before .before .before .before in
+    let the-parse-lines = c .before .before .before .before .before .before .before .before .before .before
+    .before .parse-lines in
+    let the-parsed = c .before .before .before .before .before .before .before .parsed in
+    let the-if1 = c .before .before .before .before .before .if1 in
+    let the-copy-numbers = c .before .before .copy-numbers in
+    let text = start .args .text .now in
+    let rows = start .args .rows .now in
+    let held = start .args .held .now in
+    (let e : length (made-numbers (read-text text)) ≡ (the-parsed .given .0 .0) * 4 = omega (
+      arith,
+      filled-made 4 (read-text text) (the-parsed .given .0 .0) rows (sym (the-parse-lines .ensures .0) ∙
+          the-parsed .given .1) .1,
+      read-whole 60000 1 text,
+    ) in filled-done 4 (read-text text) (the-parsed .given
+    .0 .0) rows (sym (the-parse-lines .ensures .0) ∙ the-parsed .given .1) (omega (
+      arith,
+      filled-made 4
+          (read-text text) (the-parsed .given .0 .0) rows (sym (the-parse-lines .ensures .0) ∙ the-parsed .given
+          .1) .1,
+      read-whole 60000 1 text,
+      the-if1 .left,
+    )) (the-parse-lines .last .1 .0) (the-copy-numbers .last
+    .1 .0) (omega (arith, (read-fits text held (start .pre)), the-parse-lines .kept .1 .0)) (λ m. (
+      held,
+      the-parse-lines .kept .1 .0,
+      the-parse-lines .ensures .1 m,
+    )) (the-copy-numbers .ensures ∙ rw e))
 
 pub read-through-spec : {M : Type 1} → statement M
 read-through-spec =

@@ -1,15 +1,11 @@
-use mathlib.Core.Path.{_≡_, refl, sym, ap, _∙_}
-use mathlib.Core.List.{List, [], _∷_, _++_}
-use Prim.Native.Nat.{ℕ, suc, _+_, _-_, _*_, _≤_, _<_}
-use native.Mathlib.Omega.{arith}
-use lib.ListN.{length, getD, take, drop, set, length-set}
+-- `text::write_number` meets its contract. Assumes nothing.
+use mathlib.Core.Path.{_∙_}
+use Prim.Native.Nat.{_-_}
+use lib.ListN.{length-set}
 use borrow.Author.Needs.{needs}
 use native.Mathlib.Numerals.{add-one}
 use Rattle.text.proofs.write_number.Statement.{statement}
 use Rattle.text.proofs.write_number.Tie as tie
-use Rattle.text.proofs.write_number.Reads as reads
-use Rattle.text.proofs.write_number.Lts as lts
-use Rattle.text.proofs.write_decimal.Reads as write-decimal-reads
 
 slice-write-text : tie.Need-slice-write-text
 slice-write-text c = search needs
@@ -21,10 +17,16 @@ write-decimal-requires : tie.Need-write-decimal-requires
 write-decimal-requires c κs = search needs
 
 same-length : tie.Need-same-length
-same-length c = c .before .before .write-decimal .kept .0 ∙ length-set (c .before .before .before .before .before .args .text .now) (c .before .before .before .before .before .args .at) 9
+same-length c =
+    let start = c .before .before .before .before .before in
+    let the-write-decimal = c .before .before .write-decimal in
+    the-write-decimal .kept .0 ∙ length-set (start .args .text .now) (start .args .at) 9
 
 returns : tie.Need-returns
-returns c = (c .before .before .write-decimal .ensures .0, c .before .before .write-decimal .ensures .1 ∙ rw (add-one (c .before .before .before .before .before .args .at)))
+returns c =
+    let start = c .before .before .before .before .before in
+    let the-write-decimal = c .before .before .write-decimal in
+    (the-write-decimal .ensures .0, the-write-decimal .ensures .1 ∙ rw (add-one (start .args .at)))
 
 pub write-number-spec : {M : Type 1} → statement M
 write-number-spec =

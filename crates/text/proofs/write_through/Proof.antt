@@ -1,8 +1,8 @@
-use mathlib.Core.Path.{_≡_, refl, sym, ap, _∙_}
-use mathlib.Core.List.{List, [], _∷_, _++_}
-use Prim.Native.Nat.{ℕ, suc, _+_, _-_, _*_, _≤_, _<_}
+-- `text::write_through` meets its contract. Assumes nothing.
+use mathlib.Core.Path.{_≡_, sym, _∙_}
+use Prim.Native.Nat.{_-_}
 use native.Mathlib.Omega.{arith}
-use lib.ListN.{length, getD, take, drop, set, length-set}
+use lib.ListN.{length}
 use borrow.Author.Needs.{needs}
 use Rattle.text.proofs.Texts.{write-fits}
 use Rattle.text.specs.Texts.{write-rows}
@@ -10,10 +10,6 @@ use Rattle.language.proofs.Filling.{filled-refused, filled-made, filled-short, 
 use Rattle.language.specs.Filling.{made-numbers}
 use Rattle.text.proofs.write_through.Statement.{statement}
 use Rattle.text.proofs.write_through.Tie as tie
-use Rattle.text.proofs.write_through.Reads as reads
-use Rattle.text.proofs.write_through.Lts as lts
-use Rattle.text.proofs.copy_bytes.Reads as copy-bytes-reads
-use Rattle.text.proofs.format_rows.Reads as format-rows-reads
 
 format-rows-requires : tie.Need-format-rows-requires
 format-rows-requires c κs = search needs
@@ -28,16 +24,63 @@ same-length : tie.Need-same-length
 same-length c = search needs
 
 returns : tie.Need-returns
-returns c = let r = filled-refused 1 (write-rows (c .before .before .before .before .before .before .before .before .before .args .rows .now)) (c .enum-told .given .0 .0) (c .enum-told .given .0 .1 .0) (length (c .before .before .before .before .before .before .before .before .before .args .text .now)) (c .before .before .before .before .before .before .before .before .before .args .text .now) (sym (c .before .before .before .before .format-rows .ensures .0) ∙ c .enum-told .given .1) in (c .before .before .before .before .format-rows .ensures .0 ∙ r .0, r .1)
+returns c =
+    let start = c .before .before .before .before .before .before .before .before .before in
+    let the-format-rows = c .before .before .before .before .format-rows in
+    let text = start .args .text .now in
+    let r = filled-refused 1 (write-rows (start .args .rows .now)) (c .enum-told .given .0 .0) (c .enum-told
+    .given .0 .1 .0) (length text) text (sym (the-format-rows .ensures .0) ∙ c .enum-told .given .1) in
+    (the-format-rows .ensures .0 ∙ r .0, r .1)
 
 same-length-2 : tie.Need-same-length-2
 same-length-2 c = search needs
 
 returns-2 : tie.Need-returns-2
-returns-2 c = filled-short 1 (write-rows (c .before .before .before .before .before .before .before .before .before .before .before .args .rows .now)) (c .before .before .formatted .given .0 .0) (c .before .before .before .before .before .before .before .before .before .before .before .args .text .now) (sym (c .before .before .before .before .before .before .format-rows .ensures .0) ∙ c .before .before .formatted .given .1) (omega (arith, filled-made 1 (write-rows (c .before .before .before .before .before .before .before .before .before .before .before .args .rows .now)) (c .before .before .formatted .given .0 .0) (c .before .before .before .before .before .before .before .before .before .before .before .args .text .now) (sym (c .before .before .before .before .before .before .format-rows .ensures .0) ∙ c .before .before .formatted .given .1) .1, c .if1 .taken))
+returns-2 c =
+    let start = c .before .before .before .before .before .before .before .before .before .before .before in
+    let the-format-rows = c .before .before .before .before .before .before .format-rows in
+    let the-formatted = c .before .before .formatted in
+    let rows = start .args .rows .now in
+    let text = start .args .text .now in
+    filled-short 1 (write-rows rows) (the-formatted .given .0 .0) text (sym (the-format-rows .ensures .0) ∙
+    the-formatted .given .1) (omega (
+      arith,
+      filled-made 1 (write-rows rows) (the-formatted .given .0 .0)
+          text (sym (the-format-rows .ensures .0) ∙ the-formatted .given .1) .1,
+      c .if1 .taken,
+    ))
 
 copy-bytes-requires : tie.Need-copy-bytes-requires
-copy-bytes-requires c κs = (let e : length (made-numbers (write-rows (c .before .before .before .before .before .before .before .before .before .before .before .before .before .args .rows .now))) ≡ (c .before .before .before .before .formatted .given .0 .0) = omega (arith, filled-made 1 (write-rows (c .before .before .before .before .before .before .before .before .before .before .before .before .before .args .rows .now)) (c .before .before .before .before .formatted .given .0 .0) (c .before .before .before .before .before .before .before .before .before .before .before .before .before .args .text .now) (sym (c .before .before .before .before .before .before .before .before .format-rows .ensures .0) ∙ c .before .before .before .before .formatted .given .1) .1, c .before .before .if1 .left) in (omega (arith, e, (write-fits (c .before .before .before .before .before .before .before .before .before .before .before .before .before .args .rows .now) (c .before .before .before .before .before .before .before .before .before .before .before .before .before .args .held .now) (c .before .before .before .before .before .before .before .before .before .before .before .before .before .pre)), c .before .before .before .before .before .before .before .before .format-rows .kept .1 .0), omega (arith, e, filled-made 1 (write-rows (c .before .before .before .before .before .before .before .before .before .before .before .before .before .args .rows .now)) (c .before .before .before .before .formatted .given .0 .0) (c .before .before .before .before .before .before .before .before .before .before .before .before .before .args .text .now) (sym (c .before .before .before .before .before .before .before .before .format-rows .ensures .0) ∙ c .before .before .before .before .formatted .given .1) .1, c .before .before .if1 .left, c .before .before .if1 .left)))
+copy-bytes-requires c κs =
+    let start = c .before .before .before .before .before .before .before .before .before .before .before
+    .before .before in
+    let the-format-rows = c .before .before .before .before .before .before .before .before .format-rows in
+    let the-formatted = c .before .before .before .before .formatted in
+    let the-if1 = c .before .before .if1 in
+    let rows = start .args .rows .now in
+    let text = start .args .text .now in
+    (let e : length (made-numbers (write-rows rows)) ≡ (the-formatted .given .0 .0) = omega (
+      arith,
+      filled-made 1 (write-rows rows) (the-formatted .given .0 .0) text (sym (the-format-rows .ensures .0) ∙
+          the-formatted .given .1) .1,
+      the-if1 .left,
+    ) in (
+      omega (
+        arith,
+        e,
+        (write-fits rows (start .args .held
+            .now) (start .pre)),
+        the-format-rows .kept .1 .0,
+      ),
+      omega (
+        arith,
+        e,
+        filled-made 1 (write-rows rows)
+            (the-formatted .given .0 .0) text (sym (the-format-rows .ensures .0) ∙ the-formatted .given .1) .1,
+        the-if1 .left,
+        the-if1 .left,
+      ),
+    ))
 
 same-length-3 : tie.Need-same-length-3
 same-length-3 c = search needs
@@ -46,7 +89,36 @@ same-length-4 : tie.Need-same-length-4
 same-length-4 c = search needs
 
 returns-3 : tie.Need-returns-3
-returns-3 c = (let e : length (made-numbers (write-rows (c .before .before .before .before .before .before .before .before .before .before .before .before .before .before .before .before .args .rows .now))) ≡ (c .before .before .before .before .before .before .before .formatted .given .0 .0) = omega (arith, filled-made 1 (write-rows (c .before .before .before .before .before .before .before .before .before .before .before .before .before .before .before .before .args .rows .now)) (c .before .before .before .before .before .before .before .formatted .given .0 .0) (c .before .before .before .before .before .before .before .before .before .before .before .before .before .before .before .before .args .text .now) (sym (c .before .before .before .before .before .before .before .before .before .before .before .format-rows .ensures .0) ∙ c .before .before .before .before .before .before .before .formatted .given .1) .1, c .before .before .before .before .before .if1 .left) in filled-done 1 (write-rows (c .before .before .before .before .before .before .before .before .before .before .before .before .before .before .before .before .args .rows .now)) (c .before .before .before .before .before .before .before .formatted .given .0 .0) (c .before .before .before .before .before .before .before .before .before .before .before .before .before .before .before .before .args .text .now) (sym (c .before .before .before .before .before .before .before .before .before .before .before .format-rows .ensures .0) ∙ c .before .before .before .before .before .before .before .formatted .given .1) (omega (arith, filled-made 1 (write-rows (c .before .before .before .before .before .before .before .before .before .before .before .before .before .before .before .before .args .rows .now)) (c .before .before .before .before .before .before .before .formatted .given .0 .0) (c .before .before .before .before .before .before .before .before .before .before .before .before .before .before .before .before .args .text .now) (sym (c .before .before .before .before .before .before .before .before .before .before .before .format-rows .ensures .0) ∙ c .before .before .before .before .before .before .before .formatted .given .1) .1, c .before .before .before .before .before .if1 .left, c .before .before .before .before .before .if1 .left)) (c .before .before .before .before .before .before .before .before .before .before .before .format-rows .last .1 .0) (c .before .before .copy-bytes .last .1 .0) (omega (arith, (write-fits (c .before .before .before .before .before .before .before .before .before .before .before .before .before .before .before .before .args .rows .now) (c .before .before .before .before .before .before .before .before .before .before .before .before .before .before .before .before .args .held .now) (c .before .before .before .before .before .before .before .before .before .before .before .before .before .before .before .before .pre)), c .before .before .before .before .before .before .before .before .before .before .before .format-rows .kept .1 .0)) (λ m. ((c .before .before .before .before .before .before .before .before .before .before .before .before .before .before .before .before .args .held .now), c .before .before .before .before .before .before .before .before .before .before .before .format-rows .kept .1 .0, c .before .before .before .before .before .before .before .before .before .before .before .format-rows .ensures .1 m)) (c .before .before .copy-bytes .ensures ∙ rw e))
+returns-3 c =
+    let start = c .before .before .before .before .before .before .before .before .before .before .before
+    .before .before .before .before .before in
+    let the-format-rows = c .before .before .before .before .before .before .before .before .before .before
+    .before .format-rows in
+    let the-formatted = c .before .before .before .before .before .before .before .formatted in
+    let the-if1 = c .before .before .before .before .before .if1 in
+    let the-copy-bytes = c .before .before .copy-bytes in
+    let rows = start .args .rows .now in
+    let text = start .args .text .now in
+    let held = start .args .held .now in
+    (let e : length (made-numbers (write-rows rows)) ≡ (the-formatted .given .0 .0) = omega (
+      arith,
+      filled-made 1 (write-rows rows) (the-formatted .given .0 .0) text (sym (the-format-rows .ensures .0) ∙
+          the-formatted .given .1) .1,
+      the-if1 .left,
+    ) in filled-done 1 (write-rows rows) (the-formatted .given .0
+    .0) text (sym (the-format-rows .ensures .0) ∙ the-formatted .given .1) (omega (
+      arith,
+      filled-made 1
+          (write-rows rows) (the-formatted .given .0 .0) text (sym (the-format-rows .ensures .0) ∙ the-formatted
+          .given .1) .1,
+      the-if1 .left,
+      the-if1 .left,
+    )) (the-format-rows .last .1 .0) (the-copy-bytes .last .1
+    .0) (omega (arith, (write-fits rows held (start .pre)), the-format-rows .kept .1 .0)) (λ m. (
+      held,
+      the-format-rows .kept .1 .0,
+      the-format-rows .ensures .1 m,
+    )) (the-copy-bytes .ensures ∙ rw e))
 
 pub write-through-spec : {M : Type 1} → statement M
 write-through-spec =
