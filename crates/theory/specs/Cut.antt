@@ -1,0 +1,430 @@
+-- A run with fuel F and room K is the run without limits, or it is cut by 14 or 16 (spent or full), and then
+-- the run without limits takes more than F steps or makes more than K objects.
+use mathlib.Core.Path.{_≡_, refl}
+use Prim.Native.Nat.{ℕ, zero, suc, _≤_, _<_}
+use mathlib.Core.Option.{Option, none, some}
+use mathlib.Core.Bool.{Bool, true, false, cond}
+use mathlib.Core.List.{List, [], _∷_, _++_, map}
+use lib.ListN.{length, set as replace, length-append, length-set}
+use lib.Dec.{leb}
+use borrow.Author.Tests.{leb-true, leb-false}
+use native.Mathlib.Omega.{arith}
+use Rattle.language.specs.Limits.{most-calls}
+use Rattle.language.specs.Lists.{nth, choice}
+use Rattle.language.specs.Results.{ok, stop, bind}
+use Rattle.language.specs.Frames.{Frame, frame, at-slot, with-slot, opened, closed}
+use Rattle.language.specs.Tree.{Expr, literal-true, literal-false, literal-null, slot, is-null, get, cast, new}
+use Rattle.language.specs.Tree.{change, assign, set, call, choose, block, Exprs, nil, cons}
+use Rattle.language.specs.World.{Method, World}
+use Rattle.language.specs.Evaluation.{Value, null, truth, object, Object, State, Stop, raised, deep, spent}
+use Rattle.language.specs.Evaluation.{full, stuck, Out, without-limits, with-limits, entered, with-frame}
+use Rattle.language.specs.Evaluation.{with-heap, with-change, initial, last-value, need, need-object}
+use Rattle.language.specs.Evaluation.{need-truth, new-object, changed, field-of, with-field, do-get, do-set}
+use Rattle.language.specs.Evaluation.{do-cast, do-change, do-new, do-call, eval, eval-all, call-at, eval-start}
+use Rattle.theory.specs.Sound.{false≢}
+
+-- One state is not before another: steps, objects and changes only grow.
+pub record Later (s s′ : State) : Type 0 where
+  pub steps≤ : s .steps ≤ s′ .steps
+  pub heap≤ : length (s .heap) ≤ length (s′ .heap)
+  pub changes≤ : s .changes ≤ s′ .changes
+
+later-same : (s : State) → Later s s
+later-same s = record { steps≤ = omega arith; heap≤ = omega arith; changes≤ = omega arith }
+
+later-trans : {a b c : State} → Later a b → Later b c → Later a c
+later-trans p q = record
+    { steps≤ = omega (arith, p, q); heap≤ = omega (arith, p, q); changes≤ = omega (arith, p, q) }
+
+later-entered : (s : State) → Later s (entered s)
+later-entered s = record { steps≤ = omega arith; heap≤ = omega arith; changes≤ = omega arith }
+
+later-frame : {f : Frame Value} (s : State) → Later s (with-frame f s)
+later-frame s = let p = later-same s in
+    record { steps≤ = p .steps≤; heap≤ = p .heap≤; changes≤ = p .changes≤ }
+
+later-put : (j : ℕ) (o : Object) (s : State) → Later s (with-heap (replace (s .heap) j o) s)
+later-put j o s = record
+    { steps≤ = omega arith; heap≤ = omega (arith, length-set (s .heap) j o); changes≤ = omega arith }
+
+-- A computation only goes on.
+pub data Grows {A : Type 0} (s : State) : Out A → Type 0 where
+  grows-ok : {a : A} {s′ : State} → Later s s′ → Grows s (ok a s′)
+  grows-stop : {x : Stop} {s′ : State} → Later s s′ → Grows s (stop x s′)
+
+grows-after : {A : Type 0} {s s′ : State} {r : Out A} → Later s s′ → Grows s′ r → Grows s r
+grows-after l (grows-ok l′) = grows-ok (later-trans l l′)
+grows-after l (grows-stop l′) = grows-stop (later-trans l l′)
+
+grows-entered : {A : Type 0} {s : State} {r : Out A} → Grows (entered s) r → Grows s r
+grows-entered {s} g = grows-after (later-entered s) g
+
+grows-bind : {A B : Type 0} {s : State} {r : Out A} {k : A → State → Out B} → Grows s r
+    → ((a : A) (s : State) → Grows s (k a s)) → Grows s (bind r k)
+grows-bind (grows-ok l) f = grows-after l (f _ _)
+grows-bind (grows-stop l) f = grows-stop l
+
+grows-need : {A B : Type 0} (o : Option A) (s : State) {k : A → Out B} → ((a : A) → Grows s (k a))
+    → Grows s (need o s k)
+grows-need none s f = grows-stop (later-same s)
+grows-need (some a) s f = f a
+
+grows-object : {B : Type 0} (v : Value) (s : State) {k : ℕ → Out B} → ((j : ℕ) → Grows s (k j))
+    → Grows s (need-object v s k)
+grows-object null s f = grows-stop (later-same s)
+grows-object (truth b) s f = grows-stop (later-same s)
+grows-object (object j) s f = f j
+
+grows-truth : {B : Type 0} (v : Value) (s : State) {k : Bool → Out B} → ((b : Bool) → Grows s (k b))
+    → Grows s (need-truth v s k)
+grows-truth null s f = grows-stop (later-same s)
+grows-truth (truth b) s f = f b
+grows-truth (object j) s f = grows-stop (later-same s)
+
+grows-cond : {B : Type 0} {s : State} (b : Bool) {x y : Out B} → Grows s x → Grows s y → Grows s (cond b x y)
+grows-cond true p q = p
+grows-cond false p q = q
+
+grows-choice : {B : Type 0} {s : State} (b : Bool) {x y : Out B} → Grows s x → Grows s y
+    → Grows s (choice b (λ _. x) (λ _. y))
+grows-choice true p q = p
+grows-choice false p q = q
+
+-- Slots are the frame's own affair.
+later-frames : {f f′ : Frame Value} {s s′ : State} → Later (with-frame f s) s′ → Later s (with-frame f′ s′)
+later-frames p = record { steps≤ = p .steps≤; heap≤ = p .heap≤; changes≤ = p .changes≤ }
+
+grows-called : (f f′ : Frame Value) {s : State} {r : Out Value} → Grows (with-frame f s) r
+    → Grows s (bind r (λ w t. ok w (with-frame f′ t)))
+grows-called f f′ (grows-ok p) = grows-ok (later-frames {f = f} p)
+grows-called f f′ (grows-stop p) =
+    grows-stop (record { steps≤ = p .steps≤; heap≤ = p .heap≤; changes≤ = p .changes≤ })
+
+grows-block : (n : ℕ) (f : Frame Value) {s : State} {r : Out (List Value)} → Grows (with-frame f s) r
+    → Grows s (bind r (λ vs t. ok (last-value null vs) (with-frame (closed n (t .frame)) t)))
+grows-block n f (grows-ok p) = grows-ok (later-frames {f = f} p)
+grows-block n f (grows-stop p) =
+    grows-stop (record { steps≤ = p .steps≤; heap≤ = p .heap≤; changes≤ = p .changes≤ })
+
+module _ (W : World) where
+  grows-get : (f : ℕ) (v : Value) (s : State) → Grows s (do-get W f v s)
+  grows-get f v s = grows-object v s λ j. grows-need (nth (s .heap) j) s λ o. grows-need (field-of W f o) s λ w.
+      grows-ok (later-same s)
+
+  grows-set : (f : ℕ) (v w : Value) (s : State) → Grows s (do-set W f v w s)
+  grows-set f v w s = grows-object v s λ j. grows-need (nth (s .heap) j) s λ o.
+      grows-need (with-field W f w o) s λ o′. grows-ok (later-put j o′ s)
+
+  grows-cast : (c : ℕ) (v : Value) (s : State) → Grows s (do-cast W c v s)
+  grows-cast c null s = grows-ok (later-same s)
+  grows-cast c (truth b) s = grows-stop (later-same s)
+  grows-cast c (object j) s = grows-need (nth (s .heap) j) s λ o.
+      grows-cond (W .below (o .class-of) c) (grows-ok (later-same s)) (grows-stop (later-same s))
+
+  grows-change : (d : ℕ) (v : Value) (s : State) → Grows s (do-change W d v s)
+  grows-change d null s = grows-ok (later-same s)
+  grows-change d (truth b) s = grows-stop (later-same s)
+  grows-change d (object j) s = grows-need (nth (s .heap) j) s λ o. grows-ok (put o)
+    where
+      put : (o : Object) → Later s (with-change (replace (s .heap) j (changed W d o)) s)
+      put o = record
+          { steps≤ = omega arith; heap≤ = omega (arith, length-set (s .heap) j (changed W d o)); changes≤ = omega arith }
+
+  later-new : (c : ℕ) (s : State) → Later s (with-heap (s .heap ++ (new-object W c ∷ [])) s)
+  later-new c s = record
+      { steps≤ = omega arith; heap≤ = omega (arith, length-append (s .heap) (new-object W c ∷ [])); changes≤ = omega arith }
+
+  module _ (invoke : Method → State → Out Value) (C : (M : Method) (s : State) → Grows s (invoke M s)) where
+    grows-call : (m : ℕ) (v : Value) (vs : List Value) (s : State) → Grows s (do-call W without-limits invoke m v vs s)
+    grows-call m v vs s = grows-object v s λ j. grows-need (nth (s .heap) j) s λ o.
+        grows-need (W .method (o .class-of) m) s λ M.
+        grows-called (frame (some (object j)) vs) (s .frame) (C M (with-frame (frame (some (object j)) vs) s))
+
+    -- Steps, objects and changes of a run without limits only grow, from the node's own step on.
+    mutual
+      unfolding eval
+
+      pub grows : (e : Expr) (s : State) → Grows (entered s) (eval W without-limits invoke e s)
+      grows literal-true s = grows-ok (later-same (entered s))
+      grows literal-false s = grows-ok (later-same (entered s))
+      grows literal-null s = grows-ok (later-same (entered s))
+      grows (slot k) s = grows-need (at-slot (s .frame) k) (entered s) λ v. grows-ok (later-same (entered s))
+      grows (is-null e) s = grows-bind (grows-entered (grows e (entered s))) λ v s. grows-ok (later-same s)
+      grows (get f e) s = grows-bind (grows-entered (grows e (entered s))) λ v s. grows-get f v s
+      grows (cast c e) s = grows-bind (grows-entered (grows e (entered s))) λ v s. grows-cast c v s
+      grows (new c) s = grows-ok (later-new c (entered s))
+      grows (change k d) s = grows-need (at-slot (s .frame) k) (entered s) λ v. grows-change d v (entered s)
+      grows (assign k e) s = grows-bind (grows-entered (grows e (entered s))) λ v s. grows-ok (later-frame s)
+      grows (set f e e′) s = grows-bind (grows-entered (grows e (entered s))) λ v s.
+          grows-bind (grows-entered (grows e′ s)) λ w s. grows-set f v w s
+      grows (call m e es) s = grows-bind (grows-entered (grows e (entered s))) λ v s.
+          grows-bind (grows-all es s) λ vs s. grows-call m v vs s
+      grows (choose e x y) s = grows-bind (grows-entered (grows e (entered s))) λ v s. grows-truth v s λ b.
+          grows-choice b (grows-entered (grows x s)) (grows-entered (grows y s))
+      grows (block ts es) s = let f = opened (s .frame) (map initial ts) in
+          grows-block (length (s .frame .slots)) f (grows-all es (with-frame f (entered s)))
+
+      pub grows-all : (es : Exprs) (s : State) → Grows s (eval-all W without-limits invoke es s)
+      grows-all nil s = grows-ok (later-same s)
+      grows-all (cons e es) s = grows-bind (grows-entered (grows e s)) λ v s.
+          grows-bind (grows-all es s) λ vs s. grows-ok (later-same s)
+
+  -- So do those of a call, of any depth.
+  pub grows-calls : (n : ℕ) (M : Method) (s : State) → Grows s (call-at W without-limits n M s)
+  unfolding call-at
+  grows-calls zero M s = grows-stop (later-same s)
+  grows-calls (suc n) M s =
+      grows-entered (grows (λ M s. call-at W without-limits n M s) (λ M s. grows-calls n M s) (M .body) s)
+
+module _ (F K : ℕ) where
+  -- Within the limits; beyond one of them.
+  pub record Within (s : State) : Type 0 where
+    pub fuel : s .steps ≤ F
+    pub room : length (s .heap) ≤ K
+
+  pub data Beyond (s : State) : Type 0 where
+    beyond-fuel : F < s .steps → Beyond s
+    beyond-room : K < length (s .heap) → Beyond s
+
+  -- Still beyond later on.
+  beyond-later : {s s′ : State} → Beyond s → Later s s′ → Beyond s′
+  beyond-later (beyond-fuel p) l = beyond-fuel (omega (arith, p, l))
+  beyond-later (beyond-room p) l = beyond-room (omega (arith, p, l))
+
+  -- 14 and 16.
+  pub data Cut : Stop → Type 0 where
+    cut-spent : Cut spent
+    cut-full : Cut full
+
+  -- A run that ends beyond the limits.
+  pub data Over {A : Type 0} : Out A → Type 0 where
+    over-ok : {a : A} {s : State} → Beyond s → Over (ok a s)
+    over-stop : {x : Stop} {s : State} → Beyond s → Over (stop x s)
+
+  -- The run without limits, and the run with them: the same, within them, or cut.
+  pub data Limited {A : Type 0} : Out A → Out A → Type 0 where
+    same-ok : {a : A} {s : State} → Within s → Limited (ok a s) (ok a s)
+    same-stop : {x : Stop} {s : State} → Within s → Limited (stop x s) (stop x s)
+    cut : {r : Out A} {x : Stop} {s : State} → Over r → Cut x → Limited r (stop x s)
+
+  over : {A : Type 0} {s : State} {r : Out A} → Beyond s → Grows s r → Over r
+  over b (grows-ok l) = over-ok (beyond-later b l)
+  over b (grows-stop l) = over-stop (beyond-later b l)
+
+  limited-bind : {A B : Type 0} {r r′ : Out A} {k k′ : A → State → Out B} → Limited r r′
+      → ((a : A) (s : State) → Within s → Limited (k a s) (k′ a s)) → ((a : A) (s : State) → Grows s (k a s))
+      → Limited (bind r k) (bind r′ k′)
+  limited-bind (same-ok w) f g = f _ _ w
+  limited-bind (same-stop w) f g = same-stop w
+  limited-bind (cut (over-ok b) c) f g = cut (over b (g _ _)) c
+  limited-bind (cut (over-stop b) c) f g = cut (over-stop b) c
+
+  limited-need : {A B : Type 0} (o : Option A) (s : State) {k k′ : A → Out B} → Within s
+      → ((a : A) → Limited (k a) (k′ a)) → Limited (need o s k) (need o s k′)
+  limited-need none s w f = same-stop w
+  limited-need (some a) s w f = f a
+
+  limited-object : {B : Type 0} (v : Value) (s : State) {k k′ : ℕ → Out B} → Within s
+      → ((j : ℕ) → Limited (k j) (k′ j)) → Limited (need-object v s k) (need-object v s k′)
+  limited-object null s w f = same-stop w
+  limited-object (truth b) s w f = same-stop w
+  limited-object (object j) s w f = f j
+
+  limited-truth : {B : Type 0} (v : Value) (s : State) {k k′ : Bool → Out B} → Within s
+      → ((b : Bool) → Limited (k b) (k′ b)) → Limited (need-truth v s k) (need-truth v s k′)
+  limited-truth null s w f = same-stop w
+  limited-truth (truth b) s w f = f b
+  limited-truth (object j) s w f = same-stop w
+
+  limited-cond : {B : Type 0} (b : Bool) {x y x′ y′ : Out B} → Limited x x′ → Limited y y′
+      → Limited (cond b x y) (cond b x′ y′)
+  limited-cond true p q = p
+  limited-cond false p q = q
+
+  limited-choice : {B : Type 0} (b : Bool) {x y x′ y′ : Out B} → Limited x x′ → Limited y y′
+      → Limited (choice b (λ _. x) (λ _. y)) (choice b (λ _. x′) (λ _. y′))
+  limited-choice true p q = p
+  limited-choice false p q = q
+
+  within-put : (s : State) (j : ℕ) (o : Object) (k : ℕ) → Within s
+      → Within (record { frame = s .frame; heap = replace (s .heap) j o; steps = s .steps; changes = k })
+  within-put s j o k w = record { fuel = w .fuel; room = omega (arith, length-set (s .heap) j o, w) }
+
+  within-frame : {s : State} (f : Frame Value) → Within s → Within (with-frame f s)
+  within-frame f w = record { fuel = w .fuel; room = w .room }
+
+  module _ (W : World) where
+    limited-get : (f : ℕ) (v : Value) (s : State) → Within s → Limited (do-get W f v s) (do-get W f v s)
+    limited-get f v s w = limited-object v s w λ j. limited-need (nth (s .heap) j) s w λ o.
+        limited-need (field-of W f o) s w λ x. same-ok w
+
+    limited-set : (f : ℕ) (v x : Value) (s : State) → Within s → Limited (do-set W f v x s) (do-set W f v x s)
+    limited-set f v x s w = limited-object v s w λ j. limited-need (nth (s .heap) j) s w λ o.
+        limited-need (with-field W f x o) s w λ o′. same-ok (within-put s j o′ (s .changes) w)
+
+    limited-cast : (c : ℕ) (v : Value) (s : State) → Within s → Limited (do-cast W c v s) (do-cast W c v s)
+    limited-cast c null s w = same-ok w
+    limited-cast c (truth b) s w = same-stop w
+    limited-cast c (object j) s w = limited-need (nth (s .heap) j) s w λ o.
+        limited-cond (W .below (o .class-of) c) (same-ok w) (same-stop w)
+
+    limited-change : (d : ℕ) (v : Value) (s : State) → Within s → Limited (do-change W d v s) (do-change W d v s)
+    limited-change d null s w = same-ok w
+    limited-change d (truth b) s w = same-stop w
+    limited-change d (object j) s w = limited-need (nth (s .heap) j) s w λ o.
+        same-ok (within-put s j (changed W d o) (suc (s .changes)) w)
+
+    limited-enter : {A : Type 0} (s : State) {x y : Out A} → Within s → (Within (entered s) → Limited x y)
+        → Grows (entered s) x → Limited x (choice (leb F (s .steps)) (λ _. stop spent s) (λ _. y))
+    limited-enter {A} s {x} {y} w f g = go (leb F (s .steps)) refl
+      where
+        go : (b : Bool) → leb F (s .steps) ≡ b → Limited {A = A} x (choice b (λ _. stop spent s) (λ _. y))
+        go true e = cut (over (beyond-fuel (omega (arith, leb-true F (s .steps) e))) g) cut-spent
+        go false e = f (record { fuel = omega (arith, leb-false F (s .steps) e); room = w .room })
+
+    limited-new : (c : ℕ) (s : State) → Within s
+        → Limited (do-new W without-limits c s) (do-new W (with-limits F K) c s)
+    limited-new c s w = go (leb K (length (s .heap))) refl
+      where
+        made : State
+        made = with-heap (s .heap ++ (new-object W c ∷ [])) s
+
+        go : (b : Bool) → leb K (length (s .heap)) ≡ b → Limited {A = Value} (ok (object (length (s .heap))) made)
+            (cond b (stop full s) (ok (object (length (s .heap))) made))
+        go true e = cut (over-ok {s = made} (beyond-room
+            (omega (arith, leb-true K (length (s .heap)) e, length-append (s .heap) (new-object W c ∷ []))))) cut-full
+        go false e = same-ok {s = made} (record {
+          fuel = w .fuel;
+          room = omega (arith, leb-false K (length (s .heap)) e, length-append (s .heap) (new-object W c ∷ []));
+        })
+
+    module _ (invoke invoke′ : Method → State → Out Value) (C : (M : Method) (s : State) → Grows s (invoke M s))
+        (D : (M : Method) (s : State) → Within s → Limited (invoke M s) (invoke′ M s)) where
+      limited-back : (f : Frame Value) {r r′ : Out Value} → Limited r r′
+          → Limited (bind r (λ w t. ok w (with-frame f t))) (bind r′ (λ w t. ok w (with-frame f t)))
+      limited-back f (same-ok w) = same-ok (within-frame f w)
+      limited-back f (same-stop w) = same-stop w
+      limited-back f (cut (over-ok b) c) = cut (over-ok (beyond-later b (later-frame _))) c
+      limited-back f (cut (over-stop b) c) = cut (over-stop b) c
+
+      limited-call : (m : ℕ) (v : Value) (vs : List Value) (s : State) → Within s
+          → Limited (do-call W without-limits invoke m v vs s) (do-call W (with-limits F K) invoke′ m v vs s)
+      limited-call m v vs s w = limited-object v s w λ j. limited-need (nth (s .heap) j) s w λ o.
+          limited-need (W .method (o .class-of) m) s w λ M.
+          limited-back (s .frame) (D M (with-frame (frame (some (object j)) vs) s) (within-frame _ w))
+
+      -- An expression run with limits is the expression run without, or is cut.
+      mutual
+        unfolding eval
+
+        pub limited : (e : Expr) (s : State) → Within s
+            → Limited (eval W without-limits invoke e s) (eval W (with-limits F K) invoke′ e s)
+        limited literal-true s w = limited-enter s w (λ w. same-ok w) (grows W invoke C literal-true s)
+        limited literal-false s w = limited-enter s w (λ w. same-ok w) (grows W invoke C literal-false s)
+        limited literal-null s w = limited-enter s w (λ w. same-ok w) (grows W invoke C literal-null s)
+        limited (slot k) s w = limited-enter s w
+            (λ w. limited-need (at-slot (s .frame) k) (entered s) w λ v. same-ok w) (grows W invoke C (slot k) s)
+        limited (is-null e) s w = limited-enter s w
+            (λ w. limited-bind (limited e (entered s) w) (λ v s w. same-ok w) (λ v s. grows-ok (later-same s)))
+            (grows W invoke C (is-null e) s)
+        limited (get f e) s w = limited-enter s w
+            (λ w. limited-bind (limited e (entered s) w) (λ v s w. limited-get f v s w) (λ v s. grows-get W f v s))
+            (grows W invoke C (get f e) s)
+        limited (cast c e) s w = limited-enter s w
+            (λ w. limited-bind (limited e (entered s) w) (λ v s w. limited-cast c v s w) (λ v s. grows-cast W c v s))
+            (grows W invoke C (cast c e) s)
+        limited (new c) s w = limited-enter s w (λ w. limited-new c (entered s) w) (grows W invoke C (new c) s)
+        limited (change k d) s w = limited-enter s w
+            (λ w. limited-need (at-slot (s .frame) k) (entered s) w λ v. limited-change d v (entered s) w)
+            (grows W invoke C (change k d) s)
+        limited (assign k e) s w = limited-enter s w
+            (λ w. limited-bind (limited e (entered s) w)
+            (λ v s w. same-ok (within-frame (with-slot (s .frame) k v) w)) (λ v s. grows-ok (later-frame s)))
+            (grows W invoke C (assign k e) s)
+        limited (set f e e′) s w = limited-enter s w
+            (λ w. limited-bind (limited e (entered s) w)
+            (λ v s w. limited-bind (limited e′ s w) (λ x s w. limited-set f v x s w) (λ x s. grows-set W f v x s))
+            (λ v s. grows-bind (grows-entered (grows W invoke C e′ s)) λ x s. grows-set W f v x s))
+            (grows W invoke C (set f e e′) s)
+        limited (call m e es) s w = limited-enter s w
+            (λ w. limited-bind (limited e (entered s) w)
+            (λ v s w. limited-bind (limited-all es s w) (λ vs s w. limited-call m v vs s w)
+            (λ vs s. grows-call W invoke C m v vs s))
+            (λ v s. grows-bind (grows-all W invoke C es s) λ vs s. grows-call W invoke C m v vs s))
+            (grows W invoke C (call m e es) s)
+        limited (choose e x y) s w = limited-enter s w
+            (λ w. limited-bind (limited e (entered s) w)
+            (λ v s w. limited-truth v s w λ b. limited-choice b (limited x s w) (limited y s w))
+            (λ v s. grows-truth v s λ b.
+            grows-choice b (grows-entered (grows W invoke C x s)) (grows-entered (grows W invoke C y s))))
+            (grows W invoke C (choose e x y) s)
+        limited (block ts es) s w = limited-enter s w
+            (λ w. limited-bind
+            (limited-all es (with-frame (opened (s .frame) (map initial ts)) (entered s)) (within-frame _ w))
+            (λ vs t w. same-ok (within-frame (closed (length (s .frame .slots)) (t .frame)) w))
+            (λ vs s. grows-ok (later-frame s)))
+            (grows W invoke C (block ts es) s)
+
+        pub limited-all : (es : Exprs) (s : State) → Within s
+            → Limited (eval-all W without-limits invoke es s) (eval-all W (with-limits F K) invoke′ es s)
+        limited-all nil s w = same-ok w
+        limited-all (cons e es) s w = limited-bind (limited e s w)
+            (λ v s w. limited-bind (limited-all es s w) (λ vs s w. same-ok w) (λ vs s. grows-ok (later-same s)))
+            (λ v s. grows-bind (grows-all W invoke C es s) λ vs s. grows-ok (later-same s))
+
+    -- A call, of any depth, run with limits is the call run without, or is cut.
+    pub limited-calls : (n : ℕ) (M : Method) (s : State) → Within s
+        → Limited (call-at W without-limits n M s) (call-at W (with-limits F K) n M s)
+    unfolding call-at
+    limited-calls zero M s w = same-stop w
+    limited-calls (suc n) M s w = limited (λ M s. call-at W without-limits n M s)
+        (λ M s. call-at W (with-limits F K) n M s) (λ M s. grows-calls W n M s)
+        (λ M s w. limited-calls n M s w) (M .body) s w
+
+    -- An expression outside of any call, run with fuel F and room K, is its run without limits, or is cut.
+    pub limited-start : (e : Expr) (s : State) → Within s
+        → Limited (eval-start W without-limits e s) (eval-start W (with-limits F K) e s)
+    limited-start e s w = limited (λ M s. call-at W without-limits most-calls M s)
+        (λ M s. call-at W (with-limits F K) most-calls M s) (λ M s. grows-calls W most-calls M s)
+        (λ M s w. limited-calls most-calls M s w) e s w
+
+-- The state at the end of a run.
+abbrev pub final : {A : Type 0} → Out A → State
+final (ok a s) = s
+final (stop x s) = s
+
+-- A run that ends in a value, an exception or too deep a call: not cut, and not stuck.
+abbrev pub proper-stop : Stop → Bool
+proper-stop (raised n) = true
+proper-stop deep = true
+proper-stop spent = false
+proper-stop full = false
+proper-stop stuck = false
+
+abbrev pub proper : {A : Type 0} → Out A → Bool
+proper (ok a s) = true
+proper (stop x s) = proper-stop x
+
+module _ (F K : ℕ) where
+  -- The run with limits is the run without, which keeps within them.
+  pub record Kept {A : Type 0} (r r′ : Out A) : Type 0 where
+    pub is : r′ ≡ r
+    pub within : Within F K (final r)
+
+  -- A run with limits that ends properly was not cut.
+  pub kept : {A : Type 0} {r r′ : Out A} → Limited F K r r′ → proper r′ ≡ true → Kept r r′
+  kept (same-ok w) p = record { is = refl; within = w }
+  kept (same-stop w) p = record { is = refl; within = w }
+  kept (cut o cut-spent) p = false≢ p
+  kept (cut o cut-full) p = false≢ p
+
+  beyond-not : {s : State} → Beyond F K s → Within F K s → ⊥
+  beyond-not (beyond-fuel p) w = omega (arith, p, w)
+  beyond-not (beyond-room p) w = omega (arith, p, w)
+
+  -- If the run without limits keeps within them, the run with limits is the same.
+  pub uncut : {A : Type 0} {r r′ : Out A} → Limited F K r r′ → Within F K (final r) → r′ ≡ r
+  uncut (same-ok w) v = refl
+  uncut (same-stop w) v = refl
+  uncut (cut (over-ok b) c) v = absurd (beyond-not b v)
+  uncut (cut (over-stop b) c) v = absurd (beyond-not b v)

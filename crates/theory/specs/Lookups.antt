@@ -1,0 +1,290 @@
+-- What the heading and body rules give of lookups, for class lists of any length, so for every class count up
+-- to 64 at once: every law on which soundness rests holds in the world of a well-formed program.
+use mathlib.Core.Path.{_≡_, refl, sym, ap, _∙_, subst}
+use Prim.Native.Nat.{ℕ, zero, suc, _+_, _<_}
+use mathlib.Core.Option.{Option, none, some}
+use mathlib.Core.Bool.{Bool, true, false, _||_, cond}
+use mathlib.Core.Logic.{_⊎_, inl, inr, _↔_}
+use mathlib.Core.List.{List, [], _++_}
+use lib.Dec.{eqb}
+use borrow.Author.Tests.{eqb-true}
+use native.Mathlib.Omega.{arith}
+use Rattle.language.specs.Limits.{object-class}
+use Rattle.language.specs.Lists.{nth, given, choice, Never, inj}
+use Rattle.language.specs.Tree.{DeclaredType, bool, class, Kind, plain, root, state, unknown, Field}
+use Rattle.language.specs.Tree.{Declaration, Class, Program}
+use Rattle.language.specs.World.{Method}
+use Rattle.language.specs.Effects.{effect-of-all, within, member, apply-class, apply}
+use Rattle.language.specs.Program.{is-plain, is-root, is-state, method-of, declared, class-at, is-state-type}
+use Rattle.language.specs.Program.{fields-at, method-at, below-at, root-at, is-changeable, world}
+use Rattle.language.specs.WellFormed.{Each, each-nil, each-cons, Subclass, itself, below-object, above, Nearest}
+use Rattle.language.specs.WellFormed.{FieldsWell, well-nil, well-cons, Overrides, first, again, MethodWell}
+use Rattle.language.specs.WellFormed.{MethodsWell, methods-nil, methods-cons, ClassWell, ClassesWell}
+use Rattle.language.specs.WellFormed.{classes-nil, classes-cons, ProgramWell}
+use Rattle.theory.specs.Sound.{false≢, BodyOk, Laws}
+use Rattle.theory.specs.EffectLaws.{within-refl, within-trans}
+use Rattle.theory.specs.Superclasses.{object-is-no-class, subclass-trans, test-subclass, subclass-test}
+use Rattle.theory.specs.Superclasses.{nearest-least, fields-prefix, root-is, root-subclass, root-of-other}
+use Rattle.theory.specs.Superclasses.{root-up, root-same}
+
+-- What holds of each of a list holds at each place.
+pub each-at : {A : Type 0} {R : A → Type 0} {l : List A} → Each R l → (i : ℕ) (a : A) → nth l i ≡ some a → R a
+unfolding nth
+each-at each-nil i a e = absurd (Never e)
+each-at {R = R} (each-cons r rs) zero a e = subst R (inj e) r
+each-at (each-cons r rs) (suc i) a e = each-at rs i a e
+
+pub each-append : {A : Type 0} {R : A → Type 0} {l m : List A} → Each R l → Each R m → Each R (l ++ m)
+each-append each-nil s = s
+each-append (each-cons r rs) s = each-cons r (each-append rs s)
+
+-- The class of each number is well formed.
+class-well-from : (P : List Class) {k : ℕ} {cs : List Class} → ClassesWell P k cs → (i : ℕ) (c : Class)
+    → nth cs i ≡ some c → ClassWell P (i + k) c
+unfolding nth
+class-well-from P classes-nil i c e = absurd (Never e)
+class-well-from P {k} (classes-cons w ws) zero c e =
+    let z : k ≡ 0 + k = omega arith in subst (λ (n : ℕ). ClassWell P n c) z (subst (ClassWell P k) (inj e) w)
+class-well-from P {k} (classes-cons w ws) (suc i) c e =
+    let z : i + suc k ≡ suc i + k = omega arith in
+    subst (λ (n : ℕ). ClassWell P n c) z (class-well-from P ws i c e)
+
+pub class-well : (P : List Class) → ClassesWell P 1 P → (k : ℕ) (c : Class) → class-at P k ≡ some c → ClassWell P k c
+unfolding class-at
+class-well P w zero c e = absurd (Never e)
+class-well P w (suc i) c e =
+    let z : i + 1 ≡ suc i = omega arith in subst (λ (n : ℕ). ClassWell P n c) z (class-well-from P w i c e)
+
+-- A method declared under a name is one of the well-formed methods, and of that name.
+pub record WellDeclared (P : List Class) (k super m : ℕ) (d : Declaration) : Type 0 where
+  pub before : List Declaration
+  pub well : MethodWell P k super before d
+  pub name : d .name ≡ m
+
+pub well-declared : (P : List Class) (k super : ℕ) {before ms : List Declaration} → MethodsWell P k super before ms
+    → (m : ℕ) (d : Declaration) → declared ms m ≡ some d → WellDeclared P k super m d
+unfolding declared
+well-declared P k super methods-nil m d e = absurd (Never e)
+well-declared P k super {before} (methods-cons {ms} {m = x} w ws) m d e =
+    go (eqb (x .name) m) refl (λ q. well-declared P k super ws m d q) e
+  where
+    go : (b : Bool) → eqb (x .name) m ≡ b → (declared ms m ≡ some d → WellDeclared P k super m d)
+        → choice b (λ _. some x) (λ _. declared ms m) ≡ some d → WellDeclared P k super m d
+    go true q ih e = subst (WellDeclared P k super m) (inj e)
+        (record { before = before; well = w; name = eqb-true (x .name) m q })
+    go false q ih e = ih e
+
+-- What an overriding method has in common with the overridden one.
+overrides-one : {P : List Class} {m : Declaration} {o : Option Method} (M : Method) → Overrides P m o → o ≡ some M
+    → (m .parameters ≡ M .parameters) × (m .result ≡ M .result)
+    × (within (effect-of-all (m .effects)) (M .effect) ≡ true)
+overrides-one M first e = absurd (Never e)
+overrides-one {m} M (again N r p w) e = let q = inj e in (
+  p ∙ ap (λ (x : Method). x .parameters) q,
+  r ∙ ap (λ (x : Method). x .result) q,
+  subst (λ (x : Method). within (effect-of-all (m .effects)) (x .effect) ≡ true) q w,
+)
+
+-- A method found from class k under a name: the class that declares it, at or above k.
+pub record FoundMethod (P : List Class) (k m : ℕ) (M : Method) : Type 0 where
+  pub owner : ℕ
+  pub owning : Class
+  pub declaration : Declaration
+  pub subclass : Subclass P k owner
+  pub there : class-at P owner ≡ some owning
+  pub declares : declared (owning .methods) m ≡ some declaration
+  pub is : method-of owner declaration ≡ M
+
+pub method-found : (P : List Class) (n k m : ℕ) (M : Method) → method-at P n k m ≡ some M → FoundMethod P k m M
+unfolding method-at
+method-found P zero k m M e = absurd (Never e)
+method-found P (suc n) k m M e = go (class-at P k) refl (λ c q. method-found P n (c .super) m M q) e
+  where
+    higher : (c : Class) → class-at P k ≡ some c → FoundMethod P (c .super) m M → FoundMethod P k m M
+    higher c p x = record {
+      owner = x .owner;
+      owning = x .owning;
+      declaration = x .declaration;
+      subclass = above c p (x .subclass);
+      there = x .there;
+      declares = x .declares;
+      is = x .is;
+    }
+
+    here : (c : Class) → class-at P k ≡ some c → (o : Option Declaration) → declared (c .methods) m ≡ o
+        → (method-at P n (c .super) m ≡ some M → FoundMethod P (c .super) m M)
+        → given o (method-at P n (c .super) m) (λ d. some (method-of k d)) ≡ some M → FoundMethod P k m M
+    here c p none q ih e = higher c p (ih e)
+    here c p (some d) q ih e = record
+        { owner = k; owning = c; declaration = d; subclass = itself; there = p; declares = q; is = inj e }
+
+    go : (o : Option Class) → class-at P k ≡ o
+        → ((c : Class) → method-at P n (c .super) m ≡ some M → FoundMethod P (c .super) m M)
+        → given o none (λ c. given (declared (c .methods) m) (method-at P n (c .super) m) λ d. some (method-of k d))
+        ≡ some M → FoundMethod P k m M
+    go none p ih e = absurd (Never e)
+    go (some c) p ih e = here c p (declared (c .methods) m) refl (ih c) e
+
+module _ (P : List Class) (well : (k : ℕ) (c : Class) → class-at P k ≡ some c → ClassWell P k c) where
+  -- Superclasses come before their classes.
+  abbrev pub superclass-earlier : (k : ℕ) (c : Class) → class-at P k ≡ some c → c .super < k
+  superclass-earlier k c p = well k c p .earlier
+
+  -- More steps than there are superclasses find no other method.
+  method-enough : (n n′ k m : ℕ) → k < n → k < n′ → method-at P n k m ≡ method-at P n′ k m
+  unfolding method-at
+  method-enough zero n′ k m l l′ = absurd (omega (arith, l))
+  method-enough (suc n) zero k m l l′ = absurd (omega (arith, l′))
+  method-enough (suc n) (suc n′) k m l l′ = go (class-at P k) refl (λ c p. method-enough n n′ (c .super) m
+      (omega (arith, superclass-earlier k c p, l)) (omega (arith, superclass-earlier k c p, l′)))
+    where
+      go : (o : Option Class) → class-at P k ≡ o
+          → ((c : Class) → class-at P k ≡ some c → method-at P n (c .super) m ≡ method-at P n′ (c .super) m)
+          → given o none (λ c. given (declared (c .methods) m) (method-at P n (c .super) m) λ d. some (method-of k d))
+          ≡ given o none (λ c. given (declared (c .methods) m) (method-at P n′ (c .super) m) λ d. some (method-of k d))
+      go none e ih = refl
+      go (some c) e ih = rw (ih c e)
+
+  -- A class's method is its own, or else its superclass's.
+  method-of-class : (k m : ℕ) (c : Class) → class-at P k ≡ some c
+      → method-at P (suc k) k m
+      ≡ given (declared (c .methods) m) (method-at P (suc (c .super)) (c .super) m) λ d. some (method-of k d)
+  unfolding method-at
+  method-of-class k m c p =
+      rw (p, method-enough k (suc (c .super)) (c .super) m (superclass-earlier k c p) (omega arith))
+
+  method-of-object : (m : ℕ) → method-at P 1 object-class m ≡ none
+  unfolding method-at
+  method-of-object m = rw (object-is-no-class P)
+
+  -- Down from a class that has a method, each class has one with the same heading and an effect within.
+  Inherited : (c m : ℕ) (M : Method) → Type 0
+  Inherited c m M = (N : Method) × (method-at P (suc c) c m ≡ some N) × (N .parameters ≡ M .parameters)
+      × (N .result ≡ M .result) × (within (N .effect) (M .effect) ≡ true)
+
+  inherited : {c d : ℕ} → Subclass P c d → (m : ℕ) (M : Method) → method-at P (suc d) d m ≡ some M → Inherited c m M
+  unfolding Inherited world
+  inherited itself m M e = (M, e, refl, refl, within-refl (M .effect))
+  inherited (below-object p) m M e = absurd (Never (sym (method-of-object m) ∙ e))
+  inherited {c = k} (above c p r) m M e = go (inherited r m M e) (declared (c .methods) m) refl
+    where
+      go : Inherited (c .super) m M → (o : Option Declaration) → declared (c .methods) m ≡ o → Inherited k m M
+      go x none q = (x .0, method-of-class k m c p ∙ rw q (x .1), x .2, x .3, x .4)
+      go x (some d) q = let w = well-declared P k (c .super) (well k c p .methods) m d q in
+          let y = overrides-one (x .0) (w .well .overrides)
+          (ap (λ (n : ℕ). method-at P (suc (c .super)) (c .super) n) (w .name) ∙ x .1) in (
+            method-of k d,
+            method-of-class k m c p ∙ rw q,
+            y .0 ∙ x .2,
+            y .1 ∙ x .3,
+            within-trans (effect-of-all (d .effects)) (x .0 .effect) (M .effect) (y .2) (x .4),
+          )
+
+  -- The body of every method that is found is typed as its heading says.
+  found-body : (k m : ℕ) (M : Method) → FoundMethod P k m M → BodyOk (world P) M
+  found-body k m M x =
+      let w = well-declared P (x .owner) (x .owning .super) (well (x .owner) (x .owning) (x .there) .methods)
+      m (x .declaration) (x .declares) .well in
+      subst (BodyOk (world P)) (x .is) (record {
+        ty = w .t;
+        env = w .γ;
+        eff = w .φ;
+        types = w .body;
+        fits-ret = w .body-type;
+        inside = w .body-effect;
+      })
+
+  -- No field has a state class as its type, so no effect changes the type of a field.
+  own-fields-steady : {before fs : List Field} → FieldsWell P before fs
+      → Each (λ (f : Field). is-state-type P (f .type) ≡ false) fs
+  own-fields-steady well-nil = each-nil
+  own-fields-steady (well-cons a b c d w) = each-cons d (own-fields-steady w)
+
+  fields-steady : (n k : ℕ) → Each (λ (f : Field). is-state-type P (f .type) ≡ false) (fields-at P n k)
+  unfolding fields-at
+  fields-steady zero k = each-nil
+  fields-steady (suc n) k = go (class-at P k) refl (λ c. fields-steady n (c .super))
+    where
+      go : (o : Option Class) → class-at P k ≡ o
+          → ((c : Class) → Each (λ (f : Field). is-state-type P (f .type) ≡ false) (fields-at P n (c .super)))
+          → Each (λ (f : Field). is-state-type P (f .type) ≡ false)
+          (given o [] λ c. fields-at P n (c .super) ++ c .fields)
+      go none e ih = each-nil
+      go (some c) e ih = each-append (ih c) (own-fields-steady (well k c e .fields))
+
+  steady-type : (φ : ℕ) (t : DeclaredType) → is-state-type P t ≡ false → apply (world P) φ t ≡ t
+  unfolding is-state-type apply-class world
+  steady-type φ bool e = refl
+  steady-type φ (class k) e = ap class (own (root-at P (suc k) k)
+      (root-of-other P superclass-earlier (λ c p. rw p at e) (root-is P superclass-earlier k)))
+    where
+      same : (b : Bool) → cond b k k ≡ k
+      same true = refl
+      same false = refl
+
+      own : (r : ℕ) → r ≡ k → cond (member φ r) r k ≡ k
+      own r q = rw q (same (member φ k))
+
+  -- A class that may be changed is a root or state class.
+  changeable-class : (k : ℕ) → is-changeable P k ≡ true
+      → (c : Class) × (class-at P k ≡ some c) × (is-plain (c .kind) ≡ false)
+  unfolding is-changeable
+  changeable-class k e = go (class-at P k) refl e
+    where
+      no-plain : (k : Kind) → (is-root k || is-state k) ≡ true → is-plain k ≡ false
+      no-plain plain e = false≢ e
+      no-plain root e = refl
+      no-plain state e = refl
+      no-plain (unknown n) e = refl
+
+      go : (o : Option Class) → class-at P k ≡ o → given o false (λ c. is-root (c .kind) || is-state (c .kind)) ≡ true
+          → (c : Class) × (class-at P k ≡ some c) × (is-plain (c .kind) ≡ false)
+      go none p e = false≢ e
+      go (some c) p e = (c, p, no-plain (c .kind) e)
+
+  up-law : (c d : ℕ) → below-at P (suc c) c d ≡ true → (root-at P (suc d) d ≡ root-at P (suc c) c)
+      ⊎ ((root-at P (suc d) d ≡ d) × (below-at P (suc (root-at P (suc c) c)) (root-at P (suc c) c) d ≡ true))
+  up-law c d e = elim (root-up P superclass-earlier (λ k b p. well k b p .kind) (test-subclass P superclass-earlier e)
+      (root-is P superclass-earlier c) (root-is P superclass-earlier d))
+      [ inl p ↦ inl p | inr p ↦ inr (p .0, subclass-test P superclass-earlier (p .1)) ]
+
+  classes-laws : Laws (world P)
+  unfolding world Inherited
+  classes-laws = record {
+    sub-refl = λ c. subclass-test P superclass-earlier itself;
+    sub-trans = λ c d e s t. subclass-test P superclass-earlier
+        (subclass-trans P (test-subclass P superclass-earlier s) (test-subclass P superclass-earlier t));
+    sub-root = λ c. subclass-test P superclass-earlier
+        (root-subclass P superclass-earlier (root-is P superclass-earlier c));
+    up = λ c d s. up-law c d s;
+    fickle-root = λ c d s h. let x = changeable-class d h in root-same P superclass-earlier (λ k b p. well k b p .kind)
+        (test-subclass P superclass-earlier s) (x .0) (x .1) (x .2)
+        (root-is P superclass-earlier c) (root-is P superclass-earlier d);
+    prefix = λ c d s. fields-prefix P superclass-earlier (test-subclass P superclass-earlier s);
+    solid = λ c i f e φ. steady-type φ (f .type) (each-at (fields-steady (suc c) c) i f e);
+    lub-left = λ c d. subclass-test P superclass-earlier (nearest-least P superclass-earlier c d .left);
+    lub-right = λ c d. subclass-test P superclass-earlier (nearest-least P superclass-earlier c d .right);
+    override = λ c d m M s e. inherited (test-subclass P superclass-earlier s) m M e;
+    owned = λ c m M e. let x = method-found P (suc c) c m M e in subclass-test P superclass-earlier
+        (subst (λ (N : Method). Subclass P c (N .owner)) (x .is) (x .subclass));
+    bodies = λ c m M e. found-body c m M (method-found P (suc c) c m M e);
+  }
+
+-- In the world of a well-formed program every law holds on which soundness rests.
+pub well-formed-laws : (p : Program) → ProgramWell p → Laws (world (p .classes))
+well-formed-laws p w = classes-laws (p .classes) (class-well (p .classes) (w .classes))
+
+-- The subclass test of a well-formed program is Figure 20's subclass relation.
+pub below-is-subclass : (p : Program) → ProgramWell p → (c d : ℕ)
+    → (world (p .classes) .below c d ≡ true) ↔ Subclass (p .classes) c d
+unfolding world
+below-is-subclass p w c d = let P = p .classes in
+    let earlier = superclass-earlier P (class-well P (w .classes)) in
+    ((λ e. test-subclass P earlier e), (λ s. subclass-test P earlier s))
+
+-- Its nearest common superclass is Figure 21's least upper bound.
+pub nearest-is-least : (p : Program) → ProgramWell p → (c d : ℕ)
+    → Nearest (p .classes) c d (world (p .classes) .nearest c d)
+unfolding world
+nearest-is-least p w c d = let P = p .classes in
+    nearest-least P (superclass-earlier P (class-well P (w .classes))) c d

@@ -1,0 +1,217 @@
+-- When a state of the plain run matches a state of the source run: heaps, slots and counts.
+-- The plain run has entered at least as many nodes, and at most 84 times as many; it has made 2n + r objects
+-- where the source made n and changed the class of one r times; it has changed no class itself.
+use mathlib.Core.Path.{_≡_, refl, sym, _∙_}
+use Prim.Native.Nat.{ℕ, suc, _+_, _*_, _≤_}
+use mathlib.Core.Option.{none, some}
+use mathlib.Core.Bool.{true}
+use mathlib.Core.List.{List, [], _∷_, _++_, map}
+use lib.ListN.{length, set as replace}
+use native.Mathlib.Omega.{arith}
+use Rattle.language.specs.Limits.{plain-steps-a-step}
+use Rattle.language.specs.Lists.{nth, inj, All2, up, nth-up, set-up}
+use Rattle.language.specs.Results.{ok, Alike, alike-ok}
+use Rattle.language.specs.Frames.{Frame, frame, with-slot, opened, closed}
+use Rattle.language.specs.Tree.{DeclaredType, bool, class}
+use Rattle.language.specs.World.{World, is-declared}
+use Rattle.language.specs.Evaluation.{Value, Object, State, Stop, entered, with-frame, initial}
+use Rattle.language.specs.Translation.{plain-type, Shape, variables, plain-slot}
+use Rattle.language.specs.Correspondence.{Corresponds, both-null, same-truth, identity-of, implementor-of}
+use Rattle.theory.specs.Matching.{HeapsMatch, Persists, persists-trans, Mask, SlotsMatch, no-slots}
+use Rattle.theory.specs.Matching.{variable, slots-set, slots-append, slots-temporaries, temporary-at}
+use Rattle.theory.specs.Matching.{temporary-set, slots-close, temporaries-close, FramesMatch}
+
+-- Heaps and counts match; z is what the plain side may still spend.
+pub record Matched (W : World) (ids : List ℕ) (z : ℕ) (s t : State) : Type 0 where
+  pub heaps : HeapsMatch W ids (s .heap) (t .heap)
+  pub count : length (t .heap) ≡ 2 * length (s .heap) + s .changes
+  pub low : s .steps ≤ t .steps
+  pub high : t .steps + z ≤ plain-steps-a-step * s .steps
+  pub unchanged : t .changes ≡ 0
+
+-- The same with slots: variables and temporaries by shape and mask.
+pub record StatesMatch (W : World) (ids : List ℕ) (sh : Shape) (μ : Mask) (z : ℕ) (s t : State) : Type 0 where
+  pub core : Matched W ids z s t
+  pub frames : FramesMatch W ids (t .heap) sh μ (s .frame) (t .frame)
+
+-- After an expression and its translation: the states match, and the values correspond.
+pub record After (W : World) (ids : List ℕ) (h₀ : List Object) (sh : Shape) (μ : Mask) (z : ℕ)
+    (v : Value) (s : State) (v′ : Value) (t : State) : Type 0 where
+  pub ids′ : List ℕ
+  pub persists : Persists W ids ids′ h₀ (t .heap)
+  pub match : StatesMatch W ids′ sh μ z s t
+  pub value : Corresponds ids′ v v′
+
+-- After several.
+pub record AfterAll (W : World) (ids : List ℕ) (h₀ : List Object) (sh : Shape) (μ : Mask) (z : ℕ)
+    (vs : List Value) (s : State) (vs′ : List Value) (t : State) : Type 0 where
+  pub ids′ : List ℕ
+  pub persists : Persists W ids ids′ h₀ (t .heap)
+  pub match : StatesMatch W ids′ sh μ z s t
+  pub values : All2 (Corresponds ids′) vs vs′
+
+-- After arguments that were put into temporaries.
+pub record Filled (W : World) (ids : List ℕ) (h₀ : List Object) (sh : Shape) (μ : Mask) (z : ℕ)
+    (vs : List Value) (s : State) (vs′ : List Value) (t : State) : Type 0 where
+  pub ids′ : List ℕ
+  pub persists : Persists W ids ids′ h₀ (t .heap)
+  pub match : StatesMatch W ids′ sh (μ ++ map some vs′) z s t
+  pub values : All2 (Corresponds ids′) vs vs′
+
+-- After a call: the caller's slots are its own affair.
+pub record Returned (W : World) (ids : List ℕ) (h₀ : List Object) (z : ℕ)
+    (v : Value) (s : State) (v′ : Value) (t : State) : Type 0 where
+  pub ids′ : List ℕ
+  pub persists : Persists W ids ids′ h₀ (t .heap)
+  pub core : Matched W ids′ z s t
+  pub value : Corresponds ids′ v v′
+
+-- After a stop.
+pub record Ended (W : World) (s t : State) : Type 0 where
+  pub ids′ : List ℕ
+  pub core : Matched W ids′ 0 s t
+
+-- The implementor of an object whose Identity is known.
+pub record ImplementorOf (W : World) (ids : List ℕ) (t : State) (i : ℕ) (o : Object) : Type 0 where
+  pub m : ℕ
+  pub vs : List Value
+  pub at-identity : nth (t .heap) i ≡ some (identity-of m)
+  pub at-implementor : nth (t .heap) m ≡ some (implementor-of (o .class-of) i vs)
+  pub values : All2 (Corresponds ids) (o .fields) vs
+  pub known : is-declared W (o .class-of) ≡ true
+
+module _ {W : World} where
+  -- Heaps and changes stay; steps go on.
+  pub recount : {ids : List ℕ} {z z′ : ℕ} {s s′ t t′ : State} → Matched W ids z s t → s′ .heap ≡ s .heap
+      → t′ .heap ≡ t .heap → s′ .changes ≡ s .changes → t′ .changes ≡ t .changes → s′ .steps ≤ t′ .steps
+      → t′ .steps + z′ ≤ plain-steps-a-step * s′ .steps → Matched W ids z′ s′ t′
+  recount c e f g g′ l u = record
+      { heaps = rw (e, f) (c .heaps); count = rw (e, f, g) (c .count); low = l; high = u; unchanged = g′ ∙ c .unchanged }
+
+  -- Both sides enter a node.
+  pub both-enter : {ids : List ℕ} {sh : Shape} {μ : Mask} {z : ℕ} {s t : State} → StatesMatch W ids sh μ z s t
+      → StatesMatch W ids sh μ (83 + z) (entered s) (entered t)
+  both-enter R = record { frames = R .frames; core = recount (R .core) refl refl refl refl (omega arith) (omega arith) }
+
+  -- The source enters a node, the plain side n.
+  pub entering : {ids : List ℕ} {sh : Shape} {μ : Mask} {z z′ : ℕ} {s t t′ : State} (n : ℕ)
+      → StatesMatch W ids sh μ z s t → t′ .steps ≡ t .steps + n → t′ .frame ≡ t .frame → t′ .heap ≡ t .heap
+      → t′ .changes ≡ t .changes → (1 ≤ n) × (n + z′ ≤ 84 + z) → StatesMatch W ids sh μ z′ (entered s) t′
+  entering n R e f g g′ b = record
+      { frames = rw (f, g) (R .frames); core = recount (R .core) refl g refl g′ (omega arith) (omega arith) }
+
+  -- Some of what may still be spent is let go.
+  pub spare : {ids : List ℕ} {sh : Shape} {μ : Mask} (n : ℕ) {z : ℕ} {s t : State}
+      → StatesMatch W ids sh μ (n + z) s t → StatesMatch W ids sh μ z s t
+  spare n R = record { frames = R .frames; core = recount (R .core) refl refl refl refl (omega arith) (omega arith) }
+
+  -- The plain side goes on alone for n steps.
+  pub spend : {ids : List ℕ} {m z : ℕ} {s t : State} (n : ℕ) (t′ : State) → Matched W ids m s t → n + z ≤ m
+      → t′ .heap ≡ t .heap → t′ .changes ≡ t .changes → t′ .steps ≡ t .steps + n → Matched W ids z s t′
+  spend n t′ c l e g f = recount c refl e refl g (omega arith) (omega arith)
+
+  -- Both stop; the plain side after n steps alone.
+  pub ended : {ids : List ℕ} {z : ℕ} {s t : State} → Matched W ids z s t → Ended W s t
+  ended {ids} c = record { ids′ = ids; core = recount c refl refl refl refl (omega arith) (omega arith) }
+
+  pub ended-at : {ids : List ℕ} {m : ℕ} {s t : State} (n : ℕ) (t′ : State) → Matched W ids m s t → n ≤ m
+      → t′ .heap ≡ t .heap → t′ .changes ≡ t .changes → t′ .steps ≡ t .steps + n → Ended W s t′
+  ended-at {ids} n t′ c l e g f =
+      record { ids′ = ids; core = recount c refl e refl g (omega arith) (omega arith) }
+
+  -- What came after a later moment came after an earlier one.
+  pub from-before : {ids₀ ids : List ℕ} {h₀ h : List Object} {sh : Shape} {μ : Mask} {z : ℕ} {v v′ : Value}
+      {s t : State} → Persists W ids₀ ids h₀ h → After W ids h sh μ z v s v′ t → After W ids₀ h₀ sh μ z v s v′ t
+  from-before x a = record
+      { ids′ = a .ids′; persists = persists-trans x (a .persists); match = a .match; value = a .value }
+
+  -- Each object has an implementor.
+  pub implementor-found : {ids : List ℕ} {z : ℕ} {s t : State} → Matched W ids z s t → (j i : ℕ) (o : Object)
+      → nth ids j ≡ some i → nth (s .heap) j ≡ some o → ImplementorOf W ids t i o
+  implementor-found c j i o e p = let x = c .heaps .each j o p in let y : i ≡ x .i = inj (sym e ∙ x .identity) in
+      record {
+        m = x .m;
+        vs = x .fields;
+        at-identity = rw y (x .at-identity);
+        at-implementor = rw y (x .at-implementor);
+        values = x .corresponding;
+        known = c .heaps .known j o p;
+      }
+
+-- First values correspond, and so do a block's locals.
+pub initial-corresponds : (ids : List ℕ) (u : DeclaredType) → Corresponds ids (initial u) (initial (plain-type u))
+initial-corresponds ids bool = same-truth
+initial-corresponds ids (class c) = both-null
+
+abbrev pub no-values : List DeclaredType → Mask
+no-values ts = map (λ t. none) ts
+
+pub locals-match : (ids : List ℕ) (ts : List DeclaredType)
+    → SlotsMatch ids (variables ts) (no-values ts) (map initial ts) (map initial (map plain-type ts))
+locals-match ids [] = no-slots
+locals-match ids (u ∷ ts) = variable (initial-corresponds ids u) (locals-match ids ts)
+
+module _ {W : World} {ids : List ℕ} {h : List Object} {sh : Shape} where
+  -- A variable set on both sides.
+  pub frames-set : {μ : Mask} {f f′ : Frame Value} {v v′ : Value} → FramesMatch W ids h sh μ f f′ → (k : ℕ)
+      → Corresponds ids v v′
+      → FramesMatch W ids h sh μ (with-slot f (suc k) v) (with-slot f′ (plain-slot sh (suc k)) v′)
+  unfolding plain-slot
+  frames-set F k r = record { this = F .this; slots = slots-set (F .slots) k _ _ r }
+
+  -- A block's locals are opened; temporaries are opened.
+  pub frames-open : {μ : Mask} {f f′ : Frame Value} → FramesMatch W ids h sh μ f f′ → (ts : List DeclaredType)
+      → FramesMatch W ids h (sh ++ variables ts) (μ ++ no-values ts) (opened f (map initial ts))
+      (opened f′ (map initial (map plain-type ts)))
+  frames-open F ts = record { this = F .this; slots = slots-append (F .slots) (locals-match ids ts) }
+
+  pub frames-temporaries : {sh₂ : Shape} {μ μ₂ : Mask} {f f′ : Frame Value} {ws : List Value}
+      → FramesMatch W ids h sh μ f f′ → SlotsMatch ids sh₂ μ₂ [] ws
+      → FramesMatch W ids h (sh ++ sh₂) (μ ++ μ₂) f (opened f′ ws)
+  frames-temporaries F r = record { this = F .this; slots = slots-temporaries (F .slots) r }
+
+  -- The k-th temporary after n slots, read and written.
+  pub frames-temporary : (μ μ₂ : Mask) {f f′ : Frame Value} (k n : ℕ) (w : Value)
+      → FramesMatch W ids h sh (μ ++ μ₂) f f′ → length μ ≡ n → nth μ₂ k ≡ some (some w)
+      → nth (f′ .slots) (up k n) ≡ some w
+  frames-temporary μ μ₂ k n w F p e =
+      rw (sym p) (temporary-at (F .slots) (up k (length μ)) w (nth-up μ μ₂ k ∙ e))
+
+  pub frames-put : (μ μ₂ : Mask) {f f′ : Frame Value} (k n : ℕ) (w w′ : Value)
+      → FramesMatch W ids h sh (μ ++ μ₂) f f′ → length μ ≡ n → nth μ₂ k ≡ some (some w)
+      → FramesMatch W ids h sh (μ ++ replace μ₂ k (some w′)) f (frame (f′ .this) (replace (f′ .slots) (up k n) w′))
+  frames-put μ μ₂ k n w w′ F p e = rw (sym p) (record {
+    this = F .this;
+    slots = rw (set-up μ μ₂ k (some w′)) at
+        (temporary-set (F .slots) (up k (length μ)) w w′ (nth-up μ μ₂ k ∙ e));
+  })
+
+  -- A block is left; a block of temporaries is left.
+  pub frames-close : {ids₀ : List ℕ} {h₀ : List Object} (sh₂ : Shape) {μ : Mask} (μ₂ : Mask)
+      {f₀ f₀′ f f′ : Frame Value} → FramesMatch W ids₀ h₀ sh μ f₀ f₀′ → FramesMatch W ids h (sh ++ sh₂) (μ ++ μ₂) f f′
+      → FramesMatch W ids h sh μ (closed (length (f₀ .slots)) f) (closed (length (f₀′ .slots)) f′)
+  frames-close sh₂ μ₂ F₀ F = record { this = F .this; slots = slots-close sh₂ μ₂ (F₀ .slots) (F .slots) }
+
+  pub frames-exit : {ids₀ : List ℕ} {h₀ : List Object} (sh₂ : Shape) {μ : Mask} (μ₂ : Mask)
+      {f₀ f₀′ f f′ : Frame Value} → ((l l′ : List Value) → SlotsMatch ids sh₂ μ₂ l l′ → l ≡ [])
+      → FramesMatch W ids₀ h₀ sh μ f₀ f₀′ → FramesMatch W ids h (sh ++ sh₂) (μ ++ μ₂) f f′
+      → FramesMatch W ids h sh μ f (closed (length (f₀′ .slots)) f′)
+  frames-exit sh₂ μ₂ g F₀ F = record { this = F .this; slots = temporaries-close sh₂ μ₂ g (F₀ .slots) (F .slots) }
+
+-- What a block of temporaries answers.
+pub close-block : {W : World} {ids₀ ids : List ℕ} {h₀ h : List Object} {sh : Shape} (sh₂ : Shape) {μ : Mask}
+    (μ₂ : Mask) {z : ℕ} {v v′ : Value} {s t : State} {f₀ : Frame Value} (f₀′ : Frame Value)
+    → ((ids : List ℕ) (l l′ : List Value) → SlotsMatch ids sh₂ μ₂ l l′ → l ≡ [])
+    → FramesMatch W ids₀ h sh μ f₀ f₀′ → After W ids h₀ (sh ++ sh₂) (μ ++ μ₂) z v s v′ t
+    → Alike {X = Stop} (After W ids h₀ sh μ z) (Ended W) (ok v s)
+    (ok v′ (with-frame (closed (length (f₀′ .slots)) (t .frame)) t))
+close-block sh₂ μ₂ {s} {t} f₀′ g F a =
+    alike-ok {s = s} {t = with-frame (closed (length (f₀′ .slots)) (t .frame)) t} (record {
+      ids′ = a .ids′;
+      persists = a .persists;
+      value = a .value;
+      match = record {
+        frames = frames-exit sh₂ μ₂ (g (a .ids′)) F (a .match .frames);
+        core = recount (a .match .core) refl refl refl refl (a .match .core .low) (a .match .core .high);
+      };
+    })

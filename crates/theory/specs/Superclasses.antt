@@ -1,0 +1,274 @@
+-- What the heading rules give of superclasses, their fields and their roots, for class lists of any length:
+-- the subclass test is the subclass relation, an order with Object on top; the nearest common superclass is
+-- the least upper bound; a subclass's fields begin with its superclass's; the root law of soundness.
+use mathlib.Core.Path.{_≡_, refl, sym, ap, _∙_, subst}
+use Prim.Native.Nat.{ℕ, zero, suc, _<_}
+use mathlib.Core.Option.{Option, none, some}
+use mathlib.Core.Bool.{Bool, true, false}
+use mathlib.Core.Logic.{_⊎_, inl, inr}
+use mathlib.Core.List.{List, [], _++_, append-assoc, append-nil}
+use lib.Dec.{eqb}
+use borrow.Author.Tests.{eqb-true, eq-eqb}
+use native.Mathlib.Omega.{arith}
+use Rattle.language.specs.Limits.{object-class}
+use Rattle.language.specs.Lists.{given, choice, Never, inj}
+use Rattle.language.specs.Tree.{Kind, plain, root, state, unknown, Field, Class}
+use Rattle.language.specs.Program.{is-plain, is-state, class-at, kind-at, fields-at, below-at, root-at}
+use Rattle.language.specs.Program.{nearest-at}
+use Rattle.language.specs.WellFormed.{Extends, plain-object, plain-plain, root-object, root-plain, state-root}
+use Rattle.language.specs.WellFormed.{state-state, Subclass, itself, below-object, above, Nearest}
+use Rattle.theory.specs.Sound.{false≢, or-inl, or-inr, or-inv}
+
+-- What stands at one place is one thing.
+pub one-class : {a b : Class} {o : Option Class} → o ≡ some a → o ≡ some b → a ≡ b
+one-class p q = inj (sym p ∙ q)
+
+pub no-class : {A : Type 0} {a : Class} {o : Option Class} → o ≡ none → o ≡ some a → A
+no-class p q = absurd (Never (sym p ∙ q))
+
+module _ (P : List Class) where
+  pub object-is-no-class : class-at P object-class ≡ none
+  unfolding class-at
+  object-is-no-class = refl
+
+  pub subclass-trans : {k d e : ℕ} → Subclass P k d → Subclass P d e → Subclass P k e
+  subclass-trans itself q = q
+  subclass-trans (below-object p) itself = below-object p
+  subclass-trans (below-object p) (below-object q) = below-object p
+  subclass-trans (below-object p) (above c q r) = no-class object-is-no-class q
+  subclass-trans (above c p r) q = above c p (subclass-trans r q)
+
+  -- Superclasses come before their classes.
+  module _ (earlier : (k : ℕ) (c : Class) → class-at P k ≡ some c → c .super < k) where
+    -- The test of as many steps as there may be superclasses is the relation.
+    below-subclass : (n k d : ℕ) → k < n → below-at P n k d ≡ true → Subclass P k d
+    unfolding below-at
+    below-subclass zero k d l e = absurd (omega (arith, l))
+    below-subclass (suc n) k d l e =
+        go (class-at P k) refl (λ c p q. below-subclass n (c .super) d (omega (arith, earlier k c p, l)) q)
+        (or-inv (eqb k d) _ e)
+      where
+        go : (o : Option Class) → class-at P k ≡ o
+            → ((c : Class) → class-at P k ≡ some c → below-at P n (c .super) d ≡ true → Subclass P (c .super) d)
+            → (eqb k d ≡ true) ⊎ (given o (eqb d object-class) (λ c. below-at P n (c .super) d) ≡ true)
+            → Subclass P k d
+        go o q ih (inl p) = subst (λ x. Subclass P k x) (eqb-true k d p) itself
+        go none q ih (inr p) = subst (λ x. Subclass P k x) (sym (eqb-true d object-class p)) (below-object q)
+        go (some c) q ih (inr p) = above c q (ih c q p)
+
+    subclass-below : {k d : ℕ} → Subclass P k d → (n : ℕ) → k < n → below-at P n k d ≡ true
+    unfolding below-at
+    subclass-below a zero l = absurd (omega (arith, l))
+    subclass-below {k} itself (suc n) l = or-inl (eqb k k) _ (eq-eqb k k refl)
+    subclass-below {k} (below-object p) (suc n) l = or-inr (eqb k object-class) _ (rw p)
+    subclass-below {k} {d} (above c p r) (suc n) l =
+        or-inr (eqb k d) _ (rw p (subclass-below r n (omega (arith, earlier k c p, l))))
+
+    pub test-subclass : {k d : ℕ} → below-at P (suc k) k d ≡ true → Subclass P k d
+    test-subclass {k} {d} e = below-subclass (suc k) k d (omega arith) e
+
+    pub subclass-test : {k d : ℕ} → Subclass P k d → below-at P (suc k) k d ≡ true
+    subclass-test {k} s = subclass-below s (suc k) (omega arith)
+
+    -- Object is above every class.
+    below-top : (n k : ℕ) → k < n → Subclass P k object-class
+    below-top zero k l = absurd (omega (arith, l))
+    below-top (suc n) k l =
+        go (class-at P k) refl (λ c p. below-top n (c .super) (omega (arith, earlier k c p, l)))
+      where
+        go : (o : Option Class) → class-at P k ≡ o
+            → ((c : Class) → class-at P k ≡ some c → Subclass P (c .super) object-class) → Subclass P k object-class
+        go none e ih = below-object e
+        go (some c) e ih = above c e (ih c e)
+
+    pub subclass-top : (k : ℕ) → Subclass P k object-class
+    subclass-top k = below-top (suc k) k (omega arith)
+
+    -- The nearest common superclass is one, and below every other.
+    nearest-above : (n k d : ℕ) → k < n → Nearest P k d (nearest-at P n k d)
+    unfolding nearest-at
+    nearest-above zero k d l = absurd (omega (arith, l))
+    nearest-above (suc n) k d l =
+        tested (below-at P (suc d) d k) refl (λ c p. nearest-above n (c .super) d (omega (arith, earlier k c p, l)))
+      where
+        only-object : (e : ℕ) → class-at P k ≡ none → (Subclass P d k → ⊥) → Subclass P k e → Subclass P d e
+            → Subclass P object-class e
+        only-object e p not itself t = absurd (not t)
+        only-object e p not (below-object q) t = itself
+        only-object e p not (above c q r) t = no-class p q
+
+        further : (c : Class) (e m : ℕ) → class-at P k ≡ some c → (Subclass P d k → ⊥)
+            → ((e : ℕ) → Subclass P (c .super) e → Subclass P d e → Subclass P m e)
+            → Subclass P k e → Subclass P d e → Subclass P m e
+        further c e m p not f itself t = absurd (not t)
+        further c e m p not f (below-object q) t = no-class q p
+        further c e m p not f (above b q r) t = f e (subst (λ (x : Class). Subclass P (x .super) e) (one-class q p) r) t
+
+        go : (o : Option Class) → class-at P k ≡ o → (Subclass P d k → ⊥)
+            → ((c : Class) → class-at P k ≡ some c → Nearest P (c .super) d (nearest-at P n (c .super) d))
+            → Nearest P k d (given o object-class λ c. nearest-at P n (c .super) d)
+        go none p not ih = record
+            { left = below-object p; right = subclass-top d; least = λ e s t. only-object e p not s t }
+        go (some c) p not ih = record {
+          left = above c p (ih c p .left);
+          right = ih c p .right;
+          least = λ e s t. further c e _ p not (ih c p .least) s t;
+        }
+
+        tested : (b : Bool) → below-at P (suc d) d k ≡ b
+            → ((c : Class) → class-at P k ≡ some c → Nearest P (c .super) d (nearest-at P n (c .super) d))
+            → Nearest P k d (choice b (λ _. k) (λ _. given (class-at P k) object-class λ c. nearest-at P n (c .super) d))
+        tested true e ih = record { left = itself; right = test-subclass e; least = λ e s t. s }
+        tested false e ih = go (class-at P k) refl (λ s. false≢ (sym e ∙ subclass-test s)) ih
+
+    pub nearest-least : (k d : ℕ) → Nearest P k d (nearest-at P (suc k) k d)
+    nearest-least k d = nearest-above (suc k) k d (omega arith)
+
+    -- More steps than there are superclasses find no more fields.
+    fields-enough : (n m k : ℕ) → k < n → k < m → fields-at P n k ≡ fields-at P m k
+    unfolding fields-at
+    fields-enough zero m k l l′ = absurd (omega (arith, l))
+    fields-enough (suc n) zero k l l′ = absurd (omega (arith, l′))
+    fields-enough (suc n) (suc m) k l l′ = go (class-at P k) refl
+        (λ c p. fields-enough n m (c .super) (omega (arith, earlier k c p, l)) (omega (arith, earlier k c p, l′)))
+      where
+        go : (o : Option Class) → class-at P k ≡ o
+            → ((c : Class) → class-at P k ≡ some c → fields-at P n (c .super) ≡ fields-at P m (c .super))
+            → given o [] (λ c. fields-at P n (c .super) ++ c .fields)
+            ≡ given o [] (λ c. fields-at P m (c .super) ++ c .fields)
+        go none e ih = refl
+        go (some c) e ih = rw (ih c e)
+
+    -- A class's fields are its superclass's, then its own; Object has none.
+    pub fields-of-class : (k : ℕ) (c : Class) → class-at P k ≡ some c
+        → fields-at P (suc k) k ≡ fields-at P (suc (c .super)) (c .super) ++ c .fields
+    unfolding fields-at
+    fields-of-class k c p = rw (p, fields-enough k (suc (c .super)) (c .super) (earlier k c p) (omega arith))
+
+    pub no-class-no-fields : (k : ℕ) → class-at P k ≡ none → fields-at P (suc k) k ≡ []
+    unfolding fields-at
+    no-class-no-fields k p = rw p
+
+    pub fields-prefix : {k d : ℕ} → Subclass P k d
+        → (fs : List Field) × (fields-at P (suc k) k ≡ fields-at P (suc d) d ++ fs)
+    fields-prefix itself = ([], sym (append-nil _))
+    fields-prefix {k} (below-object p) =
+        (fields-at P (suc k) k, rw (no-class-no-fields object-class object-is-no-class))
+    fields-prefix {k} {d} (above c p r) = let x = fields-prefix r in (
+      x .0 ++ c .fields,
+      fields-of-class k c p ∙ rw (x .1) (append-assoc (fields-at P (suc d) d) (x .0) (c .fields)),
+    )
+
+    -- The root of a class: of a state class that of its superclass, of any other number itself.
+    pub data RootOf : ℕ → ℕ → Type 0 where
+      root-none : {k : ℕ} → class-at P k ≡ none → RootOf k k
+      root-stays : {k : ℕ} (c : Class) → class-at P k ≡ some c → is-state (c .kind) ≡ false → RootOf k k
+      root-above : {k r : ℕ} (c : Class) → class-at P k ≡ some c → is-state (c .kind) ≡ true
+          → RootOf (c .super) r → RootOf k r
+
+    root-found : (n k : ℕ) → k < n → RootOf k (root-at P n k)
+    unfolding root-at
+    root-found zero k l = absurd (omega (arith, l))
+    root-found (suc n) k l =
+        go (class-at P k) refl (λ c p. root-found n (c .super) (omega (arith, earlier k c p, l)))
+      where
+        kinds : (c : Class) → class-at P k ≡ some c → RootOf (c .super) (root-at P n (c .super)) → (b : Bool)
+            → is-state (c .kind) ≡ b → RootOf k (choice b (λ _. root-at P n (c .super)) (λ _. k))
+        kinds c e ih true q = root-above c e q ih
+        kinds c e ih false q = root-stays c e q
+
+        go : (o : Option Class) → class-at P k ≡ o
+            → ((c : Class) → class-at P k ≡ some c → RootOf (c .super) (root-at P n (c .super)))
+            → RootOf k (given o k λ c. choice (is-state (c .kind)) (λ _. root-at P n (c .super)) (λ _. k))
+        go none e ih = root-none e
+        go (some c) e ih = kinds c e (ih c e) (is-state (c .kind)) refl
+
+    pub root-is : (k : ℕ) → RootOf k (root-at P (suc k) k)
+    root-is k = root-found (suc k) k (omega arith)
+
+    -- There is one.
+    pub root-one : {k r q : ℕ} → RootOf k r → RootOf k q → r ≡ q
+    root-one (root-none e) (root-none e′) = refl
+    root-one (root-none e) (root-stays c p s) = refl
+    root-one (root-none e) (root-above c p s x) = no-class e p
+    root-one (root-stays c p s) (root-none e) = refl
+    root-one (root-stays c p s) (root-stays c′ p′ s′) = refl
+    root-one (root-stays c p s) (root-above c′ p′ s′ x) =
+        false≢ (sym s ∙ ap (λ (c : Class). is-state (c .kind)) (one-class p p′) ∙ s′)
+    root-one (root-above c p s x) (root-none e) = no-class e p
+    root-one (root-above c p s x) (root-stays c′ p′ s′) =
+        false≢ (sym s′ ∙ ap (λ (c : Class). is-state (c .kind)) (one-class p′ p) ∙ s)
+    root-one {q} (root-above c p s x) (root-above c′ p′ s′ x′) =
+        root-one {q = q} x (subst (λ (c : Class). RootOf (c .super) q) (one-class p′ p) x′)
+
+    -- A class is its root or below it.
+    pub root-subclass : {k r : ℕ} → RootOf k r → Subclass P k r
+    root-subclass (root-none e) = itself
+    root-subclass (root-stays c p s) = itself
+    root-subclass (root-above c p s x) = above c p (root-subclass x)
+
+    -- A class that is no state class is its own root.
+    pub root-of-other : {k r : ℕ} → ((c : Class) → class-at P k ≡ some c → is-state (c .kind) ≡ false) → RootOf k r
+        → r ≡ k
+    root-of-other f (root-none e) = refl
+    root-of-other f (root-stays c p s) = refl
+    root-of-other f (root-above c p s x) = false≢ (sym (f c p) ∙ s)
+
+    -- Kinds extend as Figure 20 has it, so above a class that is no state class there are plain classes only.
+    module _ (kinds : (k : ℕ) (c : Class) → class-at P k ≡ some c → Extends (c .kind) (kind-at P (c .super))) where
+      plain-extended : {k : Kind} {o : Option Kind} → Extends k o → is-state k ≡ false → (j : Kind) → o ≡ some j
+          → is-plain j ≡ true
+      plain-extended plain-object s j e = absurd (Never e)
+      plain-extended plain-plain s j e = ap is-plain (sym (inj e))
+      plain-extended root-object s j e = absurd (Never e)
+      plain-extended root-plain s j e = ap is-plain (sym (inj e))
+      plain-extended state-root s j e = false≢ (sym s)
+      plain-extended state-state s j e = false≢ (sym s)
+
+      superclass-plain : (k : ℕ) (c b : Class) → class-at P k ≡ some c → is-state (c .kind) ≡ false
+          → class-at P (c .super) ≡ some b → is-plain (b .kind) ≡ true
+      unfolding kind-at
+      superclass-plain k c b p s q = plain-extended (kinds k c p) s (b .kind) (rw q)
+
+      plain-no-state : (k : Kind) → is-plain k ≡ true → is-state k ≡ false
+      plain-no-state plain e = refl
+      plain-no-state root e = refl
+      plain-no-state state e = false≢ e
+      plain-no-state (unknown n) e = refl
+
+      plain-above : {j d : ℕ} → Subclass P j d → ((b : Class) → class-at P j ≡ some b → is-plain (b .kind) ≡ true)
+          → (b : Class) → class-at P d ≡ some b → is-plain (b .kind) ≡ true
+      plain-above itself f = f
+      plain-above (below-object p) f = λ b q. no-class object-is-no-class q
+      plain-above {j} (above c p r) f =
+          plain-above r (λ b q. superclass-plain j c b p (plain-no-state (c .kind) (f c p)) q)
+
+      -- What stands above a class that is no state class.
+      above-plain : (k : ℕ) {d : ℕ} (c b : Class) → class-at P k ≡ some c → class-at P k ≡ some b
+          → is-state (b .kind) ≡ false → Subclass P (c .super) d
+          → (x : Class) → class-at P d ≡ some x → is-plain (x .kind) ≡ true
+      above-plain k c b p q s a = plain-above a
+          (λ x e. superclass-plain k c x p (ap (λ (y : Class). is-state (y .kind)) (one-class p q) ∙ s) e)
+
+      -- Up from a class either its root stays the root, or every class is its own root and above that root.
+      pub root-up : {k d r q : ℕ} → Subclass P k d → RootOf k r → RootOf d q
+          → (q ≡ r) ⊎ ((q ≡ d) × Subclass P r d)
+      root-up itself x y = inl (root-one y x)
+      root-up (below-object p) (root-none e) y = inr (root-one y (root-none object-is-no-class), below-object p)
+      root-up (below-object p) (root-stays c e s) y = no-class p e
+      root-up (below-object p) (root-above c e s x) y = no-class p e
+      root-up (above c p a) (root-none e) y = no-class e p
+      root-up {k} (above c p a) (root-stays b q s) y =
+          inr (root-of-other (λ x e. plain-no-state (x .kind) (above-plain k c b p q s a x e)) y, above c p a)
+      root-up {r} (above c p a) (root-above b q s x) y =
+          root-up {r = r} a (subst (λ (c : Class). RootOf (c .super) r) (one-class q p) x) y
+
+      -- A class below a root or state class has the same root.
+      pub root-same : {k d r q : ℕ} → Subclass P k d → (b : Class) → class-at P d ≡ some b
+          → is-plain (b .kind) ≡ false → RootOf k r → RootOf d q → r ≡ q
+      root-same itself b e f x y = root-one x y
+      root-same (below-object p) b e f x y = no-class object-is-no-class e
+      root-same (above c p a) b e f (root-none z) y = no-class z p
+      root-same {k} (above c p a) b e f (root-stays c′ p′ s) y = false≢ (sym f ∙ above-plain k c c′ p p′ s a b e)
+      root-same {r} (above c p a) b e f (root-above c′ p′ s x) y =
+          root-same {r = r} a b e f (subst (λ (c : Class). RootOf (c .super) r) (one-class p′ p) x) y
