@@ -201,11 +201,11 @@ module _ (F K : ℕ) where
     over-ok : {a : A} {s : State} → Beyond s → Over (ok a s)
     over-stop : {x : Stop} {s : State} → Beyond s → Over (stop x s)
 
-  -- The run without limits, and the run with them: the same, within them, or cut.
+  -- The run without limits, and the run with them: the same or cut, within them in either case.
   pub data Limited {A : Type 0} : Out A → Out A → Type 0 where
     same-ok : {a : A} {s : State} → Within s → Limited (ok a s) (ok a s)
     same-stop : {x : Stop} {s : State} → Within s → Limited (stop x s) (stop x s)
-    cut : {r : Out A} {x : Stop} {s : State} → Over r → Cut x → Limited r (stop x s)
+    cut : {r : Out A} {x : Stop} {s : State} → Over r → Cut x → Within s → Limited r (stop x s)
 
   over : {A : Type 0} {s : State} {r : Out A} → Beyond s → Grows s r → Over r
   over b (grows-ok l) = over-ok (beyond-later b l)
@@ -216,8 +216,8 @@ module _ (F K : ℕ) where
       → Limited (bind r k) (bind r′ k′)
   limited-bind (same-ok w) f g = f _ _ w
   limited-bind (same-stop w) f g = same-stop w
-  limited-bind (cut (over-ok b) c) f g = cut (over b (g _ _)) c
-  limited-bind (cut (over-stop b) c) f g = cut (over-stop b) c
+  limited-bind (cut (over-ok b) c w) f g = cut (over b (g _ _)) c w
+  limited-bind (cut (over-stop b) c w) f g = cut (over-stop b) c w
 
   limited-need : {A B : Type 0} (o : Option A) (s : State) {k k′ : A → Out B} → Within s
       → ((a : A) → Limited (k a) (k′ a)) → Limited (need o s k) (need o s k′)
@@ -279,7 +279,7 @@ module _ (F K : ℕ) where
     limited-enter {A} s {x} {y} w f g = go (leb F (s .steps)) refl
       where
         go : (b : Bool) → leb F (s .steps) ≡ b → Limited {A = A} x (choice b (λ _. stop spent s) (λ _. y))
-        go true e = cut (over (beyond-fuel (omega (arith, leb-true F (s .steps) e))) g) cut-spent
+        go true e = cut (over (beyond-fuel (omega (arith, leb-true F (s .steps) e))) g) cut-spent w
         go false e = f (record { fuel = omega (arith, leb-false F (s .steps) e); room = w .room })
 
     limited-new : (c : ℕ) (s : State) → Within s
@@ -292,7 +292,7 @@ module _ (F K : ℕ) where
         go : (b : Bool) → leb K (length (s .heap)) ≡ b → Limited {A = Value} (ok (object (length (s .heap))) made)
             (cond b (stop full s) (ok (object (length (s .heap))) made))
         go true e = cut (over-ok {s = made} (beyond-room
-            (omega (arith, leb-true K (length (s .heap)) e, length-append (s .heap) (new-object W c ∷ []))))) cut-full
+            (omega (arith, leb-true K (length (s .heap)) e, length-append (s .heap) (new-object W c ∷ []))))) cut-full w
         go false e = same-ok {s = made} (record {
           fuel = w .fuel;
           room = omega (arith, leb-false K (length (s .heap)) e, length-append (s .heap) (new-object W c ∷ []));
@@ -304,8 +304,8 @@ module _ (F K : ℕ) where
           → Limited (bind r (λ w t. ok w (with-frame f t))) (bind r′ (λ w t. ok w (with-frame f t)))
       limited-back f (same-ok w) = same-ok (within-frame f w)
       limited-back f (same-stop w) = same-stop w
-      limited-back f (cut (over-ok b) c) = cut (over-ok (beyond-later b (later-frame _))) c
-      limited-back f (cut (over-stop b) c) = cut (over-stop b) c
+      limited-back f (cut (over-ok b) c w) = cut (over-ok (beyond-later b (later-frame _))) c w
+      limited-back f (cut (over-stop b) c w) = cut (over-stop b) c w
 
       limited-call : (m : ℕ) (v : Value) (vs : List Value) (s : State) → Within s
           → Limited (do-call W without-limits invoke m v vs s) (do-call W (with-limits F K) invoke′ m v vs s)
@@ -415,8 +415,8 @@ module _ (F K : ℕ) where
   pub kept : {A : Type 0} {r r′ : Out A} → Limited F K r r′ → proper r′ ≡ true → Kept r r′
   kept (same-ok w) p = record { is = refl; within = w }
   kept (same-stop w) p = record { is = refl; within = w }
-  kept (cut o cut-spent) p = false≢ p
-  kept (cut o cut-full) p = false≢ p
+  kept (cut o cut-spent w) p = false≢ p
+  kept (cut o cut-full w) p = false≢ p
 
   beyond-not : {s : State} → Beyond F K s → Within F K s → ⊥
   beyond-not (beyond-fuel p) w = omega (arith, p, w)
@@ -426,5 +426,11 @@ module _ (F K : ℕ) where
   pub uncut : {A : Type 0} {r r′ : Out A} → Limited F K r r′ → Within F K (final r) → r′ ≡ r
   uncut (same-ok w) v = refl
   uncut (same-stop w) v = refl
-  uncut (cut (over-ok b) c) v = absurd (beyond-not b v)
-  uncut (cut (over-stop b) c) v = absurd (beyond-not b v)
+  uncut (cut (over-ok b) c w) v = absurd (beyond-not b v)
+  uncut (cut (over-stop b) c w) v = absurd (beyond-not b v)
+
+  -- A run with limits ends within them.
+  pub ends-within : {A : Type 0} {r r′ : Out A} → Limited F K r r′ → Within F K (final r′)
+  ends-within (same-ok w) = w
+  ends-within (same-stop w) = w
+  ends-within (cut o c w) = w

@@ -133,17 +133,17 @@ module _ (W W′ : World) (P : IsPlain W W′) (𝓛 : Laws W) (𝓜 : More W) (
   within-first F K = record { fuel = omega arith; room = omega arith }
 
   -- Demand 3, forward. A source run with fuel F and room K that ends in a value, an exception or 15, with n objects
-  -- made and r changes of class: its plain run with fuel 84·F and room for 2n + r objects or more ends alike.
-  pub demand-3-forward : (F K K′ : ℕ) → proper (source-run F K) ≡ true
+  -- made and r changes of class: its plain run with fuel 84·F or more and room for 2n + r objects or more ends alike.
+  pub demand-3-forward : (F F′ K K′ : ℕ) → plain-steps-a-step * F ≤ F′ → proper (source-run F K) ≡ true
       → 2 * length (final (source-run F K) .heap) + final (source-run F K) .changes ≤ K′
-      → EndsAlike (source-run F K) (plain-run (plain-steps-a-step * F) K′)
-  demand-3-forward F K K′ p m =
+      → EndsAlike (source-run F K) (plain-run F′ K′)
+  demand-3-forward F F′ K K′ l p m =
       let k = kept F K (limited-start F K W start first-state (within-first F K)) p in
       let q = whole .counts in
       let m′ : 2 * length (final source-free .heap) + final source-free .changes ≤ K′ = rw (k .is) at m in
-      let u = uncut (84 * F) K′ (limited-start (84 * F) K′ W′ (translate W start start-environment []) first-state
-      (within-first (84 * F) K′))
-      (record { fuel = omega (arith, q, k .within); room = omega (arith, q, m′) }) in
+      let u = uncut F′ K′ (limited-start F′ K′ W′ (translate W start start-environment []) first-state
+      (within-first F′ K′))
+      (record { fuel = omega (arith, l, q, k .within); room = omega (arith, q, m′) }) in
       rw (k .is, u) (record { ends = whole .ends (rw (k .is) at p); counts = q; stores = whole .stores })
 
   -- Demand 3, backward. A plain run with fuel F and room K′ that ends in a value, an exception or 15: its source run

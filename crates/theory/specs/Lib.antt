@@ -39,3 +39,8 @@ pub mod PlainForm
 pub mod PlainInForm
 pub mod PlainNames
 pub mod AcceptedTranslation
+pub mod StoreNumbers
+pub mod Endings
+pub mod RunsOfRows
+pub mod DemandsRows
+pub mod Demands

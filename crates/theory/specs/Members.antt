@@ -4,7 +4,7 @@ use mathlib.Core.Path.{_≡_, refl, sym, ap, _∙_}
 use mathlib.Core.Logic.{_≢_}
 use Prim.Native.Nat.{ℕ, _≤_}
 use mathlib.Core.Bool.{Bool, true, false}
-use mathlib.Core.List.{List}
+use mathlib.Core.List.{List, []}
 use borrow.Author.Tests.{le-leb}
 use native.Mathlib.Omega.{arith}
 use Rattle.language.specs.Limits.{most-fuel, most-calls}
@@ -12,14 +12,15 @@ use Rattle.language.specs.Lists.{nth, Never, a-nil}
 use Rattle.language.specs.Results.{ok, stop, Checked, accept, refuse, Holds, holds-ok, holds-stop, require}
 use Rattle.language.specs.Results.{require-inv}
 use Rattle.language.specs.Tree.{Program}
+use Rattle.language.specs.World.{World}
 use Rattle.language.specs.Program.{world}
 use Rattle.language.specs.Verdict.{whole-rows, check, accepted, verdict}
 use Rattle.language.specs.Evaluation.{Value, State, Stop, raised, spent, deep, full, stuck, Out, Limits}
 use Rattle.language.specs.Evaluation.{with-limits, call-at, first-state, run}
 use Rattle.language.specs.Store.{ended, ran, finish, runnable, run-checked, capacity, run-of}
 use Rattle.language.specs.WellFormed.{ProgramWell}
-use Rattle.theory.specs.Sound.{false≢, Fine, fine-exc, fine-deep, fine-spent, fine-full, this-none}
-use Rattle.theory.specs.Sound.{calls-ok, soundE}
+use Rattle.theory.specs.Sound.{false≢, Good, Fine, fine-null, fine-cast, fine-deep, fine-spent}
+use Rattle.theory.specs.Sound.{fine-full, this-none, calls-ok, soundE}
 use Rattle.theory.specs.Lookups.{well-formed-laws}
 use Rattle.theory.specs.Accepts.{RowsOf, check-accepts}
 
@@ -35,22 +36,30 @@ abbrev unstuck : {A : Type 0} → Out A → Bool
 unstuck (ok a s) = true
 unstuck (stop x s) = unstuck-stop x
 
-fine-unstuck : {x : Stop} {s : State} → Fine x s → unstuck-stop x ≡ true
-fine-unstuck fine-exc = refl
-fine-unstuck fine-deep = refl
-fine-unstuck fine-spent = refl
-fine-unstuck fine-full = refl
+fine-unstuck : {W : World} {x : Stop} {s : State} → Fine W x s → unstuck-stop x ≡ true
+fine-unstuck (fine-null h) = refl
+fine-unstuck (fine-cast h) = refl
+fine-unstuck (fine-deep h) = refl
+fine-unstuck (fine-spent h) = refl
+fine-unstuck (fine-full h) = refl
 
-holds-unstuck : {A : Type 0} {P : A → State → Type 0} {r : Out A} → Holds P Fine r → unstuck r ≡ true
+holds-unstuck : {A : Type 0} {W : World} {P : A → State → Type 0} {r : Out A} → Holds P (Fine W) r
+    → unstuck r ≡ true
 holds-unstuck (holds-ok h) = refl
 holds-unstuck (holds-stop h) = fine-unstuck h
 
-run-unstuck : (p : Program) → ProgramWell p → (L : Limits) → unstuck (run L p) ≡ true
+-- The run of a well-formed program, whatever its limits, ends in a value of its start block's type or in a stop
+-- that is not stuck, in either case with a heap that fits its classes.
+pub run-sound : (p : Program) (w : ProgramWell p) (L : Limits)
+    → Holds (Good (world (p .classes)) (w .γ) (w .φ) (w .t) []) (Fine (world (p .classes))) (run L p)
 unfolding run nth
-run-unstuck p w L = let W = world (p .classes) in let laws = well-formed-laws p w in
-    holds-unstuck (soundE W laws L (λ M s. call-at W L most-calls M s) (calls-ok W laws L most-calls)
+run-sound p w L = let W = world (p .classes) in let laws = well-formed-laws p w in
+    soundE W laws L (λ M s. call-at W L most-calls M s) (calls-ok W laws L most-calls)
     (p .start) (w .start) first-state (record { each = λ j o e. absurd (Never e) })
-    (record { this = this-none; slots = a-nil }))
+    (record { this = this-none; slots = a-nil })
+
+run-unstuck : (p : Program) → ProgramWell p → (L : Limits) → unstuck (run L p) ≡ true
+run-unstuck p w L = holds-unstuck (run-sound p w L)
 
 -- The run of a well-formed program never gets stuck, whatever its limits.
 pub well-formed-never-stuck : (p : Program) → ProgramWell p → (L : Limits) (s : State) → run L p ≢ stop stuck s
@@ -62,7 +71,7 @@ unfolding require
 required t n l k e f = rw e f
 
 -- The program that a run takes is the one that the check answers.
-runnable-check : (ns : List ℕ) (fuel : ℕ) (p : Program) → runnable ns fuel ≡ accept p → check ns ≡ accept p
+pub runnable-check : (ns : List ℕ) (fuel : ℕ) (p : Program) → runnable ns fuel ≡ accept p → check ns ≡ accept p
 unfolding runnable whole-rows check
 runnable-check ns fuel p e = require-inv _ _ _ _ e λ l e. require-inv _ _ _ _ e λ _ e. required _ _ _ _ l e
 
@@ -96,7 +105,7 @@ pub demand-2-members-any-limits : (ns : List ℕ) (p : Program) → check ns ≡
 demand-2-members-any-limits ns p e = well-formed-never-stuck p (check-accepts ns p .0 e .well)
 
 -- The program that the check answers is run, where the fuel is within its limit.
-check-runnable : (ns : List ℕ) (fuel : ℕ) (p : Program) → fuel ≤ most-fuel → check ns ≡ accept p
+pub check-runnable : (ns : List ℕ) (fuel : ℕ) (p : Program) → fuel ≤ most-fuel → check ns ≡ accept p
     → runnable ns fuel ≡ accept p
 unfolding runnable whole-rows check
 check-runnable ns fuel p l e = require-inv _ _ _ _ e λ whole passes.

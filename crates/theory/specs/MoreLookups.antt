@@ -1,6 +1,6 @@
 -- What the translator's proofs use of lookups besides the laws of soundness, for class lists of any length:
--- of a well-formed program that no field name stands twice, that Object is above all and that what is found in
--- a class is found in a declared one; of one within the translator's limits how much there is of each.
+-- of a well-formed program that no field name stands twice, that Object is above all, that what is found in
+-- a class is found in a declared one and that no class has more than 17 fields; of one within the translator's limits how much there is of each.
 use mathlib.Core.Path.{_≡_, refl, sym, ap, _∙_, subst}
 use Prim.Native.Nat.{ℕ, zero, suc, _+_, _≤_, _<_}
 use mathlib.Core.Option.{Option, none, some}
@@ -11,7 +11,7 @@ use lib.ListN.{length, length-append}
 use lib.Dec.{eqb, leb}
 use borrow.Author.Tests.{eqb-true, eq-eqb, ne-eqb, ltb-true, leb-true, le-leb}
 use native.Mathlib.Omega.{arith}
-use Rattle.language.specs.Limits.{Most, of-translator, object-class, id-field, imp-field}
+use Rattle.language.specs.Limits.{Most, of-check, of-translator, object-class, id-field, imp-field}
 use Rattle.language.specs.Lists.{nth, given, choice, bind-option, bind-option-inv, Never, inj, nth-append-one}
 use Rattle.language.specs.Results.{accept, earlier, bind-checked-inv, require-inv}
 use Rattle.language.specs.Tree.{Field, Declaration, Class, class-lines, Program}
@@ -152,6 +152,8 @@ pub record MoreLaws (W : World) : Type 0 where
   pub declared-field : (c n i : ℕ) → place n (W .fields c) ≡ some i → is-declared W c ≡ true
   pub declared-method : (c m : ℕ) (M : Method) → W .method c m ≡ some M → is-declared W c ≡ true
   pub declared-root : (c : ℕ) → is-declared W c ≡ true → is-declared W (W .root c) ≡ true
+  -- A class has at most 17 fields, inherited included.
+  pub few-fields : (c : ℕ) → length (W .fields c) ≤ of-check .fields
 
 -- What the translator's limits and its check of names give of lookups.
 pub record TranslatorLaws (W : World) : Type 0 where
@@ -199,6 +201,17 @@ module _ (P : List Class) (laws : Laws (world P)) (well : (k : ℕ) (c : Class) 
     all-distinct k = fields-law Distinct (record { found = λ i f e. absurd (Never e) })
         (λ k c p d. distinct-own (well k c p .fields) d) (suc k) k (omega arith)
 
+    own-few : {before fs : List Field} → FieldsWell P before fs → length before ≤ of-check .fields
+        → length (before ++ fs) ≤ of-check .fields
+    own-few {before} well-nil l = omega (arith, l, length-append before [])
+    own-few {before} (well-cons {fs} {f} a b c s w) l = subst (λ (r : List Field). length r ≤ of-check .fields)
+        (append-assoc before (f ∷ []) fs) (own-few w (omega (arith, a, length-append before (f ∷ []))))
+
+    all-few : (k : ℕ) → length (fields-at P (suc k) k) ≤ of-check .fields
+    unfolding world
+    all-few k = fields-law (λ fs. length fs ≤ of-check .fields) (omega arith)
+        (λ k c p l. own-few (well k c p .fields) l) (suc k) k (omega arith)
+
     -- What is above a class does not come after it.
     above-earlier : {k d : ℕ} → Subclass P k d → d ≤ k
     above-earlier itself = omega arith
@@ -236,6 +249,7 @@ module _ (P : List Class) (laws : Laws (world P)) (well : (k : ℕ) (c : Class) 
         leb-true c (length P) e,
         above-earlier (root-subclass P (superclass-earlier P well) (root-is P (superclass-earlier P well) c)),
       ));
+      few-fields = λ c. all-few c;
     }
 
     -- Within the translator's limits.
@@ -281,7 +295,8 @@ module _ (P : List Class) (laws : Laws (world P)) (well : (k : ℕ) (c : Class) 
             m (x .declaration) (x .declares) .few);
       }
 
--- No field name stands twice in a class, Object is above all, and what is found is found in a declared class.
+-- No field name stands twice in a class, Object is above all, what is found is found in a declared class, and
+-- no class has more than 17 fields.
 pub well-formed-more : (p : Program) → ProgramWell p → MoreLaws (world (p .classes))
 well-formed-more p w =
     classes-more (p .classes) (well-formed-laws p w) (class-well (p .classes) (w .classes))

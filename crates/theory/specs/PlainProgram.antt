@@ -20,7 +20,7 @@ use Rattle.language.specs.WellFormed.{ClassesWell, classes-cons}
 use Rattle.theory.specs.PlainWorld.{id-of-implementor, plain-form, IsPlain}
 
 -- What stands at a place before the end.
-nth-there : {A : Type 0} (l : List A) (k : ℕ) → k < length l → (a : A) × (nth l k ≡ some a)
+pub nth-there : {A : Type 0} (l : List A) (k : ℕ) → k < length l → (a : A) × (nth l k ≡ some a)
 unfolding nth
 nth-there [] k e = absurd (omega (arith, e))
 nth-there (a ∷ l) zero e = (a, refl)

@@ -14,6 +14,7 @@ use borrow.Author.Tests.{eqb-true}
 use native.Mathlib.Omega.{arith}
 use native.Mathlib.Nat.{zero-div, div-self}
 use native.Mathlib.Decide.{ℕ-discrete}
+use Rattle.language.specs.Limits.{null-exception, cast-exception}
 use Rattle.language.specs.Lists.{nth, bind-option, bind-option-inv, map-option, choice, Never, inj, All2, a-nil, a-cons, all2-at, all2-set, all2-set-right, all2-append, all2-take, all2-length, all2-map, all2-mono, all2-mono-at}
 use Rattle.language.specs.Lists.{nth-set-same, nth-set-other, nth-append, nth-last, nth-append-one, nth-set}
 use Rattle.language.specs.Results.{ok, stop, Holds, holds-ok, holds-stop, holds-bind, holds-if, holds-choice, holds-mono}
@@ -153,12 +154,13 @@ pub record Moved (W : World) (φ : ℕ) (h′ : List Object) (j : ℕ) (o : Obje
 pub record Evolves (W : World) (φ : ℕ) (h h′ : List Object) : Type 0 where
   pub to : (j : ℕ) (o : Object) → nth h j ≡ some o → Moved W φ h′ j o
 
--- a stop that an accepted expression may come to
-pub data Fine : Stop → State → Type 0 where
-  fine-exc : {n : ℕ} {s : State} → Fine (raised n) s
-  fine-deep : {s : State} → Fine deep s
-  fine-spent : {s : State} → Fine spent s
-  fine-full : {s : State} → Fine full s
+-- a stop that an accepted expression may come to, with a heap that fits its classes then
+pub data Fine (W : World) : Stop → State → Type 0 where
+  fine-null : {s : State} → HeapOk W (s .heap) → Fine W (raised null-exception) s
+  fine-cast : {s : State} → HeapOk W (s .heap) → Fine W (raised cast-exception) s
+  fine-deep : {s : State} → HeapOk W (s .heap) → Fine W deep s
+  fine-spent : {s : State} → HeapOk W (s .heap) → Fine W spent s
+  fine-full : {s : State} → HeapOk W (s .heap) → Fine W full s
 
 pub record Good (W : World) (Γ : Environment) (φ : ℕ) (t : ExprType) (h : List Object) (v : Value) (s : State) : Type 0 where
   pub heapOk : HeapOk W (s .heap)
@@ -290,8 +292,8 @@ module _ (W : World) (𝓛 : Laws W) where
       rw (p .1) (record { i = x .i; fld = x .fld; at = place-append n _ (p .0) _ (x .at); is = nth-append _ (p .0) _ _ (x .is); ty = x .ty })
 
   get-ok : (n c : ℕ) (t : DeclaredType) (v : Value) (s : State) → HeapOk W (s .heap) → Fits W (s .heap) v (known (class c)) → field-type n (W .fields c) ≡ some t
-      → Holds (λ w s′. (s′ ≡ s) × Fits W (s .heap) w (known t)) Fine (do-get W n v s)
-  get-ok n c t v s H (f-null z) e = holds-stop fine-exc
+      → Holds (λ w s′. (s′ ≡ s) × Fits W (s .heap) w (known t)) (Fine W) (do-get W n v s)
+  get-ok n c t v s H (f-null z) e = holds-stop (fine-null H)
   get-ok n c t v s H (f-obj o p q) e =
       let x = inherit (o .class-of) c n t q e in let y = all2-at (H .each _ o p) (x .i) (x .fld) (x .is) in
       rw (p, x .at, y .1) (holds-ok (refl, rw (x .ty) at (y .2)))
@@ -332,8 +334,8 @@ module _ (W : World) (𝓛 : Laws W) where
     pub fitsOk : Fits W (s′ .heap) v t
 
   set-ok : (n c : ℕ) (t : ExprType) (u : DeclaredType) (v w : Value) (s : State) → HeapOk W (s .heap) → Fits W (s .heap) v (known (class c)) → field-type n (W .fields c) ≡ some u
-      → Fits W (s .heap) w t → fits W t u ≡ true → Holds (Left no-effect t s) Fine (do-set W n v w s)
-  set-ok n c t u v w s H (f-null z) e f g = holds-stop fine-exc
+      → Fits W (s .heap) w t → fits W t u ≡ true → Holds (Left no-effect t s) (Fine W) (do-set W n v w s)
+  set-ok n c t u v w s H (f-null z) e f g = holds-stop (fine-null H)
   set-ok n c t u (object j) w s H (f-obj o p q) e f g =
       let x = inherit (o .class-of) c n u q e in
       let n′ : Object = record { class-of = o .class-of; fields = replace (o .fields) (x .i) w } in
@@ -342,8 +344,8 @@ module _ (W : World) (𝓛 : Laws W) where
       let neu = all2-set old (x .i) w (x .fld) (x .is) (rw (x .ty) (fits-grow ev (fits-sub u f g))) in
       rw (p, x .at) (holds-ok (record { heapOk = heap-set (s .heap) j n′ ev H neu; evolves = ev; slotsSame = refl; fitsOk = fits-grow ev f }))
 
-  new-ok : (L : Limits) (c : ℕ) (s : State) → HeapOk W (s .heap) → Holds (Left no-effect (known (class c)) s) Fine (do-new W L c s)
-  new-ok L c s H = holds-if (L .full-at (length (s .heap))) (holds-stop fine-full) (holds-ok (record {
+  new-ok : (L : Limits) (c : ℕ) (s : State) → HeapOk W (s .heap) → Holds (Left no-effect (known (class c)) s) (Fine W) (do-new W L c s)
+  new-ok L c s H = holds-if (L .full-at (length (s .heap))) (holds-stop (fine-full H)) (holds-ok (record {
     heapOk = heap-append (s .heap) (new-object W c) H (initials-fit _ _);
     evolves = evolve-append (s .heap) (new-object W c);
     slotsSame = refl;
@@ -366,7 +368,7 @@ module _ (W : World) (𝓛 : Laws W) where
       let q = and-inv (W .changeable d) (eqb (W .root c) (W .root d)) (p .1) in (p .0, eqb-true _ _ (q .1))
 
   change-ok : (c d : ℕ) (v : Value) (s : State) → HeapOk W (s .heap) → Fits W (s .heap) v (known (class c)) → can-change W c d ≡ true
-      → Holds (λ w s′. (w ≡ v) × Left (effect-of (W .root d)) (known (class d)) s w s′) Fine (do-change W d v s)
+      → Holds (λ w s′. (w ≡ v) × Left (effect-of (W .root d)) (known (class d)) s w s′) (Fine W) (do-change W d v s)
   change-ok c d v s H (f-null z) e = holds-ok (refl, record { heapOk = H; evolves = evolve-refl (s .heap); slotsSame = refl; fitsOk = f-null refl })
   change-ok c d (object j) s H (f-obj o p q) e =
       let g = can-inv c d e in
@@ -435,13 +437,13 @@ module _ (W : World) (𝓛 : Laws W) where
 
   pub record CallOk (invoke : Method → State → Out Value) : Type 0 where
     pub good : (M : Method) → BodyOk W M → (s : State) → HeapOk W (s .heap) → FitsFrame W (s .heap) (s .frame) (method-environment (M .owner) (M .parameters))
-        → Holds (Called M (s .heap)) Fine (invoke M s)
+        → Holds (Called M (s .heap)) (Fine W) (invoke M s)
 
   call-ok : (L : Limits) (invoke : Method → State → Out Value) → CallOk invoke → (m c : ℕ) (M : Method) (v : Value) (vs : List Value) (ts : List ExprType) (Γ : Environment) (s : State)
       → HeapOk W (s .heap) → FitsFrame W (s .heap) (s .frame) Γ → Fits W (s .heap) v (known (class c)) → All2 (Fits W (s .heap)) vs ts
       → W .method c m ≡ some M → all-fit W ts (M .parameters) ≡ true
-      → Holds (Good W (apply-all W (M .effect) Γ) (M .effect) (known (M .result)) (s .heap)) Fine (do-call W L invoke m v vs s)
-  call-ok L invoke C m c M v vs ts Γ s H S (f-null z) A e f = holds-stop fine-exc
+      → Holds (Good W (apply-all W (M .effect) Γ) (M .effect) (known (M .result)) (s .heap)) (Fine W) (do-call W L invoke m v vs s)
+  call-ok L invoke C m c M v vs ts Γ s H S (f-null z) A e f = holds-stop (fine-null H)
   call-ok L invoke C m c M (object j) vs ts Γ s H S (f-obj o p q) A e f =
       let x = override (o .class-of) c m M q e in let M′ = x .0 in
       rw (p, x .1) (holds-bind
@@ -640,23 +642,23 @@ module _ (W : World) (𝓛 : Laws W) where
   evolve-right : (φ : ℕ) {ψ : ℕ} {h h′ : List Object} → Evolves W ψ h h′ → Evolves W (join φ ψ) h h′
   evolve-right φ f = record { to = λ j o e. let a = f .to j o e in record { now = a .now; there = a .there; how = shift-right φ (a .how) } }
 
-  cast-ok : {Γ : Environment} {φ : ℕ} {t : ExprType} {h : List Object} (c : ℕ) (v : Value) (s : State) → not-bool t ≡ true → Good W Γ φ t h v s → Holds (Good W Γ φ (known (class c)) h) Fine (do-cast W c v s)
+  cast-ok : {Γ : Environment} {φ : ℕ} {t : ExprType} {h : List Object} (c : ℕ) (v : Value) (s : State) → not-bool t ≡ true → Good W Γ φ t h v s → Holds (Good W Γ φ (known (class c)) h) (Fine W) (do-cast W c v s)
   cast-ok {Γ} {φ} {t} {h} c v s n g = go v t n (g .fitsOk)
     where
       fin : (w : Value) → Fits W (s .heap) w (known (class c)) → Good W Γ φ (known (class c)) h w s
       fin w f = record { heapOk = g .heapOk; evolves = g .evolves; slotsOk = g .slotsOk; fitsOk = f }
 
-      two : (j : ℕ) (o : Object) → nth (s .heap) j ≡ some o → (b : Bool) → W .below (o .class-of) c ≡ b → Holds (Good W Γ φ (known (class c)) h) Fine (cond b (ok (object j) s) (stop (raised 2) s))
+      two : (j : ℕ) (o : Object) → nth (s .heap) j ≡ some o → (b : Bool) → W .below (o .class-of) c ≡ b → Holds (Good W Γ φ (known (class c)) h) (Fine W) (cond b (ok (object j) s) (stop (raised 2) s))
       two j o p true e = holds-ok (fin (object j) (f-obj o p e))
-      two j o p false e = holds-stop fine-exc
+      two j o p false e = holds-stop (fine-cast (g .heapOk))
 
-      go : (v : Value) (t : ExprType) → not-bool t ≡ true → Fits W (s .heap) v t → Holds (Good W Γ φ (known (class c)) h) Fine (do-cast W c v s)
+      go : (v : Value) (t : ExprType) → not-bool t ≡ true → Fits W (s .heap) v t → Holds (Good W Γ φ (known (class c)) h) (Fine W) (do-cast W c v s)
       go v t n (f-null z) = holds-ok (fin null (f-null refl))
       go v t n f-bool = false≢ n
       go (object j) t n (f-obj o p q) = rw p (two j o p (W .below (o .class-of) c) refl)
 
-  if-ok : {P : Value → State → Type 0} {v : Value} {h : List Object} (s : State) {x y : Out Value} → Fits W h v (known bool) → Holds P Fine x → Holds P Fine y
-      → Holds P Fine (need-truth v s λ t. choice t (λ _. x) (λ _. y))
+  if-ok : {P : Value → State → Type 0} {v : Value} {h : List Object} (s : State) {x y : Out Value} → Fits W h v (known bool) → Holds P (Fine W) x → Holds P (Fine W) y
+      → Holds P (Fine W) (need-truth v s λ t. choice t (λ _. x) (λ _. y))
   if-ok s (f-null z) a b = false≢ z
   if-ok s (f-bool {b = true}) a b = a
   if-ok s (f-bool {b = false}) a b = b
@@ -666,18 +668,18 @@ module _ (W : World) (𝓛 : Laws W) where
       unfolding eval
 
       pub soundE : (e : Expr) {Γ Γ′ : Environment} {t : ExprType} {φ : ℕ} → HasType W Γ e t Γ′ φ → (s : State) → HeapOk W (s .heap) → FitsFrame W (s .heap) (s .frame) Γ
-          → Holds (Good W Γ′ φ t (s .heap)) Fine (eval W L invoke e s)
-      soundE literal-true type-true s H S = holds-choice (L .spent-at (s .steps)) (holds-stop fine-spent) (holds-ok (record { heapOk = H; evolves = evolve-refl _; slotsOk = S; fitsOk = f-bool }))
-      soundE literal-false type-false s H S = holds-choice (L .spent-at (s .steps)) (holds-stop fine-spent) (holds-ok (record { heapOk = H; evolves = evolve-refl _; slotsOk = S; fitsOk = f-bool }))
-      soundE literal-null type-null s H S = holds-choice (L .spent-at (s .steps)) (holds-stop fine-spent) (holds-ok (record { heapOk = H; evolves = evolve-refl _; slotsOk = S; fitsOk = f-null refl }))
-      soundE (slot k) {Γ} (type-slot {s = u} e) s H S = holds-choice (L .spent-at (s .steps)) (holds-stop fine-spent)
+          → Holds (Good W Γ′ φ t (s .heap)) (Fine W) (eval W L invoke e s)
+      soundE literal-true type-true s H S = holds-choice (L .spent-at (s .steps)) (holds-stop (fine-spent H)) (holds-ok (record { heapOk = H; evolves = evolve-refl _; slotsOk = S; fitsOk = f-bool }))
+      soundE literal-false type-false s H S = holds-choice (L .spent-at (s .steps)) (holds-stop (fine-spent H)) (holds-ok (record { heapOk = H; evolves = evolve-refl _; slotsOk = S; fitsOk = f-bool }))
+      soundE literal-null type-null s H S = holds-choice (L .spent-at (s .steps)) (holds-stop (fine-spent H)) (holds-ok (record { heapOk = H; evolves = evolve-refl _; slotsOk = S; fitsOk = f-null refl }))
+      soundE (slot k) {Γ} (type-slot {s = u} e) s H S = holds-choice (L .spent-at (s .steps)) (holds-stop (fine-spent H))
           (let x = at (s .frame) Γ S k u e in rw (x .is) (holds-ok (record { heapOk = H; evolves = evolve-refl _; slotsOk = S; fitsOk = x .fit })))
-      soundE (assign (suc k) e) (type-assign d i f) s H S = holds-choice (L .spent-at (s .steps)) (holds-stop fine-spent)
+      soundE (assign (suc k) e) (type-assign d i f) s H S = holds-choice (L .spent-at (s .steps)) (holds-stop (fine-spent H))
           (holds-bind (soundE e d (entered s) H S) λ v s′ g.
           holds-ok (record { heapOk = g .heapOk; evolves = g .evolves; slotsOk = record { this = g .slotsOk .this; slots = all2-set (g .slotsOk .slots) k v _ i (fits-sub _ (g .fitsOk) f) }; fitsOk = g .fitsOk }))
-      soundE (new c) (type-new i) s H S = holds-choice (L .spent-at (s .steps)) (holds-stop fine-spent)
+      soundE (new c) (type-new i) s H S = holds-choice (L .spent-at (s .steps)) (holds-stop (fine-spent H))
           (holds-mono (new-ok L c (entered s) H) λ v s′ g. record { heapOk = g .heapOk; evolves = g .evolves; slotsOk = frame-grow (g .evolves) (g .slotsSame) S; fitsOk = g .fitsOk })
-      soundE (change k d) {Γ} (type-change {s = u} i e c f) s H S = holds-choice (L .spent-at (s .steps)) (holds-stop fine-spent)
+      soundE (change k d) {Γ} (type-change {s = u} i e c f) s H S = holds-choice (L .spent-at (s .steps)) (holds-stop (fine-spent H))
           (let x = at (s .frame) Γ S k u e in rw (x .is) (holds-mono (change-ok _ d (x .v) (entered s) H (subst (λ (t : DeclaredType). Fits W (s .heap) (x .v) (known t)) c (x .fit)) f) λ w s′ g.
           record {
             heapOk = g .1 .heapOk;
@@ -685,28 +687,28 @@ module _ (W : World) (𝓛 : Laws W) where
             fitsOk = g .1 .fitsOk;
             slotsOk = rw (g .1 .slotsSame) (retyped (s .frame) _ (frame-evolves (g .1 .evolves) S) k (x .v) _ (x .is) (rw (g .0) at (g .1 .fitsOk)));
           }))
-      soundE (is-null e) (type-is-null d n) s H S = holds-choice (L .spent-at (s .steps)) (holds-stop fine-spent)
+      soundE (is-null e) (type-is-null d n) s H S = holds-choice (L .spent-at (s .steps)) (holds-stop (fine-spent H))
           (holds-bind (soundE e d (entered s) H S) λ v s′ g. holds-ok (record { heapOk = g .heapOk; evolves = g .evolves; slotsOk = g .slotsOk; fitsOk = f-bool }))
-      soundE (cast c e) (type-cast d i n) s H S = holds-choice (L .spent-at (s .steps)) (holds-stop fine-spent)
+      soundE (cast c e) (type-cast d i n) s H S = holds-choice (L .spent-at (s .steps)) (holds-stop (fine-spent H))
           (holds-bind (soundE e d (entered s) H S) λ v s′ g. cast-ok c v s′ n g)
-      soundE (get f e) (type-get d i) s H S = holds-choice (L .spent-at (s .steps)) (holds-stop fine-spent)
+      soundE (get f e) (type-get d i) s H S = holds-choice (L .spent-at (s .steps)) (holds-stop (fine-spent H))
           (holds-bind (soundE e d (entered s) H S) λ v s′ g. holds-mono (get-ok f _ _ v s′ (g .heapOk) (g .fitsOk) i) λ w s″ q.
           rw (q .0) (record { heapOk = g .heapOk; evolves = g .evolves; slotsOk = g .slotsOk; fitsOk = q .1 }))
-      soundE (set f e e′) (type-set d d′ i j) s H S = holds-choice (L .spent-at (s .steps)) (holds-stop fine-spent)
+      soundE (set f e e′) (type-set d d′ i j) s H S = holds-choice (L .spent-at (s .steps)) (holds-stop (fine-spent H))
           (holds-bind (soundE e d (entered s) H S) λ v s₁ g. holds-bind (soundE e′ d′ s₁ (g .heapOk) (g .slotsOk)) λ w s₂ g′.
           holds-mono (set-ok f _ _ _ v w s₂ (g′ .heapOk) (fits-evolves (g′ .evolves) (g .fitsOk)) i (g′ .fitsOk) j) λ x s₃ q.
           record { heapOk = q .heapOk; evolves = evolve-then (evolve-trans (g .evolves) (g′ .evolves)) (q .evolves); slotsOk = frame-grow (q .evolves) (q .slotsSame) (g′ .slotsOk); fitsOk = q .fitsOk })
-      soundE (call m e es) (type-call M d d′ i j) s H S = holds-choice (L .spent-at (s .steps)) (holds-stop fine-spent)
+      soundE (call m e es) (type-call M d d′ i j) s H S = holds-choice (L .spent-at (s .steps)) (holds-stop (fine-spent H))
           (holds-bind (soundE e d (entered s) H S) λ v s₁ g. holds-bind (soundEs es d′ s₁ (g .heapOk) (g .slotsOk)) λ vs s₂ g′.
           holds-mono (call-ok L invoke C m _ M v vs _ _ s₂ (g′ .heapOk) (g′ .slotsOk) (fits-evolves (g′ .evolves) (g .fitsOk)) (g′ .fitsOk) i j) λ w s₃ q.
           record { heapOk = q .heapOk; evolves = evolve-trans (evolve-trans (g .evolves) (g′ .evolves)) (q .evolves); slotsOk = q .slotsOk; fitsOk = q .fitsOk })
-      soundE (choose e x y) (type-choose {t} {φ₁} d d′ d″ j) s H S = holds-choice (L .spent-at (s .steps)) (holds-stop fine-spent)
+      soundE (choose e x y) (type-choose {t} {φ₁} d d′ d″ j) s H S = holds-choice (L .spent-at (s .steps)) (holds-stop (fine-spent H))
           (holds-bind (soundE e d (entered s) H S) λ v s₁ g. if-ok s₁ (g .fitsOk)
           (holds-mono (soundE x d′ s₁ (g .heapOk) (g .slotsOk)) λ w s₂ q.
           record { heapOk = q .heapOk; evolves = evolve-trans (g .evolves) (evolve-left _ (q .evolves)); slotsOk = frames-left (shape x d′) (shape y d″) (q .slotsOk); fitsOk = join-left _ _ _ j (q .fitsOk) })
           (holds-mono (soundE y d″ s₁ (g .heapOk) (g .slotsOk)) λ w s₂ q.
           record { heapOk = q .heapOk; evolves = evolve-trans (g .evolves) (evolve-right φ₁ (q .evolves)); slotsOk = frames-right (shape x d′) (shape y d″) (q .slotsOk); fitsOk = join-right t _ _ j (q .fitsOk) }))
-      soundE (block ts es) {Γ} (type-block l d) s H S = holds-choice (L .spent-at (s .steps)) (holds-stop fine-spent)
+      soundE (block ts es) {Γ} (type-block l d) s H S = holds-choice (L .spent-at (s .steps)) (holds-stop (fine-spent H))
           (holds-bind (soundEs es d (with-frame (opened (s .frame) (map initial ts)) (entered s)) H (record { this = S .this; slots = all2-append (S .slots) (locals-fit _ ts) })) λ vs s′ g.
           holds-ok (record {
             heapOk = g .heapOk;
@@ -716,7 +718,7 @@ module _ (W : World) (𝓛 : Laws W) where
           }))
 
       pub soundEs : (es : Exprs) {Γ Γ′ : Environment} {ts : List ExprType} {φ : ℕ} → HaveTypes W Γ es ts Γ′ φ → (s : State) → HeapOk W (s .heap) → FitsFrame W (s .heap) (s .frame) Γ
-          → Holds (Goods W Γ′ φ ts (s .heap)) Fine (eval-all W L invoke es s)
+          → Holds (Goods W Γ′ φ ts (s .heap)) (Fine W) (eval-all W L invoke es s)
       soundEs nil types-nil s H S = holds-ok (record { heapOk = H; evolves = evolve-refl _; slotsOk = S; fitsOk = a-nil })
       soundEs (cons e es) (types-cons d d′) s H S = holds-bind (soundE e d s H S) λ v s₁ g. holds-bind (soundEs es d′ s₁ (g .heapOk) (g .slotsOk)) λ vs s₂ g′.
           holds-ok (record { heapOk = g′ .heapOk; evolves = evolve-trans (g .evolves) (g′ .evolves); slotsOk = g′ .slotsOk; fitsOk = a-cons (fits-evolves (g′ .evolves) (g .fitsOk)) (g′ .fitsOk) })
@@ -724,7 +726,7 @@ module _ (W : World) (𝓛 : Laws W) where
   -- calls, of any depth
   pub calls-ok : (L : Limits) (n : ℕ) → CallOk (λ M s. call-at W L n M s)
   unfolding call-at
-  calls-ok L zero = record { good = λ M B s H S. holds-stop fine-deep }
+  calls-ok L zero = record { good = λ M B s H S. holds-stop (fine-deep H) }
   calls-ok L (suc n) = record {
     good = λ M B s H S. holds-mono (soundE L (λ M s. call-at W L n M s) (calls-ok L n) (M .body) (B .types) s H S) λ v s′ g.
         record { heapOk = g .heapOk; evolves = evolve-within (B .inside) (g .evolves); fitsOk = fits-sub _ (g .fitsOk) (B .fits-ret) };
