@@ -28,7 +28,7 @@ use Rattle.theory.specs.Cut.{final, proper-stop, proper}
 use Rattle.theory.specs.Demand3World.{outcome, EndsAlike}
 use Rattle.theory.specs.Demand3Program.{demand-3-run, demand-3-run-back}
 use Rattle.theory.specs.StoreNumbers.{Shaped, stored-back, run-shaped}
-use Rattle.theory.specs.RunsOfRows.{finish-answer, finish-store, run-rows}
+use Rattle.theory.specs.RunsOfRows.{finish-answer, finish-store, ended-within-fuel}
 use Rattle.theory.specs.Endings.{objects-in, Proper, a-value, an-exception, too-deep, EndsProperly}
 use Rattle.theory.specs.Endings.{EndAlikeOnStores}
 
@@ -72,12 +72,12 @@ ends r store p = record {
 }
 
 -- What the end of a finished run says of its result.
-record Of (r : Out Value) {a : Ran} (e : EndsProperly a) : Type 0 where
+record ResultOf (r : Out Value) {a : Ran} (e : EndsProperly a) : Type 0 where
   pub ends-properly : proper r ≡ true
   pub objects : length (final r .heap) ≡ e .objects
   pub changes : final r .changes ≡ e .changes
 
-of-result : (r : Out Value) (store : List ℕ) {a : Ran} → a ≡ finish r store → (e : EndsProperly a) → Of r e
+of-result : (r : Out Value) (store : List ℕ) {a : Ran} → a ≡ finish r store → (e : EndsProperly a) → ResultOf r e
 of-result r store is e =
     let q : ran (outcome r) (final r .steps) (length (final r .heap)) (final r .changes)
     ≡ ran (e .outcome) (e .steps) (e .objects) (e .changes)
@@ -105,7 +105,7 @@ alike-on-stores ns out p p′ c c′ r r′ shaped shaped′ a store store′ =
       source = ends r store (proper-source (a .ends));
       plain = ends r′ store′ (proper-plain (a .ends));
       alike = rw back′ (a .ends);
-      objects = a .counts .objects;
+      objects = omega (arith, a .counts .objects);
       identities-made = rw back′ (a .stores .as-many);
       unchanged = a .counts .no-changes;
       steps-at-least = a .counts .at-least;
@@ -137,6 +137,7 @@ module _ (ns out : List ℕ) (p : Program) (taken : TranslatableRows ns p) (rows
       (check-accepts out (plain-program p) .1 rows) (run L p) (run L′ (plain-program p))
       (run-shaped p (taken .accepted .well) L) (run-shaped (plain-program p) (rows .well) L′) a S S′)
 
+  -- From the source run to the plain run.
   forward : (F F′ : ℕ) → plain-steps-a-step * F ≤ F′ → F′ ≤ most-fuel → (S : List ℕ) (e : EndsProperly (run-of ns F S))
       → (S′ : List ℕ) → 2 * e .objects + e .changes ≤ capacity S′
       → EndAlikeOnStores ns out (run-of ns F S) (run-of out F′ S′)
@@ -148,10 +149,11 @@ module _ (ns out : List ℕ) (p : Program) (taken : TranslatableRows ns p) (rows
       (demand-3-run p (taken .accepted .well) (well-formed-laws p (taken .accepted .well)) (more ns p taken)
       F F′ (capacity S) (capacity S′) f (o .ends-properly) (omega (arith, room, o .objects, o .changes)))
 
+  -- From the plain run to the source run.
   backward : (F : ℕ) (S′ : List ℕ) (e : EndsProperly (run-of out F S′)) → (S : List ℕ) → e .objects ≤ capacity S
       → EndAlikeOnStores ns out (run-of ns F S) (run-of out F S′)
   backward F S′ e S room =
-      let l = run-rows out F S′ (e .answer) .within-fuel in
+      let l = ended-within-fuel out F S′ (e .answer) in
       let r′ = run (with-limits F (capacity S′)) (plain-program p) in
       let o = of-result r′ S′ (accepted-run out (plain-program p) rows F l S′) e in
       finished-alike F F l l S S′

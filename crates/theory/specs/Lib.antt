@@ -43,4 +43,11 @@ pub mod StoreNumbers
 pub mod Endings
 pub mod RunsOfRows
 pub mod DemandsRows
+pub mod Listed
+pub mod Refusals
+pub mod FormRefusals
+pub mod PassRefusals
+pub mod ListedAnswers
+pub mod TighterForm
+pub mod TranslatorAnswers
 pub mod Demands

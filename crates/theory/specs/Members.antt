@@ -105,7 +105,7 @@ pub demand-2-members-any-limits : (ns : List ℕ) (p : Program) → check ns ≡
 demand-2-members-any-limits ns p e = well-formed-never-stuck p (check-accepts ns p .0 e .well)
 
 -- The program that the check answers is run, where the fuel is within its limit.
-pub check-runnable : (ns : List ℕ) (fuel : ℕ) (p : Program) → fuel ≤ most-fuel → check ns ≡ accept p
+check-runnable : (ns : List ℕ) (fuel : ℕ) (p : Program) → fuel ≤ most-fuel → check ns ≡ accept p
     → runnable ns fuel ≡ accept p
 unfolding runnable whole-rows check
 check-runnable ns fuel p l e = require-inv _ _ _ _ e λ whole passes.

@@ -11,13 +11,13 @@ use native.Mathlib.Omega.{arith}
 use Rattle.language.specs.Limits.{most-fuel}
 use Rattle.language.specs.Results.{ok, stop, Checked, accept, refuse, require-inv}
 use Rattle.language.specs.Tree.{Program}
-use Rattle.language.specs.Verdict.{whole-rows, check}
+use Rattle.language.specs.Verdict.{whole-rows}
 use Rattle.language.specs.Evaluation.{Value, State, raised, deep, spent, full, stuck, Out, with-limits, run}
 use Rattle.language.specs.Store.{capacity, stored, Outcome, gave, ended, Answer, ran, Ran, finish, runnable}
 use Rattle.language.specs.Store.{run-checked, run-of}
 use Rattle.theory.specs.Sound.{false≢}
 use Rattle.theory.specs.Accepts.{RowsOf}
-use Rattle.theory.specs.Members.{runnable-check, accepted-run}
+use Rattle.theory.specs.Members.{accepted-run}
 use Rattle.theory.specs.Cut.{final}
 use Rattle.theory.specs.Demand3World.{outcome}
 use Rattle.theory.specs.Demand2Runs.{demand-2-value, demand-2-exception}
@@ -34,26 +34,20 @@ pub finish-store : (r : Out Value) (store : List ℕ) → finish r store .store 
 finish-store (ok v s) store = refl
 finish-store (stop x s) store = refl
 
--- Rows that are run are accepted, and their fuel is within its limit: a run that ended was not refused.
-pub record RunRows (ns : List ℕ) (fuel : ℕ) : Type 0 where
-  pub program : Program
-  pub answers : check ns ≡ accept program
-  pub within-fuel : fuel ≤ most-fuel
-
 runnable-fuel : (ns : List ℕ) (fuel : ℕ) (p : Program) → runnable ns fuel ≡ accept p → fuel ≤ most-fuel
 unfolding runnable whole-rows
 runnable-fuel ns fuel p q = require-inv _ _ _ _ q λ _ q. require-inv _ _ _ _ q λ l _. leb-true fuel most-fuel l
 
-pub run-rows : (ns : List ℕ) (fuel : ℕ) (store : List ℕ) {o : Outcome} {steps objects changes : ℕ}
-    → run-of ns fuel store .answer ≡ ran o steps objects changes → RunRows ns fuel
+-- A run that ended was not refused: its fuel is within the limit.
+pub ended-within-fuel : (ns : List ℕ) (fuel : ℕ) (store : List ℕ) {o : Outcome} {steps objects changes : ℕ}
+    → run-of ns fuel store .answer ≡ ran o steps objects changes → fuel ≤ most-fuel
 unfolding run-of
-run-rows ns fuel store {o} {steps} {objects} {changes} e = go (runnable ns fuel) refl e
+ended-within-fuel ns fuel store {o} {steps} {objects} {changes} e = go (runnable ns fuel) refl e
   where
     go : (c : Checked Program) → runnable ns fuel ≡ c
-        → run-checked c fuel store .answer ≡ ran o steps objects changes → RunRows ns fuel
+        → run-checked c fuel store .answer ≡ ran o steps objects changes → fuel ≤ most-fuel
     go (refuse n l) q e = absurd (let z : _≡_ {A = ℕ} 0 1 = cc in omega arith)
-    go (accept p) q e = record
-        { program = p; answers = runnable-check ns fuel p q; within-fuel = runnable-fuel ns fuel p q }
+    go (accept p) q e = runnable-fuel ns fuel p q
 
 -- A run is its answer and its store.
 same-run : {a b : Ran} → a .answer ≡ b .answer → a .store ≡ b .store → a ≡ b
@@ -65,6 +59,7 @@ same-run {a} {b} e f = ap with-answer e ∙ ap with-store f
     with-store : List ℕ → Ran
     with-store l = record { answer = b .answer; store = l }
 
+-- The test of the two.
 abbrev value-or-exception : Outcome → Bool
 value-or-exception (gave v) = true
 value-or-exception (ended (raised n)) = true
@@ -78,6 +73,7 @@ is-value-or-exception value = refl
 is-value-or-exception exception = refl
 
 module _ (ns : List ℕ) (p : Program) (rows : RowsOf ns p) (fuel : ℕ) (l : fuel ≤ most-fuel) (store : List ℕ) where
+  -- What the run of the program gives, which the run of the rows finishes.
   abbrev result : Out Value
   result = run (with-limits fuel (capacity store)) p
 

@@ -1,4 +1,5 @@
--- Type soundness: an accepted expression, run where heap and slots fit their types, never gets stuck, and they fit afterwards.
+-- Type soundness: an accepted expression, run where heap and slots fit their types, never gets stuck, and they fit afterwards;
+-- where it stops the heap fits then.
 use mathlib.Core.Path.{_≡_, refl, sym, ap, _∙_, subst}
 use Prim.Native.Nat.{ℕ, zero, suc, _+_, _-_, _/_, _%_, _^_, _<_}
 use mathlib.Core.Option.{Option, none, some}

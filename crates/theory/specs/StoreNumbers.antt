@@ -1,7 +1,7 @@
 -- Objects read back from the numbers of a store (document 01, "Evaluation"): what the numbers of a store afterwards
 -- hold are the objects that the run made, and what held none is unchanged.
 use mathlib.Core.Path.{_≡_, refl, ap, _∙_}
-use Prim.Native.Nat.{ℕ, zero, suc, _+_, _-_, _*_, _≤_}
+use Prim.Native.Nat.{ℕ, zero, suc, _-_, _*_, _≤_}
 use mathlib.Core.Bool.{true, false}
 use mathlib.Core.Option.{some}
 use mathlib.Core.List.{List, [], _∷_, _++_, map, append-assoc}

@@ -115,7 +115,7 @@ module _ (tight wide : Most) (t : Tighter tight wide) where
     start = body-wider (i .start);
   }
 
-translator-tighter : Tighter of-translator of-check
+pub translator-tighter : Tighter of-translator of-check
 translator-tighter = record {
   rows = omega arith;
   classes = omega arith;
