@@ -1,2 +1,4 @@
 pub mod Filling
 pub mod Rows
+pub mod Letters
+pub mod Tables

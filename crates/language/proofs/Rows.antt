@@ -5,7 +5,7 @@ use mathlib.Core.Bool.{Bool, true, false, false≢true, _&&_, cond}
 use mathlib.Core.List.{List, [], _∷_}
 use Prim.Native.Nat.{ℕ, zero, suc, _<_}
 use native.Mathlib.Omega.{arith}
-use borrow.Author.Tests.{eqb-true, ltb-true}
+use borrow.Author.Tests.{eqb-true, ltb-true, lt-leb}
 use lib.Dec.{eqb, leb, ltb, leb·suc-zero, eqb·suc-zero}
 use Rattle.language.specs.Limits.{largest}
 use Rattle.language.specs.Lists.{bind-option, given, choice}
@@ -88,3 +88,10 @@ is-row-by n a b c = go (letter-among letters n) refl
     go (some l) e =
         let k : numbers l < 3 = ltb-true (numbers l) 3 (among (λ l. ltb (numbers l) 3) letters refl n l e .0) in
         given-cond (well-made l (row n a b c)) (written l a b) ∙ in-range (numbers l) a b c k
+
+-- a first number out of range, where there is one
+pub first-big : (k a b : ℕ) → (k ≡ 0 → ⊥) → 65535 < a → are-numbers k a b ≡ false
+first-big zero a b n h = absurd (n refl)
+first-big (suc zero) a b n h = rw (lt-leb a 65535 h)
+first-big (suc (suc zero)) a b n h = rw (lt-leb a 65535 h)
+first-big (suc (suc (suc k))) a b n h = refl

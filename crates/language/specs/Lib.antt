@@ -8,7 +8,10 @@ pub mod Tree
 pub mod World
 pub mod Effects
 pub mod Program
+pub mod ClassTables
+pub mod Encoded
 pub mod Form
+pub mod Tables
 pub mod Headings
 pub mod Typing
 pub mod Rules
@@ -17,6 +20,7 @@ pub mod Verdict
 pub mod Evaluation
 pub mod Runs
 pub mod Translation
+pub mod LookupClasses
 pub mod Store
 pub mod Correspondence
 pub mod Worked

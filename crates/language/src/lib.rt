@@ -1,6 +1,6 @@
 // What every service shares: the letters of records, and the answer of a service that fills a lent buffer.
 ghost use mathlib.Core.Path.{_≡_};
-ghost use Rattle.language.specs.Rows.{numbers-after};
+ghost use Rattle.language.specs.Rows.{numbers-after, row, is-row};
 
 // What filling a lent buffer answers: how many rows or bytes were written, or a refusal's number and line.
 pub enum Filled {
@@ -36,4 +36,30 @@ pub fn count_numbers(code: u32) -> u32
         74 => 0,
         _ => 3,
     }
+}
+
+// Is this a row: a letter's code, its numbers in range, the rest 0.
+pub fn is_row(code: u32, a: u32, b: u32, c: u32) -> bool
+    ensures { λ r. ⌜ r ≡ is-row (row code a b c) ⌝ }
+{
+    if c != 0 {
+        return false;
+    }
+    let count = count_numbers(code);
+    if count == 0 {
+        if a != 0 {
+            return false;
+        }
+        return b == 0;
+    }
+    if 2 < count {
+        return false;
+    }
+    if 65535 < a {
+        return false;
+    }
+    if count == 1 {
+        return b == 0;
+    }
+    b <= 65535
 }

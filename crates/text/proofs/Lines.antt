@@ -5,7 +5,7 @@ use mathlib.Core.List.{List, [], _∷_, _++_, append-assoc}
 use Prim.Native.Nat.{ℕ, zero, suc, _+_, _-_, _≤_, _<_}
 use native.Mathlib.Numerals.{add-one}
 use native.Mathlib.Omega.{arith}
-use borrow.Author.Tests.{ne-eqb, eq-eqb, lt-leb, leb-true}
+use borrow.Author.Tests.{ne-eqb, eq-eqb, leb-true}
 use lib.Dec.{eqb, leb}
 use lib.ListN.{length, getD, take, drop, set, length-drop, length-append, drop-of-length-le}
 use lib.Seq.{drop-cons, drop-drop, drop-length, take-suc, getD-drop, append-snoc, sets}
@@ -229,13 +229,6 @@ pub row-span : (s : List ℕ) (code a b n : ℕ) → line-of s ≡ Row code a b 
 unfolding line-of
 row-span [] code a b n e = let z : _≡_ {A = ℕ} 0 1 = cc in absurd (omega arith)
 row-span (x ∷ s) code a b n e = numbered-span (numbers-after x) x s code a b n e
-
--- a first number out of range, where there is one
-pub first-big : (k a b : ℕ) → (k ≡ 0 → ⊥) → 65535 < a → are-numbers k a b ≡ false
-first-big zero a b n h = absurd (n refl)
-first-big (suc zero) a b n h = rw (lt-leb a 65535 h)
-first-big (suc (suc zero)) a b n h = rw (lt-leb a 65535 h)
-first-big (suc (suc (suc k))) a b n h = refl
 
 -- a buffer with the line of a row: its letter, its numbers, the line feed
 module _ (l : List ℕ) (at code a b : ℕ) where

@@ -7,7 +7,7 @@ ghost use mathlib.Core.Logic.{_⊎_};
 ghost use Prim.Native.Nat.{_+_, _*_, _≤_, _<_};
 ghost use lib.ListN.{length, take, drop};
 ghost use lib.Seq.{sets};
-ghost use Rattle.language.specs.Rows.{numbers-after, row, is-row};
+ghost use Rattle.language.specs.Rows.{numbers-after};
 ghost use Rattle.language.specs.Filling.{answer, buffer, tally, is-made, made-numbers};
 ghost use Rattle.text.specs.Decimals.{digit-of, scan, decimal-of, digits};
 ghost use Rattle.text.specs.Lines.{field, number-of, closed, line-of, line-text, tab};
@@ -242,32 +242,6 @@ pub fn read_rows(text: &[u8], rows: &mut [u32]) -> Filled
     read_through(text, &mut held, rows)
 }
 
-// Is this a row: a letter's code, its numbers in range, the rest 0.
-fn is_row(code: u32, a: u32, b: u32, c: u32) -> bool
-    ensures { λ r. ⌜ r ≡ is-row (row code a b c) ⌝ }
-{
-    if c != 0 {
-        return false;
-    }
-    let count = language::count_numbers(code);
-    if count == 0 {
-        if a != 0 {
-            return false;
-        }
-        return b == 0;
-    }
-    if 2 < count {
-        return false;
-    }
-    if 65535 < a {
-        return false;
-    }
-    if count == 1 {
-        return b == 0;
-    }
-    b <= 65535
-}
-
 // Writes a number's digits at a place, and answers the place after them.
 fn write_decimal(text: &mut [u8], at: usize, n: u32) -> usize
     requires { ⌜ at + length (digits n) ≤ length (now text) ⌝ }
@@ -333,7 +307,7 @@ fn format_rows(rows: &[u32], held: &mut [u8]) -> Filled
         let code = rows[i];
         let a = rows[i + 1];
         let b = rows[i + 2];
-        if !is_row(code, a, b, rows[i + 3]) {
+        if !language::is_row(code, a, b, rows[i + 3]) {
             return Filled::Refused(1, line);
         }
         at = write_line(held, at, code, a, b);

@@ -1,14 +1,14 @@
--- `text::is_row` meets its contract. Assumes nothing.
+-- `language::is_row` meets its contract. Assumes nothing.
 use mathlib.Core.Path.{_≡_, sym, _∙_}
 use Prim.Native.Nat.{suc, _-_}
 use native.Mathlib.Omega.{arith}
 use borrow.Author.Needs.{needs}
-use Rattle.text.proofs.Lines.{first-big}
+use Rattle.language.proofs.Rows.{first-big}
 use Rattle.language.specs.Rows.{numbers-after}
 use Rattle.language.proofs.Rows.{is-row-by}
 use borrow.Author.Tests.{le-leb, eq-eqb, ne-eqb}
-use Rattle.text.proofs.is_row.Statement.{statement}
-use Rattle.text.proofs.is_row.Tie as tie
+use Rattle.language.proofs.is_row.Statement.{statement}
+use Rattle.language.proofs.is_row.Tie as tie
 
 returns : tie.Need-returns
 returns c =

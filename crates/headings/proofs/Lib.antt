@@ -1,0 +1,12 @@
+pub mod Lines
+pub mod Checks
+pub mod Sets
+pub mod Loops
+pub mod Tables
+pub mod Fields
+pub mod Methods
+pub mod Entering
+pub mod Classes
+pub mod Passing
+pub mod Whole
+pub mod Example

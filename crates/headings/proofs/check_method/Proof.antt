@@ -1,0 +1,159 @@
+-- `headings::check_method` meets its contract. Assumes nothing.
+use mathlib.Core.Path.{refl}
+use Prim.Native.Nat.{_-_}
+use native.Mathlib.Omega.{arith}
+use borrow.Author.Needs.{needs}
+use Rattle.headings.proofs.Lines.{method-parameters, method-effects}
+use Rattle.headings.proofs.Entering.{method-here, method-counted, method-types, method-effects-ready, method-refused, method-parameters-refused, method-effects-refused, method-entered, method-working}
+use Rattle.headings.proofs.Checks.{not-both}
+use Rattle.headings.proofs.check_method.Statement.{statement}
+use Rattle.headings.proofs.check_method.Tie as tie
+
+add-count-rows : tie.Need-add-count-rows
+add-count-rows c = search needs
+
+count-rows-requires : tie.Need-count-rows-requires
+count-rows-requires c κs = method-parameters (method-here (c .before .before .pre))
+
+add-count-rows-2 : tie.Need-add-count-rows-2
+add-count-rows-2 c = search needs
+
+add-count-rows-3 : tie.Need-add-count-rows-3
+add-count-rows-3 c = (let v = method-effects (method-here (c .before .before .before .pre)) (c .count-rows .result) (c .count-rows .ensures) in omega (arith, v .within, c .before .before .before .pre .classed .short))
+
+count-rows-requires-2 : tie.Need-count-rows-requires-2
+count-rows-requires-2 c κs = method-effects (method-here (c .before .before .before .pre)) (c .count-rows .result) (c .count-rows .ensures)
+
+method-fault-requires : tie.Need-method-fault-requires
+method-fault-requires c κs = method-counted (c .before .before .before .before .before .pre) (c .before .before .count-rows .result) (c .before .count-rows2 .result) (c .before .before .count-rows .ensures) (c .before .count-rows2 .ensures)
+
+add-t18 : tie.Need-add-t18
+add-t18 c = search needs
+
+cast-t19 : tie.Need-cast-t19
+cast-t19 c = search needs
+
+same-length : tie.Need-same-length
+same-length c = search needs
+
+returns : tie.Need-returns
+returns c = λ w. (method-refused w (c .before .before .before .before .count-rows .result) (c .before .before .before .count-rows2 .result) (c .before .before .before .before .count-rows .ensures) (c .before .before .before .count-rows2 .ensures) (c .before .method-fault .result) (c .before .method-fault .ensures) (c .if1 .taken), λ e. not-both e refl)
+
+add-check-parameters : tie.Need-add-check-parameters
+add-check-parameters c = search needs
+
+check-parameters-requires : tie.Need-check-parameters-requires
+check-parameters-requires c κs = method-types (c .before .before .before .before .before .before .before .pre) (c .before .before .before .before .count-rows .result) (c .before .before .before .count-rows2 .result) (c .before .before .before .before .count-rows .ensures) (c .before .before .before .count-rows2 .ensures)
+
+enum-told : tie.Need-enum-told
+enum-told c = search needs
+
+enum-told-2 : tie.Need-enum-told-2
+enum-told-2 c = search needs
+
+same-length-2 : tie.Need-same-length-2
+same-length-2 c = search needs
+
+returns-2 : tie.Need-returns-2
+returns-2 c = λ w. (method-parameters-refused w (c .before .before .before .before .before .before .before .count-rows .result) (c .before .before .before .before .before .before .count-rows2 .result) (c .before .before .before .before .before .before .before .count-rows .ensures) (c .before .before .before .before .before .before .count-rows2 .ensures) (c .before .before .before .before .method-fault .result) (c .before .before .before .before .method-fault .ensures) (c .before .before .before .if1 .left) (c .before .before .check-parameters .result) (c .before .before .check-parameters .ensures) (c .enum-told2 .given .0 .0) (c .enum-told2 .given .0 .1 .0) (c .enum-told2 .given .1), λ e. not-both e (c .enum-told2 .given .1))
+
+add-check-effects : tie.Need-add-check-effects
+add-check-effects c = search needs
+
+add-check-effects-2 : tie.Need-add-check-effects-2
+add-check-effects-2 c = (let v = method-effects (method-here (c .before .before .before .before .before .before .before .before .before .before .before .pre)) (c .before .before .before .before .before .before .before .before .count-rows .result) (c .before .before .before .before .before .before .before .before .count-rows .ensures) in omega (arith, v .within, c .before .before .before .before .before .before .before .before .before .before .before .pre .classed .short))
+
+check-effects-requires : tie.Need-check-effects-requires
+check-effects-requires c κs = method-effects-ready (c .before .before .before .before .before .before .before .before .before .before .before .pre) (c .before .before .before .before .before .before .before .before .count-rows .result) (c .before .before .before .before .before .before .before .count-rows2 .result) (c .before .before .before .before .before .before .before .before .count-rows .ensures) (c .before .before .before .before .before .before .before .count-rows2 .ensures)
+
+enum-told-3 : tie.Need-enum-told-3
+enum-told-3 c = search needs
+
+enum-told-4 : tie.Need-enum-told-4
+enum-told-4 c = search needs
+
+same-length-3 : tie.Need-same-length-3
+same-length-3 c = search needs
+
+returns-3 : tie.Need-returns-3
+returns-3 c = λ w. (method-effects-refused w (c .before .before .before .before .before .before .before .before .before .before .before .count-rows .result) (c .before .before .before .before .before .before .before .before .before .before .count-rows2 .result) (c .before .before .before .before .before .before .before .before .before .before .before .count-rows .ensures) (c .before .before .before .before .before .before .before .before .before .before .count-rows2 .ensures) (c .before .before .before .before .before .before .before .before .method-fault .result) (c .before .before .before .before .before .before .before .before .method-fault .ensures) (c .before .before .before .before .before .before .before .if1 .left) (c .before .before .before .before .before .before .check-parameters .result) (c .before .before .before .before .before .before .check-parameters .ensures) (c .before .before .before .before .enum-told .given .1) (c .before .before .check-effects .result) (c .before .before .check-effects .ensures), λ e. not-both e (c .enum-told4 .given .1))
+
+mul-name : tie.Need-mul-name
+mul-name c = search needs
+
+add-name : tie.Need-add-name
+add-name c = search needs
+
+mul-name-2 : tie.Need-mul-name-2
+mul-name-2 c = search needs
+
+shared-slice-read-name : tie.Need-shared-slice-read-name
+shared-slice-read-name c = search needs
+
+cast-name : tie.Need-cast-name
+cast-name c = search needs
+
+add-tables : tie.Need-add-tables
+add-tables c = search needs
+
+cast-tables : tie.Need-cast-tables
+cast-tables c = search needs
+
+add-tables-2 : tie.Need-add-tables-2
+add-tables-2 c = search needs
+
+add-tables-3 : tie.Need-add-tables-3
+add-tables-3 c = search needs
+
+mul-tables : tie.Need-mul-tables
+mul-tables c = search needs
+
+slice-write-tables : tie.Need-slice-write-tables
+slice-write-tables c = search needs
+
+same-length-4 : tie.Need-same-length-4
+same-length-4 c = search needs
+
+returns-4 : tie.Need-returns-4
+returns-4 c = λ w. (method-entered w (c .before .before .before .before .before .before .before .before .before .before .before .before .count-rows .result) (c .before .before .before .before .before .before .before .before .before .before .before .count-rows2 .result) (c .before .before .before .before .before .before .before .before .before .before .before .before .count-rows .ensures) (c .before .before .before .before .before .before .before .before .before .before .before .count-rows2 .ensures) (c .before .before .before .before .before .before .before .before .before .method-fault .result) (c .before .before .before .before .before .before .before .before .before .method-fault .ensures) (c .before .before .before .before .before .before .before .before .if1 .left) (c .before .before .before .before .before .before .before .check-parameters .result) (c .before .before .before .before .before .before .before .check-parameters .ensures) (c .before .before .before .before .before .enum-told .given .1) (c .before .before .before .check-effects .result) (c .before .before .before .check-effects .ensures) (c .before .enum-told3 .given .1), λ e. method-working w)
+
+pub check-method-spec : {M : Type 1} → statement M
+check-method-spec =
+    tie.close
+    (tie.spec
+    add-count-rows
+    count-rows-requires
+    add-count-rows-2
+    add-count-rows-3
+    count-rows-requires-2
+    method-fault-requires
+    add-t18
+    cast-t19
+    same-length
+    returns
+    add-check-parameters
+    check-parameters-requires
+    enum-told
+    enum-told-2
+    same-length-2
+    returns-2
+    add-check-effects
+    add-check-effects-2
+    check-effects-requires
+    enum-told-3
+    enum-told-4
+    same-length-3
+    returns-3
+    mul-name
+    add-name
+    mul-name-2
+    shared-slice-read-name
+    cast-name
+    add-tables
+    cast-tables
+    add-tables-2
+    add-tables-3
+    mul-tables
+    slice-write-tables
+    same-length-4
+    returns-4)

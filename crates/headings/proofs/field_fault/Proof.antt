@@ -1,0 +1,101 @@
+-- `headings::field_fault` meets its contract. Assumes nothing.
+use mathlib.Core.Path.{sym, _∙_}
+use Prim.Native.Nat.{_-_}
+use borrow.Author.Needs.{needs}
+use Rattle.headings.proofs.Fields.{field-full, field-undeclared, field-twice, field-state, field-fine}
+use borrow.Author.Tests.{not-true, not-false}
+use Rattle.headings.proofs.field_fault.Statement.{statement}
+use Rattle.headings.proofs.field_fault.Tie as tie
+
+add-if1 : tie.Need-add-if1
+add-if1 c = search needs
+
+mul-if1 : tie.Need-mul-if1
+mul-if1 c = search needs
+
+shared-slice-read-if1 : tie.Need-shared-slice-read-if1
+shared-slice-read-if1 c = search needs
+
+returns : tie.Need-returns
+returns c = λ w. field-full w (c .if1 .taken)
+
+mul-t : tie.Need-mul-t
+mul-t c = search needs
+
+add-t : tie.Need-add-t
+add-t c = search needs
+
+mul-t-2 : tie.Need-mul-t-2
+mul-t-2 c = search needs
+
+shared-slice-read-t : tie.Need-shared-slice-read-t
+shared-slice-read-t c = search needs
+
+is-declared-requires : tie.Need-is-declared-requires
+is-declared-requires c κs = search needs
+
+returns-2 : tie.Need-returns-2
+returns-2 c = λ w. field-undeclared w (c .before .before .before .if1 .left) (sym (c .before .is-declared .ensures (w .P) (w .count-is)) ∙ not-true _ (c .if2 .taken))
+
+mul-name : tie.Need-mul-name
+mul-name c = search needs
+
+add-name : tie.Need-add-name
+add-name c = search needs
+
+mul-name-2 : tie.Need-mul-name-2
+mul-name-2 c = search needs
+
+shared-slice-read-name : tie.Need-shared-slice-read-name
+shared-slice-read-name c = search needs
+
+cast-name : tie.Need-cast-name
+cast-name c = search needs
+
+add-if3 : tie.Need-add-if3
+add-if3 c = search needs
+
+mul-if3 : tie.Need-mul-if3
+mul-if3 c = search needs
+
+shared-slice-read-if3 : tie.Need-shared-slice-read-if3
+shared-slice-read-if3 c = search needs
+
+returns-3 : tie.Need-returns-3
+returns-3 c = λ w. field-twice w (c .before .before .before .before .before .before .if1 .left) (sym (c .before .before .before .before .is-declared .ensures (w .P) (w .count-is)) ∙ not-false _ (c .before .before .before .if2 .left)) (c .if3 .taken)
+
+is-state-requires : tie.Need-is-state-requires
+is-state-requires c κs = record { P = c .before .before .before .before .before .before .before .before .before .before .pre .P; k = c .before .before .before .before .before .before .before .before .before .before .pre .k; lookups = c .before .before .before .before .before .before .before .before .before .before .pre .working .lookups; known = (sym (c .before .before .before .before .is-declared .ensures (c .before .before .before .before .before .before .before .before .before .before .pre .P) (c .before .before .before .before .before .before .before .before .before .before .pre .count-is)) ∙ not-false _ (c .before .before .before .if2 .left)) }
+
+returns-4 : tie.Need-returns-4
+returns-4 c = λ w. field-state w (c .before .before .before .before .before .before .before .before .if1 .left) (sym (c .before .before .before .before .before .before .is-declared .ensures (w .P) (w .count-is)) ∙ not-false _ (c .before .before .before .before .before .if2 .left)) (c .before .before .if3 .left) (c .before .is-state .result) (c .before .is-state .ensures (record { P = w .P; k = w .k; lookups = w .working .lookups; known = (sym (c .before .before .before .before .before .before .is-declared .ensures (w .P) (w .count-is)) ∙ not-false _ (c .before .before .before .before .before .if2 .left)) })) (c .if4 .taken)
+
+returns-5 : tie.Need-returns-5
+returns-5 c = λ w. field-fine w (c .before .before .before .before .before .before .before .before .if1 .left) (sym (c .before .before .before .before .before .before .is-declared .ensures (w .P) (w .count-is)) ∙ not-false _ (c .before .before .before .before .before .if2 .left)) (c .before .before .if3 .left) (c .before .is-state .result) (c .before .is-state .ensures (record { P = w .P; k = w .k; lookups = w .working .lookups; known = (sym (c .before .before .before .before .before .before .is-declared .ensures (w .P) (w .count-is)) ∙ not-false _ (c .before .before .before .before .before .if2 .left)) })) (c .if4 .left)
+
+pub field-fault-spec : {M : Type 1} → statement M
+field-fault-spec =
+    tie.close
+    (tie.spec
+    add-if1
+    mul-if1
+    shared-slice-read-if1
+    returns
+    mul-t
+    add-t
+    mul-t-2
+    shared-slice-read-t
+    is-declared-requires
+    returns-2
+    mul-name
+    add-name
+    mul-name-2
+    shared-slice-read-name
+    cast-name
+    add-if3
+    mul-if3
+    shared-slice-read-if3
+    returns-3
+    is-state-requires
+    returns-4
+    returns-5)

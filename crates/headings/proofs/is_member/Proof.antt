@@ -1,0 +1,22 @@
+-- `headings::is_member` meets its contract. Assumes nothing.
+use Prim.Native.Nat.{_-_}
+use lib.ListN.{set}
+use borrow.Author.Needs.{needs}
+use Rattle.headings.proofs.Sets.{member-mask}
+use Rattle.headings.proofs.is_member.Statement.{statement}
+use Rattle.headings.proofs.is_member.Tie as tie
+
+sub-result : tie.Need-sub-result
+sub-result c = search needs
+
+cast-result : tie.Need-cast-result
+cast-result c = search needs
+
+shr-result : tie.Need-shr-result
+shr-result c = search needs
+
+returns : tie.Need-returns
+returns c = member-mask (c .args .set) (c .args .c)
+
+pub is-member-spec : {M : Type 1} → statement M
+is-member-spec = tie.close (tie.spec sub-result cast-result shr-result returns)

@@ -1,0 +1,104 @@
+-- `headings::method_fault` meets its contract. Assumes nothing.
+use mathlib.Core.Path.{sym, ap, _∙_}
+use Prim.Native.Nat.{_+_, _-_, _*_}
+use native.Mathlib.Omega.{arith}
+use lib.ListN.{getD}
+use borrow.Author.Needs.{needs}
+use Rattle.headings.proofs.Methods.{method-undeclared, method-twice, method-first, override-ready, method-overrides}
+use borrow.Author.Tests.{not-true, not-false}
+use mathlib.Core.Bool.{cond}
+use Rattle.headings.proofs.method_fault.Statement.{statement}
+use Rattle.headings.proofs.method_fault.Tie as tie
+
+mul-is-declared : tie.Need-mul-is-declared
+mul-is-declared c = search needs
+
+add-is-declared : tie.Need-add-is-declared
+add-is-declared c = search needs
+
+mul-is-declared-2 : tie.Need-mul-is-declared-2
+mul-is-declared-2 c = search needs
+
+shared-slice-read-is-declared : tie.Need-shared-slice-read-is-declared
+shared-slice-read-is-declared c = search needs
+
+is-declared-requires : tie.Need-is-declared-requires
+is-declared-requires c κs = search needs
+
+returns : tie.Need-returns
+returns c = λ w. method-undeclared w (sym (c .before .is-declared .ensures (w .ready .classed .classes) (w .ready .count-is)) ∙ not-true _ (c .if1 .taken))
+
+mul-name : tie.Need-mul-name
+mul-name c = search needs
+
+add-name : tie.Need-add-name
+add-name c = search needs
+
+mul-name-2 : tie.Need-mul-name-2
+mul-name-2 c = search needs
+
+shared-slice-read-name : tie.Need-shared-slice-read-name
+shared-slice-read-name c = search needs
+
+cast-name : tie.Need-cast-name
+cast-name c = search needs
+
+add-entry : tie.Need-add-entry
+add-entry c = search needs
+
+add-entry-2 : tie.Need-add-entry-2
+add-entry-2 c = search needs
+
+mul-entry : tie.Need-mul-entry
+mul-entry c = search needs
+
+shared-slice-read-entry : tie.Need-shared-slice-read-entry
+shared-slice-read-entry c = search needs
+
+cast-entry : tie.Need-cast-entry
+cast-entry c = omega (arith, c .shared-slice-known5 .given ((c .before .before .before .before .before .before .before .args .base) + 256 + getD (c .before .before .before .before .before .before .before .args .rows .now) ((c .before .before .before .before .before .before .before .args .r) * 4 + 2) 0))
+
+returns-2 : tie.Need-returns-2
+returns-2 c = λ w. method-twice w (sym (c .before .before .before .before .is-declared .ensures (w .ready .classed .classes) (w .ready .count-is)) ∙ not-false _ (c .before .before .before .if1 .left)) (c .if2 .taken)
+
+returns-3 : tie.Need-returns-3
+returns-3 c = λ w. method-first w (sym (c .before .before .before .before .before .is-declared .ensures (w .ready .classed .classes) (w .ready .count-is)) ∙ not-false _ (c .before .before .before .before .if1 .left)) (c .before .if2 .left) (c .if3 .taken)
+
+sub-may-override : tie.Need-sub-may-override
+sub-may-override c = search needs
+
+may-override-requires : tie.Need-may-override-requires
+may-override-requires c κs = override-ready (c .before .before .before .before .before .before .before .before .before .pre) (sym (c .before .before .before .before .before .is-declared .ensures (c .before .before .before .before .before .before .before .before .before .pre .ready .classed .classes) (c .before .before .before .before .before .before .before .before .before .pre .ready .count-is)) ∙ not-false _ (c .before .before .before .before .if1 .left)) (c .before .if2 .left) (c .if3 .left)
+
+returns-4 : tie.Need-returns-4
+returns-4 c = λ w. ap (λ b. cond b 0 6) (sym (c .if4 .taken)) ∙ method-overrides w (sym (c .before .before .before .before .before .before .before .is-declared .ensures (w .ready .classed .classes) (w .ready .count-is)) ∙ not-false _ (c .before .before .before .before .before .before .if1 .left)) (c .before .before .before .if2 .left) (c .before .before .if3 .left) (c .before .may-override .result) (c .before .may-override .ensures)
+
+returns-5 : tie.Need-returns-5
+returns-5 c = λ w. ap (λ b. cond b 0 6) (sym (c .if4 .left)) ∙ method-overrides w (sym (c .before .before .before .before .before .before .before .is-declared .ensures (w .ready .classed .classes) (w .ready .count-is)) ∙ not-false _ (c .before .before .before .before .before .before .if1 .left)) (c .before .before .before .if2 .left) (c .before .before .if3 .left) (c .before .may-override .result) (c .before .may-override .ensures)
+
+pub method-fault-spec : {M : Type 1} → statement M
+method-fault-spec =
+    tie.close
+    (tie.spec
+    mul-is-declared
+    add-is-declared
+    mul-is-declared-2
+    shared-slice-read-is-declared
+    is-declared-requires
+    returns
+    mul-name
+    add-name
+    mul-name-2
+    shared-slice-read-name
+    cast-name
+    add-entry
+    add-entry-2
+    mul-entry
+    shared-slice-read-entry
+    cast-entry
+    returns-2
+    returns-3
+    sub-may-override
+    may-override-requires
+    returns-4
+    returns-5)

@@ -1,0 +1,216 @@
+-- What each function of the heading pass is called on: the part of a program that its rows hold, and what the tables hold.
+use mathlib.Core.Path.{_≡_}
+use Prim.Native.Nat.{ℕ, _+_, _*_, _≤_, _<_}
+use mathlib.Core.Bool.{true}
+use mathlib.Core.Option.{Option, none, some}
+use mathlib.Core.List.{List}
+use lib.ListN.{length, getD}
+use lib.Dec.{eqb}
+use Rattle.language.specs.Lists.{choice, given}
+use Rattle.language.specs.Tree.{DeclaredType, type-of-number, kind-number, Field, Declaration, Class}
+use Rattle.language.specs.World.{place, is-declared-type}
+use Rattle.language.specs.Program.{declared, class-at, world}
+use Rattle.language.specs.Headings.{is-some}
+use Rattle.language.specs.ClassTables.{class-row, method-row}
+use Rattle.headings.specs.HeadingLines.{EffectsAt, ParametersAt, MethodAt, MethodsAt, FieldAt, FieldsAt, ClassAt, ClassesAt}
+use Rattle.headings.specs.Blocks.{Lookups, Working}
+
+-- A part of a list was copied to a place after it.
+pub record Copied (T T′ : List ℕ) (from to n : ℕ) : Type 0 where
+  pub long : length T′ ≡ length T
+  pub part : (i : ℕ) → i < n → getD T′ (to + i) 0 ≡ getD T (from + i) 0
+  pub before : (j : ℕ) → j < to → getD T′ j 0 ≡ getD T j 0
+  pub after : (j : ℕ) → to + n ≤ j → getD T′ j 0 ≡ getD T j 0
+
+-- The first block is clear.
+pub record Cleared (T T′ : List ℕ) (n : ℕ) : Type 0 where
+  pub long : length T′ ≡ length T
+  pub zero : (i : ℕ) → i < n → getD T′ i 0 ≡ 0
+
+-- The rows and the table of ends are those of a program with these classes.
+pub record Classed (R E : List ℕ) : Type 0 where
+  pub classes : List Class
+  pub here : ClassesAt R E classes 0
+  pub few : length classes ≤ 64
+  pub short : length R ≤ 240000
+
+pub record MethodHere (R E : List ℕ) (r : ℕ) : Type 0 where
+  pub method : Declaration
+  pub at : MethodAt R E method r
+  pub short : length R ≤ 240000
+
+pub record ClassHere (R E : List ℕ) (r : ℕ) : Type 0 where
+  pub one : Class
+  pub at : ClassAt R E one r
+  pub short : length R ≤ 240000
+
+pub record ReadReady (R E T : List ℕ) : Type 0 where
+  pub classed : Classed R E
+  pub long : (length (classed .classes) + 1) * 576 ≤ length T
+  pub zero : (i : ℕ) → i < 576 → getD T i 0 ≡ 0
+
+pub record StateReady (T : List ℕ) (t : ℕ) : Type 0 where
+  pub P : List Class
+  pub k : ℕ
+  pub lookups : Lookups P k T
+  pub known : is-declared-type (world P) (type-of-number t) ≡ true
+
+-- An F line in a class whose block is in the making.
+pub record FieldReady (R T : List ℕ) (r base count : ℕ) : Type 0 where
+  pub P : List Class
+  pub k : ℕ
+  pub fields : List Field
+  pub rows : List ℕ
+  pub methods : ℕ → Option ℕ
+  pub working : Working P k T fields rows methods
+  pub field : Field
+  pub at : FieldAt R field r
+  pub base-is : base ≡ k * 576
+  pub count-is : count ≡ length P
+  pub short : length R ≤ 240000
+
+pub record EnterReady (R T : List ℕ) (r base : ℕ) : Type 0 where
+  pub P : List Class
+  pub k : ℕ
+  pub fields : List Field
+  pub rows : List ℕ
+  pub methods : ℕ → Option ℕ
+  pub working : Working P k T fields rows methods
+  pub field : Field
+  pub at : FieldAt R field r
+  pub base-is : base ≡ k * 576
+  pub short : length R ≤ 240000
+  pub room : length fields < 17
+  pub new : place (field .name) fields ≡ none
+
+pub record FieldsReady (R T : List ℕ) (r n base count : ℕ) : Type 0 where
+  pub P : List Class
+  pub k : ℕ
+  pub fields : List Field
+  pub rows : List ℕ
+  pub methods : ℕ → Option ℕ
+  pub working : Working P k T fields rows methods
+  pub ends : List ℕ
+  pub declarations : List Declaration
+  pub own : List Field
+  pub here : FieldsAt R ends declarations own r
+  pub n-is : n ≡ length own
+  pub base-is : base ≡ k * 576
+  pub count-is : count ≡ length P
+  pub short : length R ≤ 240000
+
+-- X lines.
+pub record EffectLines (R : List ℕ) (r n : ℕ) : Type 0 where
+  pub ends : List ℕ
+  pub size : ℕ
+  pub effects : List ℕ
+  pub here : EffectsAt R ends size effects r
+  pub n-is : n ≡ length effects
+  pub short : length R ≤ 240000
+
+-- P lines.
+pub record ParameterLines (R : List ℕ) (r n : ℕ) : Type 0 where
+  pub ends : List ℕ
+  pub size : ℕ
+  pub effects : List ℕ
+  pub types : List DeclaredType
+  pub here : ParametersAt R ends size effects types r
+  pub n-is : n ≡ length types
+  pub short : length R ≤ 240000
+
+-- A method and the one that it overrides.
+pub record OverrideReady (R : List ℕ) (r np nx over : ℕ) : Type 0 where
+  pub ends : List ℕ
+  pub method : Declaration
+  pub overridden : Declaration
+  pub at : MethodAt R ends method r
+  pub over-at : MethodAt R ends overridden over
+  pub np-is : np ≡ length (method .parameters)
+  pub nx-is : nx ≡ length (method .effects)
+  pub short : length R ≤ 240000
+
+pub record EffectReady (T : List ℕ) (count : ℕ) : Type 0 where
+  pub P : List Class
+  pub k : ℕ
+  pub lookups : Lookups P k T
+  pub count-is : count ≡ length P
+
+pub record EffectsReady (R T : List ℕ) (r n count : ℕ) : Type 0 where
+  pub table : EffectReady T count
+  pub lines : EffectLines R r n
+
+-- The rows of methods by name: those of the class itself, else those of its superclass.
+abbrev pub own-or : (ℕ → Option ℕ) → (ℕ → Option ℕ) → ℕ → Option ℕ
+own-or own others m = given (own m) (others m) λ r. some r
+
+abbrev pub with-row : ℕ → ℕ → (ℕ → Option ℕ) → ℕ → Option ℕ
+with-row name r others m = choice (eqb name m) (λ _. some r) (λ _. others m)
+
+-- An M line in class k, whose C line has row `first`, after the methods before it.
+pub record MethodReady (R T : List ℕ) (r base first count : ℕ) : Type 0 where
+  pub ends : List ℕ
+  pub classed : Classed R ends
+  pub k : ℕ
+  pub super : ℕ
+  pub fields : List Field
+  pub rows : List ℕ
+  pub own : ℕ → Option ℕ
+  pub before : List Declaration
+  pub working : Working (classed .classes) k T fields rows (own-or own (method-row (classed .classes) super))
+  pub names : (m : ℕ) → is-some (declared before m) ≡ is-some (own m)
+  pub later : (m q : ℕ) → own m ≡ some q → first < q
+  pub inherited : (m q : ℕ) → method-row (classed .classes) super m ≡ some q → q < first
+  pub method : Declaration
+  pub at : MethodAt R ends method r
+  pub base-is : base ≡ k * 576
+  pub count-is : count ≡ length (classed .classes)
+
+pub record MethodCounted (R T : List ℕ) (r np nx base first count : ℕ) : Type 0 where
+  pub ready : MethodReady R T r base first count
+  pub np-is : np ≡ length (ready .method .parameters)
+  pub nx-is : nx ≡ length (ready .method .effects)
+
+pub record MethodsReady (R E T : List ℕ) (r base first count : ℕ) : Type 0 where
+  pub classed : Classed R E
+  pub k : ℕ
+  pub super : ℕ
+  pub fields : List Field
+  pub rows : List ℕ
+  pub working : Working (classed .classes) k T fields rows (method-row (classed .classes) super)
+  pub inherited : (m q : ℕ) → method-row (classed .classes) super m ≡ some q → q < first
+  pub later : first < r
+  pub methods : List Declaration
+  pub here : MethodsAt R E methods r
+  pub base-is : base ≡ k * 576
+  pub count-is : count ≡ length (classed .classes)
+
+pub record StartReady (T : List ℕ) (k over kind : ℕ) : Type 0 where
+  pub P : List Class
+  pub lookups : Lookups P k T
+  pub one : Class
+  pub is : class-at P k ≡ some one
+  pub over-is : over ≡ one .super
+  pub earlier : over < k
+  pub kind-is : kind ≡ kind-number (one .kind)
+
+pub record ClassReady (R E T : List ℕ) (k r count : ℕ) : Type 0 where
+  pub classed : Classed R E
+  pub lookups : Lookups (classed .classes) k T
+  pub one : Class
+  pub is : class-at (classed .classes) k ≡ some one
+  pub at : ClassAt R E one r
+  pub row-is : r ≡ class-row (classed .classes) k
+  pub count-is : count ≡ length (classed .classes)
+
+pub record ClassesReady (R E T A : List ℕ) (count : ℕ) : Type 0 where
+  pub classed : Classed R E
+  pub lookups : Lookups (classed .classes) 1 T
+  pub long-above : length (classed .classes) + 1 ≤ length A
+  pub object : getD A 0 0 ≡ 0
+  pub count-is : count ≡ length (classed .classes)
+
+-- The pass itself: the rows of a program, and tables that are long enough.
+pub record HeadingsReady (R E T A : List ℕ) : Type 0 where
+  pub classed : Classed R E
+  pub long : (length (classed .classes) + 1) * 576 ≤ length T
+  pub long-above : length (classed .classes) + 1 ≤ length A

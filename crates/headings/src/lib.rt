@@ -1,0 +1,522 @@
+// The pass over headings (document 01, "Headings"): classes, fields and methods as they are declared.
+ghost use mathlib.Core.Path.{_≡_};
+ghost use mathlib.Core.Bool.{true};
+ghost use mathlib.Core.Option.{some};
+ghost use mathlib.Core.List.{List, [], _∷_, _++_};
+ghost use Prim.Native.Nat.{_+_, _*_, _%_, _^_, _≤_, _<_};
+ghost use lib.ListN.{length};
+ghost use Rattle.language.specs.Limits.{of-check};
+ghost use Rattle.language.specs.Tree.{type-of-number, kind-of-number, method-lines, class-lines, Class};
+ghost use Rattle.language.specs.World.{is-declared-type};
+ghost use Rattle.language.specs.Program.{world, is-state-type, method-of};
+ghost use Rattle.language.specs.Effects.{effect-of, effect-of-all, member};
+ghost use Rattle.language.specs.ClassTables.{ClassTables, rows-from, declared-row, method-row, field-rows};
+ghost use Rattle.language.specs.Headings.{may-extend, may-override, same-types, lines-within, check-fields, check-parameters, check-effects, check-methods, check-class, headings};
+ghost use Rattle.headings.specs.Answers.{headed};
+ghost use Rattle.headings.specs.HeadingLines.{Run};
+ghost use Rattle.headings.specs.Blocks.{Lookups, Working};
+ghost use Rattle.headings.specs.Faults.{fault-of-field, fault-of-method, fault-of-effect, check-heading};
+ghost use Rattle.headings.specs.Ready.{Copied, Cleared, MethodHere, ClassHere, ReadReady, StateReady, FieldReady, EnterReady, FieldsReady, EffectLines, ParameterLines, OverrideReady, EffectReady, EffectsReady, own-or, with-row, MethodReady, MethodCounted, MethodsReady, StartReady, ClassReady, ClassesReady, HeadingsReady};
+
+// What the pass answers: that all is well, or a refusal's number and line.
+pub enum Headed {
+    Passed,
+    Refused(u32, u32),
+}
+
+// How many rows from one on have a letter.
+fn count_rows(rows: &[u32], r: usize, letter: u32) -> usize
+    requires { ⌜ Run (now rows) r letter ⌝ }
+    ensures { λ n. ⌜ ((w : Run (now (rows .entry)) r letter) → n ≡ w .count) ⌝ }
+{
+    let mut i = 0;
+    while rows[(r + i) * 4] == letter {
+        i += 1;
+    }
+    i
+}
+
+// The row after a method's body.
+fn skip_method(rows: &[u32], ends: &[u16], r: usize) -> usize
+    requires { ⌜ MethodHere (now rows) (now ends) r ⌝ }
+    ensures { λ n. ⌜ ((w : MethodHere (now (rows .entry)) (now (ends .entry)) r) → n ≡ r + method-lines (w .method)) ⌝ }
+{
+    let p = count_rows(rows, r + 1, 80);
+    let x = count_rows(rows, r + 1 + p, 88);
+    ends[r + 1 + p + x] as usize
+}
+
+// The row after a class.
+fn skip_class(rows: &[u32], ends: &[u16], r: usize) -> usize
+    requires { ⌜ ClassHere (now rows) (now ends) r ⌝ }
+    ensures { λ n. ⌜ ((w : ClassHere (now (rows .entry)) (now (ends .entry)) r) → n ≡ r + class-lines (w .one)) ⌝ }
+{
+    let n = count_rows(rows, r + 1, 70);
+    let mut at = r + 1 + n;
+    while rows[at * 4] == 77 {
+        at = skip_method(rows, ends, at);
+    }
+    at
+}
+
+// Reads the kind and the superclass of every class, and answers how many classes there are.
+fn read_classes(rows: &[u32], ends: &[u16], tables: &mut [u16]) -> usize
+    requires { ⌜ ReadReady (now rows) (now ends) (now tables) ⌝ }
+    ensures { λ n. ⌜ ((w : ReadReady (now (rows .entry)) (now (ends .entry)) (now (tables .entry))) → (n ≡ length (w .classed .classes)) × Lookups (w .classed .classes) 1 (now (tables .exit))) ⌝ }
+{
+    let mut k = 0;
+    let mut r = 0;
+    while rows[r * 4] == 67 {
+        k += 1;
+        tables[k * 576 + 512] = rows[r * 4 + 1] as u16;
+        tables[k * 576 + 513] = rows[r * 4 + 2] as u16;
+        r = skip_class(rows, ends, r);
+    }
+    k
+}
+
+// Clears the block of Object.
+fn clear_object(tables: &mut [u16])
+    requires { ⌜ 576 ≤ length (now tables) ⌝ }
+    ensures { λ _. ⌜ Cleared (now (tables .entry)) (now (tables .exit)) 576 ⌝ }
+{
+    let mut i = 0;
+    while i < 576 {
+        tables[i] = 0;
+        i += 1;
+    }
+}
+
+// Copies a part of the table to another place after it.
+fn copy_part(tables: &mut [u16], from: usize, to: usize, n: usize)
+    requires { ⌜ (from + n ≤ to) × (to + n ≤ length (now tables)) ⌝ }
+    ensures { λ _. ⌜ Copied (now (tables .entry)) (now (tables .exit)) from to n ⌝ }
+{
+    let mut i = 0;
+    while i < n {
+        tables[to + i] = tables[from + i];
+        i += 1;
+    }
+}
+
+// Is this the number of a type that the program declares.
+fn is_declared(t: u32, count: usize) -> bool
+    ensures { λ b. ⌜ ((P : List Class) → count ≡ length P → b ≡ is-declared-type (world P) (type-of-number t)) ⌝ }
+{
+    if t == 255 {
+        return true;
+    }
+    t as usize <= count
+}
+
+// Is this the number of a state class.
+fn is_state(tables: &[u16], t: u32) -> bool
+    requires { ⌜ StateReady (now tables) t ⌝ }
+    ensures { λ b. ⌜ ((w : StateReady (now (tables .entry)) t) → b ≡ is-state-type (w .P) (type-of-number t)) ⌝ }
+{
+    if t == 255 {
+        return false;
+    }
+    tables[t as usize * 576 + 512] == 2
+}
+
+// The first fault of an F line, or 0.
+fn field_fault(rows: &[u32], tables: &[u16], r: usize, base: usize, count: usize) -> u32
+    requires { ⌜ FieldReady (now rows) (now tables) r base count ⌝ }
+    ensures { λ n. ⌜ ((w : FieldReady (now (rows .entry)) (now (tables .entry)) r base count) → n ≡ fault-of-field (w .P) (w .fields) (w .field)) ⌝ }
+{
+    if 17 <= tables[base + 515] {
+        return 2;
+    }
+    let t = rows[r * 4 + 1];
+    if !is_declared(t, count) {
+        return 4;
+    }
+    let name = rows[r * 4 + 2] as usize;
+    if tables[base + name] != 0 {
+        return 4;
+    }
+    if is_state(tables, t) {
+        return 5;
+    }
+    0
+}
+
+// Enters the field of an F line.
+fn enter_field(rows: &[u32], tables: &mut [u16], r: usize, base: usize)
+    requires { ⌜ EnterReady (now rows) (now tables) r base ⌝ }
+    ensures { λ _. ⌜ ((w : EnterReady (now (rows .entry)) (now (tables .entry)) r base) → Working (w .P) (w .k) (now (tables .exit)) (w .fields ++ (w .field ∷ [])) (w .rows ++ (r ∷ [])) (w .methods)) ⌝ }
+{
+    let name = rows[r * 4 + 2] as usize;
+    let n = tables[base + 515];
+    tables[base + name] = n + 1;
+    tables[base + 520 + n as usize] = r as u16;
+    tables[base + 515] = n + 1;
+}
+
+// Checks and enters the fields of a class.
+fn check_fields(
+    rows: &[u32],
+    tables: &mut [u16],
+    r: usize,
+    n: usize,
+    base: usize,
+    count: usize,
+) -> Headed
+    requires { ⌜ FieldsReady (now rows) (now tables) r n base count ⌝ }
+    ensures { λ h. ⌜ ((w : FieldsReady (now (rows .entry)) (now (tables .entry)) r n base count)
+        → (h ≡ headed (check-fields of-check (w .P) (w .fields) (r + 1) (w .own)))
+        × (h ≡ Headed.Passed → Working (w .P) (w .k) (now (tables .exit)) (w .fields ++ w .own) (w .rows ++ rows-from r (w .own)) (w .methods))) ⌝ }
+{
+    let mut i = 0;
+    while i < n {
+        let fault = field_fault(rows, tables, r + i, base, count);
+        if fault != 0 {
+            return Headed::Refused(fault, (r + i + 1) as u32); // of the F line
+        }
+        enter_field(rows, tables, r + i, base);
+        i += 1;
+    }
+    Headed::Passed
+}
+
+// The set of one class, of at most 64.
+fn class_bit(c: u32) -> u64
+    requires { ⌜ c ≤ 64 ⌝ }
+    ensures { λ s. ⌜ s ≡ effect-of c ⌝ }
+{
+    if c == 0 {
+        return 1;
+    }
+    1u64 << (c - 1)
+}
+
+// The set of the classes on X lines; a number above 64 is no class.
+fn effect_set(rows: &[u32], r: usize, n: usize) -> u64
+    requires { ⌜ EffectLines (now rows) r n ⌝ }
+    ensures { λ s. ⌜ ((w : EffectLines (now (rows .entry)) r n) → s ≡ effect-of-all (w .effects) % 2 ^ 64) ⌝ }
+{
+    let mut set: u64 = 0;
+    let mut i = n;
+    while 0 < i {
+        i -= 1;
+        let c = rows[(r + i) * 4 + 1];
+        if c <= 64 {
+            set = class_bit(c) | set;
+        }
+    }
+    set
+}
+
+// Is a class in a set.
+fn is_member(set: u64, c: u32) -> bool
+    requires { ⌜ (1 ≤ c) × (c ≤ 64) ⌝ }
+    ensures { λ b. ⌜ b ≡ member set c ⌝ }
+{
+    (set >> (c - 1)) & 1 == 1
+}
+
+// Are the numbers of X lines classes of a set.
+fn lines_within(rows: &[u32], r: usize, n: usize, set: u64) -> bool
+    requires { ⌜ EffectLines (now rows) r n ⌝ }
+    ensures { λ b. ⌜ ((w : EffectLines (now (rows .entry)) r n) → b ≡ lines-within (w .effects) set) ⌝ }
+{
+    let mut i = 0;
+    while i < n {
+        let c = rows[(r + i) * 4 + 1];
+        if c == 0 {
+            return false;
+        }
+        if 64 < c {
+            return false;
+        }
+        if !is_member(set, c) {
+            return false;
+        }
+        i += 1;
+    }
+    true
+}
+
+// Have two runs of P lines the same types.
+fn same_types(rows: &[u32], p: usize, q: usize, n: usize) -> bool
+    requires { ⌜ ParameterLines (now rows) p n × ParameterLines (now rows) q n ⌝ }
+    ensures { λ b. ⌜ ((v : ParameterLines (now (rows .entry)) p n) → (w : ParameterLines (now (rows .entry)) q n) → b ≡ same-types (v .types) (w .types)) ⌝ }
+{
+    let mut i = 0;
+    while i < n {
+        if rows[(p + i) * 4 + 1] != rows[(q + i) * 4 + 1] {
+            return false;
+        }
+        i += 1;
+    }
+    true
+}
+
+// May the method at a row, with its counts of P and X lines, override the one at another.
+fn may_override(rows: &[u32], r: usize, np: usize, nx: usize, over: usize) -> bool
+    requires { ⌜ OverrideReady (now rows) r np nx over ⌝ }
+    ensures { λ b. ⌜ ((w : OverrideReady (now (rows .entry)) r np nx over) → b ≡ may-override (w .method) (some (method-of 0 (w .overridden)))) ⌝ }
+{
+    if rows[r * 4 + 1] != rows[over * 4 + 1] {
+        return false;
+    }
+    let op = count_rows(rows, over + 1, 80);
+    if op != np {
+        return false;
+    }
+    if !same_types(rows, r + 1, over + 1, np) {
+        return false;
+    }
+    let ox = count_rows(rows, over + 1 + np, 88);
+    let set = effect_set(rows, over + 1 + np, ox);
+    lines_within(rows, r + 1 + np, nx, set)
+}
+
+// The first fault of an M line in the class whose C line has row `first`, or 0.
+fn method_fault(
+    rows: &[u32],
+    tables: &[u16],
+    r: usize,
+    np: usize,
+    nx: usize,
+    base: usize,
+    first: usize,
+    count: usize,
+) -> u32
+    requires { ⌜ MethodCounted (now rows) (now tables) r np nx base first count ⌝ }
+    ensures { λ n. ⌜ ((w : MethodCounted (now (rows .entry)) (now (tables .entry)) r np nx base first count)
+        → n ≡ fault-of-method (w .ready .classed .classes) (w .ready .super) (w .ready .before) (w .ready .method)) ⌝ }
+{
+    if !is_declared(rows[r * 4 + 1], count) {
+        return 4;
+    }
+    let name = rows[r * 4 + 2] as usize;
+    let entry = tables[base + 256 + name] as usize;
+    if first < entry {
+        return 4; // declared in this class before
+    }
+    if entry == 0 {
+        return 0;
+    }
+    if may_override(rows, r, np, nx, entry - 1) {
+        return 0;
+    }
+    6 // the heading differs
+}
+
+// Checks the P lines of a method.
+fn check_parameters(rows: &[u32], r: usize, n: usize, count: usize) -> Headed
+    requires { ⌜ ParameterLines (now rows) r n ⌝ }
+    ensures { λ h. ⌜ ((w : ParameterLines (now (rows .entry)) r n) → (P : List Class) → count ≡ length P
+        → h ≡ headed (check-parameters of-check P (r + 1) (w .types))) ⌝ }
+{
+    let mut i = 0;
+    while i < n {
+        if !is_declared(rows[(r + i) * 4 + 1], count) {
+            return Headed::Refused(4, (r + i + 1) as u32);
+        }
+        i += 1;
+    }
+    Headed::Passed
+}
+
+// The first fault of an X line after one that names `last`, or 0.
+fn effect_fault(tables: &[u16], c: u32, last: u32, count: usize) -> u32
+    requires { ⌜ EffectReady (now tables) count ⌝ }
+    ensures { λ n. ⌜ ((w : EffectReady (now (tables .entry)) count) → n ≡ fault-of-effect (w .P) last c) ⌝ }
+{
+    if count < c as usize {
+        return 4;
+    }
+    if tables[c as usize * 576 + 512] != 1 {
+        return 5;
+    }
+    if c <= last {
+        return 5;
+    }
+    0
+}
+
+// Checks the X lines of a method.
+fn check_effects(rows: &[u32], tables: &[u16], r: usize, n: usize, count: usize) -> Headed
+    requires { ⌜ EffectsReady (now rows) (now tables) r n count ⌝ }
+    ensures { λ h. ⌜ ((w : EffectsReady (now (rows .entry)) (now (tables .entry)) r n count) → h ≡ headed (check-effects of-check (w .table .P) 0 (r + 1) (w .lines .effects))) ⌝ }
+{
+    let mut last: u32 = 0;
+    let mut i = 0;
+    while i < n {
+        let c = rows[(r + i) * 4 + 1];
+        let fault = effect_fault(tables, c, last, count);
+        if fault != 0 {
+            return Headed::Refused(fault, (r + i + 1) as u32);
+        }
+        last = c;
+        i += 1;
+    }
+    Headed::Passed
+}
+
+// Checks and enters the method of an M line.
+fn check_method(
+    rows: &[u32],
+    tables: &mut [u16],
+    r: usize,
+    base: usize,
+    first: usize,
+    count: usize,
+) -> Headed
+    requires { ⌜ MethodReady (now rows) (now tables) r base first count ⌝ }
+    ensures { λ h. ⌜ ((w : MethodReady (now (rows .entry)) (now (tables .entry)) r base first count)
+        → (h ≡ headed (check-heading (w .classed .classes) (w .super) (w .before) (r + 1) (w .method)))
+        × (h ≡ Headed.Passed → Working (w .classed .classes) (w .k) (now (tables .exit)) (w .fields) (w .rows)
+        (with-row (w .method .name) r (own-or (w .own) (method-row (w .classed .classes) (w .super)))))) ⌝ }
+{
+    let np = count_rows(rows, r + 1, 80);
+    let nx = count_rows(rows, r + 1 + np, 88);
+    let fault = method_fault(rows, tables, r, np, nx, base, first, count);
+    if fault != 0 {
+        return Headed::Refused(fault, (r + 1) as u32);
+    }
+    let p = check_parameters(rows, r + 1, np, count);
+    let Headed::Passed = p else {
+        return p;
+    };
+    let x = check_effects(rows, tables, r + 1 + np, nx, count);
+    let Headed::Passed = x else {
+        return x;
+    };
+    let name = rows[r * 4 + 2] as usize;
+    tables[base + 256 + name] = (r + 1) as u16;
+    Headed::Passed
+}
+
+// Checks and enters the methods of a class, the first of which would stand at row r.
+fn check_methods(
+    rows: &[u32],
+    ends: &[u16],
+    tables: &mut [u16],
+    r: usize,
+    base: usize,
+    first: usize,
+    count: usize,
+) -> Headed
+    requires { ⌜ MethodsReady (now rows) (now ends) (now tables) r base first count ⌝ }
+    ensures { λ h. ⌜ ((w : MethodsReady (now (rows .entry)) (now (ends .entry)) (now (tables .entry)) r base first count)
+        → (h ≡ headed (check-methods of-check (w .classed .classes) (w .super) [] (r + 1) (w .methods)))
+        × (h ≡ Headed.Passed → Working (w .classed .classes) (w .k) (now (tables .exit)) (w .fields) (w .rows)
+        (own-or (declared-row r (w .methods)) (method-row (w .classed .classes) (w .super))))) ⌝ }
+{
+    let mut at = r;
+    while rows[at * 4] == 77 {
+        let m = check_method(rows, tables, at, base, first, count);
+        let Headed::Passed = m else {
+            return m;
+        };
+        at = skip_method(rows, ends, at);
+    }
+    Headed::Passed
+}
+
+// May a class of one kind extend one of another; Object is as a plain class.
+fn may_extend(kind: u32, above: u16) -> bool
+    ensures { λ b. ⌜ b ≡ may-extend (kind-of-number kind) (some (kind-of-number above)) ⌝ }
+{
+    if kind <= 1 {
+        return above == 0;
+    }
+    if kind == 2 {
+        if above == 1 {
+            return true;
+        }
+        return above == 2;
+    }
+    false
+}
+
+// Starts the block of a class as its superclass's, with its own root.
+fn start_block(tables: &mut [u16], k: usize, over: usize, kind: u32)
+    requires { ⌜ StartReady (now tables) k over kind ⌝ }
+    ensures { λ _. ⌜ ((w : StartReady (now (tables .entry)) k over kind)
+        → Working (w .P) k (now (tables .exit)) (world (w .P) .fields over) (field-rows (w .P) over) (method-row (w .P) over)) ⌝ }
+{
+    let base = k * 576;
+    let from = over * 576;
+    copy_part(tables, from, base, 512);
+    copy_part(tables, from + 514, base + 514, 62);
+    if kind != 2 {
+        tables[base + 514] = k as u16;
+    }
+}
+
+// Checks a class and fills its block.
+fn check_class(
+    rows: &[u32],
+    ends: &[u16],
+    tables: &mut [u16],
+    k: usize,
+    r: usize,
+    count: usize,
+) -> Headed
+    requires { ⌜ ClassReady (now rows) (now ends) (now tables) k r count ⌝ }
+    ensures { λ h. ⌜ ((w : ClassReady (now (rows .entry)) (now (ends .entry)) (now (tables .entry)) k r count)
+        → (h ≡ headed (check-class of-check (w .classed .classes) k (r + 1) (w .one)))
+        × (h ≡ Headed.Passed → Lookups (w .classed .classes) (k + 1) (now (tables .exit)))) ⌝ }
+{
+    let kind = rows[r * 4 + 1];
+    let over = rows[r * 4 + 2] as usize;
+    if k <= over {
+        return Headed::Refused(4, (r + 1) as u32);
+    }
+    if !may_extend(kind, tables[over * 576 + 512]) {
+        return Headed::Refused(5, (r + 1) as u32);
+    }
+    start_block(tables, k, over, kind);
+    let n = count_rows(rows, r + 1, 70);
+    let f = check_fields(rows, tables, r + 1, n, k * 576, count);
+    let Headed::Passed = f else {
+        return f;
+    };
+    check_methods(rows, ends, tables, r + 1 + n, k * 576, r, count)
+}
+
+// Checks all classes in order and fills both tables.
+fn check_classes(
+    rows: &[u32],
+    ends: &[u16],
+    tables: &mut [u16],
+    above: &mut [u64],
+    count: usize,
+) -> Headed
+    requires { ⌜ ClassesReady (now rows) (now ends) (now tables) (now above) count ⌝ }
+    ensures { λ h. ⌜ ((w : ClassesReady (now (rows .entry)) (now (ends .entry)) (now (tables .entry)) (now (above .entry)) count)
+        → (h ≡ headed (headings of-check (w .classed .classes)))
+        × (h ≡ Headed.Passed → ClassTables (w .classed .classes) (now (tables .exit)) (now (above .exit)))) ⌝ }
+{
+    let mut k = 1;
+    let mut r = 0;
+    while k <= count {
+        let h = check_class(rows, ends, tables, k, r, count);
+        let Headed::Passed = h else {
+            return h;
+        };
+        let over = rows[r * 4 + 2] as usize;
+        above[k] = class_bit(k as u32) | above[over];
+        r = skip_class(rows, ends, r);
+        k += 1;
+    }
+    Headed::Passed
+}
+
+// The pass over headings.
+pub fn check_headings(rows: &[u32], ends: &[u16], tables: &mut [u16], above: &mut [u64]) -> Headed
+    requires { ⌜ HeadingsReady (now rows) (now ends) (now tables) (now above) ⌝ }
+    ensures { λ h. ⌜ ((w : HeadingsReady (now (rows .entry)) (now (ends .entry)) (now (tables .entry)) (now (above .entry)))
+        → (h ≡ headed (headings of-check (w .classed .classes)))
+        × (h ≡ Headed.Passed → ClassTables (w .classed .classes) (now (tables .exit)) (now (above .exit)))) ⌝ }
+{
+    clear_object(tables);
+    above[0] = 0;
+    let count = read_classes(rows, ends, tables);
+    check_classes(rows, ends, tables, above, count)
+}

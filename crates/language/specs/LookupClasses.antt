@@ -1,0 +1,47 @@
+-- The table of lookup classes: for each G, U and Q the class in which its member is sought, as typing finds it.
+-- The body pass fills it, by row from 0; the translator reads it and does no typing of its own.
+use mathlib.Core.Path.{_≡_}
+use Prim.Native.Nat.{ℕ, _+_}
+use mathlib.Core.List.{List, map}
+use lib.ListN.{length, getD}
+use Rattle.language.specs.Frames.{opened}
+use Rattle.language.specs.Tree.{Expr, literal-true, literal-false, literal-null, slot, is-null, get, cast, new}
+use Rattle.language.specs.Tree.{change, assign, set, call, choose, block, Exprs, nil, cons, size}
+use Rattle.language.specs.World.{World}
+use Rattle.language.specs.Effects.{apply-class}
+use Rattle.language.specs.Typing.{Environment, fresh-slot, type-of, type-all}
+use Rattle.language.specs.Translation.{typed-or, typed-all-or, class-or}
+
+module _ (W : World) (C : List ℕ) where
+  -- The table holds the lookup classes of an expression at row r, typed in γ.
+  unfoldable mutual
+    pub LooksUp : Expr → Environment → ℕ → Type 0
+    LooksUp literal-true γ r = Unit {0}
+    LooksUp literal-false γ r = Unit {0}
+    LooksUp literal-null γ r = Unit {0}
+    LooksUp (slot k) γ r = Unit {0}
+    LooksUp (is-null e) γ r = LooksUp e γ (r + 1)
+    LooksUp (get f e) γ r = (getD C r 0 ≡ class-or (typed-or (type-of W e 0 γ) .type)) × LooksUp e γ (r + 1)
+    LooksUp (cast c e) γ r = LooksUp e γ (r + 1)
+    LooksUp (new c) γ r = Unit {0}
+    LooksUp (change k d) γ r = Unit {0}
+    LooksUp (assign k e) γ r = LooksUp e γ (r + 1)
+    LooksUp (set f e e′) γ r =
+        let a = typed-or (type-of W e 0 γ) in
+        let b = typed-or (type-of W e′ 0 (a .slots)) in
+        (getD C r 0 ≡ apply-class W (b .effect) (class-or (a .type)))
+        × LooksUp e γ (r + 1)
+        × LooksUp e′ (a .slots) (r + 1 + size e)
+    LooksUp (call m e es) γ r =
+        let a = typed-or (type-of W e 0 γ) in
+        let b = typed-all-or (type-all W es 0 (a .slots)) in
+        (getD C r 0 ≡ apply-class W (b .effect) (class-or (a .type)))
+        × LooksUp e γ (r + 1)
+        × LooksUpAll es (a .slots) (r + 1 + size e)
+    LooksUp (choose e x y) γ r = let δ = typed-or (type-of W e 0 γ) .slots in
+        LooksUp e γ (r + 1) × LooksUp x δ (r + 1 + size e) × LooksUp y δ (r + 1 + size e + size x)
+    LooksUp (block ts es) γ r = LooksUpAll es (opened γ (map fresh-slot ts)) (r + 1 + length ts)
+
+    pub LooksUpAll : Exprs → Environment → ℕ → Type 0
+    LooksUpAll nil γ r = Unit {0}
+    LooksUpAll (cons e es) γ r = LooksUp e γ r × LooksUpAll es (typed-or (type-of W e 0 γ) .slots) (r + size e)
