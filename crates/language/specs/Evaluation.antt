@@ -113,7 +113,8 @@ module _ (W : World) where
   with-field f v o = bind-option (place f (W .fields (o .class-of))) λ i.
       some (record { class-of = o .class-of; fields = replace (o .fields) i v })
 
-  -- G, U, K and R, once their parts have values.
+  -- G, U, K and R, once their parts have values. R takes the root's fields out of the object; one that lacks them
+  -- is stuck.
   abbrev pub do-get : ℕ → Value → State → Out Value
   do-get f v s = need-object v s λ j. need (nth (s .heap) j) s λ o. need (field-of f o) s λ w. ok w s
 
@@ -131,7 +132,9 @@ module _ (W : World) where
   do-change d null s = ok null s
   do-change d (truth b) s = stop stuck s
   do-change d (object j) s = need (nth (s .heap) j) s λ o.
-      ok (object j) (with-change (replace (s .heap) j (changed d o)) s)
+      cond (leb (length (W .fields (W .root d))) (length (o .fields)))
+      (ok (object j) (with-change (replace (s .heap) j (changed d o)) s))
+      (stop stuck s)
 
   module _ (L : Limits) where
     -- Entering a node costs one fuel.

@@ -9,6 +9,7 @@ use mathlib.Core.Option.{some}
 use mathlib.Core.Bool.{true, false}
 use mathlib.Core.List.{List, [], _∷_, _++_, map}
 use lib.ListN.{length, set as replace}
+use lib.Dec.{leb}
 use Rattle.language.specs.Limits.{null-exception, cast-exception}
 use Rattle.language.specs.Lists.{nth}
 use Rattle.language.specs.Results.{ok, stop}
@@ -84,9 +85,10 @@ module _ (W : World) where
           → nth (u .heap) j ≡ some o → W .method (o .class-of) m ≡ some M
           → Evaluates n (M .body) (called j vs u) (ok v w)
           → Evaluates (suc n) (call m e es) s (ok v (with-frame (u .frame) w))
-      -- Figure 4, recl.
+      -- Figure 4, recl: the object has the fields of d's root.
       recl : {n k d j : ℕ} {s : State} (o : Object)
           → at-slot (s .frame) k ≡ some (object j) → nth (s .heap) j ≡ some o
+          → leb (length (W .fields (W .root d))) (length (o .fields)) ≡ true
           → Evaluates n (change k d) s (ok (object j)
           (with-change (replace (s .heap) j (changed W d o)) (entered s)))
       -- Figure 4, n-recl.

@@ -124,7 +124,8 @@ module _ (W : World) where
   grows-change : (d : ℕ) (v : Value) (s : State) → Grows s (do-change W d v s)
   grows-change d null s = grows-ok (later-same s)
   grows-change d (truth b) s = grows-stop (later-same s)
-  grows-change d (object j) s = grows-need (nth (s .heap) j) s λ o. grows-ok (put o)
+  grows-change d (object j) s = grows-need (nth (s .heap) j) s λ o.
+      grows-cond (leb (length (W .fields (W .root d))) (length (o .fields))) (grows-ok (put o)) (grows-stop (later-same s))
     where
       put : (o : Object) → Later s (with-change (replace (s .heap) j (changed W d o)) s)
       put o = record
@@ -272,7 +273,8 @@ module _ (F K : ℕ) where
     limited-change d null s w = same-ok w
     limited-change d (truth b) s w = same-stop w
     limited-change d (object j) s w = limited-need (nth (s .heap) j) s w λ o.
-        same-ok (within-put s j (changed W d o) (suc (s .changes)) w)
+        limited-cond (leb (length (W .fields (W .root d))) (length (o .fields)))
+        (same-ok (within-put s j (changed W d o) (suc (s .changes)) w)) (same-stop w)
 
     limited-enter : {A : Type 0} (s : State) {x y : Out A} → Within s → (Within (entered s) → Limited x y)
         → Grows (entered s) x → Limited x (choice (leb F (s .steps)) (λ _. stop spent s) (λ _. y))

@@ -12,7 +12,7 @@ use Rattle.language.specs.WellFormed.{ProgramWell}
 use Rattle.theory.specs.Sound.{Laws}
 use Rattle.theory.specs.Cut.{final, proper}
 use Rattle.theory.specs.PlainSteps.{More}
-use Rattle.theory.specs.PlainProgram.{plain-program-is-plain}
+use Rattle.theory.specs.PlainLookups.{plain-program-is-plain}
 use Rattle.theory.specs.Demand3World.{EndsAlike, demand-3-forward, demand-3-backward}
 
 module _ (p : Program) (well : ProgramWell p) (𝓛 : Laws (world (p .classes))) (𝓜 : More (world (p .classes))) where

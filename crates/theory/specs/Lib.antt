@@ -26,7 +26,6 @@ pub mod PlainActs
 pub mod Simulation
 pub mod Demand3World
 pub mod Demand2Runs
-pub mod PlainProgram
 pub mod Demand3Program
 pub mod PlainOf
 pub mod PlainLookups

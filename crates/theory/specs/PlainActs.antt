@@ -25,7 +25,7 @@ use Rattle.language.specs.Translation.{implementor, reads, renew, plain-change,
 use Rattle.language.specs.Correspondence.{Corresponds, both-null, same-truth, in-place, identity-of}
 use Rattle.language.specs.Correspondence.{implementor-of}
 use Rattle.theory.specs.Sound.{Laws, BodyOk, Fits, f-null, f-bool, f-obj, HeapOk, FitsFrame, this-some}
-use Rattle.theory.specs.Sound.{fits-all, inherit, can-inv, false≢}
+use Rattle.theory.specs.Sound.{fits-all, inherit, can-inv, root-fields, false≢}
 use Rattle.theory.specs.PlainWorld.{IsPlain, plain-form}
 use Rattle.theory.specs.Matching.{Implements, Persists, persists-same, persists-trans, Mask, SlotsMatch}
 use Rattle.theory.specs.Matching.{no-slots, variable, slots-at, slots-length, ThisMatches, no-this}
@@ -318,8 +318,9 @@ module _ (W W′ : World) (P : IsPlain W W′) (𝓛 : Laws W) (𝓜 : More W) w
     unfolding plain-change
     change-acts zero c d γ ids sh μ z s t H R dd (object j) (f-obj o p q) can (at-this {i} {m} e a x) =
         let l = t .frame .slots in let n = length l in let g = can-inv W 𝓛 c d can in
-        rw (plain-change-is W 0 d γ sh n (slots-length (R .frames .slots)), p)
-        (change-object d ids sh μ z s t H R dd j i o e p (𝓛 .fickle-root (o .class-of) c q (g .0) ∙ g .1) _ 4
+        let rt : W .root (o .class-of) ≡ W .root d = 𝓛 .fickle-root (o .class-of) c q (g .0) ∙ g .1 in
+        rw (plain-change-is W 0 d γ sh n (slots-length (R .frames .slots)), p, root-fields W 𝓛 (s .heap) d o rt (H .each j o p))
+        (change-object d ids sh μ z s t H R dd j i o e p rt _ 4
         (omega arith) (omega arith) λ m′ ws ran.
         block-runs W W′ P invoke′ (change-types W d) t _
         (runs-cons (first-this W W′ P 𝓛 𝓜 invoke′ n i m (x .c) (x .vs) (t .frame .this)
@@ -352,8 +353,9 @@ module _ (W W′ : World) (P : IsPlain W W′) (𝓛 : Laws W) (𝓜 : More W) w
         }))
     change-acts (suc k) c d γ ids sh μ z s t H R dd (object j) (f-obj o p q) can (at-variable a (in-place {i} e)) =
         let l = t .frame .slots in let n = length l in let g = can-inv W 𝓛 c d can in
-        rw (plain-change-is W (suc k) d γ sh n (slots-length (R .frames .slots)), p)
-        (change-object d ids sh μ z s t H R dd j i o e p (𝓛 .fickle-root (o .class-of) c q (g .0) ∙ g .1) _ 5
+        let rt : W .root (o .class-of) ≡ W .root d = 𝓛 .fickle-root (o .class-of) c q (g .0) ∙ g .1 in
+        rw (plain-change-is W (suc k) d γ sh n (slots-length (R .frames .slots)), p, root-fields W 𝓛 (s .heap) d o rt (H .each j o p))
+        (change-object d ids sh μ z s t H R dd j i o e p rt _ 5
         (omega arith) (omega arith) λ m′ ws ran.
         block-runs W W′ P invoke′ (change-types W d) t _
         (runs-cons (first-object W W′ P 𝓛 𝓜 invoke′ n (position sh k) d i (t .frame .this)

@@ -10,42 +10,31 @@ use lib.Dec.{eqb, eqb·zero-suc, eqb·suc-zero, eqb·suc-suc}
 use borrow.Author.Tests.{eq-eqb, leb-true}
 use native.Mathlib.Omega.{arith}
 use Rattle.language.specs.Limits.{object-class}
-use Rattle.language.specs.Lists.{nth, given, choice, map-option, up, up-suc, Never, inj}
-use Rattle.language.specs.Tree.{plain, Declaration, Class}
+use Rattle.language.specs.Lists.{nth, given, choice, map-option, up, up-suc}
+use Rattle.language.specs.Tree.{plain, Declaration, Class, Program}
 use Rattle.language.specs.World.{World}
 use Rattle.language.specs.Effects.{effect-of-all}
 use Rattle.language.specs.Program.{method-of, declared, class-at, fields-at, method-at, below-at, root-at, nearest-at}
 use Rattle.language.specs.Program.{is-changeable, world}
-use Rattle.language.specs.WellFormed.{ClassWell, ClassesWell, classes-nil, classes-cons}
+use Rattle.language.specs.WellFormed.{ClassesWell}
 use Rattle.language.specs.Translation.{plain-class, plain-field, plain-method, plain-classes, identity, fickle-object}
+use Rattle.language.specs.Translation.{plain-program}
 use Rattle.theory.specs.Sound.{or-inr}
-use Rattle.theory.specs.PlainWorld.{imp-of-identity, id-of-implementor, plain-form}
-use Rattle.theory.specs.PlainOf.{PlainOf}
+use Rattle.theory.specs.Lookups.{class-well}
+use Rattle.theory.specs.PlainWorld.{imp-of-identity, id-of-implementor, plain-form, IsPlain}
+use Rattle.theory.specs.PlainOf.{PlainOf, plain-of-is-plain}
 
 -- Each superclass is 0 or an earlier class.
 pub record Earlier (P : List Class) : Type 0 where
   pub super : (k : ℕ) (c : Class) → class-at P k ≡ some c → c .super < k
 
--- A class of well-formed classes is well formed.
-class-well : (P : List Class) {j : ℕ} {cs : List Class} → ClassesWell P j cs → (i : ℕ) (c : Class) → nth cs i ≡ some c
-    → ClassWell P (up i j) c
-unfolding nth
-class-well P classes-nil i c e = absurd (Never e)
-class-well P (classes-cons w ws) zero c e = rw (inj e) at w
-class-well P {j} (classes-cons w ws) (suc i) c e = rw (up-suc i j) at (class-well P ws i c e)
-
 pub up-one : (i : ℕ) → up i 1 ≡ suc i
 up-one zero = refl
 up-one (suc i) = ap suc (up-one i)
 
-pub class-well-at : (P : List Class) → ClassesWell P 1 P → (k : ℕ) (c : Class) → class-at P k ≡ some c → ClassWell P k c
-unfolding class-at
-class-well-at P w zero c e = absurd (Never e)
-class-well-at P w (suc i) c e = rw (up-one i) at (class-well P w i c e)
-
 -- Well-formed classes have earlier superclasses.
 pub earlier-supers : (P : List Class) → ClassesWell P 1 P → Earlier P
-earlier-supers P w = record { super = λ k c e. class-well-at P w k c e .earlier }
+earlier-supers P w = record { super = λ k c e. class-well P w k c e .earlier }
 
 -- What stands at a place within a list.
 pub nth-within : {A : Type 0} (l : List A) (i : ℕ) → i < length l → (a : A) × (nth l i ≡ some a)
@@ -254,3 +243,10 @@ module _ (P : List Class) (𝓔 : Earlier P) where
     nearest = λ c d i j. nearest-agrees (suc c) c d (omega arith) (leb-true c (length P) i) (leb-true d (length P) j);
     nearest-same = λ c. nearest-itself c;
   }
+
+-- The world of the plain form of a program with well-formed classes is the plain form of the program's world.
+pub plain-program-is-plain : (p : Program) → ClassesWell (p .classes) 1 (p .classes)
+    → IsPlain (world (p .classes)) (world (plain-program p .classes))
+unfolding plain-program
+plain-program-is-plain p w =
+    plain-of-is-plain _ _ (lookups-plain (p .classes) (earlier-supers (p .classes) w))

@@ -4,13 +4,15 @@ use Prim.Native.Nat.{ℕ, zero, suc}
 use mathlib.Core.Option.{Option, none, some}
 use mathlib.Core.Bool.{Bool, true, false, cond}
 use mathlib.Core.List.{List, _∷_, map}
+use lib.ListN.{length, set as replace}
+use lib.Dec.{leb}
 use Rattle.language.specs.Limits.{cast-exception}
 use Rattle.language.specs.Lists.{nth, choice}
 use Rattle.language.specs.Results.{ok, stop, bind}
 use Rattle.language.specs.Frames.{frame, at-slot, opened}
 use Rattle.language.specs.Tree.{Expr, literal-true, literal-false, literal-null, slot, is-null, get, cast, new, change, assign, set, call, choose, block, Exprs, nil, cons}
 use Rattle.language.specs.World.{Method, World}
-use Rattle.language.specs.Evaluation.{Value, null, truth, object, Object, State, raised, spent, deep, full, stuck, Out, without-limits, entered, with-frame, initial, field-of, with-field, need, need-truth, do-get, do-set, do-cast, do-change, do-call, eval, eval-all, call-at}
+use Rattle.language.specs.Evaluation.{Value, null, truth, object, Object, State, raised, spent, deep, full, stuck, Out, without-limits, entered, with-frame, with-change, initial, changed, field-of, with-field, need, need-truth, do-get, do-set, do-cast, do-change, do-call, eval, eval-all, call-at}
 use Rattle.language.specs.Runs.{called, Evaluates, EvaluatesAll, val-true, val-false, val-null, cast-object, cast-null, id, field, isnull, assign-slot, assign-field, choose-true, choose-false, block-end, new-made, meth, recl, recl-null, cast-raises, field-null, assign-field-null, meth-null, from-cast, from-assign, from-get, from-is-null, from-receiver, from-object, from-value, from-arguments, from-body, from-condition, from-block, all-nil, all-cons, from-first, from-later}
 
 module _ (W : World) where
@@ -46,7 +48,7 @@ module _ (W : World) where
     sound (cast c e) b (cast-raises o d h g) = rw (sound e b d, h, g)
     sound (cast c e) b (from-cast d) = rw (sound e b d)
     sound (new c) b new-made = refl
-    sound (change k c) b (recl o h g) = rw (h, g)
+    sound (change k c) b (recl o h g l) = rw (h, g, l)
     sound (change k c) b (recl-null h) = rw h
     sound (assign k e) b (assign-slot d) = rw (sound e b d)
     sound (assign k e) b (from-assign d) = rw (sound e b d)
@@ -137,7 +139,14 @@ module _ (W : World) where
   change-claim : (n k c : ℕ) (s : State) (v : Value) → at-slot (s .frame) k ≡ some v → Claim n (change k c) s (do-change W c v (entered s))
   change-claim n k c s null h = value (recl-null h)
   change-claim n k c s (truth b) h = c-stuck
-  change-claim n k c s (object j) h = need-claim (entered s) (nth (s .heap) j) λ o g. value (recl o h g)
+  change-claim n k c s (object j) h = need-claim (entered s) (nth (s .heap) j) λ o g.
+      go o g (leb (length (W .fields (W .root c))) (length (o .fields))) refl
+    where
+      go : (o : Object) → nth (s .heap) j ≡ some o → (b : Bool) → leb (length (W .fields (W .root c))) (length (o .fields)) ≡ b
+          → Claim n (change k c) s (cond b
+          (ok (object j) (with-change (replace (s .heap) j (changed W c o)) (entered s))) (stop stuck (entered s)))
+      go o g true q = value (recl o h g q)
+      go o g false q = c-stuck
 
   set-claim : (n f : ℕ) (e e′ : Expr) (s t u : State) (v w : Value) → Evaluates W n e (entered s) (ok v t) → Evaluates W n e′ t (ok w u)
       → Claim n (set f e e′) s (do-set W f v w u)

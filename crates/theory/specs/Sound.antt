@@ -6,12 +6,12 @@ use mathlib.Core.Option.{Option, none, some}
 use mathlib.Core.Bool.{Bool, true, false, not, _&&_, _||_, cond}
 use mathlib.Core.Logic.{_⊎_, inl, inr, _≢_}
 use mathlib.Core.List.{List, [], _∷_, _++_, map}
-use lib.ListN.{length, set as replace}
+use lib.ListN.{length, set as replace, length-append}
 use lib.Seq.{take-append-seam, drop-append-seam}
-use lib.Dec.{eqb}
+use lib.Dec.{eqb, leb}
 use lib.Bits.{bitAnd, bitOr, or-shr, or-mod, and-shr, and-mod}
 use lib.Pow.{pow-pos}
-use borrow.Author.Tests.{eqb-true}
+use borrow.Author.Tests.{eqb-true, le-leb}
 use native.Mathlib.Omega.{arith}
 use native.Mathlib.Nat.{zero-div, div-self}
 use native.Mathlib.Decide.{ℕ-discrete}
@@ -368,6 +368,15 @@ module _ (W : World) (𝓛 : Laws W) where
   can-inv c d e = let p = and-inv (W .changeable c) (W .changeable d && eqb (W .root c) (W .root d)) e in
       let q = and-inv (W .changeable d) (eqb (W .root c) (W .root d)) (p .1) in (p .0, eqb-true _ _ (q .1))
 
+  -- an object that R changes has the fields of its root
+  pub root-fields : (h : List Object) (d : ℕ) (o : Object) → W .root (o .class-of) ≡ W .root d → All2 (FitsF W h) (o .fields) (W .fields (o .class-of))
+      → leb (length (W .fields (W .root d))) (length (o .fields)) ≡ true
+  root-fields h d o r a =
+      let p = prefix (o .class-of) (W .root d) (rw r at (sub-root (o .class-of))) in
+      let l : length (o .fields) ≡ length (W .fields (W .root d)) + length (p .0)
+      = all2-length a ∙ ap length (p .1) ∙ length-append (W .fields (W .root d)) (p .0) in
+      le-leb (length (W .fields (W .root d))) (length (o .fields)) (omega (arith, l))
+
   change-ok : (c d : ℕ) (v : Value) (s : State) → HeapOk W (s .heap) → Fits W (s .heap) v (known (class c)) → can-change W c d ≡ true
       → Holds (λ w s′. (w ≡ v) × Left (effect-of (W .root d)) (known (class d)) s w s′) (Fine W) (do-change W d v s)
   change-ok c d v s H (f-null z) e = holds-ok (refl, record { heapOk = H; evolves = evolve-refl (s .heap); slotsSame = refl; fitsOk = f-null refl })
@@ -375,7 +384,7 @@ module _ (W : World) (𝓛 : Laws W) where
       let g = can-inv c d e in
       let r : W .root (o .class-of) ≡ W .root d = fickle-root (o .class-of) c q (g .0) ∙ g .1 in
       let ev : Evolves W (effect-of (W .root d)) (s .heap) (replace (s .heap) j (changed W d o)) = evolve-set (s .heap) j o (changed W d o) p (moved (rw r (has-one (W .root d))) (sym r)) in
-      rw p (holds-ok (
+      rw (p, root-fields (s .heap) d o r (H .each j o p)) (holds-ok (
         refl,
         record {
           heapOk = heap-set (s .heap) j (changed W d o) ev H (changed-ok (s .heap) _ d o r (H .each j o p) ev);
