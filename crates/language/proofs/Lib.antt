@@ -2,3 +2,5 @@ pub mod Filling
 pub mod Rows
 pub mod Letters
 pub mod Tables
+pub mod Effects
+pub mod Classes

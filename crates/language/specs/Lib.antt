@@ -21,6 +21,7 @@ pub mod Evaluation
 pub mod Runs
 pub mod Translation
 pub mod LookupClasses
+pub mod Layout
 pub mod Store
 pub mod Correspondence
 pub mod Worked

@@ -37,7 +37,7 @@ numbers-of-rows (a ∷ b ∷ c ∷ []) e = absurd (omega (arith, e))
 numbers-of-rows (a ∷ b ∷ c ∷ d ∷ ns) e =
     ap (λ (l : List ℕ). a ∷ b ∷ c ∷ d ∷ l) (numbers-of-rows ns (omega (arith, e)))
 
-numbers-count : (rs : List Row) → length (numbers-of rs) ≡ numbers-a-row * length rs
+pub numbers-count : (rs : List Row) → length (numbers-of rs) ≡ numbers-a-row * length rs
 unfolding numbers-of
 numbers-count [] = refl
 numbers-count (r ∷ rs) = omega (arith, numbers-count rs)

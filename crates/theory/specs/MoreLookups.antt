@@ -132,7 +132,7 @@ check-classes-few most P k at (x ∷ cs) u q (suc i) c e l = bind-checked-inv _ 
     check-classes-few most P (suc k) (at + class-lines x) cs u q i c e l
 
 -- A declared method is one of the list.
-each-declared : {R : Declaration → Type 0} {ds : List Declaration} → Each R ds → (m : ℕ) (d : Declaration)
+pub each-declared : {R : Declaration → Type 0} {ds : List Declaration} → Each R ds → (m : ℕ) (d : Declaration)
     → declared ds m ≡ some d → R d
 unfolding declared
 each-declared each-nil m d e = absurd (Never e)

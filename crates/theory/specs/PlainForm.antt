@@ -134,7 +134,7 @@ module _ (W : World) where
   taken-length (suc n) (x ∷ l) p = ap suc (taken-length n l (omega arith))
 
   mutual
-    slots-same : (e : Expr) {γ γ′ : Environment} {t : ExprType} {φ : ℕ} → HasType W γ e t γ′ φ
+    pub slots-same : (e : Expr) {γ γ′ : Environment} {t : ExprType} {φ : ℕ} → HasType W γ e t γ′ φ
         → length (γ′ .slots) ≡ length (γ .slots)
     slots-same literal-true type-true = refl
     slots-same literal-false type-false = refl
@@ -156,7 +156,7 @@ module _ (W : World) where
     slots-same (block ts es) {γ} (type-block {γ′} l d) =
         taken-length (length (γ .slots)) (γ′ .slots) (omega (arith, all-same es d, length-append (γ .slots) (map fresh-slot ts)))
 
-    all-same : (es : Exprs) {γ γ′ : Environment} {ts : List ExprType} {φ : ℕ} → HaveTypes W γ es ts γ′ φ
+    pub all-same : (es : Exprs) {γ γ′ : Environment} {ts : List ExprType} {φ : ℕ} → HaveTypes W γ es ts γ′ φ
         → length (γ′ .slots) ≡ length (γ .slots)
     all-same nil types-nil = refl
     all-same (cons e es) (types-cons d d′) = all-same es d′ ∙ slots-same e d

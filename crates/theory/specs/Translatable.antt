@@ -133,7 +133,7 @@ pub record TranslatableRows (ns : List ℕ) (p : Program) : Type 0 where
   pub unreserved : names-free 1 (p .classes) ≡ passed
 
 -- Where neither of two checks refuses, both accept.
-earlier-inv : {A B C : Type 0} (r : Checked A) (s : Checked B) {u : Unit {0}} → earlier r s ≡ accept u
+pub earlier-inv : {A B C : Type 0} (r : Checked A) (s : Checked B) {u : Unit {0}} → earlier r s ≡ accept u
     → ((a : A) (b : B) → r ≡ accept a → s ≡ accept b → C) → C
 unfolding earlier
 earlier-inv (accept a) (accept b) e f = f a b refl refl
@@ -146,7 +146,7 @@ earlier-inv (refuse n l) (refuse m k) {u} e f = absurd (go (ltb k l) e)
     go false e = accept≢refuse n l e
 
 -- The two passes over form read the same program of the same rows.
-same-program : (ns : List ℕ) (p q : Program) → RowsOf ns p → form of-translator (rows-of ns) ≡ accept q → q ≡ p
+pub same-program : (ns : List ℕ) (p q : Program) → RowsOf ns p → form of-translator (rows-of ns) ≡ accept q → q ≡ p
 same-program ns p q r e =
     let f = form-back of-translator (omega arith) (rows-of ns) q e in
     let wide = program-wider of-translator of-check translator-tighter q (f .1) in

@@ -130,7 +130,7 @@ mutual
   length-flattens (cons e es) =
       omega (arith, length-append (flatten e) (flattens es), length-flatten e, length-flattens es)
 
-length-methods : (ms : List Declaration) → length (flatten-methods ms) ≡ methods-lines ms
+pub length-methods : (ms : List Declaration) → length (flatten-methods ms) ≡ methods-lines ms
 unfolding flatten-methods methods-lines method-lines heading-lines
 length-methods [] = refl
 length-methods (m ∷ ms) = omega (
@@ -145,7 +145,7 @@ length-methods (m ∷ ms) = omega (
   length-methods ms,
 )
 
-length-classes : (cs : List Class) → length (flatten-classes cs) ≡ classes-lines cs
+pub length-classes : (cs : List Class) → length (flatten-classes cs) ≡ classes-lines cs
 unfolding flatten-classes classes-lines class-lines
 length-classes [] = refl
 length-classes (c ∷ cs) = omega (

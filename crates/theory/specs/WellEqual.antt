@@ -42,7 +42,7 @@ some-none : {A : Type 0} (o : Option A) → not (is-some o) ≡ true → o ≡ n
 some-none none e = refl
 some-none (some a) e = false≢ e
 
-extends : (k : Kind) (o : Option Kind) → may-extend k o ≡ true → Extends k o
+pub extends : (k : Kind) (o : Option Kind) → may-extend k o ≡ true → Extends k o
 extends plain none e = plain-object
 extends plain (some plain) e = plain-plain
 extends plain (some root) e = false≢ e
@@ -87,7 +87,7 @@ overrides P m (some M) e = let p = and-true (same-type (m .result) (M .result)) 
     again M (same-type-is _ _ (p .0)) (same-types-are _ _ (q .0)) (lines-within-is _ _ (q .1))
 
 module _ (P : List Class) where
-  fields-well : (before : List Field) (at : ℕ) (fs : List Field) (u : Unit {0})
+  pub fields-well : (before : List Field) (at : ℕ) (fs : List Field) (u : Unit {0})
       → check-fields of-check P before at fs ≡ accept u → FieldsWell P before fs
   unfolding check-fields
   fields-well before at [] u q = well-nil
@@ -96,13 +96,13 @@ module _ (P : List Class) where
       well-cons (ltb-true (length before) 17 e₁) e₂ (some-none (place (f .name) before) e₃)
       (not-true (is-state-type P (f .type)) e₄) (fields-well (before ++ (f ∷ [])) (at + 1) fs u q)
 
-  parameters-well : (at : ℕ) (ts : List DeclaredType) (u : Unit {0}) → check-parameters of-check P at ts ≡ accept u
+  pub parameters-well : (at : ℕ) (ts : List DeclaredType) (u : Unit {0}) → check-parameters of-check P at ts ≡ accept u
       → Declared (world P) ts
   unfolding check-parameters
   parameters-well at [] u q = declared-nil
   parameters-well at (t ∷ ts) u q = require-inv _ _ _ _ q λ e q. declared-cons e (parameters-well (at + 1) ts u q)
 
-  effects-well : (last at : ℕ) (cs : List ℕ) (u : Unit {0}) → check-effects of-check P last at cs ≡ accept u
+  pub effects-well : (last at : ℕ) (cs : List ℕ) (u : Unit {0}) → check-effects of-check P last at cs ≡ accept u
       → EffectWell P last cs
   unfolding check-effects is-root-class
   effects-well last at [] u q = well-none

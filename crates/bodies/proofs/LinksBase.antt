@@ -1,0 +1,313 @@
+-- Environments as numbers in slots: what each change of an environment makes of them. Assumes nothing.
+use mathlib.Core.Path.{_≡_, refl, sym, ap, ap₂, subst, _∙_}
+use mathlib.Core.Bool.{Bool, true, false, not, _&&_, _||_, cond, false≢true}
+use mathlib.Core.Logic.{_⊎_, inl, inr, ⊎-elim}
+use mathlib.Core.Option.{Option, none, some}
+use mathlib.Core.List.{List, [], _∷_, _++_, map}
+use Prim.Native.Nat.{ℕ, zero, suc, _+_, _-_, _*_, _≤_, _<_}
+use native.Mathlib.Omega.{arith}
+use borrow.Author.Tests.{eq-eqb, ne-eqb, leb-true, le-leb}
+use lib.Dec.{eqb, leb}
+use lib.ListN.{length, getD, take, set as replaced, length-set, length-append}
+use lib.Seq.{ext-getD, getD-take, length-take-le, getD-set-same, getD-set-other}
+use Rattle.language.specs.Lists.{nth, Never, inj, map-option, given}
+use Rattle.language.specs.Results.{Checked, accept, refuse, bind-checked, need-checked, require, accept≢refuse, accept-injective, bind-checked-inv, need-checked-inv, require-inv}
+use Rattle.language.specs.Frames.{at-slot, with-slot, opened, closed, map-frame, frame}
+use Rattle.language.specs.Tree.{DeclaredType, bool, class, type-number, Class, Kind, plain, root, state, unknown, kind-number}
+use Rattle.language.specs.World.{World, is-declared-type}
+use Rattle.language.specs.Effects.{apply, apply-class}
+use Rattle.language.specs.Program.{world, class-at, is-changeable, is-root, is-state}
+use Rattle.language.specs.Typing.{Slot, Environment, fresh-slot, with-type, apply-slot, apply-all, join-slot, join-slots, join-currents, join-this, join-environments}
+use Rattle.language.proofs.Classes as classes
+use Rattle.bodies.specs.Answers.{numbers, this-number, absent}
+use Rattle.bodies.specs.Tables.{Headed, applied-number, applied, joined-number, nearest-from}
+use Rattle.bodies.specs.Nodes.{changeable-in}
+use Rattle.bodies.specs.Cycle.{Views}
+use Rattle.bodies.proofs.Worlds.{applied-is, nearest-is}
+use Rattle.bodies.proofs.Turns.{class-low, low-class}
+use Rattle.bodies.proofs.TurnsLeaves.{views-long, views-at}
+
+abbrev pub number : Slot → ℕ
+number s = type-number (s .current)
+
+-- every slot's current type is declared
+module _ (W : World) where
+  abbrev pub Good : Slot → Type 0
+  Good s = is-declared-type W (s .current) ≡ true
+
+  unfoldable pub AllGood : List Slot → Type 0
+  AllGood [] = Unit {0}
+  AllGood (s ∷ ss) = Good s × AllGood ss
+
+  abbrev pub ThisGood : Option Slot → Type 0
+  ThisGood none = Unit {0}
+  ThisGood (some s) = Good s
+
+  pub record Fine (γ : Environment) : Type 0 where
+    pub this : ThisGood (γ .this)
+    pub slots : AllGood (γ .slots)
+
+  good-list : (l : List Slot) → ((k : ℕ) (s : Slot) → nth l k ≡ some s → Good s) → AllGood l
+  unfolding AllGood nth
+  good-list [] f = tt
+  good-list (s ∷ l) f = (f 0 s refl, good-list l (λ k t e. f (suc k) t e))
+
+  good-this : (o : Option Slot) → ((s : Slot) → o ≡ some s → Good s) → ThisGood o
+  good-this none f = tt
+  good-this (some s) f = f s refl
+
+  pub fine-of : (γ : Environment) → ((k : ℕ) (s : Slot) → at-slot γ k ≡ some s → Good s) → Fine γ
+  fine-of γ f = record { this = good-this (γ .this) (λ s e. f 0 s e); slots = good-list (γ .slots) (λ k s e. f (suc k) s e) }
+
+  good-at : (l : List Slot) → AllGood l → (k : ℕ) (s : Slot) → nth l k ≡ some s → Good s
+  unfolding AllGood nth
+  good-at [] g k s e = absurd (Never e)
+  good-at (x ∷ l) g zero s e = subst Good (inj e) (g .0)
+  good-at (x ∷ l) g (suc k) s e = good-at l (g .1) k s e
+
+  this-at : (o : Option Slot) → ThisGood o → (s : Slot) → o ≡ some s → Good s
+  this-at none g s e = absurd (Never e)
+  this-at (some x) g s e = subst Good (inj e) g
+
+  pub fine-at : {γ : Environment} → Fine γ → (k : ℕ) (s : Slot) → at-slot γ k ≡ some s → Good s
+  fine-at {γ} g zero s e = this-at (γ .this) (g .this) s e
+  fine-at {γ} g (suc k) s e = good-at (γ .slots) (g .slots) k s e
+
+  -- mapped, replaced, appended, cut
+  good-map : (f : Slot → Slot) → ((s : Slot) → Good s → Good (f s)) → (l : List Slot) → AllGood l → AllGood (map f l)
+  unfolding AllGood
+  good-map f k [] g = tt
+  good-map f k (s ∷ l) g = (k s (g .0), good-map f k l (g .1))
+
+  this-map : (f : Slot → Slot) → ((s : Slot) → Good s → Good (f s)) → (o : Option Slot) → ThisGood o → ThisGood (map-option f o)
+  this-map f k none g = tt
+  this-map f k (some s) g = k s g
+
+  pub fine-map : (f : Slot → Slot) → ((s : Slot) → Good s → Good (f s)) → {γ : Environment} → Fine γ → Fine (map-frame f γ)
+  fine-map f k {γ} g = record { this = this-map f k (γ .this) (g .this); slots = good-map f k (γ .slots) (g .slots) }
+
+  good-set : (l : List Slot) (k : ℕ) (s : Slot) → AllGood l → Good s → AllGood (replaced l k s)
+  unfolding AllGood
+  good-set [] k s g h = tt
+  good-set (x ∷ l) zero s g h = (h, g .1)
+  good-set (x ∷ l) (suc k) s g h = (g .0, good-set l k s (g .1) h)
+
+  pub fine-with : {γ : Environment} (k : ℕ) (s : Slot) → Fine γ → Good s → Fine (with-slot γ k s)
+  fine-with {γ} zero s g h = record { this = go (γ .this); slots = g .slots }
+    where
+      go : (o : Option Slot) → ThisGood (map-option (λ b. s) o)
+      go none = tt
+      go (some x) = h
+  fine-with {γ} (suc k) s g h = record { this = g .this; slots = good-set (γ .slots) k s (g .slots) h }
+
+  good-append : (l m : List Slot) → AllGood l → AllGood m → AllGood (l ++ m)
+  unfolding AllGood
+  good-append [] m g h = h
+  good-append (s ∷ l) m g h = (g .0, good-append l m (g .1) h)
+
+  pub fine-opened : {γ : Environment} (l : List Slot) → Fine γ → AllGood l → Fine (opened γ l)
+  fine-opened {γ} l g h = record { this = g .this; slots = good-append (γ .slots) l (g .slots) h }
+
+  good-take : (n : ℕ) (l : List Slot) → AllGood l → AllGood (take n l)
+  unfolding AllGood
+  good-take zero l g = tt
+  good-take (suc n) [] g = tt
+  good-take (suc n) (s ∷ l) g = (g .0, good-take n l (g .1))
+
+  pub fine-closed : {γ : Environment} (n : ℕ) → Fine γ → Fine (closed n γ)
+  fine-closed {γ} n g = record { this = g .this; slots = good-take n (γ .slots) (g .slots) }
+
+  -- joined
+  module _ (k : (s t : Slot) → Good s → Good t → Good (join-slot W s t)) where
+    good-join : (l m : List Slot) → AllGood l → AllGood m → AllGood (join-slots W l m)
+    unfolding AllGood join-slots
+    good-join [] m g h = tt
+    good-join (s ∷ l) [] g h = tt
+    good-join (s ∷ l) (t ∷ m) g h = (k s t (g .0) (h .0), good-join l m (g .1) (h .1))
+
+    this-join : (o u : Option Slot) → ThisGood o → ThisGood u → ThisGood (join-this W o u)
+    this-join none u g h = tt
+    this-join (some s) none g h = tt
+    this-join (some s) (some t) g h = k s t g h
+
+    pub fine-join : {γ δ : Environment} → Fine γ → Fine δ → Fine (join-environments W γ δ)
+    fine-join {γ} {δ} g h = record { this = this-join (γ .this) (δ .this) (g .this) (h .this); slots = good-join (γ .slots) (δ .slots) (g .slots) (h .slots) }
+
+  -- slots that hold an environment's numbers
+  pub views-of : (γ : Environment) (S : List ℕ) (scope : ℕ) → Fine γ → scope ≤ length S → length (numbers γ) ≡ scope
+      → ((k : ℕ) → k < scope → getD S k 0 ≡ getD (numbers γ) k 0) → Views W γ S scope
+  views-of γ S scope g l e f = record {
+    same =
+        let a : length (take scope S) ≡ scope = length-take-le scope S l in
+        ext-getD 0 (take scope S) (numbers γ) (a ∙ sym e)
+        (λ i m. let q : i < scope = omega (arith, a) in getD-take scope S i 0 q ∙ f i q);
+    declared = λ k s e. fine-at g k s e;
+  }
+
+  pub views-fine : {γ : Environment} {S : List ℕ} {scope : ℕ} → Views W γ S scope → Fine γ
+  views-fine {γ} v = fine-of γ (v .declared)
+
+-- numbers of an environment with all slots changed
+list-map : (W : World) (f : Slot → Slot) (g : ℕ → ℕ) → ((s : Slot) → Good W s → number (f s) ≡ g (number s)) → (l : List Slot) → AllGood W l
+    → map number (map f l) ≡ map g (map number l)
+unfolding AllGood
+list-map W f g k [] h = refl
+list-map W f g k (s ∷ l) h = ap₂ (λ (x : ℕ) (xs : List ℕ). x ∷ xs) (k s (h .0)) (list-map W f g k l (h .1))
+
+pub numbers-map : (W : World) (f : Slot → Slot) (g : ℕ → ℕ) → g absent ≡ absent → ((s : Slot) → Good W s → number (f s) ≡ g (number s))
+    → {γ : Environment} → Fine W γ → numbers (map-frame f γ) ≡ map g (numbers γ)
+unfolding numbers
+numbers-map W f g z k {γ} h =
+    ap₂ (λ (x : ℕ) (xs : List ℕ). x ∷ xs) (go (γ .this) (h .this)) (list-map W f g k (γ .slots) (h .slots))
+  where
+    go : (o : Option Slot) → ThisGood W o → this-number (map-option f o) ≡ g (this-number o)
+    go none t = sym z
+    go (some s) t = k s t
+
+pub getD-map : (g : ℕ → ℕ) (l : List ℕ) (i : ℕ) → i < length l → getD (map g l) i 0 ≡ g (getD l i 0)
+getD-map g [] i h = absurd (omega arith)
+getD-map g (x ∷ l) zero h = refl
+getD-map g (x ∷ l) (suc i) h = getD-map g l i (omega arith)
+
+-- with one slot changed
+list-set : (l : List Slot) (k : ℕ) (s : Slot) → map number (replaced l k s) ≡ replaced (map number l) k (number s)
+list-set [] k s = refl
+list-set (x ∷ l) zero s = refl
+list-set (x ∷ l) (suc k) s = ap (λ (r : List ℕ). number x ∷ r) (list-set l k s)
+
+pub numbers-with : (γ : Environment) (k : ℕ) (s t : Slot) → at-slot γ k ≡ some t → numbers (with-slot γ k s) ≡ replaced (numbers γ) k (number s)
+unfolding numbers
+numbers-with γ zero s t e = ap (λ (o : Option Slot). this-number (map-option (λ b. s) o) ∷ map number (γ .slots)) e
+numbers-with γ (suc k) s t e = ap (λ (r : List ℕ). this-number (γ .this) ∷ r) (list-set (γ .slots) k s)
+
+pub at-map : (f : Slot → Slot) (γ : Environment) (k : ℕ) (s : Slot) → at-slot γ k ≡ some s → at-slot (map-frame f γ) k ≡ some (f s)
+at-map f γ zero s e = ap (map-option f) e
+at-map f γ (suc k) s e = Rattle.language.specs.Lists.nth-map f k (γ .slots) s e
+
+-- opened and closed
+list-append : (l m : List Slot) → map number (l ++ m) ≡ map number l ++ map number m
+list-append [] m = refl
+list-append (x ∷ l) m = ap (λ (r : List ℕ). number x ∷ r) (list-append l m)
+
+list-fresh : (ts : List DeclaredType) → map number (map fresh-slot ts) ≡ map type-number ts
+list-fresh [] = refl
+list-fresh (t ∷ ts) = ap (λ (r : List ℕ). type-number t ∷ r) (list-fresh ts)
+
+pub numbers-opened : (γ : Environment) (ts : List DeclaredType) → numbers (opened γ (map fresh-slot ts)) ≡ numbers γ ++ map type-number ts
+unfolding numbers
+numbers-opened γ ts =
+    ap (λ (r : List ℕ). this-number (γ .this) ∷ r) (list-append (γ .slots) (map fresh-slot ts) ∙ ap (λ (r : List ℕ). map number (γ .slots) ++ r) (list-fresh ts))
+
+list-take : (n : ℕ) (l : List Slot) → map number (take n l) ≡ take n (map number l)
+list-take zero l = refl
+list-take (suc n) [] = refl
+list-take (suc n) (x ∷ l) = ap (λ (r : List ℕ). number x ∷ r) (list-take n l)
+
+pub numbers-closed : (n : ℕ) (γ : Environment) → numbers (closed n γ) ≡ take (suc n) (numbers γ)
+unfolding numbers
+numbers-closed n γ = ap (λ (r : List ℕ). this-number (γ .this) ∷ r) (list-take n (γ .slots))
+
+map-length : (l : List Slot) → length (map number l) ≡ length l
+map-length [] = refl
+map-length (x ∷ l) = ap suc (map-length l)
+
+pub numbers-length : (γ : Environment) → length (numbers γ) ≡ suc (length (γ .slots))
+unfolding numbers
+numbers-length γ = ap suc (map-length (γ .slots))
+
+-- whether there is a `this`
+abbrev pub has : Option Slot → Bool
+has none = false
+has (some s) = true
+
+-- joined
+module _ (W : World) (g : ℕ → ℕ → ℕ) (z : g absent absent ≡ absent)
+    (k : (s t : Slot) → Good W s → Good W t → number (join-slot W s t) ≡ g (number s) (number t)) where
+  list-join : (l m : List Slot) → AllGood W l → AllGood W m → length l ≡ length m → (i : ℕ) → i < length l
+      → getD (map number (join-slots W l m)) i 0 ≡ g (getD (map number l) i 0) (getD (map number m) i 0)
+  unfolding AllGood join-slots
+  list-join [] m p q e i h = absurd (omega arith)
+  list-join (s ∷ l) [] p q e i h = absurd (omega arith)
+  list-join (s ∷ l) (t ∷ m) p q e zero h = k s t (p .0) (q .0)
+  list-join (s ∷ l) (t ∷ m) p q e (suc i) h = list-join l m (p .1) (q .1) (omega arith) i (omega arith)
+
+  join-length : (l m : List Slot) → length l ≡ length m → length (join-slots W l m) ≡ length l
+  unfolding join-slots
+  join-length [] m e = refl
+  join-length (s ∷ l) [] e = absurd (omega arith)
+  join-length (s ∷ l) (t ∷ m) e = ap suc (join-length l m (omega arith))
+
+  pub numbers-join : {γ δ : Environment} → Fine W γ → Fine W δ → length (γ .slots) ≡ length (δ .slots) → has (γ .this) ≡ has (δ .this)
+      → (length (numbers (join-environments W γ δ)) ≡ suc (length (γ .slots)))
+      × ((i : ℕ) → i < suc (length (γ .slots)) → getD (numbers (join-environments W γ δ)) i 0 ≡ g (getD (numbers γ) i 0) (getD (numbers δ) i 0))
+  unfolding numbers
+  numbers-join {γ} {δ} p q e t = (
+    ap suc (map-length (join-slots W (γ .slots) (δ .slots)) ∙ join-length (γ .slots) (δ .slots) e),
+    λ i. go i,
+  )
+    where
+      this : (o u : Option Slot) → has o ≡ has u → ThisGood W o → ThisGood W u → this-number (join-this W o u) ≡ g (this-number o) (this-number u)
+      this none none t a b = sym z
+      this none (some s) t a b = absurd (false≢true t)
+      this (some s) none t a b = absurd (false≢true (sym t))
+      this (some s) (some u) t a b = k s u a b
+
+      go : (i : ℕ) → i < suc (length (γ .slots)) → getD (numbers (join-environments W γ δ)) i 0 ≡ g (getD (numbers γ) i 0) (getD (numbers δ) i 0)
+      go zero h = this (γ .this) (δ .this) t (p .this) (q .this)
+      go (suc i) h = list-join (γ .slots) (δ .slots) (p .slots) (q .slots) e i (omega arith)
+
+-- what the tables give of a declared type
+module _ {P : List Class} {R T A : List ℕ} {count : ℕ} (h : Headed P R T A count) where
+  pub not-255 : (c : ℕ) → c ≤ count → eqb c 255 ≡ false
+  not-255 c l = ne-eqb c 255 (λ e. omega (arith, h .classes .few))
+
+  pub not-absent : (c : ℕ) → c ≤ count → eqb c 65535 ≡ false
+  not-absent c l = ne-eqb c 65535 (λ e. omega (arith, h .classes .few))
+
+  pub apply-number : (φ : ℕ) (t : DeclaredType) → is-declared-type (world P) t ≡ true → type-number (apply (world P) φ t) ≡ applied-number T φ (type-number t)
+  unfolding applied-number
+  apply-number φ bool d = refl
+  apply-number φ (class c) d = let l = class-low c h d in rw (not-255 c l, not-absent c l) (sym (applied-is (h .classes) φ c l))
+
+  pub apply-declared : (φ : ℕ) (t : DeclaredType) → is-declared-type (world P) t ≡ true → is-declared-type (world P) (apply (world P) φ t) ≡ true
+  apply-declared φ bool d = refl
+  apply-declared φ (class c) d =
+      low-class _ h (omega (arith, class-low c h d, classes.apply-within P (h .classes .lower) φ c))
+
+  pub joined-numbers : (t u : DeclaredType) → is-declared-type (world P) t ≡ true → is-declared-type (world P) u ≡ true
+      → type-number (join-currents (world P) t u) ≡ joined-number T A (type-number t) (type-number u)
+  unfolding joined-number
+  joined-numbers bool u d e = refl
+  joined-numbers (class c) bool d e = let l = class-low c h d in rw (not-255 c l, not-absent c l)
+  joined-numbers (class c) (class k) d e =
+      let l = class-low c h d in
+      let m = class-low k h e in
+      rw (not-255 c l, not-absent c l, not-255 k m, not-absent k m) (sym (nearest-is (h .classes) c k l m))
+
+  pub join-declared : (t u : DeclaredType) → is-declared-type (world P) t ≡ true → is-declared-type (world P) u ≡ true
+      → is-declared-type (world P) (join-currents (world P) t u) ≡ true
+  join-declared bool u d e = refl
+  join-declared (class c) bool d e = d
+  join-declared (class c) (class k) d e =
+      let l = class-low c h d in
+      low-class _ h (omega (arith, l, classes.nearest-within P (h .classes .lower) c k (omega (arith, l, h .classes .counted))))
+
+  -- a root or state class
+  pub changeable-is : (c : ℕ) → c ≤ count → changeable-in T c ≡ world P .changeable c
+  unfolding changeable-in world is-changeable class-at
+  changeable-is zero l = refl
+  changeable-is (suc c) l =
+      rw (ne-eqb (suc c) 0 (λ e. omega arith)) (go (classes.class-some P (suc c) (omega arith) (omega (arith, h .classes .counted))))
+    where
+      by-kind : (k : Kind) (n : ℕ) → n ≡ kind-number k → ((m : ℕ) → k ≡ unknown m → ⊥) → cond (eqb n 1) true (eqb n 2) ≡ is-root k || is-state k
+      by-kind plain n e f = rw e
+      by-kind root n e f = rw e
+      by-kind state n e f = rw e
+      by-kind (unknown m) n e f = absurd (f m refl)
+
+      go : (x : Class) × (class-at P (suc c) ≡ some x)
+          → cond (eqb (getD T (suc c * 576 + 512) 0) 1) true (eqb (getD T (suc c * 576 + 512) 0) 2)
+          ≡ given (nth P c) false (λ y. is-root (y .kind) || is-state (y .kind))
+      go (x, e) =
+          by-kind (x .kind) (getD T (suc c * 576 + 512) 0) (h .classes .tables .kinds (suc c) x e) (λ m q. h .kinds (suc c) m x e q)
+          ∙ sym (ap (λ (o : Option Class). given o false (λ y. is-root (y .kind) || is-state (y .kind))) e)

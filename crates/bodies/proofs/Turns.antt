@@ -1,0 +1,218 @@
+-- How answers follow one another in the cycle: what is given of a node, its children, and what stays. Assumes nothing.
+use mathlib.Core.Path.{_≡_, refl, sym, ap, subst, _∙_}
+use mathlib.Core.Bool.{true, false, false≢true}
+use mathlib.Core.List.{List}
+use Prim.Native.Nat.{ℕ, _+_, _-_, _*_, _≤_, _<_}
+use native.Mathlib.Omega.{arith}
+use borrow.Author.Tests.{leb-true, le-leb}
+use lib.ListN.{length, getD, take}
+use lib.Seq.{ext-getD, getD-take, length-take-le}
+use Rattle.language.specs.Results.{Checked, accept, refuse, bind-checked, accept≢refuse, accept-injective}
+use Rattle.language.specs.Tree.{DeclaredType, bool, class, ExprType, known, null-type, Class, Expr, Exprs, size, sizes}
+use Rattle.language.specs.World.{World, is-declared-type}
+use Rattle.language.specs.Program.{world}
+use Rattle.language.specs.Typing.{Environment, Typed, type-of}
+use Rattle.language.specs.Encoded.{Encoded, EncodedAll}
+use Rattle.language.specs.LookupClasses.{LooksUp, LooksUpAll}
+use Rattle.bodies.specs.declared.Answer.{Answer}
+use Rattle.bodies.specs.declared.Typing.the-variants.{Refusal}
+use Rattle.bodies.specs.Answers.{answer, answer-of, typing-case, is-refusal}
+use Rattle.bodies.specs.Tables.{Headed, CaseIn}
+use Rattle.bodies.specs.Cycle.{Limited, LimitedAll, Views, Room, Kept, Pre, Post, Declared, Accepted, Is, PreList}
+use Rattle.bodies.proofs.Typings.{looks-frame, looks-frame-all}
+use Rattle.bodies.proofs.TurnsLetters.{code-of, head}
+
+-- ---- what is given of an expression, and of several in a row
+
+pub record Given (R E T A S C : List ℕ) (count at scope top : ℕ) (P : List Class) (e : Expr) (γ : Environment) (d : ℕ) : Type 0 where
+  pub headed : Headed P R T A count
+  pub encoded : Encoded R E e at
+  pub limited : Limited e scope d
+  pub views : Views (world P) γ S scope
+  pub room : Room R E S C scope top d
+
+pub record GivenAll (R E T A S C : List ℕ) (count at scope top : ℕ) (P : List Class) (es : Exprs) (γ : Environment) (d : ℕ) : Type 0 where
+  pub headed : Headed P R T A count
+  pub encoded : EncodedAll R E es at
+  pub limited : LimitedAll es scope d
+  pub views : Views (world P) γ S scope
+  pub room : Room R E S C scope top d
+
+module _ {R E T A S C : List ℕ} {count at scope top : ℕ} where
+  pub given-of : (p : Pre R E T A S C count at scope top) → Given R E T A S C count at scope top (p .P) (p .e) (p .γ) (p .d)
+  given-of p = record { headed = p .headed; encoded = p .encoded; limited = p .limited; views = p .views; room = p .room }
+
+  pub pre-of : {P : List Class} {e : Expr} {γ : Environment} {d : ℕ} → Given R E T A S C count at scope top P e γ d → Pre R E T A S C count at scope top
+  pre-of {P} {e} {γ} {d} g =
+      record { P = P; e = e; γ = γ; d = d; headed = g .headed; encoded = g .encoded; limited = g .limited; views = g .views; room = g .room }
+
+  pub given-all-of : {n : ℕ} (p : PreList R E T A S C count at scope top n) → GivenAll R E T A S C count at scope top (p .P) (p .es) (p .γ) (p .d)
+  given-all-of p = record { headed = p .headed; encoded = p .encoded; limited = p .limited; views = p .views; room = p .room }
+
+  pub post-is : {S′ C′ : List ℕ} {r : Answer} {P : List Class} {e : Expr} {γ : Environment} {d : ℕ} → Post R E T A S C S′ C′ count at scope top r
+      → Given R E T A S C count at scope top P e γ d → Is (world P) e γ at scope S′ C′ r
+  post-is {P = P} {e} {γ} {d} p g = p .is P e γ d (g .headed) (g .encoded) (g .limited) (g .views) (g .room)
+
+  pub post-of : {S′ C′ : List ℕ} {r : Answer} → Kept S S′ C C′ at (getD E at 0) top
+      → ((P : List Class) (e : Expr) (γ : Environment) (d : ℕ) → Given R E T A S C count at scope top P e γ d → Is (world P) e γ at scope S′ C′ r)
+      → Post R E T A S C S′ C′ count at scope top r
+  post-of k f = record {
+    kept = k;
+    is = λ P e γ d h n l v m. f P e γ d (record { headed = h; encoded = n; limited = l; views = v; room = m });
+  }
+
+  -- the node's row
+  pub in-row : (p : Pre R E T A S C count at scope top) → (at * 4 + 3 < length R) × (at < length E) × (length E ≤ length C) × (at < 60000) × (getD R (at * 4) 0 ≡ code-of (p .e))
+  in-row p = let h = head (p .e) (p .encoded) in (h .row, h .in-ends, p .room .nodes, omega (arith, h .row, p .room .rows), h .letter)
+
+-- ---- what stays
+
+module _ {S S′ C C′ : List ℕ} where
+  pub kept-wider : {from to top : ℕ} (from′ to′ top′ : ℕ) → Kept S S′ C C′ from to top → from′ ≤ from → to ≤ to′ → top′ ≤ top → Kept S S′ C C′ from′ to′ top′
+  kept-wider from′ to′ top′ k a b c = record {
+    slots-long = k .slots-long;
+    classes-long = k .classes-long;
+    between = λ i l m. k .between i l (omega arith);
+    before = λ i l. k .before i (omega arith);
+    after = λ i l. k .after i (omega arith);
+  }
+
+  pub kept-then : {S″ C″ : List ℕ} {from to top : ℕ} → Kept S S′ C C′ from to top → Kept S′ S″ C′ C″ from to top → Kept S S″ C C″ from to top
+  kept-then a b = record {
+    slots-long = b .slots-long ∙ a .slots-long;
+    classes-long = b .classes-long ∙ a .classes-long;
+    between = λ i l m. b .between i l m ∙ a .between i l m;
+    before = λ i l. b .before i l ∙ a .before i l;
+    after = λ i l. b .after i l ∙ a .after i l;
+  }
+
+pub kept-none : {S C : List ℕ} {from to top : ℕ} → Kept S S C C from to top
+kept-none = record { slots-long = refl; classes-long = refl; between = λ i l m. refl; before = λ i l. refl; after = λ i l. refl }
+
+-- slots change below 256 or from `top` on only
+pub kept-slots : {S S′ C : List ℕ} {from to top : ℕ} → length S′ ≡ length S → ((i : ℕ) → 256 ≤ i → i < top → getD S′ i 0 ≡ getD S i 0) → Kept S S′ C C from to top
+kept-slots e f = record { slots-long = e; classes-long = refl; between = f; before = λ i l. refl; after = λ i l. refl }
+
+-- the table changes in one row only
+pub kept-classes : {S C C′ : List ℕ} {from to top : ℕ} (at : ℕ) → length C′ ≡ length C → ((i : ℕ) → (i ≡ at → ⊥) → getD C′ i 0 ≡ getD C i 0) → from ≤ at → at < to → Kept S S C C′ from to top
+kept-classes at e f l m = record {
+  slots-long = refl;
+  classes-long = e;
+  between = λ i a b. refl;
+  before = λ i a. f i (λ z. omega arith);
+  after = λ i a. f i (λ z. omega arith);
+}
+
+-- room for what comes next
+pub room-next : {R E S C S′ C′ : List ℕ} {scope top d : ℕ} (scope′ top′ d′ : ℕ) → Room R E S C scope top d → length S′ ≡ length S → length C′ ≡ length C
+    → 1 ≤ scope′ → scope′ ≤ 256 → 256 ≤ top′ → top′ + 256 * d′ ≤ top + 256 * d → Room R E S′ C′ scope′ top′ d′
+room-next scope′ top′ d′ m a b u v w x = record {
+  this = u;
+  scoped = v;
+  above = w;
+  room = omega (arith, m .room, a);
+  rows = m .rows;
+  nodes = omega (arith, m .nodes, b);
+}
+
+pub room-child : {R E S C : List ℕ} {scope top d : ℕ} → Room R E S C scope top d → 1 ≤ d → Room R E S C scope top (d - 1)
+room-child {scope = scope} {top} {d} m l = room-next scope top (d - 1) m refl refl (m .this) (m .scoped) (m .above) (omega arith)
+
+pub room-kept : {R E S C S′ C′ : List ℕ} {scope top d from to top′ : ℕ} → Room R E S C scope top d → Kept S S′ C C′ from to top′ → Room R E S′ C′ scope top d
+room-kept {scope = scope} {top} {d} m k = room-next scope top d m (k .slots-long) (k .classes-long) (m .this) (m .scoped) (m .above) (omega arith)
+
+pub room-slots : {R E S C : List ℕ} {scope top d : ℕ} → Room R E S C scope top d → scope ≤ length S
+room-slots m = omega (arith, m .room, m .above, m .scoped)
+
+-- ---- the slots in scope
+
+take-same : (n : ℕ) (S S′ : List ℕ) → n ≤ length S → length S′ ≡ length S → ((i : ℕ) → i < n → getD S′ i 0 ≡ getD S i 0) → take n S′ ≡ take n S
+take-same n S S′ l e f =
+    let a : length (take n S) ≡ n = length-take-le n S l in
+    let b : length (take n S′) ≡ n = length-take-le n S′ (omega (arith, e)) in
+    ext-getD 0 (take n S′) (take n S) (b ∙ sym a)
+    (λ i m. let k : i < n = omega (arith, b) in getD-take n S′ i 0 k ∙ (f i k ∙ sym (getD-take n S i 0 k)))
+
+pub views-same : {W : World} {γ : Environment} {S S′ : List ℕ} {scope : ℕ} → Views W γ S scope → scope ≤ length S → length S′ ≡ length S
+    → ((i : ℕ) → i < scope → getD S′ i 0 ≡ getD S i 0) → Views W γ S′ scope
+views-same {S = S} {S′} {scope} v l e f = record { same = take-same scope S S′ l e f ∙ v .same; declared = v .declared }
+
+-- ---- types
+
+pub declared-bool : {W : World} → Declared W (known bool)
+declared-bool = record { class-in = λ c e. absurd (let z : _≡_ {A = ℕ} 0 1 = cc in omega arith) }
+
+pub declared-null : {W : World} → Declared W null-type
+declared-null = record { class-in = λ c e. absurd (let z : _≡_ {A = ℕ} 0 1 = cc in omega arith) }
+
+pub declared-known : {W : World} (t : DeclaredType) → is-declared-type W t ≡ true → Declared W (known t)
+declared-known bool h = declared-bool
+declared-known {W} (class k) h = record { class-in = λ c e. let z : k ≡ c = cc in rw (← z) h }
+
+-- a declared class's number is in the tables
+pub class-low : {P : List Class} {R T A : List ℕ} {count : ℕ} (c : ℕ) → Headed P R T A count → is-declared-type (world P) (class c) ≡ true → c ≤ count
+unfolding world
+class-low {P} c h e = omega (arith, leb-true c (length P) e, h .classes .counted)
+
+pub low-class : {P : List Class} {R T A : List ℕ} {count : ℕ} (c : ℕ) → Headed P R T A count → c ≤ count → is-declared-type (world P) (class c) ≡ true
+unfolding world
+low-class {P} c h l = le-leb c (length P) (omega (arith, h .classes .counted))
+
+pub type-low : {P : List Class} {R T A : List ℕ} {count : ℕ} (t : ExprType) → Headed P R T A count → Declared (world P) t → (c : ℕ) → t ≡ known (class c) → c ≤ count
+type-low t h d c e = class-low c h (d .class-in c e)
+
+pub case-low : {P : List Class} {R T A : List ℕ} {count : ℕ} (t : ExprType) → Headed P R T A count → Declared (world P) t → CaseIn (length A) (typing-case t)
+case-low (known bool) h d = tt
+case-low (known (class c)) h d = omega (arith, class-low c h (d .class-in c refl), h .classes .tables .long-above, h .classes .counted)
+case-low null-type h d = tt
+
+-- ---- answers
+
+-- an answer that is no refusal is an accepted one
+pub accepted-of : {X : Type 0} (q : Checked Typed) {r : Answer} → r ≡ answer-of q → is-refusal (r .typing) ≡ false
+    → ((a : Typed) → q ≡ accept a → r ≡ answer (typing-case (a .type)) (a .effect) → X) → X
+accepted-of (accept a) e f k = k a refl e
+accepted-of (refuse n l) e f k = absurd (false≢true (sym f ∙ ap (λ (x : Answer). is-refusal (x .typing)) e))
+
+-- a refusal is passed on
+pub not-refused : (t : ExprType) → is-refusal (typing-case t) ≡ false
+not-refused (known bool) = refl
+not-refused (known (class c)) = refl
+not-refused null-type = refl
+
+pub refused-of : {X : Type 0} (q : Checked Typed) {r : Answer} → r ≡ answer-of q → is-refusal (r .typing) ≡ true
+    → ((n l : ℕ) → q ≡ refuse n l → r ≡ answer (Refusal n l) 0 → X) → X
+refused-of (accept a) e f k = absurd (false≢true (sym (not-refused (a .type)) ∙ (sym (ap (λ (x : Answer). is-refusal (x .typing)) e) ∙ f)))
+refused-of (refuse n l) e f k = k n l refl e
+
+pub is-refused : {W : World} {e : Expr} {γ : Environment} {at scope : ℕ} {S C : List ℕ} {r : Answer} (n l : ℕ) → type-of W e (at + 1) γ ≡ refuse n l → r ≡ answer (Refusal n l) 0
+    → Is W e γ at scope S C r
+is-refused n l e f = record {
+  out = f ∙ sym (ap answer-of e);
+  accepted = λ a q. absurd (accept≢refuse n l (sym e ∙ q));
+}
+
+pub is-accepted : {W : World} {e : Expr} {γ : Environment} {at scope : ℕ} {S C : List ℕ} {r : Answer} (a : Typed) → type-of W e (at + 1) γ ≡ accept a
+    → r ≡ answer (typing-case (a .type)) (a .effect) → Accepted W e γ at scope S C a → Is W e γ at scope S C r
+is-accepted {W} {e} {γ} {at} {scope} {S} {C} a h f k = record {
+  out = f ∙ sym (ap answer-of h);
+  accepted = λ b q. subst (λ (x : Typed). Accepted W e γ at scope S C x) (accept-injective (sym h ∙ q)) k;
+}
+
+-- one child's refusal is the node's
+pub bind-refused : {A B : Type 0} (q : Checked A) (k : A → Checked B) (n l : ℕ) → q ≡ refuse n l → bind-checked q k ≡ refuse n l
+unfolding bind-checked
+bind-refused q k n l e = rw e
+
+pub bind-accepted : {A B : Type 0} (q : Checked A) (k : A → Checked B) (a : A) → q ≡ accept a → bind-checked q k ≡ k a
+unfolding bind-checked
+bind-accepted q k a e = rw e
+
+-- the table of a node stays where a later call does not touch it
+pub looks-kept : (W : World) {S S′ C C′ : List ℕ} {from to top : ℕ} (e : Expr) (γ : Environment) (at : ℕ) → Kept S S′ C C′ from to top → at + size e ≤ from
+    → LooksUp W C e γ at → LooksUp W C′ e γ at
+looks-kept W {C = C} {C′} e γ at k l h = looks-frame W C C′ e γ at (λ i u v. k .before i (omega arith)) h
+
+pub looks-kept-all : (W : World) {S S′ C C′ : List ℕ} {from to top : ℕ} (es : Exprs) (γ : Environment) (at : ℕ) → Kept S S′ C C′ from to top → at + sizes es ≤ from
+    → LooksUpAll W C es γ at → LooksUpAll W C′ es γ at
+looks-kept-all W {C = C} {C′} es γ at k l h = looks-frame-all W C C′ es γ at (λ i u v. k .before i (omega arith)) h

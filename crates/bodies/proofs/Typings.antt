@@ -1,0 +1,191 @@
+-- What a node's function answers is the definition's, where its child's answer is. Assumes nothing.
+use mathlib.Core.Path.{_≡_, refl, _∙_}
+use mathlib.Core.Bool.{Bool, true, false, not, cond}
+use mathlib.Core.Option.{Option, none, some}
+use mathlib.Core.List.{List, [], _∷_, map}
+use Prim.Native.Nat.{ℕ, _+_, _*_, _≤_, _<_}
+use native.Mathlib.Omega.{arith}
+use borrow.Author.Tests.{leb-true, leb-false, le-ltb, lt-ltb}
+use lib.Dec.{eqb, leb, ltb}
+use lib.ListN.{length, getD}
+use Rattle.language.specs.Results.{Checked, accept, refuse, bind-checked, need-checked, require, accept≢refuse}
+use Rattle.language.specs.Frames.{at-slot, opened}
+use Rattle.language.specs.Tree.{DeclaredType, bool, class, ExprType, known, null-type, Expr, literal-true, literal-false, literal-null, slot, is-null, get, cast, new, change, assign, set, call, choose, block, Exprs, nil, cons, size, sizes}
+use Rattle.language.specs.World.{World, field-type, is-declared, is-declared-type}
+use Rattle.language.specs.Effects.{apply-class}
+use Rattle.language.specs.Typing.{Environment, Typed, TypedAll, typed, not-bool, need-class, fits, all-fit, join-types, can-change, fresh-slot, locals-declared, type-of, type-all}
+use Rattle.language.specs.LookupClasses.{LooksUp, LooksUpAll}
+use Rattle.bodies.specs.Answers.{answer-of, typing-case}
+use Rattle.bodies.specs.Nodes.{null-tested, created}
+
+-- Z
+null-go : (at : ℕ) (q : Checked Typed)
+    → null-tested at (answer-of q .typing) (answer-of q .effect)
+    ≡ answer-of (bind-checked q λ a. require (not-bool (a .type)) 9 (at + 1) λ _. typed (known bool) (a .slots) (a .effect))
+unfolding null-tested bind-checked require
+null-go at (refuse n l) = refl
+null-go at (accept a) = go (a .type)
+  where
+    go : (t : ExprType) → null-tested at (typing-case t) (a .effect)
+        ≡ answer-of (require (not-bool t) 9 (at + 1) λ _. typed (known bool) (a .slots) (a .effect))
+    go (known bool) = refl
+    go (known (class c)) = refl
+    go null-type = refl
+
+pub null-is : (W : World) (e : Expr) (at : ℕ) (γ : Environment) → let q = type-of W e (at + 1 + 1) γ in
+    null-tested at (answer-of q .typing) (answer-of q .effect) ≡ answer-of (type-of W (is-null e) (at + 1) γ)
+unfolding type-of
+null-is W e at γ = null-go at (type-of W e (at + 1 + 1) γ)
+
+-- the two tests of a class's number
+pub declared-test : (c n : ℕ) (b : Bool) → leb c n ≡ b → ltb n c ≡ cond b false true
+declared-test c n true e = le-ltb n c (leb-true c n e)
+declared-test c n false e = lt-ltb n c (leb-false c n e)
+
+-- W
+pub new-is : (W : World) (R : List ℕ) (c at : ℕ) (γ : Environment) → getD R (at * 4 + 1) 0 ≡ c
+    → created R (W .count) at ≡ answer-of (type-of W (new c) (at + 1) γ)
+unfolding created type-of require
+new-is W R c at γ e = rw e (go (leb c (W .count)) refl)
+  where
+    go : (b : Bool) → leb c (W .count) ≡ b
+        → cond (ltb (W .count) c) (answer-of (refuse 4 (at + 1))) (answer-of (typed (known (class c)) γ 0))
+        ≡ answer-of (require b 4 (at + 1) λ _. typed (known (class c)) γ 0)
+    go true f = rw (declared-test c (W .count) true f)
+    go false f = rw (declared-test c (W .count) false f)
+
+-- ---- the line changes where a refusal stands, and nothing else
+
+data Same {A : Type 0} : Checked A → Checked A → Type 0 where
+  same-accept : (a : A) → Same (accept a) (accept a)
+  same-refuse : (n l m k : ℕ) → Same (refuse n l) (refuse m k)
+
+same-bind : {A B : Type 0} {x y : Checked A} {f g : A → Checked B} → Same x y → ((a : A) → Same (f a) (g a))
+    → Same (bind-checked x f) (bind-checked y g)
+unfolding bind-checked
+same-bind (same-accept a) h = h a
+same-bind (same-refuse n l m k) h = same-refuse n l m k
+
+same-need : {A B : Type 0} (o : Option A) (n l l′ : ℕ) {f g : A → Checked B} → ((a : A) → Same (f a) (g a))
+    → Same (need-checked o n l f) (need-checked o n l′ g)
+unfolding need-checked
+same-need none n l l′ h = same-refuse n l n l′
+same-need (some a) n l l′ h = h a
+
+same-require : {B : Type 0} (b : Bool) (n l l′ : ℕ) {f g : Bool → Checked B} → ((u : Bool) → Same (f u) (g u))
+    → Same (require b n l f) (require b n l′ g)
+unfolding require
+same-require true n l l′ h = h true
+same-require false n l l′ h = same-refuse n l n l′
+
+same-class : {B : Type 0} (t : ExprType) (n l l′ : ℕ) {f g : ℕ → Checked B} → ((c : ℕ) → Same (f c) (g c))
+    → Same (need-class t n l f) (need-class t n l′ g)
+unfolding need-class
+same-class (known bool) n l l′ h = same-refuse n l n l′
+same-class (known (class c)) n l l′ h = h c
+same-class null-type n l l′ h = same-refuse n l n l′
+
+same-accepted : {A : Type 0} {x y : Checked A} {a : A} → Same x y → x ≡ accept a → y ≡ accept a
+same-accepted (same-accept b) e = e
+same-accepted (same-refuse n l m k) e = absurd (accept≢refuse n l e)
+
+module _ (W : World) where
+  same-locals : (ts : List DeclaredType) (l l′ : ℕ) → Same (locals-declared W l ts) (locals-declared W l′ ts)
+  unfolding locals-declared
+  same-locals [] l l′ = same-accept tt
+  same-locals (t ∷ ts) l l′ = same-require (is-declared-type W t) 4 l l′ (λ u. same-locals ts (l + 1) (l′ + 1))
+
+  mutual
+    unfolding type-of
+
+    same-typed : (e : Expr) (l l′ : ℕ) (γ : Environment) → Same (type-of W e l γ) (type-of W e l′ γ)
+    same-typed literal-true l l′ γ = same-accept _
+    same-typed literal-false l l′ γ = same-accept _
+    same-typed literal-null l l′ γ = same-accept _
+    same-typed (slot k) l l′ γ = same-need (at-slot γ k) 7 l l′ λ s. same-accept _
+    same-typed (is-null e) l l′ γ = same-bind (same-typed e (l + 1) (l′ + 1) γ) λ a.
+        same-require (not-bool (a .type)) 9 l l′ (λ u. same-accept _)
+    same-typed (get f e) l l′ γ = same-bind (same-typed e (l + 1) (l′ + 1) γ) λ a.
+        same-class (a .type) 9 l l′ λ c. same-need (field-type f (W .fields c)) 8 l l′ λ t. same-accept _
+    same-typed (cast c e) l l′ γ = same-bind (same-typed e (l + 1) (l′ + 1) γ) λ a.
+        same-require (is-declared W c) 4 l l′ (λ u. same-require (not-bool (a .type)) 9 l l′ (λ v. same-accept _))
+    same-typed (new c) l l′ γ = same-require (is-declared W c) 4 l l′ (λ u. same-accept _)
+    same-typed (change k d) l l′ γ = same-require (is-declared W d) 4 l l′
+        (λ u. same-need (at-slot γ k) 7 l l′ λ s. same-class (known (s .current)) 11 l l′ λ c.
+        same-require (can-change W c d) 11 l l′ (λ u. same-accept _))
+    same-typed (assign k e) l l′ γ = same-bind (same-typed e (l + 1) (l′ + 1) γ) λ a.
+        same-require (not (eqb k 0)) 7 l l′ (λ u. same-need (at-slot (a .slots) k) 7 l l′ λ s.
+        same-require (fits W (a .type) (s .current)) 9 l l′ (λ u. same-accept _))
+    same-typed (set f e e′) l l′ γ = same-bind (same-typed e (l + 1) (l′ + 1) γ) λ a.
+        same-bind (same-typed e′ (l + 1 + size e) (l′ + 1 + size e) (a .slots)) λ b.
+        same-class (a .type) 9 l l′ λ c. same-need (field-type f (W .fields (apply-class W (b .effect) c))) 8 l l′ λ t.
+        same-require (fits W (b .type) t) 9 l l′ (λ u. same-accept _)
+    same-typed (call m e es) l l′ γ = same-bind (same-typed e (l + 1) (l′ + 1) γ) λ a.
+        same-bind (same-typed-all es (l + 1 + size e) (l′ + 1 + size e) (a .slots)) λ b.
+        same-class (a .type) 9 l l′ λ c. same-need (W .method (apply-class W (b .effect) c) m) 8 l l′ λ M.
+        same-require (eqb (length (b .types)) (length (M .parameters))) 8 l l′
+        (λ u. same-require (all-fit W (b .types) (M .parameters)) 9 l l′ (λ u. same-accept _))
+    same-typed (choose e x y) l l′ γ = same-bind (same-typed e (l + 1) (l′ + 1) γ) λ a.
+        same-bind (same-typed x (l + 1 + size e) (l′ + 1 + size e) (a .slots)) λ b.
+        same-bind (same-typed y (l + 1 + size e + size x) (l′ + 1 + size e + size x) (a .slots)) λ c.
+        same-require (not (not-bool (a .type))) 9 l l′
+        (λ u. same-need (join-types W (b .type) (c .type)) 9 l l′ λ t. same-accept _)
+    same-typed (block ts es) l l′ γ = same-bind (same-locals ts (l + 1) (l′ + 1)) λ u.
+        same-bind (same-typed-all es (l + 1 + length ts) (l′ + 1 + length ts) (opened γ (map fresh-slot ts))) λ b.
+        same-accept _
+
+    same-typed-all : (es : Exprs) (l l′ : ℕ) (γ : Environment) → Same (type-all W es l γ) (type-all W es l′ γ)
+    same-typed-all nil l l′ γ = same-accept _
+    same-typed-all (cons e es) l l′ γ = same-bind (same-typed e l l′ γ) λ a.
+        same-bind (same-typed-all es (l + size e) (l′ + size e) (a .slots)) λ b. same-accept _
+
+  -- what is accepted on one line is accepted on every line
+  pub line-free : (e : Expr) (l l′ : ℕ) (γ : Environment) {a : Typed} → type-of W e l γ ≡ accept a → type-of W e l′ γ ≡ accept a
+  line-free e l l′ γ h = same-accepted (same-typed e l l′ γ) h
+
+  pub line-free-all : (es : Exprs) (l l′ : ℕ) (γ : Environment) {b : TypedAll} → type-all W es l γ ≡ accept b → type-all W es l′ γ ≡ accept b
+  line-free-all es l l′ γ h = same-accepted (same-typed-all es l l′ γ) h
+
+-- ---- the lookup classes of an expression stand in its own rows
+
+module _ (W : World) (C C′ : List ℕ) where
+  mutual
+    unfolding LooksUp size
+
+    pub looks-frame : (e : Expr) (γ : Environment) (r : ℕ) → ((i : ℕ) → r ≤ i → i < r + size e → getD C′ i 0 ≡ getD C i 0)
+        → LooksUp W C e γ r → LooksUp W C′ e γ r
+    looks-frame literal-true γ r s h = tt
+    looks-frame literal-false γ r s h = tt
+    looks-frame literal-null γ r s h = tt
+    looks-frame (slot k) γ r s h = tt
+    looks-frame (is-null e) γ r s h = looks-frame e γ (r + 1) (λ i l m. s i (omega arith) (omega arith)) h
+    looks-frame (get f e) γ r s h =
+        (s r (omega arith) (omega arith) ∙ h .0, looks-frame e γ (r + 1) (λ i l m. s i (omega arith) (omega arith)) (h .1))
+    looks-frame (cast c e) γ r s h = looks-frame e γ (r + 1) (λ i l m. s i (omega arith) (omega arith)) h
+    looks-frame (new c) γ r s h = tt
+    looks-frame (change k d) γ r s h = tt
+    looks-frame (assign k e) γ r s h = looks-frame e γ (r + 1) (λ i l m. s i (omega arith) (omega arith)) h
+    looks-frame (set f e e′) γ r s h = (
+      s r (omega arith) (omega arith) ∙ h .0,
+      looks-frame e γ (r + 1) (λ i l m. s i (omega arith) (omega arith)) (h .1),
+      looks-frame e′ _ (r + 1 + size e) (λ i l m. s i (omega arith) (omega arith)) (h .2),
+    )
+    looks-frame (call m e es) γ r s h = (
+      s r (omega arith) (omega arith) ∙ h .0,
+      looks-frame e γ (r + 1) (λ i l m. s i (omega arith) (omega arith)) (h .1),
+      looks-frame-all es _ (r + 1 + size e) (λ i l m. s i (omega arith) (omega arith)) (h .2),
+    )
+    looks-frame (choose e x y) γ r s h = (
+      looks-frame e γ (r + 1) (λ i l m. s i (omega arith) (omega arith)) (h .0),
+      looks-frame x _ (r + 1 + size e) (λ i l m. s i (omega arith) (omega arith)) (h .1),
+      looks-frame y _ (r + 1 + size e + size x) (λ i l m. s i (omega arith) (omega arith)) (h .2),
+    )
+    looks-frame (block ts es) γ r s h = looks-frame-all es _ (r + 1 + length ts) (λ i l m. s i (omega arith) (omega arith)) h
+
+    pub looks-frame-all : (es : Exprs) (γ : Environment) (r : ℕ) → ((i : ℕ) → r ≤ i → i < r + sizes es → getD C′ i 0 ≡ getD C i 0)
+        → LooksUpAll W C es γ r → LooksUpAll W C′ es γ r
+    looks-frame-all nil γ r s h = tt
+    looks-frame-all (cons e es) γ r s h = (
+      looks-frame e γ r (λ i l m. s i l (omega arith)) (h .0),
+      looks-frame-all es _ (r + size e) (λ i l m. s i (omega arith) (omega arith)) (h .1),
+    )

@@ -1,0 +1,85 @@
+-- `bodies::assign` meets its contract. Assumes nothing.
+use mathlib.Core.Path.{sym, _∙_}
+use Prim.Native.Nat.{_+_, _-_, _*_}
+use native.Mathlib.Omega.{arith}
+use borrow.Author.Needs.{needs}
+use Rattle.bodies.proofs.Cases.{assign-refused, assign-this, assign-out, assign-fits, assign-unfit}
+use Rattle.bodies.proofs.assign.Statement.{statement}
+use Rattle.bodies.proofs.assign.Tie as tie
+
+mul-k : tie.Need-mul-k
+mul-k c = search needs
+
+add-k : tie.Need-add-k
+add-k c = search needs
+
+mul-k-2 : tie.Need-mul-k-2
+mul-k-2 c = search needs
+
+shared-slice-read-k : tie.Need-shared-slice-read-k
+shared-slice-read-k c = search needs
+
+cast-k : tie.Need-cast-k
+cast-k c = omega (arith, c .before .before .before .shared-slice-known .given (c .before .before .before .before .args .at * 4 + 1))
+
+is-refusal-requires : tie.Need-is-refusal-requires
+is-refusal-requires c κs = search needs
+
+returns : tie.Need-returns
+returns c = assign-refused _ _ _ _ _ _ _ (c .before .is-refusal .ensures) (c .if1 .taken)
+
+refused-requires : tie.Need-refused-requires
+refused-requires c κs = search needs
+
+returns-2 : tie.Need-returns-2
+returns-2 c = assign-this _ _ _ _ _ _ _ (c .before .before .before .is-refusal .ensures) _ (c .before .before .if1 .left) (c .before .if2 .taken) (c .refused .ensures)
+
+refused-requires-2 : tie.Need-refused-requires-2
+refused-requires-2 c κs = search needs
+
+returns-3 : tie.Need-returns-3
+returns-3 c = assign-out _ _ _ _ _ _ _ (c .before .before .before .before .is-refusal .ensures) _ (c .before .before .before .if1 .left) (c .before .before .if2 .left) (c .before .if3 .taken) (c .refused2 .ensures)
+
+mul-from-number : tie.Need-mul-from-number
+mul-from-number c = search needs
+
+shared-slice-read-from-number : tie.Need-shared-slice-read-from-number
+shared-slice-read-from-number c = search needs
+
+from-number-requires : tie.Need-from-number-requires
+from-number-requires c κs = search needs
+
+is-fitting-requires : tie.Need-is-fitting-requires
+is-fitting-requires c κs = (c .before .before .before .before .before .before .before .before .before .before .pre .value, λ f. omega (arith, c .from-number .ensures, c .before .before .before .before .before .before .before .before .before .before .pre .slot (sym (c .before .before .before .before .before .is-refusal .ensures) ∙ c .before .before .before .before .if1 .left) (c .before .before .before .if2 .left) (c .before .before .if3 .left) (λ e. f (c .from-number .ensures ∙ e))))
+
+returns-4 : tie.Need-returns-4
+returns-4 c = assign-fits _ _ _ _ _ _ _ (c .before .before .before .before .before .before .before .is-refusal .ensures) _ _ (c .before .before .before .before .before .before .if1 .left) (c .before .before .before .before .before .if2 .left) (c .before .before .before .before .if3 .left) (c .before .before .from-number .ensures) (c .before .is-fitting .ensures) (c .if4 .taken)
+
+refused-requires-3 : tie.Need-refused-requires-3
+refused-requires-3 c κs = search needs
+
+returns-5 : tie.Need-returns-5
+returns-5 c = assign-unfit _ _ _ _ _ _ _ (c .before .before .before .before .before .before .before .before .is-refusal .ensures) _ _ _ (c .before .before .before .before .before .before .before .if1 .left) (c .before .before .before .before .before .before .if2 .left) (c .before .before .before .before .before .if3 .left) (c .before .before .before .from-number .ensures) (c .before .before .is-fitting .ensures) (c .before .if4 .left) (c .refused3 .ensures)
+
+pub assign-spec : {M : Type 1} → statement M
+assign-spec =
+    tie.close
+    (tie.spec
+    mul-k
+    add-k
+    mul-k-2
+    shared-slice-read-k
+    cast-k
+    is-refusal-requires
+    returns
+    refused-requires
+    returns-2
+    refused-requires-2
+    returns-3
+    mul-from-number
+    shared-slice-read-from-number
+    from-number-requires
+    is-fitting-requires
+    returns-4
+    refused-requires-3
+    returns-5)

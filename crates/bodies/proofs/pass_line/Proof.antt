@@ -1,0 +1,43 @@
+-- `bodies::pass_line` meets its contract. Assumes nothing.
+use mathlib.Core.Path.{refl}
+use Prim.Native.Nat.{_-_}
+use borrow.Author.Needs.{needs}
+use Rattle.bodies.proofs.pass_line.Statement.{statement}
+use Rattle.bodies.proofs.pass_line.Tie as tie
+
+mul-if1 : tie.Need-mul-if1
+mul-if1 c = search needs
+
+mul-if1-2 : tie.Need-mul-if1-2
+mul-if1-2 c = search needs
+
+shared-slice-read-if1 : tie.Need-shared-slice-read-if1
+shared-slice-read-if1 c = search needs
+
+returns : tie.Need-returns
+returns c = record { slots-long = refl; classes-long = refl; other = λ f. (refl, refl); method = λ e. absurd (c .if1 .taken e) }
+
+method-requires : tie.Need-method-requires
+method-requires c κs = c .before .before .before .before .before .before .before .before .before .before .pre .method (c .before .before .if1 .left)
+
+same-length : tie.Need-same-length
+same-length c = search needs
+
+same-length-2 : tie.Need-same-length-2
+same-length-2 c = search needs
+
+returns-2 : tie.Need-returns-2
+returns-2 c = record { slots-long = c .before .before .before .before .method .ensures .slots-long; classes-long = c .before .before .before .before .method .ensures .classes-long; other = λ f. absurd (f (c .before .before .before .before .before .before .before .if1 .left)); method = λ e. c .before .before .before .before .method .ensures }
+
+pub pass-line-spec : {M : Type 1} → statement M
+pass-line-spec =
+    tie.close
+    (tie.spec
+    mul-if1
+    mul-if1-2
+    shared-slice-read-if1
+    returns
+    method-requires
+    same-length
+    same-length-2
+    returns-2)

@@ -1,0 +1,104 @@
+-- `bodies::set` meets its contract. Assumes nothing.
+use mathlib.Core.Path.{refl, sym, ap, _∙_}
+use Prim.Native.Nat.{ℕ, suc, _+_, _-_, _*_, _≤_, _<_}
+use borrow.Author.Needs.{needs}
+use native.Mathlib.Omega.{arith}
+use Rattle.bodies.proofs.Laws.{not-yes, not-no}
+use lib.ListN.{getD}
+use Rattle.bodies.specs.Nodes.{field-in}
+use Rattle.bodies.proofs.ActLaws.{no-class-of, put-other, put-missing, put-unfit, put-done, field-at}
+use Rattle.bodies.proofs.set.Statement.{statement}
+use Rattle.bodies.proofs.set.Tie as tie
+
+enum-known-t : tie.Need-enum-known-t
+enum-known-t c = search needs
+
+refused-requires : tie.Need-refused-requires
+refused-requires c κs = search needs
+
+returns : tie.Need-returns
+returns c = put-other _ _ _ _ _ _ _ _ _ (no-class-of (c .before .before .before .before .before .before .args .object .typing) (c .before .match .keys2)) (c .refused .ensures)
+
+apply-requires : tie.Need-apply-requires
+apply-requires c κs = let w = c .before .before .before .before .before .before .before .pre .object _ (c .before .t .given .1) .0 in (w .inside, w .root)
+
+mul-field-type : tie.Need-mul-field-type
+mul-field-type c = search needs
+
+add-field-type : tie.Need-add-field-type
+add-field-type c = search needs
+
+mul-field-type-2 : tie.Need-mul-field-type-2
+mul-field-type-2 c = search needs
+
+shared-slice-read-field-type : tie.Need-shared-slice-read-field-type
+shared-slice-read-field-type c = search needs
+
+cast-field-type : tie.Need-cast-field-type
+cast-field-type c = omega (arith, c .before .before .before .before .before .before .before .before .shared-slice-known .given (c .before .before .before .before .before .before .before .before .before .args .at * 4 + 1))
+
+field-type-requires : tie.Need-field-type-requires
+field-type-requires c κs = field-at _ _ _ _ _ (c .before .apply .ensures) (c .before .before .before .before .before .before .before .before .before .pre .object _ (c .before .before .before .t .given .1) .1)
+
+enum-known-sought : tie.Need-enum-known-sought
+enum-known-sought c = search needs
+
+enum-told : tie.Need-enum-told
+enum-told c = search needs
+
+refused-requires-2 : tie.Need-refused-requires-2
+refused-requires-2 c κs = search needs
+
+returns-2 : tie.Need-returns-2
+returns-2 c = put-missing _ _ _ _ _ _ _ _ _ _ (c .before .before .before .before .before .before .before .t .given .1) (c .before .before .before .before .before .apply .ensures) _ (c .before .before .before .field-type .ensures) _ (c .before .enum-told .given .1) (c .refused2 .ensures)
+
+is-fitting-requires : tie.Need-is-fitting-requires
+is-fitting-requires c κs = (c .before .before .before .before .before .before .before .before .before .before .before .before .before .pre .value, c .before .before .before .before .before .before .before .before .before .before .before .before .before .pre .declared _ _ (c .before .before .before .before .before .before .before .t .given .1) (sym (c .before .before .before .field-type .ensures ∙ ap (λ (x : ℕ). field-in (c .before .before .before .before .before .before .before .before .before .before .before .before .before .args .rows .now) (c .before .before .before .before .before .before .before .before .before .before .before .before .before .args .table .now) x (getD (c .before .before .before .before .before .before .before .before .before .before .before .before .before .args .rows .now) (c .before .before .before .before .before .before .before .before .before .before .before .before .before .args .at * 4 + 1) 0)) (c .before .before .before .before .before .apply .ensures)) ∙ c .before .sought .given .1))
+
+refused-requires-3 : tie.Need-refused-requires-3
+refused-requires-3 c κs = search needs
+
+returns-3 : tie.Need-returns-3
+returns-3 c = put-unfit _ _ _ _ _ _ _ _ _ _ (c .before .before .before .before .before .before .before .before .before .before .t .given .1) (c .before .before .before .before .before .before .before .before .apply .ensures) _ (c .before .before .before .before .before .before .field-type .ensures) _ (c .before .before .before .before .sought .given .1) _ (c .before .before .is-fitting .ensures) _ (not-yes _ (c .before .if1 .taken)) (c .refused3 .ensures)
+
+cast-class-at : tie.Need-cast-class-at
+cast-class-at c = omega (arith, c .before .before .before .before .before .before .before .apply .ensures, c .before .before .before .before .before .before .before .before .before .before .before .before .before .before .before .pre .object _ (c .before .before .before .before .before .before .before .before .before .t .given .1) .0 .low)
+
+mul-class-at : tie.Need-mul-class-at
+mul-class-at c = search needs
+
+slice-write-class-at : tie.Need-slice-write-class-at
+slice-write-class-at c = search needs
+
+same-length : tie.Need-same-length
+same-length c = search needs
+
+returns-4 : tie.Need-returns-4
+returns-4 c = put-done _ _ _ _ _ _ _ _ _ _ (c .before .before .before .before .before .before .before .before .before .before .before .t .given .1) (c .before .before .before .before .before .before .before .before .before .apply .ensures) _ (c .before .before .before .before .before .before .before .field-type .ensures) _ (c .before .before .before .before .before .sought .given .1) _ (c .before .before .before .is-fitting .ensures) (not-no _ (c .before .before .if1 .left))
+
+pub set-spec : {M : Type 1} → statement M
+set-spec =
+    tie.close
+    (tie.spec
+    enum-known-t
+    refused-requires
+    returns
+    apply-requires
+    mul-field-type
+    add-field-type
+    mul-field-type-2
+    shared-slice-read-field-type
+    cast-field-type
+    field-type-requires
+    enum-known-sought
+    enum-told
+    refused-requires-2
+    returns-2
+    is-fitting-requires
+    refused-requires-3
+    returns-3
+    cast-class-at
+    mul-class-at
+    slice-write-class-at
+    same-length
+    returns-4)

@@ -1,0 +1,166 @@
+-- What the functions over the tables of classes give, in terms of the tables' numbers, and when the tables hold a
+-- program's classes.
+use mathlib.Core.Path.{_≡_}
+use mathlib.Core.Bool.{Bool, true, false, not, _&&_, _||_, cond}
+use mathlib.Core.Option.{Option, none, some}
+use mathlib.Core.List.{List, [], _∷_}
+use Prim.Native.Nat.{ℕ, zero, suc, _+_, _*_, _≤_, _<_}
+use lib.Dec.{eqb}
+use lib.ListN.{length, getD}
+use Rattle.language.specs.Lists.{nth}
+use Rattle.language.specs.Rows.{M-method, P-parameter, X-effect, B-block}
+use Rattle.language.specs.Tree.{DeclaredType, type-number, Field, Class, unknown}
+use Rattle.language.specs.World.{Method, World, is-declared-type}
+use Rattle.language.specs.Effects.{member, effect-of-all}
+use Rattle.language.specs.Program.{class-at, world}
+use Rattle.language.specs.ClassTables.{ClassTables, field-rows, method-row}
+use Rattle.language.specs.Encoded.{RowAt}
+use Rattle.bodies.specs.declared.Typing.{Typing}
+use Rattle.bodies.specs.declared.Typing.the-variants.{Bool as bool-case, Class as class-case, Null, Refusal}
+
+-- The tables' numbers alone make their use safe: roots and superclasses stand no later than their class.
+pub record Sound (T A : List ℕ) (count : ℕ) : Type 0 where
+  pub few : count ≤ 64
+  pub long : (count + 1) * 576 ≤ length T
+  pub long-above : count + 1 ≤ length A
+  pub roots : (k : ℕ) → k ≤ count → getD T (k * 576 + 514) 0 ≤ k
+  pub supers : (k : ℕ) → 1 ≤ k → k ≤ count → getD T (k * 576 + 513) 0 < k
+
+abbrev pub root-in : List ℕ → ℕ → ℕ
+root-in T k = getD T (k * 576 + 514) 0
+
+unfoldable pub applied : List ℕ → ℕ → ℕ → ℕ
+applied T φ k = cond (member φ (root-in T k)) (root-in T k) k
+
+unfoldable pub is-below : List ℕ → ℕ → ℕ → Bool
+is-below A c d = cond (eqb d 0) true (member (getD A c 0) d)
+
+-- Going up from k, with fewer than n superclasses, to a class that d is or stands below.
+unfoldable pub nearest-from : List ℕ → List ℕ → ℕ → ℕ → ℕ → ℕ
+nearest-from T A zero k d = k
+nearest-from T A (suc n) k d = cond (is-below A d k) k (nearest-from T A n (getD T (k * 576 + 513) 0) d)
+
+unfoldable pub is-fitting : List ℕ → Typing → ℕ → Bool
+is-fitting A bool-case n = eqb n 255
+is-fitting A (class-case c) n = cond (eqb n 255) false (is-below A c n)
+is-fitting A Null n = not (eqb n 255)
+is-fitting A (Refusal m l) n = false
+
+-- The number of a class, of bool, or of what is absent.
+pub data Known (count : ℕ) : ℕ → Type 0 where
+  a-class : {n : ℕ} → n ≤ count → Known count n
+  a-bool : Known count 255
+  an-absence : Known count 65535
+
+unfoldable pub applied-number : List ℕ → ℕ → ℕ → ℕ
+applied-number T φ n = cond (eqb n 255) n (cond (eqb n 65535) n (applied T φ n))
+
+unfoldable pub joined-number : List ℕ → List ℕ → ℕ → ℕ → ℕ
+joined-number T A a b =
+    cond (eqb a 255) a (cond (eqb a 65535) a (cond (eqb b 255) a (cond (eqb b 65535) a (nearest-from T A (suc a) a b))))
+
+-- The tables hold the classes of a list, whose superclasses are earlier classes: what the heading pass gives.
+pub record Classes (P : List Class) (T A : List ℕ) (count : ℕ) : Type 0 where
+  pub tables : ClassTables P T A
+  pub counted : length P ≡ count
+  pub few : count ≤ 64
+  pub lower : (k : ℕ) (c : Class) → class-at P k ≡ some c → c .super < k
+
+-- P lines and X lines from a row on.
+unfoldable pub ParametersAt : List ℕ → List DeclaredType → ℕ → Type 0
+ParametersAt R [] r = Unit {0}
+ParametersAt R (t ∷ ts) r = RowAt R r P-parameter (type-number t) 0 × ParametersAt R ts (r + 1)
+
+unfoldable pub EffectsAt : List ℕ → List ℕ → ℕ → Type 0
+EffectsAt R [] r = Unit {0}
+EffectsAt R (c ∷ cs) r = RowAt R r X-effect c 0 × (c ≤ 64) × EffectsAt R cs (r + 1)
+
+-- A method's heading at a row; its body's block follows.
+pub record HeadingAt (R : List ℕ) (r : ℕ) (M : Method) : Type 0 where
+  pub name : ℕ
+  pub effects : List ℕ
+  pub locals : ℕ
+  pub expressions : ℕ
+  pub row : RowAt R r M-method (type-number (M .result)) name
+  pub parameter-rows : ParametersAt R (M .parameters) (r + 1)
+  pub effect-rows : EffectsAt R effects (r + 1 + length (M .parameters))
+  pub effect-is : M .effect ≡ effect-of-all effects
+  pub body-row : RowAt R (r + 1 + length (M .parameters) + length effects) B-block locals expressions
+  pub few-parameters : length (M .parameters) ≤ 8
+
+-- The rows hold the headings that the tables lead to, and every type there is declared: what the heading pass gives.
+pub record Headed (P : List Class) (R T A : List ℕ) (count : ℕ) : Type 0 where
+  pub classes : Classes P T A count
+  pub few-fields : (k : ℕ) → length (world P .fields k) ≤ 17
+  pub fields : (k i : ℕ) (f : Field) → k ≤ count → nth (world P .fields k) i ≡ some f
+      → (r : ℕ)
+      × (nth (field-rows P k) i ≡ some r)
+      × (r * 4 + 3 < length R)
+      × (getD R (r * 4 + 1) 0 ≡ type-number (f .type))
+      × (is-declared-type (world P) (f .type) ≡ true)
+  pub methods : (k m r : ℕ) → k ≤ count → method-row P k m ≡ some r
+      → (M : Method) × (world P .method k m ≡ some M) × HeadingAt R r M
+      × (is-declared-type (world P) (M .result) ≡ true)
+      × ((i : ℕ) (t : DeclaredType) → nth (M .parameters) i ≡ some t → is-declared-type (world P) t ≡ true)
+  pub no-method : (k m : ℕ) → k ≤ count → method-row P k m ≡ none → world P .method k m ≡ none
+  pub kinds : (k n : ℕ) (c : Class) → class-at P k ≡ some c → c .kind ≡ unknown n → ⊥
+
+-- A class case names a class below n; a type's number is bool's or a class's up to n.
+abbrev pub CaseIn : ℕ → Typing → Type 0
+CaseIn n bool-case = Unit {0}
+CaseIn n (class-case c) = c < n
+CaseIn n Null = Unit {0}
+CaseIn n (Refusal m l) = Unit {0}
+
+pub record PreNearest (T A : List ℕ) (c d : ℕ) : Type 0 where
+  pub count : ℕ
+  pub sound : Sound T A count
+  pub first : c ≤ count
+  pub second : d ≤ count
+
+pub record Applicable (T : List ℕ) (n : ℕ) : Type 0 where
+  pub inside : (n ≡ 255 → ⊥) → (n ≡ 65535 → ⊥) → n * 576 + 514 < length T
+  pub root : (n ≡ 255 → ⊥) → (n ≡ 65535 → ⊥) → root-in T n ≤ 64
+
+-- Rows of one letter that follow one another, n of them, and a row of another letter.
+pub record Run (R : List ℕ) (letter from n : ℕ) : Type 0 where
+  pub each : (i : ℕ) → i < n → getD R ((from + i) * 4) 0 ≡ letter
+  pub inside : (from + n) * 4 + 3 < length R
+  pub other : getD R ((from + n) * 4) 0 ≡ letter → ⊥
+
+pub record Runs (R : List ℕ) (letter from : ℕ) : Type 0 where
+  pub n : ℕ
+  pub run : Run R letter from n
+
+-- The first n slots are as f says, and the others as before.
+pub record Changed (S S′ : List ℕ) (n : ℕ) (f : ℕ → ℕ) : Type 0 where
+  pub long : length S′ ≡ length S
+  pub below : (k : ℕ) → k < n → getD S′ k 0 ≡ f k
+  pub rest : (k : ℕ) → n ≤ k → getD S′ k 0 ≡ getD S k 0
+
+-- The first n slots stand from `top` on too.
+pub record Saved (S S′ : List ℕ) (top n : ℕ) : Type 0 where
+  pub long : length S′ ≡ length S
+  pub copied : (k : ℕ) → k < n → getD S′ (top + k) 0 ≡ getD S k 0
+  pub below : (k : ℕ) → k < top → getD S′ k 0 ≡ getD S k 0
+
+-- The first n slots and those from `top` on have changed places.
+pub record Swapped (S S′ : List ℕ) (top n : ℕ) : Type 0 where
+  pub long : length S′ ≡ length S
+  pub first : (k : ℕ) → k < n → getD S′ k 0 ≡ getD S (top + k) 0
+  pub second : (k : ℕ) → k < n → getD S′ (top + k) 0 ≡ getD S k 0
+  pub between : (k : ℕ) → n ≤ k → k < top → getD S′ k 0 ≡ getD S k 0
+
+pub record PreJoin (T A S : List ℕ) (n top : ℕ) : Type 0 where
+  pub count : ℕ
+  pub sound : Sound T A count
+  pub apart : n ≤ top
+  pub room : top + n ≤ length S
+  pub slots : (k : ℕ) → k < n → Known count (getD S k 0)
+  pub saved : (k : ℕ) → k < n → Known count (getD S (top + k) 0)
+
+pub record PreNumbers (T A : List ℕ) (a b : ℕ) : Type 0 where
+  pub count : ℕ
+  pub sound : Sound T A count
+  pub first : Known count a
+  pub second : Known count b

@@ -1,0 +1,51 @@
+-- What each part of the check is called on, and what the tables hold after it.
+use mathlib.Core.Path.{_≡_}
+use mathlib.Core.Logic.{_⊎_}
+use mathlib.Core.List.{List}
+use Prim.Native.Nat.{ℕ, _*_, _≤_}
+use lib.ListN.{length}
+use Rattle.language.specs.Limits.{of-check}
+use Rattle.language.specs.Results.{Checked, accept, passed, bind-checked}
+use Rattle.language.specs.Tree.{Program}
+use Rattle.language.specs.Headings.{headings}
+use Rattle.language.specs.Typing.{bodies}
+use Rattle.language.specs.ClassTables.{ClassTables}
+use Rattle.language.specs.Layout.{ProgramAt, LooksUpProgram}
+
+-- The passes that follow form, and headings.
+unfoldable pub after-headings : Program → Checked Program
+after-headings p = bind-checked (bodies p) λ _. accept p
+
+unfoldable pub after-form : Program → Checked Program
+after-form p = bind-checked (headings of-check (p .classes)) λ _. after-headings p
+
+-- Tables that are long enough for the numbers R: an entry for each row that may be accepted, 64 classes and Object.
+pub record Lent (R E T A C : List ℕ) : Type 0 where
+  pub room : (length R ≤ 4 * length E) ⊎ (60000 ≤ length E)
+  pub nodes : length E ≤ length C
+  pub long : 37440 ≤ length T
+  pub long-above : 65 ≤ length A
+
+-- After form.
+pub record FormPassed (R E T A C : List ℕ) (classes : ℕ) : Type 0 where
+  pub program : Program
+  pub here : ProgramAt R E program
+  pub counted : length (program .classes) ≡ classes
+  pub nodes : length E ≤ length C
+  pub long : 37440 ≤ length T
+  pub long-above : 65 ≤ length A
+
+-- After headings.
+pub record HeadingsPassed (R E T A C : List ℕ) (classes : ℕ) : Type 0 where
+  pub program : Program
+  pub here : ProgramAt R E program
+  pub counted : length (program .classes) ≡ classes
+  pub nodes : length E ≤ length C
+  pub heads : headings of-check (program .classes) ≡ passed
+  pub tables : ClassTables (program .classes) T A
+
+-- What the tables hold of an accepted program: where its parts stand, its classes, its lookup classes.
+pub record Held (R E T A C : List ℕ) (p : Program) : Type 0 where
+  pub here : ProgramAt R E p
+  pub tables : ClassTables (p .classes) T A
+  pub looks : LooksUpProgram C p

@@ -1,0 +1,118 @@
+// The check of rows: their length, then form, headings and bodies (document 01, "Refusals and stops").
+ghost use mathlib.Core.Path.{_≡_};
+ghost use Rattle.language.specs.Results.{accept};
+ghost use Rattle.language.specs.Tree.{Program};
+ghost use Rattle.language.specs.ClassTables.{ClassTables};
+ghost use Rattle.language.specs.Layout.{LooksUpProgram};
+ghost use Rattle.language.specs.Verdict.{check, verdict};
+ghost use Rattle.checker.specs.Answers.{checked-case, verdict-case, verdict-of-checked};
+ghost use Rattle.checker.specs.Passes.{after-headings, after-form, Lent, FormPassed, HeadingsPassed, Held};
+
+// Accepted, with so many classes; or a refusal's number and line.
+pub enum Checked {
+    Accepted(u32),
+    Refused(u32, u32),
+}
+
+// Accepted, or a refusal's number and line.
+pub enum Verdict {
+    Accepted,
+    Refused(u32, u32),
+}
+
+// The verdict alone.
+fn verdict_of(checked: Checked) -> Verdict
+    ensures { λ r. ⌜ r ≡ verdict-of-checked checked ⌝ }
+{
+    match checked {
+        Checked::Accepted(_) => Verdict::Accepted,
+        Checked::Refused(number, line) => Verdict::Refused(number, line),
+    }
+}
+
+// After headings: types the bodies.
+fn type_bodies(
+    rows: &[u32],
+    ends: &[u16],
+    tables: &[u16],
+    above: &[u64],
+    lookups: &mut [u16],
+    classes: u32,
+) -> Checked
+    requires { ⌜ HeadingsPassed (now rows) (now ends) (now tables) (now above) (now lookups) classes ⌝ }
+    ensures { λ r. ⌜ ((w : HeadingsPassed (now (rows .entry)) (now (ends .entry)) (now (tables .entry)) (now (above .entry)) (now (lookups .entry)) classes)
+        → (r ≡ checked-case (after-headings (w .program)))
+        × ((p : Program) → after-headings (w .program) ≡ accept p → LooksUpProgram (now (lookups .exit)) p)) ⌝ }
+{
+    let mut slots = [0u32; 33024];
+    let v = bodies::check_bodies(rows, ends, tables, above, &mut slots, lookups, classes);
+    match v {
+        bodies::Verdict::Accepted => Checked::Accepted(classes),
+        bodies::Verdict::Refused(number, line) => Checked::Refused(number, line),
+    }
+}
+
+// After form: checks headings, then bodies.
+fn check_formed(
+    rows: &[u32],
+    ends: &[u16],
+    tables: &mut [u16],
+    above: &mut [u64],
+    lookups: &mut [u16],
+    classes: u32,
+) -> Checked
+    requires { ⌜ FormPassed (now rows) (now ends) (now tables) (now above) (now lookups) classes ⌝ }
+    ensures { λ r. ⌜ ((w : FormPassed (now (rows .entry)) (now (ends .entry)) (now (tables .entry)) (now (above .entry)) (now (lookups .entry)) classes)
+        → (r ≡ checked-case (after-form (w .program)))
+        × ((p : Program) → after-form (w .program) ≡ accept p
+        → Held (now (rows .entry)) (now (ends .entry)) (now (tables .exit)) (now (above .exit)) (now (lookups .exit)) p)) ⌝ }
+{
+    let h = headings::check_headings(rows, ends, tables, above);
+    match h {
+        headings::Headed::Passed => type_bodies(rows, ends, tables, above, lookups, classes),
+        headings::Headed::Refused(number, line) => Checked::Refused(number, line),
+    }
+}
+
+// Checks rows with tables that are lent. Where the rows are accepted, the tables hold what translation and evaluation read.
+pub fn check_into(
+    rows: &[u32],
+    ends: &mut [u16],
+    tables: &mut [u16],
+    above: &mut [u64],
+    lookups: &mut [u16],
+) -> Checked
+    requires { ⌜ Lent (now rows) (now ends) (now tables) (now above) (now lookups) ⌝ }
+    ensures { λ r. ⌜ (r ≡ checked-case (check (now (rows .entry))))
+        × ((p : Program) → check (now (rows .entry)) ≡ accept p
+        → Held (now (rows .entry)) (now (ends .exit)) (now (tables .exit)) (now (above .exit)) (now (lookups .exit)) p) ⌝ }
+{
+    if rows.len() % 4 != 0 {
+        return Checked::Refused(1, 0);
+    }
+    let f = form::check_form(rows, ends);
+    match f {
+        form::Formed::InForm(classes) => {
+            check_formed(rows, ends, tables, above, lookups, classes)
+        }
+        form::Formed::Refused(number, line) => Checked::Refused(number, line),
+    }
+}
+
+// Checks rows. Few rows pay for short tables alone.
+pub fn check_rows(rows: &[u32]) -> Verdict
+    ensures { λ r. ⌜ r ≡ verdict-case (verdict (now (rows .entry))) ⌝ }
+{
+    let mut tables = [0u16; 37440];
+    let mut above = [0u64; 65];
+    if rows.len() <= 4096 {
+        let mut ends = [0u16; 1024];
+        let mut lookups = [0u16; 1024];
+        let few = check_into(rows, &mut ends, &mut tables, &mut above, &mut lookups);
+        return verdict_of(few);
+    }
+    let mut ends = [0u16; 60000];
+    let mut lookups = [0u16; 60000];
+    let many = check_into(rows, &mut ends, &mut tables, &mut above, &mut lookups);
+    verdict_of(many)
+}

@@ -1,0 +1,4 @@
+pub mod Places
+pub mod Standing
+pub mod Found
+pub mod Headed

@@ -1,0 +1,50 @@
+-- The end: nothing follows, or the first row that does is refused. Assumes nothing.
+use mathlib.Core.Path.{sym, _∙_}
+use Prim.Native.Nat.{_-_}
+use native.Mathlib.Omega.{arith}
+use borrow.Author.Needs.{needs}
+use Rattle.limits.proofs.Places.{here}
+use Rattle.limits.proofs.Start.{finished, not-finished, more-follows}
+use Rattle.limits.proofs.finish.Statement.{statement}
+use Rattle.limits.proofs.finish.Tie as tie
+
+mul-if1 : tie.Need-mul-if1
+mul-if1 c = search needs
+
+returns : tie.Need-returns
+returns c = λ p n. finished (c .before .before .args .rows .now) (c .before .before .args .at) (c .before .before .args .classes) p n (c .if1 .taken)
+
+refuse-row-requires : tie.Need-refuse-row-requires
+refuse-row-requires c κs = search needs
+
+cast-t8 : tie.Need-cast-t8
+cast-t8 c = search needs
+
+add-t9 : tie.Need-add-t9
+add-t9 c = search needs
+
+returns-2 : tie.Need-returns-2
+returns-2 c = λ p n. not-finished (c .before .before .before .before .args .rows .now) (c .before .before .before .before .args .at) (c .before .before .before .before .args .classes) p n (omega (arith, c .before .before .before .before .pre .0, c .before .before .if1 .left)) (c .before .refuse-row .result) (c .before .refuse-row .ensures .0) (c .if2 .taken)
+
+cast-t10 : tie.Need-cast-t10
+cast-t10 c = search needs
+
+add-t11 : tie.Need-add-t11
+add-t11 c = search needs
+
+returns-3 : tie.Need-returns-3
+returns-3 c = λ p n. more-follows (c .before .before .before .before .args .rows .now) (c .before .before .before .before .args .at) (c .before .before .before .before .args .classes) p n (omega (arith, c .before .before .before .before .pre .0, c .before .before .if1 .left)) (here (c .before .before .before .before .args .rows .now) (c .before .before .before .before .args .at) (sym (c .if2 .left) ∙ c .before .refuse-row .ensures .0) (c .before .refuse-row .ensures .1 (c .if2 .left)))
+
+pub finish-spec : {M : Type 1} → statement M
+finish-spec =
+    tie.close
+    (tie.spec
+    mul-if1
+    returns
+    refuse-row-requires
+    cast-t8
+    add-t9
+    returns-2
+    cast-t10
+    add-t11
+    returns-3)

@@ -1,0 +1,39 @@
+-- Does a record of a letter stand at a row. Assumes nothing.
+use mathlib.Core.Path.{sym, _∙_}
+use Prim.Native.Nat.{_-_, _*_}
+use native.Mathlib.Omega.{arith}
+use lib.ListN.{getD}
+use borrow.Author.Needs.{needs}
+use mathlib.Core.Bool.{false≢true}
+use Rattle.limits.proofs.Places.{here, standing-here, standing-refused, eqb-turn}
+use Rattle.limits.proofs.is_letter.Statement.{statement}
+use Rattle.limits.proofs.is_letter.Tie as tie
+
+refuse-row-requires : tie.Need-refuse-row-requires
+refuse-row-requires c κs = search needs
+
+returns : tie.Need-returns
+returns c = (standing-refused (c .before .before .before .args .rows .now) (c .before .before .before .args .at) (c .before .refuse-row .result) (c .before .before .before .args .letter) (c .before .refuse-row .ensures .0) (c .if1 .taken), λ e. absurd (false≢true e))
+
+mul-result : tie.Need-mul-result
+mul-result c = search needs
+
+mul-result-2 : tie.Need-mul-result-2
+mul-result-2 c = search needs
+
+shared-slice-read-result : tie.Need-shared-slice-read-result
+shared-slice-read-result c = omega (arith, (c .before .before .refuse-row .ensures .1 (c .before .if1 .left)) .1)
+
+returns-2 : tie.Need-returns-2
+returns-2 c = (eqb-turn (getD (c .before .before .before .before .args .rows .now) ((c .before .before .before .before .args .at) * 4) 0) (c .before .before .before .before .args .letter) ∙ sym (standing-here (here (c .before .before .before .before .args .rows .now) (c .before .before .before .before .args .at) (sym (c .before .if1 .left) ∙ c .before .before .refuse-row .ensures .0) (c .before .before .refuse-row .ensures .1 (c .before .if1 .left))) (c .before .before .before .before .args .letter)), λ e. (c .before .before .refuse-row .ensures .1 (c .before .if1 .left)))
+
+pub is-letter-spec : {M : Type 1} → statement M
+is-letter-spec =
+    tie.close
+    (tie.spec
+    refuse-row-requires
+    returns
+    mul-result
+    mul-result-2
+    shared-slice-read-result
+    returns-2)

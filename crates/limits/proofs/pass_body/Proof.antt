@@ -1,0 +1,66 @@
+-- A body: a row that is refused, another letter, or a block. Assumes nothing.
+use mathlib.Core.Path.{sym, _∙_}
+use Prim.Native.Nat.{_+_, _-_}
+use native.Mathlib.Omega.{arith}
+use Rattle.limits.proofs.Places.{here}
+use Rattle.limits.proofs.Passes.{told-as, told-refuse}
+use Rattle.limits.proofs.Nodes.{body-refused, body-other, body-here}
+use Rattle.limits.proofs.pass_body.Statement.{statement}
+use Rattle.limits.proofs.pass_body.Tie as tie
+
+refuse-row-requires : tie.Need-refuse-row-requires
+refuse-row-requires c κs = (c .before .before .pre .0 .whole, c .before .before .pre .0 .within)
+
+cast-t7 : tie.Need-cast-t7
+cast-t7 c = omega (arith, c .before .before .before .before .pre .0 .within)
+
+add-t8 : tie.Need-add-t8
+add-t8 c = omega (arith, c .before .before .before .before .pre .0 .within)
+
+returns : tie.Need-returns
+returns c = told-as (body-refused (c .before .before .before .before .args .rows .now) (c .before .before .before .before .args .at) (c .before .before .before .before .args .slots) (c .before .refuse-row .result) (c .before .refuse-row .ensures .0) (c .if1 .taken)) (told-refuse (c .before .refuse-row .result) ((c .before .before .before .before .args .at) + 1))
+
+mul-if2 : tie.Need-mul-if2
+mul-if2 c = omega (arith, c .before .before .before .before .pre .0 .within)
+
+mul-if2-2 : tie.Need-mul-if2-2
+mul-if2-2 c = omega (arith, c .before .before .before .before .pre .0 .within)
+
+shared-slice-read-if2 : tie.Need-shared-slice-read-if2
+shared-slice-read-if2 c = omega (arith, (c .before .before .refuse-row .ensures .1 (c .before .if1 .left)) .1)
+
+cast-t13 : tie.Need-cast-t13
+cast-t13 c = omega (arith, c .before .before .before .before .before .before .pre .0 .within)
+
+add-t14 : tie.Need-add-t14
+add-t14 c = omega (arith, c .before .before .before .before .before .before .pre .0 .within)
+
+returns-2 : tie.Need-returns-2
+returns-2 c = told-as (body-other (c .before .before .before .before .before .before .args .rows .now) (c .before .before .before .before .before .before .args .at) (c .before .before .before .before .before .before .args .slots) (here (c .before .before .before .before .before .before .args .rows .now) (c .before .before .before .before .before .before .args .at) (sym (c .before .before .if1 .left) ∙ c .before .before .before .refuse-row .ensures .0) (c .before .before .before .refuse-row .ensures .1 (c .before .before .if1 .left))) (c .if2 .taken)) (told-refuse 3 ((c .before .before .before .before .before .before .args .at) + 1))
+
+pass-node-requires : tie.Need-pass-node-requires
+pass-node-requires c κs = c .before .before .before .before .before .before .before .pre
+
+same-length : tie.Need-same-length
+same-length c = c .before .before .pass-node .kept .1 .0
+
+returns-3 : tie.Need-returns-3
+returns-3 c = told-as (body-here (c .before .before .before .before .before .before .before .before .before .before .args .rows .now) (c .before .before .before .before .before .before .before .before .before .before .args .at) (c .before .before .before .before .before .before .before .before .before .before .args .slots) (here (c .before .before .before .before .before .before .before .before .before .before .args .rows .now) (c .before .before .before .before .before .before .before .before .before .before .args .at) (sym (c .before .before .before .before .before .before .if1 .left) ∙ c .before .before .before .before .before .before .before .refuse-row .ensures .0) (c .before .before .before .before .before .before .before .refuse-row .ensures .1 (c .before .before .before .before .before .before .if1 .left))) (c .before .before .before .before .if2 .left)) (c .before .before .pass-node .ensures)
+
+pub pass-body-spec : {M : Type 1} → statement M
+pass-body-spec =
+    tie.close
+    (tie.spec
+    refuse-row-requires
+    cast-t7
+    add-t8
+    returns
+    mul-if2
+    mul-if2-2
+    shared-slice-read-if2
+    cast-t13
+    add-t14
+    returns-2
+    pass-node-requires
+    same-length
+    returns-3)

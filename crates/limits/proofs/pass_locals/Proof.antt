@@ -1,0 +1,133 @@
+-- V lines: between two of them, what is left to read tells of the whole. Assumes nothing.
+use mathlib.Core.Path.{sym, _∙_}
+use Prim.Native.Nat.{_-_}
+use native.Mathlib.Omega.{arith}
+use Rattle.limits.proofs.Places.{here}
+use Rattle.limits.proofs.Lines.{Declaring, declaring-start, declaring-refused, declaring-other, declaring-over, declaring-step, declaring-end, row-room}
+use Rattle.limits.proofs.pass_locals.Statement.{statement}
+use Rattle.limits.proofs.pass_locals.Tie as tie
+
+abbrev Inv-loop : tie.InvT-loop
+Inv-loop rows ends₀ at count slots i₀ left₀ scope₀ ends i left scope = Declaring rows ends₀ ends at count slots i left scope
+
+abbrev μ-loop : tie.MeasureT-loop
+μ-loop rows ends₀ at count slots i₀ left₀ scope₀ ends i left scope = left
+
+loop-holds : tie.Need-loop-holds Inv-loop μ-loop
+loop-holds c = declaring-start (c .before .before .args .count) (c .before .before .args .slots) (c .before .before .pre .0) (c .before .before .pre .1)
+
+refuse-row-requires : tie.Need-refuse-row-requires Inv-loop μ-loop
+refuse-row-requires c κs = (c .before .loop .inv .ready .whole, c .before .loop .inv .ready .within)
+
+cast-t11 : tie.Need-cast-t11 Inv-loop μ-loop
+cast-t11 c = omega (arith, c .before .before .before .loop .inv .ready .within)
+
+add-t12 : tie.Need-add-t12 Inv-loop μ-loop
+add-t12 c = omega (arith, c .before .before .before .loop .inv .ready .within)
+
+same-length : tie.Need-same-length Inv-loop μ-loop
+same-length c = c .before .before .before .loop .inv .long
+
+returns : tie.Need-returns Inv-loop μ-loop
+returns c = declaring-refused (c .before .before .before .loop .inv) (c .before .before .loop-test .taken) (c .before .refuse-row .result) (c .before .refuse-row .ensures .0) (c .if1 .taken)
+
+mul-if2 : tie.Need-mul-if2 Inv-loop μ-loop
+mul-if2 c = omega (arith, c .before .before .before .loop .inv .ready .within)
+
+mul-if2-2 : tie.Need-mul-if2-2 Inv-loop μ-loop
+mul-if2-2 c = omega (arith, c .before .before .before .loop .inv .ready .within)
+
+shared-slice-read-if2 : tie.Need-shared-slice-read-if2 Inv-loop μ-loop
+shared-slice-read-if2 c = omega (arith, (c .before .before .refuse-row .ensures .1 (c .before .if1 .left)) .1)
+
+cast-t17 : tie.Need-cast-t17 Inv-loop μ-loop
+cast-t17 c = omega (arith, c .before .before .before .before .before .loop .inv .ready .within)
+
+add-t18 : tie.Need-add-t18 Inv-loop μ-loop
+add-t18 c = omega (arith, c .before .before .before .before .before .loop .inv .ready .within)
+
+same-length-2 : tie.Need-same-length-2 Inv-loop μ-loop
+same-length-2 c = c .before .before .before .before .before .loop .inv .long
+
+returns-2 : tie.Need-returns-2 Inv-loop μ-loop
+returns-2 c = declaring-other (c .before .before .before .before .before .loop .inv) (c .before .before .before .before .loop-test .taken) (here (c .before .before .before .before .before .before .before .before .args .rows .now) (c .before .before .before .before .before .loop .i) (sym (c .before .before .if1 .left) ∙ c .before .before .before .refuse-row .ensures .0) (c .before .before .before .refuse-row .ensures .1 (c .before .before .if1 .left))) (c .if2 .taken)
+
+cast-t19 : tie.Need-cast-t19 Inv-loop μ-loop
+cast-t19 c = omega (arith, c .before .before .before .before .before .before .loop .inv .ready .within)
+
+add-t20 : tie.Need-add-t20 Inv-loop μ-loop
+add-t20 c = omega (arith, c .before .before .before .before .before .before .loop .inv .ready .within)
+
+same-length-3 : tie.Need-same-length-3 Inv-loop μ-loop
+same-length-3 c = c .before .before .before .before .before .before .loop .inv .long
+
+returns-3 : tie.Need-returns-3 Inv-loop μ-loop
+returns-3 c = declaring-over (c .before .before .before .before .before .before .loop .inv) (c .before .before .before .before .before .loop-test .taken) (here (c .before .before .before .before .before .before .before .before .before .args .rows .now) (c .before .before .before .before .before .before .loop .i) (sym (c .before .before .before .if1 .left) ∙ c .before .before .before .before .refuse-row .ensures .0) (c .before .before .before .before .refuse-row .ensures .1 (c .before .before .before .if1 .left))) (c .before .if2 .left) (c .if3 .taken)
+
+add-ends : tie.Need-add-ends Inv-loop μ-loop
+add-ends c = omega (arith, c .before .before .before .before .before .before .loop .inv .ready .within)
+
+cast-ends : tie.Need-cast-ends Inv-loop μ-loop
+cast-ends c = omega (arith, c .before .before .before .before .before .before .loop .inv .ready .within)
+
+mul-ends : tie.Need-mul-ends Inv-loop μ-loop
+mul-ends c = omega (arith, c .before .before .before .before .before .before .loop .inv .ready .within)
+
+slice-write-ends : tie.Need-slice-write-ends Inv-loop μ-loop
+slice-write-ends c = row-room (c .before .before .before .before .before .before .loop .inv .ready) (c .before .before .before .before .before .before .loop .i) (c .before .before .before .before .refuse-row .ensures .1 (c .before .before .before .if1 .left))
+
+add-i : tie.Need-add-i Inv-loop μ-loop
+add-i c = omega (arith, c .before .before .before .before .before .before .loop .inv .ready .within)
+
+sub-left : tie.Need-sub-left Inv-loop μ-loop
+sub-left c = omega (arith, c .before .before .before .before .before .loop-test .taken)
+
+add-scope : tie.Need-add-scope Inv-loop μ-loop
+add-scope c = omega (arith, c .if3 .left)
+
+loop-less : tie.Need-loop-less Inv-loop μ-loop
+loop-less c = omega (arith, c .before .before .before .before .before .loop-test .taken)
+
+loop-again : tie.Need-loop-again Inv-loop μ-loop
+loop-again c = declaring-step (c .before .before .before .before .before .before .loop .inv) (c .before .before .before .before .before .loop-test .taken) (here (c .before .before .before .before .before .before .before .before .before .args .rows .now) (c .before .before .before .before .before .before .loop .i) (sym (c .before .before .before .if1 .left) ∙ c .before .before .before .before .refuse-row .ensures .0) (c .before .before .before .before .refuse-row .ensures .1 (c .before .before .before .if1 .left))) (c .before .if2 .left) (c .before .before .before .before .refuse-row .ensures .1 (c .before .before .before .if1 .left)) (c .if3 .left)
+
+same-length-4 : tie.Need-same-length-4 Inv-loop μ-loop
+same-length-4 c = c .before .loop .inv .long
+
+returns-4 : tie.Need-returns-4 Inv-loop μ-loop
+returns-4 c = declaring-end (c .before .loop .inv) (c .loop-test .left)
+
+pub pass-locals-spec : {M : Type 1} → statement M
+pass-locals-spec =
+    tie.close
+    (tie.spec
+    Inv-loop
+    μ-loop
+    loop-holds
+    refuse-row-requires
+    cast-t11
+    add-t12
+    same-length
+    returns
+    mul-if2
+    mul-if2-2
+    shared-slice-read-if2
+    cast-t17
+    add-t18
+    same-length-2
+    returns-2
+    cast-t19
+    add-t20
+    same-length-3
+    returns-3
+    add-ends
+    cast-ends
+    mul-ends
+    slice-write-ends
+    add-i
+    sub-left
+    add-scope
+    loop-less
+    loop-again
+    same-length-4
+    returns-4)

@@ -1,0 +1,65 @@
+-- Methods: between two of them, what is left to read tells of the whole. Assumes nothing.
+use mathlib.Core.Path.{sym, _∙_}
+use Prim.Native.Nat.{_-_}
+use native.Mathlib.Omega.{arith}
+use borrow.Author.Needs.{needs}
+use Rattle.limits.proofs.Classes.{Listing, listing-start, listing-end, listing-stop, listing-step, listing-less}
+use Rattle.limits.proofs.pass_methods.Statement.{statement}
+use Rattle.limits.proofs.pass_methods.Tie as tie
+
+abbrev Inv-loop : tie.InvT-loop
+Inv-loop rows ends₀ at i₀ ends i = Listing rows ends₀ ends at i
+
+abbrev μ-loop : tie.MeasureT-loop
+μ-loop rows ends₀ at i₀ ends i = 681 - i
+
+loop-holds : tie.Need-loop-holds Inv-loop μ-loop
+loop-holds c = listing-start (c .before .before .pre)
+
+is-letter-requires : tie.Need-is-letter-requires Inv-loop μ-loop
+is-letter-requires c κs = (c .loop .inv .ready .whole, c .loop .inv .ready .within)
+
+pass-method-requires : tie.Need-pass-method-requires Inv-loop μ-loop
+pass-method-requires c κs = (c .before .before .before .loop .inv .ready, (c .before .before .is-letter .ensures .1 (c .before .if1 .taken)))
+
+enum-known-r : tie.Need-enum-known-r Inv-loop μ-loop
+enum-known-r c = search needs
+
+enum-told : tie.Need-enum-told Inv-loop μ-loop
+enum-told c = search needs
+
+same-length : tie.Need-same-length Inv-loop μ-loop
+same-length c = c .before .before .before .before .pass-method .kept .1 .0 ∙ c .before .before .before .before .before .before .before .before .loop .inv .long
+
+returns : tie.Need-returns Inv-loop μ-loop
+returns c = λ f h. listing-stop (c .before .before .before .before .before .before .before .before .loop .inv) (c .before .before .before .before .before .before .before .is-letter .ensures .1 (c .before .before .before .before .before .before .if1 .taken)) (sym (c .before .before .before .before .before .before .before .is-letter .ensures .0) ∙ c .before .before .before .before .before .before .if1 .taken) (c .before .before .before .before .pass-method .ensures) (c .enum-told .given .1) f h
+
+loop-less : tie.Need-loop-less Inv-loop μ-loop
+loop-less c = omega (arith, listing-less (c .before .before .before .before .before .before .before .before .before .loop .inv) (c .before .before .before .before .before .before .before .before .is-letter .ensures .1 (c .before .before .before .before .before .before .before .if1 .taken)) (sym (c .before .before .before .before .before .before .before .before .is-letter .ensures .0) ∙ c .before .before .before .before .before .before .before .if1 .taken) (c .before .before .before .before .before .pass-method .ensures) (c .before .r .given .1), (c .before .before .before .before .before .before .before .before .is-letter .ensures .1 (c .before .before .before .before .before .before .before .if1 .taken)) .0)
+
+loop-again : tie.Need-loop-again Inv-loop μ-loop
+loop-again c = listing-step (c .before .before .before .before .before .before .before .before .before .loop .inv) (c .before .before .before .before .before .before .before .before .is-letter .ensures .1 (c .before .before .before .before .before .before .before .if1 .taken)) (sym (c .before .before .before .before .before .before .before .before .is-letter .ensures .0) ∙ c .before .before .before .before .before .before .before .if1 .taken) (c .before .before .before .before .before .pass-method .ensures) (c .before .r .given .1) (c .before .before .before .before .before .pass-method .kept .1 .0)
+
+same-length-2 : tie.Need-same-length-2 Inv-loop μ-loop
+same-length-2 c = c .before .before .loop .inv .long
+
+returns-2 : tie.Need-returns-2 Inv-loop μ-loop
+returns-2 c = λ f h. listing-end (c .before .before .loop .inv) (sym (c .before .is-letter .ensures .0) ∙ c .if1 .left) f h
+
+pub pass-methods-spec : {M : Type 1} → statement M
+pass-methods-spec =
+    tie.close
+    (tie.spec
+    Inv-loop
+    μ-loop
+    loop-holds
+    is-letter-requires
+    pass-method-requires
+    enum-known-r
+    enum-told
+    same-length
+    returns
+    loop-less
+    loop-again
+    same-length-2
+    returns-2)

@@ -1,0 +1,94 @@
+-- Rows by place: what stands at row `at`, whose line is at + 1, and how many lines of a letter stand from there on.
+use mathlib.Core.Path.{_≡_}
+use mathlib.Core.Logic.{_⊎_}
+use mathlib.Core.Bool.{Bool, false, cond}
+use mathlib.Core.List.{List, [], _∷_}
+use Prim.Native.Nat.{ℕ, suc, _+_, _*_, _%_, _≤_, _<_}
+use lib.Dec.{eqb}
+use lib.ListN.{length, getD, drop}
+use Rattle.language.specs.Limits.{of-translator, place-refusal}
+use Rattle.language.specs.Lists.{given}
+use Rattle.language.specs.Results.{Checked, accept, refuse}
+use Rattle.language.specs.Rows.{Letter, letters, code, letter-among, name-of, Record, Row, row, rows-of}
+use Rattle.language.specs.Rows.{C-class, F-field, M-method, P-parameter, X-effect, S-start, B-block, V-local}
+use Rattle.language.specs.Rows.{T-true, L-false, N-null, I-slot, Z-is-null, G-get, K-cast, W-new, R-change}
+use Rattle.language.specs.Rows.{A-assign, U-set, Q-call, J-choose}
+use Rattle.language.specs.Form.{record-on}
+use Rattle.limits.specs.declared.Parts.{Parts}
+use Rattle.limits.specs.declared.Parts.the-variants.{Of, NoNode}
+
+-- The rows from row `at` on, and the row there.
+unfoldable pub rows-from : List ℕ → ℕ → List Row
+rows-from numbers at = rows-of (drop (at * 4) numbers)
+
+abbrev pub row-at : List ℕ → ℕ → Row
+row-at numbers at =
+    row (getD numbers (at * 4) 0) (getD numbers (at * 4 + 1) 0) (getD numbers (at * 4 + 2) 0)
+    (getD numbers (at * 4 + 3) 0)
+
+-- The number of a refusal, and 0 where there is none.
+abbrev pub refusal-of : {A : Type 0} → Checked A → ℕ
+refusal-of (accept a) = 0
+refusal-of (refuse number line) = number
+
+-- Why no record can be taken on a line.
+unfoldable pub refusal-on : ℕ → List Row → ℕ
+refusal-on line [] = place-refusal
+refusal-on line (r ∷ rs) = refusal-of (record-on of-translator line r)
+
+-- Is what was read a record of the letter of a code.
+abbrev pub has-code : ℕ → Checked Record → Bool
+has-code n (accept x) = eqb n (code (x .letter))
+has-code n (refuse number line) = false
+
+-- Does one stand on a line; how many stand from there on, one after another.
+unfoldable pub standing : ℕ → ℕ → List Row → Bool
+standing n line [] = false
+standing n line (r ∷ rs) = has-code n (record-on of-translator line r)
+
+unfoldable pub run : ℕ → ℕ → List Row → ℕ
+run n line [] = 0
+run n line (r ∷ rs) = cond (has-code n (record-on of-translator line r)) (suc (run n (line + 1) rs)) 0
+
+-- The name that a row of a code gives.
+unfoldable pub name-at : ℕ → ℕ → ℕ → ℕ
+name-at n a b = given (letter-among letters n) 0 λ l. name-of l a b
+
+-- How many V lines and children a node of a letter with its numbers has.
+abbrev pub parts-of : Letter → ℕ → ℕ → Parts
+parts-of C-class a b = NoNode
+parts-of F-field a b = NoNode
+parts-of M-method a b = NoNode
+parts-of P-parameter a b = NoNode
+parts-of X-effect a b = NoNode
+parts-of S-start a b = NoNode
+parts-of B-block a b = Of a b
+parts-of V-local a b = NoNode
+parts-of T-true a b = Of 0 0
+parts-of L-false a b = Of 0 0
+parts-of N-null a b = Of 0 0
+parts-of I-slot a b = Of 0 0
+parts-of Z-is-null a b = Of 0 1
+parts-of G-get a b = Of 0 1
+parts-of K-cast a b = Of 0 1
+parts-of W-new a b = Of 0 0
+parts-of R-change a b = Of 0 0
+parts-of A-assign a b = Of 0 1
+parts-of U-set a b = Of 0 2
+parts-of Q-call a b = Of 0 (b + 1)
+parts-of J-choose a b = Of 0 3
+
+unfoldable pub parts-at : ℕ → ℕ → ℕ → Parts
+parts-at n a b = given (letter-among letters n) NoNode λ l. parts-of l a b
+
+-- What a pass may count on: whole rows, a table with an entry for each row that may be accepted,
+-- a place that is no further than one past the last of these.
+pub record Ready (numbers table : List ℕ) (at : ℕ) : Type 0 where
+  pub whole : length numbers % 4 ≡ 0
+  pub room : (length numbers ≤ 4 * length table) ⊎ (680 ≤ length table)
+  pub within : at ≤ 680
+  pub inside : at * 4 ≤ length numbers
+
+-- Where a record can be taken there is a row that is not too many.
+abbrev pub There : List ℕ → ℕ → Type 0
+There numbers at = (at < 680) × (at * 4 + 4 ≤ length numbers)

@@ -1,0 +1,359 @@
+// The translator's limits of form: the pass over form within its own column of document 01's table. It reads as the
+// pass of crate form does, so that the first line over a limit is the one that this pass would refuse.
+ghost use mathlib.Core.Path.{_≡_};
+ghost use mathlib.Core.Bool.{true};
+ghost use mathlib.Core.List.{List, _∷_, _++_};
+ghost use mathlib.Core.Logic.{_⊎_};
+ghost use Prim.Native.Nat.{ℕ, _+_, _*_, _%_, _≤_, _<_};
+ghost use lib.ListN.{length, drop};
+ghost use lib.Seq.{sets};
+ghost use Rattle.language.specs.Limits.{of-translator};
+ghost use Rattle.language.specs.Results.{accept};
+ghost use Rattle.language.specs.Rows.{Record, row, is-row, rows-of};
+ghost use Rattle.language.specs.Tree.{DeclaredType, Expr, Exprs, Class, classes-lines, Program};
+ghost use Rattle.language.specs.Form.{locals, several, node, body, method, methods, at-end, form};
+ghost use Rattle.language.specs.Tables.{next-rows, program-ends};
+ghost use Rattle.limits.specs.Places.{rows-from, refusal-on, standing, run, name-at, parts-at, Ready, There};
+ghost use Rattle.limits.specs.Passes.{ToldNode, ToldNodes, ToldLocals, ToldMethod, ToldMethods, ToldClass};
+ghost use Rattle.limits.specs.Passes.{Makes, parts-read, class-read, start-read, Started};
+ghost use Rattle.limits.specs.Answers.{formed-of};
+
+// Where what was read ends, or a refusal's number and line.
+pub enum Step {
+    End(usize),
+    Refused(u32, u32),
+}
+
+// How many V lines and how many children a node has.
+pub enum Parts {
+    Of(u32, u32),
+    NoNode,
+}
+
+// In form, with so many classes; or a refusal's number and line.
+pub enum Formed {
+    InForm(u32),
+    Refused(u32, u32),
+}
+
+// The name that a row gives, and 0 where its letter takes none.
+fn name_of(code: u32, a: u32, b: u32) -> u32
+    ensures { λ r. ⌜ r ≡ name-at code a b ⌝ }
+{
+    match code {
+        70 => b,
+        77 => b,
+        71 => a,
+        85 => a,
+        81 => a,
+        _ => 0,
+    }
+}
+
+// Why no record can be taken from this row: 3 past the end, 1 if it is malformed, 2 for a row too many or
+// a name too large; and 0 if one can.
+fn refuse_row(rows: &[u32], at: usize) -> u32
+    requires { ⌜ (length (now rows) % 4 ≡ 0) × (at ≤ 680) ⌝ }
+    ensures { λ r. ⌜ (r ≡ refusal-on (at + 1) (rows-from (now (rows .entry)) at)) × (r ≡ 0 → There (now (rows .entry)) at) ⌝ }
+{
+    let i = at * 4;
+    if rows.len() <= i {
+        return 3;
+    }
+    let code = rows[i];
+    let a = rows[i + 1];
+    let b = rows[i + 2];
+    if !language::is_row(code, a, b, rows[i + 3]) {
+        return 1;
+    }
+    if 680 <= at {
+        return 2;
+    }
+    if 255 < name_of(code, a, b) {
+        return 2;
+    }
+    0
+}
+
+// Does a record of this letter stand here.
+fn is_letter(rows: &[u32], at: usize, letter: u32) -> bool
+    requires { ⌜ (length (now rows) % 4 ≡ 0) × (at ≤ 680) ⌝ }
+    ensures { λ r. ⌜ (r ≡ standing letter (at + 1) (rows-from (now (rows .entry)) at)) × (r ≡ true → There (now (rows .entry)) at) ⌝ }
+{
+    if refuse_row(rows, at) != 0 {
+        return false;
+    }
+    rows[at * 4] == letter
+}
+
+// Passes the lines of a letter, as long as they come, and answers the row after them.
+fn pass_lines(rows: &[u32], ends: &mut [u16], at: usize, letter: u32) -> usize
+    requires { ⌜ Ready (now rows) (now ends) at ⌝ }
+    ensures { λ r. ⌜ (r ≡ at + run letter (at + 1) (rows-from (now (rows .entry)) at))
+        × (now (ends .exit) ≡ sets (now (ends .entry)) at (next-rows at (run letter (at + 1) (rows-from (now (rows .entry)) at))))
+        × (r ≤ 680) × (r * 4 ≤ length (now (rows .entry))) ⌝ }
+{
+    let mut i = at;
+    while is_letter(rows, i, letter) {
+        ends[i] = (i + 1) as u16;
+        i += 1;
+    }
+    i
+}
+
+// Passes so many V lines, with so many slots in scope before the first.
+fn pass_locals(rows: &[u32], ends: &mut [u16], at: usize, count: u32, slots: u32) -> Step
+    requires { ⌜ Ready (now rows) (now ends) at × (slots ≤ 32) ⌝ }
+    ensures { λ r. ⌜ ToldLocals (now (rows .entry)) (now (ends .entry)) at (locals of-translator count slots (at + 1) (rows-from (now (rows .entry)) at)) r (now (ends .exit))
+        × ((next : ℕ) → r ≡ Step.End next → slots + count ≤ 32) ⌝ }
+{
+    let mut i = at;
+    let mut left = count;
+    let mut scope = slots;
+    while 0 < left {
+        let refusal = refuse_row(rows, i);
+        if refusal != 0 {
+            return Step::Refused(refusal, i as u32 + 1);
+        }
+        if rows[i * 4] != 86 {
+            return Step::Refused(3, i as u32 + 1);
+        }
+        if 32 <= scope {
+            return Step::Refused(2, i as u32 + 1);
+        }
+        ends[i] = (i + 1) as u16;
+        i += 1;
+        left -= 1;
+        scope += 1;
+    }
+    Step::End(i)
+}
+
+// How many V lines and children follow a node of this letter with these numbers.
+fn parts_of(code: u32, a: u32, b: u32) -> Parts
+    requires { ⌜ b ≤ 65535 ⌝ }
+    ensures { λ r. ⌜ r ≡ parts-at code a b ⌝ }
+{
+    match code {
+        84 => Parts::Of(0, 0),
+        76 => Parts::Of(0, 0),
+        78 => Parts::Of(0, 0),
+        73 => Parts::Of(0, 0),
+        87 => Parts::Of(0, 0),
+        82 => Parts::Of(0, 0),
+        90 => Parts::Of(0, 1),
+        71 => Parts::Of(0, 1),
+        75 => Parts::Of(0, 1),
+        65 => Parts::Of(0, 1),
+        85 => Parts::Of(0, 2),
+        74 => Parts::Of(0, 3),
+        81 => Parts::Of(0, b + 1),
+        66 => Parts::Of(a, b),
+        _ => Parts::NoNode,
+    }
+}
+
+// Passes a node, with so much nesting left and so many slots in scope.
+fn pass_node(rows: &[u32], ends: &mut [u16], at: usize, nesting: u32, slots: u32) -> Step
+    requires { ⌜ Ready (now rows) (now ends) at × (slots ≤ 32) ⌝ }
+    ensures { λ r. ⌜ ToldNode (now (rows .entry)) (now (ends .entry)) at (node of-translator nesting slots (at + 1) (rows-from (now (rows .entry)) at)) r (now (ends .exit)) ⌝ }
+{
+    let refusal = refuse_row(rows, at);
+    if refusal != 0 {
+        return Step::Refused(refusal, at as u32 + 1);
+    }
+    let code = rows[at * 4];
+    let parts = parts_of(code, rows[at * 4 + 1], rows[at * 4 + 2]);
+    let Parts::Of(variables, children) = parts else {
+        return Step::Refused(3, at as u32 + 1);
+    };
+    if nesting == 0 {
+        return Step::Refused(2, at as u32 + 1);
+    }
+    if children == 0 {
+        if code == 66 {
+            return Step::Refused(3, at as u32 + 1); // a block without expressions
+        }
+        ends[at] = (at + 1) as u16;
+        return Step::End(at + 1);
+    }
+    pass_parts(rows, ends, at, nesting - 1, slots, variables, children)
+}
+
+// Passes what follows a node: its V lines, then its children.
+fn pass_parts(
+    rows: &[u32],
+    ends: &mut [u16],
+    at: usize,
+    nesting: u32,
+    slots: u32,
+    variables: u32,
+    children: u32,
+) -> Step
+    requires { ⌜ Ready (now rows) (now ends) at × There (now rows) at × (slots ≤ 32) ⌝ }
+    ensures { λ r. ⌜ ((make : List DeclaredType → Exprs → Expr) → Makes variables children make
+        → ToldNode (now (rows .entry)) (now (ends .entry)) at (parts-read nesting slots variables children make (at + 1) (rows-from (now (rows .entry)) (at + 1))) r (now (ends .exit))) ⌝ }
+{
+    let l = pass_locals(rows, ends, at + 1, variables, slots);
+    let Step::End(first) = l else {
+        return l;
+    };
+    let r = pass_nodes(rows, ends, first, nesting, slots + variables, children);
+    let Step::End(next) = r else {
+        return r;
+    };
+    ends[at] = next as u16;
+    r
+}
+
+// Passes so many nodes, one after another.
+fn pass_nodes(
+    rows: &[u32],
+    ends: &mut [u16],
+    at: usize,
+    nesting: u32,
+    slots: u32,
+    count: u32,
+) -> Step
+    requires { ⌜ Ready (now rows) (now ends) at × (slots ≤ 32) ⌝ }
+    ensures { λ r. ⌜ ToldNodes (now (rows .entry)) (now (ends .entry)) at (several (λ at rs. node of-translator nesting slots at rs) count (at + 1) (rows-from (now (rows .entry)) at)) r (now (ends .exit)) ⌝ }
+{
+    let mut i = at;
+    let mut left = count;
+    while 0 < left {
+        let r = pass_node(rows, ends, i, nesting, slots);
+        let Step::End(next) = r else {
+            return r;
+        };
+        i = next;
+        left -= 1;
+    }
+    Step::End(i)
+}
+
+// Passes a body: one block.
+fn pass_body(rows: &[u32], ends: &mut [u16], at: usize, slots: u32) -> Step
+    requires { ⌜ Ready (now rows) (now ends) at × (slots ≤ 32) ⌝ }
+    ensures { λ r. ⌜ ToldNode (now (rows .entry)) (now (ends .entry)) at (body of-translator slots (at + 1) (rows-from (now (rows .entry)) at)) r (now (ends .exit)) ⌝ }
+{
+    let refusal = refuse_row(rows, at);
+    if refusal != 0 {
+        return Step::Refused(refusal, at as u32 + 1);
+    }
+    if rows[at * 4] != 66 {
+        return Step::Refused(3, at as u32 + 1);
+    }
+    pass_node(rows, ends, at, 24, slots)
+}
+
+// Passes a method, whose M line stands here: its P lines, its X lines, its body.
+fn pass_method(rows: &[u32], ends: &mut [u16], at: usize) -> Step
+    requires { ⌜ Ready (now rows) (now ends) at × There (now rows) at ⌝ }
+    ensures { λ r. ⌜ ((x : Record) → ToldMethod (now (rows .entry)) (now (ends .entry)) at (method of-translator (at + 1) x (rows-from (now (rows .entry)) (at + 1))) r (now (ends .exit))) ⌝ }
+{
+    let effects = pass_lines(rows, ends, at + 1, 80);
+    let parameters = (effects - at - 1) as u32;
+    if 8 < parameters {
+        return Step::Refused(2, at as u32 + 10);
+    }
+    let body = pass_lines(rows, ends, effects, 88);
+    let r = pass_body(rows, ends, body, parameters + 1);
+    let Step::End(next) = r else {
+        return r;
+    };
+    ends[at] = next as u16;
+    r
+}
+
+// Passes methods, as long as M lines come.
+fn pass_methods(rows: &[u32], ends: &mut [u16], at: usize) -> Step
+    requires { ⌜ Ready (now rows) (now ends) at ⌝ }
+    ensures { λ r. ⌜ ((f : ℕ) → length (rows-from (now (rows .entry)) at) ≤ f → ToldMethods (now (rows .entry)) (now (ends .entry)) at (methods of-translator f (at + 1) (rows-from (now (rows .entry)) at)) r (now (ends .exit))) ⌝ }
+{
+    let mut i = at;
+    while is_letter(rows, i, 77) {
+        let r = pass_method(rows, ends, i);
+        let Step::End(next) = r else {
+            return r;
+        };
+        i = next;
+    }
+    Step::End(i)
+}
+
+// Passes a class, whose C line stands here: its F lines, its methods.
+fn pass_class(rows: &[u32], ends: &mut [u16], at: usize) -> Step
+    requires { ⌜ Ready (now rows) (now ends) at × There (now rows) at ⌝ }
+    ensures { λ r. ⌜ ((x : Record) → ToldClass (now (rows .entry)) (now (ends .entry)) at (class-read x (at + 1) (rows-from (now (rows .entry)) (at + 1))) r (now (ends .exit))) ⌝ }
+{
+    let methods = pass_lines(rows, ends, at + 1, 70);
+    let r = pass_methods(rows, ends, methods);
+    let Step::End(next) = r else {
+        return r;
+    };
+    ends[at] = next as u16;
+    r
+}
+
+// Nothing may follow the start block.
+fn finish(rows: &[u32], at: usize, classes: u32) -> Formed
+    requires { ⌜ (length (now rows) % 4 ≡ 0) × (at ≤ 680) ⌝ }
+    ensures { λ r. ⌜ ((p : Program) → length (p .classes) ≡ classes → r ≡ formed-of (at-end of-translator (at + 1) (rows-from (now (rows .entry)) at) p)) ⌝ }
+{
+    if rows.len() <= at * 4 {
+        return Formed::InForm(classes);
+    }
+    let refusal = refuse_row(rows, at);
+    if refusal != 0 {
+        return Formed::Refused(refusal, at as u32 + 1);
+    }
+    Formed::Refused(3, at as u32 + 1)
+}
+
+// After the classes: the S line, the start block, the end.
+fn pass_start(rows: &[u32], ends: &mut [u16], at: usize, classes: u32) -> Formed
+    requires { ⌜ Ready (now rows) (now ends) at ⌝ }
+    ensures { λ r. ⌜ ((cs : List Class) → length cs ≡ classes → (r ≡ formed-of (start-read cs (at + 1) (rows-from (now (rows .entry)) at)))
+        × Started cs (now (ends .entry)) at (start-read cs (at + 1) (rows-from (now (rows .entry)) at)) (now (ends .exit))) ⌝ }
+{
+    let refusal = refuse_row(rows, at);
+    if refusal != 0 {
+        return Formed::Refused(refusal, at as u32 + 1);
+    }
+    if rows[at * 4] != 83 {
+        return Formed::Refused(3, at as u32 + 1);
+    }
+    ends[at] = (at + 1) as u16;
+    let r = pass_body(rows, ends, at + 1, 1);
+    match r {
+        Step::End(next) => finish(rows, next, classes),
+        Step::Refused(number, line) => Formed::Refused(number, line),
+    }
+}
+
+// The pass: classes, as long as C lines come, then the start. It fills the table of ends.
+pub fn check_form(rows: &[u32], ends: &mut [u16]) -> Formed
+    requires { ⌜ (length (now rows) % 4 ≡ 0) × ((length (now rows) ≤ 4 * length (now ends)) ⊎ (680 ≤ length (now ends))) ⌝ }
+    ensures { λ r. ⌜ (r ≡ formed-of (form of-translator (rows-of (now (rows .entry)))))
+        × ((p : Program) → form of-translator (rows-of (now (rows .entry))) ≡ accept p
+        → now (ends .exit) ≡ program-ends p ++ drop (length (program-ends p)) (now (ends .entry))) ⌝ }
+{
+    let mut i = 0;
+    let mut classes: u32 = 0;
+    while is_letter(rows, i, 67) {
+        if 62 <= classes {
+            return Formed::Refused(2, i as u32 + 1);
+        }
+        let r = pass_class(rows, ends, i);
+        match r {
+            Step::End(next) => {
+                i = next;
+                classes += 1;
+            }
+            Step::Refused(number, line) => {
+                return Formed::Refused(number, line);
+            }
+        }
+    }
+    pass_start(rows, ends, i, classes)
+}

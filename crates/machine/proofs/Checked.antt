@@ -1,0 +1,121 @@
+-- The run of a checked program: its start block is found, and its end told. Assumes nothing.
+use mathlib.Core.Path.{_≡_, refl, sym, ap, _∙_}
+use mathlib.Core.Bool.{Bool}
+use mathlib.Core.Logic.{_⊎_, inl, inr}
+use mathlib.Core.List.{List}
+use Prim.Native.Nat.{ℕ, suc, _+_, _*_, _≤_, _<_}
+use native.Mathlib.Omega.{arith}
+use lib.ListN.{length}
+use Rattle.language.specs.Limits.{most-fuel}
+use Rattle.language.specs.Results.{ok, stop, accept}
+use Rattle.language.specs.Verdict.{check}
+use Rattle.language.specs.Tree.{Program}
+use Rattle.language.specs.Layout.{start-row}
+use Rattle.language.specs.Evaluation.{Value as Meaning, State, Out, stuck, with-limits, run}
+use Rattle.language.specs.Store.{gave, ended, ran, Ran as Finished, finish, capacity, run-of}
+use Rattle.theory.specs.Accepts.{check-accepts}
+use Rattle.theory.specs.Members.{well-formed-never-stuck, accepted-run}
+use Rattle.machine.specs.declared.Value.{Value}
+use Rattle.machine.specs.declared.Value.the-variants.{Truth, Object}
+use Rattle.machine.specs.declared.Outcome.{Outcome}
+use Rattle.machine.specs.declared.Outcome.the-variants.{Gave, Raised, Stopped, Stuck}
+use Rattle.machine.specs.declared.End.{End}
+use Rattle.machine.specs.declared.End.the-variants.{Gave as EndGave, Raised as EndRaised, Stopped as EndStopped}
+use Rattle.machine.specs.declared.Ran.{Ran}
+use Rattle.machine.specs.declared.Run.{Run}
+use Rattle.machine.specs.Machine.{value, Small, SmallOutcome, stop-of}
+use Rattle.machine.specs.Contracts.{LetterFrom, SomeLetter, Accepted, Runs, PreRun, PostRun, PreChecked, PostChecked, Tells, outcome-of, value-told, end-told}
+use Rattle.machine.proofs.Objects.{lt-or}
+use Rattle.machine.proofs.Acts.{same-letter}
+use Rattle.machine.proofs.Lines.{no-classes}
+use Rattle.machine.proofs.Accepted.{well, runs}
+
+-- ---- ends told
+
+pub told-truth : {v : Value} {b : Bool} → v ≡ Truth b → Truth b ≡ value-told (value v)
+told-truth e = rw e
+
+pub told-object : {v : Value} {j : ℕ} → v ≡ Object j → Object (j + 1) ≡ value-told (value v)
+told-object {j = j} e = let z : j + 1 ≡ suc j = omega arith in rw (e, z)
+
+pub object-low : {v : Value} {j : ℕ} → v ≡ Object j → Small v → j + 3 < 4294967296
+object-low e h = let z = rw e at h in omega (arith, z)
+
+pub told-gave : {o : Outcome} {v w : Value} → o ≡ Gave v → w ≡ value-told (value v) → EndGave w ≡ end-told (outcome-of o)
+told-gave e h = rw (e, h)
+
+pub told-raised : {o : Outcome} {n : ℕ} → o ≡ Raised n → EndRaised n ≡ end-told (outcome-of o)
+told-raised e = rw e
+
+told-stop : (n : ℕ) → (14 ≤ n) × (n ≤ 16) → EndStopped n ≡ end-told (ended (stop-of n))
+told-stop n h = go (lt-or n 15) (lt-or n 16)
+  where
+    go : (n < 15) ⊎ (15 ≤ n) → (n < 16) ⊎ (16 ≤ n) → EndStopped n ≡ end-told (ended (stop-of n))
+    go (inl a) b = let z : n ≡ 14 = omega (arith, h) in rw z
+    go (inr a) (inl b) = let z : n ≡ 15 = omega arith in rw z
+    go (inr a) (inr b) = let z : n ≡ 16 = omega (arith, h) in rw z
+
+pub told-stopped : {o : Outcome} {n : ℕ} → o ≡ Stopped n → SmallOutcome o → EndStopped n ≡ end-told (outcome-of o)
+told-stopped {n = n} e h = rw e (told-stop n (rw e at h))
+
+stuck-only : (o : Outcome) → SmallOutcome o → EndStopped 0 ≡ end-told (outcome-of o) → outcome-of o ≡ ended stuck
+stuck-only (Gave v) h e = let z : _≡_ {A = ℕ} 0 1 = cc in absurd (omega arith)
+stuck-only (Raised n) h e = let z : _≡_ {A = ℕ} 0 1 = cc in absurd (omega arith)
+stuck-only (Stopped n) h e = let q = e ∙ sym (told-stop n h) in let z : 0 ≡ n = cc in absurd (omega (arith, h))
+stuck-only Stuck h e = refl
+
+stuck-end : (x : Out Meaning) (s s′ : List ℕ) (a b c : ℕ) → finish x s ≡ record { answer = ran (ended stuck) a b c; store = s′ } → (t : State) × (x ≡ stop stuck t)
+stuck-end (ok v t) s s′ a b c e =
+    let f : ran (gave v) (t .steps) (length (t .heap)) (t .changes) ≡ ran (ended stuck) a b c = ap (λ (x : Finished). x .answer) e in
+    let z : _≡_ {A = ℕ} 0 1 = cc in
+    absurd (omega arith)
+stuck-end (stop y t) s s′ a b c e =
+    let f : ran (ended y) (t .steps) (length (t .heap)) (t .changes) ≡ ran (ended stuck) a b c = ap (λ (x : Finished). x .answer) e in
+    let q : y ≡ stuck = cc in
+    (t, rw q)
+
+-- ---- the start block
+
+module _ {R E T A : List ℕ} {p : Program} (a : Accepted R E T A p) where
+  start-line : LetterFrom R 83 0 (start-row p)
+  start-line = record {
+    later = omega arith;
+    short = omega (arith, a .standing .start-line .within);
+    between = λ i x y e. no-classes R E (p .classes) 1 0 (a .standing .classes) .none i x (omega arith) e;
+    letter = a .standing .start-line .letter;
+  }
+
+  start-found : {b : ℕ} → LetterFrom R 83 0 b → b ≡ start-row p
+  start-found f = same-letter f start-line
+
+  starts : {l : List ℕ} {b : ℕ} → LetterFrom R 83 0 b → 92040 ≤ length l → Runs R E T A l (b + 1) p
+  starts f room = rw (start-found f) (runs a room)
+
+module _ {R E T A : List ℕ} (c : PreChecked R E T A) where
+  pub some-start : SomeLetter R 83 0
+  some-start = record { found = start-row (c .p); from = start-line (c .accepted) }
+
+  module _ {l : List ℕ} {b : ℕ} (f : LetterFrom R 83 0 b) (room : 92040 ≤ length l) where
+    pub pre-start : PreRun R E T A l (b + 1)
+    pre-start = record { p = c .p; runs = starts (c .accepted) f room }
+
+    module _ {s s′ : List ℕ} {fuel : ℕ} {r : Ran} (post : PostRun R E T A s l s′ (b + 1) fuel r) where
+      pub end-small : SmallOutcome (r .outcome)
+      end-small = post .small (c .p) (starts (c .accepted) f room)
+
+      pub checked-done : (e : End) → e ≡ end-told (outcome-of (r .outcome)) → PostChecked R E T A s s′ fuel (record { outcome = e; steps = r .steps; objects = r .objects; changes = r .changes })
+      checked-done e told = record {
+        tells = λ p a. record { outcome = outcome-of (r .outcome); is = post .is p (starts a f room); told = told };
+        unstuck = λ z.
+            let q = stuck-only (r .outcome) end-small (sym z ∙ told) in
+            let x = stuck-end (run (with-limits fuel (capacity s)) (c .p)) s s′ (r .steps) (r .objects) (r .changes) (rw q at (post .is (c .p) (starts (c .accepted) f room))) in
+            well-formed-never-stuck (c .p) (well (c .accepted)) (with-limits fuel (capacity s)) (x .0) (x .1);
+      }
+
+  pub start-low : {b : ℕ} → LetterFrom R 83 0 b → b * 4 + 4 ≤ length R
+  start-low f = omega (arith, start-found (c .accepted) f, c .accepted .standing .start-line .within)
+
+-- The same of rows that the check accepts: the answer and the store are those of the rows' run.
+pub tells-run-of : (R s s′ : List ℕ) (p : Program) (fuel : ℕ) (r : Run) → check R ≡ accept p → fuel ≤ most-fuel
+    → Tells (finish (run (with-limits fuel (capacity s)) p) s) s′ r → Tells (run-of R fuel s) s′ r
+tells-run-of R s s′ p fuel r e l t = rw (accepted-run R p (check-accepts R p .0 e) fuel l s) t

@@ -1,0 +1,19 @@
+-- What the proofs of several functions use.
+mod Objects
+mod Values
+mod Acts
+mod Frames
+mod Fresh
+mod Nodes
+mod Leaves
+mod Steps
+mod Nodes2
+mod Nodes3
+mod Lists
+mod Arguments
+mod Blocks
+mod Calls
+mod Running
+mod Lines
+pub mod Accepted
+pub mod Checked

@@ -1,0 +1,103 @@
+-- Laws of values and their numbers, of what outcomes mean, and of numbers written one after the other. Assumes nothing.
+use mathlib.Core.Path.{_≡_, refl, sym, ap, _∙_}
+use mathlib.Core.Bool.{true, false}
+use mathlib.Core.Logic.{_⊎_, inl, inr, ⊎-elim}
+use types.Run.{OneOf}
+use denote.Enum.Declared.{tagOf}
+use borrow.Author.Tests.{eqb-false}
+use Rattle.machine.proofs.Outcome.{the-type}
+use mathlib.Core.List.{List, [], _∷_}
+use Prim.Native.Nat.{ℕ, zero, suc, _+_, _-_, _≤_, _<_}
+use native.Mathlib.Omega.{arith}
+use lib.ListN.{length, getD, set, length-set}
+use Rattle.machine.proofs.Objects.{lt-or}
+use lib.Seq.{getD-set-same, getD-set-other}
+use Rattle.language.specs.Results.{ok, stop, bind}
+use Rattle.language.specs.Evaluation.{Value as Meaning, null, truth, object, State, Stop, Out}
+use Rattle.language.specs.Store.{value-number, value-of-number}
+use Rattle.machine.specs.declared.Value.{Value}
+use Rattle.machine.specs.declared.Outcome.{Outcome}
+use Rattle.machine.specs.declared.Outcome.the-variants.{Gave, Raised, Stopped, Stuck}
+use Rattle.machine.specs.Machine.{value, bare, bare-state, Small, SmallOutcome}
+use Rattle.machine.specs.Contracts.{Written}
+
+-- the value of a value's number
+pub value-of-value-number : (v : Meaning) → value-of-number (value-number v) ≡ v
+value-of-value-number null = refl
+value-of-value-number (truth true) = refl
+value-of-value-number (truth false) = refl
+value-of-value-number (object j) = refl
+
+pub value-number-of : (n : ℕ) → value-number (value-of-number n) ≡ n
+value-number-of zero = refl
+value-number-of (suc zero) = refl
+value-number-of (suc (suc zero)) = refl
+value-number-of (suc (suc (suc j))) = refl
+
+-- an object's number
+pub object-of-number : (n : ℕ) → 3 ≤ n → object (n - 3) ≡ value-of-number n
+object-of-number n h =
+    let e : n ≡ suc (suc (suc (n - 3))) = omega arith in
+    sym (ap value-of-number e)
+
+pub null-of-number : (n : ℕ) → (n ≡ 1 → ⊥) → (n ≡ 2 → ⊥) → n < 3 → null ≡ value-of-number n
+null-of-number zero a b h = refl
+null-of-number (suc zero) a b h = absurd (a refl)
+null-of-number (suc (suc zero)) a b h = absurd (b refl)
+null-of-number (suc (suc (suc n))) a b h = absurd (omega arith)
+
+-- a result whose slots are not looked at
+pub bare-ok : {A : Type 0} (o : Out A) {a : A} {s : State} → ok a s ≡ bare o → o ≡ ok a s
+unfolding bare
+bare-ok (ok b t) e = sym e
+bare-ok (stop x t) e = let z : _≡_ {A = ℕ} 0 1 = cc in absurd (omega arith)
+
+pub bare-stop : {A B : Type 0} (o : Out A) (k : A → State → Out B) {x : Stop} {s : State} → stop x s ≡ bare o → stop x s ≡ bare (bind o k)
+unfolding bare
+bare-stop (ok b t) k e = let z : _≡_ {A = ℕ} 0 1 = cc in absurd (omega arith)
+bare-stop (stop y t) k {x} {s} e = let h₁ : x ≡ y = cc in let h₂ : s ≡ bare-state t = cc in rw (h₁, h₂)
+
+-- one more number written
+pub written-none : (l : List ℕ) (from : ℕ) (f : ℕ → ℕ) → Written l l from 0 f
+written-none l from f = record { long = refl; inside = λ i h. absurd (omega arith); outside = λ x h. refl }
+
+pub written-more : {l l′ : List ℕ} {from n : ℕ} {f : ℕ → ℕ} (at a : ℕ) → Written l l′ from n f → at ≡ from + n → from + n < length l → a ≡ f n
+    → Written l (set l′ at a) from (n + 1) f
+written-more {l} {l′} {from} {n} {f} at a w e h q = record {
+  long = length-set l′ at a ∙ w .long;
+  inside = λ i k. go i k;
+  outside = λ x k. getD-set-other l′ at x a 0 (λ p. apart x k p) ∙ w .outside x (far x k);
+}
+  where
+    go : (i : ℕ) → i < n + 1 → getD (set l′ at a) (from + i) 0 ≡ f i
+    go i k = put i (split i k)
+      where
+        split : (i : ℕ) → i < n + 1 → (i < n) ⊎ (i ≡ n)
+        split i k = elim (le-or i) [ inl p ↦ inl p | inr p ↦ inr (omega arith) ]
+          where
+            le-or : (i : ℕ) → (i < n) ⊎ (n ≤ i)
+            le-or i = lt-or i n
+
+        put : (i : ℕ) → (i < n) ⊎ (i ≡ n) → getD (set l′ at a) (from + i) 0 ≡ f i
+        put i (inl p) = getD-set-other l′ at (from + i) a 0 (λ p′. omega arith) ∙ w .inside i p
+        put i (inr p) =
+            let z : from + i ≡ at = omega arith in
+            ap (λ (x : ℕ). getD (set l′ at a) x 0) z ∙ (getD-set-same l′ at a 0 (omega (arith, w .long)) ∙ (q ∙ ap f (sym p)))
+
+    far : (x : ℕ) → (x < from) ⊎ (from + (n + 1) ≤ x) → (x < from) ⊎ (from + n ≤ x)
+    far x (inl p) = inl p
+    far x (inr p) = inr (omega arith)
+
+    apart : (x : ℕ) → (x < from) ⊎ (from + (n + 1) ≤ x) → x ≡ at → ⊥
+    apart x (inl p) z = omega arith
+    apart x (inr p) z = omega arith
+
+-- an outcome that is not a value
+pub not-gave : (o : Outcome) → OneOf (1 ∷ 2 ∷ 3 ∷ []) (tagOf the-type o) → (v : Value) → o ≡ Gave v → ⊥
+not-gave (Gave w) h v e = ⊎-elim (λ e. eqb-false 0 1 refl e) (λ h. ⊎-elim (λ e. eqb-false 0 2 refl e) (λ e. eqb-false 0 3 refl e) h) h
+not-gave (Raised n) h v e = let z : _≡_ {A = ℕ} 0 1 = cc in omega arith
+not-gave (Stopped n) h v e = let z : _≡_ {A = ℕ} 0 1 = cc in omega arith
+not-gave Stuck h v e = let z : _≡_ {A = ℕ} 0 1 = cc in omega arith
+
+pub small-of : {o : Outcome} {v : Value} → o ≡ Gave v → SmallOutcome o → Small v
+small-of e h = rw e at h

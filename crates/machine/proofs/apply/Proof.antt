@@ -1,0 +1,89 @@
+use Prim.Native.Nat.{_+_, _-_, _*_}
+use native.Mathlib.Omega.{arith}
+use borrow.Author.Needs.{needs}
+use Rattle.machine.proofs.Leaves.{apply-row, apply-room, pre-load, pre-cast, apply-rest, apply-null, apply-get, apply-cast, apply-assign}
+use Rattle.machine.proofs.apply.Statement.{statement}
+use Rattle.machine.proofs.apply.Tie as tie
+use Rattle.machine.proofs.apply.Reads as reads
+use Rattle.machine.proofs.apply.Lts as lts
+use Rattle.machine.proofs.cast_object.Reads as cast-object-reads
+use Rattle.machine.proofs.is_null.Reads as is-null-reads
+use Rattle.machine.proofs.load.Reads as load-reads
+use Rattle.machine.proofs.write_slot.Reads as write-slot-reads
+
+mul-k : tie.Need-mul-k
+mul-k c = omega (arith, apply-row (c .before .before .before .before .before .pre))
+
+mul-k-2 : tie.Need-mul-k-2
+mul-k-2 c = omega (arith, apply-row (c .before .before .before .before .before .pre))
+
+shared-slice-read-k : tie.Need-shared-slice-read-k
+shared-slice-read-k c = omega (arith, apply-row (c .before .before .before .before .before .before .pre))
+
+mul-a : tie.Need-mul-a
+mul-a c = omega (arith, apply-row (c .before .before .before .before .before .before .pre))
+
+add-a : tie.Need-add-a
+add-a c = omega (arith, apply-row (c .before .before .before .before .before .before .pre))
+
+mul-a-2 : tie.Need-mul-a-2
+mul-a-2 c = omega (arith, apply-row (c .before .before .before .before .before .before .pre))
+
+shared-slice-read-a : tie.Need-shared-slice-read-a
+shared-slice-read-a c = omega (arith, apply-row (c .before .before .before .before .before .before .before .pre))
+
+is-null-requires : tie.Need-is-null-requires
+is-null-requires c κs = search needs
+
+cast-load : tie.Need-cast-load
+cast-load c = omega (arith, c .before .before .shared-slice-known5 .given (c .before .before .before .before .before .before .before .before .args .at * 4 + 1))
+
+load-requires : tie.Need-load-requires
+load-requires c κs = pre-load (c .before .before .before .before .before .before .before .before .pre) (c .match .keys2)
+
+cast-object-requires : tie.Need-cast-object-requires
+cast-object-requires c κs = (pre-cast (c .before .before .before .before .before .before .before .before .pre) (c .match .keys3), c .before .before .before .before .before .before .before .before .pre .small)
+
+cast-write-slot : tie.Need-cast-write-slot
+cast-write-slot c = omega (arith, c .before .before .before .shared-slice-known5 .given (c .before .before .before .before .before .before .before .before .before .args .at * 4 + 1))
+
+write-slot-requires : tie.Need-write-slot-requires
+write-slot-requires c κs = (apply-room (c .before .before .before .before .before .before .before .before .before .pre), c .before .before .before .before .before .before .before .before .before .pre .small)
+
+returns : tie.Need-returns
+returns c = apply-null (c .is-null .result) (c .before .match .keys1) (c .is-null .ensures)
+
+returns-2 : tie.Need-returns-2
+returns-2 c = apply-get (c .load .result) (c .before .match .keys2) (c .load .ensures)
+
+returns-3 : tie.Need-returns-3
+returns-3 c = apply-cast (c .cast-object .result) (c .before .match .keys3) (c .cast-object .ensures)
+
+same-length : tie.Need-same-length
+same-length c = search needs
+
+returns-4 : tie.Need-returns-4
+returns-4 c = apply-assign (apply-rest (c .before .before .before .before .before .before .before .before .before .before .before .before .pre) (c .before .before .before .before .match .rest .0 .0 .1) (c .before .before .before .before .match .rest .0 .1) (c .before .before .before .before .match .rest .1)) (c .before .before .write-slot .ensures) (c .before .before .before .before .before .before .before .before .before .before .before .before .pre .small)
+
+pub apply-spec : {M : Type 1} → statement M
+apply-spec =
+    tie.close
+    (tie.spec
+    mul-k
+    mul-k-2
+    shared-slice-read-k
+    mul-a
+    add-a
+    mul-a-2
+    shared-slice-read-a
+    is-null-requires
+    cast-load
+    load-requires
+    cast-object-requires
+    cast-write-slot
+    write-slot-requires
+    returns
+    returns-2
+    returns-3
+    same-length
+    returns-4)

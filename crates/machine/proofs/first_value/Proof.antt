@@ -1,0 +1,15 @@
+use Prim.Native.Nat.{_-_}
+use borrow.Author.Tests.{eq-eqb, ne-eqb}
+use Rattle.machine.proofs.first_value.Statement.{statement}
+use Rattle.machine.proofs.first_value.Tie as tie
+use Rattle.machine.proofs.first_value.Reads as reads
+use Rattle.machine.proofs.first_value.Lts as lts
+
+returns : tie.Need-returns
+returns c = rw (eq-eqb _ _ (c .if1 .taken))
+
+returns-2 : tie.Need-returns-2
+returns-2 c = rw (ne-eqb _ _ (c .if1 .left))
+
+pub first-value-spec : {M : Type 1} → statement M
+first-value-spec = tie.close (tie.spec returns returns-2)

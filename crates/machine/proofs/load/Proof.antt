@@ -1,0 +1,101 @@
+use mathlib.Core.Path.{sym, _∙_}
+use Prim.Native.Nat.{_+_, _-_, _*_}
+use native.Mathlib.Omega.{arith}
+use lib.ListN.{getD}
+use borrow.Author.Needs.{needs}
+use Rattle.machine.proofs.Acts.{spot, load-null, load-truth, load-past, load-missing, load-at}
+use Rattle.machine.proofs.load.Statement.{statement}
+use Rattle.machine.proofs.load.Tie as tie
+use Rattle.machine.proofs.load.Reads as reads
+use Rattle.machine.proofs.load.Lts as lts
+use Rattle.machine.proofs.decode.Reads as decode-reads
+use Rattle.machine.proofs.is_null.Reads as is-null-reads
+
+is-null-requires : tie.Need-is-null-requires
+is-null-requires c κs = search needs
+
+returns : tie.Need-returns
+returns c = load-null (c .before .before .before .before .args .tables .now) (c .before .before .before .before .args .store .now) (c .before .before .before .before .args .v) (c .before .before .before .before .args .f) (c .before .before .before .before .args .counts) (sym (c .before .is-null .ensures) ∙ c .if1 .taken)
+
+enum-known-v : tie.Need-enum-known-v
+enum-known-v c = search needs
+
+returns-2 : tie.Need-returns-2
+returns-2 c = load-truth (c .before .before .before .before .before .args .tables .now) (c .before .before .before .before .before .args .store .now) (c .before .before .before .before .before .args .v) (c .before .before .before .before .before .args .f) (c .before .before .before .before .before .args .counts) (c .match .keys2) (sym (c .before .before .is-null .ensures) ∙ c .before .if1 .left)
+
+returns-3 : tie.Need-returns-3
+returns-3 c = load-past (c .before .before .before .before .before .before .before .before .before .args .tables .now) (c .before .before .before .before .before .before .before .before .before .args .store .now) (c .before .before .before .before .before .before .before .before .before .args .v) (c .before .before .before .before .before .before .before .before .before .args .f) (c .before .before .before .before .before .before .before .before .before .args .counts) (c .before .before .before .v .given .0 .0) (c .before .before .before .v .given .1) (c .if2 .taken)
+
+cast-o : tie.Need-cast-o
+cast-o c = search needs
+
+mul-o : tie.Need-mul-o
+mul-o c = search needs
+
+mul-c : tie.Need-mul-c
+mul-c c = search needs
+
+shared-slice-read-c : tie.Need-shared-slice-read-c
+shared-slice-read-c c = search needs
+
+cast-c : tie.Need-cast-c
+cast-c c = omega (arith, c .shared-slice-known3 .given (c .before .before .before .before .v .given .0 .0 * 18))
+
+mul-p : tie.Need-mul-p
+mul-p c = omega (arith, spot (c .before .before .before .before .before .before .before .before .before .before .pre .0) (c .before .before .before .before .v .given .0 .0) (c .before .before .before .before .before .before .before .before .before .before .args .f) (c .before .if2 .left) (c .before .before .before .before .before .before .before .before .before .before .pre .1))
+
+add-p : tie.Need-add-p
+add-p c = omega (arith, spot (c .before .before .before .before .before .before .before .before .before .before .pre .0) (c .before .before .before .before .v .given .0 .0) (c .before .before .before .before .before .before .before .before .before .before .args .f) (c .before .if2 .left) (c .before .before .before .before .before .before .before .before .before .before .pre .1))
+
+mul-p-2 : tie.Need-mul-p-2
+mul-p-2 c = omega (arith, spot (c .before .before .before .before .before .before .before .before .before .before .pre .0) (c .before .before .before .before .v .given .0 .0) (c .before .before .before .before .before .before .before .before .before .before .args .f) (c .before .if2 .left) (c .before .before .before .before .before .before .before .before .before .before .pre .1))
+
+shared-slice-read-p : tie.Need-shared-slice-read-p
+shared-slice-read-p c = omega (arith, spot (c .before .before .before .before .before .before .before .before .before .before .before .pre .0) (c .before .before .before .before .before .v .given .0 .0) (c .before .before .before .before .before .before .before .before .before .before .before .args .f) (c .before .before .if2 .left) (c .before .before .before .before .before .before .before .before .before .before .before .pre .1))
+
+cast-p : tie.Need-cast-p
+cast-p c = omega (arith, c .shared-slice-known4 .given (getD (c .before .before .before .before .before .before .before .before .before .before .before .args .store .now) ((c .before .before .before .before .before .v .given .0 .0) * 18) 0 * 576 + c .before .before .before .before .before .before .before .before .before .before .before .args .f))
+
+returns-4 : tie.Need-returns-4
+returns-4 c = load-missing (c .before .before .before .before .before .before .before .before .before .before .before .before .args .tables .now) (c .before .before .before .before .before .before .before .before .before .before .before .before .args .store .now) (c .before .before .before .before .before .before .before .before .before .before .before .before .args .v) (c .before .before .before .before .before .before .before .before .before .before .before .before .args .f) (c .before .before .before .before .before .before .before .before .before .before .before .before .args .counts) (c .before .before .before .before .before .before .v .given .0 .0) (c .before .before .before .before .before .before .v .given .1) (c .before .before .before .if2 .left) (c .before .before .before .before .before .before .before .before .before .before .before .before .pre .1) (c .if3 .taken)
+
+add-decode : tie.Need-add-decode
+add-decode c = omega (arith, spot (c .before .before .before .before .before .before .before .before .before .before .before .before .pre .0) (c .before .before .before .before .before .before .v .given .0 .0) (c .before .before .before .before .before .before .before .before .before .before .before .before .args .f) (c .before .before .before .if2 .left) (c .before .before .before .before .before .before .before .before .before .before .before .before .pre .1))
+
+mul-decode : tie.Need-mul-decode
+mul-decode c = omega (arith, spot (c .before .before .before .before .before .before .before .before .before .before .before .before .pre .0) (c .before .before .before .before .before .before .v .given .0 .0) (c .before .before .before .before .before .before .before .before .before .before .before .before .args .f) (c .before .before .before .if2 .left) (c .before .before .before .before .before .before .before .before .before .before .before .before .pre .1))
+
+shared-slice-read-decode : tie.Need-shared-slice-read-decode
+shared-slice-read-decode c = omega (arith, spot (c .before .before .before .before .before .before .before .before .before .before .before .before .before .pre .0) (c .before .before .before .before .before .before .before .v .given .0 .0) (c .before .before .before .before .before .before .before .before .before .before .before .before .before .args .f) (c .before .before .before .before .if2 .left) (c .before .before .before .before .before .before .before .before .before .before .before .before .before .pre .1))
+
+decode-requires : tie.Need-decode-requires
+decode-requires c κs = search needs
+
+returns-5 : tie.Need-returns-5
+returns-5 c = load-at (c .before .before .before .before .before .before .before .before .before .before .before .before .before .before .args .tables .now) (c .before .before .before .before .before .before .before .before .before .before .before .before .before .before .args .store .now) (c .before .before .before .before .before .before .before .before .before .before .before .before .before .before .args .v) (c .before .before .before .before .before .before .before .before .before .before .before .before .before .before .args .f) (c .before .before .before .before .before .before .before .before .before .before .before .before .before .before .args .counts) (c .before .before .before .before .before .before .before .before .v .given .0 .0) (c .decode .result) (c .before .before .before .before .before .before .before .before .v .given .1) (c .before .before .before .before .before .if2 .left) (c .before .before .before .before .before .before .before .before .before .before .before .before .before .before .pre .1) (c .before .before .if3 .left) (c .decode .ensures .0) (c .decode .ensures .1)
+
+pub load-spec : {M : Type 1} → statement M
+load-spec =
+    tie.close
+    (tie.spec
+    is-null-requires
+    returns
+    enum-known-v
+    returns-2
+    returns-3
+    cast-o
+    mul-o
+    mul-c
+    shared-slice-read-c
+    cast-c
+    mul-p
+    add-p
+    mul-p-2
+    shared-slice-read-p
+    cast-p
+    returns-4
+    add-decode
+    mul-decode
+    shared-slice-read-decode
+    decode-requires
+    returns-5)

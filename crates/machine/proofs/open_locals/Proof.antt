@@ -1,0 +1,85 @@
+use mathlib.Core.Path.{_≡_, refl}
+use Prim.Native.Nat.{_+_, _-_, _*_, _≤_}
+use native.Mathlib.Omega.{arith}
+use lib.ListN.{getD}
+use borrow.Author.Needs.{needs}
+use Rattle.machine.proofs.Values.{written-none, written-more}
+use Rattle.machine.specs.Contracts.{Written, first-of-type}
+use Rattle.machine.proofs.open_locals.Statement.{statement}
+use Rattle.machine.proofs.open_locals.Tie as tie
+use Rattle.machine.proofs.open_locals.Reads as reads
+use Rattle.machine.proofs.open_locals.Lts as lts
+use Rattle.machine.proofs.first_value.Reads as first-value-reads
+
+abbrev Inv-loop : tie.InvT-loop
+Inv-loop rows slots₀ row from n i₀ slots i = (i ≤ n) × Written slots₀ slots from i (λ k. first-of-type (getD rows ((row + k) * 4 + 1) 0))
+
+abbrev μ-loop : tie.MeasureT-loop
+μ-loop rows slots₀ row from n i₀ slots i = n - i
+
+loop-holds : tie.Need-loop-holds Inv-loop μ-loop
+loop-holds c = (omega arith, written-none _ _ _)
+
+add-first-value : tie.Need-add-first-value Inv-loop μ-loop
+add-first-value c = omega (arith, c .before .before .before .before .pre .rows (c .before .loop .i) (c .loop-test .taken))
+
+mul-first-value : tie.Need-mul-first-value Inv-loop μ-loop
+mul-first-value c = omega (arith, c .before .before .before .before .pre .rows (c .before .loop .i) (c .loop-test .taken))
+
+add-first-value-2 : tie.Need-add-first-value-2 Inv-loop μ-loop
+add-first-value-2 c = omega (arith, c .before .before .before .before .pre .rows (c .before .loop .i) (c .loop-test .taken))
+
+mul-first-value-2 : tie.Need-mul-first-value-2 Inv-loop μ-loop
+mul-first-value-2 c = omega (arith, c .before .before .before .before .pre .rows (c .before .loop .i) (c .loop-test .taken))
+
+shared-slice-read-first-value : tie.Need-shared-slice-read-first-value Inv-loop μ-loop
+shared-slice-read-first-value c = omega (arith, c .before .before .before .before .before .pre .rows (c .before .before .loop .i) (c .before .loop-test .taken))
+
+first-value-requires : tie.Need-first-value-requires Inv-loop μ-loop
+first-value-requires c κs = search needs
+
+add-slots : tie.Need-add-slots Inv-loop μ-loop
+add-slots c = omega (arith, c .before .before .before .before .before .before .pre .room, c .before .before .before .loop .inv .1 .long)
+
+mul-slots : tie.Need-mul-slots Inv-loop μ-loop
+mul-slots c = omega (arith, c .before .before .before .before .before .before .pre .room, c .before .before .before .loop .inv .1 .long)
+
+slice-write-slots : tie.Need-slice-write-slots Inv-loop μ-loop
+slice-write-slots c = omega (arith, c .before .before .before .before .before .before .pre .room, c .before .before .before .loop .inv .1 .long)
+
+add-i : tie.Need-add-i Inv-loop μ-loop
+add-i c = omega arith
+
+loop-less : tie.Need-loop-less Inv-loop μ-loop
+loop-less c = omega arith
+
+loop-again : tie.Need-loop-again Inv-loop μ-loop
+loop-again c = (omega arith, written-more _ _ (c .before .before .before .loop .inv .1) refl (omega (arith, c .before .before .before .before .before .before .pre .room)) (c .first-value .ensures))
+
+same-length : tie.Need-same-length Inv-loop μ-loop
+same-length c = c .before .loop .inv .1 .long
+
+returns : tie.Need-returns Inv-loop μ-loop
+returns c = let e : c .before .loop .i ≡ c .before .before .before .before .args .n = omega arith in rw e at (c .before .loop .inv .1)
+
+pub open-locals-spec : {M : Type 1} → statement M
+open-locals-spec =
+    tie.close
+    (tie.spec
+    Inv-loop
+    μ-loop
+    loop-holds
+    add-first-value
+    mul-first-value
+    add-first-value-2
+    mul-first-value-2
+    shared-slice-read-first-value
+    first-value-requires
+    add-slots
+    mul-slots
+    slice-write-slots
+    add-i
+    loop-less
+    loop-again
+    same-length
+    returns)

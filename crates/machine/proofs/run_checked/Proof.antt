@@ -1,0 +1,24 @@
+use Prim.Native.Nat.{_-_}
+use borrow.Author.Needs.{needs}
+use Rattle.language.proofs.Filling.{replicate-long}
+use Rattle.machine.proofs.run_checked.Statement.{statement}
+use Rattle.machine.proofs.run_checked.Tie as tie
+use Rattle.machine.proofs.run_checked.Reads as reads
+use Rattle.machine.proofs.run_checked.Lts as lts
+use Rattle.machine.proofs.run_with.Reads as run-with-reads
+
+slice-aggregate-run-with : tie.Need-slice-aggregate-run-with
+slice-aggregate-run-with c = search needs
+
+run-with-requires : tie.Need-run-with-requires
+run-with-requires c κs = (c .before .before .before .before .before .before .before .pre, replicate-long 92040)
+
+same-length : tie.Need-same-length
+same-length c = search needs
+
+returns : tie.Need-returns
+returns c = search needs
+
+pub run-checked-spec : {M : Type 1} → statement M
+run-checked-spec =
+    tie.close (tie.spec slice-aggregate-run-with run-with-requires same-length returns)

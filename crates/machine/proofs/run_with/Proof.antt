@@ -1,0 +1,44 @@
+use Prim.Native.Nat.{_-_}
+use native.Mathlib.Omega.{arith}
+use borrow.Author.Needs.{needs}
+use Rattle.machine.proofs.Checked.{some-start, start-low, pre-start, end-small, checked-done}
+use Rattle.machine.proofs.run_with.Statement.{statement}
+use Rattle.machine.proofs.run_with.Tie as tie
+use Rattle.machine.proofs.run_with.Reads as reads
+use Rattle.machine.proofs.run_with.Lts as lts
+use Rattle.machine.proofs.end_told.Reads as end-told-reads
+use Rattle.machine.proofs.find_letter.Reads as find-letter-reads
+use Rattle.machine.proofs.run_start.Reads as run-start-reads
+
+find-letter-requires : tie.Need-find-letter-requires
+find-letter-requires c κs = some-start (c .before .before .before .before .before .before .pre .0)
+
+add-run-start : tie.Need-add-run-start
+add-run-start c = omega (arith, start-low (c .before .before .before .before .before .before .before .before .before .pre .0) (c .before .before .find-letter .ensures))
+
+run-start-requires : tie.Need-run-start-requires
+run-start-requires c κs = pre-start (c .before .before .before .before .before .before .before .before .before .pre .0) (c .before .before .find-letter .ensures) (c .before .before .before .before .before .before .before .before .before .pre .1)
+
+end-told-requires : tie.Need-end-told-requires
+end-told-requires c κs = end-small (c .before .before .before .before .before .before .before .before .before .before .before .before .before .before .pre .0) (c .before .before .before .before .before .before .before .find-letter .ensures) (c .before .before .before .before .before .before .before .before .before .before .before .before .before .before .pre .1) (c .before .before .before .before .run-start .ensures)
+
+same-length : tie.Need-same-length
+same-length c = search needs
+
+same-length-2 : tie.Need-same-length-2
+same-length-2 c = search needs
+
+returns : tie.Need-returns
+returns c = checked-done (c .before .before .before .before .before .before .before .before .before .before .before .before .before .before .before .pre .0) (c .before .before .before .before .before .before .before .before .find-letter .ensures) (c .before .before .before .before .before .before .before .before .before .before .before .before .before .before .before .pre .1) (c .before .before .before .before .before .run-start .ensures) (c .end-told .result) (c .end-told .ensures)
+
+pub run-with-spec : {M : Type 1} → statement M
+run-with-spec =
+    tie.close
+    (tie.spec
+    find-letter-requires
+    add-run-start
+    run-start-requires
+    end-told-requires
+    same-length
+    same-length-2
+    returns)

@@ -1,0 +1,407 @@
+-- What the functions of the evaluator require and ensure.
+use mathlib.Core.Path.{_≡_}
+use mathlib.Core.Bool.{Bool, true, cond, _||_}
+use mathlib.Core.Logic.{_⊎_}
+use mathlib.Core.Option.{none, some}
+use mathlib.Core.List.{List}
+use Prim.Native.Nat.{ℕ, suc, _+_, _-_, _*_, _/_, _%_, _^_, _≤_, _<_}
+use lib.Dec.{leb, eqb}
+use lib.ListN.{length, getD, drop}
+use Rattle.language.specs.Lists.{nth}
+use Rattle.language.specs.Results.{ok, bind, passed}
+use Rattle.language.specs.Frames.{Frame, at-slot, with-slot}
+use Rattle.language.specs.Tree.{Expr, Exprs, Class, Program, count}
+use Rattle.language.specs.World.{Method}
+use Rattle.language.specs.Program.{world}
+use Rattle.language.specs.Encoded.{Encoded, EncodedAll}
+use Rattle.language.specs.Limits.{of-check, spent-stop, deep-stop, full-stop}
+use Rattle.language.specs.Headings.{headings}
+use Rattle.language.specs.Typing.{bodies}
+use Rattle.language.specs.ClassTables.{ClassTables}
+use Rattle.language.specs.Layout.{ProgramAt}
+use Rattle.language.specs.Evaluation.{Value as Meaning, object, Object as Thing, State, Out, Limits, with-limits, need}
+use Rattle.language.specs.Evaluation.{do-get, do-set, do-cast, do-change, do-new, do-call, eval, eval-all, call-at, last-value}
+use Rattle.language.specs.Store.{capacity, Outcome as Ended, gave, ended, ran, finish, Ran as Finished}
+use Rattle.language.specs.Evaluation.{null, truth, raised, spent, deep, full, stuck, run}
+use Rattle.machine.specs.declared.Ran.{Ran}
+use Rattle.machine.specs.declared.Run.{Run}
+use Rattle.machine.specs.declared.End.{End}
+use Rattle.machine.specs.declared.End.the-variants.{Gave as EndGave, Raised as EndRaised, Stopped as EndStopped}
+use Rattle.machine.specs.declared.Value.{Value}
+use Rattle.machine.specs.declared.Value.the-variants.{Null, Truth, Object}
+use Rattle.machine.specs.declared.Outcome.{Outcome}
+use Rattle.machine.specs.declared.Outcome.the-variants.{Gave, Raised, Stopped, Stuck}
+use Rattle.machine.specs.declared.Counts.{Counts}
+use Rattle.machine.specs.declared.Place.{Place}
+use Rattle.machine.specs.declared.Answer.{Answer}
+use Rattle.machine.specs.declared.Target.{Target}
+use Rattle.machine.specs.declared.Target.the-variants.{Body, Fails}
+use Rattle.machine.specs.Machine.{value, stop-of, Small, SmallOutcome, told, told-all, bare, Within, WithinAll, Holds, Sound}
+use Rattle.machine.specs.Machine.{slots-of, frame-of, view, state, after, inside}
+
+-- ---- numbers written one after the other
+
+-- n numbers from an index on are those of f; the others are as before.
+pub record Written (l l′ : List ℕ) (from n : ℕ) (f : ℕ → ℕ) : Type 0 where
+  pub long : length l′ ≡ length l
+  pub inside : (i : ℕ) → i < n → getD l′ (from + i) 0 ≡ f i
+  pub outside : (x : ℕ) → (x < from) ⊎ (from + n ≤ x) → getD l′ x 0 ≡ getD l x 0
+
+-- The number of a type's first value.
+abbrev pub first-of-type : ℕ → ℕ
+first-of-type t = cond (eqb t 255) 1 0
+
+-- The number of the first value of field i of class c, which has so many.
+unfoldable pub first-of : List ℕ → List ℕ → ℕ → ℕ → ℕ → ℕ
+first-of R T c i count = cond (leb count i) 0 (first-of-type (getD R (getD T (c * 576 + 520 + i) 0 * 4 + 1) 0))
+
+pub record First (R T : List ℕ) (c i count : ℕ) : Type 0 where
+  pub place : i < 17
+  pub table : c * 576 + 576 ≤ length T
+  pub row : i < count → getD T (c * 576 + 520 + i) 0 * 4 + 1 < length R
+
+pub record Fill (R T s : List ℕ) (o c from : ℕ) : Type 0 where
+  pub table : c * 576 + 576 ≤ length T
+  pub room : o + 18 ≤ length s
+  pub start : from ≤ 17
+  pub rows : (i : ℕ) → i < 17 → i < getD T (c * 576 + 515) 0 → getD T (c * 576 + 520 + i) 0 * 4 + 1 < length R
+
+abbrev pub Filled : List ℕ → List ℕ → List ℕ → List ℕ → ℕ → ℕ → ℕ → Type 0
+Filled R T s s′ o c from =
+    Written s s′ (o + 1 + from) (17 - from) (λ i. first-of R T c (from + i) (getD T (c * 576 + 515) 0))
+
+pub record Locals (R l : List ℕ) (row from n : ℕ) : Type 0 where
+  pub room : from + n ≤ length l
+  pub rows : (i : ℕ) → i < n → (row + i) * 4 + 1 < length R
+
+abbrev pub Opened : List ℕ → List ℕ → List ℕ → ℕ → ℕ → ℕ → Type 0
+Opened R l l′ row from n = Written l l′ from n (λ i. first-of-type (getD R ((row + i) * 4 + 1) 0))
+
+-- ---- acts on the store
+
+-- What becomes of the store.
+pub record Stored (P : List Class) (s s′ : List ℕ) (made made′ : ℕ) : Type 0 where
+  pub long : length s′ ≡ length s
+  pub rest : drop (made′ * 18) s′ ≡ drop (made′ * 18) s
+  pub more : made ≤ made′
+  pub sound : Sound P made′ s′
+
+-- An act on objects is that of the definition, whatever the slots and the steps.
+pub record Acts (P : List Class) (s s′ : List ℕ) (n : Counts) (r : Answer) (o : State → Out Meaning) : Type 0 where
+  pub stored : Stored P s s′ (n .made) (r .counts .made)
+  pub left : r .counts .left ≡ n .left
+  pub changed : r .counts .changes ≤ n .changes + 1
+  pub small : SmallOutcome (r .outcome)
+  pub is : (γ : Frame Meaning) (steps : ℕ)
+      → told (r .outcome) (view P s′ (r .counts) γ steps) ≡ bare (o (view P s n γ steps))
+
+abbrev pub answer : Outcome → Counts → Answer
+answer o n = record { outcome = o; counts = n }
+
+pub record PreNew (R T s : List ℕ) (c made : ℕ) : Type 0 where
+  pub E : List ℕ
+  pub A : List ℕ
+  pub P : List Class
+  pub holds : Holds R E T A P
+  pub sound : Sound P made s
+  pub declared : c ≤ length P
+
+pub record PostNew (R T s s′ : List ℕ) (c : ℕ) (n : Counts) (r : Answer) : Type 0 where
+  pub acts : (E A : List ℕ) (P : List Class) (F : ℕ) → Holds R E T A P → Sound P (n .made) s → c ≤ length P
+      → Acts P s s′ n r (λ t. do-new (world P) (with-limits F (capacity s)) c t)
+
+pub record PreChange (R T s : List ℕ) (v : Value) (d : ℕ) (n : Counts) : Type 0 where
+  pub new : PreNew R T s d (n .made)
+  pub small : Small v
+  pub counted : n .changes + 1 ≤ 4294967295
+
+pub record PostChange (R T s s′ : List ℕ) (v : Value) (d : ℕ) (n : Counts) (r : Answer) : Type 0 where
+  pub acts : (E A : List ℕ) (P : List Class) → Holds R E T A P → Sound P (n .made) s → d ≤ length P
+      → Acts P s s′ n r (λ t. do-change (world P) d (value v) t)
+
+pub record PreObject (T s : List ℕ) (made : ℕ) : Type 0 where
+  pub R : List ℕ
+  pub E : List ℕ
+  pub A : List ℕ
+  pub P : List Class
+  pub holds : Holds R E T A P
+  pub sound : Sound P made s
+
+pub record PostLoad (T s : List ℕ) (v : Value) (f : ℕ) (n : Counts) (r : Outcome) : Type 0 where
+  pub acts : (R E A : List ℕ) (P : List Class) → Holds R E T A P → Sound P (n .made) s
+      → Acts P s s n (answer r n) (λ t. do-get (world P) f (value v) t)
+
+pub record PostSave (T s s′ : List ℕ) (v w : Value) (f : ℕ) (n : Counts) (r : Outcome) : Type 0 where
+  pub acts : (R E A : List ℕ) (P : List Class) → Holds R E T A P → Sound P (n .made) s
+      → Acts P s s′ n (answer r n) (λ t. do-set (world P) f (value v) (value w) t)
+
+pub record PreCast (A s : List ℕ) (c made : ℕ) : Type 0 where
+  pub R : List ℕ
+  pub E : List ℕ
+  pub T : List ℕ
+  pub P : List Class
+  pub holds : Holds R E T A P
+  pub sound : Sound P made s
+  pub declared : c ≤ length P
+
+pub record PostCast (A s : List ℕ) (v : Value) (c : ℕ) (n : Counts) (r : Outcome) : Type 0 where
+  pub acts : (R E T : List ℕ) (P : List Class) → Holds R E T A P → Sound P (n .made) s → c ≤ length P
+      → Acts P s s n (answer r n) (λ t. do-cast (world P) c (value v) t)
+
+-- Class c is Object or in the set of class k.
+unfoldable pub Below : List ℕ → ℕ → ℕ → Bool
+Below A k c = eqb c 0 || eqb (getD A k 0 / 2 ^ (c - 1) % 2) 1
+
+-- ---- slots
+
+pub record PostRead (l : List ℕ) (k : ℕ) (q : Place) (r : Outcome) : Type 0 where
+  pub small : SmallOutcome r
+  pub is : (t : State) → told r t ≡ bare (need (at-slot (frame-of l q) k) t λ v. ok v t)
+
+pub record Wrote (l l′ : List ℕ) (k : ℕ) (v : Value) (q : Place) : Type 0 where
+  pub long : length l′ ≡ length l
+  pub same : (i : ℕ) → (i < q .base) ⊎ (q .base + q .scope < i) → getD l′ i 0 ≡ getD l i 0
+  pub is : frame-of l′ q ≡ with-slot (frame-of l q) k (value v)
+
+-- ---- methods
+
+-- The first row, from a row on, whose letter has code x.
+pub record LetterFrom (R : List ℕ) (x row found : ℕ) : Type 0 where
+  pub later : row ≤ found
+  pub short : found * 4 < length R
+  pub between : (i : ℕ) → row ≤ i → i < found → getD R (i * 4) 0 ≡ x → ⊥
+  pub letter : getD R (found * 4) 0 ≡ x
+
+pub record SomeLetter (R : List ℕ) (x row : ℕ) : Type 0 where
+  pub found : ℕ
+  pub from : LetterFrom R x row found
+
+pub record PreFind (R T s : List ℕ) (m made : ℕ) : Type 0 where
+  pub E : List ℕ
+  pub A : List ℕ
+  pub P : List Class
+  pub holds : Holds R E T A P
+  pub sound : Sound P made s
+  pub name : m < 256
+
+-- The method found: its receiver's object, and where its body is.
+pub record Found (R E s : List ℕ) (P : List Class) (v : Value) (m : ℕ) (n : Counts) (calls b : ℕ) : Type 0 where
+  pub j : ℕ
+  pub o : Thing
+  pub M : Method
+  pub receiver : value v ≡ object j
+  pub known : (γ : Frame Meaning) (steps : ℕ) → nth (view P s n γ steps .heap) j ≡ some o
+  pub method : world P .method (o .class-of) m ≡ some M
+  pub encoded : Encoded R E (M .body) b
+  pub within : (n : ℕ) → n ≤ 8 → Within (length P) n 128 (M .body)
+  pub allowed : calls < 64
+
+pub record NotFound (P : List Class) (s : List ℕ) (v : Value) (m : ℕ) (n : Counts) (calls : ℕ) (r : Outcome) : Type 0 where
+  pub small : SmallOutcome r
+  pub is : (L : Limits) (vs : List Meaning) (γ : Frame Meaning) (steps : ℕ)
+      → told r (view P s n γ steps)
+      ≡ bare (do-call (world P) L (λ M s. call-at (world P) L (64 - calls) M s) m (value v) vs (view P s n γ steps))
+  pub fails : (w : Value) → r ≡ Gave w → ⊥
+
+abbrev pub FindIs : List ℕ → List ℕ → List ℕ → List Class → Value → ℕ → Counts → ℕ → Target → Type 0
+FindIs R E s P v m n calls (Body b) = Found R E s P v m n calls b
+FindIs R E s P v m n calls (Fails o) = NotFound P s v m n calls o
+
+pub record PostFind (R T s : List ℕ) (v : Value) (m : ℕ) (n : Counts) (calls : ℕ) (r : Target) : Type 0 where
+  pub is : (E A : List ℕ) (P : List Class) → Holds R E T A P → Sound P (n .made) s → FindIs R E s P v m n calls r
+
+-- ---- the cycle
+
+-- Everything fits: a frame at base, waiting values up to top, room for d nested nodes and the calls still allowed;
+-- z is 1 where a node has been entered.
+pub record Ready (R E T A s l : List ℕ) (P : List Class) (q : Place) (n : Counts) (d z : ℕ) : Type 0 where
+  pub holds : Holds R E T A P
+  pub sound : Sound P (n .made) s
+  pub frame : q .base + 264 ≤ q .top
+  pub scoped : q .scope + 1 ≤ 264
+  pub above : q .top + 9 * d + (64 - q .calls) * 1416 ≤ length l
+  pub active : q .calls ≤ 64
+  pub counted : n .changes + n .left + z ≤ 4294967295
+
+-- What is the same afterwards.
+pub record Kept (P : List Class) (s l s′ l′ : List ℕ) (q : Place) (n : Counts) (z : ℕ) (r : Answer) : Type 0 where
+  pub same : (i : ℕ) → i < q .top → (i < q .base) ⊎ (q .base + 264 ≤ i) → getD l′ i 0 ≡ getD l i 0
+  pub long : length l′ ≡ length l
+  pub stored : Stored P s s′ (n .made) (r .counts .made)
+  pub falls : r .counts .left ≤ n .left
+  pub counted : r .counts .changes + r .counts .left ≤ n .changes + n .left + z
+  pub small : SmallOutcome (r .outcome)
+
+-- What is kept, and that outcome and state are those of the definition. F is the fuel of the whole run.
+pub record Done (P : List Class) (s l s′ l′ : List ℕ) (q : Place) (n : Counts) (F z : ℕ) (r : Answer) (o : Out Meaning) : Type 0 where
+  pub kept : Kept P s l s′ l′ q n z r
+  pub is : told (r .outcome) (state P s′ l′ q (r .counts) (F - r .counts .left)) ≡ bare o
+
+-- Calls with so many calls active, under fuel F and room for so many objects.
+abbrev pub calls-of : List Class → ℕ → ℕ → ℕ → Method → State → Out Meaning
+calls-of P F room calls M s = call-at (world P) (with-limits F room) (64 - calls) M s
+
+abbrev pub evaluated : List Class → ℕ → ℕ → ℕ → Expr → State → Out Meaning
+evaluated P F room calls e s = eval (world P) (with-limits F room) (λ M s. calls-of P F room calls M s) e s
+
+abbrev pub evaluated-inside : List Class → ℕ → ℕ → ℕ → Expr → State → Out Meaning
+evaluated-inside P F room calls e s = inside (world P) (with-limits F room) (λ M s. calls-of P F room calls M s) e s
+
+abbrev pub evaluated-all : List Class → ℕ → ℕ → ℕ → Exprs → State → Out (List Meaning)
+evaluated-all P F room calls es s = eval-all (world P) (with-limits F room) (λ M s. calls-of P F room calls M s) es s
+
+-- A node at a row; z is 1 where it has been entered.
+pub record PreNode (R E T A s l : List ℕ) (at : ℕ) (q : Place) (n : Counts) (z : ℕ) : Type 0 where
+  pub P : List Class
+  pub e : Expr
+  pub d : ℕ
+  pub ready : Ready R E T A s l P q n d z
+  pub encoded : Encoded R E e at
+  pub within : Within (length P) (q .scope) d e
+
+-- Before a node is entered, and once it has been.
+abbrev pub PreEval : List ℕ → List ℕ → List ℕ → List ℕ → List ℕ → List ℕ → ℕ → Place → Counts → Type 0
+PreEval R E T A s l at q n = PreNode R E T A s l at q n 0
+
+abbrev pub PreEntered : List ℕ → List ℕ → List ℕ → List ℕ → List ℕ → List ℕ → ℕ → Place → Counts → Type 0
+PreEntered R E T A s l at q n = PreNode R E T A s l at q n 1
+
+-- F is the fuel of the whole run, of which k have been spent.
+pub record PostEval (R E T A s l s′ l′ : List ℕ) (at : ℕ) (q : Place) (n : Counts) (r : Answer) : Type 0 where
+  pub done : (P : List Class) (e : Expr) (d F k : ℕ) → Ready R E T A s l P q n d 0 → Encoded R E e at
+      → Within (length P) (q .scope) d e → k + n .left ≡ F
+      → Done P s l s′ l′ q n F 0 r (evaluated P F (capacity s) (q .calls) e (state P s l q n k))
+
+-- The node has been entered, as the k-th step.
+pub record PostNode (R E T A s l s′ l′ : List ℕ) (at : ℕ) (q : Place) (n : Counts) (r : Answer) : Type 0 where
+  pub done : (P : List Class) (e : Expr) (d F k : ℕ) → Ready R E T A s l P q n d 1 → Encoded R E e at
+      → Within (length P) (q .scope) d e → k + n .left ≡ F
+      → Done P s l s′ l′ q n F 1 r (evaluated-inside P F (capacity s) (q .calls) e (state P s l q n k))
+
+-- The letters of nodes with one child, and of nodes with none.
+abbrev pub one-child : ℕ → Bool
+one-child k = eqb k 65 || eqb k 71 || eqb k 75 || eqb k 90
+
+abbrev pub no-child : ℕ → Bool
+no-child k = eqb k 84 || eqb k 76 || eqb k 78 || eqb k 73 || eqb k 87 || eqb k 82
+
+-- Functions that read no table of ends.
+pub record PreLeaf (R T s l : List ℕ) (at : ℕ) (q : Place) (n : Counts) : Type 0 where
+  pub E : List ℕ
+  pub A : List ℕ
+  pub node : PreNode R E T A s l at q n 1
+
+pub record PostLeaf (R T s l s′ : List ℕ) (at : ℕ) (q : Place) (n : Counts) (r : Answer) : Type 0 where
+  pub post : (E A : List ℕ) → PostNode R E T A s l s′ l at q n r
+
+pub record PreApply (R T A s l : List ℕ) (at : ℕ) (q : Place) (n : Counts) (v : Value) : Type 0 where
+  pub E : List ℕ
+  pub node : PreNode R E T A s l at q n 0
+  pub letter : one-child (getD R (at * 4) 0) ≡ true
+  pub small : Small v
+
+pub record Applied (P : List Class) (s l l′ : List ℕ) (e : Expr) (q : Place) (n : Counts) (v : Value) (r : Outcome) : Type 0 where
+  pub long : length l′ ≡ length l
+  pub same : (i : ℕ) → (i < q .base) ⊎ (q .base + 264 ≤ i) → getD l′ i 0 ≡ getD l i 0
+  pub small : SmallOutcome r
+  pub is : (steps : ℕ) → told r (state P s l′ q n steps) ≡ bare (after (world P) e (value v) (state P s l q n steps))
+
+pub record PostApply (R T A s l l′ : List ℕ) (at : ℕ) (q : Place) (n : Counts) (v : Value) (r : Outcome) : Type 0 where
+  pub applied : (E : List ℕ) (P : List Class) (e : Expr) (d : ℕ) → Ready R E T A s l P q n d 0 → Encoded R E e at
+      → Within (length P) (q .scope) d e → Applied P s l l′ e q n v r
+
+-- A list of m expressions.
+pub record PreList (R E T A s l : List ℕ) (at : ℕ) (q : Place) (n : Counts) (m : ℕ) : Type 0 where
+  pub P : List Class
+  pub es : Exprs
+  pub d : ℕ
+  pub ready : Ready R E T A s l P q n d 0
+  pub encoded : EncodedAll R E es at
+  pub within : WithinAll (length P) (q .scope) d es
+  pub many : m ≡ count es
+  pub few : m < 4294967296
+
+-- The arguments of a call go to the top; there is room for them.
+pub record PreArgs (R E T A s l : List ℕ) (at : ℕ) (q : Place) (n : Counts) (m : ℕ) : Type 0 where
+  pub list : PreList R E T A s l at q n m
+  pub room : q .top + m + 9 * (list .d) + (64 - q .calls) * 1416 ≤ length l
+
+pub record PostItems (R E T A s l s′ l′ : List ℕ) (at : ℕ) (q : Place) (n : Counts) (m : ℕ) (last : Value) (r : Answer) : Type 0 where
+  pub done : (P : List Class) (es : Exprs) (d F k : ℕ) → Ready R E T A s l P q n d 0 → EncodedAll R E es at
+      → WithinAll (length P) (q .scope) d es → m ≡ count es → k + n .left ≡ F
+      → Done P s l s′ l′ q n F 0 r (bind (evaluated-all P F (capacity s) (q .calls) es (state P s l q n k)) λ vs t. ok (last-value (value last) vs) t)
+
+-- What argument evaluation comes to: the values stand from the top on.
+pub record DoneAll (P : List Class) (s l s′ l′ : List ℕ) (q : Place) (n : Counts) (F m : ℕ) (r : Answer) (o : Out (List Meaning)) : Type 0 where
+  pub kept : Kept P s l s′ l′ q n 0 r
+  pub is : told-all (r .outcome) (slots-of l′ (q .top) m) (state P s′ l′ q (r .counts) (F - r .counts .left)) ≡ bare o
+
+pub record PostArgs (R E T A s l s′ l′ : List ℕ) (at : ℕ) (q : Place) (n : Counts) (m : ℕ) (r : Answer) : Type 0 where
+  pub done : (P : List Class) (es : Exprs) (d F k : ℕ) → Ready R E T A s l P q n d 0
+      → q .top + m + 9 * d + (64 - q .calls) * 1416 ≤ length l → EncodedAll R E es at
+      → WithinAll (length P) (q .scope) d es → m ≡ count es → k + n .left ≡ F
+      → DoneAll P s l s′ l′ q n F m r (evaluated-all P F (capacity s) (q .calls) es (state P s l q n k))
+
+-- ---- the run
+
+-- What an outcome means at the end of a run.
+abbrev pub outcome-of : Outcome → Ended
+outcome-of (Gave v) = gave (value v)
+outcome-of (Raised n) = ended (raised n)
+outcome-of (Stopped n) = ended (stop-of n)
+outcome-of Stuck = ended stuck
+
+-- Rows and tables hold a program, whose start block is at a row; the slots have room.
+pub record Runs (R E T A l : List ℕ) (at : ℕ) (p : Program) : Type 0 where
+  pub holds : Holds R E T A (p .classes)
+  pub encoded : Encoded R E (p .start) at
+  pub within : Within (length (p .classes)) 0 128 (p .start)
+  pub room : 92040 ≤ length l
+
+pub record PreRun (R E T A l : List ℕ) (at : ℕ) : Type 0 where
+  pub p : Program
+  pub runs : Runs R E T A l at p
+
+-- Outcome, counts and store are those of the run.
+pub record PostRun (R E T A s l s′ : List ℕ) (at fuel : ℕ) (r : Ran) : Type 0 where
+  pub is : (p : Program) → Runs R E T A l at p
+      → finish (run (with-limits fuel (capacity s)) p) s
+      ≡ record { answer = ran (outcome-of (r .outcome)) (r .steps) (r .objects) (r .changes); store = s′ }
+  pub small : (p : Program) → Runs R E T A l at p → SmallOutcome (r .outcome)
+
+-- What the check establishes of rows and of the tables that it fills: a program stands in them, its classes are in the
+-- tables, and headings and bodies pass.
+pub record Accepted (R E T A : List ℕ) (p : Program) : Type 0 where
+  pub standing : ProgramAt R E p
+  pub tables : ClassTables (p .classes) T A
+  pub headings-pass : headings of-check (p .classes) ≡ passed
+  pub bodies-pass : bodies p ≡ passed
+
+pub record PreChecked (R E T A : List ℕ) : Type 0 where
+  pub p : Program
+  pub accepted : Accepted R E T A p
+
+-- How the caller is told of a value and of an end: objects count from 1; an exception and a stop are their numbers.
+abbrev pub value-told : Meaning → Value
+value-told null = Null
+value-told (truth b) = Truth b
+value-told (object j) = Object (suc j)
+
+abbrev pub end-told : Ended → End
+end-told (gave v) = EndGave (value-told v)
+end-told (ended (raised n)) = EndRaised n
+end-told (ended spent) = EndStopped spent-stop
+end-told (ended deep) = EndStopped deep-stop
+end-told (ended full) = EndStopped full-stop
+end-told (ended stuck) = EndStopped 0
+
+-- The answer and the store tell how a run ended.
+pub record Tells (x : Finished) (s′ : List ℕ) (r : Run) : Type 0 where
+  pub outcome : Ended
+  pub is : x ≡ record { answer = ran outcome (r .steps) (r .objects) (r .changes); store = s′ }
+  pub told : r .outcome ≡ end-told outcome
+
+-- Answer and store are those of the run of the program that the rows hold; it is not stuck.
+pub record PostChecked (R E T A s s′ : List ℕ) (fuel : ℕ) (r : Run) : Type 0 where
+  pub tells : (p : Program) → Accepted R E T A p → Tells (finish (run (with-limits fuel (capacity s)) p) s) s′ r
+  pub unstuck : r .outcome ≡ EndStopped 0 → ⊥

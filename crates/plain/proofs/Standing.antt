@@ -1,0 +1,232 @@
+-- Laws of methods and classes that stand in rows: the rows of their parts, and the row after each. Assumes nothing.
+use mathlib.Core.Path.{_≡_, refl, sym, ap, _∙_}
+use mathlib.Core.Logic.{_⊎_, inl, inr, _≢_}
+use mathlib.Core.List.{List, [], _∷_}
+use Prim.Native.Nat.{ℕ, zero, suc, _+_, _-_, _*_, _≤_, _<_}
+use native.Mathlib.Omega.{arith}
+use lib.ListN.{length, getD}
+use Rattle.language.specs.Tree.{DeclaredType, Expr, literal-true, literal-false, literal-null, slot}
+use Rattle.language.specs.Tree.{is-null, get, cast, new, change, assign, set, call, choose, block}
+use Rattle.language.specs.Tree.{Declaration, Class, size, method-lines, heading-lines, methods-lines, class-lines, classes-lines}
+use Rattle.language.specs.Encoded.{Encoded}
+use Rattle.language.specs.Layout as layout
+use Rattle.language.specs.Layout.{EachMethod, EachClass, EffectsAt, MethodAt, ClassAt, effects-row, body-row, methods-from-row}
+use Rattle.plain.specs.Emission.{code-of, ParametersAt, ClassEnd, Skipped, SomeFieldLines}
+use Rattle.plain.specs.Bounds.{MethodsStand, ClassesStand, SomeMethodsStand, SomeClassesStand, MethodsPassed}
+use Rattle.plain.proofs.Tasks.{node-at, size-positive}
+use Rattle.plain.proofs.Skips.{parameters-run, effects-run, fields-run, skipped-at}
+
+-- no node has the letter of a heading
+node-letter : (e : Expr) → (code-of e ≢ 80) × (code-of e ≢ 88)
+node-letter literal-true = (omega arith, omega arith)
+node-letter literal-false = (omega arith, omega arith)
+node-letter literal-null = (omega arith, omega arith)
+node-letter (slot k) = (omega arith, omega arith)
+node-letter (is-null e) = (omega arith, omega arith)
+node-letter (get f e) = (omega arith, omega arith)
+node-letter (cast c e) = (omega arith, omega arith)
+node-letter (new c) = (omega arith, omega arith)
+node-letter (change k d) = (omega arith, omega arith)
+node-letter (assign k e) = (omega arith, omega arith)
+node-letter (set f e e′) = (omega arith, omega arith)
+node-letter (call m e es) = (omega arith, omega arith)
+node-letter (choose e x y) = (omega arith, omega arith)
+node-letter (block ts es) = (omega arith, omega arith)
+
+pub other-letter : {a b c : ℕ} → a ≡ b → b ≢ c → a ≢ c
+other-letter e h f = h (sym e ∙ f)
+
+-- the row after a method's P lines is no P line, and that after its X lines no X line
+after-effects : {R E : List ℕ} {m : Declaration} {r : ℕ} → MethodAt R E m r
+    → (body-row r m * 4 + 3 < length R) × (getD R (body-row r m * 4) 0 ≢ 88)
+after-effects {R} {E} {m} {r} x = let n = node-at R E (body-row r m) (m .body) (x .body) in
+    (n .0, other-letter (n .1) (node-letter (m .body) .1))
+
+after-parameters : {R E : List ℕ} {m : Declaration} {r : ℕ} → MethodAt R E m r
+    → (effects-row r m * 4 + 3 < length R) × (getD R (effects-row r m * 4) 0 ≢ 80)
+unfolding EffectsAt
+after-parameters {R} {E} {m} {r} x = go (m .effects) (x .effects) (effects-row r m + length (m .effects)) refl (x .body)
+  where
+    go : (cs : List ℕ) → EffectsAt R cs (effects-row r m) → (b : ℕ) → b ≡ effects-row r m + length cs → Encoded R E (m .body) b
+        → (effects-row r m * 4 + 3 < length R) × (getD R (effects-row r m * 4) 0 ≢ 80)
+    go [] h b z n = let y : b ≡ effects-row r m = omega (arith, z) in let n = node-at R E b (m .body) n in
+        rw (← y) (n .0, other-letter (n .1) (node-letter (m .body) .0))
+    go (c ∷ cs) h b z n = (h .0 .within, other-letter (h .0 .letter) (omega arith))
+
+pub method-rows : {R E : List ℕ} {m : Declaration} {r x b : ℕ} → MethodAt R E m r → Skipped R 80 (r + 1) x → Skipped R 88 x b
+    → (x ≡ effects-row r m) × (b ≡ body-row r m)
+method-rows {R} {E} {m} {r} {x} {b} t s u =
+    let p = after-parameters t in let q = after-effects t in
+    let z : x ≡ effects-row r m = skipped-at s (length (m .parameters)) (parameters-run R (m .parameters) (r + 1) (t .parameters)) (p .0) (p .1) in
+    (z, skipped-at (rw z at u) (length (m .effects)) (effects-run R (m .effects) (effects-row r m) (t .effects)) (q .0) (q .1))
+
+pub parameters-rows : (R : List ℕ) (ts : List DeclaredType) (r : ℕ) → layout.ParametersAt R ts r → ParametersAt R ts r
+unfolding ParametersAt layout.ParametersAt
+parameters-rows R [] r h = tt
+parameters-rows R (t ∷ ts) r h = (h .0 .within, h .0 .first, parameters-rows R ts (r + 1) (h .1))
+
+pub lines-positive : (m : Declaration) → 1 ≤ method-lines m
+unfolding method-lines
+lines-positive m = omega (arith, size-positive (m .body))
+
+pub class-positive : (c : Class) → 1 ≤ class-lines c
+unfolding class-lines
+class-positive c = omega arith
+
+-- where a node ends
+node-ends : (R E : List ℕ) (at : ℕ) (e : Expr) → Encoded R E e at → (at < length E) × (getD E at 0 ≡ at + size e)
+unfolding Encoded size
+node-ends R E at literal-true h = (h .in-ends, h .end)
+node-ends R E at literal-false h = (h .in-ends, h .end)
+node-ends R E at literal-null h = (h .in-ends, h .end)
+node-ends R E at (slot k) h = (h .in-ends, h .end)
+node-ends R E at (is-null e) h = (h .0 .in-ends, h .0 .end)
+node-ends R E at (get f e) h = (h .0 .in-ends, h .0 .end)
+node-ends R E at (cast c e) h = (h .0 .in-ends, h .0 .end)
+node-ends R E at (new c) h = (h .in-ends, h .end)
+node-ends R E at (change k d) h = (h .in-ends, h .end)
+node-ends R E at (assign k e) h = (h .0 .in-ends, h .0 .end)
+node-ends R E at (set f e e′) h = (h .0 .in-ends, h .0 .end)
+node-ends R E at (call m e es) h = (h .0 .in-ends, h .0 .end)
+node-ends R E at (choose e y z) h = (h .0 .in-ends, h .0 .end)
+node-ends R E at (block ts es) h = (h .0 .in-ends, h .0 .end)
+
+end-at : {R : List ℕ} {a b : ℕ} → ClassEnd R a → a ≡ b → ClassEnd R b
+end-at h e = rw e at h
+
+-- methods
+module _ {R E : List ℕ} {at : ℕ} where
+  pub stand-row : {k : ℕ} (ms : List Declaration) → MethodsStand R E k ms at → at * 4 + 3 < length R
+  unfolding EachMethod methods-lines
+  stand-row [] t = end-at {b = at} (t .after) (omega arith) .within
+  stand-row (m ∷ ms) t = t .methods .0 .line .within
+
+  stand-first : {k : ℕ} (m : Declaration) (ms : List Declaration) → MethodsStand R E k (m ∷ ms) at → (x b : ℕ) → Skipped R 80 (at + 1) x → Skipped R 88 x b
+      → (b < length E) × (getD E b 0 ≡ at + method-lines m)
+  unfolding EachMethod method-lines heading-lines
+  stand-first m ms t x b s u =
+      let y = t .methods .0 in let z = method-rows y s u .1 in let n = node-ends R E (body-row at m) (m .body) (y .body) in
+      rw z (n .0, n .1 ∙ omega arith)
+
+  stand-rest : {k : ℕ} (m : Declaration) (ms : List Declaration) → MethodsStand R E k (m ∷ ms) at → (b : ℕ) → b ≡ at + method-lines m → MethodsStand R E k ms b
+  unfolding EachMethod methods-lines
+  stand-rest m ms t b z = rw z (record { methods = t .methods .1; after = end-at (t .after) (omega arith); short = t .short })
+
+  pub no-method : {k : ℕ} → MethodsStand R E k [] at → getD R (at * 4) 0 ≡ 77 → ⊥
+  unfolding methods-lines
+  no-method t h = elim (end-at {b = at} (t .after) (omega arith) .letter) [ inl e ↦ omega (arith, e, h) | inr e ↦ omega (arith, e, h) ]
+
+  with-method : {D : Type 0} {k : ℕ} (ms : List Declaration) → getD R (at * 4) 0 ≡ 77 → MethodsStand R E k ms at
+      → ((m : Declaration) (ms : List Declaration) → MethodsStand R E k (m ∷ ms) at → D) → D
+  with-method [] h t f = absurd (no-method t h)
+  with-method (m ∷ ms) h t f = f m ms t
+
+  pub stand-known : SomeMethodsStand R E at → (at * 4 + 3 < length R) × (at < 60000)
+  stand-known x = let r = stand-row (x .ms) (x .stand) in (r, omega (arith, r, x .stand .short))
+
+  pub stand-none : getD R (at * 4) 0 ≢ 77 → MethodsPassed R E at at
+  unfolding EachMethod methods-lines
+  stand-none h = record { each = λ k ms t. go k ms t }
+    where
+      go : (k : ℕ) (ms : List Declaration) → MethodsStand R E k ms at → at ≡ at + methods-lines ms
+      go k [] t = omega arith
+      go k (m ∷ ms) t = absurd (h (t .methods .0 .line .letter))
+
+  module _ {x b : ℕ} (s : Skipped R 80 (at + 1) x) (u : Skipped R 88 x b) (h : getD R (at * 4) 0 ≡ 77) where
+    pub stand-in : SomeMethodsStand R E at → b < length E
+    stand-in y = with-method (y .ms) h (y .stand) λ m ms t. stand-first m ms t x b s u .0
+
+    pub stand-next : SomeMethodsStand R E at → SomeMethodsStand R E (getD E b 0) × (at < getD E b 0)
+    stand-next y = with-method (y .ms) h (y .stand) λ m ms t. let z = stand-first m ms t x b s u .1 in
+        (record { k = y .k; ms = ms; stand = stand-rest m ms t (getD E b 0) z }, omega (arith, z, lines-positive m))
+
+    pub stand-step : {q : ℕ} → MethodsPassed R E (getD E b 0) q → MethodsPassed R E at q
+    unfolding methods-lines
+    stand-step {q} p = record { each = λ k ms t. go k ms t }
+      where
+        go : (k : ℕ) (ms : List Declaration) → MethodsStand R E k ms at → q ≡ at + methods-lines ms
+        go k [] t = absurd (no-method t h)
+        go k (m ∷ ms) t = let z = stand-first m ms t x b s u .1 in
+            omega (arith, z, p .each k ms (stand-rest m ms t (getD E b 0) z))
+
+-- classes
+module _ {R E : List ℕ} {at : ℕ} where
+  pub class-row : {k : ℕ} (cs : List Class) → ClassesStand R E k cs at → at * 4 + 3 < length R
+  unfolding EachClass classes-lines
+  class-row [] t = let z : at + 0 ≡ at = omega arith in let w = t .start .within in rw z at w
+  class-row (c ∷ cs) t = t .classes .0 .line .within
+
+  pub class-end : {k : ℕ} (c : Class) (cs : List Class) → ClassesStand R E k (c ∷ cs) at → ClassEnd R (at + class-lines c)
+  unfolding EachClass classes-lines
+  class-end {k} c cs t = go cs (t .classes .1) (at + (class-lines c + classes-lines cs)) (omega arith) (t .start .within) (t .start .letter)
+    where
+      go : (cs : List Class) → EachClass (ClassAt R E) cs (suc k) (at + class-lines c) → (b : ℕ) → b ≡ at + class-lines c + classes-lines cs
+          → b * 4 + 3 < length R → getD R (b * 4) 0 ≡ 83 → ClassEnd R (at + class-lines c)
+      go [] h b z w e = let y : b ≡ at + class-lines c = omega (arith, z) in rw (← y) (record { within = w; letter = inr e })
+      go (d ∷ ds) h b z w e = record { within = h .0 .line .within; letter = inl (h .0 .line .letter) }
+
+  -- the methods of a class, and the row after its fields
+  pub methods-of : {k : ℕ} (c : Class) → ClassAt R E k c at → ClassEnd R (at + class-lines c) → length R ≤ 240000 → MethodsStand R E k (c .methods) (methods-from-row at c)
+  unfolding class-lines
+  methods-of c t w h = record { methods = t .methods; after = end-at w (omega arith); short = h }
+
+  pub first-of : {k r : ℕ} (c : Class) → ClassAt R E k c at → MethodsStand R E k (c .methods) (methods-from-row at c) → Skipped R 70 (at + 1) r → r ≡ methods-from-row at c
+  unfolding EachMethod methods-lines
+  first-of {k} c t u s = let w = other (c .methods) u in
+      skipped-at s (length (c .fields)) (fields-run R (c .fields) (at + 1) (t .fields)) (w .0) (w .1)
+    where
+      other : (ms : List Declaration) → MethodsStand R E k ms (methods-from-row at c)
+          → (methods-from-row at c * 4 + 3 < length R) × (getD R (methods-from-row at c * 4) 0 ≢ 70)
+      other [] h = let w = end-at {b = methods-from-row at c} (h .after) (omega arith) in
+          (w .within, elim (w .letter) [ inl e ↦ other-letter e (omega arith) | inr e ↦ other-letter e (omega arith) ])
+      other (m ∷ ms) h = (h .methods .0 .line .within, other-letter (h .methods .0 .line .letter) (omega arith))
+
+  class-methods : {k : ℕ} (c : Class) (cs : List Class) → ClassesStand R E k (c ∷ cs) at → MethodsStand R E k (c .methods) (methods-from-row at c)
+  unfolding EachClass
+  class-methods c cs t = methods-of c (t .classes .0) (class-end c cs t) (t .short)
+
+  pub first-row : {k r : ℕ} (c : Class) (cs : List Class) → ClassesStand R E k (c ∷ cs) at → Skipped R 70 (at + 1) r → r ≡ methods-from-row at c
+  unfolding EachClass
+  first-row c cs t s = first-of c (t .classes .0) (class-methods c cs t) s
+
+  pub class-rest : {k : ℕ} (c : Class) (cs : List Class) → ClassesStand R E k (c ∷ cs) at → (b : ℕ) → b ≡ at + class-lines c → ClassesStand R E (suc k) cs b
+  unfolding EachClass classes-lines
+  class-rest c cs t b z =
+      let a : at + (class-lines c + classes-lines cs) ≡ at + class-lines c + classes-lines cs = omega arith in
+      let w = t .start in rw z (record { classes = t .classes .1; start = rw a at w; short = t .short })
+
+  pub no-class : {k : ℕ} → ClassesStand R E k [] at → getD R (at * 4) 0 ≡ 67 → ⊥
+  unfolding classes-lines
+  no-class t h = let z : at + 0 ≡ at = omega arith in let w = t .start in let w = rw z at w in omega (arith, w .letter, h)
+
+  pub not-class : {k : ℕ} (c : Class) (cs : List Class) → ClassesStand R E k (c ∷ cs) at → getD R (at * 4) 0 ≢ 67 → ⊥
+  unfolding EachClass
+  not-class c cs t h = h (t .classes .0 .line .letter)
+
+  with-class : {D : Type 0} {k : ℕ} (cs : List Class) → getD R (at * 4) 0 ≡ 67 → ClassesStand R E k cs at
+      → ((c : Class) (cs : List Class) → ClassesStand R E k (c ∷ cs) at → D) → D
+  with-class [] h t f = absurd (no-class t h)
+  with-class (c ∷ cs) h t f = f c cs t
+
+  -- the row after a class
+  pub class-passed : {k r q : ℕ} (c : Class) (cs : List Class) → ClassesStand R E k (c ∷ cs) at → Skipped R 70 (at + 1) r → MethodsPassed R E r q → q ≡ at + class-lines c
+  unfolding class-lines
+  class-passed {k} {r} {q} c cs t s p = let z = first-row c cs t s in
+      omega (arith, z, p .each k (c .methods) (rw (sym z) at (class-methods c cs t)))
+
+  pub class-known : SomeClassesStand R E at → (at * 4 + 3 < length R) × (at < 60000) × (length R ≤ 240000)
+  class-known x = let r = class-row (x .cs) (x .stand) in (r, omega (arith, r, x .stand .short), x .stand .short)
+
+  module _ {r : ℕ} (s : Skipped R 70 (at + 1) r) (h : getD R (at * 4) 0 ≡ 67) where
+    pub class-fields : (n : ℕ) → n ≡ r - at - 1 → SomeClassesStand R E at → SomeFieldLines R (at + 1) n
+    unfolding EachClass
+    class-fields n z y = with-class (y .cs) h (y .stand) λ c cs t. let e = first-row c cs t s in
+        record { fs = c .fields; rows = t .classes .0 .fields; counted = omega (arith, e, z) }
+
+    pub class-stand : SomeClassesStand R E at → SomeMethodsStand R E r
+    class-stand y = with-class (y .cs) h (y .stand) λ c cs t. let e = first-row c cs t s in
+        record { k = y .k; ms = c .methods; stand = rw e (class-methods c cs t) }
+
+    pub class-next : {q : ℕ} → MethodsPassed R E r q → SomeClassesStand R E at → SomeClassesStand R E q × (at < q)
+    class-next {q} p y = with-class (y .cs) h (y .stand) λ c cs t. let z = class-passed c cs t s p in
+        (record { k = suc (y .k); cs = cs; stand = class-rest c cs t q z }, omega (arith, z, class-positive c))

@@ -1,0 +1,1112 @@
+// The translator: the plain rows of an accepted program, written into a lent buffer.
+// The check has filled the tables; nothing is typed here. What has no room is counted and not written, so a first
+// call over a short buffer tells how many numbers there are, and a second one writes them.
+
+ghost use mathlib.Core.Path.{_≡_};
+ghost use mathlib.Core.List.{[], _∷_, _++_};
+ghost use Prim.Native.Nat.{suc, _+_, _-_, _*_, _≤_, _<_};
+ghost use lib.ListN.{length, getD, set, replicate};
+ghost use lib.Seq.{sets};
+ghost use Rattle.language.specs.Tree.{DeclaredType, Field, Class};
+ghost use Rattle.language.specs.Program.{world};
+ghost use Rattle.plain.specs.Emission.{most-numbers, plain-number, type-lines, read-lines, copy-lines, ParametersAt, Members};
+ghost use Rattle.plain.specs.Emission.{Written, SomeTypes, TypesWritten, SomeFields, SomeCopies, CopiesWritten, RenewWritten};
+ghost use Rattle.plain.specs.Emission.{SomeChange, ChangeWritten, Extended, slot-lines, new-lines, renew-lines, change-lines};
+ghost use Rattle.plain.specs.Emission.{SomeNode, SomeCast, SomeSet, SomeCall, SomeBlock, SomeNodes, SomeArguments};
+ghost use Rattle.language.specs.Translation.{translation};
+ghost use Rattle.language.specs.Filling.{answer, buffer};
+ghost use Rattle.plain.specs.Bounds.{SomeMethodsStand, MethodsPassed, SomeCounted, FieldsLimited, FieldsFree, SomeClassesStand, NamesFree, limits-told, SomeChecked, Limited, PlainWritten, SomeAccepted};
+ghost use Rattle.plain.specs.Emission.{Skipped, SomeFieldLines, FieldsWritten, SomeMethods, MethodsEmitted, SomeClass, ClassEmitted, SomeClasses, ClassesEmitted, SomeProgram, ProgramWritten};
+ghost use Rattle.plain.specs.Emission.{SomeBody, BodyEmitted, SomeMethod, MethodEmitted, NodeEmitted, CastEmitted, SetEmitted, CallEmitted, BlockEmitted, NodesEmitted, ArgumentsEmitted};
+use language::Filled;
+use limits::Formed;
+
+// The next place of the buffer and the next row of the source.
+pub struct Next {
+    pub place: usize,
+    pub at: usize,
+}
+
+// One number, where there is room for it.
+fn put_number(out: &mut [u32], place: usize, number: u32)
+    ensures { λ _. ⌜ now (out .exit) ≡ set (now (out .entry)) place number ⌝ }
+{
+    if place < out.len() {
+        out[place] = number;
+    }
+}
+
+// Numbers one after another.
+fn put(out: &mut [u32], place: usize, numbers: &[u32]) -> usize
+    requires { ⌜ place + length (now numbers) ≤ most-numbers ⌝ }
+    ensures { λ r. ⌜ Written (now (numbers .entry)) (now (out .entry)) (now (out .exit)) place r ⌝ }
+{
+    let mut i = 0;
+    while i < numbers.len() {
+        put_number(out, place + i, numbers[i]);
+        i += 1;
+    }
+    place + i
+}
+
+// Declared class types become Identity, bool stays.
+fn plain_type(number: u32) -> u32
+    ensures { λ r. ⌜ r ≡ plain-number number ⌝ }
+{
+    if number == 255 { 255 } else { 1 }
+}
+
+// Lines of a letter, each with the plain type of one of the rows from `at` on.
+fn put_types(
+    rows: &[u32],
+    out: &mut [u32],
+    place: usize,
+    at: usize,
+    count: usize,
+    letter: u32,
+) -> usize
+    requires { ⌜ SomeTypes (now rows) at count ⌝ }
+    requires { ⌜ place + 4 * count ≤ most-numbers ⌝ }
+    ensures { λ r. ⌜ TypesWritten (now (rows .entry)) at count letter (now (out .entry)) (now (out .exit)) place r ⌝ }
+{
+    if count == 0 {
+        return place;
+    }
+    let t = plain_type(rows[at * 4 + 1]);
+    let line = [letter, t, 0, 0];
+    let p = put(out, place, &line);
+    put_types(rows, out, p, at + 1, count - 1, letter)
+}
+
+// Slots from `slot` on, read.
+fn put_reads(out: &mut [u32], place: usize, slot: u32, count: u32) -> usize
+    requires { ⌜ (place + 4 * count ≤ most-numbers) × (slot + count ≤ most-numbers) ⌝ }
+    ensures { λ r. ⌜ Written (read-lines slot count) (now (out .entry)) (now (out .exit)) place r ⌝ }
+{
+    if count == 0 {
+        return place;
+    }
+    let line = [73, slot, 0, 0];
+    let p = put(out, place, &line);
+    put_reads(out, p, slot + 1, count - 1)
+}
+
+// Fields, whose rows the table has from `from` on, each copied from the object in the slot after `slot` to the one in `slot`.
+fn put_copies(
+    rows: &[u32],
+    tables: &[u16],
+    out: &mut [u32],
+    place: usize,
+    from: usize,
+    count: usize,
+    slot: u32,
+) -> usize
+    requires { ⌜ SomeFields (now rows) (now tables) from count ⌝ }
+    requires { ⌜ (place + 16 * count ≤ most-numbers) × (slot < most-numbers) ⌝ }
+    ensures { λ r. ⌜ CopiesWritten (now (rows .entry)) (now (tables .entry)) from count slot (now (out .entry)) (now (out .exit)) place r ⌝ }
+{
+    if count == 0 {
+        return place;
+    }
+    let row = tables[from] as usize;
+    let name = rows[row * 4 + 2];
+    let lines = [
+        85,
+        name,
+        0,
+        0,
+        73,
+        slot,
+        0,
+        0,
+        71,
+        name,
+        0,
+        0,
+        73,
+        slot + 1,
+        0,
+        0,
+    ];
+    let p = put(out, place, &lines);
+    put_copies(rows, tables, out, p, from + 1, count - 1, slot)
+}
+
+// The plain slots of the source's slots where a block adds `count` locals, from plain slot `next` on.
+fn with_locals(slots: &[u32; 32], vars: usize, next: u32, count: usize) -> [u32; 32]
+    requires { ⌜ (vars + count ≤ 32) × (next ≤ most-numbers) × (length (now slots) ≡ 32) ⌝ }
+    ensures { λ r. ⌜ Extended (now (slots .entry)) r vars next count ⌝ }
+{
+    let mut s = *slots;
+    let mut i = 0;
+    while i < count {
+        s[vars + i] = next + i as u32;
+        i += 1;
+    }
+    s
+}
+
+// A slot read; `this` is read as its `id`.
+fn put_slot(out: &mut [u32], place: usize, slot: u32) -> usize
+    requires { ⌜ place + length (slot-lines slot) ≤ most-numbers ⌝ }
+    ensures { λ r. ⌜ Written (slot-lines slot) (now (out .entry)) (now (out .exit)) place r ⌝ }
+{
+    if slot == 0 {
+        let lines = [71, 254, 0, 0, 73, 0, 0, 0];
+        return put(out, place, &lines);
+    }
+    let line = [73, slot, 0, 0];
+    put(out, place, &line)
+}
+
+// W: an Identity and a new object that know each other.
+fn put_new(out: &mut [u32], place: usize, next: u32, class: u32) -> usize
+    requires { ⌜ (place + 56 ≤ most-numbers) × (next ≤ most-numbers) × (class < 65536) ⌝ }
+    ensures { λ r. ⌜ Written (new-lines next class) (now (out .entry)) (now (out .exit)) place r ⌝ }
+{
+    let i = next;
+    let o = next + 1;
+    let lines = [
+        66,
+        2,
+        5,
+        0,
+        86,
+        1,
+        0,
+        0,
+        86,
+        class + 2,
+        0,
+        0,
+        65,
+        i,
+        0,
+        0,
+        87,
+        1,
+        0,
+        0,
+        65,
+        o,
+        0,
+        0,
+        87,
+        class + 2,
+        0,
+        0,
+        85,
+        254,
+        0,
+        0,
+        73,
+        o,
+        0,
+        0,
+        73,
+        i,
+        0,
+        0,
+        85,
+        255,
+        0,
+        0,
+        73,
+        i,
+        0,
+        0,
+        73,
+        o,
+        0,
+        0,
+        73,
+        i,
+        0,
+        0,
+    ];
+    put(out, place, &lines)
+}
+
+// R's inner block: a new object of the target, its Identity moved to it, the root's fields copied.
+fn put_renew(
+    rows: &[u32],
+    tables: &[u16],
+    out: &mut [u32],
+    place: usize,
+    next: u32,
+    target: u32,
+    root: usize,
+) -> usize
+    requires { ⌜ SomeCopies (now rows) (now tables) (place + 56) root ⌝ }
+    requires { ⌜ (next + 2 < most-numbers) × (target < 65536) × (root < 65536) ⌝ }
+    ensures { λ r. ⌜ RenewWritten (now (rows .entry)) (now (tables .entry)) next target root (now (out .entry)) (now (out .exit)) place r ⌝ }
+{
+    let i = next;
+    let o = next + 1;
+    let count = tables[root * 576 + 515];
+    let head = [
+        66,
+        0,
+        count as u32 + 5,
+        0,
+        65,
+        o,
+        0,
+        0,
+        87,
+        target + 2,
+        0,
+        0,
+        65,
+        next + 2,
+        0,
+        0,
+        75,
+        root as u32 + 2,
+        0,
+        0,
+        71,
+        255,
+        0,
+        0,
+        73,
+        i,
+        0,
+        0,
+        85,
+        254,
+        0,
+        0,
+        73,
+        o,
+        0,
+        0,
+        73,
+        i,
+        0,
+        0,
+        85,
+        255,
+        0,
+        0,
+        73,
+        i,
+        0,
+        0,
+        73,
+        o,
+        0,
+        0,
+    ];
+    let p = put(out, place, &head);
+    let q = put_copies(rows, tables, out, p, root * 576 + 520, count as usize, o);
+    let last = [73, i, 0, 0];
+    put(out, q, &last)
+}
+
+// R, of `this` and of another slot.
+fn put_change(
+    rows: &[u32],
+    tables: &[u16],
+    out: &mut [u32],
+    place: usize,
+    slot: u32,
+    next: u32,
+    target: u32,
+) -> usize
+    requires { ⌜ SomeChange (now rows) (now tables) place slot target ⌝ }
+    requires { ⌜ (next + 2 < most-numbers) × (target < 65536) ⌝ }
+    ensures { λ r. ⌜ ChangeWritten (now (rows .entry)) (now (tables .entry)) slot next target (now (out .entry)) (now (out .exit)) place r ⌝ }
+{
+    let root = tables[target as usize * 576 + 514] as usize;
+    let i = next;
+    let r = root as u32 + 2;
+    if slot == 0 {
+        let head = [
+            66,
+            3,
+            3,
+            0,
+            86,
+            1,
+            0,
+            0,
+            86,
+            target + 2,
+            0,
+            0,
+            86,
+            r,
+            0,
+            0,
+            65,
+            i,
+            0,
+            0,
+            71,
+            254,
+            0,
+            0,
+            73,
+            0,
+            0,
+            0,
+        ];
+        let p = put(out, place, &head);
+        let q = put_renew(rows, tables, out, p, next, target, root);
+        let last = [73, i, 0, 0];
+        return put(out, q, &last);
+    }
+    let head = [
+        66,
+        3,
+        2,
+        0,
+        86,
+        1,
+        0,
+        0,
+        86,
+        target + 2,
+        0,
+        0,
+        86,
+        r,
+        0,
+        0,
+        74,
+        0,
+        0,
+        0,
+        90,
+        0,
+        0,
+        0,
+        65,
+        i,
+        0,
+        0,
+        73,
+        slot,
+        0,
+        0,
+        78,
+        0,
+        0,
+        0,
+    ];
+    let p = put(out, place, &head);
+    let q = put_renew(rows, tables, out, p, next, target, root);
+    let last = [73, i, 0, 0];
+    put(out, q, &last)
+}
+
+// The plain lines of the node at row `at`.
+fn emit_node(
+    rows: &[u32],
+    tables: &[u16],
+    lookups: &[u16],
+    slots: &[u32; 32],
+    out: &mut [u32],
+    place: usize,
+    at: usize,
+    vars: usize,
+    next: u32,
+) -> Next
+    requires { ⌜ SomeNode (now rows) (now tables) (now lookups) (now slots) at vars next place ⌝ }
+    ensures { λ r. ⌜ NodeEmitted (now (rows .entry)) (now (tables .entry)) (now (lookups .entry)) (now (slots .entry)) (now (out .entry)) (now (out .exit)) at vars next place (r .place) (r .at) ⌝ }
+{
+    let letter = rows[at * 4];
+    match letter {
+        84 | 76 | 78 => {
+            let line = [letter, 0, 0, 0];
+            let p = put(out, place, &line);
+            Next {
+                place: p,
+                at: at + 1,
+            }
+        }
+        73 => {
+            let slot = slots[rows[at * 4 + 1] as usize];
+            let p = put_slot(out, place, slot);
+            Next {
+                place: p,
+                at: at + 1,
+            }
+        }
+        87 => {
+            let p = put_new(out, place, next, rows[at * 4 + 1]);
+            Next {
+                place: p,
+                at: at + 1,
+            }
+        }
+        82 => {
+            let slot = slots[rows[at * 4 + 1] as usize];
+            let p = put_change(rows, tables, out, place, slot, next, rows[at * 4 + 2]);
+            Next {
+                place: p,
+                at: at + 1,
+            }
+        }
+        90 => {
+            let line = [90, 0, 0, 0];
+            let p = put(out, place, &line);
+            emit_node(rows, tables, lookups, slots, out, p, at + 1, vars, next)
+        }
+        65 => {
+            let line = [65, slots[rows[at * 4 + 1] as usize], 0, 0];
+            let p = put(out, place, &line);
+            emit_node(rows, tables, lookups, slots, out, p, at + 1, vars, next)
+        }
+        71 => {
+            let lines = [
+                71,
+                rows[at * 4 + 1],
+                0,
+                0,
+                75,
+                lookups[at] as u32 + 2,
+                0,
+                0,
+                71,
+                255,
+                0,
+                0,
+            ];
+            let p = put(out, place, &lines);
+            emit_node(rows, tables, lookups, slots, out, p, at + 1, vars, next)
+        }
+        75 => emit_cast(rows, tables, lookups, slots, out, place, at, vars, next),
+        85 => emit_set(rows, tables, lookups, slots, out, place, at, vars, next),
+        81 => emit_call(rows, tables, lookups, slots, out, place, at, vars, next),
+        74 => {
+            let line = [74, 0, 0, 0];
+            let p = put(out, place, &line);
+            emit_nodes(rows, tables, lookups, slots, out, p, at + 1, vars, next, 3)
+        }
+        _ => emit_block(rows, tables, lookups, slots, out, place, at, vars, next),
+    }
+}
+
+// K.
+fn emit_cast(
+    rows: &[u32],
+    tables: &[u16],
+    lookups: &[u16],
+    slots: &[u32; 32],
+    out: &mut [u32],
+    place: usize,
+    at: usize,
+    vars: usize,
+    next: u32,
+) -> Next
+    requires { ⌜ SomeCast (now rows) (now tables) (now lookups) (now slots) at vars next place ⌝ }
+    ensures { λ r. ⌜ CastEmitted (now (rows .entry)) (now (tables .entry)) (now (lookups .entry)) (now (slots .entry)) (now (out .entry)) (now (out .exit)) at vars next place (r .place) (r .at) ⌝ }
+{
+    let head = [
+        66,
+        1,
+        1,
+        0,
+        86,
+        1,
+        0,
+        0,
+        74,
+        0,
+        0,
+        0,
+        90,
+        0,
+        0,
+        0,
+        65,
+        next,
+        0,
+        0,
+    ];
+    let p = put(out, place, &head);
+    let r = emit_node(rows, tables, lookups, slots, out, p, at + 1, vars, next + 1);
+    let tail = [
+        78,
+        0,
+        0,
+        0,
+        71,
+        254,
+        0,
+        0,
+        75,
+        rows[at * 4 + 1] + 2,
+        0,
+        0,
+        71,
+        255,
+        0,
+        0,
+        73,
+        next,
+        0,
+        0,
+    ];
+    let q = put(out, r.place, &tail);
+    Next { place: q, at: r.at }
+}
+
+// U: the object and the value in temporaries, then the act.
+fn emit_set(
+    rows: &[u32],
+    tables: &[u16],
+    lookups: &[u16],
+    slots: &[u32; 32],
+    out: &mut [u32],
+    place: usize,
+    at: usize,
+    vars: usize,
+    next: u32,
+) -> Next
+    requires { ⌜ SomeSet (now rows) (now tables) (now lookups) (now slots) at vars next place ⌝ }
+    ensures { λ r. ⌜ SetEmitted (now (rows .entry)) (now (tables .entry)) (now (lookups .entry)) (now (slots .entry)) (now (out .entry)) (now (out .exit)) at vars next place (r .place) (r .at) ⌝ }
+{
+    let name = rows[at * 4 + 1];
+    let class = lookups[at] as usize;
+    let field = tables[class * 576 + name as usize] as usize;
+    let row = tables[class * 576 + 519 + field] as usize;
+    let head = [
+        66,
+        2,
+        3,
+        0,
+        86,
+        1,
+        0,
+        0,
+        86,
+        plain_type(rows[row * 4 + 1]),
+        0,
+        0,
+    ];
+    let p = put(out, place, &head);
+    let r = emit_arguments(
+        rows,
+        tables,
+        lookups,
+        slots,
+        out,
+        p,
+        at + 1,
+        vars,
+        next + 2,
+        2,
+        next,
+    );
+    let tail = [
+        85,
+        name,
+        0,
+        0,
+        75,
+        class as u32 + 2,
+        0,
+        0,
+        71,
+        255,
+        0,
+        0,
+        73,
+        next,
+        0,
+        0,
+        73,
+        next + 1,
+        0,
+        0,
+    ];
+    let q = put(out, r.place, &tail);
+    Next { place: q, at: r.at }
+}
+
+// Q: the receiver and the arguments in temporaries, then the call.
+fn emit_call(
+    rows: &[u32],
+    tables: &[u16],
+    lookups: &[u16],
+    slots: &[u32; 32],
+    out: &mut [u32],
+    place: usize,
+    at: usize,
+    vars: usize,
+    next: u32,
+) -> Next
+    requires { ⌜ SomeCall (now rows) (now tables) (now lookups) (now slots) at vars next place ⌝ }
+    ensures { λ r. ⌜ CallEmitted (now (rows .entry)) (now (tables .entry)) (now (lookups .entry)) (now (slots .entry)) (now (out .entry)) (now (out .exit)) at vars next place (r .place) (r .at) ⌝ }
+{
+    let name = rows[at * 4 + 1];
+    let count = rows[at * 4 + 2];
+    let class = lookups[at] as usize;
+    let method = tables[class * 576 + 256 + name as usize] as usize;
+    let head = [66, count + 1, count + 2, 0, 86, 1, 0, 0];
+    let p = put(out, place, &head);
+    let p = put_types(rows, out, p, method, count as usize, 86);
+    let r = emit_arguments(
+        rows,
+        tables,
+        lookups,
+        slots,
+        out,
+        p,
+        at + 1,
+        vars,
+        next + 1 + count,
+        count + 1,
+        next,
+    );
+    let tail = [
+        81,
+        name,
+        count,
+        0,
+        75,
+        class as u32 + 2,
+        0,
+        0,
+        71,
+        255,
+        0,
+        0,
+        73,
+        next,
+        0,
+        0,
+    ];
+    let q = put(out, r.place, &tail);
+    let q = put_reads(out, q, next + 1, count);
+    Next { place: q, at: r.at }
+}
+
+// B: its locals become slots of their own.
+fn emit_block(
+    rows: &[u32],
+    tables: &[u16],
+    lookups: &[u16],
+    slots: &[u32; 32],
+    out: &mut [u32],
+    place: usize,
+    at: usize,
+    vars: usize,
+    next: u32,
+) -> Next
+    requires { ⌜ SomeBlock (now rows) (now tables) (now lookups) (now slots) at vars next place ⌝ }
+    ensures { λ r. ⌜ BlockEmitted (now (rows .entry)) (now (tables .entry)) (now (lookups .entry)) (now (slots .entry)) (now (out .entry)) (now (out .exit)) at vars next place (r .place) (r .at) ⌝ }
+{
+    let locals = rows[at * 4 + 1];
+    let count = rows[at * 4 + 2];
+    let head = [66, locals, count, 0];
+    let p = put(out, place, &head);
+    let p = put_types(rows, out, p, at + 1, locals as usize, 86);
+    let inner = with_locals(slots, vars, next, locals as usize);
+    emit_nodes(
+        rows,
+        tables,
+        lookups,
+        &inner,
+        out,
+        p,
+        at + 1 + locals as usize,
+        vars + locals as usize,
+        next + locals,
+        count,
+    )
+}
+
+// Nodes one after another.
+fn emit_nodes(
+    rows: &[u32],
+    tables: &[u16],
+    lookups: &[u16],
+    slots: &[u32; 32],
+    out: &mut [u32],
+    place: usize,
+    at: usize,
+    vars: usize,
+    next: u32,
+    count: u32,
+) -> Next
+    requires { ⌜ SomeNodes (now rows) (now tables) (now lookups) (now slots) at vars next place count ⌝ }
+    ensures { λ r. ⌜ NodesEmitted (now (rows .entry)) (now (tables .entry)) (now (lookups .entry)) (now (slots .entry)) (now (out .entry)) (now (out .exit)) at vars next place count (r .place) (r .at) ⌝ }
+{
+    if count == 0 {
+        return Next {
+            place: place,
+            at: at,
+        };
+    }
+    let r = emit_node(rows, tables, lookups, slots, out, place, at, vars, next);
+    emit_nodes(
+        rows,
+        tables,
+        lookups,
+        slots,
+        out,
+        r.place,
+        r.at,
+        vars,
+        next,
+        count - 1,
+    )
+}
+
+// Nodes one after another, each put in its temporary, from `slot` on.
+fn emit_arguments(
+    rows: &[u32],
+    tables: &[u16],
+    lookups: &[u16],
+    slots: &[u32; 32],
+    out: &mut [u32],
+    place: usize,
+    at: usize,
+    vars: usize,
+    next: u32,
+    count: u32,
+    slot: u32,
+) -> Next
+    requires { ⌜ SomeArguments (now rows) (now tables) (now lookups) (now slots) at vars next place count slot ⌝ }
+    ensures { λ r. ⌜ ArgumentsEmitted (now (rows .entry)) (now (tables .entry)) (now (lookups .entry)) (now (slots .entry)) (now (out .entry)) (now (out .exit)) at vars next place count slot (r .place) (r .at) ⌝ }
+{
+    if count == 0 {
+        return Next {
+            place: place,
+            at: at,
+        };
+    }
+    let line = [65, slot, 0, 0];
+    let p = put(out, place, &line);
+    let r = emit_node(rows, tables, lookups, slots, out, p, at, vars, next);
+    emit_arguments(
+        rows,
+        tables,
+        lookups,
+        slots,
+        out,
+        r.place,
+        r.at,
+        vars,
+        next,
+        count - 1,
+        slot + 1,
+    )
+}
+
+// The row after those of a letter from `at` on.
+fn skip(rows: &[u32], at: usize, letter: u32) -> usize
+    ensures { λ r. ⌜ Skipped (now (rows .entry)) letter at r ⌝ }
+{
+    let mut r = at;
+    while r < rows.len() / 4 {
+        if rows[r * 4] != letter {
+            return r;
+        }
+        r += 1;
+    }
+    r
+}
+
+// The slots of a body: `this`, then its parameters.
+fn first_slots(count: usize) -> [u32; 32]
+    requires { ⌜ 1 + count ≤ 32 ⌝ }
+    ensures { λ r. ⌜ Extended (replicate 32 0) r 1 1 count ⌝ }
+{
+    let none = [0u32; 32];
+    with_locals(&none, 1, 1, count)
+}
+
+// A body at row `at`, with so many parameters.
+fn emit_body(
+    rows: &[u32],
+    tables: &[u16],
+    lookups: &[u16],
+    out: &mut [u32],
+    place: usize,
+    at: usize,
+    count: usize,
+) -> Next
+    requires { ⌜ SomeBody (now rows) (now tables) (now lookups) at place count ⌝ }
+    ensures { λ r. ⌜ BodyEmitted (now (rows .entry)) (now (tables .entry)) (now (lookups .entry)) (now (out .entry)) (now (out .exit)) at place count (r .place) (r .at) ⌝ }
+{
+    let slots = first_slots(count);
+    emit_node(
+        rows,
+        tables,
+        lookups,
+        &slots,
+        out,
+        place,
+        at,
+        count + 1,
+        count as u32 + 1,
+    )
+}
+
+// A method: its heading without X lines, then its body, which stands at row `body`.
+fn emit_method(
+    rows: &[u32],
+    tables: &[u16],
+    lookups: &[u16],
+    out: &mut [u32],
+    place: usize,
+    at: usize,
+    count: usize,
+    body: usize,
+) -> Next
+    requires { ⌜ SomeMethod (now rows) (now tables) (now lookups) at body place count ⌝ }
+    ensures { λ r. ⌜ MethodEmitted (now (rows .entry)) (now (tables .entry)) (now (lookups .entry)) (now (out .entry)) (now (out .exit)) at body place count (r .place) (r .at) ⌝ }
+{
+    let t = plain_type(rows[at * 4 + 1]);
+    let head = [77, t, rows[at * 4 + 2], 0];
+    let p = put(out, place, &head);
+    let q = put_types(rows, out, p, at + 1, count, 80);
+    emit_body(rows, tables, lookups, out, q, body, count)
+}
+
+// The F lines from row `at` on, with plain types.
+fn put_fields(rows: &[u32], out: &mut [u32], place: usize, at: usize, count: usize) -> usize
+    requires { ⌜ SomeFieldLines (now rows) at count ⌝ }
+    requires { ⌜ place + 4 * count ≤ most-numbers ⌝ }
+    ensures { λ r. ⌜ FieldsWritten (now (rows .entry)) at count (now (out .entry)) (now (out .exit)) place r ⌝ }
+{
+    if count == 0 {
+        return place;
+    }
+    let t = plain_type(rows[at * 4 + 1]);
+    let line = [70, t, rows[at * 4 + 2], 0];
+    let p = put(out, place, &line);
+    put_fields(rows, out, p, at + 1, count - 1)
+}
+
+// The methods from row `at` on, as long as M lines come.
+fn emit_methods(
+    rows: &[u32],
+    tables: &[u16],
+    lookups: &[u16],
+    out: &mut [u32],
+    place: usize,
+    at: usize,
+) -> Next
+    requires { ⌜ SomeMethods (now rows) (now tables) (now lookups) at place ⌝ }
+    ensures { λ r. ⌜ MethodsEmitted (now (rows .entry)) (now (tables .entry)) (now (lookups .entry)) (now (out .entry)) (now (out .exit)) at place (r .place) (r .at) ⌝ }
+{
+    if rows[at * 4] != 77 {
+        return Next {
+            place: place,
+            at: at,
+        };
+    }
+    let x = skip(rows, at + 1, 80);
+    let body = skip(rows, x, 88);
+    let n = emit_method(rows, tables, lookups, out, place, at, x - at - 1, body);
+    emit_methods(rows, tables, lookups, out, n.place, n.at)
+}
+
+// A class: its C line, its fields, its methods.
+fn emit_class(
+    rows: &[u32],
+    tables: &[u16],
+    lookups: &[u16],
+    out: &mut [u32],
+    place: usize,
+    at: usize,
+) -> Next
+    requires { ⌜ SomeClass (now rows) (now tables) (now lookups) at place ⌝ }
+    ensures { λ r. ⌜ ClassEmitted (now (rows .entry)) (now (tables .entry)) (now (lookups .entry)) (now (out .entry)) (now (out .exit)) at place (r .place) (r .at) ⌝ }
+{
+    let head = [67, 0, rows[at * 4 + 2] + 2, 0];
+    let p = put(out, place, &head);
+    let first = skip(rows, at + 1, 70);
+    let q = put_fields(rows, out, p, at + 1, first - at - 1);
+    emit_methods(rows, tables, lookups, out, q, first)
+}
+
+// The classes from row `at` on, as long as C lines come.
+fn emit_classes(
+    rows: &[u32],
+    tables: &[u16],
+    lookups: &[u16],
+    out: &mut [u32],
+    place: usize,
+    at: usize,
+) -> Next
+    requires { ⌜ SomeClasses (now rows) (now tables) (now lookups) at place ⌝ }
+    ensures { λ r. ⌜ ClassesEmitted (now (rows .entry)) (now (tables .entry)) (now (lookups .entry)) (now (out .entry)) (now (out .exit)) at place (r .place) (r .at) ⌝ }
+{
+    if rows[at * 4] != 67 {
+        return Next {
+            place: place,
+            at: at,
+        };
+    }
+    let n = emit_class(rows, tables, lookups, out, place, at);
+    emit_classes(rows, tables, lookups, out, n.place, n.at)
+}
+
+// The whole plain program; answers how many numbers it has.
+fn emit_program(rows: &[u32], tables: &[u16], lookups: &[u16], out: &mut [u32]) -> usize
+    requires { ⌜ SomeProgram (now rows) (now tables) (now lookups) ⌝ }
+    ensures { λ r. ⌜ ProgramWritten (now (rows .entry)) (now (tables .entry)) (now (lookups .entry)) (now (out .entry)) (now (out .exit)) r ⌝ }
+{
+    let head = [67, 0, 0, 0, 70, 2, 255, 0, 67, 0, 0, 0, 70, 1, 254, 0];
+    let p = put(out, 0, &head);
+    let c = emit_classes(rows, tables, lookups, out, p, 0);
+    let line = [83, 0, 0, 0];
+    let q = put(out, c.place, &line);
+    let n = emit_body(rows, tables, lookups, out, q, c.at + 1, 0);
+    n.place
+}
+
+// The row after the methods from row `at` on.
+fn after_methods(rows: &[u32], ends: &[u16], at: usize) -> usize
+    requires { ⌜ SomeMethodsStand (now rows) (now ends) at ⌝ }
+    ensures { λ r. ⌜ MethodsPassed (now (rows .entry)) (now (ends .entry)) at r ⌝ }
+{
+    if rows[at * 4] != 77 {
+        return at;
+    }
+    let x = skip(rows, at + 1, 80);
+    let body = skip(rows, x, 88);
+    let next = ends[body] as usize;
+    after_methods(rows, ends, next)
+}
+
+// How many fields a class may add to so many inherited ones.
+fn field_room(inherited: usize) -> usize
+    ensures { λ r. ⌜ r ≡ 16 - inherited ⌝ }
+{
+    if 16 < inherited {
+        return 0;
+    }
+    16 - inherited
+}
+
+// The line of the first field over the limit, from the class at row `at` on; 0 for none.
+fn over_fields(rows: &[u32], ends: &[u16], tables: &[u16], at: usize) -> u32
+    requires { ⌜ SomeCounted (now rows) (now ends) (now tables) at ⌝ }
+    ensures { λ r. ⌜ FieldsLimited (now (rows .entry)) (now (ends .entry)) (now (tables .entry)) at r ⌝ }
+{
+    if rows[at * 4] != 67 {
+        return 0;
+    }
+    let above = rows[at * 4 + 2] as usize;
+    let room = field_room(tables[above * 576 + 515] as usize);
+    let first = skip(rows, at + 1, 70);
+    if room < first - at - 1 {
+        return (at + 2 + room) as u32;
+    }
+    let next = after_methods(rows, ends, first);
+    over_fields(rows, ends, tables, next)
+}
+
+// The line of the first of so many F lines with a reserved name; 0 for none.
+fn reserved_field(rows: &[u32], at: usize, count: usize) -> u32
+    requires { ⌜ SomeFieldLines (now rows) at count × (length (now rows) ≤ 240000) ⌝ }
+    ensures { λ r. ⌜ FieldsFree (now (rows .entry)) at count r ⌝ }
+{
+    if count == 0 {
+        return 0;
+    }
+    let name = rows[at * 4 + 2];
+    if name == 254 {
+        return at as u32 + 1;
+    }
+    if name == 255 {
+        return at as u32 + 1;
+    }
+    reserved_field(rows, at + 1, count - 1)
+}
+
+// The same of the classes from row `at` on.
+fn reserved_name(rows: &[u32], ends: &[u16], at: usize) -> u32
+    requires { ⌜ SomeClassesStand (now rows) (now ends) at ⌝ }
+    ensures { λ r. ⌜ NamesFree (now (rows .entry)) (now (ends .entry)) at r ⌝ }
+{
+    if rows[at * 4] != 67 {
+        return 0;
+    }
+    let first = skip(rows, at + 1, 70);
+    let line = reserved_field(rows, at + 1, first - at - 1);
+    if line != 0 {
+        return line;
+    }
+    let next = after_methods(rows, ends, first);
+    reserved_name(rows, ends, next)
+}
+
+// What a field over the limit, on a line or 0, makes of an answer.
+fn with_fields(formed: Formed, line: u32) -> Filled
+    ensures { λ r. ⌜ r ≡ limits-told formed line ⌝ }
+{
+    match formed {
+        Formed::InForm(n) => {
+            if line == 0 {
+                return Filled::Done(0);
+            }
+            Filled::Refused(2, line)
+        }
+        Formed::Refused(number, first) => {
+            if line == 0 {
+                return Filled::Refused(number, first);
+            }
+            if line < first {
+                return Filled::Refused(2, line);
+            }
+            Filled::Refused(number, first)
+        }
+    }
+}
+
+// The translator's limits.
+fn over_limits(rows: &[u32], ends: &[u16], tables: &[u16]) -> Filled
+    requires { ⌜ SomeChecked (now rows) (now ends) (now tables) ⌝ }
+    ensures { λ r. ⌜ Limited (now (rows .entry)) (now (ends .entry)) (now (tables .entry)) r ⌝ }
+{
+    let mut scratch = [0u16; 680];
+    let formed = limits::check_form(rows, &mut scratch);
+    let line = over_fields(rows, ends, tables, 0);
+    with_fields(formed, line)
+}
+
+// The plain rows, where there is room for them.
+fn write_plain(rows: &[u32], tables: &[u16], lookups: &[u16], out: &mut [u32]) -> Filled
+    requires { ⌜ SomeProgram (now rows) (now tables) (now lookups) ⌝ }
+    ensures { λ r. ⌜ PlainWritten (now (rows .entry)) (now (tables .entry)) (now (lookups .entry)) (now (out .entry)) (now (out .exit)) r ⌝ }
+{
+    let mut none = [0u32; 1];
+    let count = emit_program(rows, tables, lookups, &mut none);
+    if out.len() < count {
+        return Filled::Refused(13, 0);
+    }
+    let written = emit_program(rows, tables, lookups, out);
+    Filled::Done(written / 4)
+}
+
+// Translates rows that the check accepts, with what its passes left in their tables.
+pub fn translate_checked(
+    rows: &[u32],
+    ends: &[u16],
+    tables: &[u16],
+    lookups: &[u16],
+    out: &mut [u32],
+) -> Filled
+    requires { ⌜ SomeAccepted (now rows) (now ends) (now tables) (now lookups) ⌝ }
+    ensures { λ r. ⌜ (r ≡ answer 4 (translation (now (rows .entry))) (length (now (out .entry))))
+        × (now (out .exit) ≡ buffer (translation (now (rows .entry))) (now (out .entry))) ⌝ }
+{
+    let limited = over_limits(rows, ends, tables);
+    let Filled::Done(n) = limited else {
+        return limited;
+    };
+    let line = reserved_name(rows, ends, 0);
+    if line != 0 {
+        return Filled::Refused(12, line);
+    }
+    write_plain(rows, tables, lookups, out)
+}

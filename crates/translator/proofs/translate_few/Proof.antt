@@ -1,0 +1,38 @@
+-- `translator::translate_few` meets its contract. Assumes nothing.
+use borrow.Author.Needs.{needs}
+use Rattle.checker.proofs.Passing.{lent-few}
+use Rattle.translator.proofs.translate_few.Statement.{statement}
+use Rattle.translator.proofs.translate_few.Tie as tie
+
+slice-aggregate-translate-with : tie.Need-slice-aggregate-translate-with
+slice-aggregate-translate-with c = search needs
+
+slice-aggregate-translate-with-2 : tie.Need-slice-aggregate-translate-with-2
+slice-aggregate-translate-with-2 c = search needs
+
+slice-aggregate-translate-with-3 : tie.Need-slice-aggregate-translate-with-3
+slice-aggregate-translate-with-3 c = search needs
+
+slice-aggregate-translate-with-4 : tie.Need-slice-aggregate-translate-with-4
+slice-aggregate-translate-with-4 c = search needs
+
+translate-with-requires : tie.Need-translate-with-requires
+translate-with-requires c κs = lent-few _ (c .before .before .before .before .before .before .before .pre)
+
+same-length : tie.Need-same-length
+same-length c = search needs
+
+returns : tie.Need-returns
+returns c = search needs
+
+pub translate-few-spec : {M : Type 1} → statement M
+translate-few-spec =
+    tie.close
+    (tie.spec
+    slice-aggregate-translate-with
+    slice-aggregate-translate-with-2
+    slice-aggregate-translate-with-3
+    slice-aggregate-translate-with-4
+    translate-with-requires
+    same-length
+    returns)
