@@ -1,6 +1,11 @@
 //! The proved services held against the second implementation, and what the comparisons and the benchmark share.
 
+pub mod check;
+pub mod load;
+pub mod programs;
+pub mod run;
 pub mod text;
+pub mod translate;
 
 use second::random::Random;
 use second::rows::letter;

@@ -4,10 +4,10 @@ use second::generate;
 use second::random::Random;
 
 /// What a service answers and leaves in the buffer it was lent.
-type Left<T> = (Result<usize, (u32, u32)>, Vec<T>);
+pub type Left<T> = (Result<usize, (u32, u32)>, Vec<T>);
 
-/// How often each answer came: place 0 for a count, else the refusal's number.
-pub type Answers = [u64; 17];
+/// How often each answer came: place 0 for a result, 1 to 16 a refusal or stop, 17 and 18 exceptions 1 and 2.
+pub type Answers = [u64; 19];
 
 /// Reads a generated text into a buffer, both ways; tells the difference if there is one.
 pub fn reading(random: &mut Random, answers: &mut Answers) -> Result<(), String> {
@@ -29,7 +29,7 @@ pub fn writing(random: &mut Random, answers: &mut Answers) -> Result<(), String>
 }
 
 /// A buffer full of junk: about as long as needed, at times too short, at times longer.
-fn junk<T>(random: &mut Random, about: usize, number: fn(u64) -> T) -> Vec<T> {
+pub fn junk<T>(random: &mut Random, about: usize, number: fn(u64) -> T) -> Vec<T> {
     let length = match random.below(8) {
         0 => random.below(about + 1),
         1 => about.saturating_sub(1),
@@ -40,13 +40,13 @@ fn junk<T>(random: &mut Random, about: usize, number: fn(u64) -> T) -> Vec<T> {
 }
 
 /// Lends a copy of a buffer to a service.
-fn left<T: Clone>(buffer: &[T], service: impl FnOnce(&mut [T]) -> Result<usize, (u32, u32)>) -> Left<T> {
+pub fn left<T: Clone>(buffer: &[T], service: impl FnOnce(&mut [T]) -> Result<usize, (u32, u32)>) -> Left<T> {
     let mut lent = buffer.to_vec();
     (service(&mut lent), lent)
 }
 
 /// Counts the answer, or tells the difference between the two.
-fn same<T: PartialEq>(
+pub fn same<T: PartialEq>(
     service: &str,
     input: &str,
     proved: Left<T>,
@@ -59,6 +59,11 @@ fn same<T: PartialEq>(
     if proved.1 != second.1 {
         return Err(format!("{service} of {input}: the buffers differ"));
     }
-    answers[proved.0.map_or_else(|(number, _)| number as usize, |_| 0)] += 1;
+    count(proved.0, answers);
     Ok(())
+}
+
+/// Counts an answer.
+pub fn count<T>(answer: Result<T, (u32, u32)>, answers: &mut Answers) {
+    answers[answer.map_or_else(|(number, _)| number as usize, |_| 0)] += 1;
 }

@@ -10,6 +10,65 @@ pub struct Refusal {
     pub line: u32,
 }
 
+impl std::fmt::Display for Refusal {
+    fn fmt(&self, f: &mut std::fmt::Formatter) -> std::fmt::Result {
+        write!(f, "number {}, line {}: {}", self.number, self.line, words(self.number))
+    }
+}
+
+impl std::error::Error for Refusal {}
+
+/// What a refusal or a stop means, in a sentence; docs/REFUSALS.md has an example of each.
+pub fn words(number: u32) -> &'static str {
+    match number {
+        1 => "A line is not a letter of the language with its numbers, each after one tab and at most 65,535.",
+        2 => "There is more of something than is allowed: rows, classes, fields, parameters, slots, nesting, a name over 255, or fuel.",
+        3 => "Another record is due here: the program ends too early, goes on after its end, or a block has no expression.",
+        4 => "A class is not declared (yet, if it is a superclass), or a name is given twice.",
+        5 => "A class of this kind cannot stand here, a field has a state class as its type, or an X does not name a root in ascending order.",
+        6 => "A method overrides another with other types or with a larger effect.",
+        7 => "A slot is not in scope, there is no `this`, or `this` would be set.",
+        8 => "The class has no such field or method, or the method takes another number of arguments.",
+        9 => "A type is not what the rule needs.",
+        10 => "A method's body changes the class of objects whose root its X lines do not name.",
+        11 => "An object cannot become this class: one of the two is neither root nor state, or their roots differ.",
+        12 => "The translator needs field names 254 and 255 for itself.",
+        13 => "The buffer lent for the result is too short; nothing was written.",
+        14 => "The run had no fuel left to enter a node; objects and counts are those made so far.",
+        15 => "A call was made while 64 were active.",
+        16 => "A new object was to be made, and the store had no room for it.",
+        _ => "No such refusal.",
+    }
+}
+
+/// A value. Objects count from 1 in the order in which they were made.
+#[derive(Clone, Copy, Debug, PartialEq, Eq)]
+pub enum Value {
+    Null,
+    Truth(bool),
+    Object(u32),
+}
+
+/// How a run ended: with a value, by exception 1 or 2, or at stop 14, 15 or 16.
+#[derive(Clone, Copy, Debug, PartialEq, Eq)]
+pub enum Outcome {
+    Value(Value),
+    Exception(u32),
+    Stop(u32),
+}
+
+/// The answer of a run: the outcome, nodes entered, objects made and changes of class.
+#[derive(Clone, Copy, Debug, PartialEq, Eq)]
+pub struct Run {
+    pub outcome: Outcome,
+    pub steps: u32,
+    pub objects: u32,
+    pub changes: u32,
+}
+
+/// The first word of a run's answer where an exception ended it; the second is the exception.
+const EXCEPTION: u32 = 1_000;
+
 mod c {
     extern "C" {
         pub fn fickle_read_rows(
@@ -23,6 +82,23 @@ mod c {
             rows_length: usize,
             text: *mut u8,
             text_length: usize,
+        ) -> u64;
+        pub fn fickle_check_rows(rows: *const u32, rows_length: usize) -> u64;
+        pub fn fickle_translate_rows(
+            rows: *const u32,
+            rows_length: usize,
+            plain: *mut u32,
+            plain_length: usize,
+        ) -> u64;
+        pub fn fickle_run_rows(
+            rows: *const u32,
+            rows_length: usize,
+            store: *mut u32,
+            store_length: usize,
+            fuel: u64,
+            steps: *mut u32,
+            objects: *mut u32,
+            changes: *mut u32,
         ) -> u64;
     }
 }
@@ -47,4 +123,44 @@ pub fn read_rows(text: &[u8], rows: &mut [u32]) -> Result<usize, Refusal> {
 pub fn write_text(rows: &[u32], text: &mut [u8]) -> Result<usize, Refusal> {
     // SAFETY: as above.
     unpack(unsafe { c::fickle_write_text(rows.as_ptr(), rows.len(), text.as_mut_ptr(), text.len()) })
+}
+
+/// Checks rows: accepted, or the first refusal.
+pub fn check_rows(rows: &[u32]) -> Result<(), Refusal> {
+    // SAFETY: as above.
+    unpack(unsafe { c::fickle_check_rows(rows.as_ptr(), rows.len()) }).map(|_| ())
+}
+
+/// Translates a program into plain rows. Answers how many rows were written.
+pub fn translate_rows(rows: &[u32], plain: &mut [u32]) -> Result<usize, Refusal> {
+    // SAFETY: as above.
+    unpack(unsafe { c::fickle_translate_rows(rows.as_ptr(), rows.len(), plain.as_mut_ptr(), plain.len()) })
+}
+
+/// Runs a program over a lent store, 18 numbers to an object.
+pub fn run_rows(rows: &[u32], fuel: u64, store: &mut [u32]) -> Result<Run, Refusal> {
+    let (mut steps, mut objects, mut changes) = (0, 0, 0);
+    // SAFETY: as above; the counts are lent to nobody else.
+    let answer = unsafe {
+        c::fickle_run_rows(
+            rows.as_ptr(),
+            rows.len(),
+            store.as_mut_ptr(),
+            store.len(),
+            fuel,
+            &mut steps,
+            &mut objects,
+            &mut changes,
+        )
+    };
+    let outcome = match ((answer >> 32) as u32, answer as u32) {
+        (0, 0) => Outcome::Value(Value::Null),
+        (0, 1) => Outcome::Value(Value::Truth(false)),
+        (0, 2) => Outcome::Value(Value::Truth(true)),
+        (0, stored) => Outcome::Value(Value::Object(stored - 2)),
+        (EXCEPTION, exception) => Outcome::Exception(exception),
+        (stop @ 14..=16, _) => Outcome::Stop(stop),
+        (number, line) => return Err(Refusal { number, line }),
+    };
+    Ok(Run { outcome, steps, objects, changes })
 }

@@ -1,6 +1,6 @@
 //! The proved services through the safe wrapper: one case of each answer.
 
-use fickle::{read_rows, write_text, Refusal};
+use fickle::{check_rows, read_rows, run_rows, translate_rows, write_text, Outcome, Refusal, Run, Value};
 
 #[test]
 fn reads_and_writes_back() {
@@ -30,4 +30,45 @@ fn refusals_change_nothing() {
 fn the_empty_text_has_no_rows() {
     assert_eq!(read_rows(b"", &mut []), Ok(0));
     assert_eq!(write_text(&[], &mut []), Ok(0));
+}
+
+/// Program D of document 01.
+fn program_d() -> Vec<u32> {
+    let text = b"C\t1\t0\nF\t255\t0\nC\t2\t1\nC\t2\t1\nS\nB\t1\t4\nV\t1\nA\t1\nW\t2\nU\t0\nI\t1\nT\nR\t1\t3\nG\t0\nI\t1\n";
+    let mut rows = vec![0; 60];
+    assert_eq!(read_rows(text, &mut rows), Ok(15));
+    rows
+}
+
+#[test]
+fn checks() {
+    let rows = program_d();
+    assert_eq!(check_rows(&rows), Ok(()));
+    assert_eq!(check_rows(&rows[..59]), Err(Refusal { number: 1, line: 0 }));
+    assert_eq!(check_rows(&rows[..56]), Err(Refusal { number: 3, line: 15 }));
+    assert_eq!(check_rows(&[]), Err(Refusal { number: 3, line: 1 }));
+}
+
+#[test]
+fn translates_and_runs() {
+    let rows = program_d();
+    let mut plain = vec![7; 300];
+    assert_eq!(translate_rows(&rows, &mut plain[..100]), Err(Refusal { number: 13, line: 0 }));
+    assert_eq!(plain, [7; 300]);
+    assert_eq!(translate_rows(&rows, &mut plain), Ok(70));
+    assert_eq!(plain[280..], [7; 20]);
+    let mut store = [7; 60];
+    let run = |steps, objects, changes| Run {
+        outcome: Outcome::Value(Value::Truth(true)),
+        steps,
+        objects,
+        changes,
+    };
+    assert_eq!(run_rows(&rows, 10_000, &mut store), Ok(run(9, 1, 1)));
+    assert_eq!(store[..3], [3, 2, 0]);
+    assert_eq!(store[18..], [7; 42]);
+    assert_eq!(run_rows(&plain[..280], 10_000, &mut store), Ok(run(52, 3, 0)));
+    let spent = run_rows(&rows, 8, &mut store).expect("accepted");
+    assert_eq!((spent.outcome, spent.steps), (Outcome::Stop(14), 8));
+    assert_eq!(run_rows(&rows, 100_000_001, &mut store), Err(Refusal { number: 2, line: 0 }));
 }

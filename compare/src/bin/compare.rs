@@ -3,6 +3,8 @@
 //! A line of progress comes now and then where more cases are asked for than the gate runs.
 
 use compare::text::{reading, writing, Answers};
+use compare::{check, programs, run, translate};
+use second::machine::on_large_stack;
 use second::random::Random;
 
 const CASES: u64 = 100_000;
@@ -11,11 +13,43 @@ fn main() {
     let numbers: Vec<u64> = std::env::args().skip(1).filter_map(|given| given.parse().ok()).collect();
     let cases = numbers.first().copied().unwrap_or(CASES);
     let first = numbers.get(1).copied().unwrap_or(0);
+    let failed = on_large_stack(|| all(cases, first));
+    if failed > 0 {
+        std::process::exit(1);
+    }
+}
+
+/// Every service: its limits, then generated inputs. Answers how many differences there were.
+fn all(cases: u64, first: u64) -> u64 {
     let mut failed = 0;
     failed += compare("read_rows", cases, first, &[0, 1, 2, 13], reading);
     failed += compare("write_text", cases, first, &[0, 1, 2, 13], writing);
-    if failed > 0 {
-        std::process::exit(1);
+    failed += limits("check_rows", check::limits);
+    failed += compare("check_rows", cases, first, &[0, 1, 2, 3, 4, 5, 6, 7, 8, 9, 10, 11], check::checking);
+    failed += limits("translate_rows", translate::limits);
+    let translated: Vec<usize> = (0..=13).collect();
+    failed += compare("translate_rows", cases, first, &translated, translate::translating);
+    failed += limits("run_rows", run::limits);
+    let ends: Vec<usize> = (0..=11).chain(14..=18).collect();
+    failed += compare("run_rows", cases, first, &ends, run::running);
+    failed += compare("run_rows, every fuel", cases / 100, first, &[], run::every_fuel);
+    failed += compare("program translate", cases / 50, first, &[], programs::translating);
+    failed += compare("program run", cases / 50, first, &[], programs::running);
+    failed
+}
+
+/// The programs at a service's limits.
+fn limits(service: &str, cases: fn(&mut Answers) -> Result<usize, String>) -> u64 {
+    let mut answers: Answers = [0; 19];
+    match cases(&mut answers) {
+        Ok(count) => {
+            println!("{service}: {count} programs at limits, 0 differences; {}", counts(&answers));
+            0
+        }
+        Err(difference) => {
+            println!("{service} at its limits: {}", shown(&difference));
+            1
+        }
     }
 }
 
@@ -27,29 +61,35 @@ fn compare(
     expected: &[usize],
     case: fn(&mut Random, &mut Answers) -> Result<(), String>,
 ) -> u64 {
-    let mut answers: Answers = [0; 17];
+    let mut answers: Answers = [0; 19];
     let mut failed = 0;
     for seed in first..first + cases {
         if let Err(difference) = case(&mut Random::new(seed), &mut answers) {
             failed += 1;
-            let shown: String = difference.chars().take(400).collect();
-            println!("seed {seed}: {shown}");
+            println!("seed {seed}: {}", shown(&difference));
         }
         if cases > CASES && (seed - first + 1) % CASES == 0 {
             println!("{service}: {} cases, {failed} differences so far", seed - first + 1);
         }
     }
-    let counts: Vec<String> = (0..17)
-        .filter(|number| answers[*number] > 0)
-        .map(|number| format!("{number}: {}", answers[number]))
-        .collect();
-    println!(
-        "{service}: {cases} cases, {failed} differences; by answer (0 is a count) {}",
-        counts.join(", ")
-    );
+    println!("{service}: {cases} cases, {failed} differences; {}", counts(&answers));
     if let Some(number) = expected.iter().find(|number| cases >= CASES && answers[**number] == 0) {
         println!("{service}: answer {number} was never reached");
         failed += 1;
     }
     failed
+}
+
+/// How often each answer came.
+fn counts(answers: &Answers) -> String {
+    let counts: Vec<String> = (0..answers.len())
+        .filter(|number| answers[*number] > 0)
+        .map(|number| format!("{number}: {}", answers[number]))
+        .collect();
+    format!("by answer (0 a result, 17 and 18 exceptions) {}", counts.join(", "))
+}
+
+/// The beginning of what differs.
+fn shown(difference: &str) -> String {
+    difference.chars().take(400).collect()
 }

@@ -1,8 +1,91 @@
--- An answer as the one number that crosses to C: a count as it is, a refusal as its number times 2^32 plus its line.
+-- Answers as the one number that crosses to C: a count or a value as it is, a refusal as its number times 2^32 plus its line.
 use Prim.Native.Nat.{ℕ, _+_, _*_}
+use mathlib.Core.Bool.{cond}
 use Rattle.language.specs.declared.Filled.{Filled}
 use Rattle.language.specs.declared.Filled.the-variants.{Done, Refused}
+use Rattle.language.specs.Limits.{spent-stop, deep-stop, full-stop}
+use Rattle.language.specs.Verdict as verdicts
+use Rattle.language.specs.Verdict.{accepted, refused as not-accepted}
+use Rattle.language.specs.Evaluation.{raised, spent, deep, full, stuck}
+use Rattle.language.specs.Store.{Outcome, gave, ended, value-number, Answer, refused, ran}
+use Rattle.checker.specs.declared.Verdict.{Verdict}
+use Rattle.checker.specs.declared.Verdict.the-variants.{Accepted, Refused as NotAccepted}
+use Rattle.machine.specs.declared.Value.{Value}
+use Rattle.machine.specs.declared.Value.the-variants.{Null, Truth, Object}
+use Rattle.machine.specs.declared.End.{End}
+use Rattle.machine.specs.declared.End.the-variants.{Gave, Raised, Stopped}
+use Rattle.runner.specs.declared.Answer as runner
+use Rattle.runner.specs.declared.Answer.the-variants.{Refused as NotRun, Ran}
+
+abbrev pub refusal : ℕ → ℕ → ℕ
+refusal number line = number * 4294967296 + line
 
 abbrev pub packed : Filled → ℕ
 packed (Done n) = n
-packed (Refused number line) = number * 4294967296 + line
+packed (Refused number line) = refusal number line
+
+-- ---- the verdict: 0 accepted
+
+abbrev pub packed-verdict : verdicts.Verdict → ℕ
+packed-verdict accepted = 0
+packed-verdict (not-accepted number line) = refusal number line
+
+-- ---- a run: a value is its stored number, an exception is 1000 with its number, a stop is 14, 15 or 16 with 0
+
+-- Stuck comes of no accepted program.
+abbrev pub packed-outcome : Outcome → ℕ
+packed-outcome (gave v) = value-number v
+packed-outcome (ended (raised n)) = refusal 1000 n
+packed-outcome (ended spent) = refusal spent-stop 0
+packed-outcome (ended deep) = refusal deep-stop 0
+packed-outcome (ended full) = refusal full-stop 0
+packed-outcome (ended stuck) = 0
+
+abbrev pub packed-answer : Answer → ℕ
+packed-answer (refused number line) = refusal number line
+packed-answer (ran o steps objects changes) = packed-outcome o
+
+-- What the three counts are afterwards: those of the run; of a refused one, what they were.
+abbrev pub steps-after : Answer → ℕ → ℕ
+steps-after (refused number line) before = before
+steps-after (ran o steps objects changes) before = steps
+
+abbrev pub objects-after : Answer → ℕ → ℕ
+objects-after (refused number line) before = before
+objects-after (ran o steps objects changes) before = objects
+
+abbrev pub changes-after : Answer → ℕ → ℕ
+changes-after (refused number line) before = before
+changes-after (ran o steps objects changes) before = changes
+
+-- ---- the same of answers as the code gives them
+
+abbrev pub packed-checked : Verdict → ℕ
+packed-checked Accepted = 0
+packed-checked (NotAccepted number line) = refusal number line
+
+abbrev pub packed-value : Value → ℕ
+packed-value Null = 0
+packed-value (Truth b) = cond b 2 1
+packed-value (Object j) = j + 2
+
+abbrev pub packed-end : End → ℕ
+packed-end (Gave v) = packed-value v
+packed-end (Raised n) = refusal 1000 n
+packed-end (Stopped n) = refusal n 0
+
+abbrev pub packed-run : runner.Answer → ℕ
+packed-run (NotRun number line) = refusal number line
+packed-run (Ran r) = packed-end (r .outcome)
+
+abbrev pub steps-told : runner.Answer → ℕ → ℕ
+steps-told (NotRun number line) before = before
+steps-told (Ran r) before = r .steps
+
+abbrev pub objects-told : runner.Answer → ℕ → ℕ
+objects-told (NotRun number line) before = before
+objects-told (Ran r) before = r .objects
+
+abbrev pub changes-told : runner.Answer → ℕ → ℕ
+changes-told (NotRun number line) before = before
+changes-told (Ran r) before = r .changes

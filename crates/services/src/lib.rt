@@ -1,10 +1,26 @@
 // The services under their C names. Slices pass as a pointer and a length; an answer is one number (specs/Packed.antt).
+use checker::Verdict;
 use language::Filled;
+use machine::End;
+use machine::Run;
+use machine::Value;
+use runner::Answer;
 ghost use mathlib.Core.Path.{_≡_};
 ghost use lib.ListN.{length};
 ghost use Rattle.language.specs.Filling.{answer, buffer};
+ghost use Rattle.language.specs.Translation.{translation};
+ghost use Rattle.language.specs.Verdict.{verdict};
+ghost use Rattle.language.specs.Store.{run-of};
 ghost use Rattle.text.specs.Texts.{read-text, write-rows};
-ghost use Rattle.services.specs.Packed.{packed};
+ghost use Rattle.services.specs.Packed.{refusal, packed, packed-verdict, packed-answer, steps-after, objects-after, changes-after};
+ghost use Rattle.services.specs.Packed.{packed-checked, packed-value, packed-end, packed-run, steps-told, objects-told, changes-told};
+
+// Two words of 32 bits as one number.
+fn two_words(number: u32, line: u32) -> u64
+    ensures { λ r. ⌜ r ≡ refusal number line ⌝ }
+{
+    (number as u64) * 4294967296 + (line as u64)
+}
 
 // An answer as one number.
 fn pack(answer: Filled) -> u64
@@ -12,7 +28,74 @@ fn pack(answer: Filled) -> u64
 {
     match answer {
         Filled::Done(n) => n as u64,
-        Filled::Refused(number, line) => (number as u64) * 4294967296 + (line as u64),
+        Filled::Refused(number, line) => two_words(number, line),
+    }
+}
+
+// A verdict as one number.
+fn pack_verdict(v: Verdict) -> u64
+    ensures { λ r. ⌜ r ≡ packed-checked v ⌝ }
+{
+    match v {
+        Verdict::Accepted => 0,
+        Verdict::Refused(number, line) => two_words(number, line),
+    }
+}
+
+// A value as its stored number.
+fn pack_value(v: Value) -> u64
+    ensures { λ r. ⌜ r ≡ packed-value v ⌝ }
+{
+    match v {
+        Value::Truth(b) => { if b { 2 } else { 1 } }
+        Value::Object(j) => j as u64 + 2,
+        Value::Null => 0,
+    }
+}
+
+// The end of a run as one number.
+fn pack_end(e: End) -> u64
+    ensures { λ r. ⌜ r ≡ packed-end e ⌝ }
+{
+    match e {
+        End::Gave(v) => pack_value(v),
+        End::Raised(n) => two_words(1000, n),
+        End::Stopped(n) => two_words(n, 0),
+    }
+}
+
+// The answer of a run as one number.
+fn pack_run(a: Answer) -> u64
+    ensures { λ r. ⌜ r ≡ packed-run a ⌝ }
+{
+    match a {
+        Answer::Refused(number, line) => two_words(number, line),
+        Answer::Ran(r) => {
+            let e = r.outcome;
+            pack_end(e)
+        }
+    }
+}
+
+// Stores the counts of a run.
+fn put_counts(r: Run, steps: &mut u32, objects: &mut u32, changes: &mut u32)
+    ensures { λ _. ⌜ now (steps .exit) ≡ r .steps ⌝ }
+    ensures { λ _. ⌜ now (objects .exit) ≡ r .objects ⌝ }
+    ensures { λ _. ⌜ now (changes .exit) ≡ r .changes ⌝ }
+{
+    *steps = r.steps;
+    *objects = r.objects;
+    *changes = r.changes;
+}
+
+// Stores the counts where the run was not refused.
+fn tell_counts(a: Answer, steps: &mut u32, objects: &mut u32, changes: &mut u32)
+    ensures { λ _. ⌜ now (steps .exit) ≡ steps-told a (now (steps .entry)) ⌝ }
+    ensures { λ _. ⌜ now (objects .exit) ≡ objects-told a (now (objects .entry)) ⌝ }
+    ensures { λ _. ⌜ now (changes .exit) ≡ changes-told a (now (changes .entry)) ⌝ }
+{
+    if let Answer::Ran(r) = a {
+        put_counts(r, steps, objects, changes);
     }
 }
 
@@ -32,4 +115,42 @@ pub extern "C" fn fickle_write_text(rows: &[u32], text: &mut [u8]) -> u64
         × (now (text .exit) ≡ buffer (write-rows (now (rows .entry))) (now (text .entry))) ⌝ }
 {
     pack(text::write_text(rows, text))
+}
+
+// Checks rows.
+#[no_mangle]
+pub extern "C" fn fickle_check_rows(rows: &[u32]) -> u64
+    ensures { λ r. ⌜ r ≡ packed-verdict (verdict (now (rows .entry))) ⌝ }
+{
+    pack_verdict(checker::check_rows(rows))
+}
+
+// Translates rows into plain rows.
+#[no_mangle]
+pub extern "C" fn fickle_translate_rows(rows: &[u32], plain: &mut [u32]) -> u64
+    ensures { λ r. ⌜ (r ≡ packed (answer 4 (translation (now (rows .entry))) (length (now (plain .entry)))))
+        × (now (plain .exit) ≡ buffer (translation (now (rows .entry))) (now (plain .entry))) ⌝ }
+{
+    pack(translator::translate_rows(rows, plain))
+}
+
+// Runs rows over a store. A refused run leaves the counts as they were.
+#[no_mangle]
+pub extern "C" fn fickle_run_rows(
+    rows: &[u32],
+    store: &mut [u32],
+    fuel: u64,
+    steps: &mut u32,
+    objects: &mut u32,
+    changes: &mut u32,
+) -> u64
+    ensures { λ r. ⌜ r ≡ packed-answer (run-of (now (rows .entry)) fuel (now (store .entry)) .answer) ⌝ }
+    ensures { λ _. ⌜ now (store .exit) ≡ run-of (now (rows .entry)) fuel (now (store .entry)) .store ⌝ }
+    ensures { λ _. ⌜ now (steps .exit) ≡ steps-after (run-of (now (rows .entry)) fuel (now (store .entry)) .answer) (now (steps .entry)) ⌝ }
+    ensures { λ _. ⌜ now (objects .exit) ≡ objects-after (run-of (now (rows .entry)) fuel (now (store .entry)) .answer) (now (objects .entry)) ⌝ }
+    ensures { λ _. ⌜ now (changes .exit) ≡ changes-after (run-of (now (rows .entry)) fuel (now (store .entry)) .answer) (now (changes .entry)) ⌝ }
+{
+    let a = runner::run_rows(rows, store, fuel);
+    tell_counts(a, steps, objects, changes);
+    pack_run(a)
 }

@@ -257,7 +257,7 @@ fn write_decimal(text: &mut [u8], at: usize, n: u32) -> usize
 }
 
 // Writes a tab and a number at a place, and answers the place after them.
-fn write_number(text: &mut [u8], at: usize, n: u32) -> usize
+pub fn write_number(text: &mut [u8], at: usize, n: u32) -> usize
     requires { ⌜ at + 1 + length (digits n) ≤ length (now text) ⌝ }
     ensures { λ r. ⌜ (r ≡ at + 1 + length (digits n)) × (now (text .exit) ≡ sets (now (text .entry)) at (tab ∷ digits n)) ⌝ }
 {

@@ -1,8 +1,7 @@
 -- `services::pack` meets its contract. Assumes nothing.
-use mathlib.Core.Path.{sym, ap}
-use Prim.Native.Nat.{_-_}
-use borrow.Author.Needs.{needs}
+use mathlib.Core.Path.{sym, ap, _∙_}
 use Rattle.services.specs.Packed.{packed}
+use borrow.Author.Needs.{needs}
 use Rattle.services.proofs.pack.Statement.{statement}
 use Rattle.services.proofs.pack.Tie as tie
 
@@ -12,35 +11,15 @@ enum-known-answer c = search needs
 enum-known-answer-2 : tie.Need-enum-known-answer-2
 enum-known-answer-2 c = search needs
 
-cast-result : tie.Need-cast-result
-cast-result c = search needs
-
-mul-result : tie.Need-mul-result
-mul-result c = search needs
-
-cast-result-2 : tie.Need-cast-result-2
-cast-result-2 c = search needs
-
-add-result : tie.Need-add-result
-add-result c = search needs
+two-words-requires : tie.Need-two-words-requires
+two-words-requires c κs = search needs
 
 returns : tie.Need-returns
 returns c = search needs
 
 returns-2 : tie.Need-returns-2
-returns-2 c =
-    let the-answer2 = c .before .answer2 in
-    sym (ap packed (the-answer2 .given .1))
+returns-2 c = c .two-words .ensures ∙ sym (ap packed (c .before .before .answer2 .given .1))
 
 pub pack-spec : {M : Type 1} → statement M
 pack-spec =
-    tie.close
-    (tie.spec
-    enum-known-answer
-    enum-known-answer-2
-    cast-result
-    mul-result
-    cast-result-2
-    add-result
-    returns
-    returns-2)
+    tie.close (tie.spec enum-known-answer enum-known-answer-2 two-words-requires returns returns-2)

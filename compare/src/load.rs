@@ -1,0 +1,133 @@
+//! Programs of a wanted size for the benchmark: accepted ones for the check, and long runs for the runner.
+
+use second::rows::letter::*;
+
+/// Rows written one after another.
+#[derive(Default)]
+struct Rows(Vec<u32>);
+
+impl Rows {
+    fn row(&mut self, letter: u32, first: u32, second: u32) -> &mut Rows {
+        self.0.extend([letter, first, second, 0]);
+        self
+    }
+
+    fn count(&self) -> usize {
+        self.0.len() / 4
+    }
+}
+
+/// What the start block of a program for the check is full of.
+#[derive(Clone, Copy, Debug)]
+pub enum Load {
+    Nesting,
+    Slots,
+    Choices,
+    Calls,
+}
+
+pub const LOADS: [Load; 4] = [Load::Nesting, Load::Slots, Load::Choices, Load::Calls];
+
+/// An accepted program of just so many rows, at least 90.
+pub fn checked(load: Load, rows: usize) -> Vec<u32> {
+    let mut all = Rows::default();
+    all.row(CLASS, 0, 0).row(METHOD, 0, 0);
+    for _ in 0..3 {
+        all.row(PARAMETER, 0, 0);
+    }
+    all.row(BLOCK, 0, 1).row(NULL, 0, 0).row(START, 0, 0);
+    let locals = if matches!(load, Load::Slots) { (rows / 3).min(255) } else { 3 };
+    let mut items = Rows::default();
+    let mut count = 0;
+    let left = rows - all.count() - 1 - locals;
+    while items.count() < left {
+        let left = left - items.count();
+        count += 1;
+        match load {
+            Load::Nesting if left >= 2 => {
+                for _ in 1..left.min(121) {
+                    items.row(ASSIGN, 1, 0);
+                }
+                items.row(SLOT, 1, 0)
+            }
+            Load::Slots | Load::Choices if left >= 4 => {
+                items.row(IF, 0, 0).row(TRUE, 0, 0).row(SLOT, 1, 0).row(SLOT, 2, 0)
+            }
+            Load::Calls if left >= 5 => {
+                items.row(CALL, 0, 3).row(NEW, 1, 0).row(SLOT, 1, 0).row(SLOT, 2, 0).row(NULL, 0, 0)
+            }
+            _ => items.row(SLOT, 1, 0),
+        };
+    }
+    all.row(BLOCK, locals as u32, count);
+    for _ in 0..locals {
+        all.row(LOCAL, 0, 0);
+    }
+    all.0.extend(items.0);
+    all.0
+}
+
+/// What the innermost method of a long run does.
+#[derive(Clone, Copy, Debug)]
+pub enum Work {
+    Calls,
+    Fields,
+    Changes,
+    Objects,
+}
+
+pub const WORKS: [Work; 4] = [Work::Calls, Work::Fields, Work::Changes, Work::Objects];
+
+/// How deep the calls go, each method calling the next one twice.
+const DEPTH: u32 = 26;
+
+/// A run of far more nodes than any fuel. Class 1 is a root, 2 and 3 are its states.
+pub fn long_run(work: Work) -> Vec<u32> {
+    let mut rows = Rows::default();
+    rows.row(CLASS, 1, 0).row(FIELD, 1, 0).row(FIELD, 255, 1);
+    for name in 0..DEPTH {
+        rows.row(METHOD, 1, name).row(EFFECT, 1, 0).row(BLOCK, 0, 3);
+        rows.row(CALL, name + 1, 0).row(SLOT, 0, 0).row(CALL, name + 1, 0).row(SLOT, 0, 0).row(NULL, 0, 0);
+    }
+    rows.row(METHOD, 1, DEPTH).row(EFFECT, 1, 0);
+    match work {
+        Work::Calls => rows.row(BLOCK, 0, 1).row(NULL, 0, 0),
+        Work::Fields => {
+            rows.row(BLOCK, 0, 8);
+            for _ in 0..4 {
+                rows.row(SET, 0, 0).row(SLOT, 0, 0).row(GET, 0, 0).row(SLOT, 0, 0);
+                rows.row(SET, 1, 0).row(SLOT, 0, 0).row(GET, 1, 0).row(SLOT, 0, 0);
+            }
+            rows.0.truncate(rows.0.len() - 16);
+            rows.row(GET, 0, 0).row(SLOT, 0, 0)
+        }
+        Work::Changes => {
+            rows.row(BLOCK, 0, 8);
+            for target in [2, 3, 2, 3, 2, 3, 2, 1] {
+                rows.row(CHANGE, 0, target);
+            }
+            &mut rows
+        }
+        Work::Objects => rows.row(BLOCK, 0, 4).row(NEW, 1, 0).row(NEW, 2, 0).row(NEW, 3, 0).row(NULL, 0, 0),
+    };
+    rows.row(CLASS, 2, 1).row(FIELD, 1, 2).row(CLASS, 2, 1);
+    rows.row(START, 0, 0).row(BLOCK, 0, 1).row(CALL, 0, 0).row(NEW, 1, 0);
+    rows.0
+}
+
+/// The calls of a long run, each of them beside an arm of so many rows that is never taken.
+pub fn untaken(size: usize) -> Vec<u32> {
+    let mut rows = Rows::default();
+    rows.row(CLASS, 0, 0);
+    for name in 0..DEPTH {
+        rows.row(METHOD, 1, name).row(BLOCK, 0, 2).row(CALL, name + 1, 0).row(SLOT, 0, 0);
+        rows.row(CALL, name + 1, 0).row(SLOT, 0, 0);
+    }
+    rows.row(METHOD, 1, DEPTH).row(BLOCK, 0, 1).row(IF, 0, 0).row(TRUE, 0, 0).row(NULL, 0, 0);
+    rows.row(BLOCK, 0, size as u32);
+    for _ in 0..size {
+        rows.row(NULL, 0, 0);
+    }
+    rows.row(START, 0, 0).row(BLOCK, 0, 1).row(CALL, 0, 0).row(NEW, 1, 0);
+    rows.0
+}

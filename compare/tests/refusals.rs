@@ -1,0 +1,99 @@
+//! Runs the examples of docs/REFUSALS.md, on the proved services and on the second implementation.
+
+use second::machine::Outcome;
+
+type Answer = Result<(), (u32, u32)>;
+
+/// An example: the refusal's number from its heading, the program, and the call with its answer.
+struct Example {
+    number: u32,
+    words: String,
+    program: Vec<u8>,
+    call: String,
+}
+
+fn examples() -> Vec<Example> {
+    let page = include_str!("../../docs/REFUSALS.md");
+    let sections = page.split("\n## ").skip(1);
+    sections
+        .map(|section| {
+            let parts: Vec<&str> = section.split("```\n").collect();
+            let [heading, program, call] = parts[..] else { panic!("one example in: {section}") };
+            Example {
+                words: heading.lines().skip(1).collect(),
+                number: heading.split(' ').next().unwrap().parse().unwrap(),
+                program: program.replace(' ', "\t").into_bytes(),
+                call: call.trim().to_string(),
+            }
+        })
+        .collect()
+}
+
+/// The numbers in a call, in order.
+fn numbers(call: &str) -> Vec<u32> {
+    call.split(|letter: char| !letter.is_ascii_digit()).filter_map(|digits| digits.parse().ok()).collect()
+}
+
+fn rows(program: &[u8]) -> Vec<u32> {
+    second::generate::rows_of_text(program).expect("well-formed lines")
+}
+
+#[test]
+fn every_number_has_an_example_and_it_holds() {
+    let examples = examples();
+    let headings: Vec<u32> = examples.iter().map(|example| example.number).collect();
+    assert_eq!(headings, (1..=16).collect::<Vec<u32>>());
+    for example in examples {
+        assert_eq!(example.words, fickle::words(example.number));
+        let given = numbers(&example.call);
+        match example.call.split(' ').next().unwrap() {
+            "read:" => {
+                let proved = fickle::read_rows(&example.program, &mut [0; 64]).map(|_| ());
+                let second = second::text::read_rows(&example.program, &mut [0; 64]).map(|_| ());
+                refused(
+                    &example,
+                    [given[0], given[1]],
+                    proved.map_err(pair),
+                    second.map_err(|no| (no.number, no.line)),
+                );
+            }
+            "check:" => {
+                let rows = rows(&example.program);
+                let second = second::check::check_rows(&rows).map_err(|no| (no.number, no.line));
+                refused(&example, [given[0], given[1]], fickle::check_rows(&rows).map_err(pair), second);
+            }
+            "translate:" => translated(&example, 1_000, [given[0], given[1]]),
+            "translate" => translated(&example, given[0] as usize, [given[1], given[2]]),
+            "run" => stopped(&example, &given),
+            other => panic!("{other}"),
+        }
+    }
+}
+
+fn pair(no: fickle::Refusal) -> (u32, u32) {
+    (no.number, no.line)
+}
+
+fn refused(example: &Example, [number, line]: [u32; 2], proved: Answer, second: Answer) {
+    assert_eq!(number, example.number, "{}", example.call);
+    assert_eq!(proved, Err((number, line)), "{}", example.call);
+    assert_eq!(second, Err((number, line)), "{}", example.call);
+}
+
+fn translated(example: &Example, room: usize, expected: [u32; 2]) {
+    let rows = rows(&example.program);
+    let proved = fickle::translate_rows(&rows, &mut vec![0; room * 4]).map(|_| ()).map_err(pair);
+    let second = second::plain::translate_rows(&rows, &mut vec![0; room * 4]).map(|_| ());
+    refused(example, expected, proved, second.map_err(|no| (no.number, no.line)));
+}
+
+fn stopped(example: &Example, given: &[u32]) {
+    let [fuel, objects, stop] = given[..] else { panic!("{}", example.call) };
+    let rows = rows(&example.program);
+    let room = objects as usize * 18;
+    let proved = fickle::run_rows(&rows, u64::from(fuel), &mut vec![0; room]).expect("accepted");
+    let second = second::machine::run_rows(&rows, u64::from(fuel), &mut vec![0; room]).expect("accepted");
+    assert_eq!(stop, example.number);
+    assert_eq!(proved.outcome, fickle::Outcome::Stop(stop));
+    assert_eq!(second.outcome, Outcome::Stop(stop));
+}

@@ -1,0 +1,31 @@
+-- `console::put_line` meets its contract. Assumes nothing.
+use mathlib.Core.Path.{_∙_, ap}
+use Prim.Native.Nat.{_+_, ℕ}
+use lib.ListN.{length}
+use lib.Seq.{sets}
+use mathlib.Core.List.{List}
+use Rattle.console.proofs.Showing.{line-told}
+use Rattle.console.specs.Told.{answer-text}
+use borrow.Author.Needs.{needs}
+use Rattle.console.proofs.put_line.Statement.{statement}
+use Rattle.console.proofs.put_line.Tie as tie
+
+slice-aggregate-run-rows : tie.Need-slice-aggregate-run-rows
+slice-aggregate-run-rows c = search needs
+
+run-rows-requires : tie.Need-run-rows-requires
+run-rows-requires c κs = search needs
+
+put-answer-requires : tie.Need-put-answer-requires
+put-answer-requires c κs = search needs
+
+same-length : tie.Need-same-length
+same-length c = search needs
+
+returns : tie.Need-returns
+returns c = (let e = ap answer-text (c .before .before .before .before .before .run-rows .ensures .answer) ∙ line-told (c .before .before .before .before .before .before .before .before .before .args .rows .now) in (c .before .before .put-answer .ensures .0 ∙ ap (λ (l : List ℕ). c .before .before .before .before .before .before .before .before .before .args .at + length l) e, c .before .before .put-answer .ensures .1, c .before .before .put-answer .ensures .2 ∙ ap (λ (l : List ℕ). sets (c .before .before .before .before .before .before .before .before .before .args .out .now) (c .before .before .before .before .before .before .before .before .before .args .at) l) e))
+
+pub put-line-spec : {M : Type 1} → statement M
+put-line-spec =
+    tie.close
+    (tie.spec slice-aggregate-run-rows run-rows-requires put-answer-requires same-length returns)

@@ -1,0 +1,223 @@
+// What the two programs print (document 01, "Worked programs").
+use language::Filled;
+use machine::End;
+use machine::Run;
+use machine::Value;
+use runner::Answer;
+ghost use mathlib.Core.Path.{_≡_};
+ghost use mathlib.Core.List.{[], _∷_, _++_};
+ghost use Prim.Native.Nat.{_+_, _≤_};
+ghost use lib.ListN.{length, take};
+ghost use lib.Seq.{sets};
+ghost use Rattle.language.specs.Filling.{answer, buffer};
+ghost use Rattle.text.specs.Texts.{write-rows};
+ghost use Rattle.console.specs.Printed.{refusal-text, counts-text, number-text, run-line, source-rows, held, printed, plain-text, run-lines, translate-output, run-output};
+ghost use Rattle.console.specs.Told.{value-text, end-text, ran-text, answer-text};
+
+// Writes a letter at a place, and answers the place after it.
+fn put_letter(out: &mut [u8], at: usize, letter: u8) -> usize
+    requires { ⌜ at + 1 ≤ length (now out) ⌝ }
+    ensures { λ r. ⌜ (r ≡ at + 1) × (now (out .exit) ≡ sets (now (out .entry)) at (letter ∷ [])) ⌝ }
+{
+    out[at] = letter;
+    at + 1
+}
+
+// Writes a letter and its number. A number has ten digits at most.
+fn put_numbered(out: &mut [u8], at: usize, letter: u8, n: u32) -> usize
+    requires { ⌜ at + 12 ≤ length (now out) ⌝ }
+    ensures { λ r. ⌜ (r ≡ at + length (letter ∷ number-text n)) × (r ≤ at + 12)
+        × (now (out .exit) ≡ sets (now (out .entry)) at (letter ∷ number-text n)) ⌝ }
+{
+    out[at] = letter;
+    text::write_number(out, at + 1, n)
+}
+
+// Writes the line of a refusal.
+pub fn put_refusal(out: &mut [u8], at: usize, number: u32, line: u32) -> usize
+    requires { ⌜ at + 24 ≤ length (now out) ⌝ }
+    ensures { λ r. ⌜ (r ≡ at + length (refusal-text number line)) × (r ≤ at + 24)
+        × (now (out .exit) ≡ sets (now (out .entry)) at (refusal-text number line)) ⌝ }
+{
+    let then = put_numbered(out, at, 33, number);
+    let end = text::write_number(out, then, line);
+    out[end] = 10;
+    end + 1
+}
+
+// Writes a value.
+fn put_value(out: &mut [u8], at: usize, value: Value) -> usize
+    requires { ⌜ at + 12 ≤ length (now out) ⌝ }
+    ensures { λ r. ⌜ (r ≡ at + length (value-text value)) × (r ≤ at + 12)
+        × (now (out .exit) ≡ sets (now (out .entry)) at (value-text value)) ⌝ }
+{
+    match value {
+        Value::Null => put_letter(out, at, 78),
+        Value::Truth(b) => {
+            if b {
+                return put_letter(out, at, 84);
+            }
+            put_letter(out, at, 76)
+        }
+        Value::Object(j) => put_numbered(out, at, 79, j),
+    }
+}
+
+// Writes how a run ended.
+fn put_outcome(out: &mut [u8], at: usize, outcome: End) -> usize
+    requires { ⌜ at + 12 ≤ length (now out) ⌝ }
+    ensures { λ r. ⌜ (r ≡ at + length (end-text outcome)) × (r ≤ at + 12)
+        × (now (out .exit) ≡ sets (now (out .entry)) at (end-text outcome)) ⌝ }
+{
+    match outcome {
+        End::Gave(v) => put_value(out, at, v),
+        End::Raised(n) => put_numbered(out, at, 69, n),
+        End::Stopped(n) => put_numbered(out, at, 33, n),
+    }
+}
+
+// Writes the counts of a run, to the end of its line.
+fn put_counts(out: &mut [u8], at: usize, steps: u32, objects: u32, changes: u32) -> usize
+    requires { ⌜ at + 34 ≤ length (now out) ⌝ }
+    ensures { λ r. ⌜ (r ≡ at + length (counts-text steps objects changes)) × (r ≤ at + 34)
+        × (now (out .exit) ≡ sets (now (out .entry)) at (counts-text steps objects changes)) ⌝ }
+{
+    let first = text::write_number(out, at, steps);
+    let second = text::write_number(out, first, objects);
+    let end = text::write_number(out, second, changes);
+    out[end] = 10;
+    end + 1
+}
+
+// Writes the line of a run.
+pub fn put_run(out: &mut [u8], at: usize, run: Run) -> usize
+    requires { ⌜ at + 46 ≤ length (now out) ⌝ }
+    ensures { λ r. ⌜ (r ≡ at + length (ran-text run)) × (r ≤ at + 46)
+        × (now (out .exit) ≡ sets (now (out .entry)) at (ran-text run)) ⌝ }
+{
+    let outcome = run.outcome;
+    let then = put_outcome(out, at, outcome);
+    put_counts(out, then, run.steps, run.objects, run.changes)
+}
+
+// Writes the line of an answer.
+fn put_answer(out: &mut [u8], at: usize, answer: Answer) -> usize
+    requires { ⌜ at + 46 ≤ length (now out) ⌝ }
+    ensures { λ r. ⌜ (r ≡ at + length (answer-text answer)) × (r ≤ at + 46)
+        × (now (out .exit) ≡ sets (now (out .entry)) at (answer-text answer)) ⌝ }
+{
+    match answer {
+        Answer::Refused(number, line) => put_refusal(out, at, number, line),
+        Answer::Ran(run) => put_run(out, at, run),
+    }
+}
+
+// Runs rows over a store of zeros, and writes the line of the run.
+fn put_line(out: &mut [u8], at: usize, rows: &[u32]) -> usize
+    requires { ⌜ at + 46 ≤ length (now out) ⌝ }
+    ensures { λ r. ⌜ (r ≡ at + length (run-line (now (rows .entry)))) × (r ≤ at + 46)
+        × (now (out .exit) ≡ sets (now (out .entry)) at (run-line (now (rows .entry)))) ⌝ }
+{
+    let mut store = [0u32; 3000];
+    let answer = runner::run_rows(rows, &mut store, 10000);
+    put_answer(out, at, answer)
+}
+
+// Reads an input into rows.
+fn read_source(input: &[u8], rows: &mut [u32]) -> Filled
+    requires { ⌜ length (now rows) ≡ 2720 ⌝ }
+    ensures { λ r. ⌜ (r ≡ answer 4 (source-rows (now (input .entry))) (length (now (rows .entry))))
+        × (now (rows .exit) ≡ buffer (source-rows (now (input .entry))) (now (rows .entry))) ⌝ }
+{
+    if 8192 < input.len() {
+        return Filled::Refused(13, 0);
+    }
+    text::read_rows(input, rows)
+}
+
+// Writes the text of plain rows, or the line of the refusal.
+fn put_rows(plain: &[u32], out: &mut [u8]) -> usize
+    requires { ⌜ length (now out) ≡ 8192 ⌝ }
+    ensures { λ r. ⌜ (take r (now (out .exit)) ≡ printed (held 8192 (write-rows (now (plain .entry)))))
+        × (r ≤ length (now (out .exit))) ⌝ }
+{
+    let written = text::write_text(plain, out);
+    match written {
+        Filled::Done(n) => n,
+        Filled::Refused(number, line) => put_refusal(out, 0, number, line),
+    }
+}
+
+// Translates rows, and writes the text of the plain rows.
+fn translate_source(rows: &[u32], out: &mut [u8]) -> usize
+    requires { ⌜ length (now out) ≡ 8192 ⌝ }
+    ensures { λ r. ⌜ (take r (now (out .exit)) ≡ printed (plain-text (now (rows .entry)))) × (r ≤ length (now (out .exit))) ⌝ }
+{
+    let mut plain = [0u32; 4000];
+    let translated = translator::translate_rows(rows, &mut plain);
+    match translated {
+        Filled::Done(n) => {
+            let end = n * 4;
+            put_rows(&plain[..end], out)
+        }
+        Filled::Refused(number, line) => put_refusal(out, 0, number, line),
+    }
+}
+
+// The translating program's output for an input.
+pub fn translate_input(input: &[u8], out: &mut [u8]) -> usize
+    requires { ⌜ length (now out) ≡ 8192 ⌝ }
+    ensures { λ r. ⌜ (take r (now (out .exit)) ≡ translate-output (now (input .entry))) × (r ≤ length (now (out .exit))) ⌝ }
+{
+    let mut rows = [0u32; 2720];
+    let read = read_source(input, &mut rows);
+    match read {
+        Filled::Done(n) => {
+            let end = n * 4;
+            translate_source(&rows[..end], out)
+        }
+        Filled::Refused(number, line) => put_refusal(out, 0, number, line),
+    }
+}
+
+// Writes the lines of two runs.
+fn put_both(rows: &[u32], plain: &[u32], out: &mut [u8]) -> usize
+    requires { ⌜ length (now out) ≡ 8192 ⌝ }
+    ensures { λ r. ⌜ (take r (now (out .exit)) ≡ run-line (now (rows .entry)) ++ run-line (now (plain .entry)))
+        × (r ≤ length (now (out .exit))) ⌝ }
+{
+    let then = put_line(out, 0, rows);
+    put_line(out, then, plain)
+}
+
+// Translates rows, and writes the lines of their run and of the plain rows' run.
+fn run_source(rows: &[u32], out: &mut [u8]) -> usize
+    requires { ⌜ length (now out) ≡ 8192 ⌝ }
+    ensures { λ r. ⌜ (take r (now (out .exit)) ≡ printed (run-lines (now (rows .entry)))) × (r ≤ length (now (out .exit))) ⌝ }
+{
+    let mut plain = [0u32; 4000];
+    let translated = translator::translate_rows(rows, &mut plain);
+    match translated {
+        Filled::Done(n) => {
+            let end = n * 4;
+            put_both(rows, &plain[..end], out)
+        }
+        Filled::Refused(number, line) => put_refusal(out, 0, number, line),
+    }
+}
+
+// The running program's output for an input.
+pub fn run_input(input: &[u8], out: &mut [u8]) -> usize
+    requires { ⌜ length (now out) ≡ 8192 ⌝ }
+    ensures { λ r. ⌜ (take r (now (out .exit)) ≡ run-output (now (input .entry))) × (r ≤ length (now (out .exit))) ⌝ }
+{
+    let mut rows = [0u32; 2720];
+    let read = read_source(input, &mut rows);
+    match read {
+        Filled::Done(n) => {
+            let end = n * 4;
+            run_source(&rows[..end], out)
+        }
+        Filled::Refused(number, line) => put_refusal(out, 0, number, line),
+    }
+}

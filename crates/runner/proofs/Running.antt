@@ -1,0 +1,82 @@
+-- From the check to the run: what each answer tells of the run of the rows. Assumes nothing.
+use mathlib.Core.Path.{_≡_, refl, sym, ap, _∙_}
+use mathlib.Core.List.{List}
+use Prim.Native.Nat.{ℕ, _%_, _≤_, _<_}
+use native.Mathlib.Omega.{arith}
+use borrow.Author.Tests.{eq-eqb, ne-eqb, le-leb, lt-leb}
+use lib.ListN.{length}
+use Rattle.language.specs.Limits.{most-fuel}
+use Rattle.language.specs.Results as results
+use Rattle.language.specs.Results.{accept, refuse, require}
+use Rattle.language.specs.Tree.{Program}
+use Rattle.language.specs.Verdict.{whole-rows, three-passes, check}
+use Rattle.language.specs.Store as store
+use Rattle.language.specs.Store.{runnable, run-checked, run-of}
+use Rattle.checker.specs.declared.Checked.{Checked}
+use Rattle.checker.specs.declared.Checked.the-variants.{Accepted as Passed, Refused as Failed}
+use Rattle.checker.specs.Answers.{checked-case}
+use Rattle.checker.specs.Passes.{Held}
+use Rattle.checker.proofs.Passing.{checked-accepted}
+use Rattle.machine.specs.declared.Run.{Run}
+use Rattle.machine.specs.Contracts.{PreChecked, PostChecked, Tells, end-told}
+use Rattle.machine.proofs.Accepted.{accepted-of}
+use Rattle.machine.proofs.Checked.{tells-run-of}
+use Rattle.runner.specs.declared.Answer.the-variants.{Refused, Ran}
+use Rattle.runner.specs.Answers.{answer-told, Answers}
+
+module _ (R s : List ℕ) (fuel : ℕ) where
+  -- What is not runnable is refused, and changes nothing.
+  pub refuses : (n l : ℕ) → runnable R fuel ≡ refuse n l → Answers R fuel s s (Refused n l)
+  unfolding run-of
+  refuses n l e =
+      let z : run-of R fuel s ≡ record { answer = store.refused n l; store = s } = ap (λ (c : results.Checked Program). run-checked c fuel s) e in
+      record { answer = ap (λ (x : store.Ran). answer-told (x .answer)) (sym z); store = ap (λ (x : store.Ran). x .store) (sym z) }
+
+  pub uneven : (length R % 4 ≡ 0 → ⊥) → Answers R fuel s s (Refused 1 0)
+  unfolding runnable whole-rows require
+  uneven u = refuses 1 0 (go u)
+    where
+      go : (length R % 4 ≡ 0 → ⊥) → runnable R fuel ≡ refuse 1 0
+      go u = rw (ne-eqb (length R % 4) 0 u)
+
+  pub over : length R % 4 ≡ 0 → most-fuel < fuel → Answers R fuel s s (Refused 2 0)
+  unfolding runnable whole-rows require
+  over w o = refuses 2 0 (go w o)
+    where
+      go : length R % 4 ≡ 0 → most-fuel < fuel → runnable R fuel ≡ refuse 2 0
+      go w o = rw (eq-eqb (length R % 4) 0 w, lt-leb fuel most-fuel o)
+
+  -- Within the fuel limit the check says whether the rows are run.
+  runnable-is : fuel ≤ most-fuel → runnable R fuel ≡ check R
+  unfolding runnable check whole-rows require
+  runnable-is l = rw (le-leb fuel most-fuel l)
+
+  pub not-accepted : (n l : ℕ) (c : Checked) → fuel ≤ most-fuel → c ≡ Failed n l → c ≡ checked-case (check R)
+      → Answers R fuel s s (Refused n l)
+  not-accepted n l c few e f = refuses n l (runnable-is few ∙ go (check R) (sym e ∙ f))
+    where
+      go : (x : results.Checked Program) → Failed n l ≡ checked-case x → x ≡ refuse n l
+      go (accept p) e = let z : _≡_ {A = ℕ} 0 1 = cc in absurd (omega arith)
+      go (refuse i m) e = let a : n ≡ i = cc in let b : l ≡ m = cc in rw (a, b)
+
+-- Rows that the check accepted, with the tables that it filled.
+module _ {R E T A C : List ℕ} (n : ℕ) (c : Checked) (e : c ≡ Passed n)
+    (f : (c ≡ checked-case (check R)) × ((p : Program) → check R ≡ accept p → Held R E T A C p)) where
+  pub checked : PreChecked R E T A
+  checked =
+      let x = checked-accepted (check R) n (sym e ∙ f .0) in
+      let h = f .1 (x .0) (x .1) in
+      record { p = x .0; accepted = accepted-of (x .1) (h .here) (h .tables) }
+
+  pub answers : {s s′ : List ℕ} {fuel : ℕ} {r : Run} → fuel ≤ most-fuel → PostChecked R E T A s s′ fuel r
+      → Answers R fuel s s′ (Ran r)
+  unfolding checked
+  answers {s} {s′} {fuel} {r} few d =
+      let x = checked-accepted (check R) n (sym e ∙ f .0) in
+      let t = tells-run-of R s s′ (x .0) fuel r (x .1) few (d .tells (x .0) (checked .accepted)) in
+      record { answer = told t; store = ap (λ (y : store.Ran). y .store) (sym (t .is)) }
+    where
+      told : Tells (run-of R fuel s) s′ r → Ran r ≡ answer-told (run-of R fuel s .answer)
+      told t =
+          ap (λ o. Ran (record { outcome = o; steps = r .steps; objects = r .objects; changes = r .changes })) (t .told)
+          ∙ ap (λ (y : store.Ran). answer-told (y .answer)) (sym (t .is))

@@ -1,0 +1,38 @@
+-- `runner::run_many` meets its contract. Assumes nothing.
+use Rattle.checker.proofs.Passing.{lent-many}
+use borrow.Author.Needs.{needs}
+use Rattle.runner.proofs.run_many.Statement.{statement}
+use Rattle.runner.proofs.run_many.Tie as tie
+
+slice-aggregate-run-into : tie.Need-slice-aggregate-run-into
+slice-aggregate-run-into c = search needs
+
+slice-aggregate-run-into-2 : tie.Need-slice-aggregate-run-into-2
+slice-aggregate-run-into-2 c = search needs
+
+slice-aggregate-run-into-3 : tie.Need-slice-aggregate-run-into-3
+slice-aggregate-run-into-3 c = search needs
+
+slice-aggregate-run-into-4 : tie.Need-slice-aggregate-run-into-4
+slice-aggregate-run-into-4 c = search needs
+
+run-into-requires : tie.Need-run-into-requires
+run-into-requires c κs = (lent-many (c .before .before .before .before .before .before .before .args .rows .now), c .before .before .before .before .before .before .before .pre)
+
+same-length : tie.Need-same-length
+same-length c = search needs
+
+returns : tie.Need-returns
+returns c = search needs
+
+pub run-many-spec : {M : Type 1} → statement M
+run-many-spec =
+    tie.close
+    (tie.spec
+    slice-aggregate-run-into
+    slice-aggregate-run-into-2
+    slice-aggregate-run-into-3
+    slice-aggregate-run-into-4
+    run-into-requires
+    same-length
+    returns)

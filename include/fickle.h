@@ -1,0 +1,65 @@
+/* Label rules in Fickle II: read, write, check, translate, run (libservices.a, made by `rt staticlib services`).
+ *
+ * Rows are numbers, four to a row: a letter's ASCII code, then its numbers, the rest 0. Lengths count numbers or bytes.
+ * Every input gets an answer. A refusal changes nothing that was lent. What is lent past what was written is unchanged.
+ * Slices that one call is lent must not overlap, but for those that are only read.
+ *
+ * An answer has two words of 32 bits: FICKLE_NUMBER and FICKLE_LINE. Where the first is 0, the second is the result.
+ * Where it is 1 to 13, the call was refused with that number, and the second is the line, 0 where none is to blame:
+ *    1 line      malformed line or row; length not a multiple of 4
+ *    2 limit     over a limit, fuel included
+ *    3 place     record not due here, B without expressions, or end too early
+ *    4 name      class not declared, name twice
+ *    5 kind      class kind, field type, X or order of X wrong
+ *    6 override  heading differs or effect grows
+ *    7 slot      not in scope, or A on 0
+ *    8 member    no such field or method, or argument count
+ *    9 type      a type is not what a rule needs
+ *   10 effect    body exceeds its X lines
+ *   11 change    R's class or root is wrong
+ *   12 reserved  field name 254 or 255 given to the translator
+ *   13 room      lent output too short
+ * A run may end without a value; its objects and counts are then kept:
+ *   14 spent     no fuel to enter a node
+ *   15 deep      a call with 64 calls active
+ *   16 full      W with the store used up
+ *   FICKLE_EXCEPTION  the second word is the exception: 1 for a null object, 2 for a wrong class
+ */
+#ifndef FICKLE_H
+#define FICKLE_H
+
+#include <stddef.h>
+#include <stdint.h>
+
+#ifdef __cplusplus
+extern "C" {
+#endif
+
+#define FICKLE_NUMBER(answer) ((uint32_t)((answer) >> 32))
+#define FICKLE_LINE(answer) ((uint32_t)(answer))
+#define FICKLE_EXCEPTION 1000u
+
+/* Reads a text into rows. The result is how many rows were written. Refusals 1, 2, 13. */
+uint64_t fickle_read_rows(const uint8_t *text, size_t text_length, uint32_t *rows, size_t rows_length);
+
+/* Writes rows as text. The result is how many bytes were written. Refusals 1, 2, 13. */
+uint64_t fickle_write_text(const uint32_t *rows, size_t rows_length, uint8_t *text, size_t text_length);
+
+/* Checks a program. The result is 0: accepted. Refusals 1 to 11. */
+uint64_t fickle_check_rows(const uint32_t *rows, size_t rows_length);
+
+/* Translates a program into plain rows. The result is how many rows were written. Refusals 1 to 13. */
+uint64_t fickle_translate_rows(const uint32_t *rows, size_t rows_length, uint32_t *plain, size_t plain_length);
+
+/* Runs a program. An object is 18 numbers of the store: its class, then its fields; a value is 0 null, 1 false, 2 true,
+ * or 2 + j for the j-th object made. The result is the value's number. Fuel is at most 100,000,000.
+ * Where the run was not refused, the counts of nodes entered, objects made and changes of class are stored; a refusal,
+ * 1 to 11, leaves them as they were. */
+uint64_t fickle_run_rows(const uint32_t *rows, size_t rows_length, uint32_t *store, size_t store_length, uint64_t fuel,
+                         uint32_t *steps, uint32_t *objects, uint32_t *changes);
+
+#ifdef __cplusplus
+}
+#endif
+
+#endif

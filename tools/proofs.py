@@ -1,0 +1,195 @@
+#!/usr/bin/env python3
+"""Writes and maintains proof files.
+
+  tools/proofs.py skel CRATE              write the printed skeleton of each function that has no proof yet
+  tools/proofs.py paths CRATE FN [NEED]   what each need of a function can name, nearest first
+  tools/proofs.py expand CRATE FN...      turn @thing into the path `c .before … .thing`, in place
+  tools/proofs.py short CRATE FN...       name long paths once per need, by `let`
+
+@S is the start of the function: @S .args .x, @S .pre, @S .good. Paths are read from the records that
+`rt dev CRATE --generated DIR` writes; DIR is outside the repository. Run from the repository's root.
+In a cycle FN is the folder's name, +a+b, or one of its members; its needs are a-returns and so on.
+"""
+import os, re, subprocess, sys, hashlib, glob
+
+def gen_dir(crate):
+    h = hashlib.sha1(os.getcwd().encode()).hexdigest()[:8]
+    return f'/tmp/generated-{h}-{crate}'
+
+def generate(crate, force=False):
+    d = gen_dir(crate)
+    stamp = d + '.stamp'
+    src = subprocess.run(f'cat crates/{crate}/src/*.rt crates/{crate}/specs/*.antt | sha1sum', shell=True, capture_output=True, text=True).stdout
+    if not force and os.path.exists(stamp) and open(stamp).read() == src and os.path.isdir(d):
+        return d
+    subprocess.run(['rm', '-rf', d])
+    subprocess.run(['rt', 'dev', crate, '--generated', d], capture_output=True, text=True)
+    open(stamp, 'w').write(src)
+    return d
+
+def proof_dir(crate, fn):
+    if os.path.isdir(f'crates/{crate}/proofs/{fn}'):
+        return fn
+    for x in sorted(os.listdir(f'crates/{crate}/proofs')):
+        if x.startswith('+') and fn in x[1:].split('+'):
+            return x
+    return fn
+
+class Records:
+    """The records of one generated Lts file."""
+    def __init__(self, path):
+        s = open(path).read()
+        self.fields, self.need = {}, {}
+        for x in re.finditer(r'(?m)^( *)pub record (\S+) : Type 0 where\n((?:\1 +.*\n|\n)+)', s):
+            name = x.group(2)
+            if name.endswith('·own'):
+                continue
+            ind = re.match(r' *', x.group(3)).group(0)
+            self.fields[name] = re.findall(r'(?m)^' + ind + r'pub (\S+) :\s+(\S+)', x.group(3))
+        for x in re.finditer(r'(?m)^ *(?:abbrev )?(?:pub )?(Need-\S+) =\s+\(c : (\S+)\)', s):
+            self.need[x.group(1)] = x.group(2)
+
+    def chain(self, need):
+        place, out, k = self.need[need], [], 0
+        while True:
+            fs = dict(self.fields[place])
+            out += [(f, k) for f in fs if f != 'before']
+            if 'before' not in fs:
+                out.append(('S', k))
+                return out
+            place, k = fs['before'], k + 1
+
+cache = {}
+def records(crate, fn, member=None):
+    d = generate(crate)
+    root = f'{d}/Rattle.{crate}.proofs/proofs/{fn}'
+    path = f'{root}/Lts-{member}.antt' if member else f'{root}/Lts.antt'
+    if path not in cache:
+        cache[path] = Records(path)
+    return cache[path]
+
+def members(fn):
+    return fn[1:].split('+') if fn.startswith('+') else []
+
+def find_need(crate, fn, name):
+    """The records and the name of the need that a definition answers."""
+    if not fn.startswith('+'):
+        r = records(crate, fn)
+        return r, 'Need-' + name
+    for m in sorted(members(fn), key=len, reverse=True):
+        d = m.replace('_', '-')
+        if name.startswith(d + '-'):
+            r = records(crate, fn, m if os.path.exists(f'{generate(crate)}/Rattle.{crate}.proofs/proofs/{fn}/Lts-{m}.antt') else None)
+            n = 'Need-' + name[len(d) + 1:]
+            if n in r.need:
+                return r, n
+    # a loop or recursion of one function
+    r = records(crate, fn, members(fn)[0]) if len(members(fn)) == 1 else None
+    if r and 'Need-' + name in r.need:
+        return r, 'Need-' + name
+    return None, None
+
+def expand_text(crate, fn, text):
+    out, name = [], None
+    for block in re.split(r'(\n\n+)', text):
+        if '@' not in block:
+            out.append(block)
+            continue
+        m = re.search(r'(?m)^(?:pub )?(\S+) :', block)
+        name = m.group(1) if m else None
+        rec, need = find_need(crate, fn, name)
+        if rec is None or need not in rec.need:
+            sys.exit(f'{fn}: no need for {name}')
+        near = {}
+        for f, k in rec.chain(need):
+            near.setdefault(f, k)
+        own = rec.chain(need)[0][0]
+        def sub(x):
+            f = x.group(1)
+            if f == 'own':
+                f = own
+            if f == 'S':
+                return 'c' + ' .before' * near['S']
+            if f not in near:
+                sys.exit(f'{fn} {name}: no {f} among {" ".join(near)}')
+            return 'c' + ' .before' * near[f] + ' .' + f
+        out.append(re.sub(r'@([A-Za-z][A-Za-z0-9-]*)', sub, block))
+    return ''.join(out)
+
+def proof_files(crate, fn):
+    d = f'crates/{crate}/proofs/{fn}'
+    return [p for p in [f'{d}/Proof.antt'] + sorted(glob.glob(glob.escape(f'{d}/Proof') + '/*.antt')) if os.path.exists(p)]
+
+def expand(crate, fns):
+    for fn in fns:
+        fn = proof_dir(crate, fn)
+        for p in proof_files(crate, fn):
+            t = open(p).read()
+            if '@' in t:
+                open(p, 'w').write(expand_text(crate, fn, t))
+
+def paths(crate, fn, only=None):
+    fn = proof_dir(crate, fn)
+    ms = members(fn)
+    todo = [(m, records(crate, fn, m)) for m in ms] if ms and os.path.exists(f'{generate(crate)}/Rattle.{crate}.proofs/proofs/{fn}/Lts-{ms[0]}.antt') else [('', records(crate, fn))]
+    for m, r in todo:
+        for n in r.need:
+            full = (m.replace('_', '-') + '-' if m else '') + n[5:]
+            if only and only != full:
+                continue
+            print(full + ':', ' '.join(dict.fromkeys(f for f, k in r.chain(n))))
+
+def skel(crate):
+    r = subprocess.run(['rt', 'dev', crate, '--allow-holes'], capture_output=True, text=True, env={**os.environ, 'RT_CUT': '0'})
+    out = r.stdout + r.stderr
+    for m in re.finditer(r'(?m)^help: write (\S+/proofs/(\S+)/Proof\.antt) with these lines.*\n((?:    .*\n|\s*\n)+)', out):
+        path, fn, body = m.groups()
+        if os.path.exists(path):
+            continue
+        text = '\n'.join(l[4:] for l in body.rstrip().split('\n')) + '\n'
+        os.makedirs(os.path.dirname(path), exist_ok=True)
+        open(path, 'w').write(text)
+        print('wrote', path)
+    for l in out.split('\n'):
+        if 'no proof' in l and 'help: prove it first' in l:
+            print(l[:160])
+
+def short(crate, fns, least=4):
+    """Paths used in a need are named once: `let thing = c .before … .thing in`."""
+    for fn in fns:
+        fn = proof_dir(crate, fn)
+        for p in proof_files(crate, fn):
+            t = open(p).read()
+            blocks = re.split(r'(\n\n+)', t)
+            for i, b in enumerate(blocks):
+                m = re.search(r'(?ms)^(?:pub )?(\S+) :.*?\n(\1 (?:t )?c(?: κs)? =) (.*)$', b)
+                if not m or 'let ' in m.group(3)[:5]:
+                    continue
+                body = m.group(3)
+                uses = {}
+                for x in re.finditer(r'c((?: \.before){' + str(least) + r',})(?: \.(args|pre|good|fits|κs)\b| \.([A-Za-z][A-Za-z0-9-]*))', body):
+                    uses.setdefault((x.group(1), 'start' if x.group(2) else x.group(3)), 0)
+                    uses[(x.group(1), 'start' if x.group(2) else x.group(3))] += 1
+                if not uses:
+                    continue
+                names, lets = {}, []
+                for (path, what), n in sorted(uses.items(), key=lambda u: -len(u[0][0])):
+                    name = what if what == 'start' else 'the-' + what
+                    while name in names.values():
+                        name += '′'
+                    names[(path, what)] = name
+                    lets.append(f'let {name} = c{path}' + ('' if what == 'start' else f' .{what}') + ' in')
+                def sub(x):
+                    if x.group(2):
+                        return names[(x.group(1), 'start')] + ' .' + x.group(2)
+                    return names[(x.group(1), x.group(3))]
+                body = re.sub(r'c((?: \.before){' + str(least) + r',})(?: \.(args|pre|good|fits|κs)\b| \.([A-Za-z][A-Za-z0-9-]*))', sub, body)
+                blocks[i] = b[:m.start(3)] + '\n    ' + '\n    '.join(lets) + '\n    ' + body
+            open(p, 'w').write(''.join(blocks))
+
+if __name__ == '__main__':
+    a = sys.argv[1:]
+    if len(a) < 2:
+        sys.exit(__doc__)
+    {'skel': lambda: skel(a[1]), 'paths': lambda: paths(a[1], a[2], a[3] if len(a) > 3 else None),
+     'expand': lambda: expand(a[1], a[2:]), 'short': lambda: short(a[1], a[2:])}[a[0]]()
