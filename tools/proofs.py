@@ -10,11 +10,18 @@
 `rt dev CRATE --generated DIR` writes; DIR is outside the repository. Run from the repository's root.
 In a cycle FN is the folder's name, +a+b, or one of its members; its needs are a-returns and so on.
 """
-import os, re, subprocess, sys, hashlib, glob
+import glob
+import hashlib
+import os
+import re
+import subprocess
+import sys
+import tempfile
+
 
 def gen_dir(crate):
-    h = hashlib.sha1(os.getcwd().encode()).hexdigest()[:8]
-    return f'/tmp/generated-{h}-{crate}'
+    here = hashlib.sha1(os.getcwd().encode()).hexdigest()[:8]
+    return os.path.join(tempfile.gettempdir(), f'generated-{here}-{crate}')
 
 def generate(crate, force=False):
     d = gen_dir(crate)
