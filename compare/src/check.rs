@@ -33,6 +33,9 @@ fn verdict(rows: &[u32], answers: &mut Answers) -> Result<(), String> {
     if proved != second {
         return Err(format!("check_rows of {rows:?}: {proved:?}, second {second:?}"));
     }
+    if proved.is_ok() {
+        answers.program(rows);
+    }
     count(proved, answers);
     Ok(())
 }

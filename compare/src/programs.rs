@@ -42,7 +42,7 @@ fn both(
     }
     let number = proved.strip_prefix(b"!\t").map(|rest| rest.split(|byte| !byte.is_ascii_digit()).next());
     let number = number.flatten().and_then(|digits| String::from_utf8_lossy(digits).parse().ok());
-    answers[number.unwrap_or(0)] += 1;
+    answers.number(number.unwrap_or(0));
     Ok(())
 }
 

@@ -6,8 +6,37 @@ use second::random::Random;
 /// What a service answers and leaves in the buffer it was lent.
 pub type Left<T> = (Result<usize, (u32, u32)>, Vec<T>);
 
-/// How often each answer came: place 0 for a result, 1 to 16 a refusal or stop, 17 and 18 exceptions 1 and 2.
-pub type Answers = [u64; 19];
+/// What was reached, and how often.
+pub struct Answers {
+    /// Place 0 for a result, 1 to 16 a refusal or stop, 17 and 18 exceptions 1 and 2.
+    pub numbers: [u64; 19],
+    /// The letters of accepted programs, by their codes.
+    pub letters: [u64; 128],
+}
+
+impl Answers {
+    pub fn new() -> Answers {
+        Answers { numbers: [0; 19], letters: [0; 128] }
+    }
+
+    /// Counts an answer by its number.
+    pub fn number(&mut self, number: usize) {
+        self.numbers[number] += 1;
+    }
+
+    /// Counts the letters of an accepted program.
+    pub fn program(&mut self, rows: &[u32]) {
+        for row in rows.chunks(4) {
+            self.letters[row[0] as usize] += 1;
+        }
+    }
+}
+
+impl Default for Answers {
+    fn default() -> Answers {
+        Answers::new()
+    }
+}
 
 /// Reads a generated text into a buffer, both ways; tells the difference if there is one.
 pub fn reading(random: &mut Random, answers: &mut Answers) -> Result<(), String> {
@@ -65,5 +94,5 @@ pub fn same<T: PartialEq>(
 
 /// Counts an answer.
 pub fn count<T>(answer: Result<T, (u32, u32)>, answers: &mut Answers) {
-    answers[answer.map_or_else(|(number, _)| number as usize, |_| 0)] += 1;
+    answers.number(answer.map_or_else(|(number, _)| number as usize, |_| 0));
 }

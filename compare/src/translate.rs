@@ -20,6 +20,9 @@ fn into(rows: &[u32], random: &mut Random, answers: &mut Answers) -> Result<(), 
     let proved = left(&plain, |plain| fickle::translate_rows(rows, plain).map_err(|no| (no.number, no.line)));
     let second =
         left(&plain, |plain| second::plain::translate_rows(rows, plain).map_err(|no| (no.number, no.line)));
+    if proved.0.is_ok() {
+        answers.program(rows);
+    }
     same("translate_rows", &format!("{rows:?}"), proved, second, answers)
 }
 
