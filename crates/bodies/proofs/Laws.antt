@@ -98,11 +98,6 @@ run-more {R} {letter} {from} {n} r i l e =
 pub run-done : {R : List ℕ} {letter from n : ℕ} → Run R letter from n → (i : ℕ) → i ≤ n → (getD R ((from + i) * 4) 0 ≡ letter → ⊥) → i ≡ n
 run-done {n = n} r i l e = ⊎-elim (λ h. absurd (e (r .each i h))) (λ h. h) (less-or-same i n l)
 
--- what fits
-pub fit-class : (A : List ℕ) (c n : ℕ) (b : Bool) → (n ≡ 255 → ⊥) → b ≡ is-below A c n → b ≡ is-fitting A (Class c) n
-unfolding is-fitting
-fit-class A c n b f e = rw (ne-eqb n 255 f) e
-
 pub not-yes : (b : Bool) → not b ≡ true → b ≡ false
 not-yes true e = sym e
 not-yes false e = refl
@@ -112,6 +107,7 @@ not-no true e = refl
 not-no false e = sym e
 
 -- what fits, by the case
+-- what fits
 pub fit-bool : (A : List ℕ) (t : Typing) (n : ℕ) → t ≡ bool-case → eqb n 255 ≡ is-fitting A t n
 unfolding is-fitting
 fit-bool A t n e = rw e

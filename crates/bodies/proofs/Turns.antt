@@ -212,7 +212,3 @@ bind-accepted q k a e = rw e
 pub looks-kept : (W : World) {S S′ C C′ : List ℕ} {from to top : ℕ} (e : Expr) (γ : Environment) (at : ℕ) → Kept S S′ C C′ from to top → at + size e ≤ from
     → LooksUp W C e γ at → LooksUp W C′ e γ at
 looks-kept W {C = C} {C′} e γ at k l h = looks-frame W C C′ e γ at (λ i u v. k .before i (omega arith)) h
-
-pub looks-kept-all : (W : World) {S S′ C C′ : List ℕ} {from to top : ℕ} (es : Exprs) (γ : Environment) (at : ℕ) → Kept S S′ C C′ from to top → at + sizes es ≤ from
-    → LooksUpAll W C es γ at → LooksUpAll W C′ es γ at
-looks-kept-all W {C = C} {C′} es γ at k l h = looks-frame-all W C C′ es γ at (λ i u v. k .before i (omega arith)) h

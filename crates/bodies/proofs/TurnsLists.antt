@@ -86,10 +86,6 @@ pub join-none : (a : ℕ) → join a 0 ≡ a
 unfolding join
 join-none a = or-zero-r a
 
-pub none-join : (a : ℕ) → join 0 a ≡ a
-unfolding join
-none-join a = or-zero-l a
-
 pub apply-none : (W : World) (t : ExprType) → apply-expr W 0 t ≡ t
 unfolding apply-class
 apply-none W (known bool) = refl

@@ -134,9 +134,6 @@ module _ {R T : List ℕ} {r base first count : ℕ} (w : MethodReady R T r base
       subst (λ (i : ℕ). Working (w .classed .classes) (w .k) (set T i (r + 1)) (w .fields) (w .rows) (with-row (w .method .name) r (own-or (w .own) (method-row (w .classed .classes) (w .super))))) e
       (working-method (w .working) (w .method .name) r (w .at .name))
 
-  pub method-index : (r * 4 + 3 < length R) × (length R ≤ 240000) × (getD R (r * 4 + 2) 0 ≤ 255) × (base + 576 ≤ length T)
-  method-index = (w .at .line .within, w .classed .short, omega (arith, w .at .line .second, w .at .name), omega (arith, working-index (w .working) 575 (omega arith), w .base-is))
-
 -- ---- the methods of a class
 
 -- a heading that passed gives a new name

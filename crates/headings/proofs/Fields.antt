@@ -47,9 +47,6 @@ module _ {R T : List ℕ} {r base count : ℕ} (w : FieldReady R T r base count)
   unfolding fault-of-field
   fault-is = rw (count-entry, type-is, place-entry, stored-is (place (w .field .name) (w .fields)))
 
-  pub field-index : (x : ℕ) → x < 576 → base + x < length T
-  field-index x l = omega (arith, working-index (w .working) x l, w .base-is)
-
   pub field-full : 17 ≤ getD T (base + 515) 0 → 2 ≡ fault-of-field (w .P) (w .fields) (w .field)
   field-full l = sym (fault-is ∙ rw (le-ltb (getD T (base + 515) 0) 17 l))
 

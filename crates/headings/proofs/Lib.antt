@@ -9,4 +9,3 @@ pub mod Entering
 pub mod Classes
 pub mod Passing
 pub mod Whole
-pub mod Example

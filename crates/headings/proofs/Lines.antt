@@ -102,11 +102,6 @@ module _ {R E : List ℕ} where
     refl,
   )
 
--- a body that is encoded opens with its B line
-pub block-opens : {R E : List ℕ} {r : ℕ} (ts : List DeclaredType) (es : Exprs) → Encoded R E (block ts es) r → NodeAt R E r B-block (length ts) (count es) (size (block ts es))
-unfolding Encoded size
-block-opens ts es h = h .0
-
 -- ---- skipping a method, a class
 
 module _ {R E : List ℕ} {r : ℕ} (w : MethodHere R E r) where

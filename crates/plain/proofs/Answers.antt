@@ -163,9 +163,6 @@ not-zero n zero h = absurd (h refl)
 not-zero n (suc l) h = refl
 
 module _ {R E T C : List ℕ} where
-  pub accepted-checked : SomeAccepted R E T C → SomeChecked R E T
-  accepted-checked x = record { p = x .p; A = x .A; is = x .checked }
-
   pub accepted-stand : SomeAccepted R E T C → SomeClassesStand R E 0
   accepted-stand x = record { k = 1; cs = x .p .classes; stand = all-stand (x .checked .rows) }
 

@@ -4,7 +4,7 @@ use mathlib.Core.List.{List, [], _∷_, _++_}
 use Prim.Native.Nat.{ℕ, suc, _+_, _-_, _*_, _≤_, _<_}
 use native.Mathlib.Omega.{arith}
 use lib.ListN.{length, getD}
-use Rattle.plain.proofs.Answers.{accepted-checked, accepted-stand, answer-limits, answer-names, answer-some, answer-plain}
+use Rattle.plain.proofs.Answers.{accepted-stand, answer-limits, answer-names, answer-some, answer-plain}
 use borrow.Author.Needs.{needs}
 use Rattle.plain.proofs.translate_checked.Statement.{statement}
 use Rattle.plain.proofs.translate_checked.Tie as tie
