@@ -20,9 +20,9 @@ use Rattle.language.specs.Evaluation.{Value as Meaning, null, truth, State, Out
 use Rattle.language.specs.Store.{value-number, value-of-number, heap-of-numbers}
 use Rattle.machine.specs.declared.Value.{Value}
 use Rattle.machine.specs.declared.Value.the-variants.{Null, Truth, Object}
-use Rattle.machine.specs.declared.Outcome.{Outcome}
-use Rattle.machine.specs.declared.Outcome.the-variants.{Gave, Raised, Stopped, Stuck}
-use Rattle.machine.specs.declared.Counts.{Counts}
+use Rattle.machine.specs.Machine.{Outcome}
+use Rattle.machine.specs.Machine.{Gave, Raised, Stopped, Stuck}
+use Rattle.machine.specs.Machine.{Counts}
 use Rattle.machine.specs.declared.Target.the-variants.{Body, Fails}
 use Rattle.machine.specs.Machine.{value, Small, SmallOutcome, bare, told, view, Sound, Linked, absent, present, MethodAt}
 use Rattle.machine.specs.Contracts.{Stored, Acts, answer, PreObject, PostLoad, PostSave, PostCast, Below, PreFind, PostFind, SomeLetter, LetterFrom}

@@ -19,11 +19,11 @@ use Rattle.language.specs.Evaluation.{Value as Meaning, State, Out, eval-all}
 use Rattle.language.specs.Store.{capacity}
 use Rattle.machine.specs.declared.Value.{Value}
 use Rattle.machine.specs.declared.Value.the-variants.{Null}
-use Rattle.machine.specs.declared.Outcome.{Outcome}
-use Rattle.machine.specs.declared.Outcome.the-variants.{Gave, Raised, Stopped, Stuck}
-use Rattle.machine.specs.declared.Counts.{Counts}
+use Rattle.machine.specs.Machine.{Outcome}
+use Rattle.machine.specs.Machine.{Gave, Raised, Stopped, Stuck}
+use Rattle.machine.specs.Machine.{Counts}
 use Rattle.machine.specs.declared.Place.{Place}
-use Rattle.machine.specs.declared.Answer.{Answer}
+use Rattle.machine.specs.Contracts.{Answer}
 use Rattle.machine.specs.Machine.{value, Small, bare, told, told-all, slots-of, state, frame-of, WithinAll}
 use Rattle.machine.specs.Contracts
 use Rattle.machine.specs.Contracts.{answer, Ready, Kept, PostEval, PreArgs, PostArgs, DoneAll, evaluated, evaluated-all}

@@ -23,11 +23,11 @@ use Rattle.language.specs.Encoded.{Encoded, EncodedAll}
 use Rattle.language.specs.Evaluation.{Value as Meaning, null, object, State, Out, Limits, eval, with-limits, eval-all, do-call, call-at, with-frame, Object as Thing}
 use Rattle.language.specs.Store.{capacity}
 use Rattle.machine.specs.declared.Value.{Value}
-use Rattle.machine.specs.declared.Outcome.{Outcome}
-use Rattle.machine.specs.declared.Outcome.the-variants.{Gave, Raised, Stopped, Stuck}
-use Rattle.machine.specs.declared.Counts.{Counts}
+use Rattle.machine.specs.Machine.{Outcome}
+use Rattle.machine.specs.Machine.{Gave, Raised, Stopped, Stuck}
+use Rattle.machine.specs.Machine.{Counts}
 use Rattle.machine.specs.declared.Place.{Place}
-use Rattle.machine.specs.declared.Answer.{Answer}
+use Rattle.machine.specs.Contracts.{Answer}
 use Rattle.machine.specs.Machine.{value, bare, told, told-all, slots-of, this-of, inside, state, frame-of, Within, WithinAll}
 use Rattle.machine.specs.Contracts
 use Rattle.machine.specs.Contracts.{answer, Ready, Kept, PreEval, PreEntered, PostEval, PostNode, PreArgs, PreFind, PostFind, Found, NotFound, PostArgs, DoneAll, calls-of, evaluated, evaluated-all}

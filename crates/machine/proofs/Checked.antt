@@ -17,8 +17,8 @@ use Rattle.theory.specs.Accepts.{check-accepts}
 use Rattle.theory.specs.Members.{well-formed-never-stuck, accepted-run}
 use Rattle.machine.specs.declared.Value.{Value}
 use Rattle.machine.specs.declared.Value.the-variants.{Truth, Object}
-use Rattle.machine.specs.declared.Outcome.{Outcome}
-use Rattle.machine.specs.declared.Outcome.the-variants.{Gave, Raised, Stopped, Stuck}
+use Rattle.machine.specs.Machine.{Outcome}
+use Rattle.machine.specs.Machine.{Gave, Raised, Stopped, Stuck}
 use Rattle.machine.specs.declared.End.{End}
 use Rattle.machine.specs.declared.End.the-variants.{Gave as EndGave, Raised as EndRaised, Stopped as EndStopped}
 use Rattle.machine.specs.declared.Ran.{Ran}

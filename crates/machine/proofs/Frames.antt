@@ -11,7 +11,7 @@ use Rattle.language.specs.Frames.{frame, at-slot, with-slot}
 use Rattle.language.specs.Evaluation.{Value as Meaning}
 use Rattle.language.specs.Store.{value-number, value-of-number}
 use Rattle.machine.specs.declared.Value.{Value}
-use Rattle.machine.specs.declared.Outcome.the-variants.{Gave, Stuck}
+use Rattle.machine.specs.Machine.{Gave, Stuck}
 use Rattle.machine.specs.declared.Place.{Place}
 use Rattle.machine.specs.Machine.{value, Small, bare, slots-of, frame-of, this-of}
 use Rattle.machine.specs.Contracts.{PostRead, Wrote}

@@ -19,8 +19,8 @@ use Rattle.language.specs.Evaluation.{Value as Meaning, object, Object as Thing
 use Rattle.language.specs.Store.{value-of-number, heap-of-numbers, capacity}
 use Rattle.machine.specs.declared.Value.{Value}
 use Rattle.machine.specs.declared.Value.the-variants.{Object}
-use Rattle.machine.specs.declared.Outcome.the-variants.{Gave, Stopped, Stuck}
-use Rattle.machine.specs.declared.Counts.{Counts}
+use Rattle.machine.specs.Machine.{Gave, Stopped, Stuck}
+use Rattle.machine.specs.Machine.{Counts}
 use Rattle.machine.specs.Machine.{value, Small, bare, Holds, Sound}
 use Rattle.machine.specs.Contracts.{Stored, answer, first-of, Fill, Filled, PreNew, PostNew, PostChange}
 use Rattle.machine.proofs.Value.{the-type}

@@ -16,11 +16,11 @@ use Rattle.language.specs.Encoded.{Encoded}
 use Rattle.language.specs.Evaluation.{Value as Meaning, State, Out, need, is-null-value, do-change}
 use Rattle.machine.specs.declared.Value.{Value}
 use Rattle.machine.specs.declared.Value.the-variants.{Null, Truth}
-use Rattle.machine.specs.declared.Outcome.{Outcome}
-use Rattle.machine.specs.declared.Outcome.the-variants.{Gave, Raised, Stopped, Stuck}
-use Rattle.machine.specs.declared.Counts.{Counts}
+use Rattle.machine.specs.Machine.{Outcome}
+use Rattle.machine.specs.Machine.{Gave, Raised, Stopped, Stuck}
+use Rattle.machine.specs.Machine.{Counts}
 use Rattle.machine.specs.declared.Place.{Place}
-use Rattle.machine.specs.declared.Answer.{Answer}
+use Rattle.machine.specs.Contracts.{Answer}
 use Rattle.machine.specs.Machine.{value, Small, SmallOutcome, bare, told, state, frame-of, Within, inside, after}
 use Rattle.machine.specs.Contracts
 use Rattle.machine.specs.Contracts.{Acts, answer, Ready, Done, PreLeaf, PostLeaf, PostRead, PostNew, PreNew, PreChange, PostChange, no-child, PreApply, PostApply, PostLoad, PostCast, PreObject, PreCast, Wrote}

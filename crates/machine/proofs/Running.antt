@@ -11,11 +11,11 @@ use Rattle.language.specs.World.{World}
 use Rattle.language.specs.Program.{world}
 use Rattle.language.specs.Evaluation.{Value as Meaning, State, Out, with-limits, run}
 use Rattle.language.specs.Store.{value-number, value-of-number, heap-of-numbers, heap-numbers, object-numbers, capacity, stored, finish, finished, ran}
-use Rattle.machine.specs.declared.Outcome.{Outcome}
-use Rattle.machine.specs.declared.Outcome.the-variants.{Gave, Raised, Stopped, Stuck}
-use Rattle.machine.specs.declared.Counts.{Counts}
+use Rattle.machine.specs.Machine.{Outcome}
+use Rattle.machine.specs.Machine.{Gave, Raised, Stopped, Stuck}
+use Rattle.machine.specs.Machine.{Counts}
 use Rattle.machine.specs.declared.Place.{Place}
-use Rattle.machine.specs.declared.Answer.{Answer}
+use Rattle.machine.specs.Contracts.{Answer}
 use Rattle.machine.specs.Machine.{told, bare, state, frame-of, slots-of, Holds, Sound}
 use Rattle.machine.specs.Contracts
 use Rattle.machine.specs.Contracts.{Ready, Done, PreEval, PostEval, PreRun, PostRun, Runs, outcome-of, evaluated}
