@@ -81,7 +81,7 @@ module _ {l : List ℕ} {k : ℕ} (x : ℕ) {q : Place} (room : q .base + q .sco
       go : (n : ℕ) → n ≡ 0 → frame-of l q ≡ with-slot (frame-of l q) 0 (value (decoded x))
       go n e = rw c
 
-  pub write-this : k ≡ 0 → (q .calls ≡ 0 → ⊥) → Wrote l (set l (q .base) x) k v q
+  pub write-this : k ≡ 0 → (q .calls ≡ 0 → ⊥) → Wrote l (set l (q .base) x) k (decoded x) q
   unfolding frame-of
   write-this z c = record {
     long = length-set l (q .base) x;
@@ -101,7 +101,7 @@ module _ {l : List ℕ} {k : ℕ} (x : ℕ) {q : Place} (room : q .base + q .sco
           let f = slots-ext (set l (q .base) x) l (q .base + 1) (q .scope) (length-set l (q .base) x) (λ i h. getD-set-other l (q .base) (q .base + 1 + i) x 0 (λ p. omega arith)) in
           rw (a, b, d, f)
 
-  pub write-at : (k ≡ 0 → ⊥) → k ≤ q .scope → Wrote l (set l (q .base + k) x) k v q
+  pub write-at : (k ≡ 0 → ⊥) → k ≤ q .scope → Wrote l (set l (q .base + k) x) k (decoded x) q
   unfolding frame-of slots-of
   write-at z h = record {
     long = length-set l (q .base + k) x;

@@ -78,7 +78,7 @@ cast-result : tie.Need-cast-result
 cast-result c = omega (arith, c .shared-slice-known5 .given ((c .before .before .before .before .before .before .before .v .given .0 .0) * 18 + getD (c .before .before .before .before .before .before .before .before .before .before .before .before .before .before .args .tables .now) (getD (c .before .before .before .before .before .before .before .before .before .before .before .before .before .before .args .store .now) ((c .before .before .before .before .before .before .before .v .given .0 .0) * 18) 0 * 576 + c .before .before .before .before .before .before .before .before .before .before .before .before .before .before .args .f) 0))
 
 returns-5 : tie.Need-returns-5
-returns-5 c = load-at (c .before .before .before .before .before .before .before .before .before .before .before .before .before .before .args .n) (c .before .before .before .before .before .before .before .before .before .before .before .decode .ensures) (c .before .before .before .before .before .before .before .v .given .0 .0) (c .before .before .before .before .before .before .before .v .given .1) (c .before .before .before .before .if2 .left) (c .before .before .before .before .before .before .before .before .before .before .before .before .before .before .pre .1) (c .before .if3 .left) (c .shared-slice-known5 .given ((c .before .before .before .before .before .before .before .v .given .0 .0) * 18 + getD (c .before .before .before .before .before .before .before .before .before .before .before .before .before .before .args .tables .now) (getD (c .before .before .before .before .before .before .before .before .before .before .before .before .before .before .args .store .now) ((c .before .before .before .before .before .before .before .v .given .0 .0) * 18) 0 * 576 + c .before .before .before .before .before .before .before .before .before .before .before .before .before .before .args .f) 0))
+returns-5 c = load-at (c .before .before .before .before .before .before .before .before .before .before .before .before .before .before .args .n) (c .before .before .before .before .before .before .before .before .before .before .before .decode .ensures) (c .before .before .before .before .before .before .before .v .given .0 .0) (c .before .before .before .before .before .before .before .v .given .1) (c .before .before .before .before .if2 .left) (c .before .before .before .before .before .before .before .before .before .before .before .before .before .before .pre .1) (c .before .if3 .left) (omega (arith, c .shared-slice-known5 .given ((c .before .before .before .before .before .before .before .v .given .0 .0) * 18 + getD (c .before .before .before .before .before .before .before .before .before .before .before .before .before .before .args .tables .now) (getD (c .before .before .before .before .before .before .before .before .before .before .before .before .before .before .args .store .now) ((c .before .before .before .before .before .before .before .v .given .0 .0) * 18) 0 * 576 + c .before .before .before .before .before .before .before .before .before .before .before .before .before .before .args .f) 0)))
 
 pub load-spec : {M : Type 1} → statement M
 load-spec =

@@ -24,7 +24,7 @@ cast-result : tie.Need-cast-result
 cast-result c = omega (arith, c .shared-slice-known .given (c .before .before .before .before .before .before .args .place .base))
 
 returns-3 : tie.Need-returns-3
-returns-3 c = read-this (c .before .before .before .if2 .taken) (getD (c .before .before .before .before .before .before .args .slots .now) (c .before .before .before .before .before .before .args .place .base) 0) (slot-this (c .before .before .before .before .before .before .args .slots .now) (c .before .before .before .before .before .before .args .place) (c .before .if3 .left)) (c .shared-slice-known .given (c .before .before .before .before .before .before .args .place .base))
+returns-3 c = read-this (c .before .before .before .if2 .taken) (getD (c .before .before .before .before .before .before .args .slots .now) (c .before .before .before .before .before .before .args .place .base) 0) (slot-this (c .before .before .before .before .before .before .args .slots .now) (c .before .before .before .before .before .before .args .place) (c .before .if3 .left)) (omega (arith, c .shared-slice-known .given (c .before .before .before .before .before .before .args .place .base)))
 
 add-result : tie.Need-add-result
 add-result c = search needs
@@ -39,7 +39,7 @@ cast-result-2 : tie.Need-cast-result-2
 cast-result-2 c = omega (arith, c .shared-slice-known2 .given (c .before .before .before .before .args .place .base + c .before .before .before .before .args .k))
 
 returns-4 : tie.Need-returns-4
-returns-4 c = read-some (getD (c .before .before .before .before .args .slots .now) (c .before .before .before .before .args .place .base + c .before .before .before .before .args .k) 0) (slot-at (c .before .before .before .before .args .slots .now) (c .before .before .before .before .args .place) (c .before .before .before .before .args .k) (c .before .if2 .left) (c .before .before .if1 .left) (c .before .before .before .before .pre)) (c .shared-slice-known2 .given (c .before .before .before .before .args .place .base + c .before .before .before .before .args .k))
+returns-4 c = read-some (getD (c .before .before .before .before .args .slots .now) (c .before .before .before .before .args .place .base + c .before .before .before .before .args .k) 0) (slot-at (c .before .before .before .before .args .slots .now) (c .before .before .before .before .args .place) (c .before .before .before .before .args .k) (c .before .if2 .left) (c .before .before .if1 .left) (c .before .before .before .before .pre)) (omega (arith, c .shared-slice-known2 .given (c .before .before .before .before .args .place .base + c .before .before .before .before .args .k)))
 
 pub read-slot-spec : {M : Type 1} → statement M
 read-slot-spec =
