@@ -20,9 +20,7 @@ use Rattle.language.specs.Evaluation.{Value as Meaning, null, truth, State, Out
 use Rattle.language.specs.Store.{value-of-number, heap-of-numbers}
 use Rattle.machine.specs.declared.Value.{Value}
 use Rattle.machine.specs.declared.Value.the-variants.{Null, Truth, Object}
-use Rattle.machine.specs.Machine.{Outcome}
-use Rattle.machine.specs.Machine.{Gave, Raised, Stopped, Stuck}
-use Rattle.machine.specs.Machine.{Counts}
+use Rattle.machine.specs.Machine.{Outcome, Gave, Raised, Stuck, Counts}
 use Rattle.machine.specs.declared.Target.the-variants.{Body, Fails}
 use Rattle.machine.specs.Machine.{value, decoded, outcome, Small, SmallOutcome, bare, told, view, Holds, Sound, Linked, absent, present, MethodAt}
 use Rattle.machine.specs.Contracts.{Stored, Acts, answer, PreObject, PostLoad, PostSave, PostCast, Below, PreFind, PostFind, NotFound, SomeLetter, LetterFrom}
@@ -79,26 +77,27 @@ spot {T} {s} p j f h l =
       place = omega (arith, q, small-place (place f (world (p .P) .fields c)) (length (world (p .P) .fields c)) (λ i e. place-lt f (world (p .P) .fields c) i e), p .holds .counts c d);
     }
 
--- an act on the value that a number stands for
+-- The code has the number x of a value v, and answers by a number. Each law below takes the proof that x stands for v
+-- and is carried over to those numbers.
 load-told : {T s : List ℕ} {v v′ : Value} {f : ℕ} {n : Counts} {o o′ : Outcome} → v ≡ v′ → o′ ≡ o → PostLoad T s v f n o → PostLoad T s v′ f n o′
 load-told d e p = rw (sym d, e) p
 
-module _ {T s : List ℕ} {v : Value} (x : ℕ) {f : ℕ} {n : Counts} (told-by : v ≡ decoded x) where
+module _ {T s : List ℕ} {v : Value} (x : ℕ) {f : ℕ} {n : Counts} (stands : v ≡ decoded x) where
   pub load-null : is-null-value (value v) ≡ true → PostLoad T s (decoded x) f n (outcome 4294967297)
   unfolding bare
-  load-null e = load-told told-by outcome-null-pointer (record { acts = λ R E A P h snd. acts-same n (Raised 1) snd tt (λ γ k. rw (null-of v e)) })
+  load-null e = load-told stands outcome-null-pointer (record { acts = λ R E A P h snd. acts-same n (Raised 1) snd tt (λ γ k. rw (null-of v e)) })
 
   pub load-truth : OneOf (0 ∷ 1 ∷ []) (tagOf the-type v) → is-null-value (value v) ≡ false → PostLoad T s (decoded x) f n (outcome 4294967296)
   unfolding bare
-  load-truth h e = load-told told-by outcome-stuck (record { acts = λ R E A P _ snd. acts-same n Stuck snd tt (λ γ k. rw (truth-of v h e .1)) })
+  load-truth h e = load-told stands outcome-stuck (record { acts = λ R E A P _ snd. acts-same n Stuck snd tt (λ γ k. rw (truth-of v h e .1)) })
 
   pub load-past : (j : ℕ) → v ≡ Object j → n .made ≤ j → PostLoad T s (decoded x) f n (outcome 4294967296)
   unfolding bare
-  load-past j e h = load-told told-by outcome-stuck (record { acts = λ R E A P _ snd. acts-same n Stuck snd tt (λ γ k. rw (ap value e, heap-past (world P) (n .made) s j h)) })
+  load-past j e h = load-told stands outcome-stuck (record { acts = λ R E A P _ snd. acts-same n Stuck snd tt (λ γ k. rw (ap value e, heap-past (world P) (n .made) s j h)) })
 
   pub load-missing : (j : ℕ) → v ≡ Object j → j < n .made → f < 256 → getD T (getD s (j * 18) 0 * 576 + f) 0 ≡ 0 → PostLoad T s (decoded x) f n (outcome 4294967296)
   unfolding bare
-  load-missing j e h l z = load-told told-by outcome-stuck (record {
+  load-missing j e h l z = load-told stands outcome-stuck (record {
     acts = λ R E A P hold snd.
         let q = place-none (place f (world P .fields (getD s (j * 18) 0))) (sym (hold .tables .places (getD s (j * 18) 0) f (snd .declared j h) l) ∙ z) in
         acts-same n Stuck snd tt (λ γ k. rw (ap value e, heap-at (world P) (n .made) s j h, q));
@@ -110,7 +109,7 @@ module _ {T s : List ℕ} {v : Value} (x : ℕ) {f : ℕ} {n : Counts} (told-by 
   unfolding bare
   load-at j e h l z m =
       let number : ℕ = getD s (j * 18 + getD T (getD s (j * 18) 0 * 576 + f) 0) 0 in
-      load-told told-by (outcome-value number m) (record {
+      load-told stands (outcome-value number m) (record {
         acts = λ R E A P hold snd.
             let c : ℕ = getD s (j * 18) 0 in
             let p : ℕ = getD T (c * 576 + f) 0 in
@@ -127,22 +126,22 @@ module _ {T s : List ℕ} {v : Value} (x : ℕ) {f : ℕ} {n : Counts} (told-by 
 save-told : {T s s′ : List ℕ} {v v′ w : Value} {f : ℕ} {n : Counts} {o o′ : Outcome} → v ≡ v′ → o′ ≡ o → PostSave T s s′ v w f n o → PostSave T s s′ v′ w f n o′
 save-told d e p = rw (sym d, e) p
 
-module _ {T s : List ℕ} {v : Value} (x w : ℕ) {f : ℕ} {n : Counts} (told-by : v ≡ decoded x) where
+module _ {T s : List ℕ} {v : Value} (x w : ℕ) {f : ℕ} {n : Counts} (stands : v ≡ decoded x) where
   pub save-null : is-null-value (value v) ≡ true → PostSave T s s (decoded x) (decoded w) f n (outcome 4294967297)
   unfolding bare
-  save-null e = save-told told-by outcome-null-pointer (record { acts = λ R E A P h snd. acts-same n (Raised 1) snd tt (λ γ k. rw (null-of v e)) })
+  save-null e = save-told stands outcome-null-pointer (record { acts = λ R E A P h snd. acts-same n (Raised 1) snd tt (λ γ k. rw (null-of v e)) })
 
   pub save-truth : OneOf (0 ∷ 1 ∷ []) (tagOf the-type v) → is-null-value (value v) ≡ false → PostSave T s s (decoded x) (decoded w) f n (outcome 4294967296)
   unfolding bare
-  save-truth h e = save-told told-by outcome-stuck (record { acts = λ R E A P _ snd. acts-same n Stuck snd tt (λ γ k. rw (truth-of v h e .1)) })
+  save-truth h e = save-told stands outcome-stuck (record { acts = λ R E A P _ snd. acts-same n Stuck snd tt (λ γ k. rw (truth-of v h e .1)) })
 
   pub save-past : (j : ℕ) → v ≡ Object j → n .made ≤ j → PostSave T s s (decoded x) (decoded w) f n (outcome 4294967296)
   unfolding bare
-  save-past j e h = save-told told-by outcome-stuck (record { acts = λ R E A P _ snd. acts-same n Stuck snd tt (λ γ k. rw (ap value e, heap-past (world P) (n .made) s j h)) })
+  save-past j e h = save-told stands outcome-stuck (record { acts = λ R E A P _ snd. acts-same n Stuck snd tt (λ γ k. rw (ap value e, heap-past (world P) (n .made) s j h)) })
 
   pub save-missing : (j : ℕ) → v ≡ Object j → j < n .made → f < 256 → getD T (getD s (j * 18) 0 * 576 + f) 0 ≡ 0 → PostSave T s s (decoded x) (decoded w) f n (outcome 4294967296)
   unfolding bare
-  save-missing j e h l z = save-told told-by outcome-stuck (record {
+  save-missing j e h l z = save-told stands outcome-stuck (record {
     acts = λ R E A P hold snd.
         let q = place-none (place f (world P .fields (getD s (j * 18) 0))) (sym (hold .tables .places (getD s (j * 18) 0) f (snd .declared j h) l) ∙ z) in
         acts-same n Stuck snd tt (λ γ k. rw (ap value e, heap-at (world P) (n .made) s j h, q));
@@ -151,7 +150,7 @@ module _ {T s : List ℕ} {v : Value} (x w : ℕ) {f : ℕ} {n : Counts} (told-b
   pub save-at : (j : ℕ) → v ≡ Object j → j < n .made → f < 256 → (getD T (getD s (j * 18) 0 * 576 + f) 0 ≡ 0 → ⊥) → w < 4294967296
       → PostSave T s (set s (j * 18 + getD T (getD s (j * 18) 0 * 576 + f) 0) w) (decoded x) (decoded w) f n (outcome w)
   unfolding bare
-  save-at j e h l z m = save-told told-by (outcome-value w m) (record {
+  save-at j e h l z m = save-told stands (outcome-value w m) (record {
     acts = λ R E A P hold snd.
         let c : ℕ = getD s (j * 18) 0 in
         let p : ℕ = getD T (c * 576 + f) 0 in
@@ -232,30 +231,30 @@ passed x e m = outcome-value x m ∙ ap Gave (sym e)
 small-passed : {v : Value} (x : ℕ) → v ≡ decoded x → x < 4294967296 → Small v
 small-passed x e m = rw e (small-decoded x m)
 
-module _ {A s : List ℕ} {v : Value} (x : ℕ) {c : ℕ} {n : Counts} (told-by : v ≡ decoded x) where
+module _ {A s : List ℕ} {v : Value} (x : ℕ) {c : ℕ} {n : Counts} (stands : v ≡ decoded x) where
   pub cast-null : is-null-value (value v) ≡ true → x < 4294967296 → PostCast A s (decoded x) c n (outcome x)
   unfolding bare
-  cast-null e m = cast-told told-by (passed x told-by m) (record { acts = λ R E T P h snd d. acts-same n (Gave v) snd (small-passed x told-by m) (λ γ k. rw (null-of v e)) })
+  cast-null e m = cast-told stands (passed x stands m) (record { acts = λ R E T P h snd d. acts-same n (Gave v) snd (small-passed x stands m) (λ γ k. rw (null-of v e)) })
 
   pub cast-truth : OneOf (0 ∷ 1 ∷ []) (tagOf the-type v) → is-null-value (value v) ≡ false → PostCast A s (decoded x) c n (outcome 4294967296)
   unfolding bare
-  cast-truth h e = cast-told told-by outcome-stuck (record { acts = λ R E T P _ snd d. acts-same n Stuck snd tt (λ γ k. rw (truth-of v h e .1)) })
+  cast-truth h e = cast-told stands outcome-stuck (record { acts = λ R E T P _ snd d. acts-same n Stuck snd tt (λ γ k. rw (truth-of v h e .1)) })
 
   pub cast-past : (j : ℕ) → v ≡ Object j → n .made ≤ j → PostCast A s (decoded x) c n (outcome 4294967296)
   unfolding bare
-  cast-past j e h = cast-told told-by outcome-stuck (record { acts = λ R E T P _ snd d. acts-same n Stuck snd tt (λ γ k. rw (ap value e, heap-past (world P) (n .made) s j h)) })
+  cast-past j e h = cast-told stands outcome-stuck (record { acts = λ R E T P _ snd d. acts-same n Stuck snd tt (λ γ k. rw (ap value e, heap-past (world P) (n .made) s j h)) })
 
   pub cast-passes : (j : ℕ) → v ≡ Object j → j < n .made → Below A (getD s (j * 18) 0) c ≡ true → x < 4294967296 → PostCast A s (decoded x) c n (outcome x)
   unfolding bare Below
-  cast-passes j e h t m = cast-told told-by (passed x told-by m) (record {
+  cast-passes j e h t m = cast-told stands (passed x stands m) (record {
     acts = λ R E T P hold snd d.
         let q = sym (hold .below (getD s (j * 18) 0) c (snd .declared j h) d) ∙ t in
-        acts-same n (Gave v) snd (small-passed x told-by m) (λ γ k. rw (ap value e, heap-at (world P) (n .made) s j h, q));
+        acts-same n (Gave v) snd (small-passed x stands m) (λ γ k. rw (ap value e, heap-at (world P) (n .made) s j h, q));
   })
 
   pub cast-fails : (j : ℕ) → v ≡ Object j → j < n .made → Below A (getD s (j * 18) 0) c ≡ false → PostCast A s (decoded x) c n (outcome 4294967298)
   unfolding bare Below
-  cast-fails j e h t = cast-told told-by outcome-bad-cast (record {
+  cast-fails j e h t = cast-told stands outcome-bad-cast (record {
     acts = λ R E T P hold snd d.
         let q = sym (hold .below (getD s (j * 18) 0) c (snd .declared j h) d) ∙ t in
         acts-same n (Raised 2) snd tt (λ γ k. rw (ap value e, heap-at (world P) (n .made) s j h, q));
@@ -292,25 +291,25 @@ not-found : {R T s : List ℕ} {v v′ : Value} {m : ℕ} {n : Counts} {calls : 
     → ((E A : List ℕ) (P : List Class) → Holds R E T A P → Sound P (n .made) s → NotFound P s v m n calls o) → PostFind R T s v′ m n calls (Fails r)
 not-found d e f = record { is = λ E A P h snd. rw (sym d, e) (f E A P h snd) }
 
-module _ {R T s : List ℕ} {v : Value} (x : ℕ) {m : ℕ} {n : Counts} {calls : ℕ} (told-by : v ≡ decoded x) where
+module _ {R T s : List ℕ} {v : Value} (x : ℕ) {m : ℕ} {n : Counts} {calls : ℕ} (stands : v ≡ decoded x) where
   pub find-null : is-null-value (value v) ≡ true → PostFind R T s (decoded x) m n calls (Fails 4294967297)
   unfolding bare
-  find-null e = not-found told-by outcome-null-pointer (λ E A P h snd.
+  find-null e = not-found stands outcome-null-pointer (λ E A P h snd.
       record { small = tt; is = λ L vs γ k. rw (null-of v e); fails = λ w q. let z : _≡_ {A = ℕ} 0 1 = cc in omega arith })
 
   pub find-truth : OneOf (0 ∷ 1 ∷ []) (tagOf the-type v) → is-null-value (value v) ≡ false → PostFind R T s (decoded x) m n calls (Fails 4294967296)
   unfolding bare
-  find-truth h e = not-found told-by outcome-stuck (λ E A P _ snd.
+  find-truth h e = not-found stands outcome-stuck (λ E A P _ snd.
       record { small = tt; is = λ L vs γ k. rw (truth-of v h e .1); fails = λ w q. let z : _≡_ {A = ℕ} 0 1 = cc in omega arith })
 
   pub find-past : (j : ℕ) → v ≡ Object j → n .made ≤ j → PostFind R T s (decoded x) m n calls (Fails 4294967296)
   unfolding bare
-  find-past j e h = not-found told-by outcome-stuck (λ E A P _ snd.
+  find-past j e h = not-found stands outcome-stuck (λ E A P _ snd.
       record { small = tt; is = λ L vs γ k. rw (ap value e, heap-past (world P) (n .made) s j h); fails = λ w q. let z : _≡_ {A = ℕ} 0 1 = cc in omega arith })
 
   pub find-missing : (j : ℕ) → v ≡ Object j → j < n .made → m < 256 → getD T (getD s (j * 18) 0 * 576 + 256 + m) 0 ≡ 0 → PostFind R T s (decoded x) m n calls (Fails 4294967296)
   unfolding bare
-  find-missing j e h l z = not-found told-by outcome-stuck (λ E A P hold snd.
+  find-missing j e h l z = not-found stands outcome-stuck (λ E A P hold snd.
       let c : ℕ = getD s (j * 18) 0 in
       let d = snd .declared j h in
       let q = linked-none (hold .methods c m d) (place-none (method-row P c m) (sym (hold .tables .methods c m d l) ∙ z)) in
@@ -318,7 +317,7 @@ module _ {R T s : List ℕ} {v : Value} (x : ℕ) {m : ℕ} {n : Counts} {calls 
 
   pub find-deep : (j : ℕ) → v ≡ Object j → j < n .made → m < 256 → (getD T (getD s (j * 18) 0 * 576 + 256 + m) 0 ≡ 0 → ⊥) → 64 ≤ calls → PostFind R T s (decoded x) m n calls (Fails 4294967311)
   unfolding bare call-at
-  find-deep j e h l z t = not-found told-by outcome-deep (λ E A P hold snd.
+  find-deep j e h l z t = not-found stands outcome-deep (λ E A P hold snd.
       let c : ℕ = getD s (j * 18) 0 in
       let d = snd .declared j h in
       let x = linked-some (hold .methods c m d) (place-some (method-row P c m) (getD T (c * 576 + 256 + m) 0) (hold .tables .methods c m d l) z) in
@@ -336,5 +335,5 @@ module _ {R T s : List ℕ} {v : Value} (x : ℕ) {m : ℕ} {n : Counts} {calls 
         let a = x .2 in
         let g : LetterFrom R 66 r (a .body) = record { later = omega (arith, a .later); short = a .short; between = λ i o. a .between i (omega arith); letter = a .block } in
         let same : a .body ≡ b = same-letter g f in
-        record { j = j; o = object-at (world P) s (j * 18); M = x .0; receiver = ap value (sym told-by ∙ e); known = λ γ k. heap-at (world P) (n .made) s j h; method = x .1; encoded = rw same at (a .encoded); within = a .within; allowed = t };
+        record { j = j; o = object-at (world P) s (j * 18); M = x .0; receiver = ap value (sym stands ∙ e); known = λ γ k. heap-at (world P) (n .made) s j h; method = x .1; encoded = rw same at (a .encoded); within = a .within; allowed = t };
   }

@@ -12,7 +12,9 @@ returns : tie.Need-returns
 returns c = read-none (slot-past (c .before .before .args .slots .now) (c .before .before .args .place) (c .before .before .args .k) (c .if1 .taken) (c .before .before .pre))
 
 returns-2 : tie.Need-returns-2
-returns-2 c = read-zero (c .before .before .if2 .taken) (slot-no-this (c .before .before .before .before .before .args .slots .now) (c .before .before .before .before .before .args .place) (c .if3 .taken))
+returns-2 c =
+    let start = c .before .before .before .before .before in
+    read-zero (c .before .before .if2 .taken) (slot-no-this (start .args .slots .now) (start .args .place) (c .if3 .taken))
 
 mul-result : tie.Need-mul-result
 mul-result c = search needs
@@ -21,10 +23,14 @@ shared-slice-read-result : tie.Need-shared-slice-read-result
 shared-slice-read-result c = search needs
 
 cast-result : tie.Need-cast-result
-cast-result c = omega (arith, c .shared-slice-known .given (c .before .before .before .before .before .before .args .place .base))
+cast-result c =
+    let start = c .before .before .before .before .before .before in
+    omega (arith, c .shared-slice-known .given (start .args .place .base))
 
 returns-3 : tie.Need-returns-3
-returns-3 c = read-this (c .before .before .before .if2 .taken) (getD (c .before .before .before .before .before .before .args .slots .now) (c .before .before .before .before .before .before .args .place .base) 0) (slot-this (c .before .before .before .before .before .before .args .slots .now) (c .before .before .before .before .before .before .args .place) (c .before .if3 .left)) (omega (arith, c .shared-slice-known .given (c .before .before .before .before .before .before .args .place .base)))
+returns-3 c =
+    let start = c .before .before .before .before .before .before in
+    read-this (c .before .before .before .if2 .taken) (getD (start .args .slots .now) (start .args .place .base) 0) (slot-this (start .args .slots .now) (start .args .place) (c .before .if3 .left)) (omega (arith, c .shared-slice-known .given (start .args .place .base)))
 
 add-result : tie.Need-add-result
 add-result c = search needs
@@ -36,10 +42,14 @@ shared-slice-read-result-2 : tie.Need-shared-slice-read-result-2
 shared-slice-read-result-2 c = search needs
 
 cast-result-2 : tie.Need-cast-result-2
-cast-result-2 c = omega (arith, c .shared-slice-known2 .given (c .before .before .before .before .args .place .base + c .before .before .before .before .args .k))
+cast-result-2 c =
+    let start = c .before .before .before .before in
+    omega (arith, c .shared-slice-known2 .given (start .args .place .base + start .args .k))
 
 returns-4 : tie.Need-returns-4
-returns-4 c = read-some (getD (c .before .before .before .before .args .slots .now) (c .before .before .before .before .args .place .base + c .before .before .before .before .args .k) 0) (slot-at (c .before .before .before .before .args .slots .now) (c .before .before .before .before .args .place) (c .before .before .before .before .args .k) (c .before .if2 .left) (c .before .before .if1 .left) (c .before .before .before .before .pre)) (omega (arith, c .shared-slice-known2 .given (c .before .before .before .before .args .place .base + c .before .before .before .before .args .k)))
+returns-4 c =
+    let start = c .before .before .before .before in
+    read-some (getD (start .args .slots .now) (start .args .place .base + start .args .k) 0) (slot-at (start .args .slots .now) (start .args .place) (start .args .k) (c .before .if2 .left) (c .before .before .if1 .left) (start .pre)) (omega (arith, c .shared-slice-known2 .given (start .args .place .base + start .args .k)))
 
 pub read-slot-spec : {M : Type 1} → statement M
 read-slot-spec =

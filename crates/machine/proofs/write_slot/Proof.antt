@@ -9,7 +9,9 @@ returns : tie.Need-returns
 returns c = write-past (c .before .before .args .n) (c .before .before .pre) (c .if1 .taken)
 
 returns-2 : tie.Need-returns-2
-returns-2 c = write-none (c .before .before .before .before .before .args .n) (c .before .before .before .before .before .pre) (c .before .before .if2 .taken) (c .if3 .taken)
+returns-2 c =
+    let start = c .before .before .before .before .before in
+    write-none (start .args .n) (start .pre) (c .before .before .if2 .taken) (c .if3 .taken)
 
 mul-slots : tie.Need-mul-slots
 mul-slots c = search needs
@@ -21,7 +23,9 @@ same-length : tie.Need-same-length
 same-length c = search needs
 
 returns-3 : tie.Need-returns-3
-returns-3 c = write-this (c .before .before .before .before .before .args .n) (c .before .before .before .before .before .pre) (c .before .before .if2 .taken) (c .if3 .left)
+returns-3 c =
+    let start = c .before .before .before .before .before in
+    write-this (start .args .n) (start .pre) (c .before .before .if2 .taken) (c .if3 .left)
 
 add-slots : tie.Need-add-slots
 add-slots c = search needs
