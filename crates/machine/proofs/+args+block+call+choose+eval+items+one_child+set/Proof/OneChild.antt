@@ -1,8 +1,7 @@
 -- What the borrow checker leaves of `one_child`.
-use borrow.Author.Needs.{needs}
 use native.Mathlib.Omega.{arith}
 use mathlib.Core.Path.{_∙_}
-use Prim.Native.Nat.{ℕ, _-_}
+use Prim.Native.Nat.{ℕ}
 use Rattle.machine.specs.Machine.{outcome}
 use Rattle.machine.proofs.Values.{not-gave, outcome-value}
 use Rattle.machine.proofs.Steps.{in-rows, one-pre, pre-apply, one-fail, one-done}

@@ -1,8 +1,7 @@
 -- What the borrow checker leaves of `set`.
-use borrow.Author.Needs.{needs}
 use native.Mathlib.Omega.{arith}
 use mathlib.Core.Path.{_∙_}
-use Prim.Native.Nat.{ℕ, _+_, _*_, _-_}
+use Prim.Native.Nat.{ℕ, _+_, _*_}
 use Rattle.machine.specs.Machine.{outcome}
 use Rattle.machine.proofs.Values.{not-gave, outcome-value}
 use Rattle.machine.proofs.Steps.{kept-of}
