@@ -6,33 +6,20 @@ use borrow.Fn.Kinds.{In}
 use borrow.Fn.PlainCycle.{Measures, is, falls, and}
 use Rattle.machine.proofs.args.Reads as args
 use Rattle.machine.proofs.args.Kinds as args-kinds
-use Rattle.machine.proofs.+args+block+call+choose+eval+items+one_child+set.Lts-args as args-lts
 use Rattle.machine.proofs.block.Reads as block
 use Rattle.machine.proofs.block.Kinds as block-kinds
-use Rattle.machine.proofs.+args+block+call+choose+eval+items+one_child+set.Lts-block as block-lts
 use Rattle.machine.proofs.call.Reads as call
 use Rattle.machine.proofs.call.Kinds as call-kinds
-use Rattle.machine.proofs.+args+block+call+choose+eval+items+one_child+set.Lts-call as call-lts
 use Rattle.machine.proofs.choose.Reads as choose
 use Rattle.machine.proofs.choose.Kinds as choose-kinds
-use Rattle.machine.proofs.+args+block+call+choose+eval+items+one_child+set.Lts-choose as choose-lts
 use Rattle.machine.proofs.eval.Reads as eval
 use Rattle.machine.proofs.eval.Kinds as eval-kinds
-use Rattle.machine.proofs.+args+block+call+choose+eval+items+one_child+set.Lts-eval as eval-lts
 use Rattle.machine.proofs.items.Reads as items
 use Rattle.machine.proofs.items.Kinds as items-kinds
-use Rattle.machine.proofs.+args+block+call+choose+eval+items+one_child+set.Lts-items as items-lts
 use Rattle.machine.proofs.one_child.Reads as one-child
 use Rattle.machine.proofs.one_child.Kinds as one-child-kinds
-use Rattle.machine.proofs.+args+block+call+choose+eval+items+one_child+set.Lts-one_child as one-child-lts
 use Rattle.machine.proofs.set.Reads as set
 use Rattle.machine.proofs.set.Kinds as set-kinds
-use Rattle.machine.proofs.+args+block+call+choose+eval+items+one_child+set.Lts-set as set-lts
-use Rattle.machine.proofs.apply.Reads as apply-reads
-use Rattle.machine.proofs.find_body.Reads as find-body-reads
-use Rattle.machine.proofs.leaf.Reads as leaf-reads
-use Rattle.machine.proofs.open_locals.Reads as open-locals-reads
-use Rattle.machine.proofs.save.Reads as save-reads
 
 abbrev pub μ-args : Measures 7 args-kinds.ps ℕ
 μ-args κs a = getD (now (a .1 .1 .1 .1 .1 .1 .0)) 0 0 * 17179869184 + a .1 .1 .1 .1 .1 .1 .1 .1 .1 .1 .1 .1 .0 + 1
