@@ -162,3 +162,9 @@ outcome-full = refl
 
 pub small-of : {o : Outcome} {v : Value} → o ≡ Gave v → SmallOutcome o → Small v
 small-of e h = rw e at h
+
+pub gave-number : (x : ℕ) {v : Value} → v ≡ decoded x → x < 4294967296 → Gave v ≡ outcome x
+gave-number x e h = ap Gave e ∙ sym (outcome-value x h)
+
+pub small-number : (x : ℕ) {v : Value} → v ≡ decoded x → x < 4294967296 → Small v
+small-number x e h = rw e (small-decoded x h)

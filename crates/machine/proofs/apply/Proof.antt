@@ -1,69 +1,82 @@
-use Prim.Native.Nat.{_+_, _-_, _*_}
-use native.Mathlib.Omega.{arith}
-use borrow.Author.Needs.{needs}
-use Rattle.machine.proofs.Leaves.{apply-row, apply-room, pre-load, pre-cast, apply-rest, apply-null, apply-get, apply-cast, apply-assign}
 use Rattle.machine.proofs.apply.Statement.{statement}
 use Rattle.machine.proofs.apply.Tie as tie
 use Rattle.machine.proofs.apply.Reads as reads
 use Rattle.machine.proofs.apply.Lts as lts
 use Rattle.machine.proofs.cast_object.Reads as cast-object-reads
-use Rattle.machine.proofs.is_null.Reads as is-null-reads
 use Rattle.machine.proofs.load.Reads as load-reads
 use Rattle.machine.proofs.write_slot.Reads as write-slot-reads
 
+-- src/lib.rt:434:18
 mul-k : tie.Need-mul-k
-mul-k c = omega (arith, apply-row (c .before .before .before .before .before .pre))
+mul-k c = ?
 
+-- src/lib.rt:434:13
 mul-k-2 : tie.Need-mul-k-2
-mul-k-2 c = omega (arith, apply-row (c .before .before .before .before .before .pre))
+mul-k-2 c = ?
 
+-- src/lib.rt:434:13
 shared-slice-read-k : tie.Need-shared-slice-read-k
-shared-slice-read-k c = omega (arith, apply-row (c .before .before .before .before .before .before .pre))
+shared-slice-read-k c = ?
 
+-- src/lib.rt:435:18
 mul-a : tie.Need-mul-a
-mul-a c = omega (arith, apply-row (c .before .before .before .before .before .before .pre))
+mul-a c = ?
 
+-- src/lib.rt:435:18
 add-a : tie.Need-add-a
-add-a c = omega (arith, apply-row (c .before .before .before .before .before .before .pre))
+add-a c = ?
 
+-- src/lib.rt:435:13
 mul-a-2 : tie.Need-mul-a-2
-mul-a-2 c = omega (arith, apply-row (c .before .before .before .before .before .before .pre))
+mul-a-2 c = ?
 
+-- src/lib.rt:435:13
 shared-slice-read-a : tie.Need-shared-slice-read-a
-shared-slice-read-a c = omega (arith, apply-row (c .before .before .before .before .before .before .before .pre))
+shared-slice-read-a c = ?
 
-is-null-requires : tie.Need-is-null-requires
-is-null-requires c κs = search needs
-
+-- src/lib.rt:438:45
 cast-load : tie.Need-cast-load
-cast-load c = omega (arith, c .before .before .shared-slice-known5 .given (c .before .before .before .before .before .before .before .before .args .at * 4 + 1))
+cast-load c = ?
 
+-- src/lib.rt:438:15
 load-requires : tie.Need-load-requires
-load-requires c κs = pre-load (c .before .before .before .before .before .before .before .before .pre) (c .match .keys2)
+load-requires c κs = ?
 
+-- src/lib.rt:439:15
 cast-object-requires : tie.Need-cast-object-requires
-cast-object-requires c κs = (pre-cast (c .before .before .before .before .before .before .before .before .pre) (c .match .keys3), c .before .before .before .before .before .before .before .before .pre .small)
+cast-object-requires c κs = ?
 
+-- src/lib.rt:441:31
 cast-write-slot : tie.Need-cast-write-slot
-cast-write-slot c = omega (arith, c .before .before .before .shared-slice-known5 .given (c .before .before .before .before .before .before .before .before .before .args .at * 4 + 1))
+cast-write-slot c = ?
 
+-- src/lib.rt:441:13
 write-slot-requires : tie.Need-write-slot-requires
-write-slot-requires c κs = (apply-room (c .before .before .before .before .before .before .before .before .before .pre), c .before .before .before .before .before .before .before .before .before .pre .small)
+write-slot-requires c κs = ?
 
+-- src/lib.rt:420:1
 returns : tie.Need-returns
-returns c = apply-null (c .is-null .result) (c .before .match .keys1) (c .is-null .ensures)
+returns c = ?
 
+-- src/lib.rt:420:1
 returns-2 : tie.Need-returns-2
-returns-2 c = apply-get (c .load .result) (c .before .match .keys2) (c .load .ensures)
+returns-2 c = ?
 
+-- src/lib.rt:420:1
 returns-3 : tie.Need-returns-3
-returns-3 c = apply-cast (c .cast-object .result) (c .before .match .keys3) (c .cast-object .ensures)
+returns-3 c = ?
 
-same-length : tie.Need-same-length
-same-length c = search needs
-
+-- src/lib.rt:420:1
 returns-4 : tie.Need-returns-4
-returns-4 c = apply-assign (apply-rest (c .before .before .before .before .before .before .before .before .before .before .before .before .pre) (c .before .before .before .before .match .rest .0 .0 .1) (c .before .before .before .before .match .rest .0 .1) (c .before .before .before .before .match .rest .1)) (c .before .before .write-slot .ensures) (c .before .before .before .before .before .before .before .before .before .before .before .before .pre .small)
+returns-4 c = ?
+
+-- src/lib.rt:420:1
+same-length : tie.Need-same-length
+same-length c = ?
+
+-- src/lib.rt:420:1
+returns-5 : tie.Need-returns-5
+returns-5 c = ?
 
 pub apply-spec : {M : Type 1} → statement M
 apply-spec =
@@ -76,7 +89,6 @@ apply-spec =
     add-a
     mul-a-2
     shared-slice-read-a
-    is-null-requires
     cast-load
     load-requires
     cast-object-requires
@@ -85,5 +97,6 @@ apply-spec =
     returns
     returns-2
     returns-3
+    returns-4
     same-length
-    returns-4)
+    returns-5)
