@@ -1,3 +1,7 @@
+use Rattle.machine.proofs.Leaves.{apply-row, apply-room, pre-load, pre-cast, apply-rest, apply-null, apply-some, apply-get, apply-cast, apply-assign, apply-number}
+use Rattle.machine.specs.Machine.{outcome}
+use native.Mathlib.Omega.{arith}
+use Prim.Native.Nat.{_+_, _-_, _*_}
 use Rattle.machine.proofs.apply.Statement.{statement}
 use Rattle.machine.proofs.apply.Tie as tie
 use Rattle.machine.proofs.apply.Reads as reads
@@ -6,77 +10,59 @@ use Rattle.machine.proofs.cast_object.Reads as cast-object-reads
 use Rattle.machine.proofs.load.Reads as load-reads
 use Rattle.machine.proofs.write_slot.Reads as write-slot-reads
 
--- src/lib.rt:434:18
 mul-k : tie.Need-mul-k
-mul-k c = ?
+mul-k c = omega (arith, apply-row (c .before .before .before .before .before .pre))
 
--- src/lib.rt:434:13
 mul-k-2 : tie.Need-mul-k-2
-mul-k-2 c = ?
+mul-k-2 c = omega (arith, apply-row (c .before .before .before .before .before .pre))
 
--- src/lib.rt:434:13
 shared-slice-read-k : tie.Need-shared-slice-read-k
-shared-slice-read-k c = ?
+shared-slice-read-k c = omega (arith, apply-row (c .before .before .before .before .before .before .pre))
 
--- src/lib.rt:435:18
 mul-a : tie.Need-mul-a
-mul-a c = ?
+mul-a c = omega (arith, apply-row (c .before .before .before .before .before .before .pre))
 
--- src/lib.rt:435:18
 add-a : tie.Need-add-a
-add-a c = ?
+add-a c = omega (arith, apply-row (c .before .before .before .before .before .before .pre))
 
--- src/lib.rt:435:13
 mul-a-2 : tie.Need-mul-a-2
-mul-a-2 c = ?
+mul-a-2 c = omega (arith, apply-row (c .before .before .before .before .before .before .pre))
 
--- src/lib.rt:435:13
 shared-slice-read-a : tie.Need-shared-slice-read-a
-shared-slice-read-a c = ?
+shared-slice-read-a c = omega (arith, apply-row (c .before .before .before .before .before .before .before .pre))
 
--- src/lib.rt:438:45
 cast-load : tie.Need-cast-load
-cast-load c = ?
+cast-load c = omega (arith, c .before .before .shared-slice-known5 .given (c .before .before .before .before .before .before .before .before .args .at * 4 + 1))
 
--- src/lib.rt:438:15
 load-requires : tie.Need-load-requires
-load-requires c κs = ?
+load-requires c κs = pre-load (c .before .before .before .before .before .before .before .before .pre) (c .match .keys2)
 
--- src/lib.rt:439:15
 cast-object-requires : tie.Need-cast-object-requires
-cast-object-requires c κs = ?
+cast-object-requires c κs = pre-cast (c .before .before .before .before .before .before .before .before .pre) (c .match .keys3)
 
--- src/lib.rt:441:31
 cast-write-slot : tie.Need-cast-write-slot
-cast-write-slot c = ?
+cast-write-slot c = omega (arith, c .before .before .before .shared-slice-known5 .given (c .before .before .before .before .before .before .before .before .before .args .at * 4 + 1))
 
--- src/lib.rt:441:13
 write-slot-requires : tie.Need-write-slot-requires
-write-slot-requires c κs = ?
+write-slot-requires c κs = apply-room (c .before .before .before .before .before .before .before .before .before .pre)
 
--- src/lib.rt:420:1
 returns : tie.Need-returns
-returns c = ?
+returns c = apply-null (c .before .before .before .before .before .before .before .before .before .args .n) (c .before .match .keys1) (c .if1 .taken)
 
--- src/lib.rt:420:1
 returns-2 : tie.Need-returns-2
-returns-2 c = ?
+returns-2 c = apply-some (c .before .before .before .before .before .before .before .before .before .args .n) (c .before .match .keys1) (c .if1 .left)
 
--- src/lib.rt:420:1
 returns-3 : tie.Need-returns-3
-returns-3 c = ?
+returns-3 c = apply-get (outcome (c .load .result)) (c .before .match .keys2) (c .load .ensures)
 
--- src/lib.rt:420:1
 returns-4 : tie.Need-returns-4
-returns-4 c = ?
+returns-4 c = apply-cast (outcome (c .cast-object .result)) (c .before .match .keys3) (c .cast-object .ensures)
 
--- src/lib.rt:420:1
 same-length : tie.Need-same-length
-same-length c = ?
+same-length c = c .before .before .write-slot .kept .0
 
--- src/lib.rt:420:1
 returns-5 : tie.Need-returns-5
-returns-5 c = ?
+returns-5 c = apply-number (c .before .before .before .before .before .before .before .before .before .before .before .before .args .n) (omega (arith, c .before .before .before .before .before .before .before .before .before .before .before .before .fits .n)) (apply-assign (apply-rest (c .before .before .before .before .before .before .before .before .before .before .before .before .pre) (c .before .before .before .before .match .rest .0 .0 .1) (c .before .before .before .before .match .rest .0 .1) (c .before .before .before .before .match .rest .1)) (c .before .before .write-slot .ensures) (c .before .before .before .before .before .before .before .before .before .before .before .before .pre .small))
 
 pub apply-spec : {M : Type 1} → statement M
 apply-spec =

@@ -1,3 +1,11 @@
+use Rattle.machine.proofs.Values.{gave-number, small-number, outcome-failure, failure-raised, failure-stopped, failure-low}
+use Rattle.machine.specs.declared.End.the-variants.{Stopped}
+use Rattle.machine.specs.Machine.{outcome}
+use Rattle.machine.specs.Contracts.{outcome-of, end-told}
+use Rattle.machine.proofs.Checked.{told-gave, told-raised, told-stopped}
+use native.Mathlib.Omega.{arith}
+use Prim.Native.Nat.{ℕ, _-_}
+use mathlib.Core.Path.{_≡_, sym, _∙_}
 use borrow.Author.Needs.{needs}
 use Rattle.machine.proofs.end_told.Statement.{statement}
 use Rattle.machine.proofs.end_told.Tie as tie
@@ -6,37 +14,34 @@ use Rattle.machine.proofs.end_told.Lts as lts
 use Rattle.machine.proofs.decode.Reads as decode-reads
 use Rattle.machine.proofs.value_told.Reads as value-told-reads
 
--- src/lib.rt:997:44
 cast-decode : tie.Need-cast-decode
 cast-decode c = search needs
 
--- src/lib.rt:997:37
+-- where no rule goes on
+told-zero : (o : ℕ) → o ≡ 4294967296 → Stopped (o - 4294967296) ≡ end-told (outcome-of (outcome o))
+unfolding outcome
+told-zero o e = rw e
+
 decode-requires : tie.Need-decode-requires
 decode-requires c κs = search needs
 
--- src/lib.rt:997:26
 value-told-requires : tie.Need-value-told-requires
-value-told-requires c κs = ?
+value-told-requires c κs = small-number (c .before .before .args .o) (c .decode .ensures) (c .before .if1 .taken)
 
--- src/lib.rt:997:9
 returns : tie.Need-returns
-returns c = ?
+returns c = told-gave (sym (gave-number (c .before .before .before .args .o) (c .before .decode .ensures) (c .before .before .if1 .taken))) (c .value-told .ensures)
 
--- src/lib.rt:999:13
 cast-n : tie.Need-cast-n
-cast-n c = ?
+cast-n c = omega (arith, failure-low (c .before .args .o) (c .if1 .left) (c .before .pre))
 
--- src/lib.rt:992:1
 returns-2 : tie.Need-returns-2
-returns-2 c = ?
+returns-2 c = told-raised (outcome-failure (c .before .before .before .args .o) (c .before .before .if1 .left) ∙ failure-raised (c .before .before .before .args .o - 4294967296) (omega (arith, c .before .if2 .left)) (omega (arith, c .if3 .taken)))
 
--- src/lib.rt:992:1
 returns-3 : tie.Need-returns-3
-returns-3 c = ?
+returns-3 c = told-zero (c .before .before .args .o) (omega (arith, c .before .if1 .left, c .if2 .taken))
 
--- src/lib.rt:992:1
 returns-4 : tie.Need-returns-4
-returns-4 c = ?
+returns-4 c = told-stopped (outcome-failure (c .before .before .before .args .o) (c .before .before .if1 .left) ∙ failure-stopped (c .before .before .before .args .o - 4294967296) (omega (arith, c .if3 .left))) (c .before .before .before .pre)
 
 pub end-told-spec : {M : Type 1} → statement M
 end-told-spec =

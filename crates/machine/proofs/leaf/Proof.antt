@@ -1,3 +1,7 @@
+use Rattle.machine.proofs.Leaves.{leaf-row, leaf-room, leaf-true, leaf-false, leaf-null, leaf-slot, pre-new, leaf-new, leaf-rest}
+use Rattle.machine.specs.Machine.{outcome}
+use native.Mathlib.Omega.{arith}
+use Prim.Native.Nat.{_+_, _-_, _*_}
 use borrow.Author.Needs.{needs}
 use Rattle.machine.proofs.leaf.Statement.{statement}
 use Rattle.machine.proofs.leaf.Tie as tie
@@ -7,97 +11,74 @@ use Rattle.machine.proofs.new_object.Reads as new-object-reads
 use Rattle.machine.proofs.read_slot.Reads as read-slot-reads
 use Rattle.machine.proofs.reclassify.Reads as reclassify-reads
 
--- src/lib.rt:408:18
 mul-k : tie.Need-mul-k
-mul-k c = ?
+mul-k c = omega (arith, leaf-row (c .before .before .before .before .pre .0))
 
--- src/lib.rt:408:13
 mul-k-2 : tie.Need-mul-k-2
-mul-k-2 c = ?
+mul-k-2 c = omega (arith, leaf-row (c .before .before .before .before .pre .0))
 
--- src/lib.rt:408:13
 shared-slice-read-k : tie.Need-shared-slice-read-k
-shared-slice-read-k c = ?
+shared-slice-read-k c = omega (arith, leaf-row (c .before .before .before .before .before .pre .0))
 
--- src/lib.rt:413:37
 mul-read-slot : tie.Need-mul-read-slot
-mul-read-slot c = ?
+mul-read-slot c = omega (arith, leaf-row (c .before .before .before .before .before .before .pre .0))
 
--- src/lib.rt:413:37
 add-read-slot : tie.Need-add-read-slot
-add-read-slot c = ?
+add-read-slot c = omega (arith, leaf-row (c .before .before .before .before .before .before .pre .0))
 
--- src/lib.rt:413:32
 mul-read-slot-2 : tie.Need-mul-read-slot-2
-mul-read-slot-2 c = ?
+mul-read-slot-2 c = omega (arith, leaf-row (c .before .before .before .before .before .before .pre .0))
 
--- src/lib.rt:413:32
 shared-slice-read-read-slot : tie.Need-shared-slice-read-read-slot
-shared-slice-read-read-slot c = ?
+shared-slice-read-read-slot c = omega (arith, leaf-row (c .before .before .before .before .before .before .before .pre .0))
 
--- src/lib.rt:413:32
 cast-read-slot : tie.Need-cast-read-slot
-cast-read-slot c = ?
+cast-read-slot c = omega (arith, c .shared-slice-known5 .given (c .before .before .before .before .before .before .before .args .at * 4 + 1))
 
--- src/lib.rt:413:15
 read-slot-requires : tie.Need-read-slot-requires
-read-slot-requires c κs = search needs
+read-slot-requires c κs = leaf-room (c .before .before .before .before .before .before .before .pre .0)
 
--- src/lib.rt:414:59
 mul-new-object : tie.Need-mul-new-object
-mul-new-object c = ?
+mul-new-object c = omega (arith, leaf-row (c .before .before .before .before .before .before .before .before .pre .0))
 
--- src/lib.rt:414:59
 add-new-object : tie.Need-add-new-object
-add-new-object c = ?
+add-new-object c = omega (arith, leaf-row (c .before .before .before .before .before .before .before .before .pre .0))
 
--- src/lib.rt:414:54
 mul-new-object-2 : tie.Need-mul-new-object-2
-mul-new-object-2 c = ?
+mul-new-object-2 c = omega (arith, leaf-row (c .before .before .before .before .before .before .before .before .pre .0))
 
--- src/lib.rt:414:54
 shared-slice-read-new-object : tie.Need-shared-slice-read-new-object
-shared-slice-read-new-object c = ?
+shared-slice-read-new-object c = omega (arith, leaf-row (c .before .before .before .before .before .before .before .before .before .pre .0))
 
--- src/lib.rt:414:15
 new-object-requires : tie.Need-new-object-requires
-new-object-requires c κs = ?
+new-object-requires c κs = pre-new (c .before .before .before .before .before .before .before .before .before .pre .0) (c .before .before .before .match .keys5)
 
--- src/lib.rt:415:14
 reclassify-requires : tie.Need-reclassify-requires
-reclassify-requires c κs = ?
+reclassify-requires c κs = (c .before .before .before .before .before .before .before .before .pre .0, leaf-rest (c .before .before .before .before .before .before .before .before .pre .0) (c .before .before .before .before .before .before .before .before .pre .1) (c .before .before .match .rest .0 .0 .0 .0 .1) (c .before .before .match .rest .0 .0 .0 .1) (c .before .before .match .rest .0 .0 .1) (c .before .before .match .rest .0 .1) (c .before .before .match .rest .1))
 
--- src/lib.rt:395:1
 returns : tie.Need-returns
-returns c = ?
+returns c = leaf-true (c .match .keys1)
 
--- src/lib.rt:395:1
 returns-2 : tie.Need-returns-2
-returns-2 c = ?
+returns-2 c = leaf-false (c .match .keys2)
 
--- src/lib.rt:395:1
 returns-3 : tie.Need-returns-3
-returns-3 c = ?
+returns-3 c = leaf-null (c .match .keys3)
 
--- src/lib.rt:395:1
 returns-4 : tie.Need-returns-4
-returns-4 c = ?
+returns-4 c = leaf-slot (outcome (c .read-slot .result)) (c .before .before .match .keys4) (c .read-slot .ensures)
 
--- src/lib.rt:395:1
 same-length : tie.Need-same-length
 same-length c = search needs
 
--- src/lib.rt:395:1
 returns-5 : tie.Need-returns-5
-returns-5 c = ?
+returns-5 c = leaf-new (c .before .before .before .before .before .before .match .keys5) (c .before .before .new-object .ensures)
 
--- src/lib.rt:395:1
 same-length-2 : tie.Need-same-length-2
 same-length-2 c = search needs
 
--- src/lib.rt:395:1
 returns-6 : tie.Need-returns-6
-returns-6 c = search needs
+returns-6 c = c .before .before .reclassify .ensures
 
 pub leaf-spec : {M : Type 1} → statement M
 leaf-spec =

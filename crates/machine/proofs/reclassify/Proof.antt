@@ -1,3 +1,9 @@
+use Rattle.machine.proofs.Leaves.{leaf-row, leaf-room, pre-change, change-missing, change-done}
+use Rattle.machine.proofs.Values.{not-gave, outcome-value, small-decoded}
+use Rattle.machine.specs.Machine.{outcome, decoded}
+use native.Mathlib.Omega.{arith}
+use Prim.Native.Nat.{_+_, _-_, _*_, _<_}
+use mathlib.Core.Path.{_≡_}
 use borrow.Author.Needs.{needs}
 use Rattle.machine.proofs.reclassify.Statement.{statement}
 use Rattle.machine.proofs.reclassify.Tie as tie
@@ -6,65 +12,50 @@ use Rattle.machine.proofs.reclassify.Lts as lts
 use Rattle.machine.proofs.change_class.Reads as change-class-reads
 use Rattle.machine.proofs.read_slot.Reads as read-slot-reads
 
--- src/lib.rt:371:18
 mul-k : tie.Need-mul-k
-mul-k c = ?
+mul-k c = omega (arith, leaf-row (c .before .before .before .before .pre .0))
 
--- src/lib.rt:371:18
 add-k : tie.Need-add-k
-add-k c = ?
+add-k c = omega (arith, leaf-row (c .before .before .before .before .pre .0))
 
--- src/lib.rt:371:13
 mul-k-2 : tie.Need-mul-k-2
-mul-k-2 c = ?
+mul-k-2 c = omega (arith, leaf-row (c .before .before .before .before .pre .0))
 
--- src/lib.rt:371:13
 shared-slice-read-k : tie.Need-shared-slice-read-k
-shared-slice-read-k c = ?
+shared-slice-read-k c = omega (arith, leaf-row (c .before .before .before .before .before .pre .0))
 
--- src/lib.rt:371:13
 cast-k : tie.Need-cast-k
-cast-k c = ?
+cast-k c = omega (arith, c .shared-slice-known4 .given (c .before .before .before .before .before .args .at * 4 + 1))
 
--- src/lib.rt:372:9
 read-slot-requires : tie.Need-read-slot-requires
-read-slot-requires c κs = search needs
+read-slot-requires c κs = leaf-room (c .before .before .before .before .before .pre .0)
 
--- src/lib.rt:374:9
 returns : tie.Need-returns
-returns c = ?
+returns c = change-missing (outcome (c .before .read-slot .result)) (c .before .before .before .before .before .before .before .pre .1) (c .before .read-slot .ensures) (not-gave (c .before .read-slot .result) (c .if1 .taken))
 
--- src/lib.rt:376:46
 cast-change-class : tie.Need-cast-change-class
 cast-change-class c = search needs
 
--- src/lib.rt:376:61
 mul-change-class : tie.Need-mul-change-class
-mul-change-class c = ?
+mul-change-class c = omega (arith, leaf-row (c .before .before .before .before .before .before .before .before .before .pre .0))
 
--- src/lib.rt:376:61
 add-change-class : tie.Need-add-change-class
-add-change-class c = ?
+add-change-class c = omega (arith, leaf-row (c .before .before .before .before .before .before .before .before .before .pre .0))
 
--- src/lib.rt:376:56
 mul-change-class-2 : tie.Need-mul-change-class-2
-mul-change-class-2 c = ?
+mul-change-class-2 c = omega (arith, leaf-row (c .before .before .before .before .before .before .before .before .before .pre .0))
 
--- src/lib.rt:376:56
 shared-slice-read-change-class : tie.Need-shared-slice-read-change-class
-shared-slice-read-change-class c = ?
+shared-slice-read-change-class c = omega (arith, leaf-row (c .before .before .before .before .before .before .before .before .before .before .pre .0))
 
--- src/lib.rt:376:5
 change-class-requires : tie.Need-change-class-requires
-change-class-requires c κs = ?
+change-class-requires c κs = pre-change (decoded (c .before .before .before .before .read-slot .result)) (c .before .before .before .before .before .before .before .before .before .before .pre .0) (c .before .before .before .before .before .before .before .before .before .before .pre .1) (small-decoded (c .before .before .before .before .read-slot .result) (c .before .before .before .if1 .left))
 
--- src/lib.rt:358:1
 same-length : tie.Need-same-length
-same-length c = search needs
+same-length c = c .before .before .change-class .kept .1 .1 .0
 
--- src/lib.rt:358:1
 returns-2 : tie.Need-returns-2
-returns-2 c = ?
+returns-2 c = change-done (outcome (c .before .before .before .before .before .before .before .read-slot .result)) (decoded (c .before .before .before .before .before .before .before .read-slot .result)) (c .before .before .before .before .before .before .before .before .before .before .before .before .before .pre .1) (c .before .before .before .before .before .before .before .read-slot .ensures) (outcome-value (c .before .before .before .before .before .before .before .read-slot .result) (c .before .before .before .before .before .before .if1 .left)) (c .before .before .change-class .ensures)
 
 pub reclassify-spec : {M : Type 1} → statement M
 reclassify-spec =
