@@ -2,7 +2,7 @@
 use mathlib.Core.Path.{_≡_, refl, sym, ap, _∙_}
 use mathlib.Core.Bool.{Bool, true, false, cond}
 use lib.Dec.{eqb, leb}
-use borrow.Author.Tests.{le-leb, lt-leb}
+use borrow.Author.Tests.{le-leb, lt-leb, ne-eqb}
 use mathlib.Core.Logic.{_⊎_, inl, inr, ⊎-elim}
 use mathlib.Core.List.{List, [], _∷_}
 use Prim.Native.Nat.{ℕ, zero, suc, _+_, _-_, _≤_, _<_}
@@ -162,3 +162,24 @@ outcome-full = refl
 
 pub small-of : {o : Outcome} {v : Value} → o ≡ Gave v → SmallOutcome o → Small v
 small-of e h = rw e at h
+
+pub gave-number : (x : ℕ) {v : Value} → v ≡ decoded x → x < 4294967296 → Gave v ≡ outcome x
+gave-number x e h = ap Gave e ∙ sym (outcome-value x h)
+
+pub small-number : (x : ℕ) {v : Value} → v ≡ decoded x → x < 4294967296 → Small v
+small-number x e h = rw e (small-decoded x h)
+
+-- which failure a number is
+pub failure-raised : (n : ℕ) → 1 ≤ n → n ≤ 2 → failure n ≡ Raised n
+failure-raised n h k = rw (ne-eqb n 0 (λ e. omega arith), le-leb n 2 k)
+
+pub failure-stopped : (n : ℕ) → 3 ≤ n → failure n ≡ Stopped n
+failure-stopped n h = rw (ne-eqb n 0 (λ e. omega arith), lt-leb n 2 h)
+
+-- the failures that there are have small numbers
+pub failure-low : (x : ℕ) → 4294967296 ≤ x → SmallOutcome (outcome x) → x ≤ 4294967312
+failure-low x h m = go (lt-or (x - 4294967296) 3)
+  where
+    go : (x - 4294967296 < 3) ⊎ (3 ≤ x - 4294967296) → x ≤ 4294967312
+    go (inl a) = omega arith
+    go (inr a) = let z = rw (outcome-failure x h ∙ failure-stopped (x - 4294967296) a) at m in omega (arith, z)
