@@ -237,13 +237,14 @@ new-made R T s s₁ c n h room w = record {
     only made i k (inr o) = absurd (omega arith)
 
 -- the same of the number that is returned and of the tally, which counts the new object
-pub new-told : {R T s s₁ : List ℕ} (t : List ℕ) {c : ℕ} → length t ≡ 3 → getD t 1 0 < 65535 → getD t 1 0 * 18 + 18 ≤ length s → Filled R T s s₁ (getD t 1 0 * 18) c 0
-    → PostNew R T s (set s₁ (getD t 1 0 * 18) c) c (counts-in t) (answered (getD t 1 0 + 3) (set t 1 (getD t 1 0 + 1)))
-new-told {R} {T} {s} {s₁} t {c} long h room w =
+pub new-told : {R T s s₁ t′ : List ℕ} (t : List ℕ) {c : ℕ} → (1 < length t) × (t′ ≡ set t 1 (getD t 1 0 + 1)) → getD t 1 0 < 65535
+    → getD t 1 0 * 18 + 18 ≤ length s → Filled R T s s₁ (getD t 1 0 * 18) c 0
+    → PostNew R T s (set s₁ (getD t 1 0 * 18) c) c (counts-in t) (answered (getD t 1 0 + 3) t′)
+new-told {R} {T} {s} {s₁} t {c} (long, q) h room w =
     let made : ℕ = getD t 1 0 in
     let e : Object made ≡ decoded (made + 3) = let z : made + 3 - 3 ≡ made = omega arith in sym (decoded-object (made + 3) (omega arith) ∙ ap Object z) in
     let r = ap₂ (λ o m. answer o m) (gave-number (made + 3) e (omega arith)) (sym (set-made t (made + 1) long)) in
-    rw (← r) (new-made R T s s₁ c (counts-in t) h room w)
+    rw (q, ← r) (new-made R T s s₁ c (counts-in t) h room w)
 
 -- R
 module _ (R T s : List ℕ) (d : ℕ) (n : Counts) where
@@ -319,9 +320,11 @@ change-of e f p = rw (← e, ← f) p
 pub same-number : {x : ℕ} {v : Value} {n : Counts} → v ≡ decoded x → x < 4294967296 → answer (Gave v) n ≡ answer (outcome x) n
 same-number {x} {n = n} e h = ap (λ (o : Outcome). answer o n) (gave-number x e h)
 
-pub one-change : {x j : ℕ} {v : Value} (t : List ℕ) → v ≡ decoded x → v ≡ Object j → x < 4294967296 → length t ≡ 3
-    → answer (Gave (Object j)) (counts (getD t 0 0) (getD t 1 0) (getD t 2 0 + 1)) ≡ answered x (set t 2 (getD t 2 0 + 1))
-one-change {x} t e f h long = ap₂ (λ o m. answer o m) (gave-number x (sym f ∙ e) h) (sym (set-changes t (getD t 2 0 + 1) long))
+pub one-change : {x j : ℕ} {v : Value} {t′ : List ℕ} (t : List ℕ) → v ≡ decoded x → v ≡ Object j → x < 4294967296
+    → (2 < length t) × (t′ ≡ set t 2 (getD t 2 0 + 1))
+    → answer (Gave (Object j)) (counts (getD t 0 0) (getD t 1 0) (getD t 2 0 + 1)) ≡ answered x t′
+one-change {x} t e f h (long, q) =
+    rw q (ap₂ (λ o m. answer o m) (gave-number x (sym f ∙ e) h) (sym (set-changes t (getD t 2 0 + 1) long)))
 
 -- the tables that R reads
 pub record RootSpot (R T s : List ℕ) (d : ℕ) : Type 0 where

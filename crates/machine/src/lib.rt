@@ -5,7 +5,7 @@
 ghost use mathlib.Core.Path.{_≡_};
 ghost use mathlib.Core.Bool.{true};
 ghost use Prim.Native.Nat.{_+_, _*_, _≤_, _<_};
-ghost use lib.ListN.{length, getD};
+ghost use lib.ListN.{length, getD, set};
 ghost use Rattle.language.specs.Evaluation.{is-null-value};
 ghost use Rattle.machine.specs.Machine.{value, decoded, outcome, counts-in, place-of, Small, SmallOutcome};
 ghost use Rattle.machine.specs.Contracts.{first-of, first-of-type, First, Fill, Filled, Locals, Opened, PreNew, PostNew, PreChange, PostChange, PreObject, PostLoad, PostSave, PreCast, PostCast, Below, PostRead, Wrote, LetterFrom, SomeLetter, PreFind, PostFind, PreEval, PreEntered, PostEval, PostNode, one-child, no-child, PreLeaf, PostLeaf, PreApply, PostApply, PreList, PreArgs, PostItems, PostArgs, PreRun, PostRun, value-told, end-told, outcome-of, PreChecked, PostChecked, answered, nothing};
@@ -120,6 +120,14 @@ fn fill(rows: &[u32], tables: &[u16], store: &mut [u32], o: usize, c: usize, fro
     }
 }
 
+// One of the three counts becomes x.
+fn put(tally: &mut [u32], i: usize, x: u32)
+    requires { ⌜ i < length (now tally) ⌝ }
+    ensures { λ r. ⌜ (i < length (now (tally .entry))) × (now (tally .exit) ≡ set (now (tally .entry)) i x) ⌝ }
+{
+    tally[i] = x;
+}
+
 // W: a new object of class c.
 fn new_object(rows: &[u32], tables: &[u16], store: &mut [u32], tally: &mut [u32; 3], c: u32) -> u64
     requires { ⌜ PreNew (now rows) (now tables) (now store) c (counts-in (now tally) .made) ⌝ }
@@ -135,7 +143,7 @@ fn new_object(rows: &[u32], tables: &[u16], store: &mut [u32], tally: &mut [u32;
     }
     fill(rows, tables, store, o, c as usize, 0);
     store[o] = c;
-    tally[1] = made + 1;
+    put(tally, 1, made + 1);
     made as u64 + 3
 }
 
@@ -165,14 +173,15 @@ fn change_class(
     let root = tables[d as usize * 576 + 514] as usize;
     let kept = tables[root * 576 + 515] as usize;
     let o = j as usize * 18;
-    let old = store[o] as usize;
-    let own = tables[old * 576 + 515] as usize;
+    let old = store[o];
+    let own = tables[old as usize * 576 + 515] as usize;
     if own < kept {
         return STUCK;
     }
     fill(rows, tables, store, o, d as usize, kept);
     store[o] = d;
-    tally[2] += 1;
+    let changes = tally[2];
+    put(tally, 2, changes + 1);
     n as u64
 }
 

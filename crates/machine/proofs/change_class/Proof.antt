@@ -1,9 +1,10 @@
-use Rattle.machine.proofs.Values.{small-number}
-use Rattle.machine.proofs.Fresh.{root-spot, change-fill, change-null, change-truth, change-past, change-few, change-made, own-spot, change-of, same-number, one-change}
-use lib.ListN.{getD, length-set}
-use native.Mathlib.Omega.{arith}
-use Prim.Native.Nat.{_+_, _-_, _*_}
 use mathlib.Core.Path.{refl, sym, _∙_}
+use Prim.Native.Nat.{_+_, _-_, _*_}
+use native.Mathlib.Omega.{arith}
+use lib.ListN.{getD, length-set}
+use Rattle.machine.proofs.Values.{small-number}
+use Rattle.machine.proofs.Fresh.{root-spot, change-fill, change-null, change-truth, change-past, change-few, change-made}
+use Rattle.machine.proofs.Fresh.{own-spot, change-of, same-number, one-change}
 use borrow.Author.Needs.{needs}
 use Rattle.machine.proofs.change_class.Statement.{statement}
 use Rattle.machine.proofs.change_class.Tie as tie
@@ -12,6 +13,7 @@ use Rattle.machine.proofs.change_class.Lts as lts
 use Rattle.machine.proofs.decode.Reads as decode-reads
 use Rattle.machine.proofs.fill.Reads as fill-reads
 use Rattle.machine.proofs.is_null.Reads as is-null-reads
+use Rattle.machine.proofs.put.Reads as put-reads
 
 decode-requires : tie.Need-decode-requires
 decode-requires c κs = search needs
@@ -76,8 +78,8 @@ mul-old c = omega (arith, own-spot (c .before .before .before .before .before .b
 slice-read-old : tie.Need-slice-read-old
 slice-read-old c = omega (arith, own-spot (c .before .before .before .before .before .before .before .before .before .before .before .before .before .before .pre .new) (c .before .before .before .before .before .before .v .given .0 .0) (c .before .before .before .if2 .left))
 
-cast-old : tie.Need-cast-old
-cast-old c = omega (arith, own-spot (c .before .before .before .before .before .before .before .before .before .before .before .before .before .before .pre .new) (c .before .before .before .before .before .before .v .given .0 .0) (c .before .before .before .if2 .left))
+cast-own : tie.Need-cast-own
+cast-own c = omega (arith, own-spot (c .before .before .before .before .before .before .before .before .before .before .before .before .before .before .pre .new) (c .before .before .before .before .before .before .v .given .0 .0) (c .before .before .before .if2 .left))
 
 mul-own : tie.Need-mul-own
 mul-own c = omega (arith, own-spot (c .before .before .before .before .before .before .before .before .before .before .before .before .before .before .pre .new) (c .before .before .before .before .before .before .v .given .0 .0) (c .before .before .before .if2 .left))
@@ -91,8 +93,8 @@ mul-own-2 c = omega (arith, own-spot (c .before .before .before .before .before 
 shared-slice-read-own : tie.Need-shared-slice-read-own
 shared-slice-read-own c = omega (arith, own-spot (c .before .before .before .before .before .before .before .before .before .before .before .before .before .before .before .pre .new) (c .before .before .before .before .before .before .before .v .given .0 .0) (c .before .before .before .before .if2 .left))
 
-cast-own : tie.Need-cast-own
-cast-own c = omega (arith, c .shared-slice-known5 .given (getD (c .before .before .before .before .before .before .before .before .before .before .before .before .before .before .before .args .store .now) (c .before .before .before .before .before .before .before .v .given .0 .0 * 18) 0 * 576 + 515))
+cast-own-2 : tie.Need-cast-own-2
+cast-own-2 c = omega (arith, c .shared-slice-known5 .given (getD (c .before .before .before .before .before .before .before .before .before .before .before .before .before .before .before .args .store .now) ((c .before .before .before .before .before .before .before .v .given .0 .0) * 18) 0 * 576 + 515))
 
 returns-4 : tie.Need-returns-4
 returns-4 c = change-of (c .before .before .before .before .before .before .before .before .before .before .before .before .decode .ensures) refl (change-few (c .before .before .before .before .before .before .before .before .v .given .0 .0) (c .before .before .before .before .before .before .before .before .v .given .1) (c .before .before .before .before .before .if2 .left) (c .if3 .taken))
@@ -106,20 +108,20 @@ mul-store c = omega (arith, c .before .before .before .before .before .before .b
 slice-write-store : tie.Need-slice-write-store
 slice-write-store c = omega (arith, c .before .before .before .before .before .before .before .before .before .if2 .left, c .before .before .before .before .before .before .before .before .before .before .before .before .before .before .before .before .before .before .before .before .pre .new .sound .stored, c .before .before .fill .ensures .long)
 
-element-copy-out-tally : tie.Need-element-copy-out-tally
-element-copy-out-tally c = search needs
+element-copy-out-changes : tie.Need-element-copy-out-changes
+element-copy-out-changes c = search needs
 
-add-tally : tie.Need-add-tally
-add-tally c = omega (arith, c .before .before .before .before .before .before .before .before .before .before .before .before .before .before .before .before .before .before .before .before .before .pre .counted)
+add-put : tie.Need-add-put
+add-put c = omega (arith, c .before .before .before .before .before .before .before .before .before .before .before .before .before .before .before .before .before .before .before .before .before .before .pre .counted)
 
-element-write-tally : tie.Need-element-write-tally
-element-write-tally c = search needs
+put-requires : tie.Need-put-requires
+put-requires c κs = search needs
 
 same-length : tie.Need-same-length
-same-length c = simp length-set (c .before .before .before .fill .ensures .long)
+same-length c = simp length-set (c .before .before .before .before .before .fill .ensures .long)
 
 returns-5 : tie.Need-returns-5
-returns-5 c = change-of (c .before .before .before .before .before .before .before .before .before .before .before .before .before .before .before .before .before .decode .ensures) (one-change (c .before .before .before .before .before .before .before .before .before .before .before .before .before .before .before .before .before .before .before .before .before .args .tally .now) (c .before .before .before .before .before .before .before .before .before .before .before .before .before .before .before .before .before .decode .ensures) (c .before .before .before .before .before .before .before .before .before .before .before .before .before .v .given .1) (omega (arith, c .before .before .before .before .before .before .before .before .before .before .before .before .before .before .before .before .before .before .before .before .before .fits .n)) ?) (change-made (c .before .before .before .fill .last .1 .1 .0) (c .before .before .before .before .before .before .before .before .before .before .before .before .before .v .given .0 .0) (c .before .before .before .before .before .before .before .before .before .before .before .before .before .v .given .1) (c .before .before .before .before .before .before .before .before .before .before .if2 .left) (c .before .before .before .before .before .if3 .left) (small-number (c .before .before .before .before .before .before .before .before .before .before .before .before .before .before .before .before .before .before .before .before .before .args .n) (c .before .before .before .before .before .before .before .before .before .before .before .before .before .before .before .before .before .decode .ensures) (omega (arith, c .before .before .before .before .before .before .before .before .before .before .before .before .before .before .before .before .before .before .before .before .before .fits .n))) (root-spot (c .before .before .before .before .before .before .before .before .before .before .before .before .before .before .before .before .before .before .before .before .before .pre .new) .kept) (c .before .before .before .fill .ensures))
+returns-5 c = change-of (c .before .before .before .before .before .before .before .before .before .before .before .before .before .before .before .before .before .before .before .decode .ensures) (one-change (c .before .before .before .before .before .before .before .before .before .before .before .before .before .before .before .before .before .before .before .before .before .before .before .args .tally .now) (c .before .before .before .before .before .before .before .before .before .before .before .before .before .before .before .before .before .before .before .decode .ensures) (c .before .before .before .before .before .before .before .before .before .before .before .before .before .before .before .v .given .1) (omega (arith, c .before .before .before .before .before .before .before .before .before .before .before .before .before .before .before .before .before .before .before .before .before .before .before .fits .n)) (c .put .ensures)) (change-made (c .before .before .before .before .before .fill .last .1 .1 .0) (c .before .before .before .before .before .before .before .before .before .before .before .before .before .before .before .v .given .0 .0) (c .before .before .before .before .before .before .before .before .before .before .before .before .before .before .before .v .given .1) (c .before .before .before .before .before .before .before .before .before .before .before .before .if2 .left) (c .before .before .before .before .before .before .before .if3 .left) (small-number (c .before .before .before .before .before .before .before .before .before .before .before .before .before .before .before .before .before .before .before .before .before .before .before .args .n) (c .before .before .before .before .before .before .before .before .before .before .before .before .before .before .before .before .before .before .before .decode .ensures) (omega (arith, c .before .before .before .before .before .before .before .before .before .before .before .before .before .before .before .before .before .before .before .before .before .before .before .fits .n))) (root-spot (c .before .before .before .before .before .before .before .before .before .before .before .before .before .before .before .before .before .before .before .before .before .before .before .pre .new) .kept) (c .before .before .before .before .before .fill .ensures))
 
 pub change-class-spec : {M : Type 1} → statement M
 change-class-spec =
@@ -146,18 +148,18 @@ change-class-spec =
     mul-o
     mul-old
     slice-read-old
-    cast-old
+    cast-own
     mul-own
     add-own
     mul-own-2
     shared-slice-read-own
-    cast-own
+    cast-own-2
     returns-4
     fill-requires
     mul-store
     slice-write-store
-    element-copy-out-tally
-    add-tally
-    element-write-tally
+    element-copy-out-changes
+    add-put
+    put-requires
     same-length
     returns-5)

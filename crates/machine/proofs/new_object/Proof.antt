@@ -1,14 +1,15 @@
+use Prim.Native.Nat.{_+_, _-_, _*_}
+use native.Mathlib.Omega.{arith}
+use lib.ListN.{length-set, getD}
 use Rattle.machine.specs.Machine.{counts-in}
 use Rattle.machine.proofs.Fresh.{new-fill, new-full, full-count, full-store, new-told}
-use lib.ListN.{length-set, getD}
-use native.Mathlib.Omega.{arith}
-use Prim.Native.Nat.{_+_, _-_, _*_}
 use borrow.Author.Needs.{needs}
 use Rattle.machine.proofs.new_object.Statement.{statement}
 use Rattle.machine.proofs.new_object.Tie as tie
 use Rattle.machine.proofs.new_object.Reads as reads
 use Rattle.machine.proofs.new_object.Lts as lts
 use Rattle.machine.proofs.fill.Reads as fill-reads
+use Rattle.machine.proofs.put.Reads as put-reads
 
 element-copy-out-made : tie.Need-element-copy-out-made
 element-copy-out-made c = search needs
@@ -37,11 +38,11 @@ mul-store c = omega (arith, c .before .before .before .before .before .if1 .left
 slice-write-store : tie.Need-slice-write-store
 slice-write-store c = omega (arith, c .before .before .before .before .if2 .left, c .before .before .fill .ensures .long)
 
-add-tally : tie.Need-add-tally
-add-tally c = search needs
+add-put : tie.Need-add-put
+add-put c = search needs
 
-element-write-tally : tie.Need-element-write-tally
-element-write-tally c = search needs
+put-requires : tie.Need-put-requires
+put-requires c κs = search needs
 
 cast-result : tie.Need-cast-result
 cast-result c = search needs
@@ -50,10 +51,10 @@ add-result : tie.Need-add-result
 add-result c = search needs
 
 same-length : tie.Need-same-length
-same-length c = simp length-set (c .before .before .fill .ensures .long)
+same-length c = simp length-set (c .before .before .before .before .fill .ensures .long)
 
 returns-3 : tie.Need-returns-3
-returns-3 c = new-told (c .before .before .before .before .before .before .before .before .before .before .args .tally .now) ? (c .before .before .before .before .before .if1 .left) (c .before .before .before .before .if2 .left) (c .before .before .fill .ensures)
+returns-3 c = new-told (c .before .before .before .before .before .before .before .before .before .before .before .before .args .tally .now) (c .put .ensures) (c .before .before .before .before .before .before .before .if1 .left) (c .before .before .before .before .before .before .if2 .left) (c .before .before .before .before .fill .ensures)
 
 pub new-object-spec : {M : Type 1} → statement M
 new-object-spec =
@@ -68,8 +69,8 @@ new-object-spec =
     fill-requires
     mul-store
     slice-write-store
-    add-tally
-    element-write-tally
+    add-put
+    put-requires
     cast-result
     add-result
     same-length
