@@ -39,18 +39,6 @@ decoded-null (suc zero) a b h = absurd (a refl)
 decoded-null (suc (suc zero)) a b h = absurd (b refl)
 decoded-null (suc (suc (suc n))) a b h = absurd (omega arith)
 
--- an object's number
-pub object-of-number : (n : ℕ) → 3 ≤ n → object (n - 3) ≡ value-of-number n
-object-of-number n h =
-    let e : n ≡ suc (suc (suc (n - 3))) = omega arith in
-    sym (ap value-of-number e)
-
-pub null-of-number : (n : ℕ) → (n ≡ 1 → ⊥) → (n ≡ 2 → ⊥) → n < 3 → null ≡ value-of-number n
-null-of-number zero a b h = refl
-null-of-number (suc zero) a b h = absurd (a refl)
-null-of-number (suc (suc zero)) a b h = absurd (b refl)
-null-of-number (suc (suc (suc n))) a b h = absurd (omega arith)
-
 -- a result whose slots are not looked at
 pub bare-ok : {A : Type 0} (o : Out A) {a : A} {s : State} → ok a s ≡ bare o → o ≡ ok a s
 unfolding bare
@@ -155,10 +143,6 @@ outcome-spent = refl
 pub outcome-deep : outcome 4294967311 ≡ Stopped 15
 unfolding outcome
 outcome-deep = refl
-
-pub outcome-full : outcome 4294967312 ≡ Stopped 16
-unfolding outcome
-outcome-full = refl
 
 pub small-of : {o : Outcome} {v : Value} → o ≡ Gave v → SmallOutcome o → Small v
 small-of e h = rw e at h
