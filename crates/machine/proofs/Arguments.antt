@@ -19,11 +19,11 @@ use Rattle.language.specs.Evaluation.{Value as Meaning, State, Out, eval-all}
 use Rattle.language.specs.Store.{capacity}
 use Rattle.machine.specs.declared.Value.{Value}
 use Rattle.machine.specs.declared.Value.the-variants.{Null}
-use Rattle.machine.specs.declared.Outcome.{Outcome}
-use Rattle.machine.specs.declared.Outcome.the-variants.{Gave, Raised, Stopped, Stuck}
-use Rattle.machine.specs.declared.Counts.{Counts}
+use Rattle.machine.specs.Machine.{Outcome}
+use Rattle.machine.specs.Machine.{Gave, Raised, Stopped, Stuck}
+use Rattle.machine.specs.Machine.{Counts}
 use Rattle.machine.specs.declared.Place.{Place}
-use Rattle.machine.specs.declared.Answer.{Answer}
+use Rattle.machine.specs.Contracts.{Answer}
 use Rattle.machine.specs.Machine.{value, Small, bare, told, told-all, slots-of, state, frame-of, WithinAll}
 use Rattle.machine.specs.Contracts
 use Rattle.machine.specs.Contracts.{answer, Ready, Kept, PostEval, PreArgs, PostArgs, DoneAll, evaluated, evaluated-all}
@@ -169,15 +169,15 @@ pub record ArgsLoop (R E T A s₀ l₀ : List ℕ) (at : ℕ) (q : Place) (m : �
   pub long-slots : length l ≡ length l₀
   pub rest : (s′ l′ : List ℕ) (r′ : Answer) → PostArgs R E T A s l s′ l′ next (to q top) (r .counts) (m - i) r′ → PostArgs R E T A s₀ l₀ s′ l′ at q (r₀ .counts) m r′
 
-pub args-start : {R E T A s l : List ℕ} {at : ℕ} {q : Place} {n : Counts} {m : ℕ} → PreArgs R E T A s l at q n m
-    → ArgsLoop R E T A s l at q m (answer (Gave Null) n) s l (answer (Gave Null) n) (q .top) at 0
-args-start {m = m} p =
+pub args-start : {R E T A s l : List ℕ} {at : ℕ} {q : Place} {n : Counts} {m : ℕ} {o : Outcome} → PreArgs R E T A s l at q n m → o ≡ Gave Null
+    → ArgsLoop R E T A s l at q m (answer (Gave Null) n) s l (answer o n) (q .top) at 0
+args-start {m = m} p gave =
     let z : m - 0 ≡ m = omega arith in
     record {
       low = omega arith;
       args = rw z p;
       v = Null;
-      gave = refl;
+      gave = gave;
       small = omega arith;
       falls = omega arith;
       long-store = refl;

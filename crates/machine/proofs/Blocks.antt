@@ -20,11 +20,11 @@ use Rattle.language.specs.Encoded.{Encoded, EncodedAll, LocalsAt}
 use Rattle.language.specs.Evaluation.{Value as Meaning, null, Out, last-value, initial, with-frame}
 use Rattle.language.specs.Store.{capacity}
 use Rattle.machine.specs.declared.Value.the-variants.{Null}
-use Rattle.machine.specs.declared.Outcome.{Outcome}
-use Rattle.machine.specs.declared.Outcome.the-variants.{Gave, Raised, Stopped, Stuck}
-use Rattle.machine.specs.declared.Counts.{Counts}
+use Rattle.machine.specs.Machine.{Outcome}
+use Rattle.machine.specs.Machine.{Gave, Raised, Stopped, Stuck}
+use Rattle.machine.specs.Machine.{Counts}
 use Rattle.machine.specs.declared.Place.{Place}
-use Rattle.machine.specs.declared.Answer.{Answer}
+use Rattle.machine.specs.Contracts.{Answer}
 use Rattle.machine.specs.Machine.{value, bare, told, slots-of, NamedAll, Named, inside, state, frame-of, Within, WithinAll}
 use Rattle.machine.specs.Contracts
 use Rattle.machine.specs.Contracts.{Ready, PreEntered, PostNode, PreList, PostItems, Opened, Locals, first-of-type, evaluated-all}

@@ -23,15 +23,15 @@ use Rattle.language.specs.Encoded.{Encoded, EncodedAll}
 use Rattle.language.specs.Evaluation.{Value as Meaning, null, object, State, Out, Limits, eval, with-limits, eval-all, do-call, call-at, with-frame, Object as Thing}
 use Rattle.language.specs.Store.{capacity}
 use Rattle.machine.specs.declared.Value.{Value}
-use Rattle.machine.specs.declared.Outcome.{Outcome}
-use Rattle.machine.specs.declared.Outcome.the-variants.{Gave, Raised, Stopped, Stuck}
-use Rattle.machine.specs.declared.Counts.{Counts}
+use Rattle.machine.specs.Machine.{Outcome}
+use Rattle.machine.specs.Machine.{Gave, Raised, Stopped, Stuck}
+use Rattle.machine.specs.Machine.{Counts}
 use Rattle.machine.specs.declared.Place.{Place}
-use Rattle.machine.specs.declared.Answer.{Answer}
-use Rattle.machine.specs.Machine.{value, bare, told, told-all, slots-of, this-of, inside, state, frame-of, Within, WithinAll}
+use Rattle.machine.specs.Contracts.{Answer}
+use Rattle.machine.specs.Machine.{value, decoded, outcome, bare, told, told-all, slots-of, this-of, inside, state, frame-of, Within, WithinAll}
 use Rattle.machine.specs.Contracts
 use Rattle.machine.specs.Contracts.{answer, Ready, Kept, PreEval, PreEntered, PostEval, PostNode, PreArgs, PreFind, PostFind, Found, NotFound, PostArgs, DoneAll, calls-of, evaluated, evaluated-all}
-use Rattle.machine.proofs.Values.{bare-ok, bare-stop}
+use Rattle.machine.proofs.Values.{bare-ok, bare-stop, value-decoded}
 use Rattle.machine.proofs.Nodes
 use Rattle.machine.proofs.Nodes.{head, as-call}
 use Rattle.machine.proofs.Steps
@@ -202,19 +202,26 @@ module _ {R E T A s l s′ l′ : List ℕ} {at : ℕ} {q : Place} {n : Counts} 
   pub call-body : PreEval R E T A s′ l′ b (called q (getD R (at * 4 + 2) 0)) (r .counts)
   call-body = record { P = P; e = found .M .body; d = 128; ready = ready-body; encoded = found .encoded; within = found .within (getD R (at * 4 + 2) 0) (omega (arith, x .many, x .few)) }
 
-module _ {R E T A s l s′ l′ : List ℕ} (at : ℕ) {q : Place} {n : Counts} {r : Answer} {v w : Value} (h : getD R (at * 4) 0 ≡ 81) (g : PostArgs R E T A s l s′ l′ (at + 1) q n (getD R (at * 4 + 2) 0 + 1) r)
-    (e₁ : r .outcome ≡ Gave w) (dv : value v ≡ value-of-number (getD l′ (q .top) 0)) where
-  pub call-ends : {o : Outcome} {z : Target} → z ≡ Fails o → PostFind R T s′ v (getD R (at * 4 + 1) 0) (r .counts) (q .calls) z → PostNode R E T A s l s′ l′ at q n (answer o (r .counts))
+module _ {R E T A s l s′ l′ : List ℕ} (at : ℕ) {q : Place} {n : Counts} {r : Answer} {w : Value} (h : getD R (at * 4) 0 ≡ 81) (g : PostArgs R E T A s l s′ l′ (at + 1) q n (getD R (at * 4 + 2) 0 + 1) r)
+    (e₁ : r .outcome ≡ Gave w) where
+  -- the receiver
+  abbrev v : Value
+  v = decoded (getD l′ (q .top) 0)
+
+  dv : value v ≡ value-of-number (getD l′ (q .top) 0)
+  dv = value-decoded (getD l′ (q .top) 0)
+
+  pub call-ends : {o : ℕ} {z : Target} → z ≡ Fails o → PostFind R T s′ v (getD R (at * 4 + 1) 0) (r .counts) (q .calls) z → PostNode R E T A s l s′ l′ at q n (answer (outcome o) (r .counts))
   call-ends {o} u p = record {
     done = λ P e d F k f enc wi z.
         let y = as-call e (sym (head e enc .letter) ∙ h) in
         let x = call-parts {at = at} P (y .0) (y .1) (y .2) d F k f (rw (y .3) at enc) (rw (y .3) at wi) z in
         let kp = kept-args x g in
         let K : Method → State → Out Meaning = λ M t. calls-of P F (capacity s) (q .calls) M t in
-        let nf : NotFound P s′ v (getD R (at * 4 + 1) 0) (r .counts) (q .calls) o = rw u at (p .is E A P (f .holds) (kp .stored .sound)) in
+        let nf : NotFound P s′ v (getD R (at * 4 + 1) 0) (r .counts) (q .calls) (outcome o) = rw u at (p .is E A P (f .holds) (kp .stored .sound)) in
         let i = nf .is (with-limits F (capacity s)) (slots-of l′ (q .top + 1) (getD R (at * 4 + 2) 0)) (frame-of l′ q) (F - r .counts .left) in
         record {
-          kept = kept-as 1 o (kept-more 0 1 kp (omega arith)) (nf .small);
+          kept = kept-as 1 (outcome o) (kept-more 0 1 kp (omega arith)) (nf .small);
           is = rw (y .3, call-in-a-row (world P) (with-limits F (capacity s)) K (y .0) (y .1) (y .2) (state P s l q n k), args-gave x g v e₁ dv) (rw (x .first) at i);
         };
   }

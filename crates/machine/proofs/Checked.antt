@@ -17,13 +17,13 @@ use Rattle.theory.specs.Accepts.{check-accepts}
 use Rattle.theory.specs.Members.{well-formed-never-stuck, accepted-run}
 use Rattle.machine.specs.declared.Value.{Value}
 use Rattle.machine.specs.declared.Value.the-variants.{Truth, Object}
-use Rattle.machine.specs.declared.Outcome.{Outcome}
-use Rattle.machine.specs.declared.Outcome.the-variants.{Gave, Raised, Stopped, Stuck}
+use Rattle.machine.specs.Machine.{Outcome}
+use Rattle.machine.specs.Machine.{Gave, Raised, Stopped, Stuck}
 use Rattle.machine.specs.declared.End.{End}
 use Rattle.machine.specs.declared.End.the-variants.{Gave as EndGave, Raised as EndRaised, Stopped as EndStopped}
 use Rattle.machine.specs.declared.Ran.{Ran}
 use Rattle.machine.specs.declared.Run.{Run}
-use Rattle.machine.specs.Machine.{value, Small, SmallOutcome, stop-of}
+use Rattle.machine.specs.Machine.{value, Small, SmallOutcome, outcome, stop-of}
 use Rattle.machine.specs.Contracts.{LetterFrom, SomeLetter, Accepted, Runs, PreRun, PostRun, PreChecked, PostChecked, Tells, outcome-of, value-told, end-told}
 use Rattle.machine.proofs.Objects.{lt-or}
 use Rattle.machine.proofs.Acts.{same-letter}
@@ -100,14 +100,14 @@ module _ {R E T A : List ℕ} (c : PreChecked R E T A) where
     pre-start = record { p = c .p; runs = starts (c .accepted) f room }
 
     module _ {s s′ : List ℕ} {fuel : ℕ} {r : Ran} (post : PostRun R E T A s l s′ (b + 1) fuel r) where
-      pub end-small : SmallOutcome (r .outcome)
+      pub end-small : SmallOutcome (outcome (r .outcome))
       end-small = post .small (c .p) (starts (c .accepted) f room)
 
-      pub checked-done : (e : End) → e ≡ end-told (outcome-of (r .outcome)) → PostChecked R E T A s s′ fuel (record { outcome = e; steps = r .steps; objects = r .objects; changes = r .changes })
+      pub checked-done : (e : End) → e ≡ end-told (outcome-of (outcome (r .outcome))) → PostChecked R E T A s s′ fuel (record { outcome = e; steps = r .steps; objects = r .objects; changes = r .changes })
       checked-done e told = record {
-        tells = λ p a. record { outcome = outcome-of (r .outcome); is = post .is p (starts a f room); told = told };
+        tells = λ p a. record { outcome = outcome-of (outcome (r .outcome)); is = post .is p (starts a f room); told = told };
         unstuck = λ z.
-            let q = stuck-only (r .outcome) end-small (sym z ∙ told) in
+            let q = stuck-only (outcome (r .outcome)) end-small (sym z ∙ told) in
             let x = stuck-end (run (with-limits fuel (capacity s)) (c .p)) s s′ (r .steps) (r .objects) (r .changes) (rw q at (post .is (c .p) (starts (c .accepted) f room))) in
             well-formed-never-stuck (c .p) (well (c .accepted)) (with-limits fuel (capacity s)) (x .0) (x .1);
       }

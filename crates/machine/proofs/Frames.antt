@@ -3,19 +3,17 @@ use mathlib.Core.Path.{_≡_, refl, sym, ap, _∙_}
 use mathlib.Core.Logic.{_⊎_, inl, inr}
 use mathlib.Core.Option.{none, some}
 use mathlib.Core.List.{List}
-use Prim.Native.Nat.{ℕ, zero, suc, _+_, _-_, _≤_, _<_}
+use Prim.Native.Nat.{ℕ, zero, suc, _+_, _≤_, _<_}
 use native.Mathlib.Omega.{arith}
 use lib.ListN.{length, getD, set, length-set}
 use lib.Seq.{getD-set-same, getD-set-other, set-out}
 use Rattle.language.specs.Frames.{frame, at-slot, with-slot}
 use Rattle.language.specs.Evaluation.{Value as Meaning}
-use Rattle.language.specs.Store.{value-number, value-of-number}
-use Rattle.machine.specs.declared.Value.{Value}
-use Rattle.machine.specs.declared.Outcome.the-variants.{Gave, Stuck}
+use Rattle.language.specs.Store.{value-of-number}
 use Rattle.machine.specs.declared.Place.{Place}
-use Rattle.machine.specs.Machine.{value, Small, bare, slots-of, frame-of, this-of}
+use Rattle.machine.specs.Machine.{value, decoded, outcome, bare, slots-of, frame-of, this-of}
 use Rattle.machine.specs.Contracts.{PostRead, Wrote}
-use Rattle.machine.proofs.Values.{value-of-value-number}
+use Rattle.machine.proofs.Values.{value-decoded, small-decoded, outcome-value, outcome-stuck}
 use Rattle.machine.proofs.Objects.{nth-none, values-at, values-ext, values-set, values-length}
 
 this-some : (calls n : ℕ) → (calls ≡ 0 → ⊥) → this-of calls n ≡ some (value-of-number n)
@@ -51,41 +49,41 @@ unfolding frame-of
 slot-past l q zero h f = absurd (omega arith)
 slot-past l q (suc k) h f = nth-none (slots-of l (q .base + 1) (q .scope)) k (omega (arith, slots-length l (q .base + 1) (q .scope) (omega arith)))
 
-module _ (l : List ℕ) (k : ℕ) (q : Place) where
-  pub read-none : at-slot (frame-of l q) k ≡ none → PostRead l k q Stuck
+module _ {l : List ℕ} {k : ℕ} {q : Place} where
+  pub read-none : at-slot (frame-of l q) k ≡ none → PostRead l k q (outcome 4294967296)
   unfolding bare
-  read-none e = record { small = tt; is = λ t. rw e }
+  read-none e = rw outcome-stuck (record { small = tt; is = λ t. rw e })
 
-  pub read-some : (w : Value) (n : ℕ) → at-slot (frame-of l q) k ≡ some (value-of-number n) → value w ≡ value-of-number n → Small w → PostRead l k q (Gave w)
+  pub read-some : (n : ℕ) → at-slot (frame-of l q) k ≡ some (value-of-number n) → n < 4294967296 → PostRead l k q (outcome n)
   unfolding bare
-  read-some w n e h m = record { small = m; is = λ t. rw (e, h) }
+  read-some n e m = rw (outcome-value n m) (record { small = small-decoded n m; is = λ t. rw (e, value-decoded n) })
 
-  pub read-zero : k ≡ 0 → at-slot (frame-of l q) 0 ≡ none → PostRead l k q Stuck
+  pub read-zero : k ≡ 0 → at-slot (frame-of l q) 0 ≡ none → PostRead l k q (outcome 4294967296)
   read-zero z e = read-none (rw z e)
 
-  pub read-this : k ≡ 0 → (w : Value) (n : ℕ) → at-slot (frame-of l q) 0 ≡ some (value-of-number n) → value w ≡ value-of-number n → Small w → PostRead l k q (Gave w)
-  read-this z w n e h m = read-some w n (rw z e) h m
+  pub read-this : k ≡ 0 → (n : ℕ) → at-slot (frame-of l q) 0 ≡ some (value-of-number n) → n < 4294967296 → PostRead l k q (outcome n)
+  read-this z n e m = read-some n (rw z e) m
 
-module _ (l : List ℕ) (k : ℕ) (v : Value) (q : Place) (room : q .base + q .scope < length l) where
-  pub write-past : q .scope < k → Wrote l l k v q
+module _ {l : List ℕ} {k : ℕ} (x : ℕ) {q : Place} (room : q .base + q .scope < length l) where
+  pub write-past : q .scope < k → Wrote l l k (decoded x) q
   unfolding frame-of
   write-past h = record { long = refl; same = λ i o. refl; is = go k h }
     where
-      go : (k : ℕ) → q .scope < k → frame-of l q ≡ with-slot (frame-of l q) k (value v)
+      go : (k : ℕ) → q .scope < k → frame-of l q ≡ with-slot (frame-of l q) k (value (decoded x))
       go zero h = absurd (omega arith)
-      go (suc k) h = ap (λ (x : List Meaning). frame (this-of (q .calls) (getD l (q .base) 0)) x)
-          (sym (set-out (slots-of l (q .base + 1) (q .scope)) k (value v) (omega (arith, slots-length l (q .base + 1) (q .scope) (omega arith)))))
+      go (suc k) h = ap (λ (y : List Meaning). frame (this-of (q .calls) (getD l (q .base) 0)) y)
+          (sym (set-out (slots-of l (q .base + 1) (q .scope)) k (value (decoded x)) (omega (arith, slots-length l (q .base + 1) (q .scope) (omega arith)))))
 
-  pub write-none : k ≡ 0 → q .calls ≡ 0 → Wrote l l k v q
+  pub write-none : k ≡ 0 → q .calls ≡ 0 → Wrote l l k (decoded x) q
   unfolding frame-of
   write-none z c = record { long = refl; same = λ i o. refl; is = rw z (go (q .calls) c) }
     where
-      go : (n : ℕ) → n ≡ 0 → frame-of l q ≡ with-slot (frame-of l q) 0 (value v)
+      go : (n : ℕ) → n ≡ 0 → frame-of l q ≡ with-slot (frame-of l q) 0 (value (decoded x))
       go n e = rw c
 
-  pub write-this : k ≡ 0 → (q .calls ≡ 0 → ⊥) → (x : ℕ) → x ≡ value-number (value v) → Wrote l (set l (q .base) x) k v q
+  pub write-this : k ≡ 0 → (q .calls ≡ 0 → ⊥) → Wrote l (set l (q .base) x) k (decoded x) q
   unfolding frame-of
-  write-this z c x e = record {
+  write-this z c = record {
     long = length-set l (q .base) x;
     same = λ i o. getD-set-other l (q .base) i x 0 (λ p. far i o p);
     is = rw z go;
@@ -95,17 +93,17 @@ module _ (l : List ℕ) (k : ℕ) (v : Value) (q : Place) (room : q .base + q .s
       far i (inl a) p = omega arith
       far i (inr a) p = omega arith
 
-      go : frame-of (set l (q .base) x) q ≡ with-slot (frame-of l q) 0 (value v)
+      go : frame-of (set l (q .base) x) q ≡ with-slot (frame-of l q) 0 (value (decoded x))
       go =
           let a = this-some (q .calls) (getD (set l (q .base) x) (q .base) 0) c in
           let b = this-some (q .calls) (getD l (q .base) 0) c in
-          let d : value-of-number (getD (set l (q .base) x) (q .base) 0) ≡ value v = ap value-of-number (getD-set-same l (q .base) x 0 (omega arith) ∙ e) ∙ value-of-value-number (value v) in
+          let d : value-of-number (getD (set l (q .base) x) (q .base) 0) ≡ value (decoded x) = ap value-of-number (getD-set-same l (q .base) x 0 (omega arith)) ∙ sym (value-decoded x) in
           let f = slots-ext (set l (q .base) x) l (q .base + 1) (q .scope) (length-set l (q .base) x) (λ i h. getD-set-other l (q .base) (q .base + 1 + i) x 0 (λ p. omega arith)) in
           rw (a, b, d, f)
 
-  pub write-at : (k ≡ 0 → ⊥) → k ≤ q .scope → (x : ℕ) → x ≡ value-number (value v) → Wrote l (set l (q .base + k) x) k v q
+  pub write-at : (k ≡ 0 → ⊥) → k ≤ q .scope → Wrote l (set l (q .base + k) x) k (decoded x) q
   unfolding frame-of slots-of
-  write-at z h x e = record {
+  write-at z h = record {
     long = length-set l (q .base + k) x;
     same = λ i o. getD-set-other l (q .base + k) i x 0 (λ p. far i o p);
     is = go k z h;
@@ -115,11 +113,11 @@ module _ (l : List ℕ) (k : ℕ) (v : Value) (q : Place) (room : q .base + q .s
       far i (inl a) p = omega arith
       far i (inr a) p = omega arith
 
-      go : (k : ℕ) → (k ≡ 0 → ⊥) → k ≤ q .scope → frame-of (set l (q .base + k) x) q ≡ with-slot (frame-of l q) k (value v)
+      go : (k : ℕ) → (k ≡ 0 → ⊥) → k ≤ q .scope → frame-of (set l (q .base + k) x) q ≡ with-slot (frame-of l q) k (value (decoded x))
       go zero z h = absurd (z refl)
       go (suc k) z h =
           let i : q .base + suc k ≡ q .base + 1 + k = omega arith in
           let a : getD (set l (q .base + 1 + k) x) (q .base) 0 ≡ getD l (q .base) 0 = getD-set-other l (q .base + 1 + k) (q .base) x 0 (λ p. omega arith) in
           let b = values-set l (q .base + 1) (q .scope) k x (omega arith) in
-          let d : value-of-number x ≡ value v = ap value-of-number e ∙ value-of-value-number (value v) in
+          let d : value-of-number x ≡ value (decoded x) = sym (value-decoded x) in
           rw (i, a, b, d)

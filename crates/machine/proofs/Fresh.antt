@@ -19,12 +19,12 @@ use Rattle.language.specs.Evaluation.{Value as Meaning, object, Object as Thing
 use Rattle.language.specs.Store.{value-of-number, heap-of-numbers, capacity}
 use Rattle.machine.specs.declared.Value.{Value}
 use Rattle.machine.specs.declared.Value.the-variants.{Object}
-use Rattle.machine.specs.declared.Outcome.the-variants.{Gave, Stopped, Stuck}
-use Rattle.machine.specs.declared.Counts.{Counts}
+use Rattle.machine.specs.Machine.{Outcome, Gave, Stopped, Stuck, Counts, counts-in, decoded, outcome}
 use Rattle.machine.specs.Machine.{value, Small, bare, Holds, Sound}
-use Rattle.machine.specs.Contracts.{Stored, answer, first-of, Fill, Filled, PreNew, PostNew, PostChange}
+use Rattle.machine.specs.Contracts.{Stored, Answer, answer, answered, first-of, Fill, Filled, PreNew, PostNew, PostChange}
 use Rattle.machine.proofs.Value.{the-type}
-use Rattle.machine.proofs.Values.{value-of-value-number}
+use Rattle.machine.proofs.Values.{value-of-value-number, decoded-object, gave-number}
+use Rattle.machine.proofs.Tally.{counts, set-made, set-changes}
 use Rattle.machine.proofs.Acts
 use Rattle.machine.proofs.Acts.{null-of, truth-of, acts-same}
 use Rattle.machine.proofs.Objects
@@ -191,8 +191,8 @@ new-fill {R} {T} {s} {c} p o h = record {
       p .holds .fields c i (f .0) (p .declared) (f .1) .within;
 }
 
-pub new-full : (R T s : List ℕ) (c : ℕ) (n : Counts) → capacity s ≤ n .made → PostNew R T s s c n (answer (Stopped 16) n)
-unfolding bare
+pub new-full : (R T s : List ℕ) (c : ℕ) (n : Counts) → capacity s ≤ n .made → PostNew R T s s c n (answer (outcome 4294967312) n)
+unfolding bare outcome
 new-full R T s c n h = record { acts = λ E A P F hold snd d. acts-same n (Stopped 16) snd (omega arith, omega arith) (λ γ k. rw (heap-length (world P) (n .made) s, le-leb (capacity s) (n .made) h)) }
 
 pub full-count : (s : List ℕ) (made : ℕ) → 65535 ≤ made → capacity s ≤ made
@@ -236,20 +236,18 @@ new-made R T s s₁ c n h room w = record {
     only made i k (inl o) = o
     only made i k (inr o) = absurd (omega arith)
 
+-- the same of the number that is returned and of the tally, which counts the new object
+pub new-told : {R T s s₁ t′ : List ℕ} (t : List ℕ) {c : ℕ} → (1 < length t) × (t′ ≡ set t 1 (getD t 1 0 + 1)) → getD t 1 0 < 65535
+    → getD t 1 0 * 18 + 18 ≤ length s → Filled R T s s₁ (getD t 1 0 * 18) c 0
+    → PostNew R T s (set s₁ (getD t 1 0 * 18) c) c (counts-in t) (answered (getD t 1 0 + 3) t′)
+new-told {R} {T} {s} {s₁} t {c} (long, q) h room w =
+    let made : ℕ = getD t 1 0 in
+    let e : Object made ≡ decoded (made + 3) = let z : made + 3 - 3 ≡ made = omega arith in sym (decoded-object (made + 3) (omega arith) ∙ ap Object z) in
+    let r = ap₂ (λ o m. answer o m) (gave-number (made + 3) e (omega arith)) (sym (set-made t (made + 1) long)) in
+    rw (q, ← r) (new-made R T s s₁ c (counts-in t) h room w)
+
 -- R
-module _ (R T s : List ℕ) (v : Value) (d : ℕ) (n : Counts) where
-  pub change-null : is-null-value (value v) ≡ true → Small v → PostChange R T s s v d n (answer (Gave v) n)
-  unfolding bare
-  change-null e m = record { acts = λ E A P h snd _. acts-same n (Gave v) snd m (λ γ k. rw (null-of v e)) }
-
-  pub change-truth : OneOf (0 ∷ 1 ∷ []) (tagOf the-type v) → is-null-value (value v) ≡ false → PostChange R T s s v d n (answer Stuck n)
-  unfolding bare
-  change-truth h e = record { acts = λ E A P _ snd _. acts-same n Stuck snd tt (λ γ k. rw (truth-of v h e .1)) }
-
-  pub change-past : (j : ℕ) → v ≡ Object j → n .made ≤ j → PostChange R T s s v d n (answer Stuck n)
-  unfolding bare
-  change-past j e h = record { acts = λ E A P _ snd _. acts-same n Stuck snd tt (λ γ k. rw (ap value e, heap-past (world P) (n .made) s j h)) }
-
+module _ (R T s : List ℕ) (d : ℕ) (n : Counts) where
   -- the fields that R keeps, and those that the object has
   kept-count : {E A : List ℕ} {P : List Class} → Holds R E T A P → d ≤ length P → getD T (getD T (d * 576 + 514) 0 * 576 + 515) 0 ≡ length (world P .fields (world P .root d))
   kept-count {P = P} hold dd = ap (λ (x : ℕ). getD T (x * 576 + 515) 0) (hold .tables .roots d dd) ∙ hold .tables .counts (world P .root d) (hold .roots d dd .0)
@@ -260,12 +258,25 @@ module _ (R T s : List ℕ) (v : Value) (d : ℕ) (n : Counts) where
       let c : ℕ = getD s (j * 18) 0 in
       values-length s (j * 18 + 1) (length (world P .fields c)) (omega (arith, snd .stored, hold .counts c (snd .declared j h))) ∙ sym (hold .tables .counts c (snd .declared j h))
 
-  pub change-few : (j : ℕ) → v ≡ Object j → j < n .made → getD T (getD s (j * 18) 0 * 576 + 515) 0 < getD T (getD T (d * 576 + 514) 0 * 576 + 515) 0 → PostChange R T s s v d n (answer Stuck n)
+module _ {R T s : List ℕ} {v : Value} {d : ℕ} {n : Counts} where
+  pub change-null : is-null-value (value v) ≡ true → Small v → PostChange R T s s v d n (answer (Gave v) n)
   unfolding bare
+  change-null e m = record { acts = λ E A P h snd _. acts-same n (Gave v) snd m (λ γ k. rw (null-of v e)) }
+
+  pub change-truth : OneOf (0 ∷ 1 ∷ []) (tagOf the-type v) → is-null-value (value v) ≡ false → PostChange R T s s v d n (answer (outcome 4294967296) n)
+  unfolding bare outcome
+  change-truth h e = record { acts = λ E A P _ snd _. acts-same n Stuck snd tt (λ γ k. rw (truth-of v h e .1)) }
+
+  pub change-past : (j : ℕ) → v ≡ Object j → n .made ≤ j → PostChange R T s s v d n (answer (outcome 4294967296) n)
+  unfolding bare outcome
+  change-past j e h = record { acts = λ E A P _ snd _. acts-same n Stuck snd tt (λ γ k. rw (ap value e, heap-past (world P) (n .made) s j h)) }
+
+  pub change-few : (j : ℕ) → v ≡ Object j → j < n .made → getD T (getD s (j * 18) 0 * 576 + 515) 0 < getD T (getD T (d * 576 + 514) 0 * 576 + 515) 0 → PostChange R T s s v d n (answer (outcome 4294967296) n)
+  unfolding bare outcome
   change-few j e h few = record {
     acts = λ E A P hold snd dd.
         let z : leb (length (world P .fields (world P .root d))) (length (object-at (world P) s (j * 18) .fields)) ≡ false
-        = lt-leb (length (world P .fields (world P .root d))) (length (object-at (world P) s (j * 18) .fields)) (omega (arith, kept-count hold dd, own-count hold snd j h)) in
+        = lt-leb (length (world P .fields (world P .root d))) (length (object-at (world P) s (j * 18) .fields)) (omega (arith, kept-count R T s d n hold dd, own-count R T s d n hold snd j h)) in
         acts-same n Stuck snd tt (λ γ k. rw (ap value e, heap-at (world P) (n .made) s j h, z));
   }
 
@@ -278,13 +289,13 @@ module _ (R T s : List ℕ) (v : Value) (d : ℕ) (n : Counts) where
         let made : ℕ = n .made in
         let s′ : List ℕ = set s₁ (j * 18) d in
         let from : ℕ = getD T (getD T (d * 576 + 514) 0 * 576 + 515) 0 in
-        let g : from ≡ length (world P .fields (world P .root d)) = kept-count hold dd in
+        let g : from ≡ length (world P .fields (world P .root d)) = kept-count R T s d n hold dd in
         let room : j * 18 + 18 ≤ length s = omega (arith, snd .stored) in
         let r : Renewed R T s s′ (j * 18) d from = renewed (j * 18) d from w f17 room in
         let low : from ≤ length (world P .fields d) = omega (arith, g, hold .roots d dd .1) in
         let own : from ≤ length (world P .fields (getD s (j * 18) 0)) = omega (arith, hold .tables .counts (getD s (j * 18) 0) (snd .declared j h)) in
         let z : leb (length (world P .fields (world P .root d))) (length (object-at (world P) s (j * 18) .fields)) ≡ true
-        = le-leb (length (world P .fields (world P .root d))) (length (object-at (world P) s (j * 18) .fields)) (omega (arith, g, own-count hold snd j h)) in
+        = le-leb (length (world P .fields (world P .root d))) (length (object-at (world P) s (j * 18) .fields)) (omega (arith, g, own-count R T s d n hold snd j h)) in
         let fields = fields-filled hold s s′ (j * 18) d from (length (world P .fields (getD s (j * 18) 0))) dd low own room (r .long) (λ i l. r .kept i l) (λ i l k. r .first i l k) in
         let thing : object-at (world P) s′ (j * 18) ≡ changed (world P) d (object-at (world P) s (j * 18))
         = ap (λ (k : ℕ). record { class-of = k; fields = map value-of-number (take (length (world P .fields k)) (drop (j * 18 + 1) s′)) }) (r .class)
@@ -300,6 +311,20 @@ module _ (R T s : List ℕ) (v : Value) (d : ℕ) (n : Counts) where
           is = λ γ k. let one : n .changes + 1 ≡ suc (n .changes) = omega arith in rw (ap value e, heap-at (world P) made s j h, z, heap, one);
         };
   }
+
+-- the same of a value and an answer that are equal
+pub change-of : {R T s s′ : List ℕ} {v w : Value} {d : ℕ} {n : Counts} {r r′ : Answer} → v ≡ w → r ≡ r′ → PostChange R T s s′ v d n r → PostChange R T s s′ w d n r′
+change-of e f p = rw (← e, ← f) p
+
+-- the same of the value's number, which is returned, and of the tally, which counts the change
+pub same-number : {x : ℕ} {v : Value} {n : Counts} → v ≡ decoded x → x < 4294967296 → answer (Gave v) n ≡ answer (outcome x) n
+same-number {x} {n = n} e h = ap (λ (o : Outcome). answer o n) (gave-number x e h)
+
+pub one-change : {x j : ℕ} {v : Value} {t′ : List ℕ} (t : List ℕ) → v ≡ decoded x → v ≡ Object j → x < 4294967296
+    → (2 < length t) × (t′ ≡ set t 2 (getD t 2 0 + 1))
+    → answer (Gave (Object j)) (counts (getD t 0 0) (getD t 1 0) (getD t 2 0 + 1)) ≡ answered x t′
+one-change {x} t e f h (long, q) =
+    rw q (ap₂ (λ o m. answer o m) (gave-number x (sym f ∙ e) h) (sym (set-changes t (getD t 2 0 + 1) long)))
 
 -- the tables that R reads
 pub record RootSpot (R T s : List ℕ) (d : ℕ) : Type 0 where

@@ -4,7 +4,7 @@ use mathlib.Core.Bool.{Bool, true, false}
 use mathlib.Core.Logic.{_⊎_, inl, inr}
 use mathlib.Core.Option.{Option, none, some}
 use mathlib.Core.List.{List}
-use Prim.Native.Nat.{ℕ, _+_, _-_, _*_, _≤_, _<_}
+use Prim.Native.Nat.{ℕ, zero, suc, _+_, _-_, _*_, _≤_, _<_}
 use native.Mathlib.Omega.{arith}
 use borrow.Author.Tests.{ne-eqb}
 use lib.ListN.{length, getD}
@@ -16,14 +16,15 @@ use Rattle.language.specs.Encoded.{Encoded}
 use Rattle.language.specs.Evaluation.{Value as Meaning, State, Out, need, is-null-value, do-change}
 use Rattle.machine.specs.declared.Value.{Value}
 use Rattle.machine.specs.declared.Value.the-variants.{Null, Truth}
-use Rattle.machine.specs.declared.Outcome.{Outcome}
-use Rattle.machine.specs.declared.Outcome.the-variants.{Gave, Raised, Stopped, Stuck}
-use Rattle.machine.specs.declared.Counts.{Counts}
+use Rattle.machine.specs.Machine.{Outcome}
+use Rattle.machine.specs.Machine.{Gave, Raised, Stopped, Stuck}
+use Rattle.machine.specs.Machine.{Counts, decoded, outcome}
 use Rattle.machine.specs.declared.Place.{Place}
-use Rattle.machine.specs.declared.Answer.{Answer}
+use Rattle.machine.specs.Contracts.{Answer}
 use Rattle.machine.specs.Machine.{value, Small, SmallOutcome, bare, told, state, frame-of, Within, inside, after}
 use Rattle.machine.specs.Contracts
 use Rattle.machine.specs.Contracts.{Acts, answer, Ready, Done, PreLeaf, PostLeaf, PostRead, PostNew, PreNew, PreChange, PostChange, no-child, PreApply, PostApply, PostLoad, PostCast, PreObject, PreCast, Wrote}
+use Rattle.machine.proofs.Values.{outcome-value}
 use Rattle.machine.proofs.Acts.{stored-same}
 use Rattle.machine.proofs.Nodes
 use Rattle.machine.proofs.Nodes.{head, as-literal-true, as-literal-false, as-literal-null, as-slot, as-new, as-change, as-is-null, as-get, as-cast, as-assign, rest-change, rest-assign}
@@ -56,8 +57,8 @@ module _ {R T s l : List ℕ} {at : ℕ} {q : Place} {n : Counts} where
   pub leaf-room : PreLeaf R T s l at q n → q .base + q .scope < length l
   leaf-room p = omega (arith, p .node .ready .frame, p .node .ready .scoped, p .node .ready .above)
 
-  pub leaf-true : getD R (at * 4) 0 ≡ 84 → PostLeaf R T s l s at q n (answer (Gave (Truth true)) n)
-  unfolding bare inside
+  pub leaf-true : getD R (at * 4) 0 ≡ 84 → PostLeaf R T s l s at q n (answer (outcome 2) n)
+  unfolding bare inside outcome
   leaf-true h = record {
     post = λ E A. record {
       done = λ P e d F k f enc w z.
@@ -66,8 +67,8 @@ module _ {R T s l : List ℕ} {at : ℕ} {q : Place} {n : Counts} where
     };
   }
 
-  pub leaf-false : getD R (at * 4) 0 ≡ 76 → PostLeaf R T s l s at q n (answer (Gave (Truth false)) n)
-  unfolding bare inside
+  pub leaf-false : getD R (at * 4) 0 ≡ 76 → PostLeaf R T s l s at q n (answer (outcome 1) n)
+  unfolding bare inside outcome
   leaf-false h = record {
     post = λ E A. record {
       done = λ P e d F k f enc w z.
@@ -76,8 +77,8 @@ module _ {R T s l : List ℕ} {at : ℕ} {q : Place} {n : Counts} where
     };
   }
 
-  pub leaf-null : getD R (at * 4) 0 ≡ 78 → PostLeaf R T s l s at q n (answer (Gave Null) n)
-  unfolding bare inside
+  pub leaf-null : getD R (at * 4) 0 ≡ 78 → PostLeaf R T s l s at q n (answer (outcome 0) n)
+  unfolding bare inside outcome
   leaf-null h = record {
     post = λ E A. record {
       done = λ P e d F k f enc w z.
@@ -199,9 +200,9 @@ module _ {R T A s l : List ℕ} {at : ℕ} {q : Place} {n : Counts} {v : Value} 
       let x = head (p .node .e) (p .node .encoded) .letter in
       x ∙ rest-assign (p .node .e) (rw x at (p .letter)) (λ z. a (x ∙ z)) (λ z. b (x ∙ z)) (λ z. c (x ∙ z))
 
-  pub apply-null : (b : Bool) → getD R (at * 4) 0 ≡ 90 → b ≡ is-null-value (value v) → PostApply R T A s l l at q n v (Gave (Truth b))
+  apply-test : (b : Bool) → getD R (at * 4) 0 ≡ 90 → b ≡ is-null-value (value v) → PostApply R T A s l l at q n v (Gave (Truth b))
   unfolding bare after
-  apply-null b h g = record {
+  apply-test b h g = record {
     applied = λ E P e d f enc w.
         let c = as-is-null e (sym (head e enc .letter) ∙ h) in
         record { long = refl; same = λ i o. refl; small = small b; is = λ k. rw (c .1, g) };
@@ -244,6 +245,25 @@ module _ {R T A s l : List ℕ} {at : ℕ} {q : Place} {n : Counts} {v : Value} 
       far : (E : List ℕ) (P : List Class) (d : ℕ) → Ready R E T A s l P q n d 0 → (i : ℕ) → (i < q .base) ⊎ (q .base + 264 ≤ i) → (i < q .base) ⊎ (q .base + q .scope < i)
       far E P d f i (inl o) = inl o
       far E P d f i (inr o) = inr (omega (arith, f .scoped))
+
+-- the test of the child's number
+pub apply-null : {R T A s l : List ℕ} {at : ℕ} {q : Place} {n : Counts} (x : ℕ) → getD R (at * 4) 0 ≡ 90 → x ≡ 0 → PostApply R T A s l l at q n (decoded x) (outcome 2)
+unfolding outcome
+apply-null x h e = apply-test true h (rw e)
+
+pub apply-some : {R T A s l : List ℕ} {at : ℕ} {q : Place} {n : Counts} (x : ℕ) → getD R (at * 4) 0 ≡ 90 → (x ≡ 0 → ⊥) → PostApply R T A s l l at q n (decoded x) (outcome 1)
+unfolding outcome
+apply-some x h f = apply-test false h (go x f)
+  where
+    go : (x : ℕ) → (x ≡ 0 → ⊥) → false ≡ is-null-value (value (decoded x))
+    go zero f = absurd (f refl)
+    go (suc zero) f = refl
+    go (suc (suc zero)) f = refl
+    go (suc (suc (suc j))) f = refl
+
+-- the number of the value that was assigned
+pub apply-number : {R T A s l l′ : List ℕ} {at : ℕ} {q : Place} {n : Counts} (x : ℕ) → x < 4294967296 → PostApply R T A s l l′ at q n (decoded x) (Gave (decoded x)) → PostApply R T A s l l′ at q n (decoded x) (outcome x)
+apply-number x h p = rw (outcome-value x h) p
 
 pub no-leaf : (k : ℕ) → (k ≡ 84 → ⊥) → (k ≡ 76 → ⊥) → (k ≡ 78 → ⊥) → (k ≡ 73 → ⊥) → (k ≡ 87 → ⊥) → (k ≡ 82 → ⊥) → no-child k ≡ false
 no-leaf k a b c d e f = rw (ne-eqb k 84 a, ne-eqb k 76 b, ne-eqb k 78 c, ne-eqb k 73 d, ne-eqb k 87 e, ne-eqb k 82 f)

@@ -1,6 +1,7 @@
 -- What the proofs of several functions use.
 mod Objects
 mod Values
+mod Tally
 mod Acts
 mod Frames
 mod Fresh

@@ -10,11 +10,11 @@ use Rattle.language.specs.Encoded.{Encoded, EncodedAll}
 use Rattle.language.specs.Evaluation.{Value as Meaning, State, Out, eval-all, last-value}
 use Rattle.language.specs.Store.{capacity}
 use Rattle.machine.specs.declared.Value.{Value}
-use Rattle.machine.specs.declared.Outcome.{Outcome}
-use Rattle.machine.specs.declared.Outcome.the-variants.{Gave, Raised, Stopped, Stuck}
-use Rattle.machine.specs.declared.Counts.{Counts}
+use Rattle.machine.specs.Machine.{Outcome}
+use Rattle.machine.specs.Machine.{Gave, Raised, Stopped, Stuck}
+use Rattle.machine.specs.Machine.{Counts}
 use Rattle.machine.specs.declared.Place.{Place}
-use Rattle.machine.specs.declared.Answer.{Answer}
+use Rattle.machine.specs.Contracts.{Answer}
 use Rattle.machine.specs.Machine.{value, Small, bare, told, state, Within, WithinAll}
 use Rattle.machine.specs.Contracts
 use Rattle.machine.specs.Contracts.{answer, Ready, Done, PreEval, PostEval, PreList, PostItems, evaluated, evaluated-all}
@@ -151,15 +151,15 @@ pub record ItemsLoop (R E T A s₀ l₀ : List ℕ) (at : ℕ) (q : Place) (m : 
   pub long-slots : length l ≡ length l₀
   pub rest : (last : Value) → r₀ .outcome ≡ Gave last → (s′ l′ : List ℕ) (r′ : Answer) → PostItems R E T A s l s′ l′ next q (r .counts) (m - i) v r′ → PostItems R E T A s₀ l₀ s′ l′ at q (r₀ .counts) m last r′
 
-pub items-start : {R E T A s l : List ℕ} {at : ℕ} {q : Place} {n : Counts} {m : ℕ} {last : Value} → PreList R E T A s l at q n m → Small last
-    → ItemsLoop R E T A s l at q m (answer (Gave last) n) s l (answer (Gave last) n) at 0
-items-start {m = m} {last} p small =
+pub items-start : {R E T A s l : List ℕ} {at : ℕ} {q : Place} {n : Counts} {m : ℕ} {last : Value} {o : Outcome} → PreList R E T A s l at q n m → Small last → o ≡ Gave last
+    → ItemsLoop R E T A s l at q m (answer (Gave last) n) s l (answer o n) at 0
+items-start {m = m} {last} p small gave =
     let z : m - 0 ≡ m = omega arith in
     record {
       low = omega arith;
       list = rw z p;
       v = last;
-      gave = refl;
+      gave = gave;
       small = small;
       falls = omega arith;
       long-store = refl;

@@ -17,10 +17,10 @@ use Rattle.language.specs.Evaluation.{Value as Meaning, truth, State, Out, need
 use Rattle.language.specs.Store.{capacity}
 use Rattle.machine.specs.declared.Value.{Value}
 use Rattle.machine.specs.declared.Value.the-variants.{Null, Truth, Object}
-use Rattle.machine.specs.declared.Outcome.the-variants.{Gave, Stuck}
-use Rattle.machine.specs.declared.Counts.{Counts}
+use Rattle.machine.specs.Machine.{Gave, Stuck}
+use Rattle.machine.specs.Machine.{Counts}
 use Rattle.machine.specs.declared.Place.{Place}
-use Rattle.machine.specs.declared.Answer.{Answer}
+use Rattle.machine.specs.Contracts.{Answer}
 use Rattle.machine.specs.Machine.{value, bare, told, state, Within, inside}
 use Rattle.machine.specs.Contracts
 use Rattle.machine.specs.Contracts.{answer, Ready, Done, PreEval, PreEntered, PostEval, PostNode, evaluated}

@@ -11,14 +11,14 @@ use Rattle.language.specs.World.{World}
 use Rattle.language.specs.Program.{world}
 use Rattle.language.specs.Evaluation.{Value as Meaning, State, Out, with-limits, run}
 use Rattle.language.specs.Store.{value-number, value-of-number, heap-of-numbers, heap-numbers, object-numbers, capacity, stored, finish, finished, ran}
-use Rattle.machine.specs.declared.Outcome.{Outcome}
-use Rattle.machine.specs.declared.Outcome.the-variants.{Gave, Raised, Stopped, Stuck}
-use Rattle.machine.specs.declared.Counts.{Counts}
+use Rattle.machine.specs.Machine.{Outcome}
+use Rattle.machine.specs.Machine.{Gave, Raised, Stopped, Stuck}
+use Rattle.machine.specs.Machine.{Counts}
 use Rattle.machine.specs.declared.Place.{Place}
-use Rattle.machine.specs.declared.Answer.{Answer}
-use Rattle.machine.specs.Machine.{told, bare, state, frame-of, slots-of, Holds, Sound}
+use Rattle.machine.specs.Contracts.{Answer}
+use Rattle.machine.specs.Machine.{outcome, counts-in, told, bare, state, frame-of, slots-of, Holds, Sound}
 use Rattle.machine.specs.Contracts
-use Rattle.machine.specs.Contracts.{Ready, Done, PreEval, PostEval, PreRun, PostRun, Runs, outcome-of, evaluated}
+use Rattle.machine.specs.Contracts.{answered, Ready, Done, PreEval, PostEval, PreRun, PostRun, Runs, outcome-of, evaluated}
 use Rattle.machine.proofs.Values.{value-number-of}
 use Rattle.machine.proofs.Objects.{heap-length}
 
@@ -118,15 +118,16 @@ run-is P s l fuel p e = rw e
 pub start-falls : {R E T A s l s′ l′ : List ℕ} {at fuel : ℕ} {r : Answer} (p : PreRun R E T A l at) → fuel ≤ 4294967295 → PostEval R E T A s l s′ l′ at first-place (first-counts fuel) r → r .counts .left ≤ fuel
 start-falls p low g = start-done (p .runs) low g .kept .falls
 
-pub run-done : {R E T A s l s′ l′ : List ℕ} {at fuel : ℕ} {r : Answer} → fuel ≤ 4294967295 → PostEval R E T A s l s′ l′ at first-place (first-counts fuel) r
-    → PostRun R E T A s l s′ at fuel (record { outcome = r .outcome; steps = fuel - r .counts .left; objects = r .counts .made; changes = r .counts .changes })
-run-done {R} {E} {T} {A} {s} {l} {s′} {l′} {at} {fuel} {r} low g = record {
+pub run-done : {R E T A s l s′ l′ : List ℕ} {at fuel o : ℕ} (t : List ℕ) → fuel ≤ 4294967295 → PostEval R E T A s l s′ l′ at first-place (first-counts fuel) (answered o t)
+    → PostRun R E T A s l s′ at fuel (record { outcome = o; steps = fuel - getD t 0 0; objects = getD t 1 0; changes = getD t 2 0 })
+run-done {R} {E} {T} {A} {s} {l} {s′} {l′} {at} {fuel} {o} t low g = record {
   is = λ p u.
       let d = start-done u low g in
-      let st : State = state (p .classes) s′ l′ first-place (r .counts) (fuel - r .counts .left) in
-      let e : finish (run (with-limits fuel (capacity s)) p) s ≡ finished (outcome-of (r .outcome)) st s
-      = ap (λ (x : Out Meaning). finish x s) (sym (run-is (p .classes) s l fuel p refl)) ∙ (finish-bare (evaluated (p .classes) fuel (capacity s) 0 (p .start) (state (p .classes) s l first-place (first-counts fuel) 0)) s ∙ (ap (λ (x : Out Meaning). finish x s) (sym (d .is)) ∙ finish-told (r .outcome) st s)) in
-      e ∙ ap₂ (λ (k : ℕ) (y : List ℕ). record { answer = ran (outcome-of (r .outcome)) (fuel - r .counts .left) k (r .counts .changes); store = y })
-      (heap-length (world (p .classes)) (r .counts .made) s′) (stored-back (u .holds) s s′ (r .counts .made) (d .kept .stored .sound) (d .kept .stored .rest));
+      let n : Counts = counts-in t in
+      let st : State = state (p .classes) s′ l′ first-place n (fuel - n .left) in
+      let e : finish (run (with-limits fuel (capacity s)) p) s ≡ finished (outcome-of (outcome o)) st s
+      = ap (λ (x : Out Meaning). finish x s) (sym (run-is (p .classes) s l fuel p refl)) ∙ (finish-bare (evaluated (p .classes) fuel (capacity s) 0 (p .start) (state (p .classes) s l first-place (first-counts fuel) 0)) s ∙ (ap (λ (x : Out Meaning). finish x s) (sym (d .is)) ∙ finish-told (outcome o) st s)) in
+      e ∙ ap₂ (λ (k : ℕ) (y : List ℕ). record { answer = ran (outcome-of (outcome o)) (fuel - n .left) k (n .changes); store = y })
+      (heap-length (world (p .classes)) (n .made) s′) (stored-back (u .holds) s s′ (n .made) (d .kept .stored .sound) (d .kept .stored .rest));
   small = λ p u. start-done u low g .kept .small;
 }

@@ -1,12 +1,12 @@
 -- How answers follow one another: the steps of the functions of the cycle. Assumes nothing.
 use mathlib.Core.Path.{_≡_, refl, sym, ap, _∙_}
 use mathlib.Core.Bool.{true, false}
-use mathlib.Core.List.{List}
+use mathlib.Core.List.{List, [], _∷_}
 use Prim.Native.Nat.{ℕ, suc, _+_, _-_, _*_, _/_, _≤_, _<_, min}
 use native.Mathlib.Omega.{arith}
 use borrow.Author.Tests.{le-leb, lt-leb}
 use lib.Dec.{leb}
-use lib.ListN.{length, getD, drop}
+use lib.ListN.{length, getD, set, drop}
 use lib.Seq.{drop-drop}
 use Rattle.language.specs.Results.{ok, bind}
 use Rattle.language.specs.Tree.{Expr, Class}
@@ -15,11 +15,11 @@ use Rattle.language.specs.Encoded.{Encoded}
 use Rattle.language.specs.Evaluation.{Value as Meaning, State, Out, with-limits, eval}
 use Rattle.language.specs.Store.{capacity}
 use Rattle.machine.specs.declared.Value.{Value}
-use Rattle.machine.specs.declared.Outcome.{Outcome}
-use Rattle.machine.specs.declared.Outcome.the-variants.{Gave, Raised, Stopped, Stuck}
-use Rattle.machine.specs.declared.Counts.{Counts}
+use Rattle.machine.specs.Machine.{Outcome}
+use Rattle.machine.specs.Machine.{Gave, Raised, Stopped, Stuck}
+use Rattle.machine.specs.Machine.{Counts, counts-in}
 use Rattle.machine.specs.declared.Place.{Place}
-use Rattle.machine.specs.declared.Answer.{Answer}
+use Rattle.machine.specs.Contracts.{Answer}
 use Rattle.machine.specs.Machine.{value, SmallOutcome, bare, told, state, Within, after}
 use Rattle.machine.specs.Contracts
 use Rattle.machine.specs.Contracts.{Stored, answer, Ready, Kept, Done, PreNode, PreEval, PreEntered, PostEval, PostNode, PreLeaf, PreApply, PostApply, calls-of, evaluated, no-child, one-child}
@@ -106,13 +106,24 @@ eval-spent {s = s} {l} {q = q} {n} z = record {
       };
 }
 
--- a node that is entered: one fuel less
-pub eval-entered : {R E T A s l s′ l′ : List ℕ} {at : ℕ} {q : Place} {n : Counts} {r : Answer} → (n .left ≡ 0 → ⊥)
-    → PostNode R E T A s l s′ l′ at q (record { left = n .left - 1; made = n .made; changes = n .changes }) r → PostEval R E T A s l s′ l′ at q n r
-eval-entered {R} {E} {T} {A} {s} {l} {q = q} {n} z p = record {
+-- the counts once a node has been entered: one fuel less
+abbrev pub entered : Counts → Counts
+entered n = record { left = n .left - 1; made = n .made; changes = n .changes }
+
+-- the tally of a node that is entered; what is not 0 stands in it
+pub left-entered : (t : List ℕ) → (getD t 0 0 ≡ 0 → ⊥) → getD (set t 0 (getD t 0 0 - 1)) 0 0 ≡ getD t 0 0 - 1
+left-entered [] z = absurd (z refl)
+left-entered (x ∷ t) z = refl
+
+pub counts-entered : (t : List ℕ) → (getD t 0 0 ≡ 0 → ⊥) → counts-in (set t 0 (getD t 0 0 - 1)) ≡ entered (counts-in t)
+counts-entered [] z = absurd (z refl)
+counts-entered (x ∷ t) z = refl
+
+from-entered : {R E T A s l s′ l′ : List ℕ} {at : ℕ} {q : Place} {n : Counts} {r : Answer} → (n .left ≡ 0 → ⊥) → PostNode R E T A s l s′ l′ at q (entered n) r → PostEval R E T A s l s′ l′ at q n r
+from-entered {R} {E} {T} {A} {s} {l} {q = q} {n} z p = record {
   done = λ P e d F k f enc w t.
       let room : leb F k ≡ false = lt-leb F k (omega arith) in
-      let f′ : Ready R E T A s l P q (record { left = n .left - 1; made = n .made; changes = n .changes }) d 1
+      let f′ : Ready R E T A s l P q (entered n) d 1
       = record { holds = f .holds; sound = f .sound; frame = f .frame; scoped = f .scoped; above = f .above; active = f .active; counted = omega (arith, f .counted) } in
       let g = p .done P e d F (suc k) f′ enc w (omega arith) in
       record {
@@ -121,8 +132,8 @@ eval-entered {R} {E} {T} {A} {s} {l} {q = q} {n} z p = record {
       };
 }
 
-pub pre-entered : {R E T A s l : List ℕ} {at : ℕ} {q : Place} {n : Counts} → (n .left ≡ 0 → ⊥) → PreEval R E T A s l at q n → PreEntered R E T A s l at q (record { left = n .left - 1; made = n .made; changes = n .changes })
-pre-entered z p =
+to-entered : {R E T A s l : List ℕ} {at : ℕ} {q : Place} {n : Counts} → (n .left ≡ 0 → ⊥) → PreEval R E T A s l at q n → PreEntered R E T A s l at q (entered n)
+to-entered z p =
     let f = p .ready in
     record {
       P = p .P;
@@ -132,6 +143,13 @@ pre-entered z p =
       within = p .within;
       ready = record { holds = f .holds; sound = f .sound; frame = f .frame; scoped = f .scoped; above = f .above; active = f .active; counted = omega (arith, f .counted) };
     }
+
+pub eval-entered : {R E T A s l s′ l′ : List ℕ} {at : ℕ} {q : Place} {n n′ : Counts} {r : Answer} → (n .left ≡ 0 → ⊥) → n′ ≡ entered n
+    → PostNode R E T A s l s′ l′ at q n′ r → PostEval R E T A s l s′ l′ at q n r
+eval-entered z e p = from-entered z (rw e at p)
+
+pub pre-entered : {R E T A s l : List ℕ} {at : ℕ} {q : Place} {n n′ : Counts} → (n .left ≡ 0 → ⊥) → n′ ≡ entered n → PreEval R E T A s l at q n → PreEntered R E T A s l at q n′
+pre-entered z e p = rw e (to-entered z p)
 
 pub pre-leaf : {R E T A s l : List ℕ} {at : ℕ} {q : Place} {n : Counts} → PreEntered R E T A s l at q n → PreLeaf R T s l at q n
 pre-leaf {E = E} {A = A} p = record { E = E; A = A; node = p }

@@ -1,11 +1,9 @@
 -- Laws of values and their numbers, of what outcomes mean, and of numbers written one after the other. Assumes nothing.
 use mathlib.Core.Path.{_≡_, refl, sym, ap, _∙_}
-use mathlib.Core.Bool.{true, false}
+use mathlib.Core.Bool.{Bool, true, false, cond}
+use lib.Dec.{eqb, leb}
+use borrow.Author.Tests.{le-leb, lt-leb, ne-eqb}
 use mathlib.Core.Logic.{_⊎_, inl, inr, ⊎-elim}
-use types.Run.{OneOf}
-use denote.Enum.Declared.{tagOf}
-use borrow.Author.Tests.{eqb-false}
-use Rattle.machine.proofs.Outcome.{the-type}
 use mathlib.Core.List.{List, [], _∷_}
 use Prim.Native.Nat.{ℕ, zero, suc, _+_, _-_, _≤_, _<_}
 use native.Mathlib.Omega.{arith}
@@ -16,9 +14,10 @@ use Rattle.language.specs.Results.{ok, stop, bind}
 use Rattle.language.specs.Evaluation.{Value as Meaning, null, truth, object, State, Stop, Out}
 use Rattle.language.specs.Store.{value-number, value-of-number}
 use Rattle.machine.specs.declared.Value.{Value}
-use Rattle.machine.specs.declared.Outcome.{Outcome}
-use Rattle.machine.specs.declared.Outcome.the-variants.{Gave, Raised, Stopped, Stuck}
-use Rattle.machine.specs.Machine.{value, bare, bare-state, Small, SmallOutcome}
+use Rattle.machine.specs.Machine.{Outcome}
+use Rattle.machine.specs.Machine.{Gave, Raised, Stopped, Stuck}
+use Rattle.machine.specs.declared.Value.the-variants.{Null, Object}
+use Rattle.machine.specs.Machine.{value, bare, bare-state, Small, SmallOutcome, decoded, outcome, failure}
 use Rattle.machine.specs.Contracts.{Written}
 
 -- the value of a value's number
@@ -34,17 +33,11 @@ value-number-of (suc zero) = refl
 value-number-of (suc (suc zero)) = refl
 value-number-of (suc (suc (suc j))) = refl
 
--- an object's number
-pub object-of-number : (n : ℕ) → 3 ≤ n → object (n - 3) ≡ value-of-number n
-object-of-number n h =
-    let e : n ≡ suc (suc (suc (n - 3))) = omega arith in
-    sym (ap value-of-number e)
-
-pub null-of-number : (n : ℕ) → (n ≡ 1 → ⊥) → (n ≡ 2 → ⊥) → n < 3 → null ≡ value-of-number n
-null-of-number zero a b h = refl
-null-of-number (suc zero) a b h = absurd (a refl)
-null-of-number (suc (suc zero)) a b h = absurd (b refl)
-null-of-number (suc (suc (suc n))) a b h = absurd (omega arith)
+pub decoded-null : (n : ℕ) → (n ≡ 1 → ⊥) → (n ≡ 2 → ⊥) → n < 3 → Null ≡ decoded n
+decoded-null zero a b h = refl
+decoded-null (suc zero) a b h = absurd (a refl)
+decoded-null (suc (suc zero)) a b h = absurd (b refl)
+decoded-null (suc (suc (suc n))) a b h = absurd (omega arith)
 
 -- a result whose slots are not looked at
 pub bare-ok : {A : Type 0} (o : Out A) {a : A} {s : State} → ok a s ≡ bare o → o ≡ ok a s
@@ -92,12 +85,85 @@ written-more {l} {l′} {from} {n} {f} at a w e h q = record {
     apart x (inl p) z = omega arith
     apart x (inr p) z = omega arith
 
+-- what a number stands for, as a value and as an outcome
+pub value-decoded : (n : ℕ) → value (decoded n) ≡ value-of-number n
+value-decoded zero = refl
+value-decoded (suc zero) = refl
+value-decoded (suc (suc zero)) = refl
+value-decoded (suc (suc (suc j))) = refl
+
+pub number-decoded : (n : ℕ) → value-number (value (decoded n)) ≡ n
+number-decoded n = ap value-number (value-decoded n) ∙ value-number-of n
+
+pub small-decoded : (n : ℕ) → n < 4294967296 → Small (decoded n)
+small-decoded n h = rw (number-decoded n) h
+
+pub decoded-object : (n : ℕ) → 3 ≤ n → decoded n ≡ Object (n - 3)
+decoded-object n h =
+    let e : n ≡ suc (suc (suc (n - 3))) = omega arith in
+    ap decoded e
+
+pub outcome-value : (x : ℕ) → x < 4294967296 → outcome x ≡ Gave (decoded x)
+unfolding outcome
+outcome-value x h = ap (λ (b : Bool). cond b (failure (x - 4294967296)) (Gave (decoded x))) (lt-leb 4294967296 x h)
+
+pub outcome-failure : (x : ℕ) → 4294967296 ≤ x → outcome x ≡ failure (x - 4294967296)
+unfolding outcome
+outcome-failure x h = ap (λ (b : Bool). cond b (failure (x - 4294967296)) (Gave (decoded x))) (le-leb 4294967296 x h)
+
+pub failure-no-value : (n : ℕ) (v : Value) → failure n ≡ Gave v → ⊥
+failure-no-value n v e = go (eqb n 0) (leb n 2) e
+  where
+    go : (a b : Bool) → cond a Stuck (cond b (Raised n) (Stopped n)) ≡ Gave v → ⊥
+    go true b e = let z : _≡_ {A = ℕ} 0 1 = cc in omega arith
+    go false true e = let z : _≡_ {A = ℕ} 0 1 = cc in omega arith
+    go false false e = let z : _≡_ {A = ℕ} 0 1 = cc in omega arith
+
 -- an outcome that is not a value
-pub not-gave : (o : Outcome) → OneOf (1 ∷ 2 ∷ 3 ∷ []) (tagOf the-type o) → (v : Value) → o ≡ Gave v → ⊥
-not-gave (Gave w) h v e = ⊎-elim (λ e. eqb-false 0 1 refl e) (λ h. ⊎-elim (λ e. eqb-false 0 2 refl e) (λ e. eqb-false 0 3 refl e) h) h
-not-gave (Raised n) h v e = let z : _≡_ {A = ℕ} 0 1 = cc in omega arith
-not-gave (Stopped n) h v e = let z : _≡_ {A = ℕ} 0 1 = cc in omega arith
-not-gave Stuck h v e = let z : _≡_ {A = ℕ} 0 1 = cc in omega arith
+pub not-gave : (x : ℕ) → 4294967296 ≤ x → (v : Value) → outcome x ≡ Gave v → ⊥
+not-gave x h v e = failure-no-value (x - 4294967296) v (sym (outcome-failure x h) ∙ e)
+
+-- the outcomes that the code names
+pub outcome-stuck : outcome 4294967296 ≡ Stuck
+unfolding outcome
+outcome-stuck = refl
+
+pub outcome-null-pointer : outcome 4294967297 ≡ Raised 1
+unfolding outcome
+outcome-null-pointer = refl
+
+pub outcome-bad-cast : outcome 4294967298 ≡ Raised 2
+unfolding outcome
+outcome-bad-cast = refl
+
+pub outcome-spent : outcome 4294967310 ≡ Stopped 14
+unfolding outcome
+outcome-spent = refl
+
+pub outcome-deep : outcome 4294967311 ≡ Stopped 15
+unfolding outcome
+outcome-deep = refl
 
 pub small-of : {o : Outcome} {v : Value} → o ≡ Gave v → SmallOutcome o → Small v
 small-of e h = rw e at h
+
+pub gave-number : (x : ℕ) {v : Value} → v ≡ decoded x → x < 4294967296 → Gave v ≡ outcome x
+gave-number x e h = ap Gave e ∙ sym (outcome-value x h)
+
+pub small-number : (x : ℕ) {v : Value} → v ≡ decoded x → x < 4294967296 → Small v
+small-number x e h = rw e (small-decoded x h)
+
+-- which failure a number is
+pub failure-raised : (n : ℕ) → 1 ≤ n → n ≤ 2 → failure n ≡ Raised n
+failure-raised n h k = rw (ne-eqb n 0 (λ e. omega arith), le-leb n 2 k)
+
+pub failure-stopped : (n : ℕ) → 3 ≤ n → failure n ≡ Stopped n
+failure-stopped n h = rw (ne-eqb n 0 (λ e. omega arith), lt-leb n 2 h)
+
+-- the failures that there are have small numbers
+pub failure-low : (x : ℕ) → 4294967296 ≤ x → SmallOutcome (outcome x) → x ≤ 4294967312
+failure-low x h m = go (lt-or (x - 4294967296) 3)
+  where
+    go : (x - 4294967296 < 3) ⊎ (3 ≤ x - 4294967296) → x ≤ 4294967312
+    go (inl a) = omega arith
+    go (inr a) = let z = rw (outcome-failure x h ∙ failure-stopped (x - 4294967296) a) at m in omega (arith, z)

@@ -29,15 +29,12 @@ use Rattle.machine.specs.declared.End.{End}
 use Rattle.machine.specs.declared.End.the-variants.{Gave as EndGave, Raised as EndRaised, Stopped as EndStopped}
 use Rattle.machine.specs.declared.Value.{Value}
 use Rattle.machine.specs.declared.Value.the-variants.{Null, Truth, Object}
-use Rattle.machine.specs.declared.Outcome.{Outcome}
-use Rattle.machine.specs.declared.Outcome.the-variants.{Gave, Raised, Stopped, Stuck}
-use Rattle.machine.specs.declared.Counts.{Counts}
 use Rattle.machine.specs.declared.Place.{Place}
-use Rattle.machine.specs.declared.Answer.{Answer}
 use Rattle.machine.specs.declared.Target.{Target}
 use Rattle.machine.specs.declared.Target.the-variants.{Body, Fails}
 use Rattle.machine.specs.Machine.{value, stop-of, Small, SmallOutcome, told, told-all, bare, Within, WithinAll, Holds, Sound}
 use Rattle.machine.specs.Machine.{slots-of, frame-of, view, state, after, inside}
+use Rattle.machine.specs.Machine.{Outcome, Gave, Raised, Stopped, Stuck, Counts, outcome, counts-in}
 
 -- ---- numbers written one after the other
 
@@ -86,6 +83,21 @@ pub record Stored (P : List Class) (s s′ : List ℕ) (made made′ : ℕ) : Ty
   pub more : made ≤ made′
   pub sound : Sound P made′ s′
 
+-- How evaluating ended, and the counts then; the same of an outcome's number and the tally.
+pub record Answer : Type 0 where
+  pub outcome : Outcome
+  pub counts : Counts
+
+abbrev pub answer : Outcome → Counts → Answer
+answer o n = record { outcome = o; counts = n }
+
+abbrev pub answered : ℕ → List ℕ → Answer
+answered r t = answer (outcome r) (counts-in t)
+
+-- The value of no expressions.
+abbrev pub nothing : Value
+nothing = Null
+
 -- An act on objects is that of the definition, whatever the slots and the steps.
 pub record Acts (P : List Class) (s s′ : List ℕ) (n : Counts) (r : Answer) (o : State → Out Meaning) : Type 0 where
   pub stored : Stored P s s′ (n .made) (r .counts .made)
@@ -94,9 +106,6 @@ pub record Acts (P : List Class) (s s′ : List ℕ) (n : Counts) (r : Answer) (
   pub small : SmallOutcome (r .outcome)
   pub is : (γ : Frame Meaning) (steps : ℕ)
       → told (r .outcome) (view P s′ (r .counts) γ steps) ≡ bare (o (view P s n γ steps))
-
-abbrev pub answer : Outcome → Counts → Answer
-answer o n = record { outcome = o; counts = n }
 
 pub record PreNew (R T s : List ℕ) (c made : ℕ) : Type 0 where
   pub E : List ℕ
@@ -205,7 +214,7 @@ pub record NotFound (P : List Class) (s : List ℕ) (v : Value) (m : ℕ) (n : C
 
 abbrev pub FindIs : List ℕ → List ℕ → List ℕ → List Class → Value → ℕ → Counts → ℕ → Target → Type 0
 FindIs R E s P v m n calls (Body b) = Found R E s P v m n calls b
-FindIs R E s P v m n calls (Fails o) = NotFound P s v m n calls o
+FindIs R E s P v m n calls (Fails o) = NotFound P s v m n calls (outcome o)
 
 pub record PostFind (R T s : List ℕ) (v : Value) (m : ℕ) (n : Counts) (calls : ℕ) (r : Target) : Type 0 where
   pub is : (E A : List ℕ) (P : List Class) → Holds R E T A P → Sound P (n .made) s → FindIs R E s P v m n calls r
@@ -366,8 +375,8 @@ pub record PreRun (R E T A l : List ℕ) (at : ℕ) : Type 0 where
 pub record PostRun (R E T A s l s′ : List ℕ) (at fuel : ℕ) (r : Ran) : Type 0 where
   pub is : (p : Program) → Runs R E T A l at p
       → finish (run (with-limits fuel (capacity s)) p) s
-      ≡ record { answer = ran (outcome-of (r .outcome)) (r .steps) (r .objects) (r .changes); store = s′ }
-  pub small : (p : Program) → Runs R E T A l at p → SmallOutcome (r .outcome)
+      ≡ record { answer = ran (outcome-of (outcome (r .outcome))) (r .steps) (r .objects) (r .changes); store = s′ }
+  pub small : (p : Program) → Runs R E T A l at p → SmallOutcome (outcome (r .outcome))
 
 -- What the check establishes of rows and of the tables that it fills: a program stands in them, its classes are in the
 -- tables, and headings and bodies pass.

@@ -4,7 +4,7 @@ use mathlib.Core.Bool.{true, false, cond, _||_}
 use mathlib.Core.Option.{Option, none, some}
 use mathlib.Core.List.{List, [], _∷_, map}
 use Prim.Native.Nat.{ℕ, zero, suc, _+_, _-_, _*_, _/_, _%_, _^_, _≤_, _<_}
-use lib.Dec.{eqb}
+use lib.Dec.{eqb, leb}
 use lib.ListN.{length, getD, take, drop}
 use Rattle.language.specs.Lists.{nth, choice}
 use Rattle.language.specs.Results.{ok, stop, bind}
@@ -23,9 +23,6 @@ use Rattle.language.specs.Evaluation.{eval-all}
 use Rattle.language.specs.Store.{value-number, value-of-number, heap-of-numbers}
 use Rattle.machine.specs.declared.Value.{Value}
 use Rattle.machine.specs.declared.Value.the-variants.{Null, Truth, Object}
-use Rattle.machine.specs.declared.Outcome.{Outcome}
-use Rattle.machine.specs.declared.Outcome.the-variants.{Gave, Raised, Stopped, Stuck}
-use Rattle.machine.specs.declared.Counts.{Counts}
 use Rattle.machine.specs.declared.Place.{Place}
 
 -- What a value of the evaluator means.
@@ -33,6 +30,41 @@ abbrev pub value : Value → Meaning
 value Null = null
 value (Truth b) = truth b
 value (Object j) = object j
+
+-- The value that a stored number stands for.
+abbrev pub decoded : ℕ → Value
+decoded zero = Null
+decoded (suc zero) = Truth false
+decoded (suc (suc zero)) = Truth true
+decoded (suc (suc (suc j))) = Object j
+
+-- How evaluating ended: with a value, with an exception, stopped (14 spent, 15 deep, 16 full), or where no rule goes on,
+-- which comes of no checked program.
+pub data Outcome : Type 0 where
+  Gave : Value → Outcome
+  Raised : ℕ → Outcome
+  Stopped : ℕ → Outcome
+  Stuck : Outcome
+
+-- An outcome as one number: below 2^32 that of the value; from there on 0 more where no rule goes on, 1 or 2 more for
+-- an exception, otherwise the stop's number more.
+abbrev pub failure : ℕ → Outcome
+failure n = cond (eqb n 0) Stuck (cond (leb n 2) (Raised n) (Stopped n))
+
+unfoldable pub outcome : ℕ → Outcome
+outcome x = cond (leb 4294967296 x) (failure (x - 4294967296)) (Gave (decoded x))
+
+-- Fuel left, objects made, changes of class: the three numbers of the tally.
+pub record Counts : Type 0 where
+  pub left : ℕ
+  pub made : ℕ
+  pub changes : ℕ
+
+abbrev pub counts-in : List ℕ → Counts
+counts-in t = record { left = getD t 0 0; made = getD t 1 0; changes = getD t 2 0 }
+
+abbrev pub place-of : ℕ → ℕ → ℕ → ℕ → Place
+place-of base scope top calls = record { base = base; scope = scope; top = top; calls = calls }
 
 -- A value whose number fits its place in the store; an outcome with such a value, or a stop that there is.
 abbrev pub Small : Value → Type 0

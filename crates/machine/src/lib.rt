@@ -1,35 +1,33 @@
 // The evaluator: runs the rows of a checked program over a lent store.
 // An object is 18 numbers of the store, a value is one number. The slots of all calls under way stand in one lent stack.
+// Fuel left, objects made and changes of class stand in a tally of three numbers. An outcome is one number too, so that
+// it passes in a register: below 2^32 that of a value, from there on why there is none (specs/Machine.antt, outcome).
 ghost use mathlib.Core.Path.{_≡_};
 ghost use mathlib.Core.Bool.{true};
 ghost use Prim.Native.Nat.{_+_, _*_, _≤_, _<_};
-ghost use lib.ListN.{length, getD};
+ghost use lib.ListN.{length, getD, set};
 ghost use Rattle.language.specs.Evaluation.{is-null-value};
-ghost use Rattle.language.specs.Store.{value-number, value-of-number};
-ghost use Rattle.machine.specs.Machine.{value, Small, SmallOutcome};
-ghost use Rattle.machine.specs.Contracts.{first-of, first-of-type, First, Fill, Filled, Locals, Opened, PreNew, PostNew, PreChange, PostChange, PreObject, PostLoad, PostSave, PreCast, PostCast, Below, PostRead, Wrote, LetterFrom, SomeLetter, PreFind, PostFind, PreEval, PreEntered, PostEval, PostNode, one-child, no-child, PreLeaf, PostLeaf, PreApply, PostApply, PreList, PreArgs, PostItems, PostArgs, PreRun, PostRun, value-told, end-told, outcome-of, PreChecked, PostChecked};
+ghost use Rattle.machine.specs.Machine.{value, decoded, outcome, counts-in, place-of, Small, SmallOutcome};
+ghost use Rattle.machine.specs.Contracts.{first-of, first-of-type, First, Fill, Filled, Locals, Opened, PreNew, PostNew, PreChange, PostChange, PreObject, PostLoad, PostSave, PreCast, PostCast, Below, PostRead, Wrote, LetterFrom, SomeLetter, PreFind, PostFind, PreEval, PreEntered, PostEval, PostNode, one-child, no-child, PreLeaf, PostLeaf, PreApply, PostApply, PreList, PreArgs, PostItems, PostArgs, PreRun, PostRun, value-told, end-told, outcome-of, PreChecked, PostChecked, answered, nothing};
+
+// Why there is no value: no rule goes on, which comes of no checked program; the exceptions; the stops.
+const STUCK: u64 = 4294967296;
+
+const NULL_POINTER: u64 = 4294967297;
+
+const BAD_CAST: u64 = 4294967298;
+
+const SPENT: u64 = 4294967310;
+
+const DEEP: u64 = 4294967311;
+
+const FULL: u64 = 4294967312;
 
 // A value. Object(j) is the object that j others were made before.
 pub enum Value {
     Null,
     Truth(bool),
     Object(u32),
-}
-
-// How evaluating ended: with a value, with an exception, stopped (14 spent, 15 deep, 16 full), or where no rule goes on,
-// which comes of no checked program.
-pub enum Outcome {
-    Gave(Value),
-    Raised(u32),
-    Stopped(u32),
-    Stuck,
-}
-
-// Fuel left, objects made, changes of class.
-pub struct Counts {
-    pub left: u32,
-    pub made: u32,
-    pub changes: u32,
 }
 
 // Where the slots of the method under way stand: `this` at base, the others after it, of which scope are in scope;
@@ -41,14 +39,9 @@ pub struct Place {
     pub calls: u32,
 }
 
-pub struct Answer {
-    pub outcome: Outcome,
-    pub counts: Counts,
-}
-
 // The answer of a run: the outcome, nodes entered, objects made, changes of class.
 pub struct Ran {
-    pub outcome: Outcome,
+    pub outcome: u64,
     pub steps: u32,
     pub objects: u32,
     pub changes: u32,
@@ -72,30 +65,18 @@ pub struct Run {
 // The row where the body of the method sought begins, or how the call ends without one.
 pub enum Target {
     Body(usize),
-    Fails(Outcome),
+    Fails(u64),
 }
 
 // The value that a stored number stands for.
 pub fn decode(n: u32) -> Value
-    ensures { λ r. ⌜ (value r ≡ value-of-number n) × Small r ⌝ }
+    ensures { λ r. ⌜ r ≡ decoded n ⌝ }
 {
     match n {
         1 => Value::Truth(false),
         2 => Value::Truth(true),
         3..=4294967295 => Value::Object(n - 3),
         _ => Value::Null,
-    }
-}
-
-// The number that stands for a value.
-pub fn encode(v: Value) -> u32
-    requires { ⌜ Small v ⌝ }
-    ensures { λ r. ⌜ r ≡ value-number (value v) ⌝ }
-{
-    match v {
-        Value::Null => 0,
-        Value::Truth(b) => if b { 2 } else { 1 },
-        Value::Object(j) => j + 3,
     }
 }
 
@@ -139,35 +120,31 @@ fn fill(rows: &[u32], tables: &[u16], store: &mut [u32], o: usize, c: usize, fro
     }
 }
 
-// W: a new object of class c.
-fn new_object(rows: &[u32], tables: &[u16], store: &mut [u32], c: u32, counts: Counts) -> Answer
-    requires { ⌜ PreNew (now rows) (now tables) (now store) c (counts .made) ⌝ }
-    ensures { λ r. ⌜ PostNew (now (rows .entry)) (now (tables .entry)) (now (store .entry)) (now (store .exit)) c counts r ⌝ }
+// One of the three counts becomes x.
+fn put(tally: &mut [u32], i: usize, x: u32)
+    requires { ⌜ i < length (now tally) ⌝ }
+    ensures { λ r. ⌜ (i < length (now (tally .entry))) × (now (tally .exit) ≡ set (now (tally .entry)) i x) ⌝ }
 {
-    let made = counts.made;
+    tally[i] = x;
+}
+
+// W: a new object of class c.
+fn new_object(rows: &[u32], tables: &[u16], store: &mut [u32], tally: &mut [u32; 3], c: u32) -> u64
+    requires { ⌜ PreNew (now rows) (now tables) (now store) c (counts-in (now tally) .made) ⌝ }
+    ensures { λ r. ⌜ PostNew (now (rows .entry)) (now (tables .entry)) (now (store .entry)) (now (store .exit)) c (counts-in (now (tally .entry))) (answered r (now (tally .exit))) ⌝ }
+{
+    let made = tally[1];
     if made >= 65535 {
-        return Answer {
-            outcome: Outcome::Stopped(16),
-            counts,
-        };
+        return FULL;
     }
     let o = made as usize * 18;
     if store.len() < o + 18 {
-        return Answer {
-            outcome: Outcome::Stopped(16),
-            counts,
-        };
+        return FULL;
     }
     fill(rows, tables, store, o, c as usize, 0);
     store[o] = c;
-    Answer {
-        outcome: Outcome::Gave(Value::Object(made)),
-        counts: Counts {
-            left: counts.left,
-            made: made + 1,
-            changes: counts.changes,
-        },
-    }
+    put(tally, 1, made + 1);
+    made as u64 + 3
 }
 
 // R: an object changed to class d. The fields of d's root stay, the others have their first values; one that lacks
@@ -176,101 +153,87 @@ fn change_class(
     rows: &[u32],
     tables: &[u16],
     store: &mut [u32],
-    v: Value,
+    tally: &mut [u32; 3],
+    n: u32,
     d: u32,
-    counts: Counts,
-) -> Answer
-    requires { ⌜ PreChange (now rows) (now tables) (now store) v d counts ⌝ }
-    ensures { λ r. ⌜ PostChange (now (rows .entry)) (now (tables .entry)) (now (store .entry)) (now (store .exit)) v d counts r ⌝ }
+) -> u64
+    requires { ⌜ PreChange (now rows) (now tables) (now store) (decoded n) d (counts-in (now tally)) ⌝ }
+    ensures { λ r. ⌜ PostChange (now (rows .entry)) (now (tables .entry)) (now (store .entry)) (now (store .exit)) (decoded n) d (counts-in (now (tally .entry))) (answered r (now (tally .exit))) ⌝ }
 {
+    let v = decode(n);
     if is_null(v) {
-        return Answer {
-            outcome: Outcome::Gave(v),
-            counts,
-        };
+        return n as u64;
     }
     let Value::Object(j) = v else {
-        return Answer {
-            outcome: Outcome::Stuck,
-            counts,
-        };
+        return STUCK;
     };
-    if j >= counts.made {
-        return Answer {
-            outcome: Outcome::Stuck,
-            counts,
-        };
+    if j >= tally[1] {
+        return STUCK;
     }
     let root = tables[d as usize * 576 + 514] as usize;
     let kept = tables[root * 576 + 515] as usize;
     let o = j as usize * 18;
-    let own = tables[store[o] as usize * 576 + 515] as usize;
+    let old = store[o];
+    let own = tables[old as usize * 576 + 515] as usize;
     if own < kept {
-        return Answer {
-            outcome: Outcome::Stuck,
-            counts,
-        };
+        return STUCK;
     }
     fill(rows, tables, store, o, d as usize, kept);
     store[o] = d;
-    Answer {
-        outcome: Outcome::Gave(v),
-        counts: Counts {
-            left: counts.left,
-            made: counts.made,
-            changes: counts.changes + 1,
-        },
-    }
+    let changes = tally[2];
+    put(tally, 2, changes + 1);
+    n as u64
 }
 
 // G: the field named f of an object.
-fn load(tables: &[u16], store: &[u32], v: Value, f: usize, counts: Counts) -> Outcome
-    requires { ⌜ PreObject (now tables) (now store) (counts .made) ⌝ }
+fn load(tables: &[u16], store: &[u32], tally: &[u32; 3], n: u32, f: usize) -> u64
+    requires { ⌜ PreObject (now tables) (now store) (counts-in (now tally) .made) ⌝ }
     requires { ⌜ f < 256 ⌝ }
-    ensures { λ r. ⌜ PostLoad (now (tables .entry)) (now (store .entry)) v f counts r ⌝ }
+    ensures { λ r. ⌜ PostLoad (now (tables .entry)) (now (store .entry)) (decoded n) f (counts-in (now (tally .entry))) (outcome r) ⌝ }
 {
+    let v = decode(n);
     if is_null(v) {
-        return Outcome::Raised(1);
+        return NULL_POINTER;
     }
     let Value::Object(j) = v else {
-        return Outcome::Stuck;
+        return STUCK;
     };
-    if j >= counts.made {
-        return Outcome::Stuck;
+    if j >= tally[1] {
+        return STUCK;
     }
     let o = j as usize * 18;
     let c = store[o] as usize;
     let p = tables[c * 576 + f] as usize;
     if p == 0 {
-        return Outcome::Stuck;
+        return STUCK;
     }
-    Outcome::Gave(decode(store[o + p]))
+    store[o + p] as u64
 }
 
 // U: the field named f of an object becomes w.
-fn save(tables: &[u16], store: &mut [u32], v: Value, w: Value, f: usize, counts: Counts) -> Outcome
-    requires { ⌜ PreObject (now tables) (now store) (counts .made) ⌝ }
+fn save(tables: &[u16], store: &mut [u32], tally: &[u32; 3], n: u32, w: u32, f: usize) -> u64
+    requires { ⌜ PreObject (now tables) (now store) (counts-in (now tally) .made) ⌝ }
     requires { ⌜ f < 256 ⌝ }
-    requires { ⌜ Small w ⌝ }
-    ensures { λ r. ⌜ PostSave (now (tables .entry)) (now (store .entry)) (now (store .exit)) v w f counts r ⌝ }
+    ensures { λ r. ⌜ PostSave (now (tables .entry)) (now (store .entry)) (now (store .exit)) (decoded n) (decoded w) f (counts-in (now (tally .entry))) (outcome r) ⌝ }
 {
+    let v = decode(n);
     if is_null(v) {
-        return Outcome::Raised(1);
+        return NULL_POINTER;
     }
     let Value::Object(j) = v else {
-        return Outcome::Stuck;
+        return STUCK;
     };
-    if j >= counts.made {
-        return Outcome::Stuck;
+    if j >= tally[1] {
+        return STUCK;
     }
     let o = j as usize * 18;
     let c = store[o] as usize;
     let p = tables[c * 576 + f] as usize;
     if p == 0 {
-        return Outcome::Stuck;
+        return STUCK;
     }
-    store[o + p] = encode(w);
-    Outcome::Gave(w)
+    store[o + p] = w;
+    w as u64
 }
 
 // Class k is class c or stands below it.
@@ -286,50 +249,49 @@ fn is_below(above: &[u64], k: usize, c: u32) -> bool
 }
 
 // K: an object of class c or below passes, and so does null.
-fn cast_object(above: &[u64], store: &[u32], v: Value, c: u32, counts: Counts) -> Outcome
-    requires { ⌜ PreCast (now above) (now store) c (counts .made) ⌝ }
-    requires { ⌜ Small v ⌝ }
-    ensures { λ r. ⌜ PostCast (now (above .entry)) (now (store .entry)) v c counts r ⌝ }
+fn cast_object(above: &[u64], store: &[u32], tally: &[u32; 3], n: u32, c: u32) -> u64
+    requires { ⌜ PreCast (now above) (now store) c (counts-in (now tally) .made) ⌝ }
+    ensures { λ r. ⌜ PostCast (now (above .entry)) (now (store .entry)) (decoded n) c (counts-in (now (tally .entry))) (outcome r) ⌝ }
 {
+    let v = decode(n);
     if is_null(v) {
-        return Outcome::Gave(v);
+        return n as u64;
     }
     let Value::Object(j) = v else {
-        return Outcome::Stuck;
+        return STUCK;
     };
-    if j >= counts.made {
-        return Outcome::Stuck;
+    if j >= tally[1] {
+        return STUCK;
     }
     let k = store[j as usize * 18] as usize;
     if is_below(above, k, c) {
-        return Outcome::Gave(v);
+        return n as u64;
     }
-    Outcome::Raised(2)
+    BAD_CAST
 }
 
 // What stands in slot k.
-fn read_slot(slots: &[u32], k: usize, place: Place) -> Outcome
+fn read_slot(slots: &[u32], k: usize, place: Place) -> u64
     requires { ⌜ place .base + place .scope < length (now slots) ⌝ }
-    ensures { λ r. ⌜ PostRead (now (slots .entry)) k place r ⌝ }
+    ensures { λ r. ⌜ PostRead (now (slots .entry)) k place (outcome r) ⌝ }
 {
     if place.scope < k {
-        return Outcome::Stuck;
+        return STUCK;
     }
     let base = place.base;
     if k == 0 {
         if place.calls == 0 {
-            return Outcome::Stuck;
+            return STUCK;
         }
-        return Outcome::Gave(decode(slots[base]));
+        return slots[base] as u64;
     }
-    Outcome::Gave(decode(slots[base + k]))
+    slots[base + k] as u64
 }
 
 // Slot k becomes v; a slot that is not there stays away.
-fn write_slot(slots: &mut [u32], k: usize, v: Value, place: Place)
+fn write_slot(slots: &mut [u32], k: usize, n: u32, place: Place)
     requires { ⌜ place .base + place .scope < length (now slots) ⌝ }
-    requires { ⌜ Small v ⌝ }
-    ensures { λ r. ⌜ Wrote (now (slots .entry)) (now (slots .exit)) k v place ⌝ }
+    ensures { λ r. ⌜ Wrote (now (slots .entry)) (now (slots .exit)) k (decoded n) place ⌝ }
 {
     if place.scope < k {
         return;
@@ -339,10 +301,10 @@ fn write_slot(slots: &mut [u32], k: usize, v: Value, place: Place)
         if place.calls == 0 {
             return;
         }
-        slots[base] = encode(v);
+        slots[base] = n;
         return;
     }
-    slots[base + k] = encode(v);
+    slots[base + k] = n;
 }
 
 // The first row, from a row on, with a letter.
@@ -362,30 +324,31 @@ fn find_body(
     rows: &[u32],
     tables: &[u16],
     store: &[u32],
-    v: Value,
+    tally: &[u32; 3],
+    n: u32,
     m: usize,
-    counts: Counts,
     calls: u32,
 ) -> Target
-    requires { ⌜ PreFind (now rows) (now tables) (now store) m (counts .made) ⌝ }
-    ensures { λ r. ⌜ PostFind (now (rows .entry)) (now (tables .entry)) (now (store .entry)) v m counts calls r ⌝ }
+    requires { ⌜ PreFind (now rows) (now tables) (now store) m (counts-in (now tally) .made) ⌝ }
+    ensures { λ r. ⌜ PostFind (now (rows .entry)) (now (tables .entry)) (now (store .entry)) (decoded n) m (counts-in (now (tally .entry))) calls r ⌝ }
 {
+    let v = decode(n);
     if is_null(v) {
-        return Target::Fails(Outcome::Raised(1));
+        return Target::Fails(NULL_POINTER);
     }
     let Value::Object(j) = v else {
-        return Target::Fails(Outcome::Stuck);
+        return Target::Fails(STUCK);
     };
-    if j >= counts.made {
-        return Target::Fails(Outcome::Stuck);
+    if j >= tally[1] {
+        return Target::Fails(STUCK);
     }
     let c = store[j as usize * 18] as usize;
     let r = tables[c * 576 + 256 + m] as usize;
     if r == 0 {
-        return Target::Fails(Outcome::Stuck);
+        return Target::Fails(STUCK);
     }
     if calls >= 64 {
-        return Target::Fails(Outcome::Stopped(15));
+        return Target::Fails(DEEP);
     }
     Target::Body(find_letter(rows, r, 66))
 }
@@ -406,20 +369,20 @@ fn reclassify(
     tables: &[u16],
     store: &mut [u32],
     slots: &[u32],
+    tally: &mut [u32; 3],
     at: usize,
     place: Place,
-    counts: Counts,
-) -> Answer
-    requires { ⌜ PreLeaf (now rows) (now tables) (now store) (now slots) at place counts ⌝ }
+) -> u64
+    requires { ⌜ PreLeaf (now rows) (now tables) (now store) (now slots) at place (counts-in (now tally)) ⌝ }
     requires { ⌜ getD (now rows) (at * 4) 0 ≡ 82 ⌝ }
-    ensures { λ r. ⌜ PostLeaf (now (rows .entry)) (now (tables .entry)) (now (store .entry)) (now (slots .entry)) (now (store .exit)) at place counts r ⌝ }
+    ensures { λ r. ⌜ PostLeaf (now (rows .entry)) (now (tables .entry)) (now (store .entry)) (now (slots .entry)) (now (store .exit)) at place (counts-in (now (tally .entry))) (answered r (now (tally .exit))) ⌝ }
 {
     let k = rows[at * 4 + 1] as usize;
     let o = read_slot(slots, k, place);
-    let Outcome::Gave(v) = o else {
-        return Answer { outcome: o, counts };
-    };
-    change_class(rows, tables, store, v, rows[at * 4 + 2], counts)
+    if o >= STUCK {
+        return o;
+    }
+    change_class(rows, tables, store, tally, o as u32, rows[at * 4 + 2])
 }
 
 // The letter of a node without children.
@@ -443,34 +406,22 @@ fn leaf(
     tables: &[u16],
     store: &mut [u32],
     slots: &[u32],
+    tally: &mut [u32; 3],
     at: usize,
     place: Place,
-    counts: Counts,
-) -> Answer
-    requires { ⌜ PreLeaf (now rows) (now tables) (now store) (now slots) at place counts ⌝ }
+) -> u64
+    requires { ⌜ PreLeaf (now rows) (now tables) (now store) (now slots) at place (counts-in (now tally)) ⌝ }
     requires { ⌜ no-child (getD (now rows) (at * 4) 0) ≡ true ⌝ }
-    ensures { λ r. ⌜ PostLeaf (now (rows .entry)) (now (tables .entry)) (now (store .entry)) (now (slots .entry)) (now (store .exit)) at place counts r ⌝ }
+    ensures { λ r. ⌜ PostLeaf (now (rows .entry)) (now (tables .entry)) (now (store .entry)) (now (slots .entry)) (now (store .exit)) at place (counts-in (now (tally .entry))) (answered r (now (tally .exit))) ⌝ }
 {
     let k = rows[at * 4];
     match k {
-        84 => Answer {
-            outcome: Outcome::Gave(Value::Truth(true)),
-            counts,
-        },
-        76 => Answer {
-            outcome: Outcome::Gave(Value::Truth(false)),
-            counts,
-        },
-        78 => Answer {
-            outcome: Outcome::Gave(Value::Null),
-            counts,
-        },
-        73 => Answer {
-            outcome: read_slot(slots, rows[at * 4 + 1] as usize, place),
-            counts,
-        },
-        87 => new_object(rows, tables, store, rows[at * 4 + 1], counts),
-        _ => reclassify(rows, tables, store, slots, at, place, counts),
+        84 => 2,
+        76 => 1,
+        78 => 0,
+        73 => read_slot(slots, rows[at * 4 + 1] as usize, place),
+        87 => new_object(rows, tables, store, tally, rows[at * 4 + 1]),
+        _ => reclassify(rows, tables, store, slots, tally, at, place),
     }
 }
 
@@ -481,23 +432,23 @@ fn apply(
     above: &[u64],
     store: &[u32],
     slots: &mut [u32],
+    tally: &[u32; 3],
     at: usize,
     place: Place,
-    counts: Counts,
-    v: Value,
-) -> Outcome
-    requires { ⌜ PreApply (now rows) (now tables) (now above) (now store) (now slots) at place counts v ⌝ }
-    ensures { λ r. ⌜ PostApply (now (rows .entry)) (now (tables .entry)) (now (above .entry)) (now (store .entry)) (now (slots .entry)) (now (slots .exit)) at place counts v r ⌝ }
+    n: u32,
+) -> u64
+    requires { ⌜ PreApply (now rows) (now tables) (now above) (now store) (now slots) at place (counts-in (now tally)) (decoded n) ⌝ }
+    ensures { λ r. ⌜ PostApply (now (rows .entry)) (now (tables .entry)) (now (above .entry)) (now (store .entry)) (now (slots .entry)) (now (slots .exit)) at place (counts-in (now (tally .entry))) (decoded n) (outcome r) ⌝ }
 {
     let k = rows[at * 4];
     let a = rows[at * 4 + 1];
     match k {
-        90 => Outcome::Gave(Value::Truth(is_null(v))),
-        71 => load(tables, store, v, a as usize, counts),
-        75 => cast_object(above, store, v, a, counts),
+        90 => { if n == 0 { 2 } else { 1 } }
+        71 => load(tables, store, tally, n, a as usize),
+        75 => cast_object(above, store, tally, n, a),
         _ => {
-            write_slot(slots, a as usize, v, place);
-            Outcome::Gave(v)
+            write_slot(slots, a as usize, n, place);
+            n as u64
         }
     }
 }
@@ -510,38 +461,104 @@ fn eval(
     above: &[u64],
     store: &mut [u32],
     slots: &mut [u32],
+    tally: &mut [u32; 3],
     at: usize,
-    place: Place,
-    counts: Counts,
-) -> Answer
-    requires { ⌜ PreEval (now rows) (now ends) (now tables) (now above) (now store) (now slots) at place counts ⌝ }
-    ensures { λ r. ⌜ PostEval (now (rows .entry)) (now (ends .entry)) (now (tables .entry)) (now (above .entry)) (now (store .entry)) (now (slots .entry)) (now (store .exit)) (now (slots .exit)) at place counts r ⌝ }
+    base: usize,
+    scope: usize,
+    top: usize,
+    calls: u32,
+) -> u64
+    requires { ⌜ PreEval (now rows) (now ends) (now tables) (now above) (now store) (now slots) at (place-of base scope top calls) (counts-in (now tally)) ⌝ }
+    ensures { λ r. ⌜ PostEval (now (rows .entry)) (now (ends .entry)) (now (tables .entry)) (now (above .entry)) (now (store .entry)) (now (slots .entry)) (now (store .exit)) (now (slots .exit)) at (place-of base scope top calls) (counts-in (now (tally .entry))) (answered r (now (tally .exit))) ⌝ }
 {
-    let left = counts.left;
-    if left == 0 {
-        return Answer {
-            outcome: Outcome::Stopped(14),
-            counts,
-        };
-    }
-    let rest = Counts {
-        left: left - 1,
-        made: counts.made,
-        changes: counts.changes,
+    let place = Place {
+        base,
+        scope,
+        top,
+        calls,
     };
+    let left = tally[0];
+    if left == 0 {
+        return SPENT;
+    }
+    tally[0] = left - 1;
     let k = rows[at * 4];
     if is_leaf(k) {
-        return leaf(rows, tables, store, slots, at, place, rest);
+        return leaf(rows, tables, store, slots, tally, at, place);
     }
     match k {
-        66 => block(rows, ends, tables, above, store, slots, at, place, rest),
-        74 => choose(rows, ends, tables, above, store, slots, at, place, rest),
-        81 => call(rows, ends, tables, above, store, slots, at, place, rest),
-        85 => set(rows, ends, tables, above, store, slots, at, place, rest),
-        _ => one_child(rows, ends, tables, above, store, slots, at, place, rest),
+        66 => block(
+            rows,
+            ends,
+            tables,
+            above,
+            store,
+            slots,
+            tally,
+            at,
+            base,
+            scope,
+            top,
+            calls,
+        ),
+        74 => choose(
+            rows,
+            ends,
+            tables,
+            above,
+            store,
+            slots,
+            tally,
+            at,
+            base,
+            scope,
+            top,
+            calls,
+        ),
+        81 => call(
+            rows,
+            ends,
+            tables,
+            above,
+            store,
+            slots,
+            tally,
+            at,
+            base,
+            scope,
+            top,
+            calls,
+        ),
+        85 => set(
+            rows,
+            ends,
+            tables,
+            above,
+            store,
+            slots,
+            tally,
+            at,
+            base,
+            scope,
+            top,
+            calls,
+        ),
+        _ => one_child(
+            rows,
+            ends,
+            tables,
+            above,
+            store,
+            slots,
+            tally,
+            at,
+            base,
+            scope,
+            top,
+            calls,
+        ),
     }
 }
-
 // Z, G, K, A, entered.
 fn one_child(
     rows: &[u32],
@@ -550,36 +567,53 @@ fn one_child(
     above: &[u64],
     store: &mut [u32],
     slots: &mut [u32],
+    tally: &mut [u32; 3],
     at: usize,
-    place: Place,
-    counts: Counts,
-) -> Answer
-    requires { ⌜ PreEntered (now rows) (now ends) (now tables) (now above) (now store) (now slots) at place counts ⌝ }
+    base: usize,
+    scope: usize,
+    top: usize,
+    calls: u32,
+) -> u64
+    requires { ⌜ PreEntered (now rows) (now ends) (now tables) (now above) (now store) (now slots) at (place-of base scope top calls) (counts-in (now tally)) ⌝ }
     requires { ⌜ one-child (getD (now rows) (at * 4) 0) ≡ true ⌝ }
-    ensures { λ r. ⌜ PostNode (now (rows .entry)) (now (ends .entry)) (now (tables .entry)) (now (above .entry)) (now (store .entry)) (now (slots .entry)) (now (store .exit)) (now (slots .exit)) at place counts r ⌝ }
+    ensures { λ r. ⌜ PostNode (now (rows .entry)) (now (ends .entry)) (now (tables .entry)) (now (above .entry)) (now (store .entry)) (now (slots .entry)) (now (store .exit)) (now (slots .exit)) at (place-of base scope top calls) (counts-in (now (tally .entry))) (answered r (now (tally .exit))) ⌝ }
 {
-    let r = eval(
+    let place = Place {
+        base,
+        scope,
+        top,
+        calls,
+    };
+    let n = eval(
         rows,
         ends,
         tables,
         above,
         store,
         slots,
+        tally,
         at + 1,
-        place,
-        counts,
+        base,
+        scope,
+        top,
+        calls,
     );
-    let o = r.outcome;
-    let Outcome::Gave(v) = o else {
-        return r;
-    };
-    let c = r.counts;
-    Answer {
-        outcome: apply(rows, tables, above, store, slots, at, place, c, v),
-        counts: c,
+    if n >= STUCK {
+        return n;
     }
-}
 
+    apply(
+        rows,
+        tables,
+        above,
+        store,
+        slots,
+        tally,
+        at,
+        place,
+        n as u32,
+    )
+}
 // U, entered: the object, then the value.
 fn set(
     rows: &[u32],
@@ -588,43 +622,63 @@ fn set(
     above: &[u64],
     store: &mut [u32],
     slots: &mut [u32],
+    tally: &mut [u32; 3],
     at: usize,
-    place: Place,
-    counts: Counts,
-) -> Answer
-    requires { ⌜ PreEntered (now rows) (now ends) (now tables) (now above) (now store) (now slots) at place counts ⌝ }
+    base: usize,
+    scope: usize,
+    top: usize,
+    calls: u32,
+) -> u64
+    requires { ⌜ PreEntered (now rows) (now ends) (now tables) (now above) (now store) (now slots) at (place-of base scope top calls) (counts-in (now tally)) ⌝ }
     requires { ⌜ getD (now rows) (at * 4) 0 ≡ 85 ⌝ }
-    ensures { λ r. ⌜ PostNode (now (rows .entry)) (now (ends .entry)) (now (tables .entry)) (now (above .entry)) (now (store .entry)) (now (slots .entry)) (now (store .exit)) (now (slots .exit)) at place counts r ⌝ }
+    ensures { λ r. ⌜ PostNode (now (rows .entry)) (now (ends .entry)) (now (tables .entry)) (now (above .entry)) (now (store .entry)) (now (slots .entry)) (now (store .exit)) (now (slots .exit)) at (place-of base scope top calls) (counts-in (now (tally .entry))) (answered r (now (tally .exit))) ⌝ }
 {
-    let r = eval(
+    let n = eval(
         rows,
         ends,
         tables,
         above,
         store,
         slots,
+        tally,
         at + 1,
-        place,
-        counts,
+        base,
+        scope,
+        top,
+        calls,
     );
-    let o = r.outcome;
-    let Outcome::Gave(v) = o else {
-        return r;
-    };
-    let next = ends[at + 1] as usize;
-    let c = r.counts;
-    let r2 = eval(rows, ends, tables, above, store, slots, next, place, c);
-    let o2 = r2.outcome;
-    let Outcome::Gave(w) = o2 else {
-        return r2;
-    };
-    let c2 = r2.counts;
-    Answer {
-        outcome: save(tables, store, v, w, rows[at * 4 + 1] as usize, c2),
-        counts: c2,
+    if n >= STUCK {
+        return n;
     }
-}
 
+    let next = ends[at + 1] as usize;
+    let n2 = eval(
+        rows,
+        ends,
+        tables,
+        above,
+        store,
+        slots,
+        tally,
+        next,
+        base,
+        scope,
+        top,
+        calls,
+    );
+    if n2 >= STUCK {
+        return n2;
+    }
+
+    save(
+        tables,
+        store,
+        tally,
+        n as u32,
+        n2 as u32,
+        rows[at * 4 + 1] as usize,
+    )
+}
 // J, entered: the condition, then one arm.
 fn choose(
     rows: &[u32],
@@ -633,44 +687,72 @@ fn choose(
     above: &[u64],
     store: &mut [u32],
     slots: &mut [u32],
+    tally: &mut [u32; 3],
     at: usize,
-    place: Place,
-    counts: Counts,
-) -> Answer
-    requires { ⌜ PreEntered (now rows) (now ends) (now tables) (now above) (now store) (now slots) at place counts ⌝ }
+    base: usize,
+    scope: usize,
+    top: usize,
+    calls: u32,
+) -> u64
+    requires { ⌜ PreEntered (now rows) (now ends) (now tables) (now above) (now store) (now slots) at (place-of base scope top calls) (counts-in (now tally)) ⌝ }
     requires { ⌜ getD (now rows) (at * 4) 0 ≡ 74 ⌝ }
-    ensures { λ r. ⌜ PostNode (now (rows .entry)) (now (ends .entry)) (now (tables .entry)) (now (above .entry)) (now (store .entry)) (now (slots .entry)) (now (store .exit)) (now (slots .exit)) at place counts r ⌝ }
+    ensures { λ r. ⌜ PostNode (now (rows .entry)) (now (ends .entry)) (now (tables .entry)) (now (above .entry)) (now (store .entry)) (now (slots .entry)) (now (store .exit)) (now (slots .exit)) at (place-of base scope top calls) (counts-in (now (tally .entry))) (answered r (now (tally .exit))) ⌝ }
 {
-    let r = eval(
+    let n = eval(
         rows,
         ends,
         tables,
         above,
         store,
         slots,
+        tally,
         at + 1,
-        place,
-        counts,
+        base,
+        scope,
+        top,
+        calls,
     );
-    let o = r.outcome;
-    let Outcome::Gave(v) = o else {
-        return r;
-    };
-    let c = r.counts;
+    if n >= STUCK {
+        return n;
+    }
+
+    let v = decode(n as u32);
     let Value::Truth(b) = v else {
-        return Answer {
-            outcome: Outcome::Stuck,
-            counts: c,
-        };
+        return STUCK;
     };
     let yes = ends[at + 1] as usize;
     if b {
-        return eval(rows, ends, tables, above, store, slots, yes, place, c);
+        return eval(
+            rows,
+            ends,
+            tables,
+            above,
+            store,
+            slots,
+            tally,
+            yes,
+            base,
+            scope,
+            top,
+            calls,
+        );
     }
     let no = ends[yes] as usize;
-    eval(rows, ends, tables, above, store, slots, no, place, c)
+    eval(
+        rows,
+        ends,
+        tables,
+        above,
+        store,
+        slots,
+        tally,
+        no,
+        base,
+        scope,
+        top,
+        calls,
+    )
 }
-
 // B, entered: its locals come after the slots in scope.
 fn block(
     rows: &[u32],
@@ -679,23 +761,20 @@ fn block(
     above: &[u64],
     store: &mut [u32],
     slots: &mut [u32],
+    tally: &mut [u32; 3],
     at: usize,
-    place: Place,
-    counts: Counts,
-) -> Answer
-    requires { ⌜ PreEntered (now rows) (now ends) (now tables) (now above) (now store) (now slots) at place counts ⌝ }
+    base: usize,
+    scope: usize,
+    top: usize,
+    calls: u32,
+) -> u64
+    requires { ⌜ PreEntered (now rows) (now ends) (now tables) (now above) (now store) (now slots) at (place-of base scope top calls) (counts-in (now tally)) ⌝ }
     requires { ⌜ getD (now rows) (at * 4) 0 ≡ 66 ⌝ }
-    ensures { λ r. ⌜ PostNode (now (rows .entry)) (now (ends .entry)) (now (tables .entry)) (now (above .entry)) (now (store .entry)) (now (slots .entry)) (now (store .exit)) (now (slots .exit)) at place counts r ⌝ }
+    ensures { λ r. ⌜ PostNode (now (rows .entry)) (now (ends .entry)) (now (tables .entry)) (now (above .entry)) (now (store .entry)) (now (slots .entry)) (now (store .exit)) (now (slots .exit)) at (place-of base scope top calls) (counts-in (now (tally .entry))) (answered r (now (tally .exit))) ⌝ }
 {
     let n = rows[at * 4 + 1] as usize;
     let k = rows[at * 4 + 2] as usize;
-    open_locals(rows, slots, at + 1, place.base + 1 + place.scope, n);
-    let inner = Place {
-        base: place.base,
-        scope: place.scope + n,
-        top: place.top,
-        calls: place.calls,
-    };
+    open_locals(rows, slots, at + 1, base + 1 + scope, n);
     items(
         rows,
         ends,
@@ -703,15 +782,16 @@ fn block(
         above,
         store,
         slots,
+        tally,
         at + 1 + n,
-        inner,
-        counts,
+        base,
+        scope + n,
+        top,
+        calls,
         k,
-        Value::Null,
     )
 }
-
-// n expressions in a row, of which the last one's value is asked; `last` where there is none.
+// n expressions in a row, of which the last one's value is asked; null where there is none.
 fn items(
     rows: &[u32],
     ends: &[u16],
@@ -719,35 +799,44 @@ fn items(
     above: &[u64],
     store: &mut [u32],
     slots: &mut [u32],
+    tally: &mut [u32; 3],
     at: usize,
-    place: Place,
-    counts: Counts,
+    base: usize,
+    scope: usize,
+    top: usize,
+    calls: u32,
     n: usize,
-    last: Value,
-) -> Answer
-    requires { ⌜ PreList (now rows) (now ends) (now tables) (now above) (now store) (now slots) at place counts n ⌝ }
-    requires { ⌜ Small last ⌝ }
-    ensures { λ r. ⌜ PostItems (now (rows .entry)) (now (ends .entry)) (now (tables .entry)) (now (above .entry)) (now (store .entry)) (now (slots .entry)) (now (store .exit)) (now (slots .exit)) at place counts n last r ⌝ }
+) -> u64
+    requires { ⌜ PreList (now rows) (now ends) (now tables) (now above) (now store) (now slots) at (place-of base scope top calls) (counts-in (now tally)) n ⌝ }
+    ensures { λ r. ⌜ PostItems (now (rows .entry)) (now (ends .entry)) (now (tables .entry)) (now (above .entry)) (now (store .entry)) (now (slots .entry)) (now (store .exit)) (now (slots .exit)) at (place-of base scope top calls) (counts-in (now (tally .entry))) n nothing (answered r (now (tally .exit))) ⌝ }
 {
-    let mut r = Answer {
-        outcome: Outcome::Gave(last),
-        counts,
-    };
+    let mut r = 0;
     let mut next = at;
     let mut i = 0;
     while i < n {
-        let c = r.counts;
-        r = eval(rows, ends, tables, above, store, slots, next, place, c);
-        let o = r.outcome;
-        let Outcome::Gave(_) = o else {
+        r = eval(
+            rows,
+            ends,
+            tables,
+            above,
+            store,
+            slots,
+            tally,
+            next,
+            base,
+            scope,
+            top,
+            calls,
+        );
+        if r >= STUCK {
             return r;
-        };
+        }
+
         next = ends[next] as usize;
         i += 1;
     }
     r
 }
-
 // n arguments, whose values go to the slots from the top on.
 fn args(
     rows: &[u32],
@@ -756,42 +845,47 @@ fn args(
     above: &[u64],
     store: &mut [u32],
     slots: &mut [u32],
+    tally: &mut [u32; 3],
     at: usize,
-    place: Place,
-    counts: Counts,
+    base: usize,
+    scope: usize,
+    top: usize,
+    calls: u32,
     n: usize,
-) -> Answer
-    requires { ⌜ PreArgs (now rows) (now ends) (now tables) (now above) (now store) (now slots) at place counts n ⌝ }
-    ensures { λ r. ⌜ PostArgs (now (rows .entry)) (now (ends .entry)) (now (tables .entry)) (now (above .entry)) (now (store .entry)) (now (slots .entry)) (now (store .exit)) (now (slots .exit)) at place counts n r ⌝ }
+) -> u64
+    requires { ⌜ PreArgs (now rows) (now ends) (now tables) (now above) (now store) (now slots) at (place-of base scope top calls) (counts-in (now tally)) n ⌝ }
+    ensures { λ r. ⌜ PostArgs (now (rows .entry)) (now (ends .entry)) (now (tables .entry)) (now (above .entry)) (now (store .entry)) (now (slots .entry)) (now (store .exit)) (now (slots .exit)) at (place-of base scope top calls) (counts-in (now (tally .entry))) n (answered r (now (tally .exit))) ⌝ }
 {
-    let mut r = Answer {
-        outcome: Outcome::Gave(Value::Null),
-        counts,
-    };
-    let mut top = place.top;
+    let mut r = 0;
+    let mut far = top;
     let mut next = at;
     let mut i = 0;
     while i < n {
-        let c = r.counts;
-        let further = Place {
-            base: place.base,
-            scope: place.scope,
-            top,
-            calls: place.calls,
-        };
-        r = eval(rows, ends, tables, above, store, slots, next, further, c);
-        let o = r.outcome;
-        let Outcome::Gave(v) = o else {
+        r = eval(
+            rows,
+            ends,
+            tables,
+            above,
+            store,
+            slots,
+            tally,
+            next,
+            base,
+            scope,
+            far,
+            calls,
+        );
+        if r >= STUCK {
             return r;
-        };
-        slots[top] = encode(v);
-        top += 1;
+        }
+
+        slots[far] = r as u32;
+        far += 1;
         next = ends[next] as usize;
         i += 1;
     }
     r
 }
-
 // Q, entered: receiver and arguments go to the top, where they are the slots of the method called.
 fn call(
     rows: &[u32],
@@ -800,13 +894,16 @@ fn call(
     above: &[u64],
     store: &mut [u32],
     slots: &mut [u32],
+    tally: &mut [u32; 3],
     at: usize,
-    place: Place,
-    counts: Counts,
-) -> Answer
-    requires { ⌜ PreEntered (now rows) (now ends) (now tables) (now above) (now store) (now slots) at place counts ⌝ }
+    base: usize,
+    scope: usize,
+    top: usize,
+    calls: u32,
+) -> u64
+    requires { ⌜ PreEntered (now rows) (now ends) (now tables) (now above) (now store) (now slots) at (place-of base scope top calls) (counts-in (now tally)) ⌝ }
     requires { ⌜ getD (now rows) (at * 4) 0 ≡ 81 ⌝ }
-    ensures { λ r. ⌜ PostNode (now (rows .entry)) (now (ends .entry)) (now (tables .entry)) (now (above .entry)) (now (store .entry)) (now (slots .entry)) (now (store .exit)) (now (slots .exit)) at place counts r ⌝ }
+    ensures { λ r. ⌜ PostNode (now (rows .entry)) (now (ends .entry)) (now (tables .entry)) (now (above .entry)) (now (store .entry)) (now (slots .entry)) (now (store .exit)) (now (slots .exit)) at (place-of base scope top calls) (counts-in (now (tally .entry))) (answered r (now (tally .exit))) ⌝ }
 {
     let n = rows[at * 4 + 2] as usize;
     let r = args(
@@ -816,37 +913,41 @@ fn call(
         above,
         store,
         slots,
+        tally,
         at + 1,
-        place,
-        counts,
+        base,
+        scope,
+        top,
+        calls,
         n + 1,
     );
-    let o = r.outcome;
-    let Outcome::Gave(_) = o else {
+    if r >= STUCK {
         return r;
-    };
-    let c = r.counts;
-    let top = place.top;
-    let v = decode(slots[top]);
+    }
+
+    let v = slots[top];
     let m = rows[at * 4 + 1] as usize;
-    let t = find_body(rows, tables, store, v, m, c, place.calls);
+    let t = find_body(rows, tables, store, tally, v, m, calls);
     match t {
-        Target::Fails(e) => Answer {
-            outcome: e,
-            counts: c,
-        },
+        Target::Fails(e) => e,
         Target::Body(b) => {
-            let called = Place {
-                base: top,
-                scope: n,
-                top: top + 264,
-                calls: place.calls + 1,
-            };
-            eval(rows, ends, tables, above, store, slots, b, called, c)
+            eval(
+                rows,
+                ends,
+                tables,
+                above,
+                store,
+                slots,
+                tally,
+                b,
+                top,
+                n,
+                top + 264,
+                calls + 1,
+            )
         }
     }
 }
-
 // The start block, at a row, from the first state.
 fn run_start(
     rows: &[u32],
@@ -861,12 +962,8 @@ fn run_start(
     requires { ⌜ PreRun (now rows) (now ends) (now tables) (now above) (now slots) at ⌝ }
     ensures { λ r. ⌜ PostRun (now (rows .entry)) (now (ends .entry)) (now (tables .entry)) (now (above .entry)) (now (store .entry)) (now (slots .entry)) (now (store .exit)) at fuel r ⌝ }
 {
-    let place = Place {
-        base: 0,
-        scope: 0,
-        top: 264,
-        calls: 0,
-    };
+    let mut tally = [0u32; 3];
+    tally[0] = fuel;
     let r = eval(
         rows,
         ends,
@@ -874,24 +971,20 @@ fn run_start(
         above,
         store,
         slots,
+        &mut tally,
         at,
-        place,
-        Counts {
-            left: fuel,
-            made: 0,
-            changes: 0,
-        },
+        0,
+        0,
+        264,
+        0,
     );
-    let c = r.counts;
-    let o = r.outcome;
     Ran {
-        outcome: o,
-        steps: fuel - c.left,
-        objects: c.made,
-        changes: c.changes,
+        outcome: r,
+        steps: fuel - tally[0],
+        objects: tally[1],
+        changes: tally[2],
     }
 }
-
 // A value for the caller: objects count from 1.
 fn value_told(v: Value) -> Value
     requires { ⌜ Small v ⌝ }
@@ -905,15 +998,17 @@ fn value_told(v: Value) -> Value
 }
 
 // How a run ended, for the caller. No checked program is stuck.
-fn end_told(o: Outcome) -> End
-    requires { ⌜ SmallOutcome o ⌝ }
-    ensures { λ r. ⌜ r ≡ end-told (outcome-of o) ⌝ }
+fn end_told(o: u64) -> End
+    requires { ⌜ SmallOutcome (outcome o) ⌝ }
+    ensures { λ r. ⌜ r ≡ end-told (outcome-of (outcome o)) ⌝ }
 {
-    match o {
-        Outcome::Gave(v) => End::Gave(value_told(v)),
-        Outcome::Raised(n) => End::Raised(n),
-        Outcome::Stopped(n) => End::Stopped(n),
-        Outcome::Stuck => End::Stopped(0),
+    if o < STUCK {
+        return End::Gave(value_told(decode(o as u32)));
+    }
+    let n = (o - STUCK) as u32;
+    match n {
+        1..=2 => End::Raised(n),
+        _ => End::Stopped(n),
     }
 }
 

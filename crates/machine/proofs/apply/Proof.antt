@@ -1,13 +1,12 @@
-use Prim.Native.Nat.{_+_, _-_, _*_}
+use Rattle.machine.proofs.Leaves.{apply-row, apply-room, pre-load, pre-cast, apply-rest, apply-null, apply-some, apply-get, apply-cast, apply-assign, apply-number}
+use Rattle.machine.specs.Machine.{outcome}
 use native.Mathlib.Omega.{arith}
-use borrow.Author.Needs.{needs}
-use Rattle.machine.proofs.Leaves.{apply-row, apply-room, pre-load, pre-cast, apply-rest, apply-null, apply-get, apply-cast, apply-assign}
+use Prim.Native.Nat.{_+_, _-_, _*_}
 use Rattle.machine.proofs.apply.Statement.{statement}
 use Rattle.machine.proofs.apply.Tie as tie
 use Rattle.machine.proofs.apply.Reads as reads
 use Rattle.machine.proofs.apply.Lts as lts
 use Rattle.machine.proofs.cast_object.Reads as cast-object-reads
-use Rattle.machine.proofs.is_null.Reads as is-null-reads
 use Rattle.machine.proofs.load.Reads as load-reads
 use Rattle.machine.proofs.write_slot.Reads as write-slot-reads
 
@@ -32,9 +31,6 @@ mul-a-2 c = omega (arith, apply-row (c .before .before .before .before .before .
 shared-slice-read-a : tie.Need-shared-slice-read-a
 shared-slice-read-a c = omega (arith, apply-row (c .before .before .before .before .before .before .before .pre))
 
-is-null-requires : tie.Need-is-null-requires
-is-null-requires c κs = search needs
-
 cast-load : tie.Need-cast-load
 cast-load c = omega (arith, c .before .before .shared-slice-known5 .given (c .before .before .before .before .before .before .before .before .args .at * 4 + 1))
 
@@ -42,28 +38,31 @@ load-requires : tie.Need-load-requires
 load-requires c κs = pre-load (c .before .before .before .before .before .before .before .before .pre) (c .match .keys2)
 
 cast-object-requires : tie.Need-cast-object-requires
-cast-object-requires c κs = (pre-cast (c .before .before .before .before .before .before .before .before .pre) (c .match .keys3), c .before .before .before .before .before .before .before .before .pre .small)
+cast-object-requires c κs = pre-cast (c .before .before .before .before .before .before .before .before .pre) (c .match .keys3)
 
 cast-write-slot : tie.Need-cast-write-slot
 cast-write-slot c = omega (arith, c .before .before .before .shared-slice-known5 .given (c .before .before .before .before .before .before .before .before .before .args .at * 4 + 1))
 
 write-slot-requires : tie.Need-write-slot-requires
-write-slot-requires c κs = (apply-room (c .before .before .before .before .before .before .before .before .before .pre), c .before .before .before .before .before .before .before .before .before .pre .small)
+write-slot-requires c κs = apply-room (c .before .before .before .before .before .before .before .before .before .pre)
 
 returns : tie.Need-returns
-returns c = apply-null (c .is-null .result) (c .before .match .keys1) (c .is-null .ensures)
+returns c = apply-null (c .before .before .before .before .before .before .before .before .before .args .n) (c .before .match .keys1) (c .if1 .taken)
 
 returns-2 : tie.Need-returns-2
-returns-2 c = apply-get (c .load .result) (c .before .match .keys2) (c .load .ensures)
+returns-2 c = apply-some (c .before .before .before .before .before .before .before .before .before .args .n) (c .before .match .keys1) (c .if1 .left)
 
 returns-3 : tie.Need-returns-3
-returns-3 c = apply-cast (c .cast-object .result) (c .before .match .keys3) (c .cast-object .ensures)
-
-same-length : tie.Need-same-length
-same-length c = search needs
+returns-3 c = apply-get (outcome (c .load .result)) (c .before .match .keys2) (c .load .ensures)
 
 returns-4 : tie.Need-returns-4
-returns-4 c = apply-assign (apply-rest (c .before .before .before .before .before .before .before .before .before .before .before .before .pre) (c .before .before .before .before .match .rest .0 .0 .1) (c .before .before .before .before .match .rest .0 .1) (c .before .before .before .before .match .rest .1)) (c .before .before .write-slot .ensures) (c .before .before .before .before .before .before .before .before .before .before .before .before .pre .small)
+returns-4 c = apply-cast (outcome (c .cast-object .result)) (c .before .match .keys3) (c .cast-object .ensures)
+
+same-length : tie.Need-same-length
+same-length c = c .before .before .write-slot .kept .0
+
+returns-5 : tie.Need-returns-5
+returns-5 c = apply-number (c .before .before .before .before .before .before .before .before .before .before .before .before .args .n) (omega (arith, c .before .before .before .before .before .before .before .before .before .before .before .before .fits .n)) (apply-assign (apply-rest (c .before .before .before .before .before .before .before .before .before .before .before .before .pre) (c .before .before .before .before .match .rest .0 .0 .1) (c .before .before .before .before .match .rest .0 .1) (c .before .before .before .before .match .rest .1)) (c .before .before .write-slot .ensures) (c .before .before .before .before .before .before .before .before .before .before .before .before .pre .small))
 
 pub apply-spec : {M : Type 1} → statement M
 apply-spec =
@@ -76,7 +75,6 @@ apply-spec =
     add-a
     mul-a-2
     shared-slice-read-a
-    is-null-requires
     cast-load
     load-requires
     cast-object-requires
@@ -85,5 +83,6 @@ apply-spec =
     returns
     returns-2
     returns-3
+    returns-4
     same-length
-    returns-4)
+    returns-5)

@@ -1,50 +1,57 @@
-use Prim.Native.Nat.{_-_}
-use borrow.Author.Needs.{needs}
+use Rattle.machine.proofs.Values.{gave-number, small-number, outcome-failure, failure-raised, failure-stopped, failure-low}
+use Rattle.machine.specs.declared.End.the-variants.{Stopped}
+use Rattle.machine.specs.Machine.{outcome}
+use Rattle.machine.specs.Contracts.{outcome-of, end-told}
 use Rattle.machine.proofs.Checked.{told-gave, told-raised, told-stopped}
-use Rattle.machine.proofs.Values.{small-of}
+use native.Mathlib.Omega.{arith}
+use Prim.Native.Nat.{ℕ, _-_}
+use mathlib.Core.Path.{_≡_, sym, _∙_}
+use borrow.Author.Needs.{needs}
 use Rattle.machine.proofs.end_told.Statement.{statement}
 use Rattle.machine.proofs.end_told.Tie as tie
 use Rattle.machine.proofs.end_told.Reads as reads
 use Rattle.machine.proofs.end_told.Lts as lts
+use Rattle.machine.proofs.decode.Reads as decode-reads
 use Rattle.machine.proofs.value_told.Reads as value-told-reads
 
-enum-known-o : tie.Need-enum-known-o
-enum-known-o c = search needs
+cast-decode : tie.Need-cast-decode
+cast-decode c = search needs
+
+-- where no rule goes on
+told-zero : (o : ℕ) → o ≡ 4294967296 → Stopped (o - 4294967296) ≡ end-told (outcome-of (outcome o))
+unfolding outcome
+told-zero o e = rw e
+
+decode-requires : tie.Need-decode-requires
+decode-requires c κs = search needs
 
 value-told-requires : tie.Need-value-told-requires
-value-told-requires c κs = small-of (c .before .o .given .1) (c .before .before .before .pre)
-
-enum-known-o-2 : tie.Need-enum-known-o-2
-enum-known-o-2 c = search needs
-
-enum-known-o-3 : tie.Need-enum-known-o-3
-enum-known-o-3 c = search needs
-
-enum-told : tie.Need-enum-told
-enum-told c = search needs
+value-told-requires c κs = small-number (c .before .before .args .o) (c .decode .ensures) (c .before .if1 .taken)
 
 returns : tie.Need-returns
-returns c = told-gave (c .before .before .o .given .1) (c .value-told .ensures)
+returns c = told-gave (sym (gave-number (c .before .before .before .args .o) (c .before .decode .ensures) (c .before .before .if1 .taken))) (c .value-told .ensures)
+
+cast-n : tie.Need-cast-n
+cast-n c = omega (arith, failure-low (c .before .args .o) (c .if1 .left) (c .before .pre))
 
 returns-2 : tie.Need-returns-2
-returns-2 c = told-raised (c .before .o2 .given .1)
+returns-2 c = told-raised (outcome-failure (c .before .before .before .args .o) (c .before .before .if1 .left) ∙ failure-raised (c .before .before .before .args .o - 4294967296) (omega (arith, c .before .if2 .left)) (omega (arith, c .if3 .taken)))
 
 returns-3 : tie.Need-returns-3
-returns-3 c = told-stopped (c .before .o3 .given .1) (c .before .before .before .pre)
+returns-3 c = told-zero (c .before .before .args .o) (omega (arith, c .before .if1 .left, c .if2 .taken))
 
 returns-4 : tie.Need-returns-4
-returns-4 c = search needs
+returns-4 c = told-stopped (outcome-failure (c .before .before .before .args .o) (c .before .before .if1 .left) ∙ failure-stopped (c .before .before .before .args .o - 4294967296) (omega (arith, c .if3 .left))) (c .before .before .before .pre)
 
 pub end-told-spec : {M : Type 1} → statement M
 end-told-spec =
     tie.close
     (tie.spec
-    enum-known-o
+    cast-decode
+    decode-requires
     value-told-requires
-    enum-known-o-2
-    enum-known-o-3
-    enum-told
     returns
+    cast-n
     returns-2
     returns-3
     returns-4)

@@ -1,5 +1,5 @@
 use mathlib.Core.Path.{sym, _∙_}
-use Prim.Native.Nat.{_+_, _-_, _*_}
+use Prim.Native.Nat.{_+_, _*_}
 use native.Mathlib.Omega.{arith}
 use lib.ListN.{getD}
 use borrow.Author.Needs.{needs}
@@ -11,20 +11,33 @@ use Rattle.machine.proofs.load.Lts as lts
 use Rattle.machine.proofs.decode.Reads as decode-reads
 use Rattle.machine.proofs.is_null.Reads as is-null-reads
 
+decode-requires : tie.Need-decode-requires
+decode-requires c κs = search needs
+
 is-null-requires : tie.Need-is-null-requires
 is-null-requires c κs = search needs
 
 returns : tie.Need-returns
-returns c = load-null (c .before .before .before .before .args .tables .now) (c .before .before .before .before .args .store .now) (c .before .before .before .before .args .v) (c .before .before .before .before .args .f) (c .before .before .before .before .args .counts) (sym (c .before .is-null .ensures) ∙ c .if1 .taken)
+returns c =
+    let start = c .before .before .before .before .before in
+    load-null (start .args .n) (c .before .before .decode .ensures) (sym (c .before .is-null .ensures) ∙ c .if1 .taken)
 
 enum-known-v : tie.Need-enum-known-v
 enum-known-v c = search needs
 
 returns-2 : tie.Need-returns-2
-returns-2 c = load-truth (c .before .before .before .before .before .args .tables .now) (c .before .before .before .before .before .args .store .now) (c .before .before .before .before .before .args .v) (c .before .before .before .before .before .args .f) (c .before .before .before .before .before .args .counts) (c .match .keys2) (sym (c .before .before .is-null .ensures) ∙ c .before .if1 .left)
+returns-2 c =
+    let start = c .before .before .before .before .before .before in
+    load-truth (start .args .n) (c .before .before .before .decode .ensures) (c .match .keys2) (sym (c .before .before .is-null .ensures) ∙ c .before .if1 .left)
+
+element-copy-out-if2 : tie.Need-element-copy-out-if2
+element-copy-out-if2 c = search needs
 
 returns-3 : tie.Need-returns-3
-returns-3 c = load-past (c .before .before .before .before .before .before .before .before .before .args .tables .now) (c .before .before .before .before .before .before .before .before .before .args .store .now) (c .before .before .before .before .before .before .before .before .before .args .v) (c .before .before .before .before .before .before .before .before .before .args .f) (c .before .before .before .before .before .before .before .before .before .args .counts) (c .before .before .before .v .given .0 .0) (c .before .before .before .v .given .1) (c .if2 .taken)
+returns-3 c =
+    let start = c .before .before .before .before .before .before .before .before .before .before in
+    let the-decode = c .before .before .before .before .before .before .before .decode in
+    load-past (start .args .n) (the-decode .ensures) (c .before .before .before .v .given .0 .0) (c .before .before .before .v .given .1) (c .if2 .taken)
 
 cast-o : tie.Need-cast-o
 cast-o c = search needs
@@ -39,49 +52,90 @@ shared-slice-read-c : tie.Need-shared-slice-read-c
 shared-slice-read-c c = search needs
 
 cast-c : tie.Need-cast-c
-cast-c c = omega (arith, c .shared-slice-known3 .given (c .before .before .before .before .v .given .0 .0 * 18))
+cast-c c =
+    let the-v = c .before .before .before .before .v in
+    omega (arith, c .shared-slice-known3 .given ((the-v .given .0 .0) * 18))
 
 mul-p : tie.Need-mul-p
-mul-p c = omega (arith, spot (c .before .before .before .before .before .before .before .before .before .before .pre .0) (c .before .before .before .before .v .given .0 .0) (c .before .before .before .before .before .before .before .before .before .before .args .f) (c .before .if2 .left) (c .before .before .before .before .before .before .before .before .before .before .pre .1))
+mul-p c =
+    let start = c .before .before .before .before .before .before .before .before .before .before .before in
+    let the-v = c .before .before .before .before .v in
+    omega (arith, spot (start .pre .0) (the-v .given .0 .0) (start .args .f) (c .before .if2 .left) (start .pre .1))
 
 add-p : tie.Need-add-p
-add-p c = omega (arith, spot (c .before .before .before .before .before .before .before .before .before .before .pre .0) (c .before .before .before .before .v .given .0 .0) (c .before .before .before .before .before .before .before .before .before .before .args .f) (c .before .if2 .left) (c .before .before .before .before .before .before .before .before .before .before .pre .1))
+add-p c =
+    let start = c .before .before .before .before .before .before .before .before .before .before .before in
+    let the-v = c .before .before .before .before .v in
+    omega (arith, spot (start .pre .0) (the-v .given .0 .0) (start .args .f) (c .before .if2 .left) (start .pre .1))
 
 mul-p-2 : tie.Need-mul-p-2
-mul-p-2 c = omega (arith, spot (c .before .before .before .before .before .before .before .before .before .before .pre .0) (c .before .before .before .before .v .given .0 .0) (c .before .before .before .before .before .before .before .before .before .before .args .f) (c .before .if2 .left) (c .before .before .before .before .before .before .before .before .before .before .pre .1))
+mul-p-2 c =
+    let start = c .before .before .before .before .before .before .before .before .before .before .before in
+    let the-v = c .before .before .before .before .v in
+    omega (arith, spot (start .pre .0) (the-v .given .0 .0) (start .args .f) (c .before .if2 .left) (start .pre .1))
 
 shared-slice-read-p : tie.Need-shared-slice-read-p
-shared-slice-read-p c = omega (arith, spot (c .before .before .before .before .before .before .before .before .before .before .before .pre .0) (c .before .before .before .before .before .v .given .0 .0) (c .before .before .before .before .before .before .before .before .before .before .before .args .f) (c .before .before .if2 .left) (c .before .before .before .before .before .before .before .before .before .before .before .pre .1))
+shared-slice-read-p c =
+    let start = c .before .before .before .before .before .before .before .before .before .before .before .before in
+    let the-v = c .before .before .before .before .before .v in
+    omega (arith, spot (start .pre .0) (the-v .given .0 .0) (start .args .f) (c .before .before .if2 .left) (start .pre .1))
 
 cast-p : tie.Need-cast-p
-cast-p c = omega (arith, c .shared-slice-known4 .given (getD (c .before .before .before .before .before .before .before .before .before .before .before .args .store .now) ((c .before .before .before .before .before .v .given .0 .0) * 18) 0 * 576 + c .before .before .before .before .before .before .before .before .before .before .before .args .f))
+cast-p c =
+    let start = c .before .before .before .before .before .before .before .before .before .before .before .before in
+    let the-v = c .before .before .before .before .before .v in
+    omega (arith, c .shared-slice-known4 .given (getD (start .args .store .now) ((the-v .given .0 .0) * 18) 0 * 576 + start .args .f))
 
 returns-4 : tie.Need-returns-4
-returns-4 c = load-missing (c .before .before .before .before .before .before .before .before .before .before .before .before .args .tables .now) (c .before .before .before .before .before .before .before .before .before .before .before .before .args .store .now) (c .before .before .before .before .before .before .before .before .before .before .before .before .args .v) (c .before .before .before .before .before .before .before .before .before .before .before .before .args .f) (c .before .before .before .before .before .before .before .before .before .before .before .before .args .counts) (c .before .before .before .before .before .before .v .given .0 .0) (c .before .before .before .before .before .before .v .given .1) (c .before .before .before .if2 .left) (c .before .before .before .before .before .before .before .before .before .before .before .before .pre .1) (c .if3 .taken)
+returns-4 c =
+    let start = c .before .before .before .before .before .before .before .before .before .before .before .before .before in
+    let the-decode = c .before .before .before .before .before .before .before .before .before .before .decode in
+    let the-v = c .before .before .before .before .before .before .v in
+    load-missing (start .args .n) (the-decode .ensures) (the-v .given .0 .0) (the-v .given .1) (c .before .before .before .if2 .left) (start .pre .1) (c .if3 .taken)
 
-add-decode : tie.Need-add-decode
-add-decode c = omega (arith, spot (c .before .before .before .before .before .before .before .before .before .before .before .before .pre .0) (c .before .before .before .before .before .before .v .given .0 .0) (c .before .before .before .before .before .before .before .before .before .before .before .before .args .f) (c .before .before .before .if2 .left) (c .before .before .before .before .before .before .before .before .before .before .before .before .pre .1))
+add-result : tie.Need-add-result
+add-result c =
+    let start = c .before .before .before .before .before .before .before .before .before .before .before .before .before in
+    let the-v = c .before .before .before .before .before .before .v in
+    omega (arith, spot (start .pre .0) (the-v .given .0 .0) (start .args .f) (c .before .before .before .if2 .left) (start .pre .1))
 
-mul-decode : tie.Need-mul-decode
-mul-decode c = omega (arith, spot (c .before .before .before .before .before .before .before .before .before .before .before .before .pre .0) (c .before .before .before .before .before .before .v .given .0 .0) (c .before .before .before .before .before .before .before .before .before .before .before .before .args .f) (c .before .before .before .if2 .left) (c .before .before .before .before .before .before .before .before .before .before .before .before .pre .1))
+mul-result : tie.Need-mul-result
+mul-result c =
+    let start = c .before .before .before .before .before .before .before .before .before .before .before .before .before in
+    let the-v = c .before .before .before .before .before .before .v in
+    omega (arith, spot (start .pre .0) (the-v .given .0 .0) (start .args .f) (c .before .before .before .if2 .left) (start .pre .1))
 
-shared-slice-read-decode : tie.Need-shared-slice-read-decode
-shared-slice-read-decode c = omega (arith, spot (c .before .before .before .before .before .before .before .before .before .before .before .before .before .pre .0) (c .before .before .before .before .before .before .before .v .given .0 .0) (c .before .before .before .before .before .before .before .before .before .before .before .before .before .args .f) (c .before .before .before .before .if2 .left) (c .before .before .before .before .before .before .before .before .before .before .before .before .before .pre .1))
+shared-slice-read-result : tie.Need-shared-slice-read-result
+shared-slice-read-result c =
+    let start = c .before .before .before .before .before .before .before .before .before .before .before .before .before .before in
+    let the-v = c .before .before .before .before .before .before .before .v in
+    let the-if2 = c .before .before .before .before .if2 in
+    omega (arith, spot (start .pre .0) (the-v .given .0 .0) (start .args .f) (the-if2 .left) (start .pre .1))
 
-decode-requires : tie.Need-decode-requires
-decode-requires c κs = search needs
+cast-result : tie.Need-cast-result
+cast-result c =
+    let start = c .before .before .before .before .before .before .before .before .before .before .before .before .before .before in
+    let the-v = c .before .before .before .before .before .before .before .v in
+    omega (arith, c .shared-slice-known5 .given ((the-v .given .0 .0) * 18 + getD (start .args .tables .now) (getD (start .args .store .now) ((the-v .given .0 .0) * 18) 0 * 576 + start .args .f) 0))
 
 returns-5 : tie.Need-returns-5
-returns-5 c = load-at (c .before .before .before .before .before .before .before .before .before .before .before .before .before .before .args .tables .now) (c .before .before .before .before .before .before .before .before .before .before .before .before .before .before .args .store .now) (c .before .before .before .before .before .before .before .before .before .before .before .before .before .before .args .v) (c .before .before .before .before .before .before .before .before .before .before .before .before .before .before .args .f) (c .before .before .before .before .before .before .before .before .before .before .before .before .before .before .args .counts) (c .before .before .before .before .before .before .before .before .v .given .0 .0) (c .decode .result) (c .before .before .before .before .before .before .before .before .v .given .1) (c .before .before .before .before .before .if2 .left) (c .before .before .before .before .before .before .before .before .before .before .before .before .before .before .pre .1) (c .before .before .if3 .left) (c .decode .ensures .0) (c .decode .ensures .1)
+returns-5 c =
+    let start = c .before .before .before .before .before .before .before .before .before .before .before .before .before .before in
+    let the-decode = c .before .before .before .before .before .before .before .before .before .before .before .decode in
+    let the-v = c .before .before .before .before .before .before .before .v in
+    let the-if2 = c .before .before .before .before .if2 in
+    load-at (start .args .n) (the-decode .ensures) (the-v .given .0 .0) (the-v .given .1) (the-if2 .left) (start .pre .1) (c .before .if3 .left) (omega (arith, c .shared-slice-known5 .given ((the-v .given .0 .0) * 18 + getD (start .args .tables .now) (getD (start .args .store .now) ((the-v .given .0 .0) * 18) 0 * 576 + start .args .f) 0)))
 
 pub load-spec : {M : Type 1} → statement M
 load-spec =
     tie.close
     (tie.spec
+    decode-requires
     is-null-requires
     returns
     enum-known-v
     returns-2
+    element-copy-out-if2
     returns-3
     cast-o
     mul-o
@@ -94,8 +148,8 @@ load-spec =
     shared-slice-read-p
     cast-p
     returns-4
-    add-decode
-    mul-decode
-    shared-slice-read-decode
-    decode-requires
+    add-result
+    mul-result
+    shared-slice-read-result
+    cast-result
     returns-5)

@@ -1,16 +1,21 @@
-use Prim.Native.Nat.{_-_, _*_}
+use Prim.Native.Nat.{_+_, _-_, _*_}
 use native.Mathlib.Omega.{arith}
-use lib.ListN.{length-set}
+use lib.ListN.{length-set, getD}
+use Rattle.machine.specs.Machine.{counts-in}
+use Rattle.machine.proofs.Fresh.{new-fill, new-full, full-count, full-store, new-told}
 use borrow.Author.Needs.{needs}
-use Rattle.machine.proofs.Fresh.{new-fill, new-full, full-count, full-store, new-made}
 use Rattle.machine.proofs.new_object.Statement.{statement}
 use Rattle.machine.proofs.new_object.Tie as tie
 use Rattle.machine.proofs.new_object.Reads as reads
 use Rattle.machine.proofs.new_object.Lts as lts
 use Rattle.machine.proofs.fill.Reads as fill-reads
+use Rattle.machine.proofs.put.Reads as put-reads
+
+element-copy-out-made : tie.Need-element-copy-out-made
+element-copy-out-made c = search needs
 
 returns : tie.Need-returns
-returns c = new-full (c .before .before .before .before .args .rows .now) (c .before .before .before .before .args .tables .now) (c .before .before .before .before .args .store .now) (c .before .before .before .before .args .c) (c .before .before .before .before .args .counts) (full-count (c .before .before .before .before .args .store .now) (c .before .before .before .before .args .counts .made) (c .if1 .taken))
+returns c = new-full (c .before .before .before .before .before .args .rows .now) (c .before .before .before .before .before .args .tables .now) (c .before .before .before .before .before .args .store .now) (c .before .before .before .before .before .args .c) (counts-in (c .before .before .before .before .before .args .tally .now)) (full-count (c .before .before .before .before .before .args .store .now) (getD (c .before .before .before .before .before .args .tally .now) 1 0) (c .if1 .taken))
 
 cast-o : tie.Need-cast-o
 cast-o c = search needs
@@ -22,10 +27,10 @@ add-if2 : tie.Need-add-if2
 add-if2 c = search needs
 
 returns-2 : tie.Need-returns-2
-returns-2 c = new-full (c .before .before .before .before .before .args .rows .now) (c .before .before .before .before .before .args .tables .now) (c .before .before .before .before .before .args .store .now) (c .before .before .before .before .before .args .c) (c .before .before .before .before .before .args .counts) (full-store (c .before .before .before .before .before .args .store .now) (c .before .before .before .before .before .args .counts .made) (c .if2 .taken))
+returns-2 c = new-full (c .before .before .before .before .before .before .args .rows .now) (c .before .before .before .before .before .before .args .tables .now) (c .before .before .before .before .before .before .args .store .now) (c .before .before .before .before .before .before .args .c) (counts-in (c .before .before .before .before .before .before .args .tally .now)) (full-store (c .before .before .before .before .before .before .args .store .now) (getD (c .before .before .before .before .before .before .args .tally .now) 1 0) (c .if2 .taken))
 
 fill-requires : tie.Need-fill-requires
-fill-requires c κs = new-fill (c .before .before .before .before .before .before .pre) (c .before .before .before .before .before .before .args .counts .made * 18) (c .before .if2 .left)
+fill-requires c κs = new-fill (c .before .before .before .before .before .before .before .pre) (getD (c .before .before .before .before .before .before .before .args .tally .now) 1 0 * 18) (c .before .if2 .left)
 
 mul-store : tie.Need-mul-store
 mul-store c = omega (arith, c .before .before .before .before .before .if1 .left)
@@ -33,19 +38,29 @@ mul-store c = omega (arith, c .before .before .before .before .before .if1 .left
 slice-write-store : tie.Need-slice-write-store
 slice-write-store c = omega (arith, c .before .before .before .before .if2 .left, c .before .before .fill .ensures .long)
 
-add-t19 : tie.Need-add-t19
-add-t19 c = search needs
+add-put : tie.Need-add-put
+add-put c = search needs
+
+put-requires : tie.Need-put-requires
+put-requires c κs = search needs
+
+cast-result : tie.Need-cast-result
+cast-result c = search needs
+
+add-result : tie.Need-add-result
+add-result c = search needs
 
 same-length : tie.Need-same-length
-same-length c = simp length-set (c .before .before .fill .ensures .long)
+same-length c = simp length-set (c .before .before .before .before .fill .ensures .long)
 
 returns-3 : tie.Need-returns-3
-returns-3 c = new-made (c .before .before .before .before .before .before .before .before .before .args .rows .now) (c .before .before .before .before .before .before .before .before .before .args .tables .now) (c .before .before .before .before .before .before .before .before .before .args .store .now) (c .before .before .fill .last .1 .1 .0) (c .before .before .before .before .before .before .before .before .before .args .c) (c .before .before .before .before .before .before .before .before .before .args .counts) (c .before .before .before .before .before .if1 .left) (c .before .before .before .before .if2 .left) (c .before .before .fill .ensures)
+returns-3 c = new-told (c .before .before .before .before .before .before .before .before .before .before .before .before .args .tally .now) (c .put .ensures) (c .before .before .before .before .before .before .before .if1 .left) (c .before .before .before .before .before .before .if2 .left) (c .before .before .before .before .fill .ensures)
 
 pub new-object-spec : {M : Type 1} → statement M
 new-object-spec =
     tie.close
     (tie.spec
+    element-copy-out-made
     returns
     cast-o
     mul-o
@@ -54,6 +69,9 @@ new-object-spec =
     fill-requires
     mul-store
     slice-write-store
-    add-t19
+    add-put
+    put-requires
+    cast-result
+    add-result
     same-length
     returns-3)

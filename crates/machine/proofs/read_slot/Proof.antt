@@ -1,4 +1,5 @@
-use Prim.Native.Nat.{_+_, _-_}
+use Prim.Native.Nat.{_+_}
+use native.Mathlib.Omega.{arith}
 use lib.ListN.{getD}
 use borrow.Author.Needs.{needs}
 use Rattle.machine.proofs.Frames.{slot-this, slot-no-this, slot-at, slot-past, read-none, read-some, read-zero, read-this}
@@ -6,40 +7,49 @@ use Rattle.machine.proofs.read_slot.Statement.{statement}
 use Rattle.machine.proofs.read_slot.Tie as tie
 use Rattle.machine.proofs.read_slot.Reads as reads
 use Rattle.machine.proofs.read_slot.Lts as lts
-use Rattle.machine.proofs.decode.Reads as decode-reads
 
 returns : tie.Need-returns
-returns c = read-none (c .before .before .before .args .slots .now) (c .before .before .before .args .k) (c .before .before .before .args .place) (slot-past (c .before .before .before .args .slots .now) (c .before .before .before .args .place) (c .before .before .before .args .k) (c .if1 .taken) (c .before .before .before .pre))
+returns c = read-none (slot-past (c .before .before .args .slots .now) (c .before .before .args .place) (c .before .before .args .k) (c .if1 .taken) (c .before .before .pre))
 
 returns-2 : tie.Need-returns-2
-returns-2 c = read-zero (c .before .before .before .before .before .before .args .slots .now) (c .before .before .before .before .before .before .args .k) (c .before .before .before .before .before .before .args .place) (c .before .before .if2 .taken) (slot-no-this (c .before .before .before .before .before .before .args .slots .now) (c .before .before .before .before .before .before .args .place) (c .if3 .taken))
+returns-2 c =
+    let start = c .before .before .before .before .before in
+    read-zero (c .before .before .if2 .taken) (slot-no-this (start .args .slots .now) (start .args .place) (c .if3 .taken))
 
-mul-decode : tie.Need-mul-decode
-mul-decode c = search needs
+mul-result : tie.Need-mul-result
+mul-result c = search needs
 
-shared-slice-read-decode : tie.Need-shared-slice-read-decode
-shared-slice-read-decode c = search needs
+shared-slice-read-result : tie.Need-shared-slice-read-result
+shared-slice-read-result c = search needs
 
-decode-requires : tie.Need-decode-requires
-decode-requires c κs = search needs
+cast-result : tie.Need-cast-result
+cast-result c =
+    let start = c .before .before .before .before .before .before in
+    omega (arith, c .shared-slice-known .given (start .args .place .base))
 
 returns-3 : tie.Need-returns-3
-returns-3 c = read-this (c .before .before .before .before .before .before .before .before .args .slots .now) (c .before .before .before .before .before .before .before .before .args .k) (c .before .before .before .before .before .before .before .before .args .place) (c .before .before .before .before .if2 .taken) (c .decode .result) (getD (c .before .before .before .before .before .before .before .before .args .slots .now) (c .before .before .before .before .before .before .before .before .args .place .base) 0) (slot-this (c .before .before .before .before .before .before .before .before .args .slots .now) (c .before .before .before .before .before .before .before .before .args .place) (c .before .before .if3 .left)) (c .decode .ensures .0) (c .decode .ensures .1)
+returns-3 c =
+    let start = c .before .before .before .before .before .before in
+    read-this (c .before .before .before .if2 .taken) (getD (start .args .slots .now) (start .args .place .base) 0) (slot-this (start .args .slots .now) (start .args .place) (c .before .if3 .left)) (omega (arith, c .shared-slice-known .given (start .args .place .base)))
 
-add-decode : tie.Need-add-decode
-add-decode c = search needs
+add-result : tie.Need-add-result
+add-result c = search needs
 
-mul-decode-2 : tie.Need-mul-decode-2
-mul-decode-2 c = search needs
+mul-result-2 : tie.Need-mul-result-2
+mul-result-2 c = search needs
 
-shared-slice-read-decode-2 : tie.Need-shared-slice-read-decode-2
-shared-slice-read-decode-2 c = search needs
+shared-slice-read-result-2 : tie.Need-shared-slice-read-result-2
+shared-slice-read-result-2 c = search needs
 
-decode-requires-2 : tie.Need-decode-requires-2
-decode-requires-2 c κs = search needs
+cast-result-2 : tie.Need-cast-result-2
+cast-result-2 c =
+    let start = c .before .before .before .before in
+    omega (arith, c .shared-slice-known2 .given (start .args .place .base + start .args .k))
 
 returns-4 : tie.Need-returns-4
-returns-4 c = read-some (c .before .before .before .before .before .before .args .slots .now) (c .before .before .before .before .before .before .args .k) (c .before .before .before .before .before .before .args .place) (c .decode2 .result) (getD (c .before .before .before .before .before .before .args .slots .now) (c .before .before .before .before .before .before .args .place .base + c .before .before .before .before .before .before .args .k) 0) (slot-at (c .before .before .before .before .before .before .args .slots .now) (c .before .before .before .before .before .before .args .place) (c .before .before .before .before .before .before .args .k) (c .before .before .if2 .left) (c .before .before .before .if1 .left) (c .before .before .before .before .before .before .pre)) (c .decode2 .ensures .0) (c .decode2 .ensures .1)
+returns-4 c =
+    let start = c .before .before .before .before in
+    read-some (getD (start .args .slots .now) (start .args .place .base + start .args .k) 0) (slot-at (start .args .slots .now) (start .args .place) (start .args .k) (c .before .if2 .left) (c .before .before .if1 .left) (start .pre)) (omega (arith, c .shared-slice-known2 .given (start .args .place .base + start .args .k)))
 
 pub read-slot-spec : {M : Type 1} → statement M
 read-slot-spec =
@@ -47,12 +57,12 @@ read-slot-spec =
     (tie.spec
     returns
     returns-2
-    mul-decode
-    shared-slice-read-decode
-    decode-requires
+    mul-result
+    shared-slice-read-result
+    cast-result
     returns-3
-    add-decode
-    mul-decode-2
-    shared-slice-read-decode-2
-    decode-requires-2
+    add-result
+    mul-result-2
+    shared-slice-read-result-2
+    cast-result-2
     returns-4)

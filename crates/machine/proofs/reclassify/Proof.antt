@@ -1,8 +1,10 @@
-use Prim.Native.Nat.{_+_, _-_, _*_}
-use native.Mathlib.Omega.{arith}
-use borrow.Author.Needs.{needs}
 use Rattle.machine.proofs.Leaves.{leaf-row, leaf-room, pre-change, change-missing, change-done}
-use Rattle.machine.proofs.Values.{not-gave, small-of}
+use Rattle.machine.proofs.Values.{not-gave, outcome-value, small-decoded}
+use Rattle.machine.specs.Machine.{outcome, decoded}
+use native.Mathlib.Omega.{arith}
+use Prim.Native.Nat.{_+_, _-_, _*_, _<_}
+use mathlib.Core.Path.{_≡_}
+use borrow.Author.Needs.{needs}
 use Rattle.machine.proofs.reclassify.Statement.{statement}
 use Rattle.machine.proofs.reclassify.Tie as tie
 use Rattle.machine.proofs.reclassify.Reads as reads
@@ -28,32 +30,32 @@ cast-k c = omega (arith, c .shared-slice-known4 .given (c .before .before .befor
 read-slot-requires : tie.Need-read-slot-requires
 read-slot-requires c κs = leaf-room (c .before .before .before .before .before .pre .0)
 
-enum-known-o : tie.Need-enum-known-o
-enum-known-o c = search needs
-
 returns : tie.Need-returns
-returns c = change-missing (c .before .read-slot .result) (c .before .before .before .before .before .before .before .pre .1) (c .before .read-slot .ensures) (not-gave (c .before .read-slot .result) (c .match .keys2))
+returns c = change-missing (outcome (c .before .read-slot .result)) (c .before .before .before .before .before .before .before .pre .1) (c .before .read-slot .ensures) (not-gave (c .before .read-slot .result) (c .if1 .taken))
+
+cast-change-class : tie.Need-cast-change-class
+cast-change-class c = search needs
 
 mul-change-class : tie.Need-mul-change-class
-mul-change-class c = omega (arith, leaf-row (c .before .before .before .before .before .before .before .before .before .before .pre .0))
+mul-change-class c = omega (arith, leaf-row (c .before .before .before .before .before .before .before .before .before .pre .0))
 
 add-change-class : tie.Need-add-change-class
-add-change-class c = omega (arith, leaf-row (c .before .before .before .before .before .before .before .before .before .before .pre .0))
+add-change-class c = omega (arith, leaf-row (c .before .before .before .before .before .before .before .before .before .pre .0))
 
 mul-change-class-2 : tie.Need-mul-change-class-2
-mul-change-class-2 c = omega (arith, leaf-row (c .before .before .before .before .before .before .before .before .before .before .pre .0))
+mul-change-class-2 c = omega (arith, leaf-row (c .before .before .before .before .before .before .before .before .before .pre .0))
 
 shared-slice-read-change-class : tie.Need-shared-slice-read-change-class
-shared-slice-read-change-class c = omega (arith, leaf-row (c .before .before .before .before .before .before .before .before .before .before .before .pre .0))
+shared-slice-read-change-class c = omega (arith, leaf-row (c .before .before .before .before .before .before .before .before .before .before .pre .0))
 
 change-class-requires : tie.Need-change-class-requires
-change-class-requires c κs = pre-change (c .before .before .before .o .given .0 .0) (c .before .before .before .before .before .before .before .before .before .before .before .pre .0) (c .before .before .before .before .before .before .before .before .before .before .before .pre .1) (small-of (c .before .before .before .o .given .1) (c .before .before .before .before .before .read-slot .ensures .small))
+change-class-requires c κs = pre-change (decoded (c .before .before .before .before .read-slot .result)) (c .before .before .before .before .before .before .before .before .before .before .pre .0) (c .before .before .before .before .before .before .before .before .before .before .pre .1) (small-decoded (c .before .before .before .before .read-slot .result) (c .before .before .before .if1 .left))
 
 same-length : tie.Need-same-length
 same-length c = c .before .before .change-class .kept .1 .1 .0
 
 returns-2 : tie.Need-returns-2
-returns-2 c = change-done (c .before .before .before .before .before .before .before .before .read-slot .result) (c .before .before .before .before .before .before .o .given .0 .0) (c .before .before .before .before .before .before .before .before .before .before .before .before .before .before .pre .1) (c .before .before .before .before .before .before .before .before .read-slot .ensures) (c .before .before .before .before .before .before .o .given .1) (c .before .before .change-class .ensures)
+returns-2 c = change-done (outcome (c .before .before .before .before .before .before .before .read-slot .result)) (decoded (c .before .before .before .before .before .before .before .read-slot .result)) (c .before .before .before .before .before .before .before .before .before .before .before .before .before .pre .1) (c .before .before .before .before .before .before .before .read-slot .ensures) (outcome-value (c .before .before .before .before .before .before .before .read-slot .result) (c .before .before .before .before .before .before .if1 .left)) (c .before .before .change-class .ensures)
 
 pub reclassify-spec : {M : Type 1} → statement M
 reclassify-spec =
@@ -65,8 +67,8 @@ reclassify-spec =
     shared-slice-read-k
     cast-k
     read-slot-requires
-    enum-known-o
     returns
+    cast-change-class
     mul-change-class
     add-change-class
     mul-change-class-2

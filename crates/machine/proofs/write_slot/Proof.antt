@@ -1,20 +1,17 @@
-use Prim.Native.Nat.{_-_}
 use borrow.Author.Needs.{needs}
 use Rattle.machine.proofs.Frames.{write-past, write-none, write-this, write-at}
 use Rattle.machine.proofs.write_slot.Statement.{statement}
 use Rattle.machine.proofs.write_slot.Tie as tie
 use Rattle.machine.proofs.write_slot.Reads as reads
 use Rattle.machine.proofs.write_slot.Lts as lts
-use Rattle.machine.proofs.encode.Reads as encode-reads
 
 returns : tie.Need-returns
-returns c = write-past (c .before .before .before .args .slots .now) (c .before .before .before .args .k) (c .before .before .before .args .v) (c .before .before .before .args .place) (c .before .before .before .pre .0) (c .if1 .taken)
+returns c = write-past (c .before .before .args .n) (c .before .before .pre) (c .if1 .taken)
 
 returns-2 : tie.Need-returns-2
-returns-2 c = write-none (c .before .before .before .before .before .before .args .slots .now) (c .before .before .before .before .before .before .args .k) (c .before .before .before .before .before .before .args .v) (c .before .before .before .before .before .before .args .place) (c .before .before .before .before .before .before .pre .0) (c .before .before .if2 .taken) (c .if3 .taken)
-
-encode-requires : tie.Need-encode-requires
-encode-requires c κs = search needs
+returns-2 c =
+    let start = c .before .before .before .before .before in
+    write-none (start .args .n) (start .pre) (c .before .before .if2 .taken) (c .if3 .taken)
 
 mul-slots : tie.Need-mul-slots
 mul-slots c = search needs
@@ -26,10 +23,9 @@ same-length : tie.Need-same-length
 same-length c = search needs
 
 returns-3 : tie.Need-returns-3
-returns-3 c = write-this (c .before .before .before .before .before .before .before .args .slots .now) (c .before .before .before .before .before .before .before .args .k) (c .before .before .before .before .before .before .before .args .v) (c .before .before .before .before .before .before .before .args .place) (c .before .before .before .before .before .before .before .pre .0) (c .before .before .before .if2 .taken) (c .before .if3 .left) (c .encode .result) (c .encode .ensures)
-
-encode-requires-2 : tie.Need-encode-requires-2
-encode-requires-2 c κs = search needs
+returns-3 c =
+    let start = c .before .before .before .before .before in
+    write-this (start .args .n) (start .pre) (c .before .before .if2 .taken) (c .if3 .left)
 
 add-slots : tie.Need-add-slots
 add-slots c = search needs
@@ -44,7 +40,7 @@ same-length-2 : tie.Need-same-length-2
 same-length-2 c = search needs
 
 returns-4 : tie.Need-returns-4
-returns-4 c = write-at (c .before .before .before .before .before .args .slots .now) (c .before .before .before .before .before .args .k) (c .before .before .before .before .before .args .v) (c .before .before .before .before .before .args .place) (c .before .before .before .before .before .pre .0) (c .before .if2 .left) (c .before .before .if1 .left) (c .encode2 .result) (c .encode2 .ensures)
+returns-4 c = write-at (c .before .before .before .args .n) (c .before .before .before .pre) (c .if2 .left) (c .before .if1 .left)
 
 pub write-slot-spec : {M : Type 1} → statement M
 write-slot-spec =
@@ -52,12 +48,10 @@ write-slot-spec =
     (tie.spec
     returns
     returns-2
-    encode-requires
     mul-slots
     slice-write-slots
     same-length
     returns-3
-    encode-requires-2
     add-slots
     mul-slots-2
     slice-write-slots-2

@@ -1,9 +1,9 @@
 -- What the borrow checker leaves of `one_child`.
-use borrow.Author.Needs.{needs}
 use native.Mathlib.Omega.{arith}
 use mathlib.Core.Path.{_∙_}
-use Prim.Native.Nat.{ℕ, _-_}
-use Rattle.machine.proofs.Values.{not-gave}
+use Prim.Native.Nat.{ℕ}
+use Rattle.machine.specs.Machine.{outcome}
+use Rattle.machine.proofs.Values.{not-gave, outcome-value}
 use Rattle.machine.proofs.Steps.{in-rows, one-pre, pre-apply, one-fail, one-done}
 use Rattle.machine.proofs.eval.Reads as eval
 use Rattle.machine.proofs.one_child.Reads as one-child
@@ -12,13 +12,10 @@ use Rattle.machine.proofs.apply.Reads as apply-reads
 use Rattle.machine.proofs.+args+block+call+choose+eval+items+one_child+set.Proof.Base.{eval-below, one-child-at}
 
 pub one-child-add-eval : (t : ℕ) → one-child-lts.Need-add-eval (eval-below t, eval.Post, apply-reads.Asked, apply-reads.Learnt) (one-child-at t) one-child.Post
-one-child-add-eval t c = omega (arith, in-rows (c .before .before .before .before .before .before .before .before .pre .1 .0))
+one-child-add-eval t c = omega (arith, in-rows (c .before .before .before .before .before .before .before .before .before .pre .1 .0))
 
 pub one-child-eval-requires : (t : ℕ) → one-child-lts.Need-eval-requires (eval-below t, eval.Post, apply-reads.Asked, apply-reads.Learnt) (one-child-at t) one-child.Post
-one-child-eval-requires t c κs = (omega arith, one-pre (c .before .before .before .before .before .before .before .before .pre .1 .0) (c .before .before .before .before .before .before .before .before .pre .1 .1))
-
-pub one-child-enum-known-o : (t : ℕ) → one-child-lts.Need-enum-known-o (eval-below t, eval.Post, apply-reads.Asked, apply-reads.Learnt) (one-child-at t) one-child.Post
-one-child-enum-known-o t c = search needs
+one-child-eval-requires t c κs = (omega arith, one-pre (c .before .before .before .before .before .before .before .before .before .pre .1 .0) (c .before .before .before .before .before .before .before .before .before .pre .1 .1))
 
 pub one-child-same-length : (t : ℕ) → one-child-lts.Need-same-length (eval-below t, eval.Post, apply-reads.Asked, apply-reads.Learnt) (one-child-at t) one-child.Post
 one-child-same-length t c = c .before .before .before .before .before .eval .kept .1 .1 .1 .1 .0
@@ -27,16 +24,19 @@ pub one-child-same-length-2 : (t : ℕ) → one-child-lts.Need-same-length-2 (ev
 one-child-same-length-2 t c = c .before .before .before .before .before .eval .kept .1 .1 .1 .1 .1 .0
 
 pub one-child-returns : (t : ℕ) → one-child-lts.Need-returns (eval-below t, eval.Post, apply-reads.Asked, apply-reads.Learnt) (one-child-at t) one-child.Post
-one-child-returns t c = one-fail (c .before .before .before .before .before .before .before .before .before .before .before .before .before .before .args .at) (c .before .before .before .before .before .before .before .before .before .before .before .before .before .before .pre .1 .1) (c .before .before .before .before .before .eval .ensures) (not-gave (c .before .before .before .before .before .eval .result .outcome) (c .match .keys2))
+one-child-returns t c = one-fail (c .before .before .before .before .before .before .before .before .before .before .before .before .before .before .before .args .at) (c .before .before .before .before .before .before .before .before .before .before .before .before .before .before .before .pre .1 .1) (c .before .before .before .before .before .eval .ensures) (not-gave (c .before .before .before .before .before .eval .result) (c .if1 .taken))
+
+pub one-child-cast-apply : (t : ℕ) → one-child-lts.Need-cast-apply (eval-below t, eval.Post, apply-reads.Asked, apply-reads.Learnt) (one-child-at t) one-child.Post
+one-child-cast-apply t c = omega (arith, c .before .before .before .if1 .left)
 
 pub one-child-apply-requires : (t : ℕ) → one-child-lts.Need-apply-requires (eval-below t, eval.Post, apply-reads.Asked, apply-reads.Learnt) (one-child-at t) one-child.Post
-one-child-apply-requires t c κs = pre-apply (c .before .before .before .before .before .before .before .before .before .before .before .before .before .before .before .before .before .before .before .pre .1 .0) (c .before .before .before .before .before .before .before .before .before .before .before .before .before .before .before .before .before .before .before .pre .1 .1) (c .before .before .before .before .before .before .before .before .before .before .eval .ensures) (c .before .before .before .before .o .given .1)
+one-child-apply-requires t c κs = pre-apply (c .before .before .before .before .before .before .before .before .before .before .before .before .before .before .before .before .before .before .pre .1 .0) (c .before .before .before .before .before .before .before .before .before .before .before .before .before .before .before .before .before .before .pre .1 .1) (c .before .before .before .before .before .before .before .before .eval .ensures) (outcome-value (c .before .before .before .before .before .before .before .before .eval .result) (c .before .before .before .if1 .left))
 
 pub one-child-same-length-3 : (t : ℕ) → one-child-lts.Need-same-length-3 (eval-below t, eval.Post, apply-reads.Asked, apply-reads.Learnt) (one-child-at t) one-child.Post
-one-child-same-length-3 t c = c .before .before .before .before .before .before .before .before .before .before .before .before .before .eval .kept .1 .1 .1 .1 .0
+one-child-same-length-3 t c = c .before .before .before .before .before .before .before .before .before .before .before .eval .kept .1 .1 .1 .1 .0
 
 pub one-child-same-length-4 : (t : ℕ) → one-child-lts.Need-same-length-4 (eval-below t, eval.Post, apply-reads.Asked, apply-reads.Learnt) (one-child-at t) one-child.Post
-one-child-same-length-4 t c = c .before .before .apply .kept .1 .1 .1 .1 .0 ∙ c .before .before .before .before .before .before .before .before .before .before .before .before .before .eval .kept .1 .1 .1 .1 .1 .0
+one-child-same-length-4 t c = c .before .before .apply .kept .1 .1 .1 .1 .0 ∙ c .before .before .before .before .before .before .before .before .before .before .before .eval .kept .1 .1 .1 .1 .1 .0
 
 pub one-child-returns-2 : (t : ℕ) → one-child-lts.Need-returns-2 (eval-below t, eval.Post, apply-reads.Asked, apply-reads.Learnt) (one-child-at t) one-child.Post
-one-child-returns-2 t c = one-done (c .before .before .before .before .before .before .before .before .before .before .before .before .before .before .before .before .before .before .before .before .before .before .args .at) (c .before .before .before .before .before .before .before .before .before .before .before .before .before .before .before .before .before .before .before .before .before .before .pre .1 .1) (c .before .before .before .before .before .before .before .before .before .before .before .before .before .eval .ensures) (c .before .before .apply .result) (c .before .before .before .before .before .before .before .o .given .1) (c .before .before .apply .ensures)
+one-child-returns-2 t c = one-done (c .before .before .before .before .before .before .before .before .before .before .before .before .before .before .before .before .before .before .before .before .before .args .at) (c .before .before .before .before .before .before .before .before .before .before .before .before .before .before .before .before .before .before .before .before .before .pre .1 .1) (c .before .before .before .before .before .before .before .before .before .before .before .eval .ensures) (outcome (c .before .before .apply .result)) (outcome-value (c .before .before .before .before .before .before .before .before .before .before .before .eval .result) (c .before .before .before .before .before .before .if1 .left)) (c .before .before .apply .ensures)

@@ -1,9 +1,9 @@
 -- What the borrow checker leaves of `set`.
-use borrow.Author.Needs.{needs}
 use native.Mathlib.Omega.{arith}
 use mathlib.Core.Path.{_∙_}
-use Prim.Native.Nat.{ℕ, _+_, _*_, _-_}
-use Rattle.machine.proofs.Values.{not-gave, small-of}
+use Prim.Native.Nat.{ℕ, _+_, _*_}
+use Rattle.machine.specs.Machine.{outcome}
+use Rattle.machine.proofs.Values.{not-gave, outcome-value}
 use Rattle.machine.proofs.Steps.{kept-of}
 use Rattle.machine.proofs.Nodes2.{set-apart, set-first, set-second, set-fail, set-fail-second, set-done, pre-save}
 use Rattle.machine.proofs.eval.Reads as eval
@@ -13,13 +13,10 @@ use Rattle.machine.proofs.save.Reads as save-reads
 use Rattle.machine.proofs.+args+block+call+choose+eval+items+one_child+set.Proof.Base.{eval-below, set-at}
 
 pub set-add-eval : (t : ℕ) → set-lts.Need-add-eval (eval-below t, eval.Post, save-reads.Asked, save-reads.Learnt) (set-at t) set.Post
-set-add-eval t c = omega (arith, (set-apart (c .before .before .before .before .before .before .before .before .pre .1 .0) (c .before .before .before .before .before .before .before .before .pre .1 .1) .3) .row)
+set-add-eval t c = omega (arith, (set-apart (c .before .before .before .before .before .before .before .before .before .pre .1 .0) (c .before .before .before .before .before .before .before .before .before .pre .1 .1) .3) .row)
 
 pub set-eval-requires : (t : ℕ) → set-lts.Need-eval-requires (eval-below t, eval.Post, save-reads.Asked, save-reads.Learnt) (set-at t) set.Post
-set-eval-requires t c κs = (omega arith, set-first (set-apart (c .before .before .before .before .before .before .before .before .pre .1 .0) (c .before .before .before .before .before .before .before .before .pre .1 .1) .3))
-
-pub set-enum-known-o : (t : ℕ) → set-lts.Need-enum-known-o (eval-below t, eval.Post, save-reads.Asked, save-reads.Learnt) (set-at t) set.Post
-set-enum-known-o t c = search needs
+set-eval-requires t c κs = (omega arith, set-first (set-apart (c .before .before .before .before .before .before .before .before .before .pre .1 .0) (c .before .before .before .before .before .before .before .before .before .pre .1 .1) .3))
 
 pub set-same-length : (t : ℕ) → set-lts.Need-same-length (eval-below t, eval.Post, save-reads.Asked, save-reads.Learnt) (set-at t) set.Post
 set-same-length t c = c .before .before .before .before .before .eval .kept .1 .1 .1 .1 .0
@@ -28,58 +25,61 @@ pub set-same-length-2 : (t : ℕ) → set-lts.Need-same-length-2 (eval-below t, 
 set-same-length-2 t c = c .before .before .before .before .before .eval .kept .1 .1 .1 .1 .1 .0
 
 pub set-returns : (t : ℕ) → set-lts.Need-returns (eval-below t, eval.Post, save-reads.Asked, save-reads.Learnt) (set-at t) set.Post
-set-returns t c = set-fail (c .before .before .before .before .before .before .before .before .before .before .before .before .before .before .args .at) (c .before .before .before .before .before .before .before .before .before .before .before .before .before .before .pre .1 .1) (c .before .before .before .before .before .eval .ensures) (not-gave (c .before .before .before .before .before .eval .result .outcome) (c .match .keys2))
+set-returns t c = set-fail (c .before .before .before .before .before .before .before .before .before .before .before .before .before .before .before .args .at) (c .before .before .before .before .before .before .before .before .before .before .before .before .before .before .before .pre .1 .1) (c .before .before .before .before .before .eval .ensures) (not-gave (c .before .before .before .before .before .eval .result) (c .if1 .taken))
 
 pub set-add-next : (t : ℕ) → set-lts.Need-add-next (eval-below t, eval.Post, save-reads.Asked, save-reads.Learnt) (set-at t) set.Post
-set-add-next t c = omega (arith, (set-apart (c .before .before .before .before .before .before .before .before .before .before .before .before .before .before .before .before .pre .1 .0) (c .before .before .before .before .before .before .before .before .before .before .before .before .before .before .before .before .pre .1 .1) .3) .in-ends)
+set-add-next t c = omega (arith, (set-apart (c .before .before .before .before .before .before .before .before .before .before .before .before .before .before .before .pre .1 .0) (c .before .before .before .before .before .before .before .before .before .before .before .before .before .before .before .pre .1 .1) .3) .in-ends)
 
 pub set-mul-next : (t : ℕ) → set-lts.Need-mul-next (eval-below t, eval.Post, save-reads.Asked, save-reads.Learnt) (set-at t) set.Post
-set-mul-next t c = omega (arith, (set-apart (c .before .before .before .before .before .before .before .before .before .before .before .before .before .before .before .before .pre .1 .0) (c .before .before .before .before .before .before .before .before .before .before .before .before .before .before .before .before .pre .1 .1) .3) .in-ends)
+set-mul-next t c = omega (arith, (set-apart (c .before .before .before .before .before .before .before .before .before .before .before .before .before .before .before .pre .1 .0) (c .before .before .before .before .before .before .before .before .before .before .before .before .before .before .before .pre .1 .1) .3) .in-ends)
 
 pub set-shared-slice-read-next : (t : ℕ) → set-lts.Need-shared-slice-read-next (eval-below t, eval.Post, save-reads.Asked, save-reads.Learnt) (set-at t) set.Post
-set-shared-slice-read-next t c = omega (arith, (set-apart (c .before .before .before .before .before .before .before .before .before .before .before .before .before .before .before .before .before .pre .1 .0) (c .before .before .before .before .before .before .before .before .before .before .before .before .before .before .before .before .before .pre .1 .1) .3) .in-ends)
+set-shared-slice-read-next t c = omega (arith, (set-apart (c .before .before .before .before .before .before .before .before .before .before .before .before .before .before .before .before .pre .1 .0) (c .before .before .before .before .before .before .before .before .before .before .before .before .before .before .before .before .pre .1 .1) .3) .in-ends)
 
 pub set-cast-next : (t : ℕ) → set-lts.Need-cast-next (eval-below t, eval.Post, save-reads.Asked, save-reads.Learnt) (set-at t) set.Post
-set-cast-next t c = omega (arith, c .shared-slice-known5 .given (c .before .before .before .before .before .before .before .before .before .before .before .before .before .before .before .before .before .args .at + 1))
+set-cast-next t c = omega (arith, c .shared-slice-known5 .given (c .before .before .before .before .before .before .before .before .before .before .before .before .before .before .before .before .args .at + 1))
 
 pub set-eval-requires-2 : (t : ℕ) → set-lts.Need-eval-requires-2 (eval-below t, eval.Post, save-reads.Asked, save-reads.Learnt) (set-at t) set.Post
-set-eval-requires-2 t c κs = (omega (arith, kept-of (set-first (set-apart (c .before .before .before .before .before .before .before .before .before .before .before .before .before .before .before .before .before .before .before .before .pre .1 .0) (c .before .before .before .before .before .before .before .before .before .before .before .before .before .before .before .before .before .before .before .before .pre .1 .1) .3)) (c .before .before .before .before .before .before .before .before .before .before .before .eval .ensures) .falls), set-second (set-apart (c .before .before .before .before .before .before .before .before .before .before .before .before .before .before .before .before .before .before .before .before .pre .1 .0) (c .before .before .before .before .before .before .before .before .before .before .before .before .before .before .before .before .before .before .before .before .pre .1 .1) .3) (c .before .before .before .before .before .before .before .before .before .before .before .eval .ensures) (c .before .before .before .before .before .o .given .1))
-
-pub set-enum-known-o2 : (t : ℕ) → set-lts.Need-enum-known-o2 (eval-below t, eval.Post, save-reads.Asked, save-reads.Learnt) (set-at t) set.Post
-set-enum-known-o2 t c = search needs
+set-eval-requires-2 t c κs = (omega (arith, kept-of (set-first (set-apart (c .before .before .before .before .before .before .before .before .before .before .before .before .before .before .before .before .before .before .before .pre .1 .0) (c .before .before .before .before .before .before .before .before .before .before .before .before .before .before .before .before .before .before .before .pre .1 .1) .3)) (c .before .before .before .before .before .before .before .before .before .eval .ensures) .falls), set-second (set-apart (c .before .before .before .before .before .before .before .before .before .before .before .before .before .before .before .before .before .before .before .pre .1 .0) (c .before .before .before .before .before .before .before .before .before .before .before .before .before .before .before .before .before .before .before .pre .1 .1) .3) (c .before .before .before .before .before .before .before .before .before .eval .ensures) (outcome-value (c .before .before .before .before .before .before .before .before .before .eval .result) (c .before .before .before .before .if1 .left)))
 
 pub set-same-length-3 : (t : ℕ) → set-lts.Need-same-length-3 (eval-below t, eval.Post, save-reads.Asked, save-reads.Learnt) (set-at t) set.Post
-set-same-length-3 t c = c .before .before .before .before .before .eval2 .kept .1 .1 .1 .1 .0 ∙ c .before .before .before .before .before .before .before .before .before .before .before .before .before .before .before .before .before .eval .kept .1 .1 .1 .1 .0
+set-same-length-3 t c = c .before .before .before .before .before .eval2 .kept .1 .1 .1 .1 .0 ∙ c .before .before .before .before .before .before .before .before .before .before .before .before .before .before .before .eval .kept .1 .1 .1 .1 .0
 
 pub set-same-length-4 : (t : ℕ) → set-lts.Need-same-length-4 (eval-below t, eval.Post, save-reads.Asked, save-reads.Learnt) (set-at t) set.Post
-set-same-length-4 t c = c .before .before .before .before .before .eval2 .kept .1 .1 .1 .1 .1 .0 ∙ c .before .before .before .before .before .before .before .before .before .before .before .before .before .before .before .before .before .eval .kept .1 .1 .1 .1 .1 .0
+set-same-length-4 t c = c .before .before .before .before .before .eval2 .kept .1 .1 .1 .1 .1 .0 ∙ c .before .before .before .before .before .before .before .before .before .before .before .before .before .before .before .eval .kept .1 .1 .1 .1 .1 .0
 
 pub set-returns-2 : (t : ℕ) → set-lts.Need-returns-2 (eval-below t, eval.Post, save-reads.Asked, save-reads.Learnt) (set-at t) set.Post
-set-returns-2 t c = set-fail-second (c .before .before .before .before .before .before .before .before .before .before .before .before .before .before .before .before .before .before .before .before .before .before .before .before .before .before .args .at) (c .before .before .before .before .before .before .before .before .before .before .before .before .before .before .before .before .before .before .before .before .before .before .before .before .before .before .pre .1 .1) (c .before .before .before .before .before .before .before .before .before .before .before .before .before .before .before .before .before .eval .ensures) (c .before .before .before .before .before .before .before .before .before .before .before .o .given .1) (c .before .before .before .before .before .eval2 .ensures) (not-gave (c .before .before .before .before .before .eval2 .result .outcome) (c .match2 .keys2))
-
-pub set-mul-save : (t : ℕ) → set-lts.Need-mul-save (eval-below t, eval.Post, save-reads.Asked, save-reads.Learnt) (set-at t) set.Post
-set-mul-save t c = omega (arith, (set-apart (c .before .before .before .before .before .before .before .before .before .before .before .before .before .before .before .before .before .before .before .before .before .before .before .before .before .before .before .before .before .before .pre .1 .0) (c .before .before .before .before .before .before .before .before .before .before .before .before .before .before .before .before .before .before .before .before .before .before .before .before .before .before .before .before .before .before .pre .1 .1) .3) .row, c .before .before .before .before .before .before .before .before .before .before .before .before .before .before .before .before .before .before .before .before .before .before .before .before .before .before .before .before .before .before .good .0 .1)
-
-pub set-add-save : (t : ℕ) → set-lts.Need-add-save (eval-below t, eval.Post, save-reads.Asked, save-reads.Learnt) (set-at t) set.Post
-set-add-save t c = omega (arith, (set-apart (c .before .before .before .before .before .before .before .before .before .before .before .before .before .before .before .before .before .before .before .before .before .before .before .before .before .before .before .before .before .before .pre .1 .0) (c .before .before .before .before .before .before .before .before .before .before .before .before .before .before .before .before .before .before .before .before .before .before .before .before .before .before .before .before .before .before .pre .1 .1) .3) .row, c .before .before .before .before .before .before .before .before .before .before .before .before .before .before .before .before .before .before .before .before .before .before .before .before .before .before .before .before .before .before .good .0 .1)
-
-pub set-mul-save-2 : (t : ℕ) → set-lts.Need-mul-save-2 (eval-below t, eval.Post, save-reads.Asked, save-reads.Learnt) (set-at t) set.Post
-set-mul-save-2 t c = omega (arith, (set-apart (c .before .before .before .before .before .before .before .before .before .before .before .before .before .before .before .before .before .before .before .before .before .before .before .before .before .before .before .before .before .before .pre .1 .0) (c .before .before .before .before .before .before .before .before .before .before .before .before .before .before .before .before .before .before .before .before .before .before .before .before .before .before .before .before .before .before .pre .1 .1) .3) .row, c .before .before .before .before .before .before .before .before .before .before .before .before .before .before .before .before .before .before .before .before .before .before .before .before .before .before .before .before .before .before .good .0 .1)
-
-pub set-shared-slice-read-save : (t : ℕ) → set-lts.Need-shared-slice-read-save (eval-below t, eval.Post, save-reads.Asked, save-reads.Learnt) (set-at t) set.Post
-set-shared-slice-read-save t c = omega (arith, (set-apart (c .before .before .before .before .before .before .before .before .before .before .before .before .before .before .before .before .before .before .before .before .before .before .before .before .before .before .before .before .before .before .before .pre .1 .0) (c .before .before .before .before .before .before .before .before .before .before .before .before .before .before .before .before .before .before .before .before .before .before .before .before .before .before .before .before .before .before .before .pre .1 .1) .3) .row, c .before .before .before .before .before .before .before .before .before .before .before .before .before .before .before .before .before .before .before .before .before .before .before .before .before .before .before .before .before .before .before .good .0 .1)
+set-returns-2 t c = set-fail-second (c .before .before .before .before .before .before .before .before .before .before .before .before .before .before .before .before .before .before .before .before .before .before .before .before .before .args .at) (c .before .before .before .before .before .before .before .before .before .before .before .before .before .before .before .before .before .before .before .before .before .before .before .before .before .pre .1 .1) (c .before .before .before .before .before .before .before .before .before .before .before .before .before .before .before .eval .ensures) (outcome-value (c .before .before .before .before .before .before .before .before .before .before .before .before .before .before .before .eval .result) (c .before .before .before .before .before .before .before .before .before .before .if1 .left)) (c .before .before .before .before .before .eval2 .ensures) (not-gave (c .before .before .before .before .before .eval2 .result) (c .if2 .taken))
 
 pub set-cast-save : (t : ℕ) → set-lts.Need-cast-save (eval-below t, eval.Post, save-reads.Asked, save-reads.Learnt) (set-at t) set.Post
-set-cast-save t c = omega (arith, c .shared-slice-known6 .given (c .before .before .before .before .before .before .before .before .before .before .before .before .before .before .before .before .before .before .before .before .before .before .before .before .before .before .before .before .before .before .before .args .at * 4 + 1))
+set-cast-save t c = omega (arith, c .before .before .before .before .before .before .before .before .before .before .before .before .if1 .left)
+
+pub set-cast-save-2 : (t : ℕ) → set-lts.Need-cast-save-2 (eval-below t, eval.Post, save-reads.Asked, save-reads.Learnt) (set-at t) set.Post
+set-cast-save-2 t c = omega (arith, c .before .before .if2 .left)
+
+pub set-mul-save : (t : ℕ) → set-lts.Need-mul-save (eval-below t, eval.Post, save-reads.Asked, save-reads.Learnt) (set-at t) set.Post
+set-mul-save t c = omega (arith, (set-apart (c .before .before .before .before .before .before .before .before .before .before .before .before .before .before .before .before .before .before .before .before .before .before .before .before .before .before .before .pre .1 .0) (c .before .before .before .before .before .before .before .before .before .before .before .before .before .before .before .before .before .before .before .before .before .before .before .before .before .before .before .pre .1 .1) .3) .row, c .before .before .before .before .before .before .before .before .before .before .before .before .before .before .before .before .before .before .before .before .before .before .before .before .before .before .before .good .0 .1)
+
+pub set-add-save : (t : ℕ) → set-lts.Need-add-save (eval-below t, eval.Post, save-reads.Asked, save-reads.Learnt) (set-at t) set.Post
+set-add-save t c = omega (arith, (set-apart (c .before .before .before .before .before .before .before .before .before .before .before .before .before .before .before .before .before .before .before .before .before .before .before .before .before .before .before .pre .1 .0) (c .before .before .before .before .before .before .before .before .before .before .before .before .before .before .before .before .before .before .before .before .before .before .before .before .before .before .before .pre .1 .1) .3) .row, c .before .before .before .before .before .before .before .before .before .before .before .before .before .before .before .before .before .before .before .before .before .before .before .before .before .before .before .good .0 .1)
+
+pub set-mul-save-2 : (t : ℕ) → set-lts.Need-mul-save-2 (eval-below t, eval.Post, save-reads.Asked, save-reads.Learnt) (set-at t) set.Post
+set-mul-save-2 t c = omega (arith, (set-apart (c .before .before .before .before .before .before .before .before .before .before .before .before .before .before .before .before .before .before .before .before .before .before .before .before .before .before .before .pre .1 .0) (c .before .before .before .before .before .before .before .before .before .before .before .before .before .before .before .before .before .before .before .before .before .before .before .before .before .before .before .pre .1 .1) .3) .row, c .before .before .before .before .before .before .before .before .before .before .before .before .before .before .before .before .before .before .before .before .before .before .before .before .before .before .before .good .0 .1)
+
+pub set-shared-slice-read-save : (t : ℕ) → set-lts.Need-shared-slice-read-save (eval-below t, eval.Post, save-reads.Asked, save-reads.Learnt) (set-at t) set.Post
+set-shared-slice-read-save t c = omega (arith, (set-apart (c .before .before .before .before .before .before .before .before .before .before .before .before .before .before .before .before .before .before .before .before .before .before .before .before .before .before .before .before .pre .1 .0) (c .before .before .before .before .before .before .before .before .before .before .before .before .before .before .before .before .before .before .before .before .before .before .before .before .before .before .before .before .pre .1 .1) .3) .row, c .before .before .before .before .before .before .before .before .before .before .before .before .before .before .before .before .before .before .before .before .before .before .before .before .before .before .before .before .good .0 .1)
+
+pub set-cast-save-3 : (t : ℕ) → set-lts.Need-cast-save-3 (eval-below t, eval.Post, save-reads.Asked, save-reads.Learnt) (set-at t) set.Post
+set-cast-save-3 t c = omega (arith, c .shared-slice-known6 .given (c .before .before .before .before .before .before .before .before .before .before .before .before .before .before .before .before .before .before .before .before .before .before .before .before .before .before .before .before .args .at * 4 + 1))
 
 pub set-save-requires : (t : ℕ) → set-lts.Need-save-requires (eval-below t, eval.Post, save-reads.Asked, save-reads.Learnt) (set-at t) set.Post
-set-save-requires t c κs = (pre-save (set-apart (c .before .before .before .before .before .before .before .before .before .before .before .before .before .before .before .before .before .before .before .before .before .before .before .before .before .before .before .before .before .before .before .pre .1 .0) (c .before .before .before .before .before .before .before .before .before .before .before .before .before .before .before .before .before .before .before .before .before .before .before .before .before .before .before .before .before .before .before .pre .1 .1) .3) (c .before .before .before .before .before .before .before .before .before .before .before .before .before .before .before .before .before .before .before .before .before .before .eval .ensures) (c .before .before .before .before .before .before .before .before .before .before .before .before .before .before .before .before .o .given .1) (c .before .before .before .before .before .before .before .before .before .before .eval2 .ensures), (omega (arith, (set-apart (c .before .before .before .before .before .before .before .before .before .before .before .before .before .before .before .before .before .before .before .before .before .before .before .before .before .before .before .before .before .before .before .pre .1 .0) (c .before .before .before .before .before .before .before .before .before .before .before .before .before .before .before .before .before .before .before .before .before .before .before .before .before .before .before .before .before .before .before .pre .1 .1) .3) .first, (set-apart (c .before .before .before .before .before .before .before .before .before .before .before .before .before .before .before .before .before .before .before .before .before .before .before .before .before .before .before .before .before .before .before .pre .1 .0) (c .before .before .before .before .before .before .before .before .before .before .before .before .before .before .before .before .before .before .before .before .before .before .before .before .before .before .before .before .before .before .before .pre .1 .1) .3) .name), small-of (c .before .before .before .before .o2 .given .1) (kept-of (set-second (set-apart (c .before .before .before .before .before .before .before .before .before .before .before .before .before .before .before .before .before .before .before .before .before .before .before .before .before .before .before .before .before .before .before .pre .1 .0) (c .before .before .before .before .before .before .before .before .before .before .before .before .before .before .before .before .before .before .before .before .before .before .before .before .before .before .before .before .before .before .before .pre .1 .1) .3) (c .before .before .before .before .before .before .before .before .before .before .before .before .before .before .before .before .before .before .before .before .before .before .eval .ensures) (c .before .before .before .before .before .before .before .before .before .before .before .before .before .before .before .before .o .given .1)) (c .before .before .before .before .before .before .before .before .before .before .eval2 .ensures) .small)))
+set-save-requires t c κs = (pre-save (set-apart (c .before .before .before .before .before .before .before .before .before .before .before .before .before .before .before .before .before .before .before .before .before .before .before .before .before .before .before .before .pre .1 .0) (c .before .before .before .before .before .before .before .before .before .before .before .before .before .before .before .before .before .before .before .before .before .before .before .before .before .before .before .before .pre .1 .1) .3) (c .before .before .before .before .before .before .before .before .before .before .before .before .before .before .before .before .before .before .eval .ensures) (outcome-value (c .before .before .before .before .before .before .before .before .before .before .before .before .before .before .before .before .before .before .eval .result) (c .before .before .before .before .before .before .before .before .before .before .before .before .before .if1 .left)) (c .before .before .before .before .before .before .before .before .eval2 .ensures), omega (arith, (set-apart (c .before .before .before .before .before .before .before .before .before .before .before .before .before .before .before .before .before .before .before .before .before .before .before .before .before .before .before .before .pre .1 .0) (c .before .before .before .before .before .before .before .before .before .before .before .before .before .before .before .before .before .before .before .before .before .before .before .before .before .before .before .before .pre .1 .1) .3) .first, (set-apart (c .before .before .before .before .before .before .before .before .before .before .before .before .before .before .before .before .before .before .before .before .before .before .before .before .before .before .before .before .pre .1 .0) (c .before .before .before .before .before .before .before .before .before .before .before .before .before .before .before .before .before .before .before .before .before .before .before .before .before .before .before .before .pre .1 .1) .3) .name))
 
 pub set-same-length-5 : (t : ℕ) → set-lts.Need-same-length-5 (eval-below t, eval.Post, save-reads.Asked, save-reads.Learnt) (set-at t) set.Post
-set-same-length-5 t c = c .before .before .save .kept .1 .0 ∙ (c .before .before .before .before .before .before .before .before .before .before .before .before .before .eval2 .kept .1 .1 .1 .1 .0 ∙ c .before .before .before .before .before .before .before .before .before .before .before .before .before .before .before .before .before .before .before .before .before .before .before .before .before .eval .kept .1 .1 .1 .1 .0)
+set-same-length-5 t c = c .before .before .save .kept .1 .0 ∙ (c .before .before .before .before .before .before .before .before .before .before .before .eval2 .kept .1 .1 .1 .1 .0 ∙ c .before .before .before .before .before .before .before .before .before .before .before .before .before .before .before .before .before .before .before .before .before .eval .kept .1 .1 .1 .1 .0)
 
 pub set-same-length-6 : (t : ℕ) → set-lts.Need-same-length-6 (eval-below t, eval.Post, save-reads.Asked, save-reads.Learnt) (set-at t) set.Post
-set-same-length-6 t c = c .before .before .before .before .before .before .before .before .before .before .before .before .before .eval2 .kept .1 .1 .1 .1 .1 .0 ∙ c .before .before .before .before .before .before .before .before .before .before .before .before .before .before .before .before .before .before .before .before .before .before .before .before .before .eval .kept .1 .1 .1 .1 .1 .0
+set-same-length-6 t c = c .before .before .before .before .before .before .before .before .before .before .before .eval2 .kept .1 .1 .1 .1 .1 .0 ∙ c .before .before .before .before .before .before .before .before .before .before .before .before .before .before .before .before .before .before .before .before .before .eval .kept .1 .1 .1 .1 .1 .0
 
 pub set-returns-3 : (t : ℕ) → set-lts.Need-returns-3 (eval-below t, eval.Post, save-reads.Asked, save-reads.Learnt) (set-at t) set.Post
-set-returns-3 t c = set-done (c .before .before .before .before .before .before .before .before .before .before .before .before .before .before .before .before .before .before .before .before .before .before .before .before .before .before .before .before .before .before .before .before .before .before .args .at) (c .before .before .before .before .before .before .before .before .before .before .before .before .before .before .before .before .before .before .before .before .before .before .before .before .before .before .before .before .before .before .before .before .before .before .pre .1 .1) (c .before .before .before .before .before .before .before .before .before .before .before .before .before .before .before .before .before .before .before .before .before .before .before .before .before .eval .ensures) (c .before .before .before .before .before .before .before .before .before .before .before .before .before .before .before .before .before .before .before .o .given .1) (c .before .before .before .before .before .before .before .before .before .before .before .before .before .eval2 .ensures) (c .before .before .save .result) (c .before .before .before .before .before .before .before .o2 .given .1) (c .before .before .save .ensures)
+set-returns-3 t c = set-done (c .before .before .before .before .before .before .before .before .before .before .before .before .before .before .before .before .before .before .before .before .before .before .before .before .before .before .before .before .before .before .before .args .at) (c .before .before .before .before .before .before .before .before .before .before .before .before .before .before .before .before .before .before .before .before .before .before .before .before .before .before .before .before .before .before .before .pre .1 .1) (c .before .before .before .before .before .before .before .before .before .before .before .before .before .before .before .before .before .before .before .before .before .eval .ensures) (outcome-value (c .before .before .before .before .before .before .before .before .before .before .before .before .before .before .before .before .before .before .before .before .before .eval .result) (c .before .before .before .before .before .before .before .before .before .before .before .before .before .before .before .before .if1 .left)) (c .before .before .before .before .before .before .before .before .before .before .before .eval2 .ensures) (outcome (c .before .before .save .result)) (outcome-value (c .before .before .before .before .before .before .before .before .before .before .before .eval2 .result) (c .before .before .before .before .before .before .if2 .left)) (c .before .before .save .ensures)
