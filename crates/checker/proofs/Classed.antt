@@ -1,7 +1,7 @@
 -- A program that stands in rows is ready for the heading pass. Assumes nothing.
 use mathlib.Core.Path.{_≡_, subst}
 use mathlib.Core.Logic.{inl, inr}
-use Prim.Native.Nat.{ℕ, suc, _+_, _≤_}
+use Prim.Native.Nat.{ℕ, suc, _+_, _*_, _≤_}
 use mathlib.Core.List.{List, [], _∷_}
 use lib.ListN.{length}
 use native.Mathlib.Omega.{arith}
@@ -105,10 +105,11 @@ classes-here R E p h = let z : start-row p ≡ 0 + start-row p = omega arith in
 abbrev pub classed : (R E : List ℕ) (p : Program) → ProgramAt R E p → Classed R E
 classed R E p h = record { classes = p .classes; here = classes-here R E p h; few = h .in-form .few; short = h .short }
 
--- Tables for 64 classes are long enough.
-abbrev pub headings-ready : (R E T A : List ℕ) (p : Program) → ProgramAt R E p → 37440 ≤ length T → 65 ≤ length A → HeadingsReady R E T A
+-- Tables with a block for each class and for Object are long enough.
+abbrev pub headings-ready : (R E T A : List ℕ) (p : Program) → ProgramAt R E p → (length (p .classes) + 1) * 576 ≤ length T → 65 ≤ length A
+    → HeadingsReady R E T A
 headings-ready R E T A p h t a = record {
   classed = classed R E p h;
-  long = omega (arith, t, h .in-form .few);
+  long = t;
   long-above = omega (arith, a, h .in-form .few);
 }

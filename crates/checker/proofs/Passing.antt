@@ -2,7 +2,7 @@
 use mathlib.Core.Path.{_≡_, refl, sym, ap, _∙_, subst}
 use mathlib.Core.Logic.{inl, inr}
 use mathlib.Core.List.{List, _++_}
-use Prim.Native.Nat.{ℕ, _%_, _≤_}
+use Prim.Native.Nat.{ℕ, _+_, _*_, _%_, _≤_}
 use lib.ListN.{length, drop, replicate}
 use borrow.Author.Tests.{eq-eqb, ne-eqb}
 use native.Mathlib.Omega.{arith}
@@ -35,7 +35,7 @@ use Rattle.bodies.specs.declared.Verdict as typed
 use Rattle.bodies.specs.declared.Verdict.the-variants.{Accepted as Typed, Refused as NotTyped}
 use Rattle.checker.specs.declared.Checked.the-variants.{Accepted, Refused}
 use Rattle.checker.specs.Answers.{checked-case, verdict-case, verdict-of-checked}
-use Rattle.checker.specs.Passes.{after-headings, after-form, Lent, FormPassed, HeadingsPassed, Held}
+use Rattle.checker.specs.Passes.{after-headings, after-form, Lent, Stands, FormPassed, HeadingsPassed, Held}
 use Rattle.checker.proofs.Classed.{headings-ready}
 use Rattle.checker.proofs.Heading.{headed}
 
@@ -108,7 +108,7 @@ heads-refused (accept u) n l e = let z : _≡_ {A = ℕ} 0 1 = cc in absurd (ome
 heads-refused (refuse i m) n l e = let a : n ≡ i = cc in let b : l ≡ m = cc in rw (a, b)
 
 abbrev pub ready : {R E T A C : List ℕ} {n : ℕ} → FormPassed R E T A C n → HeadingsReady R E T A
-ready {R} {E} {T} {A} w = headings-ready R E T A (w .program) (w .here) (w .long) (w .long-above)
+ready {R} {E} {T} {A} w = headings-ready R E T A (w .program) (w .here) (omega (arith, w .counted, w .long)) (w .long-above)
 
 module _ {R E T A C : List ℕ} {n : ℕ} (w : FormPassed R E T A C n) where
   pub headings-accepted : (h : answered.Headed) → h ≡ Passed → h ≡ heads.headed (headings of-check (w .program .classes))
@@ -167,6 +167,21 @@ form-refused : (c : results.Checked Program) (i l : ℕ) → NotInForm i l ≡ f
 form-refused (accept p) i l e = let z : _≡_ {A = ℕ} 0 1 = cc in absurd (omega arith)
 form-refused (refuse n m) i l e = let a : i ≡ n = cc in let b : l ≡ m = cc in rw (a, b)
 
+module _ {R E C : List ℕ} {n : ℕ} where
+  abbrev pub with-tables : (T A : List ℕ) → Stands R E C n → (n + 1) * 576 ≤ length T → 65 ≤ length A → FormPassed R E T A C n
+  with-tables T A w t a = record {
+    program = w .program;
+    here = w .here;
+    counted = w .counted;
+    nodes = w .nodes;
+    long = t;
+    long-above = a;
+  }
+
+  -- A table for 64 classes is long enough for any program.
+  pub for-all : (T : List ℕ) → Stands R E C n → 37440 ≤ length T → (n + 1) * 576 ≤ length T
+  for-all T w t = omega (arith, w .counted, w .here .in-form .few, t)
+
 module _ (R : List ℕ) where
   -- A length that is no multiple of 4.
   pub uneven : (E T A C : List ℕ) → (length R % 4 ≡ 0 → ⊥)
@@ -175,49 +190,62 @@ module _ (R : List ℕ) where
   uneven E T A C u = let s = ne-eqb (length R % 4) 0 u in
       (rw s, λ p g. absurd (accept≢refuse 1 0 (rw s at g)))
 
+  pub uneven-refused : (length R % 4 ≡ 0 → ⊥) → check R ≡ refuse 1 0
+  unfolding check whole-rows require
+  uneven-refused u = rw (ne-eqb (length R % 4) 0 u)
+
   module _ (whole : length R % 4 ≡ 0) where
     check-is : check R ≡ three-passes R
     unfolding check whole-rows require
     check-is = rw (eq-eqb (length R % 4) 0 whole)
+
+    pub stands : (E E′ C : List ℕ) (n : ℕ) (f : Formed) → f ≡ InForm n → f ≡ formed-of (form of-check (rows-of R))
+        → ((p : Program) → form of-check (rows-of R) ≡ accept p → E′ ≡ program-ends p ++ drop (length (program-ends p)) E)
+        → length E ≤ length C → length E′ ≡ length E
+        → (w : Stands R E′ C n) × (form of-check (rows-of R) ≡ accept (w .program))
+    stands E E′ C n f e b ends l k =
+        let x = form-accepted (form of-check (rows-of R)) n (sym e ∙ b) in (
+          record {
+            program = x .0;
+            here = program-at R E′ (x .0) _ (x .1) whole (ends (x .0) (x .1));
+            counted = x .2;
+            nodes = omega (arith, l, k);
+          },
+          x .1,
+        )
 
     pub form-passed : (E E′ T A C : List ℕ) (n : ℕ) (f : Formed) → f ≡ InForm n → f ≡ formed-of (form of-check (rows-of R))
         → ((p : Program) → form of-check (rows-of R) ≡ accept p → E′ ≡ program-ends p ++ drop (length (program-ends p)) E)
         → Lent R E T A C → length E′ ≡ length E
         → (w : FormPassed R E′ T A C n) × (form of-check (rows-of R) ≡ accept (w .program))
     form-passed E E′ T A C n f e b ends l k =
-        let x = form-accepted (form of-check (rows-of R)) n (sym e ∙ b) in (
-          record {
-            program = x .0;
-            here = program-at R E′ (x .0) _ (x .1) whole (ends (x .0) (x .1));
-            counted = x .2;
-            nodes = omega (arith, l .nodes, k);
-            long = l .long;
-            long-above = l .long-above;
-          },
-          x .1,
-        )
+        let x = stands E E′ C n f e b ends (l .nodes) k in
+        (with-tables T A (x .0) (for-all T (x .0) (l .long)) (l .long-above), x .1)
 
     -- The passes after form were run.
+    pub after-form-is : (p : Program) → form of-check (rows-of R) ≡ accept p → check R ≡ after-form p
+    unfolding three-passes after-form after-headings bind-checked
+    after-form-is p e = check-is ∙ rw e
+
     pub checked-after : {X : Type 0} (r : X) (case : results.Checked Program → X) (Q : Program → Type 0) (p : Program)
         → form of-check (rows-of R) ≡ accept p
         → (r ≡ case (after-form p)) × ((q : Program) → after-form p ≡ accept q → Q q)
         → (r ≡ case (check R)) × ((q : Program) → check R ≡ accept q → Q q)
-    unfolding three-passes after-form after-headings bind-checked
     checked-after r case Q p e b =
-        let s : check R ≡ after-form p = check-is ∙ skip e in
+        let s : check R ≡ after-form p = after-form-is p e in
         (b .0 ∙ ap case (sym s), λ q g. b .1 q (sym s ∙ g))
-      where
-        skip : form of-check (rows-of R) ≡ accept p → three-passes R ≡ after-form p
-        skip e = rw e
+
+    pub form-refuses : (i l : ℕ) (f : Formed) → f ≡ NotInForm i l → f ≡ formed-of (form of-check (rows-of R)) → check R ≡ refuse i l
+    unfolding three-passes bind-checked
+    form-refuses i l f e b = check-is ∙ rw (form-refused (form of-check (rows-of R)) i l (sym e ∙ b))
 
     pub check-refused : (E T A C : List ℕ) (i l : ℕ) (f : Formed) → f ≡ NotInForm i l → f ≡ formed-of (form of-check (rows-of R))
         → (Refused i l ≡ checked-case (check R)) × ((p : Program) → check R ≡ accept p → Held R E T A C p)
-    unfolding three-passes bind-checked
     check-refused E T A C i l f e b =
-        let s : check R ≡ refuse i l = check-is ∙ rw (form-refused (form of-check (rows-of R)) i l (sym e ∙ b)) in
+        let s : check R ≡ refuse i l = form-refuses i l f e b in
         (ap checked-case (sym s), λ p g. absurd (accept≢refuse i l (sym s ∙ g)))
 
--- ---- local tables
+-- ---- new tables that are lent to the check
 
 replicate-same : (n : ℕ) → length (replicate {A = ℕ} n 0) ≤ length (replicate {A = ℕ} n 0)
 replicate-same n = omega arith

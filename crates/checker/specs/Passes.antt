@@ -2,7 +2,7 @@
 use mathlib.Core.Path.{_≡_}
 use mathlib.Core.Logic.{_⊎_}
 use mathlib.Core.List.{List}
-use Prim.Native.Nat.{ℕ, _*_, _≤_}
+use Prim.Native.Nat.{ℕ, _+_, _*_, _%_, _≤_}
 use lib.ListN.{length}
 use Rattle.language.specs.Limits.{of-check}
 use Rattle.language.specs.Results.{Checked, accept, passed, bind-checked}
@@ -26,13 +26,26 @@ pub record Lent (R E T A C : List ℕ) : Type 0 where
   pub long : 37440 ≤ length T
   pub long-above : 65 ≤ length A
 
--- After form.
+-- Whole rows, and tables of ends and of lookup classes with an entry for each row that may be accepted.
+pub record Room (R E C : List ℕ) : Type 0 where
+  pub whole : length R % 4 ≡ 0
+  pub room : (length R ≤ 4 * length E) ⊎ (60000 ≤ length E)
+  pub nodes : length E ≤ length C
+
+-- After form: a program of so many classes stands in the rows.
+pub record Stands (R E C : List ℕ) (classes : ℕ) : Type 0 where
+  pub program : Program
+  pub here : ProgramAt R E program
+  pub counted : length (program .classes) ≡ classes
+  pub nodes : length E ≤ length C
+
+-- After form, with class tables: a block of 576 entries for each class and for Object.
 pub record FormPassed (R E T A C : List ℕ) (classes : ℕ) : Type 0 where
   pub program : Program
   pub here : ProgramAt R E program
   pub counted : length (program .classes) ≡ classes
   pub nodes : length E ≤ length C
-  pub long : 37440 ≤ length T
+  pub long : (classes + 1) * 576 ≤ length T
   pub long-above : 65 ≤ length A
 
 -- After headings.

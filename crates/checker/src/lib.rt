@@ -1,12 +1,14 @@
 // The check of rows: their length, then form, headings and bodies (document 01, "Refusals and stops").
 ghost use mathlib.Core.Path.{_≡_};
+ghost use Prim.Native.Nat.{_%_, _≤_};
+ghost use lib.ListN.{length};
 ghost use Rattle.language.specs.Results.{accept};
 ghost use Rattle.language.specs.Tree.{Program};
 ghost use Rattle.language.specs.ClassTables.{ClassTables};
 ghost use Rattle.language.specs.Layout.{LooksUpProgram};
 ghost use Rattle.language.specs.Verdict.{check, verdict};
 ghost use Rattle.checker.specs.Answers.{checked-case, verdict-case, verdict-of-checked};
-ghost use Rattle.checker.specs.Passes.{after-headings, after-form, Lent, FormPassed, HeadingsPassed, Held};
+ghost use Rattle.checker.specs.Passes.{after-headings, after-form, Lent, Room, Stands, FormPassed, HeadingsPassed, Held};
 
 // Accepted, with so many classes; or a refusal's number and line.
 pub enum Checked {
@@ -99,20 +101,65 @@ pub fn check_into(
     }
 }
 
-// Checks rows. Few rows pay for short tables alone.
+// After form, with a class table of its own: of 8 blocks where they are enough.
+fn check_classes(rows: &[u32], ends: &[u16], lookups: &mut [u16], classes: u32) -> Checked
+    requires { ⌜ Stands (now rows) (now ends) (now lookups) classes ⌝ }
+    ensures { λ r. ⌜ ((w : Stands (now (rows .entry)) (now (ends .entry)) (now (lookups .entry)) classes)
+        → r ≡ checked-case (after-form (w .program))) ⌝ }
+{
+    let mut above = [0u64; 65];
+    if classes <= 7 {
+        let mut tables = [0u16; 4608];
+        return check_formed(rows, ends, &mut tables, &mut above, lookups, classes);
+    }
+    let mut tables = [0u16; 37440];
+    check_formed(rows, ends, &mut tables, &mut above, lookups, classes)
+}
+
+// Checks whole rows: form with the ends that are lent, then the classes that form has counted.
+fn check_whole(rows: &[u32], ends: &mut [u16], lookups: &mut [u16]) -> Checked
+    requires { ⌜ Room (now rows) (now ends) (now lookups) ⌝ }
+    ensures { λ r. ⌜ r ≡ checked-case (check (now (rows .entry))) ⌝ }
+{
+    let f = form::check_form(rows, ends);
+    match f {
+        form::Formed::InForm(classes) => check_classes(rows, ends, lookups, classes),
+        form::Formed::Refused(number, line) => Checked::Refused(number, line),
+    }
+}
+
+// The check of at most 1,024 whole rows.
+fn check_few(rows: &[u32]) -> Checked
+    requires { ⌜ length (now rows) % 4 ≡ 0 ⌝ }
+    requires { ⌜ length (now rows) ≤ 4096 ⌝ }
+    ensures { λ r. ⌜ r ≡ checked-case (check (now (rows .entry))) ⌝ }
+{
+    let mut ends = [0u16; 1024];
+    let mut lookups = [0u16; 1024];
+    check_whole(rows, &mut ends, &mut lookups)
+}
+
+// The check of any number of whole rows.
+fn check_many(rows: &[u32]) -> Checked
+    requires { ⌜ length (now rows) % 4 ≡ 0 ⌝ }
+    ensures { λ r. ⌜ r ≡ checked-case (check (now (rows .entry))) ⌝ }
+{
+    let mut ends = [0u16; 60000];
+    let mut lookups = [0u16; 60000];
+    check_whole(rows, &mut ends, &mut lookups)
+}
+
+// Checks rows. Few rows and few classes pay for short tables alone.
 pub fn check_rows(rows: &[u32]) -> Verdict
     ensures { λ r. ⌜ r ≡ verdict-case (verdict (now (rows .entry))) ⌝ }
 {
-    let mut tables = [0u16; 37440];
-    let mut above = [0u64; 65];
+    if rows.len() % 4 != 0 {
+        return Verdict::Refused(1, 0);
+    }
     if rows.len() <= 4096 {
-        let mut ends = [0u16; 1024];
-        let mut lookups = [0u16; 1024];
-        let few = check_into(rows, &mut ends, &mut tables, &mut above, &mut lookups);
+        let few = check_few(rows);
         return verdict_of(few);
     }
-    let mut ends = [0u16; 60000];
-    let mut lookups = [0u16; 60000];
-    let many = check_into(rows, &mut ends, &mut tables, &mut above, &mut lookups);
+    let many = check_many(rows);
     verdict_of(many)
 }

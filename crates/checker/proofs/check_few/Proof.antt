@@ -1,0 +1,27 @@
+-- `checker::check_few` meets its contract. Assumes nothing.
+use mathlib.Core.Logic.{inl}
+use native.Mathlib.Omega.{arith}
+use borrow.Author.Needs.{needs}
+use Rattle.checker.proofs.check_few.Statement.{statement}
+use Rattle.checker.proofs.check_few.Tie as tie
+
+slice-aggregate-check-whole : tie.Need-slice-aggregate-check-whole
+slice-aggregate-check-whole c = search needs
+
+slice-aggregate-check-whole-2 : tie.Need-slice-aggregate-check-whole-2
+slice-aggregate-check-whole-2 c = search needs
+
+check-whole-requires : tie.Need-check-whole-requires
+check-whole-requires c κs = record { whole = c .before .before .before .pre .0; room = inl (omega (arith, c .before .before .before .pre .1)); nodes = omega arith }
+
+returns : tie.Need-returns
+returns c = search needs
+
+pub check-few-spec : {M : Type 1} → statement M
+check-few-spec =
+    tie.close
+    (tie.spec
+    slice-aggregate-check-whole
+    slice-aggregate-check-whole-2
+    check-whole-requires
+    returns)

@@ -1,0 +1,28 @@
+-- `checker::check_many` meets its contract. Assumes nothing.
+use mathlib.Core.Logic.{inr}
+use native.Mathlib.Omega.{arith}
+use Rattle.language.proofs.Filling.{replicate-long}
+use borrow.Author.Needs.{needs}
+use Rattle.checker.proofs.check_many.Statement.{statement}
+use Rattle.checker.proofs.check_many.Tie as tie
+
+slice-aggregate-check-whole : tie.Need-slice-aggregate-check-whole
+slice-aggregate-check-whole c = search needs
+
+slice-aggregate-check-whole-2 : tie.Need-slice-aggregate-check-whole-2
+slice-aggregate-check-whole-2 c = search needs
+
+check-whole-requires : tie.Need-check-whole-requires
+check-whole-requires c κs = record { whole = c .before .before .before .pre; room = inr (replicate-long 60000); nodes = omega arith }
+
+returns : tie.Need-returns
+returns c = search needs
+
+pub check-many-spec : {M : Type 1} → statement M
+check-many-spec =
+    tie.close
+    (tie.spec
+    slice-aggregate-check-whole
+    slice-aggregate-check-whole-2
+    check-whole-requires
+    returns)
