@@ -9,7 +9,7 @@ use borrow.Author.Tests.{eqb-true, eqb-false, eq-eqb, ne-eqb, le-leb, lt-leb, le
 use lib.Dec.{eqb, leb}
 use lib.ListN.{length, getD, drop, drop-of-length-le}
 use lib.Seq.{drop-cons, drop-nil, drop-drop}
-use Rattle.language.specs.Limits.{of-check, line-refusal, limit-refusal, largest}
+use Rattle.language.specs.Limits.{line-refusal, limit-refusal, largest}
 use Rattle.language.specs.Lists.{given, bind-option, inj}
 use Rattle.language.specs.Results.{Checked, accept, refuse, bind-checked, need-checked, require}
 use Rattle.language.specs.Rows.{Letter, letters, code, numbers, letter-among, name-of, most-at, well-made, Record, written, Row, row, rows-of, record-of, is-row}
@@ -17,6 +17,8 @@ use Rattle.language.specs.Rows.{C-class, F-field, M-method, P-parameter, X-effe
 use Rattle.language.specs.Form.{record-on, next}
 use Rattle.language.proofs.Rows.{are-numbers}
 use Rattle.language.proofs.Letters.{among-code}
+use Rattle.form.specs.declared.Limits.{Limits}
+use Rattle.form.specs.Columns.{most-of}
 use Rattle.form.specs.Places.{rows-from, row-at, refusal-of, refusal-on, has-code, standing, name-at, parts-of, parts-at, There}
 use Rattle.form.specs.declared.Parts.the-variants.{NoNode}
 
@@ -106,12 +108,12 @@ module _ (n a b c : ℕ) where
 
 -- ---- why no record can be taken
 
-pub refusal-past : (R : List ℕ) (at : ℕ) → length R ≤ at * 4 → 3 ≡ refusal-on (at + 1) (rows-from R at)
+pub refusal-past : (L : Limits) (R : List ℕ) (at : ℕ) → length R ≤ at * 4 → 3 ≡ refusal-on L (at + 1) (rows-from R at)
 unfolding refusal-on
-refusal-past R at h = rw (rows-end R at h)
+refusal-past L R at h = rw (rows-end R at h)
 
-module _ (R : List ℕ) (at : ℕ) (h : at * 4 + 4 ≤ length R) where
-  pub refusal-malformed : is-row (row-at R at) ≡ false → 1 ≡ refusal-on (at + 1) (rows-from R at)
+module _ (L : Limits) (R : List ℕ) (at : ℕ) (h : at * 4 + 4 ≤ length R) where
+  pub refusal-malformed : is-row (row-at R at) ≡ false → 1 ≡ refusal-on L (at + 1) (rows-from R at)
   unfolding refusal-on record-on need-checked
   refusal-malformed e = rw (rows-here R at h, unknown (getD R (at * 4) 0) (getD R (at * 4 + 1) 0) (getD R (at * 4 + 2) 0) (getD R (at * 4 + 3) 0) e)
 
@@ -119,42 +121,42 @@ module _ (R : List ℕ) (at : ℕ) (h : at * 4 + 4 ≤ length R) where
     known-here : Known (getD R (at * 4) 0) (getD R (at * 4 + 1) 0) (getD R (at * 4 + 2) 0) (getD R (at * 4 + 3) 0)
     known-here = known (getD R (at * 4) 0) (getD R (at * 4 + 1) 0) (getD R (at * 4 + 2) 0) (getD R (at * 4 + 3) 0) e
 
-    pub refusal-over : 60000 ≤ at → 2 ≡ refusal-on (at + 1) (rows-from R at)
+    pub refusal-over : L .rows ≤ at → 2 ≡ refusal-on L (at + 1) (rows-from R at)
     unfolding refusal-on record-on need-checked require
-    refusal-over o = rw (rows-here R at h, known-here .record-is, lt-leb (at + 1) 60000 (omega arith))
+    refusal-over o = rw (rows-here R at h, known-here .record-is, lt-leb (at + 1) (L .rows) (omega arith))
 
     name-here : name-at (getD R (at * 4) 0) (getD R (at * 4 + 1) 0) (getD R (at * 4 + 2) 0) ≡ name-of (known-here .letter) (getD R (at * 4 + 1) 0) (getD R (at * 4 + 2) 0)
     unfolding name-at
     name-here = rw (known-here .found)
 
-    pub refusal-name : at < 60000 → 255 < name-at (getD R (at * 4) 0) (getD R (at * 4 + 1) 0) (getD R (at * 4 + 2) 0) → 2 ≡ refusal-on (at + 1) (rows-from R at)
+    pub refusal-name : at < L .rows → 255 < name-at (getD R (at * 4) 0) (getD R (at * 4 + 1) 0) (getD R (at * 4 + 2) 0) → 2 ≡ refusal-on L (at + 1) (rows-from R at)
     unfolding refusal-on record-on need-checked require
     refusal-name o w =
-        rw (rows-here R at h, known-here .record-is, le-leb (at + 1) 60000 (omega arith), lt-leb (name-of (known-here .letter) (getD R (at * 4 + 1) 0) (getD R (at * 4 + 2) 0)) 255 (rw name-here at w))
+        rw (rows-here R at h, known-here .record-is, le-leb (at + 1) (L .rows) (omega arith), lt-leb (name-of (known-here .letter) (getD R (at * 4 + 1) 0) (getD R (at * 4 + 2) 0)) 255 (rw name-here at w))
 
-    taken-here : at < 60000 → name-at (getD R (at * 4) 0) (getD R (at * 4 + 1) 0) (getD R (at * 4 + 2) 0) ≤ 255
-        → record-on of-check (at + 1) (row-at R at) ≡ accept (written (known-here .letter) (getD R (at * 4 + 1) 0) (getD R (at * 4 + 2) 0))
+    taken-here : at < L .rows → name-at (getD R (at * 4) 0) (getD R (at * 4 + 1) 0) (getD R (at * 4 + 2) 0) ≤ 255
+        → record-on (most-of L) (at + 1) (row-at R at) ≡ accept (written (known-here .letter) (getD R (at * 4 + 1) 0) (getD R (at * 4 + 2) 0))
     unfolding record-on need-checked require
     taken-here o w =
-        rw (known-here .record-is, le-leb (at + 1) 60000 (omega arith), le-leb (name-of (known-here .letter) (getD R (at * 4 + 1) 0) (getD R (at * 4 + 2) 0)) 255 (rw name-here at w))
+        rw (known-here .record-is, le-leb (at + 1) (L .rows) (omega arith), le-leb (name-of (known-here .letter) (getD R (at * 4 + 1) 0) (getD R (at * 4 + 2) 0)) 255 (rw name-here at w))
 
-    pub refusal-none : at < 60000 → name-at (getD R (at * 4) 0) (getD R (at * 4 + 1) 0) (getD R (at * 4 + 2) 0) ≤ 255 → 0 ≡ refusal-on (at + 1) (rows-from R at)
+    pub refusal-none : at < L .rows → name-at (getD R (at * 4) 0) (getD R (at * 4 + 1) 0) (getD R (at * 4 + 2) 0) ≤ 255 → 0 ≡ refusal-on L (at + 1) (rows-from R at)
     unfolding refusal-on
     refusal-none o w = rw (rows-here R at h, taken-here o w)
 
 -- a record that can be taken
-pub record Here (R : List ℕ) (at : ℕ) : Type 0 where
+pub record Here (L : Limits) (R : List ℕ) (at : ℕ) : Type 0 where
   pub letter : Letter
   pub code-is : code letter ≡ getD R (at * 4) 0
   pub found : letter-among letters (getD R (at * 4) 0) ≡ some letter
-  pub taken : record-on of-check (at + 1) (row-at R at) ≡ accept (written letter (getD R (at * 4 + 1) 0) (getD R (at * 4 + 2) 0))
+  pub taken : record-on (most-of L) (at + 1) (row-at R at) ≡ accept (written letter (getD R (at * 4 + 1) 0) (getD R (at * 4 + 2) 0))
   pub rows : rows-from R at ≡ row-at R at ∷ rows-from R (at + 1)
   pub first-small : getD R (at * 4 + 1) 0 ≤ 65535
   pub second-small : getD R (at * 4 + 2) 0 ≤ 65535
 
 -- a refused record is refused on its line by a number above 0; one that is not comes of a row that is not malformed
-module _ (line : ℕ) (r : Row) where
-  record-refused : (n l : ℕ) → record-on of-check line r ≡ refuse n l → (l ≡ line) × (n ≡ 0 → ⊥)
+module _ (L : Limits) (line : ℕ) (r : Row) where
+  record-refused : (n l : ℕ) → record-on (most-of L) line r ≡ refuse n l → (l ≡ line) × (n ≡ 0 → ⊥)
   unfolding record-on need-checked require
   record-refused n l e = go (record-of r) e
     where
@@ -163,11 +165,11 @@ module _ (line : ℕ) (r : Row) where
       tail x true false e = let p : line ≡ l = cc in let q : 2 ≡ n = cc in (sym p, λ z. omega (arith, q, z))
       tail x false t e = let p : line ≡ l = cc in let q : 2 ≡ n = cc in (sym p, λ z. omega (arith, q, z))
 
-      go : (o : Option Record) → need-checked o line-refusal line (λ x. require (leb line 60000) limit-refusal line (λ _. require (leb (name-of (x .letter) (x .first) (x .second)) 255) limit-refusal line (λ _. accept x))) ≡ refuse n l → (l ≡ line) × (n ≡ 0 → ⊥)
+      go : (o : Option Record) → need-checked o line-refusal line (λ x. require (leb line (L .rows)) limit-refusal line (λ _. require (leb (name-of (x .letter) (x .first) (x .second)) 255) limit-refusal line (λ _. accept x))) ≡ refuse n l → (l ≡ line) × (n ≡ 0 → ⊥)
       go none e = let p : line ≡ l = cc in let q : 1 ≡ n = cc in (sym p, λ z. omega (arith, q, z))
-      go (some x) e = tail x (leb line 60000) (leb (name-of (x .letter) (x .first) (x .second)) 255) e
+      go (some x) e = tail x (leb line (L .rows)) (leb (name-of (x .letter) (x .first) (x .second)) 255) e
 
-  record-row : (x : Record) → record-on of-check line r ≡ accept x → (is-row r ≡ true) × (record-of r ≡ some x)
+  record-row : (x : Record) → record-on (most-of L) line r ≡ accept x → (is-row r ≡ true) × (record-of r ≡ some x)
   unfolding record-on need-checked require
   record-row x e = go (record-of r) refl e
     where
@@ -176,20 +178,20 @@ module _ (line : ℕ) (r : Row) where
       tail y true false e = let z : _≡_ {A = ℕ} 0 1 = cc in absurd (omega arith)
       tail y false t e = let z : _≡_ {A = ℕ} 0 1 = cc in absurd (omega arith)
 
-      go : (o : Option Record) → record-of r ≡ o → need-checked o line-refusal line (λ x. require (leb line 60000) limit-refusal line (λ _. require (leb (name-of (x .letter) (x .first) (x .second)) 255) limit-refusal line (λ _. accept x))) ≡ accept x → (is-row r ≡ true) × (record-of r ≡ some x)
+      go : (o : Option Record) → record-of r ≡ o → need-checked o line-refusal line (λ x. require (leb line (L .rows)) limit-refusal line (λ _. require (leb (name-of (x .letter) (x .first) (x .second)) 255) limit-refusal line (λ _. accept x))) ≡ accept x → (is-row r ≡ true) × (record-of r ≡ some x)
       go none q e = let z : _≡_ {A = ℕ} 0 1 = cc in absurd (omega arith)
-      go (some y) q e = let p = tail y (leb line 60000) (leb (name-of (y .letter) (y .first) (y .second)) 255) e in (rw q, rw (q, p))
+      go (some y) q e = let p = tail y (leb line (L .rows)) (leb (name-of (y .letter) (y .first) (y .second)) 255) e in (rw q, rw (q, p))
 
-pub here : (R : List ℕ) (at : ℕ) → 0 ≡ refusal-on (at + 1) (rows-from R at) → There R at → Here R at
+pub here : {L : Limits} (R : List ℕ) (at : ℕ) → 0 ≡ refusal-on L (at + 1) (rows-from R at) → There L R at → Here L R at
 unfolding refusal-on
-here R at z t =
+here {L} R at z t =
     let q = rows-here R at (t .1) in
-    go (record-on of-check (at + 1) (row-at R at)) refl (rw q at z)
+    go (record-on (most-of L) (at + 1) (row-at R at)) refl (rw q at z)
   where
-    go : (x : Checked Record) → record-on of-check (at + 1) (row-at R at) ≡ x → 0 ≡ refusal-of x → Here R at
-    go (refuse n l) e w = absurd (record-refused (at + 1) (row-at R at) n l e .1 (sym w))
+    go : (x : Checked Record) → record-on (most-of L) (at + 1) (row-at R at) ≡ x → 0 ≡ refusal-of x → Here L R at
+    go (refuse n l) e w = absurd (record-refused L (at + 1) (row-at R at) n l e .1 (sym w))
     go (accept x) e w =
-        let p = record-row (at + 1) (row-at R at) x e in
+        let p = record-row L (at + 1) (row-at R at) x e in
         let k = known (getD R (at * 4) 0) (getD R (at * 4 + 1) 0) (getD R (at * 4 + 2) 0) (getD R (at * 4 + 3) 0) (p .0) in
         let s : x ≡ written (k .letter) (getD R (at * 4 + 1) 0) (getD R (at * 4 + 2) 0) = inj (sym (p .1) ∙ k .record-is) in
         record {
@@ -203,40 +205,40 @@ here R at z t =
         }
 
 -- a record that must stand here and cannot be taken
-pub next-refused : {B : Type 0} (R : List ℕ) (at n : ℕ) (k : Record → List Row → Checked B) → n ≡ refusal-on (at + 1) (rows-from R at) → (n ≡ 0 → ⊥)
-    → next of-check (at + 1) (rows-from R at) k ≡ refuse n (at + 1)
+pub next-refused : (L : Limits) {B : Type 0} (R : List ℕ) (at n : ℕ) (k : Record → List Row → Checked B) → n ≡ refusal-on L (at + 1) (rows-from R at) → (n ≡ 0 → ⊥)
+    → next (most-of L) (at + 1) (rows-from R at) k ≡ refuse n (at + 1)
 unfolding refusal-on next bind-checked
-next-refused {B} R at n k e z = go (rows-from R at) e
+next-refused L {B} R at n k e z = go (rows-from R at) e
   where
-    case : (r : Row) (rs : List Row) (x : Checked Record) → record-on of-check (at + 1) r ≡ x → n ≡ refusal-of x → bind-checked x (λ x. k x rs) ≡ refuse n (at + 1)
+    case : (r : Row) (rs : List Row) (x : Checked Record) → record-on (most-of L) (at + 1) r ≡ x → n ≡ refusal-of x → bind-checked x (λ x. k x rs) ≡ refuse n (at + 1)
     case r rs (accept x) q e = absurd (z e)
-    case r rs (refuse m l) q e = rw (record-refused (at + 1) r m l q .0, e)
+    case r rs (refuse m l) q e = rw (record-refused L (at + 1) r m l q .0, e)
 
-    go : (rs : List Row) → n ≡ refusal-on (at + 1) rs → next of-check (at + 1) rs k ≡ refuse n (at + 1)
+    go : (rs : List Row) → n ≡ refusal-on L (at + 1) rs → next (most-of L) (at + 1) rs k ≡ refuse n (at + 1)
     go [] e = rw e
-    go (r ∷ rs) e = case r rs (record-on of-check (at + 1) r) refl e
+    go (r ∷ rs) e = case r rs (record-on (most-of L) (at + 1) r) refl e
 
-module _ {R : List ℕ} {at : ℕ} (x : Here R at) where
+module _ {L : Limits} {R : List ℕ} {at : ℕ} (x : Here L R at) where
   pub next-here : {B : Type 0} (k : Record → List Row → Checked B)
-      → next of-check (at + 1) (rows-from R at) k ≡ k (written (x .letter) (getD R (at * 4 + 1) 0) (getD R (at * 4 + 2) 0)) (rows-from R (at + 1))
+      → next (most-of L) (at + 1) (rows-from R at) k ≡ k (written (x .letter) (getD R (at * 4 + 1) 0) (getD R (at * 4 + 2) 0)) (rows-from R (at + 1))
   unfolding next bind-checked
   next-here k = rw (x .rows, x .taken)
 
-  pub standing-here : (n : ℕ) → standing n (at + 1) (rows-from R at) ≡ eqb n (getD R (at * 4) 0)
+  pub standing-here : (n : ℕ) → standing L n (at + 1) (rows-from R at) ≡ eqb n (getD R (at * 4) 0)
   unfolding standing
   standing-here n = rw (x .rows, x .taken, x .code-is)
 
-pub standing-refused : (R : List ℕ) (at n m : ℕ) → n ≡ refusal-on (at + 1) (rows-from R at) → (n ≡ 0 → ⊥) → false ≡ standing m (at + 1) (rows-from R at)
+pub standing-refused : (L : Limits) (R : List ℕ) (at n m : ℕ) → n ≡ refusal-on L (at + 1) (rows-from R at) → (n ≡ 0 → ⊥) → false ≡ standing L m (at + 1) (rows-from R at)
 unfolding refusal-on standing
-standing-refused R at n m e z = go (rows-from R at) e
+standing-refused L R at n m e z = go (rows-from R at) e
   where
     case : (x : Checked Record) → n ≡ refusal-of x → false ≡ has-code m x
     case (accept x) e = absurd (z e)
     case (refuse k l) e = refl
 
-    go : (rs : List Row) → n ≡ refusal-on (at + 1) rs → false ≡ standing m (at + 1) rs
+    go : (rs : List Row) → n ≡ refusal-on L (at + 1) rs → false ≡ standing L m (at + 1) rs
     go [] e = refl
-    go (r ∷ rs) e = case (record-on of-check (at + 1) r) e
+    go (r ∷ rs) e = case (record-on (most-of L) (at + 1) r) e
 
 -- ---- names and parts: letters that have none
 

@@ -4,13 +4,14 @@ use mathlib.Core.List.{List, [], _∷_, _++_}
 use Prim.Native.Nat.{ℕ, suc, _+_, _-_}
 use native.Mathlib.Omega.{arith}
 use borrow.Author.Tests.{ne-eqb}
-use Rattle.language.specs.Limits.{of-check}
 use Rattle.language.specs.Results.{Checked, accept, refuse, require}
 use Rattle.language.specs.Rows.{Letter, code, Row, letters}
 use Rattle.language.specs.Rows.{C-class, F-field, M-method, P-parameter, X-effect, S-start, B-block, V-local, T-true, L-false, N-null, I-slot, Z-is-null, G-get, K-cast, W-new, R-change, A-assign, U-set, Q-call, J-choose}
 use Rattle.language.specs.Tree.{DeclaredType, Expr, literal-true, literal-false, literal-null, slot, is-null, get, cast, new, change, assign, set, call, choose, block, Exprs, nil, cons, count, size, sizes}
 use Rattle.language.specs.Form.{Read, read, done, after, several, locals, node-of, node}
 use Rattle.language.specs.Tables.{next-rows, ends-of, ends-list}
+use Rattle.form.specs.declared.Limits.{Limits}
+use Rattle.form.specs.Columns.{most-of}
 use Rattle.form.specs.Places.{parts-of}
 use Rattle.form.specs.Passes.{Makes, parts-read}
 use Rattle.form.specs.declared.Parts.the-variants.{Of, NoNode}
@@ -134,52 +135,52 @@ makes-block v k = record { lines = λ ts es p q. rw p; ends = λ ts es at p q. r
 
 -- ---- the shape of a node
 
-pub record Shaped (d : ℕ) (l : Letter) (a b n line v k : ℕ) (rs : List Row) : Type 0 where
+pub record Shaped (L : Limits) (d : ℕ) (l : Letter) (a b n line v k : ℕ) (rs : List Row) : Type 0 where
   pub make : List DeclaredType → Exprs → Expr
   pub makes : Makes v k make
-  pub same : node-of of-check (λ n at rs. node of-check d n at rs) l a b n line rs ≡ parts-read d n v k make line rs
+  pub same : node-of (most-of L) (λ n at rs. node (most-of L) d n at rs) l a b n line rs ≡ parts-read L d n v k make line rs
 
-turned : {d : ℕ} {l : Letter} {a b n line v k v′ k′ : ℕ} {rs : List Row} → Of v′ k′ ≡ Of v k → Shaped d l a b n line v′ k′ rs → Shaped d l a b n line v k rs
-turned {d} {l} {a} {b} {n} {line} {v} {k} {v′} {k′} {rs} e s = let p : v ≡ v′ = cc in let q : k ≡ k′ = cc in rw (p, q) s
+turned : {L : Limits} {d : ℕ} {l : Letter} {a b n line v k v′ k′ : ℕ} {rs : List Row} → Of v′ k′ ≡ Of v k → Shaped L d l a b n line v′ k′ rs → Shaped L d l a b n line v k rs
+turned {L} {d} {l} {a} {b} {n} {line} {v} {k} {v′} {k′} {rs} e s = let p : v ≡ v′ = cc in let q : k ≡ k′ = cc in rw (p, q) s
 
 pub no-shape : {v k : ℕ} → NoNode ≡ Of v k → ⊥
 no-shape e = let z : _≡_ {A = ℕ} 0 1 = cc in omega arith
 
-module _ (d : ℕ) (n line : ℕ) (rs : List Row) where
-  leaf : (e : Expr) → done e rs ≡ parts-read d n 0 0 (λ ts es. e) line rs
+module _ (L : Limits) (d : ℕ) (n line : ℕ) (rs : List Row) where
+  leaf : (e : Expr) → done e rs ≡ parts-read L d n 0 0 (λ ts es. e) line rs
   unfolding parts-read locals several after
   leaf e = refl
 
-  one-child : (f : Expr → Expr) → after (node of-check d n (line + 1) rs) (λ e rs. done (f e) rs) ≡ parts-read d n 0 1 (λ ts es. f (first-of es)) line rs
+  one-child : (f : Expr → Expr) → after (node (most-of L) d n (line + 1) rs) (λ e rs. done (f e) rs) ≡ parts-read L d n 0 1 (λ ts es. f (first-of es)) line rs
   unfolding parts-read locals several after
   one-child f =
       let h : n + 0 ≡ n = omega arith in
       let k : line + 1 + 0 ≡ line + 1 = omega arith in
-      rw (h, k) (go (node of-check d n (line + 1) rs))
+      rw (h, k) (go (node (most-of L) d n (line + 1) rs))
     where
       go : (x : Checked (Read Expr)) → after x (λ e rs. done (f e) rs) ≡ after (after x (λ e rs. done (cons e nil) rs)) (λ es rs. done (f (first-of es)) rs)
       go (accept r) = refl
       go (refuse m j) = refl
 
-  two-children : (f : ℕ) → after (node of-check d n (line + 1) rs) (λ e rs. after (node of-check d n (line + 1 + size e) rs) λ x rs. done (set f e x) rs)
-      ≡ parts-read d n 0 2 (λ ts es. set f (first-of es) (first-of (rest-of es))) line rs
+  two-children : (f : ℕ) → after (node (most-of L) d n (line + 1) rs) (λ e rs. after (node (most-of L) d n (line + 1 + size e) rs) λ x rs. done (set f e x) rs)
+      ≡ parts-read L d n 0 2 (λ ts es. set f (first-of es) (first-of (rest-of es))) line rs
   unfolding parts-read locals several after
   two-children f =
       let h : n + 0 ≡ n = omega arith in
       let k : line + 1 + 0 ≡ line + 1 = omega arith in
       rw (h, k) (simp after-after)
 
-  three-children : after (node of-check d n (line + 1) rs) (λ e rs. after (node of-check d n (line + 1 + size e) rs) λ x rs.
-      after (node of-check d n (line + 1 + size e + size x) rs) λ y rs. done (choose e x y) rs)
-      ≡ parts-read d n 0 3 (λ ts es. choose (first-of es) (first-of (rest-of es)) (first-of (rest-of (rest-of es)))) line rs
+  three-children : after (node (most-of L) d n (line + 1) rs) (λ e rs. after (node (most-of L) d n (line + 1 + size e) rs) λ x rs.
+      after (node (most-of L) d n (line + 1 + size e + size x) rs) λ y rs. done (choose e x y) rs)
+      ≡ parts-read L d n 0 3 (λ ts es. choose (first-of es) (first-of (rest-of es)) (first-of (rest-of (rest-of es)))) line rs
   unfolding parts-read locals several after
   three-children =
       let h : n + 0 ≡ n = omega arith in
       let k : line + 1 + 0 ≡ line + 1 = omega arith in
       rw (h, k) (simp after-after)
 
-  more-children : (m b : ℕ) → after (node of-check d n (line + 1) rs) (λ e rs. after (several (λ at rs. node of-check d n at rs) b (line + 1 + size e) rs) λ es rs. done (call m e es) rs)
-      ≡ parts-read d n 0 (b + 1) (λ ts es. call m (first-of es) (rest-of es)) line rs
+  more-children : (m b : ℕ) → after (node (most-of L) d n (line + 1) rs) (λ e rs. after (several (λ at rs. node (most-of L) d n at rs) b (line + 1 + size e) rs) λ es rs. done (call m e es) rs)
+      ≡ parts-read L d n 0 (b + 1) (λ ts es. call m (first-of es) (rest-of es)) line rs
   unfolding parts-read locals several after
   more-children m b =
       let h : n + 0 ≡ n = omega arith in
@@ -187,29 +188,29 @@ module _ (d : ℕ) (n line : ℕ) (rs : List Row) where
       let j : b + 1 ≡ suc b = omega arith in
       rw (h, k, j) (simp after-after)
 
-pub shaped : (d : ℕ) (l : Letter) (a b n line v k : ℕ) (rs : List Row) → parts-of l a b ≡ Of v k → (code l ≡ 66 → b ≡ 0 → ⊥) → Shaped d l a b n line v k rs
+pub shaped : (L : Limits) (d : ℕ) (l : Letter) (a b n line v k : ℕ) (rs : List Row) → parts-of l a b ≡ Of v k → (code l ≡ 66 → b ≡ 0 → ⊥) → Shaped L d l a b n line v k rs
 unfolding node-of size ends-of require parts-read
-shaped d C-class a b n line v k rs e z = absurd (no-shape e)
-shaped d F-field a b n line v k rs e z = absurd (no-shape e)
-shaped d M-method a b n line v k rs e z = absurd (no-shape e)
-shaped d P-parameter a b n line v k rs e z = absurd (no-shape e)
-shaped d X-effect a b n line v k rs e z = absurd (no-shape e)
-shaped d S-start a b n line v k rs e z = absurd (no-shape e)
-shaped d V-local a b n line v k rs e z = absurd (no-shape e)
-shaped d T-true a b n line v k rs e z = turned e (record { make = λ ts es. literal-true; makes = makes-none literal-true refl (λ at. refl); same = leaf d n line rs literal-true })
-shaped d L-false a b n line v k rs e z = turned e (record { make = λ ts es. literal-false; makes = makes-none literal-false refl (λ at. refl); same = leaf d n line rs literal-false })
-shaped d N-null a b n line v k rs e z = turned e (record { make = λ ts es. literal-null; makes = makes-none literal-null refl (λ at. refl); same = leaf d n line rs literal-null })
-shaped d I-slot a b n line v k rs e z = turned e (record { make = λ ts es. slot a; makes = makes-none (slot a) refl (λ at. refl); same = leaf d n line rs (slot a) })
-shaped d W-new a b n line v k rs e z = turned e (record { make = λ ts es. new a; makes = makes-none (new a) refl (λ at. refl); same = leaf d n line rs (new a) })
-shaped d R-change a b n line v k rs e z = turned e (record { make = λ ts es. change a b; makes = makes-none (change a b) refl (λ at. refl); same = leaf d n line rs (change a b) })
-shaped d Z-is-null a b n line v k rs e z = turned e (record { make = λ ts es. is-null (first-of es); makes = makes-one (λ e. is-null e) (λ e. refl) (λ at e. refl); same = one-child d n line rs (λ e. is-null e) })
-shaped d G-get a b n line v k rs e z = turned e (record { make = λ ts es. get a (first-of es); makes = makes-one (λ e. get a e) (λ e. refl) (λ at e. refl); same = one-child d n line rs (λ e. get a e) })
-shaped d K-cast a b n line v k rs e z = turned e (record { make = λ ts es. cast a (first-of es); makes = makes-one (λ e. cast a e) (λ e. refl) (λ at e. refl); same = one-child d n line rs (λ e. cast a e) })
-shaped d A-assign a b n line v k rs e z = turned e (record { make = λ ts es. assign a (first-of es); makes = makes-one (λ e. assign a e) (λ e. refl) (λ at e. refl); same = one-child d n line rs (λ e. assign a e) })
-shaped d U-set a b n line v k rs e z = turned e (record { make = λ ts es. set a (first-of es) (first-of (rest-of es)); makes = makes-set a; same = two-children d n line rs a })
-shaped d J-choose a b n line v k rs e z = turned e (record { make = λ ts es. choose (first-of es) (first-of (rest-of es)) (first-of (rest-of (rest-of es))); makes = makes-choose; same = three-children d n line rs })
-shaped d Q-call a b n line v k rs e z = turned e (record { make = λ ts es. call a (first-of es) (rest-of es); makes = makes-call a b; same = more-children d n line rs a b })
-shaped d B-block a b n line v k rs e z = turned e (record { make = λ ts es. block ts es; makes = makes-block a b; same = blocks })
+shaped L d C-class a b n line v k rs e z = absurd (no-shape e)
+shaped L d F-field a b n line v k rs e z = absurd (no-shape e)
+shaped L d M-method a b n line v k rs e z = absurd (no-shape e)
+shaped L d P-parameter a b n line v k rs e z = absurd (no-shape e)
+shaped L d X-effect a b n line v k rs e z = absurd (no-shape e)
+shaped L d S-start a b n line v k rs e z = absurd (no-shape e)
+shaped L d V-local a b n line v k rs e z = absurd (no-shape e)
+shaped L d T-true a b n line v k rs e z = turned e (record { make = λ ts es. literal-true; makes = makes-none literal-true refl (λ at. refl); same = leaf L d n line rs literal-true })
+shaped L d L-false a b n line v k rs e z = turned e (record { make = λ ts es. literal-false; makes = makes-none literal-false refl (λ at. refl); same = leaf L d n line rs literal-false })
+shaped L d N-null a b n line v k rs e z = turned e (record { make = λ ts es. literal-null; makes = makes-none literal-null refl (λ at. refl); same = leaf L d n line rs literal-null })
+shaped L d I-slot a b n line v k rs e z = turned e (record { make = λ ts es. slot a; makes = makes-none (slot a) refl (λ at. refl); same = leaf L d n line rs (slot a) })
+shaped L d W-new a b n line v k rs e z = turned e (record { make = λ ts es. new a; makes = makes-none (new a) refl (λ at. refl); same = leaf L d n line rs (new a) })
+shaped L d R-change a b n line v k rs e z = turned e (record { make = λ ts es. change a b; makes = makes-none (change a b) refl (λ at. refl); same = leaf L d n line rs (change a b) })
+shaped L d Z-is-null a b n line v k rs e z = turned e (record { make = λ ts es. is-null (first-of es); makes = makes-one (λ e. is-null e) (λ e. refl) (λ at e. refl); same = one-child L d n line rs (λ e. is-null e) })
+shaped L d G-get a b n line v k rs e z = turned e (record { make = λ ts es. get a (first-of es); makes = makes-one (λ e. get a e) (λ e. refl) (λ at e. refl); same = one-child L d n line rs (λ e. get a e) })
+shaped L d K-cast a b n line v k rs e z = turned e (record { make = λ ts es. cast a (first-of es); makes = makes-one (λ e. cast a e) (λ e. refl) (λ at e. refl); same = one-child L d n line rs (λ e. cast a e) })
+shaped L d A-assign a b n line v k rs e z = turned e (record { make = λ ts es. assign a (first-of es); makes = makes-one (λ e. assign a e) (λ e. refl) (λ at e. refl); same = one-child L d n line rs (λ e. assign a e) })
+shaped L d U-set a b n line v k rs e z = turned e (record { make = λ ts es. set a (first-of es) (first-of (rest-of es)); makes = makes-set a; same = two-children L d n line rs a })
+shaped L d J-choose a b n line v k rs e z = turned e (record { make = λ ts es. choose (first-of es) (first-of (rest-of es)) (first-of (rest-of (rest-of es))); makes = makes-choose; same = three-children L d n line rs })
+shaped L d Q-call a b n line v k rs e z = turned e (record { make = λ ts es. call a (first-of es) (rest-of es); makes = makes-call a b; same = more-children L d n line rs a b })
+shaped L d B-block a b n line v k rs e z = turned e (record { make = λ ts es. block ts es; makes = makes-block a b; same = blocks })
   where
-    blocks : node-of of-check (λ n at rs. node of-check d n at rs) B-block a b n line rs ≡ parts-read d n a b (λ ts es. block ts es) line rs
+    blocks : node-of (most-of L) (λ n at rs. node (most-of L) d n at rs) B-block a b n line rs ≡ parts-read L d n a b (λ ts es. block ts es) line rs
     blocks = rw (ne-eqb b 0 (λ w. z refl w))

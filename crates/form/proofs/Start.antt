@@ -7,7 +7,6 @@ use native.Mathlib.Numerals.{add-one}
 use borrow.Author.Tests.{eq-eqb, ne-eqb}
 use lib.ListN.{length, getD, drop, set, length-append}
 use lib.Seq.{sets, sets-eq}
-use Rattle.language.specs.Limits.{of-check}
 use Rattle.language.specs.Results.{Checked, accept, refuse, bind-checked, require}
 use Rattle.language.specs.Rows.{code, Row, Record, rows-of}
 use Rattle.language.specs.Tree.{size, Class, classes-lines, Program}
@@ -15,6 +14,8 @@ use Rattle.language.specs.Form.{after, record-on, next, body, classes, at-end, 
 use Rattle.language.specs.Tables.{ends-of, classes-ends, program-ends}
 use Rattle.language.proofs.Tables.{ends-long, classes-ends-long}
 use Rattle.language.proofs.Filling.{sets-then}
+use Rattle.form.specs.declared.Limits.{Limits}
+use Rattle.form.specs.Columns.{most-of}
 use Rattle.form.specs.Places.{rows-from, refusal-on}
 use Rattle.form.specs.Passes.{ToldNode, start-read, Starts, Started}
 use Rattle.form.specs.declared.Step.{Step}
@@ -28,20 +29,20 @@ use Rattle.form.proofs.Classes.{Classes, all-classes}
 
 -- ---- the end
 
-module _ (R : List ℕ) (at classes : ℕ) (p : Program) (n : length (p .classes) ≡ classes) where
-  pub finished : length R ≤ at * 4 → InForm classes ≡ formed-of (at-end of-check (at + 1) (rows-from R at) p)
+module _ (L : Limits) (R : List ℕ) (at classes : ℕ) (p : Program) (n : length (p .classes) ≡ classes) where
+  pub finished : length R ≤ at * 4 → InForm classes ≡ formed-of (at-end (most-of L) (at + 1) (rows-from R at) p)
   unfolding at-end
   finished h = rw (rows-end R at h, n)
 
   module _ (h : at * 4 + 4 ≤ length R) where
-    more : at-end of-check (at + 1) (rows-from R at) p ≡ next of-check (at + 1) (rows-from R at) (λ _ _. refuse 3 (at + 1))
+    more : at-end (most-of L) (at + 1) (rows-from R at) p ≡ next (most-of L) (at + 1) (rows-from R at) (λ _ _. refuse 3 (at + 1))
     unfolding at-end
     more = rw (rows-here R at h)
 
-    pub not-finished : (k : ℕ) → k ≡ refusal-on (at + 1) (rows-from R at) → (k ≡ 0 → ⊥) → Refused k (at + 1) ≡ formed-of (at-end of-check (at + 1) (rows-from R at) p)
-    not-finished k e z = rw (more, next-refused {B = Program} R at k (λ _ _. refuse 3 (at + 1)) e z)
+    pub not-finished : (k : ℕ) → k ≡ refusal-on L (at + 1) (rows-from R at) → (k ≡ 0 → ⊥) → Refused k (at + 1) ≡ formed-of (at-end (most-of L) (at + 1) (rows-from R at) p)
+    not-finished k e z = rw (more, next-refused L {B = Program} R at k (λ _ _. refuse 3 (at + 1)) e z)
 
-    pub more-follows : Here R at → Refused 3 (at + 1) ≡ formed-of (at-end of-check (at + 1) (rows-from R at) p)
+    pub more-follows : Here L R at → Refused 3 (at + 1) ≡ formed-of (at-end (most-of L) (at + 1) (rows-from R at) p)
     more-follows x = rw (more, next-here x {B = Program} (λ _ _. refuse 3 (at + 1)))
 
 -- ---- the start
@@ -51,65 +52,65 @@ module _ {cs : List Class} {E E′ : List ℕ} {at : ℕ} where
   unfolding Starts
   start-failed x n l e = (rw e, record { it = rw e tt })
 
-  started : (line : ℕ) (rs : List Row) (p : Program) → p .classes ≡ cs → E′ ≡ sets E at ((at + 1) ∷ ends-of (at + 1) (p .start))
-      → at + 1 + size (p .start) ≤ length E → Started cs E at (at-end of-check line rs p) E′
+  started : (L : Limits) (line : ℕ) (rs : List Row) (p : Program) → p .classes ≡ cs → E′ ≡ sets E at ((at + 1) ∷ ends-of (at + 1) (p .start))
+      → at + 1 + size (p .start) ≤ length E → Started cs E at (at-end (most-of L) line rs p) E′
   unfolding Starts at-end next bind-checked
-  started line [] p c t h = record { it = (c, t, h) }
-  started line (r ∷ rs) p c t h = record { it = go (record-on of-check line r) }
+  started L line [] p c t h = record { it = (c, t, h) }
+  started L line (r ∷ rs) p c t h = record { it = go (record-on (most-of L) line r) }
     where
       go : (x : Checked Record) → Starts cs E at (bind-checked x (λ _. refuse 3 line)) E′
       go (accept x) = tt
       go (refuse n l) = tt
 
-start-here : (R : List ℕ) (at : ℕ) (cs : List Class) (x : Here R at) → getD R (at * 4) 0 ≡ 83 → start-read cs (at + 1) (rows-from R at)
-    ≡ after (body of-check 1 (at + 1 + 1) (rows-from R (at + 1))) (λ e rs. at-end of-check (at + 1 + 1 + size e) rs (record { classes = cs; start = e }))
+start-here : (L : Limits) (R : List ℕ) (at : ℕ) (cs : List Class) (x : Here L R at) → getD R (at * 4) 0 ≡ 83 → start-read L cs (at + 1) (rows-from R at)
+    ≡ after (body (most-of L) 1 (at + 1 + 1) (rows-from R (at + 1))) (λ e rs. at-end (most-of L) (at + 1 + 1 + size e) rs (record { classes = cs; start = e }))
 unfolding start-read require
-start-here R at cs x z = next-here x _ ∙ rw (eq-eqb 83 (code (x .letter)) (sym z ∙ sym (x .code-is)))
+start-here L R at cs x z = next-here x _ ∙ rw (eq-eqb 83 (code (x .letter)) (sym z ∙ sym (x .code-is)))
 
-module _ (R : List ℕ) (at : ℕ) (cs : List Class) {E E₁ : List ℕ} where
-  pub start-refused : (k : ℕ) → k ≡ refusal-on (at + 1) (rows-from R at) → (k ≡ 0 → ⊥)
-      → (Refused k (at + 1) ≡ formed-of (start-read cs (at + 1) (rows-from R at))) × Started cs E at (start-read cs (at + 1) (rows-from R at)) E₁
+module _ (L : Limits) (R : List ℕ) (at : ℕ) (cs : List Class) {E E₁ : List ℕ} where
+  pub start-refused : (k : ℕ) → k ≡ refusal-on L (at + 1) (rows-from R at) → (k ≡ 0 → ⊥)
+      → (Refused k (at + 1) ≡ formed-of (start-read L cs (at + 1) (rows-from R at))) × Started cs E at (start-read L cs (at + 1) (rows-from R at)) E₁
   unfolding start-read
-  start-refused k e z = start-failed (start-read cs (at + 1) (rows-from R at)) k (at + 1) (next-refused R at k _ e z)
+  start-refused k e z = start-failed (start-read L cs (at + 1) (rows-from R at)) k (at + 1) (next-refused L R at k _ e z)
 
-  module _ (x : Here R at) where
+  module _ (x : Here L R at) where
     pub start-other : (getD R (at * 4) 0 ≡ 83 → ⊥)
-        → (Refused 3 (at + 1) ≡ formed-of (start-read cs (at + 1) (rows-from R at))) × Started cs E at (start-read cs (at + 1) (rows-from R at)) E₁
+        → (Refused 3 (at + 1) ≡ formed-of (start-read L cs (at + 1) (rows-from R at))) × Started cs E at (start-read L cs (at + 1) (rows-from R at)) E₁
     unfolding start-read require
-    start-other z = start-failed (start-read cs (at + 1) (rows-from R at)) 3 (at + 1) (next-here x _ ∙ rw (ne-eqb 83 (code (x .letter)) (λ e. z (sym (x .code-is) ∙ sym e))))
+    start-other z = start-failed (start-read L cs (at + 1) (rows-from R at)) 3 (at + 1) (next-here x _ ∙ rw (ne-eqb 83 (code (x .letter)) (λ e. z (sym (x .code-is) ∙ sym e))))
 
     module _ (z : getD R (at * 4) 0 ≡ 83) where
-      module _ {E₀ : List ℕ} {s : Step} (t : ToldNode R E₀ (at + 1) (body of-check 1 (at + 1 + 1) (rows-from R (at + 1))) s E₁) where
+      module _ {E₀ : List ℕ} {s : Step} (t : ToldNode L R E₀ (at + 1) (body (most-of L) 1 (at + 1 + 1) (rows-from R (at + 1))) s E₁) where
         pub start-stop : {n l : ℕ} → s ≡ step.Refused n l
-            → (Refused n l ≡ formed-of (start-read cs (at + 1) (rows-from R at))) × Started cs E at (start-read cs (at + 1) (rows-from R at)) E₁
+            → (Refused n l ≡ formed-of (start-read L cs (at + 1) (rows-from R at))) × Started cs E at (start-read L cs (at + 1) (rows-from R at)) E₁
         unfolding after
-        start-stop {n} {l} e = start-failed (start-read cs (at + 1) (rows-from R at)) n l
-            (start-here R at cs x z ∙ rw (told-failed (body of-check 1 (at + 1 + 1) (rows-from R (at + 1))) t e))
+        start-stop {n} {l} e = start-failed (start-read L cs (at + 1) (rows-from R at)) n l
+            (start-here L R at cs x z ∙ rw (told-failed (body (most-of L) 1 (at + 1 + 1) (rows-from R (at + 1))) t e))
 
-        pub start-end : {q classes : ℕ} {r : Formed} → s ≡ step.End q → E₀ ≡ set E at (at + 1) → (q ≤ 60000 → q * 4 ≤ length R → q ≤ length E) → length cs ≡ classes
-            → ((p : Program) → length (p .classes) ≡ classes → r ≡ formed-of (at-end of-check (q + 1) (rows-from R q) p))
-            → (r ≡ formed-of (start-read cs (at + 1) (rows-from R at))) × Started cs E at (start-read cs (at + 1) (rows-from R at)) E₁
+        pub start-end : {q classes : ℕ} {r : Formed} → s ≡ step.End q → E₀ ≡ set E at (at + 1) → (q ≤ L .rows → q * 4 ≤ length R → q ≤ length E) → length cs ≡ classes
+            → ((p : Program) → length (p .classes) ≡ classes → r ≡ formed-of (at-end (most-of L) (q + 1) (rows-from R q) p))
+            → (r ≡ formed-of (start-read L cs (at + 1) (rows-from R at))) × Started cs E at (start-read L cs (at + 1) (rows-from R at)) E₁
         unfolding after
-        start-end {q} {classes} {r} e w h c f = told-end (body of-check 1 (at + 1 + 1) (rows-from R (at + 1))) t e λ b y p v o u.
+        start-end {q} {classes} {r} e w h c f = told-end (body (most-of L) 1 (at + 1 + 1) (rows-from R (at + 1))) t e λ b y p v o u.
             let p₀ : Program = record { classes = cs; start = b } in
             let j : at + 1 + 1 + size b ≡ q + 1 = omega (arith, p) in
-            let same : start-read cs (at + 1) (rows-from R at) ≡ at-end of-check (q + 1) (rows-from R q) p₀ = start-here R at cs x z ∙ rw (y, j) in
+            let same : start-read L cs (at + 1) (rows-from R at) ≡ at-end (most-of L) (q + 1) (rows-from R q) p₀ = start-here L R at cs x z ∙ rw (y, j) in
             let table : E₁ ≡ sets E at ((at + 1) ∷ ends-of (at + 1) b) = u ∙ rw (w, add-one at) in
-            (rw same (f p₀ c), rw same (started (q + 1) (rows-from R q) p₀ refl table (omega (arith, p, h v o))))
+            (rw same (f p₀ c), rw same (started L (q + 1) (rows-from R q) p₀ refl table (omega (arith, p, h v o))))
 
 -- ---- the whole
 
-module _ (R E₀ : List ℕ) where
-  pub form-failed : {E′ : List ℕ} (n l : ℕ) → all-classes R ≡ refuse n l
-      → (Refused n l ≡ formed-of (form of-check (rows-of R))) × ((p : Program) → form of-check (rows-of R) ≡ accept p → E′ ≡ program-ends p ++ drop (length (program-ends p)) E₀)
+module _ (L : Limits) (R E₀ : List ℕ) where
+  pub form-failed : {E′ : List ℕ} (n l : ℕ) → all-classes L R ≡ refuse n l
+      → (Refused n l ≡ formed-of (form (most-of L) (rows-of R))) × ((p : Program) → form (most-of L) (rows-of R) ≡ accept p → E′ ≡ program-ends p ++ drop (length (program-ends p)) E₀)
   unfolding form after
   form-failed n l e = (rw e, λ p z. absurd (never p (rw e at z)))
     where
       never : (p : Program) → _≡_ {A = Checked Program} (refuse n l) (accept p) → ⊥
       never p z = let y : _≡_ {A = ℕ} 0 1 = cc in omega arith
 
-  module _ {E : List ℕ} {i n : ℕ} (c : Classes R E₀ E i n) where
-    form-is : form of-check (rows-of R) ≡ start-read (c .list) (i + 1) (rows-from R i)
+  module _ {E : List ℕ} {i n : ℕ} (c : Classes L R E₀ E i n) where
+    form-is : form (most-of L) (rows-of R) ≡ start-read L (c .list) (i + 1) (rows-from R i)
     unfolding form after start-read
     form-is = let j : 1 + classes-lines (c .list) ≡ i + 1 = omega (arith, c .rows) in rw (c .all, j)
 
@@ -120,8 +121,8 @@ module _ (R E₀ : List ℕ) where
         ∙ omega (arith, classes-ends-long 0 (p .classes), ends-long (classes-lines (p .classes) + 1) (p .start), ap classes-lines e, c .rows)
 
     pub form-done : {E′ : List ℕ} {r : Formed} → length E ≡ length E₀
-        → ((cs : List Class) → length cs ≡ n → (r ≡ formed-of (start-read cs (i + 1) (rows-from R i))) × Started cs E i (start-read cs (i + 1) (rows-from R i)) E′)
-        → (r ≡ formed-of (form of-check (rows-of R))) × ((p : Program) → form of-check (rows-of R) ≡ accept p → E′ ≡ program-ends p ++ drop (length (program-ends p)) E₀)
+        → ((cs : List Class) → length cs ≡ n → (r ≡ formed-of (start-read L cs (i + 1) (rows-from R i))) × Started cs E i (start-read L cs (i + 1) (rows-from R i)) E′)
+        → (r ≡ formed-of (form (most-of L) (rows-of R))) × ((p : Program) → form (most-of L) (rows-of R) ≡ accept p → E′ ≡ program-ends p ++ drop (length (program-ends p)) E₀)
     unfolding Starts program-ends
     form-done {E′} {r} g f =
         let s = f (c .list) (c .many) in

@@ -6,7 +6,7 @@ use mathlib.Core.List.{List, [], _∷_}
 use Prim.Native.Nat.{ℕ, suc, _+_, _*_, _%_, _≤_, _<_}
 use lib.Dec.{eqb}
 use lib.ListN.{length, getD, drop}
-use Rattle.language.specs.Limits.{of-check, place-refusal}
+use Rattle.language.specs.Limits.{place-refusal}
 use Rattle.language.specs.Lists.{given}
 use Rattle.language.specs.Results.{Checked, accept, refuse}
 use Rattle.language.specs.Rows.{Letter, letters, code, letter-among, name-of, Record, Row, row, rows-of}
@@ -14,6 +14,8 @@ use Rattle.language.specs.Rows.{C-class, F-field, M-method, P-parameter, X-effe
 use Rattle.language.specs.Rows.{T-true, L-false, N-null, I-slot, Z-is-null, G-get, K-cast, W-new, R-change}
 use Rattle.language.specs.Rows.{A-assign, U-set, Q-call, J-choose}
 use Rattle.language.specs.Form.{record-on}
+use Rattle.form.specs.declared.Limits.{Limits}
+use Rattle.form.specs.Columns.{most-of, Fits}
 use Rattle.form.specs.declared.Parts.{Parts}
 use Rattle.form.specs.declared.Parts.the-variants.{Of, NoNode}
 
@@ -32,9 +34,9 @@ refusal-of (accept a) = 0
 refusal-of (refuse number line) = number
 
 -- Why no record can be taken on a line.
-unfoldable pub refusal-on : ℕ → List Row → ℕ
-refusal-on line [] = place-refusal
-refusal-on line (r ∷ rs) = refusal-of (record-on of-check line r)
+unfoldable pub refusal-on : Limits → ℕ → List Row → ℕ
+refusal-on L line [] = place-refusal
+refusal-on L line (r ∷ rs) = refusal-of (record-on (most-of L) line r)
 
 -- Is what was read a record of the letter of a code.
 abbrev pub has-code : ℕ → Checked Record → Bool
@@ -42,13 +44,13 @@ has-code n (accept x) = eqb n (code (x .letter))
 has-code n (refuse number line) = false
 
 -- Does one stand on a line; how many stand from there on, one after another.
-unfoldable pub standing : ℕ → ℕ → List Row → Bool
-standing n line [] = false
-standing n line (r ∷ rs) = has-code n (record-on of-check line r)
+unfoldable pub standing : Limits → ℕ → ℕ → List Row → Bool
+standing L n line [] = false
+standing L n line (r ∷ rs) = has-code n (record-on (most-of L) line r)
 
-unfoldable pub run : ℕ → ℕ → List Row → ℕ
-run n line [] = 0
-run n line (r ∷ rs) = cond (has-code n (record-on of-check line r)) (suc (run n (line + 1) rs)) 0
+unfoldable pub run : Limits → ℕ → ℕ → List Row → ℕ
+run L n line [] = 0
+run L n line (r ∷ rs) = cond (has-code n (record-on (most-of L) line r)) (suc (run L n (line + 1) rs)) 0
 
 -- The name that a row of a code gives.
 unfoldable pub name-at : ℕ → ℕ → ℕ → ℕ
@@ -81,14 +83,15 @@ parts-of J-choose a b = Of 0 3
 unfoldable pub parts-at : ℕ → ℕ → ℕ → Parts
 parts-at n a b = given (letter-among letters n) NoNode λ l. parts-of l a b
 
--- What a pass may count on: whole rows, a table with an entry for each row that may be accepted,
+-- What a pass may count on: limits that it can keep, whole rows, a table with an entry for each row that may be accepted,
 -- a place that is no further than one past the last of these.
-pub record Ready (numbers table : List ℕ) (at : ℕ) : Type 0 where
+pub record Ready (L : Limits) (numbers table : List ℕ) (at : ℕ) : Type 0 where
+  pub fits : Fits L
   pub whole : length numbers % 4 ≡ 0
-  pub room : (length numbers ≤ 4 * length table) ⊎ (60000 ≤ length table)
-  pub within : at ≤ 60000
+  pub room : (length numbers ≤ 4 * length table) ⊎ (L .rows ≤ length table)
+  pub within : at ≤ L .rows
   pub inside : at * 4 ≤ length numbers
 
 -- Where a record can be taken there is a row that is not too many.
-abbrev pub There : List ℕ → ℕ → Type 0
-There numbers at = (at < 60000) × (at * 4 + 4 ≤ length numbers)
+abbrev pub There : Limits → List ℕ → ℕ → Type 0
+There L numbers at = (at < L .rows) × (at * 4 + 4 ≤ length numbers)

@@ -1,4 +1,5 @@
-// The pass over form (document 01, "Lines and rows"): is this a program, and where does each part of it end.
+// The pass over form (document 01, "Lines and rows"): is this a program, and where does each part of it end. One pass
+// serves both columns of the table of limits: that of a checked program, and that of the translator's input.
 ghost use mathlib.Core.Path.{_≡_};
 ghost use mathlib.Core.Bool.{true};
 ghost use mathlib.Core.List.{List, _∷_, _++_};
@@ -6,16 +7,27 @@ ghost use mathlib.Core.Logic.{_⊎_};
 ghost use Prim.Native.Nat.{ℕ, _+_, _*_, _%_, _≤_, _<_};
 ghost use lib.ListN.{length, drop};
 ghost use lib.Seq.{sets};
-ghost use Rattle.language.specs.Limits.{of-check};
+ghost use Rattle.language.specs.Limits.{of-check, of-translator};
 ghost use Rattle.language.specs.Results.{accept};
 ghost use Rattle.language.specs.Rows.{Record, row, is-row, rows-of};
 ghost use Rattle.language.specs.Tree.{DeclaredType, Expr, Exprs, Class, classes-lines, Program};
 ghost use Rattle.language.specs.Form.{locals, several, node, body, method, methods, at-end, form};
 ghost use Rattle.language.specs.Tables.{next-rows, program-ends};
+ghost use Rattle.form.specs.Columns.{most-of, Fits};
 ghost use Rattle.form.specs.Places.{rows-from, refusal-on, standing, run, name-at, parts-at, Ready, There};
 ghost use Rattle.form.specs.Passes.{ToldNode, ToldNodes, ToldLocals, ToldMethod, ToldMethods, ToldClass};
 ghost use Rattle.form.specs.Passes.{Makes, parts-read, class-read, start-read, Started};
 ghost use Rattle.form.specs.Answers.{formed-of};
+
+// What there may be at most: the numbers in which the columns of that table differ. `fields` is there for the contracts:
+// how many fields a class has is no matter of this pass.
+pub struct Limits {
+    pub rows: usize,
+    pub classes: u32,
+    pub fields: u32,
+    pub slots: u32,
+    pub nesting: u32,
+}
 
 // Where what was read ends, or a refusal's number and line.
 pub enum Step {
@@ -51,9 +63,9 @@ fn name_of(code: u32, a: u32, b: u32) -> u32
 
 // Why no record can be taken from this row: 3 past the end, 1 if it is malformed, 2 for a row too many or
 // a name too large; and 0 if one can.
-fn refuse_row(rows: &[u32], at: usize) -> u32
-    requires { ⌜ (length (now rows) % 4 ≡ 0) × (at ≤ 60000) ⌝ }
-    ensures { λ r. ⌜ (r ≡ refusal-on (at + 1) (rows-from (now (rows .entry)) at)) × (r ≡ 0 → There (now (rows .entry)) at) ⌝ }
+fn refuse_row(rows: &[u32], at: usize, limits: Limits) -> u32
+    requires { ⌜ (length (now rows) % 4 ≡ 0) × (at ≤ limits .rows) × Fits limits ⌝ }
+    ensures { λ r. ⌜ (r ≡ refusal-on limits (at + 1) (rows-from (now (rows .entry)) at)) × (r ≡ 0 → There limits (now (rows .entry)) at) ⌝ }
 {
     let i = at * 4;
     if rows.len() <= i {
@@ -65,7 +77,7 @@ fn refuse_row(rows: &[u32], at: usize) -> u32
     if !language::is_row(code, a, b, rows[i + 3]) {
         return 1;
     }
-    if 60000 <= at {
+    if limits.rows <= at {
         return 2;
     }
     if 255 < name_of(code, a, b) {
@@ -75,25 +87,25 @@ fn refuse_row(rows: &[u32], at: usize) -> u32
 }
 
 // Does a record of this letter stand here.
-fn is_letter(rows: &[u32], at: usize, letter: u32) -> bool
-    requires { ⌜ (length (now rows) % 4 ≡ 0) × (at ≤ 60000) ⌝ }
-    ensures { λ r. ⌜ (r ≡ standing letter (at + 1) (rows-from (now (rows .entry)) at)) × (r ≡ true → There (now (rows .entry)) at) ⌝ }
+fn is_letter(rows: &[u32], at: usize, letter: u32, limits: Limits) -> bool
+    requires { ⌜ (length (now rows) % 4 ≡ 0) × (at ≤ limits .rows) × Fits limits ⌝ }
+    ensures { λ r. ⌜ (r ≡ standing limits letter (at + 1) (rows-from (now (rows .entry)) at)) × (r ≡ true → There limits (now (rows .entry)) at) ⌝ }
 {
-    if refuse_row(rows, at) != 0 {
+    if refuse_row(rows, at, limits) != 0 {
         return false;
     }
     rows[at * 4] == letter
 }
 
 // Passes the lines of a letter, as long as they come, and answers the row after them.
-fn pass_lines(rows: &[u32], ends: &mut [u16], at: usize, letter: u32) -> usize
-    requires { ⌜ Ready (now rows) (now ends) at ⌝ }
-    ensures { λ r. ⌜ (r ≡ at + run letter (at + 1) (rows-from (now (rows .entry)) at))
-        × (now (ends .exit) ≡ sets (now (ends .entry)) at (next-rows at (run letter (at + 1) (rows-from (now (rows .entry)) at))))
-        × (r ≤ 60000) × (r * 4 ≤ length (now (rows .entry))) ⌝ }
+fn pass_lines(rows: &[u32], ends: &mut [u16], at: usize, letter: u32, limits: Limits) -> usize
+    requires { ⌜ Ready limits (now rows) (now ends) at ⌝ }
+    ensures { λ r. ⌜ (r ≡ at + run limits letter (at + 1) (rows-from (now (rows .entry)) at))
+        × (now (ends .exit) ≡ sets (now (ends .entry)) at (next-rows at (run limits letter (at + 1) (rows-from (now (rows .entry)) at))))
+        × (r ≤ limits .rows) × (r * 4 ≤ length (now (rows .entry))) ⌝ }
 {
     let mut i = at;
-    while is_letter(rows, i, letter) {
+    while is_letter(rows, i, letter, limits) {
         ends[i] = (i + 1) as u16;
         i += 1;
     }
@@ -101,23 +113,30 @@ fn pass_lines(rows: &[u32], ends: &mut [u16], at: usize, letter: u32) -> usize
 }
 
 // Passes so many V lines, with so many slots in scope before the first.
-fn pass_locals(rows: &[u32], ends: &mut [u16], at: usize, count: u32, slots: u32) -> Step
-    requires { ⌜ Ready (now rows) (now ends) at × (slots ≤ 256) ⌝ }
-    ensures { λ r. ⌜ ToldLocals (now (rows .entry)) (now (ends .entry)) at (locals of-check count slots (at + 1) (rows-from (now (rows .entry)) at)) r (now (ends .exit))
-        × ((next : ℕ) → r ≡ Step.End next → slots + count ≤ 256) ⌝ }
+fn pass_locals(
+    rows: &[u32],
+    ends: &mut [u16],
+    at: usize,
+    count: u32,
+    slots: u32,
+    limits: Limits,
+) -> Step
+    requires { ⌜ Ready limits (now rows) (now ends) at × (slots ≤ limits .slots) ⌝ }
+    ensures { λ r. ⌜ ToldLocals limits (now (rows .entry)) (now (ends .entry)) at (locals (most-of limits) count slots (at + 1) (rows-from (now (rows .entry)) at)) r (now (ends .exit))
+        × ((next : ℕ) → r ≡ Step.End next → slots + count ≤ limits .slots) ⌝ }
 {
     let mut i = at;
     let mut left = count;
     let mut scope = slots;
     while 0 < left {
-        let refusal = refuse_row(rows, i);
+        let refusal = refuse_row(rows, i, limits);
         if refusal != 0 {
             return Step::Refused(refusal, i as u32 + 1);
         }
         if rows[i * 4] != 86 {
             return Step::Refused(3, i as u32 + 1);
         }
-        if 256 <= scope {
+        if limits.slots <= scope {
             return Step::Refused(2, i as u32 + 1);
         }
         ends[i] = (i + 1) as u16;
@@ -153,11 +172,18 @@ fn parts_of(code: u32, a: u32, b: u32) -> Parts
 }
 
 // Passes a node, with so much nesting left and so many slots in scope.
-fn pass_node(rows: &[u32], ends: &mut [u16], at: usize, nesting: u32, slots: u32) -> Step
-    requires { ⌜ Ready (now rows) (now ends) at × (slots ≤ 256) ⌝ }
-    ensures { λ r. ⌜ ToldNode (now (rows .entry)) (now (ends .entry)) at (node of-check nesting slots (at + 1) (rows-from (now (rows .entry)) at)) r (now (ends .exit)) ⌝ }
+fn pass_node(
+    rows: &[u32],
+    ends: &mut [u16],
+    at: usize,
+    nesting: u32,
+    slots: u32,
+    limits: Limits,
+) -> Step
+    requires { ⌜ Ready limits (now rows) (now ends) at × (slots ≤ limits .slots) ⌝ }
+    ensures { λ r. ⌜ ToldNode limits (now (rows .entry)) (now (ends .entry)) at (node (most-of limits) nesting slots (at + 1) (rows-from (now (rows .entry)) at)) r (now (ends .exit)) ⌝ }
 {
-    let refusal = refuse_row(rows, at);
+    let refusal = refuse_row(rows, at, limits);
     if refusal != 0 {
         return Step::Refused(refusal, at as u32 + 1);
     }
@@ -176,7 +202,16 @@ fn pass_node(rows: &[u32], ends: &mut [u16], at: usize, nesting: u32, slots: u32
         ends[at] = (at + 1) as u16;
         return Step::End(at + 1);
     }
-    pass_parts(rows, ends, at, nesting - 1, slots, variables, children)
+    pass_parts(
+        rows,
+        ends,
+        at,
+        nesting - 1,
+        slots,
+        variables,
+        children,
+        limits,
+    )
 }
 
 // Passes what follows a node: its V lines, then its children.
@@ -188,16 +223,25 @@ fn pass_parts(
     slots: u32,
     variables: u32,
     children: u32,
+    limits: Limits,
 ) -> Step
-    requires { ⌜ Ready (now rows) (now ends) at × There (now rows) at × (slots ≤ 256) ⌝ }
+    requires { ⌜ Ready limits (now rows) (now ends) at × There limits (now rows) at × (slots ≤ limits .slots) ⌝ }
     ensures { λ r. ⌜ ((make : List DeclaredType → Exprs → Expr) → Makes variables children make
-        → ToldNode (now (rows .entry)) (now (ends .entry)) at (parts-read nesting slots variables children make (at + 1) (rows-from (now (rows .entry)) (at + 1))) r (now (ends .exit))) ⌝ }
+        → ToldNode limits (now (rows .entry)) (now (ends .entry)) at (parts-read limits nesting slots variables children make (at + 1) (rows-from (now (rows .entry)) (at + 1))) r (now (ends .exit))) ⌝ }
 {
-    let l = pass_locals(rows, ends, at + 1, variables, slots);
+    let l = pass_locals(rows, ends, at + 1, variables, slots, limits);
     let Step::End(first) = l else {
         return l;
     };
-    let r = pass_nodes(rows, ends, first, nesting, slots + variables, children);
+    let r = pass_nodes(
+        rows,
+        ends,
+        first,
+        nesting,
+        slots + variables,
+        children,
+        limits,
+    );
     let Step::End(next) = r else {
         return r;
     };
@@ -213,14 +257,15 @@ fn pass_nodes(
     nesting: u32,
     slots: u32,
     count: u32,
+    limits: Limits,
 ) -> Step
-    requires { ⌜ Ready (now rows) (now ends) at × (slots ≤ 256) ⌝ }
-    ensures { λ r. ⌜ ToldNodes (now (rows .entry)) (now (ends .entry)) at (several (λ at rs. node of-check nesting slots at rs) count (at + 1) (rows-from (now (rows .entry)) at)) r (now (ends .exit)) ⌝ }
+    requires { ⌜ Ready limits (now rows) (now ends) at × (slots ≤ limits .slots) ⌝ }
+    ensures { λ r. ⌜ ToldNodes limits (now (rows .entry)) (now (ends .entry)) at (several (λ at rs. node (most-of limits) nesting slots at rs) count (at + 1) (rows-from (now (rows .entry)) at)) r (now (ends .exit)) ⌝ }
 {
     let mut i = at;
     let mut left = count;
     while 0 < left {
-        let r = pass_node(rows, ends, i, nesting, slots);
+        let r = pass_node(rows, ends, i, nesting, slots, limits);
         let Step::End(next) = r else {
             return r;
         };
@@ -231,32 +276,32 @@ fn pass_nodes(
 }
 
 // Passes a body: one block.
-fn pass_body(rows: &[u32], ends: &mut [u16], at: usize, slots: u32) -> Step
-    requires { ⌜ Ready (now rows) (now ends) at × (slots ≤ 256) ⌝ }
-    ensures { λ r. ⌜ ToldNode (now (rows .entry)) (now (ends .entry)) at (body of-check slots (at + 1) (rows-from (now (rows .entry)) at)) r (now (ends .exit)) ⌝ }
+fn pass_body(rows: &[u32], ends: &mut [u16], at: usize, slots: u32, limits: Limits) -> Step
+    requires { ⌜ Ready limits (now rows) (now ends) at × (slots ≤ limits .slots) ⌝ }
+    ensures { λ r. ⌜ ToldNode limits (now (rows .entry)) (now (ends .entry)) at (body (most-of limits) slots (at + 1) (rows-from (now (rows .entry)) at)) r (now (ends .exit)) ⌝ }
 {
-    let refusal = refuse_row(rows, at);
+    let refusal = refuse_row(rows, at, limits);
     if refusal != 0 {
         return Step::Refused(refusal, at as u32 + 1);
     }
     if rows[at * 4] != 66 {
         return Step::Refused(3, at as u32 + 1);
     }
-    pass_node(rows, ends, at, 128, slots)
+    pass_node(rows, ends, at, limits.nesting, slots, limits)
 }
 
 // Passes a method, whose M line stands here: its P lines, its X lines, its body.
-fn pass_method(rows: &[u32], ends: &mut [u16], at: usize) -> Step
-    requires { ⌜ Ready (now rows) (now ends) at × There (now rows) at ⌝ }
-    ensures { λ r. ⌜ ((x : Record) → ToldMethod (now (rows .entry)) (now (ends .entry)) at (method of-check (at + 1) x (rows-from (now (rows .entry)) (at + 1))) r (now (ends .exit))) ⌝ }
+fn pass_method(rows: &[u32], ends: &mut [u16], at: usize, limits: Limits) -> Step
+    requires { ⌜ Ready limits (now rows) (now ends) at × There limits (now rows) at ⌝ }
+    ensures { λ r. ⌜ ((x : Record) → ToldMethod limits (now (rows .entry)) (now (ends .entry)) at (method (most-of limits) (at + 1) x (rows-from (now (rows .entry)) (at + 1))) r (now (ends .exit))) ⌝ }
 {
-    let effects = pass_lines(rows, ends, at + 1, 80);
+    let effects = pass_lines(rows, ends, at + 1, 80, limits);
     let parameters = (effects - at - 1) as u32;
     if 8 < parameters {
         return Step::Refused(2, at as u32 + 10);
     }
-    let body = pass_lines(rows, ends, effects, 88);
-    let r = pass_body(rows, ends, body, parameters + 1);
+    let body = pass_lines(rows, ends, effects, 88, limits);
+    let r = pass_body(rows, ends, body, parameters + 1, limits);
     let Step::End(next) = r else {
         return r;
     };
@@ -265,13 +310,13 @@ fn pass_method(rows: &[u32], ends: &mut [u16], at: usize) -> Step
 }
 
 // Passes methods, as long as M lines come.
-fn pass_methods(rows: &[u32], ends: &mut [u16], at: usize) -> Step
-    requires { ⌜ Ready (now rows) (now ends) at ⌝ }
-    ensures { λ r. ⌜ ((f : ℕ) → length (rows-from (now (rows .entry)) at) ≤ f → ToldMethods (now (rows .entry)) (now (ends .entry)) at (methods of-check f (at + 1) (rows-from (now (rows .entry)) at)) r (now (ends .exit))) ⌝ }
+fn pass_methods(rows: &[u32], ends: &mut [u16], at: usize, limits: Limits) -> Step
+    requires { ⌜ Ready limits (now rows) (now ends) at ⌝ }
+    ensures { λ r. ⌜ ((f : ℕ) → length (rows-from (now (rows .entry)) at) ≤ f → ToldMethods limits (now (rows .entry)) (now (ends .entry)) at (methods (most-of limits) f (at + 1) (rows-from (now (rows .entry)) at)) r (now (ends .exit))) ⌝ }
 {
     let mut i = at;
-    while is_letter(rows, i, 77) {
-        let r = pass_method(rows, ends, i);
+    while is_letter(rows, i, 77, limits) {
+        let r = pass_method(rows, ends, i, limits);
         let Step::End(next) = r else {
             return r;
         };
@@ -281,12 +326,12 @@ fn pass_methods(rows: &[u32], ends: &mut [u16], at: usize) -> Step
 }
 
 // Passes a class, whose C line stands here: its F lines, its methods.
-fn pass_class(rows: &[u32], ends: &mut [u16], at: usize) -> Step
-    requires { ⌜ Ready (now rows) (now ends) at × There (now rows) at ⌝ }
-    ensures { λ r. ⌜ ((x : Record) → ToldClass (now (rows .entry)) (now (ends .entry)) at (class-read x (at + 1) (rows-from (now (rows .entry)) (at + 1))) r (now (ends .exit))) ⌝ }
+fn pass_class(rows: &[u32], ends: &mut [u16], at: usize, limits: Limits) -> Step
+    requires { ⌜ Ready limits (now rows) (now ends) at × There limits (now rows) at ⌝ }
+    ensures { λ r. ⌜ ((x : Record) → ToldClass limits (now (rows .entry)) (now (ends .entry)) at (class-read limits x (at + 1) (rows-from (now (rows .entry)) (at + 1))) r (now (ends .exit))) ⌝ }
 {
-    let methods = pass_lines(rows, ends, at + 1, 70);
-    let r = pass_methods(rows, ends, methods);
+    let methods = pass_lines(rows, ends, at + 1, 70, limits);
+    let r = pass_methods(rows, ends, methods, limits);
     let Step::End(next) = r else {
         return r;
     };
@@ -295,14 +340,14 @@ fn pass_class(rows: &[u32], ends: &mut [u16], at: usize) -> Step
 }
 
 // Nothing may follow the start block.
-fn finish(rows: &[u32], at: usize, classes: u32) -> Formed
-    requires { ⌜ (length (now rows) % 4 ≡ 0) × (at ≤ 60000) ⌝ }
-    ensures { λ r. ⌜ ((p : Program) → length (p .classes) ≡ classes → r ≡ formed-of (at-end of-check (at + 1) (rows-from (now (rows .entry)) at) p)) ⌝ }
+fn finish(rows: &[u32], at: usize, classes: u32, limits: Limits) -> Formed
+    requires { ⌜ (length (now rows) % 4 ≡ 0) × (at ≤ limits .rows) × Fits limits ⌝ }
+    ensures { λ r. ⌜ ((p : Program) → length (p .classes) ≡ classes → r ≡ formed-of (at-end (most-of limits) (at + 1) (rows-from (now (rows .entry)) at) p)) ⌝ }
 {
     if rows.len() <= at * 4 {
         return Formed::InForm(classes);
     }
-    let refusal = refuse_row(rows, at);
+    let refusal = refuse_row(rows, at, limits);
     if refusal != 0 {
         return Formed::Refused(refusal, at as u32 + 1);
     }
@@ -310,12 +355,12 @@ fn finish(rows: &[u32], at: usize, classes: u32) -> Formed
 }
 
 // After the classes: the S line, the start block, the end.
-fn pass_start(rows: &[u32], ends: &mut [u16], at: usize, classes: u32) -> Formed
-    requires { ⌜ Ready (now rows) (now ends) at ⌝ }
-    ensures { λ r. ⌜ ((cs : List Class) → length cs ≡ classes → (r ≡ formed-of (start-read cs (at + 1) (rows-from (now (rows .entry)) at)))
-        × Started cs (now (ends .entry)) at (start-read cs (at + 1) (rows-from (now (rows .entry)) at)) (now (ends .exit))) ⌝ }
+fn pass_start(rows: &[u32], ends: &mut [u16], at: usize, classes: u32, limits: Limits) -> Formed
+    requires { ⌜ Ready limits (now rows) (now ends) at ⌝ }
+    ensures { λ r. ⌜ ((cs : List Class) → length cs ≡ classes → (r ≡ formed-of (start-read limits cs (at + 1) (rows-from (now (rows .entry)) at)))
+        × Started cs (now (ends .entry)) at (start-read limits cs (at + 1) (rows-from (now (rows .entry)) at)) (now (ends .exit))) ⌝ }
 {
-    let refusal = refuse_row(rows, at);
+    let refusal = refuse_row(rows, at, limits);
     if refusal != 0 {
         return Formed::Refused(refusal, at as u32 + 1);
     }
@@ -323,27 +368,27 @@ fn pass_start(rows: &[u32], ends: &mut [u16], at: usize, classes: u32) -> Formed
         return Formed::Refused(3, at as u32 + 1);
     }
     ends[at] = (at + 1) as u16;
-    let r = pass_body(rows, ends, at + 1, 1);
+    let r = pass_body(rows, ends, at + 1, 1, limits);
     match r {
-        Step::End(next) => finish(rows, next, classes),
+        Step::End(next) => finish(rows, next, classes, limits),
         Step::Refused(number, line) => Formed::Refused(number, line),
     }
 }
 
 // The pass: classes, as long as C lines come, then the start. It fills the table of ends.
-pub fn check_form(rows: &[u32], ends: &mut [u16]) -> Formed
-    requires { ⌜ (length (now rows) % 4 ≡ 0) × ((length (now rows) ≤ 4 * length (now ends)) ⊎ (60000 ≤ length (now ends))) ⌝ }
-    ensures { λ r. ⌜ (r ≡ formed-of (form of-check (rows-of (now (rows .entry)))))
-        × ((p : Program) → form of-check (rows-of (now (rows .entry))) ≡ accept p
+fn pass_form(rows: &[u32], ends: &mut [u16], limits: Limits) -> Formed
+    requires { ⌜ (length (now rows) % 4 ≡ 0) × ((length (now rows) ≤ 4 * length (now ends)) ⊎ (limits .rows ≤ length (now ends))) × Fits limits ⌝ }
+    ensures { λ r. ⌜ (r ≡ formed-of (form (most-of limits) (rows-of (now (rows .entry)))))
+        × ((p : Program) → form (most-of limits) (rows-of (now (rows .entry))) ≡ accept p
         → now (ends .exit) ≡ program-ends p ++ drop (length (program-ends p)) (now (ends .entry))) ⌝ }
 {
     let mut i = 0;
     let mut classes: u32 = 0;
-    while is_letter(rows, i, 67) {
-        if 64 <= classes {
+    while is_letter(rows, i, 67, limits) {
+        if limits.classes <= classes {
             return Formed::Refused(2, i as u32 + 1);
         }
-        let r = pass_class(rows, ends, i);
+        let r = pass_class(rows, ends, i, limits);
         match r {
             Step::End(next) => {
                 i = next;
@@ -354,5 +399,39 @@ pub fn check_form(rows: &[u32], ends: &mut [u16]) -> Formed
             }
         }
     }
-    pass_start(rows, ends, i, classes)
+    pass_start(rows, ends, i, classes, limits)
+}
+
+// The pass under the limits of a checked program.
+pub fn check_form(rows: &[u32], ends: &mut [u16]) -> Formed
+    requires { ⌜ (length (now rows) % 4 ≡ 0) × ((length (now rows) ≤ 4 * length (now ends)) ⊎ (60000 ≤ length (now ends))) ⌝ }
+    ensures { λ r. ⌜ (r ≡ formed-of (form of-check (rows-of (now (rows .entry)))))
+        × ((p : Program) → form of-check (rows-of (now (rows .entry))) ≡ accept p
+        → now (ends .exit) ≡ program-ends p ++ drop (length (program-ends p)) (now (ends .entry))) ⌝ }
+{
+    let limits = Limits {
+        rows: 60000,
+        classes: 64,
+        fields: 17,
+        slots: 256,
+        nesting: 128,
+    };
+    pass_form(rows, ends, limits)
+}
+
+// The pass under the limits of the translator's input.
+pub fn check_translatable(rows: &[u32], ends: &mut [u16]) -> Formed
+    requires { ⌜ (length (now rows) % 4 ≡ 0) × ((length (now rows) ≤ 4 * length (now ends)) ⊎ (680 ≤ length (now ends))) ⌝ }
+    ensures { λ r. ⌜ (r ≡ formed-of (form of-translator (rows-of (now (rows .entry)))))
+        × ((p : Program) → form of-translator (rows-of (now (rows .entry))) ≡ accept p
+        → now (ends .exit) ≡ program-ends p ++ drop (length (program-ends p)) (now (ends .entry))) ⌝ }
+{
+    let limits = Limits {
+        rows: 680,
+        classes: 62,
+        fields: 16,
+        slots: 32,
+        nesting: 24,
+    };
+    pass_form(rows, ends, limits)
 }

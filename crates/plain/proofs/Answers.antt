@@ -26,10 +26,10 @@ use Rattle.language.specs.declared.Filled.{Filled}
 use Rattle.language.specs.declared.Filled.the-variants as filled
 use Rattle.language.specs.declared.Filled.the-variants.{Done}
 use Rattle.language.specs.Layout.{ProgramAt}
-use Rattle.limits.specs.Answers.{formed-of}
-use Rattle.limits.specs.declared.Formed.{Formed}
-use Rattle.limits.specs.declared.Formed.the-variants as formed
-use Rattle.limits.specs.declared.Formed.the-variants.{InForm}
+use Rattle.form.specs.Answers.{formed-of}
+use Rattle.form.specs.declared.Formed.{Formed}
+use Rattle.form.specs.declared.Formed.the-variants as formed
+use Rattle.form.specs.declared.Formed.the-variants.{InForm}
 use Rattle.theory.specs.Accepts.{check-accepts}
 use Rattle.theory.specs.WholeBack.{form-back}
 use Rattle.theory.specs.Translatable.{TranslatableRows, earlier-inv, same-program}

@@ -18,8 +18,8 @@ ghost use Rattle.language.specs.Filling.{answer, buffer};
 ghost use Rattle.plain.specs.Bounds.{SomeMethodsStand, MethodsPassed, SomeCounted, FieldsLimited, FieldsFree, SomeClassesStand, NamesFree, limits-told, SomeChecked, Limited, PlainWritten, SomeAccepted};
 ghost use Rattle.plain.specs.Emission.{Skipped, SomeFieldLines, FieldsWritten, SomeMethods, MethodsEmitted, SomeClass, ClassEmitted, SomeClasses, ClassesEmitted, SomeProgram, ProgramWritten};
 ghost use Rattle.plain.specs.Emission.{SomeBody, BodyEmitted, SomeMethod, MethodEmitted, NodeEmitted, CastEmitted, SetEmitted, CallEmitted, BlockEmitted, NodesEmitted, ArgumentsEmitted};
+use form::Formed;
 use language::Filled;
-use limits::Formed;
 
 // The next place of the buffer and the next row of the source.
 pub struct Next {
@@ -1069,7 +1069,7 @@ fn over_limits(rows: &[u32], ends: &[u16], tables: &[u16]) -> Filled
     ensures { λ r. ⌜ Limited (now (rows .entry)) (now (ends .entry)) (now (tables .entry)) r ⌝ }
 {
     let mut scratch = [0u16; 680];
-    let formed = limits::check_form(rows, &mut scratch);
+    let formed = form::check_translatable(rows, &mut scratch);
     let line = over_fields(rows, ends, tables, 0);
     with_fields(formed, line)
 }

@@ -10,7 +10,7 @@ use Rattle.form.proofs.Nodes.{Reading, reading-start, reading-end, read
 use Rattle.form.proofs.Places.{here}
 use Rattle.form.proofs.Passes.{told-as, told-refuse, told-end}
 use Rattle.form.proofs.Lines.{ready-at, row-room}
-use Rattle.language.specs.Limits.{of-check}
+use Rattle.form.specs.Columns.{most-of}
 use Rattle.language.specs.Form.{node, locals, several}
 use Rattle.form.specs.Places.{rows-from}
 use borrow.Fn.Kinds.{In}
@@ -70,9 +70,9 @@ pass-node-refuse-row-requires : (t : ℕ) → pass-node-lts.Need-refuse-row-requ
   pass-parts-below t,
   pass-parts.Post,
 ) (pass-node-at t) pass-node.Post
-pass-node-refuse-row-requires t c κs = (c .before .before .pre .1 .0 .whole, c .before .before .pre .1 .0 .within)
+pass-node-refuse-row-requires t c κs = (c .before .before .pre .1 .0 .whole, c .before .before .pre .1 .0 .within, c .before .before .pre .1 .0 .fits)
 
-pass-node-cast-t12 : (t : ℕ) → pass-node-lts.Need-cast-t12 (
+pass-node-cast-t13 : (t : ℕ) → pass-node-lts.Need-cast-t13 (
   refuse-row-reads.Asked,
   refuse-row-reads.Learnt,
   parts-of-reads.Asked,
@@ -80,9 +80,9 @@ pass-node-cast-t12 : (t : ℕ) → pass-node-lts.Need-cast-t12 (
   pass-parts-below t,
   pass-parts.Post,
 ) (pass-node-at t) pass-node.Post
-pass-node-cast-t12 t c = omega (arith, c .before .before .before .before .pre .1 .0 .within)
+pass-node-cast-t13 t c = omega (arith, c .before .before .before .before .pre .1 .0 .within, c .before .before .before .before .pre .1 .0 .fits .rows)
 
-pass-node-add-t13 : (t : ℕ) → pass-node-lts.Need-add-t13 (
+pass-node-add-t14 : (t : ℕ) → pass-node-lts.Need-add-t14 (
   refuse-row-reads.Asked,
   refuse-row-reads.Learnt,
   parts-of-reads.Asked,
@@ -90,7 +90,7 @@ pass-node-add-t13 : (t : ℕ) → pass-node-lts.Need-add-t13 (
   pass-parts-below t,
   pass-parts.Post,
 ) (pass-node-at t) pass-node.Post
-pass-node-add-t13 t c = omega (arith, c .before .before .before .before .pre .1 .0 .within)
+pass-node-add-t14 t c = omega (arith, c .before .before .before .before .pre .1 .0 .within, c .before .before .before .before .pre .1 .0 .fits .rows)
 
 pass-node-returns : (t : ℕ) → pass-node-lts.Need-returns (
   refuse-row-reads.Asked,
@@ -100,7 +100,7 @@ pass-node-returns : (t : ℕ) → pass-node-lts.Need-returns (
   pass-parts-below t,
   pass-parts.Post,
 ) (pass-node-at t) pass-node.Post
-pass-node-returns t c = told-as (node-refused (c .before .before .before .before .args .rows .now) (c .before .before .before .before .args .at) (c .before .before .before .before .args .slots) (c .before .before .before .before .args .nesting) (c .before .refuse-row .result) (c .before .refuse-row .ensures .0) (c .if1 .taken)) (told-refuse (c .before .refuse-row .result) ((c .before .before .before .before .args .at) + 1))
+pass-node-returns t c = told-as (node-refused (c .before .before .before .before .args .limits) (c .before .before .before .before .args .rows .now) (c .before .before .before .before .args .at) (c .before .before .before .before .args .slots) (c .before .before .before .before .args .nesting) (c .before .refuse-row .result) (c .before .refuse-row .ensures .0) (c .if1 .taken)) (told-refuse (c .before .refuse-row .result) ((c .before .before .before .before .args .at) + 1))
 
 pass-node-mul-code : (t : ℕ) → pass-node-lts.Need-mul-code (
   refuse-row-reads.Asked,
@@ -110,7 +110,7 @@ pass-node-mul-code : (t : ℕ) → pass-node-lts.Need-mul-code (
   pass-parts-below t,
   pass-parts.Post,
 ) (pass-node-at t) pass-node.Post
-pass-node-mul-code t c = omega (arith, c .before .before .before .before .pre .1 .0 .within)
+pass-node-mul-code t c = omega (arith, c .before .before .before .before .pre .1 .0 .within, c .before .before .before .before .pre .1 .0 .fits .rows)
 
 pass-node-mul-code-2 : (t : ℕ) → pass-node-lts.Need-mul-code-2 (
   refuse-row-reads.Asked,
@@ -120,7 +120,7 @@ pass-node-mul-code-2 : (t : ℕ) → pass-node-lts.Need-mul-code-2 (
   pass-parts-below t,
   pass-parts.Post,
 ) (pass-node-at t) pass-node.Post
-pass-node-mul-code-2 t c = omega (arith, c .before .before .before .before .pre .1 .0 .within)
+pass-node-mul-code-2 t c = omega (arith, c .before .before .before .before .pre .1 .0 .within, c .before .before .before .before .pre .1 .0 .fits .rows)
 
 pass-node-shared-slice-read-code : (t : ℕ) → pass-node-lts.Need-shared-slice-read-code (
   refuse-row-reads.Asked,
@@ -140,7 +140,7 @@ pass-node-mul-parts-of : (t : ℕ) → pass-node-lts.Need-mul-parts-of (
   pass-parts-below t,
   pass-parts.Post,
 ) (pass-node-at t) pass-node.Post
-pass-node-mul-parts-of t c = omega (arith, c .before .before .before .before .before .pre .1 .0 .within)
+pass-node-mul-parts-of t c = omega (arith, c .before .before .before .before .before .pre .1 .0 .within, c .before .before .before .before .before .pre .1 .0 .fits .rows)
 
 pass-node-add-parts-of : (t : ℕ) → pass-node-lts.Need-add-parts-of (
   refuse-row-reads.Asked,
@@ -150,7 +150,7 @@ pass-node-add-parts-of : (t : ℕ) → pass-node-lts.Need-add-parts-of (
   pass-parts-below t,
   pass-parts.Post,
 ) (pass-node-at t) pass-node.Post
-pass-node-add-parts-of t c = omega (arith, c .before .before .before .before .before .pre .1 .0 .within)
+pass-node-add-parts-of t c = omega (arith, c .before .before .before .before .before .pre .1 .0 .within, c .before .before .before .before .before .pre .1 .0 .fits .rows)
 
 pass-node-mul-parts-of-2 : (t : ℕ) → pass-node-lts.Need-mul-parts-of-2 (
   refuse-row-reads.Asked,
@@ -160,7 +160,7 @@ pass-node-mul-parts-of-2 : (t : ℕ) → pass-node-lts.Need-mul-parts-of-2 (
   pass-parts-below t,
   pass-parts.Post,
 ) (pass-node-at t) pass-node.Post
-pass-node-mul-parts-of-2 t c = omega (arith, c .before .before .before .before .before .pre .1 .0 .within)
+pass-node-mul-parts-of-2 t c = omega (arith, c .before .before .before .before .before .pre .1 .0 .within, c .before .before .before .before .before .pre .1 .0 .fits .rows)
 
 pass-node-shared-slice-read-parts-of : (t : ℕ) → pass-node-lts.Need-shared-slice-read-parts-of (
   refuse-row-reads.Asked,
@@ -180,7 +180,7 @@ pass-node-mul-parts-of-3 : (t : ℕ) → pass-node-lts.Need-mul-parts-of-3 (
   pass-parts-below t,
   pass-parts.Post,
 ) (pass-node-at t) pass-node.Post
-pass-node-mul-parts-of-3 t c = omega (arith, c .before .before .before .before .before .before .pre .1 .0 .within)
+pass-node-mul-parts-of-3 t c = omega (arith, c .before .before .before .before .before .before .pre .1 .0 .within, c .before .before .before .before .before .before .pre .1 .0 .fits .rows)
 
 pass-node-add-parts-of-2 : (t : ℕ) → pass-node-lts.Need-add-parts-of-2 (
   refuse-row-reads.Asked,
@@ -190,7 +190,7 @@ pass-node-add-parts-of-2 : (t : ℕ) → pass-node-lts.Need-add-parts-of-2 (
   pass-parts-below t,
   pass-parts.Post,
 ) (pass-node-at t) pass-node.Post
-pass-node-add-parts-of-2 t c = omega (arith, c .before .before .before .before .before .before .pre .1 .0 .within)
+pass-node-add-parts-of-2 t c = omega (arith, c .before .before .before .before .before .before .pre .1 .0 .within, c .before .before .before .before .before .before .pre .1 .0 .fits .rows)
 
 pass-node-mul-parts-of-4 : (t : ℕ) → pass-node-lts.Need-mul-parts-of-4 (
   refuse-row-reads.Asked,
@@ -200,7 +200,7 @@ pass-node-mul-parts-of-4 : (t : ℕ) → pass-node-lts.Need-mul-parts-of-4 (
   pass-parts-below t,
   pass-parts.Post,
 ) (pass-node-at t) pass-node.Post
-pass-node-mul-parts-of-4 t c = omega (arith, c .before .before .before .before .before .before .pre .1 .0 .within)
+pass-node-mul-parts-of-4 t c = omega (arith, c .before .before .before .before .before .before .pre .1 .0 .within, c .before .before .before .before .before .before .pre .1 .0 .fits .rows)
 
 pass-node-shared-slice-read-parts-of-2 : (t : ℕ) → pass-node-lts.Need-shared-slice-read-parts-of-2 (
   refuse-row-reads.Asked,
@@ -242,7 +242,7 @@ pass-node-enum-told : (t : ℕ) → pass-node-lts.Need-enum-told (
 ) (pass-node-at t) pass-node.Post
 pass-node-enum-told t c = search needs
 
-pass-node-cast-t25 : (t : ℕ) → pass-node-lts.Need-cast-t25 (
+pass-node-cast-t26 : (t : ℕ) → pass-node-lts.Need-cast-t26 (
   refuse-row-reads.Asked,
   refuse-row-reads.Learnt,
   parts-of-reads.Asked,
@@ -250,9 +250,9 @@ pass-node-cast-t25 : (t : ℕ) → pass-node-lts.Need-cast-t25 (
   pass-parts-below t,
   pass-parts.Post,
 ) (pass-node-at t) pass-node.Post
-pass-node-cast-t25 t c = omega (arith, c .before .before .before .before .before .before .before .before .before .before .pre .1 .0 .within)
+pass-node-cast-t26 t c = omega (arith, c .before .before .before .before .before .before .before .before .before .before .pre .1 .0 .within, c .before .before .before .before .before .before .before .before .before .before .pre .1 .0 .fits .rows)
 
-pass-node-add-t26 : (t : ℕ) → pass-node-lts.Need-add-t26 (
+pass-node-add-t27 : (t : ℕ) → pass-node-lts.Need-add-t27 (
   refuse-row-reads.Asked,
   refuse-row-reads.Learnt,
   parts-of-reads.Asked,
@@ -260,7 +260,7 @@ pass-node-add-t26 : (t : ℕ) → pass-node-lts.Need-add-t26 (
   pass-parts-below t,
   pass-parts.Post,
 ) (pass-node-at t) pass-node.Post
-pass-node-add-t26 t c = omega (arith, c .before .before .before .before .before .before .before .before .before .before .pre .1 .0 .within)
+pass-node-add-t27 t c = omega (arith, c .before .before .before .before .before .before .before .before .before .before .pre .1 .0 .within, c .before .before .before .before .before .before .before .before .before .before .pre .1 .0 .fits .rows)
 
 pass-node-returns-2 : (t : ℕ) → pass-node-lts.Need-returns-2 (
   refuse-row-reads.Asked,
@@ -270,9 +270,9 @@ pass-node-returns-2 : (t : ℕ) → pass-node-lts.Need-returns-2 (
   pass-parts-below t,
   pass-parts.Post,
 ) (pass-node-at t) pass-node.Post
-pass-node-returns-2 t c = told-as (node-other (c .before .before .before .before .before .before .before .before .before .before .args .rows .now) (c .before .before .before .before .before .before .before .before .before .before .args .at) (c .before .before .before .before .before .before .before .before .before .before .args .slots) (here (c .before .before .before .before .before .before .before .before .before .before .args .rows .now) (c .before .before .before .before .before .before .before .before .before .before .args .at) (sym (c .before .before .before .before .before .before .if1 .left) ∙ c .before .before .before .before .before .before .before .refuse-row .ensures .0) (c .before .before .before .before .before .before .before .refuse-row .ensures .1 (c .before .before .before .before .before .before .if1 .left))) (c .before .before .before .before .before .before .before .before .before .before .args .nesting) (sym (c .enum-told .given .1) ∙ c .before .before .parts-of .ensures)) (told-refuse 3 ((c .before .before .before .before .before .before .before .before .before .before .args .at) + 1))
+pass-node-returns-2 t c = told-as (node-other (c .before .before .before .before .before .before .before .before .before .before .args .limits) (c .before .before .before .before .before .before .before .before .before .before .args .rows .now) (c .before .before .before .before .before .before .before .before .before .before .args .at) (c .before .before .before .before .before .before .before .before .before .before .args .slots) (here (c .before .before .before .before .before .before .before .before .before .before .args .rows .now) (c .before .before .before .before .before .before .before .before .before .before .args .at) (sym (c .before .before .before .before .before .before .if1 .left) ∙ c .before .before .before .before .before .before .before .refuse-row .ensures .0) (c .before .before .before .before .before .before .before .refuse-row .ensures .1 (c .before .before .before .before .before .before .if1 .left))) (c .before .before .before .before .before .before .before .before .before .before .args .nesting) (sym (c .enum-told .given .1) ∙ c .before .before .parts-of .ensures)) (told-refuse 3 ((c .before .before .before .before .before .before .before .before .before .before .args .at) + 1))
 
-pass-node-cast-t27 : (t : ℕ) → pass-node-lts.Need-cast-t27 (
+pass-node-cast-t28 : (t : ℕ) → pass-node-lts.Need-cast-t28 (
   refuse-row-reads.Asked,
   refuse-row-reads.Learnt,
   parts-of-reads.Asked,
@@ -280,9 +280,9 @@ pass-node-cast-t27 : (t : ℕ) → pass-node-lts.Need-cast-t27 (
   pass-parts-below t,
   pass-parts.Post,
 ) (pass-node-at t) pass-node.Post
-pass-node-cast-t27 t c = omega (arith, c .before .before .before .before .before .before .before .before .before .before .before .before .pre .1 .0 .within)
+pass-node-cast-t28 t c = omega (arith, c .before .before .before .before .before .before .before .before .before .before .before .before .pre .1 .0 .within, c .before .before .before .before .before .before .before .before .before .before .before .before .pre .1 .0 .fits .rows)
 
-pass-node-add-t28 : (t : ℕ) → pass-node-lts.Need-add-t28 (
+pass-node-add-t29 : (t : ℕ) → pass-node-lts.Need-add-t29 (
   refuse-row-reads.Asked,
   refuse-row-reads.Learnt,
   parts-of-reads.Asked,
@@ -290,7 +290,7 @@ pass-node-add-t28 : (t : ℕ) → pass-node-lts.Need-add-t28 (
   pass-parts-below t,
   pass-parts.Post,
 ) (pass-node-at t) pass-node.Post
-pass-node-add-t28 t c = omega (arith, c .before .before .before .before .before .before .before .before .before .before .before .before .pre .1 .0 .within)
+pass-node-add-t29 t c = omega (arith, c .before .before .before .before .before .before .before .before .before .before .before .before .pre .1 .0 .within, c .before .before .before .before .before .before .before .before .before .before .before .before .pre .1 .0 .fits .rows)
 
 pass-node-returns-3 : (t : ℕ) → pass-node-lts.Need-returns-3 (
   refuse-row-reads.Asked,
@@ -300,9 +300,9 @@ pass-node-returns-3 : (t : ℕ) → pass-node-lts.Need-returns-3 (
   pass-parts-below t,
   pass-parts.Post,
 ) (pass-node-at t) pass-node.Post
-pass-node-returns-3 t c = told-as (node-over (c .before .before .before .before .before .before .before .before .before .before .before .before .args .rows .now) (c .before .before .before .before .before .before .before .before .before .before .before .before .args .at) (c .before .before .before .before .before .before .before .before .before .before .before .before .args .slots) (here (c .before .before .before .before .before .before .before .before .before .before .before .before .args .rows .now) (c .before .before .before .before .before .before .before .before .before .before .before .before .args .at) (sym (c .before .before .before .before .before .before .before .before .if1 .left) ∙ c .before .before .before .before .before .before .before .before .before .refuse-row .ensures .0) (c .before .before .before .before .before .before .before .before .before .refuse-row .ensures .1 (c .before .before .before .before .before .before .before .before .if1 .left))) (sym (c .before .before .parts .given .1) ∙ c .before .before .before .before .parts-of .ensures) (c .before .before .before .before .before .before .before .before .before .before .before .before .args .nesting) (c .if2 .taken)) (told-refuse 2 ((c .before .before .before .before .before .before .before .before .before .before .before .before .args .at) + 1))
+pass-node-returns-3 t c = told-as (node-over (c .before .before .before .before .before .before .before .before .before .before .before .before .args .limits) (c .before .before .before .before .before .before .before .before .before .before .before .before .args .rows .now) (c .before .before .before .before .before .before .before .before .before .before .before .before .args .at) (c .before .before .before .before .before .before .before .before .before .before .before .before .args .slots) (here (c .before .before .before .before .before .before .before .before .before .before .before .before .args .rows .now) (c .before .before .before .before .before .before .before .before .before .before .before .before .args .at) (sym (c .before .before .before .before .before .before .before .before .if1 .left) ∙ c .before .before .before .before .before .before .before .before .before .refuse-row .ensures .0) (c .before .before .before .before .before .before .before .before .before .refuse-row .ensures .1 (c .before .before .before .before .before .before .before .before .if1 .left))) (sym (c .before .before .parts .given .1) ∙ c .before .before .before .before .parts-of .ensures) (c .before .before .before .before .before .before .before .before .before .before .before .before .args .nesting) (c .if2 .taken)) (told-refuse 2 ((c .before .before .before .before .before .before .before .before .before .before .before .before .args .at) + 1))
 
-pass-node-cast-t30 : (t : ℕ) → pass-node-lts.Need-cast-t30 (
+pass-node-cast-t31 : (t : ℕ) → pass-node-lts.Need-cast-t31 (
   refuse-row-reads.Asked,
   refuse-row-reads.Learnt,
   parts-of-reads.Asked,
@@ -310,9 +310,9 @@ pass-node-cast-t30 : (t : ℕ) → pass-node-lts.Need-cast-t30 (
   pass-parts-below t,
   pass-parts.Post,
 ) (pass-node-at t) pass-node.Post
-pass-node-cast-t30 t c = omega (arith, c .before .before .before .before .before .before .before .before .before .before .before .before .before .before .pre .1 .0 .within)
+pass-node-cast-t31 t c = omega (arith, c .before .before .before .before .before .before .before .before .before .before .before .before .before .before .pre .1 .0 .within, c .before .before .before .before .before .before .before .before .before .before .before .before .before .before .pre .1 .0 .fits .rows)
 
-pass-node-add-t31 : (t : ℕ) → pass-node-lts.Need-add-t31 (
+pass-node-add-t32 : (t : ℕ) → pass-node-lts.Need-add-t32 (
   refuse-row-reads.Asked,
   refuse-row-reads.Learnt,
   parts-of-reads.Asked,
@@ -320,7 +320,7 @@ pass-node-add-t31 : (t : ℕ) → pass-node-lts.Need-add-t31 (
   pass-parts-below t,
   pass-parts.Post,
 ) (pass-node-at t) pass-node.Post
-pass-node-add-t31 t c = omega (arith, c .before .before .before .before .before .before .before .before .before .before .before .before .before .before .pre .1 .0 .within)
+pass-node-add-t32 t c = omega (arith, c .before .before .before .before .before .before .before .before .before .before .before .before .before .before .pre .1 .0 .within, c .before .before .before .before .before .before .before .before .before .before .before .before .before .before .pre .1 .0 .fits .rows)
 
 pass-node-returns-4 : (t : ℕ) → pass-node-lts.Need-returns-4 (
   refuse-row-reads.Asked,
@@ -330,7 +330,7 @@ pass-node-returns-4 : (t : ℕ) → pass-node-lts.Need-returns-4 (
   pass-parts-below t,
   pass-parts.Post,
 ) (pass-node-at t) pass-node.Post
-pass-node-returns-4 t c = told-as (node-empty (c .before .before .before .before .before .before .before .before .before .before .before .before .before .before .args .rows .now) (c .before .before .before .before .before .before .before .before .before .before .before .before .before .before .args .at) (c .before .before .before .before .before .before .before .before .before .before .before .before .before .before .args .slots) (here (c .before .before .before .before .before .before .before .before .before .before .before .before .before .before .args .rows .now) (c .before .before .before .before .before .before .before .before .before .before .before .before .before .before .args .at) (sym (c .before .before .before .before .before .before .before .before .before .before .if1 .left) ∙ c .before .before .before .before .before .before .before .before .before .before .before .refuse-row .ensures .0) (c .before .before .before .before .before .before .before .before .before .before .before .refuse-row .ensures .1 (c .before .before .before .before .before .before .before .before .before .before .if1 .left))) (sym (c .before .before .before .before .parts .given .1) ∙ c .before .before .before .before .before .before .parts-of .ensures) (c .before .before .before .before .before .before .before .before .before .before .before .before .before .before .args .nesting) (c .before .before .if2 .left) (c .before .if3 .taken) (c .if4 .taken)) (told-refuse 3 ((c .before .before .before .before .before .before .before .before .before .before .before .before .before .before .args .at) + 1))
+pass-node-returns-4 t c = told-as (node-empty (c .before .before .before .before .before .before .before .before .before .before .before .before .before .before .args .limits) (c .before .before .before .before .before .before .before .before .before .before .before .before .before .before .args .rows .now) (c .before .before .before .before .before .before .before .before .before .before .before .before .before .before .args .at) (c .before .before .before .before .before .before .before .before .before .before .before .before .before .before .args .slots) (here (c .before .before .before .before .before .before .before .before .before .before .before .before .before .before .args .rows .now) (c .before .before .before .before .before .before .before .before .before .before .before .before .before .before .args .at) (sym (c .before .before .before .before .before .before .before .before .before .before .if1 .left) ∙ c .before .before .before .before .before .before .before .before .before .before .before .refuse-row .ensures .0) (c .before .before .before .before .before .before .before .before .before .before .before .refuse-row .ensures .1 (c .before .before .before .before .before .before .before .before .before .before .if1 .left))) (sym (c .before .before .before .before .parts .given .1) ∙ c .before .before .before .before .before .before .parts-of .ensures) (c .before .before .before .before .before .before .before .before .before .before .before .before .before .before .args .nesting) (c .before .before .if2 .left) (c .before .if3 .taken) (c .if4 .taken)) (told-refuse 3 ((c .before .before .before .before .before .before .before .before .before .before .before .before .before .before .args .at) + 1))
 
 pass-node-add-ends : (t : ℕ) → pass-node-lts.Need-add-ends (
   refuse-row-reads.Asked,
@@ -340,7 +340,7 @@ pass-node-add-ends : (t : ℕ) → pass-node-lts.Need-add-ends (
   pass-parts-below t,
   pass-parts.Post,
 ) (pass-node-at t) pass-node.Post
-pass-node-add-ends t c = omega (arith, c .before .before .before .before .before .before .before .before .before .before .before .before .before .before .pre .1 .0 .within)
+pass-node-add-ends t c = omega (arith, c .before .before .before .before .before .before .before .before .before .before .before .before .before .before .pre .1 .0 .within, c .before .before .before .before .before .before .before .before .before .before .before .before .before .before .pre .1 .0 .fits .rows)
 
 pass-node-cast-ends : (t : ℕ) → pass-node-lts.Need-cast-ends (
   refuse-row-reads.Asked,
@@ -350,7 +350,7 @@ pass-node-cast-ends : (t : ℕ) → pass-node-lts.Need-cast-ends (
   pass-parts-below t,
   pass-parts.Post,
 ) (pass-node-at t) pass-node.Post
-pass-node-cast-ends t c = omega (arith, c .before .before .before .before .before .before .before .before .before .before .before .before .before .before .pre .1 .0 .within)
+pass-node-cast-ends t c = omega (arith, c .before .before .before .before .before .before .before .before .before .before .before .before .before .before .pre .1 .0 .within, c .before .before .before .before .before .before .before .before .before .before .before .before .before .before .pre .1 .0 .fits .rows)
 
 pass-node-mul-ends : (t : ℕ) → pass-node-lts.Need-mul-ends (
   refuse-row-reads.Asked,
@@ -360,7 +360,7 @@ pass-node-mul-ends : (t : ℕ) → pass-node-lts.Need-mul-ends (
   pass-parts-below t,
   pass-parts.Post,
 ) (pass-node-at t) pass-node.Post
-pass-node-mul-ends t c = omega (arith, c .before .before .before .before .before .before .before .before .before .before .before .before .before .before .pre .1 .0 .within)
+pass-node-mul-ends t c = omega (arith, c .before .before .before .before .before .before .before .before .before .before .before .before .before .before .pre .1 .0 .within, c .before .before .before .before .before .before .before .before .before .before .before .before .before .before .pre .1 .0 .fits .rows)
 
 pass-node-slice-write-ends : (t : ℕ) → pass-node-lts.Need-slice-write-ends (
   refuse-row-reads.Asked,
@@ -372,7 +372,7 @@ pass-node-slice-write-ends : (t : ℕ) → pass-node-lts.Need-slice-write-ends (
 ) (pass-node-at t) pass-node.Post
 pass-node-slice-write-ends t c = row-room (c .before .before .before .before .before .before .before .before .before .before .before .before .before .before .pre .1 .0) (c .before .before .before .before .before .before .before .before .before .before .before .before .before .before .args .at) (c .before .before .before .before .before .before .before .before .before .before .before .refuse-row .ensures .1 (c .before .before .before .before .before .before .before .before .before .before .if1 .left))
 
-pass-node-add-t32 : (t : ℕ) → pass-node-lts.Need-add-t32 (
+pass-node-add-t33 : (t : ℕ) → pass-node-lts.Need-add-t33 (
   refuse-row-reads.Asked,
   refuse-row-reads.Learnt,
   parts-of-reads.Asked,
@@ -380,7 +380,7 @@ pass-node-add-t32 : (t : ℕ) → pass-node-lts.Need-add-t32 (
   pass-parts-below t,
   pass-parts.Post,
 ) (pass-node-at t) pass-node.Post
-pass-node-add-t32 t c = omega (arith, c .before .before .before .before .before .before .before .before .before .before .before .before .before .before .pre .1 .0 .within)
+pass-node-add-t33 t c = omega (arith, c .before .before .before .before .before .before .before .before .before .before .before .before .before .before .pre .1 .0 .within, c .before .before .before .before .before .before .before .before .before .before .before .before .before .before .pre .1 .0 .fits .rows)
 
 pass-node-same-length : (t : ℕ) → pass-node-lts.Need-same-length (
   refuse-row-reads.Asked,
@@ -400,7 +400,7 @@ pass-node-returns-5 : (t : ℕ) → pass-node-lts.Need-returns-5 (
   pass-parts-below t,
   pass-parts.Post,
 ) (pass-node-at t) pass-node.Post
-pass-node-returns-5 t c = node-leaf (c .before .before .before .before .before .before .before .before .before .before .before .before .before .before .args .rows .now) (c .before .before .before .before .before .before .before .before .before .before .before .before .before .before .args .at) (c .before .before .before .before .before .before .before .before .before .before .before .before .before .before .args .slots) (here (c .before .before .before .before .before .before .before .before .before .before .before .before .before .before .args .rows .now) (c .before .before .before .before .before .before .before .before .before .before .before .before .before .before .args .at) (sym (c .before .before .before .before .before .before .before .before .before .before .if1 .left) ∙ c .before .before .before .before .before .before .before .before .before .before .before .refuse-row .ensures .0) (c .before .before .before .before .before .before .before .before .before .before .before .refuse-row .ensures .1 (c .before .before .before .before .before .before .before .before .before .before .if1 .left))) (sym (c .before .before .before .before .parts .given .1) ∙ c .before .before .before .before .before .before .parts-of .ensures) (c .before .before .before .before .before .before .before .before .before .before .before .before .before .before .args .nesting) (c .before .before .before .before .before .before .before .before .before .before .before .refuse-row .ensures .1 (c .before .before .before .before .before .before .before .before .before .before .if1 .left)) (c .before .before .if2 .left) (c .before .if3 .taken) (c .if4 .left)
+pass-node-returns-5 t c = node-leaf (c .before .before .before .before .before .before .before .before .before .before .before .before .before .before .args .limits) (c .before .before .before .before .before .before .before .before .before .before .before .before .before .before .args .rows .now) (c .before .before .before .before .before .before .before .before .before .before .before .before .before .before .args .at) (c .before .before .before .before .before .before .before .before .before .before .before .before .before .before .args .slots) (here (c .before .before .before .before .before .before .before .before .before .before .before .before .before .before .args .rows .now) (c .before .before .before .before .before .before .before .before .before .before .before .before .before .before .args .at) (sym (c .before .before .before .before .before .before .before .before .before .before .if1 .left) ∙ c .before .before .before .before .before .before .before .before .before .before .before .refuse-row .ensures .0) (c .before .before .before .before .before .before .before .before .before .before .before .refuse-row .ensures .1 (c .before .before .before .before .before .before .before .before .before .before .if1 .left))) (sym (c .before .before .before .before .parts .given .1) ∙ c .before .before .before .before .before .before .parts-of .ensures) (c .before .before .before .before .before .before .before .before .before .before .before .before .before .before .args .nesting) (c .before .before .before .before .before .before .before .before .before .before .before .refuse-row .ensures .1 (c .before .before .before .before .before .before .before .before .before .before .if1 .left)) (c .before .before .if2 .left) (c .before .if3 .taken) (c .if4 .left)
 
 pass-node-sub-pass-parts : (t : ℕ) → pass-node-lts.Need-sub-pass-parts (
   refuse-row-reads.Asked,
@@ -410,7 +410,7 @@ pass-node-sub-pass-parts : (t : ℕ) → pass-node-lts.Need-sub-pass-parts (
   pass-parts-below t,
   pass-parts.Post,
 ) (pass-node-at t) pass-node.Post
-pass-node-sub-pass-parts t c = omega (arith, c .before .before .before .before .before .before .before .before .before .before .before .before .before .before .pre .1 .0 .within)
+pass-node-sub-pass-parts t c = omega (arith, c .before .before .before .before .before .before .before .before .before .before .before .before .before .before .pre .1 .0 .within, c .before .before .before .before .before .before .before .before .before .before .before .before .before .before .pre .1 .0 .fits .rows)
 
 pass-node-pass-parts-requires : (t : ℕ) → pass-node-lts.Need-pass-parts-requires (
   refuse-row-reads.Asked,
@@ -440,19 +440,19 @@ pass-node-returns-6 : (t : ℕ) → pass-node-lts.Need-returns-6 (
   pass-parts-below t,
   pass-parts.Post,
 ) (pass-node-at t) pass-node.Post
-pass-node-returns-6 t c = node-parts (c .before .before .before .before .before .before .before .before .before .before .before .before .before .before .before .before .before .args .rows .now) (c .before .before .before .before .before .before .before .before .before .before .before .before .before .before .before .before .before .args .at) (c .before .before .before .before .before .before .before .before .before .before .before .before .before .before .before .before .before .args .slots) (here (c .before .before .before .before .before .before .before .before .before .before .before .before .before .before .before .before .before .args .rows .now) (c .before .before .before .before .before .before .before .before .before .before .before .before .before .before .before .before .before .args .at) (sym (c .before .before .before .before .before .before .before .before .before .before .before .before .before .if1 .left) ∙ c .before .before .before .before .before .before .before .before .before .before .before .before .before .before .refuse-row .ensures .0) (c .before .before .before .before .before .before .before .before .before .before .before .before .before .before .refuse-row .ensures .1 (c .before .before .before .before .before .before .before .before .before .before .before .before .before .if1 .left))) (sym (c .before .before .before .before .before .before .before .parts .given .1) ∙ c .before .before .before .before .before .before .before .before .before .parts-of .ensures) (c .before .before .before .before .before .before .before .before .before .before .before .before .before .before .before .before .before .args .nesting) (c .before .before .before .before .before .if2 .left) (c .before .before .before .before .if3 .left) (c .before .before .pass-parts .ensures)
+pass-node-returns-6 t c = node-parts (c .before .before .before .before .before .before .before .before .before .before .before .before .before .before .before .before .before .args .limits) (c .before .before .before .before .before .before .before .before .before .before .before .before .before .before .before .before .before .args .rows .now) (c .before .before .before .before .before .before .before .before .before .before .before .before .before .before .before .before .before .args .at) (c .before .before .before .before .before .before .before .before .before .before .before .before .before .before .before .before .before .args .slots) (here (c .before .before .before .before .before .before .before .before .before .before .before .before .before .before .before .before .before .args .rows .now) (c .before .before .before .before .before .before .before .before .before .before .before .before .before .before .before .before .before .args .at) (sym (c .before .before .before .before .before .before .before .before .before .before .before .before .before .if1 .left) ∙ c .before .before .before .before .before .before .before .before .before .before .before .before .before .before .refuse-row .ensures .0) (c .before .before .before .before .before .before .before .before .before .before .before .before .before .before .refuse-row .ensures .1 (c .before .before .before .before .before .before .before .before .before .before .before .before .before .if1 .left))) (sym (c .before .before .before .before .before .before .before .parts .given .1) ∙ c .before .before .before .before .before .before .before .before .before .parts-of .ensures) (c .before .before .before .before .before .before .before .before .before .before .before .before .before .before .before .before .before .args .nesting) (c .before .before .before .before .before .if2 .left) (c .before .before .before .before .if3 .left) (c .before .before .pass-parts .ensures)
 
 abbrev pass-nodes-Inv-loop : pass-nodes-lts.InvT-loop
-pass-nodes-Inv-loop rows ends₀ at nesting slots count i₀ left₀ ends i left = Reading rows ends₀ ends (λ at rs. node of-check nesting slots at rs) at count i left
+pass-nodes-Inv-loop rows ends₀ at nesting slots count limits i₀ left₀ ends i left = Reading limits rows ends₀ ends (λ at rs. node (most-of limits) nesting slots at rs) at count i left
 
 abbrev pass-nodes-μ-loop : pass-nodes-lts.MeasureT-loop
-pass-nodes-μ-loop rows ends₀ at nesting slots count i₀ left₀ ends i left = left
+pass-nodes-μ-loop rows ends₀ at nesting slots count limits i₀ left₀ ends i left = left
 
 pass-nodes-loop-holds : (t : ℕ) → pass-nodes-lts.Need-loop-holds (
   pass-node-below t,
   pass-node.Post,
 ) (pass-nodes-at t) pass-nodes.Post pass-nodes-Inv-loop pass-nodes-μ-loop
-pass-nodes-loop-holds t c = reading-start (λ at rs. node of-check (c .before .before .args .nesting) (c .before .before .args .slots) at rs) (c .before .before .args .count) (c .before .before .pre .1 .0)
+pass-nodes-loop-holds t c = reading-start (λ at rs. node (most-of (c .before .before .args .limits)) (c .before .before .args .nesting) (c .before .before .args .slots) at rs) (c .before .before .args .count) (c .before .before .pre .1 .0)
 
 pass-nodes-pass-node-requires : (t : ℕ) → pass-nodes-lts.Need-pass-node-requires (
   pass-node-below t,
@@ -540,7 +540,7 @@ pass-parts-add-pass-locals : (t : ℕ) → pass-parts-lts.Need-add-pass-locals (
   pass-nodes-below t,
   pass-nodes.Post,
 ) (pass-parts-at t) pass-parts.Post
-pass-parts-add-pass-locals t c = omega (arith, c .before .before .before .pre .1 .0 .within)
+pass-parts-add-pass-locals t c = omega (arith, c .before .before .before .pre .1 .0 .within, c .before .before .before .pre .1 .0 .fits .rows)
 
 pass-parts-pass-locals-requires : (t : ℕ) → pass-parts-lts.Need-pass-locals-requires (
   pass-locals-reads.Asked,
@@ -596,7 +596,7 @@ pass-parts-pass-nodes-requires : (t : ℕ) → pass-parts-lts.Need-pass-nodes-re
   pass-nodes-below t,
   pass-nodes.Post,
 ) (pass-parts-at t) pass-parts.Post
-pass-parts-pass-nodes-requires t c κs = (omega arith, (told-end (locals of-check (c .before .before .before .before .before .before .before .before .before .before .args .variables) (c .before .before .before .before .before .before .before .before .before .before .args .slots) ((c .before .before .before .before .before .before .before .before .before .before .args .at) + 1 + 1) (rows-from (c .before .before .before .before .before .before .before .before .before .before .args .rows .now) ((c .before .before .before .before .before .before .before .before .before .before .args .at) + 1))) (c .before .before .before .before .before .before .pass-locals .ensures .0) (c .before .before .l .given .1) λ ts x y w o z. ready-at (c .before .before .l .given .0 .0) (c .before .before .before .before .before .before .before .before .before .before .pre .1 .0) (c .before .before .before .before .before .before .pass-locals .kept .1 .0) w o, c .before .before .before .before .before .before .pass-locals .ensures .1 (c .before .before .l .given .0 .0) (c .before .before .l .given .1)))
+pass-parts-pass-nodes-requires t c κs = (omega arith, (told-end (locals (most-of (c .before .before .before .before .before .before .before .before .before .before .args .limits)) (c .before .before .before .before .before .before .before .before .before .before .args .variables) (c .before .before .before .before .before .before .before .before .before .before .args .slots) ((c .before .before .before .before .before .before .before .before .before .before .args .at) + 1 + 1) (rows-from (c .before .before .before .before .before .before .before .before .before .before .args .rows .now) ((c .before .before .before .before .before .before .before .before .before .before .args .at) + 1))) (c .before .before .before .before .before .before .pass-locals .ensures .0) (c .before .before .l .given .1) λ ts x y w o z. ready-at (c .before .before .l .given .0 .0) (c .before .before .before .before .before .before .before .before .before .before .pre .1 .0) (c .before .before .before .before .before .before .pass-locals .kept .1 .0) w o, c .before .before .before .before .before .before .pass-locals .ensures .1 (c .before .before .l .given .0 .0) (c .before .before .l .given .1)))
 
 pass-parts-enum-known-r : (t : ℕ) → pass-parts-lts.Need-enum-known-r (
   pass-locals-reads.Asked,
@@ -636,7 +636,7 @@ pass-parts-cast-ends : (t : ℕ) → pass-parts-lts.Need-cast-ends (
   pass-nodes-below t,
   pass-nodes.Post,
 ) (pass-parts-at t) pass-parts.Post
-pass-parts-cast-ends t c = told-end (several (λ at rs. node of-check (c .before .before .before .before .before .before .before .before .before .before .before .before .before .before .before .before .args .nesting) ((c .before .before .before .before .before .before .before .before .before .before .before .before .before .before .before .before .args .slots) + (c .before .before .before .before .before .before .before .before .before .before .before .before .before .before .before .before .args .variables)) at rs) (c .before .before .before .before .before .before .before .before .before .before .before .before .before .before .before .before .args .children) ((c .before .before .before .before .before .before .before .before .l .given .0 .0) + 1) (rows-from (c .before .before .before .before .before .before .before .before .before .before .before .before .before .before .before .before .args .rows .now) (c .before .before .before .before .before .before .before .before .l .given .0 .0))) (c .before .before .before .before .before .pass-nodes .ensures) (c .before .r .given .1) λ es x y w o z. omega (arith, w)
+pass-parts-cast-ends t c = told-end (several (λ at rs. node (most-of (c .before .before .before .before .before .before .before .before .before .before .before .before .before .before .before .before .args .limits)) (c .before .before .before .before .before .before .before .before .before .before .before .before .before .before .before .before .args .nesting) ((c .before .before .before .before .before .before .before .before .before .before .before .before .before .before .before .before .args .slots) + (c .before .before .before .before .before .before .before .before .before .before .before .before .before .before .before .before .args .variables)) at rs) (c .before .before .before .before .before .before .before .before .before .before .before .before .before .before .before .before .args .children) ((c .before .before .before .before .before .before .before .before .l .given .0 .0) + 1) (rows-from (c .before .before .before .before .before .before .before .before .before .before .before .before .before .before .before .before .args .rows .now) (c .before .before .before .before .before .before .before .before .l .given .0 .0))) (c .before .before .before .before .before .pass-nodes .ensures) (c .before .r .given .1) λ es x y w o z. omega (arith, w)
 
 pass-parts-mul-ends : (t : ℕ) → pass-parts-lts.Need-mul-ends (
   pass-locals-reads.Asked,
@@ -644,7 +644,7 @@ pass-parts-mul-ends : (t : ℕ) → pass-parts-lts.Need-mul-ends (
   pass-nodes-below t,
   pass-nodes.Post,
 ) (pass-parts-at t) pass-parts.Post
-pass-parts-mul-ends t c = omega (arith, c .before .before .before .before .before .before .before .before .before .before .before .before .before .before .before .before .pre .1 .0 .within)
+pass-parts-mul-ends t c = omega (arith, c .before .before .before .before .before .before .before .before .before .before .before .before .before .before .before .before .pre .1 .0 .within, c .before .before .before .before .before .before .before .before .before .before .before .before .before .before .before .before .pre .1 .0 .fits .rows)
 
 pass-parts-slice-write-ends : (t : ℕ) → pass-parts-lts.Need-slice-write-ends (
   pass-locals-reads.Asked,
@@ -683,8 +683,8 @@ pub +pass-node+pass-nodes+pass-parts-spec : {M : Type 1} → statement M
     (pass-node-at t)
     pass-node.Post
     (pass-node-refuse-row-requires t)
-    (pass-node-cast-t12 t)
-    (pass-node-add-t13 t)
+    (pass-node-cast-t13 t)
+    (pass-node-add-t14 t)
     (pass-node-returns t)
     (pass-node-mul-code t)
     (pass-node-mul-code-2 t)
@@ -700,20 +700,20 @@ pub +pass-node+pass-nodes+pass-parts-spec : {M : Type 1} → statement M
     (pass-node-parts-of-requires t)
     (pass-node-enum-known-parts t)
     (pass-node-enum-told t)
-    (pass-node-cast-t25 t)
-    (pass-node-add-t26 t)
+    (pass-node-cast-t26 t)
+    (pass-node-add-t27 t)
     (pass-node-returns-2 t)
-    (pass-node-cast-t27 t)
-    (pass-node-add-t28 t)
+    (pass-node-cast-t28 t)
+    (pass-node-add-t29 t)
     (pass-node-returns-3 t)
-    (pass-node-cast-t30 t)
-    (pass-node-add-t31 t)
+    (pass-node-cast-t31 t)
+    (pass-node-add-t32 t)
     (pass-node-returns-4 t)
     (pass-node-add-ends t)
     (pass-node-cast-ends t)
     (pass-node-mul-ends t)
     (pass-node-slice-write-ends t)
-    (pass-node-add-t32 t)
+    (pass-node-add-t33 t)
     (pass-node-same-length t)
     (pass-node-returns-5 t)
     (pass-node-sub-pass-parts t)

@@ -1,90 +1,17 @@
--- The pass: between two classes, the classes read so far and what is left. Assumes nothing.
-use mathlib.Core.Path.{sym, _∙_}
-use Prim.Native.Nat.{_+_, _-_}
+-- The pass under the limits of a checked program: they fit, and they are that column of the table. Assumes nothing.
 use native.Mathlib.Omega.{arith}
 use borrow.Author.Needs.{needs}
-use Rattle.form.proofs.Start.{form-failed, form-done}
-use Rattle.form.proofs.Classes.{Classing, classing-start, classing-over, classing-stop, classing-less, classing-step, classing-end}
 use Rattle.form.proofs.check_form.Statement.{statement}
 use Rattle.form.proofs.check_form.Tie as tie
 
-abbrev Inv-loop : tie.InvT-loop
-Inv-loop rows ends₀ i₀ classes₀ ends i classes = Classing rows ends₀ ends i classes
+pass-form-requires : tie.Need-pass-form-requires
+pass-form-requires c κs = (c .before .before .before .pre .0, c .before .before .before .pre .1, record { rows = omega arith; slots = omega arith })
 
-abbrev μ-loop : tie.MeasureT-loop
-μ-loop rows ends₀ i₀ classes₀ ends i classes = 60001 - i
+same-length : tie.Need-same-length
+same-length c = search needs
 
-loop-holds : tie.Need-loop-holds Inv-loop μ-loop
-loop-holds c = classing-start (c .before .before .args .rows .now) (c .before .before .args .ends .now) (record { whole = c .before .before .pre .0; room = c .before .before .pre .1; within = omega arith; inside = omega arith })
-
-is-letter-requires : tie.Need-is-letter-requires Inv-loop μ-loop
-is-letter-requires c κs = (c .loop .inv .ready .whole, c .loop .inv .ready .within)
-
-cast-t11 : tie.Need-cast-t11 Inv-loop μ-loop
-cast-t11 c = omega (arith, c .before .before .before .loop .inv .ready .within)
-
-add-t12 : tie.Need-add-t12 Inv-loop μ-loop
-add-t12 c = omega (arith, c .before .before .before .loop .inv .ready .within)
-
-same-length : tie.Need-same-length Inv-loop μ-loop
-same-length c = c .before .before .before .loop .inv .long
-
-returns : tie.Need-returns Inv-loop μ-loop
-returns c = form-failed (c .before .before .before .before .before .before .args .rows .now) (c .before .before .before .before .before .before .args .ends .now) 2 ((c .before .before .before .loop .i) + 1) (classing-over (c .before .before .before .loop .inv) (c .before .before .is-letter .ensures .1 (c .before .if1 .taken)) (sym (c .before .before .is-letter .ensures .0) ∙ c .before .if1 .taken) (c .if2 .taken))
-
-pass-class-requires : tie.Need-pass-class-requires Inv-loop μ-loop
-pass-class-requires c κs = (c .before .before .before .before .loop .inv .ready, (c .before .before .before .is-letter .ensures .1 (c .before .before .if1 .taken)))
-
-enum-known-r : tie.Need-enum-known-r Inv-loop μ-loop
-enum-known-r c = search needs
-
-add-classes : tie.Need-add-classes Inv-loop μ-loop
-add-classes c = omega (arith, c .before .before .before .before .before .before .before .if2 .left)
-
-loop-less : tie.Need-loop-less Inv-loop μ-loop
-loop-less c = omega (arith, classing-less (c .before .before .before .before .before .before .before .before .before .before .loop .inv) (c .before .before .before .before .before .before .before .before .before .is-letter .ensures .1 (c .before .before .before .before .before .before .before .before .if1 .taken)) (sym (c .before .before .before .before .before .before .before .before .before .is-letter .ensures .0) ∙ c .before .before .before .before .before .before .before .before .if1 .taken) (c .before .before .before .before .before .before .before .if2 .left) (c .before .before .before .before .before .pass-class .ensures) (c .before .r .given .1), (c .before .before .before .before .before .before .before .before .before .is-letter .ensures .1 (c .before .before .before .before .before .before .before .before .if1 .taken)) .0)
-
-loop-again : tie.Need-loop-again Inv-loop μ-loop
-loop-again c = classing-step (c .before .before .before .before .before .before .before .before .before .before .loop .inv) (c .before .before .before .before .before .before .before .before .before .is-letter .ensures .1 (c .before .before .before .before .before .before .before .before .if1 .taken)) (sym (c .before .before .before .before .before .before .before .before .before .is-letter .ensures .0) ∙ c .before .before .before .before .before .before .before .before .if1 .taken) (c .before .before .before .before .before .before .before .if2 .left) (c .before .before .before .before .before .pass-class .ensures) (c .before .r .given .1) (c .before .before .before .before .before .pass-class .kept .1 .0)
-
-enum-known-r-2 : tie.Need-enum-known-r-2 Inv-loop μ-loop
-enum-known-r-2 c = search needs
-
-same-length-2 : tie.Need-same-length-2 Inv-loop μ-loop
-same-length-2 c = c .before .before .before .before .before .pass-class .kept .1 .0 ∙ c .before .before .before .before .before .before .before .before .before .before .loop .inv .long
-
-returns-2 : tie.Need-returns-2 Inv-loop μ-loop
-returns-2 c = form-failed (c .before .before .before .before .before .before .before .before .before .before .before .before .before .args .rows .now) (c .before .before .before .before .before .before .before .before .before .before .before .before .before .args .ends .now) (c .before .r2 .given .0 .0) (c .before .r2 .given .0 .1 .0) (classing-stop (c .before .before .before .before .before .before .before .before .before .before .loop .inv) (c .before .before .before .before .before .before .before .before .before .is-letter .ensures .1 (c .before .before .before .before .before .before .before .before .if1 .taken)) (sym (c .before .before .before .before .before .before .before .before .before .is-letter .ensures .0) ∙ c .before .before .before .before .before .before .before .before .if1 .taken) (c .before .before .before .before .before .before .before .if2 .left) (c .before .before .before .before .before .pass-class .ensures) (c .before .r2 .given .1))
-
-pass-start-requires : tie.Need-pass-start-requires Inv-loop μ-loop
-pass-start-requires c κs = c .before .before .before .loop .inv .ready
-
-same-length-3 : tie.Need-same-length-3 Inv-loop μ-loop
-same-length-3 c = c .before .before .pass-start .kept .1 .0 ∙ c .before .before .before .before .before .before .loop .inv .long
-
-returns-3 : tie.Need-returns-3 Inv-loop μ-loop
-returns-3 c = form-done (c .before .before .before .before .before .before .before .before .before .args .rows .now) (c .before .before .before .before .before .before .before .before .before .args .ends .now) (classing-end (c .before .before .before .before .before .before .loop .inv) (sym (c .before .before .before .before .before .is-letter .ensures .0) ∙ c .before .before .before .before .if1 .left)) (c .before .before .before .before .before .before .loop .inv .long) (c .before .before .pass-start .ensures)
+returns : tie.Need-returns
+returns c = c .before .before .pass-form .ensures
 
 pub check-form-spec : {M : Type 1} → statement M
-check-form-spec =
-    tie.close
-    (tie.spec
-    Inv-loop
-    μ-loop
-    loop-holds
-    is-letter-requires
-    cast-t11
-    add-t12
-    same-length
-    returns
-    pass-class-requires
-    enum-known-r
-    add-classes
-    loop-less
-    loop-again
-    enum-known-r-2
-    same-length-2
-    returns-2
-    pass-start-requires
-    same-length-3
-    returns-3)
+check-form-spec = tie.close (tie.spec pass-form-requires same-length returns)

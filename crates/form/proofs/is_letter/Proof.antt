@@ -13,7 +13,7 @@ refuse-row-requires : tie.Need-refuse-row-requires
 refuse-row-requires c κs = search needs
 
 returns : tie.Need-returns
-returns c = (standing-refused (c .before .before .before .args .rows .now) (c .before .before .before .args .at) (c .before .refuse-row .result) (c .before .before .before .args .letter) (c .before .refuse-row .ensures .0) (c .if1 .taken), λ e. absurd (false≢true e))
+returns c = (standing-refused (c .before .before .before .args .limits) (c .before .before .before .args .rows .now) (c .before .before .before .args .at) (c .before .refuse-row .result) (c .before .before .before .args .letter) (c .before .refuse-row .ensures .0) (c .if1 .taken), λ e. absurd (false≢true e))
 
 mul-result : tie.Need-mul-result
 mul-result c = search needs

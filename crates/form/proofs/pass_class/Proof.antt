@@ -6,7 +6,7 @@ use lib.ListN.{length, length-set}
 use borrow.Author.Needs.{needs}
 use Rattle.form.specs.Places.{rows-from}
 use Rattle.language.specs.Form.{methods}
-use Rattle.language.specs.Limits.{of-check}
+use Rattle.form.specs.Columns.{most-of}
 use Rattle.form.proofs.Lines.{ready-at, row-room}
 use Rattle.form.proofs.Passes.{told-end}
 use Rattle.form.proofs.Classes.{class-stop, class-close}
@@ -32,10 +32,10 @@ same-length : tie.Need-same-length
 same-length c = c .before .before .before .before .pass-methods .kept .1 .0 ∙ c .before .before .before .before .before .before .before .before .pass-lines .kept .1 .0
 
 returns : tie.Need-returns
-returns c = λ x. class-stop (c .before .before .before .before .before .before .before .before .before .before .before .before .args .rows .now) (c .before .before .before .before .before .before .before .before .before .before .before .before .args .at) x (c .before .before .before .before .before .before .before .before .pass-lines .result) (c .before .before .before .before .before .before .before .before .pass-lines .ensures .0) (c .before .before .before .before .pass-methods .ensures) (c .enum-told .given .1)
+returns c = λ x. class-stop (c .before .before .before .before .before .before .before .before .before .before .before .before .args .limits) (c .before .before .before .before .before .before .before .before .before .before .before .before .args .rows .now) (c .before .before .before .before .before .before .before .before .before .before .before .before .args .at) x (c .before .before .before .before .before .before .before .before .pass-lines .result) (c .before .before .before .before .before .before .before .before .pass-lines .ensures .0) (c .before .before .before .before .pass-methods .ensures) (c .enum-told .given .1)
 
 cast-ends : tie.Need-cast-ends
-cast-ends c = told-end (methods of-check (length (rows-from (c .before .before .before .before .before .before .before .before .before .before .before .before .before .args .rows .now) (c .before .before .before .before .before .before .before .before .before .pass-lines .result))) ((c .before .before .before .before .before .before .before .before .before .pass-lines .result) + 1) (rows-from (c .before .before .before .before .before .before .before .before .before .before .before .before .before .args .rows .now) (c .before .before .before .before .before .before .before .before .before .pass-lines .result))) (c .before .before .before .before .before .pass-methods .ensures (length (rows-from (c .before .before .before .before .before .before .before .before .before .before .before .before .before .args .rows .now) (c .before .before .before .before .before .before .before .before .before .pass-lines .result))) (omega arith)) (c .before .r .given .1) λ e x y w o z. omega (arith, w)
+cast-ends c = told-end (methods (most-of (c .before .before .before .before .before .before .before .before .before .before .before .before .before .args .limits)) (length (rows-from (c .before .before .before .before .before .before .before .before .before .before .before .before .before .args .rows .now) (c .before .before .before .before .before .before .before .before .before .pass-lines .result))) ((c .before .before .before .before .before .before .before .before .before .pass-lines .result) + 1) (rows-from (c .before .before .before .before .before .before .before .before .before .before .before .before .before .args .rows .now) (c .before .before .before .before .before .before .before .before .before .pass-lines .result))) (c .before .before .before .before .before .pass-methods .ensures (length (rows-from (c .before .before .before .before .before .before .before .before .before .before .before .before .before .args .rows .now) (c .before .before .before .before .before .before .before .before .before .pass-lines .result))) (omega arith)) (c .before .r .given .1) λ e x y w o z. omega (arith, w)
 
 mul-ends : tie.Need-mul-ends
 mul-ends c = omega (arith, (c .before .before .before .before .before .before .before .before .before .before .before .before .before .pre .1) .0)
@@ -47,7 +47,7 @@ same-length-2 : tie.Need-same-length-2
 same-length-2 c = simp length-set (c .before .before .before .before .before .pass-methods .kept .1 .0 ∙ c .before .before .before .before .before .before .before .before .before .pass-lines .kept .1 .0)
 
 returns-2 : tie.Need-returns-2
-returns-2 c = λ x. class-close (c .before .before .before .before .before .before .before .before .before .before .before .before .before .args .rows .now) (c .before .before .before .before .before .before .before .before .before .before .before .before .before .args .at) x (c .before .before .before .before .before .before .before .before .before .pass-lines .result) (c .before .before .before .before .before .before .before .before .before .pass-lines .ensures .0) (c .before .before .before .before .before .pass-methods .ensures) (c .before .before .before .before .before .before .before .before .before .pass-lines .ensures .1) (c .before .r .given .1)
+returns-2 c = λ x. class-close (c .before .before .before .before .before .before .before .before .before .before .before .before .before .args .limits) (c .before .before .before .before .before .before .before .before .before .before .before .before .before .args .rows .now) (c .before .before .before .before .before .before .before .before .before .before .before .before .before .args .at) x (c .before .before .before .before .before .before .before .before .before .pass-lines .result) (c .before .before .before .before .before .before .before .before .before .pass-lines .ensures .0) (c .before .before .before .before .before .pass-methods .ensures) (c .before .before .before .before .before .before .before .before .before .pass-lines .ensures .1) (c .before .r .given .1)
 
 pub pass-class-spec : {M : Type 1} → statement M
 pass-class-spec =

@@ -1,6 +1,6 @@
 -- Lines of a letter: between two of them, how many are left and what is left to write. Assumes nothing.
 use mathlib.Core.Path.{sym, _∙_}
-use Prim.Native.Nat.{_-_}
+use Prim.Native.Nat.{_+_, _-_}
 use native.Mathlib.Omega.{arith}
 use borrow.Author.Needs.{needs}
 use Rattle.form.proofs.Lines.{Passing, passing-start, passing-step, passing-end, row-room}
@@ -8,22 +8,22 @@ use Rattle.form.proofs.pass_lines.Statement.{statement}
 use Rattle.form.proofs.pass_lines.Tie as tie
 
 abbrev Inv-loop : tie.InvT-loop
-Inv-loop rows ends₀ at letter i₀ ends i = Passing rows ends₀ ends at letter i
+Inv-loop rows ends₀ at letter limits i₀ ends i = Passing limits rows ends₀ ends at letter i
 
 abbrev μ-loop : tie.MeasureT-loop
-μ-loop rows ends₀ at letter i₀ ends i = 60001 - i
+μ-loop rows ends₀ at letter limits i₀ ends i = limits .rows + 1 - i
 
 loop-holds : tie.Need-loop-holds Inv-loop μ-loop
 loop-holds c = passing-start (c .before .before .args .letter) (c .before .before .pre)
 
 is-letter-requires : tie.Need-is-letter-requires Inv-loop μ-loop
-is-letter-requires c κs = (c .loop .inv .ready .whole, c .loop .inv .ready .within)
+is-letter-requires c κs = (c .loop .inv .ready .whole, c .loop .inv .ready .within, c .loop .inv .ready .fits)
 
 add-ends : tie.Need-add-ends Inv-loop μ-loop
 add-ends c = search needs
 
 cast-ends : tie.Need-cast-ends Inv-loop μ-loop
-cast-ends c = omega (arith, c .before .before .loop .inv .ready .within)
+cast-ends c = omega (arith, c .before .before .loop .inv .ready .within, c .before .before .loop .inv .ready .fits .rows)
 
 mul-ends : tie.Need-mul-ends Inv-loop μ-loop
 mul-ends c = search needs
@@ -32,7 +32,7 @@ slice-write-ends : tie.Need-slice-write-ends Inv-loop μ-loop
 slice-write-ends c = row-room (c .before .before .loop .inv .ready) (c .before .before .loop .i) (c .before .is-letter .ensures .1 (c .if1 .taken))
 
 add-i : tie.Need-add-i Inv-loop μ-loop
-add-i c = omega (arith, c .before .before .loop .inv .ready .within)
+add-i c = omega (arith, c .before .before .loop .inv .ready .within, c .before .before .loop .inv .ready .fits .rows)
 
 loop-less : tie.Need-loop-less Inv-loop μ-loop
 loop-less c = omega (arith, (c .before .is-letter .ensures .1 (c .if1 .taken)) .0)

@@ -6,7 +6,7 @@ use lib.ListN.{length-set}
 use borrow.Author.Needs.{needs}
 use Rattle.form.specs.Places.{rows-from}
 use Rattle.language.specs.Form.{body}
-use Rattle.language.specs.Limits.{of-check}
+use Rattle.form.specs.Columns.{most-of}
 use Rattle.form.proofs.Lines.{ready-at, row-room}
 use Rattle.form.proofs.Passes.{told-end}
 use Rattle.form.proofs.Headings.{method-over, method-stop, method-close}
@@ -28,17 +28,17 @@ sub-parameters-2 c = omega (arith, (c .before .before .before .before .before .b
 cast-parameters : tie.Need-cast-parameters
 cast-parameters c = omega (arith, (c .before .before .before .before .before .before .pre .1) .0, c .before .before .pass-lines .ensures .0, c .before .before .pass-lines .ensures .2)
 
-cast-t14 : tie.Need-cast-t14
-cast-t14 c = omega (arith, (c .before .before .before .before .before .before .before .pre .1) .0, c .before .before .before .pass-lines .ensures .0, c .before .before .before .pass-lines .ensures .2)
+cast-t15 : tie.Need-cast-t15
+cast-t15 c = omega (arith, (c .before .before .before .before .before .before .before .pre .1) .0, c .before .before .before .pass-lines .ensures .0, c .before .before .before .pass-lines .ensures .2)
 
-add-t15 : tie.Need-add-t15
-add-t15 c = omega (arith, (c .before .before .before .before .before .before .before .pre .1) .0, c .before .before .before .pass-lines .ensures .0, c .before .before .before .pass-lines .ensures .2)
+add-t16 : tie.Need-add-t16
+add-t16 c = omega (arith, (c .before .before .before .before .before .before .before .pre .1) .0, c .before .before .before .pass-lines .ensures .0, c .before .before .before .pass-lines .ensures .2)
 
 same-length : tie.Need-same-length
 same-length c = c .before .before .before .pass-lines .kept .1 .0
 
 returns : tie.Need-returns
-returns c = λ x. method-over (c .before .before .before .before .before .before .before .args .rows .now) (c .before .before .before .before .before .before .before .args .at) x (c .before .before .before .pass-lines .result) (c .before .before .before .pass-lines .ensures .0) ((c .before .before .before .pass-lines .result) - (c .before .before .before .before .before .before .before .args .at) - 1) refl (c .if1 .taken)
+returns c = λ x. method-over (c .before .before .before .before .before .before .before .args .limits) (c .before .before .before .before .before .before .before .args .rows .now) (c .before .before .before .before .before .before .before .args .at) x (c .before .before .before .pass-lines .result) (c .before .before .before .pass-lines .ensures .0) ((c .before .before .before .pass-lines .result) - (c .before .before .before .before .before .before .before .args .at) - 1) refl (c .if1 .taken)
 
 pass-lines-requires-2 : tie.Need-pass-lines-requires-2
 pass-lines-requires-2 c κs = ready-at (c .before .before .before .before .pass-lines .result) (c .before .before .before .before .before .before .before .before .pre .0) (c .before .before .before .before .pass-lines .kept .1 .0) (c .before .before .before .before .pass-lines .ensures .2) (c .before .before .before .before .pass-lines .ensures .3)
@@ -59,10 +59,10 @@ same-length-2 : tie.Need-same-length-2
 same-length-2 c = c .before .before .before .before .pass-body .kept .1 .0 ∙ c .before .before .before .before .before .before .before .before .pass-lines2 .kept .1 .0 ∙ c .before .before .before .before .before .before .before .before .before .before .before .before .before .pass-lines .kept .1 .0
 
 returns-2 : tie.Need-returns-2
-returns-2 c = λ x. method-stop (c .before .before .before .before .before .before .before .before .before .before .before .before .before .before .before .before .before .args .rows .now) (c .before .before .before .before .before .before .before .before .before .before .before .before .before .before .before .before .before .args .at) x (c .before .before .before .before .before .before .before .before .before .before .before .before .before .pass-lines .result) (c .before .before .before .before .before .before .before .before .before .before .before .before .before .pass-lines .ensures .0) ((c .before .before .before .before .before .before .before .before .before .before .before .before .before .pass-lines .result) - (c .before .before .before .before .before .before .before .before .before .before .before .before .before .before .before .before .before .args .at) - 1) refl (c .before .before .before .before .before .before .before .before .before .before .if1 .left) (c .before .before .before .before .before .before .before .before .pass-lines2 .result) (c .before .before .before .before .before .before .before .before .pass-lines2 .ensures .0) (c .before .before .before .before .pass-body .ensures) (c .enum-told .given .1)
+returns-2 c = λ x. method-stop (c .before .before .before .before .before .before .before .before .before .before .before .before .before .before .before .before .before .args .limits) (c .before .before .before .before .before .before .before .before .before .before .before .before .before .before .before .before .before .args .rows .now) (c .before .before .before .before .before .before .before .before .before .before .before .before .before .before .before .before .before .args .at) x (c .before .before .before .before .before .before .before .before .before .before .before .before .before .pass-lines .result) (c .before .before .before .before .before .before .before .before .before .before .before .before .before .pass-lines .ensures .0) ((c .before .before .before .before .before .before .before .before .before .before .before .before .before .pass-lines .result) - (c .before .before .before .before .before .before .before .before .before .before .before .before .before .before .before .before .before .args .at) - 1) refl (c .before .before .before .before .before .before .before .before .before .before .if1 .left) (c .before .before .before .before .before .before .before .before .pass-lines2 .result) (c .before .before .before .before .before .before .before .before .pass-lines2 .ensures .0) (c .before .before .before .before .pass-body .ensures) (c .enum-told .given .1)
 
 cast-ends : tie.Need-cast-ends
-cast-ends c = told-end (body of-check (((c .before .before .before .before .before .before .before .before .before .before .before .before .before .before .pass-lines .result) - (c .before .before .before .before .before .before .before .before .before .before .before .before .before .before .before .before .before .before .args .at) - 1) + 1) ((c .before .before .before .before .before .before .before .before .before .pass-lines2 .result) + 1) (rows-from (c .before .before .before .before .before .before .before .before .before .before .before .before .before .before .before .before .before .before .args .rows .now) (c .before .before .before .before .before .before .before .before .before .pass-lines2 .result))) (c .before .before .before .before .before .pass-body .ensures) (c .before .r .given .1) λ e x y w o z. omega (arith, w)
+cast-ends c = told-end (body (most-of (c .before .before .before .before .before .before .before .before .before .before .before .before .before .before .before .before .before .before .args .limits)) (((c .before .before .before .before .before .before .before .before .before .before .before .before .before .before .pass-lines .result) - (c .before .before .before .before .before .before .before .before .before .before .before .before .before .before .before .before .before .before .args .at) - 1) + 1) ((c .before .before .before .before .before .before .before .before .before .pass-lines2 .result) + 1) (rows-from (c .before .before .before .before .before .before .before .before .before .before .before .before .before .before .before .before .before .before .args .rows .now) (c .before .before .before .before .before .before .before .before .before .pass-lines2 .result))) (c .before .before .before .before .before .pass-body .ensures) (c .before .r .given .1) λ e x y w o z. omega (arith, w)
 
 mul-ends : tie.Need-mul-ends
 mul-ends c = omega (arith, (c .before .before .before .before .before .before .before .before .before .before .before .before .before .before .before .before .before .before .pre .1) .0, c .before .before .before .before .before .before .before .before .before .before .before .before .before .before .pass-lines .ensures .0, c .before .before .before .before .before .before .before .before .before .before .before .before .before .before .pass-lines .ensures .2)
@@ -74,7 +74,7 @@ same-length-3 : tie.Need-same-length-3
 same-length-3 c = simp length-set (c .before .before .before .before .before .pass-body .kept .1 .0 ∙ c .before .before .before .before .before .before .before .before .before .pass-lines2 .kept .1 .0 ∙ c .before .before .before .before .before .before .before .before .before .before .before .before .before .before .pass-lines .kept .1 .0)
 
 returns-3 : tie.Need-returns-3
-returns-3 c = λ x. method-close (c .before .before .before .before .before .before .before .before .before .before .before .before .before .before .before .before .before .before .args .rows .now) (c .before .before .before .before .before .before .before .before .before .before .before .before .before .before .before .before .before .before .args .at) x (c .before .before .before .before .before .before .before .before .before .before .before .before .before .before .pass-lines .result) (c .before .before .before .before .before .before .before .before .before .before .before .before .before .before .pass-lines .ensures .0) ((c .before .before .before .before .before .before .before .before .before .before .before .before .before .before .pass-lines .result) - (c .before .before .before .before .before .before .before .before .before .before .before .before .before .before .before .before .before .before .args .at) - 1) refl (c .before .before .before .before .before .before .before .before .before .before .before .if1 .left) (c .before .before .before .before .before .before .before .before .before .pass-lines2 .result) (c .before .before .before .before .before .before .before .before .before .pass-lines2 .ensures .0) (c .before .before .before .before .before .before .before .before .before .before .before .before .before .before .pass-lines .ensures .1) (c .before .before .before .before .before .before .before .before .before .pass-lines2 .ensures .1) (c .before .before .before .before .before .pass-body .ensures) (c .before .r .given .1)
+returns-3 c = λ x. method-close (c .before .before .before .before .before .before .before .before .before .before .before .before .before .before .before .before .before .before .args .limits) (c .before .before .before .before .before .before .before .before .before .before .before .before .before .before .before .before .before .before .args .rows .now) (c .before .before .before .before .before .before .before .before .before .before .before .before .before .before .before .before .before .before .args .at) x (c .before .before .before .before .before .before .before .before .before .before .before .before .before .before .pass-lines .result) (c .before .before .before .before .before .before .before .before .before .before .before .before .before .before .pass-lines .ensures .0) ((c .before .before .before .before .before .before .before .before .before .before .before .before .before .before .pass-lines .result) - (c .before .before .before .before .before .before .before .before .before .before .before .before .before .before .before .before .before .before .args .at) - 1) refl (c .before .before .before .before .before .before .before .before .before .before .before .if1 .left) (c .before .before .before .before .before .before .before .before .before .pass-lines2 .result) (c .before .before .before .before .before .before .before .before .before .pass-lines2 .ensures .0) (c .before .before .before .before .before .before .before .before .before .before .before .before .before .before .pass-lines .ensures .1) (c .before .before .before .before .before .before .before .before .before .pass-lines2 .ensures .1) (c .before .before .before .before .before .pass-body .ensures) (c .before .r .given .1)
 
 pub pass-method-spec : {M : Type 1} → statement M
 pass-method-spec =
@@ -85,8 +85,8 @@ pass-method-spec =
     sub-parameters
     sub-parameters-2
     cast-parameters
-    cast-t14
-    add-t15
+    cast-t15
+    add-t16
     same-length
     returns
     pass-lines-requires-2

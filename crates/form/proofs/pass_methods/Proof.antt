@@ -1,6 +1,6 @@
 -- Methods: between two of them, what is left to read tells of the whole. Assumes nothing.
 use mathlib.Core.Path.{sym, _∙_}
-use Prim.Native.Nat.{_-_}
+use Prim.Native.Nat.{_+_, _-_}
 use native.Mathlib.Omega.{arith}
 use borrow.Author.Needs.{needs}
 use Rattle.form.proofs.Classes.{Listing, listing-start, listing-end, listing-stop, listing-step, listing-less}
@@ -8,16 +8,16 @@ use Rattle.form.proofs.pass_methods.Statement.{statement}
 use Rattle.form.proofs.pass_methods.Tie as tie
 
 abbrev Inv-loop : tie.InvT-loop
-Inv-loop rows ends₀ at i₀ ends i = Listing rows ends₀ ends at i
+Inv-loop rows ends₀ at limits i₀ ends i = Listing limits rows ends₀ ends at i
 
 abbrev μ-loop : tie.MeasureT-loop
-μ-loop rows ends₀ at i₀ ends i = 60001 - i
+μ-loop rows ends₀ at limits i₀ ends i = limits .rows + 1 - i
 
 loop-holds : tie.Need-loop-holds Inv-loop μ-loop
 loop-holds c = listing-start (c .before .before .pre)
 
 is-letter-requires : tie.Need-is-letter-requires Inv-loop μ-loop
-is-letter-requires c κs = (c .loop .inv .ready .whole, c .loop .inv .ready .within)
+is-letter-requires c κs = (c .loop .inv .ready .whole, c .loop .inv .ready .within, c .loop .inv .ready .fits)
 
 pass-method-requires : tie.Need-pass-method-requires Inv-loop μ-loop
 pass-method-requires c κs = (c .before .before .before .loop .inv .ready, (c .before .before .is-letter .ensures .1 (c .before .if1 .taken)))

@@ -6,7 +6,7 @@ use lib.ListN.{length-set}
 use borrow.Author.Needs.{needs}
 use Rattle.form.specs.Places.{rows-from}
 use Rattle.language.specs.Form.{body}
-use Rattle.language.specs.Limits.{of-check}
+use Rattle.form.specs.Columns.{most-of}
 use Rattle.form.proofs.Lines.{ready-at, row-room, end-room}
 use Rattle.form.proofs.Places.{here}
 use Rattle.form.proofs.Passes.{told-end}
@@ -15,49 +15,49 @@ use Rattle.form.proofs.pass_start.Statement.{statement}
 use Rattle.form.proofs.pass_start.Tie as tie
 
 refuse-row-requires : tie.Need-refuse-row-requires
-refuse-row-requires c κs = (c .before .before .pre .whole, c .before .before .pre .within)
+refuse-row-requires c κs = (c .before .before .pre .whole, c .before .before .pre .within, c .before .before .pre .fits)
 
-cast-t11 : tie.Need-cast-t11
-cast-t11 c = omega (arith, c .before .before .before .before .pre .within)
+cast-t12 : tie.Need-cast-t12
+cast-t12 c = omega (arith, c .before .before .before .before .pre .within, c .before .before .before .before .pre .fits .rows)
 
-add-t12 : tie.Need-add-t12
-add-t12 c = omega (arith, c .before .before .before .before .pre .within)
+add-t13 : tie.Need-add-t13
+add-t13 c = omega (arith, c .before .before .before .before .pre .within, c .before .before .before .before .pre .fits .rows)
 
 returns : tie.Need-returns
-returns c = λ cs e. start-refused (c .before .before .before .before .args .rows .now) (c .before .before .before .before .args .at) cs (c .before .refuse-row .result) (c .before .refuse-row .ensures .0) (c .if1 .taken)
+returns c = λ cs e. start-refused (c .before .before .before .before .args .limits) (c .before .before .before .before .args .rows .now) (c .before .before .before .before .args .at) cs (c .before .refuse-row .result) (c .before .refuse-row .ensures .0) (c .if1 .taken)
 
 mul-if2 : tie.Need-mul-if2
-mul-if2 c = omega (arith, c .before .before .before .before .pre .within)
+mul-if2 c = omega (arith, c .before .before .before .before .pre .within, c .before .before .before .before .pre .fits .rows)
 
 mul-if2-2 : tie.Need-mul-if2-2
-mul-if2-2 c = omega (arith, c .before .before .before .before .pre .within)
+mul-if2-2 c = omega (arith, c .before .before .before .before .pre .within, c .before .before .before .before .pre .fits .rows)
 
 shared-slice-read-if2 : tie.Need-shared-slice-read-if2
 shared-slice-read-if2 c = omega (arith, (c .before .before .refuse-row .ensures .1 (c .before .if1 .left)) .1)
 
-cast-t17 : tie.Need-cast-t17
-cast-t17 c = omega (arith, c .before .before .before .before .before .before .pre .within)
+cast-t18 : tie.Need-cast-t18
+cast-t18 c = omega (arith, c .before .before .before .before .before .before .pre .within, c .before .before .before .before .before .before .pre .fits .rows)
 
-add-t18 : tie.Need-add-t18
-add-t18 c = omega (arith, c .before .before .before .before .before .before .pre .within)
+add-t19 : tie.Need-add-t19
+add-t19 c = omega (arith, c .before .before .before .before .before .before .pre .within, c .before .before .before .before .before .before .pre .fits .rows)
 
 returns-2 : tie.Need-returns-2
-returns-2 c = λ cs e. start-other (c .before .before .before .before .before .before .args .rows .now) (c .before .before .before .before .before .before .args .at) cs (here (c .before .before .before .before .before .before .args .rows .now) (c .before .before .before .before .before .before .args .at) (sym (c .before .before .if1 .left) ∙ c .before .before .before .refuse-row .ensures .0) (c .before .before .before .refuse-row .ensures .1 (c .before .before .if1 .left))) (c .if2 .taken)
+returns-2 c = λ cs e. start-other (c .before .before .before .before .before .before .args .limits) (c .before .before .before .before .before .before .args .rows .now) (c .before .before .before .before .before .before .args .at) cs (here (c .before .before .before .before .before .before .args .rows .now) (c .before .before .before .before .before .before .args .at) (sym (c .before .before .if1 .left) ∙ c .before .before .before .refuse-row .ensures .0) (c .before .before .before .refuse-row .ensures .1 (c .before .before .if1 .left))) (c .if2 .taken)
 
 add-ends : tie.Need-add-ends
-add-ends c = omega (arith, c .before .before .before .before .before .before .pre .within)
+add-ends c = omega (arith, c .before .before .before .before .before .before .pre .within, c .before .before .before .before .before .before .pre .fits .rows)
 
 cast-ends : tie.Need-cast-ends
-cast-ends c = omega (arith, c .before .before .before .before .before .before .pre .within)
+cast-ends c = omega (arith, c .before .before .before .before .before .before .pre .within, c .before .before .before .before .before .before .pre .fits .rows)
 
 mul-ends : tie.Need-mul-ends
-mul-ends c = omega (arith, c .before .before .before .before .before .before .pre .within)
+mul-ends c = omega (arith, c .before .before .before .before .before .before .pre .within, c .before .before .before .before .before .before .pre .fits .rows)
 
 slice-write-ends : tie.Need-slice-write-ends
 slice-write-ends c = row-room (c .before .before .before .before .before .before .pre) (c .before .before .before .before .before .before .args .at) (c .before .before .before .refuse-row .ensures .1 (c .before .before .if1 .left))
 
 add-pass-body : tie.Need-add-pass-body
-add-pass-body c = omega (arith, c .before .before .before .before .before .before .before .pre .within)
+add-pass-body c = omega (arith, c .before .before .before .before .before .before .before .pre .within, c .before .before .before .before .before .before .before .pre .fits .rows)
 
 pass-body-requires : tie.Need-pass-body-requires
 pass-body-requires c κs = (ready-at ((c .before .before .before .before .before .before .before .args .at) + 1) (c .before .before .before .before .before .before .before .pre) (length-set (c .before .before .before .before .before .before .before .args .ends .now) (c .before .before .before .before .before .before .before .args .at) ((c .before .before .before .before .before .before .before .args .at) + 1)) (omega (arith, (c .before .before .before .before .refuse-row .ensures .1 (c .before .before .before .if1 .left)) .0)) (omega (arith, (c .before .before .before .before .refuse-row .ensures .1 (c .before .before .before .if1 .left)) .1)), omega arith)
@@ -66,7 +66,7 @@ enum-known-r : tie.Need-enum-known-r
 enum-known-r c = search needs
 
 finish-requires : tie.Need-finish-requires
-finish-requires c κs = (c .before .before .before .before .before .before .before .before .before .before .before .before .before .pre .whole, told-end (body of-check 1 ((c .before .before .before .before .before .before .before .before .before .before .before .before .before .args .at) + 1 + 1) (rows-from (c .before .before .before .before .before .before .before .before .before .before .before .before .before .args .rows .now) ((c .before .before .before .before .before .before .before .before .before .before .before .before .before .args .at) + 1))) (c .before .before .before .before .before .pass-body .ensures) (c .before .r .given .1) λ e x y w o z. w)
+finish-requires c κs = (c .before .before .before .before .before .before .before .before .before .before .before .before .before .pre .whole, told-end (body (most-of (c .before .before .before .before .before .before .before .before .before .before .before .before .before .args .limits)) 1 ((c .before .before .before .before .before .before .before .before .before .before .before .before .before .args .at) + 1 + 1) (rows-from (c .before .before .before .before .before .before .before .before .before .before .before .before .before .args .rows .now) ((c .before .before .before .before .before .before .before .before .before .before .before .before .before .args .at) + 1))) (c .before .before .before .before .before .pass-body .ensures) (c .before .r .given .1) λ e x y w o z. w, c .before .before .before .before .before .before .before .before .before .before .before .before .before .pre .fits)
 
 enum-known-r-2 : tie.Need-enum-known-r-2
 enum-known-r-2 c = search needs
@@ -75,27 +75,27 @@ same-length : tie.Need-same-length
 same-length c = c .before .before .before .before .before .before .pass-body .kept .1 .0 ∙ length-set (c .before .before .before .before .before .before .before .before .before .before .before .before .before .before .args .ends .now) (c .before .before .before .before .before .before .before .before .before .before .before .before .before .before .args .at) ((c .before .before .before .before .before .before .before .before .before .before .before .before .before .before .args .at) + 1)
 
 returns-3 : tie.Need-returns-3
-returns-3 c = λ cs e. start-end (c .before .before .before .before .before .before .before .before .before .before .before .before .before .before .args .rows .now) (c .before .before .before .before .before .before .before .before .before .before .before .before .before .before .args .at) cs (here (c .before .before .before .before .before .before .before .before .before .before .before .before .before .before .args .rows .now) (c .before .before .before .before .before .before .before .before .before .before .before .before .before .before .args .at) (sym (c .before .before .before .before .before .before .before .before .before .before .if1 .left) ∙ c .before .before .before .before .before .before .before .before .before .before .before .refuse-row .ensures .0) (c .before .before .before .before .before .before .before .before .before .before .before .refuse-row .ensures .1 (c .before .before .before .before .before .before .before .before .before .before .if1 .left))) (c .before .before .before .before .before .before .before .before .if2 .left) (c .before .before .before .before .before .before .pass-body .ensures) (c .before .before .r .given .1) refl (λ w o. end-room (c .before .before .before .before .before .before .before .before .before .before .before .before .before .before .pre) w o) e (c .finish .ensures)
+returns-3 c = λ cs e. start-end (c .before .before .before .before .before .before .before .before .before .before .before .before .before .before .args .limits) (c .before .before .before .before .before .before .before .before .before .before .before .before .before .before .args .rows .now) (c .before .before .before .before .before .before .before .before .before .before .before .before .before .before .args .at) cs (here (c .before .before .before .before .before .before .before .before .before .before .before .before .before .before .args .rows .now) (c .before .before .before .before .before .before .before .before .before .before .before .before .before .before .args .at) (sym (c .before .before .before .before .before .before .before .before .before .before .if1 .left) ∙ c .before .before .before .before .before .before .before .before .before .before .before .refuse-row .ensures .0) (c .before .before .before .before .before .before .before .before .before .before .before .refuse-row .ensures .1 (c .before .before .before .before .before .before .before .before .before .before .if1 .left))) (c .before .before .before .before .before .before .before .before .if2 .left) (c .before .before .before .before .before .before .pass-body .ensures) (c .before .before .r .given .1) refl (λ w o. end-room (c .before .before .before .before .before .before .before .before .before .before .before .before .before .before .pre) w o) e (c .finish .ensures)
 
 same-length-2 : tie.Need-same-length-2
 same-length-2 c = c .before .before .before .before .before .pass-body .kept .1 .0 ∙ length-set (c .before .before .before .before .before .before .before .before .before .before .before .before .before .args .ends .now) (c .before .before .before .before .before .before .before .before .before .before .before .before .before .args .at) ((c .before .before .before .before .before .before .before .before .before .before .before .before .before .args .at) + 1)
 
 returns-4 : tie.Need-returns-4
-returns-4 c = λ cs e. start-stop (c .before .before .before .before .before .before .before .before .before .before .before .before .before .args .rows .now) (c .before .before .before .before .before .before .before .before .before .before .before .before .before .args .at) cs (here (c .before .before .before .before .before .before .before .before .before .before .before .before .before .args .rows .now) (c .before .before .before .before .before .before .before .before .before .before .before .before .before .args .at) (sym (c .before .before .before .before .before .before .before .before .before .if1 .left) ∙ c .before .before .before .before .before .before .before .before .before .before .refuse-row .ensures .0) (c .before .before .before .before .before .before .before .before .before .before .refuse-row .ensures .1 (c .before .before .before .before .before .before .before .before .before .if1 .left))) (c .before .before .before .before .before .before .before .if2 .left) (c .before .before .before .before .before .pass-body .ensures) (c .before .r2 .given .1)
+returns-4 c = λ cs e. start-stop (c .before .before .before .before .before .before .before .before .before .before .before .before .before .args .limits) (c .before .before .before .before .before .before .before .before .before .before .before .before .before .args .rows .now) (c .before .before .before .before .before .before .before .before .before .before .before .before .before .args .at) cs (here (c .before .before .before .before .before .before .before .before .before .before .before .before .before .args .rows .now) (c .before .before .before .before .before .before .before .before .before .before .before .before .before .args .at) (sym (c .before .before .before .before .before .before .before .before .before .if1 .left) ∙ c .before .before .before .before .before .before .before .before .before .before .refuse-row .ensures .0) (c .before .before .before .before .before .before .before .before .before .before .refuse-row .ensures .1 (c .before .before .before .before .before .before .before .before .before .if1 .left))) (c .before .before .before .before .before .before .before .if2 .left) (c .before .before .before .before .before .pass-body .ensures) (c .before .r2 .given .1)
 
 pub pass-start-spec : {M : Type 1} → statement M
 pass-start-spec =
     tie.close
     (tie.spec
     refuse-row-requires
-    cast-t11
-    add-t12
+    cast-t12
+    add-t13
     returns
     mul-if2
     mul-if2-2
     shared-slice-read-if2
-    cast-t17
-    add-t18
+    cast-t18
+    add-t19
     returns-2
     add-ends
     cast-ends

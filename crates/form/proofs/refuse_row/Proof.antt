@@ -12,7 +12,7 @@ mul-i : tie.Need-mul-i
 mul-i c = search needs
 
 returns : tie.Need-returns
-returns c = (refusal-past (c .before .before .args .rows .now) (c .before .before .args .at) (c .if1 .taken), λ z. absurd (omega (arith, z)))
+returns c = (refusal-past (c .before .before .args .limits) (c .before .before .args .rows .now) (c .before .before .args .at) (c .if1 .taken), λ z. absurd (omega (arith, z)))
 
 mul-code : tie.Need-mul-code
 mul-code c = search needs
@@ -51,19 +51,19 @@ is-row-requires : tie.Need-is-row-requires
 is-row-requires c κs = search needs
 
 returns-2 : tie.Need-returns-2
-returns-2 c = (refusal-malformed (c .before .before .before .before .before .before .before .before .args .rows .now) (c .before .before .before .before .before .before .before .before .args .at) (omega (arith, c .before .before .before .before .before .before .before .before .pre .0, c .before .before .before .before .before .before .if1 .left)) (sym (c .before .is-row .ensures) ∙ not-true (c .before .is-row .result) (c .if2 .taken)), λ z. absurd (omega (arith, z)))
+returns-2 c = (refusal-malformed (c .before .before .before .before .before .before .before .before .args .limits) (c .before .before .before .before .before .before .before .before .args .rows .now) (c .before .before .before .before .before .before .before .before .args .at) (omega (arith, c .before .before .before .before .before .before .before .before .pre .0, c .before .before .before .before .before .before .if1 .left)) (sym (c .before .is-row .ensures) ∙ not-true (c .before .is-row .result) (c .if2 .taken)), λ z. absurd (omega (arith, z)))
 
 returns-3 : tie.Need-returns-3
-returns-3 c = (refusal-over (c .before .before .before .before .before .before .before .before .before .args .rows .now) (c .before .before .before .before .before .before .before .before .before .args .at) (omega (arith, c .before .before .before .before .before .before .before .before .before .pre .0, c .before .before .before .before .before .before .before .if1 .left)) (sym (c .before .before .is-row .ensures) ∙ not-false (c .before .before .is-row .result) (c .before .if2 .left)) (c .if3 .taken), λ z. absurd (omega (arith, z)))
+returns-3 c = (refusal-over (c .before .before .before .before .before .before .before .before .before .before .args .limits) (c .before .before .before .before .before .before .before .before .before .before .args .rows .now) (c .before .before .before .before .before .before .before .before .before .before .args .at) (omega (arith, c .before .before .before .before .before .before .before .before .before .before .pre .0, c .before .before .before .before .before .before .before .before .if1 .left)) (sym (c .before .before .before .is-row .ensures) ∙ not-false (c .before .before .before .is-row .result) (c .before .before .if2 .left)) (c .if3 .taken), λ z. absurd (omega (arith, z)))
 
 name-of-requires : tie.Need-name-of-requires
 name-of-requires c κs = search needs
 
 returns-4 : tie.Need-returns-4
-returns-4 c = (refusal-name (c .before .before .before .before .before .before .before .before .before .before .before .args .rows .now) (c .before .before .before .before .before .before .before .before .before .before .before .args .at) (omega (arith, c .before .before .before .before .before .before .before .before .before .before .before .pre .0, c .before .before .before .before .before .before .before .before .before .if1 .left)) (sym (c .before .before .before .before .is-row .ensures) ∙ not-false (c .before .before .before .before .is-row .result) (c .before .before .before .if2 .left)) (c .before .before .if3 .left) (omega (arith, c .before .name-of .ensures, c .if4 .taken)), λ z. absurd (omega (arith, z)))
+returns-4 c = (refusal-name (c .before .before .before .before .before .before .before .before .before .before .before .before .args .limits) (c .before .before .before .before .before .before .before .before .before .before .before .before .args .rows .now) (c .before .before .before .before .before .before .before .before .before .before .before .before .args .at) (omega (arith, c .before .before .before .before .before .before .before .before .before .before .before .before .pre .0, c .before .before .before .before .before .before .before .before .before .before .if1 .left)) (sym (c .before .before .before .before .before .is-row .ensures) ∙ not-false (c .before .before .before .before .before .is-row .result) (c .before .before .before .before .if2 .left)) (c .before .before .if3 .left) (omega (arith, c .before .name-of .ensures, c .if4 .taken)), λ z. absurd (omega (arith, z)))
 
 returns-5 : tie.Need-returns-5
-returns-5 c = (refusal-none (c .before .before .before .before .before .before .before .before .before .before .before .args .rows .now) (c .before .before .before .before .before .before .before .before .before .before .before .args .at) (omega (arith, c .before .before .before .before .before .before .before .before .before .before .before .pre .0, c .before .before .before .before .before .before .before .before .before .if1 .left)) (sym (c .before .before .before .before .is-row .ensures) ∙ not-false (c .before .before .before .before .is-row .result) (c .before .before .before .if2 .left)) (c .before .before .if3 .left) (omega (arith, c .before .name-of .ensures, c .if4 .left)), λ z. (c .before .before .if3 .left, (omega (arith, c .before .before .before .before .before .before .before .before .before .before .before .pre .0, c .before .before .before .before .before .before .before .before .before .if1 .left))))
+returns-5 c = (refusal-none (c .before .before .before .before .before .before .before .before .before .before .before .before .args .limits) (c .before .before .before .before .before .before .before .before .before .before .before .before .args .rows .now) (c .before .before .before .before .before .before .before .before .before .before .before .before .args .at) (omega (arith, c .before .before .before .before .before .before .before .before .before .before .before .before .pre .0, c .before .before .before .before .before .before .before .before .before .before .if1 .left)) (sym (c .before .before .before .before .before .is-row .ensures) ∙ not-false (c .before .before .before .before .before .is-row .result) (c .before .before .before .before .if2 .left)) (c .before .before .if3 .left) (omega (arith, c .before .name-of .ensures, c .if4 .left)), λ z. (c .before .before .if3 .left, (omega (arith, c .before .before .before .before .before .before .before .before .before .before .before .before .pre .0, c .before .before .before .before .before .before .before .before .before .before .if1 .left))))
 
 pub refuse-row-spec : {M : Type 1} → statement M
 refuse-row-spec =

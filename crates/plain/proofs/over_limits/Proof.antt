@@ -10,17 +10,17 @@ use Rattle.plain.proofs.over_limits.Statement.{statement}
 use Rattle.plain.proofs.over_limits.Tie as tie
 use Rattle.plain.proofs.over_limits.Reads as reads
 use Rattle.plain.proofs.over_limits.Lts as lts
-use Rattle.limits.proofs.check_form.Reads as check-form-reads
+use Rattle.form.proofs.check_translatable.Reads as check-translatable-reads
 use Rattle.plain.proofs.over_fields.Reads as over-fields-reads
 use Rattle.plain.proofs.with_fields.Reads as with-fields-reads
 
 -- src/lib.rt:1082:43
-slice-aggregate-check-form : tie.Need-slice-aggregate-check-form
-slice-aggregate-check-form c = search needs
+slice-aggregate-check-translatable : tie.Need-slice-aggregate-check-translatable
+slice-aggregate-check-translatable c = search needs
 
 -- src/lib.rt:1082:9
-check-form-requires : tie.Need-check-form-requires
-check-form-requires c κs = (checked-whole (c .before .before .before .before .pre), inr (omega arith))
+check-translatable-requires : tie.Need-check-translatable-requires
+check-translatable-requires c κs = (checked-whole (c .before .before .before .before .pre), inr (omega arith))
 
 -- src/lib.rt:1083:9
 over-fields-requires : tie.Need-over-fields-requires
@@ -32,14 +32,14 @@ with-fields-requires c κs = search needs
 
 -- src/lib.rt:1077:1
 returns : tie.Need-returns
-returns c = limits-answer (c .before .before .before .check-form .ensures .0) (c .before .over-fields .ensures) (c .with-fields .ensures)
+returns c = limits-answer (c .before .before .before .check-translatable .ensures .0) (c .before .over-fields .ensures) (c .with-fields .ensures)
 
 pub over-limits-spec : {M : Type 1} → statement M
 over-limits-spec =
     tie.close
     (tie.spec
-    slice-aggregate-check-form
-    check-form-requires
+    slice-aggregate-check-translatable
+    check-translatable-requires
     over-fields-requires
     with-fields-requires
     returns)
