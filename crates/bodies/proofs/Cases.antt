@@ -3,9 +3,8 @@ use mathlib.Core.Path.{_≡_, refl, sym, ap, _∙_}
 use mathlib.Core.Bool.{Bool, true, false}
 use mathlib.Core.List.{List, [], _∷_}
 use Prim.Native.Nat.{ℕ, suc, _+_, _*_, _≤_, _<_}
-use native.Mathlib.Omega.{arith}
 use borrow.Author.Tests.{eq-eqb, ne-eqb, le-leb, lt-leb, lt-ltb, le-ltb}
-use lib.ListN.{length, getD, set}
+use lib.ListN.{getD, set}
 use mathlib.Core.Logic.{⊎-elim}
 use types.Run.{OneOf}
 use denote.Enum.Declared.{tagOf}
@@ -19,8 +18,10 @@ use Rattle.bodies.specs.declared.Sought.{Sought}
 use Rattle.bodies.specs.declared.Sought.the-variants.{Found, Missing}
 use Rattle.bodies.specs.Answers.{answer, case-of-number, is-refusal}
 use Rattle.bodies.specs.Tables.{PreNearest, nearest-from, is-fitting}
-use Rattle.bodies.specs.Nodes.{refusal, null-tested, not-class, joined-case, BothClasses, field-in, field-place, field-row, created, slot-read}
-use Rattle.bodies.specs.Nodes.{casted, cast-answer, assigned, no-method-for, too-many-answer, got, got-classes, found-answer, noted, changeable-in}
+use Rattle.bodies.specs.Nodes.{refusal, null-tested, not-class, joined-case, BothClasses, field-in}
+use Rattle.bodies.specs.Nodes.{field-place, field-row, created, slot-read}
+use Rattle.bodies.specs.Nodes.{casted, cast-answer, assigned, no-method-for, too-many-answer, got}
+use Rattle.bodies.specs.Nodes.{got-classes, found-answer, noted, changeable-in}
 
 module _ (at φ : ℕ) (t : Typing) (r : Answer) where
   pub null-bool : t ≡ bool-case → r ≡ refusal 9 at → r ≡ null-tested at t φ
@@ -47,11 +48,13 @@ pub null-null : (at φ : ℕ) (t : Typing) → t ≡ Null → answer bool-case �
 unfolding null-tested
 null-null at φ t e = rw e
 
-pub null-refusal : (at : ℕ) (a : Answer) (n l : ℕ) → a .typing ≡ Refusal n l → a ≡ null-tested at (a .typing) (a .effect)
+pub null-refusal : (at : ℕ) (a : Answer) (n l : ℕ) → a .typing ≡ Refusal n l
+    → a ≡ null-tested at (a .typing) (a .effect)
 unfolding null-tested
 null-refusal at a n l e = rw e
 
-pub class-refusal : (at : ℕ) (a : Answer) (n l : ℕ) → a .typing ≡ Refusal n l → a ≡ not-class at (a .typing) (a .effect)
+pub class-refusal : (at : ℕ) (a : Answer) (n l : ℕ) → a .typing ≡ Refusal n l
+    → a ≡ not-class at (a .typing) (a .effect)
 unfolding not-class
 class-refusal at a n l e = rw e
 
@@ -73,7 +76,8 @@ module _ (T A : List ℕ) (t u : Typing) where
   unfolding joined-case
   join-br n l e f = rw (e, f)
 
-  pub join-cc : (c d k : ℕ) → t ≡ Class c → u ≡ Class d → k ≡ nearest-from T A (suc c) c d → Class k ≡ joined-case T A t u
+  pub join-cc : (c d k : ℕ) → t ≡ Class c → u ≡ Class d → k ≡ nearest-from T A (suc c) c d
+      → Class k ≡ joined-case T A t u
   unfolding joined-case
   join-cc c d k e f g = rw (e, f) (ap Class g)
 
@@ -117,7 +121,8 @@ pub field-none : (R T : List ℕ) (c f p : ℕ) → p ≡ field-place T c f → 
 unfolding field-in
 field-none R T c f p e z = rw (eq-eqb (field-place T c f) 0 (sym e ∙ z))
 
-pub field-found : (R T : List ℕ) (c f p q n : ℕ) (s : Sought) → p ≡ field-place T c f → (p ≡ 0 → ⊥) → q ≡ getD T (c * 576 + (519 + p)) 0
+pub field-found : (R T : List ℕ) (c f p q n : ℕ) (s : Sought) → p ≡ field-place T c f → (p ≡ 0 → ⊥)
+    → q ≡ getD T (c * 576 + (519 + p)) 0
     → n ≡ getD R (q * 4 + 1) 0 → s ≡ Found (record { number = n }) → s ≡ field-in R T c f
 unfolding field-in
 field-found R T c f p q n s e z g h k =
@@ -125,15 +130,18 @@ field-found R T c f p q n s e z g h k =
     let b : n ≡ getD R (field-row T c f * 4 + 1) 0 = rw a at h in
     rw (ne-eqb (field-place T c f) 0 (λ y. z (e ∙ y))) (k ∙ rw b)
 
-pub field-row-is : (T : List ℕ) (c f p q : ℕ) → p ≡ field-place T c f → q ≡ getD T (c * 576 + (519 + p)) 0 → q ≡ field-row T c f
+pub field-row-is : (T : List ℕ) (c f p q : ℕ) → p ≡ field-place T c f → q ≡ getD T (c * 576 + (519 + p)) 0
+    → q ≡ field-row T c f
 field-row-is T c f p q e g = rw e at g
 
 -- W and I
-pub created-no : (R : List ℕ) (count at : ℕ) (r : Answer) → count < getD R (at * 4 + 1) 0 → r ≡ refusal 4 at → r ≡ created R count at
+pub created-no : (R : List ℕ) (count at : ℕ) (r : Answer) → count < getD R (at * 4 + 1) 0
+    → r ≡ refusal 4 at → r ≡ created R count at
 unfolding created
 created-no R count at r l h = rw (lt-ltb _ _ l) h
 
-pub created-yes : (R : List ℕ) (count at : ℕ) (r : Answer) → getD R (at * 4 + 1) 0 ≤ count → r ≡ answer (Class (getD R (at * 4 + 1) 0)) 0
+pub created-yes : (R : List ℕ) (count at : ℕ) (r : Answer) → getD R (at * 4 + 1) 0 ≤ count
+    → r ≡ answer (Class (getD R (at * 4 + 1) 0)) 0
     → r ≡ created R count at
 unfolding created
 created-yes R count at r l h = rw (le-ltb _ _ l) h
@@ -143,7 +151,8 @@ module _ (R S : List ℕ) (at scope : ℕ) (r : Answer) where
   unfolding slot-read
   read-out l h = rw (le-leb _ _ l) h
 
-  pub read-absent : getD R (at * 4 + 1) 0 < scope → getD S (getD R (at * 4 + 1) 0) 0 ≡ 65535 → r ≡ refusal 7 at → r ≡ slot-read R S at scope
+  pub read-absent : getD R (at * 4 + 1) 0 < scope → getD S (getD R (at * 4 + 1) 0) 0 ≡ 65535
+      → r ≡ refusal 7 at → r ≡ slot-read R S at scope
   unfolding slot-read
   read-absent l e h = rw (lt-leb _ _ l, eq-eqb _ _ e) h
 
@@ -158,12 +167,14 @@ module _ (R : List ℕ) (count at : ℕ) (a : Answer) where
   unfolding cast-answer
   cast-refused b e f = rw (sym e ∙ f)
 
-  pub cast-name : (b : Bool) (r : Answer) → b ≡ is-refusal (a .typing) → b ≡ false → count < getD R (at * 4 + 1) 0 → r ≡ refusal 4 at
+  pub cast-name : (b : Bool) (r : Answer) → b ≡ is-refusal (a .typing) → b ≡ false
+      → count < getD R (at * 4 + 1) 0 → r ≡ refusal 4 at
       → r ≡ cast-answer R count at a
   unfolding cast-answer
   cast-name b r e f l h = rw (sym e ∙ f, lt-ltb _ _ l) h
 
-  pub cast-done : (b : Bool) (r : Answer) → b ≡ is-refusal (a .typing) → b ≡ false → getD R (at * 4 + 1) 0 ≤ count
+  pub cast-done : (b : Bool) (r : Answer) → b ≡ is-refusal (a .typing) → b ≡ false
+      → getD R (at * 4 + 1) 0 ≤ count
       → r ≡ casted at (getD R (at * 4 + 1) 0) (a .typing) (a .effect) → r ≡ cast-answer R count at a
   unfolding cast-answer
   cast-done b r e f l h = rw (sym e ∙ f, le-ltb _ _ l) h
@@ -181,7 +192,8 @@ module _ (at c φ : ℕ) (t : Typing) where
   unfolding casted
   casted-null e = rw e
 
-pub casted-refusal : (at c : ℕ) (a : Answer) (n l : ℕ) → a .typing ≡ Refusal n l → a ≡ casted at c (a .typing) (a .effect)
+pub casted-refusal : (at c : ℕ) (a : Answer) (n l : ℕ) → a .typing ≡ Refusal n l
+    → a ≡ casted at c (a .typing) (a .effect)
 unfolding casted
 casted-refusal at c a n l e = rw e
 
@@ -190,34 +202,42 @@ module _ (R A S : List ℕ) (at scope : ℕ) (a : Answer) (b : Bool) (e : b ≡ 
   unfolding assigned
   assign-refused f = rw (sym e ∙ f)
 
-  pub assign-this : (r : Answer) → b ≡ false → getD R (at * 4 + 1) 0 ≡ 0 → r ≡ refusal 7 at → r ≡ assigned R A S at scope a
+  pub assign-this : (r : Answer) → b ≡ false → getD R (at * 4 + 1) 0 ≡ 0
+      → r ≡ refusal 7 at → r ≡ assigned R A S at scope a
   unfolding assigned
   assign-this r f z h = rw (sym e ∙ f, eq-eqb _ _ z) h
 
-  pub assign-out : (r : Answer) → b ≡ false → (getD R (at * 4 + 1) 0 ≡ 0 → ⊥) → scope ≤ getD R (at * 4 + 1) 0 → r ≡ refusal 7 at
+  pub assign-out : (r : Answer) → b ≡ false → (getD R (at * 4 + 1) 0 ≡ 0 → ⊥) → scope ≤ getD R (at * 4 + 1) 0
+      → r ≡ refusal 7 at
       → r ≡ assigned R A S at scope a
   unfolding assigned
   assign-out r f z l h = rw (sym e ∙ f, ne-eqb _ _ z, le-leb _ _ l) h
 
-  pub assign-fits : (n : ℕ) (d : Bool) → b ≡ false → (getD R (at * 4 + 1) 0 ≡ 0 → ⊥) → getD R (at * 4 + 1) 0 < scope
-      → n ≡ getD S (getD R (at * 4 + 1) 0) 0 → d ≡ is-fitting A (a .typing) n → d ≡ true → a ≡ assigned R A S at scope a
+  pub assign-fits : (n : ℕ) (d : Bool) → b ≡ false → (getD R (at * 4 + 1) 0 ≡ 0 → ⊥)
+      → getD R (at * 4 + 1) 0 < scope
+      → n ≡ getD S (getD R (at * 4 + 1) 0) 0 → d ≡ is-fitting A (a .typing) n → d ≡ true
+      → a ≡ assigned R A S at scope a
   unfolding assigned
   assign-fits n d f z l q g h =
       let w : is-fitting A (a .typing) (getD S (getD R (at * 4 + 1) 0) 0) ≡ true = rw (sym q) (sym g ∙ h) in
       rw (sym e ∙ f, ne-eqb _ _ z, lt-leb _ _ l, w)
 
-  pub assign-unfit : (n : ℕ) (d : Bool) (r : Answer) → b ≡ false → (getD R (at * 4 + 1) 0 ≡ 0 → ⊥) → getD R (at * 4 + 1) 0 < scope
-      → n ≡ getD S (getD R (at * 4 + 1) 0) 0 → d ≡ is-fitting A (a .typing) n → d ≡ false → r ≡ refusal 9 at → r ≡ assigned R A S at scope a
+  pub assign-unfit : (n : ℕ) (d : Bool) (r : Answer) → b ≡ false → (getD R (at * 4 + 1) 0 ≡ 0 → ⊥)
+      → getD R (at * 4 + 1) 0 < scope
+      → n ≡ getD S (getD R (at * 4 + 1) 0) 0 → d ≡ is-fitting A (a .typing) n → d ≡ false
+      → r ≡ refusal 9 at → r ≡ assigned R A S at scope a
   unfolding assigned
   assign-unfit n d r f z l q g h k =
       let w : is-fitting A (a .typing) (getD S (getD R (at * 4 + 1) 0) 0) ≡ false = rw (sym q) (sym g ∙ h) in
       rw (sym e ∙ f, ne-eqb _ _ z, lt-leb _ _ l, w) k
 
-pub many-refused : (at : ℕ) (t : Typing) (a : Answer) (b : Bool) → b ≡ is-refusal (a .typing) → b ≡ true → a ≡ too-many-answer at t a
+pub many-refused : (at : ℕ) (t : Typing) (a : Answer) (b : Bool) → b ≡ is-refusal (a .typing) → b ≡ true
+    → a ≡ too-many-answer at t a
 unfolding too-many-answer
 many-refused at t a b e f = rw (sym e ∙ f)
 
-module _ (at : ℕ) (t : Typing) (a : Answer) (b : Bool) (r : Answer) (e : b ≡ is-refusal (a .typing)) (f : b ≡ false) where
+module _ (at : ℕ) (t : Typing) (a : Answer) (b : Bool) (r : Answer) (e : b ≡ is-refusal (a .typing))
+    (f : b ≡ false) where
   pub many-bool : t ≡ bool-case → r ≡ refusal 9 at → r ≡ too-many-answer at t a
   unfolding too-many-answer no-method-for
   many-bool q h = rw (sym e ∙ f, q) h
@@ -235,17 +255,21 @@ module _ (at : ℕ) (t : Typing) (a : Answer) (b : Bool) (r : Answer) (e : b ≡
   many-refusal n l q h = rw (sym e ∙ f, q) h
 
 -- G
-pub got-other : (R T C : List ℕ) (at φ : ℕ) (t : Typing) (r : Answer) → OneOf (0 ∷ 2 ∷ 3 ∷ []) (tagOf the-type t) → r ≡ not-class at t φ
+pub got-other : (R T C : List ℕ) (at φ : ℕ) (t : Typing) (r : Answer)
+    → OneOf (0 ∷ 2 ∷ 3 ∷ []) (tagOf the-type t) → r ≡ not-class at t φ
     → (r ≡ got R T at t φ) × (C ≡ got-classes R T C at t)
 unfolding got got-classes
 got-other R T C at φ bool-case r k h = (h, refl)
 got-other R T C at φ (Class c) r k h =
-    absurd (⊎-elim (λ e. eqb-false 1 0 refl e) (λ m. ⊎-elim (λ e. eqb-false 1 2 refl e) (λ e. eqb-false 1 3 refl e) m) k)
+    absurd (⊎-elim (λ e. eqb-false 1 0 refl e)
+    (λ m. ⊎-elim (λ e. eqb-false 1 2 refl e) (λ e. eqb-false 1 3 refl e) m) k)
 got-other R T C at φ Null r k h = (h, refl)
 got-other R T C at φ (Refusal n l) r k h = (h, refl)
 
-module _ (R T C : List ℕ) (at φ : ℕ) (t : Typing) (c : ℕ) (q : t ≡ Class c) (s : Sought) (e : s ≡ field-in R T c (getD R (at * 4 + 1) 0)) where
-  pub got-missing : (r : Answer) → s ≡ Missing → r ≡ refusal 8 at → (r ≡ got R T at t φ) × (C ≡ got-classes R T C at t)
+module _ (R T C : List ℕ) (at φ : ℕ) (t : Typing) (c : ℕ) (q : t ≡ Class c) (s : Sought)
+    (e : s ≡ field-in R T c (getD R (at * 4 + 1) 0)) where
+  pub got-missing : (r : Answer) → s ≡ Missing
+      → r ≡ refusal 8 at → (r ≡ got R T at t φ) × (C ≡ got-classes R T C at t)
   unfolding got got-classes found-answer noted
   got-missing r m h = (rw (q, sym e, m) h, rw (q, sym e, m))
 
@@ -264,6 +288,7 @@ module _ (T : List ℕ) (c : ℕ) where
   unfolding changeable-in
   change-root k f e g = rw (ne-eqb _ _ f, eq-eqb _ _ (sym e ∙ g))
 
-  pub change-state : (k : ℕ) → (c ≡ 0 → ⊥) → k ≡ getD T (c * 576 + 512) 0 → (k ≡ 1 → ⊥) → eqb k 2 ≡ changeable-in T c
+  pub change-state : (k : ℕ) → (c ≡ 0 → ⊥) → k ≡ getD T (c * 576 + 512) 0 → (k ≡ 1 → ⊥)
+      → eqb k 2 ≡ changeable-in T c
   unfolding changeable-in
   change-state k f e g = rw (ne-eqb _ _ f, ne-eqb _ _ (λ (y : getD T (c * 576 + 512) 0 ≡ 1). g (e ∙ y)), e)

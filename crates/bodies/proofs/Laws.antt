@@ -1,8 +1,8 @@
 -- Laws of the numbers that the functions over tables give. Assumes nothing.
-use mathlib.Core.Path.{_≡_, refl, sym, ap, ap₂, subst, _∙_}
-use mathlib.Core.Bool.{Bool, true, false, not, _&&_, _||_, cond, false≢true}
+use mathlib.Core.Path.{_≡_, refl, sym, ap, subst, _∙_}
+use mathlib.Core.Bool.{Bool, true, false, not, false≢true}
 use mathlib.Core.Logic.{_⊎_, inl, inr, ⊎-elim}
-use mathlib.Core.List.{List, [], _∷_}
+use mathlib.Core.List.{List}
 use Prim.Native.Nat.{ℕ, zero, suc, _+_, _-_, _*_, _/_, _^_, _≤_, _<_}
 use native.Mathlib.Omega.{arith}
 use borrow.Author.Tests.{eq-eqb, ne-eqb}
@@ -10,22 +10,26 @@ use lib.Bits.{bitAnd}
 use lib.Dec.{eqb}
 use lib.ListN.{length, getD, set, length-set}
 use lib.Seq.{getD-set-same, getD-set-other}
-use Rattle.language.specs.Effects.{member, effect-of}
-use Rattle.language.proofs.Effects.{member-mask, one-shifted}
+use Rattle.language.specs.Effects.{member}
+use Rattle.language.proofs.Effects.{member-mask}
 use Rattle.bodies.specs.declared.Typing.{Typing}
 use Rattle.bodies.specs.declared.Typing.the-variants.{Bool as bool-case, Class, Null, Refusal}
-use Rattle.bodies.specs.Tables.{Sound, PreNearest, Applicable, Run, Runs, CaseIn, root-in, applied, is-below, is-fitting}
-use Rattle.bodies.specs.Tables.{nearest-from, applied-number, joined-number, Known, a-class, a-bool, an-absence}
+use Rattle.bodies.specs.Tables.{PreNearest, Applicable, Run, CaseIn, root-in, applied, is-below}
+use Rattle.bodies.specs.Tables.{is-fitting}
+use Rattle.bodies.specs.Tables.{nearest-from, applied-number, joined-number, Known, a-class, a-bool}
+use Rattle.bodies.specs.Tables.{an-absence}
 use Rattle.bodies.specs.Tables.{Changed, Saved, Swapped, PreNumbers, PreJoin}
 
 pub shifted-member : (φ c k : ℕ) → k ≡ c - 1 → eqb (bitAnd (φ / 2 ^ k) 1) 1 ≡ member φ c
 shifted-member φ c k e = ap (λ (x : ℕ). eqb (bitAnd (φ / 2 ^ x) 1) 1) e ∙ member-mask φ c
 
-pub applied-yes : (T : List ℕ) (φ k root : ℕ) (b : Bool) → root ≡ root-in T k → b ≡ member φ root → b ≡ true → root ≡ applied T φ k
+pub applied-yes : (T : List ℕ) (φ k root : ℕ) (b : Bool) → root ≡ root-in T k → b ≡ member φ root → b ≡ true
+    → root ≡ applied T φ k
 unfolding applied
 applied-yes T φ k root b e f g = rw (sym e, sym f, g)
 
-pub applied-no : (T : List ℕ) (φ k root : ℕ) (b : Bool) → root ≡ root-in T k → b ≡ member φ root → b ≡ false → k ≡ applied T φ k
+pub applied-no : (T : List ℕ) (φ k root : ℕ) (b : Bool) → root ≡ root-in T k → b ≡ member φ root → b ≡ false
+    → k ≡ applied T φ k
 unfolding applied
 applied-no T φ k root b e f g = rw (sym e, sym f, g)
 
@@ -37,7 +41,8 @@ pub number-absent : (T : List ℕ) (φ n : ℕ) → (n ≡ 255 → ⊥) → n �
 unfolding applied-number
 number-absent T φ n f e = rw (ne-eqb n 255 f, eq-eqb n 65535 e)
 
-pub number-class : (T : List ℕ) (φ n : ℕ) → (n ≡ 255 → ⊥) → (n ≡ 65535 → ⊥) → applied T φ n ≡ applied-number T φ n
+pub number-class : (T : List ℕ) (φ n : ℕ) → (n ≡ 255 → ⊥) → (n ≡ 65535 → ⊥)
+    → applied T φ n ≡ applied-number T φ n
 unfolding applied-number
 number-class T φ n f g = rw (ne-eqb n 255 f, ne-eqb n 65535 g)
 
@@ -73,29 +78,45 @@ unfolding is-below
 going-positive A d zero b e f = absurd (false≢true (sym f ∙ e))
 going-positive A d (suc k) b e f = omega arith
 
-pub going-step : {T A : List ℕ} {c d k : ℕ} → PreNearest T A c d → Going T A c d k → (b : Bool) → b ≡ is-below A d k → b ≡ false
+pub going-step : {T A : List ℕ} {c d k : ℕ} → PreNearest T A c d → Going T A c d k → (b : Bool)
+    → b ≡ is-below A d k → b ≡ false
     → (s : ℕ) → s ≡ getD T (k * 576 + 513) 0 → (s < k) × Going T A c d s
 unfolding nearest-from
 going-step {T} {A} {c} {d} {k} p g b e f s q =
-    let l : s < k = omega (arith, q, p .sound .supers k (going-positive A d k b e f) (omega (arith, g .low, p .first))) in
+    let l : s < k = omega (
+      arith,
+      q,
+      p .sound .supers k (going-positive A d k b e f)
+          (omega (arith, g .low, p .first)),
+    ) in
     (l, go (g .n) (g .enough) (g .same) l)
   where
     go : (n : ℕ) → k < n → nearest-from T A (suc c) c d ≡ nearest-from T A n k d → s < k → Going T A c d s
     go zero h r l = absurd (omega arith)
-    go (suc n) h r l = record { n = n; enough = omega arith; same = r ∙ rw (sym e, f, sym q); low = omega (arith, g .low) }
+    go (suc n) h r l = record {
+      n = n;
+      enough = omega arith;
+      same = r ∙ rw (sym e, f, sym q);
+      low = omega
+          (arith, g .low);
+    }
 
 less-or-same : (i n : ℕ) → i ≤ n → (i < n) ⊎ (i ≡ n)
 less-or-same zero zero l = inr refl
 less-or-same zero (suc n) l = inl (omega arith)
 less-or-same (suc i) zero l = absurd (omega arith)
-less-or-same (suc i) (suc n) l = ⊎-elim (λ h. inl (omega arith)) (λ h. inr (ap suc h)) (less-or-same i n (omega arith))
+less-or-same (suc i) (suc n) l =
+    ⊎-elim (λ h. inl (omega arith)) (λ h. inr (ap suc h)) (less-or-same i n (omega arith))
 
 -- rows of one letter
-pub run-more : {R : List ℕ} {letter from n : ℕ} → Run R letter from n → (i : ℕ) → i ≤ n → getD R ((from + i) * 4) 0 ≡ letter → i < n
+pub run-more : {R : List ℕ} {letter from n : ℕ} → Run R letter from n → (i : ℕ) → i ≤ n
+    → getD R ((from + i) * 4) 0 ≡ letter → i < n
 run-more {R} {letter} {from} {n} r i l e =
-    ⊎-elim (λ h. h) (λ h. absurd (r .other (ap (λ (k : ℕ). getD R ((from + k) * 4) 0) (sym h) ∙ e))) (less-or-same i n l)
+    ⊎-elim (λ h. h) (λ h. absurd (r .other (ap (λ (k : ℕ). getD R ((from + k) * 4) 0) (sym h) ∙ e)))
+    (less-or-same i n l)
 
-pub run-done : {R : List ℕ} {letter from n : ℕ} → Run R letter from n → (i : ℕ) → i ≤ n → (getD R ((from + i) * 4) 0 ≡ letter → ⊥) → i ≡ n
+pub run-done : {R : List ℕ} {letter from n : ℕ} → Run R letter from n → (i : ℕ) → i ≤ n
+    → (getD R ((from + i) * 4) 0 ≡ letter → ⊥) → i ≡ n
 run-done {n = n} r i l e = ⊎-elim (λ h. absurd (e (r .each i h))) (λ h. h) (less-or-same i n l)
 
 pub not-yes : (b : Bool) → not b ≡ true → b ≡ false
@@ -133,8 +154,15 @@ known-class (a-class h) f g = h
 known-class a-bool f g = absurd (f refl)
 known-class an-absence f g = absurd (g refl)
 
-pub known-nearest : {T A : List ℕ} {a b : ℕ} → PreNumbers T A a b → (a ≡ 255 → ⊥) → (a ≡ 65535 → ⊥) → (b ≡ 255 → ⊥) → (b ≡ 65535 → ⊥) → PreNearest T A a b
-known-nearest p f g h k = record { count = p .count; sound = p .sound; first = known-class (p .first) f g; second = known-class (p .second) h k }
+pub known-nearest : {T A : List ℕ} {a b : ℕ} → PreNumbers T A a b → (a ≡ 255 → ⊥) → (a ≡ 65535 → ⊥)
+    → (b ≡ 255 → ⊥) → (b ≡ 65535 → ⊥) → PreNearest T A a b
+known-nearest p f g h k =
+    record {
+      count = p .count;
+      sound = p .sound;
+      first = known-class (p .first) f g;
+      second = known-class (p .second) h k;
+    }
 
 module _ (T A : List ℕ) (a b : ℕ) where
   pub joined-1 : a ≡ 255 → a ≡ joined-number T A a b
@@ -153,7 +181,8 @@ module _ (T A : List ℕ) (a b : ℕ) where
   unfolding joined-number
   joined-4 f g h e = rw (ne-eqb a 255 f, ne-eqb a 65535 g, ne-eqb b 255 h, eq-eqb b 65535 e)
 
-  pub joined-5 : (a ≡ 255 → ⊥) → (a ≡ 65535 → ⊥) → (b ≡ 255 → ⊥) → (b ≡ 65535 → ⊥) → nearest-from T A (suc a) a b ≡ joined-number T A a b
+  pub joined-5 : (a ≡ 255 → ⊥) → (a ≡ 65535 → ⊥) → (b ≡ 255 → ⊥) → (b ≡ 65535 → ⊥)
+      → nearest-from T A (suc a) a b ≡ joined-number T A a b
   unfolding joined-number
   joined-5 f g h k = rw (ne-eqb a 255 f, ne-eqb a 65535 g, ne-eqb b 255 h, ne-eqb b 65535 k)
 
@@ -161,7 +190,8 @@ module _ (T A : List ℕ) (a b : ℕ) where
 pub changed-start : (S : List ℕ) (f : ℕ → ℕ) → Changed S S 0 f
 changed-start S f = record { long = refl; below = λ k l. absurd (omega arith); rest = λ k l. refl }
 
-pub changed-step : {S S′ : List ℕ} {i : ℕ} {f : ℕ → ℕ} → Changed S S′ i f → i < length S → (v : ℕ) → v ≡ f i → Changed S (set S′ i v) (i + 1) f
+pub changed-step : {S S′ : List ℕ} {i : ℕ} {f : ℕ → ℕ} → Changed S S′ i f → i < length S → (v : ℕ) → v ≡ f i
+    → Changed S (set S′ i v) (i + 1) f
 changed-step {S} {S′} {i} {f} c l v e = record {
   long = length-set S′ i v ∙ c .long;
   below = λ k h. ⊎-elim
@@ -174,12 +204,15 @@ changed-step {S} {S′} {i} {f} c l v e = record {
 pub saved-start : (S : List ℕ) (top : ℕ) → Saved S S top 0
 saved-start S top = record { long = refl; copied = λ k l. absurd (omega arith); below = λ k l. refl }
 
-pub saved-step : {S S′ : List ℕ} {top i : ℕ} → Saved S S′ top i → top + i < length S → i < top → Saved S (set S′ (top + i) (getD S′ i 0)) top (i + 1)
+pub saved-step : {S S′ : List ℕ} {top i : ℕ} → Saved S S′ top i → top + i < length S → i < top
+    → Saved S (set S′ (top + i) (getD S′ i 0)) top (i + 1)
 saved-step {S} {S′} {top} {i} c l h = record {
   long = length-set S′ (top + i) (getD S′ i 0) ∙ c .long;
   copied = λ k m. ⊎-elim
-      (λ (m : k < i). getD-set-other S′ (top + i) (top + k) (getD S′ i 0) 0 (λ q. omega arith) ∙ c .copied k m)
-      (λ (q : k ≡ i). rw q (getD-set-same S′ (top + i) (getD S′ i 0) 0 (omega (arith, c .long)) ∙ c .below i h))
+      (λ (m : k < i). getD-set-other S′ (top + i) (top + k) (getD S′ i 0) 0 (λ q. omega arith)
+      ∙ c .copied k m)
+      (λ (q : k ≡ i). rw q (getD-set-same S′ (top + i) (getD S′ i 0) 0 (omega (arith, c .long)) ∙ c .below i
+      h))
       (less-or-same k i (omega arith));
   below = λ k m. getD-set-other S′ (top + i) k (getD S′ i 0) 0 (λ q. omega arith) ∙ c .below k m;
 }
@@ -191,7 +224,12 @@ pub record Swapping (S S′ : List ℕ) (top n : ℕ) : Type 0 where
 
 pub swapping-start : (S : List ℕ) (top : ℕ) → Swapping S S top 0
 swapping-start S top = record {
-  swapped = record { long = refl; first = λ k l. absurd (omega arith); second = λ k l. absurd (omega arith); between = λ k l m. refl };
+  swapped = record {
+    long = refl;
+    first = λ k l. absurd (omega arith);
+    second = λ k l. absurd (omega arith);
+    between = λ k l m. refl;
+  };
   rest = λ k l. refl;
 }
 
@@ -207,29 +245,36 @@ swapping-step {S} {S′} {top} {i} c l h =
         long = length-set U (top + i) a ∙ length-set S′ i b ∙ w .long;
         first = λ k m. getD-set-other U (top + i) k a 0 (λ q. omega arith) ∙ ⊎-elim
             (λ (m : k < i). getD-set-other S′ i k b 0 (λ q. omega arith) ∙ w .first k m)
-            (λ (q : k ≡ i). rw q (getD-set-same S′ i b 0 (omega (arith, w .long)) ∙ c .rest (top + i) (omega arith)))
+            (λ (q : k ≡ i). rw q (getD-set-same S′ i b 0 (omega (arith, w .long)) ∙ c .rest (top + i)
+            (omega arith)))
             (less-or-same k i (omega arith));
         second = λ k m. ⊎-elim
-            (λ (m : k < i). getD-set-other U (top + i) (top + k) a 0 (λ q. omega arith) ∙ getD-set-other S′ i (top + k) b 0 (λ q. omega arith) ∙ w .second k m)
-            (λ (q : k ≡ i). rw q (getD-set-same U (top + i) a 0 (omega (arith, w .long, length-set S′ i b)) ∙ w .between i (omega arith) h))
+            (λ (m : k < i). getD-set-other U (top + i) (top + k) a 0 (λ q. omega arith)
+            ∙ getD-set-other S′ i (top + k) b 0 (λ q. omega arith) ∙ w .second k m)
+            (λ (q : k ≡ i). rw q (getD-set-same U (top + i) a 0 (omega (arith, w .long, length-set S′ i b)) ∙
+            w .between i (omega arith) h))
             (less-or-same k i (omega arith));
-        between = λ k m o. getD-set-other U (top + i) k a 0 (λ q. omega arith) ∙ getD-set-other S′ i k b 0 (λ q. omega arith) ∙ w .between k (omega arith) o;
+        between = λ k m o. getD-set-other U (top + i) k a 0 (λ q. omega arith)
+            ∙ getD-set-other S′ i k b 0 (λ q. omega arith) ∙ w .between k (omega arith) o;
       };
-      rest = λ k m. getD-set-other U (top + i) k a 0 (λ q. omega arith) ∙ getD-set-other S′ i k b 0 (λ q. omega arith) ∙ c .rest k (omega arith);
+      rest = λ k m. getD-set-other U (top + i) k a 0 (λ q. omega arith)
+          ∙ getD-set-other S′ i k b 0 (λ q. omega arith) ∙ c .rest k (omega arith);
     }
 
 -- what holds at a loop's last number
 pub at-end : (P : ℕ → Type 0) (i n : ℕ) → i ≤ n → n ≤ i → P i → P n
 at-end P i n l m h = let e : i ≡ n = omega arith in subst P e h
 
-pub fit-class-other : (A : List ℕ) (t : Typing) (c n : ℕ) (b : Bool) → t ≡ Class c → (n ≡ 255 → ⊥) → b ≡ is-below A c n → b ≡ is-fitting A t n
+pub fit-class-other : (A : List ℕ) (t : Typing) (c n : ℕ) (b : Bool) → t ≡ Class c → (n ≡ 255 → ⊥)
+    → b ≡ is-below A c n → b ≡ is-fitting A t n
 unfolding is-fitting
 fit-class-other A t c n b q f e = rw (q, ne-eqb n 255 f) e
 
 pub applicable-same : (T : List ℕ) (a b : ℕ) → a ≡ b → Applicable T b → Applicable T a
 applicable-same T a b e h = rw e h
 
-pub numbers-same : {T A S S′ : List ℕ} {n top i : ℕ} {f : ℕ → ℕ} → PreJoin T A S n top → Changed S S′ i f → i < n
+pub numbers-same : {T A S S′ : List ℕ} {n top i : ℕ} {f : ℕ → ℕ} → PreJoin T A S n top → Changed S S′ i f
+    → i < n
     → PreNumbers T A (getD S′ (top + i) 0) (getD S′ i 0)
 numbers-same {T} {A} {S} {S′} {n} {top} {i} p c l = record {
   count = p .count;
@@ -238,15 +283,20 @@ numbers-same {T} {A} {S} {S′} {n} {top} {i} p c l = record {
   second = rw (c .rest i (omega arith)) (p .slots i l);
 }
 
-pub joined-same : {T A S S′ : List ℕ} {n top i : ℕ} {f : ℕ → ℕ} → PreJoin T A S n top → Changed S S′ i f → i < n
-    → joined-number T A (getD S′ (top + i) 0) (getD S′ i 0) ≡ joined-number T A (getD S (top + i) 0) (getD S i 0)
-joined-same {T} {A} {S} {S′} {n} {top} {i} p c l = rw (c .rest (top + i) (omega (arith, p .apart)), c .rest i (omega arith))
+pub joined-same : {T A S S′ : List ℕ} {n top i : ℕ} {f : ℕ → ℕ} → PreJoin T A S n top → Changed S S′ i f
+    → i < n
+    → joined-number T A (getD S′ (top + i) 0) (getD S′ i 0)
+    ≡ joined-number T A (getD S (top + i) 0) (getD S i 0)
+joined-same {T} {A} {S} {S′} {n} {top} {i} p c l =
+    rw (c .rest (top + i) (omega (arith, p .apart)), c .rest i (omega arith))
 
-pub changed-end : {S S′ : List ℕ} {i : ℕ} {f : ℕ → ℕ} → Changed S S′ i f → (n : ℕ) → i ≤ n → n ≤ i → Changed S S′ n f
+pub changed-end : {S S′ : List ℕ} {i : ℕ} {f : ℕ → ℕ} → Changed S S′ i f → (n : ℕ) → i ≤ n → n ≤ i
+    → Changed S S′ n f
 changed-end {S} {S′} {i} {f} c n l m = at-end (λ k. Changed S S′ k f) i n l m c
 
 pub saved-end : {S S′ : List ℕ} {top i : ℕ} → Saved S S′ top i → (n : ℕ) → i ≤ n → n ≤ i → Saved S S′ top n
 saved-end {S} {S′} {top} {i} c n l m = at-end (λ k. Saved S S′ top k) i n l m c
 
-pub swapping-end : {S S′ : List ℕ} {top i : ℕ} → Swapping S S′ top i → (n : ℕ) → i ≤ n → n ≤ i → Swapped S S′ top n
+pub swapping-end : {S S′ : List ℕ} {top i : ℕ} → Swapping S S′ top i → (n : ℕ) → i ≤ n → n ≤ i
+    → Swapped S S′ top n
 swapping-end {S} {S′} {top} {i} c n l m = at-end (λ k. Swapped S S′ top k) i n l m (c .swapped)

@@ -1,31 +1,30 @@
 -- Environments as numbers in slots: what each change of an environment makes of them. Assumes nothing.
 use mathlib.Core.Path.{_≡_, refl, sym, ap, ap₂, subst, _∙_}
-use mathlib.Core.Bool.{Bool, true, false, not, _&&_, _||_, cond, false≢true}
-use mathlib.Core.Logic.{_⊎_, inl, inr, ⊎-elim}
+use mathlib.Core.Bool.{Bool, true, false, _||_, cond, false≢true}
 use mathlib.Core.Option.{Option, none, some}
 use mathlib.Core.List.{List, [], _∷_, _++_, map}
 use Prim.Native.Nat.{ℕ, zero, suc, _+_, _-_, _*_, _≤_, _<_}
 use native.Mathlib.Omega.{arith}
-use borrow.Author.Tests.{eq-eqb, ne-eqb, leb-true, le-leb}
-use lib.Dec.{eqb, leb}
-use lib.ListN.{length, getD, take, set as replaced, length-set, length-append}
-use lib.Seq.{ext-getD, getD-take, length-take-le, getD-set-same, getD-set-other}
+use borrow.Author.Tests.{ne-eqb}
+use lib.Dec.{eqb}
+use lib.ListN.{length, getD, take, set as replaced}
+use lib.Seq.{ext-getD, getD-take, length-take-le}
 use Rattle.language.specs.Lists.{nth, Never, inj, map-option, given}
-use Rattle.language.specs.Results.{Checked, accept, refuse, bind-checked, need-checked, require, accept≢refuse, accept-injective, bind-checked-inv, need-checked-inv, require-inv}
-use Rattle.language.specs.Frames.{at-slot, with-slot, opened, closed, map-frame, frame}
-use Rattle.language.specs.Tree.{DeclaredType, bool, class, type-number, Class, Kind, plain, root, state, unknown, kind-number}
+use Rattle.language.specs.Frames.{at-slot, with-slot, opened, closed, map-frame}
+use Rattle.language.specs.Tree.{DeclaredType, bool, class, type-number, Class, Kind, plain, root, state}
+use Rattle.language.specs.Tree.{unknown, kind-number}
 use Rattle.language.specs.World.{World, is-declared-type}
-use Rattle.language.specs.Effects.{apply, apply-class}
+use Rattle.language.specs.Effects.{apply}
 use Rattle.language.specs.Program.{world, class-at, is-changeable, is-root, is-state}
-use Rattle.language.specs.Typing.{Slot, Environment, fresh-slot, with-type, apply-slot, apply-all, join-slot, join-slots, join-currents, join-this, join-environments}
+use Rattle.language.specs.Typing.{Slot, Environment, fresh-slot, join-slot, join-slots, join-currents}
+use Rattle.language.specs.Typing.{join-this, join-environments}
 use Rattle.language.proofs.Classes as classes
 use Rattle.bodies.specs.Answers.{numbers, this-number, absent}
-use Rattle.bodies.specs.Tables.{Headed, applied-number, applied, joined-number, nearest-from}
+use Rattle.bodies.specs.Tables.{Headed, applied-number, joined-number}
 use Rattle.bodies.specs.Nodes.{changeable-in}
 use Rattle.bodies.specs.Cycle.{Views}
 use Rattle.bodies.proofs.Worlds.{applied-is, nearest-is}
 use Rattle.bodies.proofs.Turns.{class-low, low-class}
-use Rattle.bodies.proofs.TurnsLeaves.{views-long, views-at}
 
 abbrev pub number : Slot → ℕ
 number s = type-number (s .current)
@@ -57,7 +56,11 @@ module _ (W : World) where
   good-this (some s) f = f s refl
 
   pub fine-of : (γ : Environment) → ((k : ℕ) (s : Slot) → at-slot γ k ≡ some s → Good s) → Fine γ
-  fine-of γ f = record { this = good-this (γ .this) (λ s e. f 0 s e); slots = good-list (γ .slots) (λ k s e. f (suc k) s e) }
+  fine-of γ f = record {
+    this = good-this (γ .this) (λ s e. f 0 s e);
+    slots = good-list (γ .slots)
+        (λ k s e. f (suc k) s e);
+  }
 
   good-at : (l : List Slot) → AllGood l → (k : ℕ) (s : Slot) → nth l k ≡ some s → Good s
   unfolding AllGood nth
@@ -74,17 +77,21 @@ module _ (W : World) where
   fine-at {γ} g (suc k) s e = good-at (γ .slots) (g .slots) k s e
 
   -- mapped, replaced, appended, cut
-  good-map : (f : Slot → Slot) → ((s : Slot) → Good s → Good (f s)) → (l : List Slot) → AllGood l → AllGood (map f l)
+  good-map : (f : Slot → Slot) → ((s : Slot) → Good s → Good (f s)) → (l : List Slot) → AllGood l
+      → AllGood (map f l)
   unfolding AllGood
   good-map f k [] g = tt
   good-map f k (s ∷ l) g = (k s (g .0), good-map f k l (g .1))
 
-  this-map : (f : Slot → Slot) → ((s : Slot) → Good s → Good (f s)) → (o : Option Slot) → ThisGood o → ThisGood (map-option f o)
+  this-map : (f : Slot → Slot) → ((s : Slot) → Good s → Good (f s)) → (o : Option Slot) → ThisGood o
+      → ThisGood (map-option f o)
   this-map f k none g = tt
   this-map f k (some s) g = k s g
 
-  pub fine-map : (f : Slot → Slot) → ((s : Slot) → Good s → Good (f s)) → {γ : Environment} → Fine γ → Fine (map-frame f γ)
-  fine-map f k {γ} g = record { this = this-map f k (γ .this) (g .this); slots = good-map f k (γ .slots) (g .slots) }
+  pub fine-map : (f : Slot → Slot) → ((s : Slot) → Good s → Good (f s)) → {γ : Environment} → Fine γ
+      → Fine (map-frame f γ)
+  fine-map f k {γ} g =
+      record { this = this-map f k (γ .this) (g .this); slots = good-map f k (γ .slots) (g .slots) }
 
   good-set : (l : List Slot) (k : ℕ) (s : Slot) → AllGood l → Good s → AllGood (replaced l k s)
   unfolding AllGood
@@ -131,10 +138,15 @@ module _ (W : World) where
     this-join (some s) (some t) g h = k s t g h
 
     pub fine-join : {γ δ : Environment} → Fine γ → Fine δ → Fine (join-environments W γ δ)
-    fine-join {γ} {δ} g h = record { this = this-join (γ .this) (δ .this) (g .this) (h .this); slots = good-join (γ .slots) (δ .slots) (g .slots) (h .slots) }
+    fine-join {γ} {δ} g h =
+        record {
+          this = this-join (γ .this) (δ .this) (g .this) (h .this);
+          slots = good-join (γ .slots) (δ .slots) (g .slots) (h .slots);
+        }
 
   -- slots that hold an environment's numbers
-  pub views-of : (γ : Environment) (S : List ℕ) (scope : ℕ) → Fine γ → scope ≤ length S → length (numbers γ) ≡ scope
+  pub views-of : (γ : Environment) (S : List ℕ) (scope : ℕ) → Fine γ → scope ≤ length S
+      → length (numbers γ) ≡ scope
       → ((k : ℕ) → k < scope → getD S k 0 ≡ getD (numbers γ) k 0) → Views W γ S scope
   views-of γ S scope g l e f = record {
     same =
@@ -148,13 +160,15 @@ module _ (W : World) where
   views-fine {γ} v = fine-of γ (v .declared)
 
 -- numbers of an environment with all slots changed
-list-map : (W : World) (f : Slot → Slot) (g : ℕ → ℕ) → ((s : Slot) → Good W s → number (f s) ≡ g (number s)) → (l : List Slot) → AllGood W l
+list-map : (W : World) (f : Slot → Slot) (g : ℕ → ℕ) → ((s : Slot) → Good W s → number (f s) ≡ g (number s))
+    → (l : List Slot) → AllGood W l
     → map number (map f l) ≡ map g (map number l)
 unfolding AllGood
 list-map W f g k [] h = refl
 list-map W f g k (s ∷ l) h = ap₂ (λ (x : ℕ) (xs : List ℕ). x ∷ xs) (k s (h .0)) (list-map W f g k l (h .1))
 
-pub numbers-map : (W : World) (f : Slot → Slot) (g : ℕ → ℕ) → g absent ≡ absent → ((s : Slot) → Good W s → number (f s) ≡ g (number s))
+pub numbers-map : (W : World) (f : Slot → Slot) (g : ℕ → ℕ) → g absent ≡ absent
+    → ((s : Slot) → Good W s → number (f s) ≡ g (number s))
     → {γ : Environment} → Fine W γ → numbers (map-frame f γ) ≡ map g (numbers γ)
 unfolding numbers
 numbers-map W f g z k {γ} h =
@@ -170,17 +184,21 @@ getD-map g (x ∷ l) zero h = refl
 getD-map g (x ∷ l) (suc i) h = getD-map g l i (omega arith)
 
 -- with one slot changed
-list-set : (l : List Slot) (k : ℕ) (s : Slot) → map number (replaced l k s) ≡ replaced (map number l) k (number s)
+list-set : (l : List Slot) (k : ℕ) (s : Slot)
+    → map number (replaced l k s) ≡ replaced (map number l) k (number s)
 list-set [] k s = refl
 list-set (x ∷ l) zero s = refl
 list-set (x ∷ l) (suc k) s = ap (λ (r : List ℕ). number x ∷ r) (list-set l k s)
 
-pub numbers-with : (γ : Environment) (k : ℕ) (s t : Slot) → at-slot γ k ≡ some t → numbers (with-slot γ k s) ≡ replaced (numbers γ) k (number s)
+pub numbers-with : (γ : Environment) (k : ℕ) (s t : Slot) → at-slot γ k ≡ some t
+    → numbers (with-slot γ k s) ≡ replaced (numbers γ) k (number s)
 unfolding numbers
-numbers-with γ zero s t e = ap (λ (o : Option Slot). this-number (map-option (λ b. s) o) ∷ map number (γ .slots)) e
+numbers-with γ zero s t e =
+    ap (λ (o : Option Slot). this-number (map-option (λ b. s) o) ∷ map number (γ .slots)) e
 numbers-with γ (suc k) s t e = ap (λ (r : List ℕ). this-number (γ .this) ∷ r) (list-set (γ .slots) k s)
 
-pub at-map : (f : Slot → Slot) (γ : Environment) (k : ℕ) (s : Slot) → at-slot γ k ≡ some s → at-slot (map-frame f γ) k ≡ some (f s)
+pub at-map : (f : Slot → Slot) (γ : Environment) (k : ℕ) (s : Slot) → at-slot γ k ≡ some s
+    → at-slot (map-frame f γ) k ≡ some (f s)
 at-map f γ zero s e = ap (map-option f) e
 at-map f γ (suc k) s e = Rattle.language.specs.Lists.nth-map f k (γ .slots) s e
 
@@ -193,10 +211,13 @@ list-fresh : (ts : List DeclaredType) → map number (map fresh-slot ts) ≡ map
 list-fresh [] = refl
 list-fresh (t ∷ ts) = ap (λ (r : List ℕ). type-number t ∷ r) (list-fresh ts)
 
-pub numbers-opened : (γ : Environment) (ts : List DeclaredType) → numbers (opened γ (map fresh-slot ts)) ≡ numbers γ ++ map type-number ts
+pub numbers-opened : (γ : Environment) (ts : List DeclaredType)
+    → numbers (opened γ (map fresh-slot ts)) ≡ numbers γ ++ map type-number ts
 unfolding numbers
 numbers-opened γ ts =
-    ap (λ (r : List ℕ). this-number (γ .this) ∷ r) (list-append (γ .slots) (map fresh-slot ts) ∙ ap (λ (r : List ℕ). map number (γ .slots) ++ r) (list-fresh ts))
+    ap (λ (r : List ℕ). this-number (γ .this) ∷ r)
+    (list-append (γ .slots) (map fresh-slot ts)
+    ∙ ap (λ (r : List ℕ). map number (γ .slots) ++ r) (list-fresh ts))
 
 list-take : (n : ℕ) (l : List Slot) → map number (take n l) ≡ take n (map number l)
 list-take zero l = refl
@@ -237,22 +258,26 @@ module _ (W : World) (g : ℕ → ℕ → ℕ) (z : g absent absent ≡ absent)
   join-length (s ∷ l) [] e = absurd (omega arith)
   join-length (s ∷ l) (t ∷ m) e = ap suc (join-length l m (omega arith))
 
-  pub numbers-join : {γ δ : Environment} → Fine W γ → Fine W δ → length (γ .slots) ≡ length (δ .slots) → has (γ .this) ≡ has (δ .this)
+  pub numbers-join : {γ δ : Environment} → Fine W γ → Fine W δ → length (γ .slots) ≡ length (δ .slots)
+      → has (γ .this) ≡ has (δ .this)
       → (length (numbers (join-environments W γ δ)) ≡ suc (length (γ .slots)))
-      × ((i : ℕ) → i < suc (length (γ .slots)) → getD (numbers (join-environments W γ δ)) i 0 ≡ g (getD (numbers γ) i 0) (getD (numbers δ) i 0))
+      × ((i : ℕ) → i < suc (length (γ .slots))
+      → getD (numbers (join-environments W γ δ)) i 0 ≡ g (getD (numbers γ) i 0) (getD (numbers δ) i 0))
   unfolding numbers
   numbers-join {γ} {δ} p q e t = (
     ap suc (map-length (join-slots W (γ .slots) (δ .slots)) ∙ join-length (γ .slots) (δ .slots) e),
     λ i. go i,
   )
     where
-      this : (o u : Option Slot) → has o ≡ has u → ThisGood W o → ThisGood W u → this-number (join-this W o u) ≡ g (this-number o) (this-number u)
+      this : (o u : Option Slot) → has o ≡ has u → ThisGood W o → ThisGood W u
+          → this-number (join-this W o u) ≡ g (this-number o) (this-number u)
       this none none t a b = sym z
       this none (some s) t a b = absurd (false≢true t)
       this (some s) none t a b = absurd (false≢true (sym t))
       this (some s) (some u) t a b = k s u a b
 
-      go : (i : ℕ) → i < suc (length (γ .slots)) → getD (numbers (join-environments W γ δ)) i 0 ≡ g (getD (numbers γ) i 0) (getD (numbers δ) i 0)
+      go : (i : ℕ) → i < suc (length (γ .slots))
+          → getD (numbers (join-environments W γ δ)) i 0 ≡ g (getD (numbers γ) i 0) (getD (numbers δ) i 0)
       go zero h = this (γ .this) (δ .this) t (p .this) (q .this)
       go (suc i) h = list-join (γ .slots) (δ .slots) (p .slots) (q .slots) e i (omega arith)
 
@@ -264,17 +289,21 @@ module _ {P : List Class} {R T A : List ℕ} {count : ℕ} (h : Headed P R T A c
   pub not-absent : (c : ℕ) → c ≤ count → eqb c 65535 ≡ false
   not-absent c l = ne-eqb c 65535 (λ e. omega (arith, h .classes .few))
 
-  pub apply-number : (φ : ℕ) (t : DeclaredType) → is-declared-type (world P) t ≡ true → type-number (apply (world P) φ t) ≡ applied-number T φ (type-number t)
+  pub apply-number : (φ : ℕ) (t : DeclaredType) → is-declared-type (world P) t ≡ true
+      → type-number (apply (world P) φ t) ≡ applied-number T φ (type-number t)
   unfolding applied-number
   apply-number φ bool d = refl
-  apply-number φ (class c) d = let l = class-low c h d in rw (not-255 c l, not-absent c l) (sym (applied-is (h .classes) φ c l))
+  apply-number φ (class c) d = let l = class-low c h d in
+      rw (not-255 c l, not-absent c l) (sym (applied-is (h .classes) φ c l))
 
-  pub apply-declared : (φ : ℕ) (t : DeclaredType) → is-declared-type (world P) t ≡ true → is-declared-type (world P) (apply (world P) φ t) ≡ true
+  pub apply-declared : (φ : ℕ) (t : DeclaredType) → is-declared-type (world P) t ≡ true
+      → is-declared-type (world P) (apply (world P) φ t) ≡ true
   apply-declared φ bool d = refl
   apply-declared φ (class c) d =
       low-class _ h (omega (arith, class-low c h d, classes.apply-within P (h .classes .lower) φ c))
 
-  pub joined-numbers : (t u : DeclaredType) → is-declared-type (world P) t ≡ true → is-declared-type (world P) u ≡ true
+  pub joined-numbers : (t u : DeclaredType) → is-declared-type (world P) t ≡ true
+      → is-declared-type (world P) u ≡ true
       → type-number (join-currents (world P) t u) ≡ joined-number T A (type-number t) (type-number u)
   unfolding joined-number
   joined-numbers bool u d e = refl
@@ -284,22 +313,30 @@ module _ {P : List Class} {R T A : List ℕ} {count : ℕ} (h : Headed P R T A c
       let m = class-low k h e in
       rw (not-255 c l, not-absent c l, not-255 k m, not-absent k m) (sym (nearest-is (h .classes) c k l m))
 
-  pub join-declared : (t u : DeclaredType) → is-declared-type (world P) t ≡ true → is-declared-type (world P) u ≡ true
+  pub join-declared : (t u : DeclaredType) → is-declared-type (world P) t ≡ true
+      → is-declared-type (world P) u ≡ true
       → is-declared-type (world P) (join-currents (world P) t u) ≡ true
   join-declared bool u d e = refl
   join-declared (class c) bool d e = d
   join-declared (class c) (class k) d e =
       let l = class-low c h d in
-      low-class _ h (omega (arith, l, classes.nearest-within P (h .classes .lower) c k (omega (arith, l, h .classes .counted))))
+      low-class _ h (omega (
+        arith,
+        l,
+        classes.nearest-within P (h .classes .lower) c k
+            (omega (arith, l, h .classes .counted)),
+      ))
 
   -- a root or state class
   pub changeable-is : (c : ℕ) → c ≤ count → changeable-in T c ≡ world P .changeable c
   unfolding changeable-in world is-changeable class-at
   changeable-is zero l = refl
   changeable-is (suc c) l =
-      rw (ne-eqb (suc c) 0 (λ e. omega arith)) (go (classes.class-some P (suc c) (omega arith) (omega (arith, h .classes .counted))))
+      rw (ne-eqb (suc c) 0 (λ e. omega arith))
+      (go (classes.class-some P (suc c) (omega arith) (omega (arith, h .classes .counted))))
     where
-      by-kind : (k : Kind) (n : ℕ) → n ≡ kind-number k → ((m : ℕ) → k ≡ unknown m → ⊥) → cond (eqb n 1) true (eqb n 2) ≡ is-root k || is-state k
+      by-kind : (k : Kind) (n : ℕ) → n ≡ kind-number k → ((m : ℕ) → k ≡ unknown m → ⊥)
+          → cond (eqb n 1) true (eqb n 2) ≡ is-root k || is-state k
       by-kind plain n e f = rw e
       by-kind root n e f = rw e
       by-kind state n e f = rw e
@@ -309,5 +346,6 @@ module _ {P : List Class} {R T A : List ℕ} {count : ℕ} (h : Headed P R T A c
           → cond (eqb (getD T (suc c * 576 + 512) 0) 1) true (eqb (getD T (suc c * 576 + 512) 0) 2)
           ≡ given (nth P c) false (λ y. is-root (y .kind) || is-state (y .kind))
       go (x, e) =
-          by-kind (x .kind) (getD T (suc c * 576 + 512) 0) (h .classes .tables .kinds (suc c) x e) (λ m q. h .kinds (suc c) m x e q)
+          by-kind (x .kind) (getD T (suc c * 576 + 512) 0) (h .classes .tables .kinds (suc c) x e)
+          (λ m q. h .kinds (suc c) m x e q)
           ∙ sym (ap (λ (o : Option Class). given o false (λ y. is-root (y .kind) || is-state (y .kind))) e)

@@ -3,7 +3,7 @@ use mathlib.Core.Path.{_≡_, refl, sym, ap, subst, _∙_}
 use mathlib.Core.Bool.{true}
 use mathlib.Core.Option.{some}
 use mathlib.Core.List.{List, [], _∷_, map}
-use mathlib.Core.Logic.{_⊎_, inl, inr}
+use mathlib.Core.Logic.{inl, inr}
 use Prim.Native.Nat.{ℕ, zero, suc, _+_, _-_, _*_, _≤_, _<_}
 use native.Mathlib.Omega.{arith}
 use lib.ListN.{length, getD}
@@ -12,19 +12,19 @@ use Rattle.language.specs.Limits.{of-check}
 use Rattle.language.specs.Tree.{DeclaredType, type-number, Expr, Declaration, Class, Program}
 use Rattle.language.specs.World.{World, is-declared-type}
 use Rattle.language.specs.Program.{world}
-use Rattle.language.specs.Typing.{Slot, Environment, fresh-slot, method-environment, start-environment}
+use Rattle.language.specs.Typing.{Slot, fresh-slot, method-environment, start-environment}
 use Rattle.language.specs.WellFormed.{BodyInForm, form-body}
 use Rattle.language.specs.Layout.{ParametersAt, EffectsAt, MethodAt, body-row, start-row}
 use Rattle.bodies.specs.declared.Answer.{Answer}
 use Rattle.bodies.specs.Answers.{numbers}
 use Rattle.bodies.specs.Tables.{EffectsAt as LowEffectsAt, Headed, Run}
 use Rattle.bodies.specs.Acts.{EffectLines}
-use Rattle.bodies.specs.Cycle.{Limited, Views, Room, Pre, Post, Is}
+use Rattle.bodies.specs.Cycle.{Limited, Views, Pre, Post, Is}
 use Rattle.bodies.specs.Whole.{FirstBlock, Ready}
 use Rattle.bodies.proofs.Turns.{Given, pre-of, post-is, low-class}
 use Rattle.bodies.proofs.TurnsLeaves.{le-or-less}
 use Rattle.bodies.proofs.TurnsLetters.{head}
-use Rattle.bodies.proofs.LinksBase.{Good, AllGood, Fine, views-of}
+use Rattle.bodies.proofs.LinksBase.{AllGood, views-of}
 use Rattle.bodies.proofs.Forms.{limited-node}
 
 -- The letters of P and X lines.
@@ -38,7 +38,8 @@ each-parameter R (t ∷ ts) r a (suc i) l =
     let z : r + 1 + i ≡ r + suc i = omega arith in
     subst (λ (k : ℕ). getD R (k * 4) 0 ≡ 80) z (each-parameter R ts (r + 1) (a .1) i (omega (arith, l)))
 
-each-effect : (R cs : List ℕ) (r : ℕ) → EffectsAt R cs r → (i : ℕ) → i < length cs → getD R ((r + i) * 4) 0 ≡ 88
+each-effect : (R cs : List ℕ) (r : ℕ) → EffectsAt R cs r → (i : ℕ) → i < length cs
+    → getD R ((r + i) * 4) 0 ≡ 88
 unfolding EffectsAt
 each-effect R [] r a i l = absurd (omega (arith, l))
 each-effect R (c ∷ cs) r a zero l =
@@ -51,7 +52,8 @@ other : {x a b : ℕ} → x ≡ a → x ≡ b → (a ≡ b → ⊥) → ⊥
 other p q f = f (sym p ∙ q)
 
 -- A line of a heading is no B line.
-heading-line : (R E : List ℕ) (m : Declaration) (r : ℕ) → MethodAt R E m r → (i : ℕ) → r < i → i < body-row r m
+heading-line : (R E : List ℕ) (m : Declaration) (r : ℕ) → MethodAt R E m r → (i : ℕ) → r < i
+    → i < body-row r m
     → getD R (i * 4) 0 ≡ 66 → ⊥
 heading-line R E m r a i l u e = elim (le-or-less (r + 1 + length (m .parameters)) i) [
   | inl p ↦
@@ -68,7 +70,8 @@ heading-line R E m r a i l u e = elim (le-or-less (r + 1 + length (m .parameters
       other x e (λ q. absurd (omega (arith, q)))
 ]
 
-pub heading-first : (R E : List ℕ) (m : Declaration) (r : ℕ) → MethodAt R E m r → getD R (body-row r m * 4) 0 ≡ 66
+pub heading-first : (R E : List ℕ) (m : Declaration) (r : ℕ) → MethodAt R E m r
+    → getD R (body-row r m * 4) 0 ≡ 66
     → FirstBlock R r (body-row r m)
 heading-first R E m r a b = record {
   after = omega arith;
@@ -86,7 +89,8 @@ after-parameters R [] q a b e =
     other (subst (λ (k : ℕ). getD R (k * 4) 0 ≡ 66) z b) e (λ x. absurd (omega (arith, x)))
 after-parameters R (c ∷ cs) q a b e = other (a .0 .letter) e (λ x. absurd (omega (arith, x)))
 
-pub heading-count : (R E : List ℕ) (m : Declaration) (r : ℕ) → MethodAt R E m r → getD R (body-row r m * 4) 0 ≡ 66
+pub heading-count : (R E : List ℕ) (m : Declaration) (r : ℕ) → MethodAt R E m r
+    → getD R (body-row r m * 4) 0 ≡ 66
     → Run R 80 (r + 1) (length (m .parameters))
 heading-count R E m r a b = record {
   each = each-parameter R (m .parameters) (r + 1) (a .parameters);
@@ -95,13 +99,16 @@ heading-count R E m r a b = record {
 }
 
 -- X lines that name classes up to 64.
-low-effects : (R cs : List ℕ) (r : ℕ) → EffectsAt R cs r → ((i c : ℕ) → nth cs i ≡ some c → c ≤ 64) → LowEffectsAt R cs r
+low-effects : (R cs : List ℕ) (r : ℕ) → EffectsAt R cs r → ((i c : ℕ) → nth cs i ≡ some c → c ≤ 64)
+    → LowEffectsAt R cs r
 unfolding EffectsAt LowEffectsAt nth
 low-effects R [] r a f = tt
 low-effects R (c ∷ cs) r a f = (a .0, f 0 c refl, low-effects R cs (r + 1) (a .1) (λ i d e. f (suc i) d e))
 
-pub heading-lines-of : (R E : List ℕ) (m : Declaration) (r : ℕ) → MethodAt R E m r → getD R (body-row r m * 4) 0 ≡ 66
-    → ((i c : ℕ) → nth (m .effects) i ≡ some c → c ≤ 64) → EffectLines R (r + 1 + length (m .parameters)) (m .effects)
+pub heading-lines-of : (R E : List ℕ) (m : Declaration) (r : ℕ) → MethodAt R E m r
+    → getD R (body-row r m * 4) 0 ≡ 66
+    → ((i c : ℕ) → nth (m .effects) i ≡ some c → c ≤ 64)
+    → EffectLines R (r + 1 + length (m .parameters)) (m .effects)
 heading-lines-of R E m r a b f = record {
   lines = low-effects R (m .effects) (r + 1 + length (m .parameters)) (a .effects) f;
   inside = head (m .body) (a .body) .row;
@@ -110,12 +117,14 @@ heading-lines-of R E m r a b f = record {
 
 -- The slots at the start of a method's body.
 fresh-good : (W : World) (ts : List DeclaredType)
-    → ((i : ℕ) (t : DeclaredType) → nth ts i ≡ some t → is-declared-type W t ≡ true) → AllGood W (map fresh-slot ts)
+    → ((i : ℕ) (t : DeclaredType) → nth ts i ≡ some t → is-declared-type W t ≡ true)
+    → AllGood W (map fresh-slot ts)
 unfolding AllGood nth
 fresh-good W [] f = tt
 fresh-good W (t ∷ ts) f = (f 0 t refl, fresh-good W ts (λ i u e. f (suc i) u e))
 
-fresh-numbers : (ts : List DeclaredType) → map (λ (s : Slot). type-number (s .current)) (map fresh-slot ts) ≡ map type-number ts
+fresh-numbers : (ts : List DeclaredType)
+    → map (λ (s : Slot). type-number (s .current)) (map fresh-slot ts) ≡ map type-number ts
 fresh-numbers [] = refl
 fresh-numbers (t ∷ ts) = ap (λ (l : List ℕ). type-number t ∷ l) (fresh-numbers ts)
 
@@ -123,13 +132,17 @@ length-numbers : (ts : List DeclaredType) → length (map type-number ts) ≡ le
 length-numbers [] = refl
 length-numbers (t ∷ ts) = ap suc (length-numbers ts)
 
-method-numbers : (owner : ℕ) (ts : List DeclaredType) → numbers (method-environment owner ts) ≡ owner ∷ map type-number ts
+method-numbers : (owner : ℕ) (ts : List DeclaredType)
+    → numbers (method-environment owner ts) ≡ owner ∷ map type-number ts
 unfolding numbers
 method-numbers owner ts = ap (λ (l : List ℕ). owner ∷ l) (fresh-numbers ts)
 
-pub method-views : (P : List Class) (R T A : List ℕ) (count : ℕ) → Headed P R T A count → (owner : ℕ) → owner ≤ count → (ts : List DeclaredType)
-    → ((i : ℕ) (t : DeclaredType) → nth ts i ≡ some t → is-declared-type (world P) t ≡ true) → (S : List ℕ) → 1 + length ts ≤ length S → getD S 0 0 ≡ owner
-    → ((i : ℕ) → i < length ts → getD S (1 + i) 0 ≡ getD (map type-number ts) i 0) → Views (world P) (method-environment owner ts) S (1 + length ts)
+pub method-views : (P : List Class) (R T A : List ℕ) (count : ℕ) → Headed P R T A count → (owner : ℕ)
+    → owner ≤ count → (ts : List DeclaredType)
+    → ((i : ℕ) (t : DeclaredType) → nth ts i ≡ some t → is-declared-type (world P) t ≡ true) → (S : List ℕ)
+    → 1 + length ts ≤ length S → getD S 0 0 ≡ owner
+    → ((i : ℕ) → i < length ts → getD S (1 + i) 0 ≡ getD (map type-number ts) i 0)
+    → Views (world P) (method-environment owner ts) S (1 + length ts)
 method-views P R T A count h owner l ts d S ls e f =
     views-of (world P) (method-environment owner ts) S (1 + length ts)
     (record { this = low-class owner h l; slots = fresh-good (world P) ts d })
@@ -156,7 +169,8 @@ start-views W S l e = views-of W start-environment S 1 (record { this = tt; slot
 body-limited : (n : ℕ) (e : Expr) → BodyInForm of-check n e → Limited e n 128
 body-limited n e (form-body h) = limited-node _ 128 n h
 
-start-given : (R E T A S C S₁ C₁ : List ℕ) (count : ℕ) (p : Program) → Ready R E T A S C count p → length S₁ ≡ length S
+start-given : (R E T A S C S₁ C₁ : List ℕ) (count : ℕ) (p : Program) → Ready R E T A S C count p
+    → length S₁ ≡ length S
     → length C₁ ≡ length C → getD S₁ 0 0 ≡ 65535
     → Given R E T A S₁ C₁ count (start-row p + 1) 1 256 (p .classes) (p .start) start-environment 128
 start-given R E T A S C S₁ C₁ count p r ls lc e = record {
@@ -174,11 +188,15 @@ start-given R E T A S C S₁ C₁ count p r ls lc e = record {
   };
 }
 
-pub start-pre : (R E T A S C S₁ C₁ : List ℕ) (count : ℕ) (p : Program) → Ready R E T A S C count p → length S₁ ≡ length S → length C₁ ≡ length C
+pub start-pre : (R E T A S C S₁ C₁ : List ℕ) (count : ℕ) (p : Program) → Ready R E T A S C count p
+    → length S₁ ≡ length S → length C₁ ≡ length C
     → getD S₁ 0 0 ≡ 65535 → Pre R E T A S₁ C₁ count (start-row p + 1) 1 256
 start-pre R E T A S C S₁ C₁ count p r ls lc e = pre-of (start-given R E T A S C S₁ C₁ count p r ls lc e)
 
-pub start-is : (R E T A S C S₁ C₁ : List ℕ) (count : ℕ) (p : Program) → Ready R E T A S C count p → length S₁ ≡ length S → length C₁ ≡ length C
-    → getD S₁ 0 0 ≡ 65535 → (S₂ C₂ : List ℕ) (r : Answer) → Post R E T A S₁ C₁ S₂ C₂ count (start-row p + 1) 1 256 r
+pub start-is : (R E T A S C S₁ C₁ : List ℕ) (count : ℕ) (p : Program) → Ready R E T A S C count p
+    → length S₁ ≡ length S → length C₁ ≡ length C
+    → getD S₁ 0 0 ≡ 65535 → (S₂ C₂ : List ℕ) (r : Answer)
+    → Post R E T A S₁ C₁ S₂ C₂ count (start-row p + 1) 1 256 r
     → Is (world (p .classes)) (p .start) start-environment (start-row p + 1) 1 S₂ C₂ r
-start-is R E T A S C S₁ C₁ count p r ls lc e S₂ C₂ a q = post-is q (start-given R E T A S C S₁ C₁ count p r ls lc e)
+start-is R E T A S C S₁ C₁ count p r ls lc e S₂ C₂ a q =
+    post-is q (start-given R E T A S C S₁ C₁ count p r ls lc e)

@@ -8,30 +8,34 @@ use borrow.Author.Tests.{leb-true, le-leb}
 use lib.ListN.{length, getD, take}
 use lib.Seq.{ext-getD, getD-take, length-take-le}
 use Rattle.language.specs.Results.{Checked, accept, refuse, bind-checked, accept≢refuse, accept-injective}
-use Rattle.language.specs.Tree.{DeclaredType, bool, class, ExprType, known, null-type, Class, Expr, Exprs, size, sizes}
+use Rattle.language.specs.Tree.{DeclaredType, bool, class, ExprType, known, null-type, Class, Expr, Exprs}
+use Rattle.language.specs.Tree.{size}
 use Rattle.language.specs.World.{World, is-declared-type}
 use Rattle.language.specs.Program.{world}
 use Rattle.language.specs.Typing.{Environment, Typed, type-of}
 use Rattle.language.specs.Encoded.{Encoded, EncodedAll}
-use Rattle.language.specs.LookupClasses.{LooksUp, LooksUpAll}
+use Rattle.language.specs.LookupClasses.{LooksUp}
 use Rattle.bodies.specs.declared.Answer.{Answer}
 use Rattle.bodies.specs.declared.Typing.the-variants.{Refusal}
 use Rattle.bodies.specs.Answers.{answer, answer-of, typing-case, is-refusal}
 use Rattle.bodies.specs.Tables.{Headed, CaseIn}
-use Rattle.bodies.specs.Cycle.{Limited, LimitedAll, Views, Room, Kept, Pre, Post, Declared, Accepted, Is, PreList}
-use Rattle.bodies.proofs.Typings.{looks-frame, looks-frame-all}
+use Rattle.bodies.specs.Cycle.{Limited, LimitedAll, Views, Room, Kept, Pre, Post, Declared, Accepted}
+use Rattle.bodies.specs.Cycle.{Is, PreList}
+use Rattle.bodies.proofs.Typings.{looks-frame}
 use Rattle.bodies.proofs.TurnsLetters.{code-of, head}
 
 -- ---- what is given of an expression, and of several in a row
 
-pub record Given (R E T A S C : List ℕ) (count at scope top : ℕ) (P : List Class) (e : Expr) (γ : Environment) (d : ℕ) : Type 0 where
+pub record Given (R E T A S C : List ℕ) (count at scope top : ℕ) (P : List Class) (e : Expr) (γ : Environment)
+    (d : ℕ) : Type 0 where
   pub headed : Headed P R T A count
   pub encoded : Encoded R E e at
   pub limited : Limited e scope d
   pub views : Views (world P) γ S scope
   pub room : Room R E S C scope top d
 
-pub record GivenAll (R E T A S C : List ℕ) (count at scope top : ℕ) (P : List Class) (es : Exprs) (γ : Environment) (d : ℕ) : Type 0 where
+pub record GivenAll (R E T A S C : List ℕ) (count at scope top : ℕ) (P : List Class) (es : Exprs)
+    (γ : Environment) (d : ℕ) : Type 0 where
   pub headed : Headed P R T A count
   pub encoded : EncodedAll R E es at
   pub limited : LimitedAll es scope d
@@ -39,36 +43,68 @@ pub record GivenAll (R E T A S C : List ℕ) (count at scope top : ℕ) (P : Lis
   pub room : Room R E S C scope top d
 
 module _ {R E T A S C : List ℕ} {count at scope top : ℕ} where
-  pub given-of : (p : Pre R E T A S C count at scope top) → Given R E T A S C count at scope top (p .P) (p .e) (p .γ) (p .d)
-  given-of p = record { headed = p .headed; encoded = p .encoded; limited = p .limited; views = p .views; room = p .room }
+  pub given-of : (p : Pre R E T A S C count at scope top)
+      → Given R E T A S C count at scope top (p .P) (p .e) (p .γ) (p .d)
+  given-of p = record {
+    headed = p .headed;
+    encoded = p .encoded;
+    limited = p .limited;
+    views = p .views;
+    room = p .room;
+  }
 
-  pub pre-of : {P : List Class} {e : Expr} {γ : Environment} {d : ℕ} → Given R E T A S C count at scope top P e γ d → Pre R E T A S C count at scope top
+  pub pre-of : {P : List Class} {e : Expr} {γ : Environment} {d : ℕ}
+      → Given R E T A S C count at scope top P e γ d → Pre R E T A S C count at scope top
   pre-of {P} {e} {γ} {d} g =
-      record { P = P; e = e; γ = γ; d = d; headed = g .headed; encoded = g .encoded; limited = g .limited; views = g .views; room = g .room }
+      record {
+        P = P;
+        e = e;
+        γ = γ;
+        d = d;
+        headed = g .headed;
+        encoded = g .encoded;
+        limited = g .limited;
+        views = g .views;
+        room = g .room;
+      }
 
-  pub given-all-of : {n : ℕ} (p : PreList R E T A S C count at scope top n) → GivenAll R E T A S C count at scope top (p .P) (p .es) (p .γ) (p .d)
-  given-all-of p = record { headed = p .headed; encoded = p .encoded; limited = p .limited; views = p .views; room = p .room }
+  pub given-all-of : {n : ℕ} (p : PreList R E T A S C count at scope top n)
+      → GivenAll R E T A S C count at scope top (p .P) (p .es) (p .γ) (p .d)
+  given-all-of p = record {
+    headed = p .headed;
+    encoded = p .encoded;
+    limited = p .limited;
+    views = p .views;
+    room = p .room;
+  }
 
-  pub post-is : {S′ C′ : List ℕ} {r : Answer} {P : List Class} {e : Expr} {γ : Environment} {d : ℕ} → Post R E T A S C S′ C′ count at scope top r
+  pub post-is : {S′ C′ : List ℕ} {r : Answer} {P : List Class} {e : Expr} {γ : Environment} {d : ℕ}
+      → Post R E T A S C S′ C′ count at scope top r
       → Given R E T A S C count at scope top P e γ d → Is (world P) e γ at scope S′ C′ r
   post-is {P = P} {e} {γ} {d} p g = p .is P e γ d (g .headed) (g .encoded) (g .limited) (g .views) (g .room)
 
   pub post-of : {S′ C′ : List ℕ} {r : Answer} → Kept S S′ C C′ at (getD E at 0) top
-      → ((P : List Class) (e : Expr) (γ : Environment) (d : ℕ) → Given R E T A S C count at scope top P e γ d → Is (world P) e γ at scope S′ C′ r)
+      → ((P : List Class) (e : Expr) (γ : Environment) (d : ℕ) → Given R E T A S C count at scope top P e γ d
+      → Is (world P) e γ at scope S′ C′ r)
       → Post R E T A S C S′ C′ count at scope top r
   post-of k f = record {
     kept = k;
-    is = λ P e γ d h n l v m. f P e γ d (record { headed = h; encoded = n; limited = l; views = v; room = m });
+    is = λ P e γ d h n l v m.
+        f P e γ d (record { headed = h; encoded = n; limited = l; views = v; room = m });
   }
 
   -- the node's row
-  pub in-row : (p : Pre R E T A S C count at scope top) → (at * 4 + 3 < length R) × (at < length E) × (length E ≤ length C) × (at < 60000) × (getD R (at * 4) 0 ≡ code-of (p .e))
-  in-row p = let h = head (p .e) (p .encoded) in (h .row, h .in-ends, p .room .nodes, omega (arith, h .row, p .room .rows), h .letter)
+  pub in-row : (p : Pre R E T A S C count at scope top)
+      → (at * 4 + 3 < length R) × (at < length E) × (length E ≤ length C) × (at < 60000)
+      × (getD R (at * 4) 0 ≡ code-of (p .e))
+  in-row p = let h = head (p .e) (p .encoded) in
+      (h .row, h .in-ends, p .room .nodes, omega (arith, h .row, p .room .rows), h .letter)
 
 -- ---- what stays
 
 module _ {S S′ C C′ : List ℕ} where
-  pub kept-wider : {from to top : ℕ} (from′ to′ top′ : ℕ) → Kept S S′ C C′ from to top → from′ ≤ from → to ≤ to′ → top′ ≤ top → Kept S S′ C C′ from′ to′ top′
+  pub kept-wider : {from to top : ℕ} (from′ to′ top′ : ℕ) → Kept S S′ C C′ from to top → from′ ≤ from
+      → to ≤ to′ → top′ ≤ top → Kept S S′ C C′ from′ to′ top′
   kept-wider from′ to′ top′ k a b c = record {
     slots-long = k .slots-long;
     classes-long = k .classes-long;
@@ -77,7 +113,8 @@ module _ {S S′ C C′ : List ℕ} where
     after = λ i l. k .after i (omega arith);
   }
 
-  pub kept-then : {S″ C″ : List ℕ} {from to top : ℕ} → Kept S S′ C C′ from to top → Kept S′ S″ C′ C″ from to top → Kept S S″ C C″ from to top
+  pub kept-then : {S″ C″ : List ℕ} {from to top : ℕ} → Kept S S′ C C′ from to top
+      → Kept S′ S″ C′ C″ from to top → Kept S S″ C C″ from to top
   kept-then a b = record {
     slots-long = b .slots-long ∙ a .slots-long;
     classes-long = b .classes-long ∙ a .classes-long;
@@ -87,14 +124,29 @@ module _ {S S′ C C′ : List ℕ} where
   }
 
 pub kept-none : {S C : List ℕ} {from to top : ℕ} → Kept S S C C from to top
-kept-none = record { slots-long = refl; classes-long = refl; between = λ i l m. refl; before = λ i l. refl; after = λ i l. refl }
+kept-none = record {
+  slots-long = refl;
+  classes-long = refl;
+  between = λ i l m. refl;
+  before = λ i l. refl;
+  after = λ i l. refl;
+}
 
 -- slots change below 256 or from `top` on only
-pub kept-slots : {S S′ C : List ℕ} {from to top : ℕ} → length S′ ≡ length S → ((i : ℕ) → 256 ≤ i → i < top → getD S′ i 0 ≡ getD S i 0) → Kept S S′ C C from to top
-kept-slots e f = record { slots-long = e; classes-long = refl; between = f; before = λ i l. refl; after = λ i l. refl }
+pub kept-slots : {S S′ C : List ℕ} {from to top : ℕ} → length S′ ≡ length S
+    → ((i : ℕ) → 256 ≤ i → i < top → getD S′ i 0 ≡ getD S i 0) → Kept S S′ C C from to top
+kept-slots e f = record {
+  slots-long = e;
+  classes-long = refl;
+  between = f;
+  before = λ i l. refl;
+  after =
+      λ i l. refl;
+}
 
 -- the table changes in one row only
-pub kept-classes : {S C C′ : List ℕ} {from to top : ℕ} (at : ℕ) → length C′ ≡ length C → ((i : ℕ) → (i ≡ at → ⊥) → getD C′ i 0 ≡ getD C i 0) → from ≤ at → at < to → Kept S S C C′ from to top
+pub kept-classes : {S C C′ : List ℕ} {from to top : ℕ} (at : ℕ) → length C′ ≡ length C
+    → ((i : ℕ) → (i ≡ at → ⊥) → getD C′ i 0 ≡ getD C i 0) → from ≤ at → at < to → Kept S S C C′ from to top
 kept-classes at e f l m = record {
   slots-long = refl;
   classes-long = e;
@@ -104,7 +156,8 @@ kept-classes at e f l m = record {
 }
 
 -- room for what comes next
-pub room-next : {R E S C S′ C′ : List ℕ} {scope top d : ℕ} (scope′ top′ d′ : ℕ) → Room R E S C scope top d → length S′ ≡ length S → length C′ ≡ length C
+pub room-next : {R E S C S′ C′ : List ℕ} {scope top d : ℕ} (scope′ top′ d′ : ℕ) → Room R E S C scope top d
+    → length S′ ≡ length S → length C′ ≡ length C
     → 1 ≤ scope′ → scope′ ≤ 256 → 256 ≤ top′ → top′ + 256 * d′ ≤ top + 256 * d → Room R E S′ C′ scope′ top′ d′
 room-next scope′ top′ d′ m a b u v w x = record {
   this = u;
@@ -115,27 +168,34 @@ room-next scope′ top′ d′ m a b u v w x = record {
   nodes = omega (arith, m .nodes, b);
 }
 
-pub room-child : {R E S C : List ℕ} {scope top d : ℕ} → Room R E S C scope top d → 1 ≤ d → Room R E S C scope top (d - 1)
-room-child {scope = scope} {top} {d} m l = room-next scope top (d - 1) m refl refl (m .this) (m .scoped) (m .above) (omega arith)
+pub room-child : {R E S C : List ℕ} {scope top d : ℕ} → Room R E S C scope top d → 1 ≤ d
+    → Room R E S C scope top (d - 1)
+room-child {scope = scope} {top} {d} m l =
+    room-next scope top (d - 1) m refl refl (m .this) (m .scoped) (m .above) (omega arith)
 
-pub room-kept : {R E S C S′ C′ : List ℕ} {scope top d from to top′ : ℕ} → Room R E S C scope top d → Kept S S′ C C′ from to top′ → Room R E S′ C′ scope top d
-room-kept {scope = scope} {top} {d} m k = room-next scope top d m (k .slots-long) (k .classes-long) (m .this) (m .scoped) (m .above) (omega arith)
+pub room-kept : {R E S C S′ C′ : List ℕ} {scope top d from to top′ : ℕ} → Room R E S C scope top d
+    → Kept S S′ C C′ from to top′ → Room R E S′ C′ scope top d
+room-kept {scope = scope} {top} {d} m k =
+    room-next scope top d m (k .slots-long) (k .classes-long) (m .this) (m .scoped) (m .above) (omega arith)
 
 pub room-slots : {R E S C : List ℕ} {scope top d : ℕ} → Room R E S C scope top d → scope ≤ length S
 room-slots m = omega (arith, m .room, m .above, m .scoped)
 
 -- ---- the slots in scope
 
-take-same : (n : ℕ) (S S′ : List ℕ) → n ≤ length S → length S′ ≡ length S → ((i : ℕ) → i < n → getD S′ i 0 ≡ getD S i 0) → take n S′ ≡ take n S
+take-same : (n : ℕ) (S S′ : List ℕ) → n ≤ length S → length S′ ≡ length S
+    → ((i : ℕ) → i < n → getD S′ i 0 ≡ getD S i 0) → take n S′ ≡ take n S
 take-same n S S′ l e f =
     let a : length (take n S) ≡ n = length-take-le n S l in
     let b : length (take n S′) ≡ n = length-take-le n S′ (omega (arith, e)) in
     ext-getD 0 (take n S′) (take n S) (b ∙ sym a)
     (λ i m. let k : i < n = omega (arith, b) in getD-take n S′ i 0 k ∙ (f i k ∙ sym (getD-take n S i 0 k)))
 
-pub views-same : {W : World} {γ : Environment} {S S′ : List ℕ} {scope : ℕ} → Views W γ S scope → scope ≤ length S → length S′ ≡ length S
+pub views-same : {W : World} {γ : Environment} {S S′ : List ℕ} {scope : ℕ} → Views W γ S scope
+    → scope ≤ length S → length S′ ≡ length S
     → ((i : ℕ) → i < scope → getD S′ i 0 ≡ getD S i 0) → Views W γ S′ scope
-views-same {S = S} {S′} {scope} v l e f = record { same = take-same scope S S′ l e f ∙ v .same; declared = v .declared }
+views-same {S = S} {S′} {scope} v l e f =
+    record { same = take-same scope S S′ l e f ∙ v .same; declared = v .declared }
 
 -- ---- types
 
@@ -150,26 +210,32 @@ declared-known bool h = declared-bool
 declared-known {W} (class k) h = record { class-in = λ c e. let z : k ≡ c = cc in rw (← z) h }
 
 -- a declared class's number is in the tables
-pub class-low : {P : List Class} {R T A : List ℕ} {count : ℕ} (c : ℕ) → Headed P R T A count → is-declared-type (world P) (class c) ≡ true → c ≤ count
+pub class-low : {P : List Class} {R T A : List ℕ} {count : ℕ} (c : ℕ) → Headed P R T A count
+    → is-declared-type (world P) (class c) ≡ true → c ≤ count
 unfolding world
 class-low {P} c h e = omega (arith, leb-true c (length P) e, h .classes .counted)
 
-pub low-class : {P : List Class} {R T A : List ℕ} {count : ℕ} (c : ℕ) → Headed P R T A count → c ≤ count → is-declared-type (world P) (class c) ≡ true
+pub low-class : {P : List Class} {R T A : List ℕ} {count : ℕ} (c : ℕ) → Headed P R T A count → c ≤ count
+    → is-declared-type (world P) (class c) ≡ true
 unfolding world
 low-class {P} c h l = le-leb c (length P) (omega (arith, h .classes .counted))
 
-pub type-low : {P : List Class} {R T A : List ℕ} {count : ℕ} (t : ExprType) → Headed P R T A count → Declared (world P) t → (c : ℕ) → t ≡ known (class c) → c ≤ count
+pub type-low : {P : List Class} {R T A : List ℕ} {count : ℕ} (t : ExprType) → Headed P R T A count
+    → Declared (world P) t → (c : ℕ) → t ≡ known (class c) → c ≤ count
 type-low t h d c e = class-low c h (d .class-in c e)
 
-pub case-low : {P : List Class} {R T A : List ℕ} {count : ℕ} (t : ExprType) → Headed P R T A count → Declared (world P) t → CaseIn (length A) (typing-case t)
+pub case-low : {P : List Class} {R T A : List ℕ} {count : ℕ} (t : ExprType) → Headed P R T A count
+    → Declared (world P) t → CaseIn (length A) (typing-case t)
 case-low (known bool) h d = tt
-case-low (known (class c)) h d = omega (arith, class-low c h (d .class-in c refl), h .classes .tables .long-above, h .classes .counted)
+case-low (known (class c)) h d =
+    omega (arith, class-low c h (d .class-in c refl), h .classes .tables .long-above, h .classes .counted)
 case-low null-type h d = tt
 
 -- ---- answers
 
 -- an answer that is no refusal is an accepted one
-pub accepted-of : {X : Type 0} (q : Checked Typed) {r : Answer} → r ≡ answer-of q → is-refusal (r .typing) ≡ false
+pub accepted-of : {X : Type 0} (q : Checked Typed) {r : Answer} → r ≡ answer-of q
+    → is-refusal (r .typing) ≡ false
     → ((a : Typed) → q ≡ accept a → r ≡ answer (typing-case (a .type)) (a .effect) → X) → X
 accepted-of (accept a) e f k = k a refl e
 accepted-of (refuse n l) e f k = absurd (false≢true (sym f ∙ ap (λ (x : Answer). is-refusal (x .typing)) e))
@@ -180,19 +246,24 @@ not-refused (known bool) = refl
 not-refused (known (class c)) = refl
 not-refused null-type = refl
 
-pub refused-of : {X : Type 0} (q : Checked Typed) {r : Answer} → r ≡ answer-of q → is-refusal (r .typing) ≡ true
+pub refused-of : {X : Type 0} (q : Checked Typed) {r : Answer} → r ≡ answer-of q
+    → is-refusal (r .typing) ≡ true
     → ((n l : ℕ) → q ≡ refuse n l → r ≡ answer (Refusal n l) 0 → X) → X
-refused-of (accept a) e f k = absurd (false≢true (sym (not-refused (a .type)) ∙ (sym (ap (λ (x : Answer). is-refusal (x .typing)) e) ∙ f)))
+refused-of (accept a) e f k =
+    absurd (false≢true (sym (not-refused (a .type)) ∙
+    (sym (ap (λ (x : Answer). is-refusal (x .typing)) e) ∙ f)))
 refused-of (refuse n l) e f k = k n l refl e
 
-pub is-refused : {W : World} {e : Expr} {γ : Environment} {at scope : ℕ} {S C : List ℕ} {r : Answer} (n l : ℕ) → type-of W e (at + 1) γ ≡ refuse n l → r ≡ answer (Refusal n l) 0
+pub is-refused : {W : World} {e : Expr} {γ : Environment} {at scope : ℕ} {S C : List ℕ} {r : Answer} (n l : ℕ)
+    → type-of W e (at + 1) γ ≡ refuse n l → r ≡ answer (Refusal n l) 0
     → Is W e γ at scope S C r
 is-refused n l e f = record {
   out = f ∙ sym (ap answer-of e);
   accepted = λ a q. absurd (accept≢refuse n l (sym e ∙ q));
 }
 
-pub is-accepted : {W : World} {e : Expr} {γ : Environment} {at scope : ℕ} {S C : List ℕ} {r : Answer} (a : Typed) → type-of W e (at + 1) γ ≡ accept a
+pub is-accepted : {W : World} {e : Expr} {γ : Environment} {at scope : ℕ} {S C : List ℕ} {r : Answer}
+    (a : Typed) → type-of W e (at + 1) γ ≡ accept a
     → r ≡ answer (typing-case (a .type)) (a .effect) → Accepted W e γ at scope S C a → Is W e γ at scope S C r
 is-accepted {W} {e} {γ} {at} {scope} {S} {C} a h f k = record {
   out = f ∙ sym (ap answer-of h);
@@ -200,15 +271,18 @@ is-accepted {W} {e} {γ} {at} {scope} {S} {C} a h f k = record {
 }
 
 -- one child's refusal is the node's
-pub bind-refused : {A B : Type 0} (q : Checked A) (k : A → Checked B) (n l : ℕ) → q ≡ refuse n l → bind-checked q k ≡ refuse n l
+pub bind-refused : {A B : Type 0} (q : Checked A) (k : A → Checked B) (n l : ℕ) → q ≡ refuse n l
+    → bind-checked q k ≡ refuse n l
 unfolding bind-checked
 bind-refused q k n l e = rw e
 
-pub bind-accepted : {A B : Type 0} (q : Checked A) (k : A → Checked B) (a : A) → q ≡ accept a → bind-checked q k ≡ k a
+pub bind-accepted : {A B : Type 0} (q : Checked A) (k : A → Checked B) (a : A) → q ≡ accept a
+    → bind-checked q k ≡ k a
 unfolding bind-checked
 bind-accepted q k a e = rw e
 
 -- the table of a node stays where a later call does not touch it
-pub looks-kept : (W : World) {S S′ C C′ : List ℕ} {from to top : ℕ} (e : Expr) (γ : Environment) (at : ℕ) → Kept S S′ C C′ from to top → at + size e ≤ from
+pub looks-kept : (W : World) {S S′ C C′ : List ℕ} {from to top : ℕ} (e : Expr) (γ : Environment) (at : ℕ)
+    → Kept S S′ C C′ from to top → at + size e ≤ from
     → LooksUp W C e γ at → LooksUp W C′ e γ at
 looks-kept W {C = C} {C′} e γ at k l h = looks-frame W C C′ e γ at (λ i u v. k .before i (omega arith)) h

@@ -18,12 +18,14 @@ use Rattle.bodies.specs.declared.Typing.the-variants.{Null}
 use Rattle.bodies.specs.Answers.{answer, answer-of, is-refusal}
 use Rattle.bodies.specs.Acts.{PreOpen, PostOpen}
 use Rattle.bodies.specs.Cycle.{Proper, Limited, Views, Kept, Pre, Post, Is, PreList, PostItems}
-use Rattle.bodies.proofs.Turns.{Given, GivenAll, given-of, post-of, kept-then, kept-slots, room-next, room-slots}
+use Rattle.bodies.proofs.Turns.{Given, GivenAll, given-of, post-of, kept-then, kept-slots, room-next}
+use Rattle.bodies.proofs.Turns.{room-slots}
 use Rattle.bodies.proofs.Links.{pre-open, open-refused, open-done, block-is}
 use Rattle.bodies.proofs.TurnsNodes.{by-block}
 use Rattle.bodies.proofs.TurnsLists.{list-pre}
 
-module _ {R E T A S C : List ℕ} {count at scope top : ℕ} {P : List Class} {γ : Environment} {d : ℕ} {ts : List DeclaredType} {es : Exprs}
+module _ {R E T A S C : List ℕ} {count at scope top : ℕ} {P : List Class} {γ : Environment} {d : ℕ}
+    {ts : List DeclaredType} {es : Exprs}
     (g : Given R E T A S C count at scope top P (block ts es) γ d) where
   block-row : NodeAt R E at B-block (length ts) (how-many es) (1 + length ts + sizes es)
   unfolding Encoded
@@ -40,7 +42,8 @@ module _ {R E T A S C : List ℕ} {count at scope top : ℕ} {P : List Class} {�
   block-slots : scope + length ts ≤ length S
   block-slots = omega (arith, block-limits .1, g .room .room, g .room .above)
 
-  block-all : {S′ : List ℕ} {δ : Environment} (v : ℕ) → v ≡ length ts → length S′ ≡ length S → Views (world P) δ S′ (scope + v)
+  block-all : {S′ : List ℕ} {δ : Environment} (v : ℕ) → v ≡ length ts → length S′ ≡ length S
+      → Views (world P) δ S′ (scope + v)
       → GivenAll R E T A S′ C count (at + 1 + v) (scope + v) top P es δ (d - 1)
   unfolding Encoded Limited
   block-all v e a vs =
@@ -50,10 +53,12 @@ module _ {R E T A S C : List ℕ} {count at scope top : ℕ} {P : List Class} {�
         encoded = rw e (g .encoded .2);
         limited = rw e (g .limited .3);
         views = vs;
-        room = room-next (scope + v) top (d - 1) m a refl (omega (arith, m .this)) (omega (arith, block-limits .1, e)) (m .above) (omega (arith, block-limits .0));
+        room = room-next (scope + v) top (d - 1) m a refl (omega (arith, m .this))
+            (omega (arith, block-limits .1, e)) (m .above) (omega (arith, block-limits .0));
       }
 
-module _ {R E T A S C : List ℕ} {count at scope top : ℕ} (p : Pre R E T A S C count at scope top) (l : getD R (at * 4) 0 ≡ 66) where
+module _ {R E T A S C : List ℕ} {count at scope top : ℕ} (p : Pre R E T A S C count at scope top)
+    (l : getD R (at * 4) 0 ≡ 66) where
   abbrev locals : ℕ
   locals = getD R (at * 4 + 1) 0
 
@@ -66,30 +71,41 @@ module _ {R E T A S C : List ℕ} {count at scope top : ℕ} (p : Pre R E T A S 
 
   pub block-open-pre : PreOpen R S at scope locals
   block-open-pre = by-block (p .e) (given-of p) l (λ _. PreOpen R S at scope locals) λ ts es g.
-      pre-open (g .headed) (g .room .rows) ts es at scope locals S (block-row g .row) (block-locals g) refl (block-slots g)
+      pre-open (g .headed) (g .room .rows) ts es at scope locals S (block-row g .row) (block-locals g) refl
+      (block-slots g)
 
   module _ {S₁ : List ℕ} {a : Answer} (o : PostOpen R S S₁ count at scope locals a) where
     kept-open : Kept S S₁ C C at (getD E at 0) top
     kept-open = kept-slots (o .long) (λ i u v. o .after i (omega (arith, block-few .0)))
 
     pub block-fail : is-refusal (a .typing) ≡ true → Post R E T A S C S₁ C count at scope top a
-    block-fail f = post-of kept-open λ P z γ d g. by-block z g l (λ w. Is (world P) w γ at scope S₁ C a) λ ts es g.
-        open-refused (g .headed) (g .room .rows) ts es at scope locals γ S S₁ C a (block-row g .row) (block-locals g) refl (block-limits g .2) o f
+    block-fail f = post-of kept-open λ P z γ d g.
+        by-block z g l (λ w. Is (world P) w γ at scope S₁ C a) λ ts es g.
+        open-refused (g .headed) (g .room .rows) ts es at scope locals γ S S₁ C a (block-row g .row)
+        (block-locals g) refl (block-limits g .2) o f
 
     module _ (ok : is-refusal (a .typing) ≡ false) where
-      opened-block : {P : List Class} {γ : Environment} {d : ℕ} {ts : List DeclaredType} {es : Exprs} (g : Given R E T A S C count at scope top P (block ts es) γ d)
-          → (a ≡ answer Null 0) × (locals-declared (world P) (at + 1 + 1) ts ≡ passed) × Views (world P) (opened γ (map fresh-slot ts)) S₁ (scope + locals)
-      opened-block {γ = γ} {ts = ts} {es} g = open-done (g .headed) (g .room .rows) ts es at scope locals γ S S₁ a (block-row g .row) (block-locals g) refl (block-limits g .2) (g .views) (block-slots g) o ok
+      opened-block : {P : List Class} {γ : Environment} {d : ℕ} {ts : List DeclaredType} {es : Exprs}
+          (g : Given R E T A S C count at scope top P (block ts es) γ d)
+          → (a ≡ answer Null 0) × (locals-declared (world P) (at + 1 + 1) ts ≡ passed)
+          × Views (world P) (opened γ (map fresh-slot ts)) S₁ (scope + locals)
+      opened-block {γ = γ} {ts = ts} {es} g =
+          open-done (g .headed) (g .room .rows) ts es at scope locals γ S S₁ a (block-row g .row)
+          (block-locals g) refl (block-limits g .2) (g .views) (block-slots g) o ok
 
-      given-block : {P : List Class} {γ : Environment} {d : ℕ} {ts : List DeclaredType} {es : Exprs} (g : Given R E T A S C count at scope top P (block ts es) γ d)
-          → GivenAll R E T A S₁ C count (at + 1 + locals) (scope + locals) top P es (opened γ (map fresh-slot ts)) (d - 1)
+      given-block : {P : List Class} {γ : Environment} {d : ℕ} {ts : List DeclaredType} {es : Exprs}
+          (g : Given R E T A S C count at scope top P (block ts es) γ d)
+          → GivenAll R E T A S₁ C count (at + 1 + locals) (scope + locals) top P es
+          (opened γ (map fresh-slot ts)) (d - 1)
       given-block g = block-all g locals (block-row g .row .first) (o .long) (opened-block g .2)
 
       pub block-items-pre : PreList R E T A S₁ C count (at + 1 + locals) (scope + locals) top nodes
-      block-items-pre = by-block (p .e) (given-of p) l (λ _. PreList R E T A S₁ C count (at + 1 + locals) (scope + locals) top nodes) λ ts es g.
+      block-items-pre = by-block (p .e) (given-of p) l
+          (λ _. PreList R E T A S₁ C count (at + 1 + locals) (scope + locals) top nodes) λ ts es g.
           list-pre (block-row g .row .second) (given-block g)
 
-      module _ {S₂ C₂ : List ℕ} {r : Answer} (q : PostItems R E T A S₁ C S₂ C₂ count (at + 1 + locals) (scope + locals) top nodes a r) where
+      module _ {S₂ C₂ : List ℕ} {r : Answer}
+          (q : PostItems R E T A S₁ C S₂ C₂ count (at + 1 + locals) (scope + locals) top nodes a r) where
         kept-block : Kept S S₂ C C₂ at (getD E at 0) top
         kept-block = by-block (p .e) (given-of p) l (λ _. Kept S S₂ C C₂ at (getD E at 0) top) λ ts es g.
             kept-then kept-open (record {
@@ -97,14 +113,21 @@ module _ {R E T A S C : List ℕ} {count at scope top : ℕ} (p : Pre R E T A S 
               classes-long = q .classes-long;
               between = q .between;
               before = λ i u. q .before i (omega arith);
-              after = λ i u. q .after es (block-row g .row .second) (given-block g .encoded) i (omega (arith, u, block-row g .end, block-row g .row .first));
+              after = λ i u. q .after es (block-row g .row .second) (given-block g .encoded) i
+                  (omega (arith, u, block-row g .end, block-row g .row .first));
             })
 
         pub block-done : Post R E T A S C S₂ C₂ count at scope top r
-        block-done = post-of kept-block λ P z γ d g. by-block z g l (λ w. Is (world P) w γ at scope S₂ C₂ r) λ ts es g.
+        block-done = post-of kept-block λ P z γ d g.
+            by-block z g l (λ w. Is (world P) w γ at scope S₂ C₂ r) λ ts es g.
             let b = opened-block g in
             let m = given-block g in
-            let w = q .out P es (opened γ (map fresh-slot ts)) (d - 1) null-type (block-row g .row .second) (m .headed) (m .encoded) (m .limited) (m .views) (m .room) (ap (λ (y : Answer). y .typing) (b .0)) in
-            block-is (g .headed) (g .room .rows) ts es at scope locals γ S S₂ C₂ r (block-row g .row) (block-locals g) refl (g .views) (room-slots (g .room)) (b .1)
-            (w .0 ∙ ap (λ (φ : ℕ). answer-of (bind-checked (type-all (world P) es (at + 1 + locals + 1) (opened γ (map fresh-slot ts))) λ b. typed (last-type null-type (b .types)) (b .slots) (join φ (b .effect))))
+            let w = q .out P es (opened γ (map fresh-slot ts)) (d - 1) null-type (block-row g .row .second)
+            (m .headed) (m .encoded) (m .limited) (m .views) (m .room)
+            (ap (λ (y : Answer). y .typing) (b .0)) in
+            block-is (g .headed) (g .room .rows) ts es at scope locals γ S S₂ C₂ r (block-row g .row)
+            (block-locals g) refl (g .views) (room-slots (g .room)) (b .1)
+            (w .0 ∙ ap (λ (φ : ℕ). answer-of (bind-checked
+            (type-all (world P) es (at + 1 + locals + 1) (opened γ (map fresh-slot ts))) λ b.
+            typed (last-type null-type (b .types)) (b .slots) (join φ (b .effect))))
             (ap (λ (y : Answer). y .effect) (b .0))) (w .1)

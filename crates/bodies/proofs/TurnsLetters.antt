@@ -6,7 +6,8 @@ use Prim.Native.Nat.{ℕ, _+_, _*_, _≤_, _<_}
 use native.Mathlib.Omega.{arith}
 use borrow.Author.Tests.{eqb-false}
 use lib.ListN.{length, getD}
-use Rattle.language.specs.Tree.{DeclaredType, Expr, literal-true, literal-false, literal-null, slot, is-null, get, cast, new, change, assign, set, call, choose, block, Exprs, size}
+use Rattle.language.specs.Tree.{DeclaredType, Expr, literal-true, literal-false, literal-null, slot, is-null}
+use Rattle.language.specs.Tree.{get, cast, new, change, assign, set, call, choose, block, Exprs, size}
 use Rattle.language.specs.Encoded.{Encoded}
 use Rattle.bodies.specs.Cycle.{Unary}
 
@@ -35,20 +36,40 @@ pub record Head (R E : List ℕ) (e : Expr) (r : ℕ) : Type 0 where
 
 pub head : {R E : List ℕ} (e : Expr) {r : ℕ} → Encoded R E e r → Head R E e r
 unfolding Encoded size
-head literal-true h = record { row = h .row .within; letter = h .row .letter; in-ends = h .in-ends; end = h .end }
-head literal-false h = record { row = h .row .within; letter = h .row .letter; in-ends = h .in-ends; end = h .end }
-head literal-null h = record { row = h .row .within; letter = h .row .letter; in-ends = h .in-ends; end = h .end }
+head literal-true h =
+    record { row = h .row .within; letter = h .row .letter; in-ends = h .in-ends; end = h .end }
+head literal-false h =
+    record { row = h .row .within; letter = h .row .letter; in-ends = h .in-ends; end = h .end }
+head literal-null h =
+    record { row = h .row .within; letter = h .row .letter; in-ends = h .in-ends; end = h .end }
 head (slot k) h = record { row = h .row .within; letter = h .row .letter; in-ends = h .in-ends; end = h .end }
-head (is-null e) h = record { row = h .0 .row .within; letter = h .0 .row .letter; in-ends = h .0 .in-ends; end = h .0 .end }
-head (get f e) h = record { row = h .0 .row .within; letter = h .0 .row .letter; in-ends = h .0 .in-ends; end = h .0 .end }
-head (cast c e) h = record { row = h .0 .row .within; letter = h .0 .row .letter; in-ends = h .0 .in-ends; end = h .0 .end }
+head (is-null e) h =
+    record { row = h .0 .row .within; letter = h .0 .row .letter; in-ends = h .0 .in-ends; end = h .0 .end }
+head (get f e) h = record {
+  row = h .0 .row .within;
+  letter = h .0 .row .letter;
+  in-ends = h .0 .in-ends;
+  end = h .0 .end;
+}
+head (cast c e) h = record {
+  row = h .0 .row .within;
+  letter = h .0 .row .letter;
+  in-ends = h .0 .in-ends;
+  end = h .0 .end;
+}
 head (new c) h = record { row = h .row .within; letter = h .row .letter; in-ends = h .in-ends; end = h .end }
-head (change k c) h = record { row = h .row .within; letter = h .row .letter; in-ends = h .in-ends; end = h .end }
-head (assign k e) h = record { row = h .0 .row .within; letter = h .0 .row .letter; in-ends = h .0 .in-ends; end = h .0 .end }
-head (set f e e′) h = record { row = h .0 .row .within; letter = h .0 .row .letter; in-ends = h .0 .in-ends; end = h .0 .end }
-head (call m e es) h = record { row = h .0 .row .within; letter = h .0 .row .letter; in-ends = h .0 .in-ends; end = h .0 .end }
-head (choose e x y) h = record { row = h .0 .row .within; letter = h .0 .row .letter; in-ends = h .0 .in-ends; end = h .0 .end }
-head (block ts es) h = record { row = h .0 .row .within; letter = h .0 .row .letter; in-ends = h .0 .in-ends; end = h .0 .end }
+head (change k c) h =
+    record { row = h .row .within; letter = h .row .letter; in-ends = h .in-ends; end = h .end }
+head (assign k e) h =
+    record { row = h .0 .row .within; letter = h .0 .row .letter; in-ends = h .0 .in-ends; end = h .0 .end }
+head (set f e e′) h =
+    record { row = h .0 .row .within; letter = h .0 .row .letter; in-ends = h .0 .in-ends; end = h .0 .end }
+head (call m e es) h =
+    record { row = h .0 .row .within; letter = h .0 .row .letter; in-ends = h .0 .in-ends; end = h .0 .end }
+head (choose e x y) h =
+    record { row = h .0 .row .within; letter = h .0 .row .letter; in-ends = h .0 .in-ends; end = h .0 .end }
+head (block ts es) h =
+    record { row = h .0 .row .within; letter = h .0 .row .letter; in-ends = h .0 .in-ends; end = h .0 .end }
 
 pub size-positive : (e : Expr) → 1 ≤ size e
 unfolding size
@@ -211,7 +232,8 @@ as-change (call m e es) h Q q = absurd (eqb-false 81 82 refl h)
 as-change (choose e x y) h Q q = absurd (eqb-false 74 82 refl h)
 as-change (block ts es) h Q q = absurd (eqb-false 66 82 refl h)
 
-pub as-assign : (x : Expr) → code-of x ≡ 65 → (Q : Expr → Type 0) → ((k : ℕ) (e : Expr) → Q (assign k e)) → Q x
+pub as-assign : (x : Expr) → code-of x ≡ 65 → (Q : Expr → Type 0) → ((k : ℕ) (e : Expr) → Q (assign k e))
+    → Q x
 as-assign literal-true h Q q = absurd (eqb-false 84 65 refl h)
 as-assign literal-false h Q q = absurd (eqb-false 76 65 refl h)
 as-assign literal-null h Q q = absurd (eqb-false 78 65 refl h)
@@ -227,7 +249,8 @@ as-assign (call m e es) h Q q = absurd (eqb-false 81 65 refl h)
 as-assign (choose e x y) h Q q = absurd (eqb-false 74 65 refl h)
 as-assign (block ts es) h Q q = absurd (eqb-false 66 65 refl h)
 
-pub as-set : (x : Expr) → code-of x ≡ 85 → (Q : Expr → Type 0) → ((f : ℕ) (e : Expr) (e′ : Expr) → Q (set f e e′)) → Q x
+pub as-set : (x : Expr) → code-of x ≡ 85 → (Q : Expr → Type 0)
+    → ((f : ℕ) (e : Expr) (e′ : Expr) → Q (set f e e′)) → Q x
 as-set literal-true h Q q = absurd (eqb-false 84 85 refl h)
 as-set literal-false h Q q = absurd (eqb-false 76 85 refl h)
 as-set literal-null h Q q = absurd (eqb-false 78 85 refl h)
@@ -243,7 +266,8 @@ as-set (call m e es) h Q q = absurd (eqb-false 81 85 refl h)
 as-set (choose e x y) h Q q = absurd (eqb-false 74 85 refl h)
 as-set (block ts es) h Q q = absurd (eqb-false 66 85 refl h)
 
-pub as-call : (x : Expr) → code-of x ≡ 81 → (Q : Expr → Type 0) → ((m : ℕ) (e : Expr) (es : Exprs) → Q (call m e es)) → Q x
+pub as-call : (x : Expr) → code-of x ≡ 81 → (Q : Expr → Type 0)
+    → ((m : ℕ) (e : Expr) (es : Exprs) → Q (call m e es)) → Q x
 as-call literal-true h Q q = absurd (eqb-false 84 81 refl h)
 as-call literal-false h Q q = absurd (eqb-false 76 81 refl h)
 as-call literal-null h Q q = absurd (eqb-false 78 81 refl h)
@@ -259,7 +283,8 @@ as-call (call m e es) h Q q = q m e es
 as-call (choose e x y) h Q q = absurd (eqb-false 74 81 refl h)
 as-call (block ts es) h Q q = absurd (eqb-false 66 81 refl h)
 
-pub as-choose : (x : Expr) → code-of x ≡ 74 → (Q : Expr → Type 0) → ((e : Expr) (x : Expr) (y : Expr) → Q (choose e x y)) → Q x
+pub as-choose : (x : Expr) → code-of x ≡ 74 → (Q : Expr → Type 0)
+    → ((e : Expr) (x : Expr) (y : Expr) → Q (choose e x y)) → Q x
 as-choose literal-true h Q q = absurd (eqb-false 84 74 refl h)
 as-choose literal-false h Q q = absurd (eqb-false 76 74 refl h)
 as-choose literal-null h Q q = absurd (eqb-false 78 74 refl h)
@@ -275,7 +300,8 @@ as-choose (call m e es) h Q q = absurd (eqb-false 81 74 refl h)
 as-choose (choose e x y) h Q q = q e x y
 as-choose (block ts es) h Q q = absurd (eqb-false 66 74 refl h)
 
-pub as-block : (x : Expr) → code-of x ≡ 66 → (Q : Expr → Type 0) → ((ts : List DeclaredType) (es : Exprs) → Q (block ts es)) → Q x
+pub as-block : (x : Expr) → code-of x ≡ 66 → (Q : Expr → Type 0)
+    → ((ts : List DeclaredType) (es : Exprs) → Q (block ts es)) → Q x
 as-block literal-true h Q q = absurd (eqb-false 84 66 refl h)
 as-block literal-false h Q q = absurd (eqb-false 76 66 refl h)
 as-block literal-null h Q q = absurd (eqb-false 78 66 refl h)

@@ -12,13 +12,17 @@ use Rattle.bodies.specs.declared.Answer.{Answer}
 use Rattle.bodies.specs.Answers.{is-refusal}
 use Rattle.bodies.specs.Acts.{PrePut, put, put-classes}
 use Rattle.bodies.specs.Cycle.{Kept, Pre, Post, Is}
-use Rattle.bodies.proofs.Turns.{Given, given-of, pre-of, post-of, in-row, kept-then, kept-classes, is-refused, bind-refused, bind-accepted, looks-kept}
+use Rattle.bodies.proofs.Turns.{Given, given-of, pre-of, post-of, in-row, kept-then, kept-classes}
+use Rattle.bodies.proofs.Turns.{is-refused, bind-refused, bind-accepted, looks-kept}
 use Rattle.bodies.proofs.Links.{put-kept, pre-put, set-is}
-use Rattle.bodies.proofs.TurnsNodes.{did, failed, after-row, kept-in, row-of, set-first, set-second, set-row, by-set}
+use Rattle.bodies.proofs.TurnsNodes.{did, failed, after-row, kept-in, row-of, set-first, set-second}
+use Rattle.bodies.proofs.TurnsNodes.{set-row, by-set}
 
-module _ {R E T A S C : List ℕ} {count at scope top : ℕ} (p : Pre R E T A S C count at scope top) (l : getD R (at * 4) 0 ≡ 85) where
+module _ {R E T A S C : List ℕ} {count at scope top : ℕ} (p : Pre R E T A S C count at scope top)
+    (l : getD R (at * 4) 0 ≡ 85) where
   pub write-first : Pre R E T A S C count (at + 1) scope top
-  write-first = by-set (p .e) (given-of p) l (λ _. Pre R E T A S C count (at + 1) scope top) λ f e e′ g. pre-of (set-first g)
+  write-first = by-set (p .e) (given-of p) l (λ _. Pre R E T A S C count (at + 1) scope top) λ f e e′ g.
+      pre-of (set-first g)
 
   module _ {S′ C′ : List ℕ} {x : Answer} (q : Post R E T A S C S′ C′ count (at + 1) scope top x) where
     kept-first : Kept S S′ C C′ at (getD E at 0) top
@@ -28,31 +32,44 @@ module _ {R E T A S C : List ℕ} {count at scope top : ℕ} (p : Pre R E T A S 
 
     pub write-fail : is-refusal (x .typing) ≡ true → Post R E T A S C S′ C′ count at scope top x
     unfolding type-of
-    write-fail f = post-of kept-first λ P z γ d g. by-set z g l (λ w. Is (world P) w γ at scope S′ C′ x) λ n e e′ g.
-        let w = failed (set-first g) q f in is-refused (w .n) (w .l) (bind-refused _ _ _ _ (w .typed-at)) (w .is)
+    write-fail f = post-of kept-first λ P z γ d g.
+        by-set z g l (λ w. Is (world P) w γ at scope S′ C′ x) λ n e e′ g.
+        let w = failed (set-first g) q f in
+        is-refused (w .n) (w .l) (bind-refused _ _ _ _ (w .typed-at)) (w .is)
 
     module _ (ok : is-refusal (x .typing) ≡ false) where
       pub write-second : Pre R E T A S′ C′ count (getD E (at + 1) 0) scope top
-      write-second = by-set (p .e) (given-of p) l (λ _. Pre R E T A S′ C′ count (getD E (at + 1) 0) scope top) λ f e e′ g.
-          subst (λ (n : ℕ). Pre R E T A S′ C′ count n scope top) (sym (row-of (set-first g) .end)) (pre-of (set-second g (q .kept) (did (set-first g) q ok)))
+      write-second = by-set (p .e) (given-of p) l (λ _. Pre R E T A S′ C′ count (getD E (at + 1) 0) scope top)
+          λ f e e′ g.
+          subst (λ (n : ℕ). Pre R E T A S′ C′ count n scope top) (sym (row-of (set-first g) .end))
+          (pre-of (set-second g (q .kept) (did (set-first g) q ok)))
 
-      module _ {S″ C″ : List ℕ} {y : Answer} (q′ : Post R E T A S′ C′ S″ C″ count (getD E (at + 1) 0) scope top y) where
-        second : {P : List Class} {f : ℕ} {e e′ : Expr} {γ : Environment} {d : ℕ} → Given R E T A S C count at scope top P (set f e e′) γ d
+      module _ {S″ C″ : List ℕ} {y : Answer}
+          (q′ : Post R E T A S′ C′ S″ C″ count (getD E (at + 1) 0) scope top y) where
+        second : {P : List Class} {f : ℕ} {e e′ : Expr} {γ : Environment} {d : ℕ}
+            → Given R E T A S C count at scope top P (set f e e′) γ d
             → Post R E T A S′ C′ S″ C″ count (at + 1 + size e) scope top y
-        second g = subst (λ (n : ℕ). Post R E T A S′ C′ S″ C″ count n scope top y) (row-of (set-first g) .end) q′
+        second g = subst (λ (n : ℕ). Post R E T A S′ C′ S″ C″ count n scope top y) (row-of (set-first g) .end)
+            q′
 
         kept-second : Kept S S″ C C″ at (getD E at 0) top
         unfolding size
         kept-second = by-set (p .e) (given-of p) l (λ _. Kept S S″ C C″ at (getD E at 0) top) λ f e e′ g.
-            kept-then kept-first (kept-in top (row-of g) (row-of (set-second g (q .kept) (did (set-first g) q ok))) (omega arith) (omega arith) (omega arith) (second g .kept))
+            kept-then kept-first
+            (kept-in top (row-of g) (row-of (set-second g (q .kept) (did (set-first g) q ok)))
+            (omega arith) (omega arith) (omega arith) (second g .kept))
 
         pub write-fail-second : is-refusal (y .typing) ≡ true → Post R E T A S C S″ C″ count at scope top y
         unfolding type-of
-        write-fail-second f = post-of kept-second λ P z γ d g. by-set z g l (λ w. Is (world P) w γ at scope S″ C″ y) λ n e e′ g.
+        write-fail-second f = post-of kept-second λ P z γ d g.
+            by-set z g l (λ w. Is (world P) w γ at scope S″ C″ y) λ n e e′ g.
             let u = did (set-first g) q ok in
             let w = failed (set-second g (q .kept) u) (second g) f in
             let line : at + 1 + size e + 1 ≡ at + 1 + 1 + size e = omega arith in
-            is-refused (w .n) (w .l) (bind-accepted _ _ _ (u .typed-at) ∙ bind-refused _ _ _ _ (ap (λ (m : ℕ). type-of (world P) e′ m (u .a .slots)) (sym line) ∙ w .typed-at)) (w .is)
+            is-refused (w .n) (w .l)
+            (bind-accepted _ _ _ (u .typed-at)
+            ∙ bind-refused _ _ _ _
+            (ap (λ (m : ℕ). type-of (world P) e′ m (u .a .slots)) (sym line) ∙ w .typed-at)) (w .is)
 
         in-classes : at < length C″
         in-classes = let i = in-row p in omega (arith, i .1, i .2, kept-second .classes-long)
@@ -62,16 +79,21 @@ module _ {R E T A S C : List ℕ} {count at scope top : ℕ} (p : Pre R E T A S 
             let u = did (set-first g) q ok in
             let w = did (set-second g (q .kept) u) (second g) f in
             let r = set-row g in
-            pre-put (g .headed) (g .room .rows) n at (u .a) (w .a) C″ x y (r .0 .row) (r .1) in-classes (u .accepted .declared) (w .accepted .declared) (u .is) (w .is)
+            pre-put (g .headed) (g .room .rows) n at (u .a) (w .a) C″ x y (r .0 .row) (r .1) in-classes
+            (u .accepted .declared) (w .accepted .declared) (u .is) (w .is)
 
-        pub write-done : {C‴ : List ℕ} {r : Answer} → is-refusal (y .typing) ≡ false → r ≡ put R T A at (x .typing) x y → C‴ ≡ put-classes R T A C″ at (x .typing) y
+        pub write-done : {C‴ : List ℕ} {r : Answer} → is-refusal (y .typing) ≡ false
+            → r ≡ put R T A at (x .typing) x y → C‴ ≡ put-classes R T A C″ at (x .typing) y
             → Post R E T A S C S″ C‴ count at scope top r
         write-done {C‴} {r} f e₁ e₂ =
             let k = put-kept R T A C″ C‴ at x y e₂ in
-            post-of (kept-then kept-second (kept-classes at (k .0) (k .1) (omega arith) (after-row p))) λ P z γ d g. by-set z g l (λ w. Is (world P) w γ at scope S″ C‴ r) λ n e e′ g.
+            post-of (kept-then kept-second (kept-classes at (k .0) (k .1) (omega arith) (after-row p)))
+            λ P z γ d g. by-set z g l (λ w. Is (world P) w γ at scope S″ C‴ r) λ n e e′ g.
             let u = did (set-first g) q ok in
             let w = did (set-second g (q .kept) u) (second g) f in
             let v = set-row g in
-            set-is (g .headed) (g .room .rows) n e e′ at (at + 1 + size e) scope (at + 1 + 1) (at + 1 + size e + 1) γ (u .a) (w .a) S″ C″ C‴ x y r (v .0 .row) (v .1) in-classes refl
+            set-is (g .headed) (g .room .rows) n e e′ at (at + 1 + size e) scope (at + 1 + 1)
+            (at + 1 + size e + 1) γ (u .a) (w .a) S″ C″ C‴ x y r (v .0 .row) (v .1) in-classes refl
             (u .typed-at) (w .typed-at) (u .accepted .declared) (w .accepted .declared) (w .accepted .views)
-            (looks-kept (world P) e γ (at + 1) (second g .kept) (omega arith) (u .accepted .looks)) (w .accepted .looks) (u .is) (w .is) e₁ e₂
+            (looks-kept (world P) e γ (at + 1) (second g .kept) (omega arith) (u .accepted .looks))
+            (w .accepted .looks) (u .is) (w .is) e₁ e₂

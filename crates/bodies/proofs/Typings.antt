@@ -8,12 +8,16 @@ use native.Mathlib.Omega.{arith}
 use borrow.Author.Tests.{leb-true, leb-false, le-ltb, lt-ltb}
 use lib.Dec.{eqb, leb, ltb}
 use lib.ListN.{length, getD}
-use Rattle.language.specs.Results.{Checked, accept, refuse, bind-checked, need-checked, require, accept≢refuse}
+use Rattle.language.specs.Results.{Checked, accept, refuse, bind-checked, need-checked, require}
+use Rattle.language.specs.Results.{accept≢refuse}
 use Rattle.language.specs.Frames.{at-slot, opened}
-use Rattle.language.specs.Tree.{DeclaredType, bool, class, ExprType, known, null-type, Expr, literal-true, literal-false, literal-null, slot, is-null, get, cast, new, change, assign, set, call, choose, block, Exprs, nil, cons, size, sizes}
+use Rattle.language.specs.Tree.{DeclaredType, bool, class, ExprType, known, null-type, Expr, literal-true}
+use Rattle.language.specs.Tree.{literal-false, literal-null, slot, is-null, get, cast, new, change, assign}
+use Rattle.language.specs.Tree.{set, call, choose, block, Exprs, nil, cons, size, sizes}
 use Rattle.language.specs.World.{World, field-type, is-declared, is-declared-type}
 use Rattle.language.specs.Effects.{apply-class}
-use Rattle.language.specs.Typing.{Environment, Typed, TypedAll, typed, not-bool, need-class, fits, all-fit, join-types, can-change, fresh-slot, locals-declared, type-of, type-all}
+use Rattle.language.specs.Typing.{Environment, Typed, TypedAll, typed, not-bool, need-class, fits, all-fit}
+use Rattle.language.specs.Typing.{join-types, can-change, fresh-slot, locals-declared, type-of, type-all}
 use Rattle.language.specs.LookupClasses.{LooksUp, LooksUpAll}
 use Rattle.bodies.specs.Answers.{answer-of, typing-case}
 use Rattle.bodies.specs.Nodes.{null-tested, created}
@@ -21,7 +25,8 @@ use Rattle.bodies.specs.Nodes.{null-tested, created}
 -- Z
 null-go : (at : ℕ) (q : Checked Typed)
     → null-tested at (answer-of q .typing) (answer-of q .effect)
-    ≡ answer-of (bind-checked q λ a. require (not-bool (a .type)) 9 (at + 1) λ _. typed (known bool) (a .slots) (a .effect))
+    ≡ answer-of (bind-checked q λ a. require (not-bool (a .type)) 9 (at + 1) λ _. typed (known bool)
+    (a .slots) (a .effect))
 unfolding null-tested bind-checked require
 null-go at (refuse n l) = refl
 null-go at (accept a) = go (a .type)
@@ -93,7 +98,8 @@ module _ (W : World) where
   same-locals : (ts : List DeclaredType) (l l′ : ℕ) → Same (locals-declared W l ts) (locals-declared W l′ ts)
   unfolding locals-declared
   same-locals [] l l′ = same-accept tt
-  same-locals (t ∷ ts) l l′ = same-require (is-declared-type W t) 4 l l′ (λ u. same-locals ts (l + 1) (l′ + 1))
+  same-locals (t ∷ ts) l l′ =
+      same-require (is-declared-type W t) 4 l l′ (λ u. same-locals ts (l + 1) (l′ + 1))
 
   mutual
     unfolding type-of
@@ -108,7 +114,8 @@ module _ (W : World) where
     same-typed (get f e) l l′ γ = same-bind (same-typed e (l + 1) (l′ + 1) γ) λ a.
         same-class (a .type) 9 l l′ λ c. same-need (field-type f (W .fields c)) 8 l l′ λ t. same-accept _
     same-typed (cast c e) l l′ γ = same-bind (same-typed e (l + 1) (l′ + 1) γ) λ a.
-        same-require (is-declared W c) 4 l l′ (λ u. same-require (not-bool (a .type)) 9 l l′ (λ v. same-accept _))
+        same-require (is-declared W c) 4 l l′
+        (λ u. same-require (not-bool (a .type)) 9 l l′ (λ v. same-accept _))
     same-typed (new c) l l′ γ = same-require (is-declared W c) 4 l l′ (λ u. same-accept _)
     same-typed (change k d) l l′ γ = same-require (is-declared W d) 4 l l′
         (λ u. same-need (at-slot γ k) 7 l l′ λ s. same-class (known (s .current)) 11 l l′ λ c.
@@ -118,7 +125,8 @@ module _ (W : World) where
         same-require (fits W (a .type) (s .current)) 9 l l′ (λ u. same-accept _))
     same-typed (set f e e′) l l′ γ = same-bind (same-typed e (l + 1) (l′ + 1) γ) λ a.
         same-bind (same-typed e′ (l + 1 + size e) (l′ + 1 + size e) (a .slots)) λ b.
-        same-class (a .type) 9 l l′ λ c. same-need (field-type f (W .fields (apply-class W (b .effect) c))) 8 l l′ λ t.
+        same-class (a .type) 9 l l′ λ c.
+        same-need (field-type f (W .fields (apply-class W (b .effect) c))) 8 l l′ λ t.
         same-require (fits W (b .type) t) 9 l l′ (λ u. same-accept _)
     same-typed (call m e es) l l′ γ = same-bind (same-typed e (l + 1) (l′ + 1) γ) λ a.
         same-bind (same-typed-all es (l + 1 + size e) (l′ + 1 + size e) (a .slots)) λ b.
@@ -131,7 +139,8 @@ module _ (W : World) where
         same-require (not (not-bool (a .type))) 9 l l′
         (λ u. same-need (join-types W (b .type) (c .type)) 9 l l′ λ t. same-accept _)
     same-typed (block ts es) l l′ γ = same-bind (same-locals ts (l + 1) (l′ + 1)) λ u.
-        same-bind (same-typed-all es (l + 1 + length ts) (l′ + 1 + length ts) (opened γ (map fresh-slot ts))) λ b.
+        same-bind (same-typed-all es (l + 1 + length ts) (l′ + 1 + length ts) (opened γ (map fresh-slot ts)))
+        λ b.
         same-accept _
 
     same-typed-all : (es : Exprs) (l l′ : ℕ) (γ : Environment) → Same (type-all W es l γ) (type-all W es l′ γ)
@@ -140,10 +149,12 @@ module _ (W : World) where
         same-bind (same-typed-all es (l + size e) (l′ + size e) (a .slots)) λ b. same-accept _
 
   -- what is accepted on one line is accepted on every line
-  pub line-free : (e : Expr) (l l′ : ℕ) (γ : Environment) {a : Typed} → type-of W e l γ ≡ accept a → type-of W e l′ γ ≡ accept a
+  pub line-free : (e : Expr) (l l′ : ℕ) (γ : Environment) {a : Typed} → type-of W e l γ ≡ accept a
+      → type-of W e l′ γ ≡ accept a
   line-free e l l′ γ h = same-accepted (same-typed e l l′ γ) h
 
-  pub line-free-all : (es : Exprs) (l l′ : ℕ) (γ : Environment) {b : TypedAll} → type-all W es l γ ≡ accept b → type-all W es l′ γ ≡ accept b
+  pub line-free-all : (es : Exprs) (l l′ : ℕ) (γ : Environment) {b : TypedAll} → type-all W es l γ ≡ accept b
+      → type-all W es l′ γ ≡ accept b
   line-free-all es l l′ γ h = same-accepted (same-typed-all es l l′ γ) h
 
 -- ---- the lookup classes of an expression stand in its own rows
@@ -152,15 +163,18 @@ module _ (W : World) (C C′ : List ℕ) where
   mutual
     unfolding LooksUp size
 
-    pub looks-frame : (e : Expr) (γ : Environment) (r : ℕ) → ((i : ℕ) → r ≤ i → i < r + size e → getD C′ i 0 ≡ getD C i 0)
+    pub looks-frame : (e : Expr) (γ : Environment) (r : ℕ)
+        → ((i : ℕ) → r ≤ i → i < r + size e → getD C′ i 0 ≡ getD C i 0)
         → LooksUp W C e γ r → LooksUp W C′ e γ r
     looks-frame literal-true γ r s h = tt
     looks-frame literal-false γ r s h = tt
     looks-frame literal-null γ r s h = tt
     looks-frame (slot k) γ r s h = tt
     looks-frame (is-null e) γ r s h = looks-frame e γ (r + 1) (λ i l m. s i (omega arith) (omega arith)) h
-    looks-frame (get f e) γ r s h =
-        (s r (omega arith) (omega arith) ∙ h .0, looks-frame e γ (r + 1) (λ i l m. s i (omega arith) (omega arith)) (h .1))
+    looks-frame (get f e) γ r s h = (
+      s r (omega arith) (omega arith) ∙ h .0,
+      looks-frame e γ (r + 1) (λ i l m. s i (omega arith) (omega arith)) (h .1),
+    )
     looks-frame (cast c e) γ r s h = looks-frame e γ (r + 1) (λ i l m. s i (omega arith) (omega arith)) h
     looks-frame (new c) γ r s h = tt
     looks-frame (change k d) γ r s h = tt
@@ -180,9 +194,11 @@ module _ (W : World) (C C′ : List ℕ) where
       looks-frame x _ (r + 1 + size e) (λ i l m. s i (omega arith) (omega arith)) (h .1),
       looks-frame y _ (r + 1 + size e + size x) (λ i l m. s i (omega arith) (omega arith)) (h .2),
     )
-    looks-frame (block ts es) γ r s h = looks-frame-all es _ (r + 1 + length ts) (λ i l m. s i (omega arith) (omega arith)) h
+    looks-frame (block ts es) γ r s h =
+        looks-frame-all es _ (r + 1 + length ts) (λ i l m. s i (omega arith) (omega arith)) h
 
-    pub looks-frame-all : (es : Exprs) (γ : Environment) (r : ℕ) → ((i : ℕ) → r ≤ i → i < r + sizes es → getD C′ i 0 ≡ getD C i 0)
+    pub looks-frame-all : (es : Exprs) (γ : Environment) (r : ℕ)
+        → ((i : ℕ) → r ≤ i → i < r + sizes es → getD C′ i 0 ≡ getD C i 0)
         → LooksUpAll W C es γ r → LooksUpAll W C′ es γ r
     looks-frame-all nil γ r s h = tt
     looks-frame-all (cons e es) γ r s h = (

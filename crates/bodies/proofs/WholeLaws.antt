@@ -1,16 +1,14 @@
 -- Laws of the functions over a method and over lines. Assumes nothing.
-use mathlib.Core.Path.{_≡_, refl, sym, ap, ap₂, subst, _∙_}
-use mathlib.Core.Bool.{Bool, true, false, cond}
+use mathlib.Core.Path.{_≡_, refl, ap, _∙_}
 use mathlib.Core.Logic.{_⊎_, inl, inr, ⊎-elim}
-use mathlib.Core.List.{List, [], _∷_}
+use mathlib.Core.List.{List}
 use Prim.Native.Nat.{ℕ, zero, suc, _+_, _-_, _*_, _≤_, _<_}
 use native.Mathlib.Omega.{arith}
 use borrow.Author.Tests.{eq-eqb, ne-eqb}
-use lib.Dec.{eqb}
 use lib.ListN.{length, getD, set, length-set}
 use lib.Seq.{getD-set-same, getD-set-other}
 use Rattle.bodies.proofs.TurnsLeaves.{le-or-less}
-use Rattle.bodies.specs.Whole.{PreEnter, PostEnter, FirstBlock, SomeBlock, class-next}
+use Rattle.bodies.specs.Whole.{PostEnter, FirstBlock, class-next}
 
 split : (j i : ℕ) → j ≤ i → (j < i) ⊎ (j ≡ i)
 split zero zero l = inr refl
@@ -27,7 +25,8 @@ pub record Entering (R S S′ : List ℕ) (from i : ℕ) : Type 0 where
 pub enter-start : (R S : List ℕ) (from : ℕ) → Entering R S S from 0
 enter-start R S from = record { long = refl; this = refl; parameters = λ j m. absurd (omega arith) }
 
-pub enter-step : {R S S′ : List ℕ} {from i : ℕ} → Entering R S S′ from i → 1 + i < length S → (v : ℕ) → v ≡ getD R ((from + i) * 4 + 1) 0
+pub enter-step : {R S S′ : List ℕ} {from i : ℕ} → Entering R S S′ from i → 1 + i < length S → (v : ℕ)
+    → v ≡ getD R ((from + i) * 4 + 1) 0
     → Entering R S (set S′ (1 + i) v) from (i + 1)
 enter-step {R} {S} {S′} {from} {i} h l v e = record {
   long = length-set S′ (1 + i) v ∙ h .long;
@@ -38,10 +37,12 @@ enter-step {R} {S} {S′} {from} {i} h l v e = record {
       (split j i (omega arith));
 }
 
-pub enter-long : (R S S′ : List ℕ) (owner from i : ℕ) → Entering R (set S 0 owner) S′ from i → length S′ ≡ length S
+pub enter-long : (R S S′ : List ℕ) (owner from i : ℕ) → Entering R (set S 0 owner) S′ from i
+    → length S′ ≡ length S
 enter-long R S S′ owner from i h = h .long ∙ length-set S 0 owner
 
-pub enter-end : (R S S′ : List ℕ) (owner from i n : ℕ) → n ≤ i → 1 ≤ length S → Entering R (set S 0 owner) S′ from i → PostEnter R S S′ owner from n
+pub enter-end : (R S S′ : List ℕ) (owner from i n : ℕ) → n ≤ i → 1 ≤ length S
+    → Entering R (set S 0 owner) S′ from i → PostEnter R S S′ owner from n
 enter-end R S S′ owner from i n l m h = record {
   long = enter-long R S S′ owner from i h;
   this = h .this ∙ getD-set-same S 0 owner 0 (omega arith);
@@ -49,10 +50,13 @@ enter-end R S S′ owner from i n l m h = record {
 }
 
 -- going on to the B line
-pub block-more : {R : List ℕ} {at b : ℕ} → FirstBlock R at b → (i : ℕ) → at < i → i ≤ b → (getD R (i * 4) 0 ≡ 66 → ⊥) → i < b
-block-more {R} {at} {b} f i l m e = ⊎-elim (λ h. h) (λ (q : i ≡ b). absurd (e (ap (λ (x : ℕ). getD R (x * 4) 0) q ∙ f .here))) (split i b m)
+pub block-more : {R : List ℕ} {at b : ℕ} → FirstBlock R at b → (i : ℕ) → at < i → i ≤ b
+    → (getD R (i * 4) 0 ≡ 66 → ⊥) → i < b
+block-more {R} {at} {b} f i l m e =
+    ⊎-elim (λ h. h) (λ (q : i ≡ b). absurd (e (ap (λ (x : ℕ). getD R (x * 4) 0) q ∙ f .here))) (split i b m)
 
-pub block-done : {R : List ℕ} {at b : ℕ} → FirstBlock R at b → (i : ℕ) → at < i → i ≤ b → getD R (i * 4) 0 ≡ 66 → i ≡ b
+pub block-done : {R : List ℕ} {at b : ℕ} → FirstBlock R at b → (i : ℕ) → at < i → i ≤ b
+    → getD R (i * 4) 0 ≡ 66 → i ≡ b
 block-done f i l m e = ⊎-elim (λ h. absurd (f .between i l h e)) (λ q. q) (split i _ m)
 
 -- the class after a line
@@ -66,6 +70,7 @@ class-same R class at e = rw (ne-eqb (getD R (at * 4) 0) 67 e)
 
 pub first-unique : {R : List ℕ} {at b c : ℕ} → FirstBlock R at b → FirstBlock R at c → b ≡ c
 first-unique {b = b} {c} f g = ⊎-elim
-    (λ (l : b ≤ c). ⊎-elim (λ (h : b < c). absurd (g .between b (f .after) h (f .here))) (λ (q : b ≡ c). q) (split b c l))
+    (λ (l : b ≤ c). ⊎-elim (λ (h : b < c). absurd (g .between b (f .after) h (f .here))) (λ (q : b ≡ c). q)
+    (split b c l))
     (λ (l : c < b). absurd (f .between c (g .after) l (g .here)))
     (le-or-less b c)

@@ -1,21 +1,20 @@
 -- The functions over tables give what is looked up in the program whose classes the tables hold. Assumes nothing.
-use mathlib.Core.Path.{_≡_, refl, sym, ap, ap₂, _∙_}
-use mathlib.Core.Bool.{Bool, true, false, not, cond, false≢true}
-use mathlib.Core.Option.{Option, none, some}
-use mathlib.Core.List.{List, [], _∷_}
+use mathlib.Core.Path.{_≡_, refl, sym, _∙_}
+use mathlib.Core.Bool.{Bool, true, false, cond, false≢true}
+use mathlib.Core.List.{List}
 use Prim.Native.Nat.{ℕ, zero, suc, _+_, _*_, _≤_, _<_}
 use native.Mathlib.Omega.{arith}
-use borrow.Author.Tests.{eq-eqb, ne-eqb, leb-true}
+use borrow.Author.Tests.{ne-eqb, leb-true}
 use lib.Dec.{eqb}
 use lib.ListN.{length, getD}
 use Rattle.language.specs.Tree.{DeclaredType, bool, class, ExprType, known, null-type, type-number, Class}
-use Rattle.language.specs.World.{World, is-declared-type}
-use Rattle.language.specs.Effects.{member, apply-class}
-use Rattle.language.specs.Program.{class-at, world}
+use Rattle.language.specs.World.{is-declared-type}
+use Rattle.language.specs.Effects.{apply-class}
+use Rattle.language.specs.Program.{world}
 use Rattle.language.specs.Typing.{fits}
 use Rattle.language.proofs.Classes as classes
 use Rattle.bodies.specs.Answers.{typing-case}
-use Rattle.bodies.specs.Tables.{Classes, Sound, applied, root-in, is-below, nearest-from, is-fitting}
+use Rattle.bodies.specs.Tables.{Classes, Sound, applied, is-below, nearest-from, is-fitting}
 
 module _ {P : List Class} {T A : List ℕ} {count : ℕ} (h : Classes P T A count) where
   within : {k : ℕ} → k ≤ count → k ≤ length P
@@ -80,7 +79,8 @@ module _ {P : List Class} {T A : List ℕ} {count : ℕ} (h : Classes P T A coun
   declared c e = omega (arith, leb-true c (length P) e, h .counted)
 
   pub fitting-is : (t : ExprType) (u : DeclaredType) → ((c : ℕ) → t ≡ known (class c) → c ≤ count)
-      → is-declared-type (world P) u ≡ true → is-fitting A (typing-case t) (type-number u) ≡ fits (world P) t u
+      → is-declared-type (world P) u ≡ true
+      → is-fitting A (typing-case t) (type-number u) ≡ fits (world P) t u
   unfolding is-fitting
   fitting-is (known bool) bool f g = refl
   fitting-is (known bool) (class d) f g = not-255 d (declared d g)

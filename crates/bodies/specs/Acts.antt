@@ -1,6 +1,6 @@
 -- What the nodes with slots, members and arms answer, what they leave in slots and table, and what they need.
 use mathlib.Core.Path.{_≡_}
-use mathlib.Core.Bool.{Bool, true, false, not, _&&_, _||_, cond}
+use mathlib.Core.Bool.{Bool, true, false, _&&_, _||_, cond}
 use mathlib.Core.List.{List}
 use Prim.Native.Nat.{ℕ, zero, suc, _+_, _*_, _≤_, _<_}
 use lib.Dec.{eqb, leb, ltb}
@@ -12,9 +12,11 @@ use Rattle.bodies.specs.declared.Answer.{Answer}
 use Rattle.bodies.specs.declared.Sought.{Sought}
 use Rattle.bodies.specs.declared.Sought.the-variants.{Found, Missing}
 use Rattle.bodies.specs.Answers.{answer, case-of-number, is-refusal}
-use Rattle.bodies.specs.Tables.{Applicable, applied, applied-number, joined-number, root-in, is-fitting, CaseIn, Known}
+use Rattle.bodies.specs.Tables.{Applicable, applied, applied-number, joined-number, root-in, is-fitting}
+use Rattle.bodies.specs.Tables.{CaseIn, Known}
 use Rattle.bodies.specs.Tables.{EffectsAt, Run, Runs, Changed, PreJoin}
-use Rattle.bodies.specs.Nodes.{refusal, joined-case, BothClasses, field-in, PreField, In-row, changeable-in}
+use Rattle.bodies.specs.Nodes.{refusal, joined-case, BothClasses, field-in, PreField, In-row}
+use Rattle.bodies.specs.Nodes.{changeable-in}
 
 -- The X lines from a row on name these classes, and the next line is no X line.
 pub record EffectLines (R : List ℕ) (from : ℕ) (cs : List ℕ) : Type 0 where
@@ -42,7 +44,8 @@ stored-case n = cond (eqb n 65535) Null (case-of-number n)
 unfoldable pub all-fitting : List ℕ → List ℕ → List ℕ → ℕ → ℕ → ℕ → Bool
 all-fitting R A S from row zero = true
 all-fitting R A S from row (suc n) =
-    is-fitting A (stored-case (getD S from 0)) (getD R (row * 4 + 1) 0) && all-fitting R A S (from + 1) (row + 1) n
+    is-fitting A (stored-case (getD S from 0)) (getD R (row * 4 + 1) 0) && all-fitting R A S (from + 1)
+    (row + 1) n
 
 pub record PreFitting (R A S : List ℕ) (from row n : ℕ) : Type 0 where
   pub slots : from + n ≤ length S
@@ -69,7 +72,8 @@ pub record PostOpen (R S S′ : List ℕ) (count at scope v : ℕ) (r : Answer) 
   pub long : length S′ ≡ length S
   pub below : (k : ℕ) → k < scope → getD S′ k 0 ≡ getD S k 0
   pub after : (k : ℕ) → scope + v ≤ k → getD S′ k 0 ≡ getD S k 0
-  pub filled : is-refusal (r .typing) ≡ false → (i : ℕ) → i < v → getD S′ (scope + i) 0 ≡ getD R ((at + 1 + i) * 4 + 1) 0
+  pub filled : is-refusal (r .typing) ≡ false → (i : ℕ) → i < v
+      → getD S′ (scope + i) 0 ≡ getD R ((at + 1 + i) * 4 + 1) 0
 
 -- R.
 unfoldable pub can-change-in : List ℕ → ℕ → ℕ → Bool
@@ -106,7 +110,8 @@ pub record PostChange (R T S S′ : List ℕ) (count at scope : ℕ) (r : Answer
 unfoldable pub put-answer : List ℕ → ℕ → Answer → Answer → Sought → Answer
 put-answer A at a b Missing = refusal 8 at
 put-answer A at a b (Found u) =
-    cond (is-fitting A (b .typing) (u .number)) (answer (b .typing) (join (a .effect) (b .effect))) (refusal 9 at)
+    cond (is-fitting A (b .typing) (u .number)) (answer (b .typing) (join (a .effect) (b .effect)))
+    (refusal 9 at)
 
 unfoldable pub put-noted : List ℕ → List ℕ → ℕ → ℕ → Answer → Sought → List ℕ
 put-noted A C at k b Missing = C
@@ -114,14 +119,16 @@ put-noted A C at k b (Found u) = cond (is-fitting A (b .typing) (u .number)) (se
 
 unfoldable pub put : List ℕ → List ℕ → List ℕ → ℕ → Typing → Answer → Answer → Answer
 put R T A at bool-case a b = refusal 9 at
-put R T A at (Class c) a b = put-answer A at a b (field-in R T (applied T (b .effect) c) (getD R (at * 4 + 1) 0))
+put R T A at (Class c) a b =
+    put-answer A at a b (field-in R T (applied T (b .effect) c) (getD R (at * 4 + 1) 0))
 put R T A at Null a b = refusal 9 at
 put R T A at (Refusal n l) a b = refusal 9 at
 
 unfoldable pub put-classes : List ℕ → List ℕ → List ℕ → List ℕ → ℕ → Typing → Answer → List ℕ
 put-classes R T A C at bool-case b = C
 put-classes R T A C at (Class c) b =
-    put-noted A C at (applied T (b .effect) c) b (field-in R T (applied T (b .effect) c) (getD R (at * 4 + 1) 0))
+    put-noted A C at (applied T (b .effect) c) b
+    (field-in R T (applied T (b .effect) c) (getD R (at * 4 + 1) 0))
 put-classes R T A C at Null b = C
 put-classes R T A C at (Refusal n l) b = C
 
@@ -136,7 +143,8 @@ pub record PrePut (R T A C : List ℕ) (at : ℕ) (t : Typing) (b : Answer) : Ty
   pub row : In-row R at
   pub noted-at : at < length C
   pub value : CaseIn (length A) (b .typing)
-  pub object : (c : ℕ) → t ≡ Class c → InTables T (b .effect) c × PreField R T (applied T (b .effect) c) (getD R (at * 4 + 1) 0)
+  pub object : (c : ℕ) → t ≡ Class c
+      → InTables T (b .effect) c × PreField R T (applied T (b .effect) c) (getD R (at * 4 + 1) 0)
   pub declared : (c n : ℕ) → t ≡ Class c
       → field-in R T (applied T (b .effect) c) (getD R (at * 4 + 1) 0) ≡ Found (record { number = n })
       → (n ≡ 255 → ⊥) → n ≤ 64
@@ -185,12 +193,15 @@ module _ (R T A S C : List ℕ) (at scope top : ℕ) (t : Typing) (φ ψ : ℕ) 
   pub data Invoked : Type 0 where
     no-class : NoClass t → r ≡ refusal 9 at → Unchanged → Invoked
     no-method : (c : ℕ) → t ≡ Class c → call-class c ≡ 0 → r ≡ refusal 8 at → Unchanged → Invoked
-    other-count : (c row p : ℕ) → t ≡ Class c → call-class c ≡ suc row → CountOf R (row + 1) p → (p ≡ getD R (at * 4 + 2) 0 → ⊥)
+    other-count : (c row p : ℕ) → t ≡ Class c → call-class c ≡ suc row → CountOf R (row + 1) p
+        → (p ≡ getD R (at * 4 + 2) 0 → ⊥)
         → r ≡ refusal 8 at → Unchanged → Invoked
     unfit : (c row : ℕ) → t ≡ Class c → call-class c ≡ suc row → CountOf R (row + 1) (getD R (at * 4 + 2) 0)
-        → all-fitting R A S top (row + 1) (getD R (at * 4 + 2) 0) ≡ false → r ≡ refusal 9 at → Unchanged → Invoked
+        → all-fitting R A S top (row + 1) (getD R (at * 4 + 2) 0) ≡ false → r ≡ refusal 9 at → Unchanged
+        → Invoked
     done : (c row ε : ℕ) → t ≡ Class c → call-class c ≡ suc row → CountOf R (row + 1) (getD R (at * 4 + 2) 0)
-        → all-fitting R A S top (row + 1) (getD R (at * 4 + 2) 0) ≡ true → EffectOf R (row + 1 + getD R (at * 4 + 2) 0) ε
+        → all-fitting R A S top (row + 1) (getD R (at * 4 + 2) 0) ≡ true
+        → EffectOf R (row + 1 + getD R (at * 4 + 2) 0) ε
         → Done c row ε → Invoked
 
 -- J, after its arms.
@@ -212,7 +223,8 @@ pub record PreChoice (T A S : List ℕ) (at scope top : ℕ) (t u : Typing) : Ty
   pub slots : PreJoin T A S scope top
 
 pub record PostChoice (T A S S′ : List ℕ) (at scope top : ℕ) (a b c r : Answer) : Type 0 where
-  pub out : r ≡ chosen T A at (a .typing) (join (a .effect) (join (b .effect) (c .effect))) (b .typing) (c .typing)
+  pub out : r ≡ chosen T A at (a .typing) (join (a .effect) (join (b .effect) (c .effect))) (b .typing)
+      (c .typing)
   pub long : length S′ ≡ length S
   pub rest : (i : ℕ) → scope ≤ i → getD S′ i 0 ≡ getD S i 0
   pub slots : is-refusal (r .typing) ≡ false

@@ -1,5 +1,5 @@
 -- What each case of typing's answer stands for, and the numbers that stand for types in slots.
-use mathlib.Core.Bool.{true, false, not, _&&_, _||_, cond}
+use mathlib.Core.Bool.{true, false, cond}
 use mathlib.Core.Bool
 use mathlib.Core.Option.{Option, none, some}
 use mathlib.Core.List.{List, _∷_, map}

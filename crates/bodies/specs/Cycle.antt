@@ -3,14 +3,16 @@
 use mathlib.Core.Path.{_≡_}
 use mathlib.Core.Bool.{true}
 use mathlib.Core.Logic.{_⊎_}
-use mathlib.Core.Option.{Option, some}
-use mathlib.Core.List.{List, [], _∷_, map}
+use mathlib.Core.Option.{some}
+use mathlib.Core.List.{List, map}
 use Prim.Native.Nat.{ℕ, _+_, _-_, _*_, _≤_, _<_}
 use lib.ListN.{length, getD, take}
-use Rattle.language.specs.Results.{Checked, accept, bind-checked}
+use Rattle.language.specs.Results.{accept, bind-checked}
 use Rattle.language.specs.Frames.{at-slot}
-use Rattle.language.specs.Tree.{DeclaredType, ExprType, known, null-type, class, Expr, literal-true, literal-false, literal-null, slot}
-use Rattle.language.specs.Tree.{is-null, get, cast, new, change, assign, set, call, choose, block, Exprs, nil, cons, count as how-many, sizes}
+use Rattle.language.specs.Tree.{DeclaredType, ExprType, known, null-type, class, Expr, literal-true}
+use Rattle.language.specs.Tree.{literal-false, literal-null, slot}
+use Rattle.language.specs.Tree.{is-null, get, cast, new, change, assign, set, call, choose, block, Exprs, nil}
+use Rattle.language.specs.Tree.{cons, count as how-many, sizes}
 use Rattle.language.specs.Lists.{nth}
 use Rattle.language.specs.Tree.{Class, type-number, type-of-number}
 use Rattle.language.specs.World.{World, is-declared-type}
@@ -20,8 +22,7 @@ use Rattle.language.specs.Typing.{Slot, Environment, Typed, TypedAll, typed, la
 use Rattle.language.specs.Encoded.{Encoded, EncodedAll}
 use Rattle.language.specs.LookupClasses.{LooksUp, LooksUpAll}
 use Rattle.bodies.specs.declared.Answer.{Answer}
-use Rattle.bodies.specs.declared.Typing.the-variants.{Null}
-use Rattle.bodies.specs.Answers.{answer, answer-of, typing-case, case-number, numbers}
+use Rattle.bodies.specs.Answers.{answer-of, typing-case, case-number, numbers}
 use Rattle.bodies.specs.Tables.{Headed}
 
 -- Types as numbers write them: 255 is bool and no class.
@@ -30,7 +31,8 @@ pub record Proper (ts : List DeclaredType) : Type 0 where
 
 -- A row with the letter of a node of one child.
 abbrev pub Unary : List ℕ → ℕ → Type 0
-Unary R at = (getD R (at * 4) 0 ≡ 90) ⊎ ((getD R (at * 4) 0 ≡ 71) ⊎ ((getD R (at * 4) 0 ≡ 75) ⊎ (getD R (at * 4) 0 ≡ 65)))
+Unary R at = (getD R (at * 4) 0 ≡ 90)
+    ⊎ ((getD R (at * 4) 0 ≡ 71) ⊎ ((getD R (at * 4) 0 ≡ 75) ⊎ (getD R (at * 4) 0 ≡ 65)))
 
 -- Within the limits of the form pass: names up to 255, at most 256 slots in scope, and d nodes of nesting left.
 unfoldable mutual
@@ -93,19 +95,22 @@ pub record Pre (R E T A S C : List ℕ) (count at scope top : ℕ) : Type 0 wher
 pub record Declared (W : World) (t : ExprType) : Type 0 where
   pub class-in : (c : ℕ) → t ≡ known (class c) → is-declared-type W (class c) ≡ true
 
-pub record Accepted (W : World) (e : Expr) (γ : Environment) (at scope : ℕ) (S′ C′ : List ℕ) (a : Typed) : Type 0 where
+pub record Accepted (W : World) (e : Expr) (γ : Environment) (at scope : ℕ) (S′ C′ : List ℕ) (a : Typed) :
+    Type 0 where
   pub views : Views W (a .slots) S′ scope
   pub declared : Declared W (a .type)
   pub looks : LooksUp W C′ e γ at
 
 -- The answer is the definition's, the line being the row's number and 1; where it is accepted, so are slots and table.
-pub record Is (W : World) (e : Expr) (γ : Environment) (at scope : ℕ) (S′ C′ : List ℕ) (r : Answer) : Type 0 where
-  pub out : r ≡ answer-of (type-of W e (at + 1) γ)
-  pub accepted : (a : Typed) → type-of W e (at + 1) γ ≡ accept a → Accepted W e γ at scope S′ C′ a
+pub record Is (W : World) (e : Expr) (γ : Environment) (at scope : ℕ) (S′ C′ : List ℕ) (r : Answer) : Type 0
+  where
+    pub out : r ≡ answer-of (type-of W e (at + 1) γ)
+    pub accepted : (a : Typed) → type-of W e (at + 1) γ ≡ accept a → Accepted W e γ at scope S′ C′ a
 
 pub record Post (R E T A S C S′ C′ : List ℕ) (count at scope top : ℕ) (r : Answer) : Type 0 where
   pub kept : Kept S S′ C C′ at (getD E at 0) top
-  pub is : (P : List Class) (e : Expr) (γ : Environment) (d : ℕ) → Headed P R T A count → Encoded R E e at → Limited e scope d
+  pub is : (P : List Class) (e : Expr) (γ : Environment) (d : ℕ) → Headed P R T A count
+      → Encoded R E e at → Limited e scope d
       → Views (world P) γ S scope → Room R E S C scope top d → Is (world P) e γ at scope S′ C′ r
 
 -- n expressions in a row.
@@ -121,7 +126,8 @@ pub record PreList (R E T A S C : List ℕ) (count at scope top n : ℕ) : Type 
   pub views : Views (world P) γ S scope
   pub room : Room R E S C scope top d
 
-pub record AcceptedAll (W : World) (es : Exprs) (γ : Environment) (at scope : ℕ) (S′ C′ : List ℕ) (b : TypedAll) : Type 0 where
+pub record AcceptedAll (W : World) (es : Exprs) (γ : Environment) (at scope : ℕ) (S′ C′ : List ℕ)
+    (b : TypedAll) : Type 0 where
   pub views : Views W (b .slots) S′ scope
   pub types : (i : ℕ) (t : ExprType) → nth (b .types) i ≡ some t → Declared W t
   pub looks : LooksUpAll W C′ es γ at
@@ -132,11 +138,16 @@ pub record PostItems (R E T A S C S′ C′ : List ℕ) (count at scope top n : 
   pub classes-long : length C′ ≡ length C
   pub between : (i : ℕ) → 256 ≤ i → i < top → getD S′ i 0 ≡ getD S i 0
   pub before : (i : ℕ) → i < at → getD C′ i 0 ≡ getD C i 0
-  pub after : (es : Exprs) → n ≡ how-many es → EncodedAll R E es at → (i : ℕ) → at + sizes es ≤ i → getD C′ i 0 ≡ getD C i 0
-  pub out : (P : List Class) (es : Exprs) (γ : Environment) (d : ℕ) (t : ExprType) → n ≡ how-many es → Headed P R T A count
-      → EncodedAll R E es at → LimitedAll es scope d → Views (world P) γ S scope → Room R E S C scope top d → last .typing ≡ typing-case t
-      → (r ≡ answer-of (bind-checked (type-all (world P) es (at + 1) γ) λ b. typed (last-type t (b .types)) (b .slots) (join (last .effect) (b .effect))))
-      × ((b : TypedAll) → type-all (world P) es (at + 1) γ ≡ accept b → AcceptedAll (world P) es γ at scope S′ C′ b)
+  pub after : (es : Exprs) → n ≡ how-many es → EncodedAll R E es at → (i : ℕ) → at + sizes es ≤ i
+      → getD C′ i 0 ≡ getD C i 0
+  pub out : (P : List Class) (es : Exprs) (γ : Environment) (d : ℕ) (t : ExprType) → n ≡ how-many es
+      → Headed P R T A count
+      → EncodedAll R E es at → LimitedAll es scope d → Views (world P) γ S scope → Room R E S C scope top d
+      → last .typing ≡ typing-case t
+      → (r ≡ answer-of (bind-checked (type-all (world P) es (at + 1) γ) λ b. typed (last-type t (b .types))
+      (b .slots) (join (last .effect) (b .effect))))
+      × ((b : TypedAll) → type-all (world P) es (at + 1) γ ≡ accept b
+      → AcceptedAll (world P) es γ at scope S′ C′ b)
 
 -- The numbers of arguments' types as they are stored.
 unfoldable pub stored : List ExprType → List ℕ
@@ -148,10 +159,13 @@ pub record PostArguments (R E T A S C S′ C′ : List ℕ) (count at scope top 
   pub classes-long : length C′ ≡ length C
   pub between : (i : ℕ) → 256 ≤ i → i < top → getD S′ i 0 ≡ getD S i 0
   pub before : (i : ℕ) → i < at → getD C′ i 0 ≡ getD C i 0
-  pub after : (es : Exprs) → n ≡ how-many es → EncodedAll R E es at → (i : ℕ) → at + sizes es ≤ i → getD C′ i 0 ≡ getD C i 0
+  pub after : (es : Exprs) → n ≡ how-many es → EncodedAll R E es at → (i : ℕ) → at + sizes es ≤ i
+      → getD C′ i 0 ≡ getD C i 0
   pub out : (P : List Class) (es : Exprs) (γ : Environment) (d : ℕ) → n ≡ how-many es → Headed P R T A count
-      → EncodedAll R E es at → LimitedAll es scope d → Views (world P) γ S scope → Room R E S C scope (top + n) d
-      → (r ≡ answer-of (bind-checked (type-all (world P) es (at + 1) γ) λ b. typed null-type (b .slots) (b .effect)))
+      → EncodedAll R E es at → LimitedAll es scope d → Views (world P) γ S scope
+      → Room R E S C scope (top + n) d
+      → (r ≡ answer-of (bind-checked (type-all (world P) es (at + 1) γ) λ b. typed null-type (b .slots)
+      (b .effect)))
       × ((b : TypedAll) → type-all (world P) es (at + 1) γ ≡ accept b
       → AcceptedAll (world P) es γ at scope S′ C′ b
       × ((i : ℕ) → i < n → getD S′ (top + i) 0 ≡ getD (stored (b .types)) i 0))

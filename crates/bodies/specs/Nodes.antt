@@ -64,7 +64,8 @@ abbrev pub field-row : List ℕ → ℕ → ℕ → ℕ
 field-row T c f = getD T (c * 576 + (519 + field-place T c f)) 0
 
 unfoldable pub field-in : List ℕ → List ℕ → ℕ → ℕ → Sought
-field-in R T c f = cond (eqb (field-place T c f) 0) Missing (Found (record { number = getD R (field-row T c f * 4 + 1) 0 }))
+field-in R T c f = cond (eqb (field-place T c f) 0) Missing
+    (Found (record { number = getD R (field-row T c f * 4 + 1) 0 }))
 
 pub record PreField (R T : List ℕ) (c f : ℕ) : Type 0 where
   pub inside : (c + 1) * 576 ≤ length T
@@ -73,7 +74,8 @@ pub record PreField (R T : List ℕ) (c f : ℕ) : Type 0 where
 
 -- W, K and I.
 unfoldable pub created : List ℕ → ℕ → ℕ → Answer
-created R count at = cond (ltb count (getD R (at * 4 + 1) 0)) (refusal 4 at) (answer (Class (getD R (at * 4 + 1) 0)) 0)
+created R count at =
+    cond (ltb count (getD R (at * 4 + 1) 0)) (refusal 4 at) (answer (Class (getD R (at * 4 + 1) 0)) 0)
 
 unfoldable pub slot-read : List ℕ → List ℕ → ℕ → ℕ → Answer
 slot-read R S at scope =
@@ -94,7 +96,8 @@ casted at c (Refusal n l) φ = answer (Refusal n l) φ
 unfoldable pub cast-answer : List ℕ → ℕ → ℕ → Answer → Answer
 cast-answer R count at a =
     cond (is-refusal (a .typing)) a
-    (cond (ltb count (getD R (at * 4 + 1) 0)) (refusal 4 at) (casted at (getD R (at * 4 + 1) 0) (a .typing) (a .effect)))
+    (cond (ltb count (getD R (at * 4 + 1) 0)) (refusal 4 at)
+    (casted at (getD R (at * 4 + 1) 0) (a .typing) (a .effect)))
 
 -- A.
 unfoldable pub assigned : List ℕ → List ℕ → List ℕ → ℕ → ℕ → Answer → Answer

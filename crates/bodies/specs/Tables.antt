@@ -1,8 +1,8 @@
 -- What the functions over the tables of classes give, in terms of the tables' numbers, and when the tables hold a
 -- program's classes.
 use mathlib.Core.Path.{_≡_}
-use mathlib.Core.Bool.{Bool, true, false, not, _&&_, _||_, cond}
-use mathlib.Core.Option.{Option, none, some}
+use mathlib.Core.Bool.{Bool, true, false, not, cond}
+use mathlib.Core.Option.{none, some}
 use mathlib.Core.List.{List, [], _∷_}
 use Prim.Native.Nat.{ℕ, zero, suc, _+_, _*_, _≤_, _<_}
 use lib.Dec.{eqb}
@@ -10,13 +10,14 @@ use lib.ListN.{length, getD}
 use Rattle.language.specs.Lists.{nth}
 use Rattle.language.specs.Rows.{M-method, P-parameter, X-effect, B-block}
 use Rattle.language.specs.Tree.{DeclaredType, type-number, Field, Class, unknown}
-use Rattle.language.specs.World.{Method, World, is-declared-type}
+use Rattle.language.specs.World.{Method, is-declared-type}
 use Rattle.language.specs.Effects.{member, effect-of-all}
 use Rattle.language.specs.Program.{class-at, world}
 use Rattle.language.specs.ClassTables.{ClassTables, field-rows, method-row}
 use Rattle.language.specs.Encoded.{RowAt}
 use Rattle.bodies.specs.declared.Typing.{Typing}
-use Rattle.bodies.specs.declared.Typing.the-variants.{Bool as bool-case, Class as class-case, Null, Refusal}
+use Rattle.bodies.specs.declared.Typing.the-variants.{Bool as bool-case, Class as class-case, Null}
+use Rattle.bodies.specs.declared.Typing.the-variants.{Refusal}
 
 -- The tables' numbers alone make their use safe: roots and superclasses stand no later than their class.
 pub record Sound (T A : List ℕ) (count : ℕ) : Type 0 where
@@ -57,7 +58,8 @@ applied-number T φ n = cond (eqb n 255) n (cond (eqb n 65535) n (applied T φ n
 
 unfoldable pub joined-number : List ℕ → List ℕ → ℕ → ℕ → ℕ
 joined-number T A a b =
-    cond (eqb a 255) a (cond (eqb a 65535) a (cond (eqb b 255) a (cond (eqb b 65535) a (nearest-from T A (suc a) a b))))
+    cond (eqb a 255) a (cond (eqb a 65535) a (cond (eqb b 255) a
+    (cond (eqb b 65535) a (nearest-from T A (suc a) a b))))
 
 -- The tables hold the classes of a list, whose superclasses are earlier classes: what the heading pass gives.
 pub record Classes (P : List Class) (T A : List ℕ) (count : ℕ) : Type 0 where

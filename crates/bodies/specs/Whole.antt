@@ -44,16 +44,18 @@ pub record SomeBlock (R : List ℕ) (at : ℕ) : Type 0 where
   pub first : FirstBlock R at row
 
 -- A method at a row, of a class of which every type is declared, within the limits of form.
-pub record MethodFacts (R E T A : List ℕ) (count owner at : ℕ) (P : List Class) (m : Declaration) : Type 0 where
-  pub headed : Headed P R T A count
-  pub layout : MethodAt R E m at
-  pub limited : Limited (m .body) (1 + length (m .parameters)) 128
-  pub block-line : getD R (body-row at m * 4) 0 ≡ 66
-  pub owner-low : owner ≤ count
-  pub few : length (m .parameters) ≤ 8
-  pub result : is-declared-type (world P) (m .result) ≡ true
-  pub parameters : (i : ℕ) (t : DeclaredType) → nth (m .parameters) i ≡ some t → is-declared-type (world P) t ≡ true
-  pub effects : (i c : ℕ) → nth (m .effects) i ≡ some c → c ≤ 64
+pub record MethodFacts (R E T A : List ℕ) (count owner at : ℕ) (P : List Class) (m : Declaration) : Type 0
+  where
+    pub headed : Headed P R T A count
+    pub layout : MethodAt R E m at
+    pub limited : Limited (m .body) (1 + length (m .parameters)) 128
+    pub block-line : getD R (body-row at m * 4) 0 ≡ 66
+    pub owner-low : owner ≤ count
+    pub few : length (m .parameters) ≤ 8
+    pub result : is-declared-type (world P) (m .result) ≡ true
+    pub parameters : (i : ℕ) (t : DeclaredType) → nth (m .parameters) i ≡ some t
+        → is-declared-type (world P) t ≡ true
+    pub effects : (i c : ℕ) → nth (m .effects) i ≡ some c → c ≤ 64
 
 -- Room for 128 nested nodes, and an entry in the table of lookup classes for each node.
 pub record Spacious (R E S C : List ℕ) : Type 0 where

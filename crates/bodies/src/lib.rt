@@ -1,16 +1,23 @@
 // The pass over bodies: each method's body and the start block are typed, in line order.
 ghost use mathlib.Core.Path.{_≡_};
-ghost use mathlib.Core.List.{List};
 ghost use Prim.Native.Nat.{ℕ, suc, _+_, _-_, _*_, _≤_, _<_};
 ghost use lib.ListN.{length, getD};
-ghost use Rattle.language.specs.Tree.{type-number};
 ghost use Rattle.language.specs.Effects.{member, effect-of, within};
 ghost use Rattle.bodies.specs.Answers.{answer, case-of-number, case-number, is-refusal};
-ghost use Rattle.bodies.specs.Tables.{Sound, Known, root-in, applied, is-below, is-fitting, nearest-from, applied-number, joined-number, CaseIn, PreNearest, Applicable, Run, Runs};
-ghost use Rattle.bodies.specs.Nodes.{null-tested, not-class, joined-case, BothClasses, field-in, PreField, created, slot-read, In-row, cast-answer, assigned, PreAssign, too-many-answer, got, got-classes, PreGet, changeable-in};
+ghost use Rattle.bodies.specs.Tables.{root-in, applied, is-below, is-fitting, nearest-from};
+ghost use Rattle.bodies.specs.Tables.{applied-number, joined-number, CaseIn, PreNearest, Applicable};
+ghost use Rattle.bodies.specs.Tables.{Run, Runs};
+ghost use Rattle.bodies.specs.Nodes.{null-tested, not-class, joined-case, BothClasses, field-in};
+ghost use Rattle.bodies.specs.Nodes.{PreField, created, slot-read, In-row, cast-answer, assigned};
+ghost use Rattle.bodies.specs.Nodes.{PreAssign, too-many-answer, got, got-classes, PreGet};
+ghost use Rattle.bodies.specs.Nodes.{changeable-in};
 ghost use Rattle.bodies.specs.Cycle.{Unary, Pre, Post, PreList, PostItems, PostArguments};
-ghost use Rattle.bodies.specs.Acts.{names-type, SomeEffects, EffectOf, stored-case, all-fitting, PreFitting, PreOpen, PostOpen, PreChange, PostChange, PrePut, put, put-classes, PreInvoke, Invoked, PreChoice, PostChoice};
-ghost use Rattle.bodies.specs.Whole.{PreEnter, PostEnter, SomeBlock, FirstBlock, PreMethodBody, PostMethodBody, PreLine, PostLine, class-next, PreNext, PostNext, BodiesReady, BodiesDone};
+ghost use Rattle.bodies.specs.Acts.{names-type, SomeEffects, EffectOf, stored-case, all-fitting};
+ghost use Rattle.bodies.specs.Acts.{PreFitting, PreOpen, PostOpen, PreChange, PostChange, PrePut, put};
+ghost use Rattle.bodies.specs.Acts.{put-classes, PreInvoke, Invoked, PreChoice, PostChoice};
+ghost use Rattle.bodies.specs.Whole.{PreEnter, PostEnter, SomeBlock, FirstBlock, PreMethodBody};
+ghost use Rattle.bodies.specs.Whole.{PostMethodBody, PreLine, PostLine, class-next, PreNext, PostNext};
+ghost use Rattle.bodies.specs.Whole.{BodiesReady, BodiesDone};
 ghost use Rattle.bodies.specs.Tables.{Changed, Saved, Swapped, PreJoin, PreNumbers};
 
 // A type as a program writes it: bool, or a class by its number.
@@ -252,7 +259,8 @@ fn is_refusal(a: Answer) -> bool
 fn apply_all(table: &[u16], slots: &mut [u32], scope: usize, effect: u64)
     requires { ⌜ scope ≤ length (now slots) ⌝ }
     requires { ⌜ ((k : ℕ) → k < scope → Applicable (now table) (getD (now slots) k 0)) ⌝ }
-    ensures { λ r. ⌜ Changed (now (slots .entry)) (now (slots .exit)) scope (λ k. applied-number (now (table .entry)) effect (getD (now (slots .entry)) k 0)) ⌝ }
+    ensures { λ r. ⌜ Changed (now (slots .entry)) (now (slots .exit)) scope
+        (λ k. applied-number (now (table .entry)) effect (getD (now (slots .entry)) k 0)) ⌝ }
 {
     for i in 0..scope {
         slots[i] = apply_number(table, effect, slots[i]);
@@ -304,7 +312,9 @@ fn swap(slots: &mut [u32], scope: usize, top: usize)
 // The slots in scope join with those of the first arm, which were saved.
 fn join_slots(table: &[u16], above: &[u64], slots: &mut [u32], scope: usize, top: usize)
     requires { ⌜ PreJoin (now table) (now above) (now slots) scope top ⌝ }
-    ensures { λ r. ⌜ Changed (now (slots .entry)) (now (slots .exit)) scope (λ k. joined-number (now (table .entry)) (now (above .entry)) (getD (now (slots .entry)) (top + k) 0) (getD (now (slots .entry)) k 0)) ⌝ }
+    ensures { λ r. ⌜ Changed (now (slots .entry)) (now (slots .exit)) scope
+        (λ k. joined-number (now (table .entry)) (now (above .entry)) (getD (now (slots .entry)) (top + k) 0)
+        (getD (now (slots .entry)) k 0)) ⌝ }
 {
     for i in 0..scope {
         slots[i] = join_number(table, above, slots[top + i], slots[i]);
@@ -452,7 +462,8 @@ fn assign(
     child: Answer,
 ) -> Answer
     requires { ⌜ PreAssign (now rows) (now above) (now slots) at scope (child .typing) ⌝ }
-    ensures { λ r. ⌜ r ≡ assigned (now (rows .entry)) (now (above .entry)) (now (slots .entry)) at scope child ⌝ }
+    ensures { λ r. ⌜ r ≡ assigned (now (rows .entry)) (now (above .entry)) (now (slots .entry)) at scope child
+        ⌝ }
 {
     let k = rows[at * 4 + 1] as usize;
     if is_refusal(child) {
@@ -513,7 +524,8 @@ fn are_fitting(
     n: usize,
 ) -> bool
     requires { ⌜ PreFitting (now rows) (now above) (now slots) from row n ⌝ }
-    ensures { λ r. ⌜ r ≡ all-fitting (now (rows .entry)) (now (above .entry)) (now (slots .entry)) from row n ⌝ }
+    ensures { λ r. ⌜ r ≡ all-fitting (now (rows .entry)) (now (above .entry)) (now (slots .entry)) from row n
+        ⌝ }
 {
     for i in 0..n {
         if !is_fitting(
@@ -552,7 +564,8 @@ fn change(
     scope: usize,
 ) -> Answer
     requires { ⌜ PreChange (now rows) (now table) (now slots) count at scope ⌝ }
-    ensures { λ r. ⌜ PostChange (now (rows .entry)) (now (table .entry)) (now (slots .entry)) (now (slots .exit)) count at scope r ⌝ }
+    ensures { λ r. ⌜ PostChange (now (rows .entry)) (now (table .entry)) (now (slots .entry))
+        (now (slots .exit)) count at scope r ⌝ }
 {
     let k = rows[at * 4 + 1] as usize;
     let target = rows[at * 4 + 2];
@@ -591,7 +604,10 @@ fn change(
 // G: 9 where there is no class, 8 where there is no field.
 fn get(rows: &[u32], table: &[u16], class_at: &mut [u16], at: usize, child: Answer) -> Answer
     requires { ⌜ PreGet (now rows) (now table) (now «class_at») at (child .typing) ⌝ }
-    ensures { λ r. ⌜ (r ≡ got (now (rows .entry)) (now (table .entry)) at (child .typing) (child .effect)) × (now («class_at» .exit) ≡ got-classes (now (rows .entry)) (now (table .entry)) (now («class_at» .entry)) at (child .typing)) ⌝ }
+    ensures { λ r. ⌜ (r ≡ got (now (rows .entry)) (now (table .entry)) at (child .typing) (child .effect)) ×
+        (now («class_at» .exit)
+        ≡ got-classes (now (rows .entry)) (now (table .entry)) (now («class_at» .entry)) at (child .typing))
+        ⌝ }
 {
     let t = child.typing;
     let Typing::Class(class) = t else {
@@ -621,7 +637,11 @@ fn set(
     value: Answer,
 ) -> Answer
     requires { ⌜ PrePut (now rows) (now table) (now above) (now «class_at») at (object .typing) value ⌝ }
-    ensures { λ r. ⌜ (r ≡ put (now (rows .entry)) (now (table .entry)) (now (above .entry)) at (object .typing) object value) × (now («class_at» .exit) ≡ put-classes (now (rows .entry)) (now (table .entry)) (now (above .entry)) (now («class_at» .entry)) at (object .typing) value) ⌝ }
+    ensures { λ r. ⌜ (r ≡ put (now (rows .entry)) (now (table .entry))
+        (now (above .entry)) at (object .typing) object value)
+        × (now («class_at» .exit)
+        ≡ put-classes (now (rows .entry)) (now (table .entry)) (now (above .entry))
+        (now («class_at» .entry)) at (object .typing) value) ⌝ }
 {
     let t = object.typing;
     let Typing::Class(c) = t else {
@@ -656,8 +676,11 @@ fn invoke(
     receiver: Answer,
     effect: u64,
 ) -> Answer
-    requires { ⌜ PreInvoke (now rows) (now table) (now above) (now slots) (now «class_at») at scope top (receiver .typing) effect ⌝ }
-    ensures { λ r. ⌜ Invoked (now (rows .entry)) (now (table .entry)) (now (above .entry)) (now (slots .entry)) (now («class_at» .entry)) at scope top (receiver .typing) (receiver .effect) effect (now (slots .exit)) (now («class_at» .exit)) r ⌝ }
+    requires { ⌜ PreInvoke (now rows) (now table) (now above) (now slots) (now «class_at») at scope top
+        (receiver .typing) effect ⌝ }
+    ensures { λ r. ⌜ Invoked (now (rows .entry)) (now (table .entry)) (now (above .entry))
+        (now (slots .entry)) (now («class_at» .entry)) at scope top (receiver .typing) (receiver .effect)
+        effect (now (slots .exit)) (now («class_at» .exit)) r ⌝ }
 {
     let t = receiver.typing;
     let Typing::Class(c) = t else {
@@ -700,7 +723,8 @@ fn choice(
     no: Answer,
 ) -> Answer
     requires { ⌜ PreChoice (now table) (now above) (now slots) at scope top (yes .typing) (no .typing) ⌝ }
-    ensures { λ r. ⌜ PostChoice (now (table .entry)) (now (above .entry)) (now (slots .entry)) (now (slots .exit)) at scope top condition yes no r ⌝ }
+    ensures { λ r. ⌜ PostChoice (now (table .entry)) (now (above .entry)) (now (slots .entry))
+        (now (slots .exit)) at scope top condition yes no r ⌝ }
 {
     let t = condition.typing;
     let Typing::Bool = t else {
@@ -732,7 +756,8 @@ fn is_type(count: u32, number: u32) -> bool
 // The V lines of a block: each names bool or a declared class, 4, and makes a slot of its type.
 fn open(rows: &[u32], slots: &mut [u32], count: u32, at: usize, scope: usize, v: usize) -> Answer
     requires { ⌜ PreOpen (now rows) (now slots) at scope v ⌝ }
-    ensures { λ r. ⌜ PostOpen (now (rows .entry)) (now (slots .entry)) (now (slots .exit)) count at scope v r ⌝ }
+    ensures { λ r. ⌜ PostOpen (now (rows .entry)) (now (slots .entry)) (now (slots .exit)) count at scope v r
+        ⌝ }
 {
     for i in 0..v {
         let number = rows[(at + 1 + i) * 4 + 1];
@@ -757,8 +782,11 @@ fn expression(
     scope: usize,
     top: usize,
 ) -> Answer
-    requires { ⌜ Pre (now rows) (now ends) (now table) (now above) (now slots) (now «class_at») count at scope top ⌝ }
-    ensures { λ r. ⌜ Post (now (rows .entry)) (now (ends .entry)) (now (table .entry)) (now (above .entry)) (now (slots .entry)) (now («class_at» .entry)) (now (slots .exit)) (now («class_at» .exit)) count at scope top r ⌝ }
+    requires { ⌜ Pre (now rows) (now ends) (now table) (now above) (now slots) (now «class_at») count at scope
+        top ⌝ }
+    ensures { λ r. ⌜ Post (now (rows .entry)) (now (ends .entry)) (now (table .entry)) (now (above .entry))
+        (now (slots .entry)) (now («class_at» .entry)) (now (slots .exit)) (now («class_at» .exit))
+        count at scope top r ⌝ }
 {
     let letter = rows[at * 4];
     match letter {
@@ -845,8 +873,11 @@ fn unary(
     top: usize,
 ) -> Answer
     requires { ⌜ Unary (now rows) at ⌝ }
-    requires { ⌜ Pre (now rows) (now ends) (now table) (now above) (now slots) (now «class_at») count at scope top ⌝ }
-    ensures { λ r. ⌜ Post (now (rows .entry)) (now (ends .entry)) (now (table .entry)) (now (above .entry)) (now (slots .entry)) (now («class_at» .entry)) (now (slots .exit)) (now («class_at» .exit)) count at scope top r ⌝ }
+    requires { ⌜ Pre (now rows) (now ends) (now table) (now above) (now slots) (now «class_at») count at scope
+        top ⌝ }
+    ensures { λ r. ⌜ Post (now (rows .entry)) (now (ends .entry)) (now (table .entry)) (now (above .entry))
+        (now (slots .entry)) (now («class_at» .entry)) (now (slots .exit)) (now («class_at» .exit))
+        count at scope top r ⌝ }
 {
     let child = expression(
         rows,
@@ -883,8 +914,11 @@ fn write(
     top: usize,
 ) -> Answer
     requires { ⌜ getD (now rows) (at * 4) 0 ≡ 85 ⌝ }
-    requires { ⌜ Pre (now rows) (now ends) (now table) (now above) (now slots) (now «class_at») count at scope top ⌝ }
-    ensures { λ r. ⌜ Post (now (rows .entry)) (now (ends .entry)) (now (table .entry)) (now (above .entry)) (now (slots .entry)) (now («class_at» .entry)) (now (slots .exit)) (now («class_at» .exit)) count at scope top r ⌝ }
+    requires { ⌜ Pre (now rows) (now ends) (now table) (now above) (now slots) (now «class_at») count at scope
+        top ⌝ }
+    ensures { λ r. ⌜ Post (now (rows .entry)) (now (ends .entry)) (now (table .entry)) (now (above .entry))
+        (now (slots .entry)) (now («class_at» .entry)) (now (slots .exit)) (now («class_at» .exit))
+        count at scope top r ⌝ }
 {
     let object = expression(
         rows,
@@ -934,8 +968,11 @@ fn call(
     top: usize,
 ) -> Answer
     requires { ⌜ getD (now rows) (at * 4) 0 ≡ 81 ⌝ }
-    requires { ⌜ Pre (now rows) (now ends) (now table) (now above) (now slots) (now «class_at») count at scope top ⌝ }
-    ensures { λ r. ⌜ Post (now (rows .entry)) (now (ends .entry)) (now (table .entry)) (now (above .entry)) (now (slots .entry)) (now («class_at» .entry)) (now (slots .exit)) (now («class_at» .exit)) count at scope top r ⌝ }
+    requires { ⌜ Pre (now rows) (now ends) (now table) (now above) (now slots) (now «class_at») count at scope
+        top ⌝ }
+    ensures { λ r. ⌜ Post (now (rows .entry)) (now (ends .entry)) (now (table .entry)) (now (above .entry))
+        (now (slots .entry)) (now («class_at» .entry)) (now (slots .exit)) (now («class_at» .exit))
+        count at scope top r ⌝ }
 {
     let receiver = expression(
         rows,
@@ -1015,8 +1052,11 @@ fn choose(
     top: usize,
 ) -> Answer
     requires { ⌜ getD (now rows) (at * 4) 0 ≡ 74 ⌝ }
-    requires { ⌜ Pre (now rows) (now ends) (now table) (now above) (now slots) (now «class_at») count at scope top ⌝ }
-    ensures { λ r. ⌜ Post (now (rows .entry)) (now (ends .entry)) (now (table .entry)) (now (above .entry)) (now (slots .entry)) (now («class_at» .entry)) (now (slots .exit)) (now («class_at» .exit)) count at scope top r ⌝ }
+    requires { ⌜ Pre (now rows) (now ends) (now table) (now above) (now slots) (now «class_at») count at scope
+        top ⌝ }
+    ensures { λ r. ⌜ Post (now (rows .entry)) (now (ends .entry)) (now (table .entry)) (now (above .entry))
+        (now (slots .entry)) (now («class_at» .entry)) (now (slots .exit)) (now («class_at» .exit))
+        count at scope top r ⌝ }
 {
     let condition = expression(
         rows,
@@ -1084,8 +1124,11 @@ fn block(
     top: usize,
 ) -> Answer
     requires { ⌜ getD (now rows) (at * 4) 0 ≡ 66 ⌝ }
-    requires { ⌜ Pre (now rows) (now ends) (now table) (now above) (now slots) (now «class_at») count at scope top ⌝ }
-    ensures { λ r. ⌜ Post (now (rows .entry)) (now (ends .entry)) (now (table .entry)) (now (above .entry)) (now (slots .entry)) (now («class_at» .entry)) (now (slots .exit)) (now («class_at» .exit)) count at scope top r ⌝ }
+    requires { ⌜ Pre (now rows) (now ends) (now table) (now above) (now slots) (now «class_at») count at scope
+        top ⌝ }
+    ensures { λ r. ⌜ Post (now (rows .entry)) (now (ends .entry)) (now (table .entry)) (now (above .entry))
+        (now (slots .entry)) (now («class_at» .entry)) (now (slots .exit)) (now («class_at» .exit))
+        count at scope top r ⌝ }
 {
     let v = rows[at * 4 + 1] as usize;
     let n = rows[at * 4 + 2] as usize;
@@ -1124,8 +1167,11 @@ fn items(
     n: usize,
     last: Answer,
 ) -> Answer
-    requires { ⌜ PreList (now rows) (now ends) (now table) (now above) (now slots) (now «class_at») count at scope top n ⌝ }
-    ensures { λ r. ⌜ PostItems (now (rows .entry)) (now (ends .entry)) (now (table .entry)) (now (above .entry)) (now (slots .entry)) (now («class_at» .entry)) (now (slots .exit)) (now («class_at» .exit)) count at scope top n last r ⌝ }
+    requires { ⌜ PreList (now rows) (now ends) (now table) (now above) (now slots) (now «class_at»)
+        count at scope top n ⌝ }
+    ensures { λ r. ⌜ PostItems (now (rows .entry)) (now (ends .entry)) (now (table .entry))
+        (now (above .entry)) (now (slots .entry)) (now («class_at» .entry)) (now (slots .exit))
+        (now («class_at» .exit)) count at scope top n last r ⌝ }
 {
     if n == 0 {
         return last;
@@ -1182,8 +1228,11 @@ fn arguments(
     n: usize,
 ) -> Answer
     requires { ⌜ 256 ≤ top ⌝ }
-    requires { ⌜ PreList (now rows) (now ends) (now table) (now above) (now slots) (now «class_at») count at scope (top + n) n ⌝ }
-    ensures { λ r. ⌜ PostArguments (now (rows .entry)) (now (ends .entry)) (now (table .entry)) (now (above .entry)) (now (slots .entry)) (now («class_at» .entry)) (now (slots .exit)) (now («class_at» .exit)) count at scope top n r ⌝ }
+    requires { ⌜ PreList (now rows) (now ends) (now table) (now above) (now slots) (now «class_at»)
+        count at scope (top + n) n ⌝ }
+    ensures { λ r. ⌜ PostArguments (now (rows .entry)) (now (ends .entry)) (now (table .entry))
+        (now (above .entry)) (now (slots .entry)) (now («class_at» .entry)) (now (slots .exit))
+        (now («class_at» .exit)) count at scope top n r ⌝ }
 {
     if n == 0 {
         return plain(Typing::Null);
@@ -1263,8 +1312,11 @@ fn method(
     owner: u32,
     at: usize,
 ) -> Verdict
-    requires { ⌜ PreMethodBody (now rows) (now ends) (now table) (now above) (now slots) (now «class_at») count owner at ⌝ }
-    ensures { λ r. ⌜ PostMethodBody (now (rows .entry)) (now (ends .entry)) (now (table .entry)) (now (above .entry)) (now (slots .entry)) (now («class_at» .entry)) (now (slots .exit)) (now («class_at» .exit)) count owner at r ⌝ }
+    requires { ⌜ PreMethodBody (now rows) (now ends) (now table) (now above) (now slots) (now «class_at»)
+        count owner at ⌝ }
+    ensures { λ r. ⌜ PostMethodBody (now (rows .entry)) (now (ends .entry)) (now (table .entry))
+        (now (above .entry)) (now (slots .entry)) (now («class_at» .entry)) (now (slots .exit))
+        (now («class_at» .exit)) count owner at r ⌝ }
 {
     let n = count_parameters(rows, at + 1);
     let body = body_row(rows, at);
@@ -1307,8 +1359,11 @@ fn pass_line(
     owner: u32,
     at: usize,
 ) -> Verdict
-    requires { ⌜ PreLine (now rows) (now ends) (now table) (now above) (now slots) (now «class_at») count owner at ⌝ }
-    ensures { λ r. ⌜ PostLine (now (rows .entry)) (now (ends .entry)) (now (table .entry)) (now (above .entry)) (now (slots .entry)) (now («class_at» .entry)) (now (slots .exit)) (now («class_at» .exit)) count owner at r ⌝ }
+    requires { ⌜ PreLine (now rows) (now ends) (now table) (now above) (now slots) (now «class_at») count
+        owner at ⌝ }
+    ensures { λ r. ⌜ PostLine (now (rows .entry)) (now (ends .entry)) (now (table .entry))
+        (now (above .entry)) (now (slots .entry)) (now («class_at» .entry)) (now (slots .exit))
+        (now («class_at» .exit)) count owner at r ⌝ }
 {
     if rows[at * 4] != 77 {
         return Verdict::Accepted;
@@ -1349,8 +1404,11 @@ pub fn check_bodies(
     class_at: &mut [u16],
     count: u32,
 ) -> Verdict
-    requires { ⌜ BodiesReady (now rows) (now ends) (now table) (now above) (now slots) (now «class_at») count ⌝ }
-    ensures { λ r. ⌜ BodiesDone (now (rows .entry)) (now (ends .entry)) (now (table .entry)) (now (above .entry)) (now (slots .entry)) (now («class_at» .entry)) (now («class_at» .exit)) count r ⌝ }
+    requires { ⌜ BodiesReady (now rows) (now ends) (now table) (now above) (now slots) (now «class_at») count
+        ⌝ }
+    ensures { λ r. ⌜ BodiesDone (now (rows .entry)) (now (ends .entry)) (now (table .entry))
+        (now (above .entry)) (now (slots .entry)) (now («class_at» .entry)) (now («class_at» .exit)) count r
+        ⌝ }
 {
     let mut at = 0;
     let mut class = 0;

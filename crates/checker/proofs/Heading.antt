@@ -13,20 +13,24 @@ use Rattle.language.specs.WellFormed.{Each, each-cons}
 use Rattle.language.specs.ClassTables.{ClassTables}
 use Rattle.language.specs.Layout.{ParametersAt, EffectsAt, ProgramAt, body-row}
 use Rattle.layout.specs.Found.{MethodHere, method-here, found-none, field-here, body-here}
-use Rattle.layout.specs.Headed.{super-lower, kinds-known, fields-few, field-declared, method-headed, declared-nth, effects-declared}
+use Rattle.layout.specs.Headed.{super-lower, kinds-known, fields-few, field-declared, method-headed}
+use Rattle.layout.specs.Headed.{declared-nth, effects-declared}
 use Rattle.bodies.specs.Tables as tables
 use Rattle.bodies.specs.Tables.{HeadingAt, Headed}
 
-parameters-rows : (R : List ℕ) (ts : List DeclaredType) (r : ℕ) → ParametersAt R ts r → tables.ParametersAt R ts r
+parameters-rows : (R : List ℕ) (ts : List DeclaredType) (r : ℕ) → ParametersAt R ts r
+    → tables.ParametersAt R ts r
 unfolding ParametersAt tables.ParametersAt
 parameters-rows R [] r h = tt
 parameters-rows R (t ∷ ts) r h = (h .0, parameters-rows R ts (r + 1) (h .1))
 
-pub effects-rows : (R : List ℕ) (n : ℕ) (cs : List ℕ) (r : ℕ) → n ≤ 64 → Each (λ c. (1 ≤ c) × (c ≤ n)) cs → EffectsAt R cs r
+pub effects-rows : (R : List ℕ) (n : ℕ) (cs : List ℕ) (r : ℕ) → n ≤ 64 → Each (λ c. (1 ≤ c) × (c ≤ n)) cs
+    → EffectsAt R cs r
     → tables.EffectsAt R cs r
 unfolding EffectsAt tables.EffectsAt
 effects-rows R n [] r l i h = tt
-effects-rows R n (c ∷ cs) r l (each-cons i is) h = (h .0, omega (arith, l, i .1), effects-rows R n cs (r + 1) l is (h .1))
+effects-rows R n (c ∷ cs) r l (each-cons i is) h =
+    (h .0, omega (arith, l, i .1), effects-rows R n cs (r + 1) l is (h .1))
 
 module _ {R E T A : List ℕ} {p : Program} (h : ProgramAt R E p) (t : ClassTables (p .classes) T A)
     (u : Unit {0}) (passed : headings of-check (p .classes) ≡ accept u) where
@@ -43,7 +47,8 @@ module _ {R E T A : List ℕ} {p : Program} (h : ProgramAt R E p) (t : ClassTabl
         expressions = count (b .expressions);
         row = x .at .line;
         parameter-rows = parameters-rows R (d .parameters) (r + 1) (x .at .parameters);
-        effect-rows = effects-rows R (length (p .classes)) (d .effects) (r + 1 + length (d .parameters)) (h .in-form .few)
+        effect-rows = effects-rows R (length (p .classes)) (d .effects) (r + 1 + length (d .parameters))
+            (h .in-form .few)
             (effects-declared (p .classes) (g .effects)) (x .at .effects);
         effect-is = refl;
         body-row = b .node .row;

@@ -8,7 +8,8 @@ use borrow.Author.Tests.{eq-eqb, ne-eqb}
 use native.Mathlib.Omega.{arith}
 use Rattle.language.specs.Limits.{of-check}
 use Rattle.language.specs.Results as results
-use Rattle.language.specs.Results.{Pass, accept, refuse, passed, bind-checked, require, accept-injective, accept≢refuse}
+use Rattle.language.specs.Results.{Pass, accept, refuse, passed, bind-checked, require, accept-injective}
+use Rattle.language.specs.Results.{accept≢refuse}
 use Rattle.language.specs.Results.{bind-checked-inv, require-inv}
 use Rattle.language.specs.Rows.{rows-of}
 use Rattle.language.specs.Tree.{Program}
@@ -35,24 +36,28 @@ use Rattle.bodies.specs.declared.Verdict as typed
 use Rattle.bodies.specs.declared.Verdict.the-variants.{Accepted as Typed, Refused as NotTyped}
 use Rattle.checker.specs.declared.Checked.the-variants.{Accepted, Refused}
 use Rattle.checker.specs.Answers.{checked-case, verdict-case, verdict-of-checked}
-use Rattle.checker.specs.Passes.{after-headings, after-form, Lent, Stands, FormPassed, HeadingsPassed, Held}
+use Rattle.checker.specs.Passes.{after-headings, after-form, Lent, Stands, FormPassed, HeadingsPassed}
+use Rattle.checker.specs.Passes.{Held}
 use Rattle.checker.proofs.Classed.{headings-ready}
 use Rattle.checker.proofs.Heading.{headed}
 
 -- ---- bodies
 
 -- What the body pass is called on.
-pub bodies-stand : {R E T A C : List ℕ} {n : ℕ} (S : List ℕ) → 33024 ≤ length S → (w : HeadingsPassed R E T A C n)
+pub bodies-stand : {R E T A C : List ℕ} {n : ℕ} (S : List ℕ) → 33024 ≤ length S
+    → (w : HeadingsPassed R E T A C n)
     → Ready R E T A S C n (w .program)
 bodies-stand {R} {E} {T} {A} S l w = record {
   layout = w .here;
   passes = w .heads;
-  headed = subst (Headed (w .program .classes) R T A) (w .counted) (headed (w .here) (w .tables) tt (w .heads));
+  headed = subst (Headed (w .program .classes) R T A) (w .counted)
+      (headed (w .here) (w .tables) tt (w .heads));
   slots = l;
   nodes = w .nodes;
 }
 
-abbrev pub bodies-ready : {R E T A C : List ℕ} {n : ℕ} (S : List ℕ) → 33024 ≤ length S → HeadingsPassed R E T A C n
+abbrev pub bodies-ready : {R E T A C : List ℕ} {n : ℕ} (S : List ℕ) → 33024 ≤ length S
+    → HeadingsPassed R E T A C n
     → BodiesReady R E T A S C n
 bodies-ready S l w = record { p = w .program; ready = bodies-stand S l w }
 
@@ -78,24 +83,29 @@ accepted-is {p} {q} e = go (bodies p) e
 module _ (p : Program) (C : List ℕ) where
   pub typed-accepted : (n : ℕ) (v : typed.Verdict) → length (p .classes) ≡ n → v ≡ Typed
       → (v ≡ typings.verdict-of (bodies p)) × (v ≡ Typed → LooksUpProgram C p)
-      → (Accepted n ≡ checked-case (after-headings p)) × ((q : Program) → after-headings p ≡ accept q → LooksUpProgram C q)
+      → (Accepted n ≡ checked-case (after-headings p))
+      × ((q : Program) → after-headings p ≡ accept q → LooksUpProgram C q)
   unfolding after-headings bind-checked
   typed-accepted n v k e b = go (bodies p) (sym e ∙ b .0)
     where
       go : (c : Pass) → Typed ≡ typings.verdict-of c
-          → (Accepted n ≡ checked-case (bind-checked c λ _. accept p)) × ((q : Program) → bind-checked c (λ _. accept p) ≡ accept q → LooksUpProgram C q)
+          → (Accepted n ≡ checked-case (bind-checked c λ _. accept p))
+          × ((q : Program) → bind-checked c (λ _. accept p) ≡ accept q → LooksUpProgram C q)
       go (accept u) f = (ap Accepted (sym k), λ q g. subst (LooksUpProgram C) (accept-injective g) (b .1 e))
       go (refuse i l) f = let z : _≡_ {A = ℕ} 0 1 = cc in absurd (omega arith)
 
   pub typed-refused : (i l : ℕ) (v : typed.Verdict) → v ≡ NotTyped i l → v ≡ typings.verdict-of (bodies p)
-      → (Refused i l ≡ checked-case (after-headings p)) × ((q : Program) → after-headings p ≡ accept q → LooksUpProgram C q)
+      → (Refused i l ≡ checked-case (after-headings p))
+      × ((q : Program) → after-headings p ≡ accept q → LooksUpProgram C q)
   unfolding after-headings bind-checked
   typed-refused i l v e b = go (bodies p) (sym e ∙ b)
     where
       go : (c : Pass) → NotTyped i l ≡ typings.verdict-of c
-          → (Refused i l ≡ checked-case (bind-checked c λ _. accept p)) × ((q : Program) → bind-checked c (λ _. accept p) ≡ accept q → LooksUpProgram C q)
+          → (Refused i l ≡ checked-case (bind-checked c λ _. accept p))
+          × ((q : Program) → bind-checked c (λ _. accept p) ≡ accept q → LooksUpProgram C q)
       go (accept u) f = let z : _≡_ {A = ℕ} 0 1 = cc in absurd (omega arith)
-      go (refuse n m) f = let a : i ≡ n = cc in let b : l ≡ m = cc in (rw (a, b), λ q g. absurd (accept≢refuse n m g))
+      go (refuse n m) f = let a : i ≡ n = cc in let b : l ≡ m = cc in
+          (rw (a, b), λ q g. absurd (accept≢refuse n m g))
 
 -- ---- headings
 
@@ -108,15 +118,18 @@ heads-refused (accept u) n l e = let z : _≡_ {A = ℕ} 0 1 = cc in absurd (ome
 heads-refused (refuse i m) n l e = let a : n ≡ i = cc in let b : l ≡ m = cc in rw (a, b)
 
 abbrev pub ready : {R E T A C : List ℕ} {n : ℕ} → FormPassed R E T A C n → HeadingsReady R E T A
-ready {R} {E} {T} {A} w = headings-ready R E T A (w .program) (w .here) (omega (arith, w .counted, w .long)) (w .long-above)
+ready {R} {E} {T} {A} w =
+    headings-ready R E T A (w .program) (w .here) (omega (arith, w .counted, w .long)) (w .long-above)
 
 module _ {R E T A C : List ℕ} {n : ℕ} (w : FormPassed R E T A C n) where
-  pub headings-accepted : (h : answered.Headed) → h ≡ Passed → h ≡ heads.headed (headings of-check (w .program .classes))
+  pub headings-accepted : (h : answered.Headed) → h ≡ Passed
+      → h ≡ heads.headed (headings of-check (w .program .classes))
       → headings of-check (w .program .classes) ≡ passed
   headings-accepted h e f = heads-passed (headings of-check (w .program .classes)) (sym e ∙ f)
 
   abbrev pub headings-passed : (T′ A′ : List ℕ) (h : answered.Headed) → h ≡ Passed
-      → (h ≡ heads.headed (headings of-check (w .program .classes))) × (h ≡ Passed → ClassTables (w .program .classes) T′ A′)
+      → (h ≡ heads.headed (headings of-check (w .program .classes)))
+      × (h ≡ Passed → ClassTables (w .program .classes) T′ A′)
       → HeadingsPassed R E T′ A′ C n
   headings-passed T′ A′ h e f = record {
     program = w .program;
@@ -129,10 +142,13 @@ module _ {R E T A C : List ℕ} {n : ℕ} (w : FormPassed R E T A C n) where
 
   -- Bodies were checked after headings were accepted.
   pub formed-typed : (T′ A′ C′ : List ℕ) (h : answered.Headed) → h ≡ Passed
-      → (h ≡ heads.headed (headings of-check (w .program .classes))) × (h ≡ Passed → ClassTables (w .program .classes) T′ A′)
+      → (h ≡ heads.headed (headings of-check (w .program .classes)))
+      × (h ≡ Passed → ClassTables (w .program .classes) T′ A′)
       → {X : Type 0} (r : X) (case : results.Checked Program → X)
-      → (r ≡ case (after-headings (w .program))) × ((q : Program) → after-headings (w .program) ≡ accept q → LooksUpProgram C′ q)
-      → (r ≡ case (after-form (w .program))) × ((q : Program) → after-form (w .program) ≡ accept q → Held R E T′ A′ C′ q)
+      → (r ≡ case (after-headings (w .program)))
+      × ((q : Program) → after-headings (w .program) ≡ accept q → LooksUpProgram C′ q)
+      → (r ≡ case (after-form (w .program)))
+      × ((q : Program) → after-form (w .program) ≡ accept q → Held R E T′ A′ C′ q)
   unfolding after-form bind-checked
   formed-typed T′ A′ C′ h e f r case b =
       let s : after-form (w .program) ≡ after-headings (w .program) = skip (headings-accepted h e (f .0)) in (
@@ -146,12 +162,14 @@ module _ {R E T A C : List ℕ} {n : ℕ} (w : FormPassed R E T A C n) where
             },
       )
     where
-      skip : headings of-check (w .program .classes) ≡ passed → after-form (w .program) ≡ after-headings (w .program)
+      skip : headings of-check (w .program .classes) ≡ passed
+          → after-form (w .program) ≡ after-headings (w .program)
       skip e = rw e
 
   pub formed-refused : (T′ A′ C′ : List ℕ) (i l : ℕ) (h : answered.Headed) → h ≡ NotPassed i l
       → h ≡ heads.headed (headings of-check (w .program .classes))
-      → (Refused i l ≡ checked-case (after-form (w .program))) × ((q : Program) → after-form (w .program) ≡ accept q → Held R E T′ A′ C′ q)
+      → (Refused i l ≡ checked-case (after-form (w .program)))
+      × ((q : Program) → after-form (w .program) ≡ accept q → Held R E T′ A′ C′ q)
   unfolding after-form bind-checked
   formed-refused T′ A′ C′ i l h e f =
       let s = heads-refused (headings of-check (w .program .classes)) i l (sym e ∙ f) in
@@ -159,7 +177,8 @@ module _ {R E T A C : List ℕ} {n : ℕ} (w : FormPassed R E T A C n) where
 
 -- ---- form
 
-form-accepted : (c : results.Checked Program) (n : ℕ) → InForm n ≡ formed-of c → (p : Program) × (c ≡ accept p) × (length (p .classes) ≡ n)
+form-accepted : (c : results.Checked Program) (n : ℕ) → InForm n ≡ formed-of c
+    → (p : Program) × (c ≡ accept p) × (length (p .classes) ≡ n)
 form-accepted (accept p) n e = let a : length (p .classes) ≡ n = cc in (p, refl, a)
 form-accepted (refuse i l) n e = let z : _≡_ {A = ℕ} 0 1 = cc in absurd (omega arith)
 
@@ -168,7 +187,8 @@ form-refused (accept p) i l e = let z : _≡_ {A = ℕ} 0 1 = cc in absurd (omeg
 form-refused (refuse n m) i l e = let a : i ≡ n = cc in let b : l ≡ m = cc in rw (a, b)
 
 module _ {R E C : List ℕ} {n : ℕ} where
-  abbrev pub with-tables : (T A : List ℕ) → Stands R E C n → (n + 1) * 576 ≤ length T → 65 ≤ length A → FormPassed R E T A C n
+  abbrev pub with-tables : (T A : List ℕ) → Stands R E C n → (n + 1) * 576 ≤ length T → 65 ≤ length A
+      → FormPassed R E T A C n
   with-tables T A w t a = record {
     program = w .program;
     here = w .here;
@@ -199,8 +219,10 @@ module _ (R : List ℕ) where
     unfolding check whole-rows require
     check-is = rw (eq-eqb (length R % 4) 0 whole)
 
-    pub stands : (E E′ C : List ℕ) (n : ℕ) (f : Formed) → f ≡ InForm n → f ≡ formed-of (form of-check (rows-of R))
-        → ((p : Program) → form of-check (rows-of R) ≡ accept p → E′ ≡ program-ends p ++ drop (length (program-ends p)) E)
+    pub stands : (E E′ C : List ℕ) (n : ℕ) (f : Formed) → f ≡ InForm n
+        → f ≡ formed-of (form of-check (rows-of R))
+        → ((p : Program) → form of-check (rows-of R) ≡ accept p
+        → E′ ≡ program-ends p ++ drop (length (program-ends p)) E)
         → length E ≤ length C → length E′ ≡ length E
         → (w : Stands R E′ C n) × (form of-check (rows-of R) ≡ accept (w .program))
     stands E E′ C n f e b ends l k =
@@ -214,8 +236,10 @@ module _ (R : List ℕ) where
           x .1,
         )
 
-    pub form-passed : (E E′ T A C : List ℕ) (n : ℕ) (f : Formed) → f ≡ InForm n → f ≡ formed-of (form of-check (rows-of R))
-        → ((p : Program) → form of-check (rows-of R) ≡ accept p → E′ ≡ program-ends p ++ drop (length (program-ends p)) E)
+    pub form-passed : (E E′ T A C : List ℕ) (n : ℕ) (f : Formed) → f ≡ InForm n
+        → f ≡ formed-of (form of-check (rows-of R))
+        → ((p : Program) → form of-check (rows-of R) ≡ accept p
+        → E′ ≡ program-ends p ++ drop (length (program-ends p)) E)
         → Lent R E T A C → length E′ ≡ length E
         → (w : FormPassed R E′ T A C n) × (form of-check (rows-of R) ≡ accept (w .program))
     form-passed E E′ T A C n f e b ends l k =
@@ -227,7 +251,8 @@ module _ (R : List ℕ) where
     unfolding three-passes after-form after-headings bind-checked
     after-form-is p e = check-is ∙ rw e
 
-    pub checked-after : {X : Type 0} (r : X) (case : results.Checked Program → X) (Q : Program → Type 0) (p : Program)
+    pub checked-after : {X : Type 0} (r : X) (case : results.Checked Program → X) (Q : Program → Type 0)
+        (p : Program)
         → form of-check (rows-of R) ≡ accept p
         → (r ≡ case (after-form p)) × ((q : Program) → after-form p ≡ accept q → Q q)
         → (r ≡ case (check R)) × ((q : Program) → check R ≡ accept q → Q q)
@@ -235,11 +260,13 @@ module _ (R : List ℕ) where
         let s : check R ≡ after-form p = after-form-is p e in
         (b .0 ∙ ap case (sym s), λ q g. b .1 q (sym s ∙ g))
 
-    pub form-refuses : (i l : ℕ) (f : Formed) → f ≡ NotInForm i l → f ≡ formed-of (form of-check (rows-of R)) → check R ≡ refuse i l
+    pub form-refuses : (i l : ℕ) (f : Formed) → f ≡ NotInForm i l → f ≡ formed-of (form of-check (rows-of R))
+        → check R ≡ refuse i l
     unfolding three-passes bind-checked
     form-refuses i l f e b = check-is ∙ rw (form-refused (form of-check (rows-of R)) i l (sym e ∙ b))
 
-    pub check-refused : (E T A C : List ℕ) (i l : ℕ) (f : Formed) → f ≡ NotInForm i l → f ≡ formed-of (form of-check (rows-of R))
+    pub check-refused : (E T A C : List ℕ) (i l : ℕ) (f : Formed) → f ≡ NotInForm i l
+        → f ≡ formed-of (form of-check (rows-of R))
         → (Refused i l ≡ checked-case (check R)) × ((p : Program) → check R ≡ accept p → Held R E T A C p)
     check-refused E T A C i l f e b =
         let s : check R ≡ refuse i l = form-refuses i l f e b in
@@ -251,7 +278,8 @@ replicate-same : (n : ℕ) → length (replicate {A = ℕ} n 0) ≤ length (repl
 replicate-same n = omega arith
 
 module _ (R : List ℕ) where
-  pub lent-few : length R ≤ 4096 → Lent R (replicate 1024 0) (replicate 37440 0) (replicate 65 0) (replicate 1024 0)
+  pub lent-few : length R ≤ 4096
+      → Lent R (replicate 1024 0) (replicate 37440 0) (replicate 65 0) (replicate 1024 0)
   lent-few l = record {
     room = inl (omega (arith, l, replicate-long 1024));
     nodes = replicate-same 1024;
@@ -288,6 +316,7 @@ check-passes R p e =
     subst (λ (p : Program). (headings of-check (p .classes) ≡ passed) × (bodies p ≡ passed)) i (e₂, e₃)
 
 -- Where the check answers accepted, there is the program.
-pub checked-accepted : (c : results.Checked Program) (n : ℕ) → Accepted n ≡ checked-case c → (p : Program) × (c ≡ accept p) × (length (p .classes) ≡ n)
+pub checked-accepted : (c : results.Checked Program) (n : ℕ) → Accepted n ≡ checked-case c
+    → (p : Program) × (c ≡ accept p) × (length (p .classes) ≡ n)
 checked-accepted (accept p) n e = let a : length (p .classes) ≡ n = cc in (p, refl, a)
 checked-accepted (refuse i l) n e = let z : _≡_ {A = ℕ} 0 1 = cc in absurd (omega arith)

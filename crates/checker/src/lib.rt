@@ -4,11 +4,11 @@ ghost use Prim.Native.Nat.{_%_, _≤_};
 ghost use lib.ListN.{length};
 ghost use Rattle.language.specs.Results.{accept};
 ghost use Rattle.language.specs.Tree.{Program};
-ghost use Rattle.language.specs.ClassTables.{ClassTables};
 ghost use Rattle.language.specs.Layout.{LooksUpProgram};
 ghost use Rattle.language.specs.Verdict.{check, verdict};
 ghost use Rattle.checker.specs.Answers.{checked-case, verdict-case, verdict-of-checked};
-ghost use Rattle.checker.specs.Passes.{after-headings, after-form, Lent, Room, Stands, FormPassed, HeadingsPassed, Held};
+ghost use Rattle.checker.specs.Passes.{after-headings, after-form, Lent, Room, Stands, FormPassed};
+ghost use Rattle.checker.specs.Passes.{HeadingsPassed, Held};
 
 // Accepted, with so many classes; or a refusal's number and line.
 pub enum Checked {
@@ -42,9 +42,11 @@ fn type_bodies(
     classes: u32,
 ) -> Checked
     requires { ⌜ HeadingsPassed (now rows) (now ends) (now tables) (now above) (now lookups) classes ⌝ }
-    ensures { λ r. ⌜ ((w : HeadingsPassed (now (rows .entry)) (now (ends .entry)) (now (tables .entry)) (now (above .entry)) (now (lookups .entry)) classes)
+    ensures { λ r. ⌜ ((w : HeadingsPassed (now (rows .entry)) (now (ends .entry)) (now (tables .entry))
+        (now (above .entry)) (now (lookups .entry)) classes)
         → (r ≡ checked-case (after-headings (w .program)))
-        × ((p : Program) → after-headings (w .program) ≡ accept p → LooksUpProgram (now (lookups .exit)) p)) ⌝ }
+        × ((p : Program) → after-headings (w .program) ≡ accept p → LooksUpProgram (now (lookups .exit)) p))
+        ⌝ }
 {
     let mut slots = [0u32; 33024];
     let v = bodies::check_bodies(rows, ends, tables, above, &mut slots, lookups, classes);
@@ -64,10 +66,12 @@ fn check_formed(
     classes: u32,
 ) -> Checked
     requires { ⌜ FormPassed (now rows) (now ends) (now tables) (now above) (now lookups) classes ⌝ }
-    ensures { λ r. ⌜ ((w : FormPassed (now (rows .entry)) (now (ends .entry)) (now (tables .entry)) (now (above .entry)) (now (lookups .entry)) classes)
+    ensures { λ r. ⌜ ((w : FormPassed (now (rows .entry)) (now (ends .entry)) (now (tables .entry))
+        (now (above .entry)) (now (lookups .entry)) classes)
         → (r ≡ checked-case (after-form (w .program)))
         × ((p : Program) → after-form (w .program) ≡ accept p
-        → Held (now (rows .entry)) (now (ends .entry)) (now (tables .exit)) (now (above .exit)) (now (lookups .exit)) p)) ⌝ }
+        → Held (now (rows .entry)) (now (ends .entry)) (now (tables .exit)) (now (above .exit))
+        (now (lookups .exit)) p)) ⌝ }
 {
     let h = headings::check_headings(rows, ends, tables, above);
     match h {
@@ -87,7 +91,8 @@ pub fn check_into(
     requires { ⌜ Lent (now rows) (now ends) (now tables) (now above) (now lookups) ⌝ }
     ensures { λ r. ⌜ (r ≡ checked-case (check (now (rows .entry))))
         × ((p : Program) → check (now (rows .entry)) ≡ accept p
-        → Held (now (rows .entry)) (now (ends .exit)) (now (tables .exit)) (now (above .exit)) (now (lookups .exit)) p) ⌝ }
+        → Held (now (rows .entry)) (now (ends .exit)) (now (tables .exit)) (now (above .exit))
+        (now (lookups .exit)) p) ⌝ }
 {
     if rows.len() % 4 != 0 {
         return Checked::Refused(1, 0);

@@ -7,7 +7,7 @@ use lib.Dec.{leb}
 use lib.ListN.{length, replicate}
 use Rattle.language.specs.Limits.{room-refusal, no-line}
 use Rattle.language.specs.Results.{Checked, accept, refuse, bind-checked, require}
-use Rattle.language.specs.Evaluation.{Value, null, truth, object, raised, spent, deep, full, stuck}
+use Rattle.language.specs.Evaluation.{null, truth, object, raised, spent, deep, full, stuck}
 use Rattle.language.specs.Store.{Outcome, gave, ended, stop-number, Answer, refused, ran, run-of}
 use Rattle.language.specs.Translation.{translation-into}
 use Rattle.text.specs.Decimals.{digits}
@@ -67,7 +67,8 @@ held room (refuse n l) = refuse n l
 
 -- The rows of an input.
 unfoldable pub source-rows : List ℕ → Checked (List ℕ)
-source-rows input = require (leb (length input) text-room) room-refusal no-line λ _. held source-room (read-text input)
+source-rows input = require (leb (length input) text-room) room-refusal no-line λ _.
+    held source-room (read-text input)
 
 abbrev pub printed : Checked (List ℕ) → List ℕ
 printed (accept text) = text
@@ -85,7 +86,8 @@ unfoldable pub run-line : List ℕ → List ℕ
 run-line rows = run-text (run-of rows program-fuel (replicate store-room 0) .answer)
 
 unfoldable pub run-lines : List ℕ → Checked (List ℕ)
-run-lines rows = bind-checked (translation-into plain-room rows) λ plain. accept (run-line rows ++ run-line plain)
+run-lines rows = bind-checked (translation-into plain-room rows) λ plain.
+    accept (run-line rows ++ run-line plain)
 
 unfoldable pub run-output : List ℕ → List ℕ
 run-output input = printed (bind-checked (source-rows input) λ rows. run-lines rows)

@@ -11,7 +11,9 @@ ghost use lib.ListN.{length, take};
 ghost use lib.Seq.{sets};
 ghost use Rattle.language.specs.Filling.{answer, buffer};
 ghost use Rattle.text.specs.Texts.{write-rows};
-ghost use Rattle.console.specs.Printed.{refusal-text, counts-text, number-text, run-line, source-rows, held, printed, plain-text, run-lines, translate-output, run-output};
+ghost use Rattle.console.specs.Printed.{refusal-text, counts-text, number-text, run-line, source-rows};
+ghost use Rattle.console.specs.Printed.{held, printed, plain-text, run-lines, translate-output};
+ghost use Rattle.console.specs.Printed.{run-output};
 ghost use Rattle.console.specs.Told.{value-text, end-text, ran-text, answer-text};
 
 // Writes a letter at a place, and answers the place after it.
@@ -151,7 +153,8 @@ fn put_rows(plain: &[u32], out: &mut [u8]) -> usize
 // Translates rows, and writes the text of the plain rows.
 fn translate_source(rows: &[u32], out: &mut [u8]) -> usize
     requires { ⌜ length (now out) ≡ 8192 ⌝ }
-    ensures { λ r. ⌜ (take r (now (out .exit)) ≡ printed (plain-text (now (rows .entry)))) × (r ≤ length (now (out .exit))) ⌝ }
+    ensures { λ r. ⌜ (take r (now (out .exit)) ≡ printed (plain-text (now (rows .entry)))) ×
+        (r ≤ length (now (out .exit))) ⌝ }
 {
     let mut plain = [0u32; 4000];
     let translated = translator::translate_rows(rows, &mut plain);
@@ -167,7 +170,8 @@ fn translate_source(rows: &[u32], out: &mut [u8]) -> usize
 // The translating program's output for an input.
 pub fn translate_input(input: &[u8], out: &mut [u8]) -> usize
     requires { ⌜ length (now out) ≡ 8192 ⌝ }
-    ensures { λ r. ⌜ (take r (now (out .exit)) ≡ translate-output (now (input .entry))) × (r ≤ length (now (out .exit))) ⌝ }
+    ensures { λ r. ⌜ (take r (now (out .exit)) ≡ translate-output (now (input .entry))) ×
+        (r ≤ length (now (out .exit))) ⌝ }
 {
     let mut rows = [0u32; 2720];
     let read = read_source(input, &mut rows);
@@ -183,7 +187,8 @@ pub fn translate_input(input: &[u8], out: &mut [u8]) -> usize
 // Writes the lines of two runs.
 fn put_both(rows: &[u32], plain: &[u32], out: &mut [u8]) -> usize
     requires { ⌜ length (now out) ≡ 8192 ⌝ }
-    ensures { λ r. ⌜ (take r (now (out .exit)) ≡ run-line (now (rows .entry)) ++ run-line (now (plain .entry)))
+    ensures { λ r. ⌜ (take r (now (out .exit)) ≡ run-line (now (rows .entry)) ++ run-line
+        (now (plain .entry)))
         × (r ≤ length (now (out .exit))) ⌝ }
 {
     let then = put_line(out, 0, rows);
@@ -193,7 +198,8 @@ fn put_both(rows: &[u32], plain: &[u32], out: &mut [u8]) -> usize
 // Translates rows, and writes the lines of their run and of the plain rows' run.
 fn run_source(rows: &[u32], out: &mut [u8]) -> usize
     requires { ⌜ length (now out) ≡ 8192 ⌝ }
-    ensures { λ r. ⌜ (take r (now (out .exit)) ≡ printed (run-lines (now (rows .entry)))) × (r ≤ length (now (out .exit))) ⌝ }
+    ensures { λ r. ⌜ (take r (now (out .exit)) ≡ printed (run-lines (now (rows .entry)))) ×
+        (r ≤ length (now (out .exit))) ⌝ }
 {
     let mut plain = [0u32; 4000];
     let translated = translator::translate_rows(rows, &mut plain);
@@ -209,7 +215,8 @@ fn run_source(rows: &[u32], out: &mut [u8]) -> usize
 // The running program's output for an input.
 pub fn run_input(input: &[u8], out: &mut [u8]) -> usize
     requires { ⌜ length (now out) ≡ 8192 ⌝ }
-    ensures { λ r. ⌜ (take r (now (out .exit)) ≡ run-output (now (input .entry))) × (r ≤ length (now (out .exit))) ⌝ }
+    ensures { λ r. ⌜ (take r (now (out .exit)) ≡ run-output (now (input .entry))) ×
+        (r ≤ length (now (out .exit))) ⌝ }
 {
     let mut rows = [0u32; 2720];
     let read = read_source(input, &mut rows);

@@ -15,7 +15,8 @@ pub struct Both {
 // The run of the plain rows that stand at the start of a buffer.
 fn run_plain(plain: &[u32], count: usize, store: &mut [u32], fuel: u64) -> Answer
     requires { ⌜ count * 4 ≤ length (now plain) ⌝ }
-    ensures { λ r. ⌜ Answers (take (count * 4) (now (plain .entry))) fuel (now (store .entry)) (now (store .exit)) r ⌝ }
+    ensures { λ r. ⌜ Answers (take (count * 4) (now (plain .entry))) fuel (now (store .entry))
+        (now (store .exit)) r ⌝ }
 {
     let end = count * 4;
     runner::run_rows(&plain[..end], store, fuel)
@@ -30,7 +31,9 @@ pub fn run_both(
     plain: &mut [u32],
     plain_store: &mut [u32],
 ) -> Both
-    ensures { λ r. ⌜ RunsBoth (now (rows .entry)) fuel «plain_fuel» (now (store .entry)) (now (store .exit)) (now (plain .entry)) (now (plain .exit)) (now («plain_store» .entry)) (now («plain_store» .exit)) r ⌝ }
+    ensures { λ r. ⌜ RunsBoth (now (rows .entry)) fuel «plain_fuel» (now (store .entry)) (now (store .exit))
+        (now (plain .entry)) (now (plain .exit)) (now («plain_store» .entry)) (now («plain_store» .exit)) r
+        ⌝ }
 {
     let source = runner::run_rows(rows, store, fuel);
     let translated = translator::translate_rows(rows, plain);

@@ -7,11 +7,13 @@ use lib.Seq.{sets}
 use Rattle.language.specs.Limits.{place-refusal}
 use Rattle.language.specs.Results.{Checked, accept, refuse, require}
 use Rattle.language.specs.Rows.{Row, Record, S-start, same-letter}
-use Rattle.language.specs.Tree.{DeclaredType, Expr, Exprs, count, size, sizes, Declaration, method-lines, methods-lines}
+use Rattle.language.specs.Tree.{DeclaredType, Expr, Exprs, count, size, sizes, Declaration, method-lines}
+use Rattle.language.specs.Tree.{methods-lines}
 use Rattle.language.specs.Tree.{Class, class-lines, classes-lines, Program}
 use Rattle.language.specs.Form.{Read, done, after, several, locals, node, class-of, fields, methods}
 use Rattle.language.specs.Form.{next, body, at-end}
-use Rattle.language.specs.Tables.{next-rows, ends-of, ends-list, method-ends, methods-ends, class-ends, classes-ends}
+use Rattle.language.specs.Tables.{next-rows, ends-of, ends-list, method-ends, methods-ends, class-ends}
+use Rattle.language.specs.Tables.{classes-ends}
 use Rattle.form.specs.declared.Limits.{Limits}
 use Rattle.form.specs.Columns.{most-of}
 use Rattle.form.specs.declared.Step.{Step}
@@ -32,7 +34,8 @@ Tells L lines ends numbers table at (accept x) s table′ =
     Ended L numbers at (lines (x .tree)) (x .rest) s × (table′ ≡ sets table at (ends at (x .tree)))
 Tells L lines ends numbers table at (refuse n l) s table′ = s ≡ Refused n l
 
-pub record Told (L : Limits) {A : Type 0} (lines : A → ℕ) (ends : ℕ → A → List ℕ) (numbers table : List ℕ) (at : ℕ)
+pub record Told (L : Limits) {A : Type 0} (lines : A → ℕ) (ends : ℕ → A → List ℕ) (numbers table : List ℕ)
+    (at : ℕ)
     (x : Checked (Read A)) (s : Step) (table′ : List ℕ) : Type 0 where
   pub it : Tells L lines ends numbers table at x s table′
 
@@ -42,13 +45,15 @@ ToldNode L = Told L (λ e. size e) (λ at e. ends-of at e)
 abbrev pub ToldNodes : Limits → List ℕ → List ℕ → ℕ → Checked (Read Exprs) → Step → List ℕ → Type 0
 ToldNodes L = Told L (λ es. sizes es) (λ at es. ends-list at es)
 
-abbrev pub ToldLocals : Limits → List ℕ → List ℕ → ℕ → Checked (Read (List DeclaredType)) → Step → List ℕ → Type 0
+abbrev pub ToldLocals : Limits → List ℕ → List ℕ → ℕ → Checked (Read (List DeclaredType)) → Step → List ℕ
+    → Type 0
 ToldLocals L = Told L (λ ts. length ts) (λ at ts. next-rows at (length ts))
 
 abbrev pub ToldMethod : Limits → List ℕ → List ℕ → ℕ → Checked (Read Declaration) → Step → List ℕ → Type 0
 ToldMethod L = Told L (λ m. method-lines m) (λ at m. method-ends at m)
 
-abbrev pub ToldMethods : Limits → List ℕ → List ℕ → ℕ → Checked (Read (List Declaration)) → Step → List ℕ → Type 0
+abbrev pub ToldMethods : Limits → List ℕ → List ℕ → ℕ → Checked (Read (List Declaration)) → Step → List ℕ
+    → Type 0
 ToldMethods L = Told L (λ ms. methods-lines ms) (λ at ms. methods-ends at ms)
 
 abbrev pub ToldClass : Limits → List ℕ → List ℕ → ℕ → Checked (Read Class) → Step → List ℕ → Type 0
@@ -62,10 +67,12 @@ pub record Makes (v k : ℕ) (make : List DeclaredType → Exprs → Expr) : Typ
   pub lines : (ts : List DeclaredType) (es : Exprs) → length ts ≡ v → count es ≡ k
       → size (make ts es) ≡ 1 + v + sizes es
   pub ends : (ts : List DeclaredType) (es : Exprs) (at : ℕ) → length ts ≡ v → count es ≡ k
-      → ends-of at (make ts es) ≡ (at + (1 + v + sizes es)) ∷ (next-rows (at + 1) v ++ ends-list (at + 1 + v) es)
+      → ends-of at (make ts es) ≡ (at + (1 + v + sizes es))
+      ∷ (next-rows (at + 1) v ++ ends-list (at + 1 + v) es)
 
 -- What follows a node's row on line `line`: v locals, k children.
-unfoldable pub parts-read : Limits → ℕ → ℕ → ℕ → ℕ → (List DeclaredType → Exprs → Expr) → ℕ → List Row → Checked (Read Expr)
+unfoldable pub parts-read : Limits → ℕ → ℕ → ℕ → ℕ → (List DeclaredType → Exprs → Expr) → ℕ → List Row
+    → Checked (Read Expr)
 parts-read L d n v k make line rs =
     after (locals (most-of L) v n (line + 1) rs) λ ts rs.
     after (several (λ at rs. node (most-of L) d (n + v) at rs) k (line + 1 + v) rs) λ es rs.
@@ -92,5 +99,6 @@ Starts cs table at (accept p) table′ =
     × (at + 1 + size (p .start) ≤ length table)
 Starts cs table at (refuse n l) table′ = Unit {0}
 
-pub record Started (cs : List Class) (table : List ℕ) (at : ℕ) (x : Checked Program) (table′ : List ℕ) : Type 0 where
+pub record Started (cs : List Class) (table : List ℕ) (at : ℕ) (x : Checked Program) (table′ : List ℕ) : Type
+    0 where
   pub it : Starts cs table at x table′

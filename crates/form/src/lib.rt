@@ -2,20 +2,22 @@
 // serves both columns of the table of limits: that of a checked program, and that of the translator's input.
 ghost use mathlib.Core.Path.{_≡_};
 ghost use mathlib.Core.Bool.{true};
-ghost use mathlib.Core.List.{List, _∷_, _++_};
+ghost use mathlib.Core.List.{List, _++_};
 ghost use mathlib.Core.Logic.{_⊎_};
 ghost use Prim.Native.Nat.{ℕ, _+_, _*_, _%_, _≤_, _<_};
 ghost use lib.ListN.{length, drop};
 ghost use lib.Seq.{sets};
 ghost use Rattle.language.specs.Limits.{of-check, of-translator};
 ghost use Rattle.language.specs.Results.{accept};
-ghost use Rattle.language.specs.Rows.{Record, row, is-row, rows-of};
-ghost use Rattle.language.specs.Tree.{DeclaredType, Expr, Exprs, Class, classes-lines, Program};
+ghost use Rattle.language.specs.Rows.{Record, row, rows-of};
+ghost use Rattle.language.specs.Tree.{DeclaredType, Expr, Exprs, Class, Program};
 ghost use Rattle.language.specs.Form.{locals, several, node, body, method, methods, at-end, form};
 ghost use Rattle.language.specs.Tables.{next-rows, program-ends};
 ghost use Rattle.form.specs.Columns.{most-of, Fits};
-ghost use Rattle.form.specs.Places.{rows-from, refusal-on, standing, run, name-at, parts-at, Ready, There};
-ghost use Rattle.form.specs.Passes.{ToldNode, ToldNodes, ToldLocals, ToldMethod, ToldMethods, ToldClass};
+ghost use Rattle.form.specs.Places.{rows-from, refusal-on, standing, run, name-at, parts-at, Ready};
+ghost use Rattle.form.specs.Places.{There};
+ghost use Rattle.form.specs.Passes.{ToldNode, ToldNodes, ToldLocals, ToldMethod, ToldMethods};
+ghost use Rattle.form.specs.Passes.{ToldClass};
 ghost use Rattle.form.specs.Passes.{Makes, parts-read, class-read, start-read, Started};
 ghost use Rattle.form.specs.Answers.{formed-of};
 
@@ -65,7 +67,8 @@ fn name_of(code: u32, a: u32, b: u32) -> u32
 // a name too large; and 0 if one can.
 fn refuse_row(rows: &[u32], at: usize, limits: Limits) -> u32
     requires { ⌜ (length (now rows) % 4 ≡ 0) × (at ≤ limits .rows) × Fits limits ⌝ }
-    ensures { λ r. ⌜ (r ≡ refusal-on limits (at + 1) (rows-from (now (rows .entry)) at)) × (r ≡ 0 → There limits (now (rows .entry)) at) ⌝ }
+    ensures { λ r. ⌜ (r ≡ refusal-on limits (at + 1) (rows-from (now (rows .entry)) at)) ×
+        (r ≡ 0 → There limits (now (rows .entry)) at) ⌝ }
 {
     let i = at * 4;
     if rows.len() <= i {
@@ -89,7 +92,8 @@ fn refuse_row(rows: &[u32], at: usize, limits: Limits) -> u32
 // Does a record of this letter stand here.
 fn is_letter(rows: &[u32], at: usize, letter: u32, limits: Limits) -> bool
     requires { ⌜ (length (now rows) % 4 ≡ 0) × (at ≤ limits .rows) × Fits limits ⌝ }
-    ensures { λ r. ⌜ (r ≡ standing limits letter (at + 1) (rows-from (now (rows .entry)) at)) × (r ≡ true → There limits (now (rows .entry)) at) ⌝ }
+    ensures { λ r. ⌜ (r ≡ standing limits letter (at + 1) (rows-from (now (rows .entry)) at)) ×
+        (r ≡ true → There limits (now (rows .entry)) at) ⌝ }
 {
     if refuse_row(rows, at, limits) != 0 {
         return false;
@@ -122,7 +126,9 @@ fn pass_locals(
     limits: Limits,
 ) -> Step
     requires { ⌜ Ready limits (now rows) (now ends) at × (slots ≤ limits .slots) ⌝ }
-    ensures { λ r. ⌜ ToldLocals limits (now (rows .entry)) (now (ends .entry)) at (locals (most-of limits) count slots (at + 1) (rows-from (now (rows .entry)) at)) r (now (ends .exit))
+    ensures { λ r. ⌜ ToldLocals limits (now (rows .entry))
+        (now (ends .entry)) at (locals (most-of limits) count slots (at + 1)
+        (rows-from (now (rows .entry)) at)) r (now (ends .exit))
         × ((next : ℕ) → r ≡ Step.End next → slots + count ≤ limits .slots) ⌝ }
 {
     let mut i = at;
@@ -181,7 +187,9 @@ fn pass_node(
     limits: Limits,
 ) -> Step
     requires { ⌜ Ready limits (now rows) (now ends) at × (slots ≤ limits .slots) ⌝ }
-    ensures { λ r. ⌜ ToldNode limits (now (rows .entry)) (now (ends .entry)) at (node (most-of limits) nesting slots (at + 1) (rows-from (now (rows .entry)) at)) r (now (ends .exit)) ⌝ }
+    ensures { λ r. ⌜ ToldNode limits (now (rows .entry))
+        (now (ends .entry)) at (node (most-of limits) nesting slots (at + 1)
+        (rows-from (now (rows .entry)) at)) r (now (ends .exit)) ⌝ }
 {
     let refusal = refuse_row(rows, at, limits);
     if refusal != 0 {
@@ -225,9 +233,12 @@ fn pass_parts(
     children: u32,
     limits: Limits,
 ) -> Step
-    requires { ⌜ Ready limits (now rows) (now ends) at × There limits (now rows) at × (slots ≤ limits .slots) ⌝ }
+    requires { ⌜ Ready limits (now rows) (now ends) at × There limits (now rows) at × (slots ≤ limits .slots)
+        ⌝ }
     ensures { λ r. ⌜ ((make : List DeclaredType → Exprs → Expr) → Makes variables children make
-        → ToldNode limits (now (rows .entry)) (now (ends .entry)) at (parts-read limits nesting slots variables children make (at + 1) (rows-from (now (rows .entry)) (at + 1))) r (now (ends .exit))) ⌝ }
+        → ToldNode limits (now (rows .entry))
+        (now (ends .entry)) at (parts-read limits nesting slots variables children make (at + 1)
+        (rows-from (now (rows .entry)) (at + 1))) r (now (ends .exit))) ⌝ }
 {
     let l = pass_locals(rows, ends, at + 1, variables, slots, limits);
     let Step::End(first) = l else {
@@ -260,7 +271,9 @@ fn pass_nodes(
     limits: Limits,
 ) -> Step
     requires { ⌜ Ready limits (now rows) (now ends) at × (slots ≤ limits .slots) ⌝ }
-    ensures { λ r. ⌜ ToldNodes limits (now (rows .entry)) (now (ends .entry)) at (several (λ at rs. node (most-of limits) nesting slots at rs) count (at + 1) (rows-from (now (rows .entry)) at)) r (now (ends .exit)) ⌝ }
+    ensures { λ r. ⌜ ToldNodes limits (now (rows .entry))
+        (now (ends .entry)) at (several (λ at rs. node (most-of limits) nesting slots at rs) count (at + 1)
+        (rows-from (now (rows .entry)) at)) r (now (ends .exit)) ⌝ }
 {
     let mut i = at;
     let mut left = count;
@@ -278,7 +291,9 @@ fn pass_nodes(
 // Passes a body: one block.
 fn pass_body(rows: &[u32], ends: &mut [u16], at: usize, slots: u32, limits: Limits) -> Step
     requires { ⌜ Ready limits (now rows) (now ends) at × (slots ≤ limits .slots) ⌝ }
-    ensures { λ r. ⌜ ToldNode limits (now (rows .entry)) (now (ends .entry)) at (body (most-of limits) slots (at + 1) (rows-from (now (rows .entry)) at)) r (now (ends .exit)) ⌝ }
+    ensures { λ r. ⌜ ToldNode limits (now (rows .entry))
+        (now (ends .entry)) at (body (most-of limits) slots (at + 1) (rows-from (now (rows .entry)) at)) r
+        (now (ends .exit)) ⌝ }
 {
     let refusal = refuse_row(rows, at, limits);
     if refusal != 0 {
@@ -293,7 +308,9 @@ fn pass_body(rows: &[u32], ends: &mut [u16], at: usize, slots: u32, limits: Limi
 // Passes a method, whose M line stands here: its P lines, its X lines, its body.
 fn pass_method(rows: &[u32], ends: &mut [u16], at: usize, limits: Limits) -> Step
     requires { ⌜ Ready limits (now rows) (now ends) at × There limits (now rows) at ⌝ }
-    ensures { λ r. ⌜ ((x : Record) → ToldMethod limits (now (rows .entry)) (now (ends .entry)) at (method (most-of limits) (at + 1) x (rows-from (now (rows .entry)) (at + 1))) r (now (ends .exit))) ⌝ }
+    ensures { λ r. ⌜ ((x : Record) → ToldMethod limits (now (rows .entry))
+        (now (ends .entry)) at (method (most-of limits) (at + 1) x (rows-from (now (rows .entry)) (at + 1))) r
+        (now (ends .exit))) ⌝ }
 {
     let effects = pass_lines(rows, ends, at + 1, 80, limits);
     let parameters = (effects - at - 1) as u32;
@@ -312,7 +329,9 @@ fn pass_method(rows: &[u32], ends: &mut [u16], at: usize, limits: Limits) -> Ste
 // Passes methods, as long as M lines come.
 fn pass_methods(rows: &[u32], ends: &mut [u16], at: usize, limits: Limits) -> Step
     requires { ⌜ Ready limits (now rows) (now ends) at ⌝ }
-    ensures { λ r. ⌜ ((f : ℕ) → length (rows-from (now (rows .entry)) at) ≤ f → ToldMethods limits (now (rows .entry)) (now (ends .entry)) at (methods (most-of limits) f (at + 1) (rows-from (now (rows .entry)) at)) r (now (ends .exit))) ⌝ }
+    ensures { λ r. ⌜ ((f : ℕ) → length (rows-from (now (rows .entry)) at) ≤ f → ToldMethods limits
+        (now (rows .entry)) (now (ends .entry)) at (methods (most-of limits) f (at + 1)
+        (rows-from (now (rows .entry)) at)) r (now (ends .exit))) ⌝ }
 {
     let mut i = at;
     while is_letter(rows, i, 77, limits) {
@@ -328,7 +347,9 @@ fn pass_methods(rows: &[u32], ends: &mut [u16], at: usize, limits: Limits) -> St
 // Passes a class, whose C line stands here: its F lines, its methods.
 fn pass_class(rows: &[u32], ends: &mut [u16], at: usize, limits: Limits) -> Step
     requires { ⌜ Ready limits (now rows) (now ends) at × There limits (now rows) at ⌝ }
-    ensures { λ r. ⌜ ((x : Record) → ToldClass limits (now (rows .entry)) (now (ends .entry)) at (class-read limits x (at + 1) (rows-from (now (rows .entry)) (at + 1))) r (now (ends .exit))) ⌝ }
+    ensures { λ r. ⌜ ((x : Record) → ToldClass limits (now (rows .entry))
+        (now (ends .entry)) at (class-read limits x (at + 1) (rows-from (now (rows .entry)) (at + 1))) r
+        (now (ends .exit))) ⌝ }
 {
     let methods = pass_lines(rows, ends, at + 1, 70, limits);
     let r = pass_methods(rows, ends, methods, limits);
@@ -342,7 +363,8 @@ fn pass_class(rows: &[u32], ends: &mut [u16], at: usize, limits: Limits) -> Step
 // Nothing may follow the start block.
 fn finish(rows: &[u32], at: usize, classes: u32, limits: Limits) -> Formed
     requires { ⌜ (length (now rows) % 4 ≡ 0) × (at ≤ limits .rows) × Fits limits ⌝ }
-    ensures { λ r. ⌜ ((p : Program) → length (p .classes) ≡ classes → r ≡ formed-of (at-end (most-of limits) (at + 1) (rows-from (now (rows .entry)) at) p)) ⌝ }
+    ensures { λ r. ⌜ ((p : Program) → length (p .classes) ≡ classes → r ≡ formed-of
+        (at-end (most-of limits) (at + 1) (rows-from (now (rows .entry)) at) p)) ⌝ }
 {
     if rows.len() <= at * 4 {
         return Formed::InForm(classes);
@@ -357,8 +379,10 @@ fn finish(rows: &[u32], at: usize, classes: u32, limits: Limits) -> Formed
 // After the classes: the S line, the start block, the end.
 fn pass_start(rows: &[u32], ends: &mut [u16], at: usize, classes: u32, limits: Limits) -> Formed
     requires { ⌜ Ready limits (now rows) (now ends) at ⌝ }
-    ensures { λ r. ⌜ ((cs : List Class) → length cs ≡ classes → (r ≡ formed-of (start-read limits cs (at + 1) (rows-from (now (rows .entry)) at)))
-        × Started cs (now (ends .entry)) at (start-read limits cs (at + 1) (rows-from (now (rows .entry)) at)) (now (ends .exit))) ⌝ }
+    ensures { λ r. ⌜ ((cs : List Class) → length cs ≡ classes →
+        (r ≡ formed-of (start-read limits cs (at + 1) (rows-from (now (rows .entry)) at)))
+        × Started cs (now (ends .entry)) at (start-read limits cs (at + 1) (rows-from (now (rows .entry)) at))
+        (now (ends .exit))) ⌝ }
 {
     let refusal = refuse_row(rows, at, limits);
     if refusal != 0 {
@@ -377,7 +401,8 @@ fn pass_start(rows: &[u32], ends: &mut [u16], at: usize, classes: u32, limits: L
 
 // The pass: classes, as long as C lines come, then the start. It fills the table of ends.
 fn pass_form(rows: &[u32], ends: &mut [u16], limits: Limits) -> Formed
-    requires { ⌜ (length (now rows) % 4 ≡ 0) × ((length (now rows) ≤ 4 * length (now ends)) ⊎ (limits .rows ≤ length (now ends))) × Fits limits ⌝ }
+    requires { ⌜ (length (now rows) % 4 ≡ 0) ×
+        ((length (now rows) ≤ 4 * length (now ends)) ⊎ (limits .rows ≤ length (now ends))) × Fits limits ⌝ }
     ensures { λ r. ⌜ (r ≡ formed-of (form (most-of limits) (rows-of (now (rows .entry)))))
         × ((p : Program) → form (most-of limits) (rows-of (now (rows .entry))) ≡ accept p
         → now (ends .exit) ≡ program-ends p ++ drop (length (program-ends p)) (now (ends .entry))) ⌝ }
@@ -404,7 +429,8 @@ fn pass_form(rows: &[u32], ends: &mut [u16], limits: Limits) -> Formed
 
 // The pass under the limits of a checked program.
 pub fn check_form(rows: &[u32], ends: &mut [u16]) -> Formed
-    requires { ⌜ (length (now rows) % 4 ≡ 0) × ((length (now rows) ≤ 4 * length (now ends)) ⊎ (60000 ≤ length (now ends))) ⌝ }
+    requires { ⌜ (length (now rows) % 4 ≡ 0) ×
+        ((length (now rows) ≤ 4 * length (now ends)) ⊎ (60000 ≤ length (now ends))) ⌝ }
     ensures { λ r. ⌜ (r ≡ formed-of (form of-check (rows-of (now (rows .entry)))))
         × ((p : Program) → form of-check (rows-of (now (rows .entry))) ≡ accept p
         → now (ends .exit) ≡ program-ends p ++ drop (length (program-ends p)) (now (ends .entry))) ⌝ }
@@ -421,7 +447,8 @@ pub fn check_form(rows: &[u32], ends: &mut [u16]) -> Formed
 
 // The pass under the limits of the translator's input.
 pub fn check_translatable(rows: &[u32], ends: &mut [u16]) -> Formed
-    requires { ⌜ (length (now rows) % 4 ≡ 0) × ((length (now rows) ≤ 4 * length (now ends)) ⊎ (680 ≤ length (now ends))) ⌝ }
+    requires { ⌜ (length (now rows) % 4 ≡ 0) ×
+        ((length (now rows) ≤ 4 * length (now ends)) ⊎ (680 ≤ length (now ends))) ⌝ }
     ensures { λ r. ⌜ (r ≡ formed-of (form of-translator (rows-of (now (rows .entry)))))
         × ((p : Program) → form of-translator (rows-of (now (rows .entry))) ≡ accept p
         → now (ends .exit) ≡ program-ends p ++ drop (length (program-ends p)) (now (ends .entry))) ⌝ }

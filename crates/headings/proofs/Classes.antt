@@ -11,12 +11,13 @@ use lib.Dec.{eqb}
 use lib.ListN.{length, getD, set, take}
 use lib.Seq.{getD-set-same, getD-set-other}
 use Rattle.language.specs.Lists.{nth, given, choice, Never, inj, nth-lt}
-use Rattle.language.specs.Results.{passed}
-use Rattle.language.specs.Tree.{Field, Declaration, Class, heading-lines, method-lines, methods-lines, class-lines, classes-lines}
+use Rattle.language.specs.Tree.{Field, Declaration, Class, heading-lines, method-lines, methods-lines}
+use Rattle.language.specs.Tree.{class-lines, classes-lines}
 use Rattle.language.specs.World.{place}
 use Rattle.language.specs.Effects.{effect-of, join}
 use Rattle.language.specs.Program.{is-state, class-at, fields-at, root-at, world}
-use Rattle.language.specs.ClassTables.{stored-place, rows-from, declared-row, class-row, field-rows-at, field-rows, method-row-at, method-row, above-at, above}
+use Rattle.language.specs.ClassTables.{stored-place, rows-from, declared-row, class-row, field-rows-at}
+use Rattle.language.specs.ClassTables.{field-rows, method-row-at, method-row, above-at, above}
 use Rattle.headings.specs.Blocks.{Block, Filled, Lookups, Working}
 use Rattle.headings.specs.Ready.{Copied, StartReady}
 use Rattle.headings.proofs.Lines.{below-or}
@@ -24,21 +25,25 @@ use Rattle.headings.proofs.Tables.{kind-numbers, lookups-same, lookups-
 
 -- ---- up through the superclasses, which are earlier
 
-module _ (P : List Class) (top : ℕ) (earlier : (k : ℕ) (c : Class) → k < top → class-at P k ≡ some c → c .super < k) where
+module _ (P : List Class) (top : ℕ)
+    (earlier : (k : ℕ) (c : Class) → k < top → class-at P k ≡ some c → c .super < k) where
   module _ {A : Type 0} (F : ℕ → ℕ → A) (z : ℕ → A) (step : ℕ → Class → A → A)
       (is : (n k : ℕ) → F (suc n) k ≡ given (class-at P k) (z k) (λ c. step k c (F n (c .super)))) where
     enough : (n m k : ℕ) → k < n → k < m → k < top → F n k ≡ F m k
     enough zero m k l l′ t = absurd (omega (arith, l))
     enough (suc n) zero k l l′ t = absurd (omega (arith, l′))
     enough (suc n) (suc m) k l l′ t = is n k ∙ (go (class-at P k) refl
-        (λ c e. enough n m (c .super) (omega (arith, l, earlier k c t e)) (omega (arith, l′, earlier k c t e)) (omega (arith, t, earlier k c t e))) ∙ sym (is m k))
+        (λ c e. enough n m (c .super) (omega (arith, l, earlier k c t e)) (omega (arith, l′, earlier k c t e))
+        (omega (arith, t, earlier k c t e))) ∙ sym (is m k))
       where
-        go : (o : Option Class) → class-at P k ≡ o → ((c : Class) → class-at P k ≡ some c → F n (c .super) ≡ F m (c .super))
+        go : (o : Option Class) → class-at P k ≡ o
+            → ((c : Class) → class-at P k ≡ some c → F n (c .super) ≡ F m (c .super))
             → given o (z k) (λ c. step k c (F n (c .super))) ≡ given o (z k) (λ c. step k c (F m (c .super)))
         go none e ih = refl
         go (some c) e ih = ap (step k c) (ih c e)
 
-    up-one : (k : ℕ) (c : Class) → class-at P k ≡ some c → c .super < k → k ≤ top → F (suc k) k ≡ step k c (F (suc (c .super)) (c .super))
+    up-one : (k : ℕ) (c : Class) → class-at P k ≡ some c → c .super < k → k ≤ top
+        → F (suc k) k ≡ step k c (F (suc (c .super)) (c .super))
     up-one k c e l t = is k k ∙ (ap (λ (o : Option Class). given o (z k) (λ c. step k c (F k (c .super)))) e
         ∙ ap (step k c) (enough k (suc (c .super)) (c .super) l (omega arith) (omega (arith, l, t))))
 
@@ -49,16 +54,21 @@ module _ (P : List Class) (top : ℕ) (earlier : (k : ℕ) (c : Class) → k < t
 
     pub field-rows-of : field-rows P k ≡ field-rows P (c .super) ++ rows-from (class-row P k + 1) (c .fields)
     unfolding field-rows field-rows-at
-    field-rows-of = up-one (field-rows-at P) (λ k. []) (λ k c x. x ++ rows-from (class-row P k + 1) (c .fields)) (λ n k. refl) k c e l t
+    field-rows-of = up-one (field-rows-at P) (λ k. [])
+        (λ k c x. x ++ rows-from (class-row P k + 1) (c .fields)) (λ n k. refl) k c e l t
 
-    pub method-row-of : (m : ℕ) → method-row P k m ≡ given (declared-row (class-row P k + 1 + length (c .fields)) (c .methods) m) (method-row P (c .super) m) (λ r. some r)
+    pub method-row-of : (m : ℕ)
+        → method-row P k m ≡ given (declared-row (class-row P k + 1 + length (c .fields)) (c .methods) m)
+        (method-row P (c .super) m) (λ r. some r)
     unfolding method-row method-row-at
     method-row-of m = up-one (λ n k. method-row-at P n k m) (λ k. none)
-        (λ k c x. given (declared-row (class-row P k + 1 + length (c .fields)) (c .methods) m) x (λ r. some r)) (λ n k. refl) k c e l t
+        (λ k c x. given (declared-row (class-row P k + 1 + length (c .fields)) (c .methods) m) x
+        (λ r. some r)) (λ n k. refl) k c e l t
 
     pub root-of : world P .root k ≡ choice (is-state (c .kind)) (λ _. world P .root (c .super)) (λ _. k)
     unfolding world root-at
-    root-of = up-one (root-at P) (λ k. k) (λ k c x. choice (is-state (c .kind)) (λ _. x) (λ _. k)) (λ n k. refl) k c e l t
+    root-of = up-one (root-at P) (λ k. k) (λ k c x. choice (is-state (c .kind)) (λ _. x) (λ _. k))
+        (λ n k. refl) k c e l t
 
     pub above-of : above P k ≡ join (effect-of k) (above P (c .super))
     unfolding above above-at
@@ -71,37 +81,53 @@ module _ (P : List Class) (top : ℕ) (earlier : (k : ℕ) (c : Class) → k < t
   row-in (d ∷ ds) r m q e = go (eqb (d .name) m) e (λ h. row-in ds (r + method-lines d) m q h)
     where
       go : (b : Bool) → choice b (λ _. some r) (λ _. declared-row (r + method-lines d) ds m) ≡ some q
-          → (declared-row (r + method-lines d) ds m ≡ some q → q < r + method-lines d + methods-lines ds) → q < r + (method-lines d + methods-lines ds)
+          → (declared-row (r + method-lines d) ds m ≡ some q → q < r + method-lines d + methods-lines ds)
+          → q < r + (method-lines d + methods-lines ds)
       go true h ih = omega (arith, inj h)
       go false h ih = omega (arith, ih h)
 
-  lines-before : (cs : List Class) (i j : ℕ) (c : Class) → nth cs i ≡ some c → i < j → classes-lines (take i cs) + class-lines c ≤ classes-lines (take j cs)
+  lines-before : (cs : List Class) (i j : ℕ) (c : Class) → nth cs i ≡ some c → i < j
+      → classes-lines (take i cs) + class-lines c ≤ classes-lines (take j cs)
   unfolding nth classes-lines
   lines-before [] i j c e l = absurd (Never e)
   lines-before (x ∷ cs) i zero c e l = absurd (omega (arith, l))
   lines-before (x ∷ cs) zero (suc j) c e l = omega (arith, ap class-lines (inj e))
   lines-before (x ∷ cs) (suc i) (suc j) c e l = omega (arith, lines-before cs i j c e (omega (arith, l)))
 
-  class-before : (j k : ℕ) (c : Class) → class-at P j ≡ some c → j < k → class-row P j + class-lines c ≤ class-row P k
+  class-before : (j k : ℕ) (c : Class) → class-at P j ≡ some c → j < k
+      → class-row P j + class-lines c ≤ class-row P k
   unfolding class-at class-row
   class-before zero k c e l = absurd (Never e)
-  class-before (suc j) k c e l = let q : suc j - 1 ≡ j = omega arith in rw q (lines-before P j (k - 1) c e (omega (arith, l)))
+  class-before (suc j) k c e l = let q : suc j - 1 ≡ j = omega arith in
+      rw q (lines-before P j (k - 1) c e (omega (arith, l)))
 
   row-before : (n j m q : ℕ) → method-row-at P n j m ≡ some q → j < top → q < class-row P top
   unfolding method-row-at class-lines
   row-before zero j m q e l = absurd (Never e)
-  row-before (suc n) j m q e l = go (class-at P j) refl e (λ c d h. row-before n (c .super) m q h (omega (arith, l, earlier j c l d)))
+  row-before (suc n) j m q e l =
+      go (class-at P j) refl e (λ c d h. row-before n (c .super) m q h (omega (arith, l, earlier j c l d)))
     where
-      own : (c : Class) → class-at P j ≡ some c → (o : Option ℕ) → declared-row (class-row P j + 1 + length (c .fields)) (c .methods) m ≡ o
-          → given o (method-row-at P n (c .super) m) (λ r. some r) ≡ some q → (method-row-at P n (c .super) m ≡ some q → q < class-row P top) → q < class-row P top
+      own : (c : Class) → class-at P j ≡ some c → (o : Option ℕ)
+          → declared-row (class-row P j + 1 + length (c .fields)) (c .methods) m ≡ o
+          → given o (method-row-at P n (c .super) m) (λ r. some r) ≡ some q
+          → (method-row-at P n (c .super) m ≡ some q → q < class-row P top) → q < class-row P top
       own c d none h e ih = ih e
-      own c d (some x) h e ih = omega (arith, inj e, row-in (c .methods) (class-row P j + 1 + length (c .fields)) m x h, class-before j top c d l)
+      own c d (some x) h e ih =
+          omega (
+            arith,
+            inj e,
+            row-in (c .methods) (class-row P j + 1 + length (c .fields)) m x h,
+            class-before j top c d l,
+          )
 
       go : (o : Option Class) → class-at P j ≡ o
-          → given o none (λ c. given (declared-row (class-row P j + 1 + length (c .fields)) (c .methods) m) (method-row-at P n (c .super) m) λ r. some r) ≡ some q
-          → ((c : Class) → class-at P j ≡ some c → method-row-at P n (c .super) m ≡ some q → q < class-row P top) → q < class-row P top
+          → given o none (λ c. given (declared-row (class-row P j + 1 + length (c .fields)) (c .methods) m)
+          (method-row-at P n (c .super) m) λ r. some r) ≡ some q
+          → ((c : Class) → class-at P j ≡ some c → method-row-at P n (c .super) m ≡ some q
+          → q < class-row P top) → q < class-row P top
       go none d h ih = absurd (Never h)
-      go (some c) d h ih = own c d (declared-row (class-row P j + 1 + length (c .fields)) (c .methods) m) refl h (ih c d)
+      go (some c) d h ih =
+          own c d (declared-row (class-row P j + 1 + length (c .fields)) (c .methods) m) refl h (ih c d)
 
   pub inherited-row : (j m q : ℕ) → method-row P j m ≡ some q → j < top → q < class-row P top
   unfolding method-row
@@ -119,7 +145,8 @@ pub record Started (T T′ : List ℕ) (k over : ℕ) : Type 0 where
   pub second : (x : ℕ) → x < 62 → getD T′ (k * 576 + 514 + x) 0 ≡ getD T (over * 576 + 514 + x) 0
   pub high : (i : ℕ) → k * 576 + 576 ≤ i → getD T′ i 0 ≡ getD T i 0
 
-pub started : {T T₁ T₂ : List ℕ} {k over : ℕ} → over < k → Copied T T₁ (over * 576) (k * 576) 512 → Copied T₁ T₂ (over * 576 + 514) (k * 576 + 514) 62 → Started T T₂ k over
+pub started : {T T₁ T₂ : List ℕ} {k over : ℕ} → over < k → Copied T T₁ (over * 576) (k * 576) 512
+    → Copied T₁ T₂ (over * 576 + 514) (k * 576 + 514) 62 → Started T T₂ k over
 started {k} {over} l a b = record {
   long = b .long ∙ a .long;
   low = λ i h. b .before i (omega (arith, h)) ∙ a .before i h;
@@ -155,29 +182,38 @@ module _ {T : List ℕ} {k over kind : ℕ} (w : StartReady T k over kind) where
       entries = λ m l.
           let a : k * 576 + 256 + m ≡ k * 576 + (256 + m) = omega arith in
           let b : over * 576 + (256 + m) ≡ over * 576 + 256 + m = omega arith in
-          ap (λ (i : ℕ). getD T′ i 0) a ∙ (s .first (256 + m) (omega (arith, l)) ∙ (ap (λ (i : ℕ). getD T i 0) b ∙ old .block .entries m l));
+          ap (λ (i : ℕ). getD T′ i 0) a
+          ∙ (s .first (256 + m) (omega (arith, l))
+          ∙ (ap (λ (i : ℕ). getD T i 0) b ∙ old .block .entries m l));
       count =
           let a : k * 576 + 515 ≡ k * 576 + 514 + 1 = omega arith in
           let b : over * 576 + 514 + 1 ≡ over * 576 + 515 = omega arith in
-          ap (λ (i : ℕ). getD T′ i 0) a ∙ (s .second 1 (omega arith) ∙ (ap (λ (i : ℕ). getD T i 0) b ∙ old .block .count));
+          ap (λ (i : ℕ). getD T′ i 0) a
+          ∙ (s .second 1 (omega arith) ∙ (ap (λ (i : ℕ). getD T i 0) b ∙ old .block .count));
       rows = λ i r e.
           let h = nth-lt (field-rows (w .P) over) i r e in
           let a : k * 576 + 520 + i ≡ k * 576 + 514 + (6 + i) = omega arith in
           let b : over * 576 + 514 + (6 + i) ≡ over * 576 + 520 + i = omega arith in
-          ap (λ (i : ℕ). getD T′ i 0) a ∙ (s .second (6 + i) (omega (arith, h, old .block .long, old .block .few)) ∙ (ap (λ (i : ℕ). getD T i 0) b ∙ old .block .rows i r e));
+          ap (λ (i : ℕ). getD T′ i 0) a
+          ∙ (s .second (6 + i) (omega (arith, h, old .block .long, old .block .few))
+          ∙ (ap (λ (i : ℕ). getD T i 0) b ∙ old .block .rows i r e));
       long = old .block .long;
       few = old .block .few;
     }
 
     kind-test : eqb kind 2 ≡ is-state (w .one .kind)
-    kind-test = ap (λ (n : ℕ). eqb n 2) (w .kind-is) ∙ kind-numbers (w .one .kind) (w .lookups .proper k (w .one) (w .is)) .1
+    kind-test = ap (λ (n : ℕ). eqb n 2) (w .kind-is)
+        ∙ kind-numbers (w .one .kind) (w .lookups .proper k (w .one) (w .is)) .1
 
     root-is : world (w .P) .root k ≡ choice (eqb kind 2) (λ _. world (w .P) .root over) (λ _. k)
-    root-is = root-of (w .P) k (w .lookups .earlier) k (w .one) (w .is) (omega (arith, w .earlier, w .over-is)) (omega arith)
-        ∙ (ap (λ (b : Bool). choice b (λ _. world (w .P) .root (w .one .super)) (λ _. k)) (sym kind-test) ∙ ap (λ (o : ℕ). choice (eqb kind 2) (λ _. world (w .P) .root o) (λ _. k)) (sym (w .over-is)))
+    root-is = root-of (w .P) k (w .lookups .earlier) k (w .one) (w .is)
+        (omega (arith, w .earlier, w .over-is)) (omega arith)
+        ∙ (ap (λ (b : Bool). choice b (λ _. world (w .P) .root (w .one .super)) (λ _. k)) (sym kind-test)
+        ∙ ap (λ (o : ℕ). choice (eqb kind 2) (λ _. world (w .P) .root o) (λ _. k)) (sym (w .over-is)))
 
     -- a state class has its superclass's root
-    pub start-state : kind ≡ 2 → Working (w .P) k T′ (world (w .P) .fields over) (field-rows (w .P) over) (method-row (w .P) over)
+    pub start-state : kind ≡ 2
+        → Working (w .P) k T′ (world (w .P) .fields over) (field-rows (w .P) over) (method-row (w .P) over)
     start-state e =
         let a : k * 576 + 514 ≡ k * 576 + 514 + 0 = omega arith in
         let b : over * 576 + 514 + 0 ≡ over * 576 + 514 = omega arith in
@@ -186,14 +222,19 @@ module _ {T : List ℕ} {k over kind : ℕ} (w : StartReady T k over kind) where
           lookups = lookups;
           within = within;
           block = block;
-          root = ap (λ (i : ℕ). getD T′ i 0) a ∙ (s .second 0 (omega arith) ∙ (ap (λ (i : ℕ). getD T i 0) b ∙ (old .root ∙ sym r)));
+          root = ap (λ (i : ℕ). getD T′ i 0) a
+              ∙ (s .second 0 (omega arith) ∙ (ap (λ (i : ℕ). getD T i 0) b ∙ (old .root ∙ sym r)));
         }
 
     -- any other is its own root
-    pub start-other : (kind ≡ 2 → ⊥) → Working (w .P) k (set T′ (k * 576 + 514) k) (world (w .P) .fields over) (field-rows (w .P) over) (method-row (w .P) over)
+    pub start-other : (kind ≡ 2 → ⊥)
+        → Working (w .P) k (set T′ (k * 576 + 514) k) (world (w .P) .fields over) (field-rows (w .P) over)
+        (method-row (w .P) over)
     start-other n =
         let r : world (w .P) .root k ≡ k = root-is ∙ rw (ne-eqb kind 2 n) in
-        let o : (i : ℕ) → (i ≡ k * 576 + 514 → ⊥) → getD (set T′ (k * 576 + 514) k) i 0 ≡ getD T′ i 0 = λ i h. getD-set-other T′ (k * 576 + 514) i k 0 h in
+        let o : (i : ℕ) → (i ≡ k * 576 + 514 → ⊥)
+        → getD (set T′ (k * 576 + 514) k) i 0 ≡ getD T′ i 0 = λ i h.
+        getD-set-other T′ (k * 576 + 514) i k 0 h in
         record {
           lookups = lookups-set lookups 514 k (omega arith) (λ e. omega (arith, e)) (λ e. omega (arith, e));
           within = within;
@@ -210,7 +251,8 @@ module _ {T : List ℕ} {k over kind : ℕ} (w : StartReady T k over kind) where
 
 -- ---- a class that has passed
 
-module _ {P : List Class} {k : ℕ} {T : List ℕ} {fs : List Field} {rs : List ℕ} {ms : ℕ → Option ℕ} (W : Working P k T fs rs ms) (c : Class) (e : class-at P k ≡ some c) (l : c .super < k)
+module _ {P : List Class} {k : ℕ} {T : List ℕ} {fs : List Field} {rs : List ℕ} {ms : ℕ → Option ℕ}
+    (W : Working P k T fs rs ms) (c : Class) (e : class-at P k ≡ some c) (l : c .super < k)
     (f : fs ≡ world P .fields k) (g : rs ≡ field-rows P k) (h : (m : ℕ) → ms m ≡ method-row P k m) where
   filled : Filled P T k
   filled = record {
@@ -233,6 +275,9 @@ module _ {P : List Class} {k : ℕ} {T : List ℕ} {fs : List Field} {rs : List 
     kinds = W .lookups .kinds;
     proper = W .lookups .proper;
     supers = W .lookups .supers;
-    earlier = λ j d q p. ⊎-elim (λ s. W .lookups .earlier j d s p) (λ s. let z : c ≡ d = inj (sym e ∙ (ap (class-at P) (sym s) ∙ p)) in rw (s, ← z) l) (below-or j k (omega (arith, q)));
+    earlier = λ j d q p.
+        ⊎-elim (λ s. W .lookups .earlier j d s p)
+        (λ s. let z : c ≡ d = inj (sym e ∙ (ap (class-at P) (sym s) ∙ p)) in rw (s, ← z) l)
+        (below-or j k (omega (arith, q)));
     blocks = λ j q. ⊎-elim (λ s. W .lookups .blocks j s) (λ s. rw s filled) (below-or j k (omega (arith, q)));
   }

@@ -38,12 +38,14 @@ module _ {R T : List ℕ} {r base count : ℕ} (w : FieldReady R T r base count)
   count-entry = rw (w .base-is) (w .working .block .count)
 
   place-entry : getD T (base + getD R (r * 4 + 2) 0) 0 ≡ stored-place (place (w .field .name) (w .fields))
-  place-entry = rw (w .base-is, name-is) (w .working .block .places (w .field .name) (omega (arith, w .at .name)))
+  place-entry = rw (w .base-is, name-is) (w .working .block .places (w .field .name)
+      (omega (arith, w .at .name)))
 
   fault-is : fault-of-field (w .P) (w .fields) (w .field)
       ≡ cond (ltb (getD T (base + 515) 0) 17)
       (cond (is-declared-type (world (w .P)) (type-of-number (getD R (r * 4 + 1) 0)))
-      (cond (not (eqb (getD T (base + getD R (r * 4 + 2) 0) 0) 0)) 4 (cond (is-state-type (w .P) (type-of-number (getD R (r * 4 + 1) 0))) 5 0)) 4) 2
+      (cond (not (eqb (getD T (base + getD R (r * 4 + 2) 0) 0) 0)) 4
+      (cond (is-state-type (w .P) (type-of-number (getD R (r * 4 + 1) 0))) 5 0)) 4) 2
   unfolding fault-of-field
   fault-is = rw (count-entry, type-is, place-entry, stored-is (place (w .field .name) (w .fields)))
 
@@ -51,21 +53,37 @@ module _ {R T : List ℕ} {r base count : ℕ} (w : FieldReady R T r base count)
   field-full l = sym (fault-is ∙ rw (le-ltb (getD T (base + 515) 0) 17 l))
 
   module _ (a : getD T (base + 515) 0 < 17) where
-    pub field-undeclared : is-declared-type (world (w .P)) (type-of-number (getD R (r * 4 + 1) 0)) ≡ false → 4 ≡ fault-of-field (w .P) (w .fields) (w .field)
+    pub field-undeclared : is-declared-type (world (w .P)) (type-of-number (getD R (r * 4 + 1) 0)) ≡ false
+        → 4 ≡ fault-of-field (w .P) (w .fields) (w .field)
     field-undeclared b = sym (fault-is ∙ rw (lt-ltb (getD T (base + 515) 0) 17 a, b))
 
     module _ (b : is-declared-type (world (w .P)) (type-of-number (getD R (r * 4 + 1) 0)) ≡ true) where
-      pub field-twice : (getD T (base + getD R (r * 4 + 2) 0) 0 ≡ 0 → ⊥) → 4 ≡ fault-of-field (w .P) (w .fields) (w .field)
-      field-twice n = sym (fault-is ∙ rw (lt-ltb (getD T (base + 515) 0) 17 a, b, ne-eqb (getD T (base + getD R (r * 4 + 2) 0) 0) 0 n))
+      pub field-twice : (getD T (base + getD R (r * 4 + 2) 0) 0 ≡ 0 → ⊥)
+          → 4 ≡ fault-of-field (w .P) (w .fields) (w .field)
+      field-twice n = sym (fault-is ∙ rw (
+        lt-ltb (getD T (base + 515) 0) 17 a,
+        b,
+        ne-eqb
+            (getD T (base + getD R (r * 4 + 2) 0) 0) 0 n,
+      ))
 
       module _ (e : getD T (base + getD R (r * 4 + 2) 0) 0 ≡ 0) where
-        fault-state : (s : Bool) → s ≡ is-state-type (w .P) (type-of-number (getD R (r * 4 + 1) 0)) → fault-of-field (w .P) (w .fields) (w .field) ≡ cond s 5 0
-        fault-state s q = fault-is ∙ rw (lt-ltb (getD T (base + 515) 0) 17 a, b, eq-eqb (getD T (base + getD R (r * 4 + 2) 0) 0) 0 e, ← q)
+        fault-state : (s : Bool) → s ≡ is-state-type (w .P) (type-of-number (getD R (r * 4 + 1) 0))
+            → fault-of-field (w .P) (w .fields) (w .field) ≡ cond s 5 0
+        fault-state s q = fault-is
+            ∙ rw (
+              lt-ltb (getD T (base + 515) 0) 17 a,
+              b,
+              eq-eqb (getD T (base + getD R (r * 4 + 2) 0) 0) 0 e,
+              ← q,
+            )
 
-        pub field-state : (s : Bool) → s ≡ is-state-type (w .P) (type-of-number (getD R (r * 4 + 1) 0)) → s ≡ true → 5 ≡ fault-of-field (w .P) (w .fields) (w .field)
+        pub field-state : (s : Bool) → s ≡ is-state-type (w .P) (type-of-number (getD R (r * 4 + 1) 0))
+            → s ≡ true → 5 ≡ fault-of-field (w .P) (w .fields) (w .field)
         field-state s q z = sym (fault-state s q ∙ rw z)
 
-        pub field-fine : (s : Bool) → s ≡ is-state-type (w .P) (type-of-number (getD R (r * 4 + 1) 0)) → s ≡ false → 0 ≡ fault-of-field (w .P) (w .fields) (w .field)
+        pub field-fine : (s : Bool) → s ≡ is-state-type (w .P) (type-of-number (getD R (r * 4 + 1) 0))
+            → s ≡ false → 0 ≡ fault-of-field (w .P) (w .fields) (w .field)
         field-fine s q z = sym (fault-state s q ∙ rw z)
 
 -- ---- entering a field
@@ -77,23 +95,36 @@ module _ {R T : List ℕ} {r base : ℕ} (w : EnterReady R T r base) where
   pub enter-count : getD T (base + 515) 0 ≡ length (w .fields)
   enter-count = rw (w .base-is) (w .working .block .count)
 
-  pub enter-bounds : (getD T (base + 515) 0 < 17) × (getD R (r * 4 + 2) 0 ≤ 255) × (r * 4 + 3 < length R) × (length R ≤ 240000) × (base + 576 ≤ length T)
-  enter-bounds = (omega (arith, enter-count, w .room), omega (arith, w .at .line .second, w .at .name), w .at .line .within, w .short, omega (arith, enter-index 575 (omega arith)))
+  pub enter-bounds : (getD T (base + 515) 0 < 17) × (getD R (r * 4 + 2) 0 ≤ 255) × (r * 4 + 3 < length R)
+      × (length R ≤ 240000) × (base + 576 ≤ length T)
+  enter-bounds = (
+    omega (arith, enter-count, w .room),
+    omega (arith, w .at .line .second, w .at .name),
+    w .at .line .within,
+    w .short,
+    omega (arith, enter-index 575 (omega arith)),
+  )
 
   pub enter-is : (T′ : List ℕ)
-      → T′ ≡ set (set (set T (base + getD R (r * 4 + 2) 0) (getD T (base + 515) 0 + 1)) (base + 520 + getD T (base + 515) 0) r) (base + 515) (getD T (base + 515) 0 + 1)
+      → T′ ≡ set (set (set T (base + getD R (r * 4 + 2) 0) (getD T (base + 515) 0 + 1))
+      (base + 520 + getD T (base + 515) 0) r) (base + 515) (getD T (base + 515) 0 + 1)
       → Working (w .P) (w .k) T′ (w .fields ++ (w .field ∷ [])) (w .rows ++ (r ∷ [])) (w .methods)
   enter-is T′ e =
       let d : w .k * 576 + 520 + length (w .fields) ≡ w .k * 576 + (520 + length (w .fields)) = omega arith in
-      working-field (w .working) (w .field) r (w .at .name) (w .room) (w .new) T′ (e ∙ rw (enter-count, w .at .line .second, w .base-is, d))
+      working-field (w .working) (w .field) r (w .at .name) (w .room) (w .new) T′
+      (e ∙ rw (enter-count, w .at .line .second, w .base-is, d))
 
 -- no fault, so there is room and the name is new
-sound-field : (P : List Class) (fs : List Field) (f : Field) → fault-of-field P fs f ≡ 0 → (length fs < 17) × (place (f .name) fs ≡ none)
+sound-field : (P : List Class) (fs : List Field) (f : Field) → fault-of-field P fs f ≡ 0
+    → (length fs < 17) × (place (f .name) fs ≡ none)
 unfolding fault-of-field
-sound-field P fs f e = go (ltb (length fs) 17) refl (is-declared-type (world P) (f .type)) (place (f .name) fs) refl (is-state-type P (f .type)) e
+sound-field P fs f e =
+    go (ltb (length fs) 17) refl (is-declared-type (world P) (f .type)) (place (f .name) fs) refl
+    (is-state-type P (f .type)) e
   where
     go : (a : Bool) → ltb (length fs) 17 ≡ a → (b : Bool) (o : Option ℕ) → place (f .name) fs ≡ o → (d : Bool)
-        → _≡_ {A = ℕ} (cond a (cond b (cond (is-some o) 4 (cond d 5 0)) 4) 2) 0 → (length fs < 17) × (place (f .name) fs ≡ none)
+        → _≡_ {A = ℕ} (cond a (cond b (cond (is-some o) 4 (cond d 5 0)) 4) 2) 0
+        → (length fs < 17) × (place (f .name) fs ≡ none)
     go false p b o q d h = absurd (omega (arith, h))
     go true p false o q d h = absurd (omega (arith, h))
     go true p true (some i) q d h = absurd (omega (arith, h))
@@ -101,7 +132,8 @@ sound-field P fs f e = go (ltb (length fs) 17) refl (is-declared-type (world P) 
 
 -- ---- the fields of a class
 
-fields-on : {R E : List ℕ} {ms : List Declaration} {fs : List Field} {r : ℕ} → FieldsAt R E ms fs r → 0 < length fs
+fields-on : {R E : List ℕ} {ms : List Declaration} {fs : List Field} {r : ℕ} → FieldsAt R E ms fs r
+    → 0 < length fs
     → (f : Field) × (rest : List Field) × (fs ≡ f ∷ rest) × FieldAt R f r × FieldsAt R E ms rest (r + 1)
 fields-on (fields-none h) l = absurd (omega (arith, l))
 fields-on (fields-more {f} {fs} h x) l = (f, fs, refl, h, x)
@@ -118,7 +150,8 @@ module _ {R T₀ : List ℕ} {r n base count : ℕ} (w : FieldsReady R T₀ r n 
     pub here : FieldsAt R (w .ends) (w .declarations) rest (r + i)
     pub left : i + length rest ≡ n
     pub working : Working (w .P) (w .k) T before rows (w .methods)
-    pub answer : check-fields of-check (w .P) (w .fields) (r + 1) (w .own) ≡ check-fields of-check (w .P) before (r + i + 1) rest
+    pub answer : check-fields of-check (w .P) (w .fields) (r + 1) (w .own)
+        ≡ check-fields of-check (w .P) before (r + i + 1) rest
     pub all : before ++ rest ≡ w .fields ++ w .own
     pub all-rows : rows ++ rows-from (r + i) rest ≡ w .rows ++ rows-from r (w .own)
 
@@ -137,7 +170,8 @@ module _ {R T₀ : List ℕ} {r n base count : ℕ} (w : FieldsReady R T₀ r n 
 
   module _ {T : List ℕ} {i : ℕ} (p : Fielding T i) where
     module _ (l : i < n) where
-      pub next : (f : Field) × (rest : List Field) × (p .rest ≡ f ∷ rest) × FieldAt R f (r + i) × FieldsAt R (w .ends) (w .declarations) rest (r + i + 1)
+      pub next : (f : Field) × (rest : List Field) × (p .rest ≡ f ∷ rest) × FieldAt R f (r + i)
+          × FieldsAt R (w .ends) (w .declarations) rest (r + i + 1)
       next = fields-on (p .here) (omega (arith, l, p .left))
 
       abbrev pub fielding-ready : FieldReady R T (r + i) base count
@@ -159,13 +193,19 @@ module _ {R T₀ : List ℕ} {r n base count : ℕ} (w : FieldsReady R T₀ r n 
       fielding-index = (next .3 .line .within, w .short)
 
       fault : check-fields of-check (w .P) (w .fields) (r + 1) (w .own)
-          ≡ faulty (fault-of-field (w .P) (p .before) (next .0)) (r + i + 1) (check-fields of-check (w .P) (p .before ++ (next .0 ∷ [])) (r + i + 1 + 1) (next .1))
-      fault = p .answer ∙ (ap (check-fields of-check (w .P) (p .before) (r + i + 1)) (next .2) ∙ fields-step (w .P) (p .before) (r + i + 1) (next .0) (next .1))
+          ≡ faulty (fault-of-field (w .P) (p .before) (next .0)) (r + i + 1)
+          (check-fields of-check (w .P) (p .before ++ (next .0 ∷ [])) (r + i + 1 + 1) (next .1))
+      fault = p .answer ∙ (ap (check-fields of-check (w .P) (p .before) (r + i + 1)) (next .2) ∙ fields-step
+          (w .P) (p .before) (r + i + 1) (next .0) (next .1))
 
-      module _ (f : ℕ) (e : (v : FieldReady R T (r + i) base count) → f ≡ fault-of-field (v .P) (v .fields) (v .field)) where
-        pub fielding-refused : (f ≡ 0 → ⊥) → Refused f (r + i + 1) ≡ headed (check-fields of-check (w .P) (w .fields) (r + 1) (w .own))
+      module _ (f : ℕ) (e : (v : FieldReady R T (r + i) base count) → f ≡ fault-of-field (v .P) (v .fields)
+          (v .field)) where
+        pub fielding-refused : (f ≡ 0 → ⊥)
+            → Refused f (r + i + 1) ≡ headed (check-fields of-check (w .P) (w .fields) (r + 1) (w .own))
         fielding-refused z = refused-is _ f (r + i + 1)
-            (fault ∙ (ap (λ (g : ℕ). faulty g (r + i + 1) (check-fields of-check (w .P) (p .before ++ (next .0 ∷ [])) (r + i + 1 + 1) (next .1))) (sym (e fielding-ready))
+            (fault ∙ (ap (λ (g : ℕ). faulty g (r + i + 1)
+            (check-fields of-check (w .P) (p .before ++ (next .0 ∷ [])) (r + i + 1 + 1) (next .1)))
+            (sym (e fielding-ready))
             ∙ faulty-some f (r + i + 1) _ z))
 
         module _ (z : f ≡ 0) where
@@ -189,7 +229,9 @@ module _ {R T₀ : List ℕ} {r n base count : ℕ} (w : FieldsReady R T₀ r n 
           }
 
           pub fielding-step : (T′ : List ℕ)
-              → ((v : EnterReady R T (r + i) base) → Working (v .P) (v .k) T′ (v .fields ++ (v .field ∷ [])) (v .rows ++ ((r + i) ∷ [])) (v .methods))
+              → ((v : EnterReady R T (r + i) base)
+              → Working (v .P) (v .k) T′ (v .fields ++ (v .field ∷ [])) (v .rows ++ ((r + i) ∷ []))
+              (v .methods))
               → Fielding T′ (i + 1)
           unfolding rows-from
           fielding-step T′ h =
@@ -202,9 +244,11 @@ module _ {R T₀ : List ℕ} {r n base count : ℕ} (w : FieldsReady R T₀ r n 
                 left = omega (arith, p .left, ap length (next .2));
                 working = h fielding-enter;
                 answer = fault ∙ (faulty-none _ (r + i + 1) _ (sym (e fielding-ready) ∙ z) ∙ rw a);
-                all = append-assoc (p .before) (next .0 ∷ []) (next .1) ∙ (ap (λ (l : List Field). p .before ++ l) (sym (next .2)) ∙ p .all);
+                all = append-assoc (p .before) (next .0 ∷ []) (next .1)
+                    ∙ (ap (λ (l : List Field). p .before ++ l) (sym (next .2)) ∙ p .all);
                 all-rows = rw a (append-assoc (p .rows) ((r + i) ∷ []) (rows-from (r + i + 1) (next .1))
-                    ∙ (ap (λ (l : List Field). p .rows ++ rows-from (r + i) l) (sym (next .2)) ∙ p .all-rows));
+                    ∙ (ap (λ (l : List Field). p .rows ++ rows-from (r + i) l) (sym (next .2))
+                    ∙ p .all-rows));
               }
 
     module _ (l : n ≤ i) where
@@ -215,9 +259,12 @@ module _ {R T₀ : List ℕ} {r n base count : ℕ} (w : FieldsReady R T₀ r n 
       unfolding check-fields
       fielding-end = passed-is _ (p .answer ∙ rw over)
 
-      pub fielding-done : Working (w .P) (w .k) T (w .fields ++ w .own) (w .rows ++ rows-from r (w .own)) (w .methods)
+      pub fielding-done : Working (w .P) (w .k) T (w .fields ++ w .own) (w .rows ++ rows-from r (w .own))
+          (w .methods)
       unfolding rows-from
       fielding-done =
-          let a : p .before ≡ w .fields ++ w .own = sym (append-nil (p .before)) ∙ (ap (λ (l : List Field). p .before ++ l) (sym over) ∙ p .all) in
-          let b : p .rows ≡ w .rows ++ rows-from r (w .own) = sym (append-nil (p .rows)) ∙ (ap (λ (l : List Field). p .rows ++ rows-from (r + i) l) (sym over) ∙ p .all-rows) in
+          let a : p .before ≡ w .fields ++ w .own = sym (append-nil (p .before))
+          ∙ (ap (λ (l : List Field). p .before ++ l) (sym over) ∙ p .all) in
+          let b : p .rows ≡ w .rows ++ rows-from r (w .own) = sym (append-nil (p .rows))
+          ∙ (ap (λ (l : List Field). p .rows ++ rows-from (r + i) l) (sym over) ∙ p .all-rows) in
           rw (← a, ← b) (p .working)

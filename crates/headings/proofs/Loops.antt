@@ -21,7 +21,8 @@ use Rattle.language.specs.Headings.{same-type, same-types, lines-within, check-
 use Rattle.language.specs.Encoded.{RowAt}
 use Rattle.headings.specs.Answers.{headed}
 use Rattle.headings.specs.declared.Headed.the-variants.{Passed, Refused}
-use Rattle.headings.specs.HeadingLines.{EffectsAt, effects-none, effects-more, ParametersAt, parameters-none, parameters-more}
+use Rattle.headings.specs.HeadingLines.{EffectsAt, effects-none, effects-more, ParametersAt}
+use Rattle.headings.specs.HeadingLines.{parameters-none, parameters-more}
 use Rattle.headings.specs.Faults.{faulty, fault-of-effect}
 use Rattle.headings.specs.Ready.{Copied, Cleared, EffectLines, ParameterLines}
 use Rattle.headings.proofs.Lines.{below-or}
@@ -43,18 +44,23 @@ cleared-step {T} {T′} {i} c h = record {
 }
 
 pub copied-start : (T : List ℕ) (from to : ℕ) → Copied T T from to 0
-copied-start T from to = record { long = refl; part = λ i l. absurd (omega (arith, l)); before = λ j l. refl; after = λ j l. refl }
+copied-start T from to =
+    record { long = refl; part = λ i l. absurd (omega (arith, l)); before = λ j l. refl; after = λ j l. refl }
 
 pub copied-step : {T T′ : List ℕ} {from to i : ℕ} → Copied T T′ from to i → from + i < to → to + i < length T
     → Copied T (set T′ (to + i) (getD T′ (from + i) 0)) from to (i + 1)
 copied-step {T} {T′} {from} {to} {i} c h k = record {
   long = length-set T′ (to + i) (getD T′ (from + i) 0) ∙ c .long;
   part = λ j l. ⊎-elim
-      (λ q. getD-set-other T′ (to + i) (to + j) (getD T′ (from + i) 0) 0 (λ e. omega (arith, q, e)) ∙ c .part j q)
-      (λ q. rw q (getD-set-same T′ (to + i) (getD T′ (from + i) 0) 0 (omega (arith, k, c .long)) ∙ c .before (from + i) h))
+      (λ q. getD-set-other T′ (to + i) (to + j) (getD T′ (from + i) 0) 0 (λ e. omega (arith, q, e))
+      ∙ c .part j q)
+      (λ q. rw q (getD-set-same T′ (to + i) (getD T′ (from + i) 0) 0 (omega (arith, k, c .long)) ∙ c .before
+      (from + i) h))
       (below-or j i (omega (arith, l)));
-  before = λ j l. getD-set-other T′ (to + i) j (getD T′ (from + i) 0) 0 (λ e. omega (arith, l, e)) ∙ c .before j l;
-  after = λ j l. getD-set-other T′ (to + i) j (getD T′ (from + i) 0) 0 (λ e. omega (arith, l, e)) ∙ c .after j (omega (arith, l));
+  before = λ j l. getD-set-other T′ (to + i) j (getD T′ (from + i) 0) 0 (λ e. omega (arith, l, e))
+      ∙ c .before j l;
+  after = λ j l. getD-set-other T′ (to + i) j (getD T′ (from + i) 0) 0 (λ e. omega (arith, l, e))
+      ∙ c .after j (omega (arith, l));
 }
 
 -- ---- X lines
@@ -67,9 +73,11 @@ pub record EffectLine (R : List ℕ) (r i : ℕ) (cs : List ℕ) : Type 0 where
   pub next : drop (i + 1) cs ≡ rest
   pub line : RowAt R (r + i) X-effect c 0
 
-pub effect-line : {R E : List ℕ} {n : ℕ} {cs : List ℕ} {r : ℕ} → EffectsAt R E n cs r → (i : ℕ) → i < length cs → EffectLine R r i cs
+pub effect-line : {R E : List ℕ} {n : ℕ} {cs : List ℕ} {r : ℕ} → EffectsAt R E n cs r → (i : ℕ)
+    → i < length cs → EffectLine R r i cs
 effect-line (effects-none v k h) i p = absurd (omega (arith, p))
-effect-line {r} (effects-more {c} {cs} h x) zero p = let e : r + 0 ≡ r = omega arith in record { c = c; rest = cs; here = refl; next = refl; line = rw e h }
+effect-line {r} (effects-more {c} {cs} h x) zero p = let e : r + 0 ≡ r = omega arith in
+    record { c = c; rest = cs; here = refl; next = refl; line = rw e h }
 effect-line {r} (effects-more {c} {cs} h x) (suc i) p =
     let y = effect-line x i (omega (arith, p)) in
     let e : r + suc i ≡ r + 1 + i = omega arith in
@@ -84,7 +92,8 @@ module _ {R : List ℕ} {r n : ℕ} (w : EffectLines R r n) where
   effects-index i l = (effects-line i l .line .within, w .short)
 
   pub effects-over : (i : ℕ) → n ≤ i → drop i (w .effects) ≡ []
-  effects-over i l = let h : length (w .effects) ≤ i = omega (arith, l, w .n-is) in drop-of-length-le (w .effects) h
+  effects-over i l = let h : length (w .effects) ≤ i = omega (arith, l, w .n-is) in
+      drop-of-length-le (w .effects) h
 
   -- collecting the set, from the last line to the first
   pub record Collecting (s i : ℕ) : Type 0 where
@@ -92,30 +101,40 @@ module _ {R : List ℕ} {r n : ℕ} (w : EffectLines R r n) where
     pub so-far : s ≡ effect-of-all (drop i (w .effects)) % 2 ^ 64
 
   pub collecting-start : Collecting 0 n
-  collecting-start = record { within = omega arith; so-far = set-none ∙ ap (λ (l : List ℕ). effect-of-all l % 2 ^ 64) (sym (effects-over n (omega arith))) }
+  collecting-start = record {
+    within = omega arith;
+    so-far = set-none ∙ ap
+        (λ (l : List ℕ). effect-of-all l % 2 ^ 64) (sym (effects-over n (omega arith)));
+  }
 
   module _ (s i : ℕ) (p : Collecting s i) (l : 0 < i) where
     at-last : s ≡ effect-of-all (effects-line (i - 1) (omega (arith, l, p .within)) .rest) % 2 ^ 64
     at-last = let y = effects-line (i - 1) (omega (arith, l, p .within)) in
         let e : i - 1 + 1 ≡ i = omega (arith, l) in
-        p .so-far ∙ ap (λ (l : List ℕ). effect-of-all l % 2 ^ 64) (ap (λ (j : ℕ). drop j (w .effects)) (sym e) ∙ y .next)
+        p .so-far ∙ ap (λ (l : List ℕ). effect-of-all l % 2 ^ 64)
+        (ap (λ (j : ℕ). drop j (w .effects)) (sym e) ∙ y .next)
 
-    pub collecting-more : getD R ((r + (i - 1)) * 4 + 1) 0 ≤ 64 → (b : ℕ) → b ≡ effect-of (getD R ((r + (i - 1)) * 4 + 1) 0) → Collecting (bitOr b s) (i - 1)
+    pub collecting-more : getD R ((r + (i - 1)) * 4 + 1) 0 ≤ 64 → (b : ℕ)
+        → b ≡ effect-of (getD R ((r + (i - 1)) * 4 + 1) 0) → Collecting (bitOr b s) (i - 1)
     collecting-more h b e = let y = effects-line (i - 1) (omega (arith, l, p .within)) in
         record {
           within = omega (arith, p .within);
-          so-far = rw (e, y .line .first) (set-more (y .c) (y .rest) s (omega (arith, h, y .line .first)) at-last ∙ ap (λ (l : List ℕ). effect-of-all l % 2 ^ 64) (sym (y .here)));
+          so-far = rw (e, y .line .first)
+              (set-more (y .c) (y .rest) s (omega (arith, h, y .line .first)) at-last
+              ∙ ap (λ (l : List ℕ). effect-of-all l % 2 ^ 64) (sym (y .here)));
         }
 
     pub collecting-same : 64 < getD R ((r + (i - 1)) * 4 + 1) 0 → Collecting s (i - 1)
     collecting-same h = let y = effects-line (i - 1) (omega (arith, l, p .within)) in
         record {
           within = omega (arith, p .within);
-          so-far = set-same (y .c) (y .rest) s (omega (arith, h, y .line .first)) at-last ∙ ap (λ (l : List ℕ). effect-of-all l % 2 ^ 64) (sym (y .here));
+          so-far = set-same (y .c) (y .rest) s (omega (arith, h, y .line .first)) at-last
+              ∙ ap (λ (l : List ℕ). effect-of-all l % 2 ^ 64) (sym (y .here));
         }
 
   pub collecting-end : (s i : ℕ) → Collecting s i → i ≤ 0 → s ≡ effect-of-all (w .effects) % 2 ^ 64
-  collecting-end s i p l = let e : i ≡ 0 = omega (arith, l) in p .so-far ∙ ap (λ (j : ℕ). effect-of-all (drop j (w .effects)) % 2 ^ 64) e
+  collecting-end s i p l = let e : i ≡ 0 = omega (arith, l) in p .so-far
+      ∙ ap (λ (j : ℕ). effect-of-all (drop j (w .effects)) % 2 ^ 64) e
 
   -- testing the lines against a set
   pub record Testing (φ i : ℕ) : Type 0 where
@@ -127,7 +146,9 @@ module _ {R : List ℕ} {r n : ℕ} (w : EffectLines R r n) where
 
   module _ (φ i : ℕ) (p : Testing φ i) (l : i < n) where
     test : lines-within (w .effects) φ
-        ≡ ltb 0 (getD R ((r + i) * 4 + 1) 0) && (leb (getD R ((r + i) * 4 + 1) 0) 64 && (member φ (getD R ((r + i) * 4 + 1) 0) && lines-within (drop (i + 1) (w .effects)) φ))
+        ≡ ltb 0 (getD R ((r + i) * 4 + 1) 0) &&
+        (leb (getD R ((r + i) * 4 + 1) 0) 64 &&
+        (member φ (getD R ((r + i) * 4 + 1) 0) && lines-within (drop (i + 1) (w .effects)) φ))
     unfolding lines-within
     test = let y = effects-line i l in p .left ∙ rw (y .here, y .next, y .line .first)
 
@@ -135,11 +156,20 @@ module _ {R : List ℕ} {r n : ℕ} (w : EffectLines R r n) where
     testing-zero e = sym (test ∙ rw e)
 
     pub testing-large : 64 < getD R ((r + i) * 4 + 1) 0 → false ≡ lines-within (w .effects) φ
-    testing-large h = sym (test ∙ rw (lt-ltb 0 (getD R ((r + i) * 4 + 1) 0) (omega (arith, h)), lt-leb (getD R ((r + i) * 4 + 1) 0) 64 h))
+    testing-large h = sym (test ∙ rw (
+      lt-ltb 0 (getD R ((r + i) * 4 + 1) 0) (omega (arith, h)),
+      lt-leb
+          (getD R ((r + i) * 4 + 1) 0) 64 h,
+    ))
 
     module _ (z : getD R ((r + i) * 4 + 1) 0 ≡ 0 → ⊥) (h : getD R ((r + i) * 4 + 1) 0 ≤ 64) where
-      on : lines-within (w .effects) φ ≡ member φ (getD R ((r + i) * 4 + 1) 0) && lines-within (drop (i + 1) (w .effects)) φ
-      on = test ∙ rw (lt-ltb 0 (getD R ((r + i) * 4 + 1) 0) (omega (arith, z)), le-leb (getD R ((r + i) * 4 + 1) 0) 64 h)
+      on : lines-within (w .effects) φ
+          ≡ member φ (getD R ((r + i) * 4 + 1) 0) && lines-within (drop (i + 1) (w .effects)) φ
+      on = test ∙ rw (
+        lt-ltb 0 (getD R ((r + i) * 4 + 1) 0) (omega (arith, z)),
+        le-leb
+            (getD R ((r + i) * 4 + 1) 0) 64 h,
+      )
 
       pub testing-out : false ≡ member φ (getD R ((r + i) * 4 + 1) 0) → false ≡ lines-within (w .effects) φ
       testing-out e = sym (on ∙ rw (← e))
@@ -155,7 +185,8 @@ module _ {R : List ℕ} {r n : ℕ} (w : EffectLines R r n) where
   module _ (P : List Class) where
     pub record Effecting (last i : ℕ) : Type 0 where
       pub within : i ≤ n
-      pub left : check-effects of-check P 0 (r + 1) (w .effects) ≡ check-effects of-check P last (r + i + 1) (drop i (w .effects))
+      pub left : check-effects of-check P 0 (r + 1) (w .effects)
+          ≡ check-effects of-check P last (r + i + 1) (drop i (w .effects))
 
     pub effecting-start : Effecting 0 0
     effecting-start = let e : r + 0 + 1 ≡ r + 1 = omega arith in record { within = omega arith; left = rw e }
@@ -164,18 +195,27 @@ module _ {R : List ℕ} {r n : ℕ} (w : EffectLines R r n) where
       fault : check-effects of-check P 0 (r + 1) (w .effects)
           ≡ faulty (fault-of-effect P last (getD R ((r + i) * 4 + 1) 0)) (r + i + 1)
           (check-effects of-check P (getD R ((r + i) * 4 + 1) 0) (r + i + 1 + 1) (drop (i + 1) (w .effects)))
-      fault = let y = effects-line i l in p .left ∙ rw (y .here, y .next, y .line .first) (effects-step P last (r + i + 1) (y .c) (y .rest))
+      fault = let y = effects-line i l in p .left
+          ∙ rw (y .here, y .next, y .line .first) (effects-step P last (r + i + 1) (y .c) (y .rest))
 
       pub effecting-refused : (f : ℕ) → f ≡ fault-of-effect P last (getD R ((r + i) * 4 + 1) 0) → (f ≡ 0 → ⊥)
           → Refused f (r + i + 1) ≡ headed (check-effects of-check P 0 (r + 1) (w .effects))
-      effecting-refused f e z = refused-is _ f (r + i + 1) (fault ∙ (ap (λ (g : ℕ). faulty g (r + i + 1) (check-effects of-check P (getD R ((r + i) * 4 + 1) 0) (r + i + 1 + 1) (drop (i + 1) (w .effects)))) (sym e) ∙ faulty-some f (r + i + 1) _ z))
+      effecting-refused f e z =
+          refused-is _ f (r + i + 1)
+          (fault ∙ (ap (λ (g : ℕ). faulty g (r + i + 1)
+          (check-effects of-check P (getD R ((r + i) * 4 + 1) 0) (r + i + 1 + 1) (drop (i + 1) (w .effects))))
+          (sym e) ∙ faulty-some f (r + i + 1) _ z))
 
       pub effecting-step : (f : ℕ) → f ≡ fault-of-effect P last (getD R ((r + i) * 4 + 1) 0) → f ≡ 0
           → Effecting (getD R ((r + i) * 4 + 1) 0) (i + 1)
       effecting-step f e z = let d : r + (i + 1) + 1 ≡ r + i + 1 + 1 = omega arith in
-          record { within = omega (arith, l); left = fault ∙ (faulty-none _ (r + i + 1) _ (sym e ∙ z) ∙ rw d) }
+          record {
+            within = omega (arith, l);
+            left = fault ∙ (faulty-none _ (r + i + 1) _ (sym e ∙ z) ∙ rw d);
+          }
 
-    pub effecting-end : (last i : ℕ) → Effecting last i → n ≤ i → Passed ≡ headed (check-effects of-check P 0 (r + 1) (w .effects))
+    pub effecting-end : (last i : ℕ) → Effecting last i → n ≤ i
+        → Passed ≡ headed (check-effects of-check P 0 (r + 1) (w .effects))
     unfolding check-effects
     effecting-end last i p l = passed-is _ (p .left ∙ rw (effects-over i l))
 
@@ -189,7 +229,8 @@ pub record TypeLine (R : List ℕ) (r i : ℕ) (ts : List DeclaredType) : Type 0
   pub line : RowAt R (r + i) P-parameter (type-number t) 0
   pub proper : type-of-number (type-number t) ≡ t
 
-pub type-line : {R E : List ℕ} {n : ℕ} {cs : List ℕ} {ts : List DeclaredType} {r : ℕ} → ParametersAt R E n cs ts r → (i : ℕ) → i < length ts → TypeLine R r i ts
+pub type-line : {R E : List ℕ} {n : ℕ} {cs : List ℕ} {ts : List DeclaredType} {r : ℕ}
+    → ParametersAt R E n cs ts r → (i : ℕ) → i < length ts → TypeLine R r i ts
 type-line (parameters-none h) i p = absurd (omega (arith, p))
 type-line {r} (parameters-more {t} {ts} h q x) zero p = let e : r + 0 ≡ r = omega arith in
     record { t = t; rest = ts; here = refl; next = refl; line = rw e h; proper = q }
@@ -197,7 +238,14 @@ type-line {r} (parameters-more {t} {ts} h q x) (suc i) p =
     let y = type-line x i (omega (arith, p)) in
     let e : r + suc i ≡ r + 1 + i = omega arith in
     let d : suc i + 1 ≡ suc (i + 1) = omega arith in
-    record { t = y .t; rest = y .rest; here = y .here; next = rw d (y .next); line = rw e (y .line); proper = y .proper }
+    record {
+      t = y .t;
+      rest = y .rest;
+      here = y .here;
+      next = rw d (y .next);
+      line = rw e (y .line);
+      proper = y .proper;
+    }
 
 module _ {R : List ℕ} {r n : ℕ} (w : ParameterLines R r n) where
   pub types-line : (i : ℕ) → i < n → TypeLine R r i (w .types)
@@ -211,7 +259,8 @@ module _ {R : List ℕ} {r n : ℕ} (w : ParameterLines R r n) where
 
   pub record Declaring (P : List Class) (i : ℕ) : Type 0 where
     pub within : i ≤ n
-    pub left : check-parameters of-check P (r + 1) (w .types) ≡ check-parameters of-check P (r + i + 1) (drop i (w .types))
+    pub left : check-parameters of-check P (r + 1) (w .types)
+        ≡ check-parameters of-check P (r + i + 1) (drop i (w .types))
 
   module _ (P : List Class) where
     pub declaring-start : Declaring P 0
@@ -224,22 +273,27 @@ module _ {R : List ℕ} {r n : ℕ} (w : ParameterLines R r n) where
       unfolding check-parameters
       one = let y = types-line i l in p .left ∙ rw (y .here, y .next, y .line .first, y .proper)
 
-      pub declaring-refused : (b : Bool) → b ≡ is-declared-type (world P) (type-of-number (getD R ((r + i) * 4 + 1) 0)) → b ≡ false
+      pub declaring-refused : (b : Bool)
+          → b ≡ is-declared-type (world P) (type-of-number (getD R ((r + i) * 4 + 1) 0)) → b ≡ false
           → Refused 4 (r + i + 1) ≡ headed (check-parameters of-check P (r + 1) (w .types))
       unfolding require
       declaring-refused b e z = refused-is _ 4 (r + i + 1) (one ∙ rw (← e, z))
 
-      pub declaring-step : (b : Bool) → b ≡ is-declared-type (world P) (type-of-number (getD R ((r + i) * 4 + 1) 0)) → b ≡ true → Declaring P (i + 1)
+      pub declaring-step : (b : Bool)
+          → b ≡ is-declared-type (world P) (type-of-number (getD R ((r + i) * 4 + 1) 0)) → b ≡ true
+          → Declaring P (i + 1)
       unfolding require
       declaring-step b e z = let d : r + (i + 1) + 1 ≡ r + i + 1 + 1 = omega arith in
           record { within = omega (arith, l); left = one ∙ rw (← e, z, d) }
 
-    pub declaring-end : (i : ℕ) → Declaring P i → n ≤ i → Passed ≡ headed (check-parameters of-check P (r + 1) (w .types))
+    pub declaring-end : (i : ℕ) → Declaring P i → n ≤ i
+        → Passed ≡ headed (check-parameters of-check P (r + 1) (w .types))
     unfolding check-parameters
     declaring-end i p l = passed-is _ (p .left ∙ rw (types-over i l))
 
 -- two types are the same where their numbers are
-pub same-number : (t u : DeclaredType) → type-of-number (type-number t) ≡ t → type-of-number (type-number u) ≡ u → type-number t ≡ type-number u → same-type t u ≡ true
+pub same-number : (t u : DeclaredType) → type-of-number (type-number t) ≡ t
+    → type-of-number (type-number u) ≡ u → type-number t ≡ type-number u → same-type t u ≡ true
 same-number t u p q e = go t u (sym p ∙ (ap type-of-number e ∙ q))
   where
     self : (t : DeclaredType) → same-type t t ≡ true
@@ -264,17 +318,25 @@ module _ {R : List ℕ} {p q n : ℕ} (v : ParameterLines R p n) (w : ParameterL
   matching-start = record { within = omega arith; left = refl }
 
   module _ (i : ℕ) (m : Matching i) (l : i < n) where
-    pair : same-types (v .types) (w .types) ≡ same-type (types-line v i l .t) (types-line w i l .t) && same-types (drop (i + 1) (v .types)) (drop (i + 1) (w .types))
+    pair : same-types (v .types) (w .types)
+        ≡ same-type (types-line v i l .t) (types-line w i l .t) && same-types (drop (i + 1) (v .types))
+        (drop (i + 1) (w .types))
     unfolding same-types
-    pair = let x = types-line v i l in let y = types-line w i l in m .left ∙ rw (x .here, x .next, y .here, y .next)
+    pair = let x = types-line v i l in let y = types-line w i l in m .left
+        ∙ rw (x .here, x .next, y .here, y .next)
 
-    pub matching-other : (getD R ((p + i) * 4 + 1) 0 ≡ getD R ((q + i) * 4 + 1) 0 → ⊥) → false ≡ same-types (v .types) (w .types)
+    pub matching-other : (getD R ((p + i) * 4 + 1) 0 ≡ getD R ((q + i) * 4 + 1) 0 → ⊥)
+        → false ≡ same-types (v .types) (w .types)
     matching-other n = let x = types-line v i l in let y = types-line w i l in
         sym (pair ∙ rw (other-number (x .t) (y .t) (λ e. n (x .line .first ∙ (e ∙ sym (y .line .first))))))
 
     pub matching-step : getD R ((p + i) * 4 + 1) 0 ≡ getD R ((q + i) * 4 + 1) 0 → Matching (i + 1)
     matching-step e = let x = types-line v i l in let y = types-line w i l in
-        record { within = omega (arith, l); left = pair ∙ rw (same-number (x .t) (y .t) (x .proper) (y .proper) (sym (x .line .first) ∙ (e ∙ y .line .first))) }
+        record {
+          within = omega (arith, l);
+          left = pair ∙ rw (same-number (x .t) (y .t) (x .proper) (y .proper)
+              (sym (x .line .first) ∙ (e ∙ y .line .first)));
+        }
 
   pub matching-end : (i : ℕ) → Matching i → n ≤ i → true ≡ same-types (v .types) (w .types)
   unfolding same-types

@@ -6,12 +6,14 @@ use mathlib.Core.List.{List, [], _∷_, _++_}
 use mathlib.Core.Logic.{inl, inr}
 use Prim.Native.Nat.{ℕ, zero, suc, _+_, _-_, _*_, _≤_, _<_}
 use native.Mathlib.Omega.{arith}
-use borrow.Author.Tests.{eqb-true, eqb-false, eq-eqb, ne-eqb, lt-ltb, le-ltb, le-leb, lt-leb, leb-true, leb-false}
+use borrow.Author.Tests.{eqb-true, eqb-false, eq-eqb, ne-eqb, lt-ltb, le-ltb, le-leb, lt-leb, leb-true}
+use borrow.Author.Tests.{leb-false}
 use lib.Dec.{eqb, leb, ltb}
 use lib.ListN.{length, getD, set, length-set, length-append}
 use lib.Seq.{getD-set-same, getD-set-other}
 use Rattle.language.specs.Lists.{nth, choice, nth-append-one, nth-lt, bind-option}
-use Rattle.language.specs.Tree.{class, type-of-number, Kind, plain, root, state, unknown, kind-number, kind-of-number, Field, Class}
+use Rattle.language.specs.Tree.{class, type-of-number, Kind, plain, root, state, unknown, kind-number}
+use Rattle.language.specs.Tree.{kind-of-number, Field, Class}
 use Rattle.language.specs.World.{place, is-declared-type}
 use Rattle.language.specs.Program.{class-at, is-plain, is-root, is-state, is-root-class, is-state-type, world}
 use Rattle.language.specs.Headings.{may-extend}
@@ -28,19 +30,24 @@ declared-bool P t e = rw (eq-eqb t 255 e)
 class-type : (t : ℕ) → (t ≡ 255 → ⊥) → type-of-number t ≡ class t
 class-type t n = rw (ne-eqb t 255 n)
 
-pub declared-class : (P : List Class) (t count : ℕ) → count ≡ length P → (t ≡ 255 → ⊥) → leb t count ≡ is-declared-type (world P) (type-of-number t)
+pub declared-class : (P : List Class) (t count : ℕ) → count ≡ length P → (t ≡ 255 → ⊥)
+    → leb t count ≡ is-declared-type (world P) (type-of-number t)
 unfolding world
 declared-class P t count e n = rw (ne-eqb t 255 n, e)
 
 -- a kind's number tells the kind
-pub kind-numbers : (k : Kind) → kind-of-number (kind-number k) ≡ k → (eqb (kind-number k) 1 ≡ is-root k) × (eqb (kind-number k) 2 ≡ is-state k)
+pub kind-numbers : (k : Kind) → kind-of-number (kind-number k) ≡ k
+    → (eqb (kind-number k) 1 ≡ is-root k) × (eqb (kind-number k) 2 ≡ is-state k)
 kind-numbers plain e = (refl, refl)
 kind-numbers root e = (refl, refl)
 kind-numbers state e = (refl, refl)
 kind-numbers (unknown zero) e = let z : _≡_ {A = ℕ} 0 1 = cc in absurd (omega arith)
 kind-numbers (unknown (suc zero)) e = let z : _≡_ {A = ℕ} 0 1 = cc in absurd (omega arith)
 kind-numbers (unknown (suc (suc zero))) e = let z : _≡_ {A = ℕ} 0 1 = cc in absurd (omega arith)
-kind-numbers (unknown (suc (suc (suc n)))) e = (ne-eqb (suc (suc (suc n))) 1 (λ q. omega (arith, q)), ne-eqb (suc (suc (suc n))) 2 (λ q. omega (arith, q)))
+kind-numbers (unknown (suc (suc (suc n)))) e = (
+  ne-eqb (suc (suc (suc n))) 1 (λ q. omega (arith, q)),
+  ne-eqb (suc (suc (suc n))) 2 (λ q. omega (arith, q)),
+)
 
 pub nth-some : {A : Type 0} (l : List A) (i : ℕ) → i < length l → (a : A) × (nth l i ≡ some a)
 unfolding nth
@@ -49,7 +56,8 @@ nth-some (x ∷ l) zero p = (x, refl)
 nth-some (x ∷ l) (suc i) p = nth-some l i (omega (arith, p))
 
 -- a number up to the count of classes is Object's or a class's
-pub class-or-object : {A : Type 0} (P : List Class) (k : ℕ) → k ≤ length P → (k ≡ 0 → A) → ((c : Class) → class-at P k ≡ some c → A) → A
+pub class-or-object : {A : Type 0} (P : List Class) (k : ℕ) → k ≤ length P → (k ≡ 0 → A)
+    → ((c : Class) → class-at P k ≡ some c → A) → A
 unfolding class-at
 class-or-object P zero p f g = f refl
 class-or-object P (suc k) p f g = let y = nth-some P k (omega (arith, p)) in g (y .0) (y .1)
@@ -97,9 +105,14 @@ module _ {T : List ℕ} {count : ℕ} (w : EffectReady T count) (c last : ℕ) w
     pub effect-index : c * 576 + 575 < length T
     effect-index = kind-index (w .lookups) c (omega (arith, l, w .count-is))
 
-    declared-effect : fault-of-effect (w .P) last c ≡ cond (eqb (getD T (c * 576 + 512) 0) 1 && ltb last c) 0 5
+    declared-effect : fault-of-effect (w .P) last c
+        ≡ cond (eqb (getD T (c * 576 + 512) 0) 1 && ltb last c) 0 5
     unfolding fault-of-effect world
-    declared-effect = rw (le-leb c (length (w .P)) (omega (arith, l, w .count-is)), root-entry (w .lookups) c (omega (arith, l, w .count-is)))
+    declared-effect = rw (
+      le-leb c (length (w .P)) (omega (arith, l, w .count-is)),
+      root-entry (w .lookups) c
+          (omega (arith, l, w .count-is)),
+    )
 
     pub effect-no-root : (getD T (c * 576 + 512) 0 ≡ 1 → ⊥) → 5 ≡ fault-of-effect (w .P) last c
     effect-no-root n = sym (declared-effect ∙ rw (ne-eqb (getD T (c * 576 + 512) 0) 1 n))
@@ -129,7 +142,8 @@ extend-low k a l = go k l
 pub extend-root : (k a : ℕ) → k ≡ 2 → a ≡ 1 → true ≡ may-extend (kind-of-number k) (some (kind-of-number a))
 extend-root k a e q = rw (e, q)
 
-pub extend-state : (k a : ℕ) → k ≡ 2 → (a ≡ 1 → ⊥) → eqb a 2 ≡ may-extend (kind-of-number k) (some (kind-of-number a))
+pub extend-state : (k a : ℕ) → k ≡ 2 → (a ≡ 1 → ⊥)
+    → eqb a 2 ≡ may-extend (kind-of-number k) (some (kind-of-number a))
 extend-state k a e n = rw e (go a n)
   where
     go : (a : ℕ) → (a ≡ 1 → ⊥) → eqb a 2 ≡ may-extend state (some (kind-of-number a))
@@ -138,7 +152,8 @@ extend-state k a e n = rw e (go a n)
     go (suc (suc zero)) n = refl
     go (suc (suc (suc a))) n = ne-eqb (suc (suc (suc a))) 2 (λ e. omega (arith, e))
 
-pub extend-none : (k a : ℕ) → 1 < k → (k ≡ 2 → ⊥) → false ≡ may-extend (kind-of-number k) (some (kind-of-number a))
+pub extend-none : (k a : ℕ) → 1 < k → (k ≡ 2 → ⊥)
+    → false ≡ may-extend (kind-of-number k) (some (kind-of-number a))
 extend-none zero a l n = absurd (omega (arith, l))
 extend-none (suc zero) a l n = absurd (omega (arith, l))
 extend-none (suc (suc zero)) a l n = absurd (n refl)
@@ -153,20 +168,26 @@ extend-object (unknown n) = refl
 
 -- ---- tables that agree
 
-pub block-same : {T : List ℕ} {base : ℕ} {fs : List Field} {rs : List ℕ} {ms : ℕ → Option ℕ} (T′ : List ℕ) → Block T base fs rs ms
+pub block-same : {T : List ℕ} {base : ℕ} {fs : List Field} {rs : List ℕ} {ms : ℕ → Option ℕ} (T′ : List ℕ)
+    → Block T base fs rs ms
     → ((i : ℕ) → base ≤ i → i < base + 576 → getD T′ i 0 ≡ getD T i 0) → Block T′ base fs rs ms
 block-same {base} {rs} T′ b f = record {
   places = λ n l. f (base + n) (omega arith) (omega (arith, l)) ∙ b .places n l;
   entries = λ m l. f (base + 256 + m) (omega arith) (omega (arith, l)) ∙ b .entries m l;
   count = f (base + 515) (omega arith) (omega arith) ∙ b .count;
-  rows = λ i r e. f (base + 520 + i) (omega arith) (omega (arith, nth-lt rs i r e, b .long, b .few)) ∙ b .rows i r e;
+  rows = λ i r e. f (base + 520 + i) (omega arith) (omega (arith, nth-lt rs i r e, b .long, b .few))
+      ∙ b .rows i r e;
   long = b .long;
   few = b .few;
 }
 
 pub filled-same : {P : List Class} {T : List ℕ} {k : ℕ} (T′ : List ℕ) → Filled P T k
     → ((i : ℕ) → k * 576 ≤ i → i < k * 576 + 576 → getD T′ i 0 ≡ getD T i 0) → Filled P T′ k
-filled-same {k} T′ b f = record { block = block-same T′ (b .block) f; root = f (k * 576 + 514) (omega arith) (omega arith) ∙ b .root }
+filled-same {k} T′ b f =
+    record {
+      block = block-same T′ (b .block) f;
+      root = f (k * 576 + 514) (omega arith) (omega arith) ∙ b .root;
+    }
 
 pub three : {A : Type 0} (j k : ℕ) → (j < k → A) → (j ≡ k → A) → (k < j → A) → A
 three {A} j k f g h = pick (leb j k) refl (eqb j k) refl
@@ -178,7 +199,8 @@ three {A} j k f g h = pick (leb j k) refl (eqb j k) refl
 
 -- a change in the block of class k that leaves kind and superclass
 pub lookups-same : {P : List Class} {k : ℕ} {T : List ℕ} (T′ : List ℕ) → Lookups P k T → length T′ ≡ length T
-    → ((i : ℕ) → i < k * 576 → getD T′ i 0 ≡ getD T i 0) → getD T′ (k * 576 + 512) 0 ≡ getD T (k * 576 + 512) 0
+    → ((i : ℕ) → i < k * 576 → getD T′ i 0 ≡ getD T i 0)
+    → getD T′ (k * 576 + 512) 0 ≡ getD T (k * 576 + 512) 0
     → getD T′ (k * 576 + 513) 0 ≡ getD T (k * 576 + 513) 0
     → ((i : ℕ) → k * 576 + 576 ≤ i → getD T′ i 0 ≡ getD T i 0) → Lookups P k T′
 lookups-same {k} {T} T′ L e low kind over high = record {
@@ -193,13 +215,16 @@ lookups-same {k} {T} T′ L e low kind over high = record {
 }
   where
     at-kind : (j : ℕ) → getD T′ (j * 576 + 512) 0 ≡ getD T (j * 576 + 512) 0
-    at-kind j = three j k (λ l. low (j * 576 + 512) (omega (arith, l))) (λ q. rw q kind) (λ l. high (j * 576 + 512) (omega (arith, l)))
+    at-kind j = three j k (λ l. low (j * 576 + 512) (omega (arith, l))) (λ q. rw q kind)
+        (λ l. high (j * 576 + 512) (omega (arith, l)))
 
     at-super : (j : ℕ) → getD T′ (j * 576 + 513) 0 ≡ getD T (j * 576 + 513) 0
-    at-super j = three j k (λ l. low (j * 576 + 513) (omega (arith, l))) (λ q. rw q over) (λ l. high (j * 576 + 513) (omega (arith, l)))
+    at-super j = three j k (λ l. low (j * 576 + 513) (omega (arith, l))) (λ q. rw q over)
+        (λ l. high (j * 576 + 513) (omega (arith, l)))
 
 -- one number of the block of class k is set
-pub lookups-set : {P : List Class} {k : ℕ} {T : List ℕ} → Lookups P k T → (x v : ℕ) → x < 576 → (x ≡ 512 → ⊥) → (x ≡ 513 → ⊥) → Lookups P k (set T (k * 576 + x) v)
+pub lookups-set : {P : List Class} {k : ℕ} {T : List ℕ} → Lookups P k T → (x v : ℕ) → x < 576 → (x ≡ 512 → ⊥)
+    → (x ≡ 513 → ⊥) → Lookups P k (set T (k * 576 + x) v)
 lookups-set {k} {T} L x v h m n = lookups-same (set T (k * 576 + x) v) L (length-set T (k * 576 + x) v)
     (λ i l. getD-set-other T (k * 576 + x) i v 0 (λ e. omega (arith, l, e)))
     (getD-set-other T (k * 576 + x) (k * 576 + 512) v 0 (λ e. m (omega (arith, e))))
@@ -208,80 +233,112 @@ lookups-set {k} {T} L x v h m n = lookups-same (set T (k * 576 + x) v) L (length
 
 -- ---- fields
 
-place-other : (f : ℕ) (fs : List Field) (g : Field) → eqb (g .name) f ≡ false → place f (fs ++ (g ∷ [])) ≡ place f fs
+place-other : (f : ℕ) (fs : List Field) (g : Field) → eqb (g .name) f ≡ false
+    → place f (fs ++ (g ∷ [])) ≡ place f fs
 unfolding place
 place-other f [] g e = rw e
 place-other f (x ∷ fs) g e = rw (place-other f fs g e)
 
-place-new : (g : Field) (fs : List Field) → place (g .name) fs ≡ none → place (g .name) (fs ++ (g ∷ [])) ≡ some (length fs)
+place-new : (g : Field) (fs : List Field) → place (g .name) fs ≡ none
+    → place (g .name) (fs ++ (g ∷ [])) ≡ some (length fs)
 unfolding place
 place-new g [] e = rw (eq-eqb (g .name) (g .name) refl)
 place-new g (x ∷ fs) e = go (eqb (x .name) (g .name)) refl e (λ q. place-new g fs q)
   where
-    rest : (o : Option ℕ) → place (g .name) fs ≡ o → bind-option o (λ i. some (suc i)) ≡ none → place (g .name) fs ≡ none
+    rest : (o : Option ℕ) → place (g .name) fs ≡ o → bind-option o (λ i. some (suc i)) ≡ none
+        → place (g .name) fs ≡ none
     rest none q h = q
     rest (some i) q h = let z : _≡_ {A = ℕ} 0 1 = cc in absurd (omega arith)
 
-    go : (b : Bool) → eqb (x .name) (g .name) ≡ b → choice b (λ _. some 0) (λ _. bind-option (place (g .name) fs) λ i. some (suc i)) ≡ none
+    go : (b : Bool) → eqb (x .name) (g .name) ≡ b
+        → choice b (λ _. some 0) (λ _. bind-option (place (g .name) fs) λ i. some (suc i)) ≡ none
         → (place (g .name) fs ≡ none → place (g .name) (fs ++ (g ∷ [])) ≡ some (length fs))
-        → choice b (λ _. some 0) (λ _. bind-option (place (g .name) (fs ++ (g ∷ []))) λ i. some (suc i)) ≡ some (suc (length fs))
+        → choice b (λ _. some 0) (λ _. bind-option (place (g .name) (fs ++ (g ∷ []))) λ i. some (suc i))
+        ≡ some (suc (length fs))
     go true q h ih = let z : _≡_ {A = ℕ} 0 1 = cc in absurd (omega arith)
     go false q h ih = rw (ih (rest (place (g .name) fs) refl h))
 
-module _ {P : List Class} {k : ℕ} {T : List ℕ} {fs : List Field} {rs : List ℕ} {ms : ℕ → Option ℕ} (W : Working P k T fs rs ms) where
+module _ {P : List Class} {k : ℕ} {T : List ℕ} {fs : List Field} {rs : List ℕ} {ms : ℕ → Option ℕ}
+    (W : Working P k T fs rs ms) where
   pub working-index : (x : ℕ) → x < 576 → k * 576 + x < length T
   working-index x l = omega (arith, l, W .within, W .lookups .long)
 
   -- what a new field's numbers make of the table
-  module _ (g : Field) (r : ℕ) (h : g .name ≤ 255) (room : length fs < 17) (new : place (g .name) fs ≡ none) where
-    abbrev pub entered : List ℕ
-    entered = set (set (set T (k * 576 + g .name) (length fs + 1)) (k * 576 + (520 + length fs)) r) (k * 576 + 515) (length fs + 1)
+  module _ (g : Field) (r : ℕ) (h : g .name ≤ 255) (room : length fs < 17) (new : place (g .name) fs ≡ none)
+    where
+      abbrev pub entered : List ℕ
+      entered = set (set (set T (k * 576 + g .name) (length fs + 1)) (k * 576 + (520 + length fs)) r)
+          (k * 576 + 515) (length fs + 1)
 
-    other : (i : ℕ) → (i ≡ k * 576 + g .name → ⊥) → (i ≡ k * 576 + (520 + length fs) → ⊥) → (i ≡ k * 576 + 515 → ⊥) → getD entered i 0 ≡ getD T i 0
-    other i a b c = getD-set-other (set (set T (k * 576 + g .name) (length fs + 1)) (k * 576 + (520 + length fs)) r) (k * 576 + 515) i (length fs + 1) 0 c
-        ∙ (getD-set-other (set T (k * 576 + g .name) (length fs + 1)) (k * 576 + (520 + length fs)) i r 0 b
-        ∙ getD-set-other T (k * 576 + g .name) i (length fs + 1) 0 a)
+      other : (i : ℕ) → (i ≡ k * 576 + g .name → ⊥) → (i ≡ k * 576 + (520 + length fs) → ⊥)
+          → (i ≡ k * 576 + 515 → ⊥) → getD entered i 0 ≡ getD T i 0
+      other i a b c = getD-set-other (set (set T (k * 576 + g .name) (length fs + 1))
+          (k * 576 + (520 + length fs)) r) (k * 576 + 515) i (length fs + 1) 0 c
+          ∙ (getD-set-other (set T (k * 576 + g .name) (length fs + 1)) (k * 576 + (520 + length fs)) i r 0 b
+          ∙ getD-set-other T (k * 576 + g .name) i (length fs + 1) 0 a)
 
-    at-name : getD entered (k * 576 + g .name) 0 ≡ length fs + 1
-    at-name = getD-set-other (set (set T (k * 576 + g .name) (length fs + 1)) (k * 576 + (520 + length fs)) r) (k * 576 + 515) (k * 576 + g .name) (length fs + 1) 0 (λ e. omega (arith, e, h))
-        ∙ (getD-set-other (set T (k * 576 + g .name) (length fs + 1)) (k * 576 + (520 + length fs)) (k * 576 + g .name) r 0 (λ e. omega (arith, e, h))
-        ∙ getD-set-same T (k * 576 + g .name) (length fs + 1) 0 (working-index (g .name) (omega (arith, h))))
+      at-name : getD entered (k * 576 + g .name) 0 ≡ length fs + 1
+      at-name = getD-set-other (set (set T (k * 576 + g .name) (length fs + 1)) (k * 576 + (520 + length fs)) r)
+          (k * 576 + 515) (k * 576 + g .name) (length fs + 1) 0 (λ e. omega (arith, e, h))
+          ∙ (getD-set-other (set T (k * 576 + g .name) (length fs + 1)) (k * 576 + (520 + length fs))
+          (k * 576 + g .name) r 0 (λ e. omega (arith, e, h))
+          ∙ getD-set-same T (k * 576 + g .name) (length fs + 1) 0 (working-index (g .name) (omega (arith, h))))
 
-    at-row : getD entered (k * 576 + (520 + length fs)) 0 ≡ r
-    at-row = getD-set-other (set (set T (k * 576 + g .name) (length fs + 1)) (k * 576 + (520 + length fs)) r) (k * 576 + 515) (k * 576 + (520 + length fs)) (length fs + 1) 0 (λ e. omega (arith, e))
-        ∙ getD-set-same (set T (k * 576 + g .name) (length fs + 1)) (k * 576 + (520 + length fs)) r 0
-        (omega (arith, length-set T (k * 576 + g .name) (length fs + 1), working-index (520 + length fs) (omega (arith, room))))
+      at-row : getD entered (k * 576 + (520 + length fs)) 0 ≡ r
+      at-row = getD-set-other (set (set T (k * 576 + g .name) (length fs + 1)) (k * 576 + (520 + length fs)) r)
+          (k * 576 + 515) (k * 576 + (520 + length fs)) (length fs + 1) 0 (λ e. omega (arith, e))
+          ∙ getD-set-same (set T (k * 576 + g .name) (length fs + 1)) (k * 576 + (520 + length fs)) r 0
+          (omega (
+            arith,
+            length-set T (k * 576 + g .name) (length fs + 1),
+            working-index (520 + length fs) (omega (arith, room)),
+          ))
 
-    at-count : getD entered (k * 576 + 515) 0 ≡ length fs + 1
-    at-count = getD-set-same (set (set T (k * 576 + g .name) (length fs + 1)) (k * 576 + (520 + length fs)) r) (k * 576 + 515) (length fs + 1) 0
-        (omega (arith, length-set (set T (k * 576 + g .name) (length fs + 1)) (k * 576 + (520 + length fs)) r, length-set T (k * 576 + g .name) (length fs + 1), working-index 515 (omega arith)))
+      at-count : getD entered (k * 576 + 515) 0 ≡ length fs + 1
+      at-count = getD-set-same (set (set T (k * 576 + g .name) (length fs + 1)) (k * 576 + (520 + length fs)) r)
+          (k * 576 + 515) (length fs + 1) 0
+          (omega (
+            arith,
+            length-set (set T (k * 576 + g .name) (length fs + 1)) (k * 576 + (520 + length fs)) r,
+            length-set T (k * 576 + g .name) (length fs + 1),
+            working-index 515 (omega arith),
+          ))
 
-    entered-place : (f : ℕ) → f < 256 → getD entered (k * 576 + f) 0 ≡ stored-place (place f (fs ++ (g ∷ [])))
-    entered-place f l = go (eqb (g .name) f) refl
-      where
-        go : (b : Bool) → eqb (g .name) f ≡ b → getD entered (k * 576 + f) 0 ≡ stored-place (place f (fs ++ (g ∷ [])))
-        go true q = let e = eqb-true (g .name) f q in let s : length fs + 1 ≡ suc (length fs) = omega arith in rw (← e) (at-name ∙ rw (place-new g fs new, s))
-        go false q = other (k * 576 + f) (λ e. eqb-false (g .name) f q (omega (arith, e))) (λ e. omega (arith, e, l)) (λ e. omega (arith, e, l))
-            ∙ (W .block .places f l ∙ rw (place-other f fs g q))
+      entered-place : (f : ℕ) → f < 256 → getD entered (k * 576 + f) 0 ≡ stored-place (place f (fs ++ (g ∷ [])))
+      entered-place f l = go (eqb (g .name) f) refl
+        where
+          go : (b : Bool) → eqb (g .name) f ≡ b
+              → getD entered (k * 576 + f) 0 ≡ stored-place (place f (fs ++ (g ∷ [])))
+          go true q = let e = eqb-true (g .name) f q in let s : length fs + 1 ≡ suc (length fs) = omega arith in
+              rw (← e) (at-name ∙ rw (place-new g fs new, s))
+          go false q = other (k * 576 + f) (λ e. eqb-false (g .name) f q (omega (arith, e)))
+              (λ e. omega (arith, e, l)) (λ e. omega (arith, e, l))
+              ∙ (W .block .places f l ∙ rw (place-other f fs g q))
 
-    entered-row : (i q : ℕ) → nth (rs ++ (r ∷ [])) i ≡ some q → getD entered (k * 576 + 520 + i) 0 ≡ q
-    entered-row i q e = elim (nth-append-one rs r i q e) [
-      | inl p ↦ (let z = nth-lt rs i q p in other (k * 576 + 520 + i) (λ d. omega (arith, d, h)) (λ d. omega (arith, d, z, W .block .long)) (λ d. omega (arith, d)) ∙ W .block .rows i q p)
-      | inr p ↦ (let d : k * 576 + 520 + i ≡ k * 576 + (520 + length fs) = omega (arith, p .0, W .block .long) in rw d (at-row ∙ p .1))
-    ]
+      entered-row : (i q : ℕ) → nth (rs ++ (r ∷ [])) i ≡ some q → getD entered (k * 576 + 520 + i) 0 ≡ q
+      entered-row i q e = elim (nth-append-one rs r i q e) [
+        | inl p ↦ (let z = nth-lt rs i q p in other (k * 576 + 520 + i) (λ d. omega (arith, d, h))
+            (λ d. omega (arith, d, z, W .block .long)) (λ d. omega (arith, d)) ∙ W .block .rows i q p)
+        | inr p ↦ (let d : k * 576 + 520 + i ≡ k * 576 + (520 + length fs) = omega
+            (arith, p .0, W .block .long) in rw d (at-row ∙ p .1))
+      ]
 
-    pub working-field : (T′ : List ℕ) → T′ ≡ entered → Working P k T′ (fs ++ (g ∷ [])) (rs ++ (r ∷ [])) ms
-    working-field T′ e = rw e (record {
-      lookups = lookups-set (lookups-set (lookups-set (W .lookups) (g .name) (length fs + 1) (omega (arith, h)) (λ q. omega (arith, q, h)) (λ q. omega (arith, q, h)))
-          (520 + length fs) r (omega (arith, room)) (λ q. omega (arith, q)) (λ q. omega (arith, q))) 515 (length fs + 1) (omega arith) (λ q. omega (arith, q)) (λ q. omega (arith, q));
-      within = W .within;
-      block = record {
-        places = entered-place;
-        entries = λ m l. other (k * 576 + 256 + m) (λ d. omega (arith, d, h)) (λ d. omega (arith, d, l)) (λ d. omega (arith, d, l)) ∙ W .block .entries m l;
-        count = at-count ∙ sym (length-append fs (g ∷ []));
-        rows = entered-row;
-        long = length-append rs (r ∷ []) ∙ (omega (arith, W .block .long, length-append fs (g ∷ [])));
-        few = omega (arith, length-append fs (g ∷ []), room);
-      };
-      root = other (k * 576 + 514) (λ d. omega (arith, d, h)) (λ d. omega (arith, d)) (λ d. omega (arith, d)) ∙ W .root;
-    })
+      pub working-field : (T′ : List ℕ) → T′ ≡ entered → Working P k T′ (fs ++ (g ∷ [])) (rs ++ (r ∷ [])) ms
+      working-field T′ e = rw e (record {
+        lookups = lookups-set (lookups-set (lookups-set (W .lookups) (g .name) (length fs + 1)
+            (omega (arith, h)) (λ q. omega (arith, q, h)) (λ q. omega (arith, q, h)))
+            (520 + length fs) r (omega (arith, room)) (λ q. omega (arith, q)) (λ q. omega (arith, q))) 515
+            (length fs + 1) (omega arith) (λ q. omega (arith, q)) (λ q. omega (arith, q));
+        within = W .within;
+        block = record {
+          places = entered-place;
+          entries = λ m l. other (k * 576 + 256 + m) (λ d. omega (arith, d, h)) (λ d. omega (arith, d, l))
+              (λ d. omega (arith, d, l)) ∙ W .block .entries m l;
+          count = at-count ∙ sym (length-append fs (g ∷ []));
+          rows = entered-row;
+          long = length-append rs (r ∷ []) ∙ (omega (arith, W .block .long, length-append fs (g ∷ [])));
+          few = omega (arith, length-append fs (g ∷ []), room);
+        };
+        root = other (k * 576 + 514) (λ d. omega (arith, d, h)) (λ d. omega (arith, d)) (λ d. omega (arith, d))
+            ∙ W .root;
+      })

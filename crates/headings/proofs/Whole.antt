@@ -10,7 +10,7 @@ use lib.ListN.{length, getD, set, take, length-set}
 use lib.Seq.{getD-set-same, getD-set-other}
 use Rattle.language.specs.Limits.{of-check}
 use Rattle.language.specs.Lists.{nth, Never, inj}
-use Rattle.language.specs.Results.{passed, bind-checked}
+use Rattle.language.specs.Results.{bind-checked}
 use Rattle.language.specs.Tree.{Class, class-lines, classes-lines}
 use Rattle.language.specs.Effects.{effect-of, join}
 use Rattle.language.specs.Program.{class-at}
@@ -22,17 +22,21 @@ use Rattle.headings.specs.declared.Headed.the-variants.{Passed, Refused}
 use Rattle.headings.specs.Blocks.{Lookups}
 use Rattle.headings.specs.HeadingLines.{ClassAt, ClassesAt, classes-more}
 use Rattle.headings.specs.Ready.{Cleared, ClassHere, ClassReady, ReadReady, ClassesReady, HeadingsReady}
-use Rattle.headings.proofs.Checks.{bind-passed, bind-refused, refused-is, passed-is, is-passed, is-refused}
+use Rattle.headings.proofs.Checks.{bind-passed, bind-refused, refused-is, passed-is, is-passed}
+use Rattle.headings.proofs.Checks.{is-refused}
 use Rattle.headings.proofs.Lines.{below-or}
 use Rattle.headings.proofs.Classes.{above-of}
 
-lines-next : (cs : List Class) (i : ℕ) (c : Class) → nth cs i ≡ some c → classes-lines (take (suc i) cs) ≡ classes-lines (take i cs) + class-lines c
+lines-next : (cs : List Class) (i : ℕ) (c : Class) → nth cs i ≡ some c
+    → classes-lines (take (suc i) cs) ≡ classes-lines (take i cs) + class-lines c
 unfolding nth classes-lines
 lines-next [] i c e = absurd (Never e)
-lines-next (x ∷ cs) zero c e = let q : class-lines x ≡ class-lines c = ap class-lines (inj e) in omega (arith, q)
+lines-next (x ∷ cs) zero c e = let q : class-lines x ≡ class-lines c = ap class-lines (inj e) in
+    omega (arith, q)
 lines-next (x ∷ cs) (suc i) c e = omega (arith, lines-next cs i c e)
 
-row-next : (P : List Class) (k : ℕ) (c : Class) → class-at P k ≡ some c → class-row P (k + 1) ≡ class-row P k + class-lines c
+row-next : (P : List Class) (k : ℕ) (c : Class) → class-at P k ≡ some c
+    → class-row P (k + 1) ≡ class-row P k + class-lines c
 unfolding class-at class-row
 row-next P zero c e = absurd (Never e)
 row-next P (suc k) c e =
@@ -72,7 +76,8 @@ module _ {R E T₀ A₀ : List ℕ} {count : ℕ} (w : ClassesReady R E T₀ A�
     pub left : k + length rest ≡ length (w .classed .classes) + 1
     pub rest-is : (i : ℕ) → class-at (w .classed .classes) (k + i) ≡ nth rest i
     pub row-is : r ≡ class-row (w .classed .classes) k
-    pub answer : headings of-check (w .classed .classes) ≡ check-classes of-check (w .classed .classes) k (r + 1) rest
+    pub answer : headings of-check (w .classed .classes)
+        ≡ check-classes of-check (w .classed .classes) k (r + 1) rest
     pub lookups : Lookups (w .classed .classes) k T
     pub aboves : (j : ℕ) → j < k → getD A j 0 ≡ above (w .classed .classes) j
     pub long-above : length A ≡ length A₀
@@ -93,49 +98,77 @@ module _ {R E T₀ A₀ : List ℕ} {count : ℕ} (w : ClassesReady R E T₀ A�
 
   module _ {T A : List ℕ} {k r : ℕ} (p : Going T A k r) where
     module _ (l : k ≤ count) where
-      pub next : (c : Class) × (ds : List Class) × (p .rest ≡ c ∷ ds) × ClassAt R E c r × ClassesAt R E ds (r + class-lines c)
+      pub next : (c : Class) × (ds : List Class) × (p .rest ≡ c ∷ ds) × ClassAt R E c r
+          × ClassesAt R E ds (r + class-lines c)
       next = classes-some (p .rest) (p .here) (omega (arith, l, p .left, w .count-is))
 
       pub this : class-at (w .classed .classes) k ≡ some (next .0)
       unfolding nth
-      this = let e : k ≡ k + 0 = omega arith in ap (class-at (w .classed .classes)) e ∙ (p .rest-is 0 ∙ ap (λ (l : List Class). nth l 0) (next .2))
+      this = let e : k ≡ k + 0 = omega arith in ap (class-at (w .classed .classes)) e
+          ∙ (p .rest-is 0 ∙ ap (λ (l : List Class). nth l 0) (next .2))
 
       rest-on : (i : ℕ) → class-at (w .classed .classes) (k + 1 + i) ≡ nth (next .1) i
       unfolding nth
-      rest-on i = let e : k + 1 + i ≡ k + suc i = omega arith in ap (class-at (w .classed .classes)) e ∙ (p .rest-is (suc i) ∙ ap (λ (l : List Class). nth l (suc i)) (next .2))
+      rest-on i = let e : k + 1 + i ≡ k + suc i = omega arith in ap (class-at (w .classed .classes)) e
+          ∙ (p .rest-is (suc i) ∙ ap (λ (l : List Class). nth l (suc i)) (next .2))
 
       abbrev pub going-ready : ClassReady R E T k r count
-      going-ready = record { classed = w .classed; lookups = p .lookups; one = next .0; is = this; at = next .3; row-is = p .row-is; count-is = w .count-is }
+      going-ready = record {
+        classed = w .classed;
+        lookups = p .lookups;
+        one = next .0;
+        is = this;
+        at =
+            next .3;
+        row-is = p .row-is;
+        count-is = w .count-is;
+      }
 
       abbrev pub going-here : ClassHere R E r
       going-here = record { one = next .0; at = next .3; short = w .classed .short }
 
       pub going-index : (r * 4 + 3 < length R) × (length R ≤ 240000) × (k < length A) × (k ≤ 64)
-      going-index = (next .3 .line .within, w .classed .short, omega (arith, l, w .count-is, w .long-above, p .long-above), omega (arith, l, w .count-is, w .classed .few))
+      going-index = (
+        next .3 .line .within,
+        w .classed .short,
+        omega
+            (arith, l, w .count-is, w .long-above, p .long-above),
+        omega (arith, l, w .count-is, w .classed .few),
+      )
 
-      on : headings of-check (w .classed .classes) ≡ bind-checked (check-class of-check (w .classed .classes) k (r + 1) (next .0)) (λ _.
+      on : headings of-check (w .classed .classes)
+          ≡ bind-checked (check-class of-check (w .classed .classes) k (r + 1) (next .0)) (λ _.
           check-classes of-check (w .classed .classes) (suc k) (r + 1 + class-lines (next .0)) (next .1))
       unfolding check-classes
       on = p .answer ∙ ap (check-classes of-check (w .classed .classes) k (r + 1)) (next .2)
 
       module _ (a : Headed) (T′ : List ℕ) (f : (v : ClassReady R E T k r count)
-          → (a ≡ headed (check-class of-check (v .classed .classes) k (r + 1) (v .one))) × (a ≡ Passed → Lookups (v .classed .classes) (k + 1) T′)) where
+          → (a ≡ headed (check-class of-check (v .classed .classes) k (r + 1) (v .one)))
+          × (a ≡ Passed → Lookups (v .classed .classes) (k + 1) T′)) where
         pub going-refused : (m q : ℕ) → a ≡ Refused m q → a ≡ headed (headings of-check (w .classed .classes))
-        going-refused m q e = e ∙ refused-is _ m q (on ∙ bind-refused _ _ m q (is-refused _ m q (sym e ∙ f going-ready .0)))
+        going-refused m q e = e
+            ∙ refused-is _ m q (on ∙ bind-refused _ _ m q (is-refused _ m q (sym e ∙ f going-ready .0)))
 
         module _ (d : a ≡ Passed) where
           pub super-earlier : getD R (r * 4 + 2) 0 < k
-          super-earlier = omega (arith, f going-ready .1 d .earlier k (next .0) (omega arith) this, next .3 .line .second)
+          super-earlier = omega (
+            arith,
+            f going-ready .1 d .earlier k (next .0) (omega arith) this,
+            next .3 .line .second,
+          )
 
-          above-is : (b : ℕ) → b ≡ effect-of k → bitOr b (getD A (getD R (r * 4 + 2) 0) 0) ≡ above (w .classed .classes) k
+          above-is : (b : ℕ) → b ≡ effect-of k
+              → bitOr b (getD A (getD R (r * 4 + 2) 0) 0) ≡ above (w .classed .classes) k
           unfolding join
           above-is b e =
               let s = next .3 .line .second in
               let c = next .0 in
               let h : c .super < k = omega (arith, super-earlier, s) in
-              rw (e, p .aboves (getD R (r * 4 + 2) 0) super-earlier, s) (sym (above-of (w .classed .classes) k (p .lookups .earlier) k c this h (omega arith)))
+              rw (e, p .aboves (getD R (r * 4 + 2) 0) super-earlier, s)
+              (sym (above-of (w .classed .classes) k (p .lookups .earlier) k c this h (omega arith)))
 
-          pub going-step : (b : ℕ) → b ≡ effect-of k → (n : ℕ) → ((v : ClassHere R E r) → n ≡ r + class-lines (v .one))
+          pub going-step : (b : ℕ) → b ≡ effect-of k → (n : ℕ)
+              → ((v : ClassHere R E r) → n ≡ r + class-lines (v .one))
               → Going T′ (set A k (bitOr b (getD A (getD R (r * 4 + 2) 0) 0))) (k + 1) n
           going-step b e n g =
               let x = bitOr b (getD A (getD R (r * 4 + 2) 0) 0) in
@@ -152,7 +185,9 @@ module _ {R E T₀ A₀ : List ℕ} {count : ℕ} (w : ClassesReady R E T₀ A�
                 lookups = f going-ready .1 d;
                 aboves = λ j h. ⊎-elim
                     (λ y. getD-set-other A k j x 0 (λ z. omega (arith, z, y)) ∙ p .aboves j y)
-                    (λ y. ap (λ (j : ℕ). getD (set A k x) j 0) y ∙ (getD-set-same A k x 0 (going-index .2) ∙ (above-is b e ∙ ap (above (w .classed .classes)) (sym y))))
+                    (λ y. ap (λ (j : ℕ). getD (set A k x) j 0) y
+                    ∙ (getD-set-same A k x 0 (going-index .2)
+                    ∙ (above-is b e ∙ ap (above (w .classed .classes)) (sym y))))
                     (below-or j k (omega (arith, h)));
                 long-above = length-set A k x ∙ p .long-above;
               }
@@ -168,7 +203,9 @@ module _ {R E T₀ A₀ : List ℕ} {count : ℕ} (w : ClassesReady R E T₀ A�
       pub going-done : ClassTables (w .classed .classes) T A
       going-done =
           let e : k ≡ length (w .classed .classes) + 1 = omega (arith, p .left, ap length over) in
-          tables-of (w .classed .classes) T A (subst (λ (n : ℕ). Lookups (w .classed .classes) n T) e (p .lookups)) (omega (arith, w .long-above, p .long-above))
+          tables-of (w .classed .classes) T A
+          (subst (λ (n : ℕ). Lookups (w .classed .classes) n T) e (p .lookups))
+          (omega (arith, w .long-above, p .long-above))
           (λ j h. p .aboves j (omega (arith, h, e)))
 
 -- ---- the pass
@@ -184,15 +221,17 @@ module _ {R E T A : List ℕ} (w : HeadingsReady R E T A) where
         long : (length (w .classed .classes) + 1) * 576 ≤ length T₁
         long = omega (arith, w .long, c .long)
 
-    module _ (n : ℕ) (T₂ : List ℕ) (f : (v : ReadReady R E T₁) → (n ≡ length (v .classed .classes)) × Lookups (v .classed .classes) 1 T₂) where
-      abbrev pub classes-ready : ClassesReady R E T₂ (set A 0 0) n
-      classes-ready = record {
-        classed = w .classed;
-        lookups = f read-ready .1;
-        long-above = long;
-        object = getD-set-same A 0 0 0 (pass-long .1);
-        count-is = f read-ready .0;
-      }
-        where
-          long : length (w .classed .classes) + 1 ≤ length (set A 0 0)
-          long = omega (arith, w .long-above, length-set A 0 0)
+    module _ (n : ℕ) (T₂ : List ℕ)
+        (f : (v : ReadReady R E T₁) → (n ≡ length (v .classed .classes)) × Lookups (v .classed .classes) 1 T₂)
+      where
+        abbrev pub classes-ready : ClassesReady R E T₂ (set A 0 0) n
+        classes-ready = record {
+          classed = w .classed;
+          lookups = f read-ready .1;
+          long-above = long;
+          object = getD-set-same A 0 0 0 (pass-long .1);
+          count-is = f read-ready .0;
+        }
+          where
+            long : length (w .classed .classes) + 1 ≤ length (set A 0 0)
+            long = omega (arith, w .long-above, length-set A 0 0)

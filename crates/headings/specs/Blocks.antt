@@ -11,13 +11,14 @@ use Rattle.language.specs.Program.{class-at, world}
 use Rattle.language.specs.ClassTables.{stored-place, field-rows, method-row}
 
 -- The block at a base holds fields by name, rows of methods by name, the count of fields and the fields' rows.
-pub record Block (T : List ℕ) (base : ℕ) (fs : List Field) (rs : List ℕ) (methods : ℕ → Option ℕ) : Type 0 where
-  pub places : (f : ℕ) → f < 256 → getD T (base + f) 0 ≡ stored-place (place f fs)
-  pub entries : (m : ℕ) → m < 256 → getD T (base + 256 + m) 0 ≡ stored-place (methods m)
-  pub count : getD T (base + 515) 0 ≡ length fs
-  pub rows : (i r : ℕ) → nth rs i ≡ some r → getD T (base + 520 + i) 0 ≡ r
-  pub long : length rs ≡ length fs
-  pub few : length fs ≤ 17
+pub record Block (T : List ℕ) (base : ℕ) (fs : List Field) (rs : List ℕ) (methods : ℕ → Option ℕ) : Type 0
+  where
+    pub places : (f : ℕ) → f < 256 → getD T (base + f) 0 ≡ stored-place (place f fs)
+    pub entries : (m : ℕ) → m < 256 → getD T (base + 256 + m) 0 ≡ stored-place (methods m)
+    pub count : getD T (base + 515) 0 ≡ length fs
+    pub rows : (i r : ℕ) → nth rs i ≡ some r → getD T (base + 520 + i) 0 ≡ r
+    pub long : length rs ≡ length fs
+    pub few : length fs ≤ 17
 
 -- The block of a class is filled.
 pub record Filled (P : List Class) (T : List ℕ) (k : ℕ) : Type 0 where
@@ -36,7 +37,8 @@ pub record Lookups (P : List Class) (n : ℕ) (T : List ℕ) : Type 0 where
   pub blocks : (k : ℕ) → k < n → Filled P T k
 
 -- The block of class k is in the making.
-pub record Working (P : List Class) (k : ℕ) (T : List ℕ) (fs : List Field) (rs : List ℕ) (methods : ℕ → Option ℕ) : Type 0 where
+pub record Working (P : List Class) (k : ℕ) (T : List ℕ) (fs : List Field) (rs : List ℕ)
+    (methods : ℕ → Option ℕ) : Type 0 where
   pub lookups : Lookups P k T
   pub within : k ≤ length P
   pub block : Block T (k * 576) fs rs methods

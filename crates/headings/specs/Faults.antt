@@ -30,7 +30,8 @@ module _ (P : List Class) where
   unfoldable pub fault-of-method : ℕ → List Declaration → Declaration → ℕ
   fault-of-method super before m =
       cond (is-declared-type (world P) (m .result))
-      (cond (is-some (declared before (m .name))) 4 (cond (may-override m (world P .method super (m .name))) 0 6))
+      (cond (is-some (declared before (m .name))) 4
+      (cond (may-override m (world P .method super (m .name))) 0 6))
       4
 
   -- Of an X line after one that names `last`.

@@ -20,13 +20,16 @@ pub record Run (R : List ℕ) (r l : ℕ) : Type 0 where
 -- X lines, then a block of n rows.
 pub data EffectsAt (R E : List ℕ) (n : ℕ) : List ℕ → ℕ → Type 0 where
   effects-none : {r : ℕ} (v k : ℕ) → NodeAt R E r B-block v k n → EffectsAt R E n [] r
-  effects-more : {r c : ℕ} {cs : List ℕ} → RowAt R r X-effect c 0 → EffectsAt R E n cs (r + 1) → EffectsAt R E n (c ∷ cs) r
+  effects-more : {r c : ℕ} {cs : List ℕ} → RowAt R r X-effect c 0 → EffectsAt R E n cs (r + 1)
+      → EffectsAt R E n (c ∷ cs) r
 
 -- P lines, then the X lines and the block.
 pub data ParametersAt (R E : List ℕ) (n : ℕ) (cs : List ℕ) : List DeclaredType → ℕ → Type 0 where
   parameters-none : {r : ℕ} → EffectsAt R E n cs r → ParametersAt R E n cs [] r
-  parameters-more : {r : ℕ} {t : DeclaredType} {ts : List DeclaredType} → RowAt R r P-parameter (type-number t) 0
-      → type-of-number (type-number t) ≡ t → ParametersAt R E n cs ts (r + 1) → ParametersAt R E n cs (t ∷ ts) r
+  parameters-more : {r : ℕ} {t : DeclaredType} {ts : List DeclaredType}
+      → RowAt R r P-parameter (type-number t) 0
+      → type-of-number (type-number t) ≡ t → ParametersAt R E n cs ts (r + 1)
+      → ParametersAt R E n cs (t ∷ ts) r
 
 -- A method.
 pub record MethodAt (R E : List ℕ) (m : Declaration) (r : ℕ) : Type 0 where
@@ -55,7 +58,8 @@ pub record FieldAt (R : List ℕ) (f : Field) (r : ℕ) : Type 0 where
 -- The fields of a class, then its methods.
 pub data FieldsAt (R E : List ℕ) (ms : List Declaration) : List Field → ℕ → Type 0 where
   fields-none : {r : ℕ} → MethodsAt R E ms r → FieldsAt R E ms [] r
-  fields-more : {r : ℕ} {f : Field} {fs : List Field} → FieldAt R f r → FieldsAt R E ms fs (r + 1) → FieldsAt R E ms (f ∷ fs) r
+  fields-more : {r : ℕ} {f : Field} {fs : List Field} → FieldAt R f r → FieldsAt R E ms fs (r + 1)
+      → FieldsAt R E ms (f ∷ fs) r
 
 -- A class.
 pub record ClassAt (R E : List ℕ) (c : Class) (r : ℕ) : Type 0 where
@@ -68,5 +72,6 @@ pub record ClassAt (R E : List ℕ) (c : Class) (r : ℕ) : Type 0 where
 -- The classes of a program, then its S line.
 pub data ClassesAt (R E : List ℕ) : List Class → ℕ → Type 0 where
   classes-none : {r : ℕ} → RowAt R r S-start 0 0 → ClassesAt R E [] r
-  classes-more : {r : ℕ} {c : Class} {cs : List Class} → ClassAt R E c r → ClassesAt R E cs (r + class-lines c)
+  classes-more : {r : ℕ} {c : Class} {cs : List Class} → ClassAt R E c r
+      → ClassesAt R E cs (r + class-lines c)
       → ClassesAt R E (c ∷ cs) r

@@ -12,7 +12,8 @@ use Rattle.language.specs.World.{place, is-declared-type}
 use Rattle.language.specs.Program.{declared, class-at, world}
 use Rattle.language.specs.Headings.{is-some}
 use Rattle.language.specs.ClassTables.{class-row, method-row}
-use Rattle.headings.specs.HeadingLines.{EffectsAt, ParametersAt, MethodAt, MethodsAt, FieldAt, FieldsAt, ClassAt, ClassesAt}
+use Rattle.headings.specs.HeadingLines.{EffectsAt, ParametersAt, MethodAt, MethodsAt, FieldAt, FieldsAt}
+use Rattle.headings.specs.HeadingLines.{ClassAt, ClassesAt}
 use Rattle.headings.specs.Blocks.{Lookups, Working}
 
 -- A part of a list was copied to a place after it.

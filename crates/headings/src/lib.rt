@@ -11,12 +11,19 @@ ghost use Rattle.language.specs.World.{is-declared-type};
 ghost use Rattle.language.specs.Program.{world, is-state-type, method-of};
 ghost use Rattle.language.specs.Effects.{effect-of, effect-of-all, member};
 ghost use Rattle.language.specs.ClassTables.{ClassTables, rows-from, declared-row, method-row, field-rows};
-ghost use Rattle.language.specs.Headings.{may-extend, may-override, same-types, lines-within, check-fields, check-parameters, check-effects, check-methods, check-class, headings};
+ghost use Rattle.language.specs.Headings.{may-extend, may-override, same-types, lines-within, check-fields};
+ghost use Rattle.language.specs.Headings.{check-parameters, check-effects, check-methods, check-class};
+ghost use Rattle.language.specs.Headings.{headings};
 ghost use Rattle.headings.specs.Answers.{headed};
 ghost use Rattle.headings.specs.HeadingLines.{Run};
 ghost use Rattle.headings.specs.Blocks.{Lookups, Working};
-ghost use Rattle.headings.specs.Faults.{fault-of-field, fault-of-method, fault-of-effect, check-heading};
-ghost use Rattle.headings.specs.Ready.{Copied, Cleared, MethodHere, ClassHere, ReadReady, StateReady, FieldReady, EnterReady, FieldsReady, EffectLines, ParameterLines, OverrideReady, EffectReady, EffectsReady, own-or, with-row, MethodReady, MethodCounted, MethodsReady, StartReady, ClassReady, ClassesReady, HeadingsReady};
+ghost use Rattle.headings.specs.Faults.{fault-of-field, fault-of-method, fault-of-effect};
+ghost use Rattle.headings.specs.Faults.{check-heading};
+ghost use Rattle.headings.specs.Ready.{Copied, Cleared, MethodHere, ClassHere, ReadReady, StateReady};
+ghost use Rattle.headings.specs.Ready.{FieldReady, EnterReady, FieldsReady, EffectLines};
+ghost use Rattle.headings.specs.Ready.{ParameterLines, OverrideReady, EffectReady, EffectsReady};
+ghost use Rattle.headings.specs.Ready.{own-or, with-row, MethodReady, MethodCounted, MethodsReady};
+ghost use Rattle.headings.specs.Ready.{StartReady, ClassReady, ClassesReady, HeadingsReady};
 
 // What the pass answers: that all is well, or a refusal's number and line.
 pub enum Headed {
@@ -39,7 +46,8 @@ fn count_rows(rows: &[u32], r: usize, letter: u32) -> usize
 // The row after a method's body.
 fn skip_method(rows: &[u32], ends: &[u16], r: usize) -> usize
     requires { ⌜ MethodHere (now rows) (now ends) r ⌝ }
-    ensures { λ n. ⌜ ((w : MethodHere (now (rows .entry)) (now (ends .entry)) r) → n ≡ r + method-lines (w .method)) ⌝ }
+    ensures { λ n. ⌜ ((w : MethodHere (now (rows .entry)) (now (ends .entry)) r) → n ≡ r + method-lines
+        (w .method)) ⌝ }
 {
     let p = count_rows(rows, r + 1, 80);
     let x = count_rows(rows, r + 1 + p, 88);
@@ -49,7 +57,8 @@ fn skip_method(rows: &[u32], ends: &[u16], r: usize) -> usize
 // The row after a class.
 fn skip_class(rows: &[u32], ends: &[u16], r: usize) -> usize
     requires { ⌜ ClassHere (now rows) (now ends) r ⌝ }
-    ensures { λ n. ⌜ ((w : ClassHere (now (rows .entry)) (now (ends .entry)) r) → n ≡ r + class-lines (w .one)) ⌝ }
+    ensures { λ n. ⌜ ((w : ClassHere (now (rows .entry)) (now (ends .entry)) r) → n ≡ r + class-lines
+        (w .one)) ⌝ }
 {
     let n = count_rows(rows, r + 1, 70);
     let mut at = r + 1 + n;
@@ -62,7 +71,8 @@ fn skip_class(rows: &[u32], ends: &[u16], r: usize) -> usize
 // Reads the kind and the superclass of every class, and answers how many classes there are.
 fn read_classes(rows: &[u32], ends: &[u16], tables: &mut [u16]) -> usize
     requires { ⌜ ReadReady (now rows) (now ends) (now tables) ⌝ }
-    ensures { λ n. ⌜ ((w : ReadReady (now (rows .entry)) (now (ends .entry)) (now (tables .entry))) → (n ≡ length (w .classed .classes)) × Lookups (w .classed .classes) 1 (now (tables .exit))) ⌝ }
+    ensures { λ n. ⌜ ((w : ReadReady (now (rows .entry)) (now (ends .entry)) (now (tables .entry))) →
+        (n ≡ length (w .classed .classes)) × Lookups (w .classed .classes) 1 (now (tables .exit))) ⌝ }
 {
     let mut k = 0;
     let mut r = 0;
@@ -101,7 +111,8 @@ fn copy_part(tables: &mut [u16], from: usize, to: usize, n: usize)
 
 // Is this the number of a type that the program declares.
 fn is_declared(t: u32, count: usize) -> bool
-    ensures { λ b. ⌜ ((P : List Class) → count ≡ length P → b ≡ is-declared-type (world P) (type-of-number t)) ⌝ }
+    ensures { λ b. ⌜ ((P : List Class) → count ≡ length P → b ≡ is-declared-type (world P) (type-of-number t))
+        ⌝ }
 {
     if t == 255 {
         return true;
@@ -112,7 +123,8 @@ fn is_declared(t: u32, count: usize) -> bool
 // Is this the number of a state class.
 fn is_state(tables: &[u16], t: u32) -> bool
     requires { ⌜ StateReady (now tables) t ⌝ }
-    ensures { λ b. ⌜ ((w : StateReady (now (tables .entry)) t) → b ≡ is-state-type (w .P) (type-of-number t)) ⌝ }
+    ensures { λ b. ⌜ ((w : StateReady (now (tables .entry)) t) → b ≡ is-state-type (w .P) (type-of-number t))
+        ⌝ }
 {
     if t == 255 {
         return false;
@@ -123,7 +135,8 @@ fn is_state(tables: &[u16], t: u32) -> bool
 // The first fault of an F line, or 0.
 fn field_fault(rows: &[u32], tables: &[u16], r: usize, base: usize, count: usize) -> u32
     requires { ⌜ FieldReady (now rows) (now tables) r base count ⌝ }
-    ensures { λ n. ⌜ ((w : FieldReady (now (rows .entry)) (now (tables .entry)) r base count) → n ≡ fault-of-field (w .P) (w .fields) (w .field)) ⌝ }
+    ensures { λ n. ⌜ ((w : FieldReady (now (rows .entry)) (now (tables .entry)) r base count) → n ≡
+        fault-of-field (w .P) (w .fields) (w .field)) ⌝ }
 {
     if 17 <= tables[base + 515] {
         return 2;
@@ -145,7 +158,8 @@ fn field_fault(rows: &[u32], tables: &[u16], r: usize, base: usize, count: usize
 // Enters the field of an F line.
 fn enter_field(rows: &[u32], tables: &mut [u16], r: usize, base: usize)
     requires { ⌜ EnterReady (now rows) (now tables) r base ⌝ }
-    ensures { λ _. ⌜ ((w : EnterReady (now (rows .entry)) (now (tables .entry)) r base) → Working (w .P) (w .k) (now (tables .exit)) (w .fields ++ (w .field ∷ [])) (w .rows ++ (r ∷ [])) (w .methods)) ⌝ }
+    ensures { λ _. ⌜ ((w : EnterReady (now (rows .entry)) (now (tables .entry)) r base) → Working (w .P)
+        (w .k) (now (tables .exit)) (w .fields ++ (w .field ∷ [])) (w .rows ++ (r ∷ [])) (w .methods)) ⌝ }
 {
     let name = rows[r * 4 + 2] as usize;
     let n = tables[base + 515];
@@ -166,7 +180,9 @@ fn check_fields(
     requires { ⌜ FieldsReady (now rows) (now tables) r n base count ⌝ }
     ensures { λ h. ⌜ ((w : FieldsReady (now (rows .entry)) (now (tables .entry)) r n base count)
         → (h ≡ headed (check-fields of-check (w .P) (w .fields) (r + 1) (w .own)))
-        × (h ≡ Headed.Passed → Working (w .P) (w .k) (now (tables .exit)) (w .fields ++ w .own) (w .rows ++ rows-from r (w .own)) (w .methods))) ⌝ }
+        × (h ≡ Headed.Passed
+        → Working (w .P) (w .k) (now (tables .exit)) (w .fields ++ w .own)
+        (w .rows ++ rows-from r (w .own)) (w .methods))) ⌝ }
 {
     let mut i = 0;
     while i < n {
@@ -241,7 +257,8 @@ fn lines_within(rows: &[u32], r: usize, n: usize, set: u64) -> bool
 // Have two runs of P lines the same types.
 fn same_types(rows: &[u32], p: usize, q: usize, n: usize) -> bool
     requires { ⌜ ParameterLines (now rows) p n × ParameterLines (now rows) q n ⌝ }
-    ensures { λ b. ⌜ ((v : ParameterLines (now (rows .entry)) p n) → (w : ParameterLines (now (rows .entry)) q n) → b ≡ same-types (v .types) (w .types)) ⌝ }
+    ensures { λ b. ⌜ ((v : ParameterLines (now (rows .entry)) p n) →
+        (w : ParameterLines (now (rows .entry)) q n) → b ≡ same-types (v .types) (w .types)) ⌝ }
 {
     let mut i = 0;
     while i < n {
@@ -256,7 +273,8 @@ fn same_types(rows: &[u32], p: usize, q: usize, n: usize) -> bool
 // May the method at a row, with its counts of P and X lines, override the one at another.
 fn may_override(rows: &[u32], r: usize, np: usize, nx: usize, over: usize) -> bool
     requires { ⌜ OverrideReady (now rows) r np nx over ⌝ }
-    ensures { λ b. ⌜ ((w : OverrideReady (now (rows .entry)) r np nx over) → b ≡ may-override (w .method) (some (method-of 0 (w .overridden)))) ⌝ }
+    ensures { λ b. ⌜ ((w : OverrideReady (now (rows .entry)) r np nx over) → b ≡ may-override (w .method)
+        (some (method-of 0 (w .overridden)))) ⌝ }
 {
     if rows[r * 4 + 1] != rows[over * 4 + 1] {
         return false;
@@ -286,7 +304,8 @@ fn method_fault(
 ) -> u32
     requires { ⌜ MethodCounted (now rows) (now tables) r np nx base first count ⌝ }
     ensures { λ n. ⌜ ((w : MethodCounted (now (rows .entry)) (now (tables .entry)) r np nx base first count)
-        → n ≡ fault-of-method (w .ready .classed .classes) (w .ready .super) (w .ready .before) (w .ready .method)) ⌝ }
+        → n ≡ fault-of-method (w .ready .classed .classes) (w .ready .super) (w .ready .before)
+        (w .ready .method)) ⌝ }
 {
     if !is_declared(rows[r * 4 + 1], count) {
         return 4;
@@ -341,7 +360,8 @@ fn effect_fault(tables: &[u16], c: u32, last: u32, count: usize) -> u32
 // Checks the X lines of a method.
 fn check_effects(rows: &[u32], tables: &[u16], r: usize, n: usize, count: usize) -> Headed
     requires { ⌜ EffectsReady (now rows) (now tables) r n count ⌝ }
-    ensures { λ h. ⌜ ((w : EffectsReady (now (rows .entry)) (now (tables .entry)) r n count) → h ≡ headed (check-effects of-check (w .table .P) 0 (r + 1) (w .lines .effects))) ⌝ }
+    ensures { λ h. ⌜ ((w : EffectsReady (now (rows .entry)) (now (tables .entry)) r n count) → h ≡ headed
+        (check-effects of-check (w .table .P) 0 (r + 1) (w .lines .effects))) ⌝ }
 {
     let mut last: u32 = 0;
     let mut i = 0;
@@ -402,7 +422,8 @@ fn check_methods(
     count: usize,
 ) -> Headed
     requires { ⌜ MethodsReady (now rows) (now ends) (now tables) r base first count ⌝ }
-    ensures { λ h. ⌜ ((w : MethodsReady (now (rows .entry)) (now (ends .entry)) (now (tables .entry)) r base first count)
+    ensures { λ h. ⌜ ((w : MethodsReady (now (rows .entry)) (now (ends .entry)) (now (tables .entry)) r base
+        first count)
         → (h ≡ headed (check-methods of-check (w .classed .classes) (w .super) [] (r + 1) (w .methods)))
         × (h ≡ Headed.Passed → Working (w .classed .classes) (w .k) (now (tables .exit)) (w .fields) (w .rows)
         (own-or (declared-row r (w .methods)) (method-row (w .classed .classes) (w .super))))) ⌝ }
@@ -438,7 +459,8 @@ fn may_extend(kind: u32, above: u16) -> bool
 fn start_block(tables: &mut [u16], k: usize, over: usize, kind: u32)
     requires { ⌜ StartReady (now tables) k over kind ⌝ }
     ensures { λ _. ⌜ ((w : StartReady (now (tables .entry)) k over kind)
-        → Working (w .P) k (now (tables .exit)) (world (w .P) .fields over) (field-rows (w .P) over) (method-row (w .P) over)) ⌝ }
+        → Working (w .P) k (now (tables .exit)) (world (w .P) .fields over) (field-rows (w .P) over)
+        (method-row (w .P) over)) ⌝ }
 {
     let base = k * 576;
     let from = over * 576;
@@ -489,9 +511,11 @@ fn check_classes(
     count: usize,
 ) -> Headed
     requires { ⌜ ClassesReady (now rows) (now ends) (now tables) (now above) count ⌝ }
-    ensures { λ h. ⌜ ((w : ClassesReady (now (rows .entry)) (now (ends .entry)) (now (tables .entry)) (now (above .entry)) count)
+    ensures { λ h. ⌜ ((w : ClassesReady (now (rows .entry)) (now (ends .entry)) (now (tables .entry))
+        (now (above .entry)) count)
         → (h ≡ headed (headings of-check (w .classed .classes)))
-        × (h ≡ Headed.Passed → ClassTables (w .classed .classes) (now (tables .exit)) (now (above .exit)))) ⌝ }
+        × (h ≡ Headed.Passed → ClassTables (w .classed .classes) (now (tables .exit)) (now (above .exit))))
+        ⌝ }
 {
     let mut k = 1;
     let mut r = 0;
@@ -511,9 +535,11 @@ fn check_classes(
 // The pass over headings.
 pub fn check_headings(rows: &[u32], ends: &[u16], tables: &mut [u16], above: &mut [u64]) -> Headed
     requires { ⌜ HeadingsReady (now rows) (now ends) (now tables) (now above) ⌝ }
-    ensures { λ h. ⌜ ((w : HeadingsReady (now (rows .entry)) (now (ends .entry)) (now (tables .entry)) (now (above .entry)))
+    ensures { λ h. ⌜ ((w : HeadingsReady (now (rows .entry)) (now (ends .entry)) (now (tables .entry))
+        (now (above .entry)))
         → (h ≡ headed (headings of-check (w .classed .classes)))
-        × (h ≡ Headed.Passed → ClassTables (w .classed .classes) (now (tables .exit)) (now (above .exit)))) ⌝ }
+        × (h ≡ Headed.Passed → ClassTables (w .classed .classes) (now (tables .exit)) (now (above .exit))))
+        ⌝ }
 {
     clear_object(tables);
     above[0] = 0;

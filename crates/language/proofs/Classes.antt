@@ -1,18 +1,16 @@
 -- Laws of classes in a list where each has an earlier superclass: the sets of superclasses decide the subclass test,
 -- roots are classes, and the nearest common superclass is found by going up. Assumes nothing.
-use mathlib.Core.Path.{_≡_, refl, sym, ap, ap₂, _∙_}
+use mathlib.Core.Path.{_≡_, refl, sym, ap₂, _∙_}
 use mathlib.Core.Bool.{Bool, true, false, _||_, cond}
-use mathlib.Core.Logic.{_⊎_, inl, inr}
 use mathlib.Core.Option.{Option, none, some}
 use mathlib.Core.List.{List, [], _∷_}
-use Prim.Native.Nat.{ℕ, zero, suc, _+_, _≤_, _<_}
+use Prim.Native.Nat.{ℕ, zero, suc, _≤_, _<_}
 use native.Mathlib.Omega.{arith}
-use borrow.Author.Tests.{eq-eqb, ne-eqb}
+use borrow.Author.Tests.{ne-eqb}
 use lib.Dec.{eqb}
 use lib.ListN.{length}
-use Rattle.language.specs.Lists.{nth, choice, given, nth-lt, Never, inj}
-use Rattle.language.specs.Tree.{Kind, plain, root, state, unknown, Class}
-use Rattle.language.specs.World.{World}
+use Rattle.language.specs.Lists.{nth, choice, given, nth-lt, Never}
+use Rattle.language.specs.Tree.{root, Class}
 use Rattle.language.specs.Effects.{member, join, effect-of, apply-class}
 use Rattle.language.specs.Program.{is-state, class-at, below-at, root-at, nearest-at, world}
 use Rattle.language.specs.ClassTables.{above-at, above}
@@ -49,7 +47,8 @@ module _ (P : List Class) where
     below-zero zero k l = refl
     below-zero (suc n) k l = go (λ j m. below-zero n j m) (eqb k 0) (class-at P k) refl
       where
-        go : ((j : ℕ) → j ≤ length P → below-at P n j 0 ≡ true) → (b : Bool) (o : Option Class) → class-at P k ≡ o → b || given o true (λ c. below-at P n (c .super) 0) ≡ true
+        go : ((j : ℕ) → j ≤ length P → below-at P n j 0 ≡ true) → (b : Bool) (o : Option Class)
+            → class-at P k ≡ o → b || given o true (λ c. below-at P n (c .super) 0) ≡ true
         go rec true o e = refl
         go rec false none e = refl
         go rec false (some c) e = rec (c .super) (super-in k c e)
@@ -60,12 +59,14 @@ module _ (P : List Class) where
     below-above zero k d l h = ne-eqb d 0 (λ e. omega arith) ∙ sym (member-none d)
     below-above (suc n) k d l h = go (λ j m. below-above n j d m h) (class-at P k) refl
       where
-        go : ((j : ℕ) → j ≤ length P → below-at P n j d ≡ member (above-at P n j) d) → (o : Option Class) → class-at P k ≡ o
+        go : ((j : ℕ) → j ≤ length P → below-at P n j d ≡ member (above-at P n j) d) → (o : Option Class)
+            → class-at P k ≡ o
             → eqb k d || given o (eqb d 0) (λ c. below-at P n (c .super) d)
             ≡ member (given o 0 λ c. join (effect-of k) (above-at P n (c .super))) d
         go rec none e =
             let z : k ≡ 0 = class-none k l e in
-            ap₂ (λ x y. x || y) (ne-eqb k d (λ q. omega arith)) (ne-eqb d 0 (λ q. omega arith)) ∙ sym (member-none d)
+            ap₂ (λ x y. x || y) (ne-eqb k d (λ q. omega arith)) (ne-eqb d 0 (λ q. omega arith))
+            ∙ sym (member-none d)
         go rec (some c) e =
             sym (member-join (effect-of k) (above-at P n (c .super)) d
             ∙ ap₂ (λ x y. x || y) (member-of k d (class-count k c e .0) h)
@@ -85,7 +86,8 @@ module _ (P : List Class) where
     root-low zero k = omega arith
     root-low (suc n) k = go (λ j. root-low n j) (class-at P k) refl
       where
-        pick : ((j : ℕ) → root-at P n j ≤ j) → (b : Bool) (c : Class) → class-at P k ≡ some c → choice b (λ _. root-at P n (c .super)) (λ _. k) ≤ k
+        pick : ((j : ℕ) → root-at P n j ≤ j) → (b : Bool) (c : Class) → class-at P k ≡ some c
+            → choice b (λ _. root-at P n (c .super)) (λ _. k) ≤ k
         pick rec true c e = omega (arith, rec (c .super), lower k c e)
         pick rec false c e = omega arith
 
@@ -129,14 +131,16 @@ module _ (P : List Class) where
     pub nearest-up : (k d : ℕ) (c : Class) → class-at P k ≡ some c → world P .below d k ≡ false
         → world P .nearest k d ≡ world P .nearest (c .super) d
     unfolding world nearest-at
-    nearest-up k d c e f = rw (f, e) (nearest-more k (suc (c .super)) (c .super) d (lower k c e) (omega arith))
+    nearest-up k d c e f =
+        rw (f, e) (nearest-more k (suc (c .super)) (c .super) d (lower k c e) (omega arith))
 
     nearest-low : (n k d : ℕ) → k ≤ length P → nearest-at P n k d ≤ k
     unfolding nearest-at
     nearest-low zero k d l = omega arith
     nearest-low (suc n) k d l = go (λ j m. nearest-low n j d m) (below-at P (suc d) d k) (class-at P k) refl
       where
-        go : ((j : ℕ) → j ≤ length P → nearest-at P n j d ≤ j) → (b : Bool) (o : Option Class) → class-at P k ≡ o
+        go : ((j : ℕ) → j ≤ length P → nearest-at P n j d ≤ j) → (b : Bool) (o : Option Class)
+            → class-at P k ≡ o
             → choice b (λ _. k) (λ _. given o 0 λ c. nearest-at P n (c .super) d) ≤ k
         go rec true o e = omega arith
         go rec false none e = omega arith

@@ -1,12 +1,12 @@
 -- Laws of effects: sets of classes as numbers. They hold of every class number, and so over every class count up to 64.
 -- Assumes nothing.
-use mathlib.Core.Path.{_≡_, refl, sym, ap, ap₂, _∙_}
+use mathlib.Core.Path.{_≡_, refl, sym, ap, _∙_}
 use mathlib.Core.Bool.{Bool, true, false, _||_}
 use mathlib.Core.Logic.{_⊎_, inl, inr, ⊎-elim}
 use Prim.Native.Nat.{ℕ, zero, suc, _+_, _-_, _*_, _/_, _%_, _^_, _≤_, _<_}
 use native.Mathlib.Nat.{div-eq-of-lt, mul-mod-left, one-mul}
 use native.Mathlib.Omega.{arith}
-use borrow.Author.Tests.{eq-eqb, ne-eqb, eqb-true, eqb-false}
+use borrow.Author.Tests.{eq-eqb, eqb-true, eqb-false}
 use lib.Dec.{eqb}
 use lib.Bits.{bitAnd, bitOr, or-shr, or-mod, and-mask}
 use lib.Pow.{pow-pos, pow-lt, pow-add, shl-exact, shl-shr}
@@ -36,7 +36,8 @@ member-join a b c =
 -- No class is in the empty set.
 pub member-none : (c : ℕ) → member no-effect c ≡ false
 unfolding member
-member-none c = let e : 0 / 2 ^ (c - 1) ≡ 0 = div-eq-of-lt (pow-pos (c - 1)) in ap (λ (x : ℕ). eqb (x % 2) 1) e
+member-none c = let e : 0 / 2 ^ (c - 1) ≡ 0 = div-eq-of-lt (pow-pos (c - 1)) in
+    ap (λ (x : ℕ). eqb (x % 2) 1) e
 
 -- The test by shift and mask.
 pub member-mask : (a c : ℕ) → eqb (bitAnd (a / 2 ^ (c - 1)) 1) 1 ≡ member a c
@@ -52,7 +53,8 @@ tri zero zero = inr (inl refl)
 tri zero (suc j) = inl (omega arith)
 tri (suc k) zero = inr (inr (omega arith))
 tri (suc k) (suc j) =
-    ⊎-elim (λ l. inl (omega arith)) (λ m. inr (⊎-elim (λ e. inl (ap suc e)) (λ l. inr (omega arith)) m)) (tri k j)
+    ⊎-elim (λ l. inl (omega arith)) (λ m. inr (⊎-elim (λ e. inl (ap suc e)) (λ l. inr (omega arith)) m))
+    (tri k j)
 
 one-bit : (k j : ℕ) → 2 ^ k / 2 ^ j % 2 ≡ 1 → k ≡ j
 one-bit k j h = ⊎-elim
@@ -79,7 +81,8 @@ unfolding member effect-of
 member-of c d p r =
     same-test (eqb (2 ^ (c - 1) / 2 ^ (d - 1) % 2) 1) (eqb c d)
     (λ e. eq-eqb c d
-    (let k : c - 1 ≡ d - 1 = one-bit (c - 1) (d - 1) (eqb-true (2 ^ (c - 1) / 2 ^ (d - 1) % 2) 1 e) in omega arith))
+    (let k : c - 1 ≡ d - 1 = one-bit (c - 1) (d - 1) (eqb-true (2 ^ (c - 1) / 2 ^ (d - 1) % 2) 1 e) in
+    omega arith))
     (λ e. eq-eqb (2 ^ (c - 1) / 2 ^ (d - 1) % 2) 1
     (let same : d ≡ c = sym (eqb-true c d e) in
     ap (λ (x : ℕ). 2 ^ (c - 1) / 2 ^ (x - 1) % 2) same

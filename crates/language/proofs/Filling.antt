@@ -7,22 +7,27 @@ use native.Mathlib.Numerals.{add-one}
 use native.Mathlib.Omega.{arith}
 use borrow.Author.Tests.{le-leb, lt-leb}
 use lib.ListN.{length, getD, take, drop, set, replicate, length-append, length-drop, length-replicate}
-use lib.Seq.{sets, sets-eq, length-sets, length-take-le, take-append-seam, take-suc, drop-cons, set-at, append-snoc}
+use lib.Seq.{sets, sets-eq, length-sets, length-take-le, take-append-seam, take-suc, drop-cons, set-at}
+use lib.Seq.{append-snoc}
 use Rattle.language.specs.Results.{Checked, accept, refuse}
 use Rattle.language.specs.Filling.{before, answer, buffer, tally, is-made, made-numbers}
 use Rattle.language.specs.declared.Filled.the-variants.{Done, Refused}
 
 -- two lists written one after the other
-pub sets-append : (l : List ℕ) (i : ℕ) (xs ys : List ℕ) → sets l i (xs ++ ys) ≡ sets (sets l i xs) (i + length xs) ys
+pub sets-append : (l : List ℕ) (i : ℕ) (xs ys : List ℕ)
+    → sets l i (xs ++ ys) ≡ sets (sets l i xs) (i + length xs) ys
 sets-append l i [] ys = let e : i + 0 ≡ i = omega arith in rw e
-sets-append l i (x ∷ xs) ys = let e : i + suc (length xs) ≡ suc i + length xs = omega arith in rw e (sets-append (set l i x) (suc i) xs ys)
+sets-append l i (x ∷ xs) ys = let e : i + suc (length xs) ≡ suc i + length xs = omega arith in
+    rw e (sets-append (set l i x) (suc i) xs ys)
 
-pub sets-then : (l : List ℕ) (i j : ℕ) (xs ys : List ℕ) → j ≡ i + length xs → sets (sets l i xs) j ys ≡ sets l i (xs ++ ys)
+pub sets-then : (l : List ℕ) (i j : ℕ) (xs ys : List ℕ) → j ≡ i + length xs
+    → sets (sets l i xs) j ys ≡ sets l i (xs ++ ys)
 sets-then l i j xs ys e = rw e (sym (sets-append l i xs ys))
 
 -- written from the start: the list, then what was there past it
 sets-start : (l xs : List ℕ) → length xs ≤ length l → sets l 0 xs ≡ xs ++ drop (length xs) l
-sets-start l xs h = let e : 0 + length xs ≡ length xs = omega arith in sets-eq xs l 0 (omega arith) ∙ ap (λ (n : ℕ). xs ++ drop n l) e
+sets-start l xs h = let e : 0 + length xs ≡ length xs = omega arith in sets-eq xs l 0 (omega arith)
+    ∙ ap (λ (n : ℕ). xs ++ drop n l) e
 
 -- a fresh buffer is as long as it says
 pub replicate-long : (n : ℕ) → n ≤ length (replicate {A = ℕ} n 0)
@@ -34,7 +39,8 @@ is-made-before : (xs : List ℕ) (m : Checked (List ℕ)) → is-made (before xs
 is-made-before xs (accept ys) = refl
 is-made-before xs (refuse number line) = refl
 
-numbers-before : (xs : List ℕ) (m : Checked (List ℕ)) → is-made m ≡ true → made-numbers (before xs m) ≡ xs ++ made-numbers m
+numbers-before : (xs : List ℕ) (m : Checked (List ℕ)) → is-made m ≡ true
+    → made-numbers (before xs m) ≡ xs ++ made-numbers m
 numbers-before xs (accept ys) e = refl
 numbers-before xs (refuse number line) e = absurd (false≢true e)
 
@@ -49,12 +55,14 @@ pub record Left (width : ℕ) (m₀ m : Checked (List ℕ)) (n : ℕ) (held₀ h
 pub left-start : (width : ℕ) (m : Checked (List ℕ)) (held : List ℕ) → Left width m m 0 held held 0
 left-start width m held = record { count = refl; same = refl; goal = λ e. refl; long = refl }
 
-module _ {width : ℕ} {m₀ m : Checked (List ℕ)} {n : ℕ} {held₀ held : List ℕ} {i : ℕ} (l : Left width m₀ m n held₀ held i) where
+module _ {width : ℕ} {m₀ m : Checked (List ℕ)} {n : ℕ} {held₀ held : List ℕ} {i : ℕ}
+    (l : Left width m₀ m n held₀ held i) where
   pub left-refused : (number line : ℕ) → m ≡ refuse number line → Refused number line ≡ tally width 0 m₀
   left-refused number line e = sym (l .count ∙ ap (tally width n) e)
 
   pub left-unmade : {A : Type 0} (number line : ℕ) → m ≡ refuse number line → is-made m₀ ≡ true → A
-  left-unmade number line e f = absurd (false≢true (ap (λ (x : Checked (List ℕ)). is-made x) (sym e) ∙ sym (l .same) ∙ f))
+  left-unmade number line e f =
+      absurd (false≢true (ap (λ (x : Checked (List ℕ)). is-made x) (sym e) ∙ sym (l .same) ∙ f))
 
   pub left-done : m ≡ accept [] → n + 0 / width ≡ n → Done n ≡ tally width 0 m₀
   left-done e q = sym (l .count ∙ ap (tally width n) e ∙ ap Done q)
@@ -63,14 +71,17 @@ module _ {width : ℕ} {m₀ m : Checked (List ℕ)} {n : ℕ} {held₀ held : L
   left-full e f = rw e at (l .goal f)
 
   -- a record is written
-  pub left-step : (xs : List ℕ) (m′ : Checked (List ℕ)) (n′ : ℕ) (held′ : List ℕ) (i′ : ℕ) → m ≡ before xs m′ → tally width n (before xs m′) ≡ tally width n′ m′
+  pub left-step : (xs : List ℕ) (m′ : Checked (List ℕ)) (n′ : ℕ) (held′ : List ℕ) (i′ : ℕ) → m ≡ before xs m′
+      → tally width n (before xs m′) ≡ tally width n′ m′
       → held′ ≡ sets held i xs → i′ ≡ i + length xs → Left width m₀ m′ n′ held₀ held′ i′
   left-step xs m′ n′ held′ i′ e c w p = record {
     count = l .count ∙ ap (tally width n) e ∙ c;
     same = l .same ∙ ap (λ (x : Checked (List ℕ)). is-made x) e ∙ is-made-before xs m′;
     goal = λ f.
-        let g : is-made m′ ≡ true = sym (is-made-before xs m′) ∙ ap (λ (x : Checked (List ℕ)). is-made x) (sym e) ∙ sym (l .same) ∙ f in
-        let h : sets held i (xs ++ made-numbers m′) ≡ sets held₀ 0 (made-numbers m₀) = rw (e, numbers-before xs m′ g) at (l .goal f) in
+        let g : is-made m′ ≡ true = sym (is-made-before xs m′)
+        ∙ ap (λ (x : Checked (List ℕ)). is-made x) (sym e) ∙ sym (l .same) ∙ f in
+        let h : sets held i (xs ++ made-numbers m′) ≡ sets held₀ 0 (made-numbers m₀) =
+        rw (e, numbers-before xs m′ g) at (l .goal f) in
         rw w (sets-then held i i′ xs (made-numbers m′) p ∙ h);
     long = ap length w ∙ length-sets held i xs ∙ l .long;
   }
@@ -84,7 +95,8 @@ pub record Copying (from to₀ to : List ℕ) (count i : ℕ) : Type 0 where
 pub copying-start : (from to : List ℕ) (count : ℕ) → Copying from to to count 0
 copying-start from to count = record { within = omega arith; copied = refl }
 
-module _ {from to₀ to : List ℕ} {count i : ℕ} (p : Copying from to₀ to count i) (f : count ≤ length from) (t : count ≤ length to₀) where
+module _ {from to₀ to : List ℕ} {count i : ℕ} (p : Copying from to₀ to count i) (f : count ≤ length from)
+    (t : count ≤ length to₀) where
   pub copying-long : length to ≡ length to₀
   copying-long =
       ap length (p .copied) ∙ length-append (take i from) (drop i to₀)
@@ -96,7 +108,14 @@ module _ {from to₀ to : List ℕ} {count i : ℕ} (p : Copying from to₀ to c
       let k : i < length to₀ = omega (arith, t, l) in
       record {
         within = omega (arith, l);
-        copied = rw (p .copied, drop-cons to₀ i 0 k, set-at (take i from) (getD to₀ i 0) (drop (suc i) to₀) (getD from i 0) i (length-take-le i from (omega (arith, h))), add-one i, take-suc from i 0 h)
+        copied = rw (
+          p .copied,
+          drop-cons to₀ i 0 k,
+          set-at (take i from) (getD to₀ i 0) (drop (suc i) to₀)
+              (getD from i 0) i (length-take-le i from (omega (arith, h))),
+          add-one i,
+          take-suc from i 0 h,
+        )
             (sym (append-snoc (take i from) (getD from i 0) (drop (suc i) to₀)));
       }
 
@@ -110,7 +129,8 @@ pub take-sets : (l xs : List ℕ) → length xs ≤ length l → take (length xs
 take-sets l xs h = rw (sets-start l xs h) (take-append-seam xs (drop (length xs) l))
 
 -- a refusal
-pub filled-refused : (width : ℕ) (m : Checked (List ℕ)) (number line room : ℕ) (old : List ℕ) → tally width 0 m ≡ Refused number line
+pub filled-refused : (width : ℕ) (m : Checked (List ℕ)) (number line room : ℕ) (old : List ℕ)
+    → tally width 0 m ≡ Refused number line
     → (tally width 0 m ≡ answer width m room) × (old ≡ buffer m old)
 filled-refused width (accept xs) number line room old e = let z : _≡_ {A = ℕ} 0 1 = cc in absurd (omega arith)
 filled-refused width (refuse k l) number line room old e = (refl, refl)
@@ -120,33 +140,41 @@ module _ (width : ℕ) (m : Checked (List ℕ)) (n : ℕ) (old : List ℕ) where
   pub filled-made : tally width 0 m ≡ Done n → (is-made m ≡ true) × (n ≡ length (made-numbers m) / width)
   filled-made e = go m e
     where
-      go : (m : Checked (List ℕ)) → tally width 0 m ≡ Done n → (is-made m ≡ true) × (n ≡ length (made-numbers m) / width)
+      go : (m : Checked (List ℕ)) → tally width 0 m ≡ Done n
+          → (is-made m ≡ true) × (n ≡ length (made-numbers m) / width)
       go (accept xs) e = let h : 0 + length xs / width ≡ n = cc in (refl, omega (arith, h))
       go (refuse k l) e = let z : _≡_ {A = ℕ} 0 1 = cc in absurd (omega arith)
 
   -- no room
-  pub filled-short : tally width 0 m ≡ Done n → length old < length (made-numbers m) → (Refused 13 0 ≡ answer width m (length old)) × (old ≡ buffer m old)
+  pub filled-short : tally width 0 m ≡ Done n → length old < length (made-numbers m)
+      → (Refused 13 0 ≡ answer width m (length old)) × (old ≡ buffer m old)
   filled-short e l = go m e l
     where
-      go : (m : Checked (List ℕ)) → tally width 0 m ≡ Done n → length old < length (made-numbers m) → (Refused 13 0 ≡ answer width m (length old)) × (old ≡ buffer m old)
+      go : (m : Checked (List ℕ)) → tally width 0 m ≡ Done n → length old < length (made-numbers m)
+          → (Refused 13 0 ≡ answer width m (length old)) × (old ≡ buffer m old)
       go (accept xs) e l = (rw (lt-leb (length xs) (length old) l), rw (lt-leb (length xs) (length old) l))
       go (refuse k l) e h = let z : _≡_ {A = ℕ} 0 1 = cc in absurd (omega arith)
 
   -- copied from a buffer that holds what was made
-  pub filled-done : tally width 0 m ≡ Done n → length (made-numbers m) ≤ length old → (held new : List ℕ) → length (made-numbers m) ≤ length held
-      → (is-made m ≡ true → (held′ : List ℕ) × (length held ≡ length held′) × (held ≡ sets held′ 0 (made-numbers m)))
+  pub filled-done : tally width 0 m ≡ Done n → length (made-numbers m) ≤ length old → (held new : List ℕ)
+      → length (made-numbers m) ≤ length held
+      → (is-made m ≡ true → (held′ : List ℕ) × (length held ≡ length held′) ×
+      (held ≡ sets held′ 0 (made-numbers m)))
       → new ≡ take (length (made-numbers m)) held ++ drop (length (made-numbers m)) old
       → (Done n ≡ answer width m (length old)) × (new ≡ buffer m old)
   filled-done e l held new k f w = go m e l k f w
     where
-      go : (m : Checked (List ℕ)) → tally width 0 m ≡ Done n → length (made-numbers m) ≤ length old → length (made-numbers m) ≤ length held
-          → (is-made m ≡ true → (held′ : List ℕ) × (length held ≡ length held′) × (held ≡ sets held′ 0 (made-numbers m)))
+      go : (m : Checked (List ℕ)) → tally width 0 m ≡ Done n → length (made-numbers m) ≤ length old
+          → length (made-numbers m) ≤ length held
+          → (is-made m ≡ true → (held′ : List ℕ) × (length held ≡ length held′) ×
+          (held ≡ sets held′ 0 (made-numbers m)))
           → new ≡ take (length (made-numbers m)) held ++ drop (length (made-numbers m)) old
           → (Done n ≡ answer width m (length old)) × (new ≡ buffer m old)
       go (accept xs) e l k f w =
           let h : 0 + length xs / width ≡ n = cc in
           let q : n ≡ length xs / width = omega (arith, h) in
           let b = f refl in
-          let t : take (length xs) held ≡ xs = ap (take (length xs)) (b .2) ∙ take-sets (b .0) xs (omega (arith, k, b .1)) in
+          let t : take (length xs) held ≡ xs = ap (take (length xs)) (b .2)
+          ∙ take-sets (b .0) xs (omega (arith, k, b .1)) in
           (rw (le-leb (length xs) (length old) l, q), rw (le-leb (length xs) (length old) l) (w ∙ rw t))
       go (refuse k l) e h j f w = let z : _≡_ {A = ℕ} 0 1 = cc in absurd (omega arith)

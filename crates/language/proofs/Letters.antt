@@ -9,7 +9,9 @@ use borrow.Author.Tests.{eqb-true}
 use lib.Dec.{eqb}
 use Rattle.language.specs.Lists.{choice, inj}
 use Rattle.language.specs.Rows.{Letter, letters, code, letter-among}
-use Rattle.language.specs.Rows.{C-class, F-field, M-method, P-parameter, X-effect, S-start, B-block, V-local, T-true, L-false, N-null, I-slot, Z-is-null, G-get, K-cast, W-new, R-change, A-assign, U-set, Q-call, J-choose}
+use Rattle.language.specs.Rows.{C-class, F-field, M-method, P-parameter, X-effect, S-start, B-block}
+use Rattle.language.specs.Rows.{V-local, T-true, L-false, N-null, I-slot, Z-is-null, G-get, K-cast}
+use Rattle.language.specs.Rows.{W-new, R-change, A-assign, U-set, Q-call, J-choose}
 
 -- a letter found for a code has that code
 pub among-code : (ls : List Letter) (n : ℕ) (l : Letter) → letter-among ls n ≡ some l → code l ≡ n

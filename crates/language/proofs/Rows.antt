@@ -9,14 +9,16 @@ use borrow.Author.Tests.{eqb-true, ltb-true, lt-leb}
 use lib.Dec.{eqb, leb, ltb, leb·suc-zero, eqb·suc-zero}
 use Rattle.language.specs.Limits.{largest}
 use Rattle.language.specs.Lists.{bind-option, given, choice}
-use Rattle.language.specs.Rows.{Letter, letters, code, numbers, letter-among, numbers-after, well-made, Record, written, row, record-of, is-row}
+use Rattle.language.specs.Rows.{Letter, letters, code, numbers, letter-among, numbers-after, well-made}
+use Rattle.language.specs.Rows.{Record, written, row, record-of, is-row}
 
 -- a test of every letter
 abbrev every : (Letter → Bool) → List Letter → Bool
 every f [] = true
 every f (l ∷ ls) = cond (f l) (every f ls) false
 
-every-step : (f : Letter → Bool) (l : Letter) (ls : List Letter) → every f (l ∷ ls) ≡ true → (f l ≡ true) × (every f ls ≡ true)
+every-step : (f : Letter → Bool) (l : Letter) (ls : List Letter) → every f (l ∷ ls) ≡ true
+    → (f l ≡ true) × (every f ls ≡ true)
 every-step f l ls e = go (f l) refl e
   where
     go : (t : Bool) → f l ≡ t → cond t (every f ls) false ≡ true → (f l ≡ true) × (every f ls ≡ true)
@@ -24,7 +26,8 @@ every-step f l ls e = go (f l) refl e
     go false q e = absurd (false≢true e)
 
 -- the letter of a code passes the test, and the code is its own
-among : (f : Letter → Bool) (ls : List Letter) → every f ls ≡ true → (n : ℕ) (l : Letter) → letter-among ls n ≡ some l → (f l ≡ true) × (code l ≡ n)
+among : (f : Letter → Bool) (ls : List Letter) → every f ls ≡ true → (n : ℕ) (l : Letter)
+    → letter-among ls n ≡ some l → (f l ≡ true) × (code l ≡ n)
 unfolding letter-among
 among f [] a n l e = absurd (let z : _≡_ {A = ℕ} 0 1 = cc in omega arith)
 among f (m ∷ ms) a n l e = go (eqb (code m) n) refl e (λ e′. among f ms (every-step f m ms a .1) n l e′)
@@ -41,7 +44,8 @@ letter-ascii n h = go (letter-among letters n) refl h
   where
     go : (o : Option Letter) → letter-among letters n ≡ o → given o 3 (λ l. numbers l) < 3 → n < 128
     go none e h = absurd (omega (arith, h))
-    go (some l) e h = let k = among (λ l. ltb (code l) 128) letters refl n l e in omega (arith, ltb-true (code l) 128 (k .0), k .1)
+    go (some l) e h = let k = among (λ l. ltb (code l) 128) letters refl n l e in
+        omega (arith, ltb-true (code l) 128 (k .0), k .1)
 
 -- are these the two numbers of a record that takes so many: those in use in range, the rest 0
 abbrev pub are-numbers : ℕ → ℕ → ℕ → Bool
@@ -67,7 +71,8 @@ false-left true = refl
 false-left false = refl
 
 in-range : (k a b c : ℕ) → k < 3
-    → leb a (cond (leb 1 k) largest 0) && (leb b (cond (leb 2 k) largest 0) && leb c (cond (leb 3 k) largest 0)) ≡ eqb c 0 && are-numbers k a b
+    → leb a (cond (leb 1 k) largest 0) &&
+    (leb b (cond (leb 2 k) largest 0) && leb c (cond (leb 3 k) largest 0)) ≡ eqb c 0 && are-numbers k a b
 in-range zero a b c h = rw (leb-zero a, leb-zero b, leb-zero c) (turn (eqb a 0) (eqb b 0) (eqb c 0))
 in-range (suc zero) a b c h = rw (leb-zero b, leb-zero c) (turn (leb a largest) (eqb b 0) (eqb c 0))
 in-range (suc (suc zero)) a b c h = rw (leb-zero c) (turn (leb a largest) (leb b largest) (eqb c 0))
@@ -83,10 +88,12 @@ unfolding record-of numbers-after
 is-row-by n a b c = go (letter-among letters n) refl
   where
     go : (o : Option Letter) → letter-among letters n ≡ o
-        → given (bind-option o (λ l. cond (well-made l (row n a b c)) (some (written l a b)) none)) false (λ _. true) ≡ eqb c 0 && are-numbers (given o 3 (λ l. numbers l)) a b
+        → given (bind-option o (λ l. cond (well-made l (row n a b c)) (some (written l a b)) none)) false
+        (λ _. true) ≡ eqb c 0 && are-numbers (given o 3 (λ l. numbers l)) a b
     go none e = false-left (eqb c 0)
     go (some l) e =
-        let k : numbers l < 3 = ltb-true (numbers l) 3 (among (λ l. ltb (numbers l) 3) letters refl n l e .0) in
+        let k : numbers l < 3 =
+        ltb-true (numbers l) 3 (among (λ l. ltb (numbers l) 3) letters refl n l e .0) in
         given-cond (well-made l (row n a b c)) (written l a b) ∙ in-range (numbers l) a b c k
 
 -- a first number out of range, where there is one

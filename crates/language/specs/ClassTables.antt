@@ -29,7 +29,8 @@ rows-from r (f ∷ fs) = r ∷ rows-from (r + 1) fs
 -- The row of the M line of a name among methods of which the first stands at row r.
 unfoldable pub declared-row : ℕ → List Declaration → ℕ → Option ℕ
 declared-row r [] m = none
-declared-row r (d ∷ ds) m = choice (eqb (d .name) m) (λ _. some r) (λ _. declared-row (r + method-lines d) ds m)
+declared-row r (d ∷ ds) m =
+    choice (eqb (d .name) m) (λ _. some r) (λ _. declared-row (r + method-lines d) ds m)
 
 module _ (P : List Class) where
   -- The row of a class's C line.
@@ -93,8 +94,10 @@ pub record ClassTables (P : List Class) (T A : List ℕ) : Type 0 where
       → getD T (k * class-width + f) 0 ≡ stored-place (place f (world P .fields k))
   pub methods : (k m : ℕ) → k ≤ length P → m < 256
       → getD T (k * class-width + methods-from + m) 0 ≡ stored-place (method-row P k m)
-  pub kinds : (k : ℕ) (c : Class) → class-at P k ≡ some c → getD T (k * class-width + kind-place) 0 ≡ kind-number (c .kind)
-  pub supers : (k : ℕ) (c : Class) → class-at P k ≡ some c → getD T (k * class-width + super-place) 0 ≡ c .super
+  pub kinds : (k : ℕ) (c : Class) → class-at P k ≡ some c
+      → getD T (k * class-width + kind-place) 0 ≡ kind-number (c .kind)
+  pub supers : (k : ℕ) (c : Class) → class-at P k ≡ some c
+      → getD T (k * class-width + super-place) 0 ≡ c .super
   pub roots : (k : ℕ) → k ≤ length P → getD T (k * class-width + root-place) 0 ≡ world P .root k
   pub counts : (k : ℕ) → k ≤ length P → getD T (k * class-width + count-place) 0 ≡ length (world P .fields k)
   pub rows : (k i r : ℕ) → k ≤ length P → nth (field-rows P k) i ≡ some r

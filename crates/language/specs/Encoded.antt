@@ -5,10 +5,13 @@ use mathlib.Core.Path.{_≡_}
 use Prim.Native.Nat.{ℕ, _+_, _*_, _<_}
 use mathlib.Core.List.{List, [], _∷_}
 use lib.ListN.{length, getD}
-use Rattle.language.specs.Rows.{Letter, T-true, L-false, N-null, I-slot, Z-is-null, G-get, K-cast, W-new, R-change}
+use Rattle.language.specs.Rows.{Letter, T-true, L-false, N-null, I-slot, Z-is-null, G-get, K-cast}
+use Rattle.language.specs.Rows.{W-new, R-change}
 use Rattle.language.specs.Rows.{A-assign, U-set, Q-call, J-choose, B-block, V-local, code}
-use Rattle.language.specs.Tree.{DeclaredType, type-number, Expr, literal-true, literal-false, literal-null, slot}
-use Rattle.language.specs.Tree.{is-null, get, cast, new, change, assign, set, call, choose, block, Exprs, nil, cons}
+use Rattle.language.specs.Tree.{DeclaredType, type-number, Expr, literal-true, literal-false}
+use Rattle.language.specs.Tree.{literal-null, slot}
+use Rattle.language.specs.Tree.{is-null, get, cast, new, change, assign, set, call, choose, block}
+use Rattle.language.specs.Tree.{Exprs, nil, cons}
 use Rattle.language.specs.Tree.{count, size, sizes}
 
 -- Row r of R has a letter and two numbers.

@@ -18,7 +18,8 @@ before xs (refuse number line) = refuse number line
 
 -- The answer where `room` numbers are lent and a record takes `width` of them.
 abbrev pub answer : ℕ → Checked (List ℕ) → ℕ → Filled
-answer width (accept xs) room = cond (leb (length xs) room) (Done (length xs / width)) (Refused room-refusal no-line)
+answer width (accept xs) room =
+    cond (leb (length xs) room) (Done (length xs / width)) (Refused room-refusal no-line)
 answer width (refuse number line) room = Refused number line
 
 -- The lent buffer afterwards.

@@ -6,7 +6,8 @@ use mathlib.Core.List.{List, [], _∷_}
 use lib.ListN.{length}
 use Rattle.language.specs.Limits.{of-check}
 use Rattle.language.specs.Rows.{C-class, F-field, M-method, P-parameter, X-effect, S-start}
-use Rattle.language.specs.Tree.{DeclaredType, type-number, kind-number, size, Field, Declaration, method-lines}
+use Rattle.language.specs.Tree.{DeclaredType, type-number, kind-number, size, Field, Declaration}
+use Rattle.language.specs.Tree.{method-lines}
 use Rattle.language.specs.Tree.{Class, class-lines, classes-lines, Program}
 use Rattle.language.specs.Program.{world}
 use Rattle.language.specs.Typing.{method-environment, start-environment}
@@ -77,6 +78,7 @@ pub record ProgramAt (R E : List ℕ) (p : Program) : Type 0 where
 -- The table of lookup classes has those of every body.
 pub record LooksUpProgram (C : List ℕ) (p : Program) : Type 0 where
   pub methods : EachClass (λ k c r.
-      EachMethod (λ k m r. LooksUp (world (p .classes)) C (m .body) (method-environment k (m .parameters)) (body-row r m))
+      EachMethod (λ k m r. LooksUp (world (p .classes)) C (m .body) (method-environment k (m .parameters))
+      (body-row r m))
       (c .methods) k (methods-from-row r c)) (p .classes) 1 0
   pub start : LooksUp (world (p .classes)) C (p .start) start-environment (start-row p + 1)

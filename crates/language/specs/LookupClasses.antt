@@ -5,7 +5,8 @@ use Prim.Native.Nat.{ℕ, _+_}
 use mathlib.Core.List.{List, map}
 use lib.ListN.{length, getD}
 use Rattle.language.specs.Frames.{opened}
-use Rattle.language.specs.Tree.{Expr, literal-true, literal-false, literal-null, slot, is-null, get, cast, new}
+use Rattle.language.specs.Tree.{Expr, literal-true, literal-false, literal-null, slot, is-null, get}
+use Rattle.language.specs.Tree.{cast, new}
 use Rattle.language.specs.Tree.{change, assign, set, call, choose, block, Exprs, nil, cons, size}
 use Rattle.language.specs.World.{World}
 use Rattle.language.specs.Effects.{apply-class}
@@ -44,4 +45,5 @@ module _ (W : World) (C : List ℕ) where
 
     pub LooksUpAll : Exprs → Environment → ℕ → Type 0
     LooksUpAll nil γ r = Unit {0}
-    LooksUpAll (cons e es) γ r = LooksUp e γ r × LooksUpAll es (typed-or (type-of W e 0 γ) .slots) (r + size e)
+    LooksUpAll (cons e es) γ r = LooksUp e γ r
+        × LooksUpAll es (typed-or (type-of W e 0 γ) .slots) (r + size e)

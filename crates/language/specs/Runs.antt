@@ -148,7 +148,8 @@ module _ (W : World) where
           → Evaluates n e (entered s) (stop (raised x) t) → Evaluates n (choose e a b) s (stop (raised x) t)
       -- Figure 6: B.
       from-block : {n x : ℕ} {ts : List DeclaredType} {es : Exprs} {s t : State}
-          → EvaluatesAll n es (with-frame (opened (s .frame) (map initial ts)) (entered s)) (stop (raised x) t)
+          → EvaluatesAll n es (with-frame (opened (s .frame) (map initial ts)) (entered s))
+          (stop (raised x) t)
           → Evaluates n (block ts es) s (stop (raised x) t)
 
     -- Several in a row, up to the first that raises an exception.

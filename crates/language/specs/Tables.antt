@@ -4,8 +4,10 @@
 use Prim.Native.Nat.{ℕ, zero, suc, _+_}
 use mathlib.Core.List.{List, [], _∷_, _++_}
 use lib.ListN.{length}
-use Rattle.language.specs.Tree.{Expr, literal-true, literal-false, literal-null, slot, is-null, get, cast}
-use Rattle.language.specs.Tree.{new, change, assign, set, call, choose, block, Exprs, nil, cons, size, sizes}
+use Rattle.language.specs.Tree.{Expr, literal-true, literal-false, literal-null, slot, is-null, get}
+use Rattle.language.specs.Tree.{cast}
+use Rattle.language.specs.Tree.{new, change, assign, set, call, choose, block, Exprs, nil, cons, size}
+use Rattle.language.specs.Tree.{sizes}
 use Rattle.language.specs.Tree.{Declaration, method-lines, Class, class-lines, classes-lines}
 use Rattle.language.specs.Tree.{Program}
 

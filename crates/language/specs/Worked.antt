@@ -33,7 +33,6 @@ use Rattle.language.specs.Evaluation.{truth, raised, spent, eval, call-a
 use Rattle.language.specs.Translation.{position, plain-slot, read-slot, _⊕_, reads, copies}
 use Rattle.language.specs.Translation.{plain-change, translate, plain-classes, plain-program}
 use Rattle.language.specs.Translation.{within-limits, fields-free, names-free, translation}
-use Rattle.language.specs.Translation.{translation-into}
 use Rattle.language.specs.Store.{Answer, ran, gave, ended, heap-numbers, capacity}
 use Rattle.language.specs.Store.{stored, runnable, run-of}
 
@@ -194,7 +193,8 @@ unfolding table nth bind-checked need-checked require earlier letter-among recor
     declared class-at kind-at is-root-class is-state-type fields-at method-at below-at root-at nearest-at
     is-changeable world need-class all-fit join-slots can-change locals-declared type-of type-method
     type-methods type-classes bodies after record-on next if-letter locals several node-of node body fields
-    parameters effects method methods classes at-end form same-types lines-within check-fields check-parameters
+    parameters effects method methods classes at-end form same-types lines-within check-fields
+    check-parameters
     check-effects check-methods check-class check-classes headings whole-rows three-passes check verdict eval
     call-at run position plain-slot read-slot _⊕_ reads copies plain-change translate plain-classes
     plain-program within-limits fields-free names-free translation heap-numbers

@@ -17,18 +17,23 @@ use lib.Dec.{eqb}
 use borrow.Author.Tests.{eqb-true}
 use native.Mathlib.Omega.{arith}
 use Rattle.language.specs.Limits.{Most, of-check}
-use Rattle.language.specs.Lists.{nth, given, choice, Never, inj, All2, a-nil, a-cons, all2-at, all2-at′, all2-append}
+use Rattle.language.specs.Lists.{nth, given, choice, Never, inj, All2, a-nil, a-cons, all2-at, all2-at′}
+use Rattle.language.specs.Lists.{all2-append}
 use Rattle.language.specs.Rows.{F-field, B-block}
-use Rattle.language.specs.Tree.{DeclaredType, type-number, Expr, block, Exprs, count, size, Field, Declaration, Class}
+use Rattle.language.specs.Tree.{DeclaredType, type-number, Expr, block, Exprs, count, size, Field}
+use Rattle.language.specs.Tree.{Declaration, Class}
 use Rattle.language.specs.Tree.{Program, method-lines, class-lines, classes-lines}
 use Rattle.language.specs.World.{Method}
 use Rattle.language.specs.Program.{method-of, declared, class-at, fields-at, method-at, world}
 use Rattle.language.specs.Typing.{method-environment}
-use Rattle.language.specs.WellFormed.{Each, each-cons, FieldInForm, MethodInForm, ClassInForm, BodyInForm, form-body}
-use Rattle.language.specs.ClassTables.{rows-from, declared-row, class-row, field-rows-at, field-rows, method-row-at, method-row}
+use Rattle.language.specs.WellFormed.{Each, each-cons, FieldInForm, MethodInForm, ClassInForm, BodyInForm}
+use Rattle.language.specs.WellFormed.{form-body}
+use Rattle.language.specs.ClassTables.{rows-from, declared-row, class-row, field-rows-at, field-rows}
+use Rattle.language.specs.ClassTables.{method-row-at, method-row}
 use Rattle.language.specs.LookupClasses.{LooksUp}
 use Rattle.language.specs.Encoded.{RowAt, NodeAt, Encoded}
-use Rattle.language.specs.Layout.{EachMethod, EachClass, FieldsAt, MethodAt, ClassAt, ProgramAt, LooksUpProgram}
+use Rattle.language.specs.Layout.{EachMethod, EachClass, FieldsAt, MethodAt, ClassAt, ProgramAt}
+use Rattle.language.specs.Layout.{LooksUpProgram}
 use Rattle.language.specs.Layout.{body-row, methods-from-row}
 use Rattle.theory.specs.Lookups.{each-at}
 
@@ -42,16 +47,19 @@ module _ (Q : ℕ → Class → ℕ → Type 0) where
   each-class-at (x ∷ cs) k r zero c h e =
       let a : k ≡ k + 0 = omega arith in
       let b : r ≡ r + 0 = omega arith in
-      subst (λ (n : ℕ). Q (k + 0) c n) b (subst (λ (n : ℕ). Q n c r) a (subst (λ (d : Class). Q k d r) (inj e) (h .0)))
+      subst (λ (n : ℕ). Q (k + 0) c n) b
+      (subst (λ (n : ℕ). Q n c r) a (subst (λ (d : Class). Q k d r) (inj e) (h .0)))
   each-class-at (x ∷ cs) k r (suc i) c h e =
       let a : suc k + i ≡ k + suc i = omega arith in
       let n = classes-lines (take i cs) in
       let b : r + class-lines x + n ≡ r + (class-lines x + n) = omega arith in
       subst (λ (n : ℕ). Q (k + suc i) c n) b
-      (subst (λ (j : ℕ). Q j c (r + class-lines x + n)) a (each-class-at cs (suc k) (r + class-lines x) i c (h .1) e))
+      (subst (λ (j : ℕ). Q j c (r + class-lines x + n)) a
+      (each-class-at cs (suc k) (r + class-lines x) i c (h .1) e))
 
   -- What holds of each class holds of the class of a number.
-  pub each-class : (P : List Class) → EachClass Q P 1 0 → (k : ℕ) (c : Class) → class-at P k ≡ some c → Q k c (class-row P k)
+  pub each-class : (P : List Class) → EachClass Q P 1 0 → (k : ℕ) (c : Class) → class-at P k ≡ some c
+      → Q k c (class-row P k)
   unfolding class-at class-row
   each-class P h zero c e = absurd (Never e)
   each-class P h (suc i) c e =
@@ -61,11 +69,13 @@ module _ (Q : ℕ → Class → ℕ → Type 0) where
       subst (λ (n : ℕ). Q (suc i) c n) (b ∙ ap (λ (n : ℕ). classes-lines (take n P)) z)
       (subst (λ (j : ℕ). Q j c (0 + classes-lines (take i P))) a (each-class-at P 1 0 i c h e))
 
-pub class-here : {R E : List ℕ} {p : Program} → ProgramAt R E p → (k : ℕ) (c : Class) → class-at (p .classes) k ≡ some c
+pub class-here : {R E : List ℕ} {p : Program} → ProgramAt R E p → (k : ℕ) (c : Class)
+    → class-at (p .classes) k ≡ some c
     → ClassAt R E k c (class-row (p .classes) k)
 class-here {R} {E} {p} h k c e = each-class (ClassAt R E) (p .classes) (h .classes) k c e
 
-pub class-in-form : {R E : List ℕ} {p : Program} → ProgramAt R E p → (k : ℕ) (c : Class) → class-at (p .classes) k ≡ some c
+pub class-in-form : {R E : List ℕ} {p : Program} → ProgramAt R E p → (k : ℕ) (c : Class)
+    → class-at (p .classes) k ≡ some c
     → ClassInForm of-check c
 unfolding class-at
 class-in-form h zero c e = absurd (Never e)
@@ -88,9 +98,22 @@ declares r (d ∷ ds) m q e = go (eqb (d .name) m) refl (λ e. declares (r + met
   where
     go : (b : Bool) → eqb (d .name) m ≡ b → (declared-row (r + method-lines d) ds m ≡ some q → Declares ds m)
         → choice b (λ _. some r) (λ _. declared-row (r + method-lines d) ds m) ≡ some q → Declares (d ∷ ds) m
-    go true t rec e = record { declaration = d; place = 0; declares = rw t; there = refl; name = eqb-true (d .name) m t }
+    go true t rec e = record {
+      declaration = d;
+      place = 0;
+      declares = rw t;
+      there = refl;
+      name = eqb-true
+          (d .name) m t;
+    }
     go false t rec e = let x = rec e in
-        record { declaration = x .declaration; place = suc (x .place); declares = rw t (x .declares); there = x .there; name = x .name }
+        record {
+          declaration = x .declaration;
+          place = suc (x .place);
+          declares = rw t (x .declares);
+          there = x .there;
+          name = x .name;
+        }
 
 declares-none : (r : ℕ) (ds : List Declaration) (m : ℕ) → declared-row r ds m ≡ none → declared ds m ≡ none
 unfolding declared-row declared
@@ -108,7 +131,8 @@ at-declared : (Q : ℕ → Declaration → ℕ → Type 0) (k r : ℕ) (ds : Lis
     → EachMethod Q ds k r → declared-row r ds m ≡ some q → declared ds m ≡ some d → Q k d q
 unfolding declared-row declared EachMethod
 at-declared Q k r [] m q d h e f = absurd (Never e)
-at-declared Q k r (x ∷ ds) m q d h e f = go (eqb (x .name) m) (λ e f. at-declared Q k (r + method-lines x) ds m q d (h .1) e f) e f
+at-declared Q k r (x ∷ ds) m q d h e f =
+    go (eqb (x .name) m) (λ e f. at-declared Q k (r + method-lines x) ds m q d (h .1) e f) e f
   where
     go : (b : Bool) → (declared-row (r + method-lines x) ds m ≡ some q → declared ds m ≡ some d → Q k d q)
         → choice b (λ _. some r) (λ _. declared-row (r + method-lines x) ds m) ≡ some q
@@ -143,7 +167,8 @@ unfolding method-row-at method-at
 going P zero k m r e = absurd (Never e)
 going P (suc n) k m r e = go (class-at P k) refl (λ c e. going P n (c .super) m r e) e
   where
-    own : (c : Class) → class-at P k ≡ some c → (o : Option ℕ) → declared-row (class-row P k + 1 + length (c .fields)) (c .methods) m ≡ o
+    own : (c : Class) → class-at P k ≡ some c → (o : Option ℕ)
+        → declared-row (class-row P k + 1 + length (c .fields)) (c .methods) m ≡ o
         → (method-row-at P n (c .super) m ≡ some r → Going P n (c .super) m r)
         → given o (method-row-at P n (c .super) m) (λ r. some r) ≡ some r → Going P (suc n) k m r
     own c p none q rec e = let x = rec e in record {
@@ -163,29 +188,37 @@ going P (suc n) k m r e = go (class-at P k) refl (λ c e. going P n (c .super) m
       found = rw (p, x .declares);
     }
 
-    go : (o : Option Class) → class-at P k ≡ o → ((c : Class) → method-row-at P n (c .super) m ≡ some r → Going P n (c .super) m r)
-        → given o none (λ c. given (declared-row (class-row P k + 1 + length (c .fields)) (c .methods) m) (method-row-at P n (c .super) m) λ r. some r)
+    go : (o : Option Class) → class-at P k ≡ o
+        → ((c : Class) → method-row-at P n (c .super) m ≡ some r → Going P n (c .super) m r)
+        → given o none (λ c. given (declared-row (class-row P k + 1 + length (c .fields)) (c .methods) m)
+        (method-row-at P n (c .super) m) λ r. some r)
         ≡ some r → Going P (suc n) k m r
     go none p rec e = absurd (Never e)
-    go (some c) p rec e = own c p (declared-row (class-row P k + 1 + length (c .fields)) (c .methods) m) refl (rec c) e
+    go (some c) p rec e =
+        own c p (declared-row (class-row P k + 1 + length (c .fields)) (c .methods) m) refl (rec c) e
 
 going-none : (P : List Class) (n k m : ℕ) → method-row-at P n k m ≡ none → method-at P n k m ≡ none
 unfolding method-row-at method-at
 going-none P zero k m e = refl
 going-none P (suc n) k m e = go (class-at P k) (λ c e. going-none P n (c .super) m e) e
   where
-    own : (c : Class) (o : Option ℕ) → declared-row (class-row P k + 1 + length (c .fields)) (c .methods) m ≡ o
+    own : (c : Class) (o : Option ℕ)
+        → declared-row (class-row P k + 1 + length (c .fields)) (c .methods) m ≡ o
         → (method-row-at P n (c .super) m ≡ none → method-at P n (c .super) m ≡ none)
         → given o (method-row-at P n (c .super) m) (λ r. some r) ≡ none
         → given (declared (c .methods) m) (method-at P n (c .super) m) (λ d. some (method-of k d)) ≡ none
     own c none q rec e = rw (declares-none _ (c .methods) m q) (rec e)
     own c (some q) t rec e = absurd (Never (sym e))
 
-    go : (o : Option Class) → ((c : Class) → method-row-at P n (c .super) m ≡ none → method-at P n (c .super) m ≡ none)
-        → given o none (λ c. given (declared-row (class-row P k + 1 + length (c .fields)) (c .methods) m) (method-row-at P n (c .super) m) λ r. some r) ≡ none
-        → given o none (λ c. given (declared (c .methods) m) (method-at P n (c .super) m) λ d. some (method-of k d)) ≡ none
+    go : (o : Option Class)
+        → ((c : Class) → method-row-at P n (c .super) m ≡ none → method-at P n (c .super) m ≡ none)
+        → given o none (λ c. given (declared-row (class-row P k + 1 + length (c .fields)) (c .methods) m)
+        (method-row-at P n (c .super) m) λ r. some r) ≡ none
+        → given o none (λ c. given (declared (c .methods) m) (method-at P n (c .super) m) λ d. some
+        (method-of k d)) ≡ none
     go none rec e = refl
-    go (some c) rec e = own c (declared-row (class-row P k + 1 + length (c .fields)) (c .methods) m) refl (rec c) e
+    go (some c) rec e = own c (declared-row (class-row P k + 1 + length (c .fields)) (c .methods) m) refl
+        (rec c) e
 
 module _ (P : List Class) where
   pub found-row : (k m r : ℕ) → method-row P k m ≡ some r → FoundRow P k m r
@@ -224,9 +257,11 @@ module _ (P : List Class) where
   pub at-found : (Q : ℕ → Declaration → ℕ → Type 0)
       → EachClass (λ k c r. EachMethod Q (c .methods) k (methods-from-row r c)) P 1 0
       → (k m r : ℕ) (x : FoundRow P k m r) → Q (x .owner) (x .declaration) r
-  at-found Q h k m r x = at-declared Q (x .owner) (class-row P (x .owner) + 1 + length (x .owning .fields)) (x .owning .methods) m r
+  at-found Q h k m r x = at-declared Q (x .owner) (class-row P (x .owner) + 1 + length (x .owning .fields))
+      (x .owning .methods) m r
       (x .declaration)
-      (each-class (λ k c r. EachMethod Q (c .methods) k (methods-from-row r c)) P h (x .owner) (x .owning) (x .is-class))
+      (each-class (λ k c r. EachMethod Q (c .methods) k (methods-from-row r c)) P h (x .owner) (x .owning)
+      (x .is-class))
       (x .row) (x .declares)
 
 -- The lines and the body of a method found.
@@ -235,20 +270,25 @@ pub record MethodHere (R E : List ℕ) (P : List Class) (k m r : ℕ) : Type 0 w
   pub at : MethodAt R E (row .declaration) r
   pub in-form : MethodInForm of-check (row .declaration)
 
-pub method-here : {R E : List ℕ} {p : Program} → ProgramAt R E p → (k m r : ℕ) → method-row (p .classes) k m ≡ some r
+pub method-here : {R E : List ℕ} {p : Program} → ProgramAt R E p → (k m r : ℕ)
+    → method-row (p .classes) k m ≡ some r
     → MethodHere R E (p .classes) k m r
 method-here {R} {E} {p} h k m r e = let x = found-row (p .classes) k m r e in record {
   row = x;
   at = at-declared (λ k d r. MethodAt R E d r) (x .owner) _ (x .owning .methods) m r (x .declaration)
       (class-here h (x .owner) (x .owning) (x .is-class) .methods) (x .row) (x .declares);
-  in-form = each-at (class-in-form h (x .owner) (x .owning) (x .is-class) .methods) (x .place) (x .declaration) (x .there);
+  in-form = each-at (class-in-form h (x .owner) (x .owning) (x .is-class) .methods) (x .place)
+      (x .declaration) (x .there);
 }
 
-pub looks-up-here : {C : List ℕ} {p : Program} → LooksUpProgram C p → (k m r : ℕ) (x : FoundRow (p .classes) k m r)
-    → LooksUp (world (p .classes)) C (x .declaration .body) (method-environment (x .owner) (x .declaration .parameters))
+pub looks-up-here : {C : List ℕ} {p : Program} → LooksUpProgram C p
+    → (k m r : ℕ) (x : FoundRow (p .classes) k m r)
+    → LooksUp (world (p .classes)) C (x .declaration .body)
+    (method-environment (x .owner) (x .declaration .parameters))
     (body-row r (x .declaration))
 looks-up-here {C} {p} h k m r x = at-found (p .classes)
-    (λ k m r. LooksUp (world (p .classes)) C (m .body) (method-environment k (m .parameters)) (body-row r m)) (h .methods) k m r x
+    (λ k m r. LooksUp (world (p .classes)) C (m .body) (method-environment k (m .parameters)) (body-row r m))
+    (h .methods) k m r x
 
 -- ---- fields
 
@@ -261,7 +301,8 @@ own-fields : (R : List ℕ) (fs : List Field) (r : ℕ) → FieldsAt R fs r → 
     → All2 (FieldHere R) fs (rows-from r fs)
 unfolding FieldsAt rows-from
 own-fields R [] r h i = a-nil
-own-fields R (f ∷ fs) r h (each-cons i is) = a-cons (record { line = h .0; in-form = i }) (own-fields R fs (r + 1) (h .1) is)
+own-fields R (f ∷ fs) r h (each-cons i is) =
+    a-cons (record { line = h .0; in-form = i }) (own-fields R fs (r + 1) (h .1) is)
 
 module _ {R E : List ℕ} {p : Program} (h : ProgramAt R E p) where
   fields-along : (n k : ℕ) → All2 (FieldHere R) (fields-at (p .classes) n k) (field-rows-at (p .classes) n k)
@@ -270,14 +311,18 @@ module _ {R E : List ℕ} {p : Program} (h : ProgramAt R E p) where
   fields-along (suc n) k = go (class-at (p .classes) k) refl (λ c. fields-along n (c .super))
     where
       go : (o : Option Class) → class-at (p .classes) k ≡ o
-          → ((c : Class) → All2 (FieldHere R) (fields-at (p .classes) n (c .super)) (field-rows-at (p .classes) n (c .super)))
+          → ((c : Class) → All2 (FieldHere R) (fields-at (p .classes) n (c .super))
+          (field-rows-at (p .classes) n (c .super)))
           → All2 (FieldHere R) (given o [] λ c. fields-at (p .classes) n (c .super) ++ c .fields)
-          (given o [] λ c. field-rows-at (p .classes) n (c .super) ++ rows-from (class-row (p .classes) k + 1) (c .fields))
+          (given o [] λ c. field-rows-at (p .classes) n (c .super) ++ rows-from (class-row (p .classes) k + 1)
+          (c .fields))
       go none e rec = a-nil
       go (some c) e rec = all2-append (rec c)
-          (own-fields R (c .fields) (class-row (p .classes) k + 1) (class-here h k c e .fields) (class-in-form h k c e .fields))
+          (own-fields R (c .fields) (class-row (p .classes) k + 1) (class-here h k c e .fields)
+          (class-in-form h k c e .fields))
 
-  pub all-fields-here : (k : ℕ) → All2 (FieldHere R) (world (p .classes) .fields k) (field-rows (p .classes) k)
+  pub all-fields-here : (k : ℕ)
+      → All2 (FieldHere R) (world (p .classes) .fields k) (field-rows (p .classes) k)
   unfolding world field-rows
   all-fields-here k = fields-along (suc k) k
 
@@ -297,6 +342,7 @@ pub record BlockHere (R E : List ℕ) (e : Expr) (r : ℕ) : Type 0 where
   pub is-block : e ≡ block locals expressions
   pub node : NodeAt R E r B-block (length locals) (count expressions) (size e)
 
-pub body-here : {R E : List ℕ} {most : Most} {n : ℕ} {e : Expr} (r : ℕ) → BodyInForm most n e → Encoded R E e r → BlockHere R E e r
+pub body-here : {R E : List ℕ} {most : Most} {n : ℕ} {e : Expr} (r : ℕ) → BodyInForm most n e
+    → Encoded R E e r → BlockHere R E e r
 unfolding Encoded size
 body-here r (form-body {ts} {es} i) h = record { locals = ts; expressions = es; is-block = refl; node = h .0 }

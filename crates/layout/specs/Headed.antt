@@ -11,12 +11,15 @@ use borrow.Author.Tests.{ltb-true}
 use Rattle.language.specs.Limits.{of-check}
 use Rattle.language.specs.Lists.{nth, Never, inj}
 use Rattle.language.specs.Results.{accept, bind-checked-inv, require-inv}
-use Rattle.language.specs.Tree.{DeclaredType, Kind, unknown, Field, Declaration, Class, class-lines, method-lines}
+use Rattle.language.specs.Tree.{DeclaredType, Kind, unknown, Field, Declaration, Class, class-lines}
+use Rattle.language.specs.Tree.{method-lines}
 use Rattle.language.specs.World.{World, is-declared-type}
 use Rattle.language.specs.Program.{is-plain, is-root, is-state, class-at, kind-at, fields-at, world}
 use Rattle.language.specs.Headings.{check-methods, check-class, check-classes, headings}
 use Rattle.language.specs.Rules.{Declared, declared-nil, declared-cons}
-use Rattle.language.specs.WellFormed.{Each, each-nil, each-cons, Extends, plain-object, plain-plain, root-object, root-plain, state-root, state-state, FieldsWell, well-nil, well-cons, EffectWell, well-none, well-root}
+use Rattle.language.specs.WellFormed.{Each, each-nil, each-cons, Extends, plain-object, plain-plain}
+use Rattle.language.specs.WellFormed.{root-object, root-plain, state-root, state-state, FieldsWell, well-nil}
+use Rattle.language.specs.WellFormed.{well-cons, EffectWell, well-none, well-root}
 use Rattle.language.proofs.Classes.{class-count}
 use Rattle.theory.specs.WellEqual.{extends, fields-well, parameters-well, effects-well}
 use Rattle.theory.specs.Superclasses.{fields-of-class, no-class-no-fields}
@@ -36,11 +39,13 @@ pub record ClassHeaded (P : List Class) (k : ℕ) (c : Class) : Type 0 where
 
 -- ---- of parts
 
-pub declared-nth : {W : World} {ts : List DeclaredType} → Declared W ts → (i : ℕ) (t : DeclaredType) → nth ts i ≡ some t
+pub declared-nth : {W : World} {ts : List DeclaredType} → Declared W ts → (i : ℕ) (t : DeclaredType)
+    → nth ts i ≡ some t
     → is-declared-type W t ≡ true
 unfolding nth
 declared-nth declared-nil i t e = absurd (Never e)
-declared-nth {W} (declared-cons d ds) zero t e = subst (λ (t : DeclaredType). is-declared-type W t ≡ true) (inj e) d
+declared-nth {W} (declared-cons d ds) zero t e =
+    subst (λ (t : DeclaredType). is-declared-type W t ≡ true) (inj e) d
 declared-nth (declared-cons d ds) (suc i) t e = declared-nth ds i t e
 
 -- A kind that may extend another is one of the three.
@@ -53,11 +58,13 @@ kind-known n state-root e = false≢true (sym (ap is-state e))
 kind-known n state-state e = false≢true (sym (ap is-state e))
 
 module _ (P : List Class) where
-  pub effects-declared : {last : ℕ} {cs : List ℕ} → EffectWell P last cs → Each (λ c. (1 ≤ c) × (c ≤ length P)) cs
+  pub effects-declared : {last : ℕ} {cs : List ℕ} → EffectWell P last cs
+      → Each (λ c. (1 ≤ c) × (c ≤ length P)) cs
   effects-declared well-none = each-nil
   effects-declared (well-root {k} c e r l w) = each-cons (class-count P k c e) (effects-declared w)
 
-  own-declared : {before fs : List Field} → FieldsWell P before fs → Each (λ (f : Field). is-declared-type (world P) (f .type) ≡ true) fs
+  own-declared : {before fs : List Field} → FieldsWell P before fs
+      → Each (λ (f : Field). is-declared-type (world P) (f .type) ≡ true) fs
   own-declared well-nil = each-nil
   own-declared (well-cons a b c d w) = each-cons b (own-declared w)
 
@@ -131,14 +138,18 @@ module _ (P : List Class) where
 
     pub fields-few : (k : ℕ) → length (world P .fields k) ≤ 17
     unfolding world
-    fields-few k = fields-law (λ fs. length fs ≤ 17) (omega arith) (λ k c p l. own-few (class-headed k c p .fields) l)
+    fields-few k = fields-law (λ fs. length fs ≤ 17) (omega arith)
+        (λ k c p l. own-few (class-headed k c p .fields) l)
         (suc k) k (omega arith)
 
-    pub field-declared : (k i : ℕ) (f : Field) → nth (world P .fields k) i ≡ some f → is-declared-type (world P) (f .type) ≡ true
+    pub field-declared : (k i : ℕ) (f : Field) → nth (world P .fields k) i ≡ some f
+        → is-declared-type (world P) (f .type) ≡ true
     unfolding world
     field-declared k i f e = each-at
         (fields-law (Each (λ (f : Field). is-declared-type (world P) (f .type) ≡ true)) each-nil
         (λ k c p l. each-append l (own-declared (class-headed k c p .fields))) (suc k) k (omega arith)) i f e
 
     pub method-headed : (k m r : ℕ) (x : FoundRow P k m r) → MethodHeaded P (x .declaration)
-    method-headed k m r x = each-at (class-headed (x .owner) (x .owning) (x .is-class) .methods) (x .place) (x .declaration) (x .there)
+    method-headed k m r x =
+        each-at (class-headed (x .owner) (x .owning) (x .is-class) .methods) (x .place) (x .declaration)
+        (x .there)

@@ -23,7 +23,8 @@ module _ {A : Type 0} (Q : ℕ → A → Type 0) where
       ((h .0, t .0), subst (Along ys) z (t .1))
 
   -- Two lists one after the other, the first of n members.
-  pub along-split : (xs ys : List A) (r n : ℕ) → length xs ≡ n → Along (xs ++ ys) r → Along xs r × Along ys (r + n)
+  pub along-split : (xs ys : List A) (r n : ℕ) → length xs ≡ n → Along (xs ++ ys) r
+      → Along xs r × Along ys (r + n)
   along-split xs ys r n e h = let t = along-append xs ys r h in
       (t .0, subst (λ (k : ℕ). Along ys (r + k)) e (t .1))
 
@@ -54,7 +55,8 @@ records-along R (x ∷ xs) r e = (
     z = omega arith
 
     at : (i : ℕ) → getD R (r * 4) 0 ≡ getD (drop (r * 4) R) 0 0
-    at i = let q : r * 4 ≡ r * 4 + 0 = omega arith in ap (λ (n : ℕ). getD R n 0) q ∙ sym (getD-drop (r * 4) R 0 0)
+    at i = let q : r * 4 ≡ r * 4 + 0 = omega arith in ap (λ (n : ℕ). getD R n 0) q
+        ∙ sym (getD-drop (r * 4) R 0 0)
 
 -- The entries that stand from place r on.
 pub ends-along : (E xs rest : List ℕ) (r : ℕ) → drop r E ≡ xs ++ rest → Along (EndAt E) xs r

@@ -8,16 +8,20 @@ use Rattle.language.specs.Limits.{of-check}
 use Rattle.language.specs.Results.{accept}
 use Rattle.language.specs.Rows.{Letter, F-field, P-parameter, X-effect, S-start, V-local, Record}
 use Rattle.language.specs.Rows.{written, row-of, rows-of, numbers-of}
-use Rattle.language.specs.Tree.{DeclaredType, type-number, Expr, literal-true, literal-false, literal-null, slot}
-use Rattle.language.specs.Tree.{is-null, get, cast, new, change, assign, set, call, choose, block, Exprs, nil, cons}
+use Rattle.language.specs.Tree.{DeclaredType, type-number, Expr, literal-true, literal-false, literal-null}
+use Rattle.language.specs.Tree.{slot}
+use Rattle.language.specs.Tree.{is-null, get, cast, new, change, assign, set, call, choose, block, Exprs, nil}
+use Rattle.language.specs.Tree.{cons}
 use Rattle.language.specs.Tree.{count, size, sizes, Field, Declaration, Class, Program, heading-lines}
 use Rattle.language.specs.Tree.{method-lines, methods-lines, class-lines, classes-lines, flatten, flattens}
 use Rattle.language.specs.Tree.{flatten-methods, flatten-classes, flatten-program}
 use Rattle.language.specs.Form.{form}
-use Rattle.language.specs.Tables.{next-rows, ends-of, ends-list, method-ends, methods-ends, class-ends, classes-ends}
+use Rattle.language.specs.Tables.{next-rows, ends-of, ends-list, method-ends, methods-ends, class-ends}
+use Rattle.language.specs.Tables.{classes-ends}
 use Rattle.language.specs.Tables.{program-ends}
 use Rattle.language.specs.Encoded.{RowAt, NodeAt, LocalsAt, Encoded, EncodedAll}
-use Rattle.language.specs.Layout.{EachMethod, EachClass, ParametersAt, EffectsAt, FieldsAt, MethodAt, ClassAt, ProgramAt}
+use Rattle.language.specs.Layout.{EachMethod, EachClass, ParametersAt, EffectsAt, FieldsAt, MethodAt, ClassAt}
+use Rattle.language.specs.Layout.{ProgramAt}
 use Rattle.language.specs.WellFormed.{ProgramInForm}
 use Rattle.language.proofs.Tables.{next-rows-long, ends-long, method-ends-long, class-ends-long}
 use Rattle.language.proofs.Tables.{classes-ends-long}
@@ -31,7 +35,8 @@ unfolding numbers-of
 rows-count [] = refl
 rows-count (x ∷ xs) = omega (arith, rows-count xs)
 
-node-at : {R E : List ℕ} {r a b : ℕ} {l : Letter} (n : ℕ) → RowAt R r l a b → EndAt E r (r + n) → NodeAt R E r l a b n
+node-at : {R E : List ℕ} {r a b : ℕ} {l : Letter} (n : ℕ) → RowAt R r l a b → EndAt E r (r + n)
+    → NodeAt R E r l a b n
 node-at n h e = record { row = h; in-ends = e .in-ends; end = e .end }
 
 module _ (R E : List ℕ) where
@@ -41,19 +46,23 @@ module _ (R E : List ℕ) where
   abbrev Ends : List ℕ → ℕ → Type 0
   Ends xs r = Along (EndAt E) xs r
 
-  abbrev split : (xs ys : List Record) (r n : ℕ) → length xs ≡ n → Records (xs ++ ys) r → Records xs r × Records ys (r + n)
+  abbrev split : (xs ys : List Record) (r n : ℕ) → length xs ≡ n → Records (xs ++ ys) r
+      → Records xs r × Records ys (r + n)
   split xs ys r n e h = along-split (RecordAt R) xs ys r n e h
 
-  abbrev split-ends : (xs ys : List ℕ) (r n : ℕ) → length xs ≡ n → Ends (xs ++ ys) r → Ends xs r × Ends ys (r + n)
+  abbrev split-ends : (xs ys : List ℕ) (r n : ℕ) → length xs ≡ n → Ends (xs ++ ys) r
+      → Ends xs r × Ends ys (r + n)
   split-ends xs ys r n e h = along-split (EndAt E) xs ys r n e h
 
   -- Lines one after another.
-  locals-at : (ts : List DeclaredType) (r : ℕ) → Records (map (λ t. written V-local (type-number t) 0) ts) r → LocalsAt R ts r
+  locals-at : (ts : List DeclaredType) (r : ℕ) → Records (map (λ t. written V-local (type-number t) 0) ts) r
+      → LocalsAt R ts r
   unfolding Along LocalsAt
   locals-at [] r h = tt
   locals-at (t ∷ ts) r h = (h .0, locals-at ts (r + 1) (h .1))
 
-  parameters-at : (ts : List DeclaredType) (r : ℕ) → Records (map (λ t. written P-parameter (type-number t) 0) ts) r
+  parameters-at : (ts : List DeclaredType) (r : ℕ)
+      → Records (map (λ t. written P-parameter (type-number t) 0) ts) r
       → ParametersAt R ts r
   unfolding Along ParametersAt
   parameters-at [] r h = tt
@@ -65,7 +74,8 @@ module _ (R E : List ℕ) where
   effects-at (c ∷ cs) r h = (h .0, effects-at cs (r + 1) (h .1))
 
   fields-at : (fs : List Field) (r : ℕ)
-      → Records (map (λ (f : Field). written F-field (type-number (f .type)) (f .name)) fs) r → FieldsAt R fs r
+      → Records (map (λ (f : Field). written F-field (type-number (f .type)) (f .name)) fs) r
+      → FieldsAt R fs r
   unfolding Along FieldsAt
   fields-at [] r h = tt
   fields-at (f ∷ fs) r h = (h .0, fields-at fs (r + 1) (h .1))
@@ -87,18 +97,24 @@ module _ (R E : List ℕ) where
     encoded (assign k e) r h z = (node-at (1 + size e) (h .0) (z .0), encoded e (r + 1) (h .1) (z .1))
     encoded (set f a b) r h z =
         let x = split (flatten a) (flatten b) (r + 1) (size a) (length-flatten a) (h .1) in
-        let y = split-ends (ends-of (r + 1) a) (ends-of (r + 1 + size a) b) (r + 1) (size a) (ends-long (r + 1) a) (z .1) in
-        (node-at (1 + size a + size b) (h .0) (z .0), encoded a (r + 1) (x .0) (y .0), encoded b (r + 1 + size a) (x .1) (y .1))
+        let y = split-ends (ends-of (r + 1) a) (ends-of (r + 1 + size a) b) (r + 1) (size a)
+        (ends-long (r + 1) a) (z .1) in (
+          node-at (1 + size a + size b) (h .0) (z .0),
+          encoded a (r + 1) (x .0) (y .0),
+          encoded b (r + 1 + size a) (x .1) (y .1),
+        )
     encoded (call m a es) r h z =
         let x = split (flatten a) (flattens es) (r + 1) (size a) (length-flatten a) (h .1) in
-        let y = split-ends (ends-of (r + 1) a) (ends-list (r + 1 + size a) es) (r + 1) (size a) (ends-long (r + 1) a) (z .1) in (
+        let y = split-ends (ends-of (r + 1) a) (ends-list (r + 1 + size a) es) (r + 1) (size a)
+        (ends-long (r + 1) a) (z .1) in (
           node-at (1 + size a + sizes es) (h .0) (z .0),
           encoded a (r + 1) (x .0) (y .0),
           encoded-all es (r + 1 + size a) (x .1) (y .1),
         )
     encoded (choose a b c) r h z =
         let x = split (flatten a) (flatten b ++ flatten c) (r + 1) (size a) (length-flatten a) (h .1) in
-        let y = split-ends (ends-of (r + 1) a) (ends-of (r + 1 + size a) b ++ ends-of (r + 1 + size a + size b) c)
+        let y = split-ends (ends-of (r + 1) a)
+        (ends-of (r + 1 + size a) b ++ ends-of (r + 1 + size a + size b) c)
         (r + 1) (size a) (ends-long (r + 1) a) (z .1) in
         let v = split (flatten b) (flatten c) (r + 1 + size a) (size b) (length-flatten b) (x .1) in
         let w = split-ends (ends-of (r + 1 + size a) b) (ends-of (r + 1 + size a + size b) c)
@@ -111,14 +127,16 @@ module _ (R E : List ℕ) where
     encoded (block ts es) r h z =
         let x = split (map (λ t. written V-local (type-number t) 0) ts) (flattens es) (r + 1) (length ts)
         (length-map ts (λ t. written V-local (type-number t) 0)) (h .1) in
-        let y = split-ends (next-rows (r + 1) (length ts)) (ends-list (r + 1 + length ts) es) (r + 1) (length ts)
+        let y = split-ends (next-rows (r + 1) (length ts)) (ends-list (r + 1 + length ts) es) (r + 1)
+        (length ts)
         (next-rows-long (r + 1) (length ts)) (z .1) in (
           node-at (1 + length ts + sizes es) (h .0) (z .0),
           locals-at ts (r + 1) (x .0),
           encoded-all es (r + 1 + length ts) (x .1) (y .1),
         )
 
-    encoded-all : (es : Exprs) (r : ℕ) → Records (flattens es) r → Ends (ends-list r es) r → EncodedAll R E es r
+    encoded-all : (es : Exprs) (r : ℕ) → Records (flattens es) r → Ends (ends-list r es) r
+        → EncodedAll R E es r
     encoded-all nil r h z = tt
     encoded-all (cons e es) r h z =
         let x = split (flatten e) (flattens es) r (size e) (length-flatten e) h in
@@ -136,13 +154,19 @@ module _ (R E : List ℕ) where
       let rest = flatten (m .body) ++ flatten-methods ms in
       let np = length (m .parameters) in
       let nx = length (m .effects) in
-      let p = split parameters (effects ++ rest) (r + 1) np (length-map (m .parameters) (λ t. written P-parameter (type-number t) 0)) (h .1) in
-      let x = split effects rest (r + 1 + np) nx (length-map (m .effects) (λ c. written X-effect c 0)) (p .1) in
-      let b = split (flatten (m .body)) (flatten-methods ms) (r + 1 + np + nx) (size (m .body)) (length-flatten (m .body)) (x .1) in
-      let e = split-ends (method-ends r m) (methods-ends (r + method-lines m) ms) r (method-lines m) (method-ends-long r m) z in
+      let p = split parameters (effects ++ rest) (r + 1) np
+      (length-map (m .parameters) (λ t. written P-parameter (type-number t) 0)) (h .1) in
+      let x = split effects rest (r + 1 + np) nx (length-map (m .effects) (λ c. written X-effect c 0))
+      (p .1) in
+      let b = split (flatten (m .body)) (flatten-methods ms) (r + 1 + np + nx) (size (m .body))
+      (length-flatten (m .body)) (x .1) in
+      let e = split-ends (method-ends r m) (methods-ends (r + method-lines m) ms) r (method-lines m)
+      (method-ends-long r m) z in
       let body-ends = ends-of (r + 1 + np + nx) (m .body) in
-      let q = split-ends (next-rows (r + 1) np) (next-rows (r + 1 + np) nx ++ body-ends) (r + 1) np (next-rows-long (r + 1) np) (e .0 .1) in
-      let y = split-ends (next-rows (r + 1 + np) nx) body-ends (r + 1 + np) nx (next-rows-long (r + 1 + np) nx) (q .1) in
+      let q = split-ends (next-rows (r + 1) np) (next-rows (r + 1 + np) nx ++ body-ends) (r + 1) np
+      (next-rows-long (r + 1) np) (e .0 .1) in
+      let y = split-ends (next-rows (r + 1 + np) nx) body-ends (r + 1 + np) nx
+      (next-rows-long (r + 1 + np) nx) (q .1) in
       let next : r + 1 + np + nx + size (m .body) ≡ r + method-lines m = omega arith in (
         record {
           line = h .0;
@@ -163,9 +187,12 @@ module _ (R E : List ℕ) where
       let nm = methods-lines (c .methods) in
       let f = split fields (flatten-methods (c .methods) ++ flatten-classes cs) (r + 1) nf
       (length-map (c .fields) (λ (f : Field). written F-field (type-number (f .type)) (f .name))) (h .1) in
-      let m = split (flatten-methods (c .methods)) (flatten-classes cs) (r + 1 + nf) nm (length-methods (c .methods)) (f .1) in
-      let e = split-ends (class-ends r c) (classes-ends (r + class-lines c) cs) r (class-lines c) (class-ends-long r c) z in
-      let q = split-ends (next-rows (r + 1) nf) (methods-ends (r + 1 + nf) (c .methods)) (r + 1) nf (next-rows-long (r + 1) nf) (e .0 .1) in
+      let m = split (flatten-methods (c .methods)) (flatten-classes cs) (r + 1 + nf) nm
+      (length-methods (c .methods)) (f .1) in
+      let e = split-ends (class-ends r c) (classes-ends (r + class-lines c) cs) r (class-lines c)
+      (class-ends-long r c) z in
+      let q = split-ends (next-rows (r + 1) nf) (methods-ends (r + 1 + nf) (c .methods)) (r + 1) nf
+      (next-rows-long (r + 1) nf) (e .0 .1) in
       let next : r + 1 + nf + nm ≡ r + class-lines c = omega arith in (
         record {
           line = h .0;
@@ -185,11 +212,13 @@ module _ (R E : List ℕ) where
       let start = (n + 1) ∷ ends-of (n + 1) (p .start) in
       let h = split (flatten-classes P) (written S-start 0 0 ∷ flatten (p .start)) 0 n (length-classes P)
       (records-along R (flatten-program p) 0 rows) in
-      let z = split-ends (classes-ends 0 P) start 0 n (classes-ends-long 0 P) (ends-along E (program-ends p) rest 0 ends) in
+      let z = split-ends (classes-ends 0 P) start 0 n (classes-ends-long 0 P)
+      (ends-along E (program-ends p) rest 0 ends) in
       let zero-n : 0 + n ≡ n = omega arith in
       let s = subst (Records (written S-start 0 0 ∷ flatten (p .start))) zero-n (h .1) in
       let t = subst (Ends start) zero-n (z .1) in
-      let long : length R ≡ 4 * length (flatten-program p) = ap length rows ∙ rows-count (flatten-program p) in
+      let long : length R ≡ 4 * length (flatten-program p) = ap length rows
+      ∙ rows-count (flatten-program p) in
       record {
         all = omega (arith, long, length-program p);
         short = omega (arith, long, formed .rows);
@@ -208,7 +237,8 @@ module _ (R E : List ℕ) where
       }
 
 -- What the form pass accepts stands in the rows that it read, and in the table that it filled.
-pub program-at : (R E : List ℕ) (p : Program) (rest : List ℕ) → form of-check (rows-of R) ≡ accept p → length R % 4 ≡ 0
+pub program-at : (R E : List ℕ) (p : Program) (rest : List ℕ) → form of-check (rows-of R) ≡ accept p
+    → length R % 4 ≡ 0
     → E ≡ program-ends p ++ rest → ProgramAt R E p
 program-at R E p rest e whole ends =
     let f = form-back of-check (omega arith) (rows-of R) p e in

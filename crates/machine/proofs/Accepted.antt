@@ -12,14 +12,20 @@ use Rattle.language.specs.Limits.{of-check}
 use Rattle.language.specs.Lists.{nth, inj}
 use Rattle.language.specs.Results.{accept, bind-checked-inv, require-inv, accept-injective}
 use Rattle.language.specs.Verdict.{whole-rows, three-passes, check}
-use Rattle.language.specs.Tree.{DeclaredType, bool, class, type-number, type-of-number, ExprType, Expr, literal-true, literal-false, literal-null, slot, is-null}
-use Rattle.language.specs.Tree.{get, cast, new, change, assign, set, call, choose, block, Exprs, nil, cons, count, Field, Class, Program}
+use Rattle.language.specs.Tree.{DeclaredType, bool, class, type-number, type-of-number, ExprType, Expr}
+use Rattle.language.specs.Tree.{literal-true, literal-false, literal-null, slot, is-null}
+use Rattle.language.specs.Tree.{get, cast, new, change, assign, set, call, choose, block, Exprs, nil, cons}
+use Rattle.language.specs.Tree.{count, Field, Class, Program}
 use Rattle.language.specs.World.{Method, is-declared}
 use Rattle.language.specs.Effects.{member}
 use Rattle.language.specs.Program.{world, class-at, method-of}
 use Rattle.language.specs.Typing.{Environment}
-use Rattle.language.specs.Rules.{Declared, declared-nil, declared-cons, HasType, HaveTypes, type-new, type-cast, type-get, type-set, type-assign, type-is-null, type-call, type-choose, type-block, type-change, types-nil, types-cons}
-use Rattle.language.specs.WellFormed.{NodeInForm, NodesInForm, form-is-null, form-get, form-cast, form-assign, form-set, form-call, form-choose, form-block, form-cons, BodyInForm, form-body, TypeInForm, ProgramWell}
+use Rattle.language.specs.Rules.{Declared, declared-nil, declared-cons, HasType, HaveTypes, type-new}
+use Rattle.language.specs.Rules.{type-cast, type-get, type-set, type-assign, type-is-null, type-call}
+use Rattle.language.specs.Rules.{type-choose, type-block, type-change, types-nil, types-cons}
+use Rattle.language.specs.WellFormed.{NodeInForm, NodesInForm, form-is-null, form-get, form-cast, form-assign}
+use Rattle.language.specs.WellFormed.{form-set, form-call, form-choose, form-block, form-cons, BodyInForm}
+use Rattle.language.specs.WellFormed.{form-body, TypeInForm, ProgramWell}
 use Rattle.language.specs.ClassTables.{ClassTables, method-row}
 use Rattle.language.specs.Layout.{ProgramAt, body-row, start-row}
 use Rattle.language.specs.Evaluation.{initial}
@@ -30,13 +36,15 @@ use Rattle.theory.specs.WellEqual.{program-well}
 use Rattle.theory.specs.Lookups.{class-well, well-formed-laws}
 use Rattle.theory.specs.MoreLookups.{well-formed-more}
 use Rattle.layout.specs.Found.{found-none, row-some, MethodHere, method-here, field-here, body-here}
-use Rattle.machine.specs.Machine.{NamedAll, Within, WithinAll, MethodAt, Linked, absent, present, FieldAt, Holds}
+use Rattle.machine.specs.Machine.{NamedAll, Within, WithinAll, MethodAt, Linked, absent, present}
+use Rattle.machine.specs.Machine.{FieldAt, Holds}
 use Rattle.machine.specs.Contracts.{Accepted, Runs}
 use Rattle.machine.proofs.Lines.{Without, without-then, without-parameters, without-effects}
 
 -- ---- expressions within the limits
 
-module _ (P : List Class) (short : (c m : ℕ) (M : Method) → world P .method c m ≡ some M → length (M .parameters) ≤ 8) where
+module _ (P : List Class)
+    (short : (c m : ℕ) (M : Method) → world P .method c m ≡ some M → length (M .parameters) ≤ 8) where
   is-in : (c : ℕ) → is-declared (world P) c ≡ true → c ≤ length P
   unfolding world
   is-in c e = leb-true c (length P) e
@@ -47,7 +55,8 @@ module _ (P : List Class) (short : (c m : ℕ) (M : Method) → world P .method 
   named (bool ∷ ts) (declared-cons e d) = (tt, named ts d)
   named (class c ∷ ts) (declared-cons e d) = (is-in c e, named ts d)
 
-  types-count : (es : Exprs) {γ γ′ : Environment} {ts : List ExprType} {φ : ℕ} → HaveTypes (world P) γ es ts γ′ φ → count es ≡ length ts
+  types-count : (es : Exprs) {γ γ′ : Environment} {ts : List ExprType} {φ : ℕ}
+      → HaveTypes (world P) γ es ts γ′ φ → count es ≡ length ts
   unfolding count
   types-count nil types-nil = refl
   types-count (cons e es) (types-cons d ds) = ap suc (types-count es ds)
@@ -58,26 +67,42 @@ module _ (P : List Class) (short : (c m : ℕ) (M : Method) → world P .method 
   mutual
     unfolding Within
 
-    pub within-form : (e : Expr) {d n : ℕ} (j : ℕ) {γ γ′ : Environment} {t : ExprType} {φ : ℕ} → j + 1 ≤ n + 8 → NodeInForm of-check d n e → HasType (world P) γ e t γ′ φ → Within (length P) j d e
+    pub within-form : (e : Expr) {d n : ℕ} (j : ℕ) {γ γ′ : Environment} {t : ExprType} {φ : ℕ} → j + 1 ≤ n + 8
+        → NodeInForm of-check d n e → HasType (world P) γ e t γ′ φ → Within (length P) j d e
     within-form literal-true j h f t = tt
     within-form literal-false j h f t = tt
     within-form literal-null j h f t = tt
     within-form (slot k) j h f t = tt
-    within-form (is-null e) j h (form-is-null {d} f) (type-is-null t b) = (omega arith, rw (less d) (within-form e j h f t))
-    within-form (get m e) j h (form-get {d} l f) (type-get t b) = (omega arith, omega (arith, l), rw (less d) (within-form e j h f t))
-    within-form (cast c e) j h (form-cast {d} l f) (type-cast t b x) = (omega arith, is-in c b, rw (less d) (within-form e j h f t))
+    within-form (is-null e) j h (form-is-null {d} f) (type-is-null t b) =
+        (omega arith, rw (less d) (within-form e j h f t))
+    within-form (get m e) j h (form-get {d} l f) (type-get t b) =
+        (omega arith, omega (arith, l), rw (less d) (within-form e j h f t))
+    within-form (cast c e) j h (form-cast {d} l f) (type-cast t b x) =
+        (omega arith, is-in c b, rw (less d) (within-form e j h f t))
     within-form (new c) j h f (type-new b) = is-in c b
     within-form (change k c) j h f (type-change b x y z) = is-in c b
-    within-form (assign k e) j h (form-assign {d} l f) (type-assign t b x) = (omega arith, rw (less d) (within-form e j h f t))
-    within-form (set m e e′) j h (form-set {d} l f f′) (type-set t t′ b x) = (omega arith, omega (arith, l), rw (less d) (within-form e j h f t), rw (less d) (within-form e′ j h f′ t′))
-    within-form (call m e es) j h (form-call {d} l c f fs) (type-call {c = k} {ts = ts} {φ₂ = φ} M t ts′ found fit) = (
+    within-form (assign k e) j h (form-assign {d} l f) (type-assign t b x) =
+        (omega arith, rw (less d) (within-form e j h f t))
+    within-form (set m e e′) j h (form-set {d} l f f′) (type-set t t′ b x) = (
       omega arith,
       omega (arith, l),
-      omega (arith, types-count es ts′, all-fit-length (world P) ts (M .parameters) fit, short _ m M found),
       rw (less d) (within-form e j h f t),
-      rw (less d) (within-all es j h fs ts′),
+      rw (less d) (within-form e′ j h f′ t′),
     )
-    within-form (choose a b c) j h (form-choose {d} f f′ f″) (type-choose t t′ t″ x) = (omega arith, rw (less d) (within-form a j h f t), rw (less d) (within-form b j h f′ t′), rw (less d) (within-form c j h f″ t″))
+    within-form (call m e es) j h (form-call {d} l c f fs)
+        (type-call {c = k} {ts = ts} {φ₂ = φ} M t ts′ found fit) = (
+          omega arith,
+          omega (arith, l),
+          omega (arith, types-count es ts′, all-fit-length (world P) ts (M .parameters) fit, short _ m M found),
+          rw (less d) (within-form e j h f t),
+          rw (less d) (within-all es j h fs ts′),
+        )
+    within-form (choose a b c) j h (form-choose {d} f f′ f″) (type-choose t t′ t″ x) = (
+      omega arith,
+      rw (less d) (within-form a j h f t),
+      rw (less d) (within-form b j h f′ t′),
+      rw (less d) (within-form c j h f″ t″),
+    )
     within-form (block ts es) {n = n} j h (form-block {d} l x y z fs) (type-block b t) = (
       omega arith,
       omega (arith, l, h),
@@ -85,17 +110,22 @@ module _ (P : List Class) (short : (c m : ℕ) (M : Method) → world P .method 
       rw (less d) (within-all es (j + length ts) (omega (arith, h)) fs t),
     )
 
-    within-all : (es : Exprs) {d n : ℕ} (j : ℕ) {γ γ′ : Environment} {ts : List ExprType} {φ : ℕ} → j + 1 ≤ n + 8 → NodesInForm of-check d n es → HaveTypes (world P) γ es ts γ′ φ → WithinAll (length P) j d es
+    within-all : (es : Exprs) {d n : ℕ} (j : ℕ) {γ γ′ : Environment} {ts : List ExprType} {φ : ℕ}
+        → j + 1 ≤ n + 8 → NodesInForm of-check d n es → HaveTypes (world P) γ es ts γ′ φ
+        → WithinAll (length P) j d es
     within-all nil j h f t = tt
-    within-all (cons e es) j h (form-cons f fs) (types-cons t ts) = (within-form e j h f t, within-all es j h fs ts)
+    within-all (cons e es) j h (form-cons f fs) (types-cons t ts) =
+        (within-form e j h f t, within-all es j h fs ts)
 
-  pub within-body : (e : Expr) {n : ℕ} (j : ℕ) {γ γ′ : Environment} {t : ExprType} {φ : ℕ} → j + 1 ≤ n + 8 → BodyInForm of-check n e → HasType (world P) γ e t γ′ φ → Within (length P) j 128 e
+  pub within-body : (e : Expr) {n : ℕ} (j : ℕ) {γ γ′ : Environment} {t : ExprType} {φ : ℕ} → j + 1 ≤ n + 8
+      → BodyInForm of-check n e → HasType (world P) γ e t γ′ φ → Within (length P) j 128 e
   within-body (block ts es) j h (form-body f) t = within-form (block ts es) j h f t
 
 -- ---- rows and tables
 
 -- The first value of a type, by its number.
-first-number : (t : DeclaredType) → TypeInForm t → cond (eqb (type-number t) 255) 1 0 ≡ value-number (initial t)
+first-number : (t : DeclaredType) → TypeInForm t
+    → cond (eqb (type-number t) 255) 1 0 ≡ value-number (initial t)
 first-number bool f = refl
 first-number (class c) f = rw (ne-eqb c 255 (λ e. no-bool (f .back) e))
   where
@@ -118,19 +148,25 @@ module _ {R E T A : List ℕ} {p : Program} (a : Accepted R E T A p) where
   lower : (k : ℕ) (c : Class) → class-at P k ≡ some c → c .super < k
   lower k c e = class-well P (well .classes) k c e .earlier
 
-  below : (k c : ℕ) → k ≤ length P → c ≤ length P → (eqb c 0 || eqb (getD A k 0 / 2 ^ (c - 1) % 2) 1) ≡ world P .below k c
+  below : (k c : ℕ) → k ≤ length P → c ≤ length P
+      → (eqb c 0 || eqb (getD A k 0 / 2 ^ (c - 1) % 2) 1) ≡ world P .below k c
   unfolding member
   below k zero l m = sym (below-object P lower k l)
   below k (suc c) l m =
-      rw (ne-eqb (suc c) 0 (λ e. omega arith), a .tables .aboves k l) (sym (below-is P lower k (suc c) l (omega arith)))
+      rw (ne-eqb (suc c) 0 (λ e. omega arith), a .tables .aboves k l)
+      (sym (below-is P lower k (suc c) l (omega arith)))
 
   field-at : (k i : ℕ) (f : Field) → k ≤ length P → nth (world P .fields k) i ≡ some f → FieldAt R T k i f
   field-at k i f l e =
       let h = field-here (a .standing) k i f e in
       let r = a .tables .rows k i (h .0) l (h .1) in
-      record { within = rw r (omega (arith, h .2 .line .within)); first = rw (r, h .2 .line .first) (first-number (f .type) (h .2 .in-form .type)) }
+      record {
+        within = rw r (omega (arith, h .2 .line .within));
+        first = rw (r, h .2 .line .first) (first-number (f .type) (h .2 .in-form .type));
+      }
 
-  method-at : (k m r : ℕ) (h : MethodHere R E P k m r) → MethodAt R E (length P) r (method-of (h .row .owner) (h .row .declaration))
+  method-at : (k m r : ℕ) (h : MethodHere R E P k m r)
+      → MethodAt R E (length P) r (method-of (h .row .owner) (h .row .declaration))
   method-at k m r h =
       let d = h .row .declaration in
       let b = body-here (body-row r d) (h .in-form .body) (h .at .body) in
@@ -141,29 +177,36 @@ module _ {R E T A : List ℕ} {p : Program} (a : Accepted R E T A p) where
         between = λ i x y e. heading .none i x (omega arith) e;
         block = b .node .row .letter;
         encoded = h .at .body;
-        within = λ n l. within-body P short (d .body) n (omega arith) (h .in-form .body) (well-formed-laws p well .bodies k m (method-of (h .row .owner) d) (h .row .found) .types);
+        within = λ n l. within-body P short (d .body) n (omega arith) (h .in-form .body)
+            (well-formed-laws p well .bodies k m (method-of (h .row .owner) d) (h .row .found) .types);
       }
     where
-      heading : Without R 66 (r + 1) (length (h .row .declaration .parameters) + length (h .row .declaration .effects))
+      heading : Without R 66 (r + 1)
+          (length (h .row .declaration .parameters) + length (h .row .declaration .effects))
       heading =
           let np = length (h .row .declaration .parameters) in
           let nx = length (h .row .declaration .effects) in
           without-then (r + 1) np (r + 1 + np) nx (np + nx)
-          (without-parameters (λ e. omega arith) (h .row .declaration .parameters) (r + 1) (h .at .parameters))
-          (without-effects (λ e. omega arith) (h .row .declaration .effects) (r + 1 + np) (h .at .effects)) refl refl
+          (without-parameters (λ e. omega arith) (h .row .declaration .parameters) (r + 1)
+          (h .at .parameters))
+          (without-effects (λ e. omega arith) (h .row .declaration .effects) (r + 1 + np) (h .at .effects))
+          refl refl
 
   linked : (k m : ℕ) → Linked R E (length P) (method-row P k m) (world P .method k m)
   linked k m = go (method-row P k m) refl
     where
       go : (o : Option ℕ) → method-row P k m ≡ o → Linked R E (length P) o (world P .method k m)
       go none e = rw (found-none P k m e) absent
-      go (some r) e = let h = method-here (a .standing) k m r e in rw (h .row .found) (present (method-at k m r h))
+      go (some r) e = let h = method-here (a .standing) k m r e in
+          rw (h .row .found) (present (method-at k m r h))
 
   declared-in : (k : ℕ) → k ≤ length P → is-declared (world P) k ≡ true
   unfolding world
   declared-in k l = le-leb k (length P) l
 
-  roots : (k : ℕ) → k ≤ length P → (world P .root k ≤ length P) × (length (world P .fields (world P .root k)) ≤ length (world P .fields k))
+  roots : (k : ℕ) → k ≤ length P
+      → (world P .root k ≤ length P)
+      × (length (world P .fields (world P .root k)) ≤ length (world P .fields k))
   roots k l =
       let laws = well-formed-laws p well in
       let x = laws .prefix k (world P .root k) (laws .sub-root k) in (
@@ -191,9 +234,11 @@ module _ {R E T A : List ℕ} {p : Program} (a : Accepted R E T A p) where
   }
 
 -- What the check of rows gives, with the tables that it fills.
-pub accepted-of : {R E T A : List ℕ} {p : Program} → check R ≡ accept p → ProgramAt R E p → ClassTables (p .classes) T A → Accepted R E T A p
+pub accepted-of : {R E T A : List ℕ} {p : Program} → check R ≡ accept p → ProgramAt R E p
+    → ClassTables (p .classes) T A → Accepted R E T A p
 unfolding check whole-rows three-passes
 accepted-of {p = p} e here tables =
-    require-inv _ _ _ _ e λ whole e. bind-checked-inv _ _ e λ q formed e. bind-checked-inv _ _ e λ u heads e. bind-checked-inv _ _ e λ v typed e.
+    require-inv _ _ _ _ e λ whole e. bind-checked-inv _ _ e λ q formed e. bind-checked-inv _ _ e λ u heads e.
+    bind-checked-inv _ _ e λ v typed e.
     let z : q ≡ p = accept-injective e in
     record { standing = here; tables = tables; headings-pass = rw z at heads; bodies-pass = rw z at typed }

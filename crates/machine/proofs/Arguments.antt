@@ -24,9 +24,11 @@ use Rattle.machine.specs.Machine.{Gave, Raised, Stopped, Stuck}
 use Rattle.machine.specs.Machine.{Counts}
 use Rattle.machine.specs.declared.Place.{Place}
 use Rattle.machine.specs.Contracts.{Answer}
-use Rattle.machine.specs.Machine.{value, Small, bare, told, told-all, slots-of, state, frame-of, WithinAll}
+use Rattle.machine.specs.Machine.{value, Small, bare, told, told-all, slots-of, state, frame-of}
+use Rattle.machine.specs.Machine.{WithinAll}
 use Rattle.machine.specs.Contracts
-use Rattle.machine.specs.Contracts.{answer, Ready, Kept, PostEval, PreArgs, PostArgs, DoneAll, evaluated, evaluated-all}
+use Rattle.machine.specs.Contracts.{answer, Ready, Kept, PostEval, PreArgs, PostArgs, DoneAll}
+use Rattle.machine.specs.Contracts.{evaluated, evaluated-all}
 use Rattle.machine.proofs.Values.{bare-ok, bare-stop, value-of-value-number, small-of}
 use Rattle.machine.proofs.Acts.{stored-same}
 use Rattle.machine.proofs.Nodes
@@ -38,44 +40,65 @@ abbrev pub further : Place → Place
 further q = record { base = q .base; scope = q .scope; top = q .top + 1; calls = q .calls }
 
 -- a value put above the frame leaves the frame
-pub frame-above : (l : List ℕ) (q : Place) (x : ℕ) → q .base + 264 ≤ q .top → q .scope + 1 ≤ 264 → frame-of (put l (q .top) x) (further q) ≡ frame-of l q
+pub frame-above : (l : List ℕ) (q : Place) (x : ℕ) → q .base + 264 ≤ q .top → q .scope + 1 ≤ 264
+    → frame-of (put l (q .top) x) (further q) ≡ frame-of l q
 unfolding frame-of
 frame-above l q x h w =
-    let a : getD (put l (q .top) x) (q .base) 0 ≡ getD l (q .base) 0 = getD-set-other l (q .top) (q .base) x 0 (λ p. omega arith) in
-    let b = slots-ext (put l (q .top) x) l (q .base + 1) (q .scope) (length-set l (q .top) x) (λ i u. getD-set-other l (q .top) (q .base + 1 + i) x 0 (λ p. omega arith)) in
+    let a : getD (put l (q .top) x) (q .base) 0 ≡ getD l (q .base) 0 =
+    getD-set-other l (q .top) (q .base) x 0 (λ p. omega arith) in
+    let b = slots-ext (put l (q .top) x) l (q .base + 1) (q .scope) (length-set l (q .top) x)
+    (λ i u. getD-set-other l (q .top) (q .base + 1 + i) x 0 (λ p. omega arith)) in
     rw (a, b)
 
-pub slots-cons : (l : List ℕ) (top m : ℕ) → top < length l → (m ≡ 0 → ⊥) → slots-of l top m ≡ value-of-number (getD l top 0) ∷ slots-of l (top + 1) (m - 1)
+pub slots-cons : (l : List ℕ) (top m : ℕ) → top < length l → (m ≡ 0 → ⊥)
+    → slots-of l top m ≡ value-of-number (getD l top 0) ∷ slots-of l (top + 1) (m - 1)
 unfolding slots-of
-slots-cons l top m h z = let e : m ≡ suc (m - 1) = omega arith in ap (λ (k : ℕ). map value-of-number (take k (drop top l))) e ∙ rw (drop-cons l top 0 h, add-one top)
+slots-cons l top m h z = let e : m ≡ suc (m - 1) = omega arith in
+    ap (λ (k : ℕ). map value-of-number (take k (drop top l))) e ∙ rw (drop-cons l top 0 h, add-one top)
 
-push-all : (o : Outcome) (vs : List Meaning) (t : State) (x : Out (List Meaning)) (v : Meaning) → told-all o vs t ≡ bare x → told-all o (v ∷ vs) t ≡ bare (bind x λ vs s. ok (v ∷ vs) s)
+push-all : (o : Outcome) (vs : List Meaning) (t : State) (x : Out (List Meaning)) (v : Meaning)
+    → told-all o vs t ≡ bare x → told-all o (v ∷ vs) t ≡ bare (bind x λ vs s. ok (v ∷ vs) s)
 unfolding bare
 push-all (Gave w) vs t x v e = rw (bare-ok x e)
 push-all (Raised n) vs t x v e = bare-stop x (λ vs s. ok (v ∷ vs) s) e
 push-all (Stopped n) vs t x v e = bare-stop x (λ vs s. ok (v ∷ vs) s) e
 push-all Stuck vs t x v e = bare-stop x (λ vs s. ok (v ∷ vs) s) e
 
-fails-all : (o : Outcome) (vs : List Meaning) (t : State) (x : Out Meaning) (k : Meaning → State → Out (List Meaning)) → ((v : Value) → o ≡ Gave v → ⊥) → told o t ≡ bare x → told-all o vs t ≡ bare (bind x k)
+fails-all : (o : Outcome) (vs : List Meaning) (t : State) (x : Out Meaning)
+    (k : Meaning → State → Out (List Meaning)) → ((v : Value) → o ≡ Gave v → ⊥) → told o t ≡ bare x
+    → told-all o vs t ≡ bare (bind x k)
 fails-all (Gave v) vs t x k not e = absurd (not v refl)
 fails-all (Raised n) vs t x k not e = bare-stop x k e
 fails-all (Stopped n) vs t x k not e = bare-stop x k e
 fails-all Stuck vs t x k not e = bare-stop x k e
 
-pub args-none : {R E T A s l : List ℕ} {at : ℕ} {q : Place} {n : Counts} {m : ℕ} {v : Value} → m ≡ 0 → Small v → PostArgs R E T A s l s l at q n m (answer (Gave v) n)
+pub args-none : {R E T A s l : List ℕ} {at : ℕ} {q : Place} {n : Counts} {m : ℕ} {v : Value} → m ≡ 0 → Small v
+    → PostArgs R E T A s l s l at q n m (answer (Gave v) n)
 unfolding eval-all count bare slots-of
-args-none {R} {E} {T} {A} {s} {l} {at} {q} {n} {m} {v} z small = record { done = λ P es d F k f room enc w many t. go P F k t f es many }
+args-none {R} {E} {T} {A} {s} {l} {at} {q} {n} {m} {v} z small =
+    record { done = λ P es d F k f room enc w many t. go P F k t f es many }
   where
-    go : (P : List Class) (F k : ℕ) → k + n .left ≡ F → {d : ℕ} → Ready R E T A s l P q n d 0 → (es : Exprs) → m ≡ count es
-        → DoneAll P s l s l q n F m (answer (Gave v) n) (evaluated-all P F (capacity s) (q .calls) es (state P s l q n k))
+    go : (P : List Class) (F k : ℕ) → k + n .left ≡ F → {d : ℕ} → Ready R E T A s l P q n d 0 → (es : Exprs)
+        → m ≡ count es
+        → DoneAll P s l s l q n F m (answer (Gave v) n)
+        (evaluated-all P F (capacity s) (q .calls) es (state P s l q n k))
     go P F k t f nil many = record {
-      kept = record { same = λ i h o. refl; long = refl; stored = stored-same (f .sound); falls = omega arith; counted = omega arith; small = small };
+      kept = record {
+        same = λ i h o. refl;
+        long = refl;
+        stored = stored-same (f .sound);
+        falls = omega arith;
+        counted = omega arith;
+        small = small;
+      };
       is = let g : F - n .left ≡ k = omega arith in rw (g, z);
     }
     go P F k t f (cons e es) many = absurd (omega arith)
 
 -- ready for the next argument
-ready-further : {R E T A s l s′ l′ : List ℕ} {P : List Class} {q : Place} {n : Counts} {d : ℕ} {r : Answer} (m x : ℕ) → (m ≡ 0 → ⊥) → Ready R E T A s l P q n d 0 → q .top + m + 9 * d + (64 - q .calls) * 1416 ≤ length l → Kept P s l s′ l′ q n 0 r
+ready-further : {R E T A s l s′ l′ : List ℕ} {P : List Class} {q : Place} {n : Counts} {d : ℕ} {r : Answer}
+    (m x : ℕ) → (m ≡ 0 → ⊥) → Ready R E T A s l P q n d 0
+    → q .top + m + 9 * d + (64 - q .calls) * 1416 ≤ length l → Kept P s l s′ l′ q n 0 r
     → Ready R E T A s′ (put l′ (q .top) x) P (further q) (r .counts) d 0
 ready-further {l′ = l′} {q = q} m x z f room k = record {
   holds = f .holds;
@@ -87,8 +110,12 @@ ready-further {l′ = l′} {q = q} m x z f room k = record {
   counted = omega (arith, f .counted, k .counted);
 }
 
-pub args-rest : {R E T A s l s′ l′ : List ℕ} {at : ℕ} {q : Place} {n : Counts} {m : ℕ} {r : Answer} {v : Value} {P : List Class} {e : Expr} {es : Exprs} {d F k : ℕ} (y : FirstAt R E T A s l at q n m P e es d F k) → m < 4294967296 → q .top + m + 9 * d + (64 - q .calls) * 1416 ≤ length l
-    → (g : PostEval R E T A s l s′ l′ at q n r) (t : r .outcome ≡ Gave v) (x : ℕ) → PreArgs R E T A s′ (put l′ (q .top) x) (getD E at 0) (further q) (r .counts) (m - 1)
+pub args-rest : {R E T A s l s′ l′ : List ℕ} {at : ℕ} {q : Place} {n : Counts} {m : ℕ} {r : Answer}
+    {v : Value} {P : List Class} {e : Expr} {es : Exprs} {d F k : ℕ}
+    (y : FirstAt R E T A s l at q n m P e es d F k) → m < 4294967296
+    → q .top + m + 9 * d + (64 - q .calls) * 1416 ≤ length l
+    → (g : PostEval R E T A s l s′ l′ at q n r) (t : r .outcome ≡ Gave v) (x : ℕ)
+    → PreArgs R E T A s′ (put l′ (q .top) x) (getD E at 0) (further q) (r .counts) (m - 1)
 args-rest {s = s} {l} {s′} {l′} {q = q} {m = m} {r} {v} {P} {e} {es} {d} {F} {k} y few room g t x =
     let a = head-done y few g t in
     let z : m ≡ 0 → ⊥ = λ u. omega (arith, y .many) in
@@ -106,12 +133,14 @@ args-rest {s = s} {l} {s′} {l′} {q = q} {m = m} {r} {v} {P} {e} {es} {d} {F}
       room = omega (arith, room, a .kept .long, length-set l′ (q .top) x, y .many);
     }
 
-module _ {R E T A s l s′ l′ : List ℕ} {at : ℕ} {q : Place} {n : Counts} {m : ℕ} {r : Answer} (z : m ≡ 0 → ⊥) (g : PostEval R E T A s l s′ l′ at q n r) where
+module _ {R E T A s l s′ l′ : List ℕ} {at : ℕ} {q : Place} {n : Counts} {m : ℕ} {r : Answer} (z : m ≡ 0 → ⊥)
+    (g : PostEval R E T A s l s′ l′ at q n r) where
   pub args-fail : ((v : Value) → r .outcome ≡ Gave v → ⊥) → PostArgs R E T A s l s′ l′ at q n m r
   unfolding eval-all count
   args-fail not = record { done = λ P es d F k f room enc w many t. go P d F k f t es enc w many }
     where
-      go : (P : List Class) (d F k : ℕ) → Ready R E T A s l P q n d 0 → k + n .left ≡ F → (es : Exprs) → EncodedAll R E es at → WithinAll (length P) (q .scope) d es → m ≡ count es
+      go : (P : List Class) (d F k : ℕ) → Ready R E T A s l P q n d 0 → k + n .left ≡ F → (es : Exprs)
+          → EncodedAll R E es at → WithinAll (length P) (q .scope) d es → m ≡ count es
           → DoneAll P s l s′ l′ q n F m r (evaluated-all P F (capacity s) (q .calls) es (state P s l q n k))
       go P d F k f t nil enc w many = absurd (z many)
       go P d F k f t (cons e es) enc w many =
@@ -119,15 +148,24 @@ module _ {R E T A s l s′ l′ : List ℕ} {at : ℕ} {q : Place} {n : Counts} 
           let a = g .done P e d F k f (x .enc-first) (x .within-first) t in
           record {
             kept = a .kept;
-            is = fails-all (r .outcome) (slots-of l′ (q .top) m) (state P s′ l′ q (r .counts) (F - r .counts .left)) (evaluated P F (capacity s) (q .calls) e (state P s l q n k))
-                (λ v u. bind (evaluated-all P F (capacity s) (q .calls) es u) λ vs y. ok (v ∷ vs) y) not (a .is);
+            is = fails-all (r .outcome) (slots-of l′ (q .top) m)
+                (state P s′ l′ q (r .counts) (F - r .counts .left))
+                (evaluated P F (capacity s) (q .calls) e (state P s l q n k))
+                (λ v u. bind (evaluated-all P F (capacity s) (q .calls) es u) λ vs y. ok (v ∷ vs) y) not
+                (a .is);
           }
 
-  pub args-step : {s″ l″ : List ℕ} {v : Value} {r′ : Answer} → r .outcome ≡ Gave v → (y : ℕ) → y ≡ value-number (value v) → PostArgs R E T A s′ (put l′ (q .top) y) s″ l″ (getD E at 0) (further q) (r .counts) (m - 1) r′ → PostArgs R E T A s l s″ l″ at q n m r′
+  pub args-step : {s″ l″ : List ℕ} {v : Value} {r′ : Answer} → r .outcome ≡ Gave v → (y : ℕ)
+      → y ≡ value-number (value v)
+      → PostArgs R E T A s′ (put l′ (q .top) y) s″ l″ (getD E at 0) (further q) (r .counts) (m - 1) r′
+      → PostArgs R E T A s l s″ l″ at q n m r′
   unfolding eval-all count frame-of
-  args-step {s″} {l″} {v} {r′} e₁ y ey g′ = record { done = λ P es d F k f room enc w many t. go P d F k f room t es enc w many }
+  args-step {s″} {l″} {v} {r′} e₁ y ey g′ =
+      record { done = λ P es d F k f room enc w many t. go P d F k f room t es enc w many }
     where
-      go : (P : List Class) (d F k : ℕ) → Ready R E T A s l P q n d 0 → q .top + m + 9 * d + (64 - q .calls) * 1416 ≤ length l → k + n .left ≡ F → (es : Exprs) → EncodedAll R E es at → WithinAll (length P) (q .scope) d es → m ≡ count es
+      go : (P : List Class) (d F k : ℕ) → Ready R E T A s l P q n d 0
+          → q .top + m + 9 * d + (64 - q .calls) * 1416 ≤ length l → k + n .left ≡ F → (es : Exprs)
+          → EncodedAll R E es at → WithinAll (length P) (q .scope) d es → m ≡ count es
           → DoneAll P s l s″ l″ q n F m r′ (evaluated-all P F (capacity s) (q .calls) es (state P s l q n k))
       go P d F k f room t nil enc w many = absurd (z many)
       go P d F k f room t (cons e es) enc w many =
@@ -135,30 +173,41 @@ module _ {R E T A s l s′ l′ : List ℕ} {at : ℕ} {q : Place} {n : Counts} 
           let a = g .done P e d F k f (x .enc-first) (x .within-first) t in
           let c : capacity s′ ≡ capacity s = room-same s s′ (a .kept .stored .long) in
           let st : State = state P s′ l′ q (r .counts) (F - r .counts .left) in
-          let gave : evaluated P F (capacity s) (q .calls) e (state P s l q n k) ≡ ok (value v) st = gives st (evaluated P F (capacity s) (q .calls) e (state P s l q n k)) e₁ (a .is) in
+          let gave : evaluated P F (capacity s) (q .calls) e (state P s l q n k) ≡ ok (value v) st =
+          gives st (evaluated P F (capacity s) (q .calls) e (state P s l q n k)) e₁ (a .is) in
           let fr = frame-above l′ q y (f .frame) (f .scoped) in
           let top : q .top < length l′ = omega (arith, room, a .kept .long, z) in
-          let b = g′ .done P es d F (F - r .counts .left) (ready-further m y z f room (a .kept)) (omega (arith, room, a .kept .long, length-set l′ (q .top) y, x .many)) (rw (x .end) (x .enc-rest)) (x .within-rest) (omega (arith, x .many)) (omega (arith, a .kept .falls)) in
+          let b = g′ .done P es d F (F - r .counts .left) (ready-further m y z f room (a .kept))
+          (omega (arith, room, a .kept .long, length-set l′ (q .top) y, x .many))
+          (rw (x .end) (x .enc-rest)) (x .within-rest) (omega (arith, x .many))
+          (omega (arith, a .kept .falls)) in
           let i = rw (fr, c) at (b .is) in
-          let stays : value-of-number (getD l″ (q .top) 0) ≡ value v = ap value-of-number (b .kept .same (q .top) (omega arith) (inr (f .frame)) ∙ (getD-set-same l′ (q .top) y 0 top ∙ ey)) ∙ value-of-value-number (value v) in
+          let stays : value-of-number (getD l″ (q .top) 0) ≡ value v =
+          ap value-of-number (b .kept .same (q .top) (omega arith) (inr (f .frame)) ∙
+          (getD-set-same l′ (q .top) y 0 top ∙ ey)) ∙ value-of-value-number (value v) in
           let long : length l″ ≡ length l′ = b .kept .long ∙ length-set l′ (q .top) y in
           record {
             kept = kept-then 0 0 0 (a .kept) (record {
-              same = λ j u o. b .kept .same j (omega arith) o ∙ getD-set-other l′ (q .top) j y 0 (λ p. omega arith);
+              same = λ j u o. b .kept .same j (omega arith) o
+                  ∙ getD-set-other l′ (q .top) j y 0 (λ p. omega arith);
               long = long;
               stored = b .kept .stored;
               falls = b .kept .falls;
               counted = b .kept .counted;
               small = b .kept .small;
             }) (omega arith);
-            is = rw (gave, slots-cons l″ (q .top) m (omega (arith, long)) z, stays) (push-all (r′ .outcome) (slots-of l″ (q .top + 1) (m - 1)) (state P s″ l″ q (r′ .counts) (F - r′ .counts .left)) (evaluated-all P F (capacity s) (q .calls) es st) (value v) i);
+            is = rw (gave, slots-cons l″ (q .top) m (omega (arith, long)) z, stays)
+                (push-all (r′ .outcome) (slots-of l″ (q .top + 1) (m - 1))
+                (state P s″ l″ q (r′ .counts) (F - r′ .counts .left))
+                (evaluated-all P F (capacity s) (q .calls) es st) (value v) i);
           }
 
 -- the loop over arguments: what is left to do, and how the whole follows from it
 abbrev pub to : Place → ℕ → Place
 to q top = record { base = q .base; scope = q .scope; top = top; calls = q .calls }
 
-pub record ArgsLoop (R E T A s₀ l₀ : List ℕ) (at : ℕ) (q : Place) (m : ℕ) (r₀ : Answer) (s l : List ℕ) (r : Answer) (top next i : ℕ) : Type 0 where
+pub record ArgsLoop (R E T A s₀ l₀ : List ℕ) (at : ℕ) (q : Place) (m : ℕ) (r₀ : Answer) (s l : List ℕ)
+    (r : Answer) (top next i : ℕ) : Type 0 where
   pub low : i ≤ m
   pub args : PreArgs R E T A s l next (to q top) (r .counts) (m - i)
   pub v : Value
@@ -167,9 +216,12 @@ pub record ArgsLoop (R E T A s₀ l₀ : List ℕ) (at : ℕ) (q : Place) (m : �
   pub falls : r .counts .left ≤ r₀ .counts .left
   pub long-store : length s ≡ length s₀
   pub long-slots : length l ≡ length l₀
-  pub rest : (s′ l′ : List ℕ) (r′ : Answer) → PostArgs R E T A s l s′ l′ next (to q top) (r .counts) (m - i) r′ → PostArgs R E T A s₀ l₀ s′ l′ at q (r₀ .counts) m r′
+  pub rest : (s′ l′ : List ℕ) (r′ : Answer)
+      → PostArgs R E T A s l s′ l′ next (to q top) (r .counts) (m - i) r′
+      → PostArgs R E T A s₀ l₀ s′ l′ at q (r₀ .counts) m r′
 
-pub args-start : {R E T A s l : List ℕ} {at : ℕ} {q : Place} {n : Counts} {m : ℕ} {o : Outcome} → PreArgs R E T A s l at q n m → o ≡ Gave Null
+pub args-start : {R E T A s l : List ℕ} {at : ℕ} {q : Place} {n : Counts} {m : ℕ} {o : Outcome}
+    → PreArgs R E T A s l at q n m → o ≡ Gave Null
     → ArgsLoop R E T A s l at q m (answer (Gave Null) n) s l (answer o n) (q .top) at 0
 args-start {m = m} p gave =
     let z : m - 0 ≡ m = omega arith in
@@ -185,36 +237,43 @@ args-start {m = m} p gave =
       rest = λ s′ l′ r′ g. rw z at g;
     }
 
-module _ {R E T A s₀ l₀ : List ℕ} {at : ℕ} {q : Place} {m : ℕ} {r₀ : Answer} {s l : List ℕ} {r : Answer} {top next i : ℕ} (x : ArgsLoop R E T A s₀ l₀ at q m r₀ s l r top next i) where
+module _ {R E T A s₀ l₀ : List ℕ} {at : ℕ} {q : Place} {m : ℕ} {r₀ : Answer} {s l : List ℕ} {r : Answer}
+    {top next i : ℕ} (x : ArgsLoop R E T A s₀ l₀ at q m r₀ s l r top next i) where
   pub args-ended : m ≤ i → PostArgs R E T A s₀ l₀ s l at q (r₀ .counts) m r
   args-ended h =
       let z : m - i ≡ 0 = omega arith in
-      let g : PostArgs R E T A s l s l next (to q top) (r .counts) (m - i) (answer (r .outcome) (r .counts)) = rw (x .gave) (args-none z (x .small)) in
+      let g : PostArgs R E T A s l s l next (to q top) (r .counts) (m - i) (answer (r .outcome) (r .counts)) =
+      rw (x .gave) (args-none z (x .small)) in
       x .rest s l r g
 
   module _ (h : i < m) where
-    abbrev pub args-head : (e : Expr) × (es : Exprs) × FirstAt R E T A s l next (to q top) (r .counts) (m - i) (x .args .list .P) e es (x .args .list .d) (r .counts .left) 0
+    abbrev pub args-head : (e : Expr) × (es : Exprs)
+        × FirstAt R E T A s l next (to q top) (r .counts) (m - i) (x .args .list .P) e es (x .args .list .d)
+        (r .counts .left) 0
     args-head = list-apart (x .args .list) (λ z. omega arith)
 
-    module _ {s′ l′ : List ℕ} {r′ : Answer} (g : PostEval R E T A s l s′ l′ next (to q top) (r .counts) r′) where
-      pub args-broken : ((v : Value) → r′ .outcome ≡ Gave v → ⊥) → PostArgs R E T A s₀ l₀ s′ l′ at q (r₀ .counts) m r′
-      args-broken not = x .rest s′ l′ r′ (args-fail (λ z. omega arith) g not)
+    module _ {s′ l′ : List ℕ} {r′ : Answer} (g : PostEval R E T A s l s′ l′ next (to q top) (r .counts) r′)
+      where
+        pub args-broken : ((v : Value) → r′ .outcome ≡ Gave v → ⊥)
+            → PostArgs R E T A s₀ l₀ s′ l′ at q (r₀ .counts) m r′
+        args-broken not = x .rest s′ l′ r′ (args-fail (λ z. omega arith) g not)
 
-      pub args-room : top < length l′
-      args-room = omega (arith, x .args .room, kept-of (list-first (args-head .2)) g .long)
+        pub args-room : top < length l′
+        args-room = omega (arith, x .args .room, kept-of (list-first (args-head .2)) g .long)
 
-      pub args-next : {w : Value} (y : ℕ) → r′ .outcome ≡ Gave w → y ≡ value-number (value w) → ArgsLoop R E T A s₀ l₀ at q m r₀ s′ (put l′ top y) r′ (top + 1) (getD E next 0) (i + 1)
-      args-next {w} y t ey =
-          let k = kept-of (list-first (args-head .2)) g in
-          let z : m - i - 1 ≡ m - (i + 1) = omega arith in
-          record {
-            low = omega arith;
-            args = rw z at (args-rest (args-head .2) (x .args .list .few) (x .args .room) g t y);
-            v = w;
-            gave = t;
-            small = small-of t (k .small);
-            falls = omega (arith, k .falls, x .falls);
-            long-store = k .stored .long ∙ x .long-store;
-            long-slots = length-set l′ top y ∙ (k .long ∙ x .long-slots);
-            rest = λ s″ l″ r″ p. x .rest s″ l″ r″ (args-step (λ z. omega arith) g t y ey (rw (sym z) at p));
-          }
+        pub args-next : {w : Value} (y : ℕ) → r′ .outcome ≡ Gave w → y ≡ value-number (value w)
+            → ArgsLoop R E T A s₀ l₀ at q m r₀ s′ (put l′ top y) r′ (top + 1) (getD E next 0) (i + 1)
+        args-next {w} y t ey =
+            let k = kept-of (list-first (args-head .2)) g in
+            let z : m - i - 1 ≡ m - (i + 1) = omega arith in
+            record {
+              low = omega arith;
+              args = rw z at (args-rest (args-head .2) (x .args .list .few) (x .args .room) g t y);
+              v = w;
+              gave = t;
+              small = small-of t (k .small);
+              falls = omega (arith, k .falls, x .falls);
+              long-store = k .stored .long ∙ x .long-store;
+              long-slots = length-set l′ top y ∙ (k .long ∙ x .long-slots);
+              rest = λ s″ l″ r″ p. x .rest s″ l″ r″ (args-step (λ z. omega arith) g t y ey (rw (sym z) at p));
+            }

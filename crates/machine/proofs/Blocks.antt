@@ -25,9 +25,11 @@ use Rattle.machine.specs.Machine.{Gave, Raised, Stopped, Stuck}
 use Rattle.machine.specs.Machine.{Counts}
 use Rattle.machine.specs.declared.Place.{Place}
 use Rattle.machine.specs.Contracts.{Answer}
-use Rattle.machine.specs.Machine.{value, bare, told, slots-of, NamedAll, Named, inside, state, frame-of, Within, WithinAll}
+use Rattle.machine.specs.Machine.{value, bare, told, slots-of, NamedAll, Named, inside, state, frame-of}
+use Rattle.machine.specs.Machine.{Within, WithinAll}
 use Rattle.machine.specs.Contracts
-use Rattle.machine.specs.Contracts.{Ready, PreEntered, PostNode, PreList, PostItems, Opened, Locals, first-of-type, evaluated-all}
+use Rattle.machine.specs.Contracts.{Ready, PreEntered, PostNode, PreList, PostItems, Opened, Locals}
+use Rattle.machine.specs.Contracts.{first-of-type, evaluated-all}
 use Rattle.machine.proofs.Nodes
 use Rattle.machine.proofs.Nodes.{head, as-block}
 use Rattle.machine.proofs.Steps
@@ -37,23 +39,29 @@ abbrev pub inner : Place → ℕ → Place
 inner q v = record { base = q .base; scope = q .scope + v; top = q .top; calls = q .calls }
 
 -- the V line of a local
-local-row : (R : List ℕ) (ts : List DeclaredType) (row j : ℕ) (t : DeclaredType) → LocalsAt R ts row → nth ts j ≡ some t → ((row + j) * 4 + 3 < length R) × (getD R ((row + j) * 4 + 1) 0 ≡ type-number t)
+local-row : (R : List ℕ) (ts : List DeclaredType) (row j : ℕ) (t : DeclaredType) → LocalsAt R ts row
+    → nth ts j ≡ some t → ((row + j) * 4 + 3 < length R) × (getD R ((row + j) * 4 + 1) 0 ≡ type-number t)
 unfolding LocalsAt nth
 local-row R [] row j t h e = absurd (Never e)
-local-row R (x ∷ ts) row zero t h e = let z : row + 0 ≡ row = omega arith in let y : x ≡ t = inj e in rw (z, ← y) (h .0 .within, h .0 .first)
-local-row R (x ∷ ts) row (suc j) t h e = let z : row + 1 + j ≡ row + suc j = omega arith in rw z at (local-row R ts (row + 1) j t (h .1) e)
+local-row R (x ∷ ts) row zero t h e = let z : row + 0 ≡ row = omega arith in let y : x ≡ t = inj e in
+    rw (z, ← y) (h .0 .within, h .0 .first)
+local-row R (x ∷ ts) row (suc j) t h e = let z : row + 1 + j ≡ row + suc j = omega arith in
+    rw z at (local-row R ts (row + 1) j t (h .1) e)
 
-local-named : (k : ℕ) (ts : List DeclaredType) (j : ℕ) (t : DeclaredType) → NamedAll k ts → nth ts j ≡ some t → Named k t
+local-named : (k : ℕ) (ts : List DeclaredType) (j : ℕ) (t : DeclaredType) → NamedAll k ts → nth ts j ≡ some t
+    → Named k t
 unfolding NamedAll nth
 local-named k [] j t h e = absurd (Never e)
 local-named k (x ∷ ts) zero t h e = rw (inj e) at (h .0)
 local-named k (x ∷ ts) (suc j) t h e = local-named k ts j t (h .1) e
 
-first-initial : (k : ℕ) (t : DeclaredType) → k ≤ 64 → Named k t → value-of-number (first-of-type (type-number t)) ≡ initial t
+first-initial : (k : ℕ) (t : DeclaredType) → k ≤ 64 → Named k t
+    → value-of-number (first-of-type (type-number t)) ≡ initial t
 first-initial k bool h n = refl
 first-initial k (class c) h n = rw (ne-eqb c 255 (λ e. omega arith))
 
-slots-at : (l : List ℕ) (from m i : ℕ) → i < m → from + i < length l → nth (slots-of l from m) i ≡ some (value-of-number (getD l (from + i) 0))
+slots-at : (l : List ℕ) (from m i : ℕ) → i < m → from + i < length l
+    → nth (slots-of l from m) i ≡ some (value-of-number (getD l (from + i) 0))
 unfolding slots-of
 slots-at l from m i h k = values-at l from m i h k
 
@@ -61,7 +69,8 @@ nth-from : (xs ys : List Meaning) (n j i : ℕ) → length xs ≡ n → n + j �
 nth-from xs ys n j i a e = ap (nth (xs ++ ys)) (sym e ∙ ap (λ (k : ℕ). k + j) (sym a)) ∙ nth-past xs ys j
 
 -- B taken apart
-pub record BlockAt (R E T A s l : List ℕ) (at : ℕ) (q : Place) (n : Counts) (P : List Class) (ts : List DeclaredType) (es : Exprs) (d F k : ℕ) : Type 0 where
+pub record BlockAt (R E T A s l : List ℕ) (at : ℕ) (q : Place) (n : Counts) (P : List Class)
+    (ts : List DeclaredType) (es : Exprs) (d F k : ℕ) : Type 0 where
   pub ready : Ready R E T A s l P q n d 1
   pub row : at * 4 + 3 < length R
   pub locals : getD R (at * 4 + 1) 0 ≡ length ts
@@ -73,7 +82,9 @@ pub record BlockAt (R E T A s l : List ℕ) (at : ℕ) (q : Place) (n : Counts) 
   pub within : WithinAll (length P) (q .scope + length ts) (d - 1) es
   pub total : k + n .left ≡ F
 
-block-parts : {R E T A s l : List ℕ} {at : ℕ} {q : Place} {n : Counts} (P : List Class) (ts : List DeclaredType) (es : Exprs) (d F k : ℕ) → Ready R E T A s l P q n d 1 → Encoded R E (block ts es) at → Within (length P) (q .scope) d (block ts es) → k + n .left ≡ F
+block-parts : {R E T A s l : List ℕ} {at : ℕ} {q : Place} {n : Counts} (P : List Class)
+    (ts : List DeclaredType) (es : Exprs) (d F k : ℕ) → Ready R E T A s l P q n d 1
+    → Encoded R E (block ts es) at → Within (length P) (q .scope) d (block ts es) → k + n .left ≡ F
     → BlockAt R E T A s l at q n P ts es d F k
 unfolding Encoded Within
 block-parts P ts es d F k r enc w z = record {
@@ -89,52 +100,87 @@ block-parts P ts es d F k r enc w z = record {
   total = z;
 }
 
-pub block-apart : {R E T A s l : List ℕ} {at : ℕ} {q : Place} {n : Counts} (p : PreEntered R E T A s l at q n) → getD R (at * 4) 0 ≡ 66
+pub block-apart : {R E T A s l : List ℕ} {at : ℕ} {q : Place} {n : Counts} (p : PreEntered R E T A s l at q n)
+    → getD R (at * 4) 0 ≡ 66
     → (ts : List DeclaredType) × (es : Exprs) × BlockAt R E T A s l at q n (p .P) ts es (p .d) (n .left) 0
 block-apart {at = at} {n = n} p h =
-    let x = as-block (p .e) (sym (head (p .e) (p .encoded) .letter) ∙ h) in
-    (x .0, x .1, block-parts {at = at} (p .P) (x .0) (x .1) (p .d) (n .left) 0 (p .ready) (rw (x .2) at (p .encoded)) (rw (x .2) at (p .within)) (omega arith))
+    let x = as-block (p .e) (sym (head (p .e) (p .encoded) .letter) ∙ h) in (
+      x .0,
+      x .1,
+      block-parts {at = at} (p .P) (x .0) (x .1) (p .d) (n .left) 0 (p .ready)
+          (rw (x .2) at (p .encoded)) (rw (x .2) at (p .within)) (omega arith),
+    )
 
-module _ {R E T A s l : List ℕ} {at : ℕ} {q : Place} {n : Counts} {P : List Class} {ts : List DeclaredType} {es : Exprs} {d F k : ℕ} (x : BlockAt R E T A s l at q n P ts es d F k) where
+module _ {R E T A s l : List ℕ} {at : ℕ} {q : Place} {n : Counts} {P : List Class} {ts : List DeclaredType}
+    {es : Exprs} {d F k : ℕ} (x : BlockAt R E T A s l at q n P ts es d F k) where
   pub block-locals : Locals R l (at + 1) (q .base + 1 + q .scope) (getD R (at * 4 + 1) 0)
   block-locals = record {
     room = omega (arith, x .locals, x .wide, x .ready .frame, x .ready .above);
-    rows = λ i h. let t = some-at ts i (omega (arith, x .locals)) in omega (arith, local-row R ts (at + 1) i (t .0) (x .lines) (t .1) .0);
+    rows = λ i h. let t = some-at ts i (omega (arith, x .locals)) in
+        omega (arith, local-row R ts (at + 1) i (t .0) (x .lines) (t .1) .0);
   }
 
   module _ {l′ : List ℕ} (w : Opened R l l′ (at + 1) (q .base + 1 + q .scope) (getD R (at * 4 + 1) 0)) where
-    opened-slots : slots-of l′ (q .base + 1) (q .scope + getD R (at * 4 + 1) 0) ≡ slots-of l (q .base + 1) (q .scope) ++ map initial ts
+    opened-slots : slots-of l′ (q .base + 1) (q .scope + getD R (at * 4 + 1) 0)
+        ≡ slots-of l (q .base + 1) (q .scope) ++ map initial ts
     opened-slots =
         let v : ℕ = getD R (at * 4 + 1) 0 in
-        let room : q .base + 1 + (q .scope + v) ≤ length l′ = omega (arith, w .long, x .locals, x .wide, x .ready .frame, x .ready .above) in
+        let room : q .base + 1 + (q .scope + v) ≤ length l′ =
+        omega (arith, w .long, x .locals, x .wide, x .ready .frame, x .ready .above) in
         let a = slots-length l (q .base + 1) (q .scope) (omega (arith, w .long)) in
-        nth-ext (slots-of l′ (q .base + 1) (q .scope + v)) (slots-of l (q .base + 1) (q .scope) ++ map initial ts)
-        (slots-length l′ (q .base + 1) (q .scope + v) room ∙ sym (length-append (slots-of l (q .base + 1) (q .scope)) (map initial ts) ∙ (ap₂ (λ (x y : ℕ). x + y) a (length-map ts initial) ∙ omega (arith, x .locals))))
-        (λ i h. let h′ : i < q .scope + v = omega (arith, slots-length l′ (q .base + 1) (q .scope + v) room) in slots-at l′ (q .base + 1) (q .scope + v) i h′ (omega arith) ∙ go a room i h′ (lt-or i (q .scope)))
+        nth-ext (slots-of l′ (q .base + 1) (q .scope + v))
+        (slots-of l (q .base + 1) (q .scope) ++ map initial ts)
+        (slots-length l′ (q .base + 1) (q .scope + v) room
+        ∙ sym (length-append (slots-of l (q .base + 1) (q .scope)) (map initial ts)
+        ∙ (ap₂ (λ (x y : ℕ). x + y) a (length-map ts initial) ∙ omega (arith, x .locals))))
+        (λ i h. let h′ : i < q .scope + v =
+        omega (arith, slots-length l′ (q .base + 1) (q .scope + v) room) in
+        slots-at l′ (q .base + 1) (q .scope + v) i h′ (omega arith) ∙ go a room i h′ (lt-or i (q .scope)))
       where
-        go : length (slots-of l (q .base + 1) (q .scope)) ≡ q .scope → q .base + 1 + (q .scope + getD R (at * 4 + 1) 0) ≤ length l′ → (i : ℕ) → i < q .scope + getD R (at * 4 + 1) 0 → (i < q .scope) ⊎ (q .scope ≤ i)
-            → some (value-of-number (getD l′ (q .base + 1 + i) 0)) ≡ nth (slots-of l (q .base + 1) (q .scope) ++ map initial ts) i
+        go : length (slots-of l (q .base + 1) (q .scope)) ≡ q .scope
+            → q .base + 1 + (q .scope + getD R (at * 4 + 1) 0) ≤ length l′ → (i : ℕ)
+            → i < q .scope + getD R (at * 4 + 1) 0 → (i < q .scope) ⊎ (q .scope ≤ i)
+            → some (value-of-number (getD l′ (q .base + 1 + i) 0))
+            ≡ nth (slots-of l (q .base + 1) (q .scope) ++ map initial ts) i
         go a room i h (inl o) =
             ap (λ (y : ℕ). some (value-of-number y)) (w .outside (q .base + 1 + i) (inl (omega arith)))
-            ∙ sym (nth-append (slots-of l (q .base + 1) (q .scope)) (map initial ts) i (value-of-number (getD l (q .base + 1 + i) 0)) (slots-at l (q .base + 1) (q .scope) i o (omega (arith, w .long))))
+            ∙ sym (nth-append (slots-of l (q .base + 1) (q .scope)) (map initial ts) i
+            (value-of-number (getD l (q .base + 1 + i) 0))
+            (slots-at l (q .base + 1) (q .scope) i o (omega (arith, w .long))))
         go a room i h (inr o) =
             let j : ℕ = i - q .scope in
             let t = some-at ts j (omega (arith, x .locals)) in
             let e : q .base + 1 + q .scope + j ≡ q .base + 1 + i = omega arith in
             let e′ : q .scope + j ≡ i = omega arith in
             let y = rw e at (w .inside j (omega arith)) in
-            let f : getD R ((at + 1 + j) * 4 + 1) 0 ≡ type-number (t .0) = local-row R ts (at + 1) j (t .0) (x .lines) (t .1) .1 in
-            let p′ : nth (slots-of l (q .base + 1) (q .scope) ++ map initial ts) i ≡ some (initial (t .0)) = nth-from (slots-of l (q .base + 1) (q .scope)) (map initial ts) (q .scope) j i a e′ ∙ nth-map initial j ts (t .0) (t .1) in
-            ap some (ap value-of-number (y ∙ ap first-of-type f) ∙ first-initial (length P) (t .0) (x .ready .holds .classes) (local-named (length P) ts j (t .0) (x .named) (t .1))) ∙ sym p′
+            let f : getD R ((at + 1 + j) * 4 + 1) 0 ≡ type-number (t .0) =
+            local-row R ts (at + 1) j (t .0) (x .lines) (t .1) .1 in
+            let p′ : nth (slots-of l (q .base + 1) (q .scope) ++ map initial ts) i ≡ some (initial (t .0)) =
+            nth-from (slots-of l (q .base + 1) (q .scope)) (map initial ts) (q .scope) j i a e′
+            ∙ nth-map initial j ts (t .0) (t .1) in
+            ap some (ap value-of-number (y ∙ ap first-of-type f)
+            ∙ first-initial (length P) (t .0) (x .ready .holds .classes)
+            (local-named (length P) ts j (t .0) (x .named) (t .1))) ∙ sym p′
 
     pub frame-opened : frame-of l′ (inner q (getD R (at * 4 + 1) 0)) ≡ opened (frame-of l q) (map initial ts)
     unfolding frame-of
     frame-opened = rw (w .outside (q .base) (inl (omega arith)), opened-slots)
 
     pub ready-inner : Ready R E T A s l′ P (inner q (getD R (at * 4 + 1) 0)) n (d - 1) 0
-    ready-inner = record { holds = x .ready .holds; sound = x .ready .sound; frame = x .ready .frame; scoped = omega (arith, x .wide, x .locals); above = omega (arith, x .ready .above, w .long); active = x .ready .active; counted = omega (arith, x .ready .counted) }
+    ready-inner = record {
+      holds = x .ready .holds;
+      sound = x .ready .sound;
+      frame = x .ready .frame;
+      scoped =
+          omega (arith, x .wide, x .locals);
+      above = omega (arith, x .ready .above, w .long);
+      active = x .ready .active;
+      counted = omega (arith, x .ready .counted);
+    }
 
-    pub block-items : getD R (at * 4 + 2) 0 < 4294967296 → PreList R E T A s l′ (at + 1 + getD R (at * 4 + 1) 0) (inner q (getD R (at * 4 + 1) 0)) n (getD R (at * 4 + 2) 0)
+    pub block-items : getD R (at * 4 + 2) 0 < 4294967296
+        → PreList R E T A s l′ (at + 1 + getD R (at * 4 + 1) 0) (inner q (getD R (at * 4 + 1) 0)) n
+        (getD R (at * 4 + 2) 0)
     block-items few = record {
       P = P;
       es = es;
@@ -149,7 +195,8 @@ module _ {R E T A s l : List ℕ} {at : ℕ} {q : Place} {n : Counts} {P : List 
 -- the slots of a block go when it ends
 closed-slots : (l : List ℕ) (from m v : ℕ) → take m (slots-of l from (m + v)) ≡ slots-of l from m
 unfolding slots-of
-closed-slots l from m v = sym (map-take value-of-number m (take (m + v) (drop from l))) ∙ ap (map value-of-number) (take-take m (m + v) (drop from l) (omega arith))
+closed-slots l from m v = sym (map-take value-of-number m (take (m + v) (drop from l)))
+    ∙ ap (map value-of-number) (take-take m (m + v) (drop from l) (omega arith))
   where
     map-take : {A B : Type 0} (f : A → B) (n : ℕ) (l : List A) → map f (take n l) ≡ take n (map f l)
     map-take f zero l = refl
@@ -157,9 +204,11 @@ closed-slots l from m v = sym (map-take value-of-number m (take (m + v) (drop fr
     map-take {B = B} f (suc n) (x ∷ xs) = ap (λ (l : List B). f x ∷ l) (map-take f n xs)
 
 -- from the value of the last to that of the block
-close : (o : Outcome) (P : List Class) (s l : List ℕ) (q : Place) (v m : ℕ) (n : Counts) (steps : ℕ) (x : Out (List Meaning)) → m ≡ q .scope
+close : (o : Outcome) (P : List Class) (s l : List ℕ) (q : Place) (v m : ℕ) (n : Counts) (steps : ℕ)
+    (x : Out (List Meaning)) → m ≡ q .scope
     → told o (state P s l (inner q v) n steps) ≡ bare (bind x λ vs t. ok (last-value null vs) t)
-    → told o (state P s l q n steps) ≡ bare (bind x λ vs t. ok (last-value null vs) (with-frame (closed m (t .frame)) t))
+    → told o (state P s l q n steps)
+    ≡ bare (bind x λ vs t. ok (last-value null vs) (with-frame (closed m (t .frame)) t))
 unfolding bare frame-of
 close (Gave w) P s l q v m n steps (ok vs t) z e =
     let e₁ : value w ≡ last-value null vs = cc in
@@ -173,19 +222,23 @@ close (Stopped i) P s l q v m n steps (stop y t) z e = e
 close Stuck P s l q v m n steps (ok vs t) z e = let u : _≡_ {A = ℕ} 0 1 = cc in absurd (omega arith)
 close Stuck P s l q v m n steps (stop y t) z e = e
 
-frame-scope : (l : List ℕ) (q : Place) → q .base + 1 + q .scope ≤ length l → length (frame-of l q .slots) ≡ q .scope
+frame-scope : (l : List ℕ) (q : Place) → q .base + 1 + q .scope ≤ length l
+    → length (frame-of l q .slots) ≡ q .scope
 unfolding frame-of
 frame-scope l q h = slots-length l (q .base + 1) (q .scope) h
 
-pub block-done : {R E T A s l l′ s″ l″ : List ℕ} (at : ℕ) {q : Place} {n : Counts} {r : Answer} → getD R (at * 4) 0 ≡ 66 → Opened R l l′ (at + 1) (q .base + 1 + q .scope) (getD R (at * 4 + 1) 0)
-    → PostItems R E T A s l′ s″ l″ (at + 1 + getD R (at * 4 + 1) 0) (inner q (getD R (at * 4 + 1) 0)) n (getD R (at * 4 + 2) 0) Null r → PostNode R E T A s l s″ l″ at q n r
+pub block-done : {R E T A s l l′ s″ l″ : List ℕ} (at : ℕ) {q : Place} {n : Counts} {r : Answer}
+    → getD R (at * 4) 0 ≡ 66 → Opened R l l′ (at + 1) (q .base + 1 + q .scope) (getD R (at * 4 + 1) 0)
+    → PostItems R E T A s l′ s″ l″ (at + 1 + getD R (at * 4 + 1) 0) (inner q (getD R (at * 4 + 1) 0)) n
+    (getD R (at * 4 + 2) 0) Null r → PostNode R E T A s l s″ l″ at q n r
 unfolding inside
 block-done {R} {E} {T} {A} {s} {l} {l′} {s″} {l″} at {q} {n} {r} h w p = record {
   done = λ P e d F k f enc wi z.
       let v : ℕ = getD R (at * 4 + 1) 0 in
       let y = as-block e (sym (head e enc .letter) ∙ h) in
       let x = block-parts {at = at} P (y .0) (y .1) d F k f (rw (y .2) at enc) (rw (y .2) at wi) z in
-      let b = p .done P (y .1) (d - 1) F k (ready-inner x w) (rw (x .locals) (x .enc)) (rw (x .locals) (x .within)) (x .many) z in
+      let b = p .done P (y .1) (d - 1) F k (ready-inner x w) (rw (x .locals) (x .enc))
+      (rw (x .locals) (x .within)) (x .many) z in
       let i = rw (frame-opened x w) at (b .is) in
       record {
         kept = record {
@@ -196,11 +249,17 @@ block-done {R} {E} {T} {A} {s} {l} {l′} {s″} {l″} at {q} {n} {r} h w p = r
           counted = omega (arith, b .kept .counted);
           small = b .kept .small;
         };
-        is = rw (y .2) (close (r .outcome) P s″ l″ q v (length (frame-of l q .slots)) (r .counts) (F - r .counts .left) (evaluated-all P F (capacity s) (q .calls) (y .1) (with-frame (opened (frame-of l q) (map initial (y .0))) (state P s l q n k))) (scope P d f) i);
+        is = rw (y .2) (close (r .outcome) P s″ l″ q v (length (frame-of l q .slots)) (r .counts)
+            (F - r .counts .left)
+            (evaluated-all P F (capacity s) (q .calls) (y .1)
+            (with-frame (opened (frame-of l q) (map initial (y .0))) (state P s l q n k))) (scope P d f) i);
       };
 }
   where
-    far : (P : List Class) (d : ℕ) → Ready R E T A s l P q n d 1 → {ts : List DeclaredType} {es : Exprs} {F k : ℕ} → BlockAt R E T A s l at q n P ts es d F k → (i : ℕ) → (i < q .base) ⊎ (q .base + 264 ≤ i) → (i < q .base + 1 + q .scope) ⊎ (q .base + 1 + q .scope + getD R (at * 4 + 1) 0 ≤ i)
+    far : (P : List Class) (d : ℕ) → Ready R E T A s l P q n d 1
+        → {ts : List DeclaredType} {es : Exprs} {F k : ℕ} → BlockAt R E T A s l at q n P ts es d F k → (i : ℕ)
+        → (i < q .base) ⊎ (q .base + 264 ≤ i)
+        → (i < q .base + 1 + q .scope) ⊎ (q .base + 1 + q .scope + getD R (at * 4 + 1) 0 ≤ i)
     far P d f x i (inl o) = inl (omega arith)
     far P d f x i (inr o) = inr (omega (arith, x .wide, x .locals))
 

@@ -20,7 +20,8 @@ use Rattle.machine.specs.declared.Target.the-variants.{Body, Fails}
 use Rattle.machine.proofs.Arguments
 use Rattle.machine.proofs.Arguments.{slots-cons}
 use Rattle.language.specs.Encoded.{Encoded, EncodedAll}
-use Rattle.language.specs.Evaluation.{Value as Meaning, null, object, State, Out, Limits, eval, with-limits, eval-all, do-call, call-at, with-frame, Object as Thing}
+use Rattle.language.specs.Evaluation.{Value as Meaning, null, object, State, Out, Limits, eval, with-limits}
+use Rattle.language.specs.Evaluation.{eval-all, do-call, call-at, with-frame, Object as Thing}
 use Rattle.language.specs.Store.{capacity}
 use Rattle.machine.specs.declared.Value.{Value}
 use Rattle.machine.specs.Machine.{Outcome}
@@ -28,9 +29,12 @@ use Rattle.machine.specs.Machine.{Gave, Raised, Stopped, Stuck}
 use Rattle.machine.specs.Machine.{Counts}
 use Rattle.machine.specs.declared.Place.{Place}
 use Rattle.machine.specs.Contracts.{Answer}
-use Rattle.machine.specs.Machine.{value, decoded, outcome, bare, told, told-all, slots-of, this-of, inside, state, frame-of, Within, WithinAll}
+use Rattle.machine.specs.Machine.{value, decoded, outcome, bare, told, told-all, slots-of, this-of}
+use Rattle.machine.specs.Machine.{inside, state, frame-of, Within, WithinAll}
 use Rattle.machine.specs.Contracts
-use Rattle.machine.specs.Contracts.{answer, Ready, Kept, PreEval, PreEntered, PostEval, PostNode, PreArgs, PreFind, PostFind, Found, NotFound, PostArgs, DoneAll, calls-of, evaluated, evaluated-all}
+use Rattle.machine.specs.Contracts.{answer, Ready, Kept, PreEval, PreEntered, PostEval, PostNode}
+use Rattle.machine.specs.Contracts.{PreArgs, PreFind, PostFind, Found, NotFound, PostArgs, DoneAll}
+use Rattle.machine.specs.Contracts.{calls-of, evaluated, evaluated-all}
 use Rattle.machine.proofs.Values.{bare-ok, bare-stop, value-decoded}
 use Rattle.machine.proofs.Nodes
 use Rattle.machine.proofs.Nodes.{head, as-call}
@@ -38,7 +42,8 @@ use Rattle.machine.proofs.Steps
 use Rattle.machine.proofs.Steps.{kept-then, kept-more, kept-as, ready-child, room-same, then-eval}
 
 -- Q taken apart: receiver and arguments are one list
-pub record CallAt (R E T A s l : List ℕ) (at : ℕ) (q : Place) (n : Counts) (P : List Class) (m : ℕ) (a : Expr) (es : Exprs) (d F k : ℕ) : Type 0 where
+pub record CallAt (R E T A s l : List ℕ) (at : ℕ) (q : Place) (n : Counts) (P : List Class) (m : ℕ) (a : Expr)
+    (es : Exprs) (d F k : ℕ) : Type 0 where
   pub ready : Ready R E T A s l P q n d 1
   pub deep : 0 < d
   pub row : at * 4 + 3 < length R
@@ -51,7 +56,9 @@ pub record CallAt (R E T A s l : List ℕ) (at : ℕ) (q : Place) (n : Counts) (
   pub all : getD R (at * 4 + 2) 0 + 1 ≡ count (cons a es)
   pub total : k + n .left ≡ F
 
-call-parts : {R E T A s l : List ℕ} {at : ℕ} {q : Place} {n : Counts} (P : List Class) (m : ℕ) (a : Expr) (es : Exprs) (d F k : ℕ) → Ready R E T A s l P q n d 1 → Encoded R E (call m a es) at → Within (length P) (q .scope) d (call m a es) → k + n .left ≡ F
+call-parts : {R E T A s l : List ℕ} {at : ℕ} {q : Place} {n : Counts} (P : List Class) (m : ℕ) (a : Expr)
+    (es : Exprs) (d F k : ℕ) → Ready R E T A s l P q n d 1
+    → Encoded R E (call m a es) at → Within (length P) (q .scope) d (call m a es) → k + n .left ≡ F
     → CallAt R E T A s l at q n P m a es d F k
 unfolding Encoded Within count
 call-parts P m a es d F k r enc w z = record {
@@ -68,11 +75,17 @@ call-parts P m a es d F k r enc w z = record {
   total = z;
 }
 
-pub call-apart : {R E T A s l : List ℕ} {at : ℕ} {q : Place} {n : Counts} (p : PreEntered R E T A s l at q n) → getD R (at * 4) 0 ≡ 81
+pub call-apart : {R E T A s l : List ℕ} {at : ℕ} {q : Place} {n : Counts} (p : PreEntered R E T A s l at q n)
+    → getD R (at * 4) 0 ≡ 81
     → (m : ℕ) × (a : Expr) × (es : Exprs) × CallAt R E T A s l at q n (p .P) m a es (p .d) (n .left) 0
 call-apart {at = at} {n = n} p h =
-    let x = as-call (p .e) (sym (head (p .e) (p .encoded) .letter) ∙ h) in
-    (x .0, x .1, x .2, call-parts {at = at} (p .P) (x .0) (x .1) (x .2) (p .d) (n .left) 0 (p .ready) (rw (x .3) at (p .encoded)) (rw (x .3) at (p .within)) (omega arith))
+    let x = as-call (p .e) (sym (head (p .e) (p .encoded) .letter) ∙ h) in (
+      x .0,
+      x .1,
+      x .2,
+      call-parts {at = at} (p .P) (x .0) (x .1) (x .2) (p .d) (n .left) 0 (p .ready)
+          (rw (x .3) at (p .encoded)) (rw (x .3) at (p .within)) (omega arith),
+    )
 
 -- receiver and arguments in a row, then the call
 abbrev called-on : (Meaning → List Meaning → State → Out Meaning) → List Meaning → State → Out Meaning
@@ -80,33 +93,52 @@ called-on k [] t = k null [] t
 called-on k (v ∷ vs) t = k v vs t
 
 rest-in-a-row : (v : Meaning) (y : Out (List Meaning)) (k : Meaning → List Meaning → State → Out Meaning)
-    → _≡_ {A = Out Meaning} (bind y λ vs t. k v vs t) (bind (bind y λ vs t. ok (v ∷ vs) t) λ vs t. called-on k vs t)
+    → _≡_ {A = Out Meaning} (bind y λ vs t. k v vs t)
+    (bind (bind y λ vs t. ok (v ∷ vs) t) λ vs t. called-on k vs t)
 rest-in-a-row v (ok vs t) k = refl
 rest-in-a-row v (stop x t) k = refl
 
-in-a-row : (x : Out Meaning) (y : State → Out (List Meaning)) (k : Meaning → List Meaning → State → Out Meaning)
-    → _≡_ {A = Out Meaning} (bind x λ v s. bind (y s) λ vs t. k v vs t) (bind (bind x λ v s. bind (y s) λ vs t. ok (v ∷ vs) t) λ vs t. called-on k vs t)
+in-a-row : (x : Out Meaning) (y : State → Out (List Meaning))
+    (k : Meaning → List Meaning → State → Out Meaning)
+    → _≡_ {A = Out Meaning} (bind x λ v s. bind (y s) λ vs t. k v vs t)
+    (bind (bind x λ v s. bind (y s) λ vs t. ok (v ∷ vs) t) λ vs t. called-on k vs t)
 in-a-row (ok v s) y k = rest-in-a-row v (y s) k
 in-a-row (stop z s) y k = refl
 
-call-in-a-row : (W : World) (L : Limits) (K : Method → State → Out Meaning) (m : ℕ) (a : Expr) (es : Exprs) (s : State)
-    → inside W L K (call m a es) s ≡ bind (eval-all W L K (cons a es) s) λ vs t. called-on (λ v vs t. do-call W L K m v vs t) vs t
+call-in-a-row : (W : World) (L : Limits) (K : Method → State → Out Meaning) (m : ℕ) (a : Expr) (es : Exprs)
+    (s : State)
+    → inside W L K (call m a es) s ≡ bind (eval-all W L K (cons a es) s) λ vs t.
+    called-on (λ v vs t. do-call W L K m v vs t) vs t
 unfolding inside eval-all
-call-in-a-row W L K m a es s = in-a-row (eval W L K a s) (λ t. eval-all W L K es t) (λ v vs t. do-call W L K m v vs t)
+call-in-a-row W L K m a es s = in-a-row (eval W L K a s) (λ t. eval-all W L K es t)
+    (λ v vs t. do-call W L K m v vs t)
 
-module _ {R E T A s l : List ℕ} {at : ℕ} {q : Place} {n : Counts} {P : List Class} {m : ℕ} {a : Expr} {es : Exprs} {d F k : ℕ} (x : CallAt R E T A s l at q n P m a es d F k) where
+module _ {R E T A s l : List ℕ} {at : ℕ} {q : Place} {n : Counts} {P : List Class} {m : ℕ} {a : Expr}
+    {es : Exprs} {d F k : ℕ} (x : CallAt R E T A s l at q n P m a es d F k) where
   pub room-args : q .top + (getD R (at * 4 + 2) 0 + 1) + 9 * (d - 1) + (64 - q .calls) * 1416 ≤ length l
   room-args = omega (arith, x .ready .above, x .deep, x .many, x .few)
 
   abbrev pub call-args : PreArgs R E T A s l (at + 1) q n (getD R (at * 4 + 2) 0 + 1)
   call-args = record {
-    list = record { P = P; es = cons a es; d = d - 1; ready = ready-child 1 (d - 1) (x .ready) (omega arith); encoded = x .enc; within = x .within; many = x .all; few = omega (arith, x .many, x .few) };
+    list = record {
+      P = P;
+      es = cons a es;
+      d = d - 1;
+      ready = ready-child 1 (d - 1) (x .ready) (omega arith);
+      encoded = x .enc;
+      within = x .within;
+      many = x .all;
+      few = omega (arith, x .many, x .few);
+    };
     room = room-args;
   }
 
-  module _ {s′ l′ : List ℕ} {r : Answer} (g : PostArgs R E T A s l s′ l′ (at + 1) q n (getD R (at * 4 + 2) 0 + 1) r) where
-    args-done : DoneAll P s l s′ l′ q n F (getD R (at * 4 + 2) 0 + 1) r (evaluated-all P F (capacity s) (q .calls) (cons a es) (state P s l q n k))
-    args-done = g .done P (cons a es) (d - 1) F k (ready-child 1 (d - 1) (x .ready) (omega arith)) room-args (x .enc) (x .within) (x .all) (x .total)
+  module _ {s′ l′ : List ℕ} {r : Answer}
+      (g : PostArgs R E T A s l s′ l′ (at + 1) q n (getD R (at * 4 + 2) 0 + 1) r) where
+    args-done : DoneAll P s l s′ l′ q n F (getD R (at * 4 + 2) 0 + 1) r
+        (evaluated-all P F (capacity s) (q .calls) (cons a es) (state P s l q n k))
+    args-done = g .done P (cons a es) (d - 1) F k (ready-child 1 (d - 1) (x .ready) (omega arith)) room-args
+        (x .enc) (x .within) (x .all) (x .total)
 
     pub kept-args : Kept P s l s′ l′ q n 0 r
     kept-args = args-done .kept
@@ -115,38 +147,61 @@ module _ {R E T A s l : List ℕ} {at : ℕ} {q : Place} {n : Counts} {P : List 
     top-room = omega (arith, x .ready .above, x .deep, kept-args .long)
 
     pub call-find : PreFind R T s′ (getD R (at * 4 + 1) 0) (r .counts .made)
-    call-find = record { E = E; A = A; P = P; holds = x .ready .holds; sound = kept-args .stored .sound; name = omega (arith, x .first, x .name) }
+    call-find = record {
+      E = E;
+      A = A;
+      P = P;
+      holds = x .ready .holds;
+      sound = kept-args .stored .sound;
+      name = omega (arith, x .first, x .name);
+    }
 
     -- the values, of which the first is the receiver's
-    module _ (v : Value) {w : Value} (e : r .outcome ≡ Gave w) (dv : value v ≡ value-of-number (getD l′ (q .top) 0)) where
-      args-gave : evaluated-all P F (capacity s) (q .calls) (cons a es) (state P s l q n k) ≡ ok (value v ∷ slots-of l′ (q .top + 1) (getD R (at * 4 + 2) 0)) (state P s′ l′ q (r .counts) (F - r .counts .left))
+    module _ (v : Value) {w : Value} (e : r .outcome ≡ Gave w)
+        (dv : value v ≡ value-of-number (getD l′ (q .top) 0)) where
+      args-gave : evaluated-all P F (capacity s) (q .calls) (cons a es) (state P s l q n k)
+          ≡ ok (value v ∷ slots-of l′ (q .top + 1) (getD R (at * 4 + 2) 0))
+          (state P s′ l′ q (r .counts) (F - r .counts .left))
       args-gave =
           let nn : ℕ = getD R (at * 4 + 2) 0 in
           let z : nn + 1 - 1 ≡ nn = omega arith in
-          let y : slots-of l′ (q .top) (nn + 1) ≡ value v ∷ slots-of l′ (q .top + 1) nn = slots-cons l′ (q .top) (nn + 1) top-room (λ u. omega arith) ∙ rw (z, dv) in
-          bare-ok (evaluated-all P F (capacity s) (q .calls) (cons a es) (state P s l q n k)) (rw (e, y) at (args-done .is))
+          let y : slots-of l′ (q .top) (nn + 1) ≡ value v ∷ slots-of l′ (q .top + 1) nn =
+          slots-cons l′ (q .top) (nn + 1) top-room (λ u. omega arith) ∙ rw (z, dv) in
+          bare-ok (evaluated-all P F (capacity s) (q .calls) (cons a es) (state P s l q n k))
+          (rw (e, y) at (args-done .is))
 
-module _ {R E T A s l s′ l′ : List ℕ} (at : ℕ) {q : Place} {n : Counts} {r : Answer} (h : getD R (at * 4) 0 ≡ 81) (g : PostArgs R E T A s l s′ l′ (at + 1) q n (getD R (at * 4 + 2) 0 + 1) r) where
-  pub call-fail : ((v : Value) → r .outcome ≡ Gave v → ⊥) → PostNode R E T A s l s′ l′ at q n r
-  call-fail not = record {
-    done = λ P e d F k f enc w z.
-        let y = as-call e (sym (head e enc .letter) ∙ h) in
-        let x = call-parts {at = at} P (y .0) (y .1) (y .2) d F k f (rw (y .3) at enc) (rw (y .3) at w) z in
-        let m = args-done x g in
-        let K : Method → State → Out Meaning = λ M t. calls-of P F (capacity s) (q .calls) M t in
-        record {
-          kept = kept-more 0 1 (m .kept) (omega arith);
-          is = rw (y .3, call-in-a-row (world P) (with-limits F (capacity s)) K (y .0) (y .1) (y .2) (state P s l q n k))
-              (fails-list (r .outcome) (slots-of l′ (q .top) (getD R (at * 4 + 2) 0 + 1)) (state P s′ l′ q (r .counts) (F - r .counts .left)) (evaluated-all P F (capacity s) (q .calls) (cons (y .1) (y .2)) (state P s l q n k))
-              (λ vs t. called-on (λ v vs t. do-call (world P) (with-limits F (capacity s)) K (y .0) v vs t) vs t) not (m .is));
-        };
-  }
-    where
-      fails-list : (o : Outcome) (vs : List Meaning) (t : State) (x : Out (List Meaning)) (k : List Meaning → State → Out Meaning) → ((v : Value) → o ≡ Gave v → ⊥) → told-all o vs t ≡ bare x → told o t ≡ bare (bind x k)
-      fails-list (Gave v) vs t x k not e = absurd (not v refl)
-      fails-list (Raised n) vs t x k not e = bare-stop x k e
-      fails-list (Stopped n) vs t x k not e = bare-stop x k e
-      fails-list Stuck vs t x k not e = bare-stop x k e
+module _ {R E T A s l s′ l′ : List ℕ} (at : ℕ) {q : Place} {n : Counts} {r : Answer}
+    (h : getD R (at * 4) 0 ≡ 81) (g : PostArgs R E T A s l s′ l′ (at + 1) q n (getD R (at * 4 + 2) 0 + 1) r)
+  where
+    pub call-fail : ((v : Value) → r .outcome ≡ Gave v → ⊥) → PostNode R E T A s l s′ l′ at q n r
+    call-fail not = record {
+      done = λ P e d F k f enc w z.
+          let y = as-call e (sym (head e enc .letter) ∙ h) in
+          let x = call-parts {at = at} P (y .0) (y .1) (y .2) d F k f (rw (y .3) at enc) (rw (y .3) at w) z in
+          let m = args-done x g in
+          let K : Method → State → Out Meaning = λ M t. calls-of P F (capacity s) (q .calls) M t in
+          record {
+            kept = kept-more 0 1 (m .kept) (omega arith);
+            is = rw (
+              y .3,
+              call-in-a-row (world P) (with-limits F (capacity s)) K (y .0) (y .1) (y .2)
+                  (state P s l q n k),
+            )
+                (fails-list (r .outcome) (slots-of l′ (q .top) (getD R (at * 4 + 2) 0 + 1))
+                (state P s′ l′ q (r .counts) (F - r .counts .left))
+                (evaluated-all P F (capacity s) (q .calls) (cons (y .1) (y .2)) (state P s l q n k))
+                (λ vs t. called-on (λ v vs t. do-call (world P) (with-limits F (capacity s)) K (y .0) v vs t) vs
+                t) not (m .is));
+          };
+    }
+      where
+        fails-list : (o : Outcome) (vs : List Meaning) (t : State) (x : Out (List Meaning))
+            (k : List Meaning → State → Out Meaning) → ((v : Value) → o ≡ Gave v → ⊥) → told-all o vs t ≡ bare x
+            → told o t ≡ bare (bind x k)
+        fails-list (Gave v) vs t x k not e = absurd (not v refl)
+        fails-list (Raised n) vs t x k not e = bare-stop x k e
+        fails-list (Stopped n) vs t x k not e = bare-stop x k e
+        fails-list Stuck vs t x k not e = bare-stop x k e
 
 -- the place of the method called
 abbrev pub called : Place → ℕ → Place
@@ -155,22 +210,32 @@ called q n = record { base = q .top; scope = n; top = q .top + 264; calls = q .c
 this-called : (calls n : ℕ) → this-of (calls + 1) n ≡ some (value-of-number n)
 this-called calls n = let e : calls + 1 ≡ suc calls = omega arith in rw e
 
-frame-kept : (l l′ : List ℕ) (q : Place) → length l′ ≡ length l → ((i : ℕ) → i ≤ q .scope → getD l′ (q .base + i) 0 ≡ getD l (q .base + i) 0) → frame-of l′ q ≡ frame-of l q
+frame-kept : (l l′ : List ℕ) (q : Place) → length l′ ≡ length l
+    → ((i : ℕ) → i ≤ q .scope → getD l′ (q .base + i) 0 ≡ getD l (q .base + i) 0)
+    → frame-of l′ q ≡ frame-of l q
 unfolding frame-of
 frame-kept l l′ q e h =
     let z : q .base + 0 ≡ q .base = omega arith in
     let a : getD l′ (q .base) 0 ≡ getD l (q .base) 0 = rw z at (h 0 (omega arith)) in
-    let b = slots-ext l′ l (q .base + 1) (q .scope) e (λ i u. let y : q .base + (1 + i) ≡ q .base + 1 + i = omega arith in rw y at (h (1 + i) (omega arith))) in
+    let b = slots-ext l′ l (q .base + 1) (q .scope) e
+    (λ i u. let y : q .base + (1 + i) ≡ q .base + 1 + i = omega arith in
+    rw y at (h (1 + i) (omega arith))) in
     rw (a, b)
 
 -- what a call comes to, its method found
-run-call : (W : World) (L : Limits) (calls m : ℕ) (v : Meaning) (vs : List Meaning) (st : State) (j : ℕ) (o : Thing) (M : Method) → calls < 64 → v ≡ object j → nth (st .heap) j ≡ some o → W .method (o .class-of) m ≡ some M
-    → do-call W L (λ M s. call-at W L (64 - calls) M s) m v vs st ≡ bind (eval W L (λ M s. call-at W L (64 - (calls + 1)) M s) (M .body) (with-frame (frame (some (object j)) vs) st)) λ w t. ok w (with-frame (st .frame) t)
+run-call : (W : World) (L : Limits) (calls m : ℕ) (v : Meaning) (vs : List Meaning) (st : State) (j : ℕ)
+    (o : Thing) (M : Method) → calls < 64 → v ≡ object j → nth (st .heap) j ≡ some o
+    → W .method (o .class-of) m ≡ some M
+    → do-call W L (λ M s. call-at W L (64 - calls) M s) m v vs st
+    ≡ bind (eval W L (λ M s. call-at W L (64 - (calls + 1)) M s) (M .body)
+    (with-frame (frame (some (object j)) vs) st)) λ w t. ok w (with-frame (st .frame) t)
 unfolding call-at
-run-call W L calls m v vs st j o M h e known method = let le : 64 - calls ≡ suc (64 - (calls + 1)) = omega arith in rw (e, known, method, le)
+run-call W L calls m v vs st j o M h e known method = let le : 64 - calls ≡ suc (64 - (calls + 1)) =
+    omega arith in rw (e, known, method, le)
 
 -- back in the caller's slots
-back : (o : Outcome) (P : List Class) (s l : List ℕ) (q q′ : Place) (n : Counts) (steps : ℕ) (γ : Frame Meaning) (x : Out Meaning) → frame-of l q ≡ γ → told o (state P s l q′ n steps) ≡ bare x
+back : (o : Outcome) (P : List Class) (s l : List ℕ) (q q′ : Place) (n : Counts) (steps : ℕ)
+    (γ : Frame Meaning) (x : Out Meaning) → frame-of l q ≡ γ → told o (state P s l q′ n steps) ≡ bare x
     → told o (state P s l q n steps) ≡ bare (bind x λ w t. ok w (with-frame γ t))
 unfolding bare
 back (Gave w) P s l q q′ n steps γ (ok v t) z e =
@@ -182,8 +247,11 @@ back (Raised i) P s l q q′ n steps γ x z e = bare-stop x (λ w t. ok w (with-
 back (Stopped i) P s l q q′ n steps γ x z e = bare-stop x (λ w t. ok w (with-frame γ t)) e
 back Stuck P s l q q′ n steps γ x z e = bare-stop x (λ w t. ok w (with-frame γ t)) e
 
-module _ {R E T A s l s′ l′ : List ℕ} {at : ℕ} {q : Place} {n : Counts} {r : Answer} {v : Value} {P : List Class} {m : ℕ} {a : Expr} {es : Exprs} {d F k : ℕ} (x : CallAt R E T A s l at q n P m a es d F k)
-    (g : PostArgs R E T A s l s′ l′ (at + 1) q n (getD R (at * 4 + 2) 0 + 1) r) {b : ℕ} {z : Target} (u : z ≡ Body b) (p : PostFind R T s′ v (getD R (at * 4 + 1) 0) (r .counts) (q .calls) z) where
+module _ {R E T A s l s′ l′ : List ℕ} {at : ℕ} {q : Place} {n : Counts} {r : Answer} {v : Value}
+    {P : List Class} {m : ℕ} {a : Expr} {es : Exprs} {d F k : ℕ}
+    (x : CallAt R E T A s l at q n P m a es d F k)
+    (g : PostArgs R E T A s l s′ l′ (at + 1) q n (getD R (at * 4 + 2) 0 + 1) r) {b : ℕ} {z : Target}
+    (u : z ≡ Body b) (p : PostFind R T s′ v (getD R (at * 4 + 1) 0) (r .counts) (q .calls) z) where
   found : Found R E s′ P v (getD R (at * 4 + 1) 0) (r .counts) (q .calls) b
   found = rw u at (p .is E A P (x .ready .holds) (kept-args x g .stored .sound))
 
@@ -193,16 +261,35 @@ module _ {R E T A s l s′ l′ : List ℕ} {at : ℕ} {q : Place} {n : Counts} 
   ready-body : Ready R E T A s′ l′ P (called q (getD R (at * 4 + 2) 0)) (r .counts) 128 0
   ready-body =
       let kp = kept-args x g in
-      record { holds = x .ready .holds; sound = kp .stored .sound; frame = omega arith; scoped = omega (arith, x .many, x .few); above = omega (arith, x .ready .above, kp .long, found .allowed); active = omega (arith, found .allowed); counted = omega (arith, x .ready .counted, kp .counted) }
+      record {
+        holds = x .ready .holds;
+        sound = kp .stored .sound;
+        frame = omega arith;
+        scoped = omega (arith, x .many, x .few);
+        above = omega (arith, x .ready .above, kp .long, found .allowed);
+        active = omega (arith, found .allowed);
+        counted = omega (arith, x .ready .counted, kp .counted);
+      }
 
-  frame-called : value v ≡ value-of-number (getD l′ (q .top) 0) → frame-of l′ (called q (getD R (at * 4 + 2) 0)) ≡ frame (some (object (found .j))) (slots-of l′ (q .top + 1) (getD R (at * 4 + 2) 0))
+  frame-called : value v ≡ value-of-number (getD l′ (q .top) 0)
+      → frame-of l′ (called q (getD R (at * 4 + 2) 0))
+      ≡ frame (some (object (found .j))) (slots-of l′ (q .top + 1) (getD R (at * 4 + 2) 0))
   unfolding frame-of
-  frame-called dv = ap (λ (o : Option Meaning). frame o (slots-of l′ (q .top + 1) (getD R (at * 4 + 2) 0))) (this-called (q .calls) (getD l′ (q .top) 0) ∙ ap some (sym dv ∙ found .receiver))
+  frame-called dv = ap (λ (o : Option Meaning). frame o (slots-of l′ (q .top + 1) (getD R (at * 4 + 2) 0)))
+      (this-called (q .calls) (getD l′ (q .top) 0) ∙ ap some (sym dv ∙ found .receiver))
 
   pub call-body : PreEval R E T A s′ l′ b (called q (getD R (at * 4 + 2) 0)) (r .counts)
-  call-body = record { P = P; e = found .M .body; d = 128; ready = ready-body; encoded = found .encoded; within = found .within (getD R (at * 4 + 2) 0) (omega (arith, x .many, x .few)) }
+  call-body = record {
+    P = P;
+    e = found .M .body;
+    d = 128;
+    ready = ready-body;
+    encoded = found .encoded;
+    within = found .within (getD R (at * 4 + 2) 0) (omega (arith, x .many, x .few));
+  }
 
-module _ {R E T A s l s′ l′ : List ℕ} (at : ℕ) {q : Place} {n : Counts} {r : Answer} {w : Value} (h : getD R (at * 4) 0 ≡ 81) (g : PostArgs R E T A s l s′ l′ (at + 1) q n (getD R (at * 4 + 2) 0 + 1) r)
+module _ {R E T A s l s′ l′ : List ℕ} (at : ℕ) {q : Place} {n : Counts} {r : Answer} {w : Value}
+    (h : getD R (at * 4) 0 ≡ 81) (g : PostArgs R E T A s l s′ l′ (at + 1) q n (getD R (at * 4 + 2) 0 + 1) r)
     (e₁ : r .outcome ≡ Gave w) where
   -- the receiver
   abbrev v : Value
@@ -211,23 +298,34 @@ module _ {R E T A s l s′ l′ : List ℕ} (at : ℕ) {q : Place} {n : Counts} 
   dv : value v ≡ value-of-number (getD l′ (q .top) 0)
   dv = value-decoded (getD l′ (q .top) 0)
 
-  pub call-ends : {o : ℕ} {z : Target} → z ≡ Fails o → PostFind R T s′ v (getD R (at * 4 + 1) 0) (r .counts) (q .calls) z → PostNode R E T A s l s′ l′ at q n (answer (outcome o) (r .counts))
+  pub call-ends : {o : ℕ} {z : Target} → z ≡ Fails o
+      → PostFind R T s′ v (getD R (at * 4 + 1) 0) (r .counts) (q .calls) z
+      → PostNode R E T A s l s′ l′ at q n (answer (outcome o) (r .counts))
   call-ends {o} u p = record {
     done = λ P e d F k f enc wi z.
         let y = as-call e (sym (head e enc .letter) ∙ h) in
         let x = call-parts {at = at} P (y .0) (y .1) (y .2) d F k f (rw (y .3) at enc) (rw (y .3) at wi) z in
         let kp = kept-args x g in
         let K : Method → State → Out Meaning = λ M t. calls-of P F (capacity s) (q .calls) M t in
-        let nf : NotFound P s′ v (getD R (at * 4 + 1) 0) (r .counts) (q .calls) (outcome o) = rw u at (p .is E A P (f .holds) (kp .stored .sound)) in
-        let i = nf .is (with-limits F (capacity s)) (slots-of l′ (q .top + 1) (getD R (at * 4 + 2) 0)) (frame-of l′ q) (F - r .counts .left) in
+        let nf : NotFound P s′ v (getD R (at * 4 + 1) 0) (r .counts) (q .calls) (outcome o) =
+        rw u at (p .is E A P (f .holds) (kp .stored .sound)) in
+        let i = nf .is (with-limits F (capacity s)) (slots-of l′ (q .top + 1) (getD R (at * 4 + 2) 0))
+        (frame-of l′ q) (F - r .counts .left) in
         record {
           kept = kept-as 1 (outcome o) (kept-more 0 1 kp (omega arith)) (nf .small);
-          is = rw (y .3, call-in-a-row (world P) (with-limits F (capacity s)) K (y .0) (y .1) (y .2) (state P s l q n k), args-gave x g v e₁ dv) (rw (x .first) at i);
+          is = rw (
+            y .3,
+            call-in-a-row (world P) (with-limits F (capacity s)) K (y .0) (y .1) (y .2)
+                (state P s l q n k),
+            args-gave x g v e₁ dv,
+          ) (rw (x .first) at i);
         };
   }
 
-  pub call-done : {s″ l″ : List ℕ} {r′ : Answer} {b : ℕ} {z : Target} → z ≡ Body b → PostFind R T s′ v (getD R (at * 4 + 1) 0) (r .counts) (q .calls) z
-      → PostEval R E T A s′ l′ s″ l″ b (called q (getD R (at * 4 + 2) 0)) (r .counts) r′ → PostNode R E T A s l s″ l″ at q n r′
+  pub call-done : {s″ l″ : List ℕ} {r′ : Answer} {b : ℕ} {z : Target} → z ≡ Body b
+      → PostFind R T s′ v (getD R (at * 4 + 1) 0) (r .counts) (q .calls) z
+      → PostEval R E T A s′ l′ s″ l″ b (called q (getD R (at * 4 + 2) 0)) (r .counts) r′
+      → PostNode R E T A s l s″ l″ at q n r′
   call-done {s″} {l″} {r′} {b} u p g′ = record {
     done = λ P e d F k f enc wi z.
         let y = as-call e (sym (head e enc .letter) ∙ h) in
@@ -236,10 +334,16 @@ module _ {R E T A s l s′ l′ : List ℕ} (at : ℕ) {q : Place} {n : Counts} 
         let fo = found x g u p in
         let nn : ℕ = getD R (at * 4 + 2) 0 in
         let K : Method → State → Out Meaning = λ M t. calls-of P F (capacity s) (q .calls) M t in
-        let i = then-eval (capacity s) (room-same s s′ (kp .stored .long)) g′ P (fo .M .body) 128 F (F - r .counts .left) (ready-body x g u p) (fo .encoded) (fo .within nn (omega (arith, x .many, x .few))) (omega (arith, kp .falls)) in
-        let fr : frame-of l″ q ≡ frame-of l′ q = frame-kept l′ l″ q (i .kept .long) (λ j o. i .kept .same (q .base + j) (omega (arith, f .frame, f .scoped)) (inl (omega (arith, f .frame, f .scoped)))) in
+        let i = then-eval (capacity s) (room-same s s′ (kp .stored .long)) g′ P (fo .M .body) 128 F
+        (F - r .counts .left) (ready-body x g u p) (fo .encoded)
+        (fo .within nn (omega (arith, x .many, x .few))) (omega (arith, kp .falls)) in
+        let fr : frame-of l″ q ≡ frame-of l′ q =
+        frame-kept l′ l″ q (i .kept .long)
+        (λ j o. i .kept .same (q .base + j) (omega (arith, f .frame, f .scoped))
+        (inl (omega (arith, f .frame, f .scoped)))) in
         let is′ = rw (frame-called x g u p dv) at (i .is) in
-        let method : world P .method (fo .o .class-of) (y .0) ≡ some (fo .M) = rw (x .first) at (fo .method) in
+        let method : world P .method (fo .o .class-of) (y .0) ≡ some (fo .M) =
+        rw (x .first) at (fo .method) in
         record {
           kept = kept-then 0 0 1 kp (record {
             same = λ j o a. i .kept .same j (omega arith) (inl o);
@@ -253,8 +357,14 @@ module _ {R E T A s l s′ l′ : List ℕ} (at : ℕ) {q : Place} {n : Counts} 
             y .3,
             call-in-a-row (world P) (with-limits F (capacity s)) K (y .0) (y .1) (y .2) (state P s l q n k),
             args-gave x g v e₁ dv,
-            run-call (world P) (with-limits F (capacity s)) (q .calls) (y .0) (value v) (slots-of l′ (q .top + 1) nn) (state P s′ l′ q (r .counts) (F - r .counts .left)) (fo .j) (fo .o) (fo .M) (fo .allowed) (fo .receiver) (fo .known (frame-of l′ q) (F - r .counts .left)) method,
+            run-call (world P) (with-limits F (capacity s)) (q .calls) (y .0) (value v)
+                (slots-of l′ (q .top + 1) nn) (state P s′ l′ q (r .counts) (F - r .counts .left)) (fo .j)
+                (fo .o) (fo .M) (fo .allowed) (fo .receiver) (fo .known (frame-of l′ q) (F - r .counts .left))
+                method,
           )
-              (back (r′ .outcome) P s″ l″ q (called q nn) (r′ .counts) (F - r′ .counts .left) (frame-of l′ q) (evaluated P F (capacity s) (q .calls + 1) (fo .M .body) (with-frame (frame (some (object (fo .j))) (slots-of l′ (q .top + 1) nn)) (state P s′ l′ q (r .counts) (F - r .counts .left)))) fr is′);
+              (back (r′ .outcome) P s″ l″ q (called q nn) (r′ .counts) (F - r′ .counts .left) (frame-of l′ q)
+              (evaluated P F (capacity s) (q .calls + 1) (fo .M .body)
+              (with-frame (frame (some (object (fo .j))) (slots-of l′ (q .top + 1) nn))
+              (state P s′ l′ q (r .counts) (F - r .counts .left)))) fr is′);
         };
   }

@@ -20,11 +20,13 @@ use Rattle.machine.specs.declared.Value.the-variants.{Truth, Object}
 use Rattle.machine.specs.Machine.{Outcome}
 use Rattle.machine.specs.Machine.{Gave, Raised, Stopped, Stuck}
 use Rattle.machine.specs.declared.End.{End}
-use Rattle.machine.specs.declared.End.the-variants.{Gave as EndGave, Raised as EndRaised, Stopped as EndStopped}
+use Rattle.machine.specs.declared.End.the-variants.{Gave as EndGave, Raised as EndRaised}
+use Rattle.machine.specs.declared.End.the-variants.{Stopped as EndStopped}
 use Rattle.machine.specs.declared.Ran.{Ran}
 use Rattle.machine.specs.declared.Run.{Run}
 use Rattle.machine.specs.Machine.{value, Small, SmallOutcome, outcome, stop-of}
-use Rattle.machine.specs.Contracts.{LetterFrom, SomeLetter, Accepted, Runs, PreRun, PostRun, PreChecked, PostChecked, Tells, outcome-of, value-told, end-told}
+use Rattle.machine.specs.Contracts.{LetterFrom, SomeLetter, Accepted, Runs, PreRun, PostRun, PreChecked}
+use Rattle.machine.specs.Contracts.{PostChecked, Tells, outcome-of, value-told, end-told}
 use Rattle.machine.proofs.Objects.{lt-or}
 use Rattle.machine.proofs.Acts.{same-letter}
 use Rattle.machine.proofs.Lines.{no-classes}
@@ -41,7 +43,8 @@ told-object {j = j} e = let z : j + 1 ≡ suc j = omega arith in rw (e, z)
 pub object-low : {v : Value} {j : ℕ} → v ≡ Object j → Small v → j + 3 < 4294967296
 object-low e h = let z = rw e at h in omega (arith, z)
 
-pub told-gave : {o : Outcome} {v w : Value} → o ≡ Gave v → w ≡ value-told (value v) → EndGave w ≡ end-told (outcome-of o)
+pub told-gave : {o : Outcome} {v w : Value} → o ≡ Gave v → w ≡ value-told (value v)
+    → EndGave w ≡ end-told (outcome-of o)
 told-gave e h = rw (e, h)
 
 pub told-raised : {o : Outcome} {n : ℕ} → o ≡ Raised n → EndRaised n ≡ end-told (outcome-of o)
@@ -55,22 +58,28 @@ told-stop n h = go (lt-or n 15) (lt-or n 16)
     go (inr a) (inl b) = let z : n ≡ 15 = omega arith in rw z
     go (inr a) (inr b) = let z : n ≡ 16 = omega (arith, h) in rw z
 
-pub told-stopped : {o : Outcome} {n : ℕ} → o ≡ Stopped n → SmallOutcome o → EndStopped n ≡ end-told (outcome-of o)
+pub told-stopped : {o : Outcome} {n : ℕ} → o ≡ Stopped n → SmallOutcome o
+    → EndStopped n ≡ end-told (outcome-of o)
 told-stopped {n = n} e h = rw e (told-stop n (rw e at h))
 
-stuck-only : (o : Outcome) → SmallOutcome o → EndStopped 0 ≡ end-told (outcome-of o) → outcome-of o ≡ ended stuck
+stuck-only : (o : Outcome) → SmallOutcome o → EndStopped 0 ≡ end-told (outcome-of o)
+    → outcome-of o ≡ ended stuck
 stuck-only (Gave v) h e = let z : _≡_ {A = ℕ} 0 1 = cc in absurd (omega arith)
 stuck-only (Raised n) h e = let z : _≡_ {A = ℕ} 0 1 = cc in absurd (omega arith)
-stuck-only (Stopped n) h e = let q = e ∙ sym (told-stop n h) in let z : 0 ≡ n = cc in absurd (omega (arith, h))
+stuck-only (Stopped n) h e = let q = e ∙ sym (told-stop n h) in let z : 0 ≡ n = cc in
+    absurd (omega (arith, h))
 stuck-only Stuck h e = refl
 
-stuck-end : (x : Out Meaning) (s s′ : List ℕ) (a b c : ℕ) → finish x s ≡ record { answer = ran (ended stuck) a b c; store = s′ } → (t : State) × (x ≡ stop stuck t)
+stuck-end : (x : Out Meaning) (s s′ : List ℕ) (a b c : ℕ)
+    → finish x s ≡ record { answer = ran (ended stuck) a b c; store = s′ } → (t : State) × (x ≡ stop stuck t)
 stuck-end (ok v t) s s′ a b c e =
-    let f : ran (gave v) (t .steps) (length (t .heap)) (t .changes) ≡ ran (ended stuck) a b c = ap (λ (x : Finished). x .answer) e in
+    let f : ran (gave v) (t .steps) (length (t .heap)) (t .changes) ≡ ran (ended stuck) a b c =
+    ap (λ (x : Finished). x .answer) e in
     let z : _≡_ {A = ℕ} 0 1 = cc in
     absurd (omega arith)
 stuck-end (stop y t) s s′ a b c e =
-    let f : ran (ended y) (t .steps) (length (t .heap)) (t .changes) ≡ ran (ended stuck) a b c = ap (λ (x : Finished). x .answer) e in
+    let f : ran (ended y) (t .steps) (length (t .heap)) (t .changes) ≡ ran (ended stuck) a b c =
+    ap (λ (x : Finished). x .answer) e in
     let q : y ≡ stuck = cc in
     (t, rw q)
 
@@ -103,12 +112,20 @@ module _ {R E T A : List ℕ} (c : PreChecked R E T A) where
       pub end-small : SmallOutcome (outcome (r .outcome))
       end-small = post .small (c .p) (starts (c .accepted) f room)
 
-      pub checked-done : (e : End) → e ≡ end-told (outcome-of (outcome (r .outcome))) → PostChecked R E T A s s′ fuel (record { outcome = e; steps = r .steps; objects = r .objects; changes = r .changes })
+      pub checked-done : (e : End) → e ≡ end-told (outcome-of (outcome (r .outcome)))
+          → PostChecked R E T A s s′ fuel
+          (record { outcome = e; steps = r .steps; objects = r .objects; changes = r .changes })
       checked-done e told = record {
-        tells = λ p a. record { outcome = outcome-of (outcome (r .outcome)); is = post .is p (starts a f room); told = told };
+        tells = λ p a. record {
+          outcome = outcome-of (outcome (r .outcome));
+          is = post .is p
+              (starts a f room);
+          told = told;
+        };
         unstuck = λ z.
             let q = stuck-only (outcome (r .outcome)) end-small (sym z ∙ told) in
-            let x = stuck-end (run (with-limits fuel (capacity s)) (c .p)) s s′ (r .steps) (r .objects) (r .changes) (rw q at (post .is (c .p) (starts (c .accepted) f room))) in
+            let x = stuck-end (run (with-limits fuel (capacity s)) (c .p)) s s′ (r .steps) (r .objects)
+            (r .changes) (rw q at (post .is (c .p) (starts (c .accepted) f room))) in
             well-formed-never-stuck (c .p) (well (c .accepted)) (with-limits fuel (capacity s)) (x .0) (x .1);
       }
 
@@ -116,6 +133,7 @@ module _ {R E T A : List ℕ} (c : PreChecked R E T A) where
   start-low f = omega (arith, start-found (c .accepted) f, c .accepted .standing .start-line .within)
 
 -- The same of rows that the check accepts: the answer and the store are those of the rows' run.
-pub tells-run-of : (R s s′ : List ℕ) (p : Program) (fuel : ℕ) (r : Run) → check R ≡ accept p → fuel ≤ most-fuel
+pub tells-run-of : (R s s′ : List ℕ) (p : Program) (fuel : ℕ) (r : Run) → check R ≡ accept p
+    → fuel ≤ most-fuel
     → Tells (finish (run (with-limits fuel (capacity s)) p) s) s′ r → Tells (run-of R fuel s) s′ r
 tells-run-of R s s′ p fuel r e l t = rw (accepted-run R p (check-accepts R p .0 e) fuel l s) t

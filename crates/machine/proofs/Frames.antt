@@ -24,12 +24,14 @@ pub slots-length : (l : List ℕ) (from n : ℕ) → from + n ≤ length l → l
 unfolding slots-of
 slots-length l from n h = values-length l from n h
 
-pub slots-ext : (l l′ : List ℕ) (from n : ℕ) → length l ≡ length l′ → ((i : ℕ) → i < n → getD l (from + i) 0 ≡ getD l′ (from + i) 0) → slots-of l from n ≡ slots-of l′ from n
+pub slots-ext : (l l′ : List ℕ) (from n : ℕ) → length l ≡ length l′
+    → ((i : ℕ) → i < n → getD l (from + i) 0 ≡ getD l′ (from + i) 0) → slots-of l from n ≡ slots-of l′ from n
 unfolding slots-of
 slots-ext l l′ from n e h = values-ext l l′ from n e h
 
 -- what stands in slot k
-pub slot-this : (l : List ℕ) (q : Place) → (q .calls ≡ 0 → ⊥) → at-slot (frame-of l q) 0 ≡ some (value-of-number (getD l (q .base) 0))
+pub slot-this : (l : List ℕ) (q : Place) → (q .calls ≡ 0 → ⊥)
+    → at-slot (frame-of l q) 0 ≡ some (value-of-number (getD l (q .base) 0))
 unfolding frame-of
 slot-this l q h = this-some (q .calls) (getD l (q .base) 0) h
 
@@ -37,31 +39,42 @@ pub slot-no-this : (l : List ℕ) (q : Place) → q .calls ≡ 0 → at-slot (fr
 unfolding frame-of
 slot-no-this l q e = ap (λ (k : ℕ). this-of k (getD l (q .base) 0)) e
 
-pub slot-at : (l : List ℕ) (q : Place) (k : ℕ) → (k ≡ 0 → ⊥) → k ≤ q .scope → q .base + q .scope < length l → at-slot (frame-of l q) k ≡ some (value-of-number (getD l (q .base + k) 0))
+pub slot-at : (l : List ℕ) (q : Place) (k : ℕ) → (k ≡ 0 → ⊥) → k ≤ q .scope → q .base + q .scope < length l
+    → at-slot (frame-of l q) k ≡ some (value-of-number (getD l (q .base + k) 0))
 unfolding frame-of slots-of
 slot-at l q zero z h f = absurd (z refl)
 slot-at l q (suc k) z h f =
     let e : q .base + 1 + k ≡ q .base + suc k = omega arith in
-    values-at l (q .base + 1) (q .scope) k (omega arith) (omega arith) ∙ ap (λ (x : ℕ). some (value-of-number (getD l x 0))) e
+    values-at l (q .base + 1) (q .scope) k (omega arith) (omega arith)
+    ∙ ap (λ (x : ℕ). some (value-of-number (getD l x 0))) e
 
-pub slot-past : (l : List ℕ) (q : Place) (k : ℕ) → q .scope < k → q .base + q .scope < length l → at-slot (frame-of l q) k ≡ none
+pub slot-past : (l : List ℕ) (q : Place) (k : ℕ) → q .scope < k → q .base + q .scope < length l
+    → at-slot (frame-of l q) k ≡ none
 unfolding frame-of
 slot-past l q zero h f = absurd (omega arith)
-slot-past l q (suc k) h f = nth-none (slots-of l (q .base + 1) (q .scope)) k (omega (arith, slots-length l (q .base + 1) (q .scope) (omega arith)))
+slot-past l q (suc k) h f =
+    nth-none (slots-of l (q .base + 1) (q .scope)) k
+    (omega (arith, slots-length l (q .base + 1) (q .scope) (omega arith)))
 
 module _ {l : List ℕ} {k : ℕ} {q : Place} where
   pub read-none : at-slot (frame-of l q) k ≡ none → PostRead l k q (outcome 4294967296)
   unfolding bare
   read-none e = rw outcome-stuck (record { small = tt; is = λ t. rw e })
 
-  pub read-some : (n : ℕ) → at-slot (frame-of l q) k ≡ some (value-of-number n) → n < 4294967296 → PostRead l k q (outcome n)
+  pub read-some : (n : ℕ) → at-slot (frame-of l q) k ≡ some (value-of-number n) → n < 4294967296
+      → PostRead l k q (outcome n)
   unfolding bare
-  read-some n e m = rw (outcome-value n m) (record { small = small-decoded n m; is = λ t. rw (e, value-decoded n) })
+  read-some n e m = rw (outcome-value n m) (record {
+    small = small-decoded n m;
+    is = λ t. rw
+        (e, value-decoded n);
+  })
 
   pub read-zero : k ≡ 0 → at-slot (frame-of l q) 0 ≡ none → PostRead l k q (outcome 4294967296)
   read-zero z e = read-none (rw z e)
 
-  pub read-this : k ≡ 0 → (n : ℕ) → at-slot (frame-of l q) 0 ≡ some (value-of-number n) → n < 4294967296 → PostRead l k q (outcome n)
+  pub read-this : k ≡ 0 → (n : ℕ) → at-slot (frame-of l q) 0 ≡ some (value-of-number n) → n < 4294967296
+      → PostRead l k q (outcome n)
   read-this z n e m = read-some n (rw z e) m
 
 module _ {l : List ℕ} {k : ℕ} (x : ℕ) {q : Place} (room : q .base + q .scope < length l) where
@@ -72,7 +85,8 @@ module _ {l : List ℕ} {k : ℕ} (x : ℕ) {q : Place} (room : q .base + q .sco
       go : (k : ℕ) → q .scope < k → frame-of l q ≡ with-slot (frame-of l q) k (value (decoded x))
       go zero h = absurd (omega arith)
       go (suc k) h = ap (λ (y : List Meaning). frame (this-of (q .calls) (getD l (q .base) 0)) y)
-          (sym (set-out (slots-of l (q .base + 1) (q .scope)) k (value (decoded x)) (omega (arith, slots-length l (q .base + 1) (q .scope) (omega arith)))))
+          (sym (set-out (slots-of l (q .base + 1) (q .scope)) k (value (decoded x))
+          (omega (arith, slots-length l (q .base + 1) (q .scope) (omega arith)))))
 
   pub write-none : k ≡ 0 → q .calls ≡ 0 → Wrote l l k (decoded x) q
   unfolding frame-of
@@ -97,8 +111,10 @@ module _ {l : List ℕ} {k : ℕ} (x : ℕ) {q : Place} (room : q .base + q .sco
       go =
           let a = this-some (q .calls) (getD (set l (q .base) x) (q .base) 0) c in
           let b = this-some (q .calls) (getD l (q .base) 0) c in
-          let d : value-of-number (getD (set l (q .base) x) (q .base) 0) ≡ value (decoded x) = ap value-of-number (getD-set-same l (q .base) x 0 (omega arith)) ∙ sym (value-decoded x) in
-          let f = slots-ext (set l (q .base) x) l (q .base + 1) (q .scope) (length-set l (q .base) x) (λ i h. getD-set-other l (q .base) (q .base + 1 + i) x 0 (λ p. omega arith)) in
+          let d : value-of-number (getD (set l (q .base) x) (q .base) 0) ≡ value (decoded x) =
+          ap value-of-number (getD-set-same l (q .base) x 0 (omega arith)) ∙ sym (value-decoded x) in
+          let f = slots-ext (set l (q .base) x) l (q .base + 1) (q .scope) (length-set l (q .base) x)
+          (λ i h. getD-set-other l (q .base) (q .base + 1 + i) x 0 (λ p. omega arith)) in
           rw (a, b, d, f)
 
   pub write-at : (k ≡ 0 → ⊥) → k ≤ q .scope → Wrote l (set l (q .base + k) x) k (decoded x) q
@@ -113,11 +129,13 @@ module _ {l : List ℕ} {k : ℕ} (x : ℕ) {q : Place} (room : q .base + q .sco
       far i (inl a) p = omega arith
       far i (inr a) p = omega arith
 
-      go : (k : ℕ) → (k ≡ 0 → ⊥) → k ≤ q .scope → frame-of (set l (q .base + k) x) q ≡ with-slot (frame-of l q) k (value (decoded x))
+      go : (k : ℕ) → (k ≡ 0 → ⊥) → k ≤ q .scope
+          → frame-of (set l (q .base + k) x) q ≡ with-slot (frame-of l q) k (value (decoded x))
       go zero z h = absurd (z refl)
       go (suc k) z h =
           let i : q .base + suc k ≡ q .base + 1 + k = omega arith in
-          let a : getD (set l (q .base + 1 + k) x) (q .base) 0 ≡ getD l (q .base) 0 = getD-set-other l (q .base + 1 + k) (q .base) x 0 (λ p. omega arith) in
+          let a : getD (set l (q .base + 1 + k) x) (q .base) 0 ≡ getD l (q .base) 0 =
+          getD-set-other l (q .base + 1 + k) (q .base) x 0 (λ p. omega arith) in
           let b = values-set l (q .base + 1) (q .scope) k x (omega arith) in
           let d : value-of-number x ≡ value (decoded x) = sym (value-decoded x) in
           rw (i, a, b, d)

@@ -15,20 +15,23 @@ use lib.Seq.{getD-set-same, getD-set-other, ext-getD, getD-drop, length-take-le}
 use Rattle.language.specs.Lists.{nth, nth-map, nth-append}
 use Rattle.language.specs.Tree.{Class, Field}
 use Rattle.language.specs.Program.{world}
-use Rattle.language.specs.Evaluation.{Value as Meaning, object, Object as Thing, initial, initials, is-null-value, new-object, changed}
+use Rattle.language.specs.Evaluation.{Value as Meaning, Object as Thing, initial, initials, is-null-value}
+use Rattle.language.specs.Evaluation.{new-object, changed}
 use Rattle.language.specs.Store.{value-of-number, heap-of-numbers, capacity}
 use Rattle.machine.specs.declared.Value.{Value}
 use Rattle.machine.specs.declared.Value.the-variants.{Object}
 use Rattle.machine.specs.Machine.{Outcome, Gave, Stopped, Stuck, Counts, counts-in, decoded, outcome}
 use Rattle.machine.specs.Machine.{value, Small, bare, Holds, Sound}
-use Rattle.machine.specs.Contracts.{Stored, Answer, answer, answered, first-of, Fill, Filled, PreNew, PostNew, PostChange}
+use Rattle.machine.specs.Contracts.{Stored, Answer, answer, answered, first-of, Fill, Filled, PreNew}
+use Rattle.machine.specs.Contracts.{PostNew, PostChange}
 use Rattle.machine.proofs.Value.{the-type}
 use Rattle.machine.proofs.Values.{value-of-value-number, decoded-object, gave-number}
 use Rattle.machine.proofs.Tally.{counts, set-made, set-changes}
 use Rattle.machine.proofs.Acts
 use Rattle.machine.proofs.Acts.{null-of, truth-of, acts-same}
 use Rattle.machine.proofs.Objects
-use Rattle.machine.proofs.Objects.{lt-or, nth-ext, values-at, values-length, object-at, heap-length, heap-at, heap-past, heap-changed, heap-new}
+use Rattle.machine.proofs.Objects.{lt-or, nth-ext, values-at, values-length, object-at, heap-length}
+use Rattle.machine.proofs.Objects.{heap-at, heap-past, heap-changed, heap-new}
 
 nth-take : {A : Type 0} (n : ℕ) (l : List A) (i : ℕ) → i < n → nth (take n l) i ≡ nth l i
 unfolding nth
@@ -55,19 +58,24 @@ some-at (x ∷ l) zero h = (x, refl)
 some-at (x ∷ l) (suc i) h = some-at l i (omega arith)
 
 -- the first value of a field, by its number
-first-value : {R E T A : List ℕ} {P : List Class} → Holds R E T A P → (c i : ℕ) (f : Field) → c ≤ length P → nth (world P .fields c) i ≡ some f → i < length (world P .fields c)
+first-value : {R E T A : List ℕ} {P : List Class} → Holds R E T A P → (c i : ℕ) (f : Field) → c ≤ length P
+    → nth (world P .fields c) i ≡ some f → i < length (world P .fields c)
     → value-of-number (first-of R T c i (getD T (c * 576 + 515) 0)) ≡ initial (f .type)
 unfolding first-of
 first-value {T = T} h c i f d e l =
     let n = h .tables .counts c d in
-    rw (lt-leb (getD T (c * 576 + 515) 0) i (omega (arith, n)), h .fields c i f d e .first) (value-of-value-number (initial (f .type)))
+    rw (lt-leb (getD T (c * 576 + 515) 0) i (omega (arith, n)), h .fields c i f d e .first)
+    (value-of-value-number (initial (f .type)))
 
 -- fields kept up to `from`, first values after it
-pub fields-filled : {R E T A : List ℕ} {P : List Class} → Holds R E T A P → (s s′ : List ℕ) (o c from m : ℕ) → c ≤ length P → from ≤ length (world P .fields c) → from ≤ m
+pub fields-filled : {R E T A : List ℕ} {P : List Class} → Holds R E T A P → (s s′ : List ℕ) (o c from m : ℕ)
+    → c ≤ length P → from ≤ length (world P .fields c) → from ≤ m
     → o + 18 ≤ length s → length s′ ≡ length s
     → ((i : ℕ) → i < from → getD s′ (o + 1 + i) 0 ≡ getD s (o + 1 + i) 0)
     → ((i : ℕ) → from ≤ i → i < 17 → getD s′ (o + 1 + i) 0 ≡ first-of R T c i (getD T (c * 576 + 515) 0))
-    → map value-of-number (take (length (world P .fields c)) (drop (o + 1) s′)) ≡ take from (map value-of-number (take m (drop (o + 1) s))) ++ initials (drop from (world P .fields c))
+    → map value-of-number (take (length (world P .fields c)) (drop (o + 1) s′))
+    ≡ take from (map value-of-number (take m (drop (o + 1) s)))
+    ++ initials (drop from (world P .fields c))
 fields-filled {R} {E} {T} {A} {P} h s s′ o c from m d l k room long kept first =
     let fs : List Field = world P .fields c in
     let few : length fs ≤ 17 = h .counts c d in
@@ -75,26 +83,38 @@ fields-filled {R} {E} {T} {A} {P} h s s′ o c from m d l k room long kept first
     let a : length old ≡ from = old-length in
     nth-ext (map value-of-number (take (length fs) (drop (o + 1) s′))) (old ++ initials (drop from fs))
     (values-length s′ (o + 1) (length fs) (omega arith)
-    ∙ sym (length-append old (initials (drop from fs)) ∙ (ap₂ (λ (x y : ℕ). x + y) a (length-map (drop from fs) (λ (f : Field). initial (f .type)) ∙ length-drop from fs) ∙ omega arith)))
-    (λ i b. let b′ : i < length fs = omega (arith, values-length s′ (o + 1) (length fs) (omega arith)) in values-at s′ (o + 1) (length fs) i b′ (omega arith) ∙ go few a i b′ (lt-or i from))
+    ∙ sym (length-append old (initials (drop from fs))
+    ∙ (ap₂ (λ (x y : ℕ). x + y) a
+    (length-map (drop from fs) (λ (f : Field). initial (f .type)) ∙ length-drop from fs) ∙ omega arith)))
+    (λ i b. let b′ : i < length fs = omega (arith, values-length s′ (o + 1) (length fs) (omega arith)) in
+    values-at s′ (o + 1) (length fs) i b′ (omega arith) ∙ go few a i b′ (lt-or i from))
   where
     old-length : length (take from (map value-of-number (take m (drop (o + 1) s)))) ≡ from
-    old-length = length-take-le from (map value-of-number (take m (drop (o + 1) s))) (simp (length-map, length-take, length-drop) (omega (arith, h .counts c d)))
+    old-length = length-take-le from (map value-of-number (take m (drop (o + 1) s)))
+        (simp (length-map, length-take, length-drop) (omega (arith, h .counts c d)))
 
-    go : length (world P .fields c) ≤ 17 → length (take from (map value-of-number (take m (drop (o + 1) s)))) ≡ from → (i : ℕ) → i < length (world P .fields c) → (i < from) ⊎ (from ≤ i)
-        → some (value-of-number (getD s′ (o + 1 + i) 0)) ≡ nth (take from (map value-of-number (take m (drop (o + 1) s))) ++ initials (drop from (world P .fields c))) i
+    go : length (world P .fields c) ≤ 17
+        → length (take from (map value-of-number (take m (drop (o + 1) s)))) ≡ from → (i : ℕ)
+        → i < length (world P .fields c) → (i < from) ⊎ (from ≤ i)
+        → some (value-of-number (getD s′ (o + 1 + i) 0))
+        ≡ nth (take from (map value-of-number (take m (drop (o + 1) s)))
+        ++ initials (drop from (world P .fields c))) i
     go few a i b (inl x) =
         let old : List Meaning = take from (map value-of-number (take m (drop (o + 1) s))) in
         let v : Meaning = value-of-number (getD s (o + 1 + i) 0) in
-        let e : nth old i ≡ some v = nth-take from (map value-of-number (take m (drop (o + 1) s))) i x ∙ values-at s (o + 1) m i (omega arith) (omega arith) in
-        ap (λ (y : ℕ). some (value-of-number y)) (kept i x) ∙ sym (nth-append old (initials (drop from (world P .fields c))) i v e)
+        let e : nth old i ≡ some v = nth-take from (map value-of-number (take m (drop (o + 1) s))) i x
+        ∙ values-at s (o + 1) m i (omega arith) (omega arith) in
+        ap (λ (y : ℕ). some (value-of-number y)) (kept i x)
+        ∙ sym (nth-append old (initials (drop from (world P .fields c))) i v e)
     go few a i b (inr x) =
         let fs : List Field = world P .fields c in
         let old : List Meaning = take from (map value-of-number (take m (drop (o + 1) s))) in
         let w = some-at fs i b in
         let z : from + (i - from) ≡ i = omega arith in
         let e : nth (drop from fs) (i - from) ≡ some (w .0) = nth-drop from fs (i - from) ∙ rw z (w .1) in
-        let y : nth (old ++ initials (drop from fs)) (length old + (i - from)) ≡ some (initial (w .0 .type)) = nth-past old (initials (drop from fs)) (i - from) ∙ nth-map (λ (f : Field). initial (f .type)) (i - from) (drop from fs) (w .0) e in
+        let y : nth (old ++ initials (drop from fs)) (length old + (i - from)) ≡ some (initial (w .0 .type)) =
+        nth-past old (initials (drop from fs)) (i - from)
+        ∙ nth-map (λ (f : Field). initial (f .type)) (i - from) (drop from fs) (w .0) e in
         let y′ : nth (old ++ initials (drop from fs)) i ≡ some (initial (w .0 .type)) = rw (a, z) at y in
         ap some (ap value-of-number (first i x (omega arith)) ∙ first-value h c i (w .0) d (w .1) b) ∙ sym y′
 
@@ -103,18 +123,22 @@ pub record Renewed (R T s s′ : List ℕ) (o c from : ℕ) : Type 0 where
   pub long : length s′ ≡ length s
   pub class : getD s′ o 0 ≡ c
   pub kept : (i : ℕ) → i < from → getD s′ (o + 1 + i) 0 ≡ getD s (o + 1 + i) 0
-  pub first : (i : ℕ) → from ≤ i → i < 17 → getD s′ (o + 1 + i) 0 ≡ first-of R T c i (getD T (c * 576 + 515) 0)
+  pub first : (i : ℕ) → from ≤ i → i < 17
+      → getD s′ (o + 1 + i) 0 ≡ first-of R T c i (getD T (c * 576 + 515) 0)
   pub outside : (x : ℕ) → (x < o) ⊎ (o + 18 ≤ x) → getD s′ x 0 ≡ getD s x 0
 
-pub renewed : {R T s s₁ : List ℕ} (o c from : ℕ) → Filled R T s s₁ o c from → from ≤ 17 → o + 18 ≤ length s → Renewed R T s (set s₁ o c) o c from
+pub renewed : {R T s s₁ : List ℕ} (o c from : ℕ) → Filled R T s s₁ o c from → from ≤ 17 → o + 18 ≤ length s
+    → Renewed R T s (set s₁ o c) o c from
 renewed {R} {T} {s} {s₁} o c from w h room = record {
   long = length-set s₁ o c ∙ w .long;
   class = getD-set-same s₁ o c 0 (omega (arith, w .long));
-  kept = λ i l. getD-set-other s₁ o (o + 1 + i) c 0 (λ e. omega arith) ∙ w .outside (o + 1 + i) (inl (omega arith));
+  kept = λ i l. getD-set-other s₁ o (o + 1 + i) c 0 (λ e. omega arith)
+      ∙ w .outside (o + 1 + i) (inl (omega arith));
   first = λ i l k.
       let e : o + 1 + from + (i - from) ≡ o + 1 + i = omega arith in
       let e′ : from + (i - from) ≡ i = omega arith in
-      getD-set-other s₁ o (o + 1 + i) c 0 (λ e. omega arith) ∙ (rw (e, e′) at (w .inside (i - from) (omega arith)));
+      getD-set-other s₁ o (o + 1 + i) c 0 (λ e. omega arith)
+      ∙ (rw (e, e′) at (w .inside (i - from) (omega arith)));
   outside = λ x l. getD-set-other s₁ o x c 0 (λ e. apart x l e) ∙ w .outside x (far x l);
 }
   where
@@ -126,15 +150,23 @@ renewed {R} {T} {s} {s₁} o c from w h room = record {
     far x (inl a) = inl (omega arith)
     far x (inr a) = inr (omega arith)
 
-drop-same : (s s′ : List ℕ) (n : ℕ) → length s′ ≡ length s → ((x : ℕ) → n ≤ x → getD s′ x 0 ≡ getD s x 0) → drop n s′ ≡ drop n s
-drop-same s s′ n e f = ext-getD 0 (drop n s′) (drop n s) (simp (length-drop, e)) (λ i h. getD-drop n s′ i 0 ∙ (f (n + i) (omega arith) ∙ sym (getD-drop n s i 0)))
+drop-same : (s s′ : List ℕ) (n : ℕ) → length s′ ≡ length s → ((x : ℕ) → n ≤ x → getD s′ x 0 ≡ getD s x 0)
+    → drop n s′ ≡ drop n s
+drop-same s s′ n e f =
+    ext-getD 0 (drop n s′) (drop n s) (simp (length-drop, e))
+    (λ i h. getD-drop n s′ i 0 ∙ (f (n + i) (omega arith) ∙ sym (getD-drop n s i 0)))
 
-unused-first : {R E T A : List ℕ} {P : List Class} → Holds R E T A P → (c i : ℕ) → c ≤ length P → length (world P .fields c) ≤ i → first-of R T c i (getD T (c * 576 + 515) 0) ≡ 0
+unused-first : {R E T A : List ℕ} {P : List Class} → Holds R E T A P → (c i : ℕ) → c ≤ length P
+    → length (world P .fields c) ≤ i → first-of R T c i (getD T (c * 576 + 515) 0) ≡ 0
 unfolding first-of
-unused-first {T = T} h c i d l = rw (le-leb (getD T (c * 576 + 515) 0) i (omega (arith, h .tables .counts c d)))
+unused-first {T = T} h c i d l =
+    rw (le-leb (getD T (c * 576 + 515) 0) i (omega (arith, h .tables .counts c d)))
 
-module _ {R E T A : List ℕ} {P : List Class} (h : Holds R E T A P) (s s′ : List ℕ) (made made′ j c from : ℕ) (snd : Sound P made s) (r : Renewed R T s s′ (j * 18) c from)
-    (d : c ≤ length P) (low : from ≤ length (world P .fields c)) (at : j < made′) (only : (i : ℕ) → i < made′ → (i < j) ⊎ (j < i) → i < made) (room : made′ * 18 ≤ length s) (few : made′ ≤ 65535) where
+module _ {R E T A : List ℕ} {P : List Class} (h : Holds R E T A P) (s s′ : List ℕ) (made made′ j c from : ℕ)
+    (snd : Sound P made s) (r : Renewed R T s s′ (j * 18) c from)
+    (d : c ≤ length P) (low : from ≤ length (world P .fields c)) (at : j < made′)
+    (only : (i : ℕ) → i < made′ → (i < j) ⊎ (j < i) → i < made) (room : made′ * 18 ≤ length s)
+    (few : made′ ≤ 65535) where
   other : (i x : ℕ) → x < 18 → (i < j) ⊎ (j < i) → getD s′ (i * 18 + x) 0 ≡ getD s (i * 18 + x) 0
   other i x l o = r .outside (i * 18 + x) (far o)
     where
@@ -158,12 +190,15 @@ module _ {R E T A : List ℕ} {P : List Class} (h : Holds R E T A P) (s s′ : L
       declared i k (inr o) (inl o′) = rw (other-class i (inr o′)) (snd .declared i (only i k (inr o′)))
       declared i k (inr o) (inr o′) = let z : i ≡ j = omega arith in rw (z, r .class) d
 
-      same : (i x : ℕ) → i < made′ → length (world P .fields (getD s′ (i * 18) 0)) ≤ x → x < 17 → (i < j) ⊎ (j < i) → getD s′ (i * 18 + 1 + x) 0 ≡ 0
+      same : (i x : ℕ) → i < made′ → length (world P .fields (getD s′ (i * 18) 0)) ≤ x → x < 17
+          → (i < j) ⊎ (j < i) → getD s′ (i * 18 + 1 + x) 0 ≡ 0
       same i x k u l o =
           let e : i * 18 + (1 + x) ≡ i * 18 + 1 + x = omega arith in
-          (rw e at (other i (1 + x) (omega arith) o)) ∙ snd .unused i x (only i k o) (rw (other-class i o) at u) l
+          (rw e at (other i (1 + x) (omega arith) o))
+          ∙ snd .unused i x (only i k o) (rw (other-class i o) at u) l
 
-      unused : (i x : ℕ) → i < made′ → length (world P .fields (getD s′ (i * 18) 0)) ≤ x → x < 17 → (i < j) ⊎ (j ≤ i) → (j < i) ⊎ (i ≤ j) → getD s′ (i * 18 + 1 + x) 0 ≡ 0
+      unused : (i x : ℕ) → i < made′ → length (world P .fields (getD s′ (i * 18) 0)) ≤ x → x < 17
+          → (i < j) ⊎ (j ≤ i) → (j < i) ⊎ (i ≤ j) → getD s′ (i * 18 + 1 + x) 0 ≡ 0
       unused i x k u l (inl o) o′ = same i x k u l (inl o)
       unused i x k u l (inr o) (inl o′) = same i x k u l (inr o′)
       unused i x k u l (inr o) (inr o′) =
@@ -180,7 +215,8 @@ module _ {R E T A : List ℕ} {P : List Class} (h : Holds R E T A P) (s s′ : L
   }
 
 -- W
-pub new-fill : {R T s : List ℕ} {c made : ℕ} (p : PreNew R T s c made) (o : ℕ) → o + 18 ≤ length s → Fill R T s o c 0
+pub new-fill : {R T s : List ℕ} {c made : ℕ} (p : PreNew R T s c made) (o : ℕ) → o + 18 ≤ length s
+    → Fill R T s o c 0
 unfolding nth
 new-fill {R} {T} {s} {c} p o h = record {
   table = omega (arith, p .holds .tables .long, p .declared);
@@ -191,9 +227,15 @@ new-fill {R} {T} {s} {c} p o h = record {
       p .holds .fields c i (f .0) (p .declared) (f .1) .within;
 }
 
-pub new-full : (R T s : List ℕ) (c : ℕ) (n : Counts) → capacity s ≤ n .made → PostNew R T s s c n (answer (outcome 4294967312) n)
+pub new-full : (R T s : List ℕ) (c : ℕ) (n : Counts) → capacity s ≤ n .made
+    → PostNew R T s s c n (answer (outcome 4294967312) n)
 unfolding bare outcome
-new-full R T s c n h = record { acts = λ E A P F hold snd d. acts-same n (Stopped 16) snd (omega arith, omega arith) (λ γ k. rw (heap-length (world P) (n .made) s, le-leb (capacity s) (n .made) h)) }
+new-full R T s c n h =
+    record {
+      acts = λ E A P F hold snd d.
+          acts-same n (Stopped 16) snd (omega arith, omega arith)
+          (λ γ k. rw (heap-length (world P) (n .made) s, le-leb (capacity s) (n .made) h));
+    }
 
 pub full-count : (s : List ℕ) (made : ℕ) → 65535 ≤ made → capacity s ≤ made
 unfolding capacity
@@ -207,8 +249,11 @@ has-room : (s : List ℕ) (made : ℕ) → made < 65535 → made * 18 + 18 ≤ l
 unfolding capacity
 has-room s made h k = omega arith
 
-pub new-made : (R T s s₁ : List ℕ) (c : ℕ) (n : Counts) → n .made < 65535 → n .made * 18 + 18 ≤ length s → Filled R T s s₁ (n .made * 18) c 0
-    → PostNew R T s (set s₁ (n .made * 18) c) c n (answer (Gave (Object (n .made))) (record { left = n .left; made = n .made + 1; changes = n .changes }))
+pub new-made : (R T s s₁ : List ℕ) (c : ℕ) (n : Counts) → n .made < 65535 → n .made * 18 + 18 ≤ length s
+    → Filled R T s s₁ (n .made * 18) c 0
+    → PostNew R T s (set s₁ (n .made * 18) c) c n
+    (answer (Gave (Object (n .made)))
+    (record { left = n .left; made = n .made + 1; changes = n .changes }))
 unfolding bare
 new-made R T s s₁ c n h room w = record {
   acts = λ E A P F hold snd d.
@@ -217,14 +262,23 @@ new-made R T s s₁ c n h room w = record {
       let r : Renewed R T s s′ (made * 18) c 0 = renewed (made * 18) c 0 w (omega arith) room in
       let e : made + 1 ≡ suc made = omega arith in
       let z : leb (capacity s) made ≡ false = lt-leb (capacity s) made (has-room s made h room) in
-      let fields = fields-filled hold s s′ (made * 18) c 0 0 d (omega arith) (omega arith) room (r .long) (λ i l. r .kept i l) (λ i l k. r .first i l k) in
+      let fields = fields-filled hold s s′ (made * 18) c 0 0 d (omega arith) (omega arith) room (r .long)
+      (λ i l. r .kept i l) (λ i l k. r .first i l k) in
       let thing : object-at (world P) s′ (made * 18) ≡ new-object (world P) c
-      = ap (λ (k : ℕ). record { class-of = k; fields = map value-of-number (take (length (world P .fields k)) (drop (made * 18 + 1) s′)) }) (r .class)
+      = ap (λ (k : ℕ). record {
+        class-of = k;
+        fields = map value-of-number
+            (take (length (world P .fields k)) (drop (made * 18 + 1) s′));
+      }) (r .class)
       ∙ ap (λ (y : List Meaning). record { class-of = c; fields = y }) fields in
-      let heap : heap-of-numbers (world P) (made + 1) s′ ≡ heap-of-numbers (world P) made s ++ (new-object (world P) c ∷ [])
-      = rw e (heap-new (world P) made s s′ (r .long) (λ i k. hold .counts (getD s (i * 18) 0) (snd .declared i k)) (λ x l. r .outside x (inl l)) ∙ ap (λ (o : Thing). heap-of-numbers (world P) made s ++ (o ∷ [])) thing) in
+      let heap : heap-of-numbers (world P) (made + 1) s′ ≡ heap-of-numbers (world P) made s
+      ++ (new-object (world P) c ∷ [])
+      = rw e (heap-new (world P) made s s′ (r .long)
+      (λ i k. hold .counts (getD s (i * 18) 0) (snd .declared i k)) (λ x l. r .outside x (inl l))
+      ∙ ap (λ (o : Thing). heap-of-numbers (world P) made s ++ (o ∷ [])) thing) in
       record {
-        stored = stored-renewed hold s s′ made (made + 1) made c 0 snd r d (omega arith) (omega arith) (λ i k o. only made i k o) (omega arith) (omega arith) (omega arith);
+        stored = stored-renewed hold s s′ made (made + 1) made c 0 snd r d (omega arith) (omega arith)
+            (λ i k o. only made i k o) (omega arith) (omega arith) (omega arith);
         left = refl;
         changed = omega arith;
         small = omega arith;
@@ -237,52 +291,75 @@ new-made R T s s₁ c n h room w = record {
     only made i k (inr o) = absurd (omega arith)
 
 -- the same of the number that is returned and of the tally, which counts the new object
-pub new-told : {R T s s₁ t′ : List ℕ} (t : List ℕ) {c : ℕ} → (1 < length t) × (t′ ≡ set t 1 (getD t 1 0 + 1)) → getD t 1 0 < 65535
+pub new-told : {R T s s₁ t′ : List ℕ} (t : List ℕ) {c : ℕ} → (1 < length t) × (t′ ≡ set t 1 (getD t 1 0 + 1))
+    → getD t 1 0 < 65535
     → getD t 1 0 * 18 + 18 ≤ length s → Filled R T s s₁ (getD t 1 0 * 18) c 0
     → PostNew R T s (set s₁ (getD t 1 0 * 18) c) c (counts-in t) (answered (getD t 1 0 + 3) t′)
 new-told {R} {T} {s} {s₁} t {c} (long, q) h room w =
     let made : ℕ = getD t 1 0 in
-    let e : Object made ≡ decoded (made + 3) = let z : made + 3 - 3 ≡ made = omega arith in sym (decoded-object (made + 3) (omega arith) ∙ ap Object z) in
-    let r = ap₂ (λ o m. answer o m) (gave-number (made + 3) e (omega arith)) (sym (set-made t (made + 1) long)) in
+    let e : Object made ≡ decoded (made + 3) = let z : made + 3 - 3 ≡ made = omega arith in
+    sym (decoded-object (made + 3) (omega arith) ∙ ap Object z) in
+    let r = ap₂ (λ o m. answer o m) (gave-number (made + 3) e (omega arith))
+    (sym (set-made t (made + 1) long)) in
     rw (q, ← r) (new-made R T s s₁ c (counts-in t) h room w)
 
 -- R
 module _ (R T s : List ℕ) (d : ℕ) (n : Counts) where
   -- the fields that R keeps, and those that the object has
-  kept-count : {E A : List ℕ} {P : List Class} → Holds R E T A P → d ≤ length P → getD T (getD T (d * 576 + 514) 0 * 576 + 515) 0 ≡ length (world P .fields (world P .root d))
-  kept-count {P = P} hold dd = ap (λ (x : ℕ). getD T (x * 576 + 515) 0) (hold .tables .roots d dd) ∙ hold .tables .counts (world P .root d) (hold .roots d dd .0)
+  kept-count : {E A : List ℕ} {P : List Class} → Holds R E T A P → d ≤ length P
+      → getD T (getD T (d * 576 + 514) 0 * 576 + 515) 0 ≡ length (world P .fields (world P .root d))
+  kept-count {P = P} hold dd = ap (λ (x : ℕ). getD T (x * 576 + 515) 0) (hold .tables .roots d dd)
+      ∙ hold .tables .counts (world P .root d) (hold .roots d dd .0)
 
   own-count : {E A : List ℕ} {P : List Class} → Holds R E T A P → Sound P (n .made) s → (j : ℕ) → j < n .made
       → length (object-at (world P) s (j * 18) .fields) ≡ getD T (getD s (j * 18) 0 * 576 + 515) 0
   own-count {P = P} hold snd j h =
       let c : ℕ = getD s (j * 18) 0 in
-      values-length s (j * 18 + 1) (length (world P .fields c)) (omega (arith, snd .stored, hold .counts c (snd .declared j h))) ∙ sym (hold .tables .counts c (snd .declared j h))
+      values-length s (j * 18 + 1) (length (world P .fields c))
+      (omega (arith, snd .stored, hold .counts c (snd .declared j h)))
+      ∙ sym (hold .tables .counts c (snd .declared j h))
 
 module _ {R T s : List ℕ} {v : Value} {d : ℕ} {n : Counts} where
   pub change-null : is-null-value (value v) ≡ true → Small v → PostChange R T s s v d n (answer (Gave v) n)
   unfolding bare
   change-null e m = record { acts = λ E A P h snd _. acts-same n (Gave v) snd m (λ γ k. rw (null-of v e)) }
 
-  pub change-truth : OneOf (0 ∷ 1 ∷ []) (tagOf the-type v) → is-null-value (value v) ≡ false → PostChange R T s s v d n (answer (outcome 4294967296) n)
+  pub change-truth : OneOf (0 ∷ 1 ∷ []) (tagOf the-type v) → is-null-value (value v) ≡ false
+      → PostChange R T s s v d n (answer (outcome 4294967296) n)
   unfolding bare outcome
-  change-truth h e = record { acts = λ E A P _ snd _. acts-same n Stuck snd tt (λ γ k. rw (truth-of v h e .1)) }
+  change-truth h e = record {
+    acts = λ E A P _ snd _. acts-same n Stuck snd tt
+        (λ γ k. rw (truth-of v h e .1));
+  }
 
-  pub change-past : (j : ℕ) → v ≡ Object j → n .made ≤ j → PostChange R T s s v d n (answer (outcome 4294967296) n)
+  pub change-past : (j : ℕ) → v ≡ Object j → n .made ≤ j
+      → PostChange R T s s v d n (answer (outcome 4294967296) n)
   unfolding bare outcome
-  change-past j e h = record { acts = λ E A P _ snd _. acts-same n Stuck snd tt (λ γ k. rw (ap value e, heap-past (world P) (n .made) s j h)) }
+  change-past j e h = record {
+    acts = λ E A P _ snd _. acts-same n Stuck snd tt
+        (λ γ k. rw (ap value e, heap-past (world P) (n .made) s j h));
+  }
 
-  pub change-few : (j : ℕ) → v ≡ Object j → j < n .made → getD T (getD s (j * 18) 0 * 576 + 515) 0 < getD T (getD T (d * 576 + 514) 0 * 576 + 515) 0 → PostChange R T s s v d n (answer (outcome 4294967296) n)
+  pub change-few : (j : ℕ) → v ≡ Object j → j < n .made
+      → getD T (getD s (j * 18) 0 * 576 + 515) 0 < getD T (getD T (d * 576 + 514) 0 * 576 + 515) 0
+      → PostChange R T s s v d n (answer (outcome 4294967296) n)
   unfolding bare outcome
   change-few j e h few = record {
     acts = λ E A P hold snd dd.
-        let z : leb (length (world P .fields (world P .root d))) (length (object-at (world P) s (j * 18) .fields)) ≡ false
-        = lt-leb (length (world P .fields (world P .root d))) (length (object-at (world P) s (j * 18) .fields)) (omega (arith, kept-count R T s d n hold dd, own-count R T s d n hold snd j h)) in
+        let z : leb (length (world P .fields (world P .root d)))
+        (length (object-at (world P) s (j * 18) .fields)) ≡ false
+        = lt-leb (length (world P .fields (world P .root d)))
+        (length (object-at (world P) s (j * 18) .fields))
+        (omega (arith, kept-count R T s d n hold dd, own-count R T s d n hold snd j h)) in
         acts-same n Stuck snd tt (λ γ k. rw (ap value e, heap-at (world P) (n .made) s j h, z));
   }
 
-  pub change-made : (s₁ : List ℕ) (j : ℕ) → v ≡ Object j → j < n .made → getD T (getD T (d * 576 + 514) 0 * 576 + 515) 0 ≤ getD T (getD s (j * 18) 0 * 576 + 515) 0 → Small v → getD T (getD T (d * 576 + 514) 0 * 576 + 515) 0 ≤ 17
+  pub change-made : (s₁ : List ℕ) (j : ℕ) → v ≡ Object j → j < n .made
+      → getD T (getD T (d * 576 + 514) 0 * 576 + 515) 0 ≤ getD T (getD s (j * 18) 0 * 576 + 515) 0 → Small v
+      → getD T (getD T (d * 576 + 514) 0 * 576 + 515) 0 ≤ 17
       → Filled R T s s₁ (j * 18) d (getD T (getD T (d * 576 + 514) 0 * 576 + 515) 0)
-      → PostChange R T s (set s₁ (j * 18) d) v d n (answer (Gave (Object j)) (record { left = n .left; made = n .made; changes = n .changes + 1 }))
+      → PostChange R T s (set s₁ (j * 18) d) v d n
+      (answer (Gave (Object j)) (record { left = n .left; made = n .made; changes = n .changes + 1 }))
   unfolding bare
   change-made s₁ j e h many m f17 w = record {
     acts = λ E A P hold snd dd.
@@ -293,34 +370,56 @@ module _ {R T s : List ℕ} {v : Value} {d : ℕ} {n : Counts} where
         let room : j * 18 + 18 ≤ length s = omega (arith, snd .stored) in
         let r : Renewed R T s s′ (j * 18) d from = renewed (j * 18) d from w f17 room in
         let low : from ≤ length (world P .fields d) = omega (arith, g, hold .roots d dd .1) in
-        let own : from ≤ length (world P .fields (getD s (j * 18) 0)) = omega (arith, hold .tables .counts (getD s (j * 18) 0) (snd .declared j h)) in
-        let z : leb (length (world P .fields (world P .root d))) (length (object-at (world P) s (j * 18) .fields)) ≡ true
-        = le-leb (length (world P .fields (world P .root d))) (length (object-at (world P) s (j * 18) .fields)) (omega (arith, g, own-count R T s d n hold snd j h)) in
-        let fields = fields-filled hold s s′ (j * 18) d from (length (world P .fields (getD s (j * 18) 0))) dd low own room (r .long) (λ i l. r .kept i l) (λ i l k. r .first i l k) in
+        let own : from ≤ length (world P .fields (getD s (j * 18) 0)) =
+        omega (arith, hold .tables .counts (getD s (j * 18) 0) (snd .declared j h)) in
+        let z : leb (length (world P .fields (world P .root d)))
+        (length (object-at (world P) s (j * 18) .fields)) ≡ true
+        = le-leb (length (world P .fields (world P .root d)))
+        (length (object-at (world P) s (j * 18) .fields))
+        (omega (arith, g, own-count R T s d n hold snd j h)) in
+        let fields = fields-filled hold s s′ (j * 18) d from (length (world P .fields (getD s (j * 18) 0))) dd
+        low own room (r .long) (λ i l. r .kept i l) (λ i l k. r .first i l k) in
         let thing : object-at (world P) s′ (j * 18) ≡ changed (world P) d (object-at (world P) s (j * 18))
-        = ap (λ (k : ℕ). record { class-of = k; fields = map value-of-number (take (length (world P .fields k)) (drop (j * 18 + 1) s′)) }) (r .class)
+        = ap (λ (k : ℕ). record {
+          class-of = k;
+          fields = map value-of-number
+              (take (length (world P .fields k)) (drop (j * 18 + 1) s′));
+        }) (r .class)
         ∙ (ap (λ (y : List Meaning). record { class-of = d; fields = y }) fields
-        ∙ ap (λ (x : ℕ). record { class-of = d; fields = take x (map value-of-number (take (length (world P .fields (getD s (j * 18) 0))) (drop (j * 18 + 1) s))) ++ initials (drop x (world P .fields d)) }) g) in
-        let heap : heap-of-numbers (world P) made s′ ≡ set (heap-of-numbers (world P) made s) j (changed (world P) d (object-at (world P) s (j * 18)))
-        = heap-changed (world P) made s s′ j h (r .long) (λ i k. hold .counts (getD s (i * 18) 0) (snd .declared i k)) (λ x o. r .outside x o) ∙ ap (set (heap-of-numbers (world P) made s) j) thing in
+        ∙ ap (λ (x : ℕ). record {
+          class-of = d;
+          fields = take x
+              (map value-of-number (take (length (world P .fields (getD s (j * 18) 0))) (drop (j * 18 + 1) s)))
+              ++ initials (drop x (world P .fields d));
+        }) g) in
+        let heap : heap-of-numbers (world P) made s′
+        ≡ set (heap-of-numbers (world P) made s) j (changed (world P) d (object-at (world P) s (j * 18)))
+        = heap-changed (world P) made s s′ j h (r .long)
+        (λ i k. hold .counts (getD s (i * 18) 0) (snd .declared i k)) (λ x o. r .outside x o)
+        ∙ ap (set (heap-of-numbers (world P) made s) j) thing in
         record {
-          stored = stored-renewed hold s s′ made made j d from snd r dd low h (λ i k o. k) (snd .stored) (snd .few) (omega arith);
+          stored = stored-renewed hold s s′ made made j d from snd r dd low h (λ i k o. k) (snd .stored)
+              (snd .few) (omega arith);
           left = refl;
           changed = omega arith;
           small = rw e at m;
-          is = λ γ k. let one : n .changes + 1 ≡ suc (n .changes) = omega arith in rw (ap value e, heap-at (world P) made s j h, z, heap, one);
+          is = λ γ k. let one : n .changes + 1 ≡ suc (n .changes) = omega arith in
+              rw (ap value e, heap-at (world P) made s j h, z, heap, one);
         };
   }
 
 -- the same of a value and an answer that are equal
-pub change-of : {R T s s′ : List ℕ} {v w : Value} {d : ℕ} {n : Counts} {r r′ : Answer} → v ≡ w → r ≡ r′ → PostChange R T s s′ v d n r → PostChange R T s s′ w d n r′
+pub change-of : {R T s s′ : List ℕ} {v w : Value} {d : ℕ} {n : Counts} {r r′ : Answer} → v ≡ w → r ≡ r′
+    → PostChange R T s s′ v d n r → PostChange R T s s′ w d n r′
 change-of e f p = rw (← e, ← f) p
 
 -- the same of the value's number, which is returned, and of the tally, which counts the change
-pub same-number : {x : ℕ} {v : Value} {n : Counts} → v ≡ decoded x → x < 4294967296 → answer (Gave v) n ≡ answer (outcome x) n
+pub same-number : {x : ℕ} {v : Value} {n : Counts} → v ≡ decoded x → x < 4294967296
+    → answer (Gave v) n ≡ answer (outcome x) n
 same-number {x} {n = n} e h = ap (λ (o : Outcome). answer o n) (gave-number x e h)
 
-pub one-change : {x j : ℕ} {v : Value} {t′ : List ℕ} (t : List ℕ) → v ≡ decoded x → v ≡ Object j → x < 4294967296
+pub one-change : {x j : ℕ} {v : Value} {t′ : List ℕ} (t : List ℕ) → v ≡ decoded x → v ≡ Object j
+    → x < 4294967296
     → (2 < length t) × (t′ ≡ set t 2 (getD t 2 0 + 1))
     → answer (Gave (Object j)) (counts (getD t 0 0) (getD t 1 0) (getD t 2 0 + 1)) ≡ answered x t′
 one-change {x} t e f h (long, q) =
@@ -333,7 +432,8 @@ pub record RootSpot (R T s : List ℕ) (d : ℕ) : Type 0 where
   pub kept : getD T (getD T (d * 576 + 514) 0 * 576 + 515) 0 ≤ 17
 
 -- the class of the object that R changes
-pub own-spot : {R T s : List ℕ} {d made : ℕ} → PreNew R T s d made → (j : ℕ) → j < made → (j * 18 + 18 ≤ length s) × (getD s (j * 18) 0 * 576 + 576 ≤ length T) × (getD s (j * 18) 0 ≤ 64)
+pub own-spot : {R T s : List ℕ} {d made : ℕ} → PreNew R T s d made → (j : ℕ) → j < made
+    → (j * 18 + 18 ≤ length s) × (getD s (j * 18) 0 * 576 + 576 ≤ length T) × (getD s (j * 18) 0 ≤ 64)
 own-spot p j h = (
   omega (arith, p .sound .stored),
   omega (arith, p .holds .tables .long, p .sound .declared j h),
@@ -347,10 +447,16 @@ root-spot {T = T} {d = d} p =
     record {
       class = omega (arith, p .holds .tables .long, p .declared);
       root = omega (arith, p .holds .tables .long, e, o .0);
-      kept = omega (arith, ap (λ (x : ℕ). getD T (x * 576 + 515) 0) e ∙ p .holds .tables .counts (world (p .P) .root d) (o .0), p .holds .counts (world (p .P) .root d) (o .0));
+      kept = omega (
+        arith,
+        ap (λ (x : ℕ). getD T (x * 576 + 515) 0) e ∙ p .holds .tables .counts
+            (world (p .P) .root d) (o .0),
+        p .holds .counts (world (p .P) .root d) (o .0),
+      );
     }
 
-pub change-fill : {R T s : List ℕ} {d made : ℕ} (p : PreNew R T s d made) (j : ℕ) → j < made → Fill R T s (j * 18) d (getD T (getD T (d * 576 + 514) 0 * 576 + 515) 0)
+pub change-fill : {R T s : List ℕ} {d made : ℕ} (p : PreNew R T s d made) (j : ℕ) → j < made
+    → Fill R T s (j * 18) d (getD T (getD T (d * 576 + 514) 0 * 576 + 515) 0)
 change-fill p j h =
     let f = new-fill p (j * 18) (omega (arith, p .sound .stored)) in
     record { table = f .table; room = f .room; start = root-spot p .kept; rows = f .rows }

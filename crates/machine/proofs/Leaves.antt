@@ -10,7 +10,7 @@ use borrow.Author.Tests.{ne-eqb}
 use lib.ListN.{length, getD}
 use Rattle.language.specs.Results.{ok}
 use Rattle.language.specs.Frames.{at-slot}
-use Rattle.language.specs.Tree.{slot, new, Class}
+use Rattle.language.specs.Tree.{new, Class}
 use Rattle.language.specs.Program.{world}
 use Rattle.language.specs.Encoded.{Encoded}
 use Rattle.language.specs.Evaluation.{Value as Meaning, State, Out, need, is-null-value, do-change}
@@ -21,31 +21,54 @@ use Rattle.machine.specs.Machine.{Gave, Raised, Stopped, Stuck}
 use Rattle.machine.specs.Machine.{Counts, decoded, outcome}
 use Rattle.machine.specs.declared.Place.{Place}
 use Rattle.machine.specs.Contracts.{Answer}
-use Rattle.machine.specs.Machine.{value, Small, SmallOutcome, bare, told, state, frame-of, Within, inside, after}
+use Rattle.machine.specs.Machine.{value, Small, SmallOutcome, bare, told, state, frame-of, Within}
+use Rattle.machine.specs.Machine.{inside, after}
 use Rattle.machine.specs.Contracts
-use Rattle.machine.specs.Contracts.{Acts, answer, Ready, Done, PreLeaf, PostLeaf, PostRead, PostNew, PreNew, PreChange, PostChange, no-child, PreApply, PostApply, PostLoad, PostCast, PreObject, PreCast, Wrote}
+use Rattle.machine.specs.Contracts.{Acts, answer, Ready, Done, PreLeaf, PostLeaf, PostRead, PostNew}
+use Rattle.machine.specs.Contracts.{PreNew, PreChange, PostChange, no-child, PreApply, PostApply}
+use Rattle.machine.specs.Contracts.{PostLoad, PostCast, PreObject, PreCast, Wrote}
 use Rattle.machine.proofs.Values.{outcome-value}
 use Rattle.machine.proofs.Acts.{stored-same}
 use Rattle.machine.proofs.Nodes
-use Rattle.machine.proofs.Nodes.{head, as-literal-true, as-literal-false, as-literal-null, as-slot, as-new, as-change, as-is-null, as-get, as-cast, as-assign, rest-change, rest-assign}
+use Rattle.machine.proofs.Nodes.{head, as-literal-true, as-literal-false, as-literal-null, as-slot}
+use Rattle.machine.proofs.Nodes.{as-new, as-change, as-is-null, as-get, as-cast, as-assign}
+use Rattle.machine.proofs.Nodes.{rest-change, rest-assign}
 
 -- an act as what a node comes to
-pub done-acts : {R E T A s l s′ : List ℕ} {P : List Class} {q : Place} {n : Counts} {d : ℕ} {r : Answer} {o : State → Out Meaning} (F k : ℕ) → Ready R E T A s l P q n d 1
+pub done-acts : {R E T A s l s′ : List ℕ} {P : List Class} {q : Place} {n : Counts} {d : ℕ} {r : Answer}
+    {o : State → Out Meaning} (F k : ℕ) → Ready R E T A s l P q n d 1
     → Acts P s s′ n r o → k + n .left ≡ F → Done P s l s′ l q n F 1 r (o (state P s l q n k))
 done-acts {l = l} {q = q} {n = n} {r = r} F k f a e = record {
-  kept = record { same = λ i h o. refl; long = refl; stored = a .stored; falls = omega (arith, a .left); counted = omega (arith, a .left, a .changed); small = a .small };
+  kept = record {
+    same = λ i h o. refl;
+    long = refl;
+    stored = a .stored;
+    falls = omega (arith, a .left);
+    counted = omega (arith, a .left, a .changed);
+    small = a .small;
+  };
   is = let g : F - r .counts .left ≡ k = omega (arith, a .left) in rw g (a .is (frame-of l q) k);
 }
 
-pub done-same : {R E T A s l : List ℕ} {P : List Class} {q : Place} {n : Counts} {d : ℕ} (o : Outcome) {x : Out Meaning} (F k : ℕ) → Ready R E T A s l P q n d 1
-    → SmallOutcome o → k + n .left ≡ F → told o (state P s l q n k) ≡ bare x → Done P s l s l q n F 1 (answer o n) x
+pub done-same : {R E T A s l : List ℕ} {P : List Class} {q : Place} {n : Counts} {d : ℕ} (o : Outcome)
+    {x : Out Meaning} (F k : ℕ) → Ready R E T A s l P q n d 1
+    → SmallOutcome o → k + n .left ≡ F → told o (state P s l q n k) ≡ bare x
+    → Done P s l s l q n F 1 (answer o n) x
 done-same {n = n} o F k f m e h = record {
-  kept = record { same = λ i h o. refl; long = refl; stored = stored-same (f .sound); falls = omega arith; counted = omega arith; small = m };
+  kept = record {
+    same = λ i h o. refl;
+    long = refl;
+    stored = stored-same (f .sound);
+    falls = omega arith;
+    counted = omega arith;
+    small = m;
+  };
   is = let g : F - n .left ≡ k = omega arith in rw g h;
 }
 
 -- the slot holds a value
-holds-value : (x : Option Meaning) (v : Value) (t : State) → told (Gave v) t ≡ bare (need x t λ v. ok v t) → x ≡ some (value v)
+holds-value : (x : Option Meaning) (v : Value) (t : State) → told (Gave v) t ≡ bare (need x t λ v. ok v t)
+    → x ≡ some (value v)
 unfolding bare
 holds-value none v t e = let z : _≡_ {A = ℕ} 0 1 = cc in absurd (omega arith)
 holds-value (some m) v t e = let z : value v ≡ m = cc in rw z
@@ -87,7 +110,8 @@ module _ {R T s l : List ℕ} {at : ℕ} {q : Place} {n : Counts} where
     };
   }
 
-  pub leaf-slot : (o : Outcome) → getD R (at * 4) 0 ≡ 73 → PostRead l (getD R (at * 4 + 1) 0) q o → PostLeaf R T s l s at q n (answer o n)
+  pub leaf-slot : (o : Outcome) → getD R (at * 4) 0 ≡ 73 → PostRead l (getD R (at * 4 + 1) 0) q o
+      → PostLeaf R T s l s at q n (answer o n)
   unfolding inside Encoded
   leaf-slot o h p = record {
     post = λ E A. record {
@@ -98,15 +122,24 @@ module _ {R T s l : List ℕ} {at : ℕ} {q : Place} {n : Counts} where
     };
   }
 
-  pub pre-new : PreLeaf R T s l at q n → getD R (at * 4) 0 ≡ 87 → PreNew R T s (getD R (at * 4 + 1) 0) (n .made)
+  pub pre-new : PreLeaf R T s l at q n → getD R (at * 4) 0 ≡ 87
+      → PreNew R T s (getD R (at * 4 + 1) 0) (n .made)
   unfolding Encoded Within
   pre-new p h =
       let c = as-new (p .node .e) (sym (head (p .node .e) (p .node .encoded) .letter) ∙ h) in
       let enc = rw (c .1) at (p .node .encoded) in
       let w = rw (c .1) at (p .node .within) in
-      record { E = p .E; A = p .A; P = p .node .P; holds = p .node .ready .holds; sound = p .node .ready .sound; declared = omega (arith, enc .row .first, w) }
+      record {
+        E = p .E;
+        A = p .A;
+        P = p .node .P;
+        holds = p .node .ready .holds;
+        sound = p .node .ready .sound;
+        declared = omega (arith, enc .row .first, w);
+      }
 
-  pub leaf-new : {s′ : List ℕ} {r : Answer} → getD R (at * 4) 0 ≡ 87 → PostNew R T s s′ (getD R (at * 4 + 1) 0) n r → PostLeaf R T s l s′ at q n r
+  pub leaf-new : {s′ : List ℕ} {r : Answer} → getD R (at * 4) 0 ≡ 87
+      → PostNew R T s s′ (getD R (at * 4 + 1) 0) n r → PostLeaf R T s l s′ at q n r
   unfolding inside Encoded Within
   leaf-new h p = record {
     post = λ E A. record {
@@ -114,41 +147,58 @@ module _ {R T s l : List ℕ} {at : ℕ} {q : Place} {n : Counts} where
           let c = as-new e (sym (head e enc .letter) ∙ h) in
           let enc′ = rw (c .1) at enc in
           let w′ = rw (c .1) at w in
-          rw (c .1, ← enc′ .row .first) (done-acts F k f (p .acts E A P F (f .holds) (f .sound) (omega (arith, enc′ .row .first, w′))) z);
+          rw (c .1, ← enc′ .row .first)
+          (done-acts F k f (p .acts E A P F (f .holds) (f .sound) (omega (arith, enc′ .row .first, w′)))
+          z);
     };
   }
 
-  pub pre-change : (v : Value) → PreLeaf R T s l at q n → getD R (at * 4) 0 ≡ 82 → Small v → PreChange R T s v (getD R (at * 4 + 2) 0) n
+  pub pre-change : (v : Value) → PreLeaf R T s l at q n → getD R (at * 4) 0 ≡ 82 → Small v
+      → PreChange R T s v (getD R (at * 4 + 2) 0) n
   unfolding Encoded Within
   pre-change v p h m =
       let c = as-change (p .node .e) (sym (head (p .node .e) (p .node .encoded) .letter) ∙ h) in
       let enc = rw (c .2) at (p .node .encoded) in
       let w = rw (c .2) at (p .node .within) in
       record {
-        new = record { E = p .E; A = p .A; P = p .node .P; holds = p .node .ready .holds; sound = p .node .ready .sound; declared = omega (arith, enc .row .second, w) };
+        new = record {
+          E = p .E;
+          A = p .A;
+          P = p .node .P;
+          holds = p .node .ready .holds;
+          sound = p .node .ready .sound;
+          declared = omega (arith, enc .row .second, w);
+        };
         small = m;
         counted = omega (arith, p .node .ready .counted);
       }
 
-  pub change-missing : (o : Outcome) → getD R (at * 4) 0 ≡ 82 → PostRead l (getD R (at * 4 + 1) 0) q o → ((v : Value) → o ≡ Gave v → ⊥) → PostLeaf R T s l s at q n (answer o n)
+  pub change-missing : (o : Outcome) → getD R (at * 4) 0 ≡ 82 → PostRead l (getD R (at * 4 + 1) 0) q o
+      → ((v : Value) → o ≡ Gave v → ⊥) → PostLeaf R T s l s at q n (answer o n)
   unfolding inside Encoded bare
   change-missing o h p not = record {
     post = λ E A. record {
       done = λ P e d F k f enc w z.
           let c = as-change e (sym (head e enc .letter) ∙ h) in
           let enc′ = rw (c .2) at enc in
-          done-same o F k f (p .small) z (rw (c .2, ← enc′ .row .first) (go (world P) (c .1) (at-slot (frame-of l q) (getD R (at * 4 + 1) 0)) o (state P s l q n k) not (p .is (state P s l q n k))));
+          done-same o F k f (p .small) z
+          (rw (c .2, ← enc′ .row .first)
+          (go (world P) (c .1) (at-slot (frame-of l q) (getD R (at * 4 + 1) 0)) o (state P s l q n k) not
+          (p .is (state P s l q n k))));
     };
   }
     where
-      go : (W : _) (d : ℕ) (x : Option Meaning) (o : Outcome) (t : State) → ((v : Value) → o ≡ Gave v → ⊥) → told o t ≡ bare (need x t λ v. ok v t) → told o t ≡ bare (need x t λ v. do-change W d v t)
+      go : (W : _) (d : ℕ) (x : Option Meaning) (o : Outcome) (t : State) → ((v : Value) → o ≡ Gave v → ⊥)
+          → told o t ≡ bare (need x t λ v. ok v t) → told o t ≡ bare (need x t λ v. do-change W d v t)
       go W d none o t not e = e
       go W d (some m) (Gave v) t not e = absurd (not v refl)
       go W d (some m) (Raised n) t not e = let z : _≡_ {A = ℕ} 0 1 = cc in absurd (omega arith)
       go W d (some m) (Stopped n) t not e = let z : _≡_ {A = ℕ} 0 1 = cc in absurd (omega arith)
       go W d (some m) Stuck t not e = let z : _≡_ {A = ℕ} 0 1 = cc in absurd (omega arith)
 
-  pub change-done : {s′ : List ℕ} {r : Answer} (o : Outcome) (v : Value) → getD R (at * 4) 0 ≡ 82 → PostRead l (getD R (at * 4 + 1) 0) q o → o ≡ Gave v → PostChange R T s s′ v (getD R (at * 4 + 2) 0) n r
+  pub change-done : {s′ : List ℕ} {r : Answer} (o : Outcome) (v : Value) → getD R (at * 4) 0 ≡ 82
+      → PostRead l (getD R (at * 4 + 1) 0) q o → o ≡ Gave v
+      → PostChange R T s s′ v (getD R (at * 4 + 2) 0) n r
       → PostLeaf R T s l s′ at q n r
   unfolding inside Encoded Within
   change-done {s′} {r} o v h p g ch = record {
@@ -158,18 +208,24 @@ module _ {R T s l : List ℕ} {at : ℕ} {q : Place} {n : Counts} where
           let enc′ = rw (c .2) at enc in
           let w′ = rw (c .2) at w in
           let i : ℕ = getD R (at * 4 + 1) 0 in
-          let there : at-slot (frame-of l q) i ≡ some (value v) = holds-value (at-slot (frame-of l q) i) v (state P s l q n k) (rw g at (p .is (state P s l q n k))) in
+          let there : at-slot (frame-of l q) i ≡ some (value v) =
+          holds-value (at-slot (frame-of l q) i) v (state P s l q n k)
+          (rw g at (p .is (state P s l q n k))) in
           let there′ : at-slot (frame-of l q) (c .0) ≡ some (value v) = rw (enc′ .row .first) at there in
-          let a = done-acts F k f (ch .acts E A P (f .holds) (f .sound) (omega (arith, enc′ .row .second, w′))) z in
+          let a = done-acts F k f
+          (ch .acts E A P (f .holds) (f .sound) (omega (arith, enc′ .row .second, w′))) z in
           rw (c .2) (rw (there′, ← enc′ .row .second) a);
     };
   }
 
-pub leaf-rest : {R T s l : List ℕ} {at : ℕ} {q : Place} {n : Counts} → PreLeaf R T s l at q n → no-child (getD R (at * 4) 0) ≡ true
-    → (getD R (at * 4) 0 ≡ 84 → ⊥) → (getD R (at * 4) 0 ≡ 76 → ⊥) → (getD R (at * 4) 0 ≡ 78 → ⊥) → (getD R (at * 4) 0 ≡ 73 → ⊥) → (getD R (at * 4) 0 ≡ 87 → ⊥) → getD R (at * 4) 0 ≡ 82
+pub leaf-rest : {R T s l : List ℕ} {at : ℕ} {q : Place} {n : Counts} → PreLeaf R T s l at q n
+    → no-child (getD R (at * 4) 0) ≡ true
+    → (getD R (at * 4) 0 ≡ 84 → ⊥) → (getD R (at * 4) 0 ≡ 76 → ⊥) → (getD R (at * 4) 0 ≡ 78 → ⊥)
+    → (getD R (at * 4) 0 ≡ 73 → ⊥) → (getD R (at * 4) 0 ≡ 87 → ⊥) → getD R (at * 4) 0 ≡ 82
 leaf-rest p h a b c d e =
     let x = head (p .node .e) (p .node .encoded) .letter in
-    x ∙ rest-change (p .node .e) (rw x at h) (λ z. a (x ∙ z)) (λ z. b (x ∙ z)) (λ z. c (x ∙ z)) (λ z. d (x ∙ z)) (λ z. e (x ∙ z))
+    x ∙ rest-change (p .node .e) (rw x at h) (λ z. a (x ∙ z)) (λ z. b (x ∙ z)) (λ z. c (x ∙ z))
+    (λ z. d (x ∙ z)) (λ z. e (x ∙ z))
 
 -- a node with one child, once that has a value
 module _ {R T A s l : List ℕ} {at : ℕ} {q : Place} {n : Counts} {v : Value} where
@@ -179,28 +235,49 @@ module _ {R T A s l : List ℕ} {at : ℕ} {q : Place} {n : Counts} {v : Value} 
   pub apply-room : PreApply R T A s l at q n v → q .base + q .scope < length l
   apply-room p = omega (arith, p .node .ready .frame, p .node .ready .scoped, p .node .ready .above)
 
-  pub pre-load : PreApply R T A s l at q n v → getD R (at * 4) 0 ≡ 71 → PreObject T s (n .made) × (getD R (at * 4 + 1) 0 < 256)
+  pub pre-load : PreApply R T A s l at q n v → getD R (at * 4) 0 ≡ 71
+      → PreObject T s (n .made) × (getD R (at * 4 + 1) 0 < 256)
   unfolding Encoded Within
   pre-load p h =
       let c = as-get (p .node .e) (sym (head (p .node .e) (p .node .encoded) .letter) ∙ h) in
       let enc = rw (c .2) at (p .node .encoded) in
-      let w = rw (c .2) at (p .node .within) in
-      (record { R = R; E = p .E; A = A; P = p .node .P; holds = p .node .ready .holds; sound = p .node .ready .sound }, omega (arith, enc .0 .row .first, w .1))
+      let w = rw (c .2) at (p .node .within) in (
+        record {
+          R = R;
+          E = p .E;
+          A = A;
+          P = p .node .P;
+          holds = p .node .ready .holds;
+          sound = p .node .ready .sound;
+        },
+        omega (arith, enc .0 .row .first, w .1),
+      )
 
-  pub pre-cast : PreApply R T A s l at q n v → getD R (at * 4) 0 ≡ 75 → PreCast A s (getD R (at * 4 + 1) 0) (n .made)
+  pub pre-cast : PreApply R T A s l at q n v → getD R (at * 4) 0 ≡ 75
+      → PreCast A s (getD R (at * 4 + 1) 0) (n .made)
   unfolding Encoded Within
   pre-cast p h =
       let c = as-cast (p .node .e) (sym (head (p .node .e) (p .node .encoded) .letter) ∙ h) in
       let enc = rw (c .2) at (p .node .encoded) in
       let w = rw (c .2) at (p .node .within) in
-      record { R = R; E = p .E; T = T; P = p .node .P; holds = p .node .ready .holds; sound = p .node .ready .sound; declared = omega (arith, enc .0 .row .first, w .1) }
+      record {
+        R = R;
+        E = p .E;
+        T = T;
+        P = p .node .P;
+        holds = p .node .ready .holds;
+        sound = p .node .ready .sound;
+        declared = omega (arith, enc .0 .row .first, w .1);
+      }
 
-  pub apply-rest : PreApply R T A s l at q n v → (getD R (at * 4) 0 ≡ 90 → ⊥) → (getD R (at * 4) 0 ≡ 71 → ⊥) → (getD R (at * 4) 0 ≡ 75 → ⊥) → getD R (at * 4) 0 ≡ 65
+  pub apply-rest : PreApply R T A s l at q n v → (getD R (at * 4) 0 ≡ 90 → ⊥) → (getD R (at * 4) 0 ≡ 71 → ⊥)
+      → (getD R (at * 4) 0 ≡ 75 → ⊥) → getD R (at * 4) 0 ≡ 65
   apply-rest p a b c =
       let x = head (p .node .e) (p .node .encoded) .letter in
       x ∙ rest-assign (p .node .e) (rw x at (p .letter)) (λ z. a (x ∙ z)) (λ z. b (x ∙ z)) (λ z. c (x ∙ z))
 
-  apply-test : (b : Bool) → getD R (at * 4) 0 ≡ 90 → b ≡ is-null-value (value v) → PostApply R T A s l l at q n v (Gave (Truth b))
+  apply-test : (b : Bool) → getD R (at * 4) 0 ≡ 90 → b ≡ is-null-value (value v)
+      → PostApply R T A s l l at q n v (Gave (Truth b))
   unfolding bare after
   apply-test b h g = record {
     applied = λ E P e d f enc w.
@@ -212,17 +289,24 @@ module _ {R T A s l : List ℕ} {at : ℕ} {q : Place} {n : Counts} {v : Value} 
       small true = omega arith
       small false = omega arith
 
-  pub apply-get : (r : Outcome) → getD R (at * 4) 0 ≡ 71 → PostLoad T s v (getD R (at * 4 + 1) 0) n r → PostApply R T A s l l at q n v r
+  pub apply-get : (r : Outcome) → getD R (at * 4) 0 ≡ 71 → PostLoad T s v (getD R (at * 4 + 1) 0) n r
+      → PostApply R T A s l l at q n v r
   unfolding after Encoded
   apply-get r h p = record {
     applied = λ E P e d f enc w.
         let c = as-get e (sym (head e enc .letter) ∙ h) in
         let enc′ = rw (c .2) at enc in
         let a = p .acts R E A P (f .holds) (f .sound) in
-        record { long = refl; same = λ i o. refl; small = a .small; is = λ k. rw (c .2, ← enc′ .0 .row .first) (a .is (frame-of l q) k) };
+        record {
+          long = refl;
+          same = λ i o. refl;
+          small = a .small;
+          is = λ k. rw (c .2, ← enc′ .0 .row .first) (a .is (frame-of l q) k);
+        };
   }
 
-  pub apply-cast : (r : Outcome) → getD R (at * 4) 0 ≡ 75 → PostCast A s v (getD R (at * 4 + 1) 0) n r → PostApply R T A s l l at q n v r
+  pub apply-cast : (r : Outcome) → getD R (at * 4) 0 ≡ 75 → PostCast A s v (getD R (at * 4 + 1) 0) n r
+      → PostApply R T A s l l at q n v r
   unfolding after Encoded Within
   apply-cast r h p = record {
     applied = λ E P e d f enc w.
@@ -230,28 +314,42 @@ module _ {R T A s l : List ℕ} {at : ℕ} {q : Place} {n : Counts} {v : Value} 
         let enc′ = rw (c .2) at enc in
         let w′ = rw (c .2) at w in
         let a = p .acts R E T P (f .holds) (f .sound) (omega (arith, enc′ .0 .row .first, w′ .1)) in
-        record { long = refl; same = λ i o. refl; small = a .small; is = λ k. rw (c .2, ← enc′ .0 .row .first) (a .is (frame-of l q) k) };
+        record {
+          long = refl;
+          same = λ i o. refl;
+          small = a .small;
+          is = λ k. rw (c .2, ← enc′ .0 .row .first) (a .is (frame-of l q) k);
+        };
   }
 
-  pub apply-assign : {l′ : List ℕ} → getD R (at * 4) 0 ≡ 65 → Wrote l l′ (getD R (at * 4 + 1) 0) v q → Small v → PostApply R T A s l l′ at q n v (Gave v)
+  pub apply-assign : {l′ : List ℕ} → getD R (at * 4) 0 ≡ 65 → Wrote l l′ (getD R (at * 4 + 1) 0) v q → Small v
+      → PostApply R T A s l l′ at q n v (Gave v)
   unfolding after Encoded bare
   apply-assign h p m = record {
     applied = λ E P e d f enc w.
         let c = as-assign e (sym (head e enc .letter) ∙ h) in
         let enc′ = rw (c .2) at enc in
-        record { long = p .long; same = λ i o. p .same i (far E P d f i o); small = m; is = λ k. rw (c .2, ← enc′ .0 .row .first, p .is) };
+        record {
+          long = p .long;
+          same = λ i o. p .same i (far E P d f i o);
+          small = m;
+          is = λ k. rw (c .2, ← enc′ .0 .row .first, p .is);
+        };
   }
     where
-      far : (E : List ℕ) (P : List Class) (d : ℕ) → Ready R E T A s l P q n d 0 → (i : ℕ) → (i < q .base) ⊎ (q .base + 264 ≤ i) → (i < q .base) ⊎ (q .base + q .scope < i)
+      far : (E : List ℕ) (P : List Class) (d : ℕ) → Ready R E T A s l P q n d 0 → (i : ℕ)
+          → (i < q .base) ⊎ (q .base + 264 ≤ i) → (i < q .base) ⊎ (q .base + q .scope < i)
       far E P d f i (inl o) = inl o
       far E P d f i (inr o) = inr (omega (arith, f .scoped))
 
 -- the test of the child's number
-pub apply-null : {R T A s l : List ℕ} {at : ℕ} {q : Place} {n : Counts} (x : ℕ) → getD R (at * 4) 0 ≡ 90 → x ≡ 0 → PostApply R T A s l l at q n (decoded x) (outcome 2)
+pub apply-null : {R T A s l : List ℕ} {at : ℕ} {q : Place} {n : Counts} (x : ℕ) → getD R (at * 4) 0 ≡ 90
+    → x ≡ 0 → PostApply R T A s l l at q n (decoded x) (outcome 2)
 unfolding outcome
 apply-null x h e = apply-test true h (rw e)
 
-pub apply-some : {R T A s l : List ℕ} {at : ℕ} {q : Place} {n : Counts} (x : ℕ) → getD R (at * 4) 0 ≡ 90 → (x ≡ 0 → ⊥) → PostApply R T A s l l at q n (decoded x) (outcome 1)
+pub apply-some : {R T A s l : List ℕ} {at : ℕ} {q : Place} {n : Counts} (x : ℕ) → getD R (at * 4) 0 ≡ 90
+    → (x ≡ 0 → ⊥) → PostApply R T A s l l at q n (decoded x) (outcome 1)
 unfolding outcome
 apply-some x h f = apply-test false h (go x f)
   where
@@ -262,8 +360,12 @@ apply-some x h f = apply-test false h (go x f)
     go (suc (suc (suc j))) f = refl
 
 -- the number of the value that was assigned
-pub apply-number : {R T A s l l′ : List ℕ} {at : ℕ} {q : Place} {n : Counts} (x : ℕ) → x < 4294967296 → PostApply R T A s l l′ at q n (decoded x) (Gave (decoded x)) → PostApply R T A s l l′ at q n (decoded x) (outcome x)
+pub apply-number : {R T A s l l′ : List ℕ} {at : ℕ} {q : Place} {n : Counts} (x : ℕ) → x < 4294967296
+    → PostApply R T A s l l′ at q n (decoded x) (Gave (decoded x))
+    → PostApply R T A s l l′ at q n (decoded x) (outcome x)
 apply-number x h p = rw (outcome-value x h) p
 
-pub no-leaf : (k : ℕ) → (k ≡ 84 → ⊥) → (k ≡ 76 → ⊥) → (k ≡ 78 → ⊥) → (k ≡ 73 → ⊥) → (k ≡ 87 → ⊥) → (k ≡ 82 → ⊥) → no-child k ≡ false
-no-leaf k a b c d e f = rw (ne-eqb k 84 a, ne-eqb k 76 b, ne-eqb k 78 c, ne-eqb k 73 d, ne-eqb k 87 e, ne-eqb k 82 f)
+pub no-leaf : (k : ℕ) → (k ≡ 84 → ⊥) → (k ≡ 76 → ⊥) → (k ≡ 78 → ⊥) → (k ≡ 73 → ⊥) → (k ≡ 87 → ⊥)
+    → (k ≡ 82 → ⊥) → no-child k ≡ false
+no-leaf k a b c d e f =
+    rw (ne-eqb k 84 a, ne-eqb k 76 b, ne-eqb k 78 c, ne-eqb k 73 d, ne-eqb k 87 e, ne-eqb k 82 f)

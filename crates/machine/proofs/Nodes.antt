@@ -1,16 +1,16 @@
 -- Which expression a letter tells, and its parts. Assumes nothing.
 use mathlib.Core.Path.{_≡_, refl, sym}
 use mathlib.Core.Bool.{true, false, false≢true}
-use mathlib.Core.Option.{none}
 use mathlib.Core.List.{List}
 use Prim.Native.Nat.{ℕ, _+_, _-_, _*_, _<_}
 use borrow.Author.Tests.{eqb-false}
 use lib.ListN.{length, getD}
 use Rattle.language.specs.Results.{bind}
-use Rattle.language.specs.Tree.{DeclaredType, Expr, literal-true, literal-false, literal-null, slot, is-null, get, cast, new, change, assign, set, call, choose, block, Exprs, size}
+use Rattle.language.specs.Tree.{DeclaredType, Expr, literal-true, literal-false, literal-null, slot, is-null}
+use Rattle.language.specs.Tree.{get, cast, new, change, assign, set, call, choose, block, Exprs, size}
 use Rattle.language.specs.World.{World, Method}
 use Rattle.language.specs.Encoded.{Encoded}
-use Rattle.language.specs.Evaluation.{Value as Meaning, State, Out, Limits, entered, enter, eval}
+use Rattle.language.specs.Evaluation.{Value as Meaning, State, Out, Limits, enter, eval}
 use Rattle.machine.specs.Machine.{Within, inside, after}
 use Rattle.machine.specs.Contracts.{one-child, no-child}
 
@@ -39,20 +39,40 @@ pub record Head (R E : List ℕ) (e : Expr) (r : ℕ) : Type 0 where
 
 pub head : {R E : List ℕ} (e : Expr) {r : ℕ} → Encoded R E e r → Head R E e r
 unfolding Encoded size
-head literal-true h = record { row = h .row .within; letter = h .row .letter; in-ends = h .in-ends; end = h .end }
-head literal-false h = record { row = h .row .within; letter = h .row .letter; in-ends = h .in-ends; end = h .end }
-head literal-null h = record { row = h .row .within; letter = h .row .letter; in-ends = h .in-ends; end = h .end }
+head literal-true h =
+    record { row = h .row .within; letter = h .row .letter; in-ends = h .in-ends; end = h .end }
+head literal-false h =
+    record { row = h .row .within; letter = h .row .letter; in-ends = h .in-ends; end = h .end }
+head literal-null h =
+    record { row = h .row .within; letter = h .row .letter; in-ends = h .in-ends; end = h .end }
 head (slot i) h = record { row = h .row .within; letter = h .row .letter; in-ends = h .in-ends; end = h .end }
-head (is-null e) h = record { row = h .0 .row .within; letter = h .0 .row .letter; in-ends = h .0 .in-ends; end = h .0 .end }
-head (get f e) h = record { row = h .0 .row .within; letter = h .0 .row .letter; in-ends = h .0 .in-ends; end = h .0 .end }
-head (cast c e) h = record { row = h .0 .row .within; letter = h .0 .row .letter; in-ends = h .0 .in-ends; end = h .0 .end }
+head (is-null e) h =
+    record { row = h .0 .row .within; letter = h .0 .row .letter; in-ends = h .0 .in-ends; end = h .0 .end }
+head (get f e) h = record {
+  row = h .0 .row .within;
+  letter = h .0 .row .letter;
+  in-ends = h .0 .in-ends;
+  end = h .0 .end;
+}
+head (cast c e) h = record {
+  row = h .0 .row .within;
+  letter = h .0 .row .letter;
+  in-ends = h .0 .in-ends;
+  end = h .0 .end;
+}
 head (new c) h = record { row = h .row .within; letter = h .row .letter; in-ends = h .in-ends; end = h .end }
-head (change i c) h = record { row = h .row .within; letter = h .row .letter; in-ends = h .in-ends; end = h .end }
-head (assign i e) h = record { row = h .0 .row .within; letter = h .0 .row .letter; in-ends = h .0 .in-ends; end = h .0 .end }
-head (set f e e′) h = record { row = h .0 .row .within; letter = h .0 .row .letter; in-ends = h .0 .in-ends; end = h .0 .end }
-head (call m e es) h = record { row = h .0 .row .within; letter = h .0 .row .letter; in-ends = h .0 .in-ends; end = h .0 .end }
-head (choose a b c) h = record { row = h .0 .row .within; letter = h .0 .row .letter; in-ends = h .0 .in-ends; end = h .0 .end }
-head (block ts es) h = record { row = h .0 .row .within; letter = h .0 .row .letter; in-ends = h .0 .in-ends; end = h .0 .end }
+head (change i c) h =
+    record { row = h .row .within; letter = h .row .letter; in-ends = h .in-ends; end = h .end }
+head (assign i e) h =
+    record { row = h .0 .row .within; letter = h .0 .row .letter; in-ends = h .0 .in-ends; end = h .0 .end }
+head (set f e e′) h =
+    record { row = h .0 .row .within; letter = h .0 .row .letter; in-ends = h .0 .in-ends; end = h .0 .end }
+head (call m e es) h =
+    record { row = h .0 .row .within; letter = h .0 .row .letter; in-ends = h .0 .in-ends; end = h .0 .end }
+head (choose a b c) h =
+    record { row = h .0 .row .within; letter = h .0 .row .letter; in-ends = h .0 .in-ends; end = h .0 .end }
+head (block ts es) h =
+    record { row = h .0 .row .within; letter = h .0 .row .letter; in-ends = h .0 .in-ends; end = h .0 .end }
 
 pub as-literal-true : (x : Expr) → code-of x ≡ 84 → (x ≡ literal-true)
 as-literal-true literal-true h = refl
@@ -317,7 +337,8 @@ child (call m e es) = (call m e es)
 child (choose a b c) = (choose a b c)
 child (block ts es) = (block ts es)
 
-pub one-encoded : (R E : List ℕ) {e : Expr} (r : ℕ) → OneChild e → Encoded R E e r → Encoded R E (child e) (r + 1)
+pub one-encoded : (R E : List ℕ) {e : Expr} (r : ℕ) → OneChild e → Encoded R E e r
+    → Encoded R E (child e) (r + 1)
 unfolding Encoded
 one-encoded R E r one-null h = h .1
 one-encoded R E r one-get h = h .1
@@ -332,7 +353,8 @@ one-within k n d one-cast h = (h .0, h .2)
 one-within k n d one-assign h = h
 
 module _ (W : World) (L : Limits) (K : Method → State → Out Meaning) where
-  pub one-inside : {e : Expr} → OneChild e → (s : State) → inside W L K e s ≡ bind (eval W L K (child e) s) (λ v s. after W e v s)
+  pub one-inside : {e : Expr} → OneChild e → (s : State)
+      → inside W L K e s ≡ bind (eval W L K (child e) s) (λ v s. after W e v s)
   unfolding inside
   one-inside one-null s = refl
   one-inside one-get s = refl
@@ -358,7 +380,8 @@ module _ (W : World) (L : Limits) (K : Method → State → Out Meaning) where
   eval-inside (block ts es) s = refl
 
 -- what has a child and is none of the others has one
-pub rest-one-child : (e : Expr) → no-child (code-of e) ≡ false → (code-of e ≡ 66 → ⊥) → (code-of e ≡ 74 → ⊥) → (code-of e ≡ 81 → ⊥) → (code-of e ≡ 85 → ⊥) → one-child (code-of e) ≡ true
+pub rest-one-child : (e : Expr) → no-child (code-of e) ≡ false → (code-of e ≡ 66 → ⊥) → (code-of e ≡ 74 → ⊥)
+    → (code-of e ≡ 81 → ⊥) → (code-of e ≡ 85 → ⊥) → one-child (code-of e) ≡ true
 rest-one-child literal-true h h₁ h₂ h₃ h₄ = absurd (false≢true (sym h))
 rest-one-child literal-false h h₁ h₂ h₃ h₄ = absurd (false≢true (sym h))
 rest-one-child literal-null h h₁ h₂ h₃ h₄ = absurd (false≢true (sym h))
@@ -375,7 +398,8 @@ rest-one-child (choose a b c) h h₁ h₂ h₃ h₄ = absurd (h₂ refl)
 rest-one-child (block ts es) h h₁ h₂ h₃ h₄ = absurd (h₁ refl)
 
 -- what has no child and is none of the others is R
-pub rest-change : (e : Expr) → no-child (code-of e) ≡ true → (code-of e ≡ 84 → ⊥) → (code-of e ≡ 76 → ⊥) → (code-of e ≡ 78 → ⊥) → (code-of e ≡ 73 → ⊥) → (code-of e ≡ 87 → ⊥) → code-of e ≡ 82
+pub rest-change : (e : Expr) → no-child (code-of e) ≡ true → (code-of e ≡ 84 → ⊥) → (code-of e ≡ 76 → ⊥)
+    → (code-of e ≡ 78 → ⊥) → (code-of e ≡ 73 → ⊥) → (code-of e ≡ 87 → ⊥) → code-of e ≡ 82
 rest-change literal-true h h₁ h₂ h₃ h₄ h₅ = absurd (h₁ refl)
 rest-change literal-false h h₁ h₂ h₃ h₄ h₅ = absurd (h₂ refl)
 rest-change literal-null h h₁ h₂ h₃ h₄ h₅ = absurd (h₃ refl)
@@ -391,7 +415,8 @@ rest-change (call m e es) h h₁ h₂ h₃ h₄ h₅ = absurd (false≢true h)
 rest-change (choose a b c) h h₁ h₂ h₃ h₄ h₅ = absurd (false≢true h)
 rest-change (block ts es) h h₁ h₂ h₃ h₄ h₅ = absurd (false≢true h)
 
-pub rest-assign : (e : Expr) → one-child (code-of e) ≡ true → (code-of e ≡ 90 → ⊥) → (code-of e ≡ 71 → ⊥) → (code-of e ≡ 75 → ⊥) → code-of e ≡ 65
+pub rest-assign : (e : Expr) → one-child (code-of e) ≡ true → (code-of e ≡ 90 → ⊥) → (code-of e ≡ 71 → ⊥)
+    → (code-of e ≡ 75 → ⊥) → code-of e ≡ 65
 rest-assign literal-true h h₁ h₂ h₃ = absurd (false≢true h)
 rest-assign literal-false h h₁ h₂ h₃ = absurd (false≢true h)
 rest-assign literal-null h h₁ h₂ h₃ = absurd (false≢true h)

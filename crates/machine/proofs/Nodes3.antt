@@ -23,15 +23,18 @@ use Rattle.machine.specs.declared.Place.{Place}
 use Rattle.machine.specs.Contracts.{Answer}
 use Rattle.machine.specs.Machine.{value, bare, told, state, Within, inside}
 use Rattle.machine.specs.Contracts
-use Rattle.machine.specs.Contracts.{answer, Ready, Done, PreEval, PreEntered, PostEval, PostNode, evaluated}
+use Rattle.machine.specs.Contracts.{answer, Ready, Done, PreEval, PreEntered, PostEval, PostNode}
+use Rattle.machine.specs.Contracts.{evaluated}
 use Rattle.machine.proofs.Value.{the-type}
 use Rattle.machine.proofs.Nodes
 use Rattle.machine.proofs.Nodes.{head, as-choose}
 use Rattle.machine.proofs.Steps
-use Rattle.machine.proofs.Steps.{kept-then, kept-more, kept-as, ready-child, refit, room-same, then-eval, fails, gives}
+use Rattle.machine.proofs.Steps.{kept-then, kept-more, kept-as, ready-child, refit, room-same}
+use Rattle.machine.proofs.Steps.{then-eval, fails, gives}
 
 -- J taken apart
-pub record ChooseAt (R E T A s l : List ℕ) (at : ℕ) (q : Place) (n : Counts) (P : List Class) (a b c : Expr) (d F k : ℕ) : Type 0 where
+pub record ChooseAt (R E T A s l : List ℕ) (at : ℕ) (q : Place) (n : Counts) (P : List Class) (a b c : Expr)
+    (d F k : ℕ) : Type 0 where
   pub ready : Ready R E T A s l P q n d 1
   pub row : at * 4 + 3 < length R
   pub in-ends : at + 1 < length E
@@ -46,7 +49,9 @@ pub record ChooseAt (R E T A s l : List ℕ) (at : ℕ) (q : Place) (n : Counts)
   pub within-c : Within (length P) (q .scope) (d - 1) c
   pub total : k + n .left ≡ F
 
-choose-parts : {R E T A s l : List ℕ} {at : ℕ} {q : Place} {n : Counts} (P : List Class) (a b c : Expr) (d F k : ℕ) → Ready R E T A s l P q n d 1 → Encoded R E (choose a b c) at → Within (length P) (q .scope) d (choose a b c) → k + n .left ≡ F
+choose-parts : {R E T A s l : List ℕ} {at : ℕ} {q : Place} {n : Counts} (P : List Class) (a b c : Expr)
+    (d F k : ℕ) → Ready R E T A s l P q n d 1
+    → Encoded R E (choose a b c) at → Within (length P) (q .scope) d (choose a b c) → k + n .left ≡ F
     → ChooseAt R E T A s l at q n P a b c d F k
 unfolding Encoded Within
 choose-parts P a b c d F k r enc w z = record {
@@ -65,31 +70,68 @@ choose-parts P a b c d F k r enc w z = record {
   total = z;
 }
 
-pub choose-apart : {R E T A s l : List ℕ} {at : ℕ} {q : Place} {n : Counts} (p : PreEntered R E T A s l at q n) → getD R (at * 4) 0 ≡ 74
+pub choose-apart : {R E T A s l : List ℕ} {at : ℕ} {q : Place} {n : Counts}
+    (p : PreEntered R E T A s l at q n) → getD R (at * 4) 0 ≡ 74
     → (a : Expr) × (b : Expr) × (c : Expr) × ChooseAt R E T A s l at q n (p .P) a b c (p .d) (n .left) 0
 choose-apart {at = at} {n = n} p h =
-    let x = as-choose (p .e) (sym (head (p .e) (p .encoded) .letter) ∙ h) in
-    (x .0, x .1, x .2, choose-parts {at = at} (p .P) (x .0) (x .1) (x .2) (p .d) (n .left) 0 (p .ready) (rw (x .3) at (p .encoded)) (rw (x .3) at (p .within)) (omega arith))
+    let x = as-choose (p .e) (sym (head (p .e) (p .encoded) .letter) ∙ h) in (
+      x .0,
+      x .1,
+      x .2,
+      choose-parts {at = at} (p .P) (x .0) (x .1) (x .2) (p .d) (n .left) 0 (p .ready)
+          (rw (x .3) at (p .encoded)) (rw (x .3) at (p .within)) (omega arith),
+    )
 
-module _ {R E T A s l : List ℕ} {at : ℕ} {q : Place} {n : Counts} {P : List Class} {a b c : Expr} {d F k : ℕ} (x : ChooseAt R E T A s l at q n P a b c d F k) where
+module _ {R E T A s l : List ℕ} {at : ℕ} {q : Place} {n : Counts} {P : List Class} {a b c : Expr} {d F k : ℕ}
+    (x : ChooseAt R E T A s l at q n P a b c d F k) where
   abbrev pub choose-first : PreEval R E T A s l (at + 1) q n
-  choose-first = record { P = P; e = a; d = d - 1; ready = ready-child 1 (d - 1) (x .ready) (omega arith); encoded = x .enc-a; within = x .within-a }
+  choose-first = record {
+    P = P;
+    e = a;
+    d = d - 1;
+    ready = ready-child 1 (d - 1) (x .ready) (omega arith);
+    encoded = x .enc-a;
+    within = x .within-a;
+  }
 
   module _ {s′ l′ : List ℕ} {r : Answer} (g : PostEval R E T A s l s′ l′ (at + 1) q n r) where
-    pub condition-done : Done P s l s′ l′ q n F 0 r (evaluated P F (capacity s) (q .calls) a (state P s l q n k))
-    condition-done = g .done P a (d - 1) F k (ready-child 1 (d - 1) (x .ready) (omega arith)) (x .enc-a) (x .within-a) (x .total)
+    pub condition-done : Done P s l s′ l′ q n F 0 r
+        (evaluated P F (capacity s) (q .calls) a (state P s l q n k))
+    condition-done = g .done P a (d - 1) F k (ready-child 1 (d - 1) (x .ready) (omega arith)) (x .enc-a)
+        (x .within-a) (x .total)
 
     module _ {v : Value} {t : Bool} (e : r .outcome ≡ Gave v) (e′ : v ≡ Truth t) where
-      pub condition-gave : (y : Bool) → t ≡ y → evaluated P F (capacity s) (q .calls) a (state P s l q n k) ≡ ok (truth y) (state P s′ l′ q (r .counts) (F - r .counts .left))
-      condition-gave y u = gives (state P s′ l′ q (r .counts) (F - r .counts .left)) (evaluated P F (capacity s) (q .calls) a (state P s l q n k)) e (condition-done .is) ∙ rw (e′, u)
+      pub condition-gave : (y : Bool) → t ≡ y
+          → evaluated P F (capacity s) (q .calls) a (state P s l q n k)
+          ≡ ok (truth y) (state P s′ l′ q (r .counts) (F - r .counts .left))
+      condition-gave y u =
+          gives (state P s′ l′ q (r .counts) (F - r .counts .left))
+          (evaluated P F (capacity s) (q .calls) a (state P s l q n k)) e (condition-done .is) ∙ rw (e′, u)
 
       abbrev pub choose-second : t ≡ true → PreEval R E T A s′ l′ (getD E (at + 1) 0) q (r .counts)
-      choose-second u = record { P = P; e = b; d = d - 1; ready = refit 1 (d - 1) (x .ready) (condition-done .kept) (omega arith); encoded = rw (x .end-a) (x .enc-b); within = x .within-b }
+      choose-second u = record {
+        P = P;
+        e = b;
+        d = d - 1;
+        ready = refit 1 (d - 1) (x .ready)
+            (condition-done .kept) (omega arith);
+        encoded = rw (x .end-a) (x .enc-b);
+        within = x .within-b;
+      }
 
       abbrev pub choose-third : t ≡ false → PreEval R E T A s′ l′ (getD E (getD E (at + 1) 0) 0) q (r .counts)
-      choose-third u = record { P = P; e = c; d = d - 1; ready = refit 1 (d - 1) (x .ready) (condition-done .kept) (omega arith); encoded = rw (x .end-a, x .end-b) (x .enc-c); within = x .within-c }
+      choose-third u = record {
+        P = P;
+        e = c;
+        d = d - 1;
+        ready = refit 1 (d - 1) (x .ready)
+            (condition-done .kept) (omega arith);
+        encoded = rw (x .end-a, x .end-b) (x .enc-c);
+        within = x .within-c;
+      }
 
-module _ {R E T A s l s′ l′ : List ℕ} (at : ℕ) {q : Place} {n : Counts} {r : Answer} (h : getD R (at * 4) 0 ≡ 74) (g : PostEval R E T A s l s′ l′ (at + 1) q n r) where
+module _ {R E T A s l s′ l′ : List ℕ} (at : ℕ) {q : Place} {n : Counts} {r : Answer}
+    (h : getD R (at * 4) 0 ≡ 74) (g : PostEval R E T A s l s′ l′ (at + 1) q n r) where
   pub choose-fail : ((v : Value) → r .outcome ≡ Gave v → ⊥) → PostNode R E T A s l s′ l′ at q n r
   unfolding inside
   choose-fail not = record {
@@ -99,51 +141,74 @@ module _ {R E T A s l s′ l′ : List ℕ} (at : ℕ) {q : Place} {n : Counts} 
         let m = condition-done x g in
         record {
           kept = kept-more 0 1 (m .kept) (omega arith);
-          is = rw (y .3) (fails (r .outcome) (state P s′ l′ q (r .counts) (F - r .counts .left)) (evaluated P F (capacity s) (q .calls) (y .0) (state P s l q n k))
-              (λ v u. need-truth v u λ t. choice t (λ _. evaluated P F (capacity s) (q .calls) (y .1) u) (λ _. evaluated P F (capacity s) (q .calls) (y .2) u)) not (m .is));
+          is = rw (y .3) (fails (r .outcome) (state P s′ l′ q (r .counts) (F - r .counts .left))
+              (evaluated P F (capacity s) (q .calls) (y .0) (state P s l q n k))
+              (λ v u. need-truth v u λ t.
+              choice t (λ _. evaluated P F (capacity s) (q .calls) (y .1) u)
+              (λ _. evaluated P F (capacity s) (q .calls) (y .2) u)) not (m .is));
         };
   }
 
-  pub choose-stuck : {v : Value} → r .outcome ≡ Gave v → OneOf (0 ∷ 2 ∷ []) (tagOf the-type v) → PostNode R E T A s l s′ l′ at q n (answer Stuck (r .counts))
+  pub choose-stuck : {v : Value} → r .outcome ≡ Gave v → OneOf (0 ∷ 2 ∷ []) (tagOf the-type v)
+      → PostNode R E T A s l s′ l′ at q n (answer Stuck (r .counts))
   unfolding inside bare
   choose-stuck {v} t o = record {
     done = λ P e d F k f enc w z.
         let y = as-choose e (sym (head e enc .letter) ∙ h) in
         let x = choose-parts {at = at} P (y .0) (y .1) (y .2) d F k f (rw (y .3) at enc) (rw (y .3) at w) z in
         let m = condition-done x g in
-        let c = gives (state P s′ l′ q (r .counts) (F - r .counts .left)) (evaluated P F (capacity s) (q .calls) (y .0) (state P s l q n k)) t (m .is) in
+        let c = gives (state P s′ l′ q (r .counts) (F - r .counts .left))
+        (evaluated P F (capacity s) (q .calls) (y .0) (state P s l q n k)) t (m .is) in
         record {
           kept = kept-as 1 Stuck (kept-more 0 1 (m .kept) (omega arith)) tt;
-          is = rw (y .3, c) (no-truth v o (state P s′ l′ q (r .counts) (F - r .counts .left)) (λ t. choice t (λ _. evaluated P F (capacity s) (q .calls) (y .1) (state P s′ l′ q (r .counts) (F - r .counts .left))) (λ _. evaluated P F (capacity s) (q .calls) (y .2) (state P s′ l′ q (r .counts) (F - r .counts .left)))));
+          is = rw (y .3, c) (no-truth v o (state P s′ l′ q (r .counts) (F - r .counts .left))
+              (λ t. choice t (λ _. evaluated P F (capacity s) (q .calls) (y .1)
+              (state P s′ l′ q (r .counts) (F - r .counts .left)))
+              (λ _. evaluated P F (capacity s) (q .calls) (y .2)
+              (state P s′ l′ q (r .counts) (F - r .counts .left)))));
         };
   }
     where
-      no-truth : (v : Value) → OneOf (0 ∷ 2 ∷ []) (tagOf the-type v) → (u : State) (k : Bool → Out Meaning) → told Stuck u ≡ bare (need-truth (value v) u k)
+      no-truth : (v : Value) → OneOf (0 ∷ 2 ∷ []) (tagOf the-type v) → (u : State) (k : Bool → Out Meaning)
+          → told Stuck u ≡ bare (need-truth (value v) u k)
       no-truth Null o u k = refl
       no-truth (Truth b) o u k = absurd (⊎-elim (λ e. eqb-false 1 0 refl e) (λ e. eqb-false 1 2 refl e) o)
       no-truth (Object j) o u k = refl
 
-  module _ {s″ l″ : List ℕ} {r′ : Answer} {v : Value} {t : Bool} (e₁ : r .outcome ≡ Gave v) (e₂ : v ≡ Truth t) where
-    pub choose-yes : t ≡ true → PostEval R E T A s′ l′ s″ l″ (getD E (at + 1) 0) q (r .counts) r′ → PostNode R E T A s l s″ l″ at q n r′
-    unfolding inside
-    choose-yes u g′ = record {
-      done = λ P e d F k f enc w z.
-          let y = as-choose e (sym (head e enc .letter) ∙ h) in
-          let x = choose-parts {at = at} P (y .0) (y .1) (y .2) d F k f (rw (y .3) at enc) (rw (y .3) at w) z in
-          let m = condition-done x g in
-          let p = choose-second x g e₁ e₂ u in
-          let i = then-eval (capacity s) (room-same s s′ (m .kept .stored .long)) g′ P (y .1) (d - 1) F (F - r .counts .left) (p .ready) (p .encoded) (x .within-b) (omega (arith, m .kept .falls)) in
-          record { kept = kept-then 0 0 1 (m .kept) (i .kept) (omega arith); is = rw (y .3, condition-gave x g e₁ e₂ true u) (i .is) };
-    }
+  module _ {s″ l″ : List ℕ} {r′ : Answer} {v : Value} {t : Bool} (e₁ : r .outcome ≡ Gave v) (e₂ : v ≡ Truth t)
+    where
+      pub choose-yes : t ≡ true → PostEval R E T A s′ l′ s″ l″ (getD E (at + 1) 0) q (r .counts) r′
+          → PostNode R E T A s l s″ l″ at q n r′
+      unfolding inside
+      choose-yes u g′ = record {
+        done = λ P e d F k f enc w z.
+            let y = as-choose e (sym (head e enc .letter) ∙ h) in
+            let x = choose-parts {at = at} P (y .0) (y .1) (y .2) d F k f (rw (y .3) at enc) (rw (y .3) at w)
+            z in
+            let m = condition-done x g in
+            let p = choose-second x g e₁ e₂ u in
+            let i = then-eval (capacity s) (room-same s s′ (m .kept .stored .long)) g′ P (y .1) (d - 1) F
+            (F - r .counts .left) (p .ready) (p .encoded) (x .within-b) (omega (arith, m .kept .falls)) in
+            record {
+              kept = kept-then 0 0 1 (m .kept) (i .kept) (omega arith);
+              is = rw (y .3, condition-gave x g e₁ e₂ true u) (i .is);
+            };
+      }
 
-    pub choose-no : t ≡ false → PostEval R E T A s′ l′ s″ l″ (getD E (getD E (at + 1) 0) 0) q (r .counts) r′ → PostNode R E T A s l s″ l″ at q n r′
-    unfolding inside
-    choose-no u g′ = record {
-      done = λ P e d F k f enc w z.
-          let y = as-choose e (sym (head e enc .letter) ∙ h) in
-          let x = choose-parts {at = at} P (y .0) (y .1) (y .2) d F k f (rw (y .3) at enc) (rw (y .3) at w) z in
-          let m = condition-done x g in
-          let p = choose-third x g e₁ e₂ u in
-          let i = then-eval (capacity s) (room-same s s′ (m .kept .stored .long)) g′ P (y .2) (d - 1) F (F - r .counts .left) (p .ready) (p .encoded) (x .within-c) (omega (arith, m .kept .falls)) in
-          record { kept = kept-then 0 0 1 (m .kept) (i .kept) (omega arith); is = rw (y .3, condition-gave x g e₁ e₂ false u) (i .is) };
-    }
+      pub choose-no : t ≡ false → PostEval R E T A s′ l′ s″ l″ (getD E (getD E (at + 1) 0) 0) q (r .counts) r′
+          → PostNode R E T A s l s″ l″ at q n r′
+      unfolding inside
+      choose-no u g′ = record {
+        done = λ P e d F k f enc w z.
+            let y = as-choose e (sym (head e enc .letter) ∙ h) in
+            let x = choose-parts {at = at} P (y .0) (y .1) (y .2) d F k f (rw (y .3) at enc) (rw (y .3) at w)
+            z in
+            let m = condition-done x g in
+            let p = choose-third x g e₁ e₂ u in
+            let i = then-eval (capacity s) (room-same s s′ (m .kept .stored .long)) g′ P (y .2) (d - 1) F
+            (F - r .counts .left) (p .ready) (p .encoded) (x .within-c) (omega (arith, m .kept .falls)) in
+            record {
+              kept = kept-then 0 0 1 (m .kept) (i .kept) (omega arith);
+              is = rw (y .3, condition-gave x g e₁ e₂ false u) (i .is);
+            };
+      }

@@ -3,22 +3,26 @@ use mathlib.Core.Path.{_≡_, refl, sym, ap, ap₂, _∙_}
 use mathlib.Core.List.{List, [], _∷_, _++_, map}
 use Prim.Native.Nat.{ℕ, zero, suc, _+_, _-_, _*_, _≤_, _<_}
 use native.Mathlib.Omega.{arith}
-use lib.ListN.{length, getD, take, drop, replicate, take-append-drop, length-map, length-drop, length-replicate, getD-replicate}
+use lib.ListN.{length, getD, take, drop, replicate, take-append-drop, length-map, length-drop}
+use lib.ListN.{length-replicate, getD-replicate}
 use lib.Seq.{drop-drop, take-add, ext-getD, getD-drop, getD-take, length-take-le}
 use Rattle.language.specs.Results.{ok, stop}
 use Rattle.language.specs.Tree.{Class, Program}
 use Rattle.language.specs.World.{World}
 use Rattle.language.specs.Program.{world}
 use Rattle.language.specs.Evaluation.{Value as Meaning, State, Out, with-limits, run}
-use Rattle.language.specs.Store.{value-number, value-of-number, heap-of-numbers, heap-numbers, object-numbers, capacity, stored, finish, finished, ran}
+use Rattle.language.specs.Store.{value-number, value-of-number, heap-of-numbers, heap-numbers, object-numbers}
+use Rattle.language.specs.Store.{capacity, stored, finish, finished, ran}
 use Rattle.machine.specs.Machine.{Outcome}
 use Rattle.machine.specs.Machine.{Gave, Raised, Stopped, Stuck}
 use Rattle.machine.specs.Machine.{Counts}
 use Rattle.machine.specs.declared.Place.{Place}
 use Rattle.machine.specs.Contracts.{Answer}
-use Rattle.machine.specs.Machine.{outcome, counts-in, told, bare, state, frame-of, slots-of, Holds, Sound}
+use Rattle.machine.specs.Machine.{outcome, counts-in, told, bare, state, frame-of, slots-of, Holds}
+use Rattle.machine.specs.Machine.{Sound}
 use Rattle.machine.specs.Contracts
-use Rattle.machine.specs.Contracts.{answered, Ready, Done, PreEval, PostEval, PreRun, PostRun, Runs, outcome-of, evaluated}
+use Rattle.machine.specs.Contracts.{answered, Ready, Done, PreEval, PostEval, PreRun, PostRun, Runs}
+use Rattle.machine.specs.Contracts.{outcome-of, evaluated}
 use Rattle.machine.proofs.Values.{value-number-of}
 use Rattle.machine.proofs.Objects.{heap-length}
 
@@ -28,36 +32,57 @@ numbers-back : (l : List ℕ) → map value-number (map value-of-number l) ≡ l
 numbers-back [] = refl
 numbers-back (x ∷ l) = ap₂ (λ (y : ℕ) (z : List ℕ). y ∷ z) (value-number-of x) (numbers-back l)
 
-zeros-at : (s : List ℕ) (from n : ℕ) → from + n ≤ length s → ((i : ℕ) → i < n → getD s (from + i) 0 ≡ 0) → replicate n 0 ≡ take n (drop from s)
+zeros-at : (s : List ℕ) (from n : ℕ) → from + n ≤ length s → ((i : ℕ) → i < n → getD s (from + i) 0 ≡ 0)
+    → replicate n 0 ≡ take n (drop from s)
 zeros-at s from n h z =
-    ext-getD 0 (replicate n 0) (take n (drop from s)) (length-replicate n 0 ∙ sym (length-take-le n (drop from s) (simp length-drop (omega arith))))
-    (λ i l. let k : i < n = omega (arith, length-replicate {A = ℕ} n 0) in getD-replicate n i 0 0 k ∙ sym (getD-take n (drop from s) i 0 k ∙ (getD-drop from s i 0 ∙ z i k)))
+    ext-getD 0 (replicate n 0) (take n (drop from s))
+    (length-replicate n 0 ∙ sym (length-take-le n (drop from s) (simp length-drop (omega arith))))
+    (λ i l. let k : i < n = omega (arith, length-replicate {A = ℕ} n 0) in getD-replicate n i 0 0 k
+    ∙ sym (getD-take n (drop from s) i 0 k ∙ (getD-drop from s i 0 ∙ z i k)))
 
-object-back : (W : World) (s : List ℕ) → 18 ≤ length s → length (W .fields (getD s 0 0)) ≤ 17 → ((i : ℕ) → length (W .fields (getD s 0 0)) ≤ i → i < 17 → getD s (1 + i) 0 ≡ 0)
-    → object-numbers (record { class-of = getD s 0 0; fields = map value-of-number (take (length (W .fields (getD s 0 0))) (drop 1 s)) }) ≡ take 18 s
+object-back : (W : World) (s : List ℕ) → 18 ≤ length s → length (W .fields (getD s 0 0)) ≤ 17
+    → ((i : ℕ) → length (W .fields (getD s 0 0)) ≤ i → i < 17 → getD s (1 + i) 0 ≡ 0)
+    → object-numbers (record {
+      class-of = getD s 0 0;
+      fields = map value-of-number
+          (take (length (W .fields (getD s 0 0))) (drop 1 s));
+    }) ≡ take 18 s
 object-back W s h few z =
     let m : ℕ = length (W .fields (getD s 0 0)) in
-    let n : length (map value-of-number (take m (drop 1 s))) ≡ m = length-map (take m (drop 1 s)) value-of-number ∙ length-take-le m (drop 1 s) (simp length-drop (omega arith)) in
+    let n : length (map value-of-number (take m (drop 1 s))) ≡ m =
+    length-map (take m (drop 1 s)) value-of-number
+    ∙ length-take-le m (drop 1 s) (simp length-drop (omega arith)) in
     let e : 18 - 1 - m ≡ 17 - m = omega arith in
     let a : 18 ≡ 1 + (m + (17 - m)) = omega arith in
     let b : 1 + m ≡ m + 1 = omega arith in
-    let rest : replicate (17 - m) 0 ≡ take (17 - m) (drop m (drop 1 s)) = zeros-at s (1 + m) (17 - m) (omega arith) (λ i l. let y : 1 + m + i ≡ 1 + (m + i) = omega arith in rw y (z (m + i) (omega arith) (omega arith))) ∙ sym (ap (take (17 - m)) (drop-drop m 1 s)) in
-    ap (λ (k : ℕ). getD s 0 0 ∷ (map value-number (map value-of-number (take m (drop 1 s))) ++ replicate (18 - 1 - k) 0)) n
-    ∙ (ap₂ (λ (x y : List ℕ). getD s 0 0 ∷ (x ++ y)) (numbers-back (take m (drop 1 s))) (ap (λ (k : ℕ). replicate k 0) e ∙ rest)
-    ∙ sym (ap (λ (k : ℕ). take k s) a ∙ (first s (m + (17 - m)) (omega arith) ∙ ap (λ (x : List ℕ). getD s 0 0 ∷ x) (take-add m (17 - m) (drop 1 s)))))
+    let rest : replicate (17 - m) 0 ≡ take (17 - m) (drop m (drop 1 s)) =
+    zeros-at s (1 + m) (17 - m) (omega arith)
+    (λ i l. let y : 1 + m + i ≡ 1 + (m + i) = omega arith in rw y (z (m + i) (omega arith) (omega arith)))
+    ∙ sym (ap (take (17 - m)) (drop-drop m 1 s)) in
+    ap (λ (k : ℕ). getD s 0 0 ∷ (map value-number (map value-of-number (take m (drop 1 s))) ++ replicate
+    (18 - 1 - k) 0)) n
+    ∙ (ap₂ (λ (x y : List ℕ). getD s 0 0 ∷ (x ++ y)) (numbers-back (take m (drop 1 s)))
+    (ap (λ (k : ℕ). replicate k 0) e ∙ rest)
+    ∙ sym (ap (λ (k : ℕ). take k s) a
+    ∙ (first s (m + (17 - m)) (omega arith)
+    ∙ ap (λ (x : List ℕ). getD s 0 0 ∷ x) (take-add m (17 - m) (drop 1 s)))))
   where
     first : (s : List ℕ) (n : ℕ) → 0 < length s → take (1 + n) s ≡ getD s 0 0 ∷ take n (drop 1 s)
     first [] n h = absurd (omega arith)
     first (x ∷ s) n h = let e : 1 + n ≡ suc n = omega arith in rw e
 
-heap-back : (W : World) (n : ℕ) (s : List ℕ) → n * 18 ≤ length s → ((j : ℕ) → j < n → length (W .fields (getD s (j * 18) 0)) ≤ 17)
-    → ((j i : ℕ) → j < n → length (W .fields (getD s (j * 18) 0)) ≤ i → i < 17 → getD s (j * 18 + 1 + i) 0 ≡ 0) → heap-numbers (heap-of-numbers W n s) ≡ take (n * 18) s
+heap-back : (W : World) (n : ℕ) (s : List ℕ) → n * 18 ≤ length s
+    → ((j : ℕ) → j < n → length (W .fields (getD s (j * 18) 0)) ≤ 17)
+    → ((j i : ℕ) → j < n → length (W .fields (getD s (j * 18) 0)) ≤ i → i < 17
+    → getD s (j * 18 + 1 + i) 0 ≡ 0) → heap-numbers (heap-of-numbers W n s) ≡ take (n * 18) s
 unfolding heap-of-numbers heap-numbers
 heap-back W zero s h few z = refl
 heap-back W (suc n) s h few z =
     let e : suc n * 18 ≡ 18 + n * 18 = omega arith in
-    ap₂ (λ (x y : List ℕ). x ++ y) (object-back W s (omega arith) (few 0 (omega arith)) (λ i a b. z 0 i (omega arith) a b))
-    (heap-back W n (drop 18 s) (simp length-drop (omega arith)) (λ j l. rw (at j) (few (suc j) (omega arith))) (λ j i l a b. at′ j i ∙ z (suc j) i (omega arith) (rw (at j) at a) b))
+    ap₂ (λ (x y : List ℕ). x ++ y)
+    (object-back W s (omega arith) (few 0 (omega arith)) (λ i a b. z 0 i (omega arith) a b))
+    (heap-back W n (drop 18 s) (simp length-drop (omega arith)) (λ j l. rw (at j) (few (suc j) (omega arith)))
+    (λ j i l a b. at′ j i ∙ z (suc j) i (omega arith) (rw (at j) at a) b))
     ∙ sym (ap (λ (k : ℕ). take k s) e ∙ take-add 18 (n * 18) s)
   where
     at : (j : ℕ) → getD (drop 18 s) (j * 18) 0 ≡ getD s (suc j * 18) 0
@@ -66,12 +91,17 @@ heap-back W (suc n) s h few z =
     at′ : (j i : ℕ) → getD (drop 18 s) (j * 18 + 1 + i) 0 ≡ getD s (suc j * 18 + 1 + i) 0
     at′ j i = getD-drop 18 s (j * 18 + 1 + i) 0 ∙ ap (λ (k : ℕ). getD s k 0) (omega arith)
 
-stored-back : {R E T A : List ℕ} {P : List Class} → Holds R E T A P → (s s′ : List ℕ) (made : ℕ) → Sound P made s′ → drop (made * 18) s′ ≡ drop (made * 18) s → stored (heap-of-numbers (world P) made s′) s ≡ s′
+stored-back : {R E T A : List ℕ} {P : List Class} → Holds R E T A P → (s s′ : List ℕ) (made : ℕ)
+    → Sound P made s′ → drop (made * 18) s′ ≡ drop (made * 18) s
+    → stored (heap-of-numbers (world P) made s′) s ≡ s′
 unfolding stored
 stored-back {P = P} h s s′ made snd rest =
     let e : 18 * made ≡ made * 18 = omega arith in
-    ap₂ (λ (x : List ℕ) (k : ℕ). x ++ drop (18 * k) s) (heap-back (world P) made s′ (snd .stored) (λ j l. h .counts (getD s′ (j * 18) 0) (snd .declared j l)) (snd .unused)) (heap-length (world P) made s′)
-    ∙ (ap (λ (k : ℕ). take (made * 18) s′ ++ drop k s) e ∙ (ap (λ (x : List ℕ). take (made * 18) s′ ++ x) (sym rest) ∙ take-append-drop (made * 18) s′))
+    ap₂ (λ (x : List ℕ) (k : ℕ). x ++ drop (18 * k) s)
+    (heap-back (world P) made s′ (snd .stored) (λ j l. h .counts (getD s′ (j * 18) 0) (snd .declared j l))
+    (snd .unused)) (heap-length (world P) made s′)
+    ∙ (ap (λ (k : ℕ). take (made * 18) s′ ++ drop k s) e
+    ∙ (ap (λ (x : List ℕ). take (made * 18) s′ ++ x) (sym rest) ∙ take-append-drop (made * 18) s′))
 
 -- ---- the run
 
@@ -92,11 +122,17 @@ first-place = record { base = 0; scope = 0; top = 264; calls = 0 }
 abbrev pub first-counts : ℕ → Counts
 first-counts fuel = record { left = fuel; made = 0; changes = 0 }
 
-module _ {R E T A s l : List ℕ} {at fuel : ℕ} {p : Program} (u : Runs R E T A l at p) (low : fuel ≤ 4294967295) where
+module _ {R E T A s l : List ℕ} {at fuel : ℕ} {p : Program} (u : Runs R E T A l at p)
+    (low : fuel ≤ 4294967295) where
   pub ready-start : Ready R E T A s l (p .classes) first-place (first-counts fuel) 128 0
   ready-start = record {
     holds = u .holds;
-    sound = record { stored = omega arith; few = omega arith; declared = λ j h. absurd (omega arith); unused = λ j i h. absurd (omega arith) };
+    sound = record {
+      stored = omega arith;
+      few = omega arith;
+      declared = λ j h. absurd (omega arith);
+      unused = λ j i h. absurd (omega arith);
+    };
     frame = omega arith;
     scoped = omega arith;
     above = omega (arith, u .room);
@@ -105,29 +141,50 @@ module _ {R E T A s l : List ℕ} {at fuel : ℕ} {p : Program} (u : Runs R E T 
   }
 
   pub start-pre : PreEval R E T A s l at first-place (first-counts fuel)
-  start-pre = record { P = p .classes; e = p .start; d = 128; ready = ready-start; encoded = u .encoded; within = u .within }
+  start-pre = record {
+    P = p .classes;
+    e = p .start;
+    d = 128;
+    ready = ready-start;
+    encoded = u .encoded;
+    within = u .within;
+  }
 
-  pub start-done : {s′ l′ : List ℕ} {r : Answer} → PostEval R E T A s l s′ l′ at first-place (first-counts fuel) r
-      → Done (p .classes) s l s′ l′ first-place (first-counts fuel) fuel 0 r (evaluated (p .classes) fuel (capacity s) 0 (p .start) (state (p .classes) s l first-place (first-counts fuel) 0))
+  pub start-done : {s′ l′ : List ℕ} {r : Answer}
+      → PostEval R E T A s l s′ l′ at first-place (first-counts fuel) r
+      → Done (p .classes) s l s′ l′ first-place (first-counts fuel) fuel 0 r
+      (evaluated (p .classes) fuel (capacity s) 0 (p .start)
+      (state (p .classes) s l first-place (first-counts fuel) 0))
   start-done g = g .done (p .classes) (p .start) 128 fuel 0 ready-start (u .encoded) (u .within) (omega arith)
 
-run-is : (P : List Class) (s l : List ℕ) (fuel : ℕ) (p : Program) → P ≡ p .classes → evaluated P fuel (capacity s) 0 (p .start) (state P s l first-place (first-counts fuel) 0) ≡ run (with-limits fuel (capacity s)) p
+run-is : (P : List Class) (s l : List ℕ) (fuel : ℕ) (p : Program) → P ≡ p .classes
+    → evaluated P fuel (capacity s) 0 (p .start) (state P s l first-place (first-counts fuel) 0)
+    ≡ run (with-limits fuel (capacity s)) p
 unfolding frame-of slots-of heap-of-numbers run
 run-is P s l fuel p e = rw e
 
-pub start-falls : {R E T A s l s′ l′ : List ℕ} {at fuel : ℕ} {r : Answer} (p : PreRun R E T A l at) → fuel ≤ 4294967295 → PostEval R E T A s l s′ l′ at first-place (first-counts fuel) r → r .counts .left ≤ fuel
+pub start-falls : {R E T A s l s′ l′ : List ℕ} {at fuel : ℕ} {r : Answer} (p : PreRun R E T A l at)
+    → fuel ≤ 4294967295 → PostEval R E T A s l s′ l′ at first-place (first-counts fuel) r
+    → r .counts .left ≤ fuel
 start-falls p low g = start-done (p .runs) low g .kept .falls
 
-pub run-done : {R E T A s l s′ l′ : List ℕ} {at fuel o : ℕ} (t : List ℕ) → fuel ≤ 4294967295 → PostEval R E T A s l s′ l′ at first-place (first-counts fuel) (answered o t)
-    → PostRun R E T A s l s′ at fuel (record { outcome = o; steps = fuel - getD t 0 0; objects = getD t 1 0; changes = getD t 2 0 })
+pub run-done : {R E T A s l s′ l′ : List ℕ} {at fuel o : ℕ} (t : List ℕ) → fuel ≤ 4294967295
+    → PostEval R E T A s l s′ l′ at first-place (first-counts fuel) (answered o t)
+    → PostRun R E T A s l s′ at fuel
+    (record { outcome = o; steps = fuel - getD t 0 0; objects = getD t 1 0; changes = getD t 2 0 })
 run-done {R} {E} {T} {A} {s} {l} {s′} {l′} {at} {fuel} {o} t low g = record {
   is = λ p u.
       let d = start-done u low g in
       let n : Counts = counts-in t in
       let st : State = state (p .classes) s′ l′ first-place n (fuel - n .left) in
       let e : finish (run (with-limits fuel (capacity s)) p) s ≡ finished (outcome-of (outcome o)) st s
-      = ap (λ (x : Out Meaning). finish x s) (sym (run-is (p .classes) s l fuel p refl)) ∙ (finish-bare (evaluated (p .classes) fuel (capacity s) 0 (p .start) (state (p .classes) s l first-place (first-counts fuel) 0)) s ∙ (ap (λ (x : Out Meaning). finish x s) (sym (d .is)) ∙ finish-told (outcome o) st s)) in
-      e ∙ ap₂ (λ (k : ℕ) (y : List ℕ). record { answer = ran (outcome-of (outcome o)) (fuel - n .left) k (n .changes); store = y })
-      (heap-length (world (p .classes)) (n .made) s′) (stored-back (u .holds) s s′ (n .made) (d .kept .stored .sound) (d .kept .stored .rest));
+      = ap (λ (x : Out Meaning). finish x s) (sym (run-is (p .classes) s l fuel p refl))
+      ∙ (finish-bare (evaluated (p .classes) fuel (capacity s) 0 (p .start)
+      (state (p .classes) s l first-place (first-counts fuel) 0)) s
+      ∙ (ap (λ (x : Out Meaning). finish x s) (sym (d .is)) ∙ finish-told (outcome o) st s)) in
+      e ∙ ap₂ (λ (k : ℕ) (y : List ℕ).
+      record { answer = ran (outcome-of (outcome o)) (fuel - n .left) k (n .changes); store = y })
+      (heap-length (world (p .classes)) (n .made) s′)
+      (stored-back (u .holds) s s′ (n .made) (d .kept .stored .sound) (d .kept .stored .rest));
   small = λ p u. start-done u low g .kept .small;
 }

@@ -12,7 +12,7 @@ use Rattle.language.specs.Results.{ok, bind}
 use Rattle.language.specs.Tree.{Expr, Class}
 use Rattle.language.specs.Program.{world}
 use Rattle.language.specs.Encoded.{Encoded}
-use Rattle.language.specs.Evaluation.{Value as Meaning, State, Out, with-limits, eval}
+use Rattle.language.specs.Evaluation.{Value as Meaning, State, Out, with-limits}
 use Rattle.language.specs.Store.{capacity}
 use Rattle.machine.specs.declared.Value.{Value}
 use Rattle.machine.specs.Machine.{Outcome}
@@ -22,15 +22,19 @@ use Rattle.machine.specs.declared.Place.{Place}
 use Rattle.machine.specs.Contracts.{Answer}
 use Rattle.machine.specs.Machine.{value, SmallOutcome, bare, told, state, Within, after}
 use Rattle.machine.specs.Contracts
-use Rattle.machine.specs.Contracts.{Stored, answer, Ready, Kept, Done, PreNode, PreEval, PreEntered, PostEval, PostNode, PreLeaf, PreApply, PostApply, calls-of, evaluated, no-child, one-child}
+use Rattle.machine.specs.Contracts.{Stored, answer, Ready, Kept, Done, PreNode, PreEval, PreEntered}
+use Rattle.machine.specs.Contracts.{PostEval, PostNode, PreLeaf, PreApply, PostApply, calls-of}
+use Rattle.machine.specs.Contracts.{evaluated, no-child, one-child}
 use Rattle.machine.proofs.Values.{bare-ok, bare-stop, small-of}
 use Rattle.machine.proofs.Acts.{stored-same}
 use Rattle.machine.proofs.Nodes
-use Rattle.machine.proofs.Nodes.{head, OneChild, one-of, child, one-encoded, one-within, one-inside, eval-inside, rest-one-child}
+use Rattle.machine.proofs.Nodes.{head, OneChild, one-of, child, one-encoded, one-within, one-inside}
+use Rattle.machine.proofs.Nodes.{eval-inside, rest-one-child}
 
 -- ---- what is kept, one answer after another
 
-pub stored-then : {P : List Class} {s s′ s″ : List ℕ} {a b c : ℕ} → Stored P s s′ a b → Stored P s′ s″ b c → Stored P s s″ a c
+pub stored-then : {P : List Class} {s s′ s″ : List ℕ} {a b c : ℕ} → Stored P s s′ a b → Stored P s′ s″ b c
+    → Stored P s s″ a c
 stored-then {P} {s} {s′} {s″} {a} {b} {c} x y = record {
   long = y .long ∙ x .long;
   rest = y .rest ∙ further s′ s (b * 18) (c * 18) (omega (arith, y .more)) (x .rest);
@@ -41,9 +45,12 @@ stored-then {P} {s} {s′} {s″} {a} {b} {c} x y = record {
     further : (x y : List ℕ) (m n : ℕ) → m ≤ n → drop m x ≡ drop m y → drop n x ≡ drop n y
     further x y m n h e =
         let d : n ≡ m + (n - m) = omega arith in
-        ap (λ (k : ℕ). drop k x) d ∙ (sym (drop-drop (n - m) m x) ∙ (ap (drop (n - m)) e ∙ (drop-drop (n - m) m y ∙ ap (λ (k : ℕ). drop k y) (sym d))))
+        ap (λ (k : ℕ). drop k x) d
+        ∙ (sym (drop-drop (n - m) m x)
+        ∙ (ap (drop (n - m)) e ∙ (drop-drop (n - m) m y ∙ ap (λ (k : ℕ). drop k y) (sym d))))
 
-pub kept-then : {P : List Class} {s l s′ l′ s″ l″ : List ℕ} {q : Place} {n : Counts} {r r′ : Answer} (z z′ z″ : ℕ) → Kept P s l s′ l′ q n z r → Kept P s′ l′ s″ l″ q (r .counts) z′ r′ → z + z′ ≤ z″
+pub kept-then : {P : List Class} {s l s′ l′ s″ l″ : List ℕ} {q : Place} {n : Counts} {r r′ : Answer}
+    (z z′ z″ : ℕ) → Kept P s l s′ l′ q n z r → Kept P s′ l′ s″ l″ q (r .counts) z′ r′ → z + z′ ≤ z″
     → Kept P s l s″ l″ q n z″ r′
 kept-then z z′ z″ a b h = record {
   same = λ i u o. b .same i u o ∙ a .same i u o;
@@ -54,55 +61,111 @@ kept-then z z′ z″ a b h = record {
   small = b .small;
 }
 
-pub kept-more : {P : List Class} {s l s′ l′ : List ℕ} {q : Place} {n : Counts} {r : Answer} (z z′ : ℕ) → Kept P s l s′ l′ q n z r → z ≤ z′ → Kept P s l s′ l′ q n z′ r
-kept-more z z′ a h = record { same = a .same; long = a .long; stored = a .stored; falls = a .falls; counted = omega (arith, a .counted); small = a .small }
+pub kept-more : {P : List Class} {s l s′ l′ : List ℕ} {q : Place} {n : Counts} {r : Answer} (z z′ : ℕ)
+    → Kept P s l s′ l′ q n z r → z ≤ z′ → Kept P s l s′ l′ q n z′ r
+kept-more z z′ a h =
+    record {
+      same = a .same;
+      long = a .long;
+      stored = a .stored;
+      falls = a .falls;
+      counted = omega (arith, a .counted);
+      small = a .small;
+    }
 
 -- the same with another outcome
-pub kept-as : {P : List Class} {s l s′ l′ : List ℕ} {q : Place} {n : Counts} {r : Answer} (z : ℕ) (o : Outcome) → Kept P s l s′ l′ q n z r → SmallOutcome o → Kept P s l s′ l′ q n z (answer o (r .counts))
-kept-as z o a m = record { same = a .same; long = a .long; stored = a .stored; falls = a .falls; counted = a .counted; small = m }
+pub kept-as : {P : List Class} {s l s′ l′ : List ℕ} {q : Place} {n : Counts} {r : Answer} (z : ℕ)
+    (o : Outcome) → Kept P s l s′ l′ q n z r → SmallOutcome o → Kept P s l s′ l′ q n z (answer o (r .counts))
+kept-as z o a m = record {
+  same = a .same;
+  long = a .long;
+  stored = a .stored;
+  falls = a .falls;
+  counted =
+      a .counted;
+  small = m;
+}
 
 -- ready for a child, and for what follows it
-pub ready-child : {R E T A s l : List ℕ} {P : List Class} {q : Place} {n : Counts} {d : ℕ} (z d′ : ℕ) → Ready R E T A s l P q n d z → d′ ≤ d → Ready R E T A s l P q n d′ 0
-ready-child z d′ f h = record { holds = f .holds; sound = f .sound; frame = f .frame; scoped = f .scoped; above = omega (arith, f .above); active = f .active; counted = omega (arith, f .counted) }
+pub ready-child : {R E T A s l : List ℕ} {P : List Class} {q : Place} {n : Counts} {d : ℕ} (z d′ : ℕ)
+    → Ready R E T A s l P q n d z → d′ ≤ d → Ready R E T A s l P q n d′ 0
+ready-child z d′ f h =
+    record {
+      holds = f .holds;
+      sound = f .sound;
+      frame = f .frame;
+      scoped = f .scoped;
+      above = omega (arith, f .above);
+      active = f .active;
+      counted = omega (arith, f .counted);
+    }
 
-pub refit : {R E T A s l s′ l′ : List ℕ} {P : List Class} {q : Place} {n : Counts} {d : ℕ} {r : Answer} (z d′ : ℕ) → Ready R E T A s l P q n d z → Kept P s l s′ l′ q n 0 r → d′ ≤ d → Ready R E T A s′ l′ P q (r .counts) d′ 0
-refit z d′ f k h = record { holds = f .holds; sound = k .stored .sound; frame = f .frame; scoped = f .scoped; above = omega (arith, f .above, k .long); active = f .active; counted = omega (arith, f .counted, k .counted) }
+pub refit : {R E T A s l s′ l′ : List ℕ} {P : List Class} {q : Place} {n : Counts} {d : ℕ} {r : Answer}
+    (z d′ : ℕ) → Ready R E T A s l P q n d z → Kept P s l s′ l′ q n 0 r → d′ ≤ d
+    → Ready R E T A s′ l′ P q (r .counts) d′ 0
+refit z d′ f k h = record {
+  holds = f .holds;
+  sound = k .stored .sound;
+  frame = f .frame;
+  scoped = f .scoped;
+  above = omega (arith, f .above, k .long);
+  active = f .active;
+  counted = omega (arith, f .counted, k .counted);
+}
 
 pub room-same : (s s′ : List ℕ) → length s′ ≡ length s → capacity s′ ≡ capacity s
 unfolding capacity
 room-same s s′ e = ap (λ (n : ℕ). min (n / 18) 65535) e
 
 -- an answer under the capacity of the store before
-pub then-eval : {R E T A s l s′ l′ : List ℕ} {at : ℕ} {q : Place} {n : Counts} {r : Answer} (room : ℕ) → capacity s ≡ room → PostEval R E T A s l s′ l′ at q n r
-    → (P : List Class) (e : Expr) (d F k : ℕ) → Ready R E T A s l P q n d 0 → Encoded R E e at → Within (length P) (q .scope) d e → k + n .left ≡ F
+pub then-eval : {R E T A s l s′ l′ : List ℕ} {at : ℕ} {q : Place} {n : Counts} {r : Answer} (room : ℕ)
+    → capacity s ≡ room → PostEval R E T A s l s′ l′ at q n r
+    → (P : List Class) (e : Expr) (d F k : ℕ) → Ready R E T A s l P q n d 0
+    → Encoded R E e at → Within (length P) (q .scope) d e → k + n .left ≡ F
     → Done P s l s′ l′ q n F 0 r (evaluated P F room (q .calls) e (state P s l q n k))
 then-eval room c p P e d F k f enc w z = rw c at (p .done P e d F k f enc w z)
 
 -- ---- results
 
-pub fails : (o : Outcome) (t : State) (x : Out Meaning) (k : Meaning → State → Out Meaning) → ((v : Value) → o ≡ Gave v → ⊥) → told o t ≡ bare x → told o t ≡ bare (bind x k)
+pub fails : (o : Outcome) (t : State) (x : Out Meaning) (k : Meaning → State → Out Meaning)
+    → ((v : Value) → o ≡ Gave v → ⊥) → told o t ≡ bare x → told o t ≡ bare (bind x k)
 fails (Gave v) t x k not e = absurd (not v refl)
 fails (Raised n) t x k not e = bare-stop x k e
 fails (Stopped n) t x k not e = bare-stop x k e
 fails Stuck t x k not e = bare-stop x k e
 
-pub gives : {o : Outcome} {v : Value} (t : State) (x : Out Meaning) → o ≡ Gave v → told o t ≡ bare x → x ≡ ok (value v) t
+pub gives : {o : Outcome} {v : Value} (t : State) (x : Out Meaning) → o ≡ Gave v → told o t ≡ bare x
+    → x ≡ ok (value v) t
 gives t x e h = bare-ok x (rw e at h)
 
 -- ---- eval
 
-pub in-rows : {R E T A s l : List ℕ} {at : ℕ} {q : Place} {n : Counts} {z : ℕ} → PreNode R E T A s l at q n z → at * 4 + 3 < length R
+pub in-rows : {R E T A s l : List ℕ} {at : ℕ} {q : Place} {n : Counts} {z : ℕ} → PreNode R E T A s l at q n z
+    → at * 4 + 3 < length R
 in-rows p = head (p .e) (p .encoded) .row
 
-pub eval-spent : {R E T A s l : List ℕ} {at : ℕ} {q : Place} {n : Counts} → n .left ≡ 0 → PostEval R E T A s l s l at q n (answer (Stopped 14) n)
+pub eval-spent : {R E T A s l : List ℕ} {at : ℕ} {q : Place} {n : Counts} → n .left ≡ 0
+    → PostEval R E T A s l s l at q n (answer (Stopped 14) n)
 unfolding bare
 eval-spent {s = s} {l} {q = q} {n} z = record {
   done = λ P e d F k f enc w t.
       let g : F - n .left ≡ k = omega arith in
       let full : leb F k ≡ true = le-leb F k (omega arith) in
       record {
-        kept = record { same = λ i h o. refl; long = refl; stored = stored-same (f .sound); falls = omega arith; counted = omega arith; small = (omega arith, omega arith) };
-        is = rw (g, eval-inside (world P) (with-limits F (capacity s)) (λ M t. calls-of P F (capacity s) (q .calls) M t) e (state P s l q n k), full);
+        kept = record {
+          same = λ i h o. refl;
+          long = refl;
+          stored = stored-same (f .sound);
+          falls = omega arith;
+          counted = omega arith;
+          small = (omega arith, omega arith);
+        };
+        is = rw (
+          g,
+          eval-inside (world P) (with-limits F (capacity s))
+              (λ M t. calls-of P F (capacity s) (q .calls) M t) e (state P s l q n k),
+          full,
+        );
       };
 }
 
@@ -115,24 +178,46 @@ pub left-entered : (t : List ℕ) → (getD t 0 0 ≡ 0 → ⊥) → getD (set t
 left-entered [] z = absurd (z refl)
 left-entered (x ∷ t) z = refl
 
-pub counts-entered : (t : List ℕ) → (getD t 0 0 ≡ 0 → ⊥) → counts-in (set t 0 (getD t 0 0 - 1)) ≡ entered (counts-in t)
+pub counts-entered : (t : List ℕ) → (getD t 0 0 ≡ 0 → ⊥)
+    → counts-in (set t 0 (getD t 0 0 - 1)) ≡ entered (counts-in t)
 counts-entered [] z = absurd (z refl)
 counts-entered (x ∷ t) z = refl
 
-from-entered : {R E T A s l s′ l′ : List ℕ} {at : ℕ} {q : Place} {n : Counts} {r : Answer} → (n .left ≡ 0 → ⊥) → PostNode R E T A s l s′ l′ at q (entered n) r → PostEval R E T A s l s′ l′ at q n r
+from-entered : {R E T A s l s′ l′ : List ℕ} {at : ℕ} {q : Place} {n : Counts} {r : Answer} → (n .left ≡ 0 → ⊥)
+    → PostNode R E T A s l s′ l′ at q (entered n) r → PostEval R E T A s l s′ l′ at q n r
 from-entered {R} {E} {T} {A} {s} {l} {q = q} {n} z p = record {
   done = λ P e d F k f enc w t.
       let room : leb F k ≡ false = lt-leb F k (omega arith) in
       let f′ : Ready R E T A s l P q (entered n) d 1
-      = record { holds = f .holds; sound = f .sound; frame = f .frame; scoped = f .scoped; above = f .above; active = f .active; counted = omega (arith, f .counted) } in
+      = record {
+        holds = f .holds;
+        sound = f .sound;
+        frame = f .frame;
+        scoped = f .scoped;
+        above = f .above;
+        active = f .active;
+        counted = omega (arith, f .counted);
+      } in
       let g = p .done P e d F (suc k) f′ enc w (omega arith) in
       record {
-        kept = record { same = g .kept .same; long = g .kept .long; stored = g .kept .stored; falls = omega (arith, g .kept .falls); counted = omega (arith, g .kept .counted); small = g .kept .small };
-        is = rw (eval-inside (world P) (with-limits F (capacity s)) (λ M t. calls-of P F (capacity s) (q .calls) M t) e (state P s l q n k), room) (g .is);
+        kept = record {
+          same = g .kept .same;
+          long = g .kept .long;
+          stored = g .kept .stored;
+          falls = omega (arith, g .kept .falls);
+          counted = omega (arith, g .kept .counted);
+          small = g .kept .small;
+        };
+        is = rw (
+          eval-inside (world P) (with-limits F (capacity s))
+              (λ M t. calls-of P F (capacity s) (q .calls) M t) e (state P s l q n k),
+          room,
+        ) (g .is);
       };
 }
 
-to-entered : {R E T A s l : List ℕ} {at : ℕ} {q : Place} {n : Counts} → (n .left ≡ 0 → ⊥) → PreEval R E T A s l at q n → PreEntered R E T A s l at q (entered n)
+to-entered : {R E T A s l : List ℕ} {at : ℕ} {q : Place} {n : Counts} → (n .left ≡ 0 → ⊥)
+    → PreEval R E T A s l at q n → PreEntered R E T A s l at q (entered n)
 to-entered z p =
     let f = p .ready in
     record {
@@ -141,28 +226,43 @@ to-entered z p =
       d = p .d;
       encoded = p .encoded;
       within = p .within;
-      ready = record { holds = f .holds; sound = f .sound; frame = f .frame; scoped = f .scoped; above = f .above; active = f .active; counted = omega (arith, f .counted) };
+      ready = record {
+        holds = f .holds;
+        sound = f .sound;
+        frame = f .frame;
+        scoped = f .scoped;
+        above = f .above;
+        active = f .active;
+        counted = omega (arith, f .counted);
+      };
     }
 
-pub eval-entered : {R E T A s l s′ l′ : List ℕ} {at : ℕ} {q : Place} {n n′ : Counts} {r : Answer} → (n .left ≡ 0 → ⊥) → n′ ≡ entered n
+pub eval-entered : {R E T A s l s′ l′ : List ℕ} {at : ℕ} {q : Place} {n n′ : Counts} {r : Answer}
+    → (n .left ≡ 0 → ⊥) → n′ ≡ entered n
     → PostNode R E T A s l s′ l′ at q n′ r → PostEval R E T A s l s′ l′ at q n r
 eval-entered z e p = from-entered z (rw e at p)
 
-pub pre-entered : {R E T A s l : List ℕ} {at : ℕ} {q : Place} {n n′ : Counts} → (n .left ≡ 0 → ⊥) → n′ ≡ entered n → PreEval R E T A s l at q n → PreEntered R E T A s l at q n′
+pub pre-entered : {R E T A s l : List ℕ} {at : ℕ} {q : Place} {n n′ : Counts} → (n .left ≡ 0 → ⊥)
+    → n′ ≡ entered n → PreEval R E T A s l at q n → PreEntered R E T A s l at q n′
 pre-entered z e p = rw e (to-entered z p)
 
-pub pre-leaf : {R E T A s l : List ℕ} {at : ℕ} {q : Place} {n : Counts} → PreEntered R E T A s l at q n → PreLeaf R T s l at q n
+pub pre-leaf : {R E T A s l : List ℕ} {at : ℕ} {q : Place} {n : Counts} → PreEntered R E T A s l at q n
+    → PreLeaf R T s l at q n
 pre-leaf {E = E} {A = A} p = record { E = E; A = A; node = p }
 
-pub rest-one : {R E T A s l : List ℕ} {at : ℕ} {q : Place} {n : Counts} → PreEval R E T A s l at q n → no-child (getD R (at * 4) 0) ≡ false
-    → (getD R (at * 4) 0 ≡ 66 → ⊥) → (getD R (at * 4) 0 ≡ 74 → ⊥) → (getD R (at * 4) 0 ≡ 81 → ⊥) → (getD R (at * 4) 0 ≡ 85 → ⊥) → one-child (getD R (at * 4) 0) ≡ true
+pub rest-one : {R E T A s l : List ℕ} {at : ℕ} {q : Place} {n : Counts} → PreEval R E T A s l at q n
+    → no-child (getD R (at * 4) 0) ≡ false
+    → (getD R (at * 4) 0 ≡ 66 → ⊥) → (getD R (at * 4) 0 ≡ 74 → ⊥) → (getD R (at * 4) 0 ≡ 81 → ⊥)
+    → (getD R (at * 4) 0 ≡ 85 → ⊥) → one-child (getD R (at * 4) 0) ≡ true
 rest-one p h h₁ h₂ h₃ h₄ =
     let x = head (p .e) (p .encoded) .letter in
-    rw x (rest-one-child (p .e) (rw x at h) (λ z. h₁ (x ∙ z)) (λ z. h₂ (x ∙ z)) (λ z. h₃ (x ∙ z)) (λ z. h₄ (x ∙ z)))
+    rw x (rest-one-child (p .e) (rw x at h) (λ z. h₁ (x ∙ z)) (λ z. h₂ (x ∙ z)) (λ z. h₃ (x ∙ z))
+    (λ z. h₄ (x ∙ z)))
 
 -- ---- a node with one child
 
-module _ {R E T A s l : List ℕ} {at : ℕ} {q : Place} {n : Counts} (p : PreEntered R E T A s l at q n) (h : one-child (getD R (at * 4) 0) ≡ true) where
+module _ {R E T A s l : List ℕ} {at : ℕ} {q : Place} {n : Counts} (p : PreEntered R E T A s l at q n)
+    (h : one-child (getD R (at * 4) 0) ≡ true) where
   pub one-is : OneChild (p .e)
   one-is = one-of (p .e) (rw (head (p .e) (p .encoded) .letter) at h)
 
@@ -177,25 +277,39 @@ module _ {R E T A s l : List ℕ} {at : ℕ} {q : Place} {n : Counts} (p : PreEn
   }
 
 -- what a callee keeps, for the program at hand
-pub kept-of : {R E T A s l s′ l′ : List ℕ} {at : ℕ} {q : Place} {n : Counts} {r : Answer} (p : PreEval R E T A s l at q n) → PostEval R E T A s l s′ l′ at q n r → Kept (p .P) s l s′ l′ q n 0 r
-kept-of {n = n} p g = g .done (p .P) (p .e) (p .d) (n .left) 0 (p .ready) (p .encoded) (p .within) (omega arith) .kept
+pub kept-of : {R E T A s l s′ l′ : List ℕ} {at : ℕ} {q : Place} {n : Counts} {r : Answer}
+    (p : PreEval R E T A s l at q n) → PostEval R E T A s l s′ l′ at q n r → Kept (p .P) s l s′ l′ q n 0 r
+kept-of {n = n} p g =
+    g .done (p .P) (p .e) (p .d) (n .left) 0 (p .ready) (p .encoded) (p .within) (omega arith) .kept
 
-pub pre-apply : {R E T A s l s′ l′ : List ℕ} {at : ℕ} {q : Place} {n : Counts} {r : Answer} {v : Value} (p : PreEntered R E T A s l at q n) (h : one-child (getD R (at * 4) 0) ≡ true)
-    → PostEval R E T A s l s′ l′ (at + 1) q n r → r .outcome ≡ Gave v → PreApply R T A s′ l′ at q (r .counts) v
+pub pre-apply : {R E T A s l s′ l′ : List ℕ} {at : ℕ} {q : Place} {n : Counts} {r : Answer} {v : Value}
+    (p : PreEntered R E T A s l at q n) (h : one-child (getD R (at * 4) 0) ≡ true)
+    → PostEval R E T A s l s′ l′ (at + 1) q n r → r .outcome ≡ Gave v
+    → PreApply R T A s′ l′ at q (r .counts) v
 pre-apply {E = E} p h g e =
     let k = kept-of (one-pre p h) g in
     record {
       E = E;
-      node = record { P = p .P; e = p .e; d = p .d; ready = refit 1 (p .d) (p .ready) k (omega arith); encoded = p .encoded; within = p .within };
+      node = record {
+        P = p .P;
+        e = p .e;
+        d = p .d;
+        ready = refit 1 (p .d) (p .ready) k (omega arith);
+        encoded = p .encoded;
+        within = p .within;
+      };
       letter = h;
       small = small-of e (k .small);
     }
 
-module _ {R E T A s l s′ l′ : List ℕ} (at : ℕ) {q : Place} {n : Counts} {r : Answer} (h : one-child (getD R (at * 4) 0) ≡ true) (g : PostEval R E T A s l s′ l′ (at + 1) q n r) where
-  one-child-done : (P : List Class) (e : Expr) (d F k : ℕ) → Ready R E T A s l P q n d 1 → (o : OneChild e) → Encoded R E e at → Within (length P) (q .scope) d e → k + n .left ≡ F
+module _ {R E T A s l s′ l′ : List ℕ} (at : ℕ) {q : Place} {n : Counts} {r : Answer}
+    (h : one-child (getD R (at * 4) 0) ≡ true) (g : PostEval R E T A s l s′ l′ (at + 1) q n r) where
+  one-child-done : (P : List Class) (e : Expr) (d F k : ℕ) → Ready R E T A s l P q n d 1 → (o : OneChild e)
+      → Encoded R E e at → Within (length P) (q .scope) d e → k + n .left ≡ F
       → Done P s l s′ l′ q n F 0 r (evaluated P F (capacity s) (q .calls) (child e) (state P s l q n k))
   one-child-done P e d F k f o enc w z =
-      g .done P (child e) (d - 1) F k (ready-child 1 (d - 1) f (omega arith)) (one-encoded R E at o enc) (one-within (length P) (q .scope) d o w .1) z
+      g .done P (child e) (d - 1) F k (ready-child 1 (d - 1) f (omega arith)) (one-encoded R E at o enc)
+      (one-within (length P) (q .scope) d o w .1) z
 
   pub one-fail : ((v : Value) → r .outcome ≡ Gave v → ⊥) → PostNode R E T A s l s′ l′ at q n r
   one-fail not = record {
@@ -204,20 +318,40 @@ module _ {R E T A s l s′ l′ : List ℕ} (at : ℕ) {q : Place} {n : Counts} 
         let a = one-child-done P e d F k f o enc w z in
         record {
           kept = kept-more 0 1 (a .kept) (omega arith);
-          is = rw (one-inside (world P) (with-limits F (capacity s)) (λ M t. calls-of P F (capacity s) (q .calls) M t) o (state P s l q n k))
-              (fails (r .outcome) (state P s′ l′ q (r .counts) (F - r .counts .left)) (evaluated P F (capacity s) (q .calls) (child e) (state P s l q n k)) (λ v s. after (world P) e v s) not (a .is));
+          is = rw (one-inside (world P) (with-limits F (capacity s))
+              (λ M t. calls-of P F (capacity s) (q .calls) M t) o (state P s l q n k))
+              (fails (r .outcome) (state P s′ l′ q (r .counts) (F - r .counts .left))
+              (evaluated P F (capacity s) (q .calls) (child e) (state P s l q n k))
+              (λ v s. after (world P) e v s) not (a .is));
         };
   }
 
-  pub one-done : {l″ : List ℕ} {v : Value} (x : Outcome) → r .outcome ≡ Gave v → PostApply R T A s′ l′ l″ at q (r .counts) v x → PostNode R E T A s l s′ l″ at q n (answer x (r .counts))
+  pub one-done : {l″ : List ℕ} {v : Value} (x : Outcome) → r .outcome ≡ Gave v
+      → PostApply R T A s′ l′ l″ at q (r .counts) v x
+      → PostNode R E T A s l s′ l″ at q n (answer x (r .counts))
   one-done {l″} {v} x t p = record {
     done = λ P e d F k f enc w z.
         let o = one-of e (rw (head e enc .letter) at h) in
         let a = one-child-done P e d F k f o enc w z in
         let b = p .applied E P e d (refit 1 d f (a .kept) (omega arith)) enc w in
-        let c : evaluated P F (capacity s) (q .calls) (child e) (state P s l q n k) ≡ ok (value v) (state P s′ l′ q (r .counts) (F - r .counts .left)) = gives (state P s′ l′ q (r .counts) (F - r .counts .left)) (evaluated P F (capacity s) (q .calls) (child e) (state P s l q n k)) t (a .is) in
+        let c : evaluated P F (capacity s) (q .calls) (child e) (state P s l q n k)
+        ≡ ok (value v) (state P s′ l′ q (r .counts) (F - r .counts .left)) =
+        gives (state P s′ l′ q (r .counts) (F - r .counts .left))
+        (evaluated P F (capacity s) (q .calls) (child e) (state P s l q n k)) t (a .is) in
         record {
-          kept = record { same = λ i u y. b .same i y ∙ a .kept .same i u y; long = b .long ∙ a .kept .long; stored = a .kept .stored; falls = a .kept .falls; counted = omega (arith, a .kept .counted); small = b .small };
-          is = rw (one-inside (world P) (with-limits F (capacity s)) (λ M t. calls-of P F (capacity s) (q .calls) M t) o (state P s l q n k), c) (b .is (F - r .counts .left));
+          kept = record {
+            same = λ i u y. b .same i y ∙ a .kept .same i u y;
+            long = b .long ∙ a .kept .long;
+            stored = a .kept .stored;
+            falls = a .kept .falls;
+            counted = omega (arith, a .kept .counted);
+            small = b .small;
+          };
+          is = rw (
+            one-inside (world P) (with-limits F (capacity s))
+                (λ M t. calls-of P F (capacity s) (q .calls) M t) o (state P s l q n k),
+            c,
+          )
+              (b .is (F - r .counts .left));
         };
   }

@@ -3,8 +3,8 @@ use mathlib.Core.Path.{_≡_, refl, sym, ap, _∙_}
 use mathlib.Core.Bool.{Bool, true, false, cond}
 use lib.Dec.{eqb, leb}
 use borrow.Author.Tests.{le-leb, lt-leb, ne-eqb}
-use mathlib.Core.Logic.{_⊎_, inl, inr, ⊎-elim}
-use mathlib.Core.List.{List, [], _∷_}
+use mathlib.Core.Logic.{_⊎_, inl, inr}
+use mathlib.Core.List.{List}
 use Prim.Native.Nat.{ℕ, zero, suc, _+_, _-_, _≤_, _<_}
 use native.Mathlib.Omega.{arith}
 use lib.ListN.{length, getD, set, length-set}
@@ -17,7 +17,8 @@ use Rattle.machine.specs.declared.Value.{Value}
 use Rattle.machine.specs.Machine.{Outcome}
 use Rattle.machine.specs.Machine.{Gave, Raised, Stopped, Stuck}
 use Rattle.machine.specs.declared.Value.the-variants.{Null, Object}
-use Rattle.machine.specs.Machine.{value, bare, bare-state, Small, SmallOutcome, decoded, outcome, failure}
+use Rattle.machine.specs.Machine.{value, bare, bare-state, Small, SmallOutcome, decoded, outcome}
+use Rattle.machine.specs.Machine.{failure}
 use Rattle.machine.specs.Contracts.{Written}
 
 -- the value of a value's number
@@ -45,7 +46,8 @@ unfolding bare
 bare-ok (ok b t) e = sym e
 bare-ok (stop x t) e = let z : _≡_ {A = ℕ} 0 1 = cc in absurd (omega arith)
 
-pub bare-stop : {A B : Type 0} (o : Out A) (k : A → State → Out B) {x : Stop} {s : State} → stop x s ≡ bare o → stop x s ≡ bare (bind o k)
+pub bare-stop : {A B : Type 0} (o : Out A) (k : A → State → Out B) {x : Stop} {s : State} → stop x s ≡ bare o
+    → stop x s ≡ bare (bind o k)
 unfolding bare
 bare-stop (ok b t) k e = let z : _≡_ {A = ℕ} 0 1 = cc in absurd (omega arith)
 bare-stop (stop y t) k {x} {s} e = let h₁ : x ≡ y = cc in let h₂ : s ≡ bare-state t = cc in rw (h₁, h₂)
@@ -54,7 +56,8 @@ bare-stop (stop y t) k {x} {s} e = let h₁ : x ≡ y = cc in let h₂ : s ≡ b
 pub written-none : (l : List ℕ) (from : ℕ) (f : ℕ → ℕ) → Written l l from 0 f
 written-none l from f = record { long = refl; inside = λ i h. absurd (omega arith); outside = λ x h. refl }
 
-pub written-more : {l l′ : List ℕ} {from n : ℕ} {f : ℕ → ℕ} (at a : ℕ) → Written l l′ from n f → at ≡ from + n → from + n < length l → a ≡ f n
+pub written-more : {l l′ : List ℕ} {from n : ℕ} {f : ℕ → ℕ} (at a : ℕ) → Written l l′ from n f → at ≡ from + n
+    → from + n < length l → a ≡ f n
     → Written l (set l′ at a) from (n + 1) f
 written-more {l} {l′} {from} {n} {f} at a w e h q = record {
   long = length-set l′ at a ∙ w .long;
@@ -75,7 +78,8 @@ written-more {l} {l′} {from} {n} {f} at a w e h q = record {
         put i (inl p) = getD-set-other l′ at (from + i) a 0 (λ p′. omega arith) ∙ w .inside i p
         put i (inr p) =
             let z : from + i ≡ at = omega arith in
-            ap (λ (x : ℕ). getD (set l′ at a) x 0) z ∙ (getD-set-same l′ at a 0 (omega (arith, w .long)) ∙ (q ∙ ap f (sym p)))
+            ap (λ (x : ℕ). getD (set l′ at a) x 0) z
+            ∙ (getD-set-same l′ at a 0 (omega (arith, w .long)) ∙ (q ∙ ap f (sym p)))
 
     far : (x : ℕ) → (x < from) ⊎ (from + (n + 1) ≤ x) → (x < from) ⊎ (from + n ≤ x)
     far x (inl p) = inl p
@@ -105,11 +109,13 @@ decoded-object n h =
 
 pub outcome-value : (x : ℕ) → x < 4294967296 → outcome x ≡ Gave (decoded x)
 unfolding outcome
-outcome-value x h = ap (λ (b : Bool). cond b (failure (x - 4294967296)) (Gave (decoded x))) (lt-leb 4294967296 x h)
+outcome-value x h = ap (λ (b : Bool). cond b (failure (x - 4294967296)) (Gave (decoded x)))
+    (lt-leb 4294967296 x h)
 
 pub outcome-failure : (x : ℕ) → 4294967296 ≤ x → outcome x ≡ failure (x - 4294967296)
 unfolding outcome
-outcome-failure x h = ap (λ (b : Bool). cond b (failure (x - 4294967296)) (Gave (decoded x))) (le-leb 4294967296 x h)
+outcome-failure x h =
+    ap (λ (b : Bool). cond b (failure (x - 4294967296)) (Gave (decoded x))) (le-leb 4294967296 x h)
 
 pub failure-no-value : (n : ℕ) (v : Value) → failure n ≡ Gave v → ⊥
 failure-no-value n v e = go (eqb n 0) (leb n 2) e
@@ -166,4 +172,5 @@ failure-low x h m = go (lt-or (x - 4294967296) 3)
   where
     go : (x - 4294967296 < 3) ⊎ (3 ≤ x - 4294967296) → x ≤ 4294967312
     go (inl a) = omega arith
-    go (inr a) = let z = rw (outcome-failure x h ∙ failure-stopped (x - 4294967296) a) at m in omega (arith, z)
+    go (inr a) = let z = rw (outcome-failure x h ∙ failure-stopped (x - 4294967296) a) at m in
+        omega (arith, z)

@@ -2,7 +2,7 @@
 use mathlib.Core.Path.{_≡_}
 use mathlib.Core.Bool.{Bool, true, cond, _||_}
 use mathlib.Core.Logic.{_⊎_}
-use mathlib.Core.Option.{none, some}
+use mathlib.Core.Option.{some}
 use mathlib.Core.List.{List}
 use Prim.Native.Nat.{ℕ, suc, _+_, _-_, _*_, _/_, _%_, _^_, _≤_, _<_}
 use lib.Dec.{leb, eqb}
@@ -19,20 +19,24 @@ use Rattle.language.specs.Headings.{headings}
 use Rattle.language.specs.Typing.{bodies}
 use Rattle.language.specs.ClassTables.{ClassTables}
 use Rattle.language.specs.Layout.{ProgramAt}
-use Rattle.language.specs.Evaluation.{Value as Meaning, object, Object as Thing, State, Out, Limits, with-limits, need}
-use Rattle.language.specs.Evaluation.{do-get, do-set, do-cast, do-change, do-new, do-call, eval, eval-all, call-at, last-value}
+use Rattle.language.specs.Evaluation.{Value as Meaning, object, Object as Thing, State, Out, Limits}
+use Rattle.language.specs.Evaluation.{with-limits, need}
+use Rattle.language.specs.Evaluation.{do-get, do-set, do-cast, do-change, do-new, do-call, eval, eval-all}
+use Rattle.language.specs.Evaluation.{call-at, last-value}
 use Rattle.language.specs.Store.{capacity, Outcome as Ended, gave, ended, ran, finish, Ran as Finished}
 use Rattle.language.specs.Evaluation.{null, truth, raised, spent, deep, full, stuck, run}
 use Rattle.machine.specs.declared.Ran.{Ran}
 use Rattle.machine.specs.declared.Run.{Run}
 use Rattle.machine.specs.declared.End.{End}
-use Rattle.machine.specs.declared.End.the-variants.{Gave as EndGave, Raised as EndRaised, Stopped as EndStopped}
+use Rattle.machine.specs.declared.End.the-variants.{Gave as EndGave, Raised as EndRaised}
+use Rattle.machine.specs.declared.End.the-variants.{Stopped as EndStopped}
 use Rattle.machine.specs.declared.Value.{Value}
 use Rattle.machine.specs.declared.Value.the-variants.{Null, Truth, Object}
 use Rattle.machine.specs.declared.Place.{Place}
 use Rattle.machine.specs.declared.Target.{Target}
 use Rattle.machine.specs.declared.Target.the-variants.{Body, Fails}
-use Rattle.machine.specs.Machine.{value, stop-of, Small, SmallOutcome, told, told-all, bare, Within, WithinAll, Holds, Sound}
+use Rattle.machine.specs.Machine.{value, stop-of, Small, SmallOutcome, told, told-all, bare, Within}
+use Rattle.machine.specs.Machine.{WithinAll, Holds, Sound}
 use Rattle.machine.specs.Machine.{slots-of, frame-of, view, state, after, inside}
 use Rattle.machine.specs.Machine.{Outcome, Gave, Raised, Stopped, Stuck, Counts, outcome, counts-in}
 
@@ -50,7 +54,8 @@ first-of-type t = cond (eqb t 255) 1 0
 
 -- The number of the first value of field i of class c, which has so many.
 unfoldable pub first-of : List ℕ → List ℕ → ℕ → ℕ → ℕ → ℕ
-first-of R T c i count = cond (leb count i) 0 (first-of-type (getD R (getD T (c * 576 + 520 + i) 0 * 4 + 1) 0))
+first-of R T c i count =
+    cond (leb count i) 0 (first-of-type (getD R (getD T (c * 576 + 520 + i) 0 * 4 + 1) 0))
 
 pub record First (R T : List ℕ) (c i count : ℕ) : Type 0 where
   pub place : i < 17
@@ -99,13 +104,14 @@ abbrev pub nothing : Value
 nothing = Null
 
 -- An act on objects is that of the definition, whatever the slots and the steps.
-pub record Acts (P : List Class) (s s′ : List ℕ) (n : Counts) (r : Answer) (o : State → Out Meaning) : Type 0 where
-  pub stored : Stored P s s′ (n .made) (r .counts .made)
-  pub left : r .counts .left ≡ n .left
-  pub changed : r .counts .changes ≤ n .changes + 1
-  pub small : SmallOutcome (r .outcome)
-  pub is : (γ : Frame Meaning) (steps : ℕ)
-      → told (r .outcome) (view P s′ (r .counts) γ steps) ≡ bare (o (view P s n γ steps))
+pub record Acts (P : List Class) (s s′ : List ℕ) (n : Counts) (r : Answer) (o : State → Out Meaning) : Type 0
+  where
+    pub stored : Stored P s s′ (n .made) (r .counts .made)
+    pub left : r .counts .left ≡ n .left
+    pub changed : r .counts .changes ≤ n .changes + 1
+    pub small : SmallOutcome (r .outcome)
+    pub is : (γ : Frame Meaning) (steps : ℕ)
+        → told (r .outcome) (view P s′ (r .counts) γ steps) ≡ bare (o (view P s n γ steps))
 
 pub record PreNew (R T s : List ℕ) (c made : ℕ) : Type 0 where
   pub E : List ℕ
@@ -194,22 +200,25 @@ pub record PreFind (R T s : List ℕ) (m made : ℕ) : Type 0 where
   pub name : m < 256
 
 -- The method found: its receiver's object, and where its body is.
-pub record Found (R E s : List ℕ) (P : List Class) (v : Value) (m : ℕ) (n : Counts) (calls b : ℕ) : Type 0 where
-  pub j : ℕ
-  pub o : Thing
-  pub M : Method
-  pub receiver : value v ≡ object j
-  pub known : (γ : Frame Meaning) (steps : ℕ) → nth (view P s n γ steps .heap) j ≡ some o
-  pub method : world P .method (o .class-of) m ≡ some M
-  pub encoded : Encoded R E (M .body) b
-  pub within : (n : ℕ) → n ≤ 8 → Within (length P) n 128 (M .body)
-  pub allowed : calls < 64
+pub record Found (R E s : List ℕ) (P : List Class) (v : Value) (m : ℕ) (n : Counts) (calls b : ℕ) : Type 0
+  where
+    pub j : ℕ
+    pub o : Thing
+    pub M : Method
+    pub receiver : value v ≡ object j
+    pub known : (γ : Frame Meaning) (steps : ℕ) → nth (view P s n γ steps .heap) j ≡ some o
+    pub method : world P .method (o .class-of) m ≡ some M
+    pub encoded : Encoded R E (M .body) b
+    pub within : (n : ℕ) → n ≤ 8 → Within (length P) n 128 (M .body)
+    pub allowed : calls < 64
 
-pub record NotFound (P : List Class) (s : List ℕ) (v : Value) (m : ℕ) (n : Counts) (calls : ℕ) (r : Outcome) : Type 0 where
+pub record NotFound (P : List Class) (s : List ℕ) (v : Value) (m : ℕ) (n : Counts) (calls : ℕ) (r : Outcome) :
+    Type 0 where
   pub small : SmallOutcome r
   pub is : (L : Limits) (vs : List Meaning) (γ : Frame Meaning) (steps : ℕ)
       → told r (view P s n γ steps)
-      ≡ bare (do-call (world P) L (λ M s. call-at (world P) L (64 - calls) M s) m (value v) vs (view P s n γ steps))
+      ≡ bare (do-call (world P) L (λ M s. call-at (world P) L (64 - calls) M s) m (value v) vs
+      (view P s n γ steps))
   pub fails : (w : Value) → r ≡ Gave w → ⊥
 
 abbrev pub FindIs : List ℕ → List ℕ → List ℕ → List Class → Value → ℕ → Counts → ℕ → Target → Type 0
@@ -217,7 +226,8 @@ FindIs R E s P v m n calls (Body b) = Found R E s P v m n calls b
 FindIs R E s P v m n calls (Fails o) = NotFound P s v m n calls (outcome o)
 
 pub record PostFind (R T s : List ℕ) (v : Value) (m : ℕ) (n : Counts) (calls : ℕ) (r : Target) : Type 0 where
-  pub is : (E A : List ℕ) (P : List Class) → Holds R E T A P → Sound P (n .made) s → FindIs R E s P v m n calls r
+  pub is : (E A : List ℕ) (P : List Class) → Holds R E T A P → Sound P (n .made) s
+      → FindIs R E s P v m n calls r
 
 -- ---- the cycle
 
@@ -233,16 +243,18 @@ pub record Ready (R E T A s l : List ℕ) (P : List Class) (q : Place) (n : Coun
   pub counted : n .changes + n .left + z ≤ 4294967295
 
 -- What is the same afterwards.
-pub record Kept (P : List Class) (s l s′ l′ : List ℕ) (q : Place) (n : Counts) (z : ℕ) (r : Answer) : Type 0 where
-  pub same : (i : ℕ) → i < q .top → (i < q .base) ⊎ (q .base + 264 ≤ i) → getD l′ i 0 ≡ getD l i 0
-  pub long : length l′ ≡ length l
-  pub stored : Stored P s s′ (n .made) (r .counts .made)
-  pub falls : r .counts .left ≤ n .left
-  pub counted : r .counts .changes + r .counts .left ≤ n .changes + n .left + z
-  pub small : SmallOutcome (r .outcome)
+pub record Kept (P : List Class) (s l s′ l′ : List ℕ) (q : Place) (n : Counts) (z : ℕ) (r : Answer) : Type 0
+  where
+    pub same : (i : ℕ) → i < q .top → (i < q .base) ⊎ (q .base + 264 ≤ i) → getD l′ i 0 ≡ getD l i 0
+    pub long : length l′ ≡ length l
+    pub stored : Stored P s s′ (n .made) (r .counts .made)
+    pub falls : r .counts .left ≤ n .left
+    pub counted : r .counts .changes + r .counts .left ≤ n .changes + n .left + z
+    pub small : SmallOutcome (r .outcome)
 
 -- What is kept, and that outcome and state are those of the definition. F is the fuel of the whole run.
-pub record Done (P : List Class) (s l s′ l′ : List ℕ) (q : Place) (n : Counts) (F z : ℕ) (r : Answer) (o : Out Meaning) : Type 0 where
+pub record Done (P : List Class) (s l s′ l′ : List ℕ) (q : Place) (n : Counts) (F z : ℕ) (r : Answer)
+    (o : Out Meaning) : Type 0 where
   pub kept : Kept P s l s′ l′ q n z r
   pub is : told (r .outcome) (state P s′ l′ q (r .counts) (F - r .counts .left)) ≡ bare o
 
@@ -254,10 +266,12 @@ abbrev pub evaluated : List Class → ℕ → ℕ → ℕ → Expr → State →
 evaluated P F room calls e s = eval (world P) (with-limits F room) (λ M s. calls-of P F room calls M s) e s
 
 abbrev pub evaluated-inside : List Class → ℕ → ℕ → ℕ → Expr → State → Out Meaning
-evaluated-inside P F room calls e s = inside (world P) (with-limits F room) (λ M s. calls-of P F room calls M s) e s
+evaluated-inside P F room calls e s =
+    inside (world P) (with-limits F room) (λ M s. calls-of P F room calls M s) e s
 
 abbrev pub evaluated-all : List Class → ℕ → ℕ → ℕ → Exprs → State → Out (List Meaning)
-evaluated-all P F room calls es s = eval-all (world P) (with-limits F room) (λ M s. calls-of P F room calls M s) es s
+evaluated-all P F room calls es s =
+    eval-all (world P) (with-limits F room) (λ M s. calls-of P F room calls M s) es s
 
 -- A node at a row; z is 1 where it has been entered.
 pub record PreNode (R E T A s l : List ℕ) (at : ℕ) (q : Place) (n : Counts) (z : ℕ) : Type 0 where
@@ -309,14 +323,18 @@ pub record PreApply (R T A s l : List ℕ) (at : ℕ) (q : Place) (n : Counts) (
   pub letter : one-child (getD R (at * 4) 0) ≡ true
   pub small : Small v
 
-pub record Applied (P : List Class) (s l l′ : List ℕ) (e : Expr) (q : Place) (n : Counts) (v : Value) (r : Outcome) : Type 0 where
+pub record Applied (P : List Class) (s l l′ : List ℕ) (e : Expr) (q : Place) (n : Counts) (v : Value)
+    (r : Outcome) : Type 0 where
   pub long : length l′ ≡ length l
   pub same : (i : ℕ) → (i < q .base) ⊎ (q .base + 264 ≤ i) → getD l′ i 0 ≡ getD l i 0
   pub small : SmallOutcome r
-  pub is : (steps : ℕ) → told r (state P s l′ q n steps) ≡ bare (after (world P) e (value v) (state P s l q n steps))
+  pub is : (steps : ℕ)
+      → told r (state P s l′ q n steps) ≡ bare (after (world P) e (value v) (state P s l q n steps))
 
-pub record PostApply (R T A s l l′ : List ℕ) (at : ℕ) (q : Place) (n : Counts) (v : Value) (r : Outcome) : Type 0 where
-  pub applied : (E : List ℕ) (P : List Class) (e : Expr) (d : ℕ) → Ready R E T A s l P q n d 0 → Encoded R E e at
+pub record PostApply (R T A s l l′ : List ℕ) (at : ℕ) (q : Place) (n : Counts) (v : Value) (r : Outcome) :
+    Type 0 where
+  pub applied : (E : List ℕ) (P : List Class) (e : Expr) (d : ℕ) → Ready R E T A s l P q n d 0
+      → Encoded R E e at
       → Within (length P) (q .scope) d e → Applied P s l l′ e q n v r
 
 -- A list of m expressions.
@@ -335,17 +353,23 @@ pub record PreArgs (R E T A s l : List ℕ) (at : ℕ) (q : Place) (n : Counts) 
   pub list : PreList R E T A s l at q n m
   pub room : q .top + m + 9 * (list .d) + (64 - q .calls) * 1416 ≤ length l
 
-pub record PostItems (R E T A s l s′ l′ : List ℕ) (at : ℕ) (q : Place) (n : Counts) (m : ℕ) (last : Value) (r : Answer) : Type 0 where
+pub record PostItems (R E T A s l s′ l′ : List ℕ) (at : ℕ) (q : Place) (n : Counts) (m : ℕ) (last : Value)
+    (r : Answer) : Type 0 where
   pub done : (P : List Class) (es : Exprs) (d F k : ℕ) → Ready R E T A s l P q n d 0 → EncodedAll R E es at
       → WithinAll (length P) (q .scope) d es → m ≡ count es → k + n .left ≡ F
-      → Done P s l s′ l′ q n F 0 r (bind (evaluated-all P F (capacity s) (q .calls) es (state P s l q n k)) λ vs t. ok (last-value (value last) vs) t)
+      → Done P s l s′ l′ q n F 0 r
+      (bind (evaluated-all P F (capacity s) (q .calls) es (state P s l q n k)) λ vs t.
+      ok (last-value (value last) vs) t)
 
 -- What argument evaluation comes to: the values stand from the top on.
-pub record DoneAll (P : List Class) (s l s′ l′ : List ℕ) (q : Place) (n : Counts) (F m : ℕ) (r : Answer) (o : Out (List Meaning)) : Type 0 where
+pub record DoneAll (P : List Class) (s l s′ l′ : List ℕ) (q : Place) (n : Counts) (F m : ℕ) (r : Answer)
+    (o : Out (List Meaning)) : Type 0 where
   pub kept : Kept P s l s′ l′ q n 0 r
-  pub is : told-all (r .outcome) (slots-of l′ (q .top) m) (state P s′ l′ q (r .counts) (F - r .counts .left)) ≡ bare o
+  pub is : told-all (r .outcome) (slots-of l′ (q .top) m) (state P s′ l′ q (r .counts) (F - r .counts .left))
+      ≡ bare o
 
-pub record PostArgs (R E T A s l s′ l′ : List ℕ) (at : ℕ) (q : Place) (n : Counts) (m : ℕ) (r : Answer) : Type 0 where
+pub record PostArgs (R E T A s l s′ l′ : List ℕ) (at : ℕ) (q : Place) (n : Counts) (m : ℕ) (r : Answer) : Type
+    0 where
   pub done : (P : List Class) (es : Exprs) (d F k : ℕ) → Ready R E T A s l P q n d 0
       → q .top + m + 9 * d + (64 - q .calls) * 1416 ≤ length l → EncodedAll R E es at
       → WithinAll (length P) (q .scope) d es → m ≡ count es → k + n .left ≡ F
@@ -375,7 +399,10 @@ pub record PreRun (R E T A l : List ℕ) (at : ℕ) : Type 0 where
 pub record PostRun (R E T A s l s′ : List ℕ) (at fuel : ℕ) (r : Ran) : Type 0 where
   pub is : (p : Program) → Runs R E T A l at p
       → finish (run (with-limits fuel (capacity s)) p) s
-      ≡ record { answer = ran (outcome-of (outcome (r .outcome))) (r .steps) (r .objects) (r .changes); store = s′ }
+      ≡ record {
+        answer = ran (outcome-of (outcome (r .outcome))) (r .steps) (r .objects) (r .changes);
+        store = s′;
+      }
   pub small : (p : Program) → Runs R E T A l at p → SmallOutcome (outcome (r .outcome))
 
 -- What the check establishes of rows and of the tables that it fills: a program stands in them, its classes are in the
@@ -412,5 +439,6 @@ pub record Tells (x : Finished) (s′ : List ℕ) (r : Run) : Type 0 where
 
 -- Answer and store are those of the run of the program that the rows hold; it is not stuck.
 pub record PostChecked (R E T A s s′ : List ℕ) (fuel : ℕ) (r : Run) : Type 0 where
-  pub tells : (p : Program) → Accepted R E T A p → Tells (finish (run (with-limits fuel (capacity s)) p) s) s′ r
+  pub tells : (p : Program) → Accepted R E T A p
+      → Tells (finish (run (with-limits fuel (capacity s)) p) s) s′ r
   pub unstuck : r .outcome ≡ EndStopped 0 → ⊥

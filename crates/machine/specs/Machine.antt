@@ -9,16 +9,19 @@ use lib.ListN.{length, getD, take, drop}
 use Rattle.language.specs.Lists.{nth, choice}
 use Rattle.language.specs.Results.{ok, stop, bind}
 use Rattle.language.specs.Frames.{Frame, frame, at-slot, with-slot, opened, closed}
-use Rattle.language.specs.Tree.{DeclaredType, bool, class, Expr, literal-true, literal-false, literal-null, slot, is-null}
-use Rattle.language.specs.Tree.{get, cast, new, change, assign, set, call, choose, block, Exprs, nil, cons, count}
+use Rattle.language.specs.Tree.{DeclaredType, bool, class, Expr, literal-true, literal-false, literal-null}
+use Rattle.language.specs.Tree.{slot, is-null}
+use Rattle.language.specs.Tree.{get, cast, new, change, assign, set, call, choose, block, Exprs, nil, cons}
+use Rattle.language.specs.Tree.{count}
 use Rattle.language.specs.Tree.{Field, Class}
 use Rattle.language.specs.World.{Method, World}
 use Rattle.language.specs.Program.{world}
 use Rattle.language.specs.ClassTables.{ClassTables, method-row}
 use Rattle.language.specs.Encoded.{Encoded}
 use Rattle.language.specs.Evaluation.{Value as Meaning, null, truth, object, State, Stop, raised, spent}
-use Rattle.language.specs.Evaluation.{deep, full, stuck, Out, Limits, initial, last-value, need, need-truth, entered}
-use Rattle.language.specs.Evaluation.{with-frame, is-null-value, do-get, do-set, do-cast, do-change, do-new, do-call, eval}
+use Rattle.language.specs.Evaluation.{deep, full, stuck, Out, Limits, initial, last-value, need, need-truth}
+use Rattle.language.specs.Evaluation.{with-frame, is-null-value, do-get, do-set, do-cast, do-change, do-new}
+use Rattle.language.specs.Evaluation.{do-call, eval}
 use Rattle.language.specs.Evaluation.{eval-all}
 use Rattle.language.specs.Store.{value-number, value-of-number, heap-of-numbers}
 use Rattle.machine.specs.declared.Value.{Value}
@@ -159,7 +162,8 @@ pub data Linked (R E : List ℕ) (k : ℕ) : Option ℕ → Option Method → Ty
 -- The row of a field's F line, in the table: its type tells the first value.
 pub record FieldAt (R T : List ℕ) (k i : ℕ) (f : Field) : Type 0 where
   pub within : getD T (k * 576 + 520 + i) 0 * 4 + 1 < length R
-  pub first : cond (eqb (getD R (getD T (k * 576 + 520 + i) 0 * 4 + 1) 0) 255) 1 0 ≡ value-number (initial (f .type))
+  pub first : cond (eqb (getD R (getD T (k * 576 + 520 + i) 0 * 4 + 1) 0) 255) 1 0
+      ≡ value-number (initial (f .type))
 
 -- Rows and tables hold a program whose classes are P.
 pub record Holds (R E T A : List ℕ) (P : List Class) : Type 0 where
@@ -167,8 +171,10 @@ pub record Holds (R E T A : List ℕ) (P : List Class) : Type 0 where
   pub classes : length P ≤ 64
   pub counts : (k : ℕ) → k ≤ length P → length (world P .fields k) ≤ 17
   pub roots : (k : ℕ) → k ≤ length P
-      → (world P .root k ≤ length P) × (length (world P .fields (world P .root k)) ≤ length (world P .fields k))
-  pub below : (k c : ℕ) → k ≤ length P → c ≤ length P → (eqb c 0 || eqb (getD A k 0 / 2 ^ (c - 1) % 2) 1) ≡ world P .below k c
+      → (world P .root k ≤ length P)
+      × (length (world P .fields (world P .root k)) ≤ length (world P .fields k))
+  pub below : (k c : ℕ) → k ≤ length P → c ≤ length P
+      → (eqb c 0 || eqb (getD A k 0 / 2 ^ (c - 1) % 2) 1) ≡ world P .below k c
   pub fields : (k i : ℕ) (f : Field) → k ≤ length P → nth (world P .fields k) i ≡ some f → FieldAt R T k i f
   pub methods : (k m : ℕ) → k ≤ length P → Linked R E (length P) (method-row P k m) (world P .method k m)
 
@@ -234,7 +240,8 @@ module _ (W : World) (L : Limits) where
   inside K (change k d) s = need (at-slot (s .frame) k) s λ v. do-change W d v s
   inside K (assign k e) s = bind (eval W L K e s) λ v s. after W (assign k e) v s
   inside K (set f e e′) s = bind (eval W L K e s) λ v s. bind (eval W L K e′ s) λ w s. do-set W f v w s
-  inside K (call m e es) s = bind (eval W L K e s) λ v s. bind (eval-all W L K es s) λ vs s. do-call W L K m v vs s
+  inside K (call m e es) s = bind (eval W L K e s) λ v s. bind (eval-all W L K es s) λ vs s.
+      do-call W L K m v vs s
   inside K (choose a b c) s = bind (eval W L K a s) λ v s. need-truth v s λ t.
       choice t (λ _. eval W L K b s) (λ _. eval W L K c s)
   inside K (block ts es) s =

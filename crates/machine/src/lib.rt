@@ -7,8 +7,16 @@ ghost use mathlib.Core.Bool.{true};
 ghost use Prim.Native.Nat.{_+_, _*_, _≤_, _<_};
 ghost use lib.ListN.{length, getD, set};
 ghost use Rattle.language.specs.Evaluation.{is-null-value};
-ghost use Rattle.machine.specs.Machine.{value, decoded, outcome, counts-in, place-of, Small, SmallOutcome};
-ghost use Rattle.machine.specs.Contracts.{first-of, first-of-type, First, Fill, Filled, Locals, Opened, PreNew, PostNew, PreChange, PostChange, PreObject, PostLoad, PostSave, PreCast, PostCast, Below, PostRead, Wrote, LetterFrom, SomeLetter, PreFind, PostFind, PreEval, PreEntered, PostEval, PostNode, one-child, no-child, PreLeaf, PostLeaf, PreApply, PostApply, PreList, PreArgs, PostItems, PostArgs, PreRun, PostRun, value-told, end-told, outcome-of, PreChecked, PostChecked, answered, nothing};
+ghost use Rattle.machine.specs.Machine.{value, decoded, outcome, counts-in, place-of, Small};
+ghost use Rattle.machine.specs.Machine.{SmallOutcome};
+ghost use Rattle.machine.specs.Contracts.{first-of, first-of-type, First, Fill, Filled, Locals, Opened};
+ghost use Rattle.machine.specs.Contracts.{PreNew, PostNew, PreChange, PostChange, PreObject, PostLoad};
+ghost use Rattle.machine.specs.Contracts.{PostSave, PreCast, PostCast, Below, PostRead, Wrote};
+ghost use Rattle.machine.specs.Contracts.{LetterFrom, SomeLetter, PreFind, PostFind, PreEval};
+ghost use Rattle.machine.specs.Contracts.{PreEntered, PostEval, PostNode, one-child, no-child, PreLeaf};
+ghost use Rattle.machine.specs.Contracts.{PostLeaf, PreApply, PostApply, PreList, PreArgs, PostItems};
+ghost use Rattle.machine.specs.Contracts.{PostArgs, PreRun, PostRun, value-told, end-told, outcome-of};
+ghost use Rattle.machine.specs.Contracts.{PreChecked, PostChecked, answered, nothing};
 
 // Why there is no value: no rule goes on, which comes of no checked program; the exceptions; the stops.
 const STUCK: u64 = 4294967296;
@@ -112,7 +120,8 @@ fn first_number(rows: &[u32], tables: &[u16], c: usize, i: usize, count: usize) 
 // The fields of the object at o from place `from` on get the first values that class c gives them, unused ones 0.
 fn fill(rows: &[u32], tables: &[u16], store: &mut [u32], o: usize, c: usize, from: usize)
     requires { ⌜ Fill (now rows) (now tables) (now store) o c from ⌝ }
-    ensures { λ r. ⌜ Filled (now (rows .entry)) (now (tables .entry)) (now (store .entry)) (now (store .exit)) o c from ⌝ }
+    ensures { λ r. ⌜ Filled (now (rows .entry)) (now (tables .entry)) (now (store .entry)) (now (store .exit))
+        o c from ⌝ }
 {
     let count = tables[c * 576 + 515] as usize;
     for i in from..17 {
@@ -123,7 +132,8 @@ fn fill(rows: &[u32], tables: &[u16], store: &mut [u32], o: usize, c: usize, fro
 // One of the three counts becomes x.
 fn put(tally: &mut [u32], i: usize, x: u32)
     requires { ⌜ i < length (now tally) ⌝ }
-    ensures { λ r. ⌜ (i < length (now (tally .entry))) × (now (tally .exit) ≡ set (now (tally .entry)) i x) ⌝ }
+    ensures { λ r. ⌜ (i < length (now (tally .entry))) × (now (tally .exit) ≡ set (now (tally .entry)) i x)
+        ⌝ }
 {
     tally[i] = x;
 }
@@ -131,7 +141,8 @@ fn put(tally: &mut [u32], i: usize, x: u32)
 // W: a new object of class c.
 fn new_object(rows: &[u32], tables: &[u16], store: &mut [u32], tally: &mut [u32; 3], c: u32) -> u64
     requires { ⌜ PreNew (now rows) (now tables) (now store) c (counts-in (now tally) .made) ⌝ }
-    ensures { λ r. ⌜ PostNew (now (rows .entry)) (now (tables .entry)) (now (store .entry)) (now (store .exit)) c (counts-in (now (tally .entry))) (answered r (now (tally .exit))) ⌝ }
+    ensures { λ r. ⌜ PostNew (now (rows .entry)) (now (tables .entry)) (now (store .entry))
+        (now (store .exit)) c (counts-in (now (tally .entry))) (answered r (now (tally .exit))) ⌝ }
 {
     let made = tally[1];
     if made >= 65535 {
@@ -158,7 +169,9 @@ fn change_class(
     d: u32,
 ) -> u64
     requires { ⌜ PreChange (now rows) (now tables) (now store) (decoded n) d (counts-in (now tally)) ⌝ }
-    ensures { λ r. ⌜ PostChange (now (rows .entry)) (now (tables .entry)) (now (store .entry)) (now (store .exit)) (decoded n) d (counts-in (now (tally .entry))) (answered r (now (tally .exit))) ⌝ }
+    ensures { λ r. ⌜ PostChange (now (rows .entry)) (now (tables .entry)) (now (store .entry))
+        (now (store .exit)) (decoded n) d (counts-in (now (tally .entry))) (answered r (now (tally .exit)))
+        ⌝ }
 {
     let v = decode(n);
     if is_null(v) {
@@ -189,7 +202,8 @@ fn change_class(
 fn load(tables: &[u16], store: &[u32], tally: &[u32; 3], n: u32, f: usize) -> u64
     requires { ⌜ PreObject (now tables) (now store) (counts-in (now tally) .made) ⌝ }
     requires { ⌜ f < 256 ⌝ }
-    ensures { λ r. ⌜ PostLoad (now (tables .entry)) (now (store .entry)) (decoded n) f (counts-in (now (tally .entry))) (outcome r) ⌝ }
+    ensures { λ r. ⌜ PostLoad (now (tables .entry)) (now (store .entry)) (decoded n) f
+        (counts-in (now (tally .entry))) (outcome r) ⌝ }
 {
     let v = decode(n);
     if is_null(v) {
@@ -214,7 +228,8 @@ fn load(tables: &[u16], store: &[u32], tally: &[u32; 3], n: u32, f: usize) -> u6
 fn save(tables: &[u16], store: &mut [u32], tally: &[u32; 3], n: u32, w: u32, f: usize) -> u64
     requires { ⌜ PreObject (now tables) (now store) (counts-in (now tally) .made) ⌝ }
     requires { ⌜ f < 256 ⌝ }
-    ensures { λ r. ⌜ PostSave (now (tables .entry)) (now (store .entry)) (now (store .exit)) (decoded n) (decoded w) f (counts-in (now (tally .entry))) (outcome r) ⌝ }
+    ensures { λ r. ⌜ PostSave (now (tables .entry)) (now (store .entry)) (now (store .exit)) (decoded n)
+        (decoded w) f (counts-in (now (tally .entry))) (outcome r) ⌝ }
 {
     let v = decode(n);
     if is_null(v) {
@@ -251,7 +266,8 @@ fn is_below(above: &[u64], k: usize, c: u32) -> bool
 // K: an object of class c or below passes, and so does null.
 fn cast_object(above: &[u64], store: &[u32], tally: &[u32; 3], n: u32, c: u32) -> u64
     requires { ⌜ PreCast (now above) (now store) c (counts-in (now tally) .made) ⌝ }
-    ensures { λ r. ⌜ PostCast (now (above .entry)) (now (store .entry)) (decoded n) c (counts-in (now (tally .entry))) (outcome r) ⌝ }
+    ensures { λ r. ⌜ PostCast (now (above .entry)) (now (store .entry)) (decoded n) c
+        (counts-in (now (tally .entry))) (outcome r) ⌝ }
 {
     let v = decode(n);
     if is_null(v) {
@@ -330,7 +346,8 @@ fn find_body(
     calls: u32,
 ) -> Target
     requires { ⌜ PreFind (now rows) (now tables) (now store) m (counts-in (now tally) .made) ⌝ }
-    ensures { λ r. ⌜ PostFind (now (rows .entry)) (now (tables .entry)) (now (store .entry)) (decoded n) m (counts-in (now (tally .entry))) calls r ⌝ }
+    ensures { λ r. ⌜ PostFind (now (rows .entry)) (now (tables .entry)) (now (store .entry)) (decoded n) m
+        (counts-in (now (tally .entry))) calls r ⌝ }
 {
     let v = decode(n);
     if is_null(v) {
@@ -375,7 +392,9 @@ fn reclassify(
 ) -> u64
     requires { ⌜ PreLeaf (now rows) (now tables) (now store) (now slots) at place (counts-in (now tally)) ⌝ }
     requires { ⌜ getD (now rows) (at * 4) 0 ≡ 82 ⌝ }
-    ensures { λ r. ⌜ PostLeaf (now (rows .entry)) (now (tables .entry)) (now (store .entry)) (now (slots .entry)) (now (store .exit)) at place (counts-in (now (tally .entry))) (answered r (now (tally .exit))) ⌝ }
+    ensures { λ r. ⌜ PostLeaf (now (rows .entry)) (now (tables .entry)) (now (store .entry))
+        (now (slots .entry)) (now (store .exit)) at place (counts-in (now (tally .entry)))
+        (answered r (now (tally .exit))) ⌝ }
 {
     let k = rows[at * 4 + 1] as usize;
     let o = read_slot(slots, k, place);
@@ -412,7 +431,9 @@ fn leaf(
 ) -> u64
     requires { ⌜ PreLeaf (now rows) (now tables) (now store) (now slots) at place (counts-in (now tally)) ⌝ }
     requires { ⌜ no-child (getD (now rows) (at * 4) 0) ≡ true ⌝ }
-    ensures { λ r. ⌜ PostLeaf (now (rows .entry)) (now (tables .entry)) (now (store .entry)) (now (slots .entry)) (now (store .exit)) at place (counts-in (now (tally .entry))) (answered r (now (tally .exit))) ⌝ }
+    ensures { λ r. ⌜ PostLeaf (now (rows .entry)) (now (tables .entry)) (now (store .entry))
+        (now (slots .entry)) (now (store .exit)) at place (counts-in (now (tally .entry)))
+        (answered r (now (tally .exit))) ⌝ }
 {
     let k = rows[at * 4];
     match k {
@@ -437,8 +458,11 @@ fn apply(
     place: Place,
     n: u32,
 ) -> u64
-    requires { ⌜ PreApply (now rows) (now tables) (now above) (now store) (now slots) at place (counts-in (now tally)) (decoded n) ⌝ }
-    ensures { λ r. ⌜ PostApply (now (rows .entry)) (now (tables .entry)) (now (above .entry)) (now (store .entry)) (now (slots .entry)) (now (slots .exit)) at place (counts-in (now (tally .entry))) (decoded n) (outcome r) ⌝ }
+    requires { ⌜ PreApply (now rows) (now tables) (now above) (now store) (now slots) at place
+        (counts-in (now tally)) (decoded n) ⌝ }
+    ensures { λ r. ⌜ PostApply (now (rows .entry)) (now (tables .entry)) (now (above .entry))
+        (now (store .entry)) (now (slots .entry)) (now (slots .exit)) at place
+        (counts-in (now (tally .entry))) (decoded n) (outcome r) ⌝ }
 {
     let k = rows[at * 4];
     let a = rows[at * 4 + 1];
@@ -468,8 +492,12 @@ fn eval(
     top: usize,
     calls: u32,
 ) -> u64
-    requires { ⌜ PreEval (now rows) (now ends) (now tables) (now above) (now store) (now slots) at (place-of base scope top calls) (counts-in (now tally)) ⌝ }
-    ensures { λ r. ⌜ PostEval (now (rows .entry)) (now (ends .entry)) (now (tables .entry)) (now (above .entry)) (now (store .entry)) (now (slots .entry)) (now (store .exit)) (now (slots .exit)) at (place-of base scope top calls) (counts-in (now (tally .entry))) (answered r (now (tally .exit))) ⌝ }
+    requires { ⌜ PreEval (now rows) (now ends) (now tables) (now above) (now store)
+        (now slots) at (place-of base scope top calls) (counts-in (now tally)) ⌝ }
+    ensures { λ r. ⌜ PostEval (now (rows .entry)) (now (ends .entry)) (now (tables .entry))
+        (now (above .entry)) (now (store .entry)) (now (slots .entry)) (now (store .exit))
+        (now (slots .exit)) at (place-of base scope top calls) (counts-in (now (tally .entry)))
+        (answered r (now (tally .exit))) ⌝ }
 {
     let place = Place {
         base,
@@ -574,9 +602,13 @@ fn one_child(
     top: usize,
     calls: u32,
 ) -> u64
-    requires { ⌜ PreEntered (now rows) (now ends) (now tables) (now above) (now store) (now slots) at (place-of base scope top calls) (counts-in (now tally)) ⌝ }
+    requires { ⌜ PreEntered (now rows) (now ends) (now tables) (now above) (now store)
+        (now slots) at (place-of base scope top calls) (counts-in (now tally)) ⌝ }
     requires { ⌜ one-child (getD (now rows) (at * 4) 0) ≡ true ⌝ }
-    ensures { λ r. ⌜ PostNode (now (rows .entry)) (now (ends .entry)) (now (tables .entry)) (now (above .entry)) (now (store .entry)) (now (slots .entry)) (now (store .exit)) (now (slots .exit)) at (place-of base scope top calls) (counts-in (now (tally .entry))) (answered r (now (tally .exit))) ⌝ }
+    ensures { λ r. ⌜ PostNode (now (rows .entry)) (now (ends .entry)) (now (tables .entry))
+        (now (above .entry)) (now (store .entry)) (now (slots .entry)) (now (store .exit))
+        (now (slots .exit)) at (place-of base scope top calls) (counts-in (now (tally .entry)))
+        (answered r (now (tally .exit))) ⌝ }
 {
     let place = Place {
         base,
@@ -629,9 +661,13 @@ fn set(
     top: usize,
     calls: u32,
 ) -> u64
-    requires { ⌜ PreEntered (now rows) (now ends) (now tables) (now above) (now store) (now slots) at (place-of base scope top calls) (counts-in (now tally)) ⌝ }
+    requires { ⌜ PreEntered (now rows) (now ends) (now tables) (now above) (now store)
+        (now slots) at (place-of base scope top calls) (counts-in (now tally)) ⌝ }
     requires { ⌜ getD (now rows) (at * 4) 0 ≡ 85 ⌝ }
-    ensures { λ r. ⌜ PostNode (now (rows .entry)) (now (ends .entry)) (now (tables .entry)) (now (above .entry)) (now (store .entry)) (now (slots .entry)) (now (store .exit)) (now (slots .exit)) at (place-of base scope top calls) (counts-in (now (tally .entry))) (answered r (now (tally .exit))) ⌝ }
+    ensures { λ r. ⌜ PostNode (now (rows .entry)) (now (ends .entry)) (now (tables .entry))
+        (now (above .entry)) (now (store .entry)) (now (slots .entry)) (now (store .exit))
+        (now (slots .exit)) at (place-of base scope top calls) (counts-in (now (tally .entry)))
+        (answered r (now (tally .exit))) ⌝ }
 {
     let n = eval(
         rows,
@@ -694,9 +730,13 @@ fn choose(
     top: usize,
     calls: u32,
 ) -> u64
-    requires { ⌜ PreEntered (now rows) (now ends) (now tables) (now above) (now store) (now slots) at (place-of base scope top calls) (counts-in (now tally)) ⌝ }
+    requires { ⌜ PreEntered (now rows) (now ends) (now tables) (now above) (now store)
+        (now slots) at (place-of base scope top calls) (counts-in (now tally)) ⌝ }
     requires { ⌜ getD (now rows) (at * 4) 0 ≡ 74 ⌝ }
-    ensures { λ r. ⌜ PostNode (now (rows .entry)) (now (ends .entry)) (now (tables .entry)) (now (above .entry)) (now (store .entry)) (now (slots .entry)) (now (store .exit)) (now (slots .exit)) at (place-of base scope top calls) (counts-in (now (tally .entry))) (answered r (now (tally .exit))) ⌝ }
+    ensures { λ r. ⌜ PostNode (now (rows .entry)) (now (ends .entry)) (now (tables .entry))
+        (now (above .entry)) (now (store .entry)) (now (slots .entry)) (now (store .exit))
+        (now (slots .exit)) at (place-of base scope top calls) (counts-in (now (tally .entry)))
+        (answered r (now (tally .exit))) ⌝ }
 {
     let n = eval(
         rows,
@@ -768,9 +808,13 @@ fn block(
     top: usize,
     calls: u32,
 ) -> u64
-    requires { ⌜ PreEntered (now rows) (now ends) (now tables) (now above) (now store) (now slots) at (place-of base scope top calls) (counts-in (now tally)) ⌝ }
+    requires { ⌜ PreEntered (now rows) (now ends) (now tables) (now above) (now store)
+        (now slots) at (place-of base scope top calls) (counts-in (now tally)) ⌝ }
     requires { ⌜ getD (now rows) (at * 4) 0 ≡ 66 ⌝ }
-    ensures { λ r. ⌜ PostNode (now (rows .entry)) (now (ends .entry)) (now (tables .entry)) (now (above .entry)) (now (store .entry)) (now (slots .entry)) (now (store .exit)) (now (slots .exit)) at (place-of base scope top calls) (counts-in (now (tally .entry))) (answered r (now (tally .exit))) ⌝ }
+    ensures { λ r. ⌜ PostNode (now (rows .entry)) (now (ends .entry)) (now (tables .entry))
+        (now (above .entry)) (now (store .entry)) (now (slots .entry)) (now (store .exit))
+        (now (slots .exit)) at (place-of base scope top calls) (counts-in (now (tally .entry)))
+        (answered r (now (tally .exit))) ⌝ }
 {
     let n = rows[at * 4 + 1] as usize;
     let k = rows[at * 4 + 2] as usize;
@@ -807,8 +851,12 @@ fn items(
     calls: u32,
     n: usize,
 ) -> u64
-    requires { ⌜ PreList (now rows) (now ends) (now tables) (now above) (now store) (now slots) at (place-of base scope top calls) (counts-in (now tally)) n ⌝ }
-    ensures { λ r. ⌜ PostItems (now (rows .entry)) (now (ends .entry)) (now (tables .entry)) (now (above .entry)) (now (store .entry)) (now (slots .entry)) (now (store .exit)) (now (slots .exit)) at (place-of base scope top calls) (counts-in (now (tally .entry))) n nothing (answered r (now (tally .exit))) ⌝ }
+    requires { ⌜ PreList (now rows) (now ends) (now tables) (now above) (now store)
+        (now slots) at (place-of base scope top calls) (counts-in (now tally)) n ⌝ }
+    ensures { λ r. ⌜ PostItems (now (rows .entry)) (now (ends .entry)) (now (tables .entry))
+        (now (above .entry)) (now (store .entry)) (now (slots .entry)) (now (store .exit))
+        (now (slots .exit)) at (place-of base scope top calls) (counts-in (now (tally .entry))) n nothing
+        (answered r (now (tally .exit))) ⌝ }
 {
     let mut r = 0;
     let mut next = at;
@@ -853,8 +901,12 @@ fn args(
     calls: u32,
     n: usize,
 ) -> u64
-    requires { ⌜ PreArgs (now rows) (now ends) (now tables) (now above) (now store) (now slots) at (place-of base scope top calls) (counts-in (now tally)) n ⌝ }
-    ensures { λ r. ⌜ PostArgs (now (rows .entry)) (now (ends .entry)) (now (tables .entry)) (now (above .entry)) (now (store .entry)) (now (slots .entry)) (now (store .exit)) (now (slots .exit)) at (place-of base scope top calls) (counts-in (now (tally .entry))) n (answered r (now (tally .exit))) ⌝ }
+    requires { ⌜ PreArgs (now rows) (now ends) (now tables) (now above) (now store)
+        (now slots) at (place-of base scope top calls) (counts-in (now tally)) n ⌝ }
+    ensures { λ r. ⌜ PostArgs (now (rows .entry)) (now (ends .entry)) (now (tables .entry))
+        (now (above .entry)) (now (store .entry)) (now (slots .entry)) (now (store .exit))
+        (now (slots .exit)) at (place-of base scope top calls) (counts-in (now (tally .entry))) n
+        (answered r (now (tally .exit))) ⌝ }
 {
     let mut r = 0;
     let mut far = top;
@@ -901,9 +953,13 @@ fn call(
     top: usize,
     calls: u32,
 ) -> u64
-    requires { ⌜ PreEntered (now rows) (now ends) (now tables) (now above) (now store) (now slots) at (place-of base scope top calls) (counts-in (now tally)) ⌝ }
+    requires { ⌜ PreEntered (now rows) (now ends) (now tables) (now above) (now store)
+        (now slots) at (place-of base scope top calls) (counts-in (now tally)) ⌝ }
     requires { ⌜ getD (now rows) (at * 4) 0 ≡ 81 ⌝ }
-    ensures { λ r. ⌜ PostNode (now (rows .entry)) (now (ends .entry)) (now (tables .entry)) (now (above .entry)) (now (store .entry)) (now (slots .entry)) (now (store .exit)) (now (slots .exit)) at (place-of base scope top calls) (counts-in (now (tally .entry))) (answered r (now (tally .exit))) ⌝ }
+    ensures { λ r. ⌜ PostNode (now (rows .entry)) (now (ends .entry)) (now (tables .entry))
+        (now (above .entry)) (now (store .entry)) (now (slots .entry)) (now (store .exit))
+        (now (slots .exit)) at (place-of base scope top calls) (counts-in (now (tally .entry)))
+        (answered r (now (tally .exit))) ⌝ }
 {
     let n = rows[at * 4 + 2] as usize;
     let r = args(
@@ -960,7 +1016,8 @@ fn run_start(
     fuel: u32,
 ) -> Ran
     requires { ⌜ PreRun (now rows) (now ends) (now tables) (now above) (now slots) at ⌝ }
-    ensures { λ r. ⌜ PostRun (now (rows .entry)) (now (ends .entry)) (now (tables .entry)) (now (above .entry)) (now (store .entry)) (now (slots .entry)) (now (store .exit)) at fuel r ⌝ }
+    ensures { λ r. ⌜ PostRun (now (rows .entry)) (now (ends .entry)) (now (tables .entry))
+        (now (above .entry)) (now (store .entry)) (now (slots .entry)) (now (store .exit)) at fuel r ⌝ }
 {
     let mut tally = [0u32; 3];
     tally[0] = fuel;
@@ -1024,7 +1081,8 @@ fn run_with(
 ) -> Run
     requires { ⌜ PreChecked (now rows) (now ends) (now tables) (now above) ⌝ }
     requires { ⌜ 92040 ≤ length (now slots) ⌝ }
-    ensures { λ r. ⌜ PostChecked (now (rows .entry)) (now (ends .entry)) (now (tables .entry)) (now (above .entry)) (now (store .entry)) (now (store .exit)) fuel r ⌝ }
+    ensures { λ r. ⌜ PostChecked (now (rows .entry)) (now (ends .entry)) (now (tables .entry))
+        (now (above .entry)) (now (store .entry)) (now (store .exit)) fuel r ⌝ }
 {
     let start = find_letter(rows, 0, 83);
     let r = run_start(rows, ends, tables, above, store, slots, start + 1, fuel);
@@ -1047,7 +1105,8 @@ pub fn run_checked(
     fuel: u32,
 ) -> Run
     requires { ⌜ PreChecked (now rows) (now ends) (now tables) (now above) ⌝ }
-    ensures { λ r. ⌜ PostChecked (now (rows .entry)) (now (ends .entry)) (now (tables .entry)) (now (above .entry)) (now (store .entry)) (now (store .exit)) fuel r ⌝ }
+    ensures { λ r. ⌜ PostChecked (now (rows .entry)) (now (ends .entry)) (now (tables .entry))
+        (now (above .entry)) (now (store .entry)) (now (store .exit)) fuel r ⌝ }
 {
     let mut slots = [0u32; 92040];
     run_with(rows, ends, tables, above, store, &mut slots, fuel)

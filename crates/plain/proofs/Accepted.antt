@@ -1,43 +1,51 @@
 -- What typing and the translator's limits show of every body: slots are in scope, classes declared, members found.
 use mathlib.Core.Path.{_≡_, refl, sym, ap, _∙_}
 use mathlib.Core.Option.{Option, none, some}
-use mathlib.Core.Bool.{Bool, true, false}
-use mathlib.Core.List.{List, [], _∷_, _++_, map}
-use Prim.Native.Nat.{ℕ, zero, suc, _+_, _*_, _≤_, _<_}
+use mathlib.Core.Bool.{true}
+use mathlib.Core.List.{List, [], _++_, map}
+use Prim.Native.Nat.{ℕ, zero, suc, _+_, _≤_, _<_}
 use native.Mathlib.Omega.{arith}
 use borrow.Author.Tests.{leb-true}
 use lib.ListN.{length, length-append, length-map}
-use Rattle.language.specs.Limits.{Most, of-check, of-translator}
-use Rattle.language.specs.Lists.{nth, given, bind-option-inv, nth-lt, Never}
+use Rattle.language.specs.Limits.{of-check, of-translator}
+use Rattle.language.specs.Lists.{given, bind-option-inv, nth-lt, Never}
 use Rattle.language.specs.Frames.{at-slot}
 use Rattle.language.specs.Tree.{DeclaredType, ExprType, Expr, literal-true, literal-false, literal-null, slot}
-use Rattle.language.specs.Tree.{is-null, get, cast, new, change, assign, set, call, choose, block, Exprs, nil, cons}
-use Rattle.language.specs.Tree.{count, Field, Declaration, Class, Program}
-use Rattle.language.specs.World.{Method, World, place, field-type, is-declared}
+use Rattle.language.specs.Tree.{is-null, get, cast, new, change, assign, set, call, choose, block, Exprs, nil}
+use Rattle.language.specs.Tree.{cons}
+use Rattle.language.specs.Tree.{count, Declaration, Class}
+use Rattle.language.specs.World.{Method, World, field-type, is-declared}
 use Rattle.language.specs.Program.{class-at, fields-at, world}
 use Rattle.language.specs.Typing.{Slot, Environment, fresh-slot, method-environment, start-environment}
-use Rattle.language.specs.Rules.{HasType, HaveTypes, type-true, type-false, type-null, type-slot, type-new, type-cast}
-use Rattle.language.specs.Rules.{type-get, type-set, type-assign, type-is-null, type-call, type-choose, type-block, type-change}
+use Rattle.language.specs.Rules.{HasType, HaveTypes, type-true, type-false, type-null, type-slot, type-new}
+use Rattle.language.specs.Rules.{type-cast}
+use Rattle.language.specs.Rules.{type-get, type-set, type-assign, type-is-null, type-call, type-choose}
+use Rattle.language.specs.Rules.{type-block, type-change}
 use Rattle.language.specs.Rules.{types-nil, types-cons}
-use Rattle.language.specs.WellFormed.{Each, each-nil, each-cons, TypeInForm, FieldInForm, MethodInForm, ClassInForm, ProgramInForm}
-use Rattle.language.specs.WellFormed.{NodeInForm, NodesInForm, form-true, form-false, form-null, form-slot, form-is-null, form-get, form-cast, form-new}
-use Rattle.language.specs.WellFormed.{form-change, form-assign, form-set, form-call, form-choose, form-block, form-nil, form-cons, BodyInForm, form-body}
-use Rattle.language.specs.WellFormed.{MethodsWell, methods-nil, methods-cons, ClassesWell, classes-nil, classes-cons, ProgramWell}
+use Rattle.language.specs.WellFormed.{Each, each-nil, each-cons, TypeInForm, FieldInForm, MethodInForm}
+use Rattle.language.specs.WellFormed.{ClassInForm}
+use Rattle.language.specs.WellFormed.{NodeInForm, NodesInForm, form-is-null, form-get, form-cast}
+use Rattle.language.specs.WellFormed.{form-assign, form-set, form-call, form-choose, form-block, form-cons}
+use Rattle.language.specs.WellFormed.{BodyInForm, form-body}
+use Rattle.language.specs.WellFormed.{MethodsWell, methods-nil, methods-cons, ClassesWell, classes-nil}
+use Rattle.language.specs.WellFormed.{classes-cons}
 use Rattle.language.specs.Layout.{EachMethod, EachClass, methods-from-row}
 use Rattle.theory.specs.Equal.{complete, completes, all-fit-length}
-use Rattle.theory.specs.Lookups.{each-at, each-append, FoundMethod, method-found}
-use Rattle.theory.specs.MoreLookups.{MoreLaws, each-declared, well-formed-more}
+use Rattle.theory.specs.Lookups.{each-at, each-append, method-found}
+use Rattle.theory.specs.MoreLookups.{MoreLaws, each-declared}
 use Rattle.theory.specs.PlainForm.{slots-same}
-use Rattle.plain.specs.Emission.{Ready, ReadyAll, FieldFound, MethodFound, Proper, ProperAll}
+use Rattle.plain.specs.Emission.{Ready, ReadyAll, FieldFound, MethodFound}
 use Rattle.plain.proofs.Programs.{proper, all-proper}
 
 -- fields and parameters that a lookup finds have types that rows can hold
-class-form : (P : List Class) → Each (ClassInForm of-check) P → (k : ℕ) (c : Class) → class-at P k ≡ some c → ClassInForm of-check c
+class-form : (P : List Class) → Each (ClassInForm of-check) P → (k : ℕ) (c : Class) → class-at P k ≡ some c
+    → ClassInForm of-check c
 unfolding class-at
 class-form P form zero c e = absurd (Never e)
 class-form P form (suc i) c e = each-at form i c e
 
-fields-form : (P : List Class) → Each (ClassInForm of-check) P → (n k : ℕ) → Each (FieldInForm of-check) (fields-at P n k)
+fields-form : (P : List Class) → Each (ClassInForm of-check) P → (n k : ℕ)
+    → Each (FieldInForm of-check) (fields-at P n k)
 unfolding fields-at
 fields-form P form zero k = each-nil
 fields-form P form (suc n) k = go (class-at P k) refl (λ j. fields-form P form n j)
@@ -47,17 +55,21 @@ fields-form P form (suc n) k = go (class-at P k) refl (λ j. fields-form P form 
     go none e ih = each-nil
     go (some c) e ih = each-append (ih (c .super)) (class-form P form k c e .fields)
 
-world-fields : (P : List Class) → Each (ClassInForm of-check) P → (k : ℕ) → Each (FieldInForm of-check) (world P .fields k)
+world-fields : (P : List Class) → Each (ClassInForm of-check) P → (k : ℕ)
+    → Each (FieldInForm of-check) (world P .fields k)
 unfolding world
 world-fields P form k = fields-form P form (suc k) k
 
-world-method : (P : List Class) → Each (ClassInForm of-check) P → (k m : ℕ) (M : Method) → world P .method k m ≡ some M → Each TypeInForm (M .parameters)
+world-method : (P : List Class) → Each (ClassInForm of-check) P → (k m : ℕ) (M : Method)
+    → world P .method k m ≡ some M → Each TypeInForm (M .parameters)
 unfolding world
 world-method P form k m M e = let x = method-found P (suc k) k m M e in
-    let i = each-declared (class-form P form (x .owner) (x .owning) (x .there) .methods) m (x .declaration) (x .declares) in
+    let i = each-declared (class-form P form (x .owner) (x .owning) (x .there) .methods) m (x .declaration)
+    (x .declares) in
     rw (← x .is) (i .parameters)
 
-types-count : {W : World} {es : Exprs} {γ γ′ : Environment} {ts : List ExprType} {φ : ℕ} → HaveTypes W γ es ts γ′ φ → length ts ≡ count es
+types-count : {W : World} {es : Exprs} {γ γ′ : Environment} {ts : List ExprType} {φ : ℕ}
+    → HaveTypes W γ es ts γ′ φ → length ts ≡ count es
 unfolding count
 types-count types-nil = refl
 types-count (types-cons d d′) = ap suc (types-count d′)
@@ -72,19 +84,25 @@ module _ (P : List Class) (form : Each (ClassInForm of-check) P) (laws : MoreLaw
   unfolding world
   declared-below c e = leb-true c (length P) e
 
-  field-found : (c f : ℕ) (u : DeclaredType) → field-type f (world P .fields c) ≡ some u → (c ≤ length P) × FieldFound P c f
+  field-found : (c f : ℕ) (u : DeclaredType) → field-type f (world P .fields c) ≡ some u
+      → (c ≤ length P) × FieldFound P c f
   unfolding field-type FieldFound
-  field-found c f u e = bind-option-inv _ _ e λ i e₁ e. bind-option-inv _ _ e λ g e₂ e.
-      (declared-below c (laws .declared-field c f i e₁), (i, g, e₁, e₂, proper (g .type) (each-at (world-fields P form c) i g e₂ .type)))
+  field-found c f u e = bind-option-inv _ _ e λ i e₁ e. bind-option-inv _ _ e λ g e₂ e. (
+    declared-below c (laws .declared-field c f i e₁),
+    (i, g, e₁, e₂, proper (g .type) (each-at (world-fields P form c) i g e₂ .type)),
+  )
 
-  method-here : (c m n : ℕ) (M : Method) → world P .method c m ≡ some M → length (M .parameters) ≡ n → (c ≤ length P) × MethodFound P c m n
+  method-here : (c m n : ℕ) (M : Method) → world P .method c m ≡ some M → length (M .parameters) ≡ n
+      → (c ≤ length P) × MethodFound P c m n
   unfolding MethodFound
-  method-here c m n M e z = (declared-below c (laws .declared-method c m M e), (M, e, z, all-proper (world-method P form c m M e)))
+  method-here c m n M e z =
+      (declared-below c (laws .declared-method c m M e), (M, e, z, all-proper (world-method P form c m M e)))
 
   mutual
     unfolding Ready
 
-    pub ready : (e : Expr) {γ γ′ : Environment} {t : ExprType} {φ : ℕ} → HasType (world P) γ e t γ′ φ → (d v : ℕ) → NodeInForm of-translator d v e
+    pub ready : (e : Expr) {γ γ′ : Environment} {t : ExprType} {φ : ℕ} → HasType (world P) γ e t γ′ φ
+        → (d v : ℕ) → NodeInForm of-translator d v e
         → 1 + length (γ .slots) ≡ v → Ready P e γ v
     ready literal-true type-true d v i z = tt
     ready literal-false type-false d v i z = tt
@@ -105,46 +123,73 @@ module _ (P : List Class) (form : Each (ClassInForm of-check) P) (laws : MoreLaw
     )
     ready (set f e e′) (type-set {γ₁} {c} {u} {φ₂} h h′ n m) (suc d) v (form-set p i j) z =
         rw (complete (world P) e h 0, complete (world P) e′ h′ 0) (
-        let x = field-found _ f u n in
-        (omega (arith, p), x .0, x .1, ready e h d v i z, ready e′ h′ d v j (omega (arith, z, slots-same (world P) e h)))
+        let x = field-found _ f u n in (
+          omega (arith, p),
+          x .0,
+          x .1,
+          ready e h d v i z,
+          ready e′ h′ d v j (omega (arith, z, slots-same (world P) e h)),
+        )
         )
     ready (call m e es) (type-call {γ₁} {c} {ts} {φ₂} M h h′ n f) (suc d) v (form-call p q i is) z =
         rw (complete (world P) e h 0, completes (world P) es h′ 0) (
-        let x = method-here _ m (count es) M n (sym (all-fit-length (world P) ts (M .parameters) f) ∙ types-count h′) in
-        (omega (arith, p), x .0, x .1, ready e h d v i z, ready-all es h′ d v is (omega (arith, z, slots-same (world P) e h)))
+        let x = method-here _ m (count es) M n
+        (sym (all-fit-length (world P) ts (M .parameters) f) ∙ types-count h′) in (
+          omega (arith, p),
+          x .0,
+          x .1,
+          ready e h d v i z,
+          ready-all es h′ d v is (omega (arith, z, slots-same (world P) e h)),
+        )
         )
     ready (choose e x y) (type-choose h h′ h″ j) (suc d) v (form-choose i i′ i″) z =
         rw (complete (world P) e h 0) (
         let w = slots-same (world P) e h in
         (ready e h d v i z, ready x h′ d v i′ (omega (arith, z, w)), ready y h″ d v i″ (omega (arith, z, w)))
         )
-    ready (block ts es) {γ} (type-block l h) (suc d) v (form-block p q r ps is) z =
-        (p, all-proper ps, ready-all es h d (v + length ts) is (omega (arith, z, length-append (γ .slots) (map fresh-slot ts), length-map ts fresh-slot)))
+    ready (block ts es) {γ} (type-block l h) (suc d) v (form-block p q r ps is) z = (
+      p,
+      all-proper ps,
+      ready-all es h d (v + length ts) is
+          (omega (arith, z, length-append (γ .slots) (map fresh-slot ts), length-map ts fresh-slot)),
+    )
 
-    pub ready-all : (es : Exprs) {γ γ′ : Environment} {ts : List ExprType} {φ : ℕ} → HaveTypes (world P) γ es ts γ′ φ → (d v : ℕ) → NodesInForm of-translator d v es
+    pub ready-all : (es : Exprs) {γ γ′ : Environment} {ts : List ExprType} {φ : ℕ}
+        → HaveTypes (world P) γ es ts γ′ φ → (d v : ℕ) → NodesInForm of-translator d v es
         → 1 + length (γ .slots) ≡ v → ReadyAll P es γ v
     ready-all nil types-nil d v i z = tt
     ready-all (cons e es) (types-cons h h′) d v (form-cons i is) z =
-        rw (complete (world P) e h 0) (ready e h d v i z, ready-all es h′ d v is (omega (arith, z, slots-same (world P) e h)))
+        rw (complete (world P) e h 0)
+        (ready e h d v i z, ready-all es h′ d v is (omega (arith, z, slots-same (world P) e h)))
 
-  ready-body : {e : Expr} {γ γ′ : Environment} {t : ExprType} {φ : ℕ} (v : ℕ) → HasType (world P) γ e t γ′ φ → BodyInForm of-translator v e
+  ready-body : {e : Expr} {γ γ′ : Environment} {t : ExprType} {φ : ℕ} (v : ℕ) → HasType (world P) γ e t γ′ φ
+      → BodyInForm of-translator v e
       → 1 + length (γ .slots) ≡ v → Ready P e γ v
   ready-body v h (form-body {ts} {es} i) z = ready (block ts es) h _ v i z
 
-  each-ready : (k super : ℕ) {before ms : List Declaration} → MethodsWell P k super before ms → Each (MethodInForm of-translator) ms → (r : ℕ)
-      → EachMethod (λ k m r. Ready P (m .body) (method-environment k (m .parameters)) (1 + length (m .parameters))) ms k r
+  each-ready : (k super : ℕ) {before ms : List Declaration} → MethodsWell P k super before ms
+      → Each (MethodInForm of-translator) ms → (r : ℕ)
+      → EachMethod (λ k m r. Ready P (m .body) (method-environment k (m .parameters))
+      (1 + length (m .parameters))) ms k r
   unfolding EachMethod
   each-ready k super methods-nil each-nil r = tt
-  each-ready k super (methods-cons {m} w ws) (each-cons i is) r =
-      (ready-body (1 + length (m .parameters)) (w .body) (i .body) (omega (arith, length-map (m .parameters) fresh-slot)), each-ready k super ws is _)
+  each-ready k super (methods-cons {m} w ws) (each-cons i is) r = (
+    ready-body (1 + length (m .parameters)) (w .body) (i .body)
+        (omega (arith, length-map (m .parameters) fresh-slot)),
+    each-ready k super ws is _,
+  )
 
-  pub classes-ready : {k : ℕ} {cs : List Class} → ClassesWell P k cs → Each (ClassInForm of-translator) cs → (r : ℕ)
-      → EachClass (λ k c r. EachMethod (λ k m r. Ready P (m .body) (method-environment k (m .parameters)) (1 + length (m .parameters)))
+  pub classes-ready : {k : ℕ} {cs : List Class} → ClassesWell P k cs → Each (ClassInForm of-translator) cs
+      → (r : ℕ)
+      → EachClass (λ k c r. EachMethod (λ k m r. Ready P (m .body) (method-environment k (m .parameters))
+      (1 + length (m .parameters)))
       (c .methods) k (methods-from-row r c)) cs k r
   unfolding EachClass
   classes-ready classes-nil each-nil r = tt
   classes-ready {k} (classes-cons {c} w ws) (each-cons i is) r =
       (each-ready k (c .super) (w .methods) (i .methods) _, classes-ready ws is _)
 
-  pub start-ready : {e : Expr} {γ : Environment} {t : ExprType} {φ : ℕ} → HasType (world P) start-environment e t γ φ → BodyInForm of-translator 1 e → Ready P e start-environment 1
+  pub start-ready : {e : Expr} {γ : Environment} {t : ExprType} {φ : ℕ}
+      → HasType (world P) start-environment e t γ φ → BodyInForm of-translator 1 e
+      → Ready P e start-environment 1
   start-ready h i = ready-body 1 h i refl

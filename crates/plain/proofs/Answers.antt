@@ -1,23 +1,22 @@
 -- Laws of the translator's answer: its limits, reserved names, room, and what the buffer then holds.
 use mathlib.Core.Path.{_≡_, refl, sym, ap, _∙_, subst}
 use mathlib.Core.Bool.{Bool, true, false, cond}
-use mathlib.Core.Logic.{_⊎_, inl, inr, _≢_}
-use mathlib.Core.List.{List, [], _∷_, _++_, map}
-use Prim.Native.Nat.{ℕ, zero, suc, _+_, _-_, _*_, _/_, _%_, _≤_, _<_}
+use mathlib.Core.Logic.{_≢_}
+use mathlib.Core.List.{List, _++_}
+use Prim.Native.Nat.{ℕ, zero, suc, _+_, _-_, _/_, _%_, _≤_, _<_}
 use native.Mathlib.Omega.{arith}
 use borrow.Author.Tests.{lt-ltb, le-ltb, lt-leb, le-leb, eqb-true}
-use lib.Dec.{eqb, ltb, leb}
-use lib.ListN.{length, getD, drop}
+use lib.Dec.{ltb}
+use lib.ListN.{length, drop}
 use lib.Seq.{sets, sets-eq}
 use Rattle.language.specs.Limits.{of-check, of-translator, limit-refusal, reserved-refusal}
-use Rattle.language.specs.Results.{Checked, accept, refuse, Pass, passed, earlier, bind-checked, require, require-inv, bind-checked-inv}
+use Rattle.language.specs.Results.{Checked, accept, refuse, Pass, passed, earlier, bind-checked, require-inv}
+use Rattle.language.specs.Results.{bind-checked-inv}
 use Rattle.language.specs.Results.{accept-injective}
-use Rattle.language.specs.Rows.{rows-of, row-of, numbers-of}
-use Rattle.language.specs.Tree.{Class, Program, classes-lines}
-use Rattle.language.specs.Program.{world}
+use Rattle.language.specs.Rows.{rows-of}
+use Rattle.language.specs.Tree.{Program, classes-lines}
 use Rattle.language.specs.Form.{form}
-use Rattle.language.specs.Headings.{headings, check-classes}
-use Rattle.language.specs.Typing.{bodies}
+use Rattle.language.specs.Headings.{headings}
 use Rattle.language.specs.Verdict.{check, whole-rows, three-passes}
 use Rattle.language.specs.Translation.{within-limits, names-free, translation}
 use Rattle.language.specs.WellFormed.{ProgramInForm}
@@ -32,10 +31,12 @@ use Rattle.form.specs.declared.Formed.the-variants as formed
 use Rattle.form.specs.declared.Formed.the-variants.{InForm}
 use Rattle.theory.specs.Accepts.{check-accepts}
 use Rattle.theory.specs.WholeBack.{form-back}
-use Rattle.theory.specs.Translatable.{TranslatableRows, earlier-inv, same-program}
-use Rattle.plain.specs.Emission.{program-numbers, Written, ProgramTask, SomeProgram, ProgramWritten}
-use Rattle.plain.specs.Bounds.{pass-of, ClassesStand, SomeClassesStand, ClassesCounted, SomeCounted, FieldsLimited, NamesFree}
-use Rattle.plain.specs.Bounds.{told, limits-told, CheckedRows, SomeChecked, Limited, PlainWritten, SomeAccepted}
+use Rattle.theory.specs.Translatable.{earlier-inv, same-program}
+use Rattle.plain.specs.Emission.{program-numbers, ProgramTask, SomeProgram, ProgramWritten}
+use Rattle.plain.specs.Bounds.{pass-of, ClassesStand, SomeClassesStand, ClassesCounted, SomeCounted}
+use Rattle.plain.specs.Bounds.{FieldsLimited, NamesFree}
+use Rattle.plain.specs.Bounds.{told, limits-told, CheckedRows, SomeChecked, Limited, PlainWritten}
+use Rattle.plain.specs.Bounds.{SomeAccepted}
 use Rattle.plain.proofs.Sizes.{program-task}
 
 -- limits of form and of fields together
@@ -64,32 +65,38 @@ told-fields {f} {l} {n} e z = rw e (go l z)
     go zero z = absurd (z refl)
     go (suc l) z = refl
 
-told-earlier : (x : Checked Program) (l : ℕ) → limits-told (formed-of x) l ≡ told (earlier x (pass-of limit-refusal l))
+told-earlier : (x : Checked Program) (l : ℕ)
+    → limits-told (formed-of x) l ≡ told (earlier x (pass-of limit-refusal l))
 unfolding earlier
 told-earlier (accept p) zero = refl
 told-earlier (accept p) (suc l) = refl
 told-earlier (refuse n k) zero = refl
 told-earlier (refuse n k) (suc l) = go (ltb (suc l) k)
   where
-    go : (b : Bool) → cond b (filled.Refused limit-refusal (suc l)) (filled.Refused n k) ≡ told (cond b (refuse limit-refusal (suc l)) (refuse n k))
+    go : (b : Bool) → cond b (filled.Refused limit-refusal (suc l)) (filled.Refused n k) ≡ told
+        (cond b (refuse limit-refusal (suc l)) (refuse n k))
     go true = refl
     go false = refl
 
 -- what the check has passed
-check-passes : (R : List ℕ) (p : Program) → check R ≡ accept p → (length R % 4 ≡ 0) × (u : Unit {0}) × (headings of-check (p .classes) ≡ accept u)
+check-passes : (R : List ℕ) (p : Program) → check R ≡ accept p
+    → (length R % 4 ≡ 0) × (u : Unit {0}) × (headings of-check (p .classes) ≡ accept u)
 unfolding check whole-rows three-passes
-check-passes R p e = require-inv _ _ _ _ e λ w e. bind-checked-inv _ _ e λ q e₁ e. bind-checked-inv _ _ e λ u e₂ e.
+check-passes R p e = require-inv _ _ _ _ e λ w e. bind-checked-inv _ _ e λ q e₁ e.
+    bind-checked-inv _ _ e λ u e₂ e.
     bind-checked-inv _ _ e λ v e₃ e. (eqb-true (length R % 4) 0 w, u, rw (← accept-injective e) e₂)
 
 all-stand : {R E : List ℕ} {p : Program} → ProgramAt R E p → ClassesStand R E 1 (p .classes) 0
-all-stand {p = p} h = let z : classes-lines (p .classes) ≡ 0 + classes-lines (p .classes) = omega arith in let w = h .start-line in
+all-stand {p = p} h = let z : classes-lines (p .classes) ≡ 0 + classes-lines (p .classes) = omega arith in
+    let w = h .start-line in
     record { classes = h .classes; start = rw z at w; short = h .short }
 
 module _ {R E T : List ℕ} where
   pub checked-whole : SomeChecked R E T → length R % 4 ≡ 0
   checked-whole x = check-passes R (x .p) (x .is .accepted) .0
 
-  all-counted : {p : Program} {A : List ℕ} → CheckedRows p R E T A → ClassesCounted (p .classes) R E T 1 (p .classes) 0
+  all-counted : {p : Program} {A : List ℕ} → CheckedRows p R E T A
+      → ClassesCounted (p .classes) R E T 1 (p .classes) 0
   unfolding headings
   all-counted {p} {A} x = record {
     stand = all-stand (x .rows);
@@ -102,32 +109,42 @@ module _ {R E T : List ℕ} where
   pub checked-counted : SomeChecked R E T → SomeCounted R E T 0
   checked-counted x = record { P = x .p .classes; k = 1; cs = x .p .classes; counted = all-counted (x .is) }
 
-  pub limits-answer : {f : Formed} {l : ℕ} {r : Filled} → f ≡ formed-of (form of-translator (rows-of R)) → FieldsLimited R E T 0 l → r ≡ limits-told f l → Limited R E T r
+  pub limits-answer : {f : Formed} {l : ℕ} {r : Filled} → f ≡ formed-of (form of-translator (rows-of R))
+      → FieldsLimited R E T 0 l → r ≡ limits-told f l → Limited R E T r
   unfolding within-limits headings
   limits-answer {f} {l} {r} e h q = record {
-    each = λ p A x. q ∙ (ap (λ (g : Formed). limits-told g l) e ∙ (told-earlier (form of-translator (rows-of R)) l
-        ∙ ap (λ (c : Pass). told (earlier (form of-translator (rows-of R)) c)) (sym (h .each (p .classes) 1 (p .classes) (all-counted x)))));
+    each = λ p A x. q ∙ (ap (λ (g : Formed). limits-told g l) e ∙
+        (told-earlier (form of-translator (rows-of R)) l
+        ∙ ap (λ (c : Pass). told (earlier (form of-translator (rows-of R)) c))
+        (sym (h .each (p .classes) 1 (p .classes) (all-counted x)))));
   }
 
 -- the plain rows in a buffer
 sets-start : (l xs : List ℕ) → length xs ≤ length l → sets l 0 xs ≡ xs ++ drop (length xs) l
-sets-start l xs h = let e : 0 + length xs ≡ length xs = omega arith in sets-eq xs l 0 (omega arith) ∙ ap (λ (n : ℕ). xs ++ drop n l) e
+sets-start l xs h = let e : 0 + length xs ≡ length xs = omega arith in sets-eq xs l 0 (omega arith)
+    ∙ ap (λ (n : ℕ). xs ++ drop n l) e
 
 module _ {R T C O N N′ : List ℕ} {count : ℕ} (w : ProgramWritten R T C N N′ count) where
   pub plain-short : length O < count → PlainWritten R T C O O (filled.Refused 13 0)
   plain-short h = record {
     each = λ p E t.
-        let l : length O < length (program-numbers p) = omega (arith, w .each p E t .ended, h) in
-        (rw (lt-leb (length (program-numbers p)) (length O) l), rw (lt-leb (length (program-numbers p)) (length O) l));
+        let l : length O < length (program-numbers p) = omega (arith, w .each p E t .ended, h) in (
+          rw (lt-leb (length (program-numbers p)) (length O) l),
+          rw (lt-leb (length (program-numbers p)) (length O) l),
+        );
   }
 
-  pub plain-done : {O′ : List ℕ} {n m : ℕ} → count ≤ length O → ProgramWritten R T C O O′ n → m ≡ n / 4 → PlainWritten R T C O O′ (Done m)
+  pub plain-done : {O′ : List ℕ} {n m : ℕ} → count ≤ length O → ProgramWritten R T C O O′ n → m ≡ n / 4
+      → PlainWritten R T C O O′ (Done m)
   plain-done {O′} {n} {m} h v q = record {
     each = λ p E t.
         let l : length (program-numbers p) ≤ length O = omega (arith, w .each p E t .ended, h) in
         let x = v .each p E t in
-        let z : n ≡ length (program-numbers p) = omega (arith, x .ended) in
-        (rw (le-leb (length (program-numbers p)) (length O) l, q, z), rw (le-leb (length (program-numbers p)) (length O) l) (x .content ∙ sets-start O (program-numbers p) l));
+        let z : n ≡ length (program-numbers p) = omega (arith, x .ended) in (
+          rw (le-leb (length (program-numbers p)) (length O) l, q, z),
+          rw (le-leb (length (program-numbers p)) (length O) l)
+              (x .content ∙ sets-start O (program-numbers p) l),
+        );
   }
 
 -- the answer as a whole
@@ -139,22 +156,28 @@ not-both : {k l n : ℕ} → filled.Refused k l ≡ Done n → ⊥
 not-both e = let z : _≡_ {A = ℕ} 0 1 = ap is-done e in omega (arith, z)
 
 -- what is refused by the limits is refused
-limits-refuse : (R : List ℕ) (p : Program) → check R ≡ accept p → (n l : ℕ) → within-limits R p ≡ refuse n l → translation R ≡ refuse n l
+limits-refuse : (R : List ℕ) (p : Program) → check R ≡ accept p → (n l : ℕ) → within-limits R p ≡ refuse n l
+    → translation R ≡ refuse n l
 unfolding translation bind-checked
 limits-refuse R p e n l h = rw (e, h)
 
-names-refuse : (R : List ℕ) (p : Program) → check R ≡ accept p → (u : Unit {0}) → within-limits R p ≡ accept u → (n l : ℕ) → names-free 1 (p .classes) ≡ refuse n l → translation R ≡ refuse n l
+names-refuse : (R : List ℕ) (p : Program) → check R ≡ accept p → (u : Unit {0}) → within-limits R p ≡ accept u
+    → (n l : ℕ) → names-free 1 (p .classes) ≡ refuse n l → translation R ≡ refuse n l
 unfolding translation bind-checked
 names-refuse R p e u h n l q = rw (e, h, q)
 
-taken : (R : List ℕ) (p : Program) → check R ≡ accept p → (u v : Unit {0}) → within-limits R p ≡ accept u → names-free 1 (p .classes) ≡ accept v → translation R ≡ accept (program-numbers p)
+taken : (R : List ℕ) (p : Program) → check R ≡ accept p → (u v : Unit {0}) → within-limits R p ≡ accept u
+    → names-free 1 (p .classes) ≡ accept v → translation R ≡ accept (program-numbers p)
 unfolding translation bind-checked
 taken R p e u v h q = rw (e, h, q)
 
-refused : {c : Checked (List ℕ)} (n l : ℕ) (O : List ℕ) → c ≡ refuse n l → (filled.Refused n l ≡ answer 4 c (length O)) × (O ≡ buffer c O)
+refused : {c : Checked (List ℕ)} (n l : ℕ) (O : List ℕ) → c ≡ refuse n l
+    → (filled.Refused n l ≡ answer 4 c (length O)) × (O ≡ buffer c O)
 refused n l O e = (rw e refl, rw e refl)
 
-told-inv : {D : Type 0} (c : Pass) {r : Filled} → r ≡ told c → ((u : Unit {0}) → c ≡ accept u → r ≡ Done 0 → D) → ((n l : ℕ) → c ≡ refuse n l → r ≡ filled.Refused n l → D) → D
+told-inv : {D : Type 0} (c : Pass) {r : Filled} → r ≡ told c
+    → ((u : Unit {0}) → c ≡ accept u → r ≡ Done 0 → D)
+    → ((n l : ℕ) → c ≡ refuse n l → r ≡ filled.Refused n l → D) → D
 told-inv (accept u) e f g = f u refl e
 told-inv (refuse n l) e f g = g n l refl e
 
@@ -166,36 +189,45 @@ module _ {R E T C : List ℕ} where
   pub accepted-stand : SomeAccepted R E T C → SomeClassesStand R E 0
   accepted-stand x = record { k = 1; cs = x .p .classes; stand = all-stand (x .checked .rows) }
 
-  pub answer-limits : {r : Filled} {a b : ℕ} (O : List ℕ) → SomeAccepted R E T C → Limited R E T r → r ≡ filled.Refused a b → (r ≡ answer 4 (translation R) (length O)) × (O ≡ buffer (translation R) O)
+  pub answer-limits : {r : Filled} {a b : ℕ} (O : List ℕ) → SomeAccepted R E T C → Limited R E T r
+      → r ≡ filled.Refused a b → (r ≡ answer 4 (translation R) (length O)) × (O ≡ buffer (translation R) O)
   answer-limits O x h d = told-inv (within-limits R (x .p)) (h .each (x .p) (x .A) (x .checked))
       (λ u q e. absurd (not-both (sym d ∙ e)))
-      (λ n l q e. let y = refused n l O (limits-refuse R (x .p) (x .checked .accepted) n l q) in (e ∙ y .0, y .1))
+      (λ n l q e. let y = refused n l O (limits-refuse R (x .p) (x .checked .accepted) n l q) in
+      (e ∙ y .0, y .1))
 
   -- where no limit is passed
-  fine : {r : Filled} {n : ℕ} (x : SomeAccepted R E T C) → Limited R E T r → r ≡ Done n → (u : Unit {0}) × (within-limits R (x .p) ≡ accept u)
+  fine : {r : Filled} {n : ℕ} (x : SomeAccepted R E T C) → Limited R E T r → r ≡ Done n
+      → (u : Unit {0}) × (within-limits R (x .p) ≡ accept u)
   fine {r} {n} x h d = told-inv (within-limits R (x .p)) (h .each (x .p) (x .A) (x .checked))
       (λ u q e. (u, q))
       (λ k l q e. absurd (not-both (sym e ∙ d)))
 
-  names-are : {l : ℕ} (x : SomeAccepted R E T C) → NamesFree R E 0 l → names-free 1 (x .p .classes) ≡ pass-of reserved-refusal l
+  names-are : {l : ℕ} (x : SomeAccepted R E T C) → NamesFree R E 0 l
+      → names-free 1 (x .p .classes) ≡ pass-of reserved-refusal l
   names-are x h = h .each 1 (x .p .classes) (all-stand (x .checked .rows))
 
-  pub answer-names : {r : Filled} {n l : ℕ} (O : List ℕ) → SomeAccepted R E T C → Limited R E T r → r ≡ Done n → NamesFree R E 0 l → l ≢ 0
+  pub answer-names : {r : Filled} {n l : ℕ} (O : List ℕ) → SomeAccepted R E T C → Limited R E T r → r ≡ Done n
+      → NamesFree R E 0 l → l ≢ 0
       → (filled.Refused 12 l ≡ answer 4 (translation R) (length O)) × (O ≡ buffer (translation R) O)
   answer-names {r} {n} {l} O x h d f z = let y = fine x h d in
-      refused 12 l O (names-refuse R (x .p) (x .checked .accepted) (y .0) (y .1) 12 l (names-are x f ∙ not-zero 12 l z))
+      refused 12 l O (names-refuse R (x .p) (x .checked .accepted) (y .0) (y .1) 12 l
+      (names-are x f ∙ not-zero 12 l z))
 
-  module _ {r : Filled} {n l : ℕ} (x : SomeAccepted R E T C) (h : Limited R E T r) (d : r ≡ Done n) (f : NamesFree R E 0 l) (z : l ≡ 0) where
+  module _ {r : Filled} {n l : ℕ} (x : SomeAccepted R E T C) (h : Limited R E T r) (d : r ≡ Done n)
+      (f : NamesFree R E 0 l) (z : l ≡ 0) where
     free : names-free 1 (x .p .classes) ≡ passed
     free = names-are x f ∙ rw z refl
 
     task : ProgramTask (x .p) E R T C
     unfolding within-limits
-    task = let y = fine x h d in let a = check-accepts R (x .p) .0 (x .checked .accepted) in earlier-inv _ _ (y .1) λ q w e₄ e₅.
+    task = let y = fine x h d in let a = check-accepts R (x .p) .0 (x .checked .accepted) in
+        earlier-inv _ _ (y .1) λ q w e₄ e₅.
         let same = same-program R (x .p) q a e₄ in
         program-task R E T (x .A) C (x .p) (record {
           accepted = a;
-          in-form = subst (ProgramInForm of-translator) same (form-back of-translator (omega arith) (rows-of R) q e₄ .1);
+          in-form = subst (ProgramInForm of-translator) same
+              (form-back of-translator (omega arith) (rows-of R) q e₄ .1);
           few-fields = e₅;
           unreserved = free;
         }) (x .checked .rows) (x .checked .tables) (x .lookups) (x .beside)
@@ -203,7 +235,11 @@ module _ {R E T C : List ℕ} where
     pub answer-some : SomeProgram R T C
     answer-some = record { p = x .p; E = E; task = task }
 
-    pub answer-plain : {O O′ : List ℕ} {s : Filled} → PlainWritten R T C O O′ s → (s ≡ answer 4 (translation R) (length O)) × (O′ ≡ buffer (translation R) O)
+    pub answer-plain : {O O′ : List ℕ} {s : Filled} → PlainWritten R T C O O′ s
+        → (s ≡ answer 4 (translation R) (length O)) × (O′ ≡ buffer (translation R) O)
     answer-plain {O} {O′} {s} w = let y = fine x h d in let v = w .each (x .p) E task in
-        let e = taken R (x .p) (x .checked .accepted) (y .0) tt (y .1) free in
-        (v .0 ∙ ap (λ (c : Checked (List ℕ)). answer 4 c (length O)) (sym e), v .1 ∙ ap (λ (c : Checked (List ℕ)). buffer c O) (sym e))
+        let e = taken R (x .p) (x .checked .accepted) (y .0) tt (y .1) free in (
+          v .0 ∙ ap (λ (c : Checked (List ℕ)). answer 4 c (length O)) (sym e),
+          v .1
+              ∙ ap (λ (c : Checked (List ℕ)). buffer c O) (sym e),
+        )

@@ -1,18 +1,18 @@
 -- Laws of lines that are written one for each of a list: types, slots read, fields copied; and of added slots. Assumes nothing.
 use mathlib.Core.Path.{_≡_, refl, sym, ap, _∙_}
-use mathlib.Core.List.{List, [], _∷_, _++_}
-use mathlib.Core.Logic.{_⊎_, inl, inr, _≢_}
+use mathlib.Core.List.{List, [], _∷_}
+use mathlib.Core.Logic.{inl, inr, _≢_}
 use Prim.Native.Nat.{ℕ, zero, suc, _+_, _-_, _*_, _≤_, _<_}
 use native.Mathlib.Nat.{eq-or-lt-of-le}
 use native.Mathlib.Numerals.{add-one}
 use native.Mathlib.Omega.{arith}
 use lib.ListN.{length, getD, set, length-set}
 use lib.Seq.{getD-set-same, getD-set-other}
-use Rattle.language.specs.Rows.{F-field}
 use Rattle.language.specs.Tree.{DeclaredType, type-number, Field}
-use Rattle.language.specs.Encoded.{RowAt}
-use Rattle.plain.specs.Emission.{Written, plain-number, type-lines, read-lines, copy-lines, ParametersAt, FieldRows}
-use Rattle.plain.specs.Emission.{SomeTypes, TypesWritten, SomeFields, CopiesWritten, Extended, slot-lines}
+use Rattle.plain.specs.Emission.{Written, plain-number, type-lines, read-lines, copy-lines}
+use Rattle.plain.specs.Emission.{ParametersAt, FieldRows}
+use Rattle.plain.specs.Emission.{SomeTypes, TypesWritten, SomeFields, CopiesWritten, Extended}
+use Rattle.plain.specs.Emission.{slot-lines}
 use Rattle.plain.proofs.Writing.{written-none, written-then}
 
 module _ {R : List ℕ} {at count : ℕ} where
@@ -28,7 +28,8 @@ module _ {R : List ℕ} {at count : ℕ} where
   unfolding ParametersAt
   types-rest x h = go (x .ts) (x .rows) (x .counted)
     where
-      go : (ts : List DeclaredType) → ParametersAt R ts at → length ts ≡ count → SomeTypes R (at + 1) (count - 1)
+      go : (ts : List DeclaredType) → ParametersAt R ts at → length ts ≡ count
+          → SomeTypes R (at + 1) (count - 1)
       go [] r e = absurd (h (sym e))
       go (t ∷ ts) r e = record { ts = ts; rows = r .2; counted = omega (arith, e) }
 
@@ -37,43 +38,51 @@ module _ {R : List ℕ} {at count : ℕ} where
     unfolding type-lines
     types-none z = record { each = λ ts r e. go ts r e }
       where
-        go : (ts : List DeclaredType) → ParametersAt R ts at → length ts ≡ count → Written (type-lines letter ts) O O place place
+        go : (ts : List DeclaredType) → ParametersAt R ts at → length ts ≡ count
+            → Written (type-lines letter ts) O O place place
         go [] r e = written-none
         go (t ∷ ts) r e = absurd (omega (arith, e, z))
 
     pub types-step : {O₁ O₂ : List ℕ} {p q t : ℕ} → count ≢ 0 → t ≡ plain-number (getD R (at * 4 + 1) 0)
-        → Written (letter ∷ t ∷ 0 ∷ 0 ∷ []) O O₁ place p → TypesWritten R (at + 1) (count - 1) letter O₁ O₂ p q
+        → Written (letter ∷ t ∷ 0 ∷ 0 ∷ []) O O₁ place p
+        → TypesWritten R (at + 1) (count - 1) letter O₁ O₂ p q
         → TypesWritten R at count letter O O₂ place q
     unfolding type-lines ParametersAt
     types-step {O₁} {O₂} {p} {q} {t} h w a b = record { each = λ ts r e. go ts r e }
       where
-        go : (ts : List DeclaredType) → ParametersAt R ts at → length ts ≡ count → Written (type-lines letter ts) O O₂ place q
+        go : (ts : List DeclaredType) → ParametersAt R ts at → length ts ≡ count
+            → Written (type-lines letter ts) O O₂ place q
         go [] r e = absurd (h (sym e))
         go (u ∷ ts) r e =
             let f : t ≡ plain-number (type-number u) = w ∙ ap (λ n. plain-number n) (r .1) in
             rw (← f) (written-then a (b .each ts (r .2) (omega (arith, e))))
 
 -- slots read
-pub reads-none : (s count : ℕ) {O : List ℕ} {place : ℕ} → count ≡ 0 → Written (read-lines s count) O O place place
+pub reads-none : (s count : ℕ) {O : List ℕ} {place : ℕ} → count ≡ 0
+    → Written (read-lines s count) O O place place
 unfolding read-lines
 reads-none s count e = rw e written-none
 
-pub reads-step : (s count : ℕ) {O O₁ O₂ : List ℕ} {place p q : ℕ} → count ≢ 0 → Written (73 ∷ s ∷ 0 ∷ 0 ∷ []) O O₁ place p
+pub reads-step : (s count : ℕ) {O O₁ O₂ : List ℕ} {place p q : ℕ} → count ≢ 0
+    → Written (73 ∷ s ∷ 0 ∷ 0 ∷ []) O O₁ place p
     → Written (read-lines (s + 1) (count - 1)) O₁ O₂ p q → Written (read-lines s count) O O₂ place q
 unfolding read-lines
 reads-step s count {O} {O₁} {O₂} {place} {p} {q} h a b = go count h b
   where
-    go : (k : ℕ) → k ≢ 0 → Written (read-lines (s + 1) (k - 1)) O₁ O₂ p q → Written (read-lines s k) O O₂ place q
+    go : (k : ℕ) → k ≢ 0 → Written (read-lines (s + 1) (k - 1)) O₁ O₂ p q
+        → Written (read-lines s k) O O₂ place q
     go zero h b = absurd (h refl)
     go (suc k) h b = let e : suc k - 1 ≡ k = omega arith in written-then a (rw (add-one, e) at b)
 
 -- fields copied
 module _ {R T : List ℕ} {from count : ℕ} where
-  pub fields-in : SomeFields R T from count → count ≢ 0 → (from < length T) × (getD T from 0 * 4 + 3 < length R)
+  pub fields-in : SomeFields R T from count → count ≢ 0
+      → (from < length T) × (getD T from 0 * 4 + 3 < length R)
   unfolding FieldRows
   fields-in x h = go (x .fs) (x .rows) (x .counted)
     where
-      go : (fs : List Field) → FieldRows R T fs from → length fs ≡ count → (from < length T) × (getD T from 0 * 4 + 3 < length R)
+      go : (fs : List Field) → FieldRows R T fs from → length fs ≡ count
+          → (from < length T) × (getD T from 0 * 4 + 3 < length R)
       go [] r e = absurd (h (sym e))
       go (f ∷ fs) r e = (r .0, r .1 .within)
 
@@ -81,7 +90,8 @@ module _ {R T : List ℕ} {from count : ℕ} where
   unfolding FieldRows
   fields-rest x h = go (x .fs) (x .rows) (x .counted)
     where
-      go : (fs : List Field) → FieldRows R T fs from → length fs ≡ count → SomeFields R T (from + 1) (count - 1)
+      go : (fs : List Field) → FieldRows R T fs from → length fs ≡ count
+          → SomeFields R T (from + 1) (count - 1)
       go [] r e = absurd (h (sym e))
       go (f ∷ fs) r e = record { fs = fs; rows = r .2; counted = omega (arith, e) }
 
@@ -90,7 +100,8 @@ module _ {R T : List ℕ} {from count : ℕ} where
     unfolding copy-lines
     copies-none z = record { each = λ fs r e. go fs r e }
       where
-        go : (fs : List Field) → FieldRows R T fs from → length fs ≡ count → Written (copy-lines s fs) O O place place
+        go : (fs : List Field) → FieldRows R T fs from → length fs ≡ count
+            → Written (copy-lines s fs) O O place place
         go [] r e = written-none
         go (f ∷ fs) r e = absurd (omega (arith, e, z))
 
@@ -100,7 +111,8 @@ module _ {R T : List ℕ} {from count : ℕ} where
     unfolding copy-lines FieldRows
     copies-step {O₁} {O₂} {p} {q} {n} h w a b = record { each = λ fs r e. go fs r e }
       where
-        go : (fs : List Field) → FieldRows R T fs from → length fs ≡ count → Written (copy-lines s fs) O O₂ place q
+        go : (fs : List Field) → FieldRows R T fs from → length fs ≡ count
+            → Written (copy-lines s fs) O O₂ place q
         go [] r e = absurd (h (sym e))
         go (f ∷ fs) r e =
             let g : n ≡ f .name = w ∙ r .1 .second in
@@ -124,7 +136,8 @@ extended-step {S} {S′} {vars} {next} {i} x h = record {
       | inr n ↦ getD-set-other S′ (vars + i) (vars + j) (next + i) 0 (omega (arith, n)) ∙ x .added j n
     ]
 
-pub extended-end : {S S′ : List ℕ} {vars next i count : ℕ} → Extended S S′ vars next i → i ≡ count → Extended S S′ vars next count
+pub extended-end : {S S′ : List ℕ} {vars next i count : ℕ} → Extended S S′ vars next i → i ≡ count
+    → Extended S S′ vars next count
 extended-end x e = rw e at x
 
 -- lines of a slot read

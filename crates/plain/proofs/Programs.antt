@@ -2,25 +2,29 @@
 -- Assumes nothing.
 use mathlib.Core.Path.{_≡_, refl, sym, ap, _∙_}
 use mathlib.Core.Bool.{Bool, true, false, cond}
-use mathlib.Core.List.{List, [], _∷_, _++_, map, append-nil, append-assoc}
-use Prim.Native.Nat.{ℕ, zero, suc, _+_, _*_, _≤_, _<_}
+use mathlib.Core.List.{List, [], _∷_, _++_, map, append-assoc}
+use Prim.Native.Nat.{ℕ, suc, _+_, _≤_, _<_}
 use native.Mathlib.Omega.{arith}
 use lib.Dec.{eqb}
-use lib.ListN.{length, getD, length-append}
+use lib.ListN.{length, length-append}
 use Rattle.language.specs.Limits.{of-check, bool-number, identity-class}
-use Rattle.language.specs.Rows.{Letter, code, Record, written, numbers-of, row-of, C-class, F-field, S-start}
-use Rattle.language.specs.Tree.{DeclaredType, bool, class, type-number, type-of-number, kind-number, Field, Declaration, Class, Program}
+use Rattle.language.specs.Rows.{Letter, code, Record, written, numbers-of, C-class, F-field, S-start}
+use Rattle.language.specs.Tree.{DeclaredType, bool, class, type-number, Field, Declaration, Class, Program}
 use Rattle.language.specs.Tree.{classes-lines, flatten, flatten-methods, flatten-classes, flatten-program}
 use Rattle.language.specs.World.{World}
 use Rattle.language.specs.Program.{world}
 use Rattle.language.specs.Typing.{method-environment, start-environment}
 use Rattle.language.specs.LookupClasses.{LooksUp}
-use Rattle.language.specs.WellFormed.{TypeInForm, Each, each-nil, each-cons, FieldInForm, MethodInForm, ClassInForm, ProgramInForm}
-use Rattle.language.specs.Translation.{plain-type, plain-field, plain-method, plain-classes, plain-program, translate, variables}
+use Rattle.language.specs.WellFormed.{TypeInForm, Each, each-nil, each-cons, FieldInForm, MethodInForm}
+use Rattle.language.specs.WellFormed.{ClassInForm, ProgramInForm}
+use Rattle.language.specs.Translation.{plain-field, plain-method, plain-classes, plain-program, translate}
 use Rattle.language.specs.Layout.{EachMethod, EachClass, MethodAt, ClassAt, body-row, methods-from-row}
-use Rattle.plain.specs.Emission.{most-numbers, plain-number, Proper, ProperAll, lines-of, tree-numbers, field-lines, node-numbers, Ready}
-use Rattle.plain.specs.Emission.{method-numbers, methods-numbers, class-numbers, classes-numbers, program-numbers, Written, Emitted, Lent}
-use Rattle.plain.specs.Emission.{BodyTask, SomeBody, BodyEmitted, MethodReady, ClassReady, ClassesTask, SomeClasses, ClassesEmitted, ProgramTask, SomeProgram, ProgramWritten}
+use Rattle.plain.specs.Emission.{most-numbers, Proper, ProperAll, lines-of, tree-numbers, field-lines}
+use Rattle.plain.specs.Emission.{node-numbers, Ready}
+use Rattle.plain.specs.Emission.{method-numbers, methods-numbers, class-numbers, classes-numbers}
+use Rattle.plain.specs.Emission.{program-numbers, Written}
+use Rattle.plain.specs.Emission.{BodyTask, SomeBody, BodyEmitted, MethodReady, ClassReady, ClassesTask}
+use Rattle.plain.specs.Emission.{SomeClasses, ClassesEmitted, ProgramTask, SomeProgram, ProgramWritten}
 use Rattle.plain.proofs.Writing.{written-then, written-as}
 use Rattle.plain.proofs.Tasks.{part}
 use Rattle.plain.proofs.Numbers.{lines-append}
@@ -42,7 +46,8 @@ all-proper each-nil = tt
 all-proper (each-cons {a} i is) = (proper a i, all-proper is)
 
 -- the numbers of plain fields, methods and classes are those that are emitted
-lines-cons : (l : Letter) (a b : ℕ) (rs : List Record) → lines-of (written l a b ∷ rs) ≡ code l ∷ a ∷ b ∷ 0 ∷ lines-of rs
+lines-cons : (l : Letter) (a b : ℕ) (rs : List Record)
+    → lines-of (written l a b ∷ rs) ≡ code l ∷ a ∷ b ∷ 0 ∷ lines-of rs
 unfolding lines-of numbers-of
 lines-cons l a b rs = refl
 
@@ -50,34 +55,49 @@ no-lines : lines-of [] ≡ []
 unfolding lines-of numbers-of
 no-lines = refl
 
-field-types : {fs : List Field} → Each (FieldInForm of-check) fs → Each (λ (f : Field). TypeInForm (f .type)) fs
+field-types : {fs : List Field} → Each (FieldInForm of-check) fs
+    → Each (λ (f : Field). TypeInForm (f .type)) fs
 field-types each-nil = each-nil
 field-types (each-cons i is) = each-cons (i .type) (field-types is)
 
 plain-fields : (fs : List Field) → Each (λ (f : Field). TypeInForm (f .type)) fs
-    → lines-of (map (λ (f : Field). written F-field (type-number (f .type)) (f .name)) (map plain-field fs)) ≡ field-lines fs
+    → lines-of (map (λ (f : Field). written F-field (type-number (f .type)) (f .name)) (map plain-field fs))
+    ≡ field-lines fs
 unfolding lines-of numbers-of field-lines Proper
 plain-fields [] i = refl
 plain-fields (f ∷ fs) (each-cons i is) = rw (plain-fields fs is, ← proper (f .type) i)
 
 module _ (W : World) where
-  methods-plain : (k : ℕ) (ms : List Declaration) → Each (MethodInForm of-check) ms → lines-of (flatten-methods (map (plain-method W k) ms)) ≡ methods-numbers W k ms
+  methods-plain : (k : ℕ) (ms : List Declaration) → Each (MethodInForm of-check) ms
+      → lines-of (flatten-methods (map (plain-method W k) ms)) ≡ methods-numbers W k ms
   unfolding flatten-methods methods-numbers lines-of numbers-of
   methods-plain k [] i = refl
-  methods-plain k (m ∷ ms) (each-cons i is) = plain-methods W k m ms (proper (m .result) (i .result)) (all-proper (i .parameters))
+  methods-plain k (m ∷ ms) (each-cons i is) =
+      plain-methods W k m ms (proper (m .result) (i .result)) (all-proper (i .parameters))
       ∙ ap (λ (l : List ℕ). method-numbers W k m ++ l) (methods-plain k ms is)
 
-  classes-plain : (k : ℕ) (cs : List Class) → Each (ClassInForm of-check) cs → lines-of (flatten-classes (plain-classes W k cs)) ≡ classes-numbers W k cs
+  classes-plain : (k : ℕ) (cs : List Class) → Each (ClassInForm of-check) cs
+      → lines-of (flatten-classes (plain-classes W k cs)) ≡ classes-numbers W k cs
   unfolding flatten-classes plain-classes classes-numbers class-numbers
   classes-plain k [] i = no-lines
   classes-plain k (c ∷ cs) (each-cons i is) =
-      let fs = map (λ (f : Field). written F-field (type-number (f .type)) (f .name)) (map plain-field (c .fields)) in
+      let fs = map (λ (f : Field). written F-field (type-number (f .type)) (f .name))
+      (map plain-field (c .fields)) in
       let ms = flatten-methods (map (plain-method W k) (c .methods)) in
       let ds = flatten-classes (plain-classes W (suc k) cs) in
       let z : suc (suc (c .super)) ≡ c .super + 2 = omega arith in
       lines-cons C-class 0 (suc (suc (c .super))) (fs ++ (ms ++ ds))
-      ∙ rw (lines-append fs (ms ++ ds), lines-append ms ds, plain-fields (c .fields) (field-types (i .fields)), methods-plain k (c .methods) (i .methods), classes-plain (suc k) cs is, z)
-      (ap (λ (l : List ℕ). 67 ∷ 0 ∷ (c .super + 2) ∷ 0 ∷ l) (sym (append-assoc (field-lines (c .fields)) (methods-numbers W k (c .methods)) (classes-numbers W (suc k) cs))))
+      ∙ rw (
+        lines-append fs (ms ++ ds),
+        lines-append ms ds,
+        plain-fields (c .fields) (field-types (i .fields)),
+        methods-plain k (c .methods) (i .methods),
+        classes-plain (suc k) cs is,
+        z,
+      )
+      (ap (λ (l : List ℕ). 67 ∷ 0 ∷ (c .super + 2) ∷ 0 ∷ l)
+      (sym (append-assoc (field-lines (c .fields)) (methods-numbers W k (c .methods))
+      (classes-numbers W (suc k) cs))))
 
 abbrev head-numbers : List ℕ
 head-numbers = 67 ∷ 0 ∷ 0 ∷ 0 ∷ 70 ∷ 2 ∷ 255 ∷ 0 ∷ 67 ∷ 0 ∷ 0 ∷ 0 ∷ 70 ∷ 1 ∷ 254 ∷ 0 ∷ []
@@ -91,35 +111,55 @@ program-plain p i =
     let W = world (p .classes) in
     let cs = flatten-classes (plain-classes W 1 (p .classes)) in
     let st = written S-start 0 0 ∷ flatten (translate W (p .start) start-environment []) in
-    ap (λ (l : List ℕ). head-numbers ++ l) (lines-append cs st ∙ ap (λ (l : List ℕ). l ++ lines-of st) (classes-plain W 1 (p .classes) (i .classes)))
+    ap (λ (l : List ℕ). head-numbers ++ l)
+    (lines-append cs st ∙ ap (λ (l : List ℕ). l ++ lines-of st)
+    (classes-plain W 1 (p .classes) (i .classes)))
 
 program-length : (p : Program) → ProgramInForm of-check p
-    → length (program-numbers p) ≡ 16 + length (classes-numbers (world (p .classes)) 1 (p .classes)) + 4 + length (node-numbers (world (p .classes)) (p .start) start-environment [])
+    → length (program-numbers p)
+    ≡ 16 + length (classes-numbers (world (p .classes)) 1 (p .classes)) + 4 + length
+    (node-numbers (world (p .classes)) (p .start) start-environment [])
 program-length p i =
-    let a = classes-numbers (world (p .classes)) 1 (p .classes) in let b = node-numbers (world (p .classes)) (p .start) start-environment [] in
-    ap length (program-plain p i) ∙ omega (arith, length-append head-numbers (a ++ ((83 ∷ 0 ∷ 0 ∷ 0 ∷ []) ++ b)), length-append a ((83 ∷ 0 ∷ 0 ∷ 0 ∷ []) ++ b))
+    let a = classes-numbers (world (p .classes)) 1 (p .classes) in let b =
+    node-numbers (world (p .classes)) (p .start) start-environment [] in
+    ap length (program-plain p i)
+    ∙ omega (
+      arith,
+      length-append head-numbers (a ++ ((83 ∷ 0 ∷ 0 ∷ 0 ∷ []) ++ b)),
+      length-append a ((83 ∷ 0 ∷ 0 ∷ 0 ∷ []) ++ b),
+    )
 
 -- what is known of each method and of each class, put together
 module _ {p : Program} {E R T C : List ℕ} (t : ProgramTask p E R T C) where
   each-method : (k : ℕ) (ms : List Declaration) (r : ℕ) → EachMethod (λ k m r. MethodAt R E m r) ms k r
-      → EachMethod (λ k m r. LooksUp (world (p .classes)) C (m .body) (method-environment k (m .parameters)) (body-row r m)) ms k r
-      → EachMethod (λ k m r. Ready (p .classes) (m .body) (method-environment k (m .parameters)) (1 + length (m .parameters))) ms k r
+      → EachMethod (λ k m r. LooksUp (world (p .classes)) C (m .body) (method-environment k (m .parameters))
+      (body-row r m)) ms k r
+      → EachMethod (λ k m r. Ready (p .classes) (m .body) (method-environment k (m .parameters))
+      (1 + length (m .parameters))) ms k r
       → Each (MethodInForm of-check) ms → EachMethod (MethodReady (p .classes) E R C) ms k r
   unfolding EachMethod
   each-method k [] r a b c i = tt
-  each-method k (m ∷ ms) r a b c (each-cons i is) =
-      (record { rows = a .0; looks = b .0; ready = c .0; scope = omega (arith, i .few) }, each-method k ms _ (a .1) (b .1) (c .1) is)
+  each-method k (m ∷ ms) r a b c (each-cons i is) = (
+    record { rows = a .0; looks = b .0; ready = c .0; scope = omega (arith, i .few) },
+    each-method k ms _ (a .1) (b .1) (c .1) is,
+  )
 
   each-class : (k : ℕ) (cs : List Class) (r : ℕ) → EachClass (ClassAt R E) cs k r
-      → EachClass (λ k c r. EachMethod (λ k m r. LooksUp (world (p .classes)) C (m .body) (method-environment k (m .parameters)) (body-row r m))
+      → EachClass (λ k c r. EachMethod (λ k m r. LooksUp (world (p .classes)) C (m .body)
+      (method-environment k (m .parameters)) (body-row r m))
       (c .methods) k (methods-from-row r c)) cs k r
-      → EachClass (λ k c r. EachMethod (λ k m r. Ready (p .classes) (m .body) (method-environment k (m .parameters)) (1 + length (m .parameters)))
+      → EachClass (λ k c r. EachMethod (λ k m r. Ready (p .classes) (m .body)
+      (method-environment k (m .parameters)) (1 + length (m .parameters)))
       (c .methods) k (methods-from-row r c)) cs k r
       → Each (ClassInForm of-check) cs → EachClass (ClassReady (p .classes) E R C) cs k r
   unfolding EachClass
   each-class k [] r a b c i = tt
   each-class k (d ∷ ds) r a b c (each-cons i is) = (
-    record { line = a .0 .line; fields = a .0 .fields; methods = each-method k (d .methods) _ (a .0 .methods) (b .0) (c .0) (i .methods) },
+    record {
+      line = a .0 .line;
+      fields = a .0 .fields;
+      methods = each-method k (d .methods) _ (a .0 .methods) (b .0) (c .0) (i .methods);
+    },
     each-class (suc k) ds _ (a .1) (b .1) (c .1) is,
   )
 
@@ -127,15 +167,18 @@ module _ {p : Program} {E R T C : List ℕ} (t : ProgramTask p E R T C) where
   program-classes q z =
       let y : 0 + classes-lines (p .classes) ≡ classes-lines (p .classes) = omega arith in record {
         lent = t .lent;
-        classes = each-class 1 (p .classes) 0 (t .rows .classes) (t .lookups .methods) (t .ready) (t .rows .in-form .classes);
+        classes = each-class 1 (p .classes) 0 (t .rows .classes) (t .lookups .methods) (t .ready)
+            (t .rows .in-form .classes);
         start = rw y (t .rows .start-line);
         fits = omega (arith, z, t .fits, program-length p (t .rows .in-form));
       }
 
-  program-body : (b q : ℕ) → b ≡ classes-lines (p .classes) + 1 → q ≡ 16 + length (classes-numbers (world (p .classes)) 1 (p .classes)) + 4
+  program-body : (b q : ℕ) → b ≡ classes-lines (p .classes) + 1
+      → q ≡ 16 + length (classes-numbers (world (p .classes)) 1 (p .classes)) + 4
       → BodyTask (p .classes) E (p .start) start-environment [] R T C b q
   program-body b q z y =
-      let f : q + length (node-numbers (world (p .classes)) (p .start) start-environment []) ≤ most-numbers = omega (arith, y, t .fits, program-length p (t .rows .in-form)) in rw z (record {
+      let f : q + length (node-numbers (world (p .classes)) (p .start) start-environment []) ≤ most-numbers =
+      omega (arith, y, t .fits, program-length p (t .rows .in-form)) in rw z (record {
         lent = t .lent;
         encoded = t .rows .start;
         looks = t .lookups .start;
@@ -147,20 +190,27 @@ module _ {p : Program} {E R T C : List ℕ} (t : ProgramTask p E R T C) where
 
 module _ {R T C : List ℕ} where
   pub program-some-classes : SomeProgram R T C → (q : ℕ) → q ≡ 16 → SomeClasses R T C 0 q
-  program-some-classes x q z = record { P = x .p .classes; E = x .E; k = 1; cs = x .p .classes; task = program-classes (x .task) q z }
+  program-some-classes x q z =
+      record { P = x .p .classes; E = x .E; k = 1; cs = x .p .classes; task = program-classes (x .task) q z }
 
-  module _ {O O₁ O₂ : List ℕ} {q r b : ℕ} (w : Written head-numbers O O₁ 0 q) (o : ClassesEmitted R T C O₁ O₂ 0 q r b) where
+  module _ {O O₁ O₂ : List ℕ} {q r b : ℕ} (w : Written head-numbers O O₁ 0 q)
+      (o : ClassesEmitted R T C O₁ O₂ 0 q r b) where
     classes-done : {p : Program} {E : List ℕ} → ProgramTask p E R T C
-        → Written (classes-numbers (world (p .classes)) 1 (p .classes)) O₁ O₂ q r × (b ≡ classes-lines (p .classes))
+        → Written (classes-numbers (world (p .classes)) 1 (p .classes)) O₁ O₂ q r
+        × (b ≡ classes-lines (p .classes))
         × (r ≡ 16 + length (classes-numbers (world (p .classes)) 1 (p .classes)))
-    classes-done {p} {E} t = let e = o .each (p .classes) E 1 (p .classes) (program-classes t q (omega (arith, w .ended))) in
+    classes-done {p} {E} t = let e =
+        o .each (p .classes) E 1 (p .classes) (program-classes t q (omega (arith, w .ended))) in
         (part e, omega (arith, e .passed), omega (arith, e .ended, w .ended))
 
     pub program-room : SomeProgram R T C → (r + 4 ≤ most-numbers) × (b < 60000)
-    program-room x = let d = classes-done (x .task) in
-        (omega (arith, d .2, x .task .fits, program-length (x .p) (x .task .rows .in-form)), omega (arith, d .1, x .task .rows .all, x .task .rows .short))
+    program-room x = let d = classes-done (x .task) in (
+      omega (arith, d .2, x .task .fits, program-length (x .p) (x .task .rows .in-form)),
+      omega (arith, d .1, x .task .rows .all, x .task .rows .short),
+    )
 
-    pub program-some-body : {O₃ : List ℕ} {s : ℕ} → SomeProgram R T C → Written (83 ∷ 0 ∷ 0 ∷ 0 ∷ []) O₂ O₃ r s → SomeBody R T C (b + 1) s 0
+    pub program-some-body : {O₃ : List ℕ} {s : ℕ} → SomeProgram R T C
+        → Written (83 ∷ 0 ∷ 0 ∷ 0 ∷ []) O₂ O₃ r s → SomeBody R T C (b + 1) s 0
     program-some-body {O₃} {s} x v = let d = classes-done (x .task) in
         record {
           P = x .p .classes;
@@ -172,10 +222,13 @@ module _ {R T C : List ℕ} where
           counted = refl;
         }
 
-    pub program-done : {O₃ O₄ : List ℕ} {s n a : ℕ} → Written (83 ∷ 0 ∷ 0 ∷ 0 ∷ []) O₂ O₃ r s → BodyEmitted R T C O₃ O₄ (b + 1) s 0 n a → ProgramWritten R T C O O₄ n
+    pub program-done : {O₃ O₄ : List ℕ} {s n a : ℕ} → Written (83 ∷ 0 ∷ 0 ∷ 0 ∷ []) O₂ O₃ r s
+        → BodyEmitted R T C O₃ O₄ (b + 1) s 0 n a → ProgramWritten R T C O O₄ n
     program-done {O₃} {O₄} {s} {n} {a} v u = record {
       each = λ p E t.
           let d = classes-done t in
-          let e = u .each (p .classes) E (p .start) start-environment [] (program-body t (b + 1) s (omega (arith, d .1)) (omega (arith, d .2, v .ended))) refl in
-          written-as (written-then w (written-then (d .0) (written-then v (part e)))) (sym (program-plain p (t .rows .in-form)));
+          let e = u .each (p .classes) E (p .start) start-environment []
+          (program-body t (b + 1) s (omega (arith, d .1)) (omega (arith, d .2, v .ended))) refl in
+          written-as (written-then w (written-then (d .0) (written-then v (part e))))
+          (sym (program-plain p (t .rows .in-form)));
     }

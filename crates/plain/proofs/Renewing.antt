@@ -1,37 +1,52 @@
 -- Laws of R: the inner block with its copies, then the whole. Assumes nothing.
-use mathlib.Core.Path.{_≡_, refl, sym, ap, _∙_}
+use mathlib.Core.Path.{_≡_, refl, sym}
 use mathlib.Core.Logic.{_≢_}
-use mathlib.Core.List.{List, [], _∷_, _++_}
-use Prim.Native.Nat.{ℕ, zero, suc, _+_, _-_, _*_, _≤_, _<_}
+use mathlib.Core.List.{List, [], _∷_}
+use Prim.Native.Nat.{ℕ, zero, suc, _+_, _-_, _*_, _≤_}
 use native.Mathlib.Omega.{arith}
 use lib.ListN.{length, getD, length-append}
-use Rattle.language.specs.Tree.{Field, Class}
+use Rattle.language.specs.Tree.{Field}
 use Rattle.language.specs.Program.{world}
-use Rattle.plain.specs.Emission.{most-numbers, Written, Members, SomeCopies, SomeFields, CopiesWritten, RenewWritten, SomeChange, ChangeWritten}
-use Rattle.plain.specs.Emission.{copy-lines, renew-head, renew-lines, change-head, change-lines, head-length, FieldRows}
+use Rattle.plain.specs.Emission.{most-numbers, Written, SomeCopies, SomeFields, CopiesWritten}
+use Rattle.plain.specs.Emission.{RenewWritten, SomeChange, ChangeWritten}
+use Rattle.plain.specs.Emission.{copy-lines, renew-head, renew-lines, change-head, change-lines}
+use Rattle.plain.specs.Emission.{head-length}
 use Rattle.plain.proofs.Writing.{written-then, written-as}
 use Rattle.plain.proofs.Arms.{copies-length}
 
 renew-length : (n d r : ℕ) (fs : List Field) → length (renew-lines n d r fs) ≡ 56 + 16 * length fs
 unfolding renew-lines
-renew-length n d r fs = omega (arith, copies-length (n + 1) fs, length-append (copy-lines (n + 1) fs) (73 ∷ n ∷ 0 ∷ 0 ∷ []))
+renew-length n d r fs =
+    omega (arith, copies-length (n + 1) fs, length-append (copy-lines (n + 1) fs) (73 ∷ n ∷ 0 ∷ 0 ∷ []))
 
 module _ {R T : List ℕ} {place root : ℕ} where
   pub renew-known : SomeCopies R T place root
-      → (root * 576 + 576 ≤ length T) × (getD T (root * 576 + 515) 0 ≤ 17) × (place + 16 * getD T (root * 576 + 515) 0 ≤ most-numbers)
-  renew-known x = let c = x .members .counts root (x .declared) in
-      (omega (arith, x .members .long, x .declared), omega (arith, c, x .members .few root (x .declared)), omega (arith, c, x .fits))
+      → (root * 576 + 576 ≤ length T) × (getD T (root * 576 + 515) 0 ≤ 17)
+      × (place + 16 * getD T (root * 576 + 515) 0 ≤ most-numbers)
+  renew-known x = let c = x .members .counts root (x .declared) in (
+    omega (arith, x .members .long, x .declared),
+    omega (arith, c, x .members .few root (x .declared)),
+    omega (arith, c, x .fits),
+  )
 
-  pub renew-fields : SomeCopies R T place root → SomeFields R T (root * 576 + 520) (getD T (root * 576 + 515) 0)
-  renew-fields x = record { fs = world (x .P) .fields root; rows = x .members .fields root (x .declared); counted = sym (x .members .counts root (x .declared)) }
+  pub renew-fields : SomeCopies R T place root
+      → SomeFields R T (root * 576 + 520) (getD T (root * 576 + 515) 0)
+  renew-fields x = record {
+    fs = world (x .P) .fields root;
+    rows = x .members .fields root (x .declared);
+    counted = sym (x .members .counts root (x .declared));
+  }
 
-  pub copies-ended : {O O′ : List ℕ} {s p q : ℕ} → SomeCopies R T place root → CopiesWritten R T (root * 576 + 520) (getD T (root * 576 + 515) 0) s O O′ p q
+  pub copies-ended : {O O′ : List ℕ} {s p q : ℕ} → SomeCopies R T place root
+      → CopiesWritten R T (root * 576 + 520) (getD T (root * 576 + 515) 0) s O O′ p q
       → q ≡ p + 16 * getD T (root * 576 + 515) 0
   copies-ended {O} {O′} {s} x m = let y = renew-fields x in
       omega (arith, m .each (y .fs) (y .rows) (y .counted) .ended, copies-length s (y .fs), y .counted)
 
-pub renew-done : {R T O O₁ O₂ O₃ : List ℕ} {place root n d p q r : ℕ} → Written (renew-head n d root (getD T (root * 576 + 515) 0)) O O₁ place p
-    → CopiesWritten R T (root * 576 + 520) (getD T (root * 576 + 515) 0) (n + 1) O₁ O₂ p q → Written (73 ∷ n ∷ 0 ∷ 0 ∷ []) O₂ O₃ q r
+pub renew-done : {R T O O₁ O₂ O₃ : List ℕ} {place root n d p q r : ℕ}
+    → Written (renew-head n d root (getD T (root * 576 + 515) 0)) O O₁ place p
+    → CopiesWritten R T (root * 576 + 520) (getD T (root * 576 + 515) 0) (n + 1) O₁ O₂ p q
+    → Written (73 ∷ n ∷ 0 ∷ 0 ∷ []) O₂ O₃ q r
     → RenewWritten R T n d root O O₃ place r
 unfolding renew-lines
 renew-done {R} {T} {O} {O₁} {O₂} {O₃} {place} {root} {n} {d} h m l = record {
@@ -54,22 +69,38 @@ head-other {s} h = go s h
     go (suc s) h = refl
 
 module _ {R T : List ℕ} {place s d : ℕ} where
-  pub change-root : SomeChange R T place s d → (d * 576 + 576 ≤ length T) × (place + head-length s + 60 ≤ most-numbers)
+  pub change-root : SomeChange R T place s d
+      → (d * 576 + 576 ≤ length T) × (place + head-length s + 60 ≤ most-numbers)
   change-root x = (omega (arith, x .members .long, x .declared), omega (arith, x .fits))
 
-  pub change-copies : SomeChange R T place s d → (p h : ℕ) → head-length s ≡ h → p ≡ place + h → SomeCopies R T (p + 56) (getD T (d * 576 + 514) 0)
+  pub change-copies : SomeChange R T place s d → (p h : ℕ) → head-length s ≡ h → p ≡ place + h
+      → SomeCopies R T (p + 56) (getD T (d * 576 + 514) 0)
   change-copies x p h e q = let r = x .members .roots d (x .declared) in
-      rw r (record { P = x .P; members = x .members; declared = x .root-declared; fits = omega (arith, x .fits, e, q) })
+      rw r (record {
+        P = x .P;
+        members = x .members;
+        declared = x .root-declared;
+        fits = omega (arith, x .fits, e, q);
+      })
 
-  pub change-after : {O O′ : List ℕ} {n p q h : ℕ} → SomeChange R T place s d → head-length s ≡ h → p ≡ place + h
+  pub change-after : {O O′ : List ℕ} {n p q h : ℕ} → SomeChange R T place s d → head-length s ≡ h
+      → p ≡ place + h
       → RenewWritten R T n d (getD T (d * 576 + 514) 0) O O′ p q → q + 4 ≤ most-numbers
   change-after {O} {O′} {n} {p} {q} {h} x e z m =
       let r = x .members .roots d (x .declared) in
       let m′ = rw r at m in
       let w = m′ .each (x .P) (x .members) (x .root-declared) in
-      omega (arith, w .ended, renew-length n d (world (x .P) .root d) (world (x .P) .fields (world (x .P) .root d)), x .fits, e, z)
+      omega (
+        arith,
+        w .ended,
+        renew-length n d (world (x .P) .root d) (world (x .P) .fields (world (x .P) .root d)),
+        x .fits,
+        e,
+        z,
+      )
 
-pub change-done : {R T O O₁ O₂ O₃ : List ℕ} {place s n d p q r : ℕ} (xs : List ℕ) → xs ≡ change-head s n d (getD T (d * 576 + 514) 0) → Written xs O O₁ place p
+pub change-done : {R T O O₁ O₂ O₃ : List ℕ} {place s n d p q r : ℕ} (xs : List ℕ)
+    → xs ≡ change-head s n d (getD T (d * 576 + 514) 0) → Written xs O O₁ place p
     → RenewWritten R T n d (getD T (d * 576 + 514) 0) O₁ O₂ p q → Written (73 ∷ n ∷ 0 ∷ 0 ∷ []) O₂ O₃ q r
     → ChangeWritten R T s n d O O₃ place r
 unfolding change-lines
@@ -82,15 +113,19 @@ change-done {R} {T} {O} {O₁} {O₂} {O₃} {place} {s} {n} {d} {p} {q} {r} xs 
 }
 
 pub change-this : {s : ℕ} (n d r : ℕ) → s ≡ 0
-    → 66 ∷ 3 ∷ 3 ∷ 0 ∷ 86 ∷ 1 ∷ 0 ∷ 0 ∷ 86 ∷ (d + 2) ∷ 0 ∷ 0 ∷ 86 ∷ (r + 2) ∷ 0 ∷ 0 ∷ 65 ∷ n ∷ 0 ∷ 0 ∷ 71 ∷ 254 ∷ 0 ∷ 0 ∷ 73 ∷ 0 ∷ 0 ∷ 0 ∷ [] ≡ change-head s n d r
+    → 66 ∷ 3 ∷ 3 ∷ 0 ∷ 86 ∷ 1 ∷ 0 ∷ 0 ∷ 86 ∷ (d + 2) ∷ 0 ∷ 0 ∷ 86 ∷ (r + 2) ∷ 0 ∷ 0 ∷ 65 ∷ n ∷ 0 ∷ 0 ∷ 71
+    ∷ 254 ∷ 0 ∷ 0 ∷ 73 ∷ 0 ∷ 0 ∷ 0 ∷ [] ≡ change-head s n d r
 change-this n d r e = rw e refl
 
 pub change-other : {s : ℕ} (n d r : ℕ) → s ≢ 0
-    → 66 ∷ 3 ∷ 2 ∷ 0 ∷ 86 ∷ 1 ∷ 0 ∷ 0 ∷ 86 ∷ (d + 2) ∷ 0 ∷ 0 ∷ 86 ∷ (r + 2) ∷ 0 ∷ 0 ∷ 74 ∷ 0 ∷ 0 ∷ 0 ∷ 90 ∷ 0 ∷ 0 ∷ 0 ∷ 65 ∷ n ∷ 0 ∷ 0 ∷ 73 ∷ s ∷ 0 ∷ 0 ∷ 78 ∷ 0 ∷ 0 ∷ 0 ∷ []
+    → 66 ∷ 3 ∷ 2 ∷ 0 ∷ 86 ∷ 1 ∷ 0 ∷ 0 ∷ 86 ∷ (d + 2) ∷ 0 ∷ 0 ∷ 86 ∷ (r + 2) ∷ 0 ∷ 0 ∷ 74 ∷ 0 ∷ 0 ∷ 0 ∷ 90 ∷ 0
+    ∷ 0 ∷ 0 ∷ 65 ∷ n ∷ 0 ∷ 0 ∷ 73 ∷ s ∷ 0 ∷ 0 ∷ 78 ∷ 0 ∷ 0 ∷ 0 ∷ []
     ≡ change-head s n d r
 change-other {s} n d r h = go s h
   where
-    go : (s : ℕ) → s ≢ 0 → 66 ∷ 3 ∷ 2 ∷ 0 ∷ 86 ∷ 1 ∷ 0 ∷ 0 ∷ 86 ∷ (d + 2) ∷ 0 ∷ 0 ∷ 86 ∷ (r + 2) ∷ 0 ∷ 0 ∷ 74 ∷ 0 ∷ 0 ∷ 0 ∷ 90 ∷ 0 ∷ 0 ∷ 0 ∷ 65 ∷ n ∷ 0 ∷ 0 ∷ 73 ∷ s ∷ 0 ∷ 0 ∷ 78 ∷ 0 ∷ 0 ∷ 0 ∷ []
+    go : (s : ℕ) → s ≢ 0
+        → 66 ∷ 3 ∷ 2 ∷ 0 ∷ 86 ∷ 1 ∷ 0 ∷ 0 ∷ 86 ∷ (d + 2) ∷ 0 ∷ 0 ∷ 86 ∷ (r + 2) ∷ 0 ∷ 0 ∷ 74 ∷ 0 ∷ 0 ∷ 0 ∷ 90
+        ∷ 0 ∷ 0 ∷ 0 ∷ 65 ∷ n ∷ 0 ∷ 0 ∷ 73 ∷ s ∷ 0 ∷ 0 ∷ 78 ∷ 0 ∷ 0 ∷ 0 ∷ []
         ≡ change-head s n d r
     go zero h = absurd (h refl)
     go (suc s) h = refl

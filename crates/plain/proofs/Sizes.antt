@@ -1,20 +1,25 @@
 -- Every number of a program's rows is small, and there are few in its plain program.
-use mathlib.Core.Path.{_≡_, refl, sym, ap, _∙_}
-use mathlib.Core.List.{List, [], _∷_, _++_, map}
-use Prim.Native.Nat.{ℕ, zero, suc, _+_, _*_, _≤_, _<_}
+use mathlib.Core.List.{List, [], _∷_, map}
+use Prim.Native.Nat.{ℕ, zero, suc, _*_, _≤_, _<_}
 use native.Mathlib.Omega.{arith}
 use lib.ListN.{length, getD, length-map}
-use Rattle.language.specs.Limits.{of-check, of-translator, largest}
-use Rattle.language.specs.Results.{accept, passed}
-use Rattle.language.specs.Rows.{Letter, C-class, F-field, M-method, P-parameter, X-effect, S-start, B-block, V-local, T-true, L-false, N-null, I-slot}
-use Rattle.language.specs.Rows.{Z-is-null, G-get, K-cast, W-new, R-change, A-assign, U-set, Q-call, J-choose, code, Record, written, row-of, numbers-of}
-use Rattle.language.specs.Tree.{DeclaredType, type-number, Expr, literal-true, literal-false, literal-null, slot}
-use Rattle.language.specs.Tree.{is-null, get, cast, new, change, assign, set, call, choose, block, Exprs, nil, cons}
-use Rattle.language.specs.Tree.{Field, Declaration, Class, Program, flatten, flattens, flatten-methods, flatten-classes, flatten-program}
-use Rattle.language.specs.Program.{world}
-use Rattle.language.specs.WellFormed.{Each, each-nil, each-cons, TypeInForm, FieldInForm, MethodInForm, ClassInForm, ProgramInForm}
-use Rattle.language.specs.WellFormed.{NodeInForm, NodesInForm, form-true, form-false, form-null, form-slot, form-is-null, form-get, form-cast, form-new}
-use Rattle.language.specs.WellFormed.{form-change, form-assign, form-set, form-call, form-choose, form-block, form-nil, form-cons, BodyInForm, form-body}
+use Rattle.language.specs.Limits.{of-check, largest}
+use Rattle.language.specs.Rows.{Letter, C-class, F-field, M-method, P-parameter, X-effect, S-start, B-block}
+use Rattle.language.specs.Rows.{V-local, T-true, L-false, N-null, I-slot}
+use Rattle.language.specs.Rows.{Z-is-null, G-get, K-cast, W-new, R-change, A-assign, U-set, Q-call, J-choose}
+use Rattle.language.specs.Rows.{code, Record, written, row-of, numbers-of}
+use Rattle.language.specs.Tree.{DeclaredType, type-number, Expr, literal-true, literal-false, literal-null}
+use Rattle.language.specs.Tree.{slot}
+use Rattle.language.specs.Tree.{is-null, get, cast, new, change, assign, set, call, choose, block, Exprs, nil}
+use Rattle.language.specs.Tree.{cons}
+use Rattle.language.specs.Tree.{Field, Declaration, Class, Program, flatten, flattens, flatten-methods}
+use Rattle.language.specs.Tree.{flatten-classes, flatten-program}
+use Rattle.language.specs.WellFormed.{Each, each-nil, each-cons, TypeInForm, FieldInForm, MethodInForm}
+use Rattle.language.specs.WellFormed.{ClassInForm, ProgramInForm}
+use Rattle.language.specs.WellFormed.{NodeInForm, NodesInForm, form-true, form-false, form-null, form-slot}
+use Rattle.language.specs.WellFormed.{form-is-null, form-get, form-cast, form-new}
+use Rattle.language.specs.WellFormed.{form-change, form-assign, form-set, form-call, form-choose, form-block}
+use Rattle.language.specs.WellFormed.{form-nil, form-cons, BodyInForm, form-body}
 use Rattle.language.specs.Translation.{plain-program}
 use Rattle.language.specs.ClassTables.{ClassTables}
 use Rattle.language.specs.Layout.{ProgramAt, LooksUpProgram}
@@ -24,7 +29,7 @@ use Rattle.theory.specs.Accepts.{RowsOf, numbers-count}
 use Rattle.theory.specs.Translatable.{TranslatableRows, taken-laws}
 use Rattle.theory.specs.PlainNames.{small-world}
 use Rattle.theory.specs.PlainSizes.{program-size}
-use Rattle.plain.specs.Emission.{most-numbers, program-numbers, Lent, ProgramTask}
+use Rattle.plain.specs.Emission.{most-numbers, program-numbers, ProgramTask}
 use Rattle.plain.proofs.Accepted.{classes-ready, start-ready}
 use Rattle.plain.proofs.Tabled.{members}
 
@@ -44,7 +49,8 @@ named {n} h = omega (arith, h)
 none : {l : Letter} {a : ℕ} → a ≤ largest → SmallRecord (written l a 0)
 none p = one p nought
 
-each-type : (l : Letter) {ts : List DeclaredType} → Each TypeInForm ts → Each SmallRecord (map (λ t. written l (type-number t) 0) ts)
+each-type : (l : Letter) {ts : List DeclaredType} → Each TypeInForm ts
+    → Each SmallRecord (map (λ t. written l (type-number t) 0) ts)
 each-type l each-nil = each-nil
 each-type l (each-cons i is) = each-cons (none (i .small)) (each-type l is)
 
@@ -62,8 +68,10 @@ mutual
   node-small (new c) (form-new p) = each-cons (none p) each-nil
   node-small (change k c) (form-change p q) = each-cons (one p q) each-nil
   node-small (assign k e) (form-assign p i) = each-cons (none p) (node-small e i)
-  node-small (set f e e′) (form-set p i j) = each-cons (none (named p)) (each-append (node-small e i) (node-small e′ j))
-  node-small (call m e es) (form-call p q i is) = each-cons (one (named p) q) (each-append (node-small e i) (nodes-small es is))
+  node-small (set f e e′) (form-set p i j) =
+      each-cons (none (named p)) (each-append (node-small e i) (node-small e′ j))
+  node-small (call m e es) (form-call p q i is) =
+      each-cons (one (named p) q) (each-append (node-small e i) (nodes-small es is))
   node-small (choose a b c) (form-choose i j k) =
       each-cons (none nought) (each-append (node-small a i) (each-append (node-small b j) (node-small c k)))
   node-small (block ts es) {n = n} (form-block p q r ts-formed is) =
@@ -77,18 +85,22 @@ mutual
 body-small : {n : ℕ} {e : Expr} → BodyInForm of-check n e → Each SmallRecord (flatten e)
 body-small (form-body {ts} {es} i) = node-small (block ts es) i
 
-effects-small : {cs : List ℕ} → Each (λ c. c ≤ largest) cs → Each SmallRecord (map (λ c. written X-effect c 0) cs)
+effects-small : {cs : List ℕ} → Each (λ c. c ≤ largest) cs
+    → Each SmallRecord (map (λ c. written X-effect c 0) cs)
 effects-small each-nil = each-nil
 effects-small (each-cons i is) = each-cons (none i) (effects-small is)
 
-methods-small : {ms : List Declaration} → Each (MethodInForm of-check) ms → Each SmallRecord (flatten-methods ms)
+methods-small : {ms : List Declaration} → Each (MethodInForm of-check) ms
+    → Each SmallRecord (flatten-methods ms)
 unfolding flatten-methods
 methods-small each-nil = each-nil
 methods-small (each-cons i is) =
     each-cons (one (i .result .small) (named (i .name)))
-    (each-append (each-type P-parameter (i .parameters)) (each-append (effects-small (i .effects)) (each-append (body-small (i .body)) (methods-small is))))
+    (each-append (each-type P-parameter (i .parameters))
+    (each-append (effects-small (i .effects)) (each-append (body-small (i .body)) (methods-small is))))
 
-fields-small : {fs : List Field} → Each (FieldInForm of-check) fs → Each SmallRecord (map (λ (f : Field). written F-field (type-number (f .type)) (f .name)) fs)
+fields-small : {fs : List Field} → Each (FieldInForm of-check) fs
+    → Each SmallRecord (map (λ (f : Field). written F-field (type-number (f .type)) (f .name)) fs)
 fields-small each-nil = each-nil
 fields-small (each-cons i is) = each-cons (one (i .type .small) (named (i .name))) (fields-small is)
 
@@ -96,7 +108,8 @@ classes-small : {cs : List Class} → Each (ClassInForm of-check) cs → Each Sm
 unfolding flatten-classes
 classes-small each-nil = each-nil
 classes-small (each-cons i is) =
-    each-cons (one (i .kind-small) (i .super)) (each-append (fields-small (i .fields)) (each-append (methods-small (i .methods)) (classes-small is)))
+    each-cons (one (i .kind-small) (i .super))
+    (each-append (fields-small (i .fields)) (each-append (methods-small (i .methods)) (classes-small is)))
 
 program-small : (p : Program) → ProgramInForm of-check p → Each SmallRecord (flatten-program p)
 unfolding flatten-program
@@ -125,7 +138,8 @@ code-small U-set = omega arith
 code-small Q-call = omega arith
 code-small J-choose = omega arith
 
-numbers-small : (xs : List Record) → Each SmallRecord xs → (i : ℕ) → getD (numbers-of (map row-of xs)) i 0 < 65536
+numbers-small : (xs : List Record) → Each SmallRecord xs → (i : ℕ)
+    → getD (numbers-of (map row-of xs)) i 0 < 65536
 unfolding numbers-of
 numbers-small [] h i = omega arith
 numbers-small (x ∷ xs) (each-cons s h) zero = code-small (x .letter)
@@ -141,16 +155,28 @@ rows-small R p r i = rw (← r .rows) (numbers-small (flatten-program p) (progra
 plain-fits : (R : List ℕ) (p : Program) → TranslatableRows R p → length (program-numbers p) ≤ most-numbers
 plain-fits R p t =
     let s = program-size p (t .accepted .well) (small-world p (t .in-form) (taken-laws R p t)) in
-    omega (arith, s, t .in-form .rows, numbers-count (map row-of (flatten-program (plain-program p))), length-map (flatten-program (plain-program p)) row-of)
+    omega (
+      arith,
+      s,
+      t .in-form .rows,
+      numbers-count (map row-of (flatten-program (plain-program p))),
+      length-map (flatten-program (plain-program p)) row-of,
+    )
 
 -- all that the translation of rows goes by, where the translator takes them
-pub program-task : (R E T A C : List ℕ) (p : Program) → TranslatableRows R p → ProgramAt R E p → ClassTables (p .classes) T A → LooksUpProgram C p
+pub program-task : (R E T A C : List ℕ) (p : Program) → TranslatableRows R p → ProgramAt R E p
+    → ClassTables (p .classes) T A → LooksUpProgram C p
     → length R ≤ length C * 4 → ProgramTask p E R T C
 program-task R E T A C p t rows tables looks beside =
     let laws = well-formed-more p (t .accepted .well) in let form = t .accepted .in-form .classes in record {
       rows = rows;
       lookups = looks;
-      lent = record { members = members p rows tables laws; small = λ i. rows-small R p (t .accepted) i; beside = beside; short = rows .short };
+      lent = record {
+        members = members p rows tables laws;
+        small = λ i. rows-small R p (t .accepted) i;
+        beside = beside;
+        short = rows .short;
+      };
       ready = classes-ready (p .classes) form laws (t .accepted .well .classes) (t .in-form .classes) 0;
       start = start-ready (p .classes) form laws (t .accepted .well .start) (t .in-form .start);
       fits = plain-fits R p t;

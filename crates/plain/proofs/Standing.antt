@@ -1,18 +1,21 @@
 -- Laws of methods and classes that stand in rows: the rows of their parts, and the row after each. Assumes nothing.
-use mathlib.Core.Path.{_≡_, refl, sym, ap, _∙_}
-use mathlib.Core.Logic.{_⊎_, inl, inr, _≢_}
+use mathlib.Core.Path.{_≡_, refl, sym, _∙_}
+use mathlib.Core.Logic.{inl, inr, _≢_}
 use mathlib.Core.List.{List, [], _∷_}
-use Prim.Native.Nat.{ℕ, zero, suc, _+_, _-_, _*_, _≤_, _<_}
+use Prim.Native.Nat.{ℕ, suc, _+_, _-_, _*_, _≤_, _<_}
 use native.Mathlib.Omega.{arith}
 use lib.ListN.{length, getD}
 use Rattle.language.specs.Tree.{DeclaredType, Expr, literal-true, literal-false, literal-null, slot}
 use Rattle.language.specs.Tree.{is-null, get, cast, new, change, assign, set, call, choose, block}
-use Rattle.language.specs.Tree.{Declaration, Class, size, method-lines, heading-lines, methods-lines, class-lines, classes-lines}
+use Rattle.language.specs.Tree.{Declaration, Class, size, method-lines, heading-lines, methods-lines}
+use Rattle.language.specs.Tree.{class-lines, classes-lines}
 use Rattle.language.specs.Encoded.{Encoded}
 use Rattle.language.specs.Layout as layout
-use Rattle.language.specs.Layout.{EachMethod, EachClass, EffectsAt, MethodAt, ClassAt, effects-row, body-row, methods-from-row}
+use Rattle.language.specs.Layout.{EachMethod, EachClass, EffectsAt, MethodAt, ClassAt, effects-row, body-row}
+use Rattle.language.specs.Layout.{methods-from-row}
 use Rattle.plain.specs.Emission.{code-of, ParametersAt, ClassEnd, Skipped, SomeFieldLines}
-use Rattle.plain.specs.Bounds.{MethodsStand, ClassesStand, SomeMethodsStand, SomeClassesStand, MethodsPassed}
+use Rattle.plain.specs.Bounds.{MethodsStand, ClassesStand, SomeMethodsStand, SomeClassesStand}
+use Rattle.plain.specs.Bounds.{MethodsPassed}
 use Rattle.plain.proofs.Tasks.{node-at, size-positive}
 use Rattle.plain.proofs.Skips.{parameters-run, effects-run, fields-run, skipped-at}
 
@@ -45,22 +48,31 @@ after-effects {R} {E} {m} {r} x = let n = node-at R E (body-row r m) (m .body) (
 after-parameters : {R E : List ℕ} {m : Declaration} {r : ℕ} → MethodAt R E m r
     → (effects-row r m * 4 + 3 < length R) × (getD R (effects-row r m * 4) 0 ≢ 80)
 unfolding EffectsAt
-after-parameters {R} {E} {m} {r} x = go (m .effects) (x .effects) (effects-row r m + length (m .effects)) refl (x .body)
+after-parameters {R} {E} {m} {r} x =
+    go (m .effects) (x .effects) (effects-row r m + length (m .effects)) refl (x .body)
   where
-    go : (cs : List ℕ) → EffectsAt R cs (effects-row r m) → (b : ℕ) → b ≡ effects-row r m + length cs → Encoded R E (m .body) b
+    go : (cs : List ℕ) → EffectsAt R cs (effects-row r m) → (b : ℕ) → b ≡ effects-row r m + length cs
+        → Encoded R E (m .body) b
         → (effects-row r m * 4 + 3 < length R) × (getD R (effects-row r m * 4) 0 ≢ 80)
     go [] h b z n = let y : b ≡ effects-row r m = omega (arith, z) in let n = node-at R E b (m .body) n in
         rw (← y) (n .0, other-letter (n .1) (node-letter (m .body) .0))
     go (c ∷ cs) h b z n = (h .0 .within, other-letter (h .0 .letter) (omega arith))
 
-pub method-rows : {R E : List ℕ} {m : Declaration} {r x b : ℕ} → MethodAt R E m r → Skipped R 80 (r + 1) x → Skipped R 88 x b
+pub method-rows : {R E : List ℕ} {m : Declaration} {r x b : ℕ} → MethodAt R E m r → Skipped R 80 (r + 1) x
+    → Skipped R 88 x b
     → (x ≡ effects-row r m) × (b ≡ body-row r m)
 method-rows {R} {E} {m} {r} {x} {b} t s u =
     let p = after-parameters t in let q = after-effects t in
-    let z : x ≡ effects-row r m = skipped-at s (length (m .parameters)) (parameters-run R (m .parameters) (r + 1) (t .parameters)) (p .0) (p .1) in
-    (z, skipped-at (rw z at u) (length (m .effects)) (effects-run R (m .effects) (effects-row r m) (t .effects)) (q .0) (q .1))
+    let z : x ≡ effects-row r m =
+    skipped-at s (length (m .parameters)) (parameters-run R (m .parameters) (r + 1) (t .parameters))
+    (p .0) (p .1) in (
+      z,
+      skipped-at (rw z at u) (length (m .effects))
+          (effects-run R (m .effects) (effects-row r m) (t .effects)) (q .0) (q .1),
+    )
 
-pub parameters-rows : (R : List ℕ) (ts : List DeclaredType) (r : ℕ) → layout.ParametersAt R ts r → ParametersAt R ts r
+pub parameters-rows : (R : List ℕ) (ts : List DeclaredType) (r : ℕ) → layout.ParametersAt R ts r
+    → ParametersAt R ts r
 unfolding ParametersAt layout.ParametersAt
 parameters-rows R [] r h = tt
 parameters-rows R (t ∷ ts) r h = (h .0 .within, h .0 .first, parameters-rows R ts (r + 1) (h .1))
@@ -74,7 +86,8 @@ unfolding class-lines
 class-positive c = omega arith
 
 -- where a node ends
-node-ends : (R E : List ℕ) (at : ℕ) (e : Expr) → Encoded R E e at → (at < length E) × (getD E at 0 ≡ at + size e)
+node-ends : (R E : List ℕ) (at : ℕ) (e : Expr)
+    → Encoded R E e at → (at < length E) × (getD E at 0 ≡ at + size e)
 unfolding Encoded size
 node-ends R E at literal-true h = (h .in-ends, h .end)
 node-ends R E at literal-false h = (h .in-ends, h .end)
@@ -101,22 +114,28 @@ module _ {R E : List ℕ} {at : ℕ} where
   stand-row [] t = end-at {b = at} (t .after) (omega arith) .within
   stand-row (m ∷ ms) t = t .methods .0 .line .within
 
-  stand-first : {k : ℕ} (m : Declaration) (ms : List Declaration) → MethodsStand R E k (m ∷ ms) at → (x b : ℕ) → Skipped R 80 (at + 1) x → Skipped R 88 x b
+  stand-first : {k : ℕ} (m : Declaration) (ms : List Declaration) → MethodsStand R E k (m ∷ ms) at → (x b : ℕ)
+      → Skipped R 80 (at + 1) x → Skipped R 88 x b
       → (b < length E) × (getD E b 0 ≡ at + method-lines m)
   unfolding EachMethod method-lines heading-lines
   stand-first m ms t x b s u =
-      let y = t .methods .0 in let z = method-rows y s u .1 in let n = node-ends R E (body-row at m) (m .body) (y .body) in
+      let y = t .methods .0 in let z = method-rows y s u .1 in let n =
+      node-ends R E (body-row at m) (m .body) (y .body) in
       rw z (n .0, n .1 ∙ omega arith)
 
-  stand-rest : {k : ℕ} (m : Declaration) (ms : List Declaration) → MethodsStand R E k (m ∷ ms) at → (b : ℕ) → b ≡ at + method-lines m → MethodsStand R E k ms b
+  stand-rest : {k : ℕ} (m : Declaration) (ms : List Declaration) → MethodsStand R E k (m ∷ ms) at → (b : ℕ)
+      → b ≡ at + method-lines m → MethodsStand R E k ms b
   unfolding EachMethod methods-lines
-  stand-rest m ms t b z = rw z (record { methods = t .methods .1; after = end-at (t .after) (omega arith); short = t .short })
+  stand-rest m ms t b z =
+      rw z (record { methods = t .methods .1; after = end-at (t .after) (omega arith); short = t .short })
 
   pub no-method : {k : ℕ} → MethodsStand R E k [] at → getD R (at * 4) 0 ≡ 77 → ⊥
   unfolding methods-lines
-  no-method t h = elim (end-at {b = at} (t .after) (omega arith) .letter) [ inl e ↦ omega (arith, e, h) | inr e ↦ omega (arith, e, h) ]
+  no-method t h = elim (end-at {b = at} (t .after) (omega arith) .letter)
+      [ inl e ↦ omega (arith, e, h) | inr e ↦ omega (arith, e, h) ]
 
-  with-method : {D : Type 0} {k : ℕ} (ms : List Declaration) → getD R (at * 4) 0 ≡ 77 → MethodsStand R E k ms at
+  with-method : {D : Type 0} {k : ℕ} (ms : List Declaration) → getD R (at * 4) 0 ≡ 77
+      → MethodsStand R E k ms at
       → ((m : Declaration) (ms : List Declaration) → MethodsStand R E k (m ∷ ms) at → D) → D
   with-method [] h t f = absurd (no-method t h)
   with-method (m ∷ ms) h t f = f m ms t
@@ -137,8 +156,10 @@ module _ {R E : List ℕ} {at : ℕ} where
     stand-in y = with-method (y .ms) h (y .stand) λ m ms t. stand-first m ms t x b s u .0
 
     pub stand-next : SomeMethodsStand R E at → SomeMethodsStand R E (getD E b 0) × (at < getD E b 0)
-    stand-next y = with-method (y .ms) h (y .stand) λ m ms t. let z = stand-first m ms t x b s u .1 in
-        (record { k = y .k; ms = ms; stand = stand-rest m ms t (getD E b 0) z }, omega (arith, z, lines-positive m))
+    stand-next y = with-method (y .ms) h (y .stand) λ m ms t. let z = stand-first m ms t x b s u .1 in (
+      record { k = y .k; ms = ms; stand = stand-rest m ms t (getD E b 0) z },
+      omega (arith, z, lines-positive m),
+    )
 
     pub stand-step : {q : ℕ} → MethodsPassed R E (getD E b 0) q → MethodsPassed R E at q
     unfolding methods-lines
@@ -156,40 +177,61 @@ module _ {R E : List ℕ} {at : ℕ} where
   class-row [] t = let z : at + 0 ≡ at = omega arith in let w = t .start .within in rw z at w
   class-row (c ∷ cs) t = t .classes .0 .line .within
 
-  pub class-end : {k : ℕ} (c : Class) (cs : List Class) → ClassesStand R E k (c ∷ cs) at → ClassEnd R (at + class-lines c)
+  pub class-end : {k : ℕ} (c : Class) (cs : List Class)
+      → ClassesStand R E k (c ∷ cs) at → ClassEnd R (at + class-lines c)
   unfolding EachClass classes-lines
-  class-end {k} c cs t = go cs (t .classes .1) (at + (class-lines c + classes-lines cs)) (omega arith) (t .start .within) (t .start .letter)
+  class-end {k} c cs t =
+      go cs (t .classes .1) (at + (class-lines c + classes-lines cs)) (omega arith) (t .start .within)
+      (t .start .letter)
     where
-      go : (cs : List Class) → EachClass (ClassAt R E) cs (suc k) (at + class-lines c) → (b : ℕ) → b ≡ at + class-lines c + classes-lines cs
+      go : (cs : List Class) → EachClass (ClassAt R E) cs (suc k) (at + class-lines c) → (b : ℕ)
+          → b ≡ at + class-lines c + classes-lines cs
           → b * 4 + 3 < length R → getD R (b * 4) 0 ≡ 83 → ClassEnd R (at + class-lines c)
-      go [] h b z w e = let y : b ≡ at + class-lines c = omega (arith, z) in rw (← y) (record { within = w; letter = inr e })
+      go [] h b z w e = let y : b ≡ at + class-lines c = omega (arith, z) in
+          rw (← y) (record { within = w; letter = inr e })
       go (d ∷ ds) h b z w e = record { within = h .0 .line .within; letter = inl (h .0 .line .letter) }
 
   -- the methods of a class, and the row after its fields
-  pub methods-of : {k : ℕ} (c : Class) → ClassAt R E k c at → ClassEnd R (at + class-lines c) → length R ≤ 240000 → MethodsStand R E k (c .methods) (methods-from-row at c)
+  pub methods-of : {k : ℕ} (c : Class) → ClassAt R E k c at → ClassEnd R (at + class-lines c)
+      → length R ≤ 240000 → MethodsStand R E k (c .methods) (methods-from-row at c)
   unfolding class-lines
   methods-of c t w h = record { methods = t .methods; after = end-at w (omega arith); short = h }
 
-  pub first-of : {k r : ℕ} (c : Class) → ClassAt R E k c at → MethodsStand R E k (c .methods) (methods-from-row at c) → Skipped R 70 (at + 1) r → r ≡ methods-from-row at c
+  pub first-of : {k r : ℕ} (c : Class)
+      → ClassAt R E k c at → MethodsStand R E k (c .methods) (methods-from-row at c) → Skipped R 70 (at + 1) r
+      → r ≡ methods-from-row at c
   unfolding EachMethod methods-lines
   first-of {k} c t u s = let w = other (c .methods) u in
       skipped-at s (length (c .fields)) (fields-run R (c .fields) (at + 1) (t .fields)) (w .0) (w .1)
     where
       other : (ms : List Declaration) → MethodsStand R E k ms (methods-from-row at c)
           → (methods-from-row at c * 4 + 3 < length R) × (getD R (methods-from-row at c * 4) 0 ≢ 70)
-      other [] h = let w = end-at {b = methods-from-row at c} (h .after) (omega arith) in
-          (w .within, elim (w .letter) [ inl e ↦ other-letter e (omega arith) | inr e ↦ other-letter e (omega arith) ])
-      other (m ∷ ms) h = (h .methods .0 .line .within, other-letter (h .methods .0 .line .letter) (omega arith))
+      other [] h = let w = end-at {b = methods-from-row at c} (h .after) (omega arith) in (
+        w .within,
+        elim (w .letter) [
+          | inl e ↦ other-letter e (omega arith)
+          | inr e ↦ other-letter e
+              (omega arith)
+        ],
+      )
+      other (m ∷ ms) h = (
+        h .methods .0 .line .within,
+        other-letter (h .methods .0 .line .letter)
+            (omega arith),
+      )
 
-  class-methods : {k : ℕ} (c : Class) (cs : List Class) → ClassesStand R E k (c ∷ cs) at → MethodsStand R E k (c .methods) (methods-from-row at c)
+  class-methods : {k : ℕ} (c : Class) (cs : List Class)
+      → ClassesStand R E k (c ∷ cs) at → MethodsStand R E k (c .methods) (methods-from-row at c)
   unfolding EachClass
   class-methods c cs t = methods-of c (t .classes .0) (class-end c cs t) (t .short)
 
-  pub first-row : {k r : ℕ} (c : Class) (cs : List Class) → ClassesStand R E k (c ∷ cs) at → Skipped R 70 (at + 1) r → r ≡ methods-from-row at c
+  pub first-row : {k r : ℕ} (c : Class) (cs : List Class)
+      → ClassesStand R E k (c ∷ cs) at → Skipped R 70 (at + 1) r → r ≡ methods-from-row at c
   unfolding EachClass
   first-row c cs t s = first-of c (t .classes .0) (class-methods c cs t) s
 
-  pub class-rest : {k : ℕ} (c : Class) (cs : List Class) → ClassesStand R E k (c ∷ cs) at → (b : ℕ) → b ≡ at + class-lines c → ClassesStand R E (suc k) cs b
+  pub class-rest : {k : ℕ} (c : Class) (cs : List Class) → ClassesStand R E k (c ∷ cs) at → (b : ℕ)
+      → b ≡ at + class-lines c → ClassesStand R E (suc k) cs b
   unfolding EachClass classes-lines
   class-rest c cs t b z =
       let a : at + (class-lines c + classes-lines cs) ≡ at + class-lines c + classes-lines cs = omega arith in
@@ -197,9 +239,11 @@ module _ {R E : List ℕ} {at : ℕ} where
 
   pub no-class : {k : ℕ} → ClassesStand R E k [] at → getD R (at * 4) 0 ≡ 67 → ⊥
   unfolding classes-lines
-  no-class t h = let z : at + 0 ≡ at = omega arith in let w = t .start in let w = rw z at w in omega (arith, w .letter, h)
+  no-class t h = let z : at + 0 ≡ at = omega arith in let w = t .start in let w = rw z at w in
+      omega (arith, w .letter, h)
 
-  pub not-class : {k : ℕ} (c : Class) (cs : List Class) → ClassesStand R E k (c ∷ cs) at → getD R (at * 4) 0 ≢ 67 → ⊥
+  pub not-class : {k : ℕ} (c : Class) (cs : List Class)
+      → ClassesStand R E k (c ∷ cs) at → getD R (at * 4) 0 ≢ 67 → ⊥
   unfolding EachClass
   not-class c cs t h = h (t .classes .0 .line .letter)
 
@@ -209,13 +253,16 @@ module _ {R E : List ℕ} {at : ℕ} where
   with-class (c ∷ cs) h t f = f c cs t
 
   -- the row after a class
-  pub class-passed : {k r q : ℕ} (c : Class) (cs : List Class) → ClassesStand R E k (c ∷ cs) at → Skipped R 70 (at + 1) r → MethodsPassed R E r q → q ≡ at + class-lines c
+  pub class-passed : {k r q : ℕ} (c : Class) (cs : List Class)
+      → ClassesStand R E k (c ∷ cs) at → Skipped R 70 (at + 1) r → MethodsPassed R E r q
+      → q ≡ at + class-lines c
   unfolding class-lines
   class-passed {k} {r} {q} c cs t s p = let z = first-row c cs t s in
       omega (arith, z, p .each k (c .methods) (rw (sym z) at (class-methods c cs t)))
 
   pub class-known : SomeClassesStand R E at → (at * 4 + 3 < length R) × (at < 60000) × (length R ≤ 240000)
-  class-known x = let r = class-row (x .cs) (x .stand) in (r, omega (arith, r, x .stand .short), x .stand .short)
+  class-known x = let r = class-row (x .cs) (x .stand) in
+      (r, omega (arith, r, x .stand .short), x .stand .short)
 
   module _ {r : ℕ} (s : Skipped R 70 (at + 1) r) (h : getD R (at * 4) 0 ≡ 67) where
     pub class-fields : (n : ℕ) → n ≡ r - at - 1 → SomeClassesStand R E at → SomeFieldLines R (at + 1) n
@@ -227,6 +274,9 @@ module _ {R E : List ℕ} {at : ℕ} where
     class-stand y = with-class (y .cs) h (y .stand) λ c cs t. let e = first-row c cs t s in
         record { k = y .k; ms = c .methods; stand = rw e (class-methods c cs t) }
 
-    pub class-next : {q : ℕ} → MethodsPassed R E r q → SomeClassesStand R E at → SomeClassesStand R E q × (at < q)
-    class-next {q} p y = with-class (y .cs) h (y .stand) λ c cs t. let z = class-passed c cs t s p in
-        (record { k = suc (y .k); cs = cs; stand = class-rest c cs t q z }, omega (arith, z, class-positive c))
+    pub class-next : {q : ℕ} → MethodsPassed R E r q
+        → SomeClassesStand R E at → SomeClassesStand R E q × (at < q)
+    class-next {q} p y = with-class (y .cs) h (y .stand) λ c cs t. let z = class-passed c cs t s p in (
+      record { k = suc (y .k); cs = cs; stand = class-rest c cs t q z },
+      omega (arith, z, class-positive c),
+    )

@@ -1,16 +1,14 @@
 -- What the tables of classes tell of members, where the program stands in rows.
 use mathlib.Core.Path.{_≡_, refl, sym, ap, _∙_}
-use mathlib.Core.Option.{Option, none, some}
+use mathlib.Core.Option.{Option, some}
 use mathlib.Core.List.{List, [], _∷_}
-use Prim.Native.Nat.{ℕ, zero, suc, _+_, _*_, _≤_, _<_}
+use Prim.Native.Nat.{ℕ, suc, _+_, _*_, _≤_, _<_}
 use native.Mathlib.Omega.{arith}
 use lib.ListN.{length, getD}
 use Rattle.language.specs.Lists.{nth, inj, All2, a-nil, a-cons}
-use Rattle.language.specs.Rows.{F-field}
-use Rattle.language.specs.Tree.{type-number, Field, Class, Program}
+use Rattle.language.specs.Tree.{Field, Program}
 use Rattle.language.specs.World.{Method}
 use Rattle.language.specs.Program.{world}
-use Rattle.language.specs.Encoded.{RowAt}
 use Rattle.language.specs.ClassTables.{ClassTables, stored-place, field-rows, method-row}
 use Rattle.language.specs.Layout.{ProgramAt}
 use Rattle.theory.specs.MoreLookups.{MoreLaws}
@@ -20,7 +18,8 @@ use Rattle.plain.proofs.Standing.{parameters-rows}
 
 -- fields whose rows the table has
 fields-tabled : (R T : List ℕ) (fs : List Field) (rs : List ℕ) (at : ℕ) → All2 (FieldHere R) fs rs
-    → ((i r : ℕ) → nth rs i ≡ some r → getD T (at + i) 0 ≡ r) → at + length fs ≤ length T → FieldRows R T fs at
+    → ((i r : ℕ) → nth rs i ≡ some r → getD T (at + i) 0 ≡ r) → at + length fs ≤ length T
+    → FieldRows R T fs at
 unfolding FieldRows nth
 fields-tabled R T [] [] at a-nil t l = tt
 fields-tabled R T (f ∷ fs) (r ∷ rs) at (a-cons h hs) t l =
@@ -28,27 +27,34 @@ fields-tabled R T (f ∷ fs) (r ∷ rs) at (a-cons h hs) t l =
     let e : getD T at 0 ≡ r = rw z at (t 0 r refl) in (
       omega (arith, l),
       rw e (h .line),
-      fields-tabled R T fs rs (at + 1) hs (λ i q u. let y : at + 1 + i ≡ at + suc i = omega arith in rw y (t (suc i) q u)) (omega (arith, l)),
+      fields-tabled R T fs rs (at + 1) hs
+          (λ i q u. let y : at + 1 + i ≡ at + suc i = omega arith in rw y (t (suc i) q u)) (omega (arith, l)),
     )
 
-pub members : {R E T A : List ℕ} (p : Program) → ProgramAt R E p → ClassTables (p .classes) T A → MoreLaws (world (p .classes)) → Members (p .classes) R T
+pub members : {R E T A : List ℕ} (p : Program) → ProgramAt R E p → ClassTables (p .classes) T A
+    → MoreLaws (world (p .classes)) → Members (p .classes) R T
 members {R} {E} {T} {A} p h t laws = record {
   long = t .long;
   few = λ k l. laws .few-fields k;
   roots = λ k l. t .roots k l;
   counts = λ k l. t .counts k l;
   places = λ k f l m. t .places k f l m;
-  fields = λ k l. fields-tabled R T (world (p .classes) .fields k) (field-rows (p .classes) k) (k * 576 + 520) (all-fields-here h k)
+  fields = λ k l. fields-tabled R T (world (p .classes) .fields k) (field-rows (p .classes) k) (k * 576 + 520)
+      (all-fields-here h k)
       (λ i r e. t .rows k i r l e) (omega (arith, t .long, laws .few-fields k, l));
   methods = λ k m M l n e. method k m M l n e;
 }
   where
-    method : (k m : ℕ) (M : Method) → k ≤ length (p .classes) → m < 256 → world (p .classes) .method k m ≡ some M
+    method : (k m : ℕ) (M : Method) → k ≤ length (p .classes) → m < 256
+        → world (p .classes) .method k m ≡ some M
         → ParametersAt R (M .parameters) (getD T (k * 576 + 256 + m) 0)
     method k m M l n e = let x = row-some (p .classes) k m M e in there (x .0) (x .1)
       where
-        there : (r : ℕ) → method-row (p .classes) k m ≡ some r → ParametersAt R (M .parameters) (getD T (k * 576 + 256 + m) 0)
+        there : (r : ℕ) → method-row (p .classes) k m ≡ some r
+            → ParametersAt R (M .parameters) (getD T (k * 576 + 256 + m) 0)
         there r q =
             let y = method-here h k m r q in
-            let z : getD T (k * 576 + 256 + m) 0 ≡ r + 1 = t .methods k m l n ∙ (ap (λ (o : Option ℕ). stored-place o) q ∙ omega arith) in
-            rw (z, ← inj (sym (y .row .found) ∙ e)) (parameters-rows R (y .row .declaration .parameters) (r + 1) (y .at .parameters))
+            let z : getD T (k * 576 + 256 + m) 0 ≡ r + 1 = t .methods k m l n
+            ∙ (ap (λ (o : Option ℕ). stored-place o) q ∙ omega arith) in
+            rw (z, ← inj (sym (y .row .found) ∙ e))
+            (parameters-rows R (y .row .declaration .parameters) (r + 1) (y .at .parameters))

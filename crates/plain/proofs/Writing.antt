@@ -1,13 +1,13 @@
 -- Laws of writing numbers from a place on, step by step. Assumes nothing.
-use mathlib.Core.Path.{_≡_, refl, sym, ap, _∙_}
-use mathlib.Core.List.{List, [], _∷_, _++_, append-assoc}
-use Prim.Native.Nat.{ℕ, suc, _+_, _-_, _≤_, _<_}
+use mathlib.Core.Path.{_≡_, refl, ap, _∙_}
+use mathlib.Core.List.{List, [], _∷_, _++_}
+use Prim.Native.Nat.{ℕ, _+_, _-_, _≤_, _<_}
 use native.Mathlib.Numerals.{add-one}
 use native.Mathlib.Omega.{arith}
 use lib.ListN.{length, getD, take, set, length-set, length-append}
 use lib.Seq.{sets, length-sets, length-take-le, take-suc, take-all}
 use Rattle.language.proofs.Filling.{sets-then}
-use Rattle.plain.specs.Emission.{Written, Emitted}
+use Rattle.plain.specs.Emission.{Written}
 
 -- the first i of the numbers are written
 pub record Putting (O O′ xs : List ℕ) (place i : ℕ) : Type 0 where
@@ -23,12 +23,14 @@ pub putting-step : {O O′ xs : List ℕ} {place i : ℕ} {O″ : List ℕ} → 
 putting-step {O} {O′} {xs} {place} {i} p h e = record {
   within = omega arith;
   content = e ∙ ap (λ (l : List ℕ). set l (place + i) (getD xs i 0)) (p .content)
-      ∙ sets-then O place (place + i) (take i xs) (getD xs i 0 ∷ []) (let z : length (take i xs) ≡ i = length-take-le i xs (omega arith) in omega (arith, z))
+      ∙ sets-then O place (place + i) (take i xs) (getD xs i 0 ∷ [])
+      (let z : length (take i xs) ≡ i = length-take-le i xs (omega arith) in omega (arith, z))
       ∙ rw (add-one i, take-suc xs i 0 h);
   long = rw e (simp length-set (p .long));
 }
 
-pub putting-end : {O O′ xs : List ℕ} {place i : ℕ} → Putting O O′ xs place i → length xs ≤ i → Written xs O O′ place (place + i)
+pub putting-end : {O O′ xs : List ℕ} {place i : ℕ} → Putting O O′ xs place i → length xs ≤ i
+    → Written xs O O′ place (place + i)
 putting-end {O} {O′} {xs} {place} {i} p h = record {
   content = p .content ∙ ap (λ (l : List ℕ). sets O place l) (take-all i xs h);
   ended = omega (arith, p .within);
@@ -38,7 +40,8 @@ putting-end {O} {O′} {xs} {place} {i} p h = record {
 pub written-none : {O : List ℕ} {place : ℕ} → Written [] O O place place
 written-none = record { content = refl; ended = omega arith }
 
-pub written-then : {xs ys O O₁ O₂ : List ℕ} {p q r : ℕ} → Written xs O O₁ p q → Written ys O₁ O₂ q r → Written (xs ++ ys) O O₂ p r
+pub written-then : {xs ys O O₁ O₂ : List ℕ} {p q r : ℕ} → Written xs O O₁ p q → Written ys O₁ O₂ q r
+    → Written (xs ++ ys) O O₂ p r
 written-then {xs} {ys} {O} {O₁} {O₂} {p} {q} {r} a b = record {
   content = b .content ∙ ap (λ (l : List ℕ). sets l q ys) (a .content) ∙ sets-then O p q xs ys (a .ended);
   ended = b .ended ∙ omega (arith, a .ended, length-append xs ys);

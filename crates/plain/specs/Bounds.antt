@@ -23,7 +23,8 @@ use Rattle.form.specs.declared.Formed.the-variants as formed
 use Rattle.form.specs.declared.Formed.the-variants.{InForm}
 use Rattle.language.specs.Encoded.{RowAt}
 use Rattle.language.specs.ClassTables.{ClassTables}
-use Rattle.language.specs.Layout.{EachMethod, EachClass, FieldsAt, MethodAt, ClassAt, ProgramAt, LooksUpProgram}
+use Rattle.language.specs.Layout.{EachMethod, EachClass, FieldsAt, MethodAt, ClassAt, ProgramAt}
+use Rattle.language.specs.Layout.{LooksUpProgram}
 use Rattle.plain.specs.Emission.{ClassEnd, program-numbers, ProgramTask}
 
 -- A refusal with a number on a line, if there is one.
@@ -77,10 +78,12 @@ pub record FieldsLimited (R E T : List ℕ) (at line : ℕ) : Type 0 where
 
 -- The line of the first field with a reserved name: of so many fields, and of the classes.
 pub record FieldsFree (R : List ℕ) (at count line : ℕ) : Type 0 where
-  pub each : (fs : List Field) → FieldsAt R fs at → length fs ≡ count → fields-free (at + 1) fs ≡ pass-of reserved-refusal line
+  pub each : (fs : List Field) → FieldsAt R fs at → length fs ≡ count
+      → fields-free (at + 1) fs ≡ pass-of reserved-refusal line
 
 pub record NamesFree (R E : List ℕ) (at line : ℕ) : Type 0 where
-  pub each : (k : ℕ) (cs : List Class) → ClassesStand R E k cs at → names-free (at + 1) cs ≡ pass-of reserved-refusal line
+  pub each : (k : ℕ) (cs : List Class)
+      → ClassesStand R E k cs at → names-free (at + 1) cs ≡ pass-of reserved-refusal line
 
 -- What the translator's limits answer: of form, and of fields where the first one too many stands on a line, or 0.
 abbrev pub told : Pass → Filled
@@ -91,7 +94,8 @@ abbrev pub limits-told : Formed → ℕ → Filled
 limits-told (InForm n) zero = Done 0
 limits-told (InForm n) (suc l) = filled.Refused limit-refusal (suc l)
 limits-told (formed.Refused n k) zero = filled.Refused n k
-limits-told (formed.Refused n k) (suc l) = cond (ltb (suc l) k) (filled.Refused limit-refusal (suc l)) (filled.Refused n k)
+limits-told (formed.Refused n k) (suc l) =
+    cond (ltb (suc l) k) (filled.Refused limit-refusal (suc l)) (filled.Refused n k)
 
 -- Rows that the check accepts, with the tables of ends and of classes.
 pub record CheckedRows (p : Program) (R E T A : List ℕ) : Type 0 where

@@ -12,20 +12,27 @@ use lib.Seq.{sets}
 use Rattle.language.specs.Limits.{bool-number, identity-class}
 use Rattle.language.specs.Lists.{nth}
 use Rattle.language.specs.Frames.{opened}
-use Rattle.language.specs.Rows.{Record, written, row-of, numbers-of, C-class, F-field, V-local, M-method, S-start}
-use Rattle.language.specs.Tree.{DeclaredType, type-number, Expr, literal-true, literal-false, literal-null, slot}
-use Rattle.language.specs.Tree.{is-null, get, cast, new, change, assign, set, call, choose, block, Exprs, nil, cons}
-use Rattle.language.specs.Tree.{count, size, Field, Declaration, Class, Program, kind-number, methods-lines, class-lines, classes-lines}
+use Rattle.language.specs.Rows.{Record, written, row-of, numbers-of, C-class, F-field, V-local, M-method}
+use Rattle.language.specs.Rows.{S-start}
+use Rattle.language.specs.Tree.{DeclaredType, type-number, Expr, literal-true, literal-false, literal-null}
+use Rattle.language.specs.Tree.{slot}
+use Rattle.language.specs.Tree.{is-null, get, cast, new, change, assign, set, call, choose, block, Exprs, nil}
+use Rattle.language.specs.Tree.{cons}
+use Rattle.language.specs.Tree.{count, size, Field, Declaration, Class, Program, kind-number, methods-lines}
+use Rattle.language.specs.Tree.{class-lines, classes-lines}
 use Rattle.language.specs.Tree.{flatten, flattens, flatten-program}
-use Rattle.language.specs.World.{Method, World, place, field-type}
+use Rattle.language.specs.World.{Method, World, place}
 use Rattle.language.specs.Effects.{apply-class}
 use Rattle.language.specs.Program.{world}
 use Rattle.language.specs.ClassTables.{stored-place}
 use Rattle.language.specs.Encoded.{RowAt, Encoded}
-use Rattle.language.specs.Typing.{Environment, fresh-slot, method-environment, start-environment, type-of, type-all}
-use Rattle.language.specs.Translation.{Shape, plain-slot, typed-or, typed-all-or, class-or, plain-type, variables, translate, plain-program}
+use Rattle.language.specs.Typing.{Environment, fresh-slot, method-environment, start-environment, type-of}
+use Rattle.language.specs.Typing.{type-all}
+use Rattle.language.specs.Translation.{Shape, plain-slot, typed-or, typed-all-or, class-or, plain-type}
+use Rattle.language.specs.Translation.{variables, translate, plain-program}
 use Rattle.language.specs.LookupClasses.{LooksUp}
-use Rattle.language.specs.Layout.{EachMethod, EachClass, FieldsAt, MethodAt, ProgramAt, LooksUpProgram, body-row, methods-from-row}
+use Rattle.language.specs.Layout.{EachMethod, EachClass, FieldsAt, MethodAt, ProgramAt, LooksUpProgram}
+use Rattle.language.specs.Layout.{body-row, methods-from-row}
 
 -- More numbers than any translation has.
 abbrev pub most-numbers : ℕ
@@ -74,12 +81,14 @@ read-lines s (suc k) = 73 ∷ s ∷ 0 ∷ 0 ∷ read-lines (suc s) k
 -- Fields copied to the object in a slot from the one in the next.
 unfoldable pub copy-lines : ℕ → List Field → List ℕ
 copy-lines o [] = []
-copy-lines o (f ∷ fs) = 85 ∷ f .name ∷ 0 ∷ 0 ∷ 73 ∷ o ∷ 0 ∷ 0 ∷ 71 ∷ f .name ∷ 0 ∷ 0 ∷ 73 ∷ suc o ∷ 0 ∷ 0 ∷ copy-lines o fs
+copy-lines o (f ∷ fs) =
+    85 ∷ f .name ∷ 0 ∷ 0 ∷ 73 ∷ o ∷ 0 ∷ 0 ∷ 71 ∷ f .name ∷ 0 ∷ 0 ∷ 73 ∷ suc o ∷ 0 ∷ 0 ∷ copy-lines o fs
 
 -- Rows of a letter from row r on, one for each type.
 unfoldable pub ParametersAt : List ℕ → List DeclaredType → ℕ → Type 0
 ParametersAt R [] r = Unit {0}
-ParametersAt R (t ∷ ts) r = (r * 4 + 3 < length R) × (getD R (r * 4 + 1) 0 ≡ type-number t) × ParametersAt R ts (r + 1)
+ParametersAt R (t ∷ ts) r = (r * 4 + 3 < length R) × (getD R (r * 4 + 1) 0 ≡ type-number t)
+    × ParametersAt R ts (r + 1)
 
 -- The table has the rows of fields from an entry on.
 unfoldable pub FieldRows : List ℕ → List ℕ → List Field → ℕ → Type 0
@@ -104,7 +113,8 @@ pub record SomeTypes (R : List ℕ) (at count : ℕ) : Type 0 where
   pub counted : length ts ≡ count
 
 pub record TypesWritten (R : List ℕ) (at count letter : ℕ) (O O′ : List ℕ) (place place′ : ℕ) : Type 0 where
-  pub each : (ts : List DeclaredType) → ParametersAt R ts at → length ts ≡ count → Written (type-lines letter ts) O O′ place place′
+  pub each : (ts : List DeclaredType) → ParametersAt R ts at → length ts ≡ count
+      → Written (type-lines letter ts) O O′ place place′
 
 -- What the tables of classes tell of members, and where the rows have them.
 pub record Members (P : List Class) (R T : List ℕ) : Type 0 where
@@ -125,14 +135,18 @@ slot-lines (suc s) = 73 ∷ suc s ∷ 0 ∷ 0 ∷ []
 
 abbrev pub new-lines : ℕ → ℕ → List ℕ
 new-lines n c =
-    66 ∷ 2 ∷ 5 ∷ 0 ∷ 86 ∷ 1 ∷ 0 ∷ 0 ∷ 86 ∷ (c + 2) ∷ 0 ∷ 0 ∷ 65 ∷ n ∷ 0 ∷ 0 ∷ 87 ∷ 1 ∷ 0 ∷ 0 ∷ 65 ∷ (n + 1) ∷ 0 ∷ 0 ∷ 87 ∷ (c + 2) ∷ 0 ∷ 0
-    ∷ 85 ∷ 254 ∷ 0 ∷ 0 ∷ 73 ∷ (n + 1) ∷ 0 ∷ 0 ∷ 73 ∷ n ∷ 0 ∷ 0 ∷ 85 ∷ 255 ∷ 0 ∷ 0 ∷ 73 ∷ n ∷ 0 ∷ 0 ∷ 73 ∷ (n + 1) ∷ 0 ∷ 0
+    66 ∷ 2 ∷ 5 ∷ 0 ∷ 86 ∷ 1 ∷ 0 ∷ 0 ∷ 86 ∷ (c + 2) ∷ 0 ∷ 0 ∷ 65 ∷ n ∷ 0 ∷ 0 ∷ 87 ∷ 1 ∷ 0 ∷ 0 ∷ 65 ∷ (n + 1)
+    ∷ 0 ∷ 0 ∷ 87 ∷ (c + 2) ∷ 0 ∷ 0
+    ∷ 85 ∷ 254 ∷ 0 ∷ 0 ∷ 73 ∷ (n + 1) ∷ 0 ∷ 0 ∷ 73 ∷ n ∷ 0 ∷ 0 ∷ 85 ∷ 255 ∷ 0 ∷ 0 ∷ 73 ∷ n ∷ 0 ∷ 0 ∷ 73
+    ∷ (n + 1) ∷ 0 ∷ 0
     ∷ 73 ∷ n ∷ 0 ∷ 0 ∷ []
 
 abbrev pub renew-head : ℕ → ℕ → ℕ → ℕ → List ℕ
 renew-head n d r k =
-    66 ∷ 0 ∷ (k + 5) ∷ 0 ∷ 65 ∷ (n + 1) ∷ 0 ∷ 0 ∷ 87 ∷ (d + 2) ∷ 0 ∷ 0 ∷ 65 ∷ (n + 2) ∷ 0 ∷ 0 ∷ 75 ∷ (r + 2) ∷ 0 ∷ 0 ∷ 71 ∷ 255 ∷ 0 ∷ 0
-    ∷ 73 ∷ n ∷ 0 ∷ 0 ∷ 85 ∷ 254 ∷ 0 ∷ 0 ∷ 73 ∷ (n + 1) ∷ 0 ∷ 0 ∷ 73 ∷ n ∷ 0 ∷ 0 ∷ 85 ∷ 255 ∷ 0 ∷ 0 ∷ 73 ∷ n ∷ 0 ∷ 0
+    66 ∷ 0 ∷ (k + 5) ∷ 0 ∷ 65 ∷ (n + 1) ∷ 0 ∷ 0 ∷ 87 ∷ (d + 2) ∷ 0 ∷ 0 ∷ 65 ∷ (n + 2) ∷ 0 ∷ 0 ∷ 75 ∷ (r + 2)
+    ∷ 0 ∷ 0 ∷ 71 ∷ 255 ∷ 0 ∷ 0
+    ∷ 73 ∷ n ∷ 0 ∷ 0 ∷ 85 ∷ 254 ∷ 0 ∷ 0 ∷ 73 ∷ (n + 1) ∷ 0 ∷ 0 ∷ 73 ∷ n ∷ 0 ∷ 0 ∷ 85 ∷ 255 ∷ 0 ∷ 0 ∷ 73 ∷ n
+    ∷ 0 ∷ 0
     ∷ 73 ∷ (n + 1) ∷ 0 ∷ 0 ∷ []
 
 unfoldable pub renew-lines : ℕ → ℕ → ℕ → List Field → List ℕ
@@ -140,9 +154,11 @@ renew-lines n d r fs = renew-head n d r (length fs) ++ (copy-lines (n + 1) fs ++
 
 abbrev pub change-head : ℕ → ℕ → ℕ → ℕ → List ℕ
 change-head zero n d r =
-    66 ∷ 3 ∷ 3 ∷ 0 ∷ 86 ∷ 1 ∷ 0 ∷ 0 ∷ 86 ∷ (d + 2) ∷ 0 ∷ 0 ∷ 86 ∷ (r + 2) ∷ 0 ∷ 0 ∷ 65 ∷ n ∷ 0 ∷ 0 ∷ 71 ∷ 254 ∷ 0 ∷ 0 ∷ 73 ∷ 0 ∷ 0 ∷ 0 ∷ []
+    66 ∷ 3 ∷ 3 ∷ 0 ∷ 86 ∷ 1 ∷ 0 ∷ 0 ∷ 86 ∷ (d + 2) ∷ 0 ∷ 0 ∷ 86 ∷ (r + 2) ∷ 0 ∷ 0 ∷ 65 ∷ n ∷ 0 ∷ 0 ∷ 71 ∷ 254
+    ∷ 0 ∷ 0 ∷ 73 ∷ 0 ∷ 0 ∷ 0 ∷ []
 change-head (suc s) n d r =
-    66 ∷ 3 ∷ 2 ∷ 0 ∷ 86 ∷ 1 ∷ 0 ∷ 0 ∷ 86 ∷ (d + 2) ∷ 0 ∷ 0 ∷ 86 ∷ (r + 2) ∷ 0 ∷ 0 ∷ 74 ∷ 0 ∷ 0 ∷ 0 ∷ 90 ∷ 0 ∷ 0 ∷ 0 ∷ 65 ∷ n ∷ 0 ∷ 0
+    66 ∷ 3 ∷ 2 ∷ 0 ∷ 86 ∷ 1 ∷ 0 ∷ 0 ∷ 86 ∷ (d + 2) ∷ 0 ∷ 0 ∷ 86 ∷ (r + 2) ∷ 0 ∷ 0 ∷ 74 ∷ 0 ∷ 0 ∷ 0 ∷ 90 ∷ 0
+    ∷ 0 ∷ 0 ∷ 65 ∷ n ∷ 0 ∷ 0
     ∷ 73 ∷ suc s ∷ 0 ∷ 0 ∷ 78 ∷ 0 ∷ 0 ∷ 0 ∷ []
 
 unfoldable pub change-lines : ℕ → ℕ → ℕ → ℕ → List Field → List ℕ
@@ -156,10 +172,12 @@ pub record SomeCopies (R T : List ℕ) (place class : ℕ) : Type 0 where
   pub fits : place + 16 * length (world P .fields class) ≤ most-numbers
 
 pub record CopiesWritten (R T : List ℕ) (from count s : ℕ) (O O′ : List ℕ) (place place′ : ℕ) : Type 0 where
-  pub each : (fs : List Field) → FieldRows R T fs from → length fs ≡ count → Written (copy-lines s fs) O O′ place place′
+  pub each : (fs : List Field) → FieldRows R T fs from → length fs ≡ count
+      → Written (copy-lines s fs) O O′ place place′
 
 pub record RenewWritten (R T : List ℕ) (n d class : ℕ) (O O′ : List ℕ) (place place′ : ℕ) : Type 0 where
-  pub each : (P : List Class) → Members P R T → class ≤ length P → Written (renew-lines n d class (world P .fields class)) O O′ place place′
+  pub each : (P : List Class) → Members P R T → class ≤ length P
+      → Written (renew-lines n d class (world P .fields class)) O O′ place place′
 
 -- R to a class, its root declared.
 abbrev pub head-length : ℕ → ℕ
@@ -223,10 +241,12 @@ LooksUpNodes W C (also e γ es) r = LooksUp W C e γ r × LooksUpNodes W C es (r
 -- members are found.
 module _ (P : List Class) where
   unfoldable pub FieldFound : ℕ → ℕ → Type 0
-  FieldFound c f = (i : ℕ) × (g : Field) × (place f (world P .fields c) ≡ some i) × (nth (world P .fields c) i ≡ some g) × Proper (g .type)
+  FieldFound c f = (i : ℕ) × (g : Field) × (place f (world P .fields c) ≡ some i)
+      × (nth (world P .fields c) i ≡ some g) × Proper (g .type)
 
   unfoldable pub MethodFound : ℕ → ℕ → ℕ → Type 0
-  MethodFound c m n = (M : Method) × (world P .method c m ≡ some M) × (length (M .parameters) ≡ n) × ProperAll (M .parameters)
+  MethodFound c m n = (M : Method) × (world P .method c m ≡ some M) × (length (M .parameters) ≡ n)
+      × ProperAll (M .parameters)
 
   unfoldable mutual
     pub Ready : Expr → Environment → ℕ → Type 0
@@ -254,7 +274,8 @@ module _ (P : List Class) where
         (m < 256) × (c ≤ length P) × MethodFound c m (count es) × Ready e γ v × ReadyAll es (a .slots) v
     Ready (choose e x y) γ v = let δ = typed-or (type-of (world P) e 0 γ) .slots in
         Ready e γ v × Ready x δ v × Ready y δ v
-    Ready (block ts es) γ v = (v + length ts ≤ 32) × ProperAll ts × ReadyAll es (opened γ (map fresh-slot ts)) (v + length ts)
+    Ready (block ts es) γ v = (v + length ts ≤ 32) × ProperAll ts
+        × ReadyAll es (opened γ (map fresh-slot ts)) (v + length ts)
 
     pub ReadyAll : Exprs → Environment → ℕ → Type 0
     ReadyAll nil γ v = Unit {0}
@@ -411,7 +432,8 @@ pub record CallEmitted (R T C S O O′ : List ℕ) (at vars next place place′ 
       → Emitted (node-numbers (world P) (call m e es) γ sh) (size (call m e es)) O O′ place at place′ at′
 
 pub record BlockEmitted (R T C S O O′ : List ℕ) (at vars next place place′ at′ : ℕ) : Type 0 where
-  pub each : (P : List Class) (E : List ℕ) (ts : List DeclaredType) (es : Exprs) (γ : Environment) (sh : Shape)
+  pub each : (P : List Class) (E : List ℕ) (ts : List DeclaredType) (es : Exprs) (γ : Environment)
+      (sh : Shape)
       → NodeTask P E (block ts es) γ sh R T C S at vars next place
       → Emitted (node-numbers (world P) (block ts es) γ sh) (size (block ts es)) O O′ place at place′ at′
 
@@ -463,13 +485,16 @@ pub record BodyEmitted (R T C O O′ : List ℕ) (at place count place′ at′ 
 unfoldable pub method-numbers : World → ℕ → Declaration → List ℕ
 method-numbers W owner m =
     (77 ∷ plain-number (type-number (m .result)) ∷ m .name ∷ 0 ∷ [])
-    ++ (type-lines 80 (m .parameters) ++ node-numbers W (m .body) (method-environment owner (m .parameters)) (variables (m .parameters)))
+    ++ (type-lines 80 (m .parameters)
+    ++ node-numbers W (m .body) (method-environment owner (m .parameters)) (variables (m .parameters)))
 
 -- A method whose M line stands at a row, and its body at another.
-pub record MethodTask (P : List Class) (E : List ℕ) (owner : ℕ) (m : Declaration) (R T C : List ℕ) (at body place : ℕ) : Type 0 where
+pub record MethodTask (P : List Class) (E : List ℕ) (owner : ℕ) (m : Declaration) (R T C : List ℕ)
+    (at body place : ℕ) : Type 0 where
   pub row : RowAt R at M-method (type-number (m .result)) (m .name)
   pub parameters : ParametersAt R (m .parameters) (at + 1)
-  pub task : BodyTask P E (m .body) (method-environment owner (m .parameters)) (m .parameters) R T C body (place + 4 + 4 * length (m .parameters))
+  pub task : BodyTask P E (m .body) (method-environment owner (m .parameters)) (m .parameters) R T C body
+      (place + 4 + 4 * length (m .parameters))
 
 pub record SomeMethod (R T C : List ℕ) (at body place count : ℕ) : Type 0 where
   pub P : List Class
@@ -480,7 +505,8 @@ pub record SomeMethod (R T C : List ℕ) (at body place count : ℕ) : Type 0 wh
   pub counted : length (m .parameters) ≡ count
 
 pub record MethodEmitted (R T C O O′ : List ℕ) (at body place count place′ at′ : ℕ) : Type 0 where
-  pub each : (P : List Class) (E : List ℕ) (owner : ℕ) (m : Declaration) → MethodTask P E owner m R T C at body place → length (m .parameters) ≡ count
+  pub each : (P : List Class) (E : List ℕ) (owner : ℕ) (m : Declaration)
+      → MethodTask P E owner m R T C at body place → length (m .parameters) ≡ count
       → Emitted (method-numbers (world P) owner m) (size (m .body)) O O′ place body place′ at′
 
 -- The row after those of a letter from `at` on.
@@ -500,7 +526,8 @@ pub record SomeFieldLines (R : List ℕ) (at count : ℕ) : Type 0 where
   pub counted : length fs ≡ count
 
 pub record FieldsWritten (R : List ℕ) (at count : ℕ) (O O′ : List ℕ) (place place′ : ℕ) : Type 0 where
-  pub each : (fs : List Field) → FieldsAt R fs at → length fs ≡ count → Written (field-lines fs) O O′ place place′
+  pub each : (fs : List Field) → FieldsAt R fs at → length fs ≡ count
+      → Written (field-lines fs) O O′ place place′
 
 -- The numbers of methods, of a class and of classes from number k on.
 unfoldable pub methods-numbers : World → ℕ → List Declaration → List ℕ
@@ -508,7 +535,8 @@ methods-numbers W k [] = []
 methods-numbers W k (m ∷ ms) = method-numbers W k m ++ methods-numbers W k ms
 
 unfoldable pub class-numbers : World → ℕ → Class → List ℕ
-class-numbers W k c = (67 ∷ 0 ∷ (c .super + 2) ∷ 0 ∷ []) ++ (field-lines (c .fields) ++ methods-numbers W k (c .methods))
+class-numbers W k c =
+    (67 ∷ 0 ∷ (c .super + 2) ∷ 0 ∷ []) ++ (field-lines (c .fields) ++ methods-numbers W k (c .methods))
 
 unfoldable pub classes-numbers : World → ℕ → List Class → List ℕ
 classes-numbers W k [] = []
@@ -533,19 +561,22 @@ pub record ClassEnd (R : List ℕ) (r : ℕ) : Type 0 where
   pub letter : (getD R (r * 4) 0 ≡ 67) ⊎ (getD R (r * 4) 0 ≡ 83)
 
 -- All that the translation of methods, of a class and of classes goes by.
-pub record MethodsTask (P : List Class) (E : List ℕ) (k : ℕ) (ms : List Declaration) (R T C : List ℕ) (at place : ℕ) : Type 0 where
+pub record MethodsTask (P : List Class) (E : List ℕ) (k : ℕ) (ms : List Declaration) (R T C : List ℕ)
+    (at place : ℕ) : Type 0 where
   pub lent : Lent P R T C
   pub methods : EachMethod (MethodReady P E R C) ms k at
   pub after : ClassEnd R (at + methods-lines ms)
   pub fits : place + length (methods-numbers (world P) k ms) ≤ most-numbers
 
-pub record ClassTask (P : List Class) (E : List ℕ) (k : ℕ) (c : Class) (R T C : List ℕ) (at place : ℕ) : Type 0 where
+pub record ClassTask (P : List Class) (E : List ℕ) (k : ℕ) (c : Class) (R T C : List ℕ) (at place : ℕ) : Type
+    0 where
   pub lent : Lent P R T C
   pub ready : ClassReady P E R C k c at
   pub after : ClassEnd R (at + class-lines c)
   pub fits : place + length (class-numbers (world P) k c) ≤ most-numbers
 
-pub record ClassesTask (P : List Class) (E : List ℕ) (k : ℕ) (cs : List Class) (R T C : List ℕ) (at place : ℕ) : Type 0 where
+pub record ClassesTask (P : List Class) (E : List ℕ) (k : ℕ) (cs : List Class) (R T C : List ℕ)
+    (at place : ℕ) : Type 0 where
   pub lent : Lent P R T C
   pub classes : EachClass (ClassReady P E R C) cs k at
   pub start : RowAt R (at + classes-lines cs) S-start 0 0
@@ -573,7 +604,8 @@ pub record SomeClasses (R T C : List ℕ) (at place : ℕ) : Type 0 where
   pub task : ClassesTask P E k cs R T C at place
 
 pub record MethodsEmitted (R T C O O′ : List ℕ) (at place place′ at′ : ℕ) : Type 0 where
-  pub each : (P : List Class) (E : List ℕ) (k : ℕ) (ms : List Declaration) → MethodsTask P E k ms R T C at place
+  pub each : (P : List Class) (E : List ℕ) (k : ℕ) (ms : List Declaration)
+      → MethodsTask P E k ms R T C at place
       → Emitted (methods-numbers (world P) k ms) (methods-lines ms) O O′ place at place′ at′
 
 pub record ClassEmitted (R T C O O′ : List ℕ) (at place place′ at′ : ℕ) : Type 0 where
@@ -593,7 +625,9 @@ pub record ProgramTask (p : Program) (E R T C : List ℕ) : Type 0 where
   pub rows : ProgramAt R E p
   pub lookups : LooksUpProgram C p
   pub lent : Lent (p .classes) R T C
-  pub ready : EachClass (λ k c r. EachMethod (λ k m r. Ready (p .classes) (m .body) (method-environment k (m .parameters)) (1 + length (m .parameters)))
+  pub ready : EachClass
+      (λ k c r. EachMethod (λ k m r. Ready (p .classes) (m .body) (method-environment k (m .parameters))
+      (1 + length (m .parameters)))
       (c .methods) k (methods-from-row r c)) (p .classes) 1 0
   pub start : Ready (p .classes) (p .start) start-environment 1
   pub fits : length (program-numbers p) ≤ most-numbers

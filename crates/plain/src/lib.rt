@@ -3,21 +3,25 @@
 // call over a short buffer tells how many numbers there are, and a second one writes them.
 
 ghost use mathlib.Core.Path.{_≡_};
-ghost use mathlib.Core.List.{[], _∷_, _++_};
-ghost use Prim.Native.Nat.{suc, _+_, _-_, _*_, _≤_, _<_};
-ghost use lib.ListN.{length, getD, set, replicate};
-ghost use lib.Seq.{sets};
-ghost use Rattle.language.specs.Tree.{DeclaredType, Field, Class};
-ghost use Rattle.language.specs.Program.{world};
-ghost use Rattle.plain.specs.Emission.{most-numbers, plain-number, type-lines, read-lines, copy-lines, ParametersAt, Members};
-ghost use Rattle.plain.specs.Emission.{Written, SomeTypes, TypesWritten, SomeFields, SomeCopies, CopiesWritten, RenewWritten};
-ghost use Rattle.plain.specs.Emission.{SomeChange, ChangeWritten, Extended, slot-lines, new-lines, renew-lines, change-lines};
-ghost use Rattle.plain.specs.Emission.{SomeNode, SomeCast, SomeSet, SomeCall, SomeBlock, SomeNodes, SomeArguments};
+ghost use Prim.Native.Nat.{_+_, _-_, _*_, _≤_, _<_};
+ghost use lib.ListN.{length, set, replicate};
+ghost use Rattle.plain.specs.Emission.{most-numbers, plain-number, read-lines};
+ghost use Rattle.plain.specs.Emission.{Written, SomeTypes, TypesWritten, SomeFields, SomeCopies};
+ghost use Rattle.plain.specs.Emission.{CopiesWritten, RenewWritten};
+ghost use Rattle.plain.specs.Emission.{SomeChange, ChangeWritten, Extended, slot-lines, new-lines};
+ghost use Rattle.plain.specs.Emission.{SomeNode, SomeCast, SomeSet, SomeCall, SomeBlock, SomeNodes};
+ghost use Rattle.plain.specs.Emission.{SomeArguments};
 ghost use Rattle.language.specs.Translation.{translation};
 ghost use Rattle.language.specs.Filling.{answer, buffer};
-ghost use Rattle.plain.specs.Bounds.{SomeMethodsStand, MethodsPassed, SomeCounted, FieldsLimited, FieldsFree, SomeClassesStand, NamesFree, limits-told, SomeChecked, Limited, PlainWritten, SomeAccepted};
-ghost use Rattle.plain.specs.Emission.{Skipped, SomeFieldLines, FieldsWritten, SomeMethods, MethodsEmitted, SomeClass, ClassEmitted, SomeClasses, ClassesEmitted, SomeProgram, ProgramWritten};
-ghost use Rattle.plain.specs.Emission.{SomeBody, BodyEmitted, SomeMethod, MethodEmitted, NodeEmitted, CastEmitted, SetEmitted, CallEmitted, BlockEmitted, NodesEmitted, ArgumentsEmitted};
+ghost use Rattle.plain.specs.Bounds.{SomeMethodsStand, MethodsPassed, SomeCounted, FieldsLimited};
+ghost use Rattle.plain.specs.Bounds.{FieldsFree, SomeClassesStand, NamesFree, limits-told, SomeChecked};
+ghost use Rattle.plain.specs.Bounds.{Limited, PlainWritten, SomeAccepted};
+ghost use Rattle.plain.specs.Emission.{Skipped, SomeFieldLines, FieldsWritten, SomeMethods};
+ghost use Rattle.plain.specs.Emission.{MethodsEmitted, SomeClass, ClassEmitted, SomeClasses};
+ghost use Rattle.plain.specs.Emission.{ClassesEmitted, SomeProgram, ProgramWritten};
+ghost use Rattle.plain.specs.Emission.{SomeBody, BodyEmitted, SomeMethod, MethodEmitted, NodeEmitted};
+ghost use Rattle.plain.specs.Emission.{CastEmitted, SetEmitted, CallEmitted, BlockEmitted};
+ghost use Rattle.plain.specs.Emission.{NodesEmitted, ArgumentsEmitted};
 use form::Formed;
 use language::Filled;
 
@@ -67,7 +71,8 @@ fn put_types(
 ) -> usize
     requires { ⌜ SomeTypes (now rows) at count ⌝ }
     requires { ⌜ place + 4 * count ≤ most-numbers ⌝ }
-    ensures { λ r. ⌜ TypesWritten (now (rows .entry)) at count letter (now (out .entry)) (now (out .exit)) place r ⌝ }
+    ensures { λ r. ⌜ TypesWritten (now (rows .entry)) at count letter (now (out .entry)) (now (out .exit))
+        place r ⌝ }
 {
     if count == 0 {
         return place;
@@ -103,7 +108,8 @@ fn put_copies(
 ) -> usize
     requires { ⌜ SomeFields (now rows) (now tables) from count ⌝ }
     requires { ⌜ (place + 16 * count ≤ most-numbers) × (slot < most-numbers) ⌝ }
-    ensures { λ r. ⌜ CopiesWritten (now (rows .entry)) (now (tables .entry)) from count slot (now (out .entry)) (now (out .exit)) place r ⌝ }
+    ensures { λ r. ⌜ CopiesWritten (now (rows .entry)) (now (tables .entry)) from count slot
+        (now (out .entry)) (now (out .exit)) place r ⌝ }
 {
     if count == 0 {
         return place;
@@ -239,7 +245,8 @@ fn put_renew(
 ) -> usize
     requires { ⌜ SomeCopies (now rows) (now tables) (place + 56) root ⌝ }
     requires { ⌜ (next + 2 < most-numbers) × (target < 65536) × (root < 65536) ⌝ }
-    ensures { λ r. ⌜ RenewWritten (now (rows .entry)) (now (tables .entry)) next target root (now (out .entry)) (now (out .exit)) place r ⌝ }
+    ensures { λ r. ⌜ RenewWritten (now (rows .entry)) (now (tables .entry)) next target root
+        (now (out .entry)) (now (out .exit)) place r ⌝ }
 {
     let i = next;
     let o = next + 1;
@@ -316,7 +323,8 @@ fn put_change(
 ) -> usize
     requires { ⌜ SomeChange (now rows) (now tables) place slot target ⌝ }
     requires { ⌜ (next + 2 < most-numbers) × (target < 65536) ⌝ }
-    ensures { λ r. ⌜ ChangeWritten (now (rows .entry)) (now (tables .entry)) slot next target (now (out .entry)) (now (out .exit)) place r ⌝ }
+    ensures { λ r. ⌜ ChangeWritten (now (rows .entry)) (now (tables .entry)) slot next target
+        (now (out .entry)) (now (out .exit)) place r ⌝ }
 {
     let root = tables[target as usize * 576 + 514] as usize;
     let i = next;
@@ -414,7 +422,8 @@ fn emit_node(
     next: u32,
 ) -> Next
     requires { ⌜ SomeNode (now rows) (now tables) (now lookups) (now slots) at vars next place ⌝ }
-    ensures { λ r. ⌜ NodeEmitted (now (rows .entry)) (now (tables .entry)) (now (lookups .entry)) (now (slots .entry)) (now (out .entry)) (now (out .exit)) at vars next place (r .place) (r .at) ⌝ }
+    ensures { λ r. ⌜ NodeEmitted (now (rows .entry)) (now (tables .entry)) (now (lookups .entry))
+        (now (slots .entry)) (now (out .entry)) (now (out .exit)) at vars next place (r .place) (r .at) ⌝ }
 {
     let letter = rows[at * 4];
     match letter {
@@ -502,7 +511,8 @@ fn emit_cast(
     next: u32,
 ) -> Next
     requires { ⌜ SomeCast (now rows) (now tables) (now lookups) (now slots) at vars next place ⌝ }
-    ensures { λ r. ⌜ CastEmitted (now (rows .entry)) (now (tables .entry)) (now (lookups .entry)) (now (slots .entry)) (now (out .entry)) (now (out .exit)) at vars next place (r .place) (r .at) ⌝ }
+    ensures { λ r. ⌜ CastEmitted (now (rows .entry)) (now (tables .entry)) (now (lookups .entry))
+        (now (slots .entry)) (now (out .entry)) (now (out .exit)) at vars next place (r .place) (r .at) ⌝ }
 {
     let head = [
         66,
@@ -567,7 +577,8 @@ fn emit_set(
     next: u32,
 ) -> Next
     requires { ⌜ SomeSet (now rows) (now tables) (now lookups) (now slots) at vars next place ⌝ }
-    ensures { λ r. ⌜ SetEmitted (now (rows .entry)) (now (tables .entry)) (now (lookups .entry)) (now (slots .entry)) (now (out .entry)) (now (out .exit)) at vars next place (r .place) (r .at) ⌝ }
+    ensures { λ r. ⌜ SetEmitted (now (rows .entry)) (now (tables .entry)) (now (lookups .entry))
+        (now (slots .entry)) (now (out .entry)) (now (out .exit)) at vars next place (r .place) (r .at) ⌝ }
 {
     let name = rows[at * 4 + 1];
     let class = lookups[at] as usize;
@@ -640,7 +651,8 @@ fn emit_call(
     next: u32,
 ) -> Next
     requires { ⌜ SomeCall (now rows) (now tables) (now lookups) (now slots) at vars next place ⌝ }
-    ensures { λ r. ⌜ CallEmitted (now (rows .entry)) (now (tables .entry)) (now (lookups .entry)) (now (slots .entry)) (now (out .entry)) (now (out .exit)) at vars next place (r .place) (r .at) ⌝ }
+    ensures { λ r. ⌜ CallEmitted (now (rows .entry)) (now (tables .entry)) (now (lookups .entry))
+        (now (slots .entry)) (now (out .entry)) (now (out .exit)) at vars next place (r .place) (r .at) ⌝ }
 {
     let name = rows[at * 4 + 1];
     let count = rows[at * 4 + 2];
@@ -698,7 +710,8 @@ fn emit_block(
     next: u32,
 ) -> Next
     requires { ⌜ SomeBlock (now rows) (now tables) (now lookups) (now slots) at vars next place ⌝ }
-    ensures { λ r. ⌜ BlockEmitted (now (rows .entry)) (now (tables .entry)) (now (lookups .entry)) (now (slots .entry)) (now (out .entry)) (now (out .exit)) at vars next place (r .place) (r .at) ⌝ }
+    ensures { λ r. ⌜ BlockEmitted (now (rows .entry)) (now (tables .entry)) (now (lookups .entry))
+        (now (slots .entry)) (now (out .entry)) (now (out .exit)) at vars next place (r .place) (r .at) ⌝ }
 {
     let locals = rows[at * 4 + 1];
     let count = rows[at * 4 + 2];
@@ -734,7 +747,9 @@ fn emit_nodes(
     count: u32,
 ) -> Next
     requires { ⌜ SomeNodes (now rows) (now tables) (now lookups) (now slots) at vars next place count ⌝ }
-    ensures { λ r. ⌜ NodesEmitted (now (rows .entry)) (now (tables .entry)) (now (lookups .entry)) (now (slots .entry)) (now (out .entry)) (now (out .exit)) at vars next place count (r .place) (r .at) ⌝ }
+    ensures { λ r. ⌜ NodesEmitted (now (rows .entry)) (now (tables .entry)) (now (lookups .entry))
+        (now (slots .entry)) (now (out .entry)) (now (out .exit)) at vars next place count (r .place) (r .at)
+        ⌝ }
 {
     if count == 0 {
         return Next {
@@ -771,8 +786,11 @@ fn emit_arguments(
     count: u32,
     slot: u32,
 ) -> Next
-    requires { ⌜ SomeArguments (now rows) (now tables) (now lookups) (now slots) at vars next place count slot ⌝ }
-    ensures { λ r. ⌜ ArgumentsEmitted (now (rows .entry)) (now (tables .entry)) (now (lookups .entry)) (now (slots .entry)) (now (out .entry)) (now (out .exit)) at vars next place count slot (r .place) (r .at) ⌝ }
+    requires { ⌜ SomeArguments (now rows) (now tables) (now lookups) (now slots) at vars next place count slot
+        ⌝ }
+    ensures { λ r. ⌜ ArgumentsEmitted (now (rows .entry)) (now (tables .entry)) (now (lookups .entry))
+        (now (slots .entry)) (now (out .entry)) (now (out .exit)) at vars next place count slot (r .place)
+        (r .at) ⌝ }
 {
     if count == 0 {
         return Next {
@@ -832,7 +850,8 @@ fn emit_body(
     count: usize,
 ) -> Next
     requires { ⌜ SomeBody (now rows) (now tables) (now lookups) at place count ⌝ }
-    ensures { λ r. ⌜ BodyEmitted (now (rows .entry)) (now (tables .entry)) (now (lookups .entry)) (now (out .entry)) (now (out .exit)) at place count (r .place) (r .at) ⌝ }
+    ensures { λ r. ⌜ BodyEmitted (now (rows .entry)) (now (tables .entry)) (now (lookups .entry))
+        (now (out .entry)) (now (out .exit)) at place count (r .place) (r .at) ⌝ }
 {
     let slots = first_slots(count);
     emit_node(
@@ -860,7 +879,8 @@ fn emit_method(
     body: usize,
 ) -> Next
     requires { ⌜ SomeMethod (now rows) (now tables) (now lookups) at body place count ⌝ }
-    ensures { λ r. ⌜ MethodEmitted (now (rows .entry)) (now (tables .entry)) (now (lookups .entry)) (now (out .entry)) (now (out .exit)) at body place count (r .place) (r .at) ⌝ }
+    ensures { λ r. ⌜ MethodEmitted (now (rows .entry)) (now (tables .entry)) (now (lookups .entry))
+        (now (out .entry)) (now (out .exit)) at body place count (r .place) (r .at) ⌝ }
 {
     let t = plain_type(rows[at * 4 + 1]);
     let head = [77, t, rows[at * 4 + 2], 0];
@@ -873,7 +893,8 @@ fn emit_method(
 fn put_fields(rows: &[u32], out: &mut [u32], place: usize, at: usize, count: usize) -> usize
     requires { ⌜ SomeFieldLines (now rows) at count ⌝ }
     requires { ⌜ place + 4 * count ≤ most-numbers ⌝ }
-    ensures { λ r. ⌜ FieldsWritten (now (rows .entry)) at count (now (out .entry)) (now (out .exit)) place r ⌝ }
+    ensures { λ r. ⌜ FieldsWritten (now (rows .entry)) at count (now (out .entry)) (now (out .exit)) place r
+        ⌝ }
 {
     if count == 0 {
         return place;
@@ -894,7 +915,8 @@ fn emit_methods(
     at: usize,
 ) -> Next
     requires { ⌜ SomeMethods (now rows) (now tables) (now lookups) at place ⌝ }
-    ensures { λ r. ⌜ MethodsEmitted (now (rows .entry)) (now (tables .entry)) (now (lookups .entry)) (now (out .entry)) (now (out .exit)) at place (r .place) (r .at) ⌝ }
+    ensures { λ r. ⌜ MethodsEmitted (now (rows .entry)) (now (tables .entry)) (now (lookups .entry))
+        (now (out .entry)) (now (out .exit)) at place (r .place) (r .at) ⌝ }
 {
     if rows[at * 4] != 77 {
         return Next {
@@ -918,7 +940,8 @@ fn emit_class(
     at: usize,
 ) -> Next
     requires { ⌜ SomeClass (now rows) (now tables) (now lookups) at place ⌝ }
-    ensures { λ r. ⌜ ClassEmitted (now (rows .entry)) (now (tables .entry)) (now (lookups .entry)) (now (out .entry)) (now (out .exit)) at place (r .place) (r .at) ⌝ }
+    ensures { λ r. ⌜ ClassEmitted (now (rows .entry)) (now (tables .entry)) (now (lookups .entry))
+        (now (out .entry)) (now (out .exit)) at place (r .place) (r .at) ⌝ }
 {
     let head = [67, 0, rows[at * 4 + 2] + 2, 0];
     let p = put(out, place, &head);
@@ -937,7 +960,8 @@ fn emit_classes(
     at: usize,
 ) -> Next
     requires { ⌜ SomeClasses (now rows) (now tables) (now lookups) at place ⌝ }
-    ensures { λ r. ⌜ ClassesEmitted (now (rows .entry)) (now (tables .entry)) (now (lookups .entry)) (now (out .entry)) (now (out .exit)) at place (r .place) (r .at) ⌝ }
+    ensures { λ r. ⌜ ClassesEmitted (now (rows .entry)) (now (tables .entry)) (now (lookups .entry))
+        (now (out .entry)) (now (out .exit)) at place (r .place) (r .at) ⌝ }
 {
     if rows[at * 4] != 67 {
         return Next {
@@ -952,7 +976,8 @@ fn emit_classes(
 // The whole plain program; answers how many numbers it has.
 fn emit_program(rows: &[u32], tables: &[u16], lookups: &[u16], out: &mut [u32]) -> usize
     requires { ⌜ SomeProgram (now rows) (now tables) (now lookups) ⌝ }
-    ensures { λ r. ⌜ ProgramWritten (now (rows .entry)) (now (tables .entry)) (now (lookups .entry)) (now (out .entry)) (now (out .exit)) r ⌝ }
+    ensures { λ r. ⌜ ProgramWritten (now (rows .entry)) (now (tables .entry)) (now (lookups .entry))
+        (now (out .entry)) (now (out .exit)) r ⌝ }
 {
     let head = [67, 0, 0, 0, 70, 2, 255, 0, 67, 0, 0, 0, 70, 1, 254, 0];
     let p = put(out, 0, &head);
@@ -1077,7 +1102,8 @@ fn over_limits(rows: &[u32], ends: &[u16], tables: &[u16]) -> Filled
 // The plain rows, where there is room for them.
 fn write_plain(rows: &[u32], tables: &[u16], lookups: &[u16], out: &mut [u32]) -> Filled
     requires { ⌜ SomeProgram (now rows) (now tables) (now lookups) ⌝ }
-    ensures { λ r. ⌜ PlainWritten (now (rows .entry)) (now (tables .entry)) (now (lookups .entry)) (now (out .entry)) (now (out .exit)) r ⌝ }
+    ensures { λ r. ⌜ PlainWritten (now (rows .entry)) (now (tables .entry)) (now (lookups .entry))
+        (now (out .entry)) (now (out .exit)) r ⌝ }
 {
     let mut none = [0u32; 1];
     let count = emit_program(rows, tables, lookups, &mut none);

@@ -1,5 +1,5 @@
 -- From the check to the run: what each answer tells of the run of the rows. Assumes nothing.
-use mathlib.Core.Path.{_≡_, refl, sym, ap, _∙_}
+use mathlib.Core.Path.{_≡_, sym, ap, _∙_}
 use mathlib.Core.List.{List}
 use Prim.Native.Nat.{ℕ, _%_, _≤_, _<_}
 use native.Mathlib.Omega.{arith}
@@ -9,7 +9,7 @@ use Rattle.language.specs.Limits.{most-fuel}
 use Rattle.language.specs.Results as results
 use Rattle.language.specs.Results.{accept, refuse, require}
 use Rattle.language.specs.Tree.{Program}
-use Rattle.language.specs.Verdict.{whole-rows, three-passes, check}
+use Rattle.language.specs.Verdict.{whole-rows, check}
 use Rattle.language.specs.Store as store
 use Rattle.language.specs.Store.{runnable, run-checked, run-of}
 use Rattle.checker.specs.declared.Checked.{Checked}
@@ -18,7 +18,7 @@ use Rattle.checker.specs.Answers.{checked-case}
 use Rattle.checker.specs.Passes.{Held}
 use Rattle.checker.proofs.Passing.{checked-accepted}
 use Rattle.machine.specs.declared.Run.{Run}
-use Rattle.machine.specs.Contracts.{PreChecked, PostChecked, Tells, end-told}
+use Rattle.machine.specs.Contracts.{PreChecked, PostChecked, Tells}
 use Rattle.machine.proofs.Accepted.{accepted-of}
 use Rattle.machine.proofs.Checked.{tells-run-of}
 use Rattle.runner.specs.declared.Answer.the-variants.{Refused, Ran}
@@ -29,8 +29,12 @@ module _ (R s : List ℕ) (fuel : ℕ) where
   pub refuses : (n l : ℕ) → runnable R fuel ≡ refuse n l → Answers R fuel s s (Refused n l)
   unfolding run-of
   refuses n l e =
-      let z : run-of R fuel s ≡ record { answer = store.refused n l; store = s } = ap (λ (c : results.Checked Program). run-checked c fuel s) e in
-      record { answer = ap (λ (x : store.Ran). answer-told (x .answer)) (sym z); store = ap (λ (x : store.Ran). x .store) (sym z) }
+      let z : run-of R fuel s ≡ record { answer = store.refused n l; store = s } =
+      ap (λ (c : results.Checked Program). run-checked c fuel s) e in
+      record {
+        answer = ap (λ (x : store.Ran). answer-told (x .answer)) (sym z);
+        store = ap (λ (x : store.Ran). x .store) (sym z);
+      }
 
   pub uneven : (length R % 4 ≡ 0 → ⊥) → Answers R fuel s s (Refused 1 0)
   unfolding runnable whole-rows require
@@ -78,5 +82,6 @@ module _ {R E T A C : List ℕ} (n : ℕ) (c : Checked) (e : c ≡ Passed n)
     where
       told : Tells (run-of R fuel s) s′ r → Ran r ≡ answer-told (run-of R fuel s .answer)
       told t =
-          ap (λ o. Ran (record { outcome = o; steps = r .steps; objects = r .objects; changes = r .changes })) (t .told)
+          ap (λ o. Ran (record { outcome = o; steps = r .steps; objects = r .objects; changes = r .changes }))
+          (t .told)
           ∙ ap (λ (y : store.Ran). answer-told (y .answer)) (sym (t .is))

@@ -1,6 +1,5 @@
 // The run of rows over a lent store: length, fuel, the check, the run (document 01, "Refusals and stops").
 use machine::Run;
-ghost use mathlib.Core.Path.{_≡_};
 ghost use Prim.Native.Nat.{_≤_};
 ghost use lib.ListN.{length};
 ghost use Rattle.checker.specs.Passes.{Lent};

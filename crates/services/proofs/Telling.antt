@@ -1,7 +1,7 @@
 -- Packing an answer as the code gives it is packing that of the definition. Assumes nothing.
-use mathlib.Core.Path.{_≡_, refl, sym, ap, _∙_}
-use mathlib.Core.Bool.{Bool, true, false}
-use Prim.Native.Nat.{ℕ, suc, _+_, _*_}
+use mathlib.Core.Path.{_≡_, refl, ap, _∙_}
+use mathlib.Core.Bool.{true, false}
+use Prim.Native.Nat.{ℕ}
 use native.Mathlib.Omega.{arith}
 use Rattle.language.specs.Verdict as verdicts
 use Rattle.language.specs.Verdict.{accepted, refused as not-accepted}
@@ -13,8 +13,10 @@ use Rattle.machine.specs.declared.Run.{Run}
 use Rattle.runner.specs.declared.Answer as runner
 use Rattle.runner.specs.declared.Answer.the-variants.{Refused as NotRun, Ran}
 use Rattle.runner.specs.Answers.{answer-told}
-use Rattle.services.specs.Packed.{packed-verdict, packed-outcome, packed-answer, steps-after, objects-after, changes-after}
-use Rattle.services.specs.Packed.{packed-checked, packed-value, packed-end, packed-run, steps-told, objects-told, changes-told}
+use Rattle.services.specs.Packed.{packed-verdict, packed-outcome, packed-answer, steps-after}
+use Rattle.services.specs.Packed.{objects-after, changes-after}
+use Rattle.services.specs.Packed.{packed-checked, packed-value, packed-end, packed-run, steps-told}
+use Rattle.services.specs.Packed.{objects-told, changes-told}
 
 pub verdict-packed : (v : verdicts.Verdict) → packed-checked (verdict-case v) ≡ packed-verdict v
 verdict-packed accepted = refl

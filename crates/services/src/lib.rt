@@ -12,8 +12,10 @@ ghost use Rattle.language.specs.Translation.{translation};
 ghost use Rattle.language.specs.Verdict.{verdict};
 ghost use Rattle.language.specs.Store.{run-of};
 ghost use Rattle.text.specs.Texts.{read-text, write-rows};
-ghost use Rattle.services.specs.Packed.{refusal, packed, packed-verdict, packed-answer, steps-after, objects-after, changes-after};
-ghost use Rattle.services.specs.Packed.{packed-checked, packed-value, packed-end, packed-run, steps-told, objects-told, changes-told};
+ghost use Rattle.services.specs.Packed.{refusal, packed, packed-verdict, packed-answer, steps-after};
+ghost use Rattle.services.specs.Packed.{objects-after, changes-after};
+ghost use Rattle.services.specs.Packed.{packed-checked, packed-value, packed-end, packed-run};
+ghost use Rattle.services.specs.Packed.{steps-told, objects-told, changes-told};
 
 // Two words of 32 bits as one number.
 fn two_words(number: u32, line: u32) -> u64
@@ -146,9 +148,12 @@ pub extern "C" fn fickle_run_rows(
 ) -> u64
     ensures { λ r. ⌜ r ≡ packed-answer (run-of (now (rows .entry)) fuel (now (store .entry)) .answer) ⌝ }
     ensures { λ _. ⌜ now (store .exit) ≡ run-of (now (rows .entry)) fuel (now (store .entry)) .store ⌝ }
-    ensures { λ _. ⌜ now (steps .exit) ≡ steps-after (run-of (now (rows .entry)) fuel (now (store .entry)) .answer) (now (steps .entry)) ⌝ }
-    ensures { λ _. ⌜ now (objects .exit) ≡ objects-after (run-of (now (rows .entry)) fuel (now (store .entry)) .answer) (now (objects .entry)) ⌝ }
-    ensures { λ _. ⌜ now (changes .exit) ≡ changes-after (run-of (now (rows .entry)) fuel (now (store .entry)) .answer) (now (changes .entry)) ⌝ }
+    ensures { λ _. ⌜ now (steps .exit) ≡ steps-after
+        (run-of (now (rows .entry)) fuel (now (store .entry)) .answer) (now (steps .entry)) ⌝ }
+    ensures { λ _. ⌜ now (objects .exit) ≡ objects-after
+        (run-of (now (rows .entry)) fuel (now (store .entry)) .answer) (now (objects .entry)) ⌝ }
+    ensures { λ _. ⌜ now (changes .exit) ≡ changes-after
+        (run-of (now (rows .entry)) fuel (now (store .entry)) .answer) (now (changes .entry)) ⌝ }
 {
     let a = runner::run_rows(rows, store, fuel);
     tell_counts(a, steps, objects, changes);

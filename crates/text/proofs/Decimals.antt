@@ -20,7 +20,8 @@ scan-bad [] = refl
 scan-bad (b ∷ bs) = refl
 
 -- one more byte
-pub scan-more : (s : List ℕ) (i v : ℕ) → i < length s → scan (Is v) (drop i s) ≡ scan (add-digit v (digit-of (getD s i 0))) (drop (i + 1) s)
+pub scan-more : (s : List ℕ) (i v : ℕ) → i < length s
+    → scan (Is v) (drop i s) ≡ scan (add-digit v (digit-of (getD s i 0))) (drop (i + 1) s)
 unfolding scan
 scan-more s i v h = rw (drop-cons s i 0 h, add-one i)
 
@@ -45,7 +46,10 @@ low-pick false x y f g = g
 pub digit-small : (b k : ℕ) → digit-of b ≡ Is k → k ≤ 9
 unfolding digit-of
 digit-small b k e =
-    let h : payload (digit-of b) ≤ 9 = low-pick (leb 48 b) (cond (leb b 57) (Is (b - 48)) Bad) Bad (λ p. low-pick (leb b 57) (Is (b - 48)) Bad (λ q. omega (arith, leb-true b 57 q)) (omega arith)) (omega arith) in
+    let h : payload (digit-of b) ≤ 9 =
+    low-pick (leb 48 b) (cond (leb b 57) (Is (b - 48)) Bad) Bad
+    (λ p. low-pick (leb b 57) (Is (b - 48)) Bad (λ q. omega (arith, leb-true b 57 q)) (omega arith))
+    (omega arith) in
     omega (arith, ap payload e)
 
 -- the digits of a number: one below ten, else those of its tenth and its last
@@ -53,10 +57,12 @@ fuel : (k m n : ℕ) → n < k → n < m → digits-in k n ≡ digits-in m n
 unfolding digits-in
 fuel zero m n h l = absurd (omega (arith, h))
 fuel (suc k) zero n h l = absurd (omega (arith, l))
-fuel (suc k) (suc m) n h l = go (ltb n 10) refl (λ q. fuel k m (n / 10) (omega (arith, h, q)) (omega (arith, l, q)))
+fuel (suc k) (suc m) n h l =
+    go (ltb n 10) refl (λ q. fuel k m (n / 10) (omega (arith, h, q)) (omega (arith, l, q)))
   where
     go : (t : Bool) → ltb n 10 ≡ t → (10 ≤ n → digits-in k (n / 10) ≡ digits-in m (n / 10))
-        → cond t ((48 + n) ∷ []) (digits-in k (n / 10) ++ ((48 + n % 10) ∷ [])) ≡ cond t ((48 + n) ∷ []) (digits-in m (n / 10) ++ ((48 + n % 10) ∷ []))
+        → cond t ((48 + n) ∷ []) (digits-in k (n / 10) ++ ((48 + n % 10) ∷ []))
+        ≡ cond t ((48 + n) ∷ []) (digits-in m (n / 10) ++ ((48 + n % 10) ∷ []))
     go true e ih = refl
     go false e ih = ap (λ (s : List ℕ). s ++ ((48 + n % 10) ∷ [])) (ih (ltb-false n 10 e))
 
@@ -66,7 +72,8 @@ digits-low n h = rw (lt-ltb n 10 h)
 
 pub digits-high : (n : ℕ) → 10 ≤ n → digits n ≡ digits (n / 10) ++ ((48 + n % 10) ∷ [])
 unfolding digits digits-in
-digits-high n h = rw (le-ltb n 10 h) (ap (λ (s : List ℕ). s ++ ((48 + n % 10) ∷ [])) (fuel n (suc (n / 10)) (n / 10) (omega arith) (omega arith)))
+digits-high n h = rw (le-ltb n 10 h) (ap (λ (s : List ℕ). s ++ ((48 + n % 10) ∷ []))
+    (fuel n (suc (n / 10)) (n / 10) (omega arith) (omega arith)))
 
 -- how many they are
 pub length-low : (n : ℕ) → n < 10 → length (digits n) ≡ 1
@@ -91,16 +98,20 @@ length-5 n h l = omega (arith, length-high n (omega arith), length-4 (n / 10) (o
 pub length-most : (n : ℕ) → n ≤ 65535 → length (digits n) ≤ 5
 length-most n h = go (ltb n 10) refl (ltb n 100) refl (ltb n 1000) refl (ltb n 10000) refl
   where
-    go : (t₁ : Bool) → ltb n 10 ≡ t₁ → (t₂ : Bool) → ltb n 100 ≡ t₂ → (t₃ : Bool) → ltb n 1000 ≡ t₃ → (t₄ : Bool) → ltb n 10000 ≡ t₄ → length (digits n) ≤ 5
+    go : (t₁ : Bool) → ltb n 10 ≡ t₁ → (t₂ : Bool) → ltb n 100 ≡ t₂ → (t₃ : Bool) → ltb n 1000 ≡ t₃
+        → (t₄ : Bool) → ltb n 10000 ≡ t₄ → length (digits n) ≤ 5
     go true e t₂ e₂ t₃ e₃ t₄ e₄ = omega (arith, length-low n (ltb-true n 10 e))
     go false e true e₂ t₃ e₃ t₄ e₄ = omega (arith, length-2 n (ltb-false n 10 e) (ltb-true n 100 e₂))
     go false e false e₂ true e₃ t₄ e₄ = omega (arith, length-3 n (ltb-false n 100 e₂) (ltb-true n 1000 e₃))
-    go false e false e₂ false e₃ true e₄ = omega (arith, length-4 n (ltb-false n 1000 e₃) (ltb-true n 10000 e₄))
-    go false e false e₂ false e₃ false e₄ = omega (arith, length-5 n (ltb-false n 10000 e₄) (omega (arith, h)))
+    go false e false e₂ false e₃ true e₄ =
+        omega (arith, length-4 n (ltb-false n 1000 e₃) (ltb-true n 10000 e₄))
+    go false e false e₂ false e₃ false e₄ =
+        omega (arith, length-5 n (ltb-false n 10000 e₄) (omega (arith, h)))
 
 -- a buffer with the digits of a number: those of its tenth, then the last
 pub write-low : (l : List ℕ) (at n : ℕ) → n < 10 → set l at (48 + n) ≡ sets l at (digits n)
 write-low l at n h = rw (digits-low n h)
 
-pub write-high : (l : List ℕ) (at n : ℕ) → 10 ≤ n → set (sets l at (digits (n / 10))) (at + length (digits (n / 10))) (48 + n % 10) ≡ sets l at (digits n)
+pub write-high : (l : List ℕ) (at n : ℕ) → 10 ≤ n
+    → set (sets l at (digits (n / 10))) (at + length (digits (n / 10))) (48 + n % 10) ≡ sets l at (digits n)
 write-high l at n h = rw (digits-high n h) (sym (sets-append l at (digits (n / 10)) ((48 + n % 10) ∷ [])))

@@ -11,7 +11,8 @@ use Rattle.text.specs.Decimals.{digit-of, add-digit, scan, decimal-of, d
 use Rattle.text.specs.Lines.{field, is-end}
 use Rattle.text.specs.declared.Decimal.{Decimal}
 use Rattle.text.specs.declared.Decimal.the-variants.{Is, Bad}
-use Rattle.text.proofs.Decimals.{scan-bad, digit-low, digits-low, digits-high, length-low, length-high, length-most}
+use Rattle.text.proofs.Decimals.{scan-bad, digit-low, digits-low, digits-high, length-low, length-high}
+use Rattle.text.proofs.Decimals.{length-most}
 
 never : {A : Type 0} {v : ℕ} → Bad ≡ Is v → A
 never e = let z : _≡_ {A = ℕ} 0 1 = cc in absurd (omega arith)
@@ -25,25 +26,31 @@ scan-append (Is v) (b ∷ s) t = scan-append (add-digit v (digit-of b)) s t
 -- the byte of a digit, and the digit of a byte
 digit-back : (d : ℕ) → d < 10 → digit-of (48 + d) ≡ Is d
 unfolding digit-of
-digit-back d h = let e : 48 + d - 48 ≡ d = omega arith in rw (le-leb 48 (48 + d) (omega arith), le-leb (48 + d) 57 (omega arith), e)
+digit-back d h = let e : 48 + d - 48 ≡ d = omega arith in
+    rw (le-leb 48 (48 + d) (omega arith), le-leb (48 + d) 57 (omega arith), e)
 
-digit-inv : {A : Type 0} (b : ℕ) (r : Decimal) → digit-of b ≡ r → ((d : ℕ) → r ≡ Is d → d < 10 → b ≡ 48 + d → A) → (r ≡ Bad → A) → A
+digit-inv : {A : Type 0} (b : ℕ) (r : Decimal) → digit-of b ≡ r
+    → ((d : ℕ) → r ≡ Is d → d < 10 → b ≡ 48 + d → A) → (r ≡ Bad → A) → A
 unfolding digit-of
 digit-inv {A} b r e k z = go (leb 48 b) refl (leb b 57) refl e
   where
     go : (t : Bool) → leb 48 b ≡ t → (u : Bool) → leb b 57 ≡ u → cond t (cond u (Is (b - 48)) Bad) Bad ≡ r → A
-    go true p true q e = k (b - 48) (sym e) (omega (arith, leb-true 48 b p, leb-true b 57 q)) (omega (arith, leb-true 48 b p))
+    go true p true q e =
+        k (b - 48) (sym e) (omega (arith, leb-true 48 b p, leb-true b 57 q)) (omega (arith, leb-true 48 b p))
     go true p false q e = z (sym e)
     go false p u q e = z (sym e)
 
 -- one more digit
-one-more : (v b : ℕ) (d : ℕ) → digit-of b ≡ Is d → v * 10 + d ≤ 65535 → add-digit v (digit-of b) ≡ Is (v * 10 + d)
+one-more : (v b : ℕ) (d : ℕ) → digit-of b ≡ Is d → v * 10 + d ≤ 65535
+    → add-digit v (digit-of b) ≡ Is (v * 10 + d)
 one-more v b d e h = rw e (digit-low v d h)
 
 more-inv : {A : Type 0} (v b : ℕ) (s : List ℕ) (n : ℕ) → scan (Is v) (b ∷ s) ≡ Is n
     → ((d : ℕ) → d < 10 → b ≡ 48 + d → scan (Is (v * 10 + d)) s ≡ Is n → A) → A
 unfolding scan
-more-inv {A} v b s n e k = digit-inv b (digit-of b) refl (λ d p h q. go d p h q (leb (v * 10 + d) 65535) refl) (λ z. never (sym (scan-bad s) ∙ ap (λ (r : Decimal). scan (add-digit v r) s) (sym z) ∙ e))
+more-inv {A} v b s n e k =
+    digit-inv b (digit-of b) refl (λ d p h q. go d p h q (leb (v * 10 + d) 65535) refl)
+    (λ z. never (sym (scan-bad s) ∙ ap (λ (r : Decimal). scan (add-digit v r) s) (sym z) ∙ e))
   where
     go : (d : ℕ) → digit-of b ≡ Is d → d < 10 → b ≡ 48 + d → (t : Bool) → leb (v * 10 + d) 65535 ≡ t → A
     go d p h q true l = k d h q (rw (p, l) at e)
@@ -56,7 +63,8 @@ scan-grows [] v n h e = let q : v ≡ n = cc in rw (← q) (sym (append-nil (dig
 scan-grows (b ∷ s) v n h e = more-inv v b s n e λ d l q f.
     let x : (v * 10 + d) / 10 ≡ v = omega (arith, l) in
     let y : (v * 10 + d) % 10 ≡ d = omega (arith, l) in
-    let w : digits (v * 10 + d) ≡ digits v ++ ((48 + d) ∷ []) = digits-high (v * 10 + d) (omega (arith, h)) ∙ rw (x, y) in
+    let w : digits (v * 10 + d) ≡ digits v ++ ((48 + d) ∷ []) = digits-high (v * 10 + d) (omega (arith, h))
+    ∙ rw (x, y) in
     scan-grows s (v * 10 + d) n (omega (arith, h)) f ∙ rw (w, q) (append-assoc (digits v) ((48 + d) ∷ []) s)
 
 -- the number of a field has the field for its digits
@@ -64,14 +72,16 @@ pub decimal-back : (s : List ℕ) (n : ℕ) → decimal-of s ≡ Is n → digits
 unfolding decimal-of scan
 decimal-back [] n e = never e
 decimal-back (b ∷ s) n e =
-    let f = rw (ne-eqb (suc (length s)) 0 (λ z. omega (arith, z))) at e in go (ltb 5 (suc (length s))) (eqb b 48) refl (ltb 1 (suc (length s))) refl f
+    let f = rw (ne-eqb (suc (length s)) 0 (λ z. omega (arith, z))) at e in
+    go (ltb 5 (suc (length s))) (eqb b 48) refl (ltb 1 (suc (length s))) refl f
   where
     from : scan (Is 0) (b ∷ s) ≡ Is n → (b ≡ 48 → s ≡ []) → digits n ≡ b ∷ s
     from f z = more-inv 0 b s n f λ d l q g.
         let w : 0 * 10 + d ≡ d = omega arith in
         first d l q (rw w at g) (eqb d 0) refl
       where
-        first : (d : ℕ) → d < 10 → b ≡ 48 + d → scan (Is d) s ≡ Is n → (t : Bool) → eqb d 0 ≡ t → digits n ≡ b ∷ s
+        first : (d : ℕ) → d < 10 → b ≡ 48 + d → scan (Is d) s ≡ Is n → (t : Bool) → eqb d 0 ≡ t
+            → digits n ≡ b ∷ s
         first d l q g true p =
             let k : d ≡ 0 = eqb-true d 0 p in
             let m : s ≡ [] = z (omega (arith, q, k)) in
@@ -88,7 +98,8 @@ decimal-back (b ∷ s) n e =
         empty (x ∷ s) h = absurd (omega (arith, h))
 
     go : (t : Bool) (u : Bool) → eqb b 48 ≡ u → (w : Bool) → ltb 1 (suc (length s)) ≡ w
-        → cond t Bad (cond u (cond w Bad (scan (Is 0) (b ∷ s))) (scan (Is 0) (b ∷ s))) ≡ Is n → digits n ≡ b ∷ s
+        → cond t Bad (cond u (cond w Bad (scan (Is 0) (b ∷ s))) (scan (Is 0) (b ∷ s))) ≡ Is n
+        → digits n ≡ b ∷ s
     go true u p w q e = never e
     go false true p true q e = never e
     go false true p false q e = from e (λ _. alone q)
@@ -108,7 +119,8 @@ scan-range (b ∷ s) v n h e = go (add-digit v (digit-of b)) refl e (λ w l f. s
         fit false p q = never q
     small v Bad w q = never q
 
-    go : (r : Decimal) → add-digit v (digit-of b) ≡ r → scan r s ≡ Is n → ((w : ℕ) → w ≤ 65535 → scan (Is w) s ≡ Is n → n ≤ 65535) → n ≤ 65535
+    go : (r : Decimal) → add-digit v (digit-of b) ≡ r → scan r s ≡ Is n
+        → ((w : ℕ) → w ≤ 65535 → scan (Is w) s ≡ Is n → n ≤ 65535) → n ≤ 65535
     go (Is w) q e ih = ih w (small v (digit-of b) w q) e
     go Bad q e ih = never (sym (scan-bad s) ∙ e)
 
@@ -116,7 +128,8 @@ pub decimal-range : (s : List ℕ) (n : ℕ) → decimal-of s ≡ Is n → n ≤
 unfolding decimal-of
 decimal-range s n e = go (eqb (length s) 0) (ltb 5 (length s)) (eqb (getD s 0 0) 48) (ltb 1 (length s)) e
   where
-    go : (t u w x : Bool) → cond t Bad (cond u Bad (cond w (cond x Bad (scan (Is 0) s)) (scan (Is 0) s))) ≡ Is n → n ≤ 65535
+    go : (t u w x : Bool)
+        → cond t Bad (cond u Bad (cond w (cond x Bad (scan (Is 0) s)) (scan (Is 0) s))) ≡ Is n → n ≤ 65535
     go true u w x e = never e
     go false true w x e = never e
     go false false true true e = never e
@@ -127,9 +140,11 @@ decimal-range s n e = go (eqb (length s) 0) (ltb 5 (length s)) (eqb (getD s 0 0)
 scan-digits : (k n : ℕ) → n < k → n ≤ 65535 → scan (Is 0) (digits n) ≡ Is n
 unfolding scan
 scan-digits zero n h m = absurd (omega (arith, h))
-scan-digits (suc k) n h m = go (ltb n 10) refl (λ q. scan-digits k (n / 10) (omega (arith, h, q)) (omega (arith, m)))
+scan-digits (suc k) n h m =
+    go (ltb n 10) refl (λ q. scan-digits k (n / 10) (omega (arith, h, q)) (omega (arith, m)))
   where
-    go : (t : Bool) → ltb n 10 ≡ t → (10 ≤ n → scan (Is 0) (digits (n / 10)) ≡ Is (n / 10)) → scan (Is 0) (digits n) ≡ Is n
+    go : (t : Bool) → ltb n 10 ≡ t → (10 ≤ n → scan (Is 0) (digits (n / 10)) ≡ Is (n / 10))
+        → scan (Is 0) (digits n) ≡ Is n
     go true e ih =
         let l = ltb-true n 10 e in
         let w : 0 * 10 + n ≡ n = omega arith in
@@ -154,7 +169,8 @@ length-some n = go (ltb n 10) refl
 
 first-digit : (k n : ℕ) → n < k → 0 < n → getD (digits n) 0 0 ≡ 48 → ⊥
 first-digit zero n h p e = omega (arith, h)
-first-digit (suc k) n h p e = go (ltb n 10) refl (λ q f. first-digit k (n / 10) (omega (arith, h, q)) (omega (arith, q)) f)
+first-digit (suc k) n h p e =
+    go (ltb n 10) refl (λ q f. first-digit k (n / 10) (omega (arith, h, q)) (omega (arith, q)) f)
   where
     go : (t : Bool) → ltb n 10 ≡ t → (10 ≤ n → getD (digits (n / 10)) 0 0 ≡ 48 → ⊥) → ⊥
     go true q ih = let w : 48 + n ≡ 48 = rw (digits-low n (ltb-true n 10 q)) at e in omega (arith, w, p)
@@ -165,7 +181,12 @@ first-digit (suc k) n h p e = go (ltb n 10) refl (λ q f. first-digit k (n / 10)
 
 pub decimal-forth : (n : ℕ) → n ≤ 65535 → decimal-of (digits n) ≡ Is n
 unfolding decimal-of
-decimal-forth n h = rw (ne-eqb (length (digits n)) 0 (λ z. omega (arith, length-some n, z)), le-ltb 5 (length (digits n)) (length-most n h)) (go (eqb (getD (digits n) 0 0) 48) refl (ltb 1 (length (digits n))) refl)
+decimal-forth n h = rw (
+  ne-eqb (length (digits n)) 0 (λ z. omega (arith, length-some n, z)),
+  le-ltb 5
+      (length (digits n)) (length-most n h),
+)
+    (go (eqb (getD (digits n) 0 0) 48) refl (ltb 1 (length (digits n))) refl)
   where
     all : scan (Is 0) (digits n) ≡ Is n
     all = scan-digits (suc n) n (omega arith) h
@@ -177,8 +198,15 @@ decimal-forth n h = rw (ne-eqb (length (digits n)) 0 (λ z. omega (arith, length
     go true e true f = absurd (zero-first (eqb n 0) refl)
       where
         zero-first : (t : Bool) → eqb n 0 ≡ t → ⊥
-        zero-first true q = omega (arith, length-low n (omega (arith, eqb-true n 0 q)), ltb-true 1 (length (digits n)) f)
-        zero-first false q = first-digit (suc n) n (omega arith) (omega (arith, eqb-false n 0 q)) (eqb-true (getD (digits n) 0 0) 48 e)
+        zero-first true q = omega (
+          arith,
+          length-low n (omega (arith, eqb-true n 0 q)),
+          ltb-true 1
+              (length (digits n)) f,
+        )
+        zero-first false q =
+            first-digit (suc n) n (omega arith) (omega (arith, eqb-false n 0 q))
+            (eqb-true (getD (digits n) 0 0) 48 e)
 
 -- no digit ends a field
 data Plain : List ℕ → Type 0 where
@@ -195,7 +223,8 @@ plain-digits (suc k) n h = go (ltb n 10) refl (λ q. plain-digits k (n / 10) (om
   where
     go : (t : Bool) → ltb n 10 ≡ t → (10 ≤ n → Plain (digits (n / 10))) → Plain (digits n)
     go true e ih = rw (digits-low n (ltb-true n 10 e)) (plain-cons {b = 48 + n} (omega arith) plain-nil)
-    go false e ih = rw (digits-high n (ltb-false n 10 e)) (plain-append (ih (ltb-false n 10 e)) (plain-cons {b = 48 + n % 10} (omega arith) plain-nil))
+    go false e ih = rw (digits-high n (ltb-false n 10 e))
+        (plain-append (ih (ltb-false n 10 e)) (plain-cons {b = 48 + n % 10} (omega arith) plain-nil))
 
 field-plain : {s : List ℕ} → Plain s → (u : ℕ) (t : List ℕ) → is-end u ≡ true → field (s ++ (u ∷ t)) ≡ s
 unfolding field

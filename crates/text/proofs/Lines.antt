@@ -13,7 +13,8 @@ use Rattle.language.proofs.Filling.{sets-then}
 use Rattle.language.specs.Rows.{numbers-after, row, is-row}
 use Rattle.language.proofs.Rows.{are-numbers, is-row-by}
 use Rattle.text.specs.Decimals.{decimal-of, digits}
-use Rattle.text.specs.Lines.{field, is-end, taken, number-of, closed, then-line, numbered, line-of, line-text}
+use Rattle.text.specs.Lines.{field, is-end, taken, number-of, closed, then-line, numbered, line-of}
+use Rattle.text.specs.Lines.{line-text}
 use Rattle.text.specs.Places.{taken-at, line-at}
 use Rattle.text.proofs.Decimals.{length-most}
 use Rattle.text.specs.declared.Decimal.the-variants.{Is, Bad}
@@ -24,13 +25,15 @@ use Rattle.text.specs.declared.Line.the-variants.{Row, Malformed}
 -- the part from at to e goes on, or ends
 pub field-end : (s : List ℕ) (e : ℕ) → e < length s → is-end (getD s e 0) ≡ true → field (drop e s) ≡ []
 unfolding field
-field-end s e h t = ap field (drop-cons s e 0 h) ∙ ap (λ (b : Bool). cond b [] (getD s e 0 ∷ field (drop (suc e) s))) t
+field-end s e h t = ap field (drop-cons s e 0 h)
+    ∙ ap (λ (b : Bool). cond b [] (getD s e 0 ∷ field (drop (suc e) s))) t
 
 pub field-all : (s : List ℕ) (e : ℕ) → e ≡ length s → field (drop e s) ≡ []
 unfolding field
 field-all s e h = ap (λ (k : ℕ). field (drop k s)) h ∙ ap field (drop-length s)
 
-pub field-more : (s : List ℕ) (at e : ℕ) → at ≤ e → e < length s → is-end (getD s e 0) ≡ false → field (drop at s) ≡ take (e - at) (drop at s) ++ field (drop e s)
+pub field-more : (s : List ℕ) (at e : ℕ) → at ≤ e → e < length s → is-end (getD s e 0) ≡ false
+    → field (drop at s) ≡ take (e - at) (drop at s) ++ field (drop e s)
     → field (drop at s) ≡ take (e + 1 - at) (drop at s) ++ field (drop (e + 1) s)
 unfolding field
 field-more s at e l h t q =
@@ -38,9 +41,15 @@ field-more s at e l h t q =
     let k : e + 1 - at ≡ suc (e - at) = omega arith in
     let here : at + (e - at) ≡ e = omega arith in
     let byte : getD d (e - at) 0 ≡ getD s e 0 = getD-drop at s (e - at) 0 ∙ ap (λ (x : ℕ). getD s x 0) here in
-    let more : take (e + 1 - at) d ≡ take (e - at) d ++ (getD s e 0 ∷ []) = ap (λ (x : ℕ). take x d) k ∙ (take-suc d (e - at) 0 (omega (arith, length-drop at s)) ∙ ap (λ (x : ℕ). take (e - at) d ++ (x ∷ [])) byte) in
-    let step : field (drop e s) ≡ getD s e 0 ∷ field (drop (e + 1) s) = ap field (drop-cons s e 0 h) ∙ (ap (λ (b : Bool). cond b [] (getD s e 0 ∷ field (drop (suc e) s))) t ∙ ap (λ (x : ℕ). getD s e 0 ∷ field (drop x s)) (sym (add-one e))) in
-    q ∙ (ap (λ (x : List ℕ). take (e - at) d ++ x) step ∙ (sym (append-snoc (take (e - at) d) (getD s e 0) (field (drop (e + 1) s))) ∙ ap (λ (x : List ℕ). x ++ field (drop (e + 1) s)) (sym more)))
+    let more : take (e + 1 - at) d ≡ take (e - at) d ++ (getD s e 0 ∷ []) = ap (λ (x : ℕ). take x d) k
+    ∙ (take-suc d (e - at) 0 (omega (arith, length-drop at s))
+    ∙ ap (λ (x : ℕ). take (e - at) d ++ (x ∷ [])) byte) in
+    let step : field (drop e s) ≡ getD s e 0 ∷ field (drop (e + 1) s) = ap field (drop-cons s e 0 h)
+    ∙ (ap (λ (b : Bool). cond b [] (getD s e 0 ∷ field (drop (suc e) s))) t
+    ∙ ap (λ (x : ℕ). getD s e 0 ∷ field (drop x s)) (sym (add-one e))) in
+    q ∙ (ap (λ (x : List ℕ). take (e - at) d ++ x) step
+    ∙ (sym (append-snoc (take (e - at) d) (getD s e 0) (field (drop (e + 1) s)))
+    ∙ ap (λ (x : List ℕ). x ++ field (drop (e + 1) s)) (sym more)))
 
 pub is-tab : (b : ℕ) → b ≡ 9 → is-end b ≡ true
 is-tab b e = ap is-end e
@@ -79,21 +88,26 @@ module _ (at : ℕ) (s : List ℕ) where
       pub number-bad : decimal-of f ≡ Bad → NoNumber ≡ taken-at at (number-of (drop at s))
       number-bad d = rw (number-here, d)
 
-      pub number-good : (v : ℕ) → decimal-of f ≡ Is v → Number v (at + 1 + length f) ≡ taken-at at (number-of (drop at s))
-      number-good v d = let q : at + 1 + length f ≡ at + (1 + length f) = omega arith in rw (number-here, d, q)
+      pub number-good : (v : ℕ) → decimal-of f ≡ Is v
+          → Number v (at + 1 + length f) ≡ taken-at at (number-of (drop at s))
+      number-good v d = let q : at + 1 + length f ≡ at + (1 + length f) = omega arith in
+          rw (number-here, d, q)
 
 -- a line that is closed further on in a text
-closed-shift : (code a b at n : ℕ) (s : List ℕ) → line-at at (closed code a b n s) ≡ closed code a b (at + n) s
+closed-shift : (code a b at n : ℕ) (s : List ℕ)
+    → line-at at (closed code a b n s) ≡ closed code a b (at + n) s
 unfolding closed
 closed-shift code a b at n [] = refl
 closed-shift code a b at n (x ∷ s) = go (eqb x 10)
   where
-    go : (t : Bool) → line-at at (cond t (Row code a b (n + 1)) Malformed) ≡ cond t (Row code a b (at + n + 1)) Malformed
+    go : (t : Bool) → line-at at (cond t (Row code a b (n + 1)) Malformed) ≡ cond t
+        (Row code a b (at + n + 1)) Malformed
     go true = let e : at + (n + 1) ≡ at + n + 1 = omega arith in ap (Row code a b) e
     go false = refl
 
 -- a number found at a place of a text, counted from there
-taken-inv : {A : Type 0} (p a q : ℕ) (t : Taken) → taken-at p t ≡ Number a q → ((n : ℕ) → t ≡ Number a n → q ≡ p + n → A) → A
+taken-inv : {A : Type 0} (p a q : ℕ) (t : Taken) → taken-at p t ≡ Number a q
+    → ((n : ℕ) → t ≡ Number a n → q ≡ p + n → A) → A
 taken-inv p a q (Number v n) e k = k n (let h : v ≡ a = cc in ap (λ (x : ℕ). Number x n) h) (cc)
 taken-inv p a q NoNumber e k = let z : _≡_ {A = ℕ} 0 1 = cc in absurd (omega arith)
 
@@ -106,7 +120,8 @@ pub line-past : (at : ℕ) (s : List ℕ) → length s ≤ at → Malformed ≡ 
 unfolding line-of
 line-past at s h = rw (drop-of-length-le s h)
 
-module _ (code at : ℕ) (s : List ℕ) (h : at < length s) (is : code ≡ getD s at 0) (count : ℕ) (c : count ≡ numbers-after code) where
+module _ (code at : ℕ) (s : List ℕ) (h : at < length s) (is : code ≡ getD s at 0) (count : ℕ)
+    (c : count ≡ numbers-after code) where
   line-here : line-of (drop at s) ≡ numbered count code (drop (at + 1) s)
   unfolding line-of
   line-here = rw (drop-cons s at 0 h, ← add-one at, ← is, ← c)
@@ -119,7 +134,8 @@ module _ (code at : ℕ) (s : List ℕ) (h : at < length s) (is : code ≡ getD 
   unfolding numbered
   line-unknown l = let e : count ≡ suc (suc (suc (count - 3))) = omega arith in rw (line-here, e)
 
-  pub line-no-first : (count ≡ 0 → ⊥) → taken-at (at + 1) (number-of (drop (at + 1) s)) ≡ NoNumber → Malformed ≡ line-at at (line-of (drop at s))
+  pub line-no-first : (count ≡ 0 → ⊥) → taken-at (at + 1) (number-of (drop (at + 1) s)) ≡ NoNumber
+      → Malformed ≡ line-at at (line-of (drop at s))
   unfolding numbered
   line-no-first z e = sym (ap (line-at at) (line-here ∙ go count z))
     where
@@ -134,20 +150,41 @@ module _ (code at : ℕ) (s : List ℕ) (h : at < length s) (is : code ≡ getD 
     unfolding numbered
     line-one z = taken-inv (at + 1) a p (number-of (drop (at + 1) s)) first λ n e q.
         let w : p ≡ at + (1 + n) = omega (arith, q) in
-        sym (rw (line-here, z, e, drop-drop n (at + 1) s, ← q, closed-shift code a 0 at (1 + n) (drop p s), ← w))
+        sym (rw (
+          line-here,
+          z,
+          e,
+          drop-drop n (at + 1) s,
+          ← q,
+          closed-shift code a 0 at (1 + n) (drop p s),
+          ← w,
+        ))
 
-    pub line-no-second : count ≡ 2 → taken-at p (number-of (drop p s)) ≡ NoNumber → Malformed ≡ line-at at (line-of (drop at s))
+    pub line-no-second : count ≡ 2 → taken-at p (number-of (drop p s)) ≡ NoNumber
+        → Malformed ≡ line-at at (line-of (drop at s))
     unfolding numbered
     line-no-second z f = taken-inv (at + 1) a p (number-of (drop (at + 1) s)) first λ n e q.
         rw (line-here, z, e, drop-drop n (at + 1) s, ← q, none-inv p (number-of (drop p s)) f)
 
-    pub line-two : (b r : ℕ) → count ≡ 2 → taken-at p (number-of (drop p s)) ≡ Number b r → closed code a b r (drop r s) ≡ line-at at (line-of (drop at s))
+    pub line-two : (b r : ℕ) → count ≡ 2 → taken-at p (number-of (drop p s)) ≡ Number b r
+        → closed code a b r (drop r s) ≡ line-at at (line-of (drop at s))
     unfolding numbered
     line-two b r z second = taken-inv (at + 1) a p (number-of (drop (at + 1) s)) first λ n e q.
         taken-inv p b r (number-of (drop p s)) second λ m f w.
         let u : r ≡ at + (1 + n + m) = omega (arith, q, w) in
         let g : at + 1 + (n + m) ≡ r = omega (arith, q, w) in
-        sym (rw (line-here, z, e, drop-drop n (at + 1) s, ← q, f, drop-drop (n + m) (at + 1) s, g, closed-shift code a b at (1 + n + m) (drop r s), ← u))
+        sym (rw (
+          line-here,
+          z,
+          e,
+          drop-drop n (at + 1) s,
+          ← q,
+          f,
+          drop-drop (n + m) (at + 1) s,
+          g,
+          closed-shift code a b at (1 + n + m) (drop r s),
+          ← u,
+        ))
 
 -- the line of a row, by how many numbers its letter takes
 module _ (code a b : ℕ) where
@@ -159,7 +196,8 @@ module _ (code a b : ℕ) where
   unfolding line-text
   text-one e = rw e
 
-  pub text-two : numbers-after code ≡ 2 → line-text code a b ≡ code ∷ ((9 ∷ digits a) ++ ((9 ∷ digits b) ++ (10 ∷ [])))
+  pub text-two : numbers-after code ≡ 2
+      → line-text code a b ≡ code ∷ ((9 ∷ digits a) ++ ((9 ∷ digits b) ++ (10 ∷ [])))
   unfolding line-text
   text-two e = rw (e, append-assoc (digits a) (9 ∷ digits b) (10 ∷ []))
 
@@ -169,7 +207,8 @@ module _ (code a b : ℕ) where
   pub length-one : numbers-after code ≡ 1 → length (line-text code a b) ≡ 3 + length (digits a)
   length-one e = ap length (text-one e) ∙ simp length-append (omega arith)
 
-  pub length-two : numbers-after code ≡ 2 → length (line-text code a b) ≡ 4 + length (digits a) + length (digits b)
+  pub length-two : numbers-after code ≡ 2
+      → length (line-text code a b) ≡ 4 + length (digits a) + length (digits b)
   length-two e = ap length (text-two e) ∙ simp length-append (omega arith)
 
 -- room for the letter, and for the first number where there is one
@@ -177,7 +216,8 @@ pub length-some : (code a b : ℕ) → 1 ≤ length (line-text code a b)
 unfolding line-text
 length-some code a b = omega arith
 
-pub length-first : (code a b : ℕ) → numbers-after code < 3 → (numbers-after code ≡ 0 → ⊥) → 3 + length (digits a) ≤ length (line-text code a b)
+pub length-first : (code a b : ℕ) → numbers-after code < 3 → (numbers-after code ≡ 0 → ⊥)
+    → 3 + length (digits a) ≤ length (line-text code a b)
 length-first code a b h n = go (numbers-after code) refl
   where
     go : (k : ℕ) → numbers-after code ≡ k → 3 + length (digits a) ≤ length (line-text code a b)
@@ -187,12 +227,14 @@ length-first code a b h n = go (numbers-after code) refl
     go (suc (suc (suc k))) e = absurd (omega (arith, h, e))
 
 -- a line takes two bytes at least, and no more than there are
-closed-span : (code a b used : ℕ) (s : List ℕ) (code′ a′ b′ n : ℕ) → closed code a b used s ≡ Row code′ a′ b′ n → (n ≡ used + 1) × (1 ≤ length s)
+closed-span : (code a b used : ℕ) (s : List ℕ) (code′ a′ b′ n : ℕ)
+    → closed code a b used s ≡ Row code′ a′ b′ n → (n ≡ used + 1) × (1 ≤ length s)
 unfolding closed
 closed-span code a b used [] code′ a′ b′ n e = let z : _≡_ {A = ℕ} 0 1 = cc in absurd (omega arith)
 closed-span code a b used (x ∷ s) code′ a′ b′ n e = go (eqb x 10) e
   where
-    go : (t : Bool) → cond t (Row code a b (used + 1)) Malformed ≡ Row code′ a′ b′ n → (n ≡ used + 1) × (1 ≤ suc (length s))
+    go : (t : Bool) → cond t (Row code a b (used + 1)) Malformed ≡ Row code′ a′ b′ n
+        → (n ≡ used + 1) × (1 ≤ suc (length s))
     go true e = (cc, omega arith)
     go false e = let z : _≡_ {A = ℕ} 0 1 = cc in absurd (omega arith)
 
@@ -200,30 +242,38 @@ closed-span code a b used (x ∷ s) code′ a′ b′ n e = go (eqb x 10) e
 abbrev Span : List ℕ → ℕ → Type 0
 Span s n = (2 ≤ n) × (n ≤ suc (length s))
 
-closed-after : (code a b k : ℕ) (s : List ℕ) (code′ a′ b′ n : ℕ) → closed code a b (1 + k) (drop k s) ≡ Row code′ a′ b′ n → Span s n
+closed-after : (code a b k : ℕ) (s : List ℕ) (code′ a′ b′ n : ℕ)
+    → closed code a b (1 + k) (drop k s) ≡ Row code′ a′ b′ n → Span s n
 closed-after code a b k s code′ a′ b′ n e =
-    let h = closed-span code a b (1 + k) (drop k s) code′ a′ b′ n e in (omega (arith, h .0), omega (arith, h .0, h .1, length-drop k s))
+    let h = closed-span code a b (1 + k) (drop k s) code′ a′ b′ n e in
+    (omega (arith, h .0), omega (arith, h .0, h .1, length-drop k s))
 
-one-span : (code : ℕ) (s : List ℕ) (code′ a′ b′ n : ℕ) (t : Taken) → then-line (λ a k. closed code a 0 (1 + k) (drop k s)) t ≡ Row code′ a′ b′ n → Span s n
+one-span : (code : ℕ) (s : List ℕ) (code′ a′ b′ n : ℕ) (t : Taken)
+    → then-line (λ a k. closed code a 0 (1 + k) (drop k s)) t ≡ Row code′ a′ b′ n → Span s n
 one-span code s code′ a′ b′ n (Number a k) e = closed-after code a 0 k s code′ a′ b′ n e
 one-span code s code′ a′ b′ n NoNumber e = let z : _≡_ {A = ℕ} 0 1 = cc in absurd (omega arith)
 
-second-span : (code a k : ℕ) (s : List ℕ) (code′ a′ b′ n : ℕ) (t : Taken) → then-line (λ b m. closed code a b (1 + k + m) (drop (k + m) s)) t ≡ Row code′ a′ b′ n → Span s n
+second-span : (code a k : ℕ) (s : List ℕ) (code′ a′ b′ n : ℕ) (t : Taken)
+    → then-line (λ b m. closed code a b (1 + k + m) (drop (k + m) s)) t ≡ Row code′ a′ b′ n → Span s n
 second-span code a k s code′ a′ b′ n (Number b m) e =
     let q : 1 + k + m ≡ 1 + (k + m) = omega arith in closed-after code a b (k + m) s code′ a′ b′ n (rw q at e)
 second-span code a k s code′ a′ b′ n NoNumber e = let z : _≡_ {A = ℕ} 0 1 = cc in absurd (omega arith)
 
 two-span : (code : ℕ) (s : List ℕ) (code′ a′ b′ n : ℕ) (t : Taken)
-    → then-line (λ a k. then-line (λ b m. closed code a b (1 + k + m) (drop (k + m) s)) (number-of (drop k s))) t ≡ Row code′ a′ b′ n → Span s n
+    → then-line (λ a k. then-line (λ b m. closed code a b (1 + k + m) (drop (k + m) s))
+    (number-of (drop k s))) t ≡ Row code′ a′ b′ n → Span s n
 two-span code s code′ a′ b′ n (Number a k) e = second-span code a k s code′ a′ b′ n (number-of (drop k s)) e
 two-span code s code′ a′ b′ n NoNumber e = let z : _≡_ {A = ℕ} 0 1 = cc in absurd (omega arith)
 
-numbered-span : (count code : ℕ) (s : List ℕ) (code′ a′ b′ n : ℕ) → numbered count code s ≡ Row code′ a′ b′ n → Span s n
+numbered-span : (count code : ℕ) (s : List ℕ) (code′ a′ b′ n : ℕ) → numbered count code s ≡ Row code′ a′ b′ n
+    → Span s n
 unfolding numbered
-numbered-span zero code s code′ a′ b′ n e = let h = closed-span code 0 0 1 s code′ a′ b′ n e in (omega (arith, h .0), omega (arith, h .0, h .1))
+numbered-span zero code s code′ a′ b′ n e = let h = closed-span code 0 0 1 s code′ a′ b′ n e in
+    (omega (arith, h .0), omega (arith, h .0, h .1))
 numbered-span (suc zero) code s code′ a′ b′ n e = one-span code s code′ a′ b′ n (number-of s) e
 numbered-span (suc (suc zero)) code s code′ a′ b′ n e = two-span code s code′ a′ b′ n (number-of s) e
-numbered-span (suc (suc (suc k))) code s code′ a′ b′ n e = let z : _≡_ {A = ℕ} 0 1 = cc in absurd (omega arith)
+numbered-span (suc (suc (suc k))) code s code′ a′ b′ n e = let z : _≡_ {A = ℕ} 0 1 = cc in
+    absurd (omega arith)
 
 pub row-span : (s : List ℕ) (code a b n : ℕ) → line-of s ≡ Row code a b n → (2 ≤ n) × (n ≤ length s)
 unfolding line-of
@@ -236,13 +286,16 @@ module _ (l : List ℕ) (at code a b : ℕ) where
   write-none e = rw (text-none code a b e, add-one at)
 
   module _ (then : ℕ) (p : then ≡ at + 1 + 1 + length (digits a)) where
-    pub write-one : numbers-after code ≡ 1 → set (sets (set l at code) (at + 1) (9 ∷ digits a)) then 10 ≡ sets l at (line-text code a b)
+    pub write-one : numbers-after code ≡ 1
+        → set (sets (set l at code) (at + 1) (9 ∷ digits a)) then 10 ≡ sets l at (line-text code a b)
     write-one e =
         let q : then ≡ suc at + length (9 ∷ digits a) = omega (arith, p) in
-        rw (text-one code a b e, add-one at) (sets-then (set l at code) (suc at) then (9 ∷ digits a) (10 ∷ []) q)
+        rw (text-one code a b e, add-one at)
+        (sets-then (set l at code) (suc at) then (9 ∷ digits a) (10 ∷ []) q)
 
     pub write-two : (end : ℕ) → end ≡ then + 1 + length (digits b) → numbers-after code ≡ 2
-        → set (sets (sets (set l at code) (at + 1) (9 ∷ digits a)) then (9 ∷ digits b)) end 10 ≡ sets l at (line-text code a b)
+        → set (sets (sets (set l at code) (at + 1) (9 ∷ digits a)) then (9 ∷ digits b)) end 10
+        ≡ sets l at (line-text code a b)
     write-two end w e =
         let q : then ≡ suc at + length (9 ∷ digits a) = omega (arith, p) in
         let r : end ≡ then + length (9 ∷ digits b) = omega (arith, w) in
@@ -266,7 +319,8 @@ and-left true y e = refl
 and-left false y e = e
 
 row-numbers : (code a b c : ℕ) → is-row (row code a b c) ≡ true → are-numbers (numbers-after code) a b ≡ true
-row-numbers code a b c e = and-right (eqb c 0) (are-numbers (numbers-after code) a b) (sym (is-row-by code a b c) ∙ e)
+row-numbers code a b c e =
+    and-right (eqb c 0) (are-numbers (numbers-after code) a b) (sym (is-row-by code a b c) ∙ e)
 
 pub row-known : (code a b c : ℕ) → is-row (row code a b c) ≡ true → numbers-after code < 3
 row-known code a b c e = numbers-known (numbers-after code) a b (row-numbers code a b c e)
@@ -276,6 +330,17 @@ row-short code a b c e = go (numbers-after code) refl (row-numbers code a b c e)
   where
     go : (k : ℕ) → numbers-after code ≡ k → are-numbers k a b ≡ true → length (line-text code a b) ≤ 14
     go zero q f = omega (arith, length-none code a b q)
-    go (suc zero) q f = omega (arith, length-one code a b q, length-most a (leb-true a 65535 (and-left (leb a 65535) (eqb b 0) f)))
-    go (suc (suc zero)) q f = omega (arith, length-two code a b q, length-most a (leb-true a 65535 (and-left (leb a 65535) (leb b 65535) f)), length-most b (leb-true b 65535 (and-right (leb a 65535) (leb b 65535) f)))
+    go (suc zero) q f = omega (
+      arith,
+      length-one code a b q,
+      length-most a
+          (leb-true a 65535 (and-left (leb a 65535) (eqb b 0) f)),
+    )
+    go (suc (suc zero)) q f =
+        omega (
+          arith,
+          length-two code a b q,
+          length-most a (leb-true a 65535 (and-left (leb a 65535) (leb b 65535) f)),
+          length-most b (leb-true b 65535 (and-right (leb a 65535) (leb b 65535) f)),
+        )
     go (suc (suc (suc k))) q f = absurd (false≢true f)

@@ -14,7 +14,8 @@ use Rattle.language.specs.Filling.{before}
 use Rattle.language.specs.Rows.{numbers-after, row, is-row}
 use Rattle.language.proofs.Rows.{are-numbers, is-row-by}
 use Rattle.text.specs.Decimals.{decimal-of, digits}
-use Rattle.text.specs.Lines.{field, is-end, taken, number-of, closed, then-line, numbered, line-of, line-text}
+use Rattle.text.specs.Lines.{field, is-end, taken, number-of, closed, then-line, numbered, line-of}
+use Rattle.text.specs.Lines.{line-text}
 use Rattle.text.specs.Texts.{with-line, read-lines, read-text, write-lines, write-rows}
 use Rattle.text.specs.declared.Decimal.{Decimal}
 use Rattle.text.specs.declared.Decimal.the-variants.{Is, Bad}
@@ -36,7 +37,8 @@ module _ {A : Type 0} where
   no-rows e = let z : _≡_ {A = ℕ} 0 1 = cc in absurd (omega arith)
 
   -- what closes a line is a line feed
-  closed-inv : (code a b used : ℕ) (s : List ℕ) (code′ a′ b′ n : ℕ) → closed code a b used s ≡ Row code′ a′ b′ n
+  closed-inv : (code a b used : ℕ) (s : List ℕ) (code′ a′ b′ n : ℕ)
+      → closed code a b used s ≡ Row code′ a′ b′ n
       → (code ≡ code′ → a ≡ a′ → b ≡ b′ → n ≡ used + 1 → take 1 s ≡ 10 ∷ [] → A) → A
   unfolding closed
   closed-inv code a b used [] code′ a′ b′ n e k = no-row e
@@ -52,7 +54,8 @@ unfolding field
 field-first [] = refl
 field-first (b ∷ s) = go (is-end b) (field-first s)
   where
-    go : (t : Bool) → take (length (field s)) s ≡ field s → take (length (cond t [] (b ∷ field s))) (b ∷ s) ≡ cond t [] (b ∷ field s)
+    go : (t : Bool) → take (length (field s)) s ≡ field s
+        → take (length (cond t [] (b ∷ field s))) (b ∷ s) ≡ cond t [] (b ∷ field s)
     go true ih = refl
     go false ih = ap (λ (r : List ℕ). b ∷ r) ih
 
@@ -62,13 +65,16 @@ unfolding number-of
 number-back [] v n e = let z : _≡_ {A = ℕ} 0 1 = cc in absurd (omega arith)
 number-back (b ∷ s) v n e = go (eqb b 9) refl (decimal-of (field s)) refl e
   where
-    go : (t : Bool) → eqb b 9 ≡ t → (d : Decimal) → decimal-of (field s) ≡ d → cond t (taken (1 + length (field s)) d) NoNumber ≡ Number v n
+    go : (t : Bool) → eqb b 9 ≡ t → (d : Decimal) → decimal-of (field s) ≡ d
+        → cond t (taken (1 + length (field s)) d) NoNumber ≡ Number v n
         → (take n (b ∷ s) ≡ 9 ∷ digits v) × (v ≤ 65535)
     go true q (Is w) p e =
         let x : w ≡ v = cc in
         let y : 1 + length (field s) ≡ n = cc in
-        let z : n ≡ suc (length (field s)) = omega (arith, y) in
-        (rw (z, eqb-true b 9 q, field-first s, ← x, decimal-back (field s) w p), rw (← x) (decimal-range (field s) w p))
+        let z : n ≡ suc (length (field s)) = omega (arith, y) in (
+          rw (z, eqb-true b 9 q, field-first s, ← x, decimal-back (field s) w p),
+          rw (← x) (decimal-range (field s) w p),
+        )
     go true q Bad p e = let z : _≡_ {A = ℕ} 0 1 = cc in absurd (omega arith)
     go false q d p e = let z : _≡_ {A = ℕ} 0 1 = cc in absurd (omega arith)
 
@@ -88,25 +94,39 @@ module _ (x : ℕ) (s : List ℕ) (code a b n : ℕ) where
       let z : n ≡ 2 = omega (arith, w) in
       rw (z, ← p, ← q, ← r) (is-row-by x 0 0 0 ∙ rw k, ap (λ (t : List ℕ). x ∷ t) f ∙ sym (text-none x 0 0 k))
 
-  one-back : numbers-after x ≡ 1 → (t : Taken) → number-of s ≡ t → then-line (λ v m. closed x v 0 (1 + m) (drop m s)) t ≡ Row code a b n → Written (x ∷ s) code a b n
+  one-back : numbers-after x ≡ 1 → (t : Taken) → number-of s ≡ t
+      → then-line (λ v m. closed x v 0 (1 + m) (drop m s)) t ≡ Row code a b n → Written (x ∷ s) code a b n
   one-back k NoNumber g e = no-row e
   one-back k (Number v m) g e = closed-inv x v 0 (1 + m) (drop m s) code a b n e λ p q r w f.
       let h = number-back s v m g in
       let z : n ≡ suc (m + 1) = omega (arith, w) in
-      rw (z, ← p, ← q, ← r) (row-one x v k (h .1), ap (λ (t : List ℕ). x ∷ t) (take-add m 1 s ∙ rw (h .0, f)) ∙ sym (text-one x v 0 k))
+      rw (z, ← p, ← q, ← r) (
+        row-one x v k (h .1),
+        ap (λ (t : List ℕ). x ∷ t) (take-add m 1 s ∙ rw (h .0, f))
+            ∙ sym (text-one x v 0 k),
+      )
 
-  second-back : numbers-after x ≡ 2 → (v m : ℕ) → number-of s ≡ Number v m → (t : Taken) → number-of (drop m s) ≡ t
-      → then-line (λ u l. closed x v u (1 + m + l) (drop (m + l) s)) t ≡ Row code a b n → Written (x ∷ s) code a b n
+  second-back : numbers-after x ≡ 2 → (v m : ℕ) → number-of s ≡ Number v m → (t : Taken)
+      → number-of (drop m s) ≡ t
+      → then-line (λ u l. closed x v u (1 + m + l) (drop (m + l) s)) t ≡ Row code a b n
+      → Written (x ∷ s) code a b n
   second-back k v m g NoNumber g′ e = no-row e
-  second-back k v m g (Number u l) g′ e = closed-inv x v u (1 + m + l) (drop (m + l) s) code a b n e λ p q r w f.
+  second-back k v m g (Number u l) g′ e =
+      closed-inv x v u (1 + m + l) (drop (m + l) s) code a b n e λ p q r w f.
       let h = number-back s v m g in
       let i = number-back (drop m s) u l g′ in
       let z : n ≡ suc (m + l + 1) = omega (arith, w) in
-      rw (z, ← p, ← q, ← r)
-      (row-two x v u k (h .1) (i .1), ap (λ (t : List ℕ). x ∷ t) (take-add (m + l) 1 s ∙ rw (take-add m l s, h .0, i .0, f) (append-assoc (9 ∷ digits v) (9 ∷ digits u) (10 ∷ []))) ∙ sym (text-two x v u k))
+      rw (z, ← p, ← q, ← r) (
+        row-two x v u k (h .1) (i .1),
+        ap (λ (t : List ℕ). x ∷ t)
+            (take-add (m + l) 1 s
+            ∙ rw (take-add m l s, h .0, i .0, f) (append-assoc (9 ∷ digits v) (9 ∷ digits u) (10 ∷ [])))
+            ∙ sym (text-two x v u k),
+      )
 
   two-back : numbers-after x ≡ 2 → (t : Taken) → number-of s ≡ t
-      → then-line (λ v m. then-line (λ u l. closed x v u (1 + m + l) (drop (m + l) s)) (number-of (drop m s))) t ≡ Row code a b n → Written (x ∷ s) code a b n
+      → then-line (λ v m. then-line (λ u l. closed x v u (1 + m + l) (drop (m + l) s)) (number-of (drop m s)))
+      t ≡ Row code a b n → Written (x ∷ s) code a b n
   two-back k NoNumber g e = no-row e
   two-back k (Number v m) g e = second-back k v m g (number-of (drop m s)) refl e
 
@@ -123,55 +143,79 @@ line-back (x ∷ s) code a b n e = go (numbers-after x) refl e
 
 -- ---- whole texts, line by line
 
-before-inv : {A : Type 0} (xs ys : List ℕ) (m : Checked (List ℕ)) → before xs m ≡ accept ys → ((zs : List ℕ) → m ≡ accept zs → ys ≡ xs ++ zs → A) → A
+before-inv : {A : Type 0} (xs ys : List ℕ) (m : Checked (List ℕ)) → before xs m ≡ accept ys
+    → ((zs : List ℕ) → m ≡ accept zs → ys ≡ xs ++ zs → A) → A
 before-inv xs ys (accept zs) e k = let h : xs ++ zs ≡ ys = cc in k zs refl (sym h)
 before-inv xs ys (refuse number line) e k = no-rows e
 
-lines-back : (left line : ℕ) (s rows : List ℕ) → read-lines left line s ≡ accept rows → write-lines left line rows ≡ accept s
+lines-back : (left line : ℕ) (s rows : List ℕ) → read-lines left line s ≡ accept rows
+    → write-lines left line rows ≡ accept s
 unfolding read-lines write-lines
 lines-back zero line [] rows e = let h : [] ≡ rows = cc in rw (← h)
 lines-back zero line (x ∷ s) rows e = no-rows e
 lines-back (suc left) line [] rows e = let h : [] ≡ rows = cc in rw (← h)
-lines-back (suc left) line (x ∷ s) rows e = go (line-of (x ∷ s)) refl e (λ n zs f. lines-back left (line + 1) (drop n (x ∷ s)) zs f)
+lines-back (suc left) line (x ∷ s) rows e =
+    go (line-of (x ∷ s)) refl e (λ n zs f. lines-back left (line + 1) (drop n (x ∷ s)) zs f)
   where
-    go : (l : Line) → line-of (x ∷ s) ≡ l → with-line line (λ used. read-lines left (line + 1) (drop used (x ∷ s))) l ≡ accept rows
-        → ((n : ℕ) (zs : List ℕ) → read-lines left (line + 1) (drop n (x ∷ s)) ≡ accept zs → write-lines left (line + 1) zs ≡ accept (drop n (x ∷ s)))
+    go : (l : Line) → line-of (x ∷ s) ≡ l
+        → with-line line (λ used. read-lines left (line + 1) (drop used (x ∷ s))) l ≡ accept rows
+        → ((n : ℕ) (zs : List ℕ) → read-lines left (line + 1) (drop n (x ∷ s)) ≡ accept zs
+        → write-lines left (line + 1) zs ≡ accept (drop n (x ∷ s)))
         → write-lines (suc left) line rows ≡ accept (x ∷ s)
     go Malformed q e ih = no-rows e
-    go (Row code a b n) q e ih = before-inv (code ∷ a ∷ b ∷ 0 ∷ []) rows (read-lines left (line + 1) (drop n (x ∷ s))) e λ zs f h.
+    go (Row code a b n) q e ih =
+        before-inv (code ∷ a ∷ b ∷ 0 ∷ []) rows (read-lines left (line + 1) (drop n (x ∷ s))) e λ zs f h.
         let w = line-back (x ∷ s) code a b n q in
         rw (h, w .0, ih n zs f, ← w .1, take-append-drop n (x ∷ s))
 
 -- Writing what the reader read gives the text back.
 pub write-read : (text rows : List ℕ) → read-text text ≡ accept rows → write-rows rows ≡ accept text
-write-read text rows e = rw (eq-eqb (length rows % 4) 0 (read-whole-rows text rows e)) (lines-back 60000 1 text rows e)
+write-read text rows e =
+    rw (eq-eqb (length rows % 4) 0 (read-whole-rows text rows e)) (lines-back 60000 1 text rows e)
 
 -- ---- a line that was written reads back
 
-number-forth : (v u : ℕ) (t : List ℕ) → v ≤ 65535 → is-end u ≡ true → number-of ((9 ∷ digits v) ++ (u ∷ t)) ≡ Number v (length (9 ∷ digits v))
+number-forth : (v u : ℕ) (t : List ℕ) → v ≤ 65535 → is-end u ≡ true
+    → number-of ((9 ∷ digits v) ++ (u ∷ t)) ≡ Number v (length (9 ∷ digits v))
 unfolding number-of
-number-forth v u t h e = rw (field-digits v u t e, decimal-forth v h) (let z : 1 + length (digits v) ≡ suc (length (digits v)) = omega arith in ap (Number v) z)
+number-forth v u t h e =
+    rw (field-digits v u t e, decimal-forth v h)
+    (let z : 1 + length (digits v) ≡ suc (length (digits v)) = omega arith in ap (Number v) z)
 
 closed-forth : (code a b used : ℕ) (t : List ℕ) → closed code a b used (10 ∷ t) ≡ Row code a b (used + 1)
 unfolding closed
 closed-forth code a b used t = refl
 
 module _ (code a b : ℕ) (t : List ℕ) where
-  one-forth : numbers-after code ≡ 1 → a ≤ 65535 → line-of (line-text code a 0 ++ t) ≡ Row code a 0 (length (line-text code a 0))
+  one-forth : numbers-after code ≡ 1 → a ≤ 65535
+      → line-of (line-text code a 0 ++ t) ≡ Row code a 0 (length (line-text code a 0))
   unfolding line-of numbered
   one-forth k h =
-      let w : (9 ∷ digits a) ++ (10 ∷ []) ++ t ≡ (9 ∷ digits a) ++ (10 ∷ t) = append-assoc (9 ∷ digits a) (10 ∷ []) t in
-      let l : length ((9 ∷ digits a) ++ (10 ∷ [])) ≡ length (9 ∷ digits a) + 1 = length-append (9 ∷ digits a) (10 ∷ []) in
+      let w : (9 ∷ digits a) ++ (10 ∷ []) ++ t ≡ (9 ∷ digits a) ++ (10 ∷ t) =
+      append-assoc (9 ∷ digits a) (10 ∷ []) t in
+      let l : length ((9 ∷ digits a) ++ (10 ∷ [])) ≡ length (9 ∷ digits a) + 1 =
+      length-append (9 ∷ digits a) (10 ∷ []) in
       let n : 1 + length (9 ∷ digits a) + 1 ≡ suc (length ((9 ∷ digits a) ++ (10 ∷ []))) = omega (arith, l) in
-      rw (text-one code a 0 k, k, w, number-forth a 10 t h refl, drop-append-seam (9 ∷ digits a) (10 ∷ t), closed-forth code a 0 (1 + length (9 ∷ digits a)) t, n)
+      rw (
+        text-one code a 0 k,
+        k,
+        w,
+        number-forth a 10 t h refl,
+        drop-append-seam (9 ∷ digits a) (10 ∷ t),
+        closed-forth code a 0 (1 + length (9 ∷ digits a)) t,
+        n,
+      )
 
-  two-forth : numbers-after code ≡ 2 → a ≤ 65535 → b ≤ 65535 → line-of (line-text code a b ++ t) ≡ Row code a b (length (line-text code a b))
+  two-forth : numbers-after code ≡ 2 → a ≤ 65535 → b ≤ 65535
+      → line-of (line-text code a b ++ t) ≡ Row code a b (length (line-text code a b))
   unfolding line-of numbered
   two-forth k h i =
       let X : List ℕ = 9 ∷ digits a in
       let Y : List ℕ = 9 ∷ digits b in
-      let w : (X ++ (Y ++ (10 ∷ []))) ++ t ≡ X ++ (9 ∷ (digits b ++ (10 ∷ t))) = append-assoc X (Y ++ (10 ∷ [])) t ∙ ap (λ (r : List ℕ). X ++ r) (append-assoc Y (10 ∷ []) t) in
-      let l : length (X ++ (Y ++ (10 ∷ []))) ≡ length X + (length Y + 1) = length-append X (Y ++ (10 ∷ [])) ∙ ap (λ (r : ℕ). length X + r) (length-append Y (10 ∷ [])) in
+      let w : (X ++ (Y ++ (10 ∷ []))) ++ t ≡ X ++ (9 ∷ (digits b ++ (10 ∷ t))) =
+      append-assoc X (Y ++ (10 ∷ [])) t ∙ ap (λ (r : List ℕ). X ++ r) (append-assoc Y (10 ∷ []) t) in
+      let l : length (X ++ (Y ++ (10 ∷ []))) ≡ length X + (length Y + 1) = length-append X (Y ++ (10 ∷ []))
+      ∙ ap (λ (r : ℕ). length X + r) (length-append Y (10 ∷ [])) in
       let n : 1 + length X + length Y + 1 ≡ suc (length (X ++ (Y ++ (10 ∷ [])))) = omega (arith, l) in
       rw (
         text-two code a b k,
@@ -186,16 +230,21 @@ module _ (code a b : ℕ) (t : List ℕ) where
         n,
       )
 
-  none-forth : numbers-after code ≡ 0 → line-of (line-text code 0 0 ++ t) ≡ Row code 0 0 (length (line-text code 0 0))
+  none-forth : numbers-after code ≡ 0
+      → line-of (line-text code 0 0 ++ t) ≡ Row code 0 0 (length (line-text code 0 0))
   unfolding line-of numbered
   none-forth k = rw (text-none code 0 0 k, k, closed-forth code 0 0 1 t)
 
-line-forth : (code a b c : ℕ) (t : List ℕ) → is-row (row code a b c) ≡ true → (c ≡ 0) × (line-of (line-text code a b ++ t) ≡ Row code a b (length (line-text code a b)))
+line-forth : (code a b c : ℕ) (t : List ℕ) → is-row (row code a b c) ≡ true
+    → (c ≡ 0) × (line-of (line-text code a b ++ t) ≡ Row code a b (length (line-text code a b)))
 line-forth code a b c t e =
-    let f = sym (is-row-by code a b c) ∙ e in
-    (eqb-true c 0 (and-left (eqb c 0) (are-numbers (numbers-after code) a b) f), go (numbers-after code) refl (and-right (eqb c 0) (are-numbers (numbers-after code) a b) f))
+    let f = sym (is-row-by code a b c) ∙ e in (
+      eqb-true c 0 (and-left (eqb c 0) (are-numbers (numbers-after code) a b) f),
+      go (numbers-after code) refl (and-right (eqb c 0) (are-numbers (numbers-after code) a b) f),
+    )
   where
-    go : (k : ℕ) → numbers-after code ≡ k → are-numbers k a b ≡ true → line-of (line-text code a b ++ t) ≡ Row code a b (length (line-text code a b))
+    go : (k : ℕ) → numbers-after code ≡ k → are-numbers k a b ≡ true
+        → line-of (line-text code a b ++ t) ≡ Row code a b (length (line-text code a b))
     go zero k f =
         let p : a ≡ 0 = eqb-true a 0 (and-left (eqb a 0) (eqb b 0) f) in
         let q : b ≡ 0 = eqb-true b 0 (and-right (eqb a 0) (eqb b 0) f) in
@@ -203,12 +252,16 @@ line-forth code a b c t e =
     go (suc zero) k f =
         let q : b ≡ 0 = eqb-true b 0 (and-right (leb a 65535) (eqb b 0) f) in
         rw q (one-forth code a b t k (leb-true a 65535 (and-left (leb a 65535) (eqb b 0) f)))
-    go (suc (suc zero)) k f = two-forth code a b t k (leb-true a 65535 (and-left (leb a 65535) (leb b 65535) f)) (leb-true b 65535 (and-right (leb a 65535) (leb b 65535) f))
+    go (suc (suc zero)) k f =
+        two-forth code a b t k (leb-true a 65535 (and-left (leb a 65535) (leb b 65535) f))
+        (leb-true b 65535 (and-right (leb a 65535) (leb b 65535) f))
     go (suc (suc (suc j))) k f = absurd (false≢true f)
 
 -- a line is not empty, and reading it leaves what follows
-read-line-first : (left line code a b : ℕ) (t : List ℕ) → line-of (line-text code a b ++ t) ≡ Row code a b (length (line-text code a b))
-    → read-lines (suc left) line (line-text code a b ++ t) ≡ before (code ∷ a ∷ b ∷ 0 ∷ []) (read-lines left (line + 1) t)
+read-line-first : (left line code a b : ℕ) (t : List ℕ)
+    → line-of (line-text code a b ++ t) ≡ Row code a b (length (line-text code a b))
+    → read-lines (suc left) line (line-text code a b ++ t)
+    ≡ before (code ∷ a ∷ b ∷ 0 ∷ []) (read-lines left (line + 1) t)
 unfolding read-lines line-text
 read-line-first left line code a b t e = rw (e, drop-append-seam (line-text code a b) t)
 
@@ -217,7 +270,8 @@ unfolding read-lines
 empty-read zero line = refl
 empty-read (suc left) line = refl
 
-lines-forth : (left line : ℕ) (rows s : List ℕ) → write-lines left line rows ≡ accept s → read-lines left line s ≡ accept rows
+lines-forth : (left line : ℕ) (rows s : List ℕ) → write-lines left line rows ≡ accept s
+    → read-lines left line s ≡ accept rows
 unfolding write-lines
 lines-forth zero line [] s e = let h : [] ≡ s = cc in rw (← h) (empty-read 0 line)
 lines-forth zero line (x ∷ rows) s e = no-rows e
@@ -225,10 +279,13 @@ lines-forth (suc left) line [] s e = let h : [] ≡ s = cc in rw (← h) (empty-
 lines-forth (suc left) line (code ∷ []) s e = no-rows e
 lines-forth (suc left) line (code ∷ a ∷ []) s e = no-rows e
 lines-forth (suc left) line (code ∷ a ∷ b ∷ []) s e = no-rows e
-lines-forth (suc left) line (code ∷ a ∷ b ∷ c ∷ rows) s e = go (is-row (row code a b c)) refl e (λ t f. lines-forth left (line + 1) rows t f)
+lines-forth (suc left) line (code ∷ a ∷ b ∷ c ∷ rows) s e =
+    go (is-row (row code a b c)) refl e (λ t f. lines-forth left (line + 1) rows t f)
   where
-    go : (t : Bool) → is-row (row code a b c) ≡ t → cond t (before (line-text code a b) (write-lines left (line + 1) rows)) (refuse 1 line) ≡ accept s
-        → ((t : List ℕ) → write-lines left (line + 1) rows ≡ accept t → read-lines left (line + 1) t ≡ accept rows)
+    go : (t : Bool) → is-row (row code a b c) ≡ t
+        → cond t (before (line-text code a b) (write-lines left (line + 1) rows)) (refuse 1 line) ≡ accept s
+        → ((t : List ℕ) → write-lines left (line + 1) rows ≡ accept t
+        → read-lines left (line + 1) t ≡ accept rows)
         → read-lines (suc left) line s ≡ accept (code ∷ a ∷ b ∷ c ∷ rows)
     go true q e ih = before-inv (line-text code a b) s (write-lines left (line + 1) rows) e λ zs f h.
         let w = line-forth code a b c zs q in

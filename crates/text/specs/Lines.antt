@@ -54,7 +54,8 @@ unfoldable pub numbered : ℕ → ℕ → List ℕ → Line
 numbered zero code s = closed code 0 0 1 s
 numbered (suc zero) code s = then-line (λ a n. closed code a 0 (1 + n) (drop n s)) (number-of s)
 numbered (suc (suc zero)) code s =
-    then-line (λ a n. then-line (λ b m. closed code a b (1 + n + m) (drop (n + m) s)) (number-of (drop n s))) (number-of s)
+    then-line (λ a n. then-line (λ b m. closed code a b (1 + n + m) (drop (n + m) s)) (number-of (drop n s)))
+    (number-of s)
 numbered (suc (suc (suc k))) code s = Malformed
 
 -- The line that a text begins with: its row, and how many bytes it takes.

@@ -2,7 +2,7 @@
 -- (document 01, "Refusals and stops": line by line, 2 for line 60,001, then 1; then 13. The writer does the same over
 -- rows; input rows not a multiple of 4 long come first, line 0).
 use mathlib.Core.Bool.{cond}
-use mathlib.Core.List.{List, [], _∷_, _++_}
+use mathlib.Core.List.{List, [], _∷_}
 use Prim.Native.Nat.{ℕ, zero, suc, _+_, _%_}
 use lib.Dec.{eqb}
 use lib.ListN.{length, drop}

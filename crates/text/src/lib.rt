@@ -245,7 +245,8 @@ pub fn read_rows(text: &[u8], rows: &mut [u32]) -> Filled
 // Writes a number's digits at a place, and answers the place after them.
 fn write_decimal(text: &mut [u8], at: usize, n: u32) -> usize
     requires { ⌜ at + length (digits n) ≤ length (now text) ⌝ }
-    ensures { λ r. ⌜ (r ≡ at + length (digits n)) × (now (text .exit) ≡ sets (now (text .entry)) at (digits n)) ⌝ }
+    ensures { λ r. ⌜ (r ≡ at + length (digits n)) ×
+        (now (text .exit) ≡ sets (now (text .entry)) at (digits n)) ⌝ }
 {
     if n < 10 {
         text[at] = (48 + n) as u8;
@@ -259,7 +260,8 @@ fn write_decimal(text: &mut [u8], at: usize, n: u32) -> usize
 // Writes a tab and a number at a place, and answers the place after them.
 pub fn write_number(text: &mut [u8], at: usize, n: u32) -> usize
     requires { ⌜ at + 1 + length (digits n) ≤ length (now text) ⌝ }
-    ensures { λ r. ⌜ (r ≡ at + 1 + length (digits n)) × (now (text .exit) ≡ sets (now (text .entry)) at (tab ∷ digits n)) ⌝ }
+    ensures { λ r. ⌜ (r ≡ at + 1 + length (digits n)) ×
+        (now (text .exit) ≡ sets (now (text .entry)) at (tab ∷ digits n)) ⌝ }
 {
     text[at] = 9;
     write_decimal(text, at + 1, n)
@@ -268,7 +270,8 @@ pub fn write_number(text: &mut [u8], at: usize, n: u32) -> usize
 // Writes the line of a row at a place, and answers the place after it.
 fn write_line(text: &mut [u8], at: usize, code: u32, a: u32, b: u32) -> usize
     requires { ⌜ (numbers-after code < 3) × (at + length (line-text code a b) ≤ length (now text)) ⌝ }
-    ensures { λ r. ⌜ (r ≡ at + length (line-text code a b)) × (now (text .exit) ≡ sets (now (text .entry)) at (line-text code a b)) ⌝ }
+    ensures { λ r. ⌜ (r ≡ at + length (line-text code a b)) ×
+        (now (text .exit) ≡ sets (now (text .entry)) at (line-text code a b)) ⌝ }
 {
     text[at] = (code % 256) as u8;
     let count = language::count_numbers(code);

@@ -23,7 +23,8 @@ pub plain-rows : (ns : List ℕ) (p : Program) → TranslatableRows ns p
     → RowsOf (numbers-of (map row-of (flatten-program (plain-program p)))) (plain-program p)
 plain-rows ns p r =
     let w = r .accepted .well in let 𝓣 = taken-laws ns p r in
-    let 𝓝 : NameLaws (world (p .classes)) = name-laws (world (p .classes)) (well-formed-more p w) 𝓣 in record {
+    let 𝓝 : NameLaws (world (p .classes)) = name-laws (world (p .classes)) (well-formed-more p w) 𝓣 in
+    record {
       rows = refl;
       in-form = plain-in-form p w (small-world p (r .in-form) 𝓣) 𝓝 (r .in-form);
       well = program-plain p tt tt w (well-formed-laws p w) 𝓝 (r .few-fields) (r .unreserved);

@@ -62,7 +62,8 @@ refused≢accepted : (n l : ℕ) → _≡_ {A = Verdict} (refused n l) accepted 
 refused≢accepted n l e = let z : _≡_ {A = ℕ} 0 1 = cc in omega arith
 
 -- Where the three passes answer a program, the numbers are its rows and it is well formed.
-passes-well : (ns : List ℕ) (p : Program) → length ns % numbers-a-row ≡ 0 → three-passes ns ≡ accept p → RowsOf ns p
+passes-well : (ns : List ℕ) (p : Program) → length ns % numbers-a-row ≡ 0 → three-passes ns ≡ accept p
+    → RowsOf ns p
 unfolding three-passes
 passes-well ns p l e =
     bind-checked-inv _ _ e λ q e₁ e. bind-checked-inv _ _ e λ u e₂ e. bind-checked-inv _ _ e λ v e₃ e.

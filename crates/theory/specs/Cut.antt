@@ -13,14 +13,16 @@ use Rattle.language.specs.Limits.{most-calls}
 use Rattle.language.specs.Lists.{nth, choice}
 use Rattle.language.specs.Results.{ok, stop, bind}
 use Rattle.language.specs.Frames.{Frame, frame, at-slot, with-slot, opened, closed}
-use Rattle.language.specs.Tree.{Expr, literal-true, literal-false, literal-null, slot, is-null, get, cast, new}
+use Rattle.language.specs.Tree.{Expr, literal-true, literal-false, literal-null, slot, is-null, get, cast}
+use Rattle.language.specs.Tree.{new}
 use Rattle.language.specs.Tree.{change, assign, set, call, choose, block, Exprs, nil, cons}
 use Rattle.language.specs.World.{Method, World}
 use Rattle.language.specs.Evaluation.{Value, null, truth, object, Object, State, Stop, raised, deep, spent}
 use Rattle.language.specs.Evaluation.{full, stuck, Out, without-limits, with-limits, entered, with-frame}
 use Rattle.language.specs.Evaluation.{with-heap, with-change, initial, last-value, need, need-object}
 use Rattle.language.specs.Evaluation.{need-truth, new-object, changed, field-of, with-field, do-get, do-set}
-use Rattle.language.specs.Evaluation.{do-cast, do-change, do-new, do-call, eval, eval-all, call-at, eval-start}
+use Rattle.language.specs.Evaluation.{do-cast, do-change, do-new, do-call, eval, eval-all, call-at}
+use Rattle.language.specs.Evaluation.{eval-start}
 use Rattle.theory.specs.Sound.{false≢}
 
 -- One state is not before another: steps, objects and changes only grow.
@@ -108,7 +110,8 @@ grows-block n f (grows-stop p) =
 
 module _ (W : World) where
   grows-get : (f : ℕ) (v : Value) (s : State) → Grows s (do-get W f v s)
-  grows-get f v s = grows-object v s λ j. grows-need (nth (s .heap) j) s λ o. grows-need (field-of W f o) s λ w.
+  grows-get f v s = grows-object v s λ j. grows-need (nth (s .heap) j) s λ o.
+      grows-need (field-of W f o) s λ w.
       grows-ok (later-same s)
 
   grows-set : (f : ℕ) (v w : Value) (s : State) → Grows s (do-set W f v w s)
@@ -125,18 +128,26 @@ module _ (W : World) where
   grows-change d null s = grows-ok (later-same s)
   grows-change d (truth b) s = grows-stop (later-same s)
   grows-change d (object j) s = grows-need (nth (s .heap) j) s λ o.
-      grows-cond (leb (length (W .fields (W .root d))) (length (o .fields))) (grows-ok (put o)) (grows-stop (later-same s))
+      grows-cond (leb (length (W .fields (W .root d))) (length (o .fields))) (grows-ok (put o))
+      (grows-stop (later-same s))
     where
       put : (o : Object) → Later s (with-change (replace (s .heap) j (changed W d o)) s)
-      put o = record
-          { steps≤ = omega arith; heap≤ = omega (arith, length-set (s .heap) j (changed W d o)); changes≤ = omega arith }
+      put o = record {
+        steps≤ = omega arith;
+        heap≤ = omega (arith, length-set (s .heap) j (changed W d o));
+        changes≤ = omega arith;
+      }
 
   later-new : (c : ℕ) (s : State) → Later s (with-heap (s .heap ++ (new-object W c ∷ [])) s)
-  later-new c s = record
-      { steps≤ = omega arith; heap≤ = omega (arith, length-append (s .heap) (new-object W c ∷ [])); changes≤ = omega arith }
+  later-new c s = record {
+    steps≤ = omega arith;
+    heap≤ = omega (arith, length-append (s .heap) (new-object W c ∷ []));
+    changes≤ = omega arith;
+  }
 
   module _ (invoke : Method → State → Out Value) (C : (M : Method) (s : State) → Grows s (invoke M s)) where
-    grows-call : (m : ℕ) (v : Value) (vs : List Value) (s : State) → Grows s (do-call W without-limits invoke m v vs s)
+    grows-call : (m : ℕ) (v : Value) (vs : List Value) (s : State)
+        → Grows s (do-call W without-limits invoke m v vs s)
     grows-call m v vs s = grows-object v s λ j. grows-need (nth (s .heap) j) s λ o.
         grows-need (W .method (o .class-of) m) s λ M.
         grows-called (frame (some (object j)) vs) (s .frame) (C M (with-frame (frame (some (object j)) vs) s))
@@ -269,7 +280,8 @@ module _ (F K : ℕ) where
     limited-cast c (object j) s w = limited-need (nth (s .heap) j) s w λ o.
         limited-cond (W .below (o .class-of) c) (same-ok w) (same-stop w)
 
-    limited-change : (d : ℕ) (v : Value) (s : State) → Within s → Limited (do-change W d v s) (do-change W d v s)
+    limited-change : (d : ℕ) (v : Value) (s : State) → Within s
+        → Limited (do-change W d v s) (do-change W d v s)
     limited-change d null s w = same-ok w
     limited-change d (truth b) s w = same-stop w
     limited-change d (object j) s w = limited-need (nth (s .heap) j) s w λ o.
@@ -291,16 +303,24 @@ module _ (F K : ℕ) where
         made : State
         made = with-heap (s .heap ++ (new-object W c ∷ [])) s
 
-        go : (b : Bool) → leb K (length (s .heap)) ≡ b → Limited {A = Value} (ok (object (length (s .heap))) made)
+        go : (b : Bool) → leb K (length (s .heap)) ≡ b
+            → Limited {A = Value} (ok (object (length (s .heap))) made)
             (cond b (stop full s) (ok (object (length (s .heap))) made))
         go true e = cut (over-ok {s = made} (beyond-room
-            (omega (arith, leb-true K (length (s .heap)) e, length-append (s .heap) (new-object W c ∷ []))))) cut-full w
+            (omega (arith, leb-true K (length (s .heap)) e, length-append (s .heap) (new-object W c ∷ [])))))
+            cut-full w
         go false e = same-ok {s = made} (record {
           fuel = w .fuel;
-          room = omega (arith, leb-false K (length (s .heap)) e, length-append (s .heap) (new-object W c ∷ []));
+          room = omega (
+            arith,
+            leb-false K (length (s .heap)) e,
+            length-append (s .heap)
+                (new-object W c ∷ []),
+          );
         })
 
-    module _ (invoke invoke′ : Method → State → Out Value) (C : (M : Method) (s : State) → Grows s (invoke M s))
+    module _ (invoke invoke′ : Method → State → Out Value)
+        (C : (M : Method) (s : State) → Grows s (invoke M s))
         (D : (M : Method) (s : State) → Within s → Limited (invoke M s) (invoke′ M s)) where
       limited-back : (f : Frame Value) {r r′ : Out Value} → Limited r r′
           → Limited (bind r (λ w t. ok w (with-frame f t))) (bind r′ (λ w t. ok w (with-frame f t)))
@@ -325,17 +345,22 @@ module _ (F K : ℕ) where
         limited literal-false s w = limited-enter s w (λ w. same-ok w) (grows W invoke C literal-false s)
         limited literal-null s w = limited-enter s w (λ w. same-ok w) (grows W invoke C literal-null s)
         limited (slot k) s w = limited-enter s w
-            (λ w. limited-need (at-slot (s .frame) k) (entered s) w λ v. same-ok w) (grows W invoke C (slot k) s)
+            (λ w. limited-need (at-slot (s .frame) k) (entered s) w λ v. same-ok w)
+            (grows W invoke C (slot k) s)
         limited (is-null e) s w = limited-enter s w
-            (λ w. limited-bind (limited e (entered s) w) (λ v s w. same-ok w) (λ v s. grows-ok (later-same s)))
+            (λ w. limited-bind (limited e (entered s) w) (λ v s w. same-ok w)
+            (λ v s. grows-ok (later-same s)))
             (grows W invoke C (is-null e) s)
         limited (get f e) s w = limited-enter s w
-            (λ w. limited-bind (limited e (entered s) w) (λ v s w. limited-get f v s w) (λ v s. grows-get W f v s))
+            (λ w. limited-bind (limited e (entered s) w) (λ v s w. limited-get f v s w)
+            (λ v s. grows-get W f v s))
             (grows W invoke C (get f e) s)
         limited (cast c e) s w = limited-enter s w
-            (λ w. limited-bind (limited e (entered s) w) (λ v s w. limited-cast c v s w) (λ v s. grows-cast W c v s))
+            (λ w. limited-bind (limited e (entered s) w) (λ v s w. limited-cast c v s w)
+            (λ v s. grows-cast W c v s))
             (grows W invoke C (cast c e) s)
-        limited (new c) s w = limited-enter s w (λ w. limited-new c (entered s) w) (grows W invoke C (new c) s)
+        limited (new c) s w =
+            limited-enter s w (λ w. limited-new c (entered s) w) (grows W invoke C (new c) s)
         limited (change k d) s w = limited-enter s w
             (λ w. limited-need (at-slot (s .frame) k) (entered s) w λ v. limited-change d v (entered s) w)
             (grows W invoke C (change k d) s)
@@ -345,7 +370,8 @@ module _ (F K : ℕ) where
             (grows W invoke C (assign k e) s)
         limited (set f e e′) s w = limited-enter s w
             (λ w. limited-bind (limited e (entered s) w)
-            (λ v s w. limited-bind (limited e′ s w) (λ x s w. limited-set f v x s w) (λ x s. grows-set W f v x s))
+            (λ v s w. limited-bind (limited e′ s w) (λ x s w. limited-set f v x s w)
+            (λ x s. grows-set W f v x s))
             (λ v s. grows-bind (grows-entered (grows W invoke C e′ s)) λ x s. grows-set W f v x s))
             (grows W invoke C (set f e e′) s)
         limited (call m e es) s w = limited-enter s w
@@ -371,7 +397,8 @@ module _ (F K : ℕ) where
             → Limited (eval-all W without-limits invoke es s) (eval-all W (with-limits F K) invoke′ es s)
         limited-all nil s w = same-ok w
         limited-all (cons e es) s w = limited-bind (limited e s w)
-            (λ v s w. limited-bind (limited-all es s w) (λ vs s w. same-ok w) (λ vs s. grows-ok (later-same s)))
+            (λ v s w. limited-bind (limited-all es s w) (λ vs s w. same-ok w)
+            (λ vs s. grows-ok (later-same s)))
             (λ v s. grows-bind (grows-all W invoke C es s) λ vs s. grows-ok (later-same s))
 
     -- A call, of any depth, run with limits is the call run without, or is cut.

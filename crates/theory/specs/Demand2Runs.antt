@@ -58,7 +58,10 @@ module _ (W : World) (F K : ℕ) (e : Expr) (s : State) (w : Within F K s) where
   exception-derived x t = (
     (λ q. let k = kept F K (limited-start F K W e s w) (rw q) in
         let p : eval-start W without-limits e s ≡ stop (raised x) t = sym (k .is) ∙ q in
-        record { derived = claimed-exception (all-complete W most-calls e s) p; within = rw p at (k .within) }),
+        record {
+          derived = claimed-exception (all-complete W most-calls e s) p;
+          within = rw p at (k .within);
+        }),
     (λ d. runs-derived (stop (raised x) t) d),
   )
 

@@ -52,9 +52,16 @@ pub record EndsAlike (r r′ : Out Value) : Type 0 where
   pub stores : StoresMatch (final r .heap) (final r′ .heap)
 
 counts-match : {W : World} {ids : List ℕ} {z : ℕ} {s t : State} → Matched W ids z s t → CountsMatch s t
-counts-match c = record { at-least = c .low; at-most = omega (arith, c); objects = c .count; no-changes = c .unchanged }
+counts-match c = record {
+  at-least = c .low;
+  at-most = omega (arith, c);
+  objects = c .count;
+  no-changes =
+      c .unchanged;
+}
 
-stores-match : {W : World} {ids : List ℕ} {z : ℕ} {s t : State} → Matched W ids z s t → StoresMatch (s .heap) (t .heap)
+stores-match : {W : World} {ids : List ℕ} {z : ℕ} {s t : State} → Matched W ids z s t
+    → StoresMatch (s .heap) (t .heap)
 stores-match c = record {
   as-many = ap length (sym (c .heaps .made)) ∙ c .heaps .long;
   each = λ j o e. rw (c .heaps .made) at (c .heaps .each j o e);
@@ -89,7 +96,8 @@ both (alike-stop {x} e) = record {
   proper-too = refl;
 }
 
-module _ (W W′ : World) (P : IsPlain W W′) (𝓛 : Laws W) (𝓜 : More W) (start : Expr) {t : ExprType} {γ : Environment}
+module _ (W W′ : World) (P : IsPlain W W′) (𝓛 : Laws W) (𝓜 : More W) (start : Expr) {t : ExprType}
+    {γ : Environment}
     {φ : ℕ} (typed : HasType W start-environment start t γ φ) where
   -- The runs of the start block and of its translation, with fuel and room.
   abbrev pub source-run : ℕ → ℕ → Out Value
@@ -157,4 +165,9 @@ module _ (W W′ : World) (P : IsPlain W W′) (𝓛 : Laws W) (𝓜 : More W) (
       let m′ : length (final plain-free .heap) ≤ K = rw (k .is) at m in
       let u = uncut F K (limited-start F K W start first-state (within-first F K))
       (record { fuel = omega (arith, q, k .within); room = omega (arith, q, m′) }) in
-      rw (k .is, u) (record { ends = whole .ends (whole .proper-too ∙ rw (k .is) at p); counts = q; stores = whole .stores })
+      rw (k .is, u) (record {
+        ends = whole .ends (whole .proper-too ∙ rw (k .is) at p);
+        counts = q;
+        stores =
+            whole .stores;
+      })

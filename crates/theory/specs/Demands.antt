@@ -21,7 +21,8 @@ use Rattle.theory.specs.ListedAnswers.{verdict-listed, run-listed, filli
 use Rattle.theory.specs.TranslatorAnswers.{translation-listed}
 use Rattle.theory.specs.Accepts.{RowsOf, WellFormedRows, demand-2-accepts as accepts-well-formed}
 use Rattle.theory.specs.Members.{demand-2-members as finds-members}
-use Rattle.theory.specs.Endings.{EndsProperly, EndAlikeOnStores, EndsInValueOrException, DerivedWithinStore}
+use Rattle.theory.specs.Endings.{EndsProperly, EndAlikeOnStores, EndsInValueOrException}
+use Rattle.theory.specs.Endings.{DerivedWithinStore}
 use Rattle.theory.specs.RunsOfRows.{runs-derived}
 use Rattle.theory.specs.AcceptedTranslation.{demand-3-accepted as accepts-translations}
 use Rattle.theory.specs.DemandsRows.{runs-alike, runs-alike-back}
@@ -59,7 +60,8 @@ demand-2-accepts = accepts-well-formed
 -- answer and a store and ends in a value or an exception exactly if the evaluation relation derives that value or
 -- exception with at most 64 calls active, with those steps, objects and changes of class, within the fuel and within
 -- the room of the store.
-pub demand-2-runs : (ns : List ℕ) (p : Program) → RowsOf ns p → (fuel : ℕ) → fuel ≤ most-fuel → (store : List ℕ) (a : Ran)
+pub demand-2-runs : (ns : List ℕ) (p : Program) → RowsOf ns p → (fuel : ℕ) → fuel ≤ most-fuel
+    → (store : List ℕ) (a : Ran)
     → ((run-of ns fuel store ≡ a) × EndsInValueOrException a) ↔ DerivedWithinStore p fuel store a
 demand-2-runs ns p rows fuel l store = runs-derived ns p rows fuel l store
 

@@ -77,7 +77,8 @@ record ResultOf (r : Out Value) {a : Ran} (e : EndsProperly a) : Type 0 where
   pub objects : length (final r .heap) ≡ e .objects
   pub changes : final r .changes ≡ e .changes
 
-of-result : (r : Out Value) (store : List ℕ) {a : Ran} → a ≡ finish r store → (e : EndsProperly a) → ResultOf r e
+of-result : (r : Out Value) (store : List ℕ) {a : Ran} → a ≡ finish r store → (e : EndsProperly a)
+    → ResultOf r e
 of-result r store is e =
     let q : ran (outcome r) (final r .steps) (length (final r .heap)) (final r .changes)
     ≡ ran (e .outcome) (e .steps) (e .objects) (e .changes)
@@ -124,41 +125,45 @@ more ns p t = let laws = taken-laws ns p t in record {
 }
 
 -- Rows of a program that the translator takes, and accepted rows of its plain program.
-module _ (ns out : List ℕ) (p : Program) (taken : TranslatableRows ns p) (rows : RowsOf out (plain-program p)) where
-  -- Results of the two runs that end alike, over stores.
-  finished-alike : (F F′ : ℕ) → F ≤ most-fuel → F′ ≤ most-fuel → (S S′ : List ℕ)
-      → EndsAlike (run (with-limits F (capacity S)) p) (run (with-limits F′ (capacity S′)) (plain-program p))
-      → EndAlikeOnStores ns out (run-of ns F S) (run-of out F′ S′)
-  finished-alike F F′ l l′ S S′ a =
-      let L = with-limits F (capacity S) in
-      let L′ = with-limits F′ (capacity S′) in
-      rw (accepted-run ns p (taken .accepted) F l S, accepted-run out (plain-program p) rows F′ l′ S′)
-      (alike-on-stores ns out p (plain-program p) (check-accepts ns p .1 (taken .accepted))
-      (check-accepts out (plain-program p) .1 rows) (run L p) (run L′ (plain-program p))
-      (run-shaped p (taken .accepted .well) L) (run-shaped (plain-program p) (rows .well) L′) a S S′)
+module _ (ns out : List ℕ) (p : Program) (taken : TranslatableRows ns p) (rows : RowsOf out (plain-program p))
+  where
+    -- Results of the two runs that end alike, over stores.
+    finished-alike : (F F′ : ℕ) → F ≤ most-fuel → F′ ≤ most-fuel → (S S′ : List ℕ)
+        → EndsAlike (run (with-limits F (capacity S)) p) (run (with-limits F′ (capacity S′)) (plain-program p))
+        → EndAlikeOnStores ns out (run-of ns F S) (run-of out F′ S′)
+    finished-alike F F′ l l′ S S′ a =
+        let L = with-limits F (capacity S) in
+        let L′ = with-limits F′ (capacity S′) in
+        rw (accepted-run ns p (taken .accepted) F l S, accepted-run out (plain-program p) rows F′ l′ S′)
+        (alike-on-stores ns out p (plain-program p) (check-accepts ns p .1 (taken .accepted))
+        (check-accepts out (plain-program p) .1 rows) (run L p) (run L′ (plain-program p))
+        (run-shaped p (taken .accepted .well) L) (run-shaped (plain-program p) (rows .well) L′) a S S′)
 
-  -- From the source run to the plain run.
-  forward : (F F′ : ℕ) → plain-steps-a-step * F ≤ F′ → F′ ≤ most-fuel → (S : List ℕ) (e : EndsProperly (run-of ns F S))
-      → (S′ : List ℕ) → 2 * e .objects + e .changes ≤ capacity S′
-      → EndAlikeOnStores ns out (run-of ns F S) (run-of out F′ S′)
-  forward F F′ f l S e S′ room =
-      let l₀ : F ≤ most-fuel = omega (arith, f, l) in
-      let r = run (with-limits F (capacity S)) p in
-      let o = of-result r S (accepted-run ns p (taken .accepted) F l₀ S) e in
-      finished-alike F F′ l₀ l S S′
-      (demand-3-run p (taken .accepted .well) (well-formed-laws p (taken .accepted .well)) (more ns p taken)
-      F F′ (capacity S) (capacity S′) f (o .ends-properly) (omega (arith, room, o .objects, o .changes)))
+    -- From the source run to the plain run.
+    forward : (F F′ : ℕ) → plain-steps-a-step * F ≤ F′ → F′ ≤ most-fuel
+        → (S : List ℕ) (e : EndsProperly (run-of ns F S))
+        → (S′ : List ℕ) → 2 * e .objects + e .changes ≤ capacity S′
+        → EndAlikeOnStores ns out (run-of ns F S) (run-of out F′ S′)
+    forward F F′ f l S e S′ room =
+        let l₀ : F ≤ most-fuel = omega (arith, f, l) in
+        let r = run (with-limits F (capacity S)) p in
+        let o = of-result r S (accepted-run ns p (taken .accepted) F l₀ S) e in
+        finished-alike F F′ l₀ l S S′
+        (demand-3-run p (taken .accepted .well) (well-formed-laws p (taken .accepted .well)) (more ns p taken)
+        F F′ (capacity S) (capacity S′) f (o .ends-properly) (omega (arith, room, o .objects, o .changes)))
 
-  -- From the plain run to the source run.
-  backward : (F : ℕ) (S′ : List ℕ) (e : EndsProperly (run-of out F S′)) → (S : List ℕ) → e .objects ≤ capacity S
-      → EndAlikeOnStores ns out (run-of ns F S) (run-of out F S′)
-  backward F S′ e S room =
-      let l = ended-within-fuel out F S′ (e .answer) in
-      let r′ = run (with-limits F (capacity S′)) (plain-program p) in
-      let o = of-result r′ S′ (accepted-run out (plain-program p) rows F l S′) e in
-      finished-alike F F l l S S′
-      (demand-3-run-back p (taken .accepted .well) (well-formed-laws p (taken .accepted .well)) (more ns p taken)
-      F (capacity S) (capacity S′) (o .ends-properly) (omega (arith, room, o .objects)))
+    -- From the plain run to the source run.
+    backward : (F : ℕ) (S′ : List ℕ) (e : EndsProperly (run-of out F S′)) → (S : List ℕ)
+        → e .objects ≤ capacity S
+        → EndAlikeOnStores ns out (run-of ns F S) (run-of out F S′)
+    backward F S′ e S room =
+        let l = ended-within-fuel out F S′ (e .answer) in
+        let r′ = run (with-limits F (capacity S′)) (plain-program p) in
+        let o = of-result r′ S′ (accepted-run out (plain-program p) rows F l S′) e in
+        finished-alike F F l l S S′
+        (demand-3-run-back p (taken .accepted .well) (well-formed-laws p (taken .accepted .well))
+        (more ns p taken)
+        F (capacity S) (capacity S′) (o .ends-properly) (omega (arith, room, o .objects)))
 
 -- The plain rows of a program that the translator takes are accepted rows of its plain program.
 plain-rows-of : (ns out : List ℕ) (p : Program) → TranslatableRows ns p
@@ -170,7 +175,8 @@ plain-rows-of ns out p t e = subst (λ (l : List ℕ). RowsOf l (plain-program p
 -- with room for 2n + r objects ends alike.
 pub runs-alike : (ns out : List ℕ) → translation ns ≡ accept out
     → (F F′ : ℕ) → plain-steps-a-step * F ≤ F′ → F′ ≤ most-fuel
-    → (S : List ℕ) (e : EndsProperly (run-of ns F S)) → (S′ : List ℕ) → 2 * e .objects + e .changes ≤ capacity S′
+    → (S : List ℕ) (e : EndsProperly (run-of ns F S)) → (S′ : List ℕ)
+    → 2 * e .objects + e .changes ≤ capacity S′
     → EndAlikeOnStores ns out (run-of ns F S) (run-of out F′ S′)
 runs-alike ns out t = let x = translation-takes ns out t in
     forward ns out (x .0) (x .1) (plain-rows-of ns out (x .0) (x .1) (x .2))

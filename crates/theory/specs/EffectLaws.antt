@@ -49,7 +49,8 @@ and-digit a b k = ap (λ (x : ℕ). x % 2) (and-shr a b k) ∙ and-mod (a / 2 ^ 
 or-digit : (a b k : ℕ) → bitOr a b / 2 ^ k % 2 ≡ bitOr (a / 2 ^ k % 2) (b / 2 ^ k % 2)
 or-digit a b k = ap (λ (x : ℕ). x % 2) (or-shr a b k) ∙ or-mod (a / 2 ^ k) (b / 2 ^ k) 1
 
-both-bits : (x y z : ℕ) → x < 2 → y < 2 → z < 2 → bitAnd x z ≡ x → bitAnd y z ≡ y → bitAnd (bitOr x y) z ≡ bitOr x y
+both-bits : (x y z : ℕ) → x < 2 → y < 2 → z < 2 → bitAnd x z ≡ x → bitAnd y z ≡ y
+    → bitAnd (bitOr x y) z ≡ bitOr x y
 both-bits zero zero z p q r e f = e
 both-bits zero (suc zero) z p q r e f = f
 both-bits (suc zero) zero z p q r e f = e

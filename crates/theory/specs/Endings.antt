@@ -74,7 +74,8 @@ pub record EndAlikeOnStores (ns out : List ℕ) (a a′ : Ran) : Type 0 where
   pub unchanged : plain .changes ≡ 0
   pub steps-at-least : source .steps ≤ plain .steps
   pub steps-at-most : plain .steps ≤ plain-steps-a-step * source .steps
-  pub each : (j : ℕ) → j < source .objects → ObjectMatches (objects-after ns source) (objects-after out plain) j
+  pub each : (j : ℕ) → j < source .objects
+      → ObjectMatches (objects-after ns source) (objects-after out plain) j
 
 -- The evaluation relation (002, Figures 3 to 6) derives an outcome of a program and the state then, a value or an
 -- exception, with at most 64 calls active.

@@ -7,12 +7,20 @@ use lib.ListN.{length}
 use lib.Dec.{eqb}
 use native.Mathlib.Omega.{arith}
 use borrow.Author.Tests.{ne-eqb}
-use Rattle.language.specs.Results.{Checked, accept, refuse, passed, bind-checked, need-checked, require, bind-checked-inv, need-checked-inv, require-inv, accept-injective, accept≢refuse}
+use Rattle.language.specs.Results.{Checked, accept, refuse, passed, bind-checked, need-checked, require}
+use Rattle.language.specs.Results.{bind-checked-inv, need-checked-inv, require-inv, accept-injective}
+use Rattle.language.specs.Results.{accept≢refuse}
 use Rattle.language.specs.Frames.{opened}
-use Rattle.language.specs.Tree.{DeclaredType, bool, class, ExprType, known, null-type, Expr, literal-true, literal-false, literal-null, slot, is-null, get, cast, new, change, assign, set, call, choose, block, Exprs, nil, cons, size}
+use Rattle.language.specs.Tree.{DeclaredType, bool, class, ExprType, known, null-type, Expr, literal-true}
+use Rattle.language.specs.Tree.{literal-false, literal-null, slot, is-null, get, cast, new, change, assign}
+use Rattle.language.specs.Tree.{set, call, choose, block, Exprs, nil, cons, size}
 use Rattle.language.specs.World.{World}
-use Rattle.language.specs.Typing.{Environment, fresh-slot, Typed, TypedAll, need-class, not-bool, fits, all-fit, locals-declared, type-of, type-all}
-use Rattle.language.specs.Rules.{Declared, declared-nil, declared-cons, HasType, HaveTypes, type-true, type-false, type-null, type-slot, type-new, type-cast, type-get, type-set, type-assign, type-is-null, type-call, type-choose, type-block, type-change, types-nil, types-cons}
+use Rattle.language.specs.Typing.{Environment, fresh-slot, Typed, TypedAll, need-class, not-bool, fits}
+use Rattle.language.specs.Typing.{all-fit, locals-declared, type-of, type-all}
+use Rattle.language.specs.Rules.{Declared, declared-nil, declared-cons, HasType, HaveTypes, type-true}
+use Rattle.language.specs.Rules.{type-false, type-null, type-slot, type-new, type-cast, type-get, type-set}
+use Rattle.language.specs.Rules.{type-assign, type-is-null, type-call, type-choose, type-block, type-change}
+use Rattle.language.specs.Rules.{types-nil, types-cons}
 
 need-class-inv : {B C : Type 0} (t : ExprType) (n l : ℕ) (k : ℕ → Checked B) {b : B}
     → need-class t n l k ≡ accept b → ((c : ℕ) → t ≡ known (class c) → k c ≡ accept b → C) → C
@@ -33,7 +41,8 @@ not-bool-inv (known (class c)) e = false≢ e
 not-bool-inv null-type e = false≢ e
 
 module _ (W : World) where
-  locals-derive : (at : ℕ) (ts : List DeclaredType) (a : Unit {0}) → locals-declared W at ts ≡ accept a → Declared W ts
+  locals-derive : (at : ℕ) (ts : List DeclaredType) (a : Unit {0}) → locals-declared W at ts ≡ accept a
+      → Declared W ts
   unfolding locals-declared
   locals-derive at [] a q = declared-nil
   locals-derive at (t ∷ ts) a q = require-inv _ _ _ _ q λ e q. declared-cons e (locals-derive (at + 1) ts a q)
@@ -43,7 +52,8 @@ module _ (W : World) where
   locals-complete at declared-nil = refl
   locals-complete at (declared-cons e d) = rw e (locals-complete (at + 1) d)
 
-  pub all-fit-length : (ts : List ExprType) (us : List DeclaredType) → all-fit W ts us ≡ true → length ts ≡ length us
+  pub all-fit-length : (ts : List ExprType) (us : List DeclaredType) → all-fit W ts us ≡ true
+      → length ts ≡ length us
   unfolding all-fit
   all-fit-length [] [] e = refl
   all-fit-length [] (u ∷ us) e = false≢ e
@@ -70,34 +80,50 @@ module _ (W : World) where
     derive (slot k) at γ a q = need-checked-inv _ _ _ _ q λ s e₁ q. rw (← accept-injective q) (type-slot e₁)
     derive (is-null e) at γ a q = bind-checked-inv _ _ q λ b e₁ q. require-inv _ _ _ _ q λ e₂ q.
         rw (← accept-injective q) (type-is-null (derive e (at + 1) γ b e₁) e₂)
-    derive (get f e) at γ a q = bind-checked-inv _ _ q λ b e₁ q. need-class-inv _ _ _ _ q λ c e₂ q. need-checked-inv _ _ _ _ q λ t e₃ q.
+    derive (get f e) at γ a q = bind-checked-inv _ _ q λ b e₁ q. need-class-inv _ _ _ _ q λ c e₂ q.
+        need-checked-inv _ _ _ _ q λ t e₃ q.
         rw (← accept-injective q) (type-get (rw e₂ at (derive e (at + 1) γ b e₁)) e₃)
-    derive (cast c e) at γ a q = bind-checked-inv _ _ q λ b e₁ q. require-inv _ _ _ _ q λ e₂ q. require-inv _ _ _ _ q λ e₃ q.
+    derive (cast c e) at γ a q = bind-checked-inv _ _ q λ b e₁ q. require-inv _ _ _ _ q λ e₂ q.
+        require-inv _ _ _ _ q λ e₃ q.
         rw (← accept-injective q) (type-cast (derive e (at + 1) γ b e₁) e₂ e₃)
     derive (new c) at γ a q = require-inv _ _ _ _ q λ e₁ q. rw (← accept-injective q) (type-new e₁)
     derive (change k d) at γ a q = require-inv _ _ _ _ q λ e₁ q. need-checked-inv _ _ _ _ q λ s e₂ q.
         need-class-inv _ _ _ _ q λ c e₃ q. require-inv _ _ _ _ q λ e₄ q.
         rw (← accept-injective q) (type-change e₁ e₂ (known-injective e₃) e₄)
     derive (assign zero e) at γ a q = bind-checked-inv _ _ q λ b e₁ q. require-inv _ _ _ _ q λ e₂ q. false≢ e₂
-    derive (assign (suc k) e) at γ a q = bind-checked-inv _ _ q λ b e₁ q. require-inv _ _ _ _ q λ e₂ q. need-checked-inv _ _ _ _ q λ s e₃ q.
+    derive (assign (suc k) e) at γ a q = bind-checked-inv _ _ q λ b e₁ q. require-inv _ _ _ _ q λ e₂ q.
+        need-checked-inv _ _ _ _ q λ s e₃ q.
         require-inv _ _ _ _ q λ e₄ q. rw (← accept-injective q) (type-assign (derive e (at + 1) γ b e₁) e₃ e₄)
-    derive (set f e e′) at γ a q = bind-checked-inv _ _ q λ b e₁ q. bind-checked-inv _ _ q λ b′ e₁′ q. need-class-inv _ _ _ _ q λ c e₂ q.
+    derive (set f e e′) at γ a q = bind-checked-inv _ _ q λ b e₁ q. bind-checked-inv _ _ q λ b′ e₁′ q.
+        need-class-inv _ _ _ _ q λ c e₂ q.
         need-checked-inv _ _ _ _ q λ t e₃ q. require-inv _ _ _ _ q λ e₄ q.
-        rw (← accept-injective q) (type-set (rw e₂ at (derive e (at + 1) γ b e₁)) (derive e′ (at + 1 + size e) (b .slots) b′ e₁′) e₃ e₄)
-    derive (call m e es) at γ a q = bind-checked-inv _ _ q λ b e₁ q. bind-checked-inv _ _ q λ b′ e₁′ q. need-class-inv _ _ _ _ q λ c e₂ q.
+        rw (← accept-injective q)
+        (type-set (rw e₂ at (derive e (at + 1) γ b e₁)) (derive e′ (at + 1 + size e) (b .slots) b′ e₁′) e₃
+        e₄)
+    derive (call m e es) at γ a q = bind-checked-inv _ _ q λ b e₁ q. bind-checked-inv _ _ q λ b′ e₁′ q.
+        need-class-inv _ _ _ _ q λ c e₂ q.
         need-checked-inv _ _ _ _ q λ M e₃ q. require-inv _ _ _ _ q λ e₄ q. require-inv _ _ _ _ q λ e₅ q.
-        rw (← accept-injective q) (type-call M (rw e₂ at (derive e (at + 1) γ b e₁)) (derives es (at + 1 + size e) (b .slots) b′ e₁′) e₃ e₅)
-    derive (choose e x y) at γ a q = bind-checked-inv _ _ q λ b e₁ q. bind-checked-inv _ _ q λ b′ e₁′ q. bind-checked-inv _ _ q λ b″ e₁″ q.
+        rw (← accept-injective q)
+        (type-call M (rw e₂ at (derive e (at + 1) γ b e₁))
+        (derives es (at + 1 + size e) (b .slots) b′ e₁′) e₃ e₅)
+    derive (choose e x y) at γ a q = bind-checked-inv _ _ q λ b e₁ q. bind-checked-inv _ _ q λ b′ e₁′ q.
+        bind-checked-inv _ _ q λ b″ e₁″ q.
         require-inv _ _ _ _ q λ e₂ q. need-checked-inv _ _ _ _ q λ t e₃ q.
-        rw (← accept-injective q) (type-choose (rw (not-bool-inv (b .type) e₂) at (derive e (at + 1) γ b e₁)) (derive x (at + 1 + size e) (b .slots) b′ e₁′)
+        rw (← accept-injective q)
+        (type-choose (rw (not-bool-inv (b .type) e₂) at (derive e (at + 1) γ b e₁))
+        (derive x (at + 1 + size e) (b .slots) b′ e₁′)
         (derive y (at + 1 + size e + size x) (b .slots) b″ e₁″) e₃)
     derive (block ts es) at γ a q = bind-checked-inv _ _ q λ u e₀ q. bind-checked-inv _ _ q λ b e₁ q.
-        rw (← accept-injective q) (type-block (locals-derive (at + 1) ts u e₀) (derives es (at + 1 + length ts) (opened γ (map fresh-slot ts)) b e₁))
+        rw (← accept-injective q)
+        (type-block (locals-derive (at + 1) ts u e₀)
+        (derives es (at + 1 + length ts) (opened γ (map fresh-slot ts)) b e₁))
 
-    pub derives : (es : Exprs) (at : ℕ) (γ : Environment) (a : TypedAll) → type-all W es at γ ≡ accept a → Have γ es a
+    pub derives : (es : Exprs) (at : ℕ) (γ : Environment) (a : TypedAll) → type-all W es at γ ≡ accept a
+        → Have γ es a
     derives nil at γ a q = rw (← accept-injective q) types-nil
     derives (cons e es) at γ a q = bind-checked-inv _ _ q λ b e₁ q. bind-checked-inv _ _ q λ b′ e₁′ q.
-        rw (← accept-injective q) (types-cons (derive e at γ b e₁) (derives es (at + size e) (b .slots) b′ e₁′))
+        rw (← accept-injective q)
+        (types-cons (derive e at γ b e₁) (derives es (at + size e) (b .slots) b′ e₁′))
 
   mutual
     unfolding type-of bind-checked need-checked need-class require
@@ -113,18 +139,28 @@ module _ (W : World) where
     complete (cast c e) (type-cast d k n) at = rw (complete e d (at + 1), k, n)
     complete (new c) (type-new k) at = rw k
     complete (change k d) (type-change i h c f) at = rw (i, h, c, f)
-    complete (assign (suc k) e) (type-assign d h f) at = rw (complete e d (at + 1), ne-eqb (suc k) 0 (omega arith), h, f)
-    complete (set f e e′) (type-set d d′ h g) at = rw (complete e d (at + 1), complete e′ d′ (at + 1 + size e), h, g)
+    complete (assign (suc k) e) (type-assign d h f) at =
+        rw (complete e d (at + 1), ne-eqb (suc k) 0 (omega arith), h, f)
+    complete (set f e e′) (type-set d d′ h g) at =
+        rw (complete e d (at + 1), complete e′ d′ (at + 1 + size e), h, g)
     complete (call m e es) (type-call {ts} M d d′ h f) at =
         rw (complete e d (at + 1), completes es d′ (at + 1 + size e), h, eq-lengths ts (M .parameters) f, f)
       where
-        eq-lengths : (ts : List ExprType) (us : List DeclaredType) → all-fit W ts us ≡ true → eqb (length ts) (length us) ≡ true
+        eq-lengths : (ts : List ExprType) (us : List DeclaredType) → all-fit W ts us ≡ true
+            → eqb (length ts) (length us) ≡ true
         eq-lengths ts us f = borrow.Author.Tests.eq-eqb (length ts) (length us) (all-fit-length ts us f)
     complete (choose e x y) (type-choose d d′ d″ j) at =
-        rw (complete e d (at + 1), complete x d′ (at + 1 + size e), complete y d″ (at + 1 + size e + size x), j)
-    complete (block ts es) (type-block l d) at = rw (locals-complete (at + 1) l, completes es d (at + 1 + length ts))
+        rw (
+          complete e d (at + 1),
+          complete x d′ (at + 1 + size e),
+          complete y d″ (at + 1 + size e + size x),
+          j,
+        )
+    complete (block ts es) (type-block l d) at =
+        rw (locals-complete (at + 1) l, completes es d (at + 1 + length ts))
 
-    pub completes : (es : Exprs) {γ γ′ : Environment} {ts : List ExprType} {φ : ℕ} → HaveTypes W γ es ts γ′ φ → (at : ℕ)
+    pub completes : (es : Exprs) {γ γ′ : Environment} {ts : List ExprType} {φ : ℕ} → HaveTypes W γ es ts γ′ φ
+        → (at : ℕ)
         → type-all W es at γ ≡ accept (record { types = ts; slots = γ′; effect = φ })
     completes nil types-nil at = refl
     completes (cons e es) (types-cons d d′) at = rw (complete e d at, completes es d′ (at + size e))

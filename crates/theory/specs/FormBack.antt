@@ -20,7 +20,8 @@ use Rattle.language.specs.Rows.{record-of}
 use Rattle.language.specs.Tree.{DeclaredType, bool, class, type-number, type-of-number, Expr, Exprs, count}
 use Rattle.language.specs.Tree.{size, sizes, flatten, flattens}
 use Rattle.language.specs.Form.{Read, read, after, record-on, next, locals, several, node-of, node}
-use Rattle.language.specs.WellFormed.{TypeInForm, Each, each-nil, each-cons, NodeInForm, NodesInForm, form-true}
+use Rattle.language.specs.WellFormed.{TypeInForm, Each, each-nil, each-cons, NodeInForm, NodesInForm}
+use Rattle.language.specs.WellFormed.{form-true}
 use Rattle.language.specs.WellFormed.{form-false, form-null, form-slot, form-is-null, form-get, form-cast}
 use Rattle.language.specs.WellFormed.{form-new, form-change, form-assign, form-set, form-call, form-choose}
 use Rattle.language.specs.WellFormed.{form-block, form-nil, form-cons}
@@ -112,8 +113,10 @@ number-back n = go (eqb n bool-number) refl
     go false e = refl
 
 pub type-in-form : (n : ℕ) → n ≤ largest → TypeInForm (type-of-number n)
-type-in-form n l = record
-    { small = subst (λ (k : ℕ). k ≤ largest) (sym (number-back n)) l; back = ap type-of-number (number-back n) }
+type-in-form n l = record {
+  small = subst (λ (k : ℕ). k ≤ largest) (sym (number-back n)) l;
+  back = ap type-of-number (number-back n);
+}
 
 module _ (most : Most) where
   -- The record that stands first: its row, its numbers and its name within the limits, its line too.
@@ -151,7 +154,8 @@ module _ (most : Most) where
       subst (λ (l : Letter). Taken at rs (written l (x .first) (x .second)) rest) (sym p) t
 
   -- Lines of one letter, as long as they came: their rows, each in form, and where they end.
-  pub record LinesRead {A : Type 0} (row : A → Row) (R : A → Type 0) (at : ℕ) (rs : List Row) (x : Read (List A)) :
+  pub record LinesRead {A : Type 0} (row : A → Row) (R : A → Type 0) (at : ℕ) (rs : List Row)
+      (x : Read (List A)) :
       Type 0 where
     pub is : rs ≡ map row (x .tree) ++ x .rest
     pub formed : Each R (x .tree)
@@ -161,7 +165,8 @@ module _ (most : Most) where
     pub lines-none : (at : ℕ) (rs : List Row) → LinesRead row R at rs (read [] rs)
     lines-none at rs = record { is = refl; formed = each-nil; lines = λ l. omega arith }
 
-    pub lines-one : (at : ℕ) (rs : List Row) (r : Row) (rest : List Row) (a : A) (x : Read (List A)) → at ≤ most .rows
+    pub lines-one : (at : ℕ) (rs : List Row) (r : Row) (rest : List Row) (a : A) (x : Read (List A))
+        → at ≤ most .rows
         → rs ≡ r ∷ rest → r ≡ row a → R a → LinesRead row R (at + 1) rest x
         → LinesRead row R at rs (read (a ∷ x .tree) (x .rest))
     lines-one at rs r rest a x l e f i h = record {
@@ -230,7 +235,8 @@ module _ (most : Most) where
       })
 
   module _ (d : ℕ) (nd : ℕ → ℕ → List Row → Checked (Read Expr))
-      (ih : (n at : ℕ) (rs : List Row) (x : Read Expr) → n ≤ most .slots → nd n at rs ≡ accept x → NodeRead d n at rs x)
+      (ih : (n at : ℕ) (rs : List Row) (x : Read Expr) → n ≤ most .slots → nd n at rs ≡ accept x
+      → NodeRead d n at rs x)
     where
       node-of-back : (l : Letter) (a b n at : ℕ) (rs : List Row) (x : Read Expr) → n ≤ most .slots
           → a ≤ most-at 1 l → b ≤ most-at 2 l → name-of l a b ≤ most .name → at ≤ most .rows
@@ -283,7 +289,8 @@ module _ (most : Most) where
             formed = form-assign p (h .formed);
             lines = omega (arith, h .lines);
           })
-      node-of-back U-set a b n at rs x s p q m l e = after-inv _ _ e λ c rs₁ e₁ e. after-inv _ _ e λ c′ rs₂ e₂ e.
+      node-of-back U-set a b n at rs x s p q m l e = after-inv _ _ e λ c rs₁ e₁ e.
+          after-inv _ _ e λ c′ rs₂ e₂ e.
           let h = ih n (at + 1) rs (read c rs₁) s e₁ in
           let h′ = ih n (at + 1 + size c) rs₁ (read c′ rs₂) s e₂ in
           subst (NodeRead _ _ _ _) (accept-injective e) (record {
@@ -296,9 +303,11 @@ module _ (most : Most) where
             formed = form-set m (h .formed) (h′ .formed);
             lines = omega (arith, h′ .lines);
           })
-      node-of-back Q-call a b n at rs x s p q m l e = after-inv _ _ e λ c rs₁ e₁ e. after-inv _ _ e λ cs rs₂ e₂ e.
+      node-of-back Q-call a b n at rs x s p q m l e = after-inv _ _ e λ c rs₁ e₁ e.
+          after-inv _ _ e λ cs rs₂ e₂ e.
           let h = ih n (at + 1) rs (read c rs₁) s e₁ in
-          let g = several-back d n (λ at rs. nd n at rs) (λ at rs x e. ih n at rs x s e) b (at + 1 + size c) rs₁
+          let g = several-back d n (λ at rs. nd n at rs) (λ at rs x e. ih n at rs x s e) b (at + 1 + size c)
+          rs₁
           (read cs rs₂) e₂ in
           subst (NodeRead _ _ _ _) (accept-injective e) (record {
             is = rw (← g .many) (ap (λ r. row-of (written Q-call a (count cs)) ∷ r)
@@ -317,11 +326,13 @@ module _ (most : Most) where
           let h″ = ih n (at + 1 + size c + size c′) rs₂ (read c″ rs₃) s e₃ in
           subst (NodeRead _ _ _ _) (accept-injective e) (record {
             is = rw (zero-is a p, zero-is b q) (ap (λ r. row-of (written J-choose 0 0) ∷ r)
-                (h .is ∙ (ap (λ r. map row-of (flatten c) ++ r) (h′ .is ∙ ap (λ r. map row-of (flatten c′) ++ r) (h″ .is))
+                (h .is ∙ (ap (λ r. map row-of (flatten c) ++ r)
+                (h′ .is ∙ ap (λ r. map row-of (flatten c′) ++ r) (h″ .is))
                 ∙ rw (
                   map-append row-of (flatten c) (flatten c′ ++ flatten c″),
                   map-append row-of (flatten c′) (flatten c″),
-                  append-assoc (map row-of (flatten c)) (map row-of (flatten c′) ++ map row-of (flatten c″)) rs₃,
+                  append-assoc (map row-of (flatten c)) (map row-of (flatten c′) ++ map row-of (flatten c″))
+                      rs₃,
                   append-assoc (map row-of (flatten c′)) (map row-of (flatten c″)) rs₃,
                 ))));
             formed = form-choose (h .formed) (h′ .formed) (h″ .formed);
@@ -342,15 +353,22 @@ module _ (most : Most) where
                   append-assoc (map local-row ts) (map row-of (flattens cs)) rs₂,
                 ))));
             formed = form-block (g .few s) (omega (arith, h .many, positive b e₀)) (omega (arith, h .many))
-                (g .read-lines .formed) (subst (λ (j : ℕ). NodesInForm most d (n + j) cs) (sym (g .many)) (h .formed));
-            lines = omega (arith, g .many, h .lines (omega (arith, g .read-lines .lines (omega arith), g .many)));
+                (g .read-lines .formed)
+                (subst (λ (j : ℕ). NodesInForm most d (n + j) cs) (sym (g .many)) (h .formed));
+            lines = omega (
+              arith,
+              g .many,
+              h .lines (omega
+                  (arith, g .read-lines .lines (omega arith), g .many)),
+            );
           })
         where
           positive : (b : ℕ) → not (eqb b 0) ≡ true → 1 ≤ b
           positive zero e = false≢ e
           positive (suc b) e = omega arith
 
-  pub node-back : (d n at : ℕ) (rs : List Row) (x : Read Expr) → n ≤ most .slots → node most d n at rs ≡ accept x
+  pub node-back : (d n at : ℕ) (rs : List Row) (x : Read Expr) → n ≤ most .slots
+      → node most d n at rs ≡ accept x
       → NodeRead d n at rs x
   unfolding node
   node-back zero n at rs x s e = next-inv at rs _ e λ r rest t e. require-inv _ _ _ _ e λ q e.

@@ -10,24 +10,29 @@ use native.Mathlib.Omega.{arith}
 use Rattle.language.specs.Limits.{Most}
 use Rattle.language.specs.Lists.{given}
 use Rattle.language.specs.Results.{Checked, accept}
-use Rattle.language.specs.Rows.{Letter, C-class, F-field, M-method, P-parameter, X-effect, S-start, B-block, V-local}
-use Rattle.language.specs.Rows.{T-true, L-false, N-null, I-slot, Z-is-null, G-get, K-cast, W-new, R-change, A-assign}
+use Rattle.language.specs.Rows.{Letter, C-class, F-field, M-method, P-parameter, X-effect, S-start, B-block}
+use Rattle.language.specs.Rows.{V-local}
+use Rattle.language.specs.Rows.{T-true, L-false, N-null, I-slot, Z-is-null, G-get, K-cast, W-new, R-change}
+use Rattle.language.specs.Rows.{A-assign}
 use Rattle.language.specs.Rows.{U-set, Q-call, J-choose, Record, name-of, same-letter, Row, record-of}
 use Rattle.language.specs.Tree.{DeclaredType, type-of-number, Expr, literal-true, literal-false, literal-null}
 use Rattle.language.specs.Tree.{slot, is-null, get, cast, new, change, assign, set, call, choose, block}
 use Rattle.language.specs.Tree.{nil, cons, size, sizes, heading-lines}
 use Rattle.language.specs.Tree.{method-lines, methods-lines, class-lines, classes-lines, Program}
 use Rattle.language.specs.Form.{Read, read, several, record-on, next, maybe, locals, node-of, node, body}
-use Rattle.language.specs.Form.{class-of, fields, parameters, effects, method, methods, classes, at-end, form, is-node}
+use Rattle.language.specs.Form.{class-of, fields, parameters, effects, method, methods, classes, at-end, form}
+use Rattle.language.specs.Form.{is-node}
 use Rattle.theory.specs.Listed.{LineOf, FormRefusal, refuses-line, refuses-limit, refuses-place}
-use Rattle.theory.specs.Refusals.{Among, Any, Gives, gives, refuses, gives-bind, gives-after, gives-need, gives-require}
+use Rattle.theory.specs.Refusals.{Among, Any, Gives, gives, refuses, gives-bind, gives-after}
+use Rattle.theory.specs.Refusals.{gives-need, gives-require}
 
 module _ (most : Most) (rows : ℕ) where
   abbrev FormGives : {A : Type 0} → (A → Type 0) → Checked A → Type 0
   FormGives Q r = Gives (FormRefusal rows) Q r
 
   -- A refusal on a line.
-  on : {n at most : ℕ} → (LineOf most at → FormRefusal rows n at) → 1 ≤ at → at ≤ most → Among (FormRefusal rows) n at
+  on : {n at most : ℕ} → (LineOf most at → FormRefusal rows n at) → 1 ≤ at → at ≤ most
+      → Among (FormRefusal rows) n at
   on k f b = record { is = k (record { from = f; to = b }) }
 
   -- What was read takes so many lines, and with the rows after it no more than there were.
@@ -42,7 +47,8 @@ module _ (most : Most) (rows : ℕ) where
   unfolding record-on
   record-gives at r f b = gives-need (record-of r) (on refuses-line f b) λ x.
       gives-require (leb at (most .rows)) (on refuses-limit f b) λ _.
-      gives-require (leb (name-of (x .letter) (x .first) (x .second)) (most .name)) (on refuses-limit f b) λ _. gives tt
+      gives-require (leb (name-of (x .letter) (x .first) (x .second)) (most .name)) (on refuses-limit f b)
+      λ _. gives tt
 
   next-gives : {B : Type 0} {Q : B → Type 0} (at : ℕ) (rs : List Row) {k : Record → List Row → Checked B}
       → 1 ≤ at → at + length rs ≤ 1 + rows
@@ -68,8 +74,10 @@ module _ (most : Most) (rows : ℕ) where
   locals-gives (suc v) n at rs f b = next-gives at rs f b λ x rest e.
       gives-require (same-letter V-local (x .letter)) (on refuses-place f (omega (arith, b))) λ _.
       gives-require (ltb n (most .slots)) (on refuses-limit f (omega (arith, b, e))) λ _.
-      gives-after (locals-gives v (suc n) (at + 1) rest (omega (arith, f)) (omega (arith, b, e))) λ ts rest₂ q.
-      reads-locals (suc v) (length rs) (type-of-number (x .first) ∷ ts) rest₂ (ap suc (q .all)) (omega (arith, q .few, e))
+      gives-after (locals-gives v (suc n) (at + 1) rest (omega (arith, f)) (omega (arith, b, e)))
+      λ ts rest₂ q.
+      reads-locals (suc v) (length rs) (type-of-number (x .first) ∷ ts) rest₂ (ap suc (q .all))
+      (omega (arith, q .few, e))
 
   -- A reader of nodes: what it reads fits.
   abbrev Reads : (ℕ → List Row → Checked (Read Expr)) → Type 0
@@ -81,7 +89,8 @@ module _ (most : Most) (rows : ℕ) where
   unfolding several size
   several-gives nd g zero at rs f b = reads nil rs (omega arith)
   several-gives nd g (suc k) at rs f b = gives-after (g at rs f b) λ e rest q.
-      gives-after (several-gives nd g k (at + size e) rest (omega (arith, f)) (omega (arith, b, q .few))) λ es rest₂ p.
+      gives-after (several-gives nd g k (at + size e) rest (omega (arith, f)) (omega (arith, b, q .few)))
+      λ es rest₂ p.
       reads (cons e es) rest₂ (omega (arith, q .few, p .few))
 
   -- A node of a letter on a line, its children read by `nd`.
@@ -131,7 +140,8 @@ module _ (most : Most) (rows : ℕ) where
   node-of-gives nd g B-block v k n at rs f h =
       gives-require (not (eqb k 0)) (on refuses-place f (omega (arith, h))) λ _.
       gives-after (locals-gives v n (at + 1) rs (omega (arith, f)) (omega (arith, h))) λ ts rest q.
-      gives-after (several-gives (λ at rs. nd (n + v) at rs) (g (n + v)) k (at + 1 + v) rest (omega (arith, f))
+      gives-after (several-gives (λ at rs. nd (n + v) at rs) (g (n + v)) k (at + 1 + v) rest
+      (omega (arith, f))
       (omega (arith, h, q .few))) λ es rest₂ p.
       reads (block ts es) rest₂ (omega (arith, q .all, q .few, p .few))
 
@@ -155,7 +165,8 @@ module _ (most : Most) (rows : ℕ) where
       node-gives (most .nesting) n at rs f h
 
   -- F and X lines are read without a refusal.
-  fields-fit : (at : ℕ) (rs : List Row) → length (fields most at rs .tree) + length (fields most at rs .rest) ≤ length rs
+  fields-fit : (at : ℕ) (rs : List Row)
+      → length (fields most at rs .tree) + length (fields most at rs .rest) ≤ length rs
   unfolding fields
   fields-fit at [] = omega arith
   fields-fit at (r ∷ rs) = go (maybe most F-field at r) (fields-fit (at + 1) rs)
@@ -184,7 +195,8 @@ module _ (most : Most) (rows : ℕ) where
       go (some x) l = omega (arith, l)
 
   -- What is read of a record, if there is one.
-  given-gives : {A B : Type 0} {Q : B → Type 0} (o : Option A) {r : Checked B} {k : A → Checked B} → FormGives Q r
+  given-gives : {A B : Type 0} {Q : B → Type 0} (o : Option A) {r : Checked B} {k : A → Checked B}
+      → FormGives Q r
       → ((a : A) → FormGives Q (k a)) → FormGives Q (given o r k)
   given-gives none g f = g
   given-gives (some a) g f = f a
@@ -193,7 +205,8 @@ module _ (most : Most) (rows : ℕ) where
       → FormGives (Fits length (length rs)) (parameters most n at rs)
   unfolding parameters
   parameters-gives n at [] f h = reads [] [] (omega arith)
-  parameters-gives n at (r ∷ rs) f h = given-gives (maybe most P-parameter at r) (reads [] (r ∷ rs) (omega arith)) λ x.
+  parameters-gives n at (r ∷ rs) f h =
+      given-gives (maybe most P-parameter at r) (reads [] (r ∷ rs) (omega arith)) λ x.
       gives-require (ltb n (most .parameters)) (on refuses-limit f (omega (arith, h))) λ _.
       gives-after (parameters-gives (suc n) (at + 1) rs (omega (arith, f)) (omega (arith, h))) λ ts rest q.
       reads (type-of-number (x .first) ∷ ts) rest (omega (arith, q .few))
@@ -205,7 +218,8 @@ module _ (most : Most) (rows : ℕ) where
       gives-after (parameters-gives 0 (at + 1) rs (omega (arith, f)) (omega (arith, h))) λ ts rest q.
       let xs = effects most (at + 1 + length ts) rest in
       let p = effects-fit (at + 1 + length ts) rest in
-      gives-after (body-gives (1 + length ts) (at + 1 + length ts + length (xs .tree)) (xs .rest) (omega (arith, f))
+      gives-after (body-gives (1 + length ts) (at + 1 + length ts + length (xs .tree)) (xs .rest)
+      (omega (arith, f))
       (omega (arith, h, q .few, p))) λ e rest₂ o.
       reads (record {
         result = type-of-number (m .first);
@@ -220,9 +234,11 @@ module _ (most : Most) (rows : ℕ) where
   unfolding methods methods-lines
   methods-gives zero at rs f h = reads [] rs (omega arith)
   methods-gives (suc k) at [] f h = reads [] [] (omega arith)
-  methods-gives (suc k) at (r ∷ rs) f h = given-gives (maybe most M-method at r) (reads [] (r ∷ rs) (omega arith)) λ x.
+  methods-gives (suc k) at (r ∷ rs) f h =
+      given-gives (maybe most M-method at r) (reads [] (r ∷ rs) (omega arith)) λ x.
       gives-after (method-gives at x rs f h) λ m rest q.
-      gives-after (methods-gives k (at + method-lines m) rest (omega (arith, f)) (omega (arith, h, q .few))) λ ms rest₂ p.
+      gives-after (methods-gives k (at + method-lines m) rest (omega (arith, f)) (omega (arith, h, q .few)))
+      λ ms rest₂ p.
       reads (m ∷ ms) rest₂ (omega (arith, q .few, p .few))
 
   classes-gives : (k n at : ℕ) (rs : List Row) → 1 ≤ at → at + length rs ≤ 1 + rows
@@ -230,21 +246,24 @@ module _ (most : Most) (rows : ℕ) where
   unfolding classes classes-lines class-lines
   classes-gives zero n at rs f h = reads [] rs (omega arith)
   classes-gives (suc k) n at [] f h = reads [] [] (omega arith)
-  classes-gives (suc k) n at (r ∷ rs) f h = given-gives (maybe most C-class at r) (reads [] (r ∷ rs) (omega arith)) λ x.
+  classes-gives (suc k) n at (r ∷ rs) f h =
+      given-gives (maybe most C-class at r) (reads [] (r ∷ rs) (omega arith)) λ x.
       gives-require (ltb n (most .classes)) (on refuses-limit f (omega (arith, h))) λ _.
       let fs = fields most (at + 1) rs in
       let p = fields-fit (at + 1) rs in
       gives-after (methods-gives (length rs) (at + 1 + length (fs .tree)) (fs .rest) (omega (arith, f))
       (omega (arith, h, p))) λ ms rest q.
       let c = class-of x (fs .tree) ms in
-      gives-after (classes-gives k (suc n) (at + class-lines c) rest (omega (arith, f)) (omega (arith, h, p, q .few)))
+      gives-after (classes-gives k (suc n) (at + class-lines c) rest (omega (arith, f))
+      (omega (arith, h, p, q .few)))
       λ cs rest₂ o. reads (c ∷ cs) rest₂ (omega (arith, p, q .few, o .few))
 
   at-end-gives : (at : ℕ) (rs : List Row) (p : Program) → 1 ≤ at → at + length rs ≤ 1 + rows
       → FormGives Any (at-end most at rs p)
   unfolding at-end
   at-end-gives at [] p f h = gives tt
-  at-end-gives at (r ∷ rs) p f h = next-gives at (r ∷ rs) f h λ x rest e. refuses (on refuses-place f (omega (arith, h)) .is)
+  at-end-gives at (r ∷ rs) p f h = next-gives at (r ∷ rs) f h λ x rest e.
+      refuses (on refuses-place f (omega (arith, h)) .is)
 
 -- The pass over form refuses as listed: 1 or 2 on one of the rows, 3 there or one line past the end.
 pub form-refusals : (most : Most) (rs : List Row) → Gives (FormRefusal (length rs)) Any (form most rs)
@@ -253,7 +272,9 @@ form-refusals most rs = let rows = length rs in
     gives-after (classes-gives most rows (length rs) 0 1 rs (omega arith) (omega arith)) λ cs rest q.
     let at = 1 + classes-lines cs in
     next-gives most rows at rest (omega arith) (omega (arith, q .few)) λ x rest₂ e.
-    gives-require (same-letter S-start (x .letter)) (on most rows refuses-place (omega arith) (omega (arith, q .few)))
-    λ _. gives-after (body-gives most rows 1 (at + 1) rest₂ (omega arith) (omega (arith, q .few, e))) λ b rest₃ o.
+    gives-require (same-letter S-start (x .letter))
+    (on most rows refuses-place (omega arith) (omega (arith, q .few)))
+    λ _. gives-after (body-gives most rows 1 (at + 1) rest₂ (omega arith) (omega (arith, q .few, e)))
+    λ b rest₃ o.
     at-end-gives most rows (at + 1 + size b) rest₃ (record { classes = cs; start = b }) (omega arith)
     (omega (arith, q .few, e, o .few))

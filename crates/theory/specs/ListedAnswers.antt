@@ -32,10 +32,13 @@ use Rattle.theory.specs.Members.{run-sound, runnable-check}
 use Rattle.theory.specs.Cut.{Within, final, limited-start, ends-within}
 use Rattle.theory.specs.Demand3World.{outcome}
 use Rattle.theory.specs.StoreNumbers.{run-shaped, stored-rest, stored-length}
-use Rattle.theory.specs.Listed.{CheckRefusal, no-whole-rows, by-form, by-headings, by-bodies, RunRefusal}
-use Rattle.theory.specs.Listed.{run-by-check, too-much-fuel, ListedVerdict, is-accepted, is-refused, ListedOutcome}
+use Rattle.theory.specs.Listed.{CheckRefusal, no-whole-rows, by-form, by-headings, by-bodies}
+use Rattle.theory.specs.Listed.{RunRefusal}
+use Rattle.theory.specs.Listed.{run-by-check, too-much-fuel, ListedVerdict, is-accepted, is-refused}
+use Rattle.theory.specs.Listed.{ListedOutcome}
 use Rattle.theory.specs.Listed.{a-value, exception-1, exception-2, stop-14, stop-15, stop-16, ListedRun}
-use Rattle.theory.specs.Listed.{is-refused-run, is-run, ListedFilling, is-filled, has-no-room, is-not-made}
+use Rattle.theory.specs.Listed.{is-refused-run, is-run, ListedFilling, is-filled, has-no-room}
+use Rattle.theory.specs.Listed.{is-not-made}
 use Rattle.theory.specs.Refusals.{RefusesOnly, answers, refuses-as, only, only-mono, only-bind}
 use Rattle.theory.specs.FormRefusals.{form-refusals}
 use Rattle.theory.specs.PassRefusals.{heading-refusals, body-refusals}
@@ -52,7 +55,8 @@ unfolding three-passes
 passes-refuse ns =
     only-bind (only (form-refusals of-check (rows-of ns)) (λ n l w. by-form w)) λ p e.
     let rows = length (rows-of ns) in let lines = rows-read ns p e in
-    only-bind (only (heading-refusals of-check (p .classes) rows (omega (arith, lines))) (λ n l w. by-headings w)) λ _ _.
+    only-bind (only (heading-refusals of-check (p .classes) rows (omega (arith, lines)))
+    (λ n l w. by-headings w)) λ _ _.
     only-bind (only (body-refusals p rows (omega (arith, lines))) (λ n l w. by-bodies w)) λ _ _. answers
 
 -- The check refuses only in the ways listed for it.
@@ -108,7 +112,8 @@ outcome-listed (holds-stop h) = go h
 -- A run with limits ends within them.
 run-within : (p : Program) (fuel room : ℕ) → Within fuel room (final (run (with-limits fuel room) p))
 unfolding run
-run-within p fuel room = ends-within fuel room (limited-start fuel room (world (p .classes)) (p .start) first-state
+run-within p fuel room =
+    ends-within fuel room (limited-start fuel room (world (p .classes)) (p .start) first-state
     (record { fuel = omega arith; room = omega arith }))
 
 -- The run of a well-formed program is listed.
@@ -121,7 +126,8 @@ finish-listed rows fuel store p w =
     go r (outcome-listed (run-sound p w (with-limits fuel (capacity store)))) (limits .fuel) (limits .room)
     (stored-length (final r .heap) shaped store (limits .room)) (stored-rest (final r .heap) shaped store)
   where
-    go : (r : Out Value) → ListedOutcome (outcome r) → final r .steps ≤ fuel → length (final r .heap) ≤ capacity store
+    go : (r : Out Value) → ListedOutcome (outcome r) → final r .steps ≤ fuel
+        → length (final r .heap) ≤ capacity store
         → length (stored (final r .heap) store) ≡ length store
         → drop (numbers-an-object * length (final r .heap)) (stored (final r .heap) store)
         ≡ drop (numbers-an-object * length (final r .heap)) store

@@ -17,14 +17,16 @@ use Rattle.language.specs.World.{Method}
 use Rattle.language.specs.Effects.{effect-of-all, within, member, apply-class, apply}
 use Rattle.language.specs.Program.{is-plain, is-root, is-state, method-of, declared, class-at, is-state-type}
 use Rattle.language.specs.Program.{fields-at, method-at, below-at, root-at, is-changeable, world}
-use Rattle.language.specs.WellFormed.{Each, each-nil, each-cons, Subclass, itself, below-object, above, Nearest}
+use Rattle.language.specs.WellFormed.{Each, each-nil, each-cons, Subclass, itself, below-object, above}
+use Rattle.language.specs.WellFormed.{Nearest}
 use Rattle.language.specs.WellFormed.{FieldsWell, well-nil, well-cons, Overrides, first, again, MethodWell}
 use Rattle.language.specs.WellFormed.{MethodsWell, methods-nil, methods-cons, ClassWell, ClassesWell}
 use Rattle.language.specs.WellFormed.{classes-nil, classes-cons, ProgramWell}
 use Rattle.theory.specs.Sound.{false≢, BodyOk, Laws}
 use Rattle.theory.specs.EffectLaws.{within-refl, within-trans}
 use Rattle.theory.specs.Superclasses.{object-is-no-class, subclass-trans, test-subclass, subclass-test}
-use Rattle.theory.specs.Superclasses.{nearest-least, fields-prefix, root-is, root-subclass, root-of-other}
+use Rattle.theory.specs.Superclasses.{nearest-least, fields-prefix, root-is, root-subclass}
+use Rattle.theory.specs.Superclasses.{root-of-other}
 use Rattle.theory.specs.Superclasses.{root-up, root-same}
 
 -- What holds of each of a list holds at each place.
@@ -49,7 +51,8 @@ class-well-from P {k} (classes-cons w ws) (suc i) c e =
     let z : i + suc k ≡ suc i + k = omega arith in
     subst (λ (n : ℕ). ClassWell P n c) z (class-well-from P ws i c e)
 
-pub class-well : (P : List Class) → ClassesWell P 1 P → (k : ℕ) (c : Class) → class-at P k ≡ some c → ClassWell P k c
+pub class-well : (P : List Class) → ClassesWell P 1 P → (k : ℕ) (c : Class) → class-at P k ≡ some c
+    → ClassWell P k c
 unfolding class-at
 class-well P w zero c e = absurd (Never e)
 class-well P w (suc i) c e =
@@ -61,7 +64,8 @@ pub record WellDeclared (P : List Class) (k super m : ℕ) (d : Declaration) : T
   pub well : MethodWell P k super before d
   pub name : d .name ≡ m
 
-pub well-declared : (P : List Class) (k super : ℕ) {before ms : List Declaration} → MethodsWell P k super before ms
+pub well-declared : (P : List Class) (k super : ℕ) {before ms : List Declaration}
+    → MethodsWell P k super before ms
     → (m : ℕ) (d : Declaration) → declared ms m ≡ some d → WellDeclared P k super m d
 unfolding declared
 well-declared P k super methods-nil m d e = absurd (Never e)
@@ -75,7 +79,8 @@ well-declared P k super {before} (methods-cons {ms} {m = x} w ws) m d e =
     go false q ih e = ih e
 
 -- What an overriding method has in common with the overridden one.
-overrides-one : {P : List Class} {m : Declaration} {o : Option Method} (M : Method) → Overrides P m o → o ≡ some M
+overrides-one : {P : List Class} {m : Declaration} {o : Option Method} (M : Method) → Overrides P m o
+    → o ≡ some M
     → (m .parameters ≡ M .parameters) × (m .result ≡ M .result)
     × (within (effect-of-all (m .effects)) (M .effect) ≡ true)
 overrides-one M first e = absurd (Never e)
@@ -95,7 +100,8 @@ pub record FoundMethod (P : List Class) (k m : ℕ) (M : Method) : Type 0 where
   pub declares : declared (owning .methods) m ≡ some declaration
   pub is : method-of owner declaration ≡ M
 
-pub method-found : (P : List Class) (n k m : ℕ) (M : Method) → method-at P n k m ≡ some M → FoundMethod P k m M
+pub method-found : (P : List Class) (n k m : ℕ) (M : Method) → method-at P n k m ≡ some M
+    → FoundMethod P k m M
 unfolding method-at
 method-found P zero k m M e = absurd (Never e)
 method-found P (suc n) k m M e = go (class-at P k) refl (λ c q. method-found P n (c .super) m M q) e
@@ -120,7 +126,8 @@ method-found P (suc n) k m M e = go (class-at P k) refl (λ c q. method-found P 
 
     go : (o : Option Class) → class-at P k ≡ o
         → ((c : Class) → method-at P n (c .super) m ≡ some M → FoundMethod P (c .super) m M)
-        → given o none (λ c. given (declared (c .methods) m) (method-at P n (c .super) m) λ d. some (method-of k d))
+        → given o none (λ c. given (declared (c .methods) m) (method-at P n (c .super) m) λ d. some
+        (method-of k d))
         ≡ some M → FoundMethod P k m M
     go none p ih e = absurd (Never e)
     go (some c) p ih e = here c p (declared (c .methods) m) refl (ih c) e
@@ -140,8 +147,10 @@ module _ (P : List Class) (well : (k : ℕ) (c : Class) → class-at P k ≡ som
     where
       go : (o : Option Class) → class-at P k ≡ o
           → ((c : Class) → class-at P k ≡ some c → method-at P n (c .super) m ≡ method-at P n′ (c .super) m)
-          → given o none (λ c. given (declared (c .methods) m) (method-at P n (c .super) m) λ d. some (method-of k d))
-          ≡ given o none (λ c. given (declared (c .methods) m) (method-at P n′ (c .super) m) λ d. some (method-of k d))
+          → given o none (λ c. given (declared (c .methods) m) (method-at P n (c .super) m) λ d. some
+          (method-of k d))
+          ≡ given o none (λ c. given (declared (c .methods) m) (method-at P n′ (c .super) m) λ d. some
+          (method-of k d))
       go none e ih = refl
       go (some c) e ih = rw (ih c e)
 
@@ -162,7 +171,8 @@ module _ (P : List Class) (well : (k : ℕ) (c : Class) → class-at P k ≡ som
   Inherited c m M = (N : Method) × (method-at P (suc c) c m ≡ some N) × (N .parameters ≡ M .parameters)
       × (N .result ≡ M .result) × (within (N .effect) (M .effect) ≡ true)
 
-  inherited : {c d : ℕ} → Subclass P c d → (m : ℕ) (M : Method) → method-at P (suc d) d m ≡ some M → Inherited c m M
+  inherited : {c d : ℕ} → Subclass P c d → (m : ℕ) (M : Method) → method-at P (suc d) d m ≡ some M
+      → Inherited c m M
   unfolding Inherited world
   inherited itself m M e = (M, e, refl, refl, within-refl (M .effect))
   inherited (below-object p) m M e = absurd (Never (sym (method-of-object m) ∙ e))
@@ -237,14 +247,16 @@ module _ (P : List Class) (well : (k : ℕ) (c : Class) → class-at P k ≡ som
       no-plain state e = refl
       no-plain (unknown n) e = refl
 
-      go : (o : Option Class) → class-at P k ≡ o → given o false (λ c. is-root (c .kind) || is-state (c .kind)) ≡ true
+      go : (o : Option Class) → class-at P k ≡ o
+          → given o false (λ c. is-root (c .kind) || is-state (c .kind)) ≡ true
           → (c : Class) × (class-at P k ≡ some c) × (is-plain (c .kind) ≡ false)
       go none p e = false≢ e
       go (some c) p e = (c, p, no-plain (c .kind) e)
 
   up-law : (c d : ℕ) → below-at P (suc c) c d ≡ true → (root-at P (suc d) d ≡ root-at P (suc c) c)
       ⊎ ((root-at P (suc d) d ≡ d) × (below-at P (suc (root-at P (suc c) c)) (root-at P (suc c) c) d ≡ true))
-  up-law c d e = elim (root-up P superclass-earlier (λ k b p. well k b p .kind) (test-subclass P superclass-earlier e)
+  up-law c d e = elim (root-up P superclass-earlier (λ k b p. well k b p .kind)
+      (test-subclass P superclass-earlier e)
       (root-is P superclass-earlier c) (root-is P superclass-earlier d))
       [ inl p ↦ inl p | inr p ↦ inr (p .0, subclass-test P superclass-earlier (p .1)) ]
 
@@ -257,7 +269,8 @@ module _ (P : List Class) (well : (k : ℕ) (c : Class) → class-at P k ≡ som
     sub-root = λ c. subclass-test P superclass-earlier
         (root-subclass P superclass-earlier (root-is P superclass-earlier c));
     up = λ c d s. up-law c d s;
-    fickle-root = λ c d s h. let x = changeable-class d h in root-same P superclass-earlier (λ k b p. well k b p .kind)
+    fickle-root = λ c d s h. let x = changeable-class d h in
+        root-same P superclass-earlier (λ k b p. well k b p .kind)
         (test-subclass P superclass-earlier s) (x .0) (x .1) (x .2)
         (root-is P superclass-earlier c) (root-is P superclass-earlier d);
     prefix = λ c d s. fields-prefix P superclass-earlier (test-subclass P superclass-earlier s);

@@ -89,7 +89,8 @@ persists-trans f g = record
     { same = λ j i e. g .same j i (f .same j i e); keeps = λ m i e. g .keeps m i (f .keeps m i e) }
 
 -- Values that correspond still do later.
-pub corresponds-later : {W : World} {ids ids′ : List ℕ} {h h′ : List Object} {v w : Value} → Persists W ids ids′ h h′
+pub corresponds-later : {W : World} {ids ids′ : List ℕ} {h h′ : List Object} {v w : Value}
+    → Persists W ids ids′ h h′
     → Corresponds ids v w → Corresponds ids′ v w
 corresponds-later x both-null = both-null
 corresponds-later x same-truth = same-truth
@@ -122,7 +123,8 @@ module _ {ids : List ℕ} where
   slots-at (temporary rs) k v e = slots-at rs k v e
 
   -- A variable set on both sides.
-  pub slots-set : {sh : Shape} {μ : Mask} {l l′ : List Value} → SlotsMatch ids sh μ l l′ → (k : ℕ) (v v′ : Value)
+  pub slots-set : {sh : Shape} {μ : Mask} {l l′ : List Value} → SlotsMatch ids sh μ l l′
+      → (k : ℕ) (v v′ : Value)
       → Corresponds ids v v′ → SlotsMatch ids sh μ (replace l k v) (replace l′ (position sh k) v′)
   unfolding position
   slots-set no-slots k v v′ r = no-slots
@@ -131,12 +133,14 @@ module _ {ids : List ℕ} where
   slots-set (temporary rs) k v v′ q = temporary (slots-set rs k v v′ q)
 
   -- Shape, mask and the plain program's slots are equally long.
-  pub mask-length : {sh : Shape} {μ : Mask} {l l′ : List Value} → SlotsMatch ids sh μ l l′ → length μ ≡ length sh
+  pub mask-length : {sh : Shape} {μ : Mask} {l l′ : List Value} → SlotsMatch ids sh μ l l′
+      → length μ ≡ length sh
   mask-length no-slots = refl
   mask-length (variable r rs) = ap suc (mask-length rs)
   mask-length (temporary rs) = ap suc (mask-length rs)
 
-  pub slots-length : {sh : Shape} {μ : Mask} {l l′ : List Value} → SlotsMatch ids sh μ l l′ → length l′ ≡ length sh
+  pub slots-length : {sh : Shape} {μ : Mask} {l l′ : List Value} → SlotsMatch ids sh μ l l′
+      → length l′ ≡ length sh
   slots-length no-slots = refl
   slots-length (variable r rs) = ap suc (slots-length rs)
   slots-length (temporary rs) = ap suc (slots-length rs)
@@ -156,7 +160,8 @@ module _ {ids : List ℕ} where
   slots-temporaries (temporary rs) q = temporary (slots-temporaries rs q)
 
   -- A temporary, read and written.
-  pub temporary-at : {sh : Shape} {μ : Mask} {l l′ : List Value} → SlotsMatch ids sh μ l l′ → (p : ℕ) (w : Value)
+  pub temporary-at : {sh : Shape} {μ : Mask} {l l′ : List Value} → SlotsMatch ids sh μ l l′
+      → (p : ℕ) (w : Value)
       → nth μ p ≡ some (some w) → nth l′ p ≡ some w
   unfolding nth
   temporary-at no-slots p w e = absurd (Never e)
@@ -165,7 +170,8 @@ module _ {ids : List ℕ} where
   temporary-at (temporary rs) zero w e = inj e
   temporary-at (temporary rs) (suc p) w e = temporary-at rs p w e
 
-  pub temporary-set : {sh : Shape} {μ : Mask} {l l′ : List Value} → SlotsMatch ids sh μ l l′ → (p : ℕ) (w w′ : Value)
+  pub temporary-set : {sh : Shape} {μ : Mask} {l l′ : List Value} → SlotsMatch ids sh μ l l′
+      → (p : ℕ) (w w′ : Value)
       → nth μ p ≡ some (some w) → SlotsMatch ids sh (replace μ p (some w′)) l (replace l′ p w′)
   unfolding nth
   temporary-set no-slots p w w′ e = no-slots
@@ -175,7 +181,8 @@ module _ {ids : List ℕ} where
   temporary-set (temporary rs) (suc p) w w′ e = temporary (temporary-set rs p w w′ e)
 
   -- A block is left.
-  pub slots-close : {ids₀ : List ℕ} {sh : Shape} (sh₂ : Shape) {μ : Mask} (μ₂ : Mask) {l₀ l₀′ l l′ : List Value}
+  pub slots-close : {ids₀ : List ℕ} {sh : Shape} (sh₂ : Shape) {μ : Mask} (μ₂ : Mask)
+      {l₀ l₀′ l l′ : List Value}
       → SlotsMatch ids₀ sh μ l₀ l₀′ → SlotsMatch ids (sh ++ sh₂) (μ ++ μ₂) l l′
       → SlotsMatch ids sh μ (take (length l₀) l) (take (length l₀′) l′)
   slots-close sh₂ μ₂ no-slots q = no-slots
@@ -198,20 +205,23 @@ module _ {ids : List ℕ} where
   temporaries-only (t ∷ ts) μ₂ l l′ (temporary q) = temporaries-only ts _ _ _ q
 
 -- Slots that match still do later.
-pub slots-later : {W : World} {ids ids′ : List ℕ} {h h′ : List Object} {sh : Shape} {μ : Mask} {l l′ : List Value}
+pub slots-later : {W : World} {ids ids′ : List ℕ} {h h′ : List Object} {sh : Shape} {μ : Mask}
+    {l l′ : List Value}
     → Persists W ids ids′ h h′ → SlotsMatch ids sh μ l l′ → SlotsMatch ids′ sh μ l l′
 slots-later x no-slots = no-slots
 slots-later x (variable r rs) = variable (corresponds-later x r) (slots-later x rs)
 slots-later x (temporary rs) = temporary (slots-later x rs)
 
 -- `this`: in the plain program an implementor of its Identity; a start block has none on either side.
-pub data ThisMatches (W : World) (ids : List ℕ) (h′ : List Object) : Option Value → Option Value → Type 0 where
+pub data ThisMatches (W : World) (ids : List ℕ) (h′ : List Object) : Option Value → Option Value
+    → Type 0 where
   no-this : ThisMatches W ids h′ none none
   this-implements : {j i m : ℕ} → nth ids j ≡ some i → Implements W h′ m i
       → ThisMatches W ids h′ (some (object j)) (some (object m))
 
 -- `this` still matches later.
-pub this-later : {W : World} {ids ids′ : List ℕ} {h h′ : List Object} {v w : Option Value} → Persists W ids ids′ h h′
+pub this-later : {W : World} {ids ids′ : List ℕ} {h h′ : List Object} {v w : Option Value}
+    → Persists W ids ids′ h h′
     → ThisMatches W ids h v w → ThisMatches W ids′ h′ v w
 this-later x no-this = no-this
 this-later x (this-implements e f) = this-implements (x .same _ _ e) (x .keeps _ _ f)
@@ -223,6 +233,7 @@ pub record FramesMatch (W : World) (ids : List ℕ) (h′ : List Object) (sh : S
   pub slots : SlotsMatch ids sh μ (f .slots) (f′ .slots)
 
 -- Frames that match still do later.
-pub frames-later : {W : World} {ids ids′ : List ℕ} {h h′ : List Object} {sh : Shape} {μ : Mask} {f f′ : Frame Value}
+pub frames-later : {W : World} {ids ids′ : List ℕ} {h h′ : List Object} {sh : Shape} {μ : Mask}
+    {f f′ : Frame Value}
     → Persists W ids ids′ h h′ → FramesMatch W ids h sh μ f f′ → FramesMatch W ids′ h′ sh μ f f′
 frames-later x F = record { this = this-later x (F .this); slots = slots-later x (F .slots) }

@@ -14,7 +14,8 @@ use Rattle.language.specs.Lists.{nth-set}
 use Rattle.language.specs.World.{World, is-declared}
 use Rattle.language.specs.Evaluation.{Value, null, truth, object, Object}
 use Rattle.language.specs.Correspondence.{Corresponds, identity-of, implementor-of, Matches}
-use Rattle.theory.specs.Matching.{identities-set, identities-append, identities-implementor, not-identity}
+use Rattle.theory.specs.Matching.{identities-set, identities-append, identities-implementor}
+use Rattle.theory.specs.Matching.{not-identity}
 use Rattle.theory.specs.Matching.{Implements, HeapsMatch, Persists, all-correspond-later}
 
 -- An implementor tells its Identity, and is none.
@@ -35,7 +36,8 @@ abbrev class-number : Option Object → ℕ
 class-number none = 0
 class-number (some o) = o .class-of
 
-pub implementor-tells : {x : Option Object} {i i′ c c′ : ℕ} {vs vs′ : List Value} → x ≡ some (implementor-of c i vs)
+pub implementor-tells : {x : Option Object} {i i′ c c′ : ℕ} {vs vs′ : List Value}
+    → x ≡ some (implementor-of c i vs)
     → x ≡ some (implementor-of c′ i′ vs′) → i ≡ i′
 implementor-tells e f = ap first-number (sym e ∙ f)
 
@@ -50,14 +52,21 @@ pub keeps-put : {W : World} {ids : List ℕ} {h′ : List Object} (i m c c₂ : 
 keeps-put {W} {ids} {h′} i m c c₂ vs vs₂ b dc =
     record { same = λ j x e. e; keeps = λ k x e. go k x e (ℕ-discrete m k) }
   where
-    go : (k x : ℕ) → Implements W h′ k x → Dec (m ≡ k) → Implements W (replace h′ m (implementor-of c₂ i vs₂)) k x
+    go : (k x : ℕ) → Implements W h′ k x → Dec (m ≡ k)
+        → Implements W (replace h′ m (implementor-of c₂ i vs₂)) k x
     go k x e (yes z) = record {
       c = c₂;
       vs = vs₂;
       known = dc;
       here = rw (← z, implementor-tells (e .here) (sym (ap (nth h′) z) ∙ b)) (nth-set-same h′ m _ _ b);
     }
-    go k x e (no z) = record { c = e .c; vs = e .vs; known = e .known; here = nth-set-other h′ m k _ z ∙ e .here }
+    go k x e (no z) = record {
+      c = e .c;
+      vs = e .vs;
+      known = e .known;
+      here = nth-set-other h′ m k _ z ∙
+          e .here;
+    }
 
 pub keeps-new : {W : World} {ids : List ℕ} {h′ : List Object} (i : ℕ) (a b : Object)
     → Persists W ids (ids ++ (i ∷ [])) h′ ((h′ ++ (a ∷ [])) ++ (b ∷ []))
@@ -122,7 +131,8 @@ module _ {W : World} where
             at-identity = nth-set-other h′ m (x .i) N
                 (λ z. implementor-no-identity (x .at-identity) (sym (ap (nth h′) z) ∙ b)) ∙ x .at-identity;
             at-implementor = nth-set-other h′ m (x .m) N (λ z. y .0 (H .one j k i e (x .identity
-                ∙ ap some (implementor-tells (x .at-implementor) (sym (ap (nth h′) z) ∙ b))))) ∙ x .at-implementor;
+                ∙ ap some (implementor-tells (x .at-implementor) (sym (ap (nth h′) z) ∙ b)))))
+                ∙ x .at-implementor;
           }
       go k q (inr y) = rw (← y .0, ← y .1) (record {
         i = i;
@@ -135,7 +145,8 @@ module _ {W : World} where
       })
 
   -- An object is made: an Identity and its implementor.
-  pub heap-new : {ids : List ℕ} {h h′ : List Object} → HeapsMatch W ids h h′ → (o : Object) (vs : List Value) (m : ℕ)
+  pub heap-new : {ids : List ℕ} {h h′ : List Object} → HeapsMatch W ids h h′
+      → (o : Object) (vs : List Value) (m : ℕ)
       → m ≡ suc (length h′) → is-declared W (o .class-of) ≡ true
       → ((ids : List ℕ) → All2 (Corresponds ids) (o .fields) vs)
       → HeapsMatch W (ids ++ (length h′ ∷ [])) (h ++ (o ∷ []))
@@ -224,7 +235,8 @@ module _ {W : World} where
     one = H .one;
     bound = λ k x y. rw (length-set h₁ i I, length-append h′ (N ∷ [])) (omega (arith, H .bound k x y));
     long = H .long ∙ sym (length-set h j o₂);
-    made = H .made ∙ sym (identities-set 0 h₁ i _ I a₁ refl ∙ identities-implementor 0 h′ (o₂ .class-of) i vs₂);
+    made = H .made ∙ sym (identities-set 0 h₁ i _ I a₁ refl ∙ identities-implementor 0 h′ (o₂ .class-of) i
+        vs₂);
     each = λ k q y. go k q (nth-set h j o₂ k q y);
     known = λ k q y. kn k q (nth-set h j o₂ k q y);
   }
@@ -255,7 +267,8 @@ module _ {W : World} where
             fields = x .fields;
             identity = x .identity;
             corresponding = x .corresponding;
-            at-identity = nth-set-other h₁ i (x .i) I (λ z. y .0 (H .one j k i e (x .identity ∙ ap some (sym z))))
+            at-identity = nth-set-other h₁ i (x .i) I
+                (λ z. y .0 (H .one j k i e (x .identity ∙ ap some (sym z))))
                 ∙ nth-append h′ _ (x .i) _ (x .at-identity);
             at-implementor = nth-set-other h₁ i (x .m) I
                 (λ z. implementor-no-identity a (ap (nth h′) z ∙ x .at-implementor))
@@ -268,5 +281,6 @@ module _ {W : World} where
         identity = e;
         corresponding = r;
         at-identity = nth-set-same h₁ i I _ a₁;
-        at-implementor = nth-set-other h₁ i (length h′) I (λ z. omega (arith, H .bound j i e, z)) ∙ nth-last h′ N;
+        at-implementor = nth-set-other h₁ i (length h′) I (λ z. omega (arith, H .bound j i e, z))
+            ∙ nth-last h′ N;
       })

@@ -85,13 +85,22 @@ module _ {W : World} where
   pub recount : {ids : List ℕ} {z z′ : ℕ} {s s′ t t′ : State} → Matched W ids z s t → s′ .heap ≡ s .heap
       → t′ .heap ≡ t .heap → s′ .changes ≡ s .changes → t′ .changes ≡ t .changes → s′ .steps ≤ t′ .steps
       → t′ .steps + z′ ≤ plain-steps-a-step * s′ .steps → Matched W ids z′ s′ t′
-  recount c e f g g′ l u = record
-      { heaps = rw (e, f) (c .heaps); count = rw (e, f, g) (c .count); low = l; high = u; unchanged = g′ ∙ c .unchanged }
+  recount c e f g g′ l u = record {
+    heaps = rw (e, f) (c .heaps);
+    count = rw (e, f, g) (c .count);
+    low = l;
+    high = u;
+    unchanged = g′ ∙ c .unchanged;
+  }
 
   -- Both sides enter a node.
   pub both-enter : {ids : List ℕ} {sh : Shape} {μ : Mask} {z : ℕ} {s t : State} → StatesMatch W ids sh μ z s t
       → StatesMatch W ids sh μ (83 + z) (entered s) (entered t)
-  both-enter R = record { frames = R .frames; core = recount (R .core) refl refl refl refl (omega arith) (omega arith) }
+  both-enter R = record {
+    frames = R .frames;
+    core = recount (R .core) refl refl refl refl (omega arith)
+        (omega arith);
+  }
 
   -- The source enters a node, the plain side n.
   pub entering : {ids : List ℕ} {sh : Shape} {μ : Mask} {z z′ : ℕ} {s t t′ : State} (n : ℕ)
@@ -103,7 +112,11 @@ module _ {W : World} where
   -- Some of what may still be spent is let go.
   pub spare : {ids : List ℕ} {sh : Shape} {μ : Mask} (n : ℕ) {z : ℕ} {s t : State}
       → StatesMatch W ids sh μ (n + z) s t → StatesMatch W ids sh μ z s t
-  spare n R = record { frames = R .frames; core = recount (R .core) refl refl refl refl (omega arith) (omega arith) }
+  spare n R = record {
+    frames = R .frames;
+    core = recount (R .core) refl refl refl refl (omega arith)
+        (omega arith);
+  }
 
   -- The plain side goes on alone for n steps.
   pub spend : {ids : List ℕ} {m z : ℕ} {s t : State} (n : ℕ) (t′ : State) → Matched W ids m s t → n + z ≤ m
@@ -121,14 +134,16 @@ module _ {W : World} where
 
   -- What came after a later moment came after an earlier one.
   pub from-before : {ids₀ ids : List ℕ} {h₀ h : List Object} {sh : Shape} {μ : Mask} {z : ℕ} {v v′ : Value}
-      {s t : State} → Persists W ids₀ ids h₀ h → After W ids h sh μ z v s v′ t → After W ids₀ h₀ sh μ z v s v′ t
+      {s t : State} → Persists W ids₀ ids h₀ h → After W ids h sh μ z v s v′ t
+      → After W ids₀ h₀ sh μ z v s v′ t
   from-before x a = record
       { ids′ = a .ids′; persists = persists-trans x (a .persists); match = a .match; value = a .value }
 
   -- Each object has an implementor.
   pub implementor-found : {ids : List ℕ} {z : ℕ} {s t : State} → Matched W ids z s t → (j i : ℕ) (o : Object)
       → nth ids j ≡ some i → nth (s .heap) j ≡ some o → ImplementorOf W ids t i o
-  implementor-found c j i o e p = let x = c .heaps .each j o p in let y : i ≡ x .i = inj (sym e ∙ x .identity) in
+  implementor-found c j i o e p = let x = c .heaps .each j o p in let y : i ≡ x .i =
+      inj (sym e ∙ x .identity) in
       record {
         m = x .m;
         vs = x .fields;
@@ -139,7 +154,8 @@ module _ {W : World} where
       }
 
 -- First values correspond, and so do a block's locals.
-pub initial-corresponds : (ids : List ℕ) (u : DeclaredType) → Corresponds ids (initial u) (initial (plain-type u))
+pub initial-corresponds : (ids : List ℕ) (u : DeclaredType)
+    → Corresponds ids (initial u) (initial (plain-type u))
 initial-corresponds ids bool = same-truth
 initial-corresponds ids (class c) = both-null
 
@@ -179,7 +195,8 @@ module _ {W : World} {ids : List ℕ} {h : List Object} {sh : Shape} where
 
   pub frames-put : (μ μ₂ : Mask) {f f′ : Frame Value} (k n : ℕ) (w w′ : Value)
       → FramesMatch W ids h sh (μ ++ μ₂) f f′ → length μ ≡ n → nth μ₂ k ≡ some (some w)
-      → FramesMatch W ids h sh (μ ++ replace μ₂ k (some w′)) f (frame (f′ .this) (replace (f′ .slots) (up k n) w′))
+      → FramesMatch W ids h sh (μ ++ replace μ₂ k (some w′)) f
+      (frame (f′ .this) (replace (f′ .slots) (up k n) w′))
   frames-put μ μ₂ k n w w′ F p e = rw (sym p) (record {
     this = F .this;
     slots = rw (set-up μ μ₂ k (some w′)) at
@@ -188,7 +205,8 @@ module _ {W : World} {ids : List ℕ} {h : List Object} {sh : Shape} where
 
   -- A block is left; a block of temporaries is left.
   pub frames-close : {ids₀ : List ℕ} {h₀ : List Object} (sh₂ : Shape) {μ : Mask} (μ₂ : Mask)
-      {f₀ f₀′ f f′ : Frame Value} → FramesMatch W ids₀ h₀ sh μ f₀ f₀′ → FramesMatch W ids h (sh ++ sh₂) (μ ++ μ₂) f f′
+      {f₀ f₀′ f f′ : Frame Value} → FramesMatch W ids₀ h₀ sh μ f₀ f₀′
+      → FramesMatch W ids h (sh ++ sh₂) (μ ++ μ₂) f f′
       → FramesMatch W ids h sh μ (closed (length (f₀ .slots)) f) (closed (length (f₀′ .slots)) f′)
   frames-close sh₂ μ₂ F₀ F = record { this = F .this; slots = slots-close sh₂ μ₂ (F₀ .slots) (F .slots) }
 
@@ -196,7 +214,8 @@ module _ {W : World} {ids : List ℕ} {h : List Object} {sh : Shape} where
       {f₀ f₀′ f f′ : Frame Value} → ((l l′ : List Value) → SlotsMatch ids sh₂ μ₂ l l′ → l ≡ [])
       → FramesMatch W ids₀ h₀ sh μ f₀ f₀′ → FramesMatch W ids h (sh ++ sh₂) (μ ++ μ₂) f f′
       → FramesMatch W ids h sh μ f (closed (length (f₀′ .slots)) f′)
-  frames-exit sh₂ μ₂ g F₀ F = record { this = F .this; slots = temporaries-close sh₂ μ₂ g (F₀ .slots) (F .slots) }
+  frames-exit sh₂ μ₂ g F₀ F =
+      record { this = F .this; slots = temporaries-close sh₂ μ₂ g (F₀ .slots) (F .slots) }
 
 -- What a block of temporaries answers.
 pub close-block : {W : World} {ids₀ ids : List ℕ} {h₀ h : List Object} {sh : Shape} (sh₂ : Shape) {μ : Mask}

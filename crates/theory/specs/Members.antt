@@ -62,7 +62,8 @@ run-unstuck : (p : Program) → ProgramWell p → (L : Limits) → unstuck (run 
 run-unstuck p w L = holds-unstuck (run-sound p w L)
 
 -- The run of a well-formed program never gets stuck, whatever its limits.
-pub well-formed-never-stuck : (p : Program) → ProgramWell p → (L : Limits) (s : State) → run L p ≢ stop stuck s
+pub well-formed-never-stuck : (p : Program) → ProgramWell p → (L : Limits) (s : State)
+    → run L p ≢ stop stuck s
 well-formed-never-stuck p w L s e = false≢ (sym (ap unstuck e) ∙ run-unstuck p w L)
 
 required : {B : Type 0} (t : Bool) (n l : ℕ) (k : Bool → Checked B) {b : B} → t ≡ true → k true ≡ accept b
@@ -71,7 +72,8 @@ unfolding require
 required t n l k e f = rw e f
 
 -- The program that a run takes is the one that the check answers.
-pub runnable-check : (ns : List ℕ) (fuel : ℕ) (p : Program) → runnable ns fuel ≡ accept p → check ns ≡ accept p
+pub runnable-check : (ns : List ℕ) (fuel : ℕ) (p : Program) → runnable ns fuel ≡ accept p
+    → check ns ≡ accept p
 unfolding runnable whole-rows check
 runnable-check ns fuel p e = require-inv _ _ _ _ e λ l e. require-inv _ _ _ _ e λ _ e. required _ _ _ _ l e
 
@@ -90,7 +92,8 @@ runs-never-stuck ns fuel store steps objects changes = go (runnable ns fuel) ref
         → run-checked c fuel store .answer ≢ ran (ended stuck) steps objects changes
     go (refuse n l) q e = let z : _≡_ {A = ℕ} 0 1 = cc in omega arith
     go (accept p) q e = finish-unstuck (run (with-limits fuel (capacity store)) p) store steps objects changes
-        (run-unstuck p (check-accepts ns p .0 (runnable-check ns fuel p q) .well) (with-limits fuel (capacity store))) e
+        (run-unstuck p (check-accepts ns p .0 (runnable-check ns fuel p q) .well)
+        (with-limits fuel (capacity store))) e
 
 -- Demand 2: where rows are accepted, their run with any fuel and any store never ends stuck:
 -- every member that it seeks is there, and every value is of the sort that is needed.
@@ -112,8 +115,10 @@ check-runnable ns fuel p l e = require-inv _ _ _ _ e λ whole passes.
     required _ _ _ _ whole (required _ _ _ _ (le-leb fuel most-fuel l) passes)
 
 -- Rows of a well-formed program are run, where the fuel is within its limit: the answer is that of its run.
-pub accepted-run : (ns : List ℕ) (p : Program) → RowsOf ns p → (fuel : ℕ) → fuel ≤ most-fuel → (store : List ℕ)
+pub accepted-run : (ns : List ℕ) (p : Program) → RowsOf ns p → (fuel : ℕ) → fuel ≤ most-fuel
+    → (store : List ℕ)
     → run-of ns fuel store ≡ finish (run (with-limits fuel (capacity store)) p) store
 unfolding run-of
 accepted-run ns p w fuel l store =
-    ap (λ (c : Checked Program). run-checked c fuel store) (check-runnable ns fuel p l (check-accepts ns p .1 w))
+    ap (λ (c : Checked Program). run-checked c fuel store)
+    (check-runnable ns fuel p l (check-accepts ns p .1 w))

@@ -102,7 +102,8 @@ fields-are-free at (f ∷ fs) u q = require-inv _ _ _ _ q λ e q.
         (turned n id-field (h .0), turned n imp-field (h .1))
 
 -- Where the heading pass accepts F lines, they are with those before at most as many as its limit.
-check-fields-few : (most : Most) (P : List Class) (before : List Field) (at : ℕ) (fs : List Field) (u : Unit {0})
+check-fields-few : (most : Most) (P : List Class) (before : List Field) (at : ℕ) (fs : List Field)
+    (u : Unit {0})
     → check-fields most P before at fs ≡ accept u → length before ≤ most .fields
     → length before + length fs ≤ most .fields
 unfolding check-fields
@@ -138,7 +139,8 @@ unfolding declared
 each-declared each-nil m d e = absurd (Never e)
 each-declared {R} (each-cons {a} {l} r rs) m d e = go (eqb (a .name) m) (λ q. each-declared rs m d q) e
   where
-    go : (b : Bool) → (declared l m ≡ some d → R d) → choice b (λ _. some a) (λ _. declared l m) ≡ some d → R d
+    go : (b : Bool) → (declared l m ≡ some d → R d) → choice b (λ _. some a) (λ _. declared l m) ≡ some d
+        → R d
     go true ih e = subst R (inj e) r
     go false ih e = ih e
 
@@ -162,9 +164,11 @@ pub record TranslatorLaws (W : World) : Type 0 where
       → (eqb id-field n ≡ false) × (eqb imp-field n ≡ false)
   -- A class has at most 16 fields, inherited included, and a method at most 8 parameters.
   pub few : (c : ℕ) → length (W .fields c) ≤ of-translator .fields
-  pub short : (c m : ℕ) (M : Method) → W .method c m ≡ some M → length (M .parameters) ≤ of-translator .parameters
+  pub short : (c m : ℕ) (M : Method) → W .method c m ≡ some M
+      → length (M .parameters) ≤ of-translator .parameters
 
-module _ (P : List Class) (laws : Laws (world P)) (well : (k : ℕ) (c : Class) → class-at P k ≡ some c → ClassWell P k c)
+module _ (P : List Class) (laws : Laws (world P))
+    (well : (k : ℕ) (c : Class) → class-at P k ≡ some c → ClassWell P k c)
   where
     distinct-more : {before : List Field} (f : Field) → Distinct before → place (f .name) before ≡ none
         → Distinct (before ++ (f ∷ []))
@@ -194,7 +198,8 @@ module _ (P : List Class) (laws : Laws (world P)) (well : (k : ℕ) (c : Class) 
             → ((c : Class) → class-at P k ≡ some c → R (fields-at P (suc (c .super)) (c .super)))
             → R (fields-at P (suc k) k)
         go none e ih = subst R (sym (no-class-no-fields P (superclass-earlier P well) k e)) r
-        go (some c) e ih = subst R (sym (fields-of-class P (superclass-earlier P well) k c e)) (f k c e (ih c e))
+        go (some c) e ih = subst R (sym (fields-of-class P (superclass-earlier P well) k c e))
+            (f k c e (ih c e))
 
     all-distinct : (k : ℕ) → Distinct (fields-at P (suc k) k)
     unfolding world nth
@@ -204,7 +209,8 @@ module _ (P : List Class) (laws : Laws (world P)) (well : (k : ℕ) (c : Class) 
     own-few : {before fs : List Field} → FieldsWell P before fs → length before ≤ of-check .fields
         → length (before ++ fs) ≤ of-check .fields
     own-few {before} well-nil l = omega (arith, l, length-append before [])
-    own-few {before} (well-cons {fs} {f} a b c s w) l = subst (λ (r : List Field). length r ≤ of-check .fields)
+    own-few {before} (well-cons {fs} {f} a b c s w) l =
+        subst (λ (r : List Field). length r ≤ of-check .fields)
         (append-assoc before (f ∷ []) fs) (own-few w (omega (arith, a, length-append before (f ∷ []))))
 
     all-few : (k : ℕ) → length (fields-at P (suc k) k) ≤ of-check .fields
@@ -223,7 +229,8 @@ module _ (P : List Class) (laws : Laws (world P)) (well : (k : ℕ) (c : Class) 
     class-with-field k n i e = go (class-at P k) refl
       where
         go : (o : Option Class) → class-at P k ≡ o → leb k (length P) ≡ true
-        go none p = absurd (Never (sym (ap (place n) (no-class-no-fields P (superclass-earlier P well) k p)) ∙ e))
+        go none p = absurd (Never (sym (ap (place n) (no-class-no-fields P (superclass-earlier P well) k p)) ∙
+            e))
         go (some c) p = class-count P k c p
 
     class-with-method : (k m : ℕ) (M : Method) → method-at P (suc k) k m ≡ some M → leb k (length P) ≡ true
@@ -231,7 +238,8 @@ module _ (P : List Class) (laws : Laws (world P)) (well : (k : ℕ) (c : Class) 
     class-with-method k m M e = go (class-at P k) refl e
       where
         go : (o : Option Class) → class-at P k ≡ o
-            → given o none (λ c. given (declared (c .methods) m) (method-at P k (c .super) m) λ d. some (method-of k d))
+            → given o none (λ c. given (declared (c .methods) m) (method-at P k (c .super) m) λ d. some
+            (method-of k d))
             ≡ some M
             → leb k (length P) ≡ true
         go none p e = absurd (Never e)
@@ -257,7 +265,8 @@ module _ (P : List Class) (laws : Laws (world P)) (well : (k : ℕ) (c : Class) 
         (formed : Each (ClassInForm of-translator) P) where
       fields-few : (k : ℕ) → length (fields-at P (suc k) k) ≤ of-translator .fields
       unfolding headings world class-at
-      fields-few k = fields-law (λ fs. length fs ≤ of-translator .fields) (omega arith) more (suc k) k (omega arith)
+      fields-few k = fields-law (λ fs. length fs ≤ of-translator .fields) (omega arith) more (suc k) k
+          (omega arith)
         where
           more : (k : ℕ) (c : Class) → class-at P k ≡ some c
               → length (fields-at P (suc (c .super)) (c .super)) ≤ of-translator .fields
@@ -271,11 +280,13 @@ module _ (P : List Class) (laws : Laws (world P)) (well : (k : ℕ) (c : Class) 
 
       all-free : (k : ℕ) → Each Free (fields-at P (suc k) k)
       unfolding class-at
-      all-free k = fields-law (Each Free) each-nil (λ k c p d. each-append d (own k c p)) (suc k) k (omega arith)
+      all-free k = fields-law (Each Free) each-nil (λ k c p d. each-append d (own k c p)) (suc k) k
+          (omega arith)
         where
           own : (k : ℕ) (c : Class) → class-at P k ≡ some c → Each Free (c .fields)
           own zero c p = absurd (Never p)
-          own (suc i) c p = let x = names-free-at 1 P v free i c p in fields-are-free (x .0) (c .fields) (x .1) (x .2)
+          own (suc i) c p = let x = names-free-at 1 P v free i c p in
+              fields-are-free (x .0) (c .fields) (x .1) (x .2)
 
       class-formed : (k : ℕ) (c : Class) → class-at P k ≡ some c → ClassInForm of-translator c
       unfolding class-at

@@ -10,21 +10,28 @@ use Rattle.language.specs.Limits.{Most}
 use Rattle.language.specs.Results.{Checked}
 use Rattle.language.specs.Frames.{at-slot, opened}
 use Rattle.language.specs.Tree.{DeclaredType, bool, class, ExprType, known, null-type, Expr, literal-true}
-use Rattle.language.specs.Tree.{literal-false, literal-null, slot, is-null, get, cast, new, change, assign, set, call}
-use Rattle.language.specs.Tree.{choose, block, Exprs, nil, cons, size, sizes, Field, Declaration, heading-lines}
+use Rattle.language.specs.Tree.{literal-false, literal-null, slot, is-null, get, cast, new, change, assign}
+use Rattle.language.specs.Tree.{set, call}
+use Rattle.language.specs.Tree.{choose, block, Exprs, nil, cons, size, sizes, Field, Declaration}
+use Rattle.language.specs.Tree.{heading-lines}
 use Rattle.language.specs.Tree.{method-lines, methods-lines, Class, class-lines, classes-lines, Program}
 use Rattle.language.specs.World.{World, place, field-type, is-declared, is-declared-type}
 use Rattle.language.specs.Effects.{apply-class, within, effect-of-all}
 use Rattle.language.specs.Program.{declared, kind-at, is-root-class, is-state-type, world}
-use Rattle.language.specs.Headings.{may-extend, is-some, may-override, check-fields, check-parameters, check-effects}
+use Rattle.language.specs.Headings.{may-extend, is-some, may-override, check-fields, check-parameters}
+use Rattle.language.specs.Headings.{check-effects}
 use Rattle.language.specs.Headings.{check-methods, check-class, check-classes, headings}
 use Rattle.language.specs.Typing.{Environment, fresh-slot, method-environment, start-environment, need-class}
-use Rattle.language.specs.Typing.{not-bool, fits, all-fit, join-types, can-change, locals-declared, type-of, type-all}
+use Rattle.language.specs.Typing.{not-bool, fits, all-fit, join-types, can-change, locals-declared, type-of}
+use Rattle.language.specs.Typing.{type-all}
 use Rattle.language.specs.Typing.{type-method, type-methods, type-classes, bodies}
-use Rattle.theory.specs.Listed.{LineOf, HeadingRefusal, refuses-fields, refuses-heading-name, refuses-kind}
-use Rattle.theory.specs.Listed.{refuses-override, BodyRefusal, refuses-name, refuses-slot, refuses-member}
+use Rattle.theory.specs.Listed.{LineOf, HeadingRefusal, refuses-fields, refuses-heading-name}
+use Rattle.theory.specs.Listed.{refuses-kind}
+use Rattle.theory.specs.Listed.{refuses-override, BodyRefusal, refuses-name, refuses-slot}
+use Rattle.theory.specs.Listed.{refuses-member}
 use Rattle.theory.specs.Listed.{refuses-type, refuses-effect, refuses-change}
-use Rattle.theory.specs.Refusals.{Among, Any, Gives, gives, refuses, gives-bind, gives-need, gives-require}
+use Rattle.theory.specs.Refusals.{Among, Any, Gives, gives, refuses, gives-bind, gives-need}
+use Rattle.theory.specs.Refusals.{gives-require}
 
 module _ (most : Most) (P : List Class) (rows : ℕ) where
   abbrev HeadingGives : {A : Type 0} → Checked A → Type 0
@@ -71,16 +78,20 @@ module _ (most : Most) (P : List Class) (rows : ℕ) where
       gives-require (not (is-some (declared before (m .name)))) (heading-on refuses-heading-name f b) λ _.
       gives-require (may-override m (world P .method super (m .name))) (heading-on refuses-override f b) λ _.
       gives-bind (parameters-give (at + 1) (m .parameters) (omega (arith, f)) (omega (arith, h))) λ _ _.
-      gives-bind (effects-give 0 (at + 1 + length (m .parameters)) (m .effects) (omega (arith, f)) (omega (arith, h)))
+      gives-bind (effects-give 0 (at + 1 + length (m .parameters)) (m .effects) (omega (arith, f))
+      (omega (arith, h)))
       λ _ _. methods-give super (m ∷ before) (at + method-lines m) ms (omega (arith, f)) (omega (arith, h))
 
-  class-gives : (k at : ℕ) (c : Class) → 1 ≤ at → at + class-lines c ≤ 1 + rows → HeadingGives (check-class most P k at c)
+  class-gives : (k at : ℕ) (c : Class) → 1 ≤ at → at + class-lines c ≤ 1 + rows
+      → HeadingGives (check-class most P k at c)
   unfolding check-class class-lines
   class-gives k at c f h = let b : at ≤ rows = omega (arith, h) in
       gives-require (ltb (c .super) k) (heading-on refuses-heading-name f b) λ _.
       gives-require (may-extend (c .kind) (kind-at P (c .super))) (heading-on refuses-kind f b) λ _.
-      gives-bind (fields-give (world P .fields (c .super)) (at + 1) (c .fields) (omega (arith, f)) (omega (arith, h)))
-      λ _ _. methods-give (c .super) [] (at + 1 + length (c .fields)) (c .methods) (omega (arith, f)) (omega (arith, h))
+      gives-bind (fields-give (world P .fields (c .super)) (at + 1) (c .fields) (omega (arith, f))
+      (omega (arith, h)))
+      λ _ _. methods-give (c .super) [] (at + 1 + length (c .fields)) (c .methods) (omega (arith, f))
+      (omega (arith, h))
 
   classes-give : (k at : ℕ) (cs : List Class) → 1 ≤ at → at + classes-lines cs ≤ 1 + rows
       → HeadingGives (check-classes most P k at cs)
@@ -99,7 +110,8 @@ module _ (W : World) (rows : ℕ) where
   abbrev BodyGives : {A : Type 0} → Checked A → Type 0
   BodyGives r = Gives (BodyRefusal rows) Any r
 
-  on : {n at : ℕ} → (LineOf rows at → BodyRefusal rows n at) → 1 ≤ at → at ≤ rows → Among (BodyRefusal rows) n at
+  on : {n at : ℕ} → (LineOf rows at → BodyRefusal rows n at) → 1 ≤ at → at ≤ rows
+      → Among (BodyRefusal rows) n at
   on k f b = record { is = k (record { from = f; to = b }) }
 
   class-needed : {B : Type 0} (t : ExprType) {n l : ℕ} {k : ℕ → Checked B} → Among (BodyRefusal rows) n l
@@ -113,17 +125,20 @@ module _ (W : World) (rows : ℕ) where
       → BodyGives (locals-declared W at ts)
   unfolding locals-declared
   locals-give at [] f h = gives tt
-  locals-give at (t ∷ ts) f h = gives-require (is-declared-type W t) (on refuses-name f (omega (arith, h))) λ _.
+  locals-give at (t ∷ ts) f h =
+      gives-require (is-declared-type W t) (on refuses-name f (omega (arith, h))) λ _.
       locals-give (at + 1) ts (omega (arith, f)) (omega (arith, h))
 
   mutual
     unfolding type-of size
 
-    type-gives : (e : Expr) (at : ℕ) (γ : Environment) → 1 ≤ at → at + size e ≤ 1 + rows → BodyGives (type-of W e at γ)
+    type-gives : (e : Expr) (at : ℕ) (γ : Environment) → 1 ≤ at → at + size e ≤ 1 + rows
+        → BodyGives (type-of W e at γ)
     type-gives literal-true at γ f h = gives tt
     type-gives literal-false at γ f h = gives tt
     type-gives literal-null at γ f h = gives tt
-    type-gives (slot k) at γ f h = gives-need (at-slot γ k) (on refuses-slot f (omega (arith, h))) λ s. gives tt
+    type-gives (slot k) at γ f h = gives-need (at-slot γ k) (on refuses-slot f (omega (arith, h))) λ s.
+        gives tt
     type-gives (is-null e) at γ f h = let b : at ≤ rows = omega (arith, h) in
         gives-bind (type-gives e (at + 1) γ (omega (arith, f)) (omega (arith, h))) λ a _.
         gives-require (not-bool (a .type)) (on refuses-type f b) λ _. gives tt
@@ -135,7 +150,8 @@ module _ (W : World) (rows : ℕ) where
         gives-bind (type-gives e (at + 1) γ (omega (arith, f)) (omega (arith, h))) λ a _.
         gives-require (is-declared W c) (on refuses-name f b) λ _.
         gives-require (not-bool (a .type)) (on refuses-type f b) λ _. gives tt
-    type-gives (new c) at γ f h = gives-require (is-declared W c) (on refuses-name f (omega (arith, h))) λ _. gives tt
+    type-gives (new c) at γ f h = gives-require (is-declared W c) (on refuses-name f (omega (arith, h))) λ _.
+        gives tt
     type-gives (change k d) at γ f h = let b : at ≤ rows = omega (arith, h) in
         gives-require (is-declared W d) (on refuses-name f b) λ _.
         gives-need (at-slot γ k) (on refuses-slot f b) λ s.
@@ -162,7 +178,8 @@ module _ (W : World) (rows : ℕ) where
     type-gives (choose e x y) at γ f h = let b : at ≤ rows = omega (arith, h) in
         gives-bind (type-gives e (at + 1) γ (omega (arith, f)) (omega (arith, h))) λ a _.
         gives-bind (type-gives x (at + 1 + size e) (a .slots) (omega (arith, f)) (omega (arith, h))) λ a′ _.
-        gives-bind (type-gives y (at + 1 + size e + size x) (a .slots) (omega (arith, f)) (omega (arith, h))) λ a″ _.
+        gives-bind (type-gives y (at + 1 + size e + size x) (a .slots) (omega (arith, f)) (omega (arith, h)))
+        λ a″ _.
         gives-require (not (not-bool (a .type))) (on refuses-type f b) λ _.
         gives-need (join-types W (a′ .type) (a″ .type)) (on refuses-type f b) λ t. gives tt
     type-gives (block ts es) at γ f h =
@@ -174,7 +191,8 @@ module _ (W : World) (rows : ℕ) where
         → BodyGives (type-all W es at γ)
     types-give nil at γ f h = gives tt
     types-give (cons e es) at γ f h = gives-bind (type-gives e at γ f (omega (arith, h))) λ a _.
-        gives-bind (types-give es (at + size e) (a .slots) (omega (arith, f)) (omega (arith, h))) λ a′ _. gives tt
+        gives-bind (types-give es (at + size e) (a .slots) (omega (arith, f)) (omega (arith, h))) λ a′ _.
+        gives tt
 
   method-gives : (owner at : ℕ) (m : Declaration) → 1 ≤ at → at + method-lines m ≤ 1 + rows
       → BodyGives (type-method W owner at m)
@@ -197,7 +215,8 @@ module _ (W : World) (rows : ℕ) where
   unfolding type-classes classes-lines class-lines
   bodies-of-classes k at [] f h = gives tt
   bodies-of-classes k at (c ∷ cs) f h =
-      gives-bind (bodies-of-methods k (at + 1 + length (c .fields)) (c .methods) (omega (arith, f)) (omega (arith, h)))
+      gives-bind (bodies-of-methods k (at + 1 + length (c .fields)) (c .methods) (omega (arith, f))
+      (omega (arith, h)))
       λ _ _. bodies-of-classes (suc k) (at + class-lines c) cs (omega (arith, f)) (omega (arith, h))
 
 -- The pass over bodies refuses as listed, where the program takes no more lines than there are rows.

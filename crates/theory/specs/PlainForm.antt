@@ -12,34 +12,46 @@ use borrow.Author.Tests.{leb-true, ne-eqb}
 use Rattle.language.specs.Limits.{Most, of-check, of-translator, largest, identity-class, id-field, imp-field}
 use Rattle.language.specs.Lists.{nth-lt, bind-option-inv}
 use Rattle.language.specs.Frames.{at-slot, opened}
-use Rattle.language.specs.Tree.{DeclaredType, bool, class, ExprType, Expr, literal-true, literal-false, literal-null}
+use Rattle.language.specs.Tree.{DeclaredType, bool, class, ExprType, Expr, literal-true, literal-false}
+use Rattle.language.specs.Tree.{literal-null}
 use Rattle.language.specs.Tree.{slot, is-null}
-use Rattle.language.specs.Tree.{get, cast, new, change, assign, set, call, choose, block, Exprs, nil, cons, count, Field}
+use Rattle.language.specs.Tree.{get, cast, new, change, assign, set, call, choose, block, Exprs, nil, cons}
+use Rattle.language.specs.Tree.{count, Field}
 use Rattle.language.specs.World.{World, field-type, is-declared}
 use Rattle.language.specs.Effects.{effect-of, apply-class}
 use Rattle.language.specs.Typing.{Slot, Environment, fresh-slot, with-type, join-slots, apply-slot}
-use Rattle.language.specs.Rules.{HasType, HaveTypes, type-true, type-false, type-null, type-slot, type-new, type-cast}
+use Rattle.language.specs.Rules.{HasType, HaveTypes, type-true, type-false, type-null, type-slot, type-new}
+use Rattle.language.specs.Rules.{type-cast}
 use Rattle.language.specs.Rules.{type-get, type-set}
 use Rattle.language.specs.Rules.{type-assign, type-is-null, type-call, type-choose, type-block, type-change}
 use Rattle.language.specs.Rules.{types-nil, types-cons}
-use Rattle.language.specs.WellFormed.{TypeInForm, Each, each-nil, each-cons, NodeInForm, NodesInForm, form-true}
+use Rattle.language.specs.WellFormed.{TypeInForm, Each, each-nil, each-cons, NodeInForm, NodesInForm}
+use Rattle.language.specs.WellFormed.{form-true}
 use Rattle.language.specs.WellFormed.{form-false, form-null}
 use Rattle.language.specs.WellFormed.{form-slot, form-is-null, form-get, form-cast, form-new, form-change}
 use Rattle.language.specs.WellFormed.{form-assign, form-set, form-call}
 use Rattle.language.specs.WellFormed.{form-choose, form-block, form-nil, form-cons}
 use Rattle.language.specs.Translation.{plain-class, plain-type, Shape, variables, temporaries, position}
 use Rattle.language.specs.Translation.{read-slot, _then_, _⊕_}
-use Rattle.language.specs.Translation.{implementor, reads, copies, renew, plain-change, translate, translate-all}
+use Rattle.language.specs.Translation.{implementor, reads, copies, renew, plain-change, translate}
+use Rattle.language.specs.Translation.{translate-all}
 use Rattle.language.specs.Translation.{translate-arguments}
 use Rattle.theory.specs.Equal.{all-fit-length}
-use Rattle.theory.specs.TranslationEquations.{plain-true as translate-true, plain-false as translate-false}
-use Rattle.theory.specs.TranslationEquations.{plain-null as translate-null, plain-read as translate-slot}
-use Rattle.theory.specs.TranslationEquations.{plain-is-null as translate-is-null, plain-get as translate-get}
-use Rattle.theory.specs.TranslationEquations.{plain-cast-is as translate-cast, plain-new-is as translate-new}
+use Rattle.theory.specs.TranslationEquations.{plain-true as translate-true}
+use Rattle.theory.specs.TranslationEquations.{plain-false as translate-false}
+use Rattle.theory.specs.TranslationEquations.{plain-null as translate-null}
+use Rattle.theory.specs.TranslationEquations.{plain-read as translate-slot}
+use Rattle.theory.specs.TranslationEquations.{plain-is-null as translate-is-null}
+use Rattle.theory.specs.TranslationEquations.{plain-get as translate-get}
+use Rattle.theory.specs.TranslationEquations.{plain-cast-is as translate-cast}
+use Rattle.theory.specs.TranslationEquations.{plain-new-is as translate-new}
 use Rattle.theory.specs.TranslationEquations.{plain-change-is as translate-change}
-use Rattle.theory.specs.TranslationEquations.{plain-assign as translate-assign, plain-set as translate-set}
-use Rattle.theory.specs.TranslationEquations.{plain-call as translate-call, plain-choose as translate-choose}
-use Rattle.theory.specs.TranslationEquations.{plain-block as translate-block, plain-nil as translate-all-nil}
+use Rattle.theory.specs.TranslationEquations.{plain-assign as translate-assign}
+use Rattle.theory.specs.TranslationEquations.{plain-set as translate-set}
+use Rattle.theory.specs.TranslationEquations.{plain-call as translate-call}
+use Rattle.theory.specs.TranslationEquations.{plain-choose as translate-choose}
+use Rattle.theory.specs.TranslationEquations.{plain-block as translate-block}
+use Rattle.theory.specs.TranslationEquations.{plain-nil as translate-all-nil}
 use Rattle.theory.specs.TranslationEquations.{plain-cons as translate-all-cons}
 use Rattle.theory.specs.TranslationEquations.{plain-no-arguments as translate-arguments-nil}
 use Rattle.theory.specs.TranslationEquations.{plain-arguments as translate-arguments-cons}
@@ -63,7 +75,8 @@ module _ {most : Most} where
     one-deeper (assign k e) (form-assign p f) = form-assign p (one-deeper e f)
     one-deeper (set g e e′) (form-set p f f′) = form-set p (one-deeper e f) (one-deeper e′ f′)
     one-deeper (call m e es) (form-call p q f fs) = form-call p q (one-deeper e f) (all-deeper es fs)
-    one-deeper (choose a b c) (form-choose f g h) = form-choose (one-deeper a f) (one-deeper b g) (one-deeper c h)
+    one-deeper (choose a b c) (form-choose f g h) =
+        form-choose (one-deeper a f) (one-deeper b g) (one-deeper c h)
     one-deeper (block ts es) (form-block p q r t fs) = form-block p q r t (all-deeper es fs)
 
     all-deeper : {d n : ℕ} (es : Exprs) → NodesInForm most d n es → NodesInForm most (suc d) n es
@@ -125,7 +138,8 @@ module _ (W : World) where
   joined-length (s ∷ ss) [] e = absurd (omega arith)
   joined-length (s ∷ ss) (u ∷ us) e = ap suc (joined-length ss us (omega arith))
 
-  changed-length : (ss : List Slot) (f : Slot → Slot) (k : ℕ) (s : Slot) → length (replace (map f ss) k s) ≡ length ss
+  changed-length : (ss : List Slot) (f : Slot → Slot) (k : ℕ) (s : Slot)
+      → length (replace (map f ss) k s) ≡ length ss
   changed-length ss f k s = length-set (map f ss) k s ∙ length-map ss f
 
   taken-length : (n : ℕ) (l : List Slot) → n ≤ length l → length (take n l) ≡ n
@@ -144,7 +158,8 @@ module _ (W : World) where
     slots-same (get f e) (type-get d i) = slots-same e d
     slots-same (cast c e) (type-cast d i n) = slots-same e d
     slots-same (new c) (type-new i) = refl
-    slots-same (change zero c) {γ} (type-change i e h f) = length-map (γ .slots) (apply-slot W (effect-of (W .root c)))
+    slots-same (change zero c) {γ} (type-change i e h f) =
+        length-map (γ .slots) (apply-slot W (effect-of (W .root c)))
     slots-same (change (suc k) c) {γ} (type-change {s} i e h f)
         = changed-length (γ .slots) (apply-slot W (effect-of (W .root c))) k (with-type (class c) s)
     slots-same (assign (suc k) e) (type-assign d i f) = slots-same e d
@@ -152,9 +167,11 @@ module _ (W : World) where
     slots-same (call m e es) (type-call {γ₂} M d d′ i j)
         = length-map (γ₂ .slots) (apply-slot W (M .effect)) ∙ (all-same es d′ ∙ slots-same e d)
     slots-same (choose e x y) (type-choose {γ₁} {γ₂} d d′ d″ j) =
-        joined-length (γ₁ .slots) (γ₂ .slots) (slots-same x d′ ∙ sym (slots-same y d″)) ∙ (slots-same x d′ ∙ slots-same e d)
+        joined-length (γ₁ .slots) (γ₂ .slots) (slots-same x d′ ∙ sym (slots-same y d″))
+        ∙ (slots-same x d′ ∙ slots-same e d)
     slots-same (block ts es) {γ} (type-block {γ′} l d) =
-        taken-length (length (γ .slots)) (γ′ .slots) (omega (arith, all-same es d, length-append (γ .slots) (map fresh-slot ts)))
+        taken-length (length (γ .slots)) (γ′ .slots)
+        (omega (arith, all-same es d, length-append (γ .slots) (map fresh-slot ts)))
 
     pub all-same : (es : Exprs) {γ γ′ : Environment} {ts : List ExprType} {φ : ℕ} → HaveTypes W γ es ts γ′ φ
         → length (γ′ .slots) ≡ length (γ .slots)
@@ -195,16 +212,19 @@ class-form c l = record { small = omega arith; back = rw (ne-eqb (plain-class c)
 -- Blocks in form, with locals of the shape sh₂, and without.
 block-form : {d : ℕ} {ts : List DeclaredType} {es : Exprs} (sh sh₂ : Shape) → length ts ≡ length sh₂
     → suc (length (sh ++ sh₂)) ≤ 256
-    → 1 ≤ count es → count es ≤ largest → Each TypeInForm ts → NodesInForm of-check d (suc (length (sh ++ sh₂))) es
+    → 1 ≤ count es → count es ≤ largest → Each TypeInForm ts
+    → NodesInForm of-check d (suc (length (sh ++ sh₂))) es
     → NodeInForm of-check (suc d) (suc (length sh)) (block ts es)
 block-form {d} {ts} {es} sh sh₂ l b c c′ t f =
     let q : suc (length (sh ++ sh₂)) ≡ suc (length sh) + length ts = omega (arith, length-append sh sh₂) in
-    form-block {n = suc (length sh)} {ts = ts} (omega arith) c c′ t (subst (λ (n : ℕ). NodesInForm of-check d n es) q f)
+    form-block {n = suc (length sh)} {ts = ts} (omega arith) c c′ t
+    (subst (λ (n : ℕ). NodesInForm of-check d n es) q f)
 
 bare-form : {d n : ℕ} {es : Exprs} → n ≤ 256 → 1 ≤ count es → count es ≤ largest → NodesInForm of-check d n es
     → NodeInForm of-check (suc d) n (block [] es)
 bare-form {d} {n} {es} b c c′ f = let q : n ≡ n + 0 = omega arith in
-    form-block {n = n} {ts = []} (omega arith) c c′ each-nil (subst (λ (n : ℕ). NodesInForm of-check d n es) q f)
+    form-block {n = n} {ts = []} (omega arith) c c′ each-nil
+    (subst (λ (n : ℕ). NodesInForm of-check d n es) q f)
 
 -- Numbers in form.
 slot-small : (k : ℕ) → k ≤ 256 → k ≤ largest
@@ -223,20 +243,26 @@ imp-small : imp-field ≤ of-check .name
 imp-small = omega arith
 
 -- Pieces of the translation in form.
-implementor-form : {d n : ℕ} (c k : ℕ) → c ≤ 62 → k ≤ 256 → NodeInForm of-check (suc (suc (suc d))) n (implementor c k)
+implementor-form : {d n : ℕ} (c k : ℕ) → c ≤ 62 → k ≤ 256
+    → NodeInForm of-check (suc (suc (suc d))) n (implementor c k)
 implementor-form c k p q = form-cast (class-small c p) (form-get imp-small (form-slot (slot-small k q)))
 
-reads-form : {d n : ℕ} (k : ℕ) (ts : List DeclaredType) → k + length ts ≤ 257 → NodesInForm of-check (suc d) n (reads k ts)
+reads-form : {d n : ℕ} (k : ℕ) (ts : List DeclaredType) → k + length ts ≤ 257
+    → NodesInForm of-check (suc d) n (reads k ts)
 unfolding reads
 reads-form k [] l = form-nil
-reads-form k (t ∷ ts) l = form-cons (form-slot (slot-small k (omega arith))) (reads-form (suc k) ts (omega arith))
+reads-form k (t ∷ ts) l =
+    form-cons (form-slot (slot-small k (omega arith))) (reads-form (suc k) ts (omega arith))
 
-copies-form : {d n : ℕ} (o p : ℕ) (fs : List Field) (r : Exprs) → Each (λ (f : Field). f .name ≤ 255) fs → o ≤ 256 → p ≤ 256
-    → NodesInForm of-check (suc (suc (suc d))) n r → NodesInForm of-check (suc (suc (suc d))) n (copies o p fs r)
+copies-form : {d n : ℕ} (o p : ℕ) (fs : List Field) (r : Exprs) → Each (λ (f : Field). f .name ≤ 255) fs
+    → o ≤ 256 → p ≤ 256
+    → NodesInForm of-check (suc (suc (suc d))) n r
+    → NodesInForm of-check (suc (suc (suc d))) n (copies o p fs r)
 unfolding copies
 copies-form o p [] r each-nil a b q = q
 copies-form o p (f ∷ fs) r (each-cons e es) a b q =
-    form-cons (form-set e (form-slot (slot-small o a)) (form-get e (form-slot (slot-small p b)))) (copies-form o p fs r es a b q)
+    form-cons (form-set e (form-slot (slot-small o a)) (form-get e (form-slot (slot-small p b))))
+    (copies-form o p fs r es a b q)
 
 joined-form : {d n : ℕ} (es rs : Exprs) → NodesInForm of-check d n es → NodesInForm of-check d n rs
     → NodesInForm of-check d n (es ⊕ rs)
@@ -263,7 +289,8 @@ block-room {sh} ts r l = record {
 }
 
 -- Nine slots more fit in any case.
-slots-fit : {d n : ℕ} {sh : Shape} (sh₂ : Shape) → Room (suc d) n sh → length sh₂ ≤ 9 → suc (length (sh ++ sh₂)) ≤ 256
+slots-fit : {d n : ℕ} {sh : Shape} (sh₂ : Shape) → Room (suc d) n sh → length sh₂ ≤ 9
+    → suc (length (sh ++ sh₂)) ≤ 256
 slots-fit {sh} sh₂ r l = omega (arith, r .room, r .few, length-append sh sh₂)
 
 module _ (W : World) (𝓢 : Small W) (𝓝 : NameLaws W) where
@@ -274,13 +301,15 @@ module _ (W : World) (𝓢 : Small W) (𝓝 : NameLaws W) where
   unfolding field-type
   field-small f c t e = bind-option-inv _ _ e λ i p e. declared-small c (𝓝 .declared-field c f i p)
 
-  read-form : {d n : ℕ} (γ : Environment) (sh : Shape) (k : ℕ) (s : Slot) → variable-count sh ≡ length (γ .slots)
+  read-form : {d n : ℕ} (γ : Environment) (sh : Shape) (k : ℕ) (s : Slot)
+      → variable-count sh ≡ length (γ .slots)
       → suc (length sh) ≤ 256
       → at-slot γ k ≡ some s → NodeInForm of-check (suc (suc d)) n (read-slot sh k)
   unfolding read-slot
   read-form γ sh zero s v l e = form-get id-small (form-slot (slot-small 0 (omega arith)))
   read-form γ sh (suc k) s v l e =
-      form-slot (slot-small (suc (position sh k)) (omega (arith, position-within sh k (omega (arith, nth-lt (γ .slots) k s e)))))
+      form-slot (slot-small (suc (position sh k))
+      (omega (arith, position-within sh k (omega (arith, nth-lt (γ .slots) k s e)))))
 
   -- R's inner block, with Identity in slot k and two more slots after it.
   renew-form : {d n : ℕ} (k c : ℕ) → is-declared W c ≡ true → n ≤ 256 → suc (suc k) ≤ 256
@@ -289,7 +318,8 @@ module _ (W : World) (𝓢 : Small W) (𝓝 : NameLaws W) where
   renew-form k c i l b =
       let r = W .root c in let fs = W .fields r in
       let j = declared-small c i in let j′ = declared-small r (𝓝 .declared-root c i) in
-      let k₀ = slot-small k (omega arith) in let k₁ = slot-small (suc k) (omega arith) in let k₂ = slot-small (suc (suc k)) b in
+      let k₀ = slot-small k (omega arith) in let k₁ = slot-small (suc k) (omega arith) in let k₂ =
+      slot-small (suc (suc k)) b in
       let q : count (copies (suc k) (suc (suc k)) fs (cons (slot k) nil)) ≡ length fs + 1
       = count-copies (suc k) (suc (suc k)) fs (cons (slot k) nil) in
       let q′ : length fs ≤ 16 = 𝓢 .fields r in
@@ -322,10 +352,12 @@ module _ (W : World) (𝓢 : Small W) (𝓝 : NameLaws W) where
       let j = declared-small c i in let j′ = declared-small (W .root c) (𝓝 .declared-root c i) in
       let m : suc (suc (suc (length sh))) ≤ 256 = omega (arith, length-append sh sh₂) in
       let k₀ = slot-small (suc (length sh)) (omega arith) in
-      let own = slot-small (suc (position sh k)) (omega (arith, position-within sh k (omega (arith, nth-lt (γ .slots) k s e)))) in
+      let own = slot-small (suc (position sh k))
+      (omega (arith, position-within sh k (omega (arith, nth-lt (γ .slots) k s e)))) in
       block-form sh sh₂ refl l (omega arith) (omega arith)
       (each-cons identity-form (each-cons (class-form c j) (each-cons (class-form (W .root c) j′) each-nil)))
-      (form-cons (form-choose (form-is-null (form-assign k₀ (form-slot own))) form-null (renew-form (suc (length sh)) c i l m))
+      (form-cons (form-choose (form-is-null (form-assign k₀ (form-slot own))) form-null
+      (renew-form (suc (length sh)) c i l m))
       (form-cons (form-slot k₀) form-nil))
 
   count-all : (es : Exprs) (γ : Environment) (sh : Shape) → count (translate-all W es γ sh) ≡ count es
@@ -333,13 +365,15 @@ module _ (W : World) (𝓢 : Small W) (𝓝 : NameLaws W) where
   count-all nil γ sh = refl
   count-all (cons e es) γ sh = ap suc (count-all es _ sh)
 
-  count-arguments : (es : Exprs) (γ : Environment) (sh : Shape) (n : ℕ) → count (translate-arguments W es γ sh n) ≡ count es
+  count-arguments : (es : Exprs) (γ : Environment) (sh : Shape) (n : ℕ)
+      → count (translate-arguments W es γ sh n) ≡ count es
   unfolding translate count
   count-arguments nil γ sh n = refl
   count-arguments (cons e es) γ sh n = ap suc (count-arguments es _ sh (suc n))
 
   -- No variable is added by temporaries.
-  still-variables : (sh : Shape) (ts : List DeclaredType) → variable-count (sh ++ (false ∷ temporaries ts)) ≡ variable-count sh
+  still-variables : (sh : Shape) (ts : List DeclaredType)
+      → variable-count (sh ++ (false ∷ temporaries ts)) ≡ variable-count sh
   unfolding variable-count
   still-variables sh ts = omega (arith, count-append sh (false ∷ temporaries ts), count-temporaries ts)
 
@@ -347,7 +381,8 @@ module _ (W : World) (𝓢 : Small W) (𝓝 : NameLaws W) where
     unfolding more-left count variable-count
 
     -- The plain form of a typed node in form is in form.
-    pub node-in-form : (e : Expr) {γ γ′ : Environment} {t : ExprType} {φ : ℕ} → HasType W γ e t γ′ φ → {d n : ℕ}
+    pub node-in-form : (e : Expr) {γ γ′ : Environment} {t : ExprType} {φ : ℕ} → HasType W γ e t γ′ φ
+        → {d n : ℕ}
         → NodeInForm of-translator d n e
         → (sh : Shape) → variable-count sh ≡ length (γ .slots) → Room d n sh
         → NodeInForm of-check (plain-left d) (suc (length sh)) (translate W e γ sh)
@@ -357,17 +392,21 @@ module _ (W : World) (𝓢 : Small W) (𝓝 : NameLaws W) where
     node-in-form (slot k) {γ} (type-slot {s} e) (form-slot p) sh v r =
         rw (translate-slot W k γ sh) (read-form γ sh k s v (omega (arith, r .room, r .few)) e)
     node-in-form (is-null e) {γ} (type-is-null d i) (form-is-null f) sh v r =
-        rw (translate-is-null W e γ sh) (form-is-null (three-deeper _ (node-in-form e d f sh v (same-room r))))
+        rw (translate-is-null W e γ sh)
+        (form-is-null (three-deeper _ (node-in-form e d f sh v (same-room r))))
     node-in-form (get g e) (type-get {c} {t} d i) (form-get p f) sh v r =
-        rw (translate-get W g sh d) (form-get p (form-cast (class-small c (field-small g c t i)) (form-get imp-small
+        rw (translate-get W g sh d)
+        (form-get p (form-cast (class-small c (field-small g c t i)) (form-get imp-small
         (one-deeper _ (node-in-form e d f sh v (same-room r))))))
     node-in-form (cast c e) {γ} (type-cast d i j) (form-cast p f) sh v r =
         let sh₂ = false ∷ [] in let l = slots-fit sh₂ r (omega arith) in
         let k₀ : suc (length sh) ≤ 256 = omega (arith, length-append sh sh₂) in
         let v′ : variable-count (sh ++ sh₂) ≡ length (γ .slots) = still-variables sh [] ∙ v in
-        rw (translate-cast W c e γ sh) (block-form sh sh₂ refl l (omega arith) (omega arith) (each-cons identity-form each-nil)
+        rw (translate-cast W c e γ sh)
+        (block-form sh sh₂ refl l (omega arith) (omega arith) (each-cons identity-form each-nil)
         (form-cons (form-choose
-        (form-is-null (form-assign (slot-small _ k₀) (node-in-form e d f (sh ++ sh₂) v′ (more-room sh₂ r (omega arith)))))
+        (form-is-null (form-assign (slot-small _ k₀)
+        (node-in-form e d f (sh ++ sh₂) v′ (more-room sh₂ r (omega arith)))))
         form-null
         (form-get id-small (implementor-form c (suc (length sh)) (declared-small c i) k₀))) form-nil))
     node-in-form (new c) {γ} (type-new i) (form-new p) sh v r =
@@ -412,27 +451,32 @@ module _ (W : World) (𝓢 : Small W) (𝓝 : NameLaws W) where
         let wide : length sh₂ ≤ 9 = omega (arith, length-map ps (λ t. false)) in
         let l = slots-fit sh₂ r wide in
         let k₀ : suc (length sh) ≤ 256 = omega (arith, length-append sh sh₂) in
-        let k₁ : suc (suc (length sh)) + length ps ≤ 257 = omega (arith, length-append sh sh₂, length-map ps (λ t. false)) in
+        let k₁ : suc (suc (length sh)) + length ps ≤ 257 =
+        omega (arith, length-append sh sh₂, length-map ps (λ t. false)) in
         let n : count es ≡ length ps = sym (types-count W 𝓢 d′) ∙ all-fit-length W ts ps j in
         let v′ : variable-count (sh ++ sh₂) ≡ length (γ .slots) = still-variables sh ps ∙ v in
         let v″ : variable-count (sh ++ sh₂) ≡ length (γ₁ .slots) = v′ ∙ sym (slots-same W e d) in
-        let act = call m (implementor (apply-class W φ₂ c) (suc (length sh))) (reads (suc (suc (length sh))) ps) in
+        let act = call m (implementor (apply-class W φ₂ c) (suc (length sh)))
+        (reads (suc (suc (length sh))) ps) in
         let args = translate-arguments W es γ₁ (sh ++ sh₂) (suc (suc (length sh))) in
         let total : count (args ⊕ (act then nil)) ≡ length ps + 1 = count-joined args (act then nil)
         ∙ omega (arith, count-arguments es γ₁ (sh ++ sh₂) (suc (suc (length sh)))) in
         rw (translate-call W m M sh d d′ i) (block-form sh sh₂
         (omega (arith, length-map ps plain-type, length-map ps (λ t. false))) l (omega arith) (omega arith)
         (each-cons identity-form (plain-types-form ps))
-        (form-cons (form-assign (slot-small _ k₀) (two-deeper _ (node-in-form e d f (sh ++ sh₂) v′ (more-room sh₂ r wide))))
+        (form-cons (form-assign (slot-small _ k₀)
+        (two-deeper _ (node-in-form e d f (sh ++ sh₂) v′ (more-room sh₂ r wide))))
         (joined-form args (act then nil)
-        (arguments-in-form es d′ fs (sh ++ sh₂) v″ (more-room sh₂ r wide) (suc (suc (length sh))) (omega arith))
+        (arguments-in-form es d′ fs (sh ++ sh₂) v″ (more-room sh₂ r wide) (suc (suc (length sh)))
+        (omega arith))
         (form-cons (form-call p (omega (arith, count-reads (suc (suc (length sh))) ps))
         (implementor-form _ (suc (length sh)) (declared-small _ (𝓝 .declared-method _ m M i)) k₀)
         (reads-form (suc (suc (length sh))) ps k₁)) form-nil))))
     node-in-form (choose e x y) {γ} (type-choose {γ₀} d d′ d″ j) (form-choose f g h) sh v r =
         let v′ : variable-count sh ≡ length (γ₀ .slots) = v ∙ sym (slots-same W e d) in
         rw (translate-choose W x y sh d) (form-choose (three-deeper _ (node-in-form e d f sh v (same-room r)))
-        (three-deeper _ (node-in-form x d′ g sh v′ (same-room r))) (three-deeper _ (node-in-form y d″ h sh v′ (same-room r))))
+        (three-deeper _ (node-in-form x d′ g sh v′ (same-room r)))
+        (three-deeper _ (node-in-form y d″ h sh v′ (same-room r))))
     node-in-form (block ts es) {γ} (type-block l d) (form-block a b c t fs) sh v r =
         let sh₂ = variables ts in
         let k : length sh₂ ≡ length ts = length-map ts (λ t. true) in
@@ -451,8 +495,10 @@ module _ (W : World) (𝓢 : Small W) (𝓝 : NameLaws W) where
         (plain-types-form ts) (all-deeper _
         (all-deeper _ (all-deeper _ (nodes-in-form es d fs (sh ++ sh₂) v′ (block-room ts r a))))))
 
-    nodes-in-form : (es : Exprs) {γ γ′ : Environment} {ts : List ExprType} {φ : ℕ} → HaveTypes W γ es ts γ′ φ → {d n : ℕ}
-        → NodesInForm of-translator d n es → (sh : Shape) → variable-count sh ≡ length (γ .slots) → Room d n sh
+    nodes-in-form : (es : Exprs) {γ γ′ : Environment} {ts : List ExprType} {φ : ℕ} → HaveTypes W γ es ts γ′ φ
+        → {d n : ℕ}
+        → NodesInForm of-translator d n es → (sh : Shape) → variable-count sh ≡ length (γ .slots)
+        → Room d n sh
         → NodesInForm of-check (plain-left d) (suc (length sh)) (translate-all W es γ sh)
     nodes-in-form nil {γ} types-nil form-nil sh v r = rw (translate-all-nil W γ sh) form-nil
     nodes-in-form (cons e es) (types-cons d d′) (form-cons f fs) sh v r =
@@ -460,10 +506,13 @@ module _ (W : World) (𝓢 : Small W) (𝓝 : NameLaws W) where
         (nodes-in-form es d′ fs sh (v ∙ sym (slots-same W e d)) r))
 
     -- Arguments, each put in its temporary, from slot k on.
-    arguments-in-form : (es : Exprs) {γ γ′ : Environment} {ts : List ExprType} {φ : ℕ} → HaveTypes W γ es ts γ′ φ → {d n : ℕ}
-        → NodesInForm of-translator d n es → (sh : Shape) → variable-count sh ≡ length (γ .slots) → Room d n sh → (k : ℕ)
+    arguments-in-form : (es : Exprs) {γ γ′ : Environment} {ts : List ExprType} {φ : ℕ}
+        → HaveTypes W γ es ts γ′ φ → {d n : ℕ}
+        → NodesInForm of-translator d n es → (sh : Shape) → variable-count sh ≡ length (γ .slots)
+        → Room d n sh → (k : ℕ)
         → k + count es ≤ 257
-        → NodesInForm of-check (suc (suc (suc (plain-left d)))) (suc (length sh)) (translate-arguments W es γ sh k)
+        → NodesInForm of-check (suc (suc (suc (plain-left d)))) (suc (length sh))
+        (translate-arguments W es γ sh k)
     arguments-in-form nil {γ} types-nil form-nil sh v r k l = rw (translate-arguments-nil W γ sh k) form-nil
     arguments-in-form (cons e es) (types-cons d d′) (form-cons f fs) sh v r k l =
         rw (translate-arguments-cons W es sh k d)

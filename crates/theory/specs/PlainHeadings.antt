@@ -14,23 +14,29 @@ use Rattle.language.specs.Limits.{of-translator, id-field}
 use Rattle.language.specs.Lists.{map-option}
 use Rattle.language.specs.Results.{accept, bind-checked-inv, require-inv}
 use Rattle.language.specs.Frames.{Frame, frame}
-use Rattle.language.specs.Tree.{DeclaredType, bool, class, plain, Field, Declaration, Class, class-lines, Program}
+use Rattle.language.specs.Tree.{DeclaredType, bool, class, plain, Field, Declaration, Class, class-lines}
+use Rattle.language.specs.Tree.{Program}
 use Rattle.language.specs.World.{Method, World, place, is-declared}
 use Rattle.language.specs.Effects.{no-effect, within, effect-of-all}
 use Rattle.language.specs.Program.{class-at, kind-at, is-state-type, world, fields-at}
 use Rattle.language.specs.Headings.{check-fields, check-class, check-classes, headings}
-use Rattle.language.specs.WellFormed.{Extends, plain-object, plain-plain, FieldsWell, well-nil, well-cons, well-none}
-use Rattle.language.specs.WellFormed.{Overrides, first, again, MethodWell, MethodsWell, methods-nil, methods-cons}
+use Rattle.language.specs.WellFormed.{Extends, plain-object, plain-plain, FieldsWell, well-nil, well-cons}
+use Rattle.language.specs.WellFormed.{well-none}
+use Rattle.language.specs.WellFormed.{Overrides, first, again, MethodWell, MethodsWell, methods-nil}
+use Rattle.language.specs.WellFormed.{methods-cons}
 use Rattle.language.specs.WellFormed.{ClassWell, ClassesWell, classes-nil, classes-cons, ProgramWell}
-use Rattle.language.specs.Translation.{plain-class, plain-type, plain-field, variables, plain-method, plain-classes, identity}
+use Rattle.language.specs.Translation.{plain-class, plain-type, plain-field, variables, plain-method}
+use Rattle.language.specs.Translation.{plain-classes, identity}
 use Rattle.language.specs.Translation.{fickle-object, plain-program, fields-free, names-free}
 use Rattle.theory.specs.Sound.{Laws}
 use Rattle.theory.specs.PlainWorld.{imp-of-identity, id-of-implementor, plain-form}
 use Rattle.theory.specs.PlainOf.{PlainOf}
-use Rattle.theory.specs.PlainLookups.{Earlier, earlier-supers, declared-plain, plain-list, plain-kind, lookups-plain}
+use Rattle.theory.specs.PlainLookups.{Earlier, earlier-supers, declared-plain, plain-list, plain-kind}
+use Rattle.theory.specs.PlainLookups.{lookups-plain}
 use Rattle.theory.specs.PlainRules.{fresh}
 use Rattle.theory.specs.PlainSlots.{method-match, start-match}
-use Rattle.theory.specs.PlainTypes.{NameLaws, free-name, place-plain, fits-plain, identity-declared, fickle-declared}
+use Rattle.theory.specs.PlainTypes.{NameLaws, free-name, place-plain, fits-plain, identity-declared}
+use Rattle.theory.specs.PlainTypes.{fickle-declared}
 use Rattle.theory.specs.PlainTypes.{type-declared, types-declared, translation-has}
 
 module _ (P : List Class) (𝓔 : Earlier P) (𝓛 : Laws (world P)) (𝓝 : NameLaws (world P)) where
@@ -50,7 +56,8 @@ module _ (P : List Class) (𝓔 : Earlier P) (𝓛 : Laws (world P)) (𝓝 : Nam
 
   extends-plain : (k : ℕ) → Extends plain (kind-at Q k)
   unfolding kind-at
-  extends-plain k = elim (plain-kind P 𝓔 k) [ inl e ↦ rw e plain-object | inr h ↦ rw (h .1, h .2) plain-plain ]
+  extends-plain k = elim (plain-kind P 𝓔 k)
+      [ inl e ↦ rw e plain-object | inr h ↦ rw (h .1, h .2) plain-plain ]
 
   -- A name that is not `id` stands nowhere among the plain fields, if it stands nowhere among the source's.
   place-none : (n : ℕ) (fs : List Field) → eqb id-field n ≡ false → place n fs ≡ none
@@ -64,7 +71,8 @@ module _ (P : List Class) (𝓔 : Earlier P) (𝓛 : Laws (world P)) (𝓝 : Nam
   unfolding check-fields fields-free
   fields-plain at at′ u v well-nil q r = well-nil
   fields-plain {before} at at′ u v (well-cons {fs} {f} a b c d w) q r =
-      require-inv _ _ _ _ q λ e₁ q. require-inv _ _ _ _ q λ e₂ q. require-inv _ _ _ _ q λ e₃ q. require-inv _ _ _ _ q λ e₄ q.
+      require-inv _ _ _ _ q λ e₁ q. require-inv _ _ _ _ q λ e₂ q. require-inv _ _ _ _ q λ e₃ q.
+      require-inv _ _ _ _ q λ e₄ q.
       require-inv _ _ _ _ r λ e₅ r.
       let h : FieldsWell Q (id-of-implementor ∷ map plain-field (before ++ (f ∷ []))) (map plain-field fs)
       = fields-plain (at + 1) (at′ + 1) u v w q r in
@@ -78,7 +86,8 @@ module _ (P : List Class) (𝓔 : Earlier P) (𝓛 : Laws (world P)) (𝓝 : Nam
       → Overrides Q (plain-method W k m) (map-option (plain-form W) o)
   unfolding within effect-of-all
   overrides-plain k m o first = first
-  overrides-plain k m o (again M p q r) = again (plain-form W M) (ap plain-type p) (ap (map plain-type) q) refl
+  overrides-plain k m o (again M p q r) =
+      again (plain-form W M) (ap plain-type p) (ap (map plain-type) q) refl
 
   none-within : within no-effect (effect-of-all []) ≡ true
   unfolding within effect-of-all
@@ -105,8 +114,10 @@ module _ (P : List Class) (𝓔 : Earlier P) (𝓛 : Laws (world P)) (𝓝 : Nam
         body-effect = none-within;
       }
 
-  methods-plain : (k super : ℕ) {before ms : List Declaration} → is-declared W k ≡ true → MethodsWell P k super before ms
-      → MethodsWell Q (plain-class k) (plain-class super) (map (plain-method W k) before) (map (plain-method W k) ms)
+  methods-plain : (k super : ℕ) {before ms : List Declaration} → is-declared W k ≡ true
+      → MethodsWell P k super before ms
+      → MethodsWell Q (plain-class k) (plain-class super) (map (plain-method W k) before)
+      (map (plain-method W k) ms)
   methods-plain k super i methods-nil = methods-nil
   methods-plain k super {before} i (methods-cons {m} w ws)
       = methods-cons (method-plain k super before m i w) (methods-plain k super i ws)
@@ -120,12 +131,14 @@ module _ (P : List Class) (𝓔 : Earlier P) (𝓛 : Laws (world P)) (𝓝 : Nam
 
   -- The classes from number k on.
   classes-plain : {k : ℕ} {cs : List Class} (at at′ : ℕ) (u v : Unit {0}) → ClassesWell P k cs
-      → check-classes of-translator P k at cs ≡ accept u → names-free at′ cs ≡ accept v → k + length cs ≤ suc (length P)
+      → check-classes of-translator P k at cs ≡ accept u → names-free at′ cs ≡ accept v
+      → k + length cs ≤ suc (length P)
       → ClassesWell Q (plain-class k) (plain-classes W k cs)
   unfolding check-classes check-class names-free plain-classes
   classes-plain at at′ u v classes-nil q r l = classes-nil
   classes-plain {k} at at′ u v (classes-cons {c} {cs} w ws) q r l =
-      bind-checked-inv _ _ q λ a e q. require-inv _ _ _ _ e λ e₁ e. require-inv _ _ _ _ e λ e₂ e. bind-checked-inv _ _ e λ b e₃ e.
+      bind-checked-inv _ _ q λ a e q. require-inv _ _ _ _ e λ e₁ e. require-inv _ _ _ _ e λ e₂ e.
+      bind-checked-inv _ _ e λ b e₃ e.
       bind-checked-inv _ _ r λ d f r.
       classes-cons
       (record {
@@ -147,7 +160,9 @@ module _ (P : List Class) (𝓔 : Earlier P) (𝓛 : Laws (world P)) (𝓝 : Nam
   identity-well = record {
     earlier = omega arith;
     kind = extends-plain 0;
-    fields = rw object-fields (well-cons {before = []} {fs = []} {f = imp-of-identity} (omega arith) (fickle-declared W (world Q) 𝓟) refl
+    fields = rw object-fields
+        (well-cons {before = []} {fs = []} {f = imp-of-identity} (omega arith) (fickle-declared W (world Q) 𝓟)
+        refl
         (no-state (class 2)) well-nil);
     methods = methods-nil;
   }
@@ -157,18 +172,23 @@ module _ (P : List Class) (𝓔 : Earlier P) (𝓛 : Laws (world P)) (𝓝 : Nam
   fickle-well = record {
     earlier = omega arith;
     kind = extends-plain 0;
-    fields = rw object-fields (well-cons {before = []} {fs = []} {f = id-of-implementor} (omega arith) (identity-declared W (world Q) 𝓟) refl
+    fields = rw object-fields
+        (well-cons {before = []} {fs = []} {f = id-of-implementor} (omega arith)
+        (identity-declared W (world Q) 𝓟) refl
         (no-state (class 1)) well-nil);
     methods = methods-nil;
   }
 
 -- The plain program of a well-formed program within the limit of fields and without reserved names is well formed.
-pub program-plain : (p : Program) (u v : Unit {0}) → ProgramWell p → Laws (world (p .classes)) → NameLaws (world (p .classes))
-    → headings of-translator (p .classes) ≡ accept u → names-free 1 (p .classes) ≡ accept v → ProgramWell (plain-program p)
+pub program-plain : (p : Program) (u v : Unit {0}) → ProgramWell p → Laws (world (p .classes))
+    → NameLaws (world (p .classes))
+    → headings of-translator (p .classes) ≡ accept u → names-free 1 (p .classes) ≡ accept v
+    → ProgramWell (plain-program p)
 unfolding plain-program headings
 program-plain p u v w 𝓛 𝓝 q r =
     let P = p .classes in let 𝓔 : Earlier (p .classes) = earlier-supers P (w .classes) in
-    let a = translation-has (world P) (world (plain-list P)) (lookups-plain P 𝓔) 𝓛 𝓝 (p .start) (w .start) [] (frame none [])
+    let a = translation-has (world P) (world (plain-list P)) (lookups-plain P 𝓔) 𝓛 𝓝 (p .start) (w .start) []
+    (frame none [])
     (start-match (world P)) in
     record {
       classes = classes-cons (identity-well P 𝓔 𝓛 𝓝) (classes-cons (fickle-well P 𝓔 𝓛 𝓝)

@@ -6,17 +6,21 @@ use mathlib.Core.List.{List, [], map}
 use lib.ListN.{length, length-map}
 use native.Mathlib.Omega.{arith}
 use Rattle.language.specs.Limits.{Most, of-check, of-translator}
-use Rattle.language.specs.Tree.{DeclaredType, type-number, type-of-number, ExprType, Expr, block, Exprs, Field}
+use Rattle.language.specs.Tree.{DeclaredType, type-number, type-of-number, ExprType, Expr, block, Exprs}
+use Rattle.language.specs.Tree.{Field}
 use Rattle.language.specs.Tree.{Declaration, Class, Program}
 use Rattle.language.specs.World.{World}
 use Rattle.language.specs.Program.{world}
 use Rattle.language.specs.Typing.{Environment, fresh-slot}
 use Rattle.language.specs.Rules.{HasType}
-use Rattle.language.specs.WellFormed.{Each, each-nil, each-cons, NodeInForm, form-block, BodyInForm, form-body, FieldInForm}
-use Rattle.language.specs.WellFormed.{MethodInForm, ClassInForm, ProgramInForm, MethodWell, MethodsWell, methods-nil}
+use Rattle.language.specs.WellFormed.{Each, each-nil, each-cons, NodeInForm, form-block, BodyInForm}
+use Rattle.language.specs.WellFormed.{form-body, FieldInForm}
+use Rattle.language.specs.WellFormed.{MethodInForm, ClassInForm, ProgramInForm, MethodWell, MethodsWell}
+use Rattle.language.specs.WellFormed.{methods-nil}
 use Rattle.language.specs.WellFormed.{methods-cons, ClassWell}
 use Rattle.language.specs.WellFormed.{ClassesWell, classes-nil, classes-cons, ProgramWell}
-use Rattle.language.specs.Translation.{plain-type, plain-field, Shape, variables, plain-method, plain-classes, identity}
+use Rattle.language.specs.Translation.{plain-type, plain-field, Shape, variables, plain-method, plain-classes}
+use Rattle.language.specs.Translation.{identity}
 use Rattle.language.specs.Translation.{fickle-object, plain-program, translate}
 use Rattle.theory.specs.PlainWorld.{imp-of-identity, id-of-implementor}
 use Rattle.theory.specs.TranslationEquations.{plain-block as translate-block}
@@ -26,7 +30,8 @@ use Rattle.theory.specs.PlainSizes.{Small, program-size}
 use Rattle.theory.specs.PlainForm.{more-left, variable-count, count-variables, plain-type-form}
 use Rattle.theory.specs.PlainForm.{plain-types-form, Room, node-in-form}
 
-slots-few : {most : Most} {d n : ℕ} {ts : List DeclaredType} {es : Exprs} → NodeInForm most d n (block ts es) → n ≤ most .slots
+slots-few : {most : Most} {d n : ℕ} {ts : List DeclaredType} {es : Exprs} → NodeInForm most d n (block ts es)
+    → n ≤ most .slots
 slots-few (form-block a b c t f) = omega arith
 
 module _ (P : List Class) (𝓢 : Small (world P)) (𝓝 : NameLaws (world P)) where
@@ -36,7 +41,8 @@ module _ (P : List Class) (𝓢 : Small (world P)) (𝓝 : NameLaws (world P)) w
   -- A body's plain form is a block in form.
   body-in-form : {n : ℕ} {e : Expr} {γ γ′ : Environment} {t : ExprType} {φ : ℕ} → BodyInForm of-translator n e
       → HasType W γ e t γ′ φ
-      → (sh : Shape) → variable-count sh ≡ length (γ .slots) → suc (length sh) ≡ n → BodyInForm of-check n (translate W e γ sh)
+      → (sh : Shape) → variable-count sh ≡ length (γ .slots) → suc (length sh) ≡ n
+      → BodyInForm of-check n (translate W e γ sh)
   unfolding more-left
   body-in-form {γ} (form-body {n} {ts} {es} f) d sh v q =
       let r : Room 24 n sh = record { few = slots-few f; room = omega arith } in
@@ -45,9 +51,11 @@ module _ (P : List Class) (𝓢 : Small (world P)) (𝓝 : NameLaws (world P)) w
       (node-in-form W 𝓢 𝓝 (block ts es) d f sh v r) in
       rw (translate-block W ts es γ sh) (form-body (rw (translate-block W ts es γ sh) at h))
 
-  fields-in-form : {fs : List Field} → Each (FieldInForm of-translator) fs → Each (FieldInForm of-check) (map plain-field fs)
+  fields-in-form : {fs : List Field} → Each (FieldInForm of-translator) fs
+      → Each (FieldInForm of-check) (map plain-field fs)
   fields-in-form each-nil = each-nil
-  fields-in-form (each-cons {a} i is) = each-cons (record { type = plain-type-form (a .type); name = i .name })
+  fields-in-form (each-cons {a} i is) =
+      each-cons (record { type = plain-type-form (a .type); name = i .name })
       (fields-in-form is)
 
   method-in-form : (k super : ℕ) (before : List Declaration) (m : Declaration) → MethodWell P k super before m
@@ -83,7 +91,8 @@ module _ (P : List Class) (𝓢 : Small (world P)) (𝓝 : NameLaws (world P)) w
     methods = methods-in-form k (c .super) (w .methods) (i .methods);
   }
 
-  classes-in-form : {k : ℕ} {cs : List Class} → ClassesWell P k cs → Each (ClassInForm of-translator) cs → k + length cs ≤ 63
+  classes-in-form : {k : ℕ} {cs : List Class} → ClassesWell P k cs → Each (ClassInForm of-translator) cs
+      → k + length cs ≤ 63
       → Each (ClassInForm of-check) (plain-classes W k cs)
   unfolding plain-classes
   classes-in-form classes-nil each-nil l = each-nil
@@ -91,7 +100,8 @@ module _ (P : List Class) (𝓢 : Small (world P)) (𝓝 : NameLaws (world P)) w
       = each-cons (class-in-form k c w i (omega arith)) (classes-in-form ws is (omega arith))
 
   -- Identity and FickleObject.
-  own-field : (f : Field) → type-number (f .type) ≤ 2 → type-of-number (type-number (f .type)) ≡ f .type → f .name ≤ 255
+  own-field : (f : Field) → type-number (f .type) ≤ 2 → type-of-number (type-number (f .type)) ≡ f .type
+      → f .name ≤ 255
       → FieldInForm of-check f
   own-field f l b n = record { type = record { small = omega arith; back = b }; name = n }
 

@@ -14,10 +14,12 @@ use Rattle.language.specs.Lists.{nth, given, choice, map-option, up, up-suc}
 use Rattle.language.specs.Tree.{plain, Declaration, Class, Program}
 use Rattle.language.specs.World.{World}
 use Rattle.language.specs.Effects.{effect-of-all}
-use Rattle.language.specs.Program.{method-of, declared, class-at, fields-at, method-at, below-at, root-at, nearest-at}
+use Rattle.language.specs.Program.{method-of, declared, class-at, fields-at, method-at, below-at, root-at}
+use Rattle.language.specs.Program.{nearest-at}
 use Rattle.language.specs.Program.{is-changeable, world}
 use Rattle.language.specs.WellFormed.{ClassesWell}
-use Rattle.language.specs.Translation.{plain-class, plain-field, plain-method, plain-classes, identity, fickle-object}
+use Rattle.language.specs.Translation.{plain-class, plain-field, plain-method, plain-classes, identity}
+use Rattle.language.specs.Translation.{fickle-object}
 use Rattle.language.specs.Translation.{plain-program}
 use Rattle.theory.specs.Sound.{or-inr}
 use Rattle.theory.specs.Lookups.{class-well}
@@ -65,7 +67,8 @@ module _ (W : World) where
   }
 
   -- The class at a place, and how many there are.
-  pub nth-plain : (j : ℕ) (cs : List Class) (i : ℕ) → nth (plain-classes W j cs) i ≡ map-option (plain-one (up i j)) (nth cs i)
+  pub nth-plain : (j : ℕ) (cs : List Class) (i : ℕ)
+      → nth (plain-classes W j cs) i ≡ map-option (plain-one (up i j)) (nth cs i)
   unfolding nth plain-classes
   nth-plain j [] i = refl
   nth-plain j (c ∷ cs) zero = refl
@@ -101,7 +104,8 @@ module _ (P : List Class) (𝓔 : Earlier P) where
   Q = plain-list P
 
   -- Class k + 2 there is the plain form of class k.
-  pub class-plain : (i : ℕ) → class-at Q (suc (suc (suc i))) ≡ map-option (plain-one W (suc i)) (class-at P (suc i))
+  pub class-plain : (i : ℕ)
+      → class-at Q (suc (suc (suc i))) ≡ map-option (plain-one W (suc i)) (class-at P (suc i))
   unfolding class-at nth
   class-plain i = nth-plain W 1 P i ∙ ap (λ (k : ℕ). map-option (plain-one W k) (nth P i)) (up-one i)
 
@@ -117,7 +121,8 @@ module _ (P : List Class) (𝓔 : Earlier P) where
   class-within i p = nth-within P i p
 
   -- Fields, found in n steps up through the superclasses; FickleObject stands where Object stood.
-  zero-fields : (n : ℕ) → fields-at Q (suc (suc (suc n))) 2 ≡ id-of-implementor ∷ map plain-field (fields-at P (suc n) 0)
+  zero-fields : (n : ℕ)
+      → fields-at Q (suc (suc (suc n))) 2 ≡ id-of-implementor ∷ map plain-field (fields-at P (suc n) 0)
   unfolding fields-at class-at nth
   zero-fields n = refl
 
@@ -132,27 +137,33 @@ module _ (P : List Class) (𝓔 : Earlier P) where
       (ap (λ r. id-of-implementor ∷ r) (sym (map-append plain-field (fields-at P n (c .super)) (c .fields))))
 
   -- Methods.
-  zero-method : (n m : ℕ) → method-at Q (suc (suc (suc n))) 2 m ≡ map-option (plain-form W) (method-at P (suc n) 0 m)
+  zero-method : (n m : ℕ)
+      → method-at Q (suc (suc (suc n))) 2 m ≡ map-option (plain-form W) (method-at P (suc n) 0 m)
   unfolding method-at class-at nth declared
   zero-method n m = refl
 
-  method-agrees : (n k m : ℕ) → k < n → method-at Q (suc (suc n)) (suc (suc k)) m ≡ map-option (plain-form W) (method-at P n k m)
+  method-agrees : (n k m : ℕ) → k < n
+      → method-at Q (suc (suc n)) (suc (suc k)) m ≡ map-option (plain-form W) (method-at P n k m)
   unfolding method-at effect-of-all
   method-agrees zero k m p = absurd (omega arith)
   method-agrees (suc n) zero m p = zero-method n m
   method-agrees (suc n) (suc i) m p = go (class-at P (suc i)) refl (λ k q. method-agrees n k m q)
     where
       found : (c : Class) (o : Option Declaration)
-          → method-at Q (suc (suc n)) (plain-class (c .super)) m ≡ map-option (plain-form W) (method-at P n (c .super) m)
-          → given (map-option (plain-method W (suc i)) o) (method-at Q (suc (suc n)) (plain-class (c .super)) m)
+          → method-at Q (suc (suc n)) (plain-class (c .super)) m
+          ≡ map-option (plain-form W) (method-at P n (c .super) m)
+          → given (map-option (plain-method W (suc i)) o)
+          (method-at Q (suc (suc n)) (plain-class (c .super)) m)
           (λ d. some (method-of (suc (suc (suc i))) d))
           ≡ map-option (plain-form W) (given o (method-at P n (c .super) m) (λ d. some (method-of (suc i) d)))
       found c none h = h
       found c (some d) h = refl
 
       go : (o : Option Class) → class-at P (suc i) ≡ o
-          → ((k : ℕ) → k < n → method-at Q (suc (suc n)) (suc (suc k)) m ≡ map-option (plain-form W) (method-at P n k m))
-          → method-at Q (suc (suc (suc n))) (suc (suc (suc i))) m ≡ map-option (plain-form W) (method-at P (suc n) (suc i) m)
+          → ((k : ℕ) → k < n → method-at Q (suc (suc n)) (suc (suc k)) m ≡ map-option (plain-form W)
+          (method-at P n k m))
+          → method-at Q (suc (suc (suc n))) (suc (suc (suc i))) m
+          ≡ map-option (plain-form W) (method-at P (suc n) (suc i) m)
       go none e ih = rw (class-none i e, e)
       go (some c) e ih = let l = 𝓔 .super (suc i) c e in
           rw (class-some i c e, e, declared-plain W (suc i) (c .methods) m)
@@ -173,16 +184,23 @@ module _ (P : List Class) (𝓔 : Earlier P) where
     eqb·suc-zero (suc (suc d)),
   )
 
-  below-agrees : (n k d : ℕ) → k < n → k ≤ length P → below-at Q (suc (suc n)) (suc (suc k)) (suc (suc d)) ≡ below-at P n k d
+  below-agrees : (n k d : ℕ) → k < n → k ≤ length P
+      → below-at Q (suc (suc n)) (suc (suc k)) (suc (suc d)) ≡ below-at P n k d
   unfolding below-at
   below-agrees zero k d p q = absurd (omega arith)
   below-agrees (suc n) zero d p q = zero-below n d
   below-agrees (suc n) (suc i) d p q =
       let x = class-within i q in let c = x .0 in let l = 𝓔 .super (suc i) c (x .1) in
-      rw (class-some i c (x .1), x .1, below-agrees n (c .super) d (omega arith) (omega arith), two-eqb (suc i) d)
+      rw (
+        class-some i c (x .1),
+        x .1,
+        below-agrees n (c .super) d (omega arith) (omega arith),
+        two-eqb (suc i) d,
+      )
 
   -- Every class of the plain program is plain.
-  pub plain-kind : (k : ℕ) → (class-at Q k ≡ none) ⊎ ((c : Class) × (class-at Q k ≡ some c) × (c .kind ≡ plain))
+  pub plain-kind : (k : ℕ)
+      → (class-at Q k ≡ none) ⊎ ((c : Class) × (class-at Q k ≡ some c) × (c .kind ≡ plain))
   unfolding class-at nth
   plain-kind zero = inl refl
   plain-kind (suc zero) = inr (identity, refl, refl)
@@ -190,7 +208,8 @@ module _ (P : List Class) (𝓔 : Earlier P) where
   plain-kind (suc (suc (suc i))) = go (class-at P (suc i)) refl
     where
       go : (o : Option Class) → class-at P (suc i) ≡ o
-          → (class-at Q (suc (suc (suc i))) ≡ none) ⊎ ((c : Class) × (class-at Q (suc (suc (suc i))) ≡ some c) × (c .kind ≡ plain))
+          → (class-at Q (suc (suc (suc i))) ≡ none)
+          ⊎ ((c : Class) × (class-at Q (suc (suc (suc i))) ≡ some c) × (c .kind ≡ plain))
       go none e = inl (class-none i e)
       go (some c) e = inr (plain-one W (suc i) c, class-some i c e, refl)
 
@@ -212,14 +231,18 @@ module _ (P : List Class) (𝓔 : Earlier P) where
       → nearest-at Q (suc (suc n)) (suc (suc k)) (suc (suc d)) ≡ suc (suc (nearest-at P n k d))
   unfolding nearest-at
   nearest-agrees zero k d p q r = absurd (omega arith)
-  nearest-agrees (suc n) zero d p q r = rw (below-agrees (suc d) d zero (omega arith) r, below-top P (suc d) d)
+  nearest-agrees (suc n) zero d p q r =
+      rw (below-agrees (suc d) d zero (omega arith) r, below-top P (suc d) d)
   nearest-agrees (suc n) (suc i) d p q r =
       let x = class-within i q in let c = x .0 in let l = 𝓔 .super (suc i) c (x .1) in
       rw (below-agrees (suc d) d (suc i) (omega arith) r, class-some i c (x .1), x .1)
       (go (below-at P (suc d) d (suc i)) c (nearest-agrees n (c .super) d (omega arith) (omega arith) r))
     where
-      go : (b : Bool) (c : Class) → nearest-at Q (suc (suc n)) (suc (suc (c .super))) (suc (suc d)) ≡ suc (suc (nearest-at P n (c .super) d))
-          → choice b (λ _. suc (suc (suc i))) (λ _. nearest-at Q (suc (suc n)) (suc (suc (c .super))) (suc (suc d)))
+      go : (b : Bool) (c : Class)
+          → nearest-at Q (suc (suc n)) (suc (suc (c .super))) (suc (suc d))
+          ≡ suc (suc (nearest-at P n (c .super) d))
+          → choice b (λ _. suc (suc (suc i)))
+          (λ _. nearest-at Q (suc (suc n)) (suc (suc (c .super))) (suc (suc d)))
           ≡ suc (suc (choice b (λ _. suc i) (λ _. nearest-at P n (c .super) d)))
       go true c h = refl
       go false c h = h
@@ -240,7 +263,8 @@ module _ (P : List Class) (𝓔 : Earlier P) where
     below-identity = refl;
     root = λ c. root-itself c;
     changeable = λ c. never-changeable c;
-    nearest = λ c d i j. nearest-agrees (suc c) c d (omega arith) (leb-true c (length P) i) (leb-true d (length P) j);
+    nearest = λ c d i j.
+        nearest-agrees (suc c) c d (omega arith) (leb-true c (length P) i) (leb-true d (length P) j);
     nearest-same = λ c. nearest-itself c;
   }
 

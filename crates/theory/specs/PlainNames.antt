@@ -25,7 +25,8 @@ name-laws W m t = record {
   top = λ c. m .top c;
 }
 
-names-of : (most : Most) {fs : List Field} → Each (FieldInForm most) fs → Each (λ (f : Field). f .name ≤ most .name) fs
+names-of : (most : Most) {fs : List Field} → Each (FieldInForm most) fs
+    → Each (λ (f : Field). f .name ≤ most .name) fs
 names-of most each-nil = each-nil
 names-of most (each-cons i is) = each-cons (i .name) (names-of most is)
 
@@ -39,17 +40,20 @@ names-small most P form (suc n) k = go (class-at P k) refl (λ j. names-small mo
     class-form : (k : ℕ) (c : Class) → class-at P k ≡ some c → ClassInForm most c
     class-form k c e = of-class P form k c e
       where
-        of-class : (P : List Class) → Each (ClassInForm most) P → (k : ℕ) (c : Class) → class-at P k ≡ some c → ClassInForm most c
+        of-class : (P : List Class) → Each (ClassInForm most) P → (k : ℕ) (c : Class) → class-at P k ≡ some c
+            → ClassInForm most c
         of-class P form zero c e = absurd (Never e)
         of-class P form (suc i) c e = each-at form i c e
 
-    go : (o : Option Class) → class-at P k ≡ o → ((j : ℕ) → Each (λ (f : Field). f .name ≤ most .name) (fields-at P n j))
+    go : (o : Option Class) → class-at P k ≡ o
+        → ((j : ℕ) → Each (λ (f : Field). f .name ≤ most .name) (fields-at P n j))
         → Each (λ (f : Field). f .name ≤ most .name) (given o [] (λ c. fields-at P n (c .super) ++ c .fields))
     go none e ih = each-nil
     go (some c) e ih = each-append (ih (c .super)) (names-of most (class-form k c e .fields))
 
 -- A program that the translator takes is small.
-pub small-world : (p : Program) → ProgramInForm of-translator p → TranslatorLaws (world (p .classes)) → Small (world (p .classes))
+pub small-world : (p : Program) → ProgramInForm of-translator p → TranslatorLaws (world (p .classes))
+    → Small (world (p .classes))
 unfolding world
 small-world p i t = record {
   classes = i .few;

@@ -16,7 +16,8 @@ use Rattle.theory.specs.PlainWorld.{plain-nearest, plain-world, IsPlain}
 pub record PlainOf (W W′ : World) : Type 0 where
   pub count : W′ .count ≡ plain-class (W .count)
   pub identity-fields : W′ .fields identity-class ≡ imp-of-identity ∷ []
-  pub fields : (c : ℕ) → is-declared W c ≡ true → W′ .fields (plain-class c) ≡ id-of-implementor ∷ map plain-field (W .fields c)
+  pub fields : (c : ℕ) → is-declared W c ≡ true
+      → W′ .fields (plain-class c) ≡ id-of-implementor ∷ map plain-field (W .fields c)
   pub method : (c m : ℕ) → W′ .method (plain-class c) m ≡ map-option (plain-form W) (W .method c m)
   pub below : (c d : ℕ) → is-declared W c ≡ true → W′ .below (plain-class c) (plain-class d) ≡ W .below c d
   pub below-identity : W′ .below identity-class identity-class ≡ true

@@ -11,14 +11,18 @@ use Rattle.language.specs.Lists.{nth, map-option, nth-map}
 use Rattle.language.specs.Frames.{Frame, frame, at-slot, opened, closed}
 use Rattle.language.specs.Tree.{DeclaredType, bool, class, ExprType, known, null-type, Expr, literal-true}
 use Rattle.language.specs.Tree.{literal-false, literal-null}
-use Rattle.language.specs.Tree.{slot, is-null, get, cast, new, assign, set, call, choose, block, Exprs, nil, cons}
+use Rattle.language.specs.Tree.{slot, is-null, get, cast, new, assign, set, call, choose, block, Exprs, nil}
+use Rattle.language.specs.Tree.{cons}
 use Rattle.language.specs.World.{Method, World, field-type, is-declared}
 use Rattle.language.specs.Effects.{no-effect, join, apply-class, apply, apply-expr}
-use Rattle.language.specs.Typing.{Slot, Environment, fresh-slot, not-bool, last-type, fits, all-fit, join-types, join-currents}
+use Rattle.language.specs.Typing.{Slot, Environment, fresh-slot, not-bool, last-type, fits, all-fit}
+use Rattle.language.specs.Typing.{join-types, join-currents}
 use Rattle.language.specs.Typing.{join-slot, join-slots, join-this, join-environments, apply-slot, apply-all}
-use Rattle.language.specs.Rules.{Declared, HasType, HaveTypes, type-true, type-false, type-null, type-slot, type-new}
+use Rattle.language.specs.Rules.{Declared, HasType, HaveTypes, type-true, type-false, type-null, type-slot}
+use Rattle.language.specs.Rules.{type-new}
 use Rattle.language.specs.Rules.{type-cast, type-get}
-use Rattle.language.specs.Rules.{type-set, type-assign, type-is-null, type-call, type-choose, type-block, types-nil, types-cons}
+use Rattle.language.specs.Rules.{type-set, type-assign, type-is-null, type-call, type-choose, type-block}
+use Rattle.language.specs.Rules.{types-nil, types-cons}
 use Rattle.theory.specs.Sound.{has-none}
 
 -- Slots that have the types they were declared with.
@@ -31,24 +35,29 @@ module _ (W : World) where
       plain-true : {δ : Frame DeclaredType} → Plain δ literal-true (known bool)
       plain-false : {δ : Frame DeclaredType} → Plain δ literal-false (known bool)
       plain-null : {δ : Frame DeclaredType} → Plain δ literal-null null-type
-      plain-slot : {δ : Frame DeclaredType} {k : ℕ} {u : DeclaredType} → at-slot δ k ≡ some u → Plain δ (slot k) (known u)
-      plain-new : {δ : Frame DeclaredType} {c : ℕ} → is-declared W c ≡ true → Plain δ (new c) (known (class c))
+      plain-slot : {δ : Frame DeclaredType} {k : ℕ} {u : DeclaredType} → at-slot δ k ≡ some u
+          → Plain δ (slot k) (known u)
+      plain-new : {δ : Frame DeclaredType} {c : ℕ} → is-declared W c ≡ true
+          → Plain δ (new c) (known (class c))
       plain-cast : {δ : Frame DeclaredType} {c : ℕ} {e : Expr} {t : ExprType}
           → Plain δ e t → is-declared W c ≡ true → not-bool t ≡ true → Plain δ (cast c e) (known (class c))
       plain-get : {δ : Frame DeclaredType} {f c : ℕ} {e : Expr} {u : DeclaredType}
           → Plain δ e (known (class c)) → field-type f (W .fields c) ≡ some u → Plain δ (get f e) (known u)
       plain-set : {δ : Frame DeclaredType} {f c : ℕ} {e e′ : Expr} {t : ExprType} {u : DeclaredType}
-          → Plain δ e (known (class c)) → Plain δ e′ t → field-type f (W .fields c) ≡ some u → fits W t u ≡ true
+          → Plain δ e (known (class c)) → Plain δ e′ t → field-type f (W .fields c) ≡ some u
+          → fits W t u ≡ true
           → Plain δ (set f e e′) t
       plain-assign : {δ : Frame DeclaredType} {k : ℕ} {e : Expr} {t : ExprType} {u : DeclaredType}
           → Plain δ e t → nth (δ .slots) k ≡ some u → fits W t u ≡ true → Plain δ (assign (suc k) e) t
       plain-is-null : {δ : Frame DeclaredType} {e : Expr} {t : ExprType}
           → Plain δ e t → not-bool t ≡ true → Plain δ (is-null e) (known bool)
-      plain-call : {δ : Frame DeclaredType} {m c : ℕ} {e : Expr} {es : Exprs} {ts : List ExprType} (M : Method)
+      plain-call : {δ : Frame DeclaredType} {m c : ℕ} {e : Expr} {es : Exprs} {ts : List ExprType}
+          (M : Method)
           → Plain δ e (known (class c)) → Plains δ es ts → W .method c m ≡ some M → M .effect ≡ no-effect
           → all-fit W ts (M .parameters) ≡ true → Plain δ (call m e es) (known (M .result))
       plain-choose : {δ : Frame DeclaredType} {e x y : Expr} {t u v : ExprType}
-          → Plain δ e (known bool) → Plain δ x t → Plain δ y u → join-types W t u ≡ some v → Plain δ (choose e x y) v
+          → Plain δ e (known bool) → Plain δ x t → Plain δ y u → join-types W t u ≡ some v
+          → Plain δ (choose e x y) v
       plain-block : {δ : Frame DeclaredType} {ts : List DeclaredType} {us : List ExprType} {es : Exprs}
           → Declared W ts → Plains (opened δ ts) es us → Plain δ (block ts es) (last-type null-type us)
 
@@ -82,7 +91,8 @@ module _ (W : World) where
   this-kept (some s) = ap (λ (x : Slot). some x) (slot-kept s)
 
   all-kept : (γ : Environment) → apply-all W no-effect γ ≡ γ
-  all-kept γ = ap₂ (λ (o : Option Slot) (ss : List Slot). frame o ss) (this-kept (γ .this)) (slots-kept (γ .slots))
+  all-kept γ = ap₂ (λ (o : Option Slot) (ss : List Slot). frame o ss) (this-kept (γ .this))
+      (slots-kept (γ .slots))
 
   join-none : join no-effect no-effect ≡ no-effect
   unfolding join
@@ -93,8 +103,10 @@ module _ (W : World) where
   at-fresh δ zero u e = ap (map-option fresh-slot) e
   at-fresh δ (suc k) u e = nth-map fresh-slot k (δ .slots) u e
 
-  fresh-opened : (δ : Frame DeclaredType) (ts : List DeclaredType) → fresh (opened δ ts) ≡ opened (fresh δ) (map fresh-slot ts)
-  fresh-opened δ ts = ap (λ (ss : List Slot). frame (map-option fresh-slot (δ .this)) ss) (map-append fresh-slot (δ .slots) ts)
+  fresh-opened : (δ : Frame DeclaredType) (ts : List DeclaredType)
+      → fresh (opened δ ts) ≡ opened (fresh δ) (map fresh-slot ts)
+  fresh-opened δ ts = ap (λ (ss : List Slot). frame (map-option fresh-slot (δ .this)) ss)
+      (map-append fresh-slot (δ .slots) ts)
 
   fresh-closed : (δ : Frame DeclaredType) (ts : List DeclaredType)
       → closed (length (map fresh-slot (δ .slots))) (opened (fresh δ) (map fresh-slot ts)) ≡ fresh δ
@@ -120,7 +132,8 @@ module _ (W : World) where
     this-joined (some s) = ap (λ (x : Slot). some x) (slot-joined s)
 
     all-joined : (γ : Environment) → join-environments W γ γ ≡ γ
-    all-joined γ = ap₂ (λ (o : Option Slot) (ss : List Slot). frame o ss) (this-joined (γ .this)) (slots-joined (γ .slots))
+    all-joined γ = ap₂ (λ (o : Option Slot) (ss : List Slot). frame o ss) (this-joined (γ .this))
+        (slots-joined (γ .slots))
 
     -- A plain expression has its type by the typing rules; its slots stay and its effect is none.
     mutual
@@ -134,14 +147,16 @@ module _ (W : World) where
       plain-has (cast c e) (plain-cast d i n) = type-cast (plain-has e d) i n
       plain-has (get f e) (plain-get d i) = type-get (plain-has e d) i
       plain-has (set f e e′) (plain-set {c} d d′ i j) = rw join-none at
-          (type-set (plain-has e d) (plain-has e′ d′) (ap (λ (x : ℕ). field-type f (W .fields x)) (class-kept c) ∙ i) j)
+          (type-set (plain-has e d) (plain-has e′ d′)
+          (ap (λ (x : ℕ). field-type f (W .fields x)) (class-kept c) ∙ i) j)
       plain-has (assign (suc k) e) {δ} (plain-assign {u} d i j)
           = type-assign (plain-has e d) (nth-map fresh-slot k (δ .slots) u i) j
       plain-has (is-null e) (plain-is-null d n) = type-is-null (plain-has e d) n
       plain-has (call m e es) {δ} (plain-call {c} M d d′ i z j) =
           let h : HasType W (fresh δ) (call m e es) (known (M .result)) (apply-all W (M .effect) (fresh δ))
           (join (join no-effect no-effect) (M .effect))
-          = type-call M (plain-has e d) (plains-have es d′) (ap (λ (x : ℕ). W .method x m) (class-kept c) ∙ i) j in
+          = type-call M (plain-has e d) (plains-have es d′) (ap (λ (x : ℕ). W .method x m) (class-kept c) ∙ i)
+          j in
           let g : HasType W (fresh δ) (call m e es) (known (M .result)) (apply-all W no-effect (fresh δ))
           (join (join no-effect no-effect) no-effect)
           = rw z at h in
@@ -151,14 +166,17 @@ module _ (W : World) where
           subst (λ γ. HasType W (fresh δ) (choose e x y) v γ no-effect) (all-joined (fresh δ))
           (rw (join-none, join-none) at (type-choose (plain-has e d) (plain-has x d′) (plain-has y d″) j))
       plain-has (block ts es) {δ} (plain-block {us} l d) =
-          let h : HaveTypes W (opened (fresh δ) (map fresh-slot ts)) es us (opened (fresh δ) (map fresh-slot ts)) no-effect
+          let h : HaveTypes W (opened (fresh δ) (map fresh-slot ts)) es us
+          (opened (fresh δ) (map fresh-slot ts)) no-effect
           = rw (fresh-opened δ ts) at (plains-have es d) in
-          subst (λ γ. HasType W (fresh δ) (block ts es) (last-type null-type us) γ no-effect) (fresh-closed δ ts) (type-block l h)
+          subst (λ γ. HasType W (fresh δ) (block ts es) (last-type null-type us) γ no-effect)
+          (fresh-closed δ ts) (type-block l h)
 
       pub plains-have : (es : Exprs) {δ : Frame DeclaredType} {ts : List ExprType} → Plains δ es ts
           → HaveTypes W (fresh δ) es ts (fresh δ) no-effect
       plains-have nil plains-nil = types-nil
       plains-have (cons e es) {δ} (plains-cons {t} {ts} d d′) =
-          let h : HaveTypes W (fresh δ) (cons e es) (apply-expr W no-effect t ∷ ts) (fresh δ) (join no-effect no-effect)
+          let h : HaveTypes W (fresh δ) (cons e es) (apply-expr W no-effect t ∷ ts) (fresh δ)
+          (join no-effect no-effect)
           = types-cons (plain-has e d) (plains-have es d′) in
           rw (expr-kept t, join-none) at h

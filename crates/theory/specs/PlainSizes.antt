@@ -9,33 +9,45 @@ use native.Mathlib.Omega.{arith}
 use Rattle.language.specs.Limits.{of-translator}
 use Rattle.language.specs.Tree.{DeclaredType, ExprType, Expr, literal-true, literal-false, literal-null}
 use Rattle.language.specs.Tree.{slot, is-null, get, cast, new}
-use Rattle.language.specs.Tree.{change, assign, set, call, choose, block, Exprs, nil, cons, count, size, sizes}
-use Rattle.language.specs.Tree.{Field, Declaration, Class, Program, heading-lines, method-lines, methods-lines}
+use Rattle.language.specs.Tree.{change, assign, set, call, choose, block, Exprs, nil, cons, count, size}
+use Rattle.language.specs.Tree.{sizes}
+use Rattle.language.specs.Tree.{Field, Declaration, Class, Program, heading-lines, method-lines}
+use Rattle.language.specs.Tree.{methods-lines}
 use Rattle.language.specs.Tree.{class-lines, classes-lines}
 use Rattle.language.specs.Tree.{flatten-program}
 use Rattle.language.specs.World.{Method, World}
 use Rattle.language.specs.Program.{world}
 use Rattle.language.specs.Typing.{Environment}
-use Rattle.language.specs.Rules.{HasType, HaveTypes, type-true, type-false, type-null, type-slot, type-new, type-cast}
+use Rattle.language.specs.Rules.{HasType, HaveTypes, type-true, type-false, type-null, type-slot, type-new}
+use Rattle.language.specs.Rules.{type-cast}
 use Rattle.language.specs.Rules.{type-get, type-set}
 use Rattle.language.specs.Rules.{type-assign, type-is-null, type-call, type-choose, type-block, type-change}
 use Rattle.language.specs.Rules.{types-nil, types-cons}
 use Rattle.language.specs.WellFormed.{Each, MethodsWell, methods-nil, methods-cons}
 use Rattle.language.specs.WellFormed.{ClassesWell, classes-nil, classes-cons, ProgramWell}
-use Rattle.language.specs.Translation.{Shape, read-slot, _⊕_, reads, copies, plain-change, translate, translate-all}
+use Rattle.language.specs.Translation.{Shape, read-slot, _⊕_, reads, copies, plain-change, translate}
+use Rattle.language.specs.Translation.{translate-all}
 use Rattle.language.specs.Translation.{translate-arguments}
-use Rattle.language.specs.Translation.{plain-type, plain-field, variables, temporaries, plain-method, plain-classes}
+use Rattle.language.specs.Translation.{plain-type, plain-field, variables, temporaries, plain-method}
+use Rattle.language.specs.Translation.{plain-classes}
 use Rattle.language.specs.Translation.{plain-program}
 use Rattle.theory.specs.Equal.{all-fit-length}
 use Rattle.theory.specs.TreeRows.{length-program}
-use Rattle.theory.specs.TranslationEquations.{plain-true as translate-true, plain-false as translate-false}
-use Rattle.theory.specs.TranslationEquations.{plain-null as translate-null, plain-read as translate-slot}
-use Rattle.theory.specs.TranslationEquations.{plain-is-null as translate-is-null, plain-get as translate-get}
-use Rattle.theory.specs.TranslationEquations.{plain-cast-is as translate-cast, plain-new-is as translate-new}
+use Rattle.theory.specs.TranslationEquations.{plain-true as translate-true}
+use Rattle.theory.specs.TranslationEquations.{plain-false as translate-false}
+use Rattle.theory.specs.TranslationEquations.{plain-null as translate-null}
+use Rattle.theory.specs.TranslationEquations.{plain-read as translate-slot}
+use Rattle.theory.specs.TranslationEquations.{plain-is-null as translate-is-null}
+use Rattle.theory.specs.TranslationEquations.{plain-get as translate-get}
+use Rattle.theory.specs.TranslationEquations.{plain-cast-is as translate-cast}
+use Rattle.theory.specs.TranslationEquations.{plain-new-is as translate-new}
 use Rattle.theory.specs.TranslationEquations.{plain-change-is as translate-change}
-use Rattle.theory.specs.TranslationEquations.{plain-assign as translate-assign, plain-set as translate-set}
-use Rattle.theory.specs.TranslationEquations.{plain-call as translate-call, plain-choose as translate-choose}
-use Rattle.theory.specs.TranslationEquations.{plain-block as translate-block, plain-nil as translate-all-nil}
+use Rattle.theory.specs.TranslationEquations.{plain-assign as translate-assign}
+use Rattle.theory.specs.TranslationEquations.{plain-set as translate-set}
+use Rattle.theory.specs.TranslationEquations.{plain-call as translate-call}
+use Rattle.theory.specs.TranslationEquations.{plain-choose as translate-choose}
+use Rattle.theory.specs.TranslationEquations.{plain-block as translate-block}
+use Rattle.theory.specs.TranslationEquations.{plain-nil as translate-all-nil}
 use Rattle.theory.specs.TranslationEquations.{plain-cons as translate-all-cons}
 use Rattle.theory.specs.TranslationEquations.{plain-no-arguments as translate-arguments-nil}
 use Rattle.theory.specs.TranslationEquations.{plain-arguments as translate-arguments-cons}
@@ -45,7 +57,8 @@ pub record Small (W : World) : Type 0 where
   pub classes : W .count ≤ of-translator .classes
   pub fields : (c : ℕ) → length (W .fields c) ≤ of-translator .fields
   pub names : (c : ℕ) → Each (λ (f : Field). f .name ≤ of-translator .name) (W .fields c)
-  pub parameters : (c m : ℕ) (M : Method) → W .method c m ≡ some M → length (M .parameters) ≤ of-translator .parameters
+  pub parameters : (c m : ℕ) (M : Method) → W .method c m ≡ some M
+      → length (M .parameters) ≤ of-translator .parameters
 
 -- Sizes of the pieces that the translation is made of.
 sizes-append : (es rs : Exprs) → sizes (es ⊕ rs) ≡ sizes es + sizes rs
@@ -94,24 +107,32 @@ module _ (W : World) (𝓢 : Small W) where
     unfolding size
 
     -- A typed expression's plain form has at most 88 rows for each of its rows.
-    pub translated-size : (e : Expr) {γ γ′ : Environment} {t : ExprType} {φ : ℕ} → HasType W γ e t γ′ φ → (sh : Shape)
+    pub translated-size : (e : Expr) {γ γ′ : Environment} {t : ExprType} {φ : ℕ} → HasType W γ e t γ′ φ
+        → (sh : Shape)
         → size (translate W e γ sh) ≤ 88 * size e
     translated-size literal-true {γ} type-true sh = rw (translate-true W γ sh) (omega arith)
     translated-size literal-false {γ} type-false sh = rw (translate-false W γ sh) (omega arith)
     translated-size literal-null {γ} type-null sh = rw (translate-null W γ sh) (omega arith)
-    translated-size (slot k) {γ} (type-slot e) sh = rw (translate-slot W k γ sh) (omega (arith, size-read sh k))
+    translated-size (slot k) {γ} (type-slot e) sh =
+        rw (translate-slot W k γ sh) (omega (arith, size-read sh k))
     translated-size (is-null e) {γ} (type-is-null d n) sh
         = rw (translate-is-null W e γ sh) (omega (arith, translated-size e d sh))
-    translated-size (get f e) (type-get d i) sh = rw (translate-get W f sh d) (omega (arith, translated-size e d sh))
+    translated-size (get f e) (type-get d i) sh =
+        rw (translate-get W f sh d) (omega (arith, translated-size e d sh))
     translated-size (cast c e) {γ} (type-cast d i n) sh =
         rw (translate-cast W c e γ sh) (omega (arith, translated-size e d (sh ++ (false ∷ []))))
     translated-size (new c) {γ} (type-new i) sh = rw (translate-new W c γ sh (length sh) refl) (omega arith)
     translated-size (change k c) {γ} (type-change i e h f) sh
-        = rw (translate-change W k c γ sh (length sh) refl) (omega (arith, size-change (suc (length sh)) sh k c))
+        = rw (translate-change W k c γ sh (length sh) refl)
+        (omega (arith, size-change (suc (length sh)) sh k c))
     translated-size (assign (suc k) e) {γ} (type-assign d i f) sh
         = rw (translate-assign W (suc k) e γ sh) (omega (arith, translated-size e d sh))
     translated-size (set f e e′) (type-set d d′ i j) sh = rw (translate-set W f sh d d′ i)
-        (omega (arith, translated-size e d (sh ++ (false ∷ false ∷ [])), translated-size e′ d′ (sh ++ (false ∷ false ∷ []))))
+        (omega (
+          arith,
+          translated-size e d (sh ++ (false ∷ false ∷ [])),
+          translated-size e′ d′ (sh ++ (false ∷ false ∷ [])),
+        ))
     translated-size (call m e es) {γ} (type-call {γ₁} {c} {ts} {φ₂} M d d′ i j) sh =
         let ps = M .parameters in let sh′ = sh ++ (false ∷ temporaries ps) in let n = suc (suc (length sh)) in
         rw (
@@ -129,11 +150,14 @@ module _ (W : World) (𝓢 : Small W) where
           length-map ps plain-type,
         ))
     translated-size (choose e x y) (type-choose d d′ d″ j) sh =
-        rw (translate-choose W x y sh d) (omega (arith, translated-size e d sh, translated-size x d′ sh, translated-size y d″ sh))
+        rw (translate-choose W x y sh d)
+        (omega (arith, translated-size e d sh, translated-size x d′ sh, translated-size y d″ sh))
     translated-size (block ts es) {γ} (type-block l d) sh =
-        rw (translate-block W ts es γ sh) (omega (arith, length-map ts plain-type, all-size es d (sh ++ variables ts)))
+        rw (translate-block W ts es γ sh)
+        (omega (arith, length-map ts plain-type, all-size es d (sh ++ variables ts)))
 
-    all-size : (es : Exprs) {γ γ′ : Environment} {ts : List ExprType} {φ : ℕ} → HaveTypes W γ es ts γ′ φ → (sh : Shape)
+    all-size : (es : Exprs) {γ γ′ : Environment} {ts : List ExprType} {φ : ℕ} → HaveTypes W γ es ts γ′ φ
+        → (sh : Shape)
         → sizes (translate-all W es γ sh) ≤ 88 * sizes es
     all-size nil {γ} types-nil sh = rw (translate-all-nil W γ sh) (omega arith)
     all-size (cons e es) (types-cons d d′) sh
@@ -145,7 +169,8 @@ module _ (W : World) (𝓢 : Small W) where
         → sizes (translate-arguments W es γ sh n) ≤ 88 * sizes es + length ts
     arguments-size nil {γ} types-nil sh n = rw (translate-arguments-nil W γ sh n) (omega arith)
     arguments-size (cons e es) (types-cons d d′) sh n =
-        rw (translate-arguments-cons W es sh n d) (omega (arith, translated-size e d sh, arguments-size es d′ sh (suc n)))
+        rw (translate-arguments-cons W es sh n d)
+        (omega (arith, translated-size e d sh, arguments-size es d′ sh (suc n)))
 
 module _ (P : List Class) (𝓢 : Small (world P)) where
   methods-size : (k super : ℕ) {before ms : List Declaration} → MethodsWell P k super before ms

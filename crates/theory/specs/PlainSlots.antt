@@ -12,9 +12,12 @@ use Rattle.language.specs.Frames.{Frame, frame, at-slot, opened, closed}
 use Rattle.language.specs.Tree.{DeclaredType, bool, class, ExprType, known, null-type}
 use Rattle.language.specs.World.{World, is-declared}
 use Rattle.language.specs.Effects.{effect-of, apply, apply-expr, apply-class}
-use Rattle.language.specs.Typing.{Slot, Environment, fresh-slot, with-type, not-bool, last-type, fits, join-currents, join-slot}
-use Rattle.language.specs.Typing.{join-slots, join-this, join-environments, apply-slot, apply-all, after-change}
-use Rattle.language.specs.Translation.{plain-class, plain-type, Shape, variables, temporaries, position, plain-slot}
+use Rattle.language.specs.Typing.{Slot, Environment, fresh-slot, with-type, not-bool, last-type, fits}
+use Rattle.language.specs.Typing.{join-currents, join-slot}
+use Rattle.language.specs.Typing.{join-slots, join-this, join-environments, apply-slot, apply-all}
+use Rattle.language.specs.Typing.{after-change}
+use Rattle.language.specs.Translation.{plain-class, plain-type, Shape, variables, temporaries, position}
+use Rattle.language.specs.Translation.{plain-slot}
 use Rattle.theory.specs.Sound.{false≢}
 
 -- Where a source slot other than `this` stands.
@@ -95,29 +98,35 @@ module _ (W : World) where
   slots-apply φ (match-variable {s} v r) = match-variable (plain-apply φ (s .current) ∙ v) (slots-apply φ r)
   slots-apply φ (match-temporary r) = match-temporary (slots-apply φ r)
 
-  this-apply : (φ : ℕ) {o : Option Slot} {p : Option DeclaredType} → ThisMatch o p → ThisMatch (map-option (apply-slot W φ) o) p
+  this-apply : (φ : ℕ) {o : Option Slot} {p : Option DeclaredType} → ThisMatch o p
+      → ThisMatch (map-option (apply-slot W φ) o) p
   this-apply φ no-this = no-this
   this-apply φ (a-this e i) = a-this (ap (apply W φ) e) i
 
-  pub all-apply : (φ : ℕ) {sh : Shape} {γ : Environment} {δ : Frame DeclaredType} → Match sh γ δ → Match sh (apply-all W φ γ) δ
+  pub all-apply : (φ : ℕ) {sh : Shape} {γ : Environment} {δ : Frame DeclaredType} → Match sh γ δ
+      → Match sh (apply-all W φ γ) δ
   all-apply φ m = record { this = this-apply φ (m .this); slots = slots-apply φ (m .slots) }
 
   -- A slot of one class put in the place of one of another.
-  slots-set : {sh : Shape} {Γ : List Slot} {Δ : List DeclaredType} → SlotsMatch sh Γ Δ → (k : ℕ) (s s′ : Slot) (c d : ℕ)
+  slots-set : {sh : Shape} {Γ : List Slot} {Δ : List DeclaredType} → SlotsMatch sh Γ Δ
+      → (k : ℕ) (s s′ : Slot) (c d : ℕ)
       → nth Γ k ≡ some s → s .current ≡ class c → s′ .current ≡ class d → SlotsMatch sh (replace Γ k s′) Δ
   unfolding nth
   slots-set match-nil k s s′ c d e p q = match-nil
   slots-set (match-variable v r) zero s s′ c d e p q =
-      match-variable (ap plain-type q ∙ (sym (ap plain-type p) ∙ (ap (λ (x : Slot). plain-type (x .current)) (sym (inj e)) ∙ v))) r
+      match-variable (ap plain-type q ∙ (sym (ap plain-type p) ∙
+      (ap (λ (x : Slot). plain-type (x .current)) (sym (inj e)) ∙ v))) r
   slots-set (match-variable v r) (suc k) s s′ c d e p q = match-variable v (slots-set r k s s′ c d e p q)
   slots-set (match-temporary r) k s s′ c d e p q = match-temporary (slots-set r k s s′ c d e p q)
 
-  this-set : {o : Option Slot} {p : Option DeclaredType} (s′ : Slot) (d : ℕ) → ThisMatch o p → s′ .current ≡ class d
+  this-set : {o : Option Slot} {p : Option DeclaredType} (s′ : Slot) (d : ℕ) → ThisMatch o p
+      → s′ .current ≡ class d
       → ThisMatch (map-option (λ b. s′) o) p
   this-set s′ d no-this q = no-this
   this-set s′ d (a-this e i) q = a-this q i
 
-  pub match-change : {sh : Shape} {γ : Environment} {δ : Frame DeclaredType} → Match sh γ δ → (k c d : ℕ) (s : Slot)
+  pub match-change : {sh : Shape} {γ : Environment} {δ : Frame DeclaredType} → Match sh γ δ
+      → (k c d : ℕ) (s : Slot)
       → at-slot γ k ≡ some s → s .current ≡ class c → Match sh (after-change W γ k s d) δ
   match-change m zero c d s e p = let a = all-apply (effect-of (W .root d)) m in
       record { this = this-set (with-type (class d) s) d (a .this) refl; slots = a .slots }
@@ -134,7 +143,8 @@ module _ (W : World) where
   plain-join (class c) bool = refl
   plain-join (class c) (class d) = refl
 
-  slots-join : {sh : Shape} {Γ Γ′ : List Slot} {Δ : List DeclaredType} → SlotsMatch sh Γ Δ → SlotsMatch sh Γ′ Δ
+  slots-join : {sh : Shape} {Γ Γ′ : List Slot} {Δ : List DeclaredType} → SlotsMatch sh Γ Δ
+      → SlotsMatch sh Γ′ Δ
       → SlotsMatch sh (join-slots W Γ Γ′) Δ
   unfolding join-slots
   slots-join match-nil match-nil = match-nil
@@ -142,23 +152,30 @@ module _ (W : World) where
       match-variable (plain-join (s .current) (s′ .current) ∙ v) (slots-join r r′)
   slots-join (match-temporary r) (match-temporary r′) = match-temporary (slots-join r r′)
 
-  this-join : {o o′ : Option Slot} {p : Option DeclaredType} → ThisMatch o p → ThisMatch o′ p → ThisMatch (join-this W o o′) p
+  this-join : {o o′ : Option Slot} {p : Option DeclaredType} → ThisMatch o p → ThisMatch o′ p
+      → ThisMatch (join-this W o o′) p
   this-join no-this no-this = no-this
   this-join (a-this {s} {c} e i) (a-this {s = s′} {c = c′} e′ i′)
       = a-this {s = join-slot W s s′} {c = W .nearest c c′} (rw (e, e′)) i
 
   pub match-join : {sh : Shape} {γ γ′ : Environment} {δ : Frame DeclaredType} → Match sh γ δ → Match sh γ′ δ
       → Match sh (join-environments W γ γ′) δ
-  match-join m m′ = record { this = this-join (m .this) (m′ .this); slots = slots-join (m .slots) (m′ .slots) }
+  match-join m m′ = record {
+    this = this-join (m .this) (m′ .this);
+    slots = slots-join (m .slots)
+        (m′ .slots);
+  }
 
   -- Slots in scope: more come, and go.
-  slots-append : {sh sh₂ : Shape} {Γ Γ₂ : List Slot} {Δ Δ₂ : List DeclaredType} → SlotsMatch sh Γ Δ → SlotsMatch sh₂ Γ₂ Δ₂
+  slots-append : {sh sh₂ : Shape} {Γ Γ₂ : List Slot} {Δ Δ₂ : List DeclaredType} → SlotsMatch sh Γ Δ
+      → SlotsMatch sh₂ Γ₂ Δ₂
       → SlotsMatch (sh ++ sh₂) (Γ ++ Γ₂) (Δ ++ Δ₂)
   slots-append match-nil q = q
   slots-append (match-variable v r) q = match-variable v (slots-append r q)
   slots-append (match-temporary r) q = match-temporary (slots-append r q)
 
-  slots-more : {sh sh₂ : Shape} {Γ : List Slot} {Δ Δ₂ : List DeclaredType} → SlotsMatch sh Γ Δ → SlotsMatch sh₂ [] Δ₂
+  slots-more : {sh sh₂ : Shape} {Γ : List Slot} {Δ Δ₂ : List DeclaredType} → SlotsMatch sh Γ Δ
+      → SlotsMatch sh₂ [] Δ₂
       → SlotsMatch (sh ++ sh₂) Γ (Δ ++ Δ₂)
   slots-more match-nil q = q
   slots-more (match-variable v r) q = match-variable v (slots-more r q)
@@ -180,17 +197,20 @@ module _ (W : World) where
   pub start-match : Match [] (frame none []) (frame none [])
   start-match = record { this = no-this; slots = match-nil }
 
-  pub match-opened : {sh : Shape} {γ : Environment} {δ : Frame DeclaredType} (ts : List DeclaredType) → Match sh γ δ
+  pub match-opened : {sh : Shape} {γ : Environment} {δ : Frame DeclaredType} (ts : List DeclaredType)
+      → Match sh γ δ
       → Match (sh ++ variables ts) (opened γ (map fresh-slot ts)) (opened δ (map plain-type ts))
   match-opened ts m = record { this = m .this; slots = slots-append (m .slots) (fresh-match ts) }
 
-  slots-closed : {sh : Shape} (sh₂ : Shape) {Γ Γ₀ : List Slot} {Δ : List DeclaredType} (Δ₂ : List DeclaredType)
+  slots-closed : {sh : Shape} (sh₂ : Shape) {Γ Γ₀ : List Slot} {Δ : List DeclaredType}
+      (Δ₂ : List DeclaredType)
       → SlotsMatch sh Γ₀ Δ → SlotsMatch (sh ++ sh₂) Γ (Δ ++ Δ₂) → SlotsMatch sh (take (length Γ₀) Γ) Δ
   slots-closed sh₂ Δ₂ match-nil q = match-nil
   slots-closed sh₂ Δ₂ (match-variable v r) (match-variable v′ q) = match-variable v′ (slots-closed sh₂ Δ₂ r q)
   slots-closed sh₂ Δ₂ (match-temporary r) (match-temporary q) = match-temporary (slots-closed sh₂ Δ₂ r q)
 
-  pub match-closed : {sh : Shape} (sh₂ : Shape) {γ γ₀ : Environment} {δ : Frame DeclaredType} (Δ₂ : List DeclaredType)
+  pub match-closed : {sh : Shape} (sh₂ : Shape) {γ γ₀ : Environment} {δ : Frame DeclaredType}
+      (Δ₂ : List DeclaredType)
       → Match sh γ₀ δ → Match (sh ++ sh₂) γ (opened δ Δ₂) → Match sh (closed (length (γ₀ .slots)) γ) δ
   match-closed sh₂ Δ₂ m q = record { this = q .this; slots = slots-closed sh₂ Δ₂ (m .slots) (q .slots) }
 
@@ -205,7 +225,8 @@ module _ (W : World) where
       go : (Γ : List Slot) → SlotsMatch [] Γ [] → Γ ≡ []
       go Γ match-nil = refl
 
-  pub a-temporary : {sh : Shape} {Δ : List DeclaredType} (u : DeclaredType) → Temporary sh Δ → Temporary (false ∷ sh) (u ∷ Δ)
+  pub a-temporary : {sh : Shape} {Δ : List DeclaredType} (u : DeclaredType) → Temporary sh Δ
+      → Temporary (false ∷ sh) (u ∷ Δ)
   a-temporary {sh} {Δ} u t = record { given = match-temporary (t .given); alone = go }
     where
       go : (Γ : List Slot) → SlotsMatch (false ∷ sh) Γ (u ∷ Δ) → Γ ≡ []
@@ -215,7 +236,8 @@ module _ (W : World) where
   typed-temporaries [] = no-temporary
   typed-temporaries (t ∷ ts) = a-temporary (plain-type t) (typed-temporaries ts)
 
-  pub match-more : {sh sh₂ : Shape} {γ : Environment} {δ : Frame DeclaredType} {Δ₂ : List DeclaredType} → Match sh γ δ
+  pub match-more : {sh sh₂ : Shape} {γ : Environment} {δ : Frame DeclaredType} {Δ₂ : List DeclaredType}
+      → Match sh γ δ
       → Temporary sh₂ Δ₂ → Match (sh ++ sh₂) γ (opened δ Δ₂)
   match-more m t = record { this = m .this; slots = slots-more (m .slots) (t .given) }
 
@@ -225,12 +247,14 @@ module _ (W : World) where
   slots-fewer t (match-variable v r) (match-variable v′ q) = match-variable v′ (slots-fewer t r q)
   slots-fewer t (match-temporary r) (match-temporary q) = match-temporary (slots-fewer t r q)
 
-  pub match-fewer : {sh sh₂ : Shape} {γ γ₀ : Environment} {δ : Frame DeclaredType} {Δ₂ : List DeclaredType} → Temporary sh₂ Δ₂
+  pub match-fewer : {sh sh₂ : Shape} {γ γ₀ : Environment} {δ : Frame DeclaredType} {Δ₂ : List DeclaredType}
+      → Temporary sh₂ Δ₂
       → Match sh γ₀ δ → Match (sh ++ sh₂) γ (opened δ Δ₂) → Match sh γ δ
   match-fewer t m q = record { this = q .this; slots = slots-fewer t (m .slots) (q .slots) }
 
   -- The type of a variable, and of a temporary.
-  slots-at : {sh : Shape} {Γ : List Slot} {Δ : List DeclaredType} → SlotsMatch sh Γ Δ → (k : ℕ) (s : Slot) → nth Γ k ≡ some s
+  slots-at : {sh : Shape} {Γ : List Slot} {Δ : List DeclaredType} → SlotsMatch sh Γ Δ → (k : ℕ) (s : Slot)
+      → nth Γ k ≡ some s
       → nth Δ (position sh k) ≡ some (plain-type (s .current))
   unfolding nth position
   slots-at match-nil k s e = absurd (Never e)
@@ -239,15 +263,18 @@ module _ (W : World) where
   slots-at (match-variable v r) (suc k) s e = slots-at r k s e
   slots-at (match-temporary r) k s e = slots-at r k s e
 
-  pub variable-at : {sh : Shape} {γ : Environment} {δ : Frame DeclaredType} → Match sh γ δ → (k : ℕ) (s : Slot)
+  pub variable-at : {sh : Shape} {γ : Environment} {δ : Frame DeclaredType} → Match sh γ δ
+      → (k : ℕ) (s : Slot)
       → nth (γ .slots) k ≡ some s → nth (δ .slots) (position sh k) ≡ some (plain-type (s .current))
   variable-at m k s e = slots-at (m .slots) k s e
 
-  slots-length : {sh : Shape} {Γ : List Slot} {Δ : List DeclaredType} → SlotsMatch sh Γ Δ → length Δ ≡ length sh
+  slots-length : {sh : Shape} {Γ : List Slot} {Δ : List DeclaredType} → SlotsMatch sh Γ Δ
+      → length Δ ≡ length sh
   slots-length match-nil = refl
   slots-length (match-variable v r) = ap suc (slots-length r)
   slots-length (match-temporary r) = ap suc (slots-length r)
 
-  pub temporary-at : {sh : Shape} {γ : Environment} {δ : Frame DeclaredType} (Δ₂ : List DeclaredType) (k : ℕ) (u : DeclaredType)
+  pub temporary-at : {sh : Shape} {γ : Environment} {δ : Frame DeclaredType} (Δ₂ : List DeclaredType) (k : ℕ)
+      (u : DeclaredType)
       → Match sh γ δ → nth Δ₂ k ≡ some u → nth (δ .slots ++ Δ₂) (up k (length sh)) ≡ some u
   temporary-at {δ} Δ₂ k u m e = rw (← slots-length (m .slots)) (nth-up (δ .slots) Δ₂ k ∙ e)

@@ -15,10 +15,12 @@ use Rattle.language.specs.Lists.{nth, All2, a-nil, a-cons, nth-append, nth-last
 use Rattle.language.specs.Lists.{nth₀, nth₁}
 use Rattle.language.specs.Results.{ok, stop, bind}
 use Rattle.language.specs.Frames.{frame, opened, closed}
-use Rattle.language.specs.Tree.{DeclaredType, class, Expr, slot, get, new, assign, set, block, Exprs, nil, cons}
+use Rattle.language.specs.Tree.{DeclaredType, class, Expr, slot, get, new, assign, set, block, Exprs, nil}
+use Rattle.language.specs.Tree.{cons}
 use Rattle.language.specs.Tree.{Field}
 use Rattle.language.specs.World.{Method, World, place, is-declared}
-use Rattle.language.specs.Evaluation.{Value, null, object, Object, State, raised, Out, without-limits, entered}
+use Rattle.language.specs.Evaluation.{Value, null, object, Object, State, raised, Out, without-limits}
+use Rattle.language.specs.Evaluation.{entered}
 use Rattle.language.specs.Evaluation.{with-frame, with-heap, initial, initials, last-value, new-object}
 use Rattle.language.specs.Evaluation.{with-field, do-get, do-set, do-cast, do-call, eval, eval-all}
 use Rattle.language.specs.Translation.{plain-class, plain-field, implementor, reads, _⊕_, plain-new}
@@ -79,7 +81,8 @@ module _ (W W′ : World) (P : IsPlain W W′) (𝓜 : More W) where
   pub place-plain : (n k i : ℕ) → is-declared W k ≡ true → place n (W .fields k) ≡ some i
       → place n (W′ .fields (plain-class k)) ≡ some (suc i)
   unfolding place
-  place-plain n k i dc e = rw (P .implementor-fields k dc, 𝓜 .unreserved n k i e, place-map n (W .fields k), e)
+  place-plain n k i dc e =
+      rw (P .implementor-fields k dc, 𝓜 .unreserved n k i e, place-map n (W .fields k), e)
 
   -- A field of the source, read and written in the implementor.
   pub get-step : (n k i m q : ℕ) (vs : List Value) (w : Value) (t : State) → is-declared W k ≡ true
@@ -128,7 +131,8 @@ module _ (W W′ : World) (P : IsPlain W W′) where
   new-implementor c dc = rw (P .implementor-fields c dc)
 
   -- A method of the source, called on the implementor.
-  pub method-step : (k i x m : ℕ) (M : Method) (vs ws : List Value) (t : State) (invoke′ : Method → State → Out Value)
+  pub method-step : (k i x m : ℕ) (M : Method) (vs ws : List Value) (t : State)
+      (invoke′ : Method → State → Out Value)
       → is-declared W k ≡ true → nth (t .heap) x ≡ some (implementor-of k i ws) → W .method k m ≡ some M
       → do-call W′ without-limits invoke′ m (object x) vs t
       ≡ bind (invoke′ (plain-form W M) (with-frame (frame (some (object x)) vs) t))
@@ -162,7 +166,8 @@ module _ (W W′ : World) (P : IsPlain W W′) where
         → nth (t .heap) m ≡ some (implementor-of k i vs) → W .below k c ≡ false
         → run (implementor c (suc n)) t ≡ stop (raised cast-exception) (entered (entered (entered t)))
     unfolding eval nth place
-    implementor-fails c k i m n vs t dc p e f g = rw (p, e, P .identity-fields, f, P .implementor-below k c dc, g)
+    implementor-fails c k i m n vs t dc p e f g =
+        rw (p, e, P .identity-fields, f, P .implementor-below k c dc, g)
 
     -- Expressions run one after another, to the last value.
     pub data Runs : Exprs → State → Value → Value → State → Type 0 where
@@ -196,15 +201,19 @@ module _ (W W′ : World) (P : IsPlain W W′) where
     run-read a w this l h k r e = rw e
 
     -- `this`: the `id` of the implementor there.
-    pub run-this : (i m c : ℕ) (vs : List Value) (this : Option Value) (l : List Value) (h : List Object) (k r : ℕ)
+    pub run-this : (i m c : ℕ) (vs : List Value) (this : Option Value) (l : List Value) (h : List Object)
+        (k r : ℕ)
         → is-declared W c ≡ true → this ≡ some (object m) → nth h m ≡ some (implementor-of c i vs)
         → run (get id-field (slot 0)) (state-of this l h k r) ≡ ok (object i) (state-of this l h (up 2 k) r)
     unfolding eval
-    run-this i m c vs this l h k r dc e g = rw e (id-step c i m vs (state-of (some (object m)) l h (up 2 k) r) dc g)
+    run-this i m c vs this l h k r dc e g =
+        rw e (id-step c i m vs (state-of (some (object m)) l h (up 2 k) r) dc g)
 
     -- What an expression gives, put in a slot.
-    pub run-assign : (a : ℕ) (e : Expr) (v : Value) (this : Option Value) (l l₂ : List Value) (h : List Object)
-        (k k₂ r : ℕ) → run e (state-of this l h (suc k) r) ≡ ok v (state-of this l h k₂ r) → replace l a v ≡ l₂
+    pub run-assign : (a : ℕ) (e : Expr) (v : Value) (this : Option Value) (l l₂ : List Value)
+        (h : List Object)
+        (k k₂ r : ℕ) → run e (state-of this l h (suc k) r) ≡ ok v (state-of this l h k₂ r)
+        → replace l a v ≡ l₂
         → run (assign (suc a) e) (state-of this l h k r) ≡ ok v (state-of this l₂ h k₂ r)
     unfolding eval
     run-assign a e v this l l₂ h k k₂ r p q = rw (p, q)
@@ -218,10 +227,13 @@ module _ (W W′ : World) (P : IsPlain W W′) where
     run-new a c this l l₂ h k r n e f = rw (← e, ← f)
 
     -- A slot put in a field.
-    run-put : (f a b x : ℕ) (w : Value) (o o′ : Object) (this : Option Value) (l : List Value) (h h₂ : List Object)
-        (k r : ℕ) → nth l a ≡ some (object x) → nth l b ≡ some w → nth h x ≡ some o → with-field W′ f w o ≡ some o′
+    run-put : (f a b x : ℕ) (w : Value) (o o′ : Object) (this : Option Value) (l : List Value)
+        (h h₂ : List Object)
+        (k r : ℕ) → nth l a ≡ some (object x) → nth l b ≡ some w → nth h x ≡ some o
+        → with-field W′ f w o ≡ some o′
         → replace h x o′ ≡ h₂
-        → run (set f (slot (suc a)) (slot (suc b))) (state-of this l h k r) ≡ ok w (state-of this l h₂ (up 3 k) r)
+        → run (set f (slot (suc a)) (slot (suc b))) (state-of this l h k r)
+        ≡ ok w (state-of this l h₂ (up 3 k) r)
     unfolding eval
     run-put f a b x w o o′ this l h h₂ k r p q z e g = rw (p, q, z, e, g)
 
@@ -229,10 +241,13 @@ module _ (W W′ : World) (P : IsPlain W W′) where
     pub run-new-implementor : (a c : ℕ) (this : Option Value) (l l₂ : List Value) (h : List Object) (k r : ℕ)
         → is-declared W c ≡ true → replace l a (object (length h)) ≡ l₂
         → run (assign (suc a) (new (plain-class c))) (state-of this l h k r) ≡ ok (object (length h))
-        (state-of this l₂ (h ++ (first-implementor c (initials (map plain-field (W .fields c))) ∷ [])) (up 2 k) r)
-    run-new-implementor a c this l l₂ h k r dc e = run-new a (plain-class c) this l l₂ h k r _ (new-implementor c dc) e
+        (state-of this l₂ (h ++ (first-implementor c (initials (map plain-field (W .fields c))) ∷ []))
+        (up 2 k) r)
+    run-new-implementor a c this l l₂ h k r dc e =
+        run-new a (plain-class c) this l l₂ h k r _ (new-implementor c dc) e
 
-    pub run-put-id : (a b x i c : ℕ) (vs : List Value) (this : Option Value) (l : List Value) (h h₂ : List Object)
+    pub run-put-id : (a b x i c : ℕ) (vs : List Value) (this : Option Value) (l : List Value)
+        (h h₂ : List Object)
         (k r : ℕ) → is-declared W c ≡ true → nth l a ≡ some (object x) → nth l b ≡ some (object i)
         → nth h x ≡ some (first-implementor c vs) → replace h x (implementor-of c i vs) ≡ h₂
         → run (set id-field (slot (suc a)) (slot (suc b))) (state-of this l h k r)
@@ -240,9 +255,11 @@ module _ (W W′ : World) (P : IsPlain W W′) where
     run-put-id a b x i c vs this l h h₂ k r dc p q z g =
         run-put id-field a b x (object i) _ _ this l h h₂ k r p q z (put-id c null (object i) vs dc) g
 
-    pub run-put-imp : (a b x m : ℕ) (v : Value) (this : Option Value) (l : List Value) (h h₂ : List Object) (k r : ℕ)
+    pub run-put-imp : (a b x m : ℕ) (v : Value) (this : Option Value) (l : List Value) (h h₂ : List Object)
+        (k r : ℕ)
         → nth l a ≡ some (object x) → nth l b ≡ some (object m)
-        → nth h x ≡ some (record { class-of = identity-class; fields = v ∷ [] }) → replace h x (identity-of m) ≡ h₂
+        → nth h x ≡ some (record { class-of = identity-class; fields = v ∷ [] })
+        → replace h x (identity-of m) ≡ h₂
         → run (set imp-field (slot (suc a)) (slot (suc b))) (state-of this l h k r)
         ≡ ok (object m) (state-of this l h₂ (up 3 k) r)
     run-put-imp a b x m v this l h h₂ k r p q z g =
@@ -265,11 +282,13 @@ module _ (W W′ : World) (P : IsPlain W W′) where
         let at₀ : nth l₂ n ≡ some (object i) = nth-up l _ 0 ∙ nth₀ _ _ in
         let at₁ : nth l₂ (suc n) ≡ some (object m) = nth-up l _ 1 ∙ nth₁ _ _ _ in
         block-runs (class identity-class ∷ class (plain-class c) ∷ []) t _
-        (runs-cons (run-new n identity-class this (l ++ (null ∷ null ∷ [])) (l ++ (object i ∷ null ∷ [])) h k r
+        (runs-cons (run-new n identity-class this (l ++ (null ∷ null ∷ [])) (l ++ (object i ∷ null ∷ [])) h k
+        r
         first-identity new-identity (set-up l _ 0 (object i)))
         (runs-cons (run-new-implementor (suc n) c this (l ++ (object i ∷ null ∷ [])) l₂ h₁ (up 2 k) r dc
         (set-up l _ 1 (object m)))
-        (runs-cons (run-put-id (suc n) n m i c vs this l₂ (h₁ ++ (B ∷ [])) (h₁ ++ (B′ ∷ [])) (up 4 k) r dc at₁ at₀
+        (runs-cons (run-put-id (suc n) n m i c vs this l₂ (h₁ ++ (B ∷ [])) (h₁ ++ (B′ ∷ [])) (up 4 k) r dc at₁
+        at₀
         (nth-last h₁ B) (set-last h₁ B B′))
         (runs-cons (run-put-imp n (suc n) i m null this l₂ (h₁ ++ (B′ ∷ []))
         ((h ++ (identity-of m ∷ [])) ++ (B′ ∷ [])) (up 7 k) r at₀ at₁

@@ -64,19 +64,22 @@ pub only-mono : {Listed Listed₂ : ℕ → ℕ → Type 0} {A : Type 0} {r : Ch
 only-mono answers f = answers
 only-mono (refuses-as w) f = refuses-as (f _ _ w)
 
-pub only-bind : {Listed : ℕ → ℕ → Type 0} {A B : Type 0} {r : Checked A} {k : A → Checked B} → RefusesOnly Listed r
+pub only-bind : {Listed : ℕ → ℕ → Type 0} {A B : Type 0} {r : Checked A} {k : A → Checked B}
+    → RefusesOnly Listed r
     → ((a : A) → r ≡ accept a → RefusesOnly Listed (k a)) → RefusesOnly Listed (bind-checked r k)
 unfolding bind-checked
 only-bind answers f = f _ refl
 only-bind (refuses-as w) f = refuses-as w
 
-pub only-require : {Listed : ℕ → ℕ → Type 0} {B : Type 0} (b : Bool) (n l : ℕ) {k : Bool → Checked B} → Listed n l
+pub only-require : {Listed : ℕ → ℕ → Type 0} {B : Type 0} (b : Bool) (n l : ℕ) {k : Bool → Checked B}
+    → Listed n l
     → ((b : Bool) → RefusesOnly Listed (k b)) → RefusesOnly Listed (require b n l k)
 unfolding require
 only-require true n l w f = f true
 only-require false n l w f = refuses-as w
 
-pub only-earlier : {Listed : ℕ → ℕ → Type 0} {A B : Type 0} {r : Checked A} {s : Checked B} → RefusesOnly Listed r
+pub only-earlier : {Listed : ℕ → ℕ → Type 0} {A B : Type 0} {r : Checked A} {s : Checked B}
+    → RefusesOnly Listed r
     → RefusesOnly Listed s → RefusesOnly Listed (earlier r s)
 unfolding earlier
 only-earlier answers answers = answers

@@ -36,7 +36,8 @@ finish-store (stop x s) store = refl
 
 runnable-fuel : (ns : List ℕ) (fuel : ℕ) (p : Program) → runnable ns fuel ≡ accept p → fuel ≤ most-fuel
 unfolding runnable whole-rows
-runnable-fuel ns fuel p q = require-inv _ _ _ _ q λ _ q. require-inv _ _ _ _ q λ l _. leb-true fuel most-fuel l
+runnable-fuel ns fuel p q = require-inv _ _ _ _ q λ _ q. require-inv _ _ _ _ q λ l _.
+    leb-true fuel most-fuel l
 
 -- A run that ended was not refused: its fuel is within the limit.
 pub ended-within-fuel : (ns : List ℕ) (fuel : ℕ) (store : List ℕ) {o : Outcome} {steps objects changes : ℕ}
@@ -72,75 +73,79 @@ is-value-or-exception : {o : Outcome} → ValueOrException o → value-or-except
 is-value-or-exception value = refl
 is-value-or-exception exception = refl
 
-module _ (ns : List ℕ) (p : Program) (rows : RowsOf ns p) (fuel : ℕ) (l : fuel ≤ most-fuel) (store : List ℕ) where
-  -- What the run of the program gives, which the run of the rows finishes.
-  abbrev result : Out Value
-  result = run (with-limits fuel (capacity store)) p
+module _ (ns : List ℕ) (p : Program) (rows : RowsOf ns p) (fuel : ℕ) (l : fuel ≤ most-fuel) (store : List ℕ)
+  where
+    -- What the run of the program gives, which the run of the rows finishes.
+    abbrev result : Out Value
+    result = run (with-limits fuel (capacity store)) p
 
-  -- A result that is a value or an exception is derived.
-  result-derived : (r : Out Value) → result ≡ r → value-or-exception (outcome r) ≡ true
-      → DerivedWithinStore p fuel store (finish r store)
-  result-derived (ok v t) e q = let d = demand-2-value p fuel (capacity store) v t .0 e in record {
-    outcome = gave v;
-    state = t;
-    derived = derives-value (d .derived);
-    within-fuel = d .within .fuel;
-    within-room = d .within .room;
-    answer = refl;
-    store-after = refl;
-  }
-  result-derived (stop (raised n) t) e q = let d = demand-2-exception p fuel (capacity store) n t .0 e in record {
-    outcome = ended (raised n);
-    state = t;
-    derived = derives-exception (d .derived);
-    within-fuel = d .within .fuel;
-    within-room = d .within .room;
-    answer = refl;
-    store-after = refl;
-  }
-  result-derived (stop spent t) e q = false≢ q
-  result-derived (stop deep t) e q = false≢ q
-  result-derived (stop full t) e q = false≢ q
-  result-derived (stop stuck t) e q = false≢ q
+    -- A result that is a value or an exception is derived.
+    result-derived : (r : Out Value) → result ≡ r → value-or-exception (outcome r) ≡ true
+        → DerivedWithinStore p fuel store (finish r store)
+    result-derived (ok v t) e q = let d = demand-2-value p fuel (capacity store) v t .0 e in record {
+      outcome = gave v;
+      state = t;
+      derived = derives-value (d .derived);
+      within-fuel = d .within .fuel;
+      within-room = d .within .room;
+      answer = refl;
+      store-after = refl;
+    }
+    result-derived (stop (raised n) t) e q = let d = demand-2-exception p fuel (capacity store) n t .0 e in
+        record {
+          outcome = ended (raised n);
+          state = t;
+          derived = derives-exception (d .derived);
+          within-fuel = d .within .fuel;
+          within-room = d .within .room;
+          answer = refl;
+          store-after = refl;
+        }
+    result-derived (stop spent t) e q = false≢ q
+    result-derived (stop deep t) e q = false≢ q
+    result-derived (stop full t) e q = false≢ q
+    result-derived (stop stuck t) e q = false≢ q
 
-  is-result : run-of ns fuel store ≡ finish result store
-  is-result = accepted-run ns p rows fuel l store
+    is-result : run-of ns fuel store ≡ finish result store
+    is-result = accepted-run ns p rows fuel l store
 
-  -- What is derived is what the run gives.
-  derived-run : {o : Outcome} {t : State} → Derives p o t → t .steps ≤ fuel → length (t .heap) ≤ capacity store → (a : Ran)
-      → a .answer ≡ ran o (t .steps) (length (t .heap)) (t .changes) → a .store ≡ stored (t .heap) store
-      → (run-of ns fuel store ≡ a) × ValueOrException o
-  derived-run (derives-value {v} {t} d) f k a e g =
-      let q : result ≡ ok v t = demand-2-value p fuel (capacity store) v t .1
-      (record { derived = d; within = record { fuel = f; room = k } }) in
-      (is-result ∙ (ap (λ (r : Out Value). finish r store) q ∙ same-run (sym e) (sym g)), value)
-  derived-run (derives-exception {n} {t} d) f k a e g =
-      let q : result ≡ stop (raised n) t = demand-2-exception p fuel (capacity store) n t .1
-      (record { derived = d; within = record { fuel = f; room = k } }) in
-      (is-result ∙ (ap (λ (r : Out Value). finish r store) q ∙ same-run (sym e) (sym g)), exception)
+    -- What is derived is what the run gives.
+    derived-run : {o : Outcome} {t : State} → Derives p o t → t .steps ≤ fuel
+        → length (t .heap) ≤ capacity store → (a : Ran)
+        → a .answer ≡ ran o (t .steps) (length (t .heap)) (t .changes) → a .store ≡ stored (t .heap) store
+        → (run-of ns fuel store ≡ a) × ValueOrException o
+    derived-run (derives-value {v} {t} d) f k a e g =
+        let q : result ≡ ok v t = demand-2-value p fuel (capacity store) v t .1
+        (record { derived = d; within = record { fuel = f; room = k } }) in
+        (is-result ∙ (ap (λ (r : Out Value). finish r store) q ∙ same-run (sym e) (sym g)), value)
+    derived-run (derives-exception {n} {t} d) f k a e g =
+        let q : result ≡ stop (raised n) t = demand-2-exception p fuel (capacity store) n t .1
+        (record { derived = d; within = record { fuel = f; room = k } }) in
+        (is-result ∙ (ap (λ (r : Out Value). finish r store) q ∙ same-run (sym e) (sym g)), exception)
 
-  -- The run of the rows of a well-formed program gives a and ends in a value or an exception exactly if the relation
-  -- derives a within fuel and the store's room.
-  pub runs-derived : (a : Ran)
-      → ((run-of ns fuel store ≡ a) × EndsInValueOrException a) ↔ DerivedWithinStore p fuel store a
-  runs-derived a = (
-    (λ h. let e = h .1 in
-        let is : a ≡ finish result store = sym (h .0) ∙ is-result in
-        let q : ran (outcome result) (final result .steps) (length (final result .heap)) (final result .changes)
-        ≡ ran (e .outcome) (e .steps) (e .objects) (e .changes)
-        = sym (finish-answer result store) ∙ (sym (ap (λ (x : Ran). x .answer) is) ∙ e .answer) in
-        let o : outcome result ≡ e .outcome = cc in
-        subst (DerivedWithinStore p fuel store) (sym is)
-        (result-derived result refl (ap value-or-exception o ∙ is-value-or-exception (e .one-of)))),
-    (λ d. let x = derived-run (d .derived) (d .within-fuel) (d .within-room) a (d .answer) (d .store-after) in (
-      x .0,
-      record {
-        outcome = d .outcome;
-        steps = d .state .steps;
-        objects = length (d .state .heap);
-        changes = d .state .changes;
-        answer = d .answer;
-        one-of = x .1;
-      },
-    )),
-  )
+    -- The run of the rows of a well-formed program gives a and ends in a value or an exception exactly if the relation
+    -- derives a within fuel and the store's room.
+    pub runs-derived : (a : Ran)
+        → ((run-of ns fuel store ≡ a) × EndsInValueOrException a) ↔ DerivedWithinStore p fuel store a
+    runs-derived a = (
+      (λ h. let e = h .1 in
+          let is : a ≡ finish result store = sym (h .0) ∙ is-result in
+          let q : ran (outcome result) (final result .steps) (length (final result .heap))
+          (final result .changes)
+          ≡ ran (e .outcome) (e .steps) (e .objects) (e .changes)
+          = sym (finish-answer result store) ∙ (sym (ap (λ (x : Ran). x .answer) is) ∙ e .answer) in
+          let o : outcome result ≡ e .outcome = cc in
+          subst (DerivedWithinStore p fuel store) (sym is)
+          (result-derived result refl (ap value-or-exception o ∙ is-value-or-exception (e .one-of)))),
+      (λ d. let x = derived-run (d .derived) (d .within-fuel) (d .within-room) a (d .answer) (d .store-after) in (
+        x .0,
+        record {
+          outcome = d .outcome;
+          steps = d .state .steps;
+          objects = length (d .state .heap);
+          changes = d .state .changes;
+          answer = d .answer;
+          one-of = x .1;
+        },
+      )),
+    )

@@ -10,12 +10,15 @@ use lib.ListN.{length, length-append, length-map}
 use lib.Seq.{append-snoc}
 use native.Mathlib.Omega.{arith}
 use Rattle.language.specs.Limits.{imp-field, id-field}
-use Rattle.language.specs.Lists.{choice, All2, a-nil, a-cons, all2-append, nth₀, nth₁, nth-suc, nth-map, up-suc}
-use Rattle.language.specs.Results.{ok, bind, Alike, alike-ok, alike-stop, alike-bind, alike-context, alike-with}
+use Rattle.language.specs.Lists.{choice, All2, a-nil, a-cons, all2-append, nth₀, nth₁, nth-suc, nth-map}
+use Rattle.language.specs.Lists.{up-suc}
+use Rattle.language.specs.Results.{ok, bind, Alike, alike-ok, alike-stop, alike-bind, alike-context}
+use Rattle.language.specs.Results.{alike-with}
 use Rattle.language.specs.Results.{alike-mono, alike-wrap}
 use Rattle.language.specs.Frames.{frame, with-slot, opened, closed}
 use Rattle.language.specs.Tree.{DeclaredType, bool, class, ExprType, known, Expr, literal-true, literal-false}
-use Rattle.language.specs.Tree.{literal-null, slot, is-null, get, cast, new, change, assign, set, call, choose}
+use Rattle.language.specs.Tree.{literal-null, slot, is-null, get, cast, new, change, assign, set, call}
+use Rattle.language.specs.Tree.{choose}
 use Rattle.language.specs.Tree.{block, Exprs, nil, cons}
 use Rattle.language.specs.World.{Method, World}
 use Rattle.language.specs.Effects.{apply-class}
@@ -36,14 +39,16 @@ use Rattle.theory.specs.Sound.{fits-evolves, calls-ok, locals-fit, false
 use Rattle.theory.specs.PlainWorld.{IsPlain}
 use Rattle.theory.specs.Matching.{persists-same, persists-trans, corresponds-later, Mask, SlotsMatch}
 use Rattle.theory.specs.Matching.{no-slots, temporary, mask-length, temporaries-only}
-use Rattle.theory.specs.MatchingStates.{StatesMatch, After, AfterAll, Filled, Ended, recount, both-enter}
+use Rattle.theory.specs.MatchingStates.{StatesMatch, After, AfterAll, Filled, Ended, recount}
+use Rattle.theory.specs.MatchingStates.{both-enter}
 use Rattle.theory.specs.MatchingStates.{entering, spare, spend, from-before, no-values, frames-set}
 use Rattle.theory.specs.MatchingStates.{frames-open, frames-temporaries, frames-temporary, frames-put}
 use Rattle.theory.specs.MatchingStates.{frames-close, close-block}
 use Rattle.theory.specs.PlainSteps.{More, run-append}
 use Rattle.theory.specs.TranslationEquations.{plain-true, plain-false, plain-null, plain-read}
 use Rattle.theory.specs.TranslationEquations.{plain-is-null, plain-get, plain-cast-is, plain-assign}
-use Rattle.theory.specs.TranslationEquations.{plain-set, plain-call, plain-choose, plain-block, plain-nil}
+use Rattle.theory.specs.TranslationEquations.{plain-set, plain-call, plain-choose, plain-block}
+use Rattle.theory.specs.TranslationEquations.{plain-nil}
 use Rattle.theory.specs.TranslationEquations.{plain-cons, plain-no-arguments, plain-arguments}
 use Rattle.theory.specs.PlainActs.{slot-found, CallsMatch, read-acts, new-acts, get-acts, set-acts}
 use Rattle.theory.specs.PlainActs.{cast-acts, change-acts, call-acts}
@@ -55,7 +60,8 @@ null-alike both-null = same-truth
 null-alike same-truth = same-truth
 null-alike (in-place e) = same-truth
 
-choose-alike : {W : World} {A : Value → State → Value → State → Type 0} {ids : List ℕ} {h : List Object} {v v′ : Value}
+choose-alike : {W : World} {A : Value → State → Value → State → Type 0} {ids : List ℕ} {h : List Object}
+    {v v′ : Value}
     → Corresponds ids v v′ → (s t : State) {x y x′ y′ : Out Value} → Fits W h v (known bool)
     → Alike A (Ended W) x x′ → Alike A (Ended W) y y′
     → Alike A (Ended W) (need-truth v s λ b. choice b (λ _. x) (λ _. y))
@@ -77,7 +83,8 @@ last-of-more u (v ∷ vs) x = last-of-more v vs x
 one-temporary : {ids : List ℕ} {μ : Mask} {l l′ : List Value} → SlotsMatch ids (false ∷ []) μ l l′ → l ≡ []
 one-temporary (temporary no-slots) = refl
 
-two-temporaries : {ids : List ℕ} {μ : Mask} {l l′ : List Value} → SlotsMatch ids (false ∷ false ∷ []) μ l l′ → l ≡ []
+two-temporaries : {ids : List ℕ} {μ : Mask} {l l′ : List Value} → SlotsMatch ids (false ∷ false ∷ []) μ l l′
+    → l ≡ []
 two-temporaries (temporary (temporary no-slots)) = refl
 
 more-temporaries : {ids : List ℕ} {μ : Mask} {l l′ : List Value} (ts : List DeclaredType)
@@ -85,7 +92,8 @@ more-temporaries : {ids : List ℕ} {μ : Mask} {l l′ : List Value} (ts : List
 more-temporaries ts (temporary r) = temporaries-only ts _ _ _ r
 
 temporaries-match : (ids : List ℕ) (ts : List DeclaredType)
-    → SlotsMatch ids (temporaries ts) (map some (map initial (map plain-type ts))) [] (map initial (map plain-type ts))
+    → SlotsMatch ids (temporaries ts) (map some (map initial (map plain-type ts))) []
+    (map initial (map plain-type ts))
 temporaries-match ids [] = no-slots
 temporaries-match ids (t ∷ ts) = temporary (temporaries-match ids ts)
 
@@ -127,11 +135,13 @@ module _ (W W′ : World) (P : IsPlain W W′) (𝓛 : Laws W) (𝓜 : More W) w
             value = both-null;
             match = spare 83 (both-enter R);
           }))
-      simulates (slot k) {γ} (type-slot {s = u} e) ids sh μ z s t H S R = let x = at W 𝓛 (s .frame) γ S k u e in
+      simulates (slot k) {γ} (type-slot {s = u} e) ids sh μ z s t H S R =
+          let x = at W 𝓛 (s .frame) γ S k u e in
           rw (plain-read W k γ sh, x .is)
           (read-acts W W′ P 𝓛 𝓜 invoke′ k ids sh μ z s t (x .v) R (slot-found (R .frames) k (x .v) (x .is)))
       simulates (is-null e) {γ} (type-is-null d n) ids sh μ z s t H S R = rw (plain-is-null W e γ sh)
-          (alike-bind (simulates e d ids sh μ (83 + z) (entered s) (entered t) H S (both-enter R)) λ v s₁ v′ t₁ p.
+          (alike-bind (simulates e d ids sh μ (83 + z) (entered s) (entered t) H S (both-enter R))
+          λ v s₁ v′ t₁ p.
           alike-ok (record {
             ids′ = p .ids′;
             persists = p .persists;
@@ -173,11 +183,15 @@ module _ (W W′ : World) (P : IsPlain W W′) (𝓛 : Laws W) (𝓜 : More W) w
           let S₁ = frames-put μ _ 0 _ null v′ (p .1 .match .frames) N (nth₀ _ _) in
           alike-wrap (λ r. bind (bind r (λ v t. ok (v ∷ []) t)) done) (λ x t. refl)
           (cast-acts W W′ P 𝓛 𝓜 invoke′ c n u v v′ s₁ t₁′ nb (p .0 .fitsOk) (p .1 .ids′) (p .1 .persists)
-          (record { frames = S₁; core = spend 0 t₁′ (p .1 .match .core) (omega arith) refl refl (omega arith) })
+          (record {
+            frames = S₁;
+            core = spend 0 t₁′ (p .1 .match .core) (omega arith) refl refl (omega arith);
+          })
           (p .1 .value) (frames-temporary μ _ 0 _ v′ S₁ N (nth₀ _ _)))
           λ x s₃ x′ t₃ a. close-block (false ∷ []) (some v′ ∷ []) (t .frame) (λ ids l l′ r. one-temporary r)
           (R .frames) a)
-      simulates (new c) {γ} (type-new i) ids sh μ z s t H S R = new-acts W W′ P 𝓛 𝓜 invoke′ c γ ids sh μ z s t i R
+      simulates (new c) {γ} (type-new i) ids sh μ z s t H S R =
+          new-acts W W′ P 𝓛 𝓜 invoke′ c γ ids sh μ z s t i R
       simulates (change k d) {γ} (type-change {c} {s = u} i e q f) ids sh μ z s t H S R =
           let x = at W 𝓛 (s .frame) γ S k u e in
           let fit : Fits W (s .heap) (x .v) (known (class c))
@@ -185,8 +199,10 @@ module _ (W W′ : World) (P : IsPlain W W′) (𝓛 : Laws W) (𝓜 : More W) w
           rw (x .is)
           (change-acts W W′ P 𝓛 𝓜 invoke′ k c d γ ids sh μ z s t H R i (x .v) fit f
           (slot-found (R .frames) k (x .v) (x .is)))
-      simulates (assign (suc k) e) {γ} (type-assign d i f) ids sh μ z s t H S R = rw (plain-assign W (suc k) e γ sh)
-          (alike-bind (simulates e d ids sh μ (83 + z) (entered s) (entered t) H S (both-enter R)) λ v s₁ v′ t₁ p.
+      simulates (assign (suc k) e) {γ} (type-assign d i f) ids sh μ z s t H S R =
+          rw (plain-assign W (suc k) e γ sh)
+          (alike-bind (simulates e d ids sh μ (83 + z) (entered s) (entered t) H S (both-enter R))
+          λ v s₁ v′ t₁ p.
           alike-ok {s = with-frame (with-slot (s₁ .frame) (suc k) v) s₁}
           {t = with-frame (with-slot (t₁ .frame) (plain-slot sh (suc k)) v′) t₁}
           (record {
@@ -238,11 +254,15 @@ module _ (W W′ : World) (P : IsPlain W W′) (𝓛 : Laws W) (𝓜 : More W) w
           let X₂ = persists-trans (p .1 .persists) (q .1 .persists) in
           let S₂ = frames-put μ _ 1 _ (initial (plain-type u)) w′ (q .1 .match .frames) N (nth₁ _ _ _) in
           alike-wrap
-          (λ r. bind (bind (bind (bind r (λ v t. ok (v ∷ []) t)) (λ vs t. ok (w′ ∷ vs) t)) (λ vs t. ok (v′ ∷ vs) t)) done)
+          (λ r. bind (bind (bind (bind r (λ v t. ok (v ∷ []) t)) (λ vs t. ok (w′ ∷ vs) t))
+          (λ vs t. ok (v′ ∷ vs) t)) done)
           (λ x t. refl)
           (set-acts W W′ P 𝓛 𝓜 invoke′ f (apply-class W φ₂ c) n u v v′ w w′ s₂ t₂′ (q .0 .heapOk)
           (fits-evolves W 𝓛 (q .0 .evolves) (p .0 .fitsOk)) i (q .1 .ids′) X₂
-          (record { frames = S₂; core = spend 0 t₂′ (q .1 .match .core) (omega arith) refl refl (omega arith) })
+          (record {
+            frames = S₂;
+            core = spend 0 t₂′ (q .1 .match .core) (omega arith) refl refl (omega arith);
+          })
           (corresponds-later (q .1 .persists) (p .1 .value)) (q .1 .value)
           (frames-temporary μ _ 0 _ v′ S₂ N (nth₀ _ _)) (frames-temporary μ _ 1 _ w′ S₂ N (nth₁ _ _ _)))
           λ x s₃ x′ t₃ a. close-block (false ∷ false ∷ []) (some v′ ∷ some w′ ∷ []) (t .frame)
@@ -253,7 +273,8 @@ module _ (W W′ : World) (P : IsPlain W W′) (𝓛 : Laws W) (𝓜 : More W) w
           let t₀ : State = with-frame (opened (t .frame) (null ∷ xs)) (entered t) in
           let done : List Value → State → Out Value = λ vs t′. ok (last-value null vs)
           (with-frame (closed (length (t .frame .slots)) (t′ .frame)) t′) in
-          let act : Exprs = call m (implementor (apply-class W φ₂ c) (suc n)) (reads (suc (suc n)) ps) then nil in
+          let act : Exprs = call m (implementor (apply-class W φ₂ c) (suc n)) (reads (suc (suc n)) ps) then
+          nil in
           let N : length μ ≡ n = mask-length (R .frames .slots) in
           rw (plain-call W m M sh d d′ i)
           (alike-context
@@ -262,14 +283,16 @@ module _ (W W′ : World) (P : IsPlain W W′) (𝓛 : Laws W) (𝓜 : More W) w
           (λ vs t. ok (v ∷ vs) t))) done)
           (λ x t. refl)
           (alike-with (soundE W 𝓛 without-limits invoke C e d (entered s) H S)
-          (simulates e d ids (sh ++ sh₂) (μ ++ (some null ∷ map some xs)) (82 + z) (entered s) (entered t₀) H S
+          (simulates e d ids (sh ++ sh₂) (μ ++ (some null ∷ map some xs)) (82 + z) (entered s) (entered t₀) H
+          S
           (record {
             frames = frames-temporaries (R .frames) (temporary (temporaries-match ids ps));
             core = recount (R .core) refl refl refl refl (omega (arith, R .core)) (omega (arith, R .core));
           })))
           λ v s₁ v′ t₁ p.
           let t₁′ : State = with-frame (with-slot (t₁ .frame) (suc n) v′) t₁ in
-          let ln : length xs ≡ length ps = length-map (map plain-type ps) initial ∙ length-map ps plain-type in
+          let ln : length xs ≡ length ps = length-map (map plain-type ps) initial
+          ∙ length-map ps plain-type in
           let sh8 = 𝓜 .short _ m M i in
           let S₁ = frames-put μ (some null ∷ map some xs) 0 n null v′ (p .1 .match .frames) N (nth₀ _ _) in
           rw (run-append W W′ P invoke′ (translate-arguments W es γ₁ (sh ++ sh₂) (suc (suc n))) act t₁′)
@@ -278,7 +301,8 @@ module _ (W W′ : World) (P : IsPlain W W′) (𝓛 : Laws W) (𝓜 : More W) w
           (λ vs t. ok (v′ ∷ vs) t)) done)
           (λ x t. refl)
           (alike-with (soundEs W 𝓛 without-limits invoke C es d′ s₁ (p .0 .heapOk) (p .0 .slotsOk))
-          (simulates-arguments es d′ (p .1 .ids′) (sh ++ sh₂) (μ ++ (some v′ ∷ [])) xs (4 + length ps + z) s₁ t₁′
+          (simulates-arguments es d′ (p .1 .ids′) (sh ++ sh₂) (μ ++ (some v′ ∷ [])) xs (4 + length ps + z) s₁
+          t₁′
           (ln ∙ sym (all-fit-length W us ps j)) (p .0 .heapOk) (p .0 .slotsOk)
           (record {
             frames = rw (append-snoc μ (some v′) (map some xs)) S₁;
@@ -287,26 +311,33 @@ module _ (W W′ : World) (P : IsPlain W W′) (𝓛 : Laws W) (𝓜 : More W) w
           })
           (suc n) (omega (arith, length-append μ (some v′ ∷ []), N))))
           λ vs s₂ vs′ t₂ q.
-          let R₂ : StatesMatch W (q .1 .ids′) (sh ++ sh₂) (μ ++ (some v′ ∷ map some vs′)) (4 + length ps + z) s₂ t₂
+          let R₂ : StatesMatch W (q .1 .ids′) (sh ++ sh₂) (μ ++ (some v′ ∷ map some vs′)) (4 + length ps + z)
+          s₂ t₂
           = rw (append-snoc μ (some v′) (map some vs′)) at (q .1 .match) in
           alike-wrap
-          (λ r. bind (bind (bind (bind r (λ v t. ok (v ∷ []) t)) (λ ws t. ok (vs′ ++ ws) t)) (λ vs t. ok (v′ ∷ vs) t)) done)
+          (λ r. bind (bind (bind (bind r (λ v t. ok (v ∷ []) t)) (λ ws t. ok (vs′ ++ ws) t))
+          (λ vs t. ok (v′ ∷ vs) t)) done)
           (λ x t. refl)
-          (call-acts W W′ P 𝓛 𝓜 invoke invoke′ D m (apply-class W φ₂ c) n M v v′ vs vs′ us s₂ t₂ (q .0 .heapOk)
+          (call-acts W W′ P 𝓛 𝓜 invoke invoke′ D m (apply-class W φ₂ c) n M v v′ vs vs′ us s₂ t₂
+          (q .0 .heapOk)
           (fits-evolves W 𝓛 (q .0 .evolves) (p .0 .fitsOk)) (q .0 .fitsOk) j i (q .1 .ids′)
-          (persists-trans (p .1 .persists) (q .1 .persists)) R₂ (corresponds-later (q .1 .persists) (p .1 .value))
+          (persists-trans (p .1 .persists) (q .1 .persists)) R₂
+          (corresponds-later (q .1 .persists) (p .1 .value))
           (q .1 .values) (frames-temporary μ _ 0 n v′ (R₂ .frames) N (nth₀ _ _))
           (λ k w y. rw (up-suc k n) (frames-temporary μ (some v′ ∷ map some vs′) (suc k) n w (R₂ .frames) N
           (nth-suc _ _ k ∙ nth-map some k vs′ w y))))
           λ x s₃ x′ t₃ a. rw (last-of-more v′ vs′ x′)
-          (close-block sh₂ (some v′ ∷ map some vs′) (t .frame) (λ ids l l′ r. more-temporaries ps r) (R .frames) a)))
+          (close-block sh₂ (some v′ ∷ map some vs′) (t .frame) (λ ids l l′ r. more-temporaries ps r)
+          (R .frames) a)))
       simulates (choose e x y) (type-choose d d′ d″ j) ids sh μ z s t H S R = rw (plain-choose W x y sh d)
           (alike-bind (alike-with (soundE W 𝓛 without-limits invoke C e d (entered s) H S)
           (simulates e d ids sh μ (83 + z) (entered s) (entered t) H S (both-enter R))) λ v s₁ v′ t₁ p.
           choose-alike (p .1 .value) s₁ t₁ (p .0 .fitsOk)
-          (alike-mono (simulates x d′ (p .1 .ids′) sh μ z s₁ t₁ (p .0 .heapOk) (p .0 .slotsOk) (spare 83 (p .1 .match)))
+          (alike-mono (simulates x d′ (p .1 .ids′) sh μ z s₁ t₁ (p .0 .heapOk) (p .0 .slotsOk)
+          (spare 83 (p .1 .match)))
           λ w s₂ w′ t₂ q. from-before (p .1 .persists) q)
-          (alike-mono (simulates y d″ (p .1 .ids′) sh μ z s₁ t₁ (p .0 .heapOk) (p .0 .slotsOk) (spare 83 (p .1 .match)))
+          (alike-mono (simulates y d″ (p .1 .ids′) sh μ z s₁ t₁ (p .0 .heapOk) (p .0 .slotsOk)
+          (spare 83 (p .1 .match)))
           λ w s₂ w′ t₂ q. from-before (p .1 .persists) q))
       simulates (block ts es) {γ} (type-block l d) ids sh μ z s t H S R = rw (plain-block W ts es γ sh)
           (alike-bind (simulates-all es d ids (sh ++ variables ts) (μ ++ no-values ts) (83 + z)
@@ -333,15 +364,18 @@ module _ (W W′ : World) (P : IsPlain W W′) (𝓛 : Laws W) (𝓜 : More W) w
 
       -- A call's arguments, put into temporaries from place n on, which hold xs.
       pub simulates-arguments : (es : Exprs) {γ γ′ : Environment} {tys : List ExprType} {φ : ℕ}
-          → HaveTypes W γ es tys γ′ φ → (ids : List ℕ) (sh : Shape) (μ : Mask) (xs : List Value) (z : ℕ) (s t : State)
+          → HaveTypes W γ es tys γ′ φ
+          → (ids : List ℕ) (sh : Shape) (μ : Mask) (xs : List Value) (z : ℕ) (s t : State)
           → length xs ≡ length tys → HeapOk W (s .heap) → FitsFrame W (s .heap) (s .frame) γ
           → StatesMatch W ids sh (μ ++ map some xs) (length xs + z) s t → (n : ℕ) → length μ ≡ n
           → Alike (Filled W ids (t .heap) sh μ z) (Ended W) (eval-all W without-limits invoke es s)
           (eval-all W′ without-limits invoke′ (translate-arguments W es γ sh (suc n)) t)
-      simulates-arguments nil {γ} types-nil ids sh μ [] z s t L H S R n e = rw (plain-no-arguments W γ sh (suc n))
+      simulates-arguments nil {γ} types-nil ids sh μ [] z s t L H S R n e =
+          rw (plain-no-arguments W γ sh (suc n))
           (alike-ok (record { ids′ = ids; persists = persists-same; match = spare 0 R; values = a-nil }))
       simulates-arguments nil types-nil ids sh μ (x ∷ xs) z s t L H S R n e = absurd (omega (arith, L))
-      simulates-arguments (cons e₁ es) (types-cons d d′) ids sh μ [] z s t L H S R n e = absurd (omega (arith, L))
+      simulates-arguments (cons e₁ es) (types-cons d d′) ids sh μ [] z s t L H S R n e =
+          absurd (omega (arith, L))
       simulates-arguments (cons e₁ es) (types-cons {γ₁} d d′) ids sh μ (x ∷ xs) z s t L H S R n e =
           rw (plain-arguments W es sh (suc n) d)
           (alike-context
@@ -372,7 +406,8 @@ module _ (W W′ : World) (P : IsPlain W W′) (𝓛 : Laws W) (𝓜 : More W) w
           }))
 
       -- A block's expressions.
-      pub simulates-all : (es : Exprs) {γ γ′ : Environment} {tys : List ExprType} {φ : ℕ} → HaveTypes W γ es tys γ′ φ
+      pub simulates-all : (es : Exprs) {γ γ′ : Environment} {tys : List ExprType} {φ : ℕ}
+          → HaveTypes W γ es tys γ′ φ
           → (ids : List ℕ) (sh : Shape) (μ : Mask) (z : ℕ) (s t : State) → HeapOk W (s .heap)
           → FitsFrame W (s .heap) (s .frame) γ → StatesMatch W ids sh μ z s t
           → Alike (AfterAll W ids (t .heap) sh μ z) (Ended W) (eval-all W without-limits invoke es s)
@@ -380,9 +415,11 @@ module _ (W W′ : World) (P : IsPlain W W′) (𝓛 : Laws W) (𝓜 : More W) w
       simulates-all nil {γ} types-nil ids sh μ z s t H S R = rw (plain-nil W γ sh)
           (alike-ok (record { ids′ = ids; persists = persists-same; match = R; values = a-nil }))
       simulates-all (cons e es) (types-cons d d′) ids sh μ z s t H S R = rw (plain-cons W es sh d)
-          (alike-bind (alike-with (soundE W 𝓛 without-limits invoke C e d s H S) (simulates e d ids sh μ z s t H S R))
+          (alike-bind (alike-with (soundE W 𝓛 without-limits invoke C e d s H S)
+          (simulates e d ids sh μ z s t H S R))
           λ v s₁ v′ t₁ p.
-          alike-bind (simulates-all es d′ (p .1 .ids′) sh μ z s₁ t₁ (p .0 .heapOk) (p .0 .slotsOk) (p .1 .match))
+          alike-bind (simulates-all es d′ (p .1 .ids′) sh μ z s₁ t₁ (p .0 .heapOk) (p .0 .slotsOk)
+          (p .1 .match))
           λ vs s₂ vs′ t₂ q.
           alike-ok (record {
             ids′ = q .ids′;
@@ -404,7 +441,14 @@ module _ (W W′ : World) (P : IsPlain W W′) (𝓛 : Laws W) (𝓜 : More W) w
   calls-simulate (suc n) = record {
     alike = λ M B ids z s t H S c μ F.
         alike-mono (simulates (λ M s. call-at W without-limits n M s) (λ M t. call-at W′ without-limits n M t)
-        (calls-ok W 𝓛 without-limits n) (calls-simulate n) (M .body) (B .types) ids (variables (M .parameters)) μ z s t
+        (calls-ok W 𝓛 without-limits n) (calls-simulate n) (M .body) (B .types) ids
+        (variables (M .parameters)) μ z s t
         H S (record { core = c; frames = F }))
-        λ v s′ v′ t′ a. record { ids′ = a .ids′; persists = a .persists; core = a .match .core; value = a .value };
+        λ v s′ v′ t′ a. record {
+          ids′ = a .ids′;
+          persists = a .persists;
+          core = a .match .core;
+          value =
+              a .value;
+        };
   }

@@ -18,7 +18,8 @@ use Rattle.language.specs.Evaluation.{Value, null, truth, object, Object, State
 use Rattle.language.specs.Store.{value-number, value-of-number, object-numbers, heap-numbers, heap-of-numbers}
 use Rattle.language.specs.Store.{capacity, stored}
 use Rattle.language.specs.WellFormed.{Each, each-nil, each-cons, ProgramWell}
-use Rattle.theory.specs.Sound.{HeapOk, Good, Fine, fine-null, fine-cast, fine-deep, fine-spent, fine-full}
+use Rattle.theory.specs.Sound.{HeapOk, Good, Fine, fine-null, fine-cast, fine-deep, fine-spent}
+use Rattle.theory.specs.Sound.{fine-full}
 use Rattle.theory.specs.MoreLookups.{well-formed-more}
 use Rattle.theory.specs.Members.{run-sound}
 use Rattle.theory.specs.Cut.{final}
@@ -73,7 +74,8 @@ read-object W o s n rest =
     let taken : take (length (W .fields (o .class-of))) ((values ++ unused) ++ rest) ≡ values =
     ap (take (length (W .fields (o .class-of)))) (append-assoc values unused rest)
     ∙ take-at values (unused ++ rest) _ (length-map (o .fields) value-number ∙ s .fields) in
-    let fields : map value-of-number (take (length (W .fields (o .class-of))) ((values ++ unused) ++ rest)) ≡ o .fields =
+    let fields : map value-of-number (take (length (W .fields (o .class-of))) ((values ++ unused) ++ rest))
+    ≡ o .fields =
     ap (map value-of-number) taken ∙ values-back (o .fields) in
     ap (λ (vs : List Value). record { class-of = o .class-of; fields = vs }
     ∷ heap-of-numbers W n (drop numbers-an-object (object-numbers o ++ rest))) fields
@@ -103,7 +105,8 @@ unfolding stored
 stored-rest h ss store = drop-at (heap-numbers h) _ (numbers-an-object * length h) (heap-length h ss)
 
 -- A store with room for the objects is as long as before.
-pub stored-length : {W : World} (h : List Object) → Each (Shaped W) h → (store : List ℕ) → length h ≤ capacity store
+pub stored-length : {W : World} (h : List Object) → Each (Shaped W) h → (store : List ℕ)
+    → length h ≤ capacity store
     → length (stored h store) ≡ length store
 unfolding stored capacity
 stored-length h ss store l = omega (
@@ -131,7 +134,8 @@ fine-heap (fine-full h) = h
 -- At the end of a run of a well-formed program, whatever its limits, each object has the fields of its class.
 pub run-shaped : (p : Program) → ProgramWell p → (L : Limits)
     → Each (Shaped (world (p .classes))) (final (run L p) .heap)
-run-shaped p w L = shaped-each W (final (run L p) .heap) λ j o e. let l = all2-length (heap (run-sound p w L) .each j o e) in
+run-shaped p w L = shaped-each W (final (run L p) .heap) λ j o e. let l =
+    all2-length (heap (run-sound p w L) .each j o e) in
     record { fields = l; few = omega (arith, l, well-formed-more p w .few-fields (o .class-of)) }
   where
     W : World

@@ -49,7 +49,8 @@ module _ (P : List Class) where
         (or-inv (eqb k d) _ e)
       where
         go : (o : Option Class) → class-at P k ≡ o
-            → ((c : Class) → class-at P k ≡ some c → below-at P n (c .super) d ≡ true → Subclass P (c .super) d)
+            → ((c : Class) → class-at P k ≡ some c → below-at P n (c .super) d ≡ true
+            → Subclass P (c .super) d)
             → (eqb k d ≡ true) ⊎ (given o (eqb d object-class) (λ c. below-at P n (c .super) d) ≡ true)
             → Subclass P k d
         go o q ih (inl p) = subst (λ x. Subclass P k x) (eqb-true k d p) itself
@@ -77,7 +78,8 @@ module _ (P : List Class) where
         go (class-at P k) refl (λ c p. below-top n (c .super) (omega (arith, earlier k c p, l)))
       where
         go : (o : Option Class) → class-at P k ≡ o
-            → ((c : Class) → class-at P k ≡ some c → Subclass P (c .super) object-class) → Subclass P k object-class
+            → ((c : Class) → class-at P k ≡ some c → Subclass P (c .super) object-class)
+            → Subclass P k object-class
         go none e ih = below-object e
         go (some c) e ih = above c e (ih c e)
 
@@ -89,7 +91,8 @@ module _ (P : List Class) where
     unfolding nearest-at
     nearest-above zero k d l = absurd (omega (arith, l))
     nearest-above (suc n) k d l =
-        tested (below-at P (suc d) d k) refl (λ c p. nearest-above n (c .super) d (omega (arith, earlier k c p, l)))
+        tested (below-at P (suc d) d k) refl
+        (λ c p. nearest-above n (c .super) d (omega (arith, earlier k c p, l)))
       where
         only-object : (e : ℕ) → class-at P k ≡ none → (Subclass P d k → ⊥) → Subclass P k e → Subclass P d e
             → Subclass P object-class e
@@ -102,7 +105,8 @@ module _ (P : List Class) where
             → Subclass P k e → Subclass P d e → Subclass P m e
         further c e m p not f itself t = absurd (not t)
         further c e m p not f (below-object q) t = no-class q p
-        further c e m p not f (above b q r) t = f e (subst (λ (x : Class). Subclass P (x .super) e) (one-class q p) r) t
+        further c e m p not f (above b q r) t =
+            f e (subst (λ (x : Class). Subclass P (x .super) e) (one-class q p) r) t
 
         go : (o : Option Class) → class-at P k ≡ o → (Subclass P d k → ⊥)
             → ((c : Class) → class-at P k ≡ some c → Nearest P (c .super) d (nearest-at P n (c .super) d))
@@ -117,7 +121,8 @@ module _ (P : List Class) where
 
         tested : (b : Bool) → below-at P (suc d) d k ≡ b
             → ((c : Class) → class-at P k ≡ some c → Nearest P (c .super) d (nearest-at P n (c .super) d))
-            → Nearest P k d (choice b (λ _. k) (λ _. given (class-at P k) object-class λ c. nearest-at P n (c .super) d))
+            → Nearest P k d (choice b (λ _. k) (λ _. given (class-at P k) object-class λ c. nearest-at P n
+            (c .super) d))
         tested true e ih = record { left = itself; right = test-subclass e; least = λ e s t. s }
         tested false e ih = go (class-at P k) refl (λ s. false≢ (sym e ∙ subclass-test s)) ih
 
@@ -130,7 +135,8 @@ module _ (P : List Class) where
     fields-enough zero m k l l′ = absurd (omega (arith, l))
     fields-enough (suc n) zero k l l′ = absurd (omega (arith, l′))
     fields-enough (suc n) (suc m) k l l′ = go (class-at P k) refl
-        (λ c p. fields-enough n m (c .super) (omega (arith, earlier k c p, l)) (omega (arith, earlier k c p, l′)))
+        (λ c p. fields-enough n m (c .super) (omega (arith, earlier k c p, l))
+        (omega (arith, earlier k c p, l′)))
       where
         go : (o : Option Class) → class-at P k ≡ o
             → ((c : Class) → class-at P k ≡ some c → fields-at P n (c .super) ≡ fields-at P m (c .super))
@@ -208,67 +214,73 @@ module _ (P : List Class) where
     root-subclass (root-above c p s x) = above c p (root-subclass x)
 
     -- A class that is no state class is its own root.
-    pub root-of-other : {k r : ℕ} → ((c : Class) → class-at P k ≡ some c → is-state (c .kind) ≡ false) → RootOf k r
+    pub root-of-other : {k r : ℕ} → ((c : Class) → class-at P k ≡ some c → is-state (c .kind) ≡ false)
+        → RootOf k r
         → r ≡ k
     root-of-other f (root-none e) = refl
     root-of-other f (root-stays c p s) = refl
     root-of-other f (root-above c p s x) = false≢ (sym (f c p) ∙ s)
 
     -- Kinds extend as Figure 20 has it, so above a class that is no state class there are plain classes only.
-    module _ (kinds : (k : ℕ) (c : Class) → class-at P k ≡ some c → Extends (c .kind) (kind-at P (c .super))) where
-      plain-extended : {k : Kind} {o : Option Kind} → Extends k o → is-state k ≡ false → (j : Kind) → o ≡ some j
-          → is-plain j ≡ true
-      plain-extended plain-object s j e = absurd (Never e)
-      plain-extended plain-plain s j e = ap is-plain (sym (inj e))
-      plain-extended root-object s j e = absurd (Never e)
-      plain-extended root-plain s j e = ap is-plain (sym (inj e))
-      plain-extended state-root s j e = false≢ (sym s)
-      plain-extended state-state s j e = false≢ (sym s)
+    module _ (kinds : (k : ℕ) (c : Class) → class-at P k ≡ some c → Extends (c .kind) (kind-at P (c .super)))
+      where
+        plain-extended : {k : Kind} {o : Option Kind} → Extends k o → is-state k ≡ false → (j : Kind)
+            → o ≡ some j
+            → is-plain j ≡ true
+        plain-extended plain-object s j e = absurd (Never e)
+        plain-extended plain-plain s j e = ap is-plain (sym (inj e))
+        plain-extended root-object s j e = absurd (Never e)
+        plain-extended root-plain s j e = ap is-plain (sym (inj e))
+        plain-extended state-root s j e = false≢ (sym s)
+        plain-extended state-state s j e = false≢ (sym s)
 
-      superclass-plain : (k : ℕ) (c b : Class) → class-at P k ≡ some c → is-state (c .kind) ≡ false
-          → class-at P (c .super) ≡ some b → is-plain (b .kind) ≡ true
-      unfolding kind-at
-      superclass-plain k c b p s q = plain-extended (kinds k c p) s (b .kind) (rw q)
+        superclass-plain : (k : ℕ) (c b : Class) → class-at P k ≡ some c → is-state (c .kind) ≡ false
+            → class-at P (c .super) ≡ some b → is-plain (b .kind) ≡ true
+        unfolding kind-at
+        superclass-plain k c b p s q = plain-extended (kinds k c p) s (b .kind) (rw q)
 
-      plain-no-state : (k : Kind) → is-plain k ≡ true → is-state k ≡ false
-      plain-no-state plain e = refl
-      plain-no-state root e = refl
-      plain-no-state state e = false≢ e
-      plain-no-state (unknown n) e = refl
+        plain-no-state : (k : Kind) → is-plain k ≡ true → is-state k ≡ false
+        plain-no-state plain e = refl
+        plain-no-state root e = refl
+        plain-no-state state e = false≢ e
+        plain-no-state (unknown n) e = refl
 
-      plain-above : {j d : ℕ} → Subclass P j d → ((b : Class) → class-at P j ≡ some b → is-plain (b .kind) ≡ true)
-          → (b : Class) → class-at P d ≡ some b → is-plain (b .kind) ≡ true
-      plain-above itself f = f
-      plain-above (below-object p) f = λ b q. no-class object-is-no-class q
-      plain-above {j} (above c p r) f =
-          plain-above r (λ b q. superclass-plain j c b p (plain-no-state (c .kind) (f c p)) q)
+        plain-above : {j d : ℕ} → Subclass P j d
+            → ((b : Class) → class-at P j ≡ some b → is-plain (b .kind) ≡ true)
+            → (b : Class) → class-at P d ≡ some b → is-plain (b .kind) ≡ true
+        plain-above itself f = f
+        plain-above (below-object p) f = λ b q. no-class object-is-no-class q
+        plain-above {j} (above c p r) f =
+            plain-above r (λ b q. superclass-plain j c b p (plain-no-state (c .kind) (f c p)) q)
 
-      -- What stands above a class that is no state class.
-      above-plain : (k : ℕ) {d : ℕ} (c b : Class) → class-at P k ≡ some c → class-at P k ≡ some b
-          → is-state (b .kind) ≡ false → Subclass P (c .super) d
-          → (x : Class) → class-at P d ≡ some x → is-plain (x .kind) ≡ true
-      above-plain k c b p q s a = plain-above a
-          (λ x e. superclass-plain k c x p (ap (λ (y : Class). is-state (y .kind)) (one-class p q) ∙ s) e)
+        -- What stands above a class that is no state class.
+        above-plain : (k : ℕ) {d : ℕ} (c b : Class) → class-at P k ≡ some c → class-at P k ≡ some b
+            → is-state (b .kind) ≡ false → Subclass P (c .super) d
+            → (x : Class) → class-at P d ≡ some x → is-plain (x .kind) ≡ true
+        above-plain k c b p q s a = plain-above a
+            (λ x e. superclass-plain k c x p (ap (λ (y : Class). is-state (y .kind)) (one-class p q) ∙ s) e)
 
-      -- Up from a class either its root stays the root, or every class is its own root and above that root.
-      pub root-up : {k d r q : ℕ} → Subclass P k d → RootOf k r → RootOf d q
-          → (q ≡ r) ⊎ ((q ≡ d) × Subclass P r d)
-      root-up itself x y = inl (root-one y x)
-      root-up (below-object p) (root-none e) y = inr (root-one y (root-none object-is-no-class), below-object p)
-      root-up (below-object p) (root-stays c e s) y = no-class p e
-      root-up (below-object p) (root-above c e s x) y = no-class p e
-      root-up (above c p a) (root-none e) y = no-class e p
-      root-up {k} (above c p a) (root-stays b q s) y =
-          inr (root-of-other (λ x e. plain-no-state (x .kind) (above-plain k c b p q s a x e)) y, above c p a)
-      root-up {r} (above c p a) (root-above b q s x) y =
-          root-up {r = r} a (subst (λ (c : Class). RootOf (c .super) r) (one-class q p) x) y
+        -- Up from a class either its root stays the root, or every class is its own root and above that root.
+        pub root-up : {k d r q : ℕ} → Subclass P k d → RootOf k r → RootOf d q
+            → (q ≡ r) ⊎ ((q ≡ d) × Subclass P r d)
+        root-up itself x y = inl (root-one y x)
+        root-up (below-object p) (root-none e) y =
+            inr (root-one y (root-none object-is-no-class), below-object p)
+        root-up (below-object p) (root-stays c e s) y = no-class p e
+        root-up (below-object p) (root-above c e s x) y = no-class p e
+        root-up (above c p a) (root-none e) y = no-class e p
+        root-up {k} (above c p a) (root-stays b q s) y =
+            inr (root-of-other (λ x e. plain-no-state (x .kind) (above-plain k c b p q s a x e)) y, above c p a)
+        root-up {r} (above c p a) (root-above b q s x) y =
+            root-up {r = r} a (subst (λ (c : Class). RootOf (c .super) r) (one-class q p) x) y
 
-      -- A class below a root or state class has the same root.
-      pub root-same : {k d r q : ℕ} → Subclass P k d → (b : Class) → class-at P d ≡ some b
-          → is-plain (b .kind) ≡ false → RootOf k r → RootOf d q → r ≡ q
-      root-same itself b e f x y = root-one x y
-      root-same (below-object p) b e f x y = no-class object-is-no-class e
-      root-same (above c p a) b e f (root-none z) y = no-class z p
-      root-same {k} (above c p a) b e f (root-stays c′ p′ s) y = false≢ (sym f ∙ above-plain k c c′ p p′ s a b e)
-      root-same {r} (above c p a) b e f (root-above c′ p′ s x) y =
-          root-same {r = r} a b e f (subst (λ (c : Class). RootOf (c .super) r) (one-class p′ p) x) y
+        -- A class below a root or state class has the same root.
+        pub root-same : {k d r q : ℕ} → Subclass P k d → (b : Class) → class-at P d ≡ some b
+            → is-plain (b .kind) ≡ false → RootOf k r → RootOf d q → r ≡ q
+        root-same itself b e f x y = root-one x y
+        root-same (below-object p) b e f x y = no-class object-is-no-class e
+        root-same (above c p a) b e f (root-none z) y = no-class z p
+        root-same {k} (above c p a) b e f (root-stays c′ p′ s) y =
+            false≢ (sym f ∙ above-plain k c c′ p p′ s a b e)
+        root-same {r} (above c p a) b e f (root-above c′ p′ s x) y =
+            root-same {r = r} a b e f (subst (λ (c : Class). RootOf (c .super) r) (one-class p′ p) x) y

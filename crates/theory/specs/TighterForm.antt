@@ -13,13 +13,17 @@ use native.Mathlib.Omega.{arith}
 use Rattle.language.specs.Limits.{Most, limit-refusal, line-refusal, place-refusal}
 use Rattle.language.specs.Lists.{given}
 use Rattle.language.specs.Results.{Checked, accept, refuse, bind-checked, need-checked, require}
-use Rattle.language.specs.Rows.{Letter, C-class, F-field, M-method, P-parameter, X-effect, S-start, B-block, V-local}
-use Rattle.language.specs.Rows.{T-true, L-false, N-null, I-slot, Z-is-null, G-get, K-cast, W-new, R-change, A-assign}
+use Rattle.language.specs.Rows.{Letter, C-class, F-field, M-method, P-parameter, X-effect, S-start, B-block}
+use Rattle.language.specs.Rows.{V-local}
+use Rattle.language.specs.Rows.{T-true, L-false, N-null, I-slot, Z-is-null, G-get, K-cast, W-new, R-change}
+use Rattle.language.specs.Rows.{A-assign}
 use Rattle.language.specs.Rows.{U-set, Q-call, J-choose, Record, name-of, same-letter, Row, record-of}
 use Rattle.language.specs.Tree.{DeclaredType, type-of-number, Expr, size, Field, Declaration, method-lines}
 use Rattle.language.specs.Tree.{methods-lines, Class, class-lines, classes-lines, Program}
-use Rattle.language.specs.Form.{Read, read, after, several, if-letter, record-on, next, maybe, locals, node-of, node}
-use Rattle.language.specs.Form.{body, class-of, fields, parameters, effects, method, methods, classes, at-end, form}
+use Rattle.language.specs.Form.{Read, read, after, several, if-letter, record-on, next, maybe, locals}
+use Rattle.language.specs.Form.{node-of, node}
+use Rattle.language.specs.Form.{body, class-of, fields, parameters, effects, method, methods, classes, at-end}
+use Rattle.language.specs.Form.{form}
 use Rattle.language.specs.Form.{is-node}
 use Rattle.theory.specs.Translatable.{Tighter}
 
@@ -33,7 +37,8 @@ pub cuts-refl : {A : Type 0} (r : Checked A) → Cuts r r
 cuts-refl (accept a) = same
 cuts-refl (refuse n l) = unsaid
 
-pub cuts-bind : {A B : Type 0} {r r′ : Checked A} {k k′ : A → Checked B} → Cuts r r′ → ((a : A) → Cuts (k a) (k′ a))
+pub cuts-bind : {A B : Type 0} {r r′ : Checked A} {k k′ : A → Checked B} → Cuts r r′
+    → ((a : A) → Cuts (k a) (k′ a))
     → Cuts (bind-checked r k) (bind-checked r′ k′)
 unfolding bind-checked
 cuts-bind same f = f _
@@ -48,13 +53,15 @@ cuts-after over f = over
 cuts-after unsaid f = unsaid
 
 -- What must hold of rows alike; what must hold by a limit.
-pub cuts-require : {B : Type 0} (b : Bool) (n l : ℕ) {k k′ : Bool → Checked B} → ((b : Bool) → Cuts (k b) (k′ b))
+pub cuts-require : {B : Type 0} (b : Bool) (n l : ℕ) {k k′ : Bool → Checked B}
+    → ((b : Bool) → Cuts (k b) (k′ b))
     → Cuts (require b n l k) (require b n l k′)
 unfolding require
 cuts-require true n l f = f true
 cuts-require false n l f = unsaid
 
-pub cuts-limit : {B : Type 0} (b b′ : Bool) (l : ℕ) {k k′ : Bool → Checked B} → ((b : Bool) → Cuts (k b) (k′ b))
+pub cuts-limit : {B : Type 0} (b b′ : Bool) (l : ℕ) {k k′ : Bool → Checked B}
+    → ((b : Bool) → Cuts (k b) (k′ b))
     → Cuts (require b limit-refusal l k) (require b′ limit-refusal l k′)
 unfolding require
 cuts-limit b false l f = over
@@ -75,7 +82,8 @@ over-after k is-over = is-over
 module _ (wide tight : Most) (t : Tighter tight wide) where
   -- A row is read alike, or refused with 2.
   record-either : (at : ℕ) (r : Row)
-      → (record-on wide at r ≡ record-on tight at r) ⊎ ((l : ℕ) × (record-on tight at r ≡ refuse limit-refusal l))
+      → (record-on wide at r ≡ record-on tight at r)
+      ⊎ ((l : ℕ) × (record-on tight at r ≡ refuse limit-refusal l))
   unfolding record-on need-checked require
   record-either at r = go (record-of r)
     where
@@ -109,13 +117,15 @@ module _ (wide tight : Most) (t : Tighter tight wide) where
   record-cuts : (at : ℕ) (r : Row) → Cuts (record-on wide at r) (record-on tight at r)
   record-cuts at r = go (record-either at r)
     where
-      go : (record-on wide at r ≡ record-on tight at r) ⊎ ((l : ℕ) × (record-on tight at r ≡ refuse limit-refusal l))
+      go : (record-on wide at r ≡ record-on tight at r)
+          ⊎ ((l : ℕ) × (record-on tight at r ≡ refuse limit-refusal l))
           → Cuts (record-on wide at r) (record-on tight at r)
       go (inl e) = rw e (cuts-refl (record-on tight at r))
       go (inr e) = rw (e .1) over
 
   next-cuts : {B : Type 0} (at : ℕ) (rs : List Row) {k k′ : Record → List Row → Checked B}
-      → ((x : Record) (rest : List Row) → Cuts (k x rest) (k′ x rest)) → Cuts (next wide at rs k) (next tight at rs k′)
+      → ((x : Record) (rest : List Row) → Cuts (k x rest) (k′ x rest))
+      → Cuts (next wide at rs k) (next tight at rs k′)
   unfolding next
   next-cuts at [] f = unsaid
   next-cuts at (r ∷ rs) f = cuts-bind (record-cuts at r) λ x. f x rs
@@ -137,7 +147,8 @@ module _ (wide tight : Most) (t : Tighter tight wide) where
       cuts-after (several-cuts nd nd′ g k (at + size e) rest) λ es rest. same
 
   node-of-cuts : (nd nd′ : ℕ → ℕ → List Row → Checked (Read Expr))
-      → ((n at : ℕ) (rs : List Row) → Cuts (nd n at rs) (nd′ n at rs)) → (l : Letter) (a b n at : ℕ) (rs : List Row)
+      → ((n at : ℕ) (rs : List Row) → Cuts (nd n at rs) (nd′ n at rs))
+      → (l : Letter) (a b n at : ℕ) (rs : List Row)
       → Cuts (node-of wide nd l a b n at rs) (node-of tight nd′ l a b n at rs)
   unfolding node-of
   node-of-cuts nd nd′ g C-class a b n at rs = unsaid
@@ -160,13 +171,15 @@ module _ (wide tight : Most) (t : Tighter tight wide) where
   node-of-cuts nd nd′ g U-set a b n at rs = cuts-after (g n (at + 1) rs) λ e rest.
       cuts-after (g n (at + 1 + size e) rest) λ e′ rest. same
   node-of-cuts nd nd′ g Q-call a b n at rs = cuts-after (g n (at + 1) rs) λ e rest.
-      cuts-after (several-cuts (λ at rs. nd n at rs) (λ at rs. nd′ n at rs) (g n) b (at + 1 + size e) rest) λ es rest. same
+      cuts-after (several-cuts (λ at rs. nd n at rs) (λ at rs. nd′ n at rs) (g n) b (at + 1 + size e) rest)
+      λ es rest. same
   node-of-cuts nd nd′ g J-choose a b n at rs = cuts-after (g n (at + 1) rs) λ e rest.
       cuts-after (g n (at + 1 + size e) rest) λ x rest.
       cuts-after (g n (at + 1 + size e + size x) rest) λ y rest. same
   node-of-cuts nd nd′ g B-block v k n at rs = cuts-require (not (eqb k 0)) _ _ λ _.
       cuts-after (locals-cuts v n (at + 1) rs) λ ts rest.
-      cuts-after (several-cuts (λ at rs. nd (n + v) at rs) (λ at rs. nd′ (n + v) at rs) (g (n + v)) k (at + 1 + v) rest)
+      cuts-after (several-cuts (λ at rs. nd (n + v) at rs) (λ at rs. nd′ (n + v) at rs) (g (n + v)) k
+      (at + 1 + v) rest)
       λ es rest. same
 
   -- With no nesting left a node is 2.
@@ -219,7 +232,8 @@ module _ (wide tight : Most) (t : Tighter tight wide) where
 
   -- Rows of which the first is refused with 2 within tight limits: nothing more is read of them.
   data Blocked (at : ℕ) : List Row → Type 0 where
-    blocked : {r : Row} {rs : List Row} (l : ℕ) → record-on tight at r ≡ refuse limit-refusal l → Blocked at (r ∷ rs)
+    blocked : {r : Row} {rs : List Row} (l : ℕ) → record-on tight at r ≡ refuse limit-refusal l
+        → Blocked at (r ∷ rs)
 
   next-blocked : {B : Type 0} {at : ℕ} {rs : List Row} (k : Record → List Row → Checked B) → Blocked at rs
       → Over (next tight at rs k)
@@ -267,7 +281,8 @@ module _ (wide tight : Most) (t : Tighter tight wide) where
           → Lines at (more wide o) (more tight o)
       step none h = inl refl
       step (some x) (inl e) = inl (rw e)
-      step (some x) (inr b) = inr (subst (λ (n : ℕ). Blocked n (fields tight (at + 1) rs .rest)) (omega arith) b)
+      step (some x) (inr b) =
+          inr (subst (λ (n : ℕ). Blocked n (fields tight (at + 1) rs .rest)) (omega arith) b)
 
       go : (maybe wide F-field at r ≡ maybe tight F-field at r) ⊎ Blocked at (r ∷ rs)
           → Lines (at + 1) (fields wide (at + 1) rs) (fields tight (at + 1) rs)
@@ -289,7 +304,8 @@ module _ (wide tight : Most) (t : Tighter tight wide) where
           → Lines at (more wide o) (more tight o)
       step none h = inl refl
       step (some x) (inl e) = inl (rw e)
-      step (some x) (inr b) = inr (subst (λ (n : ℕ). Blocked n (effects tight (at + 1) rs .rest)) (omega arith) b)
+      step (some x) (inr b) =
+          inr (subst (λ (n : ℕ). Blocked n (effects tight (at + 1) rs .rest)) (omega arith) b)
 
       go : (maybe wide X-effect at r ≡ maybe tight X-effect at r) ⊎ Blocked at (r ∷ rs)
           → Lines (at + 1) (effects wide (at + 1) rs) (effects tight (at + 1) rs)
@@ -318,7 +334,8 @@ module _ (wide tight : Most) (t : Tighter tight wide) where
   after-read (blocked-read b) f g = over-any (g _ _ b)
 
   read-after : {A B : Type 0} {end : B → ℕ} {r r′ : Checked (Read A)} {k k′ : A → List Row → Checked (Read B)}
-      → Cuts r r′ → ((a : A) (rs : List Row) → CutsRead end (k a rs) (k′ a rs)) → CutsRead end (after r k) (after r′ k′)
+      → Cuts r r′ → ((a : A) (rs : List Row) → CutsRead end (k a rs) (k′ a rs))
+      → CutsRead end (after r k) (after r′ k′)
   unfolding after
   read-after same f = f _ _
   read-after over f = over-read
@@ -389,7 +406,8 @@ module _ (wide tight : Most) (t : Tighter tight wide) where
       (subst (λ (n : ℕ). Blocked n rest) (omega arith) b))))
     where
       tail : Most → List DeclaredType → Read (List ℕ) → Checked (Read Declaration)
-      tail most ts xs = after (body most (1 + length ts) (at + 1 + length ts + length (xs .tree)) (xs .rest)) λ e rest.
+      tail most ts xs = after (body most (1 + length ts) (at + 1 + length ts + length (xs .tree)) (xs .rest))
+          λ e rest.
           accept (read (record {
             result = type-of-number (m .first);
             name = m .second;
@@ -400,7 +418,8 @@ module _ (wide tight : Most) (t : Tighter tight wide) where
 
       go : (ts : List DeclaredType) (x y : Read (List ℕ)) → Lines (at + 1 + length ts) x y
           → Cuts (tail wide ts x) (tail tight ts y)
-      go ts x y (inl e) = rw e (cuts-after (body-cuts (1 + length ts) (at + 1 + length ts + length (y .tree)) (y .rest))
+      go ts x y (inl e) = rw e (cuts-after (body-cuts (1 + length ts) (at + 1 + length ts + length (y .tree))
+          (y .rest))
           λ e rest. same)
       go ts x y (inr b) = over-any (over-after _ (body-blocked (1 + length ts) b))
 
@@ -411,20 +430,24 @@ module _ (wide tight : Most) (t : Tighter tight wide) where
   methods-cuts (suc k) at [] = same-read
   methods-cuts (suc k) at (r ∷ rs) = read-given M-method at r rs [] (omega arith) λ x.
       read-after (method-cuts at x rs) λ m rest.
-      read-more (λ (ms : List Declaration). m ∷ ms) (λ ms. omega arith) (methods-cuts k (at + method-lines m) rest)
+      read-more (λ (ms : List Declaration). m ∷ ms) (λ ms. omega arith)
+      (methods-cuts k (at + method-lines m) rest)
 
-  methods-blocked : {at : ℕ} {rs : List Row} (k : ℕ) → Blocked at rs → methods tight k at rs ≡ accept (read [] rs)
+  methods-blocked : {at : ℕ} {rs : List Row} (k : ℕ) → Blocked at rs
+      → methods tight k at rs ≡ accept (read [] rs)
   unfolding methods
   methods-blocked zero b = refl
   methods-blocked {at} (suc k) (blocked {r} {rs} l e) = rw (maybe-blocked M-method at r rs (blocked l e))
 
-  classes-blocked : {at : ℕ} {rs : List Row} (k n : ℕ) → Blocked at rs → classes tight k n at rs ≡ accept (read [] rs)
+  classes-blocked : {at : ℕ} {rs : List Row} (k n : ℕ) → Blocked at rs
+      → classes tight k n at rs ≡ accept (read [] rs)
   unfolding classes
   classes-blocked zero n b = refl
   classes-blocked {at} (suc k) n (blocked {r} {rs} l e) = rw (maybe-blocked C-class at r rs (blocked l e))
 
   -- A class after which the rows are blocked is the last.
-  last-class : (r : Checked (Read (List Class))) (k n at : ℕ) (c : Class) (rs : List Row) → Blocked (at + class-lines c) rs
+  last-class : (r : Checked (Read (List Class))) (k n at : ℕ) (c : Class) (rs : List Row)
+      → Blocked (at + class-lines c) rs
       → CutsRead (λ cs. at + classes-lines cs) r
       (after (classes tight k n (at + class-lines c) rs) (λ cs rest. accept (read (c ∷ cs) rest)))
   unfolding after classes-lines
@@ -449,12 +472,14 @@ module _ (wide tight : Most) (t : Tighter tight wide) where
           (classes wide k (suc n) at rs) (classes tight k (suc n) at rs))
           → (fs gs : Read (List Field)) → Lines (at + 1) fs gs
           → CutsRead (λ cs. at + classes-lines cs) (tail wide x fs) (tail tight x gs)
-      go x ih fs gs (inl e) = rw e (read-read (methods-cuts (length rs) (at + 1 + length (gs .tree)) (gs .rest))
+      go x ih fs gs (inl e) =
+          rw e (read-read (methods-cuts (length rs) (at + 1 + length (gs .tree)) (gs .rest))
           (λ ms rest. read-more (λ (cs : List Class). class-of x (gs .tree) ms ∷ cs) (λ cs. omega arith)
           (ih (at + class-lines (class-of x (gs .tree) ms)) rest))
           (λ r ms rest b. last-class r k (suc n) at (class-of x (gs .tree) ms) rest
           (subst (λ (m : ℕ). Blocked m rest) (omega arith) b)))
-      go x ih fs gs (inr b) = rw (methods-blocked (length rs) b) (last-class _ k (suc n) at (class-of x (gs .tree) []) (gs .rest)
+      go x ih fs gs (inr b) =
+          rw (methods-blocked (length rs) b) (last-class _ k (suc n) at (class-of x (gs .tree) []) (gs .rest)
           (subst (λ (m : ℕ). Blocked m (gs .rest)) (omega arith) b))
 
   at-end-cuts : (at : ℕ) (rs : List Row) (p : Program) → Cuts (at-end wide at rs p) (at-end tight at rs p)

@@ -10,13 +10,16 @@ use Rattle.language.specs.Limits.{Most, of-check, of-translator}
 use Rattle.language.specs.Results.{Checked, accept, refuse, Pass, passed, earlier, bind-checked-inv}
 use Rattle.language.specs.Results.{accept-injective, accept≢refuse}
 use Rattle.language.specs.Rows.{row-of, rows-of, numbers-of}
-use Rattle.language.specs.Tree.{Expr, literal-true, literal-false, literal-null, slot, is-null, get, cast, new}
-use Rattle.language.specs.Tree.{change, assign, set, call, choose, block, Exprs, nil, cons, Declaration, Class}
+use Rattle.language.specs.Tree.{Expr, literal-true, literal-false, literal-null, slot, is-null, get, cast}
+use Rattle.language.specs.Tree.{new}
+use Rattle.language.specs.Tree.{change, assign, set, call, choose, block, Exprs, nil, cons, Declaration}
+use Rattle.language.specs.Tree.{Class}
 use Rattle.language.specs.Tree.{Program, flatten-program}
 use Rattle.language.specs.Program.{world}
 use Rattle.language.specs.Form.{form}
 use Rattle.language.specs.Headings.{headings}
-use Rattle.language.specs.WellFormed.{Each, each-nil, each-cons, NodeInForm, NodesInForm, form-true, form-false}
+use Rattle.language.specs.WellFormed.{Each, each-nil, each-cons, NodeInForm, NodesInForm, form-true}
+use Rattle.language.specs.WellFormed.{form-false}
 use Rattle.language.specs.WellFormed.{form-null, form-slot, form-is-null, form-get, form-cast, form-new}
 use Rattle.language.specs.WellFormed.{form-change, form-assign, form-set, form-call, form-choose, form-block}
 use Rattle.language.specs.WellFormed.{form-nil, form-cons, BodyInForm, form-body, MethodInForm, ClassInForm}
@@ -59,7 +62,8 @@ module _ (tight wide : Most) (t : Tighter tight wide) where
     node-wider (is-null e) (form-is-null i) zero l = absurd (omega arith)
     node-wider (is-null e) (form-is-null i) (suc d) l = form-is-null (node-wider e i d (down l))
     node-wider (get f e) (form-get p i) zero l = absurd (omega arith)
-    node-wider (get f e) (form-get p i) (suc d) l = form-get {f = f} (omega (arith, t .name)) (node-wider e i d (down l))
+    node-wider (get f e) (form-get p i) (suc d) l =
+        form-get {f = f} (omega (arith, t .name)) (node-wider e i d (down l))
     node-wider (cast c e) (form-cast p i) zero l = absurd (omega arith)
     node-wider (cast c e) (form-cast p i) (suc d) l = form-cast p (node-wider e i d (down l))
     node-wider (new c) (form-new p) zero l = absurd (omega arith)
@@ -73,7 +77,8 @@ module _ (tight wide : Most) (t : Tighter tight wide) where
         form-set {f = f} (omega (arith, t .name)) (node-wider e i d (down l)) (node-wider e′ j d (down l))
     node-wider (call m e es) (form-call p q i is) zero l = absurd (omega arith)
     node-wider (call m e es) (form-call p q i is) (suc d) l =
-        form-call {m = m} (omega (arith, t .name)) q (node-wider e i d (down l)) (nodes-wider es is d (down l))
+        form-call {m = m} (omega (arith, t .name)) q (node-wider e i d (down l))
+        (nodes-wider es is d (down l))
     node-wider (choose a b c) (form-choose i j k) zero l = absurd (omega arith)
     node-wider (choose a b c) (form-choose i j k) (suc d) l =
         form-choose (node-wider a i d (down l)) (node-wider b j d (down l)) (node-wider c k d (down l))
@@ -81,7 +86,8 @@ module _ (tight wide : Most) (t : Tighter tight wide) where
     node-wider (block ts es) {n} (form-block p q r ts-formed is) (suc d) l =
         form-block {n = n} {ts = ts} (omega (arith, t .slots)) q r ts-formed (nodes-wider es is d (down l))
 
-    nodes-wider : (es : Exprs) {d n : ℕ} → NodesInForm tight d n es → (d′ : ℕ) → d ≤ d′ → NodesInForm wide d′ n es
+    nodes-wider : (es : Exprs) {d n : ℕ} → NodesInForm tight d n es → (d′ : ℕ) → d ≤ d′
+        → NodesInForm wide d′ n es
     nodes-wider nil form-nil d l = form-nil
     nodes-wider (cons e es) (form-cons i is) d l = form-cons (node-wider e i d l) (nodes-wider es is d l)
 
@@ -146,11 +152,13 @@ earlier-inv (refuse n l) (refuse m k) {u} e f = absurd (go (ltb k l) e)
     go false e = accept≢refuse n l e
 
 -- The two passes over form read the same program of the same rows.
-pub same-program : (ns : List ℕ) (p q : Program) → RowsOf ns p → form of-translator (rows-of ns) ≡ accept q → q ≡ p
+pub same-program : (ns : List ℕ) (p q : Program) → RowsOf ns p → form of-translator (rows-of ns) ≡ accept q
+    → q ≡ p
 same-program ns p q r e =
     let f = form-back of-translator (omega arith) (rows-of ns) q e in
     let wide = program-wider of-translator of-check translator-tighter q (f .1) in
-    let again = form-flat of-check (omega arith) (omega arith) q wide (omega (arith, wide .rows, length-program q)) in
+    let again = form-flat of-check (omega arith) (omega arith) q wide
+    (omega (arith, wide .rows, length-program q)) in
     let first = form-flat of-check (omega arith) (omega arith) p (r .in-form)
     (omega (arith, r .in-form .rows, length-program p)) in
     let same : map row-of (flatten-program q) ≡ map row-of (flatten-program p)
@@ -159,7 +167,8 @@ same-program ns p q r e =
 
 -- The translator answers only rows of such a program, and with the rows of its plain program.
 pub translation-takes : (ns out : List ℕ) → translation ns ≡ accept out
-    → (p : Program) × TranslatableRows ns p × (out ≡ numbers-of (map row-of (flatten-program (plain-program p))))
+    → (p : Program) × TranslatableRows ns p
+    × (out ≡ numbers-of (map row-of (flatten-program (plain-program p))))
 unfolding translation within-limits
 translation-takes ns out e = bind-checked-inv _ _ e λ p e₁ e. bind-checked-inv _ _ e λ u e₂ e.
     bind-checked-inv _ _ e λ v e₃ e. earlier-inv _ _ e₂ λ q w e₄ e₅.
@@ -168,7 +177,8 @@ translation-takes ns out e = bind-checked-inv _ _ e λ p e₁ e. bind-checked-in
       p,
       record {
         accepted = r;
-        in-form = subst (ProgramInForm of-translator) s (form-back of-translator (omega arith) (rows-of ns) q e₄ .1);
+        in-form = subst (ProgramInForm of-translator) s
+            (form-back of-translator (omega arith) (rows-of ns) q e₄ .1);
         few-fields = e₅;
         unreserved = e₃;
       },

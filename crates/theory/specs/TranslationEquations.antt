@@ -8,7 +8,8 @@ use lib.ListN.{length}
 use Rattle.language.specs.Limits.{identity-class, imp-field}
 use Rattle.language.specs.Frames.{opened}
 use Rattle.language.specs.Tree.{DeclaredType, class, ExprType, known, Expr, literal-true, literal-false}
-use Rattle.language.specs.Tree.{literal-null, slot, is-null, get, cast, new, change, assign, set, call, choose}
+use Rattle.language.specs.Tree.{literal-null, slot, is-null, get, cast, new, change, assign, set, call}
+use Rattle.language.specs.Tree.{choose}
 use Rattle.language.specs.Tree.{block, Exprs, nil, cons}
 use Rattle.language.specs.World.{Method, World, field-type}
 use Rattle.language.specs.Effects.{apply-class}
@@ -78,7 +79,8 @@ module _ (W : World) where
   plain-assign k e γ sh = refl
 
   -- U.
-  pub plain-set : {γ γ₁ γ₂ : Environment} {e e′ : Expr} {t : ExprType} {u : DeclaredType} {c φ₁ φ₂ : ℕ} (f : ℕ)
+  pub plain-set : {γ γ₁ γ₂ : Environment} {e e′ : Expr} {t : ExprType} {u : DeclaredType} {c φ₁ φ₂ : ℕ}
+      (f : ℕ)
       (sh : Shape) → HasType W γ e (known (class c)) γ₁ φ₁ → HasType W γ₁ e′ t γ₂ φ₂
       → field-type f (W .fields (apply-class W φ₂ c)) ≡ some u
       → translate W (set f e e′) γ sh ≡ block (class identity-class ∷ plain-type u ∷ [])
@@ -104,7 +106,8 @@ module _ (W : World) where
   -- J.
   pub plain-choose : {γ γ′ : Environment} {e : Expr} {t : ExprType} {φ : ℕ} (x y : Expr) (sh : Shape)
       → HasType W γ e t γ′ φ
-      → translate W (choose e x y) γ sh ≡ choose (translate W e γ sh) (translate W x γ′ sh) (translate W y γ′ sh)
+      → translate W (choose e x y) γ sh
+      ≡ choose (translate W e γ sh) (translate W x γ′ sh) (translate W y γ′ sh)
   unfolding translate
   plain-choose {e} x y sh d = rw (complete W e d 0)
 
@@ -131,7 +134,8 @@ module _ (W : World) where
   unfolding translate
   plain-no-arguments γ sh n = refl
 
-  pub plain-arguments : {γ γ′ : Environment} {e : Expr} {t : ExprType} {φ : ℕ} (es : Exprs) (sh : Shape) (n : ℕ)
+  pub plain-arguments : {γ γ′ : Environment} {e : Expr} {t : ExprType} {φ : ℕ} (es : Exprs) (sh : Shape)
+      (n : ℕ)
       → HasType W γ e t γ′ φ
       → translate-arguments W (cons e es) γ sh n
       ≡ cons (assign n (translate W e γ sh)) (translate-arguments W es γ′ sh (suc n))

@@ -8,26 +8,32 @@ use lib.ListN.{length}
 use lib.Dec.{eqb, leb, ltb}
 use borrow.Author.Tests.{leb-true}
 use native.Mathlib.Omega.{arith}
-use Rattle.language.specs.Limits.{Most, of-check, of-translator, id-field, imp-field, limit-refusal, room-refusal, no-line}
+use Rattle.language.specs.Limits.{Most, of-check, of-translator, id-field, imp-field, limit-refusal}
+use Rattle.language.specs.Limits.{room-refusal, no-line}
 use Rattle.language.specs.Results.{Checked, accept, bind-checked, require, bind-checked-inv}
 use Rattle.language.specs.Results.{require-inv, accept-injective, accept≢refuse}
 use Rattle.language.specs.Rows.{rows-of}
-use Rattle.language.specs.Tree.{DeclaredType, Field, Declaration, method-lines, Class, class-lines, classes-lines}
+use Rattle.language.specs.Tree.{DeclaredType, Field, Declaration, method-lines, Class, class-lines}
+use Rattle.language.specs.Tree.{classes-lines}
 use Rattle.language.specs.Tree.{Program}
 use Rattle.language.specs.World.{place, is-declared, is-declared-type}
 use Rattle.language.specs.Program.{declared, kind-at, is-root-class, is-state-type, world}
 use Rattle.language.specs.Form.{form}
-use Rattle.language.specs.Headings.{may-extend, is-some, may-override, check-fields, check-parameters, check-effects}
+use Rattle.language.specs.Headings.{may-extend, is-some, may-override, check-fields, check-parameters}
+use Rattle.language.specs.Headings.{check-effects}
 use Rattle.language.specs.Headings.{check-methods, check-class, check-classes, headings}
 use Rattle.language.specs.Verdict.{whole-rows, three-passes, check}
 use Rattle.language.specs.Translation.{within-limits, fields-free, names-free, translation}
 use Rattle.language.specs.Translation.{translation-into}
 use Rattle.theory.specs.Translatable.{translator-tighter}
-use Rattle.theory.specs.Listed.{LineOf, FormRefusal, refuses-line, refuses-limit, refuses-place, HeadingRefusal}
+use Rattle.theory.specs.Listed.{LineOf, FormRefusal, refuses-line, refuses-limit, refuses-place}
+use Rattle.theory.specs.Listed.{HeadingRefusal}
 use Rattle.theory.specs.Listed.{refuses-fields, refuses-heading-name, refuses-kind, refuses-override}
-use Rattle.theory.specs.Listed.{TranslatorRefusal, by-check, over-limit, reserved-name, by-translator, no-room}
+use Rattle.theory.specs.Listed.{TranslatorRefusal, by-check, over-limit, reserved-name, by-translator}
+use Rattle.theory.specs.Listed.{no-room}
 use Rattle.theory.specs.Listed.{ListedTranslation, is-translated, is-not-translated}
-use Rattle.theory.specs.Refusals.{Any, Gives, gives, refuses, RefusesOnly, answers, refuses-as, only-mono, only-bind}
+use Rattle.theory.specs.Refusals.{Any, Gives, gives, refuses, RefusesOnly, answers, refuses-as}
+use Rattle.theory.specs.Refusals.{only-mono, only-bind}
 use Rattle.theory.specs.Refusals.{only-require, only-earlier}
 use Rattle.theory.specs.FormRefusals.{form-refusals}
 use Rattle.theory.specs.PassRefusals.{heading-refusals}
@@ -51,9 +57,11 @@ module _ (wide tight : Most) (P : List Class) where
       → Cuts (check-parameters wide P at ts) (check-parameters tight P at ts)
   unfolding check-parameters
   parameters-cuts at [] = same
-  parameters-cuts at (t ∷ ts) = cuts-require (is-declared-type (world P) t) _ _ λ _. parameters-cuts (at + 1) ts
+  parameters-cuts at (t ∷ ts) = cuts-require (is-declared-type (world P) t) _ _ λ _.
+      parameters-cuts (at + 1) ts
 
-  effects-cuts : (last at : ℕ) (cs : List ℕ) → Cuts (check-effects wide P last at cs) (check-effects tight P last at cs)
+  effects-cuts : (last at : ℕ) (cs : List ℕ)
+      → Cuts (check-effects wide P last at cs) (check-effects tight P last at cs)
   unfolding check-effects
   effects-cuts last at [] = same
   effects-cuts last at (c ∷ cs) = cuts-require (is-declared (world P) c) _ _ λ _.
@@ -71,7 +79,8 @@ module _ (wide tight : Most) (P : List Class) where
       cuts-bind (effects-cuts 0 (at + 1 + length (m .parameters)) (m .effects)) λ _.
       methods-cuts super (m ∷ before) (at + method-lines m) ms
 
-  classes-cuts : (k at : ℕ) (cs : List Class) → Cuts (check-classes wide P k at cs) (check-classes tight P k at cs)
+  classes-cuts : (k at : ℕ) (cs : List Class)
+      → Cuts (check-classes wide P k at cs) (check-classes tight P k at cs)
   unfolding check-classes check-class
   classes-cuts k at [] = same
   classes-cuts k at (c ∷ cs) = cuts-bind (cuts-require (ltb (c .super) k) _ _ λ _.
@@ -108,7 +117,8 @@ only-limits f (refuses w) (unsaid {n} {l}) e = absurd (accept≢refuse n l e)
 check-passes : (ns : List ℕ) (p : Program) → check ns ≡ accept p
     → (form of-check (rows-of ns) ≡ accept p) × (u : Unit {0}) × (headings of-check (p .classes) ≡ accept u)
 unfolding check whole-rows three-passes
-check-passes ns p e = require-inv _ _ _ _ e λ _ e. bind-checked-inv _ _ e λ q e₁ e. bind-checked-inv _ _ e λ u e₂ e.
+check-passes ns p e = require-inv _ _ _ _ e λ _ e. bind-checked-inv _ _ e λ q e₁ e.
+    bind-checked-inv _ _ e λ u e₂ e.
     bind-checked-inv _ _ e λ v e₃ e. rw (← accept-injective e) (e₁, u, e₂)
 
 limits-refuse : (ns : List ℕ) (p : Program) → check ns ≡ accept p
@@ -141,7 +151,8 @@ names-refuse rows at (c ∷ cs) f h =
     names-refuse rows (at + class-lines c) cs (omega (arith, f)) (omega (arith, h))
 
 -- The translator refuses only in the ways listed for it.
-pub translation-refuses : (ns : List ℕ) → RefusesOnly (TranslatorRefusal (length (rows-of ns))) (translation ns)
+pub translation-refuses : (ns : List ℕ)
+    → RefusesOnly (TranslatorRefusal (length (rows-of ns))) (translation ns)
 unfolding translation
 translation-refuses ns =
     only-bind (only-mono (check-refuses ns) (λ n l w. by-check w)) λ p e.
@@ -155,7 +166,8 @@ pub translation-listed : (room : ℕ) (ns : List ℕ)
 unfolding translation-into bind-checked require
 translation-listed room ns = go (translation-refuses ns)
   where
-    lent : (out : List ℕ) (b : Bool) → leb (length out) room ≡ b → ListedTranslation (length (rows-of ns)) room
+    lent : (out : List ℕ) (b : Bool) → leb (length out) room ≡ b
+        → ListedTranslation (length (rows-of ns)) room
         (require b room-refusal no-line (λ _. accept out))
     lent out true e = is-translated (leb-true (length out) room e)
     lent out false e = is-not-translated no-room

@@ -7,7 +7,8 @@ use native.Mathlib.Omega.{arith}
 use Rattle.language.specs.Rows.{C-class, F-field, M-method, P-parameter, X-effect, S-start, V-local, Record}
 use Rattle.language.specs.Rows.{written, Row, row-of}
 use Rattle.language.specs.Tree.{DeclaredType, type-number, Expr, literal-true, literal-false, literal-null}
-use Rattle.language.specs.Tree.{slot, is-null, get, cast, new, change, assign, set, call, choose, block, Exprs}
+use Rattle.language.specs.Tree.{slot, is-null, get, cast, new, change, assign, set, call, choose, block}
+use Rattle.language.specs.Tree.{Exprs}
 use Rattle.language.specs.Tree.{nil, cons, size, sizes, flatten, flattens, kind-number, Field, Declaration}
 use Rattle.language.specs.Tree.{Class, Program, heading-lines, method-lines, methods-lines, class-lines}
 use Rattle.language.specs.Tree.{classes-lines, flatten-methods, flatten-classes, flatten-program}
@@ -37,20 +38,24 @@ unfoldable pub methods-rows : List Declaration → List Row → List Row
 methods-rows [] rs = rs
 methods-rows (m ∷ ms) rs = method-rows m (methods-rows ms rs)
 
-pub methods-are : (ms : List Declaration) (rs : List Row) → map row-of (flatten-methods ms) ++ rs ≡ methods-rows ms rs
+pub methods-are : (ms : List Declaration) (rs : List Row)
+    → map row-of (flatten-methods ms) ++ rs ≡ methods-rows ms rs
 unfolding flatten-methods methods-rows
 methods-are [] rs = refl
 methods-are (m ∷ ms) rs = ap (λ r. row-of (heading m) ∷ r)
     (rw (
       map-append row-of (map (λ t. written P-parameter (type-number t) 0) (m .parameters))
           (map (λ c. written X-effect c 0) (m .effects) ++ (flatten (m .body) ++ flatten-methods ms)),
-      map-append row-of (map (λ c. written X-effect c 0) (m .effects)) (flatten (m .body) ++ flatten-methods ms),
+      map-append row-of (map (λ c. written X-effect c 0) (m .effects))
+          (flatten (m .body) ++ flatten-methods ms),
       map-append row-of (flatten (m .body)) (flatten-methods ms),
       map-map row-of (λ t. written P-parameter (type-number t) 0) (m .parameters),
       map-map row-of (λ c. written X-effect c 0) (m .effects),
       append-assoc (map parameter-row (m .parameters))
-          (map effect-row (m .effects) ++ (map row-of (flatten (m .body)) ++ map row-of (flatten-methods ms))) rs,
-      append-assoc (map effect-row (m .effects)) (map row-of (flatten (m .body)) ++ map row-of (flatten-methods ms)) rs,
+          (map effect-row (m .effects) ++ (map row-of (flatten (m .body)) ++ map row-of (flatten-methods ms)))
+          rs,
+      append-assoc (map effect-row (m .effects))
+          (map row-of (flatten (m .body)) ++ map row-of (flatten-methods ms)) rs,
       append-assoc (map row-of (flatten (m .body))) (map row-of (flatten-methods ms)) rs,
       methods-are ms rs,
     ))
@@ -64,7 +69,8 @@ classes-rows [] rs = rs
 classes-rows (c ∷ cs) rs =
     row-of (class-row c) ∷ (map field-row (c .fields) ++ methods-rows (c .methods) (classes-rows cs rs))
 
-pub classes-are : (cs : List Class) (rs : List Row) → map row-of (flatten-classes cs) ++ rs ≡ classes-rows cs rs
+pub classes-are : (cs : List Class) (rs : List Row)
+    → map row-of (flatten-classes cs) ++ rs ≡ classes-rows cs rs
 unfolding flatten-classes classes-rows
 classes-are [] rs = refl
 classes-are (c ∷ cs) rs = ap (λ r. row-of (class-row c) ∷ r)
@@ -84,7 +90,8 @@ classes-are (c ∷ cs) rs = ap (λ r. row-of (class-row c) ∷ r)
 abbrev pub start-rows : Expr → List Row
 start-rows e = row-of (written S-start 0 0) ∷ (map row-of (flatten e) ++ [])
 
-pub program-rows : (p : Program) → map row-of (flatten-program p) ≡ classes-rows (p .classes) (start-rows (p .start))
+pub program-rows : (p : Program)
+    → map row-of (flatten-program p) ≡ classes-rows (p .classes) (start-rows (p .start))
 unfolding flatten-program
 program-rows p = map-append row-of (flatten-classes (p .classes)) (written S-start 0 0 ∷ flatten (p .start))
     ∙ (classes-are (p .classes) (row-of (written S-start 0 0) ∷ map row-of (flatten (p .start)))
@@ -159,7 +166,8 @@ length-classes (c ∷ cs) = omega (
 )
 
 -- A program has as many rows as lines: its classes', the S line, the start block's.
-pub length-program : (p : Program) → length (flatten-program p) ≡ 1 + classes-lines (p .classes) + size (p .start)
+pub length-program : (p : Program)
+    → length (flatten-program p) ≡ 1 + classes-lines (p .classes) + size (p .start)
 unfolding flatten-program
 length-program p = omega (
   arith,

@@ -25,7 +25,8 @@ use Rattle.language.specs.Typing.{type-classes, bodies}
 use Rattle.language.specs.Rules.{Declared, declared-nil, declared-cons}
 use Rattle.language.specs.WellFormed.{Extends, plain-object, plain-plain, root-object, root-plain, state-root}
 use Rattle.language.specs.WellFormed.{state-state, FieldsWell, well-nil, well-cons, EffectWell, well-none}
-use Rattle.language.specs.WellFormed.{well-root, Overrides, first, again, MethodWell, MethodsWell, methods-nil}
+use Rattle.language.specs.WellFormed.{well-root, Overrides, first, again, MethodWell, MethodsWell}
+use Rattle.language.specs.WellFormed.{methods-nil}
 use Rattle.language.specs.WellFormed.{methods-cons, ClassesWell, classes-nil, classes-cons, ProgramWell}
 use Rattle.theory.specs.Equal.{derive, complete, false≢}
 use Rattle.theory.specs.EffectLaws.{lines-within-is, member-of-all}
@@ -72,7 +73,8 @@ same-types-are [] [] e = refl
 same-types-are [] (u ∷ us) e = false≢ e
 same-types-are (t ∷ ts) [] e = false≢ e
 same-types-are (t ∷ ts) (u ∷ us) e = let p = and-true (same-type t u) (same-types ts us) e in
-    ap₂ (λ (x : DeclaredType) (xs : List DeclaredType). x ∷ xs) (same-type-is t u (p .0)) (same-types-are ts us (p .1))
+    ap₂ (λ (x : DeclaredType) (xs : List DeclaredType). x ∷ xs) (same-type-is t u (p .0))
+    (same-types-are ts us (p .1))
 
 root-kind : (k : Kind) → is-root k ≡ true → k ≡ root
 root-kind plain e = false≢ e
@@ -96,13 +98,16 @@ module _ (P : List Class) where
       well-cons (ltb-true (length before) 17 e₁) e₂ (some-none (place (f .name) before) e₃)
       (not-true (is-state-type P (f .type)) e₄) (fields-well (before ++ (f ∷ [])) (at + 1) fs u q)
 
-  pub parameters-well : (at : ℕ) (ts : List DeclaredType) (u : Unit {0}) → check-parameters of-check P at ts ≡ accept u
+  pub parameters-well : (at : ℕ) (ts : List DeclaredType) (u : Unit {0})
+      → check-parameters of-check P at ts ≡ accept u
       → Declared (world P) ts
   unfolding check-parameters
   parameters-well at [] u q = declared-nil
-  parameters-well at (t ∷ ts) u q = require-inv _ _ _ _ q λ e q. declared-cons e (parameters-well (at + 1) ts u q)
+  parameters-well at (t ∷ ts) u q = require-inv _ _ _ _ q λ e q.
+      declared-cons e (parameters-well (at + 1) ts u q)
 
-  pub effects-well : (last at : ℕ) (cs : List ℕ) (u : Unit {0}) → check-effects of-check P last at cs ≡ accept u
+  pub effects-well : (last at : ℕ) (cs : List ℕ) (u : Unit {0})
+      → check-effects of-check P last at cs ≡ accept u
       → EffectWell P last cs
   unfolding check-effects is-root-class
   effects-well last at [] u q = well-none
@@ -155,7 +160,8 @@ module _ (P : List Class) where
       (classes-well (suc k) (at + class-lines c) cs u v q r)
 
 -- Headings and bodies that are accepted are well formed.
-pub program-well : (p : Program) (u v : Unit {0}) → headings of-check (p .classes) ≡ accept u → bodies p ≡ accept v
+pub program-well : (p : Program) (u v : Unit {0}) → headings of-check (p .classes) ≡ accept u
+    → bodies p ≡ accept v
     → ProgramWell p
 unfolding headings bodies
 program-well p u v q r = bind-checked-inv _ _ r λ a e r. bind-checked-inv _ _ r λ t f r.
@@ -196,10 +202,12 @@ module _ (P : List Class) where
       → within (effect-of-all cs) φ ≡ true → lines-within cs φ ≡ true
   unfolding lines-within
   within-lines φ l well-none e = refl
-  within-lines φ l (well-root {k} {ks} c h r a w) e = let p = class-low k c h in let q = member-of-all k ks φ e in
+  within-lines φ l (well-root {k} {ks} c h r a w) e = let p = class-low k c h in let q =
+      member-of-all k ks φ e in
       rw (lt-ltb 0 k (p .0), le-leb k (of-check .classes) (omega arith), q .0) (within-lines φ l w (q .1))
 
-  override-test : (m : Declaration) (o : Option Method) → length P ≤ of-check .classes → EffectWell P 0 (m .effects)
+  override-test : (m : Declaration) (o : Option Method) → length P ≤ of-check .classes
+      → EffectWell P 0 (m .effects)
       → Overrides P m o → may-override m o ≡ true
   override-test m o l w first = refl
   override-test m o l w (again M p q r) = rw
@@ -209,7 +217,8 @@ module _ (P : List Class) where
       → check-fields of-check P before at fs ≡ passed
   unfolding check-fields require
   fields-test well-nil at = refl
-  fields-test {before} (well-cons p q r s w) at = rw (lt-ltb (length before) 17 p, q, r, s) (fields-test w (at + 1))
+  fields-test {before} (well-cons p q r s w) at =
+      rw (lt-ltb (length before) 17 p, q, r, s) (fields-test w (at + 1))
 
   parameters-test : {ts : List DeclaredType} → Declared (world P) ts → (at : ℕ)
       → check-parameters of-check P at ts ≡ passed
@@ -269,11 +278,13 @@ module _ (P : List Class) where
     methods-test k (c .super) l (w .methods) (at + 1 + length (c .fields)),
   ) (classes-test l ws (at + class-lines c))
 
-  classes-types : {k : ℕ} {cs : List Class} → ClassesWell P k cs → (at : ℕ) → type-classes (world P) k at cs ≡ passed
+  classes-types : {k : ℕ} {cs : List Class} → ClassesWell P k cs → (at : ℕ)
+      → type-classes (world P) k at cs ≡ passed
   unfolding type-classes bind-checked
   classes-types classes-nil at = refl
   classes-types {k} (classes-cons {c} w ws) at =
-      rw (methods-types k (c .super) (w .methods) (at + 1 + length (c .fields))) (classes-types ws (at + class-lines c))
+      rw (methods-types k (c .super) (w .methods) (at + 1 + length (c .fields)))
+      (classes-types ws (at + class-lines c))
 
 -- Headings and bodies that are well formed are accepted.
 pub program-test : (p : Program) → length (p .classes) ≤ of-check .classes → ProgramWell p

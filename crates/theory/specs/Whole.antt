@@ -14,9 +14,11 @@ use Rattle.language.specs.Rows.{written, name-of, same-letter, Row, row-of, mos
 use Rattle.language.specs.Tree.{DeclaredType, type-number, Expr, block, Exprs, count, size, flatten}
 use Rattle.language.specs.Tree.{kind-number, Field, Declaration, Class, Program, heading-lines, method-lines}
 use Rattle.language.specs.Tree.{methods-lines, class-lines, classes-lines, flatten-program}
-use Rattle.language.specs.Form.{read, done, after, if-letter, maybe, body, fields, parameters, effects, method}
+use Rattle.language.specs.Form.{read, done, after, if-letter, maybe, body, fields, parameters, effects}
+use Rattle.language.specs.Form.{method}
 use Rattle.language.specs.Form.{methods, classes, at-end, form}
-use Rattle.language.specs.WellFormed.{TypeInForm, Each, each-nil, each-cons, NodeInForm, BodyInForm, form-body}
+use Rattle.language.specs.WellFormed.{TypeInForm, Each, each-nil, each-cons, NodeInForm, BodyInForm}
+use Rattle.language.specs.WellFormed.{form-body}
 use Rattle.language.specs.WellFormed.{FieldInForm, MethodInForm, ClassInForm, ProgramInForm, form-block}
 use Rattle.theory.specs.Back.{on-line, taken, size-pos, node-flat}
 use Rattle.theory.specs.TreeRows.{field-row, parameter-row, effect-row, heading, methods-rows}
@@ -96,16 +98,19 @@ module _ (most : Most) (named : most .name ≤ largest) (slotted : most .slots �
     locals : length ts ≤ most .slots
     nodes : count es ≤ largest
 
-  block-bounds : {d n : ℕ} {ts : List DeclaredType} {es : Exprs} → NodeInForm most d n (block ts es) → BlockBounds ts es
+  block-bounds : {d n : ℕ} {ts : List DeclaredType} {es : Exprs} → NodeInForm most d n (block ts es)
+      → BlockBounds ts es
   block-bounds (form-block a b c t f) = record { locals = omega arith; nodes = c }
 
   body-stops : (l : Letter) {n : ℕ} {e : Expr} (at : ℕ) (rs : List Row) → same-letter l B-block ≡ false
       → BodyInForm most n e → at + size e ≤ suc (most .rows) → Stops l at (map row-of (flatten e) ++ rs)
   unfolding flatten size
   body-stops l at rs q (form-body {ts} {es} f) h = let b = block-bounds f in
-      stops-row (maybe-other l B-block (length ts) (count es) at q (omega arith) (b .nodes) (omega arith) (omega arith))
+      stops-row (maybe-other l B-block (length ts) (count es) at q (omega arith) (b .nodes) (omega arith)
+      (omega arith))
 
-  body-flat : {n : ℕ} {e : Expr} → BodyInForm most n e → (at : ℕ) (rs : List Row) → at + size e ≤ suc (most .rows)
+  body-flat : {n : ℕ} {e : Expr} → BodyInForm most n e → (at : ℕ) (rs : List Row)
+      → at + size e ≤ suc (most .rows)
       → body most n at (map row-of (flatten e) ++ rs) ≡ done e rs
   unfolding body require flatten size
   body-flat {n} (form-body {ts} {es} f) at rs l = let b = block-bounds f in
@@ -116,7 +121,8 @@ module _ (most : Most) (named : most .name ≤ largest) (slotted : most .slots �
   method-flat : (m : Declaration) → MethodInForm most m → (at : ℕ) (rs : List Row)
       → at + method-lines m ≤ suc (most .rows)
       → method most at (heading m)
-      (map parameter-row (m .parameters) ++ (map effect-row (m .effects) ++ (map row-of (flatten (m .body)) ++ rs)))
+      (map parameter-row (m .parameters)
+      ++ (map effect-row (m .effects) ++ (map row-of (flatten (m .body)) ++ rs)))
       ≡ done m rs
   unfolding method after method-lines heading-lines
   method-flat m i at rs l =
@@ -143,7 +149,8 @@ module _ (most : Most) (named : most .name ≤ largest) (slotted : most .slots �
   unfolding method-lines heading-lines
   method-pos m = omega arith
 
-  methods-flat : {ms : List Declaration} → Each (MethodInForm most) ms → (f at : ℕ) (rs : List Row) → length ms ≤ f
+  methods-flat : {ms : List Declaration} → Each (MethodInForm most) ms → (f at : ℕ) (rs : List Row)
+      → length ms ≤ f
       → at + methods-lines ms ≤ suc (most .rows) → Stops M-method (at + methods-lines ms) rs
       → methods most f at (methods-rows ms rs) ≡ done ms rs
   unfolding methods methods-rows methods-lines after
@@ -156,7 +163,8 @@ module _ (most : Most) (named : most .name ≤ largest) (slotted : most .slots �
   methods-flat (each-cons i is) zero at rs k l s = absurd (omega arith)
   methods-flat {ms = m ∷ ms} (each-cons i is) (suc f) at rs k l s =
       rw (
-        maybe-same M-method (type-number (m .result)) (m .name) at refl (i .result .small) (omega (arith, i .name))
+        maybe-same M-method (type-number (m .result)) (m .name) at refl (i .result .small)
+            (omega (arith, i .name))
             (omega (arith, method-pos m)) (i .name),
         method-flat m i at (methods-rows ms rs) (omega arith),
         methods-flat is f (at + method-lines m) rs (omega arith) (omega arith)
@@ -164,7 +172,8 @@ module _ (most : Most) (named : most .name ≤ largest) (slotted : most .slots �
       )
 
   -- a row of methods stops any other letter, and so does what follows where there are none
-  methods-stop : (l : Letter) {ms : List Declaration} → same-letter l M-method ≡ false → Each (MethodInForm most) ms
+  methods-stop : (l : Letter) {ms : List Declaration} → same-letter l M-method ≡ false
+      → Each (MethodInForm most) ms
       → (at : ℕ) (rs : List Row) → at + methods-lines ms ≤ suc (most .rows)
       → Stops l (at + methods-lines ms) rs → Stops l at (methods-rows ms rs)
   unfolding methods-rows methods-lines method-lines heading-lines
@@ -202,23 +211,29 @@ module _ (most : Most) (named : most .name ≤ largest) (slotted : most .slots �
       → classes most f n at (classes-rows cs rs) ≡ done cs rs
   unfolding classes classes-rows classes-lines class-lines after require
   classes-flat each-nil zero n at rs k j l s s′ s″ = refl
-  classes-flat each-nil (suc f) n at rs k j l s s′ s″ = go rs (subst (λ (n : ℕ). Stops C-class n rs) (omega arith) s)
+  classes-flat each-nil (suc f) n at rs k j l s s′ s″ =
+      go rs (subst (λ (n : ℕ). Stops C-class n rs) (omega arith) s)
     where
       go : (rs : List Row) → Stops C-class at rs → classes most (suc f) n at rs ≡ done [] rs
       go [] stops-end = refl
       go (r ∷ rs) (stops-row e) = rw e
   classes-flat (each-cons i is) zero n at rs k j l s s′ s″ = absurd (omega arith)
   classes-flat {cs = c ∷ cs} (each-cons i is) (suc f) n at rs k j l s s′ s″ =
-      let after-fields : Stops F-field (at + 1 + length (c .fields)) (methods-rows (c .methods) (classes-rows cs rs))
+      let after-fields : Stops F-field (at + 1 + length (c .fields))
+      (methods-rows (c .methods) (classes-rows cs rs))
       = methods-stop F-field refl (i .methods) _ (classes-rows cs rs) (omega arith)
-      (class-stop F-field refl is _ rs (omega arith) (subst (λ (n : ℕ). Stops F-field n rs) (omega arith) s′)) in
-      let after-methods : Stops M-method (at + 1 + length (c .fields) + methods-lines (c .methods)) (classes-rows cs rs)
-      = class-stop M-method refl is _ rs (omega arith) (subst (λ (n : ℕ). Stops M-method n rs) (omega arith) s″) in
+      (class-stop F-field refl is _ rs (omega arith)
+      (subst (λ (n : ℕ). Stops F-field n rs) (omega arith) s′)) in
+      let after-methods : Stops M-method (at + 1 + length (c .fields) + methods-lines (c .methods))
+      (classes-rows cs rs)
+      = class-stop M-method refl is _ rs (omega arith)
+      (subst (λ (n : ℕ). Stops M-method n rs) (omega arith) s″) in
       rw (
         maybe-same C-class (kind-number (c .kind)) (c .super) at refl (i .kind-small) (i .super) (omega arith)
             (omega arith),
         lt-ltb n (most .classes) (omega arith),
-        fields-flat (i .fields) (at + 1) (methods-rows (c .methods) (classes-rows cs rs)) (omega arith) after-fields,
+        fields-flat (i .fields) (at + 1) (methods-rows (c .methods) (classes-rows cs rs)) (omega arith)
+            after-fields,
         methods-flat (i .methods) (length (map field-row (c .fields) ++ methods-rows (c .methods)
             (classes-rows cs rs))) (at + 1 + length (c .fields)) (classes-rows cs rs)
             (omega (
@@ -228,7 +243,8 @@ module _ (most : Most) (named : most .name ≤ largest) (slotted : most .slots �
             ))
             (omega arith) after-methods,
         i .kind-back,
-        classes-flat is f (suc n) (at + (1 + length (c .fields) + methods-lines (c .methods))) rs (omega arith)
+        classes-flat is f (suc n) (at + (1 + length (c .fields) + methods-lines (c .methods))) rs
+            (omega arith)
             (omega arith) (omega arith)
             (subst (λ (n : ℕ). Stops C-class n rs) (omega arith) s)
             (subst (λ (n : ℕ). Stops F-field n rs) (omega arith) s′)
@@ -267,7 +283,8 @@ module _ (most : Most) (named : most .name ≤ largest) (slotted : most .slots �
       let at = 1 + classes-lines (p .classes) in
       let other : (k : Letter) → same-letter k S-start ≡ false
       → Stops k (1 + classes-lines (p .classes)) (start-rows (p .start))
-      = λ k q. stops-row (maybe-other k S-start 0 0 (1 + classes-lines (p .classes)) q (omega arith) (omega arith)
+      = λ k q. stops-row (maybe-other k S-start 0 0 (1 + classes-lines (p .classes)) q (omega arith)
+      (omega arith)
       (omega (arith, size-pos most named slotted (p .start))) (omega arith)) in
       rw (program-rows p)
       (rw (classes-flat (i .classes) (length (classes-rows (p .classes) (start-rows (p .start)))) 0 1

@@ -21,7 +21,8 @@ use Rattle.language.specs.Tree.{heading-lines, method-lines, methods-lines, cla
 use Rattle.language.specs.Tree.{flatten-program}
 use Rattle.language.specs.Form.{Read, read, done, after, class-of, if-letter, record-on, maybe, body, fields}
 use Rattle.language.specs.Form.{parameters, effects, method, methods, classes, at-end, form}
-use Rattle.language.specs.WellFormed.{TypeInForm, Each, each-nil, each-cons, NodeInForm, BodyInForm, form-body}
+use Rattle.language.specs.WellFormed.{TypeInForm, Each, each-nil, each-cons, NodeInForm, BodyInForm}
+use Rattle.language.specs.WellFormed.{form-body}
 use Rattle.language.specs.WellFormed.{FieldInForm, MethodInForm, ClassInForm, ProgramInForm}
 use Rattle.theory.specs.TreeRows.{field-row, parameter-row, effect-row, method-rows, methods-rows}
 use Rattle.theory.specs.TreeRows.{classes-rows, program-rows, length-program}
@@ -53,7 +54,8 @@ module _ (most : Most) (roomy : 1 + most .parameters ≤ most .slots) where
           (of-letter most l (letter-is l (y .letter) (q .0)) (record-on-taken most at r rs y p))
       go (refuse n k) p e = absurd (Never e)
 
-  fields-back : (at : ℕ) (rs : List Row) → LinesRead most field-row (FieldInForm most) at rs (fields most at rs)
+  fields-back : (at : ℕ) (rs : List Row)
+      → LinesRead most field-row (FieldInForm most) at rs (fields most at rs)
   unfolding fields
   fields-back at [] = lines-none most at []
   fields-back at (r ∷ rs) = go (maybe most F-field at r) refl (fields-back (at + 1) rs)
@@ -66,11 +68,13 @@ module _ (most : Most) (roomy : 1 + most .parameters ≤ most .slots) where
       go none e h = lines-none most at (r ∷ rs)
       go (some x) e h = let t = maybe-taken F-field at r rs x e in
           lines-one most at (r ∷ rs) (row-of (written F-field (x .first) (x .second))) rs
-          (record { type = type-of-number (x .first); name = x .second }) (fields most (at + 1) rs) (t .line) (t .is)
+          (record { type = type-of-number (x .first); name = x .second }) (fields most (at + 1) rs) (t .line)
+          (t .is)
           (ap (λ (a : ℕ). row-of (written F-field a (x .second))) (sym (number-back (x .first))))
           (record { type = type-in-form (x .first) (t .first); name = t .name }) h
 
-  effects-back : (at : ℕ) (rs : List Row) → LinesRead most effect-row (λ c. c ≤ largest) at rs (effects most at rs)
+  effects-back : (at : ℕ) (rs : List Row)
+      → LinesRead most effect-row (λ c. c ≤ largest) at rs (effects most at rs)
   unfolding effects
   effects-back at [] = lines-none most at []
   effects-back at (r ∷ rs) = go (maybe most X-effect at r) refl (effects-back (at + 1) rs)
@@ -83,14 +87,16 @@ module _ (most : Most) (roomy : 1 + most .parameters ≤ most .slots) where
       go (some x) e h = let t = maybe-taken X-effect at r rs x e in
           lines-one most at (r ∷ rs) (row-of (written X-effect (x .first) (x .second))) rs (x .first)
           (effects most (at + 1) rs) (t .line) (t .is)
-          (ap (λ (b : ℕ). row-of (written X-effect (x .first) b)) (zero-is (x .second) (t .second))) (t .first) h
+          (ap (λ (b : ℕ). row-of (written X-effect (x .first) b)) (zero-is (x .second) (t .second)))
+          (t .first) h
 
   -- P lines that were read: no parameter too many.
   record ParametersRead (n at : ℕ) (rs : List Row) (x : Read (List DeclaredType)) : Type 0 where
     read-lines : LinesRead most parameter-row TypeInForm at rs x
     few : n ≤ most .parameters → n + length (x .tree) ≤ most .parameters
 
-  parameters-back : (n at : ℕ) (rs : List Row) (x : Read (List DeclaredType)) → parameters most n at rs ≡ accept x
+  parameters-back : (n at : ℕ) (rs : List Row) (x : Read (List DeclaredType))
+      → parameters most n at rs ≡ accept x
       → ParametersRead n at rs x
   unfolding parameters
   parameters-back n at [] x e = subst (ParametersRead n at []) (accept-injective e)
@@ -102,7 +108,8 @@ module _ (most : Most) (roomy : 1 + most .parameters ≤ most .slots) where
           → ((x : Read (List DeclaredType)) → parameters most (suc n) (at + 1) rs ≡ accept x
           → ParametersRead (suc n) (at + 1) rs x)
           → given o (done [] (r ∷ rs)) (λ x. require (ltb n (most .parameters)) limit-refusal at λ _.
-          after (parameters most (suc n) (at + 1) rs) λ ts rs. done (type-of-number (x .first) ∷ ts) rs) ≡ accept x
+          after (parameters most (suc n) (at + 1) rs) λ ts rs. done (type-of-number (x .first) ∷ ts) rs)
+          ≡ accept x
           → ParametersRead n at (r ∷ rs) x
       go none p ih e = subst (ParametersRead n at (r ∷ rs)) (accept-injective e)
           (record { read-lines = lines-none most at (r ∷ rs); few = λ l. omega arith })
@@ -174,7 +181,8 @@ module _ (most : Most) (roomy : 1 + most .parameters ≤ most .slots) where
         is = t .is ∙ ap₂ (λ (a : ℕ) (l : List Row). row-of (written M-method a b) ∷ l) (sym (number-back a))
             (p .read-lines .is ∙ ap (λ (l : List Row). map parameter-row ts ++ l)
             (x-lines .is
-            ∙ ap (λ (l : List Row). map effect-row (effects most (at + 1 + length ts) rs₁ .tree) ++ l) (h .is)));
+            ∙ ap (λ (l : List Row). map effect-row (effects most (at + 1 + length ts) rs₁ .tree) ++ l)
+            (h .is)));
         formed = record {
           result = type-in-form a (t .first);
           name = t .name;
@@ -211,7 +219,8 @@ module _ (most : Most) (roomy : 1 + most .parameters ≤ most .slots) where
           → MethodsRead at (r ∷ rs) x
       go none p ih e = subst (MethodsRead at (r ∷ rs)) (accept-injective e) (methods-none at (r ∷ rs))
       go (some y) p ih e = after-inv _ _ e λ m rs₁ e₁ e. after-inv _ _ e λ ms rs₂ e₂ e.
-          let g = method-back at (y .first) (y .second) (r ∷ rs) rs (read m rs₁) (maybe-taken M-method at r rs y p) e₁ in
+          let g = method-back at (y .first) (y .second) (r ∷ rs) rs (read m rs₁)
+          (maybe-taken M-method at r rs y p) e₁ in
           let h = ih (at + method-lines m) rs₁ (read ms rs₂) e₂ in
           subst (MethodsRead at (r ∷ rs)) (accept-injective e) (record {
             is = g .is ∙ ap (λ (l : List Row). method-rows m l) (h .is);
@@ -227,7 +236,8 @@ module _ (most : Most) (roomy : 1 + most .parameters ≤ most .slots) where
 
   classes-none : (n at : ℕ) (rs : List Row) → ClassesRead n at rs (read [] rs)
   unfolding classes-rows classes-lines
-  classes-none n at rs = record { is = refl; formed = each-nil; few = λ l. omega arith; lines = λ l. omega arith }
+  classes-none n at rs =
+      record { is = refl; formed = each-nil; few = λ l. omega arith; lines = λ l. omega arith }
 
   classes-back : (f n at : ℕ) (rs : List Row) (x : Read (List Class)) → classes most f n at rs ≡ accept x
       → ClassesRead n at rs x
@@ -246,7 +256,8 @@ module _ (most : Most) (roomy : 1 + most .parameters ≤ most .slots) where
           after (classes most f (suc n) (at + class-lines c) rs₁) λ cs rs₂. done (c ∷ cs) rs₂) ≡ accept x
           → ClassesRead n at (r ∷ rs) x
       go none p ih e = subst (ClassesRead n at (r ∷ rs)) (accept-injective e) (classes-none n at (r ∷ rs))
-      go (some y) p ih e = require-inv _ _ _ _ e λ e₀ e. after-inv _ _ e λ ms rs₁ e₁ e. after-inv _ _ e λ cs rs₂ e₂ e.
+      go (some y) p ih e = require-inv _ _ _ _ e λ e₀ e. after-inv _ _ e λ ms rs₁ e₁ e.
+          after-inv _ _ e λ cs rs₂ e₂ e.
           let t = maybe-taken C-class at r rs y p in
           let s = ltb-true n (most .classes) e₀ in
           let f-lines = fields-back (at + 1) rs in
@@ -254,7 +265,8 @@ module _ (most : Most) (roomy : 1 + most .parameters ≤ most .slots) where
           let h = ih (suc n) _ rs₁ (read cs rs₂) e₂ in
           let number : kind-number (kind-of-number (y .first)) ≡ y .first = kind-back (y .first) in
           subst (ClassesRead n at (r ∷ rs)) (accept-injective e) (record {
-            is = t .is ∙ ap₂ (λ (a : ℕ) (l : List Row). row-of (written C-class a (y .second)) ∷ l) (sym number)
+            is = t .is ∙ ap₂ (λ (a : ℕ) (l : List Row). row-of (written C-class a (y .second)) ∷ l)
+                (sym number)
                 (f-lines .is ∙ ap (λ (l : List Row). map field-row (fields most (at + 1) rs .tree) ++ l)
                 (g .is ∙ ap (λ (l : List Row). methods-rows ms l) (h .is)));
             formed = each-cons (record {
@@ -265,7 +277,11 @@ module _ (most : Most) (roomy : 1 + most .parameters ≤ most .slots) where
               methods = g .formed;
             }) (h .formed);
             few = λ _. omega (arith, h .few (omega arith));
-            lines = λ _. omega (arith, h .lines (omega (arith, g .lines (f-lines .lines (omega (arith, t .line))))));
+            lines = λ _. omega (
+              arith,
+              h .lines (omega
+                  (arith, g .lines (f-lines .lines (omega (arith, t .line))))),
+            );
           })
 
   -- Form accepts rows only if they are the rows of a program in form, and answers that program.

@@ -1,7 +1,7 @@
 -- What the check's answer tells of the translation. Assumes nothing.
-use mathlib.Core.Path.{_≡_, refl, sym, ap, _∙_}
+use mathlib.Core.Path.{_≡_, sym, ap}
 use mathlib.Core.List.{List}
-use Prim.Native.Nat.{ℕ, _≤_, _*_}
+use Prim.Native.Nat.{ℕ, _≤_}
 use lib.ListN.{length}
 use native.Mathlib.Omega.{arith}
 use Rattle.language.specs.declared.Filled.the-variants.{Refused}
@@ -38,5 +38,7 @@ pub translation-refused : (R O : List ℕ) (i l : ℕ) → NotAccepted i l ≡ c
     → (Refused i l ≡ answer 4 (translation R) (length O)) × (O ≡ buffer (translation R) O)
 unfolding translation bind-checked
 translation-refused R O i l e =
-    let s : translation R ≡ refuse i l = rw (refused-is (check R) i l e) in
-    (ap (λ (c : Checked (List ℕ)). answer 4 c (length O)) (sym s), ap (λ (c : Checked (List ℕ)). buffer c O) (sym s))
+    let s : translation R ≡ refuse i l = rw (refused-is (check R) i l e) in (
+      ap (λ (c : Checked (List ℕ)). answer 4 c (length O)) (sym s),
+      ap (λ (c : Checked (List ℕ)). buffer c O) (sym s),
+    )

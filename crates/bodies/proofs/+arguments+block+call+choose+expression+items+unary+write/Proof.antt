@@ -8,7 +8,6 @@ mod Expression
 mod Items
 mod Unary
 mod Write
-use Prim.Native.Nat.{ℕ, _<_}
 use Rattle.bodies.proofs.arguments.Reads as arguments
 use Rattle.bodies.proofs.+arguments+block+call+choose+expression+items+unary+write.Lts-arguments as arguments-lts
 use Rattle.bodies.proofs.block.Reads as block

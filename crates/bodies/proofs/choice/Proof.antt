@@ -1,5 +1,5 @@
 -- `bodies::choice` meets its contract. Assumes nothing.
-use mathlib.Core.Path.{refl, sym, ap, _∙_}
+use mathlib.Core.Path.{refl}
 use borrow.Author.Needs.{needs}
 use Rattle.bodies.proofs.ActLaws.{chosen-other, chosen-none, chosen-some, refused-choice, done-choice}
 use Rattle.bodies.proofs.choice.Statement.{statement}

@@ -1,6 +1,6 @@
 -- `bodies::enter` meets its contract. Assumes nothing.
 use mathlib.Core.Path.{refl}
-use Prim.Native.Nat.{_+_, _-_, _*_, _≤_}
+use Prim.Native.Nat.{_-_, _≤_}
 use native.Mathlib.Omega.{arith}
 use Rattle.bodies.proofs.WholeLaws.{Entering, enter-start, enter-step, enter-long, enter-end}
 use Rattle.bodies.proofs.enter.Statement.{statement}

@@ -1,10 +1,8 @@
 -- `bodies::method` meets its contract. Assumes nothing.
-use mathlib.Core.Path.{refl, _∙_}
-use Prim.Native.Nat.{_+_, _-_, _*_}
+use Prim.Native.Nat.{_-_}
 use native.Mathlib.Omega.{arith}
 use borrow.Author.Needs.{needs}
 use Rattle.bodies.proofs.Laws.{not-yes, not-no}
-use Rattle.bodies.proofs.TurnsLeaves.{type-number-case}
 use Rattle.bodies.proofs.Methods.{facts-runs, facts-block, facts-enter, facts-few, facts-low, facts-line, facts-some, facts-pre, body-typed, body-case, result-low, method-refused, method-unfit, method-wide, method-accepted}
 use Rattle.bodies.proofs.method.Statement.{statement}
 use Rattle.bodies.proofs.method.Tie as tie

@@ -1,5 +1,4 @@
 -- `checker::type_bodies` meets its contract. Assumes nothing.
-use mathlib.Core.Path.{_≡_}
 use lib.ListN.{replicate}
 use borrow.Author.Needs.{needs}
 use Rattle.language.proofs.Filling.{replicate-long}

@@ -4,11 +4,6 @@ use native.Mathlib.Omega.{arith}
 use Prim.Native.Nat.{_+_, _-_, _*_}
 use Rattle.machine.proofs.apply.Statement.{statement}
 use Rattle.machine.proofs.apply.Tie as tie
-use Rattle.machine.proofs.apply.Reads as reads
-use Rattle.machine.proofs.apply.Lts as lts
-use Rattle.machine.proofs.cast_object.Reads as cast-object-reads
-use Rattle.machine.proofs.load.Reads as load-reads
-use Rattle.machine.proofs.write_slot.Reads as write-slot-reads
 
 mul-k : tie.Need-mul-k
 mul-k c = omega (arith, apply-row (c .before .before .before .before .before .pre))

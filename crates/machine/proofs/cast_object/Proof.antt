@@ -5,11 +5,6 @@ use borrow.Author.Needs.{needs}
 use Rattle.machine.proofs.Acts.{cast-null, cast-truth, cast-past, cast-passes, cast-fails}
 use Rattle.machine.proofs.cast_object.Statement.{statement}
 use Rattle.machine.proofs.cast_object.Tie as tie
-use Rattle.machine.proofs.cast_object.Reads as reads
-use Rattle.machine.proofs.cast_object.Lts as lts
-use Rattle.machine.proofs.decode.Reads as decode-reads
-use Rattle.machine.proofs.is_below.Reads as is-below-reads
-use Rattle.machine.proofs.is_null.Reads as is-null-reads
 
 decode-requires : tie.Need-decode-requires
 decode-requires c κs = search needs

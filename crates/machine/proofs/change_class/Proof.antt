@@ -8,12 +8,6 @@ use Rattle.machine.proofs.Fresh.{own-spot, change-of, same-number, one-
 use borrow.Author.Needs.{needs}
 use Rattle.machine.proofs.change_class.Statement.{statement}
 use Rattle.machine.proofs.change_class.Tie as tie
-use Rattle.machine.proofs.change_class.Reads as reads
-use Rattle.machine.proofs.change_class.Lts as lts
-use Rattle.machine.proofs.decode.Reads as decode-reads
-use Rattle.machine.proofs.fill.Reads as fill-reads
-use Rattle.machine.proofs.is_null.Reads as is-null-reads
-use Rattle.machine.proofs.put.Reads as put-reads
 
 decode-requires : tie.Need-decode-requires
 decode-requires c κs = search needs

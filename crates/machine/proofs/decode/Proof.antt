@@ -5,8 +5,6 @@ use mathlib.Core.Path.{sym}
 use Rattle.machine.proofs.Values.{decoded-object, decoded-null}
 use Rattle.machine.proofs.decode.Statement.{statement}
 use Rattle.machine.proofs.decode.Tie as tie
-use Rattle.machine.proofs.decode.Reads as reads
-use Rattle.machine.proofs.decode.Lts as lts
 
 sub-t4 : tie.Need-sub-t4
 sub-t4 c = search needs

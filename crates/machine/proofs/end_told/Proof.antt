@@ -9,10 +9,6 @@ use mathlib.Core.Path.{_≡_, sym, _∙_}
 use borrow.Author.Needs.{needs}
 use Rattle.machine.proofs.end_told.Statement.{statement}
 use Rattle.machine.proofs.end_told.Tie as tie
-use Rattle.machine.proofs.end_told.Reads as reads
-use Rattle.machine.proofs.end_told.Lts as lts
-use Rattle.machine.proofs.decode.Reads as decode-reads
-use Rattle.machine.proofs.value_told.Reads as value-told-reads
 
 cast-decode : tie.Need-cast-decode
 cast-decode c = search needs

@@ -6,11 +6,6 @@ use borrow.Author.Needs.{needs}
 use Rattle.machine.proofs.Acts.{method-spot, pre-body, find-null, find-truth, find-past, find-missing, find-deep, find-found}
 use Rattle.machine.proofs.find_body.Statement.{statement}
 use Rattle.machine.proofs.find_body.Tie as tie
-use Rattle.machine.proofs.find_body.Reads as reads
-use Rattle.machine.proofs.find_body.Lts as lts
-use Rattle.machine.proofs.decode.Reads as decode-reads
-use Rattle.machine.proofs.find_letter.Reads as find-letter-reads
-use Rattle.machine.proofs.is_null.Reads as is-null-reads
 
 decode-requires : tie.Need-decode-requires
 decode-requires c κs = search needs

@@ -5,8 +5,6 @@ use lib.ListN.{length, getD}
 use Rattle.machine.proofs.Acts.{not-past, none-more}
 use Rattle.machine.proofs.find_letter.Statement.{statement}
 use Rattle.machine.proofs.find_letter.Tie as tie
-use Rattle.machine.proofs.find_letter.Reads as reads
-use Rattle.machine.proofs.find_letter.Lts as lts
 
 abbrev Inv-loop : tie.InvT-loop
 Inv-loop rows row letter b₀ b = (row ≤ b) × ((i : ℕ) → row ≤ i → i < b → getD rows (i * 4) 0 ≡ letter → ⊥)

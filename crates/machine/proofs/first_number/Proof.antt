@@ -5,8 +5,6 @@ use borrow.Author.Tests.{le-leb, lt-leb, eq-eqb, ne-eqb}
 use Rattle.machine.specs.Contracts.{first-of}
 use Rattle.machine.proofs.first_number.Statement.{statement}
 use Rattle.machine.proofs.first_number.Tie as tie
-use Rattle.machine.proofs.first_number.Reads as reads
-use Rattle.machine.proofs.first_number.Lts as lts
 
 returns : tie.Need-returns
 unfolding first-of

@@ -2,8 +2,6 @@ use Prim.Native.Nat.{_-_}
 use borrow.Author.Tests.{eq-eqb, ne-eqb}
 use Rattle.machine.proofs.first_value.Statement.{statement}
 use Rattle.machine.proofs.first_value.Tie as tie
-use Rattle.machine.proofs.first_value.Reads as reads
-use Rattle.machine.proofs.first_value.Lts as lts
 
 returns : tie.Need-returns
 returns c = rw (eq-eqb _ _ (c .if1 .taken))

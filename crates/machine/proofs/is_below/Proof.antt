@@ -5,8 +5,6 @@ use lib.Bits.{and-mask}
 use Rattle.machine.specs.Contracts.{Below}
 use Rattle.machine.proofs.is_below.Statement.{statement}
 use Rattle.machine.proofs.is_below.Tie as tie
-use Rattle.machine.proofs.is_below.Reads as reads
-use Rattle.machine.proofs.is_below.Lts as lts
 
 returns : tie.Need-returns
 unfolding Below

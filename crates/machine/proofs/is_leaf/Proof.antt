@@ -3,8 +3,6 @@ use Rattle.machine.specs.Contracts.{no-child}
 use Rattle.machine.proofs.Leaves.{no-leaf}
 use Rattle.machine.proofs.is_leaf.Statement.{statement}
 use Rattle.machine.proofs.is_leaf.Tie as tie
-use Rattle.machine.proofs.is_leaf.Reads as reads
-use Rattle.machine.proofs.is_leaf.Lts as lts
 
 returns : tie.Need-returns
 returns c = sym (ap no-child (c .match .keys1))

@@ -5,11 +5,6 @@ use Prim.Native.Nat.{_+_, _-_, _*_}
 use borrow.Author.Needs.{needs}
 use Rattle.machine.proofs.leaf.Statement.{statement}
 use Rattle.machine.proofs.leaf.Tie as tie
-use Rattle.machine.proofs.leaf.Reads as reads
-use Rattle.machine.proofs.leaf.Lts as lts
-use Rattle.machine.proofs.new_object.Reads as new-object-reads
-use Rattle.machine.proofs.read_slot.Reads as read-slot-reads
-use Rattle.machine.proofs.reclassify.Reads as reclassify-reads
 
 mul-k : tie.Need-mul-k
 mul-k c = omega (arith, leaf-row (c .before .before .before .before .pre .0))

@@ -6,10 +6,6 @@ use borrow.Author.Needs.{needs}
 use Rattle.machine.proofs.Acts.{spot, load-null, load-truth, load-past, load-missing, load-at}
 use Rattle.machine.proofs.load.Statement.{statement}
 use Rattle.machine.proofs.load.Tie as tie
-use Rattle.machine.proofs.load.Reads as reads
-use Rattle.machine.proofs.load.Lts as lts
-use Rattle.machine.proofs.decode.Reads as decode-reads
-use Rattle.machine.proofs.is_null.Reads as is-null-reads
 
 decode-requires : tie.Need-decode-requires
 decode-requires c κs = search needs

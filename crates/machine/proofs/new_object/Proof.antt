@@ -1,4 +1,4 @@
-use Prim.Native.Nat.{_+_, _-_, _*_}
+use Prim.Native.Nat.{_-_, _*_}
 use native.Mathlib.Omega.{arith}
 use lib.ListN.{length-set, getD}
 use Rattle.machine.specs.Machine.{counts-in}
@@ -6,10 +6,6 @@ use Rattle.machine.proofs.Fresh.{new-fill, new-full, full-count, full-s
 use borrow.Author.Needs.{needs}
 use Rattle.machine.proofs.new_object.Statement.{statement}
 use Rattle.machine.proofs.new_object.Tie as tie
-use Rattle.machine.proofs.new_object.Reads as reads
-use Rattle.machine.proofs.new_object.Lts as lts
-use Rattle.machine.proofs.fill.Reads as fill-reads
-use Rattle.machine.proofs.put.Reads as put-reads
 
 element-copy-out-made : tie.Need-element-copy-out-made
 element-copy-out-made c = search needs

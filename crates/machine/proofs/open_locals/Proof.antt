@@ -7,9 +7,6 @@ use Rattle.machine.proofs.Values.{written-none, written-more}
 use Rattle.machine.specs.Contracts.{Written, first-of-type}
 use Rattle.machine.proofs.open_locals.Statement.{statement}
 use Rattle.machine.proofs.open_locals.Tie as tie
-use Rattle.machine.proofs.open_locals.Reads as reads
-use Rattle.machine.proofs.open_locals.Lts as lts
-use Rattle.machine.proofs.first_value.Reads as first-value-reads
 
 abbrev Inv-loop : tie.InvT-loop
 Inv-loop rows slots₀ row from n i₀ slots i = (i ≤ n) × Written slots₀ slots from i (λ k. first-of-type (getD rows ((row + k) * 4 + 1) 0))

@@ -5,8 +5,6 @@ use borrow.Author.Needs.{needs}
 use Rattle.machine.proofs.Frames.{slot-this, slot-no-this, slot-at, slot-past, read-none, read-some, read-zero, read-this}
 use Rattle.machine.proofs.read_slot.Statement.{statement}
 use Rattle.machine.proofs.read_slot.Tie as tie
-use Rattle.machine.proofs.read_slot.Reads as reads
-use Rattle.machine.proofs.read_slot.Lts as lts
 
 returns : tie.Need-returns
 returns c = read-none (slot-past (c .before .before .args .slots .now) (c .before .before .args .place) (c .before .before .args .k) (c .if1 .taken) (c .before .before .pre))

@@ -2,15 +2,10 @@ use Rattle.machine.proofs.Leaves.{leaf-row, leaf-room, pre-change, chan
 use Rattle.machine.proofs.Values.{not-gave, outcome-value, small-decoded}
 use Rattle.machine.specs.Machine.{outcome, decoded}
 use native.Mathlib.Omega.{arith}
-use Prim.Native.Nat.{_+_, _-_, _*_, _<_}
-use mathlib.Core.Path.{_≡_}
+use Prim.Native.Nat.{_+_, _-_, _*_}
 use borrow.Author.Needs.{needs}
 use Rattle.machine.proofs.reclassify.Statement.{statement}
 use Rattle.machine.proofs.reclassify.Tie as tie
-use Rattle.machine.proofs.reclassify.Reads as reads
-use Rattle.machine.proofs.reclassify.Lts as lts
-use Rattle.machine.proofs.change_class.Reads as change-class-reads
-use Rattle.machine.proofs.read_slot.Reads as read-slot-reads
 
 mul-k : tie.Need-mul-k
 mul-k c = omega (arith, leaf-row (c .before .before .before .before .pre .0))

@@ -3,9 +3,6 @@ use borrow.Author.Needs.{needs}
 use Rattle.language.proofs.Filling.{replicate-long}
 use Rattle.machine.proofs.run_checked.Statement.{statement}
 use Rattle.machine.proofs.run_checked.Tie as tie
-use Rattle.machine.proofs.run_checked.Reads as reads
-use Rattle.machine.proofs.run_checked.Lts as lts
-use Rattle.machine.proofs.run_with.Reads as run-with-reads
 
 slice-aggregate-run-with : tie.Need-slice-aggregate-run-with
 slice-aggregate-run-with c = search needs

@@ -4,9 +4,6 @@ use borrow.Author.Needs.{needs}
 use Rattle.machine.proofs.Running.{start-pre, start-falls, run-done}
 use Rattle.machine.proofs.run_start.Statement.{statement}
 use Rattle.machine.proofs.run_start.Tie as tie
-use Rattle.machine.proofs.run_start.Reads as reads
-use Rattle.machine.proofs.run_start.Lts as lts
-use Rattle.machine.proofs.eval.Reads as eval-reads
 
 array-write-tally : tie.Need-array-write-tally
 array-write-tally c = search needs

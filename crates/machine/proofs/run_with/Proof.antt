@@ -4,11 +4,6 @@ use borrow.Author.Needs.{needs}
 use Rattle.machine.proofs.Checked.{some-start, start-low, pre-start, end-small, checked-done}
 use Rattle.machine.proofs.run_with.Statement.{statement}
 use Rattle.machine.proofs.run_with.Tie as tie
-use Rattle.machine.proofs.run_with.Reads as reads
-use Rattle.machine.proofs.run_with.Lts as lts
-use Rattle.machine.proofs.end_told.Reads as end-told-reads
-use Rattle.machine.proofs.find_letter.Reads as find-letter-reads
-use Rattle.machine.proofs.run_start.Reads as run-start-reads
 
 find-letter-requires : tie.Need-find-letter-requires
 find-letter-requires c κs = some-start (c .before .before .before .before .before .before .pre .0)

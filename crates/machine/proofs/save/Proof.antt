@@ -6,10 +6,6 @@ use borrow.Author.Needs.{needs}
 use Rattle.machine.proofs.Acts.{spot, save-null, save-truth, save-past, save-missing, save-at}
 use Rattle.machine.proofs.save.Statement.{statement}
 use Rattle.machine.proofs.save.Tie as tie
-use Rattle.machine.proofs.save.Reads as reads
-use Rattle.machine.proofs.save.Lts as lts
-use Rattle.machine.proofs.decode.Reads as decode-reads
-use Rattle.machine.proofs.is_null.Reads as is-null-reads
 
 decode-requires : tie.Need-decode-requires
 decode-requires c κs = search needs

@@ -4,8 +4,6 @@ use borrow.Author.Needs.{needs}
 use Rattle.machine.proofs.Checked.{told-truth, told-object, object-low}
 use Rattle.machine.proofs.value_told.Statement.{statement}
 use Rattle.machine.proofs.value_told.Tie as tie
-use Rattle.machine.proofs.value_told.Reads as reads
-use Rattle.machine.proofs.value_told.Lts as lts
 
 enum-told : tie.Need-enum-told
 enum-told c = search needs

@@ -2,8 +2,6 @@ use borrow.Author.Needs.{needs}
 use Rattle.machine.proofs.Frames.{write-past, write-none, write-this, write-at}
 use Rattle.machine.proofs.write_slot.Statement.{statement}
 use Rattle.machine.proofs.write_slot.Tie as tie
-use Rattle.machine.proofs.write_slot.Reads as reads
-use Rattle.machine.proofs.write_slot.Lts as lts
 
 returns : tie.Need-returns
 returns c = write-past (c .before .before .args .n) (c .before .before .pre) (c .if1 .taken)

@@ -1,15 +1,14 @@
 use Rattle.plain.proofs.Writing.{written-long}
-use Rattle.plain.proofs.Arms.{row-known, true-known, false-known, null-known, true-arm, false-arm, null-arm, slot-known, slot-arm, new-known, new-arm, change-known, change-arm, is-null-known, is-null-some, is-null-arm, assign-known, assign-some, assign-arm, get-known, get-some, get-arm, choose-known, choose-some, choose-arm, cast-some, cast-arm, set-some, set-arm, call-some, call-arm, block-some as some-block, block-arm, rest-letter}
+use Rattle.plain.proofs.Arms.{row-known, slot-known, slot-arm, new-known, new-arm, change-known, change-arm, is-null-known, is-null-some, is-null-arm, assign-known, assign-some, assign-arm, get-known, get-some, get-arm, choose-known, choose-some, choose-arm, cast-some, cast-arm, set-some, set-arm, call-some, call-arm, block-some as some-block, block-arm, rest-letter}
 use Rattle.plain.proofs.Tasks.{node-row, cast-room, cast-child, cast-done, nodes-none, nodes-first, nodes-rest, nodes-step, arguments-none, arguments-first, arguments-line, arguments-rest, arguments-step}
 use Rattle.plain.proofs.Blocks.{block-known, block-some-types, block-some, block-ended, block-done}
-use mathlib.Core.Logic.{_⊎_, inl, inr}
+use mathlib.Core.Logic.{inl, inr}
 use Rattle.plain.proofs.Arms.{literal-known, literal-arm}
 use Rattle.plain.proofs.Blocks.{set-known, set-ended, set-room-after, set-done, call-known, call-some-types, call-ended, call-some-arguments, call-room-after, call-done}
-use mathlib.Core.Path.{_≡_, refl, sym, ap, _∙_}
-use mathlib.Core.List.{List, [], _∷_, _++_}
-use Prim.Native.Nat.{ℕ, suc, _+_, _-_, _*_, _≤_, _<_}
+use mathlib.Core.Path.{_∙_}
+use Prim.Native.Nat.{ℕ, _+_, _-_, _*_, _<_}
 use native.Mathlib.Omega.{arith}
-use lib.ListN.{length, getD, take, drop, set, length-set}
+use lib.ListN.{getD, set}
 use borrow.Author.Needs.{needs}
 use Prim.Native.Nat.{ℕ, _<_}
 use borrow.Fn.Kinds.{In}

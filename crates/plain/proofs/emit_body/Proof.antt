@@ -1,16 +1,9 @@
 use Rattle.plain.proofs.Bodies.{body-known, body-some, body-done}
-use mathlib.Core.Path.{_≡_, refl, sym, ap, _∙_}
-use mathlib.Core.List.{List, [], _∷_, _++_}
-use Prim.Native.Nat.{ℕ, suc, _+_, _-_, _*_, _≤_, _<_}
+use Prim.Native.Nat.{_-_}
 use native.Mathlib.Omega.{arith}
-use lib.ListN.{length, getD, take, drop, set, length-set}
 use borrow.Author.Needs.{needs}
 use Rattle.plain.proofs.emit_body.Statement.{statement}
 use Rattle.plain.proofs.emit_body.Tie as tie
-use Rattle.plain.proofs.emit_body.Reads as reads
-use Rattle.plain.proofs.emit_body.Lts as lts
-use Rattle.plain.proofs.emit_node.Reads as emit-node-reads
-use Rattle.plain.proofs.first_slots.Reads as first-slots-reads
 
 first-slots-requires : tie.Need-first-slots-requires
 first-slots-requires c κs = body-known (c .before .before .before .before .pre)

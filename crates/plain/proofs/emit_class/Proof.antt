@@ -1,16 +1,9 @@
-use Rattle.plain.proofs.Writing.{written-long}
 use native.Mathlib.Omega.{arith}
-use mathlib.Core.Path.{_≡_, refl, sym, ap, _∙_}
+use mathlib.Core.Path.{refl}
 use Rattle.plain.proofs.Classes.{class-known, class-fields, class-some, class-done}
 use borrow.Author.Needs.{needs}
 use Rattle.plain.proofs.emit_class.Statement.{statement}
 use Rattle.plain.proofs.emit_class.Tie as tie
-use Rattle.plain.proofs.emit_class.Reads as reads
-use Rattle.plain.proofs.emit_class.Lts as lts
-use Rattle.plain.proofs.emit_methods.Reads as emit-methods-reads
-use Rattle.plain.proofs.put.Reads as put-reads
-use Rattle.plain.proofs.put_fields.Reads as put-fields-reads
-use Rattle.plain.proofs.skip.Reads as skip-reads
 
 -- src/lib.rt:927:29
 mul-t11 : tie.Need-mul-t11

@@ -1,19 +1,9 @@
-use Rattle.plain.proofs.Writing.{written-long}
 use Rattle.plain.proofs.Methods.{method-known, method-types, method-ended, method-body, method-done}
-use mathlib.Core.Path.{_≡_, refl, sym, ap, _∙_}
-use mathlib.Core.List.{List, [], _∷_, _++_}
-use Prim.Native.Nat.{ℕ, suc, _+_, _-_, _*_, _≤_, _<_}
+use Prim.Native.Nat.{_-_}
 use native.Mathlib.Omega.{arith}
-use lib.ListN.{length, getD, take, drop, set, length-set}
 use borrow.Author.Needs.{needs}
 use Rattle.plain.proofs.emit_method.Statement.{statement}
 use Rattle.plain.proofs.emit_method.Tie as tie
-use Rattle.plain.proofs.emit_method.Reads as reads
-use Rattle.plain.proofs.emit_method.Lts as lts
-use Rattle.plain.proofs.emit_body.Reads as emit-body-reads
-use Rattle.plain.proofs.plain_type.Reads as plain-type-reads
-use Rattle.plain.proofs.put.Reads as put-reads
-use Rattle.plain.proofs.put_types.Reads as put-types-reads
 
 mul-plain-type : tie.Need-mul-plain-type
 mul-plain-type c = search needs

@@ -1,15 +1,9 @@
 use Rattle.plain.proofs.Programs.{program-some-classes, program-room, program-some-body, program-done}
-use mathlib.Core.Path.{_≡_, refl, sym, ap, _∙_}
-use Prim.Native.Nat.{ℕ, suc, _+_, _-_, _*_, _≤_, _<_}
+use Prim.Native.Nat.{_-_}
 use native.Mathlib.Omega.{arith}
 use borrow.Author.Needs.{needs}
 use Rattle.plain.proofs.emit_program.Statement.{statement}
 use Rattle.plain.proofs.emit_program.Tie as tie
-use Rattle.plain.proofs.emit_program.Reads as reads
-use Rattle.plain.proofs.emit_program.Lts as lts
-use Rattle.plain.proofs.emit_body.Reads as emit-body-reads
-use Rattle.plain.proofs.emit_classes.Reads as emit-classes-reads
-use Rattle.plain.proofs.put.Reads as put-reads
 
 -- src/lib.rt:962:25
 slice-aggregate-put : tie.Need-slice-aggregate-put

@@ -1,18 +1,10 @@
-use mathlib.Core.Path.{_≡_, refl, sym, ap, _∙_}
-use mathlib.Core.Logic.{_⊎_, inl, inr}
-use mathlib.Core.List.{List, [], _∷_, _++_}
-use Prim.Native.Nat.{ℕ, suc, _+_, _-_, _*_, _≤_, _<_}
+use mathlib.Core.Logic.{inr}
+use Prim.Native.Nat.{_-_}
 use native.Mathlib.Omega.{arith}
-use lib.ListN.{length, getD}
 use Rattle.plain.proofs.Answers.{checked-whole, checked-counted, limits-answer}
 use borrow.Author.Needs.{needs}
 use Rattle.plain.proofs.over_limits.Statement.{statement}
 use Rattle.plain.proofs.over_limits.Tie as tie
-use Rattle.plain.proofs.over_limits.Reads as reads
-use Rattle.plain.proofs.over_limits.Lts as lts
-use Rattle.form.proofs.check_translatable.Reads as check-translatable-reads
-use Rattle.plain.proofs.over_fields.Reads as over-fields-reads
-use Rattle.plain.proofs.with_fields.Reads as with-fields-reads
 
 -- src/lib.rt:1082:43
 slice-aggregate-check-translatable : tie.Need-slice-aggregate-check-translatable

@@ -1,16 +1,10 @@
-use mathlib.Core.Path.{_≡_, refl, sym, ap, _∙_}
-use mathlib.Core.List.{List, [], _∷_, _++_}
-use Prim.Native.Nat.{ℕ, suc, _+_, _-_, _*_, _≤_, _<_}
+use Prim.Native.Nat.{_-_}
 use native.Mathlib.Omega.{arith}
-use lib.ListN.{length, getD, take, drop, set, length-set}
+use lib.ListN.{length}
 use borrow.Author.Needs.{needs}
 use Rattle.plain.proofs.Writing.{Putting, putting-start, putting-step, putting-end}
-use lib.Seq.{sets, length-sets}
 use Rattle.plain.proofs.put.Statement.{statement}
 use Rattle.plain.proofs.put.Tie as tie
-use Rattle.plain.proofs.put.Reads as reads
-use Rattle.plain.proofs.put.Lts as lts
-use Rattle.plain.proofs.put_number.Reads as put-number-reads
 
 abbrev Inv-loop : tie.InvT-loop
 Inv-loop out₀ place numbers i₀ out i = Putting out₀ out numbers place i

@@ -1,17 +1,11 @@
-use Rattle.plain.proofs.Writing.{written-then, written-as, written-long}
-use Rattle.plain.proofs.Renewing.{renew-known, renew-fields, copies-ended, renew-done, change-root, change-copies, change-after, change-done, change-this, change-other, head-zero, head-other}
-use mathlib.Core.Path.{_≡_, refl, sym, ap, _∙_}
-use mathlib.Core.List.{List, [], _∷_, _++_}
-use Prim.Native.Nat.{ℕ, suc, _+_, _-_, _*_, _≤_, _<_}
+use Rattle.plain.proofs.Writing.{written-long}
+use Rattle.plain.proofs.Renewing.{change-root, change-copies, change-after, change-done, change-this, change-other, head-zero, head-other}
+use mathlib.Core.Path.{_∙_}
+use Prim.Native.Nat.{_+_, _-_, _*_}
 use native.Mathlib.Omega.{arith}
-use lib.ListN.{length, getD, take, drop, set, length-set}
 use borrow.Author.Needs.{needs}
 use Rattle.plain.proofs.put_change.Statement.{statement}
 use Rattle.plain.proofs.put_change.Tie as tie
-use Rattle.plain.proofs.put_change.Reads as reads
-use Rattle.plain.proofs.put_change.Lts as lts
-use Rattle.plain.proofs.put.Reads as put-reads
-use Rattle.plain.proofs.put_renew.Reads as put-renew-reads
 
 mul-root : tie.Need-mul-root
 mul-root c = omega (arith, change-root (c .before .before .before .pre .0) .0)

@@ -1,14 +1,9 @@
-use mathlib.Core.Path.{_≡_, refl, sym, ap, _∙_}
-use mathlib.Core.List.{List, [], _∷_, _++_}
-use Prim.Native.Nat.{ℕ, suc, _+_, _-_, _*_, _≤_, _<_}
-use native.Mathlib.Omega.{arith}
-use lib.ListN.{length, getD, take, drop, set, length-set}
+use mathlib.Core.Path.{sym}
+use Prim.Native.Nat.{_-_}
 use borrow.Author.Needs.{needs}
 use lib.Seq.{set-out}
 use Rattle.plain.proofs.put_number.Statement.{statement}
 use Rattle.plain.proofs.put_number.Tie as tie
-use Rattle.plain.proofs.put_number.Reads as reads
-use Rattle.plain.proofs.put_number.Lts as lts
 
 mul-out : tie.Need-mul-out
 mul-out c = search needs

@@ -1,17 +1,11 @@
-use Rattle.plain.proofs.Writing.{written-then, written-as, written-long}
-use Rattle.plain.proofs.Renewing.{renew-known, renew-fields, copies-ended, renew-done, change-root, change-copies, change-after, change-done, change-this, change-other, head-zero, head-other}
-use mathlib.Core.Path.{_≡_, refl, sym, ap, _∙_}
-use mathlib.Core.List.{List, [], _∷_, _++_}
-use Prim.Native.Nat.{ℕ, suc, _+_, _-_, _*_, _≤_, _<_}
+use Rattle.plain.proofs.Writing.{written-long}
+use Rattle.plain.proofs.Renewing.{renew-known, renew-fields, copies-ended, renew-done}
+use mathlib.Core.Path.{_∙_}
+use Prim.Native.Nat.{_-_}
 use native.Mathlib.Omega.{arith}
-use lib.ListN.{length, getD, take, drop, set, length-set}
 use borrow.Author.Needs.{needs}
 use Rattle.plain.proofs.put_renew.Statement.{statement}
 use Rattle.plain.proofs.put_renew.Tie as tie
-use Rattle.plain.proofs.put_renew.Reads as reads
-use Rattle.plain.proofs.put_renew.Lts as lts
-use Rattle.plain.proofs.put.Reads as put-reads
-use Rattle.plain.proofs.put_copies.Reads as put-copies-reads
 
 add-o : tie.Need-add-o
 add-o c = omega (arith, c .before .before .before .pre .1 .0)

@@ -1,17 +1,12 @@
-use Rattle.plain.proofs.Writing.{written-then, written-as, written-long}
-use Rattle.plain.specs.Emission.{slot-lines}
+use Rattle.plain.proofs.Writing.{written-as}
 use Rattle.plain.proofs.Lines.{slot-zero, slot-other}
-use mathlib.Core.Path.{_≡_, refl, sym, ap, _∙_}
-use mathlib.Core.List.{List, [], _∷_, _++_}
-use Prim.Native.Nat.{ℕ, suc, _+_, _-_, _*_, _≤_, _<_}
+use mathlib.Core.Path.{sym, ap}
+use Prim.Native.Nat.{_-_}
 use native.Mathlib.Omega.{arith}
-use lib.ListN.{length, getD, take, drop, set, length-set}
+use lib.ListN.{length}
 use borrow.Author.Needs.{needs}
 use Rattle.plain.proofs.put_slot.Statement.{statement}
 use Rattle.plain.proofs.put_slot.Tie as tie
-use Rattle.plain.proofs.put_slot.Reads as reads
-use Rattle.plain.proofs.put_slot.Lts as lts
-use Rattle.plain.proofs.put.Reads as put-reads
 
 slice-aggregate-put : tie.Need-slice-aggregate-put
 slice-aggregate-put c = search needs

@@ -1,14 +1,9 @@
-use mathlib.Core.Path.{_≡_, refl, sym, ap, _∙_}
-use mathlib.Core.List.{List, [], _∷_, _++_}
-use Prim.Native.Nat.{ℕ, suc, _+_, _-_, _*_, _≤_, _<_}
+use Prim.Native.Nat.{_-_}
 use native.Mathlib.Omega.{arith}
-use lib.ListN.{length, getD}
-use borrow.Author.Needs.{needs}
+use lib.ListN.{length}
 use Rattle.plain.proofs.Skips.{Skipping, skipping-start, skipping-step, skipping-end}
 use Rattle.plain.proofs.skip.Statement.{statement}
 use Rattle.plain.proofs.skip.Tie as tie
-use Rattle.plain.proofs.skip.Reads as reads
-use Rattle.plain.proofs.skip.Lts as lts
 
 abbrev Inv-loop : tie.InvT-loop
 Inv-loop rows at letter r₀ r = Skipping rows letter at r

@@ -1,18 +1,8 @@
-use mathlib.Core.Path.{_≡_, refl, sym, ap, _∙_}
-use mathlib.Core.Logic.{_⊎_, inl, inr}
-use mathlib.Core.List.{List, [], _∷_, _++_}
-use Prim.Native.Nat.{ℕ, suc, _+_, _-_, _*_, _≤_, _<_}
-use native.Mathlib.Omega.{arith}
-use lib.ListN.{length, getD}
+use Prim.Native.Nat.{_-_}
 use Rattle.plain.proofs.Answers.{accepted-stand, answer-limits, answer-names, answer-some, answer-plain}
 use borrow.Author.Needs.{needs}
 use Rattle.plain.proofs.translate_checked.Statement.{statement}
 use Rattle.plain.proofs.translate_checked.Tie as tie
-use Rattle.plain.proofs.translate_checked.Reads as reads
-use Rattle.plain.proofs.translate_checked.Lts as lts
-use Rattle.plain.proofs.over_limits.Reads as over-limits-reads
-use Rattle.plain.proofs.reserved_name.Reads as reserved-name-reads
-use Rattle.plain.proofs.write_plain.Reads as write-plain-reads
 
 -- src/lib.rt:1113:9
 over-limits-requires : tie.Need-over-limits-requires

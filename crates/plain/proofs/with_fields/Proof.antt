@@ -1,15 +1,8 @@
-use mathlib.Core.Path.{_≡_, refl, sym, ap, _∙_}
-use mathlib.Core.Logic.{_⊎_, inl, inr}
-use mathlib.Core.List.{List, [], _∷_, _++_}
-use Prim.Native.Nat.{ℕ, suc, _+_, _-_, _*_, _≤_, _<_}
-use native.Mathlib.Omega.{arith}
-use lib.ListN.{length, getD}
+use Prim.Native.Nat.{_-_}
 use Rattle.plain.proofs.Answers.{told-form, told-before, told-after, told-fields}
 use borrow.Author.Needs.{needs}
 use Rattle.plain.proofs.with_fields.Statement.{statement}
 use Rattle.plain.proofs.with_fields.Tie as tie
-use Rattle.plain.proofs.with_fields.Reads as reads
-use Rattle.plain.proofs.with_fields.Lts as lts
 
 -- src/lib.rt:1058:24
 enum-known-formed : tie.Need-enum-known-formed

@@ -1,15 +1,9 @@
 use Rattle.plain.proofs.Lines.{extended-start, extended-step, extended-end}
 use Rattle.plain.specs.Emission.{Extended}
-use mathlib.Core.Path.{_≡_, refl, sym, ap, _∙_}
-use mathlib.Core.List.{List, [], _∷_, _++_}
-use Prim.Native.Nat.{ℕ, suc, _+_, _-_, _*_, _≤_, _<_}
+use Prim.Native.Nat.{_-_, _≤_}
 use native.Mathlib.Omega.{arith}
-use lib.ListN.{length, getD, take, drop, set, length-set}
-use borrow.Author.Needs.{needs}
 use Rattle.plain.proofs.with_locals.Statement.{statement}
 use Rattle.plain.proofs.with_locals.Tie as tie
-use Rattle.plain.proofs.with_locals.Reads as reads
-use Rattle.plain.proofs.with_locals.Lts as lts
 
 abbrev Inv-loop : tie.InvT-loop
 Inv-loop slots vars next count s₀ i₀ s i = Extended slots s vars next i × (i ≤ count)

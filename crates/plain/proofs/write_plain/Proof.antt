@@ -1,16 +1,9 @@
-use mathlib.Core.Path.{_≡_, refl, sym, ap, _∙_}
-use mathlib.Core.Logic.{_⊎_, inl, inr}
-use mathlib.Core.List.{List, [], _∷_, _++_}
-use Prim.Native.Nat.{ℕ, suc, _+_, _-_, _*_, _≤_, _<_}
-use native.Mathlib.Omega.{arith}
-use lib.ListN.{length, getD}
+use mathlib.Core.Path.{refl}
+use Prim.Native.Nat.{_-_}
 use Rattle.plain.proofs.Answers.{plain-short, plain-done}
 use borrow.Author.Needs.{needs}
 use Rattle.plain.proofs.write_plain.Statement.{statement}
 use Rattle.plain.proofs.write_plain.Tie as tie
-use Rattle.plain.proofs.write_plain.Reads as reads
-use Rattle.plain.proofs.write_plain.Lts as lts
-use Rattle.plain.proofs.emit_program.Reads as emit-program-reads
 
 -- src/lib.rt:1093:53
 slice-aggregate-emit-program : tie.Need-slice-aggregate-emit-program
