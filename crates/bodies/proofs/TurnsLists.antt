@@ -707,6 +707,50 @@ module _ {R E T A S C : List ℕ} {count at scope top n : ℕ} (l : 256 ≤ top)
             (given-all P es γ d h en li vw ro);
       }
 
+-- ---- the loop over the expressions of a block
+-- so many are left, from a row on; what they come to after those before, all come to
+pub record ItemsLoop (R E T A S C : List ℕ) (count at scope top n : ℕ) (last : Answer) (S₁ C₁ : List ℕ)
+    (so : Answer) (next left : ℕ) : Type 0 where
+  pub pre : PreList R E T A S₁ C₁ count next scope top left
+  pub later : at ≤ next
+  pub slots-long : length S₁ ≡ length S
+  pub classes-long : length C₁ ≡ length C
+  pub rest : {S′ C′ : List ℕ} {r : Answer} → PostItems R E T A S₁ C₁ S′ C′ count next scope top left so r
+      → PostItems R E T A S C S′ C′ count at scope top n last r
+
+pub items-start : {R E T A S C : List ℕ} {count at scope top n : ℕ} {last : Answer}
+    → PreList R E T A S C count at scope top n → ItemsLoop R E T A S C count at scope top n last S C last at n
+items-start p = record {
+  pre = p;
+  later = omega arith;
+  slots-long = refl;
+  classes-long = refl;
+  rest = λ o. o;
+}
+
+module _ {R E T A S C : List ℕ} {count at scope top n : ℕ} {last : Answer} {S₁ C₁ : List ℕ} {so : Answer}
+    {next left : ℕ} (w : ItemsLoop R E T A S C count at scope top n last S₁ C₁ so next left) where
+  pub items-next : {S₂ C₂ : List ℕ} {x so′ : Answer} → (left ≡ 0 → ⊥)
+      → Post R E T A S₁ C₁ S₂ C₂ count next scope top x → is-refusal (x .typing) ≡ false
+      → so′ ≡ answer (x .typing) (join (so .effect) (x .effect)) → length S₂ ≡ length S₁ → length C₂ ≡ length C₁
+      → ItemsLoop R E T A S C count at scope top n last S₂ C₂ so′ (getD E next 0) (left - 1)
+  items-next z q ok same a b = record {
+    pre = rest-pre (w .pre) z q ok;
+    later = omega (arith, w .later, after-row (first-pre (w .pre) z));
+    slots-long = a ∙ w .slots-long;
+    classes-long = b ∙ w .classes-long;
+    rest = λ o. w .rest (items-step z q (w .pre) ok same o);
+  }
+
+  pub items-ended : {r : Answer} → left ≡ 0 → r ≡ so
+      → PostItems R E T A S C S₁ C₁ count at scope top n last r
+  items-ended z e = w .rest (items-none z e)
+
+  pub items-broken : {S₂ C₂ : List ℕ} {x : Answer} → (left ≡ 0 → ⊥)
+      → Post R E T A S₁ C₁ S₂ C₂ count next scope top x → is-refusal (x .typing) ≡ true
+      → PostItems R E T A S C S₂ C₂ count at scope top n last x
+  items-broken z q f = w .rest (items-fail z q f)
+
 -- the code's union is the definition's
 pub join-or : (t : Typing) (a b : ℕ) → answer t (bitOr a b) ≡ answer t (join a b)
 unfolding join

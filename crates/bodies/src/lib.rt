@@ -1173,44 +1173,34 @@ fn items(
         (now (above .entry)) (now (slots .entry)) (now («class_at» .entry)) (now (slots .exit))
         (now («class_at» .exit)) count at scope top n last r ⌝ }
 {
-    if n == 0 {
-        return last;
+    let mut so_far = last;
+    let mut next = at;
+    let mut left = n;
+    while left > 0 {
+        let r = expression(
+            rows,
+            ends,
+            table,
+            above,
+            slots,
+            class_at,
+            count,
+            next,
+            scope,
+            top,
+        );
+        if is_refusal(r) {
+            return r;
+        }
+        let t = r.typing;
+        so_far = Answer {
+            typing: t,
+            effect: so_far.effect | r.effect,
+        };
+        next = ends[next] as usize;
+        left -= 1;
     }
-    let r = expression(
-        rows,
-        ends,
-        table,
-        above,
-        slots,
-        class_at,
-        count,
-        at,
-        scope,
-        top,
-    );
-    if is_refusal(r) {
-        return r;
-    }
-    let next = ends[at] as usize;
-    let t = r.typing;
-    let so_far = Answer {
-        typing: t,
-        effect: last.effect | r.effect,
-    };
-    items(
-        rows,
-        ends,
-        table,
-        above,
-        slots,
-        class_at,
-        count,
-        next,
-        scope,
-        top,
-        n - 1,
-        so_far,
-    )
+    so_far
 }
 
 // n arguments in a row. Their types are stored from `top` on, each with the effects of the later ones applied.

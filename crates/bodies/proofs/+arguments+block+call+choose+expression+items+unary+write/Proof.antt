@@ -54,7 +54,7 @@ use Rattle.bodies.proofs.+arguments+block+call+choose+expression+items+
 use Rattle.bodies.proofs.+arguments+block+call+choose+expression+items+unary+write.Proof.Call.{call-add-expression, call-expression-requires, call-is-refusal-requires, call-same-length, call-same-length-2, call-returns, call-add-next, call-mul-next, call-shared-slice-read-next, call-cast-next, call-mul-n, call-add-n, call-mul-n-2, call-shared-slice-read-n, call-cast-n, call-plain-requires, call-items-requires, call-too-many-requires, call-same-length-3, call-same-length-4, call-returns-2, call-arguments-requires, call-is-refusal-requires-2, call-same-length-5, call-same-length-6, call-returns-3, call-invoke-requires, call-same-length-7, call-same-length-8, call-returns-4}
 use Rattle.bodies.proofs.+arguments+block+call+choose+expression+items+unary+write.Proof.Choose.{choose-add-expression, choose-expression-requires, choose-is-refusal-requires, choose-same-length, choose-same-length-2, choose-returns, choose-add-first, choose-mul-first, choose-shared-slice-read-first, choose-cast-first, choose-save-requires, choose-add-expression-2, choose-expression-requires-2, choose-is-refusal-requires-2, choose-same-length-3, choose-same-length-4, choose-returns-2, choose-mul-second, choose-shared-slice-read-second, choose-cast-second, choose-swap-requires, choose-add-expression-3, choose-expression-requires-3, choose-is-refusal-requires-3, choose-same-length-5, choose-same-length-6, choose-returns-3, choose-choice-requires, choose-same-length-7, choose-same-length-8, choose-returns-4}
 use Rattle.bodies.proofs.+arguments+block+call+choose+expression+items+unary+write.Proof.Expression.{expression-mul-letter, expression-mul-letter-2, expression-shared-slice-read-letter, expression-plain-requires, expression-plain-requires-2, expression-plain-requires-3, expression-read-slot-requires, expression-create-requires, expression-change-requires, expression-write-requires, expression-call-requires, expression-choose-requires, expression-block-requires, expression-unary-requires, expression-returns, expression-returns-2, expression-returns-3, expression-same-length, expression-returns-4, expression-returns-5, expression-same-length-2, expression-returns-6, expression-same-length-3, expression-same-length-4, expression-returns-7, expression-same-length-5, expression-same-length-6, expression-returns-8, expression-same-length-7, expression-same-length-8, expression-returns-9, expression-same-length-9, expression-same-length-10, expression-returns-10, expression-same-length-11, expression-same-length-12, expression-returns-11}
-use Rattle.bodies.proofs.+arguments+block+call+choose+expression+items+unary+write.Proof.Items.{items-returns, items-expression-requires, items-is-refusal-requires, items-same-length, items-same-length-2, items-returns-2, items-mul-next, items-shared-slice-read-next, items-cast-next, items-sub-items, items-items-requires, items-same-length-3, items-same-length-4, items-returns-3}
+use Rattle.bodies.proofs.+arguments+block+call+choose+expression+items+unary+write.Proof.Items.{items-Inv-loop, items-μ-loop, items-loop-holds, items-expression-requires, items-is-refusal-requires, items-same-length, items-same-length-2, items-returns, items-mul-next, items-shared-slice-read-next, items-cast-next, items-sub-left, items-loop-less, items-loop-again, items-same-length-3, items-same-length-4, items-returns-2}
 use Rattle.bodies.proofs.+arguments+block+call+choose+expression+items+unary+write.Proof.Unary.{unary-add-expression, unary-expression-requires, unary-mul-letter, unary-mul-letter-2, unary-shared-slice-read-letter, unary-test-null-requires, unary-get-requires, unary-cast-requires, unary-assign-requires, unary-same-length, unary-same-length-2, unary-returns, unary-same-length-3, unary-same-length-4, unary-returns-2, unary-same-length-5, unary-same-length-6, unary-returns-3, unary-same-length-7, unary-same-length-8, unary-returns-4}
 use Rattle.bodies.proofs.+arguments+block+call+choose+expression+items+unary+write.Proof.Write.{write-add-expression, write-expression-requires, write-is-refusal-requires, write-same-length, write-same-length-2, write-returns, write-add-next, write-mul-next, write-shared-slice-read-next, write-cast-next, write-expression-requires-2, write-is-refusal-requires-2, write-same-length-3, write-same-length-4, write-returns-2, write-set-requires, write-same-length-5, write-same-length-6, write-returns-3}
 
@@ -297,25 +297,26 @@ pub +arguments+block+call+choose+expression+items+unary+write-spec : {M : Type 1
       expression.Post,
       is-refusal-reads.Asked,
       is-refusal-reads.Learnt,
-      items-below t,
-      items.Post,
     )
     (items-at t)
     items.Post
-    (items-returns t)
+    items-Inv-loop
+    items-μ-loop
+    (items-loop-holds t)
     (items-expression-requires t)
     (items-is-refusal-requires t)
     (items-same-length t)
     (items-same-length-2 t)
-    (items-returns-2 t)
+    (items-returns t)
     (items-mul-next t)
     (items-shared-slice-read-next t)
     (items-cast-next t)
-    (items-sub-items t)
-    (items-items-requires t)
+    (items-sub-left t)
+    (items-loop-less t)
+    (items-loop-again t)
     (items-same-length-3 t)
     (items-same-length-4 t)
-    (items-returns-3 t))
+    (items-returns-2 t))
     (λ t. unary-lts.spec (
       expression-below t,
       expression.Post,
