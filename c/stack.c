@@ -1,5 +1,6 @@
 /* Measures the native stack of the check and of the runner at their deepest: nesting 128, and 64 calls at nesting 128,
- * through each letter that can nest. Fails where the check takes more than 1 MiB or a run more than 6 MiB. */
+ * through each letter that can nest; and at their widest, a block of nearly 60,000 expressions. Fails where the check
+ * takes more than 1 MiB or a run more than 6 MiB. */
 #define _POSIX_C_SOURCE 200809L
 #include "fickle.h"
 
@@ -8,9 +9,9 @@
 #include <stdlib.h>
 #include <string.h>
 
-enum { STACK = 64 << 20, PAINT = 0xAA, NESTING = 128, CHECK_MOST = 1 << 20, RUN_MOST = 6 << 20 };
+enum { STACK = 64 << 20, PAINT = 0xAA, ROWS = 60000, NESTING = 128, CHECK_MOST = 1 << 20, RUN_MOST = 6 << 20 };
 
-static uint32_t rows[4 * 1024], store[36];
+static uint32_t rows[4 * ROWS], store[36];
 static size_t length;
 static uint64_t answer;
 
@@ -46,6 +47,16 @@ static void deepen(char letter)
     for (; tails > 0; tails--)
         row('N', 0, 0), row('N', 0, 0);
     row('S', 0, 0), row('B', 0, 1), row('Q', 0, 1), row('W', 1, 0), row('W', 1, 0);
+}
+
+/* A program as wide as can be: a start block of so many expressions. */
+static void widen(void)
+{
+    length = 0;
+    row('C', 0, 0);
+    row('S', 0, 0), row('B', 0, ROWS - 3);
+    while (length < 4 * ROWS)
+        row('N', 0, 0);
 }
 
 static void *check(void *unused)
@@ -90,6 +101,12 @@ int main(void)
         failures += FICKLE_NUMBER(answer) != 15 || ran > RUN_MOST;
         printf("stack through %c: check %zu bytes, run %zu bytes\n", *letter, checked, ran);
     }
+    widen();
+    size_t checked = used(check);
+    failures += answer != 0 || checked > CHECK_MOST;
+    size_t ran = used(run);
+    failures += answer != 0 || ran > RUN_MOST;
+    printf("stack of %d rows: check %zu bytes, run %zu bytes\n", ROWS, checked, ran);
     puts(failures == 0 ? "the native stack stays within its limits" : "failed");
     return failures != 0;
 }

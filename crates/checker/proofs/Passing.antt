@@ -187,6 +187,7 @@ form-refused (accept p) i l e = let z : _≡_ {A = ℕ} 0 1 = cc in absurd (omeg
 form-refused (refuse n m) i l e = let a : i ≡ n = cc in let b : l ≡ m = cc in rw (a, b)
 
 module _ {R E C : List ℕ} {n : ℕ} where
+  -- The class tables come after form.
   abbrev pub with-tables : (T A : List ℕ) → Stands R E C n → (n + 1) * 576 ≤ length T → 65 ≤ length A
       → FormPassed R E T A C n
   with-tables T A w t a = record {

@@ -106,7 +106,7 @@ pub fn check_into(
     }
 }
 
-// After form, with a class table of its own: of 8 blocks where they are enough.
+// After form, with class tables of its own: at most 7 classes and Object pay for 8 blocks alone.
 fn check_classes(rows: &[u32], ends: &[u16], lookups: &mut [u16], classes: u32) -> Checked
     requires { ⌜ Stands (now rows) (now ends) (now lookups) classes ⌝ }
     ensures { λ r. ⌜ ((w : Stands (now (rows .entry)) (now (ends .entry)) (now (lookups .entry)) classes)
@@ -121,7 +121,7 @@ fn check_classes(rows: &[u32], ends: &[u16], lookups: &mut [u16], classes: u32) 
     check_formed(rows, ends, &mut tables, &mut above, lookups, classes)
 }
 
-// Checks whole rows: form with the ends that are lent, then the classes that form has counted.
+// Checks whole rows with lent tables of ends and lookup classes. Form counts the classes before there is a class table.
 fn check_whole(rows: &[u32], ends: &mut [u16], lookups: &mut [u16]) -> Checked
     requires { ⌜ Room (now rows) (now ends) (now lookups) ⌝ }
     ensures { λ r. ⌜ r ≡ checked-case (check (now (rows .entry))) ⌝ }
