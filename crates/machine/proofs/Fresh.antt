@@ -222,6 +222,7 @@ new-fill {R} {T} {s} {c} p o h = record {
   table = omega (arith, p .holds .tables .long, p .declared);
   room = h;
   start = omega arith;
+  few = omega (arith, p .holds .tables .counts c (p .declared), p .holds .counts c (p .declared));
   rows = λ i l k.
       let f = some-at (world (p .P) .fields c) i (omega (arith, p .holds .tables .counts c (p .declared))) in
       p .holds .fields c i (f .0) (p .declared) (f .1) .within;
@@ -459,4 +460,4 @@ pub change-fill : {R T s : List ℕ} {d made : ℕ} (p : PreNew R T s d made) (j
     → Fill R T s (j * 18) d (getD T (getD T (d * 576 + 514) 0 * 576 + 515) 0)
 change-fill p j h =
     let f = new-fill p (j * 18) (omega (arith, p .sound .stored)) in
-    record { table = f .table; room = f .room; start = root-spot p .kept; rows = f .rows }
+    record { table = f .table; room = f .room; start = root-spot p .kept; few = f .few; rows = f .rows }

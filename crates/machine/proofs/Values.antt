@@ -19,7 +19,7 @@ use Rattle.machine.specs.Machine.{Gave, Raised, Stopped, Stuck}
 use Rattle.machine.specs.declared.Value.the-variants.{Null, Object}
 use Rattle.machine.specs.Machine.{value, bare, bare-state, Small, SmallOutcome, decoded, outcome}
 use Rattle.machine.specs.Machine.{failure}
-use Rattle.machine.specs.Contracts.{Written}
+use Rattle.machine.specs.Contracts.{Written, first-of}
 
 -- the value of a value's number
 pub value-of-value-number : (v : Meaning) → value-of-number (value-number v) ≡ v
@@ -51,6 +51,11 @@ pub bare-stop : {A B : Type 0} (o : Out A) (k : A → State → Out B) {x : Stop
 unfolding bare
 bare-stop (ok b t) k e = let z : _≡_ {A = ℕ} 0 1 = cc in absurd (omega arith)
 bare-stop (stop y t) k {x} {s} e = let h₁ : x ≡ y = cc in let h₂ : s ≡ bare-state t = cc in rw (h₁, h₂)
+
+-- past the fields of a class the first value is 0
+pub first-unused : (R T : List ℕ) (c i count : ℕ) → count ≤ i → 0 ≡ first-of R T c i count
+unfolding first-of
+first-unused R T c i count h = rw (le-leb count i h)
 
 -- one more number written
 pub written-none : (l : List ℕ) (from : ℕ) (f : ℕ → ℕ) → Written l l from 0 f
@@ -88,6 +93,31 @@ written-more {l} {l′} {from} {n} {f} at a w e h q = record {
     apart : (x : ℕ) → (x < from) ⊎ (from + (n + 1) ≤ x) → x ≡ at → ⊥
     apart x (inl p) z = omega arith
     apart x (inr p) z = omega arith
+
+-- numbers written up to a place, and from there on further
+pub written-then : {l l₁ l₂ : List ℕ} (base from i j : ℕ) (f : ℕ → ℕ) → from ≤ i → i ≤ j
+    → Written l l₁ (base + from) (i - from) (λ k. f (from + k)) → Written l₁ l₂ (base + i) (j - i) (λ k. f (i + k))
+    → Written l l₂ (base + from) (j - from) (λ k. f (from + k))
+written-then {l} {l₁} {l₂} base from i j f low high a b = record {
+  long = b .long ∙ a .long;
+  inside = λ x h. go x h (lt-or x (i - from));
+  outside = λ x h. b .outside x (near x h) ∙ a .outside x (far x h);
+}
+  where
+    go : (x : ℕ) → x < j - from → (x < i - from) ⊎ (i - from ≤ x) → getD l₂ (base + from + x) 0 ≡ f (from + x)
+    go x h (inl k) = b .outside (base + from + x) (inl (omega arith)) ∙ a .inside x k
+    go x h (inr k) =
+        let e : base + i + (from + x - i) ≡ base + from + x = omega arith in
+        let e′ : i + (from + x - i) ≡ from + x = omega arith in
+        ap (λ (y : ℕ). getD l₂ y 0) (sym e) ∙ (b .inside (from + x - i) (omega arith) ∙ ap f e′)
+
+    near : (x : ℕ) → (x < base + from) ⊎ (base + from + (j - from) ≤ x) → (x < base + i) ⊎ (base + i + (j - i) ≤ x)
+    near x (inl h) = inl (omega arith)
+    near x (inr h) = inr (omega arith)
+
+    far : (x : ℕ) → (x < base + from) ⊎ (base + from + (j - from) ≤ x) → (x < base + from) ⊎ (base + from + (i - from) ≤ x)
+    far x (inl h) = inl h
+    far x (inr h) = inr (omega arith)
 
 -- what a number stands for, as a value and as an outcome
 pub value-decoded : (n : ℕ) → value (decoded n) ≡ value-of-number n

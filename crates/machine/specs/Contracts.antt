@@ -66,6 +66,7 @@ pub record Fill (R T s : List ℕ) (o c from : ℕ) : Type 0 where
   pub table : c * 576 + 576 ≤ length T
   pub room : o + 18 ≤ length s
   pub start : from ≤ 17
+  pub few : getD T (c * 576 + 515) 0 ≤ 17
   pub rows : (i : ℕ) → i < 17 → i < getD T (c * 576 + 515) 0 → getD T (c * 576 + 520 + i) 0 * 4 + 1 < length R
 
 abbrev pub Filled : List ℕ → List ℕ → List ℕ → List ℕ → ℕ → ℕ → ℕ → Type 0

@@ -124,8 +124,14 @@ fn fill(rows: &[u32], tables: &[u16], store: &mut [u32], o: usize, c: usize, fro
         o c from ⌝ }
 {
     let count = tables[c * 576 + 515] as usize;
-    for i in from..17 {
+    let mut i = from;
+    while i < count {
         store[o + 1 + i] = first_number(rows, tables, c, i, count);
+        i += 1;
+    }
+    while i < 17 {
+        store[o + 1 + i] = 0;
+        i += 1;
     }
 }
 
