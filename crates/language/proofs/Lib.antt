@@ -4,3 +4,4 @@ pub mod Letters
 pub mod Tables
 pub mod Effects
 pub mod Classes
+pub mod Lines

@@ -27,10 +27,15 @@ pub record NodeAt (R E : List ℕ) (r : ℕ) (l : Letter) (a b n : ℕ) : Type 0
   pub in-ends : r < length E
   pub end : getD E r 0 ≡ r + n
 
--- V lines from row r on.
-unfoldable pub LocalsAt : List ℕ → List DeclaredType → ℕ → Type 0
-LocalsAt R [] r = Unit {0}
-LocalsAt R (t ∷ ts) r = RowAt R r V-local (type-number t) 0 × LocalsAt R ts (r + 1)
+-- Lines one after another from row r on: something of each, and of its row.
+module _ {A : Type 0} (Q : A → ℕ → Type 0) where
+  unfoldable pub LinesAt : List A → ℕ → Type 0
+  LinesAt [] r = Unit {0}
+  LinesAt (x ∷ xs) r = Q x r × LinesAt xs (r + 1)
+
+-- Lines of one letter that have a type each: V lines, and P lines.
+abbrev pub TypesAt : Letter → List ℕ → List DeclaredType → ℕ → Type 0
+TypesAt l R ts r = LinesAt (λ (t : DeclaredType) (i : ℕ). RowAt R i l (type-number t) 0) ts r
 
 unfoldable mutual
   pub Encoded : List ℕ → List ℕ → Expr → ℕ → Type 0
@@ -57,7 +62,7 @@ unfoldable mutual
       × Encoded R E y (r + 1 + size e + size x)
   Encoded R E (block ts es) r =
       NodeAt R E r B-block (length ts) (count es) (1 + length ts + sizes es)
-      × LocalsAt R ts (r + 1)
+      × TypesAt V-local R ts (r + 1)
       × EncodedAll R E es (r + 1 + length ts)
 
   pub EncodedAll : List ℕ → List ℕ → Exprs → ℕ → Type 0

@@ -1,9 +1,9 @@
 -- Where the parts of a program stand in rows and in the table of ends. Rows are counted from 0. The form pass
 -- establishes it; headings, bodies, translation and evaluation read rows only through it.
 use mathlib.Core.Path.{_≡_}
-use Prim.Native.Nat.{ℕ, suc, _+_, _*_, _≤_}
+use Prim.Native.Nat.{ℕ, suc, _+_, _*_, _≤_, _<_}
 use mathlib.Core.List.{List, [], _∷_}
-use lib.ListN.{length}
+use lib.ListN.{length, getD}
 use Rattle.language.specs.Limits.{of-check}
 use Rattle.language.specs.Rows.{C-class, F-field, M-method, P-parameter, X-effect, S-start}
 use Rattle.language.specs.Tree.{DeclaredType, type-number, kind-number, size, Field, Declaration}
@@ -12,7 +12,7 @@ use Rattle.language.specs.Tree.{Class, class-lines, classes-lines, Progr
 use Rattle.language.specs.Program.{world}
 use Rattle.language.specs.Typing.{method-environment, start-environment}
 use Rattle.language.specs.LookupClasses.{LooksUp}
-use Rattle.language.specs.Encoded.{RowAt, Encoded}
+use Rattle.language.specs.Encoded.{RowAt, LinesAt, TypesAt, Encoded}
 use Rattle.language.specs.WellFormed.{ProgramInForm}
 
 -- Something of each method of a class, and of each class: its number, its tree, its row.
@@ -26,18 +26,18 @@ module _ (Q : ℕ → Class → ℕ → Type 0) where
   EachClass [] k r = Unit {0}
   EachClass (c ∷ cs) k r = Q k c r × EachClass cs (suc k) (r + class-lines c)
 
--- Lines one after another: P, X, F.
-unfoldable pub ParametersAt : List ℕ → List DeclaredType → ℕ → Type 0
-ParametersAt R [] r = Unit {0}
-ParametersAt R (t ∷ ts) r = RowAt R r P-parameter (type-number t) 0 × ParametersAt R ts (r + 1)
+-- X lines and F lines.
+abbrev pub EffectsAt : List ℕ → List ℕ → ℕ → Type 0
+EffectsAt R cs r = LinesAt (λ (c i : ℕ). RowAt R i X-effect c 0) cs r
 
-unfoldable pub EffectsAt : List ℕ → List ℕ → ℕ → Type 0
-EffectsAt R [] r = Unit {0}
-EffectsAt R (c ∷ cs) r = RowAt R r X-effect c 0 × EffectsAt R cs (r + 1)
+abbrev pub FieldsAt : List ℕ → List Field → ℕ → Type 0
+FieldsAt R fs r = LinesAt (λ (f : Field) (i : ℕ). RowAt R i F-field (type-number (f .type)) (f .name)) fs r
 
-unfoldable pub FieldsAt : List ℕ → List Field → ℕ → Type 0
-FieldsAt R [] r = Unit {0}
-FieldsAt R (f ∷ fs) r = RowAt R r F-field (type-number (f .type)) (f .name) × FieldsAt R fs (r + 1)
+-- n rows from one on have the letter of a code, and the next row has another.
+pub record Run (R : List ℕ) (letter from n : ℕ) : Type 0 where
+  pub each : (i : ℕ) → i < n → getD R ((from + i) * 4) 0 ≡ letter
+  pub inside : (from + n) * 4 + 3 < length R
+  pub other : getD R ((from + n) * 4) 0 ≡ letter → ⊥
 
 -- The row of a method's body, and of a class's first method.
 abbrev pub effects-row : ℕ → Declaration → ℕ
@@ -52,7 +52,7 @@ methods-from-row r c = r + 1 + length (c .fields)
 -- A method whose M line is row r, and a class whose C line is row r.
 pub record MethodAt (R E : List ℕ) (m : Declaration) (r : ℕ) : Type 0 where
   pub line : RowAt R r M-method (type-number (m .result)) (m .name)
-  pub parameters : ParametersAt R (m .parameters) (r + 1)
+  pub parameters : TypesAt P-parameter R (m .parameters) (r + 1)
   pub effects : EffectsAt R (m .effects) (effects-row r m)
   pub body : Encoded R E (m .body) (body-row r m)
 

@@ -31,7 +31,7 @@ use Rattle.language.specs.WellFormed.{form-body}
 use Rattle.language.specs.ClassTables.{rows-from, declared-row, class-row, field-rows-at, field-rows}
 use Rattle.language.specs.ClassTables.{method-row-at, method-row}
 use Rattle.language.specs.LookupClasses.{LooksUp}
-use Rattle.language.specs.Encoded.{RowAt, NodeAt, Encoded}
+use Rattle.language.specs.Encoded.{RowAt, NodeAt, LinesAt, Encoded}
 use Rattle.language.specs.Layout.{EachMethod, EachClass, FieldsAt, MethodAt, ClassAt, ProgramAt}
 use Rattle.language.specs.Layout.{LooksUpProgram}
 use Rattle.language.specs.Layout.{body-row, methods-from-row}
@@ -299,7 +299,7 @@ pub record FieldHere (R : List ℕ) (f : Field) (r : ℕ) : Type 0 where
 
 own-fields : (R : List ℕ) (fs : List Field) (r : ℕ) → FieldsAt R fs r → Each (FieldInForm of-check) fs
     → All2 (FieldHere R) fs (rows-from r fs)
-unfolding FieldsAt rows-from
+unfolding LinesAt rows-from
 own-fields R [] r h i = a-nil
 own-fields R (f ∷ fs) r h (each-cons i is) =
     a-cons (record { line = h .0; in-form = i }) (own-fields R fs (r + 1) (h .1) is)

@@ -1,5 +1,4 @@
--- Lists laid out by place: what holds of each member at its own place, from a first place on. So do records stand in
--- rows of numbers, and entries in the table of ends.
+-- Records in rows of numbers and entries in the table of ends, one after another (`LinesAt`).
 use mathlib.Core.Path.{_≡_, sym, ap, _∙_, subst}
 use Prim.Native.Nat.{ℕ, suc, _+_, _*_, _<_}
 use mathlib.Core.List.{List, [], _∷_, _++_, map}
@@ -7,48 +6,44 @@ use lib.ListN.{length, getD, drop, length-drop}
 use lib.Seq.{getD-drop, drop-drop}
 use native.Mathlib.Omega.{arith}
 use Rattle.language.specs.Rows.{Record, row-of, numbers-of}
-use Rattle.language.specs.Encoded.{RowAt}
+use Rattle.language.specs.Encoded.{RowAt, LinesAt}
 
-module _ {A : Type 0} (Q : ℕ → A → Type 0) where
-  unfoldable pub Along : List A → ℕ → Type 0
-  Along [] r = Unit {0}
-  Along (x ∷ xs) r = Q r x × Along xs (r + 1)
-
-  along-append : (xs ys : List A) (r : ℕ) → Along (xs ++ ys) r → Along xs r × Along ys (r + length xs)
-  unfolding Along
-  along-append [] ys r h = let z : r ≡ r + 0 = omega arith in (tt, subst (Along ys) z h)
-  along-append (x ∷ xs) ys r h =
-      let t = along-append xs ys (r + 1) (h .1) in
+module _ {A : Type 0} (Q : A → ℕ → Type 0) where
+  lines-append : (xs ys : List A) (r : ℕ) → LinesAt Q (xs ++ ys) r → LinesAt Q xs r × LinesAt Q ys (r + length xs)
+  unfolding LinesAt
+  lines-append [] ys r h = let z : r ≡ r + 0 = omega arith in (tt, subst (LinesAt Q ys) z h)
+  lines-append (x ∷ xs) ys r h =
+      let t = lines-append xs ys (r + 1) (h .1) in
       let z : r + 1 + length xs ≡ r + suc (length xs) = omega arith in
-      ((h .0, t .0), subst (Along ys) z (t .1))
+      ((h .0, t .0), subst (LinesAt Q ys) z (t .1))
 
   -- Two lists one after the other, the first of n members.
-  pub along-split : (xs ys : List A) (r n : ℕ) → length xs ≡ n → Along (xs ++ ys) r
-      → Along xs r × Along ys (r + n)
-  along-split xs ys r n e h = let t = along-append xs ys r h in
-      (t .0, subst (λ (k : ℕ). Along ys (r + k)) e (t .1))
+  pub lines-split : (xs ys : List A) (r n : ℕ) → length xs ≡ n → LinesAt Q (xs ++ ys) r
+      → LinesAt Q xs r × LinesAt Q ys (r + n)
+  lines-split xs ys r n e h = let t = lines-append xs ys r h in
+      (t .0, subst (λ (k : ℕ). LinesAt Q ys (r + k)) e (t .1))
 
 -- A record in rows, an entry in the table of ends.
-abbrev pub RecordAt : List ℕ → ℕ → Record → Type 0
-RecordAt R r x = RowAt R r (x .letter) (x .first) (x .second)
+abbrev pub RecordAt : List ℕ → Record → ℕ → Type 0
+RecordAt R x r = RowAt R r (x .letter) (x .first) (x .second)
 
-pub record EndAt (E : List ℕ) (r n : ℕ) : Type 0 where
+pub record EndAt (E : List ℕ) (n r : ℕ) : Type 0 where
   pub in-ends : r < length E
   pub end : getD E r 0 ≡ n
 
 -- The records whose numbers stand from row r on.
-pub records-along : (R : List ℕ) (xs : List Record) (r : ℕ) → drop (r * 4) R ≡ numbers-of (map row-of xs)
-    → Along (RecordAt R) xs r
-unfolding Along numbers-of
-records-along R [] r e = tt
-records-along R (x ∷ xs) r e = (
+pub records-lines : (R : List ℕ) (xs : List Record) (r : ℕ) → drop (r * 4) R ≡ numbers-of (map row-of xs)
+    → LinesAt (RecordAt R) xs r
+unfolding LinesAt numbers-of
+records-lines R [] r e = tt
+records-lines R (x ∷ xs) r e = (
   record {
     within = omega (arith, length-drop (r * 4) R, ap length e);
     letter = at 0 ∙ ap (λ (l : List ℕ). getD l 0 0) e;
     first = sym (getD-drop (r * 4) R 1 0) ∙ ap (λ (l : List ℕ). getD l 1 0) e;
     second = sym (getD-drop (r * 4) R 2 0) ∙ ap (λ (l : List ℕ). getD l 2 0) e;
   },
-  records-along R xs (r + 1) (ap (λ (n : ℕ). drop n R) z ∙ (sym (drop-drop 4 (r * 4) R) ∙ ap (drop 4) e)),
+  records-lines R xs (r + 1) (ap (λ (n : ℕ). drop n R) z ∙ (sym (drop-drop 4 (r * 4) R) ∙ ap (drop 4) e)),
 )
   where
     z : (r + 1) * 4 ≡ r * 4 + 4
@@ -59,15 +54,15 @@ records-along R (x ∷ xs) r e = (
         ∙ sym (getD-drop (r * 4) R 0 0)
 
 -- The entries that stand from place r on.
-pub ends-along : (E xs rest : List ℕ) (r : ℕ) → drop r E ≡ xs ++ rest → Along (EndAt E) xs r
-unfolding Along
-ends-along E [] rest r e = tt
-ends-along E (x ∷ xs) rest r e = (
+pub ends-lines : (E xs rest : List ℕ) (r : ℕ) → drop r E ≡ xs ++ rest → LinesAt (EndAt E) xs r
+unfolding LinesAt
+ends-lines E [] rest r e = tt
+ends-lines E (x ∷ xs) rest r e = (
   record {
     in-ends = omega (arith, length-drop r E, ap length e);
     end = ap (λ (n : ℕ). getD E n 0) z ∙ (sym (getD-drop r E 0 0) ∙ ap (λ (l : List ℕ). getD l 0 0) e);
   },
-  ends-along E xs rest (r + 1) (sym (drop-drop 1 r E) ∙ ap (drop 1) e),
+  ends-lines E xs rest (r + 1) (sym (drop-drop 1 r E) ∙ ap (drop 1) e),
 )
   where
     z : r ≡ r + 0

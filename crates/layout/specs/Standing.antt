@@ -19,70 +19,45 @@ use Rattle.language.specs.Form.{form}
 use Rattle.language.specs.Tables.{next-rows, ends-of, ends-list, method-ends, methods-ends, class-ends}
 use Rattle.language.specs.Tables.{classes-ends}
 use Rattle.language.specs.Tables.{program-ends}
-use Rattle.language.specs.Encoded.{RowAt, NodeAt, LocalsAt, Encoded, EncodedAll}
-use Rattle.language.specs.Layout.{EachMethod, EachClass, ParametersAt, EffectsAt, FieldsAt, MethodAt, ClassAt}
+use Rattle.language.specs.Encoded.{RowAt, NodeAt, LinesAt, Encoded, EncodedAll}
+use Rattle.language.specs.Layout.{EachMethod, EachClass, MethodAt, ClassAt}
 use Rattle.language.specs.Layout.{ProgramAt}
 use Rattle.language.specs.WellFormed.{ProgramInForm}
 use Rattle.language.proofs.Tables.{next-rows-long, ends-long, method-ends-long, class-ends-long}
 use Rattle.language.proofs.Tables.{classes-ends-long}
+use Rattle.language.proofs.Lines.{lines-map}
 use Rattle.theory.specs.TreeRows.{length-flatten, length-methods, length-classes, length-program}
 use Rattle.theory.specs.WholeBack.{form-back}
 use Rattle.theory.specs.Accepts.{numbers-of-rows}
-use Rattle.layout.specs.Places.{Along, along-split, RecordAt, EndAt, records-along, ends-along}
+use Rattle.layout.specs.Places.{lines-split, RecordAt, EndAt, records-lines, ends-lines}
 
 rows-count : (xs : List Record) → length (numbers-of (map row-of xs)) ≡ 4 * length xs
 unfolding numbers-of
 rows-count [] = refl
 rows-count (x ∷ xs) = omega (arith, rows-count xs)
 
-node-at : {R E : List ℕ} {r a b : ℕ} {l : Letter} (n : ℕ) → RowAt R r l a b → EndAt E r (r + n)
+node-at : {R E : List ℕ} {r a b : ℕ} {l : Letter} (n : ℕ) → RowAt R r l a b → EndAt E (r + n) r
     → NodeAt R E r l a b n
 node-at n h e = record { row = h; in-ends = e .in-ends; end = e .end }
 
 module _ (R E : List ℕ) where
   abbrev Records : List Record → ℕ → Type 0
-  Records xs r = Along (RecordAt R) xs r
+  Records xs r = LinesAt (RecordAt R) xs r
 
   abbrev Ends : List ℕ → ℕ → Type 0
-  Ends xs r = Along (EndAt E) xs r
+  Ends xs r = LinesAt (EndAt E) xs r
 
   abbrev split : (xs ys : List Record) (r n : ℕ) → length xs ≡ n → Records (xs ++ ys) r
       → Records xs r × Records ys (r + n)
-  split xs ys r n e h = along-split (RecordAt R) xs ys r n e h
+  split xs ys r n e h = lines-split (RecordAt R) xs ys r n e h
 
   abbrev split-ends : (xs ys : List ℕ) (r n : ℕ) → length xs ≡ n → Ends (xs ++ ys) r
       → Ends xs r × Ends ys (r + n)
-  split-ends xs ys r n e h = along-split (EndAt E) xs ys r n e h
-
-  -- Lines one after another.
-  locals-at : (ts : List DeclaredType) (r : ℕ) → Records (map (λ t. written V-local (type-number t) 0) ts) r
-      → LocalsAt R ts r
-  unfolding Along LocalsAt
-  locals-at [] r h = tt
-  locals-at (t ∷ ts) r h = (h .0, locals-at ts (r + 1) (h .1))
-
-  parameters-at : (ts : List DeclaredType) (r : ℕ)
-      → Records (map (λ t. written P-parameter (type-number t) 0) ts) r
-      → ParametersAt R ts r
-  unfolding Along ParametersAt
-  parameters-at [] r h = tt
-  parameters-at (t ∷ ts) r h = (h .0, parameters-at ts (r + 1) (h .1))
-
-  effects-at : (cs : List ℕ) (r : ℕ) → Records (map (λ c. written X-effect c 0) cs) r → EffectsAt R cs r
-  unfolding Along EffectsAt
-  effects-at [] r h = tt
-  effects-at (c ∷ cs) r h = (h .0, effects-at cs (r + 1) (h .1))
-
-  fields-at : (fs : List Field) (r : ℕ)
-      → Records (map (λ (f : Field). written F-field (type-number (f .type)) (f .name)) fs) r
-      → FieldsAt R fs r
-  unfolding Along FieldsAt
-  fields-at [] r h = tt
-  fields-at (f ∷ fs) r h = (h .0, fields-at fs (r + 1) (h .1))
+  split-ends xs ys r n e h = lines-split (EndAt E) xs ys r n e h
 
   -- An expression.
   mutual
-    unfolding Along flatten ends-of size count Encoded
+    unfolding LinesAt flatten ends-of size count Encoded
 
     pub encoded : (e : Expr) (r : ℕ) → Records (flatten e) r → Ends (ends-of r e) r → Encoded R E e r
     encoded literal-true r h z = node-at 1 (h .0) (z .0)
@@ -131,7 +106,7 @@ module _ (R E : List ℕ) where
         (length ts)
         (next-rows-long (r + 1) (length ts)) (z .1) in (
           node-at (1 + length ts + sizes es) (h .0) (z .0),
-          locals-at ts (r + 1) (x .0),
+          lines-map (RecordAt R) (λ t. written V-local (type-number t) 0) ts (r + 1) (x .0),
           encoded-all es (r + 1 + length ts) (x .1) (y .1),
         )
 
@@ -146,7 +121,7 @@ module _ (R E : List ℕ) where
   -- The methods of a class, and the classes.
   methods-at : (ms : List Declaration) (k r : ℕ) → Records (flatten-methods ms) r → Ends (methods-ends r ms) r
       → EachMethod (λ k m r. MethodAt R E m r) ms k r
-  unfolding Along flatten-methods methods-ends method-ends EachMethod method-lines heading-lines
+  unfolding LinesAt flatten-methods methods-ends method-ends EachMethod method-lines heading-lines
   methods-at [] k r h z = tt
   methods-at (m ∷ ms) k r h z =
       let parameters = map (λ t. written P-parameter (type-number t) 0) (m .parameters) in
@@ -170,8 +145,9 @@ module _ (R E : List ℕ) where
       let next : r + 1 + np + nx + size (m .body) ≡ r + method-lines m = omega arith in (
         record {
           line = h .0;
-          parameters = parameters-at (m .parameters) (r + 1) (p .0);
-          effects = effects-at (m .effects) (r + 1 + np) (x .0);
+          parameters = lines-map (RecordAt R) (λ t. written P-parameter (type-number t) 0) (m .parameters)
+              (r + 1) (p .0);
+          effects = lines-map (RecordAt R) (λ c. written X-effect c 0) (m .effects) (r + 1 + np) (x .0);
           body = encoded (m .body) (r + 1 + np + nx) (b .0) (y .1);
         },
         methods-at ms k (r + method-lines m) (subst (Records (flatten-methods ms)) next (b .1)) (e .1),
@@ -179,7 +155,7 @@ module _ (R E : List ℕ) where
 
   classes-at : (cs : List Class) (k r : ℕ) → Records (flatten-classes cs) r → Ends (classes-ends r cs) r
       → EachClass (ClassAt R E) cs k r
-  unfolding Along flatten-classes classes-ends class-ends EachClass class-lines
+  unfolding LinesAt flatten-classes classes-ends class-ends EachClass class-lines
   classes-at [] k r h z = tt
   classes-at (c ∷ cs) k r h z =
       let fields = map (λ (f : Field). written F-field (type-number (f .type)) (f .name)) (c .fields) in
@@ -196,7 +172,8 @@ module _ (R E : List ℕ) where
       let next : r + 1 + nf + nm ≡ r + class-lines c = omega arith in (
         record {
           line = h .0;
-          fields = fields-at (c .fields) (r + 1) (f .0);
+          fields = lines-map (RecordAt R)
+              (λ (f : Field). written F-field (type-number (f .type)) (f .name)) (c .fields) (r + 1) (f .0);
           methods = methods-at (c .methods) k (r + 1 + nf) (m .0) (q .1);
         },
         classes-at cs (suc k) (r + class-lines c) (subst (Records (flatten-classes cs)) next (m .1)) (e .1),
@@ -205,15 +182,15 @@ module _ (R E : List ℕ) where
   -- A program in form whose rows are these, and whose table of ends begins that of ends.
   pub program-standing : (p : Program) (rest : List ℕ) → R ≡ numbers-of (map row-of (flatten-program p))
       → ProgramInForm of-check p → E ≡ program-ends p ++ rest → ProgramAt R E p
-  unfolding Along flatten-program program-ends
+  unfolding LinesAt flatten-program program-ends
   program-standing p rest rows formed ends =
       let P = p .classes in
       let n = classes-lines P in
       let start = (n + 1) ∷ ends-of (n + 1) (p .start) in
       let h = split (flatten-classes P) (written S-start 0 0 ∷ flatten (p .start)) 0 n (length-classes P)
-      (records-along R (flatten-program p) 0 rows) in
+      (records-lines R (flatten-program p) 0 rows) in
       let z = split-ends (classes-ends 0 P) start 0 n (classes-ends-long 0 P)
-      (ends-along E (program-ends p) rest 0 ends) in
+      (ends-lines E (program-ends p) rest 0 ends) in
       let zero-n : 0 + n ≡ n = omega arith in
       let s = subst (Records (written S-start 0 0 ∷ flatten (p .start))) zero-n (h .1) in
       let t = subst (Ends start) zero-n (z .1) in
