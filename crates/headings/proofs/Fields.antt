@@ -9,16 +9,19 @@ use borrow.Author.Tests.{eq-eqb, ne-eqb, lt-ltb, le-ltb, ltb-true}
 use lib.Dec.{eqb, ltb}
 use lib.ListN.{length, getD, set}
 use Rattle.language.specs.Limits.{of-check}
-use Rattle.language.specs.Tree.{type-of-number, Field, Declaration, Class}
+use Rattle.language.specs.Tree.{type-of-number, Field, Class}
 use Rattle.language.specs.World.{place, is-declared-type}
 use Rattle.language.specs.Program.{is-state-type, world}
 use Rattle.language.specs.Headings.{is-some, check-fields}
 use Rattle.language.specs.ClassTables.{stored-place, rows-from}
+use Rattle.language.specs.Encoded.{LinesAt}
+use Rattle.language.specs.Layout.{FieldsAt}
+use Rattle.language.specs.WellFormed.{Each, each-cons, FieldInForm}
+use Rattle.layout.specs.Found.{FieldHere}
 use Rattle.headings.specs.Answers.{headed}
 use Rattle.headings.specs.declared.Headed.the-variants.{Passed, Refused}
 use Rattle.headings.specs.Blocks.{Working}
 use Rattle.headings.specs.Faults.{faulty, fault-of-field}
-use Rattle.headings.specs.HeadingLines.{FieldAt, FieldsAt, fields-none, fields-more}
 use Rattle.headings.specs.Ready.{FieldReady, EnterReady, FieldsReady}
 use Rattle.headings.proofs.Checks.{faulty-none, faulty-some, fields-step, refused-is, passed-is}
 use Rattle.headings.proofs.Tables.{working-index, working-field}
@@ -32,14 +35,14 @@ module _ {R T : List ℕ} {r base count : ℕ} (w : FieldReady R T r base count)
   name-is = w .at .line .second
 
   type-is : type-of-number (getD R (r * 4 + 1) 0) ≡ w .field .type
-  type-is = ap type-of-number (w .at .line .first) ∙ w .at .type
+  type-is = ap type-of-number (w .at .line .first) ∙ w .at .in-form .type .back
 
   count-entry : getD T (base + 515) 0 ≡ length (w .fields)
   count-entry = rw (w .base-is) (w .working .block .count)
 
   place-entry : getD T (base + getD R (r * 4 + 2) 0) 0 ≡ stored-place (place (w .field .name) (w .fields))
   place-entry = rw (w .base-is, name-is) (w .working .block .places (w .field .name)
-      (omega (arith, w .at .name)))
+      (omega (arith, w .at .in-form .name)))
 
   fault-is : fault-of-field (w .P) (w .fields) (w .field)
       ≡ cond (ltb (getD T (base + 515) 0) 17)
@@ -99,7 +102,7 @@ module _ {R T : List ℕ} {r base : ℕ} (w : EnterReady R T r base) where
       × (length R ≤ 240000) × (base + 576 ≤ length T)
   enter-bounds = (
     omega (arith, enter-count, w .room),
-    omega (arith, w .at .line .second, w .at .name),
+    omega (arith, w .at .line .second, w .at .in-form .name),
     w .at .line .within,
     w .short,
     omega (arith, enter-index 575 (omega arith)),
@@ -111,7 +114,7 @@ module _ {R T : List ℕ} {r base : ℕ} (w : EnterReady R T r base) where
       → Working (w .P) (w .k) T′ (w .fields ++ (w .field ∷ [])) (w .rows ++ (r ∷ [])) (w .methods)
   enter-is T′ e =
       let d : w .k * 576 + 520 + length (w .fields) ≡ w .k * 576 + (520 + length (w .fields)) = omega arith in
-      working-field (w .working) (w .field) r (w .at .name) (w .room) (w .new) T′
+      working-field (w .working) (w .field) r (w .at .in-form .name) (w .room) (w .new) T′
       (e ∙ rw (enter-count, w .at .line .second, w .base-is, d))
 
 -- no fault, so there is room and the name is new
@@ -132,13 +135,15 @@ sound-field P fs f e =
 
 -- ---- the fields of a class
 
-fields-on : {R E : List ℕ} {ms : List Declaration} {fs : List Field} {r : ℕ} → FieldsAt R E ms fs r
+fields-on : {R : List ℕ} (fs : List Field) (r : ℕ) → FieldsAt R fs r → Each (FieldInForm of-check) fs
     → 0 < length fs
-    → (f : Field) × (rest : List Field) × (fs ≡ f ∷ rest) × FieldAt R f r × FieldsAt R E ms rest (r + 1)
-fields-on (fields-none h) l = absurd (omega (arith, l))
-fields-on (fields-more {f} {fs} h x) l = (f, fs, refl, h, x)
+    → (f : Field) × (rest : List Field) × (fs ≡ f ∷ rest) × FieldHere R f r × FieldsAt R rest (r + 1)
+    × Each (FieldInForm of-check) rest
+unfolding LinesAt
+fields-on [] r h i l = absurd (omega (arith, l))
+fields-on (f ∷ fs) r h (each-cons i is) l = (f, fs, refl, record { line = h .0; in-form = i }, h .1, is)
 
-nil-of : {A : Type 0} (l : List A) → length l ≡ 0 → l ≡ []
+pub nil-of : {A : Type 0} (l : List A) → length l ≡ 0 → l ≡ []
 nil-of [] e = refl
 nil-of (x ∷ l) e = absurd (omega (arith, e))
 
@@ -147,7 +152,8 @@ module _ {R T₀ : List ℕ} {r n base count : ℕ} (w : FieldsReady R T₀ r n 
     pub before : List Field
     pub rows : List ℕ
     pub rest : List Field
-    pub here : FieldsAt R (w .ends) (w .declarations) rest (r + i)
+    pub here : FieldsAt R rest (r + i)
+    pub in-form : Each (FieldInForm of-check) rest
     pub left : i + length rest ≡ n
     pub working : Working (w .P) (w .k) T before rows (w .methods)
     pub answer : check-fields of-check (w .P) (w .fields) (r + 1) (w .own)
@@ -161,6 +167,7 @@ module _ {R T₀ : List ℕ} {r n base count : ℕ} (w : FieldsReady R T₀ r n 
     rows = w .rows;
     rest = w .own;
     here = rw e (w .here);
+    in-form = w .in-form;
     left = omega (arith, w .n-is);
     working = w .working;
     answer = rw e;
@@ -170,9 +177,9 @@ module _ {R T₀ : List ℕ} {r n base count : ℕ} (w : FieldsReady R T₀ r n 
 
   module _ {T : List ℕ} {i : ℕ} (p : Fielding T i) where
     module _ (l : i < n) where
-      pub next : (f : Field) × (rest : List Field) × (p .rest ≡ f ∷ rest) × FieldAt R f (r + i)
-          × FieldsAt R (w .ends) (w .declarations) rest (r + i + 1)
-      next = fields-on (p .here) (omega (arith, l, p .left))
+      pub next : (f : Field) × (rest : List Field) × (p .rest ≡ f ∷ rest) × FieldHere R f (r + i)
+          × FieldsAt R rest (r + i + 1) × Each (FieldInForm of-check) rest
+      next = fields-on (p .rest) (r + i) (p .here) (p .in-form) (omega (arith, l, p .left))
 
       abbrev pub fielding-ready : FieldReady R T (r + i) base count
       fielding-ready = record {
@@ -241,6 +248,7 @@ module _ {R T₀ : List ℕ} {r n base count : ℕ} (w : FieldsReady R T₀ r n 
                 rows = p .rows ++ ((r + i) ∷ []);
                 rest = next .1;
                 here = rw a (next .4);
+                in-form = next .5;
                 left = omega (arith, p .left, ap length (next .2));
                 working = h fielding-enter;
                 answer = fault ∙ (faulty-none _ (r + i + 1) _ (sym (e fielding-ready) ∙ z) ∙ rw a);

@@ -1,6 +1,7 @@
 -- What holds between two turns of the loops over heading lines. Assumes nothing.
-use mathlib.Core.Path.{_≡_, refl, sym, ap, _∙_}
+use mathlib.Core.Path.{_≡_, refl, sym, ap, subst, _∙_}
 use mathlib.Core.Bool.{Bool, true, false, _&&_}
+use mathlib.Core.Option.{some}
 use mathlib.Core.List.{List, [], _∷_}
 use mathlib.Core.Logic.{_⊎_, ⊎-elim}
 use Prim.Native.Nat.{ℕ, zero, suc, _+_, _-_, _*_, _%_, _^_, _≤_, _<_}
@@ -11,6 +12,7 @@ use lib.Dec.{leb, ltb}
 use lib.ListN.{length, getD, set, drop, length-set, drop-of-length-le}
 use lib.Seq.{getD-set-same, getD-set-other}
 use Rattle.language.specs.Limits.{of-check}
+use Rattle.language.specs.Lists.{nth}
 use Rattle.language.specs.Rows.{P-parameter, X-effect}
 use Rattle.language.specs.Results.{require}
 use Rattle.language.specs.Tree.{DeclaredType, bool, class, type-number, type-of-number, Class}
@@ -18,11 +20,10 @@ use Rattle.language.specs.World.{is-declared-type}
 use Rattle.language.specs.Effects.{effect-of, effect-of-all, member}
 use Rattle.language.specs.Program.{world}
 use Rattle.language.specs.Headings.{same-type, same-types, lines-within, check-parameters, check-effects}
-use Rattle.language.specs.Encoded.{RowAt}
+use Rattle.language.specs.Encoded.{RowAt, LinesAt}
+use Rattle.theory.specs.Lookups.{each-at}
 use Rattle.headings.specs.Answers.{headed}
 use Rattle.headings.specs.declared.Headed.the-variants.{Passed, Refused}
-use Rattle.headings.specs.HeadingLines.{EffectsAt, effects-none, effects-more, ParametersAt}
-use Rattle.headings.specs.HeadingLines.{parameters-none, parameters-more}
 use Rattle.headings.specs.Faults.{faulty, fault-of-effect}
 use Rattle.headings.specs.Ready.{Copied, Cleared, EffectLines, ParameterLines}
 use Rattle.headings.proofs.Lines.{below-or}
@@ -63,30 +64,44 @@ copied-step {T} {T′} {from} {to} {i} c h k = record {
       ∙ c .after j (omega (arith, l));
 }
 
+-- ---- a line among those that follow one another
+
+pub record Line {A : Type 0} (Q : A → ℕ → Type 0) (xs : List A) (r i : ℕ) : Type 0 where
+  pub one : A
+  pub rest : List A
+  pub is : nth xs i ≡ some one
+  pub here : drop i xs ≡ one ∷ rest
+  pub next : drop (i + 1) xs ≡ rest
+  pub line : Q one (r + i)
+
+line-of : {A : Type 0} (Q : A → ℕ → Type 0) (xs : List A) (r : ℕ) → LinesAt Q xs r → (i : ℕ) → i < length xs
+    → Line Q xs r i
+unfolding LinesAt nth
+line-of Q [] r h i p = absurd (omega (arith, p))
+line-of Q (x ∷ xs) r h zero p = let e : r ≡ r + 0 = omega arith in
+    record { one = x; rest = xs; is = refl; here = refl; next = refl; line = subst (Q x) e (h .0) }
+line-of Q (x ∷ xs) r h (suc i) p =
+    let y = line-of Q xs (r + 1) (h .1) i (omega (arith, p)) in
+    let e : r + 1 + i ≡ r + suc i = omega arith in
+    let d : suc i + 1 ≡ suc (i + 1) = omega arith in
+    record {
+      one = y .one;
+      rest = y .rest;
+      is = y .is;
+      here = y .here;
+      next = rw d (y .next);
+      line = subst (Q (y .one)) e (y .line);
+    }
+
 -- ---- X lines
 
--- the line at a place of the run
-pub record EffectLine (R : List ℕ) (r i : ℕ) (cs : List ℕ) : Type 0 where
-  pub c : ℕ
-  pub rest : List ℕ
-  pub here : drop i cs ≡ c ∷ rest
-  pub next : drop (i + 1) cs ≡ rest
-  pub line : RowAt R (r + i) X-effect c 0
-
-pub effect-line : {R E : List ℕ} {n : ℕ} {cs : List ℕ} {r : ℕ} → EffectsAt R E n cs r → (i : ℕ)
-    → i < length cs → EffectLine R r i cs
-effect-line (effects-none v k h) i p = absurd (omega (arith, p))
-effect-line {r} (effects-more {c} {cs} h x) zero p = let e : r + 0 ≡ r = omega arith in
-    record { c = c; rest = cs; here = refl; next = refl; line = rw e h }
-effect-line {r} (effects-more {c} {cs} h x) (suc i) p =
-    let y = effect-line x i (omega (arith, p)) in
-    let e : r + suc i ≡ r + 1 + i = omega arith in
-    let d : suc i + 1 ≡ suc (i + 1) = omega arith in
-    record { c = y .c; rest = y .rest; here = y .here; next = rw d (y .next); line = rw e (y .line) }
+abbrev EffectLine : List ℕ → List ℕ → ℕ → ℕ → Type 0
+EffectLine R cs r i = Line (λ (c j : ℕ). RowAt R j X-effect c 0) cs r i
 
 module _ {R : List ℕ} {r n : ℕ} (w : EffectLines R r n) where
-  pub effects-line : (i : ℕ) → i < n → EffectLine R r i (w .effects)
-  effects-line i l = effect-line (w .here) i (omega (arith, l, w .n-is))
+  pub effects-line : (i : ℕ) → i < n → EffectLine R (w .effects) r i
+  effects-line i l = line-of (λ (c j : ℕ). RowAt R j X-effect c 0) (w .effects) r (w .here) i
+      (omega (arith, l, w .n-is))
 
   pub effects-index : (i : ℕ) → i < n → ((r + i) * 4 + 3 < length R) × (length R ≤ 240000)
   effects-index i l = (effects-line i l .line .within, w .short)
@@ -120,7 +135,7 @@ module _ {R : List ℕ} {r n : ℕ} (w : EffectLines R r n) where
         record {
           within = omega (arith, p .within);
           so-far = rw (e, y .line .first)
-              (set-more (y .c) (y .rest) s (omega (arith, h, y .line .first)) at-last
+              (set-more (y .one) (y .rest) s (omega (arith, h, y .line .first)) at-last
               ∙ ap (λ (l : List ℕ). effect-of-all l % 2 ^ 64) (sym (y .here)));
         }
 
@@ -128,7 +143,7 @@ module _ {R : List ℕ} {r n : ℕ} (w : EffectLines R r n) where
     collecting-same h = let y = effects-line (i - 1) (omega (arith, l, p .within)) in
         record {
           within = omega (arith, p .within);
-          so-far = set-same (y .c) (y .rest) s (omega (arith, h, y .line .first)) at-last
+          so-far = set-same (y .one) (y .rest) s (omega (arith, h, y .line .first)) at-last
               ∙ ap (λ (l : List ℕ). effect-of-all l % 2 ^ 64) (sym (y .here));
         }
 
@@ -196,7 +211,7 @@ module _ {R : List ℕ} {r n : ℕ} (w : EffectLines R r n) where
           ≡ faulty (fault-of-effect P last (getD R ((r + i) * 4 + 1) 0)) (r + i + 1)
           (check-effects of-check P (getD R ((r + i) * 4 + 1) 0) (r + i + 1 + 1) (drop (i + 1) (w .effects)))
       fault = let y = effects-line i l in p .left
-          ∙ rw (y .here, y .next, y .line .first) (effects-step P last (r + i + 1) (y .c) (y .rest))
+          ∙ rw (y .here, y .next, y .line .first) (effects-step P last (r + i + 1) (y .one) (y .rest))
 
       pub effecting-refused : (f : ℕ) → f ≡ fault-of-effect P last (getD R ((r + i) * 4 + 1) 0) → (f ≡ 0 → ⊥)
           → Refused f (r + i + 1) ≡ headed (check-effects of-check P 0 (r + 1) (w .effects))
@@ -221,35 +236,18 @@ module _ {R : List ℕ} {r n : ℕ} (w : EffectLines R r n) where
 
 -- ---- P lines
 
-pub record TypeLine (R : List ℕ) (r i : ℕ) (ts : List DeclaredType) : Type 0 where
-  pub t : DeclaredType
-  pub rest : List DeclaredType
-  pub here : drop i ts ≡ t ∷ rest
-  pub next : drop (i + 1) ts ≡ rest
-  pub line : RowAt R (r + i) P-parameter (type-number t) 0
-  pub proper : type-of-number (type-number t) ≡ t
-
-pub type-line : {R E : List ℕ} {n : ℕ} {cs : List ℕ} {ts : List DeclaredType} {r : ℕ}
-    → ParametersAt R E n cs ts r → (i : ℕ) → i < length ts → TypeLine R r i ts
-type-line (parameters-none h) i p = absurd (omega (arith, p))
-type-line {r} (parameters-more {t} {ts} h q x) zero p = let e : r + 0 ≡ r = omega arith in
-    record { t = t; rest = ts; here = refl; next = refl; line = rw e h; proper = q }
-type-line {r} (parameters-more {t} {ts} h q x) (suc i) p =
-    let y = type-line x i (omega (arith, p)) in
-    let e : r + suc i ≡ r + 1 + i = omega arith in
-    let d : suc i + 1 ≡ suc (i + 1) = omega arith in
-    record {
-      t = y .t;
-      rest = y .rest;
-      here = y .here;
-      next = rw d (y .next);
-      line = rw e (y .line);
-      proper = y .proper;
-    }
+abbrev TypeLine : List ℕ → List DeclaredType → ℕ → ℕ → Type 0
+TypeLine R ts r i = Line (λ (t : DeclaredType) (j : ℕ). RowAt R j P-parameter (type-number t) 0) ts r i
 
 module _ {R : List ℕ} {r n : ℕ} (w : ParameterLines R r n) where
-  pub types-line : (i : ℕ) → i < n → TypeLine R r i (w .types)
-  types-line i l = type-line (w .here) i (omega (arith, l, w .n-is))
+  pub types-line : (i : ℕ) → i < n → TypeLine R (w .types) r i
+  types-line i l = line-of (λ (t : DeclaredType) (j : ℕ). RowAt R j P-parameter (type-number t) 0) (w .types)
+      r
+      (w .here) i (omega (arith, l, w .n-is))
+
+  pub types-proper : (i : ℕ) (l : i < n)
+      → type-of-number (type-number (types-line i l .one)) ≡ types-line i l .one
+  types-proper i l = each-at (w .in-form) i (types-line i l .one) (types-line i l .is) .back
 
   pub types-index : (i : ℕ) → i < n → ((r + i) * 4 + 3 < length R) × (length R ≤ 240000)
   types-index i l = (types-line i l .line .within, w .short)
@@ -271,7 +269,7 @@ module _ {R : List ℕ} {r n : ℕ} (w : ParameterLines R r n) where
           ≡ require (is-declared-type (world P) (type-of-number (getD R ((r + i) * 4 + 1) 0))) 4 (r + i + 1)
           (λ _. check-parameters of-check P (r + i + 1 + 1) (drop (i + 1) (w .types)))
       unfolding check-parameters
-      one = let y = types-line i l in p .left ∙ rw (y .here, y .next, y .line .first, y .proper)
+      one = let y = types-line i l in p .left ∙ rw (y .here, y .next, y .line .first, types-proper i l)
 
       pub declaring-refused : (b : Bool)
           → b ≡ is-declared-type (world P) (type-of-number (getD R ((r + i) * 4 + 1) 0)) → b ≡ false
@@ -319,7 +317,7 @@ module _ {R : List ℕ} {p q n : ℕ} (v : ParameterLines R p n) (w : ParameterL
 
   module _ (i : ℕ) (m : Matching i) (l : i < n) where
     pair : same-types (v .types) (w .types)
-        ≡ same-type (types-line v i l .t) (types-line w i l .t) && same-types (drop (i + 1) (v .types))
+        ≡ same-type (types-line v i l .one) (types-line w i l .one) && same-types (drop (i + 1) (v .types))
         (drop (i + 1) (w .types))
     unfolding same-types
     pair = let x = types-line v i l in let y = types-line w i l in m .left
@@ -328,13 +326,14 @@ module _ {R : List ℕ} {p q n : ℕ} (v : ParameterLines R p n) (w : ParameterL
     pub matching-other : (getD R ((p + i) * 4 + 1) 0 ≡ getD R ((q + i) * 4 + 1) 0 → ⊥)
         → false ≡ same-types (v .types) (w .types)
     matching-other n = let x = types-line v i l in let y = types-line w i l in
-        sym (pair ∙ rw (other-number (x .t) (y .t) (λ e. n (x .line .first ∙ (e ∙ sym (y .line .first))))))
+        sym (pair ∙ rw (other-number (x .one) (y .one)
+        (λ e. n (x .line .first ∙ (e ∙ sym (y .line .first))))))
 
     pub matching-step : getD R ((p + i) * 4 + 1) 0 ≡ getD R ((q + i) * 4 + 1) 0 → Matching (i + 1)
     matching-step e = let x = types-line v i l in let y = types-line w i l in
         record {
           within = omega (arith, l);
-          left = pair ∙ rw (same-number (x .t) (y .t) (x .proper) (y .proper)
+          left = pair ∙ rw (same-number (x .one) (y .one) (types-proper v i l) (types-proper w i l)
               (sym (x .line .first) ∙ (e ∙ y .line .first)));
         }
 

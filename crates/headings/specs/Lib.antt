@@ -1,5 +1,4 @@
 pub mod Answers
-pub mod HeadingLines
 pub mod Blocks
 pub mod Faults
 pub mod Ready

@@ -6,14 +6,18 @@ use mathlib.Core.Option.{Option, none, some}
 use mathlib.Core.List.{List}
 use lib.ListN.{length, getD}
 use lib.Dec.{eqb}
+use Rattle.language.specs.Limits.{of-check}
 use Rattle.language.specs.Lists.{choice, given}
-use Rattle.language.specs.Tree.{DeclaredType, type-of-number, kind-number, Field, Declaration, Class}
+use Rattle.language.specs.Rows.{P-parameter}
+use Rattle.language.specs.Tree.{DeclaredType, type-of-number, kind-number, Field, Declaration, Class, Program}
 use Rattle.language.specs.World.{place, is-declared-type}
 use Rattle.language.specs.Program.{declared, class-at, world}
 use Rattle.language.specs.Headings.{is-some}
 use Rattle.language.specs.ClassTables.{class-row, method-row}
-use Rattle.headings.specs.HeadingLines.{EffectsAt, ParametersAt, MethodAt, MethodsAt, FieldAt, FieldsAt}
-use Rattle.headings.specs.HeadingLines.{ClassAt, ClassesAt}
+use Rattle.language.specs.Encoded.{TypesAt}
+use Rattle.language.specs.Layout.{FieldsAt, EffectsAt, MethodAt, ProgramAt, methods-from-row}
+use Rattle.language.specs.WellFormed.{Each, TypeInForm, FieldInForm, MethodInForm}
+use Rattle.layout.specs.Found.{FieldHere}
 use Rattle.headings.specs.Blocks.{Lookups, Working}
 
 -- A part of a list was copied to a place after it.
@@ -28,26 +32,26 @@ pub record Cleared (T T′ : List ℕ) (n : ℕ) : Type 0 where
   pub long : length T′ ≡ length T
   pub zero : (i : ℕ) → i < n → getD T′ i 0 ≡ 0
 
--- The rows and the table of ends are those of a program with these classes.
-pub record Classed (R E : List ℕ) : Type 0 where
-  pub classes : List Class
-  pub here : ClassesAt R E classes 0
-  pub few : length classes ≤ 64
-  pub short : length R ≤ 240000
-
+-- Row r is the M line of a method in form.
 pub record MethodHere (R E : List ℕ) (r : ℕ) : Type 0 where
   pub method : Declaration
   pub at : MethodAt R E method r
+  pub in-form : MethodInForm of-check method
   pub short : length R ≤ 240000
 
+-- Row r is the C line of class k of a program that stands in the rows.
 pub record ClassHere (R E : List ℕ) (r : ℕ) : Type 0 where
+  pub program : Program
+  pub standing : ProgramAt R E program
+  pub k : ℕ
   pub one : Class
-  pub at : ClassAt R E one r
-  pub short : length R ≤ 240000
+  pub is : class-at (program .classes) k ≡ some one
+  pub row-is : r ≡ class-row (program .classes) k
 
 pub record ReadReady (R E T : List ℕ) : Type 0 where
-  pub classed : Classed R E
-  pub long : (length (classed .classes) + 1) * 576 ≤ length T
+  pub program : Program
+  pub standing : ProgramAt R E program
+  pub long : (length (program .classes) + 1) * 576 ≤ length T
   pub zero : (i : ℕ) → i < 576 → getD T i 0 ≡ 0
 
 pub record StateReady (T : List ℕ) (t : ℕ) : Type 0 where
@@ -65,7 +69,7 @@ pub record FieldReady (R T : List ℕ) (r base count : ℕ) : Type 0 where
   pub methods : ℕ → Option ℕ
   pub working : Working P k T fields rows methods
   pub field : Field
-  pub at : FieldAt R field r
+  pub at : FieldHere R field r
   pub base-is : base ≡ k * 576
   pub count-is : count ≡ length P
   pub short : length R ≤ 240000
@@ -78,7 +82,7 @@ pub record EnterReady (R T : List ℕ) (r base : ℕ) : Type 0 where
   pub methods : ℕ → Option ℕ
   pub working : Working P k T fields rows methods
   pub field : Field
-  pub at : FieldAt R field r
+  pub at : FieldHere R field r
   pub base-is : base ≡ k * 576
   pub short : length R ≤ 240000
   pub room : length fields < 17
@@ -91,10 +95,9 @@ pub record FieldsReady (R T : List ℕ) (r n base count : ℕ) : Type 0 where
   pub rows : List ℕ
   pub methods : ℕ → Option ℕ
   pub working : Working P k T fields rows methods
-  pub ends : List ℕ
-  pub declarations : List Declaration
   pub own : List Field
-  pub here : FieldsAt R ends declarations own r
+  pub here : FieldsAt R own r
+  pub in-form : Each (FieldInForm of-check) own
   pub n-is : n ≡ length own
   pub base-is : base ≡ k * 576
   pub count-is : count ≡ length P
@@ -102,20 +105,16 @@ pub record FieldsReady (R T : List ℕ) (r n base count : ℕ) : Type 0 where
 
 -- X lines.
 pub record EffectLines (R : List ℕ) (r n : ℕ) : Type 0 where
-  pub ends : List ℕ
-  pub size : ℕ
   pub effects : List ℕ
-  pub here : EffectsAt R ends size effects r
+  pub here : EffectsAt R effects r
   pub n-is : n ≡ length effects
   pub short : length R ≤ 240000
 
 -- P lines.
 pub record ParameterLines (R : List ℕ) (r n : ℕ) : Type 0 where
-  pub ends : List ℕ
-  pub size : ℕ
-  pub effects : List ℕ
   pub types : List DeclaredType
-  pub here : ParametersAt R ends size effects types r
+  pub here : TypesAt P-parameter R types r
+  pub in-form : Each TypeInForm types
   pub n-is : n ≡ length types
   pub short : length R ≤ 240000
 
@@ -125,7 +124,9 @@ pub record OverrideReady (R : List ℕ) (r np nx over : ℕ) : Type 0 where
   pub method : Declaration
   pub overridden : Declaration
   pub at : MethodAt R ends method r
+  pub in-form : MethodInForm of-check method
   pub over-at : MethodAt R ends overridden over
+  pub over-in-form : MethodInForm of-check overridden
   pub np-is : np ≡ length (method .parameters)
   pub nx-is : nx ≡ length (method .effects)
   pub short : length R ≤ 240000
@@ -150,40 +151,45 @@ with-row name r others m = choice (eqb name m) (λ _. some r) (λ _. others m)
 -- An M line in class k, whose C line has row `first`, after the methods before it.
 pub record MethodReady (R T : List ℕ) (r base first count : ℕ) : Type 0 where
   pub ends : List ℕ
-  pub classed : Classed R ends
+  pub program : Program
+  pub standing : ProgramAt R ends program
   pub k : ℕ
   pub super : ℕ
   pub fields : List Field
   pub rows : List ℕ
   pub own : ℕ → Option ℕ
   pub before : List Declaration
-  pub working : Working (classed .classes) k T fields rows (own-or own (method-row (classed .classes) super))
+  pub working : Working (program .classes) k T fields rows (own-or own (method-row (program .classes) super))
   pub names : (m : ℕ) → is-some (declared before m) ≡ is-some (own m)
   pub later : (m q : ℕ) → own m ≡ some q → first < q
-  pub inherited : (m q : ℕ) → method-row (classed .classes) super m ≡ some q → q < first
+  pub inherited : (m q : ℕ) → method-row (program .classes) super m ≡ some q → q < first
   pub method : Declaration
   pub at : MethodAt R ends method r
+  pub in-form : MethodInForm of-check method
   pub base-is : base ≡ k * 576
-  pub count-is : count ≡ length (classed .classes)
+  pub count-is : count ≡ length (program .classes)
 
 pub record MethodCounted (R T : List ℕ) (r np nx base first count : ℕ) : Type 0 where
   pub ready : MethodReady R T r base first count
   pub np-is : np ≡ length (ready .method .parameters)
   pub nx-is : nx ≡ length (ready .method .effects)
 
+-- The methods of class k, whose C line has row `first`, from row r on.
 pub record MethodsReady (R E T : List ℕ) (r base first count : ℕ) : Type 0 where
-  pub classed : Classed R E
+  pub program : Program
+  pub standing : ProgramAt R E program
   pub k : ℕ
   pub super : ℕ
   pub fields : List Field
   pub rows : List ℕ
-  pub working : Working (classed .classes) k T fields rows (method-row (classed .classes) super)
-  pub inherited : (m q : ℕ) → method-row (classed .classes) super m ≡ some q → q < first
-  pub later : first < r
-  pub methods : List Declaration
-  pub here : MethodsAt R E methods r
+  pub working : Working (program .classes) k T fields rows (method-row (program .classes) super)
+  pub inherited : (m q : ℕ) → method-row (program .classes) super m ≡ some q → q < first
+  pub one : Class
+  pub is : class-at (program .classes) k ≡ some one
+  pub first-is : first ≡ class-row (program .classes) k
+  pub row-is : r ≡ methods-from-row first one
   pub base-is : base ≡ k * 576
-  pub count-is : count ≡ length (classed .classes)
+  pub count-is : count ≡ length (program .classes)
 
 pub record StartReady (T : List ℕ) (k over kind : ℕ) : Type 0 where
   pub P : List Class
@@ -195,23 +201,25 @@ pub record StartReady (T : List ℕ) (k over kind : ℕ) : Type 0 where
   pub kind-is : kind ≡ kind-number (one .kind)
 
 pub record ClassReady (R E T : List ℕ) (k r count : ℕ) : Type 0 where
-  pub classed : Classed R E
-  pub lookups : Lookups (classed .classes) k T
+  pub program : Program
+  pub standing : ProgramAt R E program
+  pub lookups : Lookups (program .classes) k T
   pub one : Class
-  pub is : class-at (classed .classes) k ≡ some one
-  pub at : ClassAt R E one r
-  pub row-is : r ≡ class-row (classed .classes) k
-  pub count-is : count ≡ length (classed .classes)
+  pub is : class-at (program .classes) k ≡ some one
+  pub row-is : r ≡ class-row (program .classes) k
+  pub count-is : count ≡ length (program .classes)
 
 pub record ClassesReady (R E T A : List ℕ) (count : ℕ) : Type 0 where
-  pub classed : Classed R E
-  pub lookups : Lookups (classed .classes) 1 T
-  pub long-above : length (classed .classes) + 1 ≤ length A
+  pub program : Program
+  pub standing : ProgramAt R E program
+  pub lookups : Lookups (program .classes) 1 T
+  pub long-above : length (program .classes) + 1 ≤ length A
   pub object : getD A 0 0 ≡ 0
-  pub count-is : count ≡ length (classed .classes)
+  pub count-is : count ≡ length (program .classes)
 
--- The pass itself: the rows of a program, and tables that are long enough.
+-- The pass itself: a program that stands in the rows, and tables that are long enough.
 pub record HeadingsReady (R E T A : List ℕ) : Type 0 where
-  pub classed : Classed R E
-  pub long : (length (classed .classes) + 1) * 576 ≤ length T
-  pub long-above : length (classed .classes) + 1 ≤ length A
+  pub program : Program
+  pub standing : ProgramAt R E program
+  pub long : (length (program .classes) + 1) * 576 ≤ length T
+  pub long-above : length (program .classes) + 1 ≤ length A

@@ -3,7 +3,7 @@ ghost use mathlib.Core.Path.{_≡_};
 ghost use mathlib.Core.Bool.{true};
 ghost use mathlib.Core.Option.{some};
 ghost use mathlib.Core.List.{List, [], _∷_, _++_};
-ghost use Prim.Native.Nat.{_+_, _*_, _%_, _^_, _≤_, _<_};
+ghost use Prim.Native.Nat.{ℕ, _+_, _*_, _%_, _^_, _≤_, _<_};
 ghost use lib.ListN.{length};
 ghost use Rattle.language.specs.Limits.{of-check};
 ghost use Rattle.language.specs.Tree.{type-of-number, kind-of-number, method-lines, class-lines, Class};
@@ -14,8 +14,8 @@ ghost use Rattle.language.specs.ClassTables.{ClassTables, rows-from, declared-r
 ghost use Rattle.language.specs.Headings.{may-extend, may-override, same-types, lines-within, check-fields};
 ghost use Rattle.language.specs.Headings.{check-parameters, check-effects, check-methods, check-class};
 ghost use Rattle.language.specs.Headings.{headings};
+ghost use Rattle.language.specs.Layout.{Run};
 ghost use Rattle.headings.specs.Answers.{headed};
-ghost use Rattle.headings.specs.HeadingLines.{Run};
 ghost use Rattle.headings.specs.Blocks.{Lookups, Working};
 ghost use Rattle.headings.specs.Faults.{fault-of-field, fault-of-method, fault-of-effect};
 ghost use Rattle.headings.specs.Faults.{check-heading};
@@ -33,8 +33,8 @@ pub enum Headed {
 
 // How many rows from one on have a letter.
 fn count_rows(rows: &[u32], r: usize, letter: u32) -> usize
-    requires { ⌜ Run (now rows) r letter ⌝ }
-    ensures { λ n. ⌜ ((w : Run (now (rows .entry)) r letter) → n ≡ w .count) ⌝ }
+    requires { ⌜ ((n : ℕ) × Run (now rows) letter r n) ⌝ }
+    ensures { λ n. ⌜ Run (now (rows .entry)) letter r n ⌝ }
 {
     let mut i = 0;
     while rows[(r + i) * 4] == letter {
@@ -72,7 +72,7 @@ fn skip_class(rows: &[u32], ends: &[u16], r: usize) -> usize
 fn read_classes(rows: &[u32], ends: &[u16], tables: &mut [u16]) -> usize
     requires { ⌜ ReadReady (now rows) (now ends) (now tables) ⌝ }
     ensures { λ n. ⌜ ((w : ReadReady (now (rows .entry)) (now (ends .entry)) (now (tables .entry))) →
-        (n ≡ length (w .classed .classes)) × Lookups (w .classed .classes) 1 (now (tables .exit))) ⌝ }
+        (n ≡ length (w .program .classes)) × Lookups (w .program .classes) 1 (now (tables .exit))) ⌝ }
 {
     let mut k = 0;
     let mut r = 0;
@@ -304,7 +304,7 @@ fn method_fault(
 ) -> u32
     requires { ⌜ MethodCounted (now rows) (now tables) r np nx base first count ⌝ }
     ensures { λ n. ⌜ ((w : MethodCounted (now (rows .entry)) (now (tables .entry)) r np nx base first count)
-        → n ≡ fault-of-method (w .ready .classed .classes) (w .ready .super) (w .ready .before)
+        → n ≡ fault-of-method (w .ready .program .classes) (w .ready .super) (w .ready .before)
         (w .ready .method)) ⌝ }
 {
     if !is_declared(rows[r * 4 + 1], count) {
@@ -388,9 +388,9 @@ fn check_method(
 ) -> Headed
     requires { ⌜ MethodReady (now rows) (now tables) r base first count ⌝ }
     ensures { λ h. ⌜ ((w : MethodReady (now (rows .entry)) (now (tables .entry)) r base first count)
-        → (h ≡ headed (check-heading (w .classed .classes) (w .super) (w .before) (r + 1) (w .method)))
-        × (h ≡ Headed.Passed → Working (w .classed .classes) (w .k) (now (tables .exit)) (w .fields) (w .rows)
-        (with-row (w .method .name) r (own-or (w .own) (method-row (w .classed .classes) (w .super)))))) ⌝ }
+        → (h ≡ headed (check-heading (w .program .classes) (w .super) (w .before) (r + 1) (w .method)))
+        × (h ≡ Headed.Passed → Working (w .program .classes) (w .k) (now (tables .exit)) (w .fields) (w .rows)
+        (with-row (w .method .name) r (own-or (w .own) (method-row (w .program .classes) (w .super)))))) ⌝ }
 {
     let np = count_rows(rows, r + 1, 80);
     let nx = count_rows(rows, r + 1 + np, 88);
@@ -424,9 +424,9 @@ fn check_methods(
     requires { ⌜ MethodsReady (now rows) (now ends) (now tables) r base first count ⌝ }
     ensures { λ h. ⌜ ((w : MethodsReady (now (rows .entry)) (now (ends .entry)) (now (tables .entry)) r base
         first count)
-        → (h ≡ headed (check-methods of-check (w .classed .classes) (w .super) [] (r + 1) (w .methods)))
-        × (h ≡ Headed.Passed → Working (w .classed .classes) (w .k) (now (tables .exit)) (w .fields) (w .rows)
-        (own-or (declared-row r (w .methods)) (method-row (w .classed .classes) (w .super))))) ⌝ }
+        → (h ≡ headed (check-methods of-check (w .program .classes) (w .super) [] (r + 1) (w .one .methods)))
+        × (h ≡ Headed.Passed → Working (w .program .classes) (w .k) (now (tables .exit)) (w .fields) (w .rows)
+        (own-or (declared-row r (w .one .methods)) (method-row (w .program .classes) (w .super))))) ⌝ }
 {
     let mut at = r;
     while rows[at * 4] == 77 {
@@ -482,8 +482,8 @@ fn check_class(
 ) -> Headed
     requires { ⌜ ClassReady (now rows) (now ends) (now tables) k r count ⌝ }
     ensures { λ h. ⌜ ((w : ClassReady (now (rows .entry)) (now (ends .entry)) (now (tables .entry)) k r count)
-        → (h ≡ headed (check-class of-check (w .classed .classes) k (r + 1) (w .one)))
-        × (h ≡ Headed.Passed → Lookups (w .classed .classes) (k + 1) (now (tables .exit)))) ⌝ }
+        → (h ≡ headed (check-class of-check (w .program .classes) k (r + 1) (w .one)))
+        × (h ≡ Headed.Passed → Lookups (w .program .classes) (k + 1) (now (tables .exit)))) ⌝ }
 {
     let kind = rows[r * 4 + 1];
     let over = rows[r * 4 + 2] as usize;
@@ -513,8 +513,8 @@ fn check_classes(
     requires { ⌜ ClassesReady (now rows) (now ends) (now tables) (now above) count ⌝ }
     ensures { λ h. ⌜ ((w : ClassesReady (now (rows .entry)) (now (ends .entry)) (now (tables .entry))
         (now (above .entry)) count)
-        → (h ≡ headed (headings of-check (w .classed .classes)))
-        × (h ≡ Headed.Passed → ClassTables (w .classed .classes) (now (tables .exit)) (now (above .exit))))
+        → (h ≡ headed (headings of-check (w .program .classes)))
+        × (h ≡ Headed.Passed → ClassTables (w .program .classes) (now (tables .exit)) (now (above .exit))))
         ⌝ }
 {
     let mut k = 1;
@@ -537,8 +537,8 @@ pub fn check_headings(rows: &[u32], ends: &[u16], tables: &mut [u16], above: &mu
     requires { ⌜ HeadingsReady (now rows) (now ends) (now tables) (now above) ⌝ }
     ensures { λ h. ⌜ ((w : HeadingsReady (now (rows .entry)) (now (ends .entry)) (now (tables .entry))
         (now (above .entry)))
-        → (h ≡ headed (headings of-check (w .classed .classes)))
-        × (h ≡ Headed.Passed → ClassTables (w .classed .classes) (now (tables .exit)) (now (above .exit))))
+        → (h ≡ headed (headings of-check (w .program .classes)))
+        × (h ≡ Headed.Passed → ClassTables (w .program .classes) (now (tables .exit)) (now (above .exit))))
         ⌝ }
 {
     clear_object(tables);

@@ -1,6 +1,6 @@
 -- `headings::check_class` meets its contract. Assumes nothing.
 use mathlib.Core.Path.{refl}
-use Prim.Native.Nat.{_-_}
+use Prim.Native.Nat.{_+_, _-_, _*_}
 use native.Mathlib.Omega.{arith}
 use borrow.Author.Needs.{needs}
 use Rattle.headings.proofs.Passing.{class-index, class-late, super-index, class-kind, start-ready, class-fields-here, methods-here, fields-ready, class-fields-refused, methods-ready, class-answer, class-done}
@@ -10,49 +10,49 @@ use Rattle.headings.proofs.check_class.Statement.{statement}
 use Rattle.headings.proofs.check_class.Tie as tie
 
 mul-kind : tie.Need-mul-kind
-mul-kind c = search needs
+mul-kind c = (let j = class-index (c .before .before .before .pre) in omega (arith, j .0, j .1))
 
 add-kind : tie.Need-add-kind
-add-kind c = search needs
+add-kind c = (let j = class-index (c .before .before .before .pre) in omega (arith, j .0, j .1))
 
 mul-kind-2 : tie.Need-mul-kind-2
-mul-kind-2 c = search needs
+mul-kind-2 c = (let j = class-index (c .before .before .before .pre) in omega (arith, j .0, j .1))
 
 shared-slice-read-kind : tie.Need-shared-slice-read-kind
-shared-slice-read-kind c = search needs
+shared-slice-read-kind c = (let j = class-index (c .before .before .before .before .pre) in omega (arith, j .0, j .1))
 
 mul-over : tie.Need-mul-over
-mul-over c = search needs
+mul-over c = (let j = class-index (c .before .before .before .before .pre) in omega (arith, j .0, j .1))
 
 add-over : tie.Need-add-over
-add-over c = search needs
+add-over c = (let j = class-index (c .before .before .before .before .pre) in omega (arith, j .0, j .1))
 
 mul-over-2 : tie.Need-mul-over-2
-mul-over-2 c = search needs
+mul-over-2 c = (let j = class-index (c .before .before .before .before .pre) in omega (arith, j .0, j .1))
 
 shared-slice-read-over : tie.Need-shared-slice-read-over
-shared-slice-read-over c = search needs
+shared-slice-read-over c = (let j = class-index (c .before .before .before .before .before .pre) in omega (arith, j .0, j .1))
 
 cast-over : tie.Need-cast-over
-cast-over c = search needs
+cast-over c = omega (arith, c .shared-slice-known4 .given ((c .before .before .before .before .before .args .r) * 4 + 2))
 
 add-t18 : tie.Need-add-t18
-add-t18 c = search needs
+add-t18 c = (let j = class-index (c .before .before .before .before .before .before .pre) in omega (arith, j .0, j .1))
 
 cast-t19 : tie.Need-cast-t19
-cast-t19 c = search needs
+cast-t19 c = (let j = class-index (c .before .before .before .before .before .before .pre) in omega (arith, j .0, j .1))
 
 returns : tie.Need-returns
 returns c = λ w. (class-late w (c .if1 .taken), λ e. not-both e refl)
 
 mul-may-extend : tie.Need-mul-may-extend
-mul-may-extend c = search needs
+mul-may-extend c = (let j = class-index (c .before .before .before .before .before .before .pre) in omega (arith, j .3, c .if1 .left))
 
 add-may-extend : tie.Need-add-may-extend
-add-may-extend c = search needs
+add-may-extend c = (let j = class-index (c .before .before .before .before .before .before .pre) in omega (arith, j .3, c .if1 .left))
 
 mul-may-extend-2 : tie.Need-mul-may-extend-2
-mul-may-extend-2 c = search needs
+mul-may-extend-2 c = (let j = class-index (c .before .before .before .before .before .before .pre) in omega (arith, j .3, c .if1 .left))
 
 slice-read-may-extend : tie.Need-slice-read-may-extend
 slice-read-may-extend c = (let h = super-index (c .before .before .before .before .before .before .before .pre) (c .before .if1 .left) in omega (arith, h))
@@ -61,10 +61,10 @@ may-extend-requires : tie.Need-may-extend-requires
 may-extend-requires c κs = search needs
 
 add-t23 : tie.Need-add-t23
-add-t23 c = search needs
+add-t23 c = (let j = class-index (c .before .before .before .before .before .before .before .before .before .pre) in omega (arith, j .0, j .1))
 
 cast-t24 : tie.Need-cast-t24
-cast-t24 c = search needs
+cast-t24 c = (let j = class-index (c .before .before .before .before .before .before .before .before .before .pre) in omega (arith, j .0, j .1))
 
 returns-2 : tie.Need-returns-2
 returns-2 c = λ w. (class-kind w (c .before .before .before .if1 .left) (c .before .may-extend .result) (c .before .may-extend .ensures) (not-true _ (c .if2 .taken)), λ e. not-both e refl)
@@ -73,7 +73,7 @@ start-block-requires : tie.Need-start-block-requires
 start-block-requires c κs = start-ready (c .before .before .before .before .before .before .before .before .before .before .pre) (c .before .before .before .before .if1 .left) (c .before .before .may-extend .result) (c .before .before .may-extend .ensures)
 
 add-count-rows : tie.Need-add-count-rows
-add-count-rows c = search needs
+add-count-rows c = (let j = class-index (c .before .before .before .before .before .before .before .before .before .before .before .before .before .pre) in omega (arith, j .0, j .1))
 
 count-rows-requires : tie.Need-count-rows-requires
 count-rows-requires c κs = class-fields-here (c .before .before .before .before .before .before .before .before .before .before .before .before .before .pre) (c .before .before .before .before .before .before .before .if1 .left) (c .before .before .before .before .before .may-extend .result) (c .before .before .before .before .before .may-extend .ensures)

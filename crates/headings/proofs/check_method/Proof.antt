@@ -19,7 +19,7 @@ add-count-rows-2 : tie.Need-add-count-rows-2
 add-count-rows-2 c = search needs
 
 add-count-rows-3 : tie.Need-add-count-rows-3
-add-count-rows-3 c = (let v = method-effects (method-here (c .before .before .before .pre)) (c .count-rows .result) (c .count-rows .ensures) in omega (arith, v .within, c .before .before .before .pre .classed .short))
+add-count-rows-3 c = (let v = method-effects (method-here (c .before .before .before .pre)) (c .count-rows .result) (c .count-rows .ensures) in omega (arith, v .1 .inside, c .before .before .before .pre .standing .short))
 
 count-rows-requires-2 : tie.Need-count-rows-requires-2
 count-rows-requires-2 c κs = method-effects (method-here (c .before .before .before .pre)) (c .count-rows .result) (c .count-rows .ensures)
@@ -61,7 +61,7 @@ add-check-effects : tie.Need-add-check-effects
 add-check-effects c = search needs
 
 add-check-effects-2 : tie.Need-add-check-effects-2
-add-check-effects-2 c = (let v = method-effects (method-here (c .before .before .before .before .before .before .before .before .before .before .before .pre)) (c .before .before .before .before .before .before .before .before .count-rows .result) (c .before .before .before .before .before .before .before .before .count-rows .ensures) in omega (arith, v .within, c .before .before .before .before .before .before .before .before .before .before .before .pre .classed .short))
+add-check-effects-2 c = (let v = method-effects (method-here (c .before .before .before .before .before .before .before .before .before .before .before .pre)) (c .before .before .before .before .before .before .before .before .count-rows .result) (c .before .before .before .before .before .before .before .before .count-rows .ensures) in omega (arith, v .1 .inside, c .before .before .before .before .before .before .before .before .before .before .before .pre .standing .short))
 
 check-effects-requires : tie.Need-check-effects-requires
 check-effects-requires c κs = method-effects-ready (c .before .before .before .before .before .before .before .before .before .before .before .pre) (c .before .before .before .before .before .before .before .before .count-rows .result) (c .before .before .before .before .before .before .before .count-rows2 .result) (c .before .before .before .before .before .before .before .before .count-rows .ensures) (c .before .before .before .before .before .before .before .count-rows2 .ensures)

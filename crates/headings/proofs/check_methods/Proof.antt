@@ -20,13 +20,13 @@ loop-holds : tie.Need-loop-holds Inv-loop μ-loop
 loop-holds c = (refl, λ w. entering-start w)
 
 mul-if1 : tie.Need-mul-if1 Inv-loop μ-loop
-mul-if1 c = (let s = entering-within (c .before .before .before .before .pre) (c .loop .inv .1 (c .before .before .before .before .pre)) in omega (arith, s, c .before .before .before .before .pre .classed .short))
+mul-if1 c = (let s = entering-within (c .before .before .before .before .pre) (c .loop .inv .1 (c .before .before .before .before .pre)) in omega (arith, s, c .before .before .before .before .pre .standing .short))
 
 mul-if1-2 : tie.Need-mul-if1-2 Inv-loop μ-loop
-mul-if1-2 c = (let s = entering-within (c .before .before .before .before .pre) (c .loop .inv .1 (c .before .before .before .before .pre)) in omega (arith, s, c .before .before .before .before .pre .classed .short))
+mul-if1-2 c = (let s = entering-within (c .before .before .before .before .pre) (c .loop .inv .1 (c .before .before .before .before .pre)) in omega (arith, s, c .before .before .before .before .pre .standing .short))
 
 shared-slice-read-if1 : tie.Need-shared-slice-read-if1 Inv-loop μ-loop
-shared-slice-read-if1 c = (let s = entering-within (c .before .before .before .before .before .pre) (c .before .loop .inv .1 (c .before .before .before .before .before .pre)) in omega (arith, s, c .before .before .before .before .before .pre .classed .short))
+shared-slice-read-if1 c = (let s = entering-within (c .before .before .before .before .before .pre) (c .before .loop .inv .1 (c .before .before .before .before .before .pre)) in omega (arith, s, c .before .before .before .before .before .pre .standing .short))
 
 check-method-requires : tie.Need-check-method-requires Inv-loop μ-loop
 check-method-requires c κs = entering-ready (c .before .before .before .before .before .before .before .pre) (c .before .before .before .loop .inv .1 (c .before .before .before .before .before .before .before .pre)) (c .before .if1 .taken)

@@ -2,8 +2,7 @@
 use Prim.Native.Nat.{_-_}
 use native.Mathlib.Omega.{arith}
 use borrow.Author.Needs.{needs}
-use Rattle.headings.proofs.Methods.{over-parameters, override-result, override-count, own-types, over-types, override-types, over-effects, own-lines, over-lines, override-within}
-use Rattle.headings.proofs.Lines.{effects-run}
+use Rattle.headings.proofs.Methods.{over-parameters, own-within, override-result, override-count, own-types, over-types, override-types, over-effects, own-lines, over-lines, override-within}
 use borrow.Author.Tests.{not-true, not-false}
 use Rattle.headings.proofs.may_override.Statement.{statement}
 use Rattle.headings.proofs.may_override.Tie as tie
@@ -60,7 +59,7 @@ add-count-rows-2 : tie.Need-add-count-rows-2
 add-count-rows-2 c = search needs
 
 add-count-rows-3 : tie.Need-add-count-rows-3
-add-count-rows-3 c = (let v = over-effects (c .before .before .before .before .before .before .before .before .pre) (c .before .before .before .before .if1 .left) (c .before .before .before .count-rows .result) (c .before .before .before .count-rows .ensures) (c .before .before .if2 .left) (c .before .same-types .result) (c .before .same-types .ensures) in omega (arith, v .within, c .before .before .before .before .before .before .before .before .pre .short))
+add-count-rows-3 c = (let v = over-effects (c .before .before .before .before .before .before .before .before .pre) (c .before .before .before .before .if1 .left) (c .before .before .before .count-rows .result) (c .before .before .before .count-rows .ensures) (c .before .before .if2 .left) (c .before .same-types .result) (c .before .same-types .ensures) in omega (arith, v .1 .inside, c .before .before .before .before .before .before .before .before .pre .short))
 
 count-rows-requires-2 : tie.Need-count-rows-requires-2
 count-rows-requires-2 c κs = over-effects (c .before .before .before .before .before .before .before .before .pre) (c .before .before .before .before .if1 .left) (c .before .before .before .count-rows .result) (c .before .before .before .count-rows .ensures) (c .before .before .if2 .left) (c .before .same-types .result) (c .before .same-types .ensures)
@@ -69,7 +68,7 @@ add-effect-set : tie.Need-add-effect-set
 add-effect-set c = search needs
 
 add-effect-set-2 : tie.Need-add-effect-set-2
-add-effect-set-2 c = (let v = over-effects (c .before .before .before .before .before .before .before .before .before .pre) (c .before .before .before .before .before .if1 .left) (c .before .before .before .before .count-rows .result) (c .before .before .before .before .count-rows .ensures) (c .before .before .before .if2 .left) (c .before .before .same-types .result) (c .before .before .same-types .ensures) in omega (arith, v .within, c .before .before .before .before .before .before .before .before .before .pre .short))
+add-effect-set-2 c = (let v = over-effects (c .before .before .before .before .before .before .before .before .before .pre) (c .before .before .before .before .before .if1 .left) (c .before .before .before .before .count-rows .result) (c .before .before .before .before .count-rows .ensures) (c .before .before .before .if2 .left) (c .before .before .same-types .result) (c .before .before .same-types .ensures) in omega (arith, v .1 .inside, c .before .before .before .before .before .before .before .before .before .pre .short))
 
 effect-set-requires : tie.Need-effect-set-requires
 effect-set-requires c κs = over-lines (c .before .before .before .before .before .before .before .before .before .pre) (c .before .before .before .before .before .if1 .left) (c .before .before .before .before .count-rows .result) (c .before .before .before .before .count-rows .ensures) (c .before .before .before .if2 .left) (c .before .before .same-types .result) (c .before .before .same-types .ensures) (c .count-rows2 .result) (c .count-rows2 .ensures)
@@ -78,7 +77,7 @@ add-lines-within : tie.Need-add-lines-within
 add-lines-within c = search needs
 
 add-lines-within-2 : tie.Need-add-lines-within-2
-add-lines-within-2 c = (let v = effects-run (own-lines (c .before .before .before .before .before .before .before .before .before .before .pre) (c .before .before .before .before .before .before .if1 .left) (c .before .before .before .before .before .count-rows .result) (c .before .before .before .before .before .count-rows .ensures) (c .before .before .before .before .if2 .left) (c .before .before .before .same-types .result) (c .before .before .before .same-types .ensures) .here) .0 in omega (arith, v .within, c .before .before .before .before .before .before .before .before .before .before .pre .short))
+add-lines-within-2 c = (let p = c .before .before .before .before .before .before .before .before .before .before .pre in omega (arith, own-within p, p .short))
 
 lines-within-requires : tie.Need-lines-within-requires
 lines-within-requires c κs = own-lines (c .before .before .before .before .before .before .before .before .before .before .pre) (c .before .before .before .before .before .before .if1 .left) (c .before .before .before .before .before .count-rows .result) (c .before .before .before .before .before .count-rows .ensures) (c .before .before .before .before .if2 .left) (c .before .before .before .same-types .result) (c .before .before .before .same-types .ensures)

@@ -16,7 +16,7 @@ add-count-rows-2 : tie.Need-add-count-rows-2
 add-count-rows-2 c = search needs
 
 add-count-rows-3 : tie.Need-add-count-rows-3
-add-count-rows-3 c = (let v = method-effects (c .before .before .before .pre) (c .count-rows .result) (c .count-rows .ensures) in omega (arith, v .within, c .before .before .before .pre .short))
+add-count-rows-3 c = (let v = method-effects (c .before .before .before .pre) (c .count-rows .result) (c .count-rows .ensures) in omega (arith, v .1 .inside, c .before .before .before .pre .short))
 
 count-rows-requires-2 : tie.Need-count-rows-requires-2
 count-rows-requires-2 c κs = method-effects (c .before .before .before .pre) (c .count-rows .result) (c .count-rows .ensures)
@@ -25,22 +25,22 @@ add-result : tie.Need-add-result
 add-result c = search needs
 
 add-result-2 : tie.Need-add-result-2
-add-result-2 c = (let b = method-block (c .before .before .before .before .pre) (c .before .count-rows .result) (c .count-rows2 .result) (c .before .count-rows .ensures) (c .count-rows2 .ensures) in omega (arith, b .0, b .1, c .before .before .before .before .pre .short))
+add-result-2 c = (let b = method-block (c .before .before .before .before .pre) (c .before .count-rows .result) (c .before .count-rows .ensures) (c .count-rows2 .result) (c .count-rows2 .ensures) in omega (arith, b .0, b .1, c .before .before .before .before .pre .short))
 
 add-result-3 : tie.Need-add-result-3
-add-result-3 c = (let b = method-block (c .before .before .before .before .pre) (c .before .count-rows .result) (c .count-rows2 .result) (c .before .count-rows .ensures) (c .count-rows2 .ensures) in omega (arith, b .0, b .1, c .before .before .before .before .pre .short))
+add-result-3 c = (let b = method-block (c .before .before .before .before .pre) (c .before .count-rows .result) (c .before .count-rows .ensures) (c .count-rows2 .result) (c .count-rows2 .ensures) in omega (arith, b .0, b .1, c .before .before .before .before .pre .short))
 
 mul-result : tie.Need-mul-result
-mul-result c = (let b = method-block (c .before .before .before .before .pre) (c .before .count-rows .result) (c .count-rows2 .result) (c .before .count-rows .ensures) (c .count-rows2 .ensures) in omega (arith, b .0, b .1, c .before .before .before .before .pre .short))
+mul-result c = (let b = method-block (c .before .before .before .before .pre) (c .before .count-rows .result) (c .before .count-rows .ensures) (c .count-rows2 .result) (c .count-rows2 .ensures) in omega (arith, b .0, b .1, c .before .before .before .before .pre .short))
 
 shared-slice-read-result : tie.Need-shared-slice-read-result
-shared-slice-read-result c = (let b = method-block (c .before .before .before .before .before .pre) (c .before .before .count-rows .result) (c .before .count-rows2 .result) (c .before .before .count-rows .ensures) (c .before .count-rows2 .ensures) in omega (arith, b .0, b .1, c .before .before .before .before .before .pre .short))
+shared-slice-read-result c = (let b = method-block (c .before .before .before .before .before .pre) (c .before .before .count-rows .result) (c .before .before .count-rows .ensures) (c .before .count-rows2 .result) (c .before .count-rows2 .ensures) in omega (arith, b .0, b .1, c .before .before .before .before .before .pre .short))
 
 cast-result : tie.Need-cast-result
 cast-result c = omega (arith, c .shared-slice-known3 .given ((c .before .before .before .before .before .args .r) + 1 + (c .before .before .count-rows .result) + (c .before .count-rows2 .result)))
 
 returns : tie.Need-returns
-returns c = λ w. method-block w (c .before .before .count-rows .result) (c .before .count-rows2 .result) (c .before .before .count-rows .ensures) (c .before .count-rows2 .ensures) .2
+returns c = λ w. method-block w (c .before .before .count-rows .result) (c .before .before .count-rows .ensures) (c .before .count-rows2 .result) (c .before .count-rows2 .ensures) .2
 
 pub skip-method-spec : {M : Type 1} → statement M
 skip-method-spec =
