@@ -14,9 +14,8 @@ use Rattle.language.specs.Tree.{method-lines, methods-lines, class-lines, class
 use Rattle.language.specs.Program.{class-at}
 use Rattle.language.specs.ClassTables.{class-row}
 use Rattle.language.specs.Encoded.{RowAt}
-use Rattle.language.specs.Layout.{Run, EachMethod, EachClass, MethodAt, ClassAt, ProgramAt, effects-row}
-use Rattle.language.specs.Layout.{body-row}
-use Rattle.language.specs.Layout.{methods-from-row, start-row}
+use Rattle.language.specs.Layout.{Run, EachMethod, EachClass, MethodAt, ClassAt, ProgramAt}
+use Rattle.language.specs.Layout.{effects-row, body-row, methods-from-row, start-row}
 use Rattle.language.specs.WellFormed.{Each, each-cons, MethodInForm, ClassInForm}
 use Rattle.language.proofs.Lines.{first-line, lines-run, run-unique}
 use Rattle.layout.specs.Found.{class-here, class-in-form, BlockHere, body-here}
@@ -103,7 +102,7 @@ pub record Ended (R : List ℕ) (r : ℕ) : Type 0 where
   pub within : r * 4 + 3 < length R
   pub letter : (getD R (r * 4) 0 ≡ 67) ⊎ (getD R (r * 4) 0 ≡ 83)
 
--- the methods of a class from a row on, to the last
+-- the methods of a class from a row on, to its last
 pub record MethodsFrom (R E : List ℕ) (ms : List Declaration) (at : ℕ) : Type 0 where
   pub k : ℕ
   pub here : EachMethod (λ k m r. MethodAt R E m r) ms k at
@@ -233,6 +232,7 @@ module _ {R E : List ℕ} {p : Program} (h : ProgramAt R E p) where
       (class-or-start R E (p .classes) 1 0 (h .classes)
       (subst (λ (j : ℕ). RowAt R j S-start 0 0) z (h .start-line)) i l)
 
+-- the number of a class, and the row after it
 pub class-bound : (P : List Class) (k : ℕ) (c : Class) → class-at P k ≡ some c → (1 ≤ k) × (k ≤ length P)
 unfolding class-at
 class-bound P zero c e = absurd (Never e)
@@ -284,7 +284,7 @@ module _ {R E : List ℕ} {r : ℕ} (w : ClassHere R E r) where
         ended = subst (Ended R) z class-ended;
       }
 
-  pub fields-run : Run R 70 (r + 1) (length (w .one .fields))
+  fields-run : Run R 70 (r + 1) (length (w .one .fields))
   fields-run = let x = methods-letter (w .one .methods) class-methods in
       lines-run (λ (f : Field) (i : ℕ). RowAt R i F-field (type-number (f .type)) (f .name)) R 70
       (λ f i x. x .letter) (w .one .fields) (r + 1) (class-lines-at .fields) (x .0) (x .1)

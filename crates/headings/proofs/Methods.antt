@@ -19,8 +19,8 @@ use Rattle.layout.specs.Found.{found-none, method-here}
 use Rattle.headings.specs.Faults.{fault-of-method}
 use Rattle.headings.specs.Ready.{EffectLines, ParameterLines, OverrideReady, own-or}
 use Rattle.headings.specs.Ready.{MethodReady, MethodCounted}
-use Rattle.headings.proofs.Lines.{effects-run, parameters-run, parameters-count, effects-after}
-use Rattle.headings.proofs.Lines.{effects-count}
+use Rattle.headings.proofs.Lines.{parameters-run, parameters-count}
+use Rattle.headings.proofs.Lines.{effects-run, effects-after, effects-count}
 use Rattle.headings.proofs.Sets.{within-low}
 use Rattle.headings.proofs.Loops.{same-number, other-number}
 
