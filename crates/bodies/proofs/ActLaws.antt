@@ -1,7 +1,7 @@
 -- Laws of what the nodes with slots, members and arms answer, case by case. Assumes nothing.
 use mathlib.Core.Path.{_≡_, refl, sym, ap, ap₂, subst, _∙_}
 use mathlib.Core.Bool.{Bool, true, false, _&&_, cond, false≢true}
-use mathlib.Core.Logic.{_⊎_, inl, inr, ⊎-elim}
+use mathlib.Core.Logic.{_⊎_, ⊎-elim}
 use mathlib.Core.List.{List, [], _∷_}
 use Prim.Native.Nat.{ℕ, zero, suc, _+_, _-_, _*_, _/_, _%_, _≤_, _<_}
 use native.Mathlib.Omega.{arith}
@@ -14,6 +14,9 @@ use lib.Dec.{eqb, leb}
 use lib.ListN.{length, getD, set, length-set}
 use lib.Seq.{getD-set-same, getD-set-other}
 use Rattle.language.specs.Effects.{effect-of, effect-of-all, join}
+use Rattle.language.specs.WellFormed.{Each, each-cons}
+use Rattle.language.specs.Encoded.{LinesAt}
+use Rattle.language.specs.Layout.{Run}
 use Rattle.bodies.proofs.Typing.{the-type}
 use Rattle.bodies.specs.declared.Typing.{Typing}
 use Rattle.bodies.specs.declared.Typing.the-variants.{Bool as bool-case, Class, Null, Refusal}
@@ -21,7 +24,7 @@ use Rattle.bodies.specs.declared.Answer.{Answer}
 use Rattle.bodies.specs.declared.Sought.{Sought}
 use Rattle.bodies.specs.declared.Sought.the-variants.{Found, Missing}
 use Rattle.bodies.specs.Answers.{answer, case-of-number, is-refusal}
-use Rattle.bodies.specs.Tables.{EffectsAt, Changed, Known, Applicable, Run, Runs, root-in, applied}
+use Rattle.bodies.specs.Tables.{Changed, Known, Applicable, Runs, root-in, applied}
 use Rattle.bodies.specs.Tables.{applied-number, joined-number, is-fitting, CaseIn}
 use Rattle.bodies.specs.Nodes.{PreField, refusal, joined-case, field-in, changeable-in}
 use Rattle.bodies.specs.Acts.{EffectLines, CountOf, stored-case, all-fitting, names-type, opening}
@@ -29,6 +32,7 @@ use Rattle.bodies.specs.Acts.{PostOpen}
 use Rattle.bodies.specs.Acts.{can-change-in, changed-answer, number-after, PostChange, put-answer}
 use Rattle.bodies.specs.Acts.{put-noted, put, put-classes}
 use Rattle.bodies.specs.Acts.{method-place, NoClass, joined-answer, chosen, PostChoice}
+use Rattle.bodies.proofs.Lists.{less-or-same}
 use Rattle.bodies.proofs.Laws.{known-class}
 
 -- sets of classes joined in another order
@@ -69,21 +73,22 @@ effect-inside l = omega (arith, l .lines .inside)
 pub effect-step : {R : List ℕ} {i φ whole : ℕ} → EffectLeft R i φ whole → getD R (i * 4) 0 ≡ 88
     → (getD R (i * 4 + 1) 0 ≤ 64)
     × ((ψ : ℕ) → ψ ≡ effect-of (getD R (i * 4 + 1) 0) → EffectLeft R (i + 1) (bitOr φ ψ) whole)
-unfolding EffectsAt effect-of-all join
-effect-step {R} {i} {φ} {whole} l e = go (l .rest) (l .lines) (l .same)
+unfolding LinesAt effect-of-all join
+effect-step {R} {i} {φ} {whole} l e = go (l .rest) (l .lines) (l .lines .low) (l .same)
   where
-    go : (cs : List ℕ) → EffectLines R i cs → bitOr φ (effect-of-all cs) ≡ whole
+    go : (cs : List ℕ) → EffectLines R i cs → Each (λ c. c ≤ 64) cs → bitOr φ (effect-of-all cs) ≡ whole
         → (getD R (i * 4 + 1) 0 ≤ 64)
         × ((ψ : ℕ) → ψ ≡ effect-of (getD R (i * 4 + 1) 0) → EffectLeft R (i + 1) (bitOr φ ψ) whole)
-    go [] m s = let q : (i + 0) * 4 ≡ i * 4 = omega arith in
+    go [] m k s = let q : (i + 0) * 4 ≡ i * 4 = omega arith in
         absurd (m .other (ap (λ (k : ℕ). getD R k 0) q ∙ e))
-    go (c ∷ cs) m s =
+    go (c ∷ cs) m (each-cons k ks) s =
         let f : getD R (i * 4 + 1) 0 ≡ c = m .lines .0 .first in (
-          omega (arith, f, m .lines .1),
+          omega (arith, f, k),
           λ ψ g. record {
             rest = cs;
             lines = record {
-              lines = m .lines .2;
+              lines = m .lines .1;
+              low = ks;
               inside = omega (arith, m .inside);
               other = λ x. let q : (i + suc (length cs)) * 4 ≡ (i + 1 + length cs) * 4 = omega arith in
                   m .other (ap (λ (k : ℕ). getD R k 0) q ∙ x);
@@ -95,7 +100,7 @@ effect-step {R} {i} {φ} {whole} l e = go (l .rest) (l .lines) (l .same)
 
 pub effect-end : {R : List ℕ} {i φ whole : ℕ} → EffectLeft R i φ whole → (getD R (i * 4) 0 ≡ 88 → ⊥)
     → φ ≡ whole
-unfolding EffectsAt effect-of-all
+unfolding LinesAt effect-of-all
 effect-end {R} {i} {φ} {whole} l e = go (l .rest) (l .lines) (l .same)
   where
     go : (cs : List ℕ) → EffectLines R i cs → bitOr φ (effect-of-all cs) ≡ whole → φ ≡ whole
@@ -216,15 +221,8 @@ module _ {R S S′ : List ℕ} {count at scope v i : ℕ} (h : OpenLeft R S S′
     filled = λ j o. ⊎-elim
         (λ (o : j < i). getD-set-other S′ (scope + i) (scope + j) n 0 (λ q. omega arith) ∙ h .filled j o)
         (λ (q : j ≡ i). rw q (getD-set-same S′ (scope + i) n 0 (omega (arith, h .long)) ∙ en))
-        (split j i (omega arith));
+        (less-or-same j i (omega arith));
   }
-    where
-      split : (j i : ℕ) → j ≤ i → (j < i) ⊎ (j ≡ i)
-      split zero zero l = inr refl
-      split zero (suc i) l = inl (omega arith)
-      split (suc j) zero l = absurd (omega arith)
-      split (suc j) (suc i) l =
-          ⊎-elim (λ h. inl (omega arith)) (λ h. inr (ap suc h)) (split j i (omega arith))
 
   pub open-stop : (r : Answer) → b ≡ false → r ≡ refusal 4 (at + 1 + i) → PostOpen R S S′ count at scope v r
   open-stop r f g = record {
@@ -306,7 +304,8 @@ module _ {R T S : List ℕ} {count at scope : ℕ} where
                     (root old : ℕ)
                     (er : root ≡ root-in T (getD R (at * 4 + 2) 0))
                     (eo : old ≡ root-in T (getD S (getD R (at * 4 + 1) 0) 0)) where
-                  pub change-roots : (old ≡ root → ⊥) → r ≡ refusal 11 at → PostChange R T S S count at scope r
+                  pub change-roots : (old ≡ root → ⊥)
+                      → r ≡ refusal 11 at → PostChange R T S S count at scope r
                   unfolding can-change-in
                   change-roots n e = change-cannot (rw (
                     sym f ∙ g,
@@ -318,7 +317,8 @@ module _ {R T S : List ℕ} {count at scope : ℕ} where
                   pub change-done : old ≡ root → (φ : ℕ) → φ ≡ effect-of root
                       → r ≡ answer (Class (getD R (at * 4 + 2) 0)) φ → (S′ : List ℕ)
                       → scope ≤ length S → Changed S S′ scope (λ k. applied-number T φ (getD S k 0))
-                      → PostChange R T S (set S′ (getD R (at * 4 + 1) 0) (getD R (at * 4 + 2) 0)) count at scope
+                      → PostChange R T S (set S′ (getD R (at * 4 + 1) 0) (getD R (at * 4 + 2) 0))
+                      count at scope
                       r
                   unfolding can-change-in changed-answer number-after
                   change-done n φ ep e S′ ls h =

@@ -1,3 +1,4 @@
+pub mod Lists
 pub mod Laws
 pub mod Cases
 pub mod Worlds
@@ -6,6 +7,7 @@ pub mod TurnsLetters
 pub mod Turns
 pub mod TurnsLeaves
 pub mod ActLaws
+pub mod HeadingLines
 pub mod LinksBase
 pub mod LinksThis
 pub mod Links

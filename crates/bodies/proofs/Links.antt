@@ -8,12 +8,13 @@ use Prim.Native.Nat.{ℕ, zero, suc, _+_, _-_, _*_, _≤_, _<_}
 use native.Mathlib.Omega.{arith}
 use borrow.Author.Tests.{eq-eqb, ne-eqb, eqb-true, eqb-false, leb-false, le-leb, lt-leb, lt-ltb, le-ltb}
 use lib.Dec.{eqb, leb}
-use lib.ListN.{length, getD, take, set as replaced, length-set, length-append, List·getD-append}
+use lib.ListN.{length, getD, take, set as replaced, length-set, length-append, length-map}
+use lib.ListN.{List·getD-append}
 use lib.Seq.{getD-set-same, getD-set-other, getD-append-add, take-take}
 use Rattle.language.specs.Results.{Checked, accept, refuse, Pass, passed, bind-checked, need-checked, require}
 use Rattle.language.specs.Results.{require-inv}
 use Rattle.language.specs.Lists.{nth, Never, inj}
-use Rattle.language.specs.Rows.{R-change, B-block, U-set, Q-call}
+use Rattle.language.specs.Rows.{R-change, B-block, V-local, P-parameter, U-set, Q-call}
 use Rattle.language.specs.Frames.{at-slot, opened, closed}
 use Rattle.language.specs.Tree.{DeclaredType, bool, class, type-number, type-of-number, ExprType, known}
 use Rattle.language.specs.Tree.{null-type, Expr, Exprs, change, set, call, choose, block}
@@ -26,7 +27,8 @@ use Rattle.language.specs.Typing.{Slot, Environment, Typed, TypedAll, typed, la
 use Rattle.language.specs.Typing.{need-class, not-bool, all-fit, join-types, join-environments, fits}
 use Rattle.language.specs.Typing.{can-change, apply-slot, apply-all, after-change, locals-declared, type-of}
 use Rattle.language.specs.Typing.{type-all}
-use Rattle.language.specs.Encoded.{RowAt, LocalsAt}
+use Rattle.language.specs.Encoded.{RowAt, LinesAt, TypesAt}
+use Rattle.language.specs.Layout.{Run}
 use Rattle.language.specs.LookupClasses.{LooksUp, LooksUpAll}
 use Rattle.bodies.specs.declared.Answer.{Answer}
 use Rattle.bodies.specs.declared.Typing.{Typing}
@@ -36,7 +38,7 @@ use Rattle.bodies.specs.declared.Typing.the-variants.{Bool as bool-case,
 use Rattle.bodies.specs.declared.Typing.the-variants.{Refusal}
 use Rattle.bodies.specs.Answers.{answer, answer-of, case-number, case-of-number, typing-case}
 use Rattle.bodies.specs.Answers.{is-refusal, numbers, sought-of}
-use Rattle.bodies.specs.Tables.{Headed, HeadingAt, ParametersAt, EffectsAt, Run, Changed, joined-number}
+use Rattle.bodies.specs.Tables.{Headed, HeadingAt, Changed, joined-number}
 use Rattle.bodies.specs.Tables.{Known, a-class, a-bool, an-absence, root-in, applied, applied-number}
 use Rattle.bodies.specs.Tables.{is-fitting}
 use Rattle.bodies.specs.Nodes.{too-many-answer, no-method-for, refusal, joined-case, BothClasses}
@@ -51,7 +53,7 @@ use Rattle.bodies.proofs.Worlds.{sound, applied-is, nearest-is, fitting
 use Rattle.bodies.proofs.Typings.{line-free, line-free-all, looks-frame, looks-frame-all}
 use Rattle.bodies.proofs.Turns.{class-low, low-class, type-low, case-low, declared-known}
 use Rattle.bodies.proofs.Turns.{declared-null, not-refused, is-refused, is-accepted}
-use Rattle.bodies.proofs.TurnsLeaves.{views-long, views-at, slot-some, slot-none, le-or-less, field-is}
+use Rattle.bodies.proofs.TurnsLeaves.{views-long, views-at, slot-some, slot-none, field-is}
 use Rattle.bodies.proofs.TurnsLeaves.{field-declared, field-pre, type-number-case}
 use Rattle.bodies.proofs.LinksBase.{has, joined-numbers, join-declared, numbers-join, fine-join, Fine}
 use Rattle.bodies.proofs.LinksBase.{AllGood, fine-map, fine-with, fine-opened, fine-closed, fine-at}
@@ -61,6 +63,9 @@ use Rattle.bodies.proofs.LinksBase.{not-absent, apply-number, apply-dec
 use Rattle.bodies.proofs.ActLaws.{applicable-known, case-same}
 use Rattle.bodies.proofs.LinksThis.{this-kept, types-count}
 use Rattle.language.proofs.Classes as classes
+use Rattle.language.proofs.Lines.{line-at, each-line, le-or-less, run-unique}
+use Rattle.bodies.proofs.Lists.{nth-there}
+use Rattle.bodies.proofs.HeadingLines.{TypeAt, types-number, heading-run, heading-effects}
 use Rattle.bodies.specs.Cycle.{Proper, Views, Declared, AcceptedAll, Is, stored}
 
 -- The answer of an accepted child.
@@ -260,10 +265,6 @@ module _ {P : List Class} {R T A : List ℕ} {count : ℕ} (h : Headed P R T A c
   fine-applied : (φ : ℕ) {γ : Environment} → Fine (world P) γ → Fine (world P) (apply-all (world P) φ γ)
   fine-applied φ g = fine-map (world P) (apply-slot (world P) φ) (λ s d. apply-declared h φ (s .current) d) g
 
-  map-length : (f : ℕ → ℕ) (l : List ℕ) → length (map f l) ≡ length l
-  map-length f [] = refl
-  map-length f (x ∷ l) = ap suc (map-length f l)
-
   change-views : (k d scope : ℕ) (γ : Environment) (S S′ : List ℕ) (s : Slot) → at-slot γ k ≡ some s
       → Views (world P) γ S scope → scope ≤ length S
       → d ≤ count → length S′ ≡ length S → ((i : ℕ) → i < scope → getD S′ i 0 ≡ number-after T S k d i)
@@ -275,7 +276,7 @@ module _ {P : List Class} {R T A : List ℕ} {count : ℕ} (h : Headed P R T A c
       (low-class d h ld))
       (omega (arith, l, el))
       (ap length list ∙ (length-set (map (applied-number T φ) (numbers γ)) k d ∙
-      (map-length (applied-number T φ) (numbers γ) ∙ views-long v l)))
+      (length-map (numbers γ) (applied-number T φ) ∙ views-long v l)))
       (λ i m. f i m ∙ (pick i m (eqb i k) refl ∙ sym (ap (λ (x : List ℕ). getD x i 0) list)))
     where
       φ : ℕ
@@ -294,7 +295,7 @@ module _ {P : List Class} {R T A : List ℕ} {count : ℕ} (h : Headed P R T A c
           let q : i ≡ k = eqb-true i k e in
           ap (λ (b : Bool). cond b d (applied-number T (effect-of (root-in T d)) (getD S i 0))) e
           ∙ (sym (getD-set-same (map (applied-number T φ) (numbers γ)) k d 0
-          (omega (arith, q, m, map-length (applied-number T φ) (numbers γ), views-long v l)))
+          (omega (arith, q, m, length-map (numbers γ) (applied-number T φ), views-long v l)))
           ∙ ap (λ (x : ℕ). getD (replaced (map (applied-number T φ) (numbers γ)) k d) x 0) (sym q))
       pick i m false e =
           ap (λ (b : Bool). cond b d (applied-number T (effect-of (root-in T d)) (getD S i 0))) e
@@ -490,9 +491,9 @@ module _ {P : List Class} {R T A : List ℕ} {count : ℕ} (h : Headed P R T A c
   names-is bool e = refl
   names-is (class c) e = rw (proper-class c e) (ap (leb c) (sym (h .classes .counted)))
 
-  opening-is : (ts : List DeclaredType) (row : ℕ) → LocalsAt R ts row → Proper ts
+  opening-is : (ts : List DeclaredType) (row : ℕ) → TypesAt V-local R ts row → Proper ts
       → opening R count row (length ts) ≡ pass-answer (locals-declared (world P) (row + 1) ts)
-  unfolding opening locals-declared LocalsAt require
+  unfolding opening locals-declared LinesAt require
   opening-is [] row n p = refl
   opening-is (t ∷ ts) row n p =
       ap (λ (b : Bool). cond b (opening R count (row + 1) (length ts)) (refusal 4 row))
@@ -513,26 +514,17 @@ module _ {P : List Class} {R T A : List ℕ} {count : ℕ} (h : Headed P R T A c
   locals-good (t ∷ ts) l e = require-inv (is-declared-type (world P) t) 4 l _ e λ d e.
       (d, locals-good ts (l + 1) e)
 
-  locals-number : (ts : List DeclaredType) (row : ℕ) → LocalsAt R ts row → (j : ℕ) → j < length ts
-      → getD R ((row + j) * 4 + 1) 0 ≡ getD (map type-number ts) j 0
-  unfolding LocalsAt
-  locals-number [] row n j l = absurd (omega arith)
-  locals-number (t ∷ ts) row n zero l = let q : (row + 0) * 4 + 1 ≡ row * 4 + 1 = omega arith in
-      ap (λ (x : ℕ). getD R x 0) q ∙ n .0 .first
-  locals-number (t ∷ ts) row n (suc j) l =
-      let q : (row + suc j) * 4 + 1 ≡ (row + 1 + j) * 4 + 1 = omega arith in
-      ap (λ (x : ℕ). getD R x 0) q ∙ locals-number ts (row + 1) (n .1) j (omega arith)
-
-  locals-inside : (ts : List DeclaredType) (row : ℕ) → row * 4 ≤ length R → LocalsAt R ts row
-      → (row + length ts) * 4 ≤ length R
-  unfolding LocalsAt
-  locals-inside [] row l n = omega (arith, l)
-  locals-inside (t ∷ ts) row l n =
-      omega (arith, locals-inside ts (row + 1) (omega (arith, n .0 .within)) (n .1))
-
-types-length : (ts : List DeclaredType) → length (map type-number ts) ≡ length ts
-types-length [] = refl
-types-length (t ∷ ts) = ap suc (types-length ts)
+locals-inside : (R : List ℕ) (ts : List DeclaredType) (row : ℕ) → row * 4 ≤ length R
+    → TypesAt V-local R ts row
+    → (row + length ts) * 4 ≤ length R
+locals-inside R ts row l n = ⊎-elim (λ (z : length ts ≤ 0). omega (arith, l, z))
+    (λ (z : 0 < length ts). omega (
+      arith,
+      z,
+      each-line (TypeAt V-local R) (λ i. i * 4 + 3 < length R)
+          (λ t i h. h .within) ts row n (length ts - 1) (omega (arith, z)),
+    ))
+    (le-or-less (length ts) 0)
 
 last-declared : (W : World) (t : ExprType) (us : List ExprType) → Declared W t
     → ((i : ℕ) (u : ExprType) → nth us i ≡ some u → Declared W u) → Declared W (last-type t us)
@@ -774,71 +766,14 @@ stored-none : (o : Option ℕ) → stored-place o ≡ 0 → o ≡ none
 stored-none none e = refl
 stored-none (some i) e = absurd (omega (arith, e))
 
-run-unique : {R : List ℕ} {letter from n m : ℕ} → Run R letter from n → Run R letter from m → n ≡ m
-run-unique {n = n} {m} p q = ⊎-elim
-    (λ (l : n ≤ m). ⊎-elim (λ (k : m ≤ n). omega arith) (λ (k : n < m). absurd (p .other (q .each n k)))
-    (le-or-less m n))
-    (λ (l : m < n). absurd (q .other (p .each m l)))
-    (le-or-less n m)
+module _ {R : List ℕ} {r : ℕ} {M : Method} (g : HeadingAt R r M) where
+  parameters-run : Run R 80 (r + 1) (length (M .parameters))
+  parameters-run = heading-run R (M .parameters) (g .effects) r (g .parameter-rows) (g .effect-rows)
+      (g .body-row .within) (g .body-row .letter)
 
-module _ (R : List ℕ) where
-  parameters-letter : (ts : List DeclaredType) (r : ℕ) → ParametersAt R ts r → (i : ℕ) → i < length ts
-      → getD R ((r + i) * 4) 0 ≡ 80
-  unfolding ParametersAt
-  parameters-letter [] r n i l = absurd (omega arith)
-  parameters-letter (t ∷ ts) r n zero l = let q : (r + 0) * 4 ≡ r * 4 = omega arith in
-      ap (λ (x : ℕ). getD R x 0) q ∙ n .0 .letter
-  parameters-letter (t ∷ ts) r n (suc i) l =
-      let q : (r + suc i) * 4 ≡ (r + 1 + i) * 4 = omega arith in ap (λ (x : ℕ). getD R x 0) q
-      ∙ parameters-letter ts (r + 1) (n .1) i (omega arith)
-
-  parameters-type : (ts : List DeclaredType) (r : ℕ) → ParametersAt R ts r → (i : ℕ) (t : DeclaredType)
-      → nth ts i ≡ some t → getD R ((r + i) * 4 + 1) 0 ≡ type-number t
-  unfolding ParametersAt nth
-  parameters-type [] r n i t e = absurd (Never e)
-  parameters-type (u ∷ ts) r n zero t e =
-      let q : (r + 0) * 4 + 1 ≡ r * 4 + 1 = omega arith in ap (λ (x : ℕ). getD R x 0) q
-      ∙ (n .0 .first ∙ ap type-number (inj e))
-  parameters-type (u ∷ ts) r n (suc i) t e =
-      let q : (r + suc i) * 4 + 1 ≡ (r + 1 + i) * 4 + 1 = omega arith in ap (λ (x : ℕ). getD R x 0) q
-      ∙ parameters-type ts (r + 1) (n .1) i t e
-
-  -- the line after the P lines is an X or B line
-  next-line : (cs : List ℕ) (from v k : ℕ) → EffectsAt R cs from → RowAt R (from + length cs) B-block v k
-      → (from * 4 + 3 < length R) × (getD R (from * 4) 0 ≡ 80 → ⊥)
-  unfolding EffectsAt
-  next-line [] from v k n b = let q : (from + 0) * 4 ≡ from * 4 = omega arith in (
-    omega (arith, b .within),
-    λ e. let z : getD R (from * 4) 0 ≡ 66 = ap (λ (x : ℕ). getD R x 0) (sym q)
-        ∙ b .letter in omega (arith, z, e),
-  )
-  next-line (c ∷ cs) from v k n b =
-      (n .0 .within, λ e. let z : getD R (from * 4) 0 ≡ 88 = n .0 .letter in omega (arith, z, e))
-
-  module _ {r : ℕ} {M : Method} (g : HeadingAt R r M) where
-    heading-run : Run R 80 (r + 1) (length (M .parameters))
-    heading-run =
-        let w = next-line (g .effects) (r + 1 + length (M .parameters)) (g .locals) (g .expressions)
-        (g .effect-rows) (g .body-row) in
-        record {
-          each = parameters-letter (M .parameters) (r + 1) (g .parameter-rows);
-          inside = w .0;
-          other = w .1;
-        }
-
-    heading-effects : EffectLines R (r + 1 + length (M .parameters)) (g .effects)
-    heading-effects = record {
-      lines = g .effect-rows;
-      inside = g .body-row .within;
-      other = λ e. let z : getD R ((r + 1 + length (M .parameters) + length (g .effects)) * 4) 0 ≡ 66 =
-          g .body-row .letter in omega (arith, z, e);
-    }
-
-nth-there : {X : Type 0} (l : List X) (i : ℕ) → i < length l → (x : X) × (nth l i ≡ some x)
-unfolding nth
-nth-there [] i h = absurd (omega arith)
-nth-there (x ∷ l) zero h = (x, refl)
-nth-there (x ∷ l) (suc i) h = nth-there l i (omega arith)
+  effects-lines : EffectLines R (r + 1 + length (M .parameters)) (g .effects)
+  effects-lines = heading-effects R (M .parameters) (g .effects) r (g .parameter-rows) (g .effect-rows)
+      (g .body-row .within) (g .body-row .letter) (g .effects-low)
 
 stored-at : (ts : List ExprType) (i : ℕ) (t : ExprType) → nth ts i ≡ some t
     → getD (stored ts) i 0 ≡ case-number (typing-case t)
@@ -858,11 +793,11 @@ module _ {P : List Class} {R T A : List ℕ} {count : ℕ} (h : Headed P R T A c
 
   -- the arguments against the parameters
   fit-all : (S : List ℕ) (ts : List ExprType) (us : List DeclaredType) (from row : ℕ) → length ts ≡ length us
-      → ((i : ℕ) → i < length ts → getD S (from + i) 0 ≡ getD (stored ts) i 0) → ParametersAt R us row
+      → ((i : ℕ) → i < length ts → getD S (from + i) 0 ≡ getD (stored ts) i 0) → TypesAt P-parameter R us row
       → ((i : ℕ) (t : ExprType) → nth ts i ≡ some t → Declared (world P) t)
       → ((i : ℕ) (u : DeclaredType) → nth us i ≡ some u → is-declared-type (world P) u ≡ true)
       → all-fitting R A S from row (length ts) ≡ all-fit (world P) ts us
-  unfolding all-fitting all-fit ParametersAt nth stored
+  unfolding all-fitting all-fit LinesAt nth stored
   fit-all S [] [] from row e f n d g = refl
   fit-all S [] (u ∷ us) from row e f n d g = absurd (omega (arith, e))
   fit-all S (t ∷ ts) [] from row e f n d g = absurd (omega (arith, e))
@@ -909,8 +844,8 @@ module _ {P : List Class} {R T A : List ℕ} {count : ℕ} (h : Headed P R T A c
       → ((i : ℕ) (t : ExprType) → nth ts i ≡ some t → Declared (world P) t) → PreMethod R A S top n r
   pre-method S top n r M ts g short pd en lt st td = record {
     line = g .row .within;
-    parameters = record { n = length (M .parameters); run = heading-run R g };
-    fitting = λ run. let q : n ≡ length (M .parameters) = run-unique run (heading-run R g) in record {
+    parameters = record { n = length (M .parameters); run = parameters-run g };
+    fitting = λ run. let q : n ≡ length (M .parameters) = run-unique run (parameters-run g) in record {
       slots = lt;
       rows = omega (arith, run .inside);
       values = λ i l.
@@ -920,12 +855,13 @@ module _ {P : List Class} {R T A : List ℕ} {count : ℕ} (h : Headed P R T A c
           (case-low (t .0) h (td i (t .0) (t .1)));
       types = λ i l ne.
           let t = nth-there (M .parameters) i (omega (arith, q)) in
-          let z = parameters-type R (M .parameters) (r + 1) (g .parameter-rows) i (t .0) (t .1) in
+          let z = line-at (TypeAt P-parameter R) (M .parameters) (r + 1) (g .parameter-rows) i (t .0)
+          (t .1) .first in
           omega (arith, z, type-number-case (t .0) h (pd i (t .0) (t .1)) .2 (λ y. ne (z ∙ y)));
     };
-    effects = λ run. let q : n ≡ length (M .parameters) = run-unique run (heading-run R g) in record {
+    effects = λ run. let q : n ≡ length (M .parameters) = run-unique run (parameters-run g) in record {
       classes = g .effects;
-      lines = subst (λ (x : ℕ). EffectLines R (r + 1 + x) (g .effects)) (sym q) (heading-effects R g);
+      lines = subst (λ (x : ℕ). EffectLines R (r + 1 + x) (g .effects)) (sym q) (effects-lines g);
     };
   }
 
@@ -937,7 +873,7 @@ module _ {P : List Class} {R T A : List ℕ} {count : ℕ} (h : Headed P R T A c
       views-of (world P) (apply-all (world P) φ γ) S′ scope (fine-applied h φ (views-fine (world P) v))
       (omega (arith, l, c .long))
       (ap length (numbers-applied h φ (views-fine (world P) v))
-      ∙ (map-length h (applied-number T φ) (numbers γ) ∙ views-long v l))
+      ∙ (length-map (numbers γ) (applied-number T φ) ∙ views-long v l))
       (λ k m. c .below k m ∙ (ap (applied-number T φ) (views-at v l k m)
       ∙ (sym (getD-map (applied-number T φ) (numbers γ) k (omega (arith, m, views-long v l)))
       ∙ sym (ap (λ (x : List ℕ). getD x k 0) (numbers-applied h φ (views-fine (world P) v))))))
@@ -1220,7 +1156,8 @@ module _ {P : List Class} {R T A : List ℕ} {count : ℕ} (h : Headed P R T A c
             → world P .method (applied T (b .effect) c) m ≡ some M → HeadingAt R row M
             → is-declared-type (world P) (M .result) ≡ true → getD R (at * 4 + 2) 0 ≡ length (M .parameters)
             → all-fit (world P) (b .types) (M .parameters) ≡ true
-            → ε ≡ M .effect → Done R T A S C at scope top (typing-case (a .type)) (a .effect) (b .effect) S′ C′
+            → ε ≡ M .effect → Done R T A S C at scope top (typing-case (a .type)) (a .effect) (b .effect) S′
+            C′
             r c row ε → Is (world P) (call m e es) γ at scope S′ C′ r
         finish c row ε t M w g dr z f ee d =
             let k : ℕ = apply-class (world P) (b .effect) c in
@@ -1239,7 +1176,8 @@ module _ {P : List Class} {R T A : List ℕ} {count : ℕ} (h : Headed P R T A c
             (ap case-of-number (g .row .first) ∙ type-number-case (M .result) h dr .0) ee)
             (record {
               views = applied-views h (M .effect) (ab .views) ls
-                  (subst (λ (j : ℕ). Changed S S′ scope (λ k. applied-number T j (getD S k 0))) ee (d .slots));
+                  (subst (λ (j : ℕ). Changed S S′ scope (λ k. applied-number T j (getD S k 0))) ee
+                  (d .slots));
               declared = declared-known (M .result) dr;
               looks = call-looks (world P) m e es (at + 1) la lb γ a b ta tb c (typed-class c t) C′ at here
                   (looks-frame (world P) C C′ e γ (at + 1) (λ i u y. away i u) lka)
@@ -1254,7 +1192,8 @@ module _ {P : List Class} {R T A : List ℕ} {count : ℕ} (h : Headed P R T A c
             is-refused 9 (at + 1) (call-not (world P) m e es (at + 1) la lb γ a b ta tb (a .type) refl k) er
         go (no-method c t z er u) =
             is-refused 8 (at + 1) (call-none (world P) m e es (at + 1) la lb γ a b ta tb c (typed-class c t)
-            (at-world c t none (not-there h (applied T (b .effect) c) m (applied-low h (b .effect) c (low c t))
+            (at-world c t none (not-there h (applied T (b .effect) c) m
+            (applied-low h (b .effect) c (low c t))
             lm (place c 0 z)))) er
         go (other-count c row p t z k f er u) =
             let w = found c row t z in
@@ -1262,11 +1201,11 @@ module _ {P : List Class} {R T A : List ℕ} {count : ℕ} (h : Headed P R T A c
             (call-count (world P) m e es (at + 1) la lb γ a b ta tb c (typed-class c t) (w .0)
             (at-world c t (some (w .0)) (w .1))
             (ne-eqb (length (b .types)) (length (w .0 .parameters))
-            (λ y. f (k (length (w .0 .parameters)) (heading-run R (w .2))
+            (λ y. f (k (length (w .0 .parameters)) (parameters-run (w .2))
             ∙ (sym y ∙ (many ∙ sym (n .second))))))) er
         go (unfit c row t z k f er u) =
             let w = found c row t z in
-            let q = k (length (w .0 .parameters)) (heading-run R (w .2)) in
+            let q = k (length (w .0 .parameters)) (parameters-run (w .2)) in
             is-refused 9 (at + 1)
             (call-unfit (world P) m e es (at + 1) la lb γ a b ta tb c (typed-class c t) (w .0)
             (at-world c t (some (w .0)) (w .1))
@@ -1274,10 +1213,10 @@ module _ {P : List Class} {R T A : List ℕ} {count : ℕ} (h : Headed P R T A c
             (sym (fitted (w .0) row (w .2) (w .4) q) ∙ f)) er
         go (done c row ε t z k f g d) =
             let w = found c row t z in
-            let q = k (length (w .0 .parameters)) (heading-run R (w .2)) in
+            let q = k (length (w .0 .parameters)) (parameters-run (w .2)) in
             finish c row ε t (w .0) (w .1) (w .2) (w .3) q (sym (fitted (w .0) row (w .2) (w .4) q) ∙ f)
             (g (w .2 .effects) (subst (λ (j : ℕ). EffectLines R (row + 1 + j) (w .2 .effects)) (sym q)
-            (heading-effects R (w .2))) ∙ sym (w .2 .effect-is)) d
+            (effects-lines (w .2))) ∙ sym (w .2 .effect-is)) d
 
     -- Q with more than 8 arguments: `many` is what the arguments as items give.
     pub many-is : (m : ℕ) (e : Expr) (es : Exprs) (at next scope la : ℕ) (γ : Environment) (a : Typed)
@@ -1327,7 +1266,8 @@ module _ {P : List Class} {R T A : List ℕ} {count : ℕ} (h : Headed P R T A c
         by-type b tb f (known (class c)) q =
             by-method b tb f c q (world P .method (apply-class (world P) (b .effect) c) m) refl
         by-type b tb f null-type q =
-            is-refused 9 (at + 1) (call-not (world P) m e es (at + 1) la (next + 1) γ a b ta tb null-type q tt)
+            is-refused 9 (at + 1)
+            (call-not (world P) m e es (at + 1) la (next + 1) γ a b ta tb null-type q tt)
             (out ∙ (ap (λ (z : ExprType). too-many-answer at (typing-case z) many) q
             ∙ many-not at null-type many f tt))
 
@@ -1337,7 +1277,8 @@ module _ {P : List Class} {R T A : List ℕ} {count : ℕ} (h : Headed P R T A c
             let q : many ≡ answer (Refusal i k) 0 = em ∙ items-refused i k _ _ tb in
             is-refused i k (call-arguments (world P) m e es (at + 1) la γ a ta i k
             (ap (λ (z : ℕ). type-all (world P) es z (a .slots)) (sym line) ∙ tb))
-            (out ∙ (many-passed at (typing-case (a .type)) many (ap (λ (z : Answer). is-refusal (z .typing)) q)
+            (out ∙ (many-passed at (typing-case (a .type)) many
+            (ap (λ (z : Answer). is-refusal (z .typing)) q)
             ∙ q))
         by-arguments (accept b) tb =
             by-type b tb (ap (λ (z : Answer). is-refusal (z .typing)) (em ∙ items-accepted b _ _ tb) ∙
@@ -1380,7 +1321,8 @@ module _ {P : List Class} {R T A : List ℕ} {count : ℕ} (h : Headed P R T A c
         → x ≡ answered a → y ≡ answered b → z ≡ answered c
         → PostChoice T A S S′ at scope top x y z r
         → Is (world P) (choose e p q) γ at scope S′ C r
-    choose-is e p q at next third scope top la lb lc γ a b c S₁ S S′ C x y z r en et ta tb tc db dc v₁ l₁ sv v l
+    choose-is e p q at next third scope top la lb lc γ a b c S₁ S S′ C x y z r en et ta tb tc db dc v₁ l₁ sv v
+        l
         lt lka lkb lkc ex ey ez pc =
         by-bool (not-bool (a .type)) refl
       where
@@ -1416,7 +1358,8 @@ module _ {P : List Class} {R T A : List ℕ} {count : ℕ} (h : Headed P R T A c
             (record {
               views = join-views h (b .slots) (c .slots) S₁ S S′ scope top v₁ l₁ v (omega (arith, l, lt))
                   (pc .long)
-                  (this-kept (world P) p lb (a .slots) b tb ∙ sym (this-kept (world P) q lc (a .slots) c tc)) sv
+                  (this-kept (world P) p lb (a .slots) b tb ∙ sym (this-kept (world P) q lc (a .slots) c tc))
+                  sv
                   (pc .slots (ap (λ (x : Answer). is-refusal (x .typing)) w ∙ not-refused t));
               declared = joined-declared h (b .type) (c .type) t db dc o;
               looks = choose-looks (world P) e p q (at + 1) la lb lc γ a b c ta tb tc C at lka
@@ -1433,16 +1376,18 @@ module _ {P : List Class} {R T A : List ℕ} {count : ℕ} (h : Headed P R T A c
 
     -- B
     pub pre-open : (ts : List DeclaredType) (es : Exprs) (at scope v : ℕ) (S : List ℕ)
-        → RowAt R at B-block (length ts) (how-many es) → LocalsAt R ts (at + 1) → v ≡ getD R (at * 4 + 1) 0
+        → RowAt R at B-block (length ts) (how-many es) → TypesAt V-local R ts (at + 1)
+        → v ≡ getD R (at * 4 + 1) 0
         → scope + length ts ≤ length S → PreOpen R S at scope v
     pre-open ts es at scope v S n ln ev l =
         let e : v ≡ length ts = ev ∙ n .first in
-        let i = locals-inside h ts (at + 1) (omega (arith, n .within)) ln in
+        let i = locals-inside R ts (at + 1) (omega (arith, n .within)) ln in
         record { rows = omega (arith, e, i); low = omega (arith, e, i, short); slots = omega (arith, e, l) }
 
     pub open-refused : (ts : List DeclaredType) (es : Exprs) (at scope v : ℕ) (γ : Environment)
         (S S′ C : List ℕ) (r : Answer)
-        → RowAt R at B-block (length ts) (how-many es) → LocalsAt R ts (at + 1) → v ≡ getD R (at * 4 + 1) 0
+        → RowAt R at B-block (length ts) (how-many es) → TypesAt V-local R ts (at + 1)
+        → v ≡ getD R (at * 4 + 1) 0
         → Proper ts → PostOpen R S S′ count at scope v r → is-refusal (r .typing) ≡ true
         → Is (world P) (block ts es) γ at scope S′ C r
     open-refused ts es at scope v γ S S′ C r n ln ev pr po e =
@@ -1456,7 +1401,8 @@ module _ {P : List Class} {R T A : List ℕ} {count : ℕ} (h : Headed P R T A c
     -- The locals of an opened block.
     pub open-done : (ts : List DeclaredType) (es : Exprs) (at scope v : ℕ) (γ : Environment) (S S′ : List ℕ)
         (r : Answer)
-        → RowAt R at B-block (length ts) (how-many es) → LocalsAt R ts (at + 1) → v ≡ getD R (at * 4 + 1) 0
+        → RowAt R at B-block (length ts) (how-many es) → TypesAt V-local R ts (at + 1)
+        → v ≡ getD R (at * 4 + 1) 0
         → Proper ts → Views (world P) γ S scope → scope + length ts ≤ length S
         → PostOpen R S S′ count at scope v r → is-refusal (r .typing) ≡ false
         → (r ≡ answer Null 0) × (locals-declared (world P) (at + 1 + 1) ts ≡ passed)
@@ -1470,7 +1416,8 @@ module _ {P : List Class} {R T A : List ℕ} {count : ℕ} (h : Headed P R T A c
           (omega (arith, q, l, po .long))
           (ap length (numbers-opened γ ts)
           ∙ (length-append (numbers γ) (map type-number ts)
-          ∙ ap₂ (λ (x : ℕ) (y : ℕ). x + y) (views-long vs (omega (arith, l))) (types-length ts ∙ sym q)))
+          ∙ ap₂ (λ (x : ℕ) (y : ℕ). x + y) (views-long vs (omega (arith, l)))
+          (length-map ts type-number ∙ sym q)))
           (λ k m. at-slots k m (le-or-less scope k)
           ∙ sym (ap (λ (x : List ℕ). getD x k 0) (numbers-opened γ ts))),
     )
@@ -1499,14 +1446,15 @@ module _ {P : List Class} {R T A : List ℕ} {count : ℕ} (h : Headed P R T A c
             ap (λ (x : ℕ). x + j) (sym (views-long vs (omega (arith, l)))) in
             ap (λ (x : ℕ). getD S′ x 0) ek
             ∙ (po .filled e j (omega arith)
-            ∙ (locals-number h ts (at + 1) ln j (omega (arith, q, m, ge))
+            ∙ (types-number V-local R ts (at + 1) ln j (omega (arith, q, m, ge))
             ∙ (sym (getD-append-add (numbers γ) (map type-number ts) j 0)
             ∙ ap (λ (x : ℕ). getD (numbers γ ++ map type-number ts) x 0) (sym (ek ∙ en)))))
 
     -- The whole block: what its items give, in the opened scope.
     pub block-is : (ts : List DeclaredType) (es : Exprs) (at scope v : ℕ) (γ : Environment) (S S′ C′ : List ℕ)
         (r : Answer)
-        → RowAt R at B-block (length ts) (how-many es) → LocalsAt R ts (at + 1) → v ≡ getD R (at * 4 + 1) 0
+        → RowAt R at B-block (length ts) (how-many es) → TypesAt V-local R ts (at + 1)
+        → v ≡ getD R (at * 4 + 1) 0
         → Views (world P) γ S scope → scope ≤ length S
         → locals-declared (world P) (at + 1 + 1) ts ≡ passed
         → (r ≡ answer-of (bind-checked (type-all (world P) es (at + 1 + v + 1) (opened γ (map fresh-slot ts)))
@@ -1528,7 +1476,8 @@ module _ {P : List Class} {R T A : List ℕ} {count : ℕ} (h : Headed P R T A c
             ≡ type-all (world P) es (at + 1 + v + 1) (opened γ (map fresh-slot ts))
         same = ap (λ (x : ℕ). type-all (world P) es x (opened γ (map fresh-slot ts))) (sym line)
 
-        go : (c : Checked TypedAll) → type-all (world P) es (at + 1 + v + 1) (opened γ (map fresh-slot ts)) ≡ c
+        go : (c : Checked TypedAll)
+            → type-all (world P) es (at + 1 + v + 1) (opened γ (map fresh-slot ts)) ≡ c
             → Is (world P) (block ts es) γ at scope S′ C′ r
         go (refuse m k) e =
             is-refused m k (block-inner (world P) ts es (at + 1) γ ld m k (same ∙ e))

@@ -7,7 +7,7 @@ use Prim.Native.Nat.{ℕ, zero, suc, _+_, _-_, _*_, _≤_, _<_}
 use native.Mathlib.Omega.{arith}
 use borrow.Author.Tests.{ne-eqb}
 use lib.Dec.{eqb}
-use lib.ListN.{length, getD, take, set as replaced}
+use lib.ListN.{length, length-map, getD, take, set as replaced}
 use lib.Seq.{ext-getD, getD-take, length-take-le}
 use Rattle.language.specs.Lists.{nth, Never, inj, map-option, given}
 use Rattle.language.specs.Frames.{at-slot, with-slot, opened, closed, map-frame}
@@ -207,7 +207,7 @@ list-append : (l m : List Slot) → map number (l ++ m) ≡ map number l ++ map 
 list-append [] m = refl
 list-append (x ∷ l) m = ap (λ (r : List ℕ). number x ∷ r) (list-append l m)
 
-list-fresh : (ts : List DeclaredType) → map number (map fresh-slot ts) ≡ map type-number ts
+pub list-fresh : (ts : List DeclaredType) → map number (map fresh-slot ts) ≡ map type-number ts
 list-fresh [] = refl
 list-fresh (t ∷ ts) = ap (λ (r : List ℕ). type-number t ∷ r) (list-fresh ts)
 
@@ -228,13 +228,9 @@ pub numbers-closed : (n : ℕ) (γ : Environment) → numbers (closed n γ) ≡ 
 unfolding numbers
 numbers-closed n γ = ap (λ (r : List ℕ). this-number (γ .this) ∷ r) (list-take n (γ .slots))
 
-map-length : (l : List Slot) → length (map number l) ≡ length l
-map-length [] = refl
-map-length (x ∷ l) = ap suc (map-length l)
-
 pub numbers-length : (γ : Environment) → length (numbers γ) ≡ suc (length (γ .slots))
 unfolding numbers
-numbers-length γ = ap suc (map-length (γ .slots))
+numbers-length γ = ap suc (length-map (γ .slots) number)
 
 -- whether there is a `this`
 abbrev pub has : Option Slot → Bool
@@ -265,7 +261,7 @@ module _ (W : World) (g : ℕ → ℕ → ℕ) (z : g absent absent ≡ absent)
       → getD (numbers (join-environments W γ δ)) i 0 ≡ g (getD (numbers γ) i 0) (getD (numbers δ) i 0))
   unfolding numbers
   numbers-join {γ} {δ} p q e t = (
-    ap suc (map-length (join-slots W (γ .slots) (δ .slots)) ∙ join-length (γ .slots) (δ .slots) e),
+    ap suc (length-map (join-slots W (γ .slots) (δ .slots)) number ∙ join-length (γ .slots) (δ .slots) e),
     λ i. go i,
   )
     where

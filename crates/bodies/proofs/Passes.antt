@@ -99,7 +99,7 @@ module _ {R E T A S C S′ C′ : List ℕ} {count at k : ℕ} (w : Going R E T 
     few = a .form .few;
     result = a .result;
     parameters = a .parameters;
-    effects = λ i c e. omega (arith, a .effects i c e, counted, r .headed .classes .few);
+    effects = a .effects 64 (omega (arith, counted, r .headed .classes .few));
   }
 
   pub going-inside : at * 4 + 3 < length R

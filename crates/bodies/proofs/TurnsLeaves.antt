@@ -1,7 +1,7 @@
 -- The nodes T, L, N, I, W, Z, G, K and A: what their functions answer is what the definition says. Assumes nothing.
 use mathlib.Core.Path.{_≡_, refl, sym, ap, subst, _∙_}
 use mathlib.Core.Bool.{Bool, true, false, not, cond}
-use mathlib.Core.Logic.{_⊎_, inl, inr, ⊎-elim}
+use mathlib.Core.Logic.{_⊎_, ⊎-elim}
 use mathlib.Core.Option.{Option, none, some}
 use mathlib.Core.List.{List, [], _∷_, map}
 use Prim.Native.Nat.{ℕ, zero, suc, _+_, _*_, _≤_, _<_}
@@ -37,16 +37,12 @@ use Rattle.bodies.specs.Nodes.{refusal, null-tested, created, slot-read,
 use Rattle.bodies.specs.Nodes.{field-in, field-place, field-row, PreField, not-class, got, got-classes}
 use Rattle.bodies.specs.Nodes.{found-answer, noted}
 use Rattle.bodies.specs.Cycle.{Views, Declared, Accepted, Is}
+use Rattle.language.proofs.Lines.{le-or-less}
 use Rattle.bodies.proofs.Worlds.{fitting-is}
 use Rattle.bodies.proofs.Cases.{read-out, read-absent, read-there}
 use Rattle.bodies.proofs.Typings.{null-is, new-is, declared-test, line-free, looks-frame}
 use Rattle.bodies.proofs.Turns.{declared-bool, declared-null, declared-known, class-low, type-low}
 use Rattle.bodies.proofs.Turns.{not-refused, is-accepted}
-
-pub le-or-less : (a b : ℕ) → (a ≤ b) ⊎ (b < a)
-le-or-less zero b = inl (omega arith)
-le-or-less (suc a) zero = inr (omega arith)
-le-or-less (suc a) (suc b) = ⊎-elim (λ h. inl (omega arith)) (λ h. inr (omega arith)) (le-or-less a b)
 
 -- ---- the number in a slot
 

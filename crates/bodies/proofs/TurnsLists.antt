@@ -732,7 +732,8 @@ module _ {R E T A S C : List ℕ} {count at scope top n : ℕ} {last : Answer} {
     {next left : ℕ} (w : ItemsLoop R E T A S C count at scope top n last S₁ C₁ so next left) where
   pub items-next : {S₂ C₂ : List ℕ} {x so′ : Answer} → (left ≡ 0 → ⊥)
       → Post R E T A S₁ C₁ S₂ C₂ count next scope top x → is-refusal (x .typing) ≡ false
-      → so′ ≡ answer (x .typing) (join (so .effect) (x .effect)) → length S₂ ≡ length S₁ → length C₂ ≡ length C₁
+      → so′ ≡ answer (x .typing) (join (so .effect) (x .effect)) → length S₂ ≡ length S₁
+      → length C₂ ≡ length C₁
       → ItemsLoop R E T A S C count at scope top n last S₂ C₂ so′ (getD E next 0) (left - 1)
   items-next z q ok same a b = record {
     pre = rest-pre (w .pre) z q ok;
