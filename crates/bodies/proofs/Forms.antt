@@ -1,4 +1,5 @@
--- What the form and the heading pass give to the pass over bodies: limits of nodes, declared types of headings. Assumes nothing.
+-- What the form and the heading pass give to the pass over bodies: limits of nodes, declared types of headings.
+-- Assumes nothing.
 use mathlib.Core.Path.{_≡_, subst}
 use mathlib.Core.Bool.{true, _&&_, not}
 use mathlib.Core.Option.{some}
@@ -21,7 +22,7 @@ use Rattle.language.specs.Headings.{is-some, may-extend, may-override, check-fi
 use Rattle.language.specs.Headings.{check-effects, check-methods, check-class, check-classes}
 use Rattle.language.specs.WellFormed.{TypeInForm, Each, each-nil, each-cons, NodeInForm, NodesInForm}
 use Rattle.language.specs.WellFormed.{form-is-null, form-get, form-cast, form-assign, form-set, form-call}
-use Rattle.language.specs.WellFormed.{form-choose, form-block, form-cons}
+use Rattle.language.specs.WellFormed.{form-choose, form-block, form-cons, BodyInForm, form-body}
 use Rattle.bodies.specs.Cycle.{Limited, LimitedAll}
 
 -- ---- nodes
@@ -86,6 +87,10 @@ mutual
   pub limited-nodes : (es : Exprs) (d n : ℕ) → NodesInForm of-check d n es → LimitedAll es n d
   limited-nodes nil d n h = tt
   limited-nodes (cons e es) d n (form-cons h h′) = (limited-node e d n h, limited-nodes es d n h′)
+
+-- a body in form is within the limits
+pub body-limited : (n : ℕ) (e : Expr) → BodyInForm of-check n e → Limited e n 128
+body-limited n e (form-body h) = limited-node _ 128 n h
 
 -- ---- headings
 

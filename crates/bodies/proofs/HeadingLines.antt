@@ -20,7 +20,7 @@ use Rattle.bodies.proofs.Lists.{nth-there, number-at}
 abbrev pub TypeAt : Letter → List ℕ → DeclaredType → ℕ → Type 0
 TypeAt l R t i = RowAt R i l (type-number t) 0
 
-abbrev pub EffectAt : List ℕ → ℕ → ℕ → Type 0
+abbrev EffectAt : List ℕ → ℕ → ℕ → Type 0
 EffectAt R c i = RowAt R i X-effect c 0
 
 -- The number of the type on each V or P line.

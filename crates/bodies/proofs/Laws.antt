@@ -1,7 +1,7 @@
 -- Laws of the numbers that the functions over tables give. Assumes nothing.
 use mathlib.Core.Path.{_≡_, refl, sym, ap, subst, _∙_}
 use mathlib.Core.Bool.{Bool, true, false, not, false≢true}
-use mathlib.Core.Logic.{_⊎_, ⊎-elim}
+use mathlib.Core.Logic.{⊎-elim}
 use mathlib.Core.List.{List}
 use Prim.Native.Nat.{ℕ, zero, suc, _+_, _-_, _*_, _/_, _^_, _≤_, _<_}
 use native.Mathlib.Omega.{arith}
@@ -75,7 +75,7 @@ going-end {T} {A} {c} {d} {k} g b e f = sym (g .same ∙ go (g .n) (g .enough))
     go zero h = absurd (omega arith)
     go (suc n) h = rw (sym e, f)
 
-pub going-positive : (A : List ℕ) (d k : ℕ) (b : Bool) → b ≡ is-below A d k → b ≡ false → 1 ≤ k
+going-positive : (A : List ℕ) (d k : ℕ) (b : Bool) → b ≡ is-below A d k → b ≡ false → 1 ≤ k
 unfolding is-below
 going-positive A d zero b e f = absurd (false≢true (sym f ∙ e))
 going-positive A d (suc k) b e f = omega arith

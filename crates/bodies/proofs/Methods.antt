@@ -3,7 +3,7 @@ use mathlib.Core.Path.{_≡_, refl, sym, ap, ap₂, subst, _∙_}
 use mathlib.Core.Bool.{Bool, true, false, false≢true}
 use mathlib.Core.Logic.{⊎-elim}
 use mathlib.Core.List.{List, [], _∷_}
-use Prim.Native.Nat.{ℕ, _+_, _-_, _*_, _≤_, _<_}
+use Prim.Native.Nat.{ℕ, _+_, _*_, _≤_, _<_}
 use native.Mathlib.Omega.{arith}
 use borrow.Author.Tests.{eqb-false}
 use types.Run.{OneOf}
@@ -36,7 +36,7 @@ use Rattle.bodies.specs.Whole.{PostMethodBody}
 use Rattle.bodies.proofs.Worlds.{fitting-is}
 use Rattle.bodies.proofs.Turns.{case-low, type-low, accepted-of, not-refused}
 use Rattle.bodies.proofs.TurnsLetters.{head}
-use Rattle.bodies.proofs.TurnsLeaves.{type-number-case}
+use Rattle.bodies.proofs.TypeNumbers.{type-number-case}
 use Rattle.bodies.proofs.HeadingLines.{types-number, heading-run, heading-effects, heading-first}
 use Rattle.bodies.proofs.Starts.{method-views}
 
@@ -45,7 +45,7 @@ module _ {R E T A : List ℕ} {count owner at : ℕ} {P : List Class} {m : Decla
   inside : body-row at m * 4 + 3 < length R
   inside = head (m .body) (f .layout .body) .row
 
-  pub facts-run : Run R 80 (at + 1) (length (m .parameters))
+  facts-run : Run R 80 (at + 1) (length (m .parameters))
   facts-run = heading-run R (m .parameters) (m .effects) at (f .layout .parameters) (f .layout .effects)
       inside
       (f .block-line)
@@ -54,7 +54,7 @@ module _ {R E T A : List ℕ} {count owner at : ℕ} {P : List Class} {m : Decla
   facts-first = heading-first R (m .parameters) (m .effects) at (f .layout .parameters) (f .layout .effects)
       inside (f .block-line)
 
-  pub facts-effects : EffectLines R (at + 1 + length (m .parameters)) (m .effects)
+  facts-effects : EffectLines R (at + 1 + length (m .parameters)) (m .effects)
   facts-effects = heading-effects R (m .parameters) (m .effects) at (f .layout .parameters)
       (f .layout .effects) inside (f .block-line) (f .effects)
 
@@ -141,7 +141,7 @@ module _ {R E T A : List ℕ} {count owner at : ℕ} {P : List Class} {m : Decla
       room = roomy (p .long);
     }
 
-    pub facts-is : {S₁ S₂ C₂ : List ℕ} {r : Answer} → PostEnter R S S₁ owner (at + 1) n
+    facts-is : {S₁ S₂ C₂ : List ℕ} {r : Answer} → PostEnter R S S₁ owner (at + 1) n
         → Post R E T A S₁ C S₂ C₂ count body (n + 1) 256 r
         → Is (world P) (m .body) (method-environment owner (m .parameters)) (body-row at m) (n + 1) S₂ C₂ r
     facts-is {S₁} {S₂} {C₂} {r} p q =
@@ -153,7 +153,7 @@ module _ {R E T A : List ℕ} {count owner at : ℕ} {P : List Class} {m : Decla
     facts-end : getD E body 0 ≡ body-row at m + size (m .body)
     facts-end = ap (λ (x : ℕ). getD E x 0) eb ∙ head (m .body) (f .layout .body) .end
 
-    pub facts-kept : {S₁ S₂ C₂ : List ℕ} {r : Answer} → Post R E T A S₁ C S₂ C₂ count body (n + 1) 256 r
+    facts-kept : {S₁ S₂ C₂ : List ℕ} {r : Answer} → Post R E T A S₁ C S₂ C₂ count body (n + 1) 256 r
         → ((i : ℕ) → i < body-row at m → getD C₂ i 0 ≡ getD C i 0)
         × ((i : ℕ) → body-row at m + size (m .body) ≤ i → getD C₂ i 0 ≡ getD C i 0)
     facts-kept q = (

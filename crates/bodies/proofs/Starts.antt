@@ -3,25 +3,24 @@ use mathlib.Core.Path.{_≡_, refl, sym, ap, subst, _∙_}
 use mathlib.Core.Bool.{true}
 use mathlib.Core.Option.{some}
 use mathlib.Core.List.{List, [], _∷_, map}
-use Prim.Native.Nat.{ℕ, zero, suc, _+_, _-_, _≤_, _<_}
+use Prim.Native.Nat.{ℕ, zero, suc, _+_, _≤_, _<_}
 use native.Mathlib.Omega.{arith}
 use lib.ListN.{length, getD, length-map}
 use Rattle.language.specs.Lists.{nth}
-use Rattle.language.specs.Limits.{of-check}
-use Rattle.language.specs.Tree.{DeclaredType, type-number, Expr, Class, Program}
+use Rattle.language.specs.Tree.{DeclaredType, type-number, Class, Program}
 use Rattle.language.specs.World.{World, is-declared-type}
 use Rattle.language.specs.Program.{world}
 use Rattle.language.specs.Typing.{fresh-slot, method-environment, start-environment}
-use Rattle.language.specs.WellFormed.{BodyInForm, form-body}
 use Rattle.language.specs.Layout.{start-row}
 use Rattle.bodies.specs.declared.Answer.{Answer}
 use Rattle.bodies.specs.Answers.{numbers}
 use Rattle.bodies.specs.Tables.{Headed}
-use Rattle.bodies.specs.Cycle.{Limited, Views, Pre, Post, Is}
+use Rattle.bodies.specs.Cycle.{Views, Pre, Post, Is}
 use Rattle.bodies.specs.Whole.{Ready}
 use Rattle.bodies.proofs.Turns.{Given, pre-of, post-is, low-class}
-use Rattle.bodies.proofs.LinksBase.{AllGood, views-of, list-fresh}
-use Rattle.bodies.proofs.Forms.{limited-node}
+use Rattle.bodies.proofs.Environments.{AllGood, list-fresh}
+use Rattle.bodies.proofs.Slots.{views-of}
+use Rattle.bodies.proofs.Forms.{body-limited}
 
 -- The slots at the start of a method's body.
 fresh-good : (W : World) (ts : List DeclaredType)
@@ -64,9 +63,6 @@ start-views W S l e = views-of W start-environment S 1 (record { this = tt; slot
     at : (k : ℕ) → k < 1 → getD S k 0 ≡ getD (65535 ∷ []) k 0
     at zero m = e
     at (suc k) m = absurd (omega (arith, m))
-
-body-limited : (n : ℕ) (e : Expr) → BodyInForm of-check n e → Limited e n 128
-body-limited n e (form-body h) = limited-node _ 128 n h
 
 start-given : (R E T A S C S₁ C₁ : List ℕ) (count : ℕ) (p : Program) → Ready R E T A S C count p
     → length S₁ ≡ length S

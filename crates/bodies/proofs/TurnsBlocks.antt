@@ -20,7 +20,7 @@ use Rattle.bodies.specs.Acts.{PreOpen, PostOpen}
 use Rattle.bodies.specs.Cycle.{Proper, Limited, Views, Kept, Pre, Post, Is, PreList, PostItems}
 use Rattle.bodies.proofs.Turns.{Given, GivenAll, given-of, post-of, kept-then, kept-slots, room-next}
 use Rattle.bodies.proofs.Turns.{room-slots}
-use Rattle.bodies.proofs.Links.{pre-open, open-refused, open-done, block-is}
+use Rattle.bodies.proofs.BlockNode.{pre-open, open-refused, open-done, block-is}
 use Rattle.bodies.proofs.TurnsNodes.{by-block}
 use Rattle.bodies.proofs.TurnsLists.{list-pre}
 
