@@ -1,4 +1,5 @@
--- What the form and the heading pass give to the pass over bodies: limits of nodes, declared types of headings. Assumes nothing.
+-- What the form and the heading pass give to the pass over bodies: limits of nodes, declared types of headings.
+-- Assumes nothing.
 use mathlib.Core.Path.{_≡_, subst}
 use mathlib.Core.Bool.{true, _&&_, not}
 use mathlib.Core.Option.{some}
@@ -21,7 +22,7 @@ use Rattle.language.specs.Headings.{is-some, may-extend, may-override, check-fi
 use Rattle.language.specs.Headings.{check-effects, check-methods, check-class, check-classes}
 use Rattle.language.specs.WellFormed.{TypeInForm, Each, each-nil, each-cons, NodeInForm, NodesInForm}
 use Rattle.language.specs.WellFormed.{form-is-null, form-get, form-cast, form-assign, form-set, form-call}
-use Rattle.language.specs.WellFormed.{form-choose, form-block, form-cons}
+use Rattle.language.specs.WellFormed.{form-choose, form-block, form-cons, BodyInForm, form-body}
 use Rattle.bodies.specs.Cycle.{Limited, LimitedAll}
 
 -- ---- nodes
@@ -87,6 +88,10 @@ mutual
   limited-nodes nil d n h = tt
   limited-nodes (cons e es) d n (form-cons h h′) = (limited-node e d n h, limited-nodes es d n h′)
 
+-- a body in form is within the limits
+pub body-limited : (n : ℕ) (e : Expr) → BodyInForm of-check n e → Limited e n 128
+body-limited n e (form-body h) = limited-node _ 128 n h
+
 -- ---- headings
 
 parameters-declared : (P : List Class) (l : ℕ) (ts : List DeclaredType)
@@ -99,22 +104,21 @@ parameters-declared P l (u ∷ ts) h zero t e = require-inv (is-declared-type (w
 parameters-declared P l (u ∷ ts) h (suc i) t e = require-inv (is-declared-type (world P) u) 4 l _ h λ d q.
     parameters-declared P (l + 1) ts q i t e
 
-effects-low : (P : List Class) (last l : ℕ) (cs : List ℕ) → check-effects of-check P last l cs ≡ passed
-    → (i c : ℕ) → nth cs i ≡ some c → c ≤ length P
-unfolding check-effects nth world
-effects-low P last l [] h i c e = absurd (Never e)
-effects-low P last l (b ∷ cs) h zero c e = require-inv (is-declared (world P) b) 4 l _ h λ d q.
-    subst (λ (v : ℕ). v ≤ length P) (inj e) (leb-true b (length P) d)
-effects-low P last l (b ∷ cs) h (suc i) c e =
+effects-low : (P : List Class) (n last l : ℕ) (cs : List ℕ) → length P ≤ n
+    → check-effects of-check P last l cs ≡ passed → Each (λ c. c ≤ n) cs
+unfolding check-effects world
+effects-low P n last l [] m h = each-nil
+effects-low P n last l (b ∷ cs) m h =
     require-inv (is-declared (world P) b) 4 l _ h λ d q.
-    require-inv (is-root-class P b && ltb last b) 5 l _ q λ d′ q′. effects-low P b (l + 1) cs q′ i c e
+    require-inv (is-root-class P b && ltb last b) 5 l _ q λ d′ q′.
+    each-cons (omega (arith, m, leb-true b (length P) d)) (effects-low P n b (l + 1) cs m q′)
 
 pub heads-method : (P : List Class) (super : ℕ) (before : List Declaration) (l : ℕ) (m : Declaration)
     (ms : List Declaration)
     → check-methods of-check P super before l (m ∷ ms) ≡ passed
     → (is-declared-type (world P) (m .result) ≡ true)
     × ((i : ℕ) (t : DeclaredType) → nth (m .parameters) i ≡ some t → is-declared-type (world P) t ≡ true)
-    × ((i c : ℕ) → nth (m .effects) i ≡ some c → c ≤ length P)
+    × ((n : ℕ) → length P ≤ n → Each (λ c. c ≤ n) (m .effects))
     × (check-methods of-check P super (m ∷ before) (l + method-lines m) ms ≡ passed)
 unfolding check-methods
 heads-method P super before l m ms h =
@@ -126,7 +130,7 @@ heads-method P super before l m ms h =
     λ u′ p′ q₅. (
       d,
       parameters-declared P (l + 1) (m .parameters) p,
-      effects-low P 0 (l + 1 + length (m .parameters)) (m .effects) p′,
+      λ n k. effects-low P n 0 (l + 1 + length (m .parameters)) (m .effects) k p′,
       q₅,
     )
 

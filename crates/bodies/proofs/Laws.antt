@@ -1,7 +1,7 @@
 -- Laws of the numbers that the functions over tables give. Assumes nothing.
 use mathlib.Core.Path.{_≡_, refl, sym, ap, subst, _∙_}
 use mathlib.Core.Bool.{Bool, true, false, not, false≢true}
-use mathlib.Core.Logic.{_⊎_, inl, inr, ⊎-elim}
+use mathlib.Core.Logic.{⊎-elim}
 use mathlib.Core.List.{List}
 use Prim.Native.Nat.{ℕ, zero, suc, _+_, _-_, _*_, _/_, _^_, _≤_, _<_}
 use native.Mathlib.Omega.{arith}
@@ -11,14 +11,16 @@ use lib.Dec.{eqb}
 use lib.ListN.{length, getD, set, length-set}
 use lib.Seq.{getD-set-same, getD-set-other}
 use Rattle.language.specs.Effects.{member}
+use Rattle.language.specs.Layout.{Run}
 use Rattle.language.proofs.Effects.{member-mask}
 use Rattle.bodies.specs.declared.Typing.{Typing}
 use Rattle.bodies.specs.declared.Typing.the-variants.{Bool as bool-case, Class, Null, Refusal}
-use Rattle.bodies.specs.Tables.{PreNearest, Applicable, Run, CaseIn, root-in, applied, is-below}
+use Rattle.bodies.specs.Tables.{PreNearest, Applicable, CaseIn, root-in, applied, is-below}
 use Rattle.bodies.specs.Tables.{is-fitting}
 use Rattle.bodies.specs.Tables.{nearest-from, applied-number, joined-number, Known, a-class, a-bool}
 use Rattle.bodies.specs.Tables.{an-absence}
 use Rattle.bodies.specs.Tables.{Changed, Saved, Swapped, PreNumbers, PreJoin}
+use Rattle.bodies.proofs.Lists.{less-or-same}
 
 pub shifted-member : (φ c k : ℕ) → k ≡ c - 1 → eqb (bitAnd (φ / 2 ^ k) 1) 1 ≡ member φ c
 shifted-member φ c k e = ap (λ (x : ℕ). eqb (bitAnd (φ / 2 ^ x) 1) 1) e ∙ member-mask φ c
@@ -73,7 +75,7 @@ going-end {T} {A} {c} {d} {k} g b e f = sym (g .same ∙ go (g .n) (g .enough))
     go zero h = absurd (omega arith)
     go (suc n) h = rw (sym e, f)
 
-pub going-positive : (A : List ℕ) (d k : ℕ) (b : Bool) → b ≡ is-below A d k → b ≡ false → 1 ≤ k
+going-positive : (A : List ℕ) (d k : ℕ) (b : Bool) → b ≡ is-below A d k → b ≡ false → 1 ≤ k
 unfolding is-below
 going-positive A d zero b e f = absurd (false≢true (sym f ∙ e))
 going-positive A d (suc k) b e f = omega arith
@@ -100,13 +102,6 @@ going-step {T} {A} {c} {d} {k} p g b e f s q =
       low = omega
           (arith, g .low);
     }
-
-less-or-same : (i n : ℕ) → i ≤ n → (i < n) ⊎ (i ≡ n)
-less-or-same zero zero l = inr refl
-less-or-same zero (suc n) l = inl (omega arith)
-less-or-same (suc i) zero l = absurd (omega arith)
-less-or-same (suc i) (suc n) l =
-    ⊎-elim (λ h. inl (omega arith)) (λ h. inr (ap suc h)) (less-or-same i n (omega arith))
 
 -- rows of one letter
 pub run-more : {R : List ℕ} {letter from n : ℕ} → Run R letter from n → (i : ℕ) → i ≤ n

@@ -2,8 +2,8 @@
 use mathlib.Core.Path.{_≡_, refl, sym, ap, ap₂, subst, _∙_}
 use mathlib.Core.Bool.{Bool, true, false, false≢true}
 use mathlib.Core.Logic.{⊎-elim}
-use mathlib.Core.List.{List, [], _∷_, map}
-use Prim.Native.Nat.{ℕ, zero, suc, _+_, _-_, _*_, _≤_, _<_}
+use mathlib.Core.List.{List, [], _∷_}
+use Prim.Native.Nat.{ℕ, _+_, _*_, _≤_, _<_}
 use native.Mathlib.Omega.{arith}
 use borrow.Author.Tests.{eqb-false}
 use types.Run.{OneOf}
@@ -11,14 +11,15 @@ use denote.Enum.Declared.{tagOf}
 use lib.ListN.{length, getD}
 use Rattle.language.specs.Results.{Checked, accept, refuse, Pass, passed, accept≢refuse, bind-checked}
 use Rattle.language.specs.Results.{require}
-use Rattle.language.specs.Tree.{DeclaredType, type-number, Declaration, heading-lines, Class, size}
+use Rattle.language.specs.Rows.{P-parameter}
+use Rattle.language.specs.Tree.{type-number, Declaration, heading-lines, Class, size}
 use Rattle.language.specs.World.{World}
 use Rattle.language.specs.Effects.{within, effect-of-all}
 use Rattle.language.specs.Program.{world}
 use Rattle.language.specs.Typing.{Typed, Environment, method-environment, fits, type-of, type-method}
 use Rattle.language.specs.LookupClasses.{LooksUp}
 use Rattle.language.specs.Encoded.{Encoded}
-use Rattle.language.specs.Layout.{ParametersAt, body-row}
+use Rattle.language.specs.Layout.{Run, body-row}
 use Rattle.bodies.proofs.Typing.{the-type}
 use Rattle.bodies.specs.declared.Typing.{Typing}
 use Rattle.bodies.specs.declared.Typing.the-variants.{Bool as bool-case, Class as class-case, Null}
@@ -27,7 +28,7 @@ use Rattle.bodies.specs.declared.Answer.{Answer}
 use Rattle.bodies.specs.declared.Verdict.{Verdict}
 use Rattle.bodies.specs.declared.Verdict.the-variants.{Accepted, Refused}
 use Rattle.bodies.specs.Answers.{answer, answer-of, typing-case, verdict-of, is-refusal}
-use Rattle.bodies.specs.Tables.{Run, Runs, CaseIn, is-fitting}
+use Rattle.bodies.specs.Tables.{Runs, CaseIn, is-fitting}
 use Rattle.bodies.specs.Acts.{EffectLines, SomeEffects, EffectOf, CountOf}
 use Rattle.bodies.specs.Cycle.{Limited, Views, Room, Pre, Post, Is, Declared}
 use Rattle.bodies.specs.Whole.{PreEnter, PostEnter, FirstBlock, SomeBlock, MethodFacts, Spacious}
@@ -35,30 +36,27 @@ use Rattle.bodies.specs.Whole.{PostMethodBody}
 use Rattle.bodies.proofs.Worlds.{fitting-is}
 use Rattle.bodies.proofs.Turns.{case-low, type-low, accepted-of, not-refused}
 use Rattle.bodies.proofs.TurnsLetters.{head}
-use Rattle.bodies.proofs.TurnsLeaves.{type-number-case}
-use Rattle.bodies.proofs.Starts.{heading-first, heading-count, heading-lines-of, method-views}
-
--- types of P lines
-params-at : (R : List ℕ) (ts : List DeclaredType) (r : ℕ) → ParametersAt R ts r → (i : ℕ) → i < length ts
-    → getD R ((r + i) * 4 + 1) 0 ≡ getD (map type-number ts) i 0
-unfolding ParametersAt
-params-at R [] r n i l = absurd (omega arith)
-params-at R (t ∷ ts) r n zero l = let q : (r + 0) * 4 + 1 ≡ r * 4 + 1 = omega arith in
-    ap (λ (x : ℕ). getD R x 0) q ∙ n .0 .first
-params-at R (t ∷ ts) r n (suc i) l =
-    let q : (r + suc i) * 4 + 1 ≡ (r + 1 + i) * 4 + 1 = omega arith in ap (λ (x : ℕ). getD R x 0) q
-    ∙ params-at R ts (r + 1) (n .1) i (omega arith)
+use Rattle.bodies.proofs.TypeNumbers.{type-number-case}
+use Rattle.bodies.proofs.HeadingLines.{types-number, heading-run, heading-effects, heading-first}
+use Rattle.bodies.proofs.Starts.{method-views}
 
 module _ {R E T A : List ℕ} {count owner at : ℕ} {P : List Class} {m : Declaration}
     (f : MethodFacts R E T A count owner at P m) where
-  pub facts-run : Run R 80 (at + 1) (length (m .parameters))
-  facts-run = heading-count R E m at (f .layout) (f .block-line)
+  inside : body-row at m * 4 + 3 < length R
+  inside = head (m .body) (f .layout .body) .row
+
+  facts-run : Run R 80 (at + 1) (length (m .parameters))
+  facts-run = heading-run R (m .parameters) (m .effects) at (f .layout .parameters) (f .layout .effects)
+      inside
+      (f .block-line)
 
   pub facts-first : FirstBlock R at (body-row at m)
-  facts-first = heading-first R E m at (f .layout) (f .block-line)
+  facts-first = heading-first R (m .parameters) (m .effects) at (f .layout .parameters) (f .layout .effects)
+      inside (f .block-line)
 
-  pub facts-effects : EffectLines R (at + 1 + length (m .parameters)) (m .effects)
-  facts-effects = heading-lines-of R E m at (f .layout) (f .block-line) (f .effects)
+  facts-effects : EffectLines R (at + 1 + length (m .parameters)) (m .effects)
+  facts-effects = heading-effects R (m .parameters) (m .effects) at (f .layout .parameters)
+      (f .layout .effects) inside (f .block-line) (f .effects)
 
   pub facts-runs : Runs R 80 (at + 1)
   facts-runs = record { n = length (m .parameters); run = facts-run }
@@ -110,7 +108,7 @@ module _ {R E T A : List ℕ} {count owner at : ℕ} {P : List Class} {m : Decla
         (method-views P R T A count (f .headed) owner (f .owner-low) (m .parameters) (f .parameters) S₁
         (omega (arith, p .long, f .few, sp .slots)) (p .this)
         (λ i l. p .parameters i (omega (arith, en, l))
-        ∙ params-at R (m .parameters) (at + 1) (f .layout .parameters) i l))
+        ∙ types-number P-parameter R (m .parameters) (at + 1) (f .layout .parameters) i l))
 
     roomy : {S₁ : List ℕ} → length S₁ ≡ length S → Room R E S₁ C (n + 1) 256 128
     roomy e = record {
@@ -143,7 +141,7 @@ module _ {R E T A : List ℕ} {count owner at : ℕ} {P : List Class} {m : Decla
       room = roomy (p .long);
     }
 
-    pub facts-is : {S₁ S₂ C₂ : List ℕ} {r : Answer} → PostEnter R S S₁ owner (at + 1) n
+    facts-is : {S₁ S₂ C₂ : List ℕ} {r : Answer} → PostEnter R S S₁ owner (at + 1) n
         → Post R E T A S₁ C S₂ C₂ count body (n + 1) 256 r
         → Is (world P) (m .body) (method-environment owner (m .parameters)) (body-row at m) (n + 1) S₂ C₂ r
     facts-is {S₁} {S₂} {C₂} {r} p q =
@@ -155,7 +153,7 @@ module _ {R E T A : List ℕ} {count owner at : ℕ} {P : List Class} {m : Decla
     facts-end : getD E body 0 ≡ body-row at m + size (m .body)
     facts-end = ap (λ (x : ℕ). getD E x 0) eb ∙ head (m .body) (f .layout .body) .end
 
-    pub facts-kept : {S₁ S₂ C₂ : List ℕ} {r : Answer} → Post R E T A S₁ C S₂ C₂ count body (n + 1) 256 r
+    facts-kept : {S₁ S₂ C₂ : List ℕ} {r : Answer} → Post R E T A S₁ C S₂ C₂ count body (n + 1) 256 r
         → ((i : ℕ) → i < body-row at m → getD C₂ i 0 ≡ getD C i 0)
         × ((i : ℕ) → body-row at m + size (m .body) ≤ i → getD C₂ i 0 ≡ getD C i 0)
     facts-kept q = (

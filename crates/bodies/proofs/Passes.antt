@@ -2,7 +2,7 @@
 use mathlib.Core.Path.{_≡_, refl, sym, ap, ap₂, subst, _∙_}
 use mathlib.Core.Bool.{true, false, false≢true}
 use mathlib.Core.List.{List, [], _∷_}
-use Prim.Native.Nat.{ℕ, suc, _+_, _-_, _*_, _<_}
+use Prim.Native.Nat.{ℕ, suc, _+_, _*_, _<_}
 use native.Mathlib.Omega.{arith}
 use types.Run.{OneOf}
 use denote.Enum.Declared.{tagOf}
@@ -21,22 +21,19 @@ use Rattle.bodies.specs.declared.Answer.{Answer}
 use Rattle.bodies.specs.declared.Verdict.{Verdict}
 use Rattle.bodies.specs.declared.Verdict.the-variants.{Accepted, Refused}
 use Rattle.bodies.specs.Answers.{answer-of, verdict-of, is-refusal}
-use Rattle.bodies.specs.Cycle.{Limited, Pre, Post, Is}
+use Rattle.bodies.specs.Cycle.{Pre, Post, Is}
 use Rattle.bodies.specs.Whole.{MethodFacts, Spacious, PreMethodBody, PreLine, PostLine, class-next}
 use Rattle.bodies.specs.Whole.{PreNext, PostNext, Ready, BodiesAre, BodiesDone}
 use Rattle.bodies.proofs.Turns.{accepted-of, not-refused}
 use Rattle.bodies.proofs.TurnsLetters.{head}
-use Rattle.bodies.proofs.Forms.{limited-node}
+use Rattle.bodies.proofs.Forms.{body-limited}
 use Rattle.bodies.proofs.Methods.{facts-first, facts-block, not-passed, not-refusal}
 use Rattle.bodies.proofs.WholeLaws.{class-more, class-same, first-unique}
 use Rattle.bodies.proofs.Walk.{Walk, AtMethod, AtEnd, Spot, at-field, at-method, at-class, at-end}
 use Rattle.bodies.proofs.Walk.{spot, walk-start}
 use Rattle.bodies.proofs.Starts.{start-pre, start-is}
 
--- a body in form is a block within the limits
-body-limited : (n : ℕ) (e : Expr) → BodyInForm of-check n e → Limited e n 128
-body-limited n e (form-body x) = limited-node e 128 n x
-
+-- a body in form is a block
 body-block : (R E : List ℕ) (n : ℕ) (e : Expr) (r : ℕ) → BodyInForm of-check n e → Encoded R E e r
     → getD R (r * 4) 0 ≡ 66
 unfolding Encoded
@@ -99,7 +96,7 @@ module _ {R E T A S C S′ C′ : List ℕ} {count at k : ℕ} (w : Going R E T 
     few = a .form .few;
     result = a .result;
     parameters = a .parameters;
-    effects = λ i c e. omega (arith, a .effects i c e, counted, r .headed .classes .few);
+    effects = a .effects 64 (omega (arith, counted, r .headed .classes .few));
   }
 
   pub going-inside : at * 4 + 3 < length R

@@ -1,4 +1,5 @@
--- How answers follow one another in the cycle: what is given of a node, its children, and what stays. Assumes nothing.
+-- How answers follow one another in the cycle: what is given of a node, its children, and what stays.
+-- Assumes nothing.
 use mathlib.Core.Path.{_≡_, refl, sym, ap, subst, _∙_}
 use mathlib.Core.Bool.{true, false, false≢true}
 use mathlib.Core.List.{List}
@@ -140,8 +141,7 @@ kept-slots e f = record {
   classes-long = refl;
   between = f;
   before = λ i l. refl;
-  after =
-      λ i l. refl;
+  after = λ i l. refl;
 }
 
 -- the table changes in one row only
@@ -232,6 +232,10 @@ case-low (known (class c)) h d =
 case-low null-type h d = tt
 
 -- ---- answers
+
+-- The answer of an accepted child.
+abbrev pub answered : Typed → Answer
+answered a = answer (typing-case (a .type)) (a .effect)
 
 -- an answer that is no refusal is an accepted one
 pub accepted-of : {X : Type 0} (q : Checked Typed) {r : Answer} → r ≡ answer-of q

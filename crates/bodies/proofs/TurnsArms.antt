@@ -18,7 +18,7 @@ use Rattle.bodies.specs.Cycle.{Limited, Views, Room, Kept, Pre, Post, Is
 use Rattle.bodies.proofs.Turns.{Given, given-of, pre-of, post-of, in-row, kept-then, kept-slots}
 use Rattle.bodies.proofs.Turns.{room-next, room-child, views-same, is-refused, bind-refused}
 use Rattle.bodies.proofs.Turns.{bind-accepted, looks-kept}
-use Rattle.bodies.proofs.Links.{pre-choice, choose-is}
+use Rattle.bodies.proofs.ChooseNode.{pre-choice, choose-is}
 use Rattle.bodies.proofs.TurnsNodes.{did, failed, kept-in, row-of, by-choose}
 
 module _ {R E T A S C : List ℕ} {count at scope top : ℕ} {P : List Class} {γ : Environment} {d : ℕ}

@@ -5,14 +5,14 @@ use mathlib.Core.List.{List, map}
 use Prim.Native.Nat.{ℕ, _+_, _-_, _*_, _≤_}
 use native.Mathlib.Omega.{arith}
 use lib.ListN.{length, getD}
-use Rattle.language.specs.Rows.{B-block}
+use Rattle.language.specs.Rows.{B-block, V-local}
 use Rattle.language.specs.Results.{bind-checked, passed}
 use Rattle.language.specs.Frames.{opened}
 use Rattle.language.specs.Tree.{DeclaredType, null-type, Class, block, Exprs, sizes, count as how-many}
 use Rattle.language.specs.Effects.{join}
 use Rattle.language.specs.Program.{world}
 use Rattle.language.specs.Typing.{Environment, typed, last-type, fresh-slot, locals-declared, type-all}
-use Rattle.language.specs.Encoded.{NodeAt, LocalsAt, Encoded}
+use Rattle.language.specs.Encoded.{NodeAt, TypesAt, Encoded}
 use Rattle.bodies.specs.declared.Answer.{Answer}
 use Rattle.bodies.specs.declared.Typing.the-variants.{Null}
 use Rattle.bodies.specs.Answers.{answer, answer-of, is-refusal}
@@ -20,7 +20,7 @@ use Rattle.bodies.specs.Acts.{PreOpen, PostOpen}
 use Rattle.bodies.specs.Cycle.{Proper, Limited, Views, Kept, Pre, Post, Is, PreList, PostItems}
 use Rattle.bodies.proofs.Turns.{Given, GivenAll, given-of, post-of, kept-then, kept-slots, room-next}
 use Rattle.bodies.proofs.Turns.{room-slots}
-use Rattle.bodies.proofs.Links.{pre-open, open-refused, open-done, block-is}
+use Rattle.bodies.proofs.BlockNode.{pre-open, open-refused, open-done, block-is}
 use Rattle.bodies.proofs.TurnsNodes.{by-block}
 use Rattle.bodies.proofs.TurnsLists.{list-pre}
 
@@ -31,7 +31,7 @@ module _ {R E T A S C : List ℕ} {count at scope top : ℕ} {P : List Class} {�
   unfolding Encoded
   block-row = g .encoded .0
 
-  block-locals : LocalsAt R ts (at + 1)
+  block-locals : TypesAt V-local R ts (at + 1)
   unfolding Encoded
   block-locals = g .encoded .1
 

@@ -22,7 +22,7 @@ use Rattle.bodies.proofs.Typings.{looks-frame}
 use Rattle.bodies.proofs.Turns.{Given, GivenAll, given-of, pre-of, post-of, in-row, kept-then}
 use Rattle.bodies.proofs.Turns.{kept-slots, kept-classes, room-next, room-child, room-slots}
 use Rattle.bodies.proofs.Turns.{is-refused, bind-refused, bind-accepted}
-use Rattle.bodies.proofs.Links.{invoked-kept, pre-invoke, call-is, many-is}
+use Rattle.bodies.proofs.CallNode.{invoked-kept, pre-invoke, call-is, many-is}
 use Rattle.bodies.proofs.TurnsNodes.{did, failed, after-row, kept-in, row-of, by-call}
 use Rattle.bodies.proofs.TurnsLists.{list-pre, all-refused, all-accepted}
 

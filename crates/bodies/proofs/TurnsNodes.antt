@@ -1,37 +1,29 @@
--- Each node's children, and the functions expression, unary and write. Assumes nothing.
-use mathlib.Core.Path.{_≡_, refl, sym, ap, _∙_}
+-- Each node's children, and the node that a letter tells. Assumes nothing.
+use mathlib.Core.Path.{_≡_, sym, _∙_}
 use mathlib.Core.Bool.{true, false}
-use mathlib.Core.Logic.{inl, inr, ⊎-elim}
 use mathlib.Core.List.{List}
 use Prim.Native.Nat.{ℕ, _+_, _-_, _*_, _≤_, _<_}
 use native.Mathlib.Omega.{arith}
-use lib.ListN.{length, getD}
-use Rattle.language.specs.Rows.{U-set, R-change}
-use Rattle.language.specs.Results.{Checked, accept, refuse}
-use Rattle.language.specs.Tree.{DeclaredType, bool, class, ExprType, known, null-type, Class, Expr}
-use Rattle.language.specs.Tree.{literal-true, literal-false, literal-null, slot, is-null, get, cast, new}
-use Rattle.language.specs.Tree.{change, assign, set, call, choose, block, Exprs, size}
+use lib.ListN.{getD}
+use Rattle.language.specs.Results.{accept, refuse}
+use Rattle.language.specs.Tree.{DeclaredType, Class, Expr, literal-true, literal-false, literal-null, slot}
+use Rattle.language.specs.Tree.{is-null, get, cast, new, change, assign, set, call, choose, block, Exprs}
+use Rattle.language.specs.Tree.{size}
 use Rattle.language.specs.World.{World}
 use Rattle.language.specs.Program.{world}
 use Rattle.language.specs.Typing.{Environment, Typed, type-of}
-use Rattle.language.specs.Encoded.{RowAt, NodeAt, Encoded}
+use Rattle.language.specs.Encoded.{Encoded}
 use Rattle.bodies.specs.declared.Answer.{Answer}
-use Rattle.bodies.specs.declared.Typing.the-variants.{Bool as bool-case, Class as class-case, Null}
 use Rattle.bodies.specs.declared.Typing.the-variants.{Refusal}
-use Rattle.bodies.specs.Answers.{answer, typing-case, is-refusal}
-use Rattle.bodies.specs.Tables.{Headed, CaseIn}
-use Rattle.bodies.specs.Nodes.{In-row, null-tested, created, slot-read, cast-answer, assigned}
-use Rattle.bodies.specs.Nodes.{PreAssign, got, got-classes, PreGet, PreField}
-use Rattle.bodies.specs.Acts.{PreChange, PostChange}
-use Rattle.bodies.specs.Cycle.{Unary, Limited, Room, Kept, Pre, Post, Accepted, Is}
+use Rattle.bodies.specs.Answers.{answer, is-refusal}
+use Rattle.bodies.specs.Cycle.{Limited, Kept, Pre, Post, Accepted}
 use Rattle.bodies.proofs.TurnsLetters
-use Rattle.bodies.proofs.TurnsLetters.{code-of, head, Head, size-positive}
-use Rattle.bodies.proofs.Turns.{Given, given-of, pre-of, post-is, post-of, in-row, kept-wider}
-use Rattle.bodies.proofs.Turns.{kept-then, kept-none, kept-slots, kept-classes, room-next, room-child}
-use Rattle.bodies.proofs.Turns.{room-kept, room-slots, type-low, case-low, accepted-of, refused-of}
-use Rattle.bodies.proofs.TurnsLeaves.{slot-low, field-pre, true-is, false-is, null-literal-is, slot-is}
-use Rattle.bodies.proofs.TurnsLeaves.{new-node-is, is-null-is, cast-is, assign-is, get-is, got-kept}
-use Rattle.bodies.proofs.Links.{answered, pre-change, change-is}
+use Rattle.bodies.proofs.TurnsLetters.{code-of, Head, head, size-positive, as-literal-true}
+use Rattle.bodies.proofs.TurnsLetters.{as-literal-false, as-literal-null, as-slot, as-is-null, as-get}
+use Rattle.bodies.proofs.TurnsLetters.{as-cast, as-new, as-change, as-assign, as-set, as-call}
+use Rattle.bodies.proofs.TurnsLetters.{as-choose, as-block}
+use Rattle.bodies.proofs.Turns.{Given, post-is, kept-wider, room-child, answered, accepted-of}
+use Rattle.bodies.proofs.Turns.{refused-of}
 
 -- ---- a child that was accepted, or refused
 
@@ -89,8 +81,7 @@ module _ {R E T A S C : List ℕ} {count at scope top : ℕ} {P : List Class} {�
     headed = g .headed;
     encoded = g .encoded .1;
     limited = g .limited .1;
-    views =
-        g .views;
+    views = g .views;
     room = room-child (g .room) (g .limited .0);
   }
 
@@ -101,8 +92,7 @@ module _ {R E T A S C : List ℕ} {count at scope top : ℕ} {P : List Class} {�
     headed = g .headed;
     encoded = g .encoded .1;
     limited = g .limited .2;
-    views =
-        g .views;
+    views = g .views;
     room = room-child (g .room) (g .limited .0);
   }
 
@@ -118,8 +108,7 @@ module _ {R E T A S C : List ℕ} {count at scope top : ℕ} {P : List Class} {�
     headed = g .headed;
     encoded = g .encoded .1;
     limited = g .limited .1;
-    views =
-        g .views;
+    views = g .views;
     room = room-child (g .room) (g .limited .0);
   }
 
@@ -135,8 +124,7 @@ module _ {R E T A S C : List ℕ} {count at scope top : ℕ} {P : List Class} {�
     headed = g .headed;
     encoded = g .encoded .1;
     limited = g .limited .1;
-    views =
-        g .views;
+    views = g .views;
     room = room-child (g .room) (g .limited .0);
   }
 
@@ -144,37 +132,6 @@ module _ {R E T A S C : List ℕ} {count at scope top : ℕ} {P : List Class} {�
       → getD R (at * 4 + 1) 0 ≡ k
   unfolding Encoded
   assign-row g = g .encoded .0 .row .first
-
-  pub set-first : {f : ℕ} {e e′ : Expr} → Given R E T A S C count at scope top P (set f e e′) γ d
-      → Given R E T A S C count (at + 1) scope top P e γ (d - 1)
-  unfolding Encoded Limited
-  set-first g = record {
-    headed = g .headed;
-    encoded = g .encoded .1;
-    limited = g .limited .2;
-    views =
-        g .views;
-    room = room-child (g .room) (g .limited .0);
-  }
-
-  pub set-second : {f : ℕ} {e e′ : Expr} {S′ C′ : List ℕ} {x : Answer} {from to : ℕ}
-      → Given R E T A S C count at scope top P (set f e e′) γ d → Kept S S′ C C′ from to top
-      → (w : Did (world P) e γ (at + 1) scope S′ C′ x)
-      → Given R E T A S′ C′ count (at + 1 + size e) scope top P e′ (w .a .slots) (d - 1)
-  unfolding Encoded Limited
-  set-second g k w = record {
-    headed = g .headed;
-    encoded = g .encoded .2;
-    limited = g .limited .3;
-    views =
-        w .accepted .views;
-    room = room-kept (room-child (g .room) (g .limited .0)) k;
-  }
-
-  pub set-row : {f : ℕ} {e e′ : Expr} → Given R E T A S C count at scope top P (set f e e′) γ d
-      → NodeAt R E at U-set f 0 (1 + size e + size e′) × (f < 256)
-  unfolding Encoded Limited
-  set-row g = (g .encoded .0, g .limited .1)
 
 -- a node that the letter tells
 module _ {R E T A S C : List ℕ} {count at scope top : ℕ} {P : List Class} {γ : Environment} {d : ℕ} where
@@ -274,180 +231,3 @@ module _ {R E T A S C : List ℕ} {count at scope top : ℕ} {P : List Class} {�
   by-block z g l Q q =
       TurnsLetters.as-block z (letter-of z g 66 l) (λ w. Given R E T A S C count at scope top P w γ d → Q w) q
       g
-
--- ---- the leaves of `expression`
-
-module _ {R E T A S C : List ℕ} {count at scope top : ℕ} (p : Pre R E T A S C count at scope top) where
-  pub leaf-row : In-row R at
-  leaf-row = let i = in-row p in (i .0, omega (arith, i .3))
-
-  pub leaf-slots : scope ≤ length S
-  leaf-slots = room-slots (p .room)
-
-  pub change-pre : getD R (at * 4) 0 ≡ 82 → PreChange R T S count at scope
-  unfolding Encoded
-  change-pre l = by-change (p .e) (given-of p) l (λ _. PreChange R T S count at scope) λ k c g.
-      pre-change (g .headed) (g .room .rows) k c at scope (p .γ) S (change-row g) (g .views)
-      (room-slots (g .room))
-    where
-      change-row : {k c : ℕ} → Given R E T A S C count at scope top (p .P) (change k c) (p .γ) (p .d)
-          → RowAt R at R-change k c
-      change-row g = g .encoded .row
-
-module _ {R E T A S C : List ℕ} {count at scope top : ℕ} where
-  pub true-post : {r : Answer} → getD R (at * 4) 0 ≡ 84 → r ≡ answer bool-case 0
-      → Post R E T A S C S C count at scope top r
-  true-post {r} l e = post-of kept-none λ P x γ d g.
-      by-literal-true x g l (λ w. Is (world P) w γ at scope S C r) λ g.
-      rw e (true-is (world P) (g .views))
-
-  pub false-post : {r : Answer} → getD R (at * 4) 0 ≡ 76 → r ≡ answer bool-case 0
-      → Post R E T A S C S C count at scope top r
-  false-post {r} l e = post-of kept-none λ P x γ d g.
-      by-literal-false x g l (λ w. Is (world P) w γ at scope S C r) λ g.
-      rw e (false-is (world P) (g .views))
-
-  pub null-post : {r : Answer} → getD R (at * 4) 0 ≡ 78 → r ≡ answer Null 0
-      → Post R E T A S C S C count at scope top r
-  null-post {r} l e = post-of kept-none λ P x γ d g.
-      by-literal-null x g l (λ w. Is (world P) w γ at scope S C r) λ g.
-      rw e (null-literal-is (world P) (g .views))
-
-  pub slot-post : {r : Answer} → getD R (at * 4) 0 ≡ 73 → r ≡ slot-read R S at scope
-      → Post R E T A S C S C count at scope top r
-  unfolding Encoded
-  slot-post {r} l e = post-of kept-none λ P x γ d g.
-      by-slot x g l (λ w. Is (world P) w γ at scope S C r) λ k g.
-      slot-is (g .headed) k at r (g .views) (room-slots (g .room)) (g .encoded .row .first) e
-
-  pub new-post : {r : Answer} → getD R (at * 4) 0 ≡ 87
-      → r ≡ created R count at → Post R E T A S C S C count at scope top r
-  unfolding Encoded
-  new-post {r} l e = post-of kept-none λ P x γ d g. by-new x g l (λ w. Is (world P) w γ at scope S C r) λ c g.
-      new-node-is (g .headed) c at r (g .views) (g .encoded .row .first) e
-
-  pub change-post : {S′ : List ℕ} {r : Answer} → Room R E S C scope top 0 → getD R (at * 4) 0 ≡ 82
-      → PostChange R T S S′ count at scope r
-      → Post R E T A S C S′ C count at scope top r
-  unfolding Encoded
-  change-post {S′} {r} m l q =
-      post-of (kept-slots (q .long) (λ i u v. q .rest i (omega (arith, m .scoped)))) λ P x γ d g.
-      by-change x g l (λ w. Is (world P) w γ at scope S′ C r) λ k c g.
-      change-is (g .headed) (g .room .rows) k c at scope γ S S′ C r (g .encoded .row) (g .views)
-      (room-slots (g .room)) q
-
--- ---- `unary`
-
-pub room-none : {R E S C : List ℕ} {scope top d : ℕ} → Room R E S C scope top d → Room R E S C scope top 0
-room-none {scope = scope} {top} {d} m =
-    room-next scope top 0 m refl refl (m .this) (m .scoped) (m .above) (omega arith)
-
-unary-case : (R : List ℕ) (at : ℕ) {X : Type 0} → Unary R at → (getD R (at * 4) 0 ≡ 90 → X)
-    → (getD R (at * 4) 0 ≡ 71 → X) → (getD R (at * 4) 0 ≡ 75 → X) → (getD R (at * 4) 0 ≡ 65 → X) → X
-unary-case R at u a b c d = ⊎-elim a (λ v. ⊎-elim b (λ w. ⊎-elim c d w) v) u
-
-pub unary-assign : {R E T A S C : List ℕ} {count at scope top : ℕ} → Pre R E T A S C count at scope top
-    → Unary R at → (getD R (at * 4) 0 ≡ 90 → ⊥) → (getD R (at * 4) 0 ≡ 71 → ⊥) → (getD R (at * 4) 0 ≡ 75 → ⊥)
-    → getD R (at * 4) 0 ≡ 65
-unary-assign {R} {at = at} p u a b c =
-    unary-case R at u (λ e. absurd (a e)) (λ e. absurd (b e)) (λ e. absurd (c e)) (λ e. e)
-
-module _ {R E T A S C : List ℕ} {count at scope top : ℕ} where
-  pub unary-first : Unary R at → Pre R E T A S C count at scope top → Pre R E T A S C count (at + 1) scope top
-  unary-first u p = unary-case R at u
-      (λ l. by-is-null (p .e) (given-of p) l (λ _. Pre R E T A S C count (at + 1) scope top) λ e g.
-      pre-of (is-null-child g))
-      (λ l. by-get (p .e) (given-of p) l (λ _. Pre R E T A S C count (at + 1) scope top) λ f e g.
-      pre-of (get-child g))
-      (λ l. by-cast (p .e) (given-of p) l (λ _. Pre R E T A S C count (at + 1) scope top) λ c e g.
-      pre-of (cast-child g))
-      (λ l. by-assign (p .e) (given-of p) l (λ _. Pre R E T A S C count (at + 1) scope top) λ k e g.
-      pre-of (assign-child g))
-
-  module _ {S′ C′ : List ℕ} (p : Pre R E T A S C count at scope top) {x : Answer}
-      (q : Post R E T A S C S′ C′ count (at + 1) scope top x) where
-    unary-kept : Unary R at → Kept S S′ C C′ at (getD E at 0) top
-    unfolding size
-    unary-kept u = unary-case R at u
-        (λ l. by-is-null (p .e) (given-of p) l (λ _. Kept S S′ C C′ at (getD E at 0) top) λ e g.
-        kept-in top (row-of g) (row-of (is-null-child g)) (omega arith) (omega arith) (omega arith) (q .kept))
-        (λ l. by-get (p .e) (given-of p) l (λ _. Kept S S′ C C′ at (getD E at 0) top) λ f e g.
-        kept-in top (row-of g) (row-of (get-child g)) (omega arith) (omega arith) (omega arith) (q .kept))
-        (λ l. by-cast (p .e) (given-of p) l (λ _. Kept S S′ C C′ at (getD E at 0) top) λ c e g.
-        kept-in top (row-of g) (row-of (cast-child g)) (omega arith) (omega arith) (omega arith) (q .kept))
-        (λ l. by-assign (p .e) (given-of p) l (λ _. Kept S S′ C C′ at (getD E at 0) top) λ k e g.
-        kept-in top (row-of g) (row-of (assign-child g)) (omega arith) (omega arith) (omega arith) (q .kept))
-
-    pub is-null-post : {r : Answer} → getD R (at * 4) 0 ≡ 90 → r ≡ null-tested at (x .typing) (x .effect)
-        → Post R E T A S C S′ C′ count at scope top r
-    is-null-post {r} l e = post-of (unary-kept (inl l)) λ P z γ d g.
-        by-is-null z g l (λ w. Is (world P) w γ at scope S′ C′ r) λ e′ g.
-        is-null-is (g .headed) at x r (post-is q (is-null-child g)) e
-
-    pub cast-post : {r : Answer} → getD R (at * 4) 0 ≡ 75 → r ≡ cast-answer R count at x
-        → Post R E T A S C S′ C′ count at scope top r
-    cast-post {r} l e = post-of (unary-kept (inr (inr (inl l)))) λ P z γ d g.
-        by-cast z g l (λ w. Is (world P) w γ at scope S′ C′ r) λ c e′ g.
-        cast-is (g .headed) c at x r (cast-row g) (post-is q (cast-child g)) e
-
-    pub assign-post : {r : Answer} → getD R (at * 4) 0 ≡ 65 → r ≡ assigned R A S′ at scope x
-        → Post R E T A S C S′ C′ count at scope top r
-    assign-post {r} l e = post-of (unary-kept (inr (inr (inr l)))) λ P z γ d g.
-        by-assign z g l (λ w. Is (world P) w γ at scope S′ C′ r) λ k e′ g.
-        assign-is (g .headed) k at x r (assign-row g) (room-slots (room-kept (g .room) (q .kept)))
-        (post-is q (assign-child g)) e
-
-    pub get-post : {C″ : List ℕ} {r : Answer} → getD R (at * 4) 0 ≡ 71
-        → r ≡ got R T at (x .typing) (x .effect) → C″ ≡ got-classes R T C′ at (x .typing)
-        → Post R E T A S C S′ C″ count at scope top r
-    get-post {C″} {r} l e f =
-        let k = got-kept (p .headed) C′ at (x .typing) in
-        let h = head (p .e) (p .encoded) in
-        post-of (kept-then (unary-kept (inr (inl l)))
-        (kept-classes at (ap length f ∙ k .0) (λ i n. ap (λ (w : List ℕ). getD w i 0) f ∙ k .1 i n)
-        (omega arith) (omega (arith, h .end, size-positive (p .e)))))
-        λ P z γ d g. by-get z g l (λ w. Is (world P) w γ at scope S′ C″ r) λ n e′ g.
-        get-is (g .headed) n at x r (get-row g .0) (get-row g .1)
-        (omega (arith, h .in-ends, g .room .nodes, q .kept .classes-long)) (post-is q (get-child g)) e f
-
-    -- what G and A need
-    case-class : (t : ExprType) (c : ℕ) → typing-case t ≡ class-case c → t ≡ known (class c)
-    case-class (known bool) c e = absurd (let z : _≡_ {A = ℕ} 0 1 = cc in omega arith)
-    case-class (known (class k)) c e = let z : k ≡ c = cc in ap (λ (n : ℕ). known (class n)) z
-    case-class null-type c e = absurd (let z : _≡_ {A = ℕ} 0 1 = cc in omega arith)
-
-    pub get-pre : getD R (at * 4) 0 ≡ 71 → PreGet R T C′ at (x .typing)
-    get-pre l =
-        let i = in-row p in
-        record {
-          row = leaf-row p;
-          noted-at = omega (arith, i .1, i .2, q .kept .classes-long);
-          field = λ c e. by-get (p .e) (given-of p) l (λ _. PreField R T c (getD R (at * 4 + 1) 0) × (c ≤ 64))
-              λ f e′ g.
-              let w = did (get-child g) q (ap is-refusal e) in
-              let t = case-class (w .a .type) c (sym (ap (λ (y : Answer). y .typing) (w .is)) ∙ e) in
-              let n = type-low (w .a .type) (g .headed) (w .accepted .declared) c t in (
-                rw (get-row g .0) (field-pre (g .headed) c f n (get-row g .1)),
-                omega (arith, n, g .headed .classes .few),
-              );
-        }
-
-    answer-in : {P : List Class} {γ : Environment} {e : Expr} → Headed P R T A count
-        → Is (world P) e γ (at + 1) scope S′ C′ x → CaseIn (length A) (x .typing)
-    answer-in {P} {γ} {e} h i = go (type-of (world P) e (at + 1 + 1) γ) refl
-      where
-        go : (w : Checked Typed) → type-of (world P) e (at + 1 + 1) γ ≡ w → CaseIn (length A) (x .typing)
-        go (accept a) f = rw (i .out, f) (case-low (a .type) h (i .accepted a f .declared))
-        go (refuse n l) f = rw (i .out, f) tt
-
-    pub assign-pre : getD R (at * 4) 0 ≡ 65 → PreAssign R A S′ at scope (x .typing)
-    assign-pre l = by-assign (p .e) (given-of p) l (λ _. PreAssign R A S′ at scope (x .typing)) λ k e g.
-        let ls = room-slots (room-kept (g .room) (q .kept)) in
-        record {
-          row = leaf-row p;
-          scoped = ls;
-          value = answer-in (g .headed) (post-is q (assign-child g));
-          slot = λ f z m n.
-              let w = did (assign-child g) q f in
-              slot-low (g .headed) (w .accepted .views) ls (getD R (at * 4 + 1) 0) z m n;
-        }

@@ -2,21 +2,55 @@
 use mathlib.Core.Path.{_≡_, refl, sym, ap, subst, _∙_}
 use mathlib.Core.Bool.{true, false}
 use mathlib.Core.List.{List}
-use Prim.Native.Nat.{ℕ, _+_, _*_, _<_}
+use Prim.Native.Nat.{ℕ, _+_, _-_, _*_, _<_}
 use native.Mathlib.Omega.{arith}
 use lib.ListN.{length, getD}
 use Rattle.language.specs.Tree.{Class, Expr, set, size}
+use Rattle.language.specs.Rows.{U-set}
 use Rattle.language.specs.Program.{world}
 use Rattle.language.specs.Typing.{Environment, type-of}
+use Rattle.language.specs.Encoded.{NodeAt, Encoded}
 use Rattle.bodies.specs.declared.Answer.{Answer}
 use Rattle.bodies.specs.Answers.{is-refusal}
 use Rattle.bodies.specs.Acts.{PrePut, put, put-classes}
-use Rattle.bodies.specs.Cycle.{Kept, Pre, Post, Is}
+use Rattle.bodies.specs.Cycle.{Limited, Kept, Pre, Post, Is}
 use Rattle.bodies.proofs.Turns.{Given, given-of, pre-of, post-of, in-row, kept-then, kept-classes}
-use Rattle.bodies.proofs.Turns.{is-refused, bind-refused, bind-accepted, looks-kept}
-use Rattle.bodies.proofs.Links.{put-kept, pre-put, set-is}
-use Rattle.bodies.proofs.TurnsNodes.{did, failed, after-row, kept-in, row-of, set-first, set-second}
-use Rattle.bodies.proofs.TurnsNodes.{set-row, by-set}
+use Rattle.bodies.proofs.Turns.{room-child, room-kept, is-refused, bind-refused, bind-accepted}
+use Rattle.bodies.proofs.Turns.{looks-kept}
+use Rattle.bodies.proofs.SetNode.{put-kept, pre-put, set-is}
+use Rattle.bodies.proofs.TurnsNodes.{Did, did, failed, after-row, kept-in, row-of}
+use Rattle.bodies.proofs.TurnsNodes.{by-set}
+
+-- its children, and its row
+module _ {R E T A S C : List ℕ} {count at scope top : ℕ} {P : List Class} {γ : Environment} {d : ℕ} where
+  set-first : {f : ℕ} {e e′ : Expr} → Given R E T A S C count at scope top P (set f e e′) γ d
+      → Given R E T A S C count (at + 1) scope top P e γ (d - 1)
+  unfolding Encoded Limited
+  set-first g = record {
+    headed = g .headed;
+    encoded = g .encoded .1;
+    limited = g .limited .2;
+    views = g .views;
+    room = room-child (g .room) (g .limited .0);
+  }
+
+  set-second : {f : ℕ} {e e′ : Expr} {S′ C′ : List ℕ} {x : Answer} {from to : ℕ}
+      → Given R E T A S C count at scope top P (set f e e′) γ d → Kept S S′ C C′ from to top
+      → (w : Did (world P) e γ (at + 1) scope S′ C′ x)
+      → Given R E T A S′ C′ count (at + 1 + size e) scope top P e′ (w .a .slots) (d - 1)
+  unfolding Encoded Limited
+  set-second g k w = record {
+    headed = g .headed;
+    encoded = g .encoded .2;
+    limited = g .limited .3;
+    views = w .accepted .views;
+    room = room-kept (room-child (g .room) (g .limited .0)) k;
+  }
+
+  set-row : {f : ℕ} {e e′ : Expr} → Given R E T A S C count at scope top P (set f e e′) γ d
+      → NodeAt R E at U-set f 0 (1 + size e + size e′) × (f < 256)
+  unfolding Encoded Limited
+  set-row g = (g .encoded .0, g .limited .1)
 
 module _ {R E T A S C : List ℕ} {count at scope top : ℕ} (p : Pre R E T A S C count at scope top)
     (l : getD R (at * 4) 0 ≡ 85) where

@@ -205,3 +205,11 @@ module _ (W : World) (C C′ : List ℕ) where
       looks-frame e γ r (λ i l m. s i l (omega arith)) (h .0),
       looks-frame-all es _ (r + size e) (λ i l m. s i (omega arith) (omega arith)) (h .1),
     )
+
+-- a class that is needed
+pub class-inv : {B X : Type 0} (t : ExprType) (n l : ℕ) (k : ℕ → Checked B) {b : B}
+    → need-class t n l k ≡ accept b → ((c : ℕ) → t ≡ known (class c) → k c ≡ accept b → X) → X
+unfolding need-class
+class-inv (known bool) n l k e f = absurd (accept≢refuse n l e)
+class-inv (known (class c)) n l k e f = f c refl e
+class-inv null-type n l k e f = absurd (accept≢refuse n l e)

@@ -3,7 +3,7 @@ use mathlib.Core.Path.{_≡_, refl, sym, ap, ap₂, subst, _∙_}
 use mathlib.Core.Bool.{true}
 use mathlib.Core.Option.{some}
 use mathlib.Core.List.{List, [], _∷_}
-use Prim.Native.Nat.{ℕ, suc, _+_, _-_, _*_, _≤_, _<_}
+use Prim.Native.Nat.{ℕ, suc, _+_, _*_, _≤_, _<_}
 use native.Mathlib.Omega.{arith}
 use lib.ListN.{length, getD}
 use Rattle.language.specs.Lists.{nth}
@@ -17,6 +17,7 @@ use Rattle.language.specs.Headings.{check-methods, check-classes, headings}
 use Rattle.language.specs.Typing.{method-environment, type-method, type-methods, type-classes}
 use Rattle.language.specs.LookupClasses.{LooksUp}
 use Rattle.language.specs.WellFormed.{Each, each-nil, each-cons, MethodInForm, ClassInForm}
+use Rattle.language.specs.Encoded.{LinesAt}
 use Rattle.language.specs.Layout.{EachMethod, EachClass, FieldsAt, MethodAt, ClassAt, body-row}
 use Rattle.language.specs.Layout.{methods-from-row, start-row, ProgramAt}
 use Rattle.bodies.proofs.Typings.{looks-frame}
@@ -77,7 +78,7 @@ no-methods W k l q = refl
 
 pub walk-start : {R E : List ℕ} {p : Program} (C : List ℕ) → ProgramAt R E p
     → headings of-check (p .classes) ≡ passed → Walk R E p C 0 0
-unfolding methods-lines FieldsAt EachMethod headings
+unfolding methods-lines LinesAt EachMethod headings
 walk-start {R} {E} {p} C a h = record {
   fs = [];
   ms = [];
@@ -114,7 +115,7 @@ pub record AtMethod (R E : List ℕ) (p : Program) (C : List ℕ) (at k : ℕ) (
   pub result : is-declared-type (world (p .classes)) (m .result) ≡ true
   pub parameters : (i : ℕ) (t : DeclaredType) → nth (m .parameters) i ≡ some t
       → is-declared-type (world (p .classes)) t ≡ true
-  pub effects : (i c : ℕ) → nth (m .effects) i ≡ some c → c ≤ length (p .classes)
+  pub effects : (n : ℕ) → length (p .classes) ≤ n → Each (λ c. c ≤ n) (m .effects)
   pub refused : (n l : ℕ) → type-method (world (p .classes)) k (at + 1) m ≡ refuse n l
       → type-classes (world (p .classes)) 1 1 (p .classes) ≡ refuse n l
   pub next : (C₁ : List ℕ) → ((i : ℕ) → i < body-row at m → getD C₁ i 0 ≡ getD C i 0)
@@ -191,7 +192,7 @@ no-class-sum = refl
 module _ {R E : List ℕ} {p : Program} {C : List ℕ} {at k : ℕ} where
   spot-of : (fs : List Field) (ms : List Declaration) (cs : List Class) (f g : ℕ)
       → Left R E p C at k fs ms cs f g → Spot R E p C at k
-  unfolding FieldsAt EachMethod EachClass
+  unfolding LinesAt EachMethod EachClass
   spot-of (x ∷ xs) ms cs f g w = at-field (w .fields .0 .letter) (w .fields .0 .within) (record {
     fs = xs;
     ms = ms;
@@ -281,7 +282,7 @@ module _ {R E : List ℕ} {p : Program} {C : List ℕ} {at k : ℕ} where
       h : (is-declared-type (world (p .classes)) (m .result) ≡ true)
           × ((i : ℕ) (t : DeclaredType) → nth (m .parameters) i ≡ some t
           → is-declared-type (world (p .classes)) t ≡ true)
-          × ((i c : ℕ) → nth (m .effects) i ≡ some c → c ≤ length (p .classes))
+          × ((n : ℕ) → length (p .classes) ≤ n → Each (λ c. c ≤ n) (m .effects))
           × (check-methods of-check (p .classes) (w .super) (m ∷ w .before) (w .line + method-lines m) ms
           ≡ passed)
       h = heads-method (p .classes) (w .super) (w .before) (w .line) m ms (w .heads)

@@ -1,20 +1,15 @@
 -- Laws of the functions over a method and over lines. Assumes nothing.
 use mathlib.Core.Path.{_≡_, refl, ap, _∙_}
-use mathlib.Core.Logic.{_⊎_, inl, inr, ⊎-elim}
+use mathlib.Core.Logic.{⊎-elim}
 use mathlib.Core.List.{List}
-use Prim.Native.Nat.{ℕ, zero, suc, _+_, _-_, _*_, _≤_, _<_}
+use Prim.Native.Nat.{ℕ, _+_, _*_, _≤_, _<_}
 use native.Mathlib.Omega.{arith}
 use borrow.Author.Tests.{eq-eqb, ne-eqb}
 use lib.ListN.{length, getD, set, length-set}
 use lib.Seq.{getD-set-same, getD-set-other}
-use Rattle.bodies.proofs.TurnsLeaves.{le-or-less}
+use Rattle.language.proofs.Lines.{le-or-less}
+use Rattle.bodies.proofs.Lists.{less-or-same}
 use Rattle.bodies.specs.Whole.{PostEnter, FirstBlock, class-next}
-
-split : (j i : ℕ) → j ≤ i → (j < i) ⊎ (j ≡ i)
-split zero zero l = inr refl
-split zero (suc i) l = inl (omega arith)
-split (suc j) zero l = absurd (omega arith)
-split (suc j) (suc i) l = ⊎-elim (λ h. inl (omega arith)) (λ h. inr (ap suc h)) (split j i (omega arith))
 
 -- parameters one by one
 pub record Entering (R S S′ : List ℕ) (from i : ℕ) : Type 0 where
@@ -34,7 +29,7 @@ enter-step {R} {S} {S′} {from} {i} h l v e = record {
   parameters = λ j m. ⊎-elim
       (λ (m : j < i). getD-set-other S′ (1 + i) (1 + j) v 0 (λ q. omega arith) ∙ h .parameters j m)
       (λ (q : j ≡ i). rw q (getD-set-same S′ (1 + i) v 0 (omega (arith, h .long)) ∙ e))
-      (split j i (omega arith));
+      (less-or-same j i (omega arith));
 }
 
 pub enter-long : (R S S′ : List ℕ) (owner from i : ℕ) → Entering R (set S 0 owner) S′ from i
@@ -53,11 +48,12 @@ enter-end R S S′ owner from i n l m h = record {
 pub block-more : {R : List ℕ} {at b : ℕ} → FirstBlock R at b → (i : ℕ) → at < i → i ≤ b
     → (getD R (i * 4) 0 ≡ 66 → ⊥) → i < b
 block-more {R} {at} {b} f i l m e =
-    ⊎-elim (λ h. h) (λ (q : i ≡ b). absurd (e (ap (λ (x : ℕ). getD R (x * 4) 0) q ∙ f .here))) (split i b m)
+    ⊎-elim (λ h. h) (λ (q : i ≡ b). absurd (e (ap (λ (x : ℕ). getD R (x * 4) 0) q ∙ f .here)))
+    (less-or-same i b m)
 
 pub block-done : {R : List ℕ} {at b : ℕ} → FirstBlock R at b → (i : ℕ) → at < i → i ≤ b
     → getD R (i * 4) 0 ≡ 66 → i ≡ b
-block-done f i l m e = ⊎-elim (λ h. absurd (f .between i l h e)) (λ q. q) (split i _ m)
+block-done f i l m e = ⊎-elim (λ h. absurd (f .between i l h e)) (λ q. q) (less-or-same i _ m)
 
 -- the class after a line
 pub class-more : (R : List ℕ) (class at : ℕ) → getD R (at * 4) 0 ≡ 67 → class + 1 ≡ class-next R class at
@@ -71,6 +67,6 @@ class-same R class at e = rw (ne-eqb (getD R (at * 4) 0) 67 e)
 pub first-unique : {R : List ℕ} {at b c : ℕ} → FirstBlock R at b → FirstBlock R at c → b ≡ c
 first-unique {b = b} {c} f g = ⊎-elim
     (λ (l : b ≤ c). ⊎-elim (λ (h : b < c). absurd (g .between b (f .after) h (f .here))) (λ (q : b ≡ c). q)
-    (split b c l))
+    (less-or-same b c l))
     (λ (l : c < b). absurd (f .between c (g .after) l (g .here)))
     (le-or-less b c)

@@ -36,7 +36,7 @@ module _ {P : List Class} {T A : List ℕ} {count : ℕ} (h : Classes P T A coun
   unfolding applied apply-class
   applied-is φ k l = rw (h .tables .roots k (within l))
 
-  pub below-is : (c d : ℕ) → c ≤ count → is-below A c d ≡ world P .below c d
+  below-is : (c d : ℕ) → c ≤ count → is-below A c d ≡ world P .below c d
   unfolding is-below
   below-is c zero l = sym (classes.below-object P (h .lower) c (within l))
   below-is c (suc d) l =
@@ -71,7 +71,7 @@ module _ {P : List Class} {T A : List ℕ} {count : ℕ} (h : Classes P T A coun
   pub nearest-is : (c d : ℕ) → c ≤ count → d ≤ count → nearest-from T A (suc c) c d ≡ world P .nearest c d
   nearest-is c d l m = nearest-go (suc c) c d (omega arith) l m
 
-  not-255 : (d : ℕ) → d ≤ count → eqb d 255 ≡ false
+  pub not-255 : (d : ℕ) → d ≤ count → eqb d 255 ≡ false
   not-255 d l = ne-eqb d 255 (λ e. omega (arith, h .few))
 
   declared : (c : ℕ) → is-declared-type (world P) (class c) ≡ true → c ≤ count

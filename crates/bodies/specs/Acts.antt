@@ -6,6 +6,8 @@ use Prim.Native.Nat.{ℕ, zero, suc, _+_, _*_, _≤_, _<_}
 use lib.Dec.{eqb, leb, ltb}
 use lib.ListN.{length, getD, set}
 use Rattle.language.specs.Effects.{effect-of, effect-of-all, join}
+use Rattle.language.specs.WellFormed.{Each}
+use Rattle.language.specs.Layout.{EffectsAt, Run}
 use Rattle.bodies.specs.declared.Typing.{Typing}
 use Rattle.bodies.specs.declared.Typing.the-variants.{Bool as bool-case, Class, Null, Refusal}
 use Rattle.bodies.specs.declared.Answer.{Answer}
@@ -14,13 +16,14 @@ use Rattle.bodies.specs.declared.Sought.the-variants.{Found, Missing}
 use Rattle.bodies.specs.Answers.{answer, case-of-number, is-refusal}
 use Rattle.bodies.specs.Tables.{Applicable, applied, applied-number, joined-number, root-in, is-fitting}
 use Rattle.bodies.specs.Tables.{CaseIn, Known}
-use Rattle.bodies.specs.Tables.{EffectsAt, Run, Runs, Changed, PreJoin}
+use Rattle.bodies.specs.Tables.{Runs, Changed, PreJoin}
 use Rattle.bodies.specs.Nodes.{refusal, joined-case, BothClasses, field-in, PreField, In-row}
 use Rattle.bodies.specs.Nodes.{changeable-in}
 
--- The X lines from a row on name these classes, and the next line is no X line.
+-- The X lines from a row on name these classes, of those there may be, and the next line is no X line.
 pub record EffectLines (R : List ℕ) (from : ℕ) (cs : List ℕ) : Type 0 where
   pub lines : EffectsAt R cs from
+  pub low : Each (λ c. c ≤ 64) cs
   pub inside : (from + length cs) * 4 + 3 < length R
   pub other : getD R ((from + length cs) * 4) 0 ≡ 88 → ⊥
 

@@ -3,18 +3,20 @@
 use mathlib.Core.Path.{_≡_}
 use mathlib.Core.Bool.{Bool, true, false, not, cond}
 use mathlib.Core.Option.{none, some}
-use mathlib.Core.List.{List, [], _∷_}
+use mathlib.Core.List.{List}
 use Prim.Native.Nat.{ℕ, zero, suc, _+_, _*_, _≤_, _<_}
 use lib.Dec.{eqb}
 use lib.ListN.{length, getD}
 use Rattle.language.specs.Lists.{nth}
-use Rattle.language.specs.Rows.{M-method, P-parameter, X-effect, B-block}
+use Rattle.language.specs.Rows.{M-method, P-parameter, B-block}
 use Rattle.language.specs.Tree.{DeclaredType, type-number, Field, Class, unknown}
 use Rattle.language.specs.World.{Method, is-declared-type}
 use Rattle.language.specs.Effects.{member, effect-of-all}
 use Rattle.language.specs.Program.{class-at, world}
 use Rattle.language.specs.ClassTables.{ClassTables, field-rows, method-row}
-use Rattle.language.specs.Encoded.{RowAt}
+use Rattle.language.specs.Encoded.{RowAt, TypesAt}
+use Rattle.language.specs.Layout.{EffectsAt, Run}
+use Rattle.language.specs.WellFormed.{Each}
 use Rattle.bodies.specs.declared.Typing.{Typing}
 use Rattle.bodies.specs.declared.Typing.the-variants.{Bool as bool-case, Class as class-case, Null}
 use Rattle.bodies.specs.declared.Typing.the-variants.{Refusal}
@@ -68,15 +70,6 @@ pub record Classes (P : List Class) (T A : List ℕ) (count : ℕ) : Type 0 wher
   pub few : count ≤ 64
   pub lower : (k : ℕ) (c : Class) → class-at P k ≡ some c → c .super < k
 
--- P lines and X lines from a row on.
-unfoldable pub ParametersAt : List ℕ → List DeclaredType → ℕ → Type 0
-ParametersAt R [] r = Unit {0}
-ParametersAt R (t ∷ ts) r = RowAt R r P-parameter (type-number t) 0 × ParametersAt R ts (r + 1)
-
-unfoldable pub EffectsAt : List ℕ → List ℕ → ℕ → Type 0
-EffectsAt R [] r = Unit {0}
-EffectsAt R (c ∷ cs) r = RowAt R r X-effect c 0 × (c ≤ 64) × EffectsAt R cs (r + 1)
-
 -- A method's heading at a row; its body's block follows.
 pub record HeadingAt (R : List ℕ) (r : ℕ) (M : Method) : Type 0 where
   pub name : ℕ
@@ -84,8 +77,9 @@ pub record HeadingAt (R : List ℕ) (r : ℕ) (M : Method) : Type 0 where
   pub locals : ℕ
   pub expressions : ℕ
   pub row : RowAt R r M-method (type-number (M .result)) name
-  pub parameter-rows : ParametersAt R (M .parameters) (r + 1)
+  pub parameter-rows : TypesAt P-parameter R (M .parameters) (r + 1)
   pub effect-rows : EffectsAt R effects (r + 1 + length (M .parameters))
+  pub effects-low : Each (λ c. c ≤ 64) effects
   pub effect-is : M .effect ≡ effect-of-all effects
   pub body-row : RowAt R (r + 1 + length (M .parameters) + length effects) B-block locals expressions
   pub few-parameters : length (M .parameters) ≤ 8
@@ -124,12 +118,7 @@ pub record Applicable (T : List ℕ) (n : ℕ) : Type 0 where
   pub inside : (n ≡ 255 → ⊥) → (n ≡ 65535 → ⊥) → n * 576 + 514 < length T
   pub root : (n ≡ 255 → ⊥) → (n ≡ 65535 → ⊥) → root-in T n ≤ 64
 
--- Rows of one letter that follow one another, n of them, and a row of another letter.
-pub record Run (R : List ℕ) (letter from n : ℕ) : Type 0 where
-  pub each : (i : ℕ) → i < n → getD R ((from + i) * 4) 0 ≡ letter
-  pub inside : (from + n) * 4 + 3 < length R
-  pub other : getD R ((from + n) * 4) 0 ≡ letter → ⊥
-
+-- Some number of rows of one letter, and a row of another.
 pub record Runs (R : List ℕ) (letter from : ℕ) : Type 0 where
   pub n : ℕ
   pub run : Run R letter from n

@@ -15,6 +15,7 @@ use Rattle.language.specs.Program.{world}
 use Rattle.language.specs.Headings.{headings}
 use Rattle.language.specs.Typing.{method-environment, type-method, bodies}
 use Rattle.language.specs.LookupClasses.{LooksUp}
+use Rattle.language.specs.WellFormed.{Each}
 use Rattle.language.specs.Layout.{MethodAt, body-row, ProgramAt, LooksUpProgram}
 use Rattle.bodies.specs.declared.Verdict.{Verdict}
 use Rattle.bodies.specs.declared.Verdict.the-variants.{Accepted}
@@ -55,7 +56,7 @@ pub record MethodFacts (R E T A : List ℕ) (count owner at : ℕ) (P : List Cla
     pub result : is-declared-type (world P) (m .result) ≡ true
     pub parameters : (i : ℕ) (t : DeclaredType) → nth (m .parameters) i ≡ some t
         → is-declared-type (world P) t ≡ true
-    pub effects : (i c : ℕ) → nth (m .effects) i ≡ some c → c ≤ 64
+    pub effects : Each (λ c. c ≤ 64) (m .effects)
 
 -- Room for 128 nested nodes, and an entry in the table of lookup classes for each node.
 pub record Spacious (R E S C : List ℕ) : Type 0 where

@@ -1,36 +1,26 @@
 -- A program that stands in rows and whose headings are accepted is ready for the body pass. Assumes nothing.
 use mathlib.Core.Path.{_≡_, refl}
-use Prim.Native.Nat.{ℕ, _+_, _≤_}
-use mathlib.Core.List.{List, [], _∷_}
+use Prim.Native.Nat.{ℕ, _≤_}
+use mathlib.Core.List.{List}
 use lib.ListN.{length}
 use native.Mathlib.Omega.{arith}
 use Rattle.language.specs.Limits.{of-check}
 use Rattle.language.specs.Results.{accept}
-use Rattle.language.specs.Tree.{DeclaredType, Program, count}
+use Rattle.language.specs.Tree.{Program, count}
 use Rattle.language.specs.Program.{method-of}
 use Rattle.language.specs.Headings.{headings}
-use Rattle.language.specs.WellFormed.{Each, each-cons}
+use Rattle.language.specs.WellFormed.{Each, each-nil, each-cons}
 use Rattle.language.specs.ClassTables.{ClassTables}
-use Rattle.language.specs.Layout.{ParametersAt, EffectsAt, ProgramAt, body-row}
+use Rattle.language.specs.Layout.{ProgramAt, body-row}
 use Rattle.layout.specs.Found.{MethodHere, method-here, found-none, field-here, body-here}
 use Rattle.layout.specs.Headed.{super-lower, kinds-known, fields-few, field-declared, method-headed}
 use Rattle.layout.specs.Headed.{declared-nth, effects-declared}
-use Rattle.bodies.specs.Tables as tables
 use Rattle.bodies.specs.Tables.{HeadingAt, Headed}
 
-parameters-rows : (R : List ℕ) (ts : List DeclaredType) (r : ℕ) → ParametersAt R ts r
-    → tables.ParametersAt R ts r
-unfolding ParametersAt tables.ParametersAt
-parameters-rows R [] r h = tt
-parameters-rows R (t ∷ ts) r h = (h .0, parameters-rows R ts (r + 1) (h .1))
-
-pub effects-rows : (R : List ℕ) (n : ℕ) (cs : List ℕ) (r : ℕ) → n ≤ 64 → Each (λ c. (1 ≤ c) × (c ≤ n)) cs
-    → EffectsAt R cs r
-    → tables.EffectsAt R cs r
-unfolding EffectsAt tables.EffectsAt
-effects-rows R n [] r l i h = tt
-effects-rows R n (c ∷ cs) r l (each-cons i is) h =
-    (h .0, omega (arith, l, i .1), effects-rows R n cs (r + 1) l is (h .1))
+-- X lines of accepted headings name classes, of which there are at most 64.
+effects-low : {n : ℕ} {cs : List ℕ} → n ≤ 64 → Each (λ c. (1 ≤ c) × (c ≤ n)) cs → Each (λ c. c ≤ 64) cs
+effects-low l each-nil = each-nil
+effects-low l (each-cons {a} i is) = each-cons {a = a} (omega (arith, l, i .1)) (effects-low l is)
 
 module _ {R E T A : List ℕ} {p : Program} (h : ProgramAt R E p) (t : ClassTables (p .classes) T A)
     (u : Unit {0}) (passed : headings of-check (p .classes) ≡ accept u) where
@@ -46,10 +36,9 @@ module _ {R E T A : List ℕ} {p : Program} (h : ProgramAt R E p) (t : ClassTabl
         locals = length (b .locals);
         expressions = count (b .expressions);
         row = x .at .line;
-        parameter-rows = parameters-rows R (d .parameters) (r + 1) (x .at .parameters);
-        effect-rows = effects-rows R (length (p .classes)) (d .effects) (r + 1 + length (d .parameters))
-            (h .in-form .few)
-            (effects-declared (p .classes) (g .effects)) (x .at .effects);
+        parameter-rows = x .at .parameters;
+        effect-rows = x .at .effects;
+        effects-low = effects-low (h .in-form .few) (effects-declared (p .classes) (g .effects));
         effect-is = refl;
         body-row = b .node .row;
         few-parameters = x .in-form .few;

@@ -1,5 +1,4 @@
 -- `bodies::apply` meets its contract. Assumes nothing.
-use Prim.Native.Nat.{_-_}
 use borrow.Author.Needs.{needs}
 use Rattle.bodies.proofs.Laws.{applied-yes, applied-no}
 use Rattle.bodies.proofs.apply.Statement.{statement}

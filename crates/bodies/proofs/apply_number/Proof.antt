@@ -1,6 +1,5 @@
 -- `bodies::apply_number` meets its contract. Assumes nothing.
 use mathlib.Core.Path.{_∙_}
-use Prim.Native.Nat.{_-_}
 use Rattle.bodies.proofs.Laws.{number-bool, number-absent, number-class}
 use Rattle.bodies.proofs.apply_number.Statement.{statement}
 use Rattle.bodies.proofs.apply_number.Tie as tie

@@ -4,7 +4,7 @@ use Prim.Native.Nat.{_-_, _≤_}
 use borrow.Author.Needs.{needs}
 use native.Mathlib.Omega.{arith}
 use Rattle.bodies.proofs.Laws.{not-yes, not-no}
-use Rattle.bodies.proofs.ActLaws.{FitLeft, fit-start, fit-step, fit-stop, fit-end, case-same}
+use Rattle.bodies.proofs.LineLaws.{FitLeft, fit-start, fit-step, fit-stop, fit-end, case-same}
 use Rattle.bodies.proofs.are_fitting.Statement.{statement}
 use Rattle.bodies.proofs.are_fitting.Tie as tie
 

@@ -1,6 +1,6 @@
 -- `bodies::assign` meets its contract. Assumes nothing.
 use mathlib.Core.Path.{sym, _∙_}
-use Prim.Native.Nat.{_+_, _-_, _*_}
+use Prim.Native.Nat.{_+_, _*_}
 use native.Mathlib.Omega.{arith}
 use borrow.Author.Needs.{needs}
 use Rattle.bodies.proofs.Cases.{assign-refused, assign-this, assign-out, assign-fits, assign-unfit}

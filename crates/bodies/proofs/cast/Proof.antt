@@ -1,5 +1,4 @@
 -- `bodies::cast` meets its contract. Assumes nothing.
-use Prim.Native.Nat.{_-_}
 use borrow.Author.Needs.{needs}
 use Rattle.bodies.proofs.Cases.{cast-refused, cast-name, cast-done, casted-bool, casted-class, casted-null, casted-refusal}
 use Rattle.bodies.proofs.cast.Statement.{statement}

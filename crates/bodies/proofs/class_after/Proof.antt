@@ -1,5 +1,4 @@
 -- `bodies::class_after` meets its contract. Assumes nothing.
-use Prim.Native.Nat.{_-_}
 use borrow.Author.Needs.{needs}
 use Rattle.bodies.proofs.WholeLaws.{class-more, class-same}
 use Rattle.bodies.proofs.class_after.Statement.{statement}

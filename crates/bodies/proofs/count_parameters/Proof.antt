@@ -2,7 +2,7 @@
 use Prim.Native.Nat.{ℕ, _-_, _≤_}
 use native.Mathlib.Omega.{arith}
 use lib.ListN.{length}
-use Rattle.bodies.specs.Tables.{Run}
+use Rattle.language.specs.Layout.{Run}
 use Rattle.bodies.proofs.Laws.{run-more, run-done}
 use Rattle.bodies.proofs.count_parameters.Statement.{statement}
 use Rattle.bodies.proofs.count_parameters.Tie as tie

@@ -1,5 +1,4 @@
 -- `bodies::create` meets its contract. Assumes nothing.
-use Prim.Native.Nat.{_-_}
 use borrow.Author.Needs.{needs}
 use Rattle.bodies.proofs.Cases.{created-no, created-yes}
 use Rattle.bodies.proofs.create.Statement.{statement}

@@ -5,7 +5,7 @@ use native.Mathlib.Omega.{arith}
 use lib.ListN.{length}
 use Rattle.language.specs.Effects.{effect-of-all}
 use Rattle.bodies.specs.Acts.{EffectLines}
-use Rattle.bodies.proofs.ActLaws.{EffectLeft, effect-start, effect-inside, effect-step, effect-end}
+use Rattle.bodies.proofs.LineLaws.{EffectLeft, effect-start, effect-inside, effect-step, effect-end}
 use Rattle.bodies.proofs.effect_at.Statement.{statement}
 use Rattle.bodies.proofs.effect_at.Tie as tie
 

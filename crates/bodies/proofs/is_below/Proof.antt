@@ -1,6 +1,5 @@
 -- `bodies::is_below` meets its contract. Assumes nothing.
 use mathlib.Core.Path.{_∙_}
-use Prim.Native.Nat.{_-_}
 use borrow.Author.Needs.{needs}
 use Rattle.bodies.proofs.Laws.{below-object, below-other}
 use Rattle.bodies.proofs.is_below.Statement.{statement}

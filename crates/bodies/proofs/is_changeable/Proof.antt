@@ -1,5 +1,4 @@
 -- `bodies::is_changeable` meets its contract. Assumes nothing.
-use Prim.Native.Nat.{_-_}
 use borrow.Author.Needs.{needs}
 use Rattle.bodies.proofs.Cases.{change-object, change-root, change-state}
 use Rattle.bodies.proofs.is_changeable.Statement.{statement}

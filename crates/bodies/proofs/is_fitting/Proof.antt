@@ -1,5 +1,4 @@
 -- `bodies::is_fitting` meets its contract. Assumes nothing.
-use Prim.Native.Nat.{_-_}
 use borrow.Author.Needs.{needs}
 use Rattle.bodies.proofs.Laws.{fit-bool, fit-class-bool, fit-null, fit-refusal, case-in}
 use Rattle.bodies.proofs.Laws.{fit-class-other}

@@ -1,5 +1,4 @@
 -- `bodies::is_member` meets its contract. Assumes nothing.
-use Prim.Native.Nat.{_-_}
 use borrow.Author.Needs.{needs}
 use Rattle.bodies.proofs.Laws.{shifted-member}
 use Rattle.bodies.proofs.is_member.Statement.{statement}

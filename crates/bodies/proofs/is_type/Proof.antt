@@ -1,5 +1,5 @@
 -- `bodies::is_type` meets its contract. Assumes nothing.
-use Rattle.bodies.proofs.ActLaws.{type-bool, type-class}
+use Rattle.bodies.proofs.LineLaws.{type-bool, type-class}
 use Rattle.bodies.proofs.is_type.Statement.{statement}
 use Rattle.bodies.proofs.is_type.Tie as tie
 

@@ -1,6 +1,5 @@
 -- `bodies::is_within` meets its contract. Assumes nothing.
 use mathlib.Core.Path.{refl}
-use Prim.Native.Nat.{_-_}
 use Rattle.language.specs.Effects.{within}
 use Rattle.bodies.proofs.is_within.Statement.{statement}
 use Rattle.bodies.proofs.is_within.Tie as tie

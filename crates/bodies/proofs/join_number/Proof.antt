@@ -1,6 +1,5 @@
 -- `bodies::join_number` meets its contract. Assumes nothing.
 use mathlib.Core.Path.{_∙_}
-use Prim.Native.Nat.{_-_}
 use Rattle.bodies.proofs.Laws.{joined-1, joined-2, joined-3, joined-4, joined-5, known-nearest}
 use Rattle.bodies.proofs.join_number.Statement.{statement}
 use Rattle.bodies.proofs.join_number.Tie as tie

@@ -1,5 +1,4 @@
 -- `bodies::join_types` meets its contract. Assumes nothing.
-use Prim.Native.Nat.{_-_}
 use borrow.Author.Needs.{needs}
 use Rattle.bodies.proofs.Cases.{join-bb, join-bc, join-bn, join-br, join-cc, join-cn, join-cb, join-cr, join-nc, join-nn, join-nb, join-nr, join-r, both-classes}
 use Rattle.bodies.proofs.join_types.Statement.{statement}

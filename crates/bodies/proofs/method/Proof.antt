@@ -1,5 +1,4 @@
 -- `bodies::method` meets its contract. Assumes nothing.
-use Prim.Native.Nat.{_-_}
 use native.Mathlib.Omega.{arith}
 use borrow.Author.Needs.{needs}
 use Rattle.bodies.proofs.Laws.{not-yes, not-no}

@@ -1,5 +1,4 @@
 -- `bodies::nearest` meets its contract. Assumes nothing.
-use Prim.Native.Nat.{_-_}
 use native.Mathlib.Omega.{arith}
 use Rattle.bodies.proofs.Laws.{Going, going-start, going-end, going-step}
 use Rattle.bodies.proofs.Laws.{not-yes, not-no}

@@ -1,5 +1,4 @@
 -- `bodies::not_class` meets its contract. Assumes nothing.
-use Prim.Native.Nat.{_-_}
 use borrow.Author.Needs.{needs}
 use Rattle.bodies.proofs.Cases.{class-bool, class-class, class-null, class-refusal}
 use Rattle.bodies.proofs.not_class.Statement.{statement}

@@ -4,7 +4,7 @@ use Prim.Native.Nat.{_-_}
 use borrow.Author.Needs.{needs}
 use native.Mathlib.Omega.{arith}
 use Rattle.bodies.proofs.Laws.{not-yes, not-no}
-use Rattle.bodies.proofs.ActLaws.{OpenLeft, open-start, open-step, open-stop, open-end}
+use Rattle.bodies.proofs.LineLaws.{OpenLeft, open-start, open-step, open-stop, open-end}
 use Rattle.bodies.proofs.open.Statement.{statement}
 use Rattle.bodies.proofs.open.Tie as tie
 

@@ -1,6 +1,5 @@
 -- `bodies::pass_line` meets its contract. Assumes nothing.
 use mathlib.Core.Path.{refl}
-use Prim.Native.Nat.{_-_}
 use borrow.Author.Needs.{needs}
 use Rattle.bodies.proofs.pass_line.Statement.{statement}
 use Rattle.bodies.proofs.pass_line.Tie as tie

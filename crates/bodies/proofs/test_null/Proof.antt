@@ -1,5 +1,4 @@
 -- `bodies::test_null` meets its contract. Assumes nothing.
-use Prim.Native.Nat.{_-_}
 use borrow.Author.Needs.{needs}
 use Rattle.bodies.proofs.Cases.{null-bool, null-class, null-null, null-refusal}
 use Rattle.bodies.proofs.test_null.Statement.{statement}

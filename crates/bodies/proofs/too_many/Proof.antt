@@ -1,5 +1,4 @@
 -- `bodies::too_many` meets its contract. Assumes nothing.
-use Prim.Native.Nat.{_-_}
 use borrow.Author.Needs.{needs}
 use Rattle.bodies.proofs.Cases.{many-refused, many-bool, many-class, many-null, many-refusal}
 use Rattle.bodies.proofs.too_many.Statement.{statement}

@@ -1,6 +1,6 @@
 -- `bodies::typing_at` meets its contract. Assumes nothing.
 use borrow.Author.Needs.{needs}
-use Rattle.bodies.proofs.ActLaws.{stored-null, stored-known}
+use Rattle.bodies.proofs.LineLaws.{stored-null, stored-known}
 use Rattle.bodies.proofs.typing_at.Statement.{statement}
 use Rattle.bodies.proofs.typing_at.Tie as tie
 

@@ -1,5 +1,4 @@
 -- `bodies::typing_of` meets its contract. Assumes nothing.
-use Prim.Native.Nat.{_-_}
 use Rattle.bodies.specs.Answers.{case-of-number}
 use borrow.Author.Tests.{eq-eqb, ne-eqb}
 use Rattle.bodies.proofs.typing_of.Statement.{statement}

@@ -6,7 +6,8 @@ use Prim.Native.Nat.{ℕ}
 use lib.ListN.{length-set}
 use Rattle.bodies.proofs.Turns.{in-row}
 use Rattle.bodies.proofs.TurnsNodes.{after-row}
-use Rattle.bodies.proofs.TurnsLists.{join-or, argument-pre, arguments-pre, arguments-none, arguments-fail, arguments-fail-rest, argument-applicable, argument-room, arguments-step}
+use Rattle.bodies.proofs.EffectLaws.{join-or}
+use Rattle.bodies.proofs.TurnsArguments.{argument-pre, arguments-pre, arguments-none, arguments-fail, arguments-fail-rest, argument-applicable, argument-room, arguments-step}
 use Rattle.bodies.specs.Tables.{applied-number}
 use Rattle.bodies.proofs.Laws.{applicable-same}
 use Rattle.bodies.proofs.arguments.Reads as arguments

@@ -3,7 +3,8 @@ use native.Mathlib.Omega.{arith}
 use mathlib.Core.Path.{sym, _∙_}
 use Prim.Native.Nat.{ℕ, _+_, _*_}
 use Rattle.bodies.proofs.Turns.{in-row}
-use Rattle.bodies.proofs.TurnsNodes.{after-row, leaf-row}
+use Rattle.bodies.proofs.TurnsNodes.{after-row}
+use Rattle.bodies.proofs.TurnsUnary.{leaf-row}
 use Rattle.bodies.proofs.TurnsCalls.{call-first, call-fail, call-items-pre, call-arguments-pre, call-many, call-fail-arguments, call-invoke-pre, call-done}
 use Rattle.bodies.proofs.arguments.Reads as arguments
 use Rattle.bodies.proofs.call.Reads as call

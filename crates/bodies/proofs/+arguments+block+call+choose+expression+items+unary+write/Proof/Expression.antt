@@ -4,7 +4,7 @@ use mathlib.Core.Path.{refl}
 use Prim.Native.Nat.{ℕ}
 use Rattle.bodies.proofs.TurnsLetters.{rest-unary}
 use Rattle.bodies.proofs.Turns.{in-row}
-use Rattle.bodies.proofs.TurnsNodes.{leaf-row, leaf-slots, change-pre, true-post, false-post, null-post, slot-post, new-post, change-post, room-none}
+use Rattle.bodies.proofs.TurnsUnary.{leaf-row, leaf-slots, change-pre, true-post, false-post, null-post, slot-post, new-post, change-post, room-none}
 use Rattle.bodies.proofs.block.Reads as block
 use Rattle.bodies.proofs.call.Reads as call
 use Rattle.bodies.proofs.choose.Reads as choose

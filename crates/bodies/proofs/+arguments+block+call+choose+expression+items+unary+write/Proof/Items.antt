@@ -3,8 +3,9 @@ use native.Mathlib.Omega.{arith}
 use mathlib.Core.Path.{refl, sym, _∙_}
 use Prim.Native.Nat.{ℕ}
 use Rattle.bodies.proofs.Turns.{in-row}
-use Rattle.bodies.proofs.TurnsLists.{join-or, first-pre}
-use Rattle.bodies.proofs.TurnsLists.{ItemsLoop, items-start, items-next, items-ended, items-broken}
+use Rattle.bodies.proofs.EffectLaws.{join-or}
+use Rattle.bodies.proofs.TurnsLists.{first-pre}
+use Rattle.bodies.proofs.TurnsItems.{ItemsLoop, items-start, items-next, items-ended, items-broken}
 use Rattle.bodies.proofs.expression.Reads as expression
 use Rattle.bodies.proofs.items.Reads as items
 use Rattle.bodies.proofs.+arguments+block+call+choose+expression+items+unary+write.Lts-items as items-lts

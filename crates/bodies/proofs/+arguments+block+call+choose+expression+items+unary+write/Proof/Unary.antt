@@ -3,7 +3,7 @@ use native.Mathlib.Omega.{arith}
 use mathlib.Core.Path.{_∙_}
 use Prim.Native.Nat.{ℕ}
 use Rattle.bodies.proofs.Turns.{in-row}
-use Rattle.bodies.proofs.TurnsNodes.{leaf-row, unary-assign, unary-first, is-null-post, cast-post, assign-post, get-post, get-pre, assign-pre}
+use Rattle.bodies.proofs.TurnsUnary.{leaf-row, unary-assign, unary-first, is-null-post, cast-post, assign-post, get-post, get-pre, assign-pre}
 use Rattle.bodies.proofs.expression.Reads as expression
 use Rattle.bodies.proofs.unary.Reads as unary
 use Rattle.bodies.proofs.+arguments+block+call+choose+expression+items+unary+write.Lts-unary as unary-lts

@@ -1,30 +1,18 @@
--- Environments as numbers in slots: what each change of an environment makes of them. Assumes nothing.
+-- Environments as lists of numbers: what each change of an environment makes of them. Assumes nothing.
 use mathlib.Core.Path.{_≡_, refl, sym, ap, ap₂, subst, _∙_}
-use mathlib.Core.Bool.{Bool, true, false, _||_, cond, false≢true}
+use mathlib.Core.Bool.{Bool, true, false, false≢true}
 use mathlib.Core.Option.{Option, none, some}
 use mathlib.Core.List.{List, [], _∷_, _++_, map}
-use Prim.Native.Nat.{ℕ, zero, suc, _+_, _-_, _*_, _≤_, _<_}
+use Prim.Native.Nat.{ℕ, zero, suc, _<_}
 use native.Mathlib.Omega.{arith}
-use borrow.Author.Tests.{ne-eqb}
-use lib.Dec.{eqb}
-use lib.ListN.{length, getD, take, set as replaced}
-use lib.Seq.{ext-getD, getD-take, length-take-le}
-use Rattle.language.specs.Lists.{nth, Never, inj, map-option, given}
+use lib.ListN.{length, length-map, getD, take, set as replaced}
+use Rattle.language.specs.Lists.{nth, Never, inj, map-option}
 use Rattle.language.specs.Frames.{at-slot, with-slot, opened, closed, map-frame}
-use Rattle.language.specs.Tree.{DeclaredType, bool, class, type-number, Class, Kind, plain, root, state}
-use Rattle.language.specs.Tree.{unknown, kind-number}
+use Rattle.language.specs.Tree.{DeclaredType, type-number}
 use Rattle.language.specs.World.{World, is-declared-type}
-use Rattle.language.specs.Effects.{apply}
-use Rattle.language.specs.Program.{world, class-at, is-changeable, is-root, is-state}
-use Rattle.language.specs.Typing.{Slot, Environment, fresh-slot, join-slot, join-slots, join-currents}
-use Rattle.language.specs.Typing.{join-this, join-environments}
-use Rattle.language.proofs.Classes as classes
+use Rattle.language.specs.Typing.{Slot, Environment, fresh-slot, join-slot, join-slots, join-this}
+use Rattle.language.specs.Typing.{join-environments}
 use Rattle.bodies.specs.Answers.{numbers, this-number, absent}
-use Rattle.bodies.specs.Tables.{Headed, applied-number, joined-number}
-use Rattle.bodies.specs.Nodes.{changeable-in}
-use Rattle.bodies.specs.Cycle.{Views}
-use Rattle.bodies.proofs.Worlds.{applied-is, nearest-is}
-use Rattle.bodies.proofs.Turns.{class-low, low-class}
 
 abbrev pub number : Slot → ℕ
 number s = type-number (s .current)
@@ -144,21 +132,6 @@ module _ (W : World) where
           slots = good-join (γ .slots) (δ .slots) (g .slots) (h .slots);
         }
 
-  -- slots that hold an environment's numbers
-  pub views-of : (γ : Environment) (S : List ℕ) (scope : ℕ) → Fine γ → scope ≤ length S
-      → length (numbers γ) ≡ scope
-      → ((k : ℕ) → k < scope → getD S k 0 ≡ getD (numbers γ) k 0) → Views W γ S scope
-  views-of γ S scope g l e f = record {
-    same =
-        let a : length (take scope S) ≡ scope = length-take-le scope S l in
-        ext-getD 0 (take scope S) (numbers γ) (a ∙ sym e)
-        (λ i m. let q : i < scope = omega (arith, a) in getD-take scope S i 0 q ∙ f i q);
-    declared = λ k s e. fine-at g k s e;
-  }
-
-  pub views-fine : {γ : Environment} {S : List ℕ} {scope : ℕ} → Views W γ S scope → Fine γ
-  views-fine {γ} v = fine-of γ (v .declared)
-
 -- numbers of an environment with all slots changed
 list-map : (W : World) (f : Slot → Slot) (g : ℕ → ℕ) → ((s : Slot) → Good W s → number (f s) ≡ g (number s))
     → (l : List Slot) → AllGood W l
@@ -207,7 +180,7 @@ list-append : (l m : List Slot) → map number (l ++ m) ≡ map number l ++ map 
 list-append [] m = refl
 list-append (x ∷ l) m = ap (λ (r : List ℕ). number x ∷ r) (list-append l m)
 
-list-fresh : (ts : List DeclaredType) → map number (map fresh-slot ts) ≡ map type-number ts
+pub list-fresh : (ts : List DeclaredType) → map number (map fresh-slot ts) ≡ map type-number ts
 list-fresh [] = refl
 list-fresh (t ∷ ts) = ap (λ (r : List ℕ). type-number t ∷ r) (list-fresh ts)
 
@@ -228,13 +201,9 @@ pub numbers-closed : (n : ℕ) (γ : Environment) → numbers (closed n γ) ≡ 
 unfolding numbers
 numbers-closed n γ = ap (λ (r : List ℕ). this-number (γ .this) ∷ r) (list-take n (γ .slots))
 
-map-length : (l : List Slot) → length (map number l) ≡ length l
-map-length [] = refl
-map-length (x ∷ l) = ap suc (map-length l)
-
 pub numbers-length : (γ : Environment) → length (numbers γ) ≡ suc (length (γ .slots))
 unfolding numbers
-numbers-length γ = ap suc (map-length (γ .slots))
+numbers-length γ = ap suc (length-map (γ .slots) number)
 
 -- whether there is a `this`
 abbrev pub has : Option Slot → Bool
@@ -265,7 +234,7 @@ module _ (W : World) (g : ℕ → ℕ → ℕ) (z : g absent absent ≡ absent)
       → getD (numbers (join-environments W γ δ)) i 0 ≡ g (getD (numbers γ) i 0) (getD (numbers δ) i 0))
   unfolding numbers
   numbers-join {γ} {δ} p q e t = (
-    ap suc (map-length (join-slots W (γ .slots) (δ .slots)) ∙ join-length (γ .slots) (δ .slots) e),
+    ap suc (length-map (join-slots W (γ .slots) (δ .slots)) number ∙ join-length (γ .slots) (δ .slots) e),
     λ i. go i,
   )
     where
@@ -280,72 +249,3 @@ module _ (W : World) (g : ℕ → ℕ → ℕ) (z : g absent absent ≡ absent)
           → getD (numbers (join-environments W γ δ)) i 0 ≡ g (getD (numbers γ) i 0) (getD (numbers δ) i 0)
       go zero h = this (γ .this) (δ .this) t (p .this) (q .this)
       go (suc i) h = list-join (γ .slots) (δ .slots) (p .slots) (q .slots) e i (omega arith)
-
--- what the tables give of a declared type
-module _ {P : List Class} {R T A : List ℕ} {count : ℕ} (h : Headed P R T A count) where
-  pub not-255 : (c : ℕ) → c ≤ count → eqb c 255 ≡ false
-  not-255 c l = ne-eqb c 255 (λ e. omega (arith, h .classes .few))
-
-  pub not-absent : (c : ℕ) → c ≤ count → eqb c 65535 ≡ false
-  not-absent c l = ne-eqb c 65535 (λ e. omega (arith, h .classes .few))
-
-  pub apply-number : (φ : ℕ) (t : DeclaredType) → is-declared-type (world P) t ≡ true
-      → type-number (apply (world P) φ t) ≡ applied-number T φ (type-number t)
-  unfolding applied-number
-  apply-number φ bool d = refl
-  apply-number φ (class c) d = let l = class-low c h d in
-      rw (not-255 c l, not-absent c l) (sym (applied-is (h .classes) φ c l))
-
-  pub apply-declared : (φ : ℕ) (t : DeclaredType) → is-declared-type (world P) t ≡ true
-      → is-declared-type (world P) (apply (world P) φ t) ≡ true
-  apply-declared φ bool d = refl
-  apply-declared φ (class c) d =
-      low-class _ h (omega (arith, class-low c h d, classes.apply-within P (h .classes .lower) φ c))
-
-  pub joined-numbers : (t u : DeclaredType) → is-declared-type (world P) t ≡ true
-      → is-declared-type (world P) u ≡ true
-      → type-number (join-currents (world P) t u) ≡ joined-number T A (type-number t) (type-number u)
-  unfolding joined-number
-  joined-numbers bool u d e = refl
-  joined-numbers (class c) bool d e = let l = class-low c h d in rw (not-255 c l, not-absent c l)
-  joined-numbers (class c) (class k) d e =
-      let l = class-low c h d in
-      let m = class-low k h e in
-      rw (not-255 c l, not-absent c l, not-255 k m, not-absent k m) (sym (nearest-is (h .classes) c k l m))
-
-  pub join-declared : (t u : DeclaredType) → is-declared-type (world P) t ≡ true
-      → is-declared-type (world P) u ≡ true
-      → is-declared-type (world P) (join-currents (world P) t u) ≡ true
-  join-declared bool u d e = refl
-  join-declared (class c) bool d e = d
-  join-declared (class c) (class k) d e =
-      let l = class-low c h d in
-      low-class _ h (omega (
-        arith,
-        l,
-        classes.nearest-within P (h .classes .lower) c k
-            (omega (arith, l, h .classes .counted)),
-      ))
-
-  -- a root or state class
-  pub changeable-is : (c : ℕ) → c ≤ count → changeable-in T c ≡ world P .changeable c
-  unfolding changeable-in world is-changeable class-at
-  changeable-is zero l = refl
-  changeable-is (suc c) l =
-      rw (ne-eqb (suc c) 0 (λ e. omega arith))
-      (go (classes.class-some P (suc c) (omega arith) (omega (arith, h .classes .counted))))
-    where
-      by-kind : (k : Kind) (n : ℕ) → n ≡ kind-number k → ((m : ℕ) → k ≡ unknown m → ⊥)
-          → cond (eqb n 1) true (eqb n 2) ≡ is-root k || is-state k
-      by-kind plain n e f = rw e
-      by-kind root n e f = rw e
-      by-kind state n e f = rw e
-      by-kind (unknown m) n e f = absurd (f m refl)
-
-      go : (x : Class) × (class-at P (suc c) ≡ some x)
-          → cond (eqb (getD T (suc c * 576 + 512) 0) 1) true (eqb (getD T (suc c * 576 + 512) 0) 2)
-          ≡ given (nth P c) false (λ y. is-root (y .kind) || is-state (y .kind))
-      go (x, e) =
-          by-kind (x .kind) (getD T (suc c * 576 + 512) 0) (h .classes .tables .kinds (suc c) x e)
-          (λ m q. h .kinds (suc c) m x e q)
-          ∙ sym (ap (λ (o : Option Class). given o false (λ y. is-root (y .kind) || is-state (y .kind))) e)

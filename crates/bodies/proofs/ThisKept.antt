@@ -1,12 +1,11 @@
 -- Typing keeps whether there is a `this`, and gives as many types as there are expressions. Assumes nothing.
 use mathlib.Core.Path.{_≡_, refl, sym, ap, _∙_}
-use mathlib.Core.Bool.{Bool}
+use mathlib.Core.Bool.{Bool, not}
 use mathlib.Core.Option.{Option, none, some}
 use mathlib.Core.List.{map}
 use Prim.Native.Nat.{ℕ, zero, suc, _+_}
 use lib.ListN.{length}
 use lib.Dec.{eqb}
-use mathlib.Core.Bool.{not}
 use Rattle.language.specs.Lists.{map-option}
 use Rattle.language.specs.Results.{accept, accept-injective, bind-checked-inv, need-checked-inv, require-inv}
 use Rattle.language.specs.Frames.{at-slot, with-slot, opened}
@@ -18,8 +17,8 @@ use Rattle.language.specs.Effects.{effect-of, apply-class}
 use Rattle.language.specs.Typing.{Slot, Environment, Typed, TypedAll, typed, fresh-slot, with-type, not-bool}
 use Rattle.language.specs.Typing.{fits, all-fit, join-types, join-this, apply-slot, apply-all, can-change}
 use Rattle.language.specs.Typing.{locals-declared, type-of, type-all}
-use Rattle.bodies.proofs.TurnsLeaves.{class-inv}
-use Rattle.bodies.proofs.LinksBase.{has}
+use Rattle.bodies.proofs.Typings.{class-inv}
+use Rattle.bodies.proofs.Environments.{has}
 
 done : {t : ExprType} {δ : Environment} {φ : ℕ} {a : Typed} (b : Bool) → typed t δ φ ≡ accept a
     → has (δ .this) ≡ b → has (a .slots .this) ≡ b
@@ -102,7 +101,7 @@ module _ (W : World) where
         bind-checked-inv (type-all W es (l + 1 + length ts) (opened γ (map fresh-slot ts))) _ q λ b e₂ q.
         done (has (γ .this)) q (this-kept-all es (l + 1 + length ts) (opened γ (map fresh-slot ts)) b e₂)
 
-    pub this-kept-all : (es : Exprs) (l : ℕ) (γ : Environment) (b : TypedAll) → type-all W es l γ ≡ accept b
+    this-kept-all : (es : Exprs) (l : ℕ) (γ : Environment) (b : TypedAll) → type-all W es l γ ≡ accept b
         → has (b .slots .this) ≡ has (γ .this)
     this-kept-all nil l γ b q = ap (λ (x : TypedAll). has (x .slots .this)) (sym (accept-injective q))
     this-kept-all (cons e es) l γ b q =

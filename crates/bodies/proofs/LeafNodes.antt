@@ -1,0 +1,88 @@
+-- The nodes T, L, N, I and W: what their functions answer is what the definition says. Assumes nothing.
+use mathlib.Core.Path.{_≡_, refl, sym, ap, subst, _∙_}
+use mathlib.Core.Logic.{⊎-elim}
+use mathlib.Core.Option.{Option, none, some}
+use mathlib.Core.List.{List}
+use Prim.Native.Nat.{ℕ, _+_, _*_, _≤_}
+use lib.ListN.{length, getD}
+use Rattle.language.specs.Results.{need-checked, accept-injective, need-checked-inv, require-inv}
+use Rattle.language.specs.Frames.{at-slot}
+use Rattle.language.specs.Tree.{class, known, type-number, Class, literal-true, literal-false, literal-null}
+use Rattle.language.specs.Tree.{slot, new}
+use Rattle.language.specs.World.{World, is-declared}
+use Rattle.language.specs.Program.{world}
+use Rattle.language.specs.Typing.{Slot, Environment, Typed, typed, type-of}
+use Rattle.language.specs.LookupClasses.{LooksUp}
+use Rattle.language.proofs.Lines.{le-or-less}
+use Rattle.bodies.specs.declared.Answer.{Answer}
+use Rattle.bodies.specs.declared.Typing.{Typing}
+use Rattle.bodies.specs.declared.Typing.the-variants.{Bool as bool-case, Null}
+use Rattle.bodies.specs.Answers.{answer, answer-of, case-of-number}
+use Rattle.bodies.specs.Tables.{Headed}
+use Rattle.bodies.specs.Nodes.{refusal, created, slot-read}
+use Rattle.bodies.specs.Cycle.{Views, Accepted, Is}
+use Rattle.bodies.proofs.Cases.{read-out, read-absent, read-there}
+use Rattle.bodies.proofs.Typings.{new-is}
+use Rattle.bodies.proofs.Turns.{declared-bool, declared-null, declared-known, is-accepted}
+use Rattle.bodies.proofs.TypeNumbers.{type-number-case}
+use Rattle.bodies.proofs.Slots.{slot-some, slot-none}
+
+-- ---- T, L, N
+
+module _ (W : World) {γ : Environment} {at scope : ℕ} {S C : List ℕ} (v : Views W γ S scope) where
+  pub true-is : Is W literal-true γ at scope S C (answer bool-case 0)
+  unfolding type-of LooksUp
+  true-is = is-accepted _ refl refl (record { views = v; declared = declared-bool; looks = tt })
+
+  pub false-is : Is W literal-false γ at scope S C (answer bool-case 0)
+  unfolding type-of LooksUp
+  false-is = is-accepted _ refl refl (record { views = v; declared = declared-bool; looks = tt })
+
+  pub null-literal-is : Is W literal-null γ at scope S C (answer Null 0)
+  unfolding type-of LooksUp
+  null-literal-is = is-accepted _ refl refl (record { views = v; declared = declared-null; looks = tt })
+
+-- ---- I, W
+
+module _ {P : List Class} {R T A : List ℕ} {count : ℕ} (h : Headed P R T A count) where
+  slot-reads : {γ : Environment} {S : List ℕ} {scope : ℕ} (k at : ℕ) → Views (world P) γ S scope
+      → scope ≤ length S → getD R (at * 4 + 1) 0 ≡ k
+      → slot-read R S at scope
+      ≡ answer-of (need-checked (at-slot γ k) 7 (at + 1) λ s. typed (known (s .current)) γ 0)
+  unfolding need-checked
+  slot-reads {γ} {S} {scope} k at v l e = go (at-slot γ k) refl
+    where
+      go : (o : Option Slot) → at-slot γ k ≡ o
+          → slot-read R S at scope ≡ answer-of (need-checked o 7 (at + 1) λ s. typed (known (s .current)) γ 0)
+      go none q = ⊎-elim
+          (λ m. sym (read-out R S at scope (refusal 7 at) (rw e m) refl))
+          (λ m. sym (read-absent R S at scope (refusal 7 at) (rw e m) (rw e (slot-none v l k q m .1)) refl))
+          (le-or-less scope k)
+      go (some s) q =
+          let w = slot-some v l k s q in
+          let t = type-number-case (s .current) h (v .declared k s q) in
+          let n : getD S (getD R (at * 4 + 1) 0) 0 ≡ type-number (s .current) = rw e (w .1) in
+          sym (read-there R S at scope _ (rw e (w .0)) (λ z. t .1 (sym n ∙ z)) refl)
+          ∙ ap (λ (x : Typing). answer x 0) (ap case-of-number n ∙ t .0)
+
+  pub slot-is : {γ : Environment} {S C : List ℕ} {scope : ℕ} (k at : ℕ) (r : Answer)
+      → Views (world P) γ S scope → scope ≤ length S → getD R (at * 4 + 1) 0 ≡ k
+      → r ≡ slot-read R S at scope → Is (world P) (slot k) γ at scope S C r
+  unfolding type-of LooksUp
+  slot-is {γ} {S} {C} {scope} k at r v l e f = record {
+    out = f ∙ slot-reads k at v l e;
+    accepted = λ a q. need-checked-inv (at-slot γ k) 7 (at + 1) _ q λ s p w.
+        subst (λ (x : Typed). Accepted (world P) (slot k) γ at scope S C x) (accept-injective w)
+        (record { views = v; declared = declared-known (s .current) (v .declared k s p); looks = tt });
+  }
+
+  pub new-node-is : {γ : Environment} {S C : List ℕ} {scope : ℕ} (c at : ℕ) (r : Answer)
+      → Views (world P) γ S scope → getD R (at * 4 + 1) 0 ≡ c
+      → r ≡ created R count at → Is (world P) (new c) γ at scope S C r
+  unfolding type-of LooksUp world
+  new-node-is {γ} {S} {C} {scope} c at r v e f = record {
+    out = f ∙ (ap (λ (n : ℕ). created R n at) (sym (h .classes .counted)) ∙ new-is (world P) R c at γ e);
+    accepted = λ a q. require-inv (is-declared (world P) c) 4 (at + 1) _ q λ d w.
+        subst (λ (x : Typed). Accepted (world P) (new c) γ at scope S C x) (accept-injective w)
+        (record { views = v; declared = declared-known (class c) d; looks = tt });
+  }
