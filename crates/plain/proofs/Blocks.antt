@@ -8,14 +8,14 @@ use native.Mathlib.Omega.{arith}
 use lib.ListN.{length, getD, length-append, length-map}
 use Rattle.language.specs.Lists.{nth, Never, inj}
 use Rattle.language.specs.Frames.{opened}
-use Rattle.language.specs.Rows.{F-field}
+use Rattle.language.specs.Rows.{F-field, P-parameter, V-local}
 use Rattle.language.specs.Tree.{DeclaredType, type-number, Expr, set, call, block, Exprs, nil, cons}
 use Rattle.language.specs.Tree.{count, size, sizes, Field, Class}
 use Rattle.language.specs.World.{World, field-type}
 use Rattle.language.specs.Effects.{apply-class}
 use Rattle.language.specs.Program.{world}
 use Rattle.language.specs.ClassTables.{stored-place}
-use Rattle.language.specs.Encoded.{RowAt, LocalsAt, Encoded, EncodedAll}
+use Rattle.language.specs.Encoded.{RowAt, TypesAt, Encoded, EncodedAll}
 use Rattle.language.specs.Typing.{Environment, fresh-slot, type-of, type-all}
 use Rattle.language.specs.Translation.{Shape, plain-type, typed-or, typed-all-or, class-or, type-or}
 use Rattle.language.specs.Translation.{parameters-or, variables, temporaries}
@@ -24,18 +24,13 @@ use Rattle.plain.specs.Emission.{most-numbers, nodes-numbers, arguments-
 use Rattle.plain.specs.Emission.{plain-number, Proper, ProperAll}
 use Rattle.plain.specs.Emission.{Written, NodeTask, NodesTask, Nodes, none, also, nodes-of, how-many}
 use Rattle.plain.specs.Emission.{rows-taken, EncodedNodes, LooksUpNodes, ReadyNodes}
-use Rattle.plain.specs.Emission.{Ready, ReadyAll, variable-count, Extended, ParametersAt, FieldRows}
+use Rattle.plain.specs.Emission.{Ready, ReadyAll, variable-count, Extended, FieldRows}
 use Rattle.plain.specs.Emission.{SomeTypes, TypesWritten, FieldFound, MethodFound}
 use Rattle.plain.specs.Emission.{SomeSet, SomeCall, SomeBlock, SomeNodes, SomeArguments, SetEmitted}
 use Rattle.plain.specs.Emission.{CallEmitted, BlockEmitted, NodesEmitted, ArgumentsEmitted}
 use Rattle.plain.proofs.Writing.{written-then}
 use Rattle.plain.proofs.Numbers.{t-block, t-set, t-call}
 use Rattle.plain.proofs.Tasks.{part, whole, node-row, setting-temporaries, setting-locals}
-
-locals-types : (R : List ℕ) (ts : List DeclaredType) (r : ℕ) → LocalsAt R ts r → ParametersAt R ts r
-unfolding LocalsAt ParametersAt
-locals-types R [] r h = tt
-locals-types R (t ∷ ts) r h = (h .0 .within, h .0 .first, locals-types R ts (r + 1) (h .1))
 
 pub types-length : (l : ℕ) (ts : List DeclaredType) → length (type-lines l ts) ≡ 4 * length ts
 unfolding type-lines
@@ -83,9 +78,9 @@ module _ {P : List Class} {E : List ℕ} {γ : Environment} {sh : Shape} {R T C 
   unfolding Encoded
   block-numbers = (t .encoded .0 .row .first, t .encoded .0 .row .second)
 
-  block-types : ParametersAt R ts (at + 1)
+  block-types : TypesAt V-local R ts (at + 1)
   unfolding Encoded
-  block-types = locals-types R ts (at + 1) (t .encoded .1)
+  block-types = t .encoded .1
 
   block-ready : (vars + length ts ≤ 32) × ProperAll ts
   unfolding Ready
@@ -131,7 +126,7 @@ module _ {R T C S : List ℕ} {at vars next place : ℕ} where
 
   pub block-some-types : SomeBlock R T C S at vars next place → SomeTypes R (at + 1) (getD R (at * 4 + 1) 0)
   block-some-types x = let t = x .task in
-      record { ts = x .ts; rows = block-types t; counted = sym (block-numbers t .0) }
+      record { letter = V-local; ts = x .ts; rows = block-types t; counted = sym (block-numbers t .0) }
 
   pub block-some : (x : SomeBlock R T C S at vars next place) (S′ : List ℕ)
       → Extended S S′ vars next (getD R (at * 4 + 1) 0)
@@ -160,7 +155,7 @@ module _ {R T C S : List ℕ} {at vars next place : ℕ} where
         arith,
         n,
         w .ended,
-        v .each (x .ts) (block-types (x .task)) (sym n) .ended,
+        v .each V-local (x .ts) (block-types (x .task)) (sym n) .ended,
         types-length 86 (x .ts),
       )
 
@@ -176,7 +171,7 @@ module _ {R T C S : List ℕ} {at vars next place : ℕ} where
     each = λ P E ts es γ sh t.
         let n = block-numbers t in
         let γ′ = opened γ (map fresh-slot ts) in
-        let u = v .each ts (block-types t) (sym (n .0)) in
+        let u = v .each V-local ts (block-types t) (sym (n .0)) in
         let q′ : q ≡ place + 4 + 4 * length ts = omega (arith, w .ended, u .ended, types-length 86 ts) in
         let m′ = rw (n .0, n .1) at m in
         let em = m′ .each P E (nodes-of (world P) es γ′) (sh ++ variables ts)
@@ -360,7 +355,7 @@ module _ {P : List Class} {E : List ℕ} {γ : Environment} {sh : Shape} {R T C 
   call-name = (t .encoded .0 .row .first, t .encoded .0 .row .second, t .looks .0, t .ready .0, t .ready .1)
 
   call-method : (length call-types ≡ count es) × ProperAll call-types
-      × ParametersAt R call-types (getD T (call-class * 576 + 256 + m) 0)
+      × TypesAt P-parameter R call-types (getD T (call-class * 576 + 256 + m) 0)
   unfolding Ready MethodFound
   call-method = let F = t .ready .2 in
       let h = t .setting .members .methods call-class m (F .0) (call-name .4) (call-name .3) (F .1) in
@@ -426,7 +421,7 @@ module _ {R T C S : List ℕ} {at vars next place : ℕ} where
   pub call-some-types : SomeCall R T C S at vars next place
       → SomeTypes R (getD T (getD C at 0 * 576 + 256 + getD R (at * 4 + 1) 0) 0) (getD R (at * 4 + 2) 0)
   call-some-types x = let t = x .task in let n = call-name t in let h = call-method t in
-      rw (n .0, n .1, n .2) (record { ts = call-types t; rows = h .2; counted = h .0 })
+      rw (n .0, n .1, n .2) (record { letter = P-parameter; ts = call-types t; rows = h .2; counted = h .0 })
 
   pub call-ended : {O O₁ O₂ : List ℕ} {p q c d : ℕ} → (x : SomeCall R T C S at vars next place)
       → Written (66 ∷ c ∷ d ∷ 0 ∷ 86 ∷ 1 ∷ 0 ∷ 0 ∷ []) O O₁ place p
@@ -437,7 +432,7 @@ module _ {R T C S : List ℕ} {at vars next place : ℕ} where
       omega (
         arith,
         w .ended,
-        v .each (y .ts) (y .rows) (y .counted) .ended,
+        v .each (y .letter) (y .ts) (y .rows) (y .counted) .ended,
         types-length 86 (y .ts),
         y .counted,
       )
@@ -502,7 +497,7 @@ module _ {R T C S : List ℕ} {at vars next place : ℕ} where
         record { P = P; E = E; m = m; e = e; es = es; γ = γ; sh = sh; task = t } in
         let z : q ≡ place + 8 + 4 * count es = rw (n .1) at (call-ended x w v) in
         let v′ = rw (n .0, n .1, n .2) at v in
-        let u = v′ .each (call-types t) (h .2) (h .0) in
+        let u = v′ .each P-parameter (call-types t) (h .2) (h .0) in
         let o′ = rw (n .1) at o in
         let em = o′ .each P E (call-arguments t) (call-shape t) (call-nodes t q z)
         (omega (arith, nodes-counted (world P) es γ′))

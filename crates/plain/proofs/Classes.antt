@@ -11,6 +11,7 @@ use Rattle.language.specs.World.{World}
 use Rattle.language.specs.Program.{world}
 use Rattle.language.specs.Typing.{method-environment}
 use Rattle.language.specs.Translation.{variables}
+use Rattle.language.specs.Encoded.{LinesAt}
 use Rattle.language.specs.Layout.{EachMethod, EachClass, FieldsAt, MethodAt, ClassAt, body-row}
 use Rattle.language.specs.Layout.{methods-from-row}
 use Rattle.plain.specs.Emission.{most-numbers, plain-number, type-lines, field-lines, node-numbers}
@@ -24,7 +25,7 @@ use Rattle.plain.proofs.Writing.{written-none, written-then}
 use Rattle.plain.specs.Bounds.{MethodsStand, ClassesStand}
 use Rattle.plain.proofs.Tasks.{part, whole}
 use Rattle.plain.proofs.Blocks.{types-length}
-use Rattle.plain.proofs.Standing.{method-rows, parameters-rows, lines-positive, class-positive}
+use Rattle.plain.proofs.Standing.{method-rows, lines-positive, class-positive}
 use Rattle.plain.proofs.Standing.{stand-row, no-method, methods-of, first-of, class-row, class-end}
 use Rattle.plain.proofs.Standing.{no-class, not-class}
 
@@ -36,7 +37,7 @@ fields-length (f ∷ fs) = omega (arith, fields-length fs)
 
 module _ {R : List ℕ} {at count : ℕ} where
   pub field-in : SomeFieldLines R at count → count ≢ 0 → at * 4 + 3 < length R
-  unfolding FieldsAt
+  unfolding LinesAt
   field-in x h = go (x .fs) (x .rows) (x .counted)
     where
       go : (fs : List Field) → FieldsAt R fs at → length fs ≡ count → at * 4 + 3 < length R
@@ -44,7 +45,7 @@ module _ {R : List ℕ} {at count : ℕ} where
       go (f ∷ fs) r e = r .0 .within
 
   pub field-rest : SomeFieldLines R at count → count ≢ 0 → SomeFieldLines R (at + 1) (count - 1)
-  unfolding FieldsAt
+  unfolding LinesAt
   field-rest x h = go (x .fs) (x .rows) (x .counted)
     where
       go : (fs : List Field) → FieldsAt R fs at → length fs ≡ count → SomeFieldLines R (at + 1) (count - 1)
@@ -65,7 +66,7 @@ module _ {R : List ℕ} {at count : ℕ} where
         → Written (70 ∷ t ∷ getD R (at * 4 + 2) 0 ∷ 0 ∷ []) O O₁ place p
         → FieldsWritten R (at + 1) (count - 1) O₁ O₂ p q
         → FieldsWritten R at count O O₂ place q
-    unfolding field-lines FieldsAt
+    unfolding field-lines LinesAt
     field-step {O₁} {O₂} {p} {q} {t} h w a b = record { each = λ fs r e. go fs r e }
       where
         go : (fs : List Field) → FieldsAt R fs at → length fs ≡ count → Written (field-lines fs) O O₂ place q
@@ -145,7 +146,7 @@ module _ {P : List Class} {E : List ℕ} {k : ℕ} {R T C : List ℕ} {at place 
         z .1,
         record {
           row = y .rows .line;
-          parameters = parameters-rows R (m .parameters) (at + 1) (y .rows .parameters);
+          parameters = y .rows .parameters;
           task = rw (z .1) (record {
             lent = t .lent;
             encoded = y .rows .body;

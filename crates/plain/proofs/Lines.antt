@@ -8,54 +8,56 @@ use native.Mathlib.Numerals.{add-one}
 use native.Mathlib.Omega.{arith}
 use lib.ListN.{length, getD, set, length-set}
 use lib.Seq.{getD-set-same, getD-set-other}
+use Rattle.language.specs.Rows.{Letter}
+use Rattle.language.specs.Encoded.{LinesAt, TypesAt}
 use Rattle.language.specs.Tree.{DeclaredType, type-number, Field}
 use Rattle.plain.specs.Emission.{Written, plain-number, type-lines, read-lines, copy-lines}
-use Rattle.plain.specs.Emission.{ParametersAt, FieldRows}
+use Rattle.plain.specs.Emission.{FieldRows}
 use Rattle.plain.specs.Emission.{SomeTypes, TypesWritten, SomeFields, CopiesWritten, Extended}
 use Rattle.plain.specs.Emission.{slot-lines}
 use Rattle.plain.proofs.Writing.{written-none, written-then}
 
 module _ {R : List ℕ} {at count : ℕ} where
   pub types-in : SomeTypes R at count → count ≢ 0 → at * 4 + 3 < length R
-  unfolding ParametersAt
-  types-in x h = go (x .ts) (x .rows) (x .counted)
+  unfolding LinesAt
+  types-in x h = go (x .letter) (x .ts) (x .rows) (x .counted)
     where
-      go : (ts : List DeclaredType) → ParametersAt R ts at → length ts ≡ count → at * 4 + 3 < length R
-      go [] r e = absurd (h (sym e))
-      go (t ∷ ts) r e = r .0
+      go : (l : Letter) (ts : List DeclaredType) → TypesAt l R ts at → length ts ≡ count
+          → at * 4 + 3 < length R
+      go l [] r e = absurd (h (sym e))
+      go l (t ∷ ts) r e = r .0 .within
 
   pub types-rest : SomeTypes R at count → count ≢ 0 → SomeTypes R (at + 1) (count - 1)
-  unfolding ParametersAt
-  types-rest x h = go (x .ts) (x .rows) (x .counted)
+  unfolding LinesAt
+  types-rest x h = go (x .letter) (x .ts) (x .rows) (x .counted)
     where
-      go : (ts : List DeclaredType) → ParametersAt R ts at → length ts ≡ count
+      go : (l : Letter) (ts : List DeclaredType) → TypesAt l R ts at → length ts ≡ count
           → SomeTypes R (at + 1) (count - 1)
-      go [] r e = absurd (h (sym e))
-      go (t ∷ ts) r e = record { ts = ts; rows = r .2; counted = omega (arith, e) }
+      go l [] r e = absurd (h (sym e))
+      go l (t ∷ ts) r e = record { letter = l; ts = ts; rows = r .1; counted = omega (arith, e) }
 
   module _ {letter place : ℕ} {O : List ℕ} where
     pub types-none : count ≡ 0 → TypesWritten R at count letter O O place place
     unfolding type-lines
-    types-none z = record { each = λ ts r e. go ts r e }
+    types-none z = record { each = λ l ts r e. go ts e }
       where
-        go : (ts : List DeclaredType) → ParametersAt R ts at → length ts ≡ count
-            → Written (type-lines letter ts) O O place place
-        go [] r e = written-none
-        go (t ∷ ts) r e = absurd (omega (arith, e, z))
+        go : (ts : List DeclaredType) → length ts ≡ count → Written (type-lines letter ts) O O place place
+        go [] e = written-none
+        go (t ∷ ts) e = absurd (omega (arith, e, z))
 
     pub types-step : {O₁ O₂ : List ℕ} {p q t : ℕ} → count ≢ 0 → t ≡ plain-number (getD R (at * 4 + 1) 0)
         → Written (letter ∷ t ∷ 0 ∷ 0 ∷ []) O O₁ place p
         → TypesWritten R (at + 1) (count - 1) letter O₁ O₂ p q
         → TypesWritten R at count letter O O₂ place q
-    unfolding type-lines ParametersAt
-    types-step {O₁} {O₂} {p} {q} {t} h w a b = record { each = λ ts r e. go ts r e }
+    unfolding type-lines LinesAt
+    types-step {O₁} {O₂} {p} {q} {t} h w a b = record { each = λ l ts r e. go l ts r e }
       where
-        go : (ts : List DeclaredType) → ParametersAt R ts at → length ts ≡ count
+        go : (l : Letter) (ts : List DeclaredType) → TypesAt l R ts at → length ts ≡ count
             → Written (type-lines letter ts) O O₂ place q
-        go [] r e = absurd (h (sym e))
-        go (u ∷ ts) r e =
-            let f : t ≡ plain-number (type-number u) = w ∙ ap (λ n. plain-number n) (r .1) in
-            rw (← f) (written-then a (b .each ts (r .2) (omega (arith, e))))
+        go l [] r e = absurd (h (sym e))
+        go l (u ∷ ts) r e =
+            let f : t ≡ plain-number (type-number u) = w ∙ ap (λ n. plain-number n) (r .0 .first) in
+            rw (← f) (written-then a (b .each l ts (r .1) (omega (arith, e))))
 
 -- slots read
 pub reads-none : (s count : ℕ) {O : List ℕ} {place : ℕ} → count ≡ 0

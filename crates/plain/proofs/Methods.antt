@@ -22,7 +22,12 @@ module _ {R T C : List ℕ} {at body place count : ℕ} where
   method-known x = (x .task .row .within, omega (arith, x .task .task .fits, x .counted))
 
   pub method-types : SomeMethod R T C at body place count → SomeTypes R (at + 1) count
-  method-types x = record { ts = x .m .parameters; rows = x .task .parameters; counted = x .counted }
+  method-types x = record {
+    letter = P-parameter;
+    ts = x .m .parameters;
+    rows = x .task .parameters;
+    counted = x .counted;
+  }
 
   pub method-ended : {O O₁ O₂ : List ℕ} {p q a b : ℕ} → SomeMethod R T C at body place count
       → Written (77 ∷ a ∷ b ∷ 0 ∷ []) O O₁ place p
@@ -31,7 +36,7 @@ module _ {R T C : List ℕ} {at body place count : ℕ} where
       omega (
         arith,
         w .ended,
-        v .each (x .m .parameters) (x .task .parameters) (x .counted) .ended,
+        v .each P-parameter (x .m .parameters) (x .task .parameters) (x .counted) .ended,
         types-length 80 (x .m .parameters),
         x .counted,
       )
@@ -56,7 +61,7 @@ module _ {R T C : List ℕ} {at body place count : ℕ} where
   unfolding method-numbers
   method-done {O} {O₁} {O₂} {O₃} {p} {q} {r} {b} {u} k w v o = record {
     each = λ P E owner m t c.
-        let h = v .each (m .parameters) (t .parameters) c in
+        let h = v .each P-parameter (m .parameters) (t .parameters) c in
         let z : place + 4 + 4 * length (m .parameters) ≡ q =
         omega (arith, w .ended, h .ended, types-length 80 (m .parameters)) in
         let em = o .each P E (m .body) _ (m .parameters) (rw z at (t .task)) c in

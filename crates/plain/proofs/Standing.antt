@@ -1,23 +1,23 @@
 -- Laws of methods and classes that stand in rows: the rows of their parts, and the row after each. Assumes nothing.
-use mathlib.Core.Path.{_≡_, refl, sym, _∙_}
+use mathlib.Core.Path.{_≡_, sym, _∙_}
 use mathlib.Core.Logic.{inl, inr, _≢_}
 use mathlib.Core.List.{List, [], _∷_}
 use Prim.Native.Nat.{ℕ, suc, _+_, _-_, _*_, _≤_, _<_}
 use native.Mathlib.Omega.{arith}
 use lib.ListN.{length, getD}
-use Rattle.language.specs.Tree.{DeclaredType, Expr, literal-true, literal-false, literal-null, slot}
+use Rattle.language.specs.Tree.{Expr, literal-true, literal-false, literal-null, slot}
 use Rattle.language.specs.Tree.{is-null, get, cast, new, change, assign, set, call, choose, block}
 use Rattle.language.specs.Tree.{Declaration, Class, size, method-lines, heading-lines, methods-lines}
 use Rattle.language.specs.Tree.{class-lines, classes-lines}
 use Rattle.language.specs.Encoded.{Encoded}
-use Rattle.language.specs.Layout as layout
-use Rattle.language.specs.Layout.{EachMethod, EachClass, EffectsAt, MethodAt, ClassAt, effects-row, body-row}
+use Rattle.language.specs.Layout.{EachMethod, EachClass, MethodAt, ClassAt, effects-row, body-row}
 use Rattle.language.specs.Layout.{methods-from-row}
-use Rattle.plain.specs.Emission.{code-of, ParametersAt, ClassEnd, Skipped, SomeFieldLines}
+use Rattle.language.proofs.Lines.{first-line, lines-run}
+use Rattle.plain.specs.Emission.{code-of, ClassEnd, Skipped, SomeFieldLines}
 use Rattle.plain.specs.Bounds.{MethodsStand, ClassesStand, SomeMethodsStand, SomeClassesStand}
 use Rattle.plain.specs.Bounds.{MethodsPassed}
 use Rattle.plain.proofs.Tasks.{node-at, size-positive}
-use Rattle.plain.proofs.Skips.{parameters-run, effects-run, fields-run, skipped-at}
+use Rattle.plain.proofs.Skips.{skipped-at}
 
 -- no node has the letter of a heading
 node-letter : (e : Expr) → (code-of e ≢ 80) × (code-of e ≢ 88)
@@ -47,35 +47,22 @@ after-effects {R} {E} {m} {r} x = let n = node-at R E (body-row r m) (m .body) (
 
 after-parameters : {R E : List ℕ} {m : Declaration} {r : ℕ} → MethodAt R E m r
     → (effects-row r m * 4 + 3 < length R) × (getD R (effects-row r m * 4) 0 ≢ 80)
-unfolding EffectsAt
-after-parameters {R} {E} {m} {r} x =
-    go (m .effects) (x .effects) (effects-row r m + length (m .effects)) refl (x .body)
-  where
-    go : (cs : List ℕ) → EffectsAt R cs (effects-row r m) → (b : ℕ) → b ≡ effects-row r m + length cs
-        → Encoded R E (m .body) b
-        → (effects-row r m * 4 + 3 < length R) × (getD R (effects-row r m * 4) 0 ≢ 80)
-    go [] h b z n = let y : b ≡ effects-row r m = omega (arith, z) in let n = node-at R E b (m .body) n in
-        rw (← y) (n .0, other-letter (n .1) (node-letter (m .body) .0))
-    go (c ∷ cs) h b z n = (h .0 .within, other-letter (h .0 .letter) (omega arith))
+after-parameters {R} {E} {m} {r} x = let n = node-at R E (body-row r m) (m .body) (x .body) in
+    first-line _ (λ i. (i * 4 + 3 < length R) × (getD R (i * 4) 0 ≢ 80))
+    (λ c i h. (h .within, other-letter (h .letter) (omega arith))) (m .effects) (effects-row r m) (x .effects)
+    (n .0, other-letter (n .1) (node-letter (m .body) .0))
 
 pub method-rows : {R E : List ℕ} {m : Declaration} {r x b : ℕ} → MethodAt R E m r → Skipped R 80 (r + 1) x
     → Skipped R 88 x b
     → (x ≡ effects-row r m) × (b ≡ body-row r m)
 method-rows {R} {E} {m} {r} {x} {b} t s u =
     let p = after-parameters t in let q = after-effects t in
-    let z : x ≡ effects-row r m =
-    skipped-at s (length (m .parameters)) (parameters-run R (m .parameters) (r + 1) (t .parameters))
-    (p .0) (p .1) in (
+    let z : x ≡ effects-row r m = skipped-at s
+    (lines-run _ R 80 (λ t i h. h .letter) (m .parameters) (r + 1) (t .parameters) (p .0) (p .1)) in (
       z,
-      skipped-at (rw z at u) (length (m .effects))
-          (effects-run R (m .effects) (effects-row r m) (t .effects)) (q .0) (q .1),
+      skipped-at (rw z at u)
+          (lines-run _ R 88 (λ c i h. h .letter) (m .effects) (effects-row r m) (t .effects) (q .0) (q .1)),
     )
-
-pub parameters-rows : (R : List ℕ) (ts : List DeclaredType) (r : ℕ) → layout.ParametersAt R ts r
-    → ParametersAt R ts r
-unfolding ParametersAt layout.ParametersAt
-parameters-rows R [] r h = tt
-parameters-rows R (t ∷ ts) r h = (h .0 .within, h .0 .first, parameters-rows R ts (r + 1) (h .1))
 
 pub lines-positive : (m : Declaration) → 1 ≤ method-lines m
 unfolding method-lines
@@ -202,7 +189,7 @@ module _ {R E : List ℕ} {at : ℕ} where
       → r ≡ methods-from-row at c
   unfolding EachMethod methods-lines
   first-of {k} c t u s = let w = other (c .methods) u in
-      skipped-at s (length (c .fields)) (fields-run R (c .fields) (at + 1) (t .fields)) (w .0) (w .1)
+      skipped-at s (lines-run _ R 70 (λ f i h. h .letter) (c .fields) (at + 1) (t .fields) (w .0) (w .1))
     where
       other : (ms : List Declaration) → MethodsStand R E k ms (methods-from-row at c)
           → (methods-from-row at c * 4 + 3 < length R) × (getD R (methods-from-row at c * 4) 0 ≢ 70)

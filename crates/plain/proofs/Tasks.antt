@@ -15,6 +15,7 @@ use Rattle.language.specs.Encoded.{Encoded}
 use Rattle.language.specs.Typing.{Environment, type-of}
 use Rattle.language.specs.Translation.{Shape, position, plain-slot, typed-or, class-or, variables}
 use Rattle.language.specs.LookupClasses.{LooksUp}
+use Rattle.language.proofs.Lines.{le-or-less}
 use Rattle.plain.specs.Emission.{most-numbers, node-numbers, nodes-numbers, arguments-numbers, Written}
 use Rattle.plain.specs.Emission.{Emitted, Setting}
 use Rattle.plain.specs.Emission.{NodeTask, NodesTask, Nodes, none, also, how-many, rows-taken}
@@ -24,12 +25,6 @@ use Rattle.plain.specs.Emission.{SomeNode, SomeNodes, SomeArguments}
 use Rattle.plain.specs.Emission.{NodeEmitted, NodesEmitted, ArgumentsEmitted}
 use Rattle.plain.proofs.Writing.{written-then, written-as}
 use Rattle.plain.proofs.Numbers.{t-is-null, t-assign, t-get, t-cast, t-choose}
-
-compared : (a b : ℕ) → (a ≤ b) ⊎ (b < a)
-compared zero b = inl (omega arith)
-compared (suc a) zero = inr (omega arith)
-compared (suc a) (suc b) =
-    elim (compared a b) [ inl h ↦ inl (omega (arith, h)) | inr h ↦ inr (omega (arith, h)) ]
 
 -- a node's row is there and has its letter
 pub node-at : (R E : List ℕ) (at : ℕ) (e : Expr)
@@ -388,7 +383,7 @@ module _ {P : List Class} {R T C S : List ℕ} {sh : Shape} {vars next : ℕ} (x
       scope = h;
       variables = omega (arith, x .variables, variables-append sh (variables ts), variables-all ts);
       free = omega (arith, x .free, length-append sh (variables ts), length-map ts (λ t. true));
-      renumbered = λ k l. go k l (compared vars k);
+      renumbered = λ k l. go k l (le-or-less vars k);
     }
       where
         go : (k : ℕ) → k < vars + length ts → (vars ≤ k) ⊎ (k < vars)
@@ -439,7 +434,8 @@ module _ {P : List Class} {E : List ℕ} {γ : Environment} {sh : Shape} {R T C 
         t .fits,
         ap length (t-cast (world P) γ sh c e),
         length-append (node-numbers (world P) e γ (sh ++ (false ∷ [])))
-            (78 ∷ 0 ∷ 0 ∷ 0 ∷ 71 ∷ 254 ∷ 0 ∷ 0 ∷ 75 ∷ (c + 2) ∷ 0 ∷ 0 ∷ 71 ∷ 255 ∷ 0 ∷ 0 ∷ 73 ∷ suc (length sh) ∷ 0
+            (78 ∷ 0 ∷ 0 ∷ 0 ∷ 71 ∷ 254 ∷ 0 ∷ 0 ∷ 75 ∷ (c + 2) ∷ 0 ∷ 0 ∷ 71 ∷ 255 ∷ 0 ∷ 0 ∷ 73
+            ∷ suc (length sh) ∷ 0
             ∷ 0 ∷ []),
       )
 

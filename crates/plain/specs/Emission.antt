@@ -12,8 +12,8 @@ use lib.Seq.{sets}
 use Rattle.language.specs.Limits.{bool-number, identity-class}
 use Rattle.language.specs.Lists.{nth}
 use Rattle.language.specs.Frames.{opened}
-use Rattle.language.specs.Rows.{Record, written, row-of, numbers-of, C-class, F-field, V-local, M-method}
-use Rattle.language.specs.Rows.{S-start}
+use Rattle.language.specs.Rows.{Letter, Record, written, row-of, numbers-of, C-class, F-field, V-local}
+use Rattle.language.specs.Rows.{M-method, P-parameter, S-start}
 use Rattle.language.specs.Tree.{DeclaredType, type-number, Expr, literal-true, literal-false, literal-null}
 use Rattle.language.specs.Tree.{slot}
 use Rattle.language.specs.Tree.{is-null, get, cast, new, change, assign, set, call, choose, block, Exprs, nil}
@@ -25,7 +25,7 @@ use Rattle.language.specs.World.{Method, World, place}
 use Rattle.language.specs.Effects.{apply-class}
 use Rattle.language.specs.Program.{world}
 use Rattle.language.specs.ClassTables.{stored-place}
-use Rattle.language.specs.Encoded.{RowAt, Encoded}
+use Rattle.language.specs.Encoded.{RowAt, TypesAt, Encoded}
 use Rattle.language.specs.Typing.{Environment, fresh-slot, method-environment, start-environment, type-of}
 use Rattle.language.specs.Typing.{type-all}
 use Rattle.language.specs.Translation.{Shape, plain-slot, typed-or, typed-all-or, class-or, plain-type}
@@ -84,12 +84,6 @@ copy-lines o [] = []
 copy-lines o (f ∷ fs) =
     85 ∷ f .name ∷ 0 ∷ 0 ∷ 73 ∷ o ∷ 0 ∷ 0 ∷ 71 ∷ f .name ∷ 0 ∷ 0 ∷ 73 ∷ suc o ∷ 0 ∷ 0 ∷ copy-lines o fs
 
--- Rows of a letter from row r on, one for each type.
-unfoldable pub ParametersAt : List ℕ → List DeclaredType → ℕ → Type 0
-ParametersAt R [] r = Unit {0}
-ParametersAt R (t ∷ ts) r = (r * 4 + 3 < length R) × (getD R (r * 4 + 1) 0 ≡ type-number t)
-    × ParametersAt R ts (r + 1)
-
 -- The table has the rows of fields from an entry on.
 unfoldable pub FieldRows : List ℕ → List ℕ → List Field → ℕ → Type 0
 FieldRows R T [] i = Unit {0}
@@ -106,14 +100,15 @@ pub record Written (xs O O′ : List ℕ) (place place′ : ℕ) : Type 0 where
   pub content : O′ ≡ sets O place xs
   pub ended : place′ ≡ place + length xs
 
--- Rows from one on hold types, so many of them.
+-- Rows of a letter from one on hold types, so many of them.
 pub record SomeTypes (R : List ℕ) (at count : ℕ) : Type 0 where
+  pub letter : Letter
   pub ts : List DeclaredType
-  pub rows : ParametersAt R ts at
+  pub rows : TypesAt letter R ts at
   pub counted : length ts ≡ count
 
 pub record TypesWritten (R : List ℕ) (at count letter : ℕ) (O O′ : List ℕ) (place place′ : ℕ) : Type 0 where
-  pub each : (ts : List DeclaredType) → ParametersAt R ts at → length ts ≡ count
+  pub each : (l : Letter) (ts : List DeclaredType) → TypesAt l R ts at → length ts ≡ count
       → Written (type-lines letter ts) O O′ place place′
 
 -- What the tables of classes tell of members, and where the rows have them.
@@ -126,7 +121,7 @@ pub record Members (P : List Class) (R T : List ℕ) : Type 0 where
       → getD T (k * 576 + f) 0 ≡ stored-place (place f (world P .fields k))
   pub fields : (k : ℕ) → k ≤ length P → FieldRows R T (world P .fields k) (k * 576 + 520)
   pub methods : (k m : ℕ) (M : Method) → k ≤ length P → m < 256 → world P .method k m ≡ some M
-      → ParametersAt R (M .parameters) (getD T (k * 576 + 256 + m) 0)
+      → TypesAt P-parameter R (M .parameters) (getD T (k * 576 + 256 + m) 0)
 
 -- Lines of a slot read, W, R's inner block and R.
 abbrev pub slot-lines : ℕ → List ℕ
@@ -492,7 +487,7 @@ method-numbers W owner m =
 pub record MethodTask (P : List Class) (E : List ℕ) (owner : ℕ) (m : Declaration) (R T C : List ℕ)
     (at body place : ℕ) : Type 0 where
   pub row : RowAt R at M-method (type-number (m .result)) (m .name)
-  pub parameters : ParametersAt R (m .parameters) (at + 1)
+  pub parameters : TypesAt P-parameter R (m .parameters) (at + 1)
   pub task : BodyTask P E (m .body) (method-environment owner (m .parameters)) (m .parameters) R T C body
       (place + 4 + 4 * length (m .parameters))
 
