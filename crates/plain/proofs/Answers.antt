@@ -34,9 +34,8 @@ use Rattle.theory.specs.WholeBack.{form-back}
 use Rattle.theory.specs.Translatable.{earlier-inv, same-program}
 use Rattle.plain.specs.Emission.{program-numbers, ProgramTask, SomeProgram, ProgramWritten}
 use Rattle.plain.specs.Bounds.{pass-of, ClassesStand, SomeClassesStand, ClassesCounted, SomeCounted}
-use Rattle.plain.specs.Bounds.{FieldsLimited, NamesFree}
-use Rattle.plain.specs.Bounds.{told, limits-told, CheckedRows, SomeChecked, Limited, PlainWritten}
-use Rattle.plain.specs.Bounds.{SomeAccepted}
+use Rattle.plain.specs.Bounds.{FieldsLimited, NamesFree, told, limits-told, CheckedRows, SomeChecked}
+use Rattle.plain.specs.Bounds.{Limited, PlainWritten, SomeAccepted}
 use Rattle.plain.proofs.Sizes.{program-task}
 
 -- limits of form and of fields together

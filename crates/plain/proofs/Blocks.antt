@@ -21,16 +21,16 @@ use Rattle.language.specs.Translation.{Shape, plain-type, typed-or, typed-all-o
 use Rattle.language.specs.Translation.{parameters-or, variables, temporaries}
 use Rattle.language.specs.LookupClasses.{LooksUp, LooksUpAll}
 use Rattle.plain.specs.Emission.{most-numbers, nodes-numbers, arguments-numbers, type-lines, read-lines}
-use Rattle.plain.specs.Emission.{plain-number, Proper, ProperAll}
-use Rattle.plain.specs.Emission.{Written, NodeTask, NodesTask, Nodes, none, also, nodes-of, how-many}
-use Rattle.plain.specs.Emission.{rows-taken, EncodedNodes, LooksUpNodes, ReadyNodes}
-use Rattle.plain.specs.Emission.{Ready, ReadyAll, variable-count, Extended, FieldRows}
-use Rattle.plain.specs.Emission.{SomeTypes, TypesWritten, FieldFound, MethodFound}
-use Rattle.plain.specs.Emission.{SomeSet, SomeCall, SomeBlock, SomeNodes, SomeArguments, SetEmitted}
-use Rattle.plain.specs.Emission.{CallEmitted, BlockEmitted, NodesEmitted, ArgumentsEmitted}
-use Rattle.plain.proofs.Writing.{written-then}
+use Rattle.plain.specs.Emission.{plain-number, Proper, ProperAll, Written, NodeTask, NodesTask, Nodes}
+use Rattle.plain.specs.Emission.{none, also, nodes-of, how-many, rows-taken, EncodedNodes, LooksUpNodes}
+use Rattle.plain.specs.Emission.{ReadyNodes, Ready, ReadyAll, variable-count, Extended, FieldRows}
+use Rattle.plain.specs.Emission.{SomeTypes, TypesWritten, FieldFound, MethodFound, SomeSet, SomeCall}
+use Rattle.plain.specs.Emission.{SomeBlock, SomeNodes, SomeArguments, SetEmitted, CallEmitted}
+use Rattle.plain.specs.Emission.{BlockEmitted, NodesEmitted, ArgumentsEmitted}
+use Rattle.plain.proofs.Writing.{written-then, part, whole}
 use Rattle.plain.proofs.Numbers.{t-block, t-set, t-call}
-use Rattle.plain.proofs.Tasks.{part, whole, node-row, setting-temporaries, setting-locals}
+use Rattle.plain.proofs.Tasks.{node-row}
+use Rattle.plain.proofs.Shapes.{setting-temporaries, setting-locals}
 
 pub types-length : (l : ℕ) (ts : List DeclaredType) → length (type-lines l ts) ≡ 4 * length ts
 unfolding type-lines

@@ -9,7 +9,7 @@ use Rattle.language.specs.Typing.{Environment}
 use Rattle.language.specs.Translation.{plain-slot, variables}
 use Rattle.plain.specs.Emission.{Setting, NodeTask, Extended, variable-count, SomeNode, NodeEmitted}
 use Rattle.plain.specs.Emission.{BodyTask, SomeBody, BodyEmitted}
-use Rattle.plain.proofs.Tasks.{setting-locals}
+use Rattle.plain.proofs.Shapes.{setting-locals}
 
 -- no slot but `this`
 first-setting : {P : List Class} {E : List ℕ} {e : Expr} {γ : Environment} {ts : List DeclaredType}

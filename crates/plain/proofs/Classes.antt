@@ -15,19 +15,16 @@ use Rattle.language.specs.Encoded.{LinesAt}
 use Rattle.language.specs.Layout.{EachMethod, EachClass, FieldsAt, MethodAt, ClassAt, body-row}
 use Rattle.language.specs.Layout.{methods-from-row}
 use Rattle.plain.specs.Emission.{most-numbers, plain-number, type-lines, field-lines, node-numbers}
-use Rattle.plain.specs.Emission.{Written, Emitted}
-use Rattle.plain.specs.Emission.{Skipped, SomeFieldLines, FieldsWritten, method-numbers}
-use Rattle.plain.specs.Emission.{methods-numbers, class-numbers, classes-numbers}
+use Rattle.plain.specs.Emission.{Written, Emitted, Skipped, SomeFieldLines, FieldsWritten}
+use Rattle.plain.specs.Emission.{method-numbers, methods-numbers, class-numbers, classes-numbers}
 use Rattle.plain.specs.Emission.{MethodTask, SomeMethod, MethodEmitted, MethodReady, ClassReady}
 use Rattle.plain.specs.Emission.{MethodsTask, ClassTask, ClassesTask, SomeMethods, SomeClass}
 use Rattle.plain.specs.Emission.{SomeClasses, MethodsEmitted, ClassEmitted, ClassesEmitted}
-use Rattle.plain.proofs.Writing.{written-none, written-then}
+use Rattle.plain.proofs.Writing.{written-none, written-then, part, whole}
 use Rattle.plain.specs.Bounds.{MethodsStand, ClassesStand}
-use Rattle.plain.proofs.Tasks.{part, whole}
 use Rattle.plain.proofs.Blocks.{types-length}
-use Rattle.plain.proofs.Standing.{method-rows, lines-positive, class-positive}
-use Rattle.plain.proofs.Standing.{stand-row, no-method, methods-of, first-of, class-row, class-end}
-use Rattle.plain.proofs.Standing.{no-class, not-class}
+use Rattle.plain.proofs.Standing.{method-rows, lines-positive, class-positive, stand-row, no-method}
+use Rattle.plain.proofs.Standing.{methods-of, first-of, class-row, class-end, no-class, not-class}
 
 -- fields
 pub fields-length : (fs : List Field) → length (field-lines fs) ≡ 4 * length fs

@@ -1,7 +1,10 @@
 pub mod Writing
 pub mod Lines
 pub mod Numbers
+pub mod Letters
+pub mod Shapes
 pub mod Tasks
+pub mod Nodes
 pub mod Arms
 pub mod Blocks
 pub mod Renewing

@@ -11,9 +11,8 @@ use Rattle.language.specs.Translation.{plain-type, plain-method, plain-body}
 use Rattle.plain.specs.Emission.{most-numbers, plain-number, type-lines, Proper, ProperAll, lines-of}
 use Rattle.plain.specs.Emission.{tree-numbers, Written, TypesWritten, SomeTypes, SomeBody, BodyEmitted}
 use Rattle.plain.specs.Emission.{method-numbers, SomeMethod, MethodEmitted}
-use Rattle.plain.proofs.Writing.{written-then}
+use Rattle.plain.proofs.Writing.{written-then, part, whole}
 use Rattle.plain.proofs.Numbers.{lines-append}
-use Rattle.plain.proofs.Tasks.{part, whole}
 use Rattle.plain.proofs.Blocks.{types-length}
 
 module _ {R T C : List ℕ} {at body place count : ℕ} where

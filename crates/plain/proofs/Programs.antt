@@ -20,13 +20,11 @@ use Rattle.language.specs.WellFormed.{ClassInForm, ProgramInForm}
 use Rattle.language.specs.Translation.{plain-field, plain-method, plain-classes, plain-program, translate}
 use Rattle.language.specs.Layout.{EachMethod, EachClass, MethodAt, ClassAt, body-row, methods-from-row}
 use Rattle.plain.specs.Emission.{most-numbers, Proper, ProperAll, lines-of, tree-numbers, field-lines}
-use Rattle.plain.specs.Emission.{node-numbers, Ready}
-use Rattle.plain.specs.Emission.{method-numbers, methods-numbers, class-numbers, classes-numbers}
-use Rattle.plain.specs.Emission.{program-numbers, Written}
-use Rattle.plain.specs.Emission.{BodyTask, SomeBody, BodyEmitted, MethodReady, ClassReady, ClassesTask}
-use Rattle.plain.specs.Emission.{SomeClasses, ClassesEmitted, ProgramTask, SomeProgram, ProgramWritten}
-use Rattle.plain.proofs.Writing.{written-then, written-as}
-use Rattle.plain.proofs.Tasks.{part}
+use Rattle.plain.specs.Emission.{node-numbers, Ready, method-numbers, methods-numbers, class-numbers}
+use Rattle.plain.specs.Emission.{classes-numbers, program-numbers, Written, BodyTask, SomeBody}
+use Rattle.plain.specs.Emission.{BodyEmitted, MethodReady, ClassReady, ClassesTask, SomeClasses}
+use Rattle.plain.specs.Emission.{ClassesEmitted, ProgramTask, SomeProgram, ProgramWritten}
+use Rattle.plain.proofs.Writing.{written-then, written-as, part}
 use Rattle.plain.proofs.Numbers.{lines-append}
 use Rattle.plain.proofs.Methods.{plain-methods}
 

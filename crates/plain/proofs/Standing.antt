@@ -5,36 +5,16 @@ use mathlib.Core.List.{List, [], _∷_}
 use Prim.Native.Nat.{ℕ, suc, _+_, _-_, _*_, _≤_, _<_}
 use native.Mathlib.Omega.{arith}
 use lib.ListN.{length, getD}
-use Rattle.language.specs.Tree.{Expr, literal-true, literal-false, literal-null, slot}
-use Rattle.language.specs.Tree.{is-null, get, cast, new, change, assign, set, call, choose, block}
-use Rattle.language.specs.Tree.{Declaration, Class, size, method-lines, heading-lines, methods-lines}
+use Rattle.language.specs.Tree.{Declaration, Class, method-lines, heading-lines, methods-lines}
 use Rattle.language.specs.Tree.{class-lines, classes-lines}
-use Rattle.language.specs.Encoded.{Encoded}
 use Rattle.language.specs.Layout.{EachMethod, EachClass, MethodAt, ClassAt, effects-row, body-row}
 use Rattle.language.specs.Layout.{methods-from-row}
 use Rattle.language.proofs.Lines.{first-line, lines-run}
-use Rattle.plain.specs.Emission.{code-of, ClassEnd, Skipped, SomeFieldLines}
+use Rattle.plain.specs.Emission.{ClassEnd, Skipped, SomeFieldLines}
 use Rattle.plain.specs.Bounds.{MethodsStand, ClassesStand, SomeMethodsStand, SomeClassesStand}
 use Rattle.plain.specs.Bounds.{MethodsPassed}
-use Rattle.plain.proofs.Tasks.{node-at, size-positive}
+use Rattle.plain.proofs.Letters.{no-heading, node-at, node-ends, size-positive}
 use Rattle.plain.proofs.Skips.{skipped-at}
-
--- no node has the letter of a heading
-node-letter : (e : Expr) → (code-of e ≢ 80) × (code-of e ≢ 88)
-node-letter literal-true = (omega arith, omega arith)
-node-letter literal-false = (omega arith, omega arith)
-node-letter literal-null = (omega arith, omega arith)
-node-letter (slot k) = (omega arith, omega arith)
-node-letter (is-null e) = (omega arith, omega arith)
-node-letter (get f e) = (omega arith, omega arith)
-node-letter (cast c e) = (omega arith, omega arith)
-node-letter (new c) = (omega arith, omega arith)
-node-letter (change k d) = (omega arith, omega arith)
-node-letter (assign k e) = (omega arith, omega arith)
-node-letter (set f e e′) = (omega arith, omega arith)
-node-letter (call m e es) = (omega arith, omega arith)
-node-letter (choose e x y) = (omega arith, omega arith)
-node-letter (block ts es) = (omega arith, omega arith)
 
 pub other-letter : {a b c : ℕ} → a ≡ b → b ≢ c → a ≢ c
 other-letter e h f = h (sym e ∙ f)
@@ -43,14 +23,14 @@ other-letter e h f = h (sym e ∙ f)
 after-effects : {R E : List ℕ} {m : Declaration} {r : ℕ} → MethodAt R E m r
     → (body-row r m * 4 + 3 < length R) × (getD R (body-row r m * 4) 0 ≢ 88)
 after-effects {R} {E} {m} {r} x = let n = node-at R E (body-row r m) (m .body) (x .body) in
-    (n .0, other-letter (n .1) (node-letter (m .body) .1))
+    (n .0, other-letter (n .1) (no-heading (m .body) .1))
 
 after-parameters : {R E : List ℕ} {m : Declaration} {r : ℕ} → MethodAt R E m r
     → (effects-row r m * 4 + 3 < length R) × (getD R (effects-row r m * 4) 0 ≢ 80)
 after-parameters {R} {E} {m} {r} x = let n = node-at R E (body-row r m) (m .body) (x .body) in
     first-line _ (λ i. (i * 4 + 3 < length R) × (getD R (i * 4) 0 ≢ 80))
     (λ c i h. (h .within, other-letter (h .letter) (omega arith))) (m .effects) (effects-row r m) (x .effects)
-    (n .0, other-letter (n .1) (node-letter (m .body) .0))
+    (n .0, other-letter (n .1) (no-heading (m .body) .0))
 
 pub method-rows : {R E : List ℕ} {m : Declaration} {r x b : ℕ} → MethodAt R E m r → Skipped R 80 (r + 1) x
     → Skipped R 88 x b
@@ -71,25 +51,6 @@ lines-positive m = omega (arith, size-positive (m .body))
 pub class-positive : (c : Class) → 1 ≤ class-lines c
 unfolding class-lines
 class-positive c = omega arith
-
--- where a node ends
-node-ends : (R E : List ℕ) (at : ℕ) (e : Expr)
-    → Encoded R E e at → (at < length E) × (getD E at 0 ≡ at + size e)
-unfolding Encoded size
-node-ends R E at literal-true h = (h .in-ends, h .end)
-node-ends R E at literal-false h = (h .in-ends, h .end)
-node-ends R E at literal-null h = (h .in-ends, h .end)
-node-ends R E at (slot k) h = (h .in-ends, h .end)
-node-ends R E at (is-null e) h = (h .0 .in-ends, h .0 .end)
-node-ends R E at (get f e) h = (h .0 .in-ends, h .0 .end)
-node-ends R E at (cast c e) h = (h .0 .in-ends, h .0 .end)
-node-ends R E at (new c) h = (h .in-ends, h .end)
-node-ends R E at (change k d) h = (h .in-ends, h .end)
-node-ends R E at (assign k e) h = (h .0 .in-ends, h .0 .end)
-node-ends R E at (set f e e′) h = (h .0 .in-ends, h .0 .end)
-node-ends R E at (call m e es) h = (h .0 .in-ends, h .0 .end)
-node-ends R E at (choose e y z) h = (h .0 .in-ends, h .0 .end)
-node-ends R E at (block ts es) h = (h .0 .in-ends, h .0 .end)
 
 end-at : {R : List ℕ} {a b : ℕ} → ClassEnd R a → a ≡ b → ClassEnd R b
 end-at h e = rw e at h

@@ -322,23 +322,6 @@ pub record Emitted (xs : List ℕ) (lines : ℕ) (O O′ : List ℕ) (place at p
   pub ended : place′ ≡ place + length xs
   pub passed : at′ ≡ at + lines
 
--- The code of a node's letter.
-abbrev pub code-of : Expr → ℕ
-code-of literal-true = 84
-code-of literal-false = 76
-code-of literal-null = 78
-code-of (slot k) = 73
-code-of (is-null e) = 90
-code-of (get f e) = 71
-code-of (cast c e) = 75
-code-of (new c) = 87
-code-of (change k d) = 82
-code-of (assign k e) = 65
-code-of (set f e e′) = 85
-code-of (call m e es) = 81
-code-of (choose e x y) = 74
-code-of (block ts es) = 66
-
 -- There is a task for the node at a row; for its letter; for nodes from a row on.
 pub record SomeNode (R T C S : List ℕ) (at vars next place : ℕ) : Type 0 where
   pub P : List Class

@@ -3,7 +3,7 @@ use mathlib.Core.Path.{_∙_}
 use Prim.Native.Nat.{ℕ, _-_}
 use native.Mathlib.Omega.{arith}
 use Rattle.plain.proofs.Arms.{row-known}
-use Rattle.plain.proofs.Tasks.{nodes-none, nodes-first, nodes-rest, nodes-step}
+use Rattle.plain.proofs.Nodes.{nodes-none, nodes-first, nodes-rest, nodes-step}
 use Rattle.plain.proofs.emit_node.Reads as emit-node
 use Rattle.plain.proofs.emit_nodes.Reads as emit-nodes
 use Rattle.plain.proofs.+emit_arguments+emit_block+emit_call+emit_cast+emit_node+emit_nodes+emit_set.Proof.Base.{emit-node-below, emit-nodes-at, emit-nodes-below}
