@@ -34,7 +34,7 @@ use Rattle.theory.specs.Equal.{complete, completes, all-fit-length}
 use Rattle.theory.specs.Lookups.{each-at, each-append, method-found}
 use Rattle.theory.specs.MoreLookups.{MoreLaws, each-declared}
 use Rattle.theory.specs.PlainForm.{slots-same}
-use Rattle.plain.specs.Emission.{Ready, ReadyAll, FieldFound, MethodFound}
+use Rattle.plain.specs.Tasks.{Ready, ReadyAll, FieldFound, MethodFound}
 use Rattle.plain.proofs.Programs.{proper, all-proper}
 
 -- fields and parameters that a lookup finds have types that rows can hold

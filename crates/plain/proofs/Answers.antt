@@ -32,7 +32,9 @@ use Rattle.form.specs.declared.Formed.the-variants.{InForm}
 use Rattle.theory.specs.Accepts.{check-accepts}
 use Rattle.theory.specs.WholeBack.{form-back}
 use Rattle.theory.specs.Translatable.{earlier-inv, same-program}
-use Rattle.plain.specs.Emission.{program-numbers, ProgramTask, SomeProgram, ProgramWritten}
+use Rattle.plain.specs.Numbers.{program-numbers}
+use Rattle.plain.specs.Tasks.{ProgramTask}
+use Rattle.plain.specs.Emission.{SomeProgram, ProgramWritten}
 use Rattle.plain.specs.Bounds.{pass-of, ClassesStand, SomeClassesStand, ClassesCounted, SomeCounted}
 use Rattle.plain.specs.Bounds.{FieldsLimited, NamesFree, told, limits-told, CheckedRows, SomeChecked}
 use Rattle.plain.specs.Bounds.{Limited, PlainWritten, SomeAccepted}

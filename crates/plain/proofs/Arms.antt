@@ -13,12 +13,12 @@ use Rattle.language.specs.Tree.{size, Field, Class}
 use Rattle.language.specs.Program.{world}
 use Rattle.language.specs.Typing.{Environment}
 use Rattle.language.specs.Translation.{Shape, plain-slot, translate}
-use Rattle.plain.specs.Emission.{most-numbers, node-numbers, Written, Emitted, NodeTask, how-many}
-use Rattle.plain.specs.Emission.{rows-taken, slot-lines, new-lines, change-lines, renew-lines}
-use Rattle.plain.specs.Emission.{renew-head, copy-lines, SomeChange, ChangeWritten, head-length}
-use Rattle.plain.specs.Emission.{SomeNode, SomeCast, SomeSet, SomeCall, SomeBlock, SomeNodes}
-use Rattle.plain.specs.Emission.{NodeEmitted, CastEmitted, SetEmitted, CallEmitted, BlockEmitted}
-use Rattle.plain.specs.Emission.{NodesEmitted}
+use Rattle.plain.specs.Numbers.{most-numbers, node-numbers, how-many, rows-taken, slot-lines, new-lines}
+use Rattle.plain.specs.Numbers.{change-lines, renew-lines, renew-head, copy-lines, head-length}
+use Rattle.plain.specs.Emission.{Written, Emitted, SomeChange, ChangeWritten, SomeNode, SomeCast}
+use Rattle.plain.specs.Emission.{SomeSet, SomeCall, SomeBlock, SomeNodes, NodeEmitted, CastEmitted}
+use Rattle.plain.specs.Emission.{SetEmitted, CallEmitted, BlockEmitted, NodesEmitted}
+use Rattle.plain.specs.Tasks.{NodeTask}
 use Rattle.plain.proofs.Letters.{EachTree, by-letter, rest-block, node-at}
 use Rattle.plain.proofs.Writing.{written-then, part, whole}
 use Rattle.plain.proofs.Numbers.{n-true, n-false, n-null, t-slot, t-is-null, t-assign, t-get, t-new}

@@ -20,13 +20,14 @@ use Rattle.language.specs.Typing.{Environment, fresh-slot, type-of, type-all}
 use Rattle.language.specs.Translation.{Shape, plain-type, typed-or, typed-all-or, class-or, type-or}
 use Rattle.language.specs.Translation.{parameters-or, variables, temporaries}
 use Rattle.language.specs.LookupClasses.{LooksUp, LooksUpAll}
-use Rattle.plain.specs.Emission.{most-numbers, nodes-numbers, arguments-numbers, type-lines, read-lines}
-use Rattle.plain.specs.Emission.{plain-number, Proper, ProperAll, Written, NodeTask, NodesTask, Nodes}
-use Rattle.plain.specs.Emission.{none, also, nodes-of, how-many, rows-taken, EncodedNodes, LooksUpNodes}
-use Rattle.plain.specs.Emission.{ReadyNodes, Ready, ReadyAll, variable-count, Extended, FieldRows}
-use Rattle.plain.specs.Emission.{SomeTypes, TypesWritten, FieldFound, MethodFound, SomeSet, SomeCall}
+use Rattle.plain.specs.Numbers.{most-numbers, nodes-numbers, arguments-numbers, type-lines, read-lines}
+use Rattle.plain.specs.Numbers.{plain-number, Proper, ProperAll, Nodes, none, also, nodes-of, how-many}
+use Rattle.plain.specs.Numbers.{rows-taken}
+use Rattle.plain.specs.Emission.{Written, Extended, SomeTypes, TypesWritten, SomeSet, SomeCall}
 use Rattle.plain.specs.Emission.{SomeBlock, SomeNodes, SomeArguments, SetEmitted, CallEmitted}
 use Rattle.plain.specs.Emission.{BlockEmitted, NodesEmitted, ArgumentsEmitted}
+use Rattle.plain.specs.Tasks.{NodeTask, NodesTask, EncodedNodes, LooksUpNodes, ReadyNodes, Ready}
+use Rattle.plain.specs.Tasks.{ReadyAll, variable-count, FieldRows, FieldFound, MethodFound}
 use Rattle.plain.proofs.Writing.{written-then, part, whole}
 use Rattle.plain.proofs.Numbers.{t-block, t-set, t-call}
 use Rattle.plain.proofs.Tasks.{node-row}

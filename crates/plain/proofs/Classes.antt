@@ -14,12 +14,12 @@ use Rattle.language.specs.Translation.{variables}
 use Rattle.language.specs.Encoded.{LinesAt}
 use Rattle.language.specs.Layout.{EachMethod, EachClass, FieldsAt, MethodAt, ClassAt, body-row}
 use Rattle.language.specs.Layout.{methods-from-row}
-use Rattle.plain.specs.Emission.{most-numbers, plain-number, type-lines, field-lines, node-numbers}
-use Rattle.plain.specs.Emission.{Written, Emitted, Skipped, SomeFieldLines, FieldsWritten}
-use Rattle.plain.specs.Emission.{method-numbers, methods-numbers, class-numbers, classes-numbers}
-use Rattle.plain.specs.Emission.{MethodTask, SomeMethod, MethodEmitted, MethodReady, ClassReady}
-use Rattle.plain.specs.Emission.{MethodsTask, ClassTask, ClassesTask, SomeMethods, SomeClass}
-use Rattle.plain.specs.Emission.{SomeClasses, MethodsEmitted, ClassEmitted, ClassesEmitted}
+use Rattle.plain.specs.Numbers.{most-numbers, plain-number, type-lines, field-lines, node-numbers}
+use Rattle.plain.specs.Numbers.{method-numbers, methods-numbers, class-numbers, classes-numbers}
+use Rattle.plain.specs.Emission.{Written, Emitted, Skipped, SomeFieldLines, FieldsWritten, SomeMethod}
+use Rattle.plain.specs.Emission.{MethodEmitted, SomeMethods, SomeClass, SomeClasses, MethodsEmitted}
+use Rattle.plain.specs.Emission.{ClassEmitted, ClassesEmitted}
+use Rattle.plain.specs.Tasks.{MethodTask, MethodReady, ClassReady, MethodsTask, ClassTask, ClassesTask}
 use Rattle.plain.proofs.Writing.{written-none, written-then, part, whole}
 use Rattle.plain.specs.Bounds.{MethodsStand, ClassesStand}
 use Rattle.plain.proofs.Blocks.{types-length}

@@ -11,9 +11,9 @@ use lib.Seq.{getD-set-same, getD-set-other}
 use Rattle.language.specs.Rows.{Letter}
 use Rattle.language.specs.Encoded.{LinesAt, TypesAt}
 use Rattle.language.specs.Tree.{DeclaredType, type-number, Field}
-use Rattle.plain.specs.Emission.{Written, plain-number, type-lines, read-lines, copy-lines, FieldRows}
-use Rattle.plain.specs.Emission.{SomeTypes, TypesWritten, SomeFields, CopiesWritten, Extended}
-use Rattle.plain.specs.Emission.{slot-lines}
+use Rattle.plain.specs.Emission.{Written, SomeTypes, TypesWritten, SomeFields, CopiesWritten, Extended}
+use Rattle.plain.specs.Numbers.{plain-number, type-lines, read-lines, copy-lines, slot-lines}
+use Rattle.plain.specs.Tasks.{FieldRows}
 use Rattle.plain.proofs.Writing.{written-none, written-then}
 
 module _ {R : List ℕ} {at count : ℕ} where

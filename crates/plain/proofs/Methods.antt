@@ -8,9 +8,10 @@ use Rattle.language.specs.Rows.{Letter, code, Record, written, P-parameter, M-m
 use Rattle.language.specs.Tree.{DeclaredType, type-number, Declaration, flatten, flatten-methods}
 use Rattle.language.specs.World.{World}
 use Rattle.language.specs.Translation.{plain-type, plain-method, plain-body}
-use Rattle.plain.specs.Emission.{most-numbers, plain-number, type-lines, Proper, ProperAll, lines-of}
-use Rattle.plain.specs.Emission.{tree-numbers, Written, TypesWritten, SomeTypes, SomeBody, BodyEmitted}
-use Rattle.plain.specs.Emission.{method-numbers, SomeMethod, MethodEmitted}
+use Rattle.plain.specs.Numbers.{most-numbers, plain-number, type-lines, Proper, ProperAll, lines-of}
+use Rattle.plain.specs.Numbers.{tree-numbers, method-numbers}
+use Rattle.plain.specs.Emission.{Written, TypesWritten, SomeTypes, SomeBody, BodyEmitted, SomeMethod}
+use Rattle.plain.specs.Emission.{MethodEmitted}
 use Rattle.plain.proofs.Writing.{written-then, part, whole}
 use Rattle.plain.proofs.Numbers.{lines-append}
 use Rattle.plain.proofs.Blocks.{types-length}

@@ -12,10 +12,11 @@ use Rattle.language.specs.Tree.{count, size, Class}
 use Rattle.language.specs.Program.{world}
 use Rattle.language.specs.Typing.{Environment}
 use Rattle.language.specs.Translation.{Shape}
-use Rattle.plain.specs.Emission.{most-numbers, node-numbers, nodes-numbers, arguments-numbers, Written}
-use Rattle.plain.specs.Emission.{Emitted, NodeTask, NodesTask, Nodes, none, also, how-many, rows-taken}
-use Rattle.plain.specs.Emission.{EncodedNodes, LooksUpNodes, ReadyNodes, SomeNode, SomeNodes}
-use Rattle.plain.specs.Emission.{SomeArguments, NodeEmitted, NodesEmitted, ArgumentsEmitted}
+use Rattle.plain.specs.Numbers.{most-numbers, node-numbers, nodes-numbers, arguments-numbers, Nodes}
+use Rattle.plain.specs.Numbers.{none, also, how-many, rows-taken}
+use Rattle.plain.specs.Emission.{Written, Emitted, SomeNode, SomeNodes, SomeArguments, NodeEmitted}
+use Rattle.plain.specs.Emission.{NodesEmitted, ArgumentsEmitted}
+use Rattle.plain.specs.Tasks.{NodeTask, NodesTask, EncodedNodes, LooksUpNodes, ReadyNodes}
 use Rattle.plain.proofs.Writing.{written-then, part, whole}
 use Rattle.plain.proofs.Letters.{size-positive}
 use Rattle.plain.proofs.Tasks.{node-row}

@@ -23,10 +23,10 @@ use Rattle.language.specs.Translation.{plain-change}
 use Rattle.language.specs.Translation.{translate, translate-all, translate-arguments, _⊕_, copies, renew}
 use Rattle.language.specs.Translation.{reads, variables, typed-or, typed-all-or, class-or, type-or}
 use Rattle.language.specs.Translation.{parameters-or, temporaries}
-use Rattle.plain.specs.Emission.{none, also, nodes-of, nodes-numbers, arguments-numbers, lines-of}
-use Rattle.plain.specs.Emission.{tree-numbers, trees-numbers, local-lines, node-numbers, slot-lines}
-use Rattle.plain.specs.Emission.{new-lines, copy-lines, renew-lines, change-lines, type-lines}
-use Rattle.plain.specs.Emission.{read-lines, Proper, ProperAll}
+use Rattle.plain.specs.Numbers.{none, also, nodes-of, nodes-numbers, arguments-numbers, lines-of}
+use Rattle.plain.specs.Numbers.{tree-numbers, trees-numbers, local-lines, node-numbers, slot-lines}
+use Rattle.plain.specs.Numbers.{new-lines, copy-lines, renew-lines, change-lines, type-lines}
+use Rattle.plain.specs.Numbers.{read-lines, Proper, ProperAll}
 
 pub lines-append : (a b : List Record) → lines-of (a ++ b) ≡ lines-of a ++ lines-of b
 unfolding lines-of numbers-of

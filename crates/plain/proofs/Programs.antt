@@ -19,11 +19,12 @@ use Rattle.language.specs.WellFormed.{TypeInForm, Each, each-nil, each-cons, Fi
 use Rattle.language.specs.WellFormed.{ClassInForm, ProgramInForm}
 use Rattle.language.specs.Translation.{plain-field, plain-method, plain-classes, plain-program, translate}
 use Rattle.language.specs.Layout.{EachMethod, EachClass, MethodAt, ClassAt, body-row, methods-from-row}
-use Rattle.plain.specs.Emission.{most-numbers, Proper, ProperAll, lines-of, tree-numbers, field-lines}
-use Rattle.plain.specs.Emission.{node-numbers, Ready, method-numbers, methods-numbers, class-numbers}
-use Rattle.plain.specs.Emission.{classes-numbers, program-numbers, Written, BodyTask, SomeBody}
-use Rattle.plain.specs.Emission.{BodyEmitted, MethodReady, ClassReady, ClassesTask, SomeClasses}
-use Rattle.plain.specs.Emission.{ClassesEmitted, ProgramTask, SomeProgram, ProgramWritten}
+use Rattle.plain.specs.Numbers.{most-numbers, Proper, ProperAll, lines-of, tree-numbers, field-lines}
+use Rattle.plain.specs.Numbers.{node-numbers, method-numbers, methods-numbers, class-numbers}
+use Rattle.plain.specs.Numbers.{classes-numbers, program-numbers}
+use Rattle.plain.specs.Tasks.{Ready, BodyTask, MethodReady, ClassReady, ClassesTask, ProgramTask}
+use Rattle.plain.specs.Emission.{Written, SomeBody, BodyEmitted, SomeClasses, ClassesEmitted}
+use Rattle.plain.specs.Emission.{SomeProgram, ProgramWritten}
 use Rattle.plain.proofs.Writing.{written-then, written-as, part}
 use Rattle.plain.proofs.Numbers.{lines-append}
 use Rattle.plain.proofs.Methods.{plain-methods}

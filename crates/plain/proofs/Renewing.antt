@@ -7,9 +7,10 @@ use native.Mathlib.Omega.{arith}
 use lib.ListN.{length, getD, length-append}
 use Rattle.language.specs.Tree.{Field}
 use Rattle.language.specs.Program.{world}
-use Rattle.plain.specs.Emission.{most-numbers, Written, SomeCopies, SomeFields, CopiesWritten}
-use Rattle.plain.specs.Emission.{RenewWritten, SomeChange, ChangeWritten, copy-lines, renew-head}
-use Rattle.plain.specs.Emission.{renew-lines, change-head, change-lines, head-length}
+use Rattle.plain.specs.Numbers.{most-numbers, copy-lines, renew-head, renew-lines, change-head}
+use Rattle.plain.specs.Numbers.{change-lines, head-length}
+use Rattle.plain.specs.Emission.{Written, SomeCopies, SomeFields, CopiesWritten, RenewWritten}
+use Rattle.plain.specs.Emission.{SomeChange, ChangeWritten}
 use Rattle.plain.proofs.Writing.{written-then, written-as}
 use Rattle.plain.proofs.Arms.{copies-length}
 

@@ -11,7 +11,8 @@ use Rattle.language.specs.Tree.{DeclaredType}
 use Rattle.language.specs.Tree.{Class}
 use Rattle.language.specs.Translation.{Shape, position, plain-slot, variables}
 use Rattle.language.proofs.Lines.{le-or-less}
-use Rattle.plain.specs.Emission.{Setting, variable-count, Extended}
+use Rattle.plain.specs.Tasks.{Setting, variable-count}
+use Rattle.plain.specs.Emission.{Extended}
 
 variables-append : (a b : Shape) → variable-count (a ++ b) ≡ variable-count a + variable-count b
 unfolding variable-count

@@ -29,7 +29,8 @@ use Rattle.theory.specs.Accepts.{RowsOf, numbers-count}
 use Rattle.theory.specs.Translatable.{TranslatableRows, taken-laws}
 use Rattle.theory.specs.PlainNames.{small-world}
 use Rattle.theory.specs.PlainSizes.{program-size}
-use Rattle.plain.specs.Emission.{most-numbers, program-numbers, ProgramTask}
+use Rattle.plain.specs.Numbers.{most-numbers, program-numbers}
+use Rattle.plain.specs.Tasks.{ProgramTask}
 use Rattle.plain.proofs.Accepted.{classes-ready, start-ready}
 use Rattle.plain.proofs.Tabled.{members}
 

@@ -10,7 +10,8 @@ use Rattle.language.specs.Tree.{class-lines, classes-lines}
 use Rattle.language.specs.Layout.{EachMethod, EachClass, MethodAt, ClassAt, effects-row, body-row}
 use Rattle.language.specs.Layout.{methods-from-row}
 use Rattle.language.proofs.Lines.{first-line, lines-run}
-use Rattle.plain.specs.Emission.{ClassEnd, Skipped, SomeFieldLines}
+use Rattle.plain.specs.Tasks.{ClassEnd}
+use Rattle.plain.specs.Emission.{Skipped, SomeFieldLines}
 use Rattle.plain.specs.Bounds.{MethodsStand, ClassesStand, SomeMethodsStand, SomeClassesStand}
 use Rattle.plain.specs.Bounds.{MethodsPassed}
 use Rattle.plain.proofs.Letters.{no-heading, node-at, node-ends, size-positive}

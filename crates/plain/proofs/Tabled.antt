@@ -15,7 +15,7 @@ use Rattle.language.specs.ClassTables.{ClassTables, stored-place, field-rows, m
 use Rattle.language.specs.Layout.{ProgramAt}
 use Rattle.theory.specs.MoreLookups.{MoreLaws}
 use Rattle.layout.specs.Found.{FieldHere, all-fields-here, row-some, method-here}
-use Rattle.plain.specs.Emission.{Members, FieldRows}
+use Rattle.plain.specs.Tasks.{Members, FieldRows}
 
 -- fields whose rows the table has
 fields-tabled : (R T : List ℕ) (fs : List Field) (rs : List ℕ) (at : ℕ) → All2 (FieldHere R) fs rs

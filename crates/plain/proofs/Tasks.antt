@@ -14,9 +14,10 @@ use Rattle.language.specs.Encoded.{Encoded}
 use Rattle.language.specs.Typing.{Environment, type-of}
 use Rattle.language.specs.Translation.{Shape, typed-or, class-or}
 use Rattle.language.specs.LookupClasses.{LooksUp}
-use Rattle.plain.specs.Emission.{most-numbers, node-numbers, nodes-numbers, Written, Emitted, NodeTask}
-use Rattle.plain.specs.Emission.{NodesTask, none, also, EncodedNodes, LooksUpNodes, ReadyNodes, Ready}
-use Rattle.plain.specs.Emission.{variable-count, NodeEmitted}
+use Rattle.plain.specs.Numbers.{most-numbers, node-numbers, nodes-numbers, none, also}
+use Rattle.plain.specs.Emission.{Written, Emitted, NodeEmitted}
+use Rattle.plain.specs.Tasks.{NodeTask, NodesTask, EncodedNodes, LooksUpNodes, ReadyNodes, Ready}
+use Rattle.plain.specs.Tasks.{variable-count}
 use Rattle.plain.proofs.Writing.{written-then, part, whole}
 use Rattle.plain.proofs.Numbers.{t-is-null, t-assign, t-get, t-cast, t-choose}
 use Rattle.plain.proofs.Letters.{node-at}

@@ -25,7 +25,8 @@ use Rattle.language.specs.Encoded.{RowAt}
 use Rattle.language.specs.ClassTables.{ClassTables}
 use Rattle.language.specs.Layout.{EachMethod, EachClass, FieldsAt, MethodAt, ClassAt, ProgramAt}
 use Rattle.language.specs.Layout.{LooksUpProgram}
-use Rattle.plain.specs.Emission.{ClassEnd, program-numbers, ProgramTask}
+use Rattle.plain.specs.Tasks.{ClassEnd, ProgramTask}
+use Rattle.plain.specs.Numbers.{program-numbers}
 
 -- A refusal with a number on a line, if there is one.
 abbrev pub pass-of : ℕ → ℕ → Pass

@@ -5,10 +5,10 @@
 ghost use mathlib.Core.Path.{_≡_};
 ghost use Prim.Native.Nat.{_+_, _-_, _*_, _≤_, _<_};
 ghost use lib.ListN.{length, set, replicate};
-ghost use Rattle.plain.specs.Emission.{most-numbers, plain-number, read-lines, Written, SomeTypes};
-ghost use Rattle.plain.specs.Emission.{TypesWritten, SomeFields, SomeCopies, CopiesWritten};
-ghost use Rattle.plain.specs.Emission.{RenewWritten, SomeChange, ChangeWritten, Extended, slot-lines};
-ghost use Rattle.plain.specs.Emission.{new-lines, SomeNode, SomeCast, SomeSet, SomeCall, SomeBlock};
+ghost use Rattle.plain.specs.Numbers.{most-numbers, plain-number, read-lines, slot-lines, new-lines};
+ghost use Rattle.plain.specs.Emission.{Written, SomeTypes, TypesWritten, SomeFields, SomeCopies};
+ghost use Rattle.plain.specs.Emission.{CopiesWritten, RenewWritten, SomeChange, ChangeWritten};
+ghost use Rattle.plain.specs.Emission.{Extended, SomeNode, SomeCast, SomeSet, SomeCall, SomeBlock};
 ghost use Rattle.plain.specs.Emission.{SomeNodes, SomeArguments, Skipped, SomeFieldLines};
 ghost use Rattle.plain.specs.Emission.{FieldsWritten, SomeMethods, MethodsEmitted, SomeClass};
 ghost use Rattle.plain.specs.Emission.{ClassEmitted, SomeClasses, ClassesEmitted, SomeProgram};
