@@ -11,8 +11,7 @@ use lib.ListN.{length, drop}
 use lib.Seq.{sets, sets-eq}
 use Rattle.language.specs.Limits.{of-check, of-translator, limit-refusal, reserved-refusal}
 use Rattle.language.specs.Results.{Checked, accept, refuse, Pass, passed, earlier, bind-checked, require-inv}
-use Rattle.language.specs.Results.{bind-checked-inv}
-use Rattle.language.specs.Results.{accept-injective}
+use Rattle.language.specs.Results.{bind-checked-inv, accept-injective}
 use Rattle.language.specs.Rows.{rows-of}
 use Rattle.language.specs.Tree.{Program, classes-lines}
 use Rattle.language.specs.Form.{form}

@@ -6,10 +6,8 @@ use Prim.Native.Nat.{ℕ, zero, suc, _+_, _-_, _*_, _≤_, _<_}
 use native.Mathlib.Omega.{arith}
 use lib.ListN.{length, getD, length-append}
 use Rattle.language.specs.Rows.{Letter, code, T-true, L-false, N-null, I-slot, Z-is-null, G-get, K-cast}
-use Rattle.language.specs.Rows.{W-new}
-use Rattle.language.specs.Rows.{R-change, A-assign, U-set, Q-call, J-choose, B-block}
-use Rattle.language.specs.Tree.{Expr}
-use Rattle.language.specs.Tree.{size, Field, Class}
+use Rattle.language.specs.Rows.{W-new, R-change, A-assign, U-set, Q-call, J-choose, B-block}
+use Rattle.language.specs.Tree.{Expr, size, Field, Class}
 use Rattle.language.specs.Program.{world}
 use Rattle.language.specs.Typing.{Environment}
 use Rattle.language.specs.Translation.{Shape, plain-slot, translate}
@@ -21,16 +19,12 @@ use Rattle.plain.specs.Emission.{SetEmitted, CallEmitted, BlockEmitted, 
 use Rattle.plain.specs.Tasks.{NodeTask}
 use Rattle.plain.proofs.Letters.{EachTree, by-letter, rest-block, node-at}
 use Rattle.plain.proofs.Writing.{written-then, part, whole}
-use Rattle.plain.proofs.Numbers.{n-true, n-false, n-null, t-slot, t-is-null, t-assign, t-get, t-new}
-use Rattle.plain.proofs.Numbers.{t-choose, t-change}
+use Rattle.plain.proofs.Numbers.{n-true, n-false, n-null}
+use Rattle.plain.proofs.Translated.{t-slot, t-is-null, t-assign, t-get, t-new, t-choose, t-change}
 use Rattle.plain.proofs.Tasks.{node-row, slot-slot, new-class, change-slot, is-null-child, assign-slot}
 use Rattle.plain.proofs.Tasks.{assign-child, get-name, get-child, choose-nodes, choose-room}
 use Rattle.plain.proofs.Shapes.{slot-at}
-
-pub copies-length : (s : ℕ) (fs : List Field) → length (copy-lines s fs) ≡ 16 * length fs
-unfolding copy-lines
-copies-length s [] = refl
-copies-length s (f ∷ fs) = omega (arith, copies-length s fs)
+use Rattle.plain.proofs.Lines.{copies-length}
 
 module _ {R T C S : List ℕ} {at vars next place : ℕ} where
   -- a node whose letter is known: it is enough to know what follows of each tree of the letter

@@ -7,9 +7,8 @@ use Prim.Native.Nat.{ℕ, _+_, _*_, _≤_, _<_}
 use native.Mathlib.Omega.{arith}
 use lib.ListN.{length, getD}
 use Rattle.language.specs.Rows.{Letter, code, C-class, F-field, M-method, P-parameter, X-effect, S-start}
-use Rattle.language.specs.Rows.{V-local}
-use Rattle.language.specs.Rows.{T-true, L-false, N-null, I-slot, Z-is-null, G-get, K-cast, W-new, R-change}
-use Rattle.language.specs.Rows.{A-assign, U-set, Q-call, J-choose, B-block}
+use Rattle.language.specs.Rows.{V-local, T-true, L-false, N-null, I-slot, Z-is-null, G-get, K-cast, W-new}
+use Rattle.language.specs.Rows.{R-change, A-assign, U-set, Q-call, J-choose, B-block}
 use Rattle.language.specs.Tree.{DeclaredType, Expr, literal-true, literal-false, literal-null, slot, is-null}
 use Rattle.language.specs.Tree.{get, cast, new, change, assign, set, call, choose, block, Exprs, size}
 use Rattle.language.specs.Encoded.{NodeAt, Encoded}

@@ -1,25 +1,60 @@
--- Laws of nodes one after another, and of arguments that are put in temporaries: the first, the rest, and what they
--- write together. Assumes nothing.
-use mathlib.Core.Path.{_≡_, refl, sym}
+-- Laws of nodes one after another, and of arguments that are put in temporaries: their rows, the first, the rest, and what
+-- they write together. Assumes nothing.
+use mathlib.Core.Path.{_≡_, refl, sym, ap}
 use mathlib.Core.Logic.{_≢_}
 use mathlib.Core.List.{List, [], _∷_}
 use Prim.Native.Nat.{ℕ, suc, _+_, _-_, _≤_, _<_}
 use native.Mathlib.Omega.{arith}
 use native.Mathlib.Numerals.{add-one}
 use lib.ListN.{length, length-append}
-use Rattle.language.specs.Tree.{Expr}
-use Rattle.language.specs.Tree.{count, size, Class}
+use Rattle.language.specs.Tree.{Expr, count, size, Class, Exprs, nil, cons, sizes}
 use Rattle.language.specs.Program.{world}
-use Rattle.language.specs.Typing.{Environment}
-use Rattle.language.specs.Translation.{Shape}
+use Rattle.language.specs.Typing.{Environment, type-of}
+use Rattle.language.specs.Translation.{Shape, typed-or}
 use Rattle.plain.specs.Numbers.{most-numbers, node-numbers, nodes-numbers, arguments-numbers, Nodes}
-use Rattle.plain.specs.Numbers.{none, also, how-many, rows-taken}
+use Rattle.plain.specs.Numbers.{none, also, how-many, rows-taken, nodes-of}
 use Rattle.plain.specs.Emission.{Written, Emitted, SomeNode, SomeNodes, SomeArguments, NodeEmitted}
 use Rattle.plain.specs.Emission.{NodesEmitted, ArgumentsEmitted}
-use Rattle.plain.specs.Tasks.{NodeTask, NodesTask, EncodedNodes, LooksUpNodes, ReadyNodes}
+use Rattle.plain.specs.Tasks.{NodeTask, NodesTask, EncodedNodes, LooksUpNodes, ReadyNodes, ReadyAll}
 use Rattle.plain.proofs.Writing.{written-then, part, whole}
 use Rattle.plain.proofs.Letters.{size-positive}
 use Rattle.plain.proofs.Tasks.{node-row}
+use Rattle.language.specs.World.{World}
+use Rattle.language.specs.Encoded.{EncodedAll}
+use Rattle.language.specs.LookupClasses.{LooksUpAll}
+
+-- the nodes of a block or of a call's arguments
+pub encoded-nodes : (W : World) (R E : List ℕ) (es : Exprs) (γ : Environment) (r : ℕ) → EncodedAll R E es r
+    → EncodedNodes R E (nodes-of W es γ) r
+unfolding EncodedAll EncodedNodes nodes-of
+encoded-nodes W R E nil γ r h = tt
+encoded-nodes W R E (cons e es) γ r h =
+    (h .0, encoded-nodes W R E es (typed-or (type-of W e 0 γ) .slots) (r + size e) (h .1))
+
+pub looks-nodes : (W : World) (C : List ℕ) (es : Exprs) (γ : Environment) (r : ℕ) → LooksUpAll W C es γ r
+    → LooksUpNodes W C (nodes-of W es γ) r
+unfolding LooksUpAll LooksUpNodes nodes-of
+looks-nodes W C nil γ r h = tt
+looks-nodes W C (cons e es) γ r h =
+    (h .0, looks-nodes W C es (typed-or (type-of W e 0 γ) .slots) (r + size e) (h .1))
+
+pub ready-nodes : (P : List Class) (es : Exprs) (γ : Environment) (v : ℕ) → ReadyAll P es γ v
+    → ReadyNodes P (nodes-of (world P) es γ) v
+unfolding ReadyAll ReadyNodes nodes-of
+ready-nodes P nil γ v h = tt
+ready-nodes P (cons e es) γ v h =
+    (h .0, ready-nodes P es (typed-or (type-of (world P) e 0 γ) .slots) v (h .1))
+
+pub nodes-counted : (W : World) (es : Exprs) (γ : Environment) → how-many (nodes-of W es γ) ≡ count es
+unfolding how-many nodes-of count
+nodes-counted W nil γ = refl
+nodes-counted W (cons e es) γ = ap suc (nodes-counted W es (typed-or (type-of W e 0 γ) .slots))
+
+pub nodes-sizes : (W : World) (es : Exprs) (γ : Environment) → rows-taken (nodes-of W es γ) ≡ sizes es
+unfolding rows-taken nodes-of sizes
+nodes-sizes W nil γ = refl
+nodes-sizes W (cons e es) γ =
+    ap (λ (n : ℕ). size e + n) (nodes-sizes W es (typed-or (type-of W e 0 γ) .slots))
 
 module _ {P : List Class} {E : List ℕ} {γ : Environment} {sh : Shape} {R T C S : List ℕ}
     {at vars next place : ℕ} {e : Expr} {es : Nodes} where

@@ -12,7 +12,7 @@ use Rattle.plain.specs.Numbers.{change-lines, head-length}
 use Rattle.plain.specs.Emission.{Written, SomeCopies, SomeFields, CopiesWritten, RenewWritten}
 use Rattle.plain.specs.Emission.{SomeChange, ChangeWritten}
 use Rattle.plain.proofs.Writing.{written-then, written-as}
-use Rattle.plain.proofs.Arms.{copies-length}
+use Rattle.plain.proofs.Lines.{copies-length}
 
 renew-length : (n d r : ℕ) (fs : List Field) → length (renew-lines n d r fs) ≡ 56 + 16 * length fs
 unfolding renew-lines

@@ -6,13 +6,14 @@ use mathlib.Core.Logic.{_⊎_, inl, inr}
 use mathlib.Core.List.{List, [], _∷_, _++_}
 use Prim.Native.Nat.{ℕ, zero, suc, _+_, _-_, _≤_, _<_}
 use native.Mathlib.Omega.{arith}
-use lib.ListN.{length, getD, length-append, length-map}
-use Rattle.language.specs.Tree.{DeclaredType}
-use Rattle.language.specs.Tree.{Class}
-use Rattle.language.specs.Translation.{Shape, position, plain-slot, variables}
+use lib.ListN.{length, getD, length-append, length-map, set, length-set}
+use Rattle.language.specs.Tree.{DeclaredType, Class, count}
+use Rattle.language.specs.Translation.{Shape, position, plain-slot, variables, temporaries}
 use Rattle.language.proofs.Lines.{le-or-less}
 use Rattle.plain.specs.Tasks.{Setting, variable-count}
 use Rattle.plain.specs.Emission.{Extended}
+use native.Mathlib.Nat.{eq-or-lt-of-le}
+use lib.Seq.{getD-set-same, getD-set-other}
 
 variables-append : (a b : Shape) → variable-count (a ++ b) ≡ variable-count a + variable-count b
 unfolding variable-count
@@ -103,3 +104,30 @@ module _ {P : List Class} {R T C S : List ℕ} {sh : Shape} {vars next : ℕ} (x
 pub slot-at : {P : List Class} {R T C S : List ℕ} {sh : Shape} {vars next j k : ℕ}
     → Setting P R T C S sh vars next → j ≡ k → k < vars → getD S j 0 ≡ plain-slot sh k
 slot-at x e h = rw e (x .renumbered _ h)
+
+pub temporaries-none : (ts : List DeclaredType) → variable-count (temporaries ts) ≡ 0
+unfolding variable-count
+temporaries-none [] = refl
+temporaries-none (t ∷ ts) = temporaries-none ts
+
+-- slots of a block's locals, the first i of them added
+pub extended-start : {S : List ℕ} {vars next : ℕ} → length S ≡ 32 → Extended S S vars next 0
+extended-start e = record { kept = λ k h. refl; added = λ i h. absurd (omega (arith, h)); wide = e }
+
+pub extended-step : {S S′ : List ℕ} {vars next i : ℕ} → Extended S S′ vars next i → vars + i < 32
+    → Extended S (set S′ (vars + i) (next + i)) vars next (i + 1)
+extended-step {S} {S′} {vars} {next} {i} x h = record {
+  kept = λ k l. getD-set-other S′ (vars + i) k (next + i) 0 (omega (arith, l)) ∙ x .kept k l;
+  added = λ j l. go j l;
+  wide = simp length-set (x .wide);
+}
+  where
+    go : (j : ℕ) → j < i + 1 → getD (set S′ (vars + i) (next + i)) (vars + j) 0 ≡ next + j
+    go j l = elim (let z : j ≤ i = omega (arith, l) in eq-or-lt-of-le z) [
+      | inl e ↦ rw e (getD-set-same S′ (vars + i) (next + i) 0 (omega (arith, h, x .wide)))
+      | inr n ↦ getD-set-other S′ (vars + i) (vars + j) (next + i) 0 (omega (arith, n)) ∙ x .added j n
+    ]
+
+pub extended-end : {S S′ : List ℕ} {vars next i count : ℕ} → Extended S S′ vars next i → i ≡ count
+    → Extended S S′ vars next count
+extended-end x e = rw e at x

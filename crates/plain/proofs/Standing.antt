@@ -5,12 +5,12 @@ use mathlib.Core.List.{List, [], _∷_}
 use Prim.Native.Nat.{ℕ, suc, _+_, _-_, _*_, _≤_, _<_}
 use native.Mathlib.Omega.{arith}
 use lib.ListN.{length, getD}
-use Rattle.language.specs.Tree.{Declaration, Class, method-lines, heading-lines, methods-lines}
-use Rattle.language.specs.Tree.{class-lines, classes-lines}
+use Rattle.language.specs.Tree.{Declaration, Class, method-lines, heading-lines, methods-lines, class-lines}
+use Rattle.language.specs.Tree.{classes-lines}
 use Rattle.language.specs.Layout.{EachMethod, EachClass, MethodAt, ClassAt, effects-row, body-row}
 use Rattle.language.specs.Layout.{methods-from-row}
 use Rattle.language.proofs.Lines.{first-line, lines-run}
-use Rattle.plain.specs.Tasks.{ClassEnd}
+use Rattle.plain.specs.Tasks.{ClassEnd, MethodReady, ClassReady, MethodsTask, ClassesTask}
 use Rattle.plain.specs.Emission.{Skipped, SomeFieldLines}
 use Rattle.plain.specs.Bounds.{MethodsStand, ClassesStand, SomeMethodsStand, SomeClassesStand}
 use Rattle.plain.specs.Bounds.{MethodsPassed}
@@ -229,3 +229,38 @@ module _ {R E : List ℕ} {at : ℕ} where
       record { k = suc (y .k); cs = cs; stand = class-rest c cs t q z },
       omega (arith, z, class-positive c),
     )
+
+-- what is ready stands in rows
+module _ (P : List Class) (E R C : List ℕ) where
+  each-stands : (ms : List Declaration) (k r : ℕ) → EachMethod (MethodReady P E R C) ms k r
+      → EachMethod (λ k m r. MethodAt R E m r) ms k r
+  unfolding EachMethod
+  each-stands [] k r h = tt
+  each-stands (m ∷ ms) k r h = (h .0 .rows, each-stands ms k _ (h .1))
+
+  pub class-stands : (c : Class) {k r : ℕ} → ClassReady P E R C k c r → ClassAt R E k c r
+  class-stands c h = record {
+    line = h .line;
+    fields = h .fields;
+    methods = each-stands (c .methods) _ _
+        (h .methods);
+  }
+
+  each-class-stands : (cs : List Class) (k r : ℕ) → EachClass (ClassReady P E R C) cs k r
+      → EachClass (ClassAt R E) cs k r
+  unfolding EachClass
+  each-class-stands [] k r h = tt
+  each-class-stands (c ∷ cs) k r h = (class-stands c (h .0), each-class-stands cs (suc k) _ (h .1))
+
+module _ {P : List Class} {E : List ℕ} {k : ℕ} {R T C : List ℕ} {at place : ℕ} where
+  pub methods-stand : {ms : List Declaration} → MethodsTask P E k ms R T C at place → MethodsStand R E k ms at
+  methods-stand {ms} t =
+      record { methods = each-stands P E R C ms k at (t .methods); after = t .after; short = t .lent .short }
+
+  pub classes-stand : {cs : List Class} → ClassesTask P E k cs R T C at place → ClassesStand R E k cs at
+  classes-stand {cs} t =
+      record {
+        classes = each-class-stands P E R C cs k at (t .classes);
+        start = t .start;
+        short = t .lent .short;
+      }

@@ -6,9 +6,7 @@ use mathlib.Core.List.{List, [], _∷_, _++_}
 use Prim.Native.Nat.{ℕ, suc, _+_, _-_, _*_, _≤_, _<_}
 use native.Mathlib.Omega.{arith}
 use lib.ListN.{length, getD, length-append}
-use Rattle.language.specs.Tree.{Expr, slot}
-use Rattle.language.specs.Tree.{is-null, get, cast, new, change, assign, choose}
-use Rattle.language.specs.Tree.{size, Class}
+use Rattle.language.specs.Tree.{Expr, slot, is-null, get, cast, new, change, assign, choose, size, Class}
 use Rattle.language.specs.Program.{world}
 use Rattle.language.specs.Encoded.{Encoded}
 use Rattle.language.specs.Typing.{Environment, type-of}
@@ -19,7 +17,7 @@ use Rattle.plain.specs.Emission.{Written, Emitted, NodeEmitted}
 use Rattle.plain.specs.Tasks.{NodeTask, NodesTask, EncodedNodes, LooksUpNodes, ReadyNodes, Ready}
 use Rattle.plain.specs.Tasks.{variable-count}
 use Rattle.plain.proofs.Writing.{written-then, part, whole}
-use Rattle.plain.proofs.Numbers.{t-is-null, t-assign, t-get, t-cast, t-choose}
+use Rattle.plain.proofs.Translated.{t-is-null, t-assign, t-get, t-cast, t-choose}
 use Rattle.plain.proofs.Letters.{node-at}
 use Rattle.plain.proofs.Shapes.{setting-temporaries}
 

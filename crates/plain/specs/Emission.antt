@@ -7,16 +7,13 @@ use mathlib.Core.List.{List}
 use lib.ListN.{length, getD}
 use lib.Seq.{sets}
 use Rattle.language.specs.Rows.{Letter}
-use Rattle.language.specs.Tree.{DeclaredType, Expr}
-use Rattle.language.specs.Tree.{cast, set, call, block, Exprs}
-use Rattle.language.specs.Tree.{count, size, Field, Declaration, Class, Program, methods-lines}
-use Rattle.language.specs.Tree.{class-lines, classes-lines}
+use Rattle.language.specs.Tree.{DeclaredType, Expr, cast, set, call, block, Exprs, count, size, Field}
+use Rattle.language.specs.Tree.{Declaration, Class, Program, methods-lines, class-lines, classes-lines}
 use Rattle.language.specs.World.{place}
 use Rattle.language.specs.Program.{world}
 use Rattle.language.specs.Encoded.{TypesAt}
 use Rattle.language.specs.Typing.{Environment}
-use Rattle.language.specs.Translation.{Shape}
-use Rattle.language.specs.Translation.{variables}
+use Rattle.language.specs.Translation.{Shape, variables}
 use Rattle.language.specs.Layout.{FieldsAt}
 use Rattle.plain.specs.Numbers.{most-numbers, node-numbers, type-lines, field-lines, copy-lines}
 use Rattle.plain.specs.Numbers.{renew-lines, change-lines, head-length, Nodes, how-many, rows-taken}

@@ -8,15 +8,11 @@ use lib.Dec.{eqb}
 use lib.ListN.{length}
 use Rattle.language.specs.Limits.{bool-number, identity-class}
 use Rattle.language.specs.Rows.{Record, written, row-of, numbers-of, V-local}
-use Rattle.language.specs.Tree.{DeclaredType, type-number, Expr}
-use Rattle.language.specs.Tree.{Exprs, nil}
-use Rattle.language.specs.Tree.{cons}
-use Rattle.language.specs.Tree.{size, Field, Declaration, Class, Program}
-use Rattle.language.specs.Tree.{flatten, flattens, flatten-program}
+use Rattle.language.specs.Tree.{DeclaredType, type-number, Expr, Exprs, nil, cons, size, Field, Declaration}
+use Rattle.language.specs.Tree.{Class, Program, flatten, flattens, flatten-program}
 use Rattle.language.specs.World.{World}
 use Rattle.language.specs.Typing.{Environment, method-environment, type-of}
-use Rattle.language.specs.Translation.{Shape, typed-or, plain-type}
-use Rattle.language.specs.Translation.{variables, translate, plain-program}
+use Rattle.language.specs.Translation.{Shape, typed-or, plain-type, variables, translate, plain-program}
 
 -- More numbers than any translation has.
 abbrev pub most-numbers : ℕ

@@ -9,14 +9,11 @@ use mathlib.Core.List.{List, [], _∷_, map}
 use lib.ListN.{length, getD}
 use Rattle.language.specs.Lists.{nth}
 use Rattle.language.specs.Frames.{opened}
-use Rattle.language.specs.Rows.{C-class, F-field}
-use Rattle.language.specs.Rows.{M-method, P-parameter, S-start}
+use Rattle.language.specs.Rows.{C-class, F-field, M-method, P-parameter, S-start}
 use Rattle.language.specs.Tree.{DeclaredType, type-number, Expr, literal-true, literal-false, literal-null}
-use Rattle.language.specs.Tree.{slot}
-use Rattle.language.specs.Tree.{is-null, get, cast, new, change, assign, set, call, choose, block, Exprs, nil}
-use Rattle.language.specs.Tree.{cons}
-use Rattle.language.specs.Tree.{count, size, Field, Declaration, Class, Program, kind-number, methods-lines}
-use Rattle.language.specs.Tree.{class-lines, classes-lines}
+use Rattle.language.specs.Tree.{slot, is-null, get, cast, new, change, assign, set, call, choose, block}
+use Rattle.language.specs.Tree.{Exprs, nil, cons, count, size, Field, Declaration, Class, Program}
+use Rattle.language.specs.Tree.{kind-number, methods-lines, class-lines, classes-lines}
 use Rattle.language.specs.World.{Method, World, place}
 use Rattle.language.specs.Effects.{apply-class}
 use Rattle.language.specs.Program.{world}
@@ -24,8 +21,7 @@ use Rattle.language.specs.ClassTables.{stored-place}
 use Rattle.language.specs.Encoded.{RowAt, TypesAt, Encoded}
 use Rattle.language.specs.Typing.{Environment, fresh-slot, method-environment, start-environment, type-of}
 use Rattle.language.specs.Typing.{type-all}
-use Rattle.language.specs.Translation.{Shape, plain-slot, typed-or, typed-all-or, class-or}
-use Rattle.language.specs.Translation.{variables}
+use Rattle.language.specs.Translation.{Shape, plain-slot, typed-or, typed-all-or, class-or, variables}
 use Rattle.language.specs.LookupClasses.{LooksUp}
 use Rattle.language.specs.Layout.{EachMethod, EachClass, FieldsAt, MethodAt, ProgramAt, LooksUpProgram}
 use Rattle.language.specs.Layout.{body-row, methods-from-row}

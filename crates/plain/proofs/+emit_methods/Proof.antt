@@ -4,7 +4,7 @@ use native.Mathlib.Omega.{arith}
 use borrow.Author.Needs.{needs}
 use borrow.Fn.Kinds.{In}
 use borrow.Fn.PlainCycle.{Measures, is, falls, and}
-use Rattle.plain.proofs.Classes.{methods-known, methods-end, methods-first, methods-rest, methods-step}
+use Rattle.plain.proofs.Methods.{methods-known, methods-end, methods-first, methods-rest, methods-step}
 use Rattle.plain.proofs.emit_methods.Reads as emit-methods
 use Rattle.plain.proofs.emit_methods.Kinds as emit-methods-kinds
 use Rattle.plain.proofs.emit_method.Reads as emit-method-reads

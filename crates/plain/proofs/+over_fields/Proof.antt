@@ -5,7 +5,8 @@ use lib.ListN.{getD}
 use borrow.Author.Needs.{needs}
 use borrow.Fn.Kinds.{In}
 use borrow.Fn.PlainCycle.{Measures, is, falls, and}
-use Rattle.plain.proofs.Walks.{counted-known, counted-above, limited-none, limited-here, limited-step, counted-stand, counted-next}
+use Rattle.plain.proofs.Walks.{counted-known, counted-above, limited-none, limited-here, limited-step}
+use Rattle.plain.proofs.Walks.{counted-stand, counted-next}
 use Rattle.plain.proofs.over_fields.Reads as over-fields
 use Rattle.plain.proofs.over_fields.Kinds as over-fields-kinds
 use Rattle.plain.proofs.after_methods.Reads as after-methods-reads

@@ -5,7 +5,7 @@ use borrow.Author.Needs.{needs}
 use borrow.Fn.Kinds.{In}
 use borrow.Fn.PlainCycle.{Measures, is, falls, and}
 use Rattle.plain.proofs.Writing.{written-long}
-use Rattle.plain.proofs.Classes.{field-in, field-rest, field-none, field-step}
+use Rattle.plain.proofs.Lines.{field-in, field-rest, field-none, field-step}
 use Rattle.plain.proofs.put_fields.Reads as put-fields
 use Rattle.plain.proofs.put_fields.Kinds as put-fields-kinds
 use Rattle.plain.proofs.plain_type.Reads as plain-type-reads

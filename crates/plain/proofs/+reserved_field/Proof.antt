@@ -5,7 +5,7 @@ use native.Mathlib.Omega.{arith}
 use borrow.Fn.Kinds.{In}
 use borrow.Fn.PlainCycle.{Measures, is, falls, and}
 use Rattle.plain.proofs.Walks.{free-none, free-here, free-step}
-use Rattle.plain.proofs.Classes.{field-in, field-rest}
+use Rattle.plain.proofs.Lines.{field-in, field-rest}
 use Rattle.plain.proofs.reserved_field.Reads as reserved-field
 use Rattle.plain.proofs.reserved_field.Kinds as reserved-field-kinds
 use Rattle.plain.proofs.+reserved_field.{statement}

@@ -1,5 +1,6 @@
 use Rattle.plain.proofs.Writing.{written-long}
-use Rattle.plain.proofs.Renewing.{change-root, change-copies, change-after, change-done, change-this, change-other, head-zero, head-other}
+use Rattle.plain.proofs.Renewing.{change-root, change-copies, change-after, change-done, change-this}
+use Rattle.plain.proofs.Renewing.{change-other, head-zero, head-other}
 use mathlib.Core.Path.{_∙_}
 use Prim.Native.Nat.{_+_, _-_, _*_}
 use native.Mathlib.Omega.{arith}

@@ -1,5 +1,6 @@
 use Prim.Native.Nat.{_-_}
-use Rattle.plain.proofs.Answers.{accepted-stand, answer-limits, answer-names, answer-some, answer-plain}
+use Rattle.plain.proofs.Answers.{accepted-stand, answer-limits, answer-names, answer-some}
+use Rattle.plain.proofs.Answers.{answer-plain}
 use borrow.Author.Needs.{needs}
 use Rattle.plain.proofs.translate_checked.Statement.{statement}
 use Rattle.plain.proofs.translate_checked.Tie as tie

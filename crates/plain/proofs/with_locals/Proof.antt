@@ -1,4 +1,4 @@
-use Rattle.plain.proofs.Lines.{extended-start, extended-step, extended-end}
+use Rattle.plain.proofs.Shapes.{extended-start, extended-step, extended-end}
 use Rattle.plain.specs.Emission.{Extended}
 use Prim.Native.Nat.{_-_, _≤_}
 use native.Mathlib.Omega.{arith}

@@ -4,7 +4,8 @@ use Prim.Native.Nat.{ℕ, _-_}
 use native.Mathlib.Omega.{arith}
 use borrow.Author.Needs.{needs}
 use Rattle.plain.proofs.Writing.{written-long}
-use Rattle.plain.proofs.Nodes.{arguments-none, arguments-first, arguments-line, arguments-rest, arguments-step}
+use Rattle.plain.proofs.Nodes.{arguments-none, arguments-first, arguments-line, arguments-rest}
+use Rattle.plain.proofs.Nodes.{arguments-step}
 use Rattle.plain.proofs.emit_arguments.Reads as emit-arguments
 use Rattle.plain.proofs.emit_node.Reads as emit-node
 use Rattle.plain.proofs.put.Reads as put-reads

@@ -5,7 +5,8 @@ use native.Mathlib.Omega.{arith}
 use lib.ListN.{getD}
 use borrow.Author.Needs.{needs}
 use Rattle.plain.proofs.Writing.{written-long}
-use Rattle.plain.proofs.Blocks.{call-known, call-some-types, call-ended, call-some-arguments, call-room-after, call-done}
+use Rattle.plain.proofs.Calls.{call-known, call-some-types, call-ended, call-some-arguments}
+use Rattle.plain.proofs.Calls.{call-room-after, call-done}
 use Rattle.plain.proofs.emit_arguments.Reads as emit-arguments
 use Rattle.plain.proofs.emit_call.Reads as emit-call
 use Rattle.plain.proofs.put.Reads as put-reads

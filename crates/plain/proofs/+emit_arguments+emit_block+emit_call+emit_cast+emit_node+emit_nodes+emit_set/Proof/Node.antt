@@ -3,7 +3,9 @@ use mathlib.Core.Logic.{inl, inr}
 use mathlib.Core.Path.{_∙_}
 use Prim.Native.Nat.{ℕ, _-_}
 use Rattle.plain.proofs.Writing.{written-long}
-use Rattle.plain.proofs.Arms.{slot-arm, new-arm, change-arm, is-null-arm, assign-arm, get-arm, choose-arm, cast-arm, set-arm, call-arm, block-arm, rest-letter, literal-arm}
+use Rattle.plain.proofs.Arms.{slot-arm, new-arm, change-arm, is-null-arm, assign-arm, get-arm}
+use Rattle.plain.proofs.Arms.{choose-arm, cast-arm, set-arm, call-arm, block-arm, rest-letter}
+use Rattle.plain.proofs.Arms.{literal-arm}
 use Rattle.plain.proofs.emit_block.Reads as emit-block
 use Rattle.plain.proofs.emit_call.Reads as emit-call
 use Rattle.plain.proofs.emit_cast.Reads as emit-cast

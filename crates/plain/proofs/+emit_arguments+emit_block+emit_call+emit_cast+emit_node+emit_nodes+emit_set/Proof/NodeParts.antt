@@ -3,7 +3,10 @@ use mathlib.Core.Logic.{inl, inr}
 use Prim.Native.Nat.{ℕ, _+_, _-_, _*_}
 use native.Mathlib.Omega.{arith}
 use borrow.Author.Needs.{needs}
-use Rattle.plain.proofs.Arms.{row-known, slot-known, new-known, change-known, is-null-known, is-null-some, assign-known, assign-some, get-known, get-some, choose-known, choose-some, cast-some, set-some, call-some, block-some as some-block, rest-letter, literal-known}
+use Rattle.plain.proofs.Arms.{row-known, slot-known, new-known, change-known, is-null-known}
+use Rattle.plain.proofs.Arms.{is-null-some, assign-known, assign-some, get-known, get-some}
+use Rattle.plain.proofs.Arms.{choose-known, choose-some, cast-some, set-some, call-some}
+use Rattle.plain.proofs.Arms.{block-some as some-block, rest-letter, literal-known}
 use Rattle.plain.proofs.emit_block.Reads as emit-block
 use Rattle.plain.proofs.emit_call.Reads as emit-call
 use Rattle.plain.proofs.emit_cast.Reads as emit-cast

@@ -5,7 +5,7 @@ use native.Mathlib.Omega.{arith}
 use lib.ListN.{getD}
 use borrow.Author.Needs.{needs}
 use Rattle.plain.proofs.Writing.{written-long}
-use Rattle.plain.proofs.Blocks.{set-known, set-ended, set-room-after, set-done}
+use Rattle.plain.proofs.Sets.{set-known, set-ended, set-room-after, set-done}
 use Rattle.plain.proofs.emit_arguments.Reads as emit-arguments
 use Rattle.plain.proofs.emit_set.Reads as emit-set
 use Rattle.plain.proofs.plain_type.Reads as plain-type-reads
