@@ -1,4 +1,5 @@
--- What typing and the translator's limits show of every body: slots are in scope, classes declared, members found.
+-- What typing and the translator's limits show of every body: slots are in scope, classes declared, members
+-- found.
 use mathlib.Core.Path.{_≡_, refl, sym, ap, _∙_}
 use mathlib.Core.Option.{Option, none, some}
 use mathlib.Core.Bool.{true}

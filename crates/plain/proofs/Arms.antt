@@ -1,4 +1,5 @@
--- Laws of the dispatch on a node's letter: what each arm has to know, and what it has written. Assumes nothing.
+-- Laws of the dispatch on a node's letter: what each arm has to know, and what it has written. Assumes
+-- nothing.
 use mathlib.Core.Path.{_≡_, refl, sym, ap, _∙_}
 use mathlib.Core.Logic.{_⊎_, inl, inr, _≢_}
 use mathlib.Core.List.{List, [], _∷_, _++_}

@@ -1,4 +1,5 @@
--- Laws of B: what its row and its locals' rows hold, the task of its nodes, and what they write together. Assumes nothing.
+-- Laws of B: what its row and its locals' rows hold, the task of its nodes, and what they write together.
+-- Assumes nothing.
 use mathlib.Core.Path.{_≡_, sym, ap, _∙_}
 use mathlib.Core.List.{List, [], _∷_, _++_, map}
 use Prim.Native.Nat.{ℕ, _+_, _-_, _*_, _≤_, _<_}

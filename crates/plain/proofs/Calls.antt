@@ -1,5 +1,5 @@
--- Laws of Q, which becomes a block with a temporary for the object and each argument: the method's parameters, the task of
--- its nodes, and what they write together. Assumes nothing.
+-- Laws of Q, which becomes a block with a temporary for the object and each argument: the method's
+-- parameters, the task of its nodes, and what they write together. Assumes nothing.
 use mathlib.Core.Path.{_≡_, sym, ap}
 use mathlib.Core.Bool.{false}
 use mathlib.Core.List.{List, [], _∷_, _++_}

@@ -1,5 +1,5 @@
--- Laws of lines that are written one for each of a list: types, slots read, fields copied, F lines; and how many numbers
--- these are. Assumes nothing.
+-- Laws of lines that are written one for each of a list: types, slots read, fields copied, F lines; and how
+-- many numbers these are. Assumes nothing.
 use mathlib.Core.Path.{_≡_, refl, sym, ap, _∙_}
 use mathlib.Core.List.{List, [], _∷_}
 use mathlib.Core.Logic.{_≢_}

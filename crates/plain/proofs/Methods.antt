@@ -1,5 +1,5 @@
--- Laws of a method: its heading, then its body, which are the numbers of its plain form; and of methods one after another.
--- Assumes nothing.
+-- Laws of a method: its heading, then its body, which are the numbers of its plain form; and of methods one
+-- after another. Assumes nothing.
 use mathlib.Core.Path.{_≡_, refl, sym, ap, _∙_}
 use mathlib.Core.List.{List, [], _∷_, _++_, map, append-assoc}
 use Prim.Native.Nat.{ℕ, _+_, _*_, _≤_, _<_, _-_}

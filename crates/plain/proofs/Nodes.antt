@@ -1,5 +1,5 @@
--- Laws of nodes one after another, and of arguments that are put in temporaries: their rows, the first, the rest, and what
--- they write together. Assumes nothing.
+-- Laws of nodes one after another, and of arguments that are put in temporaries: their rows, the first, the
+-- rest, and what they write together. Assumes nothing.
 use mathlib.Core.Path.{_≡_, refl, sym, ap}
 use mathlib.Core.Logic.{_≢_}
 use mathlib.Core.List.{List, [], _∷_}
@@ -58,7 +58,7 @@ nodes-sizes W (cons e es) γ =
 
 module _ {P : List Class} {E : List ℕ} {γ : Environment} {sh : Shape} {R T C S : List ℕ}
     {at vars next place : ℕ} {e : Expr} {es : Nodes} where
-  pub first-task : NodesTask P E (also e γ es) sh R T C S at vars next place → (p : ℕ) → place ≤ p
+  first-task : NodesTask P E (also e γ es) sh R T C S at vars next place → (p : ℕ) → place ≤ p
       → p + length (node-numbers (world P) e γ sh) ≤ most-numbers
       → NodeTask P E e γ sh R T C S at vars next p
   unfolding EncodedNodes LooksUpNodes ReadyNodes

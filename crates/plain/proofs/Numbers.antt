@@ -1,4 +1,5 @@
--- Laws of the numbers of plain trees: one for each constructor, and of copied fields and slots read. Assumes nothing.
+-- Laws of the numbers of plain trees: one for each constructor, and of copied fields and slots read. Assumes
+-- nothing.
 use mathlib.Core.Path.{_≡_, refl, _∙_}
 use mathlib.Core.List.{List, [], _∷_, _++_, map, append-nil}
 use Prim.Native.Nat.{ℕ, suc, _+_}
@@ -98,14 +99,6 @@ n-types (t ∷ ts) p = n-locals (plain-type t) (map plain-type ts) ∙ rw (n-typ
 
 pub two : (c : ℕ) → c + 2 ≡ suc (suc c)
 two c = omega arith
-
-c-cons : (e : Expr) (es : Exprs) → count (cons e es) ≡ suc (count es)
-unfolding count
-c-cons e es = refl
-
-c-nil : count nil ≡ 0
-unfolding count
-c-nil = refl
 
 pub n-one : (e : Expr) → trees-numbers (cons e nil) ≡ tree-numbers e
 n-one e = n-cons e nil ∙ rw n-nil (append-nil (tree-numbers e))

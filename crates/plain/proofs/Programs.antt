@@ -1,5 +1,5 @@
--- Laws of the whole program: its classes and its start block, and that what is written are the numbers of its plain program.
--- Assumes nothing.
+-- Laws of the whole program: its classes and its start block, and that what is written are the numbers of its
+-- plain program. Assumes nothing.
 use mathlib.Core.Path.{_≡_, refl, sym, ap, _∙_}
 use mathlib.Core.Bool.{Bool, true, false, cond}
 use mathlib.Core.List.{List, [], _∷_, _++_, map, append-assoc}

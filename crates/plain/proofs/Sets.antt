@@ -1,5 +1,5 @@
--- Laws of U, which becomes a block with two temporaries: the field's type, the task of its nodes, and what they write
--- together. Assumes nothing.
+-- Laws of U, which becomes a block with two temporaries: the field's type, the task of its nodes, and what
+-- they write together. Assumes nothing.
 use mathlib.Core.Path.{_≡_, refl, sym, ap, _∙_}
 use mathlib.Core.Option.{Option, some}
 use mathlib.Core.Bool.{false}

@@ -1,5 +1,5 @@
--- Laws of shapes: which of the plain slots are variables, the plain slot of a source slot, and what becomes of these
--- where temporaries or a block's locals are added. Assumes nothing.
+-- Laws of shapes: which of the plain slots are variables, the plain slot of a source slot, and what becomes
+-- of these where temporaries or a block's locals are added. Assumes nothing.
 use mathlib.Core.Path.{_≡_, refl, sym, ap, _∙_}
 use mathlib.Core.Bool.{true, false}
 use mathlib.Core.Logic.{_⊎_, inl, inr}
@@ -7,7 +7,7 @@ use mathlib.Core.List.{List, [], _∷_, _++_}
 use Prim.Native.Nat.{ℕ, zero, suc, _+_, _-_, _≤_, _<_}
 use native.Mathlib.Omega.{arith}
 use lib.ListN.{length, getD, length-append, length-map, set, length-set}
-use Rattle.language.specs.Tree.{DeclaredType, Class, count}
+use Rattle.language.specs.Tree.{DeclaredType, Class}
 use Rattle.language.specs.Translation.{Shape, position, plain-slot, variables, temporaries}
 use Rattle.language.proofs.Lines.{le-or-less}
 use Rattle.plain.specs.Tasks.{Setting, variable-count}

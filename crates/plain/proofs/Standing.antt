@@ -1,4 +1,5 @@
--- Laws of methods and classes that stand in rows: the rows of their parts, and the row after each. Assumes nothing.
+-- Laws of methods and classes that stand in rows: the rows of their parts, and the row after each. Assumes
+-- nothing.
 use mathlib.Core.Path.{_≡_, sym, _∙_}
 use mathlib.Core.Logic.{inl, inr, _≢_}
 use mathlib.Core.List.{List, [], _∷_}

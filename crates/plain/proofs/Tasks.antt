@@ -29,7 +29,7 @@ module _ {P : List Class} {E : List ℕ} {γ : Environment} {sh : Shape} {R T C 
       (h, omega (arith, h, t .setting .short), omega (arith, h, t .setting .beside))
 
   -- K
-  pub cast-class : {c : ℕ} {e : Expr} → NodeTask P E (cast c e) γ sh R T C S at vars next place
+  cast-class : {c : ℕ} {e : Expr} → NodeTask P E (cast c e) γ sh R T C S at vars next place
       → getD R (at * 4 + 1) 0 ≡ c
   unfolding Encoded
   cast-class t = t .encoded .0 .row .first

@@ -1,4 +1,5 @@
--- Laws of the walks over classes: the first field that is refused, by its name or by the limit. Assumes nothing.
+-- Laws of the walks over classes: the first field that is refused, by its name or by the limit. Assumes
+-- nothing.
 use mathlib.Core.Path.{_≡_, refl, sym, ap, _∙_}
 use mathlib.Core.Bool.{Bool, true, false, not, _||_}
 use mathlib.Core.Logic.{_⊎_, inl, inr, _≢_}

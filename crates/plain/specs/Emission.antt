@@ -1,5 +1,5 @@
--- What each function of the translator has to be given, and what it leaves. The buffer is a list of numbers; what stands
--- past its end is counted and not written.
+-- What each function of the translator has to be given, and what it leaves. The buffer is a list of numbers;
+-- what stands past its end is counted and not written.
 use mathlib.Core.Path.{_≡_}
 use Prim.Native.Nat.{ℕ, _+_, _*_, _≤_, _<_}
 use mathlib.Core.Logic.{_≢_}
@@ -7,9 +7,8 @@ use mathlib.Core.List.{List}
 use lib.ListN.{length, getD}
 use lib.Seq.{sets}
 use Rattle.language.specs.Rows.{Letter}
-use Rattle.language.specs.Tree.{DeclaredType, Expr, cast, set, call, block, Exprs, count, size, Field}
-use Rattle.language.specs.Tree.{Declaration, Class, Program, methods-lines, class-lines, classes-lines}
-use Rattle.language.specs.World.{place}
+use Rattle.language.specs.Tree.{DeclaredType, Expr, cast, set, call, block, Exprs, size, Field, Declaration}
+use Rattle.language.specs.Tree.{Class, Program, methods-lines, class-lines, classes-lines}
 use Rattle.language.specs.Program.{world}
 use Rattle.language.specs.Encoded.{TypesAt}
 use Rattle.language.specs.Typing.{Environment}

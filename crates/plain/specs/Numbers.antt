@@ -1,5 +1,5 @@
--- The numbers that the translator writes: for each node, method and class of an accepted program the lines of its plain
--- form, four numbers each.
+-- The numbers that the translator writes: for each node, method and class of an accepted program the lines of
+-- its plain form, four numbers each.
 use mathlib.Core.Path.{_≡_}
 use Prim.Native.Nat.{ℕ, zero, suc, _+_}
 use mathlib.Core.Bool.{cond}

@@ -1,5 +1,5 @@
--- All that a translation goes by: of a node, of nodes, of a body, a method, a class and the program, with the rows and
--- the tables that hold them.
+-- All that a translation goes by: of a node, of nodes, of a body, a method, a class and the program, with the
+-- rows and the tables that hold them.
 use mathlib.Core.Path.{_≡_}
 use Prim.Native.Nat.{ℕ, suc, _+_, _*_, _≤_, _<_}
 use mathlib.Core.Option.{some}
@@ -55,8 +55,8 @@ unfoldable pub LooksUpNodes : World → List ℕ → Nodes → ℕ → Type 0
 LooksUpNodes W C none r = Unit {0}
 LooksUpNodes W C (also e γ es) r = LooksUp W C e γ r × LooksUpNodes W C es (r + size e)
 
--- What typing has shown of a node with v source slots in scope, slot 0 included: slots are in scope, classes are declared,
--- members are found.
+-- What typing has shown of a node with v source slots in scope, slot 0 included: slots are in scope, classes
+-- are declared, members are found.
 module _ (P : List Class) where
   unfoldable pub FieldFound : ℕ → ℕ → Type 0
   FieldFound c f = (i : ℕ) × (g : Field) × (place f (world P .fields c) ≡ some i)
@@ -109,7 +109,8 @@ variable-count [] = 0
 variable-count (true ∷ sh) = suc (variable-count sh)
 variable-count (false ∷ sh) = variable-count sh
 
--- The tables, and the plain slot of each source slot: S has those of the slots in scope, `next` is the next free one.
+-- The tables, and the plain slot of each source slot: S has those of the slots in scope, `next` is the next
+-- free one.
 pub record Setting (P : List Class) (R T C S : List ℕ) (sh : Shape) (vars next : ℕ) : Type 0 where
   pub members : Members P R T
   pub small : (i : ℕ) → getD R i 0 < 65536
@@ -165,7 +166,8 @@ pub record MethodTask (P : List Class) (E : List ℕ) (owner : ℕ) (m : Declara
   pub task : BodyTask P E (m .body) (method-environment owner (m .parameters)) (m .parameters) R T C body
       (place + 4 + 4 * length (m .parameters))
 
--- Class k's method whose M line is row r: where it stands, its lookup classes, what typing has shown of its body.
+-- Class k's method whose M line is row r: where it stands, its lookup classes, what typing has shown of its
+-- body.
 pub record MethodReady (P : List Class) (E R C : List ℕ) (k : ℕ) (m : Declaration) (r : ℕ) : Type 0 where
   pub rows : MethodAt R E m r
   pub looks : LooksUp (world P) C (m .body) (method-environment k (m .parameters)) (body-row r m)

@@ -4,6 +4,7 @@ mod Arguments
 mod Block
 mod Call
 mod Cast
+mod NodeLeaves
 mod NodeParts
 mod Node
 mod Nodes

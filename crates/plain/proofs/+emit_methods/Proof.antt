@@ -26,7 +26,14 @@ emit-methods-below t =
 
 -- What its callees ask and give: itself, below the measure t.
 abbrev callees : ℕ → emit-methods-lts.Claims
-callees t = (skip-reads.Asked, skip-reads.Learnt, emit-method-reads.Asked, emit-method-reads.Learnt, emit-methods-below t, emit-methods.Post)
+callees t = (
+  skip-reads.Asked,
+  skip-reads.Learnt,
+  emit-method-reads.Asked,
+  emit-method-reads.Learnt,
+  emit-methods-below t,
+  emit-methods.Post,
+)
 
 emit-methods-mul-if1 : (t : ℕ) → emit-methods-lts.Need-mul-if1 (callees t) (emit-methods-at t) emit-methods.Post
 emit-methods-mul-if1 t c = omega (arith, methods-known (c .before .before .before .before .pre .1) .0)

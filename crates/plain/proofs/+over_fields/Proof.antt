@@ -29,7 +29,16 @@ over-fields-below t =
 
 -- What its callees ask and give: itself, below the measure t.
 abbrev callees : ℕ → over-fields-lts.Claims
-callees t = (field-room-reads.Asked, field-room-reads.Learnt, skip-reads.Asked, skip-reads.Learnt, after-methods-reads.Asked, after-methods-reads.Learnt, over-fields-below t, over-fields.Post)
+callees t = (
+  field-room-reads.Asked,
+  field-room-reads.Learnt,
+  skip-reads.Asked,
+  skip-reads.Learnt,
+  after-methods-reads.Asked,
+  after-methods-reads.Learnt,
+  over-fields-below t,
+  over-fields.Post,
+)
 
 over-fields-mul-if1 : (t : ℕ) → over-fields-lts.Need-mul-if1 (callees t) (over-fields-at t) over-fields.Post
 over-fields-mul-if1 t c = omega (arith, counted-known (c .before .before .before .pre .1) .0)

@@ -27,7 +27,14 @@ put-fields-below t =
 
 -- What its callees ask and give: itself, below the measure t.
 abbrev callees : ℕ → put-fields-lts.Claims
-callees t = (plain-type-reads.Asked, plain-type-reads.Learnt, put-reads.Asked, put-reads.Learnt, put-fields-below t, put-fields.Post)
+callees t = (
+  plain-type-reads.Asked,
+  plain-type-reads.Learnt,
+  put-reads.Asked,
+  put-reads.Learnt,
+  put-fields-below t,
+  put-fields.Post,
+)
 
 put-fields-returns : (t : ℕ) → put-fields-lts.Need-returns (callees t) (put-fields-at t) put-fields.Post
 put-fields-returns t c = field-none (c .if1 .taken)

@@ -26,7 +26,14 @@ put-types-below t =
 
 -- What its callees ask and give: itself, below the measure t.
 abbrev callees : ℕ → put-types-lts.Claims
-callees t = (plain-type-reads.Asked, plain-type-reads.Learnt, put-reads.Asked, put-reads.Learnt, put-types-below t, put-types.Post)
+callees t = (
+  plain-type-reads.Asked,
+  plain-type-reads.Learnt,
+  put-reads.Asked,
+  put-reads.Learnt,
+  put-types-below t,
+  put-types.Post,
+)
 
 put-types-returns : (t : ℕ) → put-types-lts.Need-returns (callees t) (put-types-at t) put-types.Post
 put-types-returns t c = types-none (c .if1 .taken)

@@ -28,7 +28,16 @@ reserved-name-below t =
 
 -- What its callees ask and give: itself, below the measure t.
 abbrev callees : ℕ → reserved-name-lts.Claims
-callees t = (skip-reads.Asked, skip-reads.Learnt, reserved-field-reads.Asked, reserved-field-reads.Learnt, after-methods-reads.Asked, after-methods-reads.Learnt, reserved-name-below t, reserved-name.Post)
+callees t = (
+  skip-reads.Asked,
+  skip-reads.Learnt,
+  reserved-field-reads.Asked,
+  reserved-field-reads.Learnt,
+  after-methods-reads.Asked,
+  after-methods-reads.Learnt,
+  reserved-name-below t,
+  reserved-name.Post,
+)
 
 reserved-name-mul-if1 : (t : ℕ) → reserved-name-lts.Need-mul-if1 (callees t) (reserved-name-at t) reserved-name.Post
 reserved-name-mul-if1 t c = omega (arith, class-known (c .before .before .pre .1) .0)

@@ -24,7 +24,9 @@ slice-aggregate-put : tie.Need-slice-aggregate-put
 slice-aggregate-put c = search needs
 
 put-requires : tie.Need-put-requires
-put-requires c κs = omega (arith, class-known (c .before .before .before .before .before .before .before .pre) .3)
+put-requires c κs =
+    let start = c .before .before .before .before .before .before .before in
+    omega (arith, class-known (start .pre) .3)
 
 add-skip : tie.Need-add-skip
 add-skip c = search needs
@@ -42,16 +44,30 @@ sub-put-fields-2 : tie.Need-sub-put-fields-2
 sub-put-fields-2 c = search needs
 
 put-fields-requires : tie.Need-put-fields-requires
-put-fields-requires c κs = let d = class-fields (c .before .before .before .before .before .before .before .before .before .before .before .before .pre) _ _ _ (c .before .skip .ensures) refl (c .before .before .before .before .put .ensures .ended) in (d .0, d .1)
+put-fields-requires c κs =
+    let start = c .before .before .before .before .before .before .before .before .before .before .before .before in
+    let the-put = c .before .before .before .before .put in
+    let d = class-fields (start .pre) _ _ _ (c .before .skip .ensures) refl (the-put .ensures .ended) in
+    (d .0, d .1)
 
 emit-methods-requires : tie.Need-emit-methods-requires
-emit-methods-requires c κs = class-some (c .before .before .before .before .before .skip .ensures) refl (c .before .before .before .before .before .before .before .before .put .ensures) (c .before .before .before .put-fields .ensures) (c .before .before .before .before .before .before .before .before .before .before .before .before .before .before .before .before .pre)
+emit-methods-requires c κs =
+    let start = c .before .before .before .before .before .before .before .before .before .before .before .before .before .before .before .before in
+    let the-put = c .before .before .before .before .before .before .before .before .put in
+    let the-skip = c .before .before .before .before .before .skip in
+    class-some (the-skip .ensures) refl (the-put .ensures) (c .before .before .before .put-fields .ensures)
+    (start .pre)
 
 same-length : tie.Need-same-length
 same-length c = search needs
 
 returns : tie.Need-returns
-returns c = class-done (c .before .before .before .before .before .before .before .before .skip .ensures) refl (c .before .before .before .before .before .before .before .before .before .before .before .put .ensures) (c .before .before .before .before .before .before .put-fields .ensures) refl (c .before .before .emit-methods .ensures)
+returns c =
+    let the-put = c .before .before .before .before .before .before .before .before .before .before .before .put in
+    let the-skip = c .before .before .before .before .before .before .before .before .skip in
+    let the-put-fields = c .before .before .before .before .before .before .put-fields in
+    class-done (the-skip .ensures) refl (the-put .ensures) (the-put-fields .ensures) refl
+    (c .before .before .emit-methods .ensures)
 
 pub emit-class-spec : {M : Type 1} → statement M
 emit-class-spec =

@@ -12,25 +12,45 @@ put-requires : tie.Need-put-requires
 put-requires c κs = search needs
 
 emit-classes-requires : tie.Need-emit-classes-requires
-emit-classes-requires c κs = program-some-classes (c .before .before .before .before .before .before .before .before .before .before .pre) _ (omega (arith, c .before .before .before .put .ensures .ended))
+emit-classes-requires c κs =
+    let start = c .before .before .before .before .before .before .before .before .before .before in
+    program-some-classes (start .pre) _ (omega (arith, c .before .before .before .put .ensures .ended))
 
 slice-aggregate-put-2 : tie.Need-slice-aggregate-put-2
 slice-aggregate-put-2 c = search needs
 
 put-requires-2 : tie.Need-put-requires-2
-put-requires-2 c κs = omega (arith, program-room (c .before .before .before .before .before .before .before .before .put .ensures) (c .before .before .before .before .emit-classes .ensures) (c .before .before .before .before .before .before .before .before .before .before .before .before .before .before .before .pre) .0)
+put-requires-2 c κs =
+    let start = c .before .before .before .before .before .before .before .before .before .before .before .before .before .before .before in
+    let the-put = c .before .before .before .before .before .before .before .before .put in
+    let the-emit-classes = c .before .before .before .before .emit-classes in
+    omega (arith, program-room (the-put .ensures) (the-emit-classes .ensures) (start .pre) .0)
 
 add-emit-body : tie.Need-add-emit-body
-add-emit-body c = omega (arith, program-room (c .before .before .before .before .before .before .before .before .before .before .before .before .before .put .ensures) (c .before .before .before .before .before .before .before .before .before .emit-classes .ensures) (c .before .before .before .before .before .before .before .before .before .before .before .before .before .before .before .before .before .before .before .before .pre) .1)
+add-emit-body c =
+    let start = c .before .before .before .before .before .before .before .before .before .before .before .before .before .before .before .before .before .before .before .before in
+    let the-put = c .before .before .before .before .before .before .before .before .before .before .before .before .before .put in
+    let the-emit-classes = c .before .before .before .before .before .before .before .before .before .emit-classes in
+    omega (arith, program-room (the-put .ensures) (the-emit-classes .ensures) (start .pre) .1)
 
 emit-body-requires : tie.Need-emit-body-requires
-emit-body-requires c κs = program-some-body (c .before .before .before .before .before .before .before .before .before .before .before .before .before .put .ensures) (c .before .before .before .before .before .before .before .before .before .emit-classes .ensures) (c .before .before .before .before .before .before .before .before .before .before .before .before .before .before .before .before .before .before .before .before .pre) (c .before .before .before .before .put2 .ensures)
+emit-body-requires c κs =
+    let start = c .before .before .before .before .before .before .before .before .before .before .before .before .before .before .before .before .before .before .before .before in
+    let the-put = c .before .before .before .before .before .before .before .before .before .before .before .before .before .put in
+    let the-emit-classes = c .before .before .before .before .before .before .before .before .before .emit-classes in
+    let the-put2 = c .before .before .before .before .put2 in
+    program-some-body (the-put .ensures) (the-emit-classes .ensures) (start .pre) (the-put2 .ensures)
 
 same-length : tie.Need-same-length
 same-length c = search needs
 
 returns : tie.Need-returns
-returns c = program-done (c .before .before .before .before .before .before .before .before .before .before .before .before .before .before .before .before .put .ensures) (c .before .before .before .before .before .before .before .before .before .before .before .before .emit-classes .ensures) (c .before .before .before .before .before .before .before .put2 .ensures) (c .before .before .emit-body .ensures)
+returns c =
+    let the-put = c .before .before .before .before .before .before .before .before .before .before .before .before .before .before .before .before .put in
+    let the-emit-classes = c .before .before .before .before .before .before .before .before .before .before .before .before .emit-classes in
+    let the-put2 = c .before .before .before .before .before .before .before .put2 in
+    program-done (the-put .ensures) (the-emit-classes .ensures) (the-put2 .ensures)
+    (c .before .before .emit-body .ensures)
 
 pub emit-program-spec : {M : Type 1} → statement M
 emit-program-spec =

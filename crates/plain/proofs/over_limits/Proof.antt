@@ -19,7 +19,9 @@ with-fields-requires : tie.Need-with-fields-requires
 with-fields-requires c κs = search needs
 
 returns : tie.Need-returns
-returns c = limits-answer (c .before .before .before .check-translatable .ensures .0) (c .before .over-fields .ensures) (c .with-fields .ensures)
+returns c =
+    limits-answer (c .before .before .before .check-translatable .ensures .0)
+    (c .before .over-fields .ensures) (c .with-fields .ensures)
 
 pub over-limits-spec : {M : Type 1} → statement M
 over-limits-spec =

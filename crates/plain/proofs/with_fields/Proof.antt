@@ -17,7 +17,8 @@ returns-2 : tie.Need-returns-2
 returns-2 c = told-form (c .before .before .formed2 .given .1) (c .if2 .taken)
 
 returns-3 : tie.Need-returns-3
-returns-3 c = told-before (c .before .before .before .formed2 .given .1) (c .before .if2 .left) (c .if3 .taken)
+returns-3 c =
+    told-before (c .before .before .before .formed2 .given .1) (c .before .if2 .left) (c .if3 .taken)
 
 returns-4 : tie.Need-returns-4
 returns-4 c = told-fields (c .before .before .formed .given .1) (c .if1 .left)

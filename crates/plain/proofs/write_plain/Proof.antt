@@ -21,7 +21,10 @@ same-length : tie.Need-same-length
 same-length c = search needs
 
 returns-2 : tie.Need-returns-2
-returns-2 c = plain-done (c .before .before .before .before .before .before .emit-program .ensures) (c .before .before .before .before .if1 .left) (c .before .before .emit-program2 .ensures) refl
+returns-2 c =
+    let the-emit-program = c .before .before .before .before .before .before .emit-program in
+    let the-if1 = c .before .before .before .before .if1 in
+    plain-done (the-emit-program .ensures) (the-if1 .left) (c .before .before .emit-program2 .ensures) refl
 
 pub write-plain-spec : {M : Type 1} → statement M
 write-plain-spec =

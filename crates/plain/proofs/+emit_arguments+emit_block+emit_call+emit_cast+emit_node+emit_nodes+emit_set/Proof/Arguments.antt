@@ -14,7 +14,14 @@ use Rattle.plain.proofs.+emit_arguments+emit_block+emit_call+emit_cast+
 
 -- What its callees ask and give: those of the cycle below the measure t.
 abbrev pub callees : ℕ → emit-arguments-lts.Claims
-callees t = (put-reads.Asked, put-reads.Learnt, emit-node-below t, emit-node.Post, emit-arguments-below t, emit-arguments.Post)
+callees t = (
+  put-reads.Asked,
+  put-reads.Learnt,
+  emit-node-below t,
+  emit-node.Post,
+  emit-arguments-below t,
+  emit-arguments.Post,
+)
 
 emit-arguments-returns : (t : ℕ) → emit-arguments-lts.Need-returns (callees t) (emit-arguments-at t) emit-arguments.Post
 emit-arguments-returns t c = arguments-none (c .if1 .taken)

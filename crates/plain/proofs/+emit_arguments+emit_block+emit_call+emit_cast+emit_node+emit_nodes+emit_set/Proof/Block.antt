@@ -15,7 +15,16 @@ use Rattle.plain.proofs.+emit_arguments+emit_block+emit_call+emit_cast+
 
 -- What its callees ask and give: those of the cycle below the measure t.
 abbrev pub callees : ℕ → emit-block-lts.Claims
-callees t = (put-reads.Asked, put-reads.Learnt, put-types-reads.Asked, put-types-reads.Learnt, with-locals-reads.Asked, with-locals-reads.Learnt, emit-nodes-below t, emit-nodes.Post)
+callees t = (
+  put-reads.Asked,
+  put-reads.Learnt,
+  put-types-reads.Asked,
+  put-types-reads.Learnt,
+  with-locals-reads.Asked,
+  with-locals-reads.Learnt,
+  emit-nodes-below t,
+  emit-nodes.Post,
+)
 
 emit-block-mul-locals : (t : ℕ) → emit-block-lts.Need-mul-locals (callees t) (emit-block-at t) emit-block.Post
 emit-block-mul-locals t c = omega (arith, block-known (c .before .before .before .before .pre .1) .0)

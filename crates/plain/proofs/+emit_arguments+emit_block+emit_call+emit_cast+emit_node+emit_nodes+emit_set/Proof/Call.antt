@@ -17,7 +17,16 @@ use Rattle.plain.proofs.+emit_arguments+emit_block+emit_call+emit_cast+
 
 -- What its callees ask and give: those of the cycle below the measure t.
 abbrev pub callees : ℕ → emit-call-lts.Claims
-callees t = (put-reads.Asked, put-reads.Learnt, put-types-reads.Asked, put-types-reads.Learnt, emit-arguments-below t, emit-arguments.Post, put-reads-reads.Asked, put-reads-reads.Learnt)
+callees t = (
+  put-reads.Asked,
+  put-reads.Learnt,
+  put-types-reads.Asked,
+  put-types-reads.Learnt,
+  emit-arguments-below t,
+  emit-arguments.Post,
+  put-reads-reads.Asked,
+  put-reads-reads.Learnt,
+)
 
 emit-call-mul-name : (t : ℕ) → emit-call-lts.Need-mul-name (callees t) (emit-call-at t) emit-call.Post
 emit-call-mul-name t c = omega (arith, call-known (c .before .before .before .before .pre .1) .0)

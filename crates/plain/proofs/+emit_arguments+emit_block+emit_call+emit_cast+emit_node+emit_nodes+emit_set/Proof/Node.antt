@@ -13,7 +13,8 @@ use Rattle.plain.proofs.emit_node.Reads as emit-node
 use Rattle.plain.proofs.emit_nodes.Reads as emit-nodes
 use Rattle.plain.proofs.emit_set.Reads as emit-set
 use Rattle.plain.proofs.+emit_arguments+emit_block+emit_call+emit_cast+emit_node+emit_nodes+emit_set.Proof.Base.{emit-node-at}
-use Rattle.plain.proofs.+emit_arguments+emit_block+emit_call+emit_cast+emit_node+emit_nodes+emit_set.Proof.NodeParts.{callees, emit-node-mul-letter, emit-node-mul-letter-2, emit-node-shared-slice-read-letter, emit-node-slice-aggregate-put, emit-node-put-requires, emit-node-add-t35, emit-node-mul-slot, emit-node-add-slot, emit-node-mul-slot-2, emit-node-shared-slice-read-slot, emit-node-cast-slot, emit-node-mul-slot-3, emit-node-element-copy-out-slot, emit-node-put-slot-requires, emit-node-add-t36, emit-node-mul-put-new, emit-node-add-put-new, emit-node-mul-put-new-2, emit-node-shared-slice-read-put-new, emit-node-put-new-requires, emit-node-add-t50, emit-node-mul-slot-4, emit-node-add-slot-2, emit-node-mul-slot-5, emit-node-shared-slice-read-slot-2, emit-node-cast-slot-2, emit-node-mul-slot-6, emit-node-element-copy-out-slot-2, emit-node-mul-put-change, emit-node-add-put-change, emit-node-mul-put-change-2, emit-node-shared-slice-read-put-change, emit-node-put-change-requires, emit-node-add-t60, emit-node-slice-aggregate-put-2, emit-node-put-requires-2, emit-node-add-emit-node, emit-node-emit-node-requires, emit-node-mul-t75, emit-node-add-t76, emit-node-mul-t77, emit-node-shared-slice-read-t79, emit-node-cast-t80, emit-node-mul-t81, emit-node-element-copy-out-t84, emit-node-slice-aggregate-put-3, emit-node-put-requires-3, emit-node-add-emit-node-2, emit-node-emit-node-requires-2, emit-node-mul-t91, emit-node-add-t92, emit-node-mul-t93, emit-node-shared-slice-read-t95, emit-node-mul-t96, emit-node-shared-slice-read-t98, emit-node-cast-t99, emit-node-add-t100, emit-node-slice-aggregate-put-4, emit-node-put-requires-4, emit-node-add-emit-node-3, emit-node-emit-node-requires-3, emit-node-emit-cast-requires, emit-node-emit-set-requires, emit-node-emit-call-requires, emit-node-slice-aggregate-put-5, emit-node-put-requires-5, emit-node-add-emit-nodes, emit-node-emit-nodes-requires, emit-node-emit-block-requires}
+use Rattle.plain.proofs.+emit_arguments+emit_block+emit_call+emit_cast+emit_node+emit_nodes+emit_set.Proof.NodeLeaves.{callees, emit-node-mul-letter, emit-node-mul-letter-2, emit-node-shared-slice-read-letter, emit-node-slice-aggregate-put, emit-node-put-requires, emit-node-add-t35, emit-node-mul-slot, emit-node-add-slot, emit-node-mul-slot-2, emit-node-shared-slice-read-slot, emit-node-cast-slot, emit-node-mul-slot-3, emit-node-element-copy-out-slot, emit-node-put-slot-requires, emit-node-add-t36, emit-node-mul-put-new, emit-node-add-put-new, emit-node-mul-put-new-2, emit-node-shared-slice-read-put-new, emit-node-put-new-requires, emit-node-add-t50, emit-node-mul-slot-4, emit-node-add-slot-2, emit-node-mul-slot-5, emit-node-shared-slice-read-slot-2, emit-node-cast-slot-2, emit-node-mul-slot-6, emit-node-element-copy-out-slot-2, emit-node-mul-put-change, emit-node-add-put-change, emit-node-mul-put-change-2, emit-node-shared-slice-read-put-change, emit-node-put-change-requires, emit-node-add-t60}
+use Rattle.plain.proofs.+emit_arguments+emit_block+emit_call+emit_cast+emit_node+emit_nodes+emit_set.Proof.NodeParts.{emit-node-slice-aggregate-put-2, emit-node-put-requires-2, emit-node-add-emit-node, emit-node-emit-node-requires, emit-node-mul-t75, emit-node-add-t76, emit-node-mul-t77, emit-node-shared-slice-read-t79, emit-node-cast-t80, emit-node-mul-t81, emit-node-element-copy-out-t84, emit-node-slice-aggregate-put-3, emit-node-put-requires-3, emit-node-add-emit-node-2, emit-node-emit-node-requires-2, emit-node-mul-t91, emit-node-add-t92, emit-node-mul-t93, emit-node-shared-slice-read-t95, emit-node-mul-t96, emit-node-shared-slice-read-t98, emit-node-cast-t99, emit-node-add-t100, emit-node-slice-aggregate-put-4, emit-node-put-requires-4, emit-node-add-emit-node-3, emit-node-emit-node-requires-3, emit-node-emit-cast-requires, emit-node-emit-set-requires, emit-node-emit-call-requires, emit-node-slice-aggregate-put-5, emit-node-put-requires-5, emit-node-add-emit-nodes, emit-node-emit-nodes-requires, emit-node-emit-block-requires}
 use Rattle.plain.proofs.+emit_arguments+emit_block+emit_call+emit_cast+emit_node+emit_nodes+emit_set.Lts-emit_node as emit-node-lts
 
 emit-node-same-length : (t : ℕ) → emit-node-lts.Need-same-length (callees t) (emit-node-at t) emit-node.Post

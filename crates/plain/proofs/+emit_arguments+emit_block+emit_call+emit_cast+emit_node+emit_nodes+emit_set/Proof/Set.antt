@@ -15,7 +15,14 @@ use Rattle.plain.proofs.+emit_arguments+emit_block+emit_call+emit_cast+
 
 -- What its callees ask and give: those of the cycle below the measure t.
 abbrev pub callees : ℕ → emit-set-lts.Claims
-callees t = (plain-type-reads.Asked, plain-type-reads.Learnt, put-reads.Asked, put-reads.Learnt, emit-arguments-below t, emit-arguments.Post)
+callees t = (
+  plain-type-reads.Asked,
+  plain-type-reads.Learnt,
+  put-reads.Asked,
+  put-reads.Learnt,
+  emit-arguments-below t,
+  emit-arguments.Post,
+)
 
 emit-set-mul-name : (t : ℕ) → emit-set-lts.Need-mul-name (callees t) (emit-set-at t) emit-set.Post
 emit-set-mul-name t c = omega (arith, set-known (c .before .before .before .before .pre .1) .0)
