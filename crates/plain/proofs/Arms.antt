@@ -93,7 +93,7 @@ module _ {R T C S : List ℕ} {at vars next place : ℕ} where
       → (place + 56 ≤ most-numbers) × (next ≤ most-numbers) × (getD R (at * 4 + 1) 0 < 65536)
   new-known x h = of-letter W-new x h λ P E γ sh c t. let r : place + 56 ≤ most-numbers =
       omega (arith, t .fits, ap length (t-new (world P) γ sh c)) in
-      (r, omega (arith, r, t .low), t .setting .small (at * 4 + 1))
+      (r, omega (arith, r, t .low), t .setting .lent .small (at * 4 + 1))
 
   pub new-arm : {O O′ : List ℕ} {p : ℕ} → getD R (at * 4) 0 ≡ 87
       → Written (new-lines next (getD R (at * 4 + 1) 0)) O O′ place p
@@ -117,13 +117,13 @@ module _ {R T C S : List ℕ} {at vars next place : ℕ} where
         rw (slot-at (t .setting) (z .0) (z .2), z .1)
             (record {
               P = P;
-              members = t .setting .members;
+              members = t .setting .lent .members;
               declared = z .3;
               root-declared = z .4;
               fits = r;
             }),
         omega (arith, t .low, r),
-        t .setting .small (at * 4 + 2),
+        t .setting .lent .small (at * 4 + 2),
       )
     where
       rooms : (place : ℕ) (fs : List Field) (n d r s : ℕ)
@@ -153,7 +153,7 @@ module _ {R T C S : List ℕ} {at vars next place : ℕ} where
       → NodeEmitted R T C S O O′ at vars next place p (at + 1)
   unfolding size
   change-arm h m = all-letter R-change h λ P E γ sh k d t. let z = change-slot t in
-      let w = m .each P (t .setting .members) (omega (arith, z .1, z .3)) (rw (z .1) (z .4)) in
+      let w = m .each P (t .setting .lent .members) (omega (arith, z .1, z .3)) (rw (z .1) (z .4)) in
       whole w (rw (slot-at (t .setting) (z .0) (z .2), z .1, t .setting .free)
       (sym (t-change (world P) γ sh k d))) refl
 

@@ -17,10 +17,7 @@ first-setting : {P : List Class} {E : List ℕ} {e : Expr} {γ : Environment} {t
     → BodyTask P E e γ ts R T C at place → Setting P R T C (replicate 32 0) [] 1 1
 unfolding variable-count plain-slot
 first-setting t = record {
-  members = t .lent .members;
-  small = t .lent .small;
-  beside = t .lent .beside;
-  short = t .lent .short;
+  lent = t .lent;
   wide = refl;
   scope = omega arith;
   variables = refl;

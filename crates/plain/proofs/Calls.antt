@@ -47,7 +47,7 @@ module _ {P : List Class} {E : List ℕ} {γ : Environment} {sh : Shape} {R T C 
       × TypesAt P-parameter R call-types (getD T (call-class * 576 + 256 + m) 0)
   unfolding Ready MethodFound
   call-method = let F = t .ready .2 in
-      let h = t .setting .members .methods call-class m (F .0) (call-name .4) (call-name .3) (F .1) in
+      let h = t .setting .lent .members .methods call-class m (F .0) (call-name .4) (call-name .3) (F .1) in
       rw (F .1) (F .2, F .3, h)
 
   abbrev call-arguments : Nodes
@@ -101,7 +101,7 @@ module _ {R T C S : List ℕ} {at vars next place : ℕ} where
         r .0,
         r .1,
         r .2,
-        omega (arith, n .3, n .4, t .setting .members .long),
+        omega (arith, n .3, n .4, t .setting .lent .members .long),
         n .3,
         omega (arith, call-room t),
         t .low,

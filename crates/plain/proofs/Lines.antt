@@ -102,22 +102,22 @@ reads-step s count {O} {O₁} {O₂} {place} {p} {q} h a b = go count h b
 module _ {R T : List ℕ} {from count : ℕ} where
   pub fields-in : SomeFields R T from count → count ≢ 0
       → (from < length T) × (getD T from 0 * 4 + 3 < length R)
-  unfolding FieldRows
+  unfolding LinesAt
   fields-in x h = go (x .fs) (x .rows) (x .counted)
     where
       go : (fs : List Field) → FieldRows R T fs from → length fs ≡ count
           → (from < length T) × (getD T from 0 * 4 + 3 < length R)
       go [] r e = absurd (h (sym e))
-      go (f ∷ fs) r e = (r .0, r .1 .within)
+      go (f ∷ fs) r e = (r .0 .0, r .0 .1 .within)
 
   pub fields-rest : SomeFields R T from count → count ≢ 0 → SomeFields R T (from + 1) (count - 1)
-  unfolding FieldRows
+  unfolding LinesAt
   fields-rest x h = go (x .fs) (x .rows) (x .counted)
     where
       go : (fs : List Field) → FieldRows R T fs from → length fs ≡ count
           → SomeFields R T (from + 1) (count - 1)
       go [] r e = absurd (h (sym e))
-      go (f ∷ fs) r e = record { fs = fs; rows = r .2; counted = omega (arith, e) }
+      go (f ∷ fs) r e = record { fs = fs; rows = r .1; counted = omega (arith, e) }
 
   module _ {s place : ℕ} {O : List ℕ} where
     pub copies-none : count ≡ 0 → CopiesWritten R T from count s O O place place
@@ -132,15 +132,15 @@ module _ {R T : List ℕ} {from count : ℕ} where
     pub copies-step : {O₁ O₂ : List ℕ} {p q n : ℕ} → count ≢ 0 → n ≡ getD R (getD T from 0 * 4 + 2) 0
         → Written (85 ∷ n ∷ 0 ∷ 0 ∷ 73 ∷ s ∷ 0 ∷ 0 ∷ 71 ∷ n ∷ 0 ∷ 0 ∷ 73 ∷ (s + 1) ∷ 0 ∷ 0 ∷ []) O O₁ place p
         → CopiesWritten R T (from + 1) (count - 1) s O₁ O₂ p q → CopiesWritten R T from count s O O₂ place q
-    unfolding copy-lines FieldRows
+    unfolding copy-lines LinesAt
     copies-step {O₁} {O₂} {p} {q} {n} h w a b = record { each = λ fs r e. go fs r e }
       where
         go : (fs : List Field) → FieldRows R T fs from → length fs ≡ count
             → Written (copy-lines s fs) O O₂ place q
         go [] r e = absurd (h (sym e))
         go (f ∷ fs) r e =
-            let g : n ≡ f .name = w ∙ r .1 .second in
-            rw (← g) (written-then (rw add-one at a) (b .each fs (r .2) (omega (arith, e))))
+            let g : n ≡ f .name = w ∙ r .0 .1 .second in
+            rw (← g) (written-then (rw add-one at a) (b .each fs (r .1) (omega (arith, e))))
 
 -- F lines
 module _ {R : List ℕ} {at count : ℕ} where

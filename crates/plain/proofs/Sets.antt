@@ -1,43 +1,31 @@
 -- Laws of U, which becomes a block with two temporaries: the field's type, the task of its nodes, and what
 -- they write together. Assumes nothing.
 use mathlib.Core.Path.{_≡_, refl, sym, ap, _∙_}
-use mathlib.Core.Option.{Option, some}
+use mathlib.Core.Option.{Option}
 use mathlib.Core.Bool.{false}
 use mathlib.Core.List.{List, [], _∷_, _++_}
-use Prim.Native.Nat.{ℕ, zero, suc, _+_, _-_, _*_, _≤_, _<_}
+use Prim.Native.Nat.{ℕ, suc, _+_, _-_, _*_, _≤_, _<_}
 use native.Mathlib.Omega.{arith}
 use lib.ListN.{length, getD, length-append}
-use Rattle.language.specs.Lists.{nth, Never, inj}
-use Rattle.language.specs.Rows.{F-field}
 use Rattle.language.specs.Tree.{type-number, Expr, set, size, Field, Class}
 use Rattle.language.specs.World.{field-type}
 use Rattle.language.specs.Effects.{apply-class}
 use Rattle.language.specs.Program.{world}
 use Rattle.language.specs.ClassTables.{stored-place}
-use Rattle.language.specs.Encoded.{RowAt, Encoded}
+use Rattle.language.specs.Encoded.{Encoded}
 use Rattle.language.specs.Typing.{Environment, type-of}
 use Rattle.language.specs.Translation.{Shape, plain-type, typed-or, class-or, type-or}
 use Rattle.language.specs.LookupClasses.{LooksUp}
+use Rattle.language.proofs.Lines.{line-at}
 use Rattle.plain.specs.Numbers.{most-numbers, arguments-numbers, plain-number, Proper, Nodes, none}
 use Rattle.plain.specs.Numbers.{also, how-many, rows-taken}
 use Rattle.plain.specs.Emission.{Written, SomeSet, SomeArguments, SetEmitted, ArgumentsEmitted}
 use Rattle.plain.specs.Tasks.{NodeTask, NodesTask, EncodedNodes, LooksUpNodes, ReadyNodes, Ready}
-use Rattle.plain.specs.Tasks.{variable-count, FieldRows, FieldFound}
+use Rattle.plain.specs.Tasks.{variable-count, FieldFound}
 use Rattle.plain.proofs.Writing.{written-then, part, whole}
 use Rattle.plain.proofs.Translated.{t-set}
 use Rattle.plain.proofs.Tasks.{node-row}
 use Rattle.plain.proofs.Shapes.{setting-temporaries}
-
--- the row of a field by its place
-field-row : (R T : List ℕ) (fs : List Field) (from i : ℕ) (g : Field) → FieldRows R T fs from
-    → nth fs i ≡ some g
-    → (from + i < length T) × RowAt R (getD T (from + i) 0) F-field (type-number (g .type)) (g .name)
-unfolding FieldRows nth
-field-row R T [] from i g h e = absurd (Never e)
-field-row R T (f ∷ fs) from zero g h e = let z : from + 0 ≡ from = omega arith in
-    rw z (h .0, rw (inj e) at (h .1))
-field-row R T (f ∷ fs) from (suc i) g h e = let z : from + suc i ≡ from + 1 + i = omega arith in
-    rw z (field-row R T fs (from + 1) i g (h .2) e)
 
 module _ {P : List Class} {E : List ℕ} {γ : Environment} {sh : Shape} {R T C S : List ℕ}
     {at vars next place : ℕ} {f : ℕ} {e e′ : Expr}
@@ -59,9 +47,9 @@ module _ {P : List Class} {E : List ℕ} {γ : Environment} {sh : Shape} {R T C 
   unfolding Ready FieldFound Proper field-type
   set-field =
       let F = t .ready .2 in
-      let M = t .setting .members in
-      let row = field-row R T (world P .fields set-class) (set-class * 576 + 520) (F .0) (F .1)
-      (M .fields set-class (set-name .3)) (F .3) in (
+      let M = t .setting .lent .members in
+      let row = line-at _ (world P .fields set-class) (set-class * 576 + 520)
+      (M .fields set-class (set-name .3)) (F .0) (F .1) (F .3) in (
         F .0,
         F .1,
         M .places set-class f (set-name .3) (set-name .2) ∙ ap (λ (o : Option ℕ). stored-place o) (F .2),
@@ -113,7 +101,7 @@ module _ {R T C S : List ℕ} {at vars next place : ℕ} where
         r .0,
         r .1,
         r .2,
-        omega (arith, n .2, n .3, t .setting .members .long),
+        omega (arith, n .2, n .3, t .setting .lent .members .long),
         n .2,
         d .3,
         d .4,

@@ -59,10 +59,7 @@ module _ {P : List Class} {R T C S : List ℕ} {sh : Shape} {vars next : ℕ} (x
     pub setting-temporaries : (fs : Shape) → variable-count fs ≡ 0
         → Setting P R T C S (sh ++ fs) vars (next + length fs)
     setting-temporaries fs z = record {
-      members = x .members;
-      small = x .small;
-      beside = x .beside;
-      short = x .short;
+      lent = x .lent;
       wide = x .wide;
       scope = x .scope;
       variables = omega (arith, x .variables, variables-append sh fs, z);
@@ -76,10 +73,7 @@ module _ {P : List Class} {R T C S : List ℕ} {sh : Shape} {vars next : ℕ} (x
         → Setting P R T C S′ (sh ++ variables ts) (vars + length ts) (next + length ts)
     unfolding plain-slot
     setting-locals ts S′ y h = record {
-      members = x .members;
-      small = x .small;
-      beside = x .beside;
-      short = x .short;
+      lent = x .lent;
       wide = y .wide;
       scope = h;
       variables = omega (arith, x .variables, variables-append sh (variables ts), variables-all ts);

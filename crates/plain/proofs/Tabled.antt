@@ -8,7 +8,7 @@ use lib.ListN.{length, getD}
 use Rattle.language.specs.Lists.{nth, inj, All2, a-nil, a-cons}
 use Rattle.language.specs.Rows.{P-parameter}
 use Rattle.language.specs.Tree.{Field, Program}
-use Rattle.language.specs.Encoded.{TypesAt}
+use Rattle.language.specs.Encoded.{LinesAt, TypesAt}
 use Rattle.language.specs.World.{Method}
 use Rattle.language.specs.Program.{world}
 use Rattle.language.specs.ClassTables.{ClassTables, stored-place, field-rows, method-row}
@@ -21,13 +21,12 @@ use Rattle.plain.specs.Tasks.{Members, FieldRows}
 fields-tabled : (R T : List ℕ) (fs : List Field) (rs : List ℕ) (at : ℕ) → All2 (FieldHere R) fs rs
     → ((i r : ℕ) → nth rs i ≡ some r → getD T (at + i) 0 ≡ r) → at + length fs ≤ length T
     → FieldRows R T fs at
-unfolding FieldRows nth
+unfolding LinesAt nth
 fields-tabled R T [] [] at a-nil t l = tt
 fields-tabled R T (f ∷ fs) (r ∷ rs) at (a-cons h hs) t l =
     let z : at + 0 ≡ at = omega arith in
     let e : getD T at 0 ≡ r = rw z at (t 0 r refl) in (
-      omega (arith, l),
-      rw e (h .line),
+      (omega (arith, l), rw e (h .line)),
       fields-tabled R T fs rs (at + 1) hs
           (λ i q u. let y : at + 1 + i ≡ at + suc i = omega arith in rw y (t (suc i) q u)) (omega (arith, l)),
     )

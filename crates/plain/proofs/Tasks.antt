@@ -26,7 +26,7 @@ module _ {P : List Class} {E : List ℕ} {γ : Environment} {sh : Shape} {R T C 
   pub node-row : {e : Expr} → NodeTask P E e γ sh R T C S at vars next place
       → (at * 4 + 3 < length R) × (at < 60000) × (at < length C)
   node-row {e} t = let h = node-at R E at e (t .encoded) .0 in
-      (h, omega (arith, h, t .setting .short), omega (arith, h, t .setting .beside))
+      (h, omega (arith, h, t .setting .lent .short), omega (arith, h, t .setting .lent .beside))
 
   -- K
   cast-class : {c : ℕ} {e : Expr} → NodeTask P E (cast c e) γ sh R T C S at vars next place

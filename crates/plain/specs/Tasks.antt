@@ -18,7 +18,7 @@ use Rattle.language.specs.World.{Method, World, place}
 use Rattle.language.specs.Effects.{apply-class}
 use Rattle.language.specs.Program.{world}
 use Rattle.language.specs.ClassTables.{stored-place}
-use Rattle.language.specs.Encoded.{RowAt, TypesAt, Encoded}
+use Rattle.language.specs.Encoded.{RowAt, LinesAt, TypesAt, Encoded}
 use Rattle.language.specs.Typing.{Environment, fresh-slot, method-environment, start-environment, type-of}
 use Rattle.language.specs.Typing.{type-all}
 use Rattle.language.specs.Translation.{Shape, plain-slot, typed-or, typed-all-or, class-or, variables}
@@ -29,10 +29,9 @@ use Rattle.plain.specs.Numbers.{most-numbers, node-numbers, Proper, Prop
 use Rattle.plain.specs.Numbers.{class-numbers, classes-numbers, program-numbers, none, also}
 
 -- The table has the rows of fields from an entry on.
-unfoldable pub FieldRows : List ℕ → List ℕ → List Field → ℕ → Type 0
-FieldRows R T [] i = Unit {0}
-FieldRows R T (f ∷ fs) i =
-    (i < length T) × RowAt R (getD T i 0) F-field (type-number (f .type)) (f .name) × FieldRows R T fs (i + 1)
+abbrev pub FieldRows : List ℕ → List ℕ → List Field → ℕ → Type 0
+FieldRows R T fs i = LinesAt (λ (f : Field) (i : ℕ).
+    (i < length T) × RowAt R (getD T i 0) F-field (type-number (f .type)) (f .name)) fs i
 
 -- What the tables of classes tell of members, and where the rows have them.
 pub record Members (P : List Class) (R T : List ℕ) : Type 0 where
@@ -109,13 +108,17 @@ variable-count [] = 0
 variable-count (true ∷ sh) = suc (variable-count sh)
 variable-count (false ∷ sh) = variable-count sh
 
--- The tables, and the plain slot of each source slot: S has those of the slots in scope, `next` is the next
--- free one.
-pub record Setting (P : List Class) (R T C S : List ℕ) (sh : Shape) (vars next : ℕ) : Type 0 where
+-- The rows and tables that every body's translation goes by.
+pub record Lent (P : List Class) (R T C : List ℕ) : Type 0 where
   pub members : Members P R T
   pub small : (i : ℕ) → getD R i 0 < 65536
   pub beside : length R ≤ length C * 4
   pub short : length R ≤ 240000
+
+-- With these, the plain slot of each source slot: S has those of the slots in scope, `next` is the next free
+-- one.
+pub record Setting (P : List Class) (R T C S : List ℕ) (sh : Shape) (vars next : ℕ) : Type 0 where
+  pub lent : Lent P R T C
   pub wide : length S ≡ 32
   pub scope : vars ≤ 32
   pub variables : vars ≡ suc (variable-count sh)
@@ -139,13 +142,6 @@ pub record NodesTask (P : List Class) (E : List ℕ) (es : Nodes) (sh : Shape)
   pub looks : LooksUpNodes (world P) C es at
   pub ready : ReadyNodes P es vars
   pub low : next ≤ place
-
--- The rows and tables that every body's translation goes by.
-pub record Lent (P : List Class) (R T C : List ℕ) : Type 0 where
-  pub members : Members P R T
-  pub small : (i : ℕ) → getD R i 0 < 65536
-  pub beside : length R ≤ length C * 4
-  pub short : length R ≤ 240000
 
 -- A body with its parameters, `this` before them: all that its translation goes by.
 pub record BodyTask (P : List Class) (E : List ℕ) (e : Expr) (γ : Environment) (ts : List DeclaredType)

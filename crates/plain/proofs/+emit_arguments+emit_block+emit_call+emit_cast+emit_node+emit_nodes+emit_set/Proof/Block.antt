@@ -69,7 +69,7 @@ emit-block-add-put-types t c =
 emit-block-cast-put-types : (t : ℕ) → emit-block-lts.Need-cast-put-types (callees t) (emit-block-at t) emit-block.Post
 emit-block-cast-put-types t c =
     let start = c .before .before .before .before .before .before .before .before .before .before .before .before in
-    omega (arith, start .pre .1 .task .setting .small (start .args .at * 4 + 1))
+    omega (arith, start .pre .1 .task .setting .lent .small (start .args .at * 4 + 1))
 
 emit-block-put-types-requires : (t : ℕ) → emit-block-lts.Need-put-types-requires (callees t) (emit-block-at t) emit-block.Post
 emit-block-put-types-requires t c κs =
@@ -81,7 +81,7 @@ emit-block-put-types-requires t c κs =
 emit-block-cast-with-locals : (t : ℕ) → emit-block-lts.Need-cast-with-locals (callees t) (emit-block-at t) emit-block.Post
 emit-block-cast-with-locals t c =
     let start = c .before .before .before .before .before .before .before .before .before .before .before .before .before .before .before in
-    omega (arith, start .pre .1 .task .setting .small (start .args .at * 4 + 1))
+    omega (arith, start .pre .1 .task .setting .lent .small (start .args .at * 4 + 1))
 
 emit-block-with-locals-requires : (t : ℕ) → emit-block-lts.Need-with-locals-requires (callees t) (emit-block-at t) emit-block.Post
 emit-block-with-locals-requires t c κs =
@@ -96,7 +96,7 @@ emit-block-add-emit-nodes t c =
 emit-block-cast-emit-nodes : (t : ℕ) → emit-block-lts.Need-cast-emit-nodes (callees t) (emit-block-at t) emit-block.Post
 emit-block-cast-emit-nodes t c =
     let start = c .before .before .before .before .before .before .before .before .before .before .before .before .before .before .before .before .before .before in
-    omega (arith, start .pre .1 .task .setting .small (start .args .at * 4 + 1))
+    omega (arith, start .pre .1 .task .setting .lent .small (start .args .at * 4 + 1))
 
 emit-block-add-emit-nodes-2 : (t : ℕ) → emit-block-lts.Need-add-emit-nodes-2 (callees t) (emit-block-at t) emit-block.Post
 emit-block-add-emit-nodes-2 t c =
@@ -104,13 +104,13 @@ emit-block-add-emit-nodes-2 t c =
     omega (
       arith,
       block-known (start .pre .1) .0,
-      start .pre .1 .task .setting .small (start .args .at * 4 + 1),
+      start .pre .1 .task .setting .lent .small (start .args .at * 4 + 1),
     )
 
 emit-block-cast-emit-nodes-2 : (t : ℕ) → emit-block-lts.Need-cast-emit-nodes-2 (callees t) (emit-block-at t) emit-block.Post
 emit-block-cast-emit-nodes-2 t c =
     let start = c .before .before .before .before .before .before .before .before .before .before .before .before .before .before .before .before .before .before in
-    omega (arith, start .pre .1 .task .setting .small (start .args .at * 4 + 1))
+    omega (arith, start .pre .1 .task .setting .lent .small (start .args .at * 4 + 1))
 
 emit-block-add-emit-nodes-3 : (t : ℕ) → emit-block-lts.Need-add-emit-nodes-3 (callees t) (emit-block-at t) emit-block.Post
 emit-block-add-emit-nodes-3 t c =

@@ -70,7 +70,7 @@ emit-cast-shared-slice-read-t22 t c =
 emit-cast-add-t26 : (t : ℕ) → emit-cast-lts.Need-add-t26 (callees t) (emit-cast-at t) emit-cast.Post
 emit-cast-add-t26 t c =
     let start = c .before .before .before .before .before .before .before .before .before .before .before .before .before .before in
-    omega (arith, start .pre .1 .task .setting .small (start .args .at * 4 + 1))
+    omega (arith, start .pre .1 .task .setting .lent .small (start .args .at * 4 + 1))
 
 emit-cast-slice-aggregate-put-2 : (t : ℕ) → emit-cast-lts.Need-slice-aggregate-put-2 (callees t) (emit-cast-at t) emit-cast.Post
 emit-cast-slice-aggregate-put-2 t c = search needs
