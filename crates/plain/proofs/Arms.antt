@@ -19,7 +19,7 @@ use Rattle.plain.specs.Emission.{SomeSet, SomeCall, SomeBlock, SomeNodes
 use Rattle.plain.specs.Emission.{SetEmitted, CallEmitted, BlockEmitted, NodesEmitted}
 use Rattle.plain.specs.Tasks.{NodeTask}
 use Rattle.plain.proofs.Letters.{EachTree, by-letter, rest-block, node-at}
-use Rattle.plain.proofs.Writing.{written-then, part, whole}
+use Rattle.plain.proofs.Writing.{written-then, whole}
 use Rattle.plain.proofs.Numbers.{n-true, n-false, n-null}
 use Rattle.plain.proofs.Translated.{t-slot, t-is-null, t-assign, t-get, t-new, t-choose, t-change}
 use Rattle.plain.proofs.Tasks.{node-row, slot-slot, new-class, change-slot, is-null-child, assign-slot}
@@ -172,7 +172,7 @@ module _ {R T C S : List ℕ} {at vars next place : ℕ} where
   unfolding size
   is-null-arm h w m = all-letter Z-is-null h λ P E γ sh e t. let em =
       m .each P E e γ sh (is-null-child t _ (w .ended)) in
-      whole (written-then w (part em)) (sym (t-is-null (world P) γ sh e)) (omega (arith, em .passed))
+      whole (written-then w (em .written)) (sym (t-is-null (world P) γ sh e)) (omega (arith, em .passed))
 
   pub assign-known : SomeNode R T C S at vars next place → getD R (at * 4) 0 ≡ 65
       → (getD R (at * 4 + 1) 0 < 32) × (place + 4 ≤ most-numbers)
@@ -192,7 +192,7 @@ module _ {R T C S : List ℕ} {at vars next place : ℕ} where
   unfolding size
   assign-arm h w m = all-letter A-assign h λ P E γ sh k e t. let z = assign-slot t in let em =
       m .each P E e γ sh (assign-child t _ (w .ended)) in
-      whole (written-then w (part em))
+      whole (written-then w (em .written))
       (rw (slot-at (t .setting) (z .0) (z .1)) (sym (t-assign (world P) γ sh k e)))
       (omega (arith, em .passed))
 
@@ -212,7 +212,7 @@ module _ {R T C S : List ℕ} {at vars next place : ℕ} where
   unfolding size
   get-arm h w m = all-letter G-get h λ P E γ sh f e t. let z = get-name t in let em =
       m .each P E e γ sh (get-child t _ (w .ended)) in
-      whole (written-then w (part em)) (rw (z .0, z .1) (sym (t-get (world P) γ sh f e)))
+      whole (written-then w (em .written)) (rw (z .0, z .1) (sym (t-get (world P) γ sh f e)))
       (omega (arith, em .passed))
 
   pub choose-known : SomeNode R T C S at vars next place → getD R (at * 4) 0 ≡ 74 → place + 4 ≤ most-numbers
@@ -239,7 +239,7 @@ module _ {R T C S : List ℕ} {at vars next place : ℕ} where
   unfolding size how-many rows-taken
   choose-arm h w m = all-letter J-choose h λ P E γ sh e y z t.
       let em = m .each P E _ sh (choose-nodes t _ (w .ended)) refl (rw (w .ended) (choose-room t)) in
-      whole (written-then w (part em)) (sym (t-choose (world P) γ sh e y z)) (omega (arith, em .passed))
+      whole (written-then w (em .written)) (sym (t-choose (world P) γ sh e y z)) (omega (arith, em .passed))
 
   pub cast-some : SomeNode R T C S at vars next place → getD R (at * 4) 0 ≡ 75
       → SomeCast R T C S at vars next place

@@ -17,7 +17,7 @@ use Rattle.plain.specs.Numbers.{most-numbers, nodes-numbers, type-lines,
 use Rattle.plain.specs.Emission.{Written, Extended, SomeTypes, TypesWritten, SomeBlock, SomeNodes}
 use Rattle.plain.specs.Emission.{BlockEmitted, NodesEmitted}
 use Rattle.plain.specs.Tasks.{NodeTask, NodesTask, Ready}
-use Rattle.plain.proofs.Writing.{written-then, part, whole}
+use Rattle.plain.proofs.Writing.{written-then, whole}
 use Rattle.plain.proofs.Translated.{t-block}
 use Rattle.plain.proofs.Tasks.{node-row}
 use Rattle.plain.proofs.Shapes.{setting-locals}
@@ -130,7 +130,7 @@ module _ {R T C S : List ℕ} {at vars next place : ℕ} where
         let em = m′ .each P E (nodes-of (world P) es γ′) (sh ++ variables ts)
         (block-nodes t S′ (rw (n .0) at y) _ q′)
         (nodes-counted (world P) es γ′) (rw q′ (block-room t)) in
-        whole (written-then w (written-then u (part em)))
+        whole (written-then w (written-then u (em .written)))
         (rw (n .0, n .1) (sym (t-block (world P) γ sh ts es (block-ready t .1))))
         (omega (arith, em .passed, nodes-sizes (world P) es γ′));
   }

@@ -20,7 +20,7 @@ use Rattle.plain.specs.Emission.{Written, SomeTypes, TypesWritten, SomeC
 use Rattle.plain.specs.Emission.{ArgumentsEmitted}
 use Rattle.plain.specs.Tasks.{NodeTask, NodesTask, EncodedNodes, LooksUpNodes, ReadyNodes, Ready}
 use Rattle.plain.specs.Tasks.{variable-count, MethodFound}
-use Rattle.plain.proofs.Writing.{written-then, part, whole}
+use Rattle.plain.proofs.Writing.{written-then, whole}
 use Rattle.plain.proofs.Translated.{t-call}
 use Rattle.plain.proofs.Tasks.{node-row}
 use Rattle.plain.proofs.Shapes.{setting-temporaries, temporaries-none}
@@ -164,7 +164,7 @@ module _ {R T C S : List ℕ} {at vars next place : ℕ} where
             (typed-or (type-of (world (x .P)) (x .e) 0 (x .γ)) .slots),
       ))
       (rw (z′, t .setting .free) (omega (arith, call-room t))) in
-      omega (arith, z′, n .1, rw (t .setting .free) at (em .ended), call-room t)
+      omega (arith, z′, n .1, rw (t .setting .free) at (em .written .ended), call-room t)
 
   pub call-done : {O O₁ O₂ O₃ O₄ O₅ : List ℕ} {p q r p′ q′ b : ℕ}
       → Written (66 ∷ (getD R (at * 4 + 2) 0 + 1) ∷ (getD R (at * 4 + 2) 0 + 2) ∷ 0 ∷ 86 ∷ 1 ∷ 0 ∷ 0 ∷ []) O
@@ -191,7 +191,7 @@ module _ {R T C S : List ℕ} {at vars next place : ℕ} where
         let em = o′ .each P E (call-arguments t) (call-shape t) (call-nodes t q z)
         (omega (arith, nodes-counted (world P) es γ′))
         (rw (z, t .setting .free) (omega (arith, call-room t))) in
-        whole (written-then w (written-then u (written-then (part em) (written-then l k))))
+        whole (written-then w (written-then u (written-then (em .written) (written-then l k))))
         (rw (n .0, n .1, n .2, t .setting .free) (sym (t-call (world P) γ sh m e es (h .0) (h .1))))
         (omega (arith, em .passed, nodes-sizes (world P) es γ′));
   }

@@ -14,7 +14,7 @@ use Rattle.plain.specs.Numbers.{classes-numbers}
 use Rattle.plain.specs.Emission.{Written, Emitted, Skipped, SomeFieldLines, FieldsWritten, SomeMethods}
 use Rattle.plain.specs.Emission.{SomeClass, SomeClasses, MethodsEmitted, ClassEmitted, ClassesEmitted}
 use Rattle.plain.specs.Tasks.{MethodsTask, ClassTask, ClassesTask}
-use Rattle.plain.proofs.Writing.{written-then, part, whole}
+use Rattle.plain.proofs.Writing.{written-none, written-then, whole}
 use Rattle.plain.proofs.Lines.{fields-length}
 use Rattle.plain.proofs.Standing.{class-positive, methods-of, first-of, class-row, class-end, no-class}
 use Rattle.plain.proofs.Standing.{not-class, class-stands, classes-stand}
@@ -96,7 +96,8 @@ module _ {R T C : List ℕ} {at place : ℕ} where
           let d = class-wrote c t in let e =
           o .each P E k (c .methods) (class-methods c t r q (d .0) (d .2)) in
           let u : a ≡ c .super + 2 = omega (arith, h, t .ready .line .second) in
-          whole (written-then w (written-then (d .1) (part e))) (rw u refl) (omega (arith, e .passed, d .0));
+          whole (written-then w (written-then (d .1) (e .written))) (rw u refl)
+          (omega (arith, e .passed, d .0));
     }
 
 -- classes: the first, and the rest
@@ -149,7 +150,7 @@ module _ {R T C : List ℕ} {at place : ℕ} where
     where
       go : (P : List Class) (E : List ℕ) (k : ℕ) (cs : List Class) → ClassesTask P E k cs R T C at place
           → Emitted (classes-numbers (world P) k cs) (classes-lines cs) O O place at place at
-      go P E k [] t = record { content = refl; ended = omega arith; passed = omega arith }
+      go P E k [] t = record { written = written-none; passed = omega arith }
       go P E k (c ∷ cs) t = absurd (not-class c cs (classes-stand t) h)
 
   with-class : {D : Type 0} {P : List Class} {E : List ℕ} {k : ℕ} (cs : List Class) → getD R (at * 4) 0 ≡ 67
@@ -171,7 +172,7 @@ module _ {R T C : List ℕ} {at place : ℕ} where
             E = y .E;
             k = suc (y .k);
             cs = cs;
-            task = class-rest c cs t p b (d .ended) (d .passed);
+            task = class-rest c cs t p b (d .written .ended) (d .passed);
           },
           omega (arith, d .passed, class-positive c),
         )
@@ -185,5 +186,5 @@ module _ {R T C : List ℕ} {at place : ℕ} where
             → Emitted (classes-numbers (world P) k cs) (classes-lines cs) O O₂ place at p₂ b₂
         go P E k [] t = absurd (no-class (classes-stand t) h)
         go P E k (c ∷ cs) t = let d = o .each P E k c (class-first c cs t) in let e =
-            v .each P E (suc k) cs (class-rest c cs t p b (d .ended) (d .passed)) in
-            whole (written-then (part d) (part e)) refl (omega (arith, d .passed, e .passed))
+            v .each P E (suc k) cs (class-rest c cs t p b (d .written .ended) (d .passed)) in
+            whole (written-then (d .written) (e .written)) refl (omega (arith, d .passed, e .passed))

@@ -14,7 +14,7 @@ use Rattle.plain.specs.Numbers.{most-numbers, plain-number, type-lines, 
 use Rattle.plain.specs.Numbers.{tree-numbers, method-numbers, node-numbers, methods-numbers}
 use Rattle.plain.specs.Emission.{Written, TypesWritten, SomeTypes, SomeBody, BodyEmitted, SomeMethod}
 use Rattle.plain.specs.Emission.{MethodEmitted, Emitted, Skipped, SomeMethods, MethodsEmitted}
-use Rattle.plain.proofs.Writing.{written-then, part, whole}
+use Rattle.plain.proofs.Writing.{written-none, written-then, whole}
 use Rattle.plain.proofs.Numbers.{lines-append}
 use Rattle.plain.proofs.Lines.{types-length}
 use mathlib.Core.Logic.{_≢_}
@@ -75,7 +75,7 @@ module _ {R T C : List ℕ} {at body place count : ℕ} where
         let em = o .each P E (m .body) _ (m .parameters) (rw z at (t .task)) c in
         let k′ : u ≡ plain-number (type-number (m .result)) = k
         ∙ ap (λ (n : ℕ). plain-number n) (t .row .first) in
-        whole (written-then w (written-then h (part em))) (rw (k′, t .row .second) refl) (em .passed);
+        whole (written-then w (written-then h (em .written))) (rw (k′, t .row .second) refl) (em .passed);
   }
 
 lines-cons : (l : Letter) (a b : ℕ) (rs : List Record)
@@ -187,7 +187,7 @@ module _ {R T C : List ℕ} {at place : ℕ} where
     where
       go : (P : List Class) (E : List ℕ) (k : ℕ) (ms : List Declaration) → MethodsTask P E k ms R T C at place
           → Emitted (methods-numbers (world P) k ms) (methods-lines ms) O O place at place at
-      go P E k [] t = record { content = refl; ended = omega arith; passed = omega arith }
+      go P E k [] t = record { written = written-none; passed = omega arith }
       go P E k (m ∷ ms) t = absurd (h (t .methods .0 .rows .line .letter))
 
   with-method : {D : Type 0} {P : List Class} {E : List ℕ} {k : ℕ} (ms : List Declaration)
@@ -210,7 +210,7 @@ module _ {R T C : List ℕ} {at place : ℕ} where
         → Written (method-numbers (world P) k m) O O₁ place p × (b′ ≡ at + method-lines m)
     method-emitted {P} {E} {k} m ms t = let q = method-first m ms t x b s u in
         let e = o .each P E k m (q .2) (omega (arith, q .0, z)) in
-        (part e, method-passed at m (q .1) (e .passed))
+        (e .written, method-passed at m (q .1) (e .passed))
 
     pub methods-rest : SomeMethods R T C at place → getD R (at * 4) 0 ≡ 77
         → SomeMethods R T C b′ p × (at < b′)
@@ -236,4 +236,4 @@ module _ {R T C : List ℕ} {at place : ℕ} where
         go P E k [] t = absurd (no-method (methods-stand t) h)
         go P E k (m ∷ ms) t = let d = method-emitted m ms t in let e =
             v .each P E k ms (method-rest m ms t p b′ (d .0 .ended) (d .1)) in
-            whole (written-then (d .0) (part e)) refl (omega (arith, d .1, e .passed))
+            whole (written-then (d .0) (e .written)) refl (omega (arith, d .1, e .passed))

@@ -16,7 +16,7 @@ use Rattle.plain.specs.Numbers.{none, also, how-many, rows-taken, nodes-
 use Rattle.plain.specs.Emission.{Written, Emitted, SomeNode, SomeNodes, SomeArguments, NodeEmitted}
 use Rattle.plain.specs.Emission.{NodesEmitted, ArgumentsEmitted}
 use Rattle.plain.specs.Tasks.{NodeTask, NodesTask, EncodedNodes, LooksUpNodes, ReadyNodes, ReadyAll}
-use Rattle.plain.proofs.Writing.{written-then, part, whole}
+use Rattle.plain.proofs.Writing.{written-none, written-then, whole}
 use Rattle.plain.proofs.Letters.{size-positive}
 use Rattle.plain.proofs.Tasks.{node-row}
 use Rattle.language.specs.World.{World}
@@ -129,9 +129,9 @@ module _ {R T C S : List ℕ} {at vars next place count : ℕ} where
               E = x .E;
               es = es;
               sh = x .sh;
-              task = rest-task t p b (omega (arith, o .ended)) (o .passed);
+              task = rest-task t p b (omega (arith, o .written .ended)) (o .passed);
               counted = omega (arith, k);
-              fits = omega (arith, f, r, o .ended);
+              fits = omega (arith, f, r, o .written .ended);
             },
             omega (arith, o .passed, size-positive e),
           )
@@ -151,9 +151,10 @@ module _ {R T C S : List ℕ} {at vars next place count : ℕ} where
       go P E (also e γ es) sh t k f =
           let r = length-append (node-numbers (world P) e γ sh) (nodes-numbers (world P) sh es) in
           let o = m .each P E e γ sh (first-task t place (omega arith) (omega (arith, f, r))) in
-          let u = n .each P E es sh (rest-task t p b (omega (arith, o .ended)) (o .passed)) (omega (arith, k))
-          (omega (arith, f, r, o .ended)) in
-          whole (written-then (part o) (part u)) refl (omega (arith, o .passed, u .passed))
+          let u = n .each P E es sh (rest-task t p b (omega (arith, o .written .ended)) (o .passed))
+          (omega (arith, k))
+          (omega (arith, f, r, o .written .ended)) in
+          whole (written-then (o .written) (u .written)) refl (omega (arith, o .passed, u .passed))
 
 module _ {R T C S O : List ℕ} {at vars next place count : ℕ} where
   pub nodes-none : count ≡ 0 → NodesEmitted R T C S O O at vars next place count place at
@@ -162,7 +163,7 @@ module _ {R T C S O : List ℕ} {at vars next place count : ℕ} where
     where
       go : (P : List Class) (E : List ℕ) (es : Nodes) (sh : Shape) → how-many es ≡ count
           → Emitted (nodes-numbers (world P) sh es) (rows-taken es) O O place at place at
-      go P E none sh k = record { content = refl; ended = omega arith; passed = omega arith }
+      go P E none sh k = record { written = written-none; passed = omega arith }
       go P E (also e γ es) sh k = absurd (omega (arith, k, z))
 
 module _ {R T C S : List ℕ} {at vars next place count s : ℕ} where
@@ -226,9 +227,9 @@ module _ {R T C S : List ℕ} {at vars next place count s : ℕ} where
               E = x .E;
               es = es;
               sh = x .sh;
-              task = rest-task t q b (omega (arith, z, o .ended)) (o .passed);
+              task = rest-task t q b (omega (arith, z, o .written .ended)) (o .passed);
               counted = omega (arith, k);
-              fits = rw add-one (omega (arith, f, r, z, o .ended));
+              fits = rw add-one (omega (arith, f, r, z, o .written .ended));
               below = omega (arith, x .below, h);
             },
             omega (arith, o .passed, size-positive e),
@@ -251,9 +252,9 @@ module _ {R T C S : List ℕ} {at vars next place count s : ℕ} where
           let l = length-append (node-numbers (world P) e γ sh) (arguments-numbers (world P) sh (suc s) es) in
           let z : p ≡ place + 4 = w .ended in
           let o = m .each P E e γ sh (first-task t p (omega (arith, z)) (omega (arith, z, f, l))) in
-          let u = n .each P E es sh (rest-task t q b (omega (arith, z, o .ended)) (o .passed))
-          (omega (arith, k)) (rw add-one (omega (arith, f, l, z, o .ended))) in
-          whole (written-then w (written-then (part o) (part u))) (rw add-one refl)
+          let u = n .each P E es sh (rest-task t q b (omega (arith, z, o .written .ended)) (o .passed))
+          (omega (arith, k)) (rw add-one (omega (arith, f, l, z, o .written .ended))) in
+          whole (written-then w (written-then (o .written) (u .written))) (rw add-one refl)
           (omega (arith, o .passed, u .passed))
 
 module _ {R T C S O : List ℕ} {at vars next place count s : ℕ} where
@@ -263,5 +264,5 @@ module _ {R T C S O : List ℕ} {at vars next place count s : ℕ} where
     where
       go : (P : List Class) (E : List ℕ) (es : Nodes) (sh : Shape) → how-many es ≡ count
           → Emitted (arguments-numbers (world P) sh s es) (rows-taken es) O O place at place at
-      go P E none sh k = record { content = refl; ended = omega arith; passed = omega arith }
+      go P E none sh k = record { written = written-none; passed = omega arith }
       go P E (also e γ es) sh k = absurd (omega (arith, k, z))

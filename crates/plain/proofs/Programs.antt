@@ -25,7 +25,7 @@ use Rattle.plain.specs.Numbers.{classes-numbers, program-numbers}
 use Rattle.plain.specs.Tasks.{Ready, BodyTask, MethodReady, ClassReady, ClassesTask, ProgramTask}
 use Rattle.plain.specs.Emission.{Written, SomeBody, BodyEmitted, SomeClasses, ClassesEmitted}
 use Rattle.plain.specs.Emission.{SomeProgram, ProgramWritten}
-use Rattle.plain.proofs.Writing.{written-then, written-as, part}
+use Rattle.plain.proofs.Writing.{written-then, written-as}
 use Rattle.plain.proofs.Numbers.{lines-append}
 use Rattle.plain.proofs.Methods.{plain-methods}
 
@@ -200,7 +200,7 @@ module _ {R T C : List ℕ} where
         × (r ≡ 16 + length (classes-numbers (world (p .classes)) 1 (p .classes)))
     classes-done {p} {E} t = let e =
         o .each (p .classes) E 1 (p .classes) (program-classes t q (omega (arith, w .ended))) in
-        (part e, omega (arith, e .passed), omega (arith, e .ended, w .ended))
+        (e .written, omega (arith, e .passed), omega (arith, e .written .ended, w .ended))
 
     pub program-room : SomeProgram R T C → (r + 4 ≤ most-numbers) × (b < 60000)
     program-room x = let d = classes-done (x .task) in (
@@ -228,6 +228,6 @@ module _ {R T C : List ℕ} where
           let d = classes-done t in
           let e = u .each (p .classes) E (p .start) start-environment []
           (program-body t (b + 1) s (omega (arith, d .1)) (omega (arith, d .2, v .ended))) refl in
-          written-as (written-then w (written-then (d .0) (written-then v (part e))))
+          written-as (written-then w (written-then (d .0) (written-then v (e .written))))
           (sym (program-plain p (t .rows .in-form)));
     }

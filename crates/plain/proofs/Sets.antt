@@ -22,7 +22,7 @@ use Rattle.plain.specs.Numbers.{also, how-many, rows-taken}
 use Rattle.plain.specs.Emission.{Written, SomeSet, SomeArguments, SetEmitted, ArgumentsEmitted}
 use Rattle.plain.specs.Tasks.{NodeTask, NodesTask, EncodedNodes, LooksUpNodes, ReadyNodes, Ready}
 use Rattle.plain.specs.Tasks.{variable-count, FieldFound}
-use Rattle.plain.proofs.Writing.{written-then, part, whole}
+use Rattle.plain.proofs.Writing.{written-then, whole}
 use Rattle.plain.proofs.Translated.{t-set}
 use Rattle.plain.proofs.Tasks.{node-row}
 use Rattle.plain.proofs.Shapes.{setting-temporaries}
@@ -132,7 +132,7 @@ module _ {R T C S : List ℕ} {at vars next place : ℕ} where
   set-room-after x z m = let t = x .task in
       let em = m .each (x .P) (x .E) (set-arguments t) (x .sh ++ (false ∷ false ∷ [])) (set-nodes t _ z) refl
       (rw (z, t .setting .free) (omega (arith, set-room t))) in
-      omega (arith, em .ended, z, rw (t .setting .free) at (em .ended), set-room t)
+      omega (arith, em .written .ended, z, rw (t .setting .free) at (em .written .ended), set-room t)
 
   pub set-done : {O O₁ O₂ O₃ : List ℕ} {p q p′ b u : ℕ}
       → u ≡ plain-number (getD R (getD T (getD C at 0 * 576 + 519 + getD T
@@ -153,7 +153,7 @@ module _ {R T C S : List ℕ} {at vars next place : ℕ} where
         let m′ = rw (t .setting .free) at m in
         let em = m .each P E (set-arguments t) (sh ++ (false ∷ false ∷ [])) (set-nodes t p z) refl
         (rw (z, t .setting .free) (omega (arith, set-room t))) in
-        whole (written-then w (written-then (part em) v))
+        whole (written-then w (written-then (em .written) v))
         (rw (k′, n .0, n .1, t .setting .free) (sym (t-set (world P) γ sh f e e′)))
         (omega (arith, em .passed));
   }

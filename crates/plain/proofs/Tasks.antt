@@ -16,7 +16,7 @@ use Rattle.plain.specs.Numbers.{most-numbers, node-numbers, nodes-number
 use Rattle.plain.specs.Emission.{Written, Emitted, NodeEmitted}
 use Rattle.plain.specs.Tasks.{NodeTask, NodesTask, EncodedNodes, LooksUpNodes, ReadyNodes, Ready}
 use Rattle.plain.specs.Tasks.{variable-count}
-use Rattle.plain.proofs.Writing.{written-then, part, whole}
+use Rattle.plain.proofs.Writing.{written-then, whole}
 use Rattle.plain.proofs.Translated.{t-is-null, t-assign, t-get, t-cast, t-choose}
 use Rattle.plain.proofs.Letters.{node-at}
 use Rattle.plain.proofs.Shapes.{setting-temporaries}
@@ -72,7 +72,7 @@ module _ {P : List Class} {E : List ℕ} {γ : Environment} {sh : Shape} {R T C 
   cast-done {c} {e} t h m w =
       let ch = cast-child t _ (h .ended) in
       let em = m .each P E e γ (sh ++ (false ∷ [])) ch in
-      whole (written-then h (written-then (part em) w))
+      whole (written-then h (written-then (em .written) w))
       (rw (t .setting .free, cast-class t) (sym (t-cast (world P) γ sh c e)))
       (omega (arith, em .passed))
 

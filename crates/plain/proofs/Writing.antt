@@ -55,9 +55,6 @@ pub written-long : {xs O O′ : List ℕ} {p q : ℕ} → Written xs O O′ p q 
 written-long {xs} {O} {O′} {p} w = ap length (w .content) ∙ length-sets O p xs
 
 -- what is emitted is written, and lines of the source are passed
-pub part : {xs O O′ : List ℕ} {l p a q b : ℕ} → Emitted xs l O O′ p a q b → Written xs O O′ p q
-part x = record { content = x .content; ended = x .ended }
-
 pub whole : {xs ys O O′ : List ℕ} {l p a q b : ℕ} → Written ys O O′ p q → ys ≡ xs → b ≡ a + l
     → Emitted xs l O O′ p a q b
-whole w e r = let v = written-as w e in record { content = v .content; ended = v .ended; passed = r }
+whole w e r = record { written = written-as w e; passed = r }

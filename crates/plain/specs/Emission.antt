@@ -28,8 +28,7 @@ pub record Written (xs O O′ : List ℕ) (place place′ : ℕ) : Type 0 where
 
 -- Numbers written from a place on, and lines of the source passed.
 pub record Emitted (xs : List ℕ) (lines : ℕ) (O O′ : List ℕ) (place at place′ at′ : ℕ) : Type 0 where
-  pub content : O′ ≡ sets O place xs
-  pub ended : place′ ≡ place + length xs
+  pub written : Written xs O O′ place place′
   pub passed : at′ ≡ at + lines
 
 -- Rows of a letter from one on hold types, so many of them.

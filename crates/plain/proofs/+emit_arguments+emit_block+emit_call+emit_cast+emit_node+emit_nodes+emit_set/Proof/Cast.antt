@@ -85,7 +85,7 @@ emit-cast-put-requires-2 t c κs =
       cast-room (start .pre .1 .task),
       the-put .ensures .ended,
       the-emit-node .ensures .each (start .pre .1 .P) (start .pre .1 .E) (start .pre .1 .e)
-          (start .pre .1 .γ) _ (cast-child (start .pre .1 .task) _ (the-put .ensures .ended)) .ended,
+          (start .pre .1 .γ) _ (cast-child (start .pre .1 .task) _ (the-put .ensures .ended)) .written .ended,
     )
 
 emit-cast-same-length : (t : ℕ) → emit-cast-lts.Need-same-length (callees t) (emit-cast-at t) emit-cast.Post
