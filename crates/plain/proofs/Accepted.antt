@@ -1,4 +1,5 @@
--- What typing and the translator's limits show of every body: slots are in scope, classes declared, members found.
+-- What typing and the translator's limits show of every body: slots are in scope, classes declared, members
+-- found.
 use mathlib.Core.Path.{_≡_, refl, sym, ap, _∙_}
 use mathlib.Core.Option.{Option, none, some}
 use mathlib.Core.Bool.{true}
@@ -12,29 +13,24 @@ use Rattle.language.specs.Lists.{given, bind-option-inv, nth-lt, Never}
 use Rattle.language.specs.Frames.{at-slot}
 use Rattle.language.specs.Tree.{DeclaredType, ExprType, Expr, literal-true, literal-false, literal-null, slot}
 use Rattle.language.specs.Tree.{is-null, get, cast, new, change, assign, set, call, choose, block, Exprs, nil}
-use Rattle.language.specs.Tree.{cons}
-use Rattle.language.specs.Tree.{count, Declaration, Class}
+use Rattle.language.specs.Tree.{cons, count, Declaration, Class}
 use Rattle.language.specs.World.{Method, World, field-type, is-declared}
 use Rattle.language.specs.Program.{class-at, fields-at, world}
 use Rattle.language.specs.Typing.{Slot, Environment, fresh-slot, method-environment, start-environment}
 use Rattle.language.specs.Rules.{HasType, HaveTypes, type-true, type-false, type-null, type-slot, type-new}
-use Rattle.language.specs.Rules.{type-cast}
-use Rattle.language.specs.Rules.{type-get, type-set, type-assign, type-is-null, type-call, type-choose}
-use Rattle.language.specs.Rules.{type-block, type-change}
-use Rattle.language.specs.Rules.{types-nil, types-cons}
+use Rattle.language.specs.Rules.{type-cast, type-get, type-set, type-assign, type-is-null, type-call}
+use Rattle.language.specs.Rules.{type-choose, type-block, type-change, types-nil, types-cons}
 use Rattle.language.specs.WellFormed.{Each, each-nil, each-cons, TypeInForm, FieldInForm, MethodInForm}
-use Rattle.language.specs.WellFormed.{ClassInForm}
-use Rattle.language.specs.WellFormed.{NodeInForm, NodesInForm, form-is-null, form-get, form-cast}
+use Rattle.language.specs.WellFormed.{ClassInForm, NodeInForm, NodesInForm, form-is-null, form-get, form-cast}
 use Rattle.language.specs.WellFormed.{form-assign, form-set, form-call, form-choose, form-block, form-cons}
-use Rattle.language.specs.WellFormed.{BodyInForm, form-body}
-use Rattle.language.specs.WellFormed.{MethodsWell, methods-nil, methods-cons, ClassesWell, classes-nil}
-use Rattle.language.specs.WellFormed.{classes-cons}
+use Rattle.language.specs.WellFormed.{BodyInForm, form-body, MethodsWell, methods-nil, methods-cons}
+use Rattle.language.specs.WellFormed.{ClassesWell, classes-nil, classes-cons}
 use Rattle.language.specs.Layout.{EachMethod, EachClass, methods-from-row}
 use Rattle.theory.specs.Equal.{complete, completes, all-fit-length}
 use Rattle.theory.specs.Lookups.{each-at, each-append, method-found}
 use Rattle.theory.specs.MoreLookups.{MoreLaws, each-declared}
 use Rattle.theory.specs.PlainForm.{slots-same}
-use Rattle.plain.specs.Emission.{Ready, ReadyAll, FieldFound, MethodFound}
+use Rattle.plain.specs.Tasks.{Ready, ReadyAll, FieldFound, MethodFound}
 use Rattle.plain.proofs.Programs.{proper, all-proper}
 
 -- fields and parameters that a lookup finds have types that rows can hold

@@ -11,8 +11,7 @@ use lib.ListN.{length, drop}
 use lib.Seq.{sets, sets-eq}
 use Rattle.language.specs.Limits.{of-check, of-translator, limit-refusal, reserved-refusal}
 use Rattle.language.specs.Results.{Checked, accept, refuse, Pass, passed, earlier, bind-checked, require-inv}
-use Rattle.language.specs.Results.{bind-checked-inv}
-use Rattle.language.specs.Results.{accept-injective}
+use Rattle.language.specs.Results.{bind-checked-inv, accept-injective}
 use Rattle.language.specs.Rows.{rows-of}
 use Rattle.language.specs.Tree.{Program, classes-lines}
 use Rattle.language.specs.Form.{form}
@@ -32,11 +31,12 @@ use Rattle.form.specs.declared.Formed.the-variants.{InForm}
 use Rattle.theory.specs.Accepts.{check-accepts}
 use Rattle.theory.specs.WholeBack.{form-back}
 use Rattle.theory.specs.Translatable.{earlier-inv, same-program}
-use Rattle.plain.specs.Emission.{program-numbers, ProgramTask, SomeProgram, ProgramWritten}
+use Rattle.plain.specs.Numbers.{program-numbers}
+use Rattle.plain.specs.Tasks.{ProgramTask}
+use Rattle.plain.specs.Emission.{SomeProgram, ProgramWritten}
 use Rattle.plain.specs.Bounds.{pass-of, ClassesStand, SomeClassesStand, ClassesCounted, SomeCounted}
-use Rattle.plain.specs.Bounds.{FieldsLimited, NamesFree}
-use Rattle.plain.specs.Bounds.{told, limits-told, CheckedRows, SomeChecked, Limited, PlainWritten}
-use Rattle.plain.specs.Bounds.{SomeAccepted}
+use Rattle.plain.specs.Bounds.{FieldsLimited, NamesFree, told, limits-told, CheckedRows, SomeChecked}
+use Rattle.plain.specs.Bounds.{Limited, PlainWritten, SomeAccepted}
 use Rattle.plain.proofs.Sizes.{program-task}
 
 -- limits of form and of fields together

@@ -7,9 +7,9 @@ use lib.ListN.{length, getD, replicate}
 use Rattle.language.specs.Tree.{DeclaredType, Expr, Class}
 use Rattle.language.specs.Typing.{Environment}
 use Rattle.language.specs.Translation.{plain-slot, variables}
-use Rattle.plain.specs.Emission.{Setting, NodeTask, Extended, variable-count, SomeNode, NodeEmitted}
-use Rattle.plain.specs.Emission.{BodyTask, SomeBody, BodyEmitted}
-use Rattle.plain.proofs.Tasks.{setting-locals}
+use Rattle.plain.specs.Tasks.{Setting, NodeTask, variable-count, BodyTask}
+use Rattle.plain.specs.Emission.{Extended, SomeNode, NodeEmitted, SomeBody, BodyEmitted}
+use Rattle.plain.proofs.Shapes.{setting-locals}
 
 -- no slot but `this`
 first-setting : {P : List Class} {E : List ℕ} {e : Expr} {γ : Environment} {ts : List DeclaredType}
@@ -17,10 +17,7 @@ first-setting : {P : List Class} {E : List ℕ} {e : Expr} {γ : Environment} {t
     → BodyTask P E e γ ts R T C at place → Setting P R T C (replicate 32 0) [] 1 1
 unfolding variable-count plain-slot
 first-setting t = record {
-  members = t .lent .members;
-  small = t .lent .small;
-  beside = t .lent .beside;
-  short = t .lent .short;
+  lent = t .lent;
   wide = refl;
   scope = omega arith;
   variables = refl;

@@ -1,247 +1,24 @@
--- Laws of methods, classes and the program: what each one's rows hold, and what is written for its parts together. Assumes nothing.
-use mathlib.Core.Path.{_≡_, refl, sym, ap, _∙_}
+-- Laws of a class: its C line, its fields, its methods; and of classes one after another. Assumes nothing.
+use mathlib.Core.Path.{_≡_, refl}
 use mathlib.Core.List.{List, [], _∷_}
 use mathlib.Core.Logic.{_≢_}
 use Prim.Native.Nat.{ℕ, suc, _+_, _-_, _*_, _≤_, _<_}
 use native.Mathlib.Omega.{arith}
 use lib.ListN.{length, getD, length-append}
-use Rattle.language.specs.Tree.{type-number, Field, Declaration, Class, size, heading-lines, method-lines}
-use Rattle.language.specs.Tree.{methods-lines, class-lines, classes-lines}
+use Rattle.language.specs.Tree.{Class, methods-lines, class-lines, classes-lines}
 use Rattle.language.specs.World.{World}
 use Rattle.language.specs.Program.{world}
-use Rattle.language.specs.Typing.{method-environment}
-use Rattle.language.specs.Translation.{variables}
-use Rattle.language.specs.Layout.{EachMethod, EachClass, FieldsAt, MethodAt, ClassAt, body-row}
-use Rattle.language.specs.Layout.{methods-from-row}
-use Rattle.plain.specs.Emission.{most-numbers, plain-number, type-lines, field-lines, node-numbers}
-use Rattle.plain.specs.Emission.{Written, Emitted}
-use Rattle.plain.specs.Emission.{Skipped, SomeFieldLines, FieldsWritten, method-numbers}
-use Rattle.plain.specs.Emission.{methods-numbers, class-numbers, classes-numbers}
-use Rattle.plain.specs.Emission.{MethodTask, SomeMethod, MethodEmitted, MethodReady, ClassReady}
-use Rattle.plain.specs.Emission.{MethodsTask, ClassTask, ClassesTask, SomeMethods, SomeClass}
-use Rattle.plain.specs.Emission.{SomeClasses, MethodsEmitted, ClassEmitted, ClassesEmitted}
-use Rattle.plain.proofs.Writing.{written-none, written-then}
-use Rattle.plain.specs.Bounds.{MethodsStand, ClassesStand}
-use Rattle.plain.proofs.Tasks.{part, whole}
-use Rattle.plain.proofs.Blocks.{types-length}
-use Rattle.plain.proofs.Standing.{method-rows, parameters-rows, lines-positive, class-positive}
-use Rattle.plain.proofs.Standing.{stand-row, no-method, methods-of, first-of, class-row, class-end}
-use Rattle.plain.proofs.Standing.{no-class, not-class}
+use Rattle.language.specs.Layout.{EachClass, methods-from-row}
+use Rattle.plain.specs.Numbers.{most-numbers, field-lines, methods-numbers, class-numbers}
+use Rattle.plain.specs.Numbers.{classes-numbers}
+use Rattle.plain.specs.Emission.{Written, Emitted, Skipped, SomeFieldLines, FieldsWritten, SomeMethods}
+use Rattle.plain.specs.Emission.{SomeClass, SomeClasses, MethodsEmitted, ClassEmitted, ClassesEmitted}
+use Rattle.plain.specs.Tasks.{MethodsTask, ClassTask, ClassesTask}
+use Rattle.plain.proofs.Writing.{written-none, written-then, whole}
+use Rattle.plain.proofs.Lines.{fields-length}
+use Rattle.plain.proofs.Standing.{class-positive, methods-of, first-of, class-row, class-end, no-class}
+use Rattle.plain.proofs.Standing.{not-class, class-stands, classes-stand}
 
--- fields
-pub fields-length : (fs : List Field) → length (field-lines fs) ≡ 4 * length fs
-unfolding field-lines
-fields-length [] = refl
-fields-length (f ∷ fs) = omega (arith, fields-length fs)
-
-module _ {R : List ℕ} {at count : ℕ} where
-  pub field-in : SomeFieldLines R at count → count ≢ 0 → at * 4 + 3 < length R
-  unfolding FieldsAt
-  field-in x h = go (x .fs) (x .rows) (x .counted)
-    where
-      go : (fs : List Field) → FieldsAt R fs at → length fs ≡ count → at * 4 + 3 < length R
-      go [] r e = absurd (h (sym e))
-      go (f ∷ fs) r e = r .0 .within
-
-  pub field-rest : SomeFieldLines R at count → count ≢ 0 → SomeFieldLines R (at + 1) (count - 1)
-  unfolding FieldsAt
-  field-rest x h = go (x .fs) (x .rows) (x .counted)
-    where
-      go : (fs : List Field) → FieldsAt R fs at → length fs ≡ count → SomeFieldLines R (at + 1) (count - 1)
-      go [] r e = absurd (h (sym e))
-      go (f ∷ fs) r e = record { fs = fs; rows = r .1; counted = omega (arith, e) }
-
-  module _ {place : ℕ} {O : List ℕ} where
-    pub field-none : count ≡ 0 → FieldsWritten R at count O O place place
-    unfolding field-lines
-    field-none z = record { each = λ fs r e. go fs r e }
-      where
-        go : (fs : List Field) → FieldsAt R fs at → length fs ≡ count
-            → Written (field-lines fs) O O place place
-        go [] r e = written-none
-        go (f ∷ fs) r e = absurd (omega (arith, e, z))
-
-    pub field-step : {O₁ O₂ : List ℕ} {p q t : ℕ} → count ≢ 0 → t ≡ plain-number (getD R (at * 4 + 1) 0)
-        → Written (70 ∷ t ∷ getD R (at * 4 + 2) 0 ∷ 0 ∷ []) O O₁ place p
-        → FieldsWritten R (at + 1) (count - 1) O₁ O₂ p q
-        → FieldsWritten R at count O O₂ place q
-    unfolding field-lines FieldsAt
-    field-step {O₁} {O₂} {p} {q} {t} h w a b = record { each = λ fs r e. go fs r e }
-      where
-        go : (fs : List Field) → FieldsAt R fs at → length fs ≡ count → Written (field-lines fs) O O₂ place q
-        go [] r e = absurd (h (sym e))
-        go (f ∷ fs) r e =
-            let u : t ≡ plain-number (type-number (f .type)) = w ∙ ap (λ n. plain-number n) (r .0 .first) in
-            rw (← u, ← r .0 .second) (written-then a (b .each fs (r .1) (omega (arith, e))))
-
--- lines of a method from its body on
-method-passed : (at : ℕ) {b b′ : ℕ} (m : Declaration) → b ≡ body-row at m → b′ ≡ b + size (m .body)
-    → b′ ≡ at + method-lines m
-unfolding method-lines heading-lines
-method-passed at m z y = omega (arith, z, y)
-
-method-length : (W : World) (k : ℕ) (m : Declaration)
-    → length (method-numbers W k m)
-    ≡ 4 + 4 * length (m .parameters) + length
-    (node-numbers W (m .body) (method-environment k (m .parameters)) (variables (m .parameters)))
-unfolding method-numbers
-method-length W k m = let n =
-    node-numbers W (m .body) (method-environment k (m .parameters)) (variables (m .parameters)) in
-    omega (arith, length-append (type-lines 80 (m .parameters)) n, types-length 80 (m .parameters))
-
--- what is ready stands in rows
-module _ (P : List Class) (E R C : List ℕ) where
-  each-stands : (ms : List Declaration) (k r : ℕ) → EachMethod (MethodReady P E R C) ms k r
-      → EachMethod (λ k m r. MethodAt R E m r) ms k r
-  unfolding EachMethod
-  each-stands [] k r h = tt
-  each-stands (m ∷ ms) k r h = (h .0 .rows, each-stands ms k _ (h .1))
-
-  class-stands : (c : Class) {k r : ℕ} → ClassReady P E R C k c r → ClassAt R E k c r
-  class-stands c h = record {
-    line = h .line;
-    fields = h .fields;
-    methods = each-stands (c .methods) _ _
-        (h .methods);
-  }
-
-  each-class-stands : (cs : List Class) (k r : ℕ) → EachClass (ClassReady P E R C) cs k r
-      → EachClass (ClassAt R E) cs k r
-  unfolding EachClass
-  each-class-stands [] k r h = tt
-  each-class-stands (c ∷ cs) k r h = (class-stands c (h .0), each-class-stands cs (suc k) _ (h .1))
-
-module _ {P : List Class} {E : List ℕ} {k : ℕ} {R T C : List ℕ} {at place : ℕ} where
-  methods-stand : {ms : List Declaration} → MethodsTask P E k ms R T C at place → MethodsStand R E k ms at
-  methods-stand {ms} t =
-      record { methods = each-stands P E R C ms k at (t .methods); after = t .after; short = t .lent .short }
-
-  classes-stand : {cs : List Class} → ClassesTask P E k cs R T C at place → ClassesStand R E k cs at
-  classes-stand {cs} t =
-      record {
-        classes = each-class-stands P E R C cs k at (t .classes);
-        start = t .start;
-        short = t .lent .short;
-      }
-
--- methods: the first, and the rest
-module _ {P : List Class} {E : List ℕ} {k : ℕ} {R T C : List ℕ} {at place : ℕ} where
-  method-first : (m : Declaration) (ms : List Declaration) → MethodsTask P E k (m ∷ ms) R T C at place
-      → (x b : ℕ) → Skipped R 80 (at + 1) x → Skipped R 88 x b
-      → (x ≡ at + 1 + length (m .parameters)) × (b ≡ body-row at m) × MethodTask P E k m R T C at b place
-  unfolding EachMethod methods-numbers
-  method-first m ms t x b s u =
-      let y = t .methods .0 in let z = method-rows (y .rows) s u in
-      let f : place + 4 + 4 * length (m .parameters) + length
-      (node-numbers (world P) (m .body) (method-environment k (m .parameters))
-      (variables (m .parameters))) ≤ most-numbers
-      = omega (
-        arith,
-        t .fits,
-        length-append (method-numbers (world P) k m) (methods-numbers (world P) k ms),
-        method-length (world P) k m,
-      ) in (
-        z .0,
-        z .1,
-        record {
-          row = y .rows .line;
-          parameters = parameters-rows R (m .parameters) (at + 1) (y .rows .parameters);
-          task = rw (z .1) (record {
-            lent = t .lent;
-            encoded = y .rows .body;
-            looks = y .looks;
-            ready = y .ready;
-            scope = y .scope;
-            low = omega arith;
-            fits = f;
-          });
-        },
-      )
-
-  method-rest : (m : Declaration) (ms : List Declaration) → MethodsTask P E k (m ∷ ms) R T C at place
-      → (p b : ℕ) → p ≡ place + length (method-numbers (world P) k m)
-      → b ≡ at + method-lines m → MethodsTask P E k ms R T C b p
-  unfolding EachMethod methods-numbers methods-lines
-  method-rest m ms t p b z y =
-      let a : at + (method-lines m + methods-lines ms) ≡ at + method-lines m + methods-lines ms =
-      omega arith in
-      let w = t .after in
-      let f : p + length (methods-numbers (world P) k ms) ≤ most-numbers
-      = omega (
-        arith,
-        z,
-        t .fits,
-        length-append (method-numbers (world P) k m) (methods-numbers (world P) k ms),
-      ) in rw y (record {
-        lent = t .lent;
-        methods = t .methods .1;
-        after = rw a at w;
-        fits = f;
-      })
-
-module _ {R T C : List ℕ} {at place : ℕ} where
-  pub methods-known : SomeMethods R T C at place → (at * 4 + 3 < length R) × (at < 60000)
-  methods-known x = let r = stand-row (x .ms) (methods-stand (x .task)) in
-      (r, omega (arith, r, x .task .lent .short))
-
-  pub methods-end : {O : List ℕ} → getD R (at * 4) 0 ≢ 77 → MethodsEmitted R T C O O at place place at
-  unfolding EachMethod methods-numbers methods-lines
-  methods-end {O} h = record { each = λ P E k ms t. go P E k ms t }
-    where
-      go : (P : List Class) (E : List ℕ) (k : ℕ) (ms : List Declaration) → MethodsTask P E k ms R T C at place
-          → Emitted (methods-numbers (world P) k ms) (methods-lines ms) O O place at place at
-      go P E k [] t = record { content = refl; ended = omega arith; passed = omega arith }
-      go P E k (m ∷ ms) t = absurd (h (t .methods .0 .rows .line .letter))
-
-  with-method : {D : Type 0} {P : List Class} {E : List ℕ} {k : ℕ} (ms : List Declaration)
-      → getD R (at * 4) 0 ≡ 77 → MethodsTask P E k ms R T C at place
-      → ((m : Declaration) (ms : List Declaration) → MethodsTask P E k (m ∷ ms) R T C at place → D) → D
-  with-method [] h t f = absurd (no-method (methods-stand t) h)
-  with-method (m ∷ ms) h t f = f m ms t
-
-  pub methods-first : SomeMethods R T C at place → getD R (at * 4) 0 ≡ 77 → (x b n : ℕ)
-      → Skipped R 80 (at + 1) x → Skipped R 88 x b → n ≡ x - at - 1
-      → SomeMethod R T C at b place n
-  methods-first y h x b n s u z = with-method (y .ms) h (y .task) λ m ms t. let q =
-      method-first m ms t x b s u in
-      record { P = y .P; E = y .E; owner = y .k; m = m; task = q .2; counted = omega (arith, q .0, z) }
-
-  module _ {O O₁ : List ℕ} {x b n p b′ : ℕ} (s : Skipped R 80 (at + 1) x) (u : Skipped R 88 x b)
-      (z : n ≡ x - at - 1) (o : MethodEmitted R T C O O₁ at b place n p b′) where
-    method-done : {P : List Class} {E : List ℕ} {k : ℕ} (m : Declaration) (ms : List Declaration)
-        → MethodsTask P E k (m ∷ ms) R T C at place
-        → Written (method-numbers (world P) k m) O O₁ place p × (b′ ≡ at + method-lines m)
-    method-done {P} {E} {k} m ms t = let q = method-first m ms t x b s u in
-        let e = o .each P E k m (q .2) (omega (arith, q .0, z)) in
-        (part e, method-passed at m (q .1) (e .passed))
-
-    pub methods-rest : SomeMethods R T C at place → getD R (at * 4) 0 ≡ 77
-        → SomeMethods R T C b′ p × (at < b′)
-    methods-rest y h = with-method (y .ms) h (y .task) λ m ms t. let d = method-done m ms t in (
-      record {
-        P = y .P;
-        E = y .E;
-        k = y .k;
-        ms = ms;
-        task = method-rest m ms t p b′ (d .0 .ended) (d .1);
-      },
-      omega (arith, d .1, lines-positive m),
-    )
-
-    pub methods-step : {O₂ : List ℕ} {p₂ b₂ : ℕ} → getD R (at * 4) 0 ≡ 77
-        → MethodsEmitted R T C O₁ O₂ b′ p p₂ b₂ → MethodsEmitted R T C O O₂ at place p₂ b₂
-    unfolding methods-numbers methods-lines
-    methods-step {O₂} {p₂} {b₂} h v = record { each = λ P E k ms t. go P E k ms t }
-      where
-        go : (P : List Class) (E : List ℕ) (k : ℕ) (ms : List Declaration)
-            → MethodsTask P E k ms R T C at place
-            → Emitted (methods-numbers (world P) k ms) (methods-lines ms) O O₂ place at p₂ b₂
-        go P E k [] t = absurd (no-method (methods-stand t) h)
-        go P E k (m ∷ ms) t = let d = method-done m ms t in let e =
-            v .each P E k ms (method-rest m ms t p b′ (d .0 .ended) (d .1)) in
-            whole (written-then (d .0) (part e)) refl (omega (arith, d .1, e .passed))
-
--- a class: its C line, its fields, its methods
 class-length : (W : World) (k : ℕ) (c : Class)
     → length (class-numbers W k c) ≡ 4 + 4 * length (c .fields) + length (methods-numbers W k (c .methods))
 unfolding class-numbers
@@ -319,7 +96,8 @@ module _ {R T C : List ℕ} {at place : ℕ} where
           let d = class-wrote c t in let e =
           o .each P E k (c .methods) (class-methods c t r q (d .0) (d .2)) in
           let u : a ≡ c .super + 2 = omega (arith, h, t .ready .line .second) in
-          whole (written-then w (written-then (d .1) (part e))) (rw u refl) (omega (arith, e .passed, d .0));
+          whole (written-then w (written-then (d .1) (e .written))) (rw u refl)
+          (omega (arith, e .passed, d .0));
     }
 
 -- classes: the first, and the rest
@@ -372,7 +150,7 @@ module _ {R T C : List ℕ} {at place : ℕ} where
     where
       go : (P : List Class) (E : List ℕ) (k : ℕ) (cs : List Class) → ClassesTask P E k cs R T C at place
           → Emitted (classes-numbers (world P) k cs) (classes-lines cs) O O place at place at
-      go P E k [] t = record { content = refl; ended = omega arith; passed = omega arith }
+      go P E k [] t = record { written = written-none; passed = omega arith }
       go P E k (c ∷ cs) t = absurd (not-class c cs (classes-stand t) h)
 
   with-class : {D : Type 0} {P : List Class} {E : List ℕ} {k : ℕ} (cs : List Class) → getD R (at * 4) 0 ≡ 67
@@ -394,7 +172,7 @@ module _ {R T C : List ℕ} {at place : ℕ} where
             E = y .E;
             k = suc (y .k);
             cs = cs;
-            task = class-rest c cs t p b (d .ended) (d .passed);
+            task = class-rest c cs t p b (d .written .ended) (d .passed);
           },
           omega (arith, d .passed, class-positive c),
         )
@@ -408,5 +186,5 @@ module _ {R T C : List ℕ} {at place : ℕ} where
             → Emitted (classes-numbers (world P) k cs) (classes-lines cs) O O₂ place at p₂ b₂
         go P E k [] t = absurd (no-class (classes-stand t) h)
         go P E k (c ∷ cs) t = let d = o .each P E k c (class-first c cs t) in let e =
-            v .each P E (suc k) cs (class-rest c cs t p b (d .ended) (d .passed)) in
-            whole (written-then (part d) (part e)) refl (omega (arith, d .passed, e .passed))
+            v .each P E (suc k) cs (class-rest c cs t p b (d .written .ended) (d .passed)) in
+            whole (written-then (d .written) (e .written)) refl (omega (arith, d .passed, e .passed))

@@ -1,9 +1,15 @@
 pub mod Writing
 pub mod Lines
 pub mod Numbers
+pub mod Translated
+pub mod Letters
+pub mod Shapes
 pub mod Tasks
+pub mod Nodes
 pub mod Arms
 pub mod Blocks
+pub mod Sets
+pub mod Calls
 pub mod Renewing
 pub mod Bodies
 pub mod Methods

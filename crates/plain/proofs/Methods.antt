@@ -1,20 +1,28 @@
--- Laws of a method: its heading, then its body; and that these are the numbers of its plain form. Assumes nothing.
+-- Laws of a method: its heading, then its body, which are the numbers of its plain form; and of methods one
+-- after another. Assumes nothing.
 use mathlib.Core.Path.{_≡_, refl, sym, ap, _∙_}
 use mathlib.Core.List.{List, [], _∷_, _++_, map, append-assoc}
-use Prim.Native.Nat.{ℕ, _+_, _*_, _≤_, _<_}
+use Prim.Native.Nat.{ℕ, _+_, _*_, _≤_, _<_, _-_}
 use native.Mathlib.Omega.{arith}
-use lib.ListN.{length, getD}
+use lib.ListN.{length, getD, length-append}
 use Rattle.language.specs.Rows.{Letter, code, Record, written, P-parameter, M-method, numbers-of}
-use Rattle.language.specs.Tree.{DeclaredType, type-number, Declaration, flatten, flatten-methods}
+use Rattle.language.specs.Tree.{DeclaredType, type-number, Declaration, flatten, flatten-methods, Class, size}
+use Rattle.language.specs.Tree.{heading-lines, method-lines, methods-lines}
 use Rattle.language.specs.World.{World}
-use Rattle.language.specs.Translation.{plain-type, plain-method, plain-body}
-use Rattle.plain.specs.Emission.{most-numbers, plain-number, type-lines, Proper, ProperAll, lines-of}
-use Rattle.plain.specs.Emission.{tree-numbers, Written, TypesWritten, SomeTypes, SomeBody, BodyEmitted}
-use Rattle.plain.specs.Emission.{method-numbers, SomeMethod, MethodEmitted}
-use Rattle.plain.proofs.Writing.{written-then}
+use Rattle.language.specs.Translation.{plain-type, plain-method, plain-body, variables}
+use Rattle.plain.specs.Numbers.{most-numbers, plain-number, type-lines, Proper, ProperAll, lines-of}
+use Rattle.plain.specs.Numbers.{tree-numbers, method-numbers, node-numbers, methods-numbers}
+use Rattle.plain.specs.Emission.{Written, TypesWritten, SomeTypes, SomeBody, BodyEmitted, SomeMethod}
+use Rattle.plain.specs.Emission.{MethodEmitted, Emitted, Skipped, SomeMethods, MethodsEmitted}
+use Rattle.plain.proofs.Writing.{written-none, written-then, whole}
 use Rattle.plain.proofs.Numbers.{lines-append}
-use Rattle.plain.proofs.Tasks.{part, whole}
-use Rattle.plain.proofs.Blocks.{types-length}
+use Rattle.plain.proofs.Lines.{types-length}
+use mathlib.Core.Logic.{_≢_}
+use Rattle.language.specs.Program.{world}
+use Rattle.language.specs.Typing.{method-environment}
+use Rattle.language.specs.Layout.{EachMethod, body-row}
+use Rattle.plain.specs.Tasks.{MethodTask, MethodsTask}
+use Rattle.plain.proofs.Standing.{method-rows, lines-positive, stand-row, no-method, methods-stand}
 
 module _ {R T C : List ℕ} {at body place count : ℕ} where
   pub method-known : SomeMethod R T C at body place count
@@ -22,7 +30,12 @@ module _ {R T C : List ℕ} {at body place count : ℕ} where
   method-known x = (x .task .row .within, omega (arith, x .task .task .fits, x .counted))
 
   pub method-types : SomeMethod R T C at body place count → SomeTypes R (at + 1) count
-  method-types x = record { ts = x .m .parameters; rows = x .task .parameters; counted = x .counted }
+  method-types x = record {
+    letter = P-parameter;
+    ts = x .m .parameters;
+    rows = x .task .parameters;
+    counted = x .counted;
+  }
 
   pub method-ended : {O O₁ O₂ : List ℕ} {p q a b : ℕ} → SomeMethod R T C at body place count
       → Written (77 ∷ a ∷ b ∷ 0 ∷ []) O O₁ place p
@@ -31,7 +44,7 @@ module _ {R T C : List ℕ} {at body place count : ℕ} where
       omega (
         arith,
         w .ended,
-        v .each (x .m .parameters) (x .task .parameters) (x .counted) .ended,
+        v .each P-parameter (x .m .parameters) (x .task .parameters) (x .counted) .ended,
         types-length 80 (x .m .parameters),
         x .counted,
       )
@@ -56,13 +69,13 @@ module _ {R T C : List ℕ} {at body place count : ℕ} where
   unfolding method-numbers
   method-done {O} {O₁} {O₂} {O₃} {p} {q} {r} {b} {u} k w v o = record {
     each = λ P E owner m t c.
-        let h = v .each (m .parameters) (t .parameters) c in
+        let h = v .each P-parameter (m .parameters) (t .parameters) c in
         let z : place + 4 + 4 * length (m .parameters) ≡ q =
         omega (arith, w .ended, h .ended, types-length 80 (m .parameters)) in
         let em = o .each P E (m .body) _ (m .parameters) (rw z at (t .task)) c in
         let k′ : u ≡ plain-number (type-number (m .result)) = k
         ∙ ap (λ (n : ℕ). plain-number n) (t .row .first) in
-        whole (written-then w (written-then h (part em))) (rw (k′, t .row .second) refl) (em .passed);
+        whole (written-then w (written-then h (em .written))) (rw (k′, t .row .second) refl) (em .passed);
   }
 
 lines-cons : (l : Letter) (a b : ℕ) (rs : List Record)
@@ -92,3 +105,135 @@ plain-methods W owner m ms r p =
     ∙ rw (lines-append ps (b ++ d), lines-append b d, parameter-lines (m .parameters) p, ← r)
     (ap (λ (l : List ℕ). 77 ∷ plain-number (type-number (m .result)) ∷ m .name ∷ 0 ∷ l)
     (sym (append-assoc (type-lines 80 (m .parameters)) (lines-of b) (lines-of d))))
+
+-- lines of a method from its body on
+method-passed : (at : ℕ) {b b′ : ℕ} (m : Declaration) → b ≡ body-row at m → b′ ≡ b + size (m .body)
+    → b′ ≡ at + method-lines m
+unfolding method-lines heading-lines
+method-passed at m z y = omega (arith, z, y)
+
+method-length : (W : World) (k : ℕ) (m : Declaration)
+    → length (method-numbers W k m)
+    ≡ 4 + 4 * length (m .parameters) + length
+    (node-numbers W (m .body) (method-environment k (m .parameters)) (variables (m .parameters)))
+unfolding method-numbers
+method-length W k m = let n =
+    node-numbers W (m .body) (method-environment k (m .parameters)) (variables (m .parameters)) in
+    omega (arith, length-append (type-lines 80 (m .parameters)) n, types-length 80 (m .parameters))
+
+-- methods: the first, and the rest
+module _ {P : List Class} {E : List ℕ} {k : ℕ} {R T C : List ℕ} {at place : ℕ} where
+  method-first : (m : Declaration) (ms : List Declaration) → MethodsTask P E k (m ∷ ms) R T C at place
+      → (x b : ℕ) → Skipped R 80 (at + 1) x → Skipped R 88 x b
+      → (x ≡ at + 1 + length (m .parameters)) × (b ≡ body-row at m) × MethodTask P E k m R T C at b place
+  unfolding EachMethod methods-numbers
+  method-first m ms t x b s u =
+      let y = t .methods .0 in let z = method-rows (y .rows) s u in
+      let f : place + 4 + 4 * length (m .parameters) + length
+      (node-numbers (world P) (m .body) (method-environment k (m .parameters))
+      (variables (m .parameters))) ≤ most-numbers
+      = omega (
+        arith,
+        t .fits,
+        length-append (method-numbers (world P) k m) (methods-numbers (world P) k ms),
+        method-length (world P) k m,
+      ) in (
+        z .0,
+        z .1,
+        record {
+          row = y .rows .line;
+          parameters = y .rows .parameters;
+          task = rw (z .1) (record {
+            lent = t .lent;
+            encoded = y .rows .body;
+            looks = y .looks;
+            ready = y .ready;
+            scope = y .scope;
+            low = omega arith;
+            fits = f;
+          });
+        },
+      )
+
+  method-rest : (m : Declaration) (ms : List Declaration) → MethodsTask P E k (m ∷ ms) R T C at place
+      → (p b : ℕ) → p ≡ place + length (method-numbers (world P) k m)
+      → b ≡ at + method-lines m → MethodsTask P E k ms R T C b p
+  unfolding EachMethod methods-numbers methods-lines
+  method-rest m ms t p b z y =
+      let a : at + (method-lines m + methods-lines ms) ≡ at + method-lines m + methods-lines ms =
+      omega arith in
+      let w = t .after in
+      let f : p + length (methods-numbers (world P) k ms) ≤ most-numbers
+      = omega (
+        arith,
+        z,
+        t .fits,
+        length-append (method-numbers (world P) k m) (methods-numbers (world P) k ms),
+      ) in rw y (record {
+        lent = t .lent;
+        methods = t .methods .1;
+        after = rw a at w;
+        fits = f;
+      })
+
+module _ {R T C : List ℕ} {at place : ℕ} where
+  pub methods-known : SomeMethods R T C at place → (at * 4 + 3 < length R) × (at < 60000)
+  methods-known x = let r = stand-row (x .ms) (methods-stand (x .task)) in
+      (r, omega (arith, r, x .task .lent .short))
+
+  pub methods-end : {O : List ℕ} → getD R (at * 4) 0 ≢ 77 → MethodsEmitted R T C O O at place place at
+  unfolding EachMethod methods-numbers methods-lines
+  methods-end {O} h = record { each = λ P E k ms t. go P E k ms t }
+    where
+      go : (P : List Class) (E : List ℕ) (k : ℕ) (ms : List Declaration) → MethodsTask P E k ms R T C at place
+          → Emitted (methods-numbers (world P) k ms) (methods-lines ms) O O place at place at
+      go P E k [] t = record { written = written-none; passed = omega arith }
+      go P E k (m ∷ ms) t = absurd (h (t .methods .0 .rows .line .letter))
+
+  with-method : {D : Type 0} {P : List Class} {E : List ℕ} {k : ℕ} (ms : List Declaration)
+      → getD R (at * 4) 0 ≡ 77 → MethodsTask P E k ms R T C at place
+      → ((m : Declaration) (ms : List Declaration) → MethodsTask P E k (m ∷ ms) R T C at place → D) → D
+  with-method [] h t f = absurd (no-method (methods-stand t) h)
+  with-method (m ∷ ms) h t f = f m ms t
+
+  pub methods-first : SomeMethods R T C at place → getD R (at * 4) 0 ≡ 77 → (x b n : ℕ)
+      → Skipped R 80 (at + 1) x → Skipped R 88 x b → n ≡ x - at - 1
+      → SomeMethod R T C at b place n
+  methods-first y h x b n s u z = with-method (y .ms) h (y .task) λ m ms t. let q =
+      method-first m ms t x b s u in
+      record { P = y .P; E = y .E; owner = y .k; m = m; task = q .2; counted = omega (arith, q .0, z) }
+
+  module _ {O O₁ : List ℕ} {x b n p b′ : ℕ} (s : Skipped R 80 (at + 1) x) (u : Skipped R 88 x b)
+      (z : n ≡ x - at - 1) (o : MethodEmitted R T C O O₁ at b place n p b′) where
+    method-emitted : {P : List Class} {E : List ℕ} {k : ℕ} (m : Declaration) (ms : List Declaration)
+        → MethodsTask P E k (m ∷ ms) R T C at place
+        → Written (method-numbers (world P) k m) O O₁ place p × (b′ ≡ at + method-lines m)
+    method-emitted {P} {E} {k} m ms t = let q = method-first m ms t x b s u in
+        let e = o .each P E k m (q .2) (omega (arith, q .0, z)) in
+        (e .written, method-passed at m (q .1) (e .passed))
+
+    pub methods-rest : SomeMethods R T C at place → getD R (at * 4) 0 ≡ 77
+        → SomeMethods R T C b′ p × (at < b′)
+    methods-rest y h = with-method (y .ms) h (y .task) λ m ms t. let d = method-emitted m ms t in (
+      record {
+        P = y .P;
+        E = y .E;
+        k = y .k;
+        ms = ms;
+        task = method-rest m ms t p b′ (d .0 .ended) (d .1);
+      },
+      omega (arith, d .1, lines-positive m),
+    )
+
+    pub methods-step : {O₂ : List ℕ} {p₂ b₂ : ℕ} → getD R (at * 4) 0 ≡ 77
+        → MethodsEmitted R T C O₁ O₂ b′ p p₂ b₂ → MethodsEmitted R T C O O₂ at place p₂ b₂
+    unfolding methods-numbers methods-lines
+    methods-step {O₂} {p₂} {b₂} h v = record { each = λ P E k ms t. go P E k ms t }
+      where
+        go : (P : List Class) (E : List ℕ) (k : ℕ) (ms : List Declaration)
+            → MethodsTask P E k ms R T C at place
+            → Emitted (methods-numbers (world P) k ms) (methods-lines ms) O O₂ place at p₂ b₂
+        go P E k [] t = absurd (no-method (methods-stand t) h)
+        go P E k (m ∷ ms) t = let d = method-emitted m ms t in let e =
+            v .each P E k ms (method-rest m ms t p b′ (d .0 .ended) (d .1)) in
+            whole (written-then (d .0) (e .written)) refl (omega (arith, d .1, e .passed))

@@ -1,5 +1,5 @@
--- Laws of the whole program: its classes and its start block, and that what is written are the numbers of its plain program.
--- Assumes nothing.
+-- Laws of the whole program: its classes and its start block, and that what is written are the numbers of its
+-- plain program. Assumes nothing.
 use mathlib.Core.Path.{_≡_, refl, sym, ap, _∙_}
 use mathlib.Core.Bool.{Bool, true, false, cond}
 use mathlib.Core.List.{List, [], _∷_, _++_, map, append-assoc}
@@ -19,14 +19,13 @@ use Rattle.language.specs.WellFormed.{TypeInForm, Each, each-nil, each-cons, Fi
 use Rattle.language.specs.WellFormed.{ClassInForm, ProgramInForm}
 use Rattle.language.specs.Translation.{plain-field, plain-method, plain-classes, plain-program, translate}
 use Rattle.language.specs.Layout.{EachMethod, EachClass, MethodAt, ClassAt, body-row, methods-from-row}
-use Rattle.plain.specs.Emission.{most-numbers, Proper, ProperAll, lines-of, tree-numbers, field-lines}
-use Rattle.plain.specs.Emission.{node-numbers, Ready}
-use Rattle.plain.specs.Emission.{method-numbers, methods-numbers, class-numbers, classes-numbers}
-use Rattle.plain.specs.Emission.{program-numbers, Written}
-use Rattle.plain.specs.Emission.{BodyTask, SomeBody, BodyEmitted, MethodReady, ClassReady, ClassesTask}
-use Rattle.plain.specs.Emission.{SomeClasses, ClassesEmitted, ProgramTask, SomeProgram, ProgramWritten}
+use Rattle.plain.specs.Numbers.{most-numbers, Proper, ProperAll, lines-of, tree-numbers, field-lines}
+use Rattle.plain.specs.Numbers.{node-numbers, method-numbers, methods-numbers, class-numbers}
+use Rattle.plain.specs.Numbers.{classes-numbers, program-numbers}
+use Rattle.plain.specs.Tasks.{Ready, BodyTask, MethodReady, ClassReady, ClassesTask, ProgramTask}
+use Rattle.plain.specs.Emission.{Written, SomeBody, BodyEmitted, SomeClasses, ClassesEmitted}
+use Rattle.plain.specs.Emission.{SomeProgram, ProgramWritten}
 use Rattle.plain.proofs.Writing.{written-then, written-as}
-use Rattle.plain.proofs.Tasks.{part}
 use Rattle.plain.proofs.Numbers.{lines-append}
 use Rattle.plain.proofs.Methods.{plain-methods}
 
@@ -201,7 +200,7 @@ module _ {R T C : List ℕ} where
         × (r ≡ 16 + length (classes-numbers (world (p .classes)) 1 (p .classes)))
     classes-done {p} {E} t = let e =
         o .each (p .classes) E 1 (p .classes) (program-classes t q (omega (arith, w .ended))) in
-        (part e, omega (arith, e .passed), omega (arith, e .ended, w .ended))
+        (e .written, omega (arith, e .passed), omega (arith, e .written .ended, w .ended))
 
     pub program-room : SomeProgram R T C → (r + 4 ≤ most-numbers) × (b < 60000)
     program-room x = let d = classes-done (x .task) in (
@@ -229,6 +228,6 @@ module _ {R T C : List ℕ} where
           let d = classes-done t in
           let e = u .each (p .classes) E (p .start) start-environment []
           (program-body t (b + 1) s (omega (arith, d .1)) (omega (arith, d .2, v .ended))) refl in
-          written-as (written-then w (written-then (d .0) (written-then v (part e))))
+          written-as (written-then w (written-then (d .0) (written-then v (e .written))))
           (sym (program-plain p (t .rows .in-form)));
     }

@@ -7,12 +7,12 @@ use native.Mathlib.Omega.{arith}
 use lib.ListN.{length, getD, length-append}
 use Rattle.language.specs.Tree.{Field}
 use Rattle.language.specs.Program.{world}
-use Rattle.plain.specs.Emission.{most-numbers, Written, SomeCopies, SomeFields, CopiesWritten}
-use Rattle.plain.specs.Emission.{RenewWritten, SomeChange, ChangeWritten}
-use Rattle.plain.specs.Emission.{copy-lines, renew-head, renew-lines, change-head, change-lines}
-use Rattle.plain.specs.Emission.{head-length}
+use Rattle.plain.specs.Numbers.{most-numbers, copy-lines, renew-head, renew-lines, change-head}
+use Rattle.plain.specs.Numbers.{change-lines, head-length}
+use Rattle.plain.specs.Emission.{Written, SomeCopies, SomeFields, CopiesWritten, RenewWritten}
+use Rattle.plain.specs.Emission.{SomeChange, ChangeWritten}
 use Rattle.plain.proofs.Writing.{written-then, written-as}
-use Rattle.plain.proofs.Arms.{copies-length}
+use Rattle.plain.proofs.Lines.{copies-length}
 
 renew-length : (n d r : ℕ) (fs : List Field) → length (renew-lines n d r fs) ≡ 56 + 16 * length fs
 unfolding renew-lines

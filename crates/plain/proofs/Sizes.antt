@@ -5,21 +5,18 @@ use native.Mathlib.Omega.{arith}
 use lib.ListN.{length, getD, length-map}
 use Rattle.language.specs.Limits.{of-check, largest}
 use Rattle.language.specs.Rows.{Letter, C-class, F-field, M-method, P-parameter, X-effect, S-start, B-block}
-use Rattle.language.specs.Rows.{V-local, T-true, L-false, N-null, I-slot}
-use Rattle.language.specs.Rows.{Z-is-null, G-get, K-cast, W-new, R-change, A-assign, U-set, Q-call, J-choose}
-use Rattle.language.specs.Rows.{code, Record, written, row-of, numbers-of}
+use Rattle.language.specs.Rows.{V-local, T-true, L-false, N-null, I-slot, Z-is-null, G-get, K-cast, W-new}
+use Rattle.language.specs.Rows.{R-change, A-assign, U-set, Q-call, J-choose, code, Record, written, row-of}
+use Rattle.language.specs.Rows.{numbers-of}
 use Rattle.language.specs.Tree.{DeclaredType, type-number, Expr, literal-true, literal-false, literal-null}
-use Rattle.language.specs.Tree.{slot}
-use Rattle.language.specs.Tree.{is-null, get, cast, new, change, assign, set, call, choose, block, Exprs, nil}
-use Rattle.language.specs.Tree.{cons}
-use Rattle.language.specs.Tree.{Field, Declaration, Class, Program, flatten, flattens, flatten-methods}
-use Rattle.language.specs.Tree.{flatten-classes, flatten-program}
+use Rattle.language.specs.Tree.{slot, is-null, get, cast, new, change, assign, set, call, choose, block}
+use Rattle.language.specs.Tree.{Exprs, nil, cons, Field, Declaration, Class, Program, flatten, flattens}
+use Rattle.language.specs.Tree.{flatten-methods, flatten-classes, flatten-program}
 use Rattle.language.specs.WellFormed.{Each, each-nil, each-cons, TypeInForm, FieldInForm, MethodInForm}
-use Rattle.language.specs.WellFormed.{ClassInForm, ProgramInForm}
-use Rattle.language.specs.WellFormed.{NodeInForm, NodesInForm, form-true, form-false, form-null, form-slot}
-use Rattle.language.specs.WellFormed.{form-is-null, form-get, form-cast, form-new}
-use Rattle.language.specs.WellFormed.{form-change, form-assign, form-set, form-call, form-choose, form-block}
-use Rattle.language.specs.WellFormed.{form-nil, form-cons, BodyInForm, form-body}
+use Rattle.language.specs.WellFormed.{ClassInForm, ProgramInForm, NodeInForm, NodesInForm, form-true}
+use Rattle.language.specs.WellFormed.{form-false, form-null, form-slot, form-is-null, form-get, form-cast}
+use Rattle.language.specs.WellFormed.{form-new, form-change, form-assign, form-set, form-call, form-choose}
+use Rattle.language.specs.WellFormed.{form-block, form-nil, form-cons, BodyInForm, form-body}
 use Rattle.language.specs.Translation.{plain-program}
 use Rattle.language.specs.ClassTables.{ClassTables}
 use Rattle.language.specs.Layout.{ProgramAt, LooksUpProgram}
@@ -29,7 +26,8 @@ use Rattle.theory.specs.Accepts.{RowsOf, numbers-count}
 use Rattle.theory.specs.Translatable.{TranslatableRows, taken-laws}
 use Rattle.theory.specs.PlainNames.{small-world}
 use Rattle.theory.specs.PlainSizes.{program-size}
-use Rattle.plain.specs.Emission.{most-numbers, program-numbers, ProgramTask}
+use Rattle.plain.specs.Numbers.{most-numbers, program-numbers}
+use Rattle.plain.specs.Tasks.{ProgramTask}
 use Rattle.plain.proofs.Accepted.{classes-ready, start-ready}
 use Rattle.plain.proofs.Tabled.{members}
 

@@ -1,40 +1,22 @@
--- Laws of methods and classes that stand in rows: the rows of their parts, and the row after each. Assumes nothing.
-use mathlib.Core.Path.{_≡_, refl, sym, _∙_}
+-- Laws of methods and classes that stand in rows: the rows of their parts, and the row after each. Assumes
+-- nothing.
+use mathlib.Core.Path.{_≡_, sym, _∙_}
 use mathlib.Core.Logic.{inl, inr, _≢_}
 use mathlib.Core.List.{List, [], _∷_}
 use Prim.Native.Nat.{ℕ, suc, _+_, _-_, _*_, _≤_, _<_}
 use native.Mathlib.Omega.{arith}
 use lib.ListN.{length, getD}
-use Rattle.language.specs.Tree.{DeclaredType, Expr, literal-true, literal-false, literal-null, slot}
-use Rattle.language.specs.Tree.{is-null, get, cast, new, change, assign, set, call, choose, block}
-use Rattle.language.specs.Tree.{Declaration, Class, size, method-lines, heading-lines, methods-lines}
-use Rattle.language.specs.Tree.{class-lines, classes-lines}
-use Rattle.language.specs.Encoded.{Encoded}
-use Rattle.language.specs.Layout as layout
-use Rattle.language.specs.Layout.{EachMethod, EachClass, EffectsAt, MethodAt, ClassAt, effects-row, body-row}
+use Rattle.language.specs.Tree.{Declaration, Class, method-lines, heading-lines, methods-lines, class-lines}
+use Rattle.language.specs.Tree.{classes-lines}
+use Rattle.language.specs.Layout.{EachMethod, EachClass, MethodAt, ClassAt, effects-row, body-row}
 use Rattle.language.specs.Layout.{methods-from-row}
-use Rattle.plain.specs.Emission.{code-of, ParametersAt, ClassEnd, Skipped, SomeFieldLines}
+use Rattle.language.proofs.Lines.{first-line, lines-run}
+use Rattle.plain.specs.Tasks.{ClassEnd, MethodReady, ClassReady, MethodsTask, ClassesTask}
+use Rattle.plain.specs.Emission.{Skipped, SomeFieldLines}
 use Rattle.plain.specs.Bounds.{MethodsStand, ClassesStand, SomeMethodsStand, SomeClassesStand}
 use Rattle.plain.specs.Bounds.{MethodsPassed}
-use Rattle.plain.proofs.Tasks.{node-at, size-positive}
-use Rattle.plain.proofs.Skips.{parameters-run, effects-run, fields-run, skipped-at}
-
--- no node has the letter of a heading
-node-letter : (e : Expr) → (code-of e ≢ 80) × (code-of e ≢ 88)
-node-letter literal-true = (omega arith, omega arith)
-node-letter literal-false = (omega arith, omega arith)
-node-letter literal-null = (omega arith, omega arith)
-node-letter (slot k) = (omega arith, omega arith)
-node-letter (is-null e) = (omega arith, omega arith)
-node-letter (get f e) = (omega arith, omega arith)
-node-letter (cast c e) = (omega arith, omega arith)
-node-letter (new c) = (omega arith, omega arith)
-node-letter (change k d) = (omega arith, omega arith)
-node-letter (assign k e) = (omega arith, omega arith)
-node-letter (set f e e′) = (omega arith, omega arith)
-node-letter (call m e es) = (omega arith, omega arith)
-node-letter (choose e x y) = (omega arith, omega arith)
-node-letter (block ts es) = (omega arith, omega arith)
+use Rattle.plain.proofs.Letters.{no-heading, node-at, node-ends, size-positive}
+use Rattle.plain.proofs.Skips.{skipped-at}
 
 pub other-letter : {a b c : ℕ} → a ≡ b → b ≢ c → a ≢ c
 other-letter e h f = h (sym e ∙ f)
@@ -43,39 +25,26 @@ other-letter e h f = h (sym e ∙ f)
 after-effects : {R E : List ℕ} {m : Declaration} {r : ℕ} → MethodAt R E m r
     → (body-row r m * 4 + 3 < length R) × (getD R (body-row r m * 4) 0 ≢ 88)
 after-effects {R} {E} {m} {r} x = let n = node-at R E (body-row r m) (m .body) (x .body) in
-    (n .0, other-letter (n .1) (node-letter (m .body) .1))
+    (n .0, other-letter (n .1) (no-heading (m .body) .1))
 
 after-parameters : {R E : List ℕ} {m : Declaration} {r : ℕ} → MethodAt R E m r
     → (effects-row r m * 4 + 3 < length R) × (getD R (effects-row r m * 4) 0 ≢ 80)
-unfolding EffectsAt
-after-parameters {R} {E} {m} {r} x =
-    go (m .effects) (x .effects) (effects-row r m + length (m .effects)) refl (x .body)
-  where
-    go : (cs : List ℕ) → EffectsAt R cs (effects-row r m) → (b : ℕ) → b ≡ effects-row r m + length cs
-        → Encoded R E (m .body) b
-        → (effects-row r m * 4 + 3 < length R) × (getD R (effects-row r m * 4) 0 ≢ 80)
-    go [] h b z n = let y : b ≡ effects-row r m = omega (arith, z) in let n = node-at R E b (m .body) n in
-        rw (← y) (n .0, other-letter (n .1) (node-letter (m .body) .0))
-    go (c ∷ cs) h b z n = (h .0 .within, other-letter (h .0 .letter) (omega arith))
+after-parameters {R} {E} {m} {r} x = let n = node-at R E (body-row r m) (m .body) (x .body) in
+    first-line _ (λ i. (i * 4 + 3 < length R) × (getD R (i * 4) 0 ≢ 80))
+    (λ c i h. (h .within, other-letter (h .letter) (omega arith))) (m .effects) (effects-row r m) (x .effects)
+    (n .0, other-letter (n .1) (no-heading (m .body) .0))
 
 pub method-rows : {R E : List ℕ} {m : Declaration} {r x b : ℕ} → MethodAt R E m r → Skipped R 80 (r + 1) x
     → Skipped R 88 x b
     → (x ≡ effects-row r m) × (b ≡ body-row r m)
 method-rows {R} {E} {m} {r} {x} {b} t s u =
     let p = after-parameters t in let q = after-effects t in
-    let z : x ≡ effects-row r m =
-    skipped-at s (length (m .parameters)) (parameters-run R (m .parameters) (r + 1) (t .parameters))
-    (p .0) (p .1) in (
+    let z : x ≡ effects-row r m = skipped-at s
+    (lines-run _ R 80 (λ t i h. h .letter) (m .parameters) (r + 1) (t .parameters) (p .0) (p .1)) in (
       z,
-      skipped-at (rw z at u) (length (m .effects))
-          (effects-run R (m .effects) (effects-row r m) (t .effects)) (q .0) (q .1),
+      skipped-at (rw z at u)
+          (lines-run _ R 88 (λ c i h. h .letter) (m .effects) (effects-row r m) (t .effects) (q .0) (q .1)),
     )
-
-pub parameters-rows : (R : List ℕ) (ts : List DeclaredType) (r : ℕ) → layout.ParametersAt R ts r
-    → ParametersAt R ts r
-unfolding ParametersAt layout.ParametersAt
-parameters-rows R [] r h = tt
-parameters-rows R (t ∷ ts) r h = (h .0 .within, h .0 .first, parameters-rows R ts (r + 1) (h .1))
 
 pub lines-positive : (m : Declaration) → 1 ≤ method-lines m
 unfolding method-lines
@@ -84,25 +53,6 @@ lines-positive m = omega (arith, size-positive (m .body))
 pub class-positive : (c : Class) → 1 ≤ class-lines c
 unfolding class-lines
 class-positive c = omega arith
-
--- where a node ends
-node-ends : (R E : List ℕ) (at : ℕ) (e : Expr)
-    → Encoded R E e at → (at < length E) × (getD E at 0 ≡ at + size e)
-unfolding Encoded size
-node-ends R E at literal-true h = (h .in-ends, h .end)
-node-ends R E at literal-false h = (h .in-ends, h .end)
-node-ends R E at literal-null h = (h .in-ends, h .end)
-node-ends R E at (slot k) h = (h .in-ends, h .end)
-node-ends R E at (is-null e) h = (h .0 .in-ends, h .0 .end)
-node-ends R E at (get f e) h = (h .0 .in-ends, h .0 .end)
-node-ends R E at (cast c e) h = (h .0 .in-ends, h .0 .end)
-node-ends R E at (new c) h = (h .in-ends, h .end)
-node-ends R E at (change k d) h = (h .in-ends, h .end)
-node-ends R E at (assign k e) h = (h .0 .in-ends, h .0 .end)
-node-ends R E at (set f e e′) h = (h .0 .in-ends, h .0 .end)
-node-ends R E at (call m e es) h = (h .0 .in-ends, h .0 .end)
-node-ends R E at (choose e y z) h = (h .0 .in-ends, h .0 .end)
-node-ends R E at (block ts es) h = (h .0 .in-ends, h .0 .end)
 
 end-at : {R : List ℕ} {a b : ℕ} → ClassEnd R a → a ≡ b → ClassEnd R b
 end-at h e = rw e at h
@@ -202,7 +152,7 @@ module _ {R E : List ℕ} {at : ℕ} where
       → r ≡ methods-from-row at c
   unfolding EachMethod methods-lines
   first-of {k} c t u s = let w = other (c .methods) u in
-      skipped-at s (length (c .fields)) (fields-run R (c .fields) (at + 1) (t .fields)) (w .0) (w .1)
+      skipped-at s (lines-run _ R 70 (λ f i h. h .letter) (c .fields) (at + 1) (t .fields) (w .0) (w .1))
     where
       other : (ms : List Declaration) → MethodsStand R E k ms (methods-from-row at c)
           → (methods-from-row at c * 4 + 3 < length R) × (getD R (methods-from-row at c * 4) 0 ≢ 70)
@@ -280,3 +230,38 @@ module _ {R E : List ℕ} {at : ℕ} where
       record { k = suc (y .k); cs = cs; stand = class-rest c cs t q z },
       omega (arith, z, class-positive c),
     )
+
+-- what is ready stands in rows
+module _ (P : List Class) (E R C : List ℕ) where
+  each-stands : (ms : List Declaration) (k r : ℕ) → EachMethod (MethodReady P E R C) ms k r
+      → EachMethod (λ k m r. MethodAt R E m r) ms k r
+  unfolding EachMethod
+  each-stands [] k r h = tt
+  each-stands (m ∷ ms) k r h = (h .0 .rows, each-stands ms k _ (h .1))
+
+  pub class-stands : (c : Class) {k r : ℕ} → ClassReady P E R C k c r → ClassAt R E k c r
+  class-stands c h = record {
+    line = h .line;
+    fields = h .fields;
+    methods = each-stands (c .methods) _ _
+        (h .methods);
+  }
+
+  each-class-stands : (cs : List Class) (k r : ℕ) → EachClass (ClassReady P E R C) cs k r
+      → EachClass (ClassAt R E) cs k r
+  unfolding EachClass
+  each-class-stands [] k r h = tt
+  each-class-stands (c ∷ cs) k r h = (class-stands c (h .0), each-class-stands cs (suc k) _ (h .1))
+
+module _ {P : List Class} {E : List ℕ} {k : ℕ} {R T C : List ℕ} {at place : ℕ} where
+  pub methods-stand : {ms : List Declaration} → MethodsTask P E k ms R T C at place → MethodsStand R E k ms at
+  methods-stand {ms} t =
+      record { methods = each-stands P E R C ms k at (t .methods); after = t .after; short = t .lent .short }
+
+  pub classes-stand : {cs : List Class} → ClassesTask P E k cs R T C at place → ClassesStand R E k cs at
+  classes-stand {cs} t =
+      record {
+        classes = each-class-stands P E R C cs k at (t .classes);
+        start = t .start;
+        short = t .lent .short;
+      }

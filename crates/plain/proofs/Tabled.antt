@@ -6,27 +6,27 @@ use Prim.Native.Nat.{ℕ, suc, _+_, _*_, _≤_, _<_}
 use native.Mathlib.Omega.{arith}
 use lib.ListN.{length, getD}
 use Rattle.language.specs.Lists.{nth, inj, All2, a-nil, a-cons}
+use Rattle.language.specs.Rows.{P-parameter}
 use Rattle.language.specs.Tree.{Field, Program}
+use Rattle.language.specs.Encoded.{LinesAt, TypesAt}
 use Rattle.language.specs.World.{Method}
 use Rattle.language.specs.Program.{world}
 use Rattle.language.specs.ClassTables.{ClassTables, stored-place, field-rows, method-row}
 use Rattle.language.specs.Layout.{ProgramAt}
 use Rattle.theory.specs.MoreLookups.{MoreLaws}
 use Rattle.layout.specs.Found.{FieldHere, all-fields-here, row-some, method-here}
-use Rattle.plain.specs.Emission.{Members, FieldRows, ParametersAt}
-use Rattle.plain.proofs.Standing.{parameters-rows}
+use Rattle.plain.specs.Tasks.{Members, FieldRows}
 
 -- fields whose rows the table has
 fields-tabled : (R T : List ℕ) (fs : List Field) (rs : List ℕ) (at : ℕ) → All2 (FieldHere R) fs rs
     → ((i r : ℕ) → nth rs i ≡ some r → getD T (at + i) 0 ≡ r) → at + length fs ≤ length T
     → FieldRows R T fs at
-unfolding FieldRows nth
+unfolding LinesAt nth
 fields-tabled R T [] [] at a-nil t l = tt
 fields-tabled R T (f ∷ fs) (r ∷ rs) at (a-cons h hs) t l =
     let z : at + 0 ≡ at = omega arith in
     let e : getD T at 0 ≡ r = rw z at (t 0 r refl) in (
-      omega (arith, l),
-      rw e (h .line),
+      (omega (arith, l), rw e (h .line)),
       fields-tabled R T fs rs (at + 1) hs
           (λ i q u. let y : at + 1 + i ≡ at + suc i = omega arith in rw y (t (suc i) q u)) (omega (arith, l)),
     )
@@ -47,14 +47,13 @@ members {R} {E} {T} {A} p h t laws = record {
   where
     method : (k m : ℕ) (M : Method) → k ≤ length (p .classes) → m < 256
         → world (p .classes) .method k m ≡ some M
-        → ParametersAt R (M .parameters) (getD T (k * 576 + 256 + m) 0)
+        → TypesAt P-parameter R (M .parameters) (getD T (k * 576 + 256 + m) 0)
     method k m M l n e = let x = row-some (p .classes) k m M e in there (x .0) (x .1)
       where
         there : (r : ℕ) → method-row (p .classes) k m ≡ some r
-            → ParametersAt R (M .parameters) (getD T (k * 576 + 256 + m) 0)
+            → TypesAt P-parameter R (M .parameters) (getD T (k * 576 + 256 + m) 0)
         there r q =
             let y = method-here h k m r q in
             let z : getD T (k * 576 + 256 + m) 0 ≡ r + 1 = t .methods k m l n
             ∙ (ap (λ (o : Option ℕ). stored-place o) q ∙ omega arith) in
-            rw (z, ← inj (sym (y .row .found) ∙ e))
-            (parameters-rows R (y .row .declaration .parameters) (r + 1) (y .at .parameters))
+            rw (z, ← inj (sym (y .row .found) ∙ e)) (y .at .parameters)

@@ -1,4 +1,5 @@
--- Laws of the walks over classes: the first field that is refused, by its name or by the limit. Assumes nothing.
+-- Laws of the walks over classes: the first field that is refused, by its name or by the limit. Assumes
+-- nothing.
 use mathlib.Core.Path.{_≡_, refl, sym, ap, _∙_}
 use mathlib.Core.Bool.{Bool, true, false, not, _||_}
 use mathlib.Core.Logic.{_⊎_, inl, inr, _≢_}
@@ -16,7 +17,9 @@ use Rattle.language.specs.Program.{world}
 use Rattle.language.specs.Headings.{check-fields, check-parameters, check-effects, check-methods, check-class}
 use Rattle.language.specs.Headings.{check-classes}
 use Rattle.language.specs.Translation.{fields-free, names-free}
+use Rattle.language.specs.Encoded.{LinesAt}
 use Rattle.language.specs.Layout.{EachClass, FieldsAt}
+use Rattle.language.proofs.Lines.{le-or-less}
 use Rattle.plain.specs.Emission.{Skipped}
 use Rattle.plain.specs.Bounds.{pass-of, ClassesStand, SomeMethodsStand, SomeClassesStand, MethodsPassed}
 use Rattle.plain.specs.Bounds.{ClassesCounted, SomeCounted, FieldsLimited, FieldsFree, NamesFree}
@@ -43,7 +46,7 @@ module _ {R : List ℕ} {at count : ℕ} where
 
   pub free-here : (line : ℕ) → line ≡ at + 1 → count ≢ 0
       → (getD R (at * 4 + 2) 0 ≡ 254) ⊎ (getD R (at * 4 + 2) 0 ≡ 255) → FieldsFree R at count line
-  unfolding fields-free FieldsAt require
+  unfolding fields-free LinesAt require
   free-here line z h n = record { each = λ fs r e. go fs r e }
     where
       go : (fs : List Field) → FieldsAt R fs at → length fs ≡ count
@@ -54,7 +57,7 @@ module _ {R : List ℕ} {at count : ℕ} where
 
   pub free-step : {line : ℕ} → count ≢ 0 → getD R (at * 4 + 2) 0 ≢ 254 → getD R (at * 4 + 2) 0 ≢ 255
       → FieldsFree R (at + 1) (count - 1) line → FieldsFree R at count line
-  unfolding fields-free FieldsAt require
+  unfolding fields-free LinesAt require
   free-step {line} h a b p = record { each = λ fs r e. go fs r e }
     where
       go : (fs : List Field) → FieldsAt R fs at → length fs ≡ count
@@ -123,12 +126,6 @@ stopped : {A B : Type 0} (r : Checked A) (k : A → Checked B) {n l : ℕ} → r
 unfolding bind-checked
 stopped r k e = rw e
 
-compared : (a b : ℕ) → (a < b) ⊎ (b ≤ a)
-compared a zero = inr (omega arith)
-compared zero (suc b) = inl (omega arith)
-compared (suc a) (suc b) =
-    elim (compared a b) [ inl h ↦ inl (omega (arith, h)) | inr h ↦ inr (omega (arith, h)) ]
-
 -- fields too many: what the check accepts, the translator's limit refuses there and nowhere else
 module _ (P : List Class) where
   fields-few : (before : List Field) (at : ℕ) (fs : List Field) (u : Unit {0})
@@ -150,16 +147,16 @@ module _ (P : List Class) where
   unfolding check-fields
   fields-over before at [] u q l = absurd (omega (arith, l))
   fields-over before at (f ∷ fs) u q l =
-      go (λ q l. fields-over (before ++ (f ∷ [])) (at + 1) fs u q l) (compared (length before) 16)
+      go (λ q l. fields-over (before ++ (f ∷ [])) (at + 1) fs u q l) (le-or-less 16 (length before))
     where
       go : (check-fields of-check P (before ++ (f ∷ [])) (at + 1) fs ≡ accept u
           → 16 - length (before ++ (f ∷ [])) < length fs
           → check-fields of-translator P (before ++ (f ∷ [])) (at + 1) fs
           ≡ refuse limit-refusal (at + 1 + (16 - length (before ++ (f ∷ [])))))
-          → (length before < 16) ⊎ (16 ≤ length before)
+          → (16 ≤ length before) ⊎ (length before < 16)
           → check-fields of-translator P before at (f ∷ fs)
           ≡ refuse limit-refusal (at + (16 - length before))
-      go rest (inl h) = require-inv _ _ _ _ q λ e₁ q. require-inv _ _ _ _ q λ e₂ q.
+      go rest (inr h) = require-inv _ _ _ _ q λ e₁ q. require-inv _ _ _ _ q λ e₂ q.
           require-inv _ _ _ _ q λ e₃ q. require-inv _ _ _ _ q λ e₄ q.
           let m = length-append before (f ∷ []) in
           let l′ : 16 - length (before ++ (f ∷ [])) < length fs = omega (arith, l, m, h) in
@@ -168,7 +165,7 @@ module _ (P : List Class) where
           required _ _ _ _ (lt-ltb (length before) 16 h)
           (required _ _ _ _ e₂ (required _ _ _ _ e₃ (required _ _ _ _ e₄
           (rest q l′ ∙ ap (λ (n : ℕ). refuse limit-refusal n) z))))
-      go rest (inr h) =
+      go rest (inl h) =
           let z : at ≡ at + (16 - length before) = omega (arith, h) in
           failed _ _ _ _ (le-ltb (length before) 16 h) ∙ ap (λ (n : ℕ). refuse limit-refusal n) z
 

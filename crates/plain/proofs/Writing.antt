@@ -7,7 +7,7 @@ use native.Mathlib.Omega.{arith}
 use lib.ListN.{length, getD, take, set, length-set, length-append}
 use lib.Seq.{sets, length-sets, length-take-le, take-suc, take-all}
 use Rattle.language.proofs.Filling.{sets-then}
-use Rattle.plain.specs.Emission.{Written}
+use Rattle.plain.specs.Emission.{Written, Emitted}
 
 -- the first i of the numbers are written
 pub record Putting (O O′ xs : List ℕ) (place i : ℕ) : Type 0 where
@@ -53,3 +53,8 @@ written-as w e = rw e at w
 -- the buffer's length stays
 pub written-long : {xs O O′ : List ℕ} {p q : ℕ} → Written xs O O′ p q → length O′ ≡ length O
 written-long {xs} {O} {O′} {p} w = ap length (w .content) ∙ length-sets O p xs
+
+-- what is emitted is written, and lines of the source are passed
+pub whole : {xs ys O O′ : List ℕ} {l p a q b : ℕ} → Written ys O O′ p q → ys ≡ xs → b ≡ a + l
+    → Emitted xs l O O′ p a q b
+whole w e r = record { written = written-as w e; passed = r }

@@ -1,5 +1,5 @@
--- The translator's own refusals of accepted rows: its limits, reserved names, room. What each walk over the classes has
--- to be given, and what it tells. A line of 0 stands for no refusal.
+-- The translator's own refusals of accepted rows: its limits, reserved names, room. What each walk over the
+-- classes has to be given, and what it tells. A line of 0 stands for no refusal.
 use mathlib.Core.Path.{_≡_}
 use Prim.Native.Nat.{ℕ, zero, suc, _+_, _*_, _≤_}
 use mathlib.Core.Bool.{cond}
@@ -25,7 +25,8 @@ use Rattle.language.specs.Encoded.{RowAt}
 use Rattle.language.specs.ClassTables.{ClassTables}
 use Rattle.language.specs.Layout.{EachMethod, EachClass, FieldsAt, MethodAt, ClassAt, ProgramAt}
 use Rattle.language.specs.Layout.{LooksUpProgram}
-use Rattle.plain.specs.Emission.{ClassEnd, program-numbers, ProgramTask}
+use Rattle.plain.specs.Tasks.{ClassEnd, ProgramTask}
+use Rattle.plain.specs.Numbers.{program-numbers}
 
 -- A refusal with a number on a line, if there is one.
 abbrev pub pass-of : ℕ → ℕ → Pass
@@ -85,7 +86,8 @@ pub record NamesFree (R E : List ℕ) (at line : ℕ) : Type 0 where
   pub each : (k : ℕ) (cs : List Class)
       → ClassesStand R E k cs at → names-free (at + 1) cs ≡ pass-of reserved-refusal line
 
--- What the translator's limits answer: of form, and of fields where the first one too many stands on a line, or 0.
+-- What the translator's limits answer: of form, and of fields where the first one too many stands on a line,
+-- or 0.
 abbrev pub told : Pass → Filled
 told (accept u) = Done 0
 told (refuse n l) = filled.Refused n l

@@ -1,18 +1,17 @@
-use Rattle.plain.proofs.Writing.{written-long}
-use Rattle.plain.proofs.Lines.{reads-none, reads-step}
 use mathlib.Core.Path.{_∙_}
 use Prim.Native.Nat.{ℕ, _+_, _-_, _<_}
 use native.Mathlib.Omega.{arith}
 use borrow.Author.Needs.{needs}
-use Prim.Native.Nat.{ℕ, _<_}
 use borrow.Fn.Kinds.{In}
 use borrow.Fn.PlainCycle.{Measures, is, falls, and}
+use Rattle.plain.proofs.Writing.{written-long}
+use Rattle.plain.proofs.Lines.{reads-none, reads-step}
 use Rattle.plain.proofs.put_reads.Reads as put-reads
 use Rattle.plain.proofs.put_reads.Kinds as put-reads-kinds
-use Rattle.plain.proofs.+put_reads.Lts-put_reads as put-reads-lts
 use Rattle.plain.proofs.put.Reads as put-reads′
 use Rattle.plain.proofs.+put_reads.{statement}
 use Rattle.plain.proofs.+put_reads.Tie.{close}
+use Rattle.plain.proofs.+put_reads.Lts-put_reads as put-reads-lts
 
 abbrev μ-put-reads : Measures 1 put-reads-kinds.ps ℕ
 μ-put-reads κs a = a .1 .1 .1 .0
@@ -24,84 +23,54 @@ abbrev put-reads-below : ℕ → In 1 put-reads-kinds.ps
 put-reads-below t =
     and 1 put-reads-kinds.ps (falls 1 put-reads-kinds.ps _<_ μ-put-reads t) put-reads.Pre
 
-put-reads-returns : (t : ℕ) → put-reads-lts.Need-returns (
-  put-reads′.Asked,
-  put-reads′.Learnt,
-  put-reads-below t,
-  put-reads.Post,
-) (put-reads-at t) put-reads.Post
+-- What its callees ask and give: itself, below the measure t.
+abbrev callees : ℕ → put-reads-lts.Claims
+callees t = (put-reads′.Asked, put-reads′.Learnt, put-reads-below t, put-reads.Post)
+
+put-reads-returns : (t : ℕ) → put-reads-lts.Need-returns (callees t) (put-reads-at t) put-reads.Post
 put-reads-returns t c = reads-none _ _ (c .if1 .taken)
 
-put-reads-slice-aggregate-put : (t : ℕ) → put-reads-lts.Need-slice-aggregate-put (
-  put-reads′.Asked,
-  put-reads′.Learnt,
-  put-reads-below t,
-  put-reads.Post,
-) (put-reads-at t) put-reads.Post
+put-reads-slice-aggregate-put : (t : ℕ) → put-reads-lts.Need-slice-aggregate-put (callees t) (put-reads-at t) put-reads.Post
 put-reads-slice-aggregate-put t c = search needs
 
-put-reads-put-requires : (t : ℕ) → put-reads-lts.Need-put-requires (
-  put-reads′.Asked,
-  put-reads′.Learnt,
-  put-reads-below t,
-  put-reads.Post,
-) (put-reads-at t) put-reads.Post
-put-reads-put-requires t c κs = omega (arith, c .before .before .before .before .pre .1 .0, c .before .before .if1 .left)
+put-reads-put-requires : (t : ℕ) → put-reads-lts.Need-put-requires (callees t) (put-reads-at t) put-reads.Post
+put-reads-put-requires t c κs =
+    let start = c .before .before .before .before in
+    omega (arith, start .pre .1 .0, c .before .before .if1 .left)
 
-put-reads-add-put-reads : (t : ℕ) → put-reads-lts.Need-add-put-reads (
-  put-reads′.Asked,
-  put-reads′.Learnt,
-  put-reads-below t,
-  put-reads.Post,
-) (put-reads-at t) put-reads.Post
-put-reads-add-put-reads t c = omega (arith, c .before .before .before .before .before .before .before .before .pre .1 .1)
+put-reads-add-put-reads : (t : ℕ) → put-reads-lts.Need-add-put-reads (callees t) (put-reads-at t) put-reads.Post
+put-reads-add-put-reads t c =
+    let start = c .before .before .before .before .before .before .before .before in
+    omega (arith, start .pre .1 .1)
 
-put-reads-sub-put-reads : (t : ℕ) → put-reads-lts.Need-sub-put-reads (
-  put-reads′.Asked,
-  put-reads′.Learnt,
-  put-reads-below t,
-  put-reads.Post,
-) (put-reads-at t) put-reads.Post
+put-reads-sub-put-reads : (t : ℕ) → put-reads-lts.Need-sub-put-reads (callees t) (put-reads-at t) put-reads.Post
 put-reads-sub-put-reads t c = omega (arith, c .before .before .before .before .before .before .if1 .left)
 
-put-reads-put-reads-requires : (t : ℕ) → put-reads-lts.Need-put-reads-requires (
-  put-reads′.Asked,
-  put-reads′.Learnt,
-  put-reads-below t,
-  put-reads.Post,
-) (put-reads-at t) put-reads.Post
-put-reads-put-reads-requires t c κs = (omega (arith, c .before .before .before .before .before .before .if1 .left), (omega (arith, c .before .before .before .before .before .before .before .before .pre .1 .0, c .before .before .before .before .before .before .if1 .left, c .before .before .before .put .ensures .ended), omega (arith, c .before .before .before .before .before .before .before .before .pre .1 .1, c .before .before .before .before .before .before .if1 .left)))
+put-reads-put-reads-requires : (t : ℕ) → put-reads-lts.Need-put-reads-requires (callees t) (put-reads-at t) put-reads.Post
+put-reads-put-reads-requires t c κs =
+    let start = c .before .before .before .before .before .before .before .before in
+    let the-if1 = c .before .before .before .before .before .before .if1 in (
+      omega (arith, the-if1 .left),
+      (
+        omega (arith, start .pre .1 .0, the-if1 .left, c .before .before .before .put .ensures .ended),
+        omega (arith, start .pre .1 .1, the-if1 .left),
+      ),
+    )
 
-put-reads-same-length : (t : ℕ) → put-reads-lts.Need-same-length (
-  put-reads′.Asked,
-  put-reads′.Learnt,
-  put-reads-below t,
-  put-reads.Post,
-) (put-reads-at t) put-reads.Post
-put-reads-same-length t c = c .before .before .put-reads .kept .0 ∙ written-long (c .before .before .before .before .before .before .put .ensures)
+put-reads-same-length : (t : ℕ) → put-reads-lts.Need-same-length (callees t) (put-reads-at t) put-reads.Post
+put-reads-same-length t c =
+    c .before .before .put-reads .kept .0
+    ∙ written-long (c .before .before .before .before .before .before .put .ensures)
 
-put-reads-returns-2 : (t : ℕ) → put-reads-lts.Need-returns-2 (
-  put-reads′.Asked,
-  put-reads′.Learnt,
-  put-reads-below t,
-  put-reads.Post,
-) (put-reads-at t) put-reads.Post
-put-reads-returns-2 t c = reads-step _ _ (c .before .before .before .before .before .before .before .before .before .if1 .left) (c .before .before .before .before .before .before .put .ensures) (c .before .before .put-reads .ensures)
+put-reads-returns-2 : (t : ℕ) → put-reads-lts.Need-returns-2 (callees t) (put-reads-at t) put-reads.Post
+put-reads-returns-2 t c =
+    let the-if1 = c .before .before .before .before .before .before .before .before .before .if1 in
+    let the-put = c .before .before .before .before .before .before .put in
+    reads-step _ _ (the-if1 .left) (the-put .ensures) (c .before .before .put-reads .ensures)
 
 pub +put-reads-spec : {M : Type 1} → statement M
-+put-reads-spec = close μ-put-reads λ t. put-reads-lts.spec (
-  put-reads′.Asked,
-  put-reads′.Learnt,
-  put-reads-below t,
-  put-reads.Post,
-)
-    (put-reads-at t)
-    put-reads.Post
-    (put-reads-returns t)
-    (put-reads-slice-aggregate-put t)
-    (put-reads-put-requires t)
-    (put-reads-add-put-reads t)
-    (put-reads-sub-put-reads t)
-    (put-reads-put-reads-requires t)
-    (put-reads-same-length t)
-    (put-reads-returns-2 t)
++put-reads-spec = close μ-put-reads λ t.
+    put-reads-lts.spec (callees t) (put-reads-at t) put-reads.Post
+    (put-reads-returns t) (put-reads-slice-aggregate-put t) (put-reads-put-requires t)
+    (put-reads-add-put-reads t) (put-reads-sub-put-reads t) (put-reads-put-reads-requires t)
+    (put-reads-same-length t) (put-reads-returns-2 t)

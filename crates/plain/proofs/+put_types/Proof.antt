@@ -1,19 +1,18 @@
-use Rattle.plain.proofs.Writing.{written-long}
-use Rattle.plain.proofs.Lines.{types-in, types-rest, types-none, types-step}
 use mathlib.Core.Path.{_∙_}
 use Prim.Native.Nat.{ℕ, _+_, _-_, _<_}
 use native.Mathlib.Omega.{arith}
 use borrow.Author.Needs.{needs}
-use Prim.Native.Nat.{ℕ, _<_}
 use borrow.Fn.Kinds.{In}
 use borrow.Fn.PlainCycle.{Measures, is, falls, and}
+use Rattle.plain.proofs.Writing.{written-long}
+use Rattle.plain.proofs.Lines.{types-in, types-rest, types-none, types-step}
 use Rattle.plain.proofs.put_types.Reads as put-types
 use Rattle.plain.proofs.put_types.Kinds as put-types-kinds
-use Rattle.plain.proofs.+put_types.Lts-put_types as put-types-lts
 use Rattle.plain.proofs.plain_type.Reads as plain-type-reads
 use Rattle.plain.proofs.put.Reads as put-reads
 use Rattle.plain.proofs.+put_types.{statement}
 use Rattle.plain.proofs.+put_types.Tie.{close}
+use Rattle.plain.proofs.+put_types.Lts-put_types as put-types-lts
 
 abbrev μ-put-types : Measures 2 put-types-kinds.ps ℕ
 μ-put-types κs a = a .1 .1 .1 .1 .0
@@ -25,138 +24,9 @@ abbrev put-types-below : ℕ → In 2 put-types-kinds.ps
 put-types-below t =
     and 2 put-types-kinds.ps (falls 2 put-types-kinds.ps _<_ μ-put-types t) put-types.Pre
 
-put-types-returns : (t : ℕ) → put-types-lts.Need-returns (
-  plain-type-reads.Asked,
-  plain-type-reads.Learnt,
-  put-reads.Asked,
-  put-reads.Learnt,
-  put-types-below t,
-  put-types.Post,
-) (put-types-at t) put-types.Post
-put-types-returns t c = types-none (c .if1 .taken)
-
-put-types-mul-plain-type : (t : ℕ) → put-types-lts.Need-mul-plain-type (
-  plain-type-reads.Asked,
-  plain-type-reads.Learnt,
-  put-reads.Asked,
-  put-reads.Learnt,
-  put-types-below t,
-  put-types.Post,
-) (put-types-at t) put-types.Post
-put-types-mul-plain-type t c = omega (arith, types-in (c .before .before .before .pre .1 .0) (c .if1 .left))
-
-put-types-add-plain-type : (t : ℕ) → put-types-lts.Need-add-plain-type (
-  plain-type-reads.Asked,
-  plain-type-reads.Learnt,
-  put-reads.Asked,
-  put-reads.Learnt,
-  put-types-below t,
-  put-types.Post,
-) (put-types-at t) put-types.Post
-put-types-add-plain-type t c = omega (arith, types-in (c .before .before .before .pre .1 .0) (c .if1 .left))
-
-put-types-mul-plain-type-2 : (t : ℕ) → put-types-lts.Need-mul-plain-type-2 (
-  plain-type-reads.Asked,
-  plain-type-reads.Learnt,
-  put-reads.Asked,
-  put-reads.Learnt,
-  put-types-below t,
-  put-types.Post,
-) (put-types-at t) put-types.Post
-put-types-mul-plain-type-2 t c = omega (arith, types-in (c .before .before .before .pre .1 .0) (c .if1 .left))
-
-put-types-shared-slice-read-plain-type : (t : ℕ) → put-types-lts.Need-shared-slice-read-plain-type (
-  plain-type-reads.Asked,
-  plain-type-reads.Learnt,
-  put-reads.Asked,
-  put-reads.Learnt,
-  put-types-below t,
-  put-types.Post,
-) (put-types-at t) put-types.Post
-put-types-shared-slice-read-plain-type t c = omega (arith, types-in (c .before .before .before .before .pre .1 .0) (c .before .if1 .left))
-
-put-types-plain-type-requires : (t : ℕ) → put-types-lts.Need-plain-type-requires (
-  plain-type-reads.Asked,
-  plain-type-reads.Learnt,
-  put-reads.Asked,
-  put-reads.Learnt,
-  put-types-below t,
-  put-types.Post,
-) (put-types-at t) put-types.Post
-put-types-plain-type-requires t c κs = search needs
-
-put-types-slice-aggregate-put : (t : ℕ) → put-types-lts.Need-slice-aggregate-put (
-  plain-type-reads.Asked,
-  plain-type-reads.Learnt,
-  put-reads.Asked,
-  put-reads.Learnt,
-  put-types-below t,
-  put-types.Post,
-) (put-types-at t) put-types.Post
-put-types-slice-aggregate-put t c = search needs
-
-put-types-put-requires : (t : ℕ) → put-types-lts.Need-put-requires (
-  plain-type-reads.Asked,
-  plain-type-reads.Learnt,
-  put-reads.Asked,
-  put-reads.Learnt,
-  put-types-below t,
-  put-types.Post,
-) (put-types-at t) put-types.Post
-put-types-put-requires t c κs = omega (arith, c .before .before .before .before .before .before .before .pre .1 .1, c .before .before .before .before .if1 .left)
-
-put-types-add-put-types : (t : ℕ) → put-types-lts.Need-add-put-types (
-  plain-type-reads.Asked,
-  plain-type-reads.Learnt,
-  put-reads.Asked,
-  put-reads.Learnt,
-  put-types-below t,
-  put-types.Post,
-) (put-types-at t) put-types.Post
-put-types-add-put-types t c = omega (arith, types-in (c .before .before .before .before .before .before .before .before .before .before .before .pre .1 .0) (c .before .before .before .before .before .before .before .before .if1 .left))
-
-put-types-sub-put-types : (t : ℕ) → put-types-lts.Need-sub-put-types (
-  plain-type-reads.Asked,
-  plain-type-reads.Learnt,
-  put-reads.Asked,
-  put-reads.Learnt,
-  put-types-below t,
-  put-types.Post,
-) (put-types-at t) put-types.Post
-put-types-sub-put-types t c = omega (arith, c .before .before .before .before .before .before .before .before .if1 .left)
-
-put-types-put-types-requires : (t : ℕ) → put-types-lts.Need-put-types-requires (
-  plain-type-reads.Asked,
-  plain-type-reads.Learnt,
-  put-reads.Asked,
-  put-reads.Learnt,
-  put-types-below t,
-  put-types.Post,
-) (put-types-at t) put-types.Post
-put-types-put-types-requires t c κs = (omega (arith, c .before .before .before .before .before .before .before .before .if1 .left), (types-rest (c .before .before .before .before .before .before .before .before .before .before .before .pre .1 .0) (c .before .before .before .before .before .before .before .before .if1 .left), omega (arith, c .before .before .before .before .before .before .before .before .before .before .before .pre .1 .1, c .before .before .before .before .before .before .before .before .if1 .left, c .before .before .before .put .ensures .ended)))
-
-put-types-same-length : (t : ℕ) → put-types-lts.Need-same-length (
-  plain-type-reads.Asked,
-  plain-type-reads.Learnt,
-  put-reads.Asked,
-  put-reads.Learnt,
-  put-types-below t,
-  put-types.Post,
-) (put-types-at t) put-types.Post
-put-types-same-length t c = c .before .before .put-types .kept .1 .0 ∙ written-long (c .before .before .before .before .before .before .put .ensures)
-
-put-types-returns-2 : (t : ℕ) → put-types-lts.Need-returns-2 (
-  plain-type-reads.Asked,
-  plain-type-reads.Learnt,
-  put-reads.Asked,
-  put-reads.Learnt,
-  put-types-below t,
-  put-types.Post,
-) (put-types-at t) put-types.Post
-put-types-returns-2 t c = types-step (c .before .before .before .before .before .before .before .before .before .before .before .if1 .left) (c .before .before .before .before .before .before .before .before .before .plain-type .ensures) (c .before .before .before .before .before .before .put .ensures) (c .before .before .put-types .ensures)
-
-pub +put-types-spec : {M : Type 1} → statement M
-+put-types-spec = close μ-put-types λ t. put-types-lts.spec (
+-- What its callees ask and give: itself, below the measure t.
+abbrev callees : ℕ → put-types-lts.Claims
+callees t = (
   plain-type-reads.Asked,
   plain-type-reads.Learnt,
   put-reads.Asked,
@@ -164,18 +34,75 @@ pub +put-types-spec : {M : Type 1} → statement M
   put-types-below t,
   put-types.Post,
 )
-    (put-types-at t)
-    put-types.Post
-    (put-types-returns t)
-    (put-types-mul-plain-type t)
-    (put-types-add-plain-type t)
-    (put-types-mul-plain-type-2 t)
-    (put-types-shared-slice-read-plain-type t)
-    (put-types-plain-type-requires t)
-    (put-types-slice-aggregate-put t)
-    (put-types-put-requires t)
-    (put-types-add-put-types t)
-    (put-types-sub-put-types t)
-    (put-types-put-types-requires t)
-    (put-types-same-length t)
-    (put-types-returns-2 t)
+
+put-types-returns : (t : ℕ) → put-types-lts.Need-returns (callees t) (put-types-at t) put-types.Post
+put-types-returns t c = types-none (c .if1 .taken)
+
+put-types-mul-plain-type : (t : ℕ) → put-types-lts.Need-mul-plain-type (callees t) (put-types-at t) put-types.Post
+put-types-mul-plain-type t c = omega (arith, types-in (c .before .before .before .pre .1 .0) (c .if1 .left))
+
+put-types-add-plain-type : (t : ℕ) → put-types-lts.Need-add-plain-type (callees t) (put-types-at t) put-types.Post
+put-types-add-plain-type t c = omega (arith, types-in (c .before .before .before .pre .1 .0) (c .if1 .left))
+
+put-types-mul-plain-type-2 : (t : ℕ) → put-types-lts.Need-mul-plain-type-2 (callees t) (put-types-at t) put-types.Post
+put-types-mul-plain-type-2 t c = omega (arith, types-in (c .before .before .before .pre .1 .0) (c .if1 .left))
+
+put-types-shared-slice-read-plain-type : (t : ℕ) → put-types-lts.Need-shared-slice-read-plain-type (callees t) (put-types-at t) put-types.Post
+put-types-shared-slice-read-plain-type t c =
+    let start = c .before .before .before .before in
+    omega (arith, types-in (start .pre .1 .0) (c .before .if1 .left))
+
+put-types-plain-type-requires : (t : ℕ) → put-types-lts.Need-plain-type-requires (callees t) (put-types-at t) put-types.Post
+put-types-plain-type-requires t c κs = search needs
+
+put-types-slice-aggregate-put : (t : ℕ) → put-types-lts.Need-slice-aggregate-put (callees t) (put-types-at t) put-types.Post
+put-types-slice-aggregate-put t c = search needs
+
+put-types-put-requires : (t : ℕ) → put-types-lts.Need-put-requires (callees t) (put-types-at t) put-types.Post
+put-types-put-requires t c κs =
+    let start = c .before .before .before .before .before .before .before in
+    let the-if1 = c .before .before .before .before .if1 in omega (arith, start .pre .1 .1, the-if1 .left)
+
+put-types-add-put-types : (t : ℕ) → put-types-lts.Need-add-put-types (callees t) (put-types-at t) put-types.Post
+put-types-add-put-types t c =
+    let start = c .before .before .before .before .before .before .before .before .before .before .before in
+    let the-if1 = c .before .before .before .before .before .before .before .before .if1 in
+    omega (arith, types-in (start .pre .1 .0) (the-if1 .left))
+
+put-types-sub-put-types : (t : ℕ) → put-types-lts.Need-sub-put-types (callees t) (put-types-at t) put-types.Post
+put-types-sub-put-types t c =
+    let the-if1 = c .before .before .before .before .before .before .before .before .if1 in
+    omega (arith, the-if1 .left)
+
+put-types-put-types-requires : (t : ℕ) → put-types-lts.Need-put-types-requires (callees t) (put-types-at t) put-types.Post
+put-types-put-types-requires t c κs =
+    let start = c .before .before .before .before .before .before .before .before .before .before .before in
+    let the-if1 = c .before .before .before .before .before .before .before .before .if1 in (
+      omega (arith, the-if1 .left),
+      (
+        types-rest (start .pre .1 .0) (the-if1 .left),
+        omega (arith, start .pre .1 .1, the-if1 .left, c .before .before .before .put .ensures .ended),
+      ),
+    )
+
+put-types-same-length : (t : ℕ) → put-types-lts.Need-same-length (callees t) (put-types-at t) put-types.Post
+put-types-same-length t c =
+    c .before .before .put-types .kept .1 .0
+    ∙ written-long (c .before .before .before .before .before .before .put .ensures)
+
+put-types-returns-2 : (t : ℕ) → put-types-lts.Need-returns-2 (callees t) (put-types-at t) put-types.Post
+put-types-returns-2 t c =
+    let the-if1 = c .before .before .before .before .before .before .before .before .before .before .before .if1 in
+    let the-plain-type = c .before .before .before .before .before .before .before .before .before .plain-type in
+    let the-put = c .before .before .before .before .before .before .put in
+    types-step (the-if1 .left) (the-plain-type .ensures) (the-put .ensures)
+    (c .before .before .put-types .ensures)
+
+pub +put-types-spec : {M : Type 1} → statement M
++put-types-spec = close μ-put-types λ t.
+    put-types-lts.spec (callees t) (put-types-at t) put-types.Post
+    (put-types-returns t) (put-types-mul-plain-type t) (put-types-add-plain-type t)
+    (put-types-mul-plain-type-2 t) (put-types-shared-slice-read-plain-type t)
+    (put-types-plain-type-requires t) (put-types-slice-aggregate-put t) (put-types-put-requires t)
+    (put-types-add-put-types t) (put-types-sub-put-types t) (put-types-put-types-requires t)
+    (put-types-same-length t) (put-types-returns-2 t)

@@ -18,13 +18,18 @@ add-emit-node-2 : tie.Need-add-emit-node-2
 add-emit-node-2 c = omega (arith, body-known (c .before .before .before .before .before .before .before .pre))
 
 emit-node-requires : tie.Need-emit-node-requires
-emit-node-requires c κs = body-some (c .before .before .before .before .before .before .before .pre) _ (c .before .before .first-slots .ensures) _ _ (omega arith) (omega arith)
+emit-node-requires c κs =
+    let start = c .before .before .before .before .before .before .before in
+    body-some (start .pre) _ (c .before .before .first-slots .ensures) _ _ (omega arith) (omega arith)
 
 same-length : tie.Need-same-length
 same-length c = search needs
 
 returns : tie.Need-returns
-returns c = body-done _ (c .before .before .before .before .before .first-slots .ensures) _ _ (omega arith) (omega arith) (c .before .before .emit-node .ensures)
+returns c =
+    let the-first-slots = c .before .before .before .before .before .first-slots in
+    body-done _ (the-first-slots .ensures) _ _ (omega arith) (omega arith)
+    (c .before .before .emit-node .ensures)
 
 pub emit-body-spec : {M : Type 1} → statement M
 emit-body-spec =

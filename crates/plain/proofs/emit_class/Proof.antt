@@ -5,69 +5,69 @@ use borrow.Author.Needs.{needs}
 use Rattle.plain.proofs.emit_class.Statement.{statement}
 use Rattle.plain.proofs.emit_class.Tie as tie
 
--- src/lib.rt:927:29
 mul-t11 : tie.Need-mul-t11
 mul-t11 c = search needs
 
--- src/lib.rt:927:29
 add-t12 : tie.Need-add-t12
 add-t12 c = search needs
 
--- src/lib.rt:927:24
 mul-t13 : tie.Need-mul-t13
 mul-t13 c = search needs
 
--- src/lib.rt:927:24
 shared-slice-read-t15 : tie.Need-shared-slice-read-t15
 shared-slice-read-t15 c = search needs
 
--- src/lib.rt:927:24
 add-t16 : tie.Need-add-t16
 add-t16 c = omega (arith, class-known (c .before .before .before .before .before .pre) .2)
 
--- src/lib.rt:928:29
 slice-aggregate-put : tie.Need-slice-aggregate-put
 slice-aggregate-put c = search needs
 
--- src/lib.rt:928:9
 put-requires : tie.Need-put-requires
-put-requires c κs = omega (arith, class-known (c .before .before .before .before .before .before .before .pre) .3)
+put-requires c κs =
+    let start = c .before .before .before .before .before .before .before in
+    omega (arith, class-known (start .pre) .3)
 
--- src/lib.rt:929:28
 add-skip : tie.Need-add-skip
 add-skip c = search needs
 
--- src/lib.rt:929:9
 skip-requires : tie.Need-skip-requires
 skip-requires c κs = search needs
 
--- src/lib.rt:930:38
 add-put-fields : tie.Need-add-put-fields
 add-put-fields c = search needs
 
--- src/lib.rt:930:46
 sub-put-fields : tie.Need-sub-put-fields
 sub-put-fields c = search needs
 
--- src/lib.rt:930:46
 sub-put-fields-2 : tie.Need-sub-put-fields-2
 sub-put-fields-2 c = search needs
 
--- src/lib.rt:930:9
 put-fields-requires : tie.Need-put-fields-requires
-put-fields-requires c κs = let d = class-fields (c .before .before .before .before .before .before .before .before .before .before .before .before .pre) _ _ _ (c .before .skip .ensures) refl (c .before .before .before .before .put .ensures .ended) in (d .0, d .1)
+put-fields-requires c κs =
+    let start = c .before .before .before .before .before .before .before .before .before .before .before .before in
+    let the-put = c .before .before .before .before .put in
+    let d = class-fields (start .pre) _ _ _ (c .before .skip .ensures) refl (the-put .ensures .ended) in
+    (d .0, d .1)
 
--- src/lib.rt:931:5
 emit-methods-requires : tie.Need-emit-methods-requires
-emit-methods-requires c κs = class-some (c .before .before .before .before .before .skip .ensures) refl (c .before .before .before .before .before .before .before .before .put .ensures) (c .before .before .before .put-fields .ensures) (c .before .before .before .before .before .before .before .before .before .before .before .before .before .before .before .before .pre)
+emit-methods-requires c κs =
+    let start = c .before .before .before .before .before .before .before .before .before .before .before .before .before .before .before .before in
+    let the-put = c .before .before .before .before .before .before .before .before .put in
+    let the-skip = c .before .before .before .before .before .skip in
+    class-some (the-skip .ensures) refl (the-put .ensures) (c .before .before .before .put-fields .ensures)
+    (start .pre)
 
--- src/lib.rt:916:1
 same-length : tie.Need-same-length
 same-length c = search needs
 
--- src/lib.rt:916:1
 returns : tie.Need-returns
-returns c = class-done (c .before .before .before .before .before .before .before .before .skip .ensures) refl (c .before .before .before .before .before .before .before .before .before .before .before .put .ensures) (c .before .before .before .before .before .before .put-fields .ensures) refl (c .before .before .emit-methods .ensures)
+returns c =
+    let the-put = c .before .before .before .before .before .before .before .before .before .before .before .put in
+    let the-skip = c .before .before .before .before .before .before .before .before .skip in
+    let the-put-fields = c .before .before .before .before .before .before .put-fields in
+    class-done (the-skip .ensures) refl (the-put .ensures) (the-put-fields .ensures) refl
+    (c .before .before .emit-methods .ensures)
 
 pub emit-class-spec : {M : Type 1} → statement M
 emit-class-spec =

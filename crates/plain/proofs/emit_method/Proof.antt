@@ -36,22 +36,37 @@ slice-aggregate-put : tie.Need-slice-aggregate-put
 slice-aggregate-put c = search needs
 
 put-requires : tie.Need-put-requires
-put-requires c κs = omega (arith, method-known (c .before .before .before .before .before .before .before .before .before .pre) .1)
+put-requires c κs =
+    let start = c .before .before .before .before .before .before .before .before .before in
+    omega (arith, method-known (start .pre) .1)
 
 add-put-types : tie.Need-add-put-types
 add-put-types c = search needs
 
 put-types-requires : tie.Need-put-types-requires
-put-types-requires c κs = (method-types (c .before .before .before .before .before .before .before .before .before .before .before .before .before .pre), omega (arith, method-known (c .before .before .before .before .before .before .before .before .before .before .before .before .before .pre) .1, c .before .before .before .put .ensures .ended))
+put-types-requires c κs =
+    let start = c .before .before .before .before .before .before .before .before .before .before .before .before .before in (
+      method-types (start .pre),
+      omega (arith, method-known (start .pre) .1, c .before .before .before .put .ensures .ended),
+    )
 
 emit-body-requires : tie.Need-emit-body-requires
-emit-body-requires c κs = method-body (c .before .before .before .before .before .before .before .before .before .before .before .before .before .before .before .before .before .pre) _ (method-ended (c .before .before .before .before .before .before .before .before .before .before .before .before .before .before .before .before .before .pre) (c .before .before .before .before .before .before .before .put .ensures) (c .before .before .before .put-types .ensures))
+emit-body-requires c κs =
+    let start = c .before .before .before .before .before .before .before .before .before .before .before .before .before .before .before .before .before in
+    let the-put = c .before .before .before .before .before .before .before .put in
+    method-body (start .pre) _
+    (method-ended (start .pre) (the-put .ensures) (c .before .before .before .put-types .ensures))
 
 same-length : tie.Need-same-length
 same-length c = search needs
 
 returns : tie.Need-returns
-returns c = method-done (c .before .before .before .before .before .before .before .before .before .before .before .before .before .before .plain-type .ensures) (c .before .before .before .before .before .before .before .before .before .before .put .ensures) (c .before .before .before .before .before .before .put-types .ensures) (c .before .before .emit-body .ensures)
+returns c =
+    let the-plain-type = c .before .before .before .before .before .before .before .before .before .before .before .before .before .before .plain-type in
+    let the-put = c .before .before .before .before .before .before .before .before .before .before .put in
+    let the-put-types = c .before .before .before .before .before .before .put-types in
+    method-done (the-plain-type .ensures) (the-put .ensures) (the-put-types .ensures)
+    (c .before .before .emit-body .ensures)
 
 pub emit-method-spec : {M : Type 1} → statement M
 emit-method-spec =

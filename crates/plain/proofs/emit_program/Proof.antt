@@ -5,41 +5,52 @@ use borrow.Author.Needs.{needs}
 use Rattle.plain.proofs.emit_program.Statement.{statement}
 use Rattle.plain.proofs.emit_program.Tie as tie
 
--- src/lib.rt:962:25
 slice-aggregate-put : tie.Need-slice-aggregate-put
 slice-aggregate-put c = search needs
 
--- src/lib.rt:962:9
 put-requires : tie.Need-put-requires
 put-requires c κs = search needs
 
--- src/lib.rt:963:9
 emit-classes-requires : tie.Need-emit-classes-requires
-emit-classes-requires c κs = program-some-classes (c .before .before .before .before .before .before .before .before .before .before .pre) _ (omega (arith, c .before .before .before .put .ensures .ended))
+emit-classes-requires c κs =
+    let start = c .before .before .before .before .before .before .before .before .before .before in
+    program-some-classes (start .pre) _ (omega (arith, c .before .before .before .put .ensures .ended))
 
--- src/lib.rt:965:31
 slice-aggregate-put-2 : tie.Need-slice-aggregate-put-2
 slice-aggregate-put-2 c = search needs
 
--- src/lib.rt:965:9
 put-requires-2 : tie.Need-put-requires-2
-put-requires-2 c κs = omega (arith, program-room (c .before .before .before .before .before .before .before .before .put .ensures) (c .before .before .before .before .emit-classes .ensures) (c .before .before .before .before .before .before .before .before .before .before .before .before .before .before .before .pre) .0)
+put-requires-2 c κs =
+    let start = c .before .before .before .before .before .before .before .before .before .before .before .before .before .before .before in
+    let the-put = c .before .before .before .before .before .before .before .before .put in
+    let the-emit-classes = c .before .before .before .before .emit-classes in
+    omega (arith, program-room (the-put .ensures) (the-emit-classes .ensures) (start .pre) .0)
 
--- src/lib.rt:966:54
 add-emit-body : tie.Need-add-emit-body
-add-emit-body c = omega (arith, program-room (c .before .before .before .before .before .before .before .before .before .before .before .before .before .put .ensures) (c .before .before .before .before .before .before .before .before .before .emit-classes .ensures) (c .before .before .before .before .before .before .before .before .before .before .before .before .before .before .before .before .before .before .before .before .pre) .1)
+add-emit-body c =
+    let start = c .before .before .before .before .before .before .before .before .before .before .before .before .before .before .before .before .before .before .before .before in
+    let the-put = c .before .before .before .before .before .before .before .before .before .before .before .before .before .put in
+    let the-emit-classes = c .before .before .before .before .before .before .before .before .before .emit-classes in
+    omega (arith, program-room (the-put .ensures) (the-emit-classes .ensures) (start .pre) .1)
 
--- src/lib.rt:966:9
 emit-body-requires : tie.Need-emit-body-requires
-emit-body-requires c κs = program-some-body (c .before .before .before .before .before .before .before .before .before .before .before .before .before .put .ensures) (c .before .before .before .before .before .before .before .before .before .emit-classes .ensures) (c .before .before .before .before .before .before .before .before .before .before .before .before .before .before .before .before .before .before .before .before .pre) (c .before .before .before .before .put2 .ensures)
+emit-body-requires c κs =
+    let start = c .before .before .before .before .before .before .before .before .before .before .before .before .before .before .before .before .before .before .before .before in
+    let the-put = c .before .before .before .before .before .before .before .before .before .before .before .before .before .put in
+    let the-emit-classes = c .before .before .before .before .before .before .before .before .before .emit-classes in
+    let the-put2 = c .before .before .before .before .put2 in
+    program-some-body (the-put .ensures) (the-emit-classes .ensures) (start .pre) (the-put2 .ensures)
 
--- src/lib.rt:957:1
 same-length : tie.Need-same-length
 same-length c = search needs
 
--- src/lib.rt:957:1
 returns : tie.Need-returns
-returns c = program-done (c .before .before .before .before .before .before .before .before .before .before .before .before .before .before .before .before .put .ensures) (c .before .before .before .before .before .before .before .before .before .before .before .before .emit-classes .ensures) (c .before .before .before .before .before .before .before .put2 .ensures) (c .before .before .emit-body .ensures)
+returns c =
+    let the-put = c .before .before .before .before .before .before .before .before .before .before .before .before .before .before .before .before .put in
+    let the-emit-classes = c .before .before .before .before .before .before .before .before .before .before .before .before .emit-classes in
+    let the-put2 = c .before .before .before .before .before .before .before .put2 in
+    program-done (the-put .ensures) (the-emit-classes .ensures) (the-put2 .ensures)
+    (c .before .before .emit-body .ensures)
 
 pub emit-program-spec : {M : Type 1} → statement M
 emit-program-spec =

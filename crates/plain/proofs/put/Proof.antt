@@ -34,7 +34,9 @@ loop-less : tie.Need-loop-less Inv-loop μ-loop
 loop-less c = omega arith
 
 loop-again : tie.Need-loop-again Inv-loop μ-loop
-loop-again c = putting-step (c .before .before .before .before .before .before .loop .inv) (omega arith) (c .before .before .put-number .ensures)
+loop-again c =
+    let the-loop = c .before .before .before .before .before .before .loop in
+    putting-step (the-loop .inv) (omega arith) (c .before .before .put-number .ensures)
 
 add-result : tie.Need-add-result Inv-loop μ-loop
 add-result c = omega arith

@@ -1,5 +1,6 @@
 use Rattle.plain.proofs.Writing.{written-long}
-use Rattle.plain.proofs.Renewing.{change-root, change-copies, change-after, change-done, change-this, change-other, head-zero, head-other}
+use Rattle.plain.proofs.Renewing.{change-root, change-copies, change-after, change-done, change-this}
+use Rattle.plain.proofs.Renewing.{change-other, head-zero, head-other}
 use mathlib.Core.Path.{_∙_}
 use Prim.Native.Nat.{_+_, _-_, _*_}
 use native.Mathlib.Omega.{arith}
@@ -20,13 +21,19 @@ shared-slice-read-root : tie.Need-shared-slice-read-root
 shared-slice-read-root c = omega (arith, change-root (c .before .before .before .before .pre .0) .0)
 
 cast-root : tie.Need-cast-root
-cast-root c = omega (arith, c .shared-slice-known3 .given (c .before .before .before .before .args .target * 576 + 514))
+cast-root c =
+    let start = c .before .before .before .before in
+    omega (arith, c .shared-slice-known3 .given (start .args .target * 576 + 514))
 
 cast-r : tie.Need-cast-r
-cast-r c = omega (arith, c .shared-slice-known3 .given (c .before .before .before .before .args .target * 576 + 514))
+cast-r c =
+    let start = c .before .before .before .before in
+    omega (arith, c .shared-slice-known3 .given (start .args .target * 576 + 514))
 
 add-r : tie.Need-add-r
-add-r c = omega (arith, c .shared-slice-known3 .given (c .before .before .before .before .args .target * 576 + 514))
+add-r c =
+    let start = c .before .before .before .before in
+    omega (arith, c .shared-slice-known3 .given (start .args .target * 576 + 514))
 
 add-t27 : tie.Need-add-t27
 add-t27 c = search needs
@@ -35,22 +42,50 @@ slice-aggregate-put : tie.Need-slice-aggregate-put
 slice-aggregate-put c = search needs
 
 put-requires : tie.Need-put-requires
-put-requires c κs = omega (arith, change-root (c .before .before .before .before .before .before .before .pre .0) .1, head-zero (c .before .before .if1 .taken))
+put-requires c κs =
+    let start = c .before .before .before .before .before .before .before in
+    omega (arith, change-root (start .pre .0) .1, head-zero (c .before .before .if1 .taken))
 
 put-renew-requires : tie.Need-put-renew-requires
-put-renew-requires c κs = (change-copies (c .before .before .before .before .before .before .before .before .before .before .before .pre .0) _ 28 (head-zero (c .before .before .before .before .before .before .if1 .taken)) (c .before .before .before .put .ensures .ended), (c .before .before .before .before .before .before .before .before .before .before .before .pre .1 .0, c .before .before .before .before .before .before .before .before .before .before .before .pre .1 .1, omega (arith, c .before .before .before .before .before .before .before .shared-slice-known3 .given (c .before .before .before .before .before .before .before .before .before .before .before .args .target * 576 + 514))))
+put-renew-requires c κs =
+    let start = c .before .before .before .before .before .before .before .before .before .before .before in
+    let the-shared-slice-known3 = c .before .before .before .before .before .before .before .shared-slice-known3 in
+    let the-if1 = c .before .before .before .before .before .before .if1 in (
+      change-copies (start .pre .0) _ 28 (head-zero (the-if1 .taken))
+          (c .before .before .before .put .ensures .ended),
+      (
+        start .pre .1 .0,
+        start .pre .1 .1,
+        omega (arith, the-shared-slice-known3 .given (start .args .target * 576 + 514)),
+      ),
+    )
 
 slice-aggregate-put-2 : tie.Need-slice-aggregate-put-2
 slice-aggregate-put-2 c = search needs
 
 put-requires-2 : tie.Need-put-requires-2
-put-requires-2 c κs = change-after (c .before .before .before .before .before .before .before .before .before .before .before .before .before .before .before .before .pre .0) (head-zero (c .before .before .before .before .before .before .before .before .before .before .before .if1 .taken)) (c .before .before .before .before .before .before .before .before .put .ensures .ended) (c .before .before .before .before .put-renew .ensures)
+put-requires-2 c κs =
+    let start = c .before .before .before .before .before .before .before .before .before .before .before .before .before .before .before .before in
+    let the-if1 = c .before .before .before .before .before .before .before .before .before .before .before .if1 in
+    let the-put = c .before .before .before .before .before .before .before .before .put in
+    let the-put-renew = c .before .before .before .before .put-renew in
+    change-after (start .pre .0) (head-zero (the-if1 .taken)) (the-put .ensures .ended)
+    (the-put-renew .ensures)
 
 same-length : tie.Need-same-length
-same-length c = written-long (c .before .before .put2 .ensures) ∙ c .before .before .before .before .before .before .before .put-renew .kept .1 .1 .0 ∙ written-long (c .before .before .before .before .before .before .before .before .before .before .before .put .ensures)
+same-length c =
+    let the-put = c .before .before .before .before .before .before .before .before .before .before .before .put in
+    let the-put-renew = c .before .before .before .before .before .before .before .put-renew in
+    written-long (c .before .before .put2 .ensures) ∙ the-put-renew .kept .1 .1 .0
+    ∙ written-long (the-put .ensures)
 
 returns : tie.Need-returns
-returns c = change-done _ (change-this _ _ _ (c .before .before .before .before .before .before .before .before .before .before .before .before .before .before .if1 .taken)) (c .before .before .before .before .before .before .before .before .before .before .before .put .ensures) (c .before .before .before .before .before .before .before .put-renew .ensures) (c .before .before .put2 .ensures)
+returns c =
+    let the-if1 = c .before .before .before .before .before .before .before .before .before .before .before .before .before .before .if1 in
+    let the-put = c .before .before .before .before .before .before .before .before .before .before .before .put in
+    let the-put-renew = c .before .before .before .before .before .before .before .put-renew in
+    change-done _ (change-this _ _ _ (the-if1 .taken)) (the-put .ensures) (the-put-renew .ensures)
+    (c .before .before .put2 .ensures)
 
 add-t25 : tie.Need-add-t25
 add-t25 c = search needs
@@ -59,22 +94,50 @@ slice-aggregate-put-3 : tie.Need-slice-aggregate-put-3
 slice-aggregate-put-3 c = search needs
 
 put-requires-3 : tie.Need-put-requires-3
-put-requires-3 c κs = omega (arith, change-root (c .before .before .before .before .before .before .before .pre .0) .1, head-other (c .before .before .if1 .left))
+put-requires-3 c κs =
+    let start = c .before .before .before .before .before .before .before in
+    omega (arith, change-root (start .pre .0) .1, head-other (c .before .before .if1 .left))
 
 put-renew-requires-2 : tie.Need-put-renew-requires-2
-put-renew-requires-2 c κs = (change-copies (c .before .before .before .before .before .before .before .before .before .before .before .pre .0) _ 36 (head-other (c .before .before .before .before .before .before .if1 .left)) (c .before .before .before .put3 .ensures .ended), (c .before .before .before .before .before .before .before .before .before .before .before .pre .1 .0, c .before .before .before .before .before .before .before .before .before .before .before .pre .1 .1, omega (arith, c .before .before .before .before .before .before .before .shared-slice-known3 .given (c .before .before .before .before .before .before .before .before .before .before .before .args .target * 576 + 514))))
+put-renew-requires-2 c κs =
+    let start = c .before .before .before .before .before .before .before .before .before .before .before in
+    let the-shared-slice-known3 = c .before .before .before .before .before .before .before .shared-slice-known3 in
+    let the-if1 = c .before .before .before .before .before .before .if1 in (
+      change-copies (start .pre .0) _ 36 (head-other (the-if1 .left))
+          (c .before .before .before .put3 .ensures .ended),
+      (
+        start .pre .1 .0,
+        start .pre .1 .1,
+        omega (arith, the-shared-slice-known3 .given (start .args .target * 576 + 514)),
+      ),
+    )
 
 slice-aggregate-put-4 : tie.Need-slice-aggregate-put-4
 slice-aggregate-put-4 c = search needs
 
 put-requires-4 : tie.Need-put-requires-4
-put-requires-4 c κs = change-after (c .before .before .before .before .before .before .before .before .before .before .before .before .before .before .before .before .pre .0) (head-other (c .before .before .before .before .before .before .before .before .before .before .before .if1 .left)) (c .before .before .before .before .before .before .before .before .put3 .ensures .ended) (c .before .before .before .before .put-renew2 .ensures)
+put-requires-4 c κs =
+    let start = c .before .before .before .before .before .before .before .before .before .before .before .before .before .before .before .before in
+    let the-if1 = c .before .before .before .before .before .before .before .before .before .before .before .if1 in
+    let the-put3 = c .before .before .before .before .before .before .before .before .put3 in
+    let the-put-renew2 = c .before .before .before .before .put-renew2 in
+    change-after (start .pre .0) (head-other (the-if1 .left)) (the-put3 .ensures .ended)
+    (the-put-renew2 .ensures)
 
 same-length-2 : tie.Need-same-length-2
-same-length-2 c = written-long (c .before .before .put4 .ensures) ∙ c .before .before .before .before .before .before .before .put-renew2 .kept .1 .1 .0 ∙ written-long (c .before .before .before .before .before .before .before .before .before .before .before .put3 .ensures)
+same-length-2 c =
+    let the-put3 = c .before .before .before .before .before .before .before .before .before .before .before .put3 in
+    let the-put-renew2 = c .before .before .before .before .before .before .before .put-renew2 in
+    written-long (c .before .before .put4 .ensures) ∙ the-put-renew2 .kept .1 .1 .0
+    ∙ written-long (the-put3 .ensures)
 
 returns-2 : tie.Need-returns-2
-returns-2 c = change-done _ (change-other _ _ _ (c .before .before .before .before .before .before .before .before .before .before .before .before .before .before .if1 .left)) (c .before .before .before .before .before .before .before .before .before .before .before .put3 .ensures) (c .before .before .before .before .before .before .before .put-renew2 .ensures) (c .before .before .put4 .ensures)
+returns-2 c =
+    let the-if1 = c .before .before .before .before .before .before .before .before .before .before .before .before .before .before .if1 in
+    let the-put3 = c .before .before .before .before .before .before .before .before .before .before .before .put3 in
+    let the-put-renew2 = c .before .before .before .before .before .before .before .put-renew2 in
+    change-done _ (change-other _ _ _ (the-if1 .left)) (the-put3 .ensures) (the-put-renew2 .ensures)
+    (c .before .before .put4 .ensures)
 
 pub put-change-spec : {M : Type 1} → statement M
 put-change-spec =

@@ -47,28 +47,57 @@ put-requires : tie.Need-put-requires
 put-requires c κs = omega (arith, renew-known (c .before .before .before .before .before .before .pre .0) .2)
 
 mul-put-copies : tie.Need-mul-put-copies
-mul-put-copies c = omega (arith, renew-known (c .before .before .before .before .before .before .before .before .before .before .pre .0) .0)
+mul-put-copies c =
+    let start = c .before .before .before .before .before .before .before .before .before .before in
+    omega (arith, renew-known (start .pre .0) .0)
 
 add-put-copies : tie.Need-add-put-copies
-add-put-copies c = omega (arith, renew-known (c .before .before .before .before .before .before .before .before .before .before .pre .0) .0)
+add-put-copies c =
+    let start = c .before .before .before .before .before .before .before .before .before .before in
+    omega (arith, renew-known (start .pre .0) .0)
 
 cast-put-copies : tie.Need-cast-put-copies
-cast-put-copies c = omega (arith, renew-known (c .before .before .before .before .before .before .before .before .before .before .pre .0) .1)
+cast-put-copies c =
+    let start = c .before .before .before .before .before .before .before .before .before .before in
+    omega (arith, renew-known (start .pre .0) .1)
 
 put-copies-requires : tie.Need-put-copies-requires
-put-copies-requires c κs = (renew-fields (c .before .before .before .before .before .before .before .before .before .before .pre .0), (omega (arith, renew-known (c .before .before .before .before .before .before .before .before .before .before .pre .0) .2, c .before .before .before .put .ensures .ended), omega (arith, c .before .before .before .before .before .before .before .before .before .before .pre .1 .0)))
+put-copies-requires c κs =
+    let start = c .before .before .before .before .before .before .before .before .before .before in (
+      renew-fields (start .pre .0),
+      (
+        omega (arith, renew-known (start .pre .0) .2, c .before .before .before .put .ensures .ended),
+        omega (arith, start .pre .1 .0),
+      ),
+    )
 
 slice-aggregate-put-2 : tie.Need-slice-aggregate-put-2
 slice-aggregate-put-2 c = search needs
 
 put-requires-2 : tie.Need-put-requires-2
-put-requires-2 c κs = omega (arith, renew-known (c .before .before .before .before .before .before .before .before .before .before .before .before .before .before .before .pre .0) .2, c .before .before .before .before .before .before .before .before .put .ensures .ended, copies-ended (c .before .before .before .before .before .before .before .before .before .before .before .before .before .before .before .pre .0) (c .before .before .before .before .put-copies .ensures))
+put-requires-2 c κs =
+    let start = c .before .before .before .before .before .before .before .before .before .before .before .before .before .before .before in
+    let the-put = c .before .before .before .before .before .before .before .before .put in
+    let the-put-copies = c .before .before .before .before .put-copies in
+    omega (
+      arith,
+      renew-known (start .pre .0) .2,
+      the-put .ensures .ended,
+      copies-ended (start .pre .0) (the-put-copies .ensures),
+    )
 
 same-length : tie.Need-same-length
-same-length c = written-long (c .before .before .put2 .ensures) ∙ c .before .before .before .before .before .before .before .put-copies .kept .1 .1 .0 ∙ written-long (c .before .before .before .before .before .before .before .before .before .before .before .put .ensures)
+same-length c =
+    let the-put = c .before .before .before .before .before .before .before .before .before .before .before .put in
+    let the-put-copies = c .before .before .before .before .before .before .before .put-copies in
+    written-long (c .before .before .put2 .ensures) ∙ the-put-copies .kept .1 .1 .0
+    ∙ written-long (the-put .ensures)
 
 returns : tie.Need-returns
-returns c = renew-done (c .before .before .before .before .before .before .before .before .before .before .before .put .ensures) (c .before .before .before .before .before .before .before .put-copies .ensures) (c .before .before .put2 .ensures)
+returns c =
+    let the-put = c .before .before .before .before .before .before .before .before .before .before .before .put in
+    let the-put-copies = c .before .before .before .before .before .before .before .put-copies in
+    renew-done (the-put .ensures) (the-put-copies .ensures) (c .before .before .put2 .ensures)
 
 pub put-renew-spec : {M : Type 1} → statement M
 put-renew-spec =

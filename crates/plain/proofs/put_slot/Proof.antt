@@ -12,25 +12,33 @@ slice-aggregate-put : tie.Need-slice-aggregate-put
 slice-aggregate-put c = search needs
 
 put-requires : tie.Need-put-requires
-put-requires c κs = omega (arith, ap length (slot-zero (c .before .before .if1 .taken)), c .before .before .before .before .pre)
+put-requires c κs =
+    let start = c .before .before .before .before in
+    omega (arith, ap length (slot-zero (c .before .before .if1 .taken)), start .pre)
 
 same-length : tie.Need-same-length
 same-length c = search needs
 
 returns : tie.Need-returns
-returns c = written-as (c .before .before .put .ensures) (sym (slot-zero (c .before .before .before .before .before .if1 .taken)))
+returns c =
+    let the-if1 = c .before .before .before .before .before .if1 in
+    written-as (c .before .before .put .ensures) (sym (slot-zero (the-if1 .taken)))
 
 slice-aggregate-put-2 : tie.Need-slice-aggregate-put-2
 slice-aggregate-put-2 c = search needs
 
 put-requires-2 : tie.Need-put-requires-2
-put-requires-2 c κs = omega (arith, ap length (slot-other (c .before .before .if1 .left)), c .before .before .before .before .pre)
+put-requires-2 c κs =
+    let start = c .before .before .before .before in
+    omega (arith, ap length (slot-other (c .before .before .if1 .left)), start .pre)
 
 same-length-2 : tie.Need-same-length-2
 same-length-2 c = search needs
 
 returns-2 : tie.Need-returns-2
-returns-2 c = written-as (c .before .before .put2 .ensures) (sym (slot-other (c .before .before .before .before .before .if1 .left)))
+returns-2 c =
+    let the-if1 = c .before .before .before .before .before .if1 in
+    written-as (c .before .before .put2 .ensures) (sym (slot-other (the-if1 .left)))
 
 pub put-slot-spec : {M : Type 1} → statement M
 put-slot-spec =

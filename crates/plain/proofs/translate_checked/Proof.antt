@@ -1,44 +1,56 @@
 use Prim.Native.Nat.{_-_}
-use Rattle.plain.proofs.Answers.{accepted-stand, answer-limits, answer-names, answer-some, answer-plain}
+use Rattle.plain.proofs.Answers.{accepted-stand, answer-limits, answer-names, answer-some}
+use Rattle.plain.proofs.Answers.{answer-plain}
 use borrow.Author.Needs.{needs}
 use Rattle.plain.proofs.translate_checked.Statement.{statement}
 use Rattle.plain.proofs.translate_checked.Tie as tie
 
--- src/lib.rt:1113:9
 over-limits-requires : tie.Need-over-limits-requires
 over-limits-requires c κs = search needs
 
--- src/lib.rt:1114:22
 enum-known-limited : tie.Need-enum-known-limited
 enum-known-limited c = search needs
 
--- src/lib.rt:1115:9
 enum-told : tie.Need-enum-told
 enum-told c = search needs
 
--- src/lib.rt:1115:9
 returns : tie.Need-returns
-returns c = answer-limits _ (c .before .before .before .before .before .before .before .before .pre) (c .before .before .over-limits .ensures) (c .enum-told .given .1)
+returns c =
+    let start = c .before .before .before .before .before .before .before .before in
+    answer-limits _ (start .pre) (c .before .before .over-limits .ensures) (c .enum-told .given .1)
 
--- src/lib.rt:1117:9
 reserved-name-requires : tie.Need-reserved-name-requires
-reserved-name-requires c κs = accepted-stand (c .before .before .before .before .before .before .before .before .before .pre)
+reserved-name-requires c κs =
+    let start = c .before .before .before .before .before .before .before .before .before in
+    accepted-stand (start .pre)
 
--- src/lib.rt:1119:9
 returns-2 : tie.Need-returns-2
-returns-2 c = answer-names _ (c .before .before .before .before .before .before .before .before .before .before .before .pre) (c .before .before .before .before .before .over-limits .ensures) (c .before .before .before .limited .given .1) (c .before .reserved-name .ensures) (c .if1 .taken)
+returns-2 c =
+    let start = c .before .before .before .before .before .before .before .before .before .before .before in
+    let the-over-limits = c .before .before .before .before .before .over-limits in
+    answer-names _ (start .pre) (the-over-limits .ensures) (c .before .before .before .limited .given .1)
+    (c .before .reserved-name .ensures) (c .if1 .taken)
 
--- src/lib.rt:1121:5
 write-plain-requires : tie.Need-write-plain-requires
-write-plain-requires c κs = answer-some (c .before .before .before .before .before .before .before .before .before .before .before .before .pre) (c .before .before .before .before .before .before .over-limits .ensures) (c .before .before .before .before .limited .given .1) (c .before .before .reserved-name .ensures) (c .before .if1 .left)
+write-plain-requires c κs =
+    let start = c .before .before .before .before .before .before .before .before .before .before .before .before in
+    let the-over-limits = c .before .before .before .before .before .before .over-limits in
+    let the-limited = c .before .before .before .before .limited in
+    answer-some (start .pre) (the-over-limits .ensures) (the-limited .given .1)
+    (c .before .before .reserved-name .ensures) (c .before .if1 .left)
 
--- src/lib.rt:1102:1
 same-length : tie.Need-same-length
 same-length c = search needs
 
--- src/lib.rt:1102:1
 returns-3 : tie.Need-returns-3
-returns-3 c = answer-plain (c .before .before .before .before .before .before .before .before .before .before .before .before .before .before .before .pre) (c .before .before .before .before .before .before .before .before .before .over-limits .ensures) (c .before .before .before .before .before .before .before .limited .given .1) (c .before .before .before .before .before .reserved-name .ensures) (c .before .before .before .before .if1 .left) (c .before .before .write-plain .ensures)
+returns-3 c =
+    let start = c .before .before .before .before .before .before .before .before .before .before .before .before .before .before .before in
+    let the-over-limits = c .before .before .before .before .before .before .before .before .before .over-limits in
+    let the-limited = c .before .before .before .before .before .before .before .limited in
+    let the-reserved-name = c .before .before .before .before .before .reserved-name in
+    let the-if1 = c .before .before .before .before .if1 in
+    answer-plain (start .pre) (the-over-limits .ensures) (the-limited .given .1) (the-reserved-name .ensures)
+    (the-if1 .left) (c .before .before .write-plain .ensures)
 
 pub translate-checked-spec : {M : Type 1} → statement M
 translate-checked-spec =

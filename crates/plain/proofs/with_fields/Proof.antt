@@ -4,31 +4,25 @@ use borrow.Author.Needs.{needs}
 use Rattle.plain.proofs.with_fields.Statement.{statement}
 use Rattle.plain.proofs.with_fields.Tie as tie
 
--- src/lib.rt:1058:24
 enum-known-formed : tie.Need-enum-known-formed
 enum-known-formed c = search needs
 
--- src/lib.rt:1060:17
 returns : tie.Need-returns
 returns c = search needs
 
--- src/lib.rt:1064:25
 enum-known-formed-2 : tie.Need-enum-known-formed-2
 enum-known-formed-2 c = search needs
 
--- src/lib.rt:1066:17
 returns-2 : tie.Need-returns-2
 returns-2 c = told-form (c .before .before .formed2 .given .1) (c .if2 .taken)
 
--- src/lib.rt:1069:17
 returns-3 : tie.Need-returns-3
-returns-3 c = told-before (c .before .before .before .formed2 .given .1) (c .before .if2 .left) (c .if3 .taken)
+returns-3 c =
+    told-before (c .before .before .before .formed2 .given .1) (c .before .if2 .left) (c .if3 .taken)
 
--- src/lib.rt:1054:1
 returns-4 : tie.Need-returns-4
 returns-4 c = told-fields (c .before .before .formed .given .1) (c .if1 .left)
 
--- src/lib.rt:1054:1
 returns-5 : tie.Need-returns-5
 returns-5 c = told-after (c .before .before .before .formed2 .given .1) (c .before .if2 .left) (c .if3 .left)
 

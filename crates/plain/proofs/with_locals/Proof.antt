@@ -1,4 +1,4 @@
-use Rattle.plain.proofs.Lines.{extended-start, extended-step, extended-end}
+use Rattle.plain.proofs.Shapes.{extended-start, extended-step, extended-end}
 use Rattle.plain.specs.Emission.{Extended}
 use Prim.Native.Nat.{_-_, _≤_}
 use native.Mathlib.Omega.{arith}
@@ -39,7 +39,8 @@ loop-again : tie.Need-loop-again Inv-loop μ-loop
 loop-again c = (extended-step (c .before .loop .inv .0) (omega arith), omega arith)
 
 returns : tie.Need-returns Inv-loop μ-loop
-returns c = extended-end (c .before .loop .inv .0) (omega (arith, c .before .loop .inv .1, c .loop-test .left))
+returns c =
+    extended-end (c .before .loop .inv .0) (omega (arith, c .before .loop .inv .1, c .loop-test .left))
 
 pub with-locals-spec : {M : Type 1} → statement M
 with-locals-spec =

@@ -5,29 +5,26 @@ use borrow.Author.Needs.{needs}
 use Rattle.plain.proofs.write_plain.Statement.{statement}
 use Rattle.plain.proofs.write_plain.Tie as tie
 
--- src/lib.rt:1093:53
 slice-aggregate-emit-program : tie.Need-slice-aggregate-emit-program
 slice-aggregate-emit-program c = search needs
 
--- src/lib.rt:1093:9
 emit-program-requires : tie.Need-emit-program-requires
 emit-program-requires c κs = search needs
 
--- src/lib.rt:1095:9
 returns : tie.Need-returns
 returns c = plain-short (c .before .before .emit-program .ensures) (c .if1 .taken)
 
--- src/lib.rt:1097:9
 emit-program-requires-2 : tie.Need-emit-program-requires-2
 emit-program-requires-2 c κs = search needs
 
--- src/lib.rt:1088:1
 same-length : tie.Need-same-length
 same-length c = search needs
 
--- src/lib.rt:1088:1
 returns-2 : tie.Need-returns-2
-returns-2 c = plain-done (c .before .before .before .before .before .before .emit-program .ensures) (c .before .before .before .before .if1 .left) (c .before .before .emit-program2 .ensures) refl
+returns-2 c =
+    let the-emit-program = c .before .before .before .before .before .before .emit-program in
+    let the-if1 = c .before .before .before .before .if1 in
+    plain-done (the-emit-program .ensures) (the-if1 .left) (c .before .before .emit-program2 .ensures) refl
 
 pub write-plain-spec : {M : Type 1} → statement M
 write-plain-spec =

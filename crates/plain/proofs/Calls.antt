@@ -1,0 +1,197 @@
+-- Laws of Q, which becomes a block with a temporary for the object and each argument: the method's
+-- parameters, the task of its nodes, and what they write together. Assumes nothing.
+use mathlib.Core.Path.{_≡_, sym, ap}
+use mathlib.Core.Bool.{false}
+use mathlib.Core.List.{List, [], _∷_, _++_}
+use Prim.Native.Nat.{ℕ, suc, _+_, _-_, _*_, _≤_, _<_}
+use native.Mathlib.Omega.{arith}
+use lib.ListN.{length, getD, length-append, length-map}
+use Rattle.language.specs.Rows.{P-parameter}
+use Rattle.language.specs.Tree.{DeclaredType, Expr, call, Exprs, count, size, Class}
+use Rattle.language.specs.Effects.{apply-class}
+use Rattle.language.specs.Program.{world}
+use Rattle.language.specs.Encoded.{TypesAt, Encoded}
+use Rattle.language.specs.Typing.{Environment, type-of, type-all}
+use Rattle.language.specs.Translation.{Shape, typed-or, typed-all-or, class-or, parameters-or, temporaries}
+use Rattle.language.specs.LookupClasses.{LooksUp}
+use Rattle.plain.specs.Numbers.{most-numbers, arguments-numbers, type-lines, read-lines, ProperAll}
+use Rattle.plain.specs.Numbers.{Nodes, also, nodes-of, how-many, rows-taken}
+use Rattle.plain.specs.Emission.{Written, SomeTypes, TypesWritten, SomeCall, SomeArguments, CallEmitted}
+use Rattle.plain.specs.Emission.{ArgumentsEmitted}
+use Rattle.plain.specs.Tasks.{NodeTask, NodesTask, EncodedNodes, LooksUpNodes, ReadyNodes, Ready}
+use Rattle.plain.specs.Tasks.{variable-count, MethodFound}
+use Rattle.plain.proofs.Writing.{written-then, whole}
+use Rattle.plain.proofs.Translated.{t-call}
+use Rattle.plain.proofs.Tasks.{node-row}
+use Rattle.plain.proofs.Shapes.{setting-temporaries, temporaries-none}
+use Rattle.plain.proofs.Lines.{types-length, reads-length}
+use Rattle.plain.proofs.Nodes.{encoded-nodes, looks-nodes, ready-nodes, nodes-counted, nodes-sizes}
+
+module _ {P : List Class} {E : List ℕ} {γ : Environment} {sh : Shape} {R T C S : List ℕ}
+    {at vars next place : ℕ} {m : ℕ} {e : Expr} {es : Exprs}
+    (t : NodeTask P E (call m e es) γ sh R T C S at vars next place) where
+  abbrev call-class : ℕ
+  call-class =
+      let a = typed-or (type-of (world P) e 0 γ) in
+      apply-class (world P) (typed-all-or (type-all (world P) es 0 (a .slots)) .effect) (class-or (a .type))
+
+  abbrev call-types : List DeclaredType
+  call-types = parameters-or (world P .method call-class m)
+
+  call-name : (getD R (at * 4 + 1) 0 ≡ m) × (getD R (at * 4 + 2) 0 ≡ count es) × (getD C at 0 ≡ call-class)
+      × (m < 256) × (call-class ≤ length P)
+  unfolding Encoded LooksUp Ready
+  call-name = (t .encoded .0 .row .first, t .encoded .0 .row .second, t .looks .0, t .ready .0, t .ready .1)
+
+  call-method : (length call-types ≡ count es) × ProperAll call-types
+      × TypesAt P-parameter R call-types (getD T (call-class * 576 + 256 + m) 0)
+  unfolding Ready MethodFound
+  call-method = let F = t .ready .2 in
+      let h = t .setting .lent .members .methods call-class m (F .0) (call-name .4) (call-name .3) (F .1) in
+      rw (F .1) (F .2, F .3, h)
+
+  abbrev call-arguments : Nodes
+  call-arguments = also e γ (nodes-of (world P) es (typed-or (type-of (world P) e 0 γ) .slots))
+
+  abbrev call-shape : Shape
+  call-shape = sh ++ (false ∷ temporaries call-types)
+
+  call-room : place + 24 + 8 * count es + length
+      (arguments-numbers (world P) call-shape (suc (length sh)) call-arguments) ≤ most-numbers
+  call-room = omega (
+    arith,
+    t .fits,
+    ap length (t-call (world P) γ sh m e es (call-method .0) (call-method .1)),
+    call-method .0,
+    types-length 86 call-types,
+    reads-length (suc (length sh) + 1) (count es),
+    length-append (type-lines 86 call-types)
+        (arguments-numbers (world P) call-shape (suc (length sh)) call-arguments
+        ++ ((81 ∷ m ∷ count es ∷ 0 ∷ 75 ∷ (call-class + 2) ∷ 0 ∷ 0 ∷ 71 ∷ 255 ∷ 0 ∷ 0 ∷ 73 ∷ suc (length sh)
+        ∷ 0 ∷ 0 ∷ []) ++ read-lines (suc (length sh) + 1) (count es))),
+    length-append (arguments-numbers (world P) call-shape (suc (length sh)) call-arguments)
+        ((81 ∷ m ∷ count es ∷ 0 ∷ 75 ∷ (call-class + 2) ∷ 0 ∷ 0 ∷ 71 ∷ 255 ∷ 0 ∷ 0 ∷ 73 ∷ suc (length sh) ∷ 0
+        ∷ 0 ∷ []) ++ read-lines (suc (length sh) + 1) (count es)),
+  )
+
+  call-nodes : (p : ℕ) → p ≡ place + 8 + 4 * count es
+      → NodesTask P E call-arguments call-shape R T C S (at + 1) vars (next + 1 + count es) p
+  unfolding Encoded LooksUp Ready EncodedNodes LooksUpNodes ReadyNodes variable-count
+  call-nodes p q =
+      let γ′ = typed-or (type-of (world P) e 0 γ) .slots in
+      let z : next + length (false ∷ temporaries call-types) ≡ next + 1 + count es =
+      omega (arith, call-method .0, length-map call-types (λ (t : DeclaredType). false)) in
+      record {
+        setting = rw z at (setting-temporaries (t .setting) (false ∷ temporaries call-types)
+            (temporaries-none call-types));
+        encoded = (t .encoded .1, encoded-nodes (world P) R E es γ′ (at + 1 + size e) (t .encoded .2));
+        looks = (t .looks .1, looks-nodes (world P) C es γ′ (at + 1 + size e) (t .looks .2));
+        ready = (t .ready .3, ready-nodes P es γ′ vars (t .ready .4));
+        low = omega (arith, t .low, q);
+      }
+
+module _ {R T C S : List ℕ} {at vars next place : ℕ} where
+  -- what is read on the way to the method's parameters
+  pub call-known : SomeCall R T C S at vars next place
+      → (at * 4 + 3 < length R) × (at < 60000) × (at < length C)
+      × (getD C at 0 * 576 + 256 + getD R (at * 4 + 1) 0 < length T) × (getD R (at * 4 + 1) 0 < 256)
+      × (place + 24 + 8 * getD R (at * 4 + 2) 0 ≤ most-numbers) × (next ≤ place)
+  call-known x = let t = x .task in let n = call-name t in let r = node-row t in
+      rw (n .0, n .1, n .2) (
+        r .0,
+        r .1,
+        r .2,
+        omega (arith, n .3, n .4, t .setting .lent .members .long),
+        n .3,
+        omega (arith, call-room t),
+        t .low,
+      )
+
+  pub call-some-types : SomeCall R T C S at vars next place
+      → SomeTypes R (getD T (getD C at 0 * 576 + 256 + getD R (at * 4 + 1) 0) 0) (getD R (at * 4 + 2) 0)
+  call-some-types x = let t = x .task in let n = call-name t in let h = call-method t in
+      rw (n .0, n .1, n .2) (record { letter = P-parameter; ts = call-types t; rows = h .2; counted = h .0 })
+
+  pub call-ended : {O O₁ O₂ : List ℕ} {p q c d : ℕ} → (x : SomeCall R T C S at vars next place)
+      → Written (66 ∷ c ∷ d ∷ 0 ∷ 86 ∷ 1 ∷ 0 ∷ 0 ∷ []) O O₁ place p
+      → TypesWritten R (getD T (getD C at 0 * 576 + 256 + getD R (at * 4 + 1) 0) 0) (getD R (at * 4 + 2) 0) 86
+      O₁ O₂ p q
+      → q ≡ place + 8 + 4 * getD R (at * 4 + 2) 0
+  call-ended x w v = let y = call-some-types x in
+      omega (
+        arith,
+        w .ended,
+        v .each (y .letter) (y .ts) (y .rows) (y .counted) .ended,
+        types-length 86 (y .ts),
+        y .counted,
+      )
+
+  pub call-some-arguments : (x : SomeCall R T C S at vars next place) (q : ℕ)
+      → q ≡ place + 8 + 4 * getD R (at * 4 + 2) 0
+      → SomeArguments R T C S (at + 1) vars (next + 1 + getD R (at * 4 + 2) 0) q (getD R (at * 4 + 2) 0 + 1)
+      next
+  unfolding how-many
+  call-some-arguments x q z = let t = x .task in let n = call-name t in
+      let z′ : q ≡ place + 8 + 4 * count (x .es) = omega (arith, z, n .1) in
+      rw (n .1) (record {
+        P = x .P;
+        E = x .E;
+        es = call-arguments t;
+        sh = call-shape t;
+        task = call-nodes t q z′;
+        counted = omega (
+          arith,
+          nodes-counted (world (x .P)) (x .es)
+              (typed-or (type-of (world (x .P)) (x .e) 0 (x .γ)) .slots),
+        );
+        fits = rw (z′, t .setting .free) (omega (arith, call-room t));
+        below = omega (arith, t .low, call-room t);
+      })
+
+  pub call-room-after : {O₁ O₂ : List ℕ} {q r b : ℕ} → SomeCall R T C S at vars next place
+      → q ≡ place + 8 + 4 * getD R (at * 4 + 2) 0
+      → ArgumentsEmitted R T C S O₁ O₂ (at + 1) vars (next + 1 + getD R (at * 4 + 2) 0) q
+      (getD R (at * 4 + 2) 0 + 1) next r b
+      → r + 16 + 4 * getD R (at * 4 + 2) 0 ≤ most-numbers
+  unfolding how-many
+  call-room-after {O₁} {O₂} {q} {r} {b} x z o = let t = x .task in let n = call-name t in
+      let z′ : q ≡ place + 8 + 4 * count (x .es) = omega (arith, z, n .1) in
+      let o′ = rw (n .1) at o in
+      let em = o′ .each (x .P) (x .E) (call-arguments t) (call-shape t) (call-nodes t q z′)
+      (omega (
+        arith,
+        nodes-counted (world (x .P)) (x .es)
+            (typed-or (type-of (world (x .P)) (x .e) 0 (x .γ)) .slots),
+      ))
+      (rw (z′, t .setting .free) (omega (arith, call-room t))) in
+      omega (arith, z′, n .1, rw (t .setting .free) at (em .written .ended), call-room t)
+
+  pub call-done : {O O₁ O₂ O₃ O₄ O₅ : List ℕ} {p q r p′ q′ b : ℕ}
+      → Written (66 ∷ (getD R (at * 4 + 2) 0 + 1) ∷ (getD R (at * 4 + 2) 0 + 2) ∷ 0 ∷ 86 ∷ 1 ∷ 0 ∷ 0 ∷ []) O
+      O₁ place p
+      → TypesWritten R (getD T (getD C at 0 * 576 + 256 + getD R (at * 4 + 1) 0) 0) (getD R (at * 4 + 2) 0) 86
+      O₁ O₂ p q
+      → ArgumentsEmitted R T C S O₂ O₃ (at + 1) vars (next + 1 + getD R (at * 4 + 2) 0) q
+      (getD R (at * 4 + 2) 0 + 1) next r b
+      → Written (81 ∷ getD R (at * 4 + 1) 0 ∷ getD R (at * 4 + 2) 0 ∷ 0 ∷ 75 ∷ (getD C at 0 + 2) ∷ 0 ∷ 0 ∷ 71
+      ∷ 255 ∷ 0 ∷ 0 ∷ 73 ∷ next ∷ 0 ∷ 0 ∷ []) O₃ O₄ r p′
+      → Written (read-lines (next + 1) (getD R (at * 4 + 2) 0)) O₄ O₅ p′ q′
+      → CallEmitted R T C S O O₅ at vars next place q′ b
+  unfolding size how-many rows-taken
+  call-done {O} {O₁} {O₂} {O₃} {O₄} {O₅} {p} {q} {r} {p′} {q′} {b} w v o l k = record {
+    each = λ P E m e es γ sh t.
+        let n = call-name t in let h = call-method t in
+        let γ′ = typed-or (type-of (world P) e 0 γ) .slots in
+        let x : SomeCall R T C S at vars next place =
+        record { P = P; E = E; m = m; e = e; es = es; γ = γ; sh = sh; task = t } in
+        let z : q ≡ place + 8 + 4 * count es = rw (n .1) at (call-ended x w v) in
+        let v′ = rw (n .0, n .1, n .2) at v in
+        let u = v′ .each P-parameter (call-types t) (h .2) (h .0) in
+        let o′ = rw (n .1) at o in
+        let em = o′ .each P E (call-arguments t) (call-shape t) (call-nodes t q z)
+        (omega (arith, nodes-counted (world P) es γ′))
+        (rw (z, t .setting .free) (omega (arith, call-room t))) in
+        whole (written-then w (written-then u (written-then (em .written) (written-then l k))))
+        (rw (n .0, n .1, n .2, t .setting .free) (sym (t-call (world P) γ sh m e es (h .0) (h .1))))
+        (omega (arith, em .passed, nodes-sizes (world P) es γ′));
+  }

@@ -1,0 +1,159 @@
+-- Laws of U, which becomes a block with two temporaries: the field's type, the task of its nodes, and what
+-- they write together. Assumes nothing.
+use mathlib.Core.Path.{_≡_, refl, sym, ap, _∙_}
+use mathlib.Core.Option.{Option}
+use mathlib.Core.Bool.{false}
+use mathlib.Core.List.{List, [], _∷_, _++_}
+use Prim.Native.Nat.{ℕ, suc, _+_, _-_, _*_, _≤_, _<_}
+use native.Mathlib.Omega.{arith}
+use lib.ListN.{length, getD, length-append}
+use Rattle.language.specs.Tree.{type-number, Expr, set, size, Field, Class}
+use Rattle.language.specs.World.{field-type}
+use Rattle.language.specs.Effects.{apply-class}
+use Rattle.language.specs.Program.{world}
+use Rattle.language.specs.ClassTables.{stored-place}
+use Rattle.language.specs.Encoded.{Encoded}
+use Rattle.language.specs.Typing.{Environment, type-of}
+use Rattle.language.specs.Translation.{Shape, plain-type, typed-or, class-or, type-or}
+use Rattle.language.specs.LookupClasses.{LooksUp}
+use Rattle.language.proofs.Lines.{line-at}
+use Rattle.plain.specs.Numbers.{most-numbers, arguments-numbers, plain-number, Proper, Nodes, none}
+use Rattle.plain.specs.Numbers.{also, how-many, rows-taken}
+use Rattle.plain.specs.Emission.{Written, SomeSet, SomeArguments, SetEmitted, ArgumentsEmitted}
+use Rattle.plain.specs.Tasks.{NodeTask, NodesTask, EncodedNodes, LooksUpNodes, ReadyNodes, Ready}
+use Rattle.plain.specs.Tasks.{variable-count, FieldFound}
+use Rattle.plain.proofs.Writing.{written-then, whole}
+use Rattle.plain.proofs.Translated.{t-set}
+use Rattle.plain.proofs.Tasks.{node-row}
+use Rattle.plain.proofs.Shapes.{setting-temporaries}
+
+module _ {P : List Class} {E : List ℕ} {γ : Environment} {sh : Shape} {R T C S : List ℕ}
+    {at vars next place : ℕ} {f : ℕ} {e e′ : Expr}
+    (t : NodeTask P E (set f e e′) γ sh R T C S at vars next place) where
+  abbrev set-class : ℕ
+  set-class =
+      let a = typed-or (type-of (world P) e 0 γ) in
+      apply-class (world P) (typed-or (type-of (world P) e′ 0 (a .slots)) .effect) (class-or (a .type))
+
+  set-name : (getD R (at * 4 + 1) 0 ≡ f) × (getD C at 0 ≡ set-class) × (f < 256) × (set-class ≤ length P)
+  unfolding Encoded LooksUp Ready
+  set-name = (t .encoded .0 .row .first, t .looks .0, t .ready .0, t .ready .1)
+
+  -- the field's entry, its row and its plain type
+  set-field : (i : ℕ) × (g : Field) × (getD T (set-class * 576 + f) 0 ≡ suc i)
+      × (set-class * 576 + 520 + i < length T) × (getD T (set-class * 576 + 520 + i) 0 * 4 + 3 < length R)
+      × (plain-number (getD R (getD T (set-class * 576 + 520 + i) 0 * 4 + 1) 0)
+      ≡ type-number (plain-type (type-or (field-type f (world P .fields set-class)))))
+  unfolding Ready FieldFound Proper field-type
+  set-field =
+      let F = t .ready .2 in
+      let M = t .setting .lent .members in
+      let row = line-at _ (world P .fields set-class) (set-class * 576 + 520)
+      (M .fields set-class (set-name .3)) (F .0) (F .1) (F .3) in (
+        F .0,
+        F .1,
+        M .places set-class f (set-name .3) (set-name .2) ∙ ap (λ (o : Option ℕ). stored-place o) (F .2),
+        row .0,
+        row .1 .within,
+        ap (λ (n : ℕ). plain-number n) (row .1 .first) ∙ F .4 ∙ rw (F .2, F .3) refl,
+      )
+
+  abbrev set-arguments : Nodes
+  set-arguments = also e γ (also e′ (typed-or (type-of (world P) e 0 γ) .slots) none)
+
+  set-room : place + 32 + length
+      (arguments-numbers (world P) (sh ++ (false ∷ false ∷ [])) (suc (length sh)) set-arguments)
+      ≤ most-numbers
+  set-room = omega (
+    arith,
+    t .fits,
+    ap length (t-set (world P) γ sh f e e′),
+    length-append (arguments-numbers (world P) (sh ++ (false ∷ false ∷ [])) (suc (length sh)) set-arguments)
+        (85 ∷ f ∷ 0 ∷ 0 ∷ 75 ∷ (set-class + 2) ∷ 0 ∷ 0 ∷ 71 ∷ 255 ∷ 0 ∷ 0 ∷ 73 ∷ suc (length sh) ∷ 0 ∷ 0 ∷ 73
+        ∷ (suc (length sh) + 1) ∷ 0 ∷ 0 ∷ []),
+  )
+
+  set-nodes : (p : ℕ) → p ≡ place + 12
+      → NodesTask P E set-arguments (sh ++ (false ∷ false ∷ [])) R T C S (at + 1) vars (next + 2) p
+  unfolding Encoded LooksUp Ready EncodedNodes LooksUpNodes ReadyNodes variable-count
+  set-nodes p q = record {
+    setting = setting-temporaries (t .setting) (false ∷ false ∷ []) refl;
+    encoded = (t .encoded .1, (t .encoded .2, tt));
+    looks = (t .looks .1, (t .looks .2, tt));
+    ready = (t .ready .3, (t .ready .4, tt));
+    low = omega (arith, t .low, q);
+  }
+
+module _ {R T C S : List ℕ} {at vars next place : ℕ} where
+  -- what is read on the way to the field's type
+  pub set-known : SomeSet R T C S at vars next place
+      → (at * 4 + 3 < length R) × (at < 60000) × (at < length C)
+      × (getD C at 0 * 576 + getD R (at * 4 + 1) 0 < length T) × (getD R (at * 4 + 1) 0 < 256)
+      × (getD C at 0 * 576 + 519 + getD T (getD C at 0 * 576 + getD R (at * 4 + 1) 0) 0 < length T)
+      × (getD T (getD C at 0 * 576 + 519 + getD T (getD C at 0 * 576 + getD R (at * 4 + 1) 0) 0) 0 * 4 + 3
+      < length R)
+      × (place + 32 ≤ most-numbers) × (next ≤ most-numbers)
+  set-known x =
+      let t = x .task in let n = set-name t in let r = node-row t in let d = set-field t in
+      let c = set-class t in
+      let z : c * 576 + 519 + suc (d .0) ≡ c * 576 + 520 + d .0 = omega arith in
+      rw (n .0, n .1, d .2, z) (
+        r .0,
+        r .1,
+        r .2,
+        omega (arith, n .2, n .3, t .setting .lent .members .long),
+        n .2,
+        d .3,
+        d .4,
+        omega (arith, set-room t),
+        omega (arith, t .low, set-room t),
+      )
+
+  pub set-ended : {O O₁ : List ℕ} {p : ℕ} {u : ℕ} → SomeSet R T C S at vars next place
+      → Written (66 ∷ 2 ∷ 3 ∷ 0 ∷ 86 ∷ 1 ∷ 0 ∷ 0 ∷ 86 ∷ u ∷ 0 ∷ 0 ∷ []) O O₁ place p
+      → SomeArguments R T C S (at + 1) vars (next + 2) p 2 next
+  unfolding how-many
+  set-ended x w = let t = x .task in let z : _ ≡ place + 12 = w .ended in
+      record {
+        P = x .P;
+        E = x .E;
+        es = set-arguments t;
+        sh = x .sh ++ (false ∷ false ∷ []);
+        task = set-nodes t _ z;
+        counted = refl;
+        fits = rw (z, t .setting .free) (omega (arith, set-room t));
+        below = omega (arith, t .low, set-room t);
+      }
+
+  pub set-room-after : {O₁ O₂ : List ℕ} {p q b : ℕ} → SomeSet R T C S at vars next place → p ≡ place + 12
+      → ArgumentsEmitted R T C S O₁ O₂ (at + 1) vars (next + 2) p 2 next q b
+      → q + 20 ≤ most-numbers
+  unfolding how-many
+  set-room-after x z m = let t = x .task in
+      let em = m .each (x .P) (x .E) (set-arguments t) (x .sh ++ (false ∷ false ∷ [])) (set-nodes t _ z) refl
+      (rw (z, t .setting .free) (omega (arith, set-room t))) in
+      omega (arith, em .written .ended, z, rw (t .setting .free) at (em .written .ended), set-room t)
+
+  pub set-done : {O O₁ O₂ O₃ : List ℕ} {p q p′ b u : ℕ}
+      → u ≡ plain-number (getD R (getD T (getD C at 0 * 576 + 519 + getD T
+      (getD C at 0 * 576 + getD R (at * 4 + 1) 0) 0) 0 * 4 + 1) 0)
+      → Written (66 ∷ 2 ∷ 3 ∷ 0 ∷ 86 ∷ 1 ∷ 0 ∷ 0 ∷ 86 ∷ u ∷ 0 ∷ 0 ∷ []) O O₁ place p
+      → ArgumentsEmitted R T C S O₁ O₂ (at + 1) vars (next + 2) p 2 next q b
+      → Written (85 ∷ getD R (at * 4 + 1) 0 ∷ 0 ∷ 0 ∷ 75 ∷ (getD C at 0 + 2) ∷ 0 ∷ 0 ∷ 71 ∷ 255 ∷ 0 ∷ 0 ∷ 73 ∷
+      next ∷ 0 ∷ 0 ∷ 73 ∷ (next + 1) ∷ 0 ∷ 0 ∷ []) O₂ O₃ q p′
+      → SetEmitted R T C S O O₃ at vars next place p′ b
+  unfolding size how-many rows-taken
+  set-done {O} {O₁} {O₂} {O₃} {p} {q} {p′} {b} {u} k w m v = record {
+    each = λ P E f e e′ γ sh t.
+        let n = set-name t in let d = set-field t in let c = set-class t in
+        let z : p ≡ place + 12 = w .ended in
+        let y : c * 576 + 519 + suc (d .0) ≡ c * 576 + 520 + d .0 = omega arith in
+        let k′ : u ≡ type-number (plain-type (type-or (field-type f (world P .fields c)))) =
+        rw (n .0, n .1, d .2, y) at k ∙ d .5 in
+        let m′ = rw (t .setting .free) at m in
+        let em = m .each P E (set-arguments t) (sh ++ (false ∷ false ∷ [])) (set-nodes t p z) refl
+        (rw (z, t .setting .free) (omega (arith, set-room t))) in
+        whole (written-then w (written-then (em .written) v))
+        (rw (k′, n .0, n .1, t .setting .free) (sym (t-set (world P) γ sh f e e′)))
+        (omega (arith, em .passed));
+  }

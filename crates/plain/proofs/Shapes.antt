@@ -1,0 +1,127 @@
+-- Laws of shapes: which of the plain slots are variables, the plain slot of a source slot, and what becomes
+-- of these where temporaries or a block's locals are added. Assumes nothing.
+use mathlib.Core.Path.{_≡_, refl, sym, ap, _∙_}
+use mathlib.Core.Bool.{true, false}
+use mathlib.Core.Logic.{_⊎_, inl, inr}
+use mathlib.Core.List.{List, [], _∷_, _++_}
+use Prim.Native.Nat.{ℕ, zero, suc, _+_, _-_, _≤_, _<_}
+use native.Mathlib.Omega.{arith}
+use lib.ListN.{length, getD, length-append, length-map, set, length-set}
+use Rattle.language.specs.Tree.{DeclaredType, Class}
+use Rattle.language.specs.Translation.{Shape, position, plain-slot, variables, temporaries}
+use Rattle.language.proofs.Lines.{le-or-less}
+use Rattle.plain.specs.Tasks.{Setting, variable-count}
+use Rattle.plain.specs.Emission.{Extended}
+use native.Mathlib.Nat.{eq-or-lt-of-le}
+use lib.Seq.{getD-set-same, getD-set-other}
+
+variables-append : (a b : Shape) → variable-count (a ++ b) ≡ variable-count a + variable-count b
+unfolding variable-count
+variables-append [] b = omega arith
+variables-append (true ∷ a) b = omega (arith, variables-append a b)
+variables-append (false ∷ a) b = variables-append a b
+
+variables-all : (ts : List DeclaredType) → variable-count (variables ts) ≡ length ts
+unfolding variable-count
+variables-all [] = refl
+variables-all (t ∷ ts) = ap suc (variables-all ts)
+
+position-kept : (a b : Shape) (k : ℕ) → k < variable-count a → position (a ++ b) k ≡ position a k
+unfolding position variable-count
+position-kept [] b k h = absurd (omega (arith, h))
+position-kept (true ∷ a) b zero h = refl
+position-kept (true ∷ a) b (suc k) h = ap suc (position-kept a b k (omega (arith, h)))
+position-kept (false ∷ a) b k h = ap suc (position-kept a b k h)
+
+plain-slot-kept : (a b : Shape) (k : ℕ) → k < suc (variable-count a) → plain-slot (a ++ b) k ≡ plain-slot a k
+unfolding plain-slot
+plain-slot-kept a b zero h = refl
+plain-slot-kept a b (suc k) h = ap suc (position-kept a b k (omega (arith, h)))
+
+position-all : (ts : List DeclaredType) (i : ℕ) → i < length ts → position (variables ts) i ≡ i
+unfolding position
+position-all [] i h = absurd (omega (arith, h))
+position-all (t ∷ ts) zero h = refl
+position-all (t ∷ ts) (suc i) h = ap suc (position-all ts i (omega (arith, h)))
+
+position-added : (a : Shape) (ts : List DeclaredType) (k i : ℕ) → k ≡ variable-count a + i → i < length ts
+    → position (a ++ variables ts) k ≡ length a + i
+unfolding position variable-count
+position-added [] ts k i e h = let z : k ≡ i = omega (arith, e) in rw z (position-all ts i h ∙ omega arith)
+position-added (true ∷ a) ts zero i e h = absurd (omega (arith, e))
+position-added (true ∷ a) ts (suc k) i e h = let r = position-added a ts k i (omega (arith, e)) h in
+    omega (arith, r)
+position-added (false ∷ a) ts k i e h = let r = position-added a ts k i e h in omega (arith, r)
+
+module _ {P : List Class} {R T C S : List ℕ} {sh : Shape} {vars next : ℕ} (x : Setting P R T C S sh vars next)
+  where
+    -- temporaries added
+    pub setting-temporaries : (fs : Shape) → variable-count fs ≡ 0
+        → Setting P R T C S (sh ++ fs) vars (next + length fs)
+    setting-temporaries fs z = record {
+      lent = x .lent;
+      wide = x .wide;
+      scope = x .scope;
+      variables = omega (arith, x .variables, variables-append sh fs, z);
+      free = omega (arith, x .free, length-append sh fs);
+      renumbered = λ k h. x .renumbered k h ∙ sym (plain-slot-kept sh fs k (omega (arith, h, x .variables)));
+    }
+
+    -- a block's locals added
+    pub setting-locals : (ts : List DeclaredType) (S′ : List ℕ) → Extended S S′ vars next (length ts)
+        → vars + length ts ≤ 32
+        → Setting P R T C S′ (sh ++ variables ts) (vars + length ts) (next + length ts)
+    unfolding plain-slot
+    setting-locals ts S′ y h = record {
+      lent = x .lent;
+      wide = y .wide;
+      scope = h;
+      variables = omega (arith, x .variables, variables-append sh (variables ts), variables-all ts);
+      free = omega (arith, x .free, length-append sh (variables ts), length-map ts (λ t. true));
+      renumbered = λ k l. go k l (le-or-less vars k);
+    }
+      where
+        go : (k : ℕ) → k < vars + length ts → (vars ≤ k) ⊎ (k < vars)
+            → getD S′ k 0 ≡ plain-slot (sh ++ variables ts) k
+        go k l (inr h) = y .kept k h ∙ x .renumbered k h
+            ∙ sym (plain-slot-kept sh (variables ts) k (omega (arith, h, x .variables)))
+        go k l (inl h) =
+            let i = k - vars in
+            let a : vars + i ≡ k = omega (arith, h) in
+            let b : k ≡ suc (variable-count sh + i) = omega (arith, h, x .variables) in
+            let c : getD S′ k 0 ≡ next + i = rw a at (y .added i (omega (arith, h, l))) in
+            let d : next + i ≡ suc (length sh + i) = omega (arith, x .free) in
+            c ∙ d ∙ ap suc (sym (position-added sh ts (variable-count sh + i) i refl (omega (arith, h, l))))
+            ∙ ap (λ (m : ℕ). plain-slot (sh ++ variables ts) m) (sym b)
+
+-- a slot's plain slot
+pub slot-at : {P : List Class} {R T C S : List ℕ} {sh : Shape} {vars next j k : ℕ}
+    → Setting P R T C S sh vars next → j ≡ k → k < vars → getD S j 0 ≡ plain-slot sh k
+slot-at x e h = rw e (x .renumbered _ h)
+
+pub temporaries-none : (ts : List DeclaredType) → variable-count (temporaries ts) ≡ 0
+unfolding variable-count
+temporaries-none [] = refl
+temporaries-none (t ∷ ts) = temporaries-none ts
+
+-- slots of a block's locals, the first i of them added
+pub extended-start : {S : List ℕ} {vars next : ℕ} → length S ≡ 32 → Extended S S vars next 0
+extended-start e = record { kept = λ k h. refl; added = λ i h. absurd (omega (arith, h)); wide = e }
+
+pub extended-step : {S S′ : List ℕ} {vars next i : ℕ} → Extended S S′ vars next i → vars + i < 32
+    → Extended S (set S′ (vars + i) (next + i)) vars next (i + 1)
+extended-step {S} {S′} {vars} {next} {i} x h = record {
+  kept = λ k l. getD-set-other S′ (vars + i) k (next + i) 0 (omega (arith, l)) ∙ x .kept k l;
+  added = λ j l. go j l;
+  wide = simp length-set (x .wide);
+}
+  where
+    go : (j : ℕ) → j < i + 1 → getD (set S′ (vars + i) (next + i)) (vars + j) 0 ≡ next + j
+    go j l = elim (let z : j ≤ i = omega (arith, l) in eq-or-lt-of-le z) [
+      | inl e ↦ rw e (getD-set-same S′ (vars + i) (next + i) 0 (omega (arith, h, x .wide)))
+      | inr n ↦ getD-set-other S′ (vars + i) (vars + j) (next + i) 0 (omega (arith, n)) ∙ x .added j n
+    ]
+
+pub extended-end : {S S′ : List ℕ} {vars next i count : ℕ} → Extended S S′ vars next i → i ≡ count
+    → Extended S S′ vars next count
+extended-end x e = rw e at x
