@@ -23,7 +23,7 @@ use Rattle.machine.specs.declared.Value.the-variants.{Null, Truth, Objec
 use Rattle.machine.specs.Machine.{Outcome, Gave, Raised, Stuck, Counts}
 use Rattle.machine.specs.declared.Target.the-variants.{Body, Fails}
 use Rattle.machine.specs.Machine.{value, decoded, outcome, Small, SmallOutcome, bare, told, view, Holds}
-use Rattle.machine.specs.Machine.{Sound, Linked, absent, present, MethodAt}
+use Rattle.machine.specs.Machine.{Sound, Linked, absent, present, BodyAt}
 use Rattle.machine.specs.Contracts.{Stored, Acts, answer, PreObject, PostLoad, PostSave, PostCast}
 use Rattle.machine.specs.Contracts.{Below, PreFind, PostFind, NotFound, SomeLetter, LetterFrom}
 use Rattle.machine.proofs.Value.{the-type}
@@ -363,7 +363,7 @@ linked-none absent e = refl
 linked-none (present x) e = let z : _≡_ {A = ℕ} 0 1 = cc in absurd (omega arith)
 
 linked-some : {R E : List ℕ} {k : ℕ} {r : Option ℕ} {M : Option Method} {x : ℕ} → Linked R E k r M
-    → r ≡ some x → (N : Method) × (M ≡ some N) × MethodAt R E k x N
+    → r ≡ some x → (N : Method) × (M ≡ some N) × BodyAt R E k x N
 linked-some absent e = let z : _≡_ {A = ℕ} 0 1 = cc in absurd (omega arith)
 linked-some {R} {E} {k} {x = x} (present {r} {M} y) e = let z : r ≡ x = cc in (M, refl, rw z at y)
 

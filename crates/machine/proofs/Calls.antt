@@ -190,13 +190,15 @@ module _ {R E T A s l s′ l′ : List ℕ} (at : ℕ) {q : Place} {n : Counts} 
                 (fails-list (r .outcome) (slots-of l′ (q .top) (getD R (at * 4 + 2) 0 + 1))
                 (state P s′ l′ q (r .counts) (F - r .counts .left))
                 (evaluated-all P F (capacity s) (q .calls) (cons (y .1) (y .2)) (state P s l q n k))
-                (λ vs t. called-on (λ v vs t. do-call (world P) (with-limits F (capacity s)) K (y .0) v vs t) vs
+                (λ vs t. called-on (λ v vs t. do-call (world P) (with-limits F (capacity s)) K (y .0) v vs t)
+                vs
                 t) not (m .is));
           };
     }
       where
         fails-list : (o : Outcome) (vs : List Meaning) (t : State) (x : Out (List Meaning))
-            (k : List Meaning → State → Out Meaning) → ((v : Value) → o ≡ Gave v → ⊥) → told-all o vs t ≡ bare x
+            (k : List Meaning → State → Out Meaning) → ((v : Value) → o ≡ Gave v → ⊥)
+            → told-all o vs t ≡ bare x
             → told o t ≡ bare (bind x k)
         fails-list (Gave v) vs t x k not e = absurd (not v refl)
         fails-list (Raised n) vs t x k not e = bare-stop x k e

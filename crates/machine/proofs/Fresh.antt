@@ -390,7 +390,8 @@ module _ {R T s : List ℕ} {v : Value} {d : ℕ} {n : Counts} where
         ∙ ap (λ (x : ℕ). record {
           class-of = d;
           fields = take x
-              (map value-of-number (take (length (world P .fields (getD s (j * 18) 0))) (drop (j * 18 + 1) s)))
+              (map value-of-number
+              (take (length (world P .fields (getD s (j * 18) 0))) (drop (j * 18 + 1) s)))
               ++ initials (drop x (world P .fields d));
         }) g) in
         let heap : heap-of-numbers (world P) made s′

@@ -96,7 +96,8 @@ written-more {l} {l′} {from} {n} {f} at a w e h q = record {
 
 -- numbers written up to a place, and from there on further
 pub written-then : {l l₁ l₂ : List ℕ} (base from i j : ℕ) (f : ℕ → ℕ) → from ≤ i → i ≤ j
-    → Written l l₁ (base + from) (i - from) (λ k. f (from + k)) → Written l₁ l₂ (base + i) (j - i) (λ k. f (i + k))
+    → Written l l₁ (base + from) (i - from) (λ k. f (from + k))
+    → Written l₁ l₂ (base + i) (j - i) (λ k. f (i + k))
     → Written l l₂ (base + from) (j - from) (λ k. f (from + k))
 written-then {l} {l₁} {l₂} base from i j f low high a b = record {
   long = b .long ∙ a .long;
@@ -111,11 +112,13 @@ written-then {l} {l₁} {l₂} base from i j f low high a b = record {
         let e′ : i + (from + x - i) ≡ from + x = omega arith in
         ap (λ (y : ℕ). getD l₂ y 0) (sym e) ∙ (b .inside (from + x - i) (omega arith) ∙ ap f e′)
 
-    near : (x : ℕ) → (x < base + from) ⊎ (base + from + (j - from) ≤ x) → (x < base + i) ⊎ (base + i + (j - i) ≤ x)
+    near : (x : ℕ) → (x < base + from) ⊎ (base + from + (j - from) ≤ x)
+        → (x < base + i) ⊎ (base + i + (j - i) ≤ x)
     near x (inl h) = inl (omega arith)
     near x (inr h) = inr (omega arith)
 
-    far : (x : ℕ) → (x < base + from) ⊎ (base + from + (j - from) ≤ x) → (x < base + from) ⊎ (base + from + (i - from) ≤ x)
+    far : (x : ℕ) → (x < base + from) ⊎ (base + from + (j - from) ≤ x)
+        → (x < base + from) ⊎ (base + from + (i - from) ≤ x)
     far x (inl h) = inl h
     far x (inr h) = inr (omega arith)
 

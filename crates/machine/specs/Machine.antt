@@ -146,7 +146,7 @@ unfoldable mutual
   WithinAll k n d (cons e es) = Within k n d e × WithinAll k n d es
 
 -- The row where a method's M line stands, from 1, and its body: the first B line after it.
-pub record MethodAt (R E : List ℕ) (k r : ℕ) (M : Method) : Type 0 where
+pub record BodyAt (R E : List ℕ) (k r : ℕ) (M : Method) : Type 0 where
   pub body : ℕ
   pub later : r + 1 ≤ body
   pub short : body * 4 < length R
@@ -157,10 +157,10 @@ pub record MethodAt (R E : List ℕ) (k r : ℕ) (M : Method) : Type 0 where
 
 pub data Linked (R E : List ℕ) (k : ℕ) : Option ℕ → Option Method → Type 0 where
   absent : Linked R E k none none
-  present : {r : ℕ} {M : Method} → MethodAt R E k r M → Linked R E k (some r) (some M)
+  present : {r : ℕ} {M : Method} → BodyAt R E k r M → Linked R E k (some r) (some M)
 
 -- The row of a field's F line, in the table: its type tells the first value.
-pub record FieldAt (R T : List ℕ) (k i : ℕ) (f : Field) : Type 0 where
+pub record FirstValueAt (R T : List ℕ) (k i : ℕ) (f : Field) : Type 0 where
   pub within : getD T (k * 576 + 520 + i) 0 * 4 + 1 < length R
   pub first : cond (eqb (getD R (getD T (k * 576 + 520 + i) 0 * 4 + 1) 0) 255) 1 0
       ≡ value-number (initial (f .type))
@@ -175,7 +175,8 @@ pub record Holds (R E T A : List ℕ) (P : List Class) : Type 0 where
       × (length (world P .fields (world P .root k)) ≤ length (world P .fields k))
   pub below : (k c : ℕ) → k ≤ length P → c ≤ length P
       → (eqb c 0 || eqb (getD A k 0 / 2 ^ (c - 1) % 2) 1) ≡ world P .below k c
-  pub fields : (k i : ℕ) (f : Field) → k ≤ length P → nth (world P .fields k) i ≡ some f → FieldAt R T k i f
+  pub fields : (k i : ℕ) (f : Field) → k ≤ length P → nth (world P .fields k) i ≡ some f
+      → FirstValueAt R T k i f
   pub methods : (k m : ℕ) → k ≤ length P → Linked R E (length P) (method-row P k m) (world P .method k m)
 
 -- A store holds so many objects: their classes are declared, and their unused numbers 0.

@@ -6,9 +6,6 @@ use Rattle.machine.proofs.Values.{written-none, written-more, written-t
 use Rattle.machine.specs.Contracts.{first-of, Written}
 use Rattle.machine.proofs.fill.Statement.{statement}
 use Rattle.machine.proofs.fill.Tie as tie
-use Rattle.machine.proofs.fill.Reads as reads
-use Rattle.machine.proofs.fill.Lts as lts
-use Rattle.machine.proofs.first_number.Reads as first-number-reads
 
 abbrev Inv-loop : tie.InvT-loop
 Inv-loop rows tables store₀ o c from count i₀ store i = (from ≤ i) × (i ≤ 17) × Written store₀ store (o + 1 + from) (i - from) (λ k. first-of rows tables c (from + k) (getD tables (c * 576 + 515) 0)) × (count ≡ getD tables (c * 576 + 515) 0)
