@@ -36,8 +36,8 @@ use Rattle.theory.specs.WellEqual.{program-well}
 use Rattle.theory.specs.Lookups.{class-well, well-formed-laws}
 use Rattle.theory.specs.MoreLookups.{well-formed-more}
 use Rattle.layout.specs.Found.{found-none, row-some, MethodHere, method-here, field-here, body-here}
-use Rattle.machine.specs.Machine.{NamedAll, Within, WithinAll, BodyAt, Linked, absent, present}
-use Rattle.machine.specs.Machine.{FirstValueAt, Holds}
+use Rattle.objects.specs.Holding.{NamedAll, Within, WithinAll, BodyAt, Linked, absent, present, FirstValueAt}
+use Rattle.objects.specs.Holding.{Holds}
 use Rattle.machine.specs.Contracts.{Accepted, Runs}
 use Rattle.machine.proofs.Lines.{Without, without-then, without-lines}
 

@@ -12,8 +12,20 @@ use Rattle.language.specs.Lists.{nth, nth-append, nth-map, inj, Never}
 use Rattle.language.specs.Frames.{frame, opened, closed}
 use Rattle.language.specs.Store.{value-of-number}
 use Rattle.machine.proofs.Frames.{slots-length}
-use Rattle.machine.proofs.Objects.{lt-or, nth-ext, values-at}
-use Rattle.machine.proofs.Fresh.{nth-past, some-at}
+use Rattle.objects.proofs.Nth.{lt-or, nth-ext, nth-past, some-at}
+use Rattle.objects.proofs.Objects.{values-at}
+use Rattle.objects.specs.declared.Value.the-variants.{Null}
+use Rattle.objects.specs.Values.{Outcome, Gave, Raised, Stopped, Stuck, Counts, Answer, value, bare, told}
+use Rattle.machine.specs.declared.Place.{Place}
+use Rattle.machine.specs.Machine.{slots-of, inside, state, frame-of}
+use Rattle.objects.specs.Holding.{NamedAll, Named, Within, WithinAll}
+use Rattle.machine.specs.Contracts
+use Rattle.machine.specs.Contracts.{Ready, PreEntered, PostNode, PreList, PostItems, Opened, Locals}
+use Rattle.machine.specs.Contracts.{evaluated-all}
+use Rattle.objects.specs.Contracts.{first-of-type}
+use Rattle.machine.proofs.Nodes
+use Rattle.machine.proofs.Nodes.{head, as-block}
+use Rattle.machine.proofs.Steps
 use Rattle.language.specs.Results.{ok, stop, bind}
 use Rattle.language.specs.Tree.{Exprs, count, Class, DeclaredType, bool, class, type-number, block}
 use Rattle.language.specs.Encoded.{TypesAt, Encoded, EncodedAll}
@@ -21,20 +33,6 @@ use Rattle.language.specs.Rows.{V-local}
 use Rattle.language.proofs.Lines.{line-at}
 use Rattle.language.specs.Evaluation.{Value as Meaning, null, Out, last-value, initial, with-frame}
 use Rattle.language.specs.Store.{capacity}
-use Rattle.machine.specs.declared.Value.the-variants.{Null}
-use Rattle.machine.specs.Machine.{Outcome}
-use Rattle.machine.specs.Machine.{Gave, Raised, Stopped, Stuck}
-use Rattle.machine.specs.Machine.{Counts}
-use Rattle.machine.specs.declared.Place.{Place}
-use Rattle.machine.specs.Contracts.{Answer}
-use Rattle.machine.specs.Machine.{value, bare, told, slots-of, NamedAll, Named, inside, state, frame-of}
-use Rattle.machine.specs.Machine.{Within, WithinAll}
-use Rattle.machine.specs.Contracts
-use Rattle.machine.specs.Contracts.{Ready, PreEntered, PostNode, PreList, PostItems, Opened, Locals}
-use Rattle.machine.specs.Contracts.{first-of-type, evaluated-all}
-use Rattle.machine.proofs.Nodes
-use Rattle.machine.proofs.Nodes.{head, as-block}
-use Rattle.machine.proofs.Steps
 
 -- the place inside a block
 abbrev pub inner : Place → ℕ → Place

@@ -13,7 +13,7 @@ use Rattle.language.specs.Tree.{Class, class-lines, classes-lines}
 use Rattle.language.specs.Encoded.{RowAt, LinesAt, Encoded, EncodedAll}
 use Rattle.language.specs.Layout.{EachMethod, EachClass, MethodAt, ClassAt}
 use Rattle.language.proofs.Lines.{each-line}
-use Rattle.machine.proofs.Objects.{lt-or}
+use Rattle.objects.proofs.Nth.{lt-or}
 
 -- None of n rows from a row on has a letter of code x.
 pub record Without (R : List ℕ) (x from n : ℕ) : Type 0 where

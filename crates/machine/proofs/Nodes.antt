@@ -11,7 +11,8 @@ use Rattle.language.specs.Tree.{get, cast, new, change, assign, set, call, choo
 use Rattle.language.specs.World.{World, Method}
 use Rattle.language.specs.Encoded.{Encoded}
 use Rattle.language.specs.Evaluation.{Value as Meaning, State, Out, Limits, enter, eval}
-use Rattle.machine.specs.Machine.{Within, inside, after}
+use Rattle.objects.specs.Holding.{Within}
+use Rattle.machine.specs.Machine.{inside, after}
 use Rattle.machine.specs.Contracts.{one-child, no-child}
 
 abbrev pub code-of : Expr → ℕ
