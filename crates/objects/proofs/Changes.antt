@@ -82,22 +82,22 @@ module _ {R T s : List ℕ} {v : Value} {d : ℕ} {n : Counts} where
 
   pub change-made : (s₁ : List ℕ) (j : ℕ) → v ≡ Object j → j < n .made
       → getD T (getD T (d * 576 + 514) 0 * 576 + 515) 0 ≤ getD T (getD s (j * 18) 0 * 576 + 515) 0 → Small v
-      → getD T (getD T (d * 576 + 514) 0 * 576 + 515) 0 ≤ 17
       → Filled R T s s₁ (j * 18) d (getD T (getD T (d * 576 + 514) 0 * 576 + 515) 0)
       → PostChange R T s (set s₁ (j * 18) d) v d n
       (answer (Gave (Object j)) (record { left = n .left; made = n .made; changes = n .changes + 1 }))
   unfolding bare
-  change-made s₁ j e h many m f17 w = record {
+  change-made s₁ j e h many m w = record {
     acts = λ E A P hold snd dd.
         let made : ℕ = n .made in
         let s′ : List ℕ = set s₁ (j * 18) d in
         let from : ℕ = getD T (getD T (d * 576 + 514) 0 * 576 + 515) 0 in
         let g : from ≡ length (world P .fields (world P .root d)) = kept-count R T s d n hold dd in
         let room : j * 18 + 18 ≤ length s = omega (arith, snd .stored) in
-        let r : Renewed R T s s′ (j * 18) d from = renewed (j * 18) d from w f17 room in
-        let low : from ≤ length (world P .fields d) = omega (arith, g, hold .roots d dd .1) in
         let own : from ≤ length (world P .fields (getD s (j * 18) 0)) =
         omega (arith, hold .tables .counts (getD s (j * 18) 0) (snd .declared j h)) in
+        let r : Renewed R T s s′ (j * 18) d from = renewed (j * 18) d from w
+        (omega (arith, own, hold .counts (getD s (j * 18) 0) (snd .declared j h))) room in
+        let low : from ≤ length (world P .fields d) = omega (arith, g, hold .roots d dd .1) in
         let z : leb (length (world P .fields (world P .root d)))
         (length (object-at (world P) s (j * 18) .fields)) ≡ true
         = le-leb (length (world P .fields (world P .root d)))
@@ -156,34 +156,42 @@ one-change {x} t e f h (long, q) =
 pub record RootSpot (R T s : List ℕ) (d : ℕ) : Type 0 where
   pub class : d * 576 + 576 ≤ length T
   pub root : getD T (d * 576 + 514) 0 * 576 + 576 ≤ length T
-  pub kept : getD T (getD T (d * 576 + 514) 0 * 576 + 515) 0 ≤ 17
 
--- the class of the object that R changes
+-- the class of the object that R changes, and how many fields it has
 pub own-spot : {R T s : List ℕ} {d made : ℕ} → PreNew R T s d made → (j : ℕ) → j < made
-    → (j * 18 + 18 ≤ length s) × (getD s (j * 18) 0 * 576 + 576 ≤ length T) × (getD s (j * 18) 0 ≤ 64)
-own-spot p j h = (
-  omega (arith, p .sound .stored),
-  omega (arith, p .holds .tables .long, p .sound .declared j h),
-  omega (arith, p .sound .declared j h, p .holds .classes),
-)
+    → (j * 18 + 18 ≤ length s)
+    × (getD s (j * 18) 0 * 576 + 576 ≤ length T)
+    × (getD s (j * 18) 0 ≤ 64)
+    × (getD T (getD s (j * 18) 0 * 576 + 515) 0 ≤ 17)
+own-spot {s = s} p j h =
+    let c : ℕ = getD s (j * 18) 0 in
+    let d = p .sound .declared j h in (
+      omega (arith, p .sound .stored),
+      omega (arith, p .holds .tables .long, d),
+      omega (arith, d, p .holds .classes),
+      omega (arith, p .holds .tables .counts c d, p .holds .counts c d),
+    )
 
 pub root-spot : {R T s : List ℕ} {d made : ℕ} → PreNew R T s d made → RootSpot R T s d
-root-spot {T = T} {d = d} p =
-    let e = p .holds .tables .roots d (p .declared) in
-    let o = p .holds .roots d (p .declared) in
-    record {
-      class = omega (arith, p .holds .tables .long, p .declared);
-      root = omega (arith, p .holds .tables .long, e, o .0);
-      kept = omega (
-        arith,
-        ap (λ (x : ℕ). getD T (x * 576 + 515) 0) e ∙ p .holds .tables .counts
-            (world (p .P) .root d) (o .0),
-        p .holds .counts (world (p .P) .root d) (o .0),
-      );
-    }
+root-spot {d = d} p = record {
+  class = omega (arith, p .holds .tables .long, p .declared);
+  root = omega (
+    arith,
+    p .holds .tables .long,
+    p .holds .tables .roots d (p .declared),
+    p .holds .roots d (p .declared) .0,
+  );
+}
 
-pub change-fill : {R T s : List ℕ} {d made : ℕ} (p : PreNew R T s d made) (j : ℕ) → j < made
-    → Fill R T s (j * 18) d (getD T (getD T (d * 576 + 514) 0 * 576 + 515) 0)
-change-fill p j h =
+-- first values from a place on that the object has
+pub change-fill : {R T s : List ℕ} {d made from : ℕ} (p : PreNew R T s d made) (j : ℕ) → j < made
+    → from ≤ getD T (getD s (j * 18) 0 * 576 + 515) 0 → Fill R T s (j * 18) d from
+change-fill p j h l =
     let f = new-fill p (j * 18) (omega (arith, p .sound .stored)) in
-    record { table = f .table; room = f .room; start = root-spot p .kept; few = f .few; rows = f .rows }
+    record {
+      table = f .table;
+      room = f .room;
+      start = omega (arith, l, own-spot p j h .3);
+      few = f .few;
+      rows = f .rows;
+    }

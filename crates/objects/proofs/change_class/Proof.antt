@@ -93,7 +93,7 @@ returns-4 : tie.Need-returns-4
 returns-4 c = change-of (c .before .before .before .before .before .before .before .before .before .before .before .before .decode .ensures) refl (change-few (c .before .before .before .before .before .before .before .before .v .given .0 .0) (c .before .before .before .before .before .before .before .before .v .given .1) (c .before .before .before .before .before .if2 .left) (c .if3 .taken))
 
 fill-requires : tie.Need-fill-requires
-fill-requires c κs = change-fill (c .before .before .before .before .before .before .before .before .before .before .before .before .before .before .before .before .before .pre .new) (c .before .before .before .before .before .before .before .before .before .v .given .0 .0) (c .before .before .before .before .before .before .if2 .left)
+fill-requires c κs = change-fill (c .before .before .before .before .before .before .before .before .before .before .before .before .before .before .before .before .before .pre .new) (c .before .before .before .before .before .before .before .before .before .v .given .0 .0) (c .before .before .before .before .before .before .if2 .left) (omega (arith, c .before .if3 .left))
 
 mul-store : tie.Need-mul-store
 mul-store c = omega (arith, c .before .before .before .before .before .before .before .before .before .if2 .left, c .before .before .before .before .before .before .before .before .before .before .before .before .before .before .before .before .before .before .before .before .pre .new .sound .few)
@@ -114,7 +114,7 @@ same-length : tie.Need-same-length
 same-length c = simp length-set (c .before .before .before .before .before .fill .ensures .long)
 
 returns-5 : tie.Need-returns-5
-returns-5 c = change-of (c .before .before .before .before .before .before .before .before .before .before .before .before .before .before .before .before .before .before .before .decode .ensures) (one-change (c .before .before .before .before .before .before .before .before .before .before .before .before .before .before .before .before .before .before .before .before .before .before .before .args .tally .now) (c .before .before .before .before .before .before .before .before .before .before .before .before .before .before .before .before .before .before .before .decode .ensures) (c .before .before .before .before .before .before .before .before .before .before .before .before .before .before .before .v .given .1) (omega (arith, c .before .before .before .before .before .before .before .before .before .before .before .before .before .before .before .before .before .before .before .before .before .before .before .fits .n)) (c .put .ensures)) (change-made (c .before .before .before .before .before .fill .last .1 .1 .0) (c .before .before .before .before .before .before .before .before .before .before .before .before .before .before .before .v .given .0 .0) (c .before .before .before .before .before .before .before .before .before .before .before .before .before .before .before .v .given .1) (c .before .before .before .before .before .before .before .before .before .before .before .before .if2 .left) (c .before .before .before .before .before .before .before .if3 .left) (small-number (c .before .before .before .before .before .before .before .before .before .before .before .before .before .before .before .before .before .before .before .before .before .before .before .args .n) (c .before .before .before .before .before .before .before .before .before .before .before .before .before .before .before .before .before .before .before .decode .ensures) (omega (arith, c .before .before .before .before .before .before .before .before .before .before .before .before .before .before .before .before .before .before .before .before .before .before .before .fits .n))) (root-spot (c .before .before .before .before .before .before .before .before .before .before .before .before .before .before .before .before .before .before .before .before .before .before .before .pre .new) .kept) (c .before .before .before .before .before .fill .ensures))
+returns-5 c = change-of (c .before .before .before .before .before .before .before .before .before .before .before .before .before .before .before .before .before .before .before .decode .ensures) (one-change (c .before .before .before .before .before .before .before .before .before .before .before .before .before .before .before .before .before .before .before .before .before .before .before .args .tally .now) (c .before .before .before .before .before .before .before .before .before .before .before .before .before .before .before .before .before .before .before .decode .ensures) (c .before .before .before .before .before .before .before .before .before .before .before .before .before .before .before .v .given .1) (omega (arith, c .before .before .before .before .before .before .before .before .before .before .before .before .before .before .before .before .before .before .before .before .before .before .before .fits .n)) (c .put .ensures)) (change-made (c .before .before .before .before .before .fill .last .1 .1 .0) (c .before .before .before .before .before .before .before .before .before .before .before .before .before .before .before .v .given .0 .0) (c .before .before .before .before .before .before .before .before .before .before .before .before .before .before .before .v .given .1) (c .before .before .before .before .before .before .before .before .before .before .before .before .if2 .left) (c .before .before .before .before .before .before .before .if3 .left) (small-number (c .before .before .before .before .before .before .before .before .before .before .before .before .before .before .before .before .before .before .before .before .before .before .before .args .n) (c .before .before .before .before .before .before .before .before .before .before .before .before .before .before .before .before .before .before .before .decode .ensures) (omega (arith, c .before .before .before .before .before .before .before .before .before .before .before .before .before .before .before .before .before .before .before .before .before .before .before .fits .n))) (c .before .before .before .before .before .fill .ensures))
 
 pub change-class-spec : {M : Type 1} → statement M
 change-class-spec =
