@@ -10,7 +10,6 @@ use lib.Seq.{getD-set-same, getD-set-other, drop-cons}
 use native.Mathlib.Numerals.{add-one}
 use Rattle.language.specs.Store.{value-number, value-of-number}
 use Rattle.machine.proofs.Frames.{slots-ext}
-use Rattle.machine.proofs.Lists
 use Rattle.machine.proofs.Lists.{FirstAt, list-parts, list-apart, list-first, head-done}
 use Rattle.objects.specs.declared.Value.{Value}
 use Rattle.objects.specs.declared.Value.the-variants.{Null}
@@ -19,13 +18,10 @@ use Rattle.objects.specs.Values.{told, answer}
 use Rattle.machine.specs.declared.Place.{Place}
 use Rattle.machine.specs.Machine.{told-all, slots-of, state, frame-of}
 use Rattle.objects.specs.Holding.{WithinAll}
-use Rattle.machine.specs.Contracts
 use Rattle.machine.specs.Contracts.{Ready, Kept, PostEval, PreArgs, PostArgs, DoneAll, evaluated}
 use Rattle.machine.specs.Contracts.{evaluated-all}
 use Rattle.objects.proofs.Values.{bare-ok, bare-stop, value-of-value-number, small-of}
 use Rattle.objects.proofs.Acts.{stored-same}
-use Rattle.machine.proofs.Nodes
-use Rattle.machine.proofs.Steps
 use Rattle.machine.proofs.Steps.{kept-then, room-same, gives, kept-of}
 use Rattle.language.specs.Results.{ok, bind}
 use Rattle.language.specs.Tree.{Expr, Exprs, nil, cons, count, Class}

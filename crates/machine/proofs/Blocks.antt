@@ -19,13 +19,10 @@ use Rattle.objects.specs.Values.{Outcome, Gave, Raised, Stopped, Stuck, Counts,
 use Rattle.machine.specs.declared.Place.{Place}
 use Rattle.machine.specs.Machine.{slots-of, inside, state, frame-of}
 use Rattle.objects.specs.Holding.{NamedAll, Named, Within, WithinAll}
-use Rattle.machine.specs.Contracts
 use Rattle.machine.specs.Contracts.{Ready, PreEntered, PostNode, PreList, PostItems, Opened, Locals}
 use Rattle.machine.specs.Contracts.{evaluated-all}
 use Rattle.objects.specs.Contracts.{first-of-type}
-use Rattle.machine.proofs.Nodes
-use Rattle.machine.proofs.Nodes.{head, as-block}
-use Rattle.machine.proofs.Steps
+use Rattle.machine.proofs.Letters.{head, as-block}
 use Rattle.language.specs.Results.{ok, stop, bind}
 use Rattle.language.specs.Tree.{Exprs, count, Class, DeclaredType, bool, class, type-number, block}
 use Rattle.language.specs.Encoded.{TypesAt, Encoded, EncodedAll}

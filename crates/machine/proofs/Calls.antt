@@ -7,10 +7,8 @@ use native.Mathlib.Omega.{arith}
 use lib.ListN.{length, getD}
 use Rattle.language.specs.Store.{value-of-number}
 use Rattle.machine.proofs.Frames.{slots-ext}
-use Rattle.machine.proofs.Lists
 use Rattle.objects.specs.declared.Target.{Target}
 use Rattle.objects.specs.declared.Target.the-variants.{Body, Fails}
-use Rattle.machine.proofs.Arguments
 use Rattle.machine.proofs.Arguments.{slots-cons}
 use Rattle.objects.specs.declared.Value.{Value}
 use Rattle.objects.specs.Values.{Outcome, Gave, Raised, Stopped, Stuck, Counts, Answer, value, decoded}
@@ -18,14 +16,11 @@ use Rattle.objects.specs.Values.{outcome, bare, told, answer}
 use Rattle.machine.specs.declared.Place.{Place}
 use Rattle.machine.specs.Machine.{told-all, slots-of, this-of, inside, state, frame-of}
 use Rattle.objects.specs.Holding.{Within, WithinAll}
-use Rattle.machine.specs.Contracts
 use Rattle.machine.specs.Contracts.{Ready, Kept, PreEval, PreEntered, PostEval, PostNode, PreArgs}
 use Rattle.machine.specs.Contracts.{PostArgs, DoneAll, calls-of, evaluated, evaluated-all}
 use Rattle.objects.specs.Contracts.{PreFind, PostFind, Found, NotFound}
 use Rattle.objects.proofs.Values.{bare-ok, bare-stop, value-decoded}
-use Rattle.machine.proofs.Nodes
-use Rattle.machine.proofs.Nodes.{head, as-call}
-use Rattle.machine.proofs.Steps
+use Rattle.machine.proofs.Letters.{head, as-call}
 use Rattle.machine.proofs.Steps.{kept-then, kept-more, kept-as, ready-child, room-same, then-eval}
 use Rattle.language.specs.Results.{ok, stop, bind}
 use Rattle.language.specs.Tree.{Expr, Exprs, cons, count, Class, call}

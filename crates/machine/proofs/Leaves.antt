@@ -21,16 +21,14 @@ use Rattle.objects.specs.Values.{value, Small, SmallOutcome, bare, told, answer
 use Rattle.machine.specs.declared.Place.{Place}
 use Rattle.machine.specs.Machine.{state, frame-of, inside, after}
 use Rattle.objects.specs.Holding.{Within}
-use Rattle.machine.specs.Contracts
 use Rattle.objects.specs.Contracts.{Acts, PostNew, PreNew, PreChange, PostChange, PostLoad, PostCast}
 use Rattle.objects.specs.Contracts.{PreObject, PreCast}
 use Rattle.machine.specs.Contracts.{Ready, Done, PreLeaf, PostLeaf, PostRead, no-child, PreApply}
 use Rattle.machine.specs.Contracts.{PostApply, Wrote}
 use Rattle.objects.proofs.Values.{outcome-value}
 use Rattle.objects.proofs.Acts.{stored-same}
-use Rattle.machine.proofs.Nodes
-use Rattle.machine.proofs.Nodes.{head, as-literal-true, as-literal-false, as-literal-null, as-slot}
-use Rattle.machine.proofs.Nodes.{as-new, as-change, as-is-null, as-get, as-cast, as-assign}
+use Rattle.machine.proofs.Letters.{head, as-literal-true, as-literal-false, as-literal-null, as-slot}
+use Rattle.machine.proofs.Letters.{as-new, as-change, as-is-null, as-get, as-cast, as-assign}
 use Rattle.machine.proofs.Nodes.{rest-change, rest-assign}
 
 -- an act as what a node comes to

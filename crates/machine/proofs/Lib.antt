@@ -1,5 +1,6 @@
 -- What the proofs of several functions use.
 mod Frames
+mod Letters
 mod Nodes
 mod Leaves
 mod Steps

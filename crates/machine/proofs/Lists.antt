@@ -15,14 +15,11 @@ use Rattle.objects.specs.Values.{told, answer}
 use Rattle.machine.specs.declared.Place.{Place}
 use Rattle.machine.specs.Machine.{state}
 use Rattle.objects.specs.Holding.{Within, WithinAll}
-use Rattle.machine.specs.Contracts
 use Rattle.machine.specs.Contracts.{Ready, Done, PreEval, PostEval, PreList, PostItems, evaluated}
 use Rattle.machine.specs.Contracts.{evaluated-all}
 use Rattle.objects.proofs.Values.{bare-stop, small-of}
 use Rattle.objects.proofs.Acts.{stored-same}
-use Rattle.machine.proofs.Nodes
-use Rattle.machine.proofs.Nodes.{head}
-use Rattle.machine.proofs.Steps
+use Rattle.machine.proofs.Letters.{head}
 use Rattle.machine.proofs.Steps.{kept-then, refit, room-same, gives, kept-of}
 
 -- the first of a list, and the rest

@@ -15,11 +15,9 @@ use Rattle.objects.specs.Values.{Outcome, Gave, Counts, Answer, value, answer}
 use Rattle.machine.specs.declared.Place.{Place}
 use Rattle.machine.specs.Machine.{state, frame-of, inside}
 use Rattle.objects.specs.Holding.{Within}
-use Rattle.machine.specs.Contracts
 use Rattle.machine.specs.Contracts.{Ready, Done, PreEval, PreEntered, PostEval, PostNode, evaluated}
 use Rattle.objects.specs.Contracts.{PostSave, PreObject}
-use Rattle.machine.proofs.Nodes
-use Rattle.machine.proofs.Nodes.{head, as-set}
+use Rattle.machine.proofs.Letters.{head, as-set}
 use Rattle.machine.proofs.Steps
 use Rattle.machine.proofs.Steps.{kept-then, kept-more, ready-child, refit, room-same, then-eval, fails}
 use Rattle.machine.proofs.Steps.{gives, kept-of}

@@ -21,12 +21,9 @@ use Rattle.objects.specs.Values.{Gave, Stuck, Counts, Answer, value, bare, told
 use Rattle.machine.specs.declared.Place.{Place}
 use Rattle.machine.specs.Machine.{state, inside}
 use Rattle.objects.specs.Holding.{Within}
-use Rattle.machine.specs.Contracts
 use Rattle.machine.specs.Contracts.{Ready, Done, PreEval, PreEntered, PostEval, PostNode, evaluated}
 use Rattle.objects.proofs.Value.{the-type}
-use Rattle.machine.proofs.Nodes
-use Rattle.machine.proofs.Nodes.{head, as-choose}
-use Rattle.machine.proofs.Steps
+use Rattle.machine.proofs.Letters.{head, as-choose}
 use Rattle.machine.proofs.Steps.{kept-then, kept-more, kept-as, ready-child, refit, room-same}
 use Rattle.machine.proofs.Steps.{then-eval, fails, gives}
 

@@ -18,7 +18,6 @@ use Rattle.objects.specs.Values.{told, bare, answered}
 use Rattle.machine.specs.declared.Place.{Place}
 use Rattle.machine.specs.Machine.{state, frame-of, slots-of}
 use Rattle.objects.specs.Holding.{Holds, Sound}
-use Rattle.machine.specs.Contracts
 use Rattle.machine.specs.Contracts.{Ready, Done, PreEval, PostEval, PreRun, PostRun, Runs, outcome-of}
 use Rattle.machine.specs.Contracts.{evaluated}
 use Rattle.objects.proofs.Values.{value-number-of}

@@ -20,15 +20,14 @@ use Rattle.objects.specs.Values.{SmallOutcome, bare, told, answer}
 use Rattle.machine.specs.declared.Place.{Place}
 use Rattle.machine.specs.Machine.{state, after}
 use Rattle.objects.specs.Holding.{Within}
-use Rattle.machine.specs.Contracts
 use Rattle.objects.specs.Contracts.{Stored}
 use Rattle.machine.specs.Contracts.{Ready, Kept, Done, PreNode, PreEval, PreEntered, PostEval, PostNode}
 use Rattle.machine.specs.Contracts.{PreLeaf, PreApply, PostApply, calls-of, evaluated, no-child}
 use Rattle.machine.specs.Contracts.{one-child}
 use Rattle.objects.proofs.Values.{bare-ok, bare-stop, small-of}
 use Rattle.objects.proofs.Acts.{stored-same}
-use Rattle.machine.proofs.Nodes
-use Rattle.machine.proofs.Nodes.{head, OneChild, one-of, child, one-encoded, one-within, one-inside}
+use Rattle.machine.proofs.Letters.{head}
+use Rattle.machine.proofs.Nodes.{OneChild, one-of, child, one-encoded, one-within, one-inside}
 use Rattle.machine.proofs.Nodes.{eval-inside, rest-one-child}
 
 -- ---- what is kept, one answer after another

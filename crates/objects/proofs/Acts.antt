@@ -27,7 +27,6 @@ use Rattle.objects.specs.Contracts.{Stored, Acts, PreObject, PostLoad, P
 use Rattle.objects.proofs.Value.{the-type}
 use Rattle.objects.proofs.Values.{value-decoded, small-decoded, outcome-value, outcome-stuck}
 use Rattle.objects.proofs.Values.{outcome-null-pointer, outcome-bad-cast}
-use Rattle.objects.proofs.Objects
 use Rattle.objects.proofs.Nth.{lt-or}
 use Rattle.objects.proofs.Objects.{place-lt, values-at, values-set, object-at, heap-at, heap-past}
 use Rattle.objects.proofs.Objects.{heap-changed}

@@ -23,9 +23,7 @@ use Rattle.objects.specs.Contracts.{Fill, Filled, PreNew, PostChange}
 use Rattle.objects.proofs.Value.{the-type}
 use Rattle.objects.proofs.Values.{gave-number}
 use Rattle.objects.proofs.Tally.{counts, set-changes}
-use Rattle.objects.proofs.Acts
 use Rattle.objects.proofs.Acts.{null-of, truth-of, acts-same}
-use Rattle.objects.proofs.Objects
 use Rattle.objects.proofs.Objects.{values-length, object-at, heap-at}
 use Rattle.objects.proofs.Objects.{heap-past, heap-changed}
 use Rattle.objects.proofs.Fresh.{Renewed, renewed, fields-filled, stored-renewed, new-fill}

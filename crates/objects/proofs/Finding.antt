@@ -24,7 +24,6 @@ use Rattle.objects.specs.Contracts.{PreFind, PostFind, NotFound, SomeLet
 use Rattle.objects.proofs.Value.{the-type}
 use Rattle.objects.proofs.Values.{outcome-stuck}
 use Rattle.objects.proofs.Values.{outcome-null-pointer, outcome-deep}
-use Rattle.objects.proofs.Objects
 use Rattle.objects.proofs.Nth.{lt-or}
 use Rattle.objects.proofs.Objects.{object-at, heap-at, heap-past}
 use Rattle.objects.proofs.Acts.{null-of, truth-of, place-none, place-some}
