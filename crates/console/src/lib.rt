@@ -2,7 +2,7 @@
 use language::Filled;
 use machine::End;
 use machine::Run;
-use machine::Value;
+use objects::Value;
 use runner::Answer;
 ghost use mathlib.Core.Path.{_≡_};
 ghost use mathlib.Core.List.{[], _∷_, _++_};

@@ -12,11 +12,11 @@ use Rattle.language.specs.Store.{capacity, Outcome, gave, ended, refused, ran, 
 use Rattle.language.specs.Translation.{translation}
 use Rattle.theory.specs.Endings.{EndsProperly, EndAlikeOnStores}
 use Rattle.theory.specs.Demands.{most-source-fuel}
-use Rattle.machine.specs.declared.Value.{Value}
-use Rattle.machine.specs.declared.Value.the-variants.{Null, Truth, Object}
+use Rattle.objects.specs.declared.Value.{Value}
+use Rattle.objects.specs.declared.Value.the-variants.{Null, Truth, Object}
 use Rattle.machine.specs.declared.End.{End}
 use Rattle.machine.specs.declared.End.the-variants.{Gave, Raised, Stopped}
-use Rattle.machine.specs.Machine.{stop-of}
+use Rattle.objects.specs.Values.{stop-of}
 use Rattle.runner.specs.declared.Answer.{Answer}
 use Rattle.runner.specs.declared.Answer.the-variants.{Refused, Ran}
 use Rattle.demands.specs.declared.Both.{Both}

@@ -36,10 +36,10 @@ use Rattle.theory.specs.WellEqual.{program-well}
 use Rattle.theory.specs.Lookups.{class-well, well-formed-laws}
 use Rattle.theory.specs.MoreLookups.{well-formed-more}
 use Rattle.layout.specs.Found.{found-none, row-some, MethodHere, method-here, field-here, body-here}
-use Rattle.machine.specs.Machine.{NamedAll, Within, WithinAll, MethodAt, Linked, absent, present}
-use Rattle.machine.specs.Machine.{FieldAt, Holds}
+use Rattle.objects.specs.Holding.{NamedAll, Within, WithinAll, BodyAt, Linked, absent, present, FirstValueAt}
+use Rattle.objects.specs.Holding.{Holds}
 use Rattle.machine.specs.Contracts.{Accepted, Runs}
-use Rattle.machine.proofs.Lines.{Without, without-then, without-parameters, without-effects}
+use Rattle.machine.proofs.Lines.{Without, without-then, without-lines}
 
 -- ---- expressions within the limits
 
@@ -93,7 +93,12 @@ module _ (P : List Class)
         (type-call {c = k} {ts = ts} {φ₂ = φ} M t ts′ found fit) = (
           omega arith,
           omega (arith, l),
-          omega (arith, types-count es ts′, all-fit-length (world P) ts (M .parameters) fit, short _ m M found),
+          omega (
+            arith,
+            types-count es ts′,
+            all-fit-length (world P) ts (M .parameters) fit,
+            short _ m M found,
+          ),
           rw (less d) (within-form e j h f t),
           rw (less d) (within-all es j h fs ts′),
         )
@@ -156,7 +161,8 @@ module _ {R E T A : List ℕ} {p : Program} (a : Accepted R E T A p) where
       rw (ne-eqb (suc c) 0 (λ e. omega arith), a .tables .aboves k l)
       (sym (below-is P lower k (suc c) l (omega arith)))
 
-  field-at : (k i : ℕ) (f : Field) → k ≤ length P → nth (world P .fields k) i ≡ some f → FieldAt R T k i f
+  field-at : (k i : ℕ) (f : Field) → k ≤ length P → nth (world P .fields k) i ≡ some f
+      → FirstValueAt R T k i f
   field-at k i f l e =
       let h = field-here (a .standing) k i f e in
       let r = a .tables .rows k i (h .0) l (h .1) in
@@ -166,7 +172,7 @@ module _ {R E T A : List ℕ} {p : Program} (a : Accepted R E T A p) where
       }
 
   method-at : (k m r : ℕ) (h : MethodHere R E P k m r)
-      → MethodAt R E (length P) r (method-of (h .row .owner) (h .row .declaration))
+      → BodyAt R E (length P) r (method-of (h .row .owner) (h .row .declaration))
   method-at k m r h =
       let d = h .row .declaration in
       let b = body-here (body-row r d) (h .in-form .body) (h .at .body) in
@@ -187,9 +193,10 @@ module _ {R E T A : List ℕ} {p : Program} (a : Accepted R E T A p) where
           let np = length (h .row .declaration .parameters) in
           let nx = length (h .row .declaration .effects) in
           without-then (r + 1) np (r + 1 + np) nx (np + nx)
-          (without-parameters (λ e. omega arith) (h .row .declaration .parameters) (r + 1)
+          (without-lines (λ t i v e. omega (arith, v .letter, e)) (h .row .declaration .parameters) (r + 1)
           (h .at .parameters))
-          (without-effects (λ e. omega arith) (h .row .declaration .effects) (r + 1 + np) (h .at .effects))
+          (without-lines (λ c i v e. omega (arith, v .letter, e)) (h .row .declaration .effects) (r + 1 + np)
+          (h .at .effects))
           refl refl
 
   linked : (k m : ℕ) → Linked R E (length P) (method-row P k m) (world P .method k m)

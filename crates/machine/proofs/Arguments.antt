@@ -10,30 +10,24 @@ use lib.Seq.{getD-set-same, getD-set-other, drop-cons}
 use native.Mathlib.Numerals.{add-one}
 use Rattle.language.specs.Store.{value-number, value-of-number}
 use Rattle.machine.proofs.Frames.{slots-ext}
-use Rattle.machine.proofs.Lists
 use Rattle.machine.proofs.Lists.{FirstAt, list-parts, list-apart, list-first, head-done}
+use Rattle.objects.specs.declared.Value.{Value}
+use Rattle.objects.specs.declared.Value.the-variants.{Null}
+use Rattle.objects.specs.Values.{Outcome, Gave, Raised, Stopped, Stuck, Counts, Answer, value, Small, bare}
+use Rattle.objects.specs.Values.{told, answer}
+use Rattle.machine.specs.declared.Place.{Place}
+use Rattle.machine.specs.Machine.{told-all, slots-of, state, frame-of}
+use Rattle.objects.specs.Holding.{WithinAll}
+use Rattle.machine.specs.Contracts.{Ready, Kept, PostEval, PreArgs, PostArgs, DoneAll, evaluated}
+use Rattle.machine.specs.Contracts.{evaluated-all}
+use Rattle.objects.proofs.Values.{bare-ok, bare-stop, value-of-value-number, small-of}
+use Rattle.objects.proofs.Acts.{stored-same}
+use Rattle.machine.proofs.Steps.{kept-then, room-same, gives, kept-of}
 use Rattle.language.specs.Results.{ok, bind}
 use Rattle.language.specs.Tree.{Expr, Exprs, nil, cons, count, Class}
 use Rattle.language.specs.Encoded.{EncodedAll}
 use Rattle.language.specs.Evaluation.{Value as Meaning, State, Out, eval-all}
 use Rattle.language.specs.Store.{capacity}
-use Rattle.machine.specs.declared.Value.{Value}
-use Rattle.machine.specs.declared.Value.the-variants.{Null}
-use Rattle.machine.specs.Machine.{Outcome}
-use Rattle.machine.specs.Machine.{Gave, Raised, Stopped, Stuck}
-use Rattle.machine.specs.Machine.{Counts}
-use Rattle.machine.specs.declared.Place.{Place}
-use Rattle.machine.specs.Contracts.{Answer}
-use Rattle.machine.specs.Machine.{value, Small, bare, told, told-all, slots-of, state, frame-of}
-use Rattle.machine.specs.Machine.{WithinAll}
-use Rattle.machine.specs.Contracts
-use Rattle.machine.specs.Contracts.{answer, Ready, Kept, PostEval, PreArgs, PostArgs, DoneAll}
-use Rattle.machine.specs.Contracts.{evaluated, evaluated-all}
-use Rattle.machine.proofs.Values.{bare-ok, bare-stop, value-of-value-number, small-of}
-use Rattle.machine.proofs.Acts.{stored-same}
-use Rattle.machine.proofs.Nodes
-use Rattle.machine.proofs.Steps
-use Rattle.machine.proofs.Steps.{kept-then, room-same, gives, kept-of}
 
 -- the place of the next argument
 abbrev pub further : Place → Place

@@ -12,41 +12,28 @@ use Rattle.language.specs.Lists.{nth, nth-append, nth-map, inj, Never}
 use Rattle.language.specs.Frames.{frame, opened, closed}
 use Rattle.language.specs.Store.{value-of-number}
 use Rattle.machine.proofs.Frames.{slots-length}
-use Rattle.machine.proofs.Objects.{lt-or, nth-ext, values-at}
-use Rattle.machine.proofs.Fresh.{nth-past, some-at}
+use Rattle.objects.proofs.Nth.{lt-or, nth-ext, nth-past, some-at}
+use Rattle.objects.proofs.Objects.{values-at}
+use Rattle.objects.specs.declared.Value.the-variants.{Null}
+use Rattle.objects.specs.Values.{Outcome, Gave, Raised, Stopped, Stuck, Counts, Answer, value, bare, told}
+use Rattle.machine.specs.declared.Place.{Place}
+use Rattle.machine.specs.Machine.{slots-of, inside, state, frame-of}
+use Rattle.objects.specs.Holding.{NamedAll, Named, Within, WithinAll}
+use Rattle.machine.specs.Contracts.{Ready, PreEntered, PostNode, PreList, PostItems, Opened, Locals}
+use Rattle.machine.specs.Contracts.{evaluated-all}
+use Rattle.objects.specs.Contracts.{first-of-type}
+use Rattle.machine.proofs.Letters.{head, as-block}
 use Rattle.language.specs.Results.{ok, stop, bind}
 use Rattle.language.specs.Tree.{Exprs, count, Class, DeclaredType, bool, class, type-number, block}
-use Rattle.language.specs.Encoded.{Encoded, EncodedAll, LocalsAt}
+use Rattle.language.specs.Encoded.{TypesAt, Encoded, EncodedAll}
+use Rattle.language.specs.Rows.{V-local}
+use Rattle.language.proofs.Lines.{line-at}
 use Rattle.language.specs.Evaluation.{Value as Meaning, null, Out, last-value, initial, with-frame}
 use Rattle.language.specs.Store.{capacity}
-use Rattle.machine.specs.declared.Value.the-variants.{Null}
-use Rattle.machine.specs.Machine.{Outcome}
-use Rattle.machine.specs.Machine.{Gave, Raised, Stopped, Stuck}
-use Rattle.machine.specs.Machine.{Counts}
-use Rattle.machine.specs.declared.Place.{Place}
-use Rattle.machine.specs.Contracts.{Answer}
-use Rattle.machine.specs.Machine.{value, bare, told, slots-of, NamedAll, Named, inside, state, frame-of}
-use Rattle.machine.specs.Machine.{Within, WithinAll}
-use Rattle.machine.specs.Contracts
-use Rattle.machine.specs.Contracts.{Ready, PreEntered, PostNode, PreList, PostItems, Opened, Locals}
-use Rattle.machine.specs.Contracts.{first-of-type, evaluated-all}
-use Rattle.machine.proofs.Nodes
-use Rattle.machine.proofs.Nodes.{head, as-block}
-use Rattle.machine.proofs.Steps
 
 -- the place inside a block
 abbrev pub inner : Place → ℕ → Place
 inner q v = record { base = q .base; scope = q .scope + v; top = q .top; calls = q .calls }
-
--- the V line of a local
-local-row : (R : List ℕ) (ts : List DeclaredType) (row j : ℕ) (t : DeclaredType) → LocalsAt R ts row
-    → nth ts j ≡ some t → ((row + j) * 4 + 3 < length R) × (getD R ((row + j) * 4 + 1) 0 ≡ type-number t)
-unfolding LocalsAt nth
-local-row R [] row j t h e = absurd (Never e)
-local-row R (x ∷ ts) row zero t h e = let z : row + 0 ≡ row = omega arith in let y : x ≡ t = inj e in
-    rw (z, ← y) (h .0 .within, h .0 .first)
-local-row R (x ∷ ts) row (suc j) t h e = let z : row + 1 + j ≡ row + suc j = omega arith in
-    rw z at (local-row R ts (row + 1) j t (h .1) e)
 
 local-named : (k : ℕ) (ts : List DeclaredType) (j : ℕ) (t : DeclaredType) → NamedAll k ts → nth ts j ≡ some t
     → Named k t
@@ -77,7 +64,7 @@ pub record BlockAt (R E T A s l : List ℕ) (at : ℕ) (q : Place) (n : Counts) 
   pub many : getD R (at * 4 + 2) 0 ≡ count es
   pub wide : q .scope + length ts + 1 ≤ 264
   pub named : NamedAll (length P) ts
-  pub lines : LocalsAt R ts (at + 1)
+  pub lines : TypesAt V-local R ts (at + 1)
   pub enc : EncodedAll R E es (at + 1 + length ts)
   pub within : WithinAll (length P) (q .scope + length ts) (d - 1) es
   pub total : k + n .left ≡ F
@@ -117,7 +104,7 @@ module _ {R E T A s l : List ℕ} {at : ℕ} {q : Place} {n : Counts} {P : List 
   block-locals = record {
     room = omega (arith, x .locals, x .wide, x .ready .frame, x .ready .above);
     rows = λ i h. let t = some-at ts i (omega (arith, x .locals)) in
-        omega (arith, local-row R ts (at + 1) i (t .0) (x .lines) (t .1) .0);
+        omega (arith, line-at _ ts (at + 1) (x .lines) i (t .0) (t .1) .within);
   }
 
   module _ {l′ : List ℕ} (w : Opened R l l′ (at + 1) (q .base + 1 + q .scope) (getD R (at * 4 + 1) 0)) where
@@ -154,7 +141,7 @@ module _ {R E T A s l : List ℕ} {at : ℕ} {q : Place} {n : Counts} {P : List 
             let e′ : q .scope + j ≡ i = omega arith in
             let y = rw e at (w .inside j (omega arith)) in
             let f : getD R ((at + 1 + j) * 4 + 1) 0 ≡ type-number (t .0) =
-            local-row R ts (at + 1) j (t .0) (x .lines) (t .1) .1 in
+            line-at _ ts (at + 1) (x .lines) j (t .0) (t .1) .first in
             let p′ : nth (slots-of l (q .base + 1) (q .scope) ++ map initial ts) i ≡ some (initial (t .0)) =
             nth-from (slots-of l (q .base + 1) (q .scope)) (map initial ts) (q .scope) j i a e′
             ∙ nth-map initial j ts (t .0) (t .1) in

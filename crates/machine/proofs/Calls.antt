@@ -7,7 +7,21 @@ use native.Mathlib.Omega.{arith}
 use lib.ListN.{length, getD}
 use Rattle.language.specs.Store.{value-of-number}
 use Rattle.machine.proofs.Frames.{slots-ext}
-use Rattle.machine.proofs.Lists
+use Rattle.objects.specs.declared.Target.{Target}
+use Rattle.objects.specs.declared.Target.the-variants.{Body, Fails}
+use Rattle.machine.proofs.Arguments.{slots-cons}
+use Rattle.objects.specs.declared.Value.{Value}
+use Rattle.objects.specs.Values.{Outcome, Gave, Raised, Stopped, Stuck, Counts, Answer, value, decoded}
+use Rattle.objects.specs.Values.{outcome, bare, told, answer}
+use Rattle.machine.specs.declared.Place.{Place}
+use Rattle.machine.specs.Machine.{told-all, slots-of, this-of, inside, state, frame-of}
+use Rattle.objects.specs.Holding.{Within, WithinAll}
+use Rattle.machine.specs.Contracts.{Ready, Kept, PreEval, PreEntered, PostEval, PostNode, PreArgs}
+use Rattle.machine.specs.Contracts.{PostArgs, DoneAll, calls-of, evaluated, evaluated-all}
+use Rattle.objects.specs.Contracts.{PreFind, PostFind, Found, NotFound}
+use Rattle.objects.proofs.Values.{bare-ok, bare-stop, value-decoded}
+use Rattle.machine.proofs.Letters.{head, as-call}
+use Rattle.machine.proofs.Steps.{kept-then, kept-more, kept-as, ready-child, room-same, then-eval}
 use Rattle.language.specs.Results.{ok, stop, bind}
 use Rattle.language.specs.Tree.{Expr, Exprs, cons, count, Class, call}
 use Rattle.language.specs.Program.{world}
@@ -15,31 +29,10 @@ use Rattle.language.specs.World.{Method, World}
 use Rattle.language.specs.Lists.{nth}
 use Rattle.language.specs.Frames.{Frame, frame}
 use mathlib.Core.Option.{Option, some}
-use Rattle.machine.specs.declared.Target.{Target}
-use Rattle.machine.specs.declared.Target.the-variants.{Body, Fails}
-use Rattle.machine.proofs.Arguments
-use Rattle.machine.proofs.Arguments.{slots-cons}
 use Rattle.language.specs.Encoded.{Encoded, EncodedAll}
 use Rattle.language.specs.Evaluation.{Value as Meaning, null, object, State, Out, Limits, eval, with-limits}
 use Rattle.language.specs.Evaluation.{eval-all, do-call, call-at, with-frame, Object as Thing}
 use Rattle.language.specs.Store.{capacity}
-use Rattle.machine.specs.declared.Value.{Value}
-use Rattle.machine.specs.Machine.{Outcome}
-use Rattle.machine.specs.Machine.{Gave, Raised, Stopped, Stuck}
-use Rattle.machine.specs.Machine.{Counts}
-use Rattle.machine.specs.declared.Place.{Place}
-use Rattle.machine.specs.Contracts.{Answer}
-use Rattle.machine.specs.Machine.{value, decoded, outcome, bare, told, told-all, slots-of, this-of}
-use Rattle.machine.specs.Machine.{inside, state, frame-of, Within, WithinAll}
-use Rattle.machine.specs.Contracts
-use Rattle.machine.specs.Contracts.{answer, Ready, Kept, PreEval, PreEntered, PostEval, PostNode}
-use Rattle.machine.specs.Contracts.{PreArgs, PreFind, PostFind, Found, NotFound, PostArgs, DoneAll}
-use Rattle.machine.specs.Contracts.{calls-of, evaluated, evaluated-all}
-use Rattle.machine.proofs.Values.{bare-ok, bare-stop, value-decoded}
-use Rattle.machine.proofs.Nodes
-use Rattle.machine.proofs.Nodes.{head, as-call}
-use Rattle.machine.proofs.Steps
-use Rattle.machine.proofs.Steps.{kept-then, kept-more, kept-as, ready-child, room-same, then-eval}
 
 -- Q taken apart: receiver and arguments are one list
 pub record CallAt (R E T A s l : List ℕ) (at : ℕ) (q : Place) (n : Counts) (P : List Class) (m : ℕ) (a : Expr)
@@ -190,13 +183,15 @@ module _ {R E T A s l s′ l′ : List ℕ} (at : ℕ) {q : Place} {n : Counts} 
                 (fails-list (r .outcome) (slots-of l′ (q .top) (getD R (at * 4 + 2) 0 + 1))
                 (state P s′ l′ q (r .counts) (F - r .counts .left))
                 (evaluated-all P F (capacity s) (q .calls) (cons (y .1) (y .2)) (state P s l q n k))
-                (λ vs t. called-on (λ v vs t. do-call (world P) (with-limits F (capacity s)) K (y .0) v vs t) vs
+                (λ vs t. called-on (λ v vs t. do-call (world P) (with-limits F (capacity s)) K (y .0) v vs t)
+                vs
                 t) not (m .is));
           };
     }
       where
         fails-list : (o : Outcome) (vs : List Meaning) (t : State) (x : Out (List Meaning))
-            (k : List Meaning → State → Out Meaning) → ((v : Value) → o ≡ Gave v → ⊥) → told-all o vs t ≡ bare x
+            (k : List Meaning → State → Out Meaning) → ((v : Value) → o ≡ Gave v → ⊥)
+            → told-all o vs t ≡ bare x
             → told o t ≡ bare (bind x k)
         fails-list (Gave v) vs t x k not e = absurd (not v refl)
         fails-list (Raised n) vs t x k not e = bare-stop x k e

@@ -15,20 +15,20 @@ use Rattle.language.specs.Evaluation.{Value as Meaning, State, Out, stuck, with
 use Rattle.language.specs.Store.{gave, ended, ran, Ran as Finished, finish, capacity, run-of}
 use Rattle.theory.specs.Accepts.{check-accepts}
 use Rattle.theory.specs.Members.{well-formed-never-stuck, accepted-run}
-use Rattle.machine.specs.declared.Value.{Value}
-use Rattle.machine.specs.declared.Value.the-variants.{Truth, Object}
-use Rattle.machine.specs.Machine.{Outcome}
-use Rattle.machine.specs.Machine.{Gave, Raised, Stopped, Stuck}
+use Rattle.objects.specs.declared.Value.{Value}
+use Rattle.objects.specs.declared.Value.the-variants.{Truth, Object}
+use Rattle.objects.specs.Values.{Outcome, Gave, Raised, Stopped, Stuck, value, Small, SmallOutcome, outcome}
+use Rattle.objects.specs.Values.{stop-of}
 use Rattle.machine.specs.declared.End.{End}
 use Rattle.machine.specs.declared.End.the-variants.{Gave as EndGave, Raised as EndRaised}
 use Rattle.machine.specs.declared.End.the-variants.{Stopped as EndStopped}
 use Rattle.machine.specs.declared.Ran.{Ran}
 use Rattle.machine.specs.declared.Run.{Run}
-use Rattle.machine.specs.Machine.{value, Small, SmallOutcome, outcome, stop-of}
-use Rattle.machine.specs.Contracts.{LetterFrom, SomeLetter, Accepted, Runs, PreRun, PostRun, PreChecked}
-use Rattle.machine.specs.Contracts.{PostChecked, Tells, outcome-of, value-told, end-told}
-use Rattle.machine.proofs.Objects.{lt-or}
-use Rattle.machine.proofs.Acts.{same-letter}
+use Rattle.objects.specs.Contracts.{LetterFrom, SomeLetter}
+use Rattle.machine.specs.Contracts.{Accepted, Runs, PreRun, PostRun, PreChecked, PostChecked, Tells}
+use Rattle.machine.specs.Contracts.{outcome-of, value-told, end-told}
+use Rattle.objects.proofs.Nth.{lt-or}
+use Rattle.objects.proofs.Finding.{same-letter}
 use Rattle.machine.proofs.Lines.{no-classes}
 use Rattle.machine.proofs.Accepted.{well, runs}
 

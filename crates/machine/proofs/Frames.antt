@@ -11,10 +11,12 @@ use Rattle.language.specs.Frames.{frame, at-slot, with-slot}
 use Rattle.language.specs.Evaluation.{Value as Meaning}
 use Rattle.language.specs.Store.{value-of-number}
 use Rattle.machine.specs.declared.Place.{Place}
-use Rattle.machine.specs.Machine.{value, decoded, outcome, bare, slots-of, frame-of, this-of}
+use Rattle.objects.specs.Values.{value, decoded, outcome, bare}
+use Rattle.machine.specs.Machine.{slots-of, frame-of, this-of}
 use Rattle.machine.specs.Contracts.{PostRead, Wrote}
-use Rattle.machine.proofs.Values.{value-decoded, small-decoded, outcome-value, outcome-stuck}
-use Rattle.machine.proofs.Objects.{nth-none, values-at, values-ext, values-set, values-length}
+use Rattle.objects.proofs.Values.{value-decoded, small-decoded, outcome-value, outcome-stuck}
+use Rattle.objects.proofs.Nth.{nth-none}
+use Rattle.objects.proofs.Objects.{values-at, values-ext, values-set, values-length}
 
 this-some : (calls n : ℕ) → (calls ≡ 0 → ⊥) → this-of calls n ≡ some (value-of-number n)
 this-some zero n h = absurd (h refl)

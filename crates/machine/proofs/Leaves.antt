@@ -14,24 +14,21 @@ use Rattle.language.specs.Tree.{new, Class}
 use Rattle.language.specs.Program.{world}
 use Rattle.language.specs.Encoded.{Encoded}
 use Rattle.language.specs.Evaluation.{Value as Meaning, State, Out, need, is-null-value, do-change}
-use Rattle.machine.specs.declared.Value.{Value}
-use Rattle.machine.specs.declared.Value.the-variants.{Null, Truth}
-use Rattle.machine.specs.Machine.{Outcome}
-use Rattle.machine.specs.Machine.{Gave, Raised, Stopped, Stuck}
-use Rattle.machine.specs.Machine.{Counts, decoded, outcome}
+use Rattle.objects.specs.declared.Value.{Value}
+use Rattle.objects.specs.declared.Value.the-variants.{Null, Truth}
+use Rattle.objects.specs.Values.{Outcome, Gave, Raised, Stopped, Stuck, Counts, decoded, outcome, Answer}
+use Rattle.objects.specs.Values.{value, Small, SmallOutcome, bare, told, answer}
 use Rattle.machine.specs.declared.Place.{Place}
-use Rattle.machine.specs.Contracts.{Answer}
-use Rattle.machine.specs.Machine.{value, Small, SmallOutcome, bare, told, state, frame-of, Within}
-use Rattle.machine.specs.Machine.{inside, after}
-use Rattle.machine.specs.Contracts
-use Rattle.machine.specs.Contracts.{Acts, answer, Ready, Done, PreLeaf, PostLeaf, PostRead, PostNew}
-use Rattle.machine.specs.Contracts.{PreNew, PreChange, PostChange, no-child, PreApply, PostApply}
-use Rattle.machine.specs.Contracts.{PostLoad, PostCast, PreObject, PreCast, Wrote}
-use Rattle.machine.proofs.Values.{outcome-value}
-use Rattle.machine.proofs.Acts.{stored-same}
-use Rattle.machine.proofs.Nodes
-use Rattle.machine.proofs.Nodes.{head, as-literal-true, as-literal-false, as-literal-null, as-slot}
-use Rattle.machine.proofs.Nodes.{as-new, as-change, as-is-null, as-get, as-cast, as-assign}
+use Rattle.machine.specs.Machine.{state, frame-of, inside, after}
+use Rattle.objects.specs.Holding.{Within}
+use Rattle.objects.specs.Contracts.{Acts, PostNew, PreNew, PreChange, PostChange, PostLoad, PostCast}
+use Rattle.objects.specs.Contracts.{PreObject, PreCast}
+use Rattle.machine.specs.Contracts.{Ready, Done, PreLeaf, PostLeaf, PostRead, no-child, PreApply}
+use Rattle.machine.specs.Contracts.{PostApply, Wrote}
+use Rattle.objects.proofs.Values.{outcome-value}
+use Rattle.objects.proofs.Acts.{stored-same}
+use Rattle.machine.proofs.Letters.{head, as-literal-true, as-literal-false, as-literal-null, as-slot}
+use Rattle.machine.proofs.Letters.{as-new, as-change, as-is-null, as-get, as-cast, as-assign}
 use Rattle.machine.proofs.Nodes.{rest-change, rest-assign}
 
 -- an act as what a node comes to

@@ -1,10 +1,6 @@
 -- What the proofs of several functions use.
-mod Objects
-mod Values
-mod Tally
-mod Acts
 mod Frames
-mod Fresh
+mod Letters
 mod Nodes
 mod Leaves
 mod Steps

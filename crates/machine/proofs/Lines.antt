@@ -6,13 +6,14 @@ use Prim.Native.Nat.{ℕ, suc, _+_, _-_, _*_, _≤_, _<_}
 use native.Mathlib.Omega.{arith}
 use lib.ListN.{length, getD}
 use Rattle.language.specs.Rows.{Letter, code}
-use Rattle.language.specs.Tree.{DeclaredType, Field, Expr, literal-true, literal-false, literal-null, slot}
+use Rattle.language.specs.Tree.{Expr, literal-true, literal-false, literal-null, slot}
 use Rattle.language.specs.Tree.{is-null, get, cast, new, change, assign, set, call, choose, block, Exprs, nil}
 use Rattle.language.specs.Tree.{cons, size, sizes, Declaration, method-lines, methods-lines, heading-lines}
 use Rattle.language.specs.Tree.{Class, class-lines, classes-lines}
-use Rattle.language.specs.Encoded.{RowAt, Encoded, EncodedAll, LocalsAt}
-use Rattle.language.specs.Layout.{EachMethod, EachClass, ParametersAt, EffectsAt, FieldsAt, MethodAt, ClassAt}
-use Rattle.machine.proofs.Objects.{lt-or}
+use Rattle.language.specs.Encoded.{RowAt, LinesAt, Encoded, EncodedAll}
+use Rattle.language.specs.Layout.{EachMethod, EachClass, MethodAt, ClassAt}
+use Rattle.language.proofs.Lines.{each-line}
+use Rattle.objects.proofs.Nth.{lt-or}
 
 -- None of n rows from a row on has a letter of code x.
 pub record Without (R : List ℕ) (x from n : ℕ) : Type 0 where
@@ -34,41 +35,19 @@ without-then {R} {x} r m r′ n k p q s t = record { none = λ i a b e. go i a b
     go i a b e (inl l) = p .none i a (omega arith) e
     go i a b e (inr l) = q .none i l (omega arith) e
 
--- Lines of a heading.
-module _ {R : List ℕ} {x : ℕ} where
-  pub without-parameters : (80 ≡ x → ⊥) → (ts : List DeclaredType) (r : ℕ) → ParametersAt R ts r
-      → Without R x r (length ts)
-  unfolding ParametersAt
-  without-parameters n [] r h = without-nil
-  without-parameters n (t ∷ ts) r h =
-      without-then r 1 (r + 1) (length ts) (suc (length ts)) (without-row n (h .0))
-      (without-parameters n ts (r + 1) (h .1)) refl (omega arith)
-
-  pub without-effects : (88 ≡ x → ⊥) → (cs : List ℕ) (r : ℕ) → EffectsAt R cs r → Without R x r (length cs)
-  unfolding EffectsAt
-  without-effects n [] r h = without-nil
-  without-effects n (c ∷ cs) r h =
-      without-then r 1 (r + 1) (length cs) (suc (length cs)) (without-row n (h .0))
-      (without-effects n cs (r + 1) (h .1)) refl (omega arith)
+-- Lines of which none has the letter.
+pub without-lines : {A : Type 0} {Q : A → ℕ → Type 0} {R : List ℕ} {x : ℕ}
+    → ((y : A) (i : ℕ) → Q y i → getD R (i * 4) 0 ≡ x → ⊥) → (xs : List A) (r : ℕ) → LinesAt Q xs r
+    → Without R x r (length xs)
+without-lines {Q = Q} {R} {x} other xs r h = record {
+  none = λ i a b e. let z : i ≡ r + (i - r) = omega arith in
+      each-line Q (λ i. getD R (i * 4) 0 ≡ x → ⊥) other xs r h (i - r) (omega arith) (rw z at e);
+}
 
 -- Before the S line of a program there is no other.
 module _ (R E : List ℕ) where
   abbrev No : ℕ → ℕ → Type 0
   No r n = Without R 83 r n
-
-  no-locals : (ts : List DeclaredType) (r : ℕ) → LocalsAt R ts r → No r (length ts)
-  unfolding LocalsAt
-  no-locals [] r h = without-nil
-  no-locals (t ∷ ts) r h =
-      without-then r 1 (r + 1) (length ts) (suc (length ts)) (without-row (λ e. omega arith) (h .0))
-      (no-locals ts (r + 1) (h .1)) refl (omega arith)
-
-  no-fields : (fs : List Field) (r : ℕ) → FieldsAt R fs r → No r (length fs)
-  unfolding FieldsAt
-  no-fields [] r h = without-nil
-  no-fields (f ∷ fs) r h =
-      without-then r 1 (r + 1) (length fs) (suc (length fs)) (without-row (λ e. omega arith) (h .0))
-      (no-fields fs (r + 1) (h .1)) refl (omega arith)
 
   mutual
     unfolding Encoded size
@@ -110,8 +89,9 @@ module _ (R E : List ℕ) where
         without-then r (1 + size a + size b) (r + 1 + size a + size b) (size c) (1 + size a + size b + size c)
         y (no-start c (r + 1 + size a + size b) (h .3)) (omega arith) refl
     no-start (block ts es) r h =
-        let a = without-then r 1 (r + 1) (length ts) (1 + length ts)
-        (without-row (λ e. omega arith) (h .0 .row)) (no-locals ts (r + 1) (h .1)) refl refl in
+        let a : No r (1 + length ts) = without-then r 1 (r + 1) (length ts) (1 + length ts)
+        (without-row (λ e. omega arith) (h .0 .row))
+        (without-lines (λ t i v e. omega (arith, v .letter, e)) ts (r + 1) (h .1)) refl refl in
         without-then r (1 + length ts) (r + 1 + length ts) (sizes es) (1 + length ts + sizes es) a
         (no-starts es (r + 1 + length ts) (h .2)) (omega arith) refl
 
@@ -128,10 +108,12 @@ module _ (R E : List ℕ) where
       let nx = length (m .effects) in
       let a : No r (1 + np) =
       without-then r 1 (r + 1) np (1 + np) (without-row (λ e. omega arith) (h .line))
-      (without-parameters (λ e. omega arith) (m .parameters) (r + 1) (h .parameters)) refl refl in
+      (without-lines (λ t i v e. omega (arith, v .letter, e)) (m .parameters) (r + 1) (h .parameters)) refl
+      refl in
       let b : No r (1 + np + nx) =
       without-then r (1 + np) (r + 1 + np) nx (1 + np + nx) a
-      (without-effects (λ e. omega arith) (m .effects) (r + 1 + np) (h .effects)) (omega arith) refl in
+      (without-lines (λ c i v e. omega (arith, v .letter, e)) (m .effects) (r + 1 + np) (h .effects))
+      (omega arith) refl in
       without-then r (1 + np + nx) (r + 1 + np + nx) (size (m .body)) (1 + np + nx + size (m .body)) b
       (no-start (m .body) (r + 1 + np + nx) (h .body)) (omega arith) refl
 
@@ -150,7 +132,7 @@ module _ (R E : List ℕ) where
       let nf = length (c .fields) in
       let a : No r (1 + nf) =
       without-then r 1 (r + 1) nf (1 + nf) (without-row (λ e. omega arith) (h .line))
-      (no-fields (c .fields) (r + 1) (h .fields)) refl refl in
+      (without-lines (λ f i v e. omega (arith, v .letter, e)) (c .fields) (r + 1) (h .fields)) refl refl in
       without-then r (1 + nf) (r + 1 + nf) (methods-lines (c .methods)) (1 + nf + methods-lines (c .methods))
       a (no-methods (c .methods) k (r + 1 + nf) (h .methods)) (omega arith) refl
 

@@ -9,21 +9,17 @@ use Rattle.language.specs.Tree.{Expr, Exprs, nil, cons, count, Class, size}
 use Rattle.language.specs.Encoded.{Encoded, EncodedAll}
 use Rattle.language.specs.Evaluation.{Value as Meaning, State, Out, eval-all, last-value}
 use Rattle.language.specs.Store.{capacity}
-use Rattle.machine.specs.declared.Value.{Value}
-use Rattle.machine.specs.Machine.{Outcome}
-use Rattle.machine.specs.Machine.{Gave, Raised, Stopped, Stuck}
-use Rattle.machine.specs.Machine.{Counts}
+use Rattle.objects.specs.declared.Value.{Value}
+use Rattle.objects.specs.Values.{Outcome, Gave, Raised, Stopped, Stuck, Counts, Answer, value, Small, bare}
+use Rattle.objects.specs.Values.{told, answer}
 use Rattle.machine.specs.declared.Place.{Place}
-use Rattle.machine.specs.Contracts.{Answer}
-use Rattle.machine.specs.Machine.{value, Small, bare, told, state, Within, WithinAll}
-use Rattle.machine.specs.Contracts
-use Rattle.machine.specs.Contracts.{answer, Ready, Done, PreEval, PostEval, PreList, PostItems}
-use Rattle.machine.specs.Contracts.{evaluated, evaluated-all}
-use Rattle.machine.proofs.Values.{bare-stop, small-of}
-use Rattle.machine.proofs.Acts.{stored-same}
-use Rattle.machine.proofs.Nodes
-use Rattle.machine.proofs.Nodes.{head}
-use Rattle.machine.proofs.Steps
+use Rattle.machine.specs.Machine.{state}
+use Rattle.objects.specs.Holding.{Within, WithinAll}
+use Rattle.machine.specs.Contracts.{Ready, Done, PreEval, PostEval, PreList, PostItems, evaluated}
+use Rattle.machine.specs.Contracts.{evaluated-all}
+use Rattle.objects.proofs.Values.{bare-stop, small-of}
+use Rattle.objects.proofs.Acts.{stored-same}
+use Rattle.machine.proofs.Letters.{head}
 use Rattle.machine.proofs.Steps.{kept-then, refit, room-same, gives, kept-of}
 
 -- the first of a list, and the rest

@@ -10,18 +10,14 @@ use Rattle.language.specs.Program.{world}
 use Rattle.language.specs.Encoded.{Encoded}
 use Rattle.language.specs.Evaluation.{do-set}
 use Rattle.language.specs.Store.{capacity}
-use Rattle.machine.specs.declared.Value.{Value}
-use Rattle.machine.specs.Machine.{Outcome}
-use Rattle.machine.specs.Machine.{Gave}
-use Rattle.machine.specs.Machine.{Counts}
+use Rattle.objects.specs.declared.Value.{Value}
+use Rattle.objects.specs.Values.{Outcome, Gave, Counts, Answer, value, answer}
 use Rattle.machine.specs.declared.Place.{Place}
-use Rattle.machine.specs.Contracts.{Answer}
-use Rattle.machine.specs.Machine.{value, state, frame-of, Within, inside}
-use Rattle.machine.specs.Contracts
-use Rattle.machine.specs.Contracts.{answer, Ready, Done, PreEval, PreEntered, PostEval, PostNode}
-use Rattle.machine.specs.Contracts.{PostSave, PreObject, evaluated}
-use Rattle.machine.proofs.Nodes
-use Rattle.machine.proofs.Nodes.{head, as-set}
+use Rattle.machine.specs.Machine.{state, frame-of, inside}
+use Rattle.objects.specs.Holding.{Within}
+use Rattle.machine.specs.Contracts.{Ready, Done, PreEval, PreEntered, PostEval, PostNode, evaluated}
+use Rattle.objects.specs.Contracts.{PostSave, PreObject}
+use Rattle.machine.proofs.Letters.{head, as-set}
 use Rattle.machine.proofs.Steps
 use Rattle.machine.proofs.Steps.{kept-then, kept-more, ready-child, refit, room-same, then-eval, fails}
 use Rattle.machine.proofs.Steps.{gives, kept-of}

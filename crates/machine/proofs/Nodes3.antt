@@ -15,20 +15,15 @@ use Rattle.language.specs.Tree.{Expr, choose, Class, size}
 use Rattle.language.specs.Encoded.{Encoded}
 use Rattle.language.specs.Evaluation.{Value as Meaning, truth, State, Out, need-truth}
 use Rattle.language.specs.Store.{capacity}
-use Rattle.machine.specs.declared.Value.{Value}
-use Rattle.machine.specs.declared.Value.the-variants.{Null, Truth, Object}
-use Rattle.machine.specs.Machine.{Gave, Stuck}
-use Rattle.machine.specs.Machine.{Counts}
+use Rattle.objects.specs.declared.Value.{Value}
+use Rattle.objects.specs.declared.Value.the-variants.{Null, Truth, Object}
+use Rattle.objects.specs.Values.{Gave, Stuck, Counts, Answer, value, bare, told, answer}
 use Rattle.machine.specs.declared.Place.{Place}
-use Rattle.machine.specs.Contracts.{Answer}
-use Rattle.machine.specs.Machine.{value, bare, told, state, Within, inside}
-use Rattle.machine.specs.Contracts
-use Rattle.machine.specs.Contracts.{answer, Ready, Done, PreEval, PreEntered, PostEval, PostNode}
-use Rattle.machine.specs.Contracts.{evaluated}
-use Rattle.machine.proofs.Value.{the-type}
-use Rattle.machine.proofs.Nodes
-use Rattle.machine.proofs.Nodes.{head, as-choose}
-use Rattle.machine.proofs.Steps
+use Rattle.machine.specs.Machine.{state, inside}
+use Rattle.objects.specs.Holding.{Within}
+use Rattle.machine.specs.Contracts.{Ready, Done, PreEval, PreEntered, PostEval, PostNode, evaluated}
+use Rattle.objects.proofs.Value.{the-type}
+use Rattle.machine.proofs.Letters.{head, as-choose}
 use Rattle.machine.proofs.Steps.{kept-then, kept-more, kept-as, ready-child, refit, room-same}
 use Rattle.machine.proofs.Steps.{then-eval, fails, gives}
 

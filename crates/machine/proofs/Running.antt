@@ -13,18 +13,15 @@ use Rattle.language.specs.Program.{world}
 use Rattle.language.specs.Evaluation.{Value as Meaning, State, Out, with-limits, run}
 use Rattle.language.specs.Store.{value-number, value-of-number, heap-of-numbers, heap-numbers, object-numbers}
 use Rattle.language.specs.Store.{capacity, stored, finish, finished, ran}
-use Rattle.machine.specs.Machine.{Outcome}
-use Rattle.machine.specs.Machine.{Gave, Raised, Stopped, Stuck}
-use Rattle.machine.specs.Machine.{Counts}
+use Rattle.objects.specs.Values.{Outcome, Gave, Raised, Stopped, Stuck, Counts, Answer, outcome, counts-in}
+use Rattle.objects.specs.Values.{told, bare, answered}
 use Rattle.machine.specs.declared.Place.{Place}
-use Rattle.machine.specs.Contracts.{Answer}
-use Rattle.machine.specs.Machine.{outcome, counts-in, told, bare, state, frame-of, slots-of, Holds}
-use Rattle.machine.specs.Machine.{Sound}
-use Rattle.machine.specs.Contracts
-use Rattle.machine.specs.Contracts.{answered, Ready, Done, PreEval, PostEval, PreRun, PostRun, Runs}
-use Rattle.machine.specs.Contracts.{outcome-of, evaluated}
-use Rattle.machine.proofs.Values.{value-number-of}
-use Rattle.machine.proofs.Objects.{heap-length}
+use Rattle.machine.specs.Machine.{state, frame-of, slots-of}
+use Rattle.objects.specs.Holding.{Holds, Sound}
+use Rattle.machine.specs.Contracts.{Ready, Done, PreEval, PostEval, PreRun, PostRun, Runs, outcome-of}
+use Rattle.machine.specs.Contracts.{evaluated}
+use Rattle.objects.proofs.Values.{value-number-of}
+use Rattle.objects.proofs.Objects.{heap-length}
 
 -- ---- the store at the end
 

@@ -14,21 +14,20 @@ use Rattle.language.specs.Program.{world}
 use Rattle.language.specs.Encoded.{Encoded}
 use Rattle.language.specs.Evaluation.{Value as Meaning, State, Out, with-limits}
 use Rattle.language.specs.Store.{capacity}
-use Rattle.machine.specs.declared.Value.{Value}
-use Rattle.machine.specs.Machine.{Outcome}
-use Rattle.machine.specs.Machine.{Gave, Raised, Stopped, Stuck}
-use Rattle.machine.specs.Machine.{Counts, counts-in}
+use Rattle.objects.specs.declared.Value.{Value}
+use Rattle.objects.specs.Values.{Outcome, Gave, Raised, Stopped, Stuck, Counts, counts-in, Answer, value}
+use Rattle.objects.specs.Values.{SmallOutcome, bare, told, answer}
 use Rattle.machine.specs.declared.Place.{Place}
-use Rattle.machine.specs.Contracts.{Answer}
-use Rattle.machine.specs.Machine.{value, SmallOutcome, bare, told, state, Within, after}
-use Rattle.machine.specs.Contracts
-use Rattle.machine.specs.Contracts.{Stored, answer, Ready, Kept, Done, PreNode, PreEval, PreEntered}
-use Rattle.machine.specs.Contracts.{PostEval, PostNode, PreLeaf, PreApply, PostApply, calls-of}
-use Rattle.machine.specs.Contracts.{evaluated, no-child, one-child}
-use Rattle.machine.proofs.Values.{bare-ok, bare-stop, small-of}
-use Rattle.machine.proofs.Acts.{stored-same}
-use Rattle.machine.proofs.Nodes
-use Rattle.machine.proofs.Nodes.{head, OneChild, one-of, child, one-encoded, one-within, one-inside}
+use Rattle.machine.specs.Machine.{state, after}
+use Rattle.objects.specs.Holding.{Within}
+use Rattle.objects.specs.Contracts.{Stored}
+use Rattle.machine.specs.Contracts.{Ready, Kept, Done, PreNode, PreEval, PreEntered, PostEval, PostNode}
+use Rattle.machine.specs.Contracts.{PreLeaf, PreApply, PostApply, calls-of, evaluated, no-child}
+use Rattle.machine.specs.Contracts.{one-child}
+use Rattle.objects.proofs.Values.{bare-ok, bare-stop, small-of}
+use Rattle.objects.proofs.Acts.{stored-same}
+use Rattle.machine.proofs.Letters.{head}
+use Rattle.machine.proofs.Nodes.{OneChild, one-of, child, one-encoded, one-within, one-inside}
 use Rattle.machine.proofs.Nodes.{eval-inside, rest-one-child}
 
 -- ---- what is kept, one answer after another

@@ -10,8 +10,8 @@ use Rattle.language.specs.Evaluation.{raised, spent, deep, full, stuck}
 use Rattle.language.specs.Store.{Outcome, gave, ended, value-number, Answer, refused, ran}
 use Rattle.checker.specs.declared.Verdict.{Verdict}
 use Rattle.checker.specs.declared.Verdict.the-variants.{Accepted, Refused as NotAccepted}
-use Rattle.machine.specs.declared.Value.{Value}
-use Rattle.machine.specs.declared.Value.the-variants.{Null, Truth, Object}
+use Rattle.objects.specs.declared.Value.{Value}
+use Rattle.objects.specs.declared.Value.the-variants.{Null, Truth, Object}
 use Rattle.machine.specs.declared.End.{End}
 use Rattle.machine.specs.declared.End.the-variants.{Gave, Raised, Stopped}
 use Rattle.runner.specs.declared.Answer as runner

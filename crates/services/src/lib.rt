@@ -3,7 +3,7 @@ use checker::Verdict;
 use language::Filled;
 use machine::End;
 use machine::Run;
-use machine::Value;
+use objects::Value;
 use runner::Answer;
 ghost use mathlib.Core.Path.{_≡_};
 ghost use lib.ListN.{length};

@@ -25,12 +25,12 @@ use Rattle.machine.proofs.+args+block+call+choose+eval+items+one_child+
 use Rattle.machine.proofs.set.Reads as set
 use Rattle.machine.proofs.+args+block+call+choose+eval+items+one_child+set.Lts-set as set-lts
 use Rattle.machine.proofs.apply.Reads as apply-reads
-use Rattle.machine.proofs.decode.Reads as decode-reads
-use Rattle.machine.proofs.find_body.Reads as find-body-reads
+use Rattle.objects.proofs.decode.Reads as decode-reads
+use Rattle.objects.proofs.find_body.Reads as find-body-reads
 use Rattle.machine.proofs.leaf.Reads as leaf-reads
 use Rattle.machine.proofs.is_leaf.Reads as is-leaf-reads
 use Rattle.machine.proofs.open_locals.Reads as open-locals-reads
-use Rattle.machine.proofs.save.Reads as save-reads
+use Rattle.objects.proofs.save.Reads as save-reads
 use Rattle.machine.proofs.+args+block+call+choose+eval+items+one_child+set.{statement}
 use Rattle.machine.proofs.+args+block+call+choose+eval+items+one_child+set.Tie.{close}
 use Rattle.machine.proofs.+args+block+call+choose+eval+items+one_child+set.Proof.Base.{μ-args, μ-block, μ-call, μ-choose, μ-eval, μ-items, μ-one-child, μ-set, args-at, args-below, block-at, block-below, call-at, call-below, choose-at, choose-below, eval-at, eval-below, items-at, items-below, one-child-at, one-child-below, set-at, set-below}

@@ -1,9 +1,9 @@
 use Rattle.machine.proofs.Leaves.{apply-row, apply-room, pre-load, pre-cast, apply-rest, apply-null, apply-some, apply-get, apply-cast, apply-assign, apply-number}
-use Rattle.machine.specs.Machine.{outcome}
-use native.Mathlib.Omega.{arith}
-use Prim.Native.Nat.{_+_, _-_, _*_}
+use Rattle.objects.specs.Values.{outcome}
 use Rattle.machine.proofs.apply.Statement.{statement}
 use Rattle.machine.proofs.apply.Tie as tie
+use native.Mathlib.Omega.{arith}
+use Prim.Native.Nat.{_+_, _-_, _*_}
 
 mul-k : tie.Need-mul-k
 mul-k c = omega (arith, apply-row (c .before .before .before .before .before .pre))

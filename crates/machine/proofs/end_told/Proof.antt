@@ -1,14 +1,14 @@
-use Rattle.machine.proofs.Values.{gave-number, small-number, outcome-failure, failure-raised, failure-stopped, failure-low}
+use Rattle.objects.proofs.Values.{gave-number, small-number, outcome-failure, failure-raised, failure-stopped, failure-low}
 use Rattle.machine.specs.declared.End.the-variants.{Stopped}
-use Rattle.machine.specs.Machine.{outcome}
+use Rattle.objects.specs.Values.{outcome}
 use Rattle.machine.specs.Contracts.{outcome-of, end-told}
 use Rattle.machine.proofs.Checked.{told-gave, told-raised, told-stopped}
+use Rattle.machine.proofs.end_told.Statement.{statement}
+use Rattle.machine.proofs.end_told.Tie as tie
 use native.Mathlib.Omega.{arith}
 use Prim.Native.Nat.{ℕ, _-_}
 use mathlib.Core.Path.{_≡_, sym, _∙_}
 use borrow.Author.Needs.{needs}
-use Rattle.machine.proofs.end_told.Statement.{statement}
-use Rattle.machine.proofs.end_told.Tie as tie
 
 cast-decode : tie.Need-cast-decode
 cast-decode c = search needs

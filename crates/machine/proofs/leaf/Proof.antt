@@ -1,10 +1,10 @@
 use Rattle.machine.proofs.Leaves.{leaf-row, leaf-room, leaf-true, leaf-false, leaf-null, leaf-slot, pre-new, leaf-new, leaf-rest}
-use Rattle.machine.specs.Machine.{outcome}
+use Rattle.objects.specs.Values.{outcome}
+use Rattle.machine.proofs.leaf.Statement.{statement}
+use Rattle.machine.proofs.leaf.Tie as tie
 use native.Mathlib.Omega.{arith}
 use Prim.Native.Nat.{_+_, _-_, _*_}
 use borrow.Author.Needs.{needs}
-use Rattle.machine.proofs.leaf.Statement.{statement}
-use Rattle.machine.proofs.leaf.Tie as tie
 
 mul-k : tie.Need-mul-k
 mul-k c = omega (arith, leaf-row (c .before .before .before .before .pre .0))

@@ -3,8 +3,8 @@ use Prim.Native.Nat.{_+_, _-_, _*_, _≤_}
 use native.Mathlib.Omega.{arith}
 use lib.ListN.{getD}
 use borrow.Author.Needs.{needs}
-use Rattle.machine.proofs.Values.{written-none, written-more}
-use Rattle.machine.specs.Contracts.{Written, first-of-type}
+use Rattle.objects.proofs.Values.{written-none, written-more}
+use Rattle.objects.specs.Contracts.{Written, first-of-type}
 use Rattle.machine.proofs.open_locals.Statement.{statement}
 use Rattle.machine.proofs.open_locals.Tie as tie
 

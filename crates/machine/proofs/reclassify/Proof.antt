@@ -1,11 +1,11 @@
 use Rattle.machine.proofs.Leaves.{leaf-row, leaf-room, pre-change, change-missing, change-done}
-use Rattle.machine.proofs.Values.{not-gave, outcome-value, small-decoded}
-use Rattle.machine.specs.Machine.{outcome, decoded}
+use Rattle.objects.proofs.Values.{not-gave, outcome-value, small-decoded}
+use Rattle.objects.specs.Values.{outcome, decoded}
+use Rattle.machine.proofs.reclassify.Statement.{statement}
+use Rattle.machine.proofs.reclassify.Tie as tie
 use native.Mathlib.Omega.{arith}
 use Prim.Native.Nat.{_+_, _-_, _*_}
 use borrow.Author.Needs.{needs}
-use Rattle.machine.proofs.reclassify.Statement.{statement}
-use Rattle.machine.proofs.reclassify.Tie as tie
 
 mul-k : tie.Need-mul-k
 mul-k c = omega (arith, leaf-row (c .before .before .before .before .pre .0))

@@ -2,9 +2,10 @@
 use native.Mathlib.Omega.{arith}
 use mathlib.Core.Path.{sym, _∙_}
 use Prim.Native.Nat.{ℕ, _-_}
-use Rattle.machine.specs.Machine.{Gave, counts-in, place-of}
-use Rattle.machine.specs.Contracts.{answer, answered, nothing}
-use Rattle.machine.proofs.Values.{number-decoded, outcome-value, not-gave}
+use Rattle.objects.specs.Values.{Gave, counts-in, answer, answered}
+use Rattle.machine.specs.Machine.{place-of}
+use Rattle.machine.specs.Contracts.{nothing}
+use Rattle.objects.proofs.Values.{number-decoded, outcome-value, not-gave}
 use Rattle.machine.proofs.Steps.{kept-of}
 use Rattle.machine.proofs.Lists.{list-first}
 use Rattle.machine.proofs.Arguments.{ArgsLoop, args-start, args-head, args-broken, args-room, args-next, args-ended}

@@ -3,13 +3,13 @@ use borrow.Author.Needs.{needs}
 use native.Mathlib.Omega.{arith}
 use mathlib.Core.Path.{_∙_}
 use Prim.Native.Nat.{ℕ, _+_, _*_, _-_}
-use Rattle.machine.proofs.Values.{outcome-value, not-gave}
+use Rattle.objects.proofs.Values.{outcome-value, not-gave}
 use Rattle.machine.proofs.Calls.{call-apart, call-args, kept-args, top-room, call-fail, call-find, body-allowed, call-body, call-ends, call-done}
 use Rattle.machine.proofs.args.Reads as args
 use Rattle.machine.proofs.call.Reads as call
 use Rattle.machine.proofs.+args+block+call+choose+eval+items+one_child+set.Lts-call as call-lts
 use Rattle.machine.proofs.eval.Reads as eval
-use Rattle.machine.proofs.find_body.Reads as find-body-reads
+use Rattle.objects.proofs.find_body.Reads as find-body-reads
 use Rattle.machine.proofs.+args+block+call+choose+eval+items+one_child+set.Proof.Base.{args-below, call-at, eval-below}
 
 pub call-mul-n : (t : ℕ) → call-lts.Need-mul-n (args-below t, args.Post, find-body-reads.Asked, find-body-reads.Learnt, eval-below t, eval.Post) (call-at t) call.Post

@@ -4,13 +4,13 @@ use native.Mathlib.Omega.{arith}
 use mathlib.Core.Path.{sym, ap, _∙_}
 use Prim.Native.Nat.{ℕ, _+_}
 use lib.ListN.{getD}
-use Rattle.machine.specs.Machine.{Gave}
-use Rattle.machine.proofs.Values.{not-gave, outcome-value, outcome-stuck}
+use Rattle.objects.specs.Values.{Gave}
+use Rattle.objects.proofs.Values.{not-gave, outcome-value, outcome-stuck}
 use Rattle.machine.proofs.Steps.{kept-of}
 use Rattle.machine.proofs.Nodes3.{choose-apart, choose-first, choose-second, choose-third, choose-fail, choose-stuck, choose-yes, choose-no}
 use Rattle.machine.proofs.choose.Reads as choose
 use Rattle.machine.proofs.+args+block+call+choose+eval+items+one_child+set.Lts-choose as choose-lts
-use Rattle.machine.proofs.decode.Reads as decode-reads
+use Rattle.objects.proofs.decode.Reads as decode-reads
 use Rattle.machine.proofs.eval.Reads as eval
 use Rattle.machine.proofs.+args+block+call+choose+eval+items+one_child+set.Proof.Base.{choose-at, eval-below}
 

@@ -4,7 +4,7 @@ use native.Mathlib.Omega.{arith}
 use native.Mathlib.Nat.{pos-of-ne-zero}
 use mathlib.Core.Path.{refl, sym, _∙_}
 use Prim.Native.Nat.{ℕ}
-use Rattle.machine.proofs.Values.{outcome-spent}
+use Rattle.objects.proofs.Values.{outcome-spent}
 use Rattle.machine.proofs.Steps.{in-rows, eval-spent, counts-entered, left-entered, eval-entered, pre-entered, pre-leaf, rest-one}
 use Rattle.machine.proofs.block.Reads as block
 use Rattle.machine.proofs.call.Reads as call

@@ -2,9 +2,10 @@
 use native.Mathlib.Omega.{arith}
 use mathlib.Core.Path.{refl, _∙_}
 use Prim.Native.Nat.{ℕ, _-_}
-use Rattle.machine.specs.Machine.{Gave, counts-in, place-of}
-use Rattle.machine.specs.Contracts.{answer, answered, nothing}
-use Rattle.machine.proofs.Values.{outcome-value, not-gave}
+use Rattle.objects.specs.Values.{Gave, counts-in, answer, answered}
+use Rattle.machine.specs.Machine.{place-of}
+use Rattle.machine.specs.Contracts.{nothing}
+use Rattle.objects.proofs.Values.{outcome-value, not-gave}
 use Rattle.machine.proofs.Lists.{list-first, ItemsLoop, items-start, items-head, items-broken, items-next, items-ended}
 use Rattle.machine.proofs.eval.Reads as eval
 use Rattle.machine.proofs.items.Reads as items

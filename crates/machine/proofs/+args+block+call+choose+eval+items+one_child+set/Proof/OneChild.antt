@@ -2,8 +2,8 @@
 use native.Mathlib.Omega.{arith}
 use mathlib.Core.Path.{_∙_}
 use Prim.Native.Nat.{ℕ}
-use Rattle.machine.specs.Machine.{outcome}
-use Rattle.machine.proofs.Values.{not-gave, outcome-value}
+use Rattle.objects.specs.Values.{outcome}
+use Rattle.objects.proofs.Values.{not-gave, outcome-value}
 use Rattle.machine.proofs.Steps.{in-rows, one-pre, pre-apply, one-fail, one-done}
 use Rattle.machine.proofs.eval.Reads as eval
 use Rattle.machine.proofs.one_child.Reads as one-child

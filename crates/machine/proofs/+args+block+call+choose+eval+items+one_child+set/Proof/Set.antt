@@ -2,14 +2,14 @@
 use native.Mathlib.Omega.{arith}
 use mathlib.Core.Path.{_∙_}
 use Prim.Native.Nat.{ℕ, _+_, _*_}
-use Rattle.machine.specs.Machine.{outcome}
-use Rattle.machine.proofs.Values.{not-gave, outcome-value}
+use Rattle.objects.specs.Values.{outcome}
+use Rattle.objects.proofs.Values.{not-gave, outcome-value}
 use Rattle.machine.proofs.Steps.{kept-of}
 use Rattle.machine.proofs.Nodes2.{set-apart, set-first, set-second, set-fail, set-fail-second, set-done, pre-save}
 use Rattle.machine.proofs.eval.Reads as eval
 use Rattle.machine.proofs.set.Reads as set
 use Rattle.machine.proofs.+args+block+call+choose+eval+items+one_child+set.Lts-set as set-lts
-use Rattle.machine.proofs.save.Reads as save-reads
+use Rattle.objects.proofs.save.Reads as save-reads
 use Rattle.machine.proofs.+args+block+call+choose+eval+items+one_child+set.Proof.Base.{eval-below, set-at}
 
 pub set-add-eval : (t : ℕ) → set-lts.Need-add-eval (eval-below t, eval.Post, save-reads.Asked, save-reads.Learnt) (set-at t) set.Post

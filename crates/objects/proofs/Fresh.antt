@@ -1,0 +1,276 @@
+-- Laws of first values, and of W. Assumes nothing.
+use mathlib.Core.Path.{_≡_, refl, sym, ap, ap₂, _∙_}
+use mathlib.Core.Bool.{false}
+use mathlib.Core.Logic.{_⊎_, inl, inr}
+use mathlib.Core.Option.{some}
+use mathlib.Core.List.{List, [], _∷_, _++_, map}
+use Prim.Native.Nat.{ℕ, suc, _+_, _-_, _*_, _≤_, _<_}
+use native.Mathlib.Omega.{arith}
+use borrow.Author.Tests.{le-leb, lt-leb}
+use lib.Dec.{leb}
+use lib.ListN.{length, getD, take, drop, set, length-set, length-append, length-take, length-drop, length-map}
+use lib.Seq.{getD-set-same, getD-set-other, ext-getD, getD-drop, length-take-le}
+use Rattle.language.specs.Lists.{nth, nth-map, nth-append}
+use Rattle.language.specs.Tree.{Class, Field}
+use Rattle.language.specs.Program.{world}
+use Rattle.language.specs.Evaluation.{Value as Meaning, Object as Thing, initial, initials}
+use Rattle.language.specs.Evaluation.{new-object, changed}
+use Rattle.language.specs.Store.{value-of-number, heap-of-numbers, capacity}
+use Rattle.objects.specs.declared.Value.the-variants.{Object}
+use Rattle.objects.specs.Values.{Gave, Stopped, Counts, counts-in, decoded, outcome}
+use Rattle.objects.specs.Values.{bare, answer, answered}
+use Rattle.objects.specs.Holding.{Holds, Sound}
+use Rattle.objects.specs.Contracts.{Stored, first-of, Fill, Filled, PreNew, PostNew}
+use Rattle.objects.proofs.Values.{value-of-value-number, decoded-object, gave-number}
+use Rattle.objects.proofs.Tally.{counts, set-made}
+use Rattle.objects.proofs.Acts.{acts-same}
+use Rattle.objects.proofs.Nth.{lt-or, nth-ext, nth-take, nth-drop, nth-past, some-at}
+use Rattle.objects.proofs.Objects.{values-at, values-length, object-at, heap-length}
+use Rattle.objects.proofs.Objects.{heap-new}
+
+-- the first value of a field, by its number
+first-value : {R E T A : List ℕ} {P : List Class} → Holds R E T A P → (c i : ℕ) (f : Field) → c ≤ length P
+    → nth (world P .fields c) i ≡ some f → i < length (world P .fields c)
+    → value-of-number (first-of R T c i (getD T (c * 576 + 515) 0)) ≡ initial (f .type)
+unfolding first-of
+first-value {T = T} h c i f d e l =
+    let n = h .tables .counts c d in
+    rw (lt-leb (getD T (c * 576 + 515) 0) i (omega (arith, n)), h .fields c i f d e .first)
+    (value-of-value-number (initial (f .type)))
+
+-- fields kept up to `from`, first values after it
+pub fields-filled : {R E T A : List ℕ} {P : List Class} → Holds R E T A P → (s s′ : List ℕ) (o c from m : ℕ)
+    → c ≤ length P → from ≤ length (world P .fields c) → from ≤ m
+    → o + 18 ≤ length s → length s′ ≡ length s
+    → ((i : ℕ) → i < from → getD s′ (o + 1 + i) 0 ≡ getD s (o + 1 + i) 0)
+    → ((i : ℕ) → from ≤ i → i < 17 → getD s′ (o + 1 + i) 0 ≡ first-of R T c i (getD T (c * 576 + 515) 0))
+    → map value-of-number (take (length (world P .fields c)) (drop (o + 1) s′))
+    ≡ take from (map value-of-number (take m (drop (o + 1) s)))
+    ++ initials (drop from (world P .fields c))
+fields-filled {R} {E} {T} {A} {P} h s s′ o c from m d l k room long kept first =
+    let fs : List Field = world P .fields c in
+    let few : length fs ≤ 17 = h .counts c d in
+    let old : List Meaning = take from (map value-of-number (take m (drop (o + 1) s))) in
+    let a : length old ≡ from = old-length in
+    nth-ext (map value-of-number (take (length fs) (drop (o + 1) s′))) (old ++ initials (drop from fs))
+    (values-length s′ (o + 1) (length fs) (omega arith)
+    ∙ sym (length-append old (initials (drop from fs))
+    ∙ (ap₂ (λ (x y : ℕ). x + y) a
+    (length-map (drop from fs) (λ (f : Field). initial (f .type)) ∙ length-drop from fs) ∙ omega arith)))
+    (λ i b. let b′ : i < length fs = omega (arith, values-length s′ (o + 1) (length fs) (omega arith)) in
+    values-at s′ (o + 1) (length fs) i b′ (omega arith) ∙ go few a i b′ (lt-or i from))
+  where
+    old-length : length (take from (map value-of-number (take m (drop (o + 1) s)))) ≡ from
+    old-length = length-take-le from (map value-of-number (take m (drop (o + 1) s)))
+        (simp (length-map, length-take, length-drop) (omega (arith, h .counts c d)))
+
+    go : length (world P .fields c) ≤ 17
+        → length (take from (map value-of-number (take m (drop (o + 1) s)))) ≡ from → (i : ℕ)
+        → i < length (world P .fields c) → (i < from) ⊎ (from ≤ i)
+        → some (value-of-number (getD s′ (o + 1 + i) 0))
+        ≡ nth (take from (map value-of-number (take m (drop (o + 1) s)))
+        ++ initials (drop from (world P .fields c))) i
+    go few a i b (inl x) =
+        let old : List Meaning = take from (map value-of-number (take m (drop (o + 1) s))) in
+        let v : Meaning = value-of-number (getD s (o + 1 + i) 0) in
+        let e : nth old i ≡ some v = nth-take from (map value-of-number (take m (drop (o + 1) s))) i x
+        ∙ values-at s (o + 1) m i (omega arith) (omega arith) in
+        ap (λ (y : ℕ). some (value-of-number y)) (kept i x)
+        ∙ sym (nth-append old (initials (drop from (world P .fields c))) i v e)
+    go few a i b (inr x) =
+        let fs : List Field = world P .fields c in
+        let old : List Meaning = take from (map value-of-number (take m (drop (o + 1) s))) in
+        let w = some-at fs i b in
+        let z : from + (i - from) ≡ i = omega arith in
+        let e : nth (drop from fs) (i - from) ≡ some (w .0) = nth-drop from fs (i - from) ∙ rw z (w .1) in
+        let y : nth (old ++ initials (drop from fs)) (length old + (i - from)) ≡ some (initial (w .0 .type)) =
+        nth-past old (initials (drop from fs)) (i - from)
+        ∙ nth-map (λ (f : Field). initial (f .type)) (i - from) (drop from fs) (w .0) e in
+        let y′ : nth (old ++ initials (drop from fs)) i ≡ some (initial (w .0 .type)) = rw (a, z) at y in
+        ap some (ap value-of-number (first i x (omega arith)) ∙ first-value h c i (w .0) d (w .1) b) ∙ sym y′
+
+-- an object renewed: its class, fields kept up to `from`, first values after it
+pub record Renewed (R T s s′ : List ℕ) (o c from : ℕ) : Type 0 where
+  pub long : length s′ ≡ length s
+  pub class : getD s′ o 0 ≡ c
+  pub kept : (i : ℕ) → i < from → getD s′ (o + 1 + i) 0 ≡ getD s (o + 1 + i) 0
+  pub first : (i : ℕ) → from ≤ i → i < 17
+      → getD s′ (o + 1 + i) 0 ≡ first-of R T c i (getD T (c * 576 + 515) 0)
+  pub outside : (x : ℕ) → (x < o) ⊎ (o + 18 ≤ x) → getD s′ x 0 ≡ getD s x 0
+
+pub renewed : {R T s s₁ : List ℕ} (o c from : ℕ) → Filled R T s s₁ o c from → from ≤ 17 → o + 18 ≤ length s
+    → Renewed R T s (set s₁ o c) o c from
+renewed {R} {T} {s} {s₁} o c from w h room = record {
+  long = length-set s₁ o c ∙ w .long;
+  class = getD-set-same s₁ o c 0 (omega (arith, w .long));
+  kept = λ i l. getD-set-other s₁ o (o + 1 + i) c 0 (λ e. omega arith)
+      ∙ w .outside (o + 1 + i) (inl (omega arith));
+  first = λ i l k.
+      let e : o + 1 + from + (i - from) ≡ o + 1 + i = omega arith in
+      let e′ : from + (i - from) ≡ i = omega arith in
+      getD-set-other s₁ o (o + 1 + i) c 0 (λ e. omega arith)
+      ∙ (rw (e, e′) at (w .inside (i - from) (omega arith)));
+  outside = λ x l. getD-set-other s₁ o x c 0 (λ e. apart x l e) ∙ w .outside x (far x l);
+}
+  where
+    apart : (x : ℕ) → (x < o) ⊎ (o + 18 ≤ x) → x ≡ o → ⊥
+    apart x (inl a) e = omega arith
+    apart x (inr a) e = omega arith
+
+    far : (x : ℕ) → (x < o) ⊎ (o + 18 ≤ x) → (x < o + 1 + from) ⊎ (o + 1 + from + (17 - from) ≤ x)
+    far x (inl a) = inl (omega arith)
+    far x (inr a) = inr (omega arith)
+
+drop-same : (s s′ : List ℕ) (n : ℕ) → length s′ ≡ length s → ((x : ℕ) → n ≤ x → getD s′ x 0 ≡ getD s x 0)
+    → drop n s′ ≡ drop n s
+drop-same s s′ n e f =
+    ext-getD 0 (drop n s′) (drop n s) (simp (length-drop, e))
+    (λ i h. getD-drop n s′ i 0 ∙ (f (n + i) (omega arith) ∙ sym (getD-drop n s i 0)))
+
+unused-first : {R E T A : List ℕ} {P : List Class} → Holds R E T A P → (c i : ℕ) → c ≤ length P
+    → length (world P .fields c) ≤ i → first-of R T c i (getD T (c * 576 + 515) 0) ≡ 0
+unfolding first-of
+unused-first {T = T} h c i d l =
+    rw (le-leb (getD T (c * 576 + 515) 0) i (omega (arith, h .tables .counts c d)))
+
+module _ {R E T A : List ℕ} {P : List Class} (h : Holds R E T A P) (s s′ : List ℕ) (made made′ j c from : ℕ)
+    (snd : Sound P made s) (r : Renewed R T s s′ (j * 18) c from)
+    (d : c ≤ length P) (low : from ≤ length (world P .fields c)) (at : j < made′)
+    (only : (i : ℕ) → i < made′ → (i < j) ⊎ (j < i) → i < made) (room : made′ * 18 ≤ length s)
+    (few : made′ ≤ 65535) where
+  other : (i x : ℕ) → x < 18 → (i < j) ⊎ (j < i) → getD s′ (i * 18 + x) 0 ≡ getD s (i * 18 + x) 0
+  other i x l o = r .outside (i * 18 + x) (far o)
+    where
+      far : (i < j) ⊎ (j < i) → (i * 18 + x < j * 18) ⊎ (j * 18 + 18 ≤ i * 18 + x)
+      far (inl a) = inl (omega arith)
+      far (inr a) = inr (omega arith)
+
+  other-class : (i : ℕ) → (i < j) ⊎ (j < i) → getD s′ (i * 18) 0 ≡ getD s (i * 18) 0
+  other-class i o = let e : i * 18 + 0 ≡ i * 18 = omega arith in rw e at (other i 0 (omega arith) o)
+
+  pub sound-renewed : Sound P made′ s′
+  sound-renewed = record {
+    stored = omega (arith, r .long);
+    few = few;
+    declared = λ i k. declared i k (lt-or i j) (lt-or j i);
+    unused = λ i x k u l. unused i x k u l (lt-or i j) (lt-or j i);
+  }
+    where
+      declared : (i : ℕ) → i < made′ → (i < j) ⊎ (j ≤ i) → (j < i) ⊎ (i ≤ j) → getD s′ (i * 18) 0 ≤ length P
+      declared i k (inl o) o′ = rw (other-class i (inl o)) (snd .declared i (only i k (inl o)))
+      declared i k (inr o) (inl o′) = rw (other-class i (inr o′)) (snd .declared i (only i k (inr o′)))
+      declared i k (inr o) (inr o′) = let z : i ≡ j = omega arith in rw (z, r .class) d
+
+      same : (i x : ℕ) → i < made′ → length (world P .fields (getD s′ (i * 18) 0)) ≤ x → x < 17
+          → (i < j) ⊎ (j < i) → getD s′ (i * 18 + 1 + x) 0 ≡ 0
+      same i x k u l o =
+          let e : i * 18 + (1 + x) ≡ i * 18 + 1 + x = omega arith in
+          (rw e at (other i (1 + x) (omega arith) o))
+          ∙ snd .unused i x (only i k o) (rw (other-class i o) at u) l
+
+      unused : (i x : ℕ) → i < made′ → length (world P .fields (getD s′ (i * 18) 0)) ≤ x → x < 17
+          → (i < j) ⊎ (j ≤ i) → (j < i) ⊎ (i ≤ j) → getD s′ (i * 18 + 1 + x) 0 ≡ 0
+      unused i x k u l (inl o) o′ = same i x k u l (inl o)
+      unused i x k u l (inr o) (inl o′) = same i x k u l (inr o′)
+      unused i x k u l (inr o) (inr o′) =
+          let z : i ≡ j = omega arith in
+          let u′ : length (world P .fields c) ≤ x = rw (z, r .class) at u in
+          rw z (r .first x (omega arith) l ∙ unused-first h c x d u′)
+
+  pub stored-renewed : made ≤ made′ → Stored P s s′ made made′
+  stored-renewed m = record {
+    long = r .long;
+    rest = drop-same s s′ (made′ * 18) (r .long) (λ x l. r .outside x (inr (omega arith)));
+    more = m;
+    sound = sound-renewed;
+  }
+
+-- W
+pub new-fill : {R T s : List ℕ} {c made : ℕ} (p : PreNew R T s c made) (o : ℕ) → o + 18 ≤ length s
+    → Fill R T s o c 0
+unfolding nth
+new-fill {R} {T} {s} {c} p o h = record {
+  table = omega (arith, p .holds .tables .long, p .declared);
+  room = h;
+  start = omega arith;
+  few = omega (arith, p .holds .tables .counts c (p .declared), p .holds .counts c (p .declared));
+  rows = λ i l k.
+      let f = some-at (world (p .P) .fields c) i (omega (arith, p .holds .tables .counts c (p .declared))) in
+      p .holds .fields c i (f .0) (p .declared) (f .1) .within;
+}
+
+pub new-full : (R T s : List ℕ) (c : ℕ) (n : Counts) → capacity s ≤ n .made
+    → PostNew R T s s c n (answer (outcome 4294967312) n)
+unfolding bare outcome
+new-full R T s c n h =
+    record {
+      acts = λ E A P F hold snd d.
+          acts-same n (Stopped 16) snd (omega arith, omega arith)
+          (λ γ k. rw (heap-length (world P) (n .made) s, le-leb (capacity s) (n .made) h));
+    }
+
+pub full-count : (s : List ℕ) (made : ℕ) → 65535 ≤ made → capacity s ≤ made
+unfolding capacity
+full-count s made h = omega arith
+
+pub full-store : (s : List ℕ) (made : ℕ) → length s < made * 18 + 18 → capacity s ≤ made
+unfolding capacity
+full-store s made h = omega arith
+
+has-room : (s : List ℕ) (made : ℕ) → made < 65535 → made * 18 + 18 ≤ length s → made < capacity s
+unfolding capacity
+has-room s made h k = omega arith
+
+pub new-made : (R T s s₁ : List ℕ) (c : ℕ) (n : Counts) → n .made < 65535 → n .made * 18 + 18 ≤ length s
+    → Filled R T s s₁ (n .made * 18) c 0
+    → PostNew R T s (set s₁ (n .made * 18) c) c n
+    (answer (Gave (Object (n .made)))
+    (record { left = n .left; made = n .made + 1; changes = n .changes }))
+unfolding bare
+new-made R T s s₁ c n h room w = record {
+  acts = λ E A P F hold snd d.
+      let made : ℕ = n .made in
+      let s′ : List ℕ = set s₁ (made * 18) c in
+      let r : Renewed R T s s′ (made * 18) c 0 = renewed (made * 18) c 0 w (omega arith) room in
+      let e : made + 1 ≡ suc made = omega arith in
+      let z : leb (capacity s) made ≡ false = lt-leb (capacity s) made (has-room s made h room) in
+      let fields = fields-filled hold s s′ (made * 18) c 0 0 d (omega arith) (omega arith) room (r .long)
+      (λ i l. r .kept i l) (λ i l k. r .first i l k) in
+      let thing : object-at (world P) s′ (made * 18) ≡ new-object (world P) c
+      = ap (λ (k : ℕ). record {
+        class-of = k;
+        fields = map value-of-number
+            (take (length (world P .fields k)) (drop (made * 18 + 1) s′));
+      }) (r .class)
+      ∙ ap (λ (y : List Meaning). record { class-of = c; fields = y }) fields in
+      let heap : heap-of-numbers (world P) (made + 1) s′ ≡ heap-of-numbers (world P) made s
+      ++ (new-object (world P) c ∷ [])
+      = rw e (heap-new (world P) made s s′ (r .long)
+      (λ i k. hold .counts (getD s (i * 18) 0) (snd .declared i k)) (λ x l. r .outside x (inl l))
+      ∙ ap (λ (o : Thing). heap-of-numbers (world P) made s ++ (o ∷ [])) thing) in
+      record {
+        stored = stored-renewed hold s s′ made (made + 1) made c 0 snd r d (omega arith) (omega arith)
+            (λ i k o. only made i k o) (omega arith) (omega arith) (omega arith);
+        left = refl;
+        changed = omega arith;
+        small = omega arith;
+        is = λ γ k. rw (heap-length (world P) made s, z, heap);
+      };
+}
+  where
+    only : (made i : ℕ) → i < made + 1 → (i < made) ⊎ (made < i) → i < made
+    only made i k (inl o) = o
+    only made i k (inr o) = absurd (omega arith)
+
+-- the same of the number that is returned and of the tally, which counts the new object
+pub new-told : {R T s s₁ t′ : List ℕ} (t : List ℕ) {c : ℕ} → (1 < length t) × (t′ ≡ set t 1 (getD t 1 0 + 1))
+    → getD t 1 0 < 65535
+    → getD t 1 0 * 18 + 18 ≤ length s → Filled R T s s₁ (getD t 1 0 * 18) c 0
+    → PostNew R T s (set s₁ (getD t 1 0 * 18) c) c (counts-in t) (answered (getD t 1 0 + 3) t′)
+new-told {R} {T} {s} {s₁} t {c} (long, q) h room w =
+    let made : ℕ = getD t 1 0 in
+    let e : Object made ≡ decoded (made + 3) = let z : made + 3 - 3 ≡ made = omega arith in
+    sym (decoded-object (made + 3) (omega arith) ∙ ap Object z) in
+    let r = ap₂ (λ o m. answer o m) (gave-number (made + 3) e (omega arith))
+    (sym (set-made t (made + 1) long)) in
+    rw (q, ← r) (new-made R T s s₁ c (counts-in t) h room w)

@@ -1,0 +1,9 @@
+-- What the proofs of several functions use; the evaluator cites those that are pub.
+pub mod Nth
+pub mod Objects
+pub mod Values
+mod Tally
+pub mod Acts
+mod Fresh
+mod Changes
+pub mod Finding

@@ -1,0 +1,92 @@
+use mathlib.Core.Path.{sym, _∙_}
+use Prim.Native.Nat.{_*_}
+use native.Mathlib.Omega.{arith}
+use borrow.Author.Needs.{needs}
+use Rattle.objects.proofs.Acts.{cast-null, cast-truth, cast-past, cast-passes, cast-fails}
+use Rattle.objects.proofs.cast_object.Statement.{statement}
+use Rattle.objects.proofs.cast_object.Tie as tie
+
+decode-requires : tie.Need-decode-requires
+decode-requires c κs = search needs
+
+is-null-requires : tie.Need-is-null-requires
+is-null-requires c κs = search needs
+
+returns : tie.Need-returns
+returns c =
+    let start = c .before .before .before .before .before in
+    cast-null (start .args .n) (c .before .before .decode .ensures) (sym (c .before .is-null .ensures) ∙ c .if1 .taken) (omega arith)
+
+enum-known-v : tie.Need-enum-known-v
+enum-known-v c = search needs
+
+returns-2 : tie.Need-returns-2
+returns-2 c =
+    let start = c .before .before .before .before .before .before in
+    cast-truth (start .args .n) (c .before .before .before .decode .ensures) (c .match .keys2) (sym (c .before .before .is-null .ensures) ∙ c .before .if1 .left)
+
+element-copy-out-if2 : tie.Need-element-copy-out-if2
+element-copy-out-if2 c = search needs
+
+returns-3 : tie.Need-returns-3
+returns-3 c =
+    let start = c .before .before .before .before .before .before .before .before .before .before in
+    let the-decode = c .before .before .before .before .before .before .before .decode in
+    cast-past (start .args .n) (the-decode .ensures) (c .before .before .before .v .given .0 .0) (c .before .before .before .v .given .1) (c .if2 .taken)
+
+cast-k : tie.Need-cast-k
+cast-k c = search needs
+
+mul-k : tie.Need-mul-k
+mul-k c = search needs
+
+mul-k-2 : tie.Need-mul-k-2
+mul-k-2 c = search needs
+
+shared-slice-read-k : tie.Need-shared-slice-read-k
+shared-slice-read-k c = search needs
+
+cast-k-2 : tie.Need-cast-k-2
+cast-k-2 c =
+    let the-v = c .before .before .before .before .v in
+    omega (arith, c .shared-slice-known3 .given ((the-v .given .0 .0) * 18))
+
+is-below-requires : tie.Need-is-below-requires
+is-below-requires c κs =
+    let start = c .before .before .before .before .before .before .before .before .before .before .before in
+    let the-v = c .before .before .before .before .v in
+    (omega (arith, start .pre .holds .tables .long-above, start .pre .sound .declared (the-v .given .0 .0) (c .before .if2 .left)), omega (arith, start .pre .declared, start .pre .holds .classes))
+
+returns-4 : tie.Need-returns-4
+returns-4 c =
+    let start = c .before .before .before .before .before .before .before .before .before .before .before .before .before in
+    let the-decode = c .before .before .before .before .before .before .before .before .before .before .decode in
+    let the-v = c .before .before .before .before .before .before .v in
+    cast-passes (start .args .n) (the-decode .ensures) (the-v .given .0 .0) (the-v .given .1) (c .before .before .before .if2 .left) (sym (c .before .is-below .ensures) ∙ c .if3 .taken) (omega arith)
+
+returns-5 : tie.Need-returns-5
+returns-5 c =
+    let start = c .before .before .before .before .before .before .before .before .before .before .before .before .before in
+    let the-decode = c .before .before .before .before .before .before .before .before .before .before .decode in
+    let the-v = c .before .before .before .before .before .before .v in
+    cast-fails (start .args .n) (the-decode .ensures) (the-v .given .0 .0) (the-v .given .1) (c .before .before .before .if2 .left) (sym (c .before .is-below .ensures) ∙ c .if3 .left)
+
+pub cast-object-spec : {M : Type 1} → statement M
+cast-object-spec =
+    tie.close
+    (tie.spec
+    decode-requires
+    is-null-requires
+    returns
+    enum-known-v
+    returns-2
+    element-copy-out-if2
+    returns-3
+    cast-k
+    mul-k
+    mul-k-2
+    shared-slice-read-k
+    cast-k-2
+    is-below-requires
+    returns-4
+    returns-5)

@@ -1,0 +1,158 @@
+use mathlib.Core.Path.{refl, sym, _∙_}
+use Prim.Native.Nat.{_+_, _-_, _*_}
+use native.Mathlib.Omega.{arith}
+use lib.ListN.{getD, length-set}
+use Rattle.objects.proofs.Values.{small-number}
+use Rattle.objects.proofs.Changes.{root-spot, change-fill, change-null, change-truth, change-past, change-few, change-made, own-spot, change-of, same-number, one-change}
+use Rattle.objects.proofs.change_class.Statement.{statement}
+use Rattle.objects.proofs.change_class.Tie as tie
+use borrow.Author.Needs.{needs}
+
+decode-requires : tie.Need-decode-requires
+decode-requires c κs = search needs
+
+is-null-requires : tie.Need-is-null-requires
+is-null-requires c κs = search needs
+
+returns : tie.Need-returns
+returns c = change-of (c .before .before .decode .ensures) (same-number (c .before .before .decode .ensures) (omega (arith, c .before .before .before .before .before .before .fits .n))) (change-null (sym (c .before .is-null .ensures) ∙ c .if1 .taken) (small-number (c .before .before .before .before .before .before .args .n) (c .before .before .decode .ensures) (omega (arith, c .before .before .before .before .before .before .fits .n))))
+
+enum-known-v : tie.Need-enum-known-v
+enum-known-v c = search needs
+
+returns-2 : tie.Need-returns-2
+returns-2 c = change-of (c .before .before .before .decode .ensures) refl (change-truth (c .match .keys2) (sym (c .before .before .is-null .ensures) ∙ c .before .if1 .left))
+
+element-copy-out-if2 : tie.Need-element-copy-out-if2
+element-copy-out-if2 c = search needs
+
+returns-3 : tie.Need-returns-3
+returns-3 c = change-of (c .before .before .before .before .before .before .before .decode .ensures) refl (change-past (c .before .before .before .v .given .0 .0) (c .before .before .before .v .given .1) (c .if2 .taken))
+
+mul-root : tie.Need-mul-root
+mul-root c = omega (arith, root-spot (c .before .before .before .before .before .before .before .before .before .before .before .pre .new))
+
+add-root : tie.Need-add-root
+add-root c = omega (arith, root-spot (c .before .before .before .before .before .before .before .before .before .before .before .pre .new))
+
+mul-root-2 : tie.Need-mul-root-2
+mul-root-2 c = omega (arith, root-spot (c .before .before .before .before .before .before .before .before .before .before .before .pre .new))
+
+shared-slice-read-root : tie.Need-shared-slice-read-root
+shared-slice-read-root c = omega (arith, root-spot (c .before .before .before .before .before .before .before .before .before .before .before .before .pre .new))
+
+cast-root : tie.Need-cast-root
+cast-root c = omega (arith, c .shared-slice-known3 .given (c .before .before .before .before .before .before .before .before .before .before .before .before .args .d * 576 + 514))
+
+mul-kept : tie.Need-mul-kept
+mul-kept c = omega (arith, root-spot (c .before .before .before .before .before .before .before .before .before .before .before .before .pre .new))
+
+add-kept : tie.Need-add-kept
+add-kept c = omega (arith, root-spot (c .before .before .before .before .before .before .before .before .before .before .before .before .pre .new))
+
+mul-kept-2 : tie.Need-mul-kept-2
+mul-kept-2 c = omega (arith, root-spot (c .before .before .before .before .before .before .before .before .before .before .before .before .pre .new))
+
+shared-slice-read-kept : tie.Need-shared-slice-read-kept
+shared-slice-read-kept c = omega (arith, root-spot (c .before .before .before .before .before .before .before .before .before .before .before .before .before .pre .new))
+
+cast-kept : tie.Need-cast-kept
+cast-kept c = omega (arith, c .shared-slice-known4 .given (getD (c .before .before .before .before .before .before .before .before .before .before .before .before .before .args .tables .now) (c .before .before .before .before .before .before .before .before .before .before .before .before .before .args .d * 576 + 514) 0 * 576 + 515))
+
+cast-o : tie.Need-cast-o
+cast-o c = search needs
+
+mul-o : tie.Need-mul-o
+mul-o c = search needs
+
+mul-old : tie.Need-mul-old
+mul-old c = omega (arith, own-spot (c .before .before .before .before .before .before .before .before .before .before .before .before .before .pre .new) (c .before .before .before .before .before .v .given .0 .0) (c .before .before .if2 .left))
+
+slice-read-old : tie.Need-slice-read-old
+slice-read-old c = omega (arith, own-spot (c .before .before .before .before .before .before .before .before .before .before .before .before .before .before .pre .new) (c .before .before .before .before .before .before .v .given .0 .0) (c .before .before .before .if2 .left))
+
+cast-own : tie.Need-cast-own
+cast-own c = omega (arith, own-spot (c .before .before .before .before .before .before .before .before .before .before .before .before .before .before .pre .new) (c .before .before .before .before .before .before .v .given .0 .0) (c .before .before .before .if2 .left))
+
+mul-own : tie.Need-mul-own
+mul-own c = omega (arith, own-spot (c .before .before .before .before .before .before .before .before .before .before .before .before .before .before .pre .new) (c .before .before .before .before .before .before .v .given .0 .0) (c .before .before .before .if2 .left))
+
+add-own : tie.Need-add-own
+add-own c = omega (arith, own-spot (c .before .before .before .before .before .before .before .before .before .before .before .before .before .before .pre .new) (c .before .before .before .before .before .before .v .given .0 .0) (c .before .before .before .if2 .left))
+
+mul-own-2 : tie.Need-mul-own-2
+mul-own-2 c = omega (arith, own-spot (c .before .before .before .before .before .before .before .before .before .before .before .before .before .before .pre .new) (c .before .before .before .before .before .before .v .given .0 .0) (c .before .before .before .if2 .left))
+
+shared-slice-read-own : tie.Need-shared-slice-read-own
+shared-slice-read-own c = omega (arith, own-spot (c .before .before .before .before .before .before .before .before .before .before .before .before .before .before .before .pre .new) (c .before .before .before .before .before .before .before .v .given .0 .0) (c .before .before .before .before .if2 .left))
+
+cast-own-2 : tie.Need-cast-own-2
+cast-own-2 c = omega (arith, c .shared-slice-known5 .given (getD (c .before .before .before .before .before .before .before .before .before .before .before .before .before .before .before .args .store .now) ((c .before .before .before .before .before .before .before .v .given .0 .0) * 18) 0 * 576 + 515))
+
+returns-4 : tie.Need-returns-4
+returns-4 c = change-of (c .before .before .before .before .before .before .before .before .before .before .before .before .decode .ensures) refl (change-few (c .before .before .before .before .before .before .before .before .v .given .0 .0) (c .before .before .before .before .before .before .before .before .v .given .1) (c .before .before .before .before .before .if2 .left) (c .if3 .taken))
+
+fill-requires : tie.Need-fill-requires
+fill-requires c κs = change-fill (c .before .before .before .before .before .before .before .before .before .before .before .before .before .before .before .before .before .pre .new) (c .before .before .before .before .before .before .before .before .before .v .given .0 .0) (c .before .before .before .before .before .before .if2 .left) (omega (arith, c .before .if3 .left))
+
+mul-store : tie.Need-mul-store
+mul-store c = omega (arith, c .before .before .before .before .before .before .before .before .before .if2 .left, c .before .before .before .before .before .before .before .before .before .before .before .before .before .before .before .before .before .before .before .before .pre .new .sound .few)
+
+slice-write-store : tie.Need-slice-write-store
+slice-write-store c = omega (arith, c .before .before .before .before .before .before .before .before .before .if2 .left, c .before .before .before .before .before .before .before .before .before .before .before .before .before .before .before .before .before .before .before .before .pre .new .sound .stored, c .before .before .fill .ensures .long)
+
+element-copy-out-changes : tie.Need-element-copy-out-changes
+element-copy-out-changes c = search needs
+
+add-put : tie.Need-add-put
+add-put c = omega (arith, c .before .before .before .before .before .before .before .before .before .before .before .before .before .before .before .before .before .before .before .before .before .before .pre .counted)
+
+put-requires : tie.Need-put-requires
+put-requires c κs = search needs
+
+same-length : tie.Need-same-length
+same-length c = simp length-set (c .before .before .before .before .before .fill .ensures .long)
+
+returns-5 : tie.Need-returns-5
+returns-5 c = change-of (c .before .before .before .before .before .before .before .before .before .before .before .before .before .before .before .before .before .before .before .decode .ensures) (one-change (c .before .before .before .before .before .before .before .before .before .before .before .before .before .before .before .before .before .before .before .before .before .before .before .args .tally .now) (c .before .before .before .before .before .before .before .before .before .before .before .before .before .before .before .before .before .before .before .decode .ensures) (c .before .before .before .before .before .before .before .before .before .before .before .before .before .before .before .v .given .1) (omega (arith, c .before .before .before .before .before .before .before .before .before .before .before .before .before .before .before .before .before .before .before .before .before .before .before .fits .n)) (c .put .ensures)) (change-made (c .before .before .before .before .before .fill .last .1 .1 .0) (c .before .before .before .before .before .before .before .before .before .before .before .before .before .before .before .v .given .0 .0) (c .before .before .before .before .before .before .before .before .before .before .before .before .before .before .before .v .given .1) (c .before .before .before .before .before .before .before .before .before .before .before .before .if2 .left) (c .before .before .before .before .before .before .before .if3 .left) (small-number (c .before .before .before .before .before .before .before .before .before .before .before .before .before .before .before .before .before .before .before .before .before .before .before .args .n) (c .before .before .before .before .before .before .before .before .before .before .before .before .before .before .before .before .before .before .before .decode .ensures) (omega (arith, c .before .before .before .before .before .before .before .before .before .before .before .before .before .before .before .before .before .before .before .before .before .before .before .fits .n))) (c .before .before .before .before .before .fill .ensures))
+
+pub change-class-spec : {M : Type 1} → statement M
+change-class-spec =
+    tie.close
+    (tie.spec
+    decode-requires
+    is-null-requires
+    returns
+    enum-known-v
+    returns-2
+    element-copy-out-if2
+    returns-3
+    mul-root
+    add-root
+    mul-root-2
+    shared-slice-read-root
+    cast-root
+    mul-kept
+    add-kept
+    mul-kept-2
+    shared-slice-read-kept
+    cast-kept
+    cast-o
+    mul-o
+    mul-old
+    slice-read-old
+    cast-own
+    mul-own
+    add-own
+    mul-own-2
+    shared-slice-read-own
+    cast-own-2
+    returns-4
+    fill-requires
+    mul-store
+    slice-write-store
+    element-copy-out-changes
+    add-put
+    put-requires
+    same-length
+    returns-5)

@@ -1,0 +1,181 @@
+-- What the acts on objects require and ensure: each is that of the language's definition.
+use mathlib.Core.Path.{_≡_}
+use mathlib.Core.Bool.{cond, _||_, Bool}
+use mathlib.Core.Option.{some}
+use mathlib.Core.List.{List}
+use Prim.Native.Nat.{ℕ, _+_, _-_, _*_, _/_, _%_, _^_, _≤_, _<_}
+use lib.Dec.{eqb, leb}
+use lib.ListN.{length, getD, drop}
+use Rattle.language.specs.Lists.{nth}
+use Rattle.language.specs.Frames.{Frame}
+use Rattle.language.specs.Tree.{new, count, Class}
+use Rattle.language.specs.World.{Method}
+use Rattle.language.specs.Program.{world}
+use Rattle.language.specs.Encoded.{Encoded}
+use Rattle.language.specs.Evaluation.{Value as Meaning, object, State, Out, Limits, do-get, do-set, do-cast}
+use Rattle.language.specs.Evaluation.{do-change, do-new, do-call, Object as Thing, with-limits, call-at}
+use Rattle.language.specs.Store.{capacity}
+use mathlib.Core.Logic.{_⊎_}
+use Rattle.objects.specs.declared.Value.{Value}
+use Rattle.objects.specs.declared.Target.{Target}
+use Rattle.objects.specs.declared.Target.the-variants.{Body, Fails}
+use Rattle.objects.specs.Values.{value, Small, SmallOutcome, told, bare, Outcome, Gave, Counts, outcome}
+use Rattle.objects.specs.Values.{Answer, answer}
+use Rattle.objects.specs.Holding.{Within, Holds, Sound, view}
+
+-- ---- numbers written one after the other
+
+-- n numbers from an index on are those of f; the others are as before.
+pub record Written (l l′ : List ℕ) (from n : ℕ) (f : ℕ → ℕ) : Type 0 where
+  pub long : length l′ ≡ length l
+  pub inside : (i : ℕ) → i < n → getD l′ (from + i) 0 ≡ f i
+  pub outside : (x : ℕ) → (x < from) ⊎ (from + n ≤ x) → getD l′ x 0 ≡ getD l x 0
+
+-- The number of a type's first value.
+abbrev pub first-of-type : ℕ → ℕ
+first-of-type t = cond (eqb t 255) 1 0
+
+-- The number of the first value of field i of class c, which has so many.
+unfoldable pub first-of : List ℕ → List ℕ → ℕ → ℕ → ℕ → ℕ
+first-of R T c i count =
+    cond (leb count i) 0 (first-of-type (getD R (getD T (c * 576 + 520 + i) 0 * 4 + 1) 0))
+
+pub record First (R T : List ℕ) (c i count : ℕ) : Type 0 where
+  pub place : i < 17
+  pub table : c * 576 + 576 ≤ length T
+  pub row : i < count → getD T (c * 576 + 520 + i) 0 * 4 + 1 < length R
+
+pub record Fill (R T s : List ℕ) (o c from : ℕ) : Type 0 where
+  pub table : c * 576 + 576 ≤ length T
+  pub room : o + 18 ≤ length s
+  pub start : from ≤ 17
+  pub few : getD T (c * 576 + 515) 0 ≤ 17
+  pub rows : (i : ℕ) → i < 17 → i < getD T (c * 576 + 515) 0 → getD T (c * 576 + 520 + i) 0 * 4 + 1 < length R
+
+abbrev pub Filled : List ℕ → List ℕ → List ℕ → List ℕ → ℕ → ℕ → ℕ → Type 0
+Filled R T s s′ o c from =
+    Written s s′ (o + 1 + from) (17 - from) (λ i. first-of R T c (from + i) (getD T (c * 576 + 515) 0))
+
+-- ---- acts on the store
+
+-- What becomes of the store.
+pub record Stored (P : List Class) (s s′ : List ℕ) (made made′ : ℕ) : Type 0 where
+  pub long : length s′ ≡ length s
+  pub rest : drop (made′ * 18) s′ ≡ drop (made′ * 18) s
+  pub more : made ≤ made′
+  pub sound : Sound P made′ s′
+
+-- An act on objects is that of the definition, whatever the slots and the steps.
+pub record Acts (P : List Class) (s s′ : List ℕ) (n : Counts) (r : Answer) (o : State → Out Meaning) : Type 0
+  where
+    pub stored : Stored P s s′ (n .made) (r .counts .made)
+    pub left : r .counts .left ≡ n .left
+    pub changed : r .counts .changes ≤ n .changes + 1
+    pub small : SmallOutcome (r .outcome)
+    pub is : (γ : Frame Meaning) (steps : ℕ)
+        → told (r .outcome) (view P s′ (r .counts) γ steps) ≡ bare (o (view P s n γ steps))
+
+pub record PreNew (R T s : List ℕ) (c made : ℕ) : Type 0 where
+  pub E : List ℕ
+  pub A : List ℕ
+  pub P : List Class
+  pub holds : Holds R E T A P
+  pub sound : Sound P made s
+  pub declared : c ≤ length P
+
+pub record PostNew (R T s s′ : List ℕ) (c : ℕ) (n : Counts) (r : Answer) : Type 0 where
+  pub acts : (E A : List ℕ) (P : List Class) (F : ℕ) → Holds R E T A P → Sound P (n .made) s → c ≤ length P
+      → Acts P s s′ n r (λ t. do-new (world P) (with-limits F (capacity s)) c t)
+
+pub record PreChange (R T s : List ℕ) (v : Value) (d : ℕ) (n : Counts) : Type 0 where
+  pub new : PreNew R T s d (n .made)
+  pub small : Small v
+  pub counted : n .changes + 1 ≤ 4294967295
+
+pub record PostChange (R T s s′ : List ℕ) (v : Value) (d : ℕ) (n : Counts) (r : Answer) : Type 0 where
+  pub acts : (E A : List ℕ) (P : List Class) → Holds R E T A P → Sound P (n .made) s → d ≤ length P
+      → Acts P s s′ n r (λ t. do-change (world P) d (value v) t)
+
+pub record PreObject (T s : List ℕ) (made : ℕ) : Type 0 where
+  pub R : List ℕ
+  pub E : List ℕ
+  pub A : List ℕ
+  pub P : List Class
+  pub holds : Holds R E T A P
+  pub sound : Sound P made s
+
+pub record PostLoad (T s : List ℕ) (v : Value) (f : ℕ) (n : Counts) (r : Outcome) : Type 0 where
+  pub acts : (R E A : List ℕ) (P : List Class) → Holds R E T A P → Sound P (n .made) s
+      → Acts P s s n (answer r n) (λ t. do-get (world P) f (value v) t)
+
+pub record PostSave (T s s′ : List ℕ) (v w : Value) (f : ℕ) (n : Counts) (r : Outcome) : Type 0 where
+  pub acts : (R E A : List ℕ) (P : List Class) → Holds R E T A P → Sound P (n .made) s
+      → Acts P s s′ n (answer r n) (λ t. do-set (world P) f (value v) (value w) t)
+
+pub record PreCast (A s : List ℕ) (c made : ℕ) : Type 0 where
+  pub R : List ℕ
+  pub E : List ℕ
+  pub T : List ℕ
+  pub P : List Class
+  pub holds : Holds R E T A P
+  pub sound : Sound P made s
+  pub declared : c ≤ length P
+
+pub record PostCast (A s : List ℕ) (v : Value) (c : ℕ) (n : Counts) (r : Outcome) : Type 0 where
+  pub acts : (R E T : List ℕ) (P : List Class) → Holds R E T A P → Sound P (n .made) s → c ≤ length P
+      → Acts P s s n (answer r n) (λ t. do-cast (world P) c (value v) t)
+
+-- Class c is Object or in the set of class k.
+unfoldable pub Below : List ℕ → ℕ → ℕ → Bool
+Below A k c = eqb c 0 || eqb (getD A k 0 / 2 ^ (c - 1) % 2) 1
+
+-- ---- methods
+
+-- The first row, from a row on, whose letter has code x.
+pub record LetterFrom (R : List ℕ) (x row found : ℕ) : Type 0 where
+  pub later : row ≤ found
+  pub short : found * 4 < length R
+  pub between : (i : ℕ) → row ≤ i → i < found → getD R (i * 4) 0 ≡ x → ⊥
+  pub letter : getD R (found * 4) 0 ≡ x
+
+pub record SomeLetter (R : List ℕ) (x row : ℕ) : Type 0 where
+  pub found : ℕ
+  pub from : LetterFrom R x row found
+
+pub record PreFind (R T s : List ℕ) (m made : ℕ) : Type 0 where
+  pub E : List ℕ
+  pub A : List ℕ
+  pub P : List Class
+  pub holds : Holds R E T A P
+  pub sound : Sound P made s
+  pub name : m < 256
+
+-- The method found: its receiver's object, and where its body is.
+pub record Found (R E s : List ℕ) (P : List Class) (v : Value) (m : ℕ) (n : Counts) (calls b : ℕ) : Type 0
+  where
+    pub j : ℕ
+    pub o : Thing
+    pub M : Method
+    pub receiver : value v ≡ object j
+    pub known : (γ : Frame Meaning) (steps : ℕ) → nth (view P s n γ steps .heap) j ≡ some o
+    pub method : world P .method (o .class-of) m ≡ some M
+    pub encoded : Encoded R E (M .body) b
+    pub within : (n : ℕ) → n ≤ 8 → Within (length P) n 128 (M .body)
+    pub allowed : calls < 64
+
+pub record NotFound (P : List Class) (s : List ℕ) (v : Value) (m : ℕ) (n : Counts) (calls : ℕ) (r : Outcome) :
+    Type 0 where
+  pub small : SmallOutcome r
+  pub is : (L : Limits) (vs : List Meaning) (γ : Frame Meaning) (steps : ℕ)
+      → told r (view P s n γ steps)
+      ≡ bare (do-call (world P) L (λ M s. call-at (world P) L (64 - calls) M s) m (value v) vs
+      (view P s n γ steps))
+  pub fails : (w : Value) → r ≡ Gave w → ⊥
+
+abbrev pub FindIs : List ℕ → List ℕ → List ℕ → List Class → Value → ℕ → Counts → ℕ → Target → Type 0
+FindIs R E s P v m n calls (Body b) = Found R E s P v m n calls b
+FindIs R E s P v m n calls (Fails o) = NotFound P s v m n calls (outcome o)
+
+pub record PostFind (R T s : List ℕ) (v : Value) (m : ℕ) (n : Counts) (calls : ℕ) (r : Target) : Type 0 where
+  pub is : (E A : List ℕ) (P : List Class) → Holds R E T A P → Sound P (n .made) s
+      → FindIs R E s P v m n calls r

@@ -1,0 +1,108 @@
+-- How rows and tables hold a program within the limits, and how a store holds its objects.
+use mathlib.Core.Path.{_≡_}
+use mathlib.Core.Bool.{cond, _||_}
+use mathlib.Core.Option.{Option, none, some}
+use mathlib.Core.List.{List, [], _∷_}
+use Prim.Native.Nat.{ℕ, _+_, _-_, _*_, _/_, _%_, _^_, _≤_, _<_}
+use lib.Dec.{eqb}
+use lib.ListN.{length, getD}
+use Rattle.language.specs.Lists.{nth}
+use Rattle.language.specs.Frames.{Frame, frame}
+use Rattle.language.specs.Tree.{DeclaredType, bool, class, Expr, literal-true, literal-false, literal-null}
+use Rattle.language.specs.Tree.{slot, is-null, get, cast, new, change, assign, set, call, choose, block}
+use Rattle.language.specs.Tree.{Exprs, nil, cons, count, Field, Class}
+use Rattle.language.specs.World.{Method}
+use Rattle.language.specs.Program.{world}
+use Rattle.language.specs.ClassTables.{ClassTables, method-row}
+use Rattle.language.specs.Encoded.{Encoded}
+use Rattle.language.specs.Evaluation.{Value as Meaning, State, initial}
+use Rattle.language.specs.Store.{value-number, heap-of-numbers}
+use Rattle.objects.specs.Values.{Counts}
+
+-- A type whose number stands for it: bool, or a class up to k.
+abbrev pub Named : ℕ → DeclaredType → Type 0
+Named k bool = Unit {0}
+Named k (class c) = c ≤ k
+
+unfoldable pub NamedAll : ℕ → List DeclaredType → Type 0
+NamedAll k [] = Unit {0}
+NamedAll k (t ∷ ts) = Named k t × NamedAll k ts
+
+-- How many slots a frame has room for, `this` included.
+abbrev pub frame-room : ℕ
+frame-room = 264
+
+-- An expression within the limits: classes up to k, n slots beside `this` in scope, d nested nodes.
+unfoldable mutual
+  pub Within : ℕ → ℕ → ℕ → Expr → Type 0
+  Within k n d literal-true = Unit {0}
+  Within k n d literal-false = Unit {0}
+  Within k n d literal-null = Unit {0}
+  Within k n d (slot i) = Unit {0}
+  Within k n d (is-null e) = (0 < d) × Within k n (d - 1) e
+  Within k n d (get f e) = (0 < d) × (f < 256) × Within k n (d - 1) e
+  Within k n d (cast c e) = (0 < d) × (c ≤ k) × Within k n (d - 1) e
+  Within k n d (new c) = c ≤ k
+  Within k n d (change i c) = c ≤ k
+  Within k n d (assign i e) = (0 < d) × Within k n (d - 1) e
+  Within k n d (set f e e′) = (0 < d) × (f < 256) × Within k n (d - 1) e × Within k n (d - 1) e′
+  Within k n d (call m e es) =
+      (0 < d) × (m < 256) × (count es ≤ 8) × Within k n (d - 1) e × WithinAll k n (d - 1) es
+  Within k n d (choose a b c) = (0 < d) × Within k n (d - 1) a × Within k n (d - 1) b × Within k n (d - 1) c
+  Within k n d (block ts es) =
+      (0 < d) × (n + length ts + 1 ≤ frame-room) × NamedAll k ts × WithinAll k (n + length ts) (d - 1) es
+
+  pub WithinAll : ℕ → ℕ → ℕ → Exprs → Type 0
+  WithinAll k n d nil = Unit {0}
+  WithinAll k n d (cons e es) = Within k n d e × WithinAll k n d es
+
+-- The row where a method's M line stands, from 1, and its body: the first B line after it.
+pub record BodyAt (R E : List ℕ) (k r : ℕ) (M : Method) : Type 0 where
+  pub body : ℕ
+  pub later : r + 1 ≤ body
+  pub short : body * 4 < length R
+  pub between : (i : ℕ) → r + 1 ≤ i → i < body → getD R (i * 4) 0 ≡ 66 → ⊥
+  pub block : getD R (body * 4) 0 ≡ 66
+  pub encoded : Encoded R E (M .body) body
+  pub within : (n : ℕ) → n ≤ 8 → Within k n 128 (M .body)
+
+pub data Linked (R E : List ℕ) (k : ℕ) : Option ℕ → Option Method → Type 0 where
+  absent : Linked R E k none none
+  present : {r : ℕ} {M : Method} → BodyAt R E k r M → Linked R E k (some r) (some M)
+
+-- The row of a field's F line, in the table: its type tells the first value.
+pub record FirstValueAt (R T : List ℕ) (k i : ℕ) (f : Field) : Type 0 where
+  pub within : getD T (k * 576 + 520 + i) 0 * 4 + 1 < length R
+  pub first : cond (eqb (getD R (getD T (k * 576 + 520 + i) 0 * 4 + 1) 0) 255) 1 0
+      ≡ value-number (initial (f .type))
+
+-- Rows and tables hold a program whose classes are P.
+pub record Holds (R E T A : List ℕ) (P : List Class) : Type 0 where
+  pub tables : ClassTables P T A
+  pub classes : length P ≤ 64
+  pub counts : (k : ℕ) → k ≤ length P → length (world P .fields k) ≤ 17
+  pub roots : (k : ℕ) → k ≤ length P
+      → (world P .root k ≤ length P)
+      × (length (world P .fields (world P .root k)) ≤ length (world P .fields k))
+  pub below : (k c : ℕ) → k ≤ length P → c ≤ length P
+      → (eqb c 0 || eqb (getD A k 0 / 2 ^ (c - 1) % 2) 1) ≡ world P .below k c
+  pub fields : (k i : ℕ) (f : Field) → k ≤ length P → nth (world P .fields k) i ≡ some f
+      → FirstValueAt R T k i f
+  pub methods : (k m : ℕ) → k ≤ length P → Linked R E (length P) (method-row P k m) (world P .method k m)
+
+-- A store holds so many objects: their classes are declared, and their unused numbers 0.
+pub record Sound (P : List Class) (made : ℕ) (s : List ℕ) : Type 0 where
+  pub stored : made * 18 ≤ length s
+  pub few : made ≤ 65535
+  pub declared : (j : ℕ) → j < made → getD s (j * 18) 0 ≤ length P
+  pub unused : (j i : ℕ) → j < made → length (world P .fields (getD s (j * 18) 0)) ≤ i → i < 17
+      → getD s (j * 18 + 1 + i) 0 ≡ 0
+
+-- The state that a store holds, with slots that are given, after so many steps.
+abbrev pub view : List Class → List ℕ → Counts → Frame Meaning → ℕ → State
+view P s n γ steps = record {
+  frame = γ;
+  heap = heap-of-numbers (world P) (n .made) s;
+  steps = steps;
+  changes = n .changes;
+}

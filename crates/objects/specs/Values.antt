@@ -1,0 +1,91 @@
+-- What the numbers of the evaluator mean: a value, an outcome, the tally; and what an outcome with a state tells.
+use mathlib.Core.Bool.{true, false, cond}
+use mathlib.Core.Option.{none}
+use mathlib.Core.List.{List, []}
+use Prim.Native.Nat.{ℕ, zero, suc, _-_, _≤_, _<_}
+use lib.Dec.{eqb, leb}
+use lib.ListN.{getD}
+use Rattle.language.specs.Results.{ok, stop}
+use Rattle.language.specs.Frames.{frame}
+use Rattle.language.specs.Evaluation.{Value as Meaning, null, truth, object, State, Stop, raised, spent, deep}
+use Rattle.language.specs.Evaluation.{full, stuck, Out, with-frame}
+use Rattle.language.specs.Store.{value-number}
+use Rattle.objects.specs.declared.Value.{Value}
+use Rattle.objects.specs.declared.Value.the-variants.{Null, Truth, Object}
+
+-- What a value of the evaluator means.
+abbrev pub value : Value → Meaning
+value Null = null
+value (Truth b) = truth b
+value (Object j) = object j
+
+-- The value that a stored number stands for.
+abbrev pub decoded : ℕ → Value
+decoded zero = Null
+decoded (suc zero) = Truth false
+decoded (suc (suc zero)) = Truth true
+decoded (suc (suc (suc j))) = Object j
+
+-- How evaluating ended: with a value, with an exception, stopped (14 spent, 15 deep, 16 full), or where no rule goes on,
+-- which comes of no checked program.
+pub data Outcome : Type 0 where
+  Gave : Value → Outcome
+  Raised : ℕ → Outcome
+  Stopped : ℕ → Outcome
+  Stuck : Outcome
+
+-- An outcome as one number: below 2^32 that of the value; from there on 0 more where no rule goes on, 1 or 2 more for
+-- an exception, otherwise the stop's number more.
+abbrev pub failure : ℕ → Outcome
+failure n = cond (eqb n 0) Stuck (cond (leb n 2) (Raised n) (Stopped n))
+
+unfoldable pub outcome : ℕ → Outcome
+outcome x = cond (leb 4294967296 x) (failure (x - 4294967296)) (Gave (decoded x))
+
+-- Fuel left, objects made, changes of class: the three numbers of the tally.
+pub record Counts : Type 0 where
+  pub left : ℕ
+  pub made : ℕ
+  pub changes : ℕ
+
+abbrev pub counts-in : List ℕ → Counts
+counts-in t = record { left = getD t 0 0; made = getD t 1 0; changes = getD t 2 0 }
+
+-- How evaluating ended, and the counts then; the same of an outcome's number and the tally.
+pub record Answer : Type 0 where
+  pub outcome : Outcome
+  pub counts : Counts
+
+abbrev pub answer : Outcome → Counts → Answer
+answer o n = record { outcome = o; counts = n }
+
+abbrev pub answered : ℕ → List ℕ → Answer
+answered r t = answer (outcome r) (counts-in t)
+
+-- A value whose number fits its place in the store; an outcome with such a value, or a stop that there is.
+abbrev pub Small : Value → Type 0
+Small v = value-number (value v) < 4294967296
+
+abbrev pub SmallOutcome : Outcome → Type 0
+SmallOutcome (Gave v) = Small v
+SmallOutcome (Raised n) = Unit {0}
+SmallOutcome (Stopped n) = (14 ≤ n) × (n ≤ 16)
+SmallOutcome Stuck = Unit {0}
+
+-- The stop of a number.
+abbrev pub stop-of : ℕ → Stop
+stop-of n = cond (eqb n 14) spent (cond (eqb n 15) deep full)
+
+-- What an outcome with a state means. Where a run ends without a value its slots are not looked at.
+abbrev pub bare-state : State → State
+bare-state s = with-frame (frame none []) s
+
+abbrev pub told : Outcome → State → Out Meaning
+told (Gave v) s = ok (value v) s
+told (Raised n) s = stop (raised n) (bare-state s)
+told (Stopped n) s = stop (stop-of n) (bare-state s)
+told Stuck s = stop stuck (bare-state s)
+
+unfoldable pub bare : {A : Type 0} → Out A → Out A
+bare (ok a s) = ok a s
+bare (stop x s) = stop x (bare-state s)

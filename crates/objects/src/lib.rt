@@ -1,0 +1,309 @@
+// The acts on the objects of a lent store: W, R, G, U, K, and the method that Q seeks.
+// An object is 18 numbers of the store, a value is one number. Fuel left, objects made and changes of class stand in a
+// tally of three numbers. An outcome is one number too, so that it passes in a register: below 2^32 that of a value, from
+// there on why there is none (specs/Values.antt, outcome).
+ghost use mathlib.Core.Path.{_≡_};
+ghost use mathlib.Core.Bool.{true};
+ghost use Prim.Native.Nat.{_+_, _*_, _≤_, _<_};
+ghost use lib.ListN.{length, set};
+ghost use Rattle.language.specs.Evaluation.{is-null-value};
+ghost use Rattle.objects.specs.Values.{value, decoded, outcome, counts-in, answered};
+ghost use Rattle.objects.specs.Contracts.{first-of, first-of-type, First, Fill, Filled};
+ghost use Rattle.objects.specs.Contracts.{PreNew, PostNew, PreChange, PostChange, PreObject, PostLoad};
+ghost use Rattle.objects.specs.Contracts.{PostSave, PreCast, PostCast, Below};
+ghost use Rattle.objects.specs.Contracts.{LetterFrom, SomeLetter, PreFind, PostFind};
+
+// Why there is no value: no rule goes on, which comes of no checked program; the exceptions; the stops.
+pub const STUCK: u64 = 4294967296;
+
+pub const NULL_POINTER: u64 = 4294967297;
+
+pub const BAD_CAST: u64 = 4294967298;
+
+pub const SPENT: u64 = 4294967310;
+
+pub const DEEP: u64 = 4294967311;
+
+pub const FULL: u64 = 4294967312;
+
+// A value. Object(j) is the object that j others were made before.
+pub enum Value {
+    Null,
+    Truth(bool),
+    Object(u32),
+}
+
+// The row where the body of the method sought begins, or how the call ends without one.
+pub enum Target {
+    Body(usize),
+    Fails(u64),
+}
+
+// The value that a stored number stands for.
+pub fn decode(n: u32) -> Value
+    ensures { λ r. ⌜ r ≡ decoded n ⌝ }
+{
+    match n {
+        1 => Value::Truth(false),
+        2 => Value::Truth(true),
+        3..=4294967295 => Value::Object(n - 3),
+        _ => Value::Null,
+    }
+}
+
+fn is_null(v: Value) -> bool
+    ensures { λ r. ⌜ r ≡ is-null-value (value v) ⌝ }
+{
+    match v {
+        Value::Null => true,
+        Value::Truth(_) => false,
+        Value::Object(_) => false,
+    }
+}
+
+// The stored number of the first value of a type: false for bool, else null.
+pub fn first_value(t: u32) -> u32
+    ensures { λ r. ⌜ r ≡ first-of-type t ⌝ }
+{
+    if t == 255 { 1 } else { 0 }
+}
+
+// The stored number of the first value of field i of class c, which has so many fields; 0 past them.
+fn first_number(rows: &[u32], tables: &[u16], c: usize, i: usize, count: usize) -> u32
+    requires { ⌜ First (now rows) (now tables) c i count ⌝ }
+    ensures { λ r. ⌜ r ≡ first-of (now (rows .entry)) (now (tables .entry)) c i count ⌝ }
+{
+    if count <= i {
+        return 0;
+    }
+    let r = tables[c * 576 + 520 + i] as usize;
+    if rows[r * 4 + 1] == 255 { 1 } else { 0 }
+}
+
+// The fields of the object at o from place `from` on get the first values that class c gives them, unused ones 0.
+fn fill(rows: &[u32], tables: &[u16], store: &mut [u32], o: usize, c: usize, from: usize)
+    requires { ⌜ Fill (now rows) (now tables) (now store) o c from ⌝ }
+    ensures { λ r. ⌜ Filled (now (rows .entry)) (now (tables .entry)) (now (store .entry)) (now (store .exit))
+        o c from ⌝ }
+{
+    let count = tables[c * 576 + 515] as usize;
+    let mut i = from;
+    while i < count {
+        store[o + 1 + i] = first_number(rows, tables, c, i, count);
+        i += 1;
+    }
+    while i < 17 {
+        store[o + 1 + i] = 0;
+        i += 1;
+    }
+}
+
+// One of the three counts becomes x.
+fn put(tally: &mut [u32], i: usize, x: u32)
+    requires { ⌜ i < length (now tally) ⌝ }
+    ensures { λ r. ⌜ (i < length (now (tally .entry))) × (now (tally .exit) ≡ set (now (tally .entry)) i x)
+        ⌝ }
+{
+    tally[i] = x;
+}
+
+// W: a new object of class c.
+pub fn new_object(
+    rows: &[u32],
+    tables: &[u16],
+    store: &mut [u32],
+    tally: &mut [u32; 3],
+    c: u32,
+) -> u64
+    requires { ⌜ PreNew (now rows) (now tables) (now store) c (counts-in (now tally) .made) ⌝ }
+    ensures { λ r. ⌜ PostNew (now (rows .entry)) (now (tables .entry)) (now (store .entry))
+        (now (store .exit)) c (counts-in (now (tally .entry))) (answered r (now (tally .exit))) ⌝ }
+{
+    let made = tally[1];
+    if made >= 65535 {
+        return FULL;
+    }
+    let o = made as usize * 18;
+    if store.len() < o + 18 {
+        return FULL;
+    }
+    fill(rows, tables, store, o, c as usize, 0);
+    store[o] = c;
+    put(tally, 1, made + 1);
+    made as u64 + 3
+}
+
+// R: an object changed to class d. The fields of d's root stay, the others have their first values; one that lacks
+// them is stuck.
+pub fn change_class(
+    rows: &[u32],
+    tables: &[u16],
+    store: &mut [u32],
+    tally: &mut [u32; 3],
+    n: u32,
+    d: u32,
+) -> u64
+    requires { ⌜ PreChange (now rows) (now tables) (now store) (decoded n) d (counts-in (now tally)) ⌝ }
+    ensures { λ r. ⌜ PostChange (now (rows .entry)) (now (tables .entry)) (now (store .entry))
+        (now (store .exit)) (decoded n) d (counts-in (now (tally .entry))) (answered r (now (tally .exit)))
+        ⌝ }
+{
+    let v = decode(n);
+    if is_null(v) {
+        return n as u64;
+    }
+    let Value::Object(j) = v else {
+        return STUCK;
+    };
+    if j >= tally[1] {
+        return STUCK;
+    }
+    let root = tables[d as usize * 576 + 514] as usize;
+    let kept = tables[root * 576 + 515] as usize;
+    let o = j as usize * 18;
+    let old = store[o];
+    let own = tables[old as usize * 576 + 515] as usize;
+    if own < kept {
+        return STUCK;
+    }
+    fill(rows, tables, store, o, d as usize, kept);
+    store[o] = d;
+    let changes = tally[2];
+    put(tally, 2, changes + 1);
+    n as u64
+}
+
+// G: the field named f of an object.
+pub fn load(tables: &[u16], store: &[u32], tally: &[u32; 3], n: u32, f: usize) -> u64
+    requires { ⌜ PreObject (now tables) (now store) (counts-in (now tally) .made) ⌝ }
+    requires { ⌜ f < 256 ⌝ }
+    ensures { λ r. ⌜ PostLoad (now (tables .entry)) (now (store .entry)) (decoded n) f
+        (counts-in (now (tally .entry))) (outcome r) ⌝ }
+{
+    let v = decode(n);
+    if is_null(v) {
+        return NULL_POINTER;
+    }
+    let Value::Object(j) = v else {
+        return STUCK;
+    };
+    if j >= tally[1] {
+        return STUCK;
+    }
+    let o = j as usize * 18;
+    let c = store[o] as usize;
+    let p = tables[c * 576 + f] as usize;
+    if p == 0 {
+        return STUCK;
+    }
+    store[o + p] as u64
+}
+
+// U: the field named f of an object becomes w.
+pub fn save(tables: &[u16], store: &mut [u32], tally: &[u32; 3], n: u32, w: u32, f: usize) -> u64
+    requires { ⌜ PreObject (now tables) (now store) (counts-in (now tally) .made) ⌝ }
+    requires { ⌜ f < 256 ⌝ }
+    ensures { λ r. ⌜ PostSave (now (tables .entry)) (now (store .entry)) (now (store .exit)) (decoded n)
+        (decoded w) f (counts-in (now (tally .entry))) (outcome r) ⌝ }
+{
+    let v = decode(n);
+    if is_null(v) {
+        return NULL_POINTER;
+    }
+    let Value::Object(j) = v else {
+        return STUCK;
+    };
+    if j >= tally[1] {
+        return STUCK;
+    }
+    let o = j as usize * 18;
+    let c = store[o] as usize;
+    let p = tables[c * 576 + f] as usize;
+    if p == 0 {
+        return STUCK;
+    }
+    store[o + p] = w;
+    w as u64
+}
+
+// Class k is class c or stands below it.
+fn is_below(above: &[u64], k: usize, c: u32) -> bool
+    requires { ⌜ k < length (now above) ⌝ }
+    requires { ⌜ c ≤ 64 ⌝ }
+    ensures { λ r. ⌜ r ≡ Below (now (above .entry)) k c ⌝ }
+{
+    if c == 0 {
+        return true;
+    }
+    (above[k] >> (c - 1)) & 1 == 1
+}
+
+// K: an object of class c or below passes, and so does null.
+pub fn cast_object(above: &[u64], store: &[u32], tally: &[u32; 3], n: u32, c: u32) -> u64
+    requires { ⌜ PreCast (now above) (now store) c (counts-in (now tally) .made) ⌝ }
+    ensures { λ r. ⌜ PostCast (now (above .entry)) (now (store .entry)) (decoded n) c
+        (counts-in (now (tally .entry))) (outcome r) ⌝ }
+{
+    let v = decode(n);
+    if is_null(v) {
+        return n as u64;
+    }
+    let Value::Object(j) = v else {
+        return STUCK;
+    };
+    if j >= tally[1] {
+        return STUCK;
+    }
+    let k = store[j as usize * 18] as usize;
+    if is_below(above, k, c) {
+        return n as u64;
+    }
+    BAD_CAST
+}
+
+// The first row, from a row on, with a letter.
+pub fn find_letter(rows: &[u32], row: usize, letter: u32) -> usize
+    requires { ⌜ SomeLetter (now rows) letter row ⌝ }
+    ensures { λ r. ⌜ LetterFrom (now (rows .entry)) letter row r ⌝ }
+{
+    let mut b = row;
+    while rows[b * 4] != letter {
+        b += 1;
+    }
+    b
+}
+
+// Q, once receiver and arguments have values: the body of the receiver's method m.
+pub fn find_body(
+    rows: &[u32],
+    tables: &[u16],
+    store: &[u32],
+    tally: &[u32; 3],
+    n: u32,
+    m: usize,
+    calls: u32,
+) -> Target
+    requires { ⌜ PreFind (now rows) (now tables) (now store) m (counts-in (now tally) .made) ⌝ }
+    ensures { λ r. ⌜ PostFind (now (rows .entry)) (now (tables .entry)) (now (store .entry)) (decoded n) m
+        (counts-in (now (tally .entry))) calls r ⌝ }
+{
+    let v = decode(n);
+    if is_null(v) {
+        return Target::Fails(NULL_POINTER);
+    }
+    let Value::Object(j) = v else {
+        return Target::Fails(STUCK);
+    };
+    if j >= tally[1] {
+        return Target::Fails(STUCK);
+    }
+    let c = store[j as usize * 18] as usize;
+    let r = tables[c * 576 + 256 + m] as usize;
+    if r == 0 {
+        return Target::Fails(STUCK);
+    }
+    if calls >= 64 {
+        return Target::Fails(DEEP);
+    }
+    Target::Body(find_letter(rows, r, 66))
+}
