@@ -14,8 +14,7 @@ use Rattle.language.specs.Lists.{nth, choice}
 use Rattle.language.specs.Results.{ok, stop, bind}
 use Rattle.language.specs.Frames.{Frame, frame, at-slot, with-slot, opened, closed}
 use Rattle.language.specs.Tree.{Expr, literal-true, literal-false, literal-null, slot, is-null, get, cast}
-use Rattle.language.specs.Tree.{new}
-use Rattle.language.specs.Tree.{change, assign, set, call, choose, block, Exprs, nil, cons}
+use Rattle.language.specs.Tree.{new, change, assign, set, call, choose, block, Exprs, nil, cons}
 use Rattle.language.specs.World.{Method, World}
 use Rattle.language.specs.Evaluation.{Value, null, truth, object, Object, State, Stop, raised, deep, spent}
 use Rattle.language.specs.Evaluation.{full, stuck, Out, without-limits, with-limits, entered, with-frame}
@@ -23,7 +22,7 @@ use Rattle.language.specs.Evaluation.{with-heap, with-change, initial, last-val
 use Rattle.language.specs.Evaluation.{need-truth, new-object, changed, field-of, with-field, do-get, do-set}
 use Rattle.language.specs.Evaluation.{do-cast, do-change, do-new, do-call, eval, eval-all, call-at}
 use Rattle.language.specs.Evaluation.{eval-start}
-use Rattle.theory.specs.Sound.{false≢}
+use Rattle.language.proofs.Booleans.{false≢}
 
 -- One state is not before another: steps, objects and changes only grow.
 pub record Later (s s′ : State) : Type 0 where

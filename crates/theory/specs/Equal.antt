@@ -7,6 +7,7 @@ use lib.ListN.{length}
 use lib.Dec.{eqb}
 use native.Mathlib.Omega.{arith}
 use borrow.Author.Tests.{ne-eqb}
+use Rattle.language.proofs.Booleans.{false≢}
 use Rattle.language.specs.Results.{Checked, accept, refuse, passed, bind-checked, need-checked, require}
 use Rattle.language.specs.Results.{bind-checked-inv, need-checked-inv, require-inv, accept-injective}
 use Rattle.language.specs.Results.{accept≢refuse}
@@ -31,9 +32,6 @@ need-class-inv null-type n l k e f = absurd (accept≢refuse n l e)
 
 known-injective : {t u : DeclaredType} → _≡_ {A = ExprType} (known t) (known u) → t ≡ u
 known-injective e = cc
-
-pub false≢ : {A : Type 0} → _≡_ {A = Bool} false true → A
-false≢ e = absurd (let z : _≡_ {A = ℕ} 0 1 = cc in omega arith)
 
 not-bool-inv : (t : ExprType) → not (not-bool t) ≡ true → t ≡ known bool
 not-bool-inv (known bool) e = refl

@@ -1,6 +1,9 @@
 pub mod Equal
-pub mod Sound
 pub mod EffectLaws
+pub mod Fitting
+pub mod SoundActs
+pub mod SlotSorts
+pub mod Sound
 pub mod RunsEqual
 pub mod Back
 pub mod TreeRows

@@ -24,8 +24,10 @@ use Rattle.language.specs.Translation.{plain-class, plain-field, Shape, variabl
 use Rattle.language.specs.Translation.{implementor, reads, renew, plain-change, change-types, translate}
 use Rattle.language.specs.Correspondence.{Corresponds, both-null, same-truth, in-place, identity-of}
 use Rattle.language.specs.Correspondence.{implementor-of}
-use Rattle.theory.specs.Sound.{Laws, BodyOk, Fits, f-null, f-bool, f-obj, HeapOk, FitsFrame, this-some}
-use Rattle.theory.specs.Sound.{fits-all, inherit, can-inv, root-fields, false≢}
+use Rattle.theory.specs.Fitting.{Laws, BodyOk, Fits, f-null, f-bool, f-obj, HeapOk, FitsFrame}
+use Rattle.theory.specs.Fitting.{this-some}
+use Rattle.theory.specs.SoundActs.{fits-all, inherit, can-inv, root-fields}
+use Rattle.language.proofs.Booleans.{false≢}
 use Rattle.theory.specs.PlainWorld.{IsPlain, plain-form}
 use Rattle.theory.specs.Matching.{Implements, Persists, persists-same, persists-trans, Mask, SlotsMatch}
 use Rattle.theory.specs.Matching.{no-slots, variable, slots-at, slots-length, ThisMatches, no-this}
@@ -168,7 +170,7 @@ module _ (W W′ : World) (P : IsPlain W W′) (𝓛 : Laws W) (𝓜 : More W) w
             (λ v t. do-get W′ f v t))
         go both-null (f-null n) = alike-stop (ended (a .match .core))
         go (in-place {j} {i = k} e) (f-obj o p q) =
-            let x = inherit W 𝓛 (o .class-of) c f u q i in let y =
+            let x = inherit 𝓛 (o .class-of) c f u q i in let y =
             all2-at (H .each j o p) (x .i) (x .fld) (x .is) in
             let g = implementor-found (a .match .core) j k o e p in
             let y′ = all2-at′ (g .values) (x .i) (y .0) (y .1) in
@@ -200,7 +202,7 @@ module _ (W W′ : World) (P : IsPlain W W′) (𝓛 : Laws W) (𝓜 : More W) w
         (alike-stop (ended-at 4 (entered (entered (entered (entered t)))) (R .core) (omega arith) refl refl
         (omega arith)))
     set-acts {z} f c n u (object j) (object k) w w′ s t H (f-obj o p q) i ids′ X R (in-place e) r a b =
-        let x = inherit W 𝓛 (o .class-of) c f u q i in let g = implementor-found (R .core) j k o e p in
+        let x = inherit 𝓛 (o .class-of) c f u q i in let g = implementor-found (R .core) j k o e p in
         let o₂ : Object = record { class-of = o .class-of; fields = replace (o .fields) (x .i) w } in
         let N : Object = implementor-of (o .class-of) k (replace (g .vs) (x .i) w′) in
         let t₁ : State = entered (entered (entered (entered (entered t)))) in
@@ -350,12 +352,12 @@ module _ (W W′ : World) (P : IsPlain W W′) (𝓛 : Laws W) (𝓜 : More W) w
         (run (translate W (change k d) γ sh) t)
     unfolding plain-change
     change-acts zero c d γ ids sh μ z s t H R dd (object j) (f-obj o p q) can (at-this {i} {m} e a x) =
-        let l = t .frame .slots in let n = length l in let g = can-inv W 𝓛 c d can in
+        let l = t .frame .slots in let n = length l in let g = can-inv W c d can in
         let rt : W .root (o .class-of) ≡ W .root d = 𝓛 .fickle-root (o .class-of) c q (g .0) ∙ g .1 in
         rw (
           plain-change-is W 0 d γ sh n (slots-length (R .frames .slots)),
           p,
-          root-fields W 𝓛 (s .heap) d o rt (H .each j o p),
+          root-fields 𝓛 (s .heap) d o rt (H .each j o p),
         )
         (change-object d ids sh μ z s t H R dd j i o e p rt _ 4
         (omega arith) (omega arith) λ m′ ws ran.
@@ -392,12 +394,12 @@ module _ (W W′ : World) (P : IsPlain W W′) (𝓛 : Laws W) (𝓜 : More W) w
         }))
     change-acts (suc k) c d γ ids sh μ z s t H R dd (object j) (f-obj o p q) can
         (at-variable a (in-place {i} e)) =
-        let l = t .frame .slots in let n = length l in let g = can-inv W 𝓛 c d can in
+        let l = t .frame .slots in let n = length l in let g = can-inv W c d can in
         let rt : W .root (o .class-of) ≡ W .root d = 𝓛 .fickle-root (o .class-of) c q (g .0) ∙ g .1 in
         rw (
           plain-change-is W (suc k) d γ sh n (slots-length (R .frames .slots)),
           p,
-          root-fields W 𝓛 (s .heap) d o rt (H .each j o p),
+          root-fields 𝓛 (s .heap) d o rt (H .each j o p),
         )
         (change-object d ids sh μ z s t H R dd j i o e p rt _ 5
         (omega arith) (omega arith) λ m′ ws ran.
@@ -434,7 +436,7 @@ module _ (W W′ : World) (P : IsPlain W W′) (𝓛 : Laws W) (𝓜 : More W) w
       r a b =
       let g = implementor-found (R .core) j k o e p in let x = 𝓛 .override (o .class-of) c m M q i in let M′ =
       x .0 in
-      let fa = fits-all W 𝓛 (s .heap) vs us (M .parameters) A f in
+      let fa = fits-all 𝓛 (s .heap) vs us (M .parameters) A f in
       let len : length vs ≡ length (M .parameters) = all2-length fa ∙ length-map (M .parameters) fresh-slot in
       let len′ : length vs′ ≡ length (M .parameters) = sym (all2-length r) ∙ len in
       let t₅ : State = state-of (t .frame .this) (t .frame .slots) (t .heap)

@@ -21,14 +21,13 @@ use Rattle.language.specs.Effects.{no-effect, within, effect-of-all}
 use Rattle.language.specs.Program.{class-at, kind-at, is-state-type, world, fields-at}
 use Rattle.language.specs.Headings.{check-fields, check-class, check-classes, headings}
 use Rattle.language.specs.WellFormed.{Extends, plain-object, plain-plain, FieldsWell, well-nil, well-cons}
-use Rattle.language.specs.WellFormed.{well-none}
-use Rattle.language.specs.WellFormed.{Overrides, first, again, MethodWell, MethodsWell, methods-nil}
-use Rattle.language.specs.WellFormed.{methods-cons}
-use Rattle.language.specs.WellFormed.{ClassWell, ClassesWell, classes-nil, classes-cons, ProgramWell}
+use Rattle.language.specs.WellFormed.{well-none, Overrides, first, again, MethodWell, MethodsWell}
+use Rattle.language.specs.WellFormed.{methods-nil, methods-cons, ClassWell, ClassesWell, classes-nil}
+use Rattle.language.specs.WellFormed.{classes-cons, ProgramWell}
 use Rattle.language.specs.Translation.{plain-class, plain-type, plain-field, variables, plain-method}
-use Rattle.language.specs.Translation.{plain-classes, identity}
-use Rattle.language.specs.Translation.{fickle-object, plain-program, fields-free, names-free}
-use Rattle.theory.specs.Sound.{Laws}
+use Rattle.language.specs.Translation.{plain-classes, identity, fickle-object, plain-program, fields-free}
+use Rattle.language.specs.Translation.{names-free}
+use Rattle.theory.specs.Fitting.{Laws}
 use Rattle.theory.specs.PlainWorld.{imp-of-identity, id-of-implementor, plain-form}
 use Rattle.theory.specs.PlainOf.{PlainOf}
 use Rattle.theory.specs.PlainLookups.{Earlier, earlier-supers, declared-plain, plain-list, plain-kind}
@@ -36,8 +35,7 @@ use Rattle.theory.specs.PlainLookups.{lookups-plain}
 use Rattle.theory.specs.PlainRules.{fresh}
 use Rattle.theory.specs.PlainSlots.{method-match, start-match}
 use Rattle.theory.specs.PlainTypes.{NameLaws, free-name, place-plain, fits-plain, identity-declared}
-use Rattle.theory.specs.PlainTypes.{fickle-declared}
-use Rattle.theory.specs.PlainTypes.{type-declared, types-declared, translation-has}
+use Rattle.theory.specs.PlainTypes.{fickle-declared, type-declared, types-declared, translation-has}
 
 module _ (P : List Class) (𝓔 : Earlier P) (𝓛 : Laws (world P)) (𝓝 : NameLaws (world P)) where
   abbrev W : World

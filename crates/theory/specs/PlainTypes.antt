@@ -11,31 +11,25 @@ use native.Mathlib.Omega.{arith}
 use borrow.Author.Tests.{leb-true, le-leb, eq-eqb, ne-eqb}
 use Rattle.language.specs.Limits.{object-class, identity-class, fickle-class, imp-field, id-field}
 use Rattle.language.specs.Lists.{nth, bind-option-inv, Never, inj, map-option, nth-append, nth-map, nth₀}
-use Rattle.language.specs.Lists.{nth₁, nth₂}
-use Rattle.language.specs.Lists.{nth-suc, up, up-suc, All2, a-nil, a-cons}
+use Rattle.language.specs.Lists.{nth₁, nth₂, nth-suc, up, up-suc, All2, a-nil, a-cons}
 use Rattle.language.specs.Frames.{Frame, at-slot, opened}
 use Rattle.language.specs.Tree.{DeclaredType, bool, class, ExprType, known, null-type, Expr, literal-true}
-use Rattle.language.specs.Tree.{literal-false, literal-null}
-use Rattle.language.specs.Tree.{slot, is-null, get, cast, new, change, assign, set, call, choose, block}
-use Rattle.language.specs.Tree.{Exprs, nil, cons, Field}
+use Rattle.language.specs.Tree.{literal-false, literal-null, slot, is-null, get, cast, new, change, assign}
+use Rattle.language.specs.Tree.{set, call, choose, block, Exprs, nil, cons, Field}
 use Rattle.language.specs.World.{Method, World, place, field-type, is-declared, is-declared-type}
 use Rattle.language.specs.Effects.{no-effect, apply-class, apply-expr}
 use Rattle.language.specs.Typing.{Slot, Environment, not-bool, last-type, fits, all-fit, join-types}
 use Rattle.language.specs.Typing.{after-change}
 use Rattle.language.specs.Rules.{Declared, declared-nil, declared-cons, HasType, HaveTypes, type-true}
-use Rattle.language.specs.Rules.{type-false}
-use Rattle.language.specs.Rules.{type-null, type-slot}
-use Rattle.language.specs.Rules.{type-new, type-cast, type-get, type-set, type-assign, type-is-null}
-use Rattle.language.specs.Rules.{type-call}
-use Rattle.language.specs.Rules.{type-choose, type-block}
-use Rattle.language.specs.Rules.{type-change, types-nil, types-cons}
+use Rattle.language.specs.Rules.{type-false, type-null, type-slot, type-new, type-cast, type-get, type-set}
+use Rattle.language.specs.Rules.{type-assign, type-is-null, type-call, type-choose, type-block, type-change}
+use Rattle.language.specs.Rules.{types-nil, types-cons}
 use Rattle.language.specs.Translation.{plain-class, plain-type, plain-field, Shape, variables, temporaries}
-use Rattle.language.specs.Translation.{position}
-use Rattle.language.specs.Translation.{read-slot}
-use Rattle.language.specs.Translation.{_then_, _⊕_, implementor, reads, copies, renew, change-types}
-use Rattle.language.specs.Translation.{plain-change}
-use Rattle.language.specs.Translation.{translate, translate-all, translate-arguments}
-use Rattle.theory.specs.Sound.{Laws, false≢, and-inv}
+use Rattle.language.specs.Translation.{position, read-slot, _then_, _⊕_, implementor, reads, copies, renew}
+use Rattle.language.specs.Translation.{change-types, plain-change, translate, translate-all}
+use Rattle.language.specs.Translation.{translate-arguments}
+use Rattle.theory.specs.Fitting.{Laws}
+use Rattle.language.proofs.Booleans.{false≢, and-inv}
 use Rattle.theory.specs.PlainWorld.{plain-form}
 use Rattle.theory.specs.PlainOf.{PlainOf}
 use Rattle.theory.specs.TranslationEquations.{plain-true as translate-true}
@@ -48,8 +42,7 @@ use Rattle.theory.specs.TranslationEquations.{plain-cast-is as translate
 use Rattle.theory.specs.TranslationEquations.{plain-new-is as translate-new}
 use Rattle.theory.specs.TranslationEquations.{plain-change-is as translate-change}
 use Rattle.theory.specs.TranslationEquations.{plain-assign as translate-assign}
-use Rattle.theory.specs.TranslationEquations.{plain-set as translate-set}
-use Rattle.theory.specs.TranslationEquations.{plain-call as translate-call}
+use Rattle.theory.specs.TranslationEquations.{plain-set as translate-set, plain-call as translate-call}
 use Rattle.theory.specs.TranslationEquations.{plain-choose as translate-choose}
 use Rattle.theory.specs.TranslationEquations.{plain-block as translate-block}
 use Rattle.theory.specs.TranslationEquations.{plain-nil as translate-all-nil}
@@ -57,19 +50,15 @@ use Rattle.theory.specs.TranslationEquations.{plain-cons as translate-al
 use Rattle.theory.specs.TranslationEquations.{plain-no-arguments as translate-arguments-nil}
 use Rattle.theory.specs.TranslationEquations.{plain-arguments as translate-arguments-cons}
 use Rattle.theory.specs.PlainRules.{fresh, Plain, Plains, plain-true, plain-false, plain-null}
-use Rattle.theory.specs.PlainRules.{plain-slot as slot-plain}
-use Rattle.theory.specs.PlainRules.{plain-new as new-plain, plain-cast as cast-plain, plain-get}
-use Rattle.theory.specs.PlainRules.{plain-set, plain-assign}
+use Rattle.theory.specs.PlainRules.{plain-slot as slot-plain, plain-new as new-plain}
+use Rattle.theory.specs.PlainRules.{plain-cast as cast-plain, plain-get, plain-set, plain-assign}
 use Rattle.theory.specs.PlainRules.{plain-is-null, plain-call, plain-choose, plain-block, plains-nil}
 use Rattle.theory.specs.PlainRules.{plains-cons, plain-has}
-use Rattle.theory.specs.PlainSlots.{assigned-slot}
-use Rattle.theory.specs.PlainSlots.{TypesMatch, both-bool, both-class, both-null, null-class, bool-only}
-use Rattle.theory.specs.PlainSlots.{class-only, match-plain}
-use Rattle.theory.specs.PlainSlots.{match-not-bool, last-match, ThisMatch, no-this, a-this, Match}
-use Rattle.theory.specs.PlainSlots.{match-apply}
-use Rattle.theory.specs.PlainSlots.{fits-match, all-apply}
-use Rattle.theory.specs.PlainSlots.{match-change, match-join, match-opened, match-closed, Temporary}
-use Rattle.theory.specs.PlainSlots.{no-temporary, a-temporary}
+use Rattle.theory.specs.PlainSlots.{assigned-slot, TypesMatch, both-bool, both-class, both-null}
+use Rattle.theory.specs.PlainSlots.{null-class, bool-only, class-only, match-plain, match-not-bool}
+use Rattle.theory.specs.PlainSlots.{last-match, ThisMatch, no-this, a-this, Match, match-apply}
+use Rattle.theory.specs.PlainSlots.{fits-match, all-apply, match-change, match-join, match-opened}
+use Rattle.theory.specs.PlainSlots.{match-closed, Temporary, no-temporary, a-temporary}
 use Rattle.theory.specs.PlainSlots.{typed-temporaries, match-more, match-fewer, variable-at}
 use Rattle.theory.specs.PlainSlots.{temporary-at}
 
