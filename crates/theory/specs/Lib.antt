@@ -35,9 +35,12 @@ pub mod PlainLookups
 pub mod PlainRules
 pub mod PlainSlots
 pub mod PlainTypes
+pub mod PlainBlocks
+pub mod TranslationTyped
 pub mod PlainHeadings
 pub mod PlainSizes
 pub mod PlainForm
+pub mod TranslationInForm
 pub mod PlainInForm
 pub mod PlainNames
 pub mod AcceptedTranslation
@@ -50,6 +53,7 @@ pub mod Refusals
 pub mod FormRefusals
 pub mod PassRefusals
 pub mod ListedAnswers
+pub mod TighterNodes
 pub mod TighterForm
 pub mod TranslatorAnswers
 pub mod Demands

@@ -139,7 +139,8 @@ module _ (W : World) where
       plain-has (call m e es) {δ} (plain-call {c} M d d′ i z j) =
           let h : HasType W (fresh δ) (call m e es) (known (M .result)) (apply-all W (M .effect) (fresh δ))
           (join (join no-effect no-effect) (M .effect))
-          = type-call M (plain-has e d) (plains-have es d′) (ap (λ (x : ℕ). W .method x m) (class-kept W c) ∙ i)
+          = type-call M (plain-has e d) (plains-have es d′)
+          (ap (λ (x : ℕ). W .method x m) (class-kept W c) ∙ i)
           j in
           let g : HasType W (fresh δ) (call m e es) (known (M .result)) (apply-all W no-effect (fresh δ))
           (join (join no-effect no-effect) no-effect)

@@ -9,7 +9,7 @@ use lib.Dec.{eqb}
 use Rattle.language.specs.Limits.{identity-class, fickle-class, imp-field, id-field}
 use Rattle.language.specs.Lists.{bind-option}
 use Rattle.language.specs.Tree.{class, Field}
-use Rattle.language.specs.World.{Method, World, is-declared}
+use Rattle.language.specs.World.{Method, World, place, is-declared}
 use Rattle.language.specs.Effects.{no-effect}
 use Rattle.language.specs.Translation.{plain-class, plain-type, plain-field, plain-body}
 
@@ -92,3 +92,9 @@ plain-world-is-plain W = record {
   implementor-method = λ k m M d e. rw e;
   implementor-below = λ k c d. refl;
 }
+
+-- A field's plain form stands where the field stands.
+pub place-map : (n : ℕ) (fs : List Field) → place n (map plain-field fs) ≡ place n fs
+unfolding place
+place-map n [] = refl
+place-map n (f ∷ fs) = rw (place-map n fs)
