@@ -7,11 +7,9 @@ use native.Mathlib.Omega.{arith}
 use borrow.Author.Tests.{ne-eqb, le-leb, lt-ltb}
 use Rattle.language.specs.Limits.{Most, largest}
 use Rattle.language.specs.Results.{Checked, accept, bind-checked, need-checked, require}
-use Rattle.language.specs.Rows.{Letter, B-block}
-use Rattle.language.specs.Rows.{V-local, T-true, L-false, N-null, I-slot, Z-is-null, G-get, K-cast, W-new}
-use Rattle.language.specs.Rows.{R-change, A-assign, U-set, Q-call, J-choose, Record, written, name-of, Row}
-use Rattle.language.specs.Rows.{row-of, most-at, record-of}
-use Rattle.language.proofs.Letters.{code-among}
+use Rattle.language.specs.Rows.{Letter, B-block, V-local, T-true, L-false, N-null, I-slot, Z-is-null, G-get}
+use Rattle.language.specs.Rows.{K-cast, W-new, R-change, A-assign, U-set, Q-call, J-choose, Record, written}
+use Rattle.language.specs.Rows.{name-of, Row, row-of, most-at, record-of}
 use Rattle.language.specs.Tree.{DeclaredType, type-number, Expr, literal-true, literal-false, literal-null}
 use Rattle.language.specs.Tree.{slot, is-null, get, cast, new, change, assign, set, call, choose, block}
 use Rattle.language.specs.Tree.{Exprs, nil, cons, count, size, sizes, flatten, flattens}
@@ -20,6 +18,7 @@ use Rattle.language.specs.WellFormed.{TypeInForm, Each, each-nil, each-cons, No
 use Rattle.language.specs.WellFormed.{form-true, form-false, form-null, form-slot, form-is-null, form-get}
 use Rattle.language.specs.WellFormed.{form-cast, form-new, form-change, form-assign, form-set, form-call}
 use Rattle.language.specs.WellFormed.{form-choose, form-block, form-nil, form-cons}
+use Rattle.language.proofs.Letters.{code-among}
 
 module _ (most : Most) (named : most .name ≤ largest) (slotted : most .slots ≤ largest) where
   pub on-line : (l : Letter) (a b at : ℕ) → a ≤ most-at 1 l → b ≤ most-at 2 l → at ≤ most .rows

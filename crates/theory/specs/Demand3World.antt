@@ -18,9 +18,9 @@ use Rattle.language.specs.Evaluation.{without-limits, with-limits, call-at, eva
 use Rattle.language.specs.Store.{Outcome, gave, ended}
 use Rattle.language.specs.Translation.{translate}
 use Rattle.language.specs.Correspondence.{identities, EndAlike, both-give, same-exception, both-deep, Matches}
+use Rattle.language.proofs.Booleans.{false≢}
 use Rattle.theory.specs.Sound.{calls-ok}
 use Rattle.theory.specs.Fitting.{Laws, this-none}
-use Rattle.language.proofs.Booleans.{false≢}
 use Rattle.theory.specs.PlainWorld.{IsPlain}
 use Rattle.theory.specs.Cut.{Within, limited-start, final, proper-stop, proper, kept, uncut}
 use Rattle.theory.specs.Matching.{Mask, no-slots, no-this}

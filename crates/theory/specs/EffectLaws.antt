@@ -15,8 +15,8 @@ use Rattle.language.specs.Effects.{no-effect, effect-of, member, join, within, 
 use Rattle.language.specs.Effects.{apply, apply-expr}
 use Rattle.language.specs.World.{World}
 use Rattle.language.specs.Tree.{DeclaredType, bool, class, ExprType, known, null-type}
-use Rattle.language.proofs.Effects.{member-none, member-join}
 use Rattle.language.specs.Headings.{lines-within}
+use Rattle.language.proofs.Effects.{member-none, member-join}
 use Rattle.language.proofs.Booleans.{false≢, and-inv, or-inl, or-inr}
 
 small : (n : ℕ) → n % 2 < 2

@@ -7,7 +7,6 @@ use lib.ListN.{length}
 use lib.Dec.{eqb}
 use native.Mathlib.Omega.{arith}
 use borrow.Author.Tests.{ne-eqb}
-use Rattle.language.proofs.Booleans.{false≢}
 use Rattle.language.specs.Results.{Checked, accept, refuse, passed, bind-checked, need-checked, require}
 use Rattle.language.specs.Results.{bind-checked-inv, need-checked-inv, require-inv, accept-injective}
 use Rattle.language.specs.Results.{accept≢refuse}
@@ -22,6 +21,7 @@ use Rattle.language.specs.Rules.{Declared, declared-nil, declared-cons, HasType
 use Rattle.language.specs.Rules.{type-false, type-null, type-slot, type-new, type-cast, type-get, type-set}
 use Rattle.language.specs.Rules.{type-assign, type-is-null, type-call, type-choose, type-block, type-change}
 use Rattle.language.specs.Rules.{types-nil, types-cons}
+use Rattle.language.proofs.Booleans.{false≢}
 
 need-class-inv : {B C : Type 0} (t : ExprType) (n l : ℕ) (k : ℕ → Checked B) {b : B}
     → need-class t n l k ≡ accept b → ((c : ℕ) → t ≡ known (class c) → k c ≡ accept b → C) → C

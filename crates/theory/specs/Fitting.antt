@@ -9,24 +9,20 @@ use mathlib.Core.List.{List, [], _∷_, _++_, map}
 use lib.ListN.{length, set as replace}
 use native.Mathlib.Decide.{ℕ-discrete}
 use Rattle.language.specs.Limits.{null-exception, cast-exception}
-use Rattle.language.specs.Lists.{nth, map-option, inj, All2}
-use Rattle.language.specs.Lists.{a-nil, a-cons}
-use Rattle.language.specs.Lists.{all2-map, all2-mono, all2-mono-at}
+use Rattle.language.specs.Lists.{nth, map-option, inj, All2, a-nil, a-cons, all2-map, all2-mono, all2-mono-at}
 use Rattle.language.specs.Lists.{nth-set-same, nth-set-other, nth-append, nth-append-one, nth-set}
 use Rattle.language.specs.Frames.{Frame, frame}
-use Rattle.language.specs.Tree.{DeclaredType, bool, class, ExprType, known, null-type}
-use Rattle.language.specs.Tree.{Field}
+use Rattle.language.specs.Tree.{DeclaredType, bool, class, ExprType, known, null-type, Field}
 use Rattle.language.specs.World.{Method, World}
 use Rattle.language.specs.Effects.{no-effect, member, join, within, apply-class, apply, apply-expr}
-use Rattle.language.specs.Typing.{Slot, Environment, fresh-slot, method-environment, not-bool}
-use Rattle.language.specs.Typing.{fits}
+use Rattle.language.specs.Typing.{Slot, Environment, fresh-slot, method-environment, not-bool, fits}
 use Rattle.language.specs.Typing.{apply-slot, apply-all}
 use Rattle.language.specs.Rules.{HasType}
 use Rattle.language.specs.Evaluation.{Value, null, truth, object, Object, State, Stop, raised, deep, spent}
 use Rattle.language.specs.Evaluation.{full, initial, initials}
-use Rattle.theory.specs.EffectLaws.{has-left, has-right, has-within, expr-kept}
 use Rattle.language.proofs.Effects.{member-none}
 use Rattle.language.proofs.Booleans.{false≢}
+use Rattle.theory.specs.EffectLaws.{has-left, has-right, has-within, expr-kept}
 
 -- a value fits a type
 pub data Fits (W : World) (h : List Object) : Value → ExprType → Type 0 where

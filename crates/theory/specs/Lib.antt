@@ -18,6 +18,7 @@ pub mod Members
 pub mod MoreLookups
 pub mod Translatable
 pub mod PlainWorld
+pub mod Growth
 pub mod Cut
 pub mod Matching
 pub mod MatchingHeaps
@@ -26,6 +27,8 @@ pub mod PlainSteps
 pub mod Renewal
 pub mod TranslationEquations
 pub mod PlainActs
+pub mod PlainChange
+pub mod PlainCall
 pub mod Simulation
 pub mod Demand3World
 pub mod Demand2Runs

@@ -6,32 +6,23 @@ use mathlib.Core.Bool.{true}
 use mathlib.Core.List.{List, [], _∷_, _++_, map, append-nil}
 use lib.ListN.{length}
 use Rattle.language.specs.Limits.{identity-class, id-field}
-use Rattle.language.specs.Lists.{nth, Never, inj, nth-append, nth₀}
-use Rattle.language.specs.Lists.{nth₁, nth₂, up, up-suc, All2}
+use Rattle.language.specs.Lists.{nth, Never, inj, nth-append, nth₀, nth₁, nth₂, up, up-suc, All2}
 use Rattle.language.specs.Frames.{Frame, at-slot, opened}
-use Rattle.language.specs.Tree.{DeclaredType, class, ExprType, known, null-type, Expr}
-use Rattle.language.specs.Tree.{slot, get}
-use Rattle.language.specs.Tree.{block, Exprs, nil, Field}
+use Rattle.language.specs.Tree.{DeclaredType, class, ExprType, known, null-type, Expr, slot, get, block}
+use Rattle.language.specs.Tree.{Exprs, nil, Field}
 use Rattle.language.specs.World.{World, field-type, is-declared}
-use Rattle.language.specs.Typing.{Slot, Environment, last-type}
-use Rattle.language.specs.Typing.{after-change}
+use Rattle.language.specs.Typing.{Slot, Environment, last-type, after-change}
 use Rattle.language.specs.Rules.{Declared, declared-nil, declared-cons}
-use Rattle.language.specs.Translation.{plain-class, plain-type, Shape}
-use Rattle.language.specs.Translation.{position, read-slot, _then_, _⊕_, implementor, reads, copies, renew}
-use Rattle.language.specs.Translation.{change-types, plain-change}
+use Rattle.language.specs.Translation.{plain-class, plain-type, Shape, position, read-slot, _then_, _⊕_}
+use Rattle.language.specs.Translation.{implementor, reads, copies, renew, change-types, plain-change}
 use Rattle.theory.specs.Fitting.{Laws}
 use Rattle.theory.specs.PlainOf.{PlainOf}
-use Rattle.theory.specs.PlainRules.{Plain, Plains, plain-null}
-use Rattle.theory.specs.PlainRules.{plain-slot as slot-plain, plain-new as new-plain}
-use Rattle.theory.specs.PlainRules.{plain-cast as cast-plain, plain-get, plain-set, plain-assign}
-use Rattle.theory.specs.PlainRules.{plain-is-null, plain-choose, plain-block, plains-nil}
-use Rattle.theory.specs.PlainRules.{plains-cons}
-use Rattle.theory.specs.PlainSlots.{TypesMatch, both-class}
-use Rattle.theory.specs.PlainSlots.{match-plain}
-use Rattle.theory.specs.PlainSlots.{ThisMatch, no-this, a-this, Match}
-use Rattle.theory.specs.PlainSlots.{match-change}
-use Rattle.theory.specs.PlainSlots.{variable-at}
-use Rattle.theory.specs.PlainSlots.{temporary-at}
+use Rattle.theory.specs.PlainRules.{Plain, Plains, plain-null, plain-slot as slot-plain}
+use Rattle.theory.specs.PlainRules.{plain-new as new-plain, plain-cast as cast-plain, plain-get}
+use Rattle.theory.specs.PlainRules.{plain-set, plain-assign, plain-is-null, plain-choose, plain-block}
+use Rattle.theory.specs.PlainRules.{plains-nil, plains-cons}
+use Rattle.theory.specs.PlainSlots.{TypesMatch, both-class, match-plain, ThisMatch, no-this, a-this}
+use Rattle.theory.specs.PlainSlots.{Match, match-change, variable-at, temporary-at}
 use Rattle.theory.specs.PlainTypes.{NameLaws, fits-itself, plain-declared, identity-declared, imp-type}
 use Rattle.theory.specs.PlainTypes.{id-type, field-plain, fits-same, fits-fickle, root-field}
 

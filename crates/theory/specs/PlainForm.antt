@@ -64,10 +64,6 @@ more-left (suc d) = suc (suc (suc (suc (more-left d))))
 abbrev pub plain-left : ℕ → ℕ
 plain-left d = suc (suc (suc (more-left d)))
 
-pub all-left : plain-left 24 ≡ of-check .nesting
-unfolding more-left
-all-left = refl
-
 -- Variables among the slots, and where they stand.
 unfoldable pub variable-count : Shape → ℕ
 variable-count [] = 0

@@ -10,19 +10,16 @@ use native.Mathlib.Omega.{arith}
 use borrow.Author.Tests.{leb-true, le-leb, eq-eqb, ne-eqb}
 use Rattle.language.specs.Limits.{object-class, identity-class, fickle-class, imp-field, id-field}
 use Rattle.language.specs.Lists.{nth, bind-option-inv, Never, inj, map-option, nth-append, nth-map}
-use Rattle.language.specs.Tree.{DeclaredType, bool, class, ExprType, known, null-type}
-use Rattle.language.specs.Tree.{Field}
+use Rattle.language.specs.Tree.{DeclaredType, bool, class, ExprType, known, null-type, Field}
 use Rattle.language.specs.World.{Method, World, place, field-type, is-declared, is-declared-type}
 use Rattle.language.specs.Typing.{not-bool, fits, all-fit, join-types}
 use Rattle.language.specs.Rules.{Declared, declared-nil, declared-cons}
 use Rattle.language.specs.Translation.{plain-class, plain-type, plain-field}
-use Rattle.theory.specs.Fitting.{Laws}
 use Rattle.language.proofs.Booleans.{false≢, and-inv}
-use Rattle.theory.specs.PlainWorld.{plain-form}
+use Rattle.theory.specs.Fitting.{Laws}
+use Rattle.theory.specs.PlainWorld.{plain-form, place-map}
 use Rattle.theory.specs.PlainOf.{PlainOf}
-use Rattle.theory.specs.PlainSlots.{TypesMatch, both-bool, both-class, both-null}
-use Rattle.theory.specs.PlainSlots.{null-class}
-use Rattle.theory.specs.PlainWorld.{place-map}
+use Rattle.theory.specs.PlainSlots.{TypesMatch, both-bool, both-class, both-null, null-class}
 
 -- What else the checks of headings and the translator's own check of names give.
 pub record NameLaws (W : World) : Type 0 where

@@ -4,18 +4,17 @@ use mathlib.Core.Path.{_≡_, refl, sym, _∙_, subst}
 use Prim.Native.Nat.{ℕ, zero, suc, _+_}
 use native.Mathlib.Nat.{suc-inj}
 use mathlib.Core.Option.{some}
-use mathlib.Core.Bool.{true, false}
+use mathlib.Core.Bool.{false}
 use mathlib.Core.List.{List, [], _∷_, _++_, map}
 use lib.ListN.{length, length-append, length-map}
 use lib.Seq.{append-snoc}
 use native.Mathlib.Omega.{arith}
 use Rattle.language.specs.Limits.{imp-field, id-field}
-use Rattle.language.specs.Lists.{choice, All2, a-nil, a-cons, all2-append, nth₀, nth₁, nth-suc, nth-map}
-use Rattle.language.specs.Lists.{up-suc}
+use Rattle.language.specs.Lists.{choice, a-nil, a-cons, all2-append, nth₀, nth₁, nth-suc, nth-map, up-suc}
 use Rattle.language.specs.Results.{ok, bind, Alike, alike-ok, alike-stop, alike-bind, alike-context}
 use Rattle.language.specs.Results.{alike-with, alike-mono, alike-wrap}
 use Rattle.language.specs.Frames.{frame, with-slot, opened, closed}
-use Rattle.language.specs.Tree.{DeclaredType, bool, class, ExprType, known, Expr, literal-true, literal-false}
+use Rattle.language.specs.Tree.{DeclaredType, class, ExprType, known, Expr, literal-true, literal-false}
 use Rattle.language.specs.Tree.{literal-null, slot, is-null, get, cast, new, change, assign, set, call}
 use Rattle.language.specs.Tree.{choose, block, Exprs, nil, cons}
 use Rattle.language.specs.World.{Method, World}
@@ -24,77 +23,36 @@ use Rattle.language.specs.Typing.{Environment}
 use Rattle.language.specs.Rules.{HasType, HaveTypes, type-true, type-false, type-null, type-slot, type-new}
 use Rattle.language.specs.Rules.{type-cast, type-get, type-set, type-assign, type-is-null, type-call}
 use Rattle.language.specs.Rules.{type-choose, type-block, type-change, types-nil, types-cons}
-use Rattle.language.specs.Evaluation.{Value, null, truth, Object, State, Out, without-limits, entered}
-use Rattle.language.specs.Evaluation.{with-frame, initial, last-value, need-truth, is-null-value, do-get}
-use Rattle.language.specs.Evaluation.{do-cast, eval, eval-all, call-at}
+use Rattle.language.specs.Evaluation.{Value, null, truth, State, Out, without-limits, entered, with-frame}
+use Rattle.language.specs.Evaluation.{initial, last-value, need-truth, is-null-value, do-get, do-cast, eval}
+use Rattle.language.specs.Evaluation.{eval-all, call-at}
 use Rattle.language.specs.Translation.{plain-class, plain-type, Shape, variables, temporaries, plain-slot}
 use Rattle.language.specs.Translation.{implementor, reads, _then_, _⊕_, translate, translate-all}
 use Rattle.language.specs.Translation.{translate-arguments}
-use Rattle.language.specs.Correspondence.{Corresponds, both-null, same-truth, in-place}
+use Rattle.language.specs.Correspondence.{both-null, same-truth}
 use Rattle.theory.specs.Equal.{all-fit-length}
 use Rattle.theory.specs.Sound.{soundE, soundEs, calls-ok}
-use Rattle.theory.specs.Fitting.{Laws, Fits, f-null, HeapOk, FitsFrame, fits-evolves, locals-fit}
+use Rattle.theory.specs.Fitting.{Laws, Fits, HeapOk, FitsFrame, fits-evolves, locals-fit}
 use Rattle.theory.specs.SoundActs.{CallOk, at}
-use Rattle.language.proofs.Booleans.{false≢}
 use Rattle.theory.specs.PlainWorld.{IsPlain}
-use Rattle.theory.specs.Matching.{persists-same, persists-trans, corresponds-later, Mask, SlotsMatch}
-use Rattle.theory.specs.Matching.{no-slots, temporary, mask-length, temporaries-only}
-use Rattle.theory.specs.MatchingStates.{StatesMatch, After, AfterAll, Filled, Ended, recount}
-use Rattle.theory.specs.MatchingStates.{both-enter, entering, spare, spend, from-before, no-values}
-use Rattle.theory.specs.MatchingStates.{frames-set, frames-open, frames-temporaries, frames-temporary}
-use Rattle.theory.specs.MatchingStates.{frames-put, frames-close, close-block}
+use Rattle.theory.specs.Matching.{persists-same, persists-trans, corresponds-later, Mask, no-slots}
+use Rattle.theory.specs.Matching.{temporary, mask-length}
+use Rattle.theory.specs.MatchingStates.{literal-alike, StatesMatch, After, AfterAll, Filled, Ended}
+use Rattle.theory.specs.MatchingStates.{recount, both-enter, entering, spare, spend, from-before}
+use Rattle.theory.specs.MatchingStates.{no-values, frames-set, frames-open, frames-temporaries}
+use Rattle.theory.specs.MatchingStates.{frames-temporary, frames-put, frames-close, close-block}
+use Rattle.theory.specs.MatchingStates.{null-alike, choose-alike, last-alike, last-of-more}
+use Rattle.theory.specs.MatchingStates.{one-temporary, two-temporaries, more-temporaries}
+use Rattle.theory.specs.MatchingStates.{temporaries-match}
 use Rattle.theory.specs.PlainSteps.{More, run-append}
 use Rattle.theory.specs.TranslationEquations.{plain-true, plain-false, plain-null, plain-read}
 use Rattle.theory.specs.TranslationEquations.{plain-is-null, plain-get, plain-cast-is, plain-assign}
 use Rattle.theory.specs.TranslationEquations.{plain-set, plain-call, plain-choose, plain-block}
 use Rattle.theory.specs.TranslationEquations.{plain-nil, plain-cons, plain-no-arguments}
 use Rattle.theory.specs.TranslationEquations.{plain-arguments}
-use Rattle.theory.specs.PlainActs.{slot-found, CallsMatch, read-acts, new-acts, get-acts, set-acts}
-use Rattle.theory.specs.PlainActs.{cast-acts, change-acts, call-acts}
-
--- Z of values that correspond; J on a truth value; the last of values that correspond.
-null-alike : {ids : List ℕ} {v v′ : Value} → Corresponds ids v v′
-    → Corresponds ids (truth (is-null-value v)) (truth (is-null-value v′))
-null-alike both-null = same-truth
-null-alike same-truth = same-truth
-null-alike (in-place e) = same-truth
-
-choose-alike : {W : World} {A : Value → State → Value → State → Type 0} {ids : List ℕ} {h : List Object}
-    {v v′ : Value}
-    → Corresponds ids v v′ → (s t : State) {x y x′ y′ : Out Value} → Fits W h v (known bool)
-    → Alike A (Ended W) x x′ → Alike A (Ended W) y y′
-    → Alike A (Ended W) (need-truth v s λ b. choice b (λ _. x) (λ _. y))
-    (need-truth v′ t λ b. choice b (λ _. x′) (λ _. y′))
-choose-alike both-null s t (f-null n) a b = false≢ n
-choose-alike (same-truth {b = true}) s t f a b = a
-choose-alike (same-truth {b = false}) s t f a b = b
-
-last-alike : {ids : List ℕ} {v v′ : Value} {vs vs′ : List Value} → Corresponds ids v v′
-    → All2 (Corresponds ids) vs vs′ → Corresponds ids (last-value v vs) (last-value v′ vs′)
-last-alike r a-nil = r
-last-alike r (a-cons q qs) = last-alike q qs
-
-last-of-more : (u : Value) (vs : List Value) (x : Value) → last-value u (vs ++ (x ∷ [])) ≡ x
-last-of-more u [] x = refl
-last-of-more u (v ∷ vs) x = last-of-more v vs x
-
--- One temporary, two, and one for each parameter after one.
-one-temporary : {ids : List ℕ} {μ : Mask} {l l′ : List Value} → SlotsMatch ids (false ∷ []) μ l l′ → l ≡ []
-one-temporary (temporary no-slots) = refl
-
-two-temporaries : {ids : List ℕ} {μ : Mask} {l l′ : List Value} → SlotsMatch ids (false ∷ false ∷ []) μ l l′
-    → l ≡ []
-two-temporaries (temporary (temporary no-slots)) = refl
-
-more-temporaries : {ids : List ℕ} {μ : Mask} {l l′ : List Value} (ts : List DeclaredType)
-    → SlotsMatch ids (false ∷ temporaries ts) μ l l′ → l ≡ []
-more-temporaries ts (temporary r) = temporaries-only ts _ _ _ r
-
-temporaries-match : (ids : List ℕ) (ts : List DeclaredType)
-    → SlotsMatch ids (temporaries ts) (map some (map initial (map plain-type ts))) []
-    (map initial (map plain-type ts))
-temporaries-match ids [] = no-slots
-temporaries-match ids (t ∷ ts) = temporary (temporaries-match ids ts)
+use Rattle.theory.specs.PlainActs.{slot-found, read-acts, new-acts, get-acts, set-acts, cast-acts}
+use Rattle.theory.specs.PlainCall.{CallsMatch, call-acts}
+use Rattle.theory.specs.PlainChange.{change-acts}
 
 module _ (W W′ : World) (P : IsPlain W W′) (𝓛 : Laws W) (𝓜 : More W) where
   module _ (invoke invoke′ : Method → State → Out Value) (C : CallOk W invoke)
@@ -113,27 +71,12 @@ module _ (W W′ : World) (P : IsPlain W W′) (𝓛 : Laws W) (𝓜 : More W) w
           → FitsFrame W (s .heap) (s .frame) γ → StatesMatch W ids sh μ z s t
           → Alike (After W ids (t .heap) sh μ z) (Ended W) (eval W without-limits invoke e s)
           (eval W′ without-limits invoke′ (translate W e γ sh) t)
-      simulates literal-true {γ} type-true ids sh μ z s t H S R = rw (plain-true W γ sh)
-          (alike-ok {s = entered s} {t = entered t} (record {
-            ids′ = ids;
-            persists = persists-same;
-            value = same-truth;
-            match = spare 83 (both-enter R);
-          }))
-      simulates literal-false {γ} type-false ids sh μ z s t H S R = rw (plain-false W γ sh)
-          (alike-ok {s = entered s} {t = entered t} (record {
-            ids′ = ids;
-            persists = persists-same;
-            value = same-truth;
-            match = spare 83 (both-enter R);
-          }))
-      simulates literal-null {γ} type-null ids sh μ z s t H S R = rw (plain-null W γ sh)
-          (alike-ok {s = entered s} {t = entered t} (record {
-            ids′ = ids;
-            persists = persists-same;
-            value = both-null;
-            match = spare 83 (both-enter R);
-          }))
+      simulates literal-true {γ} type-true ids sh μ z s t H S R =
+          rw (plain-true W γ sh) (literal-alike same-truth R)
+      simulates literal-false {γ} type-false ids sh μ z s t H S R =
+          rw (plain-false W γ sh) (literal-alike same-truth R)
+      simulates literal-null {γ} type-null ids sh μ z s t H S R =
+          rw (plain-null W γ sh) (literal-alike both-null R)
       simulates (slot k) {γ} (type-slot {s = u} e) ids sh μ z s t H S R =
           let x = at (s .frame) γ S k u e in
           rw (plain-read W k γ sh, x .is)

@@ -6,8 +6,7 @@ use mathlib.Core.Option.{Option, none, some}
 use mathlib.Core.List.{List, [], _∷_}
 use lib.ListN.{length}
 use lib.Seq.{take-append-seam}
-use Rattle.language.specs.Lists.{map-option, Never, inj, All2}
-use Rattle.language.specs.Lists.{a-nil, a-cons, all2-set-right, all2-take}
+use Rattle.language.specs.Lists.{map-option, Never, inj, All2, a-nil, a-cons, all2-set-right, all2-take}
 use Rattle.language.specs.Lists.{all2-map}
 use Rattle.language.specs.Frames.{Frame, at-slot, with-slot}
 use Rattle.language.specs.Tree.{DeclaredType, bool, class, ExprType, known, null-type, Expr, literal-true}
@@ -15,9 +14,8 @@ use Rattle.language.specs.Tree.{literal-false, literal-null, slot, is-null, get
 use Rattle.language.specs.Tree.{set, call, choose, block, Exprs, nil, cons}
 use Rattle.language.specs.World.{World}
 use Rattle.language.specs.Effects.{effect-of, apply}
-use Rattle.language.specs.Typing.{Slot, Environment, with-type}
-use Rattle.language.specs.Typing.{join-types, join-currents, join-slots, join-this}
-use Rattle.language.specs.Typing.{join-environments, apply-slot, apply-all}
+use Rattle.language.specs.Typing.{Slot, Environment, with-type, join-types, join-currents, join-slots}
+use Rattle.language.specs.Typing.{join-this, join-environments, apply-slot, apply-all}
 use Rattle.language.specs.Rules.{HasType, HaveTypes, type-true, type-false, type-null, type-slot, type-new}
 use Rattle.language.specs.Rules.{type-cast, type-get, type-set, type-assign, type-is-null, type-call}
 use Rattle.language.specs.Rules.{type-choose, type-block, type-change, types-nil, types-cons}

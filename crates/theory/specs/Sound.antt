@@ -4,24 +4,19 @@ use mathlib.Core.Path.{refl, subst}
 use Prim.Native.Nat.{ℕ, zero, suc, _-_}
 use mathlib.Core.List.{List, [], _∷_, map}
 use lib.ListN.{length}
-use Rattle.language.specs.Lists.{All2}
-use Rattle.language.specs.Lists.{a-nil, a-cons, all2-set, all2-append, all2-take}
-use Rattle.language.specs.Lists.{all2-length}
-use Rattle.language.specs.Results.{Holds, holds-ok, holds-stop, holds-bind, holds-choice}
-use Rattle.language.specs.Results.{holds-mono}
+use Rattle.language.specs.Lists.{All2, a-nil, a-cons, all2-set, all2-append, all2-take, all2-length}
+use Rattle.language.specs.Results.{Holds, holds-ok, holds-stop, holds-bind, holds-choice, holds-mono}
 use Rattle.language.specs.Frames.{frame, opened}
-use Rattle.language.specs.Tree.{DeclaredType, ExprType, known, Expr, literal-true}
-use Rattle.language.specs.Tree.{literal-false, literal-null, slot, is-null, get, cast, new, change, assign}
-use Rattle.language.specs.Tree.{set, call, choose, block, Exprs, nil, cons}
+use Rattle.language.specs.Tree.{DeclaredType, ExprType, known, Expr, literal-true, literal-false}
+use Rattle.language.specs.Tree.{literal-null, slot, is-null, get, cast, new, change, assign, set, call}
+use Rattle.language.specs.Tree.{choose, block, Exprs, nil, cons}
 use Rattle.language.specs.World.{Method, World}
-use Rattle.language.specs.Typing.{Environment}
-use Rattle.language.specs.Typing.{last-type}
+use Rattle.language.specs.Typing.{Environment, last-type}
 use Rattle.language.specs.Rules.{HasType, HaveTypes, type-true, type-false, type-null, type-slot, type-new}
 use Rattle.language.specs.Rules.{type-cast, type-get, type-set, type-assign, type-is-null, type-call}
 use Rattle.language.specs.Rules.{type-choose, type-block, type-change, types-nil, types-cons}
-use Rattle.language.specs.Evaluation.{Value, Object, State}
-use Rattle.language.specs.Evaluation.{Out, Limits, entered, with-frame, initial, last-value}
-use Rattle.language.specs.Evaluation.{eval, eval-all, call-at}
+use Rattle.language.specs.Evaluation.{Value, Object, State, Out, Limits, entered, with-frame, initial}
+use Rattle.language.specs.Evaluation.{last-value, eval, eval-all, call-at}
 use Rattle.theory.specs.Fitting.{Fits, f-null, f-bool, FitsFrame, Laws, HeapOk, Fine, fine-deep}
 use Rattle.theory.specs.Fitting.{fine-spent, Good, Goods, evolve-refl, evolve-trans, evolve-within}
 use Rattle.theory.specs.Fitting.{evolve-then, evolve-left, evolve-right, locals-fit, fits-evolves}

@@ -12,19 +12,15 @@ use borrow.Author.Tests.{eqb-true, le-leb}
 use native.Mathlib.Omega.{arith}
 use Rattle.language.specs.Lists.{nth, bind-option, bind-option-inv, map-option, choice, Never, inj, All2}
 use Rattle.language.specs.Lists.{a-nil, a-cons, all2-at, all2-set, all2-set-right, all2-append, all2-take}
-use Rattle.language.specs.Lists.{all2-length, all2-mono-at}
-use Rattle.language.specs.Lists.{nth-set-same, nth-append, nth-last}
+use Rattle.language.specs.Lists.{all2-length, all2-mono-at, nth-set-same, nth-append, nth-last}
 use Rattle.language.specs.Results.{ok, stop, Holds, holds-ok, holds-stop, holds-bind, holds-if}
 use Rattle.language.specs.Frames.{Frame, frame, at-slot, with-slot}
-use Rattle.language.specs.Tree.{DeclaredType, bool, class, ExprType, known}
-use Rattle.language.specs.Tree.{Field}
+use Rattle.language.specs.Tree.{DeclaredType, bool, class, ExprType, known, Field}
 use Rattle.language.specs.World.{Method, World, place, field-type}
 use Rattle.language.specs.Effects.{no-effect, effect-of}
-use Rattle.language.specs.Typing.{Slot, Environment, fresh-slot, method-environment, not-bool}
-use Rattle.language.specs.Typing.{fits, all-fit}
+use Rattle.language.specs.Typing.{Slot, Environment, fresh-slot, method-environment, not-bool, fits, all-fit}
 use Rattle.language.specs.Typing.{apply-all, can-change}
-use Rattle.language.specs.Evaluation.{Value, null, object, Object, State, raised}
-use Rattle.language.specs.Evaluation.{Out, Limits, with-frame}
+use Rattle.language.specs.Evaluation.{Value, null, object, Object, State, raised, Out, Limits, with-frame}
 use Rattle.language.specs.Evaluation.{need-truth, new-object, changed, do-get, do-set, do-cast, do-change}
 use Rattle.language.specs.Evaluation.{do-new, do-call}
 use Rattle.language.proofs.Booleans.{false≢, and-inv}

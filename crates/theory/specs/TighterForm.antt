@@ -12,13 +12,12 @@ use native.Mathlib.Omega.{arith}
 use Rattle.language.specs.Limits.{Most, limit-refusal}
 use Rattle.language.specs.Lists.{given}
 use Rattle.language.specs.Results.{Checked, accept, refuse, bind-checked, require}
-use Rattle.language.specs.Rows.{Letter, C-class, F-field, M-method, P-parameter, X-effect, S-start}
-use Rattle.language.specs.Rows.{Record, same-letter, Row}
+use Rattle.language.specs.Rows.{Letter, C-class, F-field, M-method, P-parameter, X-effect, S-start, Record}
+use Rattle.language.specs.Rows.{same-letter, Row}
 use Rattle.language.specs.Tree.{DeclaredType, type-of-number, size, Field, Declaration, method-lines}
 use Rattle.language.specs.Tree.{methods-lines, Class, class-lines, classes-lines, Program}
-use Rattle.language.specs.Form.{Read, read, after, if-letter, record-on, next, maybe}
-use Rattle.language.specs.Form.{body, class-of, fields, parameters, effects, method, methods, classes, at-end}
-use Rattle.language.specs.Form.{form}
+use Rattle.language.specs.Form.{Read, read, after, if-letter, record-on, next, maybe, body, class-of, fields}
+use Rattle.language.specs.Form.{parameters, effects, method, methods, classes, at-end, form}
 use Rattle.theory.specs.Translatable.{Tighter}
 use Rattle.theory.specs.TighterNodes.{Cuts, same, over, unsaid, Over, is-over, cuts-after, cuts-require}
 use Rattle.theory.specs.TighterNodes.{over-any, over-after, record-either, next-cuts, body-cuts}
@@ -49,15 +48,12 @@ module _ (wide tight : Most) (t : Tighter tight wide) where
   maybe-either letter at r rs = elim (record-either t at r)
       [ inl e ↦ inl (ap (if-letter letter) e) | inr e ↦ inr (blocked (e .0) (e .1)) ]
 
-  -- F and X lines are read alike, or the rows after them are blocked.
-  fields-blocked : {at : ℕ} {rs : List Row} → Blocked at rs → fields tight at rs ≡ read [] rs
-  unfolding fields
-  fields-blocked {at} (blocked {r} {rs} l e) = rw (maybe-blocked F-field at r rs (blocked l e))
-
+  -- No X line is read of blocked rows.
   effects-blocked : {at : ℕ} {rs : List Row} → Blocked at rs → effects tight at rs ≡ read [] rs
   unfolding effects
   effects-blocked {at} (blocked {r} {rs} l e) = rw (maybe-blocked X-effect at r rs (blocked l e))
 
+  -- F and X lines are read alike, or the rows after them are blocked.
   abbrev Lines : {A : Type 0} → ℕ → Read (List A) → Read (List A) → Type 0
   Lines at x y = (x ≡ y) ⊎ Blocked (at + length (y .tree)) (y .rest)
 

@@ -11,15 +11,11 @@ use native.Mathlib.Omega.{arith}
 use Rattle.language.specs.Limits.{Most, limit-refusal, line-refusal, place-refusal}
 use Rattle.language.specs.Results.{Checked, accept, refuse, bind-checked, need-checked, require}
 use Rattle.language.specs.Rows.{Letter, C-class, F-field, M-method, P-parameter, X-effect, S-start, B-block}
-use Rattle.language.specs.Rows.{V-local}
-use Rattle.language.specs.Rows.{T-true, L-false, N-null, I-slot, Z-is-null, G-get, K-cast, W-new, R-change}
-use Rattle.language.specs.Rows.{A-assign}
-use Rattle.language.specs.Rows.{U-set, Q-call, J-choose, Record, name-of, same-letter, Row, record-of}
+use Rattle.language.specs.Rows.{V-local, T-true, L-false, N-null, I-slot, Z-is-null, G-get, K-cast, W-new}
+use Rattle.language.specs.Rows.{R-change, A-assign, U-set, Q-call, J-choose, Record, name-of, same-letter}
+use Rattle.language.specs.Rows.{Row, record-of}
 use Rattle.language.specs.Tree.{Expr, size}
-use Rattle.language.specs.Form.{Read, after, several, record-on, next, locals}
-use Rattle.language.specs.Form.{node-of, node}
-use Rattle.language.specs.Form.{body}
-use Rattle.language.specs.Form.{is-node}
+use Rattle.language.specs.Form.{Read, after, several, record-on, next, locals, node-of, node, body, is-node}
 use Rattle.theory.specs.Translatable.{Tighter}
 
 -- What tight limits make of a check: the same answer, or 2. Nothing is said where the wide limits refuse.

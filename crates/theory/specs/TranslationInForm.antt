@@ -50,9 +50,9 @@ use Rattle.theory.specs.PlainForm.{plain-left, variable-count, position-
 use Rattle.theory.specs.PlainForm.{count-variables, slots-same, count-joined, count-reads}
 use Rattle.theory.specs.PlainForm.{identity-form, plain-type-form, plain-types-form, class-form}
 use Rattle.theory.specs.PlainForm.{block-form, slot-small, class-small, one-small, id-small, imp-small}
-use Rattle.theory.specs.PlainForm.{implementor-form, reads-form, joined-form, same-room}
-use Rattle.theory.specs.PlainForm.{more-room, block-room, slots-fit, still-variables, declared-small}
-use Rattle.theory.specs.PlainForm.{read-form, field-small, change-form, Room}
+use Rattle.theory.specs.PlainForm.{implementor-form, reads-form, joined-form, same-room, more-room}
+use Rattle.theory.specs.PlainForm.{block-room, slots-fit, still-variables, declared-small, read-form}
+use Rattle.theory.specs.PlainForm.{field-small, change-form, Room}
 
 module _ (W : World) (𝓢 : Small W) (𝓝 : NameLaws W) where
   count-all : (es : Exprs) (γ : Environment) (sh : Shape) → count (translate-all W es γ sh) ≡ count es

@@ -6,8 +6,7 @@ use mathlib.Core.Option.{some}
 use mathlib.Core.Bool.{true, false}
 use mathlib.Core.List.{List, [], _∷_, _++_, map}
 use lib.ListN.{length}
-use Rattle.language.specs.Lists.{nth, nth₀}
-use Rattle.language.specs.Lists.{nth₁, nth-suc, up, up-suc, a-nil, a-cons}
+use Rattle.language.specs.Lists.{nth, nth₀, nth₁, nth-suc, up, up-suc, a-nil, a-cons}
 use Rattle.language.specs.Frames.{Frame, opened}
 use Rattle.language.specs.Tree.{DeclaredType, bool, class, ExprType, known, null-type, Expr, literal-true}
 use Rattle.language.specs.Tree.{literal-false, literal-null, slot, is-null, get, cast, new, change, assign}
@@ -15,13 +14,12 @@ use Rattle.language.specs.Tree.{set, call, choose, block, Exprs, nil, cons}
 use Rattle.language.specs.World.{World}
 use Rattle.language.specs.Effects.{no-effect, apply-class, apply-expr}
 use Rattle.language.specs.Typing.{Environment, last-type, all-fit}
-use Rattle.language.specs.Rules.{declared-nil, declared-cons, HasType, HaveTypes, type-true}
-use Rattle.language.specs.Rules.{type-false, type-null, type-slot, type-new, type-cast, type-get, type-set}
-use Rattle.language.specs.Rules.{type-assign, type-is-null, type-call, type-choose, type-block, type-change}
-use Rattle.language.specs.Rules.{types-nil, types-cons}
-use Rattle.language.specs.Translation.{plain-class, plain-type, Shape, variables, temporaries}
-use Rattle.language.specs.Translation.{translate, translate-all}
-use Rattle.language.specs.Translation.{translate-arguments}
+use Rattle.language.specs.Rules.{declared-nil, declared-cons, HasType, HaveTypes, type-true, type-false}
+use Rattle.language.specs.Rules.{type-null, type-slot, type-new, type-cast, type-get, type-set, type-assign}
+use Rattle.language.specs.Rules.{type-is-null, type-call, type-choose, type-block, type-change, types-nil}
+use Rattle.language.specs.Rules.{types-cons}
+use Rattle.language.specs.Translation.{plain-class, plain-type, Shape, variables, temporaries, translate}
+use Rattle.language.specs.Translation.{translate-all, translate-arguments}
 use Rattle.theory.specs.Fitting.{Laws}
 use Rattle.theory.specs.PlainWorld.{plain-form}
 use Rattle.theory.specs.PlainOf.{PlainOf}
@@ -48,12 +46,10 @@ use Rattle.theory.specs.PlainRules.{plain-cast as cast-plain, plain-get,
 use Rattle.theory.specs.PlainRules.{plain-is-null, plain-call, plain-choose, plain-block, plains-nil}
 use Rattle.theory.specs.PlainRules.{plains-cons, plain-has}
 use Rattle.theory.specs.PlainSlots.{assigned-slot, TypesMatch, both-bool, both-class, both-null}
-use Rattle.theory.specs.PlainSlots.{bool-only, class-only, match-plain, match-not-bool}
-use Rattle.theory.specs.PlainSlots.{last-match, Match, match-apply}
-use Rattle.theory.specs.PlainSlots.{fits-match, all-apply, match-join, match-opened}
-use Rattle.theory.specs.PlainSlots.{match-closed, no-temporary, a-temporary}
-use Rattle.theory.specs.PlainSlots.{typed-temporaries, match-more, match-fewer, variable-at}
-use Rattle.theory.specs.PlainSlots.{temporary-at}
+use Rattle.theory.specs.PlainSlots.{bool-only, class-only, match-plain, match-not-bool, last-match}
+use Rattle.theory.specs.PlainSlots.{Match, match-apply, fits-match, all-apply, match-join, match-opened}
+use Rattle.theory.specs.PlainSlots.{match-closed, no-temporary, a-temporary, typed-temporaries}
+use Rattle.theory.specs.PlainSlots.{match-more, match-fewer, variable-at, temporary-at}
 use Rattle.theory.specs.PlainTypes.{NameLaws, fits-plain, fits-identity, fits-itself, all-fit-itself}
 use Rattle.theory.specs.PlainTypes.{join-plain, plain-declared, identity-declared, type-declared}
 use Rattle.theory.specs.PlainTypes.{types-declared, imp-type, id-type, method-plain, field-declared}

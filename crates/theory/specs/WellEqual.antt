@@ -28,8 +28,8 @@ use Rattle.language.specs.WellFormed.{state-state, FieldsWell, well-nil, well-c
 use Rattle.language.specs.WellFormed.{well-root, Overrides, first, again, MethodWell, MethodsWell}
 use Rattle.language.specs.WellFormed.{methods-nil, methods-cons, ClassesWell, classes-nil, classes-cons}
 use Rattle.language.specs.WellFormed.{ProgramWell}
-use Rattle.theory.specs.Equal.{derive, complete}
 use Rattle.language.proofs.Booleans.{false≢, and-inv, not-true}
+use Rattle.theory.specs.Equal.{derive, complete}
 use Rattle.theory.specs.EffectLaws.{lines-within-is, member-of-all}
 
 some-none : {A : Type 0} (o : Option A) → not (is-some o) ≡ true → o ≡ none
