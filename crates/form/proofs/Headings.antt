@@ -218,7 +218,8 @@ module _ (L : Limits) (R : List ℕ) (at : ℕ) (x : Record) (a : ℕ)
       method-is =
           let t = method-ready in
           let f = effects-run L (a + 1) (rows-from R a) in
-          let e₀ : drop (run L 80 (at + 1 + 1) (rows-from R (at + 1))) (rows-from R (at + 1)) ≡ rows-from R a =
+          let e₀ : drop (run L 80 (at + 1 + 1) (rows-from R (at + 1))) (rows-from R (at + 1))
+          ≡ rows-from R a =
           rows-skip R (at + 1) _ ∙ ap (rows-from R) (sym p) in
           let e₁ : at + 1 + 1 + length (t .types) ≡ a + 1 = omega (arith, p, t .many) in
           let e₂ : 1 + length (t .types) ≡ k + 1 = omega (arith, p, t .many, j) in

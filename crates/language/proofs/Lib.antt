@@ -1,3 +1,4 @@
+pub mod Booleans
 pub mod Filling
 pub mod Rows
 pub mod Letters

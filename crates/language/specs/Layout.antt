@@ -6,7 +6,7 @@ use mathlib.Core.List.{List, [], _∷_}
 use lib.ListN.{length, getD}
 use Rattle.language.specs.Limits.{of-check}
 use Rattle.language.specs.Rows.{C-class, F-field, M-method, P-parameter, X-effect, S-start}
-use Rattle.language.specs.Tree.{DeclaredType, type-number, kind-number, size, Field, Declaration}
+use Rattle.language.specs.Tree.{type-number, kind-number, size, Field, Declaration}
 use Rattle.language.specs.Tree.{method-lines}
 use Rattle.language.specs.Tree.{Class, class-lines, classes-lines, Program}
 use Rattle.language.specs.Program.{world}

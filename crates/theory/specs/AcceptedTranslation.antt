@@ -3,12 +3,12 @@
 use mathlib.Core.Path.{_≡_, refl, ap}
 use Prim.Native.Nat.{ℕ}
 use mathlib.Core.List.{List, map}
-use Rattle.language.specs.Results.{accept, passed, bind-checked}
+use Rattle.language.specs.Results.{accept}
 use Rattle.language.specs.Rows.{row-of, numbers-of}
 use Rattle.language.specs.Tree.{Program, flatten-program}
 use Rattle.language.specs.Program.{world}
-use Rattle.language.specs.Verdict.{check, accepted, verdict-of, verdict}
-use Rattle.language.specs.Translation.{plain-program, within-limits, names-free, translation}
+use Rattle.language.specs.Verdict.{accepted, verdict-of, verdict}
+use Rattle.language.specs.Translation.{plain-program, translation}
 use Rattle.theory.specs.Lookups.{well-formed-laws}
 use Rattle.theory.specs.Accepts.{RowsOf, check-accepts}
 use Rattle.theory.specs.MoreLookups.{well-formed-more}
@@ -35,10 +35,3 @@ pub demand-3-accepted : (ns out : List ℕ) → translation ns ≡ accept out �
 unfolding verdict
 demand-3-accepted ns out e = let x = translation-takes ns out e in
     rw (x .2) (ap verdict-of (check-accepts _ (plain-program (x .0)) .1 (plain-rows ns (x .0) (x .1))))
-
--- The translator answers accepted rows within its limits and without reserved names: with the rows of the plain program.
-pub translation-of : (ns : List ℕ) (p : Program) → check ns ≡ accept p → within-limits ns p ≡ passed
-    → names-free 1 (p .classes) ≡ passed
-    → translation ns ≡ accept (numbers-of (map row-of (flatten-program (plain-program p))))
-unfolding translation bind-checked
-translation-of ns p e l f = rw (e, l, f)

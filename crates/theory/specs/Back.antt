@@ -1,17 +1,15 @@
 -- Reading what was written gives the tree back.
 use mathlib.Core.Path.{_≡_, refl, _∙_}
 use Prim.Native.Nat.{ℕ, suc, _+_, _≤_}
-use mathlib.Core.Option.{some}
 use mathlib.Core.List.{List, _∷_, _++_, map, append-assoc, map-append, map-map}
 use lib.ListN.{length}
 use native.Mathlib.Omega.{arith}
 use borrow.Author.Tests.{ne-eqb, le-leb, lt-ltb}
 use Rattle.language.specs.Limits.{Most, largest}
 use Rattle.language.specs.Results.{Checked, accept, bind-checked, need-checked, require}
-use Rattle.language.specs.Rows.{Letter, C-class, F-field, M-method, P-parameter, X-effect, S-start, B-block}
-use Rattle.language.specs.Rows.{V-local, T-true, L-false, N-null, I-slot, Z-is-null, G-get, K-cast, W-new}
-use Rattle.language.specs.Rows.{R-change, A-assign, U-set, Q-call, J-choose, Record, written, name-of, Row}
-use Rattle.language.specs.Rows.{row-of, letters, code, letter-among, most-at, record-of}
+use Rattle.language.specs.Rows.{Letter, B-block, V-local, T-true, L-false, N-null, I-slot, Z-is-null, G-get}
+use Rattle.language.specs.Rows.{K-cast, W-new, R-change, A-assign, U-set, Q-call, J-choose, Record, written}
+use Rattle.language.specs.Rows.{name-of, Row, row-of, most-at, record-of}
 use Rattle.language.specs.Tree.{DeclaredType, type-number, Expr, literal-true, literal-false, literal-null}
 use Rattle.language.specs.Tree.{slot, is-null, get, cast, new, change, assign, set, call, choose, block}
 use Rattle.language.specs.Tree.{Exprs, nil, cons, count, size, sizes, flatten, flattens}
@@ -20,30 +18,7 @@ use Rattle.language.specs.WellFormed.{TypeInForm, Each, each-nil, each-cons, No
 use Rattle.language.specs.WellFormed.{form-true, form-false, form-null, form-slot, form-is-null, form-get}
 use Rattle.language.specs.WellFormed.{form-cast, form-new, form-change, form-assign, form-set, form-call}
 use Rattle.language.specs.WellFormed.{form-choose, form-block, form-nil, form-cons}
-
-pub letter-back : (l : Letter) → letter-among letters (code l) ≡ some l
-unfolding letter-among
-letter-back C-class = refl
-letter-back F-field = refl
-letter-back M-method = refl
-letter-back P-parameter = refl
-letter-back X-effect = refl
-letter-back S-start = refl
-letter-back B-block = refl
-letter-back V-local = refl
-letter-back T-true = refl
-letter-back L-false = refl
-letter-back N-null = refl
-letter-back I-slot = refl
-letter-back Z-is-null = refl
-letter-back G-get = refl
-letter-back K-cast = refl
-letter-back W-new = refl
-letter-back R-change = refl
-letter-back A-assign = refl
-letter-back U-set = refl
-letter-back Q-call = refl
-letter-back J-choose = refl
+use Rattle.language.proofs.Letters.{code-among}
 
 module _ (most : Most) (named : most .name ≤ largest) (slotted : most .slots ≤ largest) where
   pub on-line : (l : Letter) (a b at : ℕ) → a ≤ most-at 1 l → b ≤ most-at 2 l → at ≤ most .rows
@@ -52,7 +27,7 @@ module _ (most : Most) (named : most .name ≤ largest) (slotted : most .slots �
   unfolding record-on record-of need-checked require
   on-line l a b at p q r s =
       rw (
-        letter-back l,
+        code-among l,
         le-leb a (most-at 1 l) p,
         le-leb b (most-at 2 l) q,
         le-leb 0 (most-at 3 l) (third l),

@@ -9,7 +9,7 @@ use Rattle.language.specs.Program.{world}
 use Rattle.language.specs.Evaluation.{with-limits, run}
 use Rattle.language.specs.Translation.{plain-program}
 use Rattle.language.specs.WellFormed.{ProgramWell}
-use Rattle.theory.specs.Sound.{Laws}
+use Rattle.theory.specs.Fitting.{Laws}
 use Rattle.theory.specs.Cut.{final, proper}
 use Rattle.theory.specs.PlainSteps.{More}
 use Rattle.theory.specs.PlainLookups.{plain-program-is-plain}

@@ -18,7 +18,9 @@ use Rattle.language.specs.Evaluation.{without-limits, with-limits, call-at, eva
 use Rattle.language.specs.Store.{Outcome, gave, ended}
 use Rattle.language.specs.Translation.{translate}
 use Rattle.language.specs.Correspondence.{identities, EndAlike, both-give, same-exception, both-deep, Matches}
-use Rattle.theory.specs.Sound.{Laws, this-none, calls-ok, false≢}
+use Rattle.language.proofs.Booleans.{false≢}
+use Rattle.theory.specs.Sound.{calls-ok}
+use Rattle.theory.specs.Fitting.{Laws, this-none}
 use Rattle.theory.specs.PlainWorld.{IsPlain}
 use Rattle.theory.specs.Cut.{Within, limited-start, final, proper-stop, proper, kept, uncut}
 use Rattle.theory.specs.Matching.{Mask, no-slots, no-this}
@@ -115,7 +117,7 @@ module _ (W W′ : World) (P : IsPlain W W′) (𝓛 : Laws W) (𝓜 : More W) (
   whole : Both source-free plain-free
   unfolding nth identities
   whole = both (simulates W W′ P 𝓛 𝓜 (λ M s. call-at W without-limits most-calls M s)
-      (λ M s. call-at W′ without-limits most-calls M s) (calls-ok W 𝓛 without-limits most-calls)
+      (λ M s. call-at W′ without-limits most-calls M s) (calls-ok 𝓛 without-limits most-calls)
       (calls-simulate W W′ P 𝓛 𝓜 most-calls) start typed [] [] [] 0 first-state first-state
       (record { each = λ j o e. absurd (Never e) }) (record { this = this-none; slots = a-nil })
       (record {

@@ -129,7 +129,8 @@ module _ (ns out : List ℕ) (p : Program) (taken : TranslatableRows ns p) (rows
   where
     -- Results of the two runs that end alike, over stores.
     finished-alike : (F F′ : ℕ) → F ≤ most-fuel → F′ ≤ most-fuel → (S S′ : List ℕ)
-        → EndsAlike (run (with-limits F (capacity S)) p) (run (with-limits F′ (capacity S′)) (plain-program p))
+        → EndsAlike (run (with-limits F (capacity S)) p)
+        (run (with-limits F′ (capacity S′)) (plain-program p))
         → EndAlikeOnStores ns out (run-of ns F S) (run-of out F′ S′)
     finished-alike F F′ l l′ S S′ a =
         let L = with-limits F (capacity S) in

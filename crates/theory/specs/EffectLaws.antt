@@ -1,19 +1,50 @@
--- Laws of effects: containment of joins, and of the numbers of X lines.
-use mathlib.Core.Path.{_≡_, sym, ap, ap₂, _∙_, subst}
+-- Laws of effects: membership and containment of joins, and of the numbers of X lines; no effect changes no type.
+use mathlib.Core.Path.{_≡_, sym, ap, ap₂, _∙_, subst, refl}
 use mathlib.Core.Bool.{true}
 use mathlib.Core.List.{List, [], _∷_}
 use Prim.Native.Nat.{ℕ, zero, suc, _+_, _-_, _*_, _/_, _%_, _^_, _<_}
-use native.Mathlib.Nat.{div-add-mod', one-mul, mod-lt, pow-suc}
+use native.Mathlib.Nat.{div-add-mod', one-mul, mod-lt, pow-suc, div-self}
 use native.Mathlib.Omega.{arith}
 use borrow.Author.Tests.{eqb-true, eq-eqb}
-use lib.Dec.{leb, ltb}
+use lib.Dec.{leb, ltb, eqb}
 use lib.Bits.{bitAnd, bitOr, or-shr, or-mod, and-shr, and-mod, and-le-l, and-block, and-mask, and-comm}
 use lib.Bits.{and-self, and-zero-l}
 use lib.Pow.{pow-pos, shr-shr, shr-lt}
 use Rattle.language.specs.Limits.{of-check}
-use Rattle.language.specs.Effects.{no-effect, effect-of, member, join, within, effect-of-all}
+use Rattle.language.specs.Effects.{no-effect, effect-of, member, join, within, effect-of-all, apply-class}
+use Rattle.language.specs.Effects.{apply, apply-expr}
+use Rattle.language.specs.World.{World}
+use Rattle.language.specs.Tree.{DeclaredType, bool, class, ExprType, known, null-type}
 use Rattle.language.specs.Headings.{lines-within}
-use Rattle.theory.specs.Sound.{has-left, has-one, has-within, and-inv}
+use Rattle.language.proofs.Effects.{member-none, member-join}
+use Rattle.language.proofs.Booleans.{false≢, and-inv, or-inl, or-inr}
+
+small : (n : ℕ) → n % 2 < 2
+small n = omega arith
+
+pub has-left : (φ ψ : ℕ) (r : ℕ) → member φ r ≡ true → member (join φ ψ) r ≡ true
+has-left φ ψ r h = member-join φ ψ r ∙ or-inl (member φ r) (member ψ r) h
+
+pub has-right : (φ ψ : ℕ) (r : ℕ) → member ψ r ≡ true → member (join φ ψ) r ≡ true
+has-right φ ψ r h = member-join φ ψ r ∙ or-inr (member φ r) (member ψ r) h
+
+and-bit : (x y : ℕ) → x < 2 → y < 2 → bitAnd x y ≡ x → eqb x 1 ≡ true → eqb y 1 ≡ true
+and-bit zero y p q e h = false≢ h
+and-bit (suc zero) zero p q e h = absurd (omega arith)
+and-bit (suc zero) (suc zero) p q e h = refl
+and-bit (suc zero) (suc (suc y)) p q e h = absurd (omega arith)
+and-bit (suc (suc x)) y p q e h = absurd (omega arith)
+
+pub has-within : (φ ψ : ℕ) (r : ℕ) → within φ ψ ≡ true → member φ r ≡ true → member ψ r ≡ true
+unfolding member within
+has-within φ ψ r i h = let k : ℕ = r - 1 in
+    and-bit (φ / 2 ^ k % 2) (ψ / 2 ^ k % 2) (small (φ / 2 ^ k)) (small (ψ / 2 ^ k))
+    (sym (ap (λ (x : ℕ). x % 2) (and-shr φ ψ k) ∙ and-mod (φ / 2 ^ k) (ψ / 2 ^ k) 1)
+    ∙ ap (λ (x : ℕ). x / 2 ^ k % 2) (eqb-true (bitAnd φ ψ) φ i)) h
+
+pub has-one : (r : ℕ) → member (effect-of r) r ≡ true
+unfolding member effect-of
+has-one r = rw (div-self (pow-pos (r - 1)))
 
 -- two numbers of n bits with the same bits are equal
 bits-ext : (n x y : ℕ) → x < 2 ^ n → y < 2 ^ n → ((k : ℕ) → k < n → x / 2 ^ k % 2 ≡ y / 2 ^ k % 2) → x ≡ y
@@ -39,9 +70,6 @@ bits-ext (suc n) x y p q h =
 below-power : (n : ℕ) → n < 2 ^ n
 below-power zero = omega arith
 below-power (suc n) = omega (arith, below-power n, pow-suc 2 n)
-
-small : (n : ℕ) → n % 2 < 2
-small n = omega arith
 
 and-digit : (a b k : ℕ) → bitAnd a b / 2 ^ k % 2 ≡ bitAnd (a / 2 ^ k % 2) (b / 2 ^ k % 2)
 and-digit a b k = ap (λ (x : ℕ). x % 2) (and-shr a b k) ∙ and-mod (a / 2 ^ k) (b / 2 ^ k) 1
@@ -139,3 +167,17 @@ pub within-trans : (a b φ : ℕ) → within a b ≡ true → within b φ ≡ tr
 within-trans a b φ e f = masked a φ λ k.
     third-bit (a / 2 ^ k % 2) (b / 2 ^ k % 2) (φ / 2 ^ k % 2) (small (a / 2 ^ k)) (small (b / 2 ^ k))
     (mask-bits a b e k) (mask-bits b φ f k)
+
+module _ (W : World) where
+  -- No effect changes no type.
+  pub class-kept : (c : ℕ) → apply-class W no-effect c ≡ c
+  unfolding apply-class
+  class-kept c = rw (member-none (W .root c))
+
+  pub type-kept : (t : DeclaredType) → apply W no-effect t ≡ t
+  type-kept bool = refl
+  type-kept (class c) = ap class (class-kept c)
+
+  pub expr-kept : (t : ExprType) → apply-expr W no-effect t ≡ t
+  expr-kept (known t) = ap known (type-kept t)
+  expr-kept null-type = refl

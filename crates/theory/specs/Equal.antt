@@ -21,6 +21,7 @@ use Rattle.language.specs.Rules.{Declared, declared-nil, declared-cons, HasType
 use Rattle.language.specs.Rules.{type-false, type-null, type-slot, type-new, type-cast, type-get, type-set}
 use Rattle.language.specs.Rules.{type-assign, type-is-null, type-call, type-choose, type-block, type-change}
 use Rattle.language.specs.Rules.{types-nil, types-cons}
+use Rattle.language.proofs.Booleans.{false≢}
 
 need-class-inv : {B C : Type 0} (t : ExprType) (n l : ℕ) (k : ℕ → Checked B) {b : B}
     → need-class t n l k ≡ accept b → ((c : ℕ) → t ≡ known (class c) → k c ≡ accept b → C) → C
@@ -31,9 +32,6 @@ need-class-inv null-type n l k e f = absurd (accept≢refuse n l e)
 
 known-injective : {t u : DeclaredType} → _≡_ {A = ExprType} (known t) (known u) → t ≡ u
 known-injective e = cc
-
-pub false≢ : {A : Type 0} → _≡_ {A = Bool} false true → A
-false≢ e = absurd (let z : _≡_ {A = ℕ} 0 1 = cc in omega arith)
 
 not-bool-inv : (t : ExprType) → not (not-bool t) ≡ true → t ≡ known bool
 not-bool-inv (known bool) e = refl

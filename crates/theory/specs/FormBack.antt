@@ -9,7 +9,7 @@ use lib.Dec.{eqb, leb}
 use native.Mathlib.Omega.{arith}
 use borrow.Author.Tests.{eqb-true, ltb-true, leb-true}
 use Rattle.language.specs.Limits.{Most, largest, bool-number}
-use Rattle.language.specs.Lists.{bind-option-inv, Never, inj, choice}
+use Rattle.language.specs.Lists.{bind-option-inv, Never, inj}
 use Rattle.language.specs.Results.{Checked, accept, refuse, bind-checked-inv, need-checked-inv, require-inv}
 use Rattle.language.specs.Results.{accept-injective, accept≢refuse}
 use Rattle.language.specs.Rows.{Letter, C-class, F-field, M-method, P-parameter, X-effect, S-start, B-block}
@@ -21,12 +21,11 @@ use Rattle.language.specs.Tree.{DeclaredType, bool, class, type-number, type-of
 use Rattle.language.specs.Tree.{size, sizes, flatten, flattens}
 use Rattle.language.specs.Form.{Read, read, after, record-on, next, locals, several, node-of, node}
 use Rattle.language.specs.WellFormed.{TypeInForm, Each, each-nil, each-cons, NodeInForm, NodesInForm}
-use Rattle.language.specs.WellFormed.{form-true}
-use Rattle.language.specs.WellFormed.{form-false, form-null, form-slot, form-is-null, form-get, form-cast}
-use Rattle.language.specs.WellFormed.{form-new, form-change, form-assign, form-set, form-call, form-choose}
-use Rattle.language.specs.WellFormed.{form-block, form-nil, form-cons}
-use Rattle.theory.specs.Sound.{false≢, and-inv}
-use Rattle.theory.specs.Back.{letter-back}
+use Rattle.language.specs.WellFormed.{form-true, form-false, form-null, form-slot, form-is-null, form-get}
+use Rattle.language.specs.WellFormed.{form-cast, form-new, form-change, form-assign, form-set, form-call}
+use Rattle.language.specs.WellFormed.{form-choose, form-block, form-nil, form-cons}
+use Rattle.language.proofs.Booleans.{false≢, and-inv}
+use Rattle.language.proofs.Letters.{among-code, code-injective}
 use Rattle.theory.specs.TreeRows.{local-row}
 
 pub after-inv : {A B C : Type 0} (r : Checked (Read A)) (k : A → List Row → Checked B) {b : B}
@@ -39,20 +38,9 @@ pub cond-some : {A : Type 0} (b : Bool) (x y : A) → cond b (some x) none ≡ s
 cond-some true x y e = (refl, inj e)
 cond-some false x y e = absurd (Never e)
 
-letter-code : (ls : List Letter) (n : ℕ) (l : Letter) → letter-among ls n ≡ some l → code l ≡ n
-unfolding letter-among
-letter-code [] n l e = absurd (Never e)
-letter-code (x ∷ ls) n l e = go (eqb (code x) n) refl (λ e. letter-code ls n l e) e
-  where
-    go : (b : Bool) → eqb (code x) n ≡ b → (letter-among ls n ≡ some l → code l ≡ n)
-        → choice b (λ _. some x) (λ _. letter-among ls n) ≡ some l → code l ≡ n
-    go true q ih e = ap code (sym (inj e)) ∙ eqb-true (code x) n q
-    go false q ih e = ih e
-
 -- A letter is known by its code.
 pub letter-is : (l m : Letter) → same-letter l m ≡ true → l ≡ m
-letter-is l m e =
-    inj (sym (letter-back l) ∙ (ap (letter-among letters) (eqb-true (code l) (code m) e) ∙ letter-back m))
+letter-is l m e = code-injective l m (eqb-true (code l) (code m) e)
 
 -- The row of a record, with numbers as large as its letter allows.
 record Made (r : Row) (x : Record) : Type 0 where
@@ -92,7 +80,7 @@ record-made r x e = bind-option-inv (letter-among letters (r .letter-code)) _ e 
     let z : r .third ≡ 0 = omega (arith, leb-true (r .third) (most-at 3 l) (v .1), third l) in
     subst (Made r) (c .1) (record {
       is = λ i. record {
-        letter-code = sym (letter-code letters (r .letter-code) l p) i;
+        letter-code = sym (among-code letters (r .letter-code) l p) i;
         first = r .first;
         second = r .second;
         third = z i;

@@ -11,14 +11,13 @@ use Rattle.language.specs.Limits.{Most}
 use Rattle.language.specs.Lists.{given}
 use Rattle.language.specs.Results.{Checked, accept}
 use Rattle.language.specs.Rows.{Letter, C-class, F-field, M-method, P-parameter, X-effect, S-start, B-block}
-use Rattle.language.specs.Rows.{V-local}
-use Rattle.language.specs.Rows.{T-true, L-false, N-null, I-slot, Z-is-null, G-get, K-cast, W-new, R-change}
-use Rattle.language.specs.Rows.{A-assign}
-use Rattle.language.specs.Rows.{U-set, Q-call, J-choose, Record, name-of, same-letter, Row, record-of}
+use Rattle.language.specs.Rows.{V-local, T-true, L-false, N-null, I-slot, Z-is-null, G-get, K-cast, W-new}
+use Rattle.language.specs.Rows.{R-change, A-assign, U-set, Q-call, J-choose, Record, name-of, same-letter}
+use Rattle.language.specs.Rows.{Row, record-of}
 use Rattle.language.specs.Tree.{DeclaredType, type-of-number, Expr, literal-true, literal-false, literal-null}
-use Rattle.language.specs.Tree.{slot, is-null, get, cast, new, change, assign, set, call, choose, block}
-use Rattle.language.specs.Tree.{nil, cons, size, sizes, heading-lines}
-use Rattle.language.specs.Tree.{method-lines, methods-lines, class-lines, classes-lines, Program}
+use Rattle.language.specs.Tree.{slot, is-null, get, cast, new, change, assign, set, call, choose, block, nil}
+use Rattle.language.specs.Tree.{cons, size, sizes, heading-lines, method-lines, methods-lines, class-lines}
+use Rattle.language.specs.Tree.{classes-lines, Program}
 use Rattle.language.specs.Form.{Read, read, several, record-on, next, maybe, locals, node-of, node, body}
 use Rattle.language.specs.Form.{class-of, fields, parameters, effects, method, methods, classes, at-end, form}
 use Rattle.language.specs.Form.{is-node}

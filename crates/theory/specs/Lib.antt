@@ -1,6 +1,9 @@
 pub mod Equal
-pub mod Sound
 pub mod EffectLaws
+pub mod Fitting
+pub mod SoundActs
+pub mod SlotSorts
+pub mod Sound
 pub mod RunsEqual
 pub mod Back
 pub mod TreeRows
@@ -15,6 +18,7 @@ pub mod Members
 pub mod MoreLookups
 pub mod Translatable
 pub mod PlainWorld
+pub mod Growth
 pub mod Cut
 pub mod Matching
 pub mod MatchingHeaps
@@ -23,6 +27,8 @@ pub mod PlainSteps
 pub mod Renewal
 pub mod TranslationEquations
 pub mod PlainActs
+pub mod PlainChange
+pub mod PlainCall
 pub mod Simulation
 pub mod Demand3World
 pub mod Demand2Runs
@@ -32,9 +38,12 @@ pub mod PlainLookups
 pub mod PlainRules
 pub mod PlainSlots
 pub mod PlainTypes
+pub mod PlainBlocks
+pub mod TranslationTyped
 pub mod PlainHeadings
 pub mod PlainSizes
 pub mod PlainForm
+pub mod TranslationInForm
 pub mod PlainInForm
 pub mod PlainNames
 pub mod AcceptedTranslation
@@ -47,6 +56,7 @@ pub mod Refusals
 pub mod FormRefusals
 pub mod PassRefusals
 pub mod ListedAnswers
+pub mod TighterNodes
 pub mod TighterForm
 pub mod TranslatorAnswers
 pub mod Demands

@@ -6,10 +6,8 @@ use mathlib.Core.List.{List, _++_}
 use lib.ListN.{length, drop}
 use Rattle.language.specs.Limits.{line-refusal, limit-refusal, place-refusal, name-refusal, kind-refusal}
 use Rattle.language.specs.Limits.{override-refusal, slot-refusal, member-refusal, type-refusal}
-use Rattle.language.specs.Limits.{effect-refusal}
-use Rattle.language.specs.Limits.{change-refusal, reserved-refusal, room-refusal, no-line, most-fuel}
-use Rattle.language.specs.Limits.{numbers-an-object}
-use Rattle.language.specs.Limits.{null-exception, cast-exception}
+use Rattle.language.specs.Limits.{effect-refusal, change-refusal, reserved-refusal, room-refusal, no-line}
+use Rattle.language.specs.Limits.{most-fuel, numbers-an-object, null-exception, cast-exception}
 use Rattle.language.specs.Results.{Checked, accept, refuse}
 use Rattle.language.specs.declared.Filled.{Filled}
 use Rattle.language.specs.declared.Filled.the-variants.{Done, Refused}

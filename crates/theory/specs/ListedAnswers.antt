@@ -8,11 +8,9 @@ use lib.ListN.{length, drop, length-map}
 use lib.Dec.{eqb, leb}
 use borrow.Author.Tests.{leb-true, leb-false}
 use native.Mathlib.Omega.{arith}
-use Rattle.language.specs.Limits.{of-check, most-fuel, numbers-a-row, numbers-an-object}
-use Rattle.language.specs.Limits.{line-refusal, limit-refusal}
-use Rattle.language.specs.Limits.{room-refusal, no-line}
-use Rattle.language.specs.Results.{ok, stop, Checked, accept, refuse, require, Holds, holds-ok}
-use Rattle.language.specs.Results.{holds-stop}
+use Rattle.language.specs.Limits.{of-check, most-fuel, numbers-a-row, numbers-an-object, line-refusal}
+use Rattle.language.specs.Limits.{limit-refusal, room-refusal, no-line}
+use Rattle.language.specs.Results.{ok, stop, Checked, accept, refuse, require, Holds, holds-ok, holds-stop}
 use Rattle.language.specs.Rows.{row-of, rows-of}
 use Rattle.language.specs.Filling.{answer, buffer}
 use Rattle.language.specs.declared.Filled.the-variants.{Done, Refused}
@@ -24,7 +22,7 @@ use Rattle.language.specs.Verdict.{whole-rows, three-passes, check, verdict-of,
 use Rattle.language.specs.Evaluation.{Value, State, Stop, Out, with-limits, first-state, run}
 use Rattle.language.specs.WellFormed.{ProgramWell}
 use Rattle.language.specs.Store.{capacity, stored, ended, finish, runnable, run-checked, run-of}
-use Rattle.theory.specs.Sound.{Fine, fine-null, fine-cast, fine-deep, fine-spent, fine-full}
+use Rattle.theory.specs.Fitting.{Fine, fine-null, fine-cast, fine-deep, fine-spent, fine-full}
 use Rattle.theory.specs.TreeRows.{length-program}
 use Rattle.theory.specs.WholeBack.{form-back}
 use Rattle.theory.specs.Accepts.{check-accepts}
@@ -33,12 +31,10 @@ use Rattle.theory.specs.Cut.{Within, final, limited-start, ends-within}
 use Rattle.theory.specs.Demand3World.{outcome}
 use Rattle.theory.specs.StoreNumbers.{run-shaped, stored-rest, stored-length}
 use Rattle.theory.specs.Listed.{CheckRefusal, no-whole-rows, by-form, by-headings, by-bodies}
-use Rattle.theory.specs.Listed.{RunRefusal}
-use Rattle.theory.specs.Listed.{run-by-check, too-much-fuel, ListedVerdict, is-accepted, is-refused}
-use Rattle.theory.specs.Listed.{ListedOutcome}
-use Rattle.theory.specs.Listed.{a-value, exception-1, exception-2, stop-14, stop-15, stop-16, ListedRun}
-use Rattle.theory.specs.Listed.{is-refused-run, is-run, ListedFilling, is-filled, has-no-room}
-use Rattle.theory.specs.Listed.{is-not-made}
+use Rattle.theory.specs.Listed.{RunRefusal, run-by-check, too-much-fuel, ListedVerdict, is-accepted}
+use Rattle.theory.specs.Listed.{is-refused, ListedOutcome, a-value, exception-1, exception-2, stop-14}
+use Rattle.theory.specs.Listed.{stop-15, stop-16, ListedRun, is-refused-run, is-run, ListedFilling}
+use Rattle.theory.specs.Listed.{is-filled, has-no-room, is-not-made}
 use Rattle.theory.specs.Refusals.{RefusesOnly, answers, refuses-as, only, only-mono, only-bind}
 use Rattle.theory.specs.FormRefusals.{form-refusals}
 use Rattle.theory.specs.PassRefusals.{heading-refusals, body-refusals}

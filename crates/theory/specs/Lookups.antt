@@ -18,16 +18,15 @@ use Rattle.language.specs.Effects.{effect-of-all, within, member, apply-class, 
 use Rattle.language.specs.Program.{is-plain, is-root, is-state, method-of, declared, class-at, is-state-type}
 use Rattle.language.specs.Program.{fields-at, method-at, below-at, root-at, is-changeable, world}
 use Rattle.language.specs.WellFormed.{Each, each-nil, each-cons, Subclass, itself, below-object, above}
-use Rattle.language.specs.WellFormed.{Nearest}
-use Rattle.language.specs.WellFormed.{FieldsWell, well-nil, well-cons, Overrides, first, again, MethodWell}
-use Rattle.language.specs.WellFormed.{MethodsWell, methods-nil, methods-cons, ClassWell, ClassesWell}
-use Rattle.language.specs.WellFormed.{classes-nil, classes-cons, ProgramWell}
-use Rattle.theory.specs.Sound.{false≢, BodyOk, Laws}
+use Rattle.language.specs.WellFormed.{Nearest, FieldsWell, well-nil, well-cons, Overrides, first, again}
+use Rattle.language.specs.WellFormed.{MethodWell, MethodsWell, methods-nil, methods-cons, ClassWell}
+use Rattle.language.specs.WellFormed.{ClassesWell, classes-nil, classes-cons, ProgramWell}
+use Rattle.language.proofs.Booleans.{false≢}
+use Rattle.theory.specs.Fitting.{BodyOk, Laws}
 use Rattle.theory.specs.EffectLaws.{within-refl, within-trans}
 use Rattle.theory.specs.Superclasses.{object-is-no-class, subclass-trans, test-subclass, subclass-test}
 use Rattle.theory.specs.Superclasses.{nearest-least, fields-prefix, root-is, root-subclass}
-use Rattle.theory.specs.Superclasses.{root-of-other}
-use Rattle.theory.specs.Superclasses.{root-up, root-same}
+use Rattle.theory.specs.Superclasses.{root-of-other, root-up, root-same}
 
 -- What holds of each of a list holds at each place.
 pub each-at : {A : Type 0} {R : A → Type 0} {l : List A} → Each R l → (i : ℕ) (a : A) → nth l i ≡ some a → R a

@@ -15,8 +15,7 @@ use Rattle.language.specs.World.{World, is-declared}
 use Rattle.language.specs.Evaluation.{Value, null, truth, object, Object}
 use Rattle.language.specs.Correspondence.{Corresponds, identity-of, implementor-of, Matches}
 use Rattle.theory.specs.Matching.{identities-set, identities-append, identities-implementor}
-use Rattle.theory.specs.Matching.{not-identity}
-use Rattle.theory.specs.Matching.{Implements, HeapsMatch, Persists, all-correspond-later}
+use Rattle.theory.specs.Matching.{not-identity, Implements, HeapsMatch, Persists, all-correspond-later}
 
 -- An implementor tells its Identity, and is none.
 abbrev object-number : Value → ℕ

@@ -4,22 +4,27 @@
 use mathlib.Core.Path.{_≡_, refl, sym, _∙_}
 use Prim.Native.Nat.{ℕ, suc, _+_, _*_, _≤_}
 use mathlib.Core.Option.{none, some}
-use mathlib.Core.Bool.{true}
+use mathlib.Core.Bool.{true, false}
 use mathlib.Core.List.{List, [], _∷_, _++_, map}
 use lib.ListN.{length, set as replace}
 use native.Mathlib.Omega.{arith}
+use Rattle.language.specs.Results.{ok, alike-ok, Alike}
+use Rattle.language.specs.Evaluation.{entered, Value, Object, State, Stop, with-frame, initial, truth, Out}
+use Rattle.language.specs.Evaluation.{last-value, need-truth, is-null-value}
 use Rattle.language.specs.Limits.{plain-steps-a-step}
-use Rattle.language.specs.Lists.{nth, inj, All2, up, nth-up, set-up}
-use Rattle.language.specs.Results.{ok, Alike, alike-ok}
+use Rattle.language.specs.Lists.{nth, inj, All2, up, nth-up, set-up, choice, a-nil, a-cons}
 use Rattle.language.specs.Frames.{Frame, frame, with-slot, opened, closed}
-use Rattle.language.specs.Tree.{DeclaredType, bool, class}
+use Rattle.language.specs.Tree.{DeclaredType, bool, class, known}
 use Rattle.language.specs.World.{World, is-declared}
-use Rattle.language.specs.Evaluation.{Value, Object, State, Stop, entered, with-frame, initial}
-use Rattle.language.specs.Translation.{plain-type, Shape, variables, plain-slot}
+use Rattle.language.specs.Translation.{plain-type, Shape, variables, plain-slot, temporaries}
 use Rattle.language.specs.Correspondence.{Corresponds, both-null, same-truth, identity-of, implementor-of}
-use Rattle.theory.specs.Matching.{HeapsMatch, Persists, persists-trans, Mask, SlotsMatch, no-slots}
-use Rattle.theory.specs.Matching.{variable, slots-set, slots-append, slots-temporaries, temporary-at}
-use Rattle.theory.specs.Matching.{temporary-set, slots-close, temporaries-close, FramesMatch}
+use Rattle.language.specs.Correspondence.{in-place}
+use Rattle.language.proofs.Booleans.{false≢}
+use Rattle.theory.specs.Matching.{persists-same, HeapsMatch, Persists, persists-trans, Mask, SlotsMatch}
+use Rattle.theory.specs.Matching.{no-slots, variable, slots-set, slots-append, slots-temporaries}
+use Rattle.theory.specs.Matching.{temporary-at, temporary-set, slots-close, temporaries-close}
+use Rattle.theory.specs.Matching.{FramesMatch, temporary, temporaries-only}
+use Rattle.theory.specs.Fitting.{Fits, f-null}
 
 -- Heaps and counts match; z is what the plain side may still spend.
 pub record Matched (W : World) (ids : List ℕ) (z : ℕ) (s t : State) : Type 0 where
@@ -234,3 +239,56 @@ close-block sh₂ μ₂ {s} {t} f₀′ g F a =
         core = recount (a .match .core) refl refl refl refl (a .match .core .low) (a .match .core .high);
       };
     })
+
+-- Z of values that correspond; J on a truth value; the last of values that correspond.
+pub null-alike : {ids : List ℕ} {v v′ : Value} → Corresponds ids v v′
+    → Corresponds ids (truth (is-null-value v)) (truth (is-null-value v′))
+null-alike both-null = same-truth
+null-alike same-truth = same-truth
+null-alike (in-place e) = same-truth
+
+pub choose-alike : {W : World} {A : Value → State → Value → State → Type 0} {ids : List ℕ} {h : List Object}
+    {v v′ : Value}
+    → Corresponds ids v v′ → (s t : State) {x y x′ y′ : Out Value} → Fits W h v (known bool)
+    → Alike A (Ended W) x x′ → Alike A (Ended W) y y′
+    → Alike A (Ended W) (need-truth v s λ b. choice b (λ _. x) (λ _. y))
+    (need-truth v′ t λ b. choice b (λ _. x′) (λ _. y′))
+choose-alike both-null s t (f-null n) a b = false≢ n
+choose-alike (same-truth {b = true}) s t f a b = a
+choose-alike (same-truth {b = false}) s t f a b = b
+
+pub last-alike : {ids : List ℕ} {v v′ : Value} {vs vs′ : List Value} → Corresponds ids v v′
+    → All2 (Corresponds ids) vs vs′ → Corresponds ids (last-value v vs) (last-value v′ vs′)
+last-alike r a-nil = r
+last-alike r (a-cons q qs) = last-alike q qs
+
+pub last-of-more : (u : Value) (vs : List Value) (x : Value) → last-value u (vs ++ (x ∷ [])) ≡ x
+last-of-more u [] x = refl
+last-of-more u (v ∷ vs) x = last-of-more v vs x
+
+-- One temporary, two, and one for each parameter after one.
+pub one-temporary : {ids : List ℕ} {μ : Mask} {l l′ : List Value} → SlotsMatch ids (false ∷ []) μ l l′
+    → l ≡ []
+one-temporary (temporary no-slots) = refl
+
+pub two-temporaries : {ids : List ℕ} {μ : Mask} {l l′ : List Value}
+    → SlotsMatch ids (false ∷ false ∷ []) μ l l′
+    → l ≡ []
+two-temporaries (temporary (temporary no-slots)) = refl
+
+pub more-temporaries : {ids : List ℕ} {μ : Mask} {l l′ : List Value} (ts : List DeclaredType)
+    → SlotsMatch ids (false ∷ temporaries ts) μ l l′ → l ≡ []
+more-temporaries ts (temporary r) = temporaries-only ts _ _ _ r
+
+pub temporaries-match : (ids : List ℕ) (ts : List DeclaredType)
+    → SlotsMatch ids (temporaries ts) (map some (map initial (map plain-type ts))) []
+    (map initial (map plain-type ts))
+temporaries-match ids [] = no-slots
+temporaries-match ids (t ∷ ts) = temporary (temporaries-match ids ts)
+
+-- A literal on both sides.
+pub literal-alike : {W : World} {ids : List ℕ} {sh : Shape} {μ : Mask} {z : ℕ} {v v′ : Value} {s t : State}
+    → Corresponds ids v v′ → StatesMatch W ids sh μ z s t
+    → Alike {X = Stop} (After W ids (t .heap) sh μ z) (Ended W) (ok v (entered s)) (ok v′ (entered t))
+literal-alike {ids} {s} {t} r R = alike-ok {s = entered s} {t = entered t}
+    (record { ids′ = ids; persists = persists-same; value = r; match = spare 83 (both-enter R) })

@@ -19,8 +19,10 @@ use Rattle.language.specs.Evaluation.{Value, State, Stop, raised, spent, deep, 
 use Rattle.language.specs.Evaluation.{with-limits, call-at, first-state, run}
 use Rattle.language.specs.Store.{ended, ran, finish, runnable, run-checked, capacity, run-of}
 use Rattle.language.specs.WellFormed.{ProgramWell}
-use Rattle.theory.specs.Sound.{false≢, Good, Fine, fine-null, fine-cast, fine-deep, fine-spent}
-use Rattle.theory.specs.Sound.{fine-full, this-none, calls-ok, soundE}
+use Rattle.language.proofs.Booleans.{false≢}
+use Rattle.theory.specs.Fitting.{Good, Fine, fine-null, fine-cast, fine-deep, fine-spent, fine-full}
+use Rattle.theory.specs.Fitting.{this-none}
+use Rattle.theory.specs.Sound.{calls-ok, soundE}
 use Rattle.theory.specs.Lookups.{well-formed-laws}
 use Rattle.theory.specs.Accepts.{RowsOf, check-accepts}
 
@@ -54,7 +56,7 @@ pub run-sound : (p : Program) (w : ProgramWell p) (L : Limits)
     → Holds (Good (world (p .classes)) (w .γ) (w .φ) (w .t) []) (Fine (world (p .classes))) (run L p)
 unfolding run nth
 run-sound p w L = let W = world (p .classes) in let laws = well-formed-laws p w in
-    soundE W laws L (λ M s. call-at W L most-calls M s) (calls-ok W laws L most-calls)
+    soundE laws L (λ M s. call-at W L most-calls M s) (calls-ok laws L most-calls)
     (p .start) (w .start) first-state (record { each = λ j o e. absurd (Never e) })
     (record { this = this-none; slots = a-nil })
 

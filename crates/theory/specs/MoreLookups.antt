@@ -22,7 +22,9 @@ use Rattle.language.specs.WellFormed.{Each, each-nil, each-cons, ClassInForm, P
 use Rattle.language.specs.WellFormed.{below-object, above, FieldsWell, well-nil, well-cons, ClassWell}
 use Rattle.language.specs.WellFormed.{ProgramWell}
 use Rattle.language.specs.Translation.{fields-free, names-free}
-use Rattle.theory.specs.Sound.{false≢, Laws, place-append}
+use Rattle.language.proofs.Booleans.{false≢}
+use Rattle.theory.specs.Fitting.{Laws}
+use Rattle.theory.specs.SoundActs.{place-append}
 use Rattle.theory.specs.WellEqual.{class-count}
 use Rattle.theory.specs.Superclasses.{subclass-test, subclass-top, fields-of-class, no-class-no-fields}
 use Rattle.theory.specs.Superclasses.{root-is, root-subclass}
@@ -176,7 +178,7 @@ module _ (P : List Class) (laws : Laws (world P))
       where
         go : (i : ℕ) (g : Field) → (nth before i ≡ some g) ⊎ ((i ≡ length before) × (f ≡ g))
             → place (g .name) (before ++ (f ∷ [])) ≡ some i
-        go i g (inl e) = place-append (world P) laws (g .name) before (f ∷ []) i (d .found i g e)
+        go i g (inl e) = place-append (g .name) before (f ∷ []) i (d .found i g e)
         go i g (inr e) = rw (e .0, ← e .1) (place-last f before n)
 
     distinct-own : {before fs : List Field} → FieldsWell P before fs → Distinct before

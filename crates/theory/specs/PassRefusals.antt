@@ -11,25 +11,20 @@ use Rattle.language.specs.Results.{Checked}
 use Rattle.language.specs.Frames.{at-slot, opened}
 use Rattle.language.specs.Tree.{DeclaredType, bool, class, ExprType, known, null-type, Expr, literal-true}
 use Rattle.language.specs.Tree.{literal-false, literal-null, slot, is-null, get, cast, new, change, assign}
-use Rattle.language.specs.Tree.{set, call}
-use Rattle.language.specs.Tree.{choose, block, Exprs, nil, cons, size, sizes, Field, Declaration}
-use Rattle.language.specs.Tree.{heading-lines}
-use Rattle.language.specs.Tree.{method-lines, methods-lines, Class, class-lines, classes-lines, Program}
+use Rattle.language.specs.Tree.{set, call, choose, block, Exprs, nil, cons, size, sizes, Field, Declaration}
+use Rattle.language.specs.Tree.{heading-lines, method-lines, methods-lines, Class, class-lines, classes-lines}
+use Rattle.language.specs.Tree.{Program}
 use Rattle.language.specs.World.{World, place, field-type, is-declared, is-declared-type}
 use Rattle.language.specs.Effects.{apply-class, within, effect-of-all}
 use Rattle.language.specs.Program.{declared, kind-at, is-root-class, is-state-type, world}
 use Rattle.language.specs.Headings.{may-extend, is-some, may-override, check-fields, check-parameters}
-use Rattle.language.specs.Headings.{check-effects}
-use Rattle.language.specs.Headings.{check-methods, check-class, check-classes, headings}
+use Rattle.language.specs.Headings.{check-effects, check-methods, check-class, check-classes, headings}
 use Rattle.language.specs.Typing.{Environment, fresh-slot, method-environment, start-environment, need-class}
 use Rattle.language.specs.Typing.{not-bool, fits, all-fit, join-types, can-change, locals-declared, type-of}
-use Rattle.language.specs.Typing.{type-all}
-use Rattle.language.specs.Typing.{type-method, type-methods, type-classes, bodies}
+use Rattle.language.specs.Typing.{type-all, type-method, type-methods, type-classes, bodies}
 use Rattle.theory.specs.Listed.{LineOf, HeadingRefusal, refuses-fields, refuses-heading-name}
-use Rattle.theory.specs.Listed.{refuses-kind}
-use Rattle.theory.specs.Listed.{refuses-override, BodyRefusal, refuses-name, refuses-slot}
-use Rattle.theory.specs.Listed.{refuses-member}
-use Rattle.theory.specs.Listed.{refuses-type, refuses-effect, refuses-change}
+use Rattle.theory.specs.Listed.{refuses-kind, refuses-override, BodyRefusal, refuses-name, refuses-slot}
+use Rattle.theory.specs.Listed.{refuses-member, refuses-type, refuses-effect, refuses-change}
 use Rattle.theory.specs.Refusals.{Among, Any, Gives, gives, refuses, gives-bind, gives-need}
 use Rattle.theory.specs.Refusals.{gives-require}
 

@@ -1,48 +1,40 @@
--- What I, W, G, U, K, R and Q do, their parts having values: the source and its plain form end alike.
-use mathlib.Core.Path.{_≡_, refl, sym, _∙_}
-use Prim.Native.Nat.{ℕ, zero, suc, _+_, _≤_}
+-- What I, W, G, U and K do, their parts having values: the source and its plain form end alike.
+use mathlib.Core.Path.{_≡_, refl}
+use Prim.Native.Nat.{ℕ, zero, suc, _+_}
 use mathlib.Core.Option.{Option, some}
 use mathlib.Core.Bool.{Bool, true, false, cond}
 use mathlib.Core.List.{List, [], _∷_, _++_, map}
-use lib.ListN.{length, take, set as replace, length-append, length-set, length-map}
+use lib.ListN.{length, take, set as replace, length-append, length-set}
 use lib.Seq.{take-append-seam}
 use native.Mathlib.Omega.{arith}
 use Rattle.language.specs.Limits.{imp-field, id-field, cast-exception}
-use Rattle.language.specs.Lists.{nth, choice, Never, inj, All2, a-nil, a-cons, all2-at, all2-at′, all2-set₂}
-use Rattle.language.specs.Lists.{all2-length, nth-append, nth-last, up, nth-up, set-up, nth₀, drop-map}
-use Rattle.language.specs.Results.{ok, stop, bind, Alike, alike-ok, alike-stop, alike-bind}
+use Rattle.language.specs.Lists.{nth, choice, Never, inj, all2-at, all2-at′, all2-set₂, nth-last, up}
+use Rattle.language.specs.Results.{ok, stop, bind, Alike, alike-ok, alike-stop}
 use Rattle.language.specs.Frames.{Frame, frame, at-slot}
-use Rattle.language.specs.Tree.{DeclaredType, class, ExprType, known, Expr, literal-null, slot, get, new}
-use Rattle.language.specs.Tree.{change, set, call}
+use Rattle.language.specs.Tree.{DeclaredType, class, ExprType, known, Expr, literal-null, slot, get, new, set}
 use Rattle.language.specs.World.{Method, World, field-type, is-declared}
-use Rattle.language.specs.Typing.{Environment, fresh-slot, method-environment, not-bool, all-fit, can-change}
-use Rattle.language.specs.Evaluation.{Value, null, truth, object, Object, State, raised, Out, without-limits}
-use Rattle.language.specs.Evaluation.{entered, with-frame, with-heap, with-change, initial, initials}
-use Rattle.language.specs.Evaluation.{need-truth, is-null-value, new-object, changed, do-get, do-set, do-cast}
-use Rattle.language.specs.Evaluation.{do-change, do-new, do-call, eval}
-use Rattle.language.specs.Translation.{plain-class, plain-field, Shape, variables, position, read-slot}
-use Rattle.language.specs.Translation.{implementor, reads, renew, plain-change, change-types, translate}
+use Rattle.language.specs.Typing.{Environment, not-bool}
+use Rattle.language.specs.Evaluation.{Value, truth, object, Object, State, raised, Out, without-limits}
+use Rattle.language.specs.Evaluation.{entered, with-heap, initials, need-truth, is-null-value, new-object}
+use Rattle.language.specs.Evaluation.{do-get, do-set, do-cast, do-new, eval}
+use Rattle.language.specs.Translation.{plain-class, plain-field, Shape, position, read-slot, implementor}
+use Rattle.language.specs.Translation.{translate}
 use Rattle.language.specs.Correspondence.{Corresponds, both-null, same-truth, in-place, identity-of}
 use Rattle.language.specs.Correspondence.{implementor-of}
-use Rattle.theory.specs.Sound.{Laws, BodyOk, Fits, f-null, f-bool, f-obj, HeapOk, FitsFrame, this-some}
-use Rattle.theory.specs.Sound.{fits-all, inherit, can-inv, root-fields, false≢}
-use Rattle.theory.specs.PlainWorld.{IsPlain, plain-form}
-use Rattle.theory.specs.Matching.{Implements, Persists, persists-same, persists-trans, Mask, SlotsMatch}
-use Rattle.theory.specs.Matching.{no-slots, variable, slots-at, slots-length, ThisMatches, no-this}
-use Rattle.theory.specs.Matching.{this-implements, FramesMatch, frames-later}
-use Rattle.theory.specs.MatchingHeaps.{heap-put, keeps-put, heap-new, keeps-new, heap-renew}
-use Rattle.theory.specs.MatchingHeaps.{keeps-renew}
-use Rattle.theory.specs.MatchingStates.{Matched, StatesMatch, After, Returned, Ended, recount, spare}
-use Rattle.theory.specs.MatchingStates.{spend, ended, ended-at, ImplementorOf, implementor-found}
-use Rattle.theory.specs.MatchingStates.{no-values}
-use Rattle.theory.specs.PlainSteps.{More, state-of, up-is, past, past-is, initials-correspond}
-use Rattle.theory.specs.PlainSteps.{first-identity, get-step, set-step, implementor-step, id-step}
-use Rattle.theory.specs.PlainSteps.{method-step, implementor-run, implementor-null, implementor-fails}
-use Rattle.theory.specs.PlainSteps.{runs-nil, runs-cons, block-runs, run-read, run-this, run-plain-new}
-use Rattle.theory.specs.PlainSteps.{run-reads}
-use Rattle.theory.specs.Renewal.{after-copies, after-copies-is, renewed, first-null, first-object}
-use Rattle.theory.specs.Renewal.{first-this}
-use Rattle.theory.specs.TranslationEquations.{plain-new-is, plain-change-is}
+use Rattle.language.proofs.Booleans.{false≢}
+use Rattle.theory.specs.Fitting.{Laws, Fits, f-null, f-bool, f-obj, HeapOk}
+use Rattle.theory.specs.SoundActs.{inherit}
+use Rattle.theory.specs.PlainWorld.{IsPlain}
+use Rattle.theory.specs.Matching.{Implements, Persists, persists-same, persists-trans, Mask, slots-at}
+use Rattle.theory.specs.Matching.{slots-length, ThisMatches, no-this, this-implements, FramesMatch}
+use Rattle.theory.specs.Matching.{frames-later}
+use Rattle.theory.specs.MatchingHeaps.{heap-put, keeps-put, heap-new, keeps-new}
+use Rattle.theory.specs.MatchingStates.{StatesMatch, After, Ended, recount, spare, spend, ended}
+use Rattle.theory.specs.MatchingStates.{ended-at, ImplementorOf, implementor-found}
+use Rattle.theory.specs.PlainSteps.{More, state-of, initials-correspond, first-identity, get-step}
+use Rattle.theory.specs.PlainSteps.{set-step, implementor-step, id-step, implementor-run}
+use Rattle.theory.specs.PlainSteps.{implementor-null, implementor-fails, run-this, run-plain-new}
+use Rattle.theory.specs.TranslationEquations.{plain-new-is}
 
 -- The value of a slot of the source, and where the plain program has it.
 pub data SlotAt (W : World) (ids : List ℕ) (h : List Object) (sh : Shape) (f′ : Frame Value) : ℕ → Value
@@ -63,24 +55,7 @@ slot-found {W} {ids} {h} {sh} {f′} F zero v e = go (F .this) refl e
         rw (inj e) at r
 slot-found F (suc k) v e = let x = slots-at (F .slots) k v e in at-variable (x .1) (x .2)
 
--- The arguments' values, as the callee's variables.
-arguments-match : {ids : List ℕ} {vs vs′ : List Value} (ts : List DeclaredType)
-    → All2 (Corresponds ids) vs vs′
-    → length vs ≡ length ts → SlotsMatch ids (variables ts) (no-values ts) vs vs′
-arguments-match [] a-nil e = no-slots
-arguments-match [] (a-cons r rs) e = absurd (omega (arith, e))
-arguments-match (t ∷ ts) a-nil e = absurd (omega (arith, e))
-arguments-match (t ∷ ts) (a-cons r rs) e = variable r (arguments-match ts rs (omega (arith, e)))
-
 module _ (W W′ : World) (P : IsPlain W W′) (𝓛 : Laws W) (𝓜 : More W) where
-  -- Calls on both sides end alike.
-  pub record CallsMatch (invoke invoke′ : Method → State → Out Value) : Type 0 where
-    pub alike : (M : Method) → BodyOk W M → (ids : List ℕ) (z : ℕ) (s t : State) → HeapOk W (s .heap)
-        → FitsFrame W (s .heap) (s .frame) (method-environment (M .owner) (M .parameters))
-        → Matched W ids z s t
-        → (μ : Mask) → FramesMatch W ids (t .heap) (variables (M .parameters)) μ (s .frame) (t .frame)
-        → Alike (Returned W ids (t .heap) z) (Ended W) (invoke M s) (invoke′ (plain-form W M) t)
-
   module _ (invoke′ : Method → State → Out Value) where
     abbrev run : Expr → State → Out Value
     run e t = eval W′ without-limits invoke′ e t
@@ -168,7 +143,7 @@ module _ (W W′ : World) (P : IsPlain W W′) (𝓛 : Laws W) (𝓜 : More W) w
             (λ v t. do-get W′ f v t))
         go both-null (f-null n) = alike-stop (ended (a .match .core))
         go (in-place {j} {i = k} e) (f-obj o p q) =
-            let x = inherit W 𝓛 (o .class-of) c f u q i in let y =
+            let x = inherit 𝓛 (o .class-of) c f u q i in let y =
             all2-at (H .each j o p) (x .i) (x .fld) (x .is) in
             let g = implementor-found (a .match .core) j k o e p in
             let y′ = all2-at′ (g .values) (x .i) (y .0) (y .1) in
@@ -200,7 +175,7 @@ module _ (W W′ : World) (P : IsPlain W W′) (𝓛 : Laws W) (𝓜 : More W) w
         (alike-stop (ended-at 4 (entered (entered (entered (entered t)))) (R .core) (omega arith) refl refl
         (omega arith)))
     set-acts {z} f c n u (object j) (object k) w w′ s t H (f-obj o p q) i ids′ X R (in-place e) r a b =
-        let x = inherit W 𝓛 (o .class-of) c f u q i in let g = implementor-found (R .core) j k o e p in
+        let x = inherit 𝓛 (o .class-of) c f u q i in let g = implementor-found (R .core) j k o e p in
         let o₂ : Object = record { class-of = o .class-of; fields = replace (o .fields) (x .i) w } in
         let N : Object = implementor-of (o .class-of) k (replace (g .vs) (x .i) w′) in
         let t₁ : State = entered (entered (entered (entered (entered t)))) in
@@ -285,194 +260,3 @@ module _ (W W′ : World) (P : IsPlain W W′) (𝓛 : Laws W) (𝓜 : More W) w
             (g .known) a
             (g .at-identity) (g .at-implementor) y)
             (alike-stop (ended-at 4 t₄ (R .core) (omega arith) refl refl (omega arith)))
-
-    -- R of an object, once its Identity stands in the first of three temporaries: it is renewed, and read back.
-    change-object : (d : ℕ) (ids : List ℕ) (sh : Shape) (μ : Mask) (z : ℕ) (s t : State) → HeapOk W (s .heap)
-        → StatesMatch W ids sh μ z s t → is-declared W d ≡ true → (j i : ℕ) (o : Object) → nth ids j ≡ some i
-        → nth (s .heap) j ≡ some o → W .root (o .class-of) ≡ W .root d → (x : Out Value) (k : ℕ) → k ≤ 5
-        → 1 ≤ k
-        → (let this = t .frame .this in let l = t .frame .slots in let h = t .heap in
-        (m : ℕ) (ws : List Value)
-        → run (renew W (suc (length l)) d)
-        (state-of this (l ++ (object i ∷ null ∷ null ∷ [])) h (up k (t .steps)) (t .changes))
-        ≡ ok (object i) (state-of this (l ++ (object i ∷ object (length h) ∷ object m ∷ []))
-        (replace (h ++ (implementor-of d i ws ∷ [])) i (identity-of (length h)))
-        (after-copies (W .fields (W .root d)) (up 13 (up k (t .steps)))) (t .changes))
-        → x ≡ ok (object i) (state-of this l (replace (h ++ (implementor-of d i ws ∷ [])) i
-        (identity-of (length h)))
-        (suc (after-copies (W .fields (W .root d)) (up 13 (up k (t .steps))))) (t .changes)))
-        → Alike (After W ids (t .heap) sh μ z) (Ended W)
-        (ok (object j) (with-change (replace (s .heap) j (changed W d o)) (entered s))) x
-    change-object d ids sh μ z s t H R dd j i o e p rt x k k≤ k≥ f =
-        let h = t .heap in
-        let g = implementor-found (R .core) j i o e p in
-        let y = renewed W W′ P 𝓛 𝓜 invoke′ ids (t .frame .this) (t .frame .slots) null null h
-        (up k (t .steps)) (t .changes)
-        i (g .m) (o .class-of) d (g .vs) (o .fields) (s .heap) (g .known) dd (g .at-identity)
-        (g .at-implementor)
-        (g .values) (H .each j o p) (rw rt at (𝓛 .sub-root (o .class-of))) in
-        let N : Object = implementor-of d i (y .ws′) in
-        let h₂ = replace (h ++ (N ∷ [])) i (identity-of (length h)) in
-        let t₂ : State = state-of (t .frame .this) (t .frame .slots) h₂
-        (suc (after-copies (W .fields (W .root d)) (up 13 (up k (t .steps))))) (t .changes) in
-        let E : Persists W ids ids h h₂ = keeps-renew i (g .m) N (length h) (g .at-identity) in
-        let st = after-copies-is (W .fields (W .root d)) (up 13 (up k (t .steps))) in
-        let fw = 𝓜 .few (W .root d) in let uk = up-is k (t .steps) in
-        let l1 = length-set (h ++ (N ∷ [])) i (identity-of (length h)) in let l2 = length-append h (N ∷ []) in
-        let l3 = length-set (s .heap) j (changed W d o) in
-        rw (f (g .m) (y .ws′) (y .ran))
-        (alike-ok {s = with-change (replace (s .heap) j (changed W d o)) (entered s)} {t = t₂} (record {
-          ids′ = ids;
-          persists = E;
-          value = in-place e;
-          match = record {
-            frames = frames-later E (R .frames);
-            core = record {
-              heaps = heap-renew (R .core .heaps) j i (g .m) o (changed W d o) (y .ws′) p e (g .at-identity)
-                  dd
-                  (rw (drop-map (λ f. initial (f .type)) (length (W .fields (W .root d)))
-                  (W .fields d)) at (y .values));
-              count = omega (arith, R .core, l1, l2, l3);
-              low = omega (arith, R .core, st, uk);
-              high = omega (arith, R .core, st, fw, uk);
-              unchanged = R .core .unchanged;
-            };
-          };
-        }))
-
-    -- R.
-    pub change-acts : (k c d : ℕ) (γ : Environment) (ids : List ℕ) (sh : Shape) (μ : Mask) (z : ℕ)
-        (s t : State)
-        → HeapOk W (s .heap) → StatesMatch W ids sh μ z s t → is-declared W d ≡ true → (v : Value)
-        → Fits W (s .heap) v (known (class c)) → can-change W c d ≡ true
-        → SlotAt W ids (t .heap) sh (t .frame) k v
-        → Alike (After W ids (t .heap) sh μ z) (Ended W) (do-change W d v (entered s))
-        (run (translate W (change k d) γ sh) t)
-    unfolding plain-change
-    change-acts zero c d γ ids sh μ z s t H R dd (object j) (f-obj o p q) can (at-this {i} {m} e a x) =
-        let l = t .frame .slots in let n = length l in let g = can-inv W 𝓛 c d can in
-        let rt : W .root (o .class-of) ≡ W .root d = 𝓛 .fickle-root (o .class-of) c q (g .0) ∙ g .1 in
-        rw (
-          plain-change-is W 0 d γ sh n (slots-length (R .frames .slots)),
-          p,
-          root-fields W 𝓛 (s .heap) d o rt (H .each j o p),
-        )
-        (change-object d ids sh μ z s t H R dd j i o e p rt _ 4
-        (omega arith) (omega arith) λ m′ ws ran.
-        block-runs W W′ P invoke′ (change-types W d) t _
-        (runs-cons (first-this W W′ P 𝓛 𝓜 invoke′ n i m (x .c) (x .vs) (t .frame .this)
-        (l ++ (null ∷ null ∷ null ∷ [])) _ (t .heap) (suc (t .steps)) (t .changes) (x .known) a (x .here)
-        (set-up l _ 0 (object i)))
-        (runs-cons ran
-        (runs-cons (run-read W W′ P invoke′ n (object i) (t .frame .this) _ _ _ (t .changes)
-        (nth-up l _ 0 ∙ nth₀ _ _))
-        runs-nil)))
-        ∙ rw take-append-seam)
-    change-acts (suc k) c d γ ids sh μ z s t H R dd null F can (at-variable a both-null) =
-        let l = t .frame .slots in let n = length l in
-        let t₂ : State = state-of (t .frame .this) l (t .heap) (up 7 (t .steps)) (t .changes) in
-        let ran : run (plain-change W (suc n) sh (suc k) d) t ≡ ok null t₂
-        = block-runs W W′ P invoke′ (change-types W d) t _
-        (runs-cons (first-null W W′ P 𝓛 𝓜 invoke′ n (position sh k) d (t .frame .this)
-        (l ++ (null ∷ null ∷ null ∷ [])) _ (t .heap) (suc (t .steps)) (t .changes)
-        (nth-append l _ _ _ a) (set-up l _ 0 null))
-        (runs-cons (run-read W W′ P invoke′ n null (t .frame .this) _ _ _ (t .changes)
-        (nth-up l _ 0 ∙ nth₀ _ _))
-        runs-nil))
-        ∙ rw take-append-seam in
-        rw (plain-change-is W (suc k) d γ sh n (slots-length (R .frames .slots)), ran)
-        (alike-ok {s = entered s} {t = t₂} (record {
-          ids′ = ids;
-          persists = persists-same;
-          value = both-null;
-          match = record {
-            frames = R .frames;
-            core = recount (R .core) refl refl refl refl (omega (arith, R .core)) (omega (arith, R .core));
-          };
-        }))
-    change-acts (suc k) c d γ ids sh μ z s t H R dd (object j) (f-obj o p q) can
-        (at-variable a (in-place {i} e)) =
-        let l = t .frame .slots in let n = length l in let g = can-inv W 𝓛 c d can in
-        let rt : W .root (o .class-of) ≡ W .root d = 𝓛 .fickle-root (o .class-of) c q (g .0) ∙ g .1 in
-        rw (
-          plain-change-is W (suc k) d γ sh n (slots-length (R .frames .slots)),
-          p,
-          root-fields W 𝓛 (s .heap) d o rt (H .each j o p),
-        )
-        (change-object d ids sh μ z s t H R dd j i o e p rt _ 5
-        (omega arith) (omega arith) λ m′ ws ran.
-        block-runs W W′ P invoke′ (change-types W d) t _
-        (runs-cons (first-object W W′ P 𝓛 𝓜 invoke′ n (position sh k) d i (t .frame .this)
-        (l ++ (null ∷ null ∷ null ∷ [])) _ (t .heap) (suc (t .steps)) (t .changes)
-        (nth-append l _ _ _ a) (set-up l _ 0 (object i)) ∙ ran)
-        (runs-cons (run-read W W′ P invoke′ n (object i) (t .frame .this) _ _ _ (t .changes)
-        (nth-up l _ 0 ∙ nth₀ _ _))
-        runs-nil))
-        ∙ rw take-append-seam)
-
-  -- Q, its receiver and arguments in temporaries.
-  pub call-acts : (invoke invoke′ : Method → State → Out Value) → CallsMatch invoke invoke′
-      → {ids : List ℕ} {h₀ : List Object} {sh : Shape} {μ : Mask} {z : ℕ} (m c n : ℕ) (M : Method)
-      (v v′ : Value)
-      (vs vs′ : List Value) (us : List ExprType) (s t : State) → HeapOk W (s .heap)
-      → Fits W (s .heap) v (known (class c)) → All2 (Fits W (s .heap)) vs us
-      → all-fit W us (M .parameters) ≡ true
-      → W .method c m ≡ some M → (ids′ : List ℕ) → Persists W ids ids′ h₀ (t .heap)
-      → StatesMatch W ids′ sh μ (4 + length (M .parameters) + z) s t → Corresponds ids′ v v′
-      → All2 (Corresponds ids′) vs vs′ → nth (t .frame .slots) n ≡ some v′
-      → ((q : ℕ) (w : Value) → nth vs′ q ≡ some w → nth (t .frame .slots) (up q (suc n)) ≡ some w)
-      → Alike (After W ids h₀ sh μ z) (Ended W) (do-call W without-limits invoke m v vs s)
-      (eval W′ without-limits invoke′ (call m (implementor c (suc n)) (reads (suc (suc n)) (M .parameters)))
-      t)
-  unfolding eval
-  call-acts invoke invoke′ D m c n M v v′ vs vs′ us s t H (f-null _) A f i ids′ X R both-null r a b =
-      rw (implementor-null W W′ P invoke′ c n (entered t) a)
-      (alike-stop (ended-at 4 (entered (entered (entered (entered t)))) (R .core) (omega arith) refl refl
-      (omega arith)))
-  call-acts invoke invoke′ D {z} m c n M (object j) (object k) vs vs′ us s t H (f-obj o p q) A f i ids′ X R
-      (in-place e)
-      r a b =
-      let g = implementor-found (R .core) j k o e p in let x = 𝓛 .override (o .class-of) c m M q i in let M′ =
-      x .0 in
-      let fa = fits-all W 𝓛 (s .heap) vs us (M .parameters) A f in
-      let len : length vs ≡ length (M .parameters) = all2-length fa ∙ length-map (M .parameters) fresh-slot in
-      let len′ : length vs′ ≡ length (M .parameters) = sym (all2-length r) ∙ len in
-      let t₅ : State = state-of (t .frame .this) (t .frame .slots) (t .heap)
-      (past (M .parameters) (up 4 (t .steps)))
-      (t .changes) in
-      let st = past-is (M .parameters) (up 4 (t .steps)) in
-      let callee : FitsFrame W (s .heap) (frame (some (object j)) vs)
-      (method-environment (M′ .owner) (M′ .parameters))
-      = record { this = this-some (f-obj o p (𝓛 .owned _ _ _ (x .1))); slots = rw (x .2) fa } in
-      let callee′ : FramesMatch W ids′ (t .heap) (variables (M′ .parameters)) (no-values (M′ .parameters))
-      (frame (some (object j)) vs) (frame (some (object (g .m))) vs′)
-      = record {
-        this = this-implements e
-            (record { c = o .class-of; vs = g .vs; here = g .at-implementor; known = g .known });
-        slots = rw (x .2) (arguments-match (M .parameters) r len);
-      } in
-      rw (
-        p,
-        x .1,
-        implementor-run W W′ P invoke′ c (o .class-of) k (g .m) n (g .vs) (entered t) (g .known) a
-            (g .at-identity)
-            (g .at-implementor) q,
-        run-reads W W′ P invoke′ (M .parameters) vs′ (suc n) (t .frame .this) (t .frame .slots) (t .heap)
-            (up 4 (t .steps))
-            (t .changes) len′ b,
-        method-step W W′ P (o .class-of) k (g .m) m M′ vs′ (g .vs) t₅ invoke′ (g .known) (g .at-implementor)
-            (x .1),
-      )
-      (alike-bind (D .alike M′ (𝓛 .bodies _ _ _ (x .1)) ids′ z (with-frame (frame (some (object j)) vs) s)
-      (with-frame (frame (some (object (g .m))) vs′) t₅) H callee
-      (recount (R .core) refl refl refl refl (omega (arith, st, R .core)) (omega (arith, st, R .core))) _
-      callee′)
-      λ w s′ w′ t′ y. alike-ok {s = with-frame (s .frame) s′} {t = with-frame (t .frame) t′} (record {
-        ids′ = y .ids′;
-        persists = persists-trans X (y .persists);
-        value = y .value;
-        match = record {
-          frames = frames-later (y .persists) (R .frames);
-          core = recount (y .core) refl refl refl refl (omega (arith, y .core)) (omega (arith, y .core));
-        };
-      }))

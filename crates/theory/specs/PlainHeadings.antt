@@ -21,23 +21,22 @@ use Rattle.language.specs.Effects.{no-effect, within, effect-of-all}
 use Rattle.language.specs.Program.{class-at, kind-at, is-state-type, world, fields-at}
 use Rattle.language.specs.Headings.{check-fields, check-class, check-classes, headings}
 use Rattle.language.specs.WellFormed.{Extends, plain-object, plain-plain, FieldsWell, well-nil, well-cons}
-use Rattle.language.specs.WellFormed.{well-none}
-use Rattle.language.specs.WellFormed.{Overrides, first, again, MethodWell, MethodsWell, methods-nil}
-use Rattle.language.specs.WellFormed.{methods-cons}
-use Rattle.language.specs.WellFormed.{ClassWell, ClassesWell, classes-nil, classes-cons, ProgramWell}
+use Rattle.language.specs.WellFormed.{well-none, Overrides, first, again, MethodWell, MethodsWell}
+use Rattle.language.specs.WellFormed.{methods-nil, methods-cons, ClassWell, ClassesWell, classes-nil}
+use Rattle.language.specs.WellFormed.{classes-cons, ProgramWell}
 use Rattle.language.specs.Translation.{plain-class, plain-type, plain-field, variables, plain-method}
-use Rattle.language.specs.Translation.{plain-classes, identity}
-use Rattle.language.specs.Translation.{fickle-object, plain-program, fields-free, names-free}
-use Rattle.theory.specs.Sound.{Laws}
-use Rattle.theory.specs.PlainWorld.{imp-of-identity, id-of-implementor, plain-form}
+use Rattle.language.specs.Translation.{plain-classes, identity, fickle-object, plain-program, fields-free}
+use Rattle.language.specs.Translation.{names-free}
+use Rattle.theory.specs.Fitting.{Laws}
+use Rattle.theory.specs.PlainWorld.{imp-of-identity, id-of-implementor, plain-form, place-map}
 use Rattle.theory.specs.PlainOf.{PlainOf}
 use Rattle.theory.specs.PlainLookups.{Earlier, earlier-supers, declared-plain, plain-list, plain-kind}
 use Rattle.theory.specs.PlainLookups.{lookups-plain}
 use Rattle.theory.specs.PlainRules.{fresh}
 use Rattle.theory.specs.PlainSlots.{method-match, start-match}
-use Rattle.theory.specs.PlainTypes.{NameLaws, free-name, place-plain, fits-plain, identity-declared}
-use Rattle.theory.specs.PlainTypes.{fickle-declared}
-use Rattle.theory.specs.PlainTypes.{type-declared, types-declared, translation-has}
+use Rattle.theory.specs.PlainTypes.{NameLaws, free-name, fits-plain, identity-declared, fickle-declared}
+use Rattle.theory.specs.PlainTypes.{type-declared, types-declared}
+use Rattle.theory.specs.TranslationTyped.{translation-has}
 
 module _ (P : List Class) (𝓔 : Earlier P) (𝓛 : Laws (world P)) (𝓝 : NameLaws (world P)) where
   abbrev W : World
@@ -63,7 +62,7 @@ module _ (P : List Class) (𝓔 : Earlier P) (𝓛 : Laws (world P)) (𝓝 : Nam
   place-none : (n : ℕ) (fs : List Field) → eqb id-field n ≡ false → place n fs ≡ none
       → place n (id-of-implementor ∷ map plain-field fs) ≡ none
   unfolding place
-  place-none n fs e p = rw (e, place-plain n fs, p)
+  place-none n fs e p = rw (e, place-map n fs, p)
 
   fields-plain : {before fs : List Field} (at at′ : ℕ) (u v : Unit {0}) → FieldsWell P before fs
       → check-fields of-translator P before at fs ≡ accept u → fields-free at′ fs ≡ accept v
@@ -77,7 +76,7 @@ module _ (P : List Class) (𝓔 : Earlier P) (𝓛 : Laws (world P)) (𝓝 : Nam
       let h : FieldsWell Q (id-of-implementor ∷ map plain-field (before ++ (f ∷ []))) (map plain-field fs)
       = fields-plain (at + 1) (at′ + 1) u v w q r in
       well-cons (omega (arith, ltb-true (length before) 16 e₁, length-map before plain-field))
-      (type-declared W (world Q) 𝓟 (f .type))
+      (type-declared 𝓟 (f .type))
       (place-none (f .name) before (free-name (f .name) e₅) c) (no-state (plain-type (f .type)))
       (subst (λ (l : List Field). FieldsWell Q (id-of-implementor ∷ l) (map plain-field fs))
       (map-append plain-field before (f ∷ [])) h)
@@ -98,11 +97,11 @@ module _ (P : List Class) (𝓔 : Earlier P) (𝓛 : Laws (world P)) (𝓝 : Nam
       → MethodWell Q (plain-class k) (plain-class super) (map (plain-method W k) before) (plain-method W k m)
   method-plain k super before m i w =
       let δ : Frame DeclaredType = frame (some (class (plain-class k))) (map plain-type (m .parameters)) in
-      let a = translation-has W (world Q) 𝓟 𝓛 𝓝 (m .body) (w .body) (variables (m .parameters)) δ
+      let a = translation-has 𝓟 𝓛 𝓝 (m .body) (w .body) (variables (m .parameters)) δ
       (method-match W k k (m .parameters) i) in
       record {
-        result = type-declared W (world Q) 𝓟 (m .result);
-        parameters = types-declared W (world Q) 𝓟 (m .parameters);
+        result = type-declared 𝓟 (m .result);
+        parameters = types-declared 𝓟 (m .parameters);
         name = declared-plain W k before (m .name) ∙ ap (map-option (plain-method W k)) (w .name);
         overrides = rw (𝓟 .method super (m .name)) (overrides-plain k m _ (w .overrides));
         effects = well-none;
@@ -110,7 +109,7 @@ module _ (P : List Class) (𝓔 : Earlier P) (𝓛 : Laws (world P)) (𝓝 : Nam
         γ = fresh δ;
         φ = no-effect;
         body = a .1;
-        body-type = fits-plain W (world Q) 𝓟 (m .result) (a .2) (w .body-type);
+        body-type = fits-plain 𝓟 (m .result) (a .2) (w .body-type);
         body-effect = none-within;
       }
 
@@ -161,7 +160,7 @@ module _ (P : List Class) (𝓔 : Earlier P) (𝓛 : Laws (world P)) (𝓝 : Nam
     earlier = omega arith;
     kind = extends-plain 0;
     fields = rw object-fields
-        (well-cons {before = []} {fs = []} {f = imp-of-identity} (omega arith) (fickle-declared W (world Q) 𝓟)
+        (well-cons {before = []} {fs = []} {f = imp-of-identity} (omega arith) (fickle-declared 𝓟)
         refl
         (no-state (class 2)) well-nil);
     methods = methods-nil;
@@ -174,7 +173,7 @@ module _ (P : List Class) (𝓔 : Earlier P) (𝓛 : Laws (world P)) (𝓝 : Nam
     kind = extends-plain 0;
     fields = rw object-fields
         (well-cons {before = []} {fs = []} {f = id-of-implementor} (omega arith)
-        (identity-declared W (world Q) 𝓟) refl
+        (identity-declared 𝓟) refl
         (no-state (class 1)) well-nil);
     methods = methods-nil;
   }
@@ -187,7 +186,7 @@ pub program-plain : (p : Program) (u v : Unit {0}) → ProgramWell p → Laws (w
 unfolding plain-program headings
 program-plain p u v w 𝓛 𝓝 q r =
     let P = p .classes in let 𝓔 : Earlier (p .classes) = earlier-supers P (w .classes) in
-    let a = translation-has (world P) (world (plain-list P)) (lookups-plain P 𝓔) 𝓛 𝓝 (p .start) (w .start) []
+    let a = translation-has (lookups-plain P 𝓔) 𝓛 𝓝 (p .start) (w .start) []
     (frame none [])
     (start-match (world P)) in
     record {

@@ -7,28 +7,25 @@ use lib.ListN.{length, length-map}
 use native.Mathlib.Omega.{arith}
 use Rattle.language.specs.Limits.{Most, of-check, of-translator}
 use Rattle.language.specs.Tree.{DeclaredType, type-number, type-of-number, ExprType, Expr, block, Exprs}
-use Rattle.language.specs.Tree.{Field}
-use Rattle.language.specs.Tree.{Declaration, Class, Program}
+use Rattle.language.specs.Tree.{Field, Declaration, Class, Program}
 use Rattle.language.specs.World.{World}
 use Rattle.language.specs.Program.{world}
 use Rattle.language.specs.Typing.{Environment, fresh-slot}
 use Rattle.language.specs.Rules.{HasType}
 use Rattle.language.specs.WellFormed.{Each, each-nil, each-cons, NodeInForm, form-block, BodyInForm}
-use Rattle.language.specs.WellFormed.{form-body, FieldInForm}
-use Rattle.language.specs.WellFormed.{MethodInForm, ClassInForm, ProgramInForm, MethodWell, MethodsWell}
-use Rattle.language.specs.WellFormed.{methods-nil}
-use Rattle.language.specs.WellFormed.{methods-cons, ClassWell}
+use Rattle.language.specs.WellFormed.{form-body, FieldInForm, MethodInForm, ClassInForm, ProgramInForm}
+use Rattle.language.specs.WellFormed.{MethodWell, MethodsWell, methods-nil, methods-cons, ClassWell}
 use Rattle.language.specs.WellFormed.{ClassesWell, classes-nil, classes-cons, ProgramWell}
 use Rattle.language.specs.Translation.{plain-type, plain-field, Shape, variables, plain-method, plain-classes}
-use Rattle.language.specs.Translation.{identity}
-use Rattle.language.specs.Translation.{fickle-object, plain-program, translate}
+use Rattle.language.specs.Translation.{identity, fickle-object, plain-program, translate}
 use Rattle.theory.specs.PlainWorld.{imp-of-identity, id-of-implementor}
 use Rattle.theory.specs.TranslationEquations.{plain-block as translate-block}
 use Rattle.theory.specs.PlainLookups.{plain-one, length-plain}
 use Rattle.theory.specs.PlainTypes.{NameLaws}
 use Rattle.theory.specs.PlainSizes.{Small, program-size}
 use Rattle.theory.specs.PlainForm.{more-left, variable-count, count-variables, plain-type-form}
-use Rattle.theory.specs.PlainForm.{plain-types-form, Room, node-in-form}
+use Rattle.theory.specs.PlainForm.{plain-types-form, Room}
+use Rattle.theory.specs.TranslationInForm.{node-in-form}
 
 slots-few : {most : Most} {d n : ℕ} {ts : List DeclaredType} {es : Exprs} → NodeInForm most d n (block ts es)
     → n ≤ most .slots

@@ -15,13 +15,11 @@ use Rattle.language.specs.Tree.{plain, Declaration, Class, Program}
 use Rattle.language.specs.World.{World}
 use Rattle.language.specs.Effects.{effect-of-all}
 use Rattle.language.specs.Program.{method-of, declared, class-at, fields-at, method-at, below-at, root-at}
-use Rattle.language.specs.Program.{nearest-at}
-use Rattle.language.specs.Program.{is-changeable, world}
+use Rattle.language.specs.Program.{nearest-at, is-changeable, world}
 use Rattle.language.specs.WellFormed.{ClassesWell}
 use Rattle.language.specs.Translation.{plain-class, plain-field, plain-method, plain-classes, identity}
-use Rattle.language.specs.Translation.{fickle-object}
-use Rattle.language.specs.Translation.{plain-program}
-use Rattle.theory.specs.Sound.{or-inr}
+use Rattle.language.specs.Translation.{fickle-object, plain-program}
+use Rattle.language.proofs.Booleans.{or-inr}
 use Rattle.theory.specs.Lookups.{class-well}
 use Rattle.theory.specs.PlainWorld.{imp-of-identity, id-of-implementor, plain-form, IsPlain}
 use Rattle.theory.specs.PlainOf.{PlainOf, plain-of-is-plain}

@@ -10,20 +10,17 @@ use lib.Seq.{take-append-seam}
 use Rattle.language.specs.Lists.{nth, map-option, nth-map}
 use Rattle.language.specs.Frames.{Frame, frame, at-slot, opened, closed}
 use Rattle.language.specs.Tree.{DeclaredType, bool, class, ExprType, known, null-type, Expr, literal-true}
-use Rattle.language.specs.Tree.{literal-false, literal-null}
-use Rattle.language.specs.Tree.{slot, is-null, get, cast, new, assign, set, call, choose, block, Exprs, nil}
-use Rattle.language.specs.Tree.{cons}
+use Rattle.language.specs.Tree.{literal-false, literal-null, slot, is-null, get, cast, new, assign, set, call}
+use Rattle.language.specs.Tree.{choose, block, Exprs, nil, cons}
 use Rattle.language.specs.World.{Method, World, field-type, is-declared}
-use Rattle.language.specs.Effects.{no-effect, join, apply-class, apply, apply-expr}
+use Rattle.language.specs.Effects.{no-effect, join, apply-expr}
 use Rattle.language.specs.Typing.{Slot, Environment, fresh-slot, not-bool, last-type, fits, all-fit}
-use Rattle.language.specs.Typing.{join-types, join-currents}
-use Rattle.language.specs.Typing.{join-slot, join-slots, join-this, join-environments, apply-slot, apply-all}
+use Rattle.language.specs.Typing.{join-types, join-currents, join-slot, join-slots, join-this}
+use Rattle.language.specs.Typing.{join-environments, apply-slot, apply-all}
 use Rattle.language.specs.Rules.{Declared, HasType, HaveTypes, type-true, type-false, type-null, type-slot}
-use Rattle.language.specs.Rules.{type-new}
-use Rattle.language.specs.Rules.{type-cast, type-get}
-use Rattle.language.specs.Rules.{type-set, type-assign, type-is-null, type-call, type-choose, type-block}
-use Rattle.language.specs.Rules.{types-nil, types-cons}
-use Rattle.theory.specs.Sound.{has-none}
+use Rattle.language.specs.Rules.{type-new, type-cast, type-get, type-set, type-assign, type-is-null}
+use Rattle.language.specs.Rules.{type-call, type-choose, type-block, types-nil, types-cons}
+use Rattle.theory.specs.EffectLaws.{class-kept, type-kept, expr-kept}
 
 -- Slots that have the types they were declared with.
 abbrev pub fresh : Frame DeclaredType → Environment
@@ -66,21 +63,8 @@ module _ (W : World) where
       plains-cons : {δ : Frame DeclaredType} {e : Expr} {es : Exprs} {t : ExprType} {ts : List ExprType}
           → Plain δ e t → Plains δ es ts → Plains δ (cons e es) (t ∷ ts)
 
-  -- No effect changes no type.
-  class-kept : (c : ℕ) → apply-class W no-effect c ≡ c
-  unfolding apply-class
-  class-kept c = rw (has-none (W .root c))
-
-  type-kept : (t : DeclaredType) → apply W no-effect t ≡ t
-  type-kept bool = refl
-  type-kept (class c) = ap class (class-kept c)
-
-  expr-kept : (t : ExprType) → apply-expr W no-effect t ≡ t
-  expr-kept (known t) = ap known (type-kept t)
-  expr-kept null-type = refl
-
   slot-kept : (s : Slot) → apply-slot W no-effect s ≡ s
-  slot-kept s = rw (type-kept (s .current))
+  slot-kept s = rw (type-kept W (s .current))
 
   slots-kept : (ss : List Slot) → map (apply-slot W no-effect) ss ≡ ss
   slots-kept [] = refl
@@ -148,14 +132,15 @@ module _ (W : World) where
       plain-has (get f e) (plain-get d i) = type-get (plain-has e d) i
       plain-has (set f e e′) (plain-set {c} d d′ i j) = rw join-none at
           (type-set (plain-has e d) (plain-has e′ d′)
-          (ap (λ (x : ℕ). field-type f (W .fields x)) (class-kept c) ∙ i) j)
+          (ap (λ (x : ℕ). field-type f (W .fields x)) (class-kept W c) ∙ i) j)
       plain-has (assign (suc k) e) {δ} (plain-assign {u} d i j)
           = type-assign (plain-has e d) (nth-map fresh-slot k (δ .slots) u i) j
       plain-has (is-null e) (plain-is-null d n) = type-is-null (plain-has e d) n
       plain-has (call m e es) {δ} (plain-call {c} M d d′ i z j) =
           let h : HasType W (fresh δ) (call m e es) (known (M .result)) (apply-all W (M .effect) (fresh δ))
           (join (join no-effect no-effect) (M .effect))
-          = type-call M (plain-has e d) (plains-have es d′) (ap (λ (x : ℕ). W .method x m) (class-kept c) ∙ i)
+          = type-call M (plain-has e d) (plains-have es d′)
+          (ap (λ (x : ℕ). W .method x m) (class-kept W c) ∙ i)
           j in
           let g : HasType W (fresh δ) (call m e es) (known (M .result)) (apply-all W no-effect (fresh δ))
           (join (join no-effect no-effect) no-effect)
@@ -179,4 +164,4 @@ module _ (W : World) where
           let h : HaveTypes W (fresh δ) (cons e es) (apply-expr W no-effect t ∷ ts) (fresh δ)
           (join no-effect no-effect)
           = types-cons (plain-has e d) (plains-have es d′) in
-          rw (expr-kept t, join-none) at h
+          rw (expr-kept W t, join-none) at h

@@ -7,30 +7,21 @@ use mathlib.Core.List.{List, [], _∷_, _++_, map}
 use lib.ListN.{length, length-map}
 use native.Mathlib.Omega.{arith}
 use Rattle.language.specs.Limits.{of-translator}
-use Rattle.language.specs.Tree.{DeclaredType, ExprType, Expr, literal-true, literal-false, literal-null}
-use Rattle.language.specs.Tree.{slot, is-null, get, cast, new}
-use Rattle.language.specs.Tree.{change, assign, set, call, choose, block, Exprs, nil, cons, count, size}
-use Rattle.language.specs.Tree.{sizes}
-use Rattle.language.specs.Tree.{Field, Declaration, Class, Program, heading-lines, method-lines}
-use Rattle.language.specs.Tree.{methods-lines}
-use Rattle.language.specs.Tree.{class-lines, classes-lines}
-use Rattle.language.specs.Tree.{flatten-program}
+use Rattle.language.specs.Tree.{DeclaredType, ExprType, Expr, literal-true, literal-false, literal-null, slot}
+use Rattle.language.specs.Tree.{is-null, get, cast, new, change, assign, set, call, choose, block, Exprs, nil}
+use Rattle.language.specs.Tree.{cons, count, size, sizes, Field, Declaration, Class, Program, heading-lines}
+use Rattle.language.specs.Tree.{method-lines, methods-lines, class-lines, classes-lines, flatten-program}
 use Rattle.language.specs.World.{Method, World}
 use Rattle.language.specs.Program.{world}
 use Rattle.language.specs.Typing.{Environment}
 use Rattle.language.specs.Rules.{HasType, HaveTypes, type-true, type-false, type-null, type-slot, type-new}
-use Rattle.language.specs.Rules.{type-cast}
-use Rattle.language.specs.Rules.{type-get, type-set}
-use Rattle.language.specs.Rules.{type-assign, type-is-null, type-call, type-choose, type-block, type-change}
-use Rattle.language.specs.Rules.{types-nil, types-cons}
-use Rattle.language.specs.WellFormed.{Each, MethodsWell, methods-nil, methods-cons}
-use Rattle.language.specs.WellFormed.{ClassesWell, classes-nil, classes-cons, ProgramWell}
+use Rattle.language.specs.Rules.{type-cast, type-get, type-set, type-assign, type-is-null, type-call}
+use Rattle.language.specs.Rules.{type-choose, type-block, type-change, types-nil, types-cons}
+use Rattle.language.specs.WellFormed.{Each, MethodsWell, methods-nil, methods-cons, ClassesWell, classes-nil}
+use Rattle.language.specs.WellFormed.{classes-cons, ProgramWell}
 use Rattle.language.specs.Translation.{Shape, read-slot, _⊕_, reads, copies, plain-change, translate}
-use Rattle.language.specs.Translation.{translate-all}
-use Rattle.language.specs.Translation.{translate-arguments}
-use Rattle.language.specs.Translation.{plain-type, plain-field, variables, temporaries, plain-method}
-use Rattle.language.specs.Translation.{plain-classes}
-use Rattle.language.specs.Translation.{plain-program}
+use Rattle.language.specs.Translation.{translate-all, translate-arguments, plain-type, plain-field, variables}
+use Rattle.language.specs.Translation.{temporaries, plain-method, plain-classes, plain-program}
 use Rattle.theory.specs.Equal.{all-fit-length}
 use Rattle.theory.specs.TreeRows.{length-program}
 use Rattle.theory.specs.TranslationEquations.{plain-true as translate-true}
@@ -43,8 +34,7 @@ use Rattle.theory.specs.TranslationEquations.{plain-cast-is as translate
 use Rattle.theory.specs.TranslationEquations.{plain-new-is as translate-new}
 use Rattle.theory.specs.TranslationEquations.{plain-change-is as translate-change}
 use Rattle.theory.specs.TranslationEquations.{plain-assign as translate-assign}
-use Rattle.theory.specs.TranslationEquations.{plain-set as translate-set}
-use Rattle.theory.specs.TranslationEquations.{plain-call as translate-call}
+use Rattle.theory.specs.TranslationEquations.{plain-set as translate-set, plain-call as translate-call}
 use Rattle.theory.specs.TranslationEquations.{plain-choose as translate-choose}
 use Rattle.theory.specs.TranslationEquations.{plain-block as translate-block}
 use Rattle.theory.specs.TranslationEquations.{plain-nil as translate-all-nil}

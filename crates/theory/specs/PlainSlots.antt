@@ -13,12 +13,11 @@ use Rattle.language.specs.Tree.{DeclaredType, bool, class, ExprType, known, nul
 use Rattle.language.specs.World.{World, is-declared}
 use Rattle.language.specs.Effects.{effect-of, apply, apply-expr, apply-class}
 use Rattle.language.specs.Typing.{Slot, Environment, fresh-slot, with-type, not-bool, last-type, fits}
-use Rattle.language.specs.Typing.{join-currents, join-slot}
-use Rattle.language.specs.Typing.{join-slots, join-this, join-environments, apply-slot, apply-all}
-use Rattle.language.specs.Typing.{after-change}
+use Rattle.language.specs.Typing.{join-currents, join-slot, join-slots, join-this, join-environments}
+use Rattle.language.specs.Typing.{apply-slot, apply-all, after-change}
 use Rattle.language.specs.Translation.{plain-class, plain-type, Shape, variables, temporaries, position}
 use Rattle.language.specs.Translation.{plain-slot}
-use Rattle.theory.specs.Sound.{false≢}
+use Rattle.language.proofs.Booleans.{false≢}
 
 -- Where a source slot other than `this` stands.
 pub assigned-slot : (sh : Shape) (k : ℕ) → plain-slot sh (suc k) ≡ suc (position sh k)

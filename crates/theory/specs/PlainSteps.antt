@@ -16,16 +16,15 @@ use Rattle.language.specs.Lists.{nth₀, nth₁}
 use Rattle.language.specs.Results.{ok, stop, bind}
 use Rattle.language.specs.Frames.{frame, opened, closed}
 use Rattle.language.specs.Tree.{DeclaredType, class, Expr, slot, get, new, assign, set, block, Exprs, nil}
-use Rattle.language.specs.Tree.{cons}
-use Rattle.language.specs.Tree.{Field}
+use Rattle.language.specs.Tree.{cons, Field}
 use Rattle.language.specs.World.{Method, World, place, is-declared}
 use Rattle.language.specs.Evaluation.{Value, null, object, Object, State, raised, Out, without-limits}
-use Rattle.language.specs.Evaluation.{entered}
-use Rattle.language.specs.Evaluation.{with-frame, with-heap, initial, initials, last-value, new-object}
-use Rattle.language.specs.Evaluation.{with-field, do-get, do-set, do-cast, do-call, eval, eval-all}
+use Rattle.language.specs.Evaluation.{entered, with-frame, with-heap, initial, initials, last-value}
+use Rattle.language.specs.Evaluation.{new-object, with-field, do-get, do-set, do-cast, do-call, eval}
+use Rattle.language.specs.Evaluation.{eval-all}
 use Rattle.language.specs.Translation.{plain-class, plain-field, implementor, reads, _⊕_, plain-new}
 use Rattle.language.specs.Correspondence.{Corresponds, identity-of, implementor-of}
-use Rattle.theory.specs.PlainWorld.{IsPlain, plain-form}
+use Rattle.theory.specs.PlainWorld.{place-map, IsPlain, plain-form}
 use Rattle.theory.specs.MatchingStates.{initial-corresponds}
 
 -- What the translator asks of a program besides the check.
@@ -57,11 +56,6 @@ past-is (x ∷ xs) k = omega (arith, past-is xs (suc k))
 -- The last object of a heap replaced.
 pub set-last : (l : List Object) (a b : Object) → replace (l ++ (a ∷ [])) (length l) b ≡ l ++ (b ∷ [])
 set-last l a b = set-append-seam l a [] b
-
-place-map : (n : ℕ) (fs : List Field) → place n (map plain-field fs) ≡ place n fs
-unfolding place
-place-map n [] = refl
-place-map n (f ∷ fs) = rw (place-map n fs)
 
 -- First values of fields correspond.
 pub initials-correspond : (ids : List ℕ) (fs : List Field)

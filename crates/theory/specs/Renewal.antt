@@ -17,7 +17,7 @@ use Rattle.language.specs.Evaluation.{Value, null, object, Object, State, Out, 
 use Rattle.language.specs.Evaluation.{initials, eval}
 use Rattle.language.specs.Translation.{plain-field, implementor, _then_, copies, renew}
 use Rattle.language.specs.Correspondence.{Corresponds, identity-of, implementor-of}
-use Rattle.theory.specs.Sound.{Laws, FitsF}
+use Rattle.theory.specs.Fitting.{Laws, FitsF}
 use Rattle.theory.specs.PlainWorld.{IsPlain}
 use Rattle.theory.specs.MatchingHeaps.{implementor-no-identity}
 use Rattle.theory.specs.PlainSteps.{More, state-of, set-last, initials-correspond, first-implementor}
@@ -76,7 +76,8 @@ module _ (W W′ : World) (P : IsPlain W W′) (𝓛 : Laws W) (𝓜 : More W) (
 
         record Copied (fs : List Field) (ws : List Value) (k : ℕ) : Type 0 where
           pub ws′ : List Value
-          pub values : All2 (Corresponds ids) (mix (length (W .fields (W .root d))) A (initials (W .fields d)))
+          pub values : All2 (Corresponds ids)
+              (mix (length (W .fields (W .root d))) A (initials (W .fields d)))
               ws′
           pub ran : (u : Value) → Runs W W′ P invoke′
               (copies (suc (suc n)) (suc (suc (suc n))) fs (slot (suc n) then nil))
@@ -95,7 +96,8 @@ module _ (W W′ : World) (P : IsPlain W W′) (𝓛 : Laws W) (𝓜 : More W) (
         heap-next : (ws : List Value) (q : ℕ) (w : Value)
             → replace (heap-of ws) x (implementor-of d i (replace ws q w)) ≡ heap-of (replace ws q w)
         heap-next ws q w =
-            set-comm (h ++ (implementor-of d i ws ∷ [])) i x (identity-of x) (implementor-of d i (replace ws q w))
+            set-comm (h ++ (implementor-of d i ws ∷ [])) i x (identity-of x)
+            (implementor-of d i (replace ws q w))
             (λ z. omega (arith, lt, z))
             ∙ ap (λ y. replace y i (identity-of x))
             (ap (λ y. replace (h ++ (implementor-of d i ws ∷ [])) y (implementor-of d i (replace ws q w)))
@@ -122,7 +124,8 @@ module _ (W W′ : World) (P : IsPlain W W′) (𝓛 : Laws W) (𝓜 : More W) (
             let len : length (pre ++ (f ∷ [])) ≡ suc q = omega (arith, length-append pre (f ∷ [])) in
             let a′ : All2 (Corresponds ids) (mix (suc q) A (initials (W .fields d))) (replace ws q (w .0))
             = rw (mix-step q A (initials (W .fields d)) (y .0) (initial (f .type)) (y .1)
-            (nth-map (λ g. initial (g .type)) q (W .fields d) f d-at)) at (all2-set₂ a q (y .0) (w .0) (w .2)) in
+            (nth-map (λ g. initial (g .type)) q (W .fields d) f d-at)) at (all2-set₂ a q (y .0) (w .0)
+            (w .2)) in
             let x′ = copied fs (pre ++ (f ∷ [])) (append-snoc pre f fs ∙ e) (replace ws q (w .0)) (up 4 k)
             (rw len a′) in
             record {
@@ -140,7 +143,8 @@ module _ (W W′ : World) (P : IsPlain W W′) (𝓛 : Laws W) (𝓜 : More W) (
     pub record Renewed (ids : List ℕ) (this : Option Value) (l₀ : List Value) (a b : Value) (h : List Object)
         (k r i m d : ℕ) (A : List Value) : Type 0 where
       pub ws′ : List Value
-      pub values : All2 (Corresponds ids) (mix (length (W .fields (W .root d))) A (initials (W .fields d))) ws′
+      pub values : All2 (Corresponds ids) (mix (length (W .fields (W .root d))) A (initials (W .fields d)))
+          ws′
       pub ran : run (renew W (suc (length l₀)) d) (state-of this (l₀ ++ (object i ∷ a ∷ b ∷ [])) h k r)
           ≡ ok (object i) (state-of this (l₀ ++ (object i ∷ object (length h) ∷ object m ∷ []))
           (replace (h ++ (implementor-of d i ws′ ∷ [])) i (identity-of (length h)))
@@ -150,7 +154,8 @@ module _ (W W′ : World) (P : IsPlain W W′) (𝓛 : Laws W) (𝓜 : More W) (
     pub renewed : (ids : List ℕ) (this : Option Value) (l₀ : List Value) (a b : Value) (h : List Object)
         (k r i m c d : ℕ) (vs A : List Value) (hs : List Object) → is-declared W c ≡ true
         → is-declared W d ≡ true
-        → nth h i ≡ some (identity-of m) → nth h m ≡ some (implementor-of c i vs) → All2 (Corresponds ids) A vs
+        → nth h i ≡ some (identity-of m) → nth h m ≡ some (implementor-of c i vs)
+        → All2 (Corresponds ids) A vs
         → All2 (FitsF W hs) A (W .fields c) → W .below c (W .root d) ≡ true
         → Renewed ids this l₀ a b h k r i m d A
     renewed ids this l₀ a b h k r i m c d vs A hs dc dd id-at imp-at al ft sb =
@@ -158,7 +163,8 @@ module _ (W W′ : World) (P : IsPlain W W′) (𝓛 : Laws W) (𝓜 : More W) (
         let p = 𝓛 .prefix c (W .root d) sb in let q = 𝓛 .prefix d (W .root d) (𝓛 .sub-root d) in
         let ws = initials (map plain-field (W .fields d)) in
         let B₀ : Object = first-implementor d ws in let B₁ : Object = implementor-of d i ws in
-        let l₁ = l₀ ++ (object i ∷ object x ∷ b ∷ []) in let l₂ = l₀ ++ (object i ∷ object x ∷ object m ∷ []) in
+        let l₁ = l₀ ++ (object i ∷ object x ∷ b ∷ []) in let l₂ =
+        l₀ ++ (object i ∷ object x ∷ object m ∷ []) in
         let at₀ : nth l₂ n ≡ some (object i) = nth-up l₀ _ 0 ∙ nth₀ _ _ in
         let at₁ : nth l₂ (suc n) ≡ some (object x) = nth-up l₀ _ 1 ∙ nth₁ _ _ _ in
         let at₂ : nth l₂ (suc (suc n)) ≡ some (object m) = nth-up l₀ _ 2 ∙ nth₂ _ _ _ _ in
@@ -170,7 +176,8 @@ module _ (W W′ : World) (P : IsPlain W W′) (𝓛 : Laws W) (𝓜 : More W) (
           ws′ = X .ws′;
           values = X .values;
           ran = plain-block-runs W W′ P invoke′ (state-of this (l₀ ++ (object i ∷ a ∷ b ∷ [])) h k r) _
-              (runs-cons (run-new-implementor W W′ P invoke′ (suc n) d this (l₀ ++ (object i ∷ a ∷ b ∷ [])) l₁ h
+              (runs-cons (run-new-implementor W W′ P invoke′ (suc n) d this (l₀ ++ (object i ∷ a ∷ b ∷ [])) l₁
+              h
               (suc k) r dd
               (set-up l₀ _ 1 (object x)))
               (runs-cons (run-assign W W′ P invoke′ (suc (suc n)) (implementor (W .root d) (suc n)) (object m)
@@ -180,7 +187,8 @@ module _ (W W′ : World) (P : IsPlain W W′) (𝓛 : Laws W) (𝓜 : More W) (
               (state-of this l₁ (h ++ (B₀ ∷ [])) (up 4 k) r) dc
               (nth-up l₀ _ 0 ∙ nth₀ _ _) (nth-append h _ i _ id-at) (nth-append h _ m _ imp-at) sb)
               (set-up l₀ _ 2 (object m)))
-              (runs-cons (run-put-id W W′ P invoke′ (suc n) n x i d ws this l₂ (h ++ (B₀ ∷ [])) (h ++ (B₁ ∷ []))
+              (runs-cons (run-put-id W W′ P invoke′ (suc n) n x i d ws this l₂ (h ++ (B₀ ∷ []))
+              (h ++ (B₁ ∷ []))
               (up 7 k) r dd
               at₁ at₀ (nth-last h B₀) (set-last h B₀ B₁))
               (runs-cons (run-put-imp W W′ P invoke′ n (suc n) i x (object m) this l₂ (h ++ (B₁ ∷ [])) _
@@ -207,7 +215,8 @@ module _ (W W′ : World) (P : IsPlain W W′) (𝓛 : Laws W) (𝓜 : More W) (
     unfolding eval
     first-object n p d i this l l₂ h k r e f = rw (e, f)
 
-    pub first-this : (n i m c : ℕ) (vs : List Value) (this : Option Value) (l l₂ : List Value) (h : List Object)
+    pub first-this : (n i m c : ℕ) (vs : List Value) (this : Option Value) (l l₂ : List Value)
+        (h : List Object)
         (k r : ℕ) → is-declared W c ≡ true → this ≡ some (object m) → nth h m ≡ some (implementor-of c i vs)
         → replace l n (object i) ≡ l₂
         → run (assign (suc n) (get id-field (slot 0))) (state-of this l h k r)

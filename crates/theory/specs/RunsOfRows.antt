@@ -15,7 +15,7 @@ use Rattle.language.specs.Verdict.{whole-rows}
 use Rattle.language.specs.Evaluation.{Value, State, raised, deep, spent, full, stuck, Out, with-limits, run}
 use Rattle.language.specs.Store.{capacity, stored, Outcome, gave, ended, Answer, ran, Ran, finish, runnable}
 use Rattle.language.specs.Store.{run-checked, run-of}
-use Rattle.theory.specs.Sound.{false≢}
+use Rattle.language.proofs.Booleans.{false≢}
 use Rattle.theory.specs.Accepts.{RowsOf}
 use Rattle.theory.specs.Members.{accepted-run}
 use Rattle.theory.specs.Cut.{final}
@@ -137,15 +137,16 @@ module _ (ns : List ℕ) (p : Program) (rows : RowsOf ns p) (fuel : ℕ) (l : fu
           let o : outcome result ≡ e .outcome = cc in
           subst (DerivedWithinStore p fuel store) (sym is)
           (result-derived result refl (ap value-or-exception o ∙ is-value-or-exception (e .one-of)))),
-      (λ d. let x = derived-run (d .derived) (d .within-fuel) (d .within-room) a (d .answer) (d .store-after) in (
-        x .0,
-        record {
-          outcome = d .outcome;
-          steps = d .state .steps;
-          objects = length (d .state .heap);
-          changes = d .state .changes;
-          answer = d .answer;
-          one-of = x .1;
-        },
-      )),
+      (λ d. let x = derived-run (d .derived) (d .within-fuel) (d .within-room) a (d .answer)
+          (d .store-after) in (
+            x .0,
+            record {
+              outcome = d .outcome;
+              steps = d .state .steps;
+              objects = length (d .state .heap);
+              changes = d .state .changes;
+              answer = d .answer;
+              one-of = x .1;
+            },
+          )),
     )

@@ -4,101 +4,58 @@ use mathlib.Core.Path.{_≡_, refl, sym, _∙_, subst}
 use Prim.Native.Nat.{ℕ, zero, suc, _+_}
 use native.Mathlib.Nat.{suc-inj}
 use mathlib.Core.Option.{some}
-use mathlib.Core.Bool.{true, false}
+use mathlib.Core.Bool.{false}
 use mathlib.Core.List.{List, [], _∷_, _++_, map}
 use lib.ListN.{length, length-append, length-map}
 use lib.Seq.{append-snoc}
 use native.Mathlib.Omega.{arith}
 use Rattle.language.specs.Limits.{imp-field, id-field}
-use Rattle.language.specs.Lists.{choice, All2, a-nil, a-cons, all2-append, nth₀, nth₁, nth-suc, nth-map}
-use Rattle.language.specs.Lists.{up-suc}
+use Rattle.language.specs.Lists.{choice, a-nil, a-cons, all2-append, nth₀, nth₁, nth-suc, nth-map, up-suc}
 use Rattle.language.specs.Results.{ok, bind, Alike, alike-ok, alike-stop, alike-bind, alike-context}
-use Rattle.language.specs.Results.{alike-with}
-use Rattle.language.specs.Results.{alike-mono, alike-wrap}
+use Rattle.language.specs.Results.{alike-with, alike-mono, alike-wrap}
 use Rattle.language.specs.Frames.{frame, with-slot, opened, closed}
-use Rattle.language.specs.Tree.{DeclaredType, bool, class, ExprType, known, Expr, literal-true, literal-false}
+use Rattle.language.specs.Tree.{DeclaredType, class, ExprType, known, Expr, literal-true, literal-false}
 use Rattle.language.specs.Tree.{literal-null, slot, is-null, get, cast, new, change, assign, set, call}
-use Rattle.language.specs.Tree.{choose}
-use Rattle.language.specs.Tree.{block, Exprs, nil, cons}
+use Rattle.language.specs.Tree.{choose, block, Exprs, nil, cons}
 use Rattle.language.specs.World.{Method, World}
 use Rattle.language.specs.Effects.{apply-class}
 use Rattle.language.specs.Typing.{Environment}
 use Rattle.language.specs.Rules.{HasType, HaveTypes, type-true, type-false, type-null, type-slot, type-new}
 use Rattle.language.specs.Rules.{type-cast, type-get, type-set, type-assign, type-is-null, type-call}
 use Rattle.language.specs.Rules.{type-choose, type-block, type-change, types-nil, types-cons}
-use Rattle.language.specs.Evaluation.{Value, null, truth, Object, State, Out, without-limits, entered}
-use Rattle.language.specs.Evaluation.{with-frame, initial, last-value, need-truth, is-null-value, do-get}
-use Rattle.language.specs.Evaluation.{do-cast, eval, eval-all, call-at}
+use Rattle.language.specs.Evaluation.{Value, null, truth, State, Out, without-limits, entered, with-frame}
+use Rattle.language.specs.Evaluation.{initial, last-value, need-truth, is-null-value, do-get, do-cast, eval}
+use Rattle.language.specs.Evaluation.{eval-all, call-at}
 use Rattle.language.specs.Translation.{plain-class, plain-type, Shape, variables, temporaries, plain-slot}
 use Rattle.language.specs.Translation.{implementor, reads, _then_, _⊕_, translate, translate-all}
 use Rattle.language.specs.Translation.{translate-arguments}
-use Rattle.language.specs.Correspondence.{Corresponds, both-null, same-truth, in-place}
+use Rattle.language.specs.Correspondence.{both-null, same-truth}
 use Rattle.theory.specs.Equal.{all-fit-length}
-use Rattle.theory.specs.Sound.{Laws, Fits, f-null, HeapOk, FitsFrame, CallOk, at, soundE, soundEs}
-use Rattle.theory.specs.Sound.{fits-evolves, calls-ok, locals-fit, false≢}
+use Rattle.theory.specs.Sound.{soundE, soundEs, calls-ok}
+use Rattle.theory.specs.Fitting.{Laws, Fits, HeapOk, FitsFrame, fits-evolves, locals-fit}
+use Rattle.theory.specs.SoundActs.{CallOk, at}
 use Rattle.theory.specs.PlainWorld.{IsPlain}
-use Rattle.theory.specs.Matching.{persists-same, persists-trans, corresponds-later, Mask, SlotsMatch}
-use Rattle.theory.specs.Matching.{no-slots, temporary, mask-length, temporaries-only}
-use Rattle.theory.specs.MatchingStates.{StatesMatch, After, AfterAll, Filled, Ended, recount}
-use Rattle.theory.specs.MatchingStates.{both-enter}
-use Rattle.theory.specs.MatchingStates.{entering, spare, spend, from-before, no-values, frames-set}
-use Rattle.theory.specs.MatchingStates.{frames-open, frames-temporaries, frames-temporary, frames-put}
-use Rattle.theory.specs.MatchingStates.{frames-close, close-block}
+use Rattle.theory.specs.Matching.{persists-same, persists-trans, corresponds-later, Mask, no-slots}
+use Rattle.theory.specs.Matching.{temporary, mask-length}
+use Rattle.theory.specs.MatchingStates.{literal-alike, StatesMatch, After, AfterAll, Filled, Ended}
+use Rattle.theory.specs.MatchingStates.{recount, both-enter, entering, spare, spend, from-before}
+use Rattle.theory.specs.MatchingStates.{no-values, frames-set, frames-open, frames-temporaries}
+use Rattle.theory.specs.MatchingStates.{frames-temporary, frames-put, frames-close, close-block}
+use Rattle.theory.specs.MatchingStates.{null-alike, choose-alike, last-alike, last-of-more}
+use Rattle.theory.specs.MatchingStates.{one-temporary, two-temporaries, more-temporaries}
+use Rattle.theory.specs.MatchingStates.{temporaries-match}
 use Rattle.theory.specs.PlainSteps.{More, run-append}
 use Rattle.theory.specs.TranslationEquations.{plain-true, plain-false, plain-null, plain-read}
 use Rattle.theory.specs.TranslationEquations.{plain-is-null, plain-get, plain-cast-is, plain-assign}
 use Rattle.theory.specs.TranslationEquations.{plain-set, plain-call, plain-choose, plain-block}
-use Rattle.theory.specs.TranslationEquations.{plain-nil}
-use Rattle.theory.specs.TranslationEquations.{plain-cons, plain-no-arguments, plain-arguments}
-use Rattle.theory.specs.PlainActs.{slot-found, CallsMatch, read-acts, new-acts, get-acts, set-acts}
-use Rattle.theory.specs.PlainActs.{cast-acts, change-acts, call-acts}
-
--- Z of values that correspond; J on a truth value; the last of values that correspond.
-null-alike : {ids : List ℕ} {v v′ : Value} → Corresponds ids v v′
-    → Corresponds ids (truth (is-null-value v)) (truth (is-null-value v′))
-null-alike both-null = same-truth
-null-alike same-truth = same-truth
-null-alike (in-place e) = same-truth
-
-choose-alike : {W : World} {A : Value → State → Value → State → Type 0} {ids : List ℕ} {h : List Object}
-    {v v′ : Value}
-    → Corresponds ids v v′ → (s t : State) {x y x′ y′ : Out Value} → Fits W h v (known bool)
-    → Alike A (Ended W) x x′ → Alike A (Ended W) y y′
-    → Alike A (Ended W) (need-truth v s λ b. choice b (λ _. x) (λ _. y))
-    (need-truth v′ t λ b. choice b (λ _. x′) (λ _. y′))
-choose-alike both-null s t (f-null n) a b = false≢ n
-choose-alike (same-truth {b = true}) s t f a b = a
-choose-alike (same-truth {b = false}) s t f a b = b
-
-last-alike : {ids : List ℕ} {v v′ : Value} {vs vs′ : List Value} → Corresponds ids v v′
-    → All2 (Corresponds ids) vs vs′ → Corresponds ids (last-value v vs) (last-value v′ vs′)
-last-alike r a-nil = r
-last-alike r (a-cons q qs) = last-alike q qs
-
-last-of-more : (u : Value) (vs : List Value) (x : Value) → last-value u (vs ++ (x ∷ [])) ≡ x
-last-of-more u [] x = refl
-last-of-more u (v ∷ vs) x = last-of-more v vs x
-
--- One temporary, two, and one for each parameter after one.
-one-temporary : {ids : List ℕ} {μ : Mask} {l l′ : List Value} → SlotsMatch ids (false ∷ []) μ l l′ → l ≡ []
-one-temporary (temporary no-slots) = refl
-
-two-temporaries : {ids : List ℕ} {μ : Mask} {l l′ : List Value} → SlotsMatch ids (false ∷ false ∷ []) μ l l′
-    → l ≡ []
-two-temporaries (temporary (temporary no-slots)) = refl
-
-more-temporaries : {ids : List ℕ} {μ : Mask} {l l′ : List Value} (ts : List DeclaredType)
-    → SlotsMatch ids (false ∷ temporaries ts) μ l l′ → l ≡ []
-more-temporaries ts (temporary r) = temporaries-only ts _ _ _ r
-
-temporaries-match : (ids : List ℕ) (ts : List DeclaredType)
-    → SlotsMatch ids (temporaries ts) (map some (map initial (map plain-type ts))) []
-    (map initial (map plain-type ts))
-temporaries-match ids [] = no-slots
-temporaries-match ids (t ∷ ts) = temporary (temporaries-match ids ts)
+use Rattle.theory.specs.TranslationEquations.{plain-nil, plain-cons, plain-no-arguments}
+use Rattle.theory.specs.TranslationEquations.{plain-arguments}
+use Rattle.theory.specs.PlainActs.{slot-found, read-acts, new-acts, get-acts, set-acts, cast-acts}
+use Rattle.theory.specs.PlainCall.{CallsMatch, call-acts}
+use Rattle.theory.specs.PlainChange.{change-acts}
 
 module _ (W W′ : World) (P : IsPlain W W′) (𝓛 : Laws W) (𝓜 : More W) where
-  module _ (invoke invoke′ : Method → State → Out Value) (C : CallOk W 𝓛 invoke)
+  module _ (invoke invoke′ : Method → State → Out Value) (C : CallOk W invoke)
       (D : CallsMatch W W′ P 𝓛 𝓜 invoke invoke′) where
     abbrev plain : Expr → State → Out Value
     plain e t = eval W′ without-limits invoke′ e t
@@ -114,29 +71,14 @@ module _ (W W′ : World) (P : IsPlain W W′) (𝓛 : Laws W) (𝓜 : More W) w
           → FitsFrame W (s .heap) (s .frame) γ → StatesMatch W ids sh μ z s t
           → Alike (After W ids (t .heap) sh μ z) (Ended W) (eval W without-limits invoke e s)
           (eval W′ without-limits invoke′ (translate W e γ sh) t)
-      simulates literal-true {γ} type-true ids sh μ z s t H S R = rw (plain-true W γ sh)
-          (alike-ok {s = entered s} {t = entered t} (record {
-            ids′ = ids;
-            persists = persists-same;
-            value = same-truth;
-            match = spare 83 (both-enter R);
-          }))
-      simulates literal-false {γ} type-false ids sh μ z s t H S R = rw (plain-false W γ sh)
-          (alike-ok {s = entered s} {t = entered t} (record {
-            ids′ = ids;
-            persists = persists-same;
-            value = same-truth;
-            match = spare 83 (both-enter R);
-          }))
-      simulates literal-null {γ} type-null ids sh μ z s t H S R = rw (plain-null W γ sh)
-          (alike-ok {s = entered s} {t = entered t} (record {
-            ids′ = ids;
-            persists = persists-same;
-            value = both-null;
-            match = spare 83 (both-enter R);
-          }))
+      simulates literal-true {γ} type-true ids sh μ z s t H S R =
+          rw (plain-true W γ sh) (literal-alike same-truth R)
+      simulates literal-false {γ} type-false ids sh μ z s t H S R =
+          rw (plain-false W γ sh) (literal-alike same-truth R)
+      simulates literal-null {γ} type-null ids sh μ z s t H S R =
+          rw (plain-null W γ sh) (literal-alike both-null R)
       simulates (slot k) {γ} (type-slot {s = u} e) ids sh μ z s t H S R =
-          let x = at W 𝓛 (s .frame) γ S k u e in
+          let x = at (s .frame) γ S k u e in
           rw (plain-read W k γ sh, x .is)
           (read-acts W W′ P 𝓛 𝓜 invoke′ k ids sh μ z s t (x .v) R (slot-found (R .frames) k (x .v) (x .is)))
       simulates (is-null e) {γ} (type-is-null d n) ids sh μ z s t H S R = rw (plain-is-null W e γ sh)
@@ -153,7 +95,7 @@ module _ (W W′ : World) (P : IsPlain W W′) (𝓛 : Laws W) (𝓜 : More W) w
           (λ r. bind (bind (bind r (λ v t. do-get W′ imp-field v t)) (λ v t. do-cast W′ (plain-class c) v t))
           (λ v t. do-get W′ f v t))
           (λ x t. refl)
-          (alike-with (soundE W 𝓛 without-limits invoke C e d (entered s) H S)
+          (alike-with (soundE 𝓛 without-limits invoke C e d (entered s) H S)
           (simulates e d ids sh μ (81 + z) (entered s) (entered (entered (entered t))) H S
           (entering 3 R (omega arith) refl refl refl (omega arith)))) λ v s₁ v′ t₁ p.
           get-acts W W′ P 𝓛 𝓜 invoke′ f c u v v′ s₁ t₁ (p .0 .heapOk) (p .0 .fitsOk) i (p .1))
@@ -171,7 +113,7 @@ module _ (W W′ : World) (P : IsPlain W W′) (𝓛 : Laws W) (𝓜 : More W) w
           (λ _. plain (get id-field (implementor c (suc n))) t)))
           (λ v t. ok (v ∷ []) t)) done)
           (λ x t. refl)
-          (alike-with (soundE W 𝓛 without-limits invoke C e d (entered s) H S)
+          (alike-with (soundE 𝓛 without-limits invoke C e d (entered s) H S)
           (simulates e d ids (sh ++ (false ∷ [])) (μ ++ (some null ∷ [])) (80 + z) (entered s)
           (entered (entered (entered t₀))) H S
           (record {
@@ -193,7 +135,7 @@ module _ (W W′ : World) (P : IsPlain W W′) (𝓛 : Laws W) (𝓜 : More W) w
       simulates (new c) {γ} (type-new i) ids sh μ z s t H S R =
           new-acts W W′ P 𝓛 𝓜 invoke′ c γ ids sh μ z s t i R
       simulates (change k d) {γ} (type-change {c} {s = u} i e q f) ids sh μ z s t H S R =
-          let x = at W 𝓛 (s .frame) γ S k u e in
+          let x = at (s .frame) γ S k u e in
           let fit : Fits W (s .heap) (x .v) (known (class c))
           = subst (λ (y : DeclaredType). Fits W (s .heap) (x .v) (known y)) q (x .fit) in
           rw (x .is)
@@ -228,7 +170,7 @@ module _ (W W′ : World) (P : IsPlain W W′) (𝓛 : Laws W) (𝓜 : More W) w
           (λ v t. bind (plain-all (cons (assign (suc (suc n)) (translate W e′ γ₁ sh′)) act) t)
           (λ vs t. ok (v ∷ vs) t))) done)
           (λ x t. refl)
-          (alike-with (soundE W 𝓛 without-limits invoke C e d (entered s) H S)
+          (alike-with (soundE 𝓛 without-limits invoke C e d (entered s) H S)
           (simulates e d ids sh′ (μ ++ (some null ∷ some (initial (plain-type u)) ∷ [])) (82 + z) (entered s)
           (entered t₀) H S
           (record {
@@ -241,7 +183,7 @@ module _ (W W′ : World) (P : IsPlain W W′) (𝓛 : Laws W) (𝓜 : More W) w
           (λ r. bind (bind (bind (bind r (λ v t. ok v (with-frame (with-slot (t .frame) (suc (suc n)) v) t)))
           (λ v t. bind (plain-all act t) (λ vs t. ok (v ∷ vs) t))) (λ vs t. ok (v′ ∷ vs) t)) done)
           (λ x t. refl)
-          (alike-with (soundE W 𝓛 without-limits invoke C e′ d′ s₁ (p .0 .heapOk) (p .0 .slotsOk))
+          (alike-with (soundE 𝓛 without-limits invoke C e′ d′ s₁ (p .0 .heapOk) (p .0 .slotsOk))
           (simulates e′ d′ (p .1 .ids′) sh′ (μ ++ (some v′ ∷ some (initial (plain-type u)) ∷ [])) (81 + z) s₁
           (entered t₁′) (p .0 .heapOk) (p .0 .slotsOk)
           (record {
@@ -258,7 +200,7 @@ module _ (W W′ : World) (P : IsPlain W W′) (𝓛 : Laws W) (𝓜 : More W) w
           (λ vs t. ok (v′ ∷ vs) t)) done)
           (λ x t. refl)
           (set-acts W W′ P 𝓛 𝓜 invoke′ f (apply-class W φ₂ c) n u v v′ w w′ s₂ t₂′ (q .0 .heapOk)
-          (fits-evolves W 𝓛 (q .0 .evolves) (p .0 .fitsOk)) i (q .1 .ids′) X₂
+          (fits-evolves 𝓛 (q .0 .evolves) (p .0 .fitsOk)) i (q .1 .ids′) X₂
           (record {
             frames = S₂;
             core = spend 0 t₂′ (q .1 .match .core) (omega arith) refl refl (omega arith);
@@ -282,7 +224,7 @@ module _ (W W′ : World) (P : IsPlain W W′) (𝓛 : Laws W) (𝓜 : More W) w
           (λ v t. bind (plain-all (translate-arguments W es γ₁ (sh ++ sh₂) (suc (suc n)) ⊕ act) t)
           (λ vs t. ok (v ∷ vs) t))) done)
           (λ x t. refl)
-          (alike-with (soundE W 𝓛 without-limits invoke C e d (entered s) H S)
+          (alike-with (soundE 𝓛 without-limits invoke C e d (entered s) H S)
           (simulates e d ids (sh ++ sh₂) (μ ++ (some null ∷ map some xs)) (82 + z) (entered s) (entered t₀) H
           S
           (record {
@@ -300,7 +242,7 @@ module _ (W W′ : World) (P : IsPlain W W′) (𝓛 : Laws W) (𝓜 : More W) w
           (λ r. bind (bind (bind r (λ vs t. bind (plain-all act t) (λ ws t. ok (vs ++ ws) t)))
           (λ vs t. ok (v′ ∷ vs) t)) done)
           (λ x t. refl)
-          (alike-with (soundEs W 𝓛 without-limits invoke C es d′ s₁ (p .0 .heapOk) (p .0 .slotsOk))
+          (alike-with (soundEs 𝓛 without-limits invoke C es d′ s₁ (p .0 .heapOk) (p .0 .slotsOk))
           (simulates-arguments es d′ (p .1 .ids′) (sh ++ sh₂) (μ ++ (some v′ ∷ [])) xs (4 + length ps + z) s₁
           t₁′
           (ln ∙ sym (all-fit-length W us ps j)) (p .0 .heapOk) (p .0 .slotsOk)
@@ -320,7 +262,7 @@ module _ (W W′ : World) (P : IsPlain W W′) (𝓛 : Laws W) (𝓜 : More W) w
           (λ x t. refl)
           (call-acts W W′ P 𝓛 𝓜 invoke invoke′ D m (apply-class W φ₂ c) n M v v′ vs vs′ us s₂ t₂
           (q .0 .heapOk)
-          (fits-evolves W 𝓛 (q .0 .evolves) (p .0 .fitsOk)) (q .0 .fitsOk) j i (q .1 .ids′)
+          (fits-evolves 𝓛 (q .0 .evolves) (p .0 .fitsOk)) (q .0 .fitsOk) j i (q .1 .ids′)
           (persists-trans (p .1 .persists) (q .1 .persists)) R₂
           (corresponds-later (q .1 .persists) (p .1 .value))
           (q .1 .values) (frames-temporary μ _ 0 n v′ (R₂ .frames) N (nth₀ _ _))
@@ -330,7 +272,7 @@ module _ (W W′ : World) (P : IsPlain W W′) (𝓛 : Laws W) (𝓜 : More W) w
           (close-block sh₂ (some v′ ∷ map some vs′) (t .frame) (λ ids l l′ r. more-temporaries ps r)
           (R .frames) a)))
       simulates (choose e x y) (type-choose d d′ d″ j) ids sh μ z s t H S R = rw (plain-choose W x y sh d)
-          (alike-bind (alike-with (soundE W 𝓛 without-limits invoke C e d (entered s) H S)
+          (alike-bind (alike-with (soundE 𝓛 without-limits invoke C e d (entered s) H S)
           (simulates e d ids sh μ (83 + z) (entered s) (entered t) H S (both-enter R))) λ v s₁ v′ t₁ p.
           choose-alike (p .1 .value) s₁ t₁ (p .0 .fitsOk)
           (alike-mono (simulates x d′ (p .1 .ids′) sh μ z s₁ t₁ (p .0 .heapOk) (p .0 .slotsOk)
@@ -343,7 +285,7 @@ module _ (W W′ : World) (P : IsPlain W W′) (𝓛 : Laws W) (𝓜 : More W) w
           (alike-bind (simulates-all es d ids (sh ++ variables ts) (μ ++ no-values ts) (83 + z)
           (with-frame (opened (s .frame) (map initial ts)) (entered s))
           (with-frame (opened (t .frame) (map initial (map plain-type ts))) (entered t)) H
-          (record { this = S .this; slots = all2-append (S .slots) (locals-fit W 𝓛 _ ts) })
+          (record { this = S .this; slots = all2-append (S .slots) (locals-fit _ ts) })
           (record {
             frames = frames-open (R .frames) ts;
             core = recount (R .core) refl refl refl refl (omega (arith, R .core)) (omega (arith, R .core));
@@ -382,7 +324,7 @@ module _ (W W′ : World) (P : IsPlain W W′) (𝓛 : Laws W) (𝓜 : More W) w
           (λ r. bind (bind r (λ v t. ok v (with-frame (with-slot (t .frame) (suc n) v) t)))
           (λ v t. bind (plain-all (translate-arguments W es γ₁ sh (suc (suc n))) t) (λ vs t. ok (v ∷ vs) t)))
           (λ x t. refl)
-          (alike-with (soundE W 𝓛 without-limits invoke C e₁ d s H S)
+          (alike-with (soundE 𝓛 without-limits invoke C e₁ d s H S)
           (simulates e₁ d ids sh (μ ++ map some (x ∷ xs)) (length xs + z) s (entered t) H S
           (record {
             frames = R .frames;
@@ -415,7 +357,7 @@ module _ (W W′ : World) (P : IsPlain W W′) (𝓛 : Laws W) (𝓜 : More W) w
       simulates-all nil {γ} types-nil ids sh μ z s t H S R = rw (plain-nil W γ sh)
           (alike-ok (record { ids′ = ids; persists = persists-same; match = R; values = a-nil }))
       simulates-all (cons e es) (types-cons d d′) ids sh μ z s t H S R = rw (plain-cons W es sh d)
-          (alike-bind (alike-with (soundE W 𝓛 without-limits invoke C e d s H S)
+          (alike-bind (alike-with (soundE 𝓛 without-limits invoke C e d s H S)
           (simulates e d ids sh μ z s t H S R))
           λ v s₁ v′ t₁ p.
           alike-bind (simulates-all es d′ (p .1 .ids′) sh μ z s₁ t₁ (p .0 .heapOk) (p .0 .slotsOk)
@@ -441,7 +383,7 @@ module _ (W W′ : World) (P : IsPlain W W′) (𝓛 : Laws W) (𝓜 : More W) w
   calls-simulate (suc n) = record {
     alike = λ M B ids z s t H S c μ F.
         alike-mono (simulates (λ M s. call-at W without-limits n M s) (λ M t. call-at W′ without-limits n M t)
-        (calls-ok W 𝓛 without-limits n) (calls-simulate n) (M .body) (B .types) ids
+        (calls-ok 𝓛 without-limits n) (calls-simulate n) (M .body) (B .types) ids
         (variables (M .parameters)) μ z s t
         H S (record { core = c; frames = F }))
         λ v s′ v′ t′ a. record {

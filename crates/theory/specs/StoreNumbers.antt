@@ -18,8 +18,8 @@ use Rattle.language.specs.Evaluation.{Value, null, truth, object, Object, State
 use Rattle.language.specs.Store.{value-number, value-of-number, object-numbers, heap-numbers, heap-of-numbers}
 use Rattle.language.specs.Store.{capacity, stored}
 use Rattle.language.specs.WellFormed.{Each, each-nil, each-cons, ProgramWell}
-use Rattle.theory.specs.Sound.{HeapOk, Good, Fine, fine-null, fine-cast, fine-deep, fine-spent}
-use Rattle.theory.specs.Sound.{fine-full}
+use Rattle.theory.specs.Fitting.{HeapOk, Good, Fine, fine-null, fine-cast, fine-deep, fine-spent}
+use Rattle.theory.specs.Fitting.{fine-full}
 use Rattle.theory.specs.MoreLookups.{well-formed-more}
 use Rattle.theory.specs.Members.{run-sound}
 use Rattle.theory.specs.Cut.{final}

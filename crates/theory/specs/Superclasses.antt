@@ -17,7 +17,7 @@ use Rattle.language.specs.Program.{is-plain, is-state, class-at, kind-at, field
 use Rattle.language.specs.Program.{nearest-at}
 use Rattle.language.specs.WellFormed.{Extends, plain-object, plain-plain, root-object, root-plain, state-root}
 use Rattle.language.specs.WellFormed.{state-state, Subclass, itself, below-object, above, Nearest}
-use Rattle.theory.specs.Sound.{false≢, or-inl, or-inr, or-inv}
+use Rattle.language.proofs.Booleans.{false≢, or-inl, or-inr, or-inv}
 
 -- What stands at one place is one thing.
 pub one-class : {a b : Class} {o : Option Class} → o ≡ some a → o ≡ some b → a ≡ b
@@ -270,7 +270,10 @@ module _ (P : List Class) where
         root-up (below-object p) (root-above c e s x) y = no-class p e
         root-up (above c p a) (root-none e) y = no-class e p
         root-up {k} (above c p a) (root-stays b q s) y =
-            inr (root-of-other (λ x e. plain-no-state (x .kind) (above-plain k c b p q s a x e)) y, above c p a)
+            inr (
+              root-of-other (λ x e. plain-no-state (x .kind) (above-plain k c b p q s a x e)) y,
+              above c p a,
+            )
         root-up {r} (above c p a) (root-above b q s x) y =
             root-up {r = r} a (subst (λ (c : Class). RootOf (c .super) r) (one-class q p) x) y
 

@@ -11,19 +11,16 @@ use Rattle.language.specs.Results.{Checked, accept, refuse, Pass, passed, earli
 use Rattle.language.specs.Results.{accept-injective, accept≢refuse}
 use Rattle.language.specs.Rows.{row-of, rows-of, numbers-of}
 use Rattle.language.specs.Tree.{Expr, literal-true, literal-false, literal-null, slot, is-null, get, cast}
-use Rattle.language.specs.Tree.{new}
-use Rattle.language.specs.Tree.{change, assign, set, call, choose, block, Exprs, nil, cons, Declaration}
-use Rattle.language.specs.Tree.{Class}
-use Rattle.language.specs.Tree.{Program, flatten-program}
+use Rattle.language.specs.Tree.{new, change, assign, set, call, choose, block, Exprs, nil, cons, Declaration}
+use Rattle.language.specs.Tree.{Class, Program, flatten-program}
 use Rattle.language.specs.Program.{world}
 use Rattle.language.specs.Form.{form}
 use Rattle.language.specs.Headings.{headings}
 use Rattle.language.specs.WellFormed.{Each, each-nil, each-cons, NodeInForm, NodesInForm, form-true}
-use Rattle.language.specs.WellFormed.{form-false}
-use Rattle.language.specs.WellFormed.{form-null, form-slot, form-is-null, form-get, form-cast, form-new}
-use Rattle.language.specs.WellFormed.{form-change, form-assign, form-set, form-call, form-choose, form-block}
-use Rattle.language.specs.WellFormed.{form-nil, form-cons, BodyInForm, form-body, MethodInForm, ClassInForm}
-use Rattle.language.specs.WellFormed.{ProgramInForm}
+use Rattle.language.specs.WellFormed.{form-false, form-null, form-slot, form-is-null, form-get, form-cast}
+use Rattle.language.specs.WellFormed.{form-new, form-change, form-assign, form-set, form-call, form-choose}
+use Rattle.language.specs.WellFormed.{form-block, form-nil, form-cons, BodyInForm, form-body, MethodInForm}
+use Rattle.language.specs.WellFormed.{ClassInForm, ProgramInForm}
 use Rattle.language.specs.Translation.{plain-program, within-limits, names-free, translation}
 use Rattle.theory.specs.TreeRows.{length-program}
 use Rattle.theory.specs.Whole.{form-flat}

@@ -9,8 +9,7 @@ use Rattle.language.specs.Limits.{identity-class, imp-field}
 use Rattle.language.specs.Frames.{opened}
 use Rattle.language.specs.Tree.{DeclaredType, class, ExprType, known, Expr, literal-true, literal-false}
 use Rattle.language.specs.Tree.{literal-null, slot, is-null, get, cast, new, change, assign, set, call}
-use Rattle.language.specs.Tree.{choose}
-use Rattle.language.specs.Tree.{block, Exprs, nil, cons}
+use Rattle.language.specs.Tree.{choose, block, Exprs, nil, cons}
 use Rattle.language.specs.World.{Method, World, field-type}
 use Rattle.language.specs.Effects.{apply-class}
 use Rattle.language.specs.Typing.{Environment, fresh-slot}

@@ -10,34 +10,29 @@ use borrow.Author.Tests.{leb-true}
 use native.Mathlib.Omega.{arith}
 use Rattle.language.specs.Limits.{Most, of-check, of-translator, id-field, imp-field, limit-refusal}
 use Rattle.language.specs.Limits.{room-refusal, no-line}
-use Rattle.language.specs.Results.{Checked, accept, bind-checked, require, bind-checked-inv}
-use Rattle.language.specs.Results.{require-inv, accept-injective, accept≢refuse}
+use Rattle.language.specs.Results.{Checked, accept, bind-checked, require, bind-checked-inv, require-inv}
+use Rattle.language.specs.Results.{accept-injective, accept≢refuse}
 use Rattle.language.specs.Rows.{rows-of}
 use Rattle.language.specs.Tree.{DeclaredType, Field, Declaration, method-lines, Class, class-lines}
-use Rattle.language.specs.Tree.{classes-lines}
-use Rattle.language.specs.Tree.{Program}
+use Rattle.language.specs.Tree.{classes-lines, Program}
 use Rattle.language.specs.World.{place, is-declared, is-declared-type}
 use Rattle.language.specs.Program.{declared, kind-at, is-root-class, is-state-type, world}
 use Rattle.language.specs.Form.{form}
 use Rattle.language.specs.Headings.{may-extend, is-some, may-override, check-fields, check-parameters}
-use Rattle.language.specs.Headings.{check-effects}
-use Rattle.language.specs.Headings.{check-methods, check-class, check-classes, headings}
+use Rattle.language.specs.Headings.{check-effects, check-methods, check-class, check-classes, headings}
 use Rattle.language.specs.Verdict.{whole-rows, three-passes, check}
-use Rattle.language.specs.Translation.{within-limits, fields-free, names-free, translation}
-use Rattle.language.specs.Translation.{translation-into}
+use Rattle.language.specs.Translation.{within-limits, fields-free, names-free, translation, translation-into}
 use Rattle.theory.specs.Translatable.{translator-tighter}
 use Rattle.theory.specs.Listed.{LineOf, FormRefusal, refuses-line, refuses-limit, refuses-place}
-use Rattle.theory.specs.Listed.{HeadingRefusal}
-use Rattle.theory.specs.Listed.{refuses-fields, refuses-heading-name, refuses-kind, refuses-override}
-use Rattle.theory.specs.Listed.{TranslatorRefusal, by-check, over-limit, reserved-name, by-translator}
-use Rattle.theory.specs.Listed.{no-room}
-use Rattle.theory.specs.Listed.{ListedTranslation, is-translated, is-not-translated}
+use Rattle.theory.specs.Listed.{HeadingRefusal, refuses-fields, refuses-heading-name, refuses-kind}
+use Rattle.theory.specs.Listed.{refuses-override, TranslatorRefusal, by-check, over-limit}
+use Rattle.theory.specs.Listed.{reserved-name, by-translator, no-room, ListedTranslation, is-translated}
+use Rattle.theory.specs.Listed.{is-not-translated}
 use Rattle.theory.specs.Refusals.{Any, Gives, gives, refuses, RefusesOnly, answers, refuses-as}
-use Rattle.theory.specs.Refusals.{only-mono, only-bind}
-use Rattle.theory.specs.Refusals.{only-require, only-earlier}
+use Rattle.theory.specs.Refusals.{only-mono, only-bind, only-require, only-earlier}
 use Rattle.theory.specs.FormRefusals.{form-refusals}
 use Rattle.theory.specs.PassRefusals.{heading-refusals}
-use Rattle.theory.specs.TighterForm.{Cuts, same, over, unsaid, cuts-bind, cuts-require, cuts-limit}
+use Rattle.theory.specs.TighterNodes.{Cuts, same, over, unsaid, cuts-bind, cuts-require, cuts-limit}
 use Rattle.theory.specs.TighterForm.{form-cuts}
 use Rattle.theory.specs.ListedAnswers.{rows-read, check-refuses}
 

@@ -8,10 +8,9 @@ use Rattle.language.specs.Rows.{C-class, F-field, M-method, P-parameter, X-effe
 use Rattle.language.specs.Rows.{written, Row, row-of}
 use Rattle.language.specs.Tree.{DeclaredType, type-number, Expr, literal-true, literal-false, literal-null}
 use Rattle.language.specs.Tree.{slot, is-null, get, cast, new, change, assign, set, call, choose, block}
-use Rattle.language.specs.Tree.{Exprs}
-use Rattle.language.specs.Tree.{nil, cons, size, sizes, flatten, flattens, kind-number, Field, Declaration}
-use Rattle.language.specs.Tree.{Class, Program, heading-lines, method-lines, methods-lines, class-lines}
-use Rattle.language.specs.Tree.{classes-lines, flatten-methods, flatten-classes, flatten-program}
+use Rattle.language.specs.Tree.{Exprs, nil, cons, size, sizes, flatten, flattens, kind-number, Field}
+use Rattle.language.specs.Tree.{Declaration, Class, Program, heading-lines, method-lines, methods-lines}
+use Rattle.language.specs.Tree.{class-lines, classes-lines, flatten-methods, flatten-classes, flatten-program}
 
 abbrev pub field-row : Field → Row
 field-row f = row-of (written F-field (type-number (f .type)) (f .name))

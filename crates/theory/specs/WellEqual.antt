@@ -2,7 +2,7 @@
 use mathlib.Core.Path.{_≡_, refl, ap, ap₂}
 use Prim.Native.Nat.{ℕ, zero, suc, _+_, _≤_, _<_}
 use mathlib.Core.Option.{Option, none, some}
-use mathlib.Core.Bool.{Bool, true, false, not, _&&_}
+use mathlib.Core.Bool.{true, false, not}
 use mathlib.Core.List.{List, [], _∷_, _++_}
 use lib.ListN.{length}
 use lib.Dec.{leb, ltb}
@@ -26,18 +26,11 @@ use Rattle.language.specs.Rules.{Declared, declared-nil, declared-cons}
 use Rattle.language.specs.WellFormed.{Extends, plain-object, plain-plain, root-object, root-plain, state-root}
 use Rattle.language.specs.WellFormed.{state-state, FieldsWell, well-nil, well-cons, EffectWell, well-none}
 use Rattle.language.specs.WellFormed.{well-root, Overrides, first, again, MethodWell, MethodsWell}
-use Rattle.language.specs.WellFormed.{methods-nil}
-use Rattle.language.specs.WellFormed.{methods-cons, ClassesWell, classes-nil, classes-cons, ProgramWell}
-use Rattle.theory.specs.Equal.{derive, complete, false≢}
+use Rattle.language.specs.WellFormed.{methods-nil, methods-cons, ClassesWell, classes-nil, classes-cons}
+use Rattle.language.specs.WellFormed.{ProgramWell}
+use Rattle.language.proofs.Booleans.{false≢, and-inv, not-true}
+use Rattle.theory.specs.Equal.{derive, complete}
 use Rattle.theory.specs.EffectLaws.{lines-within-is, member-of-all}
-
-not-true : (b : Bool) → not b ≡ true → b ≡ false
-not-true true e = false≢ e
-not-true false e = refl
-
-and-true : (a b : Bool) → (a && b) ≡ true → (a ≡ true) × (b ≡ true)
-and-true true b e = (refl, e)
-and-true false b e = false≢ e
 
 some-none : {A : Type 0} (o : Option A) → not (is-some o) ≡ true → o ≡ none
 some-none none e = refl
@@ -72,7 +65,7 @@ unfolding same-types
 same-types-are [] [] e = refl
 same-types-are [] (u ∷ us) e = false≢ e
 same-types-are (t ∷ ts) [] e = false≢ e
-same-types-are (t ∷ ts) (u ∷ us) e = let p = and-true (same-type t u) (same-types ts us) e in
+same-types-are (t ∷ ts) (u ∷ us) e = let p = and-inv (same-type t u) (same-types ts us) e in
     ap₂ (λ (x : DeclaredType) (xs : List DeclaredType). x ∷ xs) (same-type-is t u (p .0))
     (same-types-are ts us (p .1))
 
@@ -84,8 +77,8 @@ root-kind (unknown n) e = false≢ e
 
 overrides : (P : List Class) (m : Declaration) (o : Option Method) → may-override m o ≡ true → Overrides P m o
 overrides P m none e = first
-overrides P m (some M) e = let p = and-true (same-type (m .result) (M .result)) _ e in
-    let q = and-true (same-types (m .parameters) (M .parameters)) _ (p .1) in
+overrides P m (some M) e = let p = and-inv (same-type (m .result) (M .result)) _ e in
+    let q = and-inv (same-types (m .parameters) (M .parameters)) _ (p .1) in
     again M (same-type-is _ _ (p .0)) (same-types-are _ _ (q .0)) (lines-within-is _ _ (q .1))
 
 module _ (P : List Class) where
@@ -112,7 +105,7 @@ module _ (P : List Class) where
   unfolding check-effects is-root-class
   effects-well last at [] u q = well-none
   effects-well last at (c ∷ cs) u q = require-inv _ _ _ _ q λ e₁ q. require-inv _ _ _ _ q λ e₂ q.
-      let p = and-true (given (class-at P c) false λ d. is-root (d .kind)) (ltb last c) e₂ in
+      let p = and-inv (given (class-at P c) false λ d. is-root (d .kind)) (ltb last c) e₂ in
       go (class-at P c) refl (p .0) (ltb-true last c (p .1)) (effects-well c (at + 1) cs u q)
     where
       go : (o : Option Class) → class-at P c ≡ o → given o false (λ d. is-root (d .kind)) ≡ true → last < c

@@ -15,11 +15,10 @@ use Rattle.language.specs.Tree.{DeclaredType, type-number, Expr, block, Exprs, 
 use Rattle.language.specs.Tree.{kind-number, Field, Declaration, Class, Program, heading-lines, method-lines}
 use Rattle.language.specs.Tree.{methods-lines, class-lines, classes-lines, flatten-program}
 use Rattle.language.specs.Form.{read, done, after, if-letter, maybe, body, fields, parameters, effects}
-use Rattle.language.specs.Form.{method}
-use Rattle.language.specs.Form.{methods, classes, at-end, form}
+use Rattle.language.specs.Form.{method, methods, classes, at-end, form}
 use Rattle.language.specs.WellFormed.{TypeInForm, Each, each-nil, each-cons, NodeInForm, BodyInForm}
-use Rattle.language.specs.WellFormed.{form-body}
-use Rattle.language.specs.WellFormed.{FieldInForm, MethodInForm, ClassInForm, ProgramInForm, form-block}
+use Rattle.language.specs.WellFormed.{form-body, FieldInForm, MethodInForm, ClassInForm, ProgramInForm}
+use Rattle.language.specs.WellFormed.{form-block}
 use Rattle.theory.specs.Back.{on-line, taken, size-pos, node-flat}
 use Rattle.theory.specs.TreeRows.{field-row, parameter-row, effect-row, heading, methods-rows}
 use Rattle.theory.specs.TreeRows.{classes-rows, start-rows, program-rows}

@@ -22,8 +22,7 @@ use Rattle.language.specs.Tree.{flatten-program}
 use Rattle.language.specs.Form.{Read, read, done, after, class-of, if-letter, record-on, maybe, body, fields}
 use Rattle.language.specs.Form.{parameters, effects, method, methods, classes, at-end, form}
 use Rattle.language.specs.WellFormed.{TypeInForm, Each, each-nil, each-cons, NodeInForm, BodyInForm}
-use Rattle.language.specs.WellFormed.{form-body}
-use Rattle.language.specs.WellFormed.{FieldInForm, MethodInForm, ClassInForm, ProgramInForm}
+use Rattle.language.specs.WellFormed.{form-body, FieldInForm, MethodInForm, ClassInForm, ProgramInForm}
 use Rattle.theory.specs.TreeRows.{field-row, parameter-row, effect-row, method-rows, methods-rows}
 use Rattle.theory.specs.TreeRows.{classes-rows, program-rows, length-program}
 use Rattle.theory.specs.FormBack.{after-inv, cond-some, letter-is, zero-is, number-back, type-in-form}
