@@ -14,6 +14,7 @@ use lib.ListN.{length, getD, set, length-set}
 use lib.Seq.{getD-set-same, getD-set-other}
 use Rattle.language.specs.Effects.{effect-of, join}
 use Rattle.language.specs.Layout.{Run}
+use Rattle.bodies.proofs.Typing.{the-type}
 use Rattle.bodies.specs.declared.Typing.{Typing}
 use Rattle.bodies.specs.declared.Typing.the-variants.{Bool as bool-case, Class, Null, Refusal}
 use Rattle.bodies.specs.declared.Answer.{Answer}
@@ -26,7 +27,6 @@ use Rattle.bodies.specs.Nodes.{PreField, refusal, joined-case, field-in,
 use Rattle.bodies.specs.Acts.{CountOf, can-change-in, changed-answer, number-after, PostChange}
 use Rattle.bodies.specs.Acts.{put-answer, put-noted, put, put-classes, method-place, NoClass}
 use Rattle.bodies.specs.Acts.{joined-answer, chosen, PostChoice}
-use Rattle.bodies.proofs.Typing.{the-type}
 use Rattle.bodies.proofs.Laws.{known-class}
 use Rattle.bodies.proofs.LineLaws.{refused-not}
 

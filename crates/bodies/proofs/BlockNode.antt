@@ -1,4 +1,5 @@
--- The node B: the locals it opens, and that what its function answers is what the definition says. Assumes nothing.
+-- The node B: the locals it opens, and that what its function answers is what the definition says.
+-- Assumes nothing.
 use mathlib.Core.Path.{_≡_, refl, sym, ap, ap₂, subst, _∙_}
 use mathlib.Core.Bool.{Bool, true, false, cond, false≢true}
 use mathlib.Core.Option.{some}

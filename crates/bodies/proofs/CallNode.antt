@@ -1,4 +1,5 @@
--- The node Q: what its function answers, notes and leaves in the slots is what the definition says. Assumes nothing.
+-- The node Q: what its function answers, notes and leaves in the slots is what the definition says.
+-- Assumes nothing.
 use mathlib.Core.Path.{_≡_, refl, sym, ap, ap₂, subst, _∙_}
 use mathlib.Core.Bool.{true, false}
 use mathlib.Core.Option.{Option, none, some}

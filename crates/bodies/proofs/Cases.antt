@@ -2,13 +2,13 @@
 use mathlib.Core.Path.{_≡_, refl, sym, ap, _∙_}
 use mathlib.Core.Bool.{Bool, true, false}
 use mathlib.Core.List.{List, [], _∷_}
+use mathlib.Core.Logic.{⊎-elim}
 use Prim.Native.Nat.{ℕ, suc, _+_, _*_, _≤_, _<_}
 use borrow.Author.Tests.{eq-eqb, ne-eqb, le-leb, lt-leb, lt-ltb, le-ltb}
-use lib.ListN.{getD, set}
-use mathlib.Core.Logic.{⊎-elim}
+use borrow.Author.Tests.{eqb-false}
 use types.Run.{OneOf}
 use denote.Enum.Declared.{tagOf}
-use borrow.Author.Tests.{eqb-false}
+use lib.ListN.{getD, set}
 use lib.Dec.{eqb}
 use Rattle.bodies.proofs.Typing.{the-type}
 use Rattle.bodies.specs.declared.Typing.{Typing}

@@ -1,5 +1,5 @@
--- What the form and the heading pass give to the pass over bodies: limits of nodes, declared types of headings.
--- Assumes nothing.
+-- What the form and the heading pass give to the pass over bodies: limits of nodes, declared types of
+-- headings. Assumes nothing.
 use mathlib.Core.Path.{_≡_, subst}
 use mathlib.Core.Bool.{true, _&&_, not}
 use mathlib.Core.Option.{some}

@@ -1,5 +1,5 @@
--- A method's P and X lines from the row after its M line on, and the B line after them: how many P lines there are,
--- which classes the X lines name, and where the body begins. Assumes nothing.
+-- A method's P and X lines from the row after its M line on, and the B line after them: how many P lines there
+-- are, which classes the X lines name, and where the body begins. Assumes nothing.
 use mathlib.Core.Path.{_≡_, sym, subst, _∙_}
 use mathlib.Core.List.{List, map}
 use mathlib.Core.Logic.{inl, inr}

@@ -3,9 +3,12 @@ use mathlib.Core.Path.{_≡_, refl, sym, ap, subst, _∙_}
 use mathlib.Core.Logic.{⊎-elim}
 use mathlib.Core.Option.{Option, none, some}
 use mathlib.Core.List.{List}
+use mathlib.Core.Bool.{Bool, true, false, cond}
 use Prim.Native.Nat.{ℕ, _+_, _*_, _≤_}
 use lib.ListN.{length, getD}
-use Rattle.language.specs.Results.{need-checked, accept-injective, need-checked-inv, require-inv}
+use lib.Dec.{leb, ltb}
+use Rattle.language.specs.Results.{need-checked, accept-injective, need-checked-inv, require-inv, refuse}
+use Rattle.language.specs.Results.{require}
 use Rattle.language.specs.Frames.{at-slot}
 use Rattle.language.specs.Tree.{class, known, type-number, Class, literal-true, literal-false, literal-null}
 use Rattle.language.specs.Tree.{slot, new}
@@ -21,8 +24,8 @@ use Rattle.bodies.specs.Answers.{answer, answer-of, case-of-number}
 use Rattle.bodies.specs.Tables.{Headed}
 use Rattle.bodies.specs.Nodes.{refusal, created, slot-read}
 use Rattle.bodies.specs.Cycle.{Views, Accepted, Is}
+use Rattle.bodies.proofs.Lists.{declared-test}
 use Rattle.bodies.proofs.Cases.{read-out, read-absent, read-there}
-use Rattle.bodies.proofs.Typings.{new-is}
 use Rattle.bodies.proofs.Turns.{declared-bool, declared-null, declared-known, is-accepted}
 use Rattle.bodies.proofs.TypeNumbers.{type-number-case}
 use Rattle.bodies.proofs.Slots.{slot-some, slot-none}
@@ -43,6 +46,17 @@ module _ (W : World) {γ : Environment} {at scope : ℕ} {S C : List ℕ} (v : V
   null-literal-is = is-accepted _ refl refl (record { views = v; declared = declared-null; looks = tt })
 
 -- ---- I, W
+
+new-is : (W : World) (R : List ℕ) (c at : ℕ) (γ : Environment) → getD R (at * 4 + 1) 0 ≡ c
+    → created R (W .count) at ≡ answer-of (type-of W (new c) (at + 1) γ)
+unfolding created type-of require
+new-is W R c at γ e = rw e (go (leb c (W .count)) refl)
+  where
+    go : (b : Bool) → leb c (W .count) ≡ b
+        → cond (ltb (W .count) c) (answer-of (refuse 4 (at + 1))) (answer-of (typed (known (class c)) γ 0))
+        ≡ answer-of (require b 4 (at + 1) λ _. typed (known (class c)) γ 0)
+    go true f = rw (declared-test c (W .count) true f)
+    go false f = rw (declared-test c (W .count) false f)
 
 module _ {P : List Class} {R T A : List ℕ} {count : ℕ} (h : Headed P R T A count) where
   slot-reads : {γ : Environment} {S : List ℕ} {scope : ℕ} (k at : ℕ) → Views (world P) γ S scope

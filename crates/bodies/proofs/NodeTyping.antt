@@ -1,5 +1,5 @@
--- How the definition types R, U, B, J and Q, case by case, where their children are accepted on whatever line.
--- Assumes nothing.
+-- How the definition types R, U, B, J and Q, case by case, where their children are accepted, on whatever
+-- line. Assumes nothing.
 use mathlib.Core.Path.{_≡_, _∙_}
 use mathlib.Core.Bool.{true, false, not}
 use mathlib.Core.Option.{none, some}

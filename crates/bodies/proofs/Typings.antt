@@ -1,12 +1,12 @@
--- What a node's function answers is the definition's, where its child's answer is. Assumes nothing.
+-- Laws of the definition's typing: the line says where a refusal stands and nothing else, and an expression's
+-- lookup classes stand in its own rows. Assumes nothing.
 use mathlib.Core.Path.{_≡_, refl, _∙_}
-use mathlib.Core.Bool.{Bool, true, false, not, cond}
+use mathlib.Core.Bool.{Bool, true, false, not}
 use mathlib.Core.Option.{Option, none, some}
 use mathlib.Core.List.{List, [], _∷_, map}
-use Prim.Native.Nat.{ℕ, _+_, _*_, _≤_, _<_}
+use Prim.Native.Nat.{ℕ, _+_, _≤_, _<_}
 use native.Mathlib.Omega.{arith}
-use borrow.Author.Tests.{leb-true, leb-false, le-ltb, lt-ltb}
-use lib.Dec.{eqb, leb, ltb}
+use lib.Dec.{eqb}
 use lib.ListN.{length, getD}
 use Rattle.language.specs.Results.{Checked, accept, refuse, bind-checked, need-checked, require}
 use Rattle.language.specs.Results.{accept≢refuse}
@@ -16,48 +16,9 @@ use Rattle.language.specs.Tree.{literal-false, literal-null, slot, is-null, get
 use Rattle.language.specs.Tree.{set, call, choose, block, Exprs, nil, cons, size, sizes}
 use Rattle.language.specs.World.{World, field-type, is-declared, is-declared-type}
 use Rattle.language.specs.Effects.{apply-class}
-use Rattle.language.specs.Typing.{Environment, Typed, TypedAll, typed, not-bool, need-class, fits, all-fit}
+use Rattle.language.specs.Typing.{Environment, Typed, TypedAll, not-bool, need-class, fits, all-fit}
 use Rattle.language.specs.Typing.{join-types, can-change, fresh-slot, locals-declared, type-of, type-all}
 use Rattle.language.specs.LookupClasses.{LooksUp, LooksUpAll}
-use Rattle.bodies.specs.Answers.{answer-of, typing-case}
-use Rattle.bodies.specs.Nodes.{null-tested, created}
-
--- Z
-null-go : (at : ℕ) (q : Checked Typed)
-    → null-tested at (answer-of q .typing) (answer-of q .effect)
-    ≡ answer-of (bind-checked q λ a. require (not-bool (a .type)) 9 (at + 1) λ _. typed (known bool)
-    (a .slots) (a .effect))
-unfolding null-tested bind-checked require
-null-go at (refuse n l) = refl
-null-go at (accept a) = go (a .type)
-  where
-    go : (t : ExprType) → null-tested at (typing-case t) (a .effect)
-        ≡ answer-of (require (not-bool t) 9 (at + 1) λ _. typed (known bool) (a .slots) (a .effect))
-    go (known bool) = refl
-    go (known (class c)) = refl
-    go null-type = refl
-
-pub null-is : (W : World) (e : Expr) (at : ℕ) (γ : Environment) → let q = type-of W e (at + 1 + 1) γ in
-    null-tested at (answer-of q .typing) (answer-of q .effect) ≡ answer-of (type-of W (is-null e) (at + 1) γ)
-unfolding type-of
-null-is W e at γ = null-go at (type-of W e (at + 1 + 1) γ)
-
--- the two tests of a class's number
-pub declared-test : (c n : ℕ) (b : Bool) → leb c n ≡ b → ltb n c ≡ cond b false true
-declared-test c n true e = le-ltb n c (leb-true c n e)
-declared-test c n false e = lt-ltb n c (leb-false c n e)
-
--- W
-pub new-is : (W : World) (R : List ℕ) (c at : ℕ) (γ : Environment) → getD R (at * 4 + 1) 0 ≡ c
-    → created R (W .count) at ≡ answer-of (type-of W (new c) (at + 1) γ)
-unfolding created type-of require
-new-is W R c at γ e = rw e (go (leb c (W .count)) refl)
-  where
-    go : (b : Bool) → leb c (W .count) ≡ b
-        → cond (ltb (W .count) c) (answer-of (refuse 4 (at + 1))) (answer-of (typed (known (class c)) γ 0))
-        ≡ answer-of (require b 4 (at + 1) λ _. typed (known (class c)) γ 0)
-    go true f = rw (declared-test c (W .count) true f)
-    go false f = rw (declared-test c (W .count) false f)
 
 -- ---- the line changes where a refusal stands, and nothing else
 

@@ -1,5 +1,5 @@
--- The nodes Z, K, A and G: what their functions answer is what the definition says, where their child's answer is.
--- Assumes nothing.
+-- The nodes Z, K, A and G: what their functions answer is what the definition says, where their child's answer
+-- is. Assumes nothing.
 use mathlib.Core.Path.{_≡_, refl, sym, ap, subst, _∙_}
 use mathlib.Core.Bool.{Bool, true, false, not, cond}
 use mathlib.Core.Logic.{⊎-elim}
@@ -17,7 +17,7 @@ use Rattle.language.specs.Results.{accept-injective, bind-checked-inv, need-che
 use Rattle.language.specs.Frames.{at-slot}
 use Rattle.language.specs.Tree.{DeclaredType, bool, class, ExprType, known, null-type, Class, Expr, is-null}
 use Rattle.language.specs.Tree.{get, cast, assign}
-use Rattle.language.specs.World.{field-type, is-declared, is-declared-type}
+use Rattle.language.specs.World.{field-type, is-declared, is-declared-type, World}
 use Rattle.language.specs.Program.{world}
 use Rattle.language.specs.Typing.{Slot, Environment, Typed, typed, not-bool, need-class, fits, type-of}
 use Rattle.language.specs.LookupClasses.{LooksUp}
@@ -34,16 +34,36 @@ use Rattle.bodies.specs.Tables.{Headed, is-fitting}
 use Rattle.bodies.specs.Nodes.{refusal, null-tested, casted, cast-answer, assigned, field-in, not-class}
 use Rattle.bodies.specs.Nodes.{got, got-classes, found-answer, noted}
 use Rattle.bodies.specs.Cycle.{Views, Declared, Accepted, Is}
+use Rattle.bodies.proofs.Lists.{declared-test}
 use Rattle.bodies.proofs.Worlds.{fitting-is}
-use Rattle.bodies.proofs.Typings.{null-is, declared-test, line-free, looks-frame, class-inv}
+use Rattle.bodies.proofs.Typings.{line-free, looks-frame, class-inv}
 use Rattle.bodies.proofs.Turns.{declared-bool, declared-known, class-low, type-low, not-refused}
 use Rattle.bodies.proofs.TypeNumbers.{type-number-case}
 use Rattle.bodies.proofs.Slots.{slot-some, slot-none}
 use Rattle.bodies.proofs.FieldTables.{field-is, field-declared}
 
-module _ {P : List Class} {R T A : List ℕ} {count : ℕ} (h : Headed P R T A count) where
-  -- ---- Z
+-- ---- Z
 
+null-go : (at : ℕ) (q : Checked Typed)
+    → null-tested at (answer-of q .typing) (answer-of q .effect)
+    ≡ answer-of (bind-checked q λ a. require (not-bool (a .type)) 9 (at + 1) λ _. typed (known bool)
+    (a .slots) (a .effect))
+unfolding null-tested bind-checked require
+null-go at (refuse n l) = refl
+null-go at (accept a) = go (a .type)
+  where
+    go : (t : ExprType) → null-tested at (typing-case t) (a .effect)
+        ≡ answer-of (require (not-bool t) 9 (at + 1) λ _. typed (known bool) (a .slots) (a .effect))
+    go (known bool) = refl
+    go (known (class c)) = refl
+    go null-type = refl
+
+null-is : (W : World) (e : Expr) (at : ℕ) (γ : Environment) → let q = type-of W e (at + 1 + 1) γ in
+    null-tested at (answer-of q .typing) (answer-of q .effect) ≡ answer-of (type-of W (is-null e) (at + 1) γ)
+unfolding type-of
+null-is W e at γ = null-go at (type-of W e (at + 1 + 1) γ)
+
+module _ {P : List Class} {R T A : List ℕ} {count : ℕ} (h : Headed P R T A count) where
   pub is-null-is : {e : Expr} {γ : Environment} {S C : List ℕ} {scope : ℕ} (at : ℕ) (child r : Answer)
       → Is (world P) e γ (at + 1) scope S C child
       → r ≡ null-tested at (child .typing) (child .effect) → Is (world P) (is-null e) γ at scope S C r

@@ -1,4 +1,5 @@
--- The functions over tables give what is looked up in the program whose classes the tables hold. Assumes nothing.
+-- The functions over tables give what is looked up in the program whose classes the tables hold.
+-- Assumes nothing.
 use mathlib.Core.Path.{_≡_, refl, sym, _∙_}
 use mathlib.Core.Bool.{Bool, true, false, cond, false≢true}
 use mathlib.Core.List.{List}

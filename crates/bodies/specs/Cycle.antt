@@ -1,5 +1,5 @@
--- What the functions of the typing cycle require and ensure. The slots in scope stand from 0 on, slot 0 for `this`;
--- from `top` on the slots are free.
+-- What the functions of the typing cycle require and ensure. The slots in scope stand from 0 on, slot 0 for
+-- `this`; from `top` on the slots are free.
 use mathlib.Core.Path.{_≡_}
 use mathlib.Core.Bool.{true}
 use mathlib.Core.Logic.{_⊎_}
@@ -34,7 +34,8 @@ abbrev pub Unary : List ℕ → ℕ → Type 0
 Unary R at = (getD R (at * 4) 0 ≡ 90)
     ⊎ ((getD R (at * 4) 0 ≡ 71) ⊎ ((getD R (at * 4) 0 ≡ 75) ⊎ (getD R (at * 4) 0 ≡ 65)))
 
--- Within the limits of the form pass: names up to 255, at most 256 slots in scope, and d nodes of nesting left.
+-- Within the limits of the form pass: names up to 255, at most 256 slots in scope, and d nodes of nesting
+-- left.
 unfoldable mutual
   pub Limited : Expr → ℕ → ℕ → Type 0
   Limited literal-true scope d = Unit {0}
@@ -101,7 +102,8 @@ pub record Accepted (W : World) (e : Expr) (γ : Environment) (at scope : ℕ) (
   pub declared : Declared W (a .type)
   pub looks : LooksUp W C′ e γ at
 
--- The answer is the definition's, the line being the row's number and 1; where it is accepted, so are slots and table.
+-- The answer is the definition's, the line being the row's number and 1; where it is accepted, so are slots and
+-- table.
 pub record Is (W : World) (e : Expr) (γ : Environment) (at scope : ℕ) (S′ C′ : List ℕ) (r : Answer) : Type 0
   where
     pub out : r ≡ answer-of (type-of W e (at + 1) γ)

@@ -1,5 +1,5 @@
--- What the functions over the tables of classes give, in terms of the tables' numbers, and when the tables hold a
--- program's classes.
+-- What the functions over the tables of classes give, in terms of the tables' numbers, and when the tables hold
+-- a program's classes.
 use mathlib.Core.Path.{_≡_}
 use mathlib.Core.Bool.{Bool, true, false, not, cond}
 use mathlib.Core.Option.{none, some}
@@ -84,7 +84,8 @@ pub record HeadingAt (R : List ℕ) (r : ℕ) (M : Method) : Type 0 where
   pub body-row : RowAt R (r + 1 + length (M .parameters) + length effects) B-block locals expressions
   pub few-parameters : length (M .parameters) ≤ 8
 
--- The rows hold the headings that the tables lead to, and every type there is declared: what the heading pass gives.
+-- The rows hold the headings that the tables lead to, and every type there is declared: what the heading pass
+-- gives.
 pub record Headed (P : List Class) (R T A : List ℕ) (count : ℕ) : Type 0 where
   pub classes : Classes P T A count
   pub few-fields : (k : ℕ) → length (world P .fields k) ≤ 17

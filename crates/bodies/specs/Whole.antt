@@ -70,7 +70,8 @@ pub record PreMethodBody (R E T A S C : List ℕ) (count owner at : ℕ) : Type 
   pub facts : MethodFacts R E T A count owner at P m
   pub space : Spacious R E S C
 
--- The answer is the definition's; the lookup classes of the body alone change, and where it passes they are the definition's.
+-- The answer is the definition's; the lookup classes of the body alone change, and where it passes they are the
+-- definition's.
 pub record MethodIs (W : World) (owner at : ℕ) (m : Declaration) (C C′ : List ℕ) (r : Verdict) : Type 0 where
   pub out : r ≡ verdict-of (type-method W owner (at + 1) m)
   pub before : (i : ℕ) → i < body-row at m → getD C′ i 0 ≡ getD C i 0
