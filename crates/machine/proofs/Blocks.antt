@@ -21,7 +21,7 @@ use Rattle.machine.specs.Machine.{slots-of, inside, state, frame-of}
 use Rattle.objects.specs.Holding.{NamedAll, Named, Within, WithinAll}
 use Rattle.machine.specs.Contracts.{Ready, PreEntered, PostNode, PreList, PostItems, Opened, Locals}
 use Rattle.machine.specs.Contracts.{evaluated-all}
-use Rattle.objects.specs.Contracts.{first-of-type}
+use Rattle.objects.specs.Holding.{first-of-type}
 use Rattle.machine.proofs.Letters.{head, as-block}
 use Rattle.language.specs.Results.{ok, stop, bind}
 use Rattle.language.specs.Tree.{Exprs, count, Class, DeclaredType, bool, class, type-number, block}
