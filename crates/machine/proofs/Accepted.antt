@@ -1,13 +1,12 @@
 -- What the check establishes of rows and tables is what the evaluator asks of them. Assumes nothing.
 use mathlib.Core.Path.{_≡_, refl, sym, ap, _∙_, subst}
-use mathlib.Core.Bool.{true, _||_, cond}
+use mathlib.Core.Bool.{true}
 use mathlib.Core.Option.{Option, none, some}
 use mathlib.Core.List.{List, [], _∷_}
-use Prim.Native.Nat.{ℕ, zero, suc, _+_, _-_, _/_, _%_, _^_, _≤_, _<_}
+use Prim.Native.Nat.{ℕ, zero, suc, _+_, _-_, _≤_, _<_}
 use native.Mathlib.Omega.{arith}
 use borrow.Author.Tests.{leb-true, le-leb, ne-eqb}
-use lib.Dec.{eqb}
-use lib.ListN.{length, getD, length-append}
+use lib.ListN.{length, length-append}
 use Rattle.language.specs.Limits.{of-check}
 use Rattle.language.specs.Lists.{nth, inj}
 use Rattle.language.specs.Results.{accept, bind-checked-inv, require-inv, accept-injective}
@@ -37,7 +36,7 @@ use Rattle.theory.specs.Lookups.{class-well, well-formed-laws}
 use Rattle.theory.specs.MoreLookups.{well-formed-more}
 use Rattle.layout.specs.Found.{found-none, row-some, MethodHere, method-here, field-here, body-here}
 use Rattle.objects.specs.Holding.{NamedAll, Within, WithinAll, BodyAt, Linked, absent, present, FirstValueAt}
-use Rattle.objects.specs.Holding.{Holds}
+use Rattle.objects.specs.Holding.{first-of-type, is-below, Holds}
 use Rattle.machine.specs.Contracts.{Accepted, Runs}
 use Rattle.machine.proofs.Lines.{Without, without-then, without-lines}
 
@@ -130,7 +129,7 @@ module _ (P : List Class)
 
 -- The first value of a type, by its number.
 first-number : (t : DeclaredType) → TypeInForm t
-    → cond (eqb (type-number t) 255) 1 0 ≡ value-number (initial t)
+    → first-of-type (type-number t) ≡ value-number (initial t)
 first-number bool f = refl
 first-number (class c) f = rw (ne-eqb c 255 (λ e. no-bool (f .back) e))
   where
@@ -153,9 +152,8 @@ module _ {R E T A : List ℕ} {p : Program} (a : Accepted R E T A p) where
   lower : (k : ℕ) (c : Class) → class-at P k ≡ some c → c .super < k
   lower k c e = class-well P (well .classes) k c e .earlier
 
-  below : (k c : ℕ) → k ≤ length P → c ≤ length P
-      → (eqb c 0 || eqb (getD A k 0 / 2 ^ (c - 1) % 2) 1) ≡ world P .below k c
-  unfolding member
+  below : (k c : ℕ) → k ≤ length P → c ≤ length P → is-below A k c ≡ world P .below k c
+  unfolding member is-below
   below k zero l m = sym (below-object P lower k l)
   below k (suc c) l m =
       rw (ne-eqb (suc c) 0 (λ e. omega arith), a .tables .aboves k l)

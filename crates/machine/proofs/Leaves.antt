@@ -1,5 +1,5 @@
 -- What the nodes without children come to, and a node with one child once that has a value. Assumes nothing.
-use mathlib.Core.Path.{_≡_, refl, sym, _∙_}
+use mathlib.Core.Path.{_≡_, refl, _∙_}
 use mathlib.Core.Bool.{Bool, true, false}
 use mathlib.Core.Logic.{_⊎_, inl, inr}
 use mathlib.Core.Option.{Option, none, some}
@@ -27,7 +27,8 @@ use Rattle.machine.specs.Contracts.{Ready, Done, PreLeaf, PostLeaf, Post
 use Rattle.machine.specs.Contracts.{PostApply, Wrote}
 use Rattle.objects.proofs.Values.{outcome-value}
 use Rattle.objects.proofs.Acts.{stored-same}
-use Rattle.machine.proofs.Letters.{head, as-literal-true, as-literal-false, as-literal-null, as-slot}
+use Rattle.machine.proofs.Letters.{told-by, head, as-literal-true, as-literal-false, as-literal-null}
+use Rattle.machine.proofs.Letters.{as-slot}
 use Rattle.machine.proofs.Letters.{as-new, as-change, as-is-null, as-get, as-cast, as-assign}
 use Rattle.machine.proofs.Nodes.{rest-change, rest-assign}
 
@@ -82,7 +83,7 @@ module _ {R T s l : List ℕ} {at : ℕ} {q : Place} {n : Counts} where
   leaf-true h = record {
     post = λ E A. record {
       done = λ P e d F k f enc w z.
-          let c = as-literal-true e (sym (head e enc .letter) ∙ h) in
+          let c = as-literal-true (told-by (head e enc) h) in
           done-same (Gave (Truth true)) F k f (omega arith) z (rw c);
     };
   }
@@ -92,7 +93,7 @@ module _ {R T s l : List ℕ} {at : ℕ} {q : Place} {n : Counts} where
   leaf-false h = record {
     post = λ E A. record {
       done = λ P e d F k f enc w z.
-          let c = as-literal-false e (sym (head e enc .letter) ∙ h) in
+          let c = as-literal-false (told-by (head e enc) h) in
           done-same (Gave (Truth false)) F k f (omega arith) z (rw c);
     };
   }
@@ -102,7 +103,7 @@ module _ {R T s l : List ℕ} {at : ℕ} {q : Place} {n : Counts} where
   leaf-null h = record {
     post = λ E A. record {
       done = λ P e d F k f enc w z.
-          let c = as-literal-null e (sym (head e enc .letter) ∙ h) in
+          let c = as-literal-null (told-by (head e enc) h) in
           done-same (Gave Null) F k f (omega arith) z (rw c);
     };
   }
@@ -113,7 +114,7 @@ module _ {R T s l : List ℕ} {at : ℕ} {q : Place} {n : Counts} where
   leaf-slot o h p = record {
     post = λ E A. record {
       done = λ P e d F k f enc w z.
-          let c = as-slot e (sym (head e enc .letter) ∙ h) in
+          let c = as-slot (told-by (head e enc) h) in
           let enc′ = rw (c .1) at enc in
           done-same o F k f (p .small) z (rw (c .1, ← enc′ .row .first) (p .is (state P s l q n k)));
     };
@@ -123,7 +124,7 @@ module _ {R T s l : List ℕ} {at : ℕ} {q : Place} {n : Counts} where
       → PreNew R T s (getD R (at * 4 + 1) 0) (n .made)
   unfolding Encoded Within
   pre-new p h =
-      let c = as-new (p .node .e) (sym (head (p .node .e) (p .node .encoded) .letter) ∙ h) in
+      let c = as-new (told-by (head (p .node .e) (p .node .encoded)) h) in
       let enc = rw (c .1) at (p .node .encoded) in
       let w = rw (c .1) at (p .node .within) in
       record {
@@ -141,7 +142,7 @@ module _ {R T s l : List ℕ} {at : ℕ} {q : Place} {n : Counts} where
   leaf-new h p = record {
     post = λ E A. record {
       done = λ P e d F k f enc w z.
-          let c = as-new e (sym (head e enc .letter) ∙ h) in
+          let c = as-new (told-by (head e enc) h) in
           let enc′ = rw (c .1) at enc in
           let w′ = rw (c .1) at w in
           rw (c .1, ← enc′ .row .first)
@@ -154,7 +155,7 @@ module _ {R T s l : List ℕ} {at : ℕ} {q : Place} {n : Counts} where
       → PreChange R T s v (getD R (at * 4 + 2) 0) n
   unfolding Encoded Within
   pre-change v p h m =
-      let c = as-change (p .node .e) (sym (head (p .node .e) (p .node .encoded) .letter) ∙ h) in
+      let c = as-change (told-by (head (p .node .e) (p .node .encoded)) h) in
       let enc = rw (c .2) at (p .node .encoded) in
       let w = rw (c .2) at (p .node .within) in
       record {
@@ -176,7 +177,7 @@ module _ {R T s l : List ℕ} {at : ℕ} {q : Place} {n : Counts} where
   change-missing o h p not = record {
     post = λ E A. record {
       done = λ P e d F k f enc w z.
-          let c = as-change e (sym (head e enc .letter) ∙ h) in
+          let c = as-change (told-by (head e enc) h) in
           let enc′ = rw (c .2) at enc in
           done-same o F k f (p .small) z
           (rw (c .2, ← enc′ .row .first)
@@ -201,7 +202,7 @@ module _ {R T s l : List ℕ} {at : ℕ} {q : Place} {n : Counts} where
   change-done {s′} {r} o v h p g ch = record {
     post = λ E A. record {
       done = λ P e d F k f enc w z.
-          let c = as-change e (sym (head e enc .letter) ∙ h) in
+          let c = as-change (told-by (head e enc) h) in
           let enc′ = rw (c .2) at enc in
           let w′ = rw (c .2) at w in
           let i : ℕ = getD R (at * 4 + 1) 0 in
@@ -236,7 +237,7 @@ module _ {R T A s l : List ℕ} {at : ℕ} {q : Place} {n : Counts} {v : Value} 
       → PreObject T s (n .made) × (getD R (at * 4 + 1) 0 < 256)
   unfolding Encoded Within
   pre-load p h =
-      let c = as-get (p .node .e) (sym (head (p .node .e) (p .node .encoded) .letter) ∙ h) in
+      let c = as-get (told-by (head (p .node .e) (p .node .encoded)) h) in
       let enc = rw (c .2) at (p .node .encoded) in
       let w = rw (c .2) at (p .node .within) in (
         record {
@@ -254,7 +255,7 @@ module _ {R T A s l : List ℕ} {at : ℕ} {q : Place} {n : Counts} {v : Value} 
       → PreCast A s (getD R (at * 4 + 1) 0) (n .made)
   unfolding Encoded Within
   pre-cast p h =
-      let c = as-cast (p .node .e) (sym (head (p .node .e) (p .node .encoded) .letter) ∙ h) in
+      let c = as-cast (told-by (head (p .node .e) (p .node .encoded)) h) in
       let enc = rw (c .2) at (p .node .encoded) in
       let w = rw (c .2) at (p .node .within) in
       record {
@@ -278,7 +279,7 @@ module _ {R T A s l : List ℕ} {at : ℕ} {q : Place} {n : Counts} {v : Value} 
   unfolding bare after
   apply-test b h g = record {
     applied = λ E P e d f enc w.
-        let c = as-is-null e (sym (head e enc .letter) ∙ h) in
+        let c = as-is-null (told-by (head e enc) h) in
         record { long = refl; same = λ i o. refl; small = small b; is = λ k. rw (c .1, g) };
   }
     where
@@ -291,7 +292,7 @@ module _ {R T A s l : List ℕ} {at : ℕ} {q : Place} {n : Counts} {v : Value} 
   unfolding after Encoded
   apply-get r h p = record {
     applied = λ E P e d f enc w.
-        let c = as-get e (sym (head e enc .letter) ∙ h) in
+        let c = as-get (told-by (head e enc) h) in
         let enc′ = rw (c .2) at enc in
         let a = p .acts R E A P (f .holds) (f .sound) in
         record {
@@ -307,7 +308,7 @@ module _ {R T A s l : List ℕ} {at : ℕ} {q : Place} {n : Counts} {v : Value} 
   unfolding after Encoded Within
   apply-cast r h p = record {
     applied = λ E P e d f enc w.
-        let c = as-cast e (sym (head e enc .letter) ∙ h) in
+        let c = as-cast (told-by (head e enc) h) in
         let enc′ = rw (c .2) at enc in
         let w′ = rw (c .2) at w in
         let a = p .acts R E T P (f .holds) (f .sound) (omega (arith, enc′ .0 .row .first, w′ .1)) in
@@ -324,7 +325,7 @@ module _ {R T A s l : List ℕ} {at : ℕ} {q : Place} {n : Counts} {v : Value} 
   unfolding after Encoded bare
   apply-assign h p m = record {
     applied = λ E P e d f enc w.
-        let c = as-assign e (sym (head e enc .letter) ∙ h) in
+        let c = as-assign (told-by (head e enc) h) in
         let enc′ = rw (c .2) at enc in
         record {
           long = p .long;

@@ -31,7 +31,8 @@ use Rattle.objects.specs.declared.Value.the-variants.{Null, Truth, Object}
 use Rattle.objects.specs.Values.{value, stop-of, Small, SmallOutcome, told, bare, Outcome, Gave, Raised}
 use Rattle.objects.specs.Values.{Stopped, Stuck, Counts, outcome, Answer, answer}
 use Rattle.objects.specs.Holding.{Within, WithinAll, Holds, Sound}
-use Rattle.objects.specs.Contracts.{Written, first-of-type, Stored}
+use Rattle.objects.specs.Contracts.{Written, Stored}
+use Rattle.objects.specs.Holding.{first-of-type}
 use Rattle.machine.specs.Machine.{told-all, slots-of, frame-of, state, after, inside}
 
 -- ---- slots

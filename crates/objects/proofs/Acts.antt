@@ -23,7 +23,8 @@ use Rattle.objects.specs.declared.Value.the-variants.{Null, Truth, Objec
 use Rattle.objects.specs.Values.{Outcome, Gave, Raised, Stuck, Counts, value, decoded, outcome, Small}
 use Rattle.objects.specs.Values.{SmallOutcome, bare, told, answer}
 use Rattle.objects.specs.Holding.{view, Sound}
-use Rattle.objects.specs.Contracts.{Stored, Acts, PreObject, PostLoad, PostSave, PostCast, Below}
+use Rattle.objects.specs.Contracts.{Stored, Acts, PreObject, PostLoad, PostSave, PostCast}
+use Rattle.objects.specs.Holding.{is-below}
 use Rattle.objects.proofs.Value.{the-type}
 use Rattle.objects.proofs.Values.{value-decoded, small-decoded, outcome-value, outcome-stuck}
 use Rattle.objects.proofs.Values.{outcome-null-pointer, outcome-bad-cast}
@@ -303,9 +304,9 @@ module _ {A s : List ℕ} {v : Value} (x : ℕ) {c : ℕ} {n : Counts} (stands :
             acts-same n Stuck snd tt (λ γ k. rw (ap value e, heap-past (world P) (n .made) s j h));
       })
 
-  pub cast-passes : (j : ℕ) → v ≡ Object j → j < n .made → Below A (getD s (j * 18) 0) c ≡ true
+  pub cast-passes : (j : ℕ) → v ≡ Object j → j < n .made → is-below A (getD s (j * 18) 0) c ≡ true
       → x < 4294967296 → PostCast A s (decoded x) c n (outcome x)
-  unfolding bare Below
+  unfolding bare
   cast-passes j e h t m = cast-told stands (passed x stands m) (record {
     acts = λ R E T P hold snd d.
         let q = sym (hold .below (getD s (j * 18) 0) c (snd .declared j h) d) ∙ t in
@@ -313,9 +314,9 @@ module _ {A s : List ℕ} {v : Value} (x : ℕ) {c : ℕ} {n : Counts} (stands :
         (λ γ k. rw (ap value e, heap-at (world P) (n .made) s j h, q));
   })
 
-  pub cast-fails : (j : ℕ) → v ≡ Object j → j < n .made → Below A (getD s (j * 18) 0) c ≡ false
+  pub cast-fails : (j : ℕ) → v ≡ Object j → j < n .made → is-below A (getD s (j * 18) 0) c ≡ false
       → PostCast A s (decoded x) c n (outcome 4294967298)
-  unfolding bare Below
+  unfolding bare
   cast-fails j e h t = cast-told stands outcome-bad-cast (record {
     acts = λ R E T P hold snd d.
         let q = sym (hold .below (getD s (j * 18) 0) c (snd .declared j h) d) ∙ t in

@@ -1,10 +1,10 @@
 -- What the acts on objects require and ensure: each is that of the language's definition.
 use mathlib.Core.Path.{_≡_}
-use mathlib.Core.Bool.{cond, _||_, Bool}
+use mathlib.Core.Bool.{cond}
 use mathlib.Core.Option.{some}
 use mathlib.Core.List.{List}
-use Prim.Native.Nat.{ℕ, _+_, _-_, _*_, _/_, _%_, _^_, _≤_, _<_}
-use lib.Dec.{eqb, leb}
+use Prim.Native.Nat.{ℕ, _+_, _-_, _*_, _≤_, _<_}
+use lib.Dec.{leb}
 use lib.ListN.{length, getD, drop}
 use Rattle.language.specs.Lists.{nth}
 use Rattle.language.specs.Frames.{Frame}
@@ -21,7 +21,7 @@ use Rattle.objects.specs.declared.Target.{Target}
 use Rattle.objects.specs.declared.Target.the-variants.{Body, Fails}
 use Rattle.objects.specs.Values.{value, Small, SmallOutcome, told, bare, Outcome, Gave, Counts, outcome}
 use Rattle.objects.specs.Values.{Answer, answer}
-use Rattle.objects.specs.Holding.{Within, Holds, Sound, view}
+use Rattle.objects.specs.Holding.{Within, first-of-type, Holds, Sound, view}
 
 -- ---- numbers written one after the other
 
@@ -30,10 +30,6 @@ pub record Written (l l′ : List ℕ) (from n : ℕ) (f : ℕ → ℕ) : Type 0
   pub long : length l′ ≡ length l
   pub inside : (i : ℕ) → i < n → getD l′ (from + i) 0 ≡ f i
   pub outside : (x : ℕ) → (x < from) ⊎ (from + n ≤ x) → getD l′ x 0 ≡ getD l x 0
-
--- The number of a type's first value.
-abbrev pub first-of-type : ℕ → ℕ
-first-of-type t = cond (eqb t 255) 1 0
 
 -- The number of the first value of field i of class c, which has so many.
 unfoldable pub first-of : List ℕ → List ℕ → ℕ → ℕ → ℕ → ℕ
@@ -124,10 +120,6 @@ pub record PreCast (A s : List ℕ) (c made : ℕ) : Type 0 where
 pub record PostCast (A s : List ℕ) (v : Value) (c : ℕ) (n : Counts) (r : Outcome) : Type 0 where
   pub acts : (R E T : List ℕ) (P : List Class) → Holds R E T A P → Sound P (n .made) s → c ≤ length P
       → Acts P s s n (answer r n) (λ t. do-cast (world P) c (value v) t)
-
--- Class c is Object or in the set of class k.
-unfoldable pub Below : List ℕ → ℕ → ℕ → Bool
-Below A k c = eqb c 0 || eqb (getD A k 0 / 2 ^ (c - 1) % 2) 1
 
 -- ---- methods
 

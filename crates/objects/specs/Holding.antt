@@ -1,6 +1,6 @@
 -- How rows and tables hold a program within the limits, and how a store holds its objects.
 use mathlib.Core.Path.{_≡_}
-use mathlib.Core.Bool.{cond, _||_}
+use mathlib.Core.Bool.{Bool, cond, _||_}
 use mathlib.Core.Option.{Option, none, some}
 use mathlib.Core.List.{List, [], _∷_}
 use Prim.Native.Nat.{ℕ, _+_, _-_, _*_, _/_, _%_, _^_, _≤_, _<_}
@@ -56,7 +56,7 @@ unfoldable mutual
   WithinAll k n d nil = Unit {0}
   WithinAll k n d (cons e es) = Within k n d e × WithinAll k n d es
 
--- The row where a method's M line stands, from 1, and its body: the first B line after it.
+-- Where the body of a method is whose M line is row r: at the first B line after it.
 pub record BodyAt (R E : List ℕ) (k r : ℕ) (M : Method) : Type 0 where
   pub body : ℕ
   pub later : r + 1 ≤ body
@@ -70,11 +70,19 @@ pub data Linked (R E : List ℕ) (k : ℕ) : Option ℕ → Option Method → Ty
   absent : Linked R E k none none
   present : {r : ℕ} {M : Method} → BodyAt R E k r M → Linked R E k (some r) (some M)
 
+-- The stored number of a type's first value, by the type's number.
+abbrev pub first-of-type : ℕ → ℕ
+first-of-type t = cond (eqb t 255) 1 0
+
 -- The row of a field's F line, in the table: its type tells the first value.
 pub record FirstValueAt (R T : List ℕ) (k i : ℕ) (f : Field) : Type 0 where
   pub within : getD T (k * 576 + 520 + i) 0 * 4 + 1 < length R
-  pub first : cond (eqb (getD R (getD T (k * 576 + 520 + i) 0 * 4 + 1) 0) 255) 1 0
+  pub first : first-of-type (getD R (getD T (k * 576 + 520 + i) 0 * 4 + 1) 0)
       ≡ value-number (initial (f .type))
+
+-- Class c is Object or in the set of class k.
+unfoldable pub is-below : List ℕ → ℕ → ℕ → Bool
+is-below A k c = eqb c 0 || eqb (getD A k 0 / 2 ^ (c - 1) % 2) 1
 
 -- Rows and tables hold a program whose classes are P.
 pub record Holds (R E T A : List ℕ) (P : List Class) : Type 0 where
@@ -84,8 +92,7 @@ pub record Holds (R E T A : List ℕ) (P : List Class) : Type 0 where
   pub roots : (k : ℕ) → k ≤ length P
       → (world P .root k ≤ length P)
       × (length (world P .fields (world P .root k)) ≤ length (world P .fields k))
-  pub below : (k c : ℕ) → k ≤ length P → c ≤ length P
-      → (eqb c 0 || eqb (getD A k 0 / 2 ^ (c - 1) % 2) 1) ≡ world P .below k c
+  pub below : (k c : ℕ) → k ≤ length P → c ≤ length P → is-below A k c ≡ world P .below k c
   pub fields : (k i : ℕ) (f : Field) → k ≤ length P → nth (world P .fields k) i ≡ some f
       → FirstValueAt R T k i f
   pub methods : (k m : ℕ) → k ≤ length P → Linked R E (length P) (method-row P k m) (world P .method k m)

@@ -8,9 +8,10 @@ ghost use Prim.Native.Nat.{_+_, _*_, _≤_, _<_};
 ghost use lib.ListN.{length, set};
 ghost use Rattle.language.specs.Evaluation.{is-null-value};
 ghost use Rattle.objects.specs.Values.{value, decoded, outcome, counts-in, answered};
-ghost use Rattle.objects.specs.Contracts.{first-of, first-of-type, First, Fill, Filled};
+ghost use Rattle.objects.specs.Contracts.{first-of, First, Fill, Filled};
+ghost use Rattle.objects.specs.Holding.{first-of-type, is-below};
 ghost use Rattle.objects.specs.Contracts.{PreNew, PostNew, PreChange, PostChange, PreObject, PostLoad};
-ghost use Rattle.objects.specs.Contracts.{PostSave, PreCast, PostCast, Below};
+ghost use Rattle.objects.specs.Contracts.{PostSave, PreCast, PostCast};
 ghost use Rattle.objects.specs.Contracts.{LetterFrom, SomeLetter, PreFind, PostFind};
 
 // Why there is no value: no rule goes on, which comes of no checked program; the exceptions; the stops.
@@ -230,7 +231,7 @@ pub fn save(tables: &[u16], store: &mut [u32], tally: &[u32; 3], n: u32, w: u32,
 fn is_below(above: &[u64], k: usize, c: u32) -> bool
     requires { ⌜ k < length (now above) ⌝ }
     requires { ⌜ c ≤ 64 ⌝ }
-    ensures { λ r. ⌜ r ≡ Below (now (above .entry)) k c ⌝ }
+    ensures { λ r. ⌜ r ≡ is-below (now (above .entry)) k c ⌝ }
 {
     if c == 0 {
         return true;

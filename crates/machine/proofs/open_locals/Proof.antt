@@ -4,7 +4,8 @@ use native.Mathlib.Omega.{arith}
 use lib.ListN.{getD}
 use borrow.Author.Needs.{needs}
 use Rattle.objects.proofs.Values.{written-none, written-more}
-use Rattle.objects.specs.Contracts.{Written, first-of-type}
+use Rattle.objects.specs.Contracts.{Written}
+use Rattle.objects.specs.Holding.{first-of-type}
 use Rattle.machine.proofs.open_locals.Statement.{statement}
 use Rattle.machine.proofs.open_locals.Tie as tie
 

@@ -2,12 +2,12 @@ use Prim.Native.Nat.{_-_}
 use borrow.Author.Needs.{needs}
 use borrow.Author.Tests.{eq-eqb, ne-eqb}
 use lib.Bits.{and-mask}
-use Rattle.objects.specs.Contracts.{Below}
+use Rattle.objects.specs.Holding.{is-below}
 use Rattle.objects.proofs.is_below.Statement.{statement}
 use Rattle.objects.proofs.is_below.Tie as tie
 
 returns : tie.Need-returns
-unfolding Below
+unfolding is-below
 returns c = rw (eq-eqb (c .before .args .c) 0 (c .if1 .taken))
 
 mul-result : tie.Need-mul-result
@@ -26,7 +26,7 @@ shr-result : tie.Need-shr-result
 shr-result c = search needs
 
 returns-2 : tie.Need-returns-2
-unfolding Below
+unfolding is-below
 returns-2 c = rw (ne-eqb (c .before .before .args .c) 0 (c .before .if1 .left), and-mask _ 1)
 
 pub is-below-spec : {M : Type 1} → statement M
