@@ -10,14 +10,15 @@ use lib.ListN.{length, getD}
 use Rattle.language.specs.Rows.{Letter}
 use Rattle.language.specs.Encoded.{LinesAt, TypesAt}
 use Rattle.language.specs.Tree.{DeclaredType, type-number, Field}
+use Rattle.language.specs.Layout.{FieldsAt}
 use Rattle.plain.specs.Emission.{Written, SomeTypes, TypesWritten, SomeFields, CopiesWritten}
 use Rattle.plain.specs.Emission.{SomeFieldLines, FieldsWritten}
 use Rattle.plain.specs.Numbers.{plain-number, type-lines, read-lines, copy-lines, slot-lines}
 use Rattle.plain.specs.Numbers.{field-lines}
 use Rattle.plain.specs.Tasks.{FieldRows}
 use Rattle.plain.proofs.Writing.{written-none, written-then}
-use Rattle.language.specs.Layout.{FieldsAt}
 
+-- how many numbers the lines are
 pub types-length : (l : ℕ) (ts : List DeclaredType) → length (type-lines l ts) ≡ 4 * length ts
 unfolding type-lines
 types-length l [] = refl

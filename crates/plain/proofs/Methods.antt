@@ -5,23 +5,23 @@ use mathlib.Core.List.{List, [], _∷_, _++_, map, append-assoc}
 use Prim.Native.Nat.{ℕ, _+_, _*_, _≤_, _<_, _-_}
 use native.Mathlib.Omega.{arith}
 use lib.ListN.{length, getD, length-append}
+use mathlib.Core.Logic.{_≢_}
 use Rattle.language.specs.Rows.{Letter, code, Record, written, P-parameter, M-method, numbers-of}
 use Rattle.language.specs.Tree.{DeclaredType, type-number, Declaration, flatten, flatten-methods, Class, size}
 use Rattle.language.specs.Tree.{heading-lines, method-lines, methods-lines}
 use Rattle.language.specs.World.{World}
 use Rattle.language.specs.Translation.{plain-type, plain-method, plain-body, variables}
+use Rattle.language.specs.Program.{world}
+use Rattle.language.specs.Typing.{method-environment}
+use Rattle.language.specs.Layout.{EachMethod, body-row}
 use Rattle.plain.specs.Numbers.{most-numbers, plain-number, type-lines, Proper, ProperAll, lines-of}
 use Rattle.plain.specs.Numbers.{tree-numbers, method-numbers, node-numbers, methods-numbers}
 use Rattle.plain.specs.Emission.{Written, TypesWritten, SomeTypes, SomeBody, BodyEmitted, SomeMethod}
 use Rattle.plain.specs.Emission.{MethodEmitted, Emitted, Skipped, SomeMethods, MethodsEmitted}
+use Rattle.plain.specs.Tasks.{MethodTask, MethodsTask}
 use Rattle.plain.proofs.Writing.{written-none, written-then, whole}
 use Rattle.plain.proofs.Numbers.{lines-append}
 use Rattle.plain.proofs.Lines.{types-length}
-use mathlib.Core.Logic.{_≢_}
-use Rattle.language.specs.Program.{world}
-use Rattle.language.specs.Typing.{method-environment}
-use Rattle.language.specs.Layout.{EachMethod, body-row}
-use Rattle.plain.specs.Tasks.{MethodTask, MethodsTask}
 use Rattle.plain.proofs.Standing.{method-rows, lines-positive, stand-row, no-method, methods-stand}
 
 module _ {R T C : List ℕ} {at body place count : ℕ} where

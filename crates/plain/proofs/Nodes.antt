@@ -11,6 +11,9 @@ use Rattle.language.specs.Tree.{Expr, count, size, Class, Exprs, nil, cons, siz
 use Rattle.language.specs.Program.{world}
 use Rattle.language.specs.Typing.{Environment, type-of}
 use Rattle.language.specs.Translation.{Shape, typed-or}
+use Rattle.language.specs.World.{World}
+use Rattle.language.specs.Encoded.{EncodedAll}
+use Rattle.language.specs.LookupClasses.{LooksUpAll}
 use Rattle.plain.specs.Numbers.{most-numbers, node-numbers, nodes-numbers, arguments-numbers, Nodes}
 use Rattle.plain.specs.Numbers.{none, also, how-many, rows-taken, nodes-of}
 use Rattle.plain.specs.Emission.{Written, Emitted, SomeNode, SomeNodes, SomeArguments, NodeEmitted}
@@ -19,9 +22,6 @@ use Rattle.plain.specs.Tasks.{NodeTask, NodesTask, EncodedNodes, LooksUp
 use Rattle.plain.proofs.Writing.{written-none, written-then, whole}
 use Rattle.plain.proofs.Letters.{size-positive}
 use Rattle.plain.proofs.Tasks.{node-row}
-use Rattle.language.specs.World.{World}
-use Rattle.language.specs.Encoded.{EncodedAll}
-use Rattle.language.specs.LookupClasses.{LooksUpAll}
 
 -- the nodes of a block or of a call's arguments
 pub encoded-nodes : (W : World) (R E : List ℕ) (es : Exprs) (γ : Environment) (r : ℕ) → EncodedAll R E es r

@@ -7,13 +7,13 @@ use mathlib.Core.List.{List, [], _∷_, _++_}
 use Prim.Native.Nat.{ℕ, zero, suc, _+_, _-_, _≤_, _<_}
 use native.Mathlib.Omega.{arith}
 use lib.ListN.{length, getD, length-append, length-map, set, length-set}
+use native.Mathlib.Nat.{eq-or-lt-of-le}
+use lib.Seq.{getD-set-same, getD-set-other}
 use Rattle.language.specs.Tree.{DeclaredType, Class}
 use Rattle.language.specs.Translation.{Shape, position, plain-slot, variables, temporaries}
 use Rattle.language.proofs.Lines.{le-or-less}
 use Rattle.plain.specs.Tasks.{Setting, variable-count}
 use Rattle.plain.specs.Emission.{Extended}
-use native.Mathlib.Nat.{eq-or-lt-of-le}
-use lib.Seq.{getD-set-same, getD-set-other}
 
 variables-append : (a b : Shape) → variable-count (a ++ b) ≡ variable-count a + variable-count b
 unfolding variable-count

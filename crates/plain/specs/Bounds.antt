@@ -18,13 +18,13 @@ use Rattle.language.specs.Filling.{answer, buffer}
 use Rattle.language.specs.declared.Filled.{Filled}
 use Rattle.language.specs.declared.Filled.the-variants as filled
 use Rattle.language.specs.declared.Filled.the-variants.{Done}
-use Rattle.form.specs.declared.Formed.{Formed}
-use Rattle.form.specs.declared.Formed.the-variants as formed
-use Rattle.form.specs.declared.Formed.the-variants.{InForm}
 use Rattle.language.specs.Encoded.{RowAt}
 use Rattle.language.specs.ClassTables.{ClassTables}
 use Rattle.language.specs.Layout.{EachMethod, EachClass, FieldsAt, MethodAt, ClassAt, ProgramAt}
 use Rattle.language.specs.Layout.{LooksUpProgram}
+use Rattle.form.specs.declared.Formed.{Formed}
+use Rattle.form.specs.declared.Formed.the-variants as formed
+use Rattle.form.specs.declared.Formed.the-variants.{InForm}
 use Rattle.plain.specs.Tasks.{ClassEnd, ProgramTask}
 use Rattle.plain.specs.Numbers.{program-numbers}
 

@@ -67,40 +67,77 @@ read-lines s (suc k) = 73 ∷ s ∷ 0 ∷ 0 ∷ read-lines (suc s) k
 unfoldable pub copy-lines : ℕ → List Field → List ℕ
 copy-lines o [] = []
 copy-lines o (f ∷ fs) =
-    85 ∷ f .name ∷ 0 ∷ 0 ∷ 73 ∷ o ∷ 0 ∷ 0 ∷ 71 ∷ f .name ∷ 0 ∷ 0 ∷ 73 ∷ suc o ∷ 0 ∷ 0 ∷ copy-lines o fs
+    85 ∷ f .name ∷ 0 ∷ 0
+    ∷ 73 ∷ o ∷ 0 ∷ 0
+    ∷ 71 ∷ f .name ∷ 0 ∷ 0
+    ∷ 73 ∷ suc o ∷ 0 ∷ 0
+    ∷ copy-lines o fs
 
--- Lines of a slot read, W, R's inner block and R.
+-- Lines of a slot read; of W of a class c, with temporaries from n on; of R's inner block, for a class d with
+-- root r and k fields; and of R of a slot.
 abbrev pub slot-lines : ℕ → List ℕ
 slot-lines zero = 71 ∷ 254 ∷ 0 ∷ 0 ∷ 73 ∷ 0 ∷ 0 ∷ 0 ∷ []
 slot-lines (suc s) = 73 ∷ suc s ∷ 0 ∷ 0 ∷ []
 
 abbrev pub new-lines : ℕ → ℕ → List ℕ
 new-lines n c =
-    66 ∷ 2 ∷ 5 ∷ 0 ∷ 86 ∷ 1 ∷ 0 ∷ 0 ∷ 86 ∷ (c + 2) ∷ 0 ∷ 0 ∷ 65 ∷ n ∷ 0 ∷ 0 ∷ 87 ∷ 1 ∷ 0 ∷ 0 ∷ 65 ∷ (n + 1)
-    ∷ 0 ∷ 0 ∷ 87 ∷ (c + 2) ∷ 0 ∷ 0
-    ∷ 85 ∷ 254 ∷ 0 ∷ 0 ∷ 73 ∷ (n + 1) ∷ 0 ∷ 0 ∷ 73 ∷ n ∷ 0 ∷ 0 ∷ 85 ∷ 255 ∷ 0 ∷ 0 ∷ 73 ∷ n ∷ 0 ∷ 0 ∷ 73
-    ∷ (n + 1) ∷ 0 ∷ 0
-    ∷ 73 ∷ n ∷ 0 ∷ 0 ∷ []
+    66 ∷ 2 ∷ 5 ∷ 0
+    ∷ 86 ∷ 1 ∷ 0 ∷ 0
+    ∷ 86 ∷ (c + 2) ∷ 0 ∷ 0
+    ∷ 65 ∷ n ∷ 0 ∷ 0
+    ∷ 87 ∷ 1 ∷ 0 ∷ 0
+    ∷ 65 ∷ (n + 1) ∷ 0 ∷ 0
+    ∷ 87 ∷ (c + 2) ∷ 0 ∷ 0
+    ∷ 85 ∷ 254 ∷ 0 ∷ 0
+    ∷ 73 ∷ (n + 1) ∷ 0 ∷ 0
+    ∷ 73 ∷ n ∷ 0 ∷ 0
+    ∷ 85 ∷ 255 ∷ 0 ∷ 0
+    ∷ 73 ∷ n ∷ 0 ∷ 0
+    ∷ 73 ∷ (n + 1) ∷ 0 ∷ 0
+    ∷ 73 ∷ n ∷ 0 ∷ 0
+    ∷ []
 
 abbrev pub renew-head : ℕ → ℕ → ℕ → ℕ → List ℕ
 renew-head n d r k =
-    66 ∷ 0 ∷ (k + 5) ∷ 0 ∷ 65 ∷ (n + 1) ∷ 0 ∷ 0 ∷ 87 ∷ (d + 2) ∷ 0 ∷ 0 ∷ 65 ∷ (n + 2) ∷ 0 ∷ 0 ∷ 75 ∷ (r + 2)
-    ∷ 0 ∷ 0 ∷ 71 ∷ 255 ∷ 0 ∷ 0
-    ∷ 73 ∷ n ∷ 0 ∷ 0 ∷ 85 ∷ 254 ∷ 0 ∷ 0 ∷ 73 ∷ (n + 1) ∷ 0 ∷ 0 ∷ 73 ∷ n ∷ 0 ∷ 0 ∷ 85 ∷ 255 ∷ 0 ∷ 0 ∷ 73 ∷ n
-    ∷ 0 ∷ 0
-    ∷ 73 ∷ (n + 1) ∷ 0 ∷ 0 ∷ []
+    66 ∷ 0 ∷ (k + 5) ∷ 0
+    ∷ 65 ∷ (n + 1) ∷ 0 ∷ 0
+    ∷ 87 ∷ (d + 2) ∷ 0 ∷ 0
+    ∷ 65 ∷ (n + 2) ∷ 0 ∷ 0
+    ∷ 75 ∷ (r + 2) ∷ 0 ∷ 0
+    ∷ 71 ∷ 255 ∷ 0 ∷ 0
+    ∷ 73 ∷ n ∷ 0 ∷ 0
+    ∷ 85 ∷ 254 ∷ 0 ∷ 0
+    ∷ 73 ∷ (n + 1) ∷ 0 ∷ 0
+    ∷ 73 ∷ n ∷ 0 ∷ 0
+    ∷ 85 ∷ 255 ∷ 0 ∷ 0
+    ∷ 73 ∷ n ∷ 0 ∷ 0
+    ∷ 73 ∷ (n + 1) ∷ 0 ∷ 0
+    ∷ []
 
 unfoldable pub renew-lines : ℕ → ℕ → ℕ → List Field → List ℕ
 renew-lines n d r fs = renew-head n d r (length fs) ++ (copy-lines (n + 1) fs ++ (73 ∷ n ∷ 0 ∷ 0 ∷ []))
 
 abbrev pub change-head : ℕ → ℕ → ℕ → ℕ → List ℕ
 change-head zero n d r =
-    66 ∷ 3 ∷ 3 ∷ 0 ∷ 86 ∷ 1 ∷ 0 ∷ 0 ∷ 86 ∷ (d + 2) ∷ 0 ∷ 0 ∷ 86 ∷ (r + 2) ∷ 0 ∷ 0 ∷ 65 ∷ n ∷ 0 ∷ 0 ∷ 71 ∷ 254
-    ∷ 0 ∷ 0 ∷ 73 ∷ 0 ∷ 0 ∷ 0 ∷ []
+    66 ∷ 3 ∷ 3 ∷ 0
+    ∷ 86 ∷ 1 ∷ 0 ∷ 0
+    ∷ 86 ∷ (d + 2) ∷ 0 ∷ 0
+    ∷ 86 ∷ (r + 2) ∷ 0 ∷ 0
+    ∷ 65 ∷ n ∷ 0 ∷ 0
+    ∷ 71 ∷ 254 ∷ 0 ∷ 0
+    ∷ 73 ∷ 0 ∷ 0 ∷ 0
+    ∷ []
 change-head (suc s) n d r =
-    66 ∷ 3 ∷ 2 ∷ 0 ∷ 86 ∷ 1 ∷ 0 ∷ 0 ∷ 86 ∷ (d + 2) ∷ 0 ∷ 0 ∷ 86 ∷ (r + 2) ∷ 0 ∷ 0 ∷ 74 ∷ 0 ∷ 0 ∷ 0 ∷ 90 ∷ 0
-    ∷ 0 ∷ 0 ∷ 65 ∷ n ∷ 0 ∷ 0
-    ∷ 73 ∷ suc s ∷ 0 ∷ 0 ∷ 78 ∷ 0 ∷ 0 ∷ 0 ∷ []
+    66 ∷ 3 ∷ 2 ∷ 0
+    ∷ 86 ∷ 1 ∷ 0 ∷ 0
+    ∷ 86 ∷ (d + 2) ∷ 0 ∷ 0
+    ∷ 86 ∷ (r + 2) ∷ 0 ∷ 0
+    ∷ 74 ∷ 0 ∷ 0 ∷ 0
+    ∷ 90 ∷ 0 ∷ 0 ∷ 0
+    ∷ 65 ∷ n ∷ 0 ∷ 0
+    ∷ 73 ∷ suc s ∷ 0 ∷ 0
+    ∷ 78 ∷ 0 ∷ 0 ∷ 0
+    ∷ []
 
 unfoldable pub change-lines : ℕ → ℕ → ℕ → ℕ → List Field → List ℕ
 change-lines s n d r fs = change-head s n d r ++ (renew-lines n d r fs ++ (73 ∷ n ∷ 0 ∷ 0 ∷ []))
