@@ -81,12 +81,3 @@ pub demand-2-exception : (p : Program) (F K : ℕ) (x : ℕ) (t : State)
 unfolding run
 demand-2-exception p F K x t = exception-derived (world (p .classes)) F K (p .start) first-state
     (record { fuel = omega arith; room = omega arith }) x t
-
--- Both: the ends in a value or an exception that a run with fuel F and room K has are those that the relation derives
--- within F and K.
-pub demand-2-runs : (p : Program) (F K : ℕ)
-    → ((v : Value) (t : State) → (run (with-limits F K) p ≡ ok v t)
-    ↔ DerivedWithin (world (p .classes)) F K (p .start) first-state (ok v t))
-    × ((x : ℕ) (t : State) → (run (with-limits F K) p ≡ stop (raised x) t)
-    ↔ DerivedWithin (world (p .classes)) F K (p .start) first-state (stop (raised x) t))
-demand-2-runs p F K = ((λ v t. demand-2-value p F K v t), (λ x t. demand-2-exception p F K x t))

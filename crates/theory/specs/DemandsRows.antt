@@ -19,7 +19,7 @@ use Rattle.language.specs.WellFormed.{Each}
 use Rattle.theory.specs.Lookups.{well-formed-laws}
 use Rattle.theory.specs.MoreLookups.{well-formed-more}
 use Rattle.theory.specs.PlainSteps.{More}
-use Rattle.theory.specs.PlainLookups.{nth-within}
+use Rattle.language.specs.Lists.{nth-some}
 use Rattle.theory.specs.Accepts.{RowsOf, check-accepts}
 use Rattle.theory.specs.Members.{accepted-run}
 use Rattle.theory.specs.AcceptedTranslation.{plain-rows}
@@ -111,7 +111,7 @@ alike-on-stores ns out p p′ c c′ r r′ shaped shaped′ a store store′ =
       unchanged = a .counts .no-changes;
       steps-at-least = a .counts .at-least;
       steps-at-most = a .counts .at-most;
-      each = λ j l. rw (back, back′) (let x = nth-within (final r .heap) j l in
+      each = λ j l. rw (back, back′) (let x = nth-some (final r .heap) j l in
           record { object = x .0; there = x .1; matches = a .stores .each j (x .0) (x .1) });
     }
 
