@@ -190,7 +190,8 @@ pub record Here (L : Limits) (R : List ℕ) (at : ℕ) : Type 0 where
   pub first-small : getD R (at * 4 + 1) 0 ≤ 65535
   pub second-small : getD R (at * 4 + 2) 0 ≤ 65535
 
--- a refused record is refused on its line by a number above 0; one that is not comes of a row that is not malformed
+-- a refused record is refused on its line by a number above 0; one that is not comes of a row that is not
+-- malformed
 module _ (L : Limits) (line : ℕ) (r : Row) where
   record-refused : (n l : ℕ) → record-on (most-of L) line r ≡ refuse n l → (l ≡ line) × (n ≡ 0 → ⊥)
   unfolding record-on need-checked require

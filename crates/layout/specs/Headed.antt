@@ -1,5 +1,5 @@
--- What the heading pass's acceptance gives by itself, before any body is typed: superclasses come earlier, every type in a
--- heading is declared, X lines name classes, no class has more than 17 fields.
+-- What the heading pass's acceptance gives by itself, before any body is typed: superclasses come earlier,
+-- every type in a heading is declared, X lines name classes, no class has more than 17 fields.
 use mathlib.Core.Path.{_≡_, sym, ap, subst}
 use Prim.Native.Nat.{ℕ, zero, suc, _+_, _≤_, _<_}
 use mathlib.Core.Option.{Option, some}

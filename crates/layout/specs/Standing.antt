@@ -1,4 +1,5 @@
--- Where the parts of a program stand in its rows and in the table of ends: the form pass's answer makes `ProgramAt`.
+-- Where the parts of a program stand in its rows and in the table of ends: the form pass's answer makes
+-- `ProgramAt`.
 use mathlib.Core.Path.{_≡_, refl, sym, ap, _∙_, subst}
 use Prim.Native.Nat.{ℕ, suc, _+_, _*_, _%_}
 use mathlib.Core.List.{List, [], _∷_, _++_, map}

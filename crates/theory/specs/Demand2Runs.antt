@@ -1,5 +1,5 @@
--- Demand 2 for runs: a run with fuel and room ends in a value or an exception exactly if the evaluation relation
--- derives that end with at most 64 calls active, within fuel and room.
+-- Demand 2 for runs: a run with fuel and room ends in a value or an exception exactly if the evaluation
+-- relation derives that end with at most 64 calls active, within fuel and room.
 use mathlib.Core.Path.{_≡_, sym, _∙_}
 use Prim.Native.Nat.{ℕ}
 use mathlib.Core.Logic.{_↔_}
@@ -65,8 +65,8 @@ module _ (W : World) (F K : ℕ) (e : Expr) (s : State) (w : Within F K s) where
     (λ d. runs-derived (stop (raised x) t) d),
   )
 
--- The run of a program with fuel F and room K ends in value v and state t, steps, objects and changes of class
--- included, exactly if the relation derives that of its start block within F and K.
+-- The run of a program with fuel F and room K ends in value v and state t, steps, objects and changes of
+-- class included, exactly if the relation derives that of its start block within F and K.
 pub demand-2-value : (p : Program) (F K : ℕ) (v : Value) (t : State)
     → (run (with-limits F K) p ≡ ok v t)
     ↔ DerivedWithin (world (p .classes)) F K (p .start) first-state (ok v t)

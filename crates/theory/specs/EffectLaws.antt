@@ -1,4 +1,5 @@
--- Laws of effects: membership and containment of joins, and of the numbers of X lines; no effect changes no type.
+-- Laws of effects: membership and containment of joins, and of the numbers of X lines; no effect changes no
+-- type.
 use mathlib.Core.Path.{_≡_, sym, ap, ap₂, _∙_, subst, refl}
 use mathlib.Core.Bool.{true}
 use mathlib.Core.List.{List, [], _∷_}

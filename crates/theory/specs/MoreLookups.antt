@@ -1,6 +1,7 @@
 -- What the translator's proofs use of lookups besides the laws of soundness, for class lists of any length:
--- of a well-formed program that no field name stands twice, that Object is above all, that what is found in
--- a class is found in a declared one and that no class has more than 17 fields; of one within the translator's limits how much there is of each.
+-- of a well-formed program that no field name stands twice, that Object is above all, that what is found in a
+-- class is found in a declared one and that no class has more than 17 fields; of one within the translator's
+-- limits how much there is of each.
 use mathlib.Core.Path.{_≡_, refl, sym, ap, _∙_, subst}
 use Prim.Native.Nat.{ℕ, zero, suc, _+_, _≤_}
 use mathlib.Core.Option.{Option, none, some}

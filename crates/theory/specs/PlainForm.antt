@@ -1,4 +1,5 @@
--- Pieces of the translation in form: nesting, variables and their positions, numbers, blocks, and the change of class.
+-- Pieces of the translation in form: nesting, variables and their positions, numbers, blocks, and the change
+-- of class.
 use mathlib.Core.Path.{_≡_, refl, sym, ap, subst}
 use Prim.Native.Nat.{ℕ, zero, suc, _+_, _*_, _≤_, _<_}
 use mathlib.Core.Option.{some}

@@ -1,4 +1,5 @@
--- What is looked up in the classes of a plain program is what its source's classes give: they make a plain world.
+-- What is looked up in the classes of a plain program is what its source's classes give: they make a plain
+-- world.
 use mathlib.Core.Path.{_≡_, refl, sym, ap, _∙_}
 use Prim.Native.Nat.{ℕ, zero, suc, _≤_, _<_}
 use mathlib.Core.Option.{Option, none, some}

@@ -1,5 +1,5 @@
--- Objects read back from the numbers of a store (document 01, "Evaluation"): what the numbers of a store afterwards
--- hold are the objects that the run made, and what held none is unchanged.
+-- Objects read back from the numbers of a store (document 01, "Evaluation"): what the numbers of a store
+-- afterwards hold are the objects that the run made, and what held none is unchanged.
 use mathlib.Core.Path.{_≡_, refl, ap, _∙_}
 use Prim.Native.Nat.{ℕ, suc, _-_, _*_, _≤_}
 use mathlib.Core.Bool.{true, false}
@@ -136,5 +136,5 @@ run-shaped p w L = shaped-each W (final (run L p) .heap) λ j o e. let l =
     W = world (p .classes)
 
     heap : {r : Out Value} → Holds (Good W (w .γ) (w .φ) (w .t) []) (Fine W) r → HeapOk W (final r .heap)
-    heap (holds-ok g) = g .heapOk
+    heap (holds-ok g) = g .heap-ok
     heap (holds-stop f) = fine-heap f
