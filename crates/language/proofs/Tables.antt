@@ -1,5 +1,6 @@
--- Laws of the table of ends: it has an entry for each row, and each node has one. Assumes nothing.
-use Prim.Native.Nat.{_≤_, ℕ, zero, suc, _+_}
+-- Laws of the table of ends: it has an entry for each row, and a node and a method have one row at least.
+-- Assumes nothing.
+use Prim.Native.Nat.{ℕ, zero, suc, _+_, _≤_}
 use mathlib.Core.Path.{_≡_, refl, ap}
 use mathlib.Core.List.{List, [], _∷_}
 use native.Mathlib.Omega.{arith}
@@ -27,6 +28,10 @@ size-positive (set f e e′) = omega arith
 size-positive (call m e es) = omega arith
 size-positive (choose a b c) = omega arith
 size-positive (block ts es) = omega arith
+
+pub method-positive : (m : Declaration) → 1 ≤ method-lines m
+unfolding method-lines heading-lines
+method-positive m = omega arith
 
 pub next-rows-long : (at k : ℕ) → length (next-rows at k) ≡ k
 unfolding next-rows

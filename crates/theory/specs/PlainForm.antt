@@ -89,7 +89,7 @@ unfolding variable-count
 count-variables [] = refl
 count-variables (t ∷ ts) = ap suc (count-variables ts)
 
-count-temporaries : (ts : List DeclaredType) → variable-count (temporaries ts) ≡ 0
+pub count-temporaries : (ts : List DeclaredType) → variable-count (temporaries ts) ≡ 0
 unfolding variable-count
 count-temporaries [] = refl
 count-temporaries (t ∷ ts) = count-temporaries ts

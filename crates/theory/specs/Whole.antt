@@ -22,7 +22,7 @@ use Rattle.language.specs.WellFormed.{form-block}
 use Rattle.theory.specs.Back.{on-line, taken, node-flat}
 use Rattle.theory.specs.TreeRows.{field-row, parameter-row, effect-row, heading, methods-rows}
 use Rattle.theory.specs.TreeRows.{classes-rows, start-rows, program-rows}
-use Rattle.language.proofs.Tables.{size-positive}
+use Rattle.language.proofs.Tables.{size-positive, method-positive}
 
 module _ (most : Most) (named : most .name ≤ largest) (slotted : most .slots ≤ largest) where
   -- a record of this letter is taken, a record of another is left
@@ -145,10 +145,6 @@ module _ (most : Most) (named : most .name ≤ largest) (slotted : most .slots �
           (maybe-other P-parameter X-effect c 0 _ refl e (omega arith)
           (omega (arith, size-positive (m .body))) (omega arith))
 
-  method-pos : (m : Declaration) → 1 ≤ method-lines m
-  unfolding method-lines heading-lines
-  method-pos m = omega arith
-
   methods-flat : {ms : List Declaration} → Each (MethodInForm most) ms → (f at : ℕ) (rs : List Row)
       → length ms ≤ f
       → at + methods-lines ms ≤ suc (most .rows) → Stops M-method (at + methods-lines ms) rs
@@ -165,7 +161,7 @@ module _ (most : Most) (named : most .name ≤ largest) (slotted : most .slots �
       rw (
         maybe-same M-method (type-number (m .result)) (m .name) at refl (i .result .small)
             (omega (arith, i .name))
-            (omega (arith, method-pos m)) (i .name),
+            (omega (arith, method-positive m)) (i .name),
         method-flat m i at (methods-rows ms rs) (omega arith),
         methods-flat is f (at + method-lines m) rs (omega arith) (omega arith)
             (subst (λ (n : ℕ). Stops M-method n rs) (omega arith) s),
