@@ -19,7 +19,7 @@ use Rattle.language.proofs.Filling.{take-sets, sets-then}
 use Rattle.theory.specs.Translatable.{translation-takes}
 use Rattle.theory.specs.Accepts.{numbers-whole}
 use Rattle.text.specs.Texts.{read-text, write-rows}
-use Rattle.text.proofs.Texts.{read-whole-rows}
+use Rattle.text.proofs.Parsing.{read-whole-rows}
 use Rattle.runner.specs.Answers.{answer-told}
 use Rattle.console.specs.Printed.{refusal-text, run-text, run-line, held, source-rows, printed}
 use Rattle.console.specs.Printed.{plain-text, run-lines, translate-output, run-output}

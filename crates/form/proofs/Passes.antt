@@ -103,7 +103,8 @@ module _ {L : Limits} {A B : Type 0} {sA : A → ℕ} {eA : ℕ → A → List �
         );
       }
 
-  -- a part whose first row is closed last: its entries are its end, those of what stands first in it, and the rest
+  -- a part whose first row is closed last: its entries are its end, those of what stands first in it, and the
+  -- rest
   pub told-close : {E₁ E₂ : List ℕ} {p q : ℕ} {s : Step} (first : List ℕ) (f : A → B) (x : Checked (Read A))
       → p ≡ at + 1 + length first → E₁ ≡ sets E (at + 1) first
       → ((a : A) (rs : List Row) → x ≡ done a rs → sB (f a) ≡ 1 + length first + sA a)

@@ -1,7 +1,7 @@
 -- Laws of rows by place: what a row tells of the record that stands there. Assumes nothing.
 use mathlib.Core.Path.{_≡_, refl, sym, ap, _∙_}
 use mathlib.Core.Option.{Option, none, some}
-use mathlib.Core.Bool.{Bool, true, false, false≢true, _&&_, cond}
+use mathlib.Core.Bool.{Bool, true, false, false≢true, cond}
 use mathlib.Core.List.{List, [], _∷_}
 use Prim.Native.Nat.{ℕ, zero, suc, _+_, _-_, _*_, _≤_, _<_}
 use native.Mathlib.Omega.{arith}
@@ -13,18 +13,18 @@ use Rattle.language.specs.Limits.{line-refusal, limit-refusal, largest}
 use Rattle.language.specs.Lists.{given, bind-option, inj}
 use Rattle.language.specs.Results.{Checked, accept, refuse, bind-checked, need-checked, require}
 use Rattle.language.specs.Rows.{Letter, letters, code, numbers, letter-among, name-of, most-at, well-made}
-use Rattle.language.specs.Rows.{Record, written, Row, row, rows-of, record-of, is-row}
-use Rattle.language.specs.Rows.{C-class, F-field, M-method, P-parameter, X-effect, S-start, B-block, V-local}
-use Rattle.language.specs.Rows.{T-true, L-false, N-null, I-slot, Z-is-null, G-get, K-cast, W-new, R-change}
-use Rattle.language.specs.Rows.{A-assign, U-set, Q-call, J-choose}
+use Rattle.language.specs.Rows.{Record, written, Row, row, rows-of, record-of, is-row, C-class, F-field}
+use Rattle.language.specs.Rows.{M-method, P-parameter, X-effect, S-start, B-block, V-local, T-true, L-false}
+use Rattle.language.specs.Rows.{N-null, I-slot, Z-is-null, G-get, K-cast, W-new, R-change, A-assign, U-set}
+use Rattle.language.specs.Rows.{Q-call, J-choose}
 use Rattle.language.specs.Form.{record-on, next}
-use Rattle.language.proofs.Rows.{are-numbers}
 use Rattle.language.proofs.Letters.{among-code}
 use Rattle.form.specs.declared.Limits.{Limits}
 use Rattle.form.specs.Columns.{most-of}
 use Rattle.form.specs.Places.{rows-from, row-at, refusal-of, refusal-on, has-code, standing, name-at}
 use Rattle.form.specs.Places.{parts-of, parts-at, There}
 use Rattle.form.specs.declared.Parts.the-variants.{NoNode}
+use Rattle.language.proofs.Booleans.{and-inv}
 
 -- ---- rows from a place on
 
@@ -81,14 +81,6 @@ pub record Known (n a b c : ℕ) : Type 0 where
   pub first-small : a ≤ 65535
   pub second-small : b ≤ 65535
 
-and-left : (x y : Bool) → x && y ≡ true → x ≡ true
-and-left true y e = refl
-and-left false y e = absurd (false≢true e)
-
-and-right : (x y : Bool) → x && y ≡ true → y ≡ true
-and-right true y e = e
-and-right false y e = absurd (false≢true e)
-
 in-largest : (t : Bool) (a : ℕ) → leb a (cond t largest 0) ≡ true → a ≤ 65535
 in-largest true a e = leb-true a 65535 e
 in-largest false a e = omega (arith, leb-true a 0 e)
@@ -104,9 +96,9 @@ module _ (n a b c : ℕ) where
         letter = l;
         found = q;
         record-is = rw (q, w);
-        first-small = in-largest (leb 1 (numbers l)) a (and-left (leb a (most-at 1 l)) _ w);
+        first-small = in-largest (leb 1 (numbers l)) a (and-inv (leb a (most-at 1 l)) _ w .0);
         second-small = in-largest (leb 2 (numbers l)) b
-            (and-left (leb b (most-at 2 l)) _ (and-right (leb a (most-at 1 l)) _ w));
+            (and-inv (leb b (most-at 2 l)) _ (and-inv (leb a (most-at 1 l)) _ w .1) .0);
       }
       made l q false w e = absurd (false≢true e)
 
@@ -198,7 +190,8 @@ pub record Here (L : Limits) (R : List ℕ) (at : ℕ) : Type 0 where
   pub first-small : getD R (at * 4 + 1) 0 ≤ 65535
   pub second-small : getD R (at * 4 + 2) 0 ≤ 65535
 
--- a refused record is refused on its line by a number above 0; one that is not comes of a row that is not malformed
+-- a refused record is refused on its line by a number above 0; one that is not comes of a row that is not
+-- malformed
 module _ (L : Limits) (line : ℕ) (r : Row) where
   record-refused : (n l : ℕ) → record-on (most-of L) line r ≡ refuse n l → (l ≡ line) × (n ≡ 0 → ⊥)
   unfolding record-on need-checked require
@@ -383,13 +376,6 @@ parts-other n a b h84 h76 h78 h73 h87 h82 h90 h71 h75 h65 h85 h74 h81 h66 = go (
         (λ z. h73 (sym q ∙ z)) (λ z. h87 (sym q ∙ z)) (λ z. h82 (sym q ∙ z)) (λ z. h90 (sym q ∙ z))
         (λ z. h71 (sym q ∙ z)) (λ z. h75 (sym q ∙ z)) (λ z. h65 (sym q ∙ z)) (λ z. h85 (sym q ∙ z))
         (λ z. h74 (sym q ∙ z)) (λ z. h81 (sym q ∙ z)) (λ z. h66 (sym q ∙ z)))
-
--- a first number out of range, where there is one
-pub first-big : (k a b : ℕ) → (k ≡ 0 → ⊥) → 65535 < a → are-numbers k a b ≡ false
-first-big zero a b n h = absurd (n refl)
-first-big (suc zero) a b n h = rw (lt-leb a 65535 h)
-first-big (suc (suc zero)) a b n h = rw (lt-leb a 65535 h)
-first-big (suc (suc (suc k))) a b n h = refl
 
 -- a test of equality, turned round
 pub eqb-turn : (a b : ℕ) → eqb a b ≡ eqb b a

@@ -1,14 +1,13 @@
 -- Each letter's node is read as its V lines and its children. Assumes nothing.
-use mathlib.Core.Path.{_≡_, refl, ap}
-use mathlib.Core.List.{List, [], _∷_, _++_}
+use mathlib.Core.List.{append-nil, List, [], _∷_, _++_}
+use mathlib.Core.Path.{_≡_, refl}
 use Prim.Native.Nat.{ℕ, suc, _+_, _-_}
 use native.Mathlib.Omega.{arith}
 use borrow.Author.Tests.{ne-eqb}
 use Rattle.language.specs.Results.{Checked, accept, refuse, require}
-use Rattle.language.specs.Rows.{Letter, code, Row}
-use Rattle.language.specs.Rows.{C-class, F-field, M-method, P-parameter, X-effect, S-start, B-block, V-local}
-use Rattle.language.specs.Rows.{T-true, L-false, N-null, I-slot, Z-is-null, G-get, K-cast, W-new, R-change}
-use Rattle.language.specs.Rows.{A-assign, U-set, Q-call, J-choose}
+use Rattle.language.specs.Rows.{Letter, code, Row, C-class, F-field, M-method, P-parameter, X-effect, S-start}
+use Rattle.language.specs.Rows.{B-block, V-local, T-true, L-false, N-null, I-slot, Z-is-null, G-get, K-cast}
+use Rattle.language.specs.Rows.{W-new, R-change, A-assign, U-set, Q-call, J-choose}
 use Rattle.language.specs.Tree.{DeclaredType, Expr, literal-true, literal-false, literal-null, slot, is-null}
 use Rattle.language.specs.Tree.{get, cast, new, change, assign, set, call, choose, block, Exprs, nil, cons}
 use Rattle.language.specs.Tree.{count, size, sizes}
@@ -56,10 +55,6 @@ makes-one : (f : Expr → Expr) → ((e : Expr) → size (f e) ≡ 1 + size e)
 unfolding count sizes ends-list next-rows
 makes-one f s g = record { lines = λ ts es p q. lines es q; ends = λ ts es at p q. ends es at q }
   where
-    nothing : (xs : List ℕ) → xs ++ [] ≡ xs
-    nothing [] = refl
-    nothing (x ∷ xs) = ap (λ r. x ∷ r) (nothing xs)
-
     lines : (es : Exprs) → count es ≡ 1 → size (f (first-of es)) ≡ 1 + 0 + sizes es
     lines nil q = absurd (omega (arith, q))
     lines (cons e nil) q = omega (arith, s e)
@@ -72,17 +67,13 @@ makes-one f s g = record { lines = λ ts es p q. lines es q; ends = λ ts es at 
     ends (cons e nil) at q =
         let h : at + (1 + 0 + (size e + 0)) ≡ at + (1 + size e) = omega arith in
         let k : at + 1 + 0 ≡ at + 1 = omega arith in
-        rw (h, k, nothing (ends-of (at + 1) e)) (g at e)
+        rw (h, k, append-nil (ends-of (at + 1) e)) (g at e)
     ends (cons e (cons x es)) at q = absurd (omega (arith, q))
 
 makes-set : (f : ℕ) → Makes 0 2 (λ ts es. set f (first-of es) (first-of (rest-of es)))
 unfolding count size ends-of next-rows
 makes-set f = record { lines = λ ts es p q. lines es q; ends = λ ts es at p q. ends es at q }
   where
-    nothing : (xs : List ℕ) → xs ++ [] ≡ xs
-    nothing [] = refl
-    nothing (x ∷ xs) = ap (λ r. x ∷ r) (nothing xs)
-
     lines : (es : Exprs) → count es ≡ 2
         → size (set f (first-of es) (first-of (rest-of es))) ≡ 1 + 0 + sizes es
     lines nil q = absurd (omega (arith, q))
@@ -98,7 +89,7 @@ makes-set f = record { lines = λ ts es p q. lines es q; ends = λ ts es at p q.
     ends (cons e (cons x nil)) at q =
         let h : at + (1 + 0 + (size e + (size x + 0))) ≡ at + (1 + size e + size x) = omega arith in
         let k : at + 1 + 0 ≡ at + 1 = omega arith in
-        rw (h, k, nothing (ends-of (at + 1 + size e) x))
+        rw (h, k, append-nil (ends-of (at + 1 + size e) x))
     ends (cons e (cons x (cons y es))) at q = absurd (omega (arith, q))
 
 makes-choose : Makes 0 3
@@ -106,10 +97,6 @@ makes-choose : Makes 0 3
 unfolding count size ends-of next-rows
 makes-choose = record { lines = λ ts es p q. lines es q; ends = λ ts es at p q. ends es at q }
   where
-    nothing : (xs : List ℕ) → xs ++ [] ≡ xs
-    nothing [] = refl
-    nothing (x ∷ xs) = ap (λ r. x ∷ r) (nothing xs)
-
     lines : (es : Exprs) → count es ≡ 3
         → size (choose (first-of es) (first-of (rest-of es)) (first-of (rest-of (rest-of es))))
         ≡ 1 + 0 + sizes es
@@ -129,7 +116,7 @@ makes-choose = record { lines = λ ts es p q. lines es q; ends = λ ts es at p q
         let h : at + (1 + 0 + (size e + (size x + (size y + 0)))) ≡ at + (1 + size e + size x + size y) =
         omega arith in
         let k : at + 1 + 0 ≡ at + 1 = omega arith in
-        rw (h, k, nothing (ends-of (at + 1 + size e + size x) y))
+        rw (h, k, append-nil (ends-of (at + 1 + size e + size x) y))
     ends (cons e (cons x (cons y (cons z es)))) at q = absurd (omega (arith, q))
 
 makes-call : (m b : ℕ) → Makes 0 (b + 1) (λ ts es. call m (first-of es) (rest-of es))

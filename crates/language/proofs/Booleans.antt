@@ -1,12 +1,10 @@
 -- Laws of the tests on booleans. Assumes nothing.
 use mathlib.Core.Path.{_≡_, refl}
-use mathlib.Core.Bool.{Bool, true, false, _&&_, _||_, not}
+use mathlib.Core.Bool.{Bool, true, false, false≢true, _&&_, _||_, not}
 use mathlib.Core.Logic.{_⊎_, inl, inr}
-use Prim.Native.Nat.{ℕ}
-use native.Mathlib.Omega.{arith}
 
 pub false≢ : {A : Type 0} → _≡_ {A = Bool} false true → A
-false≢ e = absurd (let z : _≡_ {A = ℕ} 0 1 = cc in omega arith)
+false≢ e = absurd (false≢true e)
 
 pub and-inv : (a b : Bool) → (a && b) ≡ true → (a ≡ true) × (b ≡ true)
 and-inv true b e = (refl, e)

@@ -3,27 +3,21 @@
 use mathlib.Core.Path.{_≡_, refl, sym, ap₂, _∙_}
 use mathlib.Core.Bool.{Bool, true, false, _||_, cond}
 use mathlib.Core.Option.{Option, none, some}
-use mathlib.Core.List.{List, [], _∷_}
+use mathlib.Core.List.{List}
 use Prim.Native.Nat.{ℕ, zero, suc, _≤_, _<_}
 use native.Mathlib.Omega.{arith}
 use borrow.Author.Tests.{ne-eqb}
 use lib.Dec.{eqb}
 use lib.ListN.{length}
-use Rattle.language.specs.Lists.{nth, choice, given, nth-lt, Never}
+use Rattle.language.specs.Lists.{nth-some, choice, given, nth-lt, Never}
 use Rattle.language.specs.Tree.{root, Class}
 use Rattle.language.specs.Effects.{member, join, effect-of, apply-class}
 use Rattle.language.specs.Program.{is-state, class-at, below-at, root-at, nearest-at, world}
 use Rattle.language.specs.ClassTables.{above-at, above}
 use Rattle.language.proofs.Effects.{member-join, member-none, member-of}
 
--- A number up to the count is Object or a class.
-nth-some : {A : Type 0} (l : List A) (k : ℕ) → k < length l → (a : A) × (nth l k ≡ some a)
-unfolding nth
-nth-some [] k h = absurd (omega arith)
-nth-some (x ∷ l) zero h = (x, refl)
-nth-some (x ∷ l) (suc k) h = nth-some l k (omega arith)
-
 module _ (P : List Class) where
+  -- A number up to the count is Object or a class.
   pub class-some : (k : ℕ) → 1 ≤ k → k ≤ length P → (c : Class) × (class-at P k ≡ some c)
   unfolding class-at
   class-some zero h l = absurd (omega arith)

@@ -12,7 +12,7 @@ use lib.Bits.{bitAnd, bitOr, or-shr, or-mod, and-mask}
 use lib.Pow.{pow-pos, pow-lt, pow-add, shl-exact, shl-shr}
 use Rattle.language.specs.Effects.{no-effect, member, join, effect-of}
 
-small : (n : ℕ) → n % 2 < 2
+pub small : (n : ℕ) → n % 2 < 2
 small n = omega arith
 
 or-bit : (x y : ℕ) → x < 2 → y < 2 → eqb (bitOr x y) 1 ≡ eqb x 1 || eqb y 1

@@ -1,16 +1,37 @@
--- Laws of the table of ends: it has an entry for each row. Assumes nothing.
+-- Laws of the table of ends: it has an entry for each row, and a node and a method have one row at least.
+-- Assumes nothing.
+use Prim.Native.Nat.{ℕ, zero, suc, _+_, _≤_}
 use mathlib.Core.Path.{_≡_, refl, ap}
 use mathlib.Core.List.{List, [], _∷_}
-use Prim.Native.Nat.{ℕ, zero, suc, _+_}
 use native.Mathlib.Omega.{arith}
 use lib.ListN.{length, length-append}
 use Rattle.language.specs.Tree.{Expr, literal-true, literal-false, literal-null, slot, is-null, get}
 use Rattle.language.specs.Tree.{cast, new, change, assign, set, call, choose, block, Exprs, nil, cons}
-use Rattle.language.specs.Tree.{size, sizes}
-use Rattle.language.specs.Tree.{Declaration, heading-lines, method-lines, methods-lines, Class}
-use Rattle.language.specs.Tree.{class-lines, classes-lines}
+use Rattle.language.specs.Tree.{size, sizes, Declaration, heading-lines, method-lines, methods-lines}
+use Rattle.language.specs.Tree.{Class, class-lines, classes-lines}
 use Rattle.language.specs.Tables.{next-rows, ends-of, ends-list, method-ends, methods-ends, class-ends}
 use Rattle.language.specs.Tables.{classes-ends}
+
+pub size-positive : (e : Expr) → 1 ≤ size e
+unfolding size
+size-positive literal-true = omega arith
+size-positive literal-false = omega arith
+size-positive literal-null = omega arith
+size-positive (slot k) = omega arith
+size-positive (is-null e) = omega arith
+size-positive (get f e) = omega arith
+size-positive (cast c e) = omega arith
+size-positive (new c) = omega arith
+size-positive (change k d) = omega arith
+size-positive (assign k e) = omega arith
+size-positive (set f e e′) = omega arith
+size-positive (call m e es) = omega arith
+size-positive (choose a b c) = omega arith
+size-positive (block ts es) = omega arith
+
+pub method-positive : (m : Declaration) → 1 ≤ method-lines m
+unfolding method-lines heading-lines
+method-positive m = omega arith
 
 pub next-rows-long : (at k : ℕ) → length (next-rows at k) ≡ k
 unfolding next-rows

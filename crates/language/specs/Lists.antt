@@ -134,6 +134,12 @@ module _ {A : Type 0} where
   nth-set-other (x ∷ l) (suc i) zero a n = refl
   nth-set-other (x ∷ l) (suc i) (suc j) a n = nth-set-other l i j a (λ e. n (ap suc e))
 
+  pub nth-some : (l : List A) (i : ℕ) → i < length l → (a : A) × (nth l i ≡ some a)
+  unfolding nth
+  nth-some [] i p = absurd (omega arith)
+  nth-some (x ∷ l) zero p = (x, refl)
+  nth-some (x ∷ l) (suc i) p = nth-some l i (omega arith)
+
   pub nth-append : (l r : List A) (i : ℕ) (a : A) → nth l i ≡ some a → nth (l ++ r) i ≡ some a
   unfolding nth
   nth-append [] r i a e = absurd (Never e)

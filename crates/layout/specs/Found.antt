@@ -1,11 +1,11 @@
--- What a lookup by row finds in a program whose parts stand in rows (`ProgramAt`). No theorem here asks that classes are
--- well formed; k is any number.
+-- What a lookup by row finds in a program whose parts stand in rows (`ProgramAt`). No theorem here asks that
+-- classes are well formed; k is any number.
 --   class-here    the class of number k: its C line is row class-row P k
 --   found-row     where method-row P k m is some row r, the declaring class and the declaration: `FoundRow`
 --   found-none    where there is no row, no method is found; row-some: where a method is found, there is a row
 --   at-found      what holds of each method of each class holds of the one found
---   method-here   its lines and its body in rows, and its form; looks-up-here: its lookup classes in the table of them
---   field-here    the i-th field of class k has a row, and its F line there; row-here: the other way round
+--   method-here   its lines and its body in rows, and its form
+--   field-here    the i-th field of class k has a row, and its F line there
 --   body-here     a body is a block, whose B line is its first row
 use mathlib.Core.Path.{_≡_, refl, sym, ap, _∙_, subst}
 use Prim.Native.Nat.{ℕ, zero, suc, _+_, _-_}
@@ -17,7 +17,7 @@ use lib.Dec.{eqb}
 use borrow.Author.Tests.{eqb-true}
 use native.Mathlib.Omega.{arith}
 use Rattle.language.specs.Limits.{Most, of-check}
-use Rattle.language.specs.Lists.{nth, given, choice, Never, inj, All2, a-nil, a-cons, all2-at, all2-at′}
+use Rattle.language.specs.Lists.{nth, given, choice, Never, inj, All2, a-nil, a-cons, all2-at′}
 use Rattle.language.specs.Lists.{all2-append}
 use Rattle.language.specs.Rows.{F-field, B-block}
 use Rattle.language.specs.Tree.{DeclaredType, type-number, Expr, block, Exprs, count, size, Field}
@@ -25,16 +25,13 @@ use Rattle.language.specs.Tree.{Declaration, Class}
 use Rattle.language.specs.Tree.{Program, method-lines, class-lines, classes-lines}
 use Rattle.language.specs.World.{Method}
 use Rattle.language.specs.Program.{method-of, declared, class-at, fields-at, method-at, world}
-use Rattle.language.specs.Typing.{method-environment}
 use Rattle.language.specs.WellFormed.{Each, each-cons, FieldInForm, MethodInForm, ClassInForm, BodyInForm}
 use Rattle.language.specs.WellFormed.{form-body}
 use Rattle.language.specs.ClassTables.{rows-from, declared-row, class-row, field-rows-at, field-rows}
 use Rattle.language.specs.ClassTables.{method-row-at, method-row}
-use Rattle.language.specs.LookupClasses.{LooksUp}
 use Rattle.language.specs.Encoded.{RowAt, NodeAt, LinesAt, Encoded}
 use Rattle.language.specs.Layout.{EachMethod, EachClass, FieldsAt, MethodAt, ClassAt, ProgramAt}
-use Rattle.language.specs.Layout.{LooksUpProgram}
-use Rattle.language.specs.Layout.{body-row, methods-from-row}
+use Rattle.language.specs.Layout.{methods-from-row}
 use Rattle.theory.specs.Lookups.{each-at}
 
 -- ---- classes
@@ -247,13 +244,6 @@ module _ (P : List Class) where
       go none q = absurd (Never (sym (found-none k m q) ∙ e))
       go (some r) q = (r, q)
 
-  pub row-none : (k m : ℕ) → world P .method k m ≡ none → method-row P k m ≡ none
-  row-none k m e = go (method-row P k m) refl
-    where
-      go : (o : Option ℕ) → method-row P k m ≡ o → method-row P k m ≡ none
-      go none q = q
-      go (some r) q = absurd (Never (sym e ∙ found-row k m r q .found))
-
   pub at-found : (Q : ℕ → Declaration → ℕ → Type 0)
       → EachClass (λ k c r. EachMethod Q (c .methods) k (methods-from-row r c)) P 1 0
       → (k m r : ℕ) (x : FoundRow P k m r) → Q (x .owner) (x .declaration) r
@@ -280,15 +270,6 @@ method-here {R} {E} {p} h k m r e = let x = found-row (p .classes) k m r e in re
   in-form = each-at (class-in-form h (x .owner) (x .owning) (x .is-class) .methods) (x .place)
       (x .declaration) (x .there);
 }
-
-pub looks-up-here : {C : List ℕ} {p : Program} → LooksUpProgram C p
-    → (k m r : ℕ) (x : FoundRow (p .classes) k m r)
-    → LooksUp (world (p .classes)) C (x .declaration .body)
-    (method-environment (x .owner) (x .declaration .parameters))
-    (body-row r (x .declaration))
-looks-up-here {C} {p} h k m r x = at-found (p .classes)
-    (λ k m r. LooksUp (world (p .classes)) C (m .body) (method-environment k (m .parameters)) (body-row r m))
-    (h .methods) k m r x
 
 -- ---- fields
 
@@ -329,10 +310,6 @@ module _ {R E : List ℕ} {p : Program} (h : ProgramAt R E p) where
   pub field-here : (k i : ℕ) (f : Field) → nth (world (p .classes) .fields k) i ≡ some f
       → (r : ℕ) × (nth (field-rows (p .classes) k) i ≡ some r) × FieldHere R f r
   field-here k i f e = all2-at′ (all-fields-here k) i f e
-
-  pub row-here : (k i r : ℕ) → nth (field-rows (p .classes) k) i ≡ some r
-      → (f : Field) × (nth (world (p .classes) .fields k) i ≡ some f) × FieldHere R f r
-  row-here k i r e = all2-at (all-fields-here k) i r e
 
 -- ---- bodies
 

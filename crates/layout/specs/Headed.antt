@@ -1,11 +1,11 @@
--- What the heading pass's acceptance gives by itself, before any body is typed: superclasses come earlier, every type in a
--- heading is declared, X lines name classes, no class has more than 17 fields.
-use mathlib.Core.Path.{_≡_, refl, sym, ap, subst}
+-- What the heading pass's acceptance gives by itself, before any body is typed: superclasses come earlier,
+-- every type in a heading is declared, X lines name classes, no class has more than 17 fields.
+use mathlib.Core.Path.{_≡_, sym, ap, subst}
 use Prim.Native.Nat.{ℕ, zero, suc, _+_, _≤_, _<_}
-use mathlib.Core.Option.{Option, none, some}
+use mathlib.Core.Option.{Option, some}
 use mathlib.Core.Bool.{true, false≢true}
-use mathlib.Core.List.{List, [], _∷_, _++_, append-assoc}
-use lib.ListN.{length, length-append}
+use mathlib.Core.List.{List, [], _∷_}
+use lib.ListN.{length}
 use native.Mathlib.Omega.{arith}
 use borrow.Author.Tests.{ltb-true}
 use Rattle.language.specs.Limits.{of-check}
@@ -14,7 +14,7 @@ use Rattle.language.specs.Results.{accept, bind-checked-inv, require-inv}
 use Rattle.language.specs.Tree.{DeclaredType, Kind, unknown, Field, Declaration, Class, class-lines}
 use Rattle.language.specs.Tree.{method-lines}
 use Rattle.language.specs.World.{World, is-declared-type}
-use Rattle.language.specs.Program.{is-plain, is-root, is-state, class-at, kind-at, fields-at, world}
+use Rattle.language.specs.Program.{is-plain, is-root, is-state, class-at, kind-at, world}
 use Rattle.language.specs.Headings.{check-methods, check-class, check-classes, headings}
 use Rattle.language.specs.Rules.{Declared, declared-nil, declared-cons}
 use Rattle.language.specs.WellFormed.{Each, each-nil, each-cons, Extends, plain-object, plain-plain}
@@ -22,7 +22,8 @@ use Rattle.language.specs.WellFormed.{root-object, root-plain, state-root, stat
 use Rattle.language.specs.WellFormed.{well-cons, EffectWell, well-none, well-root}
 use Rattle.language.proofs.Classes.{class-count}
 use Rattle.theory.specs.WellEqual.{extends, fields-well, parameters-well, effects-well}
-use Rattle.theory.specs.Superclasses.{fields-of-class, no-class-no-fields}
+use Rattle.theory.specs.Superclasses.{fields-law}
+use Rattle.theory.specs.MoreLookups.{own-few}
 use Rattle.theory.specs.Lookups.{each-at, each-append}
 use Rattle.layout.specs.Found.{FoundRow}
 
@@ -67,12 +68,6 @@ module _ (P : List Class) where
       → Each (λ (f : Field). is-declared-type (world P) (f .type) ≡ true) fs
   own-declared well-nil = each-nil
   own-declared (well-cons a b c d w) = each-cons b (own-declared w)
-
-  own-few : {before fs : List Field} → FieldsWell P before fs → length before ≤ of-check .fields
-      → length (before ++ fs) ≤ of-check .fields
-  own-few {before} well-nil l = omega (arith, l, length-append before [])
-  own-few {before} (well-cons {fs} {f} a b c s w) l = subst (λ (r : List Field). length r ≤ of-check .fields)
-      (append-assoc before (f ∷ []) fs) (own-few w (omega (arith, a, length-append before (f ∷ []))))
 
   methods-headed : (super at : ℕ) (before ms : List Declaration) (u : Unit {0})
       → check-methods of-check P super before at ms ≡ accept u → Each (MethodHeaded P) ms
@@ -121,24 +116,9 @@ module _ (P : List Class) where
     pub kinds-known : (k n : ℕ) (c : Class) → class-at P k ≡ some c → c .kind ≡ unknown n → ⊥
     kinds-known k n c e = kind-known n (class-headed k c e .kind)
 
-    -- A law that a class's fields have if its superclass's have it.
-    fields-law : (Q : List Field → Type 0) → Q []
-        → ((k : ℕ) (c : Class) → class-at P k ≡ some c → Q (fields-at P (suc (c .super)) (c .super))
-        → Q (fields-at P (suc (c .super)) (c .super) ++ c .fields))
-        → (n k : ℕ) → k < n → Q (fields-at P (suc k) k)
-    fields-law Q q f zero k l = absurd (omega arith)
-    fields-law Q q f (suc n) k l =
-        go (class-at P k) refl (λ c p. fields-law Q q f n (c .super) (omega (arith, super-lower k c p)))
-      where
-        go : (o : Option Class) → class-at P k ≡ o
-            → ((c : Class) → class-at P k ≡ some c → Q (fields-at P (suc (c .super)) (c .super)))
-            → Q (fields-at P (suc k) k)
-        go none e rec = subst Q (sym (no-class-no-fields P super-lower k e)) q
-        go (some c) e rec = subst Q (sym (fields-of-class P super-lower k c e)) (f k c e (rec c e))
-
     pub fields-few : (k : ℕ) → length (world P .fields k) ≤ 17
     unfolding world
-    fields-few k = fields-law (λ fs. length fs ≤ 17) (omega arith)
+    fields-few k = fields-law P super-lower (λ fs. length fs ≤ 17) (omega arith)
         (λ k c p l. own-few (class-headed k c p .fields) l)
         (suc k) k (omega arith)
 
@@ -146,7 +126,7 @@ module _ (P : List Class) where
         → is-declared-type (world P) (f .type) ≡ true
     unfolding world
     field-declared k i f e = each-at
-        (fields-law (Each (λ (f : Field). is-declared-type (world P) (f .type) ≡ true)) each-nil
+        (fields-law P super-lower (Each (λ (f : Field). is-declared-type (world P) (f .type) ≡ true)) each-nil
         (λ k c p l. each-append l (own-declared (class-headed k c p .fields))) (suc k) k (omega arith)) i f e
 
     pub method-headed : (k m r : ℕ) (x : FoundRow P k m r) → MethodHeaded P (x .declaration)

@@ -9,7 +9,8 @@ use Rattle.language.specs.Rows.{Record, row-of, numbers-of}
 use Rattle.language.specs.Encoded.{RowAt, LinesAt}
 
 module _ {A : Type 0} (Q : A → ℕ → Type 0) where
-  lines-append : (xs ys : List A) (r : ℕ) → LinesAt Q (xs ++ ys) r → LinesAt Q xs r × LinesAt Q ys (r + length xs)
+  lines-append : (xs ys : List A) (r : ℕ) → LinesAt Q (xs ++ ys) r
+      → LinesAt Q xs r × LinesAt Q ys (r + length xs)
   unfolding LinesAt
   lines-append [] ys r h = let z : r ≡ r + 0 = omega arith in (tt, subst (LinesAt Q ys) z h)
   lines-append (x ∷ xs) ys r h =

@@ -1,4 +1,5 @@
--- Where the parts of a program stand in its rows and in the table of ends: the form pass's answer makes `ProgramAt`.
+-- Where the parts of a program stand in its rows and in the table of ends: the form pass's answer makes
+-- `ProgramAt`.
 use mathlib.Core.Path.{_≡_, refl, sym, ap, _∙_, subst}
 use Prim.Native.Nat.{ℕ, suc, _+_, _*_, _%_}
 use mathlib.Core.List.{List, [], _∷_, _++_, map}
@@ -8,7 +9,7 @@ use Rattle.language.specs.Limits.{of-check}
 use Rattle.language.specs.Results.{accept}
 use Rattle.language.specs.Rows.{Letter, F-field, P-parameter, X-effect, S-start, V-local, Record}
 use Rattle.language.specs.Rows.{written, row-of, rows-of, numbers-of}
-use Rattle.language.specs.Tree.{DeclaredType, type-number, Expr, literal-true, literal-false, literal-null}
+use Rattle.language.specs.Tree.{type-number, Expr, literal-true, literal-false, literal-null}
 use Rattle.language.specs.Tree.{slot}
 use Rattle.language.specs.Tree.{is-null, get, cast, new, change, assign, set, call, choose, block, Exprs, nil}
 use Rattle.language.specs.Tree.{cons}

@@ -1,5 +1,6 @@
 pub mod Decimals
 pub mod Digits
 pub mod Lines
-pub mod Texts
+pub mod Parsing
+pub mod Formatting
 pub mod RoundTrip

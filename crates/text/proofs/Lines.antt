@@ -1,6 +1,6 @@
 -- Laws of lines. Assumes nothing.
 use mathlib.Core.Path.{_≡_, refl, sym, ap, _∙_}
-use mathlib.Core.Bool.{Bool, true, false, _&&_, cond, false≢true}
+use mathlib.Core.Bool.{Bool, true, false, cond, false≢true}
 use mathlib.Core.List.{List, [], _∷_, _++_, append-assoc}
 use Prim.Native.Nat.{ℕ, zero, suc, _+_, _-_, _≤_, _<_}
 use native.Mathlib.Numerals.{add-one}
@@ -21,6 +21,7 @@ use Rattle.text.specs.declared.Decimal.the-variants.{Is, Bad}
 use Rattle.text.specs.declared.Taken.{Taken}
 use Rattle.text.specs.declared.Taken.the-variants.{Number, NoNumber}
 use Rattle.text.specs.declared.Line.the-variants.{Row, Malformed}
+use Rattle.language.proofs.Booleans.{and-inv}
 
 -- the part from at to e goes on, or ends
 pub field-end : (s : List ℕ) (e : ℕ) → e < length s → is-end (getD s e 0) ≡ true → field (drop e s) ≡ []
@@ -310,17 +311,9 @@ numbers-known (suc zero) a b e = omega arith
 numbers-known (suc (suc zero)) a b e = omega arith
 numbers-known (suc (suc (suc k))) a b e = absurd (false≢true e)
 
-pub and-right : (x y : Bool) → x && y ≡ true → y ≡ true
-and-right true y e = e
-and-right false y e = absurd (false≢true e)
-
-pub and-left : (x y : Bool) → x && y ≡ true → x ≡ true
-and-left true y e = refl
-and-left false y e = e
-
 row-numbers : (code a b c : ℕ) → is-row (row code a b c) ≡ true → are-numbers (numbers-after code) a b ≡ true
 row-numbers code a b c e =
-    and-right (eqb c 0) (are-numbers (numbers-after code) a b) (sym (is-row-by code a b c) ∙ e)
+    and-inv (eqb c 0) (are-numbers (numbers-after code) a b) (sym (is-row-by code a b c) ∙ e) .1
 
 pub row-known : (code a b c : ℕ) → is-row (row code a b c) ≡ true → numbers-after code < 3
 row-known code a b c e = numbers-known (numbers-after code) a b (row-numbers code a b c e)
@@ -334,13 +327,13 @@ row-short code a b c e = go (numbers-after code) refl (row-numbers code a b c e)
       arith,
       length-one code a b q,
       length-most a
-          (leb-true a 65535 (and-left (leb a 65535) (eqb b 0) f)),
+          (leb-true a 65535 (and-inv (leb a 65535) (eqb b 0) f .0)),
     )
     go (suc (suc zero)) q f =
         omega (
           arith,
           length-two code a b q,
-          length-most a (leb-true a 65535 (and-left (leb a 65535) (leb b 65535) f)),
-          length-most b (leb-true b 65535 (and-right (leb a 65535) (leb b 65535) f)),
+          length-most a (leb-true a 65535 (and-inv (leb a 65535) (leb b 65535) f .0)),
+          length-most b (leb-true b 65535 (and-inv (leb a 65535) (leb b 65535) f .1)),
         )
     go (suc (suc (suc k))) q f = absurd (false≢true f)

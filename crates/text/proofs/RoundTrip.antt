@@ -24,8 +24,10 @@ use Rattle.text.specs.declared.Taken.the-variants.{Number, NoNumber}
 use Rattle.text.specs.declared.Line.{Line}
 use Rattle.text.specs.declared.Line.the-variants.{Row, Malformed}
 use Rattle.text.proofs.Digits.{decimal-back, decimal-forth, field-digits, decimal-range}
-use Rattle.text.proofs.Lines.{text-none, text-one, text-two, and-left, and-right}
-use Rattle.text.proofs.Texts.{read-whole-rows, rows-are-whole}
+use Rattle.text.proofs.Lines.{text-none, text-one, text-two}
+use Rattle.text.proofs.Parsing.{read-whole-rows}
+use Rattle.text.proofs.Formatting.{rows-are-whole}
+use Rattle.language.proofs.Booleans.{and-inv}
 
 -- ---- a line that was read is the line of its row
 
@@ -239,22 +241,22 @@ line-forth : (code a b c : ℕ) (t : List ℕ) → is-row (row code a b c) ≡ t
     → (c ≡ 0) × (line-of (line-text code a b ++ t) ≡ Row code a b (length (line-text code a b)))
 line-forth code a b c t e =
     let f = sym (is-row-by code a b c) ∙ e in (
-      eqb-true c 0 (and-left (eqb c 0) (are-numbers (numbers-after code) a b) f),
-      go (numbers-after code) refl (and-right (eqb c 0) (are-numbers (numbers-after code) a b) f),
+      eqb-true c 0 (and-inv (eqb c 0) (are-numbers (numbers-after code) a b) f .0),
+      go (numbers-after code) refl (and-inv (eqb c 0) (are-numbers (numbers-after code) a b) f .1),
     )
   where
     go : (k : ℕ) → numbers-after code ≡ k → are-numbers k a b ≡ true
         → line-of (line-text code a b ++ t) ≡ Row code a b (length (line-text code a b))
     go zero k f =
-        let p : a ≡ 0 = eqb-true a 0 (and-left (eqb a 0) (eqb b 0) f) in
-        let q : b ≡ 0 = eqb-true b 0 (and-right (eqb a 0) (eqb b 0) f) in
+        let p : a ≡ 0 = eqb-true a 0 (and-inv (eqb a 0) (eqb b 0) f .0) in
+        let q : b ≡ 0 = eqb-true b 0 (and-inv (eqb a 0) (eqb b 0) f .1) in
         rw (p, q) (none-forth code a b t k)
     go (suc zero) k f =
-        let q : b ≡ 0 = eqb-true b 0 (and-right (leb a 65535) (eqb b 0) f) in
-        rw q (one-forth code a b t k (leb-true a 65535 (and-left (leb a 65535) (eqb b 0) f)))
+        let q : b ≡ 0 = eqb-true b 0 (and-inv (leb a 65535) (eqb b 0) f .1) in
+        rw q (one-forth code a b t k (leb-true a 65535 (and-inv (leb a 65535) (eqb b 0) f .0)))
     go (suc (suc zero)) k f =
-        two-forth code a b t k (leb-true a 65535 (and-left (leb a 65535) (leb b 65535) f))
-        (leb-true b 65535 (and-right (leb a 65535) (leb b 65535) f))
+        two-forth code a b t k (leb-true a 65535 (and-inv (leb a 65535) (leb b 65535) f .0))
+        (leb-true b 65535 (and-inv (leb a 65535) (leb b 65535) f .1))
     go (suc (suc (suc j))) k f = absurd (false≢true f)
 
 -- a line is not empty, and reading it leaves what follows

@@ -46,8 +46,9 @@ numbers-count (r ∷ rs) = omega (arith, numbers-count rs)
 pub numbers-whole : (rs : List Row) → length (numbers-of rs) % numbers-a-row ≡ 0
 numbers-whole rs = omega (arith, numbers-count rs)
 
--- The numbers are whole rows, those of a program that is in form, within the limits of 60,000 rows, 64 classes,
--- 8 parameters, 256 slots, nesting 128 and names up to 255, and whose headings and bodies are well formed.
+-- The numbers are whole rows, those of a program that is in form, within the limits of 60,000 rows, 64
+-- classes, 8 parameters, 256 slots, nesting 128 and names up to 255, and whose headings and bodies are well
+-- formed.
 pub record RowsOf (ns : List ℕ) (p : Program) : Type 0 where
   pub rows : numbers-of (map row-of (flatten-program p)) ≡ ns
   pub in-form : ProgramInForm of-check p

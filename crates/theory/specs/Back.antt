@@ -19,6 +19,7 @@ use Rattle.language.specs.WellFormed.{form-true, form-false, form-null, form-sl
 use Rattle.language.specs.WellFormed.{form-cast, form-new, form-change, form-assign, form-set, form-call}
 use Rattle.language.specs.WellFormed.{form-choose, form-block, form-nil, form-cons}
 use Rattle.language.proofs.Letters.{code-among}
+use Rattle.language.proofs.Tables.{size-positive}
 
 module _ (most : Most) (named : most .name ≤ largest) (slotted : most .slots ≤ largest) where
   pub on-line : (l : Letter) (a b at : ℕ) → a ≤ most-at 1 l → b ≤ most-at 2 l → at ≤ most .rows
@@ -44,23 +45,6 @@ module _ (most : Most) (named : most .name ≤ largest) (slotted : most .slots �
       → next most at (row-of (written l a b) ∷ rs) k ≡ k (written l a b) rs
   unfolding next bind-checked
   taken l a b at rs k p q r s = rw (on-line l a b at p q r s)
-
-  pub size-pos : (e : Expr) → 1 ≤ size e
-  unfolding size
-  size-pos literal-true = omega arith
-  size-pos literal-false = omega arith
-  size-pos literal-null = omega arith
-  size-pos (slot k) = omega arith
-  size-pos (is-null e) = omega arith
-  size-pos (get f e) = omega arith
-  size-pos (cast c e) = omega arith
-  size-pos (new c) = omega arith
-  size-pos (change k d) = omega arith
-  size-pos (assign k e) = omega arith
-  size-pos (set f e e′) = omega arith
-  size-pos (call m e es) = omega arith
-  size-pos (choose a b c) = omega arith
-  size-pos (block ts es) = omega arith
 
   abbrev local : DeclaredType → Row
   local t = row-of (written V-local (type-number t) 0)
@@ -95,14 +79,14 @@ module _ (most : Most) (named : most .name ≤ largest) (slotted : most .slots �
         taken I-slot k 0 at rs _ p (omega arith) (omega arith) (omega arith)
     node-flat (is-null e) (form-is-null f) at rs l =
         taken Z-is-null 0 0 at (map row-of (flatten e) ++ rs) _ (omega arith) (omega arith)
-        (omega (arith, size-pos e)) (omega arith)
+        (omega (arith, size-positive e)) (omega arith)
         ∙ rw (node-flat e f (at + 1) rs (omega arith))
     node-flat (get g e) (form-get p f) at rs l =
         taken G-get g 0 at (map row-of (flatten e) ++ rs) _ (omega arith) (omega arith)
-        (omega (arith, size-pos e)) p
+        (omega (arith, size-positive e)) p
         ∙ rw (node-flat e f (at + 1) rs (omega arith))
     node-flat (cast c e) (form-cast p f) at rs l =
-        taken K-cast c 0 at (map row-of (flatten e) ++ rs) _ p (omega arith) (omega (arith, size-pos e))
+        taken K-cast c 0 at (map row-of (flatten e) ++ rs) _ p (omega arith) (omega (arith, size-positive e))
         (omega arith)
         ∙ rw (node-flat e f (at + 1) rs (omega arith))
     node-flat (new c) (form-new p) at rs l =
@@ -110,12 +94,13 @@ module _ (most : Most) (named : most .name ≤ largest) (slotted : most .slots �
     node-flat (change k c) (form-change p q) at rs l =
         taken R-change k c at rs _ p q (omega arith) (omega arith)
     node-flat (assign k e) (form-assign p f) at rs l =
-        taken A-assign k 0 at (map row-of (flatten e) ++ rs) _ p (omega arith) (omega (arith, size-pos e))
+        taken A-assign k 0 at (map row-of (flatten e) ++ rs) _ p (omega arith)
+        (omega (arith, size-positive e))
         (omega arith)
         ∙ rw (node-flat e f (at + 1) rs (omega arith))
     node-flat (set g e e′) (form-set p f f′) at rs l =
         taken U-set g 0 at (map row-of (flatten e ++ flatten e′) ++ rs) _ (omega arith) (omega arith)
-        (omega (arith, size-pos e)) p
+        (omega (arith, size-positive e)) p
         ∙ rw (
           map-append row-of (flatten e) (flatten e′),
           append-assoc (map row-of (flatten e)) (map row-of (flatten e′)) rs,
@@ -124,7 +109,7 @@ module _ (most : Most) (named : most .name ≤ largest) (slotted : most .slots �
         )
     node-flat (call m e es) (form-call p q f fs) at rs l =
         taken Q-call m (count es) at (map row-of (flatten e ++ flattens es) ++ rs) _ (omega arith) q
-        (omega (arith, size-pos e)) p
+        (omega (arith, size-positive e)) p
         ∙ rw (
           map-append row-of (flatten e) (flattens es),
           append-assoc (map row-of (flatten e)) (map row-of (flattens es)) rs,
@@ -133,7 +118,7 @@ module _ (most : Most) (named : most .name ≤ largest) (slotted : most .slots �
         )
     node-flat (choose a b c) (form-choose fa fb fc) at rs l =
         taken J-choose 0 0 at (map row-of (flatten a ++ (flatten b ++ flatten c)) ++ rs) _ (omega arith)
-        (omega arith) (omega (arith, size-pos a)) (omega arith)
+        (omega arith) (omega (arith, size-positive a)) (omega arith)
         ∙ rw (
           map-append row-of (flatten a) (flatten b ++ flatten c),
           map-append row-of (flatten b) (flatten c),

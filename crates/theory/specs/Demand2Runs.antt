@@ -1,5 +1,5 @@
--- Demand 2 for runs: a run with fuel and room ends in a value or an exception exactly if the evaluation relation
--- derives that end with at most 64 calls active, within fuel and room.
+-- Demand 2 for runs: a run with fuel and room ends in a value or an exception exactly if the evaluation
+-- relation derives that end with at most 64 calls active, within fuel and room.
 use mathlib.Core.Path.{_≡_, sym, _∙_}
 use Prim.Native.Nat.{ℕ}
 use mathlib.Core.Logic.{_↔_}
@@ -65,8 +65,8 @@ module _ (W : World) (F K : ℕ) (e : Expr) (s : State) (w : Within F K s) where
     (λ d. runs-derived (stop (raised x) t) d),
   )
 
--- The run of a program with fuel F and room K ends in value v and state t, steps, objects and changes of class
--- included, exactly if the relation derives that of its start block within F and K.
+-- The run of a program with fuel F and room K ends in value v and state t, steps, objects and changes of
+-- class included, exactly if the relation derives that of its start block within F and K.
 pub demand-2-value : (p : Program) (F K : ℕ) (v : Value) (t : State)
     → (run (with-limits F K) p ≡ ok v t)
     ↔ DerivedWithin (world (p .classes)) F K (p .start) first-state (ok v t)
@@ -81,12 +81,3 @@ pub demand-2-exception : (p : Program) (F K : ℕ) (x : ℕ) (t : State)
 unfolding run
 demand-2-exception p F K x t = exception-derived (world (p .classes)) F K (p .start) first-state
     (record { fuel = omega arith; room = omega arith }) x t
-
--- Both: the ends in a value or an exception that a run with fuel F and room K has are those that the relation derives
--- within F and K.
-pub demand-2-runs : (p : Program) (F K : ℕ)
-    → ((v : Value) (t : State) → (run (with-limits F K) p ≡ ok v t)
-    ↔ DerivedWithin (world (p .classes)) F K (p .start) first-state (ok v t))
-    × ((x : ℕ) (t : State) → (run (with-limits F K) p ≡ stop (raised x) t)
-    ↔ DerivedWithin (world (p .classes)) F K (p .start) first-state (stop (raised x) t))
-demand-2-runs p F K = ((λ v t. demand-2-value p F K v t), (λ x t. demand-2-exception p F K x t))

@@ -1,4 +1,5 @@
--- Demand 3 for programs: the run of a well-formed program and the run of its plain form, with limits, both ways.
+-- Demand 3 for programs: the run of a well-formed program and the run of its plain form, with limits, both
+-- ways.
 use mathlib.Core.Path.{_≡_}
 use Prim.Native.Nat.{ℕ, _+_, _*_, _≤_}
 use mathlib.Core.Bool.{true}
@@ -17,9 +18,9 @@ use Rattle.theory.specs.Demand3World.{EndsAlike, demand-3-forward, deman
 
 module _ (p : Program) (well : ProgramWell p) (𝓛 : Laws (world (p .classes))) (𝓜 : More (world (p .classes)))
   where
-    -- A run with fuel F and room K that ends in a value, an exception or 15, with n objects made and r changes of class:
-    -- the plain program's run with fuel 84·F or more and room for 2n + r objects or more ends alike, object j matching the
-    -- j-th Identity made.
+    -- A run with fuel F and room K that ends in a value, an exception or 15, with n objects made and r
+    -- changes of class: the plain program's run with fuel 84·F or more and room for 2n + r objects or more
+    -- ends alike, object j matching the j-th Identity made.
     pub demand-3-run : (F F′ K K′ : ℕ) → plain-steps-a-step * F ≤ F′ → proper (run (with-limits F K) p) ≡ true
         → 2 * length (final (run (with-limits F K) p) .heap) + final (run (with-limits F K) p) .changes ≤ K′
         → EndsAlike (run (with-limits F K) p) (run (with-limits F′ K′) (plain-program p))
@@ -27,8 +28,8 @@ module _ (p : Program) (well : ProgramWell p) (𝓛 : Laws (world (p .classes)))
     demand-3-run F F′ K K′ f e l = demand-3-forward (world (p .classes)) _
         (plain-program-is-plain p (well .classes)) 𝓛 𝓜 (p .start) (well .start) F F′ K K′ f e l
 
-    -- A plain program's run with fuel F and room K′ that ends in a value, an exception or 15: the source's run with
-    -- fuel F and room for as many objects as the plain run made ends alike.
+    -- A plain program's run with fuel F and room K′ that ends in a value, an exception or 15: the source's
+    -- run with fuel F and room for as many objects as the plain run made ends alike.
     pub demand-3-run-back : (F K K′ : ℕ) → proper (run (with-limits F K′) (plain-program p)) ≡ true
         → length (final (run (with-limits F K′) (plain-program p)) .heap) ≤ K
         → EndsAlike (run (with-limits F K) p) (run (with-limits F K′) (plain-program p))

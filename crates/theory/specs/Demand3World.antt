@@ -33,8 +33,8 @@ abbrev pub outcome : Out Value → Outcome
 outcome (ok v s) = gave v
 outcome (stop x s) = ended x
 
--- The counts of a source run and its plain run: the plain run takes at least as many steps and at most 84 times
--- as many, makes 2n + r objects where the source makes n and changes r, and changes no class.
+-- The counts of a source run and its plain run: the plain run takes at least as many steps and at most 84
+-- times as many, makes 2n + r objects where the source makes n and changes r, and changes no class.
 pub record CountsMatch (s t : State) : Type 0 where
   pub at-least : s .steps ≤ t .steps
   pub at-most : t .steps ≤ plain-steps-a-step * s .steps
@@ -142,8 +142,9 @@ module _ (W W′ : World) (P : IsPlain W W′) (𝓛 : Laws W) (𝓜 : More W) (
   within-first : (F K : ℕ) → Within F K first-state
   within-first F K = record { fuel = omega arith; room = omega arith }
 
-  -- Demand 3, forward. A source run with fuel F and room K that ends in a value, an exception or 15, with n objects
-  -- made and r changes of class: its plain run with fuel 84·F or more and room for 2n + r objects or more ends alike.
+  -- Demand 3, forward. A source run with fuel F and room K that ends in a value, an exception or 15, with n
+  -- objects made and r changes of class: its plain run with fuel 84·F or more and room for 2n + r objects or
+  -- more ends alike.
   pub demand-3-forward : (F F′ K K′ : ℕ) → plain-steps-a-step * F ≤ F′ → proper (source-run F K) ≡ true
       → 2 * length (final (source-run F K) .heap) + final (source-run F K) .changes ≤ K′
       → EndsAlike (source-run F K) (plain-run F′ K′)
@@ -156,8 +157,8 @@ module _ (W W′ : World) (P : IsPlain W W′) (𝓛 : Laws W) (𝓜 : More W) (
       (record { fuel = omega (arith, l, q, k .within); room = omega (arith, q, m′) }) in
       rw (k .is, u) (record { ends = whole .ends (rw (k .is) at p); counts = q; stores = whole .stores })
 
-  -- Demand 3, backward. A plain run with fuel F and room K′ that ends in a value, an exception or 15: its source run
-  -- with fuel F and room for as many objects as the plain run made ends alike.
+  -- Demand 3, backward. A plain run with fuel F and room K′ that ends in a value, an exception or 15: its
+  -- source run with fuel F and room for as many objects as the plain run made ends alike.
   pub demand-3-backward : (F K K′ : ℕ) → proper (plain-run F K′) ≡ true
       → length (final (plain-run F K′) .heap) ≤ K → EndsAlike (source-run F K) (plain-run F K′)
   demand-3-backward F K K′ p m =

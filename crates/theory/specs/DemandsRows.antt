@@ -19,7 +19,7 @@ use Rattle.language.specs.WellFormed.{Each}
 use Rattle.theory.specs.Lookups.{well-formed-laws}
 use Rattle.theory.specs.MoreLookups.{well-formed-more}
 use Rattle.theory.specs.PlainSteps.{More}
-use Rattle.theory.specs.PlainLookups.{nth-within}
+use Rattle.language.specs.Lists.{nth-some}
 use Rattle.theory.specs.Accepts.{RowsOf, check-accepts}
 use Rattle.theory.specs.Members.{accepted-run}
 use Rattle.theory.specs.AcceptedTranslation.{plain-rows}
@@ -111,7 +111,7 @@ alike-on-stores ns out p p′ c c′ r r′ shaped shaped′ a store store′ =
       unchanged = a .counts .no-changes;
       steps-at-least = a .counts .at-least;
       steps-at-most = a .counts .at-most;
-      each = λ j l. rw (back, back′) (let x = nth-within (final r .heap) j l in
+      each = λ j l. rw (back, back′) (let x = nth-some (final r .heap) j l in
           record { object = x .0; there = x .1; matches = a .stores .each j (x .0) (x .1) });
     }
 
@@ -171,9 +171,9 @@ plain-rows-of : (ns out : List ℕ) (p : Program) → TranslatableRows ns p
     → out ≡ numbers-of (map row-of (flatten-program (plain-program p))) → RowsOf out (plain-program p)
 plain-rows-of ns out p t e = subst (λ (l : List ℕ). RowsOf l (plain-program p)) (sym e) (plain-rows ns p t)
 
--- A run of rows that the translator takes, with fuel F and a store of any numbers, that ends in a value, an exception
--- or 15, with n objects made and r changes of class: the run of their plain rows with fuel 84·F or more and any store
--- with room for 2n + r objects ends alike.
+-- A run of rows that the translator takes, with fuel F and a store of any numbers, that ends in a value, an
+-- exception or 15, with n objects made and r changes of class: the run of their plain rows with fuel 84·F or
+-- more and any store with room for 2n + r objects ends alike.
 pub runs-alike : (ns out : List ℕ) → translation ns ≡ accept out
     → (F F′ : ℕ) → plain-steps-a-step * F ≤ F′ → F′ ≤ most-fuel
     → (S : List ℕ) (e : EndsProperly (run-of ns F S)) → (S′ : List ℕ)
@@ -182,8 +182,8 @@ pub runs-alike : (ns out : List ℕ) → translation ns ≡ accept out
 runs-alike ns out t = let x = translation-takes ns out t in
     forward ns out (x .0) (x .1) (plain-rows-of ns out (x .0) (x .1) (x .2))
 
--- A run of the plain rows, with any fuel and any store, that ends in one of those ways: the run of the rows with the
--- same fuel and any store with room for as many objects as the plain run made ends alike.
+-- A run of the plain rows, with any fuel and any store, that ends in one of those ways: the run of the rows
+-- with the same fuel and any store with room for as many objects as the plain run made ends alike.
 pub runs-alike-back : (ns out : List ℕ) → translation ns ≡ accept out → (F : ℕ) (S′ : List ℕ)
     → (e : EndsProperly (run-of out F S′)) → (S : List ℕ) → e .objects ≤ capacity S
     → EndAlikeOnStores ns out (run-of ns F S) (run-of out F S′)

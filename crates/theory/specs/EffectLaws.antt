@@ -1,4 +1,5 @@
--- Laws of effects: membership and containment of joins, and of the numbers of X lines; no effect changes no type.
+-- Laws of effects: membership and containment of joins, and of the numbers of X lines; no effect changes no
+-- type.
 use mathlib.Core.Path.{_≡_, sym, ap, ap₂, _∙_, subst, refl}
 use mathlib.Core.Bool.{true}
 use mathlib.Core.List.{List, [], _∷_}
@@ -16,11 +17,8 @@ use Rattle.language.specs.Effects.{apply, apply-expr}
 use Rattle.language.specs.World.{World}
 use Rattle.language.specs.Tree.{DeclaredType, bool, class, ExprType, known, null-type}
 use Rattle.language.specs.Headings.{lines-within}
-use Rattle.language.proofs.Effects.{member-none, member-join}
+use Rattle.language.proofs.Effects.{member-none, member-join, small}
 use Rattle.language.proofs.Booleans.{false≢, and-inv, or-inl, or-inr}
-
-small : (n : ℕ) → n % 2 < 2
-small n = omega arith
 
 pub has-left : (φ ψ : ℕ) (r : ℕ) → member φ r ≡ true → member (join φ ψ) r ≡ true
 has-left φ ψ r h = member-join φ ψ r ∙ or-inl (member φ r) (member ψ r) h

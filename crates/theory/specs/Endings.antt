@@ -1,5 +1,5 @@
--- How a run of rows over a lent store ends, and when the run of a program and that of its plain form end alike:
--- the words in which the demands are stated. Objects are read off the numbers of the stores.
+-- How a run of rows over a lent store ends, and when the run of a program and that of its plain form end
+-- alike: the words in which the demands are stated. Objects are read off the numbers of the stores.
 use mathlib.Core.Path.{_≡_}
 use Prim.Native.Nat.{ℕ, _+_, _*_, _≤_, _<_}
 use mathlib.Core.Option.{some}
@@ -44,26 +44,26 @@ pub record Ends (Outcomes : Outcome → Type 0) (a : Ran) : Type 0 where
 abbrev pub EndsProperly : Ran → Type 0
 EndsProperly a = Ends Proper a
 
--- The objects that a run of rows made, as the numbers of its store hold them afterwards, and the Identities among
--- them in the order in which they were made.
+-- The objects that a run of rows made, as the numbers of its store hold them afterwards, and the Identities
+-- among them in the order in which they were made.
 abbrev pub objects-after : (ns : List ℕ) {a : Ran} → EndsProperly a → List Object
 objects-after ns {a} e = objects-in ns (e .objects) (a .store)
 
 abbrev pub identities-after : (ns : List ℕ) {a : Ran} → EndsProperly a → List ℕ
 identities-after ns e = identities 0 (objects-after ns e)
 
--- Object j, from 0, matches the j-th Identity made: the object in that Identity's `imp`, its implementor, has class
--- k + 2 where object j has class k, that Identity as `id`, and after `id` fields that correspond to object j's in
--- order.
+-- Object j, from 0, matches the j-th Identity made: the object in that Identity's `imp`, its implementor, has
+-- class k + 2 where object j has class k, that Identity as `id`, and after `id` fields that correspond to
+-- object j's in order.
 pub record ObjectMatches (objects plain-objects : List Object) (j : ℕ) : Type 0 where
   pub object : Object
   pub there : nth objects j ≡ some object
   pub matches : Matches (identities 0 plain-objects) plain-objects j object
 
--- A run of rows, a, and one of their plain rows, a′, end alike: both give corresponding values (both null, the same
--- truth value, or object j and the j-th Identity made), the same exception, or 15.
--- Where the source made n objects and changed the class of one r times, the plain run made exactly 2n + r objects,
--- n Identities among them, and changed no class; it took at least as many steps, and at most 84 times as many.
+-- A run of rows, a, and one of their plain rows, a′, end alike: both give corresponding values (both null,
+-- the same truth value, or object j and the j-th Identity made), the same exception, or 15. Where the source
+-- made n objects and changed the class of one r times, the plain run made exactly 2n + r objects, n
+-- Identities among them, and changed no class; it took at least as many steps, and at most 84 times as many.
 -- In the two stores afterwards object j matches the j-th Identity, for every object made.
 pub record EndAlikeOnStores (ns out : List ℕ) (a a′ : Ran) : Type 0 where
   pub source : EndsProperly a
@@ -77,8 +77,8 @@ pub record EndAlikeOnStores (ns out : List ℕ) (a a′ : Ran) : Type 0 where
   pub each : (j : ℕ) → j < source .objects
       → ObjectMatches (objects-after ns source) (objects-after out plain) j
 
--- The evaluation relation (002, Figures 3 to 6) derives an outcome of a program and the state then, a value or an
--- exception, with at most 64 calls active.
+-- The evaluation relation (002, Figures 3 to 6) derives an outcome of a program and the state then, a value
+-- or an exception, with at most 64 calls active.
 pub data Derives (p : Program) : Outcome → State → Type 0 where
   derives-value : {v : Value} {t : State}
       → Evaluates (world (p .classes)) most-calls (p .start) first-state (ok v t) → Derives p (gave v) t
@@ -86,7 +86,8 @@ pub data Derives (p : Program) : Outcome → State → Type 0 where
       → Evaluates (world (p .classes)) most-calls (p .start) first-state (stop (raised n) t)
       → Derives p (ended (raised n)) t
 
--- What the relation derives of a program, within fuel and the store's room, as an answer and the store afterwards.
+-- What the relation derives of a program, within fuel and the store's room, as an answer and the store
+-- afterwards.
 pub record DerivedWithinStore (p : Program) (fuel : ℕ) (store : List ℕ) (a : Ran) : Type 0 where
   pub outcome : Outcome
   pub state : State

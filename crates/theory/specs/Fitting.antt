@@ -1,5 +1,5 @@
--- When values, slots and heaps fit their types, what the heading rules give (`Laws`), and how fitting lasts while the classes of
--- objects change within an effect.
+-- When values, slots and heaps fit their types, what the heading rules give (`Laws`), and how fitting lasts
+-- while the classes of objects change within an effect.
 use mathlib.Core.Path.{_≡_, refl, sym, ap, _∙_}
 use Prim.Native.Nat.{ℕ, _+_, _-_}
 use mathlib.Core.Option.{Option, none, some}
@@ -26,25 +26,25 @@ use Rattle.theory.specs.EffectLaws.{has-left, has-right, has-within, exp
 
 -- a value fits a type
 pub data Fits (W : World) (h : List Object) : Value → ExprType → Type 0 where
-  f-null : {t : ExprType} → not-bool t ≡ true → Fits W h null t
-  f-bool : {b : Bool} → Fits W h (truth b) (known bool)
-  f-obj : {j c : ℕ} (o : Object) → nth h j ≡ some o → W .below (o .class-of) c ≡ true
+  null-fits : {t : ExprType} → not-bool t ≡ true → Fits W h null t
+  truth-fits : {b : Bool} → Fits W h (truth b) (known bool)
+  object-fits : {j c : ℕ} (o : Object) → nth h j ≡ some o → W .below (o .class-of) c ≡ true
       → Fits W h (object j) (known (class c))
 
-abbrev pub FitsF : World → List Object → Value → Field → Type 0
-FitsF W h v f = Fits W h v (known (f .type))
+abbrev pub FitsField : World → List Object → Value → Field → Type 0
+FitsField W h v f = Fits W h v (known (f .type))
 
-abbrev pub FitsS : World → List Object → Value → Slot → Type 0
-FitsS W h v s = Fits W h v (known (s .current))
+abbrev pub FitsSlot : World → List Object → Value → Slot → Type 0
+FitsSlot W h v s = Fits W h v (known (s .current))
 
 -- slots fit their types, `this` apart
 pub data FitsThis (W : World) (h : List Object) : Option Value → Option Slot → Type 0 where
   this-none : FitsThis W h none none
-  this-some : {v : Value} {s : Slot} → FitsS W h v s → FitsThis W h (some v) (some s)
+  this-some : {v : Value} {s : Slot} → FitsSlot W h v s → FitsThis W h (some v) (some s)
 
 pub record FitsFrame (W : World) (h : List Object) (f : Frame Value) (γ : Environment) : Type 0 where
   pub this : FitsThis W h (f .this) (γ .this)
-  pub slots : All2 (FitsS W h) (f .slots) (γ .slots)
+  pub slots : All2 (FitsSlot W h) (f .slots) (γ .slots)
 
 pub record BodyOk (W : World) (M : Method) : Type 0 where
   pub ty : ExprType
@@ -73,7 +73,8 @@ pub record Laws (W : World) : Type 0 where
   pub bodies : (c m : ℕ) (M : Method) → W .method c m ≡ some M → BodyOk W M
 
 pub record HeapOk (W : World) (h : List Object) : Type 0 where
-  pub each : (j : ℕ) (o : Object) → nth h j ≡ some o → All2 (FitsF W h) (o .fields) (W .fields (o .class-of))
+  pub each : (j : ℕ) (o : Object) → nth h j ≡ some o
+      → All2 (FitsField W h) (o .fields) (W .fields (o .class-of))
 
 -- the class of an object before and after a computation of an effect
 pub data Shift (W : World) (φ : ℕ) (c c′ : ℕ) : Type 0 where
@@ -99,17 +100,17 @@ pub data Fine (W : World) : Stop → State → Type 0 where
 
 pub record Good (W : World) (Γ : Environment) (φ : ℕ) (t : ExprType) (h : List Object) (v : Value)
     (s : State) : Type 0 where
-  pub heapOk : HeapOk W (s .heap)
+  pub heap-ok : HeapOk W (s .heap)
   pub evolves : Evolves W φ h (s .heap)
-  pub slotsOk : FitsFrame W (s .heap) (s .frame) Γ
-  pub fitsOk : Fits W (s .heap) v t
+  pub slots-ok : FitsFrame W (s .heap) (s .frame) Γ
+  pub value-ok : Fits W (s .heap) v t
 
 pub record Goods (W : World) (Γ : Environment) (φ : ℕ) (ts : List ExprType) (h : List Object)
     (vs : List Value) (s : State) : Type 0 where
-  pub heapOk : HeapOk W (s .heap)
+  pub heap-ok : HeapOk W (s .heap)
   pub evolves : Evolves W φ h (s .heap)
-  pub slotsOk : FitsFrame W (s .heap) (s .frame) Γ
-  pub fitsOk : All2 (Fits W (s .heap)) vs ts
+  pub slots-ok : FitsFrame W (s .heap) (s .frame) Γ
+  pub value-ok : All2 (Fits W (s .heap)) vs ts
 
 module _ {W : World} where
   pub evolve-refl : {φ : ℕ} (h : List Object) → Evolves W φ h h
@@ -190,15 +191,15 @@ module _ {W : World} where
   }
 
   initial-fits : (h : List Object) (t : DeclaredType) → Fits W h (initial t) (known t)
-  initial-fits h bool = f-bool
-  initial-fits h (class c) = f-null refl
+  initial-fits h bool = truth-fits
+  initial-fits h (class c) = null-fits refl
 
-  pub initials-fit : (h : List Object) (fs : List Field) → All2 (FitsF W h) (initials fs) fs
+  pub initials-fit : (h : List Object) (fs : List Field) → All2 (FitsField W h) (initials fs) fs
   initials-fit h [] = a-nil
   initials-fit h (f ∷ fs) = a-cons (initial-fits h (f .type)) (initials-fit h fs)
 
   pub locals-fit : (h : List Object) (ts : List DeclaredType)
-      → All2 (FitsS W h) (map initial ts) (map fresh-slot ts)
+      → All2 (FitsSlot W h) (map initial ts) (map fresh-slot ts)
   locals-fit h [] = a-nil
   locals-fit h (t ∷ ts) = a-cons (initial-fits h t) (locals-fit h ts)
 
@@ -229,22 +230,23 @@ module _ {W : World} (𝓛 : Laws W) where
 
   pub fits-evolves : {φ : ℕ} {h h′ : List Object} {v : Value} {t : ExprType} → Evolves W φ h h′ → Fits W h v t
       → Fits W h′ v (apply-expr W φ t)
-  fits-evolves {t = known (class c)} ev (f-null n) = f-null refl
-  fits-evolves {t = null-type} ev (f-null n) = f-null refl
-  fits-evolves {t = known bool} ev (f-null n) = f-null n
-  fits-evolves ev f-bool = f-bool
-  fits-evolves ev (f-obj o e s) = let a = ev .to _ o e in f-obj (a .now) (a .there) (sub-evolves _ (a .how) s)
+  fits-evolves {t = known (class c)} ev (null-fits n) = null-fits refl
+  fits-evolves {t = null-type} ev (null-fits n) = null-fits refl
+  fits-evolves {t = known bool} ev (null-fits n) = null-fits n
+  fits-evolves ev truth-fits = truth-fits
+  fits-evolves ev (object-fits o e s) = let a = ev .to _ o e in
+      object-fits (a .now) (a .there) (sub-evolves _ (a .how) s)
 
   pub fits-sub : {h : List Object} {v : Value} {t : ExprType} (u : DeclaredType) → Fits W h v t
       → fits W t u ≡ true → Fits W h v (known u)
-  fits-sub bool (f-null {t = known (class c)} n) e = false≢ e
-  fits-sub bool (f-null {t = null-type} n) e = false≢ e
-  fits-sub bool (f-null {t = known bool} n) e = f-null n
-  fits-sub (class d) (f-null n) e = f-null refl
-  fits-sub bool f-bool e = f-bool
-  fits-sub (class d) f-bool e = false≢ e
-  fits-sub bool (f-obj o p s) e = false≢ e
-  fits-sub (class d) (f-obj o p s) e = f-obj o p (sub-trans _ _ _ s e)
+  fits-sub bool (null-fits {t = known (class c)} n) e = false≢ e
+  fits-sub bool (null-fits {t = null-type} n) e = false≢ e
+  fits-sub bool (null-fits {t = known bool} n) e = null-fits n
+  fits-sub (class d) (null-fits n) e = null-fits refl
+  fits-sub bool truth-fits e = truth-fits
+  fits-sub (class d) truth-fits e = false≢ e
+  fits-sub bool (object-fits o p s) e = false≢ e
+  fits-sub (class d) (object-fits o p s) e = object-fits o p (sub-trans _ _ _ s e)
 
   -- with no effect
   pub fits-grow : {h h′ : List Object} {v : Value} {t : ExprType} → Evolves W no-effect h h′ → Fits W h v t
@@ -254,30 +256,31 @@ module _ {W : World} (𝓛 : Laws W) where
   -- the heap still fits, if each object is as it was or fits
   heap-step : {φ : ℕ} {h h′ : List Object} → Evolves W φ h h′ → HeapOk W h
       → ((j : ℕ) (o : Object) → nth h′ j ≡ some o
-      → (nth h j ≡ some o) ⊎ All2 (FitsF W h′) (o .fields) (W .fields (o .class-of))) → HeapOk W h′
+      → (nth h j ≡ some o) ⊎ All2 (FitsField W h′) (o .fields) (W .fields (o .class-of))) → HeapOk W h′
   heap-step {φ} {h} {h′} ev ok₀ f = record { each = λ j o e. go j o (f j o e) }
     where
-      go : (j : ℕ) (o : Object) → (nth h j ≡ some o) ⊎ All2 (FitsF W h′) (o .fields) (W .fields (o .class-of))
-          → All2 (FitsF W h′) (o .fields) (W .fields (o .class-of))
+      go : (j : ℕ) (o : Object)
+          → (nth h j ≡ some o) ⊎ All2 (FitsField W h′) (o .fields) (W .fields (o .class-of))
+          → All2 (FitsField W h′) (o .fields) (W .fields (o .class-of))
       go j o (inl e) = all2-mono-at (ok₀ .each j o e)
           (λ i v g p r. rw (solid (o .class-of) i g p φ) at (fits-evolves ev r))
       go j o (inr a) = a
 
   pub heap-set : {φ : ℕ} (h : List Object) (j : ℕ) (n : Object) → Evolves W φ h (replace h j n) → HeapOk W h
-      → All2 (FitsF W (replace h j n)) (n .fields) (W .fields (n .class-of)) → HeapOk W (replace h j n)
+      → All2 (FitsField W (replace h j n)) (n .fields) (W .fields (n .class-of)) → HeapOk W (replace h j n)
   heap-set h j n ev H a = heap-step ev H λ k p q. go k p (nth-set h j n k p q)
     where
       go : (k : ℕ) (p : Object) → ((j ≢ k) × (nth h k ≡ some p)) ⊎ ((j ≡ k) × (n ≡ p))
-          → (nth h k ≡ some p) ⊎ All2 (FitsF W (replace h j n)) (p .fields) (W .fields (p .class-of))
+          → (nth h k ≡ some p) ⊎ All2 (FitsField W (replace h j n)) (p .fields) (W .fields (p .class-of))
       go k p (inl q) = inl (q .1)
       go k p (inr q) = inr (rw (← q .1) a)
 
   pub heap-append : (h : List Object) (n : Object) → HeapOk W h
-      → All2 (FitsF W (h ++ (n ∷ []))) (n .fields) (W .fields (n .class-of)) → HeapOk W (h ++ (n ∷ []))
+      → All2 (FitsField W (h ++ (n ∷ []))) (n .fields) (W .fields (n .class-of)) → HeapOk W (h ++ (n ∷ []))
   heap-append h n H a = heap-step (evolve-append h n) H λ k p q. go k p (nth-append-one h n k p q)
     where
       go : (k : ℕ) (p : Object) → (nth h k ≡ some p) ⊎ ((k ≡ length h) × (n ≡ p))
-          → (nth h k ≡ some p) ⊎ All2 (FitsF W (h ++ (n ∷ []))) (p .fields) (W .fields (p .class-of))
+          → (nth h k ≡ some p) ⊎ All2 (FitsField W (h ++ (n ∷ []))) (p .fields) (W .fields (p .class-of))
       go k p (inl q) = inl q
       go k p (inr q) = inr (rw (← q .1) a)
 

@@ -1,4 +1,5 @@
--- What the form pass reads of an expression is what was written, is in form, and stands within the rows allowed.
+-- What the form pass reads of an expression is what was written, is in form, and stands within the rows
+-- allowed.
 use mathlib.Core.Path.{_≡_, refl, sym, ap, ap₂, _∙_, subst}
 use Prim.Native.Nat.{ℕ, zero, suc, _+_, _≤_}
 use mathlib.Core.Option.{none, some}

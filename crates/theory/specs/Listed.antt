@@ -1,5 +1,5 @@
--- The answers that document 01 lists ("Refusals and stops"): of the check, of the translator, of a run and of a service
--- that fills a lent buffer; refusals by number and line, with what was lent unchanged.
+-- The answers that document 01 lists ("Refusals and stops"): of the check, of the translator, of a run and of
+-- a service that fills a lent buffer; refusals by number and line, with what was lent unchanged.
 use mathlib.Core.Path.{_≡_}
 use Prim.Native.Nat.{ℕ, _+_, _*_, _/_, _≤_, _<_}
 use mathlib.Core.List.{List, _++_}
@@ -70,7 +70,8 @@ pub data ListedVerdict (rows : ℕ) : Verdict → Type 0 where
   is-accepted : ListedVerdict rows accepted
   is-refused : {n l : ℕ} → CheckRefusal rows n l → ListedVerdict rows (refused n l)
 
--- The translator where so many numbers are lent: the plain rows, no more numbers than that, or a refusal as listed.
+-- The translator where so many numbers are lent: the plain rows, no more numbers than that, or a refusal as
+-- listed.
 pub data ListedTranslation (rows room : ℕ) : Checked (List ℕ) → Type 0 where
   is-translated : {out : List ℕ} → length out ≤ room → ListedTranslation rows room (accept out)
   is-not-translated : {n l : ℕ} → LendingRefusal rows n l → ListedTranslation rows room (refuse n l)
@@ -84,9 +85,9 @@ pub data ListedOutcome : Outcome → Type 0 where
   stop-15 : ListedOutcome (ended deep)
   stop-16 : ListedOutcome (ended full)
 
--- The answer of a run with its fuel and its store, and the store afterwards. Refused as listed, the store is unchanged.
--- Else the run ends in one of the ways listed, with no more steps than fuel and no more objects than the store has room
--- for; the store is as long as before, and what held no made object is unchanged.
+-- The answer of a run with its fuel and its store, and the store afterwards. Refused as listed, the store is
+-- unchanged. Else the run ends in one of the ways listed, with no more steps than fuel and no more objects
+-- than the store has room for; the store is as long as before, and what held no made object is unchanged.
 pub data ListedRun (rows fuel : ℕ) (store : List ℕ) : Ran → Type 0 where
   is-refused-run : {n l : ℕ} → RunRefusal rows fuel n l
       → ListedRun rows fuel store (record { answer = run-refused n l; store = store })
@@ -95,9 +96,9 @@ pub data ListedRun (rows fuel : ℕ) (store : List ℕ) : Ran → Type 0 where
       → drop (numbers-an-object * objects) after ≡ drop (numbers-an-object * objects) store
       → ListedRun rows fuel store (record { answer = ran o steps objects changes; store = after })
 
--- A service that fills a lent buffer with the numbers it makes, so many to a record, and the buffer afterwards: the
--- numbers and then what was there past them; 13 on no line where they do not fit, or the refusal of their making, and
--- then the buffer is unchanged.
+-- A service that fills a lent buffer with the numbers it makes, so many to a record, and the buffer
+-- afterwards: the numbers and then what was there past them; 13 on no line where they do not fit, or the
+-- refusal of their making, and then the buffer is unchanged.
 pub data ListedFilling (width : ℕ) (made : Checked (List ℕ)) (old : List ℕ) : Filled → List ℕ → Type 0 where
   is-filled : {xs : List ℕ} → made ≡ accept xs → length xs ≤ length old
       → ListedFilling width made old (Done (length xs / width)) (xs ++ drop (length xs) old)

@@ -1,5 +1,5 @@
--- Demand 1: what the check, the translator, a run and the filling of a lent buffer give is one of the answers that
--- document 01 lists, and a refusal leaves what was lent as it was.
+-- Demand 1: what the check, the translator, a run and the filling of a lent buffer give is one of the answers
+-- that document 01 lists, and a refusal leaves what was lent as it was.
 use mathlib.Core.Path.{_≡_, refl, ap, _∙_}
 use Prim.Native.Nat.{ℕ, _+_, _*_, _/_, _%_, _≤_}
 use mathlib.Core.Bool.{Bool, true, false, cond}

@@ -1,5 +1,5 @@
--- When heap and slots of a plain run match those of its source run: the j-th object against the j-th Identity,
--- variables in their places, temporaries between them. What each step of a run keeps of that.
+-- When heap and slots of a plain run match those of its source run: the j-th object against the j-th
+-- Identity, variables in their places, temporaries between them. What each step of a run keeps of that.
 use mathlib.Core.Path.{_≡_, refl, sym, ap, _∙_}
 use Prim.Native.Nat.{ℕ, zero, suc, _+_, _<_}
 use native.Mathlib.Nat.{add-zero}

@@ -94,6 +94,13 @@ keeps-renew {W} {ids} {h′} i m N k a = record {
 }
 
 module _ {W : World} where
+  -- Where one object is put in the place of another, each is still of a declared class.
+  still-known : {ids : List ℕ} {h h′ : List Object} {j : ℕ} {o₂ : Object} → HeapsMatch W ids h h′
+      → is-declared W (o₂ .class-of) ≡ true → (k : ℕ) (q : Object)
+      → ((j ≢ k) × (nth h k ≡ some q)) ⊎ ((j ≡ k) × (o₂ ≡ q)) → is-declared W (q .class-of) ≡ true
+  still-known H dc k q (inl y) = H .known k q (y .1)
+  still-known H dc k q (inr y) = rw (← y .1) dc
+
   -- A field is set: object and implementor change in place.
   pub heap-put : {ids : List ℕ} {h h′ : List Object} → HeapsMatch W ids h h′ → (j i m : ℕ) (o o₂ : Object)
       (vs vs₂ : List Value) → nth h j ≡ some o → nth ids j ≡ some i → nth h′ i ≡ some (identity-of m)
@@ -107,16 +114,11 @@ module _ {W : World} where
     made = H .made
         ∙ sym (identities-set 0 h′ m _ N b (not-identity (o .class-of) ∙ sym (not-identity (o₂ .class-of))));
     each = λ k q y. go k q (nth-set h j o₂ k q y);
-    known = λ k q y. kn k q (nth-set h j o₂ k q y);
+    known = λ k q y. still-known H dc k q (nth-set h j o₂ k q y);
   }
     where
       N : Object
       N = implementor-of (o₂ .class-of) i vs₂
-
-      kn : (k : ℕ) (q : Object) → ((j ≢ k) × (nth h k ≡ some q)) ⊎ ((j ≡ k) × (o₂ ≡ q))
-          → is-declared W (q .class-of) ≡ true
-      kn k q (inl y) = H .known k q (y .1)
-      kn k q (inr y) = rw (← y .1) dc
 
       go : (k : ℕ) (q : Object) → ((j ≢ k) × (nth h k ≡ some q)) ⊎ ((j ≡ k) × (o₂ ≡ q))
           → Matches ids (replace h′ m N) k q
@@ -237,7 +239,7 @@ module _ {W : World} where
     made = H .made ∙ sym (identities-set 0 h₁ i _ I a₁ refl ∙ identities-implementor 0 h′ (o₂ .class-of) i
         vs₂);
     each = λ k q y. go k q (nth-set h j o₂ k q y);
-    known = λ k q y. kn k q (nth-set h j o₂ k q y);
+    known = λ k q y. still-known H dc k q (nth-set h j o₂ k q y);
   }
     where
       N : Object
@@ -251,11 +253,6 @@ module _ {W : World} where
 
       a₁ : nth h₁ i ≡ some (identity-of m)
       a₁ = nth-append h′ _ i _ a
-
-      kn : (k : ℕ) (q : Object) → ((j ≢ k) × (nth h k ≡ some q)) ⊎ ((j ≡ k) × (o₂ ≡ q))
-          → is-declared W (q .class-of) ≡ true
-      kn k q (inl y) = H .known k q (y .1)
-      kn k q (inr y) = rw (← y .1) dc
 
       go : (k : ℕ) (q : Object) → ((j ≢ k) × (nth h k ≡ some q)) ⊎ ((j ≡ k) × (o₂ ≡ q))
           → Matches ids (replace h₁ i I) k q

@@ -24,7 +24,7 @@ use Rattle.theory.specs.Matching.{persists-same, HeapsMatch, Persists, p
 use Rattle.theory.specs.Matching.{no-slots, variable, slots-set, slots-append, slots-temporaries}
 use Rattle.theory.specs.Matching.{temporary-at, temporary-set, slots-close, temporaries-close}
 use Rattle.theory.specs.Matching.{FramesMatch, temporary, temporaries-only}
-use Rattle.theory.specs.Fitting.{Fits, f-null}
+use Rattle.theory.specs.Fitting.{Fits, null-fits}
 
 -- Heaps and counts match; z is what the plain side may still spend.
 pub record Matched (W : World) (ids : List ℕ) (z : ℕ) (s t : State) : Type 0 where
@@ -253,7 +253,7 @@ pub choose-alike : {W : World} {A : Value → State → Value → State → Type
     → Alike A (Ended W) x x′ → Alike A (Ended W) y y′
     → Alike A (Ended W) (need-truth v s λ b. choice b (λ _. x) (λ _. y))
     (need-truth v′ t λ b. choice b (λ _. x′) (λ _. y′))
-choose-alike both-null s t (f-null n) a b = false≢ n
+choose-alike both-null s t (null-fits n) a b = false≢ n
 choose-alike (same-truth {b = true}) s t f a b = a
 choose-alike (same-truth {b = false}) s t f a b = b
 

@@ -22,7 +22,7 @@ use Rattle.language.specs.WellFormed.{ProgramWell}
 use Rattle.language.proofs.Booleans.{false≢}
 use Rattle.theory.specs.Fitting.{Good, Fine, fine-null, fine-cast, fine-deep, fine-spent, fine-full}
 use Rattle.theory.specs.Fitting.{this-none}
-use Rattle.theory.specs.Sound.{calls-ok, soundE}
+use Rattle.theory.specs.Sound.{calls-ok, expression-sound}
 use Rattle.theory.specs.Lookups.{well-formed-laws}
 use Rattle.theory.specs.Accepts.{RowsOf, check-accepts}
 
@@ -50,13 +50,13 @@ holds-unstuck : {A : Type 0} {W : World} {P : A → State → Type 0} {r : Out A
 holds-unstuck (holds-ok h) = refl
 holds-unstuck (holds-stop h) = fine-unstuck h
 
--- The run of a well-formed program, whatever its limits, ends in a value of its start block's type or in a stop
--- that is not stuck, in either case with a heap that fits its classes.
+-- The run of a well-formed program, whatever its limits, ends in a value of its start block's type or in a
+-- stop that is not stuck, in either case with a heap that fits its classes.
 pub run-sound : (p : Program) (w : ProgramWell p) (L : Limits)
     → Holds (Good (world (p .classes)) (w .γ) (w .φ) (w .t) []) (Fine (world (p .classes))) (run L p)
 unfolding run nth
 run-sound p w L = let W = world (p .classes) in let laws = well-formed-laws p w in
-    soundE laws L (λ M s. call-at W L most-calls M s) (calls-ok laws L most-calls)
+    expression-sound laws L (λ M s. call-at W L most-calls M s) (calls-ok laws L most-calls)
     (p .start) (w .start) first-state (record { each = λ j o e. absurd (Never e) })
     (record { this = this-none; slots = a-nil })
 

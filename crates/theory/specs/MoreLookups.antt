@@ -1,8 +1,9 @@
 -- What the translator's proofs use of lookups besides the laws of soundness, for class lists of any length:
--- of a well-formed program that no field name stands twice, that Object is above all, that what is found in
--- a class is found in a declared one and that no class has more than 17 fields; of one within the translator's limits how much there is of each.
+-- of a well-formed program that no field name stands twice, that Object is above all, that what is found in a
+-- class is found in a declared one and that no class has more than 17 fields; of one within the translator's
+-- limits how much there is of each.
 use mathlib.Core.Path.{_≡_, refl, sym, ap, _∙_, subst}
-use Prim.Native.Nat.{ℕ, zero, suc, _+_, _≤_, _<_}
+use Prim.Native.Nat.{ℕ, zero, suc, _+_, _≤_}
 use mathlib.Core.Option.{Option, none, some}
 use mathlib.Core.Bool.{Bool, true, false, not, _||_}
 use mathlib.Core.Logic.{_⊎_, inl, inr}
@@ -26,8 +27,8 @@ use Rattle.language.proofs.Booleans.{false≢}
 use Rattle.theory.specs.Fitting.{Laws}
 use Rattle.theory.specs.SoundActs.{place-append}
 use Rattle.theory.specs.WellEqual.{class-count}
-use Rattle.theory.specs.Superclasses.{subclass-test, subclass-top, fields-of-class, no-class-no-fields}
-use Rattle.theory.specs.Superclasses.{root-is, root-subclass}
+use Rattle.theory.specs.Superclasses.{subclass-test, subclass-top, no-class-no-fields, root-is}
+use Rattle.theory.specs.Superclasses.{root-subclass, fields-law}
 use Rattle.theory.specs.Lookups.{superclass-earlier, each-at, each-append, class-well, method-found}
 use Rattle.theory.specs.Lookups.{well-formed-laws}
 
@@ -146,6 +147,15 @@ each-declared {R} (each-cons {a} {l} r rs) m d e = go (eqb (a .name) m) (λ q. e
     go true ih e = subst R (inj e) r
     go false ih e = ih e
 
+-- Fields of a heading that is in order are within the limit.
+pub own-few : {P : List Class} {before fs : List Field} → FieldsWell P before fs
+    → length before ≤ of-check .fields
+    → length (before ++ fs) ≤ of-check .fields
+own-few {before} well-nil l = omega (arith, l, length-append before [])
+own-few {before} (well-cons {fs} {f} a b c s w) l =
+    subst (λ (r : List Field). length r ≤ of-check .fields)
+    (append-assoc before (f ∷ []) fs) (own-few w (omega (arith, a, length-append before (f ∷ []))))
+
 -- What a well-formed program's lookups give besides the laws of soundness.
 pub record MoreLaws (W : World) : Type 0 where
   -- No field name stands twice in a class.
@@ -187,37 +197,15 @@ module _ (P : List Class) (laws : Laws (world P))
     distinct-own {before} (well-cons {fs} {f} a b c s w) d =
         rw append-assoc at (distinct-own w (distinct-more f d c))
 
-    -- A law that a class's fields have if its superclass's have it.
-    fields-law : (R : List Field → Type 0) → R []
-        → ((k : ℕ) (c : Class) → class-at P k ≡ some c → R (fields-at P (suc (c .super)) (c .super))
-        → R (fields-at P (suc (c .super)) (c .super) ++ c .fields))
-        → (n k : ℕ) → k < n → R (fields-at P (suc k) k)
-    fields-law R r f zero k l = absurd (omega arith)
-    fields-law R r f (suc n) k l =
-        go (class-at P k) refl (λ c p. fields-law R r f n (c .super) (omega (arith, well k c p .earlier)))
-      where
-        go : (o : Option Class) → class-at P k ≡ o
-            → ((c : Class) → class-at P k ≡ some c → R (fields-at P (suc (c .super)) (c .super)))
-            → R (fields-at P (suc k) k)
-        go none e ih = subst R (sym (no-class-no-fields P (superclass-earlier P well) k e)) r
-        go (some c) e ih = subst R (sym (fields-of-class P (superclass-earlier P well) k c e))
-            (f k c e (ih c e))
-
     all-distinct : (k : ℕ) → Distinct (fields-at P (suc k) k)
     unfolding world nth
-    all-distinct k = fields-law Distinct (record { found = λ i f e. absurd (Never e) })
+    all-distinct k = fields-law P (superclass-earlier P well) Distinct
+        (record { found = λ i f e. absurd (Never e) })
         (λ k c p d. distinct-own (well k c p .fields) d) (suc k) k (omega arith)
-
-    own-few : {before fs : List Field} → FieldsWell P before fs → length before ≤ of-check .fields
-        → length (before ++ fs) ≤ of-check .fields
-    own-few {before} well-nil l = omega (arith, l, length-append before [])
-    own-few {before} (well-cons {fs} {f} a b c s w) l =
-        subst (λ (r : List Field). length r ≤ of-check .fields)
-        (append-assoc before (f ∷ []) fs) (own-few w (omega (arith, a, length-append before (f ∷ []))))
 
     all-few : (k : ℕ) → length (fields-at P (suc k) k) ≤ of-check .fields
     unfolding world
-    all-few k = fields-law (λ fs. length fs ≤ of-check .fields) (omega arith)
+    all-few k = fields-law P (superclass-earlier P well) (λ fs. length fs ≤ of-check .fields) (omega arith)
         (λ k c p l. own-few (well k c p .fields) l) (suc k) k (omega arith)
 
     -- What is above a class does not come after it.
@@ -267,7 +255,8 @@ module _ (P : List Class) (laws : Laws (world P))
         (formed : Each (ClassInForm of-translator) P) where
       fields-few : (k : ℕ) → length (fields-at P (suc k) k) ≤ of-translator .fields
       unfolding headings world class-at
-      fields-few k = fields-law (λ fs. length fs ≤ of-translator .fields) (omega arith) more (suc k) k
+      fields-few k = fields-law P (superclass-earlier P well) (λ fs. length fs ≤ of-translator .fields)
+          (omega arith) more (suc k) k
           (omega arith)
         where
           more : (k : ℕ) (c : Class) → class-at P k ≡ some c
@@ -282,7 +271,8 @@ module _ (P : List Class) (laws : Laws (world P))
 
       all-free : (k : ℕ) → Each Free (fields-at P (suc k) k)
       unfolding class-at
-      all-free k = fields-law (Each Free) each-nil (λ k c p d. each-append d (own k c p)) (suc k) k
+      all-free k = fields-law P (superclass-earlier P well) (Each Free) each-nil
+          (λ k c p d. each-append d (own k c p)) (suc k) k
           (omega arith)
         where
           own : (k : ℕ) (c : Class) → class-at P k ≡ some c → Each Free (c .fields)

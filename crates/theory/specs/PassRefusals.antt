@@ -1,5 +1,5 @@
--- The pass over headings refuses with 2 (for fields), 4, 5 or 6, on a line of the classes; the pass over bodies with 4 or
--- 7 to 11, on a line of the program.
+-- The pass over headings refuses with 2 (for fields), 4, 5 or 6, on a line of the classes; the pass over
+-- bodies with 4 or 7 to 11, on a line of the program.
 use Prim.Native.Nat.{ℕ, suc, _+_, _≤_}
 use mathlib.Core.Bool.{not, _&&_}
 use mathlib.Core.List.{List, [], _∷_, _++_, map}

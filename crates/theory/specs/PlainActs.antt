@@ -22,7 +22,7 @@ use Rattle.language.specs.Translation.{translate}
 use Rattle.language.specs.Correspondence.{Corresponds, both-null, same-truth, in-place, identity-of}
 use Rattle.language.specs.Correspondence.{implementor-of}
 use Rattle.language.proofs.Booleans.{false≢}
-use Rattle.theory.specs.Fitting.{Laws, Fits, f-null, f-bool, f-obj, HeapOk}
+use Rattle.theory.specs.Fitting.{Laws, Fits, null-fits, truth-fits, object-fits, HeapOk}
 use Rattle.theory.specs.SoundActs.{inherit}
 use Rattle.theory.specs.PlainWorld.{IsPlain}
 use Rattle.theory.specs.Matching.{Implements, Persists, persists-same, persists-trans, Mask, slots-at}
@@ -141,8 +141,8 @@ module _ (W W′ : World) (P : IsPlain W W′) (𝓛 : Laws W) (𝓜 : More W) w
             → Alike (After W ids h₀ sh μ z) (Ended W) (do-get W f v s)
             (bind (bind (do-get W′ imp-field v′ t) (λ v t. do-cast W′ (plain-class c) v t))
             (λ v t. do-get W′ f v t))
-        go both-null (f-null n) = alike-stop (ended (a .match .core))
-        go (in-place {j} {i = k} e) (f-obj o p q) =
+        go both-null (null-fits n) = alike-stop (ended (a .match .core))
+        go (in-place {j} {i = k} e) (object-fits o p q) =
             let x = inherit 𝓛 (o .class-of) c f u q i in let y =
             all2-at (H .each j o p) (x .i) (x .fld) (x .is) in
             let g = implementor-found (a .match .core) j k o e p in
@@ -170,11 +170,11 @@ module _ (W W′ : World) (P : IsPlain W W′) (𝓛 : Laws W) (𝓜 : More W) w
         → Alike (After W ids h₀ sh μ z) (Ended W) (do-set W f v w s)
         (run (set f (implementor c (suc n)) (slot (suc (suc n)))) t)
     unfolding eval
-    set-acts {z} f c n u v v′ w w′ s t H (f-null _) i ids′ X R both-null r a b =
+    set-acts {z} f c n u v v′ w w′ s t H (null-fits _) i ids′ X R both-null r a b =
         rw (implementor-null W W′ P invoke′ c n (entered t) a)
         (alike-stop (ended-at 4 (entered (entered (entered (entered t)))) (R .core) (omega arith) refl refl
         (omega arith)))
-    set-acts {z} f c n u (object j) (object k) w w′ s t H (f-obj o p q) i ids′ X R (in-place e) r a b =
+    set-acts {z} f c n u (object j) (object k) w w′ s t H (object-fits o p q) i ids′ X R (in-place e) r a b =
         let x = inherit 𝓛 (o .class-of) c f u q i in let g = implementor-found (R .core) j k o e p in
         let o₂ : Object = record { class-of = o .class-of; fields = replace (o .fields) (x .i) w } in
         let N : Object = implementor-of (o .class-of) k (replace (g .vs) (x .i) w′) in
@@ -228,8 +228,9 @@ module _ (W W′ : World) (P : IsPlain W W′) (𝓛 : Laws W) (𝓜 : More W) w
         core = spend 1 (entered t) (R .core) (omega arith) refl refl (omega arith);
       };
     })
-    cast-acts c n u v v′ s t N f-bool ids′ X R same-truth a = false≢ N
-    cast-acts {ids} {h₀} {sh} {μ} {z} c n u (object j) (object i) s t N (f-obj o p q) ids′ X R (in-place e) a
+    cast-acts c n u v v′ s t N truth-fits ids′ X R same-truth a = false≢ N
+    cast-acts {ids} {h₀} {sh} {μ} {z} c n u (object j) (object i) s t N (object-fits o p q) ids′ X R
+        (in-place e) a
         =
         rw p (go (W .below (o .class-of) c) refl)
       where

@@ -1,4 +1,5 @@
--- The blocks that the translation makes are typed: the reading of a slot, of an implementor and of arguments, and the change of class.
+-- The blocks that the translation makes are typed: the reading of a slot, of an implementor and of arguments,
+-- and the change of class.
 use mathlib.Core.Path.{_≡_, refl, sym, ap, _∙_}
 use Prim.Native.Nat.{ℕ, zero, suc}
 use mathlib.Core.Option.{Option, none, some}

@@ -16,7 +16,8 @@ use Rattle.language.specs.Evaluation.{Value, object, Object, State, Out, withou
 use Rattle.language.specs.Evaluation.{do-call, eval}
 use Rattle.language.specs.Translation.{Shape, variables, implementor, reads}
 use Rattle.language.specs.Correspondence.{Corresponds, both-null, in-place}
-use Rattle.theory.specs.Fitting.{Laws, BodyOk, Fits, f-null, f-obj, HeapOk, FitsFrame, this-some}
+use Rattle.theory.specs.Fitting.{Laws, BodyOk, Fits, null-fits, object-fits, HeapOk, FitsFrame}
+use Rattle.theory.specs.Fitting.{this-some}
 use Rattle.theory.specs.SoundActs.{fits-all}
 use Rattle.theory.specs.PlainWorld.{IsPlain, plain-form}
 use Rattle.theory.specs.Matching.{Persists, persists-trans, Mask, SlotsMatch, no-slots, variable}
@@ -59,11 +60,12 @@ module _ (W W′ : World) (P : IsPlain W W′) (𝓛 : Laws W) (𝓜 : More W) w
       (eval W′ without-limits invoke′ (call m (implementor c (suc n)) (reads (suc (suc n)) (M .parameters)))
       t)
   unfolding eval
-  call-acts invoke invoke′ D m c n M v v′ vs vs′ us s t H (f-null _) A f i ids′ X R both-null r a b =
+  call-acts invoke invoke′ D m c n M v v′ vs vs′ us s t H (null-fits _) A f i ids′ X R both-null r a b =
       rw (implementor-null W W′ P invoke′ c n (entered t) a)
       (alike-stop (ended-at 4 (entered (entered (entered (entered t)))) (R .core) (omega arith) refl refl
       (omega arith)))
-  call-acts invoke invoke′ D {z} m c n M (object j) (object k) vs vs′ us s t H (f-obj o p q) A f i ids′ X R
+  call-acts invoke invoke′ D {z} m c n M (object j) (object k) vs vs′ us s t H (object-fits o p q) A f i ids′
+      X R
       (in-place e)
       r a b =
       let g = implementor-found (R .core) j k o e p in let x = 𝓛 .override (o .class-of) c m M q i in let M′ =
@@ -77,7 +79,7 @@ module _ (W W′ : World) (P : IsPlain W W′) (𝓛 : Laws W) (𝓜 : More W) w
       let st = past-is (M .parameters) (up 4 (t .steps)) in
       let callee : FitsFrame W (s .heap) (frame (some (object j)) vs)
       (method-environment (M′ .owner) (M′ .parameters))
-      = record { this = this-some (f-obj o p (𝓛 .owned _ _ _ (x .1))); slots = rw (x .2) fa } in
+      = record { this = this-some (object-fits o p (𝓛 .owned _ _ _ (x .1))); slots = rw (x .2) fa } in
       let callee′ : FramesMatch W ids′ (t .heap) (variables (M′ .parameters)) (no-values (M′ .parameters))
       (frame (some (object j)) vs) (frame (some (object (g .m))) vs′)
       = record {

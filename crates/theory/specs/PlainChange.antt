@@ -17,7 +17,7 @@ use Rattle.language.specs.Evaluation.{Value, null, object, Object, State, Out, 
 use Rattle.language.specs.Evaluation.{with-change, initial, changed, do-change, eval}
 use Rattle.language.specs.Translation.{Shape, position, renew, plain-change, change-types, translate}
 use Rattle.language.specs.Correspondence.{both-null, in-place, identity-of, implementor-of}
-use Rattle.theory.specs.Fitting.{Laws, Fits, f-obj, HeapOk}
+use Rattle.theory.specs.Fitting.{Laws, Fits, object-fits, HeapOk}
 use Rattle.theory.specs.SoundActs.{can-inv, root-fields}
 use Rattle.theory.specs.PlainWorld.{IsPlain}
 use Rattle.theory.specs.Matching.{Persists, persists-same, Mask, slots-length, frames-later}
@@ -34,7 +34,8 @@ module _ (W W′ : World) (P : IsPlain W W′) (𝓛 : Laws W) (𝓜 : More W) w
     abbrev run : Expr → State → Out Value
     run e t = eval W′ without-limits invoke′ e t
 
-    -- R of an object, once its Identity stands in the first of three temporaries: it is renewed, and read back.
+    -- R of an object, once its Identity stands in the first of three temporaries: it is renewed, and read
+    -- back.
     change-object : (d : ℕ) (ids : List ℕ) (sh : Shape) (μ : Mask) (z : ℕ) (s t : State) → HeapOk W (s .heap)
         → StatesMatch W ids sh μ z s t → is-declared W d ≡ true → (j i : ℕ) (o : Object) → nth ids j ≡ some i
         → nth (s .heap) j ≡ some o → W .root (o .class-of) ≡ W .root d → (x : Out Value) (k : ℕ) → k ≤ 5
@@ -97,7 +98,7 @@ module _ (W W′ : World) (P : IsPlain W W′) (𝓛 : Laws W) (𝓜 : More W) w
         → Alike (After W ids (t .heap) sh μ z) (Ended W) (do-change W d v (entered s))
         (run (translate W (change k d) γ sh) t)
     unfolding plain-change
-    change-acts zero c d γ ids sh μ z s t H R dd (object j) (f-obj o p q) can (at-this {i} {m} e a x) =
+    change-acts zero c d γ ids sh μ z s t H R dd (object j) (object-fits o p q) can (at-this {i} {m} e a x) =
         let l = t .frame .slots in let n = length l in let g = can-inv W c d can in
         let rt : W .root (o .class-of) ≡ W .root d = 𝓛 .fickle-root (o .class-of) c q (g .0) ∙ g .1 in
         rw (
@@ -138,7 +139,7 @@ module _ (W W′ : World) (P : IsPlain W W′) (𝓛 : Laws W) (𝓜 : More W) w
             core = recount (R .core) refl refl refl refl (omega (arith, R .core)) (omega (arith, R .core));
           };
         }))
-    change-acts (suc k) c d γ ids sh μ z s t H R dd (object j) (f-obj o p q) can
+    change-acts (suc k) c d γ ids sh μ z s t H R dd (object j) (object-fits o p q) can
         (at-variable a (in-place {i} e)) =
         let l = t .frame .slots in let n = length l in let g = can-inv W c d can in
         let rt : W .root (o .class-of) ≡ W .root d = 𝓛 .fickle-root (o .class-of) c q (g .0) ∙ g .1 in

@@ -1,4 +1,5 @@
--- Pieces of the translation in form: nesting, variables and their positions, numbers, blocks, and the change of class.
+-- Pieces of the translation in form: nesting, variables and their positions, numbers, blocks, and the change
+-- of class.
 use mathlib.Core.Path.{_≡_, refl, sym, ap, subst}
 use Prim.Native.Nat.{ℕ, zero, suc, _+_, _*_, _≤_, _<_}
 use mathlib.Core.Option.{some}
@@ -88,7 +89,7 @@ unfolding variable-count
 count-variables [] = refl
 count-variables (t ∷ ts) = ap suc (count-variables ts)
 
-count-temporaries : (ts : List DeclaredType) → variable-count (temporaries ts) ≡ 0
+pub count-temporaries : (ts : List DeclaredType) → variable-count (temporaries ts) ≡ 0
 unfolding variable-count
 count-temporaries [] = refl
 count-temporaries (t ∷ ts) = count-temporaries ts

@@ -178,7 +178,8 @@ module _ (P : List Class) (𝓔 : Earlier P) (𝓛 : Laws (world P)) (𝓝 : Nam
     methods = methods-nil;
   }
 
--- The plain program of a well-formed program within the limit of fields and without reserved names is well formed.
+-- The plain program of a well-formed program within the limit of fields and without reserved names is well
+-- formed.
 pub program-plain : (p : Program) (u v : Unit {0}) → ProgramWell p → Laws (world (p .classes))
     → NameLaws (world (p .classes))
     → headings of-translator (p .classes) ≡ accept u → names-free 1 (p .classes) ≡ accept v

@@ -1,4 +1,5 @@
--- The plain program of a well-formed program within the translator's limits is within the limits of form of the check.
+-- The plain program of a well-formed program within the translator's limits is within the limits of form of
+-- the check.
 use mathlib.Core.Path.{_≡_, refl, sym, _∙_, subst}
 use Prim.Native.Nat.{ℕ, suc, _+_, _≤_}
 use mathlib.Core.Bool.{true}

@@ -1,4 +1,5 @@
--- What is looked up in the classes of a plain program is what its source's classes give: they make a plain world.
+-- What is looked up in the classes of a plain program is what its source's classes give: they make a plain
+-- world.
 use mathlib.Core.Path.{_≡_, refl, sym, ap, _∙_}
 use Prim.Native.Nat.{ℕ, zero, suc, _≤_, _<_}
 use mathlib.Core.Option.{Option, none, some}
@@ -10,7 +11,7 @@ use lib.Dec.{eqb, eqb·zero-suc, eqb·suc-zero, eqb·suc-suc}
 use borrow.Author.Tests.{eq-eqb, leb-true}
 use native.Mathlib.Omega.{arith}
 use Rattle.language.specs.Limits.{object-class}
-use Rattle.language.specs.Lists.{nth, given, choice, map-option, up, up-suc}
+use Rattle.language.specs.Lists.{nth, given, choice, map-option, up, up-suc, nth-some}
 use Rattle.language.specs.Tree.{plain, Declaration, Class, Program}
 use Rattle.language.specs.World.{World}
 use Rattle.language.specs.Effects.{effect-of-all}
@@ -35,13 +36,6 @@ up-one (suc i) = ap suc (up-one i)
 -- Well-formed classes have earlier superclasses.
 pub earlier-supers : (P : List Class) → ClassesWell P 1 P → Earlier P
 earlier-supers P w = record { super = λ k c e. class-well P w k c e .earlier }
-
--- What stands at a place within a list.
-pub nth-within : {A : Type 0} (l : List A) (i : ℕ) → i < length l → (a : A) × (nth l i ≡ some a)
-unfolding nth
-nth-within [] i p = absurd (omega arith)
-nth-within (x ∷ l) zero p = (x, refl)
-nth-within (x ∷ l) (suc i) p = nth-within l i (omega arith)
 
 -- Every class is below Object.
 pub below-top : (P : List Class) (n k : ℕ) → below-at P n k object-class ≡ true
@@ -116,7 +110,7 @@ module _ (P : List Class) (𝓔 : Earlier P) where
 
   class-within : (i : ℕ) → suc i ≤ length P → (c : Class) × (class-at P (suc i) ≡ some c)
   unfolding class-at
-  class-within i p = nth-within P i p
+  class-within i p = nth-some P i p
 
   -- Fields, found in n steps up through the superclasses; FickleObject stands where Object stood.
   zero-fields : (n : ℕ)

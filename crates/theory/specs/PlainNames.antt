@@ -1,4 +1,5 @@
--- What the translation needs of names and of how much there is of each holds of the programs that the translator takes.
+-- What the translation needs of names and of how much there is of each holds of the programs that the
+-- translator takes.
 use mathlib.Core.Path.{_≡_, refl}
 use Prim.Native.Nat.{ℕ, zero, suc, _≤_}
 use mathlib.Core.Option.{Option, none, some}

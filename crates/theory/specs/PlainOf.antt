@@ -1,5 +1,6 @@
--- Which worlds are those of a plain program: their lookups are the source's, as far as plain programs use them.
--- A number that is no class stands right below Object in each program, so the plain number of one is set apart.
+-- Which worlds are those of a plain program: their lookups are the source's, as far as plain programs use
+-- them. A number that is no class stands right below Object in each program, so the plain number of one is
+-- set apart.
 use mathlib.Core.Path.{_≡_, ap, _∙_}
 use Prim.Native.Nat.{ℕ}
 use mathlib.Core.Bool.{true, false}

@@ -184,10 +184,6 @@ module _ (W : World) where
   fresh-match [] = match-nil
   fresh-match (t ∷ ts) = match-variable refl (fresh-match ts)
 
-  temporaries-match : (ts : List DeclaredType) → SlotsMatch (temporaries ts) [] (map plain-type ts)
-  temporaries-match [] = match-nil
-  temporaries-match (t ∷ ts) = match-temporary (temporaries-match ts)
-
   pub method-match : (c o : ℕ) (ts : List DeclaredType) → is-declared W o ≡ true
       → Match (variables ts) (frame (some (fresh-slot (class c))) (map fresh-slot ts))
       (frame (some (class (plain-class o))) (map plain-type ts))

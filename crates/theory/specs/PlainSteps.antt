@@ -1,5 +1,5 @@
--- What the pieces of a plain program do, run without limits: an Identity's implementor, its fields, a block of
--- temporaries, a new object.
+-- What the pieces of a plain program do, run without limits: an Identity's implementor, its fields, a block
+-- of temporaries, a new object.
 use mathlib.Core.Path.{_≡_, refl, sym, ap, _∙_}
 use Prim.Native.Nat.{ℕ, zero, suc, _+_, _≤_}
 use native.Mathlib.Nat.{suc-inj}

@@ -1,5 +1,5 @@
--- Types, classes and fields of a plain world: where a source type fits, its plain form does; plain classes are declared; a field's
--- plain form is found where the field is.
+-- Types, classes and fields of a plain world: where a source type fits, its plain form does; plain classes
+-- are declared; a field's plain form is found where the field is.
 use mathlib.Core.Path.{_≡_, refl, sym, ap, _∙_, subst}
 use Prim.Native.Nat.{ℕ}
 use mathlib.Core.Option.{some}

@@ -1,5 +1,5 @@
--- What evaluation asks of the world of a plain program, made from that of its source (document 01, "The plain program"): class 1 is
--- Identity, class 2 FickleObject, class k + 2 the plain form of class k.
+-- What evaluation asks of the world of a plain program, made from that of its source (document 01, "The plain
+-- program"): class 1 is Identity, class 2 FickleObject, class k + 2 the plain form of class k.
 use mathlib.Core.Path.{_≡_, refl}
 use Prim.Native.Nat.{ℕ}
 use mathlib.Core.Option.{some}

@@ -17,7 +17,7 @@ use Rattle.language.specs.Evaluation.{Value, null, object, Object, State, Out, 
 use Rattle.language.specs.Evaluation.{initials, eval}
 use Rattle.language.specs.Translation.{plain-field, implementor, _then_, copies, renew}
 use Rattle.language.specs.Correspondence.{Corresponds, identity-of, implementor-of}
-use Rattle.theory.specs.Fitting.{Laws, FitsF}
+use Rattle.theory.specs.Fitting.{Laws, FitsField}
 use Rattle.theory.specs.PlainWorld.{IsPlain}
 use Rattle.theory.specs.MatchingHeaps.{implementor-no-identity}
 use Rattle.theory.specs.PlainSteps.{More, state-of, set-last, initials-correspond, first-implementor}
@@ -69,7 +69,8 @@ module _ (W W′ : World) (P : IsPlain W W′) (𝓛 : Laws W) (𝓜 : More W) (
         (n : ℕ) (at₀ : nth l n ≡ some (object i)) (at₁ : nth l (suc n) ≡ some (object x))
         (at₂ : nth l (suc (suc n)) ≡ some (object m)) (is-x : length h ≡ x) (lt : i < x)
         (id-at : nth h i ≡ some (identity-of m)) (imp-at : nth h m ≡ some (implementor-of c i vs))
-        (alike : All2 (Corresponds ids) A vs) (hs : List Object) (fits-a : All2 (FitsF W hs) A (W .fields c))
+        (alike : All2 (Corresponds ids) A vs) (hs : List Object)
+        (fits-a : All2 (FitsField W hs) A (W .fields c))
       where
         abbrev heap-of : List Value → List Object
         heap-of ws = replace (h ++ (implementor-of d i ws ∷ [])) i (identity-of x)
@@ -156,7 +157,7 @@ module _ (W W′ : World) (P : IsPlain W W′) (𝓛 : Laws W) (𝓜 : More W) (
         → is-declared W d ≡ true
         → nth h i ≡ some (identity-of m) → nth h m ≡ some (implementor-of c i vs)
         → All2 (Corresponds ids) A vs
-        → All2 (FitsF W hs) A (W .fields c) → W .below c (W .root d) ≡ true
+        → All2 (FitsField W hs) A (W .fields c) → W .below c (W .root d) ≡ true
         → Renewed ids this l₀ a b h k r i m d A
     renewed ids this l₀ a b h k r i m c d vs A hs dc dd id-at imp-at al ft sb =
         let n = length l₀ in let x = length h in let F = W .fields (W .root d) in

@@ -1,5 +1,5 @@
--- Demand 2 for runs of rows over a lent store: a run ends in a value or an exception, with steps, objects and changes
--- of class, exactly if the evaluation relation derives that within fuel and room.
+-- Demand 2 for runs of rows over a lent store: a run ends in a value or an exception, with steps, objects and
+-- changes of class, exactly if the evaluation relation derives that within fuel and room.
 use mathlib.Core.Path.{_≡_, refl, sym, ap, _∙_, subst}
 use mathlib.Core.Logic.{_↔_}
 use Prim.Native.Nat.{ℕ, _≤_}
@@ -123,8 +123,8 @@ module _ (ns : List ℕ) (p : Program) (rows : RowsOf ns p) (fuel : ℕ) (l : fu
         (record { derived = d; within = record { fuel = f; room = k } }) in
         (is-result ∙ (ap (λ (r : Out Value). finish r store) q ∙ same-run (sym e) (sym g)), exception)
 
-    -- The run of the rows of a well-formed program gives a and ends in a value or an exception exactly if the relation
-    -- derives a within fuel and the store's room.
+    -- The run of the rows of a well-formed program gives a and ends in a value or an exception exactly if the
+    -- relation derives a within fuel and the store's room.
     pub runs-derived : (a : Ran)
         → ((run-of ns fuel store ≡ a) × EndsInValueOrException a) ↔ DerivedWithinStore p fuel store a
     runs-derived a = (

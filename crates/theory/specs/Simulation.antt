@@ -31,7 +31,7 @@ use Rattle.language.specs.Translation.{implementor, reads, _then_, _⊕_, trans
 use Rattle.language.specs.Translation.{translate-arguments}
 use Rattle.language.specs.Correspondence.{both-null, same-truth}
 use Rattle.theory.specs.Equal.{all-fit-length}
-use Rattle.theory.specs.Sound.{soundE, soundEs, calls-ok}
+use Rattle.theory.specs.Sound.{expression-sound, expressions-sound, calls-ok}
 use Rattle.theory.specs.Fitting.{Laws, Fits, HeapOk, FitsFrame, fits-evolves, locals-fit}
 use Rattle.theory.specs.SoundActs.{CallOk, at}
 use Rattle.theory.specs.PlainWorld.{IsPlain}
@@ -95,10 +95,10 @@ module _ (W W′ : World) (P : IsPlain W W′) (𝓛 : Laws W) (𝓜 : More W) w
           (λ r. bind (bind (bind r (λ v t. do-get W′ imp-field v t)) (λ v t. do-cast W′ (plain-class c) v t))
           (λ v t. do-get W′ f v t))
           (λ x t. refl)
-          (alike-with (soundE 𝓛 without-limits invoke C e d (entered s) H S)
+          (alike-with (expression-sound 𝓛 without-limits invoke C e d (entered s) H S)
           (simulates e d ids sh μ (81 + z) (entered s) (entered (entered (entered t))) H S
           (entering 3 R (omega arith) refl refl refl (omega arith)))) λ v s₁ v′ t₁ p.
-          get-acts W W′ P 𝓛 𝓜 invoke′ f c u v v′ s₁ t₁ (p .0 .heapOk) (p .0 .fitsOk) i (p .1))
+          get-acts W W′ P 𝓛 𝓜 invoke′ f c u v v′ s₁ t₁ (p .0 .heap-ok) (p .0 .value-ok) i (p .1))
       simulates (cast c e) {γ} (type-cast {t = u} d i nb) ids sh μ z s t H S R =
           let n = length sh in
           let t₀ : State = with-frame (opened (t .frame) (null ∷ [])) (entered t) in
@@ -113,7 +113,7 @@ module _ (W W′ : World) (P : IsPlain W W′) (𝓛 : Laws W) (𝓜 : More W) w
           (λ _. plain (get id-field (implementor c (suc n))) t)))
           (λ v t. ok (v ∷ []) t)) done)
           (λ x t. refl)
-          (alike-with (soundE 𝓛 without-limits invoke C e d (entered s) H S)
+          (alike-with (expression-sound 𝓛 without-limits invoke C e d (entered s) H S)
           (simulates e d ids (sh ++ (false ∷ [])) (μ ++ (some null ∷ [])) (80 + z) (entered s)
           (entered (entered (entered t₀))) H S
           (record {
@@ -124,7 +124,7 @@ module _ (W W′ : World) (P : IsPlain W W′) (𝓛 : Laws W) (𝓜 : More W) w
           let t₁′ : State = with-frame (with-slot (t₁ .frame) (suc n) v′) t₁ in
           let S₁ = frames-put μ _ 0 _ null v′ (p .1 .match .frames) N (nth₀ _ _) in
           alike-wrap (λ r. bind (bind r (λ v t. ok (v ∷ []) t)) done) (λ x t. refl)
-          (cast-acts W W′ P 𝓛 𝓜 invoke′ c n u v v′ s₁ t₁′ nb (p .0 .fitsOk) (p .1 .ids′) (p .1 .persists)
+          (cast-acts W W′ P 𝓛 𝓜 invoke′ c n u v v′ s₁ t₁′ nb (p .0 .value-ok) (p .1 .ids′) (p .1 .persists)
           (record {
             frames = S₁;
             core = spend 0 t₁′ (p .1 .match .core) (omega arith) refl refl (omega arith);
@@ -170,7 +170,7 @@ module _ (W W′ : World) (P : IsPlain W W′) (𝓛 : Laws W) (𝓜 : More W) w
           (λ v t. bind (plain-all (cons (assign (suc (suc n)) (translate W e′ γ₁ sh′)) act) t)
           (λ vs t. ok (v ∷ vs) t))) done)
           (λ x t. refl)
-          (alike-with (soundE 𝓛 without-limits invoke C e d (entered s) H S)
+          (alike-with (expression-sound 𝓛 without-limits invoke C e d (entered s) H S)
           (simulates e d ids sh′ (μ ++ (some null ∷ some (initial (plain-type u)) ∷ [])) (82 + z) (entered s)
           (entered t₀) H S
           (record {
@@ -183,9 +183,9 @@ module _ (W W′ : World) (P : IsPlain W W′) (𝓛 : Laws W) (𝓜 : More W) w
           (λ r. bind (bind (bind (bind r (λ v t. ok v (with-frame (with-slot (t .frame) (suc (suc n)) v) t)))
           (λ v t. bind (plain-all act t) (λ vs t. ok (v ∷ vs) t))) (λ vs t. ok (v′ ∷ vs) t)) done)
           (λ x t. refl)
-          (alike-with (soundE 𝓛 without-limits invoke C e′ d′ s₁ (p .0 .heapOk) (p .0 .slotsOk))
+          (alike-with (expression-sound 𝓛 without-limits invoke C e′ d′ s₁ (p .0 .heap-ok) (p .0 .slots-ok))
           (simulates e′ d′ (p .1 .ids′) sh′ (μ ++ (some v′ ∷ some (initial (plain-type u)) ∷ [])) (81 + z) s₁
-          (entered t₁′) (p .0 .heapOk) (p .0 .slotsOk)
+          (entered t₁′) (p .0 .heap-ok) (p .0 .slots-ok)
           (record {
             frames = frames-put μ _ 0 _ null v′ (p .1 .match .frames) N (nth₀ _ _);
             core = recount (p .1 .match .core) refl refl refl refl (omega (arith, p .1 .match .core))
@@ -199,8 +199,8 @@ module _ (W W′ : World) (P : IsPlain W W′) (𝓛 : Laws W) (𝓜 : More W) w
           (λ r. bind (bind (bind (bind r (λ v t. ok (v ∷ []) t)) (λ vs t. ok (w′ ∷ vs) t))
           (λ vs t. ok (v′ ∷ vs) t)) done)
           (λ x t. refl)
-          (set-acts W W′ P 𝓛 𝓜 invoke′ f (apply-class W φ₂ c) n u v v′ w w′ s₂ t₂′ (q .0 .heapOk)
-          (fits-evolves 𝓛 (q .0 .evolves) (p .0 .fitsOk)) i (q .1 .ids′) X₂
+          (set-acts W W′ P 𝓛 𝓜 invoke′ f (apply-class W φ₂ c) n u v v′ w w′ s₂ t₂′ (q .0 .heap-ok)
+          (fits-evolves 𝓛 (q .0 .evolves) (p .0 .value-ok)) i (q .1 .ids′) X₂
           (record {
             frames = S₂;
             core = spend 0 t₂′ (q .1 .match .core) (omega arith) refl refl (omega arith);
@@ -224,7 +224,7 @@ module _ (W W′ : World) (P : IsPlain W W′) (𝓛 : Laws W) (𝓜 : More W) w
           (λ v t. bind (plain-all (translate-arguments W es γ₁ (sh ++ sh₂) (suc (suc n)) ⊕ act) t)
           (λ vs t. ok (v ∷ vs) t))) done)
           (λ x t. refl)
-          (alike-with (soundE 𝓛 without-limits invoke C e d (entered s) H S)
+          (alike-with (expression-sound 𝓛 without-limits invoke C e d (entered s) H S)
           (simulates e d ids (sh ++ sh₂) (μ ++ (some null ∷ map some xs)) (82 + z) (entered s) (entered t₀) H
           S
           (record {
@@ -242,10 +242,10 @@ module _ (W W′ : World) (P : IsPlain W W′) (𝓛 : Laws W) (𝓜 : More W) w
           (λ r. bind (bind (bind r (λ vs t. bind (plain-all act t) (λ ws t. ok (vs ++ ws) t)))
           (λ vs t. ok (v′ ∷ vs) t)) done)
           (λ x t. refl)
-          (alike-with (soundEs 𝓛 without-limits invoke C es d′ s₁ (p .0 .heapOk) (p .0 .slotsOk))
+          (alike-with (expressions-sound 𝓛 without-limits invoke C es d′ s₁ (p .0 .heap-ok) (p .0 .slots-ok))
           (simulates-arguments es d′ (p .1 .ids′) (sh ++ sh₂) (μ ++ (some v′ ∷ [])) xs (4 + length ps + z) s₁
           t₁′
-          (ln ∙ sym (all-fit-length W us ps j)) (p .0 .heapOk) (p .0 .slotsOk)
+          (ln ∙ sym (all-fit-length W us ps j)) (p .0 .heap-ok) (p .0 .slots-ok)
           (record {
             frames = rw (append-snoc μ (some v′) (map some xs)) S₁;
             core = recount (p .1 .match .core) refl refl refl refl (omega (arith, p .1 .match .core))
@@ -261,8 +261,8 @@ module _ (W W′ : World) (P : IsPlain W W′) (𝓛 : Laws W) (𝓜 : More W) w
           (λ vs t. ok (v′ ∷ vs) t)) done)
           (λ x t. refl)
           (call-acts W W′ P 𝓛 𝓜 invoke invoke′ D m (apply-class W φ₂ c) n M v v′ vs vs′ us s₂ t₂
-          (q .0 .heapOk)
-          (fits-evolves 𝓛 (q .0 .evolves) (p .0 .fitsOk)) (q .0 .fitsOk) j i (q .1 .ids′)
+          (q .0 .heap-ok)
+          (fits-evolves 𝓛 (q .0 .evolves) (p .0 .value-ok)) (q .0 .value-ok) j i (q .1 .ids′)
           (persists-trans (p .1 .persists) (q .1 .persists)) R₂
           (corresponds-later (q .1 .persists) (p .1 .value))
           (q .1 .values) (frames-temporary μ _ 0 n v′ (R₂ .frames) N (nth₀ _ _))
@@ -272,13 +272,13 @@ module _ (W W′ : World) (P : IsPlain W W′) (𝓛 : Laws W) (𝓜 : More W) w
           (close-block sh₂ (some v′ ∷ map some vs′) (t .frame) (λ ids l l′ r. more-temporaries ps r)
           (R .frames) a)))
       simulates (choose e x y) (type-choose d d′ d″ j) ids sh μ z s t H S R = rw (plain-choose W x y sh d)
-          (alike-bind (alike-with (soundE 𝓛 without-limits invoke C e d (entered s) H S)
+          (alike-bind (alike-with (expression-sound 𝓛 without-limits invoke C e d (entered s) H S)
           (simulates e d ids sh μ (83 + z) (entered s) (entered t) H S (both-enter R))) λ v s₁ v′ t₁ p.
-          choose-alike (p .1 .value) s₁ t₁ (p .0 .fitsOk)
-          (alike-mono (simulates x d′ (p .1 .ids′) sh μ z s₁ t₁ (p .0 .heapOk) (p .0 .slotsOk)
+          choose-alike (p .1 .value) s₁ t₁ (p .0 .value-ok)
+          (alike-mono (simulates x d′ (p .1 .ids′) sh μ z s₁ t₁ (p .0 .heap-ok) (p .0 .slots-ok)
           (spare 83 (p .1 .match)))
           λ w s₂ w′ t₂ q. from-before (p .1 .persists) q)
-          (alike-mono (simulates y d″ (p .1 .ids′) sh μ z s₁ t₁ (p .0 .heapOk) (p .0 .slotsOk)
+          (alike-mono (simulates y d″ (p .1 .ids′) sh μ z s₁ t₁ (p .0 .heap-ok) (p .0 .slots-ok)
           (spare 83 (p .1 .match)))
           λ w s₂ w′ t₂ q. from-before (p .1 .persists) q))
       simulates (block ts es) {γ} (type-block l d) ids sh μ z s t H S R = rw (plain-block W ts es γ sh)
@@ -324,7 +324,7 @@ module _ (W W′ : World) (P : IsPlain W W′) (𝓛 : Laws W) (𝓜 : More W) w
           (λ r. bind (bind r (λ v t. ok v (with-frame (with-slot (t .frame) (suc n) v) t)))
           (λ v t. bind (plain-all (translate-arguments W es γ₁ sh (suc (suc n))) t) (λ vs t. ok (v ∷ vs) t)))
           (λ x t. refl)
-          (alike-with (soundE 𝓛 without-limits invoke C e₁ d s H S)
+          (alike-with (expression-sound 𝓛 without-limits invoke C e₁ d s H S)
           (simulates e₁ d ids sh (μ ++ map some (x ∷ xs)) (length xs + z) s (entered t) H S
           (record {
             frames = R .frames;
@@ -334,7 +334,7 @@ module _ (W W′ : World) (P : IsPlain W W′) (𝓛 : Laws W) (𝓜 : More W) w
           let t₁′ : State = with-frame (with-slot (t₁ .frame) (suc n) v′) t₁ in
           let S₁ = frames-put μ (some x ∷ map some xs) 0 n x v′ (p .1 .match .frames) e (nth₀ _ _) in
           alike-bind (simulates-arguments es d′ (p .1 .ids′) sh (μ ++ (some v′ ∷ [])) xs z s₁ t₁′ (suc-inj L)
-          (p .0 .heapOk) (p .0 .slotsOk)
+          (p .0 .heap-ok) (p .0 .slots-ok)
           (record {
             frames = rw (append-snoc μ (some v′) (map some xs)) S₁;
             core = spend 0 t₁′ (p .1 .match .core) (omega arith) refl refl (omega arith);
@@ -357,10 +357,10 @@ module _ (W W′ : World) (P : IsPlain W W′) (𝓛 : Laws W) (𝓜 : More W) w
       simulates-all nil {γ} types-nil ids sh μ z s t H S R = rw (plain-nil W γ sh)
           (alike-ok (record { ids′ = ids; persists = persists-same; match = R; values = a-nil }))
       simulates-all (cons e es) (types-cons d d′) ids sh μ z s t H S R = rw (plain-cons W es sh d)
-          (alike-bind (alike-with (soundE 𝓛 without-limits invoke C e d s H S)
+          (alike-bind (alike-with (expression-sound 𝓛 without-limits invoke C e d s H S)
           (simulates e d ids sh μ z s t H S R))
           λ v s₁ v′ t₁ p.
-          alike-bind (simulates-all es d′ (p .1 .ids′) sh μ z s₁ t₁ (p .0 .heapOk) (p .0 .slotsOk)
+          alike-bind (simulates-all es d′ (p .1 .ids′) sh μ z s₁ t₁ (p .0 .heap-ok) (p .0 .slots-ok)
           (p .1 .match))
           λ vs s₂ vs′ t₂ q.
           alike-ok (record {

@@ -1,5 +1,5 @@
--- A slot keeps its sort, bool or class, while an expression is typed; so what fits the frame of either arm of a choice fits the
--- join of the two.
+-- A slot keeps its sort, bool or class, while an expression is typed; so what fits the frame of either arm of
+-- a choice fits the join of the two.
 use mathlib.Core.Path.{_≡_, refl}
 use Prim.Native.Nat.{ℕ, zero, suc, _-_}
 use mathlib.Core.Option.{Option, none, some}
@@ -20,7 +20,8 @@ use Rattle.language.specs.Rules.{HasType, HaveTypes, type-true, type-false, typ
 use Rattle.language.specs.Rules.{type-cast, type-get, type-set, type-assign, type-is-null, type-call}
 use Rattle.language.specs.Rules.{type-choose, type-block, type-change, types-nil, types-cons}
 use Rattle.language.specs.Evaluation.{Value, Object}
-use Rattle.theory.specs.Fitting.{Fits, FitsS, FitsThis, this-none, this-some, FitsFrame, Laws, fits-sub}
+use Rattle.theory.specs.Fitting.{Fits, FitsSlot, FitsThis, this-none, this-some, FitsFrame, Laws}
+use Rattle.theory.specs.Fitting.{fits-sub}
 
 -- slots keep their sort
 pub data Sort : DeclaredType → DeclaredType → Type 0 where
@@ -158,13 +159,13 @@ module _ {W : World} (𝓛 : Laws W) where
       fits-sub 𝓛 (class (W .nearest c d)) f (lub-right c d)
 
   slots-left : {h : List Object} {vs : List Value} {a b c : List Slot} → All2 SortS a b → All2 SortS a c
-      → All2 (FitsS W h) vs b → All2 (FitsS W h) vs (join-slots W b c)
+      → All2 (FitsSlot W h) vs b → All2 (FitsSlot W h) vs (join-slots W b c)
   unfolding join-slots
   slots-left a-nil a-nil a-nil = a-nil
   slots-left (a-cons p ps) (a-cons q qs) (a-cons f fs) = a-cons (currents-left p q f) (slots-left ps qs fs)
 
   slots-right : {h : List Object} {vs : List Value} {a b c : List Slot} → All2 SortS a b → All2 SortS a c
-      → All2 (FitsS W h) vs c → All2 (FitsS W h) vs (join-slots W b c)
+      → All2 (FitsSlot W h) vs c → All2 (FitsSlot W h) vs (join-slots W b c)
   unfolding join-slots
   slots-right a-nil a-nil a-nil = a-nil
   slots-right (a-cons p ps) (a-cons q qs) (a-cons f fs) = a-cons (currents-right p q f) (slots-right ps qs fs)

@@ -1,5 +1,5 @@
--- Type soundness: an accepted expression, run where heap and slots fit their types, never gets stuck, and they fit afterwards;
--- where it stops the heap fits then.
+-- Type soundness: an accepted expression, run where heap and slots fit their types, never gets stuck, and
+-- they fit afterwards; where it stops the heap fits then.
 use mathlib.Core.Path.{refl, subst}
 use Prim.Native.Nat.{ℕ, zero, suc, _-_}
 use mathlib.Core.List.{List, [], _∷_, map}
@@ -17,7 +17,7 @@ use Rattle.language.specs.Rules.{type-cast, type-get, type-set, type-assign, ty
 use Rattle.language.specs.Rules.{type-choose, type-block, type-change, types-nil, types-cons}
 use Rattle.language.specs.Evaluation.{Value, Object, State, Out, Limits, entered, with-frame, initial}
 use Rattle.language.specs.Evaluation.{last-value, eval, eval-all, call-at}
-use Rattle.theory.specs.Fitting.{Fits, f-null, f-bool, FitsFrame, Laws, HeapOk, Fine, fine-deep}
+use Rattle.theory.specs.Fitting.{Fits, null-fits, truth-fits, FitsFrame, Laws, HeapOk, Fine, fine-deep}
 use Rattle.theory.specs.Fitting.{fine-spent, Good, Goods, evolve-refl, evolve-trans, evolve-within}
 use Rattle.theory.specs.Fitting.{evolve-then, evolve-left, evolve-right, locals-fit, fits-evolves}
 use Rattle.theory.specs.Fitting.{fits-sub, frame-evolves, frame-grow}
@@ -37,153 +37,164 @@ module _ {W : World} (𝓛 : Laws W) where
     mutual
       unfolding eval
 
-      pub soundE : (e : Expr) {Γ Γ′ : Environment} {t : ExprType} {φ : ℕ} → HasType W Γ e t Γ′ φ → (s : State)
+      pub expression-sound : (e : Expr) {Γ Γ′ : Environment} {t : ExprType} {φ : ℕ} → HasType W Γ e t Γ′ φ
+          → (s : State)
           → HeapOk W (s .heap) → FitsFrame W (s .heap) (s .frame) Γ
           → Holds (Good W Γ′ φ t (s .heap)) (Fine W) (eval W L invoke e s)
-      soundE literal-true type-true s H S =
+      expression-sound literal-true type-true s H S =
           holds-choice (L .spent-at (s .steps)) (holds-stop (fine-spent H))
-          (holds-ok (record { heapOk = H; evolves = evolve-refl _; slotsOk = S; fitsOk = f-bool }))
-      soundE literal-false type-false s H S =
+          (holds-ok (record { heap-ok = H; evolves = evolve-refl _; slots-ok = S; value-ok = truth-fits }))
+      expression-sound literal-false type-false s H S =
           holds-choice (L .spent-at (s .steps)) (holds-stop (fine-spent H))
-          (holds-ok (record { heapOk = H; evolves = evolve-refl _; slotsOk = S; fitsOk = f-bool }))
-      soundE literal-null type-null s H S =
+          (holds-ok (record { heap-ok = H; evolves = evolve-refl _; slots-ok = S; value-ok = truth-fits }))
+      expression-sound literal-null type-null s H S =
           holds-choice (L .spent-at (s .steps)) (holds-stop (fine-spent H))
-          (holds-ok (record { heapOk = H; evolves = evolve-refl _; slotsOk = S; fitsOk = f-null refl }))
-      soundE (slot k) {Γ} (type-slot {s = u} e) s H S =
+          (holds-ok (record {
+            heap-ok = H;
+            evolves = evolve-refl _;
+            slots-ok = S;
+            value-ok = null-fits
+                refl;
+          }))
+      expression-sound (slot k) {Γ} (type-slot {s = u} e) s H S =
           holds-choice (L .spent-at (s .steps)) (holds-stop (fine-spent H))
           (let x = at (s .frame) Γ S k u e in
           rw (x .is) (holds-ok (record {
-            heapOk = H;
+            heap-ok = H;
             evolves = evolve-refl _;
-            slotsOk = S;
-            fitsOk =
+            slots-ok = S;
+            value-ok =
                 x .fit;
           })))
-      soundE (assign (suc k) e) (type-assign d i f) s H S =
+      expression-sound (assign (suc k) e) (type-assign d i f) s H S =
           holds-choice (L .spent-at (s .steps)) (holds-stop (fine-spent H))
-          (holds-bind (soundE e d (entered s) H S) λ v s′ g.
+          (holds-bind (expression-sound e d (entered s) H S) λ v s′ g.
           holds-ok (record {
-            heapOk = g .heapOk;
+            heap-ok = g .heap-ok;
             evolves = g .evolves;
-            slotsOk = record {
-              this = g .slotsOk .this;
-              slots = all2-set (g .slotsOk .slots) k v _ i
-                  (fits-sub 𝓛 _ (g .fitsOk) f);
+            slots-ok = record {
+              this = g .slots-ok .this;
+              slots = all2-set (g .slots-ok .slots) k v _ i
+                  (fits-sub 𝓛 _ (g .value-ok) f);
             };
-            fitsOk = g .fitsOk;
+            value-ok = g .value-ok;
           }))
-      soundE (new c) (type-new i) s H S = holds-choice (L .spent-at (s .steps)) (holds-stop (fine-spent H))
+      expression-sound (new c) (type-new i) s H S =
+          holds-choice (L .spent-at (s .steps)) (holds-stop (fine-spent H))
           (holds-mono (new-ok 𝓛 L c (entered s) H) λ v s′ g.
           record {
-            heapOk = g .heapOk;
+            heap-ok = g .heap-ok;
             evolves = g .evolves;
-            slotsOk = frame-grow 𝓛 (g .evolves) (g .slotsSame) S;
-            fitsOk = g .fitsOk;
+            slots-ok = frame-grow 𝓛 (g .evolves) (g .frame-same) S;
+            value-ok = g .value-ok;
           })
-      soundE (change k d) {Γ} (type-change {s = u} i e c f) s H S =
+      expression-sound (change k d) {Γ} (type-change {s = u} i e c f) s H S =
           holds-choice (L .spent-at (s .steps)) (holds-stop (fine-spent H))
           (let x = at (s .frame) Γ S k u e in
           rw (x .is) (holds-mono (change-ok 𝓛 _ d (x .v) (entered s) H
           (subst (λ (t : DeclaredType). Fits W (s .heap) (x .v) (known t)) c (x .fit)) f) λ w s′ g.
           record {
-            heapOk = g .1 .heapOk;
+            heap-ok = g .1 .heap-ok;
             evolves = g .1 .evolves;
-            fitsOk = g .1 .fitsOk;
-            slotsOk = rw (g .1 .slotsSame) (retyped (s .frame) _ (frame-evolves 𝓛 (g .1 .evolves) S) k (x .v)
+            value-ok = g .1 .value-ok;
+            slots-ok = rw (g .1 .frame-same) (retyped (s .frame) _ (frame-evolves 𝓛 (g .1 .evolves) S) k
+                (x .v)
                 _
-                (x .is) (rw (g .0) at (g .1 .fitsOk)));
+                (x .is) (rw (g .0) at (g .1 .value-ok)));
           }))
-      soundE (is-null e) (type-is-null d n) s H S =
+      expression-sound (is-null e) (type-is-null d n) s H S =
           holds-choice (L .spent-at (s .steps)) (holds-stop (fine-spent H))
-          (holds-bind (soundE e d (entered s) H S) λ v s′ g.
+          (holds-bind (expression-sound e d (entered s) H S) λ v s′ g.
           holds-ok (record {
-            heapOk = g .heapOk;
+            heap-ok = g .heap-ok;
             evolves = g .evolves;
-            slotsOk = g .slotsOk;
-            fitsOk = f-bool;
+            slots-ok = g .slots-ok;
+            value-ok = truth-fits;
           }))
-      soundE (cast c e) (type-cast d i n) s H S =
+      expression-sound (cast c e) (type-cast d i n) s H S =
           holds-choice (L .spent-at (s .steps)) (holds-stop (fine-spent H))
-          (holds-bind (soundE e d (entered s) H S) λ v s′ g. cast-ok c v s′ n g)
-      soundE (get f e) (type-get d i) s H S =
+          (holds-bind (expression-sound e d (entered s) H S) λ v s′ g. cast-ok c v s′ n g)
+      expression-sound (get f e) (type-get d i) s H S =
           holds-choice (L .spent-at (s .steps)) (holds-stop (fine-spent H))
-          (holds-bind (soundE e d (entered s) H S) λ v s′ g.
-          holds-mono (get-ok 𝓛 f _ _ v s′ (g .heapOk) (g .fitsOk) i) λ w s″ q.
+          (holds-bind (expression-sound e d (entered s) H S) λ v s′ g.
+          holds-mono (get-ok 𝓛 f _ _ v s′ (g .heap-ok) (g .value-ok) i) λ w s″ q.
           rw (q .0) (record {
-            heapOk = g .heapOk;
+            heap-ok = g .heap-ok;
             evolves = g .evolves;
-            slotsOk = g .slotsOk;
-            fitsOk =
+            slots-ok = g .slots-ok;
+            value-ok =
                 q .1;
           }))
-      soundE (set f e e′) (type-set d d′ i j) s H S =
+      expression-sound (set f e e′) (type-set d d′ i j) s H S =
           holds-choice (L .spent-at (s .steps)) (holds-stop (fine-spent H))
-          (holds-bind (soundE e d (entered s) H S) λ v s₁ g.
-          holds-bind (soundE e′ d′ s₁ (g .heapOk) (g .slotsOk)) λ w s₂ g′.
-          holds-mono (set-ok 𝓛 f _ _ _ v w s₂ (g′ .heapOk) (fits-evolves 𝓛 (g′ .evolves) (g .fitsOk)) i
-          (g′ .fitsOk) j) λ x s₃ q.
+          (holds-bind (expression-sound e d (entered s) H S) λ v s₁ g.
+          holds-bind (expression-sound e′ d′ s₁ (g .heap-ok) (g .slots-ok)) λ w s₂ g′.
+          holds-mono (set-ok 𝓛 f _ _ _ v w s₂ (g′ .heap-ok) (fits-evolves 𝓛 (g′ .evolves) (g .value-ok)) i
+          (g′ .value-ok) j) λ x s₃ q.
           record {
-            heapOk = q .heapOk;
+            heap-ok = q .heap-ok;
             evolves = evolve-then (evolve-trans (g .evolves) (g′ .evolves)) (q .evolves);
-            slotsOk = frame-grow 𝓛 (q .evolves) (q .slotsSame) (g′ .slotsOk);
-            fitsOk = q .fitsOk;
+            slots-ok = frame-grow 𝓛 (q .evolves) (q .frame-same) (g′ .slots-ok);
+            value-ok = q .value-ok;
           })
-      soundE (call m e es) (type-call M d d′ i j) s H S =
+      expression-sound (call m e es) (type-call M d d′ i j) s H S =
           holds-choice (L .spent-at (s .steps)) (holds-stop (fine-spent H))
-          (holds-bind (soundE e d (entered s) H S) λ v s₁ g.
-          holds-bind (soundEs es d′ s₁ (g .heapOk) (g .slotsOk)) λ vs s₂ g′.
-          holds-mono (call-ok 𝓛 L invoke C m _ M v vs _ _ s₂ (g′ .heapOk) (g′ .slotsOk)
-          (fits-evolves 𝓛 (g′ .evolves) (g .fitsOk)) (g′ .fitsOk) i j) λ w s₃ q.
+          (holds-bind (expression-sound e d (entered s) H S) λ v s₁ g.
+          holds-bind (expressions-sound es d′ s₁ (g .heap-ok) (g .slots-ok)) λ vs s₂ g′.
+          holds-mono (call-ok 𝓛 L invoke C m _ M v vs _ _ s₂ (g′ .heap-ok) (g′ .slots-ok)
+          (fits-evolves 𝓛 (g′ .evolves) (g .value-ok)) (g′ .value-ok) i j) λ w s₃ q.
           record {
-            heapOk = q .heapOk;
+            heap-ok = q .heap-ok;
             evolves = evolve-trans (evolve-trans (g .evolves) (g′ .evolves)) (q .evolves);
-            slotsOk = q .slotsOk;
-            fitsOk = q .fitsOk;
+            slots-ok = q .slots-ok;
+            value-ok = q .value-ok;
           })
-      soundE (choose e x y) (type-choose {t} {φ₁} d d′ d″ j) s H S =
+      expression-sound (choose e x y) (type-choose {t} {φ₁} d d′ d″ j) s H S =
           holds-choice (L .spent-at (s .steps)) (holds-stop (fine-spent H))
-          (holds-bind (soundE e d (entered s) H S) λ v s₁ g. if-ok s₁ (g .fitsOk)
-          (holds-mono (soundE x d′ s₁ (g .heapOk) (g .slotsOk)) λ w s₂ q.
+          (holds-bind (expression-sound e d (entered s) H S) λ v s₁ g. if-ok s₁ (g .value-ok)
+          (holds-mono (expression-sound x d′ s₁ (g .heap-ok) (g .slots-ok)) λ w s₂ q.
           record {
-            heapOk = q .heapOk;
+            heap-ok = q .heap-ok;
             evolves = evolve-trans (g .evolves) (evolve-left _ (q .evolves));
-            slotsOk = frames-left 𝓛 (shape x d′) (shape y d″) (q .slotsOk);
-            fitsOk = join-left 𝓛 _ _ _ j (q .fitsOk);
+            slots-ok = frames-left 𝓛 (shape x d′) (shape y d″) (q .slots-ok);
+            value-ok = join-left 𝓛 _ _ _ j (q .value-ok);
           })
-          (holds-mono (soundE y d″ s₁ (g .heapOk) (g .slotsOk)) λ w s₂ q.
+          (holds-mono (expression-sound y d″ s₁ (g .heap-ok) (g .slots-ok)) λ w s₂ q.
           record {
-            heapOk = q .heapOk;
+            heap-ok = q .heap-ok;
             evolves = evolve-trans (g .evolves) (evolve-right φ₁ (q .evolves));
-            slotsOk = frames-right 𝓛 (shape x d′) (shape y d″) (q .slotsOk);
-            fitsOk = join-right 𝓛 t _ _ j (q .fitsOk);
+            slots-ok = frames-right 𝓛 (shape x d′) (shape y d″) (q .slots-ok);
+            value-ok = join-right 𝓛 t _ _ j (q .value-ok);
           }))
-      soundE (block ts es) {Γ} (type-block l d) s H S =
+      expression-sound (block ts es) {Γ} (type-block l d) s H S =
           holds-choice (L .spent-at (s .steps)) (holds-stop (fine-spent H))
-          (holds-bind (soundEs es d (with-frame (opened (s .frame) (map initial ts)) (entered s)) H
+          (holds-bind (expressions-sound es d (with-frame (opened (s .frame) (map initial ts)) (entered s)) H
           (record { this = S .this; slots = all2-append (S .slots) (locals-fit _ ts) })) λ vs s′ g.
           holds-ok (record {
-            heapOk = g .heapOk;
+            heap-ok = g .heap-ok;
             evolves = g .evolves;
-            slotsOk = record {
-              this = g .slotsOk .this;
+            slots-ok = record {
+              this = g .slots-ok .this;
               slots = rw (all2-length (S .slots))
-                  (all2-take (length (Γ .slots)) (g .slotsOk .slots));
+                  (all2-take (length (Γ .slots)) (g .slots-ok .slots));
             };
-            fitsOk = last-fits vs _ (f-null refl) (g .fitsOk);
+            value-ok = last-fits vs _ (null-fits refl) (g .value-ok);
           }))
 
-      pub soundEs : (es : Exprs) {Γ Γ′ : Environment} {ts : List ExprType} {φ : ℕ} → HaveTypes W Γ es ts Γ′ φ
+      pub expressions-sound : (es : Exprs) {Γ Γ′ : Environment} {ts : List ExprType} {φ : ℕ}
+          → HaveTypes W Γ es ts Γ′ φ
           → (s : State) → HeapOk W (s .heap) → FitsFrame W (s .heap) (s .frame) Γ
           → Holds (Goods W Γ′ φ ts (s .heap)) (Fine W) (eval-all W L invoke es s)
-      soundEs nil types-nil s H S =
-          holds-ok (record { heapOk = H; evolves = evolve-refl _; slotsOk = S; fitsOk = a-nil })
-      soundEs (cons e es) (types-cons d d′) s H S = holds-bind (soundE e d s H S) λ v s₁ g.
-          holds-bind (soundEs es d′ s₁ (g .heapOk) (g .slotsOk)) λ vs s₂ g′.
+      expressions-sound nil types-nil s H S =
+          holds-ok (record { heap-ok = H; evolves = evolve-refl _; slots-ok = S; value-ok = a-nil })
+      expressions-sound (cons e es) (types-cons d d′) s H S =
+          holds-bind (expression-sound e d s H S) λ v s₁ g.
+          holds-bind (expressions-sound es d′ s₁ (g .heap-ok) (g .slots-ok)) λ vs s₂ g′.
           holds-ok (record {
-            heapOk = g′ .heapOk;
+            heap-ok = g′ .heap-ok;
             evolves = evolve-trans (g .evolves) (g′ .evolves);
-            slotsOk = g′ .slotsOk;
-            fitsOk = a-cons (fits-evolves 𝓛 (g′ .evolves) (g .fitsOk)) (g′ .fitsOk);
+            slots-ok = g′ .slots-ok;
+            value-ok = a-cons (fits-evolves 𝓛 (g′ .evolves) (g .value-ok)) (g′ .value-ok);
           })
 
   -- calls, of any depth
@@ -191,11 +202,12 @@ module _ {W : World} (𝓛 : Laws W) where
   unfolding call-at
   calls-ok L zero = record { good = λ M B s H S. holds-stop (fine-deep H) }
   calls-ok L (suc n) = record {
-    good = λ M B s H S. holds-mono (soundE L (λ M s. call-at W L n M s) (calls-ok L n) (M .body) (B .types) s
+    good = λ M B s H S. holds-mono (expression-sound L (λ M s. call-at W L n M s) (calls-ok L n) (M .body)
+        (B .types) s
         H S) λ v s′ g.
         record {
-          heapOk = g .heapOk;
+          heap-ok = g .heap-ok;
           evolves = evolve-within (B .inside) (g .evolves);
-          fitsOk = fits-sub 𝓛 _ (g .fitsOk) (B .fits-ret);
+          value-ok = fits-sub 𝓛 _ (g .value-ok) (B .fits-ret);
         };
   }

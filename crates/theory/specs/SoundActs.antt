@@ -25,7 +25,8 @@ use Rattle.language.specs.Evaluation.{need-truth, new-object, changed, do-get, 
 use Rattle.language.specs.Evaluation.{do-new, do-call}
 use Rattle.language.proofs.Booleans.{false≢, and-inv}
 use Rattle.theory.specs.EffectLaws.{has-one}
-use Rattle.theory.specs.Fitting.{Fits, f-null, f-bool, f-obj, FitsF, FitsS, FitsThis, this-none}
+use Rattle.theory.specs.Fitting.{Fits, null-fits, truth-fits, object-fits, FitsField, FitsSlot}
+use Rattle.theory.specs.Fitting.{FitsThis, this-none}
 use Rattle.theory.specs.Fitting.{this-some, FitsFrame, BodyOk, Laws, HeapOk, same, moved, Evolves, Fine}
 use Rattle.theory.specs.Fitting.{fine-null, fine-cast, fine-full, Good, evolve-refl, evolve-within}
 use Rattle.theory.specs.Fitting.{evolve-set, evolve-append, initials-fit, fits-evolves, fits-sub}
@@ -59,22 +60,22 @@ found n fs t e = bind-option-inv _ _ e λ i p e. bind-option-inv _ _ e λ f q e.
 
 -- what an operation leaves, the slots not being touched
 pub record Left (W : World) (φ : ℕ) (t : ExprType) (s : State) (v : Value) (s′ : State) : Type 0 where
-  pub heapOk : HeapOk W (s′ .heap)
+  pub heap-ok : HeapOk W (s′ .heap)
   pub evolves : Evolves W φ (s .heap) (s′ .heap)
-  pub slotsSame : s′ .frame ≡ s .frame
-  pub fitsOk : Fits W (s′ .heap) v t
+  pub frame-same : s′ .frame ≡ s .frame
+  pub value-ok : Fits W (s′ .heap) v t
 
 -- what stands in a slot
 pub record At (W : World) (h : List Object) (f : Frame Value) (k : ℕ) (s : Slot) : Type 0 where
   pub v : Value
   pub is : at-slot f k ≡ some v
-  pub fit : FitsS W h v s
+  pub fit : FitsSlot W h v s
 
 -- what a call of a method does
 pub record Called (W : World) (M : Method) (h : List Object) (v : Value) (s : State) : Type 0 where
-  pub heapOk : HeapOk W (s .heap)
+  pub heap-ok : HeapOk W (s .heap)
   pub evolves : Evolves W (M .effect) h (s .heap)
-  pub fitsOk : Fits W (s .heap) v (known (M .result))
+  pub value-ok : Fits W (s .heap) v (known (M .result))
 
 pub record CallOk (W : World) (invoke : Method → State → Out Value) : Type 0 where
   pub good : (M : Method) → BodyOk W M → (s : State) → HeapOk W (s .heap)
@@ -90,7 +91,7 @@ can-inv W c d e = let p = and-inv (W .changeable c) (W .changeable d && eqb (W .
 
 module _ {W : World} where
   this-at : {h : List Object} {v : Option Value} {t : Option Slot} (s : Slot) → FitsThis W h v t → t ≡ some s
-      → (w : Value) × (v ≡ some w) × FitsS W h w s
+      → (w : Value) × (v ≡ some w) × FitsSlot W h w s
   this-at s this-none e = absurd (Never e)
   this-at s (this-some f) e = (_, refl, rw (inj e) at f)
 
@@ -100,13 +101,13 @@ module _ {W : World} where
   at f γ F (suc k) s e = let x = all2-at (F .slots) k s e in record { v = x .0; is = x .1; fit = x .2 }
 
   this-set : {h : List Object} {v : Option Value} {t : Option Slot} (w : Value) (s : Slot) → FitsThis W h v t
-      → v ≡ some w → FitsS W h w s → FitsThis W h v (map-option (λ b. s) t)
+      → v ≡ some w → FitsSlot W h w s → FitsThis W h v (map-option (λ b. s) t)
   this-set w s this-none e f = absurd (Never e)
   this-set w s (this-some g) e f = this-some (rw (← inj e) at f)
 
   -- another type for a slot whose value fits it
   pub retyped : {h : List Object} (f : Frame Value) (γ : Environment) → FitsFrame W h f γ
-      → (k : ℕ) (w : Value) (s : Slot) → at-slot f k ≡ some w → FitsS W h w s
+      → (k : ℕ) (w : Value) (s : Slot) → at-slot f k ≡ some w → FitsSlot W h w s
       → FitsFrame W h f (with-slot γ k s)
   retyped f γ F zero w s e g = record { this = this-set w s (F .this) e g; slots = F .slots }
   retyped f γ F (suc k) w s e g = record { this = F .this; slots = all2-set-right (F .slots) k w s e g }
@@ -114,28 +115,28 @@ module _ {W : World} where
   pub cast-ok : {Γ : Environment} {φ : ℕ} {t : ExprType} {h : List Object} (c : ℕ) (v : Value) (s : State)
       → not-bool t ≡ true → Good W Γ φ t h v s
       → Holds (Good W Γ φ (known (class c)) h) (Fine W) (do-cast W c v s)
-  cast-ok {Γ} {φ} {t} {h} c v s n g = go v t n (g .fitsOk)
+  cast-ok {Γ} {φ} {t} {h} c v s n g = go v t n (g .value-ok)
     where
       fin : (w : Value) → Fits W (s .heap) w (known (class c)) → Good W Γ φ (known (class c)) h w s
-      fin w f = record { heapOk = g .heapOk; evolves = g .evolves; slotsOk = g .slotsOk; fitsOk = f }
+      fin w f = record { heap-ok = g .heap-ok; evolves = g .evolves; slots-ok = g .slots-ok; value-ok = f }
 
       two : (j : ℕ) (o : Object) → nth (s .heap) j ≡ some o → (b : Bool) → W .below (o .class-of) c ≡ b
           → Holds (Good W Γ φ (known (class c)) h) (Fine W) (cond b (ok (object j) s) (stop (raised 2) s))
-      two j o p true e = holds-ok (fin (object j) (f-obj o p e))
-      two j o p false e = holds-stop (fine-cast (g .heapOk))
+      two j o p true e = holds-ok (fin (object j) (object-fits o p e))
+      two j o p false e = holds-stop (fine-cast (g .heap-ok))
 
       go : (v : Value) (t : ExprType) → not-bool t ≡ true → Fits W (s .heap) v t
           → Holds (Good W Γ φ (known (class c)) h) (Fine W) (do-cast W c v s)
-      go v t n (f-null z) = holds-ok (fin null (f-null refl))
-      go v t n f-bool = false≢ n
-      go (object j) t n (f-obj o p q) = rw p (two j o p (W .below (o .class-of) c) refl)
+      go v t n (null-fits z) = holds-ok (fin null (null-fits refl))
+      go v t n truth-fits = false≢ n
+      go (object j) t n (object-fits o p q) = rw p (two j o p (W .below (o .class-of) c) refl)
 
   pub if-ok : {P : Value → State → Type 0} {v : Value} {h : List Object} (s : State) {x y : Out Value}
       → Fits W h v (known bool) → Holds P (Fine W) x → Holds P (Fine W) y
       → Holds P (Fine W) (need-truth v s λ t. choice t (λ _. x) (λ _. y))
-  if-ok s (f-null z) a b = false≢ z
-  if-ok s (f-bool {b = true}) a b = a
-  if-ok s (f-bool {b = false}) a b = b
+  if-ok s (null-fits z) a b = false≢ z
+  if-ok s (truth-fits {b = true}) a b = a
+  if-ok s (truth-fits {b = false}) a b = b
 
 module _ {W : World} (𝓛 : Laws W) where
   open Laws 𝓛 using (sub-refl, sub-root, fickle-root, prefix, solid, override, owned, bodies)
@@ -155,48 +156,48 @@ module _ {W : World} (𝓛 : Laws W) where
   pub get-ok : (n c : ℕ) (t : DeclaredType) (v : Value) (s : State) → HeapOk W (s .heap)
       → Fits W (s .heap) v (known (class c)) → field-type n (W .fields c) ≡ some t
       → Holds (λ w s′. (s′ ≡ s) × Fits W (s .heap) w (known t)) (Fine W) (do-get W n v s)
-  get-ok n c t v s H (f-null z) e = holds-stop (fine-null H)
-  get-ok n c t v s H (f-obj o p q) e =
+  get-ok n c t v s H (null-fits z) e = holds-stop (fine-null H)
+  get-ok n c t v s H (object-fits o p q) e =
       let x = inherit (o .class-of) c n t q e in let y = all2-at (H .each _ o p) (x .i) (x .fld) (x .is) in
       rw (p, x .at, y .1) (holds-ok (refl, rw (x .ty) at (y .2)))
 
   pub set-ok : (n c : ℕ) (t : ExprType) (u : DeclaredType) (v w : Value) (s : State) → HeapOk W (s .heap)
       → Fits W (s .heap) v (known (class c)) → field-type n (W .fields c) ≡ some u
       → Fits W (s .heap) w t → fits W t u ≡ true → Holds (Left W no-effect t s) (Fine W) (do-set W n v w s)
-  set-ok n c t u v w s H (f-null z) e f g = holds-stop (fine-null H)
-  set-ok n c t u (object j) w s H (f-obj o p q) e f g =
+  set-ok n c t u v w s H (null-fits z) e f g = holds-stop (fine-null H)
+  set-ok n c t u (object j) w s H (object-fits o p q) e f g =
       let x = inherit (o .class-of) c n u q e in
       let n′ : Object = record { class-of = o .class-of; fields = replace (o .fields) (x .i) w } in
       let ev : Evolves W no-effect (s .heap) (replace (s .heap) j n′) =
       evolve-set (s .heap) j o n′ p (same refl) in
-      let old : All2 (FitsF W (replace (s .heap) j n′)) (o .fields) (W .fields (o .class-of)) =
+      let old : All2 (FitsField W (replace (s .heap) j n′)) (o .fields) (W .fields (o .class-of)) =
       all2-mono-at (H .each j o p) (λ i a b z r. fits-grow 𝓛 ev r) in
       let neu = all2-set old (x .i) w (x .fld) (x .is) (rw (x .ty) (fits-grow 𝓛 ev (fits-sub 𝓛 u f g))) in
       rw (p, x .at) (holds-ok (record {
-        heapOk = heap-set 𝓛 (s .heap) j n′ ev H neu;
+        heap-ok = heap-set 𝓛 (s .heap) j n′ ev H neu;
         evolves = ev;
-        slotsSame =
+        frame-same =
             refl;
-        fitsOk = fits-grow 𝓛 ev f;
+        value-ok = fits-grow 𝓛 ev f;
       }))
 
   pub new-ok : (L : Limits) (c : ℕ) (s : State) → HeapOk W (s .heap)
       → Holds (Left W no-effect (known (class c)) s) (Fine W) (do-new W L c s)
   new-ok L c s H = holds-if (L .full-at (length (s .heap))) (holds-stop (fine-full H)) (holds-ok (record {
-    heapOk = heap-append 𝓛 (s .heap) (new-object W c) H (initials-fit _ _);
+    heap-ok = heap-append 𝓛 (s .heap) (new-object W c) H (initials-fit _ _);
     evolves = evolve-append (s .heap) (new-object W c);
-    slotsSame = refl;
-    fitsOk = f-obj (new-object W c) (nth-last (s .heap) (new-object W c)) (sub-refl c);
+    frame-same = refl;
+    value-ok = object-fits (new-object W c) (nth-last (s .heap) (new-object W c)) (sub-refl c);
   }))
 
   -- the root's fields of an object, and first values for the others of d
   changed-ok : (h h′ : List Object) (d : ℕ) (o : Object) → W .root (o .class-of) ≡ W .root d
-      → All2 (FitsF W h) (o .fields) (W .fields (o .class-of))
-      → Evolves W (effect-of (W .root d)) h h′ → All2 (FitsF W h′) (changed W d o .fields) (W .fields d)
+      → All2 (FitsField W h) (o .fields) (W .fields (o .class-of))
+      → Evolves W (effect-of (W .root d)) h h′ → All2 (FitsField W h′) (changed W d o .fields) (W .fields d)
   changed-ok h h′ d o r a ev =
       let p = prefix (o .class-of) (W .root d) (rw r at (sub-root (o .class-of))) in
       let q = prefix d (W .root d) (sub-root d) in
-      let b : All2 (FitsF W h′) (o .fields) (W .fields (W .root d) ++ p .0)
+      let b : All2 (FitsField W h′) (o .fields) (W .fields (W .root d) ++ p .0)
       = rw (p .1) at (all2-mono-at a
       (λ i v f z x. rw (solid (o .class-of) i f z _) at (fits-evolves 𝓛 ev x))) in
       rw (q .1, drop-append-seam)
@@ -205,7 +206,7 @@ module _ {W : World} (𝓛 : Laws W) where
 
   -- an object that R changes has the fields of its root
   pub root-fields : (h : List Object) (d : ℕ) (o : Object) → W .root (o .class-of) ≡ W .root d
-      → All2 (FitsF W h) (o .fields) (W .fields (o .class-of))
+      → All2 (FitsField W h) (o .fields) (W .fields (o .class-of))
       → leb (length (W .fields (W .root d))) (length (o .fields)) ≡ true
   root-fields h d o r a =
       let p = prefix (o .class-of) (W .root d) (rw r at (sub-root (o .class-of))) in
@@ -218,18 +219,18 @@ module _ {W : World} (𝓛 : Laws W) where
       → can-change W c d ≡ true
       → Holds (λ w s′. (w ≡ v) × Left W (effect-of (W .root d)) (known (class d)) s w s′) (Fine W)
       (do-change W d v s)
-  change-ok c d v s H (f-null z) e =
+  change-ok c d v s H (null-fits z) e =
       holds-ok (
         refl,
         record {
-          heapOk = H;
+          heap-ok = H;
           evolves = evolve-refl (s .heap);
-          slotsSame = refl;
-          fitsOk = f-null
+          frame-same = refl;
+          value-ok = null-fits
               refl;
         },
       )
-  change-ok c d (object j) s H (f-obj o p q) e =
+  change-ok c d (object j) s H (object-fits o p q) e =
       let g = can-inv W c d e in
       let r : W .root (o .class-of) ≡ W .root d = fickle-root (o .class-of) c q (g .0) ∙ g .1 in
       let ev : Evolves W (effect-of (W .root d)) (s .heap) (replace (s .heap) j (changed W d o)) =
@@ -237,16 +238,16 @@ module _ {W : World} (𝓛 : Laws W) where
       rw (p, root-fields (s .heap) d o r (H .each j o p)) (holds-ok (
         refl,
         record {
-          heapOk = heap-set 𝓛 (s .heap) j (changed W d o) ev H
+          heap-ok = heap-set 𝓛 (s .heap) j (changed W d o) ev H
               (changed-ok (s .heap) _ d o r (H .each j o p) ev);
           evolves = ev;
-          slotsSame = refl;
-          fitsOk = f-obj (changed W d o) (nth-set-same (s .heap) j _ o p) (sub-refl d);
+          frame-same = refl;
+          value-ok = object-fits (changed W d o) (nth-set-same (s .heap) j _ o p) (sub-refl d);
         },
       ))
 
   pub fits-all : (h : List Object) (vs : List Value) (ts : List ExprType) (us : List DeclaredType)
-      → All2 (Fits W h) vs ts → all-fit W ts us ≡ true → All2 (FitsS W h) vs (map fresh-slot us)
+      → All2 (Fits W h) vs ts → all-fit W ts us ≡ true → All2 (FitsSlot W h) vs (map fresh-slot us)
   unfolding all-fit
   fits-all h [] [] [] a-nil e = a-nil
   fits-all h [] [] (u ∷ us) a-nil e = false≢ e
@@ -262,19 +263,19 @@ module _ {W : World} (𝓛 : Laws W) where
       → W .method c m ≡ some M → all-fit W ts (M .parameters) ≡ true
       → Holds (Good W (apply-all W (M .effect) Γ) (M .effect) (known (M .result)) (s .heap)) (Fine W)
       (do-call W L invoke m v vs s)
-  call-ok L invoke C m c M v vs ts Γ s H S (f-null z) A e f = holds-stop (fine-null H)
-  call-ok L invoke C m c M (object j) vs ts Γ s H S (f-obj o p q) A e f =
+  call-ok L invoke C m c M v vs ts Γ s H S (null-fits z) A e f = holds-stop (fine-null H)
+  call-ok L invoke C m c M (object j) vs ts Γ s H S (object-fits o p q) A e f =
       let x = override (o .class-of) c m M q e in let M′ = x .0 in
       rw (p, x .1) (holds-bind
       (C .good M′ (bodies _ _ _ (x .1)) (with-frame (frame (some (object j)) vs) s) H
       (record {
-        this = this-some (f-obj o p (owned _ _ _ (x .1)));
+        this = this-some (object-fits o p (owned _ _ _ (x .1)));
         slots = rw (x .2) (fits-all _ vs ts (M .parameters) A f);
       }))
       λ w s′ g. let ev = evolve-within (x .4) (g .evolves) in
       holds-ok (record {
-        heapOk = g .heapOk;
+        heap-ok = g .heap-ok;
         evolves = ev;
-        slotsOk = frame-evolves 𝓛 ev S;
-        fitsOk = rw (x .3) at (g .fitsOk);
+        slots-ok = frame-evolves 𝓛 ev S;
+        value-ok = rw (x .3) at (g .value-ok);
       }))

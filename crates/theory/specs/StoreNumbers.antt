@@ -1,7 +1,7 @@
--- Objects read back from the numbers of a store (document 01, "Evaluation"): what the numbers of a store afterwards
--- hold are the objects that the run made, and what held none is unchanged.
+-- Objects read back from the numbers of a store (document 01, "Evaluation"): what the numbers of a store
+-- afterwards hold are the objects that the run made, and what held none is unchanged.
 use mathlib.Core.Path.{_≡_, refl, ap, _∙_}
-use Prim.Native.Nat.{ℕ, zero, suc, _-_, _*_, _≤_}
+use Prim.Native.Nat.{ℕ, suc, _-_, _*_, _≤_}
 use mathlib.Core.Bool.{true, false}
 use mathlib.Core.Option.{some}
 use mathlib.Core.List.{List, [], _∷_, _++_, map, append-assoc}
@@ -24,18 +24,12 @@ use Rattle.theory.specs.MoreLookups.{well-formed-more}
 use Rattle.theory.specs.Members.{run-sound}
 use Rattle.theory.specs.Cut.{final}
 
--- A value's number stands for it, and each number for a value.
+-- A value's number stands for it.
 pub value-back : (v : Value) → value-of-number (value-number v) ≡ v
 value-back null = refl
 value-back (truth true) = refl
 value-back (truth false) = refl
 value-back (object j) = refl
-
-pub number-back : (n : ℕ) → value-number (value-of-number n) ≡ n
-number-back zero = refl
-number-back (suc zero) = refl
-number-back (suc (suc zero)) = refl
-number-back (suc (suc (suc j))) = refl
 
 values-back : (vs : List Value) → map value-of-number (map value-number vs) ≡ vs
 values-back [] = refl
@@ -142,5 +136,5 @@ run-shaped p w L = shaped-each W (final (run L p) .heap) λ j o e. let l =
     W = world (p .classes)
 
     heap : {r : Out Value} → Holds (Good W (w .γ) (w .φ) (w .t) []) (Fine W) r → HeapOk W (final r .heap)
-    heap (holds-ok g) = g .heapOk
+    heap (holds-ok g) = g .heap-ok
     heap (holds-stop f) = fine-heap f

@@ -155,6 +155,22 @@ module _ (P : List Class) where
     unfolding fields-at
     no-class-no-fields k p = rw p
 
+    -- A law that a class's fields have if its superclass's have it.
+    pub fields-law : (R : List Field → Type 0) → R []
+        → ((k : ℕ) (c : Class) → class-at P k ≡ some c → R (fields-at P (suc (c .super)) (c .super))
+        → R (fields-at P (suc (c .super)) (c .super) ++ c .fields))
+        → (n k : ℕ) → k < n → R (fields-at P (suc k) k)
+    fields-law R r f zero k l = absurd (omega arith)
+    fields-law R r f (suc n) k l =
+        go (class-at P k) refl (λ c p. fields-law R r f n (c .super) (omega (arith, earlier k c p)))
+      where
+        go : (o : Option Class) → class-at P k ≡ o
+            → ((c : Class) → class-at P k ≡ some c → R (fields-at P (suc (c .super)) (c .super)))
+            → R (fields-at P (suc k) k)
+        go none e ih = subst R (sym (no-class-no-fields k e)) r
+        go (some c) e ih = subst R (sym (fields-of-class k c e))
+            (f k c e (ih c e))
+
     pub fields-prefix : {k d : ℕ} → Subclass P k d
         → (fs : List Field) × (fields-at P (suc k) k ≡ fields-at P (suc d) d ++ fs)
     fields-prefix itself = ([], sym (append-nil _))

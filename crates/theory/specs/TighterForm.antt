@@ -1,5 +1,5 @@
--- Tighter limits: of rows that the pass over form reads within wide limits it reads the same program within tight ones,
--- or it refuses with 2.
+-- Tighter limits: of rows that the pass over form reads within wide limits it reads the same program within
+-- tight ones, or it refuses with 2.
 use mathlib.Core.Path.{_≡_, refl, sym, ap, subst}
 use Prim.Native.Nat.{ℕ, zero, suc, _+_}
 use mathlib.Core.Logic.{_⊎_, inl, inr}
@@ -104,8 +104,8 @@ module _ (wide tight : Most) (t : Tighter tight wide) where
       go (inr b) h = rw (maybe-blocked X-effect at r rs b)
           (inr (subst (λ (n : ℕ). Blocked n (r ∷ rs)) (omega arith) b))
 
-  -- Lists that are read as long as their lines come: the same is read, or 2, or the rows after what was read, which
-  -- begin at its end, are blocked.
+  -- Lists that are read as long as their lines come: the same is read, or 2, or the rows after what was read,
+  -- which begin at its end, are blocked.
   data CutsRead {A : Type 0} (end : A → ℕ) : Checked (Read A) → Checked (Read A) → Type 0 where
     same-read : {x : Read A} → CutsRead end (accept x) (accept x)
     over-read : {r : Checked (Read A)} {l : ℕ} → CutsRead end r (refuse limit-refusal l)
@@ -150,7 +150,8 @@ module _ (wide tight : Most) (t : Tighter tight wide) where
   read-limit true true l f = f true
   read-limit false true l f = unsaid-read
 
-  -- A list that stops at once, its first record blocked, and one whose first record, if it is there, is read alike.
+  -- A list that stops at once, its first record blocked, and one whose first record, if it is there, is read
+  -- alike.
   read-given : {A : Type 0} {end : A → ℕ} (letter : Letter) (at : ℕ) (r : Row) (rs : List Row) (none-yet : A)
       → end none-yet ≡ at → {k k′ : Record → Checked (Read A)} → ((x : Record) → CutsRead end (k x) (k′ x))
       → CutsRead end (given (maybe wide letter at r) (accept (read none-yet (r ∷ rs))) k)
@@ -278,7 +279,8 @@ module _ (wide tight : Most) (t : Tighter tight wide) where
   at-end-cuts at [] p = same
   at-end-cuts at (r ∷ rs) p = next-cuts t at (r ∷ rs) λ x rest. unsaid
 
-  -- The pass over form reads the same program within tight limits, or refuses with 2, where it reads one within wide ones.
+  -- The pass over form reads the same program within tight limits, or refuses with 2, where it reads one
+  -- within wide ones.
   pub form-cuts : (rs : List Row) → Cuts (form wide rs) (form tight rs)
   unfolding form
   form-cuts rs = after-read (classes-cuts (length rs) 0 1 rs)

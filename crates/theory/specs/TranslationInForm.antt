@@ -1,6 +1,7 @@
 -- The plain form of a typed expression within the translator's limits is within the limits of the check.
--- Nesting: a source node with d of 24 left has a plain form with 32 + 4 · d of 128 left; K takes four for its child, R seven.
--- Slots: on each level of nesting a call adds at most nine temporaries to at most 32 variables, so there are never 256.
+-- Nesting: a source node with d of 24 left has a plain form with 32 + 4 · d of 128 left; K takes four for its
+-- child, R seven. Slots: on each level of nesting a call adds at most nine temporaries to at most 32
+-- variables, so there are never 256.
 use mathlib.Core.Path.{_≡_, refl, sym, ap, _∙_}
 use Prim.Native.Nat.{ℕ, suc, _+_, _≤_}
 use mathlib.Core.Bool.{true, false}

@@ -1,5 +1,6 @@
--- Demand 1, the translator: it refuses as the check does, then with 2 by its own limits, then with 12, and where numbers
--- are lent for the plain rows with 13. Of an accepted program its limits refuse with nothing but 2.
+-- Demand 1, the translator: it refuses as the check does, then with 2 by its own limits, then with 12, and
+-- where numbers are lent for the plain rows with 13. Of an accepted program its limits refuse with nothing
+-- but 2.
 use mathlib.Core.Path.{_≡_, refl}
 use Prim.Native.Nat.{ℕ, suc, _+_, _≤_}
 use mathlib.Core.Bool.{Bool, true, false, not, _&&_, _||_}

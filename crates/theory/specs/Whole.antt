@@ -19,9 +19,10 @@ use Rattle.language.specs.Form.{method, methods, classes, at-end, form}
 use Rattle.language.specs.WellFormed.{TypeInForm, Each, each-nil, each-cons, NodeInForm, BodyInForm}
 use Rattle.language.specs.WellFormed.{form-body, FieldInForm, MethodInForm, ClassInForm, ProgramInForm}
 use Rattle.language.specs.WellFormed.{form-block}
-use Rattle.theory.specs.Back.{on-line, taken, size-pos, node-flat}
+use Rattle.theory.specs.Back.{on-line, taken, node-flat}
 use Rattle.theory.specs.TreeRows.{field-row, parameter-row, effect-row, heading, methods-rows}
 use Rattle.theory.specs.TreeRows.{classes-rows, start-rows, program-rows}
+use Rattle.language.proofs.Tables.{size-positive, method-positive}
 
 module _ (most : Most) (named : most .name ≤ largest) (slotted : most .slots ≤ largest) where
   -- a record of this letter is taken, a record of another is left
@@ -142,11 +143,7 @@ module _ (most : Most) (named : most .name ≤ largest) (slotted : most .slots �
       p-stops [] each-nil h = body-stops P-parameter _ rs refl (i .body) (omega arith)
       p-stops (c ∷ cs) (each-cons e es) h = stops-row
           (maybe-other P-parameter X-effect c 0 _ refl e (omega arith)
-          (omega (arith, size-pos most named slotted (m .body))) (omega arith))
-
-  method-pos : (m : Declaration) → 1 ≤ method-lines m
-  unfolding method-lines heading-lines
-  method-pos m = omega arith
+          (omega (arith, size-positive (m .body))) (omega arith))
 
   methods-flat : {ms : List Declaration} → Each (MethodInForm most) ms → (f at : ℕ) (rs : List Row)
       → length ms ≤ f
@@ -164,7 +161,7 @@ module _ (most : Most) (named : most .name ≤ largest) (slotted : most .slots �
       rw (
         maybe-same M-method (type-number (m .result)) (m .name) at refl (i .result .small)
             (omega (arith, i .name))
-            (omega (arith, method-pos m)) (i .name),
+            (omega (arith, method-positive m)) (i .name),
         method-flat m i at (methods-rows ms rs) (omega arith),
         methods-flat is f (at + method-lines m) rs (omega arith) (omega arith)
             (subst (λ (n : ℕ). Stops M-method n rs) (omega arith) s),
@@ -284,12 +281,12 @@ module _ (most : Most) (named : most .name ≤ largest) (slotted : most .slots �
       → Stops k (1 + classes-lines (p .classes)) (start-rows (p .start))
       = λ k q. stops-row (maybe-other k S-start 0 0 (1 + classes-lines (p .classes)) q (omega arith)
       (omega arith)
-      (omega (arith, size-pos most named slotted (p .start))) (omega arith)) in
+      (omega (arith, size-positive (p .start))) (omega arith)) in
       rw (program-rows p)
       (rw (classes-flat (i .classes) (length (classes-rows (p .classes) (start-rows (p .start)))) 0 1
       (start-rows (p .start)) (classes-long (p .classes) (start-rows (p .start)))
       (omega (arith, i .few)) (omega arith) (other C-class refl) (other F-field refl) (other M-method refl))
       (taken most named slotted S-start 0 0 (1 + classes-lines (p .classes))
       (map row-of (flatten (p .start)) ++ []) _ (omega arith) (omega arith)
-      (omega (arith, size-pos most named slotted (p .start))) (omega arith)
+      (omega (arith, size-positive (p .start))) (omega arith)
       ∙ rw (body-flat (i .start) (1 + classes-lines (p .classes) + 1) [] (omega arith))))

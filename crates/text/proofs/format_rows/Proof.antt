@@ -5,7 +5,7 @@ use native.Mathlib.Omega.{arith}
 use lib.ListN.{getD}
 use borrow.Author.Needs.{needs}
 use Rattle.text.proofs.Lines.{row-known}
-use Rattle.text.proofs.Texts.{Formatting, formatting-odd, formatting-odd-held, formatting-start, formatting-done, formatting-full, formatting-row, formatting-over, formatting-over-held, formatting-bad, formatting-bad-held, formatting-fits, formatting-step}
+use Rattle.text.proofs.Formatting.{Formatting, formatting-odd, formatting-odd-held, formatting-start, formatting-done, formatting-full, formatting-row, formatting-over, formatting-over-held, formatting-bad, formatting-bad-held, formatting-fits, formatting-step}
 use borrow.Author.Tests.{not-true, not-false}
 use Rattle.text.proofs.format_rows.Statement.{statement}
 use Rattle.text.proofs.format_rows.Tie as tie

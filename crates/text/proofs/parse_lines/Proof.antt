@@ -3,7 +3,7 @@ use mathlib.Core.Path.{sym, _∙_}
 use Prim.Native.Nat.{_-_}
 use native.Mathlib.Omega.{arith}
 use borrow.Author.Needs.{needs}
-use Rattle.text.proofs.Texts.{Parsing, parsing-start, parsing-done, parsing-full, parsing-over, parsing-over-held, parsing-bad, parsing-bad-held, parsing-fits, parsing-step}
+use Rattle.text.proofs.Parsing.{Parsing, parsing-start, parsing-done, parsing-full, parsing-over, parsing-over-held, parsing-bad, parsing-bad-held, parsing-fits, parsing-step}
 use Rattle.text.proofs.parse_lines.Statement.{statement}
 use Rattle.text.proofs.parse_lines.Tie as tie
 

@@ -4,7 +4,7 @@ use Prim.Native.Nat.{_-_}
 use native.Mathlib.Omega.{arith}
 use lib.ListN.{length}
 use borrow.Author.Needs.{needs}
-use Rattle.text.proofs.Texts.{write-fits}
+use Rattle.text.proofs.Formatting.{write-fits}
 use Rattle.text.specs.Texts.{write-rows}
 use Rattle.language.proofs.Filling.{filled-refused, filled-made, filled-short, filled-done}
 use Rattle.language.specs.Filling.{made-numbers}

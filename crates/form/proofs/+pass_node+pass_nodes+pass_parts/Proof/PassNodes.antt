@@ -25,7 +25,9 @@ pub pass-nodes-loop-holds : (t : ℕ) → pass-nodes-lts.Need-loop-holds (pass-n
 pass-nodes-loop-holds t c = reading-start (λ at rs. node (most-of (c .before .before .args .limits)) (c .before .before .args .nesting) (c .before .before .args .slots) at rs) (c .before .before .args .count) (c .before .before .pre .1 .0)
 
 pub pass-nodes-pass-node-requires : (t : ℕ) → pass-nodes-lts.Need-pass-node-requires (pass-nodes-calls t) (pass-nodes-at t) pass-nodes.Post pass-nodes-Inv-loop pass-nodes-μ-loop
-pass-nodes-pass-node-requires t c κs = (omega arith, (c .before .before .loop .inv .ready, c .before .before .before .before .before .pre .1 .1))
+pass-nodes-pass-node-requires t c κs =
+    let start = c .before .before .before .before .before in
+    (omega arith, (c .before .before .loop .inv .ready, start .pre .1 .1))
 
 pub pass-nodes-enum-known-r : (t : ℕ) → pass-nodes-lts.Need-enum-known-r (pass-nodes-calls t) (pass-nodes-at t) pass-nodes.Post pass-nodes-Inv-loop pass-nodes-μ-loop
 pass-nodes-enum-known-r t c = search needs
@@ -34,19 +36,34 @@ pub pass-nodes-enum-told : (t : ℕ) → pass-nodes-lts.Need-enum-told (pass-nod
 pass-nodes-enum-told t c = search needs
 
 pub pass-nodes-same-length : (t : ℕ) → pass-nodes-lts.Need-same-length (pass-nodes-calls t) (pass-nodes-at t) pass-nodes.Post pass-nodes-Inv-loop pass-nodes-μ-loop
-pass-nodes-same-length t c = c .before .before .before .before .pass-node .kept .1 .0 ∙ c .before .before .before .before .before .before .before .loop .inv .long
+pass-nodes-same-length t c =
+    let the-loop = c .before .before .before .before .before .before .before .loop in
+    let the-pass-node = c .before .before .before .before .pass-node in
+    the-pass-node .kept .1 .0 ∙ the-loop .inv .long
 
 pub pass-nodes-returns : (t : ℕ) → pass-nodes-lts.Need-returns (pass-nodes-calls t) (pass-nodes-at t) pass-nodes.Post pass-nodes-Inv-loop pass-nodes-μ-loop
-pass-nodes-returns t c = reading-stop (c .before .before .before .before .before .before .before .loop .inv) (c .before .before .before .before .before .before .loop-test .taken) (c .before .before .before .before .pass-node .ensures) (c .enum-told .given .1)
+pass-nodes-returns t c =
+    let the-loop = c .before .before .before .before .before .before .before .loop in
+    let the-loop-test = c .before .before .before .before .before .before .loop-test in
+    let the-pass-node = c .before .before .before .before .pass-node in
+    reading-stop (the-loop .inv) (the-loop-test .taken) (the-pass-node .ensures) (c .enum-told .given .1)
 
 pub pass-nodes-sub-left : (t : ℕ) → pass-nodes-lts.Need-sub-left (pass-nodes-calls t) (pass-nodes-at t) pass-nodes.Post pass-nodes-Inv-loop pass-nodes-μ-loop
-pass-nodes-sub-left t c = omega (arith, c .before .before .before .before .before .before .before .loop-test .taken)
+pass-nodes-sub-left t c =
+    let the-loop-test = c .before .before .before .before .before .before .before .loop-test in
+    omega (arith, the-loop-test .taken)
 
 pub pass-nodes-loop-less : (t : ℕ) → pass-nodes-lts.Need-loop-less (pass-nodes-calls t) (pass-nodes-at t) pass-nodes.Post pass-nodes-Inv-loop pass-nodes-μ-loop
-pass-nodes-loop-less t c = omega (arith, c .before .before .before .before .before .before .before .loop-test .taken)
+pass-nodes-loop-less t c =
+    let the-loop-test = c .before .before .before .before .before .before .before .loop-test in
+    omega (arith, the-loop-test .taken)
 
 pub pass-nodes-loop-again : (t : ℕ) → pass-nodes-lts.Need-loop-again (pass-nodes-calls t) (pass-nodes-at t) pass-nodes.Post pass-nodes-Inv-loop pass-nodes-μ-loop
-pass-nodes-loop-again t c = reading-step (c .before .before .before .before .before .before .before .before .loop .inv) (c .before .before .before .before .before .before .before .loop-test .taken) (c .before .before .before .before .before .pass-node .ensures) (c .before .r .given .1) (c .before .before .before .before .before .pass-node .kept .1 .0)
+pass-nodes-loop-again t c =
+    let the-loop = c .before .before .before .before .before .before .before .before .loop in
+    let the-loop-test = c .before .before .before .before .before .before .before .loop-test in
+    let the-pass-node = c .before .before .before .before .before .pass-node in
+    reading-step (the-loop .inv) (the-loop-test .taken) (the-pass-node .ensures) (c .before .r .given .1) (the-pass-node .kept .1 .0)
 
 pub pass-nodes-same-length-2 : (t : ℕ) → pass-nodes-lts.Need-same-length-2 (pass-nodes-calls t) (pass-nodes-at t) pass-nodes.Post pass-nodes-Inv-loop pass-nodes-μ-loop
 pass-nodes-same-length-2 t c = c .before .loop .inv .long
