@@ -1,3 +1,2 @@
-pub mod Classed
 pub mod Heading
 pub mod Passing

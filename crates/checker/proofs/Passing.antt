@@ -38,7 +38,6 @@ use Rattle.checker.specs.declared.Checked.the-variants.{Accepted, Refuse
 use Rattle.checker.specs.Answers.{checked-case, verdict-case, verdict-of-checked}
 use Rattle.checker.specs.Passes.{after-headings, after-form, Lent, Stands, FormPassed, HeadingsPassed}
 use Rattle.checker.specs.Passes.{Held}
-use Rattle.checker.proofs.Classed.{headings-ready}
 use Rattle.checker.proofs.Heading.{headed}
 
 -- ---- bodies
@@ -118,8 +117,12 @@ heads-refused (accept u) n l e = let z : _≡_ {A = ℕ} 0 1 = cc in absurd (ome
 heads-refused (refuse i m) n l e = let a : n ≡ i = cc in let b : l ≡ m = cc in rw (a, b)
 
 abbrev pub ready : {R E T A C : List ℕ} {n : ℕ} → FormPassed R E T A C n → HeadingsReady R E T A
-ready {R} {E} {T} {A} w =
-    headings-ready R E T A (w .program) (w .here) (omega (arith, w .counted, w .long)) (w .long-above)
+ready w = record {
+  program = w .program;
+  standing = w .here;
+  long = omega (arith, w .counted, w .long);
+  long-above = omega (arith, w .long-above, w .here .in-form .few);
+}
 
 module _ {R E T A C : List ℕ} {n : ℕ} (w : FormPassed R E T A C n) where
   pub headings-accepted : (h : answered.Headed) → h ≡ Passed
