@@ -12,7 +12,12 @@ slice-aggregate-check-whole-2 : tie.Need-slice-aggregate-check-whole-2
 slice-aggregate-check-whole-2 c = search needs
 
 check-whole-requires : tie.Need-check-whole-requires
-check-whole-requires c κs = record { whole = c .before .before .before .pre .0; room = inl (omega (arith, c .before .before .before .pre .1)); nodes = omega arith }
+check-whole-requires c κs =
+    record {
+      whole = c .before .before .before .pre .0;
+      room = inl (omega (arith, c .before .before .before .pre .1));
+      nodes = omega arith;
+    }
 
 returns : tie.Need-returns
 returns c = search needs

@@ -16,9 +16,12 @@ enum-known-f c = search needs
 
 check-classes-requires : tie.Need-check-classes-requires
 check-classes-requires c κs =
-    let start = c .before .before .before .before .before .before .before .before .before .before .before .before in
+    let start = c .before .before .before .before .before .before .before .before .before .before .before
+    .before in
     let the-check-form = c .before .before .before .before .before .before .before .check-form in
-    stands (start .args .rows .now) (start .pre .whole) (start .args .ends .now) _ _ _ _ (c .before .before .before .f .given .1) (the-check-form .ensures .0) (the-check-form .ensures .1) (start .pre .nodes) (the-check-form .kept .1 .0) .0
+    stands (start .args .rows .now) (start .pre .whole) (start .args .ends .now) _ _ _ _
+    (c .before .before .before .f .given .1) (the-check-form .ensures .0) (the-check-form .ensures .1)
+    (start .pre .nodes) (the-check-form .kept .1 .0) .0
 
 enum-known-f-2 : tie.Need-enum-known-f-2
 enum-known-f-2 c = search needs
@@ -31,10 +34,17 @@ same-length-2 c = search needs
 
 returns : tie.Need-returns
 returns c =
-    let start = c .before .before .before .before .before .before .before .before .before .before .before .before .before .before .before in
-    let the-check-form = c .before .before .before .before .before .before .before .before .before .before .check-form in
-    let w = stands (start .args .rows .now) (start .pre .whole) (start .args .ends .now) _ _ _ _ (c .before .before .before .before .before .before .f .given .1) (the-check-form .ensures .0) (the-check-form .ensures .1) (start .pre .nodes) (the-check-form .kept .1 .0) in
-    c .before .before .check-classes .ensures (w .0) ∙ ap checked-case (sym (after-form-is (start .args .rows .now) (start .pre .whole) (w .0 .program) (w .1)))
+    let the-f = c .before .before .before .before .before .before .f in
+    let start = c .before .before .before .before .before .before .before .before .before .before .before
+    .before .before .before .before in
+    let the-check-form =
+    c .before .before .before .before .before .before .before .before .before .before .check-form in
+    let w = stands (start .args .rows .now) (start .pre .whole) (start .args .ends .now) _ _ _ _
+    (the-f .given .1) (the-check-form .ensures .0) (the-check-form .ensures .1) (start .pre .nodes)
+    (the-check-form .kept .1 .0) in
+    c .before .before .check-classes .ensures (w .0)
+    ∙ ap checked-case (sym (after-form-is (start .args .rows .now) (start .pre .whole) (w .0 .program)
+    (w .1)))
 
 same-length-3 : tie.Need-same-length-3
 same-length-3 c = search needs
@@ -43,7 +53,8 @@ returns-2 : tie.Need-returns-2
 returns-2 c =
     let start = c .before .before .before .before .before .before .before .before .before .before in
     let the-check-form = c .before .before .before .before .before .check-form in
-    ap checked-case (sym (form-refuses (start .args .rows .now) (start .pre .whole) _ _ _ (c .before .f2 .given .1) (the-check-form .ensures .0)))
+    ap checked-case (sym (form-refuses (start .args .rows .now) (start .pre .whole) _ _ _
+    (c .before .f2 .given .1) (the-check-form .ensures .0)))
 
 pub check-whole-spec : {M : Type 1} → statement M
 check-whole-spec =

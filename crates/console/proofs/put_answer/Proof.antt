@@ -20,13 +20,25 @@ same-length : tie.Need-same-length
 same-length c = search needs
 
 returns : tie.Need-returns
-returns c = (let e = c .before .before .before .before .before .answer .given .1 in (rw e (c .before .before .put-refusal .ensures .0), omega (arith, c .before .before .put-refusal .ensures .1), rw e (c .before .before .put-refusal .ensures .2)))
+returns c =
+    let the-answer = c .before .before .before .before .before .answer in
+    (let e = the-answer .given .1 in (
+      rw e (c .before .before .put-refusal .ensures .0),
+      omega (arith, c .before .before .put-refusal .ensures .1),
+      rw e (c .before .before .put-refusal .ensures .2),
+    ))
 
 same-length-2 : tie.Need-same-length-2
 same-length-2 c = search needs
 
 returns-2 : tie.Need-returns-2
-returns-2 c = (let e = c .before .before .before .before .before .answer2 .given .1 in (rw e (c .before .before .put-run .ensures .0), c .before .before .put-run .ensures .1, rw e (c .before .before .put-run .ensures .2)))
+returns-2 c =
+    let the-answer2 = c .before .before .before .before .before .answer2 in
+    (let e = the-answer2 .given .1 in (
+      rw e (c .before .before .put-run .ensures .0),
+      c .before .before .put-run .ensures .1,
+      rw e (c .before .before .put-run .ensures .2),
+    ))
 
 pub put-answer-spec : {M : Type 1} → statement M
 put-answer-spec =

@@ -23,7 +23,15 @@ same-length : tie.Need-same-length
 same-length c = search needs
 
 returns : tie.Need-returns
-returns c = (let e = ap answer-text (c .before .before .before .before .before .run-rows .ensures .answer) ∙ line-told (c .before .before .before .before .before .before .before .before .before .args .rows .now) in (c .before .before .put-answer .ensures .0 ∙ ap (λ (l : List ℕ). c .before .before .before .before .before .before .before .before .before .args .at + length l) e, c .before .before .put-answer .ensures .1, c .before .before .put-answer .ensures .2 ∙ ap (λ (l : List ℕ). sets (c .before .before .before .before .before .before .before .before .before .args .out .now) (c .before .before .before .before .before .before .before .before .before .args .at) l) e))
+returns c =
+    let start = c .before .before .before .before .before .before .before .before .before in
+    let the-run-rows = c .before .before .before .before .before .run-rows in
+    (let e = ap answer-text (the-run-rows .ensures .answer) ∙ line-told (start .args .rows .now) in (
+      c .before .before .put-answer .ensures .0 ∙ ap (λ (l : List ℕ). start .args .at + length l) e,
+      c .before .before .put-answer .ensures .1,
+      c .before .before .put-answer .ensures .2
+          ∙ ap (λ (l : List ℕ). sets (start .args .out .now) (start .args .at) l) e,
+    ))
 
 pub put-line-spec : {M : Type 1} → statement M
 put-line-spec =

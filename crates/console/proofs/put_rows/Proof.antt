@@ -27,13 +27,31 @@ returns : tie.Need-returns
 returns c =
     let start = c .before .before .before .before .before .before .before .before .before in
     let the-write-text = c .before .before .before .before .before .write-text in
-    rows-shown (start .args .plain .now) (start .args .out .now) (the-write-text .last .1 .0) (the-write-text .result) (start .pre) (the-write-text .ensures .0) (the-write-text .ensures .1) (c .before .written .given .0 .0) (c .before .written .given .1)
+    rows-shown (start .args .plain .now) (start .args .out .now) (the-write-text .last .1 .0)
+    (the-write-text .result) (start .pre) (the-write-text .ensures .0) (the-write-text .ensures .1)
+    (c .before .written .given .0 .0) (c .before .written .given .1)
 
 same-length-2 : tie.Need-same-length-2
 same-length-2 c = search needs
 
 returns-2 : tie.Need-returns-2
-returns-2 c = (let long = ap length (c .before .before .before .before .before .before .before .before .before .write-text .ensures .1) ∙ buffer-long (write-rows (c .before .before .before .before .before .before .before .before .before .before .before .before .before .args .plain .now)) (c .before .before .before .before .before .before .before .before .before .before .before .before .before .args .out .now) in let k = shown (c .before .before .before .before .before .before .before .before .before .write-text .last .1 .0) (c .before .before .put-refusal .last .0) _ (c .before .before .put-refusal .result) (c .before .before .put-refusal .ensures .0) (omega (arith, c .before .before .put-refusal .ensures .1, c .before .before .before .before .before .before .before .before .before .before .before .before .before .pre, long)) (c .before .before .put-refusal .ensures .2) in (rows-refused (c .before .before .before .before .before .before .before .before .before .before .before .before .before .args .plain .now) (c .before .before .before .before .before .before .before .before .before .before .before .before .before .args .out .now) (c .before .before .before .before .before .before .before .before .before .write-text .last .1 .0) (c .before .before .before .before .before .before .before .before .before .write-text .result) (c .before .before .before .before .before .before .before .before .before .before .before .before .before .pre) (c .before .before .before .before .before .before .before .before .before .write-text .ensures .0) (c .before .before .before .before .before .before .before .before .before .write-text .ensures .1) (c .before .before .before .before .before .written2 .given .0 .0) (c .before .before .before .before .before .written2 .given .0 .1 .0) (c .before .before .before .before .before .written2 .given .1) _ (k .0), k .1))
+returns-2 c =
+    let start = c .before .before .before .before .before .before .before .before .before .before .before
+    .before .before in
+    let the-write-text =
+    c .before .before .before .before .before .before .before .before .before .write-text in
+    let the-written2 = c .before .before .before .before .before .written2 in
+    (let long = ap length (the-write-text .ensures .1)
+    ∙ buffer-long (write-rows (start .args .plain .now)) (start .args .out .now) in let k =
+    shown (the-write-text .last .1 .0) (c .before .before .put-refusal .last .0) _
+    (c .before .before .put-refusal .result) (c .before .before .put-refusal .ensures .0)
+    (omega (arith, c .before .before .put-refusal .ensures .1, start .pre, long))
+    (c .before .before .put-refusal .ensures .2) in (
+      rows-refused (start .args .plain .now) (start .args .out .now) (the-write-text .last .1 .0)
+          (the-write-text .result) (start .pre) (the-write-text .ensures .0) (the-write-text .ensures .1)
+          (the-written2 .given .0 .0) (the-written2 .given .0 .1 .0) (the-written2 .given .1) _ (k .0),
+      k .1,
+    ))
 
 pub put-rows-spec : {M : Type 1} → statement M
 put-rows-spec =

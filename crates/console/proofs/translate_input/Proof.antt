@@ -20,19 +20,35 @@ enum-known-read : tie.Need-enum-known-read
 enum-known-read c = search needs
 
 mul-end : tie.Need-mul-end
-mul-end c = (let k = source-made (c .before .before .before .before .before .before .before .before .args .input .now) (replicate 2720 0) (c .before .before .before .before .read-source .last .1 .0) (c .before .before .before .before .read-source .result) (c .before .read .given .0 .0) refl (c .before .before .before .before .read-source .ensures .0) (c .before .before .before .before .read-source .ensures .1) (c .before .read .given .1) in omega (arith, k .place, ap length (c .before .before .before .before .read-source .ensures .1) ∙ buffer-long (source-rows (c .before .before .before .before .before .before .before .before .args .input .now)) (replicate 2720 0)))
+mul-end c =
+    let start = c .before .before .before .before .before .before .before .before in
+    let the-read-source = c .before .before .before .before .read-source in
+    (let k = source-made (start .args .input .now) (replicate 2720 0) (the-read-source .last .1 .0)
+    (the-read-source .result) (c .before .read .given .0 .0) refl (the-read-source .ensures .0)
+    (the-read-source .ensures .1) (c .before .read .given .1) in
+    omega (
+      arith,
+      k .place,
+      ap length (the-read-source .ensures .1)
+          ∙ buffer-long (source-rows (start .args .input .now)) (replicate 2720 0),
+    ))
 
 array-share-prefix-rows : tie.Need-array-share-prefix-rows
 array-share-prefix-rows c =
     let start = c .before .before .before .before .before .before .before .before in
     let the-read-source = c .before .before .before .before .read-source in
-    source-made (start .args .input .now) (replicate 2720 0) (the-read-source .last .1 .0) (the-read-source .result) (c .before .read .given .0 .0) refl (the-read-source .ensures .0) (the-read-source .ensures .1) (c .before .read .given .1) .place
+    source-made (start .args .input .now) (replicate 2720 0) (the-read-source .last .1 .0)
+    (the-read-source .result) (c .before .read .given .0 .0) refl (the-read-source .ensures .0)
+    (the-read-source .ensures .1) (c .before .read .given .1) .place
 
 slice-aggregate-translate-source : tie.Need-slice-aggregate-translate-source
 slice-aggregate-translate-source c =
     let start = c .before .before .before .before .before .before .before .before .before in
     let the-read-source = c .before .before .before .before .before .read-source in
-    sym (length-take-le (c .before .before .read .given .0 .0 * 4) (the-read-source .last .1 .0) (source-made (start .args .input .now) (replicate 2720 0) (the-read-source .last .1 .0) (the-read-source .result) (c .before .before .read .given .0 .0) refl (the-read-source .ensures .0) (the-read-source .ensures .1) (c .before .before .read .given .1) .place))
+    sym (length-take-le (c .before .before .read .given .0 .0 * 4) (the-read-source .last .1 .0)
+    (source-made (start .args .input .now) (replicate 2720 0) (the-read-source .last .1 .0)
+    (the-read-source .result) (c .before .before .read .given .0 .0) refl (the-read-source .ensures .0)
+    (the-read-source .ensures .1) (c .before .before .read .given .1) .place))
 
 translate-source-requires : tie.Need-translate-source-requires
 translate-source-requires c κs = search needs
@@ -48,16 +64,37 @@ same-length c = search needs
 
 returns : tie.Need-returns
 returns c =
-    let start = c .before .before .before .before .before .before .before .before .before .before .before .before .before in
-    let the-read-source = c .before .before .before .before .before .before .before .before .before .read-source in
-    let the-read = c .before .before .before .before .before .before .read in
-    (translate-shown (start .args .input .now) (the-read-source .last .1 .0) (the-read .given .0 .0) (source-made (start .args .input .now) (replicate 2720 0) (the-read-source .last .1 .0) (the-read-source .result) (the-read .given .0 .0) refl (the-read-source .ensures .0) (the-read-source .ensures .1) (the-read .given .1)) _ (c .before .before .translate-source .ensures .0), c .before .before .translate-source .ensures .1)
+    let start = c .before .before .before .before .before .before .before .before .before .before .before
+    .before .before in
+    let the-read-source =
+    c .before .before .before .before .before .before .before .before .before .read-source in
+    let the-read = c .before .before .before .before .before .before .read in (
+      translate-shown (start .args .input .now) (the-read-source .last .1 .0) (the-read .given .0 .0)
+          (source-made (start .args .input .now) (replicate 2720 0) (the-read-source .last .1 .0)
+          (the-read-source .result) (the-read .given .0 .0) refl (the-read-source .ensures .0)
+          (the-read-source .ensures .1) (the-read .given .1)) _
+          (c .before .before .translate-source .ensures .0),
+      c .before .before .translate-source .ensures .1,
+    )
 
 same-length-2 : tie.Need-same-length-2
 same-length-2 c = search needs
 
 returns-2 : tie.Need-returns-2
-returns-2 c = (let k = shown (c .before .before .before .before .before .before .before .before .before .before .before .before .args .out .now) (c .before .before .put-refusal .last .0) _ (c .before .before .put-refusal .result) (c .before .before .put-refusal .ensures .0) (omega (arith, c .before .before .put-refusal .ensures .1, c .before .before .before .before .before .before .before .before .before .before .before .before .pre)) (c .before .before .put-refusal .ensures .2) in (translate-refused (c .before .before .before .before .before .before .before .before .before .before .before .before .args .input .now) (replicate 2720 0) (c .before .before .before .before .before .before .before .before .read-source .result) (c .before .before .before .before .before .read2 .given .0 .0) (c .before .before .before .before .before .read2 .given .0 .1 .0) refl (c .before .before .before .before .before .before .before .before .read-source .ensures .0) (c .before .before .before .before .before .read2 .given .1) _ (k .0), k .1))
+returns-2 c =
+    let start = c .before .before .before .before .before .before .before .before .before .before .before
+    .before in
+    let the-read-source = c .before .before .before .before .before .before .before .before .read-source in
+    let the-read2 = c .before .before .before .before .before .read2 in
+    (let k = shown (start .args .out .now) (c .before .before .put-refusal .last .0) _
+    (c .before .before .put-refusal .result) (c .before .before .put-refusal .ensures .0)
+    (omega (arith, c .before .before .put-refusal .ensures .1, start .pre))
+    (c .before .before .put-refusal .ensures .2) in (
+      translate-refused (start .args .input .now) (replicate 2720 0) (the-read-source .result)
+          (the-read2 .given .0 .0) (the-read2 .given .0 .1 .0) refl (the-read-source .ensures .0)
+          (the-read2 .given .1) _ (k .0),
+      k .1,
+    ))
 
 pub translate-input-spec : {M : Type 1} → statement M
 translate-input-spec =

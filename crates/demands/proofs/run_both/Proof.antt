@@ -14,7 +14,10 @@ enum-known-translated : tie.Need-enum-known-translated
 enum-known-translated c = search needs
 
 run-plain-requires : tie.Need-run-plain-requires
-run-plain-requires c κs = count-fits _ _ (c .before .before .before .before .before .before .before .translate-rows .ensures) (c .before .before .before .before .before .before .before .translate-rows .kept .1 .0) (c .before .before .before .translated .given .1)
+run-plain-requires c κs =
+    let the-translate-rows = c .before .before .before .before .before .before .before .translate-rows in
+    count-fits _ _ (the-translate-rows .ensures) (the-translate-rows .kept .1 .0)
+    (c .before .before .before .translated .given .1)
 
 enum-known-translated-2 : tie.Need-enum-known-translated-2
 enum-known-translated-2 c = search needs
@@ -29,7 +32,14 @@ same-length-3 : tie.Need-same-length-3
 same-length-3 c = search needs
 
 returns : tie.Need-returns
-returns c = both-run _ _ (c .before .before .before .before .before .before .before .before .before .before .translate-rows .ensures) _ (c .before .before .before .before .before .before .translated .given .1) (c .before .before .before .before .before .before .before .before .before .before .before .before .before .before .run-rows .ensures) (c .before .before .run-plain .ensures)
+returns c =
+    let the-run-rows = c .before .before .before .before .before .before .before .before .before .before
+    .before .before .before .before .run-rows in
+    let the-translate-rows =
+    c .before .before .before .before .before .before .before .before .before .before .translate-rows in
+    let the-translated = c .before .before .before .before .before .before .translated in
+    both-run _ _ (the-translate-rows .ensures) _ (the-translated .given .1) (the-run-rows .ensures)
+    (c .before .before .run-plain .ensures)
 
 same-length-4 : tie.Need-same-length-4
 same-length-4 c = search needs
@@ -38,7 +48,9 @@ same-length-5 : tie.Need-same-length-5
 same-length-5 c = search needs
 
 returns-2 : tie.Need-returns-2
-returns-2 c = both-refused _ _ (c .before .before .before .before .before .translate-rows .ensures) _ _ (c .before .translated2 .given .1)
+returns-2 c =
+    let the-translate-rows = c .before .before .before .before .before .translate-rows in
+    both-refused _ _ (the-translate-rows .ensures) _ _ (c .before .translated2 .given .1)
 
 pub run-both-spec : {M : Type 1} → statement M
 run-both-spec =

@@ -11,10 +11,80 @@ use Rattle.form.proofs.pass_parts.Reads as pass-parts
 use Rattle.form.proofs.+pass_node+pass_nodes+pass_parts.Lts-pass_parts as pass-parts-lts
 use Rattle.form.proofs.+pass_node+pass_nodes+pass_parts.{statement}
 use Rattle.form.proofs.+pass_node+pass_nodes+pass_parts.Tie.{close}
-use Rattle.form.proofs.+pass_node+pass_nodes+pass_parts.Proof.Base.{μ-pass-node, μ-pass-nodes, μ-pass-parts, pass-node-at, pass-nodes-at, pass-parts-at}
-use Rattle.form.proofs.+pass_node+pass_nodes+pass_parts.Proof.PassNode.{pass-node-calls, pass-node-refuse-row-requires, pass-node-cast-t13, pass-node-add-t14, pass-node-returns, pass-node-mul-code, pass-node-mul-code-2, pass-node-shared-slice-read-code, pass-node-mul-parts-of, pass-node-add-parts-of, pass-node-mul-parts-of-2, pass-node-shared-slice-read-parts-of, pass-node-mul-parts-of-3, pass-node-add-parts-of-2, pass-node-mul-parts-of-4, pass-node-shared-slice-read-parts-of-2, pass-node-parts-of-requires, pass-node-enum-known-parts, pass-node-enum-told, pass-node-cast-t26, pass-node-add-t27, pass-node-returns-2, pass-node-cast-t28, pass-node-add-t29, pass-node-returns-3, pass-node-cast-t31, pass-node-add-t32, pass-node-returns-4, pass-node-add-ends, pass-node-cast-ends, pass-node-mul-ends, pass-node-slice-write-ends, pass-node-add-t33, pass-node-same-length, pass-node-returns-5, pass-node-sub-pass-parts, pass-node-pass-parts-requires, pass-node-same-length-2, pass-node-returns-6}
-use Rattle.form.proofs.+pass_node+pass_nodes+pass_parts.Proof.PassNodes.{pass-nodes-calls, pass-nodes-Inv-loop, pass-nodes-μ-loop, pass-nodes-loop-holds, pass-nodes-pass-node-requires, pass-nodes-enum-known-r, pass-nodes-enum-told, pass-nodes-same-length, pass-nodes-returns, pass-nodes-sub-left, pass-nodes-loop-less, pass-nodes-loop-again, pass-nodes-same-length-2, pass-nodes-returns-2}
-use Rattle.form.proofs.+pass_node+pass_nodes+pass_parts.Proof.PassParts.{pass-parts-calls, pass-parts-add-pass-locals, pass-parts-pass-locals-requires, pass-parts-enum-known-l, pass-parts-enum-told, pass-parts-same-length, pass-parts-returns, pass-parts-add-pass-nodes, pass-parts-pass-nodes-requires, pass-parts-enum-known-r, pass-parts-enum-told-2, pass-parts-same-length-2, pass-parts-returns-2, pass-parts-cast-ends, pass-parts-mul-ends, pass-parts-slice-write-ends, pass-parts-same-length-3, pass-parts-returns-3}
+use Rattle.form.proofs.+pass_node+pass_nodes+pass_parts.Proof.Base.{μ-pass-node, μ-pass-nodes}
+use Rattle.form.proofs.+pass_node+pass_nodes+pass_parts.Proof.Base.{μ-pass-parts, pass-node-at}
+use Rattle.form.proofs.+pass_node+pass_nodes+pass_parts.Proof.Base.{pass-nodes-at, pass-parts-at}
+use Rattle.form.proofs.+pass_node+pass_nodes+pass_parts.Proof.PassNode.{pass-node-calls}
+use Rattle.form.proofs.+pass_node+pass_nodes+pass_parts.Proof.PassNode.{pass-node-refuse-row-requires}
+use Rattle.form.proofs.+pass_node+pass_nodes+pass_parts.Proof.PassNode.{pass-node-cast-t13}
+use Rattle.form.proofs.+pass_node+pass_nodes+pass_parts.Proof.PassNode.{pass-node-add-t14}
+use Rattle.form.proofs.+pass_node+pass_nodes+pass_parts.Proof.PassNode.{pass-node-returns}
+use Rattle.form.proofs.+pass_node+pass_nodes+pass_parts.Proof.PassNode.{pass-node-mul-code}
+use Rattle.form.proofs.+pass_node+pass_nodes+pass_parts.Proof.PassNode.{pass-node-mul-code-2}
+use Rattle.form.proofs.+pass_node+pass_nodes+pass_parts.Proof.PassNode.{pass-node-shared-slice-read-code}
+use Rattle.form.proofs.+pass_node+pass_nodes+pass_parts.Proof.PassNode.{pass-node-mul-parts-of}
+use Rattle.form.proofs.+pass_node+pass_nodes+pass_parts.Proof.PassNode.{pass-node-add-parts-of}
+use Rattle.form.proofs.+pass_node+pass_nodes+pass_parts.Proof.PassNode.{pass-node-mul-parts-of-2}
+use Rattle.form.proofs.+pass_node+pass_nodes+pass_parts.Proof.PassNode.{pass-node-shared-slice-read-parts-of}
+use Rattle.form.proofs.+pass_node+pass_nodes+pass_parts.Proof.PassNode.{pass-node-mul-parts-of-3}
+use Rattle.form.proofs.+pass_node+pass_nodes+pass_parts.Proof.PassNode.{pass-node-add-parts-of-2}
+use Rattle.form.proofs.+pass_node+pass_nodes+pass_parts.Proof.PassNode.{pass-node-mul-parts-of-4}
+use Rattle.form.proofs.+pass_node+pass_nodes+pass_parts.Proof.PassNode.{pass-node-shared-slice-read-parts-of-2}
+use Rattle.form.proofs.+pass_node+pass_nodes+pass_parts.Proof.PassNode.{pass-node-parts-of-requires}
+use Rattle.form.proofs.+pass_node+pass_nodes+pass_parts.Proof.PassNode.{pass-node-enum-known-parts}
+use Rattle.form.proofs.+pass_node+pass_nodes+pass_parts.Proof.PassNode.{pass-node-enum-told}
+use Rattle.form.proofs.+pass_node+pass_nodes+pass_parts.Proof.PassNode.{pass-node-cast-t26}
+use Rattle.form.proofs.+pass_node+pass_nodes+pass_parts.Proof.PassNode.{pass-node-add-t27}
+use Rattle.form.proofs.+pass_node+pass_nodes+pass_parts.Proof.PassNode.{pass-node-returns-2}
+use Rattle.form.proofs.+pass_node+pass_nodes+pass_parts.Proof.PassNode.{pass-node-cast-t28}
+use Rattle.form.proofs.+pass_node+pass_nodes+pass_parts.Proof.PassNode.{pass-node-add-t29}
+use Rattle.form.proofs.+pass_node+pass_nodes+pass_parts.Proof.PassNode.{pass-node-returns-3}
+use Rattle.form.proofs.+pass_node+pass_nodes+pass_parts.Proof.PassNode.{pass-node-cast-t31}
+use Rattle.form.proofs.+pass_node+pass_nodes+pass_parts.Proof.PassNode.{pass-node-add-t32}
+use Rattle.form.proofs.+pass_node+pass_nodes+pass_parts.Proof.PassNode.{pass-node-returns-4}
+use Rattle.form.proofs.+pass_node+pass_nodes+pass_parts.Proof.PassNode.{pass-node-add-ends}
+use Rattle.form.proofs.+pass_node+pass_nodes+pass_parts.Proof.PassNode.{pass-node-cast-ends}
+use Rattle.form.proofs.+pass_node+pass_nodes+pass_parts.Proof.PassNode.{pass-node-mul-ends}
+use Rattle.form.proofs.+pass_node+pass_nodes+pass_parts.Proof.PassNode.{pass-node-slice-write-ends}
+use Rattle.form.proofs.+pass_node+pass_nodes+pass_parts.Proof.PassNode.{pass-node-add-t33}
+use Rattle.form.proofs.+pass_node+pass_nodes+pass_parts.Proof.PassNode.{pass-node-same-length}
+use Rattle.form.proofs.+pass_node+pass_nodes+pass_parts.Proof.PassNode.{pass-node-returns-5}
+use Rattle.form.proofs.+pass_node+pass_nodes+pass_parts.Proof.PassNode.{pass-node-sub-pass-parts}
+use Rattle.form.proofs.+pass_node+pass_nodes+pass_parts.Proof.PassNode.{pass-node-pass-parts-requires}
+use Rattle.form.proofs.+pass_node+pass_nodes+pass_parts.Proof.PassNode.{pass-node-same-length-2}
+use Rattle.form.proofs.+pass_node+pass_nodes+pass_parts.Proof.PassNode.{pass-node-returns-6}
+use Rattle.form.proofs.+pass_node+pass_nodes+pass_parts.Proof.PassNodes.{pass-nodes-calls}
+use Rattle.form.proofs.+pass_node+pass_nodes+pass_parts.Proof.PassNodes.{pass-nodes-Inv-loop}
+use Rattle.form.proofs.+pass_node+pass_nodes+pass_parts.Proof.PassNodes.{pass-nodes-μ-loop}
+use Rattle.form.proofs.+pass_node+pass_nodes+pass_parts.Proof.PassNodes.{pass-nodes-loop-holds}
+use Rattle.form.proofs.+pass_node+pass_nodes+pass_parts.Proof.PassNodes.{pass-nodes-pass-node-requires}
+use Rattle.form.proofs.+pass_node+pass_nodes+pass_parts.Proof.PassNodes.{pass-nodes-enum-known-r}
+use Rattle.form.proofs.+pass_node+pass_nodes+pass_parts.Proof.PassNodes.{pass-nodes-enum-told}
+use Rattle.form.proofs.+pass_node+pass_nodes+pass_parts.Proof.PassNodes.{pass-nodes-same-length}
+use Rattle.form.proofs.+pass_node+pass_nodes+pass_parts.Proof.PassNodes.{pass-nodes-returns}
+use Rattle.form.proofs.+pass_node+pass_nodes+pass_parts.Proof.PassNodes.{pass-nodes-sub-left}
+use Rattle.form.proofs.+pass_node+pass_nodes+pass_parts.Proof.PassNodes.{pass-nodes-loop-less}
+use Rattle.form.proofs.+pass_node+pass_nodes+pass_parts.Proof.PassNodes.{pass-nodes-loop-again}
+use Rattle.form.proofs.+pass_node+pass_nodes+pass_parts.Proof.PassNodes.{pass-nodes-same-length-2}
+use Rattle.form.proofs.+pass_node+pass_nodes+pass_parts.Proof.PassNodes.{pass-nodes-returns-2}
+use Rattle.form.proofs.+pass_node+pass_nodes+pass_parts.Proof.PassParts.{pass-parts-calls}
+use Rattle.form.proofs.+pass_node+pass_nodes+pass_parts.Proof.PassParts.{pass-parts-add-pass-locals}
+use Rattle.form.proofs.+pass_node+pass_nodes+pass_parts.Proof.PassParts.{pass-parts-pass-locals-requires}
+use Rattle.form.proofs.+pass_node+pass_nodes+pass_parts.Proof.PassParts.{pass-parts-enum-known-l}
+use Rattle.form.proofs.+pass_node+pass_nodes+pass_parts.Proof.PassParts.{pass-parts-enum-told}
+use Rattle.form.proofs.+pass_node+pass_nodes+pass_parts.Proof.PassParts.{pass-parts-same-length}
+use Rattle.form.proofs.+pass_node+pass_nodes+pass_parts.Proof.PassParts.{pass-parts-returns}
+use Rattle.form.proofs.+pass_node+pass_nodes+pass_parts.Proof.PassParts.{pass-parts-add-pass-nodes}
+use Rattle.form.proofs.+pass_node+pass_nodes+pass_parts.Proof.PassParts.{pass-parts-pass-nodes-requires}
+use Rattle.form.proofs.+pass_node+pass_nodes+pass_parts.Proof.PassParts.{pass-parts-enum-known-r}
+use Rattle.form.proofs.+pass_node+pass_nodes+pass_parts.Proof.PassParts.{pass-parts-enum-told-2}
+use Rattle.form.proofs.+pass_node+pass_nodes+pass_parts.Proof.PassParts.{pass-parts-same-length-2}
+use Rattle.form.proofs.+pass_node+pass_nodes+pass_parts.Proof.PassParts.{pass-parts-returns-2}
+use Rattle.form.proofs.+pass_node+pass_nodes+pass_parts.Proof.PassParts.{pass-parts-cast-ends}
+use Rattle.form.proofs.+pass_node+pass_nodes+pass_parts.Proof.PassParts.{pass-parts-mul-ends}
+use Rattle.form.proofs.+pass_node+pass_nodes+pass_parts.Proof.PassParts.{pass-parts-slice-write-ends}
+use Rattle.form.proofs.+pass_node+pass_nodes+pass_parts.Proof.PassParts.{pass-parts-same-length-3}
+use Rattle.form.proofs.+pass_node+pass_nodes+pass_parts.Proof.PassParts.{pass-parts-returns-3}
 
 pub +pass-node+pass-nodes+pass-parts-spec : {M : Type 1} → statement M
 +pass-node+pass-nodes+pass-parts-spec =

@@ -5,7 +5,11 @@ use Rattle.form.proofs.check_translatable.Statement.{statement}
 use Rattle.form.proofs.check_translatable.Tie as tie
 
 pass-form-requires : tie.Need-pass-form-requires
-pass-form-requires c κs = (c .before .before .before .pre .0, c .before .before .before .pre .1, record { rows = omega arith; slots = omega arith })
+pass-form-requires c κs = (
+  c .before .before .before .pre .0,
+  c .before .before .before .pre .1,
+  record { rows = omega arith; slots = omega arith },
+)
 
 same-length : tie.Need-same-length
 same-length c = search needs

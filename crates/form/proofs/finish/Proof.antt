@@ -12,7 +12,8 @@ mul-if1 : tie.Need-mul-if1
 mul-if1 c = search needs
 
 returns : tie.Need-returns
-returns c = λ p n. finished (c .before .before .args .limits) (c .before .before .args .rows .now) (c .before .before .args .at) (c .before .before .args .classes) p n (c .if1 .taken)
+returns c = λ p n. finished (c .before .before .args .limits) (c .before .before .args .rows .now)
+    (c .before .before .args .at) (c .before .before .args .classes) p n (c .if1 .taken)
 
 refuse-row-requires : tie.Need-refuse-row-requires
 refuse-row-requires c κs = search needs
@@ -24,7 +25,11 @@ add-t10 : tie.Need-add-t10
 add-t10 c = search needs
 
 returns-2 : tie.Need-returns-2
-returns-2 c = λ p n. not-finished (c .before .before .before .before .args .limits) (c .before .before .before .before .args .rows .now) (c .before .before .before .before .args .at) (c .before .before .before .before .args .classes) p n (omega (arith, c .before .before .before .before .pre .0, c .before .before .if1 .left)) (c .before .refuse-row .result) (c .before .refuse-row .ensures .0) (c .if2 .taken)
+returns-2 c =
+    let start = c .before .before .before .before in
+    λ p n. not-finished (start .args .limits) (start .args .rows .now) (start .args .at)
+    (start .args .classes) p n (omega (arith, start .pre .0, c .before .before .if1 .left))
+    (c .before .refuse-row .result) (c .before .refuse-row .ensures .0) (c .if2 .taken)
 
 cast-t11 : tie.Need-cast-t11
 cast-t11 c = search needs
@@ -33,7 +38,13 @@ add-t12 : tie.Need-add-t12
 add-t12 c = search needs
 
 returns-3 : tie.Need-returns-3
-returns-3 c = λ p n. more-follows (c .before .before .before .before .args .limits) (c .before .before .before .before .args .rows .now) (c .before .before .before .before .args .at) (c .before .before .before .before .args .classes) p n (omega (arith, c .before .before .before .before .pre .0, c .before .before .if1 .left)) (here (c .before .before .before .before .args .rows .now) (c .before .before .before .before .args .at) (sym (c .if2 .left) ∙ c .before .refuse-row .ensures .0) (c .before .refuse-row .ensures .1 (c .if2 .left)))
+returns-3 c =
+    let start = c .before .before .before .before in
+    λ p n. more-follows (start .args .limits) (start .args .rows .now) (start .args .at)
+    (start .args .classes) p n (omega (arith, start .pre .0, c .before .before .if1 .left))
+    (here (start .args .rows .now) (start .args .at)
+    (sym (c .if2 .left) ∙ c .before .refuse-row .ensures .0)
+    (c .before .refuse-row .ensures .1 (c .if2 .left)))
 
 pub finish-spec : {M : Type 1} → statement M
 finish-spec =

@@ -13,7 +13,13 @@ refuse-row-requires : tie.Need-refuse-row-requires
 refuse-row-requires c κs = search needs
 
 returns : tie.Need-returns
-returns c = (standing-refused (c .before .before .before .args .limits) (c .before .before .before .args .rows .now) (c .before .before .before .args .at) (c .before .refuse-row .result) (c .before .before .before .args .letter) (c .before .refuse-row .ensures .0) (c .if1 .taken), λ e. absurd (false≢true e))
+returns c = (
+  standing-refused (c .before .before .before .args .limits)
+      (c .before .before .before .args .rows .now) (c .before .before .before .args .at)
+      (c .before .refuse-row .result) (c .before .before .before .args .letter)
+      (c .before .refuse-row .ensures .0) (c .if1 .taken),
+  λ e. absurd (false≢true e),
+)
 
 mul-result : tie.Need-mul-result
 mul-result c = search needs
@@ -22,10 +28,20 @@ mul-result-2 : tie.Need-mul-result-2
 mul-result-2 c = search needs
 
 shared-slice-read-result : tie.Need-shared-slice-read-result
-shared-slice-read-result c = omega (arith, (c .before .before .refuse-row .ensures .1 (c .before .if1 .left)) .1)
+shared-slice-read-result c =
+    omega (arith, (c .before .before .refuse-row .ensures .1 (c .before .if1 .left)) .1)
 
 returns-2 : tie.Need-returns-2
-returns-2 c = (eqb-turn (getD (c .before .before .before .before .args .rows .now) ((c .before .before .before .before .args .at) * 4) 0) (c .before .before .before .before .args .letter) ∙ sym (standing-here (here (c .before .before .before .before .args .rows .now) (c .before .before .before .before .args .at) (sym (c .before .if1 .left) ∙ c .before .before .refuse-row .ensures .0) (c .before .before .refuse-row .ensures .1 (c .before .if1 .left))) (c .before .before .before .before .args .letter)), λ e. (c .before .before .refuse-row .ensures .1 (c .before .if1 .left)))
+returns-2 c =
+    let start = c .before .before .before .before in (
+      eqb-turn (getD (start .args .rows .now) ((start .args .at) * 4) 0) (start .args .letter)
+          ∙ sym (standing-here
+          (here (start .args .rows .now) (start .args .at)
+          (sym (c .before .if1 .left) ∙ c .before .before .refuse-row .ensures .0)
+          (c .before .before .refuse-row .ensures .1 (c .before .if1 .left))) (start .args .letter)),
+      λ e.
+          (c .before .before .refuse-row .ensures .1 (c .before .if1 .left)),
+    )
 
 pub is-letter-spec : {M : Type 1} → statement M
 is-letter-spec =

@@ -28,7 +28,9 @@ unfolding name-at letter-among
 returns-5 c = sym (ap (λ (n : ℕ). name-at n (c .before .args .a) (c .before .args .b)) (c .match .keys5))
 
 returns-6 : tie.Need-returns-6
-returns-6 c = name-other (c .before .args .code) (c .before .args .a) (c .before .args .b) (c .match .rest .0 .0 .0 .0 .1) (c .match .rest .0 .0 .0 .1) (c .match .rest .0 .0 .1) (c .match .rest .0 .1) (c .match .rest .1)
+returns-6 c = name-other (c .before .args .code) (c .before .args .a) (c .before .args .b)
+    (c .match .rest .0 .0 .0 .0 .1) (c .match .rest .0 .0 .0 .1) (c .match .rest .0 .0 .1)
+    (c .match .rest .0 .1) (c .match .rest .1)
 
 pub name-of-spec : {M : Type 1} → statement M
 name-of-spec = tie.close (tie.spec returns returns-2 returns-3 returns-4 returns-5 returns-6)

@@ -9,34 +9,57 @@ use Rattle.form.proofs.pass_body.Statement.{statement}
 use Rattle.form.proofs.pass_body.Tie as tie
 
 refuse-row-requires : tie.Need-refuse-row-requires
-refuse-row-requires c κs = (c .before .before .pre .0 .whole, c .before .before .pre .0 .within, c .before .before .pre .0 .fits)
+refuse-row-requires c κs =
+    (c .before .before .pre .0 .whole, c .before .before .pre .0 .within, c .before .before .pre .0 .fits)
 
 cast-t8 : tie.Need-cast-t8
-cast-t8 c = omega (arith, c .before .before .before .before .pre .0 .within, c .before .before .before .before .pre .0 .fits .rows)
+cast-t8 c =
+    let start = c .before .before .before .before in
+    omega (arith, start .pre .0 .within, start .pre .0 .fits .rows)
 
 add-t9 : tie.Need-add-t9
-add-t9 c = omega (arith, c .before .before .before .before .pre .0 .within, c .before .before .before .before .pre .0 .fits .rows)
+add-t9 c =
+    let start = c .before .before .before .before in
+    omega (arith, start .pre .0 .within, start .pre .0 .fits .rows)
 
 returns : tie.Need-returns
-returns c = told-as (body-refused (c .before .before .before .before .args .limits) (c .before .before .before .before .args .rows .now) (c .before .before .before .before .args .at) (c .before .before .before .before .args .slots) (c .before .refuse-row .result) (c .before .refuse-row .ensures .0) (c .if1 .taken)) (told-refuse (c .before .refuse-row .result) ((c .before .before .before .before .args .at) + 1))
+returns c =
+    let start = c .before .before .before .before in
+    told-as (body-refused (start .args .limits) (start .args .rows .now) (start .args .at)
+    (start .args .slots) (c .before .refuse-row .result) (c .before .refuse-row .ensures .0)
+    (c .if1 .taken)) (told-refuse (c .before .refuse-row .result) ((start .args .at) + 1))
 
 mul-if2 : tie.Need-mul-if2
-mul-if2 c = omega (arith, c .before .before .before .before .pre .0 .within, c .before .before .before .before .pre .0 .fits .rows)
+mul-if2 c =
+    let start = c .before .before .before .before in
+    omega (arith, start .pre .0 .within, start .pre .0 .fits .rows)
 
 mul-if2-2 : tie.Need-mul-if2-2
-mul-if2-2 c = omega (arith, c .before .before .before .before .pre .0 .within, c .before .before .before .before .pre .0 .fits .rows)
+mul-if2-2 c =
+    let start = c .before .before .before .before in
+    omega (arith, start .pre .0 .within, start .pre .0 .fits .rows)
 
 shared-slice-read-if2 : tie.Need-shared-slice-read-if2
 shared-slice-read-if2 c = omega (arith, (c .before .before .refuse-row .ensures .1 (c .before .if1 .left)) .1)
 
 cast-t14 : tie.Need-cast-t14
-cast-t14 c = omega (arith, c .before .before .before .before .before .before .pre .0 .within, c .before .before .before .before .before .before .pre .0 .fits .rows)
+cast-t14 c =
+    let start = c .before .before .before .before .before .before in
+    omega (arith, start .pre .0 .within, start .pre .0 .fits .rows)
 
 add-t15 : tie.Need-add-t15
-add-t15 c = omega (arith, c .before .before .before .before .before .before .pre .0 .within, c .before .before .before .before .before .before .pre .0 .fits .rows)
+add-t15 c =
+    let start = c .before .before .before .before .before .before in
+    omega (arith, start .pre .0 .within, start .pre .0 .fits .rows)
 
 returns-2 : tie.Need-returns-2
-returns-2 c = told-as (body-other (c .before .before .before .before .before .before .args .limits) (c .before .before .before .before .before .before .args .rows .now) (c .before .before .before .before .before .before .args .at) (c .before .before .before .before .before .before .args .slots) (here (c .before .before .before .before .before .before .args .rows .now) (c .before .before .before .before .before .before .args .at) (sym (c .before .before .if1 .left) ∙ c .before .before .before .refuse-row .ensures .0) (c .before .before .before .refuse-row .ensures .1 (c .before .before .if1 .left))) (c .if2 .taken)) (told-refuse 3 ((c .before .before .before .before .before .before .args .at) + 1))
+returns-2 c =
+    let start = c .before .before .before .before .before .before in
+    told-as (body-other (start .args .limits) (start .args .rows .now) (start .args .at) (start .args .slots)
+    (here (start .args .rows .now) (start .args .at)
+    (sym (c .before .before .if1 .left) ∙ c .before .before .before .refuse-row .ensures .0)
+    (c .before .before .before .refuse-row .ensures .1 (c .before .before .if1 .left))) (c .if2 .taken))
+    (told-refuse 3 ((start .args .at) + 1))
 
 pass-node-requires : tie.Need-pass-node-requires
 pass-node-requires c κs = c .before .before .before .before .before .before .before .pre
@@ -45,7 +68,14 @@ same-length : tie.Need-same-length
 same-length c = c .before .before .pass-node .kept .1 .0
 
 returns-3 : tie.Need-returns-3
-returns-3 c = told-as (body-here (c .before .before .before .before .before .before .before .before .before .before .args .limits) (c .before .before .before .before .before .before .before .before .before .before .args .rows .now) (c .before .before .before .before .before .before .before .before .before .before .args .at) (c .before .before .before .before .before .before .before .before .before .before .args .slots) (here (c .before .before .before .before .before .before .before .before .before .before .args .rows .now) (c .before .before .before .before .before .before .before .before .before .before .args .at) (sym (c .before .before .before .before .before .before .if1 .left) ∙ c .before .before .before .before .before .before .before .refuse-row .ensures .0) (c .before .before .before .before .before .before .before .refuse-row .ensures .1 (c .before .before .before .before .before .before .if1 .left))) (c .before .before .before .before .if2 .left)) (c .before .before .pass-node .ensures)
+returns-3 c =
+    let start = c .before .before .before .before .before .before .before .before .before .before in
+    let the-refuse-row = c .before .before .before .before .before .before .before .refuse-row in
+    let the-if1 = c .before .before .before .before .before .before .if1 in
+    let the-if2 = c .before .before .before .before .if2 in
+    told-as (body-here (start .args .limits) (start .args .rows .now) (start .args .at) (start .args .slots)
+    (here (start .args .rows .now) (start .args .at) (sym (the-if1 .left) ∙ the-refuse-row .ensures .0)
+    (the-refuse-row .ensures .1 (the-if1 .left))) (the-if2 .left)) (c .before .before .pass-node .ensures)
 
 pub pass-body-spec : {M : Type 1} → statement M
 pass-body-spec =

@@ -23,22 +23,33 @@ add-ends : tie.Need-add-ends Inv-loop μ-loop
 add-ends c = search needs
 
 cast-ends : tie.Need-cast-ends Inv-loop μ-loop
-cast-ends c = omega (arith, c .before .before .loop .inv .ready .within, c .before .before .loop .inv .ready .fits .rows)
+cast-ends c = omega (
+  arith,
+  c .before .before .loop .inv .ready .within,
+  c .before .before .loop .inv .ready .fits .rows,
+)
 
 mul-ends : tie.Need-mul-ends Inv-loop μ-loop
 mul-ends c = search needs
 
 slice-write-ends : tie.Need-slice-write-ends Inv-loop μ-loop
-slice-write-ends c = row-room (c .before .before .loop .inv .ready) (c .before .before .loop .i) (c .before .is-letter .ensures .1 (c .if1 .taken))
+slice-write-ends c =
+    row-room (c .before .before .loop .inv .ready) (c .before .before .loop .i)
+    (c .before .is-letter .ensures .1 (c .if1 .taken))
 
 add-i : tie.Need-add-i Inv-loop μ-loop
-add-i c = omega (arith, c .before .before .loop .inv .ready .within, c .before .before .loop .inv .ready .fits .rows)
+add-i c = omega (
+  arith,
+  c .before .before .loop .inv .ready .within,
+  c .before .before .loop .inv .ready .fits .rows,
+)
 
 loop-less : tie.Need-loop-less Inv-loop μ-loop
 loop-less c = omega (arith, (c .before .is-letter .ensures .1 (c .if1 .taken)) .0)
 
 loop-again : tie.Need-loop-again Inv-loop μ-loop
-loop-again c = passing-step (c .before .before .loop .inv) (c .before .is-letter .ensures .1 (c .if1 .taken)) (sym (c .before .is-letter .ensures .0) ∙ c .if1 .taken)
+loop-again c = passing-step (c .before .before .loop .inv) (c .before .is-letter .ensures .1 (c .if1 .taken))
+    (sym (c .before .is-letter .ensures .0) ∙ c .if1 .taken)
 
 same-length : tie.Need-same-length Inv-loop μ-loop
 same-length c = c .before .before .loop .inv .long

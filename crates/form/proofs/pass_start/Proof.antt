@@ -15,73 +15,153 @@ use Rattle.form.proofs.pass_start.Statement.{statement}
 use Rattle.form.proofs.pass_start.Tie as tie
 
 refuse-row-requires : tie.Need-refuse-row-requires
-refuse-row-requires c κs = (c .before .before .pre .whole, c .before .before .pre .within, c .before .before .pre .fits)
+refuse-row-requires c κs =
+    (c .before .before .pre .whole, c .before .before .pre .within, c .before .before .pre .fits)
 
 cast-t12 : tie.Need-cast-t12
-cast-t12 c = omega (arith, c .before .before .before .before .pre .within, c .before .before .before .before .pre .fits .rows)
+cast-t12 c =
+    let start = c .before .before .before .before in
+    omega (arith, start .pre .within, start .pre .fits .rows)
 
 add-t13 : tie.Need-add-t13
-add-t13 c = omega (arith, c .before .before .before .before .pre .within, c .before .before .before .before .pre .fits .rows)
+add-t13 c =
+    let start = c .before .before .before .before in
+    omega (arith, start .pre .within, start .pre .fits .rows)
 
 returns : tie.Need-returns
-returns c = λ cs e. start-refused (c .before .before .before .before .args .limits) (c .before .before .before .before .args .rows .now) (c .before .before .before .before .args .at) cs (c .before .refuse-row .result) (c .before .refuse-row .ensures .0) (c .if1 .taken)
+returns c =
+    let start = c .before .before .before .before in
+    λ cs e. start-refused (start .args .limits) (start .args .rows .now) (start .args .at) cs
+    (c .before .refuse-row .result) (c .before .refuse-row .ensures .0) (c .if1 .taken)
 
 mul-if2 : tie.Need-mul-if2
-mul-if2 c = omega (arith, c .before .before .before .before .pre .within, c .before .before .before .before .pre .fits .rows)
+mul-if2 c =
+    let start = c .before .before .before .before in
+    omega (arith, start .pre .within, start .pre .fits .rows)
 
 mul-if2-2 : tie.Need-mul-if2-2
-mul-if2-2 c = omega (arith, c .before .before .before .before .pre .within, c .before .before .before .before .pre .fits .rows)
+mul-if2-2 c =
+    let start = c .before .before .before .before in
+    omega (arith, start .pre .within, start .pre .fits .rows)
 
 shared-slice-read-if2 : tie.Need-shared-slice-read-if2
 shared-slice-read-if2 c = omega (arith, (c .before .before .refuse-row .ensures .1 (c .before .if1 .left)) .1)
 
 cast-t18 : tie.Need-cast-t18
-cast-t18 c = omega (arith, c .before .before .before .before .before .before .pre .within, c .before .before .before .before .before .before .pre .fits .rows)
+cast-t18 c =
+    let start = c .before .before .before .before .before .before in
+    omega (arith, start .pre .within, start .pre .fits .rows)
 
 add-t19 : tie.Need-add-t19
-add-t19 c = omega (arith, c .before .before .before .before .before .before .pre .within, c .before .before .before .before .before .before .pre .fits .rows)
+add-t19 c =
+    let start = c .before .before .before .before .before .before in
+    omega (arith, start .pre .within, start .pre .fits .rows)
 
 returns-2 : tie.Need-returns-2
-returns-2 c = λ cs e. start-other (c .before .before .before .before .before .before .args .limits) (c .before .before .before .before .before .before .args .rows .now) (c .before .before .before .before .before .before .args .at) cs (here (c .before .before .before .before .before .before .args .rows .now) (c .before .before .before .before .before .before .args .at) (sym (c .before .before .if1 .left) ∙ c .before .before .before .refuse-row .ensures .0) (c .before .before .before .refuse-row .ensures .1 (c .before .before .if1 .left))) (c .if2 .taken)
+returns-2 c =
+    let start = c .before .before .before .before .before .before in
+    λ cs e. start-other (start .args .limits) (start .args .rows .now) (start .args .at) cs
+    (here (start .args .rows .now) (start .args .at)
+    (sym (c .before .before .if1 .left) ∙ c .before .before .before .refuse-row .ensures .0)
+    (c .before .before .before .refuse-row .ensures .1 (c .before .before .if1 .left))) (c .if2 .taken)
 
 add-ends : tie.Need-add-ends
-add-ends c = omega (arith, c .before .before .before .before .before .before .pre .within, c .before .before .before .before .before .before .pre .fits .rows)
+add-ends c =
+    let start = c .before .before .before .before .before .before in
+    omega (arith, start .pre .within, start .pre .fits .rows)
 
 cast-ends : tie.Need-cast-ends
-cast-ends c = omega (arith, c .before .before .before .before .before .before .pre .within, c .before .before .before .before .before .before .pre .fits .rows)
+cast-ends c =
+    let start = c .before .before .before .before .before .before in
+    omega (arith, start .pre .within, start .pre .fits .rows)
 
 mul-ends : tie.Need-mul-ends
-mul-ends c = omega (arith, c .before .before .before .before .before .before .pre .within, c .before .before .before .before .before .before .pre .fits .rows)
+mul-ends c =
+    let start = c .before .before .before .before .before .before in
+    omega (arith, start .pre .within, start .pre .fits .rows)
 
 slice-write-ends : tie.Need-slice-write-ends
-slice-write-ends c = row-room (c .before .before .before .before .before .before .pre) (c .before .before .before .before .before .before .args .at) (c .before .before .before .refuse-row .ensures .1 (c .before .before .if1 .left))
+slice-write-ends c =
+    let start = c .before .before .before .before .before .before in
+    row-room (start .pre) (start .args .at)
+    (c .before .before .before .refuse-row .ensures .1 (c .before .before .if1 .left))
 
 add-pass-body : tie.Need-add-pass-body
-add-pass-body c = omega (arith, c .before .before .before .before .before .before .before .pre .within, c .before .before .before .before .before .before .before .pre .fits .rows)
+add-pass-body c =
+    let start = c .before .before .before .before .before .before .before in
+    omega (arith, start .pre .within, start .pre .fits .rows)
 
 pass-body-requires : tie.Need-pass-body-requires
-pass-body-requires c κs = (ready-at ((c .before .before .before .before .before .before .before .args .at) + 1) (c .before .before .before .before .before .before .before .pre) (length-set (c .before .before .before .before .before .before .before .args .ends .now) (c .before .before .before .before .before .before .before .args .at) ((c .before .before .before .before .before .before .before .args .at) + 1)) (omega (arith, (c .before .before .before .before .refuse-row .ensures .1 (c .before .before .before .if1 .left)) .0)) (omega (arith, (c .before .before .before .before .refuse-row .ensures .1 (c .before .before .before .if1 .left)) .1)), omega arith)
+pass-body-requires c κs =
+    let start = c .before .before .before .before .before .before .before in
+    let the-refuse-row = c .before .before .before .before .refuse-row in (
+      ready-at ((start .args .at) + 1) (start .pre)
+          (length-set (start .args .ends .now) (start .args .at) ((start .args .at) + 1))
+          (omega (arith, (the-refuse-row .ensures .1 (c .before .before .before .if1 .left)) .0))
+          (omega (arith, (the-refuse-row .ensures .1 (c .before .before .before .if1 .left)) .1)),
+      omega arith,
+    )
 
 enum-known-r : tie.Need-enum-known-r
 enum-known-r c = search needs
 
 finish-requires : tie.Need-finish-requires
-finish-requires c κs = (c .before .before .before .before .before .before .before .before .before .before .before .before .before .pre .whole, told-end (body (most-of (c .before .before .before .before .before .before .before .before .before .before .before .before .before .args .limits)) 1 ((c .before .before .before .before .before .before .before .before .before .before .before .before .before .args .at) + 1 + 1) (rows-from (c .before .before .before .before .before .before .before .before .before .before .before .before .before .args .rows .now) ((c .before .before .before .before .before .before .before .before .before .before .before .before .before .args .at) + 1))) (c .before .before .before .before .before .pass-body .ensures) (c .before .r .given .1) λ e x y w o z. w, c .before .before .before .before .before .before .before .before .before .before .before .before .before .pre .fits)
+finish-requires c κs =
+    let start = c .before .before .before .before .before .before .before .before .before .before .before
+    .before .before in
+    let the-pass-body = c .before .before .before .before .before .pass-body in (
+      start .pre .whole,
+      told-end (body (most-of (start .args .limits)) 1 ((start .args .at) + 1 + 1)
+          (rows-from (start .args .rows .now) ((start .args .at) + 1))) (the-pass-body .ensures)
+          (c .before .r .given .1) λ e x y w o z. w,
+      start .pre .fits,
+    )
 
 enum-known-r-2 : tie.Need-enum-known-r-2
 enum-known-r-2 c = search needs
 
 same-length : tie.Need-same-length
-same-length c = c .before .before .before .before .before .before .pass-body .kept .1 .0 ∙ length-set (c .before .before .before .before .before .before .before .before .before .before .before .before .before .before .args .ends .now) (c .before .before .before .before .before .before .before .before .before .before .before .before .before .before .args .at) ((c .before .before .before .before .before .before .before .before .before .before .before .before .before .before .args .at) + 1)
+same-length c =
+    let start = c .before .before .before .before .before .before .before .before .before .before .before
+    .before .before .before in
+    let the-pass-body = c .before .before .before .before .before .before .pass-body in
+    the-pass-body .kept .1 .0 ∙ length-set (start .args .ends .now) (start .args .at) ((start .args .at) + 1)
 
 returns-3 : tie.Need-returns-3
-returns-3 c = λ cs e. start-end (c .before .before .before .before .before .before .before .before .before .before .before .before .before .before .args .limits) (c .before .before .before .before .before .before .before .before .before .before .before .before .before .before .args .rows .now) (c .before .before .before .before .before .before .before .before .before .before .before .before .before .before .args .at) cs (here (c .before .before .before .before .before .before .before .before .before .before .before .before .before .before .args .rows .now) (c .before .before .before .before .before .before .before .before .before .before .before .before .before .before .args .at) (sym (c .before .before .before .before .before .before .before .before .before .before .if1 .left) ∙ c .before .before .before .before .before .before .before .before .before .before .before .refuse-row .ensures .0) (c .before .before .before .before .before .before .before .before .before .before .before .refuse-row .ensures .1 (c .before .before .before .before .before .before .before .before .before .before .if1 .left))) (c .before .before .before .before .before .before .before .before .if2 .left) (c .before .before .before .before .before .before .pass-body .ensures) (c .before .before .r .given .1) refl (λ w o. end-room (c .before .before .before .before .before .before .before .before .before .before .before .before .before .before .pre) w o) e (c .finish .ensures)
+returns-3 c =
+    let start = c .before .before .before .before .before .before .before .before .before .before .before
+    .before .before .before in
+    let the-refuse-row =
+    c .before .before .before .before .before .before .before .before .before .before
+    .before .refuse-row in
+    let the-if1 = c .before .before .before .before .before .before .before .before .before .before .if1 in
+    let the-if2 = c .before .before .before .before .before .before .before .before .if2 in
+    let the-pass-body = c .before .before .before .before .before .before .pass-body in
+    λ cs e. start-end (start .args .limits) (start .args .rows .now) (start .args .at) cs
+    (here (start .args .rows .now) (start .args .at) (sym (the-if1 .left) ∙ the-refuse-row .ensures .0)
+    (the-refuse-row .ensures .1 (the-if1 .left))) (the-if2 .left) (the-pass-body .ensures)
+    (c .before .before .r .given .1) refl (λ w o. end-room (start .pre) w o) e (c .finish .ensures)
 
 same-length-2 : tie.Need-same-length-2
-same-length-2 c = c .before .before .before .before .before .pass-body .kept .1 .0 ∙ length-set (c .before .before .before .before .before .before .before .before .before .before .before .before .before .args .ends .now) (c .before .before .before .before .before .before .before .before .before .before .before .before .before .args .at) ((c .before .before .before .before .before .before .before .before .before .before .before .before .before .args .at) + 1)
+same-length-2 c =
+    let start = c .before .before .before .before .before .before .before .before .before .before .before
+    .before .before in
+    let the-pass-body = c .before .before .before .before .before .pass-body in
+    the-pass-body .kept .1 .0 ∙ length-set (start .args .ends .now) (start .args .at) ((start .args .at) + 1)
 
 returns-4 : tie.Need-returns-4
-returns-4 c = λ cs e. start-stop (c .before .before .before .before .before .before .before .before .before .before .before .before .before .args .limits) (c .before .before .before .before .before .before .before .before .before .before .before .before .before .args .rows .now) (c .before .before .before .before .before .before .before .before .before .before .before .before .before .args .at) cs (here (c .before .before .before .before .before .before .before .before .before .before .before .before .before .args .rows .now) (c .before .before .before .before .before .before .before .before .before .before .before .before .before .args .at) (sym (c .before .before .before .before .before .before .before .before .before .if1 .left) ∙ c .before .before .before .before .before .before .before .before .before .before .refuse-row .ensures .0) (c .before .before .before .before .before .before .before .before .before .before .refuse-row .ensures .1 (c .before .before .before .before .before .before .before .before .before .if1 .left))) (c .before .before .before .before .before .before .before .if2 .left) (c .before .before .before .before .before .pass-body .ensures) (c .before .r2 .given .1)
+returns-4 c =
+    let start = c .before .before .before .before .before .before .before .before .before .before .before
+    .before .before in
+    let the-refuse-row =
+    c .before .before .before .before .before .before .before .before .before .before .refuse-row in
+    let the-if1 = c .before .before .before .before .before .before .before .before .before .if1 in
+    let the-if2 = c .before .before .before .before .before .before .before .if2 in
+    let the-pass-body = c .before .before .before .before .before .pass-body in
+    λ cs e. start-stop (start .args .limits) (start .args .rows .now) (start .args .at) cs
+    (here (start .args .rows .now) (start .args .at) (sym (the-if1 .left) ∙ the-refuse-row .ensures .0)
+    (the-refuse-row .ensures .1 (the-if1 .left))) (the-if2 .left) (the-pass-body .ensures)
+    (c .before .r2 .given .1)
 
 pub pass-start-spec : {M : Type 1} → statement M
 pass-start-spec =

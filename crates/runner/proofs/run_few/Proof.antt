@@ -17,7 +17,9 @@ slice-aggregate-run-into-4 : tie.Need-slice-aggregate-run-into-4
 slice-aggregate-run-into-4 c = search needs
 
 run-into-requires : tie.Need-run-into-requires
-run-into-requires c κs = (lent-few (c .before .before .before .before .before .before .before .args .rows .now) (c .before .before .before .before .before .before .before .pre .0), c .before .before .before .before .before .before .before .pre .1)
+run-into-requires c κs =
+    let start = c .before .before .before .before .before .before .before in
+    (lent-few (start .args .rows .now) (start .pre .0), start .pre .1)
 
 same-length : tie.Need-same-length
 same-length c = search needs

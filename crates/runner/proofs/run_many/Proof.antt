@@ -17,7 +17,9 @@ slice-aggregate-run-into-4 : tie.Need-slice-aggregate-run-into-4
 slice-aggregate-run-into-4 c = search needs
 
 run-into-requires : tie.Need-run-into-requires
-run-into-requires c κs = (lent-many (c .before .before .before .before .before .before .before .args .rows .now), c .before .before .before .before .before .before .before .pre)
+run-into-requires c κs =
+    let start = c .before .before .before .before .before .before .before in
+    (lent-many (start .args .rows .now), start .pre)
 
 same-length : tie.Need-same-length
 same-length c = search needs

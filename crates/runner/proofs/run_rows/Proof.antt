@@ -5,10 +5,14 @@ use Rattle.runner.proofs.run_rows.Statement.{statement}
 use Rattle.runner.proofs.run_rows.Tie as tie
 
 returns : tie.Need-returns
-returns c = uneven (c .before .before .before .args .rows .now) (c .before .before .before .args .store .now) (c .before .before .before .args .fuel) (c .if1 .taken)
+returns c = uneven (c .before .before .before .args .rows .now) (c .before .before .before .args .store .now)
+    (c .before .before .before .args .fuel) (c .if1 .taken)
 
 returns-2 : tie.Need-returns-2
-returns-2 c = over (c .before .before .before .before .args .rows .now) (c .before .before .before .before .args .store .now) (c .before .before .before .before .args .fuel) (c .before .if1 .left) (c .if2 .taken)
+returns-2 c =
+    let start = c .before .before .before .before in
+    over (start .args .rows .now) (start .args .store .now) (start .args .fuel) (c .before .if1 .left)
+    (c .if2 .taken)
 
 cast-run-few : tie.Need-cast-run-few
 cast-run-few c = search needs

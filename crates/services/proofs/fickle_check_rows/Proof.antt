@@ -14,7 +14,8 @@ pack-verdict-requires : tie.Need-pack-verdict-requires
 pack-verdict-requires c κs = search needs
 
 returns : tie.Need-returns
-returns c = c .pack-verdict .ensures ∙ ap packed-checked (c .before .check-rows .ensures) ∙ verdict-packed (verdict (c .before .before .before .args .rows .now))
+returns c = c .pack-verdict .ensures ∙ ap packed-checked (c .before .check-rows .ensures)
+    ∙ verdict-packed (verdict (c .before .before .before .args .rows .now))
 
 pub fickle-check-rows-spec : {M : Type 1} → statement M
 fickle-check-rows-spec = tie.close (tie.spec check-rows-requires pack-verdict-requires returns)

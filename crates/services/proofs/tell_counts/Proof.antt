@@ -16,12 +16,17 @@ enum-told c = search needs
 
 returns : tie.Need-returns
 returns c =
-    let told = ran-told (c .before .before .before .before .before .before .before .args .steps .now) (c .before .before .before .before .before .before .before .args .objects .now) (c .before .before .before .before .before .before .before .args .changes .now) (c .before .before .before .before .before .a .given .1) in
+    let start = c .before .before .before .before .before .before .before in
+    let the-a = c .before .before .before .before .before .a in
+    let told = ran-told (start .args .steps .now) (start .args .objects .now) (start .args .changes .now)
+    (the-a .given .1) in
     let put = c .put-counts .ensures in
     (put .0 ∙ told .0, (put .1 .0 ∙ told .1, put .1 .1 ∙ told .2))
 
 returns-2 : tie.Need-returns-2
-returns-2 c = let told = refused-told (c .before .before .args .steps .now) (c .before .before .args .objects .now) (c .before .before .args .changes .now) (c .enum-told .given .1) in (told .0, (told .1, told .2))
+returns-2 c = let told =
+    refused-told (c .before .before .args .steps .now) (c .before .before .args .objects .now)
+    (c .before .before .args .changes .now) (c .enum-told .given .1) in (told .0, (told .1, told .2))
 
 pub tell-counts-spec : {M : Type 1} → statement M
 tell-counts-spec =

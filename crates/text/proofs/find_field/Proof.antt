@@ -10,13 +10,20 @@ use Rattle.text.proofs.find_field.Statement.{statement}
 use Rattle.text.proofs.find_field.Tie as tie
 
 abbrev Inv-loop : tie.InvT-loop
-Inv-loop s at e₀ e = (at ≤ e) × (e ≤ length s) × (field (drop at s) ≡ take (e - at) (drop at s) ++ field (drop e s))
+Inv-loop s at e₀ e = (at ≤ e) × (e ≤ length s)
+    × (field (drop at s) ≡ take (e - at) (drop at s) ++ field (drop e s))
 
 abbrev μ-loop : tie.MeasureT-loop
 μ-loop s at e₀ e = length s - e
 
 loop-holds : tie.Need-loop-holds Inv-loop μ-loop
-loop-holds c = (omega arith, omega arith, let z : 0 ≡ c .args .at - c .args .at = omega arith in ap (λ (k : ℕ). take k (drop (c .args .at) (c .args .s .now)) ++ field (drop (c .args .at) (c .args .s .now))) z)
+loop-holds c = (
+  omega arith,
+  omega arith,
+  let z : 0 ≡ c .args .at - c .args .at = omega arith in ap
+      (λ (k : ℕ). take k (drop (c .args .at) (c .args .s .now)) ++ field (drop (c .args .at) (c .args .s .now)))
+      z,
+)
 
 shared-slice-read-b : tie.Need-shared-slice-read-b Inv-loop μ-loop
 shared-slice-read-b c = omega arith

@@ -5,7 +5,10 @@ use native.Mathlib.Omega.{arith}
 use lib.ListN.{getD}
 use borrow.Author.Needs.{needs}
 use Rattle.text.proofs.Lines.{row-known}
-use Rattle.text.proofs.Formatting.{Formatting, formatting-odd, formatting-odd-held, formatting-start, formatting-done, formatting-full, formatting-row, formatting-over, formatting-over-held, formatting-bad, formatting-bad-held, formatting-fits, formatting-step}
+use Rattle.text.proofs.Formatting.{Formatting, formatting-odd, formatting-odd-held, formatting-start}
+use Rattle.text.proofs.Formatting.{formatting-done, formatting-full, formatting-row, formatting-over}
+use Rattle.text.proofs.Formatting.{formatting-over-held, formatting-bad, formatting-bad-held}
+use Rattle.text.proofs.Formatting.{formatting-fits, formatting-step}
 use borrow.Author.Tests.{not-true, not-false}
 use Rattle.text.proofs.format_rows.Statement.{statement}
 use Rattle.text.proofs.format_rows.Tie as tie
@@ -128,8 +131,10 @@ returns-3 c =
           rows ((the-loop .i) + 1) 0) (getD rows ((the-loop .i) + 2) 0) (getD rows ((the-loop .i) + 3) 0) refl
           refl refl refl (sym (the-is-row .ensures) ∙ not-true (the-is-row .result) (c .if3 .taken)),
       λ m.
-          formatting-bad-held (the-loop .inv) (the-loop-test .taken) (the-if2 .left) (getD rows (the-loop .i) 0)
-          (getD rows ((the-loop .i) + 1) 0) (getD rows ((the-loop .i) + 2) 0) (getD rows ((the-loop .i) + 3) 0)
+          formatting-bad-held (the-loop .inv) (the-loop-test .taken) (the-if2 .left)
+          (getD rows (the-loop .i) 0)
+          (getD rows ((the-loop .i) + 1) 0) (getD rows ((the-loop .i) + 2) 0)
+          (getD rows ((the-loop .i) + 3) 0)
           refl refl refl refl (sym (the-is-row .ensures) ∙ not-true (the-is-row .result) (c .if3 .taken)) m,
     )
 
@@ -148,7 +153,8 @@ write-line-requires c κs =
           (the-if3 .left)),
       formatting-fits (the-loop .inv) (the-loop-test .taken) (the-if2 .left) (getD rows
           (the-loop .i) 0) (getD rows ((the-loop .i) + 1) 0) (getD rows ((the-loop .i) + 2) 0) (getD rows
-          ((the-loop .i) + 3) 0) refl refl refl refl (sym (the-is-row .ensures) ∙ not-false (the-is-row .result)
+          ((the-loop .i) + 3) 0) refl refl refl refl
+          (sym (the-is-row .ensures) ∙ not-false (the-is-row .result)
           (the-if3 .left)) (start .pre),
     )
 

@@ -3,7 +3,9 @@ use mathlib.Core.Path.{sym, _∙_}
 use Prim.Native.Nat.{_-_}
 use native.Mathlib.Omega.{arith}
 use borrow.Author.Needs.{needs}
-use Rattle.text.proofs.Parsing.{Parsing, parsing-start, parsing-done, parsing-full, parsing-over, parsing-over-held, parsing-bad, parsing-bad-held, parsing-fits, parsing-step}
+use Rattle.text.proofs.Parsing.{Parsing, parsing-start, parsing-done, parsing-full, parsing-over}
+use Rattle.text.proofs.Parsing.{parsing-over-held, parsing-bad, parsing-bad-held, parsing-fits}
+use Rattle.text.proofs.Parsing.{parsing-step}
 use Rattle.text.proofs.parse_lines.Statement.{statement}
 use Rattle.text.proofs.parse_lines.Tie as tie
 
@@ -103,7 +105,8 @@ loop-less c =
 loop-again : tie.Need-loop-again Inv-loop μ-loop
 loop-again c =
     let the-loop = c .before .before .before .before .before .before .before .before .before .before .loop in
-    let the-loop-test = c .before .before .before .before .before .before .before .before .before .loop-test in
+    let the-loop-test = c .before .before .before .before .before .before .before .before
+    .before .loop-test in
     let the-if1 = c .before .before .before .before .before .before .before .before .if1 in
     let the-read-line = c .before .before .before .before .before .before .before .read-line in
     let the-l = c .before .before .before .before .before .l in

@@ -44,7 +44,9 @@ same-length : tie.Need-same-length
 same-length c = search needs
 
 returns : tie.Need-returns
-returns c = let e₁ : (c .args .i) + 1 ≡ suc (c .args .i) = omega arith in let e₂ : (c .args .i) + 2 ≡ suc (suc (c .args .i)) = omega arith in let e₃ : (c .args .i) + 3 ≡ suc (suc (suc (c .args .i))) = omega arith in rw (e₁, e₂, e₃)
+returns c = let e₁ : (c .args .i) + 1 ≡ suc (c .args .i) = omega arith in
+    let e₂ : (c .args .i) + 2 ≡ suc (suc (c .args .i)) = omega arith in
+    let e₃ : (c .args .i) + 3 ≡ suc (suc (suc (c .args .i))) = omega arith in rw (e₁, e₂, e₃)
 
 pub put-row-spec : {M : Type 1} → statement M
 put-row-spec =

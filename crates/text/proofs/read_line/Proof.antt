@@ -4,7 +4,8 @@ use Prim.Native.Nat.{_-_}
 use native.Mathlib.Omega.{arith}
 use lib.ListN.{getD}
 use borrow.Author.Needs.{needs}
-use Rattle.text.proofs.Lines.{line-past, line-none, line-unknown, line-no-first, line-one, line-no-second, line-two}
+use Rattle.text.proofs.Lines.{line-past, line-none, line-unknown, line-no-first, line-one}
+use Rattle.text.proofs.Lines.{line-no-second, line-two}
 use Rattle.text.proofs.read_line.Statement.{statement}
 use Rattle.text.proofs.read_line.Tie as tie
 
@@ -84,7 +85,8 @@ returns-5 c =
     let start = c .before .before .before .before .before .before .before .before .before .before .before
     .before in
     let the-if1 = c .before .before .before .before .before .before .before .before .before .before .if1 in
-    let the-count-numbers = c .before .before .before .before .before .before .before .before .count-numbers in
+    let the-count-numbers =
+    c .before .before .before .before .before .before .before .before .count-numbers in
     let the-read-number = c .before .before .before .before .before .read-number in
     let the-first = c .before .before .before .first in
     let the-if4 = c .before .if4 in

@@ -92,7 +92,8 @@ copy-numbers-requires c κs =
         arith,
         e,
         filled-made 4 (read-text
-            text) (the-parsed .given .0 .0) rows (sym (the-parse-lines .ensures .0) ∙ the-parsed .given .1) .1,
+            text) (the-parsed .given .0 .0) rows
+            (sym (the-parse-lines .ensures .0) ∙ the-parsed .given .1) .1,
         read-whole 60000 1 text,
         the-if1 .left,
       ),
@@ -125,7 +126,8 @@ returns-3 c =
     .0 .0) rows (sym (the-parse-lines .ensures .0) ∙ the-parsed .given .1) (omega (
       arith,
       filled-made 4
-          (read-text text) (the-parsed .given .0 .0) rows (sym (the-parse-lines .ensures .0) ∙ the-parsed .given
+          (read-text text) (the-parsed .given .0 .0) rows
+          (sym (the-parse-lines .ensures .0) ∙ the-parsed .given
           .1) .1,
       read-whole 60000 1 text,
       the-if1 .left,

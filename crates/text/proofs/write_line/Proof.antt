@@ -4,7 +4,8 @@ use Prim.Native.Nat.{_-_, _%_}
 use native.Mathlib.Omega.{arith}
 use lib.ListN.{length-set}
 use borrow.Author.Needs.{needs}
-use Rattle.text.proofs.Lines.{length-none, length-one, length-two, length-some, length-first, write-none, write-one, write-two}
+use Rattle.text.proofs.Lines.{length-none, length-one, length-two, length-some, length-first}
+use Rattle.text.proofs.Lines.{write-none, write-one, write-two}
 use Rattle.language.proofs.Rows.{letter-ascii}
 use Rattle.text.proofs.write_line.Statement.{statement}
 use Rattle.text.proofs.write_line.Tie as tie

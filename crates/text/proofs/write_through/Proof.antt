@@ -76,7 +76,8 @@ copy-bytes-requires c κs =
         arith,
         e,
         filled-made 1 (write-rows rows)
-            (the-formatted .given .0 .0) text (sym (the-format-rows .ensures .0) ∙ the-formatted .given .1) .1,
+            (the-formatted .given .0 .0) text
+            (sym (the-format-rows .ensures .0) ∙ the-formatted .given .1) .1,
         the-if1 .left,
         the-if1 .left,
       ),
@@ -109,7 +110,8 @@ returns-3 c =
     .0) text (sym (the-format-rows .ensures .0) ∙ the-formatted .given .1) (omega (
       arith,
       filled-made 1
-          (write-rows rows) (the-formatted .given .0 .0) text (sym (the-format-rows .ensures .0) ∙ the-formatted
+          (write-rows rows) (the-formatted .given .0 .0) text
+          (sym (the-format-rows .ensures .0) ∙ the-formatted
           .given .1) .1,
       the-if1 .left,
       the-if1 .left,

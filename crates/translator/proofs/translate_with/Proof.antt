@@ -14,10 +14,16 @@ enum-told c = search needs
 
 translate-checked-requires : tie.Need-translate-checked-requires
 translate-checked-requires c κs =
-    let start = c .before .before .before .before .before .before .before .before .before .before .before .before .before .before .before .before .before .before .before .before .before .before .before .before .before in
-    let the-check-into = c .before .before .before .before .before .before .before .before .before .before .before .before .before .before .check-into in
+    let start = c .before .before .before .before .before .before .before .before .before .before .before
+    .before .before .before .before .before .before .before .before .before .before .before .before
+    .before .before in
+    let the-check-into =
+    c .before .before .before .before .before .before .before .before .before .before .before .before
+    .before .before .check-into in
     let the-enum-told = c .before .before .before .before .enum-told in
-    some-accepted _ _ _ _ _ _ (omega (arith, start .pre .nodes, the-check-into .kept .1 .0, the-check-into .kept .1 .1 .1 .1 .0)) (sym (the-enum-told .given .1) ∙ the-check-into .ensures .0) (the-check-into .ensures .1)
+    some-accepted _ _ _ _ _ _
+    (omega (arith, start .pre .nodes, the-check-into .kept .1 .0, the-check-into .kept .1 .1 .1 .1 .0))
+    (sym (the-enum-told .given .1) ∙ the-check-into .ensures .0) (the-check-into .ensures .1)
 
 enum-known-checked : tie.Need-enum-known-checked
 enum-known-checked c = search needs
@@ -54,7 +60,9 @@ same-length-9 c = search needs
 
 returns-2 : tie.Need-returns-2
 returns-2 c =
-    let the-check-into = c .before .before .before .before .before .before .before .before .before .before .before .check-into in
+    let the-check-into =
+    c .before .before .before .before .before .before .before .before .before .before
+    .before .check-into in
     translation-refused _ _ _ _ (sym (c .before .checked .given .1) ∙ the-check-into .ensures .0)
 
 pub translate-with-spec : {M : Type 1} → statement M
