@@ -20,7 +20,7 @@ use Rattle.plain.specs.Emission.{Written, Emitted, SomeNode, SomeNodes, 
 use Rattle.plain.specs.Emission.{NodesEmitted, ArgumentsEmitted}
 use Rattle.plain.specs.Tasks.{NodeTask, NodesTask, EncodedNodes, LooksUpNodes, ReadyNodes, ReadyAll}
 use Rattle.plain.proofs.Writing.{written-none, written-then, whole}
-use Rattle.plain.proofs.Letters.{size-positive}
+use Rattle.language.proofs.Tables.{size-positive}
 use Rattle.plain.proofs.Tasks.{node-row}
 
 -- the nodes of a block or of a call's arguments
