@@ -35,7 +35,7 @@ use Rattle.bodies.specs.Whole.{PreEnter, PostEnter, FirstBlock, SomeBloc
 use Rattle.bodies.specs.Whole.{PostMethodBody}
 use Rattle.bodies.proofs.Worlds.{fitting-is}
 use Rattle.bodies.proofs.Turns.{case-low, type-low, accepted-of, not-refused}
-use Rattle.bodies.proofs.TurnsLetters.{head}
+use Rattle.language.proofs.Nodes.{head}
 use Rattle.bodies.proofs.TypeNumbers.{type-number-case}
 use Rattle.bodies.proofs.HeadingLines.{types-number, heading-run, heading-effects, heading-first}
 use Rattle.bodies.proofs.Starts.{method-views}

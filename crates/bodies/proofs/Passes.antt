@@ -25,7 +25,7 @@ use Rattle.bodies.specs.Cycle.{Pre, Post, Is}
 use Rattle.bodies.specs.Whole.{MethodFacts, Spacious, PreMethodBody, PreLine, PostLine, class-next}
 use Rattle.bodies.specs.Whole.{PreNext, PostNext, Ready, BodiesAre, BodiesDone}
 use Rattle.bodies.proofs.Turns.{accepted-of, not-refused}
-use Rattle.bodies.proofs.TurnsLetters.{head}
+use Rattle.language.proofs.Nodes.{head}
 use Rattle.bodies.proofs.Forms.{body-limited}
 use Rattle.bodies.proofs.Methods.{facts-first, facts-block, not-passed, not-refusal}
 use Rattle.bodies.proofs.WholeLaws.{class-more, class-same, first-unique}

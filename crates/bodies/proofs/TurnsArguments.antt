@@ -24,7 +24,7 @@ use Rattle.bodies.specs.Tables.{Applicable, applied-number}
 use Rattle.bodies.specs.Cycle.{Views, Room, Pre, Post, PreList, AcceptedAll, PostArguments}
 use Rattle.bodies.specs.Cycle.{stored}
 use Rattle.bodies.proofs.TypeNumbers.{applicable, applied-case}
-use Rattle.bodies.proofs.TurnsLetters.{Head}
+use Rattle.language.proofs.Nodes.{Head}
 use Rattle.bodies.proofs.Turns.{Given, GivenAll, pre-of, given-all-of, room-next, views-same}
 use Rattle.bodies.proofs.Turns.{bind-refused, bind-accepted}
 use Rattle.bodies.proofs.TurnsNodes.{Did, did, failed, after-row, row-of}

@@ -24,7 +24,7 @@ use Rattle.bodies.specs.Cycle.{Limited, LimitedAll, Views, Room, Kept, P
 use Rattle.bodies.specs.Cycle.{AcceptedAll}
 use Rattle.bodies.proofs.Typings.{line-free, looks-frame}
 use Rattle.bodies.proofs.TypeNumbers.{declared-after}
-use Rattle.bodies.proofs.TurnsLetters.{Head, head}
+use Rattle.language.proofs.Nodes.{Head, head}
 use Rattle.bodies.proofs.Turns.{Given, GivenAll, pre-of, given-all-of, room-kept, answered}
 use Rattle.bodies.proofs.Turns.{not-refused, bind-refused, bind-accepted}
 use Rattle.bodies.proofs.TurnsNodes.{Did, did, row-of}
