@@ -19,7 +19,7 @@ use Rattle.machine.specs.Contracts.{Ready, Done, PreEval, PostEval, PreL
 use Rattle.machine.specs.Contracts.{evaluated-all}
 use Rattle.objects.proofs.Values.{bare-stop, small-of}
 use Rattle.objects.proofs.Acts.{stored-same}
-use Rattle.machine.proofs.Letters.{head}
+use Rattle.language.proofs.Nodes.{head}
 use Rattle.machine.proofs.Steps.{kept-then, refit, room-same, gives, kept-of}
 
 -- the first of a list, and the rest

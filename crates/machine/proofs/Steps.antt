@@ -26,7 +26,7 @@ use Rattle.machine.specs.Contracts.{PreLeaf, PreApply, PostApply, calls-
 use Rattle.machine.specs.Contracts.{one-child}
 use Rattle.objects.proofs.Values.{bare-ok, bare-stop, small-of}
 use Rattle.objects.proofs.Acts.{stored-same}
-use Rattle.machine.proofs.Letters.{head}
+use Rattle.language.proofs.Nodes.{head}
 use Rattle.machine.proofs.Nodes.{OneChild, one-of, child, one-encoded, one-within, one-inside}
 use Rattle.machine.proofs.Nodes.{eval-inside, rest-one-child}
 
