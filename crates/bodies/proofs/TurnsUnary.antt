@@ -12,6 +12,8 @@ use Rattle.language.specs.Tree.{Class, Expr, slot, change, size}
 use Rattle.language.specs.Program.{world}
 use Rattle.language.specs.Typing.{Environment, Typed, type-of}
 use Rattle.language.specs.Encoded.{RowAt, Encoded}
+use Rattle.language.proofs.Nodes.{head}
+use Rattle.language.proofs.Tables.{size-positive}
 use Rattle.bodies.specs.declared.Answer.{Answer}
 use Rattle.bodies.specs.declared.Typing.the-variants.{Bool as bool-case, Null}
 use Rattle.bodies.specs.Answers.{answer, is-refusal}
@@ -20,8 +22,6 @@ use Rattle.bodies.specs.Nodes.{In-row, null-tested, created, slot-read, 
 use Rattle.bodies.specs.Nodes.{PreAssign, got, got-classes, PreGet, PreField}
 use Rattle.bodies.specs.Acts.{PreChange, PostChange}
 use Rattle.bodies.specs.Cycle.{Unary, Room, Kept, Pre, Post, Is}
-use Rattle.language.proofs.Nodes.{head}
-use Rattle.language.proofs.Tables.{size-positive}
 use Rattle.bodies.proofs.Turns.{Given, given-of, pre-of, post-is, post-of, in-row, kept-then}
 use Rattle.bodies.proofs.Turns.{kept-none, kept-slots, kept-classes, room-next, room-kept, room-slots}
 use Rattle.bodies.proofs.Turns.{type-low, case-low}

@@ -22,15 +22,15 @@ use Rattle.objects.specs.Holding.{NamedAll, Named, Within, WithinAll}
 use Rattle.machine.specs.Contracts.{Ready, PreEntered, PostNode, PreList, PostItems, Opened, Locals}
 use Rattle.machine.specs.Contracts.{evaluated-all}
 use Rattle.objects.specs.Holding.{first-of-type}
-use Rattle.language.proofs.Nodes.{head}
 use Rattle.machine.proofs.Letters.{as-block}
 use Rattle.language.specs.Results.{ok, stop, bind}
 use Rattle.language.specs.Tree.{Exprs, count, Class, DeclaredType, bool, class, type-number, block}
 use Rattle.language.specs.Encoded.{TypesAt, Encoded, EncodedAll}
 use Rattle.language.specs.Rows.{V-local}
-use Rattle.language.proofs.Lines.{line-at}
 use Rattle.language.specs.Evaluation.{Value as Meaning, null, Out, last-value, initial, with-frame}
 use Rattle.language.specs.Store.{capacity}
+use Rattle.language.proofs.Nodes.{head}
+use Rattle.language.proofs.Lines.{line-at}
 
 -- the place inside a block
 abbrev pub inner : Place → ℕ → Place

@@ -20,7 +20,6 @@ use Rattle.machine.specs.Contracts.{Ready, Kept, PreEval, PreEntered, Po
 use Rattle.machine.specs.Contracts.{PostArgs, DoneAll, calls-of, evaluated, evaluated-all}
 use Rattle.objects.specs.Contracts.{PreFind, PostFind, Found, NotFound}
 use Rattle.objects.proofs.Values.{bare-ok, bare-stop, value-decoded}
-use Rattle.language.proofs.Nodes.{head}
 use Rattle.machine.proofs.Letters.{as-call}
 use Rattle.machine.proofs.Steps.{kept-then, kept-more, kept-as, ready-child, room-same, then-eval}
 use Rattle.language.specs.Results.{ok, stop, bind}
@@ -34,6 +33,7 @@ use Rattle.language.specs.Encoded.{Encoded, EncodedAll}
 use Rattle.language.specs.Evaluation.{Value as Meaning, null, object, State, Out, Limits, eval, with-limits}
 use Rattle.language.specs.Evaluation.{eval-all, do-call, call-at, with-frame, Object as Thing}
 use Rattle.language.specs.Store.{capacity}
+use Rattle.language.proofs.Nodes.{head}
 
 -- Q taken apart: receiver and arguments are one list
 pub record CallAt (R E T A s l : List ℕ) (at : ℕ) (q : Place) (n : Counts) (P : List Class) (m : ℕ) (a : Expr)

@@ -14,6 +14,7 @@ use Rattle.language.specs.Tree.{new, Class}
 use Rattle.language.specs.Program.{world}
 use Rattle.language.specs.Encoded.{Encoded}
 use Rattle.language.specs.Evaluation.{Value as Meaning, State, Out, need, is-null-value, do-change}
+use Rattle.language.proofs.Nodes.{head}
 use Rattle.objects.specs.declared.Value.{Value}
 use Rattle.objects.specs.declared.Value.the-variants.{Null, Truth}
 use Rattle.objects.specs.Values.{Outcome, Gave, Raised, Stopped, Stuck, Counts, decoded, outcome, Answer}
@@ -27,7 +28,6 @@ use Rattle.machine.specs.Contracts.{Ready, Done, PreLeaf, PostLeaf, Post
 use Rattle.machine.specs.Contracts.{PostApply, Wrote}
 use Rattle.objects.proofs.Values.{outcome-value}
 use Rattle.objects.proofs.Acts.{stored-same}
-use Rattle.language.proofs.Nodes.{head}
 use Rattle.machine.proofs.Letters.{as-literal-true, as-literal-false, as-literal-null}
 use Rattle.machine.proofs.Letters.{as-slot}
 use Rattle.machine.proofs.Letters.{as-new, as-change, as-is-null, as-get, as-cast, as-assign}

@@ -10,6 +10,7 @@ use Rattle.language.specs.Program.{world}
 use Rattle.language.specs.Encoded.{Encoded}
 use Rattle.language.specs.Evaluation.{do-set}
 use Rattle.language.specs.Store.{capacity}
+use Rattle.language.proofs.Nodes.{head}
 use Rattle.objects.specs.declared.Value.{Value}
 use Rattle.objects.specs.Values.{Outcome, Gave, Counts, Answer, value, answer}
 use Rattle.machine.specs.declared.Place.{Place}
@@ -17,7 +18,6 @@ use Rattle.machine.specs.Machine.{state, frame-of, inside}
 use Rattle.objects.specs.Holding.{Within}
 use Rattle.machine.specs.Contracts.{Ready, Done, PreEval, PreEntered, PostEval, PostNode, evaluated}
 use Rattle.objects.specs.Contracts.{PostSave, PreObject}
-use Rattle.language.proofs.Nodes.{head}
 use Rattle.machine.proofs.Letters.{as-set}
 use Rattle.machine.proofs.Steps
 use Rattle.machine.proofs.Steps.{kept-then, kept-more, ready-child, refit, room-same, then-eval, fails}

@@ -15,6 +15,7 @@ use Rattle.language.specs.Tree.{Expr, choose, Class, size}
 use Rattle.language.specs.Encoded.{Encoded}
 use Rattle.language.specs.Evaluation.{Value as Meaning, truth, State, Out, need-truth}
 use Rattle.language.specs.Store.{capacity}
+use Rattle.language.proofs.Nodes.{head}
 use Rattle.objects.specs.declared.Value.{Value}
 use Rattle.objects.specs.declared.Value.the-variants.{Null, Truth, Object}
 use Rattle.objects.specs.Values.{Gave, Stuck, Counts, Answer, value, bare, told, answer}
@@ -23,7 +24,6 @@ use Rattle.machine.specs.Machine.{state, inside}
 use Rattle.objects.specs.Holding.{Within}
 use Rattle.machine.specs.Contracts.{Ready, Done, PreEval, PreEntered, PostEval, PostNode, evaluated}
 use Rattle.objects.proofs.Value.{the-type}
-use Rattle.language.proofs.Nodes.{head}
 use Rattle.machine.proofs.Letters.{as-choose}
 use Rattle.machine.proofs.Steps.{kept-then, kept-more, kept-as, ready-child, refit, room-same}
 use Rattle.machine.proofs.Steps.{then-eval, fails, gives}
