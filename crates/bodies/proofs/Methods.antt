@@ -20,6 +20,7 @@ use Rattle.language.specs.Typing.{Typed, Environment, method-environment, fits,
 use Rattle.language.specs.LookupClasses.{LooksUp}
 use Rattle.language.specs.Encoded.{Encoded}
 use Rattle.language.specs.Layout.{Run, body-row}
+use Rattle.language.proofs.Nodes.{head}
 use Rattle.bodies.proofs.Typing.{the-type}
 use Rattle.bodies.specs.declared.Typing.{Typing}
 use Rattle.bodies.specs.declared.Typing.the-variants.{Bool as bool-case, Class as class-case, Null}
@@ -35,7 +36,6 @@ use Rattle.bodies.specs.Whole.{PreEnter, PostEnter, FirstBlock, SomeBloc
 use Rattle.bodies.specs.Whole.{PostMethodBody}
 use Rattle.bodies.proofs.Worlds.{fitting-is}
 use Rattle.bodies.proofs.Turns.{case-low, type-low, accepted-of, not-refused}
-use Rattle.bodies.proofs.TurnsLetters.{head}
 use Rattle.bodies.proofs.TypeNumbers.{type-number-case}
 use Rattle.bodies.proofs.HeadingLines.{types-number, heading-run, heading-effects, heading-first}
 use Rattle.bodies.proofs.Starts.{method-views}

@@ -15,6 +15,7 @@ use Rattle.language.specs.Typing.{Typed, start-environment, type-of, type-metho
 use Rattle.language.specs.Encoded.{Encoded}
 use Rattle.language.specs.WellFormed.{BodyInForm, form-body}
 use Rattle.language.specs.Layout.{body-row, start-row}
+use Rattle.language.proofs.Nodes.{head}
 use Rattle.bodies.proofs.Typing.{the-type}
 use Rattle.bodies.specs.declared.Typing.the-variants.{Refusal}
 use Rattle.bodies.specs.declared.Answer.{Answer}
@@ -25,7 +26,6 @@ use Rattle.bodies.specs.Cycle.{Pre, Post, Is}
 use Rattle.bodies.specs.Whole.{MethodFacts, Spacious, PreMethodBody, PreLine, PostLine, class-next}
 use Rattle.bodies.specs.Whole.{PreNext, PostNext, Ready, BodiesAre, BodiesDone}
 use Rattle.bodies.proofs.Turns.{accepted-of, not-refused}
-use Rattle.bodies.proofs.TurnsLetters.{head}
 use Rattle.bodies.proofs.Forms.{body-limited}
 use Rattle.bodies.proofs.Methods.{facts-first, facts-block, not-passed, not-refusal}
 use Rattle.bodies.proofs.WholeLaws.{class-more, class-same, first-unique}

@@ -23,7 +23,8 @@ use Rattle.bodies.specs.Tables.{Headed, CaseIn}
 use Rattle.bodies.specs.Cycle.{Limited, LimitedAll, Views, Room, Kept, Pre, Post, Declared, Accepted}
 use Rattle.bodies.specs.Cycle.{Is, PreList}
 use Rattle.bodies.proofs.Typings.{looks-frame}
-use Rattle.bodies.proofs.TurnsLetters.{code-of, head}
+use Rattle.language.specs.Rows.{code}
+use Rattle.language.proofs.Nodes.{letter-of, head}
 
 -- ---- what is given of an expression, and of several in a row
 
@@ -97,7 +98,7 @@ module _ {R E T A S C : List ℕ} {count at scope top : ℕ} where
   -- the node's row
   pub in-row : (p : Pre R E T A S C count at scope top)
       → (at * 4 + 3 < length R) × (at < length E) × (length E ≤ length C) × (at < 60000)
-      × (getD R (at * 4) 0 ≡ code-of (p .e))
+      × (getD R (at * 4) 0 ≡ code (letter-of (p .e)))
   in-row p = let h = head (p .e) (p .encoded) in
       (h .row, h .in-ends, p .room .nodes, omega (arith, h .row, p .room .rows), h .letter)
 

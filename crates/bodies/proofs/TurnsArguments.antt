@@ -16,6 +16,7 @@ use Rattle.language.specs.Program.{world}
 use Rattle.language.specs.Typing.{Environment, TypedAll, typed, type-of, type-all}
 use Rattle.language.specs.Encoded.{EncodedAll}
 use Rattle.language.specs.LookupClasses.{LooksUp}
+use Rattle.language.proofs.Nodes.{Head}
 use Rattle.bodies.specs.declared.Answer.{Answer}
 use Rattle.bodies.specs.declared.Typing.{Typing}
 use Rattle.bodies.specs.declared.Typing.the-variants.{Null}
@@ -24,7 +25,6 @@ use Rattle.bodies.specs.Tables.{Applicable, applied-number}
 use Rattle.bodies.specs.Cycle.{Views, Room, Pre, Post, PreList, AcceptedAll, PostArguments}
 use Rattle.bodies.specs.Cycle.{stored}
 use Rattle.bodies.proofs.TypeNumbers.{applicable, applied-case}
-use Rattle.bodies.proofs.TurnsLetters.{Head}
 use Rattle.bodies.proofs.Turns.{Given, GivenAll, pre-of, given-all-of, room-next, views-same}
 use Rattle.bodies.proofs.Turns.{bind-refused, bind-accepted}
 use Rattle.bodies.proofs.TurnsNodes.{Did, did, failed, after-row, row-of}

@@ -5,6 +5,7 @@ use mathlib.Core.List.{List}
 use Prim.Native.Nat.{ℕ, _+_, _-_, _*_, _≤_, _<_}
 use native.Mathlib.Omega.{arith}
 use lib.ListN.{length, getD}
+use Rattle.language.specs.Rows.{J-choose}
 use Rattle.language.specs.Tree.{Class, Expr, choose, size}
 use Rattle.language.specs.World.{World}
 use Rattle.language.specs.Program.{world}
@@ -19,7 +20,7 @@ use Rattle.bodies.proofs.Turns.{Given, given-of, pre-of, post-of, in-ro
 use Rattle.bodies.proofs.Turns.{room-next, room-child, views-same, is-refused, bind-refused}
 use Rattle.bodies.proofs.Turns.{bind-accepted, looks-kept}
 use Rattle.bodies.proofs.ChooseNode.{pre-choice, choose-is}
-use Rattle.bodies.proofs.TurnsNodes.{did, failed, kept-in, row-of, by-choose}
+use Rattle.bodies.proofs.TurnsNodes.{did, failed, kept-in, row-of, by-node}
 
 module _ {R E T A S C : List ℕ} {count at scope top : ℕ} {P : List Class} {γ : Environment} {d : ℕ}
     {e x y : Expr} (g : Given R E T A S C count at scope top P (choose e x y) γ d) where
@@ -73,11 +74,12 @@ module _ {R E T A S C : List ℕ} {count at scope top : ℕ} {P : List Class} {�
 module _ {R E T A S C : List ℕ} {count at scope top : ℕ} (p : Pre R E T A S C count at scope top)
     (l : getD R (at * 4) 0 ≡ 74) where
   pub choose-first : Pre R E T A S C count (at + 1) scope top
-  choose-first = by-choose (p .e) (given-of p) l (λ _. Pre R E T A S C count (at + 1) scope top) λ e x y g.
+  choose-first = by-node J-choose (p .e) (given-of p) l (λ _. Pre R E T A S C count (at + 1) scope top)
+      λ e x y g.
       pre-of (choose-1 g)
 
   arm-room-of : top + 256 ≤ length S
-  arm-room-of = by-choose (p .e) (given-of p) l (λ _. top + 256 ≤ length S) λ e x y g. room-for-arm g
+  arm-room-of = by-node J-choose (p .e) (given-of p) l (λ _. top + 256 ≤ length S) λ e x y g. room-for-arm g
 
   pub choose-room : (top + scope ≤ length S) × (scope ≤ top) × (256 ≤ top) × (scope ≤ 256)
   choose-room = let m = p .room in
@@ -86,13 +88,13 @@ module _ {R E T A S C : List ℕ} {count at scope top : ℕ} (p : Pre R E T A S 
   module _ {S₁ C₁ : List ℕ} {a : Answer} (q₁ : Post R E T A S C S₁ C₁ count (at + 1) scope top a) where
     kept-1 : Kept S S₁ C C₁ at (getD E at 0) top
     unfolding size
-    kept-1 = by-choose (p .e) (given-of p) l (λ _. Kept S S₁ C C₁ at (getD E at 0) top) λ e x y g.
+    kept-1 = by-node J-choose (p .e) (given-of p) l (λ _. Kept S S₁ C C₁ at (getD E at 0) top) λ e x y g.
         kept-in top (row-of g) (row-of (choose-1 g)) (omega arith) (omega arith) (omega arith) (q₁ .kept)
 
     pub choose-fail : is-refusal (a .typing) ≡ true → Post R E T A S C S₁ C₁ count at scope top a
     unfolding type-of
     choose-fail f = post-of kept-1 λ P z γ d g.
-        by-choose z g l (λ w. Is (world P) w γ at scope S₁ C₁ a) λ e x y g.
+        by-node J-choose z g l (λ w. Is (world P) w γ at scope S₁ C₁ a) λ e x y g.
         let w = failed (choose-1 g) q₁ f in
         is-refused (w .n) (w .l) (bind-refused _ _ _ _ (w .typed-at)) (w .is)
 
@@ -115,7 +117,7 @@ module _ {R E T A S C : List ℕ} {count at scope top : ℕ} (p : Pre R E T A S 
           (views-2 (did (choose-1 g) q₁ ok₁ .accepted .views))
 
       pub choose-second : Pre R E T A S₂ C₁ count (getD E (at + 1) 0) scope (top + scope)
-      choose-second = by-choose (p .e) (given-of p) l
+      choose-second = by-node J-choose (p .e) (given-of p) l
           (λ _. Pre R E T A S₂ C₁ count (getD E (at + 1) 0) scope (top + scope)) λ e x y g.
           subst (λ (n : ℕ). Pre R E T A S₂ C₁ count n scope (top + scope)) (sym (row-of (choose-1 g) .end))
           (pre-of (given-2 g))
@@ -130,7 +132,7 @@ module _ {R E T A S C : List ℕ} {count at scope top : ℕ} (p : Pre R E T A S 
 
         kept-2 : Kept S S₃ C C₃ at (getD E at 0) top
         unfolding size
-        kept-2 = by-choose (p .e) (given-of p) l (λ _. Kept S S₃ C C₃ at (getD E at 0) top) λ e x y g.
+        kept-2 = by-node J-choose (p .e) (given-of p) l (λ _. Kept S S₃ C C₃ at (getD E at 0) top) λ e x y g.
             kept-then (kept-then kept-1 (kept-slots (s .long) (λ i u v. s .below i v)))
             (kept-in top (row-of g) (row-of (given-2 g)) (omega arith) (omega arith) (omega arith)
             (post-2 g .kept))
@@ -138,7 +140,7 @@ module _ {R E T A S C : List ℕ} {count at scope top : ℕ} (p : Pre R E T A S 
         pub choose-fail-second : is-refusal (b .typing) ≡ true → Post R E T A S C S₃ C₃ count at scope top b
         unfolding type-of
         choose-fail-second f = post-of kept-2 λ P z γ d g.
-            by-choose z g l (λ w. Is (world P) w γ at scope S₃ C₃ b) λ e x y g.
+            by-node J-choose z g l (λ w. Is (world P) w γ at scope S₃ C₃ b) λ e x y g.
             let u = did (choose-1 g) q₁ ok₁ in
             let w = failed (given-2 g) (post-2 g) f in
             let line : at + 1 + 1 + size e ≡ at + 1 + size e + 1 = omega arith in
@@ -181,7 +183,7 @@ module _ {R E T A S C : List ℕ} {count at scope top : ℕ} (p : Pre R E T A S 
           third g = ap (λ (n : ℕ). getD E n 0) (row-of (choose-1 g) .end) ∙ row-of (given-2 g) .end
 
           pub choose-third : Pre R E T A S₄ C₃ count (getD E (getD E (at + 1) 0) 0) scope (top + scope)
-          choose-third = by-choose (p .e) (given-of p) l
+          choose-third = by-node J-choose (p .e) (given-of p) l
               (λ _. Pre R E T A S₄ C₃ count (getD E (getD E (at + 1) 0) 0) scope (top + scope)) λ e x y g.
               subst (λ (n : ℕ). Pre R E T A S₄ C₃ count n scope (top + scope)) (sym (third g))
               (pre-of (given-3 g))
@@ -195,7 +197,8 @@ module _ {R E T A S C : List ℕ} {count at scope top : ℕ} (p : Pre R E T A S 
 
             kept-3 : Kept S S₅ C C₅ at (getD E at 0) top
             unfolding size
-            kept-3 = by-choose (p .e) (given-of p) l (λ _. Kept S S₅ C C₅ at (getD E at 0) top) λ e x y g.
+            kept-3 = by-node J-choose (p .e) (given-of p) l (λ _. Kept S S₅ C C₅ at (getD E at 0) top)
+                λ e x y g.
                 kept-then (kept-then kept-2 (kept-slots (w .long)
                 (λ i u v. w .between i (omega (arith, choose-room .3)) v)))
                 (kept-in top (row-of g) (row-of (given-3 g)) (omega arith) (omega arith) (omega arith)
@@ -205,7 +208,7 @@ module _ {R E T A S C : List ℕ} {count at scope top : ℕ} (p : Pre R E T A S 
                 → Post R E T A S C S₅ C₅ count at scope top c
             unfolding type-of
             choose-fail-third f = post-of kept-3 λ P z γ d g.
-                by-choose z g l (λ w. Is (world P) w γ at scope S₅ C₅ c) λ e x y g.
+                by-node J-choose z g l (λ w. Is (world P) w γ at scope S₅ C₅ c) λ e x y g.
                 let u = did (choose-1 g) q₁ ok₁ in
                 let v = did (given-2 g) (post-2 g) ok₂ in
                 let o = failed (given-3 g) (post-3 g) f in
@@ -227,7 +230,7 @@ module _ {R E T A S C : List ℕ} {count at scope top : ℕ} (p : Pre R E T A S 
 
             pub choice-pre : is-refusal (c .typing) ≡ false
                 → PreChoice T A S₅ at scope top (b .typing) (c .typing)
-            choice-pre ok₃ = by-choose (p .e) (given-of p) l
+            choice-pre ok₃ = by-node J-choose (p .e) (given-of p) l
                 (λ _. PreChoice T A S₅ at scope top (b .typing) (c .typing)) λ e x y g.
                 let v = did (given-2 g) (post-2 g) ok₂ in
                 let o = did (given-3 g) (post-3 g) ok₃ in
@@ -242,7 +245,7 @@ module _ {R E T A S C : List ℕ} {count at scope top : ℕ} (p : Pre R E T A S 
             choose-done {S₆} {r} ok₃ t =
                 let m = choose-room in
                 post-of (kept-then kept-3 (kept-slots (t .long) (λ i u v. t .rest i (omega (arith, m .3)))))
-                λ P z γ d g. by-choose z g l (λ w. Is (world P) w γ at scope S₆ C₅ r) λ e x y g.
+                λ P z γ d g. by-node J-choose z g l (λ w. Is (world P) w γ at scope S₆ C₅ r) λ e x y g.
                 let u = did (choose-1 g) q₁ ok₁ in
                 let v = did (given-2 g) (post-2 g) ok₂ in
                 let o = did (given-3 g) (post-3 g) ok₃ in

@@ -18,10 +18,10 @@ use Rattle.bodies.specs.declared.Typing.the-variants.{Null}
 use Rattle.bodies.specs.Answers.{answer, answer-of, is-refusal}
 use Rattle.bodies.specs.Acts.{PreOpen, PostOpen}
 use Rattle.bodies.specs.Cycle.{Proper, Limited, Views, Kept, Pre, Post, Is, PreList, PostItems}
+use Rattle.bodies.proofs.TurnsNodes.{by-node}
 use Rattle.bodies.proofs.Turns.{Given, GivenAll, given-of, post-of, kept-then, kept-slots, room-next}
 use Rattle.bodies.proofs.Turns.{room-slots}
 use Rattle.bodies.proofs.BlockNode.{pre-open, open-refused, open-done, block-is}
-use Rattle.bodies.proofs.TurnsNodes.{by-block}
 use Rattle.bodies.proofs.TurnsLists.{list-pre}
 
 module _ {R E T A S C : List ℕ} {count at scope top : ℕ} {P : List Class} {γ : Environment} {d : ℕ}
@@ -66,11 +66,11 @@ module _ {R E T A S C : List ℕ} {count at scope top : ℕ} (p : Pre R E T A S 
   nodes = getD R (at * 4 + 2) 0
 
   pub block-few : (scope + locals ≤ 256) × (256 ≤ top)
-  block-few = by-block (p .e) (given-of p) l (λ _. (scope + locals ≤ 256) × (256 ≤ top)) λ ts es g.
+  block-few = by-node B-block (p .e) (given-of p) l (λ _. (scope + locals ≤ 256) × (256 ≤ top)) λ ts es g.
       (omega (arith, block-limits g .1, block-row g .row .first), g .room .above)
 
   pub block-open-pre : PreOpen R S at scope locals
-  block-open-pre = by-block (p .e) (given-of p) l (λ _. PreOpen R S at scope locals) λ ts es g.
+  block-open-pre = by-node B-block (p .e) (given-of p) l (λ _. PreOpen R S at scope locals) λ ts es g.
       pre-open (g .headed) (g .room .rows) ts es at scope locals S (block-row g .row) (block-locals g) refl
       (block-slots g)
 
@@ -80,7 +80,7 @@ module _ {R E T A S C : List ℕ} {count at scope top : ℕ} (p : Pre R E T A S 
 
     pub block-fail : is-refusal (a .typing) ≡ true → Post R E T A S C S₁ C count at scope top a
     block-fail f = post-of kept-open λ P z γ d g.
-        by-block z g l (λ w. Is (world P) w γ at scope S₁ C a) λ ts es g.
+        by-node B-block z g l (λ w. Is (world P) w γ at scope S₁ C a) λ ts es g.
         open-refused (g .headed) (g .room .rows) ts es at scope locals γ S S₁ C a (block-row g .row)
         (block-locals g) refl (block-limits g .2) o f
 
@@ -100,14 +100,15 @@ module _ {R E T A S C : List ℕ} {count at scope top : ℕ} (p : Pre R E T A S 
       given-block g = block-all g locals (block-row g .row .first) (o .long) (opened-block g .2)
 
       pub block-items-pre : PreList R E T A S₁ C count (at + 1 + locals) (scope + locals) top nodes
-      block-items-pre = by-block (p .e) (given-of p) l
+      block-items-pre = by-node B-block (p .e) (given-of p) l
           (λ _. PreList R E T A S₁ C count (at + 1 + locals) (scope + locals) top nodes) λ ts es g.
           list-pre (block-row g .row .second) (given-block g)
 
       module _ {S₂ C₂ : List ℕ} {r : Answer}
           (q : PostItems R E T A S₁ C S₂ C₂ count (at + 1 + locals) (scope + locals) top nodes a r) where
         kept-block : Kept S S₂ C C₂ at (getD E at 0) top
-        kept-block = by-block (p .e) (given-of p) l (λ _. Kept S S₂ C C₂ at (getD E at 0) top) λ ts es g.
+        kept-block = by-node B-block (p .e) (given-of p) l (λ _. Kept S S₂ C C₂ at (getD E at 0) top)
+            λ ts es g.
             kept-then kept-open (record {
               slots-long = q .slots-long;
               classes-long = q .classes-long;
@@ -119,7 +120,7 @@ module _ {R E T A S C : List ℕ} {count at scope top : ℕ} (p : Pre R E T A S 
 
         pub block-done : Post R E T A S C S₂ C₂ count at scope top r
         block-done = post-of kept-block λ P z γ d g.
-            by-block z g l (λ w. Is (world P) w γ at scope S₂ C₂ r) λ ts es g.
+            by-node B-block z g l (λ w. Is (world P) w γ at scope S₂ C₂ r) λ ts es g.
             let b = opened-block g in
             let m = given-block g in
             let w = q .out P es (opened γ (map fresh-slot ts)) (d - 1) null-type (block-row g .row .second)

@@ -23,7 +23,7 @@ use Rattle.bodies.proofs.Turns.{Given, GivenAll, given-of, pre-of, post
 use Rattle.bodies.proofs.Turns.{kept-slots, kept-classes, room-next, room-child, room-slots}
 use Rattle.bodies.proofs.Turns.{is-refused, bind-refused, bind-accepted}
 use Rattle.bodies.proofs.CallNode.{invoked-kept, pre-invoke, call-is, many-is}
-use Rattle.bodies.proofs.TurnsNodes.{did, failed, after-row, kept-in, row-of, by-call}
+use Rattle.bodies.proofs.TurnsNodes.{did, failed, after-row, kept-in, row-of, by-node}
 use Rattle.bodies.proofs.TurnsLists.{list-pre, all-refused, all-accepted}
 
 module _ {R E T A S C : List ℕ} {count at scope top : ℕ} {P : List Class} {γ : Environment} {d : ℕ} {m : ℕ}
@@ -83,19 +83,20 @@ module _ {R E T A S C : List ℕ} {count at scope top : ℕ} (p : Pre R E T A S 
   next = getD E (at + 1) 0
 
   pub call-first : Pre R E T A S C count (at + 1) scope top
-  call-first = by-call (p .e) (given-of p) l (λ _. Pre R E T A S C count (at + 1) scope top) λ m e es g.
+  call-first = by-node Q-call (p .e) (given-of p) l (λ _. Pre R E T A S C count (at + 1) scope top)
+      λ m e es g.
       pre-of (call-1 g)
 
   module _ {S₁ C₁ : List ℕ} {a : Answer} (q : Post R E T A S C S₁ C₁ count (at + 1) scope top a) where
     kept-1 : Kept S S₁ C C₁ at (getD E at 0) top
     unfolding size
-    kept-1 = by-call (p .e) (given-of p) l (λ _. Kept S S₁ C C₁ at (getD E at 0) top) λ m e es g.
+    kept-1 = by-node Q-call (p .e) (given-of p) l (λ _. Kept S S₁ C C₁ at (getD E at 0) top) λ m e es g.
         kept-in top (row-of g) (row-of (call-1 g)) (omega arith) (omega arith) (omega arith) (q .kept)
 
     pub call-fail : is-refusal (a .typing) ≡ true → Post R E T A S C S₁ C₁ count at scope top a
     unfolding type-of
     call-fail f = post-of kept-1 λ P z γ d g.
-        by-call z g l (λ w. Is (world P) w γ at scope S₁ C₁ a) λ m e es g.
+        by-node Q-call z g l (λ w. Is (world P) w γ at scope S₁ C₁ a) λ m e es g.
         let w = failed (call-1 g) q f in is-refused (w .n) (w .l) (bind-refused _ _ _ _ (w .typed-at)) (w .is)
 
     module _ (ok : is-refusal (a .typing) ≡ false) where
@@ -114,7 +115,8 @@ module _ {R E T A S C : List ℕ} {count at scope top : ℕ} (p : Pre R E T A S 
           (did (call-1 g) q ok .accepted .views)
 
       pub call-items-pre : PreList R E T A S₁ C₁ count next scope top given-n
-      call-items-pre = by-call (p .e) (given-of p) l (λ _. PreList R E T A S₁ C₁ count next scope top given-n)
+      call-items-pre = by-node Q-call (p .e) (given-of p) l
+          (λ _. PreList R E T A S₁ C₁ count next scope top given-n)
           λ m e es g.
           subst (λ (k : ℕ). PreList R E T A S₁ C₁ count k scope top given-n) (sym (row-of (call-1 g) .end))
           (list-pre (call-row g .0 .row .second) (all-given g))
@@ -123,7 +125,8 @@ module _ {R E T A S C : List ℕ} {count at scope top : ℕ} (p : Pre R E T A S 
           → (256 ≤ top) × PreList R E T A S₁ C₁ count next scope (top + given-n) given-n
       call-arguments-pre o = (
         p .room .above,
-        by-call (p .e) (given-of p) l (λ _. PreList R E T A S₁ C₁ count next scope (top + given-n) given-n)
+        by-node Q-call (p .e) (given-of p) l
+            (λ _. PreList R E T A S₁ C₁ count next scope (top + given-n) given-n)
             λ m e es g.
             subst (λ (k : ℕ). PreList R E T A S₁ C₁ count k scope (top + given-n) given-n)
             (sym (row-of (call-1 g) .end)) (list-pre (call-row g .0 .row .second) (few-given o g)),
@@ -134,7 +137,7 @@ module _ {R E T A S C : List ℕ} {count at scope top : ℕ} (p : Pre R E T A S 
           → PostItems R E T A S₁ C₁ S₂ C₂ count next scope top given-n last many
           → r ≡ too-many-answer at (a .typing) many → Post R E T A S C S₂ C₂ count at scope top r
       call-many {S₂} {C₂} {last} {many} {r} o ln i e₁ = post-of kept-many λ P z γ d g.
-          by-call z g l (λ w. Is (world P) w γ at scope S₂ C₂ r) λ m e es g.
+          by-node Q-call z g l (λ w. Is (world P) w γ at scope S₂ C₂ r) λ m e es g.
           let u = did (call-1 g) q ok in
           let x = all-given g in
           let w = at-next g .out P es (u .a .slots) (d - 1) null-type (call-row g .0 .row .second) (x .headed)
@@ -151,7 +154,8 @@ module _ {R E T A S C : List ℕ} {count at scope top : ℕ} (p : Pre R E T A S 
               (row-of (call-1 g) .end) i
 
           kept-many : Kept S S₂ C C₂ at (getD E at 0) top
-          kept-many = by-call (p .e) (given-of p) l (λ _. Kept S S₂ C C₂ at (getD E at 0) top) λ m e es g.
+          kept-many = by-node Q-call (p .e) (given-of p) l (λ _. Kept S S₂ C C₂ at (getD E at 0) top)
+              λ m e es g.
               let n = at-next g in
               kept-then kept-1 (record {
                 slots-long = n .slots-long;
@@ -171,7 +175,7 @@ module _ {R E T A S C : List ℕ} {count at scope top : ℕ} (p : Pre R E T A S 
             (row-of (call-1 g) .end) i
 
         kept-few : Kept S S₂ C C₂ at (getD E at 0) top
-        kept-few = by-call (p .e) (given-of p) l (λ _. Kept S S₂ C C₂ at (getD E at 0) top) λ m e es g.
+        kept-few = by-node Q-call (p .e) (given-of p) l (λ _. Kept S S₂ C C₂ at (getD E at 0) top) λ m e es g.
             let n = at-next g in
             kept-then kept-1 (record {
               slots-long = n .slots-long;
@@ -198,7 +202,7 @@ module _ {R E T A S C : List ℕ} {count at scope top : ℕ} (p : Pre R E T A S 
         pub call-fail-arguments : is-refusal (b .typing) ≡ true → Post R E T A S C S₂ C₂ count at scope top b
         unfolding type-of
         call-fail-arguments f = post-of kept-few λ P z γ d g.
-            by-call z g l (λ w. Is (world P) w γ at scope S₂ C₂ b) λ m e es g.
+            by-node Q-call z g l (λ w. Is (world P) w γ at scope S₂ C₂ b) λ m e es g.
             let u = did (call-1 g) q ok in
             all-refused (type-all (world P) es (at + 1 + size e + 1) (u .a .slots))
             (λ c. record { type = null-type; slots = c .slots; effect = c .effect }) (outcome g .0) f
@@ -211,7 +215,7 @@ module _ {R E T A S C : List ℕ} {count at scope top : ℕ} (p : Pre R E T A S 
         in-classes = let r = in-row p in omega (arith, r .1, r .2, kept-few .classes-long)
 
         room-few : top + given-n ≤ length S₂
-        room-few = by-call (p .e) (given-of p) l (λ _. top + given-n ≤ length S₂) λ m e es g.
+        room-few = by-node Q-call (p .e) (given-of p) l (λ _. top + given-n ≤ length S₂) λ m e es g.
             omega (arith, g .room .room, call-row g .2, kept-few .slots-long)
 
         slots-few : scope ≤ length S₂
@@ -243,7 +247,7 @@ module _ {R E T A S C : List ℕ} {count at scope top : ℕ} (p : Pre R E T A S 
               }
 
           pub call-invoke-pre : PreInvoke R T A S₂ C₂ at scope top (a .typing) (b .effect)
-          call-invoke-pre = by-call (p .e) (given-of p) l
+          call-invoke-pre = by-node Q-call (p .e) (given-of p) l
               (λ _. PreInvoke R T A S₂ C₂ at scope top (a .typing) (b .effect)) λ m e es g.
               let u = did (call-1 g) q ok in
               let w = argued g in
@@ -262,7 +266,7 @@ module _ {R E T A S C : List ℕ} {count at scope top : ℕ} (p : Pre R E T A S 
               post-of (kept-then (kept-then kept-few (kept-slots (k .0)
               (λ j x y. k .1 j (omega (arith, p .room .scoped)))))
               (kept-classes at (k .2) (k .3) (omega arith) (after-row p)))
-              λ P z γ d g. by-call z g l (λ w. Is (world P) w γ at scope S₃ C₃ r) λ m e es g.
+              λ P z γ d g. by-node Q-call z g l (λ w. Is (world P) w γ at scope S₃ C₃ r) λ m e es g.
               let u = did (call-1 g) q ok in
               let w = argued g in
               let row = call-row g in

@@ -15,12 +15,12 @@ use Rattle.language.specs.Program.{world}
 use Rattle.language.specs.Typing.{Environment, Typed, TypedAll, typed, last-type, type-of, type-all}
 use Rattle.language.specs.Encoded.{EncodedAll}
 use Rattle.language.specs.LookupClasses.{LooksUp}
+use Rattle.language.proofs.Nodes.{Head}
 use Rattle.bodies.specs.declared.Answer.{Answer}
 use Rattle.bodies.specs.declared.Typing.{Typing}
 use Rattle.bodies.specs.Answers.{answer, answer-of, typing-case, is-refusal}
 use Rattle.bodies.specs.Cycle.{Post, PreList, AcceptedAll, PostItems}
 use Rattle.bodies.proofs.EffectLaws.{join-assoc, join-none, apply-none}
-use Rattle.bodies.proofs.TurnsLetters.{Head}
 use Rattle.bodies.proofs.Turns.{GivenAll, bind-refused}
 use Rattle.bodies.proofs.TurnsNodes.{Did, did, failed, after-row, row-of}
 use Rattle.bodies.proofs.TurnsLists.{none-accepted, by-nil, by-cons, list-first, list-rest, first-pre}

@@ -16,6 +16,7 @@ use Rattle.language.specs.Typing.{Environment, Typed, TypedAll, type-of, type-a
 use Rattle.language.specs.Encoded.{Encoded, EncodedAll}
 use Rattle.language.specs.LookupClasses.{LooksUp, LooksUpAll}
 use Rattle.language.specs.Translation.{typed-or}
+use Rattle.language.proofs.Nodes.{Head, head}
 use Rattle.bodies.specs.declared.Answer.{Answer}
 use Rattle.bodies.specs.declared.Typing.the-variants.{Refusal}
 use Rattle.bodies.specs.Answers.{answer, answer-of, is-refusal}
@@ -24,7 +25,6 @@ use Rattle.bodies.specs.Cycle.{Limited, LimitedAll, Views, Room, Kept, P
 use Rattle.bodies.specs.Cycle.{AcceptedAll}
 use Rattle.bodies.proofs.Typings.{line-free, looks-frame}
 use Rattle.bodies.proofs.TypeNumbers.{declared-after}
-use Rattle.bodies.proofs.TurnsLetters.{Head, head}
 use Rattle.bodies.proofs.Turns.{Given, GivenAll, pre-of, given-all-of, room-kept, answered}
 use Rattle.bodies.proofs.Turns.{not-refused, bind-refused, bind-accepted}
 use Rattle.bodies.proofs.TurnsNodes.{Did, did, row-of}

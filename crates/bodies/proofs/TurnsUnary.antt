@@ -5,12 +5,15 @@ use mathlib.Core.List.{List}
 use Prim.Native.Nat.{ℕ, _+_, _*_, _≤_}
 use native.Mathlib.Omega.{arith}
 use lib.ListN.{length, getD}
-use Rattle.language.specs.Rows.{R-change}
+use Rattle.language.specs.Rows.{T-true, L-false, N-null, I-slot, Z-is-null, G-get, K-cast, W-new, R-change}
+use Rattle.language.specs.Rows.{A-assign}
 use Rattle.language.specs.Results.{Checked, accept, refuse}
 use Rattle.language.specs.Tree.{Class, Expr, slot, change, size}
 use Rattle.language.specs.Program.{world}
 use Rattle.language.specs.Typing.{Environment, Typed, type-of}
 use Rattle.language.specs.Encoded.{RowAt, Encoded}
+use Rattle.language.proofs.Nodes.{head}
+use Rattle.language.proofs.Tables.{size-positive}
 use Rattle.bodies.specs.declared.Answer.{Answer}
 use Rattle.bodies.specs.declared.Typing.the-variants.{Bool as bool-case, Null}
 use Rattle.bodies.specs.Answers.{answer, is-refusal}
@@ -19,7 +22,6 @@ use Rattle.bodies.specs.Nodes.{In-row, null-tested, created, slot-read, 
 use Rattle.bodies.specs.Nodes.{PreAssign, got, got-classes, PreGet, PreField}
 use Rattle.bodies.specs.Acts.{PreChange, PostChange}
 use Rattle.bodies.specs.Cycle.{Unary, Room, Kept, Pre, Post, Is}
-use Rattle.bodies.proofs.TurnsLetters.{head, size-positive}
 use Rattle.bodies.proofs.Turns.{Given, given-of, pre-of, post-is, post-of, in-row, kept-then}
 use Rattle.bodies.proofs.Turns.{kept-none, kept-slots, kept-classes, room-next, room-kept, room-slots}
 use Rattle.bodies.proofs.Turns.{type-low, case-low}
@@ -30,9 +32,7 @@ use Rattle.bodies.proofs.LeafNodes.{true-is, false-is, null-literal-is,
 use Rattle.bodies.proofs.UnaryNodes.{is-null-is, cast-is, assign-is, got-kept, get-is}
 use Rattle.bodies.proofs.ChangeNode.{pre-change, change-is}
 use Rattle.bodies.proofs.TurnsNodes.{did, kept-in, row-of, is-null-child, get-child, get-row}
-use Rattle.bodies.proofs.TurnsNodes.{cast-child, cast-row, assign-child, assign-row, by-literal-true}
-use Rattle.bodies.proofs.TurnsNodes.{by-literal-false, by-literal-null, by-slot, by-is-null, by-get}
-use Rattle.bodies.proofs.TurnsNodes.{by-cast, by-new, by-change, by-assign}
+use Rattle.bodies.proofs.TurnsNodes.{cast-child, cast-row, assign-child, assign-row, by-node}
 
 -- ---- the leaves of `expression`
 
@@ -45,7 +45,7 @@ module _ {R E T A S C : List ℕ} {count at scope top : ℕ} (p : Pre R E T A S 
 
   pub change-pre : getD R (at * 4) 0 ≡ 82 → PreChange R T S count at scope
   unfolding Encoded
-  change-pre l = by-change (p .e) (given-of p) l (λ _. PreChange R T S count at scope) λ k c g.
+  change-pre l = by-node R-change (p .e) (given-of p) l (λ _. PreChange R T S count at scope) λ k c g.
       pre-change (g .headed) (g .room .rows) k c at scope (p .γ) S (change-row g) (g .views)
       (room-slots (g .room))
     where
@@ -57,32 +57,33 @@ module _ {R E T A S C : List ℕ} {count at scope top : ℕ} where
   pub true-post : {r : Answer} → getD R (at * 4) 0 ≡ 84 → r ≡ answer bool-case 0
       → Post R E T A S C S C count at scope top r
   true-post {r} l e = post-of kept-none λ P x γ d g.
-      by-literal-true x g l (λ w. Is (world P) w γ at scope S C r) λ g.
+      by-node T-true x g l (λ w. Is (world P) w γ at scope S C r) λ g.
       rw e (true-is (world P) (g .views))
 
   pub false-post : {r : Answer} → getD R (at * 4) 0 ≡ 76 → r ≡ answer bool-case 0
       → Post R E T A S C S C count at scope top r
   false-post {r} l e = post-of kept-none λ P x γ d g.
-      by-literal-false x g l (λ w. Is (world P) w γ at scope S C r) λ g.
+      by-node L-false x g l (λ w. Is (world P) w γ at scope S C r) λ g.
       rw e (false-is (world P) (g .views))
 
   pub null-post : {r : Answer} → getD R (at * 4) 0 ≡ 78 → r ≡ answer Null 0
       → Post R E T A S C S C count at scope top r
   null-post {r} l e = post-of kept-none λ P x γ d g.
-      by-literal-null x g l (λ w. Is (world P) w γ at scope S C r) λ g.
+      by-node N-null x g l (λ w. Is (world P) w γ at scope S C r) λ g.
       rw e (null-literal-is (world P) (g .views))
 
   pub slot-post : {r : Answer} → getD R (at * 4) 0 ≡ 73 → r ≡ slot-read R S at scope
       → Post R E T A S C S C count at scope top r
   unfolding Encoded
   slot-post {r} l e = post-of kept-none λ P x γ d g.
-      by-slot x g l (λ w. Is (world P) w γ at scope S C r) λ k g.
+      by-node I-slot x g l (λ w. Is (world P) w γ at scope S C r) λ k g.
       slot-is (g .headed) k at r (g .views) (room-slots (g .room)) (g .encoded .row .first) e
 
   pub new-post : {r : Answer} → getD R (at * 4) 0 ≡ 87
       → r ≡ created R count at → Post R E T A S C S C count at scope top r
   unfolding Encoded
-  new-post {r} l e = post-of kept-none λ P x γ d g. by-new x g l (λ w. Is (world P) w γ at scope S C r) λ c g.
+  new-post {r} l e = post-of kept-none λ P x γ d g.
+      by-node W-new x g l (λ w. Is (world P) w γ at scope S C r) λ c g.
       new-node-is (g .headed) c at r (g .views) (g .encoded .row .first) e
 
   pub change-post : {S′ : List ℕ} {r : Answer} → Room R E S C scope top 0 → getD R (at * 4) 0 ≡ 82
@@ -91,7 +92,7 @@ module _ {R E T A S C : List ℕ} {count at scope top : ℕ} where
   unfolding Encoded
   change-post {S′} {r} m l q =
       post-of (kept-slots (q .long) (λ i u v. q .rest i (omega (arith, m .scoped)))) λ P x γ d g.
-      by-change x g l (λ w. Is (world P) w γ at scope S′ C r) λ k c g.
+      by-node R-change x g l (λ w. Is (world P) w γ at scope S′ C r) λ k c g.
       change-is (g .headed) (g .room .rows) k c at scope γ S S′ C r (g .encoded .row) (g .views)
       (room-slots (g .room)) q
 
@@ -114,13 +115,13 @@ unary-assign {R} {at = at} p u a b c =
 module _ {R E T A S C : List ℕ} {count at scope top : ℕ} where
   pub unary-first : Unary R at → Pre R E T A S C count at scope top → Pre R E T A S C count (at + 1) scope top
   unary-first u p = unary-case R at u
-      (λ l. by-is-null (p .e) (given-of p) l (λ _. Pre R E T A S C count (at + 1) scope top) λ e g.
+      (λ l. by-node Z-is-null (p .e) (given-of p) l (λ _. Pre R E T A S C count (at + 1) scope top) λ e g.
       pre-of (is-null-child g))
-      (λ l. by-get (p .e) (given-of p) l (λ _. Pre R E T A S C count (at + 1) scope top) λ f e g.
+      (λ l. by-node G-get (p .e) (given-of p) l (λ _. Pre R E T A S C count (at + 1) scope top) λ f e g.
       pre-of (get-child g))
-      (λ l. by-cast (p .e) (given-of p) l (λ _. Pre R E T A S C count (at + 1) scope top) λ c e g.
+      (λ l. by-node K-cast (p .e) (given-of p) l (λ _. Pre R E T A S C count (at + 1) scope top) λ c e g.
       pre-of (cast-child g))
-      (λ l. by-assign (p .e) (given-of p) l (λ _. Pre R E T A S C count (at + 1) scope top) λ k e g.
+      (λ l. by-node A-assign (p .e) (given-of p) l (λ _. Pre R E T A S C count (at + 1) scope top) λ k e g.
       pre-of (assign-child g))
 
   module _ {S′ C′ : List ℕ} (p : Pre R E T A S C count at scope top) {x : Answer}
@@ -128,31 +129,31 @@ module _ {R E T A S C : List ℕ} {count at scope top : ℕ} where
     unary-kept : Unary R at → Kept S S′ C C′ at (getD E at 0) top
     unfolding size
     unary-kept u = unary-case R at u
-        (λ l. by-is-null (p .e) (given-of p) l (λ _. Kept S S′ C C′ at (getD E at 0) top) λ e g.
+        (λ l. by-node Z-is-null (p .e) (given-of p) l (λ _. Kept S S′ C C′ at (getD E at 0) top) λ e g.
         kept-in top (row-of g) (row-of (is-null-child g)) (omega arith) (omega arith) (omega arith) (q .kept))
-        (λ l. by-get (p .e) (given-of p) l (λ _. Kept S S′ C C′ at (getD E at 0) top) λ f e g.
+        (λ l. by-node G-get (p .e) (given-of p) l (λ _. Kept S S′ C C′ at (getD E at 0) top) λ f e g.
         kept-in top (row-of g) (row-of (get-child g)) (omega arith) (omega arith) (omega arith) (q .kept))
-        (λ l. by-cast (p .e) (given-of p) l (λ _. Kept S S′ C C′ at (getD E at 0) top) λ c e g.
+        (λ l. by-node K-cast (p .e) (given-of p) l (λ _. Kept S S′ C C′ at (getD E at 0) top) λ c e g.
         kept-in top (row-of g) (row-of (cast-child g)) (omega arith) (omega arith) (omega arith) (q .kept))
-        (λ l. by-assign (p .e) (given-of p) l (λ _. Kept S S′ C C′ at (getD E at 0) top) λ k e g.
+        (λ l. by-node A-assign (p .e) (given-of p) l (λ _. Kept S S′ C C′ at (getD E at 0) top) λ k e g.
         kept-in top (row-of g) (row-of (assign-child g)) (omega arith) (omega arith) (omega arith) (q .kept))
 
     pub is-null-post : {r : Answer} → getD R (at * 4) 0 ≡ 90 → r ≡ null-tested at (x .typing) (x .effect)
         → Post R E T A S C S′ C′ count at scope top r
     is-null-post {r} l e = post-of (unary-kept (inl l)) λ P z γ d g.
-        by-is-null z g l (λ w. Is (world P) w γ at scope S′ C′ r) λ e′ g.
+        by-node Z-is-null z g l (λ w. Is (world P) w γ at scope S′ C′ r) λ e′ g.
         is-null-is (g .headed) at x r (post-is q (is-null-child g)) e
 
     pub cast-post : {r : Answer} → getD R (at * 4) 0 ≡ 75 → r ≡ cast-answer R count at x
         → Post R E T A S C S′ C′ count at scope top r
     cast-post {r} l e = post-of (unary-kept (inr (inr (inl l)))) λ P z γ d g.
-        by-cast z g l (λ w. Is (world P) w γ at scope S′ C′ r) λ c e′ g.
+        by-node K-cast z g l (λ w. Is (world P) w γ at scope S′ C′ r) λ c e′ g.
         cast-is (g .headed) c at x r (cast-row g) (post-is q (cast-child g)) e
 
     pub assign-post : {r : Answer} → getD R (at * 4) 0 ≡ 65 → r ≡ assigned R A S′ at scope x
         → Post R E T A S C S′ C′ count at scope top r
     assign-post {r} l e = post-of (unary-kept (inr (inr (inr l)))) λ P z γ d g.
-        by-assign z g l (λ w. Is (world P) w γ at scope S′ C′ r) λ k e′ g.
+        by-node A-assign z g l (λ w. Is (world P) w γ at scope S′ C′ r) λ k e′ g.
         assign-is (g .headed) k at x r (assign-row g) (room-slots (room-kept (g .room) (q .kept)))
         (post-is q (assign-child g)) e
 
@@ -165,7 +166,7 @@ module _ {R E T A S C : List ℕ} {count at scope top : ℕ} where
         post-of (kept-then (unary-kept (inr (inl l)))
         (kept-classes at (ap length f ∙ k .0) (λ i n. ap (λ (w : List ℕ). getD w i 0) f ∙ k .1 i n)
         (omega arith) (omega (arith, h .end, size-positive (p .e)))))
-        λ P z γ d g. by-get z g l (λ w. Is (world P) w γ at scope S′ C″ r) λ n e′ g.
+        λ P z γ d g. by-node G-get z g l (λ w. Is (world P) w γ at scope S′ C″ r) λ n e′ g.
         get-is (g .headed) n at x r (get-row g .0) (get-row g .1)
         (omega (arith, h .in-ends, g .room .nodes, q .kept .classes-long)) (post-is q (get-child g)) e f
 
@@ -176,7 +177,8 @@ module _ {R E T A S C : List ℕ} {count at scope top : ℕ} where
         record {
           row = leaf-row p;
           noted-at = omega (arith, i .1, i .2, q .kept .classes-long);
-          field = λ c e. by-get (p .e) (given-of p) l (λ _. PreField R T c (getD R (at * 4 + 1) 0) × (c ≤ 64))
+          field = λ c e. by-node G-get (p .e) (given-of p) l
+              (λ _. PreField R T c (getD R (at * 4 + 1) 0) × (c ≤ 64))
               λ f e′ g.
               let w = did (get-child g) q (ap is-refusal e) in
               let t = case-known (w .a .type) c (sym (ap (λ (y : Answer). y .typing) (w .is)) ∙ e) in
@@ -195,7 +197,8 @@ module _ {R E T A S C : List ℕ} {count at scope top : ℕ} where
         go (refuse n l) f = rw (i .out, f) tt
 
     pub assign-pre : getD R (at * 4) 0 ≡ 65 → PreAssign R A S′ at scope (x .typing)
-    assign-pre l = by-assign (p .e) (given-of p) l (λ _. PreAssign R A S′ at scope (x .typing)) λ k e g.
+    assign-pre l = by-node A-assign (p .e) (given-of p) l (λ _. PreAssign R A S′ at scope (x .typing))
+        λ k e g.
         let ls = room-slots (room-kept (g .room) (q .kept)) in
         record {
           row = leaf-row p;

@@ -18,8 +18,7 @@ use Rattle.bodies.proofs.Turns.{Given, given-of, pre-of, post-of, in-ro
 use Rattle.bodies.proofs.Turns.{room-child, room-kept, is-refused, bind-refused, bind-accepted}
 use Rattle.bodies.proofs.Turns.{looks-kept}
 use Rattle.bodies.proofs.SetNode.{put-kept, pre-put, set-is}
-use Rattle.bodies.proofs.TurnsNodes.{Did, did, failed, after-row, kept-in, row-of}
-use Rattle.bodies.proofs.TurnsNodes.{by-set}
+use Rattle.bodies.proofs.TurnsNodes.{Did, did, failed, after-row, kept-in, row-of, by-node}
 
 -- its children, and its row
 module _ {R E T A S C : List ℕ} {count at scope top : ℕ} {P : List Class} {γ : Environment} {d : ℕ} where
@@ -55,25 +54,27 @@ module _ {R E T A S C : List ℕ} {count at scope top : ℕ} {P : List Class} {�
 module _ {R E T A S C : List ℕ} {count at scope top : ℕ} (p : Pre R E T A S C count at scope top)
     (l : getD R (at * 4) 0 ≡ 85) where
   pub write-first : Pre R E T A S C count (at + 1) scope top
-  write-first = by-set (p .e) (given-of p) l (λ _. Pre R E T A S C count (at + 1) scope top) λ f e e′ g.
+  write-first = by-node U-set (p .e) (given-of p) l (λ _. Pre R E T A S C count (at + 1) scope top)
+      λ f e e′ g.
       pre-of (set-first g)
 
   module _ {S′ C′ : List ℕ} {x : Answer} (q : Post R E T A S C S′ C′ count (at + 1) scope top x) where
     kept-first : Kept S S′ C C′ at (getD E at 0) top
     unfolding size
-    kept-first = by-set (p .e) (given-of p) l (λ _. Kept S S′ C C′ at (getD E at 0) top) λ f e e′ g.
+    kept-first = by-node U-set (p .e) (given-of p) l (λ _. Kept S S′ C C′ at (getD E at 0) top) λ f e e′ g.
         kept-in top (row-of g) (row-of (set-first g)) (omega arith) (omega arith) (omega arith) (q .kept)
 
     pub write-fail : is-refusal (x .typing) ≡ true → Post R E T A S C S′ C′ count at scope top x
     unfolding type-of
     write-fail f = post-of kept-first λ P z γ d g.
-        by-set z g l (λ w. Is (world P) w γ at scope S′ C′ x) λ n e e′ g.
+        by-node U-set z g l (λ w. Is (world P) w γ at scope S′ C′ x) λ n e e′ g.
         let w = failed (set-first g) q f in
         is-refused (w .n) (w .l) (bind-refused _ _ _ _ (w .typed-at)) (w .is)
 
     module _ (ok : is-refusal (x .typing) ≡ false) where
       pub write-second : Pre R E T A S′ C′ count (getD E (at + 1) 0) scope top
-      write-second = by-set (p .e) (given-of p) l (λ _. Pre R E T A S′ C′ count (getD E (at + 1) 0) scope top)
+      write-second = by-node U-set (p .e) (given-of p) l
+          (λ _. Pre R E T A S′ C′ count (getD E (at + 1) 0) scope top)
           λ f e e′ g.
           subst (λ (n : ℕ). Pre R E T A S′ C′ count n scope top) (sym (row-of (set-first g) .end))
           (pre-of (set-second g (q .kept) (did (set-first g) q ok)))
@@ -88,7 +89,8 @@ module _ {R E T A S C : List ℕ} {count at scope top : ℕ} (p : Pre R E T A S 
 
         kept-second : Kept S S″ C C″ at (getD E at 0) top
         unfolding size
-        kept-second = by-set (p .e) (given-of p) l (λ _. Kept S S″ C C″ at (getD E at 0) top) λ f e e′ g.
+        kept-second = by-node U-set (p .e) (given-of p) l (λ _. Kept S S″ C C″ at (getD E at 0) top)
+            λ f e e′ g.
             kept-then kept-first
             (kept-in top (row-of g) (row-of (set-second g (q .kept) (did (set-first g) q ok)))
             (omega arith) (omega arith) (omega arith) (second g .kept))
@@ -96,7 +98,7 @@ module _ {R E T A S C : List ℕ} {count at scope top : ℕ} (p : Pre R E T A S 
         pub write-fail-second : is-refusal (y .typing) ≡ true → Post R E T A S C S″ C″ count at scope top y
         unfolding type-of
         write-fail-second f = post-of kept-second λ P z γ d g.
-            by-set z g l (λ w. Is (world P) w γ at scope S″ C″ y) λ n e e′ g.
+            by-node U-set z g l (λ w. Is (world P) w γ at scope S″ C″ y) λ n e e′ g.
             let u = did (set-first g) q ok in
             let w = failed (set-second g (q .kept) u) (second g) f in
             let line : at + 1 + size e + 1 ≡ at + 1 + 1 + size e = omega arith in
@@ -109,7 +111,7 @@ module _ {R E T A S C : List ℕ} {count at scope top : ℕ} (p : Pre R E T A S 
         in-classes = let i = in-row p in omega (arith, i .1, i .2, kept-second .classes-long)
 
         pub write-pre : is-refusal (y .typing) ≡ false → PrePut R T A C″ at (x .typing) y
-        write-pre f = by-set (p .e) (given-of p) l (λ _. PrePut R T A C″ at (x .typing) y) λ n e e′ g.
+        write-pre f = by-node U-set (p .e) (given-of p) l (λ _. PrePut R T A C″ at (x .typing) y) λ n e e′ g.
             let u = did (set-first g) q ok in
             let w = did (set-second g (q .kept) u) (second g) f in
             let r = set-row g in
@@ -122,7 +124,7 @@ module _ {R E T A S C : List ℕ} {count at scope top : ℕ} (p : Pre R E T A S 
         write-done {C‴} {r} f e₁ e₂ =
             let k = put-kept R T A C″ C‴ at x y e₂ in
             post-of (kept-then kept-second (kept-classes at (k .0) (k .1) (omega arith) (after-row p)))
-            λ P z γ d g. by-set z g l (λ w. Is (world P) w γ at scope S″ C‴ r) λ n e e′ g.
+            λ P z γ d g. by-node U-set z g l (λ w. Is (world P) w γ at scope S″ C‴ r) λ n e e′ g.
             let u = did (set-first g) q ok in
             let w = did (set-second g (q .kept) u) (second g) f in
             let v = set-row g in

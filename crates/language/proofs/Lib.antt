@@ -6,3 +6,4 @@ pub mod Tables
 pub mod Effects
 pub mod Classes
 pub mod Lines
+pub mod Nodes

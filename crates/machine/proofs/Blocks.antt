@@ -22,14 +22,15 @@ use Rattle.objects.specs.Holding.{NamedAll, Named, Within, WithinAll}
 use Rattle.machine.specs.Contracts.{Ready, PreEntered, PostNode, PreList, PostItems, Opened, Locals}
 use Rattle.machine.specs.Contracts.{evaluated-all}
 use Rattle.objects.specs.Holding.{first-of-type}
-use Rattle.machine.proofs.Letters.{told-by, head, as-block}
+use Rattle.machine.proofs.Letters.{as-block}
 use Rattle.language.specs.Results.{ok, stop, bind}
 use Rattle.language.specs.Tree.{Exprs, count, Class, DeclaredType, bool, class, type-number, block}
 use Rattle.language.specs.Encoded.{TypesAt, Encoded, EncodedAll}
 use Rattle.language.specs.Rows.{V-local}
-use Rattle.language.proofs.Lines.{line-at}
 use Rattle.language.specs.Evaluation.{Value as Meaning, null, Out, last-value, initial, with-frame}
 use Rattle.language.specs.Store.{capacity}
+use Rattle.language.proofs.Nodes.{head}
+use Rattle.language.proofs.Lines.{line-at}
 
 -- the place inside a block
 abbrev pub inner : Place → ℕ → Place
@@ -91,7 +92,7 @@ pub block-apart : {R E T A s l : List ℕ} {at : ℕ} {q : Place} {n : Counts} (
     → getD R (at * 4) 0 ≡ 66
     → (ts : List DeclaredType) × (es : Exprs) × BlockAt R E T A s l at q n (p .P) ts es (p .d) (n .left) 0
 block-apart {at = at} {n = n} p h =
-    let x = as-block (told-by (head (p .e) (p .encoded)) h) in (
+    let x = as-block (head (p .e) (p .encoded)) h in (
       x .0,
       x .1,
       block-parts {at = at} (p .P) (x .0) (x .1) (p .d) (n .left) 0 (p .ready)
@@ -222,7 +223,7 @@ unfolding inside
 block-done {R} {E} {T} {A} {s} {l} {l′} {s″} {l″} at {q} {n} {r} h w p = record {
   done = λ P e d F k f enc wi z.
       let v : ℕ = getD R (at * 4 + 1) 0 in
-      let y = as-block (told-by (head e enc) h) in
+      let y = as-block (head e enc) h in
       let x = block-parts {at = at} P (y .0) (y .1) d F k f (rw (y .2) at enc) (rw (y .2) at wi) z in
       let b = p .done P (y .1) (d - 1) F k (ready-inner x w) (rw (x .locals) (x .enc))
       (rw (x .locals) (x .within)) (x .many) z in

@@ -20,7 +20,7 @@ use Rattle.machine.specs.Contracts.{Ready, Kept, PreEval, PreEntered, Po
 use Rattle.machine.specs.Contracts.{PostArgs, DoneAll, calls-of, evaluated, evaluated-all}
 use Rattle.objects.specs.Contracts.{PreFind, PostFind, Found, NotFound}
 use Rattle.objects.proofs.Values.{bare-ok, bare-stop, value-decoded}
-use Rattle.machine.proofs.Letters.{told-by, head, as-call}
+use Rattle.machine.proofs.Letters.{as-call}
 use Rattle.machine.proofs.Steps.{kept-then, kept-more, kept-as, ready-child, room-same, then-eval}
 use Rattle.language.specs.Results.{ok, stop, bind}
 use Rattle.language.specs.Tree.{Expr, Exprs, cons, count, Class, call}
@@ -33,6 +33,7 @@ use Rattle.language.specs.Encoded.{Encoded, EncodedAll}
 use Rattle.language.specs.Evaluation.{Value as Meaning, null, object, State, Out, Limits, eval, with-limits}
 use Rattle.language.specs.Evaluation.{eval-all, do-call, call-at, with-frame, Object as Thing}
 use Rattle.language.specs.Store.{capacity}
+use Rattle.language.proofs.Nodes.{head}
 
 -- Q taken apart: receiver and arguments are one list
 pub record CallAt (R E T A s l : List ℕ) (at : ℕ) (q : Place) (n : Counts) (P : List Class) (m : ℕ) (a : Expr)
@@ -72,7 +73,7 @@ pub call-apart : {R E T A s l : List ℕ} {at : ℕ} {q : Place} {n : Counts} (p
     → getD R (at * 4) 0 ≡ 81
     → (m : ℕ) × (a : Expr) × (es : Exprs) × CallAt R E T A s l at q n (p .P) m a es (p .d) (n .left) 0
 call-apart {at = at} {n = n} p h =
-    let x = as-call (told-by (head (p .e) (p .encoded)) h) in (
+    let x = as-call (head (p .e) (p .encoded)) h in (
       x .0,
       x .1,
       x .2,
@@ -169,7 +170,7 @@ module _ {R E T A s l s′ l′ : List ℕ} (at : ℕ) {q : Place} {n : Counts} 
     pub call-fail : ((v : Value) → r .outcome ≡ Gave v → ⊥) → PostNode R E T A s l s′ l′ at q n r
     call-fail not = record {
       done = λ P e d F k f enc w z.
-          let y = as-call (told-by (head e enc) h) in
+          let y = as-call (head e enc) h in
           let x = call-parts {at = at} P (y .0) (y .1) (y .2) d F k f (rw (y .3) at enc) (rw (y .3) at w) z in
           let m = args-done x g in
           let K : Method → State → Out Meaning = λ M t. calls-of P F (capacity s) (q .calls) M t in
@@ -298,7 +299,7 @@ module _ {R E T A s l s′ l′ : List ℕ} (at : ℕ) {q : Place} {n : Counts} 
       → PostNode R E T A s l s′ l′ at q n (answer (outcome o) (r .counts))
   call-ends {o} u p = record {
     done = λ P e d F k f enc wi z.
-        let y = as-call (told-by (head e enc) h) in
+        let y = as-call (head e enc) h in
         let x = call-parts {at = at} P (y .0) (y .1) (y .2) d F k f (rw (y .3) at enc) (rw (y .3) at wi) z in
         let kp = kept-args x g in
         let K : Method → State → Out Meaning = λ M t. calls-of P F (capacity s) (q .calls) M t in
@@ -323,7 +324,7 @@ module _ {R E T A s l s′ l′ : List ℕ} (at : ℕ) {q : Place} {n : Counts} 
       → PostNode R E T A s l s″ l″ at q n r′
   call-done {s″} {l″} {r′} {b} u p g′ = record {
     done = λ P e d F k f enc wi z.
-        let y = as-call (told-by (head e enc) h) in
+        let y = as-call (head e enc) h in
         let x = call-parts {at = at} P (y .0) (y .1) (y .2) d F k f (rw (y .3) at enc) (rw (y .3) at wi) z in
         let kp = kept-args x g in
         let fo = found x g u p in

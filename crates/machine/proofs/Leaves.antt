@@ -14,6 +14,7 @@ use Rattle.language.specs.Tree.{new, Class}
 use Rattle.language.specs.Program.{world}
 use Rattle.language.specs.Encoded.{Encoded}
 use Rattle.language.specs.Evaluation.{Value as Meaning, State, Out, need, is-null-value, do-change}
+use Rattle.language.proofs.Nodes.{head}
 use Rattle.objects.specs.declared.Value.{Value}
 use Rattle.objects.specs.declared.Value.the-variants.{Null, Truth}
 use Rattle.objects.specs.Values.{Outcome, Gave, Raised, Stopped, Stuck, Counts, decoded, outcome, Answer}
@@ -27,7 +28,7 @@ use Rattle.machine.specs.Contracts.{Ready, Done, PreLeaf, PostLeaf, Post
 use Rattle.machine.specs.Contracts.{PostApply, Wrote}
 use Rattle.objects.proofs.Values.{outcome-value}
 use Rattle.objects.proofs.Acts.{stored-same}
-use Rattle.machine.proofs.Letters.{told-by, head, as-literal-true, as-literal-false, as-literal-null}
+use Rattle.machine.proofs.Letters.{as-literal-true, as-literal-false, as-literal-null}
 use Rattle.machine.proofs.Letters.{as-slot}
 use Rattle.machine.proofs.Letters.{as-new, as-change, as-is-null, as-get, as-cast, as-assign}
 use Rattle.machine.proofs.Nodes.{rest-change, rest-assign}
@@ -83,7 +84,7 @@ module _ {R T s l : List ℕ} {at : ℕ} {q : Place} {n : Counts} where
   leaf-true h = record {
     post = λ E A. record {
       done = λ P e d F k f enc w z.
-          let c = as-literal-true (told-by (head e enc) h) in
+          let c = as-literal-true (head e enc) h in
           done-same (Gave (Truth true)) F k f (omega arith) z (rw c);
     };
   }
@@ -93,7 +94,7 @@ module _ {R T s l : List ℕ} {at : ℕ} {q : Place} {n : Counts} where
   leaf-false h = record {
     post = λ E A. record {
       done = λ P e d F k f enc w z.
-          let c = as-literal-false (told-by (head e enc) h) in
+          let c = as-literal-false (head e enc) h in
           done-same (Gave (Truth false)) F k f (omega arith) z (rw c);
     };
   }
@@ -103,7 +104,7 @@ module _ {R T s l : List ℕ} {at : ℕ} {q : Place} {n : Counts} where
   leaf-null h = record {
     post = λ E A. record {
       done = λ P e d F k f enc w z.
-          let c = as-literal-null (told-by (head e enc) h) in
+          let c = as-literal-null (head e enc) h in
           done-same (Gave Null) F k f (omega arith) z (rw c);
     };
   }
@@ -114,7 +115,7 @@ module _ {R T s l : List ℕ} {at : ℕ} {q : Place} {n : Counts} where
   leaf-slot o h p = record {
     post = λ E A. record {
       done = λ P e d F k f enc w z.
-          let c = as-slot (told-by (head e enc) h) in
+          let c = as-slot (head e enc) h in
           let enc′ = rw (c .1) at enc in
           done-same o F k f (p .small) z (rw (c .1, ← enc′ .row .first) (p .is (state P s l q n k)));
     };
@@ -124,7 +125,7 @@ module _ {R T s l : List ℕ} {at : ℕ} {q : Place} {n : Counts} where
       → PreNew R T s (getD R (at * 4 + 1) 0) (n .made)
   unfolding Encoded Within
   pre-new p h =
-      let c = as-new (told-by (head (p .node .e) (p .node .encoded)) h) in
+      let c = as-new (head (p .node .e) (p .node .encoded)) h in
       let enc = rw (c .1) at (p .node .encoded) in
       let w = rw (c .1) at (p .node .within) in
       record {
@@ -142,7 +143,7 @@ module _ {R T s l : List ℕ} {at : ℕ} {q : Place} {n : Counts} where
   leaf-new h p = record {
     post = λ E A. record {
       done = λ P e d F k f enc w z.
-          let c = as-new (told-by (head e enc) h) in
+          let c = as-new (head e enc) h in
           let enc′ = rw (c .1) at enc in
           let w′ = rw (c .1) at w in
           rw (c .1, ← enc′ .row .first)
@@ -155,7 +156,7 @@ module _ {R T s l : List ℕ} {at : ℕ} {q : Place} {n : Counts} where
       → PreChange R T s v (getD R (at * 4 + 2) 0) n
   unfolding Encoded Within
   pre-change v p h m =
-      let c = as-change (told-by (head (p .node .e) (p .node .encoded)) h) in
+      let c = as-change (head (p .node .e) (p .node .encoded)) h in
       let enc = rw (c .2) at (p .node .encoded) in
       let w = rw (c .2) at (p .node .within) in
       record {
@@ -177,7 +178,7 @@ module _ {R T s l : List ℕ} {at : ℕ} {q : Place} {n : Counts} where
   change-missing o h p not = record {
     post = λ E A. record {
       done = λ P e d F k f enc w z.
-          let c = as-change (told-by (head e enc) h) in
+          let c = as-change (head e enc) h in
           let enc′ = rw (c .2) at enc in
           done-same o F k f (p .small) z
           (rw (c .2, ← enc′ .row .first)
@@ -202,7 +203,7 @@ module _ {R T s l : List ℕ} {at : ℕ} {q : Place} {n : Counts} where
   change-done {s′} {r} o v h p g ch = record {
     post = λ E A. record {
       done = λ P e d F k f enc w z.
-          let c = as-change (told-by (head e enc) h) in
+          let c = as-change (head e enc) h in
           let enc′ = rw (c .2) at enc in
           let w′ = rw (c .2) at w in
           let i : ℕ = getD R (at * 4 + 1) 0 in
@@ -237,7 +238,7 @@ module _ {R T A s l : List ℕ} {at : ℕ} {q : Place} {n : Counts} {v : Value} 
       → PreObject T s (n .made) × (getD R (at * 4 + 1) 0 < 256)
   unfolding Encoded Within
   pre-load p h =
-      let c = as-get (told-by (head (p .node .e) (p .node .encoded)) h) in
+      let c = as-get (head (p .node .e) (p .node .encoded)) h in
       let enc = rw (c .2) at (p .node .encoded) in
       let w = rw (c .2) at (p .node .within) in (
         record {
@@ -255,7 +256,7 @@ module _ {R T A s l : List ℕ} {at : ℕ} {q : Place} {n : Counts} {v : Value} 
       → PreCast A s (getD R (at * 4 + 1) 0) (n .made)
   unfolding Encoded Within
   pre-cast p h =
-      let c = as-cast (told-by (head (p .node .e) (p .node .encoded)) h) in
+      let c = as-cast (head (p .node .e) (p .node .encoded)) h in
       let enc = rw (c .2) at (p .node .encoded) in
       let w = rw (c .2) at (p .node .within) in
       record {
@@ -279,7 +280,7 @@ module _ {R T A s l : List ℕ} {at : ℕ} {q : Place} {n : Counts} {v : Value} 
   unfolding bare after
   apply-test b h g = record {
     applied = λ E P e d f enc w.
-        let c = as-is-null (told-by (head e enc) h) in
+        let c = as-is-null (head e enc) h in
         record { long = refl; same = λ i o. refl; small = small b; is = λ k. rw (c .1, g) };
   }
     where
@@ -292,7 +293,7 @@ module _ {R T A s l : List ℕ} {at : ℕ} {q : Place} {n : Counts} {v : Value} 
   unfolding after Encoded
   apply-get r h p = record {
     applied = λ E P e d f enc w.
-        let c = as-get (told-by (head e enc) h) in
+        let c = as-get (head e enc) h in
         let enc′ = rw (c .2) at enc in
         let a = p .acts R E A P (f .holds) (f .sound) in
         record {
@@ -308,7 +309,7 @@ module _ {R T A s l : List ℕ} {at : ℕ} {q : Place} {n : Counts} {v : Value} 
   unfolding after Encoded Within
   apply-cast r h p = record {
     applied = λ E P e d f enc w.
-        let c = as-cast (told-by (head e enc) h) in
+        let c = as-cast (head e enc) h in
         let enc′ = rw (c .2) at enc in
         let w′ = rw (c .2) at w in
         let a = p .acts R E T P (f .holds) (f .sound) (omega (arith, enc′ .0 .row .first, w′ .1)) in
@@ -325,7 +326,7 @@ module _ {R T A s l : List ℕ} {at : ℕ} {q : Place} {n : Counts} {v : Value} 
   unfolding after Encoded bare
   apply-assign h p m = record {
     applied = λ E P e d f enc w.
-        let c = as-assign (told-by (head e enc) h) in
+        let c = as-assign (head e enc) h in
         let enc′ = rw (c .2) at enc in
         record {
           long = p .long;

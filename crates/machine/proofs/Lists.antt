@@ -9,6 +9,7 @@ use Rattle.language.specs.Tree.{Expr, Exprs, nil, cons, count, Class, size}
 use Rattle.language.specs.Encoded.{Encoded, EncodedAll}
 use Rattle.language.specs.Evaluation.{Value as Meaning, State, Out, eval-all, last-value}
 use Rattle.language.specs.Store.{capacity}
+use Rattle.language.proofs.Nodes.{head}
 use Rattle.objects.specs.declared.Value.{Value}
 use Rattle.objects.specs.Values.{Outcome, Gave, Raised, Stopped, Stuck, Counts, Answer, value, Small, bare}
 use Rattle.objects.specs.Values.{told, answer}
@@ -19,7 +20,6 @@ use Rattle.machine.specs.Contracts.{Ready, Done, PreEval, PostEval, PreL
 use Rattle.machine.specs.Contracts.{evaluated-all}
 use Rattle.objects.proofs.Values.{bare-stop, small-of}
 use Rattle.objects.proofs.Acts.{stored-same}
-use Rattle.machine.proofs.Letters.{head}
 use Rattle.machine.proofs.Steps.{kept-then, refit, room-same, gives, kept-of}
 
 -- the first of a list, and the rest

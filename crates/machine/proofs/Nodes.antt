@@ -1,18 +1,20 @@
 -- Nodes with one child; a node that is entered; what a letter tells that is none of some others. Assumes nothing.
 use mathlib.Core.Path.{_≡_, refl, sym}
+use mathlib.Core.Logic.{_≢_}
 use mathlib.Core.Bool.{true, false, false≢true}
 use mathlib.Core.List.{List}
 use Prim.Native.Nat.{ℕ, _+_, _-_, _<_}
 use Rattle.language.specs.Results.{bind}
 use Rattle.language.specs.Tree.{Expr, literal-true, literal-false, literal-null, slot, is-null}
 use Rattle.language.specs.Tree.{get, cast, new, change, assign, set, call, choose, block}
+use Rattle.language.specs.Rows.{code}
 use Rattle.language.specs.World.{World, Method}
 use Rattle.language.specs.Encoded.{Encoded}
 use Rattle.language.specs.Evaluation.{Value as Meaning, State, Out, Limits, enter, eval}
+use Rattle.language.proofs.Nodes.{letter-of}
 use Rattle.objects.specs.Holding.{Within}
 use Rattle.machine.specs.Machine.{inside, after}
 use Rattle.machine.specs.Contracts.{one-child, no-child}
-use Rattle.machine.proofs.Letters.{code-of}
 
 -- a node has one child
 pub data OneChild : Expr → Type 0 where
@@ -21,7 +23,7 @@ pub data OneChild : Expr → Type 0 where
   one-cast : {c : ℕ} {e : Expr} → OneChild (cast c e)
   one-assign : {k : ℕ} {e : Expr} → OneChild (assign k e)
 
-pub one-of : (e : Expr) → one-child (code-of e) ≡ true → OneChild e
+pub one-of : (e : Expr) → one-child (code (letter-of e)) ≡ true → OneChild e
 one-of literal-true h = absurd (false≢true h)
 one-of literal-false h = absurd (false≢true h)
 one-of literal-null h = absurd (false≢true h)
@@ -96,8 +98,9 @@ module _ (W : World) (L : Limits) (K : Method → State → Out Meaning) where
   eval-inside (block ts es) s = refl
 
 -- what has a child and is none of the others has one
-pub rest-one-child : (e : Expr) → no-child (code-of e) ≡ false → (code-of e ≡ 66 → ⊥) → (code-of e ≡ 74 → ⊥)
-    → (code-of e ≡ 81 → ⊥) → (code-of e ≡ 85 → ⊥) → one-child (code-of e) ≡ true
+pub rest-one-child : (e : Expr) → no-child (code (letter-of e)) ≡ false → code (letter-of e) ≢ 66
+    → code (letter-of e) ≢ 74 → code (letter-of e) ≢ 81 → code (letter-of e) ≢ 85
+    → one-child (code (letter-of e)) ≡ true
 rest-one-child literal-true h h₁ h₂ h₃ h₄ = absurd (false≢true (sym h))
 rest-one-child literal-false h h₁ h₂ h₃ h₄ = absurd (false≢true (sym h))
 rest-one-child literal-null h h₁ h₂ h₃ h₄ = absurd (false≢true (sym h))
@@ -114,8 +117,9 @@ rest-one-child (choose a b c) h h₁ h₂ h₃ h₄ = absurd (h₂ refl)
 rest-one-child (block ts es) h h₁ h₂ h₃ h₄ = absurd (h₁ refl)
 
 -- what has no child and is none of the others is R
-pub rest-change : (e : Expr) → no-child (code-of e) ≡ true → (code-of e ≡ 84 → ⊥) → (code-of e ≡ 76 → ⊥)
-    → (code-of e ≡ 78 → ⊥) → (code-of e ≡ 73 → ⊥) → (code-of e ≡ 87 → ⊥) → code-of e ≡ 82
+pub rest-change : (e : Expr) → no-child (code (letter-of e)) ≡ true → code (letter-of e) ≢ 84
+    → code (letter-of e) ≢ 76 → code (letter-of e) ≢ 78 → code (letter-of e) ≢ 73 → code (letter-of e) ≢ 87
+    → code (letter-of e) ≡ 82
 rest-change literal-true h h₁ h₂ h₃ h₄ h₅ = absurd (h₁ refl)
 rest-change literal-false h h₁ h₂ h₃ h₄ h₅ = absurd (h₂ refl)
 rest-change literal-null h h₁ h₂ h₃ h₄ h₅ = absurd (h₃ refl)
@@ -131,8 +135,8 @@ rest-change (call m e es) h h₁ h₂ h₃ h₄ h₅ = absurd (false≢true h)
 rest-change (choose a b c) h h₁ h₂ h₃ h₄ h₅ = absurd (false≢true h)
 rest-change (block ts es) h h₁ h₂ h₃ h₄ h₅ = absurd (false≢true h)
 
-pub rest-assign : (e : Expr) → one-child (code-of e) ≡ true → (code-of e ≡ 90 → ⊥) → (code-of e ≡ 71 → ⊥)
-    → (code-of e ≡ 75 → ⊥) → code-of e ≡ 65
+pub rest-assign : (e : Expr) → one-child (code (letter-of e)) ≡ true → code (letter-of e) ≢ 90
+    → code (letter-of e) ≢ 71 → code (letter-of e) ≢ 75 → code (letter-of e) ≡ 65
 rest-assign literal-true h h₁ h₂ h₃ = absurd (false≢true h)
 rest-assign literal-false h h₁ h₂ h₃ = absurd (false≢true h)
 rest-assign literal-null h h₁ h₂ h₃ = absurd (false≢true h)

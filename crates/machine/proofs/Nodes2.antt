@@ -10,6 +10,7 @@ use Rattle.language.specs.Program.{world}
 use Rattle.language.specs.Encoded.{Encoded}
 use Rattle.language.specs.Evaluation.{do-set}
 use Rattle.language.specs.Store.{capacity}
+use Rattle.language.proofs.Nodes.{head}
 use Rattle.objects.specs.declared.Value.{Value}
 use Rattle.objects.specs.Values.{Outcome, Gave, Counts, Answer, value, answer}
 use Rattle.machine.specs.declared.Place.{Place}
@@ -17,7 +18,7 @@ use Rattle.machine.specs.Machine.{state, frame-of, inside}
 use Rattle.objects.specs.Holding.{Within}
 use Rattle.machine.specs.Contracts.{Ready, Done, PreEval, PreEntered, PostEval, PostNode, evaluated}
 use Rattle.objects.specs.Contracts.{PostSave, PreObject}
-use Rattle.machine.proofs.Letters.{told-by, head, as-set}
+use Rattle.machine.proofs.Letters.{as-set}
 use Rattle.machine.proofs.Steps
 use Rattle.machine.proofs.Steps.{kept-then, kept-more, ready-child, refit, room-same, then-eval, fails}
 use Rattle.machine.proofs.Steps.{gives, kept-of}
@@ -62,7 +63,7 @@ pub set-apart : {R E T A s l : List ℕ} {at : ℕ} {q : Place} {n : Counts} (p 
     → getD R (at * 4) 0 ≡ 85
     → (f : ℕ) × (a : Expr) × (b : Expr) × SetAt R E T A s l at q n (p .P) f a b (p .d) (n .left) 0
 set-apart {at = at} {n = n} p h =
-    let c = as-set (told-by (head (p .e) (p .encoded)) h) in (
+    let c = as-set (head (p .e) (p .encoded)) h in (
       c .0,
       c .1,
       c .2,
@@ -113,7 +114,7 @@ pub set-fail : {R E T A s l s′ l′ : List ℕ} (at : ℕ) {q : Place} {n : Co
 unfolding inside
 set-fail {R} {E} {T} {A} {s} {l} {s′} {l′} at {q} {n} {r} h g not = record {
   done = λ P e d F k f enc w z.
-      let c = as-set (told-by (head e enc) h) in
+      let c = as-set (head e enc) h in
       let x = set-parts {at = at} P (c .0) (c .1) (c .2) d F k f (rw (c .3) at enc) (rw (c .3) at w) z in
       let a = g .done P (c .1) (d - 1) F k (ready-child 1 (d - 1) f (omega arith)) (x .enc-a) (x .within-a)
       z in
@@ -144,7 +145,7 @@ module _ {R E T A s l s′ l′ s″ l″ : List ℕ} (at : ℕ) {q : Place} {n 
   unfolding inside
   set-fail-second not = record {
     done = λ P e d F k f enc w z.
-        let c = as-set (told-by (head e enc) h) in
+        let c = as-set (head e enc) h in
         let x = set-parts {at = at} P (c .0) (c .1) (c .2) d F k f (rw (c .3) at enc) (rw (c .3) at w) z in
         let b = second-done x in
         record {
@@ -163,7 +164,7 @@ module _ {R E T A s l s′ l′ s″ l″ : List ℕ} (at : ℕ) {q : Place} {n 
   unfolding inside
   set-done {s‴} {w} y t′ p = record {
     done = λ P e d F k f enc wi z.
-        let c = as-set (told-by (head e enc) h) in
+        let c = as-set (head e enc) h in
         let x = set-parts {at = at} P (c .0) (c .1) (c .2) d F k f (rw (c .3) at enc) (rw (c .3) at wi) z in
         let a = first-done x g t in
         let b = second-done x in

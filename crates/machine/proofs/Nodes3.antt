@@ -15,6 +15,7 @@ use Rattle.language.specs.Tree.{Expr, choose, Class, size}
 use Rattle.language.specs.Encoded.{Encoded}
 use Rattle.language.specs.Evaluation.{Value as Meaning, truth, State, Out, need-truth}
 use Rattle.language.specs.Store.{capacity}
+use Rattle.language.proofs.Nodes.{head}
 use Rattle.objects.specs.declared.Value.{Value}
 use Rattle.objects.specs.declared.Value.the-variants.{Null, Truth, Object}
 use Rattle.objects.specs.Values.{Gave, Stuck, Counts, Answer, value, bare, told, answer}
@@ -23,7 +24,7 @@ use Rattle.machine.specs.Machine.{state, inside}
 use Rattle.objects.specs.Holding.{Within}
 use Rattle.machine.specs.Contracts.{Ready, Done, PreEval, PreEntered, PostEval, PostNode, evaluated}
 use Rattle.objects.proofs.Value.{the-type}
-use Rattle.machine.proofs.Letters.{told-by, head, as-choose}
+use Rattle.machine.proofs.Letters.{as-choose}
 use Rattle.machine.proofs.Steps.{kept-then, kept-more, kept-as, ready-child, refit, room-same}
 use Rattle.machine.proofs.Steps.{then-eval, fails, gives}
 
@@ -69,7 +70,7 @@ pub choose-apart : {R E T A s l : List ℕ} {at : ℕ} {q : Place} {n : Counts}
     (p : PreEntered R E T A s l at q n) → getD R (at * 4) 0 ≡ 74
     → (a : Expr) × (b : Expr) × (c : Expr) × ChooseAt R E T A s l at q n (p .P) a b c (p .d) (n .left) 0
 choose-apart {at = at} {n = n} p h =
-    let x = as-choose (told-by (head (p .e) (p .encoded)) h) in (
+    let x = as-choose (head (p .e) (p .encoded)) h in (
       x .0,
       x .1,
       x .2,
@@ -131,7 +132,7 @@ module _ {R E T A s l s′ l′ : List ℕ} (at : ℕ) {q : Place} {n : Counts} 
   unfolding inside
   choose-fail not = record {
     done = λ P e d F k f enc w z.
-        let y = as-choose (told-by (head e enc) h) in
+        let y = as-choose (head e enc) h in
         let x = choose-parts {at = at} P (y .0) (y .1) (y .2) d F k f (rw (y .3) at enc) (rw (y .3) at w) z in
         let m = condition-done x g in
         record {
@@ -149,7 +150,7 @@ module _ {R E T A s l s′ l′ : List ℕ} (at : ℕ) {q : Place} {n : Counts} 
   unfolding inside bare
   choose-stuck {v} t o = record {
     done = λ P e d F k f enc w z.
-        let y = as-choose (told-by (head e enc) h) in
+        let y = as-choose (head e enc) h in
         let x = choose-parts {at = at} P (y .0) (y .1) (y .2) d F k f (rw (y .3) at enc) (rw (y .3) at w) z in
         let m = condition-done x g in
         let c = gives (state P s′ l′ q (r .counts) (F - r .counts .left))
@@ -177,7 +178,7 @@ module _ {R E T A s l s′ l′ : List ℕ} (at : ℕ) {q : Place} {n : Counts} 
       unfolding inside
       choose-yes u g′ = record {
         done = λ P e d F k f enc w z.
-            let y = as-choose (told-by (head e enc) h) in
+            let y = as-choose (head e enc) h in
             let x = choose-parts {at = at} P (y .0) (y .1) (y .2) d F k f (rw (y .3) at enc) (rw (y .3) at w)
             z in
             let m = condition-done x g in
@@ -195,7 +196,7 @@ module _ {R E T A s l s′ l′ : List ℕ} (at : ℕ) {q : Place} {n : Counts} 
       unfolding inside
       choose-no u g′ = record {
         done = λ P e d F k f enc w z.
-            let y = as-choose (told-by (head e enc) h) in
+            let y = as-choose (head e enc) h in
             let x = choose-parts {at = at} P (y .0) (y .1) (y .2) d F k f (rw (y .3) at enc) (rw (y .3) at w)
             z in
             let m = condition-done x g in

@@ -14,6 +14,7 @@ use Rattle.language.specs.Program.{world}
 use Rattle.language.specs.Encoded.{Encoded}
 use Rattle.language.specs.Evaluation.{Value as Meaning, State, Out, with-limits}
 use Rattle.language.specs.Store.{capacity}
+use Rattle.language.proofs.Nodes.{head}
 use Rattle.objects.specs.declared.Value.{Value}
 use Rattle.objects.specs.Values.{Outcome, Gave, Raised, Stopped, Stuck, Counts, counts-in, Answer, value}
 use Rattle.objects.specs.Values.{SmallOutcome, bare, told, answer}
@@ -26,7 +27,6 @@ use Rattle.machine.specs.Contracts.{PreLeaf, PreApply, PostApply, calls-
 use Rattle.machine.specs.Contracts.{one-child}
 use Rattle.objects.proofs.Values.{bare-ok, bare-stop, small-of}
 use Rattle.objects.proofs.Acts.{stored-same}
-use Rattle.machine.proofs.Letters.{head}
 use Rattle.machine.proofs.Nodes.{OneChild, one-of, child, one-encoded, one-within, one-inside}
 use Rattle.machine.proofs.Nodes.{eval-inside, rest-one-child}
 

@@ -12,13 +12,14 @@ use Rattle.language.specs.Tree.{Expr, size, Field, Class}
 use Rattle.language.specs.Program.{world}
 use Rattle.language.specs.Typing.{Environment}
 use Rattle.language.specs.Translation.{Shape, plain-slot, translate}
+use Rattle.language.proofs.Nodes.{EachTree, head, by-row}
 use Rattle.plain.specs.Numbers.{most-numbers, node-numbers, how-many, rows-taken, slot-lines, new-lines}
 use Rattle.plain.specs.Numbers.{change-lines, renew-lines, renew-head, copy-lines, head-length}
 use Rattle.plain.specs.Emission.{Written, Emitted, SomeChange, ChangeWritten, SomeNode, SomeCast}
 use Rattle.plain.specs.Emission.{SomeSet, SomeCall, SomeBlock, SomeNodes, NodeEmitted, CastEmitted}
 use Rattle.plain.specs.Emission.{SetEmitted, CallEmitted, BlockEmitted, NodesEmitted}
 use Rattle.plain.specs.Tasks.{NodeTask}
-use Rattle.plain.proofs.Letters.{EachTree, by-letter, rest-block, node-at}
+use Rattle.plain.proofs.Letters.{rest-block}
 use Rattle.plain.proofs.Writing.{written-then, whole}
 use Rattle.plain.proofs.Numbers.{n-true, n-false, n-null}
 use Rattle.plain.proofs.Translated.{t-slot, t-is-null, t-assign, t-get, t-new, t-choose, t-change}
@@ -34,9 +35,8 @@ module _ {R T C S : List ℕ} {at vars next place : ℕ} where
       → EachTree (λ e. NodeTask P E e γ sh R T C S at vars next place → B) l)
       → B
   of-letter {B} l x h g =
-      by-letter (λ (e : Expr). NodeTask (x .P) (x .E) e (x .γ) (x .sh) R T C S at vars next place → B) l
-      (x .e)
-      (sym (node-at R (x .E) at (x .e) (x .task .encoded) .1) ∙ h) (g (x .P) (x .E) (x .γ) (x .sh)) (x .task)
+      by-row (λ (e : Expr). NodeTask (x .P) (x .E) e (x .γ) (x .sh) R T C S at vars next place → B) l
+      (head (x .e) (x .task .encoded)) h (g (x .P) (x .E) (x .γ) (x .sh)) (x .task)
 
   all-letter : {O O′ : List ℕ} {q b : ℕ} (l : Letter) → getD R (at * 4) 0 ≡ code l
       → ((P : List Class) (E : List ℕ) (γ : Environment) (sh : Shape)
@@ -44,11 +44,10 @@ module _ {R T C S : List ℕ} {at vars next place : ℕ} where
       → Emitted (node-numbers (world P) e γ sh) (size e) O O′ place at q b) l)
       → NodeEmitted R T C S O O′ at vars next place q b
   all-letter {O} {O′} {q} {b} l h g = record {
-    each = λ P E e γ sh t. by-letter
+    each = λ P E e γ sh t. by-row
         (λ (e : Expr). NodeTask P E e γ sh R T C S at vars next place
-        → Emitted (node-numbers (world P) e γ sh) (size e) O O′ place at q b) l e
-        (sym (node-at R E at e (t .encoded) .1) ∙ h)
-        (g P E γ sh) t;
+        → Emitted (node-numbers (world P) e γ sh) (size e) O O′ place at q b) l
+        (head e (t .encoded)) h (g P E γ sh) t;
   }
 
   pub row-known : SomeNode R T C S at vars next place
@@ -281,4 +280,4 @@ module _ {R T C S : List ℕ} {at vars next place : ℕ} where
       → getD R (at * 4) 0 ≢ 78 → getD R (at * 4) 0 ≢ 73 → getD R (at * 4) 0 ≢ 90 → getD R (at * 4) 0 ≢ 71
       → getD R (at * 4) 0 ≢ 75 → getD R (at * 4) 0 ≢ 87 → getD R (at * 4) 0 ≢ 82 → getD R (at * 4) 0 ≢ 65
       → getD R (at * 4) 0 ≢ 85 → getD R (at * 4) 0 ≢ 81 → getD R (at * 4) 0 ≢ 74 → getD R (at * 4) 0 ≡ 66
-  rest-letter x = rest-block (x .e) (getD R (at * 4) 0) (node-at R (x .E) at (x .e) (x .task .encoded) .1)
+  rest-letter x = rest-block (x .e) (getD R (at * 4) 0) (head (x .e) (x .task .encoded) .letter)

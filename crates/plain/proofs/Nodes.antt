@@ -14,13 +14,13 @@ use Rattle.language.specs.Translation.{Shape, typed-or}
 use Rattle.language.specs.World.{World}
 use Rattle.language.specs.Encoded.{EncodedAll}
 use Rattle.language.specs.LookupClasses.{LooksUpAll}
+use Rattle.language.proofs.Tables.{size-positive}
 use Rattle.plain.specs.Numbers.{most-numbers, node-numbers, nodes-numbers, arguments-numbers, Nodes}
 use Rattle.plain.specs.Numbers.{none, also, how-many, rows-taken, nodes-of}
 use Rattle.plain.specs.Emission.{Written, Emitted, SomeNode, SomeNodes, SomeArguments, NodeEmitted}
 use Rattle.plain.specs.Emission.{NodesEmitted, ArgumentsEmitted}
 use Rattle.plain.specs.Tasks.{NodeTask, NodesTask, EncodedNodes, LooksUpNodes, ReadyNodes, ReadyAll}
 use Rattle.plain.proofs.Writing.{written-none, written-then, whole}
-use Rattle.plain.proofs.Letters.{size-positive}
 use Rattle.plain.proofs.Tasks.{node-row}
 
 -- the nodes of a block or of a call's arguments

@@ -12,20 +12,20 @@ use Rattle.language.specs.Encoded.{Encoded}
 use Rattle.language.specs.Typing.{Environment, type-of}
 use Rattle.language.specs.Translation.{Shape, typed-or, class-or}
 use Rattle.language.specs.LookupClasses.{LooksUp}
+use Rattle.language.proofs.Nodes.{head}
 use Rattle.plain.specs.Numbers.{most-numbers, node-numbers, nodes-numbers, none, also}
 use Rattle.plain.specs.Emission.{Written, Emitted, NodeEmitted}
 use Rattle.plain.specs.Tasks.{NodeTask, NodesTask, EncodedNodes, LooksUpNodes, ReadyNodes, Ready}
 use Rattle.plain.specs.Tasks.{variable-count}
 use Rattle.plain.proofs.Writing.{written-then, whole}
 use Rattle.plain.proofs.Translated.{t-is-null, t-assign, t-get, t-cast, t-choose}
-use Rattle.plain.proofs.Letters.{node-at}
 use Rattle.plain.proofs.Shapes.{setting-temporaries}
 
 module _ {P : List Class} {E : List ℕ} {γ : Environment} {sh : Shape} {R T C S : List ℕ}
     {at vars next place : ℕ} where
   pub node-row : {e : Expr} → NodeTask P E e γ sh R T C S at vars next place
       → (at * 4 + 3 < length R) × (at < 60000) × (at < length C)
-  node-row {e} t = let h = node-at R E at e (t .encoded) .0 in
+  node-row {e} t = let h = head e (t .encoded) .row in
       (h, omega (arith, h, t .setting .lent .short), omega (arith, h, t .setting .lent .beside))
 
   -- K
