@@ -5,6 +5,7 @@
   tools/proofs.py paths CRATE FN [NEED]   what each need of a function can name, nearest first
   tools/proofs.py expand CRATE FN...      turn @thing into the path `c .before … .thing`, in place
   tools/proofs.py short CRATE [FN...]     name the places of long lines once per need, by `let`
+  tools/proofs.py long CRATE LOG          write them out again in the needs that a note in LOG, of `rt dev`, calls costly
 
 @S is the start of the function: @S .args .x, @S .pre, @S .good. Paths are read from the records that
 `rt dev CRATE --generated DIR` writes; DIR is outside the repository. Run from the repository's root.
@@ -164,14 +165,30 @@ def skel(crate):
 START = r'args(?! \.(?:ensures|result|kept)\b)|pre|good|fits|κs'
 PATH = re.compile(r'\bc((?: \.before){4,}) \.(?:(' + START + r')\b|(?!before\b)([A-Za-z][A-Za-z0-9-]*))')
 NAMED = re.compile(r'let (\S+) = (c(?: \.before)+(?: \.[a-z][A-Za-z0-9-]*)?) in\s+')
+NEED = re.compile(r'(?ms)^(?:pub )?(\S+) :.*?\n(\1 (?:t )?c(?: κs)? =)\s+(.*)$')
 
 def unnamed(body):
     """The paths that `let` names, written out where the name stands."""
-    for name, path in NAMED.findall(body):
-        uses = re.compile(r'(?<![^\s(])' + re.escape(name) + r'(?= \.)')
-        if len(uses.findall(body)) == len(re.findall(r'(?<![^\s(])' + re.escape(name) + r'(?![^\s)])', body)) - 1:
-            body = uses.sub(path, body.replace(f'let {name} = {path} in', '', 1))
-    return body.lstrip()
+    body = re.sub(r'\s+\.before', ' .before', body)
+    left = 0
+    while m := NAMED.search(body, left):
+        before, rest = body[:m.start()], body[m.end():]
+        word = r'(?<![^\s(])' + re.escape(m[1])
+        if re.search(word + r'(?! \.)(?![^\s),;])', rest):
+            left = m.end()
+        else:
+            body = before + re.sub(word + r'(?= \.)', m[2], rest)
+    return body
+
+def long(crate, log):
+    """Where a `large solution` note names a need, its paths are written out again: solutions repeat what a `let` names."""
+    for path, name in set(re.findall(rf'(?m)(crates/{crate}/proofs/[^/\n]+/[^:\n]*):.*large solution.*\(in `(\S+)`\)$', open(log).read())):
+        blocks = re.split(r'(\n\n+)', open(path).read())
+        for i, b in enumerate(blocks):
+            m = NEED.search(b)
+            if m and m[1] == name:
+                blocks[i] = b[:m.end(2)] + ' ' + unnamed(m[3])
+        open(path, 'w').write(''.join(blocks))
 
 def short(crate, fns):
     """In needs that take long lines, each place is named once, from the nearest on: `let at-put = c .before … in`."""
@@ -180,10 +197,10 @@ def short(crate, fns):
         for p in proof_files(crate, fn):
             blocks = re.split(r'(\n\n+)', open(p).read())
             for i, b in enumerate(blocks):
-                m = re.search(r'(?ms)^(?:pub )?(\S+) :.*?\n(\1 (?:t )?c(?: κs)? =)\s+(.*)$', b)
+                m = NEED.search(b)
                 if not m or all(len(x) <= 110 for x in b[m.start(2):].split('\n')) and not NAMED.search(m.group(3)):
                     continue
-                body = unnamed(re.sub(r'\s+\.before', ' .before', m.group(3)))
+                body = unnamed(m.group(3))
                 places = {}
                 for x in PATH.finditer(body):
                     places.setdefault(x.group(1), 'at-' + x.group(3) if x.group(3) else 'start')
@@ -205,4 +222,4 @@ if __name__ == '__main__':
     if len(a) < 2:
         sys.exit(__doc__)
     {'skel': lambda: skel(a[1]), 'paths': lambda: paths(a[1], a[2], a[3] if len(a) > 3 else None),
-     'expand': lambda: expand(a[1], a[2:]), 'short': lambda: short(a[1], a[2:])}[a[0]]()
+     'expand': lambda: expand(a[1], a[2:]), 'short': lambda: short(a[1], a[2:]), 'long': lambda: long(a[1], a[2])}[a[0]]()
