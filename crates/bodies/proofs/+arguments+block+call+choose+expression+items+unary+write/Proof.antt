@@ -10,7 +10,8 @@ mod Unary
 mod Write
 use Rattle.bodies.proofs.+arguments+block+call+choose+expression+items+unary+write.{statement}
 use Rattle.bodies.proofs.+arguments+block+call+choose+expression+items+unary+write.Tie.{close}
-use Rattle.bodies.proofs.+arguments+block+call+choose+expression+items+unary+write.Proof.Base.{μ-arguments, μ-block, μ-call, μ-choose, μ-expression, μ-items, μ-unary, μ-write}
+use Rattle.bodies.proofs.+arguments+block+call+choose+expression+items+unary+write.Proof.Base.{μ-arguments, μ-block, μ-call, μ-choose, μ-expression}
+use Rattle.bodies.proofs.+arguments+block+call+choose+expression+items+unary+write.Proof.Base.{μ-items, μ-unary, μ-write}
 use Rattle.bodies.proofs.+arguments+block+call+choose+expression+items+unary+write.Proof.Arguments.{arguments-holds}
 use Rattle.bodies.proofs.+arguments+block+call+choose+expression+items+unary+write.Proof.Block.{block-holds}
 use Rattle.bodies.proofs.+arguments+block+call+choose+expression+items+unary+write.Proof.Call.{call-holds}

@@ -10,7 +10,8 @@ mod OneChild
 mod Set
 use Rattle.machine.proofs.+args+block+call+choose+eval+items+one_child+set.{statement}
 use Rattle.machine.proofs.+args+block+call+choose+eval+items+one_child+set.Tie.{close}
-use Rattle.machine.proofs.+args+block+call+choose+eval+items+one_child+set.Proof.Base.{μ-args, μ-block, μ-call, μ-choose, μ-eval, μ-items, μ-one-child, μ-set}
+use Rattle.machine.proofs.+args+block+call+choose+eval+items+one_child+set.Proof.Base.{μ-args, μ-block, μ-call, μ-choose, μ-eval, μ-items}
+use Rattle.machine.proofs.+args+block+call+choose+eval+items+one_child+set.Proof.Base.{μ-one-child, μ-set}
 use Rattle.machine.proofs.+args+block+call+choose+eval+items+one_child+set.Proof.Args.{args-holds}
 use Rattle.machine.proofs.+args+block+call+choose+eval+items+one_child+set.Proof.Block.{block-holds}
 use Rattle.machine.proofs.+args+block+call+choose+eval+items+one_child+set.Proof.Call.{call-holds}
