@@ -4,7 +4,8 @@
   tools/proofs.py skel CRATE              write the printed skeleton of each function that has no proof yet
   tools/proofs.py paths CRATE FN [NEED]   what each need of a function can name, nearest first
   tools/proofs.py expand CRATE FN...      turn @thing into the path `c .before … .thing`, in place
-  tools/proofs.py short CRATE FN...       name long paths once per need, by `let`
+  tools/proofs.py short CRATE [FN...]     name the places of long lines once per need, by `let`
+  tools/proofs.py long CRATE LOG          write them out again in the needs that a note in LOG, of `rt dev`, calls costly
 
 @S is the start of the function: @S .args .x, @S .pre, @S .good. Paths are read from the records that
 `rt dev CRATE --generated DIR` writes; DIR is outside the repository. Run from the repository's root.
@@ -161,37 +162,59 @@ def skel(crate):
         if 'no proof' in l and 'help: prove it first' in l:
             print(l[:160])
 
-def short(crate, fns, least=4):
-    """Paths used in a need are named once: `let thing = c .before … .thing in`."""
-    for fn in fns:
+START = r'args(?! \.(?:ensures|result|kept)\b)|pre|good|fits|κs'
+PATH = re.compile(r'\bc((?: \.before){4,}) \.(?:(' + START + r')\b|(?!before\b)([A-Za-z][A-Za-z0-9-]*))')
+NAMED = re.compile(r'let (\S+) = (c(?: \.before)+(?: \.[a-z][A-Za-z0-9-]*)?) in\s+')
+NEED = re.compile(r'(?ms)^(?:pub )?(\S+) :.*?\n(\1 (?:t )?c(?: κs)? =)\s+(.*)$')
+
+def unnamed(body):
+    """The paths that `let` names, written out where the name stands."""
+    body = re.sub(r'\s+\.before', ' .before', body)
+    left = 0
+    while m := NAMED.search(body, left):
+        before, rest = body[:m.start()], body[m.end():]
+        word = r'(?<![^\s(])' + re.escape(m[1])
+        if re.search(word + r'(?! \.)(?![^\s),;])', rest):
+            left = m.end()
+        else:
+            body = before + re.sub(word + r'(?= \.)', m[2], rest)
+    return body
+
+def long(crate, log):
+    """Where a `large solution` note names a need, its paths are written out again: solutions repeat what a `let` names."""
+    for path, name in set(re.findall(rf'(?m)(crates/{crate}/proofs/[^/\n]+/[^:\n]*):.*large solution.*\(in `(\S+)`\)$', open(log).read())):
+        blocks = re.split(r'(\n\n+)', open(path).read())
+        for i, b in enumerate(blocks):
+            m = NEED.search(b)
+            if m and m[1] == name:
+                blocks[i] = b[:m.end(2)] + ' ' + unnamed(m[3])
+        open(path, 'w').write(''.join(blocks))
+
+def short(crate, fns):
+    """In needs that take long lines, each place is named once, from the nearest on: `let at-put = c .before … in`."""
+    for fn in fns or sorted(x for x in os.listdir(f'crates/{crate}/proofs') if os.path.isdir(f'crates/{crate}/proofs/{x}')):
         fn = proof_dir(crate, fn)
         for p in proof_files(crate, fn):
-            t = open(p).read()
-            blocks = re.split(r'(\n\n+)', t)
+            blocks = re.split(r'(\n\n+)', open(p).read())
             for i, b in enumerate(blocks):
-                m = re.search(r'(?ms)^(?:pub )?(\S+) :.*?\n(\1 (?:t )?c(?: κs)? =) (.*)$', b)
-                if not m or 'let ' in m.group(3)[:5]:
+                m = NEED.search(b)
+                if not m or all(len(x) <= 110 for x in b[m.start(2):].split('\n')) and not NAMED.search(m.group(3)):
                     continue
-                body = m.group(3)
-                uses = {}
-                for x in re.finditer(r'c((?: \.before){' + str(least) + r',})(?: \.(args|pre|good|fits|κs)\b| \.([A-Za-z][A-Za-z0-9-]*))', body):
-                    uses.setdefault((x.group(1), 'start' if x.group(2) else x.group(3)), 0)
-                    uses[(x.group(1), 'start' if x.group(2) else x.group(3))] += 1
-                if not uses:
-                    continue
-                names, lets = {}, []
-                for (path, what), n in sorted(uses.items(), key=lambda u: -len(u[0][0])):
-                    name = what if what == 'start' else 'the-' + what
+                body = unnamed(m.group(3))
+                places = {}
+                for x in PATH.finditer(body):
+                    places.setdefault(x.group(1), 'at-' + x.group(3) if x.group(3) else 'start')
+                names, lets, last = {}, [], ('', 'c')
+                for path in sorted(places, key=len):
+                    name = places[path]
                     while name in names.values():
                         name += '′'
-                    names[(path, what)] = name
-                    lets.append(f'let {name} = c{path}' + ('' if what == 'start' else f' .{what}') + ' in')
-                def sub(x):
-                    if x.group(2):
-                        return names[(x.group(1), 'start')] + ' .' + x.group(2)
-                    return names[(x.group(1), x.group(3))]
-                body = re.sub(r'c((?: \.before){' + str(least) + r',})(?: \.(args|pre|good|fits|κs)\b| \.([A-Za-z][A-Za-z0-9-]*))', sub, body)
-                blocks[i] = b[:m.start(3)] + '\n    ' + '\n    '.join(lets) + '\n    ' + body
+                    names[path] = name
+                    lets.append(f'let {name} = {last[1]}{path[len(last[0]):]} in')
+                    last = (path, name)
+                if lets:
+                    body = PATH.sub(lambda x: names[x.group(1)] + x.group(0)[1 + len(x.group(1)):], body)
+                    blocks[i] = b[:m.end(2)] + '\n    ' + '\n    '.join(lets) + '\n    ' + body
             open(p, 'w').write(''.join(blocks))
 
 if __name__ == '__main__':
@@ -199,4 +222,4 @@ if __name__ == '__main__':
     if len(a) < 2:
         sys.exit(__doc__)
     {'skel': lambda: skel(a[1]), 'paths': lambda: paths(a[1], a[2], a[3] if len(a) > 3 else None),
-     'expand': lambda: expand(a[1], a[2:]), 'short': lambda: short(a[1], a[2:])}[a[0]]()
+     'expand': lambda: expand(a[1], a[2:]), 'short': lambda: short(a[1], a[2:]), 'long': lambda: long(a[1], a[2])}[a[0]]()

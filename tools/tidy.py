@@ -2,10 +2,10 @@
 """Keeps specs, laws and contracts readable.
 
   tools/tidy.py CRATE...    drop imported names that a file does not mention, and break lines over 110 characters
-                            in specs/, in the laws of proofs/ and in the contracts of src/; then run `rt fmt`
+                            in specs/, in proofs/ and in the contracts of src/; then run `rt fmt`
 
-A line is broken where the nesting is least, before an arrow or an operator rather than between arguments. The proofs of
-single functions (proofs/FN) keep their long paths: tools/proofs.py writes and shortens those. Run from the repository's root.
+A line is broken where the nesting is least, before an arrow or an operator rather than between arguments, and inside a path
+only where there is no other place. `tools/proofs.py short` comes first: it names long paths. Run from the repository's root.
 """
 import glob
 import re
@@ -26,13 +26,16 @@ def is_comment(line):
 
 
 def used_in(body):
-    names = set(NAME.findall(body))
+    """Tells names in use; `.name` is a field, and says nothing of a name that was imported."""
+    names = {word[0] for word in NAME.finditer(body) if not re.match(r'[\s(]\.$', body[max(0, word.start() - 2):word.start()])}
     def used(name):
-        if name == '[]':
-            return '[]' in body
-        if '_' in name:
-            return all(any(part in other for other in names) for part in name.split('_') if part)
-        return name in names or any(name in other and not re.fullmatch(r"[\w·′'-]+", other) for other in names)
+        if name.startswith('_') or name.endswith('_'):
+            parts = [part for part in name.split('_') if part]
+        else:
+            parts = [name]
+        if name in names or all(part in (names if NAME.fullmatch(part) else body) for part in parts):
+            return True
+        return any(name in re.split(r"[^\w·′'-]+", other) for other in names)
     return used
 
 
@@ -40,13 +43,13 @@ def without_idle_imports(lines):
     body = '\n'.join(line for line in lines if not is_comment(line) and not re.match(r'(ghost )?use ', line))
     used, kept = used_in(body), []
     for line in lines:
-        group, alias = USE.match(line), re.match(r'^use (\S+) as (\S+)$', line)
+        group, alias = USE.match(line), re.match(r'^use (\S+) as ([^\s;]+)$', line)
         if group:
             names = [name.strip() for name in group[3].split(',') if name.strip()]
             names = [name for name in names if used(name.split(' as ')[-1].strip())]
             if names:
                 kept.append(f"{group[1]}{group[2]}.{{{', '.join(names)}}}{group[4]}")
-        elif not alias or used(alias[2]):
+        elif not alias or re.search(r'(?<![^\s(){},;\[\]⌜⌝])' + re.escape(alias[2]) + r'\.', body):
             kept.append(line)
     return kept
 
@@ -75,8 +78,11 @@ def places(line, first):
     for space in re.finditer(r'(?<! ) (?=\S)', line):
         at = space.start()
         before, after = line[:at], line[at + 1:]
-        if first < at <= LIMIT and not NEVER_AFTER.search(before) and not NEVER_BEFORE.match(after):
-            yield depths[at], rank(before, after), at
+        if first < at <= LIMIT and not NEVER_AFTER.search(before):
+            if not NEVER_BEFORE.match(after):
+                yield depths[at], rank(before, after), at
+            elif after.startswith('.before'):
+                yield 100, 5, at
 
 
 def broken(line):
@@ -100,11 +106,12 @@ def broken(line):
 
 def broken_import(line):
     group, lines, names = USE.match(line), [], []
-    if not group or len(line) <= LIMIT:
+    if not group:
         return [line]
+    limit = max(LIMIT, len(group[1] + group[2]) + 60)  # a path that fills the line is not written once per name
     written = lambda some: f"{group[1]}{group[2]}.{{{', '.join(some)}}}{group[4]}"
     for name in (name.strip() for name in group[3].split(',')):
-        if names and len(written(names + [name])) > LIMIT:
+        if names and len(written(names + [name])) > limit:
             lines.append(written(names))
             names = []
         names.append(name)
@@ -113,8 +120,6 @@ def broken_import(line):
 
 def tidied(path):
     lines = without_idle_imports(open(path).read().split('\n'))
-    if re.search(r'/proofs/[^/]+/', path):
-        return lines
     result = []
     for line in lines:
         contract = re.match(r'    (requires|ensures) ', line) or (line.startswith('        ') and '⌝' in line)

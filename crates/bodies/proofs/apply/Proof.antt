@@ -11,10 +11,12 @@ is-member-requires : tie.Need-is-member-requires
 is-member-requires c κs = search needs
 
 returns : tie.Need-returns
-returns c = applied-yes _ _ _ _ _ (c .before .before .entry .ensures) (c .before .is-member .ensures) (c .if1 .taken)
+returns c = applied-yes _ _ _ _ _ (c .before .before .entry .ensures) (c .before .is-member .ensures)
+    (c .if1 .taken)
 
 returns-2 : tie.Need-returns-2
-returns-2 c = applied-no _ _ _ _ _ (c .before .before .entry .ensures) (c .before .is-member .ensures) (c .if1 .left)
+returns-2 c = applied-no _ _ _ _ _ (c .before .before .entry .ensures) (c .before .is-member .ensures)
+    (c .if1 .left)
 
 pub apply-spec : {M : Type 1} → statement M
 apply-spec = tie.close (tie.spec entry-requires is-member-requires returns returns-2)

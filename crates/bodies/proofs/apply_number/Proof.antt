@@ -11,7 +11,10 @@ returns-2 : tie.Need-returns-2
 returns-2 c = number-absent _ _ _ (c .before .if1 .left) (c .if2 .taken)
 
 apply-requires : tie.Need-apply-requires
-apply-requires c κs = (c .before .before .before .pre .inside (c .before .if1 .left) (c .if2 .left), c .before .before .before .pre .root (c .before .if1 .left) (c .if2 .left))
+apply-requires c κs = (
+  c .before .before .before .pre .inside (c .before .if1 .left) (c .if2 .left),
+  c .before .before .before .pre .root (c .before .if1 .left) (c .if2 .left),
+)
 
 returns-3 : tie.Need-returns-3
 returns-3 c = c .apply .ensures ∙ number-class _ _ _ (c .before .before .if1 .left) (c .before .if2 .left)

@@ -18,52 +18,106 @@ loop-holds : tie.Need-loop-holds Inv-loop μ-loop
 loop-holds c = (omega arith, fit-start _ _ _ _ _ _)
 
 add-typing-at : tie.Need-add-typing-at Inv-loop μ-loop
-add-typing-at c = omega (arith, c .before .before .before .before .before .pre .slots, c .before .before .before .before .before .pre .rows, c .before .before .before .before .before .good)
+add-typing-at c =
+    let start = c .before .before .before .before .before in
+    omega (arith, start .pre .slots, start .pre .rows, start .good)
 
 mul-typing-at : tie.Need-mul-typing-at Inv-loop μ-loop
-mul-typing-at c = omega (arith, c .before .before .before .before .before .pre .slots, c .before .before .before .before .before .pre .rows, c .before .before .before .before .before .good)
+mul-typing-at c =
+    let start = c .before .before .before .before .before in
+    omega (arith, start .pre .slots, start .pre .rows, start .good)
 
 shared-slice-read-typing-at : tie.Need-shared-slice-read-typing-at Inv-loop μ-loop
-shared-slice-read-typing-at c = omega (arith, c .before .before .before .before .before .before .pre .slots, c .before .before .before .before .before .before .pre .rows, c .before .before .before .before .before .before .good)
+shared-slice-read-typing-at c =
+    let start = c .before .before .before .before .before .before in
+    omega (arith, start .pre .slots, start .pre .rows, start .good)
 
 typing-at-requires : tie.Need-typing-at-requires Inv-loop μ-loop
 typing-at-requires c κs = search needs
 
 add-from-number : tie.Need-add-from-number Inv-loop μ-loop
-add-from-number c = omega (arith, c .before .before .before .before .before .before .before .pre .slots, c .before .before .before .before .before .before .before .pre .rows, c .before .before .before .before .before .before .before .good)
+add-from-number c =
+    let start = c .before .before .before .before .before .before .before in
+    omega (arith, start .pre .slots, start .pre .rows, start .good)
 
 mul-from-number : tie.Need-mul-from-number Inv-loop μ-loop
-mul-from-number c = omega (arith, c .before .before .before .before .before .before .before .pre .slots, c .before .before .before .before .before .before .before .pre .rows, c .before .before .before .before .before .before .before .good)
+mul-from-number c =
+    let start = c .before .before .before .before .before .before .before in
+    omega (arith, start .pre .slots, start .pre .rows, start .good)
 
 add-from-number-2 : tie.Need-add-from-number-2 Inv-loop μ-loop
-add-from-number-2 c = omega (arith, c .before .before .before .before .before .before .before .pre .slots, c .before .before .before .before .before .before .before .pre .rows, c .before .before .before .before .before .before .before .good)
+add-from-number-2 c =
+    let start = c .before .before .before .before .before .before .before in
+    omega (arith, start .pre .slots, start .pre .rows, start .good)
 
 mul-from-number-2 : tie.Need-mul-from-number-2 Inv-loop μ-loop
-mul-from-number-2 c = omega (arith, c .before .before .before .before .before .before .before .pre .slots, c .before .before .before .before .before .before .before .pre .rows, c .before .before .before .before .before .before .before .good)
+mul-from-number-2 c =
+    let start = c .before .before .before .before .before .before .before in
+    omega (arith, start .pre .slots, start .pre .rows, start .good)
 
 shared-slice-read-from-number : tie.Need-shared-slice-read-from-number Inv-loop μ-loop
-shared-slice-read-from-number c = omega (arith, c .before .before .before .before .before .before .before .before .pre .slots, c .before .before .before .before .before .before .before .before .pre .rows, c .before .before .before .before .before .before .before .before .good)
+shared-slice-read-from-number c =
+    let start = c .before .before .before .before .before .before .before .before in
+    omega (arith, start .pre .slots, start .pre .rows, start .good)
 
 from-number-requires : tie.Need-from-number-requires Inv-loop μ-loop
 from-number-requires c κs = search needs
 
 is-fitting-requires : tie.Need-is-fitting-requires Inv-loop μ-loop
-is-fitting-requires c κs = (case-same _ _ _ (c .before .before .typing-at .ensures) (c .before .before .before .before .before .before .before .before .before .pre .values (c .before .before .before .before .before .loop .i) (c .before .before .before .before .loop-test .taken)), λ f. omega (arith, c .from-number .ensures, c .before .before .before .before .before .before .before .before .before .pre .types (c .before .before .before .before .before .loop .i) (c .before .before .before .before .loop-test .taken) (λ e. f (c .from-number .ensures ∙ e))))
+is-fitting-requires c κs =
+    let at-loop-test = c .before .before .before .before in
+    let at-loop = at-loop-test .before in
+    let start = at-loop .before .before .before .before in (
+      case-same _ _ _ (c .before .before .typing-at .ensures)
+          (start .pre .values (at-loop .loop .i) (at-loop-test .loop-test .taken)),
+      λ f.
+          omega (
+            arith,
+            c .from-number .ensures,
+            start .pre .types (at-loop .loop .i) (at-loop-test .loop-test .taken)
+                (λ e. f (c .from-number .ensures ∙ e)),
+          ),
+    )
 
 returns : tie.Need-returns Inv-loop μ-loop
-returns c = fit-stop (c .before .before .before .before .before .before .before .before .before .before .before .args .rows .now) (c .before .before .before .before .before .before .before .before .before .before .before .args .above .now) (c .before .before .before .before .before .before .before .before .before .before .before .args .slots .now) (c .before .before .before .before .before .before .before .before .before .before .before .args .from) (c .before .before .before .before .before .before .before .before .before .before .before .args .row) (c .before .before .before .before .before .before .before .before .before .before .before .args .n) (c .before .before .before .before .before .before .before .loop .i) (c .before .before .before .before .before .before .loop-test .taken) (c .before .before .before .before .before .before .before .loop .inv .1) _ _ _ (c .before .before .before .before .typing-at .ensures) (c .before .before .from-number .ensures) (c .before .is-fitting .ensures) (not-yes _ (c .if1 .taken))
+returns c =
+    let at-typing-at = c .before .before .before .before in
+    let at-loop-test = at-typing-at .before .before in
+    let at-loop = at-loop-test .before in
+    let start = at-loop .before .before .before .before in
+    fit-stop (start .args .rows .now) (start .args .above .now) (start .args .slots .now) (start .args .from)
+    (start .args .row) (start .args .n) (at-loop .loop .i) (at-loop-test .loop-test .taken)
+    (at-loop .loop .inv .1) _ _ _ (at-typing-at .typing-at .ensures)
+    (c .before .before .from-number .ensures) (c .before .is-fitting .ensures) (not-yes _ (c .if1 .taken))
 
 add-i : tie.Need-add-i Inv-loop μ-loop
-add-i c = omega (arith, c .before .before .before .before .before .before .before .before .before .before .before .pre .slots, c .before .before .before .before .before .before .before .before .before .before .before .pre .rows, c .before .before .before .before .before .before .before .before .before .before .before .good)
+add-i c =
+    let start = c .before .before .before .before .before .before .before .before .before .before .before in
+    omega (arith, start .pre .slots, start .pre .rows, start .good)
 
 loop-less : tie.Need-loop-less Inv-loop μ-loop
 loop-less c = omega arith
 
 loop-again : tie.Need-loop-again Inv-loop μ-loop
-loop-again c = (omega arith, fit-step (c .before .before .before .before .before .before .before .before .before .before .before .args .rows .now) (c .before .before .before .before .before .before .before .before .before .before .before .args .above .now) (c .before .before .before .before .before .before .before .before .before .before .before .args .slots .now) (c .before .before .before .before .before .before .before .before .before .before .before .args .from) (c .before .before .before .before .before .before .before .before .before .before .before .args .row) (c .before .before .before .before .before .before .before .before .before .before .before .args .n) (c .before .before .before .before .before .before .before .loop .i) (c .before .before .before .before .before .before .loop-test .taken) (c .before .before .before .before .before .before .before .loop .inv .1) _ _ _ (c .before .before .before .before .typing-at .ensures) (c .before .before .from-number .ensures) (c .before .is-fitting .ensures) (not-no _ (c .if1 .left)))
+loop-again c =
+    let at-typing-at = c .before .before .before .before in
+    let at-loop-test = at-typing-at .before .before in
+    let at-loop = at-loop-test .before in
+    let start = at-loop .before .before .before .before in (
+      omega arith,
+      fit-step (start .args .rows .now) (start .args .above .now) (start .args .slots .now)
+          (start .args .from) (start .args .row) (start .args .n) (at-loop .loop .i)
+          (at-loop-test .loop-test .taken) (at-loop .loop .inv .1) _ _ _ (at-typing-at .typing-at .ensures)
+          (c .before .before .from-number .ensures) (c .before .is-fitting .ensures)
+          (not-no _ (c .if1 .left)),
+    )
 
 returns-2 : tie.Need-returns-2 Inv-loop μ-loop
-returns-2 c = fit-end (c .before .before .before .before .before .args .rows .now) (c .before .before .before .before .before .args .above .now) (c .before .before .before .before .before .args .slots .now) (c .before .before .before .before .before .args .from) (c .before .before .before .before .before .args .row) (c .before .before .before .before .before .args .n) (c .before .loop .i) (c .loop-test .left) (c .before .loop .inv .1)
+returns-2 c =
+    let start = c .before .before .before .before .before in
+    fit-end (start .args .rows .now) (start .args .above .now) (start .args .slots .now) (start .args .from)
+    (start .args .row) (start .args .n) (c .before .loop .i) (c .loop-test .left)
+    (c .before .loop .inv .1)
 
 pub are-fitting-spec : {M : Type 1} → statement M
 are-fitting-spec =

@@ -20,7 +20,9 @@ shared-slice-read-k : tie.Need-shared-slice-read-k
 shared-slice-read-k c = search needs
 
 cast-k : tie.Need-cast-k
-cast-k c = omega (arith, c .before .before .before .shared-slice-known .given (c .before .before .before .before .args .at * 4 + 1))
+cast-k c =
+    let start = c .before .before .before .before in
+    omega (arith, c .before .before .before .shared-slice-known .given (start .args .at * 4 + 1))
 
 is-refusal-requires : tie.Need-is-refusal-requires
 is-refusal-requires c κs = search needs
@@ -32,13 +34,17 @@ refused-requires : tie.Need-refused-requires
 refused-requires c κs = search needs
 
 returns-2 : tie.Need-returns-2
-returns-2 c = assign-this _ _ _ _ _ _ _ (c .before .before .before .is-refusal .ensures) _ (c .before .before .if1 .left) (c .before .if2 .taken) (c .refused .ensures)
+returns-2 c = assign-this _ _ _ _ _ _ _ (c .before .before .before .is-refusal .ensures) _
+    (c .before .before .if1 .left) (c .before .if2 .taken) (c .refused .ensures)
 
 refused-requires-2 : tie.Need-refused-requires-2
 refused-requires-2 c κs = search needs
 
 returns-3 : tie.Need-returns-3
-returns-3 c = assign-out _ _ _ _ _ _ _ (c .before .before .before .before .is-refusal .ensures) _ (c .before .before .before .if1 .left) (c .before .before .if2 .left) (c .before .if3 .taken) (c .refused2 .ensures)
+returns-3 c =
+    let at-is-refusal = c .before .before .before .before in
+    assign-out _ _ _ _ _ _ _ (at-is-refusal .is-refusal .ensures) _ (c .before .before .before .if1 .left)
+    (c .before .before .if2 .left) (c .before .if3 .taken) (c .refused2 .ensures)
 
 mul-from-number : tie.Need-mul-from-number
 mul-from-number c = search needs
@@ -50,16 +56,43 @@ from-number-requires : tie.Need-from-number-requires
 from-number-requires c κs = search needs
 
 is-fitting-requires : tie.Need-is-fitting-requires
-is-fitting-requires c κs = (c .before .before .before .before .before .before .before .before .before .before .pre .value, λ f. omega (arith, c .from-number .ensures, c .before .before .before .before .before .before .before .before .before .before .pre .slot (sym (c .before .before .before .before .before .is-refusal .ensures) ∙ c .before .before .before .before .if1 .left) (c .before .before .before .if2 .left) (c .before .before .if3 .left) (λ e. f (c .from-number .ensures ∙ e))))
+is-fitting-requires c κs =
+    let at-if1 = c .before .before .before .before in
+    let at-is-refusal = at-if1 .before in
+    let start = at-is-refusal .before .before .before .before .before in (
+      start .pre .value,
+      λ f.
+          omega (
+            arith,
+            c .from-number .ensures,
+            start .pre .slot (sym (at-is-refusal .is-refusal .ensures) ∙ at-if1 .if1 .left)
+                (c .before .before .before .if2 .left) (c .before .before .if3 .left)
+                (λ e. f (c .from-number .ensures ∙ e)),
+          ),
+    )
 
 returns-4 : tie.Need-returns-4
-returns-4 c = assign-fits _ _ _ _ _ _ _ (c .before .before .before .before .before .before .before .is-refusal .ensures) _ _ (c .before .before .before .before .before .before .if1 .left) (c .before .before .before .before .before .if2 .left) (c .before .before .before .before .if3 .left) (c .before .before .from-number .ensures) (c .before .is-fitting .ensures) (c .if4 .taken)
+returns-4 c =
+    let at-if3 = c .before .before .before .before in
+    let at-if2 = at-if3 .before in
+    let at-if1 = at-if2 .before in
+    let at-is-refusal = at-if1 .before in
+    assign-fits _ _ _ _ _ _ _ (at-is-refusal .is-refusal .ensures) _ _ (at-if1 .if1 .left) (at-if2 .if2 .left)
+    (at-if3 .if3 .left) (c .before .before .from-number .ensures) (c .before .is-fitting .ensures)
+    (c .if4 .taken)
 
 refused-requires-3 : tie.Need-refused-requires-3
 refused-requires-3 c κs = search needs
 
 returns-5 : tie.Need-returns-5
-returns-5 c = assign-unfit _ _ _ _ _ _ _ (c .before .before .before .before .before .before .before .before .is-refusal .ensures) _ _ _ (c .before .before .before .before .before .before .before .if1 .left) (c .before .before .before .before .before .before .if2 .left) (c .before .before .before .before .before .if3 .left) (c .before .before .before .from-number .ensures) (c .before .before .is-fitting .ensures) (c .before .if4 .left) (c .refused3 .ensures)
+returns-5 c =
+    let at-if3 = c .before .before .before .before .before in
+    let at-if2 = at-if3 .before in
+    let at-if1 = at-if2 .before in
+    let at-is-refusal = at-if1 .before in
+    assign-unfit _ _ _ _ _ _ _ (at-is-refusal .is-refusal .ensures) _ _ _ (at-if1 .if1 .left)
+    (at-if2 .if2 .left) (at-if3 .if3 .left) (c .before .before .before .from-number .ensures)
+    (c .before .before .is-fitting .ensures) (c .before .if4 .left) (c .refused3 .ensures)
 
 pub assign-spec : {M : Type 1} → statement M
 assign-spec =

@@ -20,25 +20,56 @@ loop-holds : tie.Need-loop-holds Inv-loop μ-loop
 loop-holds c = (omega arith, λ b f. omega (arith, f .after))
 
 mul-if1 : tie.Need-mul-if1 Inv-loop μ-loop
-mul-if1 c = omega (arith, c .before .pre .first .inside, c .loop .inv .1 (c .before .pre .row) (c .before .pre .first))
+mul-if1 c = omega (
+  arith,
+  c .before .pre .first .inside,
+  c .loop .inv .1 (c .before .pre .row)
+      (c .before .pre .first),
+)
 
 mul-if1-2 : tie.Need-mul-if1-2 Inv-loop μ-loop
-mul-if1-2 c = omega (arith, c .before .pre .first .inside, c .loop .inv .1 (c .before .pre .row) (c .before .pre .first))
+mul-if1-2 c = omega (
+  arith,
+  c .before .pre .first .inside,
+  c .loop .inv .1 (c .before .pre .row)
+      (c .before .pre .first),
+)
 
 shared-slice-read-if1 : tie.Need-shared-slice-read-if1 Inv-loop μ-loop
-shared-slice-read-if1 c = omega (arith, c .before .before .pre .first .inside, c .before .loop .inv .1 (c .before .before .pre .row) (c .before .before .pre .first))
+shared-slice-read-if1 c =
+    omega (
+      arith,
+      c .before .before .pre .first .inside,
+      c .before .loop .inv .1 (c .before .before .pre .row) (c .before .before .pre .first),
+    )
 
 add-i-2 : tie.Need-add-i-2 Inv-loop μ-loop
-add-i-2 c = omega (arith, c .before .before .before .pre .first .inside, c .before .before .loop .inv .1 (c .before .before .before .pre .row) (c .before .before .before .pre .first))
+add-i-2 c = omega (
+  arith,
+  c .before .before .before .pre .first .inside,
+  c .before .before .loop .inv .1
+      (c .before .before .before .pre .row) (c .before .before .before .pre .first),
+)
 
 loop-less : tie.Need-loop-less Inv-loop μ-loop
-loop-less c = omega (arith, c .before .before .before .pre .first .inside, c .before .before .loop .inv .1 (c .before .before .before .pre .row) (c .before .before .before .pre .first))
+loop-less c = omega (
+  arith,
+  c .before .before .before .pre .first .inside,
+  c .before .before .loop .inv .1
+      (c .before .before .before .pre .row) (c .before .before .before .pre .first),
+)
 
 loop-again : tie.Need-loop-again Inv-loop μ-loop
-loop-again c = (omega (arith, c .before .before .loop .inv .0), λ b f. let h = block-more f (c .before .before .loop .i) (c .before .before .loop .inv .0) (c .before .before .loop .inv .1 b f) (c .if1 .taken) in omega arith)
+loop-again c = (
+  omega (arith, c .before .before .loop .inv .0),
+  λ b f. let h = block-more f
+      (c .before .before .loop .i) (c .before .before .loop .inv .0) (c .before .before .loop .inv .1 b f)
+      (c .if1 .taken) in omega arith,
+)
 
 returns : tie.Need-returns Inv-loop μ-loop
-returns c = λ b f. block-done f (c .before .before .loop .i) (c .before .before .loop .inv .0) (c .before .before .loop .inv .1 b f) (c .if1 .left)
+returns c = λ b f. block-done f (c .before .before .loop .i) (c .before .before .loop .inv .0)
+    (c .before .before .loop .inv .1 b f) (c .if1 .left)
 
 pub body-row-spec : {M : Type 1} → statement M
 body-row-spec =

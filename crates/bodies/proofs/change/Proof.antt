@@ -4,7 +4,8 @@ use Prim.Native.Nat.{_+_, _*_}
 use borrow.Author.Needs.{needs}
 use native.Mathlib.Omega.{arith}
 use Rattle.bodies.proofs.Laws.{known-class, not-yes, not-no}
-use Rattle.bodies.proofs.ActLaws.{change-name, change-out, change-absent, change-bool, change-first, change-second, change-roots, change-done, applicable-known}
+use Rattle.bodies.proofs.ActLaws.{change-name, change-out, change-absent, change-bool, change-first}
+use Rattle.bodies.proofs.ActLaws.{change-second, change-roots, change-done, applicable-known}
 use Rattle.bodies.proofs.change.Statement.{statement}
 use Rattle.bodies.proofs.change.Tie as tie
 
@@ -21,7 +22,9 @@ shared-slice-read-k : tie.Need-shared-slice-read-k
 shared-slice-read-k c = search needs
 
 cast-k : tie.Need-cast-k
-cast-k c = omega (arith, c .before .before .before .shared-slice-known .given (c .before .before .before .before .args .at * 4 + 1))
+cast-k c =
+    let start = c .before .before .before .before in
+    omega (arith, c .before .before .before .shared-slice-known .given (start .args .at * 4 + 1))
 
 mul-target : tie.Need-mul-target
 mul-target c = search needs
@@ -57,22 +60,43 @@ refused-requires-3 : tie.Need-refused-requires-3
 refused-requires-3 c κs = search needs
 
 returns-3 : tie.Need-returns-3
-returns-3 c = change-absent _ (c .before .before .before .before .if1 .left) (c .before .before .before .if2 .left) (c .before .if3 .taken) (c .refused3 .ensures)
+returns-3 c =
+    let at-if1 = c .before .before .before .before in
+    change-absent _ (at-if1 .if1 .left) (c .before .before .before .if2 .left) (c .before .if3 .taken)
+    (c .refused3 .ensures)
 
 refused-requires-4 : tie.Need-refused-requires-4
 refused-requires-4 c κs = search needs
 
 returns-4 : tie.Need-returns-4
-returns-4 c = change-bool _ (c .before .before .before .before .before .if1 .left) (c .before .before .before .before .if2 .left) (c .before .before .if3 .left) (c .before .if4 .taken) (c .refused4 .ensures)
+returns-4 c =
+    let at-if2 = c .before .before .before .before in
+    let at-if1 = at-if2 .before in
+    change-bool _ (at-if1 .if1 .left) (at-if2 .if2 .left) (c .before .before .if3 .left)
+    (c .before .if4 .taken) (c .refused4 .ensures)
 
 is-changeable-requires : tie.Need-is-changeable-requires
-is-changeable-requires c κs = omega (arith, c .before .before .before .before .before .before .before .before .before .before .pre .few, c .before .before .before .before .before .before .before .before .before .before .pre .long, known-class (c .before .before .before .before .before .before .before .before .before .before .pre .slots _ (c .before .before .before .if2 .left)) (c .if4 .left) (c .before .if3 .left))
+is-changeable-requires c κs =
+    let start = c .before .before .before .before .before .before .before .before .before .before in
+    omega (
+      arith,
+      start .pre .few,
+      start .pre .long,
+      known-class (start .pre .slots _ (c .before .before .before .if2 .left)) (c .if4 .left)
+          (c .before .if3 .left),
+    )
 
 refused-requires-5 : tie.Need-refused-requires-5
 refused-requires-5 c κs = search needs
 
 returns-5 : tie.Need-returns-5
-returns-5 c = change-first _ (c .before .before .before .before .before .before .before .if1 .left) (c .before .before .before .before .before .before .if2 .left) (c .before .before .before .before .if3 .left) (c .before .before .before .if4 .left) _ (c .before .before .is-changeable .ensures) (not-yes _ (c .before .if5 .taken)) (c .refused5 .ensures)
+returns-5 c =
+    let at-if3 = c .before .before .before .before in
+    let at-if2 = at-if3 .before .before in
+    let at-if1 = at-if2 .before in
+    change-first _ (at-if1 .if1 .left) (at-if2 .if2 .left) (at-if3 .if3 .left)
+    (c .before .before .before .if4 .left) _ (c .before .before .is-changeable .ensures)
+    (not-yes _ (c .before .if5 .taken)) (c .refused5 .ensures)
 
 is-changeable-requires-2 : tie.Need-is-changeable-requires-2
 is-changeable-requires-2 c κs = search needs
@@ -81,25 +105,66 @@ refused-requires-6 : tie.Need-refused-requires-6
 refused-requires-6 c κs = search needs
 
 returns-6 : tie.Need-returns-6
-returns-6 c = change-second _ (c .before .before .before .before .before .before .before .before .before .if1 .left) (c .before .before .before .before .before .before .before .before .if2 .left) (c .before .before .before .before .before .before .if3 .left) (c .before .before .before .before .before .if4 .left) _ (c .before .before .before .before .is-changeable .ensures) (not-no _ (c .before .before .before .if5 .left)) _ (c .before .before .is-changeable2 .ensures) (not-yes _ (c .before .if6 .taken)) (c .refused6 .ensures)
+returns-6 c =
+    let at-is-changeable = c .before .before .before .before in
+    let at-if4 = at-is-changeable .before in
+    let at-if3 = at-if4 .before in
+    let at-if2 = at-if3 .before .before in
+    let at-if1 = at-if2 .before in
+    change-second _ (at-if1 .if1 .left) (at-if2 .if2 .left) (at-if3 .if3 .left) (at-if4 .if4 .left) _
+    (at-is-changeable .is-changeable .ensures) (not-no _ (c .before .before .before .if5 .left)) _
+    (c .before .before .is-changeable2 .ensures) (not-yes _ (c .before .if6 .taken))
+    (c .refused6 .ensures)
 
 entry-requires : tie.Need-entry-requires
 entry-requires c κs = search needs
 
 entry-requires-2 : tie.Need-entry-requires-2
-entry-requires-2 c κs = omega (arith, c .before .before .before .before .before .before .before .before .before .before .before .before .before .before .before .pre .few, c .before .before .before .before .before .before .before .before .before .before .before .before .before .before .before .pre .long, known-class (c .before .before .before .before .before .before .before .before .before .before .before .before .before .before .before .pre .slots _ (c .before .before .before .before .before .before .before .before .if2 .left)) (c .before .before .before .before .before .if4 .left) (c .before .before .before .before .before .before .if3 .left))
+entry-requires-2 c κs =
+    let at-if4 = c .before .before .before .before .before in
+    let at-if3 = at-if4 .before in
+    let at-if2 = at-if3 .before .before in
+    let start = at-if2 .before .before .before .before .before .before .before in
+    omega (
+      arith,
+      start .pre .few,
+      start .pre .long,
+      known-class (start .pre .slots _ (at-if2 .if2 .left)) (at-if4 .if4 .left) (at-if3 .if3 .left),
+    )
 
 refused-requires-7 : tie.Need-refused-requires-7
 refused-requires-7 c κs = search needs
 
 returns-7 : tie.Need-returns-7
-returns-7 c = change-roots _ (c .before .before .before .before .before .before .before .before .before .before .before .before .if1 .left) (c .before .before .before .before .before .before .before .before .before .before .before .if2 .left) (c .before .before .before .before .before .before .before .before .before .if3 .left) (c .before .before .before .before .before .before .before .before .if4 .left) _ (c .before .before .before .before .before .before .before .is-changeable .ensures) (not-no _ (c .before .before .before .before .before .before .if5 .left)) _ (c .before .before .before .before .before .is-changeable2 .ensures) (not-no _ (c .before .before .before .before .if6 .left)) _ _ (c .before .before .before .entry .ensures) (c .before .before .entry2 .ensures) (c .before .if7 .taken) (c .refused7 .ensures)
+returns-7 c =
+    let at-if6 = c .before .before .before .before in
+    let at-is-changeable2 = at-if6 .before in
+    let at-if5 = at-is-changeable2 .before in
+    let at-is-changeable = at-if5 .before in
+    let at-if4 = at-is-changeable .before in
+    let at-if3 = at-if4 .before in
+    let at-if2 = at-if3 .before .before in
+    let at-if1 = at-if2 .before in
+    change-roots _ (at-if1 .if1 .left) (at-if2 .if2 .left) (at-if3 .if3 .left) (at-if4 .if4 .left) _
+    (at-is-changeable .is-changeable .ensures) (not-no _ (at-if5 .if5 .left)) _
+    (at-is-changeable2 .is-changeable2 .ensures) (not-no _ (at-if6 .if6 .left)) _ _
+    (c .before .before .before .entry .ensures) (c .before .before .entry2 .ensures)
+    (c .before .if7 .taken) (c .refused7 .ensures)
 
 effect-of-requires : tie.Need-effect-of-requires
-effect-of-requires c κs = omega (arith, c .before .before .entry .ensures, c .before .before .before .before .before .before .before .before .before .before .before .before .before .before .before .before .before .pre .roots _ (c .before .before .before .before .before .before .before .before .before .before .before .if1 .left))
+effect-of-requires c κs =
+    let at-if1 = c .before .before .before .before .before .before .before .before .before .before .before in
+    let start = at-if1 .before .before .before .before .before .before in
+    omega (arith, c .before .before .entry .ensures, start .pre .roots _ (at-if1 .if1 .left))
 
 apply-all-requires : tie.Need-apply-all-requires
-apply-all-requires c κs = (c .before .before .before .before .before .before .before .before .before .before .before .before .before .before .before .before .before .before .before .pre .scoped, λ k l. applicable-known (c .before .before .before .before .before .before .before .before .before .before .before .before .before .before .before .before .before .before .before .pre .few) (c .before .before .before .before .before .before .before .before .before .before .before .before .before .before .before .before .before .before .before .pre .long) (c .before .before .before .before .before .before .before .before .before .before .before .before .before .before .before .before .before .before .before .pre .roots) (c .before .before .before .before .before .before .before .before .before .before .before .before .before .before .before .before .before .before .before .pre .slots k l))
+apply-all-requires c κs =
+    let start = c .before .before .before .before .before .before .before .before .before .before .before
+    .before .before .before .before .before .before .before .before in (
+      start .pre .scoped,
+      λ k l.
+          applicable-known (start .pre .few) (start .pre .long) (start .pre .roots) (start .pre .slots k l),
+    )
 
 mul-slots : tie.Need-mul-slots
 mul-slots c = search needs
@@ -111,7 +176,25 @@ same-length : tie.Need-same-length
 same-length c = search needs
 
 returns-8 : tie.Need-returns-8
-returns-8 c = change-done _ (c .before .before .before .before .before .before .before .before .before .before .before .before .before .before .before .before .if1 .left) (c .before .before .before .before .before .before .before .before .before .before .before .before .before .before .before .if2 .left) (c .before .before .before .before .before .before .before .before .before .before .before .before .before .if3 .left) (c .before .before .before .before .before .before .before .before .before .before .before .before .if4 .left) _ (c .before .before .before .before .before .before .before .before .before .before .before .is-changeable .ensures) (not-no _ (c .before .before .before .before .before .before .before .before .before .before .if5 .left)) _ (c .before .before .before .before .before .before .before .before .before .is-changeable2 .ensures) (not-no _ (c .before .before .before .before .before .before .before .before .if6 .left)) _ _ (c .before .before .before .before .before .before .before .entry .ensures) (c .before .before .before .before .before .before .entry2 .ensures) (c .before .before .before .before .before .if7 .left) _ (c .before .before .before .before .effect-of .ensures) refl _ (c .before .before .before .before .before .before .before .before .before .before .before .before .before .before .before .before .before .before .before .before .before .before .pre .scoped) (c .before .before .apply-all .ensures)
+returns-8 c =
+    let at-effect-of = c .before .before .before .before in
+    let at-if7 = at-effect-of .before in
+    let at-entry2 = at-if7 .before in
+    let at-entry = at-entry2 .before in
+    let at-if6 = at-entry .before in
+    let at-is-changeable2 = at-if6 .before in
+    let at-if5 = at-is-changeable2 .before in
+    let at-is-changeable = at-if5 .before in
+    let at-if4 = at-is-changeable .before in
+    let at-if3 = at-if4 .before in
+    let at-if2 = at-if3 .before .before in
+    let at-if1 = at-if2 .before in
+    let start = at-if1 .before .before .before .before .before .before in
+    change-done _ (at-if1 .if1 .left) (at-if2 .if2 .left) (at-if3 .if3 .left) (at-if4 .if4 .left) _
+    (at-is-changeable .is-changeable .ensures) (not-no _ (at-if5 .if5 .left)) _
+    (at-is-changeable2 .is-changeable2 .ensures) (not-no _ (at-if6 .if6 .left)) _ _
+    (at-entry .entry .ensures) (at-entry2 .entry2 .ensures) (at-if7 .if7 .left) _
+    (at-effect-of .effect-of .ensures) refl _ (start .pre .scoped) (c .before .before .apply-all .ensures)
 
 pub change-spec : {M : Type 1} → statement M
 change-spec =

@@ -12,7 +12,8 @@ refused-requires : tie.Need-refused-requires
 refused-requires c κs = search needs
 
 returns : tie.Need-returns
-returns c = refused-choice _ (c .refused .ensures) (chosen-other _ _ _ _ _ _ _ _ (c .before .match .keys2) (c .refused .ensures))
+returns c = refused-choice _ (c .refused .ensures)
+    (chosen-other _ _ _ _ _ _ _ _ (c .before .match .keys2) (c .refused .ensures))
 
 join-types-requires : tie.Need-join-types-requires
 join-types-requires c κs = search needs
@@ -24,7 +25,12 @@ refused-requires-2 : tie.Need-refused-requires-2
 refused-requires-2 c κs = search needs
 
 returns-2 : tie.Need-returns-2
-returns-2 c = refused-choice _ (c .refused2 .ensures) (chosen-none _ _ _ _ _ _ _ _ _ (c .before .before .before .before .enum-told .given .1) (c .before .before .before .join-types .ensures) _ _ (c .before .enum-told2 .given .1) (c .refused2 .ensures))
+returns-2 c =
+    let at-enum-told = c .before .before .before .before in
+    refused-choice _ (c .refused2 .ensures)
+    (chosen-none _ _ _ _ _ _ _ _ _ (at-enum-told .enum-told .given .1)
+    (c .before .before .before .join-types .ensures) _ _ (c .before .enum-told2 .given .1)
+    (c .refused2 .ensures))
 
 join-slots-requires : tie.Need-join-slots-requires
 join-slots-requires c κs = search needs
@@ -33,7 +39,14 @@ same-length : tie.Need-same-length
 same-length c = search needs
 
 returns-3 : tie.Need-returns-3
-returns-3 c = done-choice _ (chosen-some _ _ _ _ _ _ _ _ _ (c .before .before .before .before .before .before .before .before .before .enum-told .given .1) (c .before .before .before .before .before .before .before .before .join-types .ensures) (c .before .before .before .before .before .before .before .match2 .keys2) refl) (c .before .before .before .before .before .join-slots .ensures)
+returns-3 c =
+    let at-join-slots = c .before .before .before .before .before in
+    let at-match2 = at-join-slots .before .before in
+    let at-join-types = at-match2 .before in
+    let at-enum-told = at-join-types .before in
+    done-choice _ (chosen-some _ _ _ _ _ _ _ _ _ (at-enum-told .enum-told .given .1)
+    (at-join-types .join-types .ensures) (at-match2 .match2 .keys2) refl)
+    (at-join-slots .join-slots .ensures)
 
 pub choice-spec : {M : Type 1} → statement M
 choice-spec =

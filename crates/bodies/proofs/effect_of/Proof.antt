@@ -20,7 +20,8 @@ shl-result c = search needs
 
 returns : tie.Need-returns
 unfolding effect-of
-returns c = one-shifted (c .place-of .result) (omega (arith, c .place-of .ensures)) ∙ ap (λ (k : ℕ). 2 ^ k) (c .place-of .ensures)
+returns c = one-shifted (c .place-of .result) (omega (arith, c .place-of .ensures))
+    ∙ ap (λ (k : ℕ). 2 ^ k) (c .place-of .ensures)
 
 pub effect-of-spec : {M : Type 1} → statement M
 effect-of-spec = tie.close (tie.spec place-of-requires cast-result shl-result returns)

@@ -22,7 +22,14 @@ add-entry : tie.Need-add-entry
 add-entry c = search needs
 
 entry-requires-2 : tie.Need-entry-requires-2
-entry-requires-2 c κs = omega (arith, c .before .before .before .before .pre .inside, c .before .entry .ensures, c .before .before .before .before .pre .found (λ y. c .if1 .left (c .before .entry .ensures ∙ y)) .0)
+entry-requires-2 c κs =
+    let start = c .before .before .before .before in
+    omega (
+      arith,
+      start .pre .inside,
+      c .before .entry .ensures,
+      start .pre .found (λ y. c .if1 .left (c .before .entry .ensures ∙ y)) .0,
+    )
 
 cast-row : tie.Need-cast-row
 cast-row c = search needs
@@ -37,13 +44,27 @@ mul-from-number-2 : tie.Need-mul-from-number-2
 mul-from-number-2 c = search needs
 
 shared-slice-read-from-number : tie.Need-shared-slice-read-from-number
-shared-slice-read-from-number c = let e = field-row-is (c .before .before .before .before .before .before .args .table .now) (c .before .before .before .before .before .before .args .class) (c .before .before .before .before .before .before .args .name) (c .before .before .before .entry .result) (c .before .entry2 .result) (c .before .before .before .entry .ensures) (c .before .entry2 .ensures) in omega (arith, e, c .before .before .before .before .before .before .pre .found (λ y. c .before .before .if1 .left (c .before .before .before .entry .ensures ∙ y)) .1)
+shared-slice-read-from-number c =
+    let start = c .before .before .before .before .before .before in
+    let e = field-row-is (start .args .table .now) (start .args .class) (start .args .name)
+    (c .before .before .before .entry .result) (c .before .entry2 .result)
+    (c .before .before .before .entry .ensures) (c .before .entry2 .ensures) in
+    omega (
+      arith,
+      e,
+      start .pre .found (λ y. c .before .before .if1 .left
+          (c .before .before .before .entry .ensures ∙ y)) .1,
+    )
 
 from-number-requires : tie.Need-from-number-requires
 from-number-requires c κs = search needs
 
 returns-2 : tie.Need-returns-2
-returns-2 c = field-found _ _ _ _ _ _ _ _ (c .before .before .before .before .entry .ensures) (c .before .before .before .if1 .left) (c .before .before .entry2 .ensures) refl (ap (λ (n : ℕ). Found (record { number = n })) (c .from-number .ensures))
+returns-2 c =
+    let at-entry = c .before .before .before .before in
+    field-found _ _ _ _ _ _ _ _ (at-entry .entry .ensures) (c .before .before .before .if1 .left)
+    (c .before .before .entry2 .ensures) refl
+    (ap (λ (n : ℕ). Found (record { number = n })) (c .from-number .ensures))
 
 pub field-type-spec : {M : Type 1} → statement M
 field-type-spec =

@@ -28,10 +28,15 @@ shared-slice-read-name : tie.Need-shared-slice-read-name
 shared-slice-read-name c = search needs
 
 cast-name : tie.Need-cast-name
-cast-name c = omega (arith, c .before .before .before .before .before .before .shared-slice-known .given (c .before .before .before .before .before .before .before .args .at * 4 + 1))
+cast-name c =
+    let at-shared-slice-known = c .before .before .before .before .before .before in
+    let start = at-shared-slice-known .before in
+    omega (arith, at-shared-slice-known .shared-slice-known .given (start .args .at * 4 + 1))
 
 field-type-requires : tie.Need-field-type-requires
-field-type-requires c κs = c .before .before .before .before .before .before .before .pre .field _ (c .before .before .t .given .1) .0
+field-type-requires c κs =
+    let start = c .before .before .before .before .before .before .before in
+    start .pre .field _ (c .before .before .t .given .1) .0
 
 enum-known-sought : tie.Need-enum-known-sought
 enum-known-sought c = search needs
@@ -43,10 +48,16 @@ refused-requires : tie.Need-refused-requires
 refused-requires c κs = search needs
 
 returns-2 : tie.Need-returns-2
-returns-2 c = got-missing _ _ _ _ _ _ _ (c .before .before .before .before .before .before .t .given .1) _ (c .before .before .before .field-type .ensures) _ (c .before .enum-told .given .1) (c .refused .ensures)
+returns-2 c =
+    let at-t = c .before .before .before .before .before .before in
+    got-missing _ _ _ _ _ _ _ (at-t .t .given .1) _ (c .before .before .before .field-type .ensures) _
+    (c .before .enum-told .given .1) (c .refused .ensures)
 
 cast-class-at : tie.Need-cast-class-at
-cast-class-at c = omega (arith, c .before .before .before .before .before .before .before .before .before .before .before .pre .field (c .before .before .before .before .before .before .t .given .0 .0) (c .before .before .before .before .before .before .t .given .1) .1)
+cast-class-at c =
+    let at-t = c .before .before .before .before .before .before in
+    let start = at-t .before .before .before .before .before in
+    omega (arith, start .pre .field (at-t .t .given .0 .0) (at-t .t .given .1) .1)
 
 mul-class-at : tie.Need-mul-class-at
 mul-class-at c = search needs
@@ -61,7 +72,12 @@ same-length : tie.Need-same-length
 same-length c = search needs
 
 returns-3 : tie.Need-returns-3
-returns-3 c = got-found _ _ _ _ _ _ _ (c .before .before .before .before .before .before .before .t .given .1) _ (c .before .before .before .before .field-type .ensures) (c .before .before .sought .given .0 .0 .number) _ (c .before .before .sought .given .1) (c .typing-of .ensures)
+returns-3 c =
+    let at-field-type = c .before .before .before .before in
+    let at-t = at-field-type .before .before .before in
+    got-found _ _ _ _ _ _ _ (at-t .t .given .1) _ (at-field-type .field-type .ensures)
+    (c .before .before .sought .given .0 .0 .number) _ (c .before .before .sought .given .1)
+    (c .typing-of .ensures)
 
 pub get-spec : {M : Type 1} → statement M
 get-spec =

@@ -15,7 +15,9 @@ returns : tie.Need-returns
 returns c = fit-class-bool _ _ _ _ (c .before .before .before .t .given .1) (c .if1 .taken)
 
 is-below-requires : tie.Need-is-below-requires
-is-below-requires c κs = (case-in _ _ _ (c .before .before .before .t .given .1) (c .before .before .before .before .before .before .pre .0), c .before .before .before .before .before .before .pre .1 (c .if1 .left))
+is-below-requires c κs =
+    let start = c .before .before .before .before .before .before in
+    (case-in _ _ _ (c .before .before .before .t .given .1) (start .pre .0), start .pre .1 (c .if1 .left))
 
 enum-told-2 : tie.Need-enum-told-2
 enum-told-2 c = search needs
@@ -27,7 +29,9 @@ returns-2 : tie.Need-returns-2
 returns-2 c = fit-bool _ _ _ (c .before .enum-told .given .1)
 
 returns-3 : tie.Need-returns-3
-returns-3 c = fit-class-other _ _ _ _ _ (c .before .before .before .before .t .given .1) (c .before .if1 .left) (c .is-below .ensures)
+returns-3 c =
+    let at-t = c .before .before .before .before in
+    fit-class-other _ _ _ _ _ (at-t .t .given .1) (c .before .if1 .left) (c .is-below .ensures)
 
 returns-4 : tie.Need-returns-4
 returns-4 c = fit-null _ _ _ (c .before .enum-told2 .given .1)

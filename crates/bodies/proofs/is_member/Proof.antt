@@ -14,7 +14,8 @@ shr-result : tie.Need-shr-result
 shr-result c = search needs
 
 returns : tie.Need-returns
-returns c = shifted-member (c .before .args .effect) (c .before .args .class) (c .place-of .result) (c .place-of .ensures)
+returns c = shifted-member (c .before .args .effect) (c .before .args .class) (c .place-of .result)
+    (c .place-of .ensures)
 
 pub is-member-spec : {M : Type 1} → statement M
 is-member-spec = tie.close (tie.spec place-of-requires cast-result shr-result returns)

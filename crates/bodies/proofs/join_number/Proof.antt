@@ -14,13 +14,19 @@ returns-3 : tie.Need-returns-3
 returns-3 c = joined-3 _ _ _ _ (c .before .before .if1 .left) (c .before .if2 .left) (c .if3 .taken)
 
 returns-4 : tie.Need-returns-4
-returns-4 c = joined-4 _ _ _ _ (c .before .before .before .if1 .left) (c .before .before .if2 .left) (c .before .if3 .left) (c .if4 .taken)
+returns-4 c = joined-4 _ _ _ _ (c .before .before .before .if1 .left) (c .before .before .if2 .left)
+    (c .before .if3 .left) (c .if4 .taken)
 
 nearest-requires : tie.Need-nearest-requires
-nearest-requires c κs = known-nearest (c .before .before .before .before .before .before .pre) (c .before .before .before .if1 .left) (c .before .before .if2 .left) (c .before .if3 .left) (c .if4 .left)
+nearest-requires c κs =
+    let start = c .before .before .before .before .before .before in
+    known-nearest (start .pre) (c .before .before .before .if1 .left) (c .before .before .if2 .left)
+    (c .before .if3 .left) (c .if4 .left)
 
 returns-5 : tie.Need-returns-5
-returns-5 c = c .nearest .ensures ∙ joined-5 _ _ _ _ (c .before .before .before .before .if1 .left) (c .before .before .before .if2 .left) (c .before .before .if3 .left) (c .before .if4 .left)
+returns-5 c = c .nearest .ensures
+    ∙ joined-5 _ _ _ _ (c .before .before .before .before .if1 .left) (c .before .before .before .if2 .left)
+    (c .before .before .if3 .left) (c .before .if4 .left)
 
 pub join-number-spec : {M : Type 1} → statement M
 join-number-spec =

@@ -1,6 +1,7 @@
 -- `bodies::join_types` meets its contract. Assumes nothing.
 use borrow.Author.Needs.{needs}
-use Rattle.bodies.proofs.Cases.{join-bb, join-bc, join-bn, join-br, join-cc, join-cn, join-cb, join-cr, join-nc, join-nn, join-nb, join-nr, join-r, both-classes}
+use Rattle.bodies.proofs.Cases.{join-bb, join-bc, join-bn, join-br, join-cc, join-cn, join-cb, join-cr}
+use Rattle.bodies.proofs.Cases.{join-nc, join-nn, join-nb, join-nr, join-r, both-classes}
 use Rattle.bodies.proofs.join_types.Statement.{statement}
 use Rattle.bodies.proofs.join_types.Tie as tie
 
@@ -26,7 +27,10 @@ enum-known-u : tie.Need-enum-known-u
 enum-known-u c = search needs
 
 nearest-requires : tie.Need-nearest-requires
-nearest-requires c κs = both-classes _ _ _ _ _ _ (c .before .before .before .before .t .given .1) (c .before .u .given .1) (c .before .before .before .before .before .before .before .before .pre)
+nearest-requires c κs =
+    let at-t = c .before .before .before .before in
+    let start = at-t .before .before .before .before in
+    both-classes _ _ _ _ _ _ (at-t .t .given .1) (c .before .u .given .1) (start .pre)
 
 enum-told-6 : tie.Need-enum-told-6
 enum-told-6 c = search needs
@@ -68,7 +72,9 @@ returns-4 : tie.Need-returns-4
 returns-4 c = join-br _ _ _ _ _ _ (c .before .before .enum-told .given .1) (c .enum-told5 .given .1)
 
 returns-5 : tie.Need-returns-5
-returns-5 c = join-cc _ _ _ _ _ _ _ (c .before .before .before .before .before .t .given .1) (c .before .before .u .given .1) (c .nearest .ensures)
+returns-5 c =
+    let at-t = c .before .before .before .before .before in
+    join-cc _ _ _ _ _ _ _ (at-t .t .given .1) (c .before .before .u .given .1) (c .nearest .ensures)
 
 returns-6 : tie.Need-returns-6
 returns-6 c = join-cn _ _ _ _ _ (c .before .before .before .t .given .1) (c .enum-told6 .given .1)

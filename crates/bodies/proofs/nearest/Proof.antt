@@ -15,19 +15,36 @@ loop-holds : tie.Need-loop-holds Inv-loop μ-loop
 loop-holds c = going-start _ _ _ _
 
 is-below-requires : tie.Need-is-below-requires Inv-loop μ-loop
-is-below-requires c κs = (omega (arith, c .before .before .before .pre .second, c .before .before .before .pre .sound .long-above), omega (arith, c .before .before .before .pre .sound .few, c .before .before .before .pre .first, c .loop .inv .low))
+is-below-requires c κs = (
+  omega (arith, c .before .before .before .pre .second, c .before .before .before .pre .sound .long-above),
+  omega (
+    arith,
+    c .before .before .before .pre .sound .few,
+    c .before .before .before .pre .first,
+    c .loop .inv .low,
+  ),
+)
 
 entry-requires : tie.Need-entry-requires Inv-loop μ-loop
-entry-requires c κs = omega (arith, c .before .before .before .before .before .pre .sound .long, c .before .before .before .before .before .pre .first, c .before .before .loop .inv .low)
+entry-requires c κs =
+    let start = c .before .before .before .before .before in
+    omega (arith, start .pre .sound .long, start .pre .first, c .before .before .loop .inv .low)
 
 loop-less : tie.Need-loop-less Inv-loop μ-loop
-loop-less c = going-step (c .before .before .before .before .before .before .pre) (c .before .before .before .loop .inv) _ (c .before .before .is-below .ensures) (not-yes _ (c .before .if1 .taken)) _ (c .entry .ensures) .0
+loop-less c =
+    let start = c .before .before .before .before .before .before in
+    going-step (start .pre) (c .before .before .before .loop .inv) _ (c .before .before .is-below .ensures)
+    (not-yes _ (c .before .if1 .taken)) _ (c .entry .ensures) .0
 
 loop-again : tie.Need-loop-again Inv-loop μ-loop
-loop-again c = going-step (c .before .before .before .before .before .before .pre) (c .before .before .before .loop .inv) _ (c .before .before .is-below .ensures) (not-yes _ (c .before .if1 .taken)) _ (c .entry .ensures) .1
+loop-again c =
+    let start = c .before .before .before .before .before .before in
+    going-step (start .pre) (c .before .before .before .loop .inv) _ (c .before .before .is-below .ensures)
+    (not-yes _ (c .before .if1 .taken)) _ (c .entry .ensures) .1
 
 returns : tie.Need-returns Inv-loop μ-loop
-returns c = going-end (c .before .before .loop .inv) _ (c .before .is-below .ensures) (not-no _ (c .if1 .left))
+returns c = going-end (c .before .before .loop .inv) _ (c .before .is-below .ensures)
+    (not-no _ (c .if1 .left))
 
 pub nearest-spec : {M : Type 1} → statement M
 nearest-spec =

@@ -22,7 +22,11 @@ shared-slice-read-k : tie.Need-shared-slice-read-k
 shared-slice-read-k c = search needs
 
 cast-k : tie.Need-cast-k
-cast-k c = omega (arith, c .before .before .shared-slice-known .given (c .before .before .before .args .at * 4 + 1))
+cast-k c = omega (
+  arith,
+  c .before .before .shared-slice-known .given
+      (c .before .before .before .args .at * 4 + 1),
+)
 
 refused-requires : tie.Need-refused-requires
 refused-requires c κs = search needs
@@ -40,7 +44,8 @@ refused-requires-2 : tie.Need-refused-requires-2
 refused-requires-2 c κs = search needs
 
 returns-2 : tie.Need-returns-2
-returns-2 c = read-absent _ _ _ _ _ (c .before .before .before .if1 .left) (c .before .if2 .taken) (c .refused2 .ensures)
+returns-2 c = read-absent _ _ _ _ _ (c .before .before .before .if1 .left) (c .before .if2 .taken)
+    (c .refused2 .ensures)
 
 from-number-requires : tie.Need-from-number-requires
 from-number-requires c κs = search needs
@@ -52,7 +57,11 @@ plain-requires : tie.Need-plain-requires
 plain-requires c κs = search needs
 
 returns-3 : tie.Need-returns-3
-returns-3 c = read-there _ _ _ _ _ (c .before .before .before .before .before .if1 .left) (c .before .before .before .if2 .left) (c .plain .ensures ∙ ap (λ (t : Typing). answer t 0) (c .before .typing-of .ensures ∙ ap case-of-number (c .before .before .from-number .ensures)))
+returns-3 c =
+    let at-if1 = c .before .before .before .before .before in
+    read-there _ _ _ _ _ (at-if1 .if1 .left) (c .before .before .before .if2 .left)
+    (c .plain .ensures ∙ ap (λ (t : Typing). answer t 0)
+    (c .before .typing-of .ensures ∙ ap case-of-number (c .before .before .from-number .ensures)))
 
 pub read-slot-spec : {M : Type 1} → statement M
 read-slot-spec =

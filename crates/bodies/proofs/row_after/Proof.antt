@@ -21,16 +21,41 @@ body-row-requires : tie.Need-body-row-requires
 body-row-requires c κs = c .before .before .before .before .pre .block (c .if1 .taken)
 
 mul-result : tie.Need-mul-result
-mul-result c = omega (arith, c .before .before .before .before .before .pre .ended (c .before .if1 .taken) (c .body-row .result) (subst (FirstBlock (c .before .before .before .before .before .args .rows .now) (c .before .before .before .before .before .args .at)) (sym (c .body-row .ensures _ (c .before .before .before .before .before .pre .block (c .before .if1 .taken) .first))) (c .before .before .before .before .before .pre .block (c .before .if1 .taken) .first)), c .before .before .before .before .before .good)
+mul-result c =
+    let start = c .before .before .before .before .before in
+    omega (
+      arith,
+      start .pre .ended (c .before .if1 .taken) (c .body-row .result)
+          (subst (FirstBlock (start .args .rows .now) (start .args .at))
+          (sym (c .body-row .ensures _ (start .pre .block (c .before .if1 .taken) .first)))
+          (start .pre .block (c .before .if1 .taken) .first)),
+      start .good,
+    )
 
 shared-slice-read-result : tie.Need-shared-slice-read-result
-shared-slice-read-result c = omega (arith, c .before .before .before .before .before .before .pre .ended (c .before .before .if1 .taken) (c .before .body-row .result) (subst (FirstBlock (c .before .before .before .before .before .before .args .rows .now) (c .before .before .before .before .before .before .args .at)) (sym (c .before .body-row .ensures _ (c .before .before .before .before .before .before .pre .block (c .before .before .if1 .taken) .first))) (c .before .before .before .before .before .before .pre .block (c .before .before .if1 .taken) .first)))
+shared-slice-read-result c =
+    let start = c .before .before .before .before .before .before in
+    omega (
+      arith,
+      start .pre .ended (c .before .before .if1 .taken) (c .before .body-row .result)
+          (subst (FirstBlock (start .args .rows .now) (start .args .at))
+          (sym (c .before .body-row .ensures _ (start .pre .block (c .before .before .if1 .taken) .first)))
+          (start .pre .block (c .before .before .if1 .taken) .first)),
+    )
 
 cast-result : tie.Need-cast-result
-cast-result c = omega (arith, c .before .before .before .before .shared-slice-known2 .given (c .before .body-row .result))
+cast-result c =
+    let at-shared-slice-known2 = c .before .before .before .before in
+    omega (arith, at-shared-slice-known2 .shared-slice-known2 .given (c .before .body-row .result))
 
 returns : tie.Need-returns
-returns c = record { other = λ f. absurd (f (c .before .before .if1 .taken)); method = λ e b f. ap (λ (x : ℕ). getD (c .before .before .before .before .before .before .args .ends .now) x 0) (c .before .body-row .ensures b f) }
+returns c =
+    let start = c .before .before .before .before .before .before in
+    record {
+      other = λ f. absurd (f (c .before .before .if1 .taken));
+      method = λ e b f. ap (λ (x : ℕ). getD (start .args .ends .now) x 0)
+          (c .before .body-row .ensures b f);
+    }
 
 add-result : tie.Need-add-result
 add-result c = search needs

@@ -17,10 +17,15 @@ refused-requires : tie.Need-refused-requires
 refused-requires c κs = search needs
 
 returns : tie.Need-returns
-returns c = put-other _ _ _ _ _ _ _ _ _ (no-class-of (c .before .before .before .before .before .before .args .object .typing) (c .before .match .keys2)) (c .refused .ensures)
+returns c =
+    let start = c .before .before .before .before .before .before in
+    put-other _ _ _ _ _ _ _ _ _ (no-class-of (start .args .object .typing) (c .before .match .keys2))
+    (c .refused .ensures)
 
 apply-requires : tie.Need-apply-requires
-apply-requires c κs = let w = c .before .before .before .before .before .before .before .pre .object _ (c .before .t .given .1) .0 in (w .inside, w .root)
+apply-requires c κs =
+    let start = c .before .before .before .before .before .before .before in
+    let w = start .pre .object _ (c .before .t .given .1) .0 in (w .inside, w .root)
 
 mul-field-type : tie.Need-mul-field-type
 mul-field-type c = search needs
@@ -35,10 +40,16 @@ shared-slice-read-field-type : tie.Need-shared-slice-read-field-type
 shared-slice-read-field-type c = search needs
 
 cast-field-type : tie.Need-cast-field-type
-cast-field-type c = omega (arith, c .before .before .before .before .before .before .before .before .shared-slice-known .given (c .before .before .before .before .before .before .before .before .before .args .at * 4 + 1))
+cast-field-type c =
+    let at-shared-slice-known = c .before .before .before .before .before .before .before .before in
+    let start = at-shared-slice-known .before in
+    omega (arith, at-shared-slice-known .shared-slice-known .given (start .args .at * 4 + 1))
 
 field-type-requires : tie.Need-field-type-requires
-field-type-requires c κs = field-at _ _ _ _ _ (c .before .apply .ensures) (c .before .before .before .before .before .before .before .before .before .pre .object _ (c .before .before .before .t .given .1) .1)
+field-type-requires c κs =
+    let start = c .before .before .before .before .before .before .before .before .before in
+    field-at _ _ _ _ _ (c .before .apply .ensures)
+    (start .pre .object _ (c .before .before .before .t .given .1) .1)
 
 enum-known-sought : tie.Need-enum-known-sought
 enum-known-sought c = search needs
@@ -50,19 +61,45 @@ refused-requires-2 : tie.Need-refused-requires-2
 refused-requires-2 c κs = search needs
 
 returns-2 : tie.Need-returns-2
-returns-2 c = put-missing _ _ _ _ _ _ _ _ _ _ (c .before .before .before .before .before .before .before .t .given .1) (c .before .before .before .before .before .apply .ensures) _ (c .before .before .before .field-type .ensures) _ (c .before .enum-told .given .1) (c .refused2 .ensures)
+returns-2 c =
+    let at-apply = c .before .before .before .before .before in
+    let at-t = at-apply .before .before in
+    put-missing _ _ _ _ _ _ _ _ _ _ (at-t .t .given .1) (at-apply .apply .ensures) _
+    (c .before .before .before .field-type .ensures) _ (c .before .enum-told .given .1)
+    (c .refused2 .ensures)
 
 is-fitting-requires : tie.Need-is-fitting-requires
-is-fitting-requires c κs = (c .before .before .before .before .before .before .before .before .before .before .before .before .before .pre .value, c .before .before .before .before .before .before .before .before .before .before .before .before .before .pre .declared _ _ (c .before .before .before .before .before .before .before .t .given .1) (sym (c .before .before .before .field-type .ensures ∙ ap (λ (x : ℕ). field-in (c .before .before .before .before .before .before .before .before .before .before .before .before .before .args .rows .now) (c .before .before .before .before .before .before .before .before .before .before .before .before .before .args .table .now) x (getD (c .before .before .before .before .before .before .before .before .before .before .before .before .before .args .rows .now) (c .before .before .before .before .before .before .before .before .before .before .before .before .before .args .at * 4 + 1) 0)) (c .before .before .before .before .before .apply .ensures)) ∙ c .before .sought .given .1))
+is-fitting-requires c κs =
+    let at-apply = c .before .before .before .before .before in
+    let at-t = at-apply .before .before in
+    let start = at-t .before .before .before .before .before .before in (
+      start .pre .value,
+      start .pre .declared _ _ (at-t .t .given .1)
+          (sym (c .before .before .before .field-type .ensures
+          ∙ ap (λ (x : ℕ). field-in (start .args .rows .now) (start .args .table .now) x
+          (getD (start .args .rows .now) (start .args .at * 4 + 1) 0)) (at-apply .apply .ensures))
+          ∙ c .before .sought .given .1),
+    )
 
 refused-requires-3 : tie.Need-refused-requires-3
 refused-requires-3 c κs = search needs
 
 returns-3 : tie.Need-returns-3
-returns-3 c = put-unfit _ _ _ _ _ _ _ _ _ _ (c .before .before .before .before .before .before .before .before .before .before .t .given .1) (c .before .before .before .before .before .before .before .before .apply .ensures) _ (c .before .before .before .before .before .before .field-type .ensures) _ (c .before .before .before .before .sought .given .1) _ (c .before .before .is-fitting .ensures) _ (not-yes _ (c .before .if1 .taken)) (c .refused3 .ensures)
+returns-3 c =
+    let at-sought = c .before .before .before .before in
+    let at-field-type = at-sought .before .before in
+    let at-apply = at-field-type .before .before in
+    let at-t = at-apply .before .before in
+    put-unfit _ _ _ _ _ _ _ _ _ _ (at-t .t .given .1) (at-apply .apply .ensures) _
+    (at-field-type .field-type .ensures) _ (at-sought .sought .given .1) _
+    (c .before .before .is-fitting .ensures) _ (not-yes _ (c .before .if1 .taken)) (c .refused3 .ensures)
 
 cast-class-at : tie.Need-cast-class-at
-cast-class-at c = omega (arith, c .before .before .before .before .before .before .before .apply .ensures, c .before .before .before .before .before .before .before .before .before .before .before .before .before .before .before .pre .object _ (c .before .before .before .before .before .before .before .before .before .t .given .1) .0 .low)
+cast-class-at c =
+    let at-apply = c .before .before .before .before .before .before .before in
+    let at-t = at-apply .before .before in
+    let start = at-t .before .before .before .before .before .before in
+    omega (arith, at-apply .apply .ensures, start .pre .object _ (at-t .t .given .1) .0 .low)
 
 mul-class-at : tie.Need-mul-class-at
 mul-class-at c = search needs
@@ -74,7 +111,14 @@ same-length : tie.Need-same-length
 same-length c = search needs
 
 returns-4 : tie.Need-returns-4
-returns-4 c = put-done _ _ _ _ _ _ _ _ _ _ (c .before .before .before .before .before .before .before .before .before .before .before .t .given .1) (c .before .before .before .before .before .before .before .before .before .apply .ensures) _ (c .before .before .before .before .before .before .before .field-type .ensures) _ (c .before .before .before .before .before .sought .given .1) _ (c .before .before .before .is-fitting .ensures) (not-no _ (c .before .before .if1 .left))
+returns-4 c =
+    let at-sought = c .before .before .before .before .before in
+    let at-field-type = at-sought .before .before in
+    let at-apply = at-field-type .before .before in
+    let at-t = at-apply .before .before in
+    put-done _ _ _ _ _ _ _ _ _ _ (at-t .t .given .1) (at-apply .apply .ensures) _
+    (at-field-type .field-type .ensures) _ (at-sought .sought .given .1) _
+    (c .before .before .before .is-fitting .ensures) (not-no _ (c .before .before .if1 .left))
 
 pub set-spec : {M : Type 1} → statement M
 set-spec =

@@ -35,16 +35,28 @@ refused-requires-4 : tie.Need-refused-requires-4
 refused-requires-4 c κs = search needs
 
 returns-2 : tie.Need-returns-2
-returns-2 c = many-bool _ _ _ _ _ (c .before .before .before .before .is-refusal .ensures) (c .before .before .before .if1 .left) (c .before .enum-told .given .1) (c .refused .ensures)
+returns-2 c =
+    let at-is-refusal = c .before .before .before .before in
+    many-bool _ _ _ _ _ (at-is-refusal .is-refusal .ensures) (c .before .before .before .if1 .left)
+    (c .before .enum-told .given .1) (c .refused .ensures)
 
 returns-3 : tie.Need-returns-3
-returns-3 c = many-class _ _ _ _ _ (c .before .before .before .before .is-refusal .ensures) (c .before .before .before .if1 .left) _ (c .before .enum-told2 .given .1) (c .refused2 .ensures)
+returns-3 c =
+    let at-is-refusal = c .before .before .before .before in
+    many-class _ _ _ _ _ (at-is-refusal .is-refusal .ensures) (c .before .before .before .if1 .left) _
+    (c .before .enum-told2 .given .1) (c .refused2 .ensures)
 
 returns-4 : tie.Need-returns-4
-returns-4 c = many-null _ _ _ _ _ (c .before .before .before .before .is-refusal .ensures) (c .before .before .before .if1 .left) (c .before .enum-told3 .given .1) (c .refused3 .ensures)
+returns-4 c =
+    let at-is-refusal = c .before .before .before .before in
+    many-null _ _ _ _ _ (at-is-refusal .is-refusal .ensures) (c .before .before .before .if1 .left)
+    (c .before .enum-told3 .given .1) (c .refused3 .ensures)
 
 returns-5 : tie.Need-returns-5
-returns-5 c = many-refusal _ _ _ _ _ (c .before .before .before .before .is-refusal .ensures) (c .before .before .before .if1 .left) _ _ (c .before .enum-told4 .given .1) (c .refused4 .ensures)
+returns-5 c =
+    let at-is-refusal = c .before .before .before .before in
+    many-refusal _ _ _ _ _ (at-is-refusal .is-refusal .ensures) (c .before .before .before .if1 .left) _ _
+    (c .before .enum-told4 .given .1) (c .refused4 .ensures)
 
 pub too-many-spec : {M : Type 1} → statement M
 too-many-spec =

@@ -14,7 +14,8 @@ typing-of-requires : tie.Need-typing-of-requires
 typing-of-requires c κs = search needs
 
 returns-2 : tie.Need-returns-2
-returns-2 c = stored-known _ _ _ (c .before .before .if1 .left) (c .before .from-number .ensures) (c .typing-of .ensures)
+returns-2 c = stored-known _ _ _ (c .before .before .if1 .left) (c .before .from-number .ensures)
+    (c .typing-of .ensures)
 
 pub typing-at-spec : {M : Type 1} → statement M
 typing-at-spec = tie.close (tie.spec returns from-number-requires typing-of-requires returns-2)

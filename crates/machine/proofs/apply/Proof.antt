@@ -1,9 +1,10 @@
-use Rattle.machine.proofs.Leaves.{apply-row, apply-room, pre-load, pre-cast, apply-rest, apply-null, apply-some, apply-get, apply-cast, apply-assign, apply-number}
+use Rattle.machine.proofs.Leaves.{apply-row, apply-room, pre-load, pre-cast, apply-rest, apply-null}
+use Rattle.machine.proofs.Leaves.{apply-some, apply-get, apply-cast, apply-assign, apply-number}
 use Rattle.objects.specs.Values.{outcome}
 use Rattle.machine.proofs.apply.Statement.{statement}
 use Rattle.machine.proofs.apply.Tie as tie
 use native.Mathlib.Omega.{arith}
-use Prim.Native.Nat.{_+_, _-_, _*_}
+use Prim.Native.Nat.{_+_, _*_}
 
 mul-k : tie.Need-mul-k
 mul-k c = omega (arith, apply-row (c .before .before .before .before .before .pre))
@@ -24,40 +25,62 @@ mul-a-2 : tie.Need-mul-a-2
 mul-a-2 c = omega (arith, apply-row (c .before .before .before .before .before .before .pre))
 
 shared-slice-read-a : tie.Need-shared-slice-read-a
-shared-slice-read-a c = omega (arith, apply-row (c .before .before .before .before .before .before .before .pre))
+shared-slice-read-a c =
+    let start = c .before .before .before .before .before .before .before in
+    omega (arith, apply-row (start .pre))
 
 cast-load : tie.Need-cast-load
-cast-load c = omega (arith, c .before .before .shared-slice-known5 .given (c .before .before .before .before .before .before .before .before .args .at * 4 + 1))
+cast-load c =
+    let start = c .before .before .before .before .before .before .before .before in
+    omega (arith, c .before .before .shared-slice-known5 .given (start .args .at * 4 + 1))
 
 load-requires : tie.Need-load-requires
-load-requires c κs = pre-load (c .before .before .before .before .before .before .before .before .pre) (c .match .keys2)
+load-requires c κs =
+    let start = c .before .before .before .before .before .before .before .before in
+    pre-load (start .pre) (c .match .keys2)
 
 cast-object-requires : tie.Need-cast-object-requires
-cast-object-requires c κs = pre-cast (c .before .before .before .before .before .before .before .before .pre) (c .match .keys3)
+cast-object-requires c κs =
+    let start = c .before .before .before .before .before .before .before .before in
+    pre-cast (start .pre) (c .match .keys3)
 
 cast-write-slot : tie.Need-cast-write-slot
-cast-write-slot c = omega (arith, c .before .before .before .shared-slice-known5 .given (c .before .before .before .before .before .before .before .before .before .args .at * 4 + 1))
+cast-write-slot c =
+    let start = c .before .before .before .before .before .before .before .before .before in
+    omega (arith, c .before .before .before .shared-slice-known5 .given (start .args .at * 4 + 1))
 
 write-slot-requires : tie.Need-write-slot-requires
-write-slot-requires c κs = apply-room (c .before .before .before .before .before .before .before .before .before .pre)
+write-slot-requires c κs =
+    let start = c .before .before .before .before .before .before .before .before .before in
+    apply-room (start .pre)
 
 returns : tie.Need-returns
-returns c = apply-null (c .before .before .before .before .before .before .before .before .before .args .n) (c .before .match .keys1) (c .if1 .taken)
+returns c =
+    let start = c .before .before .before .before .before .before .before .before .before in
+    apply-null (start .args .n) (c .before .match .keys1) (c .if1 .taken)
 
 returns-2 : tie.Need-returns-2
-returns-2 c = apply-some (c .before .before .before .before .before .before .before .before .before .args .n) (c .before .match .keys1) (c .if1 .left)
+returns-2 c =
+    let start = c .before .before .before .before .before .before .before .before .before in
+    apply-some (start .args .n) (c .before .match .keys1) (c .if1 .left)
 
 returns-3 : tie.Need-returns-3
 returns-3 c = apply-get (outcome (c .load .result)) (c .before .match .keys2) (c .load .ensures)
 
 returns-4 : tie.Need-returns-4
-returns-4 c = apply-cast (outcome (c .cast-object .result)) (c .before .match .keys3) (c .cast-object .ensures)
+returns-4 c = apply-cast (outcome (c .cast-object .result)) (c .before .match .keys3)
+    (c .cast-object .ensures)
 
 same-length : tie.Need-same-length
 same-length c = c .before .before .write-slot .kept .0
 
 returns-5 : tie.Need-returns-5
-returns-5 c = apply-number (c .before .before .before .before .before .before .before .before .before .before .before .before .args .n) (omega (arith, c .before .before .before .before .before .before .before .before .before .before .before .before .fits .n)) (apply-assign (apply-rest (c .before .before .before .before .before .before .before .before .before .before .before .before .pre) (c .before .before .before .before .match .rest .0 .0 .1) (c .before .before .before .before .match .rest .0 .1) (c .before .before .before .before .match .rest .1)) (c .before .before .write-slot .ensures) (c .before .before .before .before .before .before .before .before .before .before .before .before .pre .small))
+returns-5 c =
+    let at-match = c .before .before .before .before in
+    let start = at-match .before .before .before .before .before .before .before .before in
+    apply-number (start .args .n) (omega (arith, start .fits .n))
+    (apply-assign (apply-rest (start .pre) (at-match .match .rest .0 .0 .1) (at-match .match .rest .0 .1)
+    (at-match .match .rest .1)) (c .before .before .write-slot .ensures) (start .pre .small))
 
 pub apply-spec : {M : Type 1} → statement M
 apply-spec =

@@ -1,4 +1,5 @@
-use Rattle.objects.proofs.Values.{gave-number, small-number, outcome-failure, failure-raised, failure-stopped, failure-low}
+use Rattle.objects.proofs.Values.{gave-number, small-number, outcome-failure, failure-raised, failure-stopped}
+use Rattle.objects.proofs.Values.{failure-low}
 use Rattle.machine.specs.declared.End.the-variants.{Stopped}
 use Rattle.objects.specs.Values.{outcome}
 use Rattle.machine.specs.Contracts.{outcome-of, end-told}
@@ -22,22 +23,29 @@ decode-requires : tie.Need-decode-requires
 decode-requires c κs = search needs
 
 value-told-requires : tie.Need-value-told-requires
-value-told-requires c κs = small-number (c .before .before .args .o) (c .decode .ensures) (c .before .if1 .taken)
+value-told-requires c κs =
+    small-number (c .before .before .args .o) (c .decode .ensures) (c .before .if1 .taken)
 
 returns : tie.Need-returns
-returns c = told-gave (sym (gave-number (c .before .before .before .args .o) (c .before .decode .ensures) (c .before .before .if1 .taken))) (c .value-told .ensures)
+returns c = told-gave (sym (gave-number (c .before .before .before .args .o) (c .before .decode .ensures)
+    (c .before .before .if1 .taken))) (c .value-told .ensures)
 
 cast-n : tie.Need-cast-n
 cast-n c = omega (arith, failure-low (c .before .args .o) (c .if1 .left) (c .before .pre))
 
 returns-2 : tie.Need-returns-2
-returns-2 c = told-raised (outcome-failure (c .before .before .before .args .o) (c .before .before .if1 .left) ∙ failure-raised (c .before .before .before .args .o - 4294967296) (omega (arith, c .before .if2 .left)) (omega (arith, c .if3 .taken)))
+returns-2 c = told-raised (outcome-failure (c .before .before .before .args .o) (c .before .before .if1 .left)
+    ∙ failure-raised (c .before .before .before .args .o - 4294967296) (omega (arith, c .before .if2 .left))
+    (omega (arith, c .if3 .taken)))
 
 returns-3 : tie.Need-returns-3
 returns-3 c = told-zero (c .before .before .args .o) (omega (arith, c .before .if1 .left, c .if2 .taken))
 
 returns-4 : tie.Need-returns-4
-returns-4 c = told-stopped (outcome-failure (c .before .before .before .args .o) (c .before .before .if1 .left) ∙ failure-stopped (c .before .before .before .args .o - 4294967296) (omega (arith, c .if3 .left))) (c .before .before .before .pre)
+returns-4 c = told-stopped (outcome-failure (c .before .before .before .args .o)
+    (c .before .before .if1 .left)
+    ∙ failure-stopped (c .before .before .before .args .o - 4294967296) (omega (arith, c .if3 .left)))
+    (c .before .before .before .pre)
 
 pub end-told-spec : {M : Type 1} → statement M
 end-told-spec =

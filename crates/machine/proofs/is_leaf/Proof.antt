@@ -23,7 +23,9 @@ returns-6 : tie.Need-returns-6
 returns-6 c = sym (ap no-child (c .match .keys6))
 
 returns-7 : tie.Need-returns-7
-returns-7 c = sym (no-leaf (c .before .args .k) (c .match .rest .0 .0 .0 .0 .0 .1) (c .match .rest .0 .0 .0 .0 .1) (c .match .rest .0 .0 .0 .1) (c .match .rest .0 .0 .1) (c .match .rest .0 .1) (c .match .rest .1))
+returns-7 c = sym (no-leaf (c .before .args .k) (c .match .rest .0 .0 .0 .0 .0 .1)
+    (c .match .rest .0 .0 .0 .0 .1) (c .match .rest .0 .0 .0 .1) (c .match .rest .0 .0 .1)
+    (c .match .rest .0 .1) (c .match .rest .1))
 
 pub is-leaf-spec : {M : Type 1} → statement M
 is-leaf-spec =

@@ -10,7 +10,8 @@ use Rattle.machine.proofs.open_locals.Statement.{statement}
 use Rattle.machine.proofs.open_locals.Tie as tie
 
 abbrev Inv-loop : tie.InvT-loop
-Inv-loop rows slots₀ row from n i₀ slots i = (i ≤ n) × Written slots₀ slots from i (λ k. first-of-type (getD rows ((row + k) * 4 + 1) 0))
+Inv-loop rows slots₀ row from n i₀ slots i = (i ≤ n)
+    × Written slots₀ slots from i (λ k. first-of-type (getD rows ((row + k) * 4 + 1) 0))
 
 abbrev μ-loop : tie.MeasureT-loop
 μ-loop rows slots₀ row from n i₀ slots i = n - i
@@ -19,31 +20,47 @@ loop-holds : tie.Need-loop-holds Inv-loop μ-loop
 loop-holds c = (omega arith, written-none _ _ _)
 
 add-first-value : tie.Need-add-first-value Inv-loop μ-loop
-add-first-value c = omega (arith, c .before .before .before .before .pre .rows (c .before .loop .i) (c .loop-test .taken))
+add-first-value c =
+    let start = c .before .before .before .before in
+    omega (arith, start .pre .rows (c .before .loop .i) (c .loop-test .taken))
 
 mul-first-value : tie.Need-mul-first-value Inv-loop μ-loop
-mul-first-value c = omega (arith, c .before .before .before .before .pre .rows (c .before .loop .i) (c .loop-test .taken))
+mul-first-value c =
+    let start = c .before .before .before .before in
+    omega (arith, start .pre .rows (c .before .loop .i) (c .loop-test .taken))
 
 add-first-value-2 : tie.Need-add-first-value-2 Inv-loop μ-loop
-add-first-value-2 c = omega (arith, c .before .before .before .before .pre .rows (c .before .loop .i) (c .loop-test .taken))
+add-first-value-2 c =
+    let start = c .before .before .before .before in
+    omega (arith, start .pre .rows (c .before .loop .i) (c .loop-test .taken))
 
 mul-first-value-2 : tie.Need-mul-first-value-2 Inv-loop μ-loop
-mul-first-value-2 c = omega (arith, c .before .before .before .before .pre .rows (c .before .loop .i) (c .loop-test .taken))
+mul-first-value-2 c =
+    let start = c .before .before .before .before in
+    omega (arith, start .pre .rows (c .before .loop .i) (c .loop-test .taken))
 
 shared-slice-read-first-value : tie.Need-shared-slice-read-first-value Inv-loop μ-loop
-shared-slice-read-first-value c = omega (arith, c .before .before .before .before .before .pre .rows (c .before .before .loop .i) (c .before .loop-test .taken))
+shared-slice-read-first-value c =
+    let start = c .before .before .before .before .before in
+    omega (arith, start .pre .rows (c .before .before .loop .i) (c .before .loop-test .taken))
 
 first-value-requires : tie.Need-first-value-requires Inv-loop μ-loop
 first-value-requires c κs = search needs
 
 add-slots : tie.Need-add-slots Inv-loop μ-loop
-add-slots c = omega (arith, c .before .before .before .before .before .before .pre .room, c .before .before .before .loop .inv .1 .long)
+add-slots c =
+    let start = c .before .before .before .before .before .before in
+    omega (arith, start .pre .room, c .before .before .before .loop .inv .1 .long)
 
 mul-slots : tie.Need-mul-slots Inv-loop μ-loop
-mul-slots c = omega (arith, c .before .before .before .before .before .before .pre .room, c .before .before .before .loop .inv .1 .long)
+mul-slots c =
+    let start = c .before .before .before .before .before .before in
+    omega (arith, start .pre .room, c .before .before .before .loop .inv .1 .long)
 
 slice-write-slots : tie.Need-slice-write-slots Inv-loop μ-loop
-slice-write-slots c = omega (arith, c .before .before .before .before .before .before .pre .room, c .before .before .before .loop .inv .1 .long)
+slice-write-slots c =
+    let start = c .before .before .before .before .before .before in
+    omega (arith, start .pre .room, c .before .before .before .loop .inv .1 .long)
 
 add-i : tie.Need-add-i Inv-loop μ-loop
 add-i c = omega arith
@@ -52,13 +69,20 @@ loop-less : tie.Need-loop-less Inv-loop μ-loop
 loop-less c = omega arith
 
 loop-again : tie.Need-loop-again Inv-loop μ-loop
-loop-again c = (omega arith, written-more _ _ (c .before .before .before .loop .inv .1) refl (omega (arith, c .before .before .before .before .before .before .pre .room)) (c .first-value .ensures))
+loop-again c =
+    let start = c .before .before .before .before .before .before in (
+      omega arith,
+      written-more _ _ (c .before .before .before .loop .inv .1) refl
+          (omega (arith, start .pre .room)) (c .first-value .ensures),
+    )
 
 same-length : tie.Need-same-length Inv-loop μ-loop
 same-length c = c .before .loop .inv .1 .long
 
 returns : tie.Need-returns Inv-loop μ-loop
-returns c = let e : c .before .loop .i ≡ c .before .before .before .before .args .n = omega arith in rw e at (c .before .loop .inv .1)
+returns c =
+    let start = c .before .before .before .before in
+    let e : c .before .loop .i ≡ start .args .n = omega arith in rw e at (c .before .loop .inv .1)
 
 pub open-locals-spec : {M : Type 1} → statement M
 open-locals-spec =

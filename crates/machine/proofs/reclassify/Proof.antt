@@ -4,7 +4,7 @@ use Rattle.objects.specs.Values.{outcome, decoded}
 use Rattle.machine.proofs.reclassify.Statement.{statement}
 use Rattle.machine.proofs.reclassify.Tie as tie
 use native.Mathlib.Omega.{arith}
-use Prim.Native.Nat.{_+_, _-_, _*_}
+use Prim.Native.Nat.{_+_, _*_}
 use borrow.Author.Needs.{needs}
 
 mul-k : tie.Need-mul-k
@@ -20,37 +20,61 @@ shared-slice-read-k : tie.Need-shared-slice-read-k
 shared-slice-read-k c = omega (arith, leaf-row (c .before .before .before .before .before .pre .0))
 
 cast-k : tie.Need-cast-k
-cast-k c = omega (arith, c .shared-slice-known4 .given (c .before .before .before .before .before .args .at * 4 + 1))
+cast-k c =
+    let start = c .before .before .before .before .before in
+    omega (arith, c .shared-slice-known4 .given (start .args .at * 4 + 1))
 
 read-slot-requires : tie.Need-read-slot-requires
 read-slot-requires c κs = leaf-room (c .before .before .before .before .before .pre .0)
 
 returns : tie.Need-returns
-returns c = change-missing (outcome (c .before .read-slot .result)) (c .before .before .before .before .before .before .before .pre .1) (c .before .read-slot .ensures) (not-gave (c .before .read-slot .result) (c .if1 .taken))
+returns c =
+    let start = c .before .before .before .before .before .before .before in
+    change-missing (outcome (c .before .read-slot .result)) (start .pre .1) (c .before .read-slot .ensures)
+    (not-gave (c .before .read-slot .result) (c .if1 .taken))
 
 cast-change-class : tie.Need-cast-change-class
 cast-change-class c = search needs
 
 mul-change-class : tie.Need-mul-change-class
-mul-change-class c = omega (arith, leaf-row (c .before .before .before .before .before .before .before .before .before .pre .0))
+mul-change-class c =
+    let start = c .before .before .before .before .before .before .before .before .before in
+    omega (arith, leaf-row (start .pre .0))
 
 add-change-class : tie.Need-add-change-class
-add-change-class c = omega (arith, leaf-row (c .before .before .before .before .before .before .before .before .before .pre .0))
+add-change-class c =
+    let start = c .before .before .before .before .before .before .before .before .before in
+    omega (arith, leaf-row (start .pre .0))
 
 mul-change-class-2 : tie.Need-mul-change-class-2
-mul-change-class-2 c = omega (arith, leaf-row (c .before .before .before .before .before .before .before .before .before .pre .0))
+mul-change-class-2 c =
+    let start = c .before .before .before .before .before .before .before .before .before in
+    omega (arith, leaf-row (start .pre .0))
 
 shared-slice-read-change-class : tie.Need-shared-slice-read-change-class
-shared-slice-read-change-class c = omega (arith, leaf-row (c .before .before .before .before .before .before .before .before .before .before .pre .0))
+shared-slice-read-change-class c =
+    let start = c .before .before .before .before .before .before .before .before .before .before in
+    omega (arith, leaf-row (start .pre .0))
 
 change-class-requires : tie.Need-change-class-requires
-change-class-requires c κs = pre-change (decoded (c .before .before .before .before .read-slot .result)) (c .before .before .before .before .before .before .before .before .before .before .pre .0) (c .before .before .before .before .before .before .before .before .before .before .pre .1) (small-decoded (c .before .before .before .before .read-slot .result) (c .before .before .before .if1 .left))
+change-class-requires c κs =
+    let at-read-slot = c .before .before .before .before in
+    let start = at-read-slot .before .before .before .before .before .before in
+    pre-change (decoded (at-read-slot .read-slot .result)) (start .pre .0) (start .pre .1)
+    (small-decoded (at-read-slot .read-slot .result) (c .before .before .before .if1 .left))
 
 same-length : tie.Need-same-length
 same-length c = c .before .before .change-class .kept .1 .1 .0
 
 returns-2 : tie.Need-returns-2
-returns-2 c = change-done (outcome (c .before .before .before .before .before .before .before .read-slot .result)) (decoded (c .before .before .before .before .before .before .before .read-slot .result)) (c .before .before .before .before .before .before .before .before .before .before .before .before .before .pre .1) (c .before .before .before .before .before .before .before .read-slot .ensures) (outcome-value (c .before .before .before .before .before .before .before .read-slot .result) (c .before .before .before .before .before .before .if1 .left)) (c .before .before .change-class .ensures)
+returns-2 c =
+    let at-if1 = c .before .before .before .before .before .before in
+    let at-read-slot = at-if1 .before in
+    let start = at-read-slot .before .before .before .before .before .before in
+    change-done (outcome (at-read-slot .read-slot .result)) (decoded (at-read-slot .read-slot .result))
+    (start .pre .1) (at-read-slot .read-slot .ensures)
+    (outcome-value (at-read-slot .read-slot .result) (at-if1 .if1 .left))
+    (c .before .before .change-class .ensures)
 
 pub reclassify-spec : {M : Type 1} → statement M
 reclassify-spec =

@@ -1,4 +1,3 @@
-use Prim.Native.Nat.{_-_}
 use borrow.Author.Needs.{needs}
 use Rattle.language.proofs.Filling.{replicate-long}
 use Rattle.machine.proofs.run_checked.Statement.{statement}
@@ -8,7 +7,9 @@ slice-aggregate-run-with : tie.Need-slice-aggregate-run-with
 slice-aggregate-run-with c = search needs
 
 run-with-requires : tie.Need-run-with-requires
-run-with-requires c κs = (c .before .before .before .before .before .before .before .pre, replicate-long 92040)
+run-with-requires c κs =
+    let start = c .before .before .before .before .before .before .before in
+    (start .pre, replicate-long 92040)
 
 same-length : tie.Need-same-length
 same-length c = search needs

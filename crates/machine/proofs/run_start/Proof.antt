@@ -1,4 +1,3 @@
-use Prim.Native.Nat.{_-_}
 use native.Mathlib.Omega.{arith}
 use borrow.Author.Needs.{needs}
 use Rattle.machine.proofs.Running.{start-pre, start-falls, run-done}
@@ -9,13 +8,18 @@ array-write-tally : tie.Need-array-write-tally
 array-write-tally c = search needs
 
 eval-requires : tie.Need-eval-requires
-eval-requires c κs = start-pre (c .before .before .before .before .before .before .before .before .before .pre .runs) (omega arith)
+eval-requires c κs =
+    let start = c .before .before .before .before .before .before .before .before .before in
+    start-pre (start .pre .runs) (omega arith)
 
 array-read-t20 : tie.Need-array-read-t20
 array-read-t20 c = search needs
 
 sub-t21 : tie.Need-sub-t21
-sub-t21 c = omega (arith, start-falls (c .before .before .before .before .before .before .before .before .before .before .before .before .before .before .pre) (omega arith) (c .before .before .before .before .eval .ensures))
+sub-t21 c =
+    let at-eval = c .before .before .before .before in
+    let start = at-eval .before .before .before .before .before .before .before .before .before .before in
+    omega (arith, start-falls (start .pre) (omega arith) (at-eval .eval .ensures))
 
 array-read-t24 : tie.Need-array-read-t24
 array-read-t24 c = search needs
@@ -30,7 +34,9 @@ same-length-2 : tie.Need-same-length-2
 same-length-2 c = c .before .before .before .before .eval .kept .1 .1 .1 .1 .1 .0
 
 returns : tie.Need-returns
-returns c = run-done (c .before .before .before .before .eval .last .1 .1 .1 .1 .1 .1 .0) (omega arith) (c .before .before .before .before .eval .ensures)
+returns c =
+    let at-eval = c .before .before .before .before in
+    run-done (at-eval .eval .last .1 .1 .1 .1 .1 .1 .0) (omega arith) (at-eval .eval .ensures)
 
 pub run-start-spec : {M : Type 1} → statement M
 run-start-spec =

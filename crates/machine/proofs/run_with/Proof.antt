@@ -1,4 +1,3 @@
-use Prim.Native.Nat.{_-_}
 use native.Mathlib.Omega.{arith}
 use borrow.Author.Needs.{needs}
 use Rattle.machine.proofs.Checked.{some-start, start-low, pre-start, end-small, checked-done}
@@ -9,13 +8,22 @@ find-letter-requires : tie.Need-find-letter-requires
 find-letter-requires c κs = some-start (c .before .before .before .before .before .before .pre .0)
 
 add-run-start : tie.Need-add-run-start
-add-run-start c = omega (arith, start-low (c .before .before .before .before .before .before .before .before .before .pre .0) (c .before .before .find-letter .ensures))
+add-run-start c =
+    let start = c .before .before .before .before .before .before .before .before .before in
+    omega (arith, start-low (start .pre .0) (c .before .before .find-letter .ensures))
 
 run-start-requires : tie.Need-run-start-requires
-run-start-requires c κs = pre-start (c .before .before .before .before .before .before .before .before .before .pre .0) (c .before .before .find-letter .ensures) (c .before .before .before .before .before .before .before .before .before .pre .1)
+run-start-requires c κs =
+    let start = c .before .before .before .before .before .before .before .before .before in
+    pre-start (start .pre .0) (c .before .before .find-letter .ensures) (start .pre .1)
 
 end-told-requires : tie.Need-end-told-requires
-end-told-requires c κs = end-small (c .before .before .before .before .before .before .before .before .before .before .before .before .before .before .pre .0) (c .before .before .before .before .before .before .before .find-letter .ensures) (c .before .before .before .before .before .before .before .before .before .before .before .before .before .before .pre .1) (c .before .before .before .before .run-start .ensures)
+end-told-requires c κs =
+    let at-run-start = c .before .before .before .before in
+    let at-find-letter = at-run-start .before .before .before in
+    let start = at-find-letter .before .before .before .before .before .before .before in
+    end-small (start .pre .0) (at-find-letter .find-letter .ensures) (start .pre .1)
+    (at-run-start .run-start .ensures)
 
 same-length : tie.Need-same-length
 same-length c = search needs
@@ -24,7 +32,12 @@ same-length-2 : tie.Need-same-length-2
 same-length-2 c = search needs
 
 returns : tie.Need-returns
-returns c = checked-done (c .before .before .before .before .before .before .before .before .before .before .before .before .before .before .before .pre .0) (c .before .before .before .before .before .before .before .before .find-letter .ensures) (c .before .before .before .before .before .before .before .before .before .before .before .before .before .before .before .pre .1) (c .before .before .before .before .before .run-start .ensures) (c .end-told .result) (c .end-told .ensures)
+returns c =
+    let at-run-start = c .before .before .before .before .before in
+    let at-find-letter = at-run-start .before .before .before in
+    let start = at-find-letter .before .before .before .before .before .before .before in
+    checked-done (start .pre .0) (at-find-letter .find-letter .ensures) (start .pre .1)
+    (at-run-start .run-start .ensures) (c .end-told .result) (c .end-told .ensures)
 
 pub run-with-spec : {M : Type 1} → statement M
 run-with-spec =

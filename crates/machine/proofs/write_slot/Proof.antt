@@ -38,7 +38,8 @@ same-length-2 : tie.Need-same-length-2
 same-length-2 c = search needs
 
 returns-4 : tie.Need-returns-4
-returns-4 c = write-at (c .before .before .before .args .n) (c .before .before .before .pre) (c .if2 .left) (c .before .if1 .left)
+returns-4 c = write-at (c .before .before .before .args .n) (c .before .before .before .pre) (c .if2 .left)
+    (c .before .if1 .left)
 
 pub write-slot-spec : {M : Type 1} → statement M
 write-slot-spec =

@@ -3,7 +3,8 @@ use Prim.Native.Nat.{_+_, _*_}
 use native.Mathlib.Omega.{arith}
 use lib.ListN.{getD}
 use borrow.Author.Needs.{needs}
-use Rattle.objects.proofs.Finding.{method-spot, pre-body, find-null, find-truth, find-past, find-missing, find-deep, find-found}
+use Rattle.objects.proofs.Finding.{method-spot, pre-body, find-null, find-truth, find-past}
+use Rattle.objects.proofs.Finding.{find-missing, find-deep, find-found}
 use Rattle.objects.proofs.find_body.Statement.{statement}
 use Rattle.objects.proofs.find_body.Tie as tie
 
@@ -16,7 +17,8 @@ is-null-requires c κs = search needs
 returns : tie.Need-returns
 returns c =
     let start = c .before .before .before .before .before .before in
-    find-null (start .args .n) (c .before .before .decode .ensures) (sym (c .before .is-null .ensures) ∙ c .if1 .taken)
+    find-null (start .args .n) (c .before .before .decode .ensures)
+    (sym (c .before .is-null .ensures) ∙ c .if1 .taken)
 
 enum-known-v : tie.Need-enum-known-v
 enum-known-v c = search needs
@@ -24,16 +26,18 @@ enum-known-v c = search needs
 returns-2 : tie.Need-returns-2
 returns-2 c =
     let start = c .before .before .before .before .before .before .before in
-    find-truth (start .args .n) (c .before .before .before .decode .ensures) (c .match .keys2) (sym (c .before .before .is-null .ensures) ∙ c .before .if1 .left)
+    find-truth (start .args .n) (c .before .before .before .decode .ensures) (c .match .keys2)
+    (sym (c .before .before .is-null .ensures) ∙ c .before .if1 .left)
 
 element-copy-out-if2 : tie.Need-element-copy-out-if2
 element-copy-out-if2 c = search needs
 
 returns-3 : tie.Need-returns-3
 returns-3 c =
-    let start = c .before .before .before .before .before .before .before .before .before .before .before in
-    let the-decode = c .before .before .before .before .before .before .before .decode in
-    find-past (start .args .n) (the-decode .ensures) (c .before .before .before .v .given .0 .0) (c .before .before .before .v .given .1) (c .if2 .taken)
+    let at-decode = c .before .before .before .before .before .before .before in
+    let start = at-decode .before .before .before .before in
+    find-past (start .args .n) (at-decode .decode .ensures) (c .before .before .before .v .given .0 .0)
+    (c .before .before .before .v .given .1) (c .if2 .taken)
 
 cast-c : tie.Need-cast-c
 cast-c c = search needs
@@ -50,80 +54,92 @@ mul-c-2 c =
 
 shared-slice-read-c : tie.Need-shared-slice-read-c
 shared-slice-read-c c =
-    let start = c .before .before .before .before .before .before .before .before .before .before .before .before in
-    let the-v = c .before .before .before .before .v in
-    omega (arith, method-spot (start .pre) (the-v .given .0 .0) (c .before .if2 .left))
+    let at-v = c .before .before .before .before in
+    let start = at-v .before .before .before .before .before .before .before .before in
+    omega (arith, method-spot (start .pre) (at-v .v .given .0 .0) (c .before .if2 .left))
 
 cast-c-2 : tie.Need-cast-c-2
 cast-c-2 c =
-    let the-v = c .before .before .before .before .v in
-    omega (arith, c .shared-slice-known4 .given ((the-v .given .0 .0) * 18))
+    let at-v = c .before .before .before .before in
+    omega (arith, c .shared-slice-known4 .given ((at-v .v .given .0 .0) * 18))
 
 mul-r : tie.Need-mul-r
 mul-r c =
-    let start = c .before .before .before .before .before .before .before .before .before .before .before .before in
-    let the-v = c .before .before .before .before .v in
-    omega (arith, method-spot (start .pre) (the-v .given .0 .0) (c .before .if2 .left), start .pre .name)
+    let at-v = c .before .before .before .before in
+    let start = at-v .before .before .before .before .before .before .before .before in
+    omega (arith, method-spot (start .pre) (at-v .v .given .0 .0) (c .before .if2 .left), start .pre .name)
 
 add-r : tie.Need-add-r
 add-r c =
-    let start = c .before .before .before .before .before .before .before .before .before .before .before .before in
-    let the-v = c .before .before .before .before .v in
-    omega (arith, method-spot (start .pre) (the-v .given .0 .0) (c .before .if2 .left), start .pre .name)
+    let at-v = c .before .before .before .before in
+    let start = at-v .before .before .before .before .before .before .before .before in
+    omega (arith, method-spot (start .pre) (at-v .v .given .0 .0) (c .before .if2 .left), start .pre .name)
 
 add-r-2 : tie.Need-add-r-2
 add-r-2 c =
-    let start = c .before .before .before .before .before .before .before .before .before .before .before .before in
-    let the-v = c .before .before .before .before .v in
-    omega (arith, method-spot (start .pre) (the-v .given .0 .0) (c .before .if2 .left), start .pre .name)
+    let at-v = c .before .before .before .before in
+    let start = at-v .before .before .before .before .before .before .before .before in
+    omega (arith, method-spot (start .pre) (at-v .v .given .0 .0) (c .before .if2 .left), start .pre .name)
 
 mul-r-2 : tie.Need-mul-r-2
 mul-r-2 c =
-    let start = c .before .before .before .before .before .before .before .before .before .before .before .before in
-    let the-v = c .before .before .before .before .v in
-    omega (arith, method-spot (start .pre) (the-v .given .0 .0) (c .before .if2 .left), start .pre .name)
+    let at-v = c .before .before .before .before in
+    let start = at-v .before .before .before .before .before .before .before .before in
+    omega (arith, method-spot (start .pre) (at-v .v .given .0 .0) (c .before .if2 .left), start .pre .name)
 
 shared-slice-read-r : tie.Need-shared-slice-read-r
 shared-slice-read-r c =
-    let start = c .before .before .before .before .before .before .before .before .before .before .before .before .before in
-    let the-v = c .before .before .before .before .before .v in
-    omega (arith, method-spot (start .pre) (the-v .given .0 .0) (c .before .before .if2 .left), start .pre .name)
+    let at-v = c .before .before .before .before .before in
+    let start = at-v .before .before .before .before .before .before .before .before in
+    omega (
+      arith,
+      method-spot (start .pre) (at-v .v .given .0 .0) (c .before .before .if2 .left),
+      start .pre .name,
+    )
 
 cast-r : tie.Need-cast-r
 cast-r c =
-    let start = c .before .before .before .before .before .before .before .before .before .before .before .before .before in
-    let the-v = c .before .before .before .before .before .v in
-    omega (arith, c .shared-slice-known5 .given (getD (start .args .store .now) ((the-v .given .0 .0) * 18) 0 * 576 + 256 + start .args .m))
+    let at-v = c .before .before .before .before .before in
+    let start = at-v .before .before .before .before .before .before .before .before in
+    omega (
+      arith,
+      c .shared-slice-known5 .given
+          (getD (start .args .store .now) ((at-v .v .given .0 .0) * 18) 0 * 576 + 256 + start .args .m),
+    )
 
 returns-4 : tie.Need-returns-4
 returns-4 c =
-    let start = c .before .before .before .before .before .before .before .before .before .before .before .before .before .before in
-    let the-decode = c .before .before .before .before .before .before .before .before .before .before .decode in
-    let the-v = c .before .before .before .before .before .before .v in
-    find-missing (start .args .n) (the-decode .ensures) (the-v .given .0 .0) (the-v .given .1) (c .before .before .before .if2 .left) (start .pre .name) (c .if3 .taken)
+    let at-v = c .before .before .before .before .before .before in
+    let at-decode = at-v .before .before .before .before in
+    let start = at-decode .before .before .before .before in
+    find-missing (start .args .n) (at-decode .decode .ensures) (at-v .v .given .0 .0) (at-v .v .given .1)
+    (c .before .before .before .if2 .left) (start .pre .name) (c .if3 .taken)
 
 returns-5 : tie.Need-returns-5
 returns-5 c =
-    let start = c .before .before .before .before .before .before .before .before .before .before .before .before .before .before .before in
-    let the-decode = c .before .before .before .before .before .before .before .before .before .before .before .decode in
-    let the-v = c .before .before .before .before .before .before .before .v in
-    let the-if2 = c .before .before .before .before .if2 in
-    find-deep (start .args .n) (the-decode .ensures) (the-v .given .0 .0) (the-v .given .1) (the-if2 .left) (start .pre .name) (c .before .if3 .left) (c .if4 .taken)
+    let at-if2 = c .before .before .before .before in
+    let at-v = at-if2 .before .before .before in
+    let at-decode = at-v .before .before .before .before in
+    let start = at-decode .before .before .before .before in
+    find-deep (start .args .n) (at-decode .decode .ensures) (at-v .v .given .0 .0) (at-v .v .given .1)
+    (at-if2 .if2 .left) (start .pre .name) (c .before .if3 .left) (c .if4 .taken)
 
 find-letter-requires : tie.Need-find-letter-requires
 find-letter-requires c κs =
-    let start = c .before .before .before .before .before .before .before .before .before .before .before .before .before .before .before in
-    let the-v = c .before .before .before .before .before .before .before .v in
-    let the-if2 = c .before .before .before .before .if2 in
-    pre-body (start .pre) (the-v .given .0 .0) (the-if2 .left) (c .before .if3 .left)
+    let at-if2 = c .before .before .before .before in
+    let at-v = at-if2 .before .before .before in
+    let start = at-v .before .before .before .before .before .before .before .before in
+    pre-body (start .pre) (at-v .v .given .0 .0) (at-if2 .if2 .left) (c .before .if3 .left)
 
 returns-6 : tie.Need-returns-6
 returns-6 c =
-    let start = c .before .before .before .before .before .before .before .before .before .before .before .before .before .before .before .before in
-    let the-decode = c .before .before .before .before .before .before .before .before .before .before .before .before .decode in
-    let the-v = c .before .before .before .before .before .before .before .before .v in
-    let the-if2 = c .before .before .before .before .before .if2 in
-    find-found (start .args .n) (the-decode .ensures) (the-v .given .0 .0) (c .find-letter .result) (the-v .given .1) (the-if2 .left) (start .pre .name) (c .before .before .if3 .left) (c .before .if4 .left) (c .find-letter .ensures)
+    let at-if2 = c .before .before .before .before .before in
+    let at-v = at-if2 .before .before .before in
+    let at-decode = at-v .before .before .before .before in
+    let start = at-decode .before .before .before .before in
+    find-found (start .args .n) (at-decode .decode .ensures) (at-v .v .given .0 .0) (c .find-letter .result)
+    (at-v .v .given .1) (at-if2 .if2 .left) (start .pre .name) (c .before .before .if3 .left)
+    (c .before .if4 .left) (c .find-letter .ensures)
 
 pub find-body-spec : {M : Type 1} → statement M
 find-body-spec =

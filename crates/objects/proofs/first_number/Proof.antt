@@ -1,4 +1,4 @@
-use Prim.Native.Nat.{_+_, _-_, _*_}
+use Prim.Native.Nat.{_+_, _*_}
 use native.Mathlib.Omega.{arith}
 use borrow.Author.Needs.{needs}
 use borrow.Author.Tests.{le-leb, lt-leb, eq-eqb, ne-eqb}
@@ -26,7 +26,11 @@ shared-slice-read-r : tie.Need-shared-slice-read-r
 shared-slice-read-r c = search needs
 
 cast-r : tie.Need-cast-r
-cast-r c = omega (arith, c .shared-slice-known .given (c .before .before .args .c * 576 + 520 + c .before .before .args .i))
+cast-r c = omega (
+  arith,
+  c .shared-slice-known .given
+      (c .before .before .args .c * 576 + 520 + c .before .before .args .i),
+)
 
 mul-if2 : tie.Need-mul-if2
 mul-if2 c = omega (arith, c .before .before .pre .row (c .before .if1 .left))
@@ -42,11 +46,21 @@ shared-slice-read-if2 c = omega (arith, c .before .before .before .pre .row (c .
 
 returns-2 : tie.Need-returns-2
 unfolding first-of
-returns-2 c = rw (lt-leb (c .before .before .before .before .args .count) (c .before .before .before .before .args .i) (c .before .before .before .if1 .left), eq-eqb _ _ (c .if2 .taken))
+returns-2 c =
+    let start = c .before .before .before .before in
+    rw (
+      lt-leb (start .args .count) (start .args .i) (c .before .before .before .if1 .left),
+      eq-eqb _ _ (c .if2 .taken),
+    )
 
 returns-3 : tie.Need-returns-3
 unfolding first-of
-returns-3 c = rw (lt-leb (c .before .before .before .before .args .count) (c .before .before .before .before .args .i) (c .before .before .before .if1 .left), ne-eqb _ _ (c .if2 .left))
+returns-3 c =
+    let start = c .before .before .before .before in
+    rw (
+      lt-leb (start .args .count) (start .args .i) (c .before .before .before .if1 .left),
+      ne-eqb _ _ (c .if2 .left),
+    )
 
 pub first-number-spec : {M : Type 1} → statement M
 first-number-spec =

@@ -1,4 +1,3 @@
-use Prim.Native.Nat.{_-_}
 use borrow.Author.Tests.{eq-eqb, ne-eqb}
 use Rattle.objects.proofs.first_value.Statement.{statement}
 use Rattle.objects.proofs.first_value.Tie as tie

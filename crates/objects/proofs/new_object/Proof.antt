@@ -1,4 +1,4 @@
-use Prim.Native.Nat.{_-_, _*_}
+use Prim.Native.Nat.{_*_}
 use native.Mathlib.Omega.{arith}
 use lib.ListN.{length-set, getD}
 use Rattle.objects.specs.Values.{counts-in}
@@ -11,7 +11,11 @@ element-copy-out-made : tie.Need-element-copy-out-made
 element-copy-out-made c = search needs
 
 returns : tie.Need-returns
-returns c = new-full (c .before .before .before .before .before .args .rows .now) (c .before .before .before .before .before .args .tables .now) (c .before .before .before .before .before .args .store .now) (c .before .before .before .before .before .args .c) (counts-in (c .before .before .before .before .before .args .tally .now)) (full-count (c .before .before .before .before .before .args .store .now) (getD (c .before .before .before .before .before .args .tally .now) 1 0) (c .if1 .taken))
+returns c =
+    let start = c .before .before .before .before .before in
+    new-full (start .args .rows .now) (start .args .tables .now) (start .args .store .now) (start .args .c)
+    (counts-in (start .args .tally .now))
+    (full-count (start .args .store .now) (getD (start .args .tally .now) 1 0) (c .if1 .taken))
 
 cast-o : tie.Need-cast-o
 cast-o c = search needs
@@ -23,16 +27,24 @@ add-if2 : tie.Need-add-if2
 add-if2 c = search needs
 
 returns-2 : tie.Need-returns-2
-returns-2 c = new-full (c .before .before .before .before .before .before .args .rows .now) (c .before .before .before .before .before .before .args .tables .now) (c .before .before .before .before .before .before .args .store .now) (c .before .before .before .before .before .before .args .c) (counts-in (c .before .before .before .before .before .before .args .tally .now)) (full-store (c .before .before .before .before .before .before .args .store .now) (getD (c .before .before .before .before .before .before .args .tally .now) 1 0) (c .if2 .taken))
+returns-2 c =
+    let start = c .before .before .before .before .before .before in
+    new-full (start .args .rows .now) (start .args .tables .now) (start .args .store .now) (start .args .c)
+    (counts-in (start .args .tally .now))
+    (full-store (start .args .store .now) (getD (start .args .tally .now) 1 0) (c .if2 .taken))
 
 fill-requires : tie.Need-fill-requires
-fill-requires c κs = new-fill (c .before .before .before .before .before .before .before .pre) (getD (c .before .before .before .before .before .before .before .args .tally .now) 1 0 * 18) (c .before .if2 .left)
+fill-requires c κs =
+    let start = c .before .before .before .before .before .before .before in
+    new-fill (start .pre) (getD (start .args .tally .now) 1 0 * 18) (c .before .if2 .left)
 
 mul-store : tie.Need-mul-store
 mul-store c = omega (arith, c .before .before .before .before .before .if1 .left)
 
 slice-write-store : tie.Need-slice-write-store
-slice-write-store c = omega (arith, c .before .before .before .before .if2 .left, c .before .before .fill .ensures .long)
+slice-write-store c =
+    let at-if2 = c .before .before .before .before in
+    omega (arith, at-if2 .if2 .left, c .before .before .fill .ensures .long)
 
 add-put : tie.Need-add-put
 add-put c = search needs
@@ -50,7 +62,13 @@ same-length : tie.Need-same-length
 same-length c = simp length-set (c .before .before .before .before .fill .ensures .long)
 
 returns-3 : tie.Need-returns-3
-returns-3 c = new-told (c .before .before .before .before .before .before .before .before .before .before .before .before .args .tally .now) (c .put .ensures) (c .before .before .before .before .before .before .before .if1 .left) (c .before .before .before .before .before .before .if2 .left) (c .before .before .before .before .fill .ensures)
+returns-3 c =
+    let at-fill = c .before .before .before .before in
+    let at-if2 = at-fill .before .before in
+    let at-if1 = at-if2 .before in
+    let start = at-if1 .before .before .before .before .before in
+    new-told (start .args .tally .now) (c .put .ensures) (at-if1 .if1 .left) (at-if2 .if2 .left)
+    (at-fill .fill .ensures)
 
 pub new-object-spec : {M : Type 1} → statement M
 new-object-spec =

@@ -3,7 +3,8 @@ use native.Mathlib.Omega.{arith}
 use mathlib.Core.Path.{sym, _∙_}
 use Prim.Native.Nat.{ℕ, _+_, _*_}
 use Rattle.bodies.proofs.Turns.{in-row}
-use Rattle.bodies.proofs.TurnsBlocks.{block-few, block-open-pre, block-fail, block-items-pre, block-done}
+use Rattle.bodies.proofs.TurnsBlocks.{block-few, block-open-pre, block-fail, block-items-pre}
+use Rattle.bodies.proofs.TurnsBlocks.{block-done}
 use Rattle.bodies.proofs.block.Reads as block
 use Rattle.bodies.proofs.+arguments+block+call+choose+expression+items+unary+write.Lts-block as block-lts
 use Rattle.bodies.proofs.items.Reads as items
@@ -11,65 +12,133 @@ use Rattle.bodies.proofs.is_refusal.Reads as is-refusal-reads
 use Rattle.bodies.proofs.open.Reads as open-reads
 use Rattle.bodies.proofs.+arguments+block+call+choose+expression+items+unary+write.Proof.Base.{block-at, items-below}
 
-pub block-mul-v : (t : ℕ) → block-lts.Need-mul-v (open-reads.Asked, open-reads.Learnt, is-refusal-reads.Asked, is-refusal-reads.Learnt, items-below t, items.Post) (block-at t) block.Post
+-- What its callees ask and give: those of the cycle below the measure t.
+abbrev callees : ℕ → block-lts.Claims
+callees t = (
+  open-reads.Asked,
+  open-reads.Learnt,
+  is-refusal-reads.Asked,
+  is-refusal-reads.Learnt,
+  items-below t,
+  items.Post,
+)
+
+block-mul-v : (t : ℕ) → block-lts.Need-mul-v (callees t) (block-at t) block.Post
 block-mul-v t c = omega (arith, in-row (c .before .before .before .before .before .before .pre .1 .1) .3)
 
-pub block-add-v : (t : ℕ) → block-lts.Need-add-v (open-reads.Asked, open-reads.Learnt, is-refusal-reads.Asked, is-refusal-reads.Learnt, items-below t, items.Post) (block-at t) block.Post
+block-add-v : (t : ℕ) → block-lts.Need-add-v (callees t) (block-at t) block.Post
 block-add-v t c = omega (arith, in-row (c .before .before .before .before .before .before .pre .1 .1) .3)
 
-pub block-mul-v-2 : (t : ℕ) → block-lts.Need-mul-v-2 (open-reads.Asked, open-reads.Learnt, is-refusal-reads.Asked, is-refusal-reads.Learnt, items-below t, items.Post) (block-at t) block.Post
+block-mul-v-2 : (t : ℕ) → block-lts.Need-mul-v-2 (callees t) (block-at t) block.Post
 block-mul-v-2 t c = omega (arith, in-row (c .before .before .before .before .before .before .pre .1 .1) .3)
 
-pub block-shared-slice-read-v : (t : ℕ) → block-lts.Need-shared-slice-read-v (open-reads.Asked, open-reads.Learnt, is-refusal-reads.Asked, is-refusal-reads.Learnt, items-below t, items.Post) (block-at t) block.Post
-block-shared-slice-read-v t c = omega (arith, in-row (c .before .before .before .before .before .before .before .pre .1 .1) .0)
+block-shared-slice-read-v : (t : ℕ) → block-lts.Need-shared-slice-read-v (callees t) (block-at t) block.Post
+block-shared-slice-read-v t c =
+    let start = c .before .before .before .before .before .before .before in
+    omega (arith, in-row (start .pre .1 .1) .0)
 
-pub block-cast-v : (t : ℕ) → block-lts.Need-cast-v (open-reads.Asked, open-reads.Learnt, is-refusal-reads.Asked, is-refusal-reads.Learnt, items-below t, items.Post) (block-at t) block.Post
-block-cast-v t c = omega (arith, c .shared-slice-known5 .given (c .before .before .before .before .before .before .before .args .at * 4 + 1))
+block-cast-v : (t : ℕ) → block-lts.Need-cast-v (callees t) (block-at t) block.Post
+block-cast-v t c =
+    let start = c .before .before .before .before .before .before .before in
+    omega (arith, c .shared-slice-known5 .given (start .args .at * 4 + 1))
 
-pub block-mul-n : (t : ℕ) → block-lts.Need-mul-n (open-reads.Asked, open-reads.Learnt, is-refusal-reads.Asked, is-refusal-reads.Learnt, items-below t, items.Post) (block-at t) block.Post
-block-mul-n t c = omega (arith, in-row (c .before .before .before .before .before .before .before .pre .1 .1) .3)
+block-mul-n : (t : ℕ) → block-lts.Need-mul-n (callees t) (block-at t) block.Post
+block-mul-n t c =
+    let start = c .before .before .before .before .before .before .before in
+    omega (arith, in-row (start .pre .1 .1) .3)
 
-pub block-add-n : (t : ℕ) → block-lts.Need-add-n (open-reads.Asked, open-reads.Learnt, is-refusal-reads.Asked, is-refusal-reads.Learnt, items-below t, items.Post) (block-at t) block.Post
-block-add-n t c = omega (arith, in-row (c .before .before .before .before .before .before .before .pre .1 .1) .3)
+block-add-n : (t : ℕ) → block-lts.Need-add-n (callees t) (block-at t) block.Post
+block-add-n t c =
+    let start = c .before .before .before .before .before .before .before in
+    omega (arith, in-row (start .pre .1 .1) .3)
 
-pub block-mul-n-2 : (t : ℕ) → block-lts.Need-mul-n-2 (open-reads.Asked, open-reads.Learnt, is-refusal-reads.Asked, is-refusal-reads.Learnt, items-below t, items.Post) (block-at t) block.Post
-block-mul-n-2 t c = omega (arith, in-row (c .before .before .before .before .before .before .before .pre .1 .1) .3)
+block-mul-n-2 : (t : ℕ) → block-lts.Need-mul-n-2 (callees t) (block-at t) block.Post
+block-mul-n-2 t c =
+    let start = c .before .before .before .before .before .before .before in
+    omega (arith, in-row (start .pre .1 .1) .3)
 
-pub block-shared-slice-read-n : (t : ℕ) → block-lts.Need-shared-slice-read-n (open-reads.Asked, open-reads.Learnt, is-refusal-reads.Asked, is-refusal-reads.Learnt, items-below t, items.Post) (block-at t) block.Post
-block-shared-slice-read-n t c = omega (arith, in-row (c .before .before .before .before .before .before .before .before .pre .1 .1) .0)
+block-shared-slice-read-n : (t : ℕ) → block-lts.Need-shared-slice-read-n (callees t) (block-at t) block.Post
+block-shared-slice-read-n t c =
+    let start = c .before .before .before .before .before .before .before .before in
+    omega (arith, in-row (start .pre .1 .1) .0)
 
-pub block-cast-n : (t : ℕ) → block-lts.Need-cast-n (open-reads.Asked, open-reads.Learnt, is-refusal-reads.Asked, is-refusal-reads.Learnt, items-below t, items.Post) (block-at t) block.Post
-block-cast-n t c = omega (arith, c .shared-slice-known6 .given (c .before .before .before .before .before .before .before .before .args .at * 4 + 2))
+block-cast-n : (t : ℕ) → block-lts.Need-cast-n (callees t) (block-at t) block.Post
+block-cast-n t c =
+    let start = c .before .before .before .before .before .before .before .before in
+    omega (arith, c .shared-slice-known6 .given (start .args .at * 4 + 2))
 
-pub block-open-requires : (t : ℕ) → block-lts.Need-open-requires (open-reads.Asked, open-reads.Learnt, is-refusal-reads.Asked, is-refusal-reads.Learnt, items-below t, items.Post) (block-at t) block.Post
-block-open-requires t c κs = block-open-pre (c .before .before .before .before .before .before .before .before .before .pre .1 .1) (c .before .before .before .before .before .before .before .before .before .pre .1 .0)
+block-open-requires : (t : ℕ) → block-lts.Need-open-requires (callees t) (block-at t) block.Post
+block-open-requires t c κs =
+    let start = c .before .before .before .before .before .before .before .before .before in
+    block-open-pre (start .pre .1 .1) (start .pre .1 .0)
 
-pub block-is-refusal-requires : (t : ℕ) → block-lts.Need-is-refusal-requires (open-reads.Asked, open-reads.Learnt, is-refusal-reads.Asked, is-refusal-reads.Learnt, items-below t, items.Post) (block-at t) block.Post
+block-is-refusal-requires : (t : ℕ) → block-lts.Need-is-refusal-requires (callees t) (block-at t) block.Post
 block-is-refusal-requires t c κs = tt
 
-pub block-same-length : (t : ℕ) → block-lts.Need-same-length (open-reads.Asked, open-reads.Learnt, is-refusal-reads.Asked, is-refusal-reads.Learnt, items-below t, items.Post) (block-at t) block.Post
+block-same-length : (t : ℕ) → block-lts.Need-same-length (callees t) (block-at t) block.Post
 block-same-length t c = c .before .before .before .before .«open» .kept .1 .0
 
-pub block-returns : (t : ℕ) → block-lts.Need-returns (open-reads.Asked, open-reads.Learnt, is-refusal-reads.Asked, is-refusal-reads.Learnt, items-below t, items.Post) (block-at t) block.Post
-block-returns t c = block-fail (c .before .before .before .before .before .before .before .before .before .before .before .before .before .before .pre .1 .1) (c .before .before .before .before .before .before .before .before .before .before .before .before .before .before .pre .1 .0) (c .before .before .before .before .«open» .ensures) (sym (c .before .is-refusal .ensures) ∙ c .if1 .taken)
+block-returns : (t : ℕ) → block-lts.Need-returns (callees t) (block-at t) block.Post
+block-returns t c =
+    let start = c .before .before .before .before .before .before .before .before .before .before .before
+    .before .before .before in
+    block-fail (start .pre .1 .1) (start .pre .1 .0) (c .before .before .before .before .«open» .ensures)
+    (sym (c .before .is-refusal .ensures) ∙ c .if1 .taken)
 
-pub block-add-items : (t : ℕ) → block-lts.Need-add-items (open-reads.Asked, open-reads.Learnt, is-refusal-reads.Asked, is-refusal-reads.Learnt, items-below t, items.Post) (block-at t) block.Post
-block-add-items t c = omega (arith, in-row (c .before .before .before .before .before .before .before .before .before .before .before .before .before .before .before .before .pre .1 .1) .3)
+block-add-items : (t : ℕ) → block-lts.Need-add-items (callees t) (block-at t) block.Post
+block-add-items t c =
+    let start = c .before .before .before .before .before .before .before .before .before .before .before
+    .before .before .before .before .before in
+    omega (arith, in-row (start .pre .1 .1) .3)
 
-pub block-add-items-2 : (t : ℕ) → block-lts.Need-add-items-2 (open-reads.Asked, open-reads.Learnt, is-refusal-reads.Asked, is-refusal-reads.Learnt, items-below t, items.Post) (block-at t) block.Post
-block-add-items-2 t c = omega (arith, in-row (c .before .before .before .before .before .before .before .before .before .before .before .before .before .before .before .before .pre .1 .1) .3, block-few (c .before .before .before .before .before .before .before .before .before .before .before .before .before .before .before .before .pre .1 .1) (c .before .before .before .before .before .before .before .before .before .before .before .before .before .before .before .before .pre .1 .0) .0)
+block-add-items-2 : (t : ℕ) → block-lts.Need-add-items-2 (callees t) (block-at t) block.Post
+block-add-items-2 t c =
+    let start = c .before .before .before .before .before .before .before .before .before .before .before
+    .before .before .before .before .before in
+    omega (arith, in-row (start .pre .1 .1) .3, block-few (start .pre .1 .1) (start .pre .1 .0) .0)
 
-pub block-add-items-3 : (t : ℕ) → block-lts.Need-add-items-3 (open-reads.Asked, open-reads.Learnt, is-refusal-reads.Asked, is-refusal-reads.Learnt, items-below t, items.Post) (block-at t) block.Post
-block-add-items-3 t c = omega (arith, block-few (c .before .before .before .before .before .before .before .before .before .before .before .before .before .before .before .before .pre .1 .1) (c .before .before .before .before .before .before .before .before .before .before .before .before .before .before .before .before .pre .1 .0) .0)
+block-add-items-3 : (t : ℕ) → block-lts.Need-add-items-3 (callees t) (block-at t) block.Post
+block-add-items-3 t c =
+    let start = c .before .before .before .before .before .before .before .before .before .before .before
+    .before .before .before .before .before in
+    omega (arith, block-few (start .pre .1 .1) (start .pre .1 .0) .0)
 
-pub block-items-requires : (t : ℕ) → block-lts.Need-items-requires (open-reads.Asked, open-reads.Learnt, is-refusal-reads.Asked, is-refusal-reads.Learnt, items-below t, items.Post) (block-at t) block.Post
-block-items-requires t c κs = (omega (arith, in-row (c .before .before .before .before .before .before .before .before .before .before .before .before .before .before .before .before .pre .1 .1) .3, c .before .before .before .before .before .before .before .before .before .before .before .before .before .before .before .before .pre .0), block-items-pre (c .before .before .before .before .before .before .before .before .before .before .before .before .before .before .before .before .pre .1 .1) (c .before .before .before .before .before .before .before .before .before .before .before .before .before .before .before .before .pre .1 .0) (c .before .before .before .before .before .before .«open» .ensures) (sym (c .before .before .before .is-refusal .ensures) ∙ c .before .before .if1 .left))
+block-items-requires : (t : ℕ) → block-lts.Need-items-requires (callees t) (block-at t) block.Post
+block-items-requires t c κs =
+    let start = c .before .before .before .before .before .before .before .before .before .before .before
+    .before .before .before .before .before in (
+      omega (arith, in-row (start .pre .1 .1) .3, start .pre .0),
+      block-items-pre (start .pre .1 .1) (start .pre .1 .0)
+          (c .before .before .before .before .before .before .«open» .ensures)
+          (sym (c .before .before .before .is-refusal .ensures) ∙ c .before .before .if1 .left),
+    )
 
-pub block-same-length-2 : (t : ℕ) → block-lts.Need-same-length-2 (open-reads.Asked, open-reads.Learnt, is-refusal-reads.Asked, is-refusal-reads.Learnt, items-below t, items.Post) (block-at t) block.Post
-block-same-length-2 t c = c .before .before .before .before .items .kept .1 .1 .1 .1 .0 ∙ c .before .before .before .before .before .before .before .before .before .before .before .«open» .kept .1 .0
+block-same-length-2 : (t : ℕ) → block-lts.Need-same-length-2 (callees t) (block-at t) block.Post
+block-same-length-2 t c = c .before .before .before .before .items .kept .1 .1 .1 .1 .0
+    ∙ c .before .before .before .before .before .before .before .before .before .before .before
+    .«open» .kept .1 .0
 
-pub block-same-length-3 : (t : ℕ) → block-lts.Need-same-length-3 (open-reads.Asked, open-reads.Learnt, is-refusal-reads.Asked, is-refusal-reads.Learnt, items-below t, items.Post) (block-at t) block.Post
+block-same-length-3 : (t : ℕ) → block-lts.Need-same-length-3 (callees t) (block-at t) block.Post
 block-same-length-3 t c = c .before .before .before .before .items .kept .1 .1 .1 .1 .1 .0
 
-pub block-returns-2 : (t : ℕ) → block-lts.Need-returns-2 (open-reads.Asked, open-reads.Learnt, is-refusal-reads.Asked, is-refusal-reads.Learnt, items-below t, items.Post) (block-at t) block.Post
-block-returns-2 t c = block-done (c .before .before .before .before .before .before .before .before .before .before .before .before .before .before .before .before .before .before .before .before .before .pre .1 .1) (c .before .before .before .before .before .before .before .before .before .before .before .before .before .before .before .before .before .before .before .before .before .pre .1 .0) (c .before .before .before .before .before .before .before .before .before .before .before .«open» .ensures) (sym (c .before .before .before .before .before .before .before .before .is-refusal .ensures) ∙ c .before .before .before .before .before .before .before .if1 .left) (c .before .before .before .before .items .ensures)
+block-returns-2 : (t : ℕ) → block-lts.Need-returns-2 (callees t) (block-at t) block.Post
+block-returns-2 t c =
+    let at-items = c .before .before .before .before in
+    let at-if1 = at-items .before .before .before in
+    let at-is-refusal = at-if1 .before in
+    let start = at-is-refusal .before .before .before .before .before .before .before .before .before .before
+    .before .before .before in
+    block-done (start .pre .1 .1) (start .pre .1 .0)
+    (c .before .before .before .before .before .before .before .before .before .before .before
+    .«open» .ensures) (sym (at-is-refusal .is-refusal .ensures) ∙ at-if1 .if1 .left)
+    (at-items .items .ensures)
+
+-- The member, of its callees' contracts.
+pub block-holds : {M : Type 1} (t : ℕ) → block-lts.Closed (callees t) (block-at t) block.Post M
+block-holds t =
+    block-lts.spec (callees t) (block-at t) block.Post
+    (block-mul-v t) (block-add-v t) (block-mul-v-2 t) (block-shared-slice-read-v t) (block-cast-v t)
+    (block-mul-n t) (block-add-n t) (block-mul-n-2 t) (block-shared-slice-read-n t) (block-cast-n t)
+    (block-open-requires t) (block-is-refusal-requires t) (block-same-length t) (block-returns t)
+    (block-add-items t) (block-add-items-2 t) (block-add-items-3 t) (block-items-requires t)
+    (block-same-length-2 t) (block-same-length-3 t) (block-returns-2 t)

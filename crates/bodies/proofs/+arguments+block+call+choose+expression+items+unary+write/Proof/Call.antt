@@ -5,7 +5,8 @@ use Prim.Native.Nat.{ℕ, _+_, _*_}
 use Rattle.bodies.proofs.Turns.{in-row}
 use Rattle.bodies.proofs.TurnsNodes.{after-row}
 use Rattle.bodies.proofs.TurnsUnary.{leaf-row}
-use Rattle.bodies.proofs.TurnsCalls.{call-first, call-fail, call-items-pre, call-arguments-pre, call-many, call-fail-arguments, call-invoke-pre, call-done}
+use Rattle.bodies.proofs.TurnsCalls.{call-first, call-fail, call-items-pre, call-arguments-pre}
+use Rattle.bodies.proofs.TurnsCalls.{call-many, call-fail-arguments, call-invoke-pre, call-done}
 use Rattle.bodies.proofs.arguments.Reads as arguments
 use Rattle.bodies.proofs.call.Reads as call
 use Rattle.bodies.proofs.+arguments+block+call+choose+expression+items+unary+write.Lts-call as call-lts
@@ -17,92 +18,252 @@ use Rattle.bodies.proofs.plain.Reads as plain-reads
 use Rattle.bodies.proofs.too_many.Reads as too-many-reads
 use Rattle.bodies.proofs.+arguments+block+call+choose+expression+items+unary+write.Proof.Base.{arguments-below, call-at, expression-below, items-below}
 
-pub call-add-expression : (t : ℕ) → call-lts.Need-add-expression (expression-below t, expression.Post, is-refusal-reads.Asked, is-refusal-reads.Learnt, plain-reads.Asked, plain-reads.Learnt, items-below t, items.Post, too-many-reads.Asked, too-many-reads.Learnt, arguments-below t, arguments.Post, invoke-reads.Asked, invoke-reads.Learnt) (call-at t) call.Post
-call-add-expression t c = omega (arith, in-row (c .before .before .before .before .before .before .before .before .pre .1 .1) .3)
+-- What its callees ask and give: those of the cycle below the measure t.
+abbrev callees : ℕ → call-lts.Claims
+callees t = (
+  expression-below t,
+  expression.Post,
+  is-refusal-reads.Asked,
+  is-refusal-reads.Learnt,
+  plain-reads.Asked,
+  plain-reads.Learnt,
+  items-below t,
+  items.Post,
+  too-many-reads.Asked,
+  too-many-reads.Learnt,
+  arguments-below t,
+  arguments.Post,
+  invoke-reads.Asked,
+  invoke-reads.Learnt,
+)
 
-pub call-expression-requires : (t : ℕ) → call-lts.Need-expression-requires (expression-below t, expression.Post, is-refusal-reads.Asked, is-refusal-reads.Learnt, plain-reads.Asked, plain-reads.Learnt, items-below t, items.Post, too-many-reads.Asked, too-many-reads.Learnt, arguments-below t, arguments.Post, invoke-reads.Asked, invoke-reads.Learnt) (call-at t) call.Post
-call-expression-requires t c κs = (omega (arith, in-row (c .before .before .before .before .before .before .before .before .pre .1 .1) .3, c .before .before .before .before .before .before .before .before .pre .0), call-first (c .before .before .before .before .before .before .before .before .pre .1 .1) (c .before .before .before .before .before .before .before .before .pre .1 .0))
+call-add-expression : (t : ℕ) → call-lts.Need-add-expression (callees t) (call-at t) call.Post
+call-add-expression t c =
+    let start = c .before .before .before .before .before .before .before .before in
+    omega (arith, in-row (start .pre .1 .1) .3)
 
-pub call-is-refusal-requires : (t : ℕ) → call-lts.Need-is-refusal-requires (expression-below t, expression.Post, is-refusal-reads.Asked, is-refusal-reads.Learnt, plain-reads.Asked, plain-reads.Learnt, items-below t, items.Post, too-many-reads.Asked, too-many-reads.Learnt, arguments-below t, arguments.Post, invoke-reads.Asked, invoke-reads.Learnt) (call-at t) call.Post
+call-expression-requires : (t : ℕ) → call-lts.Need-expression-requires (callees t) (call-at t) call.Post
+call-expression-requires t c κs =
+    let start = c .before .before .before .before .before .before .before .before in (
+      omega (arith, in-row (start .pre .1 .1) .3, start .pre .0),
+      call-first (start .pre .1 .1) (start .pre .1 .0),
+    )
+
+call-is-refusal-requires : (t : ℕ) → call-lts.Need-is-refusal-requires (callees t) (call-at t) call.Post
 call-is-refusal-requires t c κs = tt
 
-pub call-same-length : (t : ℕ) → call-lts.Need-same-length (expression-below t, expression.Post, is-refusal-reads.Asked, is-refusal-reads.Learnt, plain-reads.Asked, plain-reads.Learnt, items-below t, items.Post, too-many-reads.Asked, too-many-reads.Learnt, arguments-below t, arguments.Post, invoke-reads.Asked, invoke-reads.Learnt) (call-at t) call.Post
+call-same-length : (t : ℕ) → call-lts.Need-same-length (callees t) (call-at t) call.Post
 call-same-length t c = c .before .before .before .before .before .before .expression .kept .1 .1 .1 .1 .0
 
-pub call-same-length-2 : (t : ℕ) → call-lts.Need-same-length-2 (expression-below t, expression.Post, is-refusal-reads.Asked, is-refusal-reads.Learnt, plain-reads.Asked, plain-reads.Learnt, items-below t, items.Post, too-many-reads.Asked, too-many-reads.Learnt, arguments-below t, arguments.Post, invoke-reads.Asked, invoke-reads.Learnt) (call-at t) call.Post
+call-same-length-2 : (t : ℕ) → call-lts.Need-same-length-2 (callees t) (call-at t) call.Post
 call-same-length-2 t c = c .before .before .before .before .before .before .expression .kept .1 .1 .1 .1 .1 .0
 
-pub call-returns : (t : ℕ) → call-lts.Need-returns (expression-below t, expression.Post, is-refusal-reads.Asked, is-refusal-reads.Learnt, plain-reads.Asked, plain-reads.Learnt, items-below t, items.Post, too-many-reads.Asked, too-many-reads.Learnt, arguments-below t, arguments.Post, invoke-reads.Asked, invoke-reads.Learnt) (call-at t) call.Post
-call-returns t c = call-fail (c .before .before .before .before .before .before .before .before .before .before .before .before .before .before .before .pre .1 .1) (c .before .before .before .before .before .before .before .before .before .before .before .before .before .before .before .pre .1 .0) (c .before .before .before .before .before .before .expression .ensures) (sym (c .before .is-refusal .ensures) ∙ c .if1 .taken)
+call-returns : (t : ℕ) → call-lts.Need-returns (callees t) (call-at t) call.Post
+call-returns t c =
+    let at-expression = c .before .before .before .before .before .before in
+    let start = at-expression .before .before .before .before .before .before .before .before .before in
+    call-fail (start .pre .1 .1) (start .pre .1 .0) (at-expression .expression .ensures)
+    (sym (c .before .is-refusal .ensures) ∙ c .if1 .taken)
 
-pub call-add-next : (t : ℕ) → call-lts.Need-add-next (expression-below t, expression.Post, is-refusal-reads.Asked, is-refusal-reads.Learnt, plain-reads.Asked, plain-reads.Learnt, items-below t, items.Post, too-many-reads.Asked, too-many-reads.Learnt, arguments-below t, arguments.Post, invoke-reads.Asked, invoke-reads.Learnt) (call-at t) call.Post
-call-add-next t c = omega (arith, in-row (c .before .before .before .before .before .before .before .before .before .before .before .before .before .before .before .pre .1 .1) .3)
+call-add-next : (t : ℕ) → call-lts.Need-add-next (callees t) (call-at t) call.Post
+call-add-next t c =
+    let start = c .before .before .before .before .before .before .before .before .before .before .before
+    .before .before .before .before in
+    omega (arith, in-row (start .pre .1 .1) .3)
 
-pub call-mul-next : (t : ℕ) → call-lts.Need-mul-next (expression-below t, expression.Post, is-refusal-reads.Asked, is-refusal-reads.Learnt, plain-reads.Asked, plain-reads.Learnt, items-below t, items.Post, too-many-reads.Asked, too-many-reads.Learnt, arguments-below t, arguments.Post, invoke-reads.Asked, invoke-reads.Learnt) (call-at t) call.Post
-call-mul-next t c = omega (arith, in-row (c .before .before .before .before .before .before .before .before .before .before .before .before .before .before .before .pre .1 .1) .3)
+call-mul-next : (t : ℕ) → call-lts.Need-mul-next (callees t) (call-at t) call.Post
+call-mul-next t c =
+    let start = c .before .before .before .before .before .before .before .before .before .before .before
+    .before .before .before .before in
+    omega (arith, in-row (start .pre .1 .1) .3)
 
-pub call-shared-slice-read-next : (t : ℕ) → call-lts.Need-shared-slice-read-next (expression-below t, expression.Post, is-refusal-reads.Asked, is-refusal-reads.Learnt, plain-reads.Asked, plain-reads.Learnt, items-below t, items.Post, too-many-reads.Asked, too-many-reads.Learnt, arguments-below t, arguments.Post, invoke-reads.Asked, invoke-reads.Learnt) (call-at t) call.Post
-call-shared-slice-read-next t c = in-row (call-first (c .before .before .before .before .before .before .before .before .before .before .before .before .before .before .before .before .pre .1 .1) (c .before .before .before .before .before .before .before .before .before .before .before .before .before .before .before .before .pre .1 .0)) .1
+call-shared-slice-read-next : (t : ℕ) → call-lts.Need-shared-slice-read-next (callees t) (call-at t) call.Post
+call-shared-slice-read-next t c =
+    let start = c .before .before .before .before .before .before .before .before .before .before .before
+    .before .before .before .before .before in
+    in-row (call-first (start .pre .1 .1) (start .pre .1 .0)) .1
 
-pub call-cast-next : (t : ℕ) → call-lts.Need-cast-next (expression-below t, expression.Post, is-refusal-reads.Asked, is-refusal-reads.Learnt, plain-reads.Asked, plain-reads.Learnt, items-below t, items.Post, too-many-reads.Asked, too-many-reads.Learnt, arguments-below t, arguments.Post, invoke-reads.Asked, invoke-reads.Learnt) (call-at t) call.Post
-call-cast-next t c = omega (arith, c .shared-slice-known5 .given (c .before .before .before .before .before .before .before .before .before .before .before .before .before .before .before .before .args .at + 1))
+call-cast-next : (t : ℕ) → call-lts.Need-cast-next (callees t) (call-at t) call.Post
+call-cast-next t c =
+    let start = c .before .before .before .before .before .before .before .before .before .before .before
+    .before .before .before .before .before in
+    omega (arith, c .shared-slice-known5 .given (start .args .at + 1))
 
-pub call-mul-n : (t : ℕ) → call-lts.Need-mul-n (expression-below t, expression.Post, is-refusal-reads.Asked, is-refusal-reads.Learnt, plain-reads.Asked, plain-reads.Learnt, items-below t, items.Post, too-many-reads.Asked, too-many-reads.Learnt, arguments-below t, arguments.Post, invoke-reads.Asked, invoke-reads.Learnt) (call-at t) call.Post
-call-mul-n t c = omega (arith, in-row (c .before .before .before .before .before .before .before .before .before .before .before .before .before .before .before .before .pre .1 .1) .3)
+call-mul-n : (t : ℕ) → call-lts.Need-mul-n (callees t) (call-at t) call.Post
+call-mul-n t c =
+    let start = c .before .before .before .before .before .before .before .before .before .before .before
+    .before .before .before .before .before in
+    omega (arith, in-row (start .pre .1 .1) .3)
 
-pub call-add-n : (t : ℕ) → call-lts.Need-add-n (expression-below t, expression.Post, is-refusal-reads.Asked, is-refusal-reads.Learnt, plain-reads.Asked, plain-reads.Learnt, items-below t, items.Post, too-many-reads.Asked, too-many-reads.Learnt, arguments-below t, arguments.Post, invoke-reads.Asked, invoke-reads.Learnt) (call-at t) call.Post
-call-add-n t c = omega (arith, in-row (c .before .before .before .before .before .before .before .before .before .before .before .before .before .before .before .before .pre .1 .1) .3)
+call-add-n : (t : ℕ) → call-lts.Need-add-n (callees t) (call-at t) call.Post
+call-add-n t c =
+    let start = c .before .before .before .before .before .before .before .before .before .before .before
+    .before .before .before .before .before in
+    omega (arith, in-row (start .pre .1 .1) .3)
 
-pub call-mul-n-2 : (t : ℕ) → call-lts.Need-mul-n-2 (expression-below t, expression.Post, is-refusal-reads.Asked, is-refusal-reads.Learnt, plain-reads.Asked, plain-reads.Learnt, items-below t, items.Post, too-many-reads.Asked, too-many-reads.Learnt, arguments-below t, arguments.Post, invoke-reads.Asked, invoke-reads.Learnt) (call-at t) call.Post
-call-mul-n-2 t c = omega (arith, in-row (c .before .before .before .before .before .before .before .before .before .before .before .before .before .before .before .before .pre .1 .1) .3)
+call-mul-n-2 : (t : ℕ) → call-lts.Need-mul-n-2 (callees t) (call-at t) call.Post
+call-mul-n-2 t c =
+    let start = c .before .before .before .before .before .before .before .before .before .before .before
+    .before .before .before .before .before in
+    omega (arith, in-row (start .pre .1 .1) .3)
 
-pub call-shared-slice-read-n : (t : ℕ) → call-lts.Need-shared-slice-read-n (expression-below t, expression.Post, is-refusal-reads.Asked, is-refusal-reads.Learnt, plain-reads.Asked, plain-reads.Learnt, items-below t, items.Post, too-many-reads.Asked, too-many-reads.Learnt, arguments-below t, arguments.Post, invoke-reads.Asked, invoke-reads.Learnt) (call-at t) call.Post
-call-shared-slice-read-n t c = omega (arith, in-row (c .before .before .before .before .before .before .before .before .before .before .before .before .before .before .before .before .before .pre .1 .1) .0)
+call-shared-slice-read-n : (t : ℕ) → call-lts.Need-shared-slice-read-n (callees t) (call-at t) call.Post
+call-shared-slice-read-n t c =
+    let start = c .before .before .before .before .before .before .before .before .before .before .before
+    .before .before .before .before .before .before in
+    omega (arith, in-row (start .pre .1 .1) .0)
 
-pub call-cast-n : (t : ℕ) → call-lts.Need-cast-n (expression-below t, expression.Post, is-refusal-reads.Asked, is-refusal-reads.Learnt, plain-reads.Asked, plain-reads.Learnt, items-below t, items.Post, too-many-reads.Asked, too-many-reads.Learnt, arguments-below t, arguments.Post, invoke-reads.Asked, invoke-reads.Learnt) (call-at t) call.Post
-call-cast-n t c = omega (arith, c .shared-slice-known6 .given (c .before .before .before .before .before .before .before .before .before .before .before .before .before .before .before .before .before .args .at * 4 + 2))
+call-cast-n : (t : ℕ) → call-lts.Need-cast-n (callees t) (call-at t) call.Post
+call-cast-n t c =
+    let start = c .before .before .before .before .before .before .before .before .before .before .before
+    .before .before .before .before .before .before in
+    omega (arith, c .shared-slice-known6 .given (start .args .at * 4 + 2))
 
-pub call-plain-requires : (t : ℕ) → call-lts.Need-plain-requires (expression-below t, expression.Post, is-refusal-reads.Asked, is-refusal-reads.Learnt, plain-reads.Asked, plain-reads.Learnt, items-below t, items.Post, too-many-reads.Asked, too-many-reads.Learnt, arguments-below t, arguments.Post, invoke-reads.Asked, invoke-reads.Learnt) (call-at t) call.Post
+call-plain-requires : (t : ℕ) → call-lts.Need-plain-requires (callees t) (call-at t) call.Post
 call-plain-requires t c κs = tt
 
-pub call-items-requires : (t : ℕ) → call-lts.Need-items-requires (expression-below t, expression.Post, is-refusal-reads.Asked, is-refusal-reads.Learnt, plain-reads.Asked, plain-reads.Learnt, items-below t, items.Post, too-many-reads.Asked, too-many-reads.Learnt, arguments-below t, arguments.Post, invoke-reads.Asked, invoke-reads.Learnt) (call-at t) call.Post
-call-items-requires t c κs = (omega (arith, in-row (c .before .before .before .before .before .before .before .before .before .before .before .before .before .before .before .before .before .before .before .before .before .pre .1 .1) .3, after-row (call-first (c .before .before .before .before .before .before .before .before .before .before .before .before .before .before .before .before .before .before .before .before .before .pre .1 .1) (c .before .before .before .before .before .before .before .before .before .before .before .before .before .before .before .before .before .before .before .before .before .pre .1 .0)), c .before .before .before .before .before .before .before .before .before .before .before .before .before .before .before .before .before .before .before .before .before .pre .0), call-items-pre (c .before .before .before .before .before .before .before .before .before .before .before .before .before .before .before .before .before .before .before .before .before .pre .1 .1) (c .before .before .before .before .before .before .before .before .before .before .before .before .before .before .before .before .before .before .before .before .before .pre .1 .0) (c .before .before .before .before .before .before .before .before .before .before .before .before .expression .ensures) (sym (c .before .before .before .before .before .before .before .is-refusal .ensures) ∙ c .before .before .before .before .before .before .if1 .left))
+call-items-requires : (t : ℕ) → call-lts.Need-items-requires (callees t) (call-at t) call.Post
+call-items-requires t c κs =
+    let at-if1 = c .before .before .before .before .before .before in
+    let at-is-refusal = at-if1 .before in
+    let at-expression = at-is-refusal .before .before .before .before .before in
+    let start = at-expression .before .before .before .before .before .before .before .before .before in (
+      omega (
+        arith,
+        in-row (start .pre .1 .1) .3,
+        after-row (call-first (start .pre .1 .1) (start .pre .1 .0)),
+        start .pre .0,
+      ),
+      call-items-pre (start .pre .1 .1) (start .pre .1 .0)
+          (at-expression .expression .ensures) (sym (at-is-refusal .is-refusal .ensures) ∙ at-if1 .if1 .left),
+    )
 
-pub call-too-many-requires : (t : ℕ) → call-lts.Need-too-many-requires (expression-below t, expression.Post, is-refusal-reads.Asked, is-refusal-reads.Learnt, plain-reads.Asked, plain-reads.Learnt, items-below t, items.Post, too-many-reads.Asked, too-many-reads.Learnt, arguments-below t, arguments.Post, invoke-reads.Asked, invoke-reads.Learnt) (call-at t) call.Post
-call-too-many-requires t c κs = leaf-row (c .before .before .before .before .before .before .before .before .before .before .before .before .before .before .before .before .before .before .before .before .before .before .before .before .before .before .pre .1 .1) .1
+call-too-many-requires : (t : ℕ) → call-lts.Need-too-many-requires (callees t) (call-at t) call.Post
+call-too-many-requires t c κs =
+    let start = c .before .before .before .before .before .before .before .before .before .before .before
+    .before .before .before .before .before .before .before .before .before .before .before .before
+    .before .before .before in
+    leaf-row (start .pre .1 .1) .1
 
-pub call-same-length-3 : (t : ℕ) → call-lts.Need-same-length-3 (expression-below t, expression.Post, is-refusal-reads.Asked, is-refusal-reads.Learnt, plain-reads.Asked, plain-reads.Learnt, items-below t, items.Post, too-many-reads.Asked, too-many-reads.Learnt, arguments-below t, arguments.Post, invoke-reads.Asked, invoke-reads.Learnt) (call-at t) call.Post
-call-same-length-3 t c = c .before .before .before .before .before .items .kept .1 .1 .1 .1 .0 ∙ c .before .before .before .before .before .before .before .before .before .before .before .before .before .before .before .before .before .before .expression .kept .1 .1 .1 .1 .0
+call-same-length-3 : (t : ℕ) → call-lts.Need-same-length-3 (callees t) (call-at t) call.Post
+call-same-length-3 t c = c .before .before .before .before .before .items .kept .1 .1 .1 .1 .0
+    ∙ c .before .before .before .before .before .before .before .before .before .before .before .before
+    .before .before .before .before .before .before .expression .kept .1 .1 .1 .1 .0
 
-pub call-same-length-4 : (t : ℕ) → call-lts.Need-same-length-4 (expression-below t, expression.Post, is-refusal-reads.Asked, is-refusal-reads.Learnt, plain-reads.Asked, plain-reads.Learnt, items-below t, items.Post, too-many-reads.Asked, too-many-reads.Learnt, arguments-below t, arguments.Post, invoke-reads.Asked, invoke-reads.Learnt) (call-at t) call.Post
-call-same-length-4 t c = c .before .before .before .before .before .items .kept .1 .1 .1 .1 .1 .0 ∙ c .before .before .before .before .before .before .before .before .before .before .before .before .before .before .before .before .before .before .expression .kept .1 .1 .1 .1 .1 .0
+call-same-length-4 : (t : ℕ) → call-lts.Need-same-length-4 (callees t) (call-at t) call.Post
+call-same-length-4 t c = c .before .before .before .before .before .items .kept .1 .1 .1 .1 .1 .0
+    ∙ c .before .before .before .before .before .before .before .before .before .before .before .before
+    .before .before .before .before .before .before .expression .kept .1 .1 .1 .1 .1 .0
 
-pub call-returns-2 : (t : ℕ) → call-lts.Need-returns-2 (expression-below t, expression.Post, is-refusal-reads.Asked, is-refusal-reads.Learnt, plain-reads.Asked, plain-reads.Learnt, items-below t, items.Post, too-many-reads.Asked, too-many-reads.Learnt, arguments-below t, arguments.Post, invoke-reads.Asked, invoke-reads.Learnt) (call-at t) call.Post
-call-returns-2 t c = call-many (c .before .before .before .before .before .before .before .before .before .before .before .before .before .before .before .before .before .before .before .before .before .before .before .before .before .before .before .pre .1 .1) (c .before .before .before .before .before .before .before .before .before .before .before .before .before .before .before .before .before .before .before .before .before .before .before .before .before .before .before .pre .1 .0) (c .before .before .before .before .before .before .before .before .before .before .before .before .before .before .before .before .before .before .expression .ensures) (sym (c .before .before .before .before .before .before .before .before .before .before .before .before .before .is-refusal .ensures) ∙ c .before .before .before .before .before .before .before .before .before .before .before .before .if1 .left) (c .before .before .before .before .before .before .before .before .before .if2 .taken) (c .before .before .before .before .before .before .plain .ensures) (c .before .before .before .before .before .items .ensures) (c .too-many .ensures)
+call-returns-2 : (t : ℕ) → call-lts.Need-returns-2 (callees t) (call-at t) call.Post
+call-returns-2 t c =
+    let at-items = c .before .before .before .before .before in
+    let at-plain = at-items .before in
+    let at-if2 = at-plain .before .before .before in
+    let at-if1 = at-if2 .before .before .before in
+    let at-is-refusal = at-if1 .before in
+    let at-expression = at-is-refusal .before .before .before .before .before in
+    let start = at-expression .before .before .before .before .before .before .before .before .before in
+    call-many (start .pre .1 .1) (start .pre .1 .0) (at-expression .expression .ensures)
+    (sym (at-is-refusal .is-refusal .ensures) ∙ at-if1 .if1 .left) (at-if2 .if2 .taken)
+    (at-plain .plain .ensures) (at-items .items .ensures) (c .too-many .ensures)
 
-pub call-arguments-requires : (t : ℕ) → call-lts.Need-arguments-requires (expression-below t, expression.Post, is-refusal-reads.Asked, is-refusal-reads.Learnt, plain-reads.Asked, plain-reads.Learnt, items-below t, items.Post, too-many-reads.Asked, too-many-reads.Learnt, arguments-below t, arguments.Post, invoke-reads.Asked, invoke-reads.Learnt) (call-at t) call.Post
-call-arguments-requires t c κs = (omega (arith, in-row (c .before .before .before .before .before .before .before .before .before .before .before .before .before .before .before .before .before .before .before .before .pre .1 .1) .3, after-row (call-first (c .before .before .before .before .before .before .before .before .before .before .before .before .before .before .before .before .before .before .before .before .pre .1 .1) (c .before .before .before .before .before .before .before .before .before .before .before .before .before .before .before .before .before .before .before .before .pre .1 .0)), c .before .before .before .before .before .before .before .before .before .before .before .before .before .before .before .before .before .before .before .before .pre .0), call-arguments-pre (c .before .before .before .before .before .before .before .before .before .before .before .before .before .before .before .before .before .before .before .before .pre .1 .1) (c .before .before .before .before .before .before .before .before .before .before .before .before .before .before .before .before .before .before .before .before .pre .1 .0) (c .before .before .before .before .before .before .before .before .before .before .before .expression .ensures) (sym (c .before .before .before .before .before .before .is-refusal .ensures) ∙ c .before .before .before .before .before .if1 .left) (c .before .before .if2 .left))
+call-arguments-requires : (t : ℕ) → call-lts.Need-arguments-requires (callees t) (call-at t) call.Post
+call-arguments-requires t c κs =
+    let at-if1 = c .before .before .before .before .before in
+    let at-is-refusal = at-if1 .before in
+    let at-expression = at-is-refusal .before .before .before .before .before in
+    let start = at-expression .before .before .before .before .before .before .before .before .before in (
+      omega (
+        arith,
+        in-row (start .pre .1 .1) .3,
+        after-row (call-first (start .pre .1 .1) (start .pre .1 .0)),
+        start .pre .0,
+      ),
+      call-arguments-pre (start .pre .1 .1) (start .pre .1 .0)
+          (at-expression .expression .ensures) (sym (at-is-refusal .is-refusal .ensures) ∙ at-if1 .if1 .left)
+          (c .before .before .if2 .left),
+    )
 
-pub call-is-refusal-requires-2 : (t : ℕ) → call-lts.Need-is-refusal-requires-2 (expression-below t, expression.Post, is-refusal-reads.Asked, is-refusal-reads.Learnt, plain-reads.Asked, plain-reads.Learnt, items-below t, items.Post, too-many-reads.Asked, too-many-reads.Learnt, arguments-below t, arguments.Post, invoke-reads.Asked, invoke-reads.Learnt) (call-at t) call.Post
+call-is-refusal-requires-2 : (t : ℕ) → call-lts.Need-is-refusal-requires-2 (callees t) (call-at t) call.Post
 call-is-refusal-requires-2 t c κs = tt
 
-pub call-same-length-5 : (t : ℕ) → call-lts.Need-same-length-5 (expression-below t, expression.Post, is-refusal-reads.Asked, is-refusal-reads.Learnt, plain-reads.Asked, plain-reads.Learnt, items-below t, items.Post, too-many-reads.Asked, too-many-reads.Learnt, arguments-below t, arguments.Post, invoke-reads.Asked, invoke-reads.Learnt) (call-at t) call.Post
-call-same-length-5 t c = c .before .before .before .before .before .before .arguments .kept .1 .1 .1 .1 .0 ∙ c .before .before .before .before .before .before .before .before .before .before .before .before .before .before .before .before .before .before .expression .kept .1 .1 .1 .1 .0
+call-same-length-5 : (t : ℕ) → call-lts.Need-same-length-5 (callees t) (call-at t) call.Post
+call-same-length-5 t c = c .before .before .before .before .before .before .arguments .kept .1 .1 .1 .1 .0
+    ∙ c .before .before .before .before .before .before .before .before .before .before .before .before
+    .before .before .before .before .before .before .expression .kept .1 .1 .1 .1 .0
 
-pub call-same-length-6 : (t : ℕ) → call-lts.Need-same-length-6 (expression-below t, expression.Post, is-refusal-reads.Asked, is-refusal-reads.Learnt, plain-reads.Asked, plain-reads.Learnt, items-below t, items.Post, too-many-reads.Asked, too-many-reads.Learnt, arguments-below t, arguments.Post, invoke-reads.Asked, invoke-reads.Learnt) (call-at t) call.Post
-call-same-length-6 t c = c .before .before .before .before .before .before .arguments .kept .1 .1 .1 .1 .1 .0 ∙ c .before .before .before .before .before .before .before .before .before .before .before .before .before .before .before .before .before .before .expression .kept .1 .1 .1 .1 .1 .0
+call-same-length-6 : (t : ℕ) → call-lts.Need-same-length-6 (callees t) (call-at t) call.Post
+call-same-length-6 t c = c .before .before .before .before .before .before .arguments .kept .1 .1 .1 .1 .1 .0
+    ∙ c .before .before .before .before .before .before .before .before .before .before .before .before
+    .before .before .before .before .before .before .expression .kept .1 .1 .1 .1 .1 .0
 
-pub call-returns-3 : (t : ℕ) → call-lts.Need-returns-3 (expression-below t, expression.Post, is-refusal-reads.Asked, is-refusal-reads.Learnt, plain-reads.Asked, plain-reads.Learnt, items-below t, items.Post, too-many-reads.Asked, too-many-reads.Learnt, arguments-below t, arguments.Post, invoke-reads.Asked, invoke-reads.Learnt) (call-at t) call.Post
-call-returns-3 t c = call-fail-arguments (c .before .before .before .before .before .before .before .before .before .before .before .before .before .before .before .before .before .before .before .before .before .before .before .before .before .before .before .pre .1 .1) (c .before .before .before .before .before .before .before .before .before .before .before .before .before .before .before .before .before .before .before .before .before .before .before .before .before .before .before .pre .1 .0) (c .before .before .before .before .before .before .before .before .before .before .before .before .before .before .before .before .before .before .expression .ensures) (sym (c .before .before .before .before .before .before .before .before .before .before .before .before .before .is-refusal .ensures) ∙ c .before .before .before .before .before .before .before .before .before .before .before .before .if1 .left) (c .before .before .before .before .before .before .before .before .before .if2 .left) (c .before .before .before .before .before .before .arguments .ensures) (sym (c .before .is-refusal2 .ensures) ∙ c .if3 .taken)
+call-returns-3 : (t : ℕ) → call-lts.Need-returns-3 (callees t) (call-at t) call.Post
+call-returns-3 t c =
+    let at-arguments = c .before .before .before .before .before .before in
+    let at-if2 = at-arguments .before .before .before in
+    let at-if1 = at-if2 .before .before .before in
+    let at-is-refusal = at-if1 .before in
+    let at-expression = at-is-refusal .before .before .before .before .before in
+    let start = at-expression .before .before .before .before .before .before .before .before .before in
+    call-fail-arguments (start .pre .1 .1) (start .pre .1 .0) (at-expression .expression .ensures)
+    (sym (at-is-refusal .is-refusal .ensures) ∙ at-if1 .if1 .left) (at-if2 .if2 .left)
+    (at-arguments .arguments .ensures) (sym (c .before .is-refusal2 .ensures) ∙ c .if3 .taken)
 
-pub call-invoke-requires : (t : ℕ) → call-lts.Need-invoke-requires (expression-below t, expression.Post, is-refusal-reads.Asked, is-refusal-reads.Learnt, plain-reads.Asked, plain-reads.Learnt, items-below t, items.Post, too-many-reads.Asked, too-many-reads.Learnt, arguments-below t, arguments.Post, invoke-reads.Asked, invoke-reads.Learnt) (call-at t) call.Post
-call-invoke-requires t c κs = call-invoke-pre (c .before .before .before .before .before .before .before .before .before .before .before .before .before .before .before .before .before .before .before .before .before .before .before .before .before .before .before .before .before .pre .1 .1) (c .before .before .before .before .before .before .before .before .before .before .before .before .before .before .before .before .before .before .before .before .before .before .before .before .before .before .before .before .before .pre .1 .0) (c .before .before .before .before .before .before .before .before .before .before .before .before .before .before .before .before .before .before .before .before .expression .ensures) (sym (c .before .before .before .before .before .before .before .before .before .before .before .before .before .before .before .is-refusal .ensures) ∙ c .before .before .before .before .before .before .before .before .before .before .before .before .before .before .if1 .left) (c .before .before .before .before .before .before .before .before .before .before .before .if2 .left) (c .before .before .before .before .before .before .before .before .arguments .ensures) (sym (c .before .before .before .is-refusal2 .ensures) ∙ c .before .before .if3 .left)
+call-invoke-requires : (t : ℕ) → call-lts.Need-invoke-requires (callees t) (call-at t) call.Post
+call-invoke-requires t c κs =
+    let at-arguments = c .before .before .before .before .before .before .before .before in
+    let at-if2 = at-arguments .before .before .before in
+    let at-if1 = at-if2 .before .before .before in
+    let at-is-refusal = at-if1 .before in
+    let at-expression = at-is-refusal .before .before .before .before .before in
+    let start = at-expression .before .before .before .before .before .before .before .before .before in
+    call-invoke-pre (start .pre .1 .1) (start .pre .1 .0) (at-expression .expression .ensures)
+    (sym (at-is-refusal .is-refusal .ensures) ∙ at-if1 .if1 .left) (at-if2 .if2 .left)
+    (at-arguments .arguments .ensures)
+    (sym (c .before .before .before .is-refusal2 .ensures) ∙ c .before .before .if3 .left)
 
-pub call-same-length-7 : (t : ℕ) → call-lts.Need-same-length-7 (expression-below t, expression.Post, is-refusal-reads.Asked, is-refusal-reads.Learnt, plain-reads.Asked, plain-reads.Learnt, items-below t, items.Post, too-many-reads.Asked, too-many-reads.Learnt, arguments-below t, arguments.Post, invoke-reads.Asked, invoke-reads.Learnt) (call-at t) call.Post
-call-same-length-7 t c = c .before .before .before .before .invoke .kept .1 .1 .1 .0 ∙ (c .before .before .before .before .before .before .before .before .before .before .before .before .before .arguments .kept .1 .1 .1 .1 .0 ∙ c .before .before .before .before .before .before .before .before .before .before .before .before .before .before .before .before .before .before .before .before .before .before .before .before .before .expression .kept .1 .1 .1 .1 .0)
+call-same-length-7 : (t : ℕ) → call-lts.Need-same-length-7 (callees t) (call-at t) call.Post
+call-same-length-7 t c = c .before .before .before .before .invoke .kept .1 .1 .1 .0
+    ∙ (c .before .before .before .before .before .before .before .before .before .before .before .before
+    .before .arguments .kept .1 .1 .1 .1 .0
+    ∙ c .before .before .before .before .before .before .before .before .before .before .before .before
+    .before .before .before .before .before .before .before .before .before .before .before .before
+    .before .expression .kept .1 .1 .1 .1 .0)
 
-pub call-same-length-8 : (t : ℕ) → call-lts.Need-same-length-8 (expression-below t, expression.Post, is-refusal-reads.Asked, is-refusal-reads.Learnt, plain-reads.Asked, plain-reads.Learnt, items-below t, items.Post, too-many-reads.Asked, too-many-reads.Learnt, arguments-below t, arguments.Post, invoke-reads.Asked, invoke-reads.Learnt) (call-at t) call.Post
-call-same-length-8 t c = c .before .before .before .before .invoke .kept .1 .1 .1 .1 .0 ∙ (c .before .before .before .before .before .before .before .before .before .before .before .before .before .arguments .kept .1 .1 .1 .1 .1 .0 ∙ c .before .before .before .before .before .before .before .before .before .before .before .before .before .before .before .before .before .before .before .before .before .before .before .before .before .expression .kept .1 .1 .1 .1 .1 .0)
+call-same-length-8 : (t : ℕ) → call-lts.Need-same-length-8 (callees t) (call-at t) call.Post
+call-same-length-8 t c = c .before .before .before .before .invoke .kept .1 .1 .1 .1 .0
+    ∙ (c .before .before .before .before .before .before .before .before .before .before .before .before
+    .before .arguments .kept .1 .1 .1 .1 .1 .0
+    ∙ c .before .before .before .before .before .before .before .before .before .before .before .before
+    .before .before .before .before .before .before .before .before .before .before .before .before
+    .before .expression .kept .1 .1 .1 .1 .1 .0)
 
-pub call-returns-4 : (t : ℕ) → call-lts.Need-returns-4 (expression-below t, expression.Post, is-refusal-reads.Asked, is-refusal-reads.Learnt, plain-reads.Asked, plain-reads.Learnt, items-below t, items.Post, too-many-reads.Asked, too-many-reads.Learnt, arguments-below t, arguments.Post, invoke-reads.Asked, invoke-reads.Learnt) (call-at t) call.Post
-call-returns-4 t c = call-done (c .before .before .before .before .before .before .before .before .before .before .before .before .before .before .before .before .before .before .before .before .before .before .before .before .before .before .before .before .before .before .before .before .before .before .pre .1 .1) (c .before .before .before .before .before .before .before .before .before .before .before .before .before .before .before .before .before .before .before .before .before .before .before .before .before .before .before .before .before .before .before .before .before .before .pre .1 .0) (c .before .before .before .before .before .before .before .before .before .before .before .before .before .before .before .before .before .before .before .before .before .before .before .before .before .expression .ensures) (sym (c .before .before .before .before .before .before .before .before .before .before .before .before .before .before .before .before .before .before .before .before .is-refusal .ensures) ∙ c .before .before .before .before .before .before .before .before .before .before .before .before .before .before .before .before .before .before .before .if1 .left) (c .before .before .before .before .before .before .before .before .before .before .before .before .before .before .before .before .if2 .left) (c .before .before .before .before .before .before .before .before .before .before .before .before .before .arguments .ensures) (sym (c .before .before .before .before .before .before .before .before .is-refusal2 .ensures) ∙ c .before .before .before .before .before .before .before .if3 .left) (c .before .before .before .before .invoke .ensures)
+call-returns-4 : (t : ℕ) → call-lts.Need-returns-4 (callees t) (call-at t) call.Post
+call-returns-4 t c =
+    let at-invoke = c .before .before .before .before in
+    let at-if3 = at-invoke .before .before .before in
+    let at-is-refusal2 = at-if3 .before in
+    let at-arguments = at-is-refusal2 .before .before .before .before .before in
+    let at-if2 = at-arguments .before .before .before in
+    let at-if1 = at-if2 .before .before .before in
+    let at-is-refusal = at-if1 .before in
+    let at-expression = at-is-refusal .before .before .before .before .before in
+    let start = at-expression .before .before .before .before .before .before .before .before .before in
+    call-done (start .pre .1 .1) (start .pre .1 .0) (at-expression .expression .ensures)
+    (sym (at-is-refusal .is-refusal .ensures) ∙ at-if1 .if1 .left) (at-if2 .if2 .left)
+    (at-arguments .arguments .ensures) (sym (at-is-refusal2 .is-refusal2 .ensures) ∙ at-if3 .if3 .left)
+    (at-invoke .invoke .ensures)
+
+-- The member, of its callees' contracts.
+pub call-holds : {M : Type 1} (t : ℕ) → call-lts.Closed (callees t) (call-at t) call.Post M
+call-holds t =
+    call-lts.spec (callees t) (call-at t) call.Post
+    (call-add-expression t) (call-expression-requires t) (call-is-refusal-requires t) (call-same-length t)
+    (call-same-length-2 t) (call-returns t) (call-add-next t) (call-mul-next t)
+    (call-shared-slice-read-next t) (call-cast-next t) (call-mul-n t) (call-add-n t) (call-mul-n-2 t)
+    (call-shared-slice-read-n t) (call-cast-n t) (call-plain-requires t) (call-items-requires t)
+    (call-too-many-requires t) (call-same-length-3 t) (call-same-length-4 t) (call-returns-2 t)
+    (call-arguments-requires t) (call-is-refusal-requires-2 t) (call-same-length-5 t) (call-same-length-6 t)
+    (call-returns-3 t) (call-invoke-requires t) (call-same-length-7 t) (call-same-length-8 t)
+    (call-returns-4 t)

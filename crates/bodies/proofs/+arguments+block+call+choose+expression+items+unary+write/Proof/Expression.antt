@@ -4,7 +4,8 @@ use mathlib.Core.Path.{refl}
 use Prim.Native.Nat.{ℕ}
 use Rattle.bodies.proofs.TurnsLetters.{rest-unary}
 use Rattle.bodies.proofs.Turns.{in-row}
-use Rattle.bodies.proofs.TurnsUnary.{leaf-row, leaf-slots, change-pre, true-post, false-post, null-post, slot-post, new-post, change-post, room-none}
+use Rattle.bodies.proofs.TurnsUnary.{leaf-row, leaf-slots, change-pre, true-post, false-post}
+use Rattle.bodies.proofs.TurnsUnary.{null-post, slot-post, new-post, change-post, room-none}
 use Rattle.bodies.proofs.block.Reads as block
 use Rattle.bodies.proofs.call.Reads as call
 use Rattle.bodies.proofs.choose.Reads as choose
@@ -16,115 +17,228 @@ use Rattle.bodies.proofs.change.Reads as change-reads
 use Rattle.bodies.proofs.create.Reads as create-reads
 use Rattle.bodies.proofs.plain.Reads as plain-reads
 use Rattle.bodies.proofs.read_slot.Reads as read-slot-reads
-use Rattle.bodies.proofs.+arguments+block+call+choose+expression+items+unary+write.Proof.Base.{block-below, call-below, choose-below, expression-at, unary-below, write-below}
+use Rattle.bodies.proofs.+arguments+block+call+choose+expression+items+unary+write.Proof.Base.{block-below, call-below, choose-below, expression-at}
+use Rattle.bodies.proofs.+arguments+block+call+choose+expression+items+unary+write.Proof.Base.{unary-below, write-below}
 
-pub expression-mul-letter : (t : ℕ) → expression-lts.Need-mul-letter (plain-reads.Asked, plain-reads.Learnt, read-slot-reads.Asked, read-slot-reads.Learnt, create-reads.Asked, create-reads.Learnt, change-reads.Asked, change-reads.Learnt, write-below t, write.Post, call-below t, call.Post, choose-below t, choose.Post, block-below t, block.Post, unary-below t, unary.Post) (expression-at t) expression.Post
-expression-mul-letter t c = omega (arith, in-row (c .before .before .before .before .before .before .pre .1) .3)
+-- What its callees ask and give: those of the cycle below the measure t.
+abbrev callees : ℕ → expression-lts.Claims
+callees t = (
+  plain-reads.Asked,
+  plain-reads.Learnt,
+  read-slot-reads.Asked,
+  read-slot-reads.Learnt,
+  create-reads.Asked,
+  create-reads.Learnt,
+  change-reads.Asked,
+  change-reads.Learnt,
+  write-below t,
+  write.Post,
+  call-below t,
+  call.Post,
+  choose-below t,
+  choose.Post,
+  block-below t,
+  block.Post,
+  unary-below t,
+  unary.Post,
+)
 
-pub expression-mul-letter-2 : (t : ℕ) → expression-lts.Need-mul-letter-2 (plain-reads.Asked, plain-reads.Learnt, read-slot-reads.Asked, read-slot-reads.Learnt, create-reads.Asked, create-reads.Learnt, change-reads.Asked, change-reads.Learnt, write-below t, write.Post, call-below t, call.Post, choose-below t, choose.Post, block-below t, block.Post, unary-below t, unary.Post) (expression-at t) expression.Post
-expression-mul-letter-2 t c = omega (arith, in-row (c .before .before .before .before .before .before .pre .1) .3)
+expression-mul-letter : (t : ℕ) → expression-lts.Need-mul-letter (callees t) (expression-at t) expression.Post
+expression-mul-letter t c =
+    let start = c .before .before .before .before .before .before in
+    omega (arith, in-row (start .pre .1) .3)
 
-pub expression-shared-slice-read-letter : (t : ℕ) → expression-lts.Need-shared-slice-read-letter (plain-reads.Asked, plain-reads.Learnt, read-slot-reads.Asked, read-slot-reads.Learnt, create-reads.Asked, create-reads.Learnt, change-reads.Asked, change-reads.Learnt, write-below t, write.Post, call-below t, call.Post, choose-below t, choose.Post, block-below t, block.Post, unary-below t, unary.Post) (expression-at t) expression.Post
-expression-shared-slice-read-letter t c = omega (arith, in-row (c .before .before .before .before .before .before .before .pre .1) .0)
+expression-mul-letter-2 : (t : ℕ)
+    → expression-lts.Need-mul-letter-2 (callees t) (expression-at t) expression.Post
+expression-mul-letter-2 t c =
+    let start = c .before .before .before .before .before .before in
+    omega (arith, in-row (start .pre .1) .3)
 
-pub expression-plain-requires : (t : ℕ) → expression-lts.Need-plain-requires (plain-reads.Asked, plain-reads.Learnt, read-slot-reads.Asked, read-slot-reads.Learnt, create-reads.Asked, create-reads.Learnt, change-reads.Asked, change-reads.Learnt, write-below t, write.Post, call-below t, call.Post, choose-below t, choose.Post, block-below t, block.Post, unary-below t, unary.Post) (expression-at t) expression.Post
+expression-shared-slice-read-letter : (t : ℕ)
+    → expression-lts.Need-shared-slice-read-letter (callees t) (expression-at t) expression.Post
+expression-shared-slice-read-letter t c =
+    let start = c .before .before .before .before .before .before .before in
+    omega (arith, in-row (start .pre .1) .0)
+
+expression-plain-requires : (t : ℕ)
+    → expression-lts.Need-plain-requires (callees t) (expression-at t) expression.Post
 expression-plain-requires t c κs = tt
 
-pub expression-plain-requires-2 : (t : ℕ) → expression-lts.Need-plain-requires-2 (plain-reads.Asked, plain-reads.Learnt, read-slot-reads.Asked, read-slot-reads.Learnt, create-reads.Asked, create-reads.Learnt, change-reads.Asked, change-reads.Learnt, write-below t, write.Post, call-below t, call.Post, choose-below t, choose.Post, block-below t, block.Post, unary-below t, unary.Post) (expression-at t) expression.Post
+expression-plain-requires-2 : (t : ℕ)
+    → expression-lts.Need-plain-requires-2 (callees t) (expression-at t) expression.Post
 expression-plain-requires-2 t c κs = tt
 
-pub expression-plain-requires-3 : (t : ℕ) → expression-lts.Need-plain-requires-3 (plain-reads.Asked, plain-reads.Learnt, read-slot-reads.Asked, read-slot-reads.Learnt, create-reads.Asked, create-reads.Learnt, change-reads.Asked, change-reads.Learnt, write-below t, write.Post, call-below t, call.Post, choose-below t, choose.Post, block-below t, block.Post, unary-below t, unary.Post) (expression-at t) expression.Post
+expression-plain-requires-3 : (t : ℕ)
+    → expression-lts.Need-plain-requires-3 (callees t) (expression-at t) expression.Post
 expression-plain-requires-3 t c κs = tt
 
-pub expression-read-slot-requires : (t : ℕ) → expression-lts.Need-read-slot-requires (plain-reads.Asked, plain-reads.Learnt, read-slot-reads.Asked, read-slot-reads.Learnt, create-reads.Asked, create-reads.Learnt, change-reads.Asked, change-reads.Learnt, write-below t, write.Post, call-below t, call.Post, choose-below t, choose.Post, block-below t, block.Post, unary-below t, unary.Post) (expression-at t) expression.Post
-expression-read-slot-requires t c κs = (leaf-row (c .before .before .before .before .before .before .before .before .before .pre .1), leaf-slots (c .before .before .before .before .before .before .before .before .before .pre .1))
+expression-read-slot-requires : (t : ℕ)
+    → expression-lts.Need-read-slot-requires (callees t) (expression-at t) expression.Post
+expression-read-slot-requires t c κs =
+    let start = c .before .before .before .before .before .before .before .before .before in
+    (leaf-row (start .pre .1), leaf-slots (start .pre .1))
 
-pub expression-create-requires : (t : ℕ) → expression-lts.Need-create-requires (plain-reads.Asked, plain-reads.Learnt, read-slot-reads.Asked, read-slot-reads.Learnt, create-reads.Asked, create-reads.Learnt, change-reads.Asked, change-reads.Learnt, write-below t, write.Post, call-below t, call.Post, choose-below t, choose.Post, block-below t, block.Post, unary-below t, unary.Post) (expression-at t) expression.Post
-expression-create-requires t c κs = leaf-row (c .before .before .before .before .before .before .before .before .pre .1)
+expression-create-requires : (t : ℕ)
+    → expression-lts.Need-create-requires (callees t) (expression-at t) expression.Post
+expression-create-requires t c κs =
+    let start = c .before .before .before .before .before .before .before .before in
+    leaf-row (start .pre .1)
 
-pub expression-change-requires : (t : ℕ) → expression-lts.Need-change-requires (plain-reads.Asked, plain-reads.Learnt, read-slot-reads.Asked, read-slot-reads.Learnt, create-reads.Asked, create-reads.Learnt, change-reads.Asked, change-reads.Learnt, write-below t, write.Post, call-below t, call.Post, choose-below t, choose.Post, block-below t, block.Post, unary-below t, unary.Post) (expression-at t) expression.Post
-expression-change-requires t c κs = change-pre (c .before .before .before .before .before .before .before .before .before .pre .1) (c .before .match .keys6)
+expression-change-requires : (t : ℕ)
+    → expression-lts.Need-change-requires (callees t) (expression-at t) expression.Post
+expression-change-requires t c κs =
+    let start = c .before .before .before .before .before .before .before .before .before in
+    change-pre (start .pre .1) (c .before .match .keys6)
 
-pub expression-write-requires : (t : ℕ) → expression-lts.Need-write-requires (plain-reads.Asked, plain-reads.Learnt, read-slot-reads.Asked, read-slot-reads.Learnt, create-reads.Asked, create-reads.Learnt, change-reads.Asked, change-reads.Learnt, write-below t, write.Post, call-below t, call.Post, choose-below t, choose.Post, block-below t, block.Post, unary-below t, unary.Post) (expression-at t) expression.Post
-expression-write-requires t c κs = (omega (arith, in-row (c .before .before .before .before .before .before .before .before .before .before .pre .1) .3, c .before .before .before .before .before .before .before .before .before .before .pre .0), (c .before .before .match .keys7, c .before .before .before .before .before .before .before .before .before .before .pre .1))
+expression-write-requires : (t : ℕ)
+    → expression-lts.Need-write-requires (callees t) (expression-at t) expression.Post
+expression-write-requires t c κs =
+    let start = c .before .before .before .before .before .before .before .before .before .before in (
+      omega (arith, in-row (start .pre .1) .3, start .pre .0),
+      (c .before .before .match .keys7, start .pre .1),
+    )
 
-pub expression-call-requires : (t : ℕ) → expression-lts.Need-call-requires (plain-reads.Asked, plain-reads.Learnt, read-slot-reads.Asked, read-slot-reads.Learnt, create-reads.Asked, create-reads.Learnt, change-reads.Asked, change-reads.Learnt, write-below t, write.Post, call-below t, call.Post, choose-below t, choose.Post, block-below t, block.Post, unary-below t, unary.Post) (expression-at t) expression.Post
-expression-call-requires t c κs = (omega (arith, in-row (c .before .before .before .before .before .before .before .before .before .before .pre .1) .3, c .before .before .before .before .before .before .before .before .before .before .pre .0), (c .before .before .match .keys8, c .before .before .before .before .before .before .before .before .before .before .pre .1))
+expression-call-requires : (t : ℕ)
+    → expression-lts.Need-call-requires (callees t) (expression-at t) expression.Post
+expression-call-requires t c κs =
+    let start = c .before .before .before .before .before .before .before .before .before .before in (
+      omega (arith, in-row (start .pre .1) .3, start .pre .0),
+      (c .before .before .match .keys8, start .pre .1),
+    )
 
-pub expression-choose-requires : (t : ℕ) → expression-lts.Need-choose-requires (plain-reads.Asked, plain-reads.Learnt, read-slot-reads.Asked, read-slot-reads.Learnt, create-reads.Asked, create-reads.Learnt, change-reads.Asked, change-reads.Learnt, write-below t, write.Post, call-below t, call.Post, choose-below t, choose.Post, block-below t, block.Post, unary-below t, unary.Post) (expression-at t) expression.Post
-expression-choose-requires t c κs = (omega (arith, in-row (c .before .before .before .before .before .before .before .before .before .before .pre .1) .3, c .before .before .before .before .before .before .before .before .before .before .pre .0), (c .before .before .match .keys9, c .before .before .before .before .before .before .before .before .before .before .pre .1))
+expression-choose-requires : (t : ℕ)
+    → expression-lts.Need-choose-requires (callees t) (expression-at t) expression.Post
+expression-choose-requires t c κs =
+    let start = c .before .before .before .before .before .before .before .before .before .before in (
+      omega (arith, in-row (start .pre .1) .3, start .pre .0),
+      (c .before .before .match .keys9, start .pre .1),
+    )
 
-pub expression-block-requires : (t : ℕ) → expression-lts.Need-block-requires (plain-reads.Asked, plain-reads.Learnt, read-slot-reads.Asked, read-slot-reads.Learnt, create-reads.Asked, create-reads.Learnt, change-reads.Asked, change-reads.Learnt, write-below t, write.Post, call-below t, call.Post, choose-below t, choose.Post, block-below t, block.Post, unary-below t, unary.Post) (expression-at t) expression.Post
-expression-block-requires t c κs = (omega (arith, in-row (c .before .before .before .before .before .before .before .before .before .before .pre .1) .3, c .before .before .before .before .before .before .before .before .before .before .pre .0), (c .before .before .match .keys10, c .before .before .before .before .before .before .before .before .before .before .pre .1))
+expression-block-requires : (t : ℕ)
+    → expression-lts.Need-block-requires (callees t) (expression-at t) expression.Post
+expression-block-requires t c κs =
+    let start = c .before .before .before .before .before .before .before .before .before .before in (
+      omega (arith, in-row (start .pre .1) .3, start .pre .0),
+      (c .before .before .match .keys10, start .pre .1),
+    )
 
-pub expression-unary-requires : (t : ℕ) → expression-lts.Need-unary-requires (plain-reads.Asked, plain-reads.Learnt, read-slot-reads.Asked, read-slot-reads.Learnt, create-reads.Asked, create-reads.Learnt, change-reads.Asked, change-reads.Learnt, write-below t, write.Post, call-below t, call.Post, choose-below t, choose.Post, block-below t, block.Post, unary-below t, unary.Post) (expression-at t) expression.Post
-expression-unary-requires t c κs = (omega (arith, in-row (c .before .before .before .before .before .before .before .before .before .before .pre .1) .3, c .before .before .before .before .before .before .before .before .before .before .pre .0), (rest-unary _ _ (c .before .before .before .before .before .before .before .before .before .before .pre .1 .e) _ (c .before .before .before .before .before .before .before .before .before .before .pre .1 .encoded) (c .before .before .match .rest .0 .0 .0 .0 .0 .0 .0 .0 .0 .1) (c .before .before .match .rest .0 .0 .0 .0 .0 .0 .0 .0 .1) (c .before .before .match .rest .0 .0 .0 .0 .0 .0 .0 .1) (c .before .before .match .rest .0 .0 .0 .0 .0 .0 .1) (c .before .before .match .rest .0 .0 .0 .0 .0 .1) (c .before .before .match .rest .0 .0 .0 .0 .1) (c .before .before .match .rest .0 .0 .0 .1) (c .before .before .match .rest .0 .0 .1) (c .before .before .match .rest .0 .1) (c .before .before .match .rest .1), c .before .before .before .before .before .before .before .before .before .before .pre .1))
+expression-unary-requires : (t : ℕ)
+    → expression-lts.Need-unary-requires (callees t) (expression-at t) expression.Post
+expression-unary-requires t c κs =
+    let start = c .before .before .before .before .before .before .before .before .before .before in (
+      omega (arith, in-row (start .pre .1) .3, start .pre .0),
+      (
+        rest-unary _ _ (start .pre .1 .e) _ (start .pre .1 .encoded)
+            (c .before .before .match .rest .0 .0 .0 .0 .0 .0 .0 .0 .0 .1)
+            (c .before .before .match .rest .0 .0 .0 .0 .0 .0 .0 .0 .1)
+            (c .before .before .match .rest .0 .0 .0 .0 .0 .0 .0 .1)
+            (c .before .before .match .rest .0 .0 .0 .0 .0 .0 .1)
+            (c .before .before .match .rest .0 .0 .0 .0 .0 .1) (c .before .before .match .rest .0 .0 .0 .0 .1)
+            (c .before .before .match .rest .0 .0 .0 .1) (c .before .before .match .rest .0 .0 .1)
+            (c .before .before .match .rest .0 .1) (c .before .before .match .rest .1),
+        start .pre .1,
+      ),
+    )
 
-pub expression-returns : (t : ℕ) → expression-lts.Need-returns (plain-reads.Asked, plain-reads.Learnt, read-slot-reads.Asked, read-slot-reads.Learnt, create-reads.Asked, create-reads.Learnt, change-reads.Asked, change-reads.Learnt, write-below t, write.Post, call-below t, call.Post, choose-below t, choose.Post, block-below t, block.Post, unary-below t, unary.Post) (expression-at t) expression.Post
+expression-returns : (t : ℕ) → expression-lts.Need-returns (callees t) (expression-at t) expression.Post
 expression-returns t c = true-post (c .before .match .keys1) (c .plain .ensures)
 
-pub expression-returns-2 : (t : ℕ) → expression-lts.Need-returns-2 (plain-reads.Asked, plain-reads.Learnt, read-slot-reads.Asked, read-slot-reads.Learnt, create-reads.Asked, create-reads.Learnt, change-reads.Asked, change-reads.Learnt, write-below t, write.Post, call-below t, call.Post, choose-below t, choose.Post, block-below t, block.Post, unary-below t, unary.Post) (expression-at t) expression.Post
+expression-returns-2 : (t : ℕ) → expression-lts.Need-returns-2 (callees t) (expression-at t) expression.Post
 expression-returns-2 t c = false-post (c .before .match .keys2) (c .plain2 .ensures)
 
-pub expression-returns-3 : (t : ℕ) → expression-lts.Need-returns-3 (plain-reads.Asked, plain-reads.Learnt, read-slot-reads.Asked, read-slot-reads.Learnt, create-reads.Asked, create-reads.Learnt, change-reads.Asked, change-reads.Learnt, write-below t, write.Post, call-below t, call.Post, choose-below t, choose.Post, block-below t, block.Post, unary-below t, unary.Post) (expression-at t) expression.Post
+expression-returns-3 : (t : ℕ) → expression-lts.Need-returns-3 (callees t) (expression-at t) expression.Post
 expression-returns-3 t c = null-post (c .before .match .keys3) (c .plain3 .ensures)
 
-pub expression-same-length : (t : ℕ) → expression-lts.Need-same-length (plain-reads.Asked, plain-reads.Learnt, read-slot-reads.Asked, read-slot-reads.Learnt, create-reads.Asked, create-reads.Learnt, change-reads.Asked, change-reads.Learnt, write-below t, write.Post, call-below t, call.Post, choose-below t, choose.Post, block-below t, block.Post, unary-below t, unary.Post) (expression-at t) expression.Post
+expression-same-length : (t : ℕ)
+    → expression-lts.Need-same-length (callees t) (expression-at t) expression.Post
 expression-same-length t c = refl
 
-pub expression-returns-4 : (t : ℕ) → expression-lts.Need-returns-4 (plain-reads.Asked, plain-reads.Learnt, read-slot-reads.Asked, read-slot-reads.Learnt, create-reads.Asked, create-reads.Learnt, change-reads.Asked, change-reads.Learnt, write-below t, write.Post, call-below t, call.Post, choose-below t, choose.Post, block-below t, block.Post, unary-below t, unary.Post) (expression-at t) expression.Post
+expression-returns-4 : (t : ℕ) → expression-lts.Need-returns-4 (callees t) (expression-at t) expression.Post
 expression-returns-4 t c = slot-post (c .before .before .match .keys4) (c .read-slot .ensures)
 
-pub expression-returns-5 : (t : ℕ) → expression-lts.Need-returns-5 (plain-reads.Asked, plain-reads.Learnt, read-slot-reads.Asked, read-slot-reads.Learnt, create-reads.Asked, create-reads.Learnt, change-reads.Asked, change-reads.Learnt, write-below t, write.Post, call-below t, call.Post, choose-below t, choose.Post, block-below t, block.Post, unary-below t, unary.Post) (expression-at t) expression.Post
+expression-returns-5 : (t : ℕ) → expression-lts.Need-returns-5 (callees t) (expression-at t) expression.Post
 expression-returns-5 t c = new-post (c .before .match .keys5) (c .create .ensures)
 
-pub expression-same-length-2 : (t : ℕ) → expression-lts.Need-same-length-2 (plain-reads.Asked, plain-reads.Learnt, read-slot-reads.Asked, read-slot-reads.Learnt, create-reads.Asked, create-reads.Learnt, change-reads.Asked, change-reads.Learnt, write-below t, write.Post, call-below t, call.Post, choose-below t, choose.Post, block-below t, block.Post, unary-below t, unary.Post) (expression-at t) expression.Post
+expression-same-length-2 : (t : ℕ)
+    → expression-lts.Need-same-length-2 (callees t) (expression-at t) expression.Post
 expression-same-length-2 t c = c .before .before .change .kept .1 .1 .0
 
-pub expression-returns-6 : (t : ℕ) → expression-lts.Need-returns-6 (plain-reads.Asked, plain-reads.Learnt, read-slot-reads.Asked, read-slot-reads.Learnt, create-reads.Asked, create-reads.Learnt, change-reads.Asked, change-reads.Learnt, write-below t, write.Post, call-below t, call.Post, choose-below t, choose.Post, block-below t, block.Post, unary-below t, unary.Post) (expression-at t) expression.Post
-expression-returns-6 t c = change-post (room-none (c .before .before .before .before .before .before .before .before .before .before .before .before .pre .1 .room)) (c .before .before .before .before .match .keys6) (c .before .before .change .ensures)
+expression-returns-6 : (t : ℕ) → expression-lts.Need-returns-6 (callees t) (expression-at t) expression.Post
+expression-returns-6 t c =
+    let at-match = c .before .before .before .before in
+    let start = at-match .before .before .before .before .before .before .before .before in
+    change-post (room-none (start .pre .1 .room)) (at-match .match .keys6)
+    (c .before .before .change .ensures)
 
-pub expression-same-length-3 : (t : ℕ) → expression-lts.Need-same-length-3 (plain-reads.Asked, plain-reads.Learnt, read-slot-reads.Asked, read-slot-reads.Learnt, create-reads.Asked, create-reads.Learnt, change-reads.Asked, change-reads.Learnt, write-below t, write.Post, call-below t, call.Post, choose-below t, choose.Post, block-below t, block.Post, unary-below t, unary.Post) (expression-at t) expression.Post
+expression-same-length-3 : (t : ℕ)
+    → expression-lts.Need-same-length-3 (callees t) (expression-at t) expression.Post
 expression-same-length-3 t c = c .before .before .before .before .write .kept .1 .1 .1 .1 .0
 
-pub expression-same-length-4 : (t : ℕ) → expression-lts.Need-same-length-4 (plain-reads.Asked, plain-reads.Learnt, read-slot-reads.Asked, read-slot-reads.Learnt, create-reads.Asked, create-reads.Learnt, change-reads.Asked, change-reads.Learnt, write-below t, write.Post, call-below t, call.Post, choose-below t, choose.Post, block-below t, block.Post, unary-below t, unary.Post) (expression-at t) expression.Post
+expression-same-length-4 : (t : ℕ)
+    → expression-lts.Need-same-length-4 (callees t) (expression-at t) expression.Post
 expression-same-length-4 t c = c .before .before .before .before .write .kept .1 .1 .1 .1 .1 .0
 
-pub expression-returns-7 : (t : ℕ) → expression-lts.Need-returns-7 (plain-reads.Asked, plain-reads.Learnt, read-slot-reads.Asked, read-slot-reads.Learnt, create-reads.Asked, create-reads.Learnt, change-reads.Asked, change-reads.Learnt, write-below t, write.Post, call-below t, call.Post, choose-below t, choose.Post, block-below t, block.Post, unary-below t, unary.Post) (expression-at t) expression.Post
+expression-returns-7 : (t : ℕ) → expression-lts.Need-returns-7 (callees t) (expression-at t) expression.Post
 expression-returns-7 t c = c .before .before .before .before .write .ensures
 
-pub expression-same-length-5 : (t : ℕ) → expression-lts.Need-same-length-5 (plain-reads.Asked, plain-reads.Learnt, read-slot-reads.Asked, read-slot-reads.Learnt, create-reads.Asked, create-reads.Learnt, change-reads.Asked, change-reads.Learnt, write-below t, write.Post, call-below t, call.Post, choose-below t, choose.Post, block-below t, block.Post, unary-below t, unary.Post) (expression-at t) expression.Post
+expression-same-length-5 : (t : ℕ)
+    → expression-lts.Need-same-length-5 (callees t) (expression-at t) expression.Post
 expression-same-length-5 t c = c .before .before .before .before .call .kept .1 .1 .1 .1 .0
 
-pub expression-same-length-6 : (t : ℕ) → expression-lts.Need-same-length-6 (plain-reads.Asked, plain-reads.Learnt, read-slot-reads.Asked, read-slot-reads.Learnt, create-reads.Asked, create-reads.Learnt, change-reads.Asked, change-reads.Learnt, write-below t, write.Post, call-below t, call.Post, choose-below t, choose.Post, block-below t, block.Post, unary-below t, unary.Post) (expression-at t) expression.Post
+expression-same-length-6 : (t : ℕ)
+    → expression-lts.Need-same-length-6 (callees t) (expression-at t) expression.Post
 expression-same-length-6 t c = c .before .before .before .before .call .kept .1 .1 .1 .1 .1 .0
 
-pub expression-returns-8 : (t : ℕ) → expression-lts.Need-returns-8 (plain-reads.Asked, plain-reads.Learnt, read-slot-reads.Asked, read-slot-reads.Learnt, create-reads.Asked, create-reads.Learnt, change-reads.Asked, change-reads.Learnt, write-below t, write.Post, call-below t, call.Post, choose-below t, choose.Post, block-below t, block.Post, unary-below t, unary.Post) (expression-at t) expression.Post
+expression-returns-8 : (t : ℕ) → expression-lts.Need-returns-8 (callees t) (expression-at t) expression.Post
 expression-returns-8 t c = c .before .before .before .before .call .ensures
 
-pub expression-same-length-7 : (t : ℕ) → expression-lts.Need-same-length-7 (plain-reads.Asked, plain-reads.Learnt, read-slot-reads.Asked, read-slot-reads.Learnt, create-reads.Asked, create-reads.Learnt, change-reads.Asked, change-reads.Learnt, write-below t, write.Post, call-below t, call.Post, choose-below t, choose.Post, block-below t, block.Post, unary-below t, unary.Post) (expression-at t) expression.Post
+expression-same-length-7 : (t : ℕ)
+    → expression-lts.Need-same-length-7 (callees t) (expression-at t) expression.Post
 expression-same-length-7 t c = c .before .before .before .before .choose .kept .1 .1 .1 .1 .0
 
-pub expression-same-length-8 : (t : ℕ) → expression-lts.Need-same-length-8 (plain-reads.Asked, plain-reads.Learnt, read-slot-reads.Asked, read-slot-reads.Learnt, create-reads.Asked, create-reads.Learnt, change-reads.Asked, change-reads.Learnt, write-below t, write.Post, call-below t, call.Post, choose-below t, choose.Post, block-below t, block.Post, unary-below t, unary.Post) (expression-at t) expression.Post
+expression-same-length-8 : (t : ℕ)
+    → expression-lts.Need-same-length-8 (callees t) (expression-at t) expression.Post
 expression-same-length-8 t c = c .before .before .before .before .choose .kept .1 .1 .1 .1 .1 .0
 
-pub expression-returns-9 : (t : ℕ) → expression-lts.Need-returns-9 (plain-reads.Asked, plain-reads.Learnt, read-slot-reads.Asked, read-slot-reads.Learnt, create-reads.Asked, create-reads.Learnt, change-reads.Asked, change-reads.Learnt, write-below t, write.Post, call-below t, call.Post, choose-below t, choose.Post, block-below t, block.Post, unary-below t, unary.Post) (expression-at t) expression.Post
+expression-returns-9 : (t : ℕ) → expression-lts.Need-returns-9 (callees t) (expression-at t) expression.Post
 expression-returns-9 t c = c .before .before .before .before .choose .ensures
 
-pub expression-same-length-9 : (t : ℕ) → expression-lts.Need-same-length-9 (plain-reads.Asked, plain-reads.Learnt, read-slot-reads.Asked, read-slot-reads.Learnt, create-reads.Asked, create-reads.Learnt, change-reads.Asked, change-reads.Learnt, write-below t, write.Post, call-below t, call.Post, choose-below t, choose.Post, block-below t, block.Post, unary-below t, unary.Post) (expression-at t) expression.Post
+expression-same-length-9 : (t : ℕ)
+    → expression-lts.Need-same-length-9 (callees t) (expression-at t) expression.Post
 expression-same-length-9 t c = c .before .before .before .before .block .kept .1 .1 .1 .1 .0
 
-pub expression-same-length-10 : (t : ℕ) → expression-lts.Need-same-length-10 (plain-reads.Asked, plain-reads.Learnt, read-slot-reads.Asked, read-slot-reads.Learnt, create-reads.Asked, create-reads.Learnt, change-reads.Asked, change-reads.Learnt, write-below t, write.Post, call-below t, call.Post, choose-below t, choose.Post, block-below t, block.Post, unary-below t, unary.Post) (expression-at t) expression.Post
+expression-same-length-10 : (t : ℕ)
+    → expression-lts.Need-same-length-10 (callees t) (expression-at t) expression.Post
 expression-same-length-10 t c = c .before .before .before .before .block .kept .1 .1 .1 .1 .1 .0
 
-pub expression-returns-10 : (t : ℕ) → expression-lts.Need-returns-10 (plain-reads.Asked, plain-reads.Learnt, read-slot-reads.Asked, read-slot-reads.Learnt, create-reads.Asked, create-reads.Learnt, change-reads.Asked, change-reads.Learnt, write-below t, write.Post, call-below t, call.Post, choose-below t, choose.Post, block-below t, block.Post, unary-below t, unary.Post) (expression-at t) expression.Post
+expression-returns-10 : (t : ℕ) → expression-lts.Need-returns-10 (callees t) (expression-at t) expression.Post
 expression-returns-10 t c = c .before .before .before .before .block .ensures
 
-pub expression-same-length-11 : (t : ℕ) → expression-lts.Need-same-length-11 (plain-reads.Asked, plain-reads.Learnt, read-slot-reads.Asked, read-slot-reads.Learnt, create-reads.Asked, create-reads.Learnt, change-reads.Asked, change-reads.Learnt, write-below t, write.Post, call-below t, call.Post, choose-below t, choose.Post, block-below t, block.Post, unary-below t, unary.Post) (expression-at t) expression.Post
+expression-same-length-11 : (t : ℕ)
+    → expression-lts.Need-same-length-11 (callees t) (expression-at t) expression.Post
 expression-same-length-11 t c = c .before .before .before .before .unary .kept .1 .1 .1 .1 .0
 
-pub expression-same-length-12 : (t : ℕ) → expression-lts.Need-same-length-12 (plain-reads.Asked, plain-reads.Learnt, read-slot-reads.Asked, read-slot-reads.Learnt, create-reads.Asked, create-reads.Learnt, change-reads.Asked, change-reads.Learnt, write-below t, write.Post, call-below t, call.Post, choose-below t, choose.Post, block-below t, block.Post, unary-below t, unary.Post) (expression-at t) expression.Post
+expression-same-length-12 : (t : ℕ)
+    → expression-lts.Need-same-length-12 (callees t) (expression-at t) expression.Post
 expression-same-length-12 t c = c .before .before .before .before .unary .kept .1 .1 .1 .1 .1 .0
 
-pub expression-returns-11 : (t : ℕ) → expression-lts.Need-returns-11 (plain-reads.Asked, plain-reads.Learnt, read-slot-reads.Asked, read-slot-reads.Learnt, create-reads.Asked, create-reads.Learnt, change-reads.Asked, change-reads.Learnt, write-below t, write.Post, call-below t, call.Post, choose-below t, choose.Post, block-below t, block.Post, unary-below t, unary.Post) (expression-at t) expression.Post
+expression-returns-11 : (t : ℕ) → expression-lts.Need-returns-11 (callees t) (expression-at t) expression.Post
 expression-returns-11 t c = c .before .before .before .before .unary .ensures
+
+-- The member, of its callees' contracts.
+pub expression-holds : {M : Type 1} (t : ℕ)
+    → expression-lts.Closed (callees t) (expression-at t) expression.Post M
+expression-holds t =
+    expression-lts.spec (callees t) (expression-at t) expression.Post
+    (expression-mul-letter t) (expression-mul-letter-2 t) (expression-shared-slice-read-letter t)
+    (expression-plain-requires t) (expression-plain-requires-2 t) (expression-plain-requires-3 t)
+    (expression-read-slot-requires t) (expression-create-requires t) (expression-change-requires t)
+    (expression-write-requires t) (expression-call-requires t) (expression-choose-requires t)
+    (expression-block-requires t) (expression-unary-requires t) (expression-returns t)
+    (expression-returns-2 t) (expression-returns-3 t) (expression-same-length t) (expression-returns-4 t)
+    (expression-returns-5 t) (expression-same-length-2 t) (expression-returns-6 t)
+    (expression-same-length-3 t) (expression-same-length-4 t) (expression-returns-7 t)
+    (expression-same-length-5 t) (expression-same-length-6 t) (expression-returns-8 t)
+    (expression-same-length-7 t) (expression-same-length-8 t) (expression-returns-9 t)
+    (expression-same-length-9 t) (expression-same-length-10 t) (expression-returns-10 t)
+    (expression-same-length-11 t) (expression-same-length-12 t) (expression-returns-11 t)

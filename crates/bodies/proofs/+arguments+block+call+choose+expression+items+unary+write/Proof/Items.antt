@@ -12,54 +12,137 @@ use Rattle.bodies.proofs.+arguments+block+call+choose+expression+items+
 use Rattle.bodies.proofs.is_refusal.Reads as is-refusal-reads
 use Rattle.bodies.proofs.+arguments+block+call+choose+expression+items+unary+write.Proof.Base.{expression-below, items-at}
 
-abbrev pub items-Inv-loop : items-lts.InvT-loop
-items-Inv-loop rows ends table above slots₀ classes₀ count at scope top n last next₀ left₀ slots classes so-far next left =
+-- What its callees ask and give: those of the cycle below the measure t.
+abbrev callees : ℕ → items-lts.Claims
+callees t = (expression-below t, expression.Post, is-refusal-reads.Asked, is-refusal-reads.Learnt)
+
+abbrev items-Inv-loop : items-lts.InvT-loop
+items-Inv-loop rows ends table above slots₀ classes₀ count at scope top n last next₀ left₀ slots classes
+    so-far next left =
     ItemsLoop rows ends table above slots₀ classes₀ count at scope top n last slots classes so-far next left
 
-abbrev pub items-μ-loop : items-lts.MeasureT-loop
-items-μ-loop rows ends table above slots₀ classes₀ count at scope top n last next₀ left₀ slots classes so-far next left = left
+abbrev items-μ-loop : items-lts.MeasureT-loop
+items-μ-loop rows ends table above slots₀ classes₀ count at scope top n last next₀ left₀ slots classes so-far
+    next left = left
 
-pub items-loop-holds : (t : ℕ) → items-lts.Need-loop-holds (expression-below t, expression.Post, is-refusal-reads.Asked, is-refusal-reads.Learnt) (items-at t) items.Post items-Inv-loop items-μ-loop
+items-loop-holds : (t : ℕ)
+    → items-lts.Need-loop-holds (callees t) (items-at t) items.Post items-Inv-loop items-μ-loop
 items-loop-holds t c = items-start (c .before .before .before .before .before .before .pre .1)
 
-pub items-expression-requires : (t : ℕ) → items-lts.Need-expression-requires (expression-below t, expression.Post, is-refusal-reads.Asked, is-refusal-reads.Learnt) (items-at t) items.Post items-Inv-loop items-μ-loop
-items-expression-requires t c κs = (omega (arith, in-row (first-pre (c .before .before .before .loop .inv .pre) (λ e. omega (arith, c .before .before .loop-test .taken))) .3, c .before .before .before .loop .inv .later, c .before .before .before .before .before .before .before .before .before .before .pre .0), (first-pre (c .before .before .before .loop .inv .pre) (λ e. omega (arith, c .before .before .loop-test .taken))))
+items-expression-requires : (t : ℕ)
+    → items-lts.Need-expression-requires (callees t) (items-at t) items.Post items-Inv-loop items-μ-loop
+items-expression-requires t c κs =
+    let start = c .before .before .before .before .before .before .before .before .before .before in (
+      omega (
+        arith,
+        in-row
+            (first-pre (c .before .before .before .loop .inv .pre)
+            (λ e. omega (arith, c .before .before .loop-test .taken))) .3,
+        c .before .before .before .loop .inv .later,
+        start .pre .0,
+      ),
+      (first-pre (c .before .before .before .loop .inv .pre)
+          (λ e. omega (arith, c .before .before .loop-test .taken))),
+    )
 
-pub items-is-refusal-requires : (t : ℕ) → items-lts.Need-is-refusal-requires (expression-below t, expression.Post, is-refusal-reads.Asked, is-refusal-reads.Learnt) (items-at t) items.Post items-Inv-loop items-μ-loop
+items-is-refusal-requires : (t : ℕ)
+    → items-lts.Need-is-refusal-requires (callees t) (items-at t) items.Post items-Inv-loop items-μ-loop
 items-is-refusal-requires t c κs = tt
 
-pub items-same-length : (t : ℕ) → items-lts.Need-same-length (expression-below t, expression.Post, is-refusal-reads.Asked, is-refusal-reads.Learnt) (items-at t) items.Post items-Inv-loop items-μ-loop
-items-same-length t c = c .before .before .before .before .before .before .expression .kept .1 .1 .1 .1 .0 ∙ c .before .before .before .before .before .before .before .before .before .before .loop .inv .slots-long
+items-same-length : (t : ℕ)
+    → items-lts.Need-same-length (callees t) (items-at t) items.Post items-Inv-loop items-μ-loop
+items-same-length t c =
+    let at-expression = c .before .before .before .before .before .before in
+    let at-loop = at-expression .before .before .before .before in
+    at-expression .expression .kept .1 .1 .1 .1 .0 ∙ at-loop .loop .inv .slots-long
 
-pub items-same-length-2 : (t : ℕ) → items-lts.Need-same-length-2 (expression-below t, expression.Post, is-refusal-reads.Asked, is-refusal-reads.Learnt) (items-at t) items.Post items-Inv-loop items-μ-loop
-items-same-length-2 t c = c .before .before .before .before .before .before .expression .kept .1 .1 .1 .1 .1 .0 ∙ c .before .before .before .before .before .before .before .before .before .before .loop .inv .classes-long
+items-same-length-2 : (t : ℕ)
+    → items-lts.Need-same-length-2 (callees t) (items-at t) items.Post items-Inv-loop items-μ-loop
+items-same-length-2 t c =
+    let at-expression = c .before .before .before .before .before .before in
+    let at-loop = at-expression .before .before .before .before in
+    at-expression .expression .kept .1 .1 .1 .1 .1 .0 ∙ at-loop .loop .inv .classes-long
 
-pub items-returns : (t : ℕ) → items-lts.Need-returns (expression-below t, expression.Post, is-refusal-reads.Asked, is-refusal-reads.Learnt) (items-at t) items.Post items-Inv-loop items-μ-loop
-items-returns t c = items-broken (c .before .before .before .before .before .before .before .before .before .before .loop .inv) (λ e. omega (arith, c .before .before .before .before .before .before .before .before .before .loop-test .taken)) (c .before .before .before .before .before .before .expression .ensures) (sym (c .before .is-refusal .ensures) ∙ c .if1 .taken)
+items-returns : (t : ℕ)
+    → items-lts.Need-returns (callees t) (items-at t) items.Post items-Inv-loop items-μ-loop
+items-returns t c =
+    let at-expression = c .before .before .before .before .before .before in
+    let at-loop-test = at-expression .before .before .before in
+    let at-loop = at-loop-test .before in
+    items-broken (at-loop .loop .inv) (λ e. omega (arith, at-loop-test .loop-test .taken))
+    (at-expression .expression .ensures) (sym (c .before .is-refusal .ensures) ∙ c .if1 .taken)
 
-pub items-mul-next : (t : ℕ) → items-lts.Need-mul-next (expression-below t, expression.Post, is-refusal-reads.Asked, is-refusal-reads.Learnt) (items-at t) items.Post items-Inv-loop items-μ-loop
-items-mul-next t c = omega (arith, in-row (first-pre (c .before .before .before .before .before .before .before .before .before .before .before .before .loop .inv .pre) (λ e. omega (arith, c .before .before .before .before .before .before .before .before .before .before .before .loop-test .taken))) .3)
+items-mul-next : (t : ℕ)
+    → items-lts.Need-mul-next (callees t) (items-at t) items.Post items-Inv-loop items-μ-loop
+items-mul-next t c =
+    let at-loop-test = c .before .before .before .before .before .before .before .before .before .before
+    .before in
+    let at-loop = at-loop-test .before in
+    omega (
+      arith,
+      in-row
+          (first-pre (at-loop .loop .inv .pre) (λ e. omega (arith, at-loop-test .loop-test .taken))) .3,
+    )
 
-pub items-shared-slice-read-next : (t : ℕ) → items-lts.Need-shared-slice-read-next (expression-below t, expression.Post, is-refusal-reads.Asked, is-refusal-reads.Learnt) (items-at t) items.Post items-Inv-loop items-μ-loop
-items-shared-slice-read-next t c = in-row (first-pre (c .before .before .before .before .before .before .before .before .before .before .before .before .before .loop .inv .pre) (λ e. omega (arith, c .before .before .before .before .before .before .before .before .before .before .before .before .loop-test .taken))) .1
+items-shared-slice-read-next : (t : ℕ)
+    → items-lts.Need-shared-slice-read-next (callees t) (items-at t) items.Post items-Inv-loop items-μ-loop
+items-shared-slice-read-next t c =
+    let at-loop-test = c .before .before .before .before .before .before .before .before .before .before
+    .before .before in
+    let at-loop = at-loop-test .before in
+    in-row (first-pre (at-loop .loop .inv .pre) (λ e. omega (arith, at-loop-test .loop-test .taken))) .1
 
-pub items-cast-next : (t : ℕ) → items-lts.Need-cast-next (expression-below t, expression.Post, is-refusal-reads.Asked, is-refusal-reads.Learnt) (items-at t) items.Post items-Inv-loop items-μ-loop
-items-cast-next t c = omega (arith, c .shared-slice-known5 .given (c .before .before .before .before .before .before .before .before .before .before .before .before .before .loop .next))
+items-cast-next : (t : ℕ)
+    → items-lts.Need-cast-next (callees t) (items-at t) items.Post items-Inv-loop items-μ-loop
+items-cast-next t c =
+    let at-loop = c .before .before .before .before .before .before .before .before .before .before .before
+    .before .before in
+    omega (arith, c .shared-slice-known5 .given (at-loop .loop .next))
 
-pub items-sub-left : (t : ℕ) → items-lts.Need-sub-left (expression-below t, expression.Post, is-refusal-reads.Asked, is-refusal-reads.Learnt) (items-at t) items.Post items-Inv-loop items-μ-loop
-items-sub-left t c = omega (arith, c .before .before .before .before .before .before .before .before .before .before .before .before .loop-test .taken)
+items-sub-left : (t : ℕ)
+    → items-lts.Need-sub-left (callees t) (items-at t) items.Post items-Inv-loop items-μ-loop
+items-sub-left t c =
+    let at-loop-test = c .before .before .before .before .before .before .before .before .before .before
+    .before .before in
+    omega (arith, at-loop-test .loop-test .taken)
 
-pub items-loop-less : (t : ℕ) → items-lts.Need-loop-less (expression-below t, expression.Post, is-refusal-reads.Asked, is-refusal-reads.Learnt) (items-at t) items.Post items-Inv-loop items-μ-loop
-items-loop-less t c = omega (arith, c .before .before .before .before .before .before .before .before .before .before .before .before .loop-test .taken)
+items-loop-less : (t : ℕ)
+    → items-lts.Need-loop-less (callees t) (items-at t) items.Post items-Inv-loop items-μ-loop
+items-loop-less t c =
+    let at-loop-test = c .before .before .before .before .before .before .before .before .before .before
+    .before .before in
+    omega (arith, at-loop-test .loop-test .taken)
 
-pub items-loop-again : (t : ℕ) → items-lts.Need-loop-again (expression-below t, expression.Post, is-refusal-reads.Asked, is-refusal-reads.Learnt) (items-at t) items.Post items-Inv-loop items-μ-loop
-items-loop-again t c = items-next (c .before .before .before .before .before .before .before .before .before .before .before .before .before .loop .inv) (λ e. omega (arith, c .before .before .before .before .before .before .before .before .before .before .before .before .loop-test .taken)) (c .before .before .before .before .before .before .before .before .before .expression .ensures) (sym (c .before .before .before .before .is-refusal .ensures) ∙ c .before .before .before .if1 .left) (join-or _ _ _) (c .before .before .before .before .before .before .before .before .before .expression .kept .1 .1 .1 .1 .0) (c .before .before .before .before .before .before .before .before .before .expression .kept .1 .1 .1 .1 .1 .0)
+items-loop-again : (t : ℕ)
+    → items-lts.Need-loop-again (callees t) (items-at t) items.Post items-Inv-loop items-μ-loop
+items-loop-again t c =
+    let at-is-refusal = c .before .before .before .before in
+    let at-expression = at-is-refusal .before .before .before .before .before in
+    let at-loop-test = at-expression .before .before .before in
+    let at-loop = at-loop-test .before in
+    items-next (at-loop .loop .inv) (λ e. omega (arith, at-loop-test .loop-test .taken))
+    (at-expression .expression .ensures)
+    (sym (at-is-refusal .is-refusal .ensures) ∙ c .before .before .before .if1 .left) (join-or _ _ _)
+    (at-expression .expression .kept .1 .1 .1 .1 .0) (at-expression .expression .kept .1 .1 .1 .1 .1 .0)
 
-pub items-same-length-3 : (t : ℕ) → items-lts.Need-same-length-3 (expression-below t, expression.Post, is-refusal-reads.Asked, is-refusal-reads.Learnt) (items-at t) items.Post items-Inv-loop items-μ-loop
+items-same-length-3 : (t : ℕ)
+    → items-lts.Need-same-length-3 (callees t) (items-at t) items.Post items-Inv-loop items-μ-loop
 items-same-length-3 t c = c .before .loop .inv .slots-long
 
-pub items-same-length-4 : (t : ℕ) → items-lts.Need-same-length-4 (expression-below t, expression.Post, is-refusal-reads.Asked, is-refusal-reads.Learnt) (items-at t) items.Post items-Inv-loop items-μ-loop
+items-same-length-4 : (t : ℕ)
+    → items-lts.Need-same-length-4 (callees t) (items-at t) items.Post items-Inv-loop items-μ-loop
 items-same-length-4 t c = c .before .loop .inv .classes-long
 
-pub items-returns-2 : (t : ℕ) → items-lts.Need-returns-2 (expression-below t, expression.Post, is-refusal-reads.Asked, is-refusal-reads.Learnt) (items-at t) items.Post items-Inv-loop items-μ-loop
+items-returns-2 : (t : ℕ)
+    → items-lts.Need-returns-2 (callees t) (items-at t) items.Post items-Inv-loop items-μ-loop
 items-returns-2 t c = items-ended (c .before .loop .inv) (omega (arith, c .loop-test .left)) refl
+
+-- The member, of its callees' contracts.
+pub items-holds : {M : Type 1} (t : ℕ) → items-lts.Closed (callees t) (items-at t) items.Post M
+items-holds t =
+    items-lts.spec (callees t) (items-at t) items.Post
+    items-Inv-loop items-μ-loop (items-loop-holds t) (items-expression-requires t)
+    (items-is-refusal-requires t) (items-same-length t) (items-same-length-2 t) (items-returns t)
+    (items-mul-next t) (items-shared-slice-read-next t) (items-cast-next t) (items-sub-left t)
+    (items-loop-less t) (items-loop-again t) (items-same-length-3 t) (items-same-length-4 t)
+    (items-returns-2 t)

@@ -8,70 +8,172 @@ use Rattle.machine.specs.Contracts.{nothing}
 use Rattle.objects.proofs.Values.{number-decoded, outcome-value, not-gave}
 use Rattle.machine.proofs.Steps.{kept-of}
 use Rattle.machine.proofs.Lists.{list-first}
-use Rattle.machine.proofs.Arguments.{ArgsLoop, args-start, args-head, args-broken, args-room, args-next, args-ended}
+use Rattle.machine.proofs.Arguments.{ArgsLoop, args-start, args-head, args-broken, args-room}
+use Rattle.machine.proofs.Arguments.{args-next, args-ended}
 use Rattle.machine.proofs.args.Reads as args
 use Rattle.machine.proofs.+args+block+call+choose+eval+items+one_child+set.Lts-args as args-lts
 use Rattle.machine.proofs.eval.Reads as eval
 use Rattle.machine.proofs.+args+block+call+choose+eval+items+one_child+set.Proof.Base.{args-at, eval-below}
 
-abbrev pub args-Inv-loop : args-lts.InvT-loop
-args-Inv-loop rows ends tables above store₀ slots₀ tally₀ at base scope top calls n r₀ far₀ next₀ i₀ store slots tally r far next i =
-    ArgsLoop rows ends tables above store₀ slots₀ at (place-of base scope top calls) n (answer (Gave nothing) (counts-in tally₀)) store slots (answered r tally) far next i
+-- What its callees ask and give: those of the cycle below the measure t.
+abbrev callees : ℕ → args-lts.Claims
+callees t = (eval-below t, eval.Post)
 
-abbrev pub args-μ-loop : args-lts.MeasureT-loop
-args-μ-loop rows ends tables above store₀ slots₀ tally₀ at base scope top calls n r₀ far₀ next₀ i₀ store slots tally r far next i =
+abbrev args-Inv-loop : args-lts.InvT-loop
+args-Inv-loop rows ends tables above store₀ slots₀ tally₀ at base scope top calls n r₀ far₀ next₀ i₀ store
+    slots tally r far next i =
+    ArgsLoop rows ends tables above store₀ slots₀ at (place-of base scope top calls) n
+    (answer (Gave nothing) (counts-in tally₀)) store slots (answered r tally) far next i
+
+abbrev args-μ-loop : args-lts.MeasureT-loop
+args-μ-loop rows ends tables above store₀ slots₀ tally₀ at base scope top calls n r₀ far₀ next₀ i₀ store slots
+    tally r far next i =
     n - i
 
-pub args-loop-holds : (t : ℕ) → args-lts.Need-loop-holds (eval-below t, eval.Post) (args-at t) args.Post args-Inv-loop args-μ-loop
-args-loop-holds t c = args-start (c .before .before .before .before .before .before .pre .1) (outcome-value 0 (omega arith))
+args-loop-holds : (t : ℕ)
+    → args-lts.Need-loop-holds (callees t) (args-at t) args.Post args-Inv-loop args-μ-loop
+args-loop-holds t c =
+    let start = c .before .before .before .before .before .before in
+    args-start (start .pre .1) (outcome-value 0 (omega arith))
 
-pub args-eval-requires : (t : ℕ) → args-lts.Need-eval-requires (eval-below t, eval.Post) (args-at t) args.Post args-Inv-loop args-μ-loop
-args-eval-requires t c κs = (omega (arith, c .before .before .before .before .loop .inv .falls), list-first (args-head (c .before .before .before .before .loop .inv) (c .before .before .before .loop-test .taken) .2))
+args-eval-requires : (t : ℕ)
+    → args-lts.Need-eval-requires (callees t) (args-at t) args.Post args-Inv-loop args-μ-loop
+args-eval-requires t c κs =
+    let at-loop = c .before .before .before .before in (
+      omega (arith, at-loop .loop .inv .falls),
+      list-first (args-head (at-loop .loop .inv) (c .before .before .before .loop-test .taken) .2),
+    )
 
-pub args-same-length : (t : ℕ) → args-lts.Need-same-length (eval-below t, eval.Post) (args-at t) args.Post args-Inv-loop args-μ-loop
-args-same-length t c = c .before .before .before .before .before .eval .kept .1 .1 .1 .1 .0 ∙ c .before .before .before .before .before .before .before .before .before .before .loop .inv .long-store
+args-same-length : (t : ℕ)
+    → args-lts.Need-same-length (callees t) (args-at t) args.Post args-Inv-loop args-μ-loop
+args-same-length t c = c .before .before .before .before .before .eval .kept .1 .1 .1 .1 .0
+    ∙ c .before .before .before .before .before .before .before .before .before .before .loop .inv .long-store
 
-pub args-same-length-2 : (t : ℕ) → args-lts.Need-same-length-2 (eval-below t, eval.Post) (args-at t) args.Post args-Inv-loop args-μ-loop
-args-same-length-2 t c = c .before .before .before .before .before .eval .kept .1 .1 .1 .1 .1 .0 ∙ c .before .before .before .before .before .before .before .before .before .before .loop .inv .long-slots
+args-same-length-2 : (t : ℕ)
+    → args-lts.Need-same-length-2 (callees t) (args-at t) args.Post args-Inv-loop args-μ-loop
+args-same-length-2 t c = c .before .before .before .before .before .eval .kept .1 .1 .1 .1 .1 .0
+    ∙ c .before .before .before .before .before .before .before .before .before .before .loop .inv .long-slots
 
-pub args-returns : (t : ℕ) → args-lts.Need-returns (eval-below t, eval.Post) (args-at t) args.Post args-Inv-loop args-μ-loop
-args-returns t c = args-broken (c .before .before .before .before .before .before .before .before .before .before .loop .inv) (c .before .before .before .before .before .before .before .before .before .loop-test .taken) (c .before .before .before .before .before .eval .ensures) (not-gave (c .before .before .before .before .before .eval .result) (c .if1 .taken))
+args-returns : (t : ℕ) → args-lts.Need-returns (callees t) (args-at t) args.Post args-Inv-loop args-μ-loop
+args-returns t c =
+    let at-eval = c .before .before .before .before .before in
+    let at-loop-test = at-eval .before .before .before .before in
+    let at-loop = at-loop-test .before in
+    args-broken (at-loop .loop .inv) (at-loop-test .loop-test .taken) (at-eval .eval .ensures)
+    (not-gave (at-eval .eval .result) (c .if1 .taken))
 
-pub args-cast-slots : (t : ℕ) → args-lts.Need-cast-slots (eval-below t, eval.Post) (args-at t) args.Post args-Inv-loop args-μ-loop
+args-cast-slots : (t : ℕ)
+    → args-lts.Need-cast-slots (callees t) (args-at t) args.Post args-Inv-loop args-μ-loop
 args-cast-slots t c = omega (arith, c .if1 .left)
 
-pub args-mul-slots : (t : ℕ) → args-lts.Need-mul-slots (eval-below t, eval.Post) (args-at t) args.Post args-Inv-loop args-μ-loop
-args-mul-slots t c = omega (arith, c .before .before .before .before .before .before .before .before .before .before .before .before .before .before .before .before .before .good .1 .1 .1 .1 .1 .0, args-room (c .before .before .before .before .before .before .before .before .before .before .loop .inv) (c .before .before .before .before .before .before .before .before .before .loop-test .taken) (c .before .before .before .before .before .eval .ensures), c .before .before .before .before .before .before .before .before .before .before .loop .inv .long-slots, kept-of (list-first (args-head (c .before .before .before .before .before .before .before .before .before .before .loop .inv) (c .before .before .before .before .before .before .before .before .before .loop-test .taken) .2)) (c .before .before .before .before .before .eval .ensures) .long)
+args-mul-slots : (t : ℕ) → args-lts.Need-mul-slots (callees t) (args-at t) args.Post args-Inv-loop args-μ-loop
+args-mul-slots t c =
+    let at-eval = c .before .before .before .before .before in
+    let at-loop-test = at-eval .before .before .before .before in
+    let at-loop = at-loop-test .before in
+    let start = at-loop .before .before .before .before .before .before .before in
+    omega (
+      arith,
+      start .good .1 .1 .1 .1 .1 .0,
+      args-room (at-loop .loop .inv) (at-loop-test .loop-test .taken)
+          (at-eval .eval .ensures),
+      at-loop .loop .inv .long-slots,
+      kept-of (list-first (args-head (at-loop .loop .inv) (at-loop-test .loop-test .taken) .2))
+          (at-eval .eval .ensures) .long,
+    )
 
-pub args-slice-write-slots : (t : ℕ) → args-lts.Need-slice-write-slots (eval-below t, eval.Post) (args-at t) args.Post args-Inv-loop args-μ-loop
-args-slice-write-slots t c = omega (arith, c .before .before .before .before .before .before .before .before .before .before .before .before .before .before .before .before .before .good .1 .1 .1 .1 .1 .0, args-room (c .before .before .before .before .before .before .before .before .before .before .loop .inv) (c .before .before .before .before .before .before .before .before .before .loop-test .taken) (c .before .before .before .before .before .eval .ensures), c .before .before .before .before .before .before .before .before .before .before .loop .inv .long-slots, kept-of (list-first (args-head (c .before .before .before .before .before .before .before .before .before .before .loop .inv) (c .before .before .before .before .before .before .before .before .before .loop-test .taken) .2)) (c .before .before .before .before .before .eval .ensures) .long)
+args-slice-write-slots : (t : ℕ)
+    → args-lts.Need-slice-write-slots (callees t) (args-at t) args.Post args-Inv-loop args-μ-loop
+args-slice-write-slots t c =
+    let at-eval = c .before .before .before .before .before in
+    let at-loop-test = at-eval .before .before .before .before in
+    let at-loop = at-loop-test .before in
+    let start = at-loop .before .before .before .before .before .before .before in
+    omega (
+      arith,
+      start .good .1 .1 .1 .1 .1 .0,
+      args-room (at-loop .loop .inv) (at-loop-test .loop-test .taken)
+          (at-eval .eval .ensures),
+      at-loop .loop .inv .long-slots,
+      kept-of (list-first (args-head (at-loop .loop .inv) (at-loop-test .loop-test .taken) .2))
+          (at-eval .eval .ensures) .long,
+    )
 
-pub args-add-far : (t : ℕ) → args-lts.Need-add-far (eval-below t, eval.Post) (args-at t) args.Post args-Inv-loop args-μ-loop
-args-add-far t c = omega (arith, c .before .before .before .before .before .before .before .before .before .before .before .before .before .before .before .before .before .good .1 .1 .1 .1 .1 .0, args-room (c .before .before .before .before .before .before .before .before .before .before .loop .inv) (c .before .before .before .before .before .before .before .before .before .loop-test .taken) (c .before .before .before .before .before .eval .ensures), c .before .before .before .before .before .before .before .before .before .before .loop .inv .long-slots, kept-of (list-first (args-head (c .before .before .before .before .before .before .before .before .before .before .loop .inv) (c .before .before .before .before .before .before .before .before .before .loop-test .taken) .2)) (c .before .before .before .before .before .eval .ensures) .long)
+args-add-far : (t : ℕ) → args-lts.Need-add-far (callees t) (args-at t) args.Post args-Inv-loop args-μ-loop
+args-add-far t c =
+    let at-eval = c .before .before .before .before .before in
+    let at-loop-test = at-eval .before .before .before .before in
+    let at-loop = at-loop-test .before in
+    let start = at-loop .before .before .before .before .before .before .before in
+    omega (
+      arith,
+      start .good .1 .1 .1 .1 .1 .0,
+      args-room (at-loop .loop .inv) (at-loop-test .loop-test .taken)
+          (at-eval .eval .ensures),
+      at-loop .loop .inv .long-slots,
+      kept-of (list-first (args-head (at-loop .loop .inv) (at-loop-test .loop-test .taken) .2))
+          (at-eval .eval .ensures) .long,
+    )
 
-pub args-mul-next : (t : ℕ) → args-lts.Need-mul-next (eval-below t, eval.Post) (args-at t) args.Post args-Inv-loop args-μ-loop
-args-mul-next t c = omega (arith, c .before .before .before .before .before .before .before .before .before .before .before .before .before .before .before .before .before .good .1 .0, (args-head (c .before .before .before .before .before .before .before .before .before .before .loop .inv) (c .before .before .before .before .before .before .before .before .before .loop-test .taken) .2) .in-ends)
+args-mul-next : (t : ℕ) → args-lts.Need-mul-next (callees t) (args-at t) args.Post args-Inv-loop args-μ-loop
+args-mul-next t c =
+    let at-loop-test = c .before .before .before .before .before .before .before .before .before in
+    let at-loop = at-loop-test .before in
+    let start = at-loop .before .before .before .before .before .before .before in
+    omega (
+      arith,
+      start .good .1 .0,
+      (args-head (at-loop .loop .inv) (at-loop-test .loop-test .taken) .2) .in-ends,
+    )
 
-pub args-shared-slice-read-next : (t : ℕ) → args-lts.Need-shared-slice-read-next (eval-below t, eval.Post) (args-at t) args.Post args-Inv-loop args-μ-loop
-args-shared-slice-read-next t c = omega (arith, (args-head (c .before .before .before .before .before .before .before .before .before .before .before .loop .inv) (c .before .before .before .before .before .before .before .before .before .before .loop-test .taken) .2) .in-ends)
+args-shared-slice-read-next : (t : ℕ)
+    → args-lts.Need-shared-slice-read-next (callees t) (args-at t) args.Post args-Inv-loop args-μ-loop
+args-shared-slice-read-next t c =
+    let at-loop-test = c .before .before .before .before .before .before .before .before .before .before in
+    let at-loop = at-loop-test .before in
+    omega (arith, (args-head (at-loop .loop .inv) (at-loop-test .loop-test .taken) .2) .in-ends)
 
-pub args-cast-next : (t : ℕ) → args-lts.Need-cast-next (eval-below t, eval.Post) (args-at t) args.Post args-Inv-loop args-μ-loop
-args-cast-next t c = omega (arith, c .shared-slice-known5 .given (c .before .before .before .before .before .before .before .before .before .before .before .loop .next))
+args-cast-next : (t : ℕ) → args-lts.Need-cast-next (callees t) (args-at t) args.Post args-Inv-loop args-μ-loop
+args-cast-next t c =
+    let at-loop = c .before .before .before .before .before .before .before .before .before .before .before in
+    omega (arith, c .shared-slice-known5 .given (at-loop .loop .next))
 
-pub args-add-i : (t : ℕ) → args-lts.Need-add-i (eval-below t, eval.Post) (args-at t) args.Post args-Inv-loop args-μ-loop
-args-add-i t c = omega (arith, c .before .before .before .before .before .before .before .before .before .before .loop-test .taken)
+args-add-i : (t : ℕ) → args-lts.Need-add-i (callees t) (args-at t) args.Post args-Inv-loop args-μ-loop
+args-add-i t c =
+    let at-loop-test = c .before .before .before .before .before .before .before .before .before .before in
+    omega (arith, at-loop-test .loop-test .taken)
 
-pub args-loop-less : (t : ℕ) → args-lts.Need-loop-less (eval-below t, eval.Post) (args-at t) args.Post args-Inv-loop args-μ-loop
-args-loop-less t c = omega (arith, c .before .before .before .before .before .before .before .before .before .before .loop-test .taken)
+args-loop-less : (t : ℕ) → args-lts.Need-loop-less (callees t) (args-at t) args.Post args-Inv-loop args-μ-loop
+args-loop-less t c =
+    let at-loop-test = c .before .before .before .before .before .before .before .before .before .before in
+    omega (arith, at-loop-test .loop-test .taken)
 
-pub args-loop-again : (t : ℕ) → args-lts.Need-loop-again (eval-below t, eval.Post) (args-at t) args.Post args-Inv-loop args-μ-loop
-args-loop-again t c = args-next (c .before .before .before .before .before .before .before .before .before .before .before .loop .inv) (c .before .before .before .before .before .before .before .before .before .before .loop-test .taken) (c .before .before .before .before .before .before .eval .ensures) (c .before .before .before .before .before .before .eval .result) (outcome-value (c .before .before .before .before .before .before .eval .result) (omega (arith, c .before .if1 .left))) (sym (number-decoded (c .before .before .before .before .before .before .eval .result)))
+args-loop-again : (t : ℕ)
+    → args-lts.Need-loop-again (callees t) (args-at t) args.Post args-Inv-loop args-μ-loop
+args-loop-again t c =
+    let at-eval = c .before .before .before .before .before .before in
+    let at-loop-test = at-eval .before .before .before .before in
+    let at-loop = at-loop-test .before in
+    args-next (at-loop .loop .inv) (at-loop-test .loop-test .taken) (at-eval .eval .ensures)
+    (at-eval .eval .result) (outcome-value (at-eval .eval .result) (omega (arith, c .before .if1 .left)))
+    (sym (number-decoded (at-eval .eval .result)))
 
-pub args-same-length-3 : (t : ℕ) → args-lts.Need-same-length-3 (eval-below t, eval.Post) (args-at t) args.Post args-Inv-loop args-μ-loop
+args-same-length-3 : (t : ℕ)
+    → args-lts.Need-same-length-3 (callees t) (args-at t) args.Post args-Inv-loop args-μ-loop
 args-same-length-3 t c = c .before .loop .inv .long-store
 
-pub args-same-length-4 : (t : ℕ) → args-lts.Need-same-length-4 (eval-below t, eval.Post) (args-at t) args.Post args-Inv-loop args-μ-loop
+args-same-length-4 : (t : ℕ)
+    → args-lts.Need-same-length-4 (callees t) (args-at t) args.Post args-Inv-loop args-μ-loop
 args-same-length-4 t c = c .before .loop .inv .long-slots
 
-pub args-returns-2 : (t : ℕ) → args-lts.Need-returns-2 (eval-below t, eval.Post) (args-at t) args.Post args-Inv-loop args-μ-loop
+args-returns-2 : (t : ℕ) → args-lts.Need-returns-2 (callees t) (args-at t) args.Post args-Inv-loop args-μ-loop
 args-returns-2 t c = args-ended (c .before .loop .inv) (c .loop-test .left)
+
+-- The member, of its callees' contracts.
+pub args-holds : {M : Type 1} (t : ℕ) → args-lts.Closed (callees t) (args-at t) args.Post M
+args-holds t =
+    args-lts.spec (callees t) (args-at t) args.Post
+    args-Inv-loop args-μ-loop (args-loop-holds t) (args-eval-requires t) (args-same-length t)
+    (args-same-length-2 t) (args-returns t) (args-cast-slots t) (args-mul-slots t) (args-slice-write-slots t)
+    (args-add-far t) (args-mul-next t) (args-shared-slice-read-next t) (args-cast-next t) (args-add-i t)
+    (args-loop-less t) (args-loop-again t) (args-same-length-3 t) (args-same-length-4 t) (args-returns-2 t)

@@ -22,7 +22,8 @@ use Rattle.machine.proofs.set.Reads as set
 use Rattle.machine.proofs.set.Kinds as set-kinds
 
 abbrev pub μ-args : Measures 7 args-kinds.ps ℕ
-μ-args κs a = getD (now (a .1 .1 .1 .1 .1 .1 .0)) 0 0 * 17179869184 + a .1 .1 .1 .1 .1 .1 .1 .1 .1 .1 .1 .1 .0 + 1
+μ-args κs a = getD (now (a .1 .1 .1 .1 .1 .1 .0)) 0 0 * 17179869184 + a .1 .1 .1 .1 .1 .1 .1 .1 .1 .1 .1 .1 .0
+    + 1
 
 abbrev pub μ-block : Measures 7 block-kinds.ps ℕ
 μ-block κs a = getD (now (a .1 .1 .1 .1 .1 .1 .0)) 0 0 * 17179869184 + 8589934592
@@ -37,7 +38,8 @@ abbrev pub μ-eval : Measures 7 eval-kinds.ps ℕ
 μ-eval κs a = getD (now (a .1 .1 .1 .1 .1 .1 .0)) 0 0 * 17179869184
 
 abbrev pub μ-items : Measures 7 items-kinds.ps ℕ
-μ-items κs a = getD (now (a .1 .1 .1 .1 .1 .1 .0)) 0 0 * 17179869184 + a .1 .1 .1 .1 .1 .1 .1 .1 .1 .1 .1 .1 .0 + 1
+μ-items κs a = getD (now (a .1 .1 .1 .1 .1 .1 .0)) 0 0 * 17179869184 +
+    a .1 .1 .1 .1 .1 .1 .1 .1 .1 .1 .1 .1 .0 + 1
 
 abbrev pub μ-one-child : Measures 7 one-child-kinds.ps ℕ
 μ-one-child κs a = getD (now (a .1 .1 .1 .1 .1 .1 .0)) 0 0 * 17179869184 + 8589934592
