@@ -3,8 +3,7 @@
 use mathlib.Core.Path.{_≡_}
 use Prim.Native.Nat.{ℕ, suc, _+_, _*_, _≤_, _<_}
 use mathlib.Core.Option.{some}
-use mathlib.Core.Bool.{true, false}
-use mathlib.Core.List.{List, [], _∷_, map}
+use mathlib.Core.List.{List, map}
 use lib.ListN.{length, getD}
 use Rattle.language.specs.Lists.{nth}
 use Rattle.language.specs.Frames.{opened}
@@ -25,6 +24,7 @@ use Rattle.language.specs.LookupClasses.{LooksUp}
 use Rattle.language.specs.Layout.{EachMethod, EachClass, ClassEnd, FieldsAt, MethodAt, ProgramAt}
 use Rattle.language.specs.Layout.{LooksUpProgram}
 use Rattle.language.specs.Layout.{body-row, methods-from-row}
+use Rattle.theory.specs.PlainForm.{variable-count}
 use Rattle.plain.specs.Numbers.{most-numbers, node-numbers, Proper, ProperAll, Nodes, methods-numbers}
 use Rattle.plain.specs.Numbers.{class-numbers, classes-numbers, program-numbers, none, also}
 
@@ -101,12 +101,6 @@ module _ (P : List Class) where
   unfoldable pub ReadyNodes : Nodes → ℕ → Type 0
   ReadyNodes none v = Unit {0}
   ReadyNodes (also e γ es) v = Ready e γ v × ReadyNodes es v
-
--- How many of a shape's slots are variables.
-unfoldable pub variable-count : Shape → ℕ
-variable-count [] = 0
-variable-count (true ∷ sh) = suc (variable-count sh)
-variable-count (false ∷ sh) = variable-count sh
 
 -- The rows and tables that every body's translation goes by.
 pub record Lent (P : List Class) (R T C : List ℕ) : Type 0 where
