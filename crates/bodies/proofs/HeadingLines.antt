@@ -6,6 +6,7 @@ use mathlib.Core.Logic.{inl, inr}
 use Prim.Native.Nat.{ℕ, _+_, _-_, _*_, _≤_, _<_}
 use native.Mathlib.Omega.{arith}
 use lib.ListN.{length, getD}
+use Rattle.language.specs.Lists.{nth-some}
 use Rattle.language.specs.Rows.{Letter, P-parameter, X-effect}
 use Rattle.language.specs.Tree.{DeclaredType, type-number}
 use Rattle.language.specs.WellFormed.{Each}
@@ -14,7 +15,7 @@ use Rattle.language.specs.Layout.{EffectsAt, Run}
 use Rattle.language.proofs.Lines.{line-at, each-line, first-line, lines-run, le-or-less}
 use Rattle.bodies.specs.Acts.{EffectLines}
 use Rattle.bodies.specs.Whole.{FirstBlock}
-use Rattle.bodies.proofs.Lists.{nth-there, number-at}
+use Rattle.bodies.proofs.Lists.{number-at}
 
 -- A V or P line, and an X line.
 abbrev pub TypeAt : Letter → List ℕ → DeclaredType → ℕ → Type 0
@@ -27,7 +28,7 @@ EffectAt R c i = RowAt R i X-effect c 0
 pub types-number : (l : Letter) (R : List ℕ) (ts : List DeclaredType) (r : ℕ) → TypesAt l R ts r → (i : ℕ)
     → i < length ts
     → getD R ((r + i) * 4 + 1) 0 ≡ getD (map type-number ts) i 0
-types-number l R ts r h i m = let t = nth-there ts i m in
+types-number l R ts r h i m = let t = nth-some ts i m in
     line-at (TypeAt l R) ts r h i (t .0) (t .1) .first ∙ sym (number-at type-number ts i (t .0) (t .1))
 
 other : {x a b : ℕ} → x ≡ a → x ≡ b → (a ≡ b → ⊥) → ⊥

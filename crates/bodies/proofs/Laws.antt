@@ -13,6 +13,7 @@ use lib.Seq.{getD-set-same, getD-set-other}
 use Rattle.language.specs.Effects.{member}
 use Rattle.language.specs.Layout.{Run}
 use Rattle.language.proofs.Effects.{member-mask}
+use Rattle.language.proofs.Lines.{less-or-same}
 use Rattle.bodies.specs.declared.Typing.{Typing}
 use Rattle.bodies.specs.declared.Typing.the-variants.{Bool as bool-case, Class, Null, Refusal}
 use Rattle.bodies.specs.Tables.{PreNearest, Applicable, CaseIn, root-in, applied, is-below}
@@ -20,7 +21,6 @@ use Rattle.bodies.specs.Tables.{is-fitting}
 use Rattle.bodies.specs.Tables.{nearest-from, applied-number, joined-number, Known, a-class, a-bool}
 use Rattle.bodies.specs.Tables.{an-absence}
 use Rattle.bodies.specs.Tables.{Changed, Saved, Swapped, PreNumbers, PreJoin}
-use Rattle.bodies.proofs.Lists.{less-or-same}
 
 pub shifted-member : (φ c k : ℕ) → k ≡ c - 1 → eqb (bitAnd (φ / 2 ^ k) 1) 1 ≡ member φ c
 shifted-member φ c k e = ap (λ (x : ℕ). eqb (bitAnd (φ / 2 ^ x) 1) 1) e ∙ member-mask φ c

@@ -14,6 +14,7 @@ use lib.Seq.{getD-set-same, getD-set-other}
 use Rattle.language.specs.Effects.{effect-of, effect-of-all, join}
 use Rattle.language.specs.WellFormed.{Each, each-cons}
 use Rattle.language.specs.Encoded.{LinesAt}
+use Rattle.language.proofs.Lines.{less-or-same}
 use Rattle.bodies.specs.declared.Typing.{Typing}
 use Rattle.bodies.specs.declared.Typing.the-variants.{Null}
 use Rattle.bodies.specs.declared.Answer.{Answer}
@@ -21,7 +22,6 @@ use Rattle.bodies.specs.Answers.{answer, case-of-number, is-refusal}
 use Rattle.bodies.specs.Tables.{is-fitting, CaseIn}
 use Rattle.bodies.specs.Nodes.{refusal}
 use Rattle.bodies.specs.Acts.{EffectLines, stored-case, all-fitting, names-type, opening, PostOpen}
-use Rattle.bodies.proofs.Lists.{less-or-same}
 use Rattle.bodies.proofs.EffectLaws.{or-assoc}
 
 -- X lines: what is left of them at row i

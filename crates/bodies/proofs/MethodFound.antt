@@ -6,7 +6,7 @@ use mathlib.Core.List.{List, [], _∷_}
 use Prim.Native.Nat.{ℕ, zero, suc, _+_, _*_, _≤_, _<_}
 use native.Mathlib.Omega.{arith}
 use lib.ListN.{length, getD}
-use Rattle.language.specs.Lists.{nth, Never, inj}
+use Rattle.language.specs.Lists.{nth, Never, inj, nth-some}
 use Rattle.language.specs.Rows.{P-parameter}
 use Rattle.language.specs.Tree.{DeclaredType, bool, class, ExprType, known, null-type, Class}
 use Rattle.language.specs.World.{Method, is-declared-type}
@@ -21,7 +21,6 @@ use Rattle.bodies.specs.Answers.{case-number, case-of-number, typing-cas
 use Rattle.bodies.specs.Tables.{Headed, HeadingAt, is-fitting}
 use Rattle.bodies.specs.Acts.{EffectLines, stored-case, all-fitting, method-place, PreMethod}
 use Rattle.bodies.specs.Cycle.{Declared, stored}
-use Rattle.bodies.proofs.Lists.{nth-there}
 use Rattle.bodies.proofs.HeadingLines.{TypeAt, heading-run, heading-effects}
 use Rattle.bodies.proofs.LineLaws.{case-same}
 use Rattle.bodies.proofs.Worlds.{not-255, fitting-is}
@@ -120,12 +119,12 @@ module _ {P : List Class} {R T A : List ℕ} {count : ℕ} (h : Headed P R T A c
       slots = lt;
       rows = omega (arith, run .inside);
       values = λ i l.
-          let t = nth-there ts i (omega (arith, en)) in
+          let t = nth-some ts i (omega (arith, en)) in
           case-same (length A) (stored-case (getD S (top + i) 0)) (typing-case (t .0))
           (ap stored-case (st i l ∙ stored-at ts i (t .0) (t .1)) ∙ stored-is (t .0) (td i (t .0) (t .1)))
           (case-low (t .0) h (td i (t .0) (t .1)));
       types = λ i l ne.
-          let t = nth-there (M .parameters) i (omega (arith, q)) in
+          let t = nth-some (M .parameters) i (omega (arith, q)) in
           let z = line-at (TypeAt P-parameter R) (M .parameters) (r + 1) (g .parameter-rows) i (t .0)
           (t .1) .first in
           omega (arith, z, type-number-case (t .0) h (pd i (t .0) (t .1)) .2 (λ y. ne (z ∙ y)));

@@ -7,9 +7,8 @@ use native.Mathlib.Omega.{arith}
 use borrow.Author.Tests.{eq-eqb, ne-eqb}
 use lib.ListN.{length, getD, set, length-set}
 use lib.Seq.{getD-set-same, getD-set-other}
-use Rattle.language.proofs.Lines.{le-or-less}
+use Rattle.language.proofs.Lines.{le-or-less, less-or-same}
 use Rattle.bodies.specs.Whole.{PostEnter, FirstBlock, class-next}
-use Rattle.bodies.proofs.Lists.{less-or-same}
 
 -- parameters one by one
 pub record Entering (R S S′ : List ℕ) (from i : ℕ) : Type 0 where

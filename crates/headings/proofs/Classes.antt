@@ -18,9 +18,9 @@ use Rattle.language.specs.Effects.{effect-of, join}
 use Rattle.language.specs.Program.{is-state, class-at, fields-at, root-at, world}
 use Rattle.language.specs.ClassTables.{stored-place, rows-from, declared-row, class-row, field-rows-at}
 use Rattle.language.specs.ClassTables.{field-rows, method-row-at, method-row, above-at, above}
+use Rattle.language.proofs.Lines.{less-or-same}
 use Rattle.headings.specs.Blocks.{Block, Filled, Lookups, Working}
 use Rattle.headings.specs.Ready.{Copied, StartReady}
-use Rattle.headings.proofs.Lines.{below-or}
 use Rattle.headings.proofs.Tables.{kind-numbers, lookups-same, lookups-set}
 
 -- ---- up through the superclasses, which are earlier
@@ -278,6 +278,7 @@ module _ {P : List Class} {k : ℕ} {T : List ℕ} {fs : List Field} {rs : List 
     earlier = λ j d q p.
         ⊎-elim (λ s. W .lookups .earlier j d s p)
         (λ s. let z : c ≡ d = inj (sym e ∙ (ap (class-at P) (sym s) ∙ p)) in rw (s, ← z) l)
-        (below-or j k (omega (arith, q)));
-    blocks = λ j q. ⊎-elim (λ s. W .lookups .blocks j s) (λ s. rw s filled) (below-or j k (omega (arith, q)));
+        (less-or-same j k (omega (arith, q)));
+    blocks = λ j q. ⊎-elim (λ s. W .lookups .blocks j s) (λ s. rw s filled)
+        (less-or-same j k (omega (arith, q)));
   }

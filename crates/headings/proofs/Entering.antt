@@ -28,7 +28,7 @@ use Rattle.headings.specs.Ready.{MethodHere, ClassHere, ParameterLines, 
 use Rattle.headings.specs.Ready.{MethodReady, MethodCounted, MethodsReady}
 use Rattle.headings.proofs.Checks.{methods-step, heading-refused, heading-on, bind-passed}
 use Rattle.headings.proofs.Checks.{bind-refused, refused-is, passed-is, is-passed, is-refused}
-use Rattle.headings.proofs.Lines.{parameters-count, effects-count, MethodsFrom, methods-letter}
+use Rattle.headings.proofs.Lines.{parameters-count, effects-count, MethodsFrom, methods-within}
 use Rattle.headings.proofs.Lines.{next-method, no-methods, class-methods}
 use Rattle.headings.proofs.Tables.{lookups-set, working-index}
 
@@ -261,7 +261,7 @@ module _ {R E T₀ : List ℕ} {r base first count : ℕ} (w : MethodsReady R E 
 
   module _ {T : List ℕ} {at : ℕ} (p : Entering T at) where
     pub entering-within : at * 4 + 3 < length R
-    entering-within = methods-letter (p .rest) (p .here) .0
+    entering-within = methods-within (p .rest) (p .here)
 
     module _ (l : getD R (at * 4) 0 ≡ 77) where
       pub next : (m : Declaration) × (ds : List Declaration) × (p .rest ≡ m ∷ ds)

@@ -6,68 +6,44 @@ use mathlib.Core.Logic.{_⊎_, inl, inr, ⊎-elim}
 use Prim.Native.Nat.{ℕ, zero, suc, _+_, _-_, _*_, _≤_, _<_}
 use native.Mathlib.Omega.{arith}
 use lib.ListN.{length, getD, take}
+use lib.Seq.{take-length}
 use Rattle.language.specs.Limits.{of-check}
-use Rattle.language.specs.Lists.{nth, Never, inj, nth-lt}
-use Rattle.language.specs.Rows.{F-field, P-parameter, X-effect, S-start}
-use Rattle.language.specs.Tree.{DeclaredType, type-number, Field, Declaration, Class, Program, heading-lines}
+use Rattle.language.specs.Lists.{nth, Never, inj}
+use Rattle.language.specs.Rows.{S-start}
+use Rattle.language.specs.Tree.{Declaration, Class, Program, heading-lines}
 use Rattle.language.specs.Tree.{method-lines, methods-lines, class-lines, classes-lines}
 use Rattle.language.specs.Program.{class-at}
 use Rattle.language.specs.ClassTables.{class-row}
 use Rattle.language.specs.Encoded.{RowAt}
-use Rattle.language.specs.Layout.{Run, EachMethod, EachClass, MethodAt, ClassAt, ProgramAt}
-use Rattle.language.specs.Layout.{effects-row, body-row, methods-from-row, start-row}
+use Rattle.language.specs.Layout.{Run, ClassEnd, EachMethod, MethodAt, ClassAt, ProgramAt}
+use Rattle.language.specs.Layout.{body-row, methods-from-row}
 use Rattle.language.specs.WellFormed.{Each, each-cons, MethodInForm, ClassInForm}
-use Rattle.language.proofs.Lines.{first-line, lines-run, run-unique}
-use Rattle.layout.specs.Found.{class-here, class-in-form, BlockHere, body-here}
+use Rattle.language.proofs.Classes.{class-some}
+use Rattle.language.proofs.Lines.{less-or-same, run-unique}
+use Rattle.layout.specs.Found.{class-here, class-in-form}
+use Rattle.layout.specs.HeadingRuns.{block-here, parameters-run, effects-run, end-letter, methods-first}
+use Rattle.layout.specs.HeadingRuns.{fields-run, class-ended}
 use Rattle.headings.specs.Ready.{MethodHere, ClassHere}
-
--- at most is below or equal
-pub below-or : (i n : ℕ) → i ≤ n → (i < n) ⊎ (i ≡ n)
-below-or zero zero p = inr refl
-below-or zero (suc n) p = inl (omega arith)
-below-or (suc i) zero p = absurd (omega arith)
-below-or (suc i) (suc n) p =
-    ⊎-elim (λ l. inl (omega arith)) (λ e. inr (ap suc e)) (below-or i n (omega arith))
 
 module _ {R : List ℕ} {l r n : ℕ} (w : Run R l r n) (i : ℕ) (p : i ≤ n) where
   -- the next row has the letter too, so it is one of the run
   pub run-next : getD R ((r + i) * 4) 0 ≡ l → i + 1 ≤ n
   run-next e = ⊎-elim (λ q. omega (arith, q))
-      (λ q. absurd (w .other (ap (λ (n : ℕ). getD R ((r + n) * 4) 0) (sym q) ∙ e))) (below-or i n p)
+      (λ q. absurd (w .other (ap (λ (n : ℕ). getD R ((r + n) * 4) 0) (sym q) ∙ e))) (less-or-same i n p)
 
   -- it has not, so the run is over
   pub run-end : (getD R ((r + i) * 4) 0 ≡ l → ⊥) → Run R l r i
-  run-end o = ⊎-elim (λ q. absurd (o (w .each i q))) (λ q. subst (Run R l r) (sym q) w) (below-or i n p)
+  run-end o = ⊎-elim (λ q. absurd (o (w .each i q))) (λ q. subst (Run R l r) (sym q) w) (less-or-same i n p)
 
 -- ---- a method
 
 module _ {R E : List ℕ} {m : Declaration} {r : ℕ} (h : MethodAt R E m r) (f : MethodInForm of-check m) where
-  -- after the X lines comes the block
-  block-here : BlockHere R E (m .body) (body-row r m)
-  block-here = body-here (body-row r m) (f .body) (h .body)
-
-  pub effects-run : Run R 88 (effects-row r m) (length (m .effects))
-  effects-run = let b = block-here .node .row in
-      lines-run (λ (c i : ℕ). RowAt R i X-effect c 0) R 88 (λ c i x. x .letter) (m .effects) (effects-row r m)
-      (h .effects) (b .within) (λ e. omega (arith, b .letter, e))
-
-  -- after the P lines comes an X line or the block
-  pub parameters-run : Run R 80 (r + 1) (length (m .parameters))
-  parameters-run =
-      let b = block-here .node .row in
-      let x = first-line (λ (c i : ℕ). RowAt R i X-effect c 0)
-      (λ (i : ℕ). (i * 4 + 3 < length R) × (getD R (i * 4) 0 ≡ 80 → ⊥))
-      (λ c i x. (x .within, λ e. omega (arith, x .letter, e))) (m .effects) (effects-row r m) (h .effects)
-      (b .within, λ e. omega (arith, b .letter, e)) in
-      lines-run (λ (t : DeclaredType) (i : ℕ). RowAt R i P-parameter (type-number t) 0) R 80
-      (λ t i x. x .letter) (m .parameters) (r + 1) (h .parameters) (x .0) (x .1)
-
   module _ (p : ℕ) (v : Run R 80 (r + 1) p) where
     pub parameters-count : p ≡ length (m .parameters)
-    parameters-count = run-unique v parameters-run
+    parameters-count = run-unique v (parameters-run h f)
 
     pub effects-after : Run R 88 (r + 1 + p) (length (m .effects))
-    effects-after = rw parameters-count effects-run
+    effects-after = rw parameters-count (effects-run h f)
 
     pub effects-count : (x : ℕ) → Run R 88 (r + 1 + p) x → x ≡ length (m .effects)
     effects-count x v = run-unique v effects-after
@@ -97,31 +73,16 @@ module _ {R E : List ℕ} {r : ℕ} (w : MethodHere R E r) where
           ap (λ (i : ℕ). getD E i 0) e ∙ (b .end ∙ omega arith),
         )
 
--- a class has ended: the next one follows, or the start
-pub record Ended (R : List ℕ) (r : ℕ) : Type 0 where
-  pub within : r * 4 + 3 < length R
-  pub letter : (getD R (r * 4) 0 ≡ 67) ⊎ (getD R (r * 4) 0 ≡ 83)
-
 -- the methods of a class from a row on, to its last
 pub record MethodsFrom (R E : List ℕ) (ms : List Declaration) (at : ℕ) : Type 0 where
   pub k : ℕ
   pub here : EachMethod (λ k m r. MethodAt R E m r) ms k at
   pub in-form : Each (MethodInForm of-check) ms
-  pub ended : Ended R (at + methods-lines ms)
+  pub ended : ClassEnd R (at + methods-lines ms)
 
 module _ {R E : List ℕ} {at : ℕ} where
-  -- a row of methods is in the rows, and is no F line
-  pub methods-letter : (ms : List Declaration) → MethodsFrom R E ms at
-      → (at * 4 + 3 < length R) × (getD R (at * 4) 0 ≡ 70 → ⊥)
-  unfolding EachMethod methods-lines
-  methods-letter [] h =
-      let z : at + 0 ≡ at = omega arith in
-      let e : Ended R at = subst (Ended R) z (h .ended) in (
-        e .within,
-        λ q. ⊎-elim (λ a. absurd (omega (arith, a, q))) (λ a. absurd (omega (arith, a, q)))
-            (e .letter),
-      )
-  methods-letter (m ∷ ms) h = let x = h .here .0 .line in (x .within, λ q. omega (arith, x .letter, q))
+  pub methods-within : (ms : List Declaration) → MethodsFrom R E ms at → at * 4 + 3 < length R
+  methods-within ms h = methods-first R E ms (h .k) at (h .here) (h .ended) .0
 
   -- an M line is there, so there is a method
   pub next-method : (ms : List Declaration) → MethodsFrom R E ms at → getD R (at * 4) 0 ≡ 77
@@ -130,8 +91,7 @@ module _ {R E : List ℕ} {at : ℕ} where
   unfolding EachMethod methods-lines
   next-method [] h e =
       let z : at + 0 ≡ at = omega arith in
-      let s : Ended R at = subst (Ended R) z (h .ended) in
-      ⊎-elim (λ q. absurd (omega (arith, q, e))) (λ q. absurd (omega (arith, q, e))) (s .letter)
+      absurd (end-letter (subst (ClassEnd R) z (h .ended)) 77 (omega arith) (omega arith) e)
   next-method (m ∷ ds) h e = go (h .in-form)
     where
       z : at + (method-lines m + methods-lines ds) ≡ at + method-lines m + methods-lines ds
@@ -146,7 +106,7 @@ module _ {R E : List ℕ} {at : ℕ} where
         refl,
         h .here .0,
         i,
-        record { k = h .k; here = h .here .1; in-form = is; ended = subst (Ended R) z (h .ended) },
+        record { k = h .k; here = h .here .1; in-form = is; ended = subst (ClassEnd R) z (h .ended) },
       )
 
   -- no M line is there, so there is none
@@ -163,7 +123,7 @@ pub record Skipping (R E : List ℕ) (at end : ℕ) : Type 0 where
 
 module _ {R E : List ℕ} {at end : ℕ} (s : Skipping R E at end) where
   pub skip-within : at * 4 + 3 < length R
-  skip-within = methods-letter (s .rest) (s .here) .0
+  skip-within = methods-within (s .rest) (s .here)
 
   pub skip-end : (getD R (at * 4) 0 ≡ 77 → ⊥) → at ≡ end
   unfolding methods-lines
@@ -196,48 +156,26 @@ pub record ClassOrStart (R : List ℕ) (count i r : ℕ) : Type 0 where
   pub within : r * 4 + 3 < length R
   pub letter : ((getD R (r * 4) 0 ≡ 67) × (i < count)) ⊎ ((getD R (r * 4) 0 ≡ 83) × (i ≡ count))
 
-module _ (R E : List ℕ) where
-  class-or-start : (cs : List Class) (k r : ℕ) → EachClass (ClassAt R E) cs k r
-      → RowAt R (r + classes-lines cs) S-start 0 0 → (i : ℕ) → i ≤ length cs
-      → ClassOrStart R (length cs) i (r + classes-lines (take i cs))
-  unfolding EachClass classes-lines
-  class-or-start [] k r h s zero l = record { within = s .within; letter = inr (s .letter, refl) }
-  class-or-start [] k r h s (suc i) l = absurd (omega (arith, l))
-  class-or-start (c ∷ cs) k r h s zero l =
-      let z : r ≡ r + 0 = omega arith in
-      subst (ClassOrStart R (suc (length cs)) 0) z
-      (record { within = h .0 .line .within; letter = inl (h .0 .line .letter, omega arith) })
-  class-or-start (c ∷ cs) k r h s (suc i) l =
-      let z : r + (class-lines c + classes-lines cs) ≡ r + class-lines c + classes-lines cs = omega arith in
-      let y : r + class-lines c + classes-lines (take i cs)
-      ≡ r + (class-lines c + classes-lines (take i cs)) =
-      omega arith in
-      let x = class-or-start cs (suc k) (r + class-lines c) (h .1)
-      (subst (λ (j : ℕ). RowAt R j S-start 0 0) z s) i (omega (arith, l)) in
-      subst (ClassOrStart R (suc (length cs)) (suc i)) y (record {
-        within = x .within;
-        letter = ⊎-elim (λ q. inl (q .0, omega (arith, q .1))) (λ q. inr (q .0, ap suc (q .1))) (x .letter);
-      })
-
 module _ {R E : List ℕ} {p : Program} (h : ProgramAt R E p) where
   pub next-class : (i : ℕ) → i ≤ length (p .classes)
       → ClassOrStart R (length (p .classes)) i (class-row (p .classes) (i + 1))
   unfolding class-row
   next-class i l =
-      let z : start-row p ≡ 0 + start-row p = omega arith in
-      let y : i ≡ i + 1 - 1 = omega arith in
-      let x : 0 + classes-lines (take i (p .classes)) ≡ classes-lines (take i (p .classes)) = omega arith in
-      subst (ClassOrStart R (length (p .classes)) i)
-      (x ∙ ap (λ (j : ℕ). classes-lines (take j (p .classes))) y)
-      (class-or-start R E (p .classes) 1 0 (h .classes)
-      (subst (λ (j : ℕ). RowAt R j S-start 0 0) z (h .start-line)) i l)
+      let P = p .classes in
+      let z : i ≡ i + 1 - 1 = omega arith in
+      ⊎-elim
+      (λ (q : i < length P).
+      let c = class-some P (i + 1) (omega arith) (omega (arith, q)) in
+      let x = class-here h (i + 1) (c .0) (c .1) .line in
+      record { within = x .within; letter = inl (x .letter, q) })
+      (λ (q : i ≡ length P).
+      let x = subst (λ (j : ℕ). RowAt R j S-start 0 0)
+      (ap classes-lines (sym (take-length P)) ∙ ap (λ (j : ℕ). classes-lines (take j P)) (sym q ∙ z))
+      (h .start-line) in
+      record { within = x .within; letter = inr (x .letter, q) })
+      (less-or-same i (length P) l)
 
--- the number of a class, and the row after it
-pub class-bound : (P : List Class) (k : ℕ) (c : Class) → class-at P k ≡ some c → (1 ≤ k) × (k ≤ length P)
-unfolding class-at
-class-bound P zero c e = absurd (Never e)
-class-bound P (suc k) c e = (omega arith, omega (arith, nth-lt P k c e))
-
+-- the row after a class
 lines-next : (cs : List Class) (i : ℕ) (c : Class) → nth cs i ≡ some c
     → classes-lines (take (suc i) cs) ≡ classes-lines (take i cs) + class-lines c
 unfolding nth classes-lines
@@ -263,14 +201,8 @@ module _ {R E : List ℕ} {r : ℕ} (w : ClassHere R E r) where
   pub class-formed : ClassInForm of-check (w .one)
   class-formed = class-in-form (w .standing) (w .k) (w .one) (w .is)
 
-  class-ended : Ended R (r + class-lines (w .one))
-  class-ended =
-      let P = w .program .classes in
-      let x = next-class (w .standing) (w .k) (class-bound P (w .k) (w .one) (w .is) .1) in
-      let z : class-row P (w .k + 1) ≡ r + class-lines (w .one) =
-      omega (arith, row-next P (w .k) (w .one) (w .is), w .row-is) in
-      subst (Ended R) z
-      (record { within = x .within; letter = ⊎-elim (λ q. inl (q .0)) (λ q. inr (q .0)) (x .letter) })
+  ended : ClassEnd R (r + class-lines (w .one))
+  ended = rw (w .row-is) (class-ended (w .standing) (w .k) (w .one) (w .is))
 
   pub class-methods : MethodsFrom R E (w .one .methods) (methods-from-row r (w .one))
   unfolding class-lines
@@ -281,23 +213,18 @@ module _ {R E : List ℕ} {r : ℕ} (w : ClassHere R E r) where
         k = w .k;
         here = class-lines-at .methods;
         in-form = class-formed .methods;
-        ended = subst (Ended R) z class-ended;
+        ended = subst (ClassEnd R) z ended;
       }
 
-  fields-run : Run R 70 (r + 1) (length (w .one .fields))
-  fields-run = let x = methods-letter (w .one .methods) class-methods in
-      lines-run (λ (f : Field) (i : ℕ). RowAt R i F-field (type-number (f .type)) (f .name)) R 70
-      (λ f i x. x .letter) (w .one .fields) (r + 1) (class-lines-at .fields) (x .0) (x .1)
-
   pub class-fields : (n : ℕ) × Run R 70 (r + 1) n
-  class-fields = (length (w .one .fields), fields-run)
+  class-fields = (length (w .one .fields), fields-run class-lines-at ended)
 
   pub class-within : r * 4 + 3 < length R
   class-within = class-lines-at .line .within
 
   module _ (n : ℕ) (v : Run R 70 (r + 1) n) where
     pub fields-count : n ≡ length (w .one .fields)
-    fields-count = run-unique v fields-run
+    fields-count = run-unique v (fields-run class-lines-at ended)
 
     pub skip-start : Skipping R E (r + 1 + n) (r + class-lines (w .one))
     unfolding class-lines

@@ -6,7 +6,7 @@ use mathlib.Core.List.{List, [], _∷_}
 use mathlib.Core.Logic.{_⊎_, ⊎-elim}
 use Prim.Native.Nat.{ℕ, zero, suc, _+_, _-_, _*_, _%_, _^_, _≤_, _<_}
 use native.Mathlib.Omega.{arith}
-use borrow.Author.Tests.{eq-eqb, ne-eqb, lt-ltb, le-leb, lt-leb}
+use borrow.Author.Tests.{ne-eqb, lt-ltb, le-leb, lt-leb}
 use lib.Bits.{bitOr}
 use lib.Dec.{leb, ltb}
 use lib.ListN.{length, getD, set, drop, length-set, drop-of-length-le}
@@ -21,12 +21,13 @@ use Rattle.language.specs.Effects.{effect-of, effect-of-all, member}
 use Rattle.language.specs.Program.{world}
 use Rattle.language.specs.Headings.{same-type, same-types, lines-within, check-parameters, check-effects}
 use Rattle.language.specs.Encoded.{RowAt, LinesAt}
+use Rattle.language.proofs.Lines.{less-or-same}
 use Rattle.theory.specs.Lookups.{each-at}
+use Rattle.theory.specs.WellEqual.{type-same}
 use Rattle.headings.specs.Answers.{headed}
 use Rattle.headings.specs.declared.Headed.the-variants.{Passed, Refused}
 use Rattle.headings.specs.Faults.{faulty, fault-of-effect}
 use Rattle.headings.specs.Ready.{Copied, Cleared, EffectLines, ParameterLines}
-use Rattle.headings.proofs.Lines.{below-or}
 use Rattle.headings.proofs.Checks.{faulty-none, faulty-some, effects-step, refused-is, passed-is}
 use Rattle.headings.proofs.Sets.{set-more, set-same, set-none}
 
@@ -41,7 +42,7 @@ cleared-step {T} {T′} {i} c h = record {
   zero = λ j l. ⊎-elim
       (λ q. getD-set-other T′ i j 0 0 (λ e. omega (arith, q, e)) ∙ c .zero j q)
       (λ q. rw q (getD-set-same T′ i 0 0 (omega (arith, h, c .long))))
-      (below-or j i (omega (arith, l)));
+      (less-or-same j i (omega (arith, l)));
 }
 
 pub copied-start : (T : List ℕ) (from to : ℕ) → Copied T T from to 0
@@ -57,7 +58,7 @@ copied-step {T} {T′} {from} {to} {i} c h k = record {
       ∙ c .part j q)
       (λ q. rw q (getD-set-same T′ (to + i) (getD T′ (from + i) 0) 0 (omega (arith, k, c .long)) ∙ c .before
       (from + i) h))
-      (below-or j i (omega (arith, l)));
+      (less-or-same j i (omega (arith, l)));
   before = λ j l. getD-set-other T′ (to + i) j (getD T′ (from + i) 0) 0 (λ e. omega (arith, l, e))
       ∙ c .before j l;
   after = λ j l. getD-set-other T′ (to + i) j (getD T′ (from + i) 0) 0 (λ e. omega (arith, l, e))
@@ -294,12 +295,8 @@ pub same-number : (t u : DeclaredType) → type-of-number (type-number t) ≡ t
     → type-of-number (type-number u) ≡ u → type-number t ≡ type-number u → same-type t u ≡ true
 same-number t u p q e = go t u (sym p ∙ (ap type-of-number e ∙ q))
   where
-    self : (t : DeclaredType) → same-type t t ≡ true
-    self bool = refl
-    self (class c) = eq-eqb c c refl
-
     go : (t u : DeclaredType) → t ≡ u → same-type t u ≡ true
-    go t u e = rw (← e) (self t)
+    go t u e = rw (← e) (type-same t)
 
 pub other-number : (t u : DeclaredType) → (type-number t ≡ type-number u → ⊥) → same-type t u ≡ false
 other-number bool bool n = absurd (n refl)

@@ -16,11 +16,11 @@ use Rattle.language.specs.Limits.{of-check}
 use Rattle.language.specs.Layout.{Run, MethodAt}
 use Rattle.language.specs.WellFormed.{MethodInForm}
 use Rattle.layout.specs.Found.{found-none, method-here}
+use Rattle.layout.specs.HeadingRuns.{parameters-run, effects-run}
 use Rattle.headings.specs.Faults.{fault-of-method}
 use Rattle.headings.specs.Ready.{EffectLines, ParameterLines, OverrideReady, own-or}
 use Rattle.headings.specs.Ready.{MethodReady, MethodCounted}
-use Rattle.headings.proofs.Lines.{parameters-run, parameters-count}
-use Rattle.headings.proofs.Lines.{effects-run, effects-after, effects-count}
+use Rattle.headings.proofs.Lines.{parameters-count, effects-after, effects-count}
 use Rattle.headings.proofs.Sets.{within-low}
 use Rattle.headings.proofs.Loops.{same-number, other-number}
 

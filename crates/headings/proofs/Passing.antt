@@ -20,6 +20,8 @@ use Rattle.language.specs.ClassTables.{rows-from, declared-row, class-row, fiel
 use Rattle.language.specs.ClassTables.{method-row-at, method-row}
 use Rattle.language.specs.Layout.{Run, ClassAt}
 use Rattle.language.specs.WellFormed.{ClassInForm}
+use Rattle.language.proofs.Lines.{less-or-same}
+use Rattle.language.proofs.Classes.{class-some, class-count}
 use Rattle.layout.specs.Found.{class-in-form}
 use Rattle.headings.specs.Answers.{headed}
 use Rattle.headings.specs.declared.Headed.{Headed}
@@ -30,7 +32,7 @@ use Rattle.headings.specs.Ready.{ClassHere, FieldsReady, own-or, Methods
 use Rattle.headings.specs.Ready.{ReadReady}
 use Rattle.headings.proofs.Checks.{class-is, faulty-none, bind-passed, bind-refused, refused-is}
 use Rattle.headings.proofs.Checks.{is-passed, is-refused}
-use Rattle.headings.proofs.Lines.{below-or, ClassOrStart, next-class, class-bound, row-next}
+use Rattle.headings.proofs.Lines.{ClassOrStart, next-class, row-next}
 use Rattle.headings.proofs.Lines.{class-lines-at, class-formed, class-fields, fields-count}
 use Rattle.headings.proofs.Tables.{class-or-object, at-object, extend-object}
 use Rattle.headings.proofs.Classes.{fields-of, field-rows-of, method-row-of, inherited-row}
@@ -59,7 +61,7 @@ module _ {R E T : List ℕ} {k r count : ℕ} (w : ClassReady R E T k r count) w
   formed = class-formed class-of
 
   within : k ≤ length P′
-  within = class-bound P′ k (w .one) (w .is) .1
+  within = class-count P′ k (w .one) (w .is) .1
 
   pub class-index : (r * 4 + 3 < length R) × (length R ≤ 240000) × (k * 576 + 576 ≤ length T) × (k ≤ 64)
   class-index = (
@@ -276,8 +278,8 @@ module _ {R E T₀ : List ℕ} (w : ReadReady R E T₀) where
     row-is = refl;
     long = refl;
     zero = w .zero;
-    kinds = λ j c l e. absurd (omega (arith, l, class-bound (w .program .classes) j c e .0));
-    supers = λ j c l e. absurd (omega (arith, l, class-bound (w .program .classes) j c e .0));
+    kinds = λ j c l e. absurd (omega (arith, l, class-count (w .program .classes) j c e .0));
+    supers = λ j c l e. absurd (omega (arith, l, class-count (w .program .classes) j c e .0));
   }
 
   module _ {T : List ℕ} {k r : ℕ} (p : Reading T k r) where
@@ -293,9 +295,7 @@ module _ {R E T₀ : List ℕ} (w : ReadReady R E T₀) where
       more = ⊎-elim (λ q. q .1) (λ q. absurd (omega (arith, q .0, l))) (here .letter)
 
       pub next : (c : Class) × (class-at (w .program .classes) (k + 1) ≡ some c)
-      next = class-or-object (w .program .classes) (k + 1) (omega (arith, more))
-          (λ e. absurd (omega (arith, e)))
-          (λ c e. (c, e))
+      next = class-some (w .program .classes) (k + 1) (omega arith) (omega (arith, more))
 
       abbrev pub reading-here : ClassHere R E r
       reading-here = record {
@@ -352,7 +352,7 @@ module _ {R E T₀ : List ℕ} (w : ReadReady R E T₀) where
                 inj (sym (next .1) ∙ (ap (class-at (w .program .classes)) (sym s) ∙ d)) in
                 ap (λ (j : ℕ). getD T′ (j * 576 + 512) 0) s
                 ∙ (u ∙ (line .first ∙ ap (λ (c : Class). kind-number (c .kind)) z)))
-                (below-or j (k + 1) h);
+                (less-or-same j (k + 1) h);
             supers = λ j c h d. ⊎-elim
                 (λ s. o (j * 576 + 513) (λ y. omega (arith, y, s)) (λ y. omega (arith, y, s))
                 ∙ p .supers j c (omega (arith, s)) d)
@@ -360,7 +360,7 @@ module _ {R E T₀ : List ℕ} (w : ReadReady R E T₀) where
                 inj (sym (next .1) ∙ (ap (class-at (w .program .classes)) (sym s) ∙ d)) in
                 ap (λ (j : ℕ). getD T′ (j * 576 + 513) 0) s
                 ∙ (v ∙ (line .second ∙ ap (λ (c : Class). c .super) z)))
-                (below-or j (k + 1) h);
+                (less-or-same j (k + 1) h);
           }
 
     module _ (n : getD R (r * 4) 0 ≡ 67 → ⊥) where
@@ -375,17 +375,17 @@ module _ {R E T₀ : List ℕ} (w : ReadReady R E T₀) where
         kinds = λ j c e. p .kinds j c (omega (
           arith,
           reading-count,
-          class-bound (w .program .classes) j c
+          class-count (w .program .classes) j c
               e .1,
         )) e;
         proper = λ j c e. class-in-form (w .standing) j c e .kind-back;
         supers = λ j c e. p .supers j c (omega (
           arith,
           reading-count,
-          class-bound (w .program .classes) j c
+          class-count (w .program .classes) j c
               e .1,
         )) e;
-        earlier = λ j c l e. absurd (omega (arith, l, class-bound (w .program .classes) j c e .0));
+        earlier = λ j c l e. absurd (omega (arith, l, class-count (w .program .classes) j c e .0));
         blocks = λ j l. let z : j ≡ 0 = omega (arith, l) in
             rw z (object-filled (w .program .classes) T (p .zero));
       }

@@ -7,7 +7,7 @@ use native.Mathlib.Nat.{one-mul, mod-eq-of-lt, mul-mod-left, mul-assoc, mul-comm
 use native.Mathlib.Nat.{add-mul-div-left, add-mul-mod-self-right}
 use native.Mathlib.Omega.{arith}
 use borrow.Author.Tests.{leb-true}
-use lib.Bits.{bitAnd, bitOr, or-mod, or-zero-l, and-mask}
+use lib.Bits.{bitOr, or-mod, or-zero-l}
 use lib.Dec.{eqb, leb, ltb}
 use lib.Pow.{pow-lt, pow-pos, pow-add, shl-exact}
 use Rattle.language.specs.Effects.{effect-of, effect-of-all, join, member}
@@ -20,11 +20,6 @@ bit-of-none c e = rw e
 pub bit-of-class : (c : ℕ) → (c ≡ 0 → ⊥) → c ≤ 64 → 1 * 2 ^ (c - 1) % 2 ^ 64 ≡ effect-of c
 unfolding effect-of
 bit-of-class c n l = shl-exact 1 (c - 1) 64 (omega arith) (omega (arith, n, l)) ∙ one-mul (2 ^ (c - 1))
-
--- membership by shift
-pub member-mask : (a c : ℕ) → eqb (bitAnd (a / 2 ^ (c - 1)) 1) 1 ≡ member a c
-unfolding member
-member-mask a c = ap (λ (x : ℕ). eqb x 1) (and-mask (a / 2 ^ (c - 1)) 1)
 
 small-bit : (c : ℕ) → c ≤ 64 → effect-of c % 2 ^ 64 ≡ effect-of c
 unfolding effect-of

@@ -11,13 +11,14 @@ use borrow.Author.Tests.{leb-false}
 use lib.Dec.{eqb, leb, ltb}
 use lib.ListN.{length, getD, set, length-set, length-append}
 use lib.Seq.{getD-set-same, getD-set-other}
-use Rattle.language.specs.Lists.{nth, choice, nth-append-one, nth-lt, bind-option}
+use Rattle.language.specs.Lists.{nth, nth-append-one, nth-lt, nth-some}
 use Rattle.language.specs.Tree.{class, type-of-number, Kind, plain, root, state, unknown, kind-number}
 use Rattle.language.specs.Tree.{kind-of-number, Field, Class}
 use Rattle.language.specs.World.{place, is-declared-type}
 use Rattle.language.specs.Program.{class-at, is-plain, is-root, is-state, is-root-class, is-state-type, world}
 use Rattle.language.specs.Headings.{may-extend}
 use Rattle.language.specs.ClassTables.{stored-place}
+use Rattle.theory.specs.MoreLookups.{place-last}
 use Rattle.headings.specs.Blocks.{Block, Filled, Lookups, Working}
 use Rattle.headings.specs.Faults.{fault-of-effect}
 use Rattle.headings.specs.Ready.{StateReady, EffectReady}
@@ -48,12 +49,6 @@ kind-numbers (unknown (suc (suc (suc n)))) e = (
   ne-eqb (suc (suc (suc n))) 1 (λ q. omega (arith, q)),
   ne-eqb (suc (suc (suc n))) 2 (λ q. omega (arith, q)),
 )
-
-pub nth-some : {A : Type 0} (l : List A) (i : ℕ) → i < length l → (a : A) × (nth l i ≡ some a)
-unfolding nth
-nth-some [] i p = absurd (omega (arith, p))
-nth-some (x ∷ l) zero p = (x, refl)
-nth-some (x ∷ l) (suc i) p = nth-some l i (omega (arith, p))
 
 -- a number up to the count of classes is Object's or a class's
 pub class-or-object : {A : Type 0} (P : List Class) (k : ℕ) → k ≤ length P → (k ≡ 0 → A)
@@ -239,25 +234,6 @@ unfolding place
 place-other f [] g e = rw e
 place-other f (x ∷ fs) g e = rw (place-other f fs g e)
 
-place-new : (g : Field) (fs : List Field) → place (g .name) fs ≡ none
-    → place (g .name) (fs ++ (g ∷ [])) ≡ some (length fs)
-unfolding place
-place-new g [] e = rw (eq-eqb (g .name) (g .name) refl)
-place-new g (x ∷ fs) e = go (eqb (x .name) (g .name)) refl e (λ q. place-new g fs q)
-  where
-    rest : (o : Option ℕ) → place (g .name) fs ≡ o → bind-option o (λ i. some (suc i)) ≡ none
-        → place (g .name) fs ≡ none
-    rest none q h = q
-    rest (some i) q h = let z : _≡_ {A = ℕ} 0 1 = cc in absurd (omega arith)
-
-    go : (b : Bool) → eqb (x .name) (g .name) ≡ b
-        → choice b (λ _. some 0) (λ _. bind-option (place (g .name) fs) λ i. some (suc i)) ≡ none
-        → (place (g .name) fs ≡ none → place (g .name) (fs ++ (g ∷ [])) ≡ some (length fs))
-        → choice b (λ _. some 0) (λ _. bind-option (place (g .name) (fs ++ (g ∷ []))) λ i. some (suc i))
-        ≡ some (suc (length fs))
-    go true q h ih = let z : _≡_ {A = ℕ} 0 1 = cc in absurd (omega arith)
-    go false q h ih = rw (ih (rest (place (g .name) fs) refl h))
-
 module _ {P : List Class} {k : ℕ} {T : List ℕ} {fs : List Field} {rs : List ℕ} {ms : ℕ → Option ℕ}
     (W : Working P k T fs rs ms) where
   pub working-index : (x : ℕ) → x < 576 → k * 576 + x < length T
@@ -278,14 +254,17 @@ module _ {P : List Class} {k : ℕ} {T : List ℕ} {fs : List Field} {rs : List 
           ∙ getD-set-other T (k * 576 + g .name) i (length fs + 1) 0 a)
 
       at-name : getD entered (k * 576 + g .name) 0 ≡ length fs + 1
-      at-name = getD-set-other (set (set T (k * 576 + g .name) (length fs + 1)) (k * 576 + (520 + length fs)) r)
+      at-name = getD-set-other (set (set T (k * 576 + g .name) (length fs + 1)) (k * 576 + (520 + length fs))
+          r)
           (k * 576 + 515) (k * 576 + g .name) (length fs + 1) 0 (λ e. omega (arith, e, h))
           ∙ (getD-set-other (set T (k * 576 + g .name) (length fs + 1)) (k * 576 + (520 + length fs))
           (k * 576 + g .name) r 0 (λ e. omega (arith, e, h))
-          ∙ getD-set-same T (k * 576 + g .name) (length fs + 1) 0 (working-index (g .name) (omega (arith, h))))
+          ∙ getD-set-same T (k * 576 + g .name) (length fs + 1) 0
+          (working-index (g .name) (omega (arith, h))))
 
       at-row : getD entered (k * 576 + (520 + length fs)) 0 ≡ r
-      at-row = getD-set-other (set (set T (k * 576 + g .name) (length fs + 1)) (k * 576 + (520 + length fs)) r)
+      at-row = getD-set-other
+          (set (set T (k * 576 + g .name) (length fs + 1)) (k * 576 + (520 + length fs)) r)
           (k * 576 + 515) (k * 576 + (520 + length fs)) (length fs + 1) 0 (λ e. omega (arith, e))
           ∙ getD-set-same (set T (k * 576 + g .name) (length fs + 1)) (k * 576 + (520 + length fs)) r 0
           (omega (
@@ -295,7 +274,8 @@ module _ {P : List Class} {k : ℕ} {T : List ℕ} {fs : List Field} {rs : List 
           ))
 
       at-count : getD entered (k * 576 + 515) 0 ≡ length fs + 1
-      at-count = getD-set-same (set (set T (k * 576 + g .name) (length fs + 1)) (k * 576 + (520 + length fs)) r)
+      at-count = getD-set-same (set (set T (k * 576 + g .name) (length fs + 1)) (k * 576 + (520 + length fs))
+          r)
           (k * 576 + 515) (length fs + 1) 0
           (omega (
             arith,
@@ -304,13 +284,15 @@ module _ {P : List Class} {k : ℕ} {T : List ℕ} {fs : List Field} {rs : List 
             working-index 515 (omega arith),
           ))
 
-      entered-place : (f : ℕ) → f < 256 → getD entered (k * 576 + f) 0 ≡ stored-place (place f (fs ++ (g ∷ [])))
+      entered-place : (f : ℕ) → f < 256
+          → getD entered (k * 576 + f) 0 ≡ stored-place (place f (fs ++ (g ∷ [])))
       entered-place f l = go (eqb (g .name) f) refl
         where
           go : (b : Bool) → eqb (g .name) f ≡ b
               → getD entered (k * 576 + f) 0 ≡ stored-place (place f (fs ++ (g ∷ [])))
-          go true q = let e = eqb-true (g .name) f q in let s : length fs + 1 ≡ suc (length fs) = omega arith in
-              rw (← e) (at-name ∙ rw (place-new g fs new, s))
+          go true q = let e = eqb-true (g .name) f q in let s : length fs + 1 ≡ suc (length fs) =
+              omega arith in
+              rw (← e) (at-name ∙ rw (place-last g fs new, s))
           go false q = other (k * 576 + f) (λ e. eqb-false (g .name) f q (omega (arith, e)))
               (λ e. omega (arith, e, l)) (λ e. omega (arith, e, l))
               ∙ (W .block .places f l ∙ rw (place-other f fs g q))
@@ -339,6 +321,7 @@ module _ {P : List Class} {k : ℕ} {T : List ℕ} {fs : List Field} {rs : List 
           long = length-append rs (r ∷ []) ∙ (omega (arith, W .block .long, length-append fs (g ∷ [])));
           few = omega (arith, length-append fs (g ∷ []), room);
         };
-        root = other (k * 576 + 514) (λ d. omega (arith, d, h)) (λ d. omega (arith, d)) (λ d. omega (arith, d))
+        root = other (k * 576 + 514) (λ d. omega (arith, d, h)) (λ d. omega (arith, d))
+            (λ d. omega (arith, d))
             ∙ W .root;
       })

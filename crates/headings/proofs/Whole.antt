@@ -18,6 +18,7 @@ use Rattle.language.specs.Program.{class-at}
 use Rattle.language.specs.Headings.{check-class, check-classes, headings}
 use Rattle.language.specs.ClassTables.{ClassTables, class-row, above-at, above}
 use Rattle.language.specs.Encoded.{RowAt}
+use Rattle.language.proofs.Lines.{less-or-same}
 use Rattle.headings.specs.Answers.{headed}
 use Rattle.headings.specs.declared.Headed.{Headed}
 use Rattle.headings.specs.declared.Headed.the-variants.{Passed, Refused}
@@ -25,7 +26,7 @@ use Rattle.headings.specs.Blocks.{Lookups}
 use Rattle.headings.specs.Ready.{Cleared, ClassHere, ClassReady, ReadReady, ClassesReady, HeadingsReady}
 use Rattle.headings.proofs.Checks.{bind-passed, bind-refused, refused-is, passed-is, is-passed}
 use Rattle.headings.proofs.Checks.{is-refused}
-use Rattle.headings.proofs.Lines.{below-or, row-next, class-lines-at}
+use Rattle.headings.proofs.Lines.{row-next, class-lines-at}
 use Rattle.headings.proofs.Fields.{nil-of}
 use Rattle.headings.proofs.Classes.{above-of}
 
@@ -173,7 +174,7 @@ module _ {R E T₀ A₀ : List ℕ} {count : ℕ} (w : ClassesReady R E T₀ A�
                     (λ y. ap (λ (j : ℕ). getD (set A k x) j 0) y
                     ∙ (getD-set-same A k x 0 (going-index .2)
                     ∙ (above-is b e ∙ ap (above (w .program .classes)) (sym y))))
-                    (below-or j k (omega (arith, h)));
+                    (less-or-same j k (omega (arith, h)));
                 long-above = length-set A k x ∙ p .long-above;
               }
 

@@ -57,6 +57,9 @@ le-or-less zero b = inl (omega arith)
 le-or-less (suc a) zero = inr (omega arith)
 le-or-less (suc a) (suc b) = ⊎-elim (λ h. inl (omega arith)) (λ h. inr (omega arith)) (le-or-less a b)
 
+pub less-or-same : (a b : ℕ) → a ≤ b → (a < b) ⊎ (a ≡ b)
+less-or-same a b l = ⊎-elim (λ (h : b ≤ a). inr (omega arith)) (λ (h : a < b). inl h) (le-or-less b a)
+
 -- Two runs from one row on are as long.
 pub run-unique : {R : List ℕ} {letter from n m : ℕ} → Run R letter from n → Run R letter from m → n ≡ m
 run-unique {n = n} {m} p q = ⊎-elim

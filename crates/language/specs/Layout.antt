@@ -2,6 +2,7 @@
 -- establishes it; headings, bodies, translation and evaluation read rows only through it.
 use mathlib.Core.Path.{_≡_}
 use Prim.Native.Nat.{ℕ, suc, _+_, _*_, _≤_, _<_}
+use mathlib.Core.Logic.{_⊎_}
 use mathlib.Core.List.{List, [], _∷_}
 use lib.ListN.{length, getD}
 use Rattle.language.specs.Limits.{of-check}
@@ -38,6 +39,11 @@ pub record Run (R : List ℕ) (letter from n : ℕ) : Type 0 where
   pub each : (i : ℕ) → i < n → getD R ((from + i) * 4) 0 ≡ letter
   pub inside : (from + n) * 4 + 3 < length R
   pub other : getD R ((from + n) * 4) 0 ≡ letter → ⊥
+
+-- Row r is a C line or the S line: a class has ended there.
+pub record ClassEnd (R : List ℕ) (r : ℕ) : Type 0 where
+  pub within : r * 4 + 3 < length R
+  pub letter : (getD R (r * 4) 0 ≡ 67) ⊎ (getD R (r * 4) 0 ≡ 83)
 
 -- The row of a method's body, and of a class's first method.
 abbrev pub effects-row : ℕ → Declaration → ℕ

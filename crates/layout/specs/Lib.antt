@@ -2,3 +2,4 @@ pub mod Places
 pub mod Standing
 pub mod Found
 pub mod Headed
+pub mod HeadingRuns

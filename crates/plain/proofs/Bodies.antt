@@ -7,7 +7,8 @@ use lib.ListN.{length, getD, replicate}
 use Rattle.language.specs.Tree.{DeclaredType, Expr, Class}
 use Rattle.language.specs.Typing.{Environment}
 use Rattle.language.specs.Translation.{plain-slot, variables}
-use Rattle.plain.specs.Tasks.{Setting, NodeTask, variable-count, BodyTask}
+use Rattle.theory.specs.PlainForm.{variable-count}
+use Rattle.plain.specs.Tasks.{Setting, NodeTask, BodyTask}
 use Rattle.plain.specs.Emission.{Extended, SomeNode, NodeEmitted, SomeBody, BodyEmitted}
 use Rattle.plain.proofs.Shapes.{setting-locals}
 

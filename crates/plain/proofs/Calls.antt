@@ -14,16 +14,17 @@ use Rattle.language.specs.Encoded.{TypesAt, Encoded}
 use Rattle.language.specs.Typing.{Environment, type-of, type-all}
 use Rattle.language.specs.Translation.{Shape, typed-or, typed-all-or, class-or, parameters-or, temporaries}
 use Rattle.language.specs.LookupClasses.{LooksUp}
+use Rattle.theory.specs.PlainForm.{variable-count, count-temporaries}
 use Rattle.plain.specs.Numbers.{most-numbers, arguments-numbers, type-lines, read-lines, ProperAll}
 use Rattle.plain.specs.Numbers.{Nodes, also, nodes-of, how-many, rows-taken}
 use Rattle.plain.specs.Emission.{Written, SomeTypes, TypesWritten, SomeCall, SomeArguments, CallEmitted}
 use Rattle.plain.specs.Emission.{ArgumentsEmitted}
 use Rattle.plain.specs.Tasks.{NodeTask, NodesTask, EncodedNodes, LooksUpNodes, ReadyNodes, Ready}
-use Rattle.plain.specs.Tasks.{variable-count, MethodFound}
+use Rattle.plain.specs.Tasks.{MethodFound}
 use Rattle.plain.proofs.Writing.{written-then, whole}
 use Rattle.plain.proofs.Translated.{t-call}
 use Rattle.plain.proofs.Tasks.{node-row}
-use Rattle.plain.proofs.Shapes.{setting-temporaries, temporaries-none}
+use Rattle.plain.proofs.Shapes.{setting-temporaries}
 use Rattle.plain.proofs.Lines.{types-length, reads-length}
 use Rattle.plain.proofs.Nodes.{encoded-nodes, looks-nodes, ready-nodes, nodes-counted, nodes-sizes}
 
@@ -83,7 +84,7 @@ module _ {P : List Class} {E : List ℕ} {γ : Environment} {sh : Shape} {R T C 
       omega (arith, call-method .0, length-map call-types (λ (t : DeclaredType). false)) in
       record {
         setting = rw z at (setting-temporaries (t .setting) (false ∷ temporaries call-types)
-            (temporaries-none call-types));
+            (count-temporaries call-types));
         encoded = (t .encoded .1, encoded-nodes (world P) R E es γ′ (at + 1 + size e) (t .encoded .2));
         looks = (t .looks .1, looks-nodes (world P) C es γ′ (at + 1 + size e) (t .looks .2));
         ready = (t .ready .3, ready-nodes P es γ′ vars (t .ready .4));

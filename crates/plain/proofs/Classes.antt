@@ -16,7 +16,7 @@ use Rattle.plain.specs.Emission.{SomeClass, SomeClasses, MethodsEmitted,
 use Rattle.plain.specs.Tasks.{MethodsTask, ClassTask, ClassesTask}
 use Rattle.plain.proofs.Writing.{written-none, written-then, whole}
 use Rattle.plain.proofs.Lines.{fields-length}
-use Rattle.plain.proofs.Standing.{class-positive, methods-of, first-of, class-row, class-end, no-class}
+use Rattle.plain.proofs.Standing.{class-positive, first-of, class-row, class-end, no-class}
 use Rattle.plain.proofs.Standing.{not-class, class-stands, classes-stand}
 
 class-length : (W : World) (k : ℕ) (c : Class)
@@ -32,8 +32,7 @@ class-length W k c =
 module _ {R T C : List ℕ} {at place : ℕ} where
   first-row : {P : List Class} {E : List ℕ} {k r : ℕ} (c : Class) → ClassTask P E k c R T C at place
       → Skipped R 70 (at + 1) r → r ≡ methods-from-row at c
-  first-row {P} {E} c t s = let h = class-stands P E R C c (t .ready) in
-      first-of c h (methods-of c h (t .after) (t .lent .short)) s
+  first-row {P} {E} c t s = first-of c (class-stands P E R C c (t .ready)) (t .after) s
 
   class-methods : {P : List Class} {E : List ℕ} {k : ℕ} (c : Class) → ClassTask P E k c R T C at place
       → (r q : ℕ) → r ≡ methods-from-row at c

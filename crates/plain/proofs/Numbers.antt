@@ -117,18 +117,8 @@ n-copies o (f ∷ fs) r = n-cons _ _
       n-copies o fs r,
     )
 
-pub c-copies : (o p : ℕ) (fs : List Field) (r : Exprs) → count (copies o p fs r) ≡ length fs + count r
-unfolding copies count
-c-copies o p [] r = omega arith
-c-copies o p (f ∷ fs) r = omega (arith, c-copies o p fs r)
-
 -- reads
 pub n-reads : (s : ℕ) (ts : List DeclaredType) → trees-numbers (reads s ts) ≡ read-lines s (length ts)
 unfolding reads read-lines
 n-reads s [] = n-nil
 n-reads s (t ∷ ts) = n-cons _ _ ∙ rw (n-slot s, n-reads (suc s) ts)
-
-pub c-reads : (s : ℕ) (ts : List DeclaredType) → count (reads s ts) ≡ length ts
-unfolding reads count
-c-reads s [] = refl
-c-reads s (t ∷ ts) = rw (c-reads (suc s) ts)

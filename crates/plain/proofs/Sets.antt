@@ -17,11 +17,12 @@ use Rattle.language.specs.Typing.{Environment, type-of}
 use Rattle.language.specs.Translation.{Shape, plain-type, typed-or, class-or, type-or}
 use Rattle.language.specs.LookupClasses.{LooksUp}
 use Rattle.language.proofs.Lines.{line-at}
+use Rattle.theory.specs.PlainForm.{variable-count}
 use Rattle.plain.specs.Numbers.{most-numbers, arguments-numbers, plain-number, Proper, Nodes, none}
 use Rattle.plain.specs.Numbers.{also, how-many, rows-taken}
 use Rattle.plain.specs.Emission.{Written, SomeSet, SomeArguments, SetEmitted, ArgumentsEmitted}
 use Rattle.plain.specs.Tasks.{NodeTask, NodesTask, EncodedNodes, LooksUpNodes, ReadyNodes, Ready}
-use Rattle.plain.specs.Tasks.{variable-count, FieldFound}
+use Rattle.plain.specs.Tasks.{FieldFound}
 use Rattle.plain.proofs.Writing.{written-then, whole}
 use Rattle.plain.proofs.Translated.{t-set}
 use Rattle.plain.proofs.Tasks.{node-row}

@@ -10,21 +10,11 @@ use lib.ListN.{length, getD, length-append, length-map, set, length-set}
 use native.Mathlib.Nat.{eq-or-lt-of-le}
 use lib.Seq.{getD-set-same, getD-set-other}
 use Rattle.language.specs.Tree.{DeclaredType, Class}
-use Rattle.language.specs.Translation.{Shape, position, plain-slot, variables, temporaries}
+use Rattle.language.specs.Translation.{Shape, position, plain-slot, variables}
 use Rattle.language.proofs.Lines.{le-or-less}
-use Rattle.plain.specs.Tasks.{Setting, variable-count}
+use Rattle.theory.specs.PlainForm.{variable-count, count-append, count-variables}
+use Rattle.plain.specs.Tasks.{Setting}
 use Rattle.plain.specs.Emission.{Extended}
-
-variables-append : (a b : Shape) → variable-count (a ++ b) ≡ variable-count a + variable-count b
-unfolding variable-count
-variables-append [] b = omega arith
-variables-append (true ∷ a) b = omega (arith, variables-append a b)
-variables-append (false ∷ a) b = variables-append a b
-
-variables-all : (ts : List DeclaredType) → variable-count (variables ts) ≡ length ts
-unfolding variable-count
-variables-all [] = refl
-variables-all (t ∷ ts) = ap suc (variables-all ts)
 
 position-kept : (a b : Shape) (k : ℕ) → k < variable-count a → position (a ++ b) k ≡ position a k
 unfolding position variable-count
@@ -62,7 +52,7 @@ module _ {P : List Class} {R T C S : List ℕ} {sh : Shape} {vars next : ℕ} (x
       lent = x .lent;
       wide = x .wide;
       scope = x .scope;
-      variables = omega (arith, x .variables, variables-append sh fs, z);
+      variables = omega (arith, x .variables, count-append sh fs, z);
       free = omega (arith, x .free, length-append sh fs);
       renumbered = λ k h. x .renumbered k h ∙ sym (plain-slot-kept sh fs k (omega (arith, h, x .variables)));
     }
@@ -76,7 +66,7 @@ module _ {P : List Class} {R T C S : List ℕ} {sh : Shape} {vars next : ℕ} (x
       lent = x .lent;
       wide = y .wide;
       scope = h;
-      variables = omega (arith, x .variables, variables-append sh (variables ts), variables-all ts);
+      variables = omega (arith, x .variables, count-append sh (variables ts), count-variables ts);
       free = omega (arith, x .free, length-append sh (variables ts), length-map ts (λ t. true));
       renumbered = λ k l. go k l (le-or-less vars k);
     }
@@ -98,11 +88,6 @@ module _ {P : List Class} {R T C S : List ℕ} {sh : Shape} {vars next : ℕ} (x
 pub slot-at : {P : List Class} {R T C S : List ℕ} {sh : Shape} {vars next j k : ℕ}
     → Setting P R T C S sh vars next → j ≡ k → k < vars → getD S j 0 ≡ plain-slot sh k
 slot-at x e h = rw e (x .renumbered _ h)
-
-pub temporaries-none : (ts : List DeclaredType) → variable-count (temporaries ts) ≡ 0
-unfolding variable-count
-temporaries-none [] = refl
-temporaries-none (t ∷ ts) = temporaries-none ts
 
 -- slots of a block's locals, the first i of them added
 pub extended-start : {S : List ℕ} {vars next : ℕ} → length S ≡ 32 → Extended S S vars next 0

@@ -1,49 +1,36 @@
 -- Laws of methods and classes that stand in rows: the rows of their parts, and the row after each. Assumes
 -- nothing.
-use mathlib.Core.Path.{_≡_, sym, _∙_}
-use mathlib.Core.Logic.{inl, inr, _≢_}
+use mathlib.Core.Path.{_≡_, refl, sym, _∙_}
+use mathlib.Core.Logic.{_≢_}
 use mathlib.Core.List.{List, [], _∷_}
 use Prim.Native.Nat.{ℕ, suc, _+_, _-_, _*_, _≤_, _<_}
 use native.Mathlib.Omega.{arith}
 use lib.ListN.{length, getD}
+use Rattle.language.specs.Rows.{code}
 use Rattle.language.specs.Tree.{Declaration, Class, method-lines, heading-lines, methods-lines, class-lines}
 use Rattle.language.specs.Tree.{classes-lines}
-use Rattle.language.specs.Layout.{EachMethod, EachClass, MethodAt, ClassAt, effects-row, body-row}
+use Rattle.language.specs.Layout.{EachMethod, EachClass, ClassEnd, MethodAt, ClassAt, effects-row, body-row}
 use Rattle.language.specs.Layout.{methods-from-row}
-use Rattle.language.proofs.Lines.{first-line, lines-run}
-use Rattle.plain.specs.Tasks.{ClassEnd, MethodReady, ClassReady, MethodsTask, ClassesTask}
+use Rattle.layout.specs.HeadingRuns.{parameter-lines, effect-lines, end-letter, methods-first, fields-run}
+use Rattle.layout.specs.HeadingRuns.{classes-first}
+use Rattle.plain.specs.Tasks.{MethodReady, ClassReady, MethodsTask, ClassesTask}
 use Rattle.plain.specs.Emission.{Skipped, SomeFieldLines}
 use Rattle.plain.specs.Bounds.{MethodsStand, ClassesStand, SomeMethodsStand, SomeClassesStand}
 use Rattle.plain.specs.Bounds.{MethodsPassed}
-use Rattle.plain.proofs.Letters.{no-heading, node-at, node-ends, size-positive}
+use Rattle.plain.proofs.Letters.{letter-of, no-heading, node-at, node-ends, size-positive}
 use Rattle.plain.proofs.Skips.{skipped-at}
-
-pub other-letter : {a b c : ℕ} → a ≡ b → b ≢ c → a ≢ c
-other-letter e h f = h (sym e ∙ f)
-
--- the row after a method's P lines is no P line, and that after its X lines no X line
-after-effects : {R E : List ℕ} {m : Declaration} {r : ℕ} → MethodAt R E m r
-    → (body-row r m * 4 + 3 < length R) × (getD R (body-row r m * 4) 0 ≢ 88)
-after-effects {R} {E} {m} {r} x = let n = node-at R E (body-row r m) (m .body) (x .body) in
-    (n .0, other-letter (n .1) (no-heading (m .body) .1))
-
-after-parameters : {R E : List ℕ} {m : Declaration} {r : ℕ} → MethodAt R E m r
-    → (effects-row r m * 4 + 3 < length R) × (getD R (effects-row r m * 4) 0 ≢ 80)
-after-parameters {R} {E} {m} {r} x = let n = node-at R E (body-row r m) (m .body) (x .body) in
-    first-line _ (λ i. (i * 4 + 3 < length R) × (getD R (i * 4) 0 ≢ 80))
-    (λ c i h. (h .within, other-letter (h .letter) (omega arith))) (m .effects) (effects-row r m) (x .effects)
-    (n .0, other-letter (n .1) (no-heading (m .body) .0))
 
 pub method-rows : {R E : List ℕ} {m : Declaration} {r x b : ℕ} → MethodAt R E m r → Skipped R 80 (r + 1) x
     → Skipped R 88 x b
     → (x ≡ effects-row r m) × (b ≡ body-row r m)
 method-rows {R} {E} {m} {r} {x} {b} t s u =
-    let p = after-parameters t in let q = after-effects t in
-    let z : x ≡ effects-row r m = skipped-at s
-    (lines-run _ R 80 (λ t i h. h .letter) (m .parameters) (r + 1) (t .parameters) (p .0) (p .1)) in (
+    let n = node-at R E (body-row r m) (m .body) (t .body) in
+    let o = no-heading (m .body) in
+    let z : x ≡ effects-row r m = skipped-at s (parameter-lines R (m .parameters) (m .effects) r
+    (code (letter-of (m .body))) (t .parameters) (t .effects) (n .0) (n .1) (o .0)) in (
       z,
-      skipped-at (rw z at u)
-          (lines-run _ R 88 (λ c i h. h .letter) (m .effects) (effects-row r m) (t .effects) (q .0) (q .1)),
+      skipped-at (rw z at u) (effect-lines R (m .parameters) (m .effects) r (code (letter-of (m .body)))
+          (t .parameters) (t .effects) (n .0) (n .1) (o .1)),
     )
 
 pub lines-positive : (m : Declaration) → 1 ≤ method-lines m
@@ -60,9 +47,7 @@ end-at h e = rw e at h
 -- methods
 module _ {R E : List ℕ} {at : ℕ} where
   pub stand-row : {k : ℕ} (ms : List Declaration) → MethodsStand R E k ms at → at * 4 + 3 < length R
-  unfolding EachMethod methods-lines
-  stand-row [] t = end-at {b = at} (t .after) (omega arith) .within
-  stand-row (m ∷ ms) t = t .methods .0 .line .within
+  stand-row {k} ms t = methods-first R E ms k at (t .methods) (t .after) .0
 
   stand-first : {k : ℕ} (m : Declaration) (ms : List Declaration) → MethodsStand R E k (m ∷ ms) at → (x b : ℕ)
       → Skipped R 80 (at + 1) x → Skipped R 88 x b
@@ -81,8 +66,7 @@ module _ {R E : List ℕ} {at : ℕ} where
 
   pub no-method : {k : ℕ} → MethodsStand R E k [] at → getD R (at * 4) 0 ≡ 77 → ⊥
   unfolding methods-lines
-  no-method t h = elim (end-at {b = at} (t .after) (omega arith) .letter)
-      [ inl e ↦ omega (arith, e, h) | inr e ↦ omega (arith, e, h) ]
+  no-method t h = end-letter (end-at {b = at} (t .after) (omega arith)) 77 (omega arith) (omega arith) h
 
   with-method : {D : Type 0} {k : ℕ} (ms : List Declaration) → getD R (at * 4) 0 ≡ 77
       → MethodsStand R E k ms at
@@ -123,62 +107,7 @@ module _ {R E : List ℕ} {at : ℕ} where
 -- classes
 module _ {R E : List ℕ} {at : ℕ} where
   pub class-row : {k : ℕ} (cs : List Class) → ClassesStand R E k cs at → at * 4 + 3 < length R
-  unfolding EachClass classes-lines
-  class-row [] t = let z : at + 0 ≡ at = omega arith in let w = t .start .within in rw z at w
-  class-row (c ∷ cs) t = t .classes .0 .line .within
-
-  pub class-end : {k : ℕ} (c : Class) (cs : List Class)
-      → ClassesStand R E k (c ∷ cs) at → ClassEnd R (at + class-lines c)
-  unfolding EachClass classes-lines
-  class-end {k} c cs t =
-      go cs (t .classes .1) (at + (class-lines c + classes-lines cs)) (omega arith) (t .start .within)
-      (t .start .letter)
-    where
-      go : (cs : List Class) → EachClass (ClassAt R E) cs (suc k) (at + class-lines c) → (b : ℕ)
-          → b ≡ at + class-lines c + classes-lines cs
-          → b * 4 + 3 < length R → getD R (b * 4) 0 ≡ 83 → ClassEnd R (at + class-lines c)
-      go [] h b z w e = let y : b ≡ at + class-lines c = omega (arith, z) in
-          rw (← y) (record { within = w; letter = inr e })
-      go (d ∷ ds) h b z w e = record { within = h .0 .line .within; letter = inl (h .0 .line .letter) }
-
-  -- the methods of a class, and the row after its fields
-  pub methods-of : {k : ℕ} (c : Class) → ClassAt R E k c at → ClassEnd R (at + class-lines c)
-      → length R ≤ 240000 → MethodsStand R E k (c .methods) (methods-from-row at c)
-  unfolding class-lines
-  methods-of c t w h = record { methods = t .methods; after = end-at w (omega arith); short = h }
-
-  pub first-of : {k r : ℕ} (c : Class)
-      → ClassAt R E k c at → MethodsStand R E k (c .methods) (methods-from-row at c) → Skipped R 70 (at + 1) r
-      → r ≡ methods-from-row at c
-  unfolding EachMethod methods-lines
-  first-of {k} c t u s = let w = other (c .methods) u in
-      skipped-at s (lines-run _ R 70 (λ f i h. h .letter) (c .fields) (at + 1) (t .fields) (w .0) (w .1))
-    where
-      other : (ms : List Declaration) → MethodsStand R E k ms (methods-from-row at c)
-          → (methods-from-row at c * 4 + 3 < length R) × (getD R (methods-from-row at c * 4) 0 ≢ 70)
-      other [] h = let w = end-at {b = methods-from-row at c} (h .after) (omega arith) in (
-        w .within,
-        elim (w .letter) [
-          | inl e ↦ other-letter e (omega arith)
-          | inr e ↦ other-letter e
-              (omega arith)
-        ],
-      )
-      other (m ∷ ms) h = (
-        h .methods .0 .line .within,
-        other-letter (h .methods .0 .line .letter)
-            (omega arith),
-      )
-
-  class-methods : {k : ℕ} (c : Class) (cs : List Class)
-      → ClassesStand R E k (c ∷ cs) at → MethodsStand R E k (c .methods) (methods-from-row at c)
-  unfolding EachClass
-  class-methods c cs t = methods-of c (t .classes .0) (class-end c cs t) (t .short)
-
-  pub first-row : {k r : ℕ} (c : Class) (cs : List Class)
-      → ClassesStand R E k (c ∷ cs) at → Skipped R 70 (at + 1) r → r ≡ methods-from-row at c
-  unfolding EachClass
-  first-row c cs t s = first-of c (t .classes .0) (class-methods c cs t) s
+  class-row {k} cs t = classes-first R E cs k at (t .classes) (t .start) .within
 
   pub class-rest : {k : ℕ} (c : Class) (cs : List Class) → ClassesStand R E k (c ∷ cs) at → (b : ℕ)
       → b ≡ at + class-lines c → ClassesStand R E (suc k) cs b
@@ -186,6 +115,31 @@ module _ {R E : List ℕ} {at : ℕ} where
   class-rest c cs t b z =
       let a : at + (class-lines c + classes-lines cs) ≡ at + class-lines c + classes-lines cs = omega arith in
       let w = t .start in rw z (record { classes = t .classes .1; start = rw a at w; short = t .short })
+
+  pub class-end : {k : ℕ} (c : Class) (cs : List Class)
+      → ClassesStand R E k (c ∷ cs) at → ClassEnd R (at + class-lines c)
+  class-end {k} c cs t = let u = class-rest c cs t (at + class-lines c) refl in
+      classes-first R E cs (suc k) (at + class-lines c) (u .classes) (u .start)
+
+  -- the row after a class's fields
+  pub first-of : {k r : ℕ} (c : Class)
+      → ClassAt R E k c at → ClassEnd R (at + class-lines c) → Skipped R 70 (at + 1) r
+      → r ≡ methods-from-row at c
+  first-of c t w s = skipped-at s (fields-run t w)
+
+  class-methods : {k : ℕ} (c : Class) (cs : List Class)
+      → ClassesStand R E k (c ∷ cs) at → MethodsStand R E k (c .methods) (methods-from-row at c)
+  unfolding EachClass class-lines
+  class-methods c cs t = record {
+    methods = t .classes .0 .methods;
+    after = end-at (class-end c cs t) (omega arith);
+    short = t .short;
+  }
+
+  pub first-row : {k r : ℕ} (c : Class) (cs : List Class)
+      → ClassesStand R E k (c ∷ cs) at → Skipped R 70 (at + 1) r → r ≡ methods-from-row at c
+  unfolding EachClass
+  first-row c cs t s = first-of c (t .classes .0) (class-end c cs t) s
 
   pub no-class : {k : ℕ} → ClassesStand R E k [] at → getD R (at * 4) 0 ≡ 67 → ⊥
   unfolding classes-lines

@@ -13,10 +13,10 @@ use Rattle.language.specs.Typing.{Environment, type-of}
 use Rattle.language.specs.Translation.{Shape, typed-or, class-or}
 use Rattle.language.specs.LookupClasses.{LooksUp}
 use Rattle.language.proofs.Nodes.{head}
+use Rattle.theory.specs.PlainForm.{variable-count}
 use Rattle.plain.specs.Numbers.{most-numbers, node-numbers, nodes-numbers, none, also}
 use Rattle.plain.specs.Emission.{Written, Emitted, NodeEmitted}
 use Rattle.plain.specs.Tasks.{NodeTask, NodesTask, EncodedNodes, LooksUpNodes, ReadyNodes, Ready}
-use Rattle.plain.specs.Tasks.{variable-count}
 use Rattle.plain.proofs.Writing.{written-then, whole}
 use Rattle.plain.proofs.Translated.{t-is-null, t-assign, t-get, t-cast, t-choose}
 use Rattle.plain.proofs.Shapes.{setting-temporaries}

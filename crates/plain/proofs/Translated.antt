@@ -17,12 +17,13 @@ use Rattle.language.specs.Translation.{Shape, position, plain-slot, read-slot, 
 use Rattle.language.specs.Translation.{plain-change, translate, translate-all, translate-arguments, _⊕_}
 use Rattle.language.specs.Translation.{copies, renew, reads, variables, typed-or, typed-all-or, class-or}
 use Rattle.language.specs.Translation.{type-or, parameters-or, temporaries}
+use Rattle.theory.specs.PlainForm.{count-copies, count-reads}
 use Rattle.plain.specs.Numbers.{none, also, nodes-of, nodes-numbers, arguments-numbers, tree-numbers}
 use Rattle.plain.specs.Numbers.{trees-numbers, node-numbers, slot-lines, new-lines, renew-lines}
 use Rattle.plain.specs.Numbers.{change-lines, type-lines, read-lines, ProperAll}
 use Rattle.plain.proofs.Numbers.{n-null, n-slot, n-is-null, n-get, n-cast, n-new, n-assign, n-set}
 use Rattle.plain.proofs.Numbers.{n-call, n-choose, n-block, n-nil, n-cons, n-locals-none, n-locals}
-use Rattle.plain.proofs.Numbers.{n-types, two, n-one, n-copies, c-copies, n-reads, c-reads}
+use Rattle.plain.proofs.Numbers.{n-types, two, n-one, n-copies, n-reads}
 
 module _ (W : World) (γ : Environment) (sh : Shape) where
   pub t-slot : (k : ℕ) → node-numbers W (slot k) γ sh ≡ slot-lines (plain-slot sh k)
@@ -89,7 +90,7 @@ module _ (W : World) (γ : Environment) (sh : Shape) where
   n-renew n d =
       let fs = W .fields (W .root d) in
       let k : count (copies (suc n) (suc (suc n)) fs (cons (slot n) nil)) ≡ length fs + 1 =
-      c-copies (suc n) (suc (suc n)) fs (cons (slot n) nil) in
+      count-copies (suc n) (suc (suc n)) fs (cons (slot n) nil) in
       let e : length fs + 5 ≡ suc (suc (suc (suc (suc (length fs))))) = omega arith in
       simp (
         n-block,
@@ -249,7 +250,7 @@ t-call W γ sh m e es h p =
     let q : trees-numbers (cons act nil)
     ≡ (81 ∷ m ∷ count es ∷ 0 ∷ 75 ∷ (c + 2) ∷ 0 ∷ 0 ∷ 71 ∷ 255 ∷ 0 ∷ 0 ∷ 73 ∷ n ∷ 0 ∷ 0 ∷ [])
     ++ read-lines (n + 1) (count es)
-    = n-one act ∙ simp (n-call, n-cast, n-get, n-slot, n-reads, c-reads, h, two, add-one) in
+    = n-one act ∙ simp (n-call, n-cast, n-get, n-slot, n-reads, count-reads, h, two, add-one) in
     let k : count (translate-arguments W es (a .slots) sh′ (suc n) ⊕ cons act nil) ≡ count es + 1 =
     c-arguments W sh′ es (a .slots) (suc n) (cons act nil) in
     n-block _ _ ∙ rw (

@@ -20,12 +20,12 @@ use Rattle.language.specs.declared.Filled.the-variants as filled
 use Rattle.language.specs.declared.Filled.the-variants.{Done}
 use Rattle.language.specs.Encoded.{RowAt}
 use Rattle.language.specs.ClassTables.{ClassTables}
-use Rattle.language.specs.Layout.{EachMethod, EachClass, FieldsAt, MethodAt, ClassAt, ProgramAt}
+use Rattle.language.specs.Layout.{ClassEnd, EachMethod, EachClass, FieldsAt, MethodAt, ClassAt, ProgramAt}
 use Rattle.language.specs.Layout.{LooksUpProgram}
 use Rattle.form.specs.declared.Formed.{Formed}
 use Rattle.form.specs.declared.Formed.the-variants as formed
 use Rattle.form.specs.declared.Formed.the-variants.{InForm}
-use Rattle.plain.specs.Tasks.{ClassEnd, ProgramTask}
+use Rattle.plain.specs.Tasks.{ProgramTask}
 use Rattle.plain.specs.Numbers.{program-numbers}
 
 -- A refusal with a number on a line, if there is one.

@@ -3,9 +3,7 @@
 use mathlib.Core.Path.{_≡_}
 use Prim.Native.Nat.{ℕ, suc, _+_, _*_, _≤_, _<_}
 use mathlib.Core.Option.{some}
-use mathlib.Core.Bool.{true, false}
-use mathlib.Core.Logic.{_⊎_}
-use mathlib.Core.List.{List, [], _∷_, map}
+use mathlib.Core.List.{List, map}
 use lib.ListN.{length, getD}
 use Rattle.language.specs.Lists.{nth}
 use Rattle.language.specs.Frames.{opened}
@@ -23,8 +21,10 @@ use Rattle.language.specs.Typing.{Environment, fresh-slot, method-environment, 
 use Rattle.language.specs.Typing.{type-all}
 use Rattle.language.specs.Translation.{Shape, plain-slot, typed-or, typed-all-or, class-or, variables}
 use Rattle.language.specs.LookupClasses.{LooksUp}
-use Rattle.language.specs.Layout.{EachMethod, EachClass, FieldsAt, MethodAt, ProgramAt, LooksUpProgram}
+use Rattle.language.specs.Layout.{EachMethod, EachClass, ClassEnd, FieldsAt, MethodAt, ProgramAt}
+use Rattle.language.specs.Layout.{LooksUpProgram}
 use Rattle.language.specs.Layout.{body-row, methods-from-row}
+use Rattle.theory.specs.PlainForm.{variable-count}
 use Rattle.plain.specs.Numbers.{most-numbers, node-numbers, Proper, ProperAll, Nodes, methods-numbers}
 use Rattle.plain.specs.Numbers.{class-numbers, classes-numbers, program-numbers, none, also}
 
@@ -102,12 +102,6 @@ module _ (P : List Class) where
   ReadyNodes none v = Unit {0}
   ReadyNodes (also e γ es) v = Ready e γ v × ReadyNodes es v
 
--- How many of a shape's slots are variables.
-unfoldable pub variable-count : Shape → ℕ
-variable-count [] = 0
-variable-count (true ∷ sh) = suc (variable-count sh)
-variable-count (false ∷ sh) = variable-count sh
-
 -- The rows and tables that every body's translation goes by.
 pub record Lent (P : List Class) (R T C : List ℕ) : Type 0 where
   pub members : Members P R T
@@ -175,11 +169,6 @@ pub record ClassReady (P : List Class) (E R C : List ℕ) (k : ℕ) (c : Class) 
   pub line : RowAt R r C-class (kind-number (c .kind)) (c .super)
   pub fields : FieldsAt R (c .fields) (r + 1)
   pub methods : EachMethod (MethodReady P E R C) (c .methods) k (methods-from-row r c)
-
--- Row r is a C line or the S line.
-pub record ClassEnd (R : List ℕ) (r : ℕ) : Type 0 where
-  pub within : r * 4 + 3 < length R
-  pub letter : (getD R (r * 4) 0 ≡ 67) ⊎ (getD R (r * 4) 0 ≡ 83)
 
 -- All that the translation of methods, of a class and of classes goes by.
 pub record MethodsTask (P : List Class) (E : List ℕ) (k : ℕ) (ms : List Declaration) (R T C : List ℕ)

@@ -36,7 +36,7 @@ use Rattle.theory.specs.Lookups.{well-formed-laws}
 record Distinct (fs : List Field) : Type 0 where
   found : (i : ℕ) (f : Field) → nth fs i ≡ some f → place (f .name) fs ≡ some i
 
-place-last : (f : Field) (fs : List Field) → place (f .name) fs ≡ none
+pub place-last : (f : Field) (fs : List Field) → place (f .name) fs ≡ none
     → place (f .name) (fs ++ (f ∷ [])) ≡ some (length fs)
 unfolding place
 place-last f [] e = rw (eq-eqb (f .name) (f .name) refl)

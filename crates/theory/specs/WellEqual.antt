@@ -175,7 +175,7 @@ extends-test root-plain = refl
 extends-test state-root = refl
 extends-test state-state = refl
 
-type-same : (t : DeclaredType) → same-type t t ≡ true
+pub type-same : (t : DeclaredType) → same-type t t ≡ true
 type-same bool = refl
 type-same (class c) = eq-eqb c c refl
 

@@ -2,7 +2,7 @@
 use Prim.Native.Nat.{_-_}
 use lib.ListN.{set}
 use borrow.Author.Needs.{needs}
-use Rattle.headings.proofs.Sets.{member-mask}
+use Rattle.language.proofs.Effects.{member-mask}
 use Rattle.headings.proofs.is_member.Statement.{statement}
 use Rattle.headings.proofs.is_member.Tie as tie
 
