@@ -3,23 +3,23 @@
 use mathlib.Core.Path.{_≡_, refl, sym, ap, _∙_}
 use mathlib.Core.Logic.{_⊎_, inl, inr, _≢_}
 use mathlib.Core.List.{List, [], _∷_, _++_}
-use Prim.Native.Nat.{ℕ, zero, suc, _+_, _-_, _*_, _≤_, _<_}
+use Prim.Native.Nat.{ℕ, zero, suc, _+_, _*_, _≤_, _<_}
 use native.Mathlib.Omega.{arith}
 use lib.ListN.{length, getD, length-append}
 use Rattle.language.specs.Rows.{Letter, code, T-true, L-false, N-null, I-slot, Z-is-null, G-get, K-cast}
 use Rattle.language.specs.Rows.{W-new, R-change, A-assign, U-set, Q-call, J-choose, B-block}
-use Rattle.language.specs.Tree.{Expr, size, Field, Class}
+use Rattle.language.specs.Tree.{Expr, literal-true, literal-false, literal-null, slot, is-null, get, cast}
+use Rattle.language.specs.Tree.{new, change, assign, set, call, choose, block, size, Field, Class}
 use Rattle.language.specs.Program.{world}
 use Rattle.language.specs.Typing.{Environment}
 use Rattle.language.specs.Translation.{Shape, plain-slot, translate}
-use Rattle.language.proofs.Nodes.{EachTree, head, by-row}
+use Rattle.language.proofs.Nodes.{letter-of, EachTree, head, by-row}
 use Rattle.plain.specs.Numbers.{most-numbers, node-numbers, how-many, rows-taken, slot-lines, new-lines}
 use Rattle.plain.specs.Numbers.{change-lines, renew-lines, renew-head, copy-lines, head-length}
 use Rattle.plain.specs.Emission.{Written, Emitted, SomeChange, ChangeWritten, SomeNode, SomeCast}
 use Rattle.plain.specs.Emission.{SomeSet, SomeCall, SomeBlock, SomeNodes, NodeEmitted, CastEmitted}
 use Rattle.plain.specs.Emission.{SetEmitted, CallEmitted, BlockEmitted, NodesEmitted}
 use Rattle.plain.specs.Tasks.{NodeTask}
-use Rattle.plain.proofs.Letters.{rest-block}
 use Rattle.plain.proofs.Writing.{written-then, whole}
 use Rattle.plain.proofs.Numbers.{n-true, n-false, n-null}
 use Rattle.plain.proofs.Translated.{t-slot, t-is-null, t-assign, t-get, t-new, t-choose, t-change}
@@ -27,6 +27,24 @@ use Rattle.plain.proofs.Tasks.{node-row, slot-slot, new-class, change-s
 use Rattle.plain.proofs.Tasks.{assign-child, get-name, get-child, choose-nodes, choose-room}
 use Rattle.plain.proofs.Shapes.{slot-at}
 use Rattle.plain.proofs.Lines.{copies-length}
+
+-- none of the other letters: a block
+rest-block : (e : Expr) → (n : ℕ) → n ≡ code (letter-of e) → n ≢ 84 → n ≢ 76 → n ≢ 78 → n ≢ 73
+    → n ≢ 90 → n ≢ 71 → n ≢ 75 → n ≢ 87 → n ≢ 82 → n ≢ 65 → n ≢ 85 → n ≢ 81 → n ≢ 74 → n ≡ 66
+rest-block literal-true n z h0 h1 h2 h3 h4 h5 h6 h7 h8 h9 h10 h11 h12 = absurd (h0 z)
+rest-block literal-false n z h0 h1 h2 h3 h4 h5 h6 h7 h8 h9 h10 h11 h12 = absurd (h1 z)
+rest-block literal-null n z h0 h1 h2 h3 h4 h5 h6 h7 h8 h9 h10 h11 h12 = absurd (h2 z)
+rest-block (slot k) n z h0 h1 h2 h3 h4 h5 h6 h7 h8 h9 h10 h11 h12 = absurd (h3 z)
+rest-block (is-null e) n z h0 h1 h2 h3 h4 h5 h6 h7 h8 h9 h10 h11 h12 = absurd (h4 z)
+rest-block (get f e) n z h0 h1 h2 h3 h4 h5 h6 h7 h8 h9 h10 h11 h12 = absurd (h5 z)
+rest-block (cast c e) n z h0 h1 h2 h3 h4 h5 h6 h7 h8 h9 h10 h11 h12 = absurd (h6 z)
+rest-block (new c) n z h0 h1 h2 h3 h4 h5 h6 h7 h8 h9 h10 h11 h12 = absurd (h7 z)
+rest-block (change k d) n z h0 h1 h2 h3 h4 h5 h6 h7 h8 h9 h10 h11 h12 = absurd (h8 z)
+rest-block (assign k e) n z h0 h1 h2 h3 h4 h5 h6 h7 h8 h9 h10 h11 h12 = absurd (h9 z)
+rest-block (set f e e′) n z h0 h1 h2 h3 h4 h5 h6 h7 h8 h9 h10 h11 h12 = absurd (h10 z)
+rest-block (call m e es) n z h0 h1 h2 h3 h4 h5 h6 h7 h8 h9 h10 h11 h12 = absurd (h11 z)
+rest-block (choose e x y) n z h0 h1 h2 h3 h4 h5 h6 h7 h8 h9 h10 h11 h12 = absurd (h12 z)
+rest-block (block ts es) n z h0 h1 h2 h3 h4 h5 h6 h7 h8 h9 h10 h11 h12 = z
 
 module _ {R T C S : List ℕ} {at vars next place : ℕ} where
   -- a node whose letter is known: it is enough to know what follows of each tree of the letter

@@ -2,7 +2,6 @@ pub mod Writing
 pub mod Lines
 pub mod Numbers
 pub mod Translated
-pub mod Letters
 pub mod Shapes
 pub mod Tasks
 pub mod Nodes

@@ -11,26 +11,27 @@ use Rattle.language.specs.Tree.{Declaration, Class, method-lines, heading-lines
 use Rattle.language.specs.Tree.{classes-lines}
 use Rattle.language.specs.Layout.{EachMethod, EachClass, ClassEnd, MethodAt, ClassAt, effects-row, body-row}
 use Rattle.language.specs.Layout.{methods-from-row}
+use Rattle.language.proofs.Nodes.{letter-of, head, no-heading}
+use Rattle.language.proofs.Tables.{size-positive}
 use Rattle.layout.specs.HeadingRuns.{parameter-lines, effect-lines, end-letter, methods-first, fields-run}
 use Rattle.layout.specs.HeadingRuns.{classes-first}
 use Rattle.plain.specs.Tasks.{MethodReady, ClassReady, MethodsTask, ClassesTask}
 use Rattle.plain.specs.Emission.{Skipped, SomeFieldLines}
 use Rattle.plain.specs.Bounds.{MethodsStand, ClassesStand, SomeMethodsStand, SomeClassesStand}
 use Rattle.plain.specs.Bounds.{MethodsPassed}
-use Rattle.plain.proofs.Letters.{letter-of, no-heading, node-at, node-ends, size-positive}
 use Rattle.plain.proofs.Skips.{skipped-at}
 
 pub method-rows : {R E : List ℕ} {m : Declaration} {r x b : ℕ} → MethodAt R E m r → Skipped R 80 (r + 1) x
     → Skipped R 88 x b
     → (x ≡ effects-row r m) × (b ≡ body-row r m)
 method-rows {R} {E} {m} {r} {x} {b} t s u =
-    let n = node-at R E (body-row r m) (m .body) (t .body) in
+    let n = head (m .body) (t .body) in
     let o = no-heading (m .body) in
     let z : x ≡ effects-row r m = skipped-at s (parameter-lines R (m .parameters) (m .effects) r
-    (code (letter-of (m .body))) (t .parameters) (t .effects) (n .0) (n .1) (o .0)) in (
+    (code (letter-of (m .body))) (t .parameters) (t .effects) (n .row) (n .letter) (o .0)) in (
       z,
       skipped-at (rw z at u) (effect-lines R (m .parameters) (m .effects) r (code (letter-of (m .body)))
-          (t .parameters) (t .effects) (n .0) (n .1) (o .1)),
+          (t .parameters) (t .effects) (n .row) (n .letter) (o .1)),
     )
 
 pub lines-positive : (m : Declaration) → 1 ≤ method-lines m
@@ -54,9 +55,10 @@ module _ {R E : List ℕ} {at : ℕ} where
       → (b < length E) × (getD E b 0 ≡ at + method-lines m)
   unfolding EachMethod method-lines heading-lines
   stand-first m ms t x b s u =
-      let y = t .methods .0 in let z = method-rows y s u .1 in let n =
-      node-ends R E (body-row at m) (m .body) (y .body) in
-      rw z (n .0, n .1 ∙ omega arith)
+      let y = t .methods .0 in
+      let z = method-rows y s u .1 in
+      let n = head (m .body) (y .body) in
+      rw z (n .in-ends, n .end ∙ omega arith)
 
   stand-rest : {k : ℕ} (m : Declaration) (ms : List Declaration) → MethodsStand R E k (m ∷ ms) at → (b : ℕ)
       → b ≡ at + method-lines m → MethodsStand R E k ms b

@@ -1,6 +1,5 @@
 -- `headings::check_headings` meets its contract. Assumes nothing.
 use mathlib.Core.Path.{_∙_}
-use Prim.Native.Nat.{_-_}
 use lib.ListN.{length-set}
 use borrow.Author.Needs.{needs}
 use Rattle.headings.proofs.Whole.{read-ready, classes-ready}
@@ -14,19 +13,37 @@ slice-write-above : tie.Need-slice-write-above
 slice-write-above c = search needs
 
 read-classes-requires : tie.Need-read-classes-requires
-read-classes-requires c κs = read-ready (c .before .before .before .before .before .before .before .before .before .pre) (c .before .before .before .clear-object .ensures)
+read-classes-requires c κs =
+    let start = c .before .before .before .before .before .before .before .before .before in
+    read-ready (start .pre) (c .before .before .before .clear-object .ensures)
 
 check-classes-requires : tie.Need-check-classes-requires
-check-classes-requires c κs = classes-ready (c .before .before .before .before .before .before .before .before .before .before .before .before .before .before .pre) (c .before .before .before .before .before .before .before .before .clear-object .ensures) (c .before .before .before .before .read-classes .result) (c .before .before .before .before .read-classes .last .1 .1 .0) (c .before .before .before .before .read-classes .ensures)
+check-classes-requires c κs =
+    let at-read-classes = c .before .before .before .before in
+    let at-clear-object = at-read-classes .before .before .before .before in
+    let start = at-clear-object .before .before .before .before .before .before in
+    classes-ready (start .pre) (at-clear-object .clear-object .ensures)
+    (at-read-classes .read-classes .result) (at-read-classes .read-classes .last .1 .1 .0)
+    (at-read-classes .read-classes .ensures)
 
 same-length : tie.Need-same-length
 same-length c = search needs
 
 same-length-2 : tie.Need-same-length-2
-same-length-2 c = c .before .before .before .before .check-classes .kept .1 .1 .1 .0 ∙ length-set (c .before .before .before .before .before .before .before .before .before .before .before .before .before .before .before .before .before .before .before .args .above .now) 0 0
+same-length-2 c =
+    let at-check-classes = c .before .before .before .before in
+    let start = at-check-classes .before .before .before .before .before .before .before .before .before
+    .before .before .before .before .before .before in
+    at-check-classes .check-classes .kept .1 .1 .1 .0 ∙ length-set (start .args .above .now) 0 0
 
 returns : tie.Need-returns
-returns c = λ w. c .before .before .before .before .check-classes .ensures (classes-ready w (c .before .before .before .before .before .before .before .before .before .before .before .before .before .clear-object .ensures) (c .before .before .before .before .before .before .before .before .before .read-classes .result) (c .before .before .before .before .before .before .before .before .before .read-classes .last .1 .1 .0) (c .before .before .before .before .before .before .before .before .before .read-classes .ensures))
+returns c =
+    let at-check-classes = c .before .before .before .before in
+    let at-read-classes = at-check-classes .before .before .before .before .before in
+    let at-clear-object = at-read-classes .before .before .before .before in
+    λ w. at-check-classes .check-classes .ensures
+    (classes-ready w (at-clear-object .clear-object .ensures) (at-read-classes .read-classes .result)
+    (at-read-classes .read-classes .last .1 .1 .0) (at-read-classes .read-classes .ensures))
 
 pub check-headings-spec : {M : Type 1} → statement M
 check-headings-spec =

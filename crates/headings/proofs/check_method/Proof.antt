@@ -1,10 +1,11 @@
 -- `headings::check_method` meets its contract. Assumes nothing.
 use mathlib.Core.Path.{refl}
-use Prim.Native.Nat.{_-_}
 use native.Mathlib.Omega.{arith}
 use borrow.Author.Needs.{needs}
 use Rattle.headings.proofs.Lines.{method-parameters, method-effects}
-use Rattle.headings.proofs.Entering.{method-here, method-counted, method-types, method-effects-ready, method-refused, method-parameters-refused, method-effects-refused, method-entered, method-working}
+use Rattle.headings.proofs.Entering.{method-here, method-counted, method-types, method-effects-ready}
+use Rattle.headings.proofs.Entering.{method-refused, method-parameters-refused, method-effects-refused}
+use Rattle.headings.proofs.Entering.{method-entered, method-working}
 use Rattle.headings.proofs.Checks.{not-both}
 use Rattle.headings.proofs.check_method.Statement.{statement}
 use Rattle.headings.proofs.check_method.Tie as tie
@@ -19,13 +20,20 @@ add-count-rows-2 : tie.Need-add-count-rows-2
 add-count-rows-2 c = search needs
 
 add-count-rows-3 : tie.Need-add-count-rows-3
-add-count-rows-3 c = (let v = method-effects (method-here (c .before .before .before .pre)) (c .count-rows .result) (c .count-rows .ensures) in omega (arith, v .1 .inside, c .before .before .before .pre .standing .short))
+add-count-rows-3 c =
+    (let v = method-effects (method-here (c .before .before .before .pre)) (c .count-rows .result)
+    (c .count-rows .ensures) in omega (arith, v .1 .inside, c .before .before .before .pre .standing .short))
 
 count-rows-requires-2 : tie.Need-count-rows-requires-2
-count-rows-requires-2 c κs = method-effects (method-here (c .before .before .before .pre)) (c .count-rows .result) (c .count-rows .ensures)
+count-rows-requires-2 c κs =
+    method-effects (method-here (c .before .before .before .pre)) (c .count-rows .result)
+    (c .count-rows .ensures)
 
 method-fault-requires : tie.Need-method-fault-requires
-method-fault-requires c κs = method-counted (c .before .before .before .before .before .pre) (c .before .before .count-rows .result) (c .before .count-rows2 .result) (c .before .before .count-rows .ensures) (c .before .count-rows2 .ensures)
+method-fault-requires c κs =
+    let start = c .before .before .before .before .before in
+    method-counted (start .pre) (c .before .before .count-rows .result) (c .before .count-rows2 .result)
+    (c .before .before .count-rows .ensures) (c .before .count-rows2 .ensures)
 
 add-t18 : tie.Need-add-t18
 add-t18 c = search needs
@@ -37,13 +45,26 @@ same-length : tie.Need-same-length
 same-length c = search needs
 
 returns : tie.Need-returns
-returns c = λ w. (method-refused w (c .before .before .before .before .count-rows .result) (c .before .before .before .count-rows2 .result) (c .before .before .before .before .count-rows .ensures) (c .before .before .before .count-rows2 .ensures) (c .before .method-fault .result) (c .before .method-fault .ensures) (c .if1 .taken), λ e. not-both e refl)
+returns c =
+    let at-count-rows = c .before .before .before .before in
+    λ w. (
+      method-refused w (at-count-rows .count-rows .result)
+          (c .before .before .before .count-rows2 .result) (at-count-rows .count-rows .ensures)
+          (c .before .before .before .count-rows2 .ensures) (c .before .method-fault .result)
+          (c .before .method-fault .ensures) (c .if1 .taken),
+      λ e. not-both e refl,
+    )
 
 add-check-parameters : tie.Need-add-check-parameters
 add-check-parameters c = search needs
 
 check-parameters-requires : tie.Need-check-parameters-requires
-check-parameters-requires c κs = method-types (c .before .before .before .before .before .before .before .pre) (c .before .before .before .before .count-rows .result) (c .before .before .before .count-rows2 .result) (c .before .before .before .before .count-rows .ensures) (c .before .before .before .count-rows2 .ensures)
+check-parameters-requires c κs =
+    let at-count-rows = c .before .before .before .before in
+    let start = at-count-rows .before .before .before in
+    method-types (start .pre) (at-count-rows .count-rows .result)
+    (c .before .before .before .count-rows2 .result) (at-count-rows .count-rows .ensures)
+    (c .before .before .before .count-rows2 .ensures)
 
 enum-told : tie.Need-enum-told
 enum-told c = search needs
@@ -55,16 +76,39 @@ same-length-2 : tie.Need-same-length-2
 same-length-2 c = search needs
 
 returns-2 : tie.Need-returns-2
-returns-2 c = λ w. (method-parameters-refused w (c .before .before .before .before .before .before .before .count-rows .result) (c .before .before .before .before .before .before .count-rows2 .result) (c .before .before .before .before .before .before .before .count-rows .ensures) (c .before .before .before .before .before .before .count-rows2 .ensures) (c .before .before .before .before .method-fault .result) (c .before .before .before .before .method-fault .ensures) (c .before .before .before .if1 .left) (c .before .before .check-parameters .result) (c .before .before .check-parameters .ensures) (c .enum-told2 .given .0 .0) (c .enum-told2 .given .0 .1 .0) (c .enum-told2 .given .1), λ e. not-both e (c .enum-told2 .given .1))
+returns-2 c =
+    let at-method-fault = c .before .before .before .before in
+    let at-count-rows2 = at-method-fault .before .before in
+    let at-count-rows = at-count-rows2 .before in
+    λ w. (
+      method-parameters-refused w (at-count-rows .count-rows .result)
+          (at-count-rows2 .count-rows2 .result) (at-count-rows .count-rows .ensures)
+          (at-count-rows2 .count-rows2 .ensures) (at-method-fault .method-fault .result)
+          (at-method-fault .method-fault .ensures) (c .before .before .before .if1 .left)
+          (c .before .before .check-parameters .result) (c .before .before .check-parameters .ensures)
+          (c .enum-told2 .given .0 .0) (c .enum-told2 .given .0 .1 .0) (c .enum-told2 .given .1),
+      λ e.
+          not-both e (c .enum-told2 .given .1),
+    )
 
 add-check-effects : tie.Need-add-check-effects
 add-check-effects c = search needs
 
 add-check-effects-2 : tie.Need-add-check-effects-2
-add-check-effects-2 c = (let v = method-effects (method-here (c .before .before .before .before .before .before .before .before .before .before .before .pre)) (c .before .before .before .before .before .before .before .before .count-rows .result) (c .before .before .before .before .before .before .before .before .count-rows .ensures) in omega (arith, v .1 .inside, c .before .before .before .before .before .before .before .before .before .before .before .pre .standing .short))
+add-check-effects-2 c =
+    let at-count-rows = c .before .before .before .before .before .before .before .before in
+    let start = at-count-rows .before .before .before in
+    (let v = method-effects (method-here (start .pre)) (at-count-rows .count-rows .result)
+    (at-count-rows .count-rows .ensures) in omega (arith, v .1 .inside, start .pre .standing .short))
 
 check-effects-requires : tie.Need-check-effects-requires
-check-effects-requires c κs = method-effects-ready (c .before .before .before .before .before .before .before .before .before .before .before .pre) (c .before .before .before .before .before .before .before .before .count-rows .result) (c .before .before .before .before .before .before .before .count-rows2 .result) (c .before .before .before .before .before .before .before .before .count-rows .ensures) (c .before .before .before .before .before .before .before .count-rows2 .ensures)
+check-effects-requires c κs =
+    let at-count-rows2 = c .before .before .before .before .before .before .before in
+    let at-count-rows = at-count-rows2 .before in
+    let start = at-count-rows .before .before .before in
+    method-effects-ready (start .pre) (at-count-rows .count-rows .result)
+    (at-count-rows2 .count-rows2 .result) (at-count-rows .count-rows .ensures)
+    (at-count-rows2 .count-rows2 .ensures)
 
 enum-told-3 : tie.Need-enum-told-3
 enum-told-3 c = search needs
@@ -76,7 +120,22 @@ same-length-3 : tie.Need-same-length-3
 same-length-3 c = search needs
 
 returns-3 : tie.Need-returns-3
-returns-3 c = λ w. (method-effects-refused w (c .before .before .before .before .before .before .before .before .before .before .before .count-rows .result) (c .before .before .before .before .before .before .before .before .before .before .count-rows2 .result) (c .before .before .before .before .before .before .before .before .before .before .before .count-rows .ensures) (c .before .before .before .before .before .before .before .before .before .before .count-rows2 .ensures) (c .before .before .before .before .before .before .before .before .method-fault .result) (c .before .before .before .before .before .before .before .before .method-fault .ensures) (c .before .before .before .before .before .before .before .if1 .left) (c .before .before .before .before .before .before .check-parameters .result) (c .before .before .before .before .before .before .check-parameters .ensures) (c .before .before .before .before .enum-told .given .1) (c .before .before .check-effects .result) (c .before .before .check-effects .ensures), λ e. not-both e (c .enum-told4 .given .1))
+returns-3 c =
+    let at-enum-told = c .before .before .before .before in
+    let at-check-parameters = at-enum-told .before .before in
+    let at-if1 = at-check-parameters .before in
+    let at-method-fault = at-if1 .before in
+    let at-count-rows2 = at-method-fault .before .before in
+    let at-count-rows = at-count-rows2 .before in
+    λ w. (
+      method-effects-refused w (at-count-rows .count-rows .result) (at-count-rows2 .count-rows2 .result)
+          (at-count-rows .count-rows .ensures) (at-count-rows2 .count-rows2 .ensures)
+          (at-method-fault .method-fault .result) (at-method-fault .method-fault .ensures) (at-if1 .if1 .left)
+          (at-check-parameters .check-parameters .result) (at-check-parameters .check-parameters .ensures)
+          (at-enum-told .enum-told .given .1) (c .before .before .check-effects .result)
+          (c .before .before .check-effects .ensures),
+      λ e. not-both e (c .enum-told4 .given .1),
+    )
 
 mul-name : tie.Need-mul-name
 mul-name c = search needs
@@ -115,7 +174,23 @@ same-length-4 : tie.Need-same-length-4
 same-length-4 c = search needs
 
 returns-4 : tie.Need-returns-4
-returns-4 c = λ w. (method-entered w (c .before .before .before .before .before .before .before .before .before .before .before .before .count-rows .result) (c .before .before .before .before .before .before .before .before .before .before .before .count-rows2 .result) (c .before .before .before .before .before .before .before .before .before .before .before .before .count-rows .ensures) (c .before .before .before .before .before .before .before .before .before .before .before .count-rows2 .ensures) (c .before .before .before .before .before .before .before .before .before .method-fault .result) (c .before .before .before .before .before .before .before .before .before .method-fault .ensures) (c .before .before .before .before .before .before .before .before .if1 .left) (c .before .before .before .before .before .before .before .check-parameters .result) (c .before .before .before .before .before .before .before .check-parameters .ensures) (c .before .before .before .before .before .enum-told .given .1) (c .before .before .before .check-effects .result) (c .before .before .before .check-effects .ensures) (c .before .enum-told3 .given .1), λ e. method-working w)
+returns-4 c =
+    let at-enum-told = c .before .before .before .before .before in
+    let at-check-parameters = at-enum-told .before .before in
+    let at-if1 = at-check-parameters .before in
+    let at-method-fault = at-if1 .before in
+    let at-count-rows2 = at-method-fault .before .before in
+    let at-count-rows = at-count-rows2 .before in
+    λ w. (
+      method-entered w (at-count-rows .count-rows .result) (at-count-rows2 .count-rows2 .result)
+          (at-count-rows .count-rows .ensures) (at-count-rows2 .count-rows2 .ensures)
+          (at-method-fault .method-fault .result) (at-method-fault .method-fault .ensures) (at-if1 .if1 .left)
+          (at-check-parameters .check-parameters .result) (at-check-parameters .check-parameters .ensures)
+          (at-enum-told .enum-told .given .1) (c .before .before .before .check-effects .result)
+          (c .before .before .before .check-effects .ensures) (c .before .enum-told3 .given .1),
+      λ e.
+          method-working w,
+    )
 
 pub check-method-spec : {M : Type 1} → statement M
 check-method-spec =

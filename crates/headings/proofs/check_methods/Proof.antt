@@ -4,14 +4,17 @@ use Prim.Native.Nat.{_-_}
 use native.Mathlib.Omega.{arith}
 use lib.ListN.{length}
 use borrow.Author.Needs.{needs}
-use Rattle.headings.proofs.Entering.{Entering, entering-start, entering-within, entering-ready, entering-here, entering-grows, entering-refused, entering-step, entering-end, entering-done}
+use Rattle.headings.proofs.Entering.{Entering, entering-start, entering-within, entering-ready}
+use Rattle.headings.proofs.Entering.{entering-here, entering-grows, entering-refused, entering-step}
+use Rattle.headings.proofs.Entering.{entering-end, entering-done}
 use Rattle.headings.proofs.Checks.{not-both}
 use Rattle.headings.specs.Ready.{MethodsReady}
 use Rattle.headings.proofs.check_methods.Statement.{statement}
 use Rattle.headings.proofs.check_methods.Tie as tie
 
 abbrev Inv-loop : tie.InvT-loop
-Inv-loop rows ends tables₀ r base first count at₀ tables at = (length tables ≡ length tables₀) × ((w : MethodsReady rows ends tables₀ r base first count) → Entering w tables at)
+Inv-loop rows ends tables₀ r base first count at₀ tables at = (length tables ≡ length tables₀)
+    × ((w : MethodsReady rows ends tables₀ r base first count) → Entering w tables at)
 
 abbrev μ-loop : tie.MeasureT-loop
 μ-loop rows ends tables₀ r base first count at₀ tables at = length rows - at
@@ -20,16 +23,27 @@ loop-holds : tie.Need-loop-holds Inv-loop μ-loop
 loop-holds c = (refl, λ w. entering-start w)
 
 mul-if1 : tie.Need-mul-if1 Inv-loop μ-loop
-mul-if1 c = (let s = entering-within (c .before .before .before .before .pre) (c .loop .inv .1 (c .before .before .before .before .pre)) in omega (arith, s, c .before .before .before .before .pre .standing .short))
+mul-if1 c =
+    let start = c .before .before .before .before in
+    (let s = entering-within (start .pre) (c .loop .inv .1 (start .pre)) in
+    omega (arith, s, start .pre .standing .short))
 
 mul-if1-2 : tie.Need-mul-if1-2 Inv-loop μ-loop
-mul-if1-2 c = (let s = entering-within (c .before .before .before .before .pre) (c .loop .inv .1 (c .before .before .before .before .pre)) in omega (arith, s, c .before .before .before .before .pre .standing .short))
+mul-if1-2 c =
+    let start = c .before .before .before .before in
+    (let s = entering-within (start .pre) (c .loop .inv .1 (start .pre)) in
+    omega (arith, s, start .pre .standing .short))
 
 shared-slice-read-if1 : tie.Need-shared-slice-read-if1 Inv-loop μ-loop
-shared-slice-read-if1 c = (let s = entering-within (c .before .before .before .before .before .pre) (c .before .loop .inv .1 (c .before .before .before .before .before .pre)) in omega (arith, s, c .before .before .before .before .before .pre .standing .short))
+shared-slice-read-if1 c =
+    let start = c .before .before .before .before .before in
+    (let s = entering-within (start .pre) (c .before .loop .inv .1 (start .pre)) in
+    omega (arith, s, start .pre .standing .short))
 
 check-method-requires : tie.Need-check-method-requires Inv-loop μ-loop
-check-method-requires c κs = entering-ready (c .before .before .before .before .before .before .before .pre) (c .before .before .before .loop .inv .1 (c .before .before .before .before .before .before .before .pre)) (c .before .if1 .taken)
+check-method-requires c κs =
+    let start = c .before .before .before .before .before .before .before in
+    entering-ready (start .pre) (c .before .before .before .loop .inv .1 (start .pre)) (c .before .if1 .taken)
 
 enum-told : tie.Need-enum-told Inv-loop μ-loop
 enum-told c = search needs
@@ -38,25 +52,61 @@ enum-told-2 : tie.Need-enum-told-2 Inv-loop μ-loop
 enum-told-2 c = search needs
 
 same-length : tie.Need-same-length Inv-loop μ-loop
-same-length c = c .before .before .before .before .check-method .kept .1 .0 ∙ c .before .before .before .before .before .before .before .before .loop .inv .0
+same-length c =
+    let at-check-method = c .before .before .before .before in
+    let at-loop = at-check-method .before .before .before .before in
+    at-check-method .check-method .kept .1 .0 ∙ at-loop .loop .inv .0
 
 returns : tie.Need-returns Inv-loop μ-loop
-returns c = λ w. (entering-refused w (c .before .before .before .before .before .before .before .before .loop .inv .1 w) (c .before .before .before .before .before .before .if1 .taken) (c .before .before .before .before .check-method .result) (c .before .before .before .before .check-method .last .1 .0) (c .before .before .before .before .check-method .ensures) (c .enum-told2 .given .0 .0) (c .enum-told2 .given .0 .1 .0) (c .enum-told2 .given .1), λ e. not-both e (c .enum-told2 .given .1))
+returns c =
+    let at-check-method = c .before .before .before .before in
+    let at-if1 = at-check-method .before .before in
+    let at-loop = at-if1 .before .before in
+    λ w. (
+      entering-refused w (at-loop .loop .inv .1 w) (at-if1 .if1 .taken)
+          (at-check-method .check-method .result) (at-check-method .check-method .last .1 .0)
+          (at-check-method .check-method .ensures) (c .enum-told2 .given .0 .0) (c .enum-told2 .given .0 .1 .0)
+          (c .enum-told2 .given .1),
+      λ e. not-both e (c .enum-told2 .given .1),
+    )
 
 skip-method-requires : tie.Need-skip-method-requires Inv-loop μ-loop
-skip-method-requires c κs = entering-here (c .before .before .before .before .before .before .before .before .before .before .before .before .pre) (c .before .before .before .before .before .before .before .before .loop .inv .1 (c .before .before .before .before .before .before .before .before .before .before .before .before .pre)) (c .before .before .before .before .before .before .if1 .taken)
+skip-method-requires c κs =
+    let at-if1 = c .before .before .before .before .before .before in
+    let at-loop = at-if1 .before .before in
+    let start = at-loop .before .before .before .before in
+    entering-here (start .pre) (at-loop .loop .inv .1 (start .pre)) (at-if1 .if1 .taken)
 
 loop-less : tie.Need-loop-less Inv-loop μ-loop
-loop-less c = (let g = entering-grows (c .before .before .before .before .before .before .before .before .before .before .before .before .before .pre) (c .before .before .before .before .before .before .before .before .before .loop .inv .1 (c .before .before .before .before .before .before .before .before .before .before .before .before .before .pre)) (c .before .before .before .before .before .before .before .if1 .taken) (c .skip-method .result) (c .skip-method .ensures) in let s = entering-within (c .before .before .before .before .before .before .before .before .before .before .before .before .before .pre) (c .before .before .before .before .before .before .before .before .before .loop .inv .1 (c .before .before .before .before .before .before .before .before .before .before .before .before .before .pre)) in omega (arith, g, s))
+loop-less c =
+    let at-if1 = c .before .before .before .before .before .before .before in
+    let at-loop = at-if1 .before .before in
+    let start = at-loop .before .before .before .before in
+    (let g = entering-grows (start .pre) (at-loop .loop .inv .1 (start .pre)) (at-if1 .if1 .taken)
+    (c .skip-method .result) (c .skip-method .ensures) in let s =
+    entering-within (start .pre) (at-loop .loop .inv .1 (start .pre)) in omega (arith, g, s))
 
 loop-again : tie.Need-loop-again Inv-loop μ-loop
-loop-again c = (c .before .before .before .before .before .check-method .kept .1 .0 ∙ c .before .before .before .before .before .before .before .before .before .loop .inv .0, λ w. entering-step w (c .before .before .before .before .before .before .before .before .before .loop .inv .1 w) (c .before .before .before .before .before .before .before .if1 .taken) (c .before .before .before .before .before .check-method .result) (c .before .before .before .before .before .check-method .last .1 .0) (c .before .before .before .before .before .check-method .ensures) (c .before .enum-told .given .1) (c .skip-method .result) (c .skip-method .ensures))
+loop-again c =
+    let at-check-method = c .before .before .before .before .before in
+    let at-if1 = at-check-method .before .before in
+    let at-loop = at-if1 .before .before in (
+      at-check-method .check-method .kept .1 .0 ∙ at-loop .loop .inv .0,
+      λ w.
+          entering-step w (at-loop .loop .inv .1 w) (at-if1 .if1 .taken) (at-check-method .check-method .result)
+          (at-check-method .check-method .last .1 .0) (at-check-method .check-method .ensures)
+          (c .before .enum-told .given .1) (c .skip-method .result) (c .skip-method .ensures),
+    )
 
 same-length-2 : tie.Need-same-length-2 Inv-loop μ-loop
 same-length-2 c = c .before .before .loop .inv .0
 
 returns-2 : tie.Need-returns-2 Inv-loop μ-loop
-returns-2 c = λ w. (entering-end w (c .before .before .loop .inv .1 w) (c .if1 .left), λ e. entering-done w (c .before .before .loop .inv .1 w) (c .if1 .left))
+returns-2 c = λ w. (
+  entering-end w (c .before .before .loop .inv .1 w) (c .if1 .left),
+  λ e. entering-done w
+      (c .before .before .loop .inv .1 w) (c .if1 .left),
+)
 
 pub check-methods-spec : {M : Type 1} → statement M
 check-methods-spec =

@@ -1,5 +1,4 @@
 -- `headings::class_bit` meets its contract. Assumes nothing.
-use Prim.Native.Nat.{_-_}
 use borrow.Author.Needs.{needs}
 use Rattle.headings.proofs.Sets.{bit-of-none, bit-of-class}
 use Rattle.headings.proofs.class_bit.Statement.{statement}

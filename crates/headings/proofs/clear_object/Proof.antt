@@ -20,7 +20,8 @@ mul-tables : tie.Need-mul-tables Inv-loop μ-loop
 mul-tables c = omega (arith, c .before .loop .inv .1 .long, c .before .before .pre, c .loop-test .taken)
 
 slice-write-tables : tie.Need-slice-write-tables Inv-loop μ-loop
-slice-write-tables c = omega (arith, c .before .loop .inv .1 .long, c .before .before .pre, c .loop-test .taken)
+slice-write-tables c =
+    omega (arith, c .before .loop .inv .1 .long, c .before .before .pre, c .loop-test .taken)
 
 add-i : tie.Need-add-i Inv-loop μ-loop
 add-i c = omega (arith, c .before .loop .inv .1 .long, c .before .before .pre, c .loop-test .taken)
@@ -29,13 +30,18 @@ loop-less : tie.Need-loop-less Inv-loop μ-loop
 loop-less c = omega (arith, c .before .loop .inv .1 .long, c .before .before .pre, c .loop-test .taken)
 
 loop-again : tie.Need-loop-again Inv-loop μ-loop
-loop-again c = (omega (arith, c .loop-test .taken), cleared-step (c .before .loop .inv .1) (omega (arith, c .loop-test .taken, c .before .before .pre)))
+loop-again c = (
+  omega (arith, c .loop-test .taken),
+  cleared-step (c .before .loop .inv .1)
+      (omega (arith, c .loop-test .taken, c .before .before .pre)),
+)
 
 same-length : tie.Need-same-length Inv-loop μ-loop
 same-length c = c .before .loop .inv .1 .long
 
 returns : tie.Need-returns Inv-loop μ-loop
-returns c = let e : (c .before .loop .i) ≡ 576 = omega (arith, c .before .loop .inv .0, c .loop-test .left) in rw e at (c .before .loop .inv .1)
+returns c = let e : (c .before .loop .i) ≡ 576 = omega (arith, c .before .loop .inv .0, c .loop-test .left) in
+    rw e at (c .before .loop .inv .1)
 
 pub clear-object-spec : {M : Type 1} → statement M
 clear-object-spec =

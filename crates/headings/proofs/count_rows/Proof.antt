@@ -26,19 +26,37 @@ mul-if1-2 : tie.Need-mul-if1-2 Inv-loop μ-loop
 mul-if1-2 c = omega (arith, c .loop .inv (c .before .pre .0) (c .before .pre .1), c .before .pre .1 .inside)
 
 shared-slice-read-if1 : tie.Need-shared-slice-read-if1 Inv-loop μ-loop
-shared-slice-read-if1 c = omega (arith, c .before .loop .inv (c .before .before .pre .0) (c .before .before .pre .1), c .before .before .pre .1 .inside)
+shared-slice-read-if1 c =
+    omega (
+      arith,
+      c .before .loop .inv (c .before .before .pre .0) (c .before .before .pre .1),
+      c .before .before .pre .1 .inside,
+    )
 
 add-i : tie.Need-add-i Inv-loop μ-loop
-add-i c = omega (arith, c .before .before .loop .inv (c .before .before .before .pre .0) (c .before .before .before .pre .1), c .before .before .before .pre .1 .inside)
+add-i c = omega (
+  arith,
+  c .before .before .loop .inv (c .before .before .before .pre .0)
+      (c .before .before .before .pre .1),
+  c .before .before .before .pre .1 .inside,
+)
 
 loop-less : tie.Need-loop-less Inv-loop μ-loop
-loop-less c = omega (arith, c .before .before .loop .inv (c .before .before .before .pre .0) (c .before .before .before .pre .1), c .before .before .before .pre .1 .inside)
+loop-less c = omega (
+  arith,
+  c .before .before .loop .inv (c .before .before .before .pre .0)
+      (c .before .before .before .pre .1),
+  c .before .before .before .pre .1 .inside,
+)
 
 loop-again : tie.Need-loop-again Inv-loop μ-loop
-loop-again c = λ n w. run-next w (c .before .before .loop .i) (c .before .before .loop .inv n w) (c .if1 .taken)
+loop-again c = λ n w.
+    run-next w (c .before .before .loop .i) (c .before .before .loop .inv n w) (c .if1 .taken)
 
 returns : tie.Need-returns Inv-loop μ-loop
-returns c = run-end (c .before .before .before .pre .1) (c .before .before .loop .i) (c .before .before .loop .inv (c .before .before .before .pre .0) (c .before .before .before .pre .1)) (c .if1 .left)
+returns c = run-end (c .before .before .before .pre .1) (c .before .before .loop .i)
+    (c .before .before .loop .inv (c .before .before .before .pre .0) (c .before .before .before .pre .1))
+    (c .if1 .left)
 
 pub count-rows-spec : {M : Type 1} → statement M
 count-rows-spec =

@@ -1,6 +1,5 @@
 -- `headings::enter_field` meets its contract. Assumes nothing.
 use mathlib.Core.Path.{refl}
-use Prim.Native.Nat.{_-_}
 use native.Mathlib.Omega.{arith}
 use lib.ListN.{length-set}
 use borrow.Author.Needs.{needs}
@@ -33,7 +32,8 @@ slice-read-n : tie.Need-slice-read-n
 slice-read-n c = search needs
 
 add-tables : tie.Need-add-tables
-add-tables c = (let b = enter-bounds (c .before .before .pre) in omega (arith, b .0, b .1, b .2, b .3, b .4, c .before .before .pre .base-is))
+add-tables c = (let b = enter-bounds (c .before .before .pre) in omega
+    (arith, b .0, b .1, b .2, b .3, b .4, c .before .before .pre .base-is))
 
 add-tables-2 : tie.Need-add-tables-2
 add-tables-2 c = search needs
@@ -51,19 +51,25 @@ add-tables-3 : tie.Need-add-tables-3
 add-tables-3 c = search needs
 
 cast-tables-2 : tie.Need-cast-tables-2
-cast-tables-2 c = (let b = enter-bounds (c .before .before .pre) in omega (arith, b .0, b .1, b .2, b .3, b .4, c .before .before .pre .base-is))
+cast-tables-2 c = (let b = enter-bounds (c .before .before .pre) in omega
+    (arith, b .0, b .1, b .2, b .3, b .4, c .before .before .pre .base-is))
 
 add-tables-4 : tie.Need-add-tables-4
-add-tables-4 c = (let b = enter-bounds (c .before .before .pre) in omega (arith, b .0, b .1, b .2, b .3, b .4, c .before .before .pre .base-is))
+add-tables-4 c = (let b = enter-bounds (c .before .before .pre) in omega
+    (arith, b .0, b .1, b .2, b .3, b .4, c .before .before .pre .base-is))
 
 mul-tables-2 : tie.Need-mul-tables-2
-mul-tables-2 c = (let b = enter-bounds (c .before .before .pre) in omega (arith, b .0, b .1, b .2, b .3, b .4, c .before .before .pre .base-is))
+mul-tables-2 c = (let b = enter-bounds (c .before .before .pre) in omega
+    (arith, b .0, b .1, b .2, b .3, b .4, c .before .before .pre .base-is))
 
 slice-write-tables-2 : tie.Need-slice-write-tables-2
-slice-write-tables-2 c = (let b = enter-bounds (c .before .before .pre) in simp length-set (omega (arith, b .0, b .1, b .2, b .3, b .4)))
+slice-write-tables-2 c =
+    (let b = enter-bounds (c .before .before .pre) in
+    simp length-set (omega (arith, b .0, b .1, b .2, b .3, b .4)))
 
 add-tables-5 : tie.Need-add-tables-5
-add-tables-5 c = (let b = enter-bounds (c .before .before .pre) in omega (arith, b .0, b .1, b .2, b .3, b .4, c .before .before .pre .base-is))
+add-tables-5 c = (let b = enter-bounds (c .before .before .pre) in omega
+    (arith, b .0, b .1, b .2, b .3, b .4, c .before .before .pre .base-is))
 
 add-tables-6 : tie.Need-add-tables-6
 add-tables-6 c = search needs
@@ -72,7 +78,9 @@ mul-tables-3 : tie.Need-mul-tables-3
 mul-tables-3 c = search needs
 
 slice-write-tables-3 : tie.Need-slice-write-tables-3
-slice-write-tables-3 c = (let b = enter-bounds (c .before .before .pre) in simp length-set (omega (arith, b .0, b .1, b .2, b .3, b .4)))
+slice-write-tables-3 c =
+    (let b = enter-bounds (c .before .before .pre) in
+    simp length-set (omega (arith, b .0, b .1, b .2, b .3, b .4)))
 
 same-length : tie.Need-same-length
 same-length c = search needs

@@ -1,6 +1,5 @@
 -- `headings::field_fault` meets its contract. Assumes nothing.
 use mathlib.Core.Path.{sym, _∙_}
-use Prim.Native.Nat.{_-_}
 use borrow.Author.Needs.{needs}
 use Rattle.headings.proofs.Fields.{field-full, field-undeclared, field-twice, field-state, field-fine}
 use borrow.Author.Tests.{not-true, not-false}
@@ -35,7 +34,8 @@ is-declared-requires : tie.Need-is-declared-requires
 is-declared-requires c κs = search needs
 
 returns-2 : tie.Need-returns-2
-returns-2 c = λ w. field-undeclared w (c .before .before .before .if1 .left) (sym (c .before .is-declared .ensures (w .P) (w .count-is)) ∙ not-true _ (c .if2 .taken))
+returns-2 c = λ w. field-undeclared w (c .before .before .before .if1 .left)
+    (sym (c .before .is-declared .ensures (w .P) (w .count-is)) ∙ not-true _ (c .if2 .taken))
 
 mul-name : tie.Need-mul-name
 mul-name c = search needs
@@ -62,16 +62,58 @@ shared-slice-read-if3 : tie.Need-shared-slice-read-if3
 shared-slice-read-if3 c = search needs
 
 returns-3 : tie.Need-returns-3
-returns-3 c = λ w. field-twice w (c .before .before .before .before .before .before .if1 .left) (sym (c .before .before .before .before .is-declared .ensures (w .P) (w .count-is)) ∙ not-false _ (c .before .before .before .if2 .left)) (c .if3 .taken)
+returns-3 c =
+    let at-is-declared = c .before .before .before .before in
+    let at-if1 = at-is-declared .before .before in
+    λ w. field-twice w (at-if1 .if1 .left)
+    (sym (at-is-declared .is-declared .ensures (w .P) (w .count-is))
+    ∙ not-false _ (c .before .before .before .if2 .left)) (c .if3 .taken)
 
 is-state-requires : tie.Need-is-state-requires
-is-state-requires c κs = record { P = c .before .before .before .before .before .before .before .before .before .before .pre .P; k = c .before .before .before .before .before .before .before .before .before .before .pre .k; lookups = c .before .before .before .before .before .before .before .before .before .before .pre .working .lookups; known = (sym (c .before .before .before .before .is-declared .ensures (c .before .before .before .before .before .before .before .before .before .before .pre .P) (c .before .before .before .before .before .before .before .before .before .before .pre .count-is)) ∙ not-false _ (c .before .before .before .if2 .left)) }
+is-state-requires c κs =
+    let at-is-declared = c .before .before .before .before in
+    let start = at-is-declared .before .before .before .before .before .before in
+    record {
+      P = start .pre .P;
+      k = start .pre .k;
+      lookups = start .pre .working .lookups;
+      known = (sym (at-is-declared .is-declared .ensures (start .pre .P) (start .pre .count-is))
+          ∙ not-false _ (c .before .before .before .if2 .left));
+    }
 
 returns-4 : tie.Need-returns-4
-returns-4 c = λ w. field-state w (c .before .before .before .before .before .before .before .before .if1 .left) (sym (c .before .before .before .before .before .before .is-declared .ensures (w .P) (w .count-is)) ∙ not-false _ (c .before .before .before .before .before .if2 .left)) (c .before .before .if3 .left) (c .before .is-state .result) (c .before .is-state .ensures (record { P = w .P; k = w .k; lookups = w .working .lookups; known = (sym (c .before .before .before .before .before .before .is-declared .ensures (w .P) (w .count-is)) ∙ not-false _ (c .before .before .before .before .before .if2 .left)) })) (c .if4 .taken)
+returns-4 c =
+    let at-if2 = c .before .before .before .before .before in
+    let at-is-declared = at-if2 .before in
+    let at-if1 = at-is-declared .before .before in
+    λ w. field-state w (at-if1 .if1 .left)
+    (sym (at-is-declared .is-declared .ensures (w .P) (w .count-is)) ∙ not-false _ (at-if2 .if2 .left))
+    (c .before .before .if3 .left) (c .before .is-state .result)
+    (c .before .is-state .ensures
+    (record {
+      P = w .P;
+      k = w .k;
+      lookups = w .working .lookups;
+      known = (sym (at-is-declared .is-declared .ensures (w .P) (w .count-is))
+          ∙ not-false _ (at-if2 .if2 .left));
+    })) (c .if4 .taken)
 
 returns-5 : tie.Need-returns-5
-returns-5 c = λ w. field-fine w (c .before .before .before .before .before .before .before .before .if1 .left) (sym (c .before .before .before .before .before .before .is-declared .ensures (w .P) (w .count-is)) ∙ not-false _ (c .before .before .before .before .before .if2 .left)) (c .before .before .if3 .left) (c .before .is-state .result) (c .before .is-state .ensures (record { P = w .P; k = w .k; lookups = w .working .lookups; known = (sym (c .before .before .before .before .before .before .is-declared .ensures (w .P) (w .count-is)) ∙ not-false _ (c .before .before .before .before .before .if2 .left)) })) (c .if4 .left)
+returns-5 c =
+    let at-if2 = c .before .before .before .before .before in
+    let at-is-declared = at-if2 .before in
+    let at-if1 = at-is-declared .before .before in
+    λ w. field-fine w (at-if1 .if1 .left)
+    (sym (at-is-declared .is-declared .ensures (w .P) (w .count-is)) ∙ not-false _ (at-if2 .if2 .left))
+    (c .before .before .if3 .left) (c .before .is-state .result)
+    (c .before .is-state .ensures
+    (record {
+      P = w .P;
+      k = w .k;
+      lookups = w .working .lookups;
+      known = (sym (at-is-declared .is-declared .ensures (w .P) (w .count-is))
+          ∙ not-false _ (at-if2 .if2 .left));
+    })) (c .if4 .left)
 
 pub field-fault-spec : {M : Type 1} → statement M
 field-fault-spec =

@@ -1,5 +1,4 @@
 -- `headings::is_declared` meets its contract. Assumes nothing.
-use Prim.Native.Nat.{_-_}
 use Rattle.headings.proofs.Tables.{declared-bool, declared-class}
 use Rattle.headings.proofs.is_declared.Statement.{statement}
 use Rattle.headings.proofs.is_declared.Tie as tie

@@ -1,6 +1,4 @@
 -- `headings::is_member` meets its contract. Assumes nothing.
-use Prim.Native.Nat.{_-_}
-use lib.ListN.{set}
 use borrow.Author.Needs.{needs}
 use Rattle.language.proofs.Effects.{member-mask}
 use Rattle.headings.proofs.is_member.Statement.{statement}

@@ -1,5 +1,4 @@
 -- `headings::is_state` meets its contract. Assumes nothing.
-use Prim.Native.Nat.{_-_}
 use native.Mathlib.Omega.{arith}
 use Rattle.headings.proofs.Tables.{state-bool, state-index, state-is}
 use Rattle.headings.proofs.is_state.Statement.{statement}

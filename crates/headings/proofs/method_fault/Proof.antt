@@ -1,10 +1,11 @@
 -- `headings::method_fault` meets its contract. Assumes nothing.
 use mathlib.Core.Path.{sym, ap, _∙_}
-use Prim.Native.Nat.{_+_, _-_, _*_}
+use Prim.Native.Nat.{_+_, _*_}
 use native.Mathlib.Omega.{arith}
 use lib.ListN.{getD}
 use borrow.Author.Needs.{needs}
-use Rattle.headings.proofs.Methods.{method-undeclared, method-twice, method-first, override-ready, method-overrides}
+use Rattle.headings.proofs.Methods.{method-undeclared, method-twice, method-first, override-ready}
+use Rattle.headings.proofs.Methods.{method-overrides}
 use borrow.Author.Tests.{not-true, not-false}
 use mathlib.Core.Bool.{cond}
 use Rattle.headings.proofs.method_fault.Statement.{statement}
@@ -26,7 +27,9 @@ is-declared-requires : tie.Need-is-declared-requires
 is-declared-requires c κs = search needs
 
 returns : tie.Need-returns
-returns c = λ w. method-undeclared w (sym (c .before .is-declared .ensures (w .ready .program .classes) (w .ready .count-is)) ∙ not-true _ (c .if1 .taken))
+returns c = λ w. method-undeclared w (sym
+    (c .before .is-declared .ensures (w .ready .program .classes) (w .ready .count-is))
+    ∙ not-true _ (c .if1 .taken))
 
 mul-name : tie.Need-mul-name
 mul-name c = search needs
@@ -56,25 +59,59 @@ shared-slice-read-entry : tie.Need-shared-slice-read-entry
 shared-slice-read-entry c = search needs
 
 cast-entry : tie.Need-cast-entry
-cast-entry c = omega (arith, c .shared-slice-known5 .given ((c .before .before .before .before .before .before .before .args .base) + 256 + getD (c .before .before .before .before .before .before .before .args .rows .now) ((c .before .before .before .before .before .before .before .args .r) * 4 + 2) 0))
+cast-entry c =
+    let start = c .before .before .before .before .before .before .before in
+    omega (
+      arith,
+      c .shared-slice-known5 .given
+          ((start .args .base) + 256 + getD (start .args .rows .now) ((start .args .r) * 4 + 2) 0),
+    )
 
 returns-2 : tie.Need-returns-2
-returns-2 c = λ w. method-twice w (sym (c .before .before .before .before .is-declared .ensures (w .ready .program .classes) (w .ready .count-is)) ∙ not-false _ (c .before .before .before .if1 .left)) (c .if2 .taken)
+returns-2 c =
+    let at-is-declared = c .before .before .before .before in
+    λ w. method-twice w (sym (at-is-declared .is-declared .ensures (w .ready .program .classes)
+    (w .ready .count-is)) ∙ not-false _ (c .before .before .before .if1 .left)) (c .if2 .taken)
 
 returns-3 : tie.Need-returns-3
-returns-3 c = λ w. method-first w (sym (c .before .before .before .before .before .is-declared .ensures (w .ready .program .classes) (w .ready .count-is)) ∙ not-false _ (c .before .before .before .before .if1 .left)) (c .before .if2 .left) (c .if3 .taken)
+returns-3 c =
+    let at-if1 = c .before .before .before .before in
+    let at-is-declared = at-if1 .before in
+    λ w. method-first w (sym (at-is-declared .is-declared .ensures (w .ready .program .classes)
+    (w .ready .count-is)) ∙ not-false _ (at-if1 .if1 .left)) (c .before .if2 .left) (c .if3 .taken)
 
 sub-may-override : tie.Need-sub-may-override
 sub-may-override c = search needs
 
 may-override-requires : tie.Need-may-override-requires
-may-override-requires c κs = override-ready (c .before .before .before .before .before .before .before .before .before .pre) (sym (c .before .before .before .before .before .is-declared .ensures (c .before .before .before .before .before .before .before .before .before .pre .ready .program .classes) (c .before .before .before .before .before .before .before .before .before .pre .ready .count-is)) ∙ not-false _ (c .before .before .before .before .if1 .left)) (c .before .if2 .left) (c .if3 .left)
+may-override-requires c κs =
+    let at-if1 = c .before .before .before .before in
+    let at-is-declared = at-if1 .before in
+    let start = at-is-declared .before .before .before .before in
+    override-ready (start .pre)
+    (sym (at-is-declared .is-declared .ensures (start .pre .ready .program .classes)
+    (start .pre .ready .count-is)) ∙ not-false _ (at-if1 .if1 .left)) (c .before .if2 .left)
+    (c .if3 .left)
 
 returns-4 : tie.Need-returns-4
-returns-4 c = λ w. ap (λ b. cond b 0 6) (sym (c .if4 .taken)) ∙ method-overrides w (sym (c .before .before .before .before .before .before .before .is-declared .ensures (w .ready .program .classes) (w .ready .count-is)) ∙ not-false _ (c .before .before .before .before .before .before .if1 .left)) (c .before .before .before .if2 .left) (c .before .before .if3 .left) (c .before .may-override .result) (c .before .may-override .ensures)
+returns-4 c =
+    let at-if1 = c .before .before .before .before .before .before in
+    let at-is-declared = at-if1 .before in
+    λ w. ap (λ b. cond b 0 6) (sym (c .if4 .taken))
+    ∙ method-overrides w
+    (sym (at-is-declared .is-declared .ensures (w .ready .program .classes) (w .ready .count-is))
+    ∙ not-false _ (at-if1 .if1 .left)) (c .before .before .before .if2 .left)
+    (c .before .before .if3 .left) (c .before .may-override .result) (c .before .may-override .ensures)
 
 returns-5 : tie.Need-returns-5
-returns-5 c = λ w. ap (λ b. cond b 0 6) (sym (c .if4 .left)) ∙ method-overrides w (sym (c .before .before .before .before .before .before .before .is-declared .ensures (w .ready .program .classes) (w .ready .count-is)) ∙ not-false _ (c .before .before .before .before .before .before .if1 .left)) (c .before .before .before .if2 .left) (c .before .before .if3 .left) (c .before .may-override .result) (c .before .may-override .ensures)
+returns-5 c =
+    let at-if1 = c .before .before .before .before .before .before in
+    let at-is-declared = at-if1 .before in
+    λ w. ap (λ b. cond b 0 6) (sym (c .if4 .left))
+    ∙ method-overrides w
+    (sym (at-is-declared .is-declared .ensures (w .ready .program .classes) (w .ready .count-is))
+    ∙ not-false _ (at-if1 .if1 .left)) (c .before .before .before .if2 .left)
+    (c .before .before .if3 .left) (c .before .may-override .result) (c .before .may-override .ensures)
 
 pub method-fault-spec : {M : Type 1} → statement M
 method-fault-spec =

@@ -1,5 +1,5 @@
 -- `headings::skip_method` meets its contract. Assumes nothing.
-use Prim.Native.Nat.{_+_, _-_}
+use Prim.Native.Nat.{_+_}
 use native.Mathlib.Omega.{arith}
 use borrow.Author.Needs.{needs}
 use Rattle.headings.proofs.Lines.{method-parameters, method-effects, method-block}
@@ -16,31 +16,55 @@ add-count-rows-2 : tie.Need-add-count-rows-2
 add-count-rows-2 c = search needs
 
 add-count-rows-3 : tie.Need-add-count-rows-3
-add-count-rows-3 c = (let v = method-effects (c .before .before .before .pre) (c .count-rows .result) (c .count-rows .ensures) in omega (arith, v .1 .inside, c .before .before .before .pre .short))
+add-count-rows-3 c =
+    (let v = method-effects (c .before .before .before .pre) (c .count-rows .result)
+    (c .count-rows .ensures) in omega (arith, v .1 .inside, c .before .before .before .pre .short))
 
 count-rows-requires-2 : tie.Need-count-rows-requires-2
-count-rows-requires-2 c κs = method-effects (c .before .before .before .pre) (c .count-rows .result) (c .count-rows .ensures)
+count-rows-requires-2 c κs =
+    method-effects (c .before .before .before .pre) (c .count-rows .result) (c .count-rows .ensures)
 
 add-result : tie.Need-add-result
 add-result c = search needs
 
 add-result-2 : tie.Need-add-result-2
-add-result-2 c = (let b = method-block (c .before .before .before .before .pre) (c .before .count-rows .result) (c .before .count-rows .ensures) (c .count-rows2 .result) (c .count-rows2 .ensures) in omega (arith, b .0, b .1, c .before .before .before .before .pre .short))
+add-result-2 c =
+    let start = c .before .before .before .before in
+    (let b = method-block (start .pre) (c .before .count-rows .result) (c .before .count-rows .ensures)
+    (c .count-rows2 .result) (c .count-rows2 .ensures) in omega (arith, b .0, b .1, start .pre .short))
 
 add-result-3 : tie.Need-add-result-3
-add-result-3 c = (let b = method-block (c .before .before .before .before .pre) (c .before .count-rows .result) (c .before .count-rows .ensures) (c .count-rows2 .result) (c .count-rows2 .ensures) in omega (arith, b .0, b .1, c .before .before .before .before .pre .short))
+add-result-3 c =
+    let start = c .before .before .before .before in
+    (let b = method-block (start .pre) (c .before .count-rows .result) (c .before .count-rows .ensures)
+    (c .count-rows2 .result) (c .count-rows2 .ensures) in omega (arith, b .0, b .1, start .pre .short))
 
 mul-result : tie.Need-mul-result
-mul-result c = (let b = method-block (c .before .before .before .before .pre) (c .before .count-rows .result) (c .before .count-rows .ensures) (c .count-rows2 .result) (c .count-rows2 .ensures) in omega (arith, b .0, b .1, c .before .before .before .before .pre .short))
+mul-result c =
+    let start = c .before .before .before .before in
+    (let b = method-block (start .pre) (c .before .count-rows .result) (c .before .count-rows .ensures)
+    (c .count-rows2 .result) (c .count-rows2 .ensures) in omega (arith, b .0, b .1, start .pre .short))
 
 shared-slice-read-result : tie.Need-shared-slice-read-result
-shared-slice-read-result c = (let b = method-block (c .before .before .before .before .before .pre) (c .before .before .count-rows .result) (c .before .before .count-rows .ensures) (c .before .count-rows2 .result) (c .before .count-rows2 .ensures) in omega (arith, b .0, b .1, c .before .before .before .before .before .pre .short))
+shared-slice-read-result c =
+    let start = c .before .before .before .before .before in
+    (let b = method-block (start .pre) (c .before .before .count-rows .result)
+    (c .before .before .count-rows .ensures) (c .before .count-rows2 .result)
+    (c .before .count-rows2 .ensures) in omega (arith, b .0, b .1, start .pre .short))
 
 cast-result : tie.Need-cast-result
-cast-result c = omega (arith, c .shared-slice-known3 .given ((c .before .before .before .before .before .args .r) + 1 + (c .before .before .count-rows .result) + (c .before .count-rows2 .result)))
+cast-result c =
+    let start = c .before .before .before .before .before in
+    omega (
+      arith,
+      c .shared-slice-known3 .given
+          ((start .args .r) + 1 + (c .before .before .count-rows .result) + (c .before .count-rows2 .result)),
+    )
 
 returns : tie.Need-returns
-returns c = λ w. method-block w (c .before .before .count-rows .result) (c .before .before .count-rows .ensures) (c .before .count-rows2 .result) (c .before .count-rows2 .ensures) .2
+returns c = λ w. method-block w (c .before .before .count-rows .result)
+    (c .before .before .count-rows .ensures) (c .before .count-rows2 .result)
+    (c .before .count-rows2 .ensures) .2
 
 pub skip-method-spec : {M : Type 1} → statement M
 skip-method-spec =

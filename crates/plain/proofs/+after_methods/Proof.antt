@@ -1,4 +1,4 @@
-use Prim.Native.Nat.{ℕ, _+_, _-_, _<_}
+use Prim.Native.Nat.{ℕ, _-_, _<_}
 use native.Mathlib.Omega.{arith}
 use borrow.Author.Needs.{needs}
 use borrow.Fn.Kinds.{In}
@@ -26,28 +26,36 @@ after-methods-below t =
 abbrev callees : ℕ → after-methods-lts.Claims
 callees t = (skip-reads.Asked, skip-reads.Learnt, after-methods-below t, after-methods.Post)
 
-after-methods-mul-if1 : (t : ℕ) → after-methods-lts.Need-mul-if1 (callees t) (after-methods-at t) after-methods.Post
+after-methods-mul-if1 : (t : ℕ)
+    → after-methods-lts.Need-mul-if1 (callees t) (after-methods-at t) after-methods.Post
 after-methods-mul-if1 t c = omega (arith, stand-known (c .before .before .pre .1) .0)
 
-after-methods-mul-if1-2 : (t : ℕ) → after-methods-lts.Need-mul-if1-2 (callees t) (after-methods-at t) after-methods.Post
+after-methods-mul-if1-2 : (t : ℕ)
+    → after-methods-lts.Need-mul-if1-2 (callees t) (after-methods-at t) after-methods.Post
 after-methods-mul-if1-2 t c = omega (arith, stand-known (c .before .before .pre .1) .0)
 
-after-methods-shared-slice-read-if1 : (t : ℕ) → after-methods-lts.Need-shared-slice-read-if1 (callees t) (after-methods-at t) after-methods.Post
+after-methods-shared-slice-read-if1 : (t : ℕ)
+    → after-methods-lts.Need-shared-slice-read-if1 (callees t) (after-methods-at t) after-methods.Post
 after-methods-shared-slice-read-if1 t c = omega (arith, stand-known (c .before .before .before .pre .1) .0)
 
-after-methods-returns : (t : ℕ) → after-methods-lts.Need-returns (callees t) (after-methods-at t) after-methods.Post
+after-methods-returns : (t : ℕ)
+    → after-methods-lts.Need-returns (callees t) (after-methods-at t) after-methods.Post
 after-methods-returns t c = stand-none (c .if1 .taken)
 
-after-methods-add-skip : (t : ℕ) → after-methods-lts.Need-add-skip (callees t) (after-methods-at t) after-methods.Post
+after-methods-add-skip : (t : ℕ)
+    → after-methods-lts.Need-add-skip (callees t) (after-methods-at t) after-methods.Post
 after-methods-add-skip t c = omega (arith, stand-known (c .before .before .before .before .pre .1) .1)
 
-after-methods-skip-requires : (t : ℕ) → after-methods-lts.Need-skip-requires (callees t) (after-methods-at t) after-methods.Post
+after-methods-skip-requires : (t : ℕ)
+    → after-methods-lts.Need-skip-requires (callees t) (after-methods-at t) after-methods.Post
 after-methods-skip-requires t c κs = search needs
 
-after-methods-skip-requires-2 : (t : ℕ) → after-methods-lts.Need-skip-requires-2 (callees t) (after-methods-at t) after-methods.Post
+after-methods-skip-requires-2 : (t : ℕ)
+    → after-methods-lts.Need-skip-requires-2 (callees t) (after-methods-at t) after-methods.Post
 after-methods-skip-requires-2 t c κs = search needs
 
-after-methods-mul-next : (t : ℕ) → after-methods-lts.Need-mul-next (callees t) (after-methods-at t) after-methods.Post
+after-methods-mul-next : (t : ℕ)
+    → after-methods-lts.Need-mul-next (callees t) (after-methods-at t) after-methods.Post
 after-methods-mul-next t c =
     let start = c .before .before .before .before .before .before in
     omega (
@@ -56,7 +64,8 @@ after-methods-mul-next t c =
           (start .pre .1),
     )
 
-after-methods-shared-slice-read-next : (t : ℕ) → after-methods-lts.Need-shared-slice-read-next (callees t) (after-methods-at t) after-methods.Post
+after-methods-shared-slice-read-next : (t : ℕ)
+    → after-methods-lts.Need-shared-slice-read-next (callees t) (after-methods-at t) after-methods.Post
 after-methods-shared-slice-read-next t c =
     let start = c .before .before .before .before .before .before .before in
     omega (
@@ -65,17 +74,20 @@ after-methods-shared-slice-read-next t c =
           (c .before .before .before .if1 .left) (start .pre .1),
     )
 
-after-methods-cast-next : (t : ℕ) → after-methods-lts.Need-cast-next (callees t) (after-methods-at t) after-methods.Post
+after-methods-cast-next : (t : ℕ)
+    → after-methods-lts.Need-cast-next (callees t) (after-methods-at t) after-methods.Post
 after-methods-cast-next t c = omega (arith, c .shared-slice-known4 .given (c .before .skip2 .result))
 
-after-methods-after-methods-requires : (t : ℕ) → after-methods-lts.Need-after-methods-requires (callees t) (after-methods-at t) after-methods.Post
+after-methods-after-methods-requires : (t : ℕ)
+    → after-methods-lts.Need-after-methods-requires (callees t) (after-methods-at t) after-methods.Post
 after-methods-after-methods-requires t c κs =
     let start = c .before .before .before .before .before .before .before in
     let r = stand-next (c .before .before .skip .ensures) (c .before .skip2 .ensures)
     (c .before .before .before .if1 .left) (start .pre .1) in
     (omega (arith, r .1, start .pre .0, stand-known (start .pre .1) .1), r .0)
 
-after-methods-returns-2 : (t : ℕ) → after-methods-lts.Need-returns-2 (callees t) (after-methods-at t) after-methods.Post
+after-methods-returns-2 : (t : ℕ)
+    → after-methods-lts.Need-returns-2 (callees t) (after-methods-at t) after-methods.Post
 after-methods-returns-2 t c =
     let the-if1 = c .before .before .before .before .if1 in
     stand-step (c .before .before .before .skip .ensures) (c .before .before .skip2 .ensures) (the-if1 .left)

@@ -11,7 +11,8 @@ mod Nodes
 mod Set
 use Rattle.plain.proofs.+emit_arguments+emit_block+emit_call+emit_cast+emit_node+emit_nodes+emit_set.{statement}
 use Rattle.plain.proofs.+emit_arguments+emit_block+emit_call+emit_cast+emit_node+emit_nodes+emit_set.Tie.{close}
-use Rattle.plain.proofs.+emit_arguments+emit_block+emit_call+emit_cast+emit_node+emit_nodes+emit_set.Proof.Base.{μ-emit-arguments, μ-emit-block, μ-emit-call, μ-emit-cast, μ-emit-node, μ-emit-nodes, μ-emit-set}
+use Rattle.plain.proofs.+emit_arguments+emit_block+emit_call+emit_cast+emit_node+emit_nodes+emit_set.Proof.Base.{μ-emit-arguments, μ-emit-block, μ-emit-call, μ-emit-cast}
+use Rattle.plain.proofs.+emit_arguments+emit_block+emit_call+emit_cast+emit_node+emit_nodes+emit_set.Proof.Base.{μ-emit-node, μ-emit-nodes, μ-emit-set}
 use Rattle.plain.proofs.+emit_arguments+emit_block+emit_call+emit_cast+emit_node+emit_nodes+emit_set.Proof.Arguments.{emit-arguments-holds}
 use Rattle.plain.proofs.+emit_arguments+emit_block+emit_call+emit_cast+emit_node+emit_nodes+emit_set.Proof.Block.{emit-block-holds}
 use Rattle.plain.proofs.+emit_arguments+emit_block+emit_call+emit_cast+emit_node+emit_nodes+emit_set.Proof.Call.{emit-call-holds}
@@ -20,7 +21,9 @@ use Rattle.plain.proofs.+emit_arguments+emit_block+emit_call+emit_cast+
 use Rattle.plain.proofs.+emit_arguments+emit_block+emit_call+emit_cast+emit_node+emit_nodes+emit_set.Proof.Nodes.{emit-nodes-holds}
 use Rattle.plain.proofs.+emit_arguments+emit_block+emit_call+emit_cast+emit_node+emit_nodes+emit_set.Proof.Set.{emit-set-holds}
 
-pub +emit-arguments+emit-block+emit-call+emit-cast+emit-node+emit-nodes+emit-set-spec : {M : Type 1} → statement M
+pub +emit-arguments+emit-block+emit-call+emit-cast+emit-node+emit-nodes+emit-set-spec : {M : Type 1}
+    → statement M
 +emit-arguments+emit-block+emit-call+emit-cast+emit-node+emit-nodes+emit-set-spec =
     close μ-emit-arguments μ-emit-block μ-emit-call μ-emit-cast μ-emit-node μ-emit-nodes μ-emit-set
-    emit-arguments-holds emit-block-holds emit-call-holds emit-cast-holds emit-node-holds emit-nodes-holds emit-set-holds
+    emit-arguments-holds emit-block-holds emit-call-holds emit-cast-holds emit-node-holds emit-nodes-holds
+    emit-set-holds

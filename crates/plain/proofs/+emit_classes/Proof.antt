@@ -1,5 +1,5 @@
 use mathlib.Core.Path.{_∙_}
-use Prim.Native.Nat.{ℕ, _+_, _-_, _<_}
+use Prim.Native.Nat.{ℕ, _-_, _<_}
 use native.Mathlib.Omega.{arith}
 use borrow.Fn.Kinds.{In}
 use borrow.Fn.PlainCycle.{Measures, is, falls, and}
@@ -26,37 +26,45 @@ emit-classes-below t =
 abbrev callees : ℕ → emit-classes-lts.Claims
 callees t = (emit-class-reads.Asked, emit-class-reads.Learnt, emit-classes-below t, emit-classes.Post)
 
-emit-classes-mul-if1 : (t : ℕ) → emit-classes-lts.Need-mul-if1 (callees t) (emit-classes-at t) emit-classes.Post
+emit-classes-mul-if1 : (t : ℕ)
+    → emit-classes-lts.Need-mul-if1 (callees t) (emit-classes-at t) emit-classes.Post
 emit-classes-mul-if1 t c = omega (arith, classes-known (c .before .before .before .before .pre .1) .0)
 
-emit-classes-mul-if1-2 : (t : ℕ) → emit-classes-lts.Need-mul-if1-2 (callees t) (emit-classes-at t) emit-classes.Post
+emit-classes-mul-if1-2 : (t : ℕ)
+    → emit-classes-lts.Need-mul-if1-2 (callees t) (emit-classes-at t) emit-classes.Post
 emit-classes-mul-if1-2 t c = omega (arith, classes-known (c .before .before .before .before .pre .1) .0)
 
-emit-classes-shared-slice-read-if1 : (t : ℕ) → emit-classes-lts.Need-shared-slice-read-if1 (callees t) (emit-classes-at t) emit-classes.Post
+emit-classes-shared-slice-read-if1 : (t : ℕ)
+    → emit-classes-lts.Need-shared-slice-read-if1 (callees t) (emit-classes-at t) emit-classes.Post
 emit-classes-shared-slice-read-if1 t c =
     let start = c .before .before .before .before .before in omega (arith, classes-known (start .pre .1) .0)
 
-emit-classes-returns : (t : ℕ) → emit-classes-lts.Need-returns (callees t) (emit-classes-at t) emit-classes.Post
+emit-classes-returns : (t : ℕ)
+    → emit-classes-lts.Need-returns (callees t) (emit-classes-at t) emit-classes.Post
 emit-classes-returns t c = classes-end (c .if1 .taken)
 
-emit-classes-emit-class-requires : (t : ℕ) → emit-classes-lts.Need-emit-class-requires (callees t) (emit-classes-at t) emit-classes.Post
+emit-classes-emit-class-requires : (t : ℕ)
+    → emit-classes-lts.Need-emit-class-requires (callees t) (emit-classes-at t) emit-classes.Post
 emit-classes-emit-class-requires t c κs =
     let start = c .before .before .before .before .before .before .before in
     classes-first (start .pre .1) (c .before .if1 .left)
 
-emit-classes-emit-classes-requires : (t : ℕ) → emit-classes-lts.Need-emit-classes-requires (callees t) (emit-classes-at t) emit-classes.Post
+emit-classes-emit-classes-requires : (t : ℕ)
+    → emit-classes-lts.Need-emit-classes-requires (callees t) (emit-classes-at t) emit-classes.Post
 emit-classes-emit-classes-requires t c κs =
     let start = c .before .before .before .before .before .before .before .before .before .before .before in
     let the-if1 = c .before .before .before .before .before .if1 in
     let r = classes-rest (c .before .before .before .emit-class .ensures) (start .pre .1) (the-if1 .left) in
     (omega (arith, r .1, start .pre .0, classes-known (start .pre .1) .1), r .0)
 
-emit-classes-same-length : (t : ℕ) → emit-classes-lts.Need-same-length (callees t) (emit-classes-at t) emit-classes.Post
+emit-classes-same-length : (t : ℕ)
+    → emit-classes-lts.Need-same-length (callees t) (emit-classes-at t) emit-classes.Post
 emit-classes-same-length t c =
     c .before .before .emit-classes .kept .1 .1 .1 .0
     ∙ c .before .before .before .before .before .before .emit-class .kept .1 .1 .1 .0
 
-emit-classes-returns-2 : (t : ℕ) → emit-classes-lts.Need-returns-2 (callees t) (emit-classes-at t) emit-classes.Post
+emit-classes-returns-2 : (t : ℕ)
+    → emit-classes-lts.Need-returns-2 (callees t) (emit-classes-at t) emit-classes.Post
 emit-classes-returns-2 t c =
     let the-if1 = c .before .before .before .before .before .before .before .before .if1 in
     let the-emit-class = c .before .before .before .before .before .before .emit-class in

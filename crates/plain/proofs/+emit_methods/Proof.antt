@@ -1,5 +1,5 @@
 use mathlib.Core.Path.{refl, _∙_}
-use Prim.Native.Nat.{ℕ, _+_, _-_, _<_}
+use Prim.Native.Nat.{ℕ, _-_, _<_}
 use native.Mathlib.Omega.{arith}
 use borrow.Author.Needs.{needs}
 use borrow.Fn.Kinds.{In}
@@ -35,45 +35,57 @@ callees t = (
   emit-methods.Post,
 )
 
-emit-methods-mul-if1 : (t : ℕ) → emit-methods-lts.Need-mul-if1 (callees t) (emit-methods-at t) emit-methods.Post
+emit-methods-mul-if1 : (t : ℕ)
+    → emit-methods-lts.Need-mul-if1 (callees t) (emit-methods-at t) emit-methods.Post
 emit-methods-mul-if1 t c = omega (arith, methods-known (c .before .before .before .before .pre .1) .0)
 
-emit-methods-mul-if1-2 : (t : ℕ) → emit-methods-lts.Need-mul-if1-2 (callees t) (emit-methods-at t) emit-methods.Post
+emit-methods-mul-if1-2 : (t : ℕ)
+    → emit-methods-lts.Need-mul-if1-2 (callees t) (emit-methods-at t) emit-methods.Post
 emit-methods-mul-if1-2 t c = omega (arith, methods-known (c .before .before .before .before .pre .1) .0)
 
-emit-methods-shared-slice-read-if1 : (t : ℕ) → emit-methods-lts.Need-shared-slice-read-if1 (callees t) (emit-methods-at t) emit-methods.Post
+emit-methods-shared-slice-read-if1 : (t : ℕ)
+    → emit-methods-lts.Need-shared-slice-read-if1 (callees t) (emit-methods-at t) emit-methods.Post
 emit-methods-shared-slice-read-if1 t c =
     let start = c .before .before .before .before .before in omega (arith, methods-known (start .pre .1) .0)
 
-emit-methods-returns : (t : ℕ) → emit-methods-lts.Need-returns (callees t) (emit-methods-at t) emit-methods.Post
+emit-methods-returns : (t : ℕ)
+    → emit-methods-lts.Need-returns (callees t) (emit-methods-at t) emit-methods.Post
 emit-methods-returns t c = methods-end (c .if1 .taken)
 
-emit-methods-add-skip : (t : ℕ) → emit-methods-lts.Need-add-skip (callees t) (emit-methods-at t) emit-methods.Post
+emit-methods-add-skip : (t : ℕ)
+    → emit-methods-lts.Need-add-skip (callees t) (emit-methods-at t) emit-methods.Post
 emit-methods-add-skip t c =
     let start = c .before .before .before .before .before .before in
     omega (arith, methods-known (start .pre .1) .1)
 
-emit-methods-skip-requires : (t : ℕ) → emit-methods-lts.Need-skip-requires (callees t) (emit-methods-at t) emit-methods.Post
+emit-methods-skip-requires : (t : ℕ)
+    → emit-methods-lts.Need-skip-requires (callees t) (emit-methods-at t) emit-methods.Post
 emit-methods-skip-requires t c κs = search needs
 
-emit-methods-skip-requires-2 : (t : ℕ) → emit-methods-lts.Need-skip-requires-2 (callees t) (emit-methods-at t) emit-methods.Post
+emit-methods-skip-requires-2 : (t : ℕ)
+    → emit-methods-lts.Need-skip-requires-2 (callees t) (emit-methods-at t) emit-methods.Post
 emit-methods-skip-requires-2 t c κs = search needs
 
-emit-methods-sub-emit-method : (t : ℕ) → emit-methods-lts.Need-sub-emit-method (callees t) (emit-methods-at t) emit-methods.Post
+emit-methods-sub-emit-method : (t : ℕ)
+    → emit-methods-lts.Need-sub-emit-method (callees t) (emit-methods-at t) emit-methods.Post
 emit-methods-sub-emit-method t c = omega (arith, c .before .before .skip .ensures .from)
 
-emit-methods-sub-emit-method-2 : (t : ℕ) → emit-methods-lts.Need-sub-emit-method-2 (callees t) (emit-methods-at t) emit-methods.Post
+emit-methods-sub-emit-method-2 : (t : ℕ)
+    → emit-methods-lts.Need-sub-emit-method-2 (callees t) (emit-methods-at t) emit-methods.Post
 emit-methods-sub-emit-method-2 t c = omega (arith, c .before .before .skip .ensures .from)
 
-emit-methods-emit-method-requires : (t : ℕ) → emit-methods-lts.Need-emit-method-requires (callees t) (emit-methods-at t) emit-methods.Post
+emit-methods-emit-method-requires : (t : ℕ)
+    → emit-methods-lts.Need-emit-method-requires (callees t) (emit-methods-at t) emit-methods.Post
 emit-methods-emit-method-requires t c κs =
     let start = c .before .before .before .before .before .before .before .before .before in
     methods-first (start .pre .1) (c .before .before .before .if1 .left) _ _ _
     (c .before .before .skip .ensures) (c .before .skip2 .ensures) refl
 
-emit-methods-emit-methods-requires : (t : ℕ) → emit-methods-lts.Need-emit-methods-requires (callees t) (emit-methods-at t) emit-methods.Post
+emit-methods-emit-methods-requires : (t : ℕ)
+    → emit-methods-lts.Need-emit-methods-requires (callees t) (emit-methods-at t) emit-methods.Post
 emit-methods-emit-methods-requires t c κs =
-    let start = c .before .before .before .before .before .before .before .before .before .before .before .before .before in
+    let start = c .before .before .before .before .before .before .before .before .before .before .before
+    .before .before in
     let the-if1 = c .before .before .before .before .before .before .before .if1 in
     let the-skip = c .before .before .before .before .before .before .skip in
     let the-skip2 = c .before .before .before .before .before .skip2 in
@@ -81,12 +93,14 @@ emit-methods-emit-methods-requires t c κs =
     (c .before .before .before .emit-method .ensures) (start .pre .1) (the-if1 .left) in
     (omega (arith, r .1, start .pre .0, methods-known (start .pre .1) .1), r .0)
 
-emit-methods-same-length : (t : ℕ) → emit-methods-lts.Need-same-length (callees t) (emit-methods-at t) emit-methods.Post
+emit-methods-same-length : (t : ℕ)
+    → emit-methods-lts.Need-same-length (callees t) (emit-methods-at t) emit-methods.Post
 emit-methods-same-length t c =
     c .before .before .emit-methods .kept .1 .1 .1 .0
     ∙ c .before .before .before .before .before .before .emit-method .kept .1 .1 .1 .0
 
-emit-methods-returns-2 : (t : ℕ) → emit-methods-lts.Need-returns-2 (callees t) (emit-methods-at t) emit-methods.Post
+emit-methods-returns-2 : (t : ℕ)
+    → emit-methods-lts.Need-returns-2 (callees t) (emit-methods-at t) emit-methods.Post
 emit-methods-returns-2 t c =
     let the-if1 = c .before .before .before .before .before .before .before .before .before .before .if1 in
     let the-skip = c .before .before .before .before .before .before .before .before .before .skip in

@@ -43,59 +43,71 @@ callees t = (
 over-fields-mul-if1 : (t : ℕ) → over-fields-lts.Need-mul-if1 (callees t) (over-fields-at t) over-fields.Post
 over-fields-mul-if1 t c = omega (arith, counted-known (c .before .before .before .pre .1) .0)
 
-over-fields-mul-if1-2 : (t : ℕ) → over-fields-lts.Need-mul-if1-2 (callees t) (over-fields-at t) over-fields.Post
+over-fields-mul-if1-2 : (t : ℕ)
+    → over-fields-lts.Need-mul-if1-2 (callees t) (over-fields-at t) over-fields.Post
 over-fields-mul-if1-2 t c = omega (arith, counted-known (c .before .before .before .pre .1) .0)
 
-over-fields-shared-slice-read-if1 : (t : ℕ) → over-fields-lts.Need-shared-slice-read-if1 (callees t) (over-fields-at t) over-fields.Post
+over-fields-shared-slice-read-if1 : (t : ℕ)
+    → over-fields-lts.Need-shared-slice-read-if1 (callees t) (over-fields-at t) over-fields.Post
 over-fields-shared-slice-read-if1 t c =
     let start = c .before .before .before .before in omega (arith, counted-known (start .pre .1) .0)
 
 over-fields-returns : (t : ℕ) → over-fields-lts.Need-returns (callees t) (over-fields-at t) over-fields.Post
 over-fields-returns t c = limited-none (c .if1 .taken)
 
-over-fields-mul-above : (t : ℕ) → over-fields-lts.Need-mul-above (callees t) (over-fields-at t) over-fields.Post
+over-fields-mul-above : (t : ℕ)
+    → over-fields-lts.Need-mul-above (callees t) (over-fields-at t) over-fields.Post
 over-fields-mul-above t c =
     let start = c .before .before .before .before .before in omega (arith, counted-known (start .pre .1) .0)
 
-over-fields-add-above : (t : ℕ) → over-fields-lts.Need-add-above (callees t) (over-fields-at t) over-fields.Post
+over-fields-add-above : (t : ℕ)
+    → over-fields-lts.Need-add-above (callees t) (over-fields-at t) over-fields.Post
 over-fields-add-above t c =
     let start = c .before .before .before .before .before in omega (arith, counted-known (start .pre .1) .0)
 
-over-fields-mul-above-2 : (t : ℕ) → over-fields-lts.Need-mul-above-2 (callees t) (over-fields-at t) over-fields.Post
+over-fields-mul-above-2 : (t : ℕ)
+    → over-fields-lts.Need-mul-above-2 (callees t) (over-fields-at t) over-fields.Post
 over-fields-mul-above-2 t c =
     let start = c .before .before .before .before .before in omega (arith, counted-known (start .pre .1) .0)
 
-over-fields-shared-slice-read-above : (t : ℕ) → over-fields-lts.Need-shared-slice-read-above (callees t) (over-fields-at t) over-fields.Post
+over-fields-shared-slice-read-above : (t : ℕ)
+    → over-fields-lts.Need-shared-slice-read-above (callees t) (over-fields-at t) over-fields.Post
 over-fields-shared-slice-read-above t c =
     let start = c .before .before .before .before .before .before in
     omega (arith, counted-known (start .pre .1) .0)
 
-over-fields-cast-above : (t : ℕ) → over-fields-lts.Need-cast-above (callees t) (over-fields-at t) over-fields.Post
+over-fields-cast-above : (t : ℕ)
+    → over-fields-lts.Need-cast-above (callees t) (over-fields-at t) over-fields.Post
 over-fields-cast-above t c =
     let start = c .before .before .before .before .before .before in
     omega (arith, c .shared-slice-known5 .given (start .args .at * 4 + 2))
 
-over-fields-mul-field-room : (t : ℕ) → over-fields-lts.Need-mul-field-room (callees t) (over-fields-at t) over-fields.Post
+over-fields-mul-field-room : (t : ℕ)
+    → over-fields-lts.Need-mul-field-room (callees t) (over-fields-at t) over-fields.Post
 over-fields-mul-field-room t c =
     let start = c .before .before .before .before .before .before in
     omega (arith, counted-above (start .pre .1) (c .before .if1 .left))
 
-over-fields-add-field-room : (t : ℕ) → over-fields-lts.Need-add-field-room (callees t) (over-fields-at t) over-fields.Post
+over-fields-add-field-room : (t : ℕ)
+    → over-fields-lts.Need-add-field-room (callees t) (over-fields-at t) over-fields.Post
 over-fields-add-field-room t c =
     let start = c .before .before .before .before .before .before in
     omega (arith, counted-above (start .pre .1) (c .before .if1 .left))
 
-over-fields-mul-field-room-2 : (t : ℕ) → over-fields-lts.Need-mul-field-room-2 (callees t) (over-fields-at t) over-fields.Post
+over-fields-mul-field-room-2 : (t : ℕ)
+    → over-fields-lts.Need-mul-field-room-2 (callees t) (over-fields-at t) over-fields.Post
 over-fields-mul-field-room-2 t c =
     let start = c .before .before .before .before .before .before in
     omega (arith, counted-above (start .pre .1) (c .before .if1 .left))
 
-over-fields-shared-slice-read-field-room : (t : ℕ) → over-fields-lts.Need-shared-slice-read-field-room (callees t) (over-fields-at t) over-fields.Post
+over-fields-shared-slice-read-field-room : (t : ℕ)
+    → over-fields-lts.Need-shared-slice-read-field-room (callees t) (over-fields-at t) over-fields.Post
 over-fields-shared-slice-read-field-room t c =
     let start = c .before .before .before .before .before .before .before in
     omega (arith, counted-above (start .pre .1) (c .before .before .if1 .left))
 
-over-fields-cast-field-room : (t : ℕ) → over-fields-lts.Need-cast-field-room (callees t) (over-fields-at t) over-fields.Post
+over-fields-cast-field-room : (t : ℕ)
+    → over-fields-lts.Need-cast-field-room (callees t) (over-fields-at t) over-fields.Post
 over-fields-cast-field-room t c =
     let start = c .before .before .before .before .before .before .before in
     omega (
@@ -104,7 +116,8 @@ over-fields-cast-field-room t c =
           (getD (start .args .rows .now) (start .args .at * 4 + 2) 0 * 576 + 515),
     )
 
-over-fields-field-room-requires : (t : ℕ) → over-fields-lts.Need-field-room-requires (callees t) (over-fields-at t) over-fields.Post
+over-fields-field-room-requires : (t : ℕ)
+    → over-fields-lts.Need-field-room-requires (callees t) (over-fields-at t) over-fields.Post
 over-fields-field-room-requires t c κs = search needs
 
 over-fields-add-skip : (t : ℕ) → over-fields-lts.Need-add-skip (callees t) (over-fields-at t) over-fields.Post
@@ -112,44 +125,52 @@ over-fields-add-skip t c =
     let start = c .before .before .before .before .before .before .before .before in
     omega (arith, counted-known (start .pre .1) .1)
 
-over-fields-skip-requires : (t : ℕ) → over-fields-lts.Need-skip-requires (callees t) (over-fields-at t) over-fields.Post
+over-fields-skip-requires : (t : ℕ)
+    → over-fields-lts.Need-skip-requires (callees t) (over-fields-at t) over-fields.Post
 over-fields-skip-requires t c κs = search needs
 
 over-fields-sub-if2 : (t : ℕ) → over-fields-lts.Need-sub-if2 (callees t) (over-fields-at t) over-fields.Post
 over-fields-sub-if2 t c = omega (arith, c .skip .ensures .from)
 
-over-fields-sub-if2-2 : (t : ℕ) → over-fields-lts.Need-sub-if2-2 (callees t) (over-fields-at t) over-fields.Post
+over-fields-sub-if2-2 : (t : ℕ)
+    → over-fields-lts.Need-sub-if2-2 (callees t) (over-fields-at t) over-fields.Post
 over-fields-sub-if2-2 t c = omega (arith, c .skip .ensures .from)
 
-over-fields-add-result : (t : ℕ) → over-fields-lts.Need-add-result (callees t) (over-fields-at t) over-fields.Post
+over-fields-add-result : (t : ℕ)
+    → over-fields-lts.Need-add-result (callees t) (over-fields-at t) over-fields.Post
 over-fields-add-result t c =
     let start = c .before .before .before .before .before .before .before .before .before .before in
     omega (arith, counted-known (start .pre .1) .1)
 
-over-fields-add-result-2 : (t : ℕ) → over-fields-lts.Need-add-result-2 (callees t) (over-fields-at t) over-fields.Post
+over-fields-add-result-2 : (t : ℕ)
+    → over-fields-lts.Need-add-result-2 (callees t) (over-fields-at t) over-fields.Post
 over-fields-add-result-2 t c =
     let start = c .before .before .before .before .before .before .before .before .before .before in
     omega (arith, counted-known (start .pre .1) .1, c .before .before .field-room .ensures)
 
-over-fields-cast-result : (t : ℕ) → over-fields-lts.Need-cast-result (callees t) (over-fields-at t) over-fields.Post
+over-fields-cast-result : (t : ℕ)
+    → over-fields-lts.Need-cast-result (callees t) (over-fields-at t) over-fields.Post
 over-fields-cast-result t c =
     let start = c .before .before .before .before .before .before .before .before .before .before in
     omega (arith, counted-known (start .pre .1) .1, c .before .before .field-room .ensures)
 
-over-fields-returns-2 : (t : ℕ) → over-fields-lts.Need-returns-2 (callees t) (over-fields-at t) over-fields.Post
+over-fields-returns-2 : (t : ℕ)
+    → over-fields-lts.Need-returns-2 (callees t) (over-fields-at t) over-fields.Post
 over-fields-returns-2 t c =
     let the-if1 = c .before .before .before .before .before .if1 in
     limited-here (c .before .skip .ensures) (the-if1 .left) (c .before .before .field-room .ensures) _ refl
     (c .if2 .taken)
 
-over-fields-after-methods-requires : (t : ℕ) → over-fields-lts.Need-after-methods-requires (callees t) (over-fields-at t) over-fields.Post
+over-fields-after-methods-requires : (t : ℕ)
+    → over-fields-lts.Need-after-methods-requires (callees t) (over-fields-at t) over-fields.Post
 over-fields-after-methods-requires t c κs =
     let start = c .before .before .before .before .before .before .before .before .before .before in
     let the-if1 = c .before .before .before .before .before .if1 in
     counted-stand (c .before .skip .ensures) (the-if1 .left) (c .before .before .field-room .ensures)
     (start .pre .1)
 
-over-fields-over-fields-requires : (t : ℕ) → over-fields-lts.Need-over-fields-requires (callees t) (over-fields-at t) over-fields.Post
+over-fields-over-fields-requires : (t : ℕ)
+    → over-fields-lts.Need-over-fields-requires (callees t) (over-fields-at t) over-fields.Post
 over-fields-over-fields-requires t c κs =
     let start = c .before .before .before .before .before .before .before .before .before .before .before in
     let the-if1 = c .before .before .before .before .before .before .if1 in
@@ -157,7 +178,8 @@ over-fields-over-fields-requires t c κs =
     (c .before .before .before .field-room .ensures) (c .after-methods .ensures) (start .pre .1) in
     (omega (arith, r .1, start .pre .0, counted-known (start .pre .1) .1), r .0)
 
-over-fields-returns-3 : (t : ℕ) → over-fields-lts.Need-returns-3 (callees t) (over-fields-at t) over-fields.Post
+over-fields-returns-3 : (t : ℕ)
+    → over-fields-lts.Need-returns-3 (callees t) (over-fields-at t) over-fields.Post
 over-fields-returns-3 t c =
     let the-if1 = c .before .before .before .before .before .before .before .if1 in
     let the-field-room = c .before .before .before .before .field-room in

@@ -1,5 +1,5 @@
 use mathlib.Core.Path.{refl, _∙_}
-use Prim.Native.Nat.{ℕ, _+_, _-_, _<_}
+use Prim.Native.Nat.{ℕ, _<_}
 use native.Mathlib.Omega.{arith}
 use borrow.Author.Needs.{needs}
 use borrow.Fn.Kinds.{In}
@@ -36,7 +36,8 @@ put-copies-mul-row t c =
     let start = c .before .before .before .before in
     omega (arith, fields-in (start .pre .1 .0) (c .if1 .left) .0)
 
-put-copies-shared-slice-read-row : (t : ℕ) → put-copies-lts.Need-shared-slice-read-row (callees t) (put-copies-at t) put-copies.Post
+put-copies-shared-slice-read-row : (t : ℕ)
+    → put-copies-lts.Need-shared-slice-read-row (callees t) (put-copies-at t) put-copies.Post
 put-copies-shared-slice-read-row t c =
     let start = c .before .before .before .before .before in
     omega (arith, fields-in (start .pre .1 .0) (c .before .if1 .left) .0)
@@ -61,7 +62,8 @@ put-copies-mul-name-2 t c =
     let start = c .before .before .before .before .before in
     omega (arith, fields-in (start .pre .1 .0) (c .before .if1 .left) .1)
 
-put-copies-shared-slice-read-name : (t : ℕ) → put-copies-lts.Need-shared-slice-read-name (callees t) (put-copies-at t) put-copies.Post
+put-copies-shared-slice-read-name : (t : ℕ)
+    → put-copies-lts.Need-shared-slice-read-name (callees t) (put-copies-at t) put-copies.Post
 put-copies-shared-slice-read-name t c =
     let start = c .before .before .before .before .before .before in
     omega (arith, fields-in (start .pre .1 .0) (c .before .before .if1 .left) .1)
@@ -69,28 +71,35 @@ put-copies-shared-slice-read-name t c =
 put-copies-add-t19 : (t : ℕ) → put-copies-lts.Need-add-t19 (callees t) (put-copies-at t) put-copies.Post
 put-copies-add-t19 t c = omega (arith, c .before .before .before .before .before .before .pre .1 .1 .1)
 
-put-copies-slice-aggregate-put : (t : ℕ) → put-copies-lts.Need-slice-aggregate-put (callees t) (put-copies-at t) put-copies.Post
+put-copies-slice-aggregate-put : (t : ℕ)
+    → put-copies-lts.Need-slice-aggregate-put (callees t) (put-copies-at t) put-copies.Post
 put-copies-slice-aggregate-put t c = search needs
 
-put-copies-put-requires : (t : ℕ) → put-copies-lts.Need-put-requires (callees t) (put-copies-at t) put-copies.Post
+put-copies-put-requires : (t : ℕ)
+    → put-copies-lts.Need-put-requires (callees t) (put-copies-at t) put-copies.Post
 put-copies-put-requires t c κs =
     let start = c .before .before .before .before .before .before .before .before in
     let the-if1 = c .before .before .before .before .if1 in omega (arith, start .pre .1 .1 .0, the-if1 .left)
 
-put-copies-add-put-copies : (t : ℕ) → put-copies-lts.Need-add-put-copies (callees t) (put-copies-at t) put-copies.Post
+put-copies-add-put-copies : (t : ℕ)
+    → put-copies-lts.Need-add-put-copies (callees t) (put-copies-at t) put-copies.Post
 put-copies-add-put-copies t c =
-    let start = c .before .before .before .before .before .before .before .before .before .before .before .before in
+    let start = c .before .before .before .before .before .before .before .before .before .before .before
+    .before in
     let the-if1 = c .before .before .before .before .before .before .before .before .if1 in
     omega (arith, fields-in (start .pre .1 .0) (the-if1 .left) .0)
 
-put-copies-sub-put-copies : (t : ℕ) → put-copies-lts.Need-sub-put-copies (callees t) (put-copies-at t) put-copies.Post
+put-copies-sub-put-copies : (t : ℕ)
+    → put-copies-lts.Need-sub-put-copies (callees t) (put-copies-at t) put-copies.Post
 put-copies-sub-put-copies t c =
     let the-if1 = c .before .before .before .before .before .before .before .before .if1 in
     omega (arith, the-if1 .left)
 
-put-copies-put-copies-requires : (t : ℕ) → put-copies-lts.Need-put-copies-requires (callees t) (put-copies-at t) put-copies.Post
+put-copies-put-copies-requires : (t : ℕ)
+    → put-copies-lts.Need-put-copies-requires (callees t) (put-copies-at t) put-copies.Post
 put-copies-put-copies-requires t c κs =
-    let start = c .before .before .before .before .before .before .before .before .before .before .before .before in
+    let start = c .before .before .before .before .before .before .before .before .before .before .before
+    .before in
     let the-if1 = c .before .before .before .before .before .before .before .before .if1 in (
       omega (arith, the-if1 .left),
       (
@@ -102,14 +111,16 @@ put-copies-put-copies-requires t c κs =
       ),
     )
 
-put-copies-same-length : (t : ℕ) → put-copies-lts.Need-same-length (callees t) (put-copies-at t) put-copies.Post
+put-copies-same-length : (t : ℕ)
+    → put-copies-lts.Need-same-length (callees t) (put-copies-at t) put-copies.Post
 put-copies-same-length t c =
     c .before .before .put-copies .kept .1 .1 .0
     ∙ written-long (c .before .before .before .before .before .before .put .ensures)
 
 put-copies-returns-2 : (t : ℕ) → put-copies-lts.Need-returns-2 (callees t) (put-copies-at t) put-copies.Post
 put-copies-returns-2 t c =
-    let the-if1 = c .before .before .before .before .before .before .before .before .before .before .before .if1 in
+    let the-if1 = c .before .before .before .before .before .before .before .before .before .before
+    .before .if1 in
     let the-put = c .before .before .before .before .before .before .put in
     copies-step (the-if1 .left) refl (the-put .ensures) (c .before .before .put-copies .ensures)
 

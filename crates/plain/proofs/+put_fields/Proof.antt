@@ -1,5 +1,5 @@
 use mathlib.Core.Path.{_∙_}
-use Prim.Native.Nat.{ℕ, _+_, _-_, _<_}
+use Prim.Native.Nat.{ℕ, _<_}
 use native.Mathlib.Omega.{arith}
 use borrow.Author.Needs.{needs}
 use borrow.Fn.Kinds.{In}
@@ -39,22 +39,27 @@ callees t = (
 put-fields-returns : (t : ℕ) → put-fields-lts.Need-returns (callees t) (put-fields-at t) put-fields.Post
 put-fields-returns t c = field-none (c .if1 .taken)
 
-put-fields-mul-plain-type : (t : ℕ) → put-fields-lts.Need-mul-plain-type (callees t) (put-fields-at t) put-fields.Post
+put-fields-mul-plain-type : (t : ℕ)
+    → put-fields-lts.Need-mul-plain-type (callees t) (put-fields-at t) put-fields.Post
 put-fields-mul-plain-type t c = omega (arith, field-in (c .before .before .before .pre .1 .0) (c .if1 .left))
 
-put-fields-add-plain-type : (t : ℕ) → put-fields-lts.Need-add-plain-type (callees t) (put-fields-at t) put-fields.Post
+put-fields-add-plain-type : (t : ℕ)
+    → put-fields-lts.Need-add-plain-type (callees t) (put-fields-at t) put-fields.Post
 put-fields-add-plain-type t c = omega (arith, field-in (c .before .before .before .pre .1 .0) (c .if1 .left))
 
-put-fields-mul-plain-type-2 : (t : ℕ) → put-fields-lts.Need-mul-plain-type-2 (callees t) (put-fields-at t) put-fields.Post
+put-fields-mul-plain-type-2 : (t : ℕ)
+    → put-fields-lts.Need-mul-plain-type-2 (callees t) (put-fields-at t) put-fields.Post
 put-fields-mul-plain-type-2 t c =
     omega (arith, field-in (c .before .before .before .pre .1 .0) (c .if1 .left))
 
-put-fields-shared-slice-read-plain-type : (t : ℕ) → put-fields-lts.Need-shared-slice-read-plain-type (callees t) (put-fields-at t) put-fields.Post
+put-fields-shared-slice-read-plain-type : (t : ℕ)
+    → put-fields-lts.Need-shared-slice-read-plain-type (callees t) (put-fields-at t) put-fields.Post
 put-fields-shared-slice-read-plain-type t c =
     let start = c .before .before .before .before in
     omega (arith, field-in (start .pre .1 .0) (c .before .if1 .left))
 
-put-fields-plain-type-requires : (t : ℕ) → put-fields-lts.Need-plain-type-requires (callees t) (put-fields-at t) put-fields.Post
+put-fields-plain-type-requires : (t : ℕ)
+    → put-fields-lts.Need-plain-type-requires (callees t) (put-fields-at t) put-fields.Post
 put-fields-plain-type-requires t c κs = search needs
 
 put-fields-mul-t10 : (t : ℕ) → put-fields-lts.Need-mul-t10 (callees t) (put-fields-at t) put-fields.Post
@@ -72,34 +77,42 @@ put-fields-mul-t12 t c =
     let start = c .before .before .before .before .before in
     omega (arith, field-in (start .pre .1 .0) (c .before .before .if1 .left))
 
-put-fields-shared-slice-read-t14 : (t : ℕ) → put-fields-lts.Need-shared-slice-read-t14 (callees t) (put-fields-at t) put-fields.Post
+put-fields-shared-slice-read-t14 : (t : ℕ)
+    → put-fields-lts.Need-shared-slice-read-t14 (callees t) (put-fields-at t) put-fields.Post
 put-fields-shared-slice-read-t14 t c =
     let start = c .before .before .before .before .before .before in
     omega (arith, field-in (start .pre .1 .0) (c .before .before .before .if1 .left))
 
-put-fields-slice-aggregate-put : (t : ℕ) → put-fields-lts.Need-slice-aggregate-put (callees t) (put-fields-at t) put-fields.Post
+put-fields-slice-aggregate-put : (t : ℕ)
+    → put-fields-lts.Need-slice-aggregate-put (callees t) (put-fields-at t) put-fields.Post
 put-fields-slice-aggregate-put t c = search needs
 
-put-fields-put-requires : (t : ℕ) → put-fields-lts.Need-put-requires (callees t) (put-fields-at t) put-fields.Post
+put-fields-put-requires : (t : ℕ)
+    → put-fields-lts.Need-put-requires (callees t) (put-fields-at t) put-fields.Post
 put-fields-put-requires t c κs =
     let start = c .before .before .before .before .before .before .before .before in
     let the-if1 = c .before .before .before .before .before .if1 in
     omega (arith, start .pre .1 .1, the-if1 .left)
 
-put-fields-add-put-fields : (t : ℕ) → put-fields-lts.Need-add-put-fields (callees t) (put-fields-at t) put-fields.Post
+put-fields-add-put-fields : (t : ℕ)
+    → put-fields-lts.Need-add-put-fields (callees t) (put-fields-at t) put-fields.Post
 put-fields-add-put-fields t c =
-    let start = c .before .before .before .before .before .before .before .before .before .before .before .before in
+    let start = c .before .before .before .before .before .before .before .before .before .before .before
+    .before in
     let the-if1 = c .before .before .before .before .before .before .before .before .before .if1 in
     omega (arith, field-in (start .pre .1 .0) (the-if1 .left))
 
-put-fields-sub-put-fields : (t : ℕ) → put-fields-lts.Need-sub-put-fields (callees t) (put-fields-at t) put-fields.Post
+put-fields-sub-put-fields : (t : ℕ)
+    → put-fields-lts.Need-sub-put-fields (callees t) (put-fields-at t) put-fields.Post
 put-fields-sub-put-fields t c =
     let the-if1 = c .before .before .before .before .before .before .before .before .before .if1 in
     omega (arith, the-if1 .left)
 
-put-fields-put-fields-requires : (t : ℕ) → put-fields-lts.Need-put-fields-requires (callees t) (put-fields-at t) put-fields.Post
+put-fields-put-fields-requires : (t : ℕ)
+    → put-fields-lts.Need-put-fields-requires (callees t) (put-fields-at t) put-fields.Post
 put-fields-put-fields-requires t c κs =
-    let start = c .before .before .before .before .before .before .before .before .before .before .before .before in
+    let start = c .before .before .before .before .before .before .before .before .before .before .before
+    .before in
     let the-if1 = c .before .before .before .before .before .before .before .before .before .if1 in (
       omega (arith, the-if1 .left),
       (
@@ -108,15 +121,18 @@ put-fields-put-fields-requires t c κs =
       ),
     )
 
-put-fields-same-length : (t : ℕ) → put-fields-lts.Need-same-length (callees t) (put-fields-at t) put-fields.Post
+put-fields-same-length : (t : ℕ)
+    → put-fields-lts.Need-same-length (callees t) (put-fields-at t) put-fields.Post
 put-fields-same-length t c =
     c .before .before .put-fields .kept .1 .0
     ∙ written-long (c .before .before .before .before .before .before .put .ensures)
 
 put-fields-returns-2 : (t : ℕ) → put-fields-lts.Need-returns-2 (callees t) (put-fields-at t) put-fields.Post
 put-fields-returns-2 t c =
-    let the-if1 = c .before .before .before .before .before .before .before .before .before .before .before .before .if1 in
-    let the-plain-type = c .before .before .before .before .before .before .before .before .before .before .plain-type in
+    let the-if1 = c .before .before .before .before .before .before .before .before .before .before .before
+    .before .if1 in
+    let the-plain-type =
+    c .before .before .before .before .before .before .before .before .before .before .plain-type in
     let the-put = c .before .before .before .before .before .before .put in
     field-step (the-if1 .left) (the-plain-type .ensures) (the-put .ensures)
     (c .before .before .put-fields .ensures)

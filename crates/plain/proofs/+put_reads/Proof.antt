@@ -1,5 +1,5 @@
 use mathlib.Core.Path.{_∙_}
-use Prim.Native.Nat.{ℕ, _+_, _-_, _<_}
+use Prim.Native.Nat.{ℕ, _<_}
 use native.Mathlib.Omega.{arith}
 use borrow.Author.Needs.{needs}
 use borrow.Fn.Kinds.{In}
@@ -30,7 +30,8 @@ callees t = (put-reads′.Asked, put-reads′.Learnt, put-reads-below t, put-rea
 put-reads-returns : (t : ℕ) → put-reads-lts.Need-returns (callees t) (put-reads-at t) put-reads.Post
 put-reads-returns t c = reads-none _ _ (c .if1 .taken)
 
-put-reads-slice-aggregate-put : (t : ℕ) → put-reads-lts.Need-slice-aggregate-put (callees t) (put-reads-at t) put-reads.Post
+put-reads-slice-aggregate-put : (t : ℕ)
+    → put-reads-lts.Need-slice-aggregate-put (callees t) (put-reads-at t) put-reads.Post
 put-reads-slice-aggregate-put t c = search needs
 
 put-reads-put-requires : (t : ℕ) → put-reads-lts.Need-put-requires (callees t) (put-reads-at t) put-reads.Post
@@ -38,15 +39,18 @@ put-reads-put-requires t c κs =
     let start = c .before .before .before .before in
     omega (arith, start .pre .1 .0, c .before .before .if1 .left)
 
-put-reads-add-put-reads : (t : ℕ) → put-reads-lts.Need-add-put-reads (callees t) (put-reads-at t) put-reads.Post
+put-reads-add-put-reads : (t : ℕ)
+    → put-reads-lts.Need-add-put-reads (callees t) (put-reads-at t) put-reads.Post
 put-reads-add-put-reads t c =
     let start = c .before .before .before .before .before .before .before .before in
     omega (arith, start .pre .1 .1)
 
-put-reads-sub-put-reads : (t : ℕ) → put-reads-lts.Need-sub-put-reads (callees t) (put-reads-at t) put-reads.Post
+put-reads-sub-put-reads : (t : ℕ)
+    → put-reads-lts.Need-sub-put-reads (callees t) (put-reads-at t) put-reads.Post
 put-reads-sub-put-reads t c = omega (arith, c .before .before .before .before .before .before .if1 .left)
 
-put-reads-put-reads-requires : (t : ℕ) → put-reads-lts.Need-put-reads-requires (callees t) (put-reads-at t) put-reads.Post
+put-reads-put-reads-requires : (t : ℕ)
+    → put-reads-lts.Need-put-reads-requires (callees t) (put-reads-at t) put-reads.Post
 put-reads-put-reads-requires t c κs =
     let start = c .before .before .before .before .before .before .before .before in
     let the-if1 = c .before .before .before .before .before .before .if1 in (

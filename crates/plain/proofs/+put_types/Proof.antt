@@ -1,5 +1,5 @@
 use mathlib.Core.Path.{_∙_}
-use Prim.Native.Nat.{ℕ, _+_, _-_, _<_}
+use Prim.Native.Nat.{ℕ, _<_}
 use native.Mathlib.Omega.{arith}
 use borrow.Author.Needs.{needs}
 use borrow.Fn.Kinds.{In}
@@ -38,24 +38,30 @@ callees t = (
 put-types-returns : (t : ℕ) → put-types-lts.Need-returns (callees t) (put-types-at t) put-types.Post
 put-types-returns t c = types-none (c .if1 .taken)
 
-put-types-mul-plain-type : (t : ℕ) → put-types-lts.Need-mul-plain-type (callees t) (put-types-at t) put-types.Post
+put-types-mul-plain-type : (t : ℕ)
+    → put-types-lts.Need-mul-plain-type (callees t) (put-types-at t) put-types.Post
 put-types-mul-plain-type t c = omega (arith, types-in (c .before .before .before .pre .1 .0) (c .if1 .left))
 
-put-types-add-plain-type : (t : ℕ) → put-types-lts.Need-add-plain-type (callees t) (put-types-at t) put-types.Post
+put-types-add-plain-type : (t : ℕ)
+    → put-types-lts.Need-add-plain-type (callees t) (put-types-at t) put-types.Post
 put-types-add-plain-type t c = omega (arith, types-in (c .before .before .before .pre .1 .0) (c .if1 .left))
 
-put-types-mul-plain-type-2 : (t : ℕ) → put-types-lts.Need-mul-plain-type-2 (callees t) (put-types-at t) put-types.Post
+put-types-mul-plain-type-2 : (t : ℕ)
+    → put-types-lts.Need-mul-plain-type-2 (callees t) (put-types-at t) put-types.Post
 put-types-mul-plain-type-2 t c = omega (arith, types-in (c .before .before .before .pre .1 .0) (c .if1 .left))
 
-put-types-shared-slice-read-plain-type : (t : ℕ) → put-types-lts.Need-shared-slice-read-plain-type (callees t) (put-types-at t) put-types.Post
+put-types-shared-slice-read-plain-type : (t : ℕ)
+    → put-types-lts.Need-shared-slice-read-plain-type (callees t) (put-types-at t) put-types.Post
 put-types-shared-slice-read-plain-type t c =
     let start = c .before .before .before .before in
     omega (arith, types-in (start .pre .1 .0) (c .before .if1 .left))
 
-put-types-plain-type-requires : (t : ℕ) → put-types-lts.Need-plain-type-requires (callees t) (put-types-at t) put-types.Post
+put-types-plain-type-requires : (t : ℕ)
+    → put-types-lts.Need-plain-type-requires (callees t) (put-types-at t) put-types.Post
 put-types-plain-type-requires t c κs = search needs
 
-put-types-slice-aggregate-put : (t : ℕ) → put-types-lts.Need-slice-aggregate-put (callees t) (put-types-at t) put-types.Post
+put-types-slice-aggregate-put : (t : ℕ)
+    → put-types-lts.Need-slice-aggregate-put (callees t) (put-types-at t) put-types.Post
 put-types-slice-aggregate-put t c = search needs
 
 put-types-put-requires : (t : ℕ) → put-types-lts.Need-put-requires (callees t) (put-types-at t) put-types.Post
@@ -63,18 +69,21 @@ put-types-put-requires t c κs =
     let start = c .before .before .before .before .before .before .before in
     let the-if1 = c .before .before .before .before .if1 in omega (arith, start .pre .1 .1, the-if1 .left)
 
-put-types-add-put-types : (t : ℕ) → put-types-lts.Need-add-put-types (callees t) (put-types-at t) put-types.Post
+put-types-add-put-types : (t : ℕ)
+    → put-types-lts.Need-add-put-types (callees t) (put-types-at t) put-types.Post
 put-types-add-put-types t c =
     let start = c .before .before .before .before .before .before .before .before .before .before .before in
     let the-if1 = c .before .before .before .before .before .before .before .before .if1 in
     omega (arith, types-in (start .pre .1 .0) (the-if1 .left))
 
-put-types-sub-put-types : (t : ℕ) → put-types-lts.Need-sub-put-types (callees t) (put-types-at t) put-types.Post
+put-types-sub-put-types : (t : ℕ)
+    → put-types-lts.Need-sub-put-types (callees t) (put-types-at t) put-types.Post
 put-types-sub-put-types t c =
     let the-if1 = c .before .before .before .before .before .before .before .before .if1 in
     omega (arith, the-if1 .left)
 
-put-types-put-types-requires : (t : ℕ) → put-types-lts.Need-put-types-requires (callees t) (put-types-at t) put-types.Post
+put-types-put-types-requires : (t : ℕ)
+    → put-types-lts.Need-put-types-requires (callees t) (put-types-at t) put-types.Post
 put-types-put-types-requires t c κs =
     let start = c .before .before .before .before .before .before .before .before .before .before .before in
     let the-if1 = c .before .before .before .before .before .before .before .before .if1 in (
@@ -92,8 +101,10 @@ put-types-same-length t c =
 
 put-types-returns-2 : (t : ℕ) → put-types-lts.Need-returns-2 (callees t) (put-types-at t) put-types.Post
 put-types-returns-2 t c =
-    let the-if1 = c .before .before .before .before .before .before .before .before .before .before .before .if1 in
-    let the-plain-type = c .before .before .before .before .before .before .before .before .before .plain-type in
+    let the-if1 = c .before .before .before .before .before .before .before .before .before .before
+    .before .if1 in
+    let the-plain-type =
+    c .before .before .before .before .before .before .before .before .before .plain-type in
     let the-put = c .before .before .before .before .before .before .put in
     types-step (the-if1 .left) (the-plain-type .ensures) (the-put .ensures)
     (c .before .before .put-types .ensures)

@@ -1,6 +1,6 @@
 use mathlib.Core.Path.{refl}
 use mathlib.Core.Logic.{inl, inr}
-use Prim.Native.Nat.{ℕ, _+_, _-_, _<_}
+use Prim.Native.Nat.{ℕ, _<_}
 use native.Mathlib.Omega.{arith}
 use borrow.Fn.Kinds.{In}
 use borrow.Fn.PlainCycle.{Measures, is, falls, and}
@@ -27,22 +27,27 @@ reserved-field-below t =
 abbrev callees : ℕ → reserved-field-lts.Claims
 callees t = (reserved-field-below t, reserved-field.Post)
 
-reserved-field-returns : (t : ℕ) → reserved-field-lts.Need-returns (callees t) (reserved-field-at t) reserved-field.Post
+reserved-field-returns : (t : ℕ)
+    → reserved-field-lts.Need-returns (callees t) (reserved-field-at t) reserved-field.Post
 reserved-field-returns t c = free-none (c .if1 .taken)
 
-reserved-field-mul-name : (t : ℕ) → reserved-field-lts.Need-mul-name (callees t) (reserved-field-at t) reserved-field.Post
+reserved-field-mul-name : (t : ℕ)
+    → reserved-field-lts.Need-mul-name (callees t) (reserved-field-at t) reserved-field.Post
 reserved-field-mul-name t c =
     omega (arith, field-in (c .before .before .pre .1 .0) (c .if1 .left), c .before .before .pre .1 .1)
 
-reserved-field-add-name : (t : ℕ) → reserved-field-lts.Need-add-name (callees t) (reserved-field-at t) reserved-field.Post
+reserved-field-add-name : (t : ℕ)
+    → reserved-field-lts.Need-add-name (callees t) (reserved-field-at t) reserved-field.Post
 reserved-field-add-name t c =
     omega (arith, field-in (c .before .before .pre .1 .0) (c .if1 .left), c .before .before .pre .1 .1)
 
-reserved-field-mul-name-2 : (t : ℕ) → reserved-field-lts.Need-mul-name-2 (callees t) (reserved-field-at t) reserved-field.Post
+reserved-field-mul-name-2 : (t : ℕ)
+    → reserved-field-lts.Need-mul-name-2 (callees t) (reserved-field-at t) reserved-field.Post
 reserved-field-mul-name-2 t c =
     omega (arith, field-in (c .before .before .pre .1 .0) (c .if1 .left), c .before .before .pre .1 .1)
 
-reserved-field-shared-slice-read-name : (t : ℕ) → reserved-field-lts.Need-shared-slice-read-name (callees t) (reserved-field-at t) reserved-field.Post
+reserved-field-shared-slice-read-name : (t : ℕ)
+    → reserved-field-lts.Need-shared-slice-read-name (callees t) (reserved-field-at t) reserved-field.Post
 reserved-field-shared-slice-read-name t c =
     omega (
       arith,
@@ -50,48 +55,58 @@ reserved-field-shared-slice-read-name t c =
       c .before .before .before .pre .1 .1,
     )
 
-reserved-field-cast-result : (t : ℕ) → reserved-field-lts.Need-cast-result (callees t) (reserved-field-at t) reserved-field.Post
+reserved-field-cast-result : (t : ℕ)
+    → reserved-field-lts.Need-cast-result (callees t) (reserved-field-at t) reserved-field.Post
 reserved-field-cast-result t c =
     let start = c .before .before .before .before in
     omega (arith, field-in (start .pre .1 .0) (c .before .before .if1 .left), start .pre .1 .1)
 
-reserved-field-add-result : (t : ℕ) → reserved-field-lts.Need-add-result (callees t) (reserved-field-at t) reserved-field.Post
+reserved-field-add-result : (t : ℕ)
+    → reserved-field-lts.Need-add-result (callees t) (reserved-field-at t) reserved-field.Post
 reserved-field-add-result t c =
     let start = c .before .before .before .before in
     omega (arith, field-in (start .pre .1 .0) (c .before .before .if1 .left), start .pre .1 .1)
 
-reserved-field-returns-2 : (t : ℕ) → reserved-field-lts.Need-returns-2 (callees t) (reserved-field-at t) reserved-field.Post
+reserved-field-returns-2 : (t : ℕ)
+    → reserved-field-lts.Need-returns-2 (callees t) (reserved-field-at t) reserved-field.Post
 reserved-field-returns-2 t c = free-here _ refl (c .before .before .if1 .left) (inl (c .if2 .taken))
 
-reserved-field-cast-result-2 : (t : ℕ) → reserved-field-lts.Need-cast-result-2 (callees t) (reserved-field-at t) reserved-field.Post
+reserved-field-cast-result-2 : (t : ℕ)
+    → reserved-field-lts.Need-cast-result-2 (callees t) (reserved-field-at t) reserved-field.Post
 reserved-field-cast-result-2 t c =
     let start = c .before .before .before .before .before in
     omega (arith, field-in (start .pre .1 .0) (c .before .before .before .if1 .left), start .pre .1 .1)
 
-reserved-field-add-result-2 : (t : ℕ) → reserved-field-lts.Need-add-result-2 (callees t) (reserved-field-at t) reserved-field.Post
+reserved-field-add-result-2 : (t : ℕ)
+    → reserved-field-lts.Need-add-result-2 (callees t) (reserved-field-at t) reserved-field.Post
 reserved-field-add-result-2 t c =
     let start = c .before .before .before .before .before in
     omega (arith, field-in (start .pre .1 .0) (c .before .before .before .if1 .left), start .pre .1 .1)
 
-reserved-field-returns-3 : (t : ℕ) → reserved-field-lts.Need-returns-3 (callees t) (reserved-field-at t) reserved-field.Post
+reserved-field-returns-3 : (t : ℕ)
+    → reserved-field-lts.Need-returns-3 (callees t) (reserved-field-at t) reserved-field.Post
 reserved-field-returns-3 t c = free-here _ refl (c .before .before .before .if1 .left) (inr (c .if3 .taken))
 
-reserved-field-add-reserved-field : (t : ℕ) → reserved-field-lts.Need-add-reserved-field (callees t) (reserved-field-at t) reserved-field.Post
+reserved-field-add-reserved-field : (t : ℕ)
+    → reserved-field-lts.Need-add-reserved-field (callees t) (reserved-field-at t) reserved-field.Post
 reserved-field-add-reserved-field t c =
     let start = c .before .before .before .before .before in
     omega (arith, field-in (start .pre .1 .0) (c .before .before .before .if1 .left), start .pre .1 .1)
 
-reserved-field-sub-reserved-field : (t : ℕ) → reserved-field-lts.Need-sub-reserved-field (callees t) (reserved-field-at t) reserved-field.Post
+reserved-field-sub-reserved-field : (t : ℕ)
+    → reserved-field-lts.Need-sub-reserved-field (callees t) (reserved-field-at t) reserved-field.Post
 reserved-field-sub-reserved-field t c = omega (arith, c .before .before .before .if1 .left)
 
-reserved-field-reserved-field-requires : (t : ℕ) → reserved-field-lts.Need-reserved-field-requires (callees t) (reserved-field-at t) reserved-field.Post
+reserved-field-reserved-field-requires : (t : ℕ)
+    → reserved-field-lts.Need-reserved-field-requires (callees t) (reserved-field-at t) reserved-field.Post
 reserved-field-reserved-field-requires t c κs =
     let start = c .before .before .before .before .before in (
       omega (arith, c .before .before .before .if1 .left),
       (field-rest (start .pre .1 .0) (c .before .before .before .if1 .left), start .pre .1 .1),
     )
 
-reserved-field-returns-4 : (t : ℕ) → reserved-field-lts.Need-returns-4 (callees t) (reserved-field-at t) reserved-field.Post
+reserved-field-returns-4 : (t : ℕ)
+    → reserved-field-lts.Need-returns-4 (callees t) (reserved-field-at t) reserved-field.Post
 reserved-field-returns-4 t c =
     let the-if1 = c .before .before .before .before .if1 in
     free-step (the-if1 .left) (c .before .before .if2 .left) (c .before .if3 .left)

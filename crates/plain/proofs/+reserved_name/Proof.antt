@@ -1,5 +1,5 @@
 use mathlib.Core.Path.{refl}
-use Prim.Native.Nat.{ℕ, _+_, _-_, _<_}
+use Prim.Native.Nat.{ℕ, _-_, _<_}
 use native.Mathlib.Omega.{arith}
 use borrow.Author.Needs.{needs}
 use borrow.Fn.Kinds.{In}
@@ -39,59 +39,73 @@ callees t = (
   reserved-name.Post,
 )
 
-reserved-name-mul-if1 : (t : ℕ) → reserved-name-lts.Need-mul-if1 (callees t) (reserved-name-at t) reserved-name.Post
+reserved-name-mul-if1 : (t : ℕ)
+    → reserved-name-lts.Need-mul-if1 (callees t) (reserved-name-at t) reserved-name.Post
 reserved-name-mul-if1 t c = omega (arith, class-known (c .before .before .pre .1) .0)
 
-reserved-name-mul-if1-2 : (t : ℕ) → reserved-name-lts.Need-mul-if1-2 (callees t) (reserved-name-at t) reserved-name.Post
+reserved-name-mul-if1-2 : (t : ℕ)
+    → reserved-name-lts.Need-mul-if1-2 (callees t) (reserved-name-at t) reserved-name.Post
 reserved-name-mul-if1-2 t c = omega (arith, class-known (c .before .before .pre .1) .0)
 
-reserved-name-shared-slice-read-if1 : (t : ℕ) → reserved-name-lts.Need-shared-slice-read-if1 (callees t) (reserved-name-at t) reserved-name.Post
+reserved-name-shared-slice-read-if1 : (t : ℕ)
+    → reserved-name-lts.Need-shared-slice-read-if1 (callees t) (reserved-name-at t) reserved-name.Post
 reserved-name-shared-slice-read-if1 t c = omega (arith, class-known (c .before .before .before .pre .1) .0)
 
-reserved-name-returns : (t : ℕ) → reserved-name-lts.Need-returns (callees t) (reserved-name-at t) reserved-name.Post
+reserved-name-returns : (t : ℕ)
+    → reserved-name-lts.Need-returns (callees t) (reserved-name-at t) reserved-name.Post
 reserved-name-returns t c = names-none (c .if1 .taken)
 
-reserved-name-add-skip : (t : ℕ) → reserved-name-lts.Need-add-skip (callees t) (reserved-name-at t) reserved-name.Post
+reserved-name-add-skip : (t : ℕ)
+    → reserved-name-lts.Need-add-skip (callees t) (reserved-name-at t) reserved-name.Post
 reserved-name-add-skip t c = omega (arith, class-known (c .before .before .before .before .pre .1) .1)
 
-reserved-name-skip-requires : (t : ℕ) → reserved-name-lts.Need-skip-requires (callees t) (reserved-name-at t) reserved-name.Post
+reserved-name-skip-requires : (t : ℕ)
+    → reserved-name-lts.Need-skip-requires (callees t) (reserved-name-at t) reserved-name.Post
 reserved-name-skip-requires t c κs = search needs
 
-reserved-name-add-reserved-field : (t : ℕ) → reserved-name-lts.Need-add-reserved-field (callees t) (reserved-name-at t) reserved-name.Post
+reserved-name-add-reserved-field : (t : ℕ)
+    → reserved-name-lts.Need-add-reserved-field (callees t) (reserved-name-at t) reserved-name.Post
 reserved-name-add-reserved-field t c =
     let start = c .before .before .before .before .before in omega (arith, class-known (start .pre .1) .1)
 
-reserved-name-sub-reserved-field : (t : ℕ) → reserved-name-lts.Need-sub-reserved-field (callees t) (reserved-name-at t) reserved-name.Post
+reserved-name-sub-reserved-field : (t : ℕ)
+    → reserved-name-lts.Need-sub-reserved-field (callees t) (reserved-name-at t) reserved-name.Post
 reserved-name-sub-reserved-field t c = omega (arith, c .skip .ensures .from)
 
-reserved-name-sub-reserved-field-2 : (t : ℕ) → reserved-name-lts.Need-sub-reserved-field-2 (callees t) (reserved-name-at t) reserved-name.Post
+reserved-name-sub-reserved-field-2 : (t : ℕ)
+    → reserved-name-lts.Need-sub-reserved-field-2 (callees t) (reserved-name-at t) reserved-name.Post
 reserved-name-sub-reserved-field-2 t c = omega (arith, c .skip .ensures .from)
 
-reserved-name-reserved-field-requires : (t : ℕ) → reserved-name-lts.Need-reserved-field-requires (callees t) (reserved-name-at t) reserved-name.Post
+reserved-name-reserved-field-requires : (t : ℕ)
+    → reserved-name-lts.Need-reserved-field-requires (callees t) (reserved-name-at t) reserved-name.Post
 reserved-name-reserved-field-requires t c κs =
     let start = c .before .before .before .before .before in (
       class-fields (c .skip .ensures) (c .before .if1 .left) _ refl (start .pre .1),
       class-known (start .pre .1) .2,
     )
 
-reserved-name-returns-2 : (t : ℕ) → reserved-name-lts.Need-returns-2 (callees t) (reserved-name-at t) reserved-name.Post
+reserved-name-returns-2 : (t : ℕ)
+    → reserved-name-lts.Need-returns-2 (callees t) (reserved-name-at t) reserved-name.Post
 reserved-name-returns-2 t c =
     names-here (c .before .before .skip .ensures) (c .before .before .before .if1 .left) refl (c .if2 .taken)
     (c .before .reserved-field .ensures)
 
-reserved-name-after-methods-requires : (t : ℕ) → reserved-name-lts.Need-after-methods-requires (callees t) (reserved-name-at t) reserved-name.Post
+reserved-name-after-methods-requires : (t : ℕ)
+    → reserved-name-lts.Need-after-methods-requires (callees t) (reserved-name-at t) reserved-name.Post
 reserved-name-after-methods-requires t c κs =
     let start = c .before .before .before .before .before .before .before in
     class-stand (c .before .before .skip .ensures) (c .before .before .before .if1 .left) (start .pre .1)
 
-reserved-name-reserved-name-requires : (t : ℕ) → reserved-name-lts.Need-reserved-name-requires (callees t) (reserved-name-at t) reserved-name.Post
+reserved-name-reserved-name-requires : (t : ℕ)
+    → reserved-name-lts.Need-reserved-name-requires (callees t) (reserved-name-at t) reserved-name.Post
 reserved-name-reserved-name-requires t c κs =
     let start = c .before .before .before .before .before .before .before .before in
     let the-if1 = c .before .before .before .before .if1 in
     let r = class-next (c .before .before .before .skip .ensures) (the-if1 .left) (c .after-methods .ensures)
     (start .pre .1) in (omega (arith, r .1, start .pre .0, class-known (start .pre .1) .1), r .0)
 
-reserved-name-returns-3 : (t : ℕ) → reserved-name-lts.Need-returns-3 (callees t) (reserved-name-at t) reserved-name.Post
+reserved-name-returns-3 : (t : ℕ)
+    → reserved-name-lts.Need-returns-3 (callees t) (reserved-name-at t) reserved-name.Post
 reserved-name-returns-3 t c =
     let the-if1 = c .before .before .before .before .before .if1 in
     let the-skip = c .before .before .before .before .skip in

@@ -1,5 +1,4 @@
 use Rattle.plain.proofs.Bodies.{body-known, body-some, body-done}
-use Prim.Native.Nat.{_-_}
 use native.Mathlib.Omega.{arith}
 use borrow.Author.Needs.{needs}
 use Rattle.plain.proofs.emit_body.Statement.{statement}

@@ -45,14 +45,16 @@ sub-put-fields-2 c = search needs
 
 put-fields-requires : tie.Need-put-fields-requires
 put-fields-requires c κs =
-    let start = c .before .before .before .before .before .before .before .before .before .before .before .before in
+    let start = c .before .before .before .before .before .before .before .before .before .before .before
+    .before in
     let the-put = c .before .before .before .before .put in
     let d = class-fields (start .pre) _ _ _ (c .before .skip .ensures) refl (the-put .ensures .ended) in
     (d .0, d .1)
 
 emit-methods-requires : tie.Need-emit-methods-requires
 emit-methods-requires c κs =
-    let start = c .before .before .before .before .before .before .before .before .before .before .before .before .before .before .before .before in
+    let start = c .before .before .before .before .before .before .before .before .before .before .before
+    .before .before .before .before .before in
     let the-put = c .before .before .before .before .before .before .before .before .put in
     let the-skip = c .before .before .before .before .before .skip in
     class-some (the-skip .ensures) refl (the-put .ensures) (c .before .before .before .put-fields .ensures)
@@ -63,7 +65,8 @@ same-length c = search needs
 
 returns : tie.Need-returns
 returns c =
-    let the-put = c .before .before .before .before .before .before .before .before .before .before .before .put in
+    let the-put = c .before .before .before .before .before .before .before .before .before .before
+    .before .put in
     let the-skip = c .before .before .before .before .before .before .before .before .skip in
     let the-put-fields = c .before .before .before .before .before .before .put-fields in
     class-done (the-skip .ensures) refl (the-put .ensures) (the-put-fields .ensures) refl

@@ -1,5 +1,4 @@
 use Rattle.plain.proofs.Methods.{method-known, method-types, method-ended, method-body, method-done}
-use Prim.Native.Nat.{_-_}
 use native.Mathlib.Omega.{arith}
 use borrow.Author.Needs.{needs}
 use Rattle.plain.proofs.emit_method.Statement.{statement}
@@ -45,14 +44,16 @@ add-put-types c = search needs
 
 put-types-requires : tie.Need-put-types-requires
 put-types-requires c κs =
-    let start = c .before .before .before .before .before .before .before .before .before .before .before .before .before in (
+    let start = c .before .before .before .before .before .before .before .before .before .before .before
+    .before .before in (
       method-types (start .pre),
       omega (arith, method-known (start .pre) .1, c .before .before .before .put .ensures .ended),
     )
 
 emit-body-requires : tie.Need-emit-body-requires
 emit-body-requires c κs =
-    let start = c .before .before .before .before .before .before .before .before .before .before .before .before .before .before .before .before .before in
+    let start = c .before .before .before .before .before .before .before .before .before .before .before
+    .before .before .before .before .before .before in
     let the-put = c .before .before .before .before .before .before .before .put in
     method-body (start .pre) _
     (method-ended (start .pre) (the-put .ensures) (c .before .before .before .put-types .ensures))
@@ -62,7 +63,9 @@ same-length c = search needs
 
 returns : tie.Need-returns
 returns c =
-    let the-plain-type = c .before .before .before .before .before .before .before .before .before .before .before .before .before .before .plain-type in
+    let the-plain-type =
+    c .before .before .before .before .before .before .before .before .before .before .before .before
+    .before .before .plain-type in
     let the-put = c .before .before .before .before .before .before .before .before .before .before .put in
     let the-put-types = c .before .before .before .before .before .before .put-types in
     method-done (the-plain-type .ensures) (the-put .ensures) (the-put-types .ensures)

@@ -1,5 +1,4 @@
 use Rattle.plain.proofs.Programs.{program-some-classes, program-room, program-some-body, program-done}
-use Prim.Native.Nat.{_-_}
 use native.Mathlib.Omega.{arith}
 use borrow.Author.Needs.{needs}
 use Rattle.plain.proofs.emit_program.Statement.{statement}
@@ -21,23 +20,30 @@ slice-aggregate-put-2 c = search needs
 
 put-requires-2 : tie.Need-put-requires-2
 put-requires-2 c κs =
-    let start = c .before .before .before .before .before .before .before .before .before .before .before .before .before .before .before in
+    let start = c .before .before .before .before .before .before .before .before .before .before .before
+    .before .before .before .before in
     let the-put = c .before .before .before .before .before .before .before .before .put in
     let the-emit-classes = c .before .before .before .before .emit-classes in
     omega (arith, program-room (the-put .ensures) (the-emit-classes .ensures) (start .pre) .0)
 
 add-emit-body : tie.Need-add-emit-body
 add-emit-body c =
-    let start = c .before .before .before .before .before .before .before .before .before .before .before .before .before .before .before .before .before .before .before .before in
-    let the-put = c .before .before .before .before .before .before .before .before .before .before .before .before .before .put in
-    let the-emit-classes = c .before .before .before .before .before .before .before .before .before .emit-classes in
+    let start = c .before .before .before .before .before .before .before .before .before .before .before
+    .before .before .before .before .before .before .before .before .before in
+    let the-put = c .before .before .before .before .before .before .before .before .before .before .before
+    .before .before .put in
+    let the-emit-classes =
+    c .before .before .before .before .before .before .before .before .before .emit-classes in
     omega (arith, program-room (the-put .ensures) (the-emit-classes .ensures) (start .pre) .1)
 
 emit-body-requires : tie.Need-emit-body-requires
 emit-body-requires c κs =
-    let start = c .before .before .before .before .before .before .before .before .before .before .before .before .before .before .before .before .before .before .before .before in
-    let the-put = c .before .before .before .before .before .before .before .before .before .before .before .before .before .put in
-    let the-emit-classes = c .before .before .before .before .before .before .before .before .before .emit-classes in
+    let start = c .before .before .before .before .before .before .before .before .before .before .before
+    .before .before .before .before .before .before .before .before .before in
+    let the-put = c .before .before .before .before .before .before .before .before .before .before .before
+    .before .before .put in
+    let the-emit-classes =
+    c .before .before .before .before .before .before .before .before .before .emit-classes in
     let the-put2 = c .before .before .before .before .put2 in
     program-some-body (the-put .ensures) (the-emit-classes .ensures) (start .pre) (the-put2 .ensures)
 
@@ -46,8 +52,11 @@ same-length c = search needs
 
 returns : tie.Need-returns
 returns c =
-    let the-put = c .before .before .before .before .before .before .before .before .before .before .before .before .before .before .before .before .put in
-    let the-emit-classes = c .before .before .before .before .before .before .before .before .before .before .before .before .emit-classes in
+    let the-put = c .before .before .before .before .before .before .before .before .before .before .before
+    .before .before .before .before .before .put in
+    let the-emit-classes =
+    c .before .before .before .before .before .before .before .before .before .before .before
+    .before .emit-classes in
     let the-put2 = c .before .before .before .before .before .before .before .put2 in
     program-done (the-put .ensures) (the-emit-classes .ensures) (the-put2 .ensures)
     (c .before .before .emit-body .ensures)

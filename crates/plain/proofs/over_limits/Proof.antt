@@ -1,5 +1,4 @@
 use mathlib.Core.Logic.{inr}
-use Prim.Native.Nat.{_-_}
 use native.Mathlib.Omega.{arith}
 use Rattle.plain.proofs.Answers.{checked-whole, checked-counted, limits-answer}
 use borrow.Author.Needs.{needs}

@@ -1,4 +1,3 @@
-use Prim.Native.Nat.{_-_}
 use borrow.Author.Tests.{eq-eqb, ne-eqb}
 use Rattle.plain.proofs.plain_type.Statement.{statement}
 use Rattle.plain.proofs.plain_type.Tie as tie

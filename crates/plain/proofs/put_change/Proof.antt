@@ -2,7 +2,7 @@ use Rattle.plain.proofs.Writing.{written-long}
 use Rattle.plain.proofs.Renewing.{change-root, change-copies, change-after, change-done, change-this}
 use Rattle.plain.proofs.Renewing.{change-other, head-zero, head-other}
 use mathlib.Core.Path.{_∙_}
-use Prim.Native.Nat.{_+_, _-_, _*_}
+use Prim.Native.Nat.{_+_, _*_}
 use native.Mathlib.Omega.{arith}
 use borrow.Author.Needs.{needs}
 use Rattle.plain.proofs.put_change.Statement.{statement}
@@ -49,7 +49,8 @@ put-requires c κs =
 put-renew-requires : tie.Need-put-renew-requires
 put-renew-requires c κs =
     let start = c .before .before .before .before .before .before .before .before .before .before .before in
-    let the-shared-slice-known3 = c .before .before .before .before .before .before .before .shared-slice-known3 in
+    let the-shared-slice-known3 =
+    c .before .before .before .before .before .before .before .shared-slice-known3 in
     let the-if1 = c .before .before .before .before .before .before .if1 in (
       change-copies (start .pre .0) _ 28 (head-zero (the-if1 .taken))
           (c .before .before .before .put .ensures .ended),
@@ -65,8 +66,10 @@ slice-aggregate-put-2 c = search needs
 
 put-requires-2 : tie.Need-put-requires-2
 put-requires-2 c κs =
-    let start = c .before .before .before .before .before .before .before .before .before .before .before .before .before .before .before .before in
-    let the-if1 = c .before .before .before .before .before .before .before .before .before .before .before .if1 in
+    let start = c .before .before .before .before .before .before .before .before .before .before .before
+    .before .before .before .before .before in
+    let the-if1 = c .before .before .before .before .before .before .before .before .before .before
+    .before .if1 in
     let the-put = c .before .before .before .before .before .before .before .before .put in
     let the-put-renew = c .before .before .before .before .put-renew in
     change-after (start .pre .0) (head-zero (the-if1 .taken)) (the-put .ensures .ended)
@@ -74,15 +77,18 @@ put-requires-2 c κs =
 
 same-length : tie.Need-same-length
 same-length c =
-    let the-put = c .before .before .before .before .before .before .before .before .before .before .before .put in
+    let the-put = c .before .before .before .before .before .before .before .before .before .before
+    .before .put in
     let the-put-renew = c .before .before .before .before .before .before .before .put-renew in
     written-long (c .before .before .put2 .ensures) ∙ the-put-renew .kept .1 .1 .0
     ∙ written-long (the-put .ensures)
 
 returns : tie.Need-returns
 returns c =
-    let the-if1 = c .before .before .before .before .before .before .before .before .before .before .before .before .before .before .if1 in
-    let the-put = c .before .before .before .before .before .before .before .before .before .before .before .put in
+    let the-if1 = c .before .before .before .before .before .before .before .before .before .before .before
+    .before .before .before .if1 in
+    let the-put = c .before .before .before .before .before .before .before .before .before .before
+    .before .put in
     let the-put-renew = c .before .before .before .before .before .before .before .put-renew in
     change-done _ (change-this _ _ _ (the-if1 .taken)) (the-put .ensures) (the-put-renew .ensures)
     (c .before .before .put2 .ensures)
@@ -101,7 +107,8 @@ put-requires-3 c κs =
 put-renew-requires-2 : tie.Need-put-renew-requires-2
 put-renew-requires-2 c κs =
     let start = c .before .before .before .before .before .before .before .before .before .before .before in
-    let the-shared-slice-known3 = c .before .before .before .before .before .before .before .shared-slice-known3 in
+    let the-shared-slice-known3 =
+    c .before .before .before .before .before .before .before .shared-slice-known3 in
     let the-if1 = c .before .before .before .before .before .before .if1 in (
       change-copies (start .pre .0) _ 36 (head-other (the-if1 .left))
           (c .before .before .before .put3 .ensures .ended),
@@ -117,8 +124,10 @@ slice-aggregate-put-4 c = search needs
 
 put-requires-4 : tie.Need-put-requires-4
 put-requires-4 c κs =
-    let start = c .before .before .before .before .before .before .before .before .before .before .before .before .before .before .before .before in
-    let the-if1 = c .before .before .before .before .before .before .before .before .before .before .before .if1 in
+    let start = c .before .before .before .before .before .before .before .before .before .before .before
+    .before .before .before .before .before in
+    let the-if1 = c .before .before .before .before .before .before .before .before .before .before
+    .before .if1 in
     let the-put3 = c .before .before .before .before .before .before .before .before .put3 in
     let the-put-renew2 = c .before .before .before .before .put-renew2 in
     change-after (start .pre .0) (head-other (the-if1 .left)) (the-put3 .ensures .ended)
@@ -126,15 +135,18 @@ put-requires-4 c κs =
 
 same-length-2 : tie.Need-same-length-2
 same-length-2 c =
-    let the-put3 = c .before .before .before .before .before .before .before .before .before .before .before .put3 in
+    let the-put3 = c .before .before .before .before .before .before .before .before .before .before
+    .before .put3 in
     let the-put-renew2 = c .before .before .before .before .before .before .before .put-renew2 in
     written-long (c .before .before .put4 .ensures) ∙ the-put-renew2 .kept .1 .1 .0
     ∙ written-long (the-put3 .ensures)
 
 returns-2 : tie.Need-returns-2
 returns-2 c =
-    let the-if1 = c .before .before .before .before .before .before .before .before .before .before .before .before .before .before .if1 in
-    let the-put3 = c .before .before .before .before .before .before .before .before .before .before .before .put3 in
+    let the-if1 = c .before .before .before .before .before .before .before .before .before .before .before
+    .before .before .before .if1 in
+    let the-put3 = c .before .before .before .before .before .before .before .before .before .before
+    .before .put3 in
     let the-put-renew2 = c .before .before .before .before .before .before .before .put-renew2 in
     change-done _ (change-other _ _ _ (the-if1 .left)) (the-put3 .ensures) (the-put-renew2 .ensures)
     (c .before .before .put4 .ensures)

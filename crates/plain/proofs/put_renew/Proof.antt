@@ -1,7 +1,6 @@
 use Rattle.plain.proofs.Writing.{written-long}
 use Rattle.plain.proofs.Renewing.{renew-known, renew-fields, copies-ended, renew-done}
 use mathlib.Core.Path.{_∙_}
-use Prim.Native.Nat.{_-_}
 use native.Mathlib.Omega.{arith}
 use borrow.Author.Needs.{needs}
 use Rattle.plain.proofs.put_renew.Statement.{statement}
@@ -76,7 +75,8 @@ slice-aggregate-put-2 c = search needs
 
 put-requires-2 : tie.Need-put-requires-2
 put-requires-2 c κs =
-    let start = c .before .before .before .before .before .before .before .before .before .before .before .before .before .before .before in
+    let start = c .before .before .before .before .before .before .before .before .before .before .before
+    .before .before .before .before in
     let the-put = c .before .before .before .before .before .before .before .before .put in
     let the-put-copies = c .before .before .before .before .put-copies in
     omega (
@@ -88,14 +88,16 @@ put-requires-2 c κs =
 
 same-length : tie.Need-same-length
 same-length c =
-    let the-put = c .before .before .before .before .before .before .before .before .before .before .before .put in
+    let the-put = c .before .before .before .before .before .before .before .before .before .before
+    .before .put in
     let the-put-copies = c .before .before .before .before .before .before .before .put-copies in
     written-long (c .before .before .put2 .ensures) ∙ the-put-copies .kept .1 .1 .0
     ∙ written-long (the-put .ensures)
 
 returns : tie.Need-returns
 returns c =
-    let the-put = c .before .before .before .before .before .before .before .before .before .before .before .put in
+    let the-put = c .before .before .before .before .before .before .before .before .before .before
+    .before .put in
     let the-put-copies = c .before .before .before .before .before .before .before .put-copies in
     renew-done (the-put .ensures) (the-put-copies .ensures) (c .before .before .put2 .ensures)
 

@@ -1,7 +1,6 @@
 use Rattle.plain.proofs.Writing.{written-as}
 use Rattle.plain.proofs.Lines.{slot-zero, slot-other}
 use mathlib.Core.Path.{sym, ap}
-use Prim.Native.Nat.{_-_}
 use native.Mathlib.Omega.{arith}
 use lib.ListN.{length}
 use borrow.Author.Needs.{needs}

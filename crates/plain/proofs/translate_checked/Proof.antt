@@ -1,4 +1,3 @@
-use Prim.Native.Nat.{_-_}
 use Rattle.plain.proofs.Answers.{accepted-stand, answer-limits, answer-names, answer-some}
 use Rattle.plain.proofs.Answers.{answer-plain}
 use borrow.Author.Needs.{needs}
@@ -33,7 +32,8 @@ returns-2 c =
 
 write-plain-requires : tie.Need-write-plain-requires
 write-plain-requires c κs =
-    let start = c .before .before .before .before .before .before .before .before .before .before .before .before in
+    let start = c .before .before .before .before .before .before .before .before .before .before .before
+    .before in
     let the-over-limits = c .before .before .before .before .before .before .over-limits in
     let the-limited = c .before .before .before .before .limited in
     answer-some (start .pre) (the-over-limits .ensures) (the-limited .given .1)
@@ -44,8 +44,10 @@ same-length c = search needs
 
 returns-3 : tie.Need-returns-3
 returns-3 c =
-    let start = c .before .before .before .before .before .before .before .before .before .before .before .before .before .before .before in
-    let the-over-limits = c .before .before .before .before .before .before .before .before .before .over-limits in
+    let start = c .before .before .before .before .before .before .before .before .before .before .before
+    .before .before .before .before in
+    let the-over-limits =
+    c .before .before .before .before .before .before .before .before .before .over-limits in
     let the-limited = c .before .before .before .before .before .before .before .limited in
     let the-reserved-name = c .before .before .before .before .before .reserved-name in
     let the-if1 = c .before .before .before .before .if1 in

@@ -1,4 +1,3 @@
-use Prim.Native.Nat.{_-_}
 use Rattle.plain.proofs.Answers.{told-form, told-before, told-after, told-fields}
 use borrow.Author.Needs.{needs}
 use Rattle.plain.proofs.with_fields.Statement.{statement}

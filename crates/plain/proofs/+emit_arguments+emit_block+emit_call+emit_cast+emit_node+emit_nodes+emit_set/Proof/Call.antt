@@ -1,6 +1,6 @@
 -- What is left to prove of `emit_call`.
 use mathlib.Core.Path.{_∙_}
-use Prim.Native.Nat.{ℕ, _+_, _-_, _*_}
+use Prim.Native.Nat.{ℕ, _+_, _*_}
 use native.Mathlib.Omega.{arith}
 use lib.ListN.{getD}
 use borrow.Author.Needs.{needs}
@@ -37,7 +37,8 @@ emit-call-add-name t c = omega (arith, call-known (c .before .before .before .be
 emit-call-mul-name-2 : (t : ℕ) → emit-call-lts.Need-mul-name-2 (callees t) (emit-call-at t) emit-call.Post
 emit-call-mul-name-2 t c = omega (arith, call-known (c .before .before .before .before .pre .1) .0)
 
-emit-call-shared-slice-read-name : (t : ℕ) → emit-call-lts.Need-shared-slice-read-name (callees t) (emit-call-at t) emit-call.Post
+emit-call-shared-slice-read-name : (t : ℕ)
+    → emit-call-lts.Need-shared-slice-read-name (callees t) (emit-call-at t) emit-call.Post
 emit-call-shared-slice-read-name t c =
     let start = c .before .before .before .before .before in omega (arith, call-known (start .pre .1) .0)
 
@@ -50,7 +51,8 @@ emit-call-add-count t c = omega (arith, call-known (c .before .before .before .b
 emit-call-mul-count-2 : (t : ℕ) → emit-call-lts.Need-mul-count-2 (callees t) (emit-call-at t) emit-call.Post
 emit-call-mul-count-2 t c = omega (arith, call-known (c .before .before .before .before .before .pre .1) .0)
 
-emit-call-shared-slice-read-count : (t : ℕ) → emit-call-lts.Need-shared-slice-read-count (callees t) (emit-call-at t) emit-call.Post
+emit-call-shared-slice-read-count : (t : ℕ)
+    → emit-call-lts.Need-shared-slice-read-count (callees t) (emit-call-at t) emit-call.Post
 emit-call-shared-slice-read-count t c =
     let start = c .before .before .before .before .before .before in
     omega (arith, call-known (start .pre .1) .0)
@@ -60,7 +62,8 @@ emit-call-mul-class t c =
     let start = c .before .before .before .before .before .before in
     omega (arith, call-known (start .pre .1) .2)
 
-emit-call-shared-slice-read-class : (t : ℕ) → emit-call-lts.Need-shared-slice-read-class (callees t) (emit-call-at t) emit-call.Post
+emit-call-shared-slice-read-class : (t : ℕ)
+    → emit-call-lts.Need-shared-slice-read-class (callees t) (emit-call-at t) emit-call.Post
 emit-call-shared-slice-read-class t c =
     let start = c .before .before .before .before .before .before .before in
     omega (arith, call-known (start .pre .1) .2)
@@ -95,12 +98,14 @@ emit-call-mul-method-2 t c =
     let start = c .before .before .before .before .before .before .before in
     omega (arith, call-known (start .pre .1) .3)
 
-emit-call-shared-slice-read-method : (t : ℕ) → emit-call-lts.Need-shared-slice-read-method (callees t) (emit-call-at t) emit-call.Post
+emit-call-shared-slice-read-method : (t : ℕ)
+    → emit-call-lts.Need-shared-slice-read-method (callees t) (emit-call-at t) emit-call.Post
 emit-call-shared-slice-read-method t c =
     let start = c .before .before .before .before .before .before .before .before in
     omega (arith, call-known (start .pre .1) .3)
 
-emit-call-cast-method-2 : (t : ℕ) → emit-call-lts.Need-cast-method-2 (callees t) (emit-call-at t) emit-call.Post
+emit-call-cast-method-2 : (t : ℕ)
+    → emit-call-lts.Need-cast-method-2 (callees t) (emit-call-at t) emit-call.Post
 emit-call-cast-method-2 t c =
     let start = c .before .before .before .before .before .before .before .before in
     omega (
@@ -110,17 +115,20 @@ emit-call-cast-method-2 t c =
           (start .args .at * 4 + 1) 0),
     )
 
-emit-call-add-emit-arguments : (t : ℕ) → emit-call-lts.Need-add-emit-arguments (callees t) (emit-call-at t) emit-call.Post
+emit-call-add-emit-arguments : (t : ℕ)
+    → emit-call-lts.Need-add-emit-arguments (callees t) (emit-call-at t) emit-call.Post
 emit-call-add-emit-arguments t c =
     let start = c .before .before .before .before .before .before .before .before in
     omega (arith, call-known (start .pre .1) .5)
 
-emit-call-add-emit-arguments-2 : (t : ℕ) → emit-call-lts.Need-add-emit-arguments-2 (callees t) (emit-call-at t) emit-call.Post
+emit-call-add-emit-arguments-2 : (t : ℕ)
+    → emit-call-lts.Need-add-emit-arguments-2 (callees t) (emit-call-at t) emit-call.Post
 emit-call-add-emit-arguments-2 t c =
     let start = c .before .before .before .before .before .before .before .before in
     omega (arith, call-known (start .pre .1) .5)
 
-emit-call-slice-aggregate-put : (t : ℕ) → emit-call-lts.Need-slice-aggregate-put (callees t) (emit-call-at t) emit-call.Post
+emit-call-slice-aggregate-put : (t : ℕ)
+    → emit-call-lts.Need-slice-aggregate-put (callees t) (emit-call-at t) emit-call.Post
 emit-call-slice-aggregate-put t c = search needs
 
 emit-call-put-requires : (t : ℕ) → emit-call-lts.Need-put-requires (callees t) (emit-call-at t) emit-call.Post
@@ -128,41 +136,55 @@ emit-call-put-requires t c κs =
     let start = c .before .before .before .before .before .before .before .before .before .before in
     omega (arith, call-known (start .pre .1) .5)
 
-emit-call-cast-put-types : (t : ℕ) → emit-call-lts.Need-cast-put-types (callees t) (emit-call-at t) emit-call.Post
+emit-call-cast-put-types : (t : ℕ)
+    → emit-call-lts.Need-cast-put-types (callees t) (emit-call-at t) emit-call.Post
 emit-call-cast-put-types t c =
-    let start = c .before .before .before .before .before .before .before .before .before .before .before .before .before .before in
+    let start = c .before .before .before .before .before .before .before .before .before .before .before
+    .before .before .before in
     omega (arith, call-known (start .pre .1) .5)
 
-emit-call-put-types-requires : (t : ℕ) → emit-call-lts.Need-put-types-requires (callees t) (emit-call-at t) emit-call.Post
+emit-call-put-types-requires : (t : ℕ)
+    → emit-call-lts.Need-put-types-requires (callees t) (emit-call-at t) emit-call.Post
 emit-call-put-types-requires t c κs =
-    let start = c .before .before .before .before .before .before .before .before .before .before .before .before .before .before in (
+    let start = c .before .before .before .before .before .before .before .before .before .before .before
+    .before .before .before in (
       call-some-types (start .pre .1),
       omega (arith, call-known (start .pre .1) .5, c .before .before .before .put .ensures .ended),
     )
 
-emit-call-add-emit-arguments-3 : (t : ℕ) → emit-call-lts.Need-add-emit-arguments-3 (callees t) (emit-call-at t) emit-call.Post
+emit-call-add-emit-arguments-3 : (t : ℕ)
+    → emit-call-lts.Need-add-emit-arguments-3 (callees t) (emit-call-at t) emit-call.Post
 emit-call-add-emit-arguments-3 t c =
-    let start = c .before .before .before .before .before .before .before .before .before .before .before .before .before .before .before .before .before .before in
+    let start = c .before .before .before .before .before .before .before .before .before .before .before
+    .before .before .before .before .before .before .before in
     omega (arith, call-known (start .pre .1) .0, call-known (start .pre .1) .5, call-known (start .pre .1) .6)
 
-emit-call-add-emit-arguments-4 : (t : ℕ) → emit-call-lts.Need-add-emit-arguments-4 (callees t) (emit-call-at t) emit-call.Post
+emit-call-add-emit-arguments-4 : (t : ℕ)
+    → emit-call-lts.Need-add-emit-arguments-4 (callees t) (emit-call-at t) emit-call.Post
 emit-call-add-emit-arguments-4 t c =
-    let start = c .before .before .before .before .before .before .before .before .before .before .before .before .before .before .before .before .before .before in
+    let start = c .before .before .before .before .before .before .before .before .before .before .before
+    .before .before .before .before .before .before .before in
     omega (arith, call-known (start .pre .1) .0, call-known (start .pre .1) .5, call-known (start .pre .1) .6)
 
-emit-call-add-emit-arguments-5 : (t : ℕ) → emit-call-lts.Need-add-emit-arguments-5 (callees t) (emit-call-at t) emit-call.Post
+emit-call-add-emit-arguments-5 : (t : ℕ)
+    → emit-call-lts.Need-add-emit-arguments-5 (callees t) (emit-call-at t) emit-call.Post
 emit-call-add-emit-arguments-5 t c =
-    let start = c .before .before .before .before .before .before .before .before .before .before .before .before .before .before .before .before .before .before in
+    let start = c .before .before .before .before .before .before .before .before .before .before .before
+    .before .before .before .before .before .before .before in
     omega (arith, call-known (start .pre .1) .0, call-known (start .pre .1) .5, call-known (start .pre .1) .6)
 
-emit-call-add-emit-arguments-6 : (t : ℕ) → emit-call-lts.Need-add-emit-arguments-6 (callees t) (emit-call-at t) emit-call.Post
+emit-call-add-emit-arguments-6 : (t : ℕ)
+    → emit-call-lts.Need-add-emit-arguments-6 (callees t) (emit-call-at t) emit-call.Post
 emit-call-add-emit-arguments-6 t c =
-    let start = c .before .before .before .before .before .before .before .before .before .before .before .before .before .before .before .before .before .before in
+    let start = c .before .before .before .before .before .before .before .before .before .before .before
+    .before .before .before .before .before .before .before in
     omega (arith, call-known (start .pre .1) .0, call-known (start .pre .1) .5, call-known (start .pre .1) .6)
 
-emit-call-emit-arguments-requires : (t : ℕ) → emit-call-lts.Need-emit-arguments-requires (callees t) (emit-call-at t) emit-call.Post
+emit-call-emit-arguments-requires : (t : ℕ)
+    → emit-call-lts.Need-emit-arguments-requires (callees t) (emit-call-at t) emit-call.Post
 emit-call-emit-arguments-requires t c κs =
-    let start = c .before .before .before .before .before .before .before .before .before .before .before .before .before .before .before .before .before .before in
+    let start = c .before .before .before .before .before .before .before .before .before .before .before
+    .before .before .before .before .before .before .before in
     let the-put = c .before .before .before .before .before .before .before .put in (
       omega (arith, call-known (start .pre .1) .1),
       call-some-arguments (start .pre .1) _
@@ -171,23 +193,33 @@ emit-call-emit-arguments-requires t c κs =
 
 emit-call-cast-t32 : (t : ℕ) → emit-call-lts.Need-cast-t32 (callees t) (emit-call-at t) emit-call.Post
 emit-call-cast-t32 t c =
-    let start = c .before .before .before .before .before .before .before .before .before .before .before .before .before .before .before .before .before .before .before .before .before in
-    let the-shared-slice-known6 = c .before .before .before .before .before .before .before .before .before .before .before .before .before .before .shared-slice-known6 in
+    let start = c .before .before .before .before .before .before .before .before .before .before .before
+    .before .before .before .before .before .before .before .before .before .before in
+    let the-shared-slice-known6 =
+    c .before .before .before .before .before .before .before .before .before .before .before .before
+    .before .before .shared-slice-known6 in
     omega (arith, the-shared-slice-known6 .given (start .args .at))
 
 emit-call-add-t41 : (t : ℕ) → emit-call-lts.Need-add-t41 (callees t) (emit-call-at t) emit-call.Post
 emit-call-add-t41 t c =
-    let start = c .before .before .before .before .before .before .before .before .before .before .before .before .before .before .before .before .before .before .before .before .before in
-    let the-shared-slice-known6 = c .before .before .before .before .before .before .before .before .before .before .before .before .before .before .shared-slice-known6 in
+    let start = c .before .before .before .before .before .before .before .before .before .before .before
+    .before .before .before .before .before .before .before .before .before .before in
+    let the-shared-slice-known6 =
+    c .before .before .before .before .before .before .before .before .before .before .before .before
+    .before .before .shared-slice-known6 in
     omega (arith, the-shared-slice-known6 .given (start .args .at))
 
-emit-call-slice-aggregate-put-2 : (t : ℕ) → emit-call-lts.Need-slice-aggregate-put-2 (callees t) (emit-call-at t) emit-call.Post
+emit-call-slice-aggregate-put-2 : (t : ℕ)
+    → emit-call-lts.Need-slice-aggregate-put-2 (callees t) (emit-call-at t) emit-call.Post
 emit-call-slice-aggregate-put-2 t c = search needs
 
-emit-call-put-requires-2 : (t : ℕ) → emit-call-lts.Need-put-requires-2 (callees t) (emit-call-at t) emit-call.Post
+emit-call-put-requires-2 : (t : ℕ)
+    → emit-call-lts.Need-put-requires-2 (callees t) (emit-call-at t) emit-call.Post
 emit-call-put-requires-2 t c κs =
-    let start = c .before .before .before .before .before .before .before .before .before .before .before .before .before .before .before .before .before .before .before .before .before .before .before in
-    let the-put = c .before .before .before .before .before .before .before .before .before .before .before .before .put in
+    let start = c .before .before .before .before .before .before .before .before .before .before .before
+    .before .before .before .before .before .before .before .before .before .before .before .before in
+    let the-put = c .before .before .before .before .before .before .before .before .before .before .before
+    .before .put in
     let the-put-types = c .before .before .before .before .before .before .before .before .put-types in
     let the-emit-arguments = c .before .before .before .before .emit-arguments in
     omega (
@@ -197,17 +229,26 @@ emit-call-put-requires-2 t c κs =
           (the-emit-arguments .ensures),
     )
 
-emit-call-add-put-reads : (t : ℕ) → emit-call-lts.Need-add-put-reads (callees t) (emit-call-at t) emit-call.Post
+emit-call-add-put-reads : (t : ℕ)
+    → emit-call-lts.Need-add-put-reads (callees t) (emit-call-at t) emit-call.Post
 emit-call-add-put-reads t c =
-    let start = c .before .before .before .before .before .before .before .before .before .before .before .before .before .before .before .before .before .before .before .before .before .before .before .before .before .before .before in
+    let start = c .before .before .before .before .before .before .before .before .before .before .before
+    .before .before .before .before .before .before .before .before .before .before .before .before
+    .before .before .before .before in
     omega (arith, call-known (start .pre .1) .0, call-known (start .pre .1) .5, call-known (start .pre .1) .6)
 
-emit-call-put-reads-requires : (t : ℕ) → emit-call-lts.Need-put-reads-requires (callees t) (emit-call-at t) emit-call.Post
+emit-call-put-reads-requires : (t : ℕ)
+    → emit-call-lts.Need-put-reads-requires (callees t) (emit-call-at t) emit-call.Post
 emit-call-put-reads-requires t c κs =
-    let start = c .before .before .before .before .before .before .before .before .before .before .before .before .before .before .before .before .before .before .before .before .before .before .before .before .before .before .before in
-    let the-put = c .before .before .before .before .before .before .before .before .before .before .before .before .before .before .before .before .put in
-    let the-put-types = c .before .before .before .before .before .before .before .before .before .before .before .before .put-types in
-    let the-emit-arguments = c .before .before .before .before .before .before .before .before .emit-arguments in (
+    let start = c .before .before .before .before .before .before .before .before .before .before .before
+    .before .before .before .before .before .before .before .before .before .before .before .before
+    .before .before .before .before in
+    let the-put = c .before .before .before .before .before .before .before .before .before .before .before
+    .before .before .before .before .before .put in
+    let the-put-types = c .before .before .before .before .before .before .before .before .before .before
+    .before .before .put-types in
+    let the-emit-arguments =
+    c .before .before .before .before .before .before .before .before .emit-arguments in (
       omega (
         arith,
         call-room-after (start .pre .1)
@@ -222,21 +263,29 @@ emit-call-same-length : (t : ℕ) → emit-call-lts.Need-same-length (callees t)
 emit-call-same-length t c =
     written-long (c .before .before .put-reads .ensures)
     ∙ written-long (c .before .before .before .before .before .before .put2 .ensures)
-    ∙ c .before .before .before .before .before .before .before .before .before .before .before .emit-arguments .kept .1 .1 .1 .1 .0
-    ∙ c .before .before .before .before .before .before .before .before .before .before .before .before .before .before .before .put-types .kept .1 .0
-    ∙ written-long (c .before .before .before .before .before .before .before .before .before .before .before .before .before .before .before .before .before .before .before .put .ensures)
+    ∙ c .before .before .before .before .before .before .before .before .before .before
+    .before .emit-arguments .kept .1 .1 .1 .1 .0
+    ∙ c .before .before .before .before .before .before .before .before .before .before .before .before
+    .before .before .before .put-types .kept .1 .0
+    ∙ written-long (c .before .before .before .before .before .before .before .before .before .before .before
+    .before .before .before .before .before .before .before .before .put .ensures)
 
 emit-call-returns : (t : ℕ) → emit-call-lts.Need-returns (callees t) (emit-call-at t) emit-call.Post
 emit-call-returns t c =
-    let the-put = c .before .before .before .before .before .before .before .before .before .before .before .before .before .before .before .before .before .before .before .put in
-    let the-put-types = c .before .before .before .before .before .before .before .before .before .before .before .before .before .before .before .put-types in
-    let the-emit-arguments = c .before .before .before .before .before .before .before .before .before .before .before .emit-arguments in
+    let the-put = c .before .before .before .before .before .before .before .before .before .before .before
+    .before .before .before .before .before .before .before .before .put in
+    let the-put-types = c .before .before .before .before .before .before .before .before .before .before
+    .before .before .before .before .before .put-types in
+    let the-emit-arguments =
+    c .before .before .before .before .before .before .before .before .before .before
+    .before .emit-arguments in
     let the-put2 = c .before .before .before .before .before .before .put2 in
     call-done (the-put .ensures) (the-put-types .ensures) (the-emit-arguments .ensures) (the-put2 .ensures)
     (c .before .before .put-reads .ensures)
 
 -- The member, of its callees' contracts.
-pub emit-call-holds : {M : Type 1} (t : ℕ) → emit-call-lts.Closed (callees t) (emit-call-at t) emit-call.Post M
+pub emit-call-holds : {M : Type 1} (t : ℕ)
+    → emit-call-lts.Closed (callees t) (emit-call-at t) emit-call.Post M
 emit-call-holds t =
     emit-call-lts.spec (callees t) (emit-call-at t) emit-call.Post
     (emit-call-mul-name t) (emit-call-add-name t) (emit-call-mul-name-2 t)

@@ -1,6 +1,6 @@
 -- What is left to prove of `emit_cast`.
 use mathlib.Core.Path.{_∙_}
-use Prim.Native.Nat.{ℕ, _+_, _-_, _*_}
+use Prim.Native.Nat.{ℕ, _+_, _*_}
 use native.Mathlib.Omega.{arith}
 use borrow.Author.Needs.{needs}
 use Rattle.plain.proofs.Writing.{written-long}
@@ -15,7 +15,8 @@ use Rattle.plain.proofs.+emit_arguments+emit_block+emit_call+emit_cast+
 abbrev pub callees : ℕ → emit-cast-lts.Claims
 callees t = (put-reads.Asked, put-reads.Learnt, emit-node-below t, emit-node.Post)
 
-emit-cast-slice-aggregate-put : (t : ℕ) → emit-cast-lts.Need-slice-aggregate-put (callees t) (emit-cast-at t) emit-cast.Post
+emit-cast-slice-aggregate-put : (t : ℕ)
+    → emit-cast-lts.Need-slice-aggregate-put (callees t) (emit-cast-at t) emit-cast.Post
 emit-cast-slice-aggregate-put t c = search needs
 
 emit-cast-put-requires : (t : ℕ) → emit-cast-lts.Need-put-requires (callees t) (emit-cast-at t) emit-cast.Post
@@ -23,17 +24,20 @@ emit-cast-put-requires t c κs =
     let start = c .before .before .before .before .before .before in
     omega (arith, cast-room (start .pre .1 .task))
 
-emit-cast-add-emit-node : (t : ℕ) → emit-cast-lts.Need-add-emit-node (callees t) (emit-cast-at t) emit-cast.Post
+emit-cast-add-emit-node : (t : ℕ)
+    → emit-cast-lts.Need-add-emit-node (callees t) (emit-cast-at t) emit-cast.Post
 emit-cast-add-emit-node t c =
     let start = c .before .before .before .before .before .before .before .before .before .before in
     omega (arith, node-row (start .pre .1 .task) .0)
 
-emit-cast-add-emit-node-2 : (t : ℕ) → emit-cast-lts.Need-add-emit-node-2 (callees t) (emit-cast-at t) emit-cast.Post
+emit-cast-add-emit-node-2 : (t : ℕ)
+    → emit-cast-lts.Need-add-emit-node-2 (callees t) (emit-cast-at t) emit-cast.Post
 emit-cast-add-emit-node-2 t c =
     let start = c .before .before .before .before .before .before .before .before .before .before in
     omega (arith, cast-room (start .pre .1 .task), start .pre .1 .task .low)
 
-emit-cast-emit-node-requires : (t : ℕ) → emit-cast-lts.Need-emit-node-requires (callees t) (emit-cast-at t) emit-cast.Post
+emit-cast-emit-node-requires : (t : ℕ)
+    → emit-cast-lts.Need-emit-node-requires (callees t) (emit-cast-at t) emit-cast.Post
 emit-cast-emit-node-requires t c κs =
     let start = c .before .before .before .before .before .before .before .before .before .before in (
       omega (arith, node-row (start .pre .1 .task) .1),
@@ -49,35 +53,44 @@ emit-cast-emit-node-requires t c κs =
 
 emit-cast-mul-t21 : (t : ℕ) → emit-cast-lts.Need-mul-t21 (callees t) (emit-cast-at t) emit-cast.Post
 emit-cast-mul-t21 t c =
-    let start = c .before .before .before .before .before .before .before .before .before .before .before .before .before in
+    let start = c .before .before .before .before .before .before .before .before .before .before .before
+    .before .before in
     omega (arith, node-row (start .pre .1 .task) .0)
 
 emit-cast-add-t23 : (t : ℕ) → emit-cast-lts.Need-add-t23 (callees t) (emit-cast-at t) emit-cast.Post
 emit-cast-add-t23 t c =
-    let start = c .before .before .before .before .before .before .before .before .before .before .before .before .before in
+    let start = c .before .before .before .before .before .before .before .before .before .before .before
+    .before .before in
     omega (arith, node-row (start .pre .1 .task) .0)
 
 emit-cast-mul-t24 : (t : ℕ) → emit-cast-lts.Need-mul-t24 (callees t) (emit-cast-at t) emit-cast.Post
 emit-cast-mul-t24 t c =
-    let start = c .before .before .before .before .before .before .before .before .before .before .before .before .before in
+    let start = c .before .before .before .before .before .before .before .before .before .before .before
+    .before .before in
     omega (arith, node-row (start .pre .1 .task) .0)
 
-emit-cast-shared-slice-read-t22 : (t : ℕ) → emit-cast-lts.Need-shared-slice-read-t22 (callees t) (emit-cast-at t) emit-cast.Post
+emit-cast-shared-slice-read-t22 : (t : ℕ)
+    → emit-cast-lts.Need-shared-slice-read-t22 (callees t) (emit-cast-at t) emit-cast.Post
 emit-cast-shared-slice-read-t22 t c =
-    let start = c .before .before .before .before .before .before .before .before .before .before .before .before .before .before in
+    let start = c .before .before .before .before .before .before .before .before .before .before .before
+    .before .before .before in
     omega (arith, node-row (start .pre .1 .task) .0)
 
 emit-cast-add-t26 : (t : ℕ) → emit-cast-lts.Need-add-t26 (callees t) (emit-cast-at t) emit-cast.Post
 emit-cast-add-t26 t c =
-    let start = c .before .before .before .before .before .before .before .before .before .before .before .before .before .before in
+    let start = c .before .before .before .before .before .before .before .before .before .before .before
+    .before .before .before in
     omega (arith, start .pre .1 .task .setting .lent .small (start .args .at * 4 + 1))
 
-emit-cast-slice-aggregate-put-2 : (t : ℕ) → emit-cast-lts.Need-slice-aggregate-put-2 (callees t) (emit-cast-at t) emit-cast.Post
+emit-cast-slice-aggregate-put-2 : (t : ℕ)
+    → emit-cast-lts.Need-slice-aggregate-put-2 (callees t) (emit-cast-at t) emit-cast.Post
 emit-cast-slice-aggregate-put-2 t c = search needs
 
-emit-cast-put-requires-2 : (t : ℕ) → emit-cast-lts.Need-put-requires-2 (callees t) (emit-cast-at t) emit-cast.Post
+emit-cast-put-requires-2 : (t : ℕ)
+    → emit-cast-lts.Need-put-requires-2 (callees t) (emit-cast-at t) emit-cast.Post
 emit-cast-put-requires-2 t c κs =
-    let start = c .before .before .before .before .before .before .before .before .before .before .before .before .before .before .before .before in
+    let start = c .before .before .before .before .before .before .before .before .before .before .before
+    .before .before .before .before .before in
     let the-put = c .before .before .before .before .before .before .before .before .before .put in
     let the-emit-node = c .before .before .before .before .before .emit-node in
     omega (
@@ -92,11 +105,13 @@ emit-cast-same-length : (t : ℕ) → emit-cast-lts.Need-same-length (callees t)
 emit-cast-same-length t c =
     written-long (c .before .before .put2 .ensures)
     ∙ c .before .before .before .before .before .before .before .before .emit-node .kept .1 .1 .1 .1 .0
-    ∙ written-long (c .before .before .before .before .before .before .before .before .before .before .before .before .put .ensures)
+    ∙ written-long (c .before .before .before .before .before .before .before .before .before .before .before
+    .before .put .ensures)
 
 emit-cast-returns : (t : ℕ) → emit-cast-lts.Need-returns (callees t) (emit-cast-at t) emit-cast.Post
 emit-cast-returns t c =
-    let the-put = c .before .before .before .before .before .before .before .before .before .before .before .before .put in
+    let the-put = c .before .before .before .before .before .before .before .before .before .before .before
+    .before .put in
     let the-emit-node = c .before .before .before .before .before .before .before .before .emit-node in
     record {
       each = λ P E k e γ sh t.
@@ -104,7 +119,8 @@ emit-cast-returns t c =
     }
 
 -- The member, of its callees' contracts.
-pub emit-cast-holds : {M : Type 1} (t : ℕ) → emit-cast-lts.Closed (callees t) (emit-cast-at t) emit-cast.Post M
+pub emit-cast-holds : {M : Type 1} (t : ℕ)
+    → emit-cast-lts.Closed (callees t) (emit-cast-at t) emit-cast.Post M
 emit-cast-holds t =
     emit-cast-lts.spec (callees t) (emit-cast-at t) emit-cast.Post
     (emit-cast-slice-aggregate-put t) (emit-cast-put-requires t) (emit-cast-add-emit-node t)

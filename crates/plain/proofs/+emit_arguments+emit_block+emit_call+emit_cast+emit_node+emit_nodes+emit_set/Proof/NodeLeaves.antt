@@ -1,5 +1,5 @@
 -- What is left to prove of `emit_node` of nodes without children, T, L, N, I, W and R, before it returns.
-use Prim.Native.Nat.{ℕ, _+_, _-_, _*_}
+use Prim.Native.Nat.{ℕ, _+_, _*_}
 use native.Mathlib.Omega.{arith}
 use borrow.Author.Needs.{needs}
 use Rattle.plain.proofs.Arms.{row-known, slot-known, new-known, change-known, literal-known}
@@ -13,7 +13,9 @@ use Rattle.plain.proofs.put.Reads as put-reads
 use Rattle.plain.proofs.put_change.Reads as put-change-reads
 use Rattle.plain.proofs.put_new.Reads as put-new-reads
 use Rattle.plain.proofs.put_slot.Reads as put-slot-reads
-use Rattle.plain.proofs.+emit_arguments+emit_block+emit_call+emit_cast+emit_node+emit_nodes+emit_set.Proof.Base.{emit-block-below, emit-call-below, emit-cast-below, emit-node-at, emit-node-below, emit-nodes-below, emit-set-below}
+use Rattle.plain.proofs.+emit_arguments+emit_block+emit_call+emit_cast+emit_node+emit_nodes+emit_set.Proof.Base.{emit-block-below, emit-call-below, emit-cast-below}
+use Rattle.plain.proofs.+emit_arguments+emit_block+emit_call+emit_cast+emit_node+emit_nodes+emit_set.Proof.Base.{emit-node-at, emit-node-below, emit-nodes-below}
+use Rattle.plain.proofs.+emit_arguments+emit_block+emit_call+emit_cast+emit_node+emit_nodes+emit_set.Proof.Base.{emit-set-below}
 use Rattle.plain.proofs.+emit_arguments+emit_block+emit_call+emit_cast+emit_node+emit_nodes+emit_set.Lts-emit_node as emit-node-lts
 
 -- What its callees ask and give: those of the cycle below the measure t.
@@ -44,17 +46,21 @@ callees t = (
 pub emit-node-mul-letter : (t : ℕ) → emit-node-lts.Need-mul-letter (callees t) (emit-node-at t) emit-node.Post
 emit-node-mul-letter t c = omega (arith, row-known (c .before .before .before .before .pre .1) .0)
 
-pub emit-node-mul-letter-2 : (t : ℕ) → emit-node-lts.Need-mul-letter-2 (callees t) (emit-node-at t) emit-node.Post
+pub emit-node-mul-letter-2 : (t : ℕ)
+    → emit-node-lts.Need-mul-letter-2 (callees t) (emit-node-at t) emit-node.Post
 emit-node-mul-letter-2 t c = omega (arith, row-known (c .before .before .before .before .pre .1) .0)
 
-pub emit-node-shared-slice-read-letter : (t : ℕ) → emit-node-lts.Need-shared-slice-read-letter (callees t) (emit-node-at t) emit-node.Post
+pub emit-node-shared-slice-read-letter : (t : ℕ)
+    → emit-node-lts.Need-shared-slice-read-letter (callees t) (emit-node-at t) emit-node.Post
 emit-node-shared-slice-read-letter t c =
     let start = c .before .before .before .before .before in omega (arith, row-known (start .pre .1) .0)
 
-pub emit-node-slice-aggregate-put : (t : ℕ) → emit-node-lts.Need-slice-aggregate-put (callees t) (emit-node-at t) emit-node.Post
+pub emit-node-slice-aggregate-put : (t : ℕ)
+    → emit-node-lts.Need-slice-aggregate-put (callees t) (emit-node-at t) emit-node.Post
 emit-node-slice-aggregate-put t c = search needs
 
-pub emit-node-put-requires : (t : ℕ) → emit-node-lts.Need-put-requires (callees t) (emit-node-at t) emit-node.Post
+pub emit-node-put-requires : (t : ℕ)
+    → emit-node-lts.Need-put-requires (callees t) (emit-node-at t) emit-node.Post
 emit-node-put-requires t c κs =
     let start = c .before .before .before .before .before .before .before .before in
     literal-known (start .pre .1) (c .before .before .match .keys1)
@@ -79,7 +85,8 @@ emit-node-mul-slot-2 t c =
     let start = c .before .before .before .before .before .before in
     omega (arith, row-known (start .pre .1) .0)
 
-pub emit-node-shared-slice-read-slot : (t : ℕ) → emit-node-lts.Need-shared-slice-read-slot (callees t) (emit-node-at t) emit-node.Post
+pub emit-node-shared-slice-read-slot : (t : ℕ)
+    → emit-node-lts.Need-shared-slice-read-slot (callees t) (emit-node-at t) emit-node.Post
 emit-node-shared-slice-read-slot t c =
     let start = c .before .before .before .before .before .before .before in
     omega (arith, row-known (start .pre .1) .0)
@@ -94,42 +101,50 @@ emit-node-mul-slot-3 t c =
     let start = c .before .before .before .before .before .before .before in
     omega (arith, slot-known (start .pre .1) (c .before .match .keys2) .0)
 
-pub emit-node-element-copy-out-slot : (t : ℕ) → emit-node-lts.Need-element-copy-out-slot (callees t) (emit-node-at t) emit-node.Post
+pub emit-node-element-copy-out-slot : (t : ℕ)
+    → emit-node-lts.Need-element-copy-out-slot (callees t) (emit-node-at t) emit-node.Post
 emit-node-element-copy-out-slot t c =
     let start = c .before .before .before .before .before .before .before in
     omega (arith, slot-known (start .pre .1) (c .before .match .keys2) .0)
 
-pub emit-node-put-slot-requires : (t : ℕ) → emit-node-lts.Need-put-slot-requires (callees t) (emit-node-at t) emit-node.Post
+pub emit-node-put-slot-requires : (t : ℕ)
+    → emit-node-lts.Need-put-slot-requires (callees t) (emit-node-at t) emit-node.Post
 emit-node-put-slot-requires t c κs =
     let start = c .before .before .before .before .before .before .before .before .before in
     slot-known (start .pre .1) (c .before .before .before .match .keys2) .1
 
 pub emit-node-add-t36 : (t : ℕ) → emit-node-lts.Need-add-t36 (callees t) (emit-node-at t) emit-node.Post
 emit-node-add-t36 t c =
-    let start = c .before .before .before .before .before .before .before .before .before .before .before .before in
+    let start = c .before .before .before .before .before .before .before .before .before .before .before
+    .before in
     omega (arith, row-known (start .pre .1) .0)
 
-pub emit-node-mul-put-new : (t : ℕ) → emit-node-lts.Need-mul-put-new (callees t) (emit-node-at t) emit-node.Post
+pub emit-node-mul-put-new : (t : ℕ)
+    → emit-node-lts.Need-mul-put-new (callees t) (emit-node-at t) emit-node.Post
 emit-node-mul-put-new t c =
     let start = c .before .before .before .before .before .before .before in
     omega (arith, row-known (start .pre .1) .0)
 
-pub emit-node-add-put-new : (t : ℕ) → emit-node-lts.Need-add-put-new (callees t) (emit-node-at t) emit-node.Post
+pub emit-node-add-put-new : (t : ℕ)
+    → emit-node-lts.Need-add-put-new (callees t) (emit-node-at t) emit-node.Post
 emit-node-add-put-new t c =
     let start = c .before .before .before .before .before .before .before in
     omega (arith, row-known (start .pre .1) .0)
 
-pub emit-node-mul-put-new-2 : (t : ℕ) → emit-node-lts.Need-mul-put-new-2 (callees t) (emit-node-at t) emit-node.Post
+pub emit-node-mul-put-new-2 : (t : ℕ)
+    → emit-node-lts.Need-mul-put-new-2 (callees t) (emit-node-at t) emit-node.Post
 emit-node-mul-put-new-2 t c =
     let start = c .before .before .before .before .before .before .before in
     omega (arith, row-known (start .pre .1) .0)
 
-pub emit-node-shared-slice-read-put-new : (t : ℕ) → emit-node-lts.Need-shared-slice-read-put-new (callees t) (emit-node-at t) emit-node.Post
+pub emit-node-shared-slice-read-put-new : (t : ℕ)
+    → emit-node-lts.Need-shared-slice-read-put-new (callees t) (emit-node-at t) emit-node.Post
 emit-node-shared-slice-read-put-new t c =
     let start = c .before .before .before .before .before .before .before .before in
     omega (arith, row-known (start .pre .1) .0)
 
-pub emit-node-put-new-requires : (t : ℕ) → emit-node-lts.Need-put-new-requires (callees t) (emit-node-at t) emit-node.Post
+pub emit-node-put-new-requires : (t : ℕ)
+    → emit-node-lts.Need-put-new-requires (callees t) (emit-node-at t) emit-node.Post
 emit-node-put-new-requires t c κs =
     let start = c .before .before .before .before .before .before .before .before in
     new-known (start .pre .1) (c .before .before .match .keys3)
@@ -154,12 +169,14 @@ emit-node-mul-slot-5 t c =
     let start = c .before .before .before .before .before .before in
     omega (arith, row-known (start .pre .1) .0)
 
-pub emit-node-shared-slice-read-slot-2 : (t : ℕ) → emit-node-lts.Need-shared-slice-read-slot-2 (callees t) (emit-node-at t) emit-node.Post
+pub emit-node-shared-slice-read-slot-2 : (t : ℕ)
+    → emit-node-lts.Need-shared-slice-read-slot-2 (callees t) (emit-node-at t) emit-node.Post
 emit-node-shared-slice-read-slot-2 t c =
     let start = c .before .before .before .before .before .before .before in
     omega (arith, row-known (start .pre .1) .0)
 
-pub emit-node-cast-slot-2 : (t : ℕ) → emit-node-lts.Need-cast-slot-2 (callees t) (emit-node-at t) emit-node.Post
+pub emit-node-cast-slot-2 : (t : ℕ)
+    → emit-node-lts.Need-cast-slot-2 (callees t) (emit-node-at t) emit-node.Post
 emit-node-cast-slot-2 t c =
     let start = c .before .before .before .before .before .before .before in
     omega (arith, c .shared-slice-known7 .given (start .args .at * 4 + 1))
@@ -169,32 +186,38 @@ emit-node-mul-slot-6 t c =
     let start = c .before .before .before .before .before .before .before in
     omega (arith, change-known (start .pre .1) (c .before .match .keys4) .0)
 
-pub emit-node-element-copy-out-slot-2 : (t : ℕ) → emit-node-lts.Need-element-copy-out-slot-2 (callees t) (emit-node-at t) emit-node.Post
+pub emit-node-element-copy-out-slot-2 : (t : ℕ)
+    → emit-node-lts.Need-element-copy-out-slot-2 (callees t) (emit-node-at t) emit-node.Post
 emit-node-element-copy-out-slot-2 t c =
     let start = c .before .before .before .before .before .before .before in
     omega (arith, change-known (start .pre .1) (c .before .match .keys4) .0)
 
-pub emit-node-mul-put-change : (t : ℕ) → emit-node-lts.Need-mul-put-change (callees t) (emit-node-at t) emit-node.Post
+pub emit-node-mul-put-change : (t : ℕ)
+    → emit-node-lts.Need-mul-put-change (callees t) (emit-node-at t) emit-node.Post
 emit-node-mul-put-change t c =
     let start = c .before .before .before .before .before .before .before .before .before in
     omega (arith, row-known (start .pre .1) .0)
 
-pub emit-node-add-put-change : (t : ℕ) → emit-node-lts.Need-add-put-change (callees t) (emit-node-at t) emit-node.Post
+pub emit-node-add-put-change : (t : ℕ)
+    → emit-node-lts.Need-add-put-change (callees t) (emit-node-at t) emit-node.Post
 emit-node-add-put-change t c =
     let start = c .before .before .before .before .before .before .before .before .before in
     omega (arith, row-known (start .pre .1) .0)
 
-pub emit-node-mul-put-change-2 : (t : ℕ) → emit-node-lts.Need-mul-put-change-2 (callees t) (emit-node-at t) emit-node.Post
+pub emit-node-mul-put-change-2 : (t : ℕ)
+    → emit-node-lts.Need-mul-put-change-2 (callees t) (emit-node-at t) emit-node.Post
 emit-node-mul-put-change-2 t c =
     let start = c .before .before .before .before .before .before .before .before .before in
     omega (arith, row-known (start .pre .1) .0)
 
-pub emit-node-shared-slice-read-put-change : (t : ℕ) → emit-node-lts.Need-shared-slice-read-put-change (callees t) (emit-node-at t) emit-node.Post
+pub emit-node-shared-slice-read-put-change : (t : ℕ)
+    → emit-node-lts.Need-shared-slice-read-put-change (callees t) (emit-node-at t) emit-node.Post
 emit-node-shared-slice-read-put-change t c =
     let start = c .before .before .before .before .before .before .before .before .before .before in
     omega (arith, row-known (start .pre .1) .0)
 
-pub emit-node-put-change-requires : (t : ℕ) → emit-node-lts.Need-put-change-requires (callees t) (emit-node-at t) emit-node.Post
+pub emit-node-put-change-requires : (t : ℕ)
+    → emit-node-lts.Need-put-change-requires (callees t) (emit-node-at t) emit-node.Post
 emit-node-put-change-requires t c κs =
     let start = c .before .before .before .before .before .before .before .before .before .before in
     let the-match = c .before .before .before .before .match in (
@@ -207,5 +230,6 @@ emit-node-put-change-requires t c κs =
 
 pub emit-node-add-t60 : (t : ℕ) → emit-node-lts.Need-add-t60 (callees t) (emit-node-at t) emit-node.Post
 emit-node-add-t60 t c =
-    let start = c .before .before .before .before .before .before .before .before .before .before .before .before .before in
+    let start = c .before .before .before .before .before .before .before .before .before .before .before
+    .before .before in
     omega (arith, row-known (start .pre .1) .0)

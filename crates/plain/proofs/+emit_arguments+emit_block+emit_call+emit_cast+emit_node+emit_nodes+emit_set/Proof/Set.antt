@@ -1,6 +1,6 @@
 -- What is left to prove of `emit_set`.
 use mathlib.Core.Path.{_∙_}
-use Prim.Native.Nat.{ℕ, _+_, _-_, _*_}
+use Prim.Native.Nat.{ℕ, _+_, _*_}
 use native.Mathlib.Omega.{arith}
 use lib.ListN.{getD}
 use borrow.Author.Needs.{needs}
@@ -33,14 +33,16 @@ emit-set-add-name t c = omega (arith, set-known (c .before .before .before .befo
 emit-set-mul-name-2 : (t : ℕ) → emit-set-lts.Need-mul-name-2 (callees t) (emit-set-at t) emit-set.Post
 emit-set-mul-name-2 t c = omega (arith, set-known (c .before .before .before .before .pre .1) .0)
 
-emit-set-shared-slice-read-name : (t : ℕ) → emit-set-lts.Need-shared-slice-read-name (callees t) (emit-set-at t) emit-set.Post
+emit-set-shared-slice-read-name : (t : ℕ)
+    → emit-set-lts.Need-shared-slice-read-name (callees t) (emit-set-at t) emit-set.Post
 emit-set-shared-slice-read-name t c =
     let start = c .before .before .before .before .before in omega (arith, set-known (start .pre .1) .0)
 
 emit-set-mul-class : (t : ℕ) → emit-set-lts.Need-mul-class (callees t) (emit-set-at t) emit-set.Post
 emit-set-mul-class t c = omega (arith, set-known (c .before .before .before .before .before .pre .1) .2)
 
-emit-set-shared-slice-read-class : (t : ℕ) → emit-set-lts.Need-shared-slice-read-class (callees t) (emit-set-at t) emit-set.Post
+emit-set-shared-slice-read-class : (t : ℕ)
+    → emit-set-lts.Need-shared-slice-read-class (callees t) (emit-set-at t) emit-set.Post
 emit-set-shared-slice-read-class t c =
     let start = c .before .before .before .before .before .before in
     omega (arith, set-known (start .pre .1) .2)
@@ -70,7 +72,8 @@ emit-set-mul-field-2 t c =
     let start = c .before .before .before .before .before .before in
     omega (arith, set-known (start .pre .1) .3, set-known (start .pre .1) .4)
 
-emit-set-shared-slice-read-field : (t : ℕ) → emit-set-lts.Need-shared-slice-read-field (callees t) (emit-set-at t) emit-set.Post
+emit-set-shared-slice-read-field : (t : ℕ)
+    → emit-set-lts.Need-shared-slice-read-field (callees t) (emit-set-at t) emit-set.Post
 emit-set-shared-slice-read-field t c =
     let start = c .before .before .before .before .before .before .before in
     omega (arith, set-known (start .pre .1) .3, set-known (start .pre .1) .4)
@@ -105,7 +108,8 @@ emit-set-mul-row-2 t c =
     let start = c .before .before .before .before .before .before .before in
     omega (arith, set-known (start .pre .1) .5)
 
-emit-set-shared-slice-read-row : (t : ℕ) → emit-set-lts.Need-shared-slice-read-row (callees t) (emit-set-at t) emit-set.Post
+emit-set-shared-slice-read-row : (t : ℕ)
+    → emit-set-lts.Need-shared-slice-read-row (callees t) (emit-set-at t) emit-set.Post
 emit-set-shared-slice-read-row t c =
     let start = c .before .before .before .before .before .before .before .before in
     omega (arith, set-known (start .pre .1) .5)
@@ -131,67 +135,87 @@ emit-set-add-plain-type t c =
     let start = c .before .before .before .before .before .before .before .before in
     omega (arith, set-known (start .pre .1) .6)
 
-emit-set-mul-plain-type-2 : (t : ℕ) → emit-set-lts.Need-mul-plain-type-2 (callees t) (emit-set-at t) emit-set.Post
+emit-set-mul-plain-type-2 : (t : ℕ)
+    → emit-set-lts.Need-mul-plain-type-2 (callees t) (emit-set-at t) emit-set.Post
 emit-set-mul-plain-type-2 t c =
     let start = c .before .before .before .before .before .before .before .before in
     omega (arith, set-known (start .pre .1) .6)
 
-emit-set-shared-slice-read-plain-type : (t : ℕ) → emit-set-lts.Need-shared-slice-read-plain-type (callees t) (emit-set-at t) emit-set.Post
+emit-set-shared-slice-read-plain-type : (t : ℕ)
+    → emit-set-lts.Need-shared-slice-read-plain-type (callees t) (emit-set-at t) emit-set.Post
 emit-set-shared-slice-read-plain-type t c =
     let start = c .before .before .before .before .before .before .before .before .before in
     omega (arith, set-known (start .pre .1) .6)
 
-emit-set-plain-type-requires : (t : ℕ) → emit-set-lts.Need-plain-type-requires (callees t) (emit-set-at t) emit-set.Post
+emit-set-plain-type-requires : (t : ℕ)
+    → emit-set-lts.Need-plain-type-requires (callees t) (emit-set-at t) emit-set.Post
 emit-set-plain-type-requires t c κs = search needs
 
-emit-set-slice-aggregate-put : (t : ℕ) → emit-set-lts.Need-slice-aggregate-put (callees t) (emit-set-at t) emit-set.Post
+emit-set-slice-aggregate-put : (t : ℕ)
+    → emit-set-lts.Need-slice-aggregate-put (callees t) (emit-set-at t) emit-set.Post
 emit-set-slice-aggregate-put t c = search needs
 
 emit-set-put-requires : (t : ℕ) → emit-set-lts.Need-put-requires (callees t) (emit-set-at t) emit-set.Post
 emit-set-put-requires t c κs =
-    let start = c .before .before .before .before .before .before .before .before .before .before .before .before in
+    let start = c .before .before .before .before .before .before .before .before .before .before .before
+    .before in
     omega (arith, set-known (start .pre .1) .7)
 
-emit-set-add-emit-arguments : (t : ℕ) → emit-set-lts.Need-add-emit-arguments (callees t) (emit-set-at t) emit-set.Post
+emit-set-add-emit-arguments : (t : ℕ)
+    → emit-set-lts.Need-add-emit-arguments (callees t) (emit-set-at t) emit-set.Post
 emit-set-add-emit-arguments t c =
-    let start = c .before .before .before .before .before .before .before .before .before .before .before .before .before .before .before .before in
+    let start = c .before .before .before .before .before .before .before .before .before .before .before
+    .before .before .before .before .before in
     omega (arith, set-known (start .pre .1) .0)
 
-emit-set-add-emit-arguments-2 : (t : ℕ) → emit-set-lts.Need-add-emit-arguments-2 (callees t) (emit-set-at t) emit-set.Post
+emit-set-add-emit-arguments-2 : (t : ℕ)
+    → emit-set-lts.Need-add-emit-arguments-2 (callees t) (emit-set-at t) emit-set.Post
 emit-set-add-emit-arguments-2 t c =
-    let start = c .before .before .before .before .before .before .before .before .before .before .before .before .before .before .before .before in
+    let start = c .before .before .before .before .before .before .before .before .before .before .before
+    .before .before .before .before .before in
     omega (arith, set-known (start .pre .1) .8)
 
-emit-set-emit-arguments-requires : (t : ℕ) → emit-set-lts.Need-emit-arguments-requires (callees t) (emit-set-at t) emit-set.Post
+emit-set-emit-arguments-requires : (t : ℕ)
+    → emit-set-lts.Need-emit-arguments-requires (callees t) (emit-set-at t) emit-set.Post
 emit-set-emit-arguments-requires t c κs =
-    let start = c .before .before .before .before .before .before .before .before .before .before .before .before .before .before .before .before in (
+    let start = c .before .before .before .before .before .before .before .before .before .before .before
+    .before .before .before .before .before in (
       omega (arith, set-known (start .pre .1) .1),
       set-ended (start .pre .1) (c .before .before .before .put .ensures),
     )
 
 emit-set-cast-t23 : (t : ℕ) → emit-set-lts.Need-cast-t23 (callees t) (emit-set-at t) emit-set.Post
 emit-set-cast-t23 t c =
-    let start = c .before .before .before .before .before .before .before .before .before .before .before .before .before .before .before .before .before .before .before in
-    let the-shared-slice-known5 = c .before .before .before .before .before .before .before .before .before .before .before .before .before .shared-slice-known5 in
+    let start = c .before .before .before .before .before .before .before .before .before .before .before
+    .before .before .before .before .before .before .before .before in
+    let the-shared-slice-known5 =
+    c .before .before .before .before .before .before .before .before .before .before .before .before
+    .before .shared-slice-known5 in
     omega (arith, the-shared-slice-known5 .given (start .args .at))
 
 emit-set-add-t30 : (t : ℕ) → emit-set-lts.Need-add-t30 (callees t) (emit-set-at t) emit-set.Post
 emit-set-add-t30 t c =
-    let start = c .before .before .before .before .before .before .before .before .before .before .before .before .before .before .before .before .before .before .before in
-    let the-shared-slice-known5 = c .before .before .before .before .before .before .before .before .before .before .before .before .before .shared-slice-known5 in
+    let start = c .before .before .before .before .before .before .before .before .before .before .before
+    .before .before .before .before .before .before .before .before in
+    let the-shared-slice-known5 =
+    c .before .before .before .before .before .before .before .before .before .before .before .before
+    .before .shared-slice-known5 in
     omega (arith, the-shared-slice-known5 .given (start .args .at))
 
 emit-set-add-t37 : (t : ℕ) → emit-set-lts.Need-add-t37 (callees t) (emit-set-at t) emit-set.Post
 emit-set-add-t37 t c =
-    let start = c .before .before .before .before .before .before .before .before .before .before .before .before .before .before .before .before .before .before .before in
+    let start = c .before .before .before .before .before .before .before .before .before .before .before
+    .before .before .before .before .before .before .before .before in
     omega (arith, set-known (start .pre .1) .8)
 
-emit-set-slice-aggregate-put-2 : (t : ℕ) → emit-set-lts.Need-slice-aggregate-put-2 (callees t) (emit-set-at t) emit-set.Post
+emit-set-slice-aggregate-put-2 : (t : ℕ)
+    → emit-set-lts.Need-slice-aggregate-put-2 (callees t) (emit-set-at t) emit-set.Post
 emit-set-slice-aggregate-put-2 t c = search needs
 
 emit-set-put-requires-2 : (t : ℕ) → emit-set-lts.Need-put-requires-2 (callees t) (emit-set-at t) emit-set.Post
 emit-set-put-requires-2 t c κs =
-    let start = c .before .before .before .before .before .before .before .before .before .before .before .before .before .before .before .before .before .before .before .before .before in
+    let start = c .before .before .before .before .before .before .before .before .before .before .before
+    .before .before .before .before .before .before .before .before .before .before in
     let the-put = c .before .before .before .before .before .before .before .before .put in
     let the-emit-arguments = c .before .before .before .before .emit-arguments in
     set-room-after (start .pre .1) (the-put .ensures .ended) (the-emit-arguments .ensures)
@@ -200,12 +224,16 @@ emit-set-same-length : (t : ℕ) → emit-set-lts.Need-same-length (callees t) (
 emit-set-same-length t c =
     written-long (c .before .before .put2 .ensures)
     ∙ c .before .before .before .before .before .before .before .emit-arguments .kept .1 .1 .1 .1 .0
-    ∙ written-long (c .before .before .before .before .before .before .before .before .before .before .before .put .ensures)
+    ∙ written-long (c .before .before .before .before .before .before .before .before .before .before
+    .before .put .ensures)
 
 emit-set-returns : (t : ℕ) → emit-set-lts.Need-returns (callees t) (emit-set-at t) emit-set.Post
 emit-set-returns t c =
-    let the-plain-type = c .before .before .before .before .before .before .before .before .before .before .before .before .before .before .plain-type in
-    let the-put = c .before .before .before .before .before .before .before .before .before .before .before .put in
+    let the-plain-type =
+    c .before .before .before .before .before .before .before .before .before .before .before .before
+    .before .before .plain-type in
+    let the-put = c .before .before .before .before .before .before .before .before .before .before
+    .before .put in
     let the-emit-arguments = c .before .before .before .before .before .before .before .emit-arguments in
     set-done (the-plain-type .ensures) (the-put .ensures) (the-emit-arguments .ensures)
     (c .before .before .put2 .ensures)
