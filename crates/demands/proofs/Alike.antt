@@ -5,7 +5,7 @@ use lib.Dec.{leb}
 use lib.Seq.{take-append-seam}
 use borrow.Author.Tests.{leb-true, le-leb}
 use mathlib.Core.List.{List, _++_}
-use Prim.Native.Nat.{ℕ, _+_, _-_, _*_, _/_, _≤_}
+use Prim.Native.Nat.{ℕ, _+_, _*_, _/_, _≤_}
 use native.Mathlib.Omega.{arith}
 use lib.ListN.{length, take, drop}
 use Rattle.language.specs.Results.{Checked, accept, refuse}

@@ -1,7 +1,7 @@
 -- Each letter's node is read as its V lines and its children. Assumes nothing.
 use mathlib.Core.List.{append-nil, List, [], _∷_, _++_}
 use mathlib.Core.Path.{_≡_, refl}
-use Prim.Native.Nat.{ℕ, suc, _+_, _-_}
+use Prim.Native.Nat.{ℕ, suc, _+_}
 use native.Mathlib.Omega.{arith}
 use borrow.Author.Tests.{ne-eqb}
 use Rattle.language.specs.Results.{Checked, accept, refuse, require}

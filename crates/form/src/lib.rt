@@ -9,7 +9,7 @@ ghost use lib.ListN.{length, drop};
 ghost use lib.Seq.{sets};
 ghost use Rattle.language.specs.Limits.{of-check, of-translator};
 ghost use Rattle.language.specs.Results.{accept};
-ghost use Rattle.language.specs.Rows.{Record, row, rows-of};
+ghost use Rattle.language.specs.Rows.{Record, rows-of};
 ghost use Rattle.language.specs.Tree.{DeclaredType, Expr, Exprs, Class, Program};
 ghost use Rattle.language.specs.Form.{locals, several, node, body, method, methods, at-end, form};
 ghost use Rattle.language.specs.Tables.{next-rows, program-ends};

@@ -10,7 +10,7 @@ use borrow.Author.Tests.{ne-eqb}
 use lib.Dec.{eqb}
 use lib.ListN.{length}
 use Rattle.language.specs.Lists.{nth-some, choice, given, nth-lt, Never}
-use Rattle.language.specs.Tree.{root, Class}
+use Rattle.language.specs.Tree.{Class}
 use Rattle.language.specs.Effects.{member, join, effect-of, apply-class}
 use Rattle.language.specs.Program.{is-state, class-at, below-at, root-at, nearest-at, world}
 use Rattle.language.specs.ClassTables.{above-at, above}

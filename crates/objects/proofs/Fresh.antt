@@ -22,7 +22,7 @@ use Rattle.objects.specs.Values.{bare, answer, answered}
 use Rattle.objects.specs.Holding.{Holds, Sound}
 use Rattle.objects.specs.Contracts.{Stored, first-of, Fill, Filled, PreNew, PostNew}
 use Rattle.objects.proofs.Values.{value-of-value-number, decoded-object, gave-number}
-use Rattle.objects.proofs.Tally.{counts, set-made}
+use Rattle.objects.proofs.Tally.{set-made}
 use Rattle.objects.proofs.Acts.{acts-same}
 use Rattle.objects.proofs.Nth.{lt-or, nth-ext, nth-take, nth-drop, nth-past, some-at}
 use Rattle.objects.proofs.Objects.{values-at, values-length, object-at, heap-length}

@@ -1,7 +1,7 @@
 -- When values, slots and heaps fit their types, what the heading rules give (`Laws`), and how fitting lasts
 -- while the classes of objects change within an effect.
 use mathlib.Core.Path.{_≡_, refl, sym, ap, _∙_}
-use Prim.Native.Nat.{ℕ, _+_, _-_}
+use Prim.Native.Nat.{ℕ}
 use mathlib.Core.Option.{Option, none, some}
 use mathlib.Core.Bool.{Bool, true, false, cond}
 use mathlib.Core.Logic.{_⊎_, inl, inr, _≢_}
@@ -11,7 +11,7 @@ use native.Mathlib.Decide.{ℕ-discrete}
 use Rattle.language.specs.Limits.{null-exception, cast-exception}
 use Rattle.language.specs.Lists.{nth, map-option, inj, All2, a-nil, a-cons, all2-map, all2-mono, all2-mono-at}
 use Rattle.language.specs.Lists.{nth-set-same, nth-set-other, nth-append, nth-append-one, nth-set}
-use Rattle.language.specs.Frames.{Frame, frame}
+use Rattle.language.specs.Frames.{Frame}
 use Rattle.language.specs.Tree.{DeclaredType, bool, class, ExprType, known, null-type, Field}
 use Rattle.language.specs.World.{Method, World}
 use Rattle.language.specs.Effects.{no-effect, member, join, within, apply-class, apply, apply-expr}

@@ -14,7 +14,7 @@ use borrow.Author.Tests.{eqb-true, eq-eqb, ne-eqb, ltb-true, leb-true, le-leb}
 use native.Mathlib.Omega.{arith}
 use Rattle.language.specs.Limits.{Most, of-check, of-translator, object-class, id-field, imp-field}
 use Rattle.language.specs.Lists.{nth, given, choice, bind-option, bind-option-inv, Never, inj, nth-append-one}
-use Rattle.language.specs.Results.{accept, earlier, bind-checked-inv, require-inv}
+use Rattle.language.specs.Results.{accept, bind-checked-inv, require-inv}
 use Rattle.language.specs.Tree.{Field, Declaration, Class, class-lines, Program}
 use Rattle.language.specs.World.{Method, World, place, is-declared}
 use Rattle.language.specs.Program.{method-of, declared, class-at, fields-at, method-at, world}

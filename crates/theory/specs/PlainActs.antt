@@ -10,7 +10,7 @@ use native.Mathlib.Omega.{arith}
 use Rattle.language.specs.Limits.{imp-field, id-field, cast-exception}
 use Rattle.language.specs.Lists.{nth, choice, Never, inj, all2-at, all2-at′, all2-set₂, nth-last, up}
 use Rattle.language.specs.Results.{ok, stop, bind, Alike, alike-ok, alike-stop}
-use Rattle.language.specs.Frames.{Frame, frame, at-slot}
+use Rattle.language.specs.Frames.{Frame, at-slot}
 use Rattle.language.specs.Tree.{DeclaredType, class, ExprType, known, Expr, literal-null, slot, get, new, set}
 use Rattle.language.specs.World.{Method, World, field-type, is-declared}
 use Rattle.language.specs.Typing.{Environment, not-bool}

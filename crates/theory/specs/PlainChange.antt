@@ -1,6 +1,6 @@
 -- What R does, the slot having a value: the source and its plain form end alike.
 use mathlib.Core.Path.{_≡_, refl, _∙_}
-use Prim.Native.Nat.{ℕ, zero, suc, _+_, _≤_}
+use Prim.Native.Nat.{ℕ, zero, suc, _≤_}
 use mathlib.Core.Option.{some}
 use mathlib.Core.Bool.{true}
 use mathlib.Core.List.{List, [], _∷_, _++_}
@@ -9,7 +9,6 @@ use lib.Seq.{take-append-seam}
 use native.Mathlib.Omega.{arith}
 use Rattle.language.specs.Lists.{nth, nth-append, up, nth-up, set-up, nth₀, drop-map}
 use Rattle.language.specs.Results.{ok, Alike, alike-ok}
-use Rattle.language.specs.Frames.{frame}
 use Rattle.language.specs.Tree.{class, known, Expr, change}
 use Rattle.language.specs.World.{Method, World, is-declared}
 use Rattle.language.specs.Typing.{Environment, can-change}

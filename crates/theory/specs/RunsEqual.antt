@@ -9,7 +9,7 @@ use lib.Dec.{leb}
 use Rattle.language.specs.Limits.{cast-exception}
 use Rattle.language.specs.Lists.{nth, choice}
 use Rattle.language.specs.Results.{ok, stop, bind}
-use Rattle.language.specs.Frames.{frame, at-slot, opened}
+use Rattle.language.specs.Frames.{at-slot, opened}
 use Rattle.language.specs.Tree.{Expr, literal-true, literal-false, literal-null, slot, is-null, get, cast}
 use Rattle.language.specs.Tree.{new, change, assign, set, call, choose, block, Exprs, nil, cons}
 use Rattle.language.specs.World.{Method, World}

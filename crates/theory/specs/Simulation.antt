@@ -13,7 +13,7 @@ use Rattle.language.specs.Limits.{imp-field, id-field}
 use Rattle.language.specs.Lists.{choice, a-nil, a-cons, all2-append, nth₀, nth₁, nth-suc, nth-map, up-suc}
 use Rattle.language.specs.Results.{ok, bind, Alike, alike-ok, alike-stop, alike-bind, alike-context}
 use Rattle.language.specs.Results.{alike-with, alike-mono, alike-wrap}
-use Rattle.language.specs.Frames.{frame, with-slot, opened, closed}
+use Rattle.language.specs.Frames.{with-slot, opened, closed}
 use Rattle.language.specs.Tree.{DeclaredType, class, ExprType, known, Expr, literal-true, literal-false}
 use Rattle.language.specs.Tree.{literal-null, slot, is-null, get, cast, new, change, assign, set, call}
 use Rattle.language.specs.Tree.{choose, block, Exprs, nil, cons}

@@ -1,7 +1,7 @@
 -- A slot keeps its sort, bool or class, while an expression is typed; so what fits the frame of either arm of
 -- a choice fits the join of the two.
 use mathlib.Core.Path.{_≡_, refl}
-use Prim.Native.Nat.{ℕ, zero, suc, _-_}
+use Prim.Native.Nat.{ℕ, zero, suc}
 use mathlib.Core.Option.{Option, none, some}
 use mathlib.Core.List.{List, [], _∷_}
 use lib.ListN.{length}

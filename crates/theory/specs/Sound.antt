@@ -1,12 +1,12 @@
 -- Type soundness: an accepted expression, run where heap and slots fit their types, never gets stuck, and
 -- they fit afterwards; where it stops the heap fits then.
 use mathlib.Core.Path.{refl, subst}
-use Prim.Native.Nat.{ℕ, zero, suc, _-_}
+use Prim.Native.Nat.{ℕ, zero, suc}
 use mathlib.Core.List.{List, [], _∷_, map}
 use lib.ListN.{length}
 use Rattle.language.specs.Lists.{All2, a-nil, a-cons, all2-set, all2-append, all2-take, all2-length}
 use Rattle.language.specs.Results.{Holds, holds-ok, holds-stop, holds-bind, holds-choice, holds-mono}
-use Rattle.language.specs.Frames.{frame, opened}
+use Rattle.language.specs.Frames.{opened}
 use Rattle.language.specs.Tree.{DeclaredType, ExprType, known, Expr, literal-true, literal-false}
 use Rattle.language.specs.Tree.{literal-null, slot, is-null, get, cast, new, change, assign, set, call}
 use Rattle.language.specs.Tree.{choose, block, Exprs, nil, cons}

@@ -94,7 +94,8 @@ returns-2 c =
     (omega (arith, c .before .before .put-refusal .ensures .1, start .pre))
     (c .before .before .put-refusal .ensures .2) in (
       run-refused (start .args .rows .now) (replicate 4000 0) (the-translate-rows .result)
-          (the-translated2 .given .0 .0) (the-translated2 .given .0 .1 .0) refl (the-translate-rows .ensures .0)
+          (the-translated2 .given .0 .0) (the-translated2 .given .0 .1 .0) refl
+          (the-translate-rows .ensures .0)
           (the-translated2 .given .1) _ (k .0),
       k .1,
     ))

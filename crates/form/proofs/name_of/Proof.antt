@@ -1,6 +1,6 @@
 -- The name of a row: each arm of the match has the code, the last one knows that its letter gives none. Assumes nothing.
 use mathlib.Core.Path.{sym, ap}
-use Prim.Native.Nat.{ℕ, _-_}
+use Prim.Native.Nat.{ℕ}
 use Rattle.language.specs.Rows.{letter-among}
 use Rattle.form.specs.Places.{name-at}
 use Rattle.form.proofs.Places.{name-other}

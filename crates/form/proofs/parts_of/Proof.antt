@@ -1,6 +1,6 @@
 -- Locals and children of a node: each arm of the match has the code, the last one knows that it is no node. Assumes nothing.
 use mathlib.Core.Path.{sym, ap}
-use Prim.Native.Nat.{ℕ, _-_}
+use Prim.Native.Nat.{ℕ}
 use borrow.Author.Needs.{needs}
 use Rattle.language.specs.Rows.{letter-among}
 use Rattle.form.specs.Places.{parts-at}

@@ -1,6 +1,6 @@
 -- A body: a row that is refused, another letter, or a block. Assumes nothing.
 use mathlib.Core.Path.{sym, _∙_}
-use Prim.Native.Nat.{_+_, _-_}
+use Prim.Native.Nat.{_+_}
 use native.Mathlib.Omega.{arith}
 use Rattle.form.proofs.Places.{here}
 use Rattle.form.proofs.Passes.{told-as, told-refuse}

@@ -71,7 +71,8 @@ loop-less c = omega (
   arith,
   classing-less
       (c .before .before .before .before .before .before .before .before .before .before .before .loop .inv)
-      (c .before .before .before .before .before .before .before .before .before .before .is-letter .ensures .1
+      (c .before .before .before .before .before .before .before .before .before
+      .before .is-letter .ensures .1
       (c .before .before .before .before .before .before .before .before .before .if1 .taken))
       (sym (c .before .before .before .before .before .before .before .before .before
       .before .is-letter .ensures .0)

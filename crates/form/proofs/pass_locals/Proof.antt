@@ -1,6 +1,5 @@
 -- V lines: between two of them, what is left to read tells of the whole. Assumes nothing.
 use mathlib.Core.Path.{sym, _∙_}
-use Prim.Native.Nat.{_-_}
 use native.Mathlib.Omega.{arith}
 use Rattle.form.proofs.Places.{here}
 use Rattle.form.proofs.Lines.{Declaring, declaring-start, declaring-refused, declaring-other}

@@ -162,7 +162,8 @@ returns-3 c =
           (at-start-block .start-block .last .0) (at-start-block .start-block .ensures)
           (at-count-rows .count-rows .result) (at-count-rows .count-rows .ensures)
           (at-check-fields .check-fields .result) (at-check-fields .check-fields .last .1 .0)
-          (at-check-fields .check-fields .ensures) (c .enum-told2 .given .0 .0) (c .enum-told2 .given .0 .1 .0)
+          (at-check-fields .check-fields .ensures) (c .enum-told2 .given .0 .0)
+          (c .enum-told2 .given .0 .1 .0)
           (c .enum-told2 .given .1),
       λ e. not-both e (c .enum-told2 .given .1),
     )

@@ -232,7 +232,8 @@ loop-again c =
           going-step w (at-loop .loop .inv .2 w) (at-loop-test .loop-test .taken)
           (at-check-class .check-class .result) (at-check-class .check-class .last .1 .1 .0)
           (at-check-class .check-class .ensures) (at-enum-told .enum-told .given .1)
-          (c .before .before .class-bit .result) (c .before .before .class-bit .ensures) (c .skip-class .result)
+          (c .before .before .class-bit .result) (c .before .before .class-bit .ensures)
+          (c .skip-class .result)
           (c .skip-class .ensures),
     )
 

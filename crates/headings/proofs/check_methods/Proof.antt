@@ -65,7 +65,8 @@ returns c =
     λ w. (
       entering-refused w (at-loop .loop .inv .1 w) (at-if1 .if1 .taken)
           (at-check-method .check-method .result) (at-check-method .check-method .last .1 .0)
-          (at-check-method .check-method .ensures) (c .enum-told2 .given .0 .0) (c .enum-told2 .given .0 .1 .0)
+          (at-check-method .check-method .ensures) (c .enum-told2 .given .0 .0)
+          (c .enum-told2 .given .0 .1 .0)
           (c .enum-told2 .given .1),
       λ e. not-both e (c .enum-told2 .given .1),
     )
@@ -93,7 +94,8 @@ loop-again c =
     let at-loop = at-if1 .before .before in (
       at-check-method .check-method .kept .1 .0 ∙ at-loop .loop .inv .0,
       λ w.
-          entering-step w (at-loop .loop .inv .1 w) (at-if1 .if1 .taken) (at-check-method .check-method .result)
+          entering-step w (at-loop .loop .inv .1 w) (at-if1 .if1 .taken)
+          (at-check-method .check-method .result)
           (at-check-method .check-method .last .1 .0) (at-check-method .check-method .ensures)
           (c .before .enum-told .given .1) (c .skip-method .result) (c .skip-method .ensures),
     )

@@ -27,7 +27,9 @@ array-share-prefix-out : tie.Need-array-share-prefix-out
 array-share-prefix-out c = search needs
 
 slice-aggregate-write-all : tie.Need-slice-aggregate-write-all
-slice-aggregate-write-all c = sym (length-take-le (c .before .before .run-input .result) (c .before .before .run-input .last .1 .0) (c .before .before .run-input .ensures .1))
+slice-aggregate-write-all c =
+    sym (length-take-le (c .before .before .run-input .result) (c .before .before .run-input .last .1 .0)
+    (c .before .before .run-input .ensures .1))
 
 write-all-requires : tie.Need-write-all-requires
 write-all-requires c κs = search needs

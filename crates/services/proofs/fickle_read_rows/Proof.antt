@@ -1,6 +1,5 @@
 -- `services::fickle_read_rows` meets its contract. Assumes nothing.
 use mathlib.Core.Path.{ap, _∙_}
-use Prim.Native.Nat.{_-_}
 use borrow.Author.Needs.{needs}
 use Rattle.services.specs.Packed.{packed}
 use Rattle.services.proofs.fickle_read_rows.Statement.{statement}

@@ -1,6 +1,5 @@
 -- `text::close_line` meets its contract. Assumes nothing.
 use mathlib.Core.Path.{sym, _∙_}
-use Prim.Native.Nat.{_-_}
 use lib.ListN.{getD}
 use borrow.Author.Needs.{needs}
 use Rattle.text.proofs.Lines.{closed-past, closed-at}

@@ -1,7 +1,7 @@
 -- `text::find_field` meets its contract. Assumes nothing.
 use mathlib.Core.Path.{_≡_, sym, ap, _∙_}
 use native.Mathlib.Omega.{arith}
-use Prim.Native.Nat.{ℕ, _+_, _-_, _≤_}
+use Prim.Native.Nat.{ℕ, _-_, _≤_}
 use lib.ListN.{length, take, drop}
 use mathlib.Core.List.{List, _++_, append-nil}
 use Rattle.text.specs.Lines.{field}
@@ -21,7 +21,8 @@ loop-holds c = (
   omega arith,
   omega arith,
   let z : 0 ≡ c .args .at - c .args .at = omega arith in ap
-      (λ (k : ℕ). take k (drop (c .args .at) (c .args .s .now)) ++ field (drop (c .args .at) (c .args .s .now)))
+      (λ (k : ℕ). take k (drop (c .args .at) (c .args .s .now)) ++ field
+      (drop (c .args .at) (c .args .s .now)))
       z,
 )
 

@@ -1,6 +1,5 @@
 -- `text::read_digit` meets its contract. Assumes nothing.
 use native.Mathlib.Omega.{arith}
-use Prim.Native.Nat.{_-_}
 use borrow.Author.Tests.{le-leb, lt-leb}
 use Rattle.text.specs.Decimals.{digit-of}
 use borrow.Author.Needs.{needs}

@@ -1,6 +1,5 @@
 -- `text::read_number` meets its contract. Assumes nothing.
 use mathlib.Core.Path.{sym, _∙_}
-use Prim.Native.Nat.{_-_}
 use borrow.Author.Needs.{needs}
 use Rattle.text.proofs.Lines.{number-past, number-no-tab, number-bad, number-good}
 use Rattle.text.proofs.read_number.Statement.{statement}

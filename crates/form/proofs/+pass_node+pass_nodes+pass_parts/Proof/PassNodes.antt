@@ -1,6 +1,6 @@
 -- What the borrow checker leaves of `pass_nodes`. Each answer cites a law of Nodes.
 use mathlib.Core.Path.{_∙_}
-use Prim.Native.Nat.{ℕ, _-_}
+use Prim.Native.Nat.{ℕ}
 use native.Mathlib.Omega.{arith}
 use borrow.Author.Needs.{needs}
 use Rattle.form.proofs.Nodes.{Reading, reading-start, reading-end, reading-stop, reading-step}
