@@ -3,7 +3,6 @@
 --   class-here    the class of number k: its C line is row class-row P k
 --   found-row     where method-row P k m is some row r, the declaring class and the declaration: `FoundRow`
 --   found-none    where there is no row, no method is found; row-some: where a method is found, there is a row
---   at-found      what holds of each method of each class holds of the one found
 --   method-here   its lines and its body in rows, and its form
 --   field-here    the i-th field of class k has a row, and its F line there
 --   body-here     a body is a block, whose B line is its first row
@@ -31,7 +30,6 @@ use Rattle.language.specs.ClassTables.{rows-from, declared-row, class-row, fiel
 use Rattle.language.specs.ClassTables.{method-row-at, method-row}
 use Rattle.language.specs.Encoded.{RowAt, NodeAt, LinesAt, Encoded}
 use Rattle.language.specs.Layout.{EachMethod, EachClass, FieldsAt, MethodAt, ClassAt, ProgramAt}
-use Rattle.language.specs.Layout.{methods-from-row}
 use Rattle.theory.specs.Lookups.{each-at}
 
 -- ---- classes
@@ -243,16 +241,6 @@ module _ (P : List Class) where
       go : (o : Option ℕ) → method-row P k m ≡ o → (r : ℕ) × (method-row P k m ≡ some r)
       go none q = absurd (Never (sym (found-none k m q) ∙ e))
       go (some r) q = (r, q)
-
-  pub at-found : (Q : ℕ → Declaration → ℕ → Type 0)
-      → EachClass (λ k c r. EachMethod Q (c .methods) k (methods-from-row r c)) P 1 0
-      → (k m r : ℕ) (x : FoundRow P k m r) → Q (x .owner) (x .declaration) r
-  at-found Q h k m r x = at-declared Q (x .owner) (class-row P (x .owner) + 1 + length (x .owning .fields))
-      (x .owning .methods) m r
-      (x .declaration)
-      (each-class (λ k c r. EachMethod Q (c .methods) k (methods-from-row r c)) P h (x .owner) (x .owning)
-      (x .is-class))
-      (x .row) (x .declares)
 
 -- The lines and the body of a method found.
 pub record MethodHere (R E : List ℕ) (P : List Class) (k m r : ℕ) : Type 0 where
