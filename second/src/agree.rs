@@ -3,7 +3,7 @@
 
 use crate::check::accept;
 use crate::machine::{run, Outcome, Run, Value};
-use crate::plain::{translation, Fault, IDENTITY};
+use crate::plain::{translation, IDENTITY};
 use crate::random::Random;
 use crate::rows::{number, FUEL_MOST, OBJECTS_MOST, OBJECT_WIDTH, TRANSLATED};
 
@@ -22,14 +22,8 @@ pub enum Agreement {
 }
 
 /// Tries a program, the source on the given fuel and a store of so many objects. An error says what disagrees.
-pub fn agree(
-    rows: &[u32],
-    fuel: u64,
-    capacity: usize,
-    fault: Fault,
-    random: &mut Random,
-) -> Result<Agreement, String> {
-    let Ok(plain_rows) = translation(rows, fault) else {
+pub fn agree(rows: &[u32], fuel: u64, capacity: usize, random: &mut Random) -> Result<Agreement, String> {
+    let Ok(plain_rows) = translation(rows) else {
         return Ok(Agreement::Refused);
     };
     let source = accept(rows).map_err(|refusal| format!("translated, yet refused: {refusal:?}"))?;

@@ -10,4 +10,4 @@ mod program;
 pub use bytes::{program_text, row_buffer, rows_of_text, text, text_of_rows};
 pub use damage::{damaged, damaged_for, REFUSALS};
 pub use extreme::extreme;
-pub use program::program;
+pub use program::{near_missed, program};

@@ -10,6 +10,8 @@ pub mod plain;
 pub mod programs;
 pub mod random;
 pub mod rows;
+pub mod services;
 pub mod text;
 pub mod tree;
 pub mod typing;
+pub mod vectors;

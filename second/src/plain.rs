@@ -15,26 +15,10 @@ pub const FICKLE_OBJECT: u32 = 2;
 /// Classes that every plain program has before its own.
 const ADDED_CLASSES: u32 = 2;
 
-/// Errors that a translator could plausibly make; planted to see that the comparison notices them.
-#[derive(Clone, Copy, Debug, PartialEq, Eq)]
-pub enum Fault {
-    None,
-    /// U and Q take the implementor before the values run.
-    ImplementorTooEarly,
-    /// R copies fields below the root as well, where both classes have the name.
-    CopyBelowRoot,
-    /// The else arm of R ends with its last copy.
-    EndWithCopy,
-    /// R does not copy the root's fields.
-    NoCopy,
-    /// R does not set `id` of the new implementor.
-    NoIdentity,
-}
-
 /// Translates a program into lent rows. Answers the count of rows written.
 /// The check first, then the translator's limits in line order, then 12, then 13.
 pub fn translate_rows(rows: &[u32], plain: &mut [u32]) -> Result<usize, Refusal> {
-    let translated = translation(rows, Fault::None)?;
+    let translated = translation(rows)?;
     if translated.len() > plain.len() {
         return refuse(number::ROOM, 0);
     }
@@ -42,8 +26,8 @@ pub fn translate_rows(rows: &[u32], plain: &mut [u32]) -> Result<usize, Refusal>
     Ok(translated.len() / ROW_WIDTH)
 }
 
-/// The rows of the translation, with a planted fault if any.
-pub fn translation(rows: &[u32], fault: Fault) -> Result<Vec<u32>, Refusal> {
+/// The rows of the translation.
+pub fn translation(rows: &[u32]) -> Result<Vec<u32>, Refusal> {
     let accepted = accept(rows)?;
     if let Some(line) = over_limit(&accepted, rows.len() / ROW_WIDTH) {
         return refuse(number::LIMIT, line);
@@ -51,7 +35,7 @@ pub fn translation(rows: &[u32], fault: Fault) -> Result<Vec<u32>, Refusal> {
     if let Some(line) = reserved(&accepted.program) {
         return refuse(number::RESERVED, line);
     }
-    let mut plain = Plain { accepted: &accepted, fault, rows: Vec::new(), slots: Vec::new(), scope: 0 };
+    let mut plain = Plain { accepted: &accepted, rows: Vec::new(), slots: Vec::new(), scope: 0 };
     plain.program();
     Ok(plain.rows)
 }
@@ -73,7 +57,6 @@ fn plain_class(class: u32) -> u32 {
 /// count of plain slots in scope.
 struct Plain<'a> {
     accepted: &'a Accepted,
-    fault: Fault,
     rows: Vec<u32>,
     slots: Vec<u32>,
     scope: u32,
@@ -141,7 +124,7 @@ impl Plain<'_> {
             Node::Get { name, object } => self.get(expr.line, *name, object),
             Node::Cast { class, value } => self.cast(*class, value),
             Node::New { class } => self.new_object(*class),
-            Node::Change { slot, class } => self.change(expr.line, *slot, *class),
+            Node::Change { slot, class } => self.change(*slot, *class),
             Node::Assign { slot, value } => {
                 self.row(letter::ASSIGN, self.slots[*slot as usize], 0);
                 self.expression(value);
@@ -249,15 +232,11 @@ impl Plain<'_> {
     }
 
     /// What U and Q begin with: i = object, then a temporary for each value. Answers i's slot.
-    fn operands(&mut self, class: u32, object: &Expr, types: &[Type], values: &[&Expr]) -> u32 {
-        let early = self.fault == Fault::ImplementorTooEarly;
-        let mut temporaries = vec![if early { plain_class(class) } else { IDENTITY }];
+    fn operands(&mut self, object: &Expr, types: &[Type], values: &[&Expr]) -> u32 {
+        let mut temporaries = vec![IDENTITY];
         temporaries.extend(types.iter().map(|declared| plain_type(*declared)));
         let i = self.open(&temporaries, values.len() + 2);
         self.row(letter::ASSIGN, i, 0);
-        if early {
-            self.implementor(class);
-        }
         self.expression(object);
         for (temporary, value) in (i + 1..).zip(values) {
             self.row(letter::ASSIGN, temporary, 0);
@@ -268,9 +247,7 @@ impl Plain<'_> {
 
     /// What U and Q act on: the cast of i's `imp` to the class used for lookup.
     fn operated(&mut self, class: u32, i: u32) {
-        if self.fault != Fault::ImplementorTooEarly {
-            self.implementor(class);
-        }
+        self.implementor(class);
         self.row(letter::SLOT, i, 0);
     }
 
@@ -278,7 +255,7 @@ impl Plain<'_> {
     fn set(&mut self, line: u32, name: u32, object: &Expr, value: &Expr) {
         let class = self.looked_at(line);
         let declared = self.accepted.world.field(class, name).expect("a checked field").1;
-        let i = self.operands(class, object, &[declared], &[value]);
+        let i = self.operands(object, &[declared], &[value]);
         self.row(letter::SET, name, 0);
         self.operated(class, i);
         self.row(letter::SLOT, i + 1, 0);
@@ -291,7 +268,7 @@ impl Plain<'_> {
         let accepted = self.accepted;
         let method = accepted.world.method(class, name).expect("a checked method");
         let values: Vec<&Expr> = arguments.iter().collect();
-        let i = self.operands(class, receiver, &method.parameters, &values);
+        let i = self.operands(receiver, &method.parameters, &values);
         self.row(letter::CALL, name, values.len() as u32);
         self.operated(class, i);
         for temporary in (i + 1..).take(values.len()) {
@@ -302,11 +279,9 @@ impl Plain<'_> {
 
     /// R of a slot: if null(i = slot) then null, else the renewal; then i.
     /// R of `this`: i = `this`'s `id`, the renewal, then i.
-    fn change(&mut self, line: u32, slot: u32, class: u32) {
-        let below = self.fault == Fault::CopyBelowRoot;
+    fn change(&mut self, slot: u32, class: u32) {
         let root = self.accepted.world.class(class).root;
-        let from = if below { self.looked_at(line) } else { root };
-        let temporaries = [IDENTITY, plain_class(class), plain_class(from)];
+        let temporaries = [IDENTITY, plain_class(class), plain_class(root)];
         let i = self.open(&temporaries, if slot == 0 { 3 } else { 2 });
         if slot == 0 {
             self.row(letter::ASSIGN, i, 0);
@@ -318,47 +293,30 @@ impl Plain<'_> {
             self.row(letter::SLOT, self.slots[slot as usize], 0);
             self.row(letter::NULL, 0, 0);
         }
-        self.renewal(i, class, from);
+        self.renewal(i, class, root);
         self.row(letter::SLOT, i, 0);
         self.close(3);
     }
 
     /// R's inner block: o = new, p = cast of i's `imp` to the root, o's `id` = i, i's `imp` = o, each root
     /// field copied from p to o in order, i.
-    fn renewal(&mut self, i: u32, class: u32, from: u32) {
+    fn renewal(&mut self, i: u32, class: u32, root: u32) {
         let (o, p) = (i + 1, i + 2);
-        let copied = self.copied_fields(class, from);
-        let sets_identity = self.fault != Fault::NoIdentity;
-        let ends_with_copy = self.fault == Fault::EndWithCopy;
-        let items = 3 + usize::from(sets_identity) + copied.len() + usize::from(!ends_with_copy);
-        self.row(letter::BLOCK, 0, items as u32);
+        let copied = &self.accepted.world.class(root).fields;
+        self.row(letter::BLOCK, 0, 5 + copied.len() as u32);
         self.row(letter::ASSIGN, o, 0);
         self.row(letter::NEW, plain_class(class), 0);
         self.row(letter::ASSIGN, p, 0);
-        self.implementor(from);
+        self.implementor(root);
         self.row(letter::SLOT, i, 0);
-        if sets_identity {
-            self.set_slot_field(o, ID, i);
-        }
+        self.set_slot_field(o, ID, i);
         self.set_slot_field(i, IMP, o);
-        for name in copied {
-            self.row(letter::SET, name, 0);
+        for (name, _) in copied {
+            self.row(letter::SET, *name, 0);
             self.row(letter::SLOT, o, 0);
-            self.row(letter::GET, name, 0);
+            self.row(letter::GET, *name, 0);
             self.row(letter::SLOT, p, 0);
         }
-        if !ends_with_copy {
-            self.row(letter::SLOT, i, 0);
-        }
-    }
-
-    /// The names of the fields that R copies: those of the root, in order.
-    fn copied_fields(&self, class: u32, from: u32) -> Vec<u32> {
-        if self.fault == Fault::NoCopy {
-            return Vec::new();
-        }
-        let world = &self.accepted.world;
-        let fields = world.class(from).fields.iter().map(|(name, _)| *name);
-        fields.filter(|name| world.field(class, *name).is_some()).collect()
+        self.row(letter::SLOT, i, 0);
     }
 }

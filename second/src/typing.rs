@@ -5,8 +5,7 @@ use crate::headings::{effect_of, Effect, Type, World};
 use crate::rows::{number, refuse, Refusal, OBJECT};
 use crate::tree::{Expr, Method, Named, Node, Program};
 
-/// The class that an expression's rule looked at, by row: for G, U and Q the class used for lookup, for R
-/// the slot's class before the change.
+/// The class in which G, U and Q look their member up, by row.
 pub type Lookups = Vec<u8>;
 
 /// The body pass over all methods, then the start block.
@@ -185,7 +184,6 @@ impl Typing<'_> {
         if root == 0 || self.world.class(current).root != root {
             return refuse(number::CHANGE, line);
         }
-        self.note(line, current);
         let effect = effect_of(root);
         self.apply_to_slots(effect);
         self.slots[slot as usize] = Type::Class(class);

@@ -172,3 +172,24 @@ fn all_kinds_together() {
         }
     });
 }
+
+#[test]
+fn near_misses() {
+    let cases = 5_000;
+    let (mut bodies, mut refusals) = (0, BTreeMap::new());
+    for seed in 0..cases {
+        let rows = generate::near_missed(&mut Random::new(seed));
+        bodies += rows.chunks(4).filter(|row| [letter::METHOD, letter::START].contains(&row[0])).count();
+        if let Err(refusal) = check_rows(&rows) {
+            let code = rows[(refusal.line as usize - 1) * 4] as u8 as char;
+            *refusals.entry((refusal.number, code)).or_insert(0) += 1;
+        }
+    }
+    let refused: usize = refusals.values().sum();
+    println!("{cases} programs of {bodies} bodies: {refused} refused, by number and letter {refusals:?}");
+    let kept = |number: u32, letter: char| refusals.get(&(number, letter)).copied().unwrap_or(0);
+    assert!(refused * 100 > bodies * 2, "near misses in too few bodies");
+    for (number, letter) in [(8, 'Q'), (8, 'U'), (9, 'A'), (9, 'J'), (9, 'Q'), (9, 'U')] {
+        assert!(kept(number, letter) >= 5, "{number} on {letter}");
+    }
+}

@@ -4,7 +4,6 @@
 use second::agree::{agree, Agreement};
 use second::generate;
 use second::machine::on_large_stack;
-use second::plain::Fault;
 use second::random::Random;
 
 const FUEL: u64 = 5_000;
@@ -30,7 +29,7 @@ fn soak(first: u64, cases: u64) -> u64 {
         let mut random = Random::new(seed);
         let rows =
             if random.chance(3) { generate::extreme(&mut random) } else { generate::program(&mut random) };
-        match agree(&rows, FUEL, CAPACITY, Fault::None, &mut random) {
+        match agree(&rows, FUEL, CAPACITY, &mut random) {
             Ok(Agreement::Ended(run)) => {
                 ended += 1;
                 changed += u64::from(run.changes > 0);

@@ -54,13 +54,29 @@ pub struct Body<'a> {
     /// Methods below this name are called freely, others rarely: so that most runs end.
     rank: u32,
     left: isize,
+    /// Whether an expression that its own rule refuses may be kept.
+    near_misses: bool,
 }
 
 impl<'a> Body<'a> {
-    pub fn new(world: &'a World, methods: Vec<(u32, u32)>, size: Size, random: &'a mut Random) -> Body<'a> {
+    /// An empty body. Of a hundred bodies so many have near misses: an A, U, Q or J that its own rule refuses is kept
+    /// in them; A and J, which are hardly ever refused as they are written here, are written with less care.
+    pub fn new(
+        world: &'a World,
+        methods: Vec<(u32, u32)>,
+        size: Size,
+        near_misses: usize,
+        random: &'a mut Random,
+    ) -> Body<'a> {
+        let near_misses = random.chance(near_misses);
         let left = random.between(size.nodes / 3, size.nodes) as isize;
-        let (rows, slots) = (Vec::new(), Vec::new());
-        Body { world, methods, size, random, rows, slots, has_this: true, allowed: !0, rank: 256, left }
+        let (rows, slots, allowed, rank) = (Vec::new(), Vec::new(), !0, 256);
+        Body { world, methods, size, random, rows, slots, has_this: true, allowed, rank, left, near_misses }
+    }
+
+    /// An expression, written whole, that its own rule refuses: kept where near misses are.
+    fn near_miss(&self, out: Out) -> Option<Out> {
+        self.near_misses.then_some(out)
     }
 
     /// The block of a method.
@@ -311,10 +327,12 @@ impl<'a> Body<'a> {
 
     fn assign_slot(&mut self, slot: u32, levels: usize) -> Option<Out> {
         self.row(letter::ASSIGN, slot, 0);
-        let value = self.value(self.slots[slot as usize].current, levels - 1);
+        let declared = self.slots[slot as usize].current;
+        let changed = Some(slot).filter(|_| self.near_misses);
+        let value = self.operand(changed, declared, levels - 1);
         let state = &mut self.slots[slot as usize];
         if !self.world.fits(value.given, state.current) {
-            return None;
+            return self.near_miss(value);
         }
         state.sure = value.sure;
         Some(value)
@@ -353,12 +371,16 @@ impl<'a> Body<'a> {
         if let Some(slot) = trusted {
             self.slots[slot as usize].sure = true;
         }
-        let other = self.expression(want, levels - 1);
-        let given = self.world.join(then.given, other.given)?;
+        let other = if self.near_misses && self.random.chance(3) { Want::Any } else { want };
+        let other = self.expression(other, levels - 1);
+        let both = Out { effect: effect | then.effect | other.effect, sure: then.sure && other.sure, ..then };
+        let Some(given) = self.world.join(then.given, other.given) else {
+            return self.near_miss(both);
+        };
         for (slot, joined) in self.slots.iter_mut().zip(after_then) {
             slot.current = self.world.join(slot.current, joined.current)?;
             slot.sure &= joined.sure;
         }
-        Some(Out { given, effect: effect | then.effect | other.effect, sure: then.sure && other.sure })
+        Some(Out { given, ..both })
     }
 }

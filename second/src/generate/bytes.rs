@@ -1,6 +1,8 @@
 //! Texts and row buffers: valid, damaged and random.
 
-use super::{damaged, extreme, program};
+use super::extreme::{doubled_calls, extreme};
+use super::program::short_program;
+use super::{damaged, program};
 use crate::random::Random;
 use crate::rows::{letter, CHECKED, ROW_WIDTH};
 use crate::text::{read_rows, write_text};
@@ -59,17 +61,19 @@ pub fn text(random: &mut Random) -> Vec<u8> {
     }
 }
 
-/// The text of a program, for the two programs that read text: well typed, damaged, at a limit, or with a fault
-/// in its bytes.
+/// The text of a program, for the two programs that read text: mostly short and well typed; or of any size, damaged,
+/// at a limit, with a long run, or with a fault in its bytes.
 pub fn program_text(random: &mut Random) -> Vec<u8> {
-    let rows = match random.below(10) {
-        0..=4 => program(random),
-        5..=7 => damaged(random),
-        8 => extreme(random),
+    let rows = match random.below(20) {
+        0..=11 => short_program(random),
+        12 => program(random),
+        13..=16 => damaged(random),
+        17 => extreme(random),
+        18 => doubled_calls(random.between(8, 14)),
         _ => loose_rows(random),
     };
     let mut text = text_of_rows(&rows).unwrap_or_default();
-    if random.chance(15) {
+    if random.chance(8) {
         damage_bytes(&mut text, random);
     }
     text

@@ -268,6 +268,20 @@ pub fn chain(length: usize) -> Vec<u32> {
     rows.rows
 }
 
+/// Methods that call the next one twice, so many deep: a short program with a long run.
+pub fn doubled_calls(depth: usize) -> Vec<u32> {
+    let mut rows = Writer::default();
+    rows.row(letter::CLASS, PLAIN, OBJECT);
+    for name in 0..depth as u32 {
+        rows.row(letter::METHOD, BOOL, name).row(letter::BLOCK, 0, 2);
+        rows.row(letter::CALL, name + 1, 0).row(letter::SLOT, 0, 0);
+        rows.row(letter::CALL, name + 1, 0).row(letter::SLOT, 0, 0);
+    }
+    rows.row(letter::METHOD, BOOL, depth as u32).row(letter::BLOCK, 0, 1).row(letter::TRUE, 0, 0);
+    rows.row(letter::START, 0, 0).row(letter::BLOCK, 0, 1).row(letter::CALL, 0, 0).row(letter::NEW, 1, 0);
+    rows.rows
+}
+
 /// Roots in all places, all of them in the effect of one method, which changes each of its parameters.
 pub fn many_roots(count: usize) -> Vec<u32> {
     let mut rows = Writer::default();

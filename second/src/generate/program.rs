@@ -22,25 +22,50 @@ const SMALL: Size = Size { classes: (2, 6), methods: 2, fields: 16, nodes: 24, n
 const MIDDLE: Size = Size { classes: (3, 9), methods: 3, fields: 16, nodes: 40, nesting: 24, slots: 32 };
 const LARGE: Size = Size { classes: (8, 64), methods: 3, fields: 17, nodes: 60, nesting: 50, slots: 70 };
 
+/// Of a hundred bodies of a program with near misses so many may have one; about five do.
+const NEAR_MISSES: usize = 40;
+
 /// A well-typed program; most keep within the translator's limits.
 pub fn program(random: &mut Random) -> Vec<u32> {
-    let size = match random.below(100) {
+    let size = any_size(random);
+    of_size(size, 0, random)
+}
+
+/// A program that is well typed but for a few bodies, which keep expressions that their own rule refuses.
+pub fn near_missed(random: &mut Random) -> Vec<u32> {
+    let size = any_size(random);
+    of_size(size, NEAR_MISSES, random)
+}
+
+/// A well-typed program that is short enough for the two programs, in most cases.
+pub fn short_program(random: &mut Random) -> Vec<u32> {
+    let size = random.pick(&[TINY, TINY, SMALL]);
+    of_size(size, 0, random)
+}
+
+fn any_size(random: &mut Random) -> Size {
+    match random.below(100) {
         0..=24 => TINY,
         25..=69 => SMALL,
         70..=93 => MIDDLE,
         _ => LARGE,
-    };
+    }
+}
+
+/// A program of a size; of a hundred bodies so many may keep near misses.
+fn of_size(size: Size, near_misses: usize, random: &mut Random) -> Vec<u32> {
     let plan = Plan::random(&size, random);
     let stubs = plan.rows(|_, heading, rows| stub(heading, rows));
     let tree = parse(&stubs).expect("planned rows have their form");
     let world = headings(&tree).expect("planned headings are right");
     let mut rows = plan.rows(|class, heading, rows| {
-        let mut body = Body::new(&world, names_of(&tree), size, random);
+        let mut body = Body::new(&world, names_of(&tree), size, near_misses, random);
         rows.extend(body.method(class, heading));
     });
     rows.truncate(rows.len() - 2 * ROW_WIDTH);
-    let start = Body::new(&world, names_of(&tree), Size { nodes: size.nodes * 2, ..size }, random).start();
-    rows.extend(start);
+    let larger = Size { nodes: size.nodes * 2, ..size };
+    let mut body = Body::new(&world, names_of(&tree), larger, near_misses, random);
+    rows.extend(body.start());
     rows
 }
 

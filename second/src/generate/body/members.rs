@@ -121,7 +121,7 @@ impl Body<'_> {
     }
 
     /// A value for an object that may be changed meanwhile.
-    fn operand(&mut self, slot: Option<u32>, declared: Type, levels: usize) -> Out {
+    pub(super) fn operand(&mut self, slot: Option<u32>, declared: Type, levels: usize) -> Out {
         match slot {
             Some(slot) if self.random.chance(25) => self.value_after_change(slot, declared, levels),
             _ => self.value(declared, levels),
@@ -136,12 +136,16 @@ impl Body<'_> {
         self.row(letter::SET, name, 0);
         let (object, slot) = self.object(class, levels - 1);
         let value = self.operand(slot, declared, levels - 1);
-        let Type::Class(class) = self.world.apply(value.effect, object.given) else { return None };
-        let (_, declared) = self.world.field(class, name)?;
-        if !self.world.fits(value.given, declared) {
-            return None;
+        let out = Out { effect: object.effect | value.effect, ..value };
+        match self.world.apply(value.effect, object.given) {
+            Type::Class(class) if self.takes(class, name, value.given) => Some(out),
+            _ => self.near_miss(out),
         }
-        Some(Out { effect: object.effect | value.effect, ..value })
+    }
+
+    /// Whether a class has a field of a name, and a value of a type fits it.
+    fn takes(&self, class: u32, name: u32, given: Type) -> bool {
+        self.world.field(class, name).is_some_and(|(_, declared)| self.world.fits(given, declared))
     }
 
     /// Q.
@@ -161,20 +165,26 @@ impl Body<'_> {
         let (receiver, slot) = self.object(class, levels - 1);
         let arguments: Vec<Out> =
             parameters.iter().map(|declared| self.operand(slot, *declared, levels - 1)).collect();
+        let mut out = Out { given: world.method(class, name)?.result, effect: receiver.effect, sure: false };
         let mut later = 0;
+        let mut all_fit = true;
         for (argument, declared) in arguments.iter().zip(&parameters).rev() {
-            if !world.fits(world.apply(later, argument.given), *declared) {
-                return None;
-            }
+            all_fit &= world.fits(world.apply(later, argument.given), *declared);
             later |= argument.effect;
         }
-        let Type::Class(class) = world.apply(later, receiver.given) else { return None };
-        let method = world.method(class, name)?;
-        if method.effect & !self.allowed != 0 || method.parameters != parameters {
+        out.effect |= later;
+        let found = match world.apply(later, receiver.given) {
+            Type::Class(class) => world.method(class, name),
+            _ => None,
+        };
+        let Some(method) = found.filter(|method| all_fit && method.parameters == parameters) else {
+            return self.near_miss(out);
+        };
+        if method.effect & !self.allowed != 0 {
             return None;
         }
         self.apply_to_slots(method.effect);
-        let effect = receiver.effect | later | method.effect;
+        let effect = out.effect | method.effect;
         Some(Out { given: method.result, effect, sure: method.result == Type::Bool })
     }
 }

@@ -182,7 +182,11 @@ impl Damaged {
         };
         let (mut parameters, mut effect) = (headed(letter::PARAMETER), headed(letter::EFFECT));
         match random.below(5) {
-            0 => result = if result == BOOL { OBJECT } else { BOOL },
+            0 => {
+                let other = random.between(1, classes.len()) as u32;
+                let changed = random.pick(&[BOOL, OBJECT, other, other]);
+                result = if changed == result { OBJECT } else { changed };
+            }
             1 => parameters.push(BOOL),
             2 if !parameters.is_empty() => {
                 let at = random.below(parameters.len());

@@ -1,0 +1,108 @@
+//! All services behind one trait, so that implementations can be asked the same questions: the second implementation,
+//! the proved one, and copies of the second one with a fault planted in them.
+
+/// A refusal's number and line.
+pub type Refused = (u32, u32);
+
+/// How a run ended: with a value, told by its stored number, by an exception, or at a stop.
+#[derive(Clone, Copy, Debug, PartialEq, Eq)]
+pub enum End {
+    Value(u32),
+    Exception(u32),
+    Stop(u32),
+}
+
+/// The answer of a run: its end, nodes entered, objects made and changes of class.
+#[derive(Clone, Copy, Debug, PartialEq, Eq)]
+pub struct Ran {
+    pub end: End,
+    pub steps: u64,
+    pub objects: u64,
+    pub changes: u64,
+}
+
+/// What a program leaves behind: its output, what it wrote to standard error, and its exit status, if it exited.
+#[derive(Clone, Debug, PartialEq, Eq)]
+pub struct Printed {
+    pub output: Vec<u8>,
+    pub errors: Vec<u8>,
+    pub status: Option<i32>,
+}
+
+impl Printed {
+    /// A program that printed this and ended well, as both programs do whatever their input is.
+    pub fn well(output: Vec<u8>) -> Printed {
+        Printed { output, errors: Vec::new(), status: Some(0) }
+    }
+}
+
+/// The services of document 01 and its two programs.
+pub trait Services: Sync {
+    fn read_rows(&self, text: &[u8], rows: &mut [u32]) -> Result<usize, Refused>;
+    fn write_text(&self, rows: &[u32], text: &mut [u8]) -> Result<usize, Refused>;
+    fn check_rows(&self, rows: &[u32]) -> Result<(), Refused>;
+    fn translate_rows(&self, rows: &[u32], plain: &mut [u32]) -> Result<usize, Refused>;
+    fn run_rows(&self, rows: &[u32], fuel: u64, store: &mut [u32]) -> Result<Ran, Refused>;
+    /// The translating program on an input.
+    fn translate(&self, input: &[u8]) -> Printed;
+    /// The running program on an input.
+    fn run(&self, input: &[u8]) -> Printed;
+}
+
+/// Makes a type whose services are those of a crate that is this one or a copy of it.
+#[macro_export]
+macro_rules! services_of {
+    ($name:ident, $($implementation:tt)+) => {
+        pub struct $name;
+
+        impl $crate::services::Services for $name {
+            fn read_rows(&self, text: &[u8], rows: &mut [u32]) -> Result<usize, $crate::services::Refused> {
+                $($implementation)+::text::read_rows(text, rows).map_err(|no| (no.number, no.line))
+            }
+
+            fn write_text(&self, rows: &[u32], text: &mut [u8]) -> Result<usize, $crate::services::Refused> {
+                $($implementation)+::text::write_text(rows, text).map_err(|no| (no.number, no.line))
+            }
+
+            fn check_rows(&self, rows: &[u32]) -> Result<(), $crate::services::Refused> {
+                $($implementation)+::check::check_rows(rows).map_err(|no| (no.number, no.line))
+            }
+
+            fn translate_rows(
+                &self,
+                rows: &[u32],
+                plain: &mut [u32],
+            ) -> Result<usize, $crate::services::Refused> {
+                $($implementation)+::plain::translate_rows(rows, plain).map_err(|no| (no.number, no.line))
+            }
+
+            fn run_rows(
+                &self,
+                rows: &[u32],
+                fuel: u64,
+                store: &mut [u32],
+            ) -> Result<$crate::services::Ran, $crate::services::Refused> {
+                use $crate::services::{End, Ran};
+                use $($implementation)+::machine::Outcome;
+                let run = $($implementation)+::machine::run_rows(rows, fuel, store);
+                let run = run.map_err(|no| (no.number, no.line))?;
+                let end = match run.outcome {
+                    Outcome::Value(value) => End::Value(value.number()),
+                    Outcome::Exception(exception) => End::Exception(exception),
+                    Outcome::Stop(stop) => End::Stop(stop),
+                };
+                Ok(Ran { end, steps: run.steps, objects: u64::from(run.objects), changes: run.changes })
+            }
+
+            fn translate(&self, input: &[u8]) -> $crate::services::Printed {
+                $crate::services::Printed::well($($implementation)+::programs::translate(input))
+            }
+
+            fn run(&self, input: &[u8]) -> $crate::services::Printed {
+                $crate::services::Printed::well($($implementation)+::programs::run(input))
+            }
+        }
+    };
+}
+
+services_of!(Second, crate);

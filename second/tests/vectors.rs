@@ -1,0 +1,14 @@
+//! The cases of `vectors/`: open points, and programs that pin a rule down.
+
+use second::services::Second;
+use second::vectors;
+
+#[test]
+fn vectors_hold() {
+    let vectors = vectors::all().unwrap();
+    for vector in &vectors {
+        assert_eq!(vector.answer(&Second), vector.expected, "{}: {}", vector.place, vector.why);
+    }
+    println!("{} cases", vectors.len());
+    assert!(vectors.len() >= 104);
+}
