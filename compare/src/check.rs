@@ -1,20 +1,19 @@
-//! The proved check held against the second implementation.
+//! Cases of the check.
 
-use crate::text::{count, Answers};
+use crate::cases::Case;
 use second::generate::{self, extreme};
 use second::random::Random;
 use second::rows::{letter, CHECKED};
 
-/// Checks generated rows, both ways; tells the difference if there is one.
-pub fn checking(random: &mut Random, answers: &mut Answers) -> Result<(), String> {
-    let rows = program(random);
-    verdict(&rows, answers)
+/// Generated rows, checked.
+pub fn checking(random: &mut Random) -> Vec<Case> {
+    vec![Case::Check { rows: program(random) }]
 }
 
-/// A program, whole or damaged, at a limit or any rows at all; now and then a number is missing.
+/// A program, well typed or nearly so, damaged, at a limit, or any rows at all; now and then a number is missing.
 pub fn program(random: &mut Random) -> Vec<u32> {
     let mut rows = match random.below(16) {
-        0..=4 => generate::program(random),
+        0..=4 => generate::near_missed(random),
         5..=9 => generate::damaged(random),
         10..=12 => generate::damaged_for(random.pick(&generate::REFUSALS), random),
         13 => generate::row_buffer(random),
@@ -26,22 +25,8 @@ pub fn program(random: &mut Random) -> Vec<u32> {
     rows
 }
 
-/// Both verdicts on rows.
-fn verdict(rows: &[u32], answers: &mut Answers) -> Result<(), String> {
-    let proved = fickle::check_rows(rows).map_err(|no| (no.number, no.line));
-    let second = second::check::check_rows(rows).map_err(|no| (no.number, no.line));
-    if proved != second {
-        return Err(format!("check_rows of {rows:?}: {proved:?}, second {second:?}"));
-    }
-    if proved.is_ok() {
-        answers.program(rows);
-    }
-    count(proved, answers);
-    Ok(())
-}
-
-/// Each limit of the check on both sides, and lengths that are no multiple of 4.
-pub fn limits(answers: &mut Answers) -> Result<usize, String> {
+/// Each limit of the check on both sides, and lengths that are not a multiple of 4.
+pub fn limits() -> Vec<Case> {
     let mut random = Random::new(7);
     let mut programs = Vec::new();
     for past in 0..3 {
@@ -64,8 +49,5 @@ pub fn limits(answers: &mut Answers) -> Result<usize, String> {
     early.truncate(CHECKED.rows * 4);
     programs.extend([after_the_end, malformed, early, extreme::long_program(CHECKED.rows - 10), Vec::new()]);
     programs.extend([1, 2, 3, 5, 239_999, 240_001, 240_004].map(|length| vec![letter::TRUE; length]));
-    for rows in &programs {
-        verdict(rows, answers)?;
-    }
-    Ok(programs.len())
+    programs.into_iter().map(|rows| Case::Check { rows }).collect()
 }

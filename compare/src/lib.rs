@@ -1,9 +1,13 @@
 //! The proved services held against the second implementation, and what the comparisons and the benchmark share.
 
+pub mod cases;
 pub mod check;
+pub mod faults;
 pub mod load;
 pub mod programs;
+pub mod proved;
 pub mod run;
+pub mod series;
 pub mod text;
 pub mod translate;
 

@@ -1,33 +1,28 @@
-//! The proved translator held against the second implementation: answers and whole buffers.
+//! Cases of the translator.
 
+use crate::cases::Case;
 use crate::check::program;
-use crate::text::{junk, left, same, Answers};
+use crate::text::junk;
 use second::generate::extreme;
-use second::plain::{translation, Fault};
+use second::plain::translation;
 use second::random::Random;
 use second::rows::TRANSLATED;
 
-/// Translates generated rows into a buffer, both ways; tells the difference if there is one.
-pub fn translating(random: &mut Random, answers: &mut Answers) -> Result<(), String> {
+/// Generated rows, translated.
+pub fn translating(random: &mut Random) -> Vec<Case> {
     let rows = program(random);
-    into(&rows, random, answers)
+    vec![into_junk(rows, random)]
 }
 
-/// Both translations of rows, into a buffer about as long as needed.
-fn into(rows: &[u32], random: &mut Random, answers: &mut Answers) -> Result<(), String> {
-    let about = translation(rows, Fault::None).map_or(0, |plain| plain.len());
+/// Rows, to be translated into a buffer about as long as needed.
+fn into_junk(rows: Vec<u32>, random: &mut Random) -> Case {
+    let about = translation(&rows).map_or(0, |plain| plain.len());
     let plain = junk(random, about, |bits| bits as u32);
-    let proved = left(&plain, |plain| fickle::translate_rows(rows, plain).map_err(|no| (no.number, no.line)));
-    let second =
-        left(&plain, |plain| second::plain::translate_rows(rows, plain).map_err(|no| (no.number, no.line)));
-    if proved.0.is_ok() {
-        answers.program(rows);
-    }
-    same("translate_rows", &format!("{rows:?}"), proved, second, answers)
+    Case::Translate { rows, plain }
 }
 
 /// Each limit of the translator on both sides.
-pub fn limits(answers: &mut Answers) -> Result<usize, String> {
+pub fn limits() -> Vec<Case> {
     let mut random = Random::new(7);
     let mut programs = Vec::new();
     for past in 0..3 {
@@ -43,8 +38,5 @@ pub fn limits(answers: &mut Answers) -> Result<usize, String> {
             programs.push(extreme::fields(near(TRANSLATED.fields), &mut random));
         }
     }
-    for rows in &programs {
-        into(rows, &mut random, answers)?;
-    }
-    Ok(programs.len())
+    programs.into_iter().map(|rows| into_junk(rows, &mut random)).collect()
 }

@@ -1,116 +1,95 @@
-//! Holds the proved services against the second implementation on generated inputs.
-//! Arguments: the count of cases for each service, then, if wanted, the first seed.
-//! A line of progress comes now and then where more cases are asked for than the gate runs.
+//! Holds the proved services and programs against the second implementation.
+//! Arguments: the count of seeds for each service, then, if wanted, the first seed.
+//! A line of progress comes now and then where more seeds are asked for than the gate tries.
 
-use compare::text::{reading, writing, Answers};
-use compare::{check, programs, run, translate};
+use compare::cases::{Case, Reached};
+use compare::proved::Proved;
+use compare::series::{halves, Series, SEEDS};
 use second::machine::on_large_stack;
 use second::random::Random;
 use second::rows::letter;
-
-const CASES: u64 = 100_000;
+use second::services::Second;
 
 fn main() {
     let numbers: Vec<u64> = std::env::args().skip(1).filter_map(|given| given.parse().ok()).collect();
-    let cases = numbers.first().copied().unwrap_or(CASES);
+    let seeds = numbers.first().copied().unwrap_or(SEEDS);
     let first = numbers.get(1).copied().unwrap_or(0);
-    let failed = std::thread::scope(|threads| {
-        let one = threads.spawn(|| on_large_stack(|| texts_and_checks(cases, first)));
-        let other = threads.spawn(|| on_large_stack(|| translations_and_runs(cases, first)));
-        one.join().unwrap_or(1) + other.join().unwrap_or(1)
+    println!("{seeds} seeds for each service, from {first} on");
+    let failed: u64 = std::thread::scope(|threads| {
+        let halves = halves().map(|half| {
+            threads.spawn(move || {
+                on_large_stack(|| half.iter().map(|series| compare(series, seeds, first)).sum())
+            })
+        });
+        halves.into_iter().map(|half| half.join().unwrap_or(1)).sum()
     });
     if failed > 0 {
         std::process::exit(1);
     }
 }
 
-/// Reader, writer, check and the two programs: limits, then generated inputs. Answers how many differences there were.
-fn texts_and_checks(cases: u64, first: u64) -> u64 {
-    let mut failed = 0;
-    failed += compare("read_rows", cases, first, &[0, 1, 2, 13], reading);
-    failed += compare("write_text", cases, first, &[0, 1, 2, 13], writing);
-    failed += limits("check_rows", check::limits);
-    failed += compare("check_rows", cases, first, &[0, 1, 2, 3, 4, 5, 6, 7, 8, 9, 10, 11], check::checking);
-    failed += compare("program translate", cases / 50, first, &[], programs::translating);
-    failed += compare("program run", cases / 50, first, &[], programs::running);
-    failed
-}
-
-/// Translator and runner, in the same way.
-fn translations_and_runs(cases: u64, first: u64) -> u64 {
-    let mut failed = 0;
-    failed += limits("translate_rows", translate::limits);
-    let translated: Vec<usize> = (0..=13).collect();
-    failed += compare("translate_rows", cases, first, &translated, translate::translating);
-    failed += limits("run_rows", run::limits);
-    let ends: Vec<usize> = (0..=11).chain(14..=18).collect();
-    failed += compare("run_rows", cases, first, &ends, run::running);
-    failed += compare("run_rows, every fuel", cases / 100, first, &[], run::every_fuel);
-    failed
-}
-
-/// The programs at a service's limits.
-fn limits(service: &str, cases: fn(&mut Answers) -> Result<usize, String>) -> u64 {
-    let mut answers = Answers::new();
-    match cases(&mut answers) {
-        Ok(count) => {
-            println!("{service}: {count} programs at limits, 0 differences; {}", counts(&answers));
-            0
+/// Tries the fixed cases of a series, then those of its seeds. Returns how many differ, and one more for each answer or
+/// letter that should have come and did not.
+fn compare(series: &Series, seeds: u64, first: u64) -> u64 {
+    let name = series.name;
+    let (mut reached, mut failed) = (Reached::default(), 0);
+    let fixed = (series.fixed)();
+    for case in &fixed {
+        failed += differs(name, "fixed", case, &mut reached);
+    }
+    if !fixed.is_empty() {
+        println!("{name}: {} fixed cases, {failed} differences; {reached}", fixed.len());
+    }
+    let (mut reached, mut cases, tried) = (Reached::default(), 0, seeds / series.sparse);
+    for seed in first..first + tried {
+        for case in (series.generated)(&mut Random::new(seed)) {
+            failed += differs(name, &format!("seed {seed}"), &case, &mut reached);
+            cases += 1;
         }
-        Err(difference) => {
-            println!("{service} at its limits: {}", shown(&difference));
-            1
+        if tried > SEEDS && (seed - first + 1) % SEEDS == 0 {
+            println!("{name}: {} seeds, {failed} differences so far", seed - first + 1);
         }
     }
+    if tried > 0 {
+        println!("{name}: {cases} generated cases, {failed} differences; {reached}");
+    }
+    failed + if seeds >= SEEDS { missing(series, &reached) } else { 0 }
 }
 
-/// Runs one comparison over the seeds, and sees that every answer that can come did come.
-fn compare(
-    service: &str,
-    cases: u64,
-    first: u64,
-    expected: &[usize],
-    case: fn(&mut Random, &mut Answers) -> Result<(), String>,
-) -> u64 {
-    let mut answers = Answers::new();
-    let mut failed = 0;
-    for seed in first..first + cases {
-        if let Err(difference) = case(&mut Random::new(seed), &mut answers) {
-            failed += 1;
-            println!("seed {seed}: {}", shown(&difference));
-        }
-        if cases > CASES && (seed - first + 1) % CASES == 0 {
-            println!("{service}: {} cases, {failed} differences so far", seed - first + 1);
-        }
+/// Whether the two replies differ, as a count of differences; counts the answer where they do not.
+fn differs(name: &str, which: &str, case: &Case, reached: &mut Reached) -> u64 {
+    let (proved, second) = (case.reply(&Proved), case.reply(&Second));
+    if proved == second {
+        reached.count(case, &proved);
+        return 0;
     }
-    println!("{service}: {cases} cases, {failed} differences; {}", counts(&answers));
-    if let Some(number) = expected.iter().find(|number| cases >= CASES && answers.numbers[**number] == 0) {
-        println!("{service}: answer {number} was never reached");
-        failed += 1;
-    }
-    let programs = answers.letters.iter().any(|count| *count > 0);
-    let missing = letter::ALL.iter().find(|code| answers.letters[**code as usize] == 0);
-    if let Some(code) = missing.filter(|_| cases >= CASES && programs) {
-        println!("{service}: letter {} was never reached", char::from(*code as u8));
-        failed += 1;
-    }
-    failed
+    println!(
+        "{name}, {which}: {}\n    proved {}\n    second {}",
+        shown(case),
+        shown(&proved),
+        shown(&second)
+    );
+    1
 }
 
-/// How often each answer came, and each letter in programs that were accepted.
-fn counts(answers: &Answers) -> String {
-    let reached = |counts: &[u64], name: fn(usize) -> String| {
-        let shown = counts.iter().enumerate().filter(|(_, count)| **count > 0);
-        shown.map(|(place, count)| format!("{}: {count}", name(place))).collect::<Vec<_>>().join(", ")
-    };
-    let numbers = reached(&answers.numbers, |number| number.to_string());
-    let letters = reached(&answers.letters, |code| char::from(code as u8).to_string());
-    let of_programs =
-        if letters.is_empty() { letters } else { format!("; letters of accepted programs {letters}") };
-    format!("by answer (0 a result, 17 and 18 exceptions) {numbers}{of_programs}")
+/// How many answers should have come and did not, and how many letters of accepted programs.
+fn missing(series: &Series, reached: &Reached) -> u64 {
+    let mut missing = 0;
+    for answer in series.wanted.iter().filter(|answer| !reached.answers.contains_key(answer)) {
+        println!("{}: answer {answer} was never reached", series.name);
+        missing += 1;
+    }
+    let letters = letter::ALL.iter().map(|code| char::from(*code as u8));
+    for letter in
+        letters.filter(|letter| !reached.letters.is_empty() && !reached.letters.contains_key(letter))
+    {
+        println!("{}: letter {letter} was never reached", series.name);
+        missing += 1;
+    }
+    missing
 }
 
-/// The beginning of what differs.
-fn shown(difference: &str) -> String {
-    difference.chars().take(400).collect()
+/// The beginning of what is to be shown.
+fn shown(what: &impl std::fmt::Debug) -> String {
+    format!("{what:?}").chars().take(400).collect()
 }

@@ -1,0 +1,145 @@
+//! A case is one call with all that it is lent; a reply is all that comes back: the answer and the lent buffers.
+
+use second::rows::number;
+use second::services::{End, Printed, Ran, Refused, Services};
+use std::collections::BTreeMap;
+use std::fmt;
+
+/// One call of a service or a program. Buffers are lent as they stand here, mostly full of junk.
+#[derive(Clone, Debug)]
+pub enum Case {
+    Read { text: Vec<u8>, rows: Vec<u32> },
+    Write { rows: Vec<u32>, text: Vec<u8> },
+    Check { rows: Vec<u32> },
+    Translate { rows: Vec<u32>, plain: Vec<u32> },
+    Run { rows: Vec<u32>, fuel: u64, store: Vec<u32> },
+    TranslatingProgram { text: Vec<u8> },
+    RunningProgram { text: Vec<u8> },
+}
+
+/// What a call answers and leaves in what it was lent.
+#[derive(Debug, PartialEq, Eq)]
+pub enum Reply {
+    Rows(Result<usize, Refused>, Vec<u32>),
+    Text(Result<usize, Refused>, Vec<u8>),
+    Verdict(Result<(), Refused>),
+    Ran(Result<Ran, Refused>, Vec<u32>),
+    Printed(Printed),
+}
+
+/// What a reply comes to: a result, a refusal or stop by its number, an exception.
+#[derive(Clone, Copy, Debug, PartialEq, Eq, PartialOrd, Ord)]
+pub enum Answer {
+    Result,
+    Number(u32),
+    Exception(u32),
+}
+
+impl Case {
+    /// The reply of an implementation.
+    pub fn reply(&self, services: &dyn Services) -> Reply {
+        match self {
+            Case::Read { text, rows } => {
+                let mut rows = rows.clone();
+                Reply::Rows(services.read_rows(text, &mut rows), rows)
+            }
+            Case::Write { rows, text } => {
+                let mut text = text.clone();
+                Reply::Text(services.write_text(rows, &mut text), text)
+            }
+            Case::Check { rows } => Reply::Verdict(services.check_rows(rows)),
+            Case::Translate { rows, plain } => {
+                let mut plain = plain.clone();
+                Reply::Rows(services.translate_rows(rows, &mut plain), plain)
+            }
+            Case::Run { rows, fuel, store } => {
+                let mut store = store.clone();
+                Reply::Ran(services.run_rows(rows, *fuel, &mut store), store)
+            }
+            Case::TranslatingProgram { text } => Reply::Printed(services.translate(text)),
+            Case::RunningProgram { text } => Reply::Printed(services.run(text)),
+        }
+    }
+
+    /// The rows of the program that is checked, translated or run.
+    fn program(&self) -> Option<&[u32]> {
+        match self {
+            Case::Check { rows } | Case::Translate { rows, .. } | Case::Run { rows, .. } => Some(rows),
+            _ => None,
+        }
+    }
+}
+
+impl Reply {
+    pub fn answer(&self) -> Answer {
+        match self {
+            Reply::Rows(answer, _) | Reply::Text(answer, _) => of_result(answer),
+            Reply::Verdict(answer) => of_result(answer),
+            Reply::Ran(Ok(Ran { end: End::Exception(exception), .. }), _) => Answer::Exception(*exception),
+            Reply::Ran(Ok(Ran { end: End::Stop(stop), .. }), _) => Answer::Number(*stop),
+            Reply::Ran(answer, _) => of_result(answer),
+            Reply::Printed(printed) => of_output(&printed.output),
+        }
+    }
+
+    /// Whether a program was accepted: it was not refused, however its run ended.
+    fn accepted(&self) -> bool {
+        !matches!(self.answer(), Answer::Number(refusal) if refusal <= number::ROOM)
+    }
+}
+
+fn of_result<T>(answer: &Result<T, Refused>) -> Answer {
+    answer.as_ref().map_or_else(|(number, _)| Answer::Number(*number), |_| Answer::Result)
+}
+
+/// What a program's first line comes to: `!` stands before the number of a refusal or stop, `E` before an exception.
+fn of_output(output: &[u8]) -> Answer {
+    let digits = output.iter().skip(2).take_while(|byte| byte.is_ascii_digit());
+    let number = digits.fold(0, |number, digit| number * 10 + u32::from(digit - b'0'));
+    match output.first() {
+        Some(b'!') => Answer::Number(number),
+        Some(b'E') => Answer::Exception(number),
+        _ => Answer::Result,
+    }
+}
+
+impl fmt::Display for Answer {
+    fn fmt(&self, f: &mut fmt::Formatter) -> fmt::Result {
+        match self {
+            Answer::Result => write!(f, "result"),
+            Answer::Number(number) => write!(f, "{number}"),
+            Answer::Exception(exception) => write!(f, "exception {exception}"),
+        }
+    }
+}
+
+/// How often each answer came, and each letter in programs that were accepted.
+#[derive(Default)]
+pub struct Reached {
+    pub answers: BTreeMap<Answer, u64>,
+    pub letters: BTreeMap<char, u64>,
+}
+
+impl Reached {
+    pub fn count(&mut self, case: &Case, reply: &Reply) {
+        *self.answers.entry(reply.answer()).or_insert(0) += 1;
+        let rows = case.program().filter(|_| reply.accepted());
+        for row in rows.into_iter().flat_map(|rows| rows.chunks_exact(4)) {
+            *self.letters.entry(char::from(row[0] as u8)).or_insert(0) += 1;
+        }
+    }
+}
+
+impl fmt::Display for Reached {
+    fn fmt(&self, f: &mut fmt::Formatter) -> fmt::Result {
+        write!(f, "{}", shown(&self.answers))?;
+        if !self.letters.is_empty() {
+            write!(f, "; letters of accepted programs {}", shown(&self.letters))?;
+        }
+        Ok(())
+    }
+}
+
+fn shown<K: fmt::Display>(counts: &BTreeMap<K, u64>) -> String {
+    counts.iter().map(|(key, count)| format!("{key}: {count}")).collect::<Vec<_>>().join(", ")
+}

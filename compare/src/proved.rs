@@ -1,0 +1,72 @@
+//! The proved services, and the proved programs target/bin/translate and target/bin/run.
+
+use second::services::{End, Printed, Ran, Refused, Services};
+use std::io::Write;
+use std::process::{Command, Stdio};
+
+pub struct Proved;
+
+fn refused(no: fickle::Refusal) -> Refused {
+    (no.number, no.line)
+}
+
+impl Services for Proved {
+    fn read_rows(&self, text: &[u8], rows: &mut [u32]) -> Result<usize, Refused> {
+        fickle::read_rows(text, rows).map_err(refused)
+    }
+
+    fn write_text(&self, rows: &[u32], text: &mut [u8]) -> Result<usize, Refused> {
+        fickle::write_text(rows, text).map_err(refused)
+    }
+
+    fn check_rows(&self, rows: &[u32]) -> Result<(), Refused> {
+        fickle::check_rows(rows).map_err(refused)
+    }
+
+    fn translate_rows(&self, rows: &[u32], plain: &mut [u32]) -> Result<usize, Refused> {
+        fickle::translate_rows(rows, plain).map_err(refused)
+    }
+
+    fn run_rows(&self, rows: &[u32], fuel: u64, store: &mut [u32]) -> Result<Ran, Refused> {
+        use fickle::{Outcome, Value};
+        let run = fickle::run_rows(rows, fuel, store).map_err(refused)?;
+        let end = match run.outcome {
+            Outcome::Value(Value::Null) => End::Value(0),
+            Outcome::Value(Value::Truth(false)) => End::Value(1),
+            Outcome::Value(Value::Truth(true)) => End::Value(2),
+            Outcome::Value(Value::Object(object)) => End::Value(2 + object),
+            Outcome::Exception(exception) => End::Exception(exception),
+            Outcome::Stop(stop) => End::Stop(stop),
+        };
+        let [steps, objects, changes] = [run.steps, run.objects, run.changes].map(u64::from);
+        Ok(Ran { end, steps, objects, changes })
+    }
+
+    fn translate(&self, input: &[u8]) -> Printed {
+        printed("translate", input)
+    }
+
+    fn run(&self, input: &[u8]) -> Printed {
+        printed("run", input)
+    }
+}
+
+/// What a program leaves behind on an input; where it cannot be started, why.
+fn printed(name: &str, input: &[u8]) -> Printed {
+    let program = format!("{}/../target/bin/{name}", env!("CARGO_MANIFEST_DIR"));
+    started(&program, input).unwrap_or_else(|error| {
+        let errors = format!("{program}: {error}; `rt check translate run` makes it").into_bytes();
+        Printed { output: Vec::new(), errors, status: None }
+    })
+}
+
+fn started(program: &str, input: &[u8]) -> std::io::Result<Printed> {
+    let piped = Stdio::piped;
+    let mut child = Command::new(program).stdin(piped()).stdout(piped()).stderr(piped()).spawn()?;
+    let mut stdin = child.stdin.take().expect("a pipe");
+    // A program that holds no more stops reading, and its input is left unread.
+    let _ = stdin.write_all(input);
+    drop(stdin);
+    let left = child.wait_with_output()?;
+    Ok(Printed { output: left.stdout, errors: left.stderr, status: left.status.code() })
+}

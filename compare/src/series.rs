@@ -1,0 +1,93 @@
+//! The cases that the gate compares: for each service and program those at its limits, and generated ones by seed.
+
+use crate::cases::{Answer, Case};
+use crate::{check, programs, run, text, translate};
+use second::random::Random;
+use second::vectors;
+
+/// Cases of one service or program.
+pub struct Series {
+    pub name: &'static str,
+    /// One seed is tried for so many that are asked for.
+    pub sparse: u64,
+    /// Cases that are tried whatever the seeds are.
+    pub fixed: fn() -> Vec<Case>,
+    /// The cases of one seed.
+    pub generated: fn(&mut Random) -> Vec<Case>,
+    /// The answers that must come among the generated cases, where enough of them are tried.
+    pub wanted: Vec<Answer>,
+}
+
+/// How many seeds the gate asks for; every wanted answer comes among so many.
+pub const SEEDS: u64 = 100_000;
+
+/// All series, in two halves of about the same length.
+pub fn halves() -> [Vec<Series>; 2] {
+    let filling = [Answer::Result, Answer::Number(1), Answer::Number(2), Answer::Number(13)];
+    let refusals = |last: u32| (1..=last).map(Answer::Number);
+    let result = || std::iter::once(Answer::Result);
+    let ends = || (14..=16).map(Answer::Number).chain((1..=2).map(Answer::Exception));
+    // What the programs' generated texts surely bring about; the pinned ones bring about the rest.
+    let often = || result().chain([1, 2, 3, 4, 12, 13].map(Answer::Number));
+    let series = |name, sparse, fixed, generated, wanted| Series { name, sparse, fixed, generated, wanted };
+    let none = Vec::new;
+    [
+        vec![
+            series("read_rows", 1, none, text::reading, filling.to_vec()),
+            series("write_text", 1, none, text::writing, filling.to_vec()),
+            series("check_rows", 1, check::limits, check::checking, result().chain(refusals(11)).collect()),
+            series("vectors", u64::MAX, of_vectors, |_| Vec::new(), Vec::new()),
+            series(
+                "program translate",
+                50,
+                programs::pinned_translating,
+                programs::translating,
+                often().collect(),
+            ),
+            series(
+                "program run",
+                50,
+                programs::pinned_running,
+                programs::running,
+                often().chain([14, 15].map(Answer::Number)).chain((1..=2).map(Answer::Exception)).collect(),
+            ),
+        ],
+        vec![
+            series(
+                "translate_rows",
+                1,
+                translate::limits,
+                translate::translating,
+                result().chain(refusals(13)).collect(),
+            ),
+            series(
+                "run_rows",
+                1,
+                run::limits,
+                run::running,
+                result().chain(refusals(11)).chain(ends()).collect(),
+            ),
+            series("run_rows, every fuel", 100, none, run::every_fuel, Vec::new()),
+        ],
+    ]
+}
+
+/// The cases of the files of vectors, without their expected answers.
+fn of_vectors() -> Vec<Case> {
+    let vectors = vectors::all().unwrap_or_default();
+    vectors
+        .iter()
+        .filter_map(|vector| match vector.service() {
+            "check" => Some(Case::Check { rows: vector.rows() }),
+            "translate" => Some(Case::Translate { rows: vector.rows(), plain: vec![9; 240_000] }),
+            "run" => {
+                let store = vec![9; vector.store()];
+                Some(Case::Run { rows: vector.rows(), fuel: vector.fuel(), store })
+            }
+            "read" => Some(Case::Read { text: vector.text(), rows: vec![9; 240_000] }),
+            "running" => Some(Case::RunningProgram { text: vector.text() }),
+            "translating" => Some(Case::TranslatingProgram { text: vector.text() }),
+            _ => None,
+        })
+        .collect()
+}
