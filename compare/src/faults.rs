@@ -7,7 +7,13 @@ use second::generate;
 use second::machine::on_large_stack;
 use second::random::Random;
 use second::services::{Second, Services};
-use std::panic::{catch_unwind, AssertUnwindSafe};
+use std::cell::Cell;
+use std::panic::{catch_unwind, set_hook, take_hook, AssertUnwindSafe};
+
+thread_local! {
+    /// Whether a copy is at work on this thread, whose panics are expected and not told.
+    static COPY_RUNS: Cell<bool> = const { Cell::new(false) };
+}
 
 /// A copy of the second implementation with a fault in it.
 pub struct Faulty {
@@ -40,7 +46,12 @@ type Noticed = Vec<(&'static str, Vec<u64>)>;
 pub fn judge(faults: &[Faulty]) {
     let numbers: Vec<u64> = std::env::args().skip(1).filter_map(|given| given.parse().ok()).collect();
     let [seeds, first] = numbers[..] else { panic!("arguments: SEEDS FIRST-SEED") };
-    std::panic::set_hook(Box::new(|_| ()));
+    let told = take_hook();
+    set_hook(Box::new(move |panic| {
+        if !COPY_RUNS.get() {
+            told(panic)
+        }
+    }));
     let noticed: Noticed = std::thread::scope(|threads| {
         let halves = halves().map(|half| {
             threads.spawn(move || {
@@ -90,8 +101,15 @@ fn tried(series: &Series, seeds: u64, first: u64, faults: &[Faulty]) -> Vec<u64>
 
 /// Whether a copy's reply is another one; a copy that panics is noticed too.
 fn is_noticed(case: &Case, expected: &Reply, services: &dyn Services) -> bool {
-    let reply = catch_unwind(AssertUnwindSafe(|| case.reply(services)));
-    reply.map_or(true, |reply| reply != *expected)
+    without_panic(|| case.reply(services)).is_none_or(|reply| reply != *expected)
+}
+
+/// What a copy gives; nothing where it panics.
+fn without_panic<T>(copy: impl FnOnce() -> T) -> Option<T> {
+    COPY_RUNS.set(true);
+    let given = catch_unwind(AssertUnwindSafe(copy));
+    COPY_RUNS.set(false);
+    given.ok()
 }
 
 /// On how many generated programs the promise does not hold of each copy's translator and runner.
@@ -100,8 +118,8 @@ fn promised(seeds: u64, first: u64, faults: &[Faulty]) -> Vec<u64> {
     for seed in first..first + seeds {
         let rows = generate::program(&mut Random::new(seed));
         for (count, fault) in counts.iter_mut().zip(faults) {
-            let kept = catch_unwind(AssertUnwindSafe(|| (fault.promise)(&rows, seed)));
-            *count += u64::from(!matches!(kept, Ok(Ok(()))));
+            let kept = without_panic(|| (fault.promise)(&rows, seed));
+            *count += u64::from(kept != Some(Ok(())));
         }
     }
     counts

@@ -47,9 +47,11 @@ fn try_faults() -> Result<(), String> {
     write_judge(&faults, &made)?;
     let judge = ["run", "--offline", "--quiet", "-p", "judge", "--", seeds, first];
     let status = Command::new("cargo").args(judge).current_dir(&made).env_remove("CARGO_TARGET_DIR").status();
-    match status.map_err(|error| format!("cargo: {error}"))?.code() {
+    let status = status.map_err(|error| format!("cargo: {error}"))?;
+    match status.code() {
         Some(0) => Ok(()),
-        code => std::process::exit(code.unwrap_or(2)),
+        Some(1) => std::process::exit(1),
+        _ => Err(format!("the judge did not end: {status}")),
     }
 }
 
