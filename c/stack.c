@@ -1,6 +1,6 @@
-/* Measures the native stack of the check and of the runner at their deepest: nesting 128, and 64 calls at nesting 128,
- * through each letter that can nest; and at their widest, a block of nearly 60,000 expressions. Fails where the check
- * takes more than 1 MiB or a run more than 6 MiB. */
+/* Measures the native stack of every service at the inputs that take the most of it: texts of 60,000 lines, the
+ * deepest nesting through each letter that can nest, 64 calls at that nesting, and 60,000 rows. Fails where a service
+ * takes more than the header says that it needs. */
 #define _POSIX_C_SOURCE 200809L
 #include "fickle.h"
 
@@ -9,54 +9,45 @@
 #include <stdlib.h>
 #include <string.h>
 
-enum { STACK = 64 << 20, PAINT = 0xAA, ROWS = 60000, NESTING = 128, CHECK_MOST = 1 << 20, RUN_MOST = 6 << 20 };
+/* The limits of document 01, and what this program lends: more stack than any service needs, painted. */
+enum {
+    MOST_ROWS = 60000,
+    MOST_NESTING = 128,
+    MOST_CALLS = 64,
+    MOST_CLASSES = 64,
+    MOST_METHODS = 256,
+    MOST_PARAMETERS = 8,
+    TRANSLATED_ROWS = 680,
+    TRANSLATED_NESTING = 24,
+    TRANSLATED_CLASSES = 62,
+    TRANSLATED_FIELDS = 16,
+    LONGEST_LINE = 14,
+    STORE = 36,
+    FUEL = 1000000,
+    STACK = 16 << 20,
+    PAINT = 0xAA
+};
 
-static uint32_t rows[4 * ROWS], store[36];
-static size_t length;
+/* Every letter that can nest. Where there are several children, capitals nest in the last one, small letters in the
+ * first, or for J in the second; Z nests in the condition of a J. */
+static const char letters[] = "BAKGUuQqJjZ";
+
+static uint8_t text[LONGEST_LINE * (MOST_ROWS + 1)];
+static uint32_t rows[4 * (MOST_ROWS + 1)], plain[4 * MOST_ROWS], store[STORE];
+static size_t text_length, length;
 static uint64_t answer;
+static int failures;
 
-static void row(uint32_t letter, uint32_t first, uint32_t second)
+static void *read_text(void *unused)
 {
-    uint32_t *at = rows + length;
-    at[0] = letter, at[1] = first, at[2] = second, at[3] = 0;
-    length += 4;
+    answer = fickle_read_rows(text, text_length, rows, 4 * MOST_ROWS);
+    return unused;
 }
 
-/* A method that calls itself without end from a nesting reached through one letter. */
-static void deepen(char letter)
+static void *write_rows(void *unused)
 {
-    int tails = 0;
-    length = 0;
-    row('C', 0, 0), row('F', 1, 0), row('M', 1, 0), row('P', 1, 0), row('B', 0, 1);
-    for (int level = 2; level < NESTING - 1; level++) {
-        switch (letter) {
-        case 'A': row('A', 1, 0); break;
-        case 'K': row('K', 1, 0); break;
-        case 'G': row('G', 0, 0); break;
-        case 'U': row('U', 0, 0), row('I', 0, 0); break;
-        case 'Q': row('Q', 0, 1), row('I', 0, 0); break;
-        case 'J': row('J', 0, 0), row('L', 0, 0), row('N', 0, 0); break;
-        case 'Z':
-            if (level + 1 < NESTING - 1)
-                row('J', 0, 0), row('Z', 0, 0), tails++, level++;
-            break;
-        default: row('B', 0, 1);
-        }
-    }
-    row('Q', 0, 1), row('I', 0, 0), row('I', 1, 0);
-    for (; tails > 0; tails--)
-        row('N', 0, 0), row('N', 0, 0);
-    row('S', 0, 0), row('B', 0, 1), row('Q', 0, 1), row('W', 1, 0), row('W', 1, 0);
-}
-
-/* A program as wide as can be: a start block of so many expressions. */
-static void widen(void)
-{
-    length = 0;
-    row('C', 0, 0);
-    row('S', 0, 0), row('B', 0, ROWS - 3);
-    while (length < 4 * ROWS)
-        row('N', 0, 0);
+    answer = fickle_write_text(rows, length, text, sizeof text);
+    return unused;
 }
 
 static void *check(void *unused)
@@ -65,14 +56,32 @@ static void *check(void *unused)
     return unused;
 }
 
-static void *run(void *unused)
+static void *translate(void *unused)
 {
-    uint32_t counts[3];
-    answer = fickle_run_rows(rows, length, store, 36, 1000000, counts, counts + 1, counts + 2);
+    answer = fickle_translate_rows(rows, length, plain, 4 * MOST_ROWS);
     return unused;
 }
 
-/* How much of a painted stack a task wrote on. */
+static void *run(void *unused)
+{
+    uint32_t counts[3];
+    answer = fickle_run_rows(rows, length, store, STORE, FUEL, counts, counts + 1, counts + 2);
+    return unused;
+}
+
+/* The services, each with what it needs by the header and what it took at most, by shape of its input. */
+enum { DEEP, WIDE, SHAPES };
+static struct service {
+    const char *name;
+    void *(*task)(void *);
+    size_t needed, took[SHAPES];
+} reading = {"read_rows", read_text, FICKLE_READ_ROWS_STACK_NEEDED, {0}},
+  writing = {"write_text", write_rows, FICKLE_WRITE_TEXT_STACK_NEEDED, {0}},
+  checking = {"check_rows", check, FICKLE_CHECK_ROWS_STACK_NEEDED, {0}},
+  translating = {"translate_rows", translate, FICKLE_TRANSLATE_ROWS_STACK_NEEDED, {0}},
+  running = {"run_rows", run, FICKLE_RUN_ROWS_STACK_NEEDED, {0}};
+
+/* Returns how much of a painted stack a task wrote on. */
 static size_t used(void *(*task)(void *))
 {
     unsigned char *stack = aligned_alloc(4096, STACK);
@@ -82,7 +91,8 @@ static size_t used(void *(*task)(void *))
     memset(stack, PAINT, STACK);
     pthread_attr_init(&attributes);
     pthread_attr_setstack(&attributes, stack, STACK);
-    pthread_create(&thread, &attributes, task, NULL);
+    if (pthread_create(&thread, &attributes, task, NULL) != 0)
+        abort();
     pthread_join(thread, NULL);
     while (clean < STACK && stack[clean] == PAINT)
         clean++;
@@ -90,23 +100,174 @@ static size_t used(void *(*task)(void *))
     return STACK - clean;
 }
 
+/* Returns how many bytes of stack a service takes for the input at hand. Fails where its answer has another number. */
+static size_t measure(struct service *service, int shape, uint32_t number)
+{
+    size_t bytes = used(service->task);
+    if (FICKLE_NUMBER(answer) != number || bytes > service->needed) {
+        printf("%s: number %u, expected %u; %zu bytes\n", service->name, FICKLE_NUMBER(answer), number, bytes);
+        failures++;
+    }
+    if (bytes > service->took[shape])
+        service->took[shape] = bytes;
+    return bytes;
+}
+
+static void row(uint32_t letter, uint32_t first, uint32_t second)
+{
+    uint32_t *at = rows + length;
+    at[0] = letter, at[1] = first, at[2] = second, at[3] = 0;
+    length += 4;
+}
+
+static void repeat_row(size_t count, uint32_t letter, uint32_t first)
+{
+    for (; count > 0; count--)
+        row(letter, first, 0);
+}
+
+/* Writes the rows of a node, up to the child that the next node is. Returns how many children are still to follow. */
+static int open_node(char letter)
+{
+    switch (letter) {
+    case 'A': row('A', 1, 0); return 0;
+    case 'K': row('K', 1, 0); return 0;
+    case 'G': row('G', 0, 0); return 0;
+    case 'U': row('U', 0, 0), row('I', 0, 0); return 0;
+    case 'u': row('U', 0, 0); return 1;
+    case 'Q': row('Q', 0, MOST_PARAMETERS), repeat_row(MOST_PARAMETERS, 'I', 0); return 0;
+    case 'q': row('Q', 0, MOST_PARAMETERS); return MOST_PARAMETERS;
+    case 'J': row('J', 0, 0), row('L', 0, 0), row('N', 0, 0); return 0;
+    case 'j': row('J', 0, 0), row('T', 0, 0); return 1;
+    case 'Z': row('J', 0, 0), row('Z', 0, 0); return 2;
+    default: row('B', 0, 1); return 0;
+    }
+}
+
+/* A program of count rows, or of as few as it takes, with a method that calls itself without end from a nesting that
+ * is reached through one letter. The start block calls it from the same nesting, then has null on all rows left. */
+static void deepen(char letter, int nesting, size_t count)
+{
+    int tails = 0, nodes = letter == 'Z' ? 2 : 1, level = 2;
+    length = 0;
+    row('C', 0, 0), row('F', 1, 0), row('M', 1, 0), repeat_row(MOST_PARAMETERS, 'P', 1), row('B', 0, 1);
+    for (; level + nodes < nesting; level += nodes)
+        tails += open_node(letter);
+    if (level + 1 < nesting)
+        open_node('B');
+    row('Q', 0, MOST_PARAMETERS), repeat_row(1 + MOST_PARAMETERS, 'I', 0), repeat_row((size_t)tails, 'I', 0);
+    repeat_row(TRANSLATED_CLASSES - 1, 'C', 0);
+    size_t written = length / 4 + (size_t)nesting + 1 + MOST_PARAMETERS, nulls = count > written ? count - written : 0;
+    row('S', 0, 0), row('B', 0, (uint32_t)nulls + 1);
+    for (level = 3; level < nesting; level++)
+        open_node('B');
+    row('Q', 0, MOST_PARAMETERS), row('W', 1, 0), repeat_row(MOST_PARAMETERS + nulls, 'N', 0);
+}
+
+/* A program of count rows, nearly all of them expressions of the start block. */
+static void widen(size_t count)
+{
+    length = 0;
+    row('C', 0, 0), row('S', 0, 0), row('B', 0, (uint32_t)count - 3), repeat_row(count - 3, 'N', 0);
+}
+
+/* Classes with methods: as many of both as asked. */
+static void crowd(int classes, uint32_t methods)
+{
+    length = 0;
+    for (; classes > 0; classes--) {
+        row('C', 0, 0);
+        for (uint32_t name = 0; name < methods; name++)
+            row('M', 0, name), row('B', 0, 1), row('N', 0, 0);
+    }
+    row('S', 0, 0), row('B', 0, 1), row('N', 0, 0);
+}
+
+/* As many changes as the translator takes, of a root with as many fields as it takes: the longest plain program. */
+static void lengthen(void)
+{
+    length = 0;
+    row('C', 1, 0);
+    for (uint32_t name = 0; name < TRANSLATED_FIELDS; name++)
+        row('F', 255, name);
+    row('S', 0, 0), row('B', 1, TRANSLATED_ROWS - TRANSLATED_FIELDS - 4), row('V', 1, 0);
+    while (length < 4 * TRANSLATED_ROWS)
+        row('R', 1, 1);
+}
+
+/* A text of count lines, all alike. */
+static void repeat(const char *line, size_t count)
+{
+    size_t bytes = strlen(line);
+    for (size_t i = 0; i < count; i++)
+        memcpy(text + i * bytes, line, bytes);
+    text_length = count * bytes;
+}
+
+/* Reader and writer: the shortest and the longest lines, in texts for which they hold little, more and the most, and
+ * of one line too many. */
+static void texts(void)
+{
+    static const char *const lines[] = {"T\n", "R\t65535\t65535\n"};
+    static const uint32_t numbers[] = {0, 65535};
+    static const size_t counts[] = {1, 36, 256, 1024, MOST_ROWS, MOST_ROWS + 1};
+    for (size_t i = 0; i < sizeof lines / sizeof *lines; i++)
+        for (size_t j = 0; j < sizeof counts / sizeof *counts; j++) {
+            uint32_t number = counts[j] > MOST_ROWS ? 2 : 0;
+            repeat(lines[i], counts[j]);
+            measure(&reading, WIDE, number);
+            for (length = 0; length < 4 * counts[j];)
+                row(lines[i][0], numbers[i], numbers[i]);
+            measure(&writing, WIDE, number);
+        }
+}
+
+/* Check, translation and run of programs that nest through one letter. Prints what they take, in all and by level. */
+static void depths(char letter)
+{
+    size_t nodes = (1 + MOST_CALLS) * (MOST_NESTING - 1) + 1;
+    deepen(letter, TRANSLATED_NESTING, 0);
+    measure(&translating, DEEP, 0);
+    deepen(letter, MOST_NESTING / 2, MOST_ROWS);
+    size_t half = measure(&checking, DEEP, 0), half_run = measure(&running, DEEP, 15);
+    deepen(letter, MOST_NESTING, MOST_ROWS);
+    size_t check = measure(&checking, DEEP, 0), run = measure(&running, DEEP, 15);
+    size_t level = (check - half) / (MOST_NESTING / 2), node = (run - half_run) / ((1 + MOST_CALLS) * MOST_NESTING / 2);
+    printf("through %c: check %zu, %zu a level; translate %zu; ", letter, check, level, measure(&translating, DEEP, 2));
+    printf("run %zu, %zu before its nodes, %zu a node\n", run, run - nodes * node, node);
+}
+
+/* Check, translation and run of programs that hardly nest: the most rows, and one more; classes and methods. */
+static void widths(void)
+{
+    struct service *services[] = {&checking, &translating, &running};
+    for (size_t i = 0; i < sizeof services / sizeof *services; i++) {
+        uint32_t number = services[i] == &translating ? 2 : 0;
+        widen(MOST_ROWS);
+        measure(services[i], WIDE, number);
+        widen(MOST_ROWS + 1);
+        measure(services[i], WIDE, 2);
+        crowd(MOST_CLASSES, MOST_METHODS);
+        measure(services[i], WIDE, number);
+        crowd(1, (TRANSLATED_ROWS - 4) / 3);
+        measure(services[i], WIDE, 0);
+        widen(TRANSLATED_ROWS);
+        measure(services[i], WIDE, 0);
+        lengthen();
+        measure(services[i], WIDE, 0);
+    }
+}
+
 int main(void)
 {
-    int failures = 0;
-    for (const char *letter = "BAKGUQJZ"; *letter; letter++) {
-        deepen(*letter);
-        size_t checked = used(check);
-        failures += answer != 0 || checked > CHECK_MOST;
-        size_t ran = used(run);
-        failures += FICKLE_NUMBER(answer) != 15 || ran > RUN_MOST;
-        printf("stack through %c: check %zu bytes, run %zu bytes\n", *letter, checked, ran);
-    }
-    widen();
-    size_t checked = used(check);
-    failures += answer != 0 || checked > CHECK_MOST;
-    size_t ran = used(run);
-    failures += answer != 0 || ran > RUN_MOST;
-    printf("stack of %d rows: check %zu bytes, run %zu bytes\n", ROWS, checked, ran);
-    puts(failures == 0 ? "the native stack stays within its limits" : "failed");
+    struct service *services[] = {&reading, &writing, &checking, &translating, &running};
+    texts();
+    for (const char *letter = letters; *letter; letter++)
+        depths(*letter);
+    widths();
+    for (size_t i = 0; i < sizeof services / sizeof *services; i++)
+        printf("%s: deepest %zu, widest %zu, needed %zu bytes\n", services[i]->name, services[i]->took[DEEP],
+               services[i]->took[WIDE], services[i]->needed);
+    puts(failures == 0 ? "the native stack stays within what the header says" : "failed");
     return failures != 0;
 }

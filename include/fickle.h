@@ -2,7 +2,8 @@
  *
  * Rows are numbers, four to a row: a letter's ASCII code, then its numbers, the rest 0. Lengths count numbers or bytes.
  * Every input gets an answer. A refusal changes nothing that was lent. What is lent past what was written is unchanged.
- * Slices that one call is lent must not overlap, but for those that are only read.
+ * Slices that one call is lent must not overlap, but for those that are only read. The pointer of a slice of length 0
+ * may be NULL; pointers to counts may not.
  *
  * An answer has two words of 32 bits: FICKLE_NUMBER and FICKLE_LINE. Where the first is 0, the second is the result.
  * Where it is 1 to 13, the call was refused with that number, and the second is the line, 0 where none is to blame:
@@ -38,6 +39,14 @@ extern "C" {
 #define FICKLE_NUMBER(answer) ((uint32_t)((answer) >> 32))
 #define FICKLE_LINE(answer) ((uint32_t)(answer))
 #define FICKLE_EXCEPTION 1000u
+
+/* Bytes of native stack that a call takes at most, whatever the input; c/stack.c measures it. On a thread that has less
+ * left, some inputs overflow the stack. */
+#define FICKLE_READ_ROWS_STACK_NEEDED 1048576
+#define FICKLE_WRITE_TEXT_STACK_NEEDED 1048576
+#define FICKLE_CHECK_ROWS_STACK_NEEDED 1048576
+#define FICKLE_TRANSLATE_ROWS_STACK_NEEDED 1048576
+#define FICKLE_RUN_ROWS_STACK_NEEDED 4194304
 
 /* Reads a text into rows. The result is how many rows were written. Refusals 1, 2, 13. */
 uint64_t fickle_read_rows(const uint8_t *text, size_t text_length, uint32_t *rows, size_t rows_length);
