@@ -1,10 +1,28 @@
-/* Calls every service through fickle.h: text to rows and back, check, translate, run; a refusal of each kind of caller. */
+/* Calls every service through fickle.h: each kind of result, stop and exception, refusals that change nothing that was
+ * lent, and empty slices whose pointer is NULL. */
 #include "fickle.h"
 
 #include <stdio.h>
 #include <string.h>
 
+/* Room for every program here, and what buffers are filled with before a call. */
+enum { TEXT = 256, ROWS = 32, PLAIN = 1000, STORE = 54, FUEL = 10000, MOST_FUEL = 100000000, FILL = 7 };
+
 static int failures;
+static uint8_t text[TEXT];
+static uint32_t rows[4 * ROWS], plain[4 * PLAIN], store[STORE], counts[3];
+
+/* Program D of document 01, and one program for each way in which a run can end without a value; tabs are spaces here,
+ * line feeds commas. */
+static const char program[] =
+    "C 1 0,F 255 0,C 2 1,C 2 1,S,B 1 4,V 1,A 1,W 2,U 0,I 1,T,R 1 3,G 0,I 1,";
+static const char null_object[] = "C 0 0,F 255 0,S,B 1 1,V 1,G 0,I 1,";
+static const char wrong_class[] = "C 0 0,S,B 0 1,K 1,W 0,";
+static const char endless[] = "C 0 0,M 255 0,B 0 1,Q 0 0,I 0,S,B 0 1,Q 0 0,W 1,";
+static const char four_objects[] = "S,B 0 4,W 0,W 0,W 0,W 0,";
+static const char no_object[] = "S,B 0 1,T,";
+static const char reserved[] = "C 0 0,F 255 254,S,B 0 1,T,";
+static const char malformed[] = "S,I 00,";
 
 static void expect(const char *what, uint64_t answer, uint32_t number, uint32_t second)
 {
@@ -14,7 +32,7 @@ static void expect(const char *what, uint64_t answer, uint32_t number, uint32_t 
     }
 }
 
-static void expect_counts(const char *what, const uint32_t *counts, uint32_t steps, uint32_t objects, uint32_t changes)
+static void expect_counts(const char *what, uint32_t steps, uint32_t objects, uint32_t changes)
 {
     if (counts[0] != steps || counts[1] != objects || counts[2] != changes) {
         printf("%s: counts %u %u %u\n", what, counts[0], counts[1], counts[2]);
@@ -22,43 +40,155 @@ static void expect_counts(const char *what, const uint32_t *counts, uint32_t ste
     }
 }
 
-/* Program D of document 01. */
-static const char program[] = "C\t1\t0\nF\t255\t0\nC\t2\t1\nC\t2\t1\nS\nB\t1\t4\nV\t1\nA\t1\nW\t2\n"
-                              "U\t0\nI\t1\nT\nR\t1\t3\nG\t0\nI\t1\n";
-
-int main(void)
+/* Fails where a byte of a buffer is not as it was filled. */
+static void expect_filled(const char *what, const void *buffer, size_t bytes)
 {
-    static uint32_t rows[15 * 4], plain[1000 * 4], store[3000], untouched[3000];
-    static uint8_t text[256];
-    uint32_t counts[3] = {7, 7, 7};
-    size_t length = sizeof program - 1;
+    for (size_t i = 0; i < bytes; i++)
+        if (((const uint8_t *)buffer)[i] != FILL) {
+            printf("%s: byte %zu of a lent buffer changed\n", what, i);
+            failures++;
+            return;
+        }
+}
 
-    expect("read_rows, no room", fickle_read_rows((const uint8_t *)program, length, rows, 59), 13, 0);
-    expect("read_rows", fickle_read_rows((const uint8_t *)program, length, rows, 60), 0, 15);
-    expect("write_text", fickle_write_text(rows, 60, text, sizeof text), 0, (uint32_t)length);
-    if (memcmp(text, program, length) != 0) {
+/* Fills everything that is lent to be written on, but for the rows of the program at hand. */
+static void fill(void)
+{
+    memset(text, FILL, sizeof text);
+    memset(plain, FILL, sizeof plain);
+    memset(store, FILL, sizeof store);
+    memset(counts, FILL, sizeof counts);
+}
+
+/* Puts a program into the text with its tabs and line feeds. Returns its length. */
+static size_t spell(const char *source)
+{
+    size_t length = strlen(source);
+    for (size_t i = 0; i < length; i++)
+        text[i] = source[i] == ' ' ? '\t' : source[i] == ',' ? '\n' : (uint8_t)source[i];
+    return length;
+}
+
+/* Reads a program into the rows, then fills all else. Returns how many numbers it has. */
+static size_t load(const char *source)
+{
+    uint64_t answer = fickle_read_rows(text, spell(source), rows, 4 * ROWS);
+    fill();
+    expect(source, answer, 0, FICKLE_LINE(answer));
+    return (size_t)FICKLE_LINE(answer) * 4;
+}
+
+static uint64_t run(const uint32_t *of, size_t length, size_t room, uint64_t fuel)
+{
+    return fickle_run_rows(of, length, store, room, fuel, counts, counts + 1, counts + 2);
+}
+
+static void texts(void)
+{
+    size_t length = spell(program);
+    memset(rows, FILL, sizeof rows);
+    expect("read_rows, no room", fickle_read_rows(text, length, rows, 59), 13, 0);
+    expect("read_rows, malformed", fickle_read_rows(text, spell(malformed), rows, 4 * ROWS), 1, 2);
+    expect_filled("read_rows, refused", rows, sizeof rows);
+    expect("read_rows", fickle_read_rows(text, spell(program), rows, 4 * ROWS), 0, 15);
+    expect_filled("read_rows, past its rows", rows + 60, sizeof rows - sizeof *rows * 60);
+    fill();
+    expect("write_text, no room", fickle_write_text(rows, 60, text, length - 1), 13, 0);
+    expect("write_text, length", fickle_write_text(rows, 59, text, TEXT), 1, 0);
+    expect_filled("write_text, refused", text, sizeof text);
+    expect("write_text", fickle_write_text(rows, 60, text, TEXT), 0, (uint32_t)length);
+    expect_filled("write_text, past its bytes", text + length, sizeof text - length);
+    uint8_t written[TEXT];
+    memcpy(written, text, length);
+    spell(program);
+    if (memcmp(text, written, length) != 0) {
         puts("write_text: another text");
         failures++;
     }
-    expect("check_rows", fickle_check_rows(rows, 60), 0, 0);
-    expect("check_rows, length", fickle_check_rows(rows, 59), 1, 0);
-    expect("check_rows, end", fickle_check_rows(rows, 56), 3, 15);
-    expect("translate_rows, no room", fickle_translate_rows(rows, 60, plain, 4), 13, 0);
-    uint64_t translated = fickle_translate_rows(rows, 60, plain, sizeof plain / sizeof *plain);
-    expect("translate_rows", translated, 0, 70);
-    expect("run_rows", fickle_run_rows(rows, 60, store, 3000, 9, counts, counts + 1, counts + 2), 0, 2);
-    expect_counts("run_rows", counts, 9, 1, 1);
-    expect("run_rows, spent", fickle_run_rows(rows, 60, store, 3000, 8, counts, counts + 1, counts + 2), 14, 0);
-    size_t numbers = (size_t)FICKLE_LINE(translated) * 4;
-    expect("plain run", fickle_run_rows(plain, numbers, store, 3000, 10000, counts, counts + 1, counts + 2), 0, 2);
-    expect_counts("plain run", counts, 52, 3, 0);
-    memcpy(untouched, store, sizeof store);
-    expect("run_rows, fuel", fickle_run_rows(rows, 60, store, 3000, 100000001, counts, counts + 1, counts + 2), 2, 0);
-    expect_counts("run_rows, fuel", counts, 52, 3, 0);
-    if (memcmp(untouched, store, sizeof store) != 0) {
-        puts("run_rows, fuel: the store changed");
-        failures++;
-    }
+}
+
+static void checks_and_translations(void)
+{
+    size_t length = load(program);
+    expect("check_rows", fickle_check_rows(rows, length), 0, 0);
+    expect("check_rows, length", fickle_check_rows(rows, length - 1), 1, 0);
+    expect("check_rows, end", fickle_check_rows(rows, length - 4), 3, 15);
+    expect("translate_rows, no room", fickle_translate_rows(rows, length, plain, 279), 13, 0);
+    expect("translate_rows, end", fickle_translate_rows(rows, length - 4, plain, 4 * PLAIN), 3, 15);
+    length = load(reserved);
+    expect("translate_rows, reserved", fickle_translate_rows(rows, length, plain, 4 * PLAIN), 12, 2);
+    expect_filled("translate_rows, refused", plain, sizeof plain);
+    length = load(program);
+    expect("translate_rows", fickle_translate_rows(rows, length, plain, 4 * PLAIN), 0, 70);
+    expect_filled("translate_rows, past its rows", plain + 280, sizeof plain - sizeof *plain * 280);
+}
+
+static void runs(void)
+{
+    size_t length = load(program);
+    expect("run_rows, fuel", run(rows, length, STORE, MOST_FUEL + 1), 2, 0);
+    expect("run_rows, end", run(rows, length - 4, STORE, FUEL), 3, 15);
+    expect_filled("run_rows, refused: store", store, sizeof store);
+    expect_filled("run_rows, refused: counts", counts, sizeof counts);
+    expect("run_rows", run(rows, length, STORE, 9), 0, 2);
+    expect_counts("run_rows", 9, 1, 1);
+    expect_filled("run_rows, past its object", store + 18, sizeof store - sizeof *store * 18);
+    fickle_translate_rows(rows, length, plain, 4 * PLAIN);
+    expect("run_rows, plain", run(plain, 280, STORE, FUEL), 0, 2);
+    expect_counts("run_rows, plain", 52, 3, 0);
+}
+
+static void stops_and_exceptions(void)
+{
+    size_t length = load(program);
+    expect("run_rows, spent", run(rows, length, STORE, 8), 14, 0);
+    expect_counts("run_rows, spent", 8, 1, 1);
+    length = load(endless);
+    expect("run_rows, deep", run(rows, length, STORE, FUEL), 15, 0);
+    expect_counts("run_rows, deep", 195, 1, 0);
+    length = load(four_objects);
+    expect("run_rows, full", run(rows, length, STORE, FUEL), 16, 0);
+    expect_counts("run_rows, full", 5, 3, 0);
+    length = load(null_object);
+    expect("run_rows, null object", run(rows, length, STORE, FUEL), FICKLE_EXCEPTION, 1);
+    expect_counts("run_rows, null object", 3, 0, 0);
+    length = load(wrong_class);
+    expect("run_rows, wrong class", run(rows, length, STORE, FUEL), FICKLE_EXCEPTION, 2);
+    expect_counts("run_rows, wrong class", 3, 1, 0);
+}
+
+/* The header promises that an empty slice may be NULL. */
+static void empty_slices(void)
+{
+    uint32_t *steps = counts, *objects = counts + 1, *changes = counts + 2;
+    size_t length = load(no_object);
+    expect("read_rows, NULL", fickle_read_rows(NULL, 0, NULL, 0), 0, 0);
+    expect("read_rows, NULL text", fickle_read_rows(NULL, 0, plain, 4), 0, 0);
+    expect("read_rows, NULL rows", fickle_read_rows(text, spell(no_object), NULL, 0), 13, 0);
+    expect("write_text, NULL", fickle_write_text(NULL, 0, NULL, 0), 0, 0);
+    expect("write_text, NULL rows", fickle_write_text(NULL, 0, text, TEXT), 0, 0);
+    expect("write_text, NULL text", fickle_write_text(rows, length, NULL, 0), 13, 0);
+    expect("check_rows, NULL", fickle_check_rows(NULL, 0), 3, 1);
+    expect("translate_rows, NULL", fickle_translate_rows(NULL, 0, NULL, 0), 3, 1);
+    expect("translate_rows, NULL rows", fickle_translate_rows(NULL, 0, plain, 4 * PLAIN), 3, 1);
+    expect("translate_rows, NULL plain", fickle_translate_rows(rows, length, NULL, 0), 13, 0);
+    expect_filled("NULL: plain", plain, sizeof plain);
+    expect("run_rows, NULL", fickle_run_rows(NULL, 0, NULL, 0, FUEL, steps, objects, changes), 3, 1);
+    expect("run_rows, NULL rows", fickle_run_rows(NULL, 0, store, STORE, FUEL, steps, objects, changes), 3, 1);
+    expect_filled("NULL: store", store, sizeof store);
+    expect_filled("NULL: counts", counts, sizeof counts);
+    expect("run_rows, NULL store", fickle_run_rows(rows, length, NULL, 0, FUEL, steps, objects, changes), 0, 2);
+    length = load(four_objects);
+    expect("run_rows, NULL, full", fickle_run_rows(rows, length, NULL, 0, FUEL, steps, objects, changes), 16, 0);
+}
+
+int main(void)
+{
+    texts();
+    checks_and_translations();
+    runs();
+    stops_and_exceptions();
+    empty_slices();
     puts(failures == 0 ? "all services answer C as they should" : "failed");
     return failures != 0;
 }

@@ -27,9 +27,21 @@ fn refusals_change_nothing() {
 }
 
 #[test]
-fn the_empty_text_has_no_rows() {
+fn empty_slices_get_answers() {
+    let (no_room, too_early) = (Err(Refusal { number: 13, line: 0 }), Err(Refusal { number: 3, line: 1 }));
+    let truth = [83, 0, 0, 0, 66, 0, 1, 0, 84, 0, 0, 0];
     assert_eq!(read_rows(b"", &mut []), Ok(0));
+    assert_eq!(read_rows(b"S\n", &mut []), no_room);
     assert_eq!(write_text(&[], &mut []), Ok(0));
+    assert_eq!(write_text(&truth, &mut []), no_room);
+    assert_eq!(check_rows(&[]), Err(Refusal { number: 3, line: 1 }));
+    assert_eq!(translate_rows(&[], &mut []), too_early);
+    assert_eq!(translate_rows(&truth, &mut []), no_room);
+    assert_eq!(run_rows(&[], 9, &mut []), Err(Refusal { number: 3, line: 1 }));
+    let run = run_rows(&truth, 9, &mut []).expect("accepted");
+    assert_eq!((run.outcome, run.steps), (Outcome::Value(Value::Truth(true)), 2));
+    let object = [83, 0, 0, 0, 66, 0, 1, 0, 87, 0, 0, 0];
+    assert_eq!(run_rows(&object, 9, &mut []).expect("accepted").outcome, Outcome::Stop(16));
 }
 
 /// Program D of document 01.
