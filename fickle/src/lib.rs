@@ -2,6 +2,16 @@
 //!
 //! The functions below are proved in Rattle; only the declarations here, which give their C names and
 //! how slices and answers cross, are not checked by the prover.
+//!
+//! Every function but `run_rows_on_this_stack` may be called on any thread that has `STACK_NEEDED` bytes of its stack
+//! left. A thread that `std::thread::spawn` starts has 2 MiB, which is more.
+
+mod stack;
+
+pub use stack::{
+    run_rows_stack_bound, CHECK_ROWS_STACK_NEEDED, READ_ROWS_STACK_NEEDED, RUN_ROWS_STACK_NEEDED,
+    STACK_NEEDED, TRANSLATE_ROWS_STACK_NEEDED, WRITE_TEXT_STACK_NEEDED,
+};
 
 /// Why a call was refused: document 01's number, and the line, 0 where none is to blame.
 #[derive(Clone, Copy, Debug, PartialEq, Eq)]
@@ -137,8 +147,29 @@ pub fn translate_rows(rows: &[u32], plain: &mut [u32]) -> Result<usize, Refusal>
     unpack(unsafe { c::fickle_translate_rows(rows.as_ptr(), rows.len(), plain.as_mut_ptr(), plain.len()) })
 }
 
-/// Runs a program over a lent store, 18 numbers to an object.
+/// Runs a program over a lent store, 18 numbers to an object. It takes at most `STACK_NEEDED` bytes of the caller's
+/// stack: a run that may need more is given a thread of its own, which ends before this function returns. Such a thread
+/// takes longer to start than a short run does to end; a caller with many such runs keeps a thread with
+/// `RUN_ROWS_STACK_NEEDED` bytes for them, and calls `run_rows_on_this_stack` there.
+///
+/// # Panics
+/// Panics where the system has no thread for a run that is given one.
 pub fn run_rows(rows: &[u32], fuel: u64, store: &mut [u32]) -> Result<Run, Refusal> {
+    if run_rows_stack_bound(rows, fuel) <= STACK_NEEDED {
+        return run_rows_on_this_stack(rows, fuel, store);
+    }
+    let builder = std::thread::Builder::new().stack_size(RUN_ROWS_STACK_NEEDED);
+    let run = || run_rows_on_this_stack(rows, fuel, store);
+    std::thread::scope(|scope| {
+        let thread =
+            builder.spawn_scoped(scope, run).expect("no thread for a run that needs a stack of its own");
+        thread.join().expect("a run does not panic")
+    })
+}
+
+/// Runs a program as `run_rows` does, but always on the caller's stack: `run_rows_stack_bound(rows, fuel)` bytes of it
+/// are enough for this run, and `RUN_ROWS_STACK_NEEDED` bytes for any. A stack that overflows aborts the process.
+pub fn run_rows_on_this_stack(rows: &[u32], fuel: u64, store: &mut [u32]) -> Result<Run, Refusal> {
     let (mut steps, mut objects, mut changes) = (0, 0, 0);
     // SAFETY: as above; the counts are lent to nobody else.
     let answer = unsafe {

@@ -1,0 +1,207 @@
+//! How much native stack the services need: the most that each takes, and a bound on what one run takes.
+//!
+//! `c/stack.c` measures what the numbers here rest on; `include/fickle.h` has the same constants for C.
+
+/// Bytes of native stack that `read_rows` takes at most.
+pub const READ_ROWS_STACK_NEEDED: usize = 1_048_576;
+/// Bytes of native stack that `write_text` takes at most.
+pub const WRITE_TEXT_STACK_NEEDED: usize = 1_048_576;
+/// Bytes of native stack that `check_rows` takes at most.
+pub const CHECK_ROWS_STACK_NEEDED: usize = 1_048_576;
+/// Bytes of native stack that `translate_rows` takes at most.
+pub const TRANSLATE_ROWS_STACK_NEEDED: usize = 1_048_576;
+/// Bytes of native stack that `run_rows_on_this_stack` takes at most.
+pub const RUN_ROWS_STACK_NEEDED: usize = 4_194_304;
+/// Bytes of native stack that every other function takes at most, `run_rows` included. A thread that
+/// `std::thread::spawn` starts has 2 MiB.
+pub const STACK_NEEDED: usize = 1_310_720;
+
+/// The most nodes that lie within one another in a body that the check accepts.
+const MOST_NESTING: usize = 128;
+/// The most calls that are active at once.
+const MOST_CALLS: usize = 64;
+/// Numbers of a row, and the letter of a call.
+const ROW: usize = 4;
+const CALL: u32 = b'Q' as u32;
+
+/// Bytes that a run takes while it checks rows without nesting: tables and slots. Measured: 821,980.
+const CHECK_BASE: usize = 851_968;
+/// Bytes that each level of nesting adds to the check. Measured: 2,960 in the last of 8 arguments, else 528.
+const CHECK_LEVEL: usize = 3_328;
+/// Bytes that a run takes before it enters a node: tables and slots. Measured: 688,360.
+const RUN_BASE: usize = 720_896;
+/// Bytes that each node under way adds. Measured: 336, the same for every letter, as they share one function.
+const RUN_NODE: usize = 384;
+
+// What a run needs at most is the bound for the deepest program.
+const _: () = assert!(bound(MOST_NESTING, MOST_NESTING * (1 + MOST_CALLS)) <= RUN_ROWS_STACK_NEEDED);
+
+/// Returns a bound on the bytes of native stack that `run_rows_on_this_stack` takes.
+///
+/// No more nodes are under way than there is fuel to enter. A run of rows that the check refuses enters no node. If the
+/// form of rows is wrong, the check stops before it takes what the bound has for it; if not, they nest as found here.
+pub fn run_rows_stack_bound(rows: &[u32], fuel: u64) -> usize {
+    let Some(program) = nestings(rows) else {
+        return RUN_ROWS_STACK_NEEDED;
+    };
+    let nodes = program.nodes_under_way();
+    let entered = usize::try_from(fuel).map_or(nodes, |fuel| nodes.min(fuel));
+    bound(program.start.nodes.max(program.methods.nodes), entered)
+}
+
+/// Returns the larger of what the check takes at this nesting and what the run takes with this many nodes under way.
+const fn bound(nesting: usize, nodes: usize) -> usize {
+    let check = CHECK_BASE + CHECK_LEVEL * nesting;
+    let run = RUN_BASE + RUN_NODE * nodes;
+    if check < run {
+        run
+    } else {
+        check
+    }
+}
+
+/// How deep nodes nest in some bodies, the outermost at 1, and how deep those of them that are calls; 0 for none.
+#[derive(Clone, Copy, Debug, Default, PartialEq, Eq)]
+struct Nesting {
+    nodes: usize,
+    calls: usize,
+}
+
+/// The nestings of the method bodies and of the start block.
+#[derive(Debug, PartialEq, Eq)]
+struct Program {
+    methods: Nesting,
+    start: Nesting,
+}
+
+impl Program {
+    /// Returns the most nodes that are under way at once. In a body that waits for a call these are the call and the
+    /// nodes around it; only in the last of the calls that are active can they be as many as nodes nest.
+    fn nodes_under_way(&self) -> usize {
+        let calling = self.start.calls + (MOST_CALLS - 1) * self.methods.calls + self.methods.nodes;
+        calling.max(self.start.nodes)
+    }
+}
+
+/// What a row is to the nesting.
+enum Part {
+    /// A line of a heading, or a local of a block.
+    Heading,
+    /// The line that the start block follows.
+    Start,
+    /// A node, with the number of its children.
+    Node(u32),
+}
+
+/// Returns what a row is, by its letter, or nothing where the letter is not one of these.
+fn part(row: &[u32]) -> Option<Part> {
+    let part = match u8::try_from(row[0]).ok()? {
+        b'C' | b'F' | b'M' | b'P' | b'X' | b'V' => Part::Heading,
+        b'S' => Part::Start,
+        b'T' | b'L' | b'N' | b'I' | b'W' | b'R' => Part::Node(0),
+        b'Z' | b'G' | b'K' | b'A' => Part::Node(1),
+        b'U' => Part::Node(2),
+        b'J' => Part::Node(3),
+        b'B' => Part::Node(row[2]),
+        b'Q' => Part::Node(row[2].checked_add(1)?),
+        _ => return None,
+    };
+    Some(part)
+}
+
+/// Returns the nestings of a program, or nothing where a letter is not known or the nesting is over the limit.
+fn nestings(rows: &[u32]) -> Option<Program> {
+    let (mut methods, mut bodies) = (Nesting::default(), Nesting::default());
+    // How many children each open node still waits for, the outermost first.
+    let mut open = [0; MOST_NESTING];
+    let mut depth = 0;
+    for row in rows.chunks_exact(ROW) {
+        match part(row)? {
+            Part::Heading => {}
+            Part::Start => methods = std::mem::take(&mut bodies),
+            Part::Node(children) => {
+                bodies.nodes = bodies.nodes.max(depth + 1);
+                if row[0] == CALL {
+                    bodies.calls = bodies.calls.max(depth + 1);
+                }
+                if children == 0 {
+                    depth = close(&mut open, depth);
+                } else {
+                    *open.get_mut(depth)? = children;
+                    depth += 1;
+                }
+            }
+        }
+    }
+    Some(Program { methods, start: bodies })
+}
+
+/// Ends a node without children, and with it every open node that waited for it alone. Returns how many stay open.
+fn close(open: &mut [u32], mut depth: usize) -> usize {
+    while depth > 0 {
+        open[depth - 1] -= 1;
+        if open[depth - 1] > 0 {
+            break;
+        }
+        depth -= 1;
+    }
+    depth
+}
+
+#[cfg(test)]
+mod tests {
+    use super::*;
+
+    /// Rows of lines with a letter and at most two numbers.
+    fn rows(lines: &[(char, u32, u32)]) -> Vec<u32> {
+        lines.iter().flat_map(|&(letter, first, second)| [u32::from(letter), first, second, 0]).collect()
+    }
+
+    #[test]
+    fn nests_as_the_lines_do() {
+        let method =
+            [('C', 0, 0), ('M', 255, 0), ('B', 1, 2), ('V', 0, 0), ('A', 1, 0), ('N', 0, 0), ('Z', 0, 0)];
+        let inner = [('A', 1, 0), ('I', 0, 0), ('S', 0, 0), ('B', 0, 2), ('N', 0, 0)];
+        let call = [('Q', 0, 1), ('W', 1, 0), ('J', 0, 0), ('T', 0, 0), ('N', 0, 0), ('N', 0, 0)];
+        let program = rows(&[&method[..], &inner, &call].concat());
+        let methods = Nesting { nodes: 4, calls: 0 };
+        let start = Nesting { nodes: 4, calls: 2 };
+        assert_eq!(nestings(&program), Some(Program { methods, start }));
+        let before_call = program.len() - call.len() * ROW;
+        let start = Nesting { nodes: 2, calls: 0 };
+        assert_eq!(nestings(&program[..before_call]), Some(Program { methods, start }));
+    }
+
+    #[test]
+    fn counts_nodes_in_every_active_call() {
+        let (methods, start) = (Nesting { nodes: 9, calls: 3 }, Nesting { nodes: 5, calls: 2 });
+        assert_eq!(Program { methods, start }.nodes_under_way(), 2 + 63 * 3 + 9);
+        let (methods, start) = (Nesting { nodes: 2, calls: 0 }, Nesting { nodes: 5, calls: 2 });
+        assert_eq!(Program { methods, start }.nodes_under_way(), 5);
+    }
+
+    /// Returns the number that the C header defines under a name.
+    fn in_header(name: &str) -> usize {
+        let header = include_str!("../../include/fickle.h");
+        let mut defines = header.lines().filter_map(|line| line.strip_prefix("#define ")?.split_once(' '));
+        defines.find(|&(defined, _)| defined == name).expect(name).1.parse().expect(name)
+    }
+
+    #[test]
+    fn needs_what_the_header_says() {
+        assert_eq!(in_header("FICKLE_READ_ROWS_STACK_NEEDED"), READ_ROWS_STACK_NEEDED);
+        assert_eq!(in_header("FICKLE_WRITE_TEXT_STACK_NEEDED"), WRITE_TEXT_STACK_NEEDED);
+        assert_eq!(in_header("FICKLE_CHECK_ROWS_STACK_NEEDED"), CHECK_ROWS_STACK_NEEDED);
+        assert_eq!(in_header("FICKLE_TRANSLATE_ROWS_STACK_NEEDED"), TRANSLATE_ROWS_STACK_NEEDED);
+        assert_eq!(in_header("FICKLE_RUN_ROWS_STACK_NEEDED"), RUN_ROWS_STACK_NEEDED);
+    }
+
+    #[test]
+    fn takes_what_it_does_not_know_for_deep() {
+        assert_eq!(nestings(&rows(&[('S', 0, 0), ('B', 0, 1), ('Y', 0, 0)])), None);
+        assert_eq!(nestings(&[65_536 + 83, 0, 0, 0]), None);
+        assert_eq!(nestings(&rows(&[('Q', 0, u32::MAX)])), None);
+        assert_eq!(nestings(&rows(&[('Z', 0, 0); MOST_NESTING + 1])), None);
+        assert_eq!(run_rows_stack_bound(&[0; ROW], 0), RUN_ROWS_STACK_NEEDED);
+    }
+}

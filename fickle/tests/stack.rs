@@ -1,0 +1,105 @@
+//! Native stack: each service at its worst inputs on a thread with as much as it says that it needs, and runs on
+//! threads with the bound that is computed for them. A stack that overflows aborts the process.
+
+mod deep;
+
+use deep::{deep, deep_beside_calls, on_stack, FUEL, LETTERS, MOST_NESTING, MOST_ROWS};
+use fickle::{
+    check_rows, read_rows, run_rows_on_this_stack, run_rows_stack_bound, translate_rows, write_text, Outcome,
+    CHECK_ROWS_STACK_NEEDED, READ_ROWS_STACK_NEEDED, RUN_ROWS_STACK_NEEDED, TRANSLATE_ROWS_STACK_NEEDED,
+    WRITE_TEXT_STACK_NEEDED,
+};
+
+const TRANSLATED_NESTING: usize = 24;
+/// What a thread takes of its stack beside a run: its own data, and the frames that lead to the run.
+const THREAD: usize = 16_384;
+
+/// A call, which returns whether its answer is right, and the stack that it is given.
+struct Case {
+    stack: usize,
+    name: String,
+    call: Box<dyn FnOnce() -> bool + Send>,
+}
+
+fn case(stack: usize, name: String, call: impl FnOnce() -> bool + Send + 'static) -> Case {
+    Case { stack, name, call: Box::new(call) }
+}
+
+/// The most lines, and one more, read and written.
+fn texts() -> [Case; 2] {
+    let text = "R\t65535\t65535\n".repeat(MOST_ROWS + 1).into_bytes();
+    let most = text.len() - 14;
+    let rows = [82, 65_535, 65_535, 0].repeat(MOST_ROWS + 1);
+    let (lines, line) = (text.clone(), MOST_ROWS as u32 + 1);
+    let read = move || {
+        let mut rows = vec![0; 4 * MOST_ROWS];
+        read_rows(&text, &mut rows).is_err_and(|over| (over.number, over.line) == (2, line))
+            && read_rows(&text[..most], &mut rows) == Ok(MOST_ROWS)
+    };
+    let write = move || {
+        let mut text = vec![0; most];
+        write_text(&rows, &mut text).is_err_and(|over| (over.number, over.line) == (2, line))
+            && write_text(&rows[4..], &mut text) == Ok(most)
+            && text == lines[..most]
+    };
+    [
+        case(READ_ROWS_STACK_NEEDED, "read_rows".to_string(), read),
+        case(WRITE_TEXT_STACK_NEEDED, "write_text".to_string(), write),
+    ]
+}
+
+/// Check, translation and run at the deepest nesting through a letter; translation also where it accepts.
+fn services(letter: char) -> [Case; 4] {
+    let rows = deep(letter, MOST_NESTING, MOST_ROWS);
+    let (to_translate, to_run) = (rows.clone(), rows.clone());
+    let check = move || check_rows(&rows).is_ok();
+    let refuse = move || translate_rows(&to_translate, &mut []).is_err_and(|over| over.number == 2);
+    let translate = move || {
+        let mut plain = vec![0; 4 * MOST_ROWS];
+        translate_rows(&deep(letter, TRANSLATED_NESTING, 0), &mut plain).is_ok()
+    };
+    let run = move || run_rows_on_this_stack(&to_run, FUEL, &mut [0; 36]).map(|run| run.outcome);
+    [
+        case(CHECK_ROWS_STACK_NEEDED, format!("check_rows, {letter}"), check),
+        case(TRANSLATE_ROWS_STACK_NEEDED, format!("translate_rows, refused, {letter}"), refuse),
+        case(TRANSLATE_ROWS_STACK_NEEDED, format!("translate_rows, {letter}"), translate),
+        case(RUN_ROWS_STACK_NEEDED, format!("run_rows, {letter}"), move || run() == Ok(Outcome::Stop(15))),
+    ]
+}
+
+/// A run on its bound.
+fn bounded(name: String, rows: Vec<u32>, fuel: u64) -> Case {
+    let stack = run_rows_stack_bound(&rows, fuel) + THREAD;
+    case(stack, format!("run_rows, {name}, fuel {fuel}"), move || {
+        let run = run_rows_on_this_stack(&rows, fuel, &mut [0; 36]).expect("accepted");
+        run.outcome == Outcome::Stop(if u64::from(run.steps) == fuel { 14 } else { 15 })
+    })
+}
+
+/// Runs that nest through a letter, on many fuels: calls in the innermost node, then calls beside it.
+fn runs(letter: char) -> Vec<Case> {
+    let mut cases = vec![bounded(format!("{letter}, many rows"), deep(letter, 16, MOST_ROWS), FUEL)];
+    for nesting in [3, 4, 7, 10, 12, 16, 24, 64, MOST_NESTING - 1, MOST_NESTING] {
+        for fuel in [0, 1, 100, 500, 1_000, 5_000, FUEL] {
+            let name = format!("{letter}, nesting {nesting}");
+            cases.push(bounded(name.clone(), deep(letter, nesting, 0), fuel));
+            // G of a null field would end the run, and calls through Q are in the innermost node anyway.
+            if !['G', 'Q', 'q'].contains(&letter) {
+                cases.push(bounded(name + " beside calls", deep_beside_calls(letter, nesting), fuel));
+            }
+        }
+    }
+    cases
+}
+
+/// The only test in this file, with its cases in ascending order of stack: the C library may give a new thread the
+/// larger stack of one that has ended, so that a case would prove nothing after a larger one.
+#[test]
+fn every_call_keeps_to_its_stack() {
+    let mut cases: Vec<Case> = texts().into_iter().chain(LETTERS.into_iter().flat_map(services)).collect();
+    cases.extend(LETTERS.into_iter().flat_map(runs));
+    cases.sort_by_key(|case| case.stack);
+    for Case { stack, name, call } in cases {
+        assert!(on_stack(stack, call), "{name}");
+    }
+}
