@@ -169,7 +169,7 @@ impl Damaged {
         let method = self.any_of(&[letter::METHOD], random)?;
         let classes = self.classes();
         let class = classes.iter().filter(|row| **row < method).count() as u32;
-        let kind = self.number(*classes.get(class as usize - 1)?, 1);
+        let kind = self.number(*classes.get((class as usize).checked_sub(1)?)?, 1);
         let kind = if kind == PLAIN { PLAIN } else { STATE };
         let (mut result, name) = (self.number(method, 1), self.number(method, 2));
         let headed = |letter: u32| {
