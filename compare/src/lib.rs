@@ -4,6 +4,7 @@ pub mod cases;
 pub mod check;
 pub mod faults;
 pub mod load;
+pub mod measure;
 pub mod programs;
 pub mod proved;
 pub mod run;

@@ -1,4 +1,5 @@
-//! Programs of a wanted size for the benchmark: accepted ones for the check, and long runs for the runner.
+//! Programs for the benchmark: accepted ones of a wanted size for the check, the translator's longest, long runs for the
+//! runner, and short programs as texts.
 
 use second::rows::letter::*;
 
@@ -66,6 +67,32 @@ pub fn checked(load: Load, rows: usize) -> Vec<u32> {
     all.0.extend(items.0);
     all.0
 }
+
+/// The fields of the root in the program with the longest translation: as many as the translator takes.
+const FIELDS: u32 = 16;
+/// Its changes of class: with the other rows, they are the 680 that the translator takes.
+const CHANGES: u32 = 660;
+
+/// The program with the longest translation. Each R of a slot copies all fields of its root, which takes some 88 plain rows.
+pub fn longest_translation() -> Vec<u32> {
+    let mut rows = Rows::default();
+    rows.row(CLASS, 1, 0);
+    for name in 0..FIELDS {
+        rows.row(FIELD, 1, name);
+    }
+    rows.row(START, 0, 0).row(BLOCK, 1, CHANGES).row(LOCAL, 1, 0);
+    for _ in 0..CHANGES {
+        rows.row(CHANGE, 1, 1);
+    }
+    rows.0
+}
+
+/// Program D of document 01.
+pub const PROGRAM_D: &[u8] =
+    b"C\t1\t0\nF\t255\t0\nC\t2\t1\nC\t2\t1\nS\nB\t1\t4\nV\t1\nA\t1\nW\t2\nU\t0\nI\t1\nT\nR\t1\t3\nG\t0\nI\t1\n";
+
+/// The rules of examples/labels.md.
+pub const LABELS: &[u8] = include_bytes!("../../examples/labels.rules");
 
 /// What the innermost method of a long run does.
 #[derive(Clone, Copy, Debug)]
