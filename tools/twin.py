@@ -50,11 +50,14 @@ use compare::services_of;
 
 fn main() {
     let all = [PROVED, TWINS, SECOND];
+    let [proved, unchecked, twin, guarded, _] = [0, 1, 2, 3, 4];
     second::machine::on_large_stack(|| {
-        for twin in &all[1..all.len() - 1] {
-            measure::assert_agree(&all[0], twin);
+        for other in [unchecked, twin, guarded] {
+            measure::assert_agree(&all[proved], &all[other]);
         }
-        measure::tables(&all);
+        let means = measure::tables(&all);
+        let pairs = [(twin, proved), (unchecked, proved), (twin, unchecked), (guarded, unchecked)];
+        measure::summary(&all, &means, &pairs);
     });
 }
 '''

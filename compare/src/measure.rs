@@ -84,13 +84,29 @@ const RUN_IN_ALL: usize = 200_000_000;
 const RUN_ROUNDS: usize = 100;
 const MILLION: f64 = 1e6;
 
-/// Prints all tables. The first implementation is the one that the others are compared with.
-pub fn tables(all: &[Services]) {
-    text(all);
-    check(all);
-    translate(all);
-    run(all);
-    short_programs(all);
+/// The mean of each implementation's times in a table, where the first implementation's is 1.
+pub type Means = Vec<f64>;
+
+/// Prints all tables and returns their means, each with the table's name. The first implementation is the one that the
+/// others are compared with.
+pub fn tables(all: &[Services]) -> [(&'static str, Means); 5] {
+    [
+        ("reader and writer", text(all)),
+        ("check", check(all)),
+        ("translator", translate(all)),
+        ("runner, long runs", run(all)),
+        ("short programs", short_programs(all)),
+    ]
+}
+
+/// Prints a table of means: for each pair of implementations, how long the one takes in times of the other.
+pub fn summary(all: &[Services], means: &[(&str, Means)], pairs: &[(usize, usize)]) {
+    let head = pairs.iter().map(|(one, other)| format!(" {} ÷ {} |", all[*one].name, all[*other].name));
+    println!("\n| means |{}\n|---{}|", head.collect::<String>(), "|---".repeat(pairs.len()));
+    for (name, mean) in means {
+        let cells = pairs.iter().map(|(one, other)| format!(" {:.2} |", mean[*one] / mean[*other]));
+        println!("| {name} |{}", cells.collect::<String>());
+    }
 }
 
 /// Returns the best time of one call of each implementation, in seconds. A round is `calls` calls in a row, after which
@@ -141,15 +157,16 @@ impl<'a> Table<'a> {
         self.ratios.push(ratios);
     }
 
-    /// Prints the last line, the geometric means of the ratios.
-    fn mean(&self) {
+    /// Prints the last line, the geometric means of the ratios, and returns them after the first implementation's 1.
+    fn means(&self) -> Means {
         let mean = |column: usize| {
             let sum: f64 = self.ratios.iter().map(|line| line[column].ln()).sum();
             (sum / self.ratios.len() as f64).exp()
         };
-        let means: Vec<String> =
-            (0..self.all.len() - 1).map(|column| format!("{:.2}", mean(column))).collect();
-        println!("| geometric mean |{} {} |", " |".repeat(self.own + 1), means.join(" | "));
+        let means: Means = (0..self.all.len() - 1).map(mean).collect();
+        let cells: String = means.iter().map(|mean| format!(" {mean:.2} |")).collect();
+        println!("| geometric mean |{}{cells}", " |".repeat(self.own + 1));
+        [vec![1.0], means].concat()
     }
 }
 
@@ -158,7 +175,7 @@ fn in_microseconds(time: f64) -> String {
 }
 
 /// Reader and writer, in megabytes a second.
-fn text(all: &[Services]) {
+fn text(all: &[Services]) -> Means {
     let rows = crate::long_rows();
     let mut text = vec![0; TEXT_ROOM];
     let length = (all[0].write_text)(&rows, &mut text).expect("the rows are well formed");
@@ -173,7 +190,7 @@ fn text(all: &[Services]) {
     let written =
         times(all, TEXT_ROUNDS, 1, |one| assert!((one.write_text)(&rows, &mut text_buffer).is_ok()));
     table.line(&["write_text"], &written, rate);
-    table.mean();
+    table.means()
 }
 
 /// Accepted programs for the check, each with its name.
@@ -184,14 +201,14 @@ fn checked_programs() -> Vec<(String, Vec<u32>)> {
 }
 
 /// The check on accepted programs of several sizes.
-fn check(all: &[Services]) {
+fn check(all: &[Services]) -> Means {
     let mut table = Table::new(&["check_rows", "rows"], "µs", all);
     for (name, rows) in checked_programs() {
         let count = rows.len() / 4;
         let best = times(all, CHECKED_IN_ALL / count, 1, |one| assert!((one.check_rows)(&rows).is_ok()));
         table.line(&[&name, &count.to_string()], &best, in_microseconds);
     }
-    table.mean();
+    table.means()
 }
 
 /// Programs of the most rows that the translator takes, each with its name. The last has the longest translation.
@@ -202,7 +219,7 @@ fn translated_programs() -> Vec<(String, Vec<u32>)> {
 }
 
 /// The translator on programs of 680 rows.
-fn translate(all: &[Services]) {
+fn translate(all: &[Services]) -> Means {
     let mut table = Table::new(&["translate_rows", "rows", "plain rows"], "µs", all);
     let mut plain = vec![0; ROW_ROOM];
     for (name, rows) in translated_programs() {
@@ -213,7 +230,7 @@ fn translate(all: &[Services]) {
         let counts = [rows.len() / 4, count].map(|count| count.to_string());
         table.line(&[&name, &counts[0], &counts[1]], &best, in_microseconds);
     }
-    table.mean();
+    table.means()
 }
 
 /// Programs that run until the fuel is spent or the store is full, each with its name and fuel.
@@ -230,7 +247,7 @@ fn long_runs() -> Vec<(String, Vec<u32>, u64)> {
 }
 
 /// The runner, in million nodes a second: on two amounts of fuel, and beside arms that are not taken.
-fn run(all: &[Services]) {
+fn run(all: &[Services]) -> Means {
     let mut table = Table::new(&["run_rows", "nodes"], "million/s", all);
     let mut store = vec![0; STORE_ROOM];
     for (name, rows, fuel) in long_runs() {
@@ -241,7 +258,7 @@ fn run(all: &[Services]) {
         let rate = |time: f64| format!("{:.0}", nodes as f64 / MILLION / time);
         table.line(&[&name, &nodes.to_string()], &best, rate);
     }
-    table.mean();
+    table.means()
 }
 
 /// Programs of a few rows, each with its name.
@@ -251,7 +268,7 @@ fn few_rows() -> [(&'static str, Vec<u32>); 2] {
 }
 
 /// The three services on programs of a few rows, and the runs of their translations.
-fn short_programs(all: &[Services]) {
+fn short_programs(all: &[Services]) -> Means {
     let mut table = Table::new(&["program", "service", "rows"], "µs", all);
     let mut plain = vec![0; ROW_ROOM];
     let mut store = vec![0; STORE_ROOM];
@@ -267,7 +284,7 @@ fn short_programs(all: &[Services]) {
         let run = |one: &Services| assert!((one.run_rows)(&translated, SHORT_FUEL, &mut store).is_ok());
         short(&mut table, [name, "run_rows of its translation"], &translated, run);
     }
-    table.mean();
+    table.means()
 }
 
 /// A service on a program of a few rows.
