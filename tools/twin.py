@@ -45,9 +45,10 @@ opt-level = 3
 {profiles}'''
 
 MAIN = '''//! Written by tools/twin.py: asserts that the twins agree with the proved services, then measures all of them.
-use compare::measure::{self, PROVED, SECOND};
-use compare::services_of;
+use compare::measure::{self, Measured, PROVED, SECOND};
+use compare::services_of_fickle;
 
+TYPES
 fn main() {
     let all = [PROVED, TWINS, SECOND];
     let [proved, unchecked, twin, guarded, _] = [0, 1, 2, 3, 4];
@@ -190,6 +191,7 @@ def manifest(name, paths):
 def write_variant(variant, crates):
     write(f'{variant}/Cargo.toml', manifest(variant, {}))
     write(f'{variant}/src/lib.rs', wrapper(crates))
+    write(f'{variant}/src/stack.rs', open('fickle/src/stack.rs').read())
     write(f'{variant}/src/c.rs', c_interface())
     for crate in crates:
         text = rust_of(crate, crates)
@@ -199,8 +201,9 @@ def write_variant(variant, crates):
 def write_bench():
     paths = {name: f'../../../{name}' for name in ['compare', 'second']} | {variant: f'../{variant}' for variant in VARIANTS}
     write(f'{BENCH}/Cargo.toml', manifest(BENCH, paths))
-    twins = ', '.join(f'services_of!("{variant}", {variant})' for variant in VARIANTS)
-    write(f'{BENCH}/src/main.rs', MAIN.replace('TWINS', twins))
+    types = ''.join(f'services_of_fickle!({variant.title()}, {variant}, run_rows_on_this_stack);\n' for variant in VARIANTS)
+    twins = ', '.join(f'Measured {{ name: "{variant}", services: &{variant.title()} }}' for variant in VARIANTS)
+    write(f'{BENCH}/src/main.rs', MAIN.replace('TYPES', types).replace('TWINS', twins))
     profiles = ''.join(f'[profile.release.package.{variant}]\ncodegen-units = 1\n'
                        f'overflow-checks = {str(variant == GUARDED).lower()}\n\n' for variant in VARIANTS)
     members = ', '.join(f'"{name}"' for name in [BENCH] + VARIANTS)

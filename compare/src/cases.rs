@@ -1,7 +1,7 @@
 //! A case is one call with all that it is lent; a reply is all that comes back: the answer and the lent buffers.
 
 use second::rows::number;
-use second::services::{End, Printed, Ran, Refused, Services};
+use second::services::{End, Printed, Programs, Ran, Refused};
 use std::collections::BTreeMap;
 use std::fmt;
 
@@ -37,7 +37,7 @@ pub enum Answer {
 
 impl Case {
     /// The reply of an implementation.
-    pub fn reply(&self, services: &dyn Services) -> Reply {
+    pub fn reply(&self, services: &dyn Programs) -> Reply {
         match self {
             Case::Read { text, rows } => {
                 let mut rows = rows.clone();

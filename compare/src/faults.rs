@@ -6,7 +6,7 @@ use crate::series::{halves, Series};
 use second::generate;
 use second::machine::on_large_stack;
 use second::random::Random;
-use second::services::{Second, Services};
+use second::services::{Programs, Second};
 use std::cell::Cell;
 use std::panic::{catch_unwind, set_hook, take_hook, AssertUnwindSafe};
 
@@ -18,7 +18,7 @@ thread_local! {
 /// A copy of the second implementation with a fault in it.
 pub struct Faulty {
     pub name: &'static str,
-    pub services: &'static dyn Services,
+    pub services: &'static dyn Programs,
     /// Tries the promise on translated programs on some rows, with the copy's own translator and runner.
     pub promise: fn(&[u32], u64) -> Result<(), String>,
 }
@@ -100,7 +100,7 @@ fn tried(series: &Series, seeds: u64, first: u64, faults: &[Faulty]) -> Vec<u64>
 }
 
 /// Whether a copy's reply is another one; a copy that panics is noticed too.
-fn is_noticed(case: &Case, expected: &Reply, services: &dyn Services) -> bool {
+fn is_noticed(case: &Case, expected: &Reply, services: &dyn Programs) -> bool {
     without_panic(|| case.reply(services)).is_none_or(|reply| reply != *expected)
 }
 

@@ -3,59 +3,22 @@
 
 use crate::check::program;
 use crate::load::{self, Load, LOADS, WORKS};
+use crate::services_of_fickle;
 use second::generate;
 use second::random::Random;
+use second::services::{Second, Services};
 use std::time::Instant;
 
-/// A count of rows, bytes or steps, or the number and line of a refusal.
-pub type Counted = Result<usize, (u32, u32)>;
-
-/// The services of one implementation.
-pub struct Services {
-    /// What the columns of the tables call it.
+/// An implementation that is measured, and what the columns of the tables call it.
+pub struct Measured {
     pub name: &'static str,
-    pub read_rows: fn(&[u8], &mut [u32]) -> Counted,
-    pub write_text: fn(&[u32], &mut [u8]) -> Counted,
-    /// The count is 0.
-    pub check_rows: fn(&[u32]) -> Counted,
-    pub translate_rows: fn(&[u32], &mut [u32]) -> Counted,
-    /// The count is that of the steps.
-    pub run_rows: fn(&[u32], u64, &mut [u32]) -> Counted,
-    /// The whole answer of a run in words.
-    pub run_told: fn(&[u32], u64, &mut [u32]) -> String,
+    pub services: &'static dyn Services,
 }
 
-/// Returns the services of a crate or module that has the functions of `fickle`.
-#[macro_export]
-macro_rules! services_of {
-    ($name:literal, $from:ident) => {
-        $crate::measure::Services {
-            name: $name,
-            read_rows: |text, rows| $from::read_rows(text, rows).map_err(|no| (no.number, no.line)),
-            write_text: |rows, text| $from::write_text(rows, text).map_err(|no| (no.number, no.line)),
-            check_rows: |rows| $from::check_rows(rows).map(|()| 0).map_err(|no| (no.number, no.line)),
-            translate_rows: |rows, plain| {
-                $from::translate_rows(rows, plain).map_err(|no| (no.number, no.line))
-            },
-            run_rows: |rows, fuel, store| {
-                let run = $from::run_rows(rows, fuel, store).map_err(|no| (no.number, no.line))?;
-                Ok(run.steps as usize)
-            },
-            run_told: |rows, fuel, store| format!("{:?}", $from::run_rows(rows, fuel, store)),
-        }
-    };
-}
+services_of_fickle!(OnThisStack, fickle, run_rows_on_this_stack);
 
-/// The second implementation's functions under the names of the services.
-mod second_services {
-    pub use second::check::check_rows;
-    pub use second::machine::run_rows;
-    pub use second::plain::translate_rows;
-    pub use second::text::{read_rows, write_text};
-}
-
-pub const PROVED: Services = services_of!("proved", fickle);
-pub const SECOND: Services = services_of!("second", second_services);
+pub const PROVED: Measured = Measured { name: "proved", services: &OnThisStack };
+pub const SECOND: Measured = Measured { name: "second", services: &Second };
 
 /// Room for the longest text of 60,000 rows.
 const TEXT_ROOM: usize = 60_000 * 14;
@@ -89,7 +52,7 @@ pub type Means = Vec<f64>;
 
 /// Prints all tables and returns their means, each with the table's name. The first implementation is the one that the
 /// others are compared with.
-pub fn tables(all: &[Services]) -> [(&'static str, Means); 5] {
+pub fn tables(all: &[Measured]) -> [(&'static str, Means); 5] {
     [
         ("reader and writer", text(all)),
         ("check", check(all)),
@@ -100,7 +63,7 @@ pub fn tables(all: &[Services]) -> [(&'static str, Means); 5] {
 }
 
 /// Prints a table of means: for each pair of implementations, how long the one takes in times of the other.
-pub fn summary(all: &[Services], means: &[(&str, Means)], pairs: &[(usize, usize)]) {
+pub fn summary(all: &[Measured], means: &[(&str, Means)], pairs: &[(usize, usize)]) {
     let head = pairs.iter().map(|(one, other)| format!(" {} ÷ {} |", all[*one].name, all[*other].name));
     println!("\n| means |{}\n|---{}|", head.collect::<String>(), "|---".repeat(pairs.len()));
     for (name, mean) in means {
@@ -111,14 +74,14 @@ pub fn summary(all: &[Services], means: &[(&str, Means)], pairs: &[(usize, usize
 
 /// Returns the best time of one call of each implementation, in seconds. A round is `calls` calls in a row, after which
 /// the clock is read. Implementations take turns, so that other work on the machine does not slow down only one of them.
-fn times(all: &[Services], rounds: usize, calls: usize, mut task: impl FnMut(&Services)) -> Vec<f64> {
+fn times(all: &[Measured], rounds: usize, calls: usize, mut task: impl FnMut(&dyn Services)) -> Vec<f64> {
     let mut best = vec![f64::INFINITY; all.len()];
     for _ in 0..TURNS {
-        for (services, best) in all.iter().zip(&mut best) {
+        for (one, best) in all.iter().zip(&mut best) {
             for _ in 0..rounds.div_ceil(TURNS) {
                 let start = Instant::now();
                 for _ in 0..calls {
-                    task(services);
+                    task(one.services);
                 }
                 *best = best.min(start.elapsed().as_secs_f64() / calls as f64);
             }
@@ -130,7 +93,7 @@ fn times(all: &[Services], rounds: usize, calls: usize, mut task: impl FnMut(&Se
 /// A table with columns of its own, values of the first and the last implementation, and the time of each implementation
 /// but the first divided by the time of the first.
 struct Table<'a> {
-    all: &'a [Services],
+    all: &'a [Measured],
     own: usize,
     /// The ratios of each line.
     ratios: Vec<Vec<f64>>,
@@ -138,7 +101,7 @@ struct Table<'a> {
 
 impl<'a> Table<'a> {
     /// Prints the head of a table.
-    fn new(own: &[&str], unit: &str, all: &'a [Services]) -> Table<'a> {
+    fn new(own: &[&str], unit: &str, all: &'a [Measured]) -> Table<'a> {
         let (first, last) = (all[0].name, all[all.len() - 1].name);
         let mut cells: Vec<String> = own.iter().map(|cell| cell.to_string()).collect();
         cells.extend([first, last].map(|name| format!("{name}, {unit}")));
@@ -175,20 +138,19 @@ fn in_microseconds(time: f64) -> String {
 }
 
 /// Reader and writer, in megabytes a second.
-fn text(all: &[Services]) -> Means {
+fn text(all: &[Measured]) -> Means {
     let rows = crate::long_rows();
     let mut text = vec![0; TEXT_ROOM];
-    let length = (all[0].write_text)(&rows, &mut text).expect("the rows are well formed");
+    let length = all[0].services.write_text(&rows, &mut text).expect("the rows are well formed");
     let text = &text[..length];
     let mut row_buffer = vec![0; rows.len()];
     let mut text_buffer = vec![0; length];
     println!("{} lines, {length} bytes", rows.len() / 4);
     let mut table = Table::new(&["service"], "MB/s", all);
     let rate = |time: f64| format!("{:.0}", length as f64 / MILLION / time);
-    let read = times(all, TEXT_ROUNDS, 1, |one| assert!((one.read_rows)(text, &mut row_buffer).is_ok()));
+    let read = times(all, TEXT_ROUNDS, 1, |one| assert!(one.read_rows(text, &mut row_buffer).is_ok()));
     table.line(&["read_rows"], &read, rate);
-    let written =
-        times(all, TEXT_ROUNDS, 1, |one| assert!((one.write_text)(&rows, &mut text_buffer).is_ok()));
+    let written = times(all, TEXT_ROUNDS, 1, |one| assert!(one.write_text(&rows, &mut text_buffer).is_ok()));
     table.line(&["write_text"], &written, rate);
     table.means()
 }
@@ -201,11 +163,11 @@ fn checked_programs() -> Vec<(String, Vec<u32>)> {
 }
 
 /// The check on accepted programs of several sizes.
-fn check(all: &[Services]) -> Means {
+fn check(all: &[Measured]) -> Means {
     let mut table = Table::new(&["check_rows", "rows"], "µs", all);
     for (name, rows) in checked_programs() {
         let count = rows.len() / 4;
-        let best = times(all, CHECKED_IN_ALL / count, 1, |one| assert!((one.check_rows)(&rows).is_ok()));
+        let best = times(all, CHECKED_IN_ALL / count, 1, |one| assert!(one.check_rows(&rows).is_ok()));
         table.line(&[&name, &count.to_string()], &best, in_microseconds);
     }
     table.means()
@@ -219,13 +181,13 @@ fn translated_programs() -> Vec<(String, Vec<u32>)> {
 }
 
 /// The translator on programs of 680 rows.
-fn translate(all: &[Services]) -> Means {
+fn translate(all: &[Measured]) -> Means {
     let mut table = Table::new(&["translate_rows", "rows", "plain rows"], "µs", all);
     let mut plain = vec![0; ROW_ROOM];
     for (name, rows) in translated_programs() {
-        let count = (all[0].translate_rows)(&rows, &mut plain).expect("within the limits");
+        let count = all[0].services.translate_rows(&rows, &mut plain).expect("within the limits");
         let best = times(all, TRANSLATED_ROUNDS, 1, |one| {
-            assert_eq!((one.translate_rows)(&rows, &mut plain), Ok(count));
+            assert_eq!(one.translate_rows(&rows, &mut plain), Ok(count));
         });
         let counts = [rows.len() / 4, count].map(|count| count.to_string());
         table.line(&[&name, &counts[0], &counts[1]], &best, in_microseconds);
@@ -247,14 +209,14 @@ fn long_runs() -> Vec<(String, Vec<u32>, u64)> {
 }
 
 /// The runner, in million nodes a second: on two amounts of fuel, and beside arms that are not taken.
-fn run(all: &[Services]) -> Means {
+fn run(all: &[Measured]) -> Means {
     let mut table = Table::new(&["run_rows", "nodes"], "million/s", all);
     let mut store = vec![0; STORE_ROOM];
     for (name, rows, fuel) in long_runs() {
-        let nodes = (all[0].run_rows)(&rows, fuel, &mut store).expect("accepted");
+        let ran = all[0].services.run_rows(&rows, fuel, &mut store).expect("accepted");
+        let nodes = ran.steps as usize;
         let rounds = (RUN_IN_ALL / nodes).clamp(TURNS, RUN_ROUNDS);
-        let best =
-            times(all, rounds, 1, |one| assert_eq!((one.run_rows)(&rows, fuel, &mut store), Ok(nodes)));
+        let best = times(all, rounds, 1, |one| assert_eq!(one.run_rows(&rows, fuel, &mut store), Ok(ran)));
         let rate = |time: f64| format!("{:.0}", nodes as f64 / MILLION / time);
         table.line(&[&name, &nodes.to_string()], &best, rate);
     }
@@ -268,27 +230,27 @@ fn few_rows() -> [(&'static str, Vec<u32>); 2] {
 }
 
 /// The three services on programs of a few rows, and the runs of their translations.
-fn short_programs(all: &[Services]) -> Means {
+fn short_programs(all: &[Measured]) -> Means {
     let mut table = Table::new(&["program", "service", "rows"], "µs", all);
     let mut plain = vec![0; ROW_ROOM];
     let mut store = vec![0; STORE_ROOM];
     for (name, rows) in few_rows() {
-        let length = (all[0].translate_rows)(&rows, &mut plain).expect("within the limits");
+        let length = all[0].services.translate_rows(&rows, &mut plain).expect("within the limits");
         let translated = plain[..length * 4].to_vec();
-        let check = |one: &Services| assert!((one.check_rows)(&rows).is_ok());
+        let check = |one: &dyn Services| assert!(one.check_rows(&rows).is_ok());
         short(&mut table, [name, "check_rows"], &rows, check);
-        let translate = |one: &Services| assert!((one.translate_rows)(&rows, &mut plain).is_ok());
+        let translate = |one: &dyn Services| assert!(one.translate_rows(&rows, &mut plain).is_ok());
         short(&mut table, [name, "translate_rows"], &rows, translate);
-        let run = |one: &Services| assert!((one.run_rows)(&rows, SHORT_FUEL, &mut store).is_ok());
+        let run = |one: &dyn Services| assert!(one.run_rows(&rows, SHORT_FUEL, &mut store).is_ok());
         short(&mut table, [name, "run_rows"], &rows, run);
-        let run = |one: &Services| assert!((one.run_rows)(&translated, SHORT_FUEL, &mut store).is_ok());
+        let run = |one: &dyn Services| assert!(one.run_rows(&translated, SHORT_FUEL, &mut store).is_ok());
         short(&mut table, [name, "run_rows of its translation"], &translated, run);
     }
     table.means()
 }
 
 /// A service on a program of a few rows.
-fn short(table: &mut Table, [name, service]: [&str; 2], rows: &[u32], task: impl FnMut(&Services)) {
+fn short(table: &mut Table, [name, service]: [&str; 2], rows: &[u32], task: impl FnMut(&dyn Services)) {
     let best = times(table.all, SHORT_ROUNDS, SHORT_CALLS, task);
     table.line(&[name, service, &(rows.len() / 4).to_string()], &best, in_microseconds);
 }
@@ -303,8 +265,8 @@ const JUNK: u32 = 0xABCD;
 
 /// Panics unless two implementations with the interface of `fickle` give the same answers and leave the same buffers, on
 /// all inputs of the benchmark and on generated ones.
-pub fn assert_agree(one: &Services, other: &Services) {
-    let pair = [one, other];
+pub fn assert_agree(one: &Measured, other: &Measured) {
+    let pair = [one.services, other.services];
     assert_texts_agree(pair, &crate::long_rows());
     for (name, rows) in checked_programs().into_iter().chain(translated_programs()) {
         assert_programs_agree(pair, &name, &rows, ROW_ROOM, 0);
@@ -321,33 +283,32 @@ pub fn assert_agree(one: &Services, other: &Services) {
         assert_programs_agree(pair, &format!("program {case}"), &program(&mut random), PLAIN_LENT, fuel);
         assert_texts_agree(pair, &generate::row_buffer(&mut random));
         let text = generate::text(&mut random);
-        let read = |services: &Services| left(PLAIN_LENT, JUNK, |rows| (services.read_rows)(&text, rows));
+        let read = |services: &dyn Services| left(PLAIN_LENT, JUNK, |rows| services.read_rows(&text, rows));
         assert_same("read_rows", &format!("text {case}"), pair.map(read));
     }
     println!("{} and {} agree on the benchmark's inputs and {AGREED} programs", one.name, other.name);
 }
 
 /// Panics unless rows are written alike, and what was written is read alike.
-fn assert_texts_agree(pair: [&Services; 2], rows: &[u32]) {
-    let written =
-        pair.map(|services| left(TEXT_ROOM, 0, |text: &mut [u8]| (services.write_text)(rows, text)));
+fn assert_texts_agree(pair: [&dyn Services; 2], rows: &[u32]) {
+    let written = pair.map(|services| left(TEXT_ROOM, 0, |text: &mut [u8]| services.write_text(rows, text)));
     let text = written[0].1[..written[0].0.unwrap_or(0)].to_vec();
     assert_same("write_text", "rows", written);
-    let read = pair.map(|services| left(ROW_ROOM, JUNK, |rows| (services.read_rows)(&text, rows)));
+    let read = pair.map(|services| left(ROW_ROOM, JUNK, |rows| services.read_rows(&text, rows)));
     assert_same("read_rows", "what was written", read);
 }
 
 /// Panics unless a program is checked, translated and run alike.
-fn assert_programs_agree(pair: [&Services; 2], name: &str, rows: &[u32], lent: usize, fuel: u64) {
-    assert_same("check_rows", name, pair.map(|services| (services.check_rows)(rows)));
-    let plain = pair.map(|services| left(lent, JUNK, |plain| (services.translate_rows)(rows, plain)));
+fn assert_programs_agree(pair: [&dyn Services; 2], name: &str, rows: &[u32], lent: usize, fuel: u64) {
+    assert_same("check_rows", name, pair.map(|services| services.check_rows(rows)));
+    let plain = pair.map(|services| left(lent, JUNK, |plain| services.translate_rows(rows, plain)));
     assert_same("translate_rows", name, plain);
     assert_runs_agree(pair, name, rows, fuel, STORE_LENT);
 }
 
 /// Panics unless a program runs alike.
-fn assert_runs_agree(pair: [&Services; 2], name: &str, rows: &[u32], fuel: u64, lent: usize) {
-    let run = |services: &Services| left(lent, JUNK, |store| (services.run_told)(rows, fuel, store));
+fn assert_runs_agree(pair: [&dyn Services; 2], name: &str, rows: &[u32], fuel: u64, lent: usize) {
+    let run = |services: &dyn Services| left(lent, JUNK, |store| services.run_rows(rows, fuel, store));
     assert_same("run_rows", name, pair.map(run));
 }
 

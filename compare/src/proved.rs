@@ -1,47 +1,63 @@
 //! The proved services, and the proved programs target/bin/translate and target/bin/run.
 
-use second::services::{End, Printed, Ran, Refused, Services};
+use second::services::{Printed, Programs};
 use std::io::Write;
 use std::process::{Command, Stdio};
 
-pub struct Proved;
+/// Makes a type whose services are those of a crate with the functions of `fickle`, rows being run by the one named.
+#[macro_export]
+macro_rules! services_of_fickle {
+    ($name:ident, $from:ident, $run_rows:ident) => {
+        pub struct $name;
 
-fn refused(no: fickle::Refusal) -> Refused {
-    (no.number, no.line)
+        impl second::services::Services for $name {
+            fn read_rows(&self, text: &[u8], rows: &mut [u32]) -> Result<usize, second::services::Refused> {
+                $from::read_rows(text, rows).map_err(|no| (no.number, no.line))
+            }
+
+            fn write_text(&self, rows: &[u32], text: &mut [u8]) -> Result<usize, second::services::Refused> {
+                $from::write_text(rows, text).map_err(|no| (no.number, no.line))
+            }
+
+            fn check_rows(&self, rows: &[u32]) -> Result<(), second::services::Refused> {
+                $from::check_rows(rows).map_err(|no| (no.number, no.line))
+            }
+
+            fn translate_rows(
+                &self,
+                rows: &[u32],
+                plain: &mut [u32],
+            ) -> Result<usize, second::services::Refused> {
+                $from::translate_rows(rows, plain).map_err(|no| (no.number, no.line))
+            }
+
+            fn run_rows(
+                &self,
+                rows: &[u32],
+                fuel: u64,
+                store: &mut [u32],
+            ) -> Result<second::services::Ran, second::services::Refused> {
+                use second::services::{End, Ran};
+                use $from::{Outcome, Value};
+                let run = $from::$run_rows(rows, fuel, store).map_err(|no| (no.number, no.line))?;
+                let end = match run.outcome {
+                    Outcome::Value(Value::Null) => End::Value(0),
+                    Outcome::Value(Value::Truth(false)) => End::Value(1),
+                    Outcome::Value(Value::Truth(true)) => End::Value(2),
+                    Outcome::Value(Value::Object(object)) => End::Value(2 + object),
+                    Outcome::Exception(exception) => End::Exception(exception),
+                    Outcome::Stop(stop) => End::Stop(stop),
+                };
+                let [steps, objects, changes] = [run.steps, run.objects, run.changes].map(u64::from);
+                Ok(Ran { end, steps, objects, changes })
+            }
+        }
+    };
 }
 
-impl Services for Proved {
-    fn read_rows(&self, text: &[u8], rows: &mut [u32]) -> Result<usize, Refused> {
-        fickle::read_rows(text, rows).map_err(refused)
-    }
+services_of_fickle!(Proved, fickle, run_rows);
 
-    fn write_text(&self, rows: &[u32], text: &mut [u8]) -> Result<usize, Refused> {
-        fickle::write_text(rows, text).map_err(refused)
-    }
-
-    fn check_rows(&self, rows: &[u32]) -> Result<(), Refused> {
-        fickle::check_rows(rows).map_err(refused)
-    }
-
-    fn translate_rows(&self, rows: &[u32], plain: &mut [u32]) -> Result<usize, Refused> {
-        fickle::translate_rows(rows, plain).map_err(refused)
-    }
-
-    fn run_rows(&self, rows: &[u32], fuel: u64, store: &mut [u32]) -> Result<Ran, Refused> {
-        use fickle::{Outcome, Value};
-        let run = fickle::run_rows(rows, fuel, store).map_err(refused)?;
-        let end = match run.outcome {
-            Outcome::Value(Value::Null) => End::Value(0),
-            Outcome::Value(Value::Truth(false)) => End::Value(1),
-            Outcome::Value(Value::Truth(true)) => End::Value(2),
-            Outcome::Value(Value::Object(object)) => End::Value(2 + object),
-            Outcome::Exception(exception) => End::Exception(exception),
-            Outcome::Stop(stop) => End::Stop(stop),
-        };
-        let [steps, objects, changes] = [run.steps, run.objects, run.changes].map(u64::from);
-        Ok(Ran { end, steps, objects, changes })
-    }
-
+impl Programs for Proved {
     fn translate(&self, input: &[u8]) -> Printed {
         printed("translate", input)
     }

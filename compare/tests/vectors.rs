@@ -3,7 +3,7 @@
 
 use compare::programs::{pinned, Translated};
 use compare::proved::Proved;
-use second::services::{Printed, Second, Services};
+use second::services::{Printed, Programs, Second};
 use second::vectors;
 use std::process::Command;
 
@@ -22,7 +22,7 @@ fn vectors_hold() {
 fn the_programs_print_as_pinned() {
     for pinned in pinned() {
         let what = pinned.what;
-        for (name, services) in [("proved", &Proved as &dyn Services), ("second", &Second)] {
+        for (name, services) in [("proved", &Proved as &dyn Programs), ("second", &Second)] {
             let ran = Printed::well(pinned.ran.as_bytes().to_vec());
             assert_eq!(services.run(&pinned.text), ran, "{what}, run, {name}");
             let translated = services.translate(&pinned.text);

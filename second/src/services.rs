@@ -36,20 +36,24 @@ impl Printed {
     }
 }
 
-/// The services of document 01 and its two programs.
+/// The services of document 01.
 pub trait Services: Sync {
     fn read_rows(&self, text: &[u8], rows: &mut [u32]) -> Result<usize, Refused>;
     fn write_text(&self, rows: &[u32], text: &mut [u8]) -> Result<usize, Refused>;
     fn check_rows(&self, rows: &[u32]) -> Result<(), Refused>;
     fn translate_rows(&self, rows: &[u32], plain: &mut [u32]) -> Result<usize, Refused>;
     fn run_rows(&self, rows: &[u32], fuel: u64, store: &mut [u32]) -> Result<Ran, Refused>;
+}
+
+/// The two programs of document 01, beside the services.
+pub trait Programs: Services {
     /// The translating program on an input.
     fn translate(&self, input: &[u8]) -> Printed;
     /// The running program on an input.
     fn run(&self, input: &[u8]) -> Printed;
 }
 
-/// Makes a type whose services are those of a crate that is this one or a copy of it.
+/// Makes a type whose services and programs are those of a crate that is this one or a copy of it.
 #[macro_export]
 macro_rules! services_of {
     ($name:ident, $($implementation:tt)+) => {
@@ -93,7 +97,9 @@ macro_rules! services_of {
                 };
                 Ok(Ran { end, steps: run.steps, objects: u64::from(run.objects), changes: run.changes })
             }
+        }
 
+        impl $crate::services::Programs for $name {
             fn translate(&self, input: &[u8]) -> $crate::services::Printed {
                 $crate::services::Printed::well($($implementation)+::programs::translate(input))
             }

@@ -3,7 +3,7 @@
 
 use crate::generate::text_of_rows;
 use crate::rows::{CHECKED, OBJECT_WIDTH, ROW_WIDTH};
-use crate::services::{End, Ran, Refused, Services};
+use crate::services::{End, Programs, Ran, Refused, Services};
 use std::path::Path;
 
 /// The requests of document 02 that have landed: a case may hold from one of them on, or until one of them.
@@ -110,7 +110,7 @@ impl Vector {
     }
 
     /// The answer of an implementation, in the words of the files.
-    pub fn answer(&self, services: &dyn Services) -> String {
+    pub fn answer(&self, services: &dyn Programs) -> String {
         let answer = match self.service() {
             "check" => services.check_rows(&self.rows()).map(|()| "accepted".to_string()),
             "translate" => self.translation(services, &self.rows()).map(|plain| lines_of(&plain)),
