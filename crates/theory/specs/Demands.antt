@@ -21,9 +21,11 @@ use Rattle.theory.specs.ListedAnswers.{verdict-listed, run-listed, filli
 use Rattle.theory.specs.TranslatorAnswers.{translation-listed}
 use Rattle.theory.specs.Accepts.{RowsOf, WellFormedRows, demand-2-accepts as accepts-well-formed}
 use Rattle.theory.specs.Members.{demand-2-members as finds-members}
+use Rattle.theory.specs.Endings.{Translatable, plain-numbers, TranslatesTo}
 use Rattle.theory.specs.Endings.{EndsProperly, EndAlikeOnStores, EndsInValueOrException}
 use Rattle.theory.specs.Endings.{DerivedWithinStore}
 use Rattle.theory.specs.RunsOfRows.{runs-derived}
+use Rattle.theory.specs.Translatable.{translatable-taken, translates}
 use Rattle.theory.specs.AcceptedTranslation.{demand-3-accepted as accepts-translations}
 use Rattle.theory.specs.DemandsRows.{runs-alike, runs-alike-back}
 
@@ -78,13 +80,20 @@ demand-2-members = finds-members
 abbrev pub most-source-fuel : ℕ
 most-source-fuel = 1000000
 
--- Demand 3, acceptance. What the translator answers, for accepted rows within its limits and without reserved
--- names, is accepted.
-pub demand-3-accepted : (ns out : List ℕ) → translation ns ≡ accept out → verdict out ≡ accepted
-demand-3-accepted = accepts-translations
+-- Demand 3, the translator. Whatever the numbers, it gives plain rows exactly for the rows of a well-formed
+-- program within its limits and without reserved names, and they are the rows of its plain program.
+pub demand-3-translates : (ns out : List ℕ) → (translation ns ≡ accept out) ↔ TranslatesTo ns out
+demand-3-translates = translates
 
--- Demand 3. Take any accepted program within the translator's limits and without reserved names, any fuel up
--- to 1,000,000 and any store, whatever it held before. If its run ends in a value, an exception or too deep a
+-- Demand 3, acceptance. Every well-formed program within the translator's limits and without reserved names has
+-- a translation, the rows of its plain program, and it is accepted.
+pub demand-3-accepted : (ns : List ℕ) (p : Program) → RowsOf ns p → Translatable p
+    → (translation ns ≡ accept (plain-numbers p)) × (verdict (plain-numbers p) ≡ accepted)
+demand-3-accepted ns p rows taken = let e = translatable-taken ns p rows taken in
+    (e, accepts-translations ns (plain-numbers p) e)
+
+-- Demand 3. Take any accepted program within the translator's limits and without reserved names, so that it has
+-- a translation (demand-3-translates), any fuel up to 1,000,000 and any store, whatever it held before. If its run ends in a value, an exception or too deep a
 -- call (15), with n objects made and r changes of class, then for every store with room for 2n + r objects,
 -- whatever it held before, the run of its plain rows with 84 times the fuel ends alike, makes exactly 2n + r
 -- objects, and in the stores afterwards the j-th object matches the j-th Identity made, for every j from 1 to

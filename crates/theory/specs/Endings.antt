@@ -1,20 +1,58 @@
--- How a run of rows over a lent store ends, and when the run of a program and that of its plain form end
--- alike: the words in which the demands are stated. Objects are read off the numbers of the stores.
+-- Which programs the translator takes, how a run of rows over a lent store ends, and when the run of a program
+-- and that of its plain form end alike: the words in which the demands are stated. Objects are read off the
+-- numbers of the stores.
 use mathlib.Core.Path.{_≡_}
+use mathlib.Core.Logic.{_≢_}
 use Prim.Native.Nat.{ℕ, _+_, _*_, _≤_, _<_}
 use mathlib.Core.Option.{some}
-use mathlib.Core.List.{List, []}
+use mathlib.Core.List.{List, [], map}
 use lib.ListN.{length}
-use Rattle.language.specs.Limits.{most-calls, plain-steps-a-step}
+use Rattle.language.specs.Limits.{Most, most-calls, plain-steps-a-step}
 use Rattle.language.specs.Lists.{nth}
 use Rattle.language.specs.Results.{ok, stop, Checked, accept, refuse}
-use Rattle.language.specs.Tree.{Class, Program}
+use Rattle.language.specs.Rows.{row-of, numbers-of}
+use Rattle.language.specs.Tree.{Field, Class, Program, flatten-program}
 use Rattle.language.specs.Program.{world}
+use Rattle.language.specs.WellFormed.{Each, ProgramInForm}
+use Rattle.language.specs.Translation.{plain-program}
 use Rattle.language.specs.Verdict.{check}
 use Rattle.language.specs.Evaluation.{Value, Object, State, raised, deep, first-state}
 use Rattle.language.specs.Runs.{Evaluates}
 use Rattle.language.specs.Store.{heap-of-numbers, capacity, stored, Outcome, gave, ended, ran, Ran}
 use Rattle.language.specs.Correspondence.{identities, EndAlike, Matches}
+use Rattle.theory.specs.Accepts.{RowsOf}
+
+-- The column "translator's input" of the table of limits (document 01, "Lines and rows"). The numbers are
+-- written out here, so that the demand does not follow the definition if that has another one.
+abbrev pub translator-column : Most
+translator-column =
+    record { rows = 680; classes = 62; fields = 16; parameters = 8; slots = 32; nesting = 24; name = 255 }
+
+-- A field with neither of the names that the plain program needs for itself.
+pub record Unreserved (f : Field) : Type 0 where
+  pub not-id : f .name ≢ 254
+  pub not-imp : f .name ≢ 255
+
+-- A program within that column, with at most so many fields in each class, its superclass's included, and no
+-- field of a reserved name.
+pub record Translatable (p : Program) : Type 0 where
+  pub in-form : ProgramInForm translator-column p
+  pub few-fields : Each (λ (c : Class).
+      length (world (p .classes) .fields (c .super)) + length (c .fields) ≤ translator-column .fields)
+      (p .classes)
+  pub unreserved : Each (λ (c : Class). Each Unreserved (c .fields)) (p .classes)
+
+-- The numbers of the rows of a program's plain program.
+abbrev pub plain-numbers : Program → List ℕ
+plain-numbers p = numbers-of (map row-of (flatten-program (plain-program p)))
+
+-- The numbers ns are the rows of a well-formed program that the translator takes, and out those of its plain
+-- program.
+pub record TranslatesTo (ns out : List ℕ) : Type 0 where
+  pub program : Program
+  pub rows-of-it : RowsOf ns program
+  pub translatable : Translatable program
+  pub plain-rows : out ≡ plain-numbers program
 
 -- The classes that accepted rows declare; rows that are refused declare none.
 abbrev pub classes-read : Checked Program → List Class

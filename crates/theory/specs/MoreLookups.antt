@@ -120,7 +120,7 @@ check-fields-few most P before at (f ∷ fs) u q l =
     omega arith
 
 -- So it is for each class, whose fields follow its superclass's.
-check-classes-few : (most : Most) (P : List Class) (k at : ℕ) (cs : List Class) (u : Unit {0})
+pub check-classes-few : (most : Most) (P : List Class) (k at : ℕ) (cs : List Class) (u : Unit {0})
     → check-classes most P k at cs ≡ accept u → (i : ℕ) (c : Class) → nth cs i ≡ some c
     → length (world P .fields (c .super)) ≤ most .fields
     → length (world P .fields (c .super)) + length (c .fields) ≤ most .fields

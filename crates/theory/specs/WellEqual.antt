@@ -4,11 +4,11 @@ use Prim.Native.Nat.{ℕ, zero, suc, _+_, _≤_, _<_}
 use mathlib.Core.Option.{Option, none, some}
 use mathlib.Core.Bool.{true, false, not}
 use mathlib.Core.List.{List, [], _∷_, _++_}
-use lib.ListN.{length}
+use lib.ListN.{length, length-append}
 use lib.Dec.{leb, ltb}
 use borrow.Author.Tests.{eqb-true, ltb-true, eq-eqb, lt-ltb, le-leb}
 use native.Mathlib.Omega.{arith}
-use Rattle.language.specs.Limits.{of-check}
+use Rattle.language.specs.Limits.{Most, of-check}
 use Rattle.language.specs.Lists.{given, Never, nth-lt}
 use Rattle.language.specs.Results.{accept, passed, bind-checked, require, bind-checked-inv, require-inv}
 use Rattle.language.specs.Tree.{DeclaredType, bool, class, Kind, plain, root, state, unknown, Field}
@@ -23,6 +23,7 @@ use Rattle.language.specs.Headings.{check-classes, headings}
 use Rattle.language.specs.Typing.{method-environment, start-environment, type-method, type-methods}
 use Rattle.language.specs.Typing.{type-classes, bodies}
 use Rattle.language.specs.Rules.{Declared, declared-nil, declared-cons}
+use Rattle.language.specs.WellFormed.{Each, each-nil, each-cons}
 use Rattle.language.specs.WellFormed.{Extends, plain-object, plain-plain, root-object, root-plain, state-root}
 use Rattle.language.specs.WellFormed.{state-state, FieldsWell, well-nil, well-cons, EffectWell, well-none}
 use Rattle.language.specs.WellFormed.{well-root, Overrides, first, again, MethodWell, MethodsWell}
@@ -206,6 +207,10 @@ module _ (P : List Class) where
   override-test m o l w (again M p q r) = rw
       (p, q, type-same (M .result), types-same (M .parameters), within-lines (M .effect) l w r)
 
+  -- The pass over the fields of a class accepts them, from whatever line on.
+  pub FieldsPass : Most → Class → Type 0
+  FieldsPass most c = (at : ℕ) → check-fields most P (world P .fields (c .super)) at (c .fields) ≡ passed
+
   fields-test : {before fs : List Field} → FieldsWell P before fs → (at : ℕ)
       → check-fields of-check P before at fs ≡ passed
   unfolding check-fields require
@@ -213,11 +218,34 @@ module _ (P : List Class) where
   fields-test {before} (well-cons p q r s w) at =
       rw (lt-ltb (length before) 17 p, q, r, s) (fields-test w (at + 1))
 
-  parameters-test : {ts : List DeclaredType} → Declared (world P) ts → (at : ℕ)
-      → check-parameters of-check P at ts ≡ passed
+  -- So it does under other limits, where there are no more fields than they allow.
+  few-fields-test : (most : Most) {before fs : List Field} → FieldsWell P before fs
+      → length before + length fs ≤ most .fields → (at : ℕ) → check-fields most P before at fs ≡ passed
+  unfolding check-fields require
+  few-fields-test most well-nil l at = refl
+  few-fields-test most {before} (well-cons {fs} {f} p q r s w) l at =
+      rw (lt-ltb (length before) (most .fields) (omega (arith, l)), q, r, s)
+      (few-fields-test most w (omega (arith, l, length-append before (f ∷ []))) (at + 1))
+
+  all-fields-pass : {k : ℕ} {cs : List Class} → ClassesWell P k cs → Each (FieldsPass of-check) cs
+  unfolding FieldsPass
+  all-fields-pass classes-nil = each-nil
+  all-fields-pass (classes-cons w ws) =
+      each-cons (λ at. fields-test (w .fields) at) (all-fields-pass ws)
+
+  few-fields-pass : (most : Most) {k : ℕ} {cs : List Class} → ClassesWell P k cs
+      → Each (λ c. length (world P .fields (c .super)) + length (c .fields) ≤ most .fields) cs
+      → Each (FieldsPass most) cs
+  unfolding FieldsPass
+  few-fields-pass most classes-nil each-nil = each-nil
+  few-fields-pass most (classes-cons w ws) (each-cons l ls) =
+      each-cons (λ at. few-fields-test most (w .fields) l at) (few-fields-pass most ws ls)
+
+  parameters-test : (most : Most) {ts : List DeclaredType} → Declared (world P) ts → (at : ℕ)
+      → check-parameters most P at ts ≡ passed
   unfolding check-parameters require
-  parameters-test declared-nil at = refl
-  parameters-test (declared-cons e d) at = rw e (parameters-test d (at + 1))
+  parameters-test most declared-nil at = refl
+  parameters-test most (declared-cons e d) at = rw e (parameters-test most d (at + 1))
 
   -- a class of the list has a declared number
   pub class-count : (k : ℕ) (c : Class) → class-at P k ≡ some c → leb k (length P) ≡ true
@@ -225,12 +253,12 @@ module _ (P : List Class) where
   class-count zero c e = absurd (Never e)
   class-count (suc k) c e = le-leb (suc k) (length P) (nth-lt P k c e)
 
-  effects-test : {last : ℕ} {cs : List ℕ} → EffectWell P last cs → (at : ℕ)
-      → check-effects of-check P last at cs ≡ passed
+  effects-test : (most : Most) {last : ℕ} {cs : List ℕ} → EffectWell P last cs → (at : ℕ)
+      → check-effects most P last at cs ≡ passed
   unfolding check-effects require is-root-class world
-  effects-test well-none at = refl
-  effects-test {last} (well-root {k} c h r l w) at =
-      rw (class-count k c h, h, r, lt-ltb last k l) (effects-test w (at + 1))
+  effects-test most well-none at = refl
+  effects-test most {last} (well-root {k} c h r l w) at =
+      rw (class-count k c h, h, r, lt-ltb last k l) (effects-test most w (at + 1))
 
   method-types : (k at : ℕ) (super : ℕ) (before : List Declaration) (m : Declaration)
       → MethodWell P k super before m → type-method (world P) k at m ≡ passed
@@ -248,28 +276,28 @@ module _ (P : List Class) where
   methods-types k super {before} (methods-cons {m} w ws) at =
       rw (method-types k at super before m w) (methods-types k super ws (at + method-lines m))
 
-  methods-test : (k super : ℕ) {before ms : List Declaration} → length P ≤ of-check .classes
-      → MethodsWell P k super before ms → (at : ℕ) → check-methods of-check P super before at ms ≡ passed
+  methods-test : (most : Most) (k super : ℕ) {before ms : List Declaration} → length P ≤ of-check .classes
+      → MethodsWell P k super before ms → (at : ℕ) → check-methods most P super before at ms ≡ passed
   unfolding check-methods bind-checked require
-  methods-test k super l methods-nil at = refl
-  methods-test k super l (methods-cons {m} w ws) at = rw (
+  methods-test most k super l methods-nil at = refl
+  methods-test most k super l (methods-cons {m} w ws) at = rw (
     w .result,
     w .name,
     override-test m _ l (w .effects) (w .overrides),
-    parameters-test (w .parameters) (at + 1),
-    effects-test (w .effects) (at + 1 + length (m .parameters)),
-  ) (methods-test k super l ws (at + method-lines m))
+    parameters-test most (w .parameters) (at + 1),
+    effects-test most (w .effects) (at + 1 + length (m .parameters)),
+  ) (methods-test most k super l ws (at + method-lines m))
 
-  classes-test : {k : ℕ} {cs : List Class} → length P ≤ of-check .classes → ClassesWell P k cs → (at : ℕ)
-      → check-classes of-check P k at cs ≡ passed
-  unfolding check-classes check-class bind-checked require
-  classes-test l classes-nil at = refl
-  classes-test {k} l (classes-cons {c} w ws) at = rw (
+  classes-test : (most : Most) {k : ℕ} {cs : List Class} → length P ≤ of-check .classes → ClassesWell P k cs
+      → Each (FieldsPass most) cs → (at : ℕ) → check-classes most P k at cs ≡ passed
+  unfolding check-classes check-class bind-checked require FieldsPass
+  classes-test most l classes-nil each-nil at = refl
+  classes-test most {k} l (classes-cons {c} w ws) (each-cons f fs) at = rw (
     lt-ltb (c .super) k (w .earlier),
     extends-test (w .kind),
-    fields-test (w .fields) (at + 1),
-    methods-test k (c .super) l (w .methods) (at + 1 + length (c .fields)),
-  ) (classes-test l ws (at + class-lines c))
+    f (at + 1),
+    methods-test most k (c .super) l (w .methods) (at + 1 + length (c .fields)),
+  ) (classes-test most l ws fs (at + class-lines c))
 
   classes-types : {k : ℕ} {cs : List Class} → ClassesWell P k cs → (at : ℕ)
       → type-classes (world P) k at cs ≡ passed
@@ -284,9 +312,18 @@ pub program-test : (p : Program) → length (p .classes) ≤ of-check .classes �
     → (headings of-check (p .classes) ≡ passed) × (bodies p ≡ passed)
 unfolding headings bodies bind-checked
 program-test p l w = (
-  classes-test (p .classes) l (w .classes) 1,
+  classes-test (p .classes) of-check l (w .classes) (all-fields-pass (p .classes) (w .classes)) 1,
   rw (
     classes-types (p .classes) (w .classes) 1,
     complete (world (p .classes)) (p .start) (w .start) (2 + classes-lines (p .classes)),
   ),
 )
+
+-- The pass over headings accepts them under other limits too, where no class has more fields than they allow.
+pub headings-test : (most : Most) (p : Program) → length (p .classes) ≤ of-check .classes → ProgramWell p
+    → Each (λ c. length (world (p .classes) .fields (c .super)) + length (c .fields) ≤ most .fields)
+    (p .classes)
+    → headings most (p .classes) ≡ passed
+unfolding headings
+headings-test most p l w few =
+    classes-test (p .classes) most l (w .classes) (few-fields-pass (p .classes) most (w .classes) few) 1

@@ -38,7 +38,7 @@ returns c =
     let the-translate-rows =
     c .before .before .before .before .before .before .before .before .before .before .translate-rows in
     let the-translated = c .before .before .before .before .before .before .translated in
-    both-run _ _ (the-translate-rows .ensures) _ (the-translated .given .1) (the-run-rows .ensures)
+    both-run _ _ (the-translate-rows .ensures) (the-run-rows .ensures) _ (the-translated .given .1)
     (c .before .before .run-plain .ensures)
 
 same-length-4 : tie.Need-same-length-4
@@ -50,7 +50,8 @@ same-length-5 c = search needs
 returns-2 : tie.Need-returns-2
 returns-2 c =
     let the-translate-rows = c .before .before .before .before .before .translate-rows in
-    both-refused _ _ (the-translate-rows .ensures) _ _ (c .before .translated2 .given .1)
+    let the-run-rows = c .before .before .before .before .before .before .before .before .before .run-rows in
+    both-refused _ _ (the-translate-rows .ensures) (the-run-rows .ensures) _ _ (c .before .translated2 .given .1)
 
 pub run-both-spec : {M : Type 1} → statement M
 run-both-spec =
