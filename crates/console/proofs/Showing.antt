@@ -7,7 +7,7 @@ use native.Mathlib.Omega.{arith}
 use borrow.Author.Tests.{le-leb, lt-leb, leb-true}
 use lib.Dec.{leb}
 use lib.ListN.{length, take, drop, replicate, length-append, length-drop}
-use lib.Seq.{sets, length-sets, take-append-seam}
+use lib.Seq.{sets, length-sets, length-take-le, take-append-seam}
 use Rattle.language.specs.Results.{Checked, accept, refuse, bind-checked, require, require-inv}
 use Rattle.language.specs.Filling.{answer, buffer}
 use Rattle.language.specs.declared.Filled.{Filled}
@@ -350,3 +350,38 @@ pub both-shown : (old mid new xs ys : List ℕ) (then r : ℕ) → then ≡ 0 + 
 both-shown old mid new xs ys then r p q u v h =
     shown old new (xs ++ ys) r (both-long 0 then r xs ys p q) h
     (v ∙ ap (λ (l : List ℕ). sets l then ys) u ∙ sets-then old 0 then xs ys p)
+
+-- ---- the text handed over to the lent output
+
+module _ (aside old : List ℕ) (n : ℕ) (within : n ≤ length aside) where
+  -- no room: nothing is written
+  pub handed-short : length old < n
+      → (Refused 13 0 ≡ answer 1 (accept (take n aside)) (length old))
+      × (old ≡ buffer (accept (take n aside)) old)
+  handed-short l =
+      let e : length (take n aside) ≡ n = length-take-le n aside within in
+      let t = lt-leb (length (take n aside)) (length old) (omega (arith, e, l)) in
+      (rw t, rw t)
+
+  -- copied: the text, then what was there past it
+  pub handed-done : n ≤ length old → (new : List ℕ) → new ≡ take n aside ++ drop n old
+      → (Done n ≡ answer 1 (accept (take n aside)) (length old))
+      × (new ≡ buffer (accept (take n aside)) old)
+  handed-done l new w =
+      let e : length (take n aside) ≡ n = length-take-le n aside within in
+      let t = le-leb (length (take n aside)) (length old) (omega (arith, e, l)) in
+      let d : length (take n aside) / 1 ≡ n = omega (arith, e) in
+      (rw (t, d), rw (t, e) w)
+
+-- what is handed over is what was to be printed
+pub handed-text : (aside text old new : List ℕ) (n : ℕ) (r : Filled) → take n aside ≡ text
+    → (r ≡ answer 1 (accept (take n aside)) (length old)) × (new ≡ buffer (accept (take n aside)) old)
+    → (r ≡ answer 1 (accept text) (length old)) × (new ≡ buffer (accept text) old)
+handed-text aside text old new n r e h = rw e at h
+
+-- the bytes that the answer counts are in the lent output
+pub counted-within : (m : Checked (List ℕ)) (old new : List ℕ) (r : Filled) (n : ℕ)
+    → (r ≡ answer 1 m (length old)) × (new ≡ buffer m old) → r ≡ Done n → n ≤ length new
+counted-within m old new r n h d =
+    let k = held-done 1 m old new n (ap length (h .1) ∙ buffer-long m old) (h .1) (sym (h .0) ∙ d) in
+    omega (arith, k .count, k .fits)

@@ -1,4 +1,6 @@
-// What the two programs print (document 01, "Worked programs").
+// What the two programs print (document 01, "Worked programs"). Callers use `translate_input` and `run_input`, which
+// take any input and a lent output of any length. The other functions write into 8,192 bytes held aside, which are
+// enough for every output.
 use language::Filled;
 use machine::End;
 use machine::Run;
@@ -9,6 +11,7 @@ ghost use mathlib.Core.List.{[], _∷_, _++_};
 ghost use Prim.Native.Nat.{_+_, _≤_};
 ghost use lib.ListN.{length, take};
 ghost use lib.Seq.{sets};
+ghost use Rattle.language.specs.Results.{accept};
 ghost use Rattle.language.specs.Filling.{answer, buffer};
 ghost use Rattle.text.specs.Texts.{write-rows};
 ghost use Rattle.console.specs.Printed.{refusal-text, counts-text, number-text, run-line, source-rows};
@@ -36,7 +39,7 @@ fn put_numbered(out: &mut [u8], at: usize, letter: u8, n: u32) -> usize
 }
 
 // Writes the line of a refusal.
-pub fn put_refusal(out: &mut [u8], at: usize, number: u32, line: u32) -> usize
+fn put_refusal(out: &mut [u8], at: usize, number: u32, line: u32) -> usize
     requires { ⌜ at + 24 ≤ length (now out) ⌝ }
     ensures { λ r. ⌜ (r ≡ at + length (refusal-text number line)) × (r ≤ at + 24)
         × (now (out .exit) ≡ sets (now (out .entry)) at (refusal-text number line)) ⌝ }
@@ -92,7 +95,7 @@ fn put_counts(out: &mut [u8], at: usize, steps: u32, objects: u32, changes: u32)
 }
 
 // Writes the line of a run.
-pub fn put_run(out: &mut [u8], at: usize, run: Run) -> usize
+fn put_run(out: &mut [u8], at: usize, run: Run) -> usize
     requires { ⌜ at + 46 ≤ length (now out) ⌝ }
     ensures { λ r. ⌜ (r ≡ at + length (ran-text run)) × (r ≤ at + 46)
         × (now (out .exit) ≡ sets (now (out .entry)) at (ran-text run)) ⌝ }
@@ -167,8 +170,8 @@ fn translate_source(rows: &[u32], out: &mut [u8]) -> usize
     }
 }
 
-// The translating program's output for an input.
-pub fn translate_input(input: &[u8], out: &mut [u8]) -> usize
+// Writes the translating program's output for an input into the bytes held aside, and returns its length.
+fn translate_held(input: &[u8], out: &mut [u8]) -> usize
     requires { ⌜ length (now out) ≡ 8192 ⌝ }
     ensures { λ r. ⌜ (take r (now (out .exit)) ≡ translate-output (now (input .entry))) ×
         (r ≤ length (now (out .exit))) ⌝ }
@@ -212,8 +215,8 @@ fn run_source(rows: &[u32], out: &mut [u8]) -> usize
     }
 }
 
-// The running program's output for an input.
-pub fn run_input(input: &[u8], out: &mut [u8]) -> usize
+// Writes the running program's output for an input into the bytes held aside, and returns its length.
+fn run_held(input: &[u8], out: &mut [u8]) -> usize
     requires { ⌜ length (now out) ≡ 8192 ⌝ }
     ensures { λ r. ⌜ (take r (now (out .exit)) ≡ run-output (now (input .entry))) ×
         (r ≤ length (now (out .exit))) ⌝ }
@@ -227,4 +230,41 @@ pub fn run_input(input: &[u8], out: &mut [u8]) -> usize
         }
         Filled::Refused(number, line) => put_refusal(out, 0, number, line),
     }
+}
+
+// Copies the first n bytes held aside to the lent output and returns n. Where they do not fit, returns refusal 13 and
+// writes nothing.
+fn hand_over(aside: &[u8], n: usize, out: &mut [u8]) -> Filled
+    requires { ⌜ n ≤ length (now aside) ⌝ }
+    ensures { λ r. ⌜ (r ≡ answer 1 (accept (take n (now (aside .entry)))) (length (now (out .entry))))
+        × (now (out .exit) ≡ buffer (accept (take n (now (aside .entry)))) (now (out .entry))) ⌝ }
+{
+    if out.len() < n {
+        return Filled::Refused(13, 0);
+    }
+    text::copy_bytes(aside, out, n);
+    Filled::Done(n)
+}
+
+// Writes the translating program's output for an input at the start of the lent output, and returns how many bytes that
+// is. Where it does not fit, returns refusal 13 and leaves the lent output unchanged.
+pub fn translate_input(input: &[u8], out: &mut [u8]) -> Filled
+    ensures { λ r. ⌜ (r ≡ answer 1 (accept (translate-output (now (input .entry))))
+        (length (now (out .entry))))
+        × (now (out .exit) ≡ buffer (accept (translate-output (now (input .entry)))) (now (out .entry))) ⌝ }
+{
+    let mut aside = [0u8; 8192];
+    let n = translate_held(input, &mut aside);
+    hand_over(&aside, n, out)
+}
+
+// Writes the running program's output for an input at the start of the lent output, and returns how many bytes that is.
+// Where it does not fit, returns refusal 13 and leaves the lent output unchanged.
+pub fn run_input(input: &[u8], out: &mut [u8]) -> Filled
+    ensures { λ r. ⌜ (r ≡ answer 1 (accept (run-output (now (input .entry)))) (length (now (out .entry))))
+        × (now (out .exit) ≡ buffer (accept (run-output (now (input .entry)))) (now (out .entry))) ⌝ }
+{
+    let mut aside = [0u8; 8192];
+    let n = run_held(input, &mut aside);
+    hand_over(&aside, n, out)
 }

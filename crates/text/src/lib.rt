@@ -321,7 +321,7 @@ fn format_rows(rows: &[u32], held: &mut [u8]) -> Filled
 }
 
 // Copies the first bytes of one buffer to another.
-fn copy_bytes(from: &[u8], to: &mut [u8], count: usize)
+pub fn copy_bytes(from: &[u8], to: &mut [u8], count: usize)
     requires { ⌜ (count ≤ length (now from)) × (count ≤ length (now to)) ⌝ }
     ensures { λ _. ⌜ now (to .exit) ≡ take count (now (from .entry)) ++ drop count (now (to .entry)) ⌝ }
 {

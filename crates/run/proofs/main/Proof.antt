@@ -1,7 +1,11 @@
 -- `run::main` meets its contract. Assumes nothing.
 use mathlib.Core.Path.{sym}
+use lib.ListN.{replicate}
 use lib.Seq.{length-take-le}
 use borrow.Author.Needs.{needs}
+use Rattle.language.specs.Results.{accept}
+use Rattle.console.specs.Printed.{run-output}
+use Rattle.console.proofs.Showing.{counted-within}
 use Rattle.run.proofs.main.Statement.{statement}
 use Rattle.run.proofs.main.Tie as tie
 
@@ -23,19 +27,35 @@ slice-aggregate-run-input-2 c = search needs
 run-input-requires : tie.Need-run-input-requires
 run-input-requires c κs = search needs
 
+enum-known-answer : tie.Need-enum-known-answer
+enum-known-answer c = search needs
+
+enum-told : tie.Need-enum-told
+enum-told c = search needs
+
+returns : tie.Need-returns
+returns c = search needs
+
 array-share-prefix-out : tie.Need-array-share-prefix-out
-array-share-prefix-out c = search needs
+array-share-prefix-out c =
+    let the-run-input = c .before .before .before .before .run-input in
+    let the-answer = c .before .answer in
+    counted-within (accept (run-output _)) (replicate 8192 0) (the-run-input .last .1 .0)
+    (the-run-input .result) (the-answer .given .0 .0) (the-run-input .ensures) (the-answer .given .1)
 
 slice-aggregate-write-all : tie.Need-slice-aggregate-write-all
 slice-aggregate-write-all c =
-    sym (length-take-le (c .before .before .run-input .result) (c .before .before .run-input .last .1 .0)
-    (c .before .before .run-input .ensures .1))
+    let the-run-input = c .before .before .before .before .before .run-input in
+    let the-answer = c .before .before .answer in
+    sym (length-take-le (the-answer .given .0 .0) (the-run-input .last .1 .0)
+    (counted-within (accept (run-output _)) (replicate 8192 0) (the-run-input .last .1 .0)
+    (the-run-input .result) (the-answer .given .0 .0) (the-run-input .ensures) (the-answer .given .1)))
 
 write-all-requires : tie.Need-write-all-requires
 write-all-requires c κs = search needs
 
-returns : tie.Need-returns
-returns c = search needs
+returns-2 : tie.Need-returns-2
+returns-2 c = search needs
 
 pub main-spec : {M : Type 1} → statement M
 main-spec =
@@ -47,7 +67,10 @@ main-spec =
     slice-aggregate-run-input
     slice-aggregate-run-input-2
     run-input-requires
+    enum-known-answer
+    enum-told
+    returns
     array-share-prefix-out
     slice-aggregate-write-all
     write-all-requires
-    returns)
+    returns-2)

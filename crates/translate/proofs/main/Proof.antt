@@ -1,7 +1,11 @@
 -- `translate::main` meets its contract. Assumes nothing.
 use mathlib.Core.Path.{sym}
+use lib.ListN.{replicate}
 use lib.Seq.{length-take-le}
 use borrow.Author.Needs.{needs}
+use Rattle.language.specs.Results.{accept}
+use Rattle.console.specs.Printed.{translate-output}
+use Rattle.console.proofs.Showing.{counted-within}
 use Rattle.translate.proofs.main.Statement.{statement}
 use Rattle.translate.proofs.main.Tie as tie
 
@@ -23,19 +27,37 @@ slice-aggregate-translate-input-2 c = search needs
 translate-input-requires : tie.Need-translate-input-requires
 translate-input-requires c κs = search needs
 
+enum-known-answer : tie.Need-enum-known-answer
+enum-known-answer c = search needs
+
+enum-told : tie.Need-enum-told
+enum-told c = search needs
+
+returns : tie.Need-returns
+returns c = search needs
+
 array-share-prefix-out : tie.Need-array-share-prefix-out
-array-share-prefix-out c = search needs
+array-share-prefix-out c =
+    let the-translate-input = c .before .before .before .before .translate-input in
+    let the-answer = c .before .answer in
+    counted-within (accept (translate-output _)) (replicate 8192 0) (the-translate-input .last .1 .0)
+    (the-translate-input .result) (the-answer .given .0 .0) (the-translate-input .ensures)
+    (the-answer .given .1)
 
 slice-aggregate-write-all : tie.Need-slice-aggregate-write-all
 slice-aggregate-write-all c =
-    sym (length-take-le (c .before .before .translate-input .result)
-    (c .before .before .translate-input .last .1 .0) (c .before .before .translate-input .ensures .1))
+    let the-translate-input = c .before .before .before .before .before .translate-input in
+    let the-answer = c .before .before .answer in
+    sym (length-take-le (the-answer .given .0 .0) (the-translate-input .last .1 .0)
+    (counted-within (accept (translate-output _)) (replicate 8192 0) (the-translate-input .last .1 .0)
+    (the-translate-input .result) (the-answer .given .0 .0) (the-translate-input .ensures)
+    (the-answer .given .1)))
 
 write-all-requires : tie.Need-write-all-requires
 write-all-requires c κs = search needs
 
-returns : tie.Need-returns
-returns c = search needs
+returns-2 : tie.Need-returns-2
+returns-2 c = search needs
 
 pub main-spec : {M : Type 1} → statement M
 main-spec =
@@ -47,7 +69,10 @@ main-spec =
     slice-aggregate-translate-input
     slice-aggregate-translate-input-2
     translate-input-requires
+    enum-known-answer
+    enum-told
+    returns
     array-share-prefix-out
     slice-aggregate-write-all
     write-all-requires
-    returns)
+    returns-2)
