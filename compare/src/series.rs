@@ -74,7 +74,7 @@ pub fn halves() -> [Vec<Series>; 2] {
 
 /// The cases of the files of vectors, without their expected answers.
 fn of_vectors() -> Vec<Case> {
-    let vectors = vectors::all().unwrap_or_default();
+    let vectors = vectors::all().expect("files of vectors");
     vectors
         .iter()
         .filter_map(|vector| match vector.service() {

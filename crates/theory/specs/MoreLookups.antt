@@ -71,7 +71,7 @@ place-named n (f ∷ fs) i e = go (eqb (f .name) n) refl (λ k q. place-named n 
     go false q ih e = bind-option-inv _ _ e λ k p e. subst Named (inj e) (ih k p)
 
 -- Where the pass over names accepts, it accepts the fields of each class.
-names-free-at : (at : ℕ) (cs : List Class) (u : Unit {0}) → names-free at cs ≡ accept u → (i : ℕ) (c : Class)
+pub names-free-at : (at : ℕ) (cs : List Class) (u : Unit {0}) → names-free at cs ≡ accept u → (i : ℕ) (c : Class)
     → nth cs i ≡ some c → (at′ : ℕ) × (v : Unit {0}) × (fields-free at′ (c .fields) ≡ accept v)
 unfolding names-free nth
 names-free-at at [] u q i c e = absurd (Never e)
@@ -81,11 +81,11 @@ names-free-at at (x ∷ cs) u q (suc i) c e = bind-checked-inv _ _ q λ v p q.
     names-free-at (at + class-lines x) cs u q i c e
 
 -- A field name other than the two reserved ones.
-Free : Field → Type 0
+unfoldable pub Free : Field → Type 0
 Free f = (eqb id-field (f .name) ≡ false) × (eqb imp-field (f .name) ≡ false)
 
 -- Where it accepts fields, none has a reserved name.
-fields-are-free : (at : ℕ) (fs : List Field) (u : Unit {0}) → fields-free at fs ≡ accept u → Each Free fs
+pub fields-are-free : (at : ℕ) (fs : List Field) (u : Unit {0}) → fields-free at fs ≡ accept u → Each Free fs
 unfolding fields-free Free
 fields-are-free at [] u q = each-nil
 fields-are-free at (f ∷ fs) u q = require-inv _ _ _ _ q λ e q.

@@ -4,15 +4,15 @@ use mathlib.Core.Path.{_≡_, refl, sym, ap, _∙_, subst}
 use mathlib.Core.Logic.{_↔_}
 use mathlib.Core.Option.{some}
 use Prim.Native.Nat.{ℕ, zero, suc, _+_, _≤_}
-use mathlib.Core.Bool.{Bool, true, false, cond, not, _||_}
+use mathlib.Core.Bool.{Bool, true, false, cond}
 use mathlib.Core.List.{List, [], _∷_, map}
-use lib.Dec.{eqb, ltb}
+use lib.Dec.{ltb}
 use borrow.Author.Tests.{eq-eqb, ne-eqb}
 use native.Mathlib.Omega.{arith}
 use Rattle.language.specs.Limits.{Most, of-check, of-translator, id-field, imp-field}
 use Rattle.language.specs.Lists.{nth}
 use Rattle.language.specs.Results.{Checked, accept, refuse, Pass, passed, earlier, bind-checked, require}
-use Rattle.language.specs.Results.{bind-checked-inv, require-inv, accept-injective, accept≢refuse}
+use Rattle.language.specs.Results.{bind-checked-inv, accept-injective, accept≢refuse}
 use Rattle.language.specs.Rows.{row-of, rows-of, numbers-of}
 use Rattle.language.specs.Tree.{Expr, literal-true, literal-false, literal-null, slot, is-null, get, cast}
 use Rattle.language.specs.Tree.{new, change, assign, set, call, choose, block, Exprs, nil, cons, Declaration}
@@ -32,7 +32,8 @@ use Rattle.theory.specs.Whole.{form-flat}
 use Rattle.theory.specs.WholeBack.{form-back}
 use Rattle.theory.specs.Accepts.{RowsOf, rows-of-numbers, check-accepts}
 use Rattle.theory.specs.WellEqual.{headings-test}
-use Rattle.theory.specs.MoreLookups.{TranslatorLaws, translatable-laws, check-classes-few}
+use Rattle.theory.specs.MoreLookups.{TranslatorLaws, translatable-laws, check-classes-few, Free}
+use Rattle.theory.specs.MoreLookups.{names-free-at, fields-are-free}
 use Rattle.theory.specs.Endings.{Unreserved, Translatable, plain-numbers, TranslatesTo}
 
 -- Limits of form of which the first are nowhere above the second.
@@ -195,29 +196,18 @@ unfolding nth
 each-of-nth [] f = each-nil
 each-of-nth (a ∷ l) f = each-cons (f 0 a refl) (each-of-nth l λ i b e. f (suc i) b e)
 
--- Where the pass over names accepts fields, none has a reserved name, and the other way round.
-fields-unreserved : (at : ℕ) (fs : List Field) (u : Unit {0}) → fields-free at fs ≡ accept u → Each Unreserved fs
-unfolding fields-free
-fields-unreserved at [] u q = each-nil
-fields-unreserved at (f ∷ fs) u q = require-inv _ _ _ _ q λ e q.
-    each-cons (free (eqb (f .name) id-field) refl (eqb (f .name) imp-field) refl e)
-    (fields-unreserved (at + 1) fs u q)
-  where
-    free : (a : Bool) → eqb (f .name) id-field ≡ a → (b : Bool) → eqb (f .name) imp-field ≡ b
-        → not (a || b) ≡ true → Unreserved f
-    free true p b q e = false≢ e
-    free false p true q e = false≢ e
-    free false p false q e = record {
-      not-id = λ h. false≢ (sym p ∙ eq-eqb (f .name) id-field h);
-      not-imp = λ h. false≢ (sym q ∙ eq-eqb (f .name) imp-field h);
-    }
+-- Where the pass over names accepts, no field has a reserved name, and the other way round.
+free-unreserved : (f : Field) → Free f → Unreserved f
+unfolding Free
+free-unreserved f r = record {
+  not-id = λ h. false≢ (sym (r .0) ∙ eq-eqb id-field (f .name) (sym h));
+  not-imp = λ h. false≢ (sym (r .1) ∙ eq-eqb imp-field (f .name) (sym h));
+}
 
-classes-unreserved : (at : ℕ) (cs : List Class) (u : Unit {0}) → names-free at cs ≡ accept u
+classes-unreserved : (cs : List Class) (u : Unit {0}) → names-free 1 cs ≡ accept u
     → Each (λ (c : Class). Each Unreserved (c .fields)) cs
-unfolding names-free
-classes-unreserved at [] u q = each-nil
-classes-unreserved at (c ∷ cs) u q = bind-checked-inv _ _ q λ v p q.
-    each-cons (fields-unreserved (at + 1) (c .fields) v p) (classes-unreserved (at + class-lines c) cs u q)
+classes-unreserved cs u q = each-of-nth cs λ i c e. let x = names-free-at 1 cs u q i c e in
+    each-map free-unreserved (fields-are-free (x .0) (c .fields) (x .1) (x .2))
 
 unreserved-fields : (at : ℕ) {fs : List Field} → Each Unreserved fs → fields-free at fs ≡ passed
 unfolding fields-free require
@@ -245,7 +235,7 @@ taken-translatable ns p r = record {
   few-fields = each-of-nth (p .classes) λ i c e.
       check-classes-few of-translator (p .classes) 1 1 (p .classes) tt (r .few-fields) i c e
       (taken-laws ns p r .few (c .super));
-  unreserved = classes-unreserved 1 (p .classes) tt (r .unreserved);
+  unreserved = classes-unreserved (p .classes) tt (r .unreserved);
 }
 
 -- The rows of a well-formed program that is within the translator's limits are translated.
