@@ -4,8 +4,8 @@
   tools/tidy.py CRATE...    drop imported names that a file does not mention, and break lines over 110 characters
                             in specs/, in proofs/ and in the contracts of src/; then run `rt fmt`
 
-A line is broken where the nesting is least, before an arrow or an operator rather than between arguments, and inside a path
-only where there is no other place. `tools/proofs.py short` comes first: it names long paths. Run from the repository's root.
+A line is broken where the nesting is least, before an arrow or an operator rather than between arguments, never inside a quoted
+text, and inside a path only where there is no other place. `tools/proofs.py short` comes first: it names long paths. Run from the repository's root.
 """
 import glob
 import re
@@ -78,7 +78,8 @@ def places(line, first):
     for space in re.finditer(r'(?<! ) (?=\S)', line):
         at = space.start()
         before, after = line[:at], line[at + 1:]
-        if first < at <= LIMIT and not NEVER_AFTER.search(before):
+        quoted = before.count('"') % 2 == 1
+        if first < at <= LIMIT and not quoted and not NEVER_AFTER.search(before):
             if not NEVER_BEFORE.match(after):
                 yield depths[at], rank(before, after), at
             elif after.startswith('.before'):

@@ -1,28 +1,29 @@
 -- From what the services answer to what the programs print. Assumes nothing.
 use mathlib.Core.Path.{_≡_, refl, sym, ap, _∙_}
-use mathlib.Core.Bool.{Bool, true, false, cond}
+use mathlib.Core.Bool.{Bool, true, false}
 use mathlib.Core.List.{List, _++_}
 use Prim.Native.Nat.{ℕ, _+_, _*_, _/_, _%_, _≤_, _<_}
 use native.Mathlib.Omega.{arith}
-use borrow.Author.Tests.{le-leb, lt-leb, leb-true}
+use borrow.Author.Tests.{le-leb, lt-leb}
 use lib.Dec.{leb}
-use lib.ListN.{length, take, drop, replicate, length-append, length-drop}
-use lib.Seq.{sets, length-sets, length-take-le, take-append-seam}
+use lib.ListN.{length, take, drop, replicate}
+use lib.Seq.{sets, length-sets, length-take-le}
 use Rattle.language.specs.Results.{Checked, accept, refuse, bind-checked, require, require-inv}
-use Rattle.language.specs.Filling.{answer, buffer}
+use Rattle.language.specs.Filling.{held, filled, overwritten, answer, buffer}
 use Rattle.language.specs.declared.Filled.{Filled}
 use Rattle.language.specs.declared.Filled.the-variants.{Done, Refused}
 use Rattle.language.specs.Evaluation.{null, truth, object, raised, spent, deep, full, stuck}
 use Rattle.language.specs.Store.{Answer, gave, ended, refused, ran, run-of}
-use Rattle.language.specs.Translation.{translation, translation-into}
-use Rattle.language.proofs.Filling.{take-sets, sets-then}
+use Rattle.language.specs.Translation.{translation}
+use Rattle.language.proofs.Filling.{take-sets, sets-then, held-inv, held-again, answer-fits, answer-short}
+use Rattle.language.proofs.Filling.{answer-refused, answer-refused-inv, answer-done-inv, buffer-long}
 use Rattle.theory.specs.Translatable.{translation-takes}
 use Rattle.theory.specs.Accepts.{numbers-whole}
-use Rattle.text.specs.Texts.{read-text, write-rows}
+use Rattle.language.specs.Texts.{read-text, write-rows}
 use Rattle.text.proofs.Parsing.{read-whole-rows}
 use Rattle.runner.specs.Answers.{answer-told}
-use Rattle.console.specs.Printed.{refusal-text, run-text, run-line, held, source-rows, printed}
-use Rattle.console.specs.Printed.{plain-text, run-lines, translate-output, run-output}
+use Rattle.language.specs.Printed.{refusal-text, run-text, run-line, source-rows, printed}
+use Rattle.language.specs.Printed.{plain-text, run-lines, translate-output, run-output}
 use Rattle.console.specs.Told.{answer-text}
 use Rattle.console.proofs.Writing.{both-long}
 
@@ -55,61 +56,12 @@ shown old new text r p h w =
     let e : r ≡ length text = omega (arith, p) in
     (rw (w, e) (take-sets old text (omega (arith, h, e))), rw w (omega (arith, h, length-sets old 0 text)))
 
--- a refused answer
-pub held-refused : (width room : ℕ) (m : Checked (List ℕ)) (n l : ℕ) → answer width m room ≡ Refused n l
-    → held room m ≡ refuse n l
-unfolding held require
-held-refused width room (accept xs) n l e = go (leb (length xs) room) e
-  where
-    go : (t : Bool) → cond t (Done (length xs / width)) (Refused 13 0) ≡ Refused n l
-        → require t 13 0 (λ _. accept xs) ≡ refuse n l
-    go true e = let z : _≡_ {A = ℕ} 0 1 = cc in absurd (omega arith)
-    go false e = let p : 13 ≡ n = cc in let q : 0 ≡ l = cc in rw (← p, ← q)
-held-refused width room (refuse k j) n l e = let p : k ≡ n = cc in let q : j ≡ l = cc in rw (p, q)
-
--- an answer that all is written
-pub record Made (width : ℕ) (m : Checked (List ℕ)) (new : List ℕ) (n : ℕ) : Type 0 where
-  pub numbers : List ℕ
-  pub is : held (length new) m ≡ accept numbers
-  pub made : m ≡ accept numbers
-  pub count : n ≡ length numbers / width
-  pub fits : length numbers ≤ length new
-  pub first : take (length numbers) new ≡ numbers
-
-pub held-done : (width : ℕ) (m : Checked (List ℕ)) (old new : List ℕ) (n : ℕ) → length new ≡ length old
-    → new ≡ buffer m old
-    → answer width m (length old) ≡ Done n → Made width m new n
-unfolding held require
-held-done width (accept xs) old new n h w e = go (leb (length xs) (length old)) refl w e
-  where
-    go : (t : Bool) → leb (length xs) (length old) ≡ t → new ≡ cond t (xs ++ drop (length xs) old) old
-        → cond t (Done (length xs / width)) (Refused 13 0) ≡ Done n → Made width (accept xs) new n
-    go true q w e = let k : length xs / width ≡ n = cc in record {
-      numbers = xs;
-      is = rw (h, q);
-      made = refl;
-      count = sym k;
-      fits = omega (arith, h, leb-true (length xs) (length old) q);
-      first = rw w (take-append-seam xs (drop (length xs) old));
-    }
-    go false q w e = let z : _≡_ {A = ℕ} 0 1 = cc in absurd (omega arith)
-held-done width (refuse k j) old new n h w e = let z : _≡_ {A = ℕ} 0 1 = cc in absurd (omega arith)
-
--- a lent buffer keeps its length
-pub buffer-long : (m : Checked (List ℕ)) (old : List ℕ) → length (buffer m old) ≡ length old
-buffer-long (accept xs) old = go (leb (length xs) (length old)) refl
-  where
-    go : (t : Bool) → leb (length xs) (length old) ≡ t
-        → length (cond t (xs ++ drop (length xs) old) old) ≡ length old
-    go true e = omega (
-      arith,
-      length-append xs (drop (length xs) old),
-      length-drop (length xs) old,
-      leb-true
-          (length xs) (length old) e,
-    )
-    go false e = refl
-buffer-long (refuse n l) old = refl
+-- the refusal that was answered is that of what is held
+held-refused : (width room : ℕ) (m : Checked (List ℕ)) (old : List ℕ) (r : Filled) (n l : ℕ)
+    → length old ≡ room
+    → r ≡ answer width m (length old) → r ≡ Refused n l → held room m ≡ refuse n l
+held-refused width room m old r n l h a d = ap (λ (k : ℕ). held k m) (sym h)
+    ∙ answer-refused-inv width (length old) m n l (sym a ∙ d)
 
 -- n rows stand first in a buffer
 pub record RowsMade (m : Checked (List ℕ)) (new : List ℕ) (n : ℕ) : Type 0 where
@@ -124,44 +76,14 @@ rows-made : (room : ℕ) (m : Checked (List ℕ)) (old new : List ℕ) (r : Fill
     → length old ≡ room → r ≡ answer 4 m (length old) → new ≡ buffer m old → r ≡ Done n
     → RowsMade (held room m) new n
 rows-made room m old new r n whole h a w d =
-    let long : length new ≡ length old = ap length w ∙ buffer-long m old in
-    let k = held-done 4 m old new n long w (sym a ∙ d) in
+    let k = answer-done-inv 4 m old new n (sym a ∙ d) w in
     let e : n * 4 ≡ length (k .numbers) = omega (arith, k .count, whole (k .numbers) (k .made)) in
-    let q : length new ≡ room = long ∙ h in
     record {
       numbers = k .numbers;
-      is = ap (λ (x : ℕ). held x m) (sym q) ∙ k .is;
-      place = omega (arith, e, k .fits);
+      is = ap (λ (x : ℕ). held x m) (sym h) ∙ k .is;
+      place = omega (arith, e, k .fits, ap length w ∙ buffer-long m old);
       first = rw e (k .first);
     }
-
--- what is held once is held twice
-held-inv : (room : ℕ) (m : Checked (List ℕ)) (xs : List ℕ) → held room m ≡ accept xs → m ≡ accept xs
-unfolding held
-held-inv room (accept ys) xs e = require-inv (leb (length ys) room) 13 0 (λ _. accept ys) e λ t f. f
-held-inv room (refuse n l) xs e = e
-
-pub answer-held : (width room : ℕ) (m : Checked (List ℕ))
-    → answer width (held room m) room ≡ answer width m room
-unfolding held require
-answer-held width room (accept xs) = go (leb (length xs) room) refl
-  where
-    go : (t : Bool) → leb (length xs) room ≡ t
-        → answer width (require t 13 0 (λ _. accept xs)) room
-        ≡ cond t (Done (length xs / width)) (Refused 13 0)
-    go true e = rw e
-    go false e = refl
-answer-held width room (refuse n l) = refl
-
-pub buffer-held : (m : Checked (List ℕ)) (old : List ℕ) → buffer (held (length old) m) old ≡ buffer m old
-unfolding held require
-buffer-held (accept xs) old = go (leb (length xs) (length old)) refl
-  where
-    go : (t : Bool) → leb (length xs) (length old) ≡ t
-        → buffer (require t 13 0 (λ _. accept xs)) old ≡ cond t (xs ++ drop (length xs) old) old
-    go true e = rw e
-    go false e = refl
-buffer-held (refuse n l) old = refl
 
 -- ---- the source
 
@@ -176,63 +98,52 @@ source-read input h = rw (le-leb (length input) 8192 h)
 module _ (input old : List ℕ) (h : length old ≡ 2720) where
   pub source-refused : 8192 < length input
       → (Refused 13 0 ≡ answer 4 (source-rows input) (length old)) × (old ≡ buffer (source-rows input) old)
-  source-refused l = (rw (source-long input l), rw (source-long input l))
+  source-refused l = answer-refused 4 13 0 old (source-long input l)
 
   source-held : length input ≤ 8192 → source-rows input ≡ held (length old) (read-text input)
   source-held l = source-read input l ∙ rw h
 
   pub source-answer : length input ≤ 8192
       → answer 4 (read-text input) (length old) ≡ answer 4 (source-rows input) (length old)
-  source-answer l = rw (source-held l) (sym (answer-held 4 (length old) (read-text input)))
+  source-answer l = rw (source-held l) (ap (filled 4) (sym (held-again (length old) (read-text input))))
 
   pub source-buffer : length input ≤ 8192 → buffer (read-text input) old ≡ buffer (source-rows input) old
-  source-buffer l = rw (source-held l) (sym (buffer-held (read-text input) old))
+  source-buffer l = rw (source-held l)
+      (ap (λ (c : Checked (List ℕ)). overwritten c old) (sym (held-again (length old) (read-text input))))
 
 pub source-whole : (input xs : List ℕ) → source-rows input ≡ accept xs → length xs % 4 ≡ 0
 unfolding source-rows
 source-whole input xs e =
     require-inv (leb (length input) 8192) 13 0 (λ _. held 2720 (read-text input)) e λ t f.
-    read-whole-rows input xs (held-inv 2720 (read-text input) xs f)
+    read-whole-rows input xs (held-inv 2720 (read-text input) xs f .0)
+
+-- the rows of an input are held already
+source-again : (input : List ℕ) → held 2720 (source-rows input) ≡ source-rows input
+unfolding source-rows require
+source-again input = go (leb (length input) 8192)
+  where
+    go : (t : Bool) → held 2720 (require t 13 0 (λ _. held 2720 (read-text input)))
+        ≡ require t 13 0 (λ _. held 2720 (read-text input))
+    go true = held-again 2720 (read-text input)
+    go false = refl
 
 -- ---- the plain program
-
-pub into-held : (room : ℕ) (rows : List ℕ) → translation-into room rows ≡ held room (translation rows)
-unfolding translation-into bind-checked held
-into-held room rows = go (translation rows)
-  where
-    go : (m : Checked (List ℕ))
-        → bind-checked m (λ out. require (leb (length out) room) 13 0 (λ _. accept out)) ≡ held room m
-    go (accept xs) = refl
-    go (refuse n l) = refl
 
 pub translation-whole : (rows xs : List ℕ) → translation rows ≡ accept xs → length xs % 4 ≡ 0
 translation-whole rows xs e = let k = translation-takes rows xs e in rw (k .2) (numbers-whole _)
 
-into-refused : (rows old : List ℕ) (r : Filled) (n l : ℕ) → length old ≡ 4000
-    → r ≡ answer 4 (translation rows) (length old) → r ≡ Refused n l
-    → translation-into 4000 rows ≡ refuse n l
-into-refused rows old r n l h a d = into-held 4000 rows
-    ∙ held-refused 4 4000 (translation rows) n l (ap (answer 4 (translation rows)) (sym h) ∙ sym a ∙ d)
-
 module _ (rows old new : List ℕ) (r : Filled) (n : ℕ) (h : length old ≡ 4000)
     (a : r ≡ answer 4 (translation rows) (length old)) (w : new ≡ buffer (translation rows) old)
     (d : r ≡ Done n) where
-  pub plain-made : RowsMade (translation-into 4000 rows) new n
-  plain-made = rw (into-held 4000 rows) (rows-made 4000 (translation rows) old new r n
-      (translation-whole rows) h a w d)
+  pub plain-made : RowsMade (held 4000 (translation rows)) new n
+  plain-made = rows-made 4000 (translation rows) old new r n (translation-whole rows) h a w d
 
 module _ (input old new : List ℕ) (r : Filled) (n : ℕ) (h : length old ≡ 2720)
     (a : r ≡ answer 4 (source-rows input) (length old)) (w : new ≡ buffer (source-rows input) old)
     (d : r ≡ Done n) where
   pub source-made : RowsMade (source-rows input) new n
-  source-made =
-      let k = rows-made 2720 (source-rows input) old new r n (source-whole input) h a w d in
-      record {
-        numbers = k .numbers;
-        is = held-inv 2720 (source-rows input) (k .numbers) (k .is);
-        place = k .place;
-        first = k .first;
-      }
+  source-made = rw (source-again input)
+      at (rows-made 2720 (source-rows input) old new r n (source-whole input) h a w d)
 
 -- ---- what is printed
 
@@ -249,7 +160,7 @@ unfolding bind-checked
 refused-shown m k t n l e q = q ∙ sym (ap (λ (x : Checked (List ℕ)). printed (bind-checked x k)) e)
 
 -- the two programs, from the rows on
-module _ (rows new : List ℕ) (n : ℕ) (g : RowsMade (translation-into 4000 rows) new n) (t : List ℕ) where
+module _ (rows new : List ℕ) (n : ℕ) (g : RowsMade (held 4000 (translation rows)) new n) (t : List ℕ) where
   pub plain-shown : t ≡ printed (held 8192 (write-rows (take (n * 4) new))) → t ≡ printed (plain-text rows)
   unfolding plain-text
   plain-shown e = next-shown g (λ plain. held 8192 (write-rows plain)) t e
@@ -263,13 +174,14 @@ module _ (rows old : List ℕ) (r : Filled) (n l : ℕ) (h : length old ≡ 4000
     (e : t ≡ refusal-text n l) where
   pub plain-refused : t ≡ printed (plain-text rows)
   unfolding plain-text
-  plain-refused = refused-shown (translation-into 4000 rows) (λ plain. held 8192 (write-rows plain)) t n l
-      (into-refused rows old r n l h a d) e
+  plain-refused = refused-shown (held 4000 (translation rows)) (λ plain. held 8192 (write-rows plain)) t n l
+      (held-refused 4 4000 (translation rows) old r n l h a d) e
 
   pub run-refused : t ≡ printed (run-lines rows)
   unfolding run-lines
-  run-refused = refused-shown (translation-into 4000 rows) (λ plain. accept (run-line rows ++ run-line plain))
-      t n l (into-refused rows old r n l h a d) e
+  run-refused = refused-shown (held 4000 (translation rows))
+      (λ plain. accept (run-line rows ++ run-line plain))
+      t n l (held-refused 4 4000 (translation rows) old r n l h a d) e
 
 -- the two programs, from the input on
 module _ (input new : List ℕ) (n : ℕ) (g : RowsMade (source-rows input) new n) (t : List ℕ) where
@@ -281,33 +193,12 @@ module _ (input new : List ℕ) (n : ℕ) (g : RowsMade (source-rows input) new 
   unfolding run-output
   output-shown e = next-shown g (λ rows. run-lines rows) t e
 
--- what is held fits, so a refusal of it is the source's own
-held-fits : (room : ℕ) (m : Checked (List ℕ)) (xs : List ℕ) → held room m ≡ accept xs
-    → leb (length xs) room ≡ true
-unfolding held
-held-fits room (accept ys) xs e = require-inv (leb (length ys) room) 13 0 (λ _. accept ys) e λ t f.
-    let q : ys ≡ xs = cc in rw (← q) t
-held-fits room (refuse n l) xs e = let z : _≡_ {A = ℕ} 0 1 = cc in absurd (omega arith)
-
-source-fits : (input xs : List ℕ) → source-rows input ≡ accept xs → leb (length xs) 2720 ≡ true
-unfolding source-rows
-source-fits input xs e =
-    require-inv (leb (length input) 8192) 13 0 (λ _. held 2720 (read-text input)) e λ t f.
-    held-fits 2720 (read-text input) xs f
-
+-- a refusal of what is held is the source's own
 source-refuse : (input old : List ℕ) (r : Filled) (n l : ℕ) → length old ≡ 2720
     → r ≡ answer 4 (source-rows input) (length old) → r ≡ Refused n l
     → source-rows input ≡ refuse n l
-unfolding held require
 source-refuse input old r n l h a d =
-    go (source-rows input) refl
-    (held-refused 4 2720 (source-rows input) n l (ap (answer 4 (source-rows input)) (sym h) ∙ sym a ∙ d))
-  where
-    go : (m : Checked (List ℕ)) → source-rows input ≡ m → held 2720 m ≡ refuse n l
-        → source-rows input ≡ refuse n l
-    go (accept xs) q e = let f : accept xs ≡ refuse n l = rw (source-fits input xs q) at e in
-        let z : _≡_ {A = ℕ} 0 1 = cc in absurd (omega arith)
-    go (refuse k j) q e = q ∙ e
+    sym (source-again input) ∙ held-refused 4 2720 (source-rows input) old r n l h a d
 
 module _ (input old : List ℕ) (r : Filled) (n l : ℕ) (h : length old ≡ 2720)
     (a : r ≡ answer 4 (source-rows input) (length old)) (d : r ≡ Refused n l) (t : List ℕ)
@@ -328,20 +219,18 @@ module _ (plain old new : List ℕ) (r : Filled) (h : length old ≡ 8192)
   pub rows-shown : (n : ℕ) → r ≡ Done n
       → (take n new ≡ printed (held 8192 (write-rows plain))) × (n ≤ length new)
   rows-shown n d =
-      let long : length new ≡ length old = ap length w ∙ buffer-long (write-rows plain) old in
-      let k = held-done 1 (write-rows plain) old new n long w (sym a ∙ d) in
-      let e : n ≡ length (k .numbers) = omega (arith, k .count) in
-      let q : length new ≡ 8192 = long ∙ h in (
+      let k = answer-done-inv 1 (write-rows plain) old new n (sym a ∙ d) w in
+      let e : n ≡ length (k .numbers) = omega (arith, k .count) in (
         rw e (k .first ∙ sym (ap (λ (x : Checked (List ℕ)). printed x)
-            (ap (λ (x : ℕ). held x (write-rows plain)) (sym q) ∙ k .is))),
-        omega (arith, e, k .fits),
+            (ap (λ (x : ℕ). held x (write-rows plain)) (sym h) ∙ k .is))),
+        omega (arith, e, k .fits, ap length w ∙ buffer-long (write-rows plain) old),
       )
 
   pub rows-refused : (n l : ℕ) → r ≡ Refused n l → (t : List ℕ) → t ≡ refusal-text n l
       → t ≡ printed (held 8192 (write-rows plain))
   rows-refused n l d t e = e
       ∙ sym (ap (λ (x : Checked (List ℕ)). printed x)
-      (held-refused 1 8192 (write-rows plain) n l (ap (answer 1 (write-rows plain)) (sym h) ∙ sym a ∙ d)))
+      (held-refused 1 8192 (write-rows plain) old r n l h a d))
 
 -- two lines, one after the other
 pub both-shown : (old mid new xs ys : List ℕ) (then r : ℕ) → then ≡ 0 + length xs → r ≡ then + length ys
@@ -358,10 +247,7 @@ module _ (aside old : List ℕ) (n : ℕ) (within : n ≤ length aside) where
   pub handed-short : length old < n
       → (Refused 13 0 ≡ answer 1 (accept (take n aside)) (length old))
       × (old ≡ buffer (accept (take n aside)) old)
-  handed-short l =
-      let e : length (take n aside) ≡ n = length-take-le n aside within in
-      let t = lt-leb (length (take n aside)) (length old) (omega (arith, e, l)) in
-      (rw t, rw t)
+  handed-short l = answer-short 1 (take n aside) old (omega (arith, length-take-le n aside within, l))
 
   -- copied: the text, then what was there past it
   pub handed-done : n ≤ length old → (new : List ℕ) → new ≡ take n aside ++ drop n old
@@ -369,9 +255,9 @@ module _ (aside old : List ℕ) (n : ℕ) (within : n ≤ length aside) where
       × (new ≡ buffer (accept (take n aside)) old)
   handed-done l new w =
       let e : length (take n aside) ≡ n = length-take-le n aside within in
-      let t = le-leb (length (take n aside)) (length old) (omega (arith, e, l)) in
-      let d : length (take n aside) / 1 ≡ n = omega (arith, e) in
-      (rw (t, d), rw (t, e) w)
+      let a = answer-fits 1 (take n aside) old (omega (arith, e, l)) in
+      let d : n ≡ length (take n aside) / 1 = omega (arith, e) in
+      (ap Done d ∙ a .0, w ∙ ap (λ (k : ℕ). take n aside ++ drop k old) (sym e) ∙ a .1)
 
 -- what is handed over is what was to be printed
 pub handed-text : (aside text old new : List ℕ) (n : ℕ) (r : Filled) → take n aside ≡ text
@@ -383,5 +269,5 @@ handed-text aside text old new n r e h = rw e at h
 pub counted-within : (m : Checked (List ℕ)) (old new : List ℕ) (r : Filled) (n : ℕ)
     → (r ≡ answer 1 m (length old)) × (new ≡ buffer m old) → r ≡ Done n → n ≤ length new
 counted-within m old new r n h d =
-    let k = held-done 1 m old new n (ap length (h .1) ∙ buffer-long m old) (h .1) (sym (h .0) ∙ d) in
-    omega (arith, k .count, k .fits)
+    let k = answer-done-inv 1 m old new n (sym (h .0) ∙ d) (h .1) in
+    omega (arith, k .count, k .fits, ap length (h .1) ∙ buffer-long m old)

@@ -10,9 +10,9 @@ use lib.Dec.{ltb}
 use lib.ListN.{length, set, length-append}
 use lib.Seq.{sets}
 use Rattle.language.proofs.Filling.{sets-then}
-use Rattle.text.specs.Decimals.{digits}
+use Rattle.language.specs.Decimals.{digits}
 use Rattle.text.proofs.Decimals.{length-low, length-high}
-use Rattle.console.specs.Printed.{number-text, refusal-text, counts-text}
+use Rattle.language.specs.Printed.{number-text, refusal-text, counts-text}
 
 -- ten digits are enough for a number of 32 bits
 abbrev tens : ℕ → ℕ

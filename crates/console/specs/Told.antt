@@ -9,7 +9,7 @@ use Rattle.machine.specs.declared.End.the-variants.{Gave, Raised, Stopped}
 use Rattle.machine.specs.declared.Run.{Run}
 use Rattle.runner.specs.declared.Answer.{Answer}
 use Rattle.runner.specs.declared.Answer.the-variants.{Refused, Ran}
-use Rattle.console.specs.Printed.{number-text, counts-text, refusal-text}
+use Rattle.language.specs.Printed.{number-text, counts-text, refusal-text}
 
 abbrev pub value-text : Value → List ℕ
 value-text Null = 78 ∷ []

@@ -12,11 +12,11 @@ ghost use Prim.Native.Nat.{_+_, _≤_};
 ghost use lib.ListN.{length, take};
 ghost use lib.Seq.{sets};
 ghost use Rattle.language.specs.Results.{accept};
-ghost use Rattle.language.specs.Filling.{answer, buffer};
-ghost use Rattle.text.specs.Texts.{write-rows};
-ghost use Rattle.console.specs.Printed.{refusal-text, counts-text, number-text, run-line, source-rows};
-ghost use Rattle.console.specs.Printed.{held, printed, plain-text, run-lines, translate-output};
-ghost use Rattle.console.specs.Printed.{run-output};
+ghost use Rattle.language.specs.Filling.{held, answer, buffer};
+ghost use Rattle.language.specs.Texts.{write-rows};
+ghost use Rattle.language.specs.Printed.{refusal-text, counts-text, number-text, run-line, source-rows};
+ghost use Rattle.language.specs.Printed.{printed, plain-text, run-lines, translate-output};
+ghost use Rattle.language.specs.Printed.{run-output};
 ghost use Rattle.console.specs.Told.{value-text, end-text, ran-text, answer-text};
 
 // Writes a letter at a place, and answers the place after it.

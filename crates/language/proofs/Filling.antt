@@ -1,16 +1,18 @@
 -- What a count of the numbers to write tells of the answer and the buffer. Assumes nothing.
 use mathlib.Core.Path.{_≡_, refl, sym, ap, _∙_}
-use mathlib.Core.Bool.{true, false, false≢true}
+use mathlib.Core.Bool.{Bool, true, false, cond, false≢true}
 use mathlib.Core.List.{List, [], _∷_, _++_}
 use Prim.Native.Nat.{ℕ, suc, _+_, _/_, _≤_, _<_}
 use native.Mathlib.Numerals.{add-one}
 use native.Mathlib.Omega.{arith}
-use borrow.Author.Tests.{le-leb, lt-leb}
+use borrow.Author.Tests.{le-leb, lt-leb, leb-true}
+use lib.Dec.{leb}
 use lib.ListN.{length, getD, take, drop, set, replicate, length-append, length-drop, length-replicate}
 use lib.Seq.{sets, sets-eq, length-sets, length-take-le, take-append-seam, take-suc, drop-cons, set-at}
 use lib.Seq.{append-snoc}
 use Rattle.language.specs.Results.{Checked, accept, refuse}
-use Rattle.language.specs.Filling.{before, answer, buffer, tally, is-made, made-numbers}
+use Rattle.language.specs.Filling.{before, held, filled, overwritten, answer, buffer, tally, is-made}
+use Rattle.language.specs.Filling.{made-numbers}
 use Rattle.language.specs.declared.Filled.the-variants.{Done, Refused}
 
 -- two lists written one after the other
@@ -122,7 +124,104 @@ module _ {from to₀ to : List ℕ} {count i : ℕ} (p : Copying from to₀ to c
   pub copying-end : count ≤ i → to ≡ take count from ++ drop count to₀
   copying-end l = let e : i ≡ count = omega (arith, p .within, l) in rw e at (p .copied)
 
--- ---- the answer
+-- ---- what is made, by the room that is lent for it
+
+-- it fits
+pub held-fits : (room : ℕ) (xs : List ℕ) → length xs ≤ room → held room (accept xs) ≡ accept xs
+held-fits room xs h = rw (le-leb (length xs) room h)
+
+-- it is longer
+pub held-short : (room : ℕ) (xs : List ℕ) → room < length xs → held room (accept xs) ≡ refuse 13 0
+held-short room xs h = rw (lt-leb (length xs) room h)
+
+-- what is held was made, and fits
+pub held-inv : (room : ℕ) (m : Checked (List ℕ)) (xs : List ℕ) → held room m ≡ accept xs
+    → (m ≡ accept xs) × (length xs ≤ room)
+held-inv room (accept ys) xs e = go (leb (length ys) room) refl e
+  where
+    go : (t : Bool) → leb (length ys) room ≡ t → cond t (accept ys) (refuse 13 0) ≡ accept xs
+        → (accept ys ≡ accept xs) × (length xs ≤ room)
+    go true q e = let f : ys ≡ xs = cc in (e, rw (← f) (leb-true (length ys) room q))
+    go false q e = let z : _≡_ {A = ℕ} 0 1 = cc in absurd (omega arith)
+held-inv room (refuse n l) xs e = let z : _≡_ {A = ℕ} 0 1 = cc in absurd (omega arith)
+
+-- what is held once is held again
+pub held-again : (room : ℕ) (m : Checked (List ℕ)) → held room (held room m) ≡ held room m
+held-again room (accept xs) = go (leb (length xs) room) refl
+  where
+    go : (t : Bool) → leb (length xs) room ≡ t
+        → held room (cond t (accept xs) (refuse 13 0)) ≡ cond t (accept xs) (refuse 13 0)
+    go true e = rw e
+    go false e = refl
+held-again room (refuse n l) = refl
+
+-- ---- the answer and the buffer of what is made
+
+-- the answer and the buffer where it fits
+pub answer-fits : (width : ℕ) (xs old : List ℕ) → length xs ≤ length old
+    → (Done (length xs / width) ≡ answer width (accept xs) (length old))
+    × (xs ++ drop (length xs) old ≡ buffer (accept xs) old)
+answer-fits width xs old h = (rw (held-fits (length old) xs h), rw (held-fits (length old) xs h))
+
+-- where it does not
+pub answer-short : (width : ℕ) (xs old : List ℕ) → length old < length xs
+    → (Refused 13 0 ≡ answer width (accept xs) (length old)) × (old ≡ buffer (accept xs) old)
+answer-short width xs old h = (rw (held-short (length old) xs h), rw (held-short (length old) xs h))
+
+-- where it is refused
+pub answer-refused : (width : ℕ) {m : Checked (List ℕ)} (n l : ℕ) (old : List ℕ) → m ≡ refuse n l
+    → (Refused n l ≡ answer width m (length old)) × (old ≡ buffer m old)
+answer-refused width n l old e = (rw e refl, rw e refl)
+
+-- a refused answer: that is what is made for the room
+pub answer-refused-inv : (width room : ℕ) (m : Checked (List ℕ)) (n l : ℕ) → answer width m room ≡ Refused n l
+    → held room m ≡ refuse n l
+answer-refused-inv width room m n l e = go (held room m) e
+  where
+    go : (c : Checked (List ℕ)) → filled width c ≡ Refused n l → c ≡ refuse n l
+    go (accept xs) e = let z : _≡_ {A = ℕ} 0 1 = cc in absurd (omega arith)
+    go (refuse k j) e = let p : k ≡ n = cc in let q : j ≡ l = cc in rw (p, q)
+
+-- an answer that n records are written: their numbers are made, and stand first in the buffer
+pub record Made (width : ℕ) (m : Checked (List ℕ)) (old new : List ℕ) (n : ℕ) : Type 0 where
+  pub numbers : List ℕ
+  pub is : held (length old) m ≡ accept numbers
+  pub made : m ≡ accept numbers
+  pub count : n ≡ length numbers / width
+  pub fits : length numbers ≤ length old
+  pub first : take (length numbers) new ≡ numbers
+
+pub answer-done-inv : (width : ℕ) (m : Checked (List ℕ)) (old new : List ℕ) (n : ℕ)
+    → answer width m (length old) ≡ Done n → new ≡ buffer m old → Made width m old new n
+answer-done-inv width m old new n e w = go (held (length old) m) refl e w
+  where
+    go : (c : Checked (List ℕ)) → held (length old) m ≡ c → filled width c ≡ Done n → new ≡ overwritten c old
+        → Made width m old new n
+    go (accept xs) q e w = let k : length xs / width ≡ n = cc in let h = held-inv (length old) m xs q in
+        record {
+          numbers = xs;
+          is = q;
+          made = h .0;
+          count = sym k;
+          fits = h .1;
+          first = rw w (take-append-seam xs (drop (length xs) old));
+        }
+    go (refuse k j) q e w = let z : _≡_ {A = ℕ} 0 1 = cc in absurd (omega arith)
+
+-- a lent buffer keeps its length
+pub buffer-long : (m : Checked (List ℕ)) (old : List ℕ) → length (buffer m old) ≡ length old
+buffer-long m old = go (held (length old) m) refl
+  where
+    go : (c : Checked (List ℕ)) → held (length old) m ≡ c → length (overwritten c old) ≡ length old
+    go (accept xs) q = omega (
+      arith,
+      length-append xs (drop (length xs) old),
+      length-drop (length xs) old,
+      held-inv (length old) m xs q .1,
+    )
+    go (refuse k j) q = refl
+
+-- ---- the answer, told by the count of what was made aside
 
 -- the numbers written, read back
 pub take-sets : (l xs : List ℕ) → length xs ≤ length l → take (length xs) (sets l 0 xs) ≡ xs
@@ -152,7 +251,7 @@ module _ (width : ℕ) (m : Checked (List ℕ)) (n : ℕ) (old : List ℕ) where
     where
       go : (m : Checked (List ℕ)) → tally width 0 m ≡ Done n → length old < length (made-numbers m)
           → (Refused 13 0 ≡ answer width m (length old)) × (old ≡ buffer m old)
-      go (accept xs) e l = (rw (lt-leb (length xs) (length old) l), rw (lt-leb (length xs) (length old) l))
+      go (accept xs) e l = answer-short width xs old l
       go (refuse k l) e h = let z : _≡_ {A = ℕ} 0 1 = cc in absurd (omega arith)
 
   -- copied from a buffer that holds what was made
@@ -176,5 +275,6 @@ module _ (width : ℕ) (m : Checked (List ℕ)) (n : ℕ) (old : List ℕ) where
           let b = f refl in
           let t : take (length xs) held ≡ xs = ap (take (length xs)) (b .2)
           ∙ take-sets (b .0) xs (omega (arith, k, b .1)) in
-          (rw (le-leb (length xs) (length old) l, q), rw (le-leb (length xs) (length old) l) (w ∙ rw t))
+          let a = answer-fits width xs old l in
+          (ap Done q ∙ a .0, w ∙ ap (λ (ys : List ℕ). ys ++ drop (length xs) old) t ∙ a .1)
       go (refuse k l) e h j f w = let z : _≡_ {A = ℕ} 0 1 = cc in absurd (omega arith)

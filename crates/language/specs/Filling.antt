@@ -16,16 +16,28 @@ abbrev pub before : List ℕ → Checked (List ℕ) → Checked (List ℕ)
 before xs (accept ys) = accept (xs ++ ys)
 before xs (refuse number line) = refuse number line
 
+-- What is made, where `room` numbers are lent for it; 13 on no line where it is longer than that.
+abbrev pub held : ℕ → Checked (List ℕ) → Checked (List ℕ)
+held room (accept xs) = cond (leb (length xs) room) (accept xs) (refuse room-refusal no-line)
+held room (refuse number line) = refuse number line
+
+-- How many records of `width` numbers are made, or the refusal.
+abbrev pub filled : ℕ → Checked (List ℕ) → Filled
+filled width (accept xs) = Done (length xs / width)
+filled width (refuse number line) = Refused number line
+
+-- Numbers with those that are made before the rest of them; unchanged by a refusal.
+abbrev pub overwritten : Checked (List ℕ) → List ℕ → List ℕ
+overwritten (accept xs) old = xs ++ drop (length xs) old
+overwritten (refuse number line) old = old
+
 -- The answer where `room` numbers are lent and a record takes `width` of them.
 abbrev pub answer : ℕ → Checked (List ℕ) → ℕ → Filled
-answer width (accept xs) room =
-    cond (leb (length xs) room) (Done (length xs / width)) (Refused room-refusal no-line)
-answer width (refuse number line) room = Refused number line
+answer width made room = filled width (held room made)
 
 -- The lent buffer afterwards.
 abbrev pub buffer : Checked (List ℕ) → List ℕ → List ℕ
-buffer (accept xs) old = cond (leb (length xs) (length old)) (xs ++ drop (length xs) old) old
-buffer (refuse number line) old = old
+buffer made old = overwritten (held (length old) made) old
 
 -- How many records of `width` numbers are made, `n` having been counted before.
 abbrev pub tally : ℕ → ℕ → Checked (List ℕ) → Filled

@@ -4,6 +4,9 @@ pub mod Results
 pub mod Frames
 pub mod Rows
 pub mod Filling
+pub mod Decimals
+pub mod TextLines
+pub mod Texts
 pub mod Tree
 pub mod World
 pub mod Effects
@@ -13,6 +16,7 @@ pub mod Encoded
 pub mod Form
 pub mod Tables
 pub mod Headings
+pub mod Uses
 pub mod Typing
 pub mod Rules
 pub mod WellFormed
@@ -23,5 +27,7 @@ pub mod Translation
 pub mod LookupClasses
 pub mod Layout
 pub mod Store
+pub mod Printed
 pub mod Correspondence
+pub mod WorkedPrograms
 pub mod Worked

@@ -1,5 +1,6 @@
--- Every number that document 01 names, under a name of its own.
-use Prim.Native.Nat.{ℕ}
+-- The limits, sizes and refusals that document 01 names as numbers, each under a name of its own. The codes of letters
+-- are in Rows, those of kinds in Tree, those of values in Store.
+use Prim.Native.Nat.{ℕ, _*_}
 
 -- Document 01, "Lines and rows": the table of what there may be at most.
 pub record Most : Type 0 where
@@ -21,9 +22,12 @@ abbrev pub of-translator : Most
 of-translator =
     record { rows = 680; classes = 62; fields = 16; parameters = 8; slots = 32; nesting = 24; name = 255 }
 
--- The largest number on a line, and how many numbers a row has.
+-- The largest number on a line, the digits that one may have, and how many numbers a row has.
 abbrev pub largest : ℕ
 largest = 65535
+
+abbrev pub most-digits : ℕ
+most-digits = 5
 
 abbrev pub numbers-a-row : ℕ
 numbers-a-row = 4
@@ -122,3 +126,20 @@ full-stop = 16
 
 abbrev pub no-line : ℕ
 no-line = 0
+
+-- "Worked programs": what the two programs hold, bytes of text, numbers of 680 source rows and of 1,000 plain rows, and
+-- what the running program lends, numbers of a store and fuel.
+abbrev pub text-room : ℕ
+text-room = 8192
+
+abbrev pub source-room : ℕ
+source-room = numbers-a-row * 680
+
+abbrev pub plain-room : ℕ
+plain-room = numbers-a-row * 1000
+
+abbrev pub store-room : ℕ
+store-room = 3000
+
+abbrev pub program-fuel : ℕ
+program-fuel = 10000

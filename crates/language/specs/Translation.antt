@@ -1,12 +1,13 @@
 -- The plain program (document 01, "The plain program"; 002, section 6), on trees and then on rows.
+-- Each place where document 01 departs from 002 is marked DEPARTS.
 use Prim.Native.Nat.{ℕ, zero, suc, _+_}
 use mathlib.Core.Option.{Option, none, some}
 use mathlib.Core.Bool.{Bool, true, false, not, _||_}
 use mathlib.Core.List.{List, [], _∷_, _++_, map}
 use lib.ListN.{length}
-use lib.Dec.{eqb, leb}
+use lib.Dec.{eqb}
 use Rattle.language.specs.Limits.{of-translator, object-class, identity-class, fickle-class, imp-field}
-use Rattle.language.specs.Limits.{id-field, reserved-refusal, room-refusal, no-line}
+use Rattle.language.specs.Limits.{id-field, reserved-refusal}
 use Rattle.language.specs.Results.{Checked, accept, refuse, Pass, passed, bind-checked, require}
 use Rattle.language.specs.Results.{earlier}
 use Rattle.language.specs.Frames.{opened}
@@ -103,7 +104,7 @@ unfoldable pub reads : ℕ → List DeclaredType → Exprs
 reads n [] = nil
 reads n (t ∷ ts) = slot n then reads (suc n) ts
 
--- W, with Identity i in slot n and new class o in the next.
+-- W, with Identity i in slot n and new class o in the next. DEPARTS: 002 declares o before i.
 abbrev pub plain-new : ℕ → ℕ → Expr
 plain-new n c = block (class identity-class ∷ class (plain-class c) ∷ [])
     (assign n (new identity-class)
@@ -124,7 +125,8 @@ copies o p [] r = r
 copies o p (f ∷ fs) r = set (f .name) (slot o) (get (f .name) (slot p)) then copies o p fs r
 
 module _ (W : World) where
-  -- R's inner block, with Identity i in slot n, target o and root p in the next two.
+  -- R's inner block, with Identity i in slot n, target o and root p in the next two. DEPARTS: o's `id` is set before
+  -- i's `imp`, which 002 sets first; the block ends with i, where 002's else arm ends with the last copy.
   abbrev pub renew : ℕ → ℕ → Expr
   renew n d = block []
       (assign (suc n) (new (plain-class d))
@@ -136,7 +138,7 @@ module _ (W : World) where
   abbrev pub change-types : ℕ → List DeclaredType
   change-types d = class identity-class ∷ class (plain-class d) ∷ class (plain-class (W .root d)) ∷ []
 
-  -- R of `this`, and of another slot.
+  -- R of `this`, and of another slot. DEPARTS: R of `this` has the inner block too, where 002 has one block.
   unfoldable pub plain-change : ℕ → Shape → ℕ → ℕ → Expr
   plain-change n sh zero d = block (change-types d)
       (assign n (get id-field (slot 0)) then renew n d then slot n then nil)
@@ -161,7 +163,8 @@ module _ (W : World) where
     translate (change k d) γ sh = plain-change (suc (length sh)) sh k d
     -- A.
     translate (assign k e) γ sh = assign (plain-slot sh k) (translate e γ sh)
-    -- U: i = object, the value in a temporary of the field's type, then the act on the class used for lookup.
+    -- U: i = object, the value in a temporary, then the act on the class used for lookup. DEPARTS: the temporary has
+    -- the field's type, where 002 gives it the value's.
     translate (set f e e′) γ sh =
         let n = suc (length sh) in
         let a = typed-or (type-of W e 0 γ) in
@@ -173,7 +176,8 @@ module _ (W : World) where
         then assign (suc n) (translate e′ (a .slots) sh′)
         then set f (implementor c n) (slot (suc n))
         then nil)
-    -- Q: i = receiver, the arguments in temporaries of the parameters' types, then the call.
+    -- Q: i = receiver, the arguments in temporaries, then the call. DEPARTS: the temporaries have the parameters'
+    -- types, where 002 gives them the arguments'.
     translate (call m e es) γ sh =
         let n = suc (length sh) in
         let a = typed-or (type-of W e 0 γ) in
@@ -243,6 +247,7 @@ fickle-object = record {
   methods = [];
 }
 
+-- A program. DEPARTS: its start block is translated like a body, in which no slot is `this`.
 unfoldable pub plain-program : Program → Program
 plain-program p = let W = world (p .classes) in record {
   classes = identity ∷ fickle-object ∷ plain-classes W 1 (p .classes);
@@ -273,10 +278,3 @@ translation ns =
     bind-checked (within-limits ns p) λ _.
     bind-checked (names-free 1 (p .classes)) λ _.
     accept (numbers-of (map row-of (flatten-program (plain-program p))))
-
--- The same where so many numbers are lent for them.
-unfoldable pub translation-into : ℕ → List ℕ → Checked (List ℕ)
-translation-into room ns =
-    bind-checked (translation ns) λ out.
-    require (leb (length out) room) room-refusal no-line λ _.
-    accept out

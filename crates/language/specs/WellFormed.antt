@@ -90,7 +90,8 @@ module _ (most : Most) where
     pub classes : Each ClassInForm (p .classes)
     pub start : BodyInForm 1 (p .start)
 
--- Figure 20: plain extends plain or Object, root extends plain or Object, state extends root or state.
+-- Figure 20: plain extends plain, root extends plain, state extends root or state. DEPARTS: plain and root may extend
+-- Object, for which the figure has no rule.
 pub data Extends : Kind → Option Kind → Type 0 where
   plain-object : Extends plain none
   plain-plain : Extends plain (some plain)
@@ -100,7 +101,7 @@ pub data Extends : Kind → Option Kind → Type 0 where
   state-state : Extends state (some state)
 
 module _ (P : List Class) where
-  -- Figure 20: a class and those above it; a number that is no class stands right below Object.
+  -- Figure 20: a class and those above it. DEPARTS: a number that is no class is right below Object.
   pub data Subclass : ℕ → ℕ → Type 0 where
     itself : {k : ℕ} → Subclass k k
     below-object : {k : ℕ} → class-at P k ≡ none → Subclass k object-class
@@ -134,7 +135,8 @@ module _ (P : List Class) where
     again : (M : Method) → m .result ≡ M .result → m .parameters ≡ M .parameters
         → within (effect-of-all (m .effects)) (M .effect) ≡ true → Overrides m (some M)
 
-  -- Figure 8: a method of class k, whose body has type t, slots γ afterwards and effect φ.
+  -- Figure 8: a method of class k, whose body has type t, slots γ afterwards and effect φ. DEPARTS: the classes of its
+  -- result and parameters are declared.
   pub record MethodWell (k super : ℕ) (before : List Declaration) (m : Declaration) : Type 0 where
     pub result : is-declared-type (world P) (m .result) ≡ true
     pub parameters : Declared (world P) (m .parameters)
@@ -154,7 +156,7 @@ module _ (P : List Class) where
         → MethodWell k super before m → MethodsWell k super (m ∷ before) ms
         → MethodsWell k super before (m ∷ ms)
 
-  -- Figure 8: class k.
+  -- Figure 8: class k. DEPARTS: its superclass is earlier, where Figure 20 asks that no class is above itself.
   pub record ClassWell (k : ℕ) (c : Class) : Type 0 where
     pub earlier : c .super < k
     pub kind : Extends (c .kind) (kind-at P (c .super))

@@ -1,4 +1,5 @@
-// What every service shares: the letters of records, and the answer of a service that fills a lent buffer.
+// What every service shares: the letters of records, the answers of reading a line, and the answer of a service that fills a
+// lent buffer.
 ghost use mathlib.Core.Path.{_≡_};
 ghost use Rattle.language.specs.Rows.{numbers-after, row, is-row};
 
@@ -6,6 +7,24 @@ ghost use Rattle.language.specs.Rows.{numbers-after, row, is-row};
 pub enum Filled {
     Done(usize),
     Refused(u32, u32),
+}
+
+// The number of a digit or of a field.
+pub enum Decimal {
+    Is(u32),
+    Bad,
+}
+
+// A number after its tab, and where what follows begins.
+pub enum Taken {
+    Number(u32, usize),
+    NoNumber,
+}
+
+// A line's row, code and two numbers, and where the next line begins.
+pub enum Line {
+    Row(u32, u32, u32, usize),
+    Malformed,
 }
 
 // How many made-numbers follow the letter of an ASCII code; 3, more than any record has, where it is no letter's.

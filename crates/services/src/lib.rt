@@ -11,7 +11,7 @@ ghost use Rattle.language.specs.Filling.{answer, buffer};
 ghost use Rattle.language.specs.Translation.{translation};
 ghost use Rattle.language.specs.Verdict.{verdict};
 ghost use Rattle.language.specs.Store.{run-of};
-ghost use Rattle.text.specs.Texts.{read-text, write-rows};
+ghost use Rattle.language.specs.Texts.{read-text, write-rows};
 ghost use Rattle.services.specs.Packed.{refusal, packed, packed-verdict, packed-answer, steps-after};
 ghost use Rattle.services.specs.Packed.{objects-after, changes-after};
 ghost use Rattle.services.specs.Packed.{packed-checked, packed-value, packed-end, packed-run};

@@ -10,9 +10,9 @@ use lib.Dec.{leb, ltb}
 use lib.ListN.{length, getD, drop, set, length-append}
 use lib.Seq.{drop-cons, drop-length, sets}
 use Rattle.language.proofs.Filling.{sets-append}
-use Rattle.text.specs.Decimals.{scan, digit-of, add-digit, digits-in, digits}
-use Rattle.text.specs.declared.Decimal.{Decimal}
-use Rattle.text.specs.declared.Decimal.the-variants.{Is, Bad}
+use Rattle.language.specs.Decimals.{scan, digit-of, add-digit, digits-in, digits}
+use Rattle.language.specs.declared.Decimal.{Decimal}
+use Rattle.language.specs.declared.Decimal.the-variants.{Is, Bad}
 
 pub scan-bad : (s : List ℕ) → scan Bad s ≡ Bad
 unfolding scan

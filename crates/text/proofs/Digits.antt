@@ -7,10 +7,10 @@ use native.Mathlib.Omega.{arith}
 use borrow.Author.Tests.{le-leb, leb-true, le-ltb, ltb-true, ltb-false, ne-eqb, eqb-true, eqb-false}
 use lib.Dec.{leb, ltb, eqb}
 use lib.ListN.{length, getD, List·getD-append}
-use Rattle.text.specs.Decimals.{digit-of, add-digit, scan, decimal-of, digits}
-use Rattle.text.specs.Lines.{field, is-end}
-use Rattle.text.specs.declared.Decimal.{Decimal}
-use Rattle.text.specs.declared.Decimal.the-variants.{Is, Bad}
+use Rattle.language.specs.Decimals.{digit-of, add-digit, scan, decimal-of, digits}
+use Rattle.language.specs.TextLines.{field, is-end}
+use Rattle.language.specs.declared.Decimal.{Decimal}
+use Rattle.language.specs.declared.Decimal.the-variants.{Is, Bad}
 use Rattle.text.proofs.Decimals.{scan-bad, digit-low, digits-low, digits-high, length-low, length-high}
 use Rattle.text.proofs.Decimals.{length-most}
 

@@ -15,8 +15,8 @@ use Rattle.language.specs.Filling.{before, tally, is-made, made-numbers}
 use Rattle.language.specs.declared.Filled.the-variants.{Done, Refused}
 use Rattle.language.proofs.Filling.{Left, left-start, left-refused, left-unmade, left-done, left-full}
 use Rattle.language.proofs.Filling.{left-step}
-use Rattle.text.specs.Lines.{line-text}
-use Rattle.text.specs.Texts.{write-lines, write-rows}
+use Rattle.language.specs.TextLines.{line-text}
+use Rattle.language.specs.Texts.{write-lines, write-rows}
 use Rattle.text.proofs.Lines.{row-short}
 use Rattle.text.proofs.Parsing.{short-before}
 

@@ -12,15 +12,15 @@ use lib.Seq.{drop-cons, drop-drop, drop-length, take-suc, getD-drop, append-snoc
 use Rattle.language.proofs.Filling.{sets-then}
 use Rattle.language.specs.Rows.{numbers-after, row, is-row}
 use Rattle.language.proofs.Rows.{are-numbers, is-row-by}
-use Rattle.text.specs.Decimals.{decimal-of, digits}
-use Rattle.text.specs.Lines.{field, is-end, taken, number-of, closed, then-line, numbered, line-of}
-use Rattle.text.specs.Lines.{line-text}
+use Rattle.language.specs.Decimals.{decimal-of, digits}
+use Rattle.language.specs.TextLines.{field, is-end, taken, number-of, closed, then-line, numbered, line-of}
+use Rattle.language.specs.TextLines.{line-text}
 use Rattle.text.specs.Places.{taken-at, line-at}
 use Rattle.text.proofs.Decimals.{length-most}
-use Rattle.text.specs.declared.Decimal.the-variants.{Is, Bad}
-use Rattle.text.specs.declared.Taken.{Taken}
-use Rattle.text.specs.declared.Taken.the-variants.{Number, NoNumber}
-use Rattle.text.specs.declared.Line.the-variants.{Row, Malformed}
+use Rattle.language.specs.declared.Decimal.the-variants.{Is, Bad}
+use Rattle.language.specs.declared.Taken.{Taken}
+use Rattle.language.specs.declared.Taken.the-variants.{Number, NoNumber}
+use Rattle.language.specs.declared.Line.the-variants.{Row, Malformed}
 use Rattle.language.proofs.Booleans.{and-inv}
 
 -- the part from at to e goes on, or ends

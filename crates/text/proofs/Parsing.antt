@@ -12,11 +12,11 @@ use Rattle.language.specs.Filling.{before, tally, is-made, made-numbers}
 use Rattle.language.specs.declared.Filled.the-variants.{Done, Refused}
 use Rattle.language.proofs.Filling.{Left, left-start, left-refused, left-unmade, left-done, left-full}
 use Rattle.language.proofs.Filling.{left-step}
-use Rattle.text.specs.Lines.{line-of}
-use Rattle.text.specs.Texts.{with-line, read-lines, read-text}
+use Rattle.language.specs.TextLines.{line-of}
+use Rattle.language.specs.Texts.{with-line, read-lines, read-text}
 use Rattle.text.specs.Places.{line-at}
-use Rattle.text.specs.declared.Line.{Line}
-use Rattle.text.specs.declared.Line.the-variants.{Row, Malformed}
+use Rattle.language.specs.declared.Line.{Line}
+use Rattle.language.specs.declared.Line.the-variants.{Row, Malformed}
 use Rattle.text.proofs.Lines.{row-span}
 
 -- a line found at a place of a text, counted from there

@@ -13,16 +13,16 @@ use Rattle.language.specs.Results.{Checked, accept, refuse}
 use Rattle.language.specs.Filling.{before}
 use Rattle.language.specs.Rows.{numbers-after, row, is-row}
 use Rattle.language.proofs.Rows.{are-numbers, is-row-by}
-use Rattle.text.specs.Decimals.{decimal-of, digits}
-use Rattle.text.specs.Lines.{field, is-end, taken, number-of, closed, then-line, numbered, line-of}
-use Rattle.text.specs.Lines.{line-text}
-use Rattle.text.specs.Texts.{with-line, read-lines, read-text, write-lines, write-rows}
-use Rattle.text.specs.declared.Decimal.{Decimal}
-use Rattle.text.specs.declared.Decimal.the-variants.{Is, Bad}
-use Rattle.text.specs.declared.Taken.{Taken}
-use Rattle.text.specs.declared.Taken.the-variants.{Number, NoNumber}
-use Rattle.text.specs.declared.Line.{Line}
-use Rattle.text.specs.declared.Line.the-variants.{Row, Malformed}
+use Rattle.language.specs.Decimals.{decimal-of, digits}
+use Rattle.language.specs.TextLines.{field, is-end, taken, number-of, closed, then-line, numbered, line-of}
+use Rattle.language.specs.TextLines.{line-text}
+use Rattle.language.specs.Texts.{with-line, read-lines, read-text, write-lines, write-rows}
+use Rattle.language.specs.declared.Decimal.{Decimal}
+use Rattle.language.specs.declared.Decimal.the-variants.{Is, Bad}
+use Rattle.language.specs.declared.Taken.{Taken}
+use Rattle.language.specs.declared.Taken.the-variants.{Number, NoNumber}
+use Rattle.language.specs.declared.Line.{Line}
+use Rattle.language.specs.declared.Line.the-variants.{Row, Malformed}
 use Rattle.text.proofs.Digits.{decimal-back, decimal-forth, field-digits, decimal-range}
 use Rattle.text.proofs.Lines.{text-none, text-one, text-two}
 use Rattle.text.proofs.Parsing.{read-whole-rows}

@@ -1,4 +1,1 @@
-pub mod Decimals
-pub mod Lines
-pub mod Texts
 pub mod Places

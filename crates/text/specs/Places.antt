@@ -1,9 +1,9 @@
 -- The answers of functions that work at a place of a text.
 use Prim.Native.Nat.{ℕ, _+_}
-use Rattle.text.specs.declared.Taken.{Taken}
-use Rattle.text.specs.declared.Taken.the-variants.{Number, NoNumber}
-use Rattle.text.specs.declared.Line.{Line}
-use Rattle.text.specs.declared.Line.the-variants.{Row, Malformed}
+use Rattle.language.specs.declared.Taken.{Taken}
+use Rattle.language.specs.declared.Taken.the-variants.{Number, NoNumber}
+use Rattle.language.specs.declared.Line.{Line}
+use Rattle.language.specs.declared.Line.the-variants.{Row, Malformed}
 
 -- Lengths counted from a place of a text become places of it.
 abbrev pub taken-at : ℕ → Taken → Taken

@@ -1,5 +1,8 @@
 // Lines of text and rows: the reader and the writer (document 01, "Lines and rows").
+use language::Decimal;
 use language::Filled;
+use language::Line;
+use language::Taken;
 ghost use mathlib.Core.Path.{_≡_};
 ghost use mathlib.Core.Bool.{true};
 ghost use mathlib.Core.List.{[], _∷_, _++_};
@@ -9,28 +12,10 @@ ghost use lib.ListN.{length, take, drop};
 ghost use lib.Seq.{sets};
 ghost use Rattle.language.specs.Rows.{numbers-after};
 ghost use Rattle.language.specs.Filling.{answer, buffer, tally, is-made, made-numbers};
-ghost use Rattle.text.specs.Decimals.{digit-of, scan, decimal-of, digits};
-ghost use Rattle.text.specs.Lines.{field, number-of, closed, line-of, line-text, tab};
-ghost use Rattle.text.specs.Texts.{read-text, write-rows};
+ghost use Rattle.language.specs.Decimals.{digit-of, scan, decimal-of, digits};
+ghost use Rattle.language.specs.TextLines.{field, number-of, closed, line-of, line-text, tab};
+ghost use Rattle.language.specs.Texts.{read-text, write-rows};
 ghost use Rattle.text.specs.Places.{taken-at, line-at};
-
-// The number of a digit or of a field.
-pub enum Decimal {
-    Is(u32),
-    Bad,
-}
-
-// A number after its tab, and where what follows begins.
-pub enum Taken {
-    Number(u32, usize),
-    NoNumber,
-}
-
-// A line's row, code and two numbers, and where the next line begins.
-pub enum Line {
-    Row(u32, u32, u32, usize),
-    Malformed,
-}
 
 // The number of a digit's byte.
 fn read_digit(b: u8) -> Decimal

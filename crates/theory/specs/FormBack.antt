@@ -198,12 +198,13 @@ module _ (most : Most) where
       })
 
   -- V lines that were read: so many, and no slot too many.
-  record LocalsRead (v n at : ℕ) (rs : List Row) (x : Read (List DeclaredType)) : Type 0 where
+  pub record LocalsRead (v n at : ℕ) (rs : List Row) (x : Read (List DeclaredType)) : Type 0 where
     read-lines : LinesRead local-row TypeInForm at rs x
-    many : length (x .tree) ≡ v
+    pub many : length (x .tree) ≡ v
     few : n ≤ most .slots → n + length (x .tree) ≤ most .slots
 
-  locals-back : (v n at : ℕ) (rs : List Row) (x : Read (List DeclaredType)) → locals most v n at rs ≡ accept x
+  pub locals-back : (v n at : ℕ) (rs : List Row) (x : Read (List DeclaredType))
+      → locals most v n at rs ≡ accept x
       → LocalsRead v n at rs x
   unfolding locals
   locals-back zero n at rs x e = subst (LocalsRead 0 n at rs) (accept-injective e)

@@ -46,17 +46,4 @@ pub mod PlainForm
 pub mod TranslationInForm
 pub mod PlainInForm
 pub mod PlainNames
-pub mod AcceptedTranslation
 pub mod StoreNumbers
-pub mod Endings
-pub mod RunsOfRows
-pub mod DemandsRows
-pub mod Listed
-pub mod Refusals
-pub mod FormRefusals
-pub mod PassRefusals
-pub mod ListedAnswers
-pub mod TighterNodes
-pub mod TighterForm
-pub mod TranslatorAnswers
-pub mod Demands

@@ -71,7 +71,8 @@ place-named n (f ∷ fs) i e = go (eqb (f .name) n) refl (λ k q. place-named n 
     go false q ih e = bind-option-inv _ _ e λ k p e. subst Named (inj e) (ih k p)
 
 -- Where the pass over names accepts, it accepts the fields of each class.
-pub names-free-at : (at : ℕ) (cs : List Class) (u : Unit {0}) → names-free at cs ≡ accept u → (i : ℕ) (c : Class)
+pub names-free-at : (at : ℕ) (cs : List Class) (u : Unit {0}) → names-free at cs ≡ accept u
+    → (i : ℕ) (c : Class)
     → nth cs i ≡ some c → (at′ : ℕ) × (v : Unit {0}) × (fields-free at′ (c .fields) ≡ accept v)
 unfolding names-free nth
 names-free-at at [] u q i c e = absurd (Never e)

@@ -1,22 +1,18 @@
 -- Rows that the translator takes: accepted rows within its column of limits and without reserved field names.
 -- The program that the check reads of them is the one that the translator's own pass over form reads.
 use mathlib.Core.Path.{_≡_, refl, sym, ap, _∙_, subst}
-use mathlib.Core.Logic.{_↔_}
-use mathlib.Core.Option.{some}
-use Prim.Native.Nat.{ℕ, zero, suc, _+_, _≤_}
+use Prim.Native.Nat.{ℕ, zero, suc, _≤_}
 use mathlib.Core.Bool.{Bool, true, false, cond}
-use mathlib.Core.List.{List, [], _∷_, map}
+use mathlib.Core.List.{List, map}
 use lib.Dec.{ltb}
-use borrow.Author.Tests.{eq-eqb, ne-eqb}
 use native.Mathlib.Omega.{arith}
-use Rattle.language.specs.Limits.{Most, of-check, of-translator, id-field, imp-field}
-use Rattle.language.specs.Lists.{nth}
-use Rattle.language.specs.Results.{Checked, accept, refuse, Pass, passed, earlier, bind-checked, require}
+use Rattle.language.specs.Limits.{Most, of-check, of-translator}
+use Rattle.language.specs.Results.{Checked, accept, refuse, Pass, passed, earlier}
 use Rattle.language.specs.Results.{bind-checked-inv, accept-injective, accept≢refuse}
 use Rattle.language.specs.Rows.{row-of, rows-of, numbers-of}
 use Rattle.language.specs.Tree.{Expr, literal-true, literal-false, literal-null, slot, is-null, get, cast}
 use Rattle.language.specs.Tree.{new, change, assign, set, call, choose, block, Exprs, nil, cons, Declaration}
-use Rattle.language.specs.Tree.{Field, Class, class-lines, Program, flatten-program}
+use Rattle.language.specs.Tree.{Class, Program, flatten-program}
 use Rattle.language.specs.Program.{world}
 use Rattle.language.specs.Form.{form}
 use Rattle.language.specs.Headings.{headings}
@@ -25,16 +21,12 @@ use Rattle.language.specs.WellFormed.{form-false, form-null, form-slot, form-is
 use Rattle.language.specs.WellFormed.{form-new, form-change, form-assign, form-set, form-call, form-choose}
 use Rattle.language.specs.WellFormed.{form-block, form-nil, form-cons, BodyInForm, form-body, MethodInForm}
 use Rattle.language.specs.WellFormed.{ClassInForm, ProgramInForm}
-use Rattle.language.specs.Translation.{plain-program, within-limits, fields-free, names-free, translation}
-use Rattle.language.proofs.Booleans.{false≢}
+use Rattle.language.specs.Translation.{plain-program, within-limits, names-free, translation}
 use Rattle.theory.specs.TreeRows.{length-program}
 use Rattle.theory.specs.Whole.{form-flat}
 use Rattle.theory.specs.WholeBack.{form-back}
 use Rattle.theory.specs.Accepts.{RowsOf, rows-of-numbers, check-accepts}
-use Rattle.theory.specs.WellEqual.{headings-test}
-use Rattle.theory.specs.MoreLookups.{TranslatorLaws, translatable-laws, check-classes-few, Free}
-use Rattle.theory.specs.MoreLookups.{names-free-at, fields-are-free}
-use Rattle.theory.specs.Endings.{Unreserved, Translatable, plain-numbers, TranslatesTo}
+use Rattle.theory.specs.MoreLookups.{TranslatorLaws, translatable-laws}
 
 -- Limits of form of which the first are nowhere above the second.
 pub record Tighter (tight wide : Most) : Type 0 where
@@ -48,7 +40,7 @@ pub record Tighter (tight wide : Most) : Type 0 where
 down : {a b : ℕ} → suc a ≤ suc b → a ≤ b
 down l = omega arith
 
-each-map : {A : Type 0} {R S : A → Type 0} → ((a : A) → R a → S a) → {l : List A} → Each R l → Each S l
+pub each-map : {A : Type 0} {R S : A → Type 0} → ((a : A) → R a → S a) → {l : List A} → Each R l → Each S l
 each-map f each-nil = each-nil
 each-map f (each-cons r rs) = each-cons (f _ r) (each-map f rs)
 
@@ -190,79 +182,6 @@ translation-takes ns out e = bind-checked-inv _ _ e λ p e₁ e. bind-checked-in
       sym (accept-injective e),
     )
 
--- What holds at each place holds of each.
-each-of-nth : {A : Type 0} {R : A → Type 0} (l : List A) → ((i : ℕ) (a : A) → nth l i ≡ some a → R a) → Each R l
-unfolding nth
-each-of-nth [] f = each-nil
-each-of-nth (a ∷ l) f = each-cons (f 0 a refl) (each-of-nth l λ i b e. f (suc i) b e)
-
--- Where the pass over names accepts, no field has a reserved name, and the other way round.
-free-unreserved : (f : Field) → Free f → Unreserved f
-unfolding Free
-free-unreserved f r = record {
-  not-id = λ h. false≢ (sym (r .0) ∙ eq-eqb id-field (f .name) (sym h));
-  not-imp = λ h. false≢ (sym (r .1) ∙ eq-eqb imp-field (f .name) (sym h));
-}
-
-classes-unreserved : (cs : List Class) (u : Unit {0}) → names-free 1 cs ≡ accept u
-    → Each (λ (c : Class). Each Unreserved (c .fields)) cs
-classes-unreserved cs u q = each-of-nth cs λ i c e. let x = names-free-at 1 cs u q i c e in
-    each-map free-unreserved (fields-are-free (x .0) (c .fields) (x .1) (x .2))
-
-unreserved-fields : (at : ℕ) {fs : List Field} → Each Unreserved fs → fields-free at fs ≡ passed
-unfolding fields-free require
-unreserved-fields at each-nil = refl
-unreserved-fields at (each-cons {a} r rs) =
-    rw (ne-eqb (a .name) id-field (r .not-id), ne-eqb (a .name) imp-field (r .not-imp))
-    (unreserved-fields (at + 1) rs)
-
-unreserved-classes : (at : ℕ) {cs : List Class} → Each (λ (c : Class). Each Unreserved (c .fields)) cs
-    → names-free at cs ≡ passed
-unfolding names-free bind-checked
-unreserved-classes at each-nil = refl
-unreserved-classes at (each-cons {a} r rs) =
-    rw (unreserved-fields (at + 1) r) (unreserved-classes (at + class-lines a) rs)
-
 -- In the world of such a program the translator's laws hold.
 pub taken-laws : (ns : List ℕ) (p : Program) → TranslatableRows ns p → TranslatorLaws (world (p .classes))
 taken-laws ns p r = translatable-laws p tt tt (r .accepted .well) (r .in-form) (r .few-fields) (r .unreserved)
-
--- Such a program is within the translator's limits, in numbers.
-taken-translatable : (ns : List ℕ) (p : Program) → TranslatableRows ns p → Translatable p
-unfolding headings
-taken-translatable ns p r = record {
-  in-form = r .in-form;
-  few-fields = each-of-nth (p .classes) λ i c e.
-      check-classes-few of-translator (p .classes) 1 1 (p .classes) tt (r .few-fields) i c e
-      (taken-laws ns p r .few (c .super));
-  unreserved = classes-unreserved (p .classes) tt (r .unreserved);
-}
-
--- The rows of a well-formed program that is within the translator's limits are translated.
-pub translatable-taken : (ns : List ℕ) (p : Program) → RowsOf ns p → Translatable p
-    → translation ns ≡ accept (plain-numbers p)
-unfolding translation within-limits bind-checked earlier
-translatable-taken ns p r t =
-    let read : form of-translator (rows-of ns) ≡ accept p
-    = ap (form of-translator) (ap rows-of (sym (r .rows)) ∙ rows-of-numbers (map row-of (flatten-program p)))
-    ∙ form-flat of-translator (omega arith) (omega arith) p (t .in-form)
-    (omega (arith, t .in-form .rows, length-program p)) in
-    rw (
-      check-accepts ns p .1 r,
-      read,
-      headings-test of-translator p (omega (arith, t .in-form .few)) (r .well) (t .few-fields),
-      unreserved-classes 1 (t .unreserved),
-    )
-
--- The translator gives plain rows exactly for the rows of a well-formed program within its limits, and they are
--- those of its plain program.
-pub translates : (ns out : List ℕ) → (translation ns ≡ accept out) ↔ TranslatesTo ns out
-translates ns out = (
-  (λ e. let x = translation-takes ns out e in record {
-    program = x .0;
-    rows-of-it = x .1 .accepted;
-    translatable = taken-translatable ns (x .0) (x .1);
-    plain-rows = x .2;
-  }),
-  (λ t. rw (t .plain-rows) (translatable-taken ns (t .program) (t .rows-of-it) (t .translatable))),
-)

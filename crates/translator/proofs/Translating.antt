@@ -1,5 +1,5 @@
 -- What the check's answer tells of the translation. Assumes nothing.
-use mathlib.Core.Path.{_≡_, sym, ap}
+use mathlib.Core.Path.{_≡_}
 use mathlib.Core.List.{List}
 use Prim.Native.Nat.{ℕ, _≤_}
 use lib.ListN.{length}
@@ -7,6 +7,7 @@ use native.Mathlib.Omega.{arith}
 use Rattle.language.specs.declared.Filled.the-variants.{Refused}
 use Rattle.language.specs.Results.{Checked, accept, refuse, bind-checked}
 use Rattle.language.specs.Filling.{answer, buffer}
+use Rattle.language.proofs.Filling.{answer-refused}
 use Rattle.language.specs.Tree.{Program}
 use Rattle.language.specs.Verdict.{check}
 use Rattle.language.specs.Translation.{translation}
@@ -37,8 +38,4 @@ refused-is (refuse n m) i l e = let a : i ≡ n = cc in let b : l ≡ m = cc in 
 pub translation-refused : (R O : List ℕ) (i l : ℕ) → NotAccepted i l ≡ checked-case (check R)
     → (Refused i l ≡ answer 4 (translation R) (length O)) × (O ≡ buffer (translation R) O)
 unfolding translation bind-checked
-translation-refused R O i l e =
-    let s : translation R ≡ refuse i l = rw (refused-is (check R) i l e) in (
-      ap (λ (c : Checked (List ℕ)). answer 4 c (length O)) (sym s),
-      ap (λ (c : Checked (List ℕ)). buffer c O) (sym s),
-    )
+translation-refused R O i l e = answer-refused 4 {m = translation R} i l O (rw (refused-is (check R) i l e))

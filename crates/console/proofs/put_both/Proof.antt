@@ -1,5 +1,5 @@
 -- `console::put_both` meets its contract. Assumes nothing.
-use Rattle.console.specs.Printed.{run-line}
+use Rattle.language.specs.Printed.{run-line}
 use native.Mathlib.Omega.{arith}
 use Rattle.console.proofs.Showing.{both-shown}
 use borrow.Author.Needs.{needs}

@@ -2,8 +2,9 @@
 use mathlib.Core.Path.{_∙_, ap}
 use native.Mathlib.Omega.{arith}
 use lib.ListN.{length}
-use Rattle.console.proofs.Showing.{rows-shown, rows-refused, shown, buffer-long}
-use Rattle.text.specs.Texts.{write-rows}
+use Rattle.console.proofs.Showing.{rows-shown, rows-refused, shown}
+use Rattle.language.proofs.Filling.{buffer-long}
+use Rattle.language.specs.Texts.{write-rows}
 use borrow.Author.Needs.{needs}
 use Rattle.console.proofs.put_rows.Statement.{statement}
 use Rattle.console.proofs.put_rows.Tie as tie

@@ -3,7 +3,7 @@ use borrow.Author.Needs.{needs}
 use native.Mathlib.Omega.{arith}
 use Rattle.language.proofs.Filling.{sets-then}
 use Rattle.console.proofs.Writing.{both-long}
-use Rattle.console.specs.Printed.{counts-text}
+use Rattle.language.specs.Printed.{counts-text}
 use Rattle.console.specs.Told.{end-text}
 use Rattle.console.proofs.put_run.Statement.{statement}
 use Rattle.console.proofs.put_run.Tie as tie

@@ -1,11 +1,12 @@
 -- `console::translate_held` meets its contract. Assumes nothing.
-use Rattle.console.specs.Printed.{source-rows}
+use Rattle.language.specs.Printed.{source-rows}
 use mathlib.Core.Path.{refl, sym, _∙_, ap}
 use Prim.Native.Nat.{_*_}
 use native.Mathlib.Omega.{arith}
 use lib.ListN.{length, replicate}
 use lib.Seq.{length-take-le}
-use Rattle.console.proofs.Showing.{source-made, translate-shown, translate-refused, shown, buffer-long}
+use Rattle.console.proofs.Showing.{source-made, translate-shown, translate-refused, shown}
+use Rattle.language.proofs.Filling.{buffer-long}
 use borrow.Author.Needs.{needs}
 use Rattle.console.proofs.translate_held.Statement.{statement}
 use Rattle.console.proofs.translate_held.Tie as tie

@@ -5,7 +5,8 @@ use Prim.Native.Nat.{_*_}
 use native.Mathlib.Omega.{arith}
 use lib.ListN.{length, replicate}
 use lib.Seq.{length-take-le}
-use Rattle.console.proofs.Showing.{plain-made, plain-shown, plain-refused, shown, buffer-long}
+use Rattle.console.proofs.Showing.{plain-made, plain-shown, plain-refused, shown}
+use Rattle.language.proofs.Filling.{buffer-long}
 use borrow.Author.Needs.{needs}
 use Rattle.console.proofs.translate_source.Statement.{statement}
 use Rattle.console.proofs.translate_source.Tie as tie

@@ -16,7 +16,9 @@ enum-known-translated c = search needs
 run-plain-requires : tie.Need-run-plain-requires
 run-plain-requires c κs =
     let the-translate-rows = c .before .before .before .before .before .before .before .translate-rows in
-    count-fits _ _ (the-translate-rows .ensures) (the-translate-rows .kept .1 .0)
+    let start = c .before .before .before .before .before .before .before .before .before .before .before
+    .before .before .before .before .before .before in
+    count-fits _ (start .args .plain .now) (the-translate-rows .ensures) (the-translate-rows .kept .1 .0)
     (c .before .before .before .translated .given .1)
 
 enum-known-translated-2 : tie.Need-enum-known-translated-2
@@ -51,7 +53,8 @@ returns-2 : tie.Need-returns-2
 returns-2 c =
     let the-translate-rows = c .before .before .before .before .before .translate-rows in
     let the-run-rows = c .before .before .before .before .before .before .before .before .before .run-rows in
-    both-refused _ _ (the-translate-rows .ensures) (the-run-rows .ensures) _ _ (c .before .translated2 .given .1)
+    both-refused _ _ (the-translate-rows .ensures) (the-run-rows .ensures) _ _
+    (c .before .translated2 .given .1)
 
 pub run-both-spec : {M : Type 1} → statement M
 run-both-spec =

@@ -4,7 +4,7 @@ use native.Mathlib.Omega.{arith}
 use Prim.Native.Nat.{ℕ, _-_, _≤_}
 use lib.ListN.{length, take, drop}
 use mathlib.Core.List.{List, _++_, append-nil}
-use Rattle.text.specs.Lines.{field}
+use Rattle.language.specs.TextLines.{field}
 use Rattle.text.proofs.Lines.{field-end, field-all, field-more, is-tab, is-feed, is-other}
 use Rattle.text.proofs.find_field.Statement.{statement}
 use Rattle.text.proofs.find_field.Tie as tie

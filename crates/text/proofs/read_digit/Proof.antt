@@ -1,7 +1,7 @@
 -- `text::read_digit` meets its contract. Assumes nothing.
 use native.Mathlib.Omega.{arith}
 use borrow.Author.Tests.{le-leb, lt-leb}
-use Rattle.text.specs.Decimals.{digit-of}
+use Rattle.language.specs.Decimals.{digit-of}
 use borrow.Author.Needs.{needs}
 use Rattle.text.proofs.read_digit.Statement.{statement}
 use Rattle.text.proofs.read_digit.Tie as tie

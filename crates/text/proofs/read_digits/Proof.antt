@@ -4,9 +4,9 @@ use native.Mathlib.Omega.{arith}
 use Prim.Native.Nat.{_+_, _-_, _≤_}
 use lib.ListN.{length, getD, drop}
 use borrow.Author.Needs.{needs}
-use Rattle.text.specs.Decimals.{scan, add-digit}
+use Rattle.language.specs.Decimals.{scan, add-digit}
 use Rattle.text.proofs.Decimals.{scan-bad, scan-more, scan-end, digit-low, digit-high, digit-small}
-use Rattle.text.specs.declared.Decimal.{Decimal}
+use Rattle.language.specs.declared.Decimal.{Decimal}
 use Rattle.text.proofs.read_digits.Statement.{statement}
 use Rattle.text.proofs.read_digits.Tie as tie
 

@@ -5,7 +5,7 @@ use native.Mathlib.Omega.{arith}
 use lib.ListN.{length}
 use borrow.Author.Needs.{needs}
 use Rattle.text.proofs.Parsing.{read-whole, read-fits}
-use Rattle.text.specs.Texts.{read-text}
+use Rattle.language.specs.Texts.{read-text}
 use Rattle.language.proofs.Filling.{filled-refused, filled-made, filled-short, filled-done}
 use Rattle.language.specs.Filling.{made-numbers}
 use Rattle.text.proofs.read_through.Statement.{statement}

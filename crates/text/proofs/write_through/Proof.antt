@@ -4,7 +4,7 @@ use native.Mathlib.Omega.{arith}
 use lib.ListN.{length}
 use borrow.Author.Needs.{needs}
 use Rattle.text.proofs.Formatting.{write-fits}
-use Rattle.text.specs.Texts.{write-rows}
+use Rattle.language.specs.Texts.{write-rows}
 use Rattle.language.proofs.Filling.{filled-refused, filled-made, filled-short, filled-done}
 use Rattle.language.specs.Filling.{made-numbers}
 use Rattle.text.proofs.write_through.Statement.{statement}

@@ -4,7 +4,7 @@ use lib.ListN.{replicate}
 use lib.Seq.{length-take-le}
 use borrow.Author.Needs.{needs}
 use Rattle.language.specs.Results.{accept}
-use Rattle.console.specs.Printed.{translate-output}
+use Rattle.language.specs.Printed.{translate-output}
 use Rattle.console.proofs.Showing.{counted-within}
 use Rattle.translate.proofs.main.Statement.{statement}
 use Rattle.translate.proofs.main.Tie as tie

@@ -5,30 +5,16 @@ use mathlib.Core.List.{List, [], _∷_, _++_}
 use Prim.Native.Nat.{ℕ, suc}
 use lib.Dec.{leb}
 use lib.ListN.{length, replicate}
-use Rattle.language.specs.Limits.{room-refusal, no-line}
+use Rattle.language.specs.Limits.{room-refusal, no-line, text-room, source-room, plain-room, store-room}
+use Rattle.language.specs.Limits.{program-fuel}
 use Rattle.language.specs.Results.{Checked, accept, refuse, bind-checked, require}
 use Rattle.language.specs.Evaluation.{null, truth, object, raised, spent, deep, full, stuck}
 use Rattle.language.specs.Store.{Outcome, gave, ended, stop-number, Answer, refused, ran, run-of}
-use Rattle.language.specs.Translation.{translation-into}
-use Rattle.text.specs.Decimals.{digits}
-use Rattle.text.specs.Lines.{tab, line-feed}
-use Rattle.text.specs.Texts.{read-text, write-rows}
-
--- What the programs hold: bytes of text, numbers of source rows and of plain rows; what the running program lends.
-abbrev pub text-room : ℕ
-text-room = 8192
-
-abbrev pub source-room : ℕ
-source-room = 2720
-
-abbrev pub plain-room : ℕ
-plain-room = 4000
-
-abbrev pub store-room : ℕ
-store-room = 3000
-
-abbrev pub program-fuel : ℕ
-program-fuel = 10000
+use Rattle.language.specs.Translation.{translation}
+use Rattle.language.specs.Filling.{held}
+use Rattle.language.specs.Decimals.{digits}
+use Rattle.language.specs.TextLines.{tab, line-feed}
+use Rattle.language.specs.Texts.{read-text, write-rows}
 
 -- A number after a tab.
 abbrev pub number-text : ℕ → List ℕ
@@ -60,11 +46,6 @@ abbrev pub run-text : Answer → List ℕ
 run-text (refused n l) = refusal-text n l
 run-text (ran o steps objects changes) = outcome-text o ++ counts-text steps objects changes
 
--- What was made, where a buffer holds it.
-unfoldable pub held : ℕ → Checked (List ℕ) → Checked (List ℕ)
-held room (accept xs) = require (leb (length xs) room) room-refusal no-line λ _. accept xs
-held room (refuse n l) = refuse n l
-
 -- The rows of an input.
 unfoldable pub source-rows : List ℕ → Checked (List ℕ)
 source-rows input = require (leb (length input) text-room) room-refusal no-line λ _.
@@ -76,7 +57,7 @@ printed (refuse n l) = refusal-text n l
 
 -- The translating program: the text of the plain rows.
 unfoldable pub plain-text : List ℕ → Checked (List ℕ)
-plain-text rows = bind-checked (translation-into plain-room rows) λ plain. held text-room (write-rows plain)
+plain-text rows = bind-checked (held plain-room (translation rows)) λ plain. held text-room (write-rows plain)
 
 unfoldable pub translate-output : List ℕ → List ℕ
 translate-output input = printed (bind-checked (source-rows input) λ rows. plain-text rows)
@@ -86,7 +67,7 @@ unfoldable pub run-line : List ℕ → List ℕ
 run-line rows = run-text (run-of rows program-fuel (replicate store-room 0) .answer)
 
 unfoldable pub run-lines : List ℕ → Checked (List ℕ)
-run-lines rows = bind-checked (translation-into plain-room rows) λ plain.
+run-lines rows = bind-checked (held plain-room (translation rows)) λ plain.
     accept (run-line rows ++ run-line plain)
 
 unfoldable pub run-output : List ℕ → List ℕ

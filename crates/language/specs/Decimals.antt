@@ -5,9 +5,9 @@ use mathlib.Core.List.{List, [], _∷_, _++_}
 use Prim.Native.Nat.{ℕ, zero, suc, _+_, _-_, _*_, _/_, _%_}
 use lib.Dec.{eqb, leb, ltb}
 use lib.ListN.{length, getD}
-use Rattle.language.specs.Limits.{largest}
-use Rattle.text.specs.declared.Decimal.{Decimal}
-use Rattle.text.specs.declared.Decimal.the-variants.{Is, Bad}
+use Rattle.language.specs.Limits.{largest, most-digits}
+use Rattle.language.specs.declared.Decimal.{Decimal}
+use Rattle.language.specs.declared.Decimal.the-variants.{Is, Bad}
 
 -- The digit of a byte; 48 is the code of 0.
 unfoldable pub digit-of : ℕ → Decimal
@@ -28,7 +28,7 @@ scan (Is v) (b ∷ s) = scan (add-digit v (digit-of b)) s
 unfoldable pub decimal-of : List ℕ → Decimal
 decimal-of s =
     cond (eqb (length s) 0) Bad
-    (cond (ltb 5 (length s)) Bad
+    (cond (ltb most-digits (length s)) Bad
     (cond (eqb (getD s 0 0) 48) (cond (ltb 1 (length s)) Bad (scan (Is 0) s)) (scan (Is 0) s)))
 
 -- The digits of a number, without leading zeros; `k` is more than the number.

@@ -22,11 +22,12 @@ use Rattle.language.specs.Headings.{check-effects, check-methods, check-class, 
 use Rattle.language.specs.Typing.{Environment, fresh-slot, method-environment, start-environment, need-class}
 use Rattle.language.specs.Typing.{not-bool, fits, all-fit, join-types, can-change, locals-declared, type-of}
 use Rattle.language.specs.Typing.{type-all, type-method, type-methods, type-classes, bodies}
-use Rattle.theory.specs.Listed.{LineOf, HeadingRefusal, refuses-fields, refuses-heading-name}
-use Rattle.theory.specs.Listed.{refuses-kind, refuses-override, BodyRefusal, refuses-name, refuses-slot}
-use Rattle.theory.specs.Listed.{refuses-member, refuses-type, refuses-effect, refuses-change}
-use Rattle.theory.specs.Refusals.{Among, Any, Gives, gives, refuses, gives-bind, gives-need}
-use Rattle.theory.specs.Refusals.{gives-require}
+use Rattle.promises.specs.Listed.{LineOf, HeadingRefusal, refuses-fields, refuses-heading-name}
+use Rattle.promises.specs.Listed.{refuses-kind, refuses-override, BodyRefusal, refuses-name}
+use Rattle.promises.specs.Listed.{refuses-slot}
+use Rattle.promises.specs.Listed.{refuses-member, refuses-type, refuses-effect, refuses-change}
+use Rattle.promises.specs.Refusals.{Among, Any, Gives, gives, refuses, gives-bind, gives-need}
+use Rattle.promises.specs.Refusals.{gives-require}
 
 module _ (most : Most) (P : List Class) (rows : ℕ) where
   abbrev HeadingGives : {A : Type 0} → Checked A → Type 0

@@ -1,6 +1,6 @@
--- Which programs the translator takes, how a run of rows over a lent store ends, and when the run of a program
--- and that of its plain form end alike: the words in which the demands are stated. Objects are read off the
--- numbers of the stores.
+-- Which programs the translator takes, how a run of rows over a lent store ends, and when the run of a
+-- program and that of its plain form end alike: the words in which the demands are stated. Objects are read
+-- off the numbers of the stores.
 use mathlib.Core.Path.{_≡_}
 use mathlib.Core.Logic.{_≢_}
 use Prim.Native.Nat.{ℕ, _+_, _*_, _≤_, _<_}
@@ -16,11 +16,11 @@ use Rattle.language.specs.Program.{world}
 use Rattle.language.specs.WellFormed.{Each, ProgramInForm}
 use Rattle.language.specs.Translation.{plain-program}
 use Rattle.language.specs.Verdict.{check}
-use Rattle.language.specs.Evaluation.{Value, Object, State, raised, deep, first-state}
+use Rattle.language.specs.Evaluation.{Value, Object, State, Stop, raised, deep, first-state}
 use Rattle.language.specs.Runs.{Evaluates}
 use Rattle.language.specs.Store.{heap-of-numbers, capacity, stored, Outcome, gave, ended, ran, Ran}
 use Rattle.language.specs.Correspondence.{identities, EndAlike, Matches}
 use Rattle.theory.specs.Accepts.{RowsOf}
 
 -- The column "translator's input" of the table of limits (document 01, "Lines and rows"). The numbers are
 -- written out here, so that the demand does not follow the definition if that has another one.
@@ -115,30 +115,21 @@ pub record EndAlikeOnStores (ns out : List ℕ) (a a′ : Ran) : Type 0 where
   pub each : (j : ℕ) → j < source .objects
       → ObjectMatches (objects-after ns source) (objects-after out plain) j
 
--- The evaluation relation (002, Figures 3 to 6) derives an outcome of a program and the state then, a value
--- or an exception, with at most 64 calls active.
-pub data Derives (p : Program) : Outcome → State → Type 0 where
+-- The evaluation relation (Runs: 002, Figures 3 to 6, with the stops of document 01) derives an outcome of a
+-- program and the state then, with so much fuel, room for so many objects, and 64 calls active at most.
+pub data Derives (p : Program) (fuel room : ℕ) : Outcome → State → Type 0 where
   derives-value : {v : Value} {t : State}
-      → Evaluates (world (p .classes)) most-calls (p .start) first-state (ok v t) → Derives p (gave v) t
-  derives-exception : {n : ℕ} {t : State}
-      → Evaluates (world (p .classes)) most-calls (p .start) first-state (stop (raised n) t)
-      → Derives p (ended (raised n)) t
+      → Evaluates (world (p .classes)) fuel room most-calls (p .start) first-state (ok v t)
+      → Derives p fuel room (gave v) t
+  derives-stop : {x : Stop} {t : State}
+      → Evaluates (world (p .classes)) fuel room most-calls (p .start) first-state (stop x t)
+      → Derives p fuel room (ended x) t
 
--- What the relation derives of a program, within fuel and the store's room, as an answer and the store
--- afterwards.
-pub record DerivedWithinStore (p : Program) (fuel : ℕ) (store : List ℕ) (a : Ran) : Type 0 where
+-- What the relation derives of a program with fuel and the room of a store, as an answer and the store
+-- afterwards: the outcome with its counts, and the objects made before what was there past them.
+pub record DerivedRun (p : Program) (fuel : ℕ) (store : List ℕ) (a : Ran) : Type 0 where
   pub outcome : Outcome
   pub state : State
-  pub derived : Derives p outcome state
-  pub within-fuel : state .steps ≤ fuel
-  pub within-room : length (state .heap) ≤ capacity store
+  pub derived : Derives p fuel (capacity store) outcome state
   pub answer : a .answer ≡ ran outcome (state .steps) (length (state .heap)) (state .changes)
   pub store-after : a .store ≡ stored (state .heap) store
-
--- A value or an exception, and a run that ends so.
-pub data ValueOrException : Outcome → Type 0 where
-  value : {v : Value} → ValueOrException (gave v)
-  exception : {n : ℕ} → ValueOrException (ended (raised n))
-
-abbrev pub EndsInValueOrException : Ran → Type 0
-EndsInValueOrException a = Ends ValueOrException a

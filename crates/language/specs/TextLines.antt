@@ -5,14 +5,14 @@ use mathlib.Core.List.{List, [], _∷_, _++_}
 use Prim.Native.Nat.{ℕ, zero, suc, _+_}
 use lib.Dec.{eqb}
 use lib.ListN.{length, drop}
 use Rattle.language.specs.Rows.{numbers-after}
-use Rattle.text.specs.Decimals.{decimal-of, digits}
-use Rattle.text.specs.declared.Decimal.{Decimal}
-use Rattle.text.specs.declared.Decimal.the-variants.{Is, Bad}
-use Rattle.text.specs.declared.Taken.{Taken}
-use Rattle.text.specs.declared.Taken.the-variants.{Number, NoNumber}
-use Rattle.text.specs.declared.Line.{Line}
-use Rattle.text.specs.declared.Line.the-variants.{Row, Malformed}
+use Rattle.language.specs.Decimals.{decimal-of, digits}
+use Rattle.language.specs.declared.Decimal.{Decimal}
+use Rattle.language.specs.declared.Decimal.the-variants.{Is, Bad}
+use Rattle.language.specs.declared.Taken.{Taken}
+use Rattle.language.specs.declared.Taken.the-variants.{Number, NoNumber}
+use Rattle.language.specs.declared.Line.{Line}
+use Rattle.language.specs.declared.Line.the-variants.{Row, Malformed}
 
 abbrev pub tab : ℕ
 tab = 9

@@ -6,13 +6,13 @@ use mathlib.Core.List.{List, [], _∷_}
 use Prim.Native.Nat.{ℕ, zero, suc, _+_, _%_}
 use lib.Dec.{eqb}
 use lib.ListN.{length, drop}
 use Rattle.language.specs.Limits.{of-check, line-refusal, limit-refusal, numbers-a-row, no-line}
 use Rattle.language.specs.Results.{Checked, accept, refuse}
 use Rattle.language.specs.Filling.{before}
 use Rattle.language.specs.Rows.{row, is-row}
-use Rattle.text.specs.Lines.{line-of, line-text}
-use Rattle.text.specs.declared.Line.{Line}
-use Rattle.text.specs.declared.Line.the-variants.{Row, Malformed}
+use Rattle.language.specs.TextLines.{line-of, line-text}
+use Rattle.language.specs.declared.Line.{Line}
+use Rattle.language.specs.declared.Line.the-variants.{Row, Malformed}
 
 -- A line's row before the rows of the text after it, or the line's refusal.
 abbrev pub with-line : ℕ → (ℕ → Checked (List ℕ)) → Line → Checked (List ℕ)

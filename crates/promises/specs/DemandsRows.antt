@@ -16,21 +16,21 @@ use Rattle.language.specs.Translation.{plain-program, translation}
 use Rattle.language.specs.Store.{capacity, Outcome, gave, ended, ran, Ran, finish, run-of}
 use Rattle.language.specs.Correspondence.{EndAlike, both-give, same-exception, both-deep}
 use Rattle.language.specs.WellFormed.{Each}
 use Rattle.theory.specs.Lookups.{well-formed-laws}
 use Rattle.theory.specs.MoreLookups.{well-formed-more}
 use Rattle.theory.specs.PlainSteps.{More}
 use Rattle.language.specs.Lists.{nth-some}
 use Rattle.theory.specs.Accepts.{RowsOf, check-accepts}
 use Rattle.theory.specs.Members.{accepted-run}
-use Rattle.theory.specs.AcceptedTranslation.{plain-rows}
+use Rattle.promises.specs.AcceptedTranslation.{plain-rows}
 use Rattle.theory.specs.Translatable.{TranslatableRows, translation-takes, taken-laws}
 use Rattle.theory.specs.Cut.{final, proper-stop, proper}
 use Rattle.theory.specs.Demand3World.{outcome, EndsAlike}
 use Rattle.theory.specs.Demand3Program.{demand-3-run, demand-3-run-back}
 use Rattle.theory.specs.StoreNumbers.{Shaped, stored-back, run-shaped}
-use Rattle.theory.specs.RunsOfRows.{finish-answer, finish-store, ended-within-fuel}
-use Rattle.theory.specs.Endings.{objects-in, Proper, a-value, an-exception, too-deep, EndsProperly}
-use Rattle.theory.specs.Endings.{EndAlikeOnStores}
+use Rattle.promises.specs.RunsOfRows.{finish-answer, finish-store, ended-within-fuel}
+use Rattle.promises.specs.Endings.{objects-in, Proper, a-value, an-exception, too-deep, EndsProperly}
+use Rattle.promises.specs.Endings.{EndAlikeOnStores}
 
 -- A run's result is proper exactly if its outcome is.
 proper-result : (r : Out Value) → Proper (outcome r) → proper r ≡ true

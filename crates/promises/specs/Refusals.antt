@@ -59,6 +59,12 @@ pub only : {Listed Listed₂ : ℕ → ℕ → Type 0} {A : Type 0} {Q : A → T
 only (gives q) f = answers
 only (refuses w) f = refuses-as (f _ _ w)
 
+-- A check whose refusals are listed another way, given that it refuses so.
+pub only-refused : {Listed Listed₂ : ℕ → ℕ → Type 0} {A : Type 0} {r : Checked A} → RefusesOnly Listed r
+    → ((n l : ℕ) → r ≡ refuse n l → Listed n l → Listed₂ n l) → RefusesOnly Listed₂ r
+only-refused answers f = answers
+only-refused (refuses-as w) f = refuses-as (f _ _ refl w)
+
 pub only-mono : {Listed Listed₂ : ℕ → ℕ → Type 0} {A : Type 0} {r : Checked A} → RefusesOnly Listed r
     → ((n l : ℕ) → Listed n l → Listed₂ n l) → RefusesOnly Listed₂ r
 only-mono answers f = answers

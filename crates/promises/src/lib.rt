@@ -1,0 +1,1 @@
+// Theorems only: see specs/, where Listed, Endings and Demands are the statements.
