@@ -4,27 +4,19 @@ use second::machine::Outcome;
 
 type Answer = Result<(), (u32, u32)>;
 
-/// An example: the refusal's number from its heading, the program, and the call with its answer.
+/// An example of the page: the refusal's number from its heading, the program, and the call with its answer.
 struct Example {
     number: u32,
-    words: String,
     program: Vec<u8>,
-    call: String,
+    call: &'static str,
 }
 
 fn examples() -> Vec<Example> {
-    let page = include_str!("../../docs/REFUSALS.md");
-    let sections = page.split("\n## ").skip(1);
-    sections
-        .map(|section| {
-            let parts: Vec<&str> = section.split("```\n").collect();
-            let [heading, program, call] = parts[..] else { panic!("one example in: {section}") };
-            Example {
-                words: heading.lines().skip(1).collect(),
-                number: heading.split(' ').next().unwrap().parse().unwrap(),
-                program: program.replace(' ', "\t").into_bytes(),
-                call: call.trim().to_string(),
-            }
+    fickle::explanations()
+        .map(|found| Example {
+            number: found.number,
+            program: found.example.replace(' ', "\t").into_bytes(),
+            call: found.call,
         })
         .collect()
 }
@@ -44,8 +36,7 @@ fn every_number_has_an_example_and_it_holds() {
     let headings: Vec<u32> = examples.iter().map(|example| example.number).collect();
     assert_eq!(headings, (1..=16).collect::<Vec<u32>>());
     for example in examples {
-        assert_eq!(example.words, fickle::words(example.number));
-        let given = numbers(&example.call);
+        let given = numbers(example.call);
         match example.call.split(' ').next().unwrap() {
             "read:" => {
                 let proved = fickle::read_rows(&example.program, &mut [0; 64]).map(|_| ());

@@ -6,8 +6,10 @@
 //! Every function but `run_rows_on_this_stack` may be called on any thread that has `STACK_NEEDED` bytes of its stack
 //! left. A thread that `std::thread::spawn` starts has 2 MiB, which is more.
 
+mod refusals;
 mod stack;
 
+pub use refusals::{explanation, explanations, words, Explanation};
 pub use stack::{
     run_rows_stack_bound, CHECK_ROWS_STACK_NEEDED, READ_ROWS_STACK_NEEDED, RUN_ROWS_STACK_NEEDED,
     STACK_NEEDED, TRANSLATE_ROWS_STACK_NEEDED, WRITE_TEXT_STACK_NEEDED,
@@ -27,29 +29,6 @@ impl std::fmt::Display for Refusal {
 }
 
 impl std::error::Error for Refusal {}
-
-/// What a refusal or a stop means, in a sentence; docs/REFUSALS.md has an example of each.
-pub fn words(number: u32) -> &'static str {
-    match number {
-        1 => "A line is not a letter of the language with its numbers, each after one tab and at most 65,535.",
-        2 => "There is more of something than is allowed: rows, classes, fields, parameters, slots, nesting, a name over 255, or fuel.",
-        3 => "Another record is due here: the program ends too early, goes on after its end, or a block has no expression.",
-        4 => "A class is not declared (yet, if it is a superclass), or a name is given twice.",
-        5 => "A class of this kind cannot stand here, a field has a state class as its type, or an X does not name a root in ascending order.",
-        6 => "A method overrides another with other types or with a larger effect.",
-        7 => "A slot is not in scope, there is no `this`, or `this` would be set.",
-        8 => "The class has no such field or method, or the method takes another number of arguments.",
-        9 => "A type is not what the rule needs.",
-        10 => "A method's body changes the class of objects whose root its X lines do not name.",
-        11 => "An object cannot become this class: one of the two is neither root nor state, or their roots differ.",
-        12 => "The translator needs field names 254 and 255 for itself.",
-        13 => "The buffer lent for the result is too short; nothing was written.",
-        14 => "The run had no fuel left to enter a node; objects and counts are those made so far.",
-        15 => "A call was made while 64 were active.",
-        16 => "A new object was to be made, and the store had no room for it.",
-        _ => "No such refusal.",
-    }
-}
 
 /// A value. Objects count from 1 in the order in which they were made.
 #[derive(Clone, Copy, Debug, PartialEq, Eq)]

@@ -24,7 +24,12 @@ fn main() {
     };
     let examples: Vec<Example> = examples(&page);
     for Example { command, expected } in examples.iter().filter(|example| example.command != GATE) {
-        let printed = Command::new("sh").args(["-c", &format!("{command} 2>&1")]).current_dir(&root).output();
+        // As typed by a person, who has cargo build into target/.
+        let printed = Command::new("sh")
+            .args(["-c", &format!("{command} 2>&1")])
+            .current_dir(&root)
+            .env_remove("CARGO_TARGET_DIR")
+            .output();
         let printed = match printed {
             Ok(printed) => String::from_utf8_lossy(&printed.stdout).into_owned(),
             Err(error) => return fail(&format!("{command}: {error}")),

@@ -1,0 +1,113 @@
+//! The pages that `--help` prints.
+
+use crate::output::print;
+use crate::{Status, Trouble};
+use std::ffi::OsString;
+
+pub const USAGE: &str = "\
+Usage:
+  sigvolar check FILE...
+  sigvolar translate FILE
+  sigvolar run FILE [--fuel N] [--objects N] [--store OUT] [--plain]
+  sigvolar explain NUMBER
+  sigvolar help COMMAND
+";
+
+pub const TOOL: &str = "\
+sigvolar checks, translates and runs label rules: programs in which each label is an object that changes class. Every
+verdict, translation and run is that of a service that is proved to follow the published rules.
+
+Usage:
+  sigvolar check FILE...      say of each file whether its rules are accepted
+  sigvolar translate FILE     print the plain program that printers run
+  sigvolar run FILE           run the rules, and count the objects by the class they ended in
+  sigvolar explain NUMBER     say what a refusal means, with a smallest example
+  sigvolar help COMMAND       print the page of a command, as `sigvolar COMMAND --help` does
+  sigvolar --version
+
+FILE may be - for standard input. After -- everything is a file.
+
+Results are printed on standard output, everything else on standard error. Exit status: 0 where all went well, 1 where
+rules were refused or a run did not end in a value, 2 where the command was called wrongly or a file could not be read
+or written; with several files 2 wins over 1.
+";
+
+const CHECK: &str = "\
+Usage: sigvolar check FILE...
+
+Says of each file whether its rules are accepted:
+
+  FILE: accepted
+  FILE:LINE: refused (10, effect): sentence
+
+Every file is tried, whatever became of those before it. The number and the word are those of `sigvolar explain`.
+Where the bytes of a malformed line tell what is wrong with it, a note on standard error says so.
+";
+
+const TRANSLATE: &str = "\
+Usage: sigvolar translate FILE
+
+Prints the lines of the plain program, in which no object changes class and which printers run. Rules that are refused,
+or that are over the translator's limits, print nothing; the refusal is said on standard error.
+";
+
+const RUN: &str = "\
+Usage: sigvolar run FILE [--fuel N] [--objects N] [--store OUT] [--plain]
+
+Runs the rules and prints how the run ended, its steps, the objects made, the changes of class, and how many objects
+ended in each class. An object is counted in exactly the class that it ended in: one of a class below another is not
+counted in that other class.
+
+  --fuel N      how many steps the run may take, up to 100,000,000 (1,000,000 where it is not given)
+  --objects N   how many objects the store has room for, up to 65,535 (65,535 where it is not given)
+  --store OUT   write the objects made to the file OUT: an object a line, its 18 numbers with tabs between them, the
+                class first, then the fields
+  --plain       run the translation as well, on 84 times the fuel and with room for the 2n + r objects that it makes
+                where the rules make n objects and r changes of class, and say whether both end alike and count alike;
+                the fuel is then at most 1,000,000
+";
+
+const EXPLAIN: &str = "\
+Usage: sigvolar explain NUMBER
+
+Prints what a refusal (1 to 13) or a stop (14 to 16) means, a smallest program that has it, and the call that answers
+so. Its word does as well: `sigvolar explain effect`.
+";
+
+const HELP: &str = "\
+Usage: sigvolar help COMMAND
+
+Prints the page of a command: check, translate, run or explain.
+";
+
+/// The page of a command.
+pub fn page(command: &str) -> Option<&'static str> {
+    match command {
+        "check" => Some(CHECK),
+        "translate" => Some(TRANSLATE),
+        "run" => Some(RUN),
+        "explain" => Some(EXPLAIN),
+        "help" => Some(HELP),
+        _ => None,
+    }
+}
+
+/// Whether a command is asked for its page: by an option before `--`.
+pub fn is_asked(rest: &[OsString]) -> bool {
+    rest.iter()
+        .take_while(|argument| *argument != "--")
+        .any(|argument| argument == "--help" || argument == "-h")
+}
+
+pub fn command(rest: &[OsString]) -> Result<Status, Trouble> {
+    match rest {
+        [] => print(TOOL),
+        [name, ..] => match page(&name.to_string_lossy()) {
+            Some(page) => print(page),
+            None => Err(Trouble(format!(
+                "there is no command '{}'. See `sigvolar --help`.",
+                name.to_string_lossy()
+            ))),
+        },
+    }
+}

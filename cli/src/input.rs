@@ -1,0 +1,105 @@
+//! Files of rules: reading them, and the words for a refusal.
+
+use crate::Trouble;
+use fickle::{explanation, read_rows, Refusal};
+use std::ffi::OsStr;
+use std::fs::File;
+use std::io::Read;
+
+/// Numbers in a row.
+pub const ROW: usize = 4;
+/// The most rows of a program.
+pub const ROWS_MOST: usize = 60_000;
+/// The most bytes of a well-formed line, its line feed included.
+pub const LINE_MOST: usize = 14;
+/// What decides any verdict of the reader: 60,000 lines are well formed within these bytes or one of them is not, and then
+/// whatever follows is line 60,001.
+const TEXT_MOST: u64 = (ROWS_MOST * LINE_MOST) as u64 + 1;
+
+/// A text of rules, and how its file is called in messages.
+pub struct Input {
+    pub name: String,
+    text: Vec<u8>,
+}
+
+impl Input {
+    /// Reads a file, or standard input for `-`.
+    pub fn read(file: &OsStr) -> Result<Input, Trouble> {
+        let (name, text) = if file == "-" {
+            ("<standard input>".to_string(), contents(std::io::stdin().lock()))
+        } else {
+            (file.to_string_lossy().into_owned(), File::open(file).and_then(contents))
+        };
+        match text {
+            Ok(text) => Ok(Input { name, text }),
+            Err(error) => Err(Trouble(format!("cannot read {name}: {}.", reason(&error)))),
+        }
+    }
+
+    /// Its rows.
+    pub fn rows(&self) -> Result<Vec<u32>, Refusal> {
+        let mut rows = vec![0; ROWS_MOST * ROW];
+        let count = read_rows(&self.text, &mut rows)?;
+        rows.truncate(count * ROW);
+        Ok(rows)
+    }
+
+    /// A refusal as editors read it: file, line, number and word, sentence.
+    pub fn refused(&self, refusal: Refusal) -> String {
+        let place = match refusal.line {
+            0 => self.name.clone(),
+            line => format!("{}:{line}", self.name),
+        };
+        let found = explanation(refusal.number);
+        let (word, sentence) = found.map_or(("", ""), |found| (found.word, found.sentence));
+        format!("{place}: refused ({}, {word}): {sentence}", refusal.number)
+    }
+
+    /// What may be wrong with a malformed line, where its bytes tell.
+    pub fn hint(&self, refusal: Refusal) -> Option<String> {
+        if refusal.number != 1 || refusal.line == 0 {
+            return None;
+        }
+        let before = refusal.line as usize - 1;
+        let line = self.text.split_inclusive(|byte| *byte == b'\n').nth(before)?;
+        Some(format!("{}:{}: note: {}", self.name, refusal.line, suspected(line)?))
+    }
+}
+
+/// All that is worth reading of a file.
+fn contents(file: impl Read) -> std::io::Result<Vec<u8>> {
+    let mut text = Vec::new();
+    file.take(TEXT_MOST).read_to_end(&mut text)?;
+    Ok(text)
+}
+
+/// Why a line may be malformed.
+fn suspected(line: &[u8]) -> Option<&'static str> {
+    let has = |some: fn(&u8) -> bool| line.iter().any(some);
+    Some(if line.starts_with(b"\xef\xbb\xbf") {
+        "the file begins with a byte-order mark; save it without one"
+    } else if line.ends_with(b"\r\n") {
+        "the line ends in a carriage return and a line feed; save the file with line feeds alone"
+    } else if has(|byte| *byte < b' ' && !b"\t\n\r".contains(byte)) || has(|byte| *byte > b'~') {
+        "the line has bytes that no rule has; this may not be a file of rules"
+    } else if line == b"\n" {
+        "the line is empty, and no line may be"
+    } else if line.contains(&b' ') {
+        "the line has a space; a tab goes before each number, and nothing else"
+    } else if line.first().is_some_and(u8::is_ascii_lowercase) {
+        "the letter is not a capital"
+    } else if !line.ends_with(b"\n") {
+        "the line does not end in a line feed"
+    } else {
+        return None;
+    })
+}
+
+/// What went wrong with a file, without the system's number.
+pub fn reason(error: &std::io::Error) -> String {
+    let text = error.to_string();
+    match text.split_once(" (os error") {
+        Some((words, _)) => words.to_string(),
+        None => text,
+    }
+}
