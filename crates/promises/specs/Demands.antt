@@ -1,6 +1,7 @@
--- The demands, over rows, fuel and lent stores as numbers: the definitions that the services' contracts cite.
--- What is listed is in Listed; what it is to end properly, to end alike on stores and to be derived within a
--- store is in Endings; the rules are those of WellFormed and Runs. The proofs are in the files cited.
+-- The demands, over texts, rows, fuel and lent stores as numbers: the definitions that the services'
+-- contracts cite. What is listed is in Listed; what it is to end properly, to end alike on stores and to be
+-- derived over a store is in Endings; the rules are those of WellFormed and Runs. The proofs are in the files
+-- cited.
 use mathlib.Core.Path.{_≡_}
 use mathlib.Core.Logic.{_↔_, _≢_}
 use Prim.Native.Nat.{ℕ, _+_, _*_, _≤_}
@@ -42,8 +43,8 @@ demand-1-reader text old = filling-listed numbers-a-row (reader-refuses text) ol
 
 -- Demand 1, the writer. Whatever the numbers, and whatever is lent for their text, it answers how many bytes
 -- it wrote and leaves what was there past them; or it leaves all that was lent unchanged and refuses with 1
--- on no line where the numbers are not whole rows, with 1 on a line whose row is malformed, with 2 on line
--- 60,001 where there are more rows than 60,000, or with 13 on no line where the text does not fit.
+-- on no line where the numbers are not whole rows, with 1 on the first line whose row is malformed, with 2 on
+-- line 60,001 where there are more rows than 60,000, or with 13 on no line where the text does not fit.
 pub demand-1-writer : (ns old : List ℕ)
     → ListedFilling 1 (WriterRefusal ns) (write-rows ns) old
     (answer 1 (write-rows ns) (length old)) (buffer (write-rows ns) old)

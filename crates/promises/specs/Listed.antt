@@ -5,7 +5,7 @@ use mathlib.Core.Path.{_≡_}
 use mathlib.Core.Logic.{_≢_}
 use Prim.Native.Nat.{ℕ, _+_, _-_, _*_, _/_, _%_, _≤_, _<_}
 use mathlib.Core.Option.{none, some}
-use mathlib.Core.Bool.{false}
+use mathlib.Core.Bool.{true, false}
 use mathlib.Core.List.{List, [], _++_}
 use lib.ListN.{length, drop}
 use Rattle.language.specs.Limits.{of-check, line-refusal, limit-refusal, place-refusal, name-refusal}
@@ -27,6 +27,7 @@ use Rattle.language.specs.Form.{form}
 use Rattle.language.specs.Headings.{headings}
 use Rattle.language.specs.Typing.{bodies}
 use Rattle.language.specs.Verdict.{Verdict, accepted, refused}
+use Rattle.language.specs.Translation.{within-limits}
 use Rattle.language.specs.Evaluation.{Value, raised, spent, deep, full}
 use Rattle.language.specs.Store.{capacity, Outcome, gave, ended, ran, Ran, refused as run-refused}
 use Rattle.theory.specs.Accepts.{RowsOf}
@@ -51,13 +52,18 @@ pub data ReaderRefusal (text : List ℕ) : ℕ → ℕ → Type 0 where
   line-too-many : {rest : List ℕ} → LinesRead (of-check .rows) text rest → rest ≢ []
       → ReaderRefusal text limit-refusal (1 + of-check .rows)
 
--- The writer: 1 on no line where the numbers are not whole rows, 1 on a line whose row is malformed, 2 on
--- line 60,001 where there are more rows.
+-- None of the first n rows is malformed.
+abbrev pub WellMade : List ℕ → ℕ → Type 0
+WellMade ns n = (i : ℕ) (r : Row) → i < n → nth (rows-of ns) i ≡ some r → is-row r ≡ true
+
+-- The writer: 1 on no line where the numbers are not whole rows, 1 on the first line whose row is malformed,
+-- 2 on line 60,001 where there are more rows and none before it is malformed.
 pub data WriterRefusal (ns : List ℕ) : ℕ → ℕ → Type 0 where
   no-whole-rows-written : length ns % numbers-a-row ≢ 0 → WriterRefusal ns line-refusal no-line
-  malformed-row : {l : ℕ} (r : Row) → LineOf (of-check .rows) l → nth (rows-of ns) (l - 1) ≡ some r
-      → is-row r ≡ false → WriterRefusal ns line-refusal l
-  row-too-many : of-check .rows < length (rows-of ns) → WriterRefusal ns limit-refusal (1 + of-check .rows)
+  malformed-row : {n : ℕ} (r : Row) → n < of-check .rows → WellMade ns n → nth (rows-of ns) n ≡ some r
+      → is-row r ≡ false → WriterRefusal ns line-refusal (1 + n)
+  row-too-many : WellMade ns (of-check .rows) → of-check .rows < length (rows-of ns)
+      → WriterRefusal ns limit-refusal (1 + of-check .rows)
 
 -- The pass over form: 1 on a row that is not a record, 2 on one of the rows, 3 there or one line past the
 -- end.
@@ -104,13 +110,14 @@ pub data Reserved : ℕ → Type 0 where
   names-id : Reserved 254
   names-imp : Reserved 255
 
--- The translator: as the check; then 2 on a line of the program that is over its column of limits; then 12 on
--- an F line that gives a reserved name.
+-- The translator: as the check; then 2 on a line of the program that is over its column of limits; then,
+-- where none is, 12 on an F line that gives a reserved name.
 pub data TranslatorRefusal (ns : List ℕ) : ℕ → ℕ → Type 0 where
   by-check : {n l : ℕ} → CheckRefusal ns n l → TranslatorRefusal ns n l
   over-limit : {l : ℕ} (p : Program) → RowsOf ns p → LineOf (length (rows-of ns)) l
       → OverLimit translator-column p l → TranslatorRefusal ns limit-refusal l
-  reserved-name : {l : ℕ} (type name : ℕ) → LineOf (length (rows-of ns)) l
+  reserved-name : {l : ℕ} (p : Program) (type name : ℕ) → RowsOf ns p → within-limits ns p ≡ passed
+      → LineOf (length (rows-of ns)) l
       → nth (rows-of ns) (l - 1) ≡ some (row-of (written F-field type name)) → Reserved name
       → TranslatorRefusal ns reserved-refusal l
 

@@ -10,11 +10,11 @@ use borrow.Author.Tests.{eqb-true}
 use native.Mathlib.Omega.{arith}
 use Rattle.language.specs.Limits.{id-field, imp-field, reserved-refusal}
 use Rattle.language.specs.Lists.{nth}
-use Rattle.language.specs.Results.{require}
+use Rattle.language.specs.Results.{require, passed}
 use Rattle.language.specs.Rows.{F-field, Record, written, Row, row-of, rows-of}
 use Rattle.language.specs.Tree.{type-number, Field, Class, class-lines, Program, flatten-methods}
 use Rattle.language.specs.Tree.{flatten-classes, flatten-program}
-use Rattle.language.specs.Translation.{fields-free, names-free}
+use Rattle.language.specs.Translation.{within-limits, fields-free, names-free}
 use Rattle.language.proofs.Booleans.{false≢}
 use Rattle.theory.specs.TreeRows.{length-methods}
 use Rattle.theory.specs.Accepts.{RowsOf, rows-of-numbers}
@@ -88,21 +88,22 @@ reserved-row-of : (x : Record) → ReservedField x → ReservedRow (row-of x)
 reserved-row-of x (reserved-field type w) = reserved-row type w
 
 -- A line of the program is a row of its numbers.
-line-refused : (ns : List ℕ) (p : Program) → RowsOf ns p → (n l : ℕ)
+line-refused : (ns : List ℕ) (p : Program) → RowsOf ns p → within-limits ns p ≡ passed → (n l : ℕ)
     → ReservedLine 1 (flatten-program p) n l → TranslatorRefusal ns n l
-line-refused ns p r n l (reserved-line h) =
+line-refused ns p r within n l (reserved-line h) =
     let rows = subst (λ (rs : List Row). OnLine ReservedRow 1 rs l) (rows-are ns p r)
     (on-map row-of reserved-row-of h) in
     found (on-nth rows (l - 1) (omega (arith, on-from rows)))
     (record { from = on-from rows; to = omega (arith, on-to rows) })
   where
-    found : (r : Row) × (nth (rows-of ns) (l - 1) ≡ some r) × ReservedRow r → LineOf (length (rows-of ns)) l
+    found : (q : Row) × (nth (rows-of ns) (l - 1) ≡ some q) × ReservedRow q → LineOf (length (rows-of ns)) l
         → TranslatorRefusal ns reserved-refusal l
-    found (r, e, reserved-row type {name} w) line = reserved-name type name line e w
+    found (q, e, reserved-row type {name} w) line = reserved-name p type name r within line e w
 
--- The names of a program whose rows these are: refused only with 12, on an F line with a reserved name.
-pub names-refuse : (ns : List ℕ) (p : Program) → RowsOf ns p
+-- The names of a program whose rows these are, and which the translator's limits let pass: refused only with
+-- 12, on an F line with a reserved name.
+pub names-refuse : (ns : List ℕ) (p : Program) → RowsOf ns p → within-limits ns p ≡ passed
     → RefusesOnly (TranslatorRefusal ns) (names-free 1 (p .classes))
 unfolding flatten-program
-names-refuse ns p r = only-mono (classes-reserved 1 (p .classes)) λ n l w.
-    line-refused ns p r n l (more (λ l h. on-left _ h) n l w)
+names-refuse ns p r within = only-mono (classes-reserved 1 (p .classes)) λ n l w.
+    line-refused ns p r within n l (more (λ l h. on-left _ h) n l w)

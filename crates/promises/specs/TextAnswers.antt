@@ -1,24 +1,25 @@
 -- Demand 1, the reader and the writer: they refuse only in the ways listed for them, each on its line.
-use mathlib.Core.Path.{_≡_, refl, sym, ap, subst}
+use mathlib.Core.Path.{_≡_, refl, sym, ap, _∙_, subst}
 use mathlib.Core.Logic.{_≢_}
 use Prim.Native.Nat.{ℕ, zero, suc, _+_, _%_}
 use mathlib.Core.Bool.{Bool, true, false, cond}
 use mathlib.Core.Option.{some}
 use mathlib.Core.List.{List, [], _∷_}
 use lib.ListN.{length, drop}
-use lib.Dec.{eqb}
-use borrow.Author.Tests.{eqb-true, eqb-false}
+use lib.Dec.{eqb, ltb}
+use borrow.Author.Tests.{ltb-true, ltb-false, eqb-true, eqb-false}
 use native.Mathlib.Omega.{arith}
 use Rattle.language.specs.Limits.{of-check, numbers-a-row, line-refusal, limit-refusal, no-line}
-use Rattle.language.specs.Lists.{nth}
+use Rattle.language.specs.Lists.{nth, inj}
 use Rattle.language.specs.Results.{Checked, refuse}
 use Rattle.language.specs.Filling.{before}
-use Rattle.language.specs.Rows.{row, is-row, rows-of}
+use Rattle.language.specs.Rows.{Row, row, is-row, rows-of}
 use Rattle.language.specs.TextLines.{line-of, line-text}
 use Rattle.language.specs.declared.Line.{Line}
 use Rattle.language.specs.declared.Line.the-variants.{Row as LineRow, Malformed}
 use Rattle.language.specs.Texts.{with-line, read-lines, read-text, write-lines, write-rows}
 use Rattle.promises.specs.Listed.{LinesRead, no-line-read, line-read, ReaderRefusal, malformed-line}
+use Rattle.promises.specs.Listed.{WellMade}
 use Rattle.promises.specs.Listed.{line-too-many, WriterRefusal, no-whole-rows-written, malformed-row}
 use Rattle.promises.specs.Listed.{row-too-many}
 use Rattle.promises.specs.Refusals.{RefusesOnly, answers, refuses-as}
@@ -76,12 +77,23 @@ pub reader-refuses : (text : List ℕ) → RefusesOnly (ReaderRefusal text) (rea
 reader-refuses text = lines-refuse text (of-check .rows) 0 1 text
     (record { allowed = refl; next = refl; lines = no-line-read })
 
+-- One row more that is not malformed.
+one-more : (ns : List ℕ) (n : ℕ) (r : Row) → WellMade ns n → nth (rows-of ns) n ≡ some r → is-row r ≡ true
+    → WellMade ns (1 + n)
+one-more ns n r h e t i r₁ l e₁ = go (ltb i n) refl
+  where
+    go : (b : Bool) → ltb i n ≡ b → is-row r₁ ≡ true
+    go true q = h i r₁ (ltb-true i n q) e₁
+    go false q = let same : i ≡ n = omega (arith, l, ltb-false i n q) in
+        ap is-row (inj (sym e₁ ∙ (ap (nth (rows-of ns)) same ∙ e))) ∙ t
+
 module _ (ns : List ℕ) where
   -- Rows that follow n rows, of which `left` more are allowed; the next makes line `line`.
   record FollowsRows (left n line : ℕ) (rows : List ℕ) : Type 0 where
     allowed : n + left ≡ of-check .rows
     next : line ≡ 1 + n
     whole : length rows % numbers-a-row ≡ 0
+    well-made : WellMade ns n
     each : (i : ℕ) → nth (rows-of ns) (n + i) ≡ nth (rows-of rows) i
     count : length (rows-of ns) ≡ n + length (rows-of rows)
 
@@ -94,29 +106,35 @@ module _ (ns : List ℕ) where
   rows-refuse zero n line (x ∷ y ∷ z ∷ []) h = absurd (omega (arith, h .whole))
   rows-refuse zero n line (x ∷ y ∷ z ∷ w ∷ rows) h =
       subst (λ (l : ℕ). RefusesOnly (WriterRefusal ns) {A = List ℕ} (refuse limit-refusal l))
-      (omega (arith, h .next, h .allowed)) (refuses-as (row-too-many (omega (arith, h .count, h .allowed))))
+      (omega (arith, h .next, h .allowed))
+      (refuses-as (row-too-many (subst (WellMade ns) (omega (arith, h .allowed)) (h .well-made))
+      (omega (arith, h .count, h .allowed))))
   rows-refuse (suc left) n line [] h = answers
   rows-refuse (suc left) n line (x ∷ []) h = absurd (omega (arith, h .whole))
   rows-refuse (suc left) n line (x ∷ y ∷ []) h = absurd (omega (arith, h .whole))
   rows-refuse (suc left) n line (x ∷ y ∷ z ∷ []) h = absurd (omega (arith, h .whole))
   rows-refuse (suc left) n line (x ∷ y ∷ z ∷ w ∷ rows) h =
-      go (is-row (row x y z w)) refl (rows-refuse left (1 + n) (line + 1) rows (record {
+      go (is-row (row x y z w)) refl (λ q. rows-refuse left (1 + n) (line + 1) rows (record {
         allowed = omega (arith, h .allowed);
         next = omega (arith, h .next);
         whole = omega (arith, h .whole);
+        well-made = one-more ns n (row x y z w) (h .well-made) this q;
         each = λ i. subst (λ (k : ℕ). nth (rows-of ns) k ≡ nth (rows-of rows) i) (omega arith)
             (h .each (suc i));
         count = omega (arith, h .count);
       }))
     where
+      this : nth (rows-of ns) n ≡ some (row x y z w)
+      this = subst (λ (k : ℕ). nth (rows-of ns) k ≡ some (row x y z w)) (omega arith) (h .each 0)
+
       go : (b : Bool) → is-row (row x y z w) ≡ b
-          → RefusesOnly (WriterRefusal ns) (write-lines left (line + 1) rows)
+          → (is-row (row x y z w) ≡ true → RefusesOnly (WriterRefusal ns) (write-lines left (line + 1) rows))
           → RefusesOnly (WriterRefusal ns)
           (cond b (before (line-text x y z) (write-lines left (line + 1) rows)) (refuse line-refusal line))
-      go true e f = only-before (line-text x y z) f
-      go false e f = refuses-as (malformed-row {l = line} (row x y z w)
-          (record { from = omega (arith, h .next); to = omega (arith, h .next, h .allowed) })
-          (subst (λ (k : ℕ). nth (rows-of ns) k ≡ some (row x y z w)) (omega (arith, h .next)) (h .each 0)) e)
+      go true e f = only-before (line-text x y z) (f e)
+      go false e f = subst (λ (l : ℕ). RefusesOnly (WriterRefusal ns) {A = List ℕ} (refuse line-refusal l))
+          (sym (h .next))
+          (refuses-as (malformed-row (row x y z w) (omega (arith, h .allowed)) (h .well-made) this e))
 
 -- The writer refuses only in the ways listed for it.
 pub writer-refuses : (ns : List ℕ) → RefusesOnly (WriterRefusal ns) (write-rows ns)
@@ -129,6 +147,7 @@ writer-refuses ns = go (eqb (length ns % numbers-a-row) 0) refl
       allowed = refl;
       next = refl;
       whole = eqb-true (length ns % numbers-a-row) 0 e;
+      well-made = λ i r l _. absurd (omega (arith, l));
       each = λ i. ap (nth (rows-of ns)) (omega arith);
       count = omega arith;
     })

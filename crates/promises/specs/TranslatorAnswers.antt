@@ -167,5 +167,5 @@ pub translation-refuses : (ns : List ℕ) → RefusesOnly (TranslatorRefusal ns)
 unfolding translation
 translation-refuses ns =
     only-bind (only-mono (check-refuses ns) (λ n l w. by-check w)) λ p e.
-    only-bind (limits-refuse ns p e) λ _ _.
-    only-bind (names-refuse ns p (check-accepts ns p .0 e)) λ _ _. answers
+    only-bind (limits-refuse ns p e) λ _ within.
+    only-bind (names-refuse ns p (check-accepts ns p .0 e) within) λ _ _. answers
