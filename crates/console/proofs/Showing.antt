@@ -1,6 +1,6 @@
 -- From what the services answer to what the programs print. Assumes nothing.
 use mathlib.Core.Path.{_≡_, refl, sym, ap, _∙_}
-use mathlib.Core.Bool.{Bool, true, false}
+use mathlib.Core.Bool.{Bool, true, false, cond}
 use mathlib.Core.List.{List, _++_}
 use Prim.Native.Nat.{ℕ, _+_, _*_, _/_, _%_, _≤_, _<_}
 use native.Mathlib.Omega.{arith}
@@ -8,7 +8,7 @@ use borrow.Author.Tests.{le-leb, lt-leb}
 use lib.Dec.{leb}
 use lib.ListN.{length, take, drop, replicate}
 use lib.Seq.{sets, length-sets, length-take-le}
-use Rattle.language.specs.Results.{Checked, accept, refuse, bind-checked, require, require-inv}
+use Rattle.language.specs.Results.{Checked, accept, refuse, bind-checked, bind-checked-inv}
 use Rattle.language.specs.Filling.{held, filled, overwritten, answer, buffer}
 use Rattle.language.specs.declared.Filled.{Filled}
 use Rattle.language.specs.declared.Filled.the-variants.{Done, Refused}
@@ -88,11 +88,11 @@ rows-made room m old new r n whole h a w d =
 -- ---- the source
 
 pub source-long : (input : List ℕ) → 8192 < length input → source-rows input ≡ refuse 13 0
-unfolding source-rows require
+unfolding source-rows bind-checked
 source-long input h = rw (lt-leb (length input) 8192 h)
 
 source-read : (input : List ℕ) → length input ≤ 8192 → source-rows input ≡ held 2720 (read-text input)
-unfolding source-rows require
+unfolding source-rows bind-checked
 source-read input h = rw (le-leb (length input) 8192 h)
 
 module _ (input old : List ℕ) (h : length old ≡ 2720) where
@@ -114,16 +114,16 @@ module _ (input old : List ℕ) (h : length old ≡ 2720) where
 pub source-whole : (input xs : List ℕ) → source-rows input ≡ accept xs → length xs % 4 ≡ 0
 unfolding source-rows
 source-whole input xs e =
-    require-inv (leb (length input) 8192) 13 0 (λ _. held 2720 (read-text input)) e λ t f.
-    read-whole-rows input xs (held-inv 2720 (read-text input) xs f .0)
+    bind-checked-inv (held 8192 (accept input)) (λ text. held 2720 (read-text text)) e λ text _ f.
+    read-whole-rows text xs (held-inv 2720 (read-text text) xs f .0)
 
 -- the rows of an input are held already
 source-again : (input : List ℕ) → held 2720 (source-rows input) ≡ source-rows input
-unfolding source-rows require
+unfolding source-rows bind-checked
 source-again input = go (leb (length input) 8192)
   where
-    go : (t : Bool) → held 2720 (require t 13 0 (λ _. held 2720 (read-text input)))
-        ≡ require t 13 0 (λ _. held 2720 (read-text input))
+    go : (t : Bool) → let rows = bind-checked (cond t (accept input) (refuse 13 0)) (λ text.
+        held 2720 (read-text text)) in held 2720 rows ≡ rows
     go true = held-again 2720 (read-text input)
     go false = refl
 

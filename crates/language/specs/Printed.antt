@@ -3,11 +3,10 @@
 use mathlib.Core.Bool.{true, false}
 use mathlib.Core.List.{List, [], _∷_, _++_}
 use Prim.Native.Nat.{ℕ, suc}
-use lib.Dec.{leb}
-use lib.ListN.{length, replicate}
-use Rattle.language.specs.Limits.{room-refusal, no-line, text-room, source-room, plain-room, store-room}
+use lib.ListN.{replicate}
+use Rattle.language.specs.Limits.{text-room, source-room, plain-room, store-room}
 use Rattle.language.specs.Limits.{program-fuel}
-use Rattle.language.specs.Results.{Checked, accept, refuse, bind-checked, require}
+use Rattle.language.specs.Results.{Checked, accept, refuse, bind-checked}
 use Rattle.language.specs.Evaluation.{null, truth, object, raised, spent, deep, full, stuck}
 use Rattle.language.specs.Store.{Outcome, gave, ended, stop-number, Answer, refused, ran, run-of}
 use Rattle.language.specs.Translation.{translation}
@@ -48,8 +47,7 @@ run-text (ran o steps objects changes) = outcome-text o ++ counts-text steps obj
 
 -- The rows of an input.
 unfoldable pub source-rows : List ℕ → Checked (List ℕ)
-source-rows input = require (leb (length input) text-room) room-refusal no-line λ _.
-    held source-room (read-text input)
+source-rows input = bind-checked (held text-room (accept input)) λ text. held source-room (read-text text)
 
 abbrev pub printed : Checked (List ℕ) → List ℕ
 printed (accept text) = text

@@ -1,6 +1,6 @@
 -- The answers that document 01 lists ("Refusals and stops"): of the reader, the writer, the check, the
 -- translator, a run and a service that fills a lent buffer; refusals by number and line, each with its
--- condition where one line or one number decides it, with what was lent unchanged.
+-- condition or with the pass that gives it, and with what was lent unchanged.
 use mathlib.Core.Path.{_≡_}
 use mathlib.Core.Logic.{_≢_}
 use Prim.Native.Nat.{ℕ, _+_, _-_, _*_, _/_, _%_, _≤_, _<_}
