@@ -87,8 +87,19 @@ fn asked(rest: &[OsString]) -> Result<Asked<'_>, Trouble> {
         )));
     }
     match files[..] {
+        [file] if store.is_some_and(|store| same_file(store, file)) => {
+            Err(arguments.trouble("the store would overwrite the rules"))
+        }
         [file] => Ok(Asked { file, fuel, objects, store, plain }),
         _ => Err(arguments.trouble("one file is needed, or - for standard input")),
+    }
+}
+
+/// Whether two names are of one file that is there.
+fn same_file(one: &OsStr, other: &OsStr) -> bool {
+    match (std::fs::canonicalize(one), std::fs::canonicalize(other)) {
+        (Ok(one), Ok(other)) => one == other,
+        _ => false,
     }
 }
 

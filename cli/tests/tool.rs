@@ -249,6 +249,10 @@ fn a_store_file_has_an_object_a_line() {
     let left = call(&["run", &name, "--store", "no/such/folder/store"]);
     assert_eq!(left.status, Some(2));
     assert_eq!(left.said, "sigvolar: cannot write no/such/folder/store: No such file or directory.\n");
+    let left = call(&["run", &name, "--store", &format!("{}/./store.rules", folder().display())]);
+    assert_eq!((left.printed.as_str(), left.status), ("", Some(2)));
+    assert!(left.said.starts_with("sigvolar: the store would overwrite the rules."), "{left:?}");
+    assert_eq!(std::fs::read(&name).unwrap(), rules(PROGRAM_D));
     // A refused run writes none.
     std::fs::remove_file(&store).unwrap();
     let bad = file("store_refused.rules", &rules(NO_SLOT));
@@ -415,14 +419,18 @@ fn progress_is_shown_on_a_terminal_alone() {
         (0..62).map(|name| format!("M 255 {name}, B 0 2, Q {0} 0, I 0, Q {0} 0, I 0, ", name + 1)).collect();
     let long = format!("C 0 0, {methods} M 255 62, B 0 1, T, S, B 0 1, Q 0 0, W 1");
     let name = file("long run.rules", &rules(&long));
-    let left = shell("\"$0\" run --fuel 100000000 \"$1\"", &name);
+    // However quick the machine, a run that is held for a second and a half takes longer than a second.
+    let tool = env!("CARGO_BIN_EXE_sigvolar");
+    let held = format!(
+        "'{tool}' run --fuel 100000000 '{name}' & run=$!
+        sleep 0.1; kill -STOP $run; sleep 1.5; kill -CONT $run; wait $run"
+    );
+    let left = shell(&held, &name);
+    assert!(left.printed.starts_with("source program: stopped (14, spent): "), "{left:?}");
     assert!(!left.said.contains("running"), "{left:?}");
     // `script` lends a terminal; where it is not installed there is nothing to see.
-    let line = format!("'{}' run --fuel 100000000 '{name}'", env!("CARGO_BIN_EXE_sigvolar"));
-    let Ok(seen) = Command::new("script").args(["-qec", &line, "/dev/null"]).stdin(Stdio::null()).output()
-    else {
-        return;
-    };
-    let seen = Left::from(seen);
-    assert!(seen.printed.contains(": running (1 s)"), "{seen:?}");
+    let terminal = Command::new("script").args(["-qec", &held, "/dev/null"]).stdin(Stdio::null()).output();
+    if let Ok(seen) = terminal.map(Left::from) {
+        assert!(seen.printed.contains(": running (1 s)"), "{seen:?}");
+    }
 }
