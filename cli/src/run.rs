@@ -7,7 +7,7 @@ use crate::progress::Progress;
 use crate::store::{counted, Objects, OBJECT, OBJECTS_MOST};
 use crate::translate::{plain_rows, refused};
 use crate::{Status, Trouble};
-use fickle::{check_rows, explanation, run_rows_on_this_stack, Outcome, Refusal, Run, Value};
+use fickle::{explanation, run_rows_on_this_stack, Outcome, Refusal, Run, Value};
 use std::ffi::{OsStr, OsString};
 
 /// Fuel where none is given. Up to here the plain program is proved to end alike, on so many times the fuel.
@@ -103,10 +103,9 @@ fn same_file(one: &OsStr, other: &OsStr) -> bool {
     }
 }
 
-/// The rows of a file, and their run.
+/// The rows of a file, and their run, which checks them first.
 fn source(input: &Input, asked: &Asked) -> Result<(Vec<u32>, Done), Refusal> {
     let rows = input.rows()?;
-    check_rows(&rows)?;
     let _progress = Progress::start(format!("{}: running", input.name));
     let done = Done::of(&rows, asked.fuel, asked.objects as usize)?;
     Ok((rows, done))

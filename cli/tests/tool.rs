@@ -234,8 +234,13 @@ fn fuel_and_room() {
     let left = call(&["run", "--fuel", "100000001", &name]);
     assert!(left.said.starts_with(&format!("{name}: refused (2, limit): ")), "{left:?}");
     assert_eq!((left.printed.as_str(), left.status), ("", Some(1)));
-    let left = call(&["run", &file("slot.rules", &rules(NO_SLOT))]);
+    let refused = file("slot.rules", &rules(NO_SLOT));
+    let left = call(&["run", &refused]);
+    assert!(left.said.starts_with(&format!("{refused}:3: refused (7, slot): ")), "{left:?}");
     assert_eq!((left.printed.as_str(), left.status), ("", Some(1)));
+    // The fuel is looked at before the rules.
+    let left = call(&["run", "--fuel", "100000001", &refused]);
+    assert!(left.said.starts_with(&format!("{refused}: refused (2, limit): ")), "{left:?}");
 }
 
 #[test]
