@@ -81,7 +81,7 @@ fn suspected(line: &[u8]) -> Option<&'static str> {
     } else if line.ends_with(b"\r\n") {
         "the line ends in a carriage return and a line feed; save the file with line feeds alone"
     } else if has(|byte| *byte < b' ' && !b"\t\n\r".contains(byte)) || has(|byte| *byte > b'~') {
-        "the line has bytes that no rule has; this may not be a file of rules"
+        "the line has bytes that cannot occur in rules; this may not be a file of rules"
     } else if line == b"\n" {
         "the line is empty, and no line may be"
     } else if line.contains(&b' ') {

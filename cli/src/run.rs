@@ -14,7 +14,7 @@ use std::ffi::{OsStr, OsString};
 const FUEL: u64 = 1_000_000;
 const PLAIN_FUEL: u64 = 84;
 
-/// What stands before the counts of each program.
+/// The line above the counts of each program.
 const OBJECTS: &str = "objects by the class they ended in (exactly that class, not one below it):\n";
 const IDENTITIES: &str = "objects of the source program, as the plain store has them:\n";
 

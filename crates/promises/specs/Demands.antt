@@ -86,8 +86,8 @@ pub demand-2-runs : (ns : List ℕ) (p : Program) → RowsOf ns p → (fuel : �
     → (run-of ns fuel store ≡ a) ↔ DerivedRun p fuel store a
 demand-2-runs = runs-derived
 
--- Demand 2, one result. Of a well-formed program the relation derives an answer and a store, whatever fuel
--- and store it is given, and no two.
+-- Demand 2, one result. Whatever the fuel and the store, the relation derives an answer and a store of a
+-- well-formed program, and never two different ones.
 pub demand-2-total : (p : Program) → ProgramWell p → (fuel : ℕ) (store : List ℕ)
     → (a : Ran) × DerivedRun p fuel store a
 demand-2-total p w fuel store = (_, run-is-derived p w fuel store)

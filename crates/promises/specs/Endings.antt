@@ -116,7 +116,7 @@ pub record EndAlikeOnStores (ns out : List ℕ) (a a′ : Ran) : Type 0 where
       → ObjectMatches (objects-after ns source) (objects-after out plain) j
 
 -- The evaluation relation (Runs: 002, Figures 3 to 6, with the stops of document 01) derives an outcome of a
--- program and the state then, with so much fuel, room for so many objects, and 64 calls active at most.
+-- program and the state then, within the fuel, the room for objects and 64 active calls.
 pub data Derives (p : Program) (fuel room : ℕ) : Outcome → State → Type 0 where
   derives-value : {v : Value} {t : State}
       → Evaluates (world (p .classes)) fuel room most-calls (p .start) first-state (ok v t)

@@ -18,7 +18,7 @@ use Rattle.language.specs.Rows.{Row, record-of}
 use Rattle.language.specs.Tree.{DeclaredType, type-of-number, Expr, literal-true, literal-false, literal-null}
 use Rattle.language.specs.Tree.{slot, is-null, get, cast, new, change, assign, set, call, choose, block, nil}
 use Rattle.language.specs.Tree.{cons, size, sizes, heading-lines, method-lines, methods-lines, class-lines}
-use Rattle.language.specs.Tree.{classes-lines, Field, Program}
+use Rattle.language.specs.Tree.{classes-lines, Program}
 use Rattle.language.specs.Form.{Read, read, several, record-on, next, maybe, locals, node-of, node, body}
 use Rattle.language.specs.Form.{class-of, fields, parameters, effects, method, methods, classes, at-end, form}
 use Rattle.language.specs.Form.{is-node}
@@ -190,39 +190,28 @@ module _ (most : Most) (rows : List Row) where
       λ _.
       node-gives (most .nesting) n at rs h
 
-  -- F and X lines are read without a refusal.
+  -- F and X lines, which are read as long as they come, are read without a refusal: one line and the rest.
+  line-fits : {A : Type 0} (of : Record → A) (at : ℕ) (r : Row) (rs : List Row) (o : Option Record)
+      (x : Read (List A)) → From rows at (r ∷ rs) → From rows (at + 1 + length (x .tree)) (x .rest)
+      → let y = given o (read [] (r ∷ rs)) (λ z. read (of z ∷ x .tree) (x .rest)) in
+      From rows (at + length (y .tree)) (y .rest)
+  line-fits of at r rs none x h q = moved h (omega arith)
+  line-fits of at r rs (some z) x h q = moved q (omega arith)
+
   fields-fit : (at : ℕ) (rs : List Row) → From rows at rs
       → From rows (at + length (fields most at rs .tree)) (fields most at rs .rest)
   unfolding fields
   fields-fit at [] h = moved h (omega arith)
-  fields-fit at (r ∷ rs) h = go (maybe most F-field at r) (fields-fit (at + 1) rs (from-one h))
-    where
-      lines : Option Record → Read (List Field)
-      lines o = given o (read [] (r ∷ rs)) λ x.
-          read (record { type = type-of-number (x .first); name = x .second } ∷ fields most (at + 1) rs .tree)
-          (fields most (at + 1) rs .rest)
-
-      go : (o : Option Record)
-          → From rows (at + 1 + length (fields most (at + 1) rs .tree)) (fields most (at + 1) rs .rest)
-          → From rows (at + length (lines o .tree)) (lines o .rest)
-      go none q = moved h (omega arith)
-      go (some x) q = moved q (omega arith)
+  fields-fit at (r ∷ rs) h =
+      line-fits (λ x. record { type = type-of-number (x .first); name = x .second }) at r rs
+      (maybe most F-field at r) (fields most (at + 1) rs) h (fields-fit (at + 1) rs (from-one h))
 
   effects-fit : (at : ℕ) (rs : List Row) → From rows at rs
       → From rows (at + length (effects most at rs .tree)) (effects most at rs .rest)
   unfolding effects
   effects-fit at [] h = moved h (omega arith)
-  effects-fit at (r ∷ rs) h = go (maybe most X-effect at r) (effects-fit (at + 1) rs (from-one h))
-    where
-      lines : Option Record → Read (List ℕ)
-      lines o = given o (read [] (r ∷ rs)) λ x.
-          read (x .first ∷ effects most (at + 1) rs .tree) (effects most (at + 1) rs .rest)
-
-      go : (o : Option Record)
-          → From rows (at + 1 + length (effects most (at + 1) rs .tree)) (effects most (at + 1) rs .rest)
-          → From rows (at + length (lines o .tree)) (lines o .rest)
-      go none q = moved h (omega arith)
-      go (some x) q = moved q (omega arith)
+  effects-fit at (r ∷ rs) h = line-fits (λ x. x .first) at r rs
+      (maybe most X-effect at r) (effects most (at + 1) rs) h (effects-fit (at + 1) rs (from-one h))
 
   -- What is read of a record, if there is one.
   given-gives : {A B : Type 0} {Q : B → Type 0} (o : Option A) {r : Checked B} {k : A → Checked B}

@@ -38,7 +38,7 @@ pub record LineOf (rows l : ℕ) : Type 0 where
   pub from : 1 ≤ l
   pub to : l ≤ rows
 
--- So many lines of a text that hold a row each, and the text after them.
+-- n lines of a text that hold a row each, and the text after them.
 pub data LinesRead : ℕ → List ℕ → List ℕ → Type 0 where
   no-line-read : {text : List ℕ} → LinesRead 0 text text
   line-read : {n code a b used : ℕ} {text rest : List ℕ} → line-of text ≡ LineRow code a b used

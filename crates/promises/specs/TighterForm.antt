@@ -67,52 +67,37 @@ module _ (wide tight : Most) (t : Tighter tight wide) (names : wide .name ≡ ti
   abbrev Lines : {A : Type 0} → ℕ → Read (List A) → Read (List A) → Type 0
   Lines at x y = (x ≡ y) ⊎ Blocked (at + length (y .tree)) (y .rest)
 
+  -- A list that is read as long as its lines come: the line of a letter, if it is there, and what is read after it.
+  abbrev longer : {A : Type 0} → (Record → A) → Row → List Row → Read (List A) → Option Record → Read (List A)
+  longer of r rs x o = given o (read [] (r ∷ rs)) λ z. read (of z ∷ x .tree) (x .rest)
+
+  line-either : {A : Type 0} (letter : Letter) (of : Record → A) (at : ℕ) (r : Row) (rs : List Row)
+      {x y : Read (List A)} → Lines (at + 1) x y
+      → Lines at (longer of r rs x (maybe wide letter at r)) (longer of r rs y (maybe tight letter at r))
+  line-either letter of at r rs {x} {y} h = go (maybe-either letter at r rs)
+    where
+      step : (o : Option Record) → Lines (at + 1) x y → Lines at (longer of r rs x o) (longer of r rs y o)
+      step none h = inl refl
+      step (some z) (inl e) = inl (rw e)
+      step (some z) (inr b) = inr (subst (λ (n : ℕ). Blocked n (y .rest)) (omega arith) b)
+
+      go : (maybe wide letter at r ≡ maybe tight letter at r) ⊎ Blocked at (r ∷ rs)
+          → Lines at (longer of r rs x (maybe wide letter at r)) (longer of r rs y (maybe tight letter at r))
+      go (inl e) = rw e (step (maybe tight letter at r) h)
+      go (inr b) = rw (maybe-blocked letter at r rs b)
+          (inr (subst (λ (n : ℕ). Blocked n (r ∷ rs)) (omega arith) b))
+
   fields-either : (at : ℕ) (rs : List Row) → Lines at (fields wide at rs) (fields tight at rs)
   unfolding fields
   fields-either at [] = inl refl
-  fields-either at (r ∷ rs) = go (maybe-either F-field at r rs) (fields-either (at + 1) rs)
-    where
-      more : Most → Option Record → Read (List Field)
-      more most o = given o (read [] (r ∷ rs)) λ x.
-          read (record { type = type-of-number (x .first); name = x .second } ∷ fields most (at + 1) rs .tree)
-          (fields most (at + 1) rs .rest)
-
-      step : (o : Option Record) → Lines (at + 1) (fields wide (at + 1) rs) (fields tight (at + 1) rs)
-          → Lines at (more wide o) (more tight o)
-      step none h = inl refl
-      step (some x) (inl e) = inl (rw e)
-      step (some x) (inr b) =
-          inr (subst (λ (n : ℕ). Blocked n (fields tight (at + 1) rs .rest)) (omega arith) b)
-
-      go : (maybe wide F-field at r ≡ maybe tight F-field at r) ⊎ Blocked at (r ∷ rs)
-          → Lines (at + 1) (fields wide (at + 1) rs) (fields tight (at + 1) rs)
-          → Lines at (more wide (maybe wide F-field at r)) (more tight (maybe tight F-field at r))
-      go (inl e) h = rw e (step (maybe tight F-field at r) h)
-      go (inr b) h = rw (maybe-blocked F-field at r rs b)
-          (inr (subst (λ (n : ℕ). Blocked n (r ∷ rs)) (omega arith) b))
+  fields-either at (r ∷ rs) =
+      line-either F-field (λ x. record { type = type-of-number (x .first); name = x .second }) at r rs
+      (fields-either (at + 1) rs)
 
   effects-either : (at : ℕ) (rs : List Row) → Lines at (effects wide at rs) (effects tight at rs)
   unfolding effects
   effects-either at [] = inl refl
-  effects-either at (r ∷ rs) = go (maybe-either X-effect at r rs) (effects-either (at + 1) rs)
-    where
-      more : Most → Option Record → Read (List ℕ)
-      more most o = given o (read [] (r ∷ rs)) λ x.
-          read (x .first ∷ effects most (at + 1) rs .tree) (effects most (at + 1) rs .rest)
-
-      step : (o : Option Record) → Lines (at + 1) (effects wide (at + 1) rs) (effects tight (at + 1) rs)
-          → Lines at (more wide o) (more tight o)
-      step none h = inl refl
-      step (some x) (inl e) = inl (rw e)
-      step (some x) (inr b) =
-          inr (subst (λ (n : ℕ). Blocked n (effects tight (at + 1) rs .rest)) (omega arith) b)
-
-      go : (maybe wide X-effect at r ≡ maybe tight X-effect at r) ⊎ Blocked at (r ∷ rs)
-          → Lines (at + 1) (effects wide (at + 1) rs) (effects tight (at + 1) rs)
-          → Lines at (more wide (maybe wide X-effect at r)) (more tight (maybe tight X-effect at r))
-      go (inl e) h = rw e (step (maybe tight X-effect at r) h)
-      go (inr b) h = rw (maybe-blocked X-effect at r rs b)
-          (inr (subst (λ (n : ℕ). Blocked n (r ∷ rs)) (omega arith) b))
+  effects-either at (r ∷ rs) = line-either X-effect (λ x. x .first) at r rs (effects-either (at + 1) rs)
 
   -- Lists that are read as long as their lines come: cut, or the rows after what was read, which begin at its
   -- end, are blocked.

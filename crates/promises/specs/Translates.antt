@@ -61,7 +61,7 @@ unreserved-classes at each-nil = refl
 unreserved-classes at (each-cons {a} r rs) =
     rw (unreserved-fields (at + 1) r) (unreserved-classes (at + class-lines a) rs)
 
--- Such a program is within the translator's limits, in numbers.
+-- A program that the translator takes is within its limits, in numbers.
 taken-translatable : (ns : List ℕ) (p : Program) → TranslatableRows ns p → Translatable p
 unfolding headings
 taken-translatable ns p r = record {

@@ -1,24 +1,17 @@
 -- Demand 2 for runs of programs: the relation derives exactly what the run of a well-formed program gives,
 -- whatever its end, and nothing else.
-use mathlib.Core.Path.{_≡_, refl, sym, _∙_}
+use mathlib.Core.Path.{_≡_, refl}
 use Prim.Native.Nat.{ℕ}
 use mathlib.Core.Logic.{_≢_}
 use Rattle.language.specs.Limits.{most-calls}
 use Rattle.language.specs.Results.{stop}
-use Rattle.language.specs.Tree.{Expr, Program}
-use Rattle.language.specs.World.{World}
+use Rattle.language.specs.Tree.{Program}
 use Rattle.language.specs.Program.{world}
 use Rattle.language.specs.Evaluation.{Value, State, stuck, Out, with-limits, first-state, run}
 use Rattle.language.specs.Runs.{Evaluates}
 use Rattle.language.specs.WellFormed.{ProgramWell}
 use Rattle.theory.specs.RunsEqual.{Claim, value, stopped, nothing, all-sound, all-complete}
 use Rattle.theory.specs.Members.{well-formed-never-stuck}
-
--- The relation is deterministic, whatever the program.
-pub one-result : (W : World) (fuel room n : ℕ) (e : Expr) (s : State) (r r′ : Out Value)
-    → Evaluates W fuel room n e s r → Evaluates W fuel room n e s r′ → r ≡ r′
-one-result W fuel room n e s r r′ d d′ =
-    sym (all-sound W fuel room n e s r d) ∙ all-sound W fuel room n e s r′ d′
 
 -- What is claimed of a result that is not stuck is derived.
 claimed : {D : Out Value → Type 0} {r : Out Value} → Claim D r → ((t : State) → r ≢ stop stuck t) → D r
