@@ -15,7 +15,17 @@ int main()
     const uint64_t checked = fickle_check_rows(rows, length);
     const uint64_t translated = fickle_translate_rows(rows, length, plain, sizeof plain / sizeof *plain);
     const uint64_t ran = fickle_run_rows(plain, 4 * FICKLE_LINE(translated), nullptr, 0, 2, &steps, &objects, &changes);
-    const bool right = read == 3 && checked == 0 && translated == 7 && ran == 2 && steps == 2;
+    uint32_t printed, spoiled;
+    uint64_t told = 0, length_of_report = 0;
+    const uint64_t counted = fickle_count_run(rows, length, nullptr, 0, 0, 1, 2, &printed, &spoiled);
+    const uint64_t counted_plain = fickle_count_plain_run(rows, length, nullptr, 0, 0, 1, 2, &printed, &spoiled);
+    const uint32_t line[] = {7, 1, 0, 3}, run[] = {7, 3, 0, 1, 2, 0};
+    const uint32_t ranked = fickle_rank_models(line, 4, text, sizeof text, &length_of_report);
+    const uint32_t reported = fickle_report_fleet(run, 6, rows, length, nullptr, 0, text, sizeof text, &told);
+    // The program declares no class, so no run of it can be counted.
+    const bool refused = FICKLE_NUMBER(counted) == 18 && FICKLE_NUMBER(counted_plain) == 18 && reported == 18;
+    const bool right = read == 3 && checked == 0 && translated == 7 && ran == 2 && steps == 2 && refused && told == 1 &&
+                       ranked == 0 && length_of_report == 8;
     std::puts(right ? "all services answer C++ as they should" : "failed");
     return !right;
 }

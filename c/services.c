@@ -10,7 +10,8 @@ enum { TEXT = 256, ROWS = 32, PLAIN = 1000, STORE = 54, FUEL = 10000, MOST_FUEL 
 
 static int failures;
 static uint8_t text[TEXT];
-static uint32_t rows[4 * ROWS], plain[4 * PLAIN], store[STORE], counts[3];
+static uint32_t rows[4 * ROWS], plain[4 * PLAIN], store[STORE], counts[3], labels[2];
+static uint64_t told;
 
 /* Program D of document 01, and one program for each way in which a run can end without a value; tabs are spaces here,
  * line feeds commas. */
@@ -58,6 +59,36 @@ static void fill(void)
     memset(plain, FILL, sizeof plain);
     memset(store, FILL, sizeof store);
     memset(counts, FILL, sizeof counts);
+    memset(labels, FILL, sizeof labels);
+}
+
+static void expect_labels(const char *what, uint32_t printed, uint32_t spoiled)
+{
+    if (labels[0] != printed || labels[1] != spoiled) {
+        printf("%s: labels %u %u\n", what, labels[0], labels[1]);
+        failures++;
+    }
+}
+
+/* A report's number, and its length or line. */
+static void expect_told(const char *what, uint32_t answer, uint32_t number, uint64_t second)
+{
+    if (answer != number || told != second) {
+        printf("%s: %u %llu, expected %u %llu\n", what, answer, (unsigned long long)told, number,
+               (unsigned long long)second);
+        failures++;
+    }
+}
+
+/* A report of these lines, and nothing past it. */
+static void expect_report(const char *what, const char *lines)
+{
+    size_t length = strlen(lines);
+    if (memcmp(text, lines, length) != 0) {
+        printf("%s: another report\n", what);
+        failures++;
+    }
+    expect_filled(what, text + length, sizeof text - length);
 }
 
 /* Puts a program into the text with its tabs and line feeds. Returns its length. */
@@ -157,6 +188,83 @@ static void stops_and_exceptions(void)
     expect_counts("run_rows, wrong class", 3, 1, 0);
 }
 
+static uint64_t count(size_t length, size_t room, uint32_t objects, uint32_t printed, uint32_t spoiled)
+{
+    return fickle_count_run(rows, length, store, room, objects, printed, spoiled, labels, labels + 1);
+}
+
+static uint64_t count_plain(size_t length, size_t room, uint32_t objects, uint32_t printed, uint32_t spoiled)
+{
+    return fickle_count_plain_run(rows, length, store, room, objects, printed, spoiled, labels, labels + 1);
+}
+
+/* The labels of program D's run, and of its plain run: one object, of class 3. */
+static void counted_runs(void)
+{
+    size_t length = load(program);
+    run(rows, length, STORE, FUEL);
+    expect("count_run, not below", count(length, STORE, 1, 3, 1), 18, 1);
+    expect("count_run, not declared", count(length, STORE, 1, 1, 4), 18, 1);
+    expect("count_run, refused program", count(length - 4, STORE, 1, 1, 3), 18, 1);
+    expect("count_run, class of the store", count(length, STORE, 2, 1, 3), 18, 1);
+    expect("count_run, store too short", count(length, 17, 1, 1, 3), 18, 1);
+    expect_filled("count_run, refused", labels, sizeof labels);
+    expect("count_run", count(length, STORE, 1, 1, 3), 0, 0);
+    expect_labels("count_run", 1, 1);
+    expect("count_run, none spoiled", count(length, 18, 1, 1, 2), 0, 0);
+    expect_labels("count_run, none spoiled", 1, 0);
+    fickle_translate_rows(rows, length, plain, 4 * PLAIN);
+    run(plain, 280, STORE, FUEL);
+    memset(labels, FILL, sizeof labels);
+    expect("count_plain_run, implementor not made", count_plain(length, STORE, 2, 1, 3), 18, 1);
+    expect_filled("count_plain_run, refused", labels, sizeof labels);
+    expect("count_plain_run", count_plain(length, STORE, 3, 1, 3), 0, 0);
+    expect_labels("count_plain_run", 1, 1);
+}
+
+static void rankings(void)
+{
+    static const uint32_t lines[] = {7, 3, 0, 10, 8, 1, 0, 3, 7, 1, 1, 0}, past[] = {7, 0, 0, 4000000000u, 7, 0, 0, 1};
+    static const uint32_t no_line[] = {7, 1, 1, 0, 7, 1, 2, 0};
+    fill();
+    expect_told("rank_models, length", fickle_rank_models(lines, 11, text, TEXT, &told), 1, 0);
+    expect_told("rank_models, spoiled", fickle_rank_models(no_line, 8, text, TEXT, &told), 1, 2);
+    expect_told("rank_models, sum", fickle_rank_models(past, 8, text, TEXT, &told), 17, 2);
+    expect_told("rank_models, no room", fickle_rank_models(lines, 12, text, 16, &told), 13, 0);
+    expect_filled("rank_models, refused", text, sizeof text);
+    expect_told("rank_models", fickle_rank_models(lines, 12, text, TEXT, &told), 0, 17);
+    expect_report("rank_models", "8\t1\t0\t3\n7\t4\t1\t10\n");
+}
+
+/* Two runs of program D, by two models. */
+static uint32_t fleet[] = {9, 15, 1, 1, 3, 5, 8, 15, 1, 1, 2, 50}, programs[120], stores[36];
+
+static uint32_t report(size_t runs, size_t numbers, size_t objects, size_t room)
+{
+    return fickle_report_fleet(fleet, runs, programs, numbers, stores, objects, text, room, &told);
+}
+
+static void fleets(void)
+{
+    size_t length = load(program);
+    run(rows, length, STORE, FUEL);
+    for (size_t i = 0; i < 2; i++) {
+        memcpy(programs + 60 * i, rows, sizeof *rows * 60);
+        memcpy(stores + 18 * i, store, sizeof *store * 18);
+    }
+    fill();
+    expect_told("report_fleet, length", report(11, 120, 36, TEXT), 1, 0);
+    expect_told("report_fleet, rows", report(12, 119, 36, TEXT), 18, 2);
+    expect_told("report_fleet, store", report(12, 120, 35, TEXT), 18, 2);
+    expect_told("report_fleet, no room", report(12, 120, 36, 16), 13, 0);
+    fleet[11] = 4000000001u;
+    expect_told("report_fleet, sum", report(12, 120, 36, TEXT), 17, 2);
+    expect_filled("report_fleet, refused", text, sizeof text);
+    fleet[11] = 50;
+    expect_told("report_fleet", report(12, 120, 36, TEXT), 0, 17);
+    expect_report("report_fleet", "8\t1\t0\t50\n9\t1\t1\t5\n");
+}
+
 /* The header promises that an empty slice may be NULL. */
 static void empty_slices(void)
 {
@@ -178,6 +286,11 @@ static void empty_slices(void)
     expect_filled("NULL: store", store, sizeof store);
     expect_filled("NULL: counts", counts, sizeof counts);
     expect("run_rows, NULL store", fickle_run_rows(rows, length, NULL, 0, FUEL, steps, objects, changes), 0, 2);
+    expect("count_run, NULL", fickle_count_run(NULL, 0, NULL, 0, 0, 1, 2, labels, labels + 1), 18, 1);
+    expect("count_plain_run, NULL", fickle_count_plain_run(NULL, 0, NULL, 0, 0, 1, 2, labels, labels + 1), 18, 1);
+    expect_filled("NULL: labels", labels, sizeof labels);
+    expect_told("rank_models, NULL", fickle_rank_models(NULL, 0, NULL, 0, &told), 0, 0);
+    expect_told("report_fleet, NULL", fickle_report_fleet(NULL, 0, NULL, 0, NULL, 0, NULL, 0, &told), 0, 0);
     length = load(four_objects);
     expect("run_rows, NULL, full", fickle_run_rows(rows, length, NULL, 0, FUEL, steps, objects, changes), 16, 0);
 }
@@ -188,6 +301,9 @@ int main(void)
     checks_and_translations();
     runs();
     stops_and_exceptions();
+    counted_runs();
+    rankings();
+    fleets();
     empty_slices();
     puts(failures == 0 ? "all services answer C as they should" : "failed");
     return failures != 0;

@@ -1,6 +1,6 @@
 /* Measures the native stack of every service at the inputs that take the most of it: texts of 60,000 lines, the
- * deepest nesting through each letter that can nest, 64 calls at that nesting, and 60,000 rows. Fails where a service
- * takes more than the header says that it needs. */
+ * deepest nesting through each letter that can nest, 64 calls at that nesting, 60,000 rows, and 40,000 models. Fails
+ * where a service takes more than the header says that it needs. */
 #define _POSIX_C_SOURCE 200809L
 #include "fickle.h"
 
@@ -24,6 +24,9 @@ enum {
     LONGEST_LINE = 14,
     STORE = 36,
     FUEL = 1000000,
+    LABEL = 18,
+    MANY_MODELS = 40000,
+    LONGEST_REPORTED = 44,
     STACK = 16 << 20,
     PAINT = 0xAA
 };
@@ -34,6 +37,10 @@ static const char letters[] = "BAKGUuQqJjZ";
 
 static uint8_t text[LONGEST_LINE * (MOST_ROWS + 1)];
 static uint32_t rows[4 * (MOST_ROWS + 1)], plain[4 * MOST_ROWS], store[STORE];
+static uint32_t counted[4 * MANY_MODELS], runs[6 * MANY_MODELS];
+static uint32_t programs[4 * (MOST_ROWS + 1) * 5], stores[LABEL * MANY_MODELS];
+static uint8_t report[LONGEST_REPORTED * MANY_MODELS];
+static size_t models;
 static size_t text_length, length;
 static uint64_t answer;
 static int failures;
@@ -69,6 +76,38 @@ static void *run(void *unused)
     return unused;
 }
 
+/* Labels of a run of the rows at hand: one of class 1; class 2 is below it. */
+static void *count(void *unused)
+{
+    uint32_t labels[2];
+    answer = fickle_count_run(rows, length, store, STORE, 1, 1, 2, labels, labels + 1);
+    return unused;
+}
+
+/* The same from a plain store: an Identity and its implementor. */
+static void *count_plain(void *unused)
+{
+    uint32_t labels[2], both[2 * LABEL] = {1, 4};
+    both[LABEL] = 3, both[LABEL + 1] = 3;
+    answer = fickle_count_plain_run(rows, length, both, 2 * LABEL, 2, 1, 2, labels, labels + 1);
+    return unused;
+}
+
+static void *rank(void *unused)
+{
+    uint64_t told;
+    answer = (uint64_t)fickle_rank_models(counted, 4 * models, report, sizeof report, &told) << 32;
+    return unused;
+}
+
+static void *report_runs(void *unused)
+{
+    uint64_t told;
+    answer = (uint64_t)fickle_report_fleet(runs, 6 * models, programs, sizeof programs / sizeof *programs, stores,
+                                           LABEL * models, report, sizeof report, &told) << 32;
+    return unused;
+}
+
 /* The services, each with what it needs by the header and what it took at most, by shape of its input. */
 enum { DEEP, WIDE, SHAPES };
 static struct service {
@@ -79,7 +118,11 @@ static struct service {
   writing = {"write_text", write_rows, FICKLE_WRITE_TEXT_STACK_NEEDED, {0}},
   checking = {"check_rows", check, FICKLE_CHECK_ROWS_STACK_NEEDED, {0}},
   translating = {"translate_rows", translate, FICKLE_TRANSLATE_ROWS_STACK_NEEDED, {0}},
-  running = {"run_rows", run, FICKLE_RUN_ROWS_STACK_NEEDED, {0}};
+  running = {"run_rows", run, FICKLE_RUN_ROWS_STACK_NEEDED, {0}},
+  counting = {"count_run", count, FICKLE_COUNT_RUN_STACK_NEEDED, {0}},
+  counting_plain = {"count_plain_run", count_plain, FICKLE_COUNT_PLAIN_RUN_STACK_NEEDED, {0}},
+  ranking = {"rank_models", rank, FICKLE_RANK_MODELS_STACK_NEEDED, {0}},
+  reporting = {"report_fleet", report_runs, FICKLE_REPORT_FLEET_STACK_NEEDED, {0}};
 
 /* Returns how much of a painted stack a task wrote on. */
 static size_t used(void *(*task)(void *))
@@ -156,7 +199,7 @@ static void deepen(char letter, int nesting, size_t count)
     if (level + 1 < nesting)
         open_node('B');
     row('Q', 0, MOST_PARAMETERS), repeat_row(1 + MOST_PARAMETERS, 'I', 0), repeat_row((size_t)tails, 'I', 0);
-    repeat_row(TRANSLATED_CLASSES - 1, 'C', 0);
+    row('C', 0, 1), repeat_row(TRANSLATED_CLASSES - 2, 'C', 0);
     size_t written = length / 4 + (size_t)nesting + 1 + MOST_PARAMETERS, nulls = count > written ? count - written : 0;
     row('S', 0, 0), row('B', 0, (uint32_t)nulls + 1);
     for (level = 3; level < nesting; level++)
@@ -237,6 +280,50 @@ static void depths(char letter)
     printf("run %zu, %zu before its nodes, %zu a node\n", run, run - nodes * node, node);
 }
 
+/* Adds a run of the rows at hand, with a label of class 1; class 2 is below it. */
+static void add_run(size_t *at, uint32_t cents)
+{
+    uint32_t *six = runs + 6 * models;
+    six[0] = (uint32_t)models, six[1] = (uint32_t)(length / 4), six[2] = 1, six[3] = 1, six[4] = 2, six[5] = cents;
+    memcpy(programs + *at, rows, sizeof *rows * length);
+    stores[LABEL * models] = 1;
+    *at += length, models++;
+}
+
+/* Counts of a run whose program nests through one letter, and a report of two such runs with different rows. */
+static void counts(char letter)
+{
+    size_t at = 0;
+    models = 0;
+    store[0] = 1;
+    deepen(letter, MOST_NESTING, MOST_ROWS);
+    measure(&counting, DEEP, 0);
+    measure(&counting_plain, DEEP, 0);
+    add_run(&at, 9);
+    deepen(letter, MOST_NESTING, 0);
+    add_run(&at, 8);
+    measure(&reporting, DEEP, 0);
+}
+
+/* Counts of the most rows, classes and methods; more models than the services hold at once, the dearest first. */
+static void many_models(void)
+{
+    size_t at = 0;
+    store[0] = 1;
+    crowd(MOST_CLASSES, MOST_METHODS);
+    measure(&counting, WIDE, 18);
+    measure(&counting_plain, WIDE, 18);
+    length = 0, models = 0;
+    row('C', 0, 0), row('C', 0, 1), row('S', 0, 0), row('B', 0, 1), row('N', 0, 0);
+    while (models < MANY_MODELS) {
+        uint32_t *line = counted + 4 * models;
+        line[0] = (uint32_t)models, line[1] = 1, line[2] = 0, line[3] = (uint32_t)(MANY_MODELS - models);
+        add_run(&at, line[3]);
+    }
+    measure(&ranking, WIDE, 0);
+    measure(&reporting, WIDE, 0);
+}
+
 /* Check, translation and run of programs that hardly nest: the most rows, and one more; classes and methods. */
 static void widths(void)
 {
@@ -260,11 +347,13 @@ static void widths(void)
 
 int main(void)
 {
-    struct service *services[] = {&reading, &writing, &checking, &translating, &running};
+    struct service *services[] = {&reading, &writing, &checking, &translating, &running,
+                                  &counting, &counting_plain, &ranking, &reporting};
     texts();
     for (const char *letter = letters; *letter; letter++)
-        depths(*letter);
+        depths(*letter), counts(*letter);
     widths();
+    many_models();
     for (size_t i = 0; i < sizeof services / sizeof *services; i++)
         printf("%s: deepest %zu, widest %zu, needed %zu bytes\n", services[i]->name, services[i]->took[DEEP],
                services[i]->took[WIDE], services[i]->needed);

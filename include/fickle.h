@@ -1,12 +1,14 @@
-/* Label rules in Fickle II: read, write, check, translate, run (libservices.a, made by `rt staticlib services`).
+/* Label rules in Fickle II: read, write, check, translate, run; labels counted, and reports over fleets (libservices.a,
+ * made by `rt staticlib services`).
  *
  * Rows are numbers, four to a row: a letter's ASCII code, then its numbers, the rest 0. Lengths count numbers or bytes.
  * Every input gets an answer. A refusal changes nothing that was lent. What is lent past what was written is unchanged.
  * Slices that one call is lent must not overlap, but for those that are only read. The pointer of a slice of length 0
- * may be NULL; pointers to counts may not.
+ * may be NULL; pointers to counts and to `told` may not.
  *
  * An answer has two words of 32 bits: FICKLE_NUMBER and FICKLE_LINE. Where the first is 0, the second is the result.
- * Where it is 1 to 13, the call was refused with that number, and the second is the line, 0 where none is to blame:
+ * Where it is 1 to 13 or 18, the call was refused with that number, and the second is the line, 0 where none is to
+ * blame:
  *    1 line      malformed line or row; length not a multiple of 4
  *    2 limit     over a limit, fuel included
  *    3 place     record not due here, B without expressions, or end too early
@@ -25,6 +27,12 @@
  *   15 deep      a call with 64 calls active
  *   16 full      W with the store used up
  *   FICKLE_EXCEPTION  the second word is the exception: 1 for a null object, 2 for a wrong class
+ * Fleets are refused with 1, 13, and two numbers of their own; the line is the place of a run or counted line, from 1:
+ *   17 sum       one of a model's sums passes 4,000,000,000
+ *   18 class     the run cannot be counted: its program is refused, does not declare both classes with the spoiled one
+ *                strictly below the printed one, or lacks a class of its store; or rows or objects are missing
+ * A report may be longer and a place larger than 32 bits hold: fickle_rank_models and fickle_report_fleet return the
+ * number alone, 0 where all is well, and store the bytes written, or the refusal's line, in *told.
  */
 #ifndef FICKLE_H
 #define FICKLE_H
@@ -47,6 +55,10 @@ extern "C" {
 #define FICKLE_CHECK_ROWS_STACK_NEEDED 1048576
 #define FICKLE_TRANSLATE_ROWS_STACK_NEEDED 1048576
 #define FICKLE_RUN_ROWS_STACK_NEEDED 4194304
+#define FICKLE_COUNT_RUN_STACK_NEEDED 1048576
+#define FICKLE_COUNT_PLAIN_RUN_STACK_NEEDED 1048576
+#define FICKLE_RANK_MODELS_STACK_NEEDED 1048576
+#define FICKLE_REPORT_FLEET_STACK_NEEDED 1048576
 
 /* Reads a text into rows. The result is how many rows were written. Refusals 1, 2, 13. */
 uint64_t fickle_read_rows(const uint8_t *text, size_t text_length, uint32_t *rows, size_t rows_length);
@@ -66,6 +78,35 @@ uint64_t fickle_translate_rows(const uint32_t *rows, size_t rows_length, uint32_
  * 1 to 11, leaves them as they were. */
 uint64_t fickle_run_rows(const uint32_t *rows, size_t rows_length, uint32_t *store, size_t store_length, uint64_t fuel,
                          uint32_t *steps, uint32_t *objects, uint32_t *changes);
+
+/* Counts the labels of one ended run: of the first `objects` objects of the store those that ended in class `printed`
+ * or below it, and those in class `spoiled` or below. The result is 0, and both counts are stored; refusal 18, line 1,
+ * leaves them as they were. What the store holds beyond the objects is ignored. */
+uint64_t fickle_count_run(const uint32_t *rows, size_t rows_length, const uint32_t *store, size_t store_length,
+                          uint32_t objects, uint32_t printed, uint32_t spoiled, uint32_t *printed_labels,
+                          uint32_t *spoiled_labels);
+
+/* The same from the store that a run of the plain program left: for each Identity, the class of its implementor. The
+ * rows and the two classes are the source's. Refusal 18, line 1, also where an Identity has no implementor among the
+ * objects. */
+uint64_t fickle_count_plain_run(const uint32_t *rows, size_t rows_length, const uint32_t *store, size_t store_length,
+                                uint32_t objects, uint32_t printed, uint32_t spoiled, uint32_t *printed_labels,
+                                uint32_t *spoiled_labels);
+
+/* Sums counted lines (four numbers: model, printed, spoiled, cents) by model, and writes the report: a line a model in
+ * decimals with tabs, by cents per good label, models without a good label last. A report's lines are counted lines
+ * again. Refusals: 1, line 0, where the length is not a multiple of 4; by lines 1, where more labels are spoiled than
+ * printed, and 17; then 13. */
+uint32_t fickle_rank_models(const uint32_t *counts, size_t counts_length, uint8_t *report, size_t report_length,
+                            uint64_t *told);
+
+/* Writes the report over ended runs. A run is six numbers: model, count of rows, count of objects made, printed class,
+ * spoiled class, cents. `programs` holds the rows of all runs one after another, `stores` their objects; what they
+ * hold beyond the runs is ignored. Refusals: 1, line 0, where the length of `runs` is not a multiple of 6; by runs 18,
+ * then 17; then 13. */
+uint32_t fickle_report_fleet(const uint32_t *runs, size_t runs_length, const uint32_t *programs, size_t programs_length,
+                             const uint32_t *stores, size_t stores_length, uint8_t *report, size_t report_length,
+                             uint64_t *told);
 
 #ifdef __cplusplus
 }

@@ -26,6 +26,8 @@ PROVED = 'target/staticlib/libservices.a'
 BENCH = 'twins'
 UNCHECKED, TWIN, GUARDED = 'unchecked', 'twin', 'guarded'
 VARIANTS = [UNCHECKED, TWIN, GUARDED]
+# The modules of fickle/ beside its lib.rs. None may have the name of a Rattle crate.
+MODULES = ['fleets', 'refusals', 'stack']
 ALLOWED = '#![allow(warnings)]\n'
 CONTRACT = re.compile(r'\b(requires|ensures)\s*\{')
 # What may not be left in the Rust text.
@@ -191,7 +193,8 @@ def manifest(name, paths):
 def write_variant(variant, crates):
     write(f'{variant}/Cargo.toml', manifest(variant, {}))
     write(f'{variant}/src/lib.rs', wrapper(crates))
-    write(f'{variant}/src/stack.rs', open('fickle/src/stack.rs').read())
+    for module in MODULES:
+        write(f'{variant}/src/{module}.rs', open(f'fickle/src/{module}.rs').read())
     write(f'{variant}/src/c.rs', c_interface())
     for crate in crates:
         text = rust_of(crate, crates)
@@ -214,6 +217,8 @@ def main():
     if sys.argv[1:] not in ([], ['write']):
         sys.exit(__doc__)
     crates = crates_below(ROOT)
+    # The page that fickle/src/refusals.rs includes, by the path from a variant's source.
+    write('docs/REFUSALS.md', open('docs/REFUSALS.md').read())
     for variant in VARIANTS:
         write_variant(variant, crates)
     write_bench()

@@ -1,4 +1,4 @@
-//! `sigvolar explain`: what a refusal or stop means, with a smallest program, from docs/REFUSALS.md.
+//! `sigvolar explain`: what a refusal or stop means, with a smallest example, from docs/REFUSALS.md.
 
 use crate::arguments::Arguments;
 use crate::output::print;
@@ -16,7 +16,7 @@ pub fn command(rest: &[OsString]) -> Result<Status, Trouble> {
     let found = explanations().find(|found| found.number.to_string() == asked || found.word == asked);
     match found {
         Some(found) => print(&format!(
-            "{} {}\n{}\n\nA smallest program (spaces stand for tabs):\n{}\n{}\n",
+            "{} {}\n{}\n\nA smallest example (spaces stand for tabs):\n{}\n{}\n",
             found.number,
             found.word,
             found.sentence,
@@ -25,7 +25,7 @@ pub fn command(rest: &[OsString]) -> Result<Status, Trouble> {
         )),
         None => {
             Err(arguments
-                .trouble(&format!("there is no refusal or stop '{asked}'; their numbers are 1 to 16")))
+                .trouble(&format!("there is no refusal or stop '{asked}'; their numbers are 1 to 18")))
         }
     }
 }

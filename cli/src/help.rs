@@ -9,27 +9,34 @@ Usage:
   sigvolar check FILE...
   sigvolar translate FILE
   sigvolar run FILE [--fuel N] [--objects N] [--store OUT] [--plain]
+  sigvolar report FLEET [--names FILE] [--full | --tsv] [--html OUT] [--fuel N] [--objects N]
+  sigvolar count FLEET [--fuel N] [--objects N]
+  sigvolar rank [FILE...]
   sigvolar explain NUMBER
   sigvolar help COMMAND
 ";
 
 pub const TOOL: &str = "\
-sigvolar checks, translates and runs label rules: programs in which each label is an object that changes class. Every
-verdict, translation and run is that of a service that is proved to follow the published rules.
+sigvolar checks, translates and runs label rules, programs in which each label is an object that changes class, and
+reports what a good label costs on each printer model. Every verdict, translation, run and report is that of a service
+that is proved to follow the published rules.
 
 Usage:
   sigvolar check FILE...      say of each file whether its rules are accepted
   sigvolar translate FILE     print the plain program that printers run
   sigvolar run FILE           run the rules, and count the objects by the class they ended in
+  sigvolar report FLEET       print the table of a fleet: printer model, cents per good label
+  sigvolar count FLEET        print the labels of each run of a fleet, to be ranked elsewhere
+  sigvolar rank [FILE...]     print the report over such lines, or over reports
   sigvolar explain NUMBER     say what a refusal means, with a smallest example
   sigvolar help COMMAND       print the page of a command, as `sigvolar COMMAND --help` does
   sigvolar --version
 
-FILE may be - for standard input. After -- everything is a file.
+FILE and FLEET may be - for standard input. After -- everything is a file.
 
 Results are printed on standard output, everything else on standard error. Exit status: 0 where all went well, 1 where
-rules were refused or a run did not end in a value, 2 where the command was called wrongly or a file could not be read
-or written; with several files 2 wins over 1.
+rules, a fleet or counted lines were refused, a run did not end in a value, or a run of a fleet was cut short, 2 where
+the command was called wrongly or a file could not be read or written; with several files 2 wins over 1.
 ";
 
 const CHECK: &str = "\
@@ -47,8 +54,8 @@ Where the bytes of a malformed line tell what is wrong with it, a note on standa
 const TRANSLATE: &str = "\
 Usage: sigvolar translate FILE
 
-Prints the lines of the plain program, in which no object changes class and which printers run. Rules that are refused,
-or that are over the translator's limits, print nothing; the refusal is said on standard error.
+Prints the lines of the plain program, in which no object changes class and which printers run. Rules that are
+refused, or that are over the translator's limits, print nothing; the refusal is said on standard error.
 ";
 
 const RUN: &str = "\
@@ -67,17 +74,56 @@ counted in that other class.
                 the fuel is then at most 1,000,000
 ";
 
+const REPORT: &str = "\
+Usage: sigvolar report FLEET [--names FILE] [--full | --tsv] [--html OUT] [--fuel N] [--objects N]
+
+Prints what a good label costs on each printer model of a fleet, lowest first. A good label is one that was printed
+and not spoiled. Models without a good label come last, with a dash.
+
+FLEET has a run a line, with one tab between its fields: model (a number), rules file, printed class, spoiled class,
+cents. A sixth field is the store file of a run that ended elsewhere, as `sigvolar run --store` writes it; plain:FILE
+is the store of a plain run. Runs without a store file are made here. Paths are taken from FLEET's folder. Empty lines
+and lines that begin with # are passed over. The runs of a model are summed.
+
+  --names FILE  put names in the first column: FILE has a model, a tab and its name on each line
+  --full        add the labels printed and spoiled, and the cents
+  --tsv         print the report as the service wrote it: model, printed, spoiled, cents, with tabs
+  --html OUT    write the table as a page to the file OUT too
+  --fuel N      how many steps a run made here may take, up to 100,000,000 (1,000,000 where it is not given)
+  --objects N   how many objects it has room for, up to 65,535 (65,535 where it is not given)
+
+There is no table where a run is refused, or stops at 14 or 16, since it was cut short; its line is said. Runs that
+end in an exception or at 15 count, and are named below the table.
+";
+
+const COUNT: &str = "\
+Usage: sigvolar count FLEET [--fuel N] [--objects N]
+
+Prints a line for each run of a fleet, in order: model, labels printed, labels spoiled, cents, with tabs between them.
+So a fleet can be counted in parts, anywhere; `sigvolar rank` makes the report of all parts. FLEET and the options are
+those of `sigvolar report`; for - paths are taken from the folder in which the command runs. Where a run is refused or
+was cut short, its line is said and nothing is printed.
+";
+
+const RANK: &str = "\
+Usage: sigvolar rank [FILE...]
+
+Prints the report over the lines of all files: a line a model, its labels printed and spoiled and its cents, ordered
+by cents per good label. The lines are those of `sigvolar count`, or of reports that `sigvolar rank` or `sigvolar
+report --tsv` printed, so that reports can be joined. Without a file, standard input is read.
+";
+
 const EXPLAIN: &str = "\
 Usage: sigvolar explain NUMBER
 
-Prints what a refusal (1 to 13) or a stop (14 to 16) means, a smallest program that has it, and the call that answers
-so. Its word does as well: `sigvolar explain effect`.
+Prints what a refusal (1 to 13, 17, 18) or a stop (14 to 16) means, a smallest example that has it, and the call that
+answers so. Its word does as well: `sigvolar explain effect`.
 ";
 
 const HELP: &str = "\
 Usage: sigvolar help COMMAND
 
-Prints the page of a command: check, translate, run or explain.
+Prints the page of a command: check, translate, run, report, count, rank or explain.
 ";
 
 /// The page of a command.
@@ -86,6 +132,9 @@ pub fn page(command: &str) -> Option<&'static str> {
         "check" => Some(CHECK),
         "translate" => Some(TRANSLATE),
         "run" => Some(RUN),
+        "report" => Some(REPORT),
+        "count" => Some(COUNT),
+        "rank" => Some(RANK),
         "explain" => Some(EXPLAIN),
         "help" => Some(HELP),
         _ => None,

@@ -1,10 +1,12 @@
 //! Files of rules: reading them, and the words for a refusal.
 
+use crate::lines::STANDARD_INPUT;
 use crate::Trouble;
 use fickle::{explanation, read_rows, Refusal};
 use std::ffi::OsStr;
 use std::fs::File;
 use std::io::Read;
+use std::path::Path;
 
 /// Numbers in a row.
 pub const ROW: usize = 4;
@@ -25,11 +27,18 @@ pub struct Input {
 impl Input {
     /// Reads a file, or standard input for `-`.
     pub fn read(file: &OsStr) -> Result<Input, Trouble> {
-        let (name, text) = if file == "-" {
-            ("<standard input>".to_string(), contents(std::io::stdin().lock()))
-        } else {
-            (file.to_string_lossy().into_owned(), File::open(file).and_then(contents))
-        };
+        if file == "-" {
+            return Input::of(STANDARD_INPUT.to_string(), contents(std::io::stdin().lock()));
+        }
+        Input::open(Path::new(file))
+    }
+
+    /// Reads a file, whatever its name.
+    pub fn open(path: &Path) -> Result<Input, Trouble> {
+        Input::of(path.to_string_lossy().into_owned(), File::open(path).and_then(contents))
+    }
+
+    fn of(name: String, text: std::io::Result<Vec<u8>>) -> Result<Input, Trouble> {
         match text {
             Ok(text) => Ok(Input { name, text }),
             Err(error) => Err(Trouble(format!("cannot read {name}: {}.", reason(&error)))),
@@ -101,5 +110,13 @@ pub fn reason(error: &std::io::Error) -> String {
     match text.split_once(" (os error") {
         Some((words, _)) => words.to_string(),
         None => text,
+    }
+}
+
+/// Whether two names are of one file that is there.
+pub fn same_file(one: &OsStr, other: &OsStr) -> bool {
+    match (std::fs::canonicalize(one), std::fs::canonicalize(other)) {
+        (Ok(one), Ok(other)) => one == other,
+        _ => false,
     }
 }

@@ -1,13 +1,20 @@
-//! `sigvolar`, the tool that a person types: checks, translates, runs and explains label rules. Every judgement is that of
-//! a proved service; the tool reads files, chooses words and counts objects by class. docs/TOOL.md describes it.
+//! `sigvolar`, the tool that a person types: checks, translates, runs and explains label rules, and reports what labels
+//! cost. Every judgement and every figure of a report is that of a proved service; the tool reads files and chooses words.
+//! docs/TOOL.md describes it.
 
 mod arguments;
 mod check;
+mod count;
 mod explain;
+mod fleet;
 mod help;
 mod input;
+mod lines;
+mod names;
 mod output;
 mod progress;
+mod rank;
+mod report;
 mod run;
 mod store;
 mod translate;
@@ -73,6 +80,9 @@ fn command(arguments: &[OsString]) -> Result<Status, Trouble> {
         "check" => check::command(rest),
         "translate" => translate::command(rest),
         "run" => run::command(rest),
+        "report" => report::command(rest),
+        "count" => count::command(rest),
+        "rank" => rank::command(rest),
         "explain" => explain::command(rest),
         "help" => help::command(rest),
         "--help" | "-h" => output::print(help::TOOL),

@@ -1,7 +1,8 @@
 //! `sigvolar run`: a run of rules, what it made, and on request the run of the plain program beside it.
 
 use crate::arguments::{Argument, Arguments};
-use crate::input::{reason, Input};
+use crate::fleet::FUEL;
+use crate::input::{reason, same_file, Input};
 use crate::output::{print, say};
 use crate::progress::Progress;
 use crate::store::{counted, Objects, OBJECT, OBJECTS_MOST};
@@ -10,8 +11,7 @@ use crate::{Status, Trouble};
 use fickle::{explanation, run_rows_on_this_stack, Outcome, Refusal, Run, Value};
 use std::ffi::{OsStr, OsString};
 
-/// Fuel where none is given. Up to here the plain program is proved to end alike, on so many times the fuel.
-const FUEL: u64 = 1_000_000;
+/// Up to the fuel that is given where none is asked for, the plain program is proved to end alike, on so many times as much.
 const PLAIN_FUEL: u64 = 84;
 
 /// The line above the counts of each program.
@@ -92,14 +92,6 @@ fn asked(rest: &[OsString]) -> Result<Asked<'_>, Trouble> {
         }
         [file] => Ok(Asked { file, fuel, objects, store, plain }),
         _ => Err(arguments.trouble("one file is needed, or - for standard input")),
-    }
-}
-
-/// Whether two names are of one file that is there.
-fn same_file(one: &OsStr, other: &OsStr) -> bool {
-    match (std::fs::canonicalize(one), std::fs::canonicalize(other)) {
-        (Ok(one), Ok(other)) => one == other,
-        _ => false,
     }
 }
 

@@ -1,66 +1,14 @@
 //! The tool as it is typed: the real binary, what it prints, what it says on standard error, and its exit status.
 
+mod typed;
+
 use std::ffi::OsStr;
 use std::io::Write;
 use std::os::unix::ffi::OsStrExt;
 use std::os::unix::fs::PermissionsExt;
 use std::path::PathBuf;
-use std::process::{Command, Output, Stdio};
-
-/// What a call printed, said on standard error, and ended with.
-#[derive(Debug)]
-struct Left {
-    printed: String,
-    said: String,
-    status: Option<i32>,
-}
-
-impl From<Output> for Left {
-    fn from(output: Output) -> Left {
-        Left {
-            printed: String::from_utf8_lossy(&output.stdout).into_owned(),
-            said: String::from_utf8_lossy(&output.stderr).into_owned(),
-            status: output.status.code(),
-        }
-    }
-}
-
-fn sigvolar() -> Command {
-    Command::new(env!("CARGO_BIN_EXE_sigvolar"))
-}
-
-fn call<A: AsRef<OsStr>>(arguments: &[A]) -> Left {
-    sigvolar().args(arguments).stdin(Stdio::null()).output().unwrap().into()
-}
-
-/// A call with bytes on standard input.
-fn piped(arguments: &[&str], input: &[u8]) -> Left {
-    let mut child = sigvolar()
-        .args(arguments)
-        .stdin(Stdio::piped())
-        .stdout(Stdio::piped())
-        .stderr(Stdio::piped())
-        .spawn()
-        .unwrap();
-    child.stdin.take().unwrap().write_all(input).unwrap();
-    child.wait_with_output().unwrap().into()
-}
-
-fn folder() -> PathBuf {
-    PathBuf::from(env!("CARGO_TARGET_TMPDIR"))
-}
-
-/// A file of bytes; each test has names of its own.
-fn file(name: &str, bytes: &[u8]) -> String {
-    let path = folder().join(name);
-    std::fs::write(&path, bytes).unwrap();
-    path.to_str().unwrap().to_string()
-}
-
-/// Rules written with spaces for tabs and commas for line feeds.
-fn rules(text: &str) -> Vec<u8> {
-    text.split(',').map(|line| line.trim().replace(' ', "\t") + "\n").collect::<String>().into_bytes()
-}
+use std::process::{Command, Stdio};
+use typed::{call, file, folder, piped, rules, sigvolar, Left};
 
 const TRUE: &str = "S, B 0 1, T";
 /// A slot that is not in scope: 7 on line 3.
@@ -318,7 +266,7 @@ fn a_plain_program_that_is_not_run() {
 #[test]
 fn every_number_is_explained_as_the_page_does() {
     let page = include_str!("../../docs/REFUSALS.md");
-    for number in 1..=16 {
+    for number in 1..=18 {
         let left = call(&["explain", &number.to_string()]);
         assert_eq!((left.said.as_str(), left.status), ("", Some(0)));
         let lines: Vec<&str> = left.printed.lines().collect();
@@ -331,23 +279,23 @@ fn every_number_is_explained_as_the_page_does() {
         );
     }
     assert_eq!(call(&["explain", "effect"]).printed, call(&["explain", "10"]).printed);
-    for wrong in ["0", "17", "ten", ""] {
+    for wrong in ["0", "19", "ten", ""] {
         let left = call(&["explain", wrong]);
         assert_eq!((left.printed.as_str(), left.status), ("", Some(2)));
-        assert!(left.said.contains("their numbers are 1 to 16"), "{left:?}");
+        assert!(left.said.contains("their numbers are 1 to 18"), "{left:?}");
     }
 }
 
 #[test]
 fn help_and_version() {
-    for command in ["check", "translate", "run", "explain", "help"] {
+    for command in ["check", "translate", "run", "report", "count", "rank", "explain", "help"] {
         let left = call(&[command, "--help"]);
         assert!(left.printed.starts_with(&format!("Usage: sigvolar {command} ")), "{left:?}");
         assert_eq!((left.said.as_str(), left.status), ("", Some(0)));
         assert_eq!(call(&["help", command]).printed, left.printed);
     }
     let left = call(&["--help"]);
-    for command in ["check", "translate", "run", "explain", "help"] {
+    for command in ["check", "translate", "run", "report", "count", "rank", "explain", "help"] {
         assert!(left.printed.contains(&format!("  sigvolar {command} ")), "{left:?}");
     }
     assert_eq!(call(&["help"]).printed, left.printed);

@@ -1,7 +1,7 @@
 //! A case is one call with all that it is lent; a reply is all that comes back: the answer and the lent buffers.
 
 use second::rows::number;
-use second::services::{End, Printed, Programs, Ran, Refused};
+use second::services::{Counted, End, Ended, Fleet, Printed, Programs, Ran, Refused};
 use std::collections::BTreeMap;
 use std::fmt;
 
@@ -13,6 +13,10 @@ pub enum Case {
     Check { rows: Vec<u32> },
     Translate { rows: Vec<u32>, plain: Vec<u32> },
     Run { rows: Vec<u32>, fuel: u64, store: Vec<u32> },
+    Count(Ended),
+    CountPlain(Ended),
+    Rank { counts: Vec<u32>, report: Vec<u8> },
+    Report { fleet: Fleet, report: Vec<u8> },
     TranslatingProgram { text: Vec<u8> },
     RunningProgram { text: Vec<u8> },
 }
@@ -24,6 +28,7 @@ pub enum Reply {
     Text(Result<usize, Refused>, Vec<u8>),
     Verdict(Result<(), Refused>),
     Ran(Result<Ran, Refused>, Vec<u32>),
+    Counted(Result<Counted, Refused>),
     Printed(Printed),
 }
 
@@ -56,6 +61,16 @@ impl Case {
                 let mut store = store.clone();
                 Reply::Ran(services.run_rows(rows, *fuel, &mut store), store)
             }
+            Case::Count(ended) => Reply::Counted(services.count_run(ended)),
+            Case::CountPlain(ended) => Reply::Counted(services.count_plain_run(ended)),
+            Case::Rank { counts, report } => {
+                let mut report = report.clone();
+                Reply::Text(services.rank_models(counts, &mut report), report)
+            }
+            Case::Report { fleet, report } => {
+                let mut report = report.clone();
+                Reply::Text(services.report_fleet(fleet, &mut report), report)
+            }
             Case::TranslatingProgram { text } => Reply::Printed(services.translate(text)),
             Case::RunningProgram { text } => Reply::Printed(services.run(text)),
         }
@@ -75,6 +90,7 @@ impl Reply {
         match self {
             Reply::Rows(answer, _) | Reply::Text(answer, _) => of_result(answer),
             Reply::Verdict(answer) => of_result(answer),
+            Reply::Counted(answer) => of_result(answer),
             Reply::Ran(Ok(Ran { end: End::Exception(exception), .. }), _) => Answer::Exception(*exception),
             Reply::Ran(Ok(Ran { end: End::Stop(stop), .. }), _) => Answer::Number(*stop),
             Reply::Ran(answer, _) => of_result(answer),

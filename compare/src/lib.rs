@@ -3,6 +3,7 @@
 pub mod cases;
 pub mod check;
 pub mod faults;
+pub mod fleet;
 pub mod load;
 pub mod measure;
 pub mod programs;

@@ -1,5 +1,5 @@
 //! Programs for the benchmark: accepted ones of a wanted size for the check, the translator's longest, long runs for the
-//! runner, and short programs as texts.
+//! runner, short programs as texts, and programs of runs in a fleet.
 
 use second::rows::letter::*;
 
@@ -157,4 +157,27 @@ pub fn untaken(size: usize) -> Vec<u32> {
     }
     rows.row(START, 0, 0).row(BLOCK, 0, 1).row(CALL, 0, 0).row(NEW, 1, 0);
     rows.0
+}
+
+/// An accepted program of just so many rows, at least 7, with a field of this name. Class 1 is a root with the field, class
+/// 2 a state below it; labels are made, written on and changed.
+pub fn labels(name: u32, rows: usize) -> Vec<u32> {
+    let mut items = Rows::default();
+    let mut count = 0;
+    let left = rows - 6;
+    while items.count() < left {
+        let room = left - items.count();
+        match count % 4 {
+            0 if room >= 2 => items.row(ASSIGN, 1, 0).row(NEW, 2, 0),
+            1 if room >= 3 => items.row(SET, name, 0).row(SLOT, 1, 0).row(TRUE, 0, 0),
+            2 if room >= 2 => items.row(GET, name, 0).row(SLOT, 1, 0),
+            _ => items.row(CHANGE, 1, 2),
+        };
+        count += 1;
+    }
+    let mut all = Rows::default();
+    all.row(CLASS, 1, 0).row(FIELD, 255, name).row(CLASS, 2, 1);
+    all.row(START, 0, 0).row(BLOCK, 1, count).row(LOCAL, 1, 0);
+    all.0.extend(items.0);
+    all.0
 }

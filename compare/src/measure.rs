@@ -1,6 +1,8 @@
 //! What the benchmarks measure: the services of several implementations on the same inputs, side by side. `tables` prints
 //! the tables of docs/PERFORMANCE.md, which says what their columns are; `assert_agree` compares two implementations.
 
+mod fleets;
+
 use crate::check::program;
 use crate::load::{self, Load, LOADS, WORKS};
 use crate::services_of_fickle;
@@ -50,16 +52,24 @@ const MILLION: f64 = 1e6;
 /// The mean of each implementation's times in a table, where the first implementation's is 1.
 pub type Means = Vec<f64>;
 
+/// What measures and prints a table, and returns its means.
+pub type Measure = fn(&[Measured]) -> Means;
+
+/// All tables, each with its name.
+pub const TABLES: [(&str, Measure); 7] = [
+    ("reader and writer", text),
+    ("check", check),
+    ("translator", translate),
+    ("runner, long runs", run),
+    ("short programs", short_programs),
+    ("reports over fleets", fleets::reports),
+    ("rankings", fleets::ranks),
+];
+
 /// Prints all tables and returns their means, each with the table's name. The first implementation is the one that the
 /// others are compared with.
-pub fn tables(all: &[Measured]) -> [(&'static str, Means); 5] {
-    [
-        ("reader and writer", text(all)),
-        ("check", check(all)),
-        ("translator", translate(all)),
-        ("runner, long runs", run(all)),
-        ("short programs", short_programs(all)),
-    ]
+pub fn tables(all: &[Measured]) -> [(&'static str, Means); 7] {
+    TABLES.map(|(name, measure)| (name, measure(all)))
 }
 
 /// Prints a table of means: for each pair of implementations, how long the one takes in times of the other.
@@ -277,6 +287,7 @@ pub fn assert_agree(one: &Measured, other: &Measured) {
     for (name, rows, fuel) in long_runs() {
         assert_runs_agree(pair, &name, &rows, fuel, STORE_ROOM);
     }
+    fleets::assert_fleets_agree(pair);
     let mut random = Random::new(1);
     for case in 0..AGREED {
         let fuel = random.below(300) as u64;

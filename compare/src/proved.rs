@@ -51,6 +51,8 @@ macro_rules! services_of_fickle {
                 let [steps, objects, changes] = [run.steps, run.objects, run.changes].map(u64::from);
                 Ok(Ran { end, steps, objects, changes })
             }
+
+            second::fleet_services!($from);
         }
     };
 }

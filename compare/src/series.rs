@@ -1,9 +1,9 @@
 //! The cases that the gate compares: for each service and program those at its limits, and generated ones by seed.
 
 use crate::cases::{Answer, Case};
-use crate::{check, programs, run, text, translate};
+use crate::{check, fleet, programs, run, text, translate};
 use second::random::Random;
-use second::vectors;
+use second::vectors::{self, Asked};
 
 /// Cases of one service or program.
 pub struct Series {
@@ -29,6 +29,7 @@ pub fn halves() -> [Vec<Series>; 2] {
     let ends = || (14..=16).map(Answer::Number).chain((1..=2).map(Answer::Exception));
     // What the programs' generated texts surely bring about; the pinned ones bring about the rest.
     let often = || result().chain([1, 2, 3, 4, 12, 13].map(Answer::Number));
+    let numbers = |all: &[u32]| result().chain(all.iter().copied().map(Answer::Number)).collect::<Vec<_>>();
     let series = |name, sparse, fixed, generated, wanted| Series { name, sparse, fixed, generated, wanted };
     let none = Vec::new;
     [
@@ -36,6 +37,9 @@ pub fn halves() -> [Vec<Series>; 2] {
             series("read_rows", 1, none, text::reading, filling.to_vec()),
             series("write_text", 1, none, text::writing, filling.to_vec()),
             series("check_rows", 1, check::limits, check::checking, result().chain(refusals(11)).collect()),
+            series("count_run", 1, none, fleet::counting, numbers(&[18])),
+            series("count_plain_run", 1, none, fleet::counting_plain, numbers(&[18])),
+            series("report_fleet", 1, none, fleet::reporting, numbers(&[1, 13, 17, 18])),
             series("vectors", u64::MAX, of_vectors, |_| Vec::new(), Vec::new()),
             series(
                 "program translate",
@@ -68,6 +72,7 @@ pub fn halves() -> [Vec<Series>; 2] {
                 result().chain(refusals(11)).chain(ends()).collect(),
             ),
             series("run_rows, every fuel", 100, none, run::every_fuel, Vec::new()),
+            series("rank_models", 1, fleet::many_models, fleet::ranking, numbers(&[1, 13, 17])),
         ],
     ]
 }
@@ -87,7 +92,10 @@ fn of_vectors() -> Vec<Case> {
             "read" => Some(Case::Read { text: vector.text(), rows: vec![9; 240_000] }),
             "running" => Some(Case::RunningProgram { text: vector.text() }),
             "translating" => Some(Case::TranslatingProgram { text: vector.text() }),
-            _ => None,
+            _ => vector.report().map(|(asked, room)| match asked.clone() {
+                Asked::Fleet(fleet) => Case::Report { fleet, report: vec![9; room] },
+                Asked::Rank(counts) => Case::Rank { counts, report: vec![9; room] },
+            }),
         })
         .collect()
 }

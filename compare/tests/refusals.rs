@@ -2,9 +2,10 @@
 
 use second::machine::Outcome;
 
-type Answer = Result<(), (u32, u32)>;
+type Answer = Result<(), (u32, u64)>;
 
-/// An example of the page: the refusal's number from its heading, the program, and the call with its answer.
+/// An example of the page: the refusal's number from its heading, the program or counted lines, and the call with its
+/// answer.
 struct Example {
     number: u32,
     program: Vec<u8>,
@@ -34,38 +35,40 @@ fn rows(program: &[u8]) -> Vec<u32> {
 fn every_number_has_an_example_and_it_holds() {
     let examples = examples();
     let headings: Vec<u32> = examples.iter().map(|example| example.number).collect();
-    assert_eq!(headings, (1..=16).collect::<Vec<u32>>());
+    assert_eq!(headings, (1..=18).collect::<Vec<u32>>());
     for example in examples {
         let given = numbers(example.call);
         match example.call.split(' ').next().unwrap() {
             "read:" => {
                 let proved = fickle::read_rows(&example.program, &mut [0; 64]).map(|_| ());
                 let second = second::text::read_rows(&example.program, &mut [0; 64]).map(|_| ());
-                refused(
-                    &example,
-                    [given[0], given[1]],
-                    proved.map_err(pair),
-                    second.map_err(|no| (no.number, no.line)),
-                );
+                refused(&example, [given[0], given[1]], proved.map_err(pair), second.map_err(second_pair));
             }
             "check:" => {
                 let rows = rows(&example.program);
-                let second = second::check::check_rows(&rows).map_err(|no| (no.number, no.line));
+                let second = second::check::check_rows(&rows).map_err(second_pair);
                 refused(&example, [given[0], given[1]], fickle::check_rows(&rows).map_err(pair), second);
             }
             "translate:" => translated(&example, 1_000, [given[0], given[1]]),
             "translate" => translated(&example, given[0] as usize, [given[1], given[2]]),
             "run" => stopped(&example, &given),
+            "rank:" => ranked(&example, [given[0], given[1]]),
+            "run," => counted(&example, &given),
             other => panic!("{other}"),
         }
     }
 }
 
-fn pair(no: fickle::Refusal) -> (u32, u32) {
+fn pair(no: fickle::Refusal) -> (u32, u64) {
+    (no.number, no.line)
+}
+
+fn second_pair(no: second::rows::Refusal) -> (u32, u64) {
     (no.number, no.line)
 }
 
 fn refused(example: &Example, [number, line]: [u32; 2], proved: Answer, second: Answer) {
+    let line = u64::from(line);
     assert_eq!(number, example.number, "{}", example.call);
     assert_eq!(proved, Err((number, line)), "{}", example.call);
     assert_eq!(second, Err((number, line)), "{}", example.call);
@@ -75,7 +78,7 @@ fn translated(example: &Example, room: usize, expected: [u32; 2]) {
     let rows = rows(&example.program);
     let proved = fickle::translate_rows(&rows, &mut vec![0; room * 4]).map(|_| ()).map_err(pair);
     let second = second::plain::translate_rows(&rows, &mut vec![0; room * 4]).map(|_| ());
-    refused(example, expected, proved, second.map_err(|no| (no.number, no.line)));
+    refused(example, expected, proved, second.map_err(second_pair));
 }
 
 fn stopped(example: &Example, given: &[u32]) {
@@ -87,4 +90,26 @@ fn stopped(example: &Example, given: &[u32]) {
     assert_eq!(stop, example.number);
     assert_eq!(proved.outcome, fickle::Outcome::Stop(stop));
     assert_eq!(second.outcome, Outcome::Stop(stop));
+}
+
+fn ranked(example: &Example, expected: [u32; 2]) {
+    let counts = numbers(&String::from_utf8_lossy(&example.program));
+    let proved = fickle::rank_models(&counts, &mut [0; 99]).map(|_| ()).map_err(pair);
+    let second = second::fleet::rank_models(&counts, &mut [0; 99]).map(|_| ()).map_err(second_pair);
+    refused(example, expected, proved, second);
+}
+
+/// The labels of a run, counted on its own and as a fleet of one run.
+fn counted(example: &Example, given: &[u32]) {
+    let [printed, spoiled, number, line] = given[..] else { panic!("{}", example.call) };
+    let rows = rows(&example.program);
+    let mut store = [0; 180];
+    let objects = fickle::run_rows(&rows, 1_000, &mut store).expect("accepted").objects;
+    let proved = fickle::count_run(&rows, &store, objects, printed, spoiled).map(|_| ()).map_err(pair);
+    let second = second::fleet::count_run(&rows, &store, objects, printed, spoiled);
+    refused(example, [number, line], proved, second.map(|_| ()).map_err(second_pair));
+    let run = [7, rows.len() as u32 / 4, objects, printed, spoiled, 0];
+    let proved = fickle::report_fleet(&run, &rows, &store, &mut [0; 99]).map(|_| ()).map_err(pair);
+    let second = second::fleet::report_fleet(&run, &rows, &store, &mut [0; 99]).map(|_| ());
+    refused(example, [number, line], proved, second.map_err(second_pair));
 }

@@ -6,20 +6,24 @@
 //! Every function but `run_rows_on_this_stack` may be called on any thread that has `STACK_NEEDED` bytes of its stack
 //! left. A thread that `std::thread::spawn` starts has 2 MiB, which is more.
 
+mod fleets;
 mod refusals;
 mod stack;
 
+pub use fleets::{count_plain_run, count_run, rank_models, report_fleet, Labels};
 pub use refusals::{explanation, explanations, words, Explanation};
 pub use stack::{
-    run_rows_stack_bound, CHECK_ROWS_STACK_NEEDED, READ_ROWS_STACK_NEEDED, RUN_ROWS_STACK_NEEDED,
+    run_rows_stack_bound, CHECK_ROWS_STACK_NEEDED, COUNT_PLAIN_RUN_STACK_NEEDED, COUNT_RUN_STACK_NEEDED,
+    RANK_MODELS_STACK_NEEDED, READ_ROWS_STACK_NEEDED, REPORT_FLEET_STACK_NEEDED, RUN_ROWS_STACK_NEEDED,
     STACK_NEEDED, TRANSLATE_ROWS_STACK_NEEDED, WRITE_TEXT_STACK_NEEDED,
 };
 
-/// Why a call was refused: document 01's number, and the line, 0 where none is to blame.
+/// Why a call was refused: the number of documents 01 and 02, and the line, 0 where none is to blame. In a fleet the line
+/// is the place of a run or of a counted line, from 1.
 #[derive(Clone, Copy, Debug, PartialEq, Eq)]
 pub struct Refusal {
     pub number: u32,
-    pub line: u32,
+    pub line: u64,
 }
 
 impl std::fmt::Display for Refusal {
@@ -89,8 +93,51 @@ mod c {
             objects: *mut u32,
             changes: *mut u32,
         ) -> u64;
+        pub fn fickle_count_run(
+            rows: *const u32,
+            rows_length: usize,
+            store: *const u32,
+            store_length: usize,
+            objects: u32,
+            printed: u32,
+            spoiled: u32,
+            printed_labels: *mut u32,
+            spoiled_labels: *mut u32,
+        ) -> u64;
+        pub fn fickle_count_plain_run(
+            rows: *const u32,
+            rows_length: usize,
+            store: *const u32,
+            store_length: usize,
+            objects: u32,
+            printed: u32,
+            spoiled: u32,
+            printed_labels: *mut u32,
+            spoiled_labels: *mut u32,
+        ) -> u64;
+        pub fn fickle_rank_models(
+            counts: *const u32,
+            counts_length: usize,
+            report: *mut u8,
+            report_length: usize,
+            told: *mut u64,
+        ) -> u32;
+        pub fn fickle_report_fleet(
+            runs: *const u32,
+            runs_length: usize,
+            programs: *const u32,
+            programs_length: usize,
+            stores: *const u32,
+            stores_length: usize,
+            report: *mut u8,
+            report_length: usize,
+            told: *mut u64,
+        ) -> u32;
     }
 }
+
+/// The second word of an answer.
+const LOW_WORD: u64 = 0xffff_ffff;
 
 /// A count as it is, a refusal as its number times 2^32 plus its line.
 fn unpack(answer: u64) -> Result<usize, Refusal> {
@@ -98,7 +145,7 @@ fn unpack(answer: u64) -> Result<usize, Refusal> {
     if number == 0 {
         Ok(answer as usize)
     } else {
-        Err(Refusal { number, line: answer as u32 })
+        Err(Refusal { number, line: answer & LOW_WORD })
     }
 }
 
@@ -170,7 +217,7 @@ pub fn run_rows_on_this_stack(rows: &[u32], fuel: u64, store: &mut [u32]) -> Res
         (0, stored) => Outcome::Value(Value::Object(stored - 2)),
         (EXCEPTION, exception) => Outcome::Exception(exception),
         (stop @ 14..=16, _) => Outcome::Stop(stop),
-        (number, line) => return Err(Refusal { number, line }),
+        (number, line) => return Err(Refusal { number, line: u64::from(line) }),
     };
     Ok(Run { outcome, steps, objects, changes })
 }

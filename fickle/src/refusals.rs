@@ -1,5 +1,5 @@
 //! What the numbers of refusals and stops mean. docs/REFUSALS.md is the only source: a section for each number, with its
-//! word, a sentence, a smallest program and the call that answers so.
+//! word, a sentence, a smallest example and the call that answers so.
 
 /// The page, as it is read by people.
 const PAGE: &str = include_str!("../../docs/REFUSALS.md");
@@ -7,15 +7,15 @@ const PAGE: &str = include_str!("../../docs/REFUSALS.md");
 /// A section of the page.
 #[derive(Clone, Copy, Debug, PartialEq, Eq)]
 pub struct Explanation {
-    /// The number, from 1 to 16.
+    /// The number, from 1 to 18.
     pub number: u32,
     /// Its word, as `effect`.
     pub word: &'static str,
     /// What it means, in a sentence.
     pub sentence: &'static str,
-    /// A smallest program, a line a record, where spaces stand for tabs.
+    /// A smallest program or, for 17, counted lines; a line a record, where spaces stand for tabs.
     pub example: &'static str,
-    /// What is called on that program, and its answer.
+    /// What is called on that example, and its answer.
     pub call: &'static str,
 }
 
@@ -49,7 +49,7 @@ mod tests {
     #[test]
     fn every_number_has_a_section() {
         let numbers: Vec<u32> = explanations().map(|found| found.number).collect();
-        assert_eq!(numbers, (1..=16).collect::<Vec<u32>>());
+        assert_eq!(numbers, (1..=18).collect::<Vec<u32>>());
         for found in explanations() {
             let parts = [found.word, found.sentence, found.example, found.call];
             assert!(parts.iter().all(|part| !part.trim().is_empty()), "{found:?}");

@@ -12,6 +12,14 @@ pub const CHECK_ROWS_STACK_NEEDED: usize = 1_048_576;
 pub const TRANSLATE_ROWS_STACK_NEEDED: usize = 1_048_576;
 /// Bytes of native stack that `run_rows_on_this_stack` takes at most.
 pub const RUN_ROWS_STACK_NEEDED: usize = 4_194_304;
+/// Bytes of native stack that `count_run` takes at most.
+pub const COUNT_RUN_STACK_NEEDED: usize = 1_048_576;
+/// Bytes of native stack that `count_plain_run` takes at most.
+pub const COUNT_PLAIN_RUN_STACK_NEEDED: usize = 1_048_576;
+/// Bytes of native stack that `rank_models` takes at most.
+pub const RANK_MODELS_STACK_NEEDED: usize = 1_048_576;
+/// Bytes of native stack that `report_fleet` takes at most.
+pub const REPORT_FLEET_STACK_NEEDED: usize = 1_048_576;
 /// Bytes of native stack that every other function takes at most, `run_rows` included. A thread that
 /// `std::thread::spawn` starts has 2 MiB.
 pub const STACK_NEEDED: usize = 1_310_720;

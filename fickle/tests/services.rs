@@ -1,6 +1,9 @@
 //! The proved services through the safe wrapper: one case of each answer.
 
-use fickle::{check_rows, read_rows, run_rows, translate_rows, write_text, Outcome, Refusal, Run, Value};
+use fickle::{
+    check_rows, count_plain_run, count_run, rank_models, read_rows, report_fleet, run_rows, translate_rows,
+    write_text, Labels, Outcome, Refusal, Run, Value,
+};
 
 #[test]
 fn reads_and_writes_back() {
@@ -83,4 +86,47 @@ fn translates_and_runs() {
     let spent = run_rows(&rows, 8, &mut store).expect("accepted");
     assert_eq!((spent.outcome, spent.steps), (Outcome::Stop(14), 8));
     assert_eq!(run_rows(&rows, 100_000_001, &mut store), Err(Refusal { number: 2, line: 0 }));
+}
+
+#[test]
+fn counts_labels_in_both_stores() {
+    let rows = program_d();
+    let (mut plain, mut store) = (vec![0; 280], [7; 60]);
+    assert_eq!(translate_rows(&rows, &mut plain), Ok(70));
+    assert_eq!(run_rows(&rows, 10_000, &mut store).map(|run| run.objects), Ok(1));
+    let one = Ok(Labels { printed: 1, spoiled: 1 });
+    let refused = Err(Refusal { number: 18, line: 1 });
+    assert_eq!(count_run(&rows, &store, 1, 1, 3), one);
+    assert_eq!(count_run(&rows, &store, 1, 1, 2), Ok(Labels { printed: 1, spoiled: 0 }));
+    assert_eq!(count_run(&rows, &store, 0, 1, 2), Ok(Labels { printed: 0, spoiled: 0 }));
+    assert_eq!(count_run(&rows, &store, 1, 2, 3), refused);
+    // The second object of this store has class 7.
+    assert_eq!(count_run(&rows, &store, 2, 1, 2), refused);
+    assert_eq!(count_run(&rows, &store, 4, 1, 2), refused);
+    assert_eq!(run_rows(&plain, 10_000, &mut store).map(|run| run.objects), Ok(3));
+    assert_eq!(count_plain_run(&rows, &store, 3, 1, 3), one);
+    assert_eq!(count_plain_run(&rows, &store, 2, 1, 3), refused);
+}
+
+#[test]
+fn reports_of_counted_lines_and_fleets() {
+    let refused = |number, line| Err(Refusal { number, line });
+    let mut report = [7; 32];
+    assert_eq!(rank_models(&[], &mut []), Ok(0));
+    assert_eq!(rank_models(&[1], &mut report), refused(1, 0));
+    assert_eq!(rank_models(&[1, 2, 1, 0, 1, 1, 2, 0], &mut report), refused(1, 2));
+    assert_eq!(rank_models(&[1, 2, 1, 4_000_000_000, 1, 1, 0, 1], &mut report), refused(17, 2));
+    assert_eq!(rank_models(&[1, 2, 1, 4], &mut report[..7]), refused(13, 0));
+    assert_eq!(report, [7; 32]);
+    assert_eq!(rank_models(&[1, 2, 1, 4], &mut report), Ok(8));
+    assert_eq!(report[..9], *b"1\t2\t1\t4\n\x07");
+    let (rows, mut store) = (program_d(), [0; 18]);
+    store[0] = 3;
+    let run = [9, 15, 1, 1, 3, 50];
+    assert_eq!(report_fleet(&[], &[], &[], &mut []), Ok(0));
+    assert_eq!(report_fleet(&run[..5], &rows, &store, &mut report), refused(1, 0));
+    assert_eq!(report_fleet(&[run, run].concat(), &rows, &store, &mut report), refused(18, 2));
+    assert_eq!(report_fleet(&run, &rows, &store, &mut []), refused(13, 0));
+    assert_eq!(report_fleet(&run, &rows, &store, &mut report), Ok(9));
+    assert_eq!(report[..9], *b"9\t1\t1\t50\n");
 }

@@ -5,12 +5,15 @@ mod deep;
 
 use deep::{deep, deep_beside_calls, on_stack, FUEL, LETTERS, MOST_NESTING, MOST_ROWS};
 use fickle::{
-    check_rows, read_rows, run_rows_on_this_stack, run_rows_stack_bound, translate_rows, write_text, Outcome,
-    CHECK_ROWS_STACK_NEEDED, READ_ROWS_STACK_NEEDED, RUN_ROWS_STACK_NEEDED, TRANSLATE_ROWS_STACK_NEEDED,
-    WRITE_TEXT_STACK_NEEDED,
+    check_rows, count_plain_run, count_run, rank_models, read_rows, report_fleet, run_rows_on_this_stack,
+    run_rows_stack_bound, translate_rows, write_text, Labels, Outcome, CHECK_ROWS_STACK_NEEDED,
+    COUNT_PLAIN_RUN_STACK_NEEDED, COUNT_RUN_STACK_NEEDED, RANK_MODELS_STACK_NEEDED, READ_ROWS_STACK_NEEDED,
+    REPORT_FLEET_STACK_NEEDED, RUN_ROWS_STACK_NEEDED, TRANSLATE_ROWS_STACK_NEEDED, WRITE_TEXT_STACK_NEEDED,
 };
 
 const TRANSLATED_NESTING: usize = 24;
+/// More models than a service holds at once.
+const MANY_MODELS: u32 = 40_000;
 /// What a thread takes of its stack beside a run: its own data, and the frames that lead to the run.
 const THREAD: usize = 16_384;
 
@@ -30,7 +33,7 @@ fn texts() -> [Case; 2] {
     let text = "R\t65535\t65535\n".repeat(MOST_ROWS + 1).into_bytes();
     let most = text.len() - 14;
     let rows = [82, 65_535, 65_535, 0].repeat(MOST_ROWS + 1);
-    let (lines, line) = (text.clone(), MOST_ROWS as u32 + 1);
+    let (lines, line) = (text.clone(), MOST_ROWS as u64 + 1);
     let read = move || {
         let mut rows = vec![0; 4 * MOST_ROWS];
         read_rows(&text, &mut rows).is_err_and(|over| (over.number, over.line) == (2, line))
@@ -67,6 +70,67 @@ fn services(letter: char) -> [Case; 4] {
     ]
 }
 
+/// A label of class 1, and a plain store that has it: an Identity and its implementor.
+fn stores() -> ([u32; 18], [u32; 36]) {
+    let (mut store, mut plain) = ([0; 18], [0; 36]);
+    store[0] = 1;
+    (plain[0], plain[1], plain[18], plain[19]) = (1, 4, 3, 3);
+    (store, plain)
+}
+
+/// A program with one class more, below its only one.
+fn with_class_below(mut rows: Vec<u32>) -> Vec<u32> {
+    let start = rows.chunks(4).position(|row| row[0] == u32::from('S')).expect("a start");
+    rows.splice(4 * start..4 * start, [u32::from('C'), 0, 1, 0]);
+    rows
+}
+
+/// Counts and a report of two runs at the deepest nesting through a letter. The second has rows of its own.
+fn fleets(letter: char) -> [Case; 3] {
+    let rows = with_class_below(deep(letter, MOST_NESTING, MOST_ROWS - 1));
+    let (through, first, (store, plain)) = (rows.clone(), rows.clone(), stores());
+    let label = Ok(Labels { printed: 1, spoiled: 0 });
+    let count = move || count_run(&rows, &store, 1, 1, 2) == label;
+    let count_plain = move || count_plain_run(&through, &plain, 2, 1, 2) == label;
+    let report = move || {
+        let second = with_class_below(deep(letter, MOST_NESTING, 0));
+        let count = |rows: &[u32]| rows.len() as u32 / 4;
+        let runs = [[1, count(&first), 1, 1, 2, 9], [2, count(&second), 1, 1, 2, 8]].concat();
+        let (programs, stores, mut report) = ([first, second].concat(), [store; 2].concat(), [0; 16]);
+        report_fleet(&runs, &programs, &stores, &mut report) == Ok(16)
+            && report == *b"2\t1\t0\t8\n1\t1\t0\t9\n"
+    };
+    [
+        case(COUNT_RUN_STACK_NEEDED, format!("count_run, {letter}"), count),
+        case(COUNT_PLAIN_RUN_STACK_NEEDED, format!("count_plain_run, {letter}"), count_plain),
+        case(REPORT_FLEET_STACK_NEEDED, format!("report_fleet, {letter}"), report),
+    ]
+}
+
+/// More models than a service holds at once, the dearest first.
+fn many_models() -> [Case; 2] {
+    let lines = (0..MANY_MODELS).flat_map(|model| [model, 1, 0, MANY_MODELS - model]);
+    let runs = (0..MANY_MODELS).flat_map(|model| [model, 5, 1, 1, 2, MANY_MODELS - model]);
+    let (counts, runs): (Vec<u32>, Vec<u32>) = (lines.collect(), runs.collect());
+    let is_right = |length: Result<usize, _>, report: &[u8]| {
+        length.is_ok_and(|length| report[..length].ends_with(b"\n1\t1\t0\t39999\n0\t1\t0\t40000\n"))
+    };
+    let rank = move || {
+        let mut report = vec![0; 20 * MANY_MODELS as usize];
+        is_right(rank_models(&counts, &mut report), &report)
+    };
+    let fleet = move || {
+        let rows = [67, 1, 0, 0, 67, 2, 1, 0, 83, 0, 0, 0, 66, 0, 1, 0, 84, 0, 0, 0];
+        let (programs, stores) = (rows.repeat(MANY_MODELS as usize), stores().0.repeat(MANY_MODELS as usize));
+        let mut report = vec![0; 20 * MANY_MODELS as usize];
+        is_right(report_fleet(&runs, &programs, &stores, &mut report), &report)
+    };
+    [
+        case(RANK_MODELS_STACK_NEEDED, "rank_models, many models".to_string(), rank),
+        case(REPORT_FLEET_STACK_NEEDED, "report_fleet, many models".to_string(), fleet),
+    ]
+}
+
 /// A run on its bound.
 fn bounded(name: String, rows: Vec<u32>, fuel: u64) -> Case {
     let stack = run_rows_stack_bound(&rows, fuel) + THREAD;
@@ -97,6 +161,7 @@ fn runs(letter: char) -> Vec<Case> {
 #[test]
 fn every_call_keeps_to_its_stack() {
     let mut cases: Vec<Case> = texts().into_iter().chain(LETTERS.into_iter().flat_map(services)).collect();
+    cases.extend(LETTERS.into_iter().flat_map(fleets).chain(many_models()));
     cases.extend(LETTERS.into_iter().flat_map(runs));
     cases.sort_by_key(|case| case.stack);
     for Case { stack, name, call } in cases {

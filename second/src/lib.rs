@@ -1,8 +1,9 @@
-//! The second implementation of the label rules in Fickle II, written from document 01:
-//! a tree, a typing pass and an evaluator over it. It is what the proved services are compared with.
+//! The second implementation of the label rules in Fickle II, written from documents 01 and 02: a tree, a typing pass and
+//! an evaluator over it, and a report over fleets. It is what the proved services are compared with.
 
 pub mod agree;
 pub mod check;
+pub mod fleet;
 pub mod generate;
 pub mod headings;
 pub mod machine;

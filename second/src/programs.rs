@@ -63,9 +63,9 @@ fn source_and_plain(input: &[u8]) -> Result<(Vec<u32>, Vec<u32>), Refusal> {
 /// `!`, the refusal's number and its line.
 fn refusal_line(refusal: Refusal) -> Vec<u8> {
     let mut text = vec![b'!'];
-    for part in [refusal.number, refusal.line] {
+    for part in [u64::from(refusal.number), refusal.line] {
         text.push(b'\t');
-        write_number(u64::from(part), &mut text);
+        write_number(part, &mut text);
     }
     text.push(b'\n');
     text

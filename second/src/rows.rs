@@ -131,24 +131,26 @@ pub mod number {
     pub const SPENT: u32 = 14;
     pub const DEEP: u32 = 15;
     pub const FULL: u32 = 16;
+    pub const SUM: u32 = 17;
+    pub const CLASS: u32 = 18;
 }
 
-/// A refusal: its number and the line, counted from 1; line 0 where no line is at fault.
+/// A refusal: its number and the line, or the place of a run, counted from 1; line 0 where no line is at fault.
 #[derive(Clone, Copy, Debug, PartialEq, Eq)]
 pub struct Refusal {
     pub number: u32,
-    pub line: u32,
+    pub line: u64,
 }
 
 impl Refusal {
     pub fn new(number: u32, line: u32) -> Refusal {
-        Refusal { number, line }
+        Refusal { number, line: u64::from(line) }
     }
 }
 
 /// The refusal of a call, as an answer.
 pub fn refuse<T>(number: u32, line: u32) -> Result<T, Refusal> {
-    Err(Refusal { number, line })
+    Err(Refusal::new(number, line))
 }
 
 /// Whether a row is a letter of the table with its numbers and zeros.

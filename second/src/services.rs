@@ -2,7 +2,10 @@
 //! the proved one, and copies of the second one with a fault planted in them.
 
 /// A refusal's number and line.
-pub type Refused = (u32, u32);
+pub type Refused = (u32, u64);
+
+/// Labels printed, and those of them that were spoiled.
+pub type Counted = (u32, u32);
 
 /// How a run ended: with a value, told by its stored number, by an exception, or at a stop.
 #[derive(Clone, Copy, Debug, PartialEq, Eq)]
@@ -21,6 +24,24 @@ pub struct Ran {
     pub changes: u64,
 }
 
+/// An ended run to be counted: the source's rows, the store, how many objects were made, and the two classes.
+#[derive(Clone, Debug)]
+pub struct Ended {
+    pub rows: Vec<u32>,
+    pub store: Vec<u32>,
+    pub objects: u32,
+    pub printed: u32,
+    pub spoiled: u32,
+}
+
+/// A fleet to be reported: six numbers a run, the programs one after another, and the stores.
+#[derive(Clone, Debug, Default)]
+pub struct Fleet {
+    pub runs: Vec<u32>,
+    pub programs: Vec<u32>,
+    pub stores: Vec<u32>,
+}
+
 /// What a program leaves behind: its output, what it wrote to standard error, and its exit status, if it exited.
 #[derive(Clone, Debug, PartialEq, Eq)]
 pub struct Printed {
@@ -36,13 +57,17 @@ impl Printed {
     }
 }
 
-/// The services of document 01.
+/// The services of document 01, and those of document 02 that have landed.
 pub trait Services: Sync {
     fn read_rows(&self, text: &[u8], rows: &mut [u32]) -> Result<usize, Refused>;
     fn write_text(&self, rows: &[u32], text: &mut [u8]) -> Result<usize, Refused>;
     fn check_rows(&self, rows: &[u32]) -> Result<(), Refused>;
     fn translate_rows(&self, rows: &[u32], plain: &mut [u32]) -> Result<usize, Refused>;
     fn run_rows(&self, rows: &[u32], fuel: u64, store: &mut [u32]) -> Result<Ran, Refused>;
+    fn count_run(&self, ended: &Ended) -> Result<Counted, Refused>;
+    fn count_plain_run(&self, ended: &Ended) -> Result<Counted, Refused>;
+    fn rank_models(&self, counts: &[u32], report: &mut [u8]) -> Result<usize, Refused>;
+    fn report_fleet(&self, fleet: &Fleet, report: &mut [u8]) -> Result<usize, Refused>;
 }
 
 /// The two programs of document 01, beside the services.
@@ -97,6 +122,8 @@ macro_rules! services_of {
                 };
                 Ok(Ran { end, steps: run.steps, objects: u64::from(run.objects), changes: run.changes })
             }
+
+            $crate::fleet_services!($($implementation)+::fleet);
         }
 
         impl $crate::services::Programs for $name {
@@ -107,6 +134,47 @@ macro_rules! services_of {
             fn run(&self, input: &[u8]) -> $crate::services::Printed {
                 $crate::services::Printed::well($($implementation)+::programs::run(input))
             }
+        }
+    };
+}
+
+/// The services on fleets, by a module that has them as functions.
+#[macro_export]
+macro_rules! fleet_services {
+    ($($from:tt)+) => {
+        fn count_run(
+            &self,
+            ended: &$crate::services::Ended,
+        ) -> Result<$crate::services::Counted, $crate::services::Refused> {
+            let $crate::services::Ended { rows, store, objects, printed, spoiled } = ended;
+            let counted = $($from)+::count_run(rows, store, *objects, *printed, *spoiled);
+            counted.map(|labels| (labels.printed, labels.spoiled)).map_err(|no| (no.number, no.line))
+        }
+
+        fn count_plain_run(
+            &self,
+            ended: &$crate::services::Ended,
+        ) -> Result<$crate::services::Counted, $crate::services::Refused> {
+            let $crate::services::Ended { rows, store, objects, printed, spoiled } = ended;
+            let counted = $($from)+::count_plain_run(rows, store, *objects, *printed, *spoiled);
+            counted.map(|labels| (labels.printed, labels.spoiled)).map_err(|no| (no.number, no.line))
+        }
+
+        fn rank_models(
+            &self,
+            counts: &[u32],
+            report: &mut [u8],
+        ) -> Result<usize, $crate::services::Refused> {
+            $($from)+::rank_models(counts, report).map_err(|no| (no.number, no.line))
+        }
+
+        fn report_fleet(
+            &self,
+            fleet: &$crate::services::Fleet,
+            report: &mut [u8],
+        ) -> Result<usize, $crate::services::Refused> {
+            let reported = $($from)+::report_fleet(&fleet.runs, &fleet.programs, &fleet.stores, report);
+            reported.map_err(|no| (no.number, no.line))
         }
     };
 }

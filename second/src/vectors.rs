@@ -1,13 +1,19 @@
 //! Cases with their expected answers, from the files of `vectors/`. Each file opens with its notation; a file whose
 //! notation is unknown is an error, so that no file is left out.
 
+mod fleets;
+
 use crate::generate::text_of_rows;
 use crate::rows::{CHECKED, OBJECT_WIDTH, ROW_WIDTH};
 use crate::services::{End, Programs, Ran, Refused, Services};
+pub use fleets::Asked;
+use std::collections::BTreeMap;
 use std::path::Path;
 
 /// The requests of document 02 that have landed: a case may hold from one of them on, or until one of them.
-const LANDED: [&str; 0] = [];
+const LANDED: [&str; 1] = ["§1"];
+/// What a case says that holds from the request on that makes objects wider.
+const WIDER: &str = "width=35";
 
 /// Room of a lent store, in objects, and fuel, where a case gives none.
 const OBJECTS: usize = 10;
@@ -22,6 +28,8 @@ pub struct Vector {
     records: String,
     pub expected: String,
     pub why: String,
+    /// What a report is asked for, and the length of what is lent for it.
+    report: Option<(Asked, usize)>,
 }
 
 /// The cases of all files that hold today, or what is wrong with a file.
@@ -39,11 +47,19 @@ pub fn all() -> Result<Vec<Vector>, String> {
     Ok(vectors)
 }
 
+/// Reads the parts of a line at a place: none where the line is in another notation, none within where the case does not
+/// hold today.
+type Reader<'a> = &'a dyn Fn(String, &[&str]) -> Option<Option<Vector>>;
+
 /// The cases of one file that hold today.
 fn of_file(name: &str, text: &str) -> Result<Vec<Vector>, String> {
-    let reader = match text.lines().next().unwrap_or_default().split('\t').next().unwrap_or_default() {
-        "# verdict of check (accepted, or number and line)" => verdict,
-        "# request<TAB>rows<TAB>service<TAB>from<TAB>until<TAB>expected answer<TAB>why" => request,
+    let programs = fleets::named_programs(text);
+    let service = |place, parts: &[&str]| service(place, parts, &programs);
+    let reader: Reader = match text.lines().next().unwrap_or_default().split('\t').next().unwrap_or_default()
+    {
+        "# verdict of check (accepted, or number and line)" => &verdict,
+        "# request<TAB>rows<TAB>service<TAB>from<TAB>until<TAB>expected answer<TAB>why" => &request,
+        first if first.starts_with("# Cases for the services of document 02.") => &service,
         other => return Err(format!("{name}: no reader for the notation {other:?}")),
     };
     let mut vectors = Vec::new();
@@ -53,7 +69,7 @@ fn of_file(name: &str, text: &str) -> Result<Vec<Vector>, String> {
         match reader(place.clone(), &parts) {
             Some(Some(vector)) => vectors.push(vector),
             Some(None) => (),
-            None => return Err(format!("{place}: {} parts", parts.len())),
+            None => return Err(format!("{place}: not in the notation of its file")),
         }
     }
     Ok(vectors)
@@ -64,7 +80,7 @@ fn verdict(place: String, parts: &[&str]) -> Option<Option<Vector>> {
     let [expected, why, records] = *parts else { return None };
     let expected = expected.replace(' ', " line ");
     let (service, records, why) = ("check".to_string(), records.to_string(), why.to_string());
-    Some(Some(Vector { place, service, records, expected, why }))
+    Some(Some(Vector { place, service, records, expected, why, report: None }))
 }
 
 /// A line of the cases of requests: none where it holds only later or no longer.
@@ -72,7 +88,19 @@ fn request(place: String, parts: &[&str]) -> Option<Option<Vector>> {
     let [_, records, service, from, until, expected, why] = *parts else { return None };
     let holds = (from == "-" || LANDED.contains(&from)) && !LANDED.contains(&until);
     let [service, records, expected, why] = [service, records, expected, why].map(str::to_string);
-    Some(holds.then_some(Vector { place, service, records, expected, why }))
+    Some(holds.then_some(Vector { place, service, records, expected, why, report: None }))
+}
+
+/// A line of the cases of services: none where its request has not landed, and for the line of column names.
+fn service(place: String, parts: &[&str], programs: &BTreeMap<String, String>) -> Option<Option<Vector>> {
+    let [id, request, service, inputs, expected, why] = *parts else { return None };
+    if !LANDED.contains(&request) || inputs.starts_with(WIDER) {
+        return Some(None);
+    }
+    let report = Some(fleets::asked(service, inputs, programs)?);
+    let place = format!("{place} ({id})");
+    let [service, records, expected, why] = [service, inputs, expected, why].map(str::to_string);
+    Some(Some(Vector { place, service, records, expected, why, report }))
 }
 
 impl Vector {
@@ -109,8 +137,16 @@ impl Vector {
         self.option("numbers").unwrap_or(room)
     }
 
+    /// What a report is asked for, and the length of what is lent for it; none where the case is of something else.
+    pub fn report(&self) -> Option<(&Asked, usize)> {
+        self.report.as_ref().map(|(asked, room)| (asked, *room))
+    }
+
     /// The answer of an implementation, in the words of the files.
     pub fn answer(&self, services: &dyn Programs) -> String {
+        if let Some((asked, room)) = self.report() {
+            return fleets::answer(services, asked, room);
+        }
         let answer = match self.service() {
             "check" => services.check_rows(&self.rows()).map(|()| "accepted".to_string()),
             "translate" => self.translation(services, &self.rows()).map(|plain| lines_of(&plain)),

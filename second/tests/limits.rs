@@ -7,12 +7,12 @@ use second::plain::translate_rows;
 use second::random::Random;
 use second::rows::{letter, Refusal};
 
-fn check(rows: &[u32]) -> Result<(), (u32, u32)> {
+fn check(rows: &[u32]) -> Result<(), (u32, u64)> {
     check_rows(rows).map_err(|Refusal { number, line }| (number, line))
 }
 
 /// What the translator says, without the rows.
-fn translate(rows: &[u32]) -> Result<(), (u32, u32)> {
+fn translate(rows: &[u32]) -> Result<(), (u32, u64)> {
     let mut plain = vec![0; 60_000 * 4];
     match translate_rows(rows, &mut plain) {
         Ok(count) => {
@@ -27,9 +27,9 @@ fn translate(rows: &[u32]) -> Result<(), (u32, u32)> {
 }
 
 /// The line (from 1) of the n-th row (from 1) of a letter.
-fn line_of(rows: &[u32], letter: u32, nth: usize) -> u32 {
+fn line_of(rows: &[u32], letter: u32, nth: usize) -> u64 {
     let mut lines = rows.chunks(4).enumerate().filter(|(_, row)| row[0] == letter);
-    lines.nth(nth - 1).unwrap().0 as u32 + 1
+    lines.nth(nth - 1).unwrap().0 as u64 + 1
 }
 
 #[test]
@@ -47,7 +47,7 @@ fn nesting() {
         let past = extreme::nesting(25, &mut random);
         assert_eq!(check(&past), Ok(()));
         let Err((2, line)) = translate(&past) else { panic!("nesting 25 for the translator") };
-        assert!(line <= past.len() as u32 / 4);
+        assert!(line <= past.len() as u64 / 4);
         assert_eq!(check(&extreme::nesting(128, &mut random)), Ok(()));
         let past = extreme::nesting(129, &mut random);
         let Err((2, _)) = check(&past) else { panic!("nesting 129") };
@@ -137,7 +137,7 @@ fn names() {
     for (row, at) in [(2, 2), (7, 1), (9, 1), (12, 1)] {
         let mut rows = extreme::names(7);
         rows[row * 4 + at] = 256;
-        assert_eq!(check(&rows), Err((2, row as u32 + 1)));
+        assert_eq!(check(&rows), Err((2, row as u64 + 1)));
     }
 }
 
@@ -214,7 +214,7 @@ fn malformed_rows_in_the_check() {
         {
             let mut rows = good.clone();
             rows[row * 4 + at] = number;
-            assert_eq!(check(&rows), Err((1, row as u32 + 1)));
+            assert_eq!(check(&rows), Err((1, row as u64 + 1)));
         }
     }
 }

@@ -7,7 +7,7 @@ use second::text::{read_rows, write_text};
 
 const GARBAGE: u32 = 0xdead_beef;
 
-fn read(text: &[u8]) -> Result<Vec<u32>, (u32, u32)> {
+fn read(text: &[u8]) -> Result<Vec<u32>, (u32, u64)> {
     let mut rows = vec![GARBAGE; 64];
     match read_rows(text, &mut rows) {
         Ok(count) => {
@@ -21,7 +21,7 @@ fn read(text: &[u8]) -> Result<Vec<u32>, (u32, u32)> {
     }
 }
 
-fn write(rows: &[u32]) -> Result<Vec<u8>, (u32, u32)> {
+fn write(rows: &[u32]) -> Result<Vec<u8>, (u32, u64)> {
     let mut text = vec![b'#'; 256];
     match write_text(rows, &mut text) {
         Ok(count) => {

@@ -17,7 +17,7 @@ fn rows(program: &str) -> Vec<u32> {
     rows_of_text(&text(program)).expect(program)
 }
 
-fn verdict(program: &str) -> Result<(), (u32, u32)> {
+fn verdict(program: &str) -> Result<(), (u32, u64)> {
     check_rows(&rows(program)).map_err(|refusal| (refusal.number, refusal.line))
 }
 

@@ -46,7 +46,7 @@ fn compare(series: &Series, seeds: u64, first: u64) -> u64 {
             failed += differs(name, &format!("seed {seed}"), &case, &mut reached);
             cases += 1;
         }
-        if tried > SEEDS && (seed - first + 1) % SEEDS == 0 {
+        if tried > SEEDS && (seed - first + 1).is_multiple_of(SEEDS) {
             println!("{name}: {} seeds, {failed} differences so far", seed - first + 1);
         }
     }

@@ -1,10 +1,12 @@
-//! Runs the commands of README.md, from the project's root, and compares what they print with what it shows.
-//! A command stands after `$ ` in a block marked `console`; the lines up to the next one are its output, standard error
+//! Runs the commands of README.md and docs/FLEETS.md, from the project's root, and compares what they print with what the
+//! pages show. A command stands after `$ ` in a block marked `console`; the lines up to the next one are its output, standard error
 //! included, where a line `...` stands for any lines. `.ci/run`, which runs this, is left out.
 
 use std::path::Path;
 use std::process::Command;
 
+/// The pages, in the order in which their commands are run: later ones use what earlier ones make.
+const PAGES: [&str; 2] = ["README.md", "docs/FLEETS.md"];
 /// The command that is left out.
 const GATE: &str = ".ci/run";
 /// A line that stands for any lines.
@@ -18,39 +20,38 @@ struct Example<'a> {
 
 fn main() {
     let root = Path::new(env!("CARGO_MANIFEST_DIR")).join("..");
-    let page = match std::fs::read_to_string(root.join("README.md")) {
-        Ok(page) => page,
-        Err(error) => return fail(&format!("README.md: {error}")),
-    };
-    let examples: Vec<Example> = examples(&page);
-    for Example { command, expected } in examples.iter().filter(|example| example.command != GATE) {
-        // As typed by a person, who has cargo build into target/.
-        let printed = Command::new("sh")
-            .args(["-c", &format!("{command} 2>&1")])
-            .current_dir(&root)
-            .env_remove("CARGO_TARGET_DIR")
-            .output();
-        let printed = match printed {
-            Ok(printed) => String::from_utf8_lossy(&printed.stdout).into_owned(),
-            Err(error) => return fail(&format!("{command}: {error}")),
-        };
-        let lines: Vec<&str> = printed.lines().collect();
-        if !matches(&lines, expected) {
-            return fail(&format!(
-                "{command}\nREADME.md shows:\n{}\nprinted:\n{printed}",
-                expected.join("\n")
-            ));
+    for page in PAGES {
+        if let Err(what) = shown(&root, page) {
+            eprintln!("{what}");
+            std::process::exit(1);
         }
-        println!("as README.md shows: {command}");
-    }
-    if examples.len() < 2 {
-        fail("README.md: no examples");
     }
 }
 
-fn fail(what: &str) {
-    eprintln!("{what}");
-    std::process::exit(1);
+/// Runs the commands of a page; or says which one printed something else.
+fn shown(root: &Path, name: &str) -> Result<(), String> {
+    let page = std::fs::read_to_string(root.join(name)).map_err(|error| format!("{name}: {error}"))?;
+    let examples: Vec<Example> = examples(&page);
+    if examples.len() < 2 {
+        return Err(format!("{name}: no examples"));
+    }
+    for Example { command, expected } in examples.iter().filter(|example| example.command != GATE) {
+        // As typed by a person, who has cargo build into target/.
+        let printed = Command::new("sh")
+            .args(["-c", &format!("{{ {command}\n}} 2>&1")])
+            .current_dir(root)
+            .env_remove("CARGO_TARGET_DIR")
+            .output();
+        let printed = printed.map_err(|error| format!("{command}: {error}"))?.stdout;
+        let printed = String::from_utf8_lossy(&printed);
+        let lines: Vec<&str> = printed.lines().collect();
+        if !matches(&lines, expected) {
+            let expected = expected.join("\n");
+            return Err(format!("{command}\n{name} shows:\n{expected}\nprinted:\n{printed}"));
+        }
+        println!("as {name} shows: {command}");
+    }
+    Ok(())
 }
 
 /// The commands of the blocks marked `console`.

@@ -3,27 +3,23 @@ use mathlib.Core.Path.{_≡_, refl, sym, ap, subst, _∙_}
 use mathlib.Core.Bool.{Bool, true, false, not, false≢true}
 use mathlib.Core.Logic.{⊎-elim}
 use mathlib.Core.List.{List}
-use Prim.Native.Nat.{ℕ, zero, suc, _+_, _-_, _*_, _/_, _^_, _≤_, _<_}
+use Prim.Native.Nat.{ℕ, zero, suc, _+_, _*_, _≤_, _<_}
 use native.Mathlib.Omega.{arith}
 use borrow.Author.Tests.{eq-eqb, ne-eqb}
-use lib.Bits.{bitAnd}
 use lib.Dec.{eqb}
 use lib.ListN.{length, getD, set, length-set}
 use lib.Seq.{getD-set-same, getD-set-other}
 use Rattle.language.specs.Effects.{member}
 use Rattle.language.specs.Layout.{Run}
-use Rattle.language.proofs.Effects.{member-mask}
+use Rattle.classes.specs.Subclasses.{is-below}
 use Rattle.language.proofs.Lines.{less-or-same}
 use Rattle.bodies.specs.declared.Typing.{Typing}
 use Rattle.bodies.specs.declared.Typing.the-variants.{Bool as bool-case, Class, Null, Refusal}
-use Rattle.bodies.specs.Tables.{PreNearest, Applicable, CaseIn, root-in, applied, is-below}
+use Rattle.bodies.specs.Tables.{PreNearest, Applicable, CaseIn, root-in, applied}
 use Rattle.bodies.specs.Tables.{is-fitting}
 use Rattle.bodies.specs.Tables.{nearest-from, applied-number, joined-number, Known, a-class, a-bool}
 use Rattle.bodies.specs.Tables.{an-absence}
 use Rattle.bodies.specs.Tables.{Changed, Saved, Swapped, PreNumbers, PreJoin}
-
-pub shifted-member : (φ c k : ℕ) → k ≡ c - 1 → eqb (bitAnd (φ / 2 ^ k) 1) 1 ≡ member φ c
-shifted-member φ c k e = ap (λ (x : ℕ). eqb (bitAnd (φ / 2 ^ x) 1) 1) e ∙ member-mask φ c
 
 pub applied-yes : (T : List ℕ) (φ k root : ℕ) (b : Bool) → root ≡ root-in T k → b ≡ member φ root → b ≡ true
     → root ≡ applied T φ k
@@ -47,14 +43,6 @@ pub number-class : (T : List ℕ) (φ n : ℕ) → (n ≡ 255 → ⊥) → (n �
     → applied T φ n ≡ applied-number T φ n
 unfolding applied-number
 number-class T φ n f g = rw (ne-eqb n 255 f, ne-eqb n 65535 g)
-
-pub below-object : (A : List ℕ) (c d : ℕ) → d ≡ 0 → true ≡ is-below A c d
-unfolding is-below
-below-object A c d e = rw (eq-eqb d 0 e)
-
-pub below-other : (A : List ℕ) (c d : ℕ) → (d ≡ 0 → ⊥) → member (getD A c 0) d ≡ is-below A c d
-unfolding is-below
-below-other A c d e = rw (ne-eqb d 0 e)
 
 -- going up to the nearest common superclass
 pub record Going (T A : List ℕ) (c d k : ℕ) : Type 0 where

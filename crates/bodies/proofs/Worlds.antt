@@ -14,8 +14,10 @@ use Rattle.language.specs.Effects.{apply-class}
 use Rattle.language.specs.Program.{world}
 use Rattle.language.specs.Typing.{fits}
 use Rattle.language.proofs.Classes as classes
+use Rattle.classes.specs.Subclasses.{is-below}
+use Rattle.classes.proofs.Below.{below-is as table-below}
 use Rattle.bodies.specs.Answers.{typing-case}
-use Rattle.bodies.specs.Tables.{Classes, Sound, applied, is-below, nearest-from, is-fitting}
+use Rattle.bodies.specs.Tables.{Classes, Sound, applied, nearest-from, is-fitting}
 
 module _ {P : List Class} {T A : List ℕ} {count : ℕ} (h : Classes P T A count) where
   within : {k : ℕ} → k ≤ count → k ≤ length P
@@ -38,11 +40,7 @@ module _ {P : List Class} {T A : List ℕ} {count : ℕ} (h : Classes P T A coun
   applied-is φ k l = rw (h .tables .roots k (within l))
 
   below-is : (c d : ℕ) → c ≤ count → is-below A c d ≡ world P .below c d
-  unfolding is-below
-  below-is c zero l = sym (classes.below-object P (h .lower) c (within l))
-  below-is c (suc d) l =
-      rw (ne-eqb (suc d) 0 (λ e. omega arith), h .tables .aboves c (within l))
-      (sym (classes.below-is P (h .lower) c (suc d) (within l) (omega arith)))
+  below-is c d l = table-below P (h .lower) (h .tables) c d (within l)
 
   nearest-go : (n k d : ℕ) → k < n → k ≤ count → d ≤ count → nearest-from T A n k d ≡ world P .nearest k d
   unfolding nearest-from

@@ -17,6 +17,7 @@ use Rattle.language.specs.ClassTables.{ClassTables, field-rows, method-row}
 use Rattle.language.specs.Encoded.{RowAt, TypesAt}
 use Rattle.language.specs.Layout.{EffectsAt, Run}
 use Rattle.language.specs.WellFormed.{Each}
+use Rattle.classes.specs.Subclasses.{is-below}
 use Rattle.bodies.specs.declared.Typing.{Typing}
 use Rattle.bodies.specs.declared.Typing.the-variants.{Bool as bool-case, Class as class-case, Null}
 use Rattle.bodies.specs.declared.Typing.the-variants.{Refusal}
@@ -34,9 +35,6 @@ root-in T k = getD T (k * 576 + 514) 0
 
 unfoldable pub applied : List ℕ → ℕ → ℕ → ℕ
 applied T φ k = cond (member φ (root-in T k)) (root-in T k) k
-
-unfoldable pub is-below : List ℕ → ℕ → ℕ → Bool
-is-below A c d = cond (eqb d 0) true (member (getD A c 0) d)
 
 -- Going up from k, with fewer than n superclasses, to a class that d is or stands below.
 unfoldable pub nearest-from : List ℕ → List ℕ → ℕ → ℕ → ℕ → ℕ

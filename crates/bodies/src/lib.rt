@@ -2,10 +2,10 @@
 ghost use mathlib.Core.Path.{_≡_};
 ghost use Prim.Native.Nat.{ℕ, suc, _+_, _-_, _*_, _≤_, _<_};
 ghost use lib.ListN.{length, getD};
-ghost use Rattle.language.specs.Effects.{member, effect-of, within};
+ghost use Rattle.language.specs.Effects.{within};
 ghost use Rattle.language.specs.Layout.{Run};
 ghost use Rattle.bodies.specs.Answers.{answer, case-of-number, case-number, is-refusal};
-ghost use Rattle.bodies.specs.Tables.{root-in, applied, is-below, is-fitting, nearest-from};
+ghost use Rattle.bodies.specs.Tables.{root-in, applied, is-fitting, nearest-from};
 ghost use Rattle.bodies.specs.Tables.{applied-number, joined-number, CaseIn, PreNearest, Applicable};
 ghost use Rattle.bodies.specs.Tables.{Runs};
 ghost use Rattle.bodies.specs.Nodes.{null-tested, not-class, joined-case, BothClasses, field-in};
@@ -123,34 +123,6 @@ fn typing_at(number: u32) -> Typing
     typing_of(Type::from_number(number))
 }
 
-// The bit of a class in a set.
-fn place_of(class: u32) -> u32
-    ensures { λ r. ⌜ r ≡ class - 1 ⌝ }
-{
-    if class == 0 {
-        return 0;
-    }
-    class - 1
-}
-
-// Whether a class is in an effect.
-fn is_member(effect: u64, class: u32) -> bool
-    requires { ⌜ class ≤ 64 ⌝ }
-    ensures { λ r. ⌜ r ≡ member effect class ⌝ }
-{
-    let place = place_of(class);
-    (effect >> place) & 1 == 1
-}
-
-// The set of one class.
-fn effect_of(class: u32) -> u64
-    requires { ⌜ class ≤ 64 ⌝ }
-    ensures { λ r. ⌜ r ≡ effect-of class ⌝ }
-{
-    let place = place_of(class);
-    1u64 << place
-}
-
 // Whether every class of the first is in the second.
 fn is_within(inner: u64, outer: u64) -> bool
     ensures { λ r. ⌜ r ≡ within inner outer ⌝ }
@@ -172,18 +144,11 @@ fn apply(table: &[u16], effect: u64, class: u32) -> u32
     ensures { λ r. ⌜ r ≡ applied (now (table .entry)) effect class ⌝ }
 {
     let root = entry(table, class, 514);
-    if is_member(effect, root) { root } else { class }
-}
-
-// Whether class c is d or stands below it.
-fn is_below(above: &[u64], c: u32, d: u32) -> bool
-    requires { ⌜ (c < length (now above)) × (d ≤ 64) ⌝ }
-    ensures { λ r. ⌜ r ≡ is-below (now (above .entry)) c d ⌝ }
-{
-    if d == Type::OBJECT {
-        return true;
+    if classes::is_member(effect, root) {
+        root
+    } else {
+        class
     }
-    is_member(above[c as usize], d)
 }
 
 // Whether a value of an expression's type may stand where a type is declared: null fits every class and never bool.
@@ -198,7 +163,7 @@ fn is_fitting(above: &[u64], t: Typing, u: Type) -> bool
             if u.number == Type::BOOL {
                 return false;
             }
-            is_below(above, c, u.number)
+            classes::is_below(above, c, u.number)
         }
         Typing::Null => u.number != Type::BOOL,
         Typing::Refusal(_, _) => false,
@@ -211,7 +176,7 @@ fn nearest(table: &[u16], above: &[u64], c: u32, d: u32) -> u32
     ensures { λ r. ⌜ r ≡ nearest-from (now (table .entry)) (now (above .entry)) (suc c) c d ⌝ }
 {
     let mut k = c;
-    while !is_below(above, d, k) {
+    while !classes::is_below(above, d, k) {
         k = entry(table, k, 513);
     }
     k
@@ -509,7 +474,7 @@ fn effect_at(rows: &[u32], from: usize) -> u64
     let mut effect = 0;
     let mut i = from;
     while rows[i * 4] == 88 {
-        effect = effect | effect_of(rows[i * 4 + 1]);
+        effect = effect | classes::effect_of(rows[i * 4 + 1]);
         i += 1;
     }
     effect
@@ -593,7 +558,7 @@ fn change(
     if entry(table, number, 514) != root {
         return refused(11, at);
     }
-    let effect = effect_of(root);
+    let effect = classes::effect_of(root);
     apply_all(table, slots, scope, effect);
     slots[k] = target;
     Answer {

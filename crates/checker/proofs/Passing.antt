@@ -22,6 +22,9 @@ use Rattle.language.specs.ClassTables.{ClassTables}
 use Rattle.language.specs.Layout.{ProgramAt, LooksUpProgram}
 use Rattle.language.proofs.Filling.{replicate-long}
 use Rattle.layout.specs.Standing.{program-at}
+use Rattle.layout.specs.Headed.{super-lower}
+use Rattle.classes.specs.Subclasses.{Subclasses}
+use Rattle.classes.proofs.Below.{subclasses}
 use Rattle.form.specs.Answers.{formed-of}
 use Rattle.form.specs.declared.Formed.{Formed}
 use Rattle.form.specs.declared.Formed.the-variants.{InForm, Refused as NotInForm}
@@ -178,6 +181,16 @@ module _ {R E T A C : List ℕ} {n : ℕ} (w : FormPassed R E T A C n) where
       let s = heads-refused (headings of-check (w .program .classes)) i l (sym e ∙ f) in
       (rw s, λ q g. absurd (accept≢refuse i l (rw s at g)))
 
+-- The table of superclasses tells which class of an accepted program stands below which.
+pub tells : {R E T A C : List ℕ} (p : Program) {q : Program} → after-form p ≡ accept q → Held R E T A C q
+    → Subclasses (q .classes) A
+unfolding after-form after-headings
+tells {A = A} p {q = q} e h =
+    bind-checked-inv _ _ e λ u e₁ e. bind-checked-inv _ _ e λ v e₂ e.
+    let i : p ≡ q = accept-injective e in
+    let passes = subst (λ (p : Program). headings of-check (p .classes) ≡ accept u) i e₁ in
+    subclasses (q .classes) (super-lower (q .classes) u passes) (h .tables) (h .here .in-form .few)
+
 -- ---- form
 
 form-accepted : (c : results.Checked Program) (n : ℕ) → InForm n ≡ formed-of c
@@ -207,16 +220,12 @@ module _ {R E C : List ℕ} {n : ℕ} where
   for-all T w t = omega (arith, w .counted, w .here .in-form .few, t)
 
 module _ (R : List ℕ) where
-  -- A length that is no multiple of 4.
-  pub uneven : (E T A C : List ℕ) → (length R % 4 ≡ 0 → ⊥)
-      → (Refused 1 0 ≡ checked-case (check R)) × ((p : Program) → check R ≡ accept p → Held R E T A C p)
+  -- A length that is not a multiple of 4.
+  pub uneven : (Q : Program → Type 0) → (length R % 4 ≡ 0 → ⊥)
+      → (Refused 1 0 ≡ checked-case (check R)) × ((p : Program) → check R ≡ accept p → Q p)
   unfolding check whole-rows require
-  uneven E T A C u = let s = ne-eqb (length R % 4) 0 u in
+  uneven Q u = let s = ne-eqb (length R % 4) 0 u in
       (rw s, λ p g. absurd (accept≢refuse 1 0 (rw s at g)))
-
-  pub uneven-refused : (length R % 4 ≡ 0 → ⊥) → check R ≡ refuse 1 0
-  unfolding check whole-rows require
-  uneven-refused u = rw (ne-eqb (length R % 4) 0 u)
 
   module _ (whole : length R % 4 ≡ 0) where
     check-is : check R ≡ three-passes R
@@ -251,7 +260,7 @@ module _ (R : List ℕ) where
         (with-tables T A (x .0) (for-all T (x .0) (l .long)) (l .long-above), x .1)
 
     -- The passes after form were run.
-    pub after-form-is : (p : Program) → form of-check (rows-of R) ≡ accept p → check R ≡ after-form p
+    after-form-is : (p : Program) → form of-check (rows-of R) ≡ accept p → check R ≡ after-form p
     unfolding three-passes after-form after-headings bind-checked
     after-form-is p e = check-is ∙ rw e
 
@@ -264,16 +273,13 @@ module _ (R : List ℕ) where
         let s : check R ≡ after-form p = after-form-is p e in
         (b .0 ∙ ap case (sym s), λ q g. b .1 q (sym s ∙ g))
 
-    pub form-refuses : (i l : ℕ) (f : Formed) → f ≡ NotInForm i l → f ≡ formed-of (form of-check (rows-of R))
-        → check R ≡ refuse i l
-    unfolding three-passes bind-checked
-    form-refuses i l f e b = check-is ∙ rw (form-refused (form of-check (rows-of R)) i l (sym e ∙ b))
-
-    pub check-refused : (E T A C : List ℕ) (i l : ℕ) (f : Formed) → f ≡ NotInForm i l
+    pub check-refused : (Q : Program → Type 0) (i l : ℕ) (f : Formed) → f ≡ NotInForm i l
         → f ≡ formed-of (form of-check (rows-of R))
-        → (Refused i l ≡ checked-case (check R)) × ((p : Program) → check R ≡ accept p → Held R E T A C p)
-    check-refused E T A C i l f e b =
-        let s : check R ≡ refuse i l = form-refuses i l f e b in
+        → (Refused i l ≡ checked-case (check R)) × ((p : Program) → check R ≡ accept p → Q p)
+    unfolding three-passes bind-checked
+    check-refused Q i l f e b =
+        let s : check R ≡ refuse i l =
+        check-is ∙ rw (form-refused (form of-check (rows-of R)) i l (sym e ∙ b)) in
         (ap checked-case (sym s), λ p g. absurd (accept≢refuse i l (sym s ∙ g)))
 
 -- ---- new tables that are lent to the check

@@ -6,6 +6,7 @@ ghost use Rattle.language.specs.Results.{accept};
 ghost use Rattle.language.specs.Tree.{Program};
 ghost use Rattle.language.specs.Layout.{LooksUpProgram};
 ghost use Rattle.language.specs.Verdict.{check, verdict};
+ghost use Rattle.classes.specs.Subclasses.{Subclasses};
 ghost use Rattle.checker.specs.Answers.{checked-case, verdict-case, verdict-of-checked};
 ghost use Rattle.checker.specs.Passes.{after-headings, after-form, Lent, Room, Stands, FormPassed};
 ghost use Rattle.checker.specs.Passes.{HeadingsPassed, Held};
@@ -106,65 +107,90 @@ pub fn check_into(
     }
 }
 
-// After form, with class tables of its own: at most 7 classes and Object pay for 8 blocks alone.
-fn check_classes(rows: &[u32], ends: &[u16], lookups: &mut [u16], classes: u32) -> Checked
+// After form, with a class table of its own: at most 7 classes and Object pay for 8 blocks alone.
+fn check_classes(
+    rows: &[u32],
+    ends: &[u16],
+    above: &mut [u64],
+    lookups: &mut [u16],
+    classes: u32,
+) -> Checked
     requires { ⌜ Stands (now rows) (now ends) (now lookups) classes ⌝ }
+    requires { ⌜ 65 ≤ length (now above) ⌝ }
     ensures { λ r. ⌜ ((w : Stands (now (rows .entry)) (now (ends .entry)) (now (lookups .entry)) classes)
-        → r ≡ checked-case (after-form (w .program))) ⌝ }
+        → (r ≡ checked-case (after-form (w .program)))
+        × ((p : Program) → after-form (w .program) ≡ accept p → Subclasses (p .classes) (now (above .exit))))
+        ⌝ }
 {
-    let mut above = [0u64; 65];
     if classes <= 7 {
         let mut tables = [0u16; 4608];
-        return check_formed(rows, ends, &mut tables, &mut above, lookups, classes);
+        return check_formed(rows, ends, &mut tables, above, lookups, classes);
     }
     let mut tables = [0u16; 37440];
-    check_formed(rows, ends, &mut tables, &mut above, lookups, classes)
+    check_formed(rows, ends, &mut tables, above, lookups, classes)
 }
 
 // Checks whole rows with lent tables of ends and lookup classes. Form counts the classes before there is a class table.
-fn check_whole(rows: &[u32], ends: &mut [u16], lookups: &mut [u16]) -> Checked
+fn check_whole(rows: &[u32], ends: &mut [u16], above: &mut [u64], lookups: &mut [u16]) -> Checked
     requires { ⌜ Room (now rows) (now ends) (now lookups) ⌝ }
-    ensures { λ r. ⌜ r ≡ checked-case (check (now (rows .entry))) ⌝ }
+    requires { ⌜ 65 ≤ length (now above) ⌝ }
+    ensures { λ r. ⌜ (r ≡ checked-case (check (now (rows .entry))))
+        × ((p : Program) → check (now (rows .entry)) ≡ accept p → Subclasses (p .classes) (now (above .exit)))
+        ⌝ }
 {
     let f = form::check_form(rows, ends);
     match f {
-        form::Formed::InForm(classes) => check_classes(rows, ends, lookups, classes),
+        form::Formed::InForm(classes) => check_classes(rows, ends, above, lookups, classes),
         form::Formed::Refused(number, line) => Checked::Refused(number, line),
     }
 }
 
 // The check of at most 1,024 whole rows.
-fn check_few(rows: &[u32]) -> Checked
-    requires { ⌜ length (now rows) % 4 ≡ 0 ⌝ }
-    requires { ⌜ length (now rows) ≤ 4096 ⌝ }
-    ensures { λ r. ⌜ r ≡ checked-case (check (now (rows .entry))) ⌝ }
+fn check_few(rows: &[u32], above: &mut [u64]) -> Checked
+    requires { ⌜ (length (now rows) % 4 ≡ 0) × (length (now rows) ≤ 4096) × (65 ≤ length (now above)) ⌝ }
+    ensures { λ r. ⌜ (r ≡ checked-case (check (now (rows .entry))))
+        × ((p : Program) → check (now (rows .entry)) ≡ accept p → Subclasses (p .classes) (now (above .exit)))
+        ⌝ }
 {
     let mut ends = [0u16; 1024];
     let mut lookups = [0u16; 1024];
-    check_whole(rows, &mut ends, &mut lookups)
+    check_whole(rows, &mut ends, above, &mut lookups)
 }
 
 // The check of any number of whole rows.
-fn check_many(rows: &[u32]) -> Checked
-    requires { ⌜ length (now rows) % 4 ≡ 0 ⌝ }
-    ensures { λ r. ⌜ r ≡ checked-case (check (now (rows .entry))) ⌝ }
+fn check_many(rows: &[u32], above: &mut [u64]) -> Checked
+    requires { ⌜ (length (now rows) % 4 ≡ 0) × (65 ≤ length (now above)) ⌝ }
+    ensures { λ r. ⌜ (r ≡ checked-case (check (now (rows .entry))))
+        × ((p : Program) → check (now (rows .entry)) ≡ accept p → Subclasses (p .classes) (now (above .exit)))
+        ⌝ }
 {
     let mut ends = [0u16; 60000];
     let mut lookups = [0u16; 60000];
-    check_whole(rows, &mut ends, &mut lookups)
+    check_whole(rows, &mut ends, above, &mut lookups)
 }
 
-// Checks rows. Few rows and few classes pay for short tables alone.
+// Checks rows with a lent table of superclasses, which tells of an accepted program which class stands below which.
+// Few rows and few classes pay for short tables alone.
+pub fn check_above(rows: &[u32], above: &mut [u64]) -> Checked
+    requires { ⌜ 65 ≤ length (now above) ⌝ }
+    ensures { λ r. ⌜ (r ≡ checked-case (check (now (rows .entry))))
+        × ((p : Program) → check (now (rows .entry)) ≡ accept p → Subclasses (p .classes) (now (above .exit)))
+        ⌝ }
+{
+    if rows.len() % 4 == 0 {
+        if rows.len() <= 4096 {
+            return check_few(rows, above);
+        }
+        return check_many(rows, above);
+    }
+    Checked::Refused(1, 0)
+}
+
+// Checks rows.
 pub fn check_rows(rows: &[u32]) -> Verdict
     ensures { λ r. ⌜ r ≡ verdict-case (verdict (now (rows .entry))) ⌝ }
 {
-    if rows.len() % 4 != 0 {
-        return Verdict::Refused(1, 0);
-    }
-    if rows.len() <= 4096 {
-        let few = check_few(rows);
-        return verdict_of(few);
-    }
-    let many = check_many(rows);
-    verdict_of(many)
+    let mut above = [0u64; 65];
+    let checked = check_above(rows, &mut above);
+    verdict_of(checked)
 }

@@ -9,7 +9,7 @@ ghost use Rattle.language.specs.Limits.{of-check};
 ghost use Rattle.language.specs.Tree.{type-of-number, kind-of-number, method-lines, class-lines, Class};
 ghost use Rattle.language.specs.World.{is-declared-type};
 ghost use Rattle.language.specs.Program.{world, is-state-type, method-of};
-ghost use Rattle.language.specs.Effects.{effect-of, effect-of-all, member};
+ghost use Rattle.language.specs.Effects.{effect-of-all};
 ghost use Rattle.language.specs.ClassTables.{ClassTables, rows-from, declared-row, method-row, field-rows};
 ghost use Rattle.language.specs.Headings.{may-extend, may-override, same-types, lines-within, check-fields};
 ghost use Rattle.language.specs.Headings.{check-parameters, check-effects, check-methods, check-class};
@@ -196,17 +196,6 @@ fn check_fields(
     Headed::Passed
 }
 
-// The set of one class, of at most 64.
-fn class_bit(c: u32) -> u64
-    requires { ⌜ c ≤ 64 ⌝ }
-    ensures { λ s. ⌜ s ≡ effect-of c ⌝ }
-{
-    if c == 0 {
-        return 1;
-    }
-    1u64 << (c - 1)
-}
-
 // The set of the classes on X lines; a number above 64 is no class.
 fn effect_set(rows: &[u32], r: usize, n: usize) -> u64
     requires { ⌜ EffectLines (now rows) r n ⌝ }
@@ -218,18 +207,10 @@ fn effect_set(rows: &[u32], r: usize, n: usize) -> u64
         i -= 1;
         let c = rows[(r + i) * 4 + 1];
         if c <= 64 {
-            set = class_bit(c) | set;
+            set = classes::effect_of(c) | set;
         }
     }
     set
-}
-
-// Is a class in a set.
-fn is_member(set: u64, c: u32) -> bool
-    requires { ⌜ (1 ≤ c) × (c ≤ 64) ⌝ }
-    ensures { λ b. ⌜ b ≡ member set c ⌝ }
-{
-    (set >> (c - 1)) & 1 == 1
 }
 
 // Are the numbers of X lines classes of a set.
@@ -246,7 +227,7 @@ fn lines_within(rows: &[u32], r: usize, n: usize, set: u64) -> bool
         if 64 < c {
             return false;
         }
-        if !is_member(set, c) {
+        if !classes::is_member(set, c) {
             return false;
         }
         i += 1;
@@ -525,7 +506,7 @@ fn check_classes(
             return h;
         };
         let over = rows[r * 4 + 2] as usize;
-        above[k] = class_bit(k as u32) | above[over];
+        above[k] = classes::effect_of(k as u32) | above[over];
         r = skip_class(rows, ends, r);
         k += 1;
     }

@@ -3,7 +3,7 @@ use mathlib.Core.Path.{_≡_, refl, sym, ap, _∙_, subst}
 use mathlib.Core.Bool.{true}
 use mathlib.Core.Option.{Option, none, some}
 use mathlib.Core.List.{List, [], _∷_}
-use Prim.Native.Nat.{ℕ, zero, suc, _+_, _-_, _≤_, _<_}
+use Prim.Native.Nat.{ℕ, suc, _+_, _-_, _≤_, _<_}
 use native.Mathlib.Omega.{arith}
 use borrow.Author.Tests.{leb-true, le-leb, ne-eqb}
 use lib.ListN.{length, length-append}
@@ -16,7 +16,6 @@ use Rattle.language.specs.Tree.{literal-true, literal-false, literal-null, slot
 use Rattle.language.specs.Tree.{get, cast, new, change, assign, set, call, choose, block, Exprs, nil, cons}
 use Rattle.language.specs.Tree.{count, Field, Class, Program}
 use Rattle.language.specs.World.{Method, is-declared}
-use Rattle.language.specs.Effects.{member}
 use Rattle.language.specs.Program.{world, class-at, method-of}
 use Rattle.language.specs.Typing.{Environment}
 use Rattle.language.specs.Rules.{Declared, declared-nil, declared-cons, HasType, HaveTypes, type-new}
@@ -29,14 +28,14 @@ use Rattle.language.specs.ClassTables.{ClassTables, method-row}
 use Rattle.language.specs.Layout.{ProgramAt, body-row, start-row}
 use Rattle.language.specs.Evaluation.{initial}
 use Rattle.language.specs.Store.{value-number}
-use Rattle.language.proofs.Classes.{below-object, below-is}
+use Rattle.classes.proofs.Below.{below-is}
 use Rattle.theory.specs.Equal.{all-fit-length}
 use Rattle.theory.specs.WellEqual.{program-well}
 use Rattle.theory.specs.Lookups.{class-well, well-formed-laws}
 use Rattle.theory.specs.MoreLookups.{well-formed-more}
 use Rattle.layout.specs.Found.{found-none, row-some, MethodHere, method-here, field-here, body-here}
 use Rattle.objects.specs.Holding.{NamedAll, Within, WithinAll, BodyAt, Linked, absent, present, FirstValueAt}
-use Rattle.objects.specs.Holding.{first-of-type, is-below, Holds}
+use Rattle.objects.specs.Holding.{first-of-type, Holds}
 use Rattle.machine.specs.Contracts.{Accepted, Runs}
 use Rattle.machine.proofs.Lines.{Without, without-then, without-lines}
 
@@ -152,13 +151,6 @@ module _ {R E T A : List ℕ} {p : Program} (a : Accepted R E T A p) where
   lower : (k : ℕ) (c : Class) → class-at P k ≡ some c → c .super < k
   lower k c e = class-well P (well .classes) k c e .earlier
 
-  below : (k c : ℕ) → k ≤ length P → c ≤ length P → is-below A k c ≡ world P .below k c
-  unfolding member is-below
-  below k zero l m = sym (below-object P lower k l)
-  below k (suc c) l m =
-      rw (ne-eqb (suc c) 0 (λ e. omega arith), a .tables .aboves k l)
-      (sym (below-is P lower k (suc c) l (omega arith)))
-
   field-at : (k i : ℕ) (f : Field) → k ≤ length P → nth (world P .fields k) i ≡ some f
       → FirstValueAt R T k i f
   field-at k i f l e =
@@ -225,7 +217,7 @@ module _ {R E T A : List ℕ} {p : Program} (a : Accepted R E T A p) where
     classes = a .standing .in-form .few;
     counts = λ k l. well-formed-more p well .few-fields k;
     roots = roots;
-    below = below;
+    below = λ k c l m. below-is P lower (a .tables) k c l;
     fields = field-at;
     methods = λ k m l. linked k m;
   }

@@ -24,7 +24,7 @@ use Rattle.objects.specs.Values.{Outcome, Gave, Raised, Stuck, Counts, v
 use Rattle.objects.specs.Values.{SmallOutcome, bare, told, answer}
 use Rattle.objects.specs.Holding.{view, Sound}
 use Rattle.objects.specs.Contracts.{Stored, Acts, PreObject, PostLoad, PostSave, PostCast}
-use Rattle.objects.specs.Holding.{is-below}
+use Rattle.classes.specs.Subclasses.{is-below}
 use Rattle.objects.proofs.Value.{the-type}
 use Rattle.objects.proofs.Values.{value-decoded, small-decoded, outcome-value, outcome-stuck}
 use Rattle.objects.proofs.Values.{outcome-null-pointer, outcome-bad-cast}

@@ -1,9 +1,9 @@
 -- How rows and tables hold a program within the limits, and how a store holds its objects.
 use mathlib.Core.Path.{_≡_}
-use mathlib.Core.Bool.{Bool, cond, _||_}
+use mathlib.Core.Bool.{cond}
 use mathlib.Core.Option.{Option, none, some}
 use mathlib.Core.List.{List, [], _∷_}
-use Prim.Native.Nat.{ℕ, _+_, _-_, _*_, _/_, _%_, _^_, _≤_, _<_}
+use Prim.Native.Nat.{ℕ, _+_, _-_, _*_, _≤_, _<_}
 use lib.Dec.{eqb}
 use lib.ListN.{length, getD}
 use Rattle.language.specs.Lists.{nth}
@@ -17,6 +17,7 @@ use Rattle.language.specs.ClassTables.{ClassTables, method-row}
 use Rattle.language.specs.Encoded.{Encoded}
 use Rattle.language.specs.Evaluation.{Value as Meaning, State, initial}
 use Rattle.language.specs.Store.{value-number, heap-of-numbers}
+use Rattle.classes.specs.Subclasses.{is-below}
 use Rattle.objects.specs.Values.{Counts}
 
 -- A type whose number stands for it: bool, or a class up to k.
@@ -79,10 +80,6 @@ pub record FirstValueAt (R T : List ℕ) (k i : ℕ) (f : Field) : Type 0 where
   pub within : getD T (k * 576 + 520 + i) 0 * 4 + 1 < length R
   pub first : first-of-type (getD R (getD T (k * 576 + 520 + i) 0 * 4 + 1) 0)
       ≡ value-number (initial (f .type))
-
--- Class c is Object or in the set of class k.
-unfoldable pub is-below : List ℕ → ℕ → ℕ → Bool
-is-below A k c = eqb c 0 || eqb (getD A k 0 / 2 ^ (c - 1) % 2) 1
 
 -- Rows and tables hold a program whose classes are P.
 pub record Holds (R E T A : List ℕ) (P : List Class) : Type 0 where

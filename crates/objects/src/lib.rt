@@ -4,12 +4,12 @@
 // there on why there is none (specs/Values.antt, outcome).
 ghost use mathlib.Core.Path.{_≡_};
 ghost use mathlib.Core.Bool.{true};
-ghost use Prim.Native.Nat.{_+_, _*_, _≤_, _<_};
+ghost use Prim.Native.Nat.{_+_, _*_, _<_};
 ghost use lib.ListN.{length, set};
 ghost use Rattle.language.specs.Evaluation.{is-null-value};
 ghost use Rattle.objects.specs.Values.{value, decoded, outcome, counts-in, answered};
 ghost use Rattle.objects.specs.Contracts.{first-of, First, Fill, Filled};
-ghost use Rattle.objects.specs.Holding.{first-of-type, is-below};
+ghost use Rattle.objects.specs.Holding.{first-of-type};
 ghost use Rattle.objects.specs.Contracts.{PreNew, PostNew, PreChange, PostChange, PreObject, PostLoad};
 ghost use Rattle.objects.specs.Contracts.{PostSave, PreCast, PostCast};
 ghost use Rattle.objects.specs.Contracts.{LetterFrom, SomeLetter, PreFind, PostFind};
@@ -227,18 +227,6 @@ pub fn save(tables: &[u16], store: &mut [u32], tally: &[u32; 3], n: u32, w: u32,
     w as u64
 }
 
-// Class k is class c or stands below it.
-fn is_below(above: &[u64], k: usize, c: u32) -> bool
-    requires { ⌜ k < length (now above) ⌝ }
-    requires { ⌜ c ≤ 64 ⌝ }
-    ensures { λ r. ⌜ r ≡ is-below (now (above .entry)) k c ⌝ }
-{
-    if c == 0 {
-        return true;
-    }
-    (above[k] >> (c - 1)) & 1 == 1
-}
-
 // K: an object of class c or below passes, and so does null.
 pub fn cast_object(above: &[u64], store: &[u32], tally: &[u32; 3], n: u32, c: u32) -> u64
     requires { ⌜ PreCast (now above) (now store) c (counts-in (now tally) .made) ⌝ }
@@ -255,8 +243,8 @@ pub fn cast_object(above: &[u64], store: &[u32], tally: &[u32; 3], n: u32, c: u3
     if j >= tally[1] {
         return STUCK;
     }
-    let k = store[j as usize * 18] as usize;
-    if is_below(above, k, c) {
+    let k = store[j as usize * 18];
+    if classes::is_below(above, k, c) {
         return n as u64;
     }
     BAD_CAST

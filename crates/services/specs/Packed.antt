@@ -16,6 +16,10 @@ use Rattle.machine.specs.declared.End.{End}
 use Rattle.machine.specs.declared.End.the-variants.{Gave, Raised, Stopped}
 use Rattle.runner.specs.declared.Answer as runner
 use Rattle.runner.specs.declared.Answer.the-variants.{Refused as NotRun, Ran}
+use Rattle.fleet.specs.declared.Count.{Count}
+use Rattle.fleet.specs.declared.Count.the-variants.{Labels, Refused as NotCounted}
+use Rattle.fleet.specs.declared.Reported.{Reported}
+use Rattle.fleet.specs.declared.Reported.the-variants.{Done as Written, Refused as NotWritten}
 
 abbrev pub refusal : ℕ → ℕ → ℕ
 refusal number line = number * 4294967296 + line
@@ -89,3 +93,27 @@ objects-told (Ran r) before = r .objects
 abbrev pub changes-told : runner.Answer → ℕ → ℕ
 changes-told (NotRun number line) before = before
 changes-told (Ran r) before = r .changes
+
+-- ---- labels of a run: 0 with both counts stored, or a refusal
+
+abbrev pub packed-count : Count → ℕ
+packed-count (Labels printed spoiled) = 0
+packed-count (NotCounted number line) = refusal number line
+
+abbrev pub printed-after : Count → ℕ → ℕ
+printed-after (Labels printed spoiled) before = printed
+printed-after (NotCounted number line) before = before
+
+abbrev pub spoiled-after : Count → ℕ → ℕ
+spoiled-after (Labels printed spoiled) before = spoiled
+spoiled-after (NotCounted number line) before = before
+
+-- ---- a report: 0 and how many bytes were written, or a refusal's number and line
+
+abbrev pub report-number : Reported → ℕ
+report-number (Written bytes) = 0
+report-number (NotWritten number line) = number
+
+abbrev pub report-told : Reported → ℕ
+report-told (Written bytes) = bytes
+report-told (NotWritten number line) = line

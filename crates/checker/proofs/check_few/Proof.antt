@@ -12,12 +12,17 @@ slice-aggregate-check-whole-2 : tie.Need-slice-aggregate-check-whole-2
 slice-aggregate-check-whole-2 c = search needs
 
 check-whole-requires : tie.Need-check-whole-requires
-check-whole-requires c κs =
-    record {
-      whole = c .before .before .before .pre .0;
-      room = inl (omega (arith, c .before .before .before .pre .1));
-      nodes = omega arith;
-    }
+check-whole-requires c κs = (
+  record {
+    whole = c .before .before .before .before .before .pre .0;
+    room = inl (omega (arith, c .before .before .before .before .before .pre .1));
+    nodes = omega arith;
+  },
+  c .before .before .before .before .before .pre .2,
+)
+
+same-length : tie.Need-same-length
+same-length c = search needs
 
 returns : tie.Need-returns
 returns c = search needs
@@ -29,4 +34,5 @@ check-few-spec =
     slice-aggregate-check-whole
     slice-aggregate-check-whole-2
     check-whole-requires
+    same-length
     returns)

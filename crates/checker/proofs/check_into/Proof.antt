@@ -8,7 +8,7 @@ use Rattle.checker.proofs.check_into.Tie as tie
 returns : tie.Need-returns
 returns c =
     let start = c .before .before .before .before .before .before in
-    uneven (start .args .rows .now) _ _ _ _ (c .if1 .taken)
+    uneven (start .args .rows .now) _ (c .if1 .taken)
 
 check-form-requires : tie.Need-check-form-requires
 check-form-requires c κs =
@@ -74,7 +74,7 @@ returns-3 c =
     .before .before in
     let the-if1 = c .before .before .before .before .before .before .before .if1 in
     let the-check-form = c .before .before .before .before .before .check-form in
-    check-refused (start .args .rows .now) (the-if1 .left) _ _ _ _ (c .before .f2 .given .0 .0)
+    check-refused (start .args .rows .now) (the-if1 .left) _ (c .before .f2 .given .0 .0)
     (c .before .f2 .given .0 .1 .0) _ (c .before .f2 .given .1) (the-check-form .ensures .0)
 
 pub check-into-spec : {M : Type 1} → statement M

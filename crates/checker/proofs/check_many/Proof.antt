@@ -14,7 +14,11 @@ slice-aggregate-check-whole-2 c = search needs
 
 check-whole-requires : tie.Need-check-whole-requires
 check-whole-requires c κs =
-    record { whole = c .before .before .before .pre; room = inr (replicate-long 60000); nodes = omega arith }
+    let start = c .before .before .before .before .before in
+    (record { whole = start .pre .0; room = inr (replicate-long 60000); nodes = omega arith }, start .pre .1)
+
+same-length : tie.Need-same-length
+same-length c = search needs
 
 returns : tie.Need-returns
 returns c = search needs
@@ -26,4 +30,5 @@ check-many-spec =
     slice-aggregate-check-whole
     slice-aggregate-check-whole-2
     check-whole-requires
+    same-length
     returns)

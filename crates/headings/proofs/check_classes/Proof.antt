@@ -115,8 +115,8 @@ cast-over c =
     (at-check-class .check-class .last .1 .1 .0) (at-check-class .check-class .ensures)
     (c .before .enum-told .given .1) in omega (arith, j .0, j .1, j .2, j .3, h))
 
-cast-class-bit : tie.Need-cast-class-bit Inv-loop μ-loop
-cast-class-bit c =
+cast-effect-of : tie.Need-cast-effect-of Inv-loop μ-loop
+cast-effect-of c =
     let at-check-class = c .before .before .before .before .before in
     let at-loop-test = at-check-class .before .before in
     let at-loop = at-loop-test .before in
@@ -127,8 +127,8 @@ cast-class-bit c =
     (at-check-class .check-class .last .1 .1 .0) (at-check-class .check-class .ensures)
     (c .before .enum-told .given .1) in omega (arith, j .0, j .1, j .2, j .3, h))
 
-class-bit-requires : tie.Need-class-bit-requires Inv-loop μ-loop
-class-bit-requires c κs =
+effect-of-requires : tie.Need-effect-of-requires Inv-loop μ-loop
+effect-of-requires c κs =
     let at-check-class = c .before .before .before .before .before in
     let at-loop-test = at-check-class .before .before in
     let at-loop = at-loop-test .before in
@@ -232,7 +232,7 @@ loop-again c =
           going-step w (at-loop .loop .inv .2 w) (at-loop-test .loop-test .taken)
           (at-check-class .check-class .result) (at-check-class .check-class .last .1 .1 .0)
           (at-check-class .check-class .ensures) (at-enum-told .enum-told .given .1)
-          (c .before .before .class-bit .result) (c .before .before .class-bit .ensures)
+          (c .before .before .effect-of .result) (c .before .before .effect-of .ensures)
           (c .skip-class .result)
           (c .skip-class .ensures),
     )
@@ -268,8 +268,8 @@ check-classes-spec =
     mul-over-2
     shared-slice-read-over
     cast-over
-    cast-class-bit
-    class-bit-requires
+    cast-effect-of
+    effect-of-requires
     mul-above
     slice-read-above
     mul-above-2

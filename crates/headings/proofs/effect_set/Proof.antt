@@ -47,8 +47,8 @@ shared-slice-read-c c =
     omega (arith, c .before .before .loop .inv (start .pre) .within, c .before .loop-test .taken) in
     let j = effects-index (start .pre) ((c .before .before .loop .i) - 1) k in omega (arith, j .0, j .1))
 
-class-bit-requires : tie.Need-class-bit-requires Inv-loop μ-loop
-class-bit-requires c κs = c .if1 .taken
+effect-of-requires : tie.Need-effect-of-requires Inv-loop μ-loop
+effect-of-requires c κs = c .if1 .taken
 
 loop-less : tie.Need-loop-less Inv-loop μ-loop
 loop-less c = omega (arith, c .before .before .before .loop-test .taken)
@@ -57,8 +57,8 @@ loop-again : tie.Need-loop-again Inv-loop μ-loop
 loop-again c =
     let at-loop = c .before .before .before .before in
     λ w. collecting-more w (at-loop .loop .set) (at-loop .loop .i) (at-loop .loop .inv w)
-    (c .before .before .before .loop-test .taken) (c .before .if1 .taken) (c .class-bit .result)
-    (c .class-bit .ensures)
+    (c .before .before .before .loop-test .taken) (c .before .if1 .taken) (c .effect-of .result)
+    (c .effect-of .ensures)
 
 loop-less-2 : tie.Need-loop-less-2 Inv-loop μ-loop
 loop-less-2 c = omega (arith, c .before .before .loop-test .taken)
@@ -85,7 +85,7 @@ effect-set-spec =
     add-c-2
     mul-c-2
     shared-slice-read-c
-    class-bit-requires
+    effect-of-requires
     loop-less
     loop-again
     loop-less-2

@@ -59,7 +59,7 @@ returns-2 c =
     (c .before .before .before .loop-test .taken) (c .if2 .taken)
 
 is-member-requires : tie.Need-is-member-requires Inv-loop μ-loop
-is-member-requires c κs = (omega (arith, c .before .if1 .left), omega (arith, c .if2 .left))
+is-member-requires c κs = omega (arith, c .if2 .left)
 
 returns-3 : tie.Need-returns-3 Inv-loop μ-loop
 returns-3 c =

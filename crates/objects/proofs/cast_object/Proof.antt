@@ -1,5 +1,4 @@
 use mathlib.Core.Path.{sym, _∙_}
-use Prim.Native.Nat.{_*_}
 use native.Mathlib.Omega.{arith}
 use borrow.Author.Needs.{needs}
 use Rattle.objects.proofs.Acts.{cast-null, cast-truth, cast-past, cast-passes, cast-fails}
@@ -49,11 +48,6 @@ mul-k-2 c = search needs
 shared-slice-read-k : tie.Need-shared-slice-read-k
 shared-slice-read-k c = search needs
 
-cast-k-2 : tie.Need-cast-k-2
-cast-k-2 c =
-    let at-v = c .before .before .before .before in
-    omega (arith, c .shared-slice-known3 .given ((at-v .v .given .0 .0) * 18))
-
 is-below-requires : tie.Need-is-below-requires
 is-below-requires c κs =
     let at-v = c .before .before .before .before in
@@ -98,7 +92,6 @@ cast-object-spec =
     mul-k
     mul-k-2
     shared-slice-read-k
-    cast-k-2
     is-below-requires
     returns-4
     returns-5)

@@ -1,0 +1,63 @@
+//! `sigvolar count`: the labels of each run of a fleet, a line a run.
+
+use crate::arguments::{Argument, Arguments};
+use crate::fleet::runs::{Ended, Runs};
+use crate::fleet::{why, Fleet, Limits, Run};
+use crate::lines::{told, No};
+use crate::output::print;
+use crate::progress::Progress;
+use crate::{Status, Trouble};
+use std::ffi::{OsStr, OsString};
+
+pub fn command(rest: &[OsString]) -> Result<Status, Trouble> {
+    let (file, limits) = asked(rest)?;
+    told(counted(file, limits))
+}
+
+fn asked(rest: &[OsString]) -> Result<(&OsStr, Limits), Trouble> {
+    let mut arguments = Arguments::new("count", rest);
+    let (mut limits, mut files) = (Limits::GIVEN, Vec::new());
+    while let Some(argument) = arguments.next() {
+        match argument {
+            Argument::File(file) => files.push(file),
+            Argument::Option(option, given) => match &*option {
+                "--fuel" => limits.fuel = arguments.number("--fuel", given)?,
+                "--objects" => limits.objects = arguments.number("--objects", given)?,
+                _ => return Err(arguments.no_such_option(&option)),
+            },
+        }
+    }
+    limits.check(&arguments)?;
+    match files[..] {
+        [file] => Ok((file, limits)),
+        _ => Err(arguments.trouble("one fleet is needed, or - for standard input")),
+    }
+}
+
+/// Prints the lines of all runs, or none.
+fn counted(file: &OsStr, limits: Limits) -> Result<Status, No> {
+    let fleet = Fleet::read(file)?;
+    let progress = Progress::start(format!("{}: counting", fleet.name));
+    let (mut runs, mut lines) = (Runs::new(limits), String::new());
+    for run in &fleet.runs {
+        match runs.ended(&fleet, run)? {
+            Ended::Cut { stop, labels } => return Err(No::Refused(cut(&fleet, run, stop, labels, limits))),
+            Ended::Counts(taken) => match taken.labels(run) {
+                Ok(labels) => {
+                    lines +=
+                        &format!("{}\t{}\t{}\t{}\n", run.model, labels.printed, labels.spoiled, run.cents);
+                }
+                Err(refusal) => return Err(No::Refused(why::refused(&fleet, run, &taken, refusal))),
+            },
+        }
+    }
+    drop(progress);
+    Ok(print(&lines)?)
+}
+
+/// Says that a run was cut, and what to do.
+pub fn cut(fleet: &Fleet, run: &Run, stop: u32, labels: u32, limits: Limits) -> String {
+    let word = fickle::explanation(stop).map_or("", |found| found.word);
+    let labels = if labels == 1 { "1 label".to_string() } else { format!("{labels} labels") };
+    format!("{}: the run stopped ({stop}, {word}) after {labels}; {}", fleet.at(run), limits.advice(stop))
+}

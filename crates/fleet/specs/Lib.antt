@@ -1,0 +1,5 @@
+pub mod Counts
+pub mod Ranking
+pub mod Entries
+pub mod Fleet
+pub mod Worked

@@ -1,0 +1,5 @@
+pub mod Lines
+pub mod Merging
+pub mod Sorting
+pub mod Comparing
+pub mod Ranking

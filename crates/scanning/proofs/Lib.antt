@@ -1,0 +1,4 @@
+pub mod Windows
+pub mod Scanning
+pub mod Counts
+pub mod Runs
