@@ -31,22 +31,7 @@ pub fn count_run(
     printed: u32,
     spoiled: u32,
 ) -> Result<Labels, Refusal> {
-    let mut labels = Labels { printed: 0, spoiled: 0 };
-    // SAFETY: pointers and lengths are those of live slices; the counts are lent to nobody else.
-    let answer = unsafe {
-        c::fickle_count_run(
-            rows.as_ptr(),
-            rows.len(),
-            store.as_ptr(),
-            store.len(),
-            objects,
-            printed,
-            spoiled,
-            &mut labels.printed,
-            &mut labels.spoiled,
-        )
-    };
-    unpack(answer).map(|_| labels)
+    labels_of(c::fickle_count_run, rows, store, [objects, printed, spoiled])
 }
 
 /// Counts the labels of a run as `count_run` does, but from the store that a run of its plain program left: for each
@@ -68,10 +53,23 @@ pub fn count_plain_run(
     printed: u32,
     spoiled: u32,
 ) -> Result<Labels, Refusal> {
+    labels_of(c::fickle_count_plain_run, rows, store, [objects, printed, spoiled])
+}
+
+/// A C function that counts the labels of a run: rows, store, objects, the two classes, and where the counts go.
+type CountRun =
+    unsafe extern "C" fn(*const u32, usize, *const u32, usize, u32, u32, u32, *mut u32, *mut u32) -> u64;
+
+fn labels_of(
+    count: CountRun,
+    rows: &[u32],
+    store: &[u32],
+    [objects, printed, spoiled]: [u32; 3],
+) -> Result<Labels, Refusal> {
     let mut labels = Labels { printed: 0, spoiled: 0 };
-    // SAFETY: as above.
+    // SAFETY: pointers and lengths are those of live slices; the counts are lent to nobody else.
     let answer = unsafe {
-        c::fickle_count_plain_run(
+        count(
             rows.as_ptr(),
             rows.len(),
             store.as_ptr(),

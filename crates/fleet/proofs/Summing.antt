@@ -10,17 +10,8 @@ use lib.Dec.{eqb}
 use Rattle.language.specs.Lists.{choice}
 use Rattle.language.specs.WellFormed.{Each, each-nil, each-cons}
 use Rattle.language.proofs.Booleans.{false≢, and-inv}
+use Rattle.fleet.specs.LineLists.{Other, Distinct, distinct-nil, distinct-cons, in-models}
 use Rattle.fleet.specs.Ranking.{Counted, is-within, all-within, plus, add}
-
--- No sums of another model are those of model m.
-abbrev pub Other : ℕ → Counted → Type 0
-Other m d = d .model ≢ m
-
--- No two have one model.
-pub data Distinct : List Counted → Type 0 where
-  distinct-nil : Distinct []
-  distinct-cons : {d : Counted} {ds : List Counted} → Each (Other (d .model)) ds → Distinct ds
-      → Distinct (d ∷ ds)
 
 -- A line of another model leaves a model without sums where it had none.
 add-other : (m : ℕ) (c : Counted) (ds : List Counted) → c .model ≢ m → Each (Other m) ds
@@ -45,11 +36,6 @@ add-distinct c (d ∷ ds) (distinct-cons h hs) = go (eqb (d .model) (c .model)) 
     go true e r = distinct-cons h hs
     go false e r = distinct-cons
         (add-other (d .model) c ds (λ f. eqb-false (d .model) (c .model) e (sym f)) h) r
-
--- The lines, or sums, of the models that pass a test.
-unfoldable pub in-models : (ℕ → Bool) → List Counted → List Counted
-in-models p [] = []
-in-models p (d ∷ ds) = cond (p (d .model)) (d ∷ in-models p ds) (in-models p ds)
 
 -- The sums of these models change by a line of these models alone.
 pub add-in-models : (p : ℕ → Bool) (c : Counted) (ds : List Counted)

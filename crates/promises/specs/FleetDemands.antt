@@ -15,10 +15,11 @@ use Rattle.language.specs.Results.{accept, refuse}
 use Rattle.language.specs.WellFormed.{Each}
 use Rattle.fleet.specs.Ranking.{Counted, is-before, sums, ranked, report-of, report-answer}
 use Rattle.fleet.specs.Fleet.{runs-of, lines-of-runs, fleet-report, models-report}
-use Rattle.fleet.proofs.Order.{before-asymmetric, before-transitive, before-total, one-more-spoiled}
+use Rattle.fleet.specs.LineLists.{one-more-spoiled}
+use Rattle.fleet.proofs.Order.{before-asymmetric, before-transitive, before-total}
 use Rattle.fleet.proofs.Order.{before-spoiled}
-use Rattle.fleet.proofs.Summing.{Distinct}
-use Rattle.fleet.proofs.Sorting.{Permuted}
+use Rattle.fleet.specs.LineLists.{Distinct}
+use Rattle.fleet.specs.LineLists.{Permuted}
 use Rattle.promises.specs.Totals.{Possible, line-numbers, total, SumsOfLines, place-of, ReportOf}
 use Rattle.promises.specs.Totals.{AgreeOnSums, SumsRefusal, RefusedBy, FleetRefusal, ModelsRefusal}
 use Rattle.promises.specs.Totals.{ListedReport}

@@ -12,8 +12,8 @@ use Rattle.language.specs.WellFormed.{Each, each-nil, each-cons}
 use Rattle.fleet.specs.Ranking.{Counted, sum-refusal, is-within, all-within, sums-from, sums, ranked}
 use Rattle.fleet.specs.Ranking.{lines-of}
 use Rattle.fleet.specs.Ranking.{report-of}
-use Rattle.fleet.proofs.Summing.{Other, Distinct, distinct-nil, distinct-cons}
-use Rattle.fleet.proofs.Sorting.{Permuted, permuted-nil, permuted-cons, permuted-swap, permuted-then}
+use Rattle.fleet.specs.LineLists.{Other, Distinct, distinct-nil, distinct-cons}
+use Rattle.fleet.specs.LineLists.{Permuted, permuted-nil, permuted-cons, permuted-swap, permuted-then}
 use Rattle.fleet.proofs.Sorting.{permuted-same}
 use Rattle.fleet.proofs.Sorting.{permuted-back, each-permuted, distinct-permuted, ranked-unique}
 use Rattle.promises.specs.Totals.{Has, has-here, has-later, total, totals, SameTotals}

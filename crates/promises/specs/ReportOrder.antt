@@ -13,10 +13,12 @@ use Rattle.language.specs.Results.{accept, bind-checked, bind-checked-inv, acce
 use Rattle.language.specs.WellFormed.{Each, each-nil, each-cons}
 use Rattle.language.proofs.Booleans.{false≢}
 use Rattle.fleet.specs.Ranking.{Counted, is-before, insert, sums, ranked, lines-of, report-of}
-use Rattle.fleet.proofs.Order.{before-total, before-asymmetric, one-more-spoiled, before-spoiled}
-use Rattle.fleet.proofs.Summing.{Other, Distinct, distinct-nil, distinct-cons}
+use Rattle.fleet.specs.LineLists.{one-more-spoiled}
+use Rattle.fleet.proofs.Order.{before-total, before-asymmetric, before-spoiled}
+use Rattle.fleet.specs.LineLists.{Other, Distinct, distinct-nil, distinct-cons}
 use Rattle.fleet.proofs.Sorting.{permuted-back, distinct-permuted, ranked-unique, ranked-permuted}
-use Rattle.fleet.proofs.Sorting.{permuted-middle, NotBefore, Sorted, sorted-nil, sorted-cons, ranked-sorted}
+use Rattle.fleet.specs.LineLists.{NotBefore, Sorted, sorted-nil, sorted-cons}
+use Rattle.fleet.proofs.Sorting.{permuted-middle, ranked-sorted}
 use Rattle.promises.specs.Totals.{InOrder, in-order-nil, in-order-cons, place-of, ReportOf}
 use Rattle.promises.specs.SumEndings.{sums-accepted}
 

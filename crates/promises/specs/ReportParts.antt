@@ -8,7 +8,8 @@ use mathlib.Core.Option.{some}
 use Rattle.language.specs.Lists.{All2, a-nil, a-cons}
 use Rattle.language.specs.Results.{accept}
 use Rattle.fleet.specs.Ranking.{Counted, plus, sums, ranked, report-of}
-use Rattle.fleet.proofs.Sorting.{permuted-nil, ranked-permuted}
+use Rattle.fleet.specs.LineLists.{permuted-nil}
+use Rattle.fleet.proofs.Sorting.{ranked-permuted}
 use Rattle.promises.specs.Totals.{Has, has-here, has-later, total, SameTotals, AgreeOnSums}
 use Rattle.promises.specs.SumLaws.{added, added-sums, total-added}
 use Rattle.promises.specs.SumEndings.{sums-are}

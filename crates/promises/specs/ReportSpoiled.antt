@@ -12,9 +12,10 @@ use lib.Dec.{eqb}
 use Rattle.language.specs.Results.{accept}
 use Rattle.language.specs.WellFormed.{Each, each-nil, each-cons}
 use Rattle.fleet.specs.Ranking.{Counted, insert, sums, ranked}
-use Rattle.fleet.proofs.Order.{one-more-spoiled}
-use Rattle.fleet.proofs.Summing.{Other, Distinct, distinct-cons}
-use Rattle.fleet.proofs.Sorting.{Permuted, permuted-back, each-permuted, distinct-permuted, ranked-unique}
+use Rattle.fleet.specs.LineLists.{one-more-spoiled}
+use Rattle.fleet.specs.LineLists.{Other, Distinct, distinct-cons}
+use Rattle.fleet.specs.LineLists.{Permuted}
+use Rattle.fleet.proofs.Sorting.{permuted-back, each-permuted, distinct-permuted, ranked-unique}
 use Rattle.promises.specs.Totals.{Has, has-here, has-later, total, totals, SumsOf, place-of}
 use Rattle.promises.specs.SumLaws.{added-sums}
 use Rattle.promises.specs.SumEndings.{sums-are}

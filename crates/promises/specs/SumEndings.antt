@@ -17,7 +17,8 @@ use Rattle.language.specs.WellFormed.{Each, each-nil, each-cons}
 use Rattle.language.proofs.Booleans.{false≢, and-inv}
 use Rattle.fleet.specs.Ranking.{Counted, most-sum, sum-refusal, is-within, all-within, plus, add, sums-from}
 use Rattle.fleet.specs.Ranking.{sums}
-use Rattle.fleet.proofs.Summing.{Other, sums-with, add-within}
+use Rattle.fleet.specs.LineLists.{Other}
+use Rattle.fleet.proofs.Summing.{sums-with, add-within}
 use Rattle.promises.specs.Totals.{Has, has-here, has-later, totals, Within, NonePast, SumsRefusal}
 use Rattle.promises.specs.Totals.{past-largest, not-counted, SumsOfLines}
 use Rattle.promises.specs.SumLaws.{added, total-none, added-sums}

@@ -11,7 +11,8 @@ use lib.ListN.{length}
 use Rattle.language.specs.Lists.{choice}
 use Rattle.language.specs.WellFormed.{Each, each-nil, each-cons}
 use Rattle.fleet.specs.Ranking.{Counted, plus, add}
-use Rattle.fleet.proofs.Summing.{Other, Distinct, distinct-nil, distinct-cons, add-distinct}
+use Rattle.fleet.specs.LineLists.{Other, Distinct, distinct-nil, distinct-cons}
+use Rattle.fleet.proofs.Summing.{add-distinct}
 use Rattle.promises.specs.Totals.{Has, has-here, has-later, total, totals, SumsOf}
 
 -- Lines added one after another.

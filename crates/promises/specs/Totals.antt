@@ -16,8 +16,8 @@ use Rattle.fleet.specs.Counts.{class-refusal}
 use Rattle.fleet.specs.Fleet.{numbers-a-run, numbers-a-line, runs-of, lines-of-runs, counted-lines}
 use Rattle.fleet.specs.declared.Reported.{Reported}
 use Rattle.fleet.specs.declared.Reported.the-variants.{Done, Refused}
-use Rattle.fleet.proofs.Summing.{Distinct}
-use Rattle.fleet.proofs.Sorting.{Permuted}
+use Rattle.fleet.specs.LineLists.{Distinct}
+use Rattle.fleet.specs.LineLists.{Permuted}
 
 -- One of the lines is of model m.
 pub data Has (m : ℕ) : List Counted → Type 0 where

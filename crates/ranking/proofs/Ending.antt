@@ -20,7 +20,7 @@ use Rattle.language.proofs.Booleans.{false≢}
 use Rattle.fleet.specs.Ranking.{Counted, add, plus, all-within, lines-of, ranked, sums-from, sums, report-of}
 use Rattle.fleet.specs.Ranking.{report-answer}
 use Rattle.fleet.specs.declared.Reported.the-variants.{Done, Refused}
-use Rattle.fleet.proofs.Summing.{in-models}
+use Rattle.fleet.specs.LineLists.{in-models}
 use Rattle.sums.specs.Window.{in-window}
 use Rattle.sums.proofs.Windows.{all-same}
 use Rattle.scanning.specs.Lines.{all-count, summing, summed}

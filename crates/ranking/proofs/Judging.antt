@@ -13,8 +13,8 @@ use Rattle.language.proofs.Booleans.{false≢, and-inv}
 use Rattle.language.proofs.Lines.{le-or-less}
 use Rattle.fleet.specs.Ranking.{Counted, is-within, all-within, lines-of}
 use Rattle.fleet.specs.Entries.{entries}
-use Rattle.fleet.proofs.Summing.{in-models}
-use Rattle.fleet.proofs.Sorting.{Permuted, permuted-nil, permuted-cons, permuted-swap, permuted-then}
+use Rattle.fleet.specs.LineLists.{in-models}
+use Rattle.fleet.specs.LineLists.{Permuted, permuted-nil, permuted-cons, permuted-swap, permuted-then}
 use Rattle.fleet.proofs.Sorting.{permuted-back, permuted-middle}
 use Rattle.sums.specs.Window.{in-window}
 use Rattle.scanning.specs.declared.Scan.{Scan}

@@ -7,7 +7,7 @@ use native.Mathlib.Omega.{arith}
 use lib.ListN.{length, length-append}
 use Rattle.language.proofs.Booleans.{false≢}
 use Rattle.fleet.specs.Ranking.{Counted, line-of, lines-of, ranked}
-use Rattle.fleet.proofs.Sorting.{Permuted, permuted-nil, permuted-cons, permuted-swap, permuted-then}
+use Rattle.fleet.specs.LineLists.{Permuted, permuted-nil, permuted-cons, permuted-swap, permuted-then}
 use Rattle.fleet.proofs.Sorting.{ranked-permuted}
 use Rattle.ranking.specs.declared.Room.{Room}
 use Rattle.ranking.specs.Judging.{Measured}

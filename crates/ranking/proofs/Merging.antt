@@ -10,7 +10,8 @@ use Rattle.language.specs.WellFormed.{Each, each-nil, each-cons}
 use Rattle.language.proofs.Booleans.{and-inv}
 use Rattle.fleet.specs.Ranking.{Counted, is-within, all-within, lines-of, ranked}
 use Rattle.fleet.specs.Entries.{entries, picked}
-use Rattle.fleet.proofs.Sorting.{Sorted, sorted-nil, merged, ranked-sorted}
+use Rattle.fleet.specs.LineLists.{Sorted, sorted-nil, merged}
+use Rattle.fleet.proofs.Sorting.{ranked-sorted}
 use Rattle.ordering.specs.Places.{HasLine}
 use Rattle.reports.specs.Places.{Printable, Merging}
 use Rattle.sums.proofs.Tables.{entry-each}

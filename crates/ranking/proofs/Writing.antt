@@ -12,8 +12,10 @@ use Rattle.language.specs.WellFormed.{Each, each-nil, each-cons}
 use Rattle.language.proofs.Booleans.{and-inv}
 use Rattle.fleet.specs.Ranking.{Counted, add, is-within, all-within, line-of, lines-of, ranked}
 use Rattle.fleet.specs.Entries.{entries}
-use Rattle.fleet.proofs.Summing.{Distinct, distinct-nil, in-models, add-distinct}
-use Rattle.fleet.proofs.Sorting.{merged, ranked-sorted, ranked-append, ranked-unique, ranked-permuted}
+use Rattle.fleet.specs.LineLists.{Distinct, distinct-nil, in-models}
+use Rattle.fleet.proofs.Summing.{add-distinct}
+use Rattle.fleet.specs.LineLists.{merged}
+use Rattle.fleet.proofs.Sorting.{ranked-sorted, ranked-append, ranked-unique, ranked-permuted}
 use Rattle.fleet.proofs.Sorting.{permuted-back, distinct-permuted, each-permuted}
 use Rattle.reports.specs.Places.{Printable}
 use Rattle.sums.specs.Window.{in-window, Open}

@@ -11,7 +11,7 @@ use Rattle.language.specs.Filling.{buffer}
 use Rattle.fleet.specs.Ranking.{Counted, all-within, lines-of, ranked, report-of, report-answer}
 use Rattle.fleet.specs.Entries.{entries}
 use Rattle.fleet.specs.declared.Reported.{Reported}
-use Rattle.fleet.proofs.Sorting.{Sorted}
+use Rattle.fleet.specs.LineLists.{Sorted}
 use Rattle.reports.specs.Places.{Printable}
 use Rattle.sums.specs.Window.{Sized}
 use Rattle.scanning.specs.declared.Scan.{Scan}

@@ -12,7 +12,7 @@ ghost use Rattle.language.specs.Filling.{buffer};
 ghost use Rattle.fleet.specs.Ranking.{Counted, lines-of, ranked, report-of, report-answer};
 ghost use Rattle.fleet.specs.Entries.{entries};
 ghost use Rattle.fleet.specs.Fleet.{fleet-report, models-report};
-ghost use Rattle.fleet.proofs.Sorting.{merged};
+ghost use Rattle.fleet.specs.LineLists.{merged};
 ghost use Rattle.scanning.specs.Lines.{lines-given, width-given, number-given};
 ghost use Rattle.ranking.specs.Judging.{Lent, Measured, Judging, JudgesNext, SomeNext, Standing};
 ghost use Rattle.ranking.specs.Judging.{Stands, Ready};

@@ -12,7 +12,8 @@ use Rattle.language.specs.Lists.{nth, Never, inj}
 use Rattle.language.proofs.Booleans.{false≢}
 use Rattle.fleet.specs.Ranking.{Counted, add, all-within, sum-refusal}
 use Rattle.fleet.specs.Entries.{entries}
-use Rattle.fleet.proofs.Summing.{in-models, add-in-models}
+use Rattle.fleet.specs.LineLists.{in-models}
+use Rattle.fleet.proofs.Summing.{add-in-models}
 use Rattle.sums.specs.declared.Window.{Window}
 use Rattle.sums.specs.declared.Taken.the-variants.{Within}
 use Rattle.sums.specs.Window.{in-window, SumsAfter, Open, Takes}

@@ -11,7 +11,8 @@ use Rattle.language.specs.Lists.{choice}
 use Rattle.language.specs.WellFormed.{Each, each-nil, each-cons}
 use Rattle.language.proofs.Booleans.{false≢, and-inv}
 use Rattle.fleet.specs.Ranking.{Counted, add, plus, is-within, all-within, most-sum}
-use Rattle.fleet.proofs.Summing.{in-models, add-in-models}
+use Rattle.fleet.specs.LineLists.{in-models}
+use Rattle.fleet.proofs.Summing.{add-in-models}
 use Rattle.sums.specs.Window.{in-window}
 use Rattle.scanning.specs.Lines.{all-count, summing}
 

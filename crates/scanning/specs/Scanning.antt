@@ -9,7 +9,7 @@ use lib.ListN.{length, take}
 use Rattle.language.specs.Lists.{nth}
 use Rattle.fleet.specs.Ranking.{Counted, add, all-within, sum-refusal}
 use Rattle.fleet.specs.Entries.{entries}
-use Rattle.fleet.proofs.Summing.{in-models}
+use Rattle.fleet.specs.LineLists.{in-models}
 use Rattle.sums.specs.Window.{Open, in-window}
 use Rattle.scanning.specs.declared.Scan.{Scan}
 use Rattle.scanning.specs.Lines.{all-count, summed}

@@ -13,7 +13,8 @@ use Rattle.language.specs.WellFormed.{Each, each-nil, each-cons}
 use Rattle.fleet.specs.Ranking.{Counted, add, plus, is-within, all-within}
 use Rattle.fleet.specs.Entries.{entry, entries}
 use Rattle.fleet.proofs.Entries.{entries-nth}
-use Rattle.fleet.proofs.Summing.{Other, Distinct, distinct-cons, add-distinct, add-within, sums-with}
+use Rattle.fleet.specs.LineLists.{Other, Distinct, distinct-cons}
+use Rattle.fleet.proofs.Summing.{add-distinct, add-within, sums-with}
 use Rattle.sums.specs.Window.{Put, Lacks, HasAt, Found, Sized, Chained, Sums, SumsAfter}
 use native.Mathlib.Numerals.{add-one}
 use Rattle.sums.proofs.Tables.{put-last, put-at, put-other, chained-same, lacks-each, add-new}

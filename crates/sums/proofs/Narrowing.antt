@@ -12,7 +12,7 @@ use lib.ListN.{length, length-append, getD}
 use Rattle.fleet.specs.Ranking.{Counted}
 use Rattle.fleet.specs.Entries.{entry, entries}
 use Rattle.fleet.proofs.Entries.{entry-same}
-use Rattle.fleet.proofs.Summing.{in-models}
+use Rattle.fleet.specs.LineLists.{in-models}
 use Rattle.sums.specs.Window.{below, Put, CountsBelow, KeepsEntry}
 use native.Mathlib.Nat.{add-zero}
 use Rattle.sums.proofs.Tables.{put-last}

@@ -15,7 +15,7 @@ use Rattle.language.specs.WellFormed.{Each, each-nil, each-cons}
 use Rattle.fleet.specs.Ranking.{Counted, add, is-within, all-within}
 use Rattle.fleet.specs.Entries.{counted, entry, entries}
 use Rattle.fleet.proofs.Entries.{entry-same, entries-same, entries-length, entries-nth, entries-set}
-use Rattle.fleet.proofs.Summing.{Other, Distinct, distinct-nil, distinct-cons}
+use Rattle.fleet.specs.LineLists.{Other, Distinct, distinct-nil, distinct-cons}
 use Rattle.sums.specs.Window.{Put, Lacks, bucket-of, bucket-at, Chained}
 
 -- Four numbers written one after another.

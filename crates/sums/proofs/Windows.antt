@@ -14,7 +14,8 @@ use Rattle.language.proofs.Booleans.{and-inv}
 use Rattle.fleet.specs.Ranking.{Counted, add, is-within, all-within}
 use Rattle.fleet.specs.Entries.{entry, entries}
 use Rattle.fleet.proofs.Entries.{entries-length}
-use Rattle.fleet.proofs.Summing.{Other, Distinct, distinct-nil, distinct-cons, in-models, add-in-models}
+use Rattle.fleet.specs.LineLists.{Other, Distinct, distinct-nil, distinct-cons, in-models}
+use Rattle.fleet.proofs.Summing.{add-in-models}
 use Rattle.sums.specs.declared.Window.{Window}
 use Rattle.sums.specs.declared.Added.{Added}
 use Rattle.sums.specs.declared.Added.the-variants.{Full}

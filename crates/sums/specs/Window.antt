@@ -11,7 +11,7 @@ use lib.Dec.{leb, ltb}
 use lib.ListN.{length, getD}
 use Rattle.fleet.specs.Ranking.{Counted, add, plus, is-within, all-within}
 use Rattle.fleet.specs.Entries.{entry, entries, counted}
-use Rattle.fleet.proofs.Summing.{Distinct, in-models}
+use Rattle.fleet.specs.LineLists.{Distinct, in-models}
 use Rattle.sums.specs.declared.Window.{Window}
 use Rattle.sums.specs.declared.Added.{Added}
 use Rattle.sums.specs.declared.Added.the-variants.{Entered, Exceeds, Full}

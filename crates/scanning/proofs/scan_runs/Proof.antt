@@ -18,6 +18,7 @@ Inv-loop runs programs stores limit low table₀ heads₀ nexts₀ above₀ know
     nexts above known before at from w i =
     Scanning (lines-of-runs (runs-of runs) programs stores) low table₀ heads₀ nexts₀ table heads nexts i w
     × Left runs programs stores above known before at from i × (i ≤ limit) × (length above ≡ 65)
+    × (limit * 6 ≤ length runs)
 
 abbrev μ-loop : tie.MeasureT-loop
 μ-loop runs programs stores limit low table₀ heads₀ nexts₀ above₀ known₀ before₀ at₀ from₀ w₀ i₀ table heads
@@ -38,157 +39,80 @@ loop-holds c =
       left-start _ _ _ _ (omega arith),
       omega arith,
       refl,
+      start .pre .0 .0,
     )
 
 mul-model : tie.Need-mul-model Inv-loop μ-loop
-mul-model c =
-    let start = c .before .before .before .before .before .before .before .before .before .before .before
-    .before .before .before .before .before in
-    omega (arith, start .pre .0 .0, c .loop-test .taken)
+mul-model c = omega arith
 
 mul-model-2 : tie.Need-mul-model-2 Inv-loop μ-loop
-mul-model-2 c =
-    let start = c .before .before .before .before .before .before .before .before .before .before .before
-    .before .before .before .before .before in
-    omega (arith, start .pre .0 .0, c .loop-test .taken)
+mul-model-2 c = omega arith
 
 shared-slice-read-model : tie.Need-shared-slice-read-model Inv-loop μ-loop
-shared-slice-read-model c =
-    let start = c .before .before .before .before .before .before .before .before .before .before .before
-    .before .before .before .before .before .before in
-    omega (arith, start .pre .0 .0, c .before .loop-test .taken)
+shared-slice-read-model c = omega arith
 
 mul-rows : tie.Need-mul-rows Inv-loop μ-loop
-mul-rows c =
-    let start = c .before .before .before .before .before .before .before .before .before .before .before
-    .before .before .before .before .before .before in
-    omega (arith, start .pre .0 .0, c .before .loop-test .taken)
+mul-rows c = omega arith
 
 add-rows : tie.Need-add-rows Inv-loop μ-loop
-add-rows c =
-    let start = c .before .before .before .before .before .before .before .before .before .before .before
-    .before .before .before .before .before .before in
-    omega (arith, start .pre .0 .0, c .before .loop-test .taken)
+add-rows c = omega arith
 
 mul-rows-2 : tie.Need-mul-rows-2 Inv-loop μ-loop
-mul-rows-2 c =
-    let start = c .before .before .before .before .before .before .before .before .before .before .before
-    .before .before .before .before .before .before in
-    omega (arith, start .pre .0 .0, c .before .loop-test .taken)
+mul-rows-2 c = omega arith
 
 shared-slice-read-rows : tie.Need-shared-slice-read-rows Inv-loop μ-loop
-shared-slice-read-rows c =
-    let start = c .before .before .before .before .before .before .before .before .before .before .before
-    .before .before .before .before .before .before .before in
-    omega (arith, start .pre .0 .0, c .before .before .loop-test .taken)
+shared-slice-read-rows c = omega arith
 
 cast-rows : tie.Need-cast-rows Inv-loop μ-loop
 cast-rows c = omega (arith, c .shared-slice-known5 .given (c .before .before .before .loop .i * 6 + 1))
 
 mul-objects : tie.Need-mul-objects Inv-loop μ-loop
-mul-objects c =
-    let start = c .before .before .before .before .before .before .before .before .before .before .before
-    .before .before .before .before .before .before .before in
-    omega (arith, start .pre .0 .0, c .before .before .loop-test .taken)
+mul-objects c = omega arith
 
 add-objects : tie.Need-add-objects Inv-loop μ-loop
-add-objects c =
-    let start = c .before .before .before .before .before .before .before .before .before .before .before
-    .before .before .before .before .before .before .before in
-    omega (arith, start .pre .0 .0, c .before .before .loop-test .taken)
+add-objects c = omega arith
 
 mul-objects-2 : tie.Need-mul-objects-2 Inv-loop μ-loop
-mul-objects-2 c =
-    let start = c .before .before .before .before .before .before .before .before .before .before .before
-    .before .before .before .before .before .before .before in
-    omega (arith, start .pre .0 .0, c .before .before .loop-test .taken)
+mul-objects-2 c = omega arith
 
 shared-slice-read-objects : tie.Need-shared-slice-read-objects Inv-loop μ-loop
-shared-slice-read-objects c =
-    let start = c .before .before .before .before .before .before .before .before .before .before .before
-    .before .before .before .before .before .before .before .before in
-    omega (arith, start .pre .0 .0, c .before .before .before .loop-test .taken)
+shared-slice-read-objects c = omega arith
 
 mul-printed : tie.Need-mul-printed Inv-loop μ-loop
-mul-printed c =
-    let start = c .before .before .before .before .before .before .before .before .before .before .before
-    .before .before .before .before .before .before .before .before in
-    omega (arith, start .pre .0 .0, c .before .before .before .loop-test .taken)
+mul-printed c = omega arith
 
 add-printed : tie.Need-add-printed Inv-loop μ-loop
-add-printed c =
-    let start = c .before .before .before .before .before .before .before .before .before .before .before
-    .before .before .before .before .before .before .before .before in
-    omega (arith, start .pre .0 .0, c .before .before .before .loop-test .taken)
+add-printed c = omega arith
 
 mul-printed-2 : tie.Need-mul-printed-2 Inv-loop μ-loop
-mul-printed-2 c =
-    let start = c .before .before .before .before .before .before .before .before .before .before .before
-    .before .before .before .before .before .before .before .before in
-    omega (arith, start .pre .0 .0, c .before .before .before .loop-test .taken)
+mul-printed-2 c = omega arith
 
 shared-slice-read-printed : tie.Need-shared-slice-read-printed Inv-loop μ-loop
-shared-slice-read-printed c =
-    let at-loop-test = c .before .before .before .before in
-    let start = at-loop-test .before .before .before .before .before .before .before .before .before .before
-    .before .before .before .before .before .before in
-    omega (arith, start .pre .0 .0, at-loop-test .loop-test .taken)
+shared-slice-read-printed c = omega arith
 
 mul-spoiled : tie.Need-mul-spoiled Inv-loop μ-loop
-mul-spoiled c =
-    let at-loop-test = c .before .before .before .before in
-    let start = at-loop-test .before .before .before .before .before .before .before .before .before .before
-    .before .before .before .before .before .before in
-    omega (arith, start .pre .0 .0, at-loop-test .loop-test .taken)
+mul-spoiled c = omega arith
 
 add-spoiled : tie.Need-add-spoiled Inv-loop μ-loop
-add-spoiled c =
-    let at-loop-test = c .before .before .before .before in
-    let start = at-loop-test .before .before .before .before .before .before .before .before .before .before
-    .before .before .before .before .before .before in
-    omega (arith, start .pre .0 .0, at-loop-test .loop-test .taken)
+add-spoiled c = omega arith
 
 mul-spoiled-2 : tie.Need-mul-spoiled-2 Inv-loop μ-loop
-mul-spoiled-2 c =
-    let at-loop-test = c .before .before .before .before in
-    let start = at-loop-test .before .before .before .before .before .before .before .before .before .before
-    .before .before .before .before .before .before in
-    omega (arith, start .pre .0 .0, at-loop-test .loop-test .taken)
+mul-spoiled-2 c = omega arith
 
 shared-slice-read-spoiled : tie.Need-shared-slice-read-spoiled Inv-loop μ-loop
-shared-slice-read-spoiled c =
-    let at-loop-test = c .before .before .before .before .before in
-    let start = at-loop-test .before .before .before .before .before .before .before .before .before .before
-    .before .before .before .before .before .before in
-    omega (arith, start .pre .0 .0, at-loop-test .loop-test .taken)
+shared-slice-read-spoiled c = omega arith
 
 mul-cents : tie.Need-mul-cents Inv-loop μ-loop
-mul-cents c =
-    let at-loop-test = c .before .before .before .before .before in
-    let start = at-loop-test .before .before .before .before .before .before .before .before .before .before
-    .before .before .before .before .before .before in
-    omega (arith, start .pre .0 .0, at-loop-test .loop-test .taken)
+mul-cents c = omega arith
 
 add-cents : tie.Need-add-cents Inv-loop μ-loop
-add-cents c =
-    let at-loop-test = c .before .before .before .before .before in
-    let start = at-loop-test .before .before .before .before .before .before .before .before .before .before
-    .before .before .before .before .before .before in
-    omega (arith, start .pre .0 .0, at-loop-test .loop-test .taken)
+add-cents c = omega arith
 
 mul-cents-2 : tie.Need-mul-cents-2 Inv-loop μ-loop
-mul-cents-2 c =
-    let at-loop-test = c .before .before .before .before .before in
-    let start = at-loop-test .before .before .before .before .before .before .before .before .before .before
-    .before .before .before .before .before .before in
-    omega (arith, start .pre .0 .0, at-loop-test .loop-test .taken)
+mul-cents-2 c = omega arith
 
 shared-slice-read-cents : tie.Need-shared-slice-read-cents Inv-loop μ-loop
-shared-slice-read-cents c =
-    let at-loop-test = c .before .before .before .before .before .before in
-    let start = at-loop-test .before .before .before .before .before .before .before .before .before .before
-    .before .before .before .before .before .before in
-    omega (arith, start .pre .0 .0, at-loop-test .loop-test .taken)
+shared-slice-read-cents c = omega arith
 
 sub-if1 : tie.Need-sub-if1 Inv-loop μ-loop
 sub-if1 c = c .before .before .before .before .before .before .before .loop .inv .1 .rows-within
@@ -207,8 +131,7 @@ same-length-3 c = search needs
 
 returns : tie.Need-returns Inv-loop μ-loop
 returns c =
-    let at-loop-test = c .before .before .before .before .before .before .before .before in
-    let at-loop = at-loop-test .before in
+    let at-loop-test = c .before .before .before .before .before .before .before .before in let at-loop = at-loop-test .before in
     let at-open-window = at-loop .before .before .before .before .before in
     let start = at-open-window .before .before .before .before .before .before .before .before .before
     .before in
@@ -275,10 +198,8 @@ same-length-6 c = search needs
 
 returns-2 : tie.Need-returns-2 Inv-loop μ-loop
 returns-2 c =
-    let at-know-next = c .before .before .before .before .before .before in
-    let at-if1 = at-know-next .before .before in
-    let at-loop-test = at-if1 .before .before .before .before .before .before .before in
-    let at-loop = at-loop-test .before in
+    let at-know-next = c .before .before .before .before .before .before in let at-if1 = at-know-next .before .before in
+    let at-loop-test = at-if1 .before .before .before .before .before .before .before in let at-loop = at-loop-test .before in
     let at-open-window = at-loop .before .before .before .before .before in
     let start = at-open-window .before .before .before .before .before .before .before .before .before
     .before in
@@ -337,10 +258,8 @@ returns-3 c =
     let at-take = c .before .before .before .before .before .before .before .before .before in
     let at-count = at-take .before .before .before .before .before in
     let at-count-next = at-count .before .before in
-    let at-know-next = at-count-next .before .before .before in
-    let at-if1 = at-know-next .before .before in
-    let at-loop-test = at-if1 .before .before .before .before .before .before .before in
-    let at-loop = at-loop-test .before in
+    let at-know-next = at-count-next .before .before .before in let at-if1 = at-know-next .before .before in
+    let at-loop-test = at-if1 .before .before .before .before .before .before .before in let at-loop = at-loop-test .before in
     let at-open-window = at-loop .before .before .before .before .before in
     let start = at-open-window .before .before .before .before .before .before .before .before .before
     .before in
@@ -358,22 +277,19 @@ returns-3 c =
 
 cast-from : tie.Need-cast-from Inv-loop μ-loop
 cast-from c =
-    let at-shared-slice-known6 =
-    c .before .before .before .before .before .before .before .before .before .before .before .before
-    .before .before .before .before .before .before .before .before .before .before .before .before
+    let at-known = c .before .before .before .before .before .before .before .before .before .before .before
+    .before .before .before .before .before .before .before .before .before .before .before .before .before
     .before in
-    let at-loop = at-shared-slice-known6 .before .before .before .before in
-    omega (arith, at-shared-slice-known6 .shared-slice-known6 .given (at-loop .loop .i * 6 + 2))
+    let at-loop = at-known .before .before .before .before in
+    omega (arith, at-known .shared-slice-known6 .given (at-loop .loop .i * 6 + 2))
 
 mul-from : tie.Need-mul-from Inv-loop μ-loop
 mul-from c =
     let at-count = c .before .before .before .before .before .before .before .before .before .before .before
     .before .before .before in
     let at-count-next = at-count .before .before in
-    let at-know-next = at-count-next .before .before .before in
-    let at-if1 = at-know-next .before .before in
-    let at-loop-test = at-if1 .before .before .before .before .before .before .before in
-    let at-loop = at-loop-test .before in
+    let at-know-next = at-count-next .before .before .before in let at-if1 = at-know-next .before .before in
+    let at-loop-test = at-if1 .before .before .before .before .before .before .before in let at-loop = at-loop-test .before in
     let start = at-loop .before .before .before .before .before .before .before .before .before .before
     .before .before .before .before .before in
     let l : at-loop .loop .i * 6 + 5 < length (start .args .runs .now) =
@@ -389,10 +305,8 @@ add-from c =
     let at-count = c .before .before .before .before .before .before .before .before .before .before .before
     .before .before .before in
     let at-count-next = at-count .before .before in
-    let at-know-next = at-count-next .before .before .before in
-    let at-if1 = at-know-next .before .before in
-    let at-loop-test = at-if1 .before .before .before .before .before .before .before in
-    let at-loop = at-loop-test .before in
+    let at-know-next = at-count-next .before .before .before in let at-if1 = at-know-next .before .before in
+    let at-loop-test = at-if1 .before .before .before .before .before .before .before in let at-loop = at-loop-test .before in
     let start = at-loop .before .before .before .before .before .before .before .before .before .before
     .before .before .before .before .before in
     let l : at-loop .loop .i * 6 + 5 < length (start .args .runs .now) =
@@ -424,10 +338,8 @@ loop-again c =
     let at-take = c .before .before .before .before .before .before .before .before .before in
     let at-count = at-take .before .before .before .before .before in
     let at-count-next = at-count .before .before in
-    let at-know-next = at-count-next .before .before .before in
-    let at-if1 = at-know-next .before .before in
-    let at-loop-test = at-if1 .before .before .before .before .before .before .before in
-    let at-loop = at-loop-test .before in
+    let at-know-next = at-count-next .before .before .before in let at-if1 = at-know-next .before .before in
+    let at-loop-test = at-if1 .before .before .before .before .before .before .before in let at-loop = at-loop-test .before in
     let start = at-loop .before .before .before .before .before .before .before .before .before .before
     .before .before .before .before .before in
     let l : at-loop .loop .i * 6 + 5 < length (start .args .runs .now) =
@@ -441,6 +353,7 @@ loop-again c =
           (at-know-next .know-next .ensures),
       omega (arith, at-loop-test .loop-test .taken),
       omega (arith, at-loop .loop .inv .3, at-know-next .know-next .kept),
+      at-loop .loop .inv .4,
     )
 
 ended-requires-4 : tie.Need-ended-requires-4 Inv-loop μ-loop
@@ -469,69 +382,13 @@ pub scan-runs-spec : {M : Type 1} → statement M
 scan-runs-spec =
     tie.close
     (tie.spec
-    Inv-loop
-    μ-loop
-    open-window-requires
-    loop-holds
-    mul-model
-    mul-model-2
-    shared-slice-read-model
-    mul-rows
-    add-rows
-    mul-rows-2
-    shared-slice-read-rows
-    cast-rows
-    mul-objects
-    add-objects
-    mul-objects-2
-    shared-slice-read-objects
-    mul-printed
-    add-printed
-    mul-printed-2
-    shared-slice-read-printed
-    mul-spoiled
-    add-spoiled
-    mul-spoiled-2
-    shared-slice-read-spoiled
-    mul-cents
-    add-cents
-    mul-cents-2
-    shared-slice-read-cents
-    sub-if1
-    ended-requires
-    same-length
-    same-length-2
-    same-length-3
-    returns
-    mul-end
-    add-end
-    slice-aggregate-know-next
-    know-next-requires
-    slice-aggregate-count-next
-    count-next-requires
-    enum-known-count
-    enum-told
-    ended-requires-2
-    same-length-4
-    same-length-5
-    same-length-6
-    returns-2
-    take-requires
-    enum-known-taken
-    enum-told-2
-    ended-requires-3
-    same-length-7
-    same-length-8
-    same-length-9
-    returns-3
-    cast-from
-    mul-from
-    add-from
-    add-i
-    loop-less
-    loop-again
-    ended-requires-4
-    same-length-10
-    same-length-11
-    same-length-12
-    returns-4)
+    Inv-loop μ-loop open-window-requires loop-holds mul-model mul-model-2 shared-slice-read-model
+    mul-rows add-rows mul-rows-2 shared-slice-read-rows cast-rows mul-objects add-objects mul-objects-2
+    shared-slice-read-objects mul-printed add-printed mul-printed-2 shared-slice-read-printed mul-spoiled
+    add-spoiled mul-spoiled-2 shared-slice-read-spoiled mul-cents add-cents mul-cents-2
+    shared-slice-read-cents sub-if1 ended-requires same-length same-length-2 same-length-3 returns
+    mul-end add-end slice-aggregate-know-next know-next-requires slice-aggregate-count-next
+    count-next-requires enum-known-count enum-told ended-requires-2 same-length-4 same-length-5
+    same-length-6 returns-2 take-requires enum-known-taken enum-told-2 ended-requires-3 same-length-7
+    same-length-8 same-length-9 returns-3 cast-from mul-from add-from add-i loop-less loop-again
+    ended-requires-4 same-length-10 same-length-11 same-length-12 returns-4)
