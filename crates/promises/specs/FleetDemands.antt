@@ -14,7 +14,7 @@ use Rattle.language.specs.Lists.{All2}
 use Rattle.language.specs.Results.{accept, refuse}
 use Rattle.language.specs.WellFormed.{Each}
 use Rattle.fleet.specs.Ranking.{Counted, is-before, sums, ranked, report-of, report-answer}
-use Rattle.fleet.specs.Fleet.{runs-of, lines-of-runs, fleet-report, models-report}
+use Rattle.fleet.specs.Fleet.{Run, line-of-run, runs-of, lines-of-runs, fleet-report, models-report}
 use Rattle.fleet.specs.LineLists.{one-more-spoiled}
 use Rattle.fleet.proofs.Order.{before-asymmetric, before-transitive, before-total}
 use Rattle.fleet.proofs.Order.{before-spoiled}
@@ -22,13 +22,13 @@ use Rattle.fleet.specs.LineLists.{Distinct}
 use Rattle.fleet.specs.LineLists.{Permuted}
 use Rattle.promises.specs.Totals.{Possible, line-numbers, total, SumsOfLines, place-of, ReportOf}
 use Rattle.promises.specs.Totals.{AgreeOnSums, SumsRefusal, RefusedBy, FleetRefusal, ModelsRefusal}
-use Rattle.promises.specs.Totals.{ListedReport}
+use Rattle.promises.specs.Totals.{LineOfRun, ListedReport}
 use Rattle.promises.specs.SumEndings.{sums-accepted}
 use Rattle.promises.specs.ReportLaws.{same-reports, permuted-totals, report-refused, report-not-counted}
 use Rattle.promises.specs.ReportOrder.{report-written, ranked-spoiled}
 use Rattle.promises.specs.ReportSpoiled.{report-spoiled}
 use Rattle.promises.specs.ReportCounted.{parts-models}
-use Rattle.promises.specs.FleetLines.{fleet-is-models}
+use Rattle.promises.specs.FleetLines.{line-if-run, fleet-is-models}
 use Rattle.promises.specs.FleetAnswers.{fleet-refused, models-refused, report-listed}
 
 -- The order is total: of two lines with different models one is before the other, never both, and what is before one
@@ -62,6 +62,12 @@ report-in-order = report-written
 pub report-refusals : (number : ℕ) (cs : List (Option Counted)) (n k : ℕ)
     → (report-of number cs ≡ refuse n k) ↔ SumsRefusal number cs n k
 report-refusals = report-refused
+
+-- The line of a run. A run is counted exactly if its rows do not run past the programs and it is counted from its store
+-- (CountDemands says when and what, and its store does not run past the stores then); else it is 18.
+pub line-of-a-run : (r : Run) (programs stores : List ℕ) (c : Counted)
+    → (line-of-run r programs stores ≡ some c) ↔ LineOfRun r programs stores c
+line-of-a-run = line-if-run
 
 -- The report over a fleet is refused with 1 on no line exactly if the numbers are not whole runs; else with 17 or 18 at
 -- the place of a run as its lines are.

@@ -2,18 +2,18 @@
 -- ones. These are the words in which the demands on the report over a fleet are stated.
 use mathlib.Core.Path.{_≡_}
 use mathlib.Core.Logic.{_↔_, _≢_}
-use Prim.Native.Nat.{ℕ, suc, _+_, _%_, _≤_, _<_}
+use Prim.Native.Nat.{ℕ, suc, _+_, _*_, _%_, _≤_, _<_}
 use mathlib.Core.Bool.{true, cond}
 use mathlib.Core.List.{List, [], _∷_, _++_, map}
 use mathlib.Core.Option.{Option, none, some}
 use lib.Dec.{eqb}
-use lib.ListN.{length, drop}
-use Rattle.language.specs.Limits.{line-refusal, room-refusal, no-line}
+use lib.ListN.{length, take, drop}
+use Rattle.language.specs.Limits.{numbers-a-row, line-refusal, room-refusal, no-line}
 use Rattle.language.specs.Results.{Checked, accept, refuse}
 use Rattle.language.specs.WellFormed.{Each}
 use Rattle.fleet.specs.Ranking.{Counted, sum-refusal, is-before, sums, lines-of}
-use Rattle.fleet.specs.Counts.{class-refusal}
-use Rattle.fleet.specs.Fleet.{numbers-a-run, numbers-a-line, runs-of, lines-of-runs, counted-lines}
+use Rattle.fleet.specs.Counts.{Counts, class-refusal, run-counts}
+use Rattle.fleet.specs.Fleet.{Run, numbers-a-run, numbers-a-line, runs-of, lines-of-runs, counted-lines}
 use Rattle.fleet.specs.declared.Reported.{Reported}
 use Rattle.fleet.specs.declared.Reported.the-variants.{Done, Refused}
 use Rattle.fleet.specs.LineLists.{Distinct}
@@ -125,6 +125,17 @@ pub data RefusedBy (number place : ℕ) : Checked (List ℕ) → Type 0 where
 pub data ListRefusal (left-over : ℕ) (Refusal : ℕ → ℕ → Type 0) : ℕ → ℕ → Type 0 where
   not-whole : left-over ≢ 0 → ListRefusal left-over Refusal line-refusal no-line
   by-lines : {n k : ℕ} → left-over ≡ 0 → Refusal n k → ListRefusal left-over Refusal n k
+
+-- The line of a run whose rows and objects begin these slices: its rows do not run past the programs, it is counted from
+-- its store, and the line has its model, its counts and its cents.
+pub record LineOfRun (r : Run) (programs stores : List ℕ) (c : Counted) : Type 0 where
+  pub rows-held : numbers-a-row * r .rows ≤ length programs
+  pub counts : Counts
+  pub counted : run-counts (take (numbers-a-row * r .rows) programs) stores (r .objects) (r .printed)
+      (r .spoiled)
+      ≡ some counts
+  pub is : c
+      ≡ record { model = r .model; printed = counts .printed; spoiled = counts .spoiled; cents = r .cents }
 
 -- The report over a fleet: 1 on no line; then 17 or 18 at the place of a run.
 abbrev pub FleetRefusal : List ℕ → List ℕ → List ℕ → ℕ → ℕ → Type 0
