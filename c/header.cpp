@@ -24,8 +24,17 @@ int main()
     const uint32_t reported = fickle_report_fleet(run, 6, rows, length, nullptr, 0, text, sizeof text, &told);
     // The program declares no class, so no run of it can be counted.
     const bool refused = FICKLE_NUMBER(counted) == 18 && FICKLE_NUMBER(counted_plain) == 18 && reported == 18;
+    const uint8_t terms[] = "7\t0\t30\t150\t1\n";
+    uint32_t year, month, of_month, cents, on_date, term;
+    const uint64_t day = fickle_day_of_date(2000, 1, 31);
+    const uint64_t dated = fickle_date_of_day(FICKLE_LINE(day), &year, &month, &of_month);
+    const uint64_t priced = fickle_price_on_day(terms, sizeof terms - 1, 7, 30, &cents, &term);
+    const uint64_t priced_on = fickle_price_on_date(terms, sizeof terms - 1, 7, 2000, 1, 31, &on_date, &term);
+    const uint64_t reported_prices = fickle_report_prices(terms, sizeof terms - 1, 7, 2000, 1, text, sizeof text);
+    const bool prices = day == 30 && dated == 0 && of_month == 31 && priced == 1 && cents == 150 && priced_on == 1 &&
+                        on_date == 150 && term == 1 && reported_prices == 9;
     const bool right = read == 3 && checked == 0 && translated == 7 && ran == 2 && steps == 2 && refused && told == 1 &&
-                       ranked == 0 && length_of_report == 8;
+                       ranked == 0 && length_of_report == 8 && prices;
     std::puts(right ? "all services answer C++ as they should" : "failed");
     return !right;
 }

@@ -1,15 +1,10 @@
 /* Measures the native stack of every service at the inputs that take the most of it: texts of 60,000 lines, the
- * deepest nesting through each letter that can nest, 64 calls at that nesting, 60,000 rows, and 40,000 models. Fails
- * where a service takes more than the header says that it needs. */
-#define _POSIX_C_SOURCE 200809L
-#include "fickle.h"
+ * deepest nesting through each letter that can nest, 64 calls at that nesting, 60,000 rows, 40,000 models, and 65,536
+ * price terms. Fails where a service takes more than the header says that it needs. */
+#include "measure.h"
+#include "stack_prices.h"
 
-#include <pthread.h>
-#include <stdio.h>
-#include <stdlib.h>
-#include <string.h>
-
-/* The limits of document 01, and what this program lends: more stack than any service needs, painted. */
+/* The limits of document 01, and how much this program lends. */
 enum {
     MOST_ROWS = 60000,
     MOST_NESTING = 128,
@@ -26,9 +21,7 @@ enum {
     FUEL = 1000000,
     LABEL = 18,
     MANY_MODELS = 40000,
-    LONGEST_REPORTED = 44,
-    STACK = 16 << 20,
-    PAINT = 0xAA
+    LONGEST_REPORTED = 44
 };
 
 /* Every letter that can nest. Where there are several children, capitals nest in the last one, small letters in the
@@ -40,10 +33,7 @@ static uint32_t rows[4 * (MOST_ROWS + 1)], plain[4 * MOST_ROWS], store[STORE];
 static uint32_t counted[4 * MANY_MODELS], runs[6 * MANY_MODELS];
 static uint32_t programs[4 * (MOST_ROWS + 1) * 5], stores[LABEL * MANY_MODELS];
 static uint8_t report[LONGEST_REPORTED * MANY_MODELS];
-static size_t models;
-static size_t text_length, length;
-static uint64_t answer;
-static int failures;
+static size_t models, text_length, length;
 
 static void *read_text(void *unused)
 {
@@ -108,13 +98,8 @@ static void *report_runs(void *unused)
     return unused;
 }
 
-/* The services, each with what it needs by the header and what it took at most, by shape of its input. */
-enum { DEEP, WIDE, SHAPES };
-static struct service {
-    const char *name;
-    void *(*task)(void *);
-    size_t needed, took[SHAPES];
-} reading = {"read_rows", read_text, FICKLE_READ_ROWS_STACK_NEEDED, {0}},
+/* The services. */
+static struct service reading = {"read_rows", read_text, FICKLE_READ_ROWS_STACK_NEEDED, {0}},
   writing = {"write_text", write_rows, FICKLE_WRITE_TEXT_STACK_NEEDED, {0}},
   checking = {"check_rows", check, FICKLE_CHECK_ROWS_STACK_NEEDED, {0}},
   translating = {"translate_rows", translate, FICKLE_TRANSLATE_ROWS_STACK_NEEDED, {0}},
@@ -123,38 +108,6 @@ static struct service {
   counting_plain = {"count_plain_run", count_plain, FICKLE_COUNT_PLAIN_RUN_STACK_NEEDED, {0}},
   ranking = {"rank_models", rank, FICKLE_RANK_MODELS_STACK_NEEDED, {0}},
   reporting = {"report_fleet", report_runs, FICKLE_REPORT_FLEET_STACK_NEEDED, {0}};
-
-/* Returns how much of a painted stack a task wrote on. */
-static size_t used(void *(*task)(void *))
-{
-    unsigned char *stack = aligned_alloc(4096, STACK);
-    pthread_attr_t attributes;
-    pthread_t thread;
-    size_t clean = 0;
-    memset(stack, PAINT, STACK);
-    pthread_attr_init(&attributes);
-    pthread_attr_setstack(&attributes, stack, STACK);
-    if (pthread_create(&thread, &attributes, task, NULL) != 0)
-        abort();
-    pthread_join(thread, NULL);
-    while (clean < STACK && stack[clean] == PAINT)
-        clean++;
-    free(stack);
-    return STACK - clean;
-}
-
-/* Returns how many bytes of stack a service takes for the input at hand. Fails where its answer has another number. */
-static size_t measure(struct service *service, int shape, uint32_t number)
-{
-    size_t bytes = used(service->task);
-    if (FICKLE_NUMBER(answer) != number || bytes > service->needed) {
-        printf("%s: number %u, expected %u; %zu bytes\n", service->name, FICKLE_NUMBER(answer), number, bytes);
-        failures++;
-    }
-    if (bytes > service->took[shape])
-        service->took[shape] = bytes;
-    return bytes;
-}
 
 static void row(uint32_t letter, uint32_t first, uint32_t second)
 {
@@ -348,12 +301,14 @@ static void widths(void)
 int main(void)
 {
     struct service *services[] = {&reading, &writing, &checking, &translating, &running,
-                                  &counting, &counting_plain, &ranking, &reporting};
+                                  &counting, &counting_plain, &ranking, &reporting, &converting_dates,
+                                  &converting_days, &pricing, &pricing_by_date, &reporting_prices};
     texts();
     for (const char *letter = letters; *letter; letter++)
         depths(*letter), counts(*letter);
     widths();
     many_models();
+    dates_and_prices();
     for (size_t i = 0; i < sizeof services / sizeof *services; i++)
         printf("%s: deepest %zu, widest %zu, needed %zu bytes\n", services[i]->name, services[i]->took[DEEP],
                services[i]->took[WIDE], services[i]->needed);

@@ -1,14 +1,14 @@
-/* Label rules in Fickle II: read, write, check, translate, run; labels counted, and reports over fleets (libservices.a,
- * made by `rt staticlib services`).
+/* Label rules in Fickle II: read, write, check, translate, run; labels counted, and reports over fleets; price terms by
+ * date (libservices.a, made by `rt staticlib services`).
  *
  * Rows are numbers, four to a row: a letter's ASCII code, then its numbers, the rest 0. Lengths count numbers or bytes.
  * Every input gets an answer. A refusal changes nothing that was lent. What is lent past what was written is unchanged.
  * Slices that one call is lent must not overlap, but for those that are only read. The pointer of a slice of length 0
- * may be NULL; pointers to counts and to `told` may not.
+ * may be NULL; pointers to single numbers, such as counts and `told`, may not.
  *
  * An answer has two words of 32 bits: FICKLE_NUMBER and FICKLE_LINE. Where the first is 0, the second is the result.
- * Where it is 1 to 13 or 18, the call was refused with that number, and the second is the line, 0 where none is to
- * blame:
+ * Where it is 1 to 13, 18, 23 or 24, the call was refused with that number, and the second is the line, 0 where none is
+ * to blame:
  *    1 line      malformed line or row; length not a multiple of 4
  *    2 limit     over a limit, fuel included
  *    3 place     record not due here, B without expressions, or end too early
@@ -31,8 +31,11 @@
  *   17 sum       one of a model's sums passes 4,000,000,000
  *   18 class     the run cannot be counted: its program is refused, does not declare both classes with the spoiled one
  *                strictly below the printed one, or lacks a class of its store; or rows or objects are missing
- * A report may be longer and a place larger than 32 bits hold: fickle_rank_models and fickle_report_fleet return the
- * number alone, 0 where all is well, and store the bytes written, or the refusal's line, in *told.
+ * Price terms are refused with 1, 13, and two numbers of their own:
+ *   23 term      first day after the last, or a signing number that an earlier line has
+ *   24 date      a day, or a day of the month, is not in the calendar or not within 2000-01-01 to 2179-06-06; line 0
+ * A report over fleets may be longer and a place larger than 32 bits hold: fickle_rank_models and fickle_report_fleet
+ * return the number alone, 0 where all is well, and store the bytes written, or the refusal's line, in *told.
  */
 #ifndef FICKLE_H
 #define FICKLE_H
@@ -59,6 +62,11 @@ extern "C" {
 #define FICKLE_COUNT_PLAIN_RUN_STACK_NEEDED 1048576
 #define FICKLE_RANK_MODELS_STACK_NEEDED 1048576
 #define FICKLE_REPORT_FLEET_STACK_NEEDED 1048576
+#define FICKLE_DAY_OF_DATE_STACK_NEEDED 65536
+#define FICKLE_DATE_OF_DAY_STACK_NEEDED 65536
+#define FICKLE_PRICE_ON_DAY_STACK_NEEDED 65536
+#define FICKLE_PRICE_ON_DATE_STACK_NEEDED 65536
+#define FICKLE_REPORT_PRICES_STACK_NEEDED 65536
 
 /* Reads a text into rows. The result is how many rows were written. Refusals 1, 2, 13. */
 uint64_t fickle_read_rows(const uint8_t *text, size_t text_length, uint32_t *rows, size_t rows_length);
@@ -107,6 +115,32 @@ uint32_t fickle_rank_models(const uint32_t *counts, size_t counts_length, uint8_
 uint32_t fickle_report_fleet(const uint32_t *runs, size_t runs_length, const uint32_t *programs, size_t programs_length,
                              const uint32_t *stores, size_t stores_length, uint8_t *report, size_t report_length,
                              uint64_t *told);
+
+/* Days count from 2000-01-01, which is day 0, to 65,535, which is 2179-06-06, by the Gregorian calendar. The result is
+ * the number of the day that has this date. Refusal 24. */
+uint64_t fickle_day_of_date(uint32_t year, uint32_t month, uint32_t day);
+
+/* The date of a day. The result is 0, and its year, month and day of the month are stored; refusal 24, for a day above
+ * 65,535, leaves them as they were. */
+uint64_t fickle_date_of_day(uint32_t day, uint32_t *year, uint32_t *month, uint32_t *of_month);
+
+/* The price of a model on a day, by terms that are a text: a line of five numbers a term, with tabs between them: model,
+ * first day, last day, cents, signing number. Both edge days belong to a term, and of those that hold the one with the
+ * highest signing number rules. The result is 1, and the cents and the line of that term are stored; or 0 where no term
+ * holds. That and a refusal leave the two as they were. Refusals: by lines 1 and 23; then 24. */
+uint64_t fickle_price_on_day(const uint8_t *terms, size_t terms_length, uint32_t model, uint32_t day, uint32_t *cents,
+                             uint32_t *line);
+
+/* The same on a date. */
+uint64_t fickle_price_on_date(const uint8_t *terms, size_t terms_length, uint32_t model, uint32_t year, uint32_t month,
+                              uint32_t day, uint32_t *cents, uint32_t *line);
+
+/* Writes the price report of a model and a month: a line for each run of days with one price, in order of days: first
+ * day, last day, cents, in decimals with tabs. Days without a term stand in no run and part runs. The result is how many
+ * bytes were written; 558 are enough for any month. Refusals: by lines 1 and 23; then 24, where it is no month or one
+ * of its days is out of range; then 13. */
+uint64_t fickle_report_prices(const uint8_t *terms, size_t terms_length, uint32_t model, uint32_t year, uint32_t month,
+                              uint8_t *report, size_t report_length);
 
 #ifdef __cplusplus
 }

@@ -27,9 +27,9 @@ BENCH = 'twins'
 UNCHECKED, TWIN, GUARDED = 'unchecked', 'twin', 'guarded'
 VARIANTS = [UNCHECKED, TWIN, GUARDED]
 # The modules of fickle/ beside its lib.rs. None may have the name of a Rattle crate.
-MODULES = ['fleets', 'refusals', 'stack']
+MODULES = ['fleets', 'price_terms', 'refusals', 'stack']
 ALLOWED = '#![allow(warnings)]\n'
-CONTRACT = re.compile(r'\b(requires|ensures)\s*\{')
+CONTRACT = re.compile(r'\b(requires|ensures)(\s+\w+)?\s*\{')
 # What may not be left in the Rust text.
 LEFT_OVER = re.compile(r'[^\x00-\x7f]|\b(ghost|requires|ensures|invariant|decreases)\b')
 # A service under its C name, and the declarations of all of them in fickle/src/lib.rs.

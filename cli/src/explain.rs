@@ -23,9 +23,8 @@ pub fn command(rest: &[OsString]) -> Result<Status, Trouble> {
             found.example.lines().map(|line| format!("    {line}\n")).collect::<String>(),
             found.call
         )),
-        None => {
-            Err(arguments
-                .trouble(&format!("there is no refusal or stop '{asked}'; their numbers are 1 to 18")))
-        }
+        None => Err(arguments.trouble(&format!(
+            "there is no refusal or stop '{asked}'; their numbers are 1 to 18, 23 and 24"
+        ))),
     }
 }

@@ -1,11 +1,13 @@
 //! Fleets: a file with a run a line, its rules and store, and what the services take of it.
 
+pub mod costs;
 pub mod runs;
 pub mod why;
 
 use crate::arguments::Arguments;
 use crate::lines::{lines, number, read, read_input, wrong, Line, No, STANDARD_INPUT};
 use crate::store::OBJECTS_MOST;
+use crate::terms::{When, WHEN};
 use crate::Trouble;
 use std::ffi::OsStr;
 use std::path::{Path, PathBuf};
@@ -16,6 +18,9 @@ const FUEL_MOST: u64 = 100_000_000;
 
 /// What a store's name begins with where a plain run left it.
 const PLAIN: &str = "plain:";
+
+/// What the cents of a run begin with where they are a date.
+const DATED: char = '@';
 
 /// A fleet as its file has it.
 pub struct Fleet {
@@ -31,9 +36,16 @@ pub struct Run {
     pub rules: PathBuf,
     pub printed: u32,
     pub spoiled: u32,
-    pub cents: u32,
+    pub cents: Cents,
     /// Where the run ended elsewhere.
     pub store: Option<StoreFile>,
+}
+
+/// What a run costs: so many cents, or its labels at their price on a date.
+#[derive(Clone, Copy)]
+pub enum Cents {
+    Given(u32),
+    On(When),
 }
 
 /// The store of a run that ended elsewhere.
@@ -109,7 +121,11 @@ impl Run {
             return Err(wrong(name, line.number, "the rules file has no name"));
         }
         let whole = |what: &str, field: &str| {
-            let advice = if what == "model" { "; names go in a file for --names" } else { "" };
+            let advice = match what {
+                "model" => "; names go in a file for --names",
+                "cents" => ", nor @ and a date",
+                _ => "",
+            };
             let sentence = format!("{what} '{field}' is not a whole number up to {}{advice}", u32::MAX);
             number(field).ok_or_else(|| wrong(name, line.number, &sentence))
         };
@@ -119,7 +135,13 @@ impl Run {
             rules: within(folder, rules),
             printed: whole("printed class", printed)?,
             spoiled: whole("spoiled class", spoiled)?,
-            cents: whole("cents", cents)?,
+            cents: match cents.strip_prefix(DATED) {
+                Some(date) => {
+                    let sentence = format!("'{cents}' is not {DATED} and a date; {WHEN}");
+                    Cents::On(When::of(date).ok_or_else(|| wrong(name, line.number, &sentence))?)
+                }
+                None => Cents::Given(whole("cents", cents)?),
+            },
             store: (!store.is_empty()).then(|| StoreFile::of(folder, store)),
         })
     }

@@ -1,4 +1,4 @@
-//! Files of rules: reading them, and the words for a refusal.
+//! Files of rules and of price terms: reading them, and the words for a refusal.
 
 use crate::lines::STANDARD_INPUT;
 use crate::Trouble;
@@ -18,24 +18,31 @@ pub const LINE_MOST: usize = 14;
 /// whatever follows is line 60,001.
 const TEXT_MOST: u64 = (ROWS_MOST * LINE_MOST) as u64 + 1;
 
-/// A text of rules, and how its file is called in messages.
+/// A text of rules or of price terms, and how its file is called in messages.
 pub struct Input {
     pub name: String,
     text: Vec<u8>,
 }
 
 impl Input {
-    /// Reads a file, or standard input for `-`.
+    /// Reads a file of rules, or standard input for `-`.
     pub fn read(file: &OsStr) -> Result<Input, Trouble> {
-        if file == "-" {
-            return Input::of(STANDARD_INPUT.to_string(), contents(std::io::stdin().lock()));
-        }
-        Input::open(Path::new(file))
+        Input::read_first(file, TEXT_MOST)
     }
 
-    /// Reads a file, whatever its name.
+    /// Reads so many bytes of a file, or of standard input for `-`.
+    pub fn read_first(file: &OsStr, most: u64) -> Result<Input, Trouble> {
+        if file == "-" {
+            return Input::of(STANDARD_INPUT.to_string(), first(std::io::stdin().lock(), most));
+        }
+        let path = Path::new(file);
+        Input::of(path.to_string_lossy().into_owned(), File::open(path).and_then(|file| first(file, most)))
+    }
+
+    /// Reads a file of rules, whatever its name.
     pub fn open(path: &Path) -> Result<Input, Trouble> {
-        Input::of(path.to_string_lossy().into_owned(), File::open(path).and_then(contents))
+        let text = File::open(path).and_then(|file| first(file, TEXT_MOST));
+        Input::of(path.to_string_lossy().into_owned(), text)
     }
 
     fn of(name: String, text: std::io::Result<Vec<u8>>) -> Result<Input, Trouble> {
@@ -43,6 +50,16 @@ impl Input {
             Ok(text) => Ok(Input { name, text }),
             Err(error) => Err(Trouble(format!("cannot read {name}: {}.", reason(&error)))),
         }
+    }
+
+    pub fn text(&self) -> &[u8] {
+        &self.text
+    }
+
+    /// A line of it, from 1, with its line feed.
+    pub fn line(&self, number: u64) -> Option<&[u8]> {
+        let before = usize::try_from(number).ok()?.checked_sub(1)?;
+        self.text.split_inclusive(|byte| *byte == b'\n').nth(before)
     }
 
     /// Its rows.
@@ -66,19 +83,15 @@ impl Input {
 
     /// What may be wrong with a malformed line, where its bytes tell.
     pub fn hint(&self, refusal: Refusal) -> Option<String> {
-        if refusal.number != 1 || refusal.line == 0 {
-            return None;
-        }
-        let before = refusal.line as usize - 1;
-        let line = self.text.split_inclusive(|byte| *byte == b'\n').nth(before)?;
+        let line = self.line(refusal.line).filter(|_| refusal.number == 1)?;
         Some(format!("{}:{}: note: {}", self.name, refusal.line, suspected(line)?))
     }
 }
 
-/// All that is worth reading of a file.
-fn contents(file: impl Read) -> std::io::Result<Vec<u8>> {
+/// The first bytes of a file.
+fn first(file: impl Read, most: u64) -> std::io::Result<Vec<u8>> {
     let mut text = Vec::new();
-    file.take(TEXT_MOST).read_to_end(&mut text)?;
+    file.take(most).read_to_end(&mut text)?;
     Ok(text)
 }
 

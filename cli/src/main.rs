@@ -1,6 +1,6 @@
-//! `sigvolar`, the tool that a person types: checks, translates, runs and explains label rules, and reports what labels
-//! cost. Every judgement and every figure of a report is that of a proved service; the tool reads files and chooses words.
-//! docs/TOOL.md describes it.
+//! `sigvolar`, the tool that a person types: checks, translates, runs and explains label rules, reports what labels cost,
+//! and prices them by date. Every judgement, every price and every figure of a report is that of a proved service; the tool
+//! reads files and chooses words. docs/TOOL.md describes it.
 
 mod arguments;
 mod check;
@@ -12,11 +12,14 @@ mod input;
 mod lines;
 mod names;
 mod output;
+mod price;
+mod prices;
 mod progress;
 mod rank;
 mod report;
 mod run;
 mod store;
+mod terms;
 mod translate;
 
 use std::ffi::OsString;
@@ -83,6 +86,8 @@ fn command(arguments: &[OsString]) -> Result<Status, Trouble> {
         "report" => report::command(rest),
         "count" => count::command(rest),
         "rank" => rank::command(rest),
+        "price" => price::command(rest),
+        "prices" => prices::command(rest),
         "explain" => explain::command(rest),
         "help" => help::command(rest),
         "--help" | "-h" => output::print(help::TOOL),

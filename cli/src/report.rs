@@ -5,7 +5,8 @@ mod page;
 mod table;
 
 use crate::arguments::{Argument, Arguments};
-use crate::count::cut;
+use crate::count::{cut, BOTH_FROM_INPUT};
+use crate::fleet::costs::Costs;
 use crate::fleet::runs::{Ended, Runs, Taken};
 use crate::fleet::{why, Fleet, Limits, Run};
 use crate::input::{reason, same_file, ROW};
@@ -15,6 +16,7 @@ use crate::output::{print, print_bytes, say};
 use crate::progress::Progress;
 use crate::rank::REPORTED_MOST;
 use crate::store::OBJECT;
+use crate::terms::Terms;
 use crate::{Status, Trouble};
 use fickle::{explanation, report_fleet, Outcome};
 use std::ffi::{OsStr, OsString};
@@ -27,6 +29,7 @@ const UNDECLARED: u32 = u32::MAX;
 struct Asked<'a> {
     fleet: &'a OsStr,
     names: Option<&'a OsStr>,
+    prices: Option<&'a OsStr>,
     limits: Limits,
     full: bool,
     tsv: bool,
@@ -41,8 +44,15 @@ pub fn command(rest: &[OsString]) -> Result<Status, Trouble> {
 fn asked(rest: &[OsString]) -> Result<Asked<'_>, Trouble> {
     let mut arguments = Arguments::new("report", rest);
     let nothing = OsStr::new("");
-    let mut asked =
-        Asked { fleet: nothing, names: None, limits: Limits::GIVEN, full: false, tsv: false, html: None };
+    let mut asked = Asked {
+        fleet: nothing,
+        names: None,
+        prices: None,
+        limits: Limits::GIVEN,
+        full: false,
+        tsv: false,
+        html: None,
+    };
     let mut files = Vec::new();
     while let Some(argument) = arguments.next() {
         match argument {
@@ -51,6 +61,7 @@ fn asked(rest: &[OsString]) -> Result<Asked<'_>, Trouble> {
                 "--fuel" => asked.limits.fuel = arguments.number("--fuel", given)?,
                 "--objects" => asked.limits.objects = arguments.number("--objects", given)?,
                 "--names" => asked.names = Some(arguments.value("--names", given)?),
+                "--prices" => asked.prices = Some(arguments.value("--prices", given)?),
                 "--html" => asked.html = Some(arguments.value("--html", given)?),
                 "--full" if given.is_none() => asked.full = true,
                 "--tsv" if given.is_none() => asked.tsv = true,
@@ -68,6 +79,9 @@ fn asked(rest: &[OsString]) -> Result<Asked<'_>, Trouble> {
         return Err(arguments.trouble("--html needs the name of a file"));
     }
     match files[..] {
+        [fleet] if fleet == "-" && asked.prices.is_some_and(|prices| prices == "-") => {
+            Err(arguments.trouble(BOTH_FROM_INPUT))
+        }
         [fleet] => Ok(Asked { fleet, ..asked }),
         _ => Err(arguments.trouble("one fleet is needed, or - for standard input")),
     }
@@ -76,12 +90,13 @@ fn asked(rest: &[OsString]) -> Result<Asked<'_>, Trouble> {
 fn reported(asked: &Asked) -> Result<Status, No> {
     let fleet = Fleet::read(asked.fleet)?;
     let names = asked.names.map_or_else(|| Ok(Names::default()), Names::read)?;
+    let costs = Costs::new(asked.prices.map(Terms::read).transpose()?, &fleet)?;
     if let Some(html) = asked.html {
         keep_inputs(html, asked, &fleet)?;
     }
     let progress = Progress::start(format!("{}: running", fleet.name));
-    let slices = Slices::of(&fleet, asked.limits)?;
-    let report = slices.report(&fleet, asked.limits)?;
+    let slices = Slices::of(&fleet, asked.limits, costs)?;
+    let report = slices.report(&fleet)?;
     drop(progress);
     let table = Table::of(&report, &names, asked.full);
     if let Some(html) = asked.html {
@@ -114,20 +129,28 @@ struct Slices<'a> {
     taken: Vec<(&'a Run, Taken)>,
     /// Lines of runs that did not end in a value, each with a sentence.
     notes: Vec<(usize, String)>,
-    /// The first run that was cut: those after it are not made.
-    cut: Option<(&'a Run, u32, u32)>,
+    /// What is said of the first run that was cut or has no price: those after it are not made.
+    ended: Option<String>,
 }
 
 impl<'a> Slices<'a> {
-    fn of(fleet: &'a Fleet, limits: Limits) -> Result<Slices<'a>, No> {
+    fn of(fleet: &'a Fleet, limits: Limits, mut costs: Costs) -> Result<Slices<'a>, No> {
         let (mut runs, mut slices) = (Runs::new(limits), Slices::default());
         for run in &fleet.runs {
-            match runs.ended(fleet, run)? {
-                Ended::Counts(taken) => slices.add(run, taken),
+            let taken = match runs.ended(fleet, run)? {
+                Ended::Counts(taken) => taken,
                 Ended::Cut { stop, labels } => {
-                    slices.cut = Some((run, stop, labels));
+                    slices.ended = Some(cut(fleet, run, stop, labels, limits));
                     break;
                 }
+            };
+            match costs.of_run(fleet, run, &taken) {
+                Ok(cents) => slices.add(run, taken, cents),
+                Err(No::Refused(sentence)) => {
+                    slices.ended = Some(sentence);
+                    break;
+                }
+                Err(trouble) => return Err(trouble),
             }
         }
         Ok(slices)
@@ -135,7 +158,7 @@ impl<'a> Slices<'a> {
 
     /// Adds a run. A plain store enters as the labels that are counted in it: objects of the printed and of the spoiled
     /// class; where they cannot be counted, as an object of a class that no program has.
-    fn add(&mut self, run: &'a Run, taken: Taken) {
+    fn add(&mut self, run: &'a Run, taken: Taken, cents: u32) {
         let before = self.stores.len();
         if taken.plain {
             let mut label = |class| self.stores.extend([&[class][..], &[0; OBJECT - 1]].concat());
@@ -151,7 +174,7 @@ impl<'a> Slices<'a> {
         }
         let objects = ((self.stores.len() - before) / OBJECT) as u32;
         let rows = (taken.rows.len() / ROW) as u32;
-        self.runs.extend([run.model, rows, objects, run.printed, run.spoiled, run.cents]);
+        self.runs.extend([run.model, rows, objects, run.printed, run.spoiled, cents]);
         self.programs.extend_from_slice(&taken.rows);
         if let Some(outcome) = taken.unusual {
             self.notes.push((run.line, unusual(outcome)));
@@ -159,8 +182,9 @@ impl<'a> Slices<'a> {
         self.taken.push((run, taken));
     }
 
-    /// The report of all runs; or why there is none: the first run that is refused, else the run that was cut.
-    fn report(&self, fleet: &Fleet, limits: Limits) -> Result<Vec<u8>, No> {
+    /// The report of all runs; or why there is none: the first run that is refused, else what ended the list before its
+    /// end.
+    fn report(&self, fleet: &Fleet) -> Result<Vec<u8>, No> {
         let mut report = vec![0; self.taken.len() * REPORTED_MOST];
         match report_fleet(&self.runs, &self.programs, &self.stores, &mut report) {
             Ok(length) => report.truncate(length),
@@ -170,8 +194,8 @@ impl<'a> Slices<'a> {
                 return Err(No::Refused(why::refused(fleet, run, taken, refusal)));
             }
         }
-        match self.cut {
-            Some((run, stop, labels)) => Err(No::Refused(cut(fleet, run, stop, labels, limits))),
+        match &self.ended {
+            Some(sentence) => Err(No::Refused(sentence.clone())),
             None => Ok(report),
         }
     }
@@ -199,7 +223,8 @@ fn unusual(outcome: Outcome) -> String {
 fn keep_inputs(html: &OsStr, asked: &Asked, fleet: &Fleet) -> Result<(), Trouble> {
     let stores = fleet.runs.iter().filter_map(|run| run.store.as_ref()).map(|store| store.path.as_os_str());
     let rules = fleet.runs.iter().map(|run| run.rules.as_os_str());
-    let mut inputs = [Some(asked.fleet), asked.names].into_iter().flatten().chain(rules).chain(stores);
+    let given = [Some(asked.fleet), asked.names, asked.prices].into_iter().flatten();
+    let mut inputs = given.chain(rules).chain(stores);
     match inputs.find(|input| same_file(html, input)) {
         Some(input) => Err(Trouble(format!("the page would overwrite {}.", input.to_string_lossy()))),
         None => Ok(()),

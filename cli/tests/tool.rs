@@ -266,7 +266,7 @@ fn a_plain_program_that_is_not_run() {
 #[test]
 fn every_number_is_explained_as_the_page_does() {
     let page = include_str!("../../docs/REFUSALS.md");
-    for number in 1..=18 {
+    for number in (1..=18).chain(23..=24) {
         let left = call(&["explain", &number.to_string()]);
         assert_eq!((left.said.as_str(), left.status), ("", Some(0)));
         let lines: Vec<&str> = left.printed.lines().collect();
@@ -279,23 +279,25 @@ fn every_number_is_explained_as_the_page_does() {
         );
     }
     assert_eq!(call(&["explain", "effect"]).printed, call(&["explain", "10"]).printed);
-    for wrong in ["0", "19", "ten", ""] {
+    for wrong in ["0", "19", "22", "25", "ten", ""] {
         let left = call(&["explain", wrong]);
         assert_eq!((left.printed.as_str(), left.status), ("", Some(2)));
-        assert!(left.said.contains("their numbers are 1 to 18"), "{left:?}");
+        assert!(left.said.contains("their numbers are 1 to 18, 23 and 24"), "{left:?}");
     }
 }
 
 #[test]
 fn help_and_version() {
-    for command in ["check", "translate", "run", "report", "count", "rank", "explain", "help"] {
+    let commands =
+        ["check", "translate", "run", "report", "count", "rank", "price", "prices", "explain", "help"];
+    for command in commands {
         let left = call(&[command, "--help"]);
         assert!(left.printed.starts_with(&format!("Usage: sigvolar {command} ")), "{left:?}");
         assert_eq!((left.said.as_str(), left.status), ("", Some(0)));
         assert_eq!(call(&["help", command]).printed, left.printed);
     }
     let left = call(&["--help"]);
-    for command in ["check", "translate", "run", "report", "count", "rank", "explain", "help"] {
+    for command in commands {
         assert!(left.printed.contains(&format!("  sigvolar {command} ")), "{left:?}");
     }
     assert_eq!(call(&["help"]).printed, left.printed);

@@ -1,7 +1,7 @@
 //! A case is one call with all that it is lent; a reply is all that comes back: the answer and the lent buffers.
 
 use second::rows::number;
-use second::services::{Counted, End, Ended, Fleet, Printed, Programs, Ran, Refused};
+use second::services::{Counted, Date, End, Ended, Fleet, Price, Printed, Programs, Ran, Refused};
 use std::collections::BTreeMap;
 use std::fmt;
 
@@ -17,6 +17,11 @@ pub enum Case {
     CountPlain(Ended),
     Rank { counts: Vec<u32>, report: Vec<u8> },
     Report { fleet: Fleet, report: Vec<u8> },
+    DayOfDate(Date),
+    DateOfDay(u32),
+    PriceOnDay { terms: Vec<u8>, model: u32, day: u32 },
+    PriceOnDate { terms: Vec<u8>, model: u32, date: Date },
+    PriceReport { terms: Vec<u8>, model: u32, month: (u32, u32), report: Vec<u8> },
     TranslatingProgram { text: Vec<u8> },
     RunningProgram { text: Vec<u8> },
 }
@@ -29,13 +34,17 @@ pub enum Reply {
     Verdict(Result<(), Refused>),
     Ran(Result<Ran, Refused>, Vec<u32>),
     Counted(Result<Counted, Refused>),
+    Day(Result<u32, Refused>),
+    Date(Result<Date, Refused>),
+    Price(Result<Option<Price>, Refused>),
     Printed(Printed),
 }
 
-/// What a reply comes to: a result, a refusal or stop by its number, an exception.
+/// What a reply comes to: a result, that there is no price, a refusal or stop by its number, an exception.
 #[derive(Clone, Copy, Debug, PartialEq, Eq, PartialOrd, Ord)]
 pub enum Answer {
     Result,
+    None,
     Number(u32),
     Exception(u32),
 }
@@ -71,6 +80,18 @@ impl Case {
                 let mut report = report.clone();
                 Reply::Text(services.report_fleet(fleet, &mut report), report)
             }
+            Case::DayOfDate(date) => Reply::Day(services.day_of_date(*date)),
+            Case::DateOfDay(day) => Reply::Date(services.date_of_day(*day)),
+            Case::PriceOnDay { terms, model, day } => {
+                Reply::Price(services.price_on_day(terms, *model, *day))
+            }
+            Case::PriceOnDate { terms, model, date } => {
+                Reply::Price(services.price_on_date(terms, *model, *date))
+            }
+            Case::PriceReport { terms, model, month, report } => {
+                let mut report = report.clone();
+                Reply::Text(services.report_prices(terms, *model, *month, &mut report), report)
+            }
             Case::TranslatingProgram { text } => Reply::Printed(services.translate(text)),
             Case::RunningProgram { text } => Reply::Printed(services.run(text)),
         }
@@ -91,6 +112,10 @@ impl Reply {
             Reply::Rows(answer, _) | Reply::Text(answer, _) => of_result(answer),
             Reply::Verdict(answer) => of_result(answer),
             Reply::Counted(answer) => of_result(answer),
+            Reply::Day(answer) => of_result(answer),
+            Reply::Date(answer) => of_result(answer),
+            Reply::Price(Ok(None)) => Answer::None,
+            Reply::Price(answer) => of_result(answer),
             Reply::Ran(Ok(Ran { end: End::Exception(exception), .. }), _) => Answer::Exception(*exception),
             Reply::Ran(Ok(Ran { end: End::Stop(stop), .. }), _) => Answer::Number(*stop),
             Reply::Ran(answer, _) => of_result(answer),
@@ -123,6 +148,7 @@ impl fmt::Display for Answer {
     fn fmt(&self, f: &mut fmt::Formatter) -> fmt::Result {
         match self {
             Answer::Result => write!(f, "result"),
+            Answer::None => write!(f, "none"),
             Answer::Number(number) => write!(f, "{number}"),
             Answer::Exception(exception) => write!(f, "exception {exception}"),
         }

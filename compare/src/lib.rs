@@ -6,6 +6,7 @@ pub mod faults;
 pub mod fleet;
 pub mod load;
 pub mod measure;
+pub mod prices;
 pub mod programs;
 pub mod proved;
 pub mod run;

@@ -2,6 +2,7 @@
 //! the tables of docs/PERFORMANCE.md, which says what their columns are; `assert_agree` compares two implementations.
 
 mod fleets;
+mod prices;
 
 use crate::check::program;
 use crate::load::{self, Load, LOADS, WORKS};
@@ -56,7 +57,7 @@ pub type Means = Vec<f64>;
 pub type Measure = fn(&[Measured]) -> Means;
 
 /// All tables, each with its name.
-pub const TABLES: [(&str, Measure); 7] = [
+pub const TABLES: [(&str, Measure); 8] = [
     ("reader and writer", text),
     ("check", check),
     ("translator", translate),
@@ -64,11 +65,12 @@ pub const TABLES: [(&str, Measure); 7] = [
     ("short programs", short_programs),
     ("reports over fleets", fleets::reports),
     ("rankings", fleets::ranks),
+    ("prices", prices::prices),
 ];
 
 /// Prints all tables and returns their means, each with the table's name. The first implementation is the one that the
 /// others are compared with.
-pub fn tables(all: &[Measured]) -> [(&'static str, Means); 7] {
+pub fn tables(all: &[Measured]) -> [(&'static str, Means); 8] {
     TABLES.map(|(name, measure)| (name, measure(all)))
 }
 
@@ -288,6 +290,7 @@ pub fn assert_agree(one: &Measured, other: &Measured) {
         assert_runs_agree(pair, &name, &rows, fuel, STORE_ROOM);
     }
     fleets::assert_fleets_agree(pair);
+    prices::assert_prices_agree(pair);
     let mut random = Random::new(1);
     for case in 0..AGREED {
         let fuel = random.below(300) as u64;

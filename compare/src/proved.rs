@@ -53,6 +53,7 @@ macro_rules! services_of_fickle {
             }
 
             second::fleet_services!($from);
+            second::price_services!($from);
         }
     };
 }

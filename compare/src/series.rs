@@ -1,9 +1,9 @@
 //! The cases that the gate compares: for each service and program those at its limits, and generated ones by seed.
 
 use crate::cases::{Answer, Case};
-use crate::{check, fleet, programs, run, text, translate};
+use crate::{check, fleet, prices, programs, run, text, translate};
 use second::random::Random;
-use second::vectors::{self, Asked};
+use second::vectors::{self, prices::Asked as Priced, Asked};
 
 /// Cases of one service or program.
 pub struct Series {
@@ -30,6 +30,7 @@ pub fn halves() -> [Vec<Series>; 2] {
     // What the programs' generated texts surely bring about; the pinned ones bring about the rest.
     let often = || result().chain([1, 2, 3, 4, 12, 13].map(Answer::Number));
     let numbers = |all: &[u32]| result().chain(all.iter().copied().map(Answer::Number)).collect::<Vec<_>>();
+    let or_none = |all: &[u32]| numbers(all).into_iter().chain([Answer::None]).collect::<Vec<_>>();
     let series = |name, sparse, fixed, generated, wanted| Series { name, sparse, fixed, generated, wanted };
     let none = Vec::new;
     [
@@ -40,6 +41,10 @@ pub fn halves() -> [Vec<Series>; 2] {
             series("count_run", 1, none, fleet::counting, numbers(&[18])),
             series("count_plain_run", 1, none, fleet::counting_plain, numbers(&[18])),
             series("report_fleet", 1, none, fleet::reporting, numbers(&[1, 13, 17, 18])),
+            series("day_of_date", 1, prices::dates, prices::dating, numbers(&[24])),
+            series("date_of_day", 1, prices::days, prices::numbering, numbers(&[24])),
+            series("price_on_day", 1, none, prices::pricing, or_none(&[1, 23, 24])),
+            series("price_on_date", 1, none, prices::pricing_by_date, or_none(&[1, 23, 24])),
             series("vectors", u64::MAX, of_vectors, |_| Vec::new(), Vec::new()),
             series(
                 "program translate",
@@ -73,6 +78,7 @@ pub fn halves() -> [Vec<Series>; 2] {
             ),
             series("run_rows, every fuel", 100, none, run::every_fuel, Vec::new()),
             series("rank_models", 1, fleet::many_models, fleet::ranking, numbers(&[1, 13, 17])),
+            series("report_prices", 1, prices::months, prices::reporting, numbers(&[1, 13, 23, 24])),
         ],
     ]
 }
@@ -92,10 +98,25 @@ fn of_vectors() -> Vec<Case> {
             "read" => Some(Case::Read { text: vector.text(), rows: vec![9; 240_000] }),
             "running" => Some(Case::RunningProgram { text: vector.text() }),
             "translating" => Some(Case::TranslatingProgram { text: vector.text() }),
-            _ => vector.report().map(|(asked, room)| match asked.clone() {
-                Asked::Fleet(fleet) => Case::Report { fleet, report: vec![9; room] },
-                Asked::Rank(counts) => Case::Rank { counts, report: vec![9; room] },
-            }),
+            _ => {
+                vector.prices().map(of_prices).or(vector.report().map(|(asked, room)| match asked.clone() {
+                    Asked::Fleet(fleet) => Case::Report { fleet, report: vec![9; room] },
+                    Asked::Rank(counts) => Case::Rank { counts, report: vec![9; room] },
+                }))
+            }
         })
         .collect()
+}
+
+/// The case of what is asked of the calendar or of terms.
+fn of_prices(asked: &Priced) -> Case {
+    match asked.clone() {
+        Priced::DayOfDate(date) => Case::DayOfDate(date),
+        Priced::DateOfDay(day) => Case::DateOfDay(day),
+        Priced::PriceOnDay { terms, model, day } => Case::PriceOnDay { terms, model, day },
+        Priced::PriceOnDate { terms, model, date } => Case::PriceOnDate { terms, model, date },
+        Priced::Report { terms, model, month, room } => {
+            Case::PriceReport { terms, model, month, report: vec![9; room] }
+        }
+    }
 }

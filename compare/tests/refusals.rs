@@ -4,8 +4,8 @@ use second::machine::Outcome;
 
 type Answer = Result<(), (u32, u64)>;
 
-/// An example of the page: the refusal's number from its heading, the program or counted lines, and the call with its
-/// answer.
+/// An example of the page: the refusal's number from its heading, the program, counted lines or price terms, and the call
+/// with its answer.
 struct Example {
     number: u32,
     program: Vec<u8>,
@@ -35,7 +35,7 @@ fn rows(program: &[u8]) -> Vec<u32> {
 fn every_number_has_an_example_and_it_holds() {
     let examples = examples();
     let headings: Vec<u32> = examples.iter().map(|example| example.number).collect();
-    assert_eq!(headings, (1..=18).collect::<Vec<u32>>());
+    assert_eq!(headings, (1..=18).chain(23..=24).collect::<Vec<u32>>());
     for example in examples {
         let given = numbers(example.call);
         match example.call.split(' ').next().unwrap() {
@@ -54,6 +54,7 @@ fn every_number_has_an_example_and_it_holds() {
             "run" => stopped(&example, &given),
             "rank:" => ranked(&example, [given[0], given[1]]),
             "run," => counted(&example, &given),
+            "price" => priced(&example, &given),
             other => panic!("{other}"),
         }
     }
@@ -112,4 +113,23 @@ fn counted(example: &Example, given: &[u32]) {
     let proved = fickle::report_fleet(&run, &rows, &store, &mut [0; 99]).map(|_| ()).map_err(pair);
     let second = second::fleet::report_fleet(&run, &rows, &store, &mut [0; 99]).map(|_| ());
     refused(example, [number, line], proved, second.map_err(second_pair));
+}
+
+/// The price of a model on a day or on a date.
+fn priced(example: &Example, given: &[u32]) {
+    let terms = &example.program;
+    let (proved, second, expected) = match *given {
+        [model, day, number, line] => (
+            fickle::price_on_day(terms, model, day).map(|_| ()),
+            second::prices::price_on_day(terms, model, day).map(|_| ()),
+            [number, line],
+        ),
+        [model, year, month, day, number, line] => (
+            fickle::price_on_date(terms, model, year, month, day).map(|_| ()),
+            second::prices::price_on_date(terms, model, year, month, day).map(|_| ()),
+            [number, line],
+        ),
+        _ => panic!("{}", example.call),
+    };
+    refused(example, expected, proved.map_err(pair), second.map_err(second_pair));
 }

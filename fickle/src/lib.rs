@@ -7,19 +7,23 @@
 //! left. A thread that `std::thread::spawn` starts has 2 MiB, which is more.
 
 mod fleets;
+mod price_terms;
 mod refusals;
 mod stack;
 
 pub use fleets::{count_plain_run, count_run, rank_models, report_fleet, Labels};
+pub use price_terms::{date_of_day, day_of_date, price_on_date, price_on_day, report_prices, Date, Price};
 pub use refusals::{explanation, explanations, words, Explanation};
 pub use stack::{
     run_rows_stack_bound, CHECK_ROWS_STACK_NEEDED, COUNT_PLAIN_RUN_STACK_NEEDED, COUNT_RUN_STACK_NEEDED,
-    RANK_MODELS_STACK_NEEDED, READ_ROWS_STACK_NEEDED, REPORT_FLEET_STACK_NEEDED, RUN_ROWS_STACK_NEEDED,
-    STACK_NEEDED, TRANSLATE_ROWS_STACK_NEEDED, WRITE_TEXT_STACK_NEEDED,
+    DATE_OF_DAY_STACK_NEEDED, DAY_OF_DATE_STACK_NEEDED, PRICE_ON_DATE_STACK_NEEDED,
+    PRICE_ON_DAY_STACK_NEEDED, RANK_MODELS_STACK_NEEDED, READ_ROWS_STACK_NEEDED, REPORT_FLEET_STACK_NEEDED,
+    REPORT_PRICES_STACK_NEEDED, RUN_ROWS_STACK_NEEDED, STACK_NEEDED, TRANSLATE_ROWS_STACK_NEEDED,
+    WRITE_TEXT_STACK_NEEDED,
 };
 
 /// Why a call was refused: the number of documents 01 and 02, and the line, 0 where none is to blame. In a fleet the line
-/// is the place of a run or of a counted line, from 1.
+/// is the place of a run or of a counted line, from 1; of price terms it is the line of their text.
 #[derive(Clone, Copy, Debug, PartialEq, Eq)]
 pub struct Refusal {
     pub number: u32,
@@ -133,6 +137,35 @@ mod c {
             report_length: usize,
             told: *mut u64,
         ) -> u32;
+        pub fn fickle_day_of_date(year: u32, month: u32, day: u32) -> u64;
+        pub fn fickle_date_of_day(day: u32, year: *mut u32, month: *mut u32, of_month: *mut u32) -> u64;
+        pub fn fickle_price_on_day(
+            terms: *const u8,
+            terms_length: usize,
+            model: u32,
+            day: u32,
+            cents: *mut u32,
+            line: *mut u32,
+        ) -> u64;
+        pub fn fickle_price_on_date(
+            terms: *const u8,
+            terms_length: usize,
+            model: u32,
+            year: u32,
+            month: u32,
+            day: u32,
+            cents: *mut u32,
+            line: *mut u32,
+        ) -> u64;
+        pub fn fickle_report_prices(
+            terms: *const u8,
+            terms_length: usize,
+            model: u32,
+            year: u32,
+            month: u32,
+            report: *mut u8,
+            report_length: usize,
+        ) -> u64;
     }
 }
 

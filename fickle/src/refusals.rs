@@ -7,13 +7,13 @@ const PAGE: &str = include_str!("../../docs/REFUSALS.md");
 /// A section of the page.
 #[derive(Clone, Copy, Debug, PartialEq, Eq)]
 pub struct Explanation {
-    /// The number, from 1 to 18.
+    /// The number: 1 to 18, 23 or 24.
     pub number: u32,
     /// Its word, as `effect`.
     pub word: &'static str,
     /// What it means, in a sentence.
     pub sentence: &'static str,
-    /// A smallest program or, for 17, counted lines; a line a record, where spaces stand for tabs.
+    /// A smallest program, for 17 counted lines, for 23 and 24 price terms; a line a record, where spaces stand for tabs.
     pub example: &'static str,
     /// What is called on that example, and its answer.
     pub call: &'static str,
@@ -49,7 +49,7 @@ mod tests {
     #[test]
     fn every_number_has_a_section() {
         let numbers: Vec<u32> = explanations().map(|found| found.number).collect();
-        assert_eq!(numbers, (1..=18).collect::<Vec<u32>>());
+        assert_eq!(numbers, (1..=18).chain(23..=24).collect::<Vec<u32>>());
         for found in explanations() {
             let parts = [found.word, found.sentence, found.example, found.call];
             assert!(parts.iter().all(|part| !part.trim().is_empty()), "{found:?}");

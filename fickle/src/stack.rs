@@ -20,6 +20,16 @@ pub const COUNT_PLAIN_RUN_STACK_NEEDED: usize = 1_048_576;
 pub const RANK_MODELS_STACK_NEEDED: usize = 1_048_576;
 /// Bytes of native stack that `report_fleet` takes at most.
 pub const REPORT_FLEET_STACK_NEEDED: usize = 1_048_576;
+/// Bytes of native stack that `day_of_date` takes at most.
+pub const DAY_OF_DATE_STACK_NEEDED: usize = 65_536;
+/// Bytes of native stack that `date_of_day` takes at most.
+pub const DATE_OF_DAY_STACK_NEEDED: usize = 65_536;
+/// Bytes of native stack that `price_on_day` takes at most.
+pub const PRICE_ON_DAY_STACK_NEEDED: usize = 65_536;
+/// Bytes of native stack that `price_on_date` takes at most.
+pub const PRICE_ON_DATE_STACK_NEEDED: usize = 65_536;
+/// Bytes of native stack that `report_prices` takes at most.
+pub const REPORT_PRICES_STACK_NEEDED: usize = 65_536;
 /// Bytes of native stack that every other function takes at most, `run_rows` included. A thread that
 /// `std::thread::spawn` starts has 2 MiB.
 pub const STACK_NEEDED: usize = 1_310_720;
@@ -202,6 +212,15 @@ mod tests {
         assert_eq!(in_header("FICKLE_CHECK_ROWS_STACK_NEEDED"), CHECK_ROWS_STACK_NEEDED);
         assert_eq!(in_header("FICKLE_TRANSLATE_ROWS_STACK_NEEDED"), TRANSLATE_ROWS_STACK_NEEDED);
         assert_eq!(in_header("FICKLE_RUN_ROWS_STACK_NEEDED"), RUN_ROWS_STACK_NEEDED);
+        assert_eq!(in_header("FICKLE_COUNT_RUN_STACK_NEEDED"), COUNT_RUN_STACK_NEEDED);
+        assert_eq!(in_header("FICKLE_COUNT_PLAIN_RUN_STACK_NEEDED"), COUNT_PLAIN_RUN_STACK_NEEDED);
+        assert_eq!(in_header("FICKLE_RANK_MODELS_STACK_NEEDED"), RANK_MODELS_STACK_NEEDED);
+        assert_eq!(in_header("FICKLE_REPORT_FLEET_STACK_NEEDED"), REPORT_FLEET_STACK_NEEDED);
+        assert_eq!(in_header("FICKLE_DAY_OF_DATE_STACK_NEEDED"), DAY_OF_DATE_STACK_NEEDED);
+        assert_eq!(in_header("FICKLE_DATE_OF_DAY_STACK_NEEDED"), DATE_OF_DAY_STACK_NEEDED);
+        assert_eq!(in_header("FICKLE_PRICE_ON_DAY_STACK_NEEDED"), PRICE_ON_DAY_STACK_NEEDED);
+        assert_eq!(in_header("FICKLE_PRICE_ON_DATE_STACK_NEEDED"), PRICE_ON_DATE_STACK_NEEDED);
+        assert_eq!(in_header("FICKLE_REPORT_PRICES_STACK_NEEDED"), REPORT_PRICES_STACK_NEEDED);
     }
 
     #[test]

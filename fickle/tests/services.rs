@@ -1,8 +1,9 @@
 //! The proved services through the safe wrapper: one case of each answer.
 
 use fickle::{
-    check_rows, count_plain_run, count_run, rank_models, read_rows, report_fleet, run_rows, translate_rows,
-    write_text, Labels, Outcome, Refusal, Run, Value,
+    check_rows, count_plain_run, count_run, date_of_day, day_of_date, price_on_date, price_on_day,
+    rank_models, read_rows, report_fleet, report_prices, run_rows, translate_rows, write_text, Date, Labels,
+    Outcome, Price, Refusal, Run, Value,
 };
 
 #[test]
@@ -129,4 +130,41 @@ fn reports_of_counted_lines_and_fleets() {
     assert_eq!(report_fleet(&run, &rows, &store, &mut []), refused(13, 0));
     assert_eq!(report_fleet(&run, &rows, &store, &mut report), Ok(9));
     assert_eq!(report[..9], *b"9\t1\t1\t50\n");
+}
+
+#[test]
+fn days_and_dates() {
+    let refused = Refusal { number: 24, line: 0 };
+    for (day, year, month, of_month) in [(0, 2000, 1, 1), (59, 2000, 2, 29), (65_535, 2179, 6, 6)] {
+        assert_eq!(day_of_date(year, month, of_month), Ok(day));
+        assert_eq!(date_of_day(day), Ok(Date { year, month, day: of_month }));
+    }
+    for (year, month, day) in [(2100, 2, 29), (2179, 6, 7), (1999, 12, 31), (2000, 0, 1), (u32::MAX, 1, 1)] {
+        assert_eq!(day_of_date(year, month, day), Err(refused));
+    }
+    assert_eq!(date_of_day(65_536), Err(refused));
+    assert_eq!(date_of_day(u32::MAX), Err(refused));
+}
+
+#[test]
+fn prices_and_their_reports() {
+    let refused = |number, line| Refusal { number, line };
+    let terms = b"7\t0\t30\t150\t1\n7\t10\t12\t0\t2\n8\t0\t30\t9\t3\n";
+    assert_eq!(price_on_day(terms, 7, 30), Ok(Some(Price { cents: 150, line: 1 })));
+    assert_eq!(price_on_day(terms, 7, 11), Ok(Some(Price { cents: 0, line: 2 })));
+    assert_eq!(price_on_day(terms, 7, 31), Ok(None));
+    assert_eq!(price_on_day(terms, u32::MAX, 0), Ok(None));
+    assert_eq!(price_on_day(b"", 7, 0), Ok(None));
+    assert_eq!(price_on_day(terms, 7, 65_536), Err(refused(24, 0)));
+    assert_eq!(price_on_date(terms, 8, 2000, 1, 31), Ok(Some(Price { cents: 9, line: 3 })));
+    assert_eq!(price_on_date(terms, 8, 2000, 2, 30), Err(refused(24, 0)));
+    assert_eq!(price_on_day(&terms[..terms.len() - 1], 7, 65_536), Err(refused(1, 3)));
+    assert_eq!(price_on_day(b"7\t0\t0\t1\t1\n8\t0\t0\t1\t1\n", 7, 65_536), Err(refused(23, 2)));
+    let mut report = [7; 32];
+    assert_eq!(report_prices(terms, 7, 2179, 6, &mut report), Err(refused(24, 0)));
+    assert_eq!(report_prices(terms, 7, 2000, 1, &mut report[..25]), Err(refused(13, 0)));
+    assert_eq!(report, [7; 32]);
+    assert_eq!(report_prices(terms, 7, 2000, 1, &mut report), Ok(26));
+    assert_eq!(report[..27], *b"0\t9\t150\n10\t12\t0\n13\t30\t150\n\x07");
+    assert_eq!(report_prices(terms, 9, 2000, 1, &mut []), Ok(0));
 }

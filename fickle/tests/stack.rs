@@ -5,15 +5,19 @@ mod deep;
 
 use deep::{deep, deep_beside_calls, on_stack, FUEL, LETTERS, MOST_NESTING, MOST_ROWS};
 use fickle::{
-    check_rows, count_plain_run, count_run, rank_models, read_rows, report_fleet, run_rows_on_this_stack,
-    run_rows_stack_bound, translate_rows, write_text, Labels, Outcome, CHECK_ROWS_STACK_NEEDED,
-    COUNT_PLAIN_RUN_STACK_NEEDED, COUNT_RUN_STACK_NEEDED, RANK_MODELS_STACK_NEEDED, READ_ROWS_STACK_NEEDED,
-    REPORT_FLEET_STACK_NEEDED, RUN_ROWS_STACK_NEEDED, TRANSLATE_ROWS_STACK_NEEDED, WRITE_TEXT_STACK_NEEDED,
+    check_rows, count_plain_run, count_run, date_of_day, day_of_date, price_on_date, price_on_day,
+    rank_models, read_rows, report_fleet, report_prices, run_rows_on_this_stack, run_rows_stack_bound,
+    translate_rows, write_text, Labels, Outcome, CHECK_ROWS_STACK_NEEDED, COUNT_PLAIN_RUN_STACK_NEEDED,
+    COUNT_RUN_STACK_NEEDED, DATE_OF_DAY_STACK_NEEDED, DAY_OF_DATE_STACK_NEEDED, PRICE_ON_DATE_STACK_NEEDED,
+    PRICE_ON_DAY_STACK_NEEDED, RANK_MODELS_STACK_NEEDED, READ_ROWS_STACK_NEEDED, REPORT_FLEET_STACK_NEEDED,
+    REPORT_PRICES_STACK_NEEDED, RUN_ROWS_STACK_NEEDED, TRANSLATE_ROWS_STACK_NEEDED, WRITE_TEXT_STACK_NEEDED,
 };
 
 const TRANSLATED_NESTING: usize = 24;
 /// More models than a service holds at once.
 const MANY_MODELS: u32 = 40_000;
+/// As many terms as there are signing numbers.
+const MOST_TERMS: u32 = 65_536;
 /// What a thread takes of its stack beside a run: its own data, and the frames that lead to the run.
 const THREAD: usize = 16_384;
 
@@ -131,6 +135,39 @@ fn many_models() -> [Case; 2] {
     ]
 }
 
+/// The most terms, and one more, in which each day of May 2179 has a price of its own; and the days and dates of the range.
+fn prices() -> [Case; 5] {
+    let line = |place: u32| {
+        let (day, cents) = (65_499 + place % 31, 65_535 - place % 31);
+        format!("7\t{day}\t{day}\t{cents}\t{}\n", place % MOST_TERMS)
+    };
+    let most: String = (0..MOST_TERMS).map(line).collect();
+    let over = most.clone() + &line(MOST_TERMS);
+    let texts = [most.into_bytes(), over.into_bytes()];
+    let (by_date, report) = (texts.clone(), texts.clone());
+    let price = move || {
+        let [found, over] = texts.map(|terms| price_on_day(&terms, 7, 65_499));
+        found.is_ok_and(|price| price.is_some()) && over.is_err_and(|no| no.number == 23)
+    };
+    let price_by_date = move || {
+        let [found, over] = by_date.map(|terms| price_on_date(&terms, 7, 2179, 5, 31));
+        found.is_ok_and(|price| price.is_some()) && over.is_err_and(|no| no.number == 23)
+    };
+    let report = move || {
+        let [written, over] = report.map(|terms| report_prices(&terms, 7, 2179, 5, &mut [0; 558]));
+        written == Ok(558) && over.is_err_and(|no| no.number == 23)
+    };
+    let day = || day_of_date(2179, 6, 6) == Ok(65_535) && day_of_date(2179, 6, 7).is_err();
+    let date = || date_of_day(65_535).is_ok() && date_of_day(65_536).is_err();
+    [
+        case(PRICE_ON_DAY_STACK_NEEDED, "price_on_day".to_string(), price),
+        case(PRICE_ON_DATE_STACK_NEEDED, "price_on_date".to_string(), price_by_date),
+        case(REPORT_PRICES_STACK_NEEDED, "report_prices".to_string(), report),
+        case(DAY_OF_DATE_STACK_NEEDED, "day_of_date".to_string(), day),
+        case(DATE_OF_DAY_STACK_NEEDED, "date_of_day".to_string(), date),
+    ]
+}
+
 /// A run on its bound.
 fn bounded(name: String, rows: Vec<u32>, fuel: u64) -> Case {
     let stack = run_rows_stack_bound(&rows, fuel) + THREAD;
@@ -161,7 +198,7 @@ fn runs(letter: char) -> Vec<Case> {
 #[test]
 fn every_call_keeps_to_its_stack() {
     let mut cases: Vec<Case> = texts().into_iter().chain(LETTERS.into_iter().flat_map(services)).collect();
-    cases.extend(LETTERS.into_iter().flat_map(fleets).chain(many_models()));
+    cases.extend(LETTERS.into_iter().flat_map(fleets).chain(many_models()).chain(prices()));
     cases.extend(LETTERS.into_iter().flat_map(runs));
     cases.sort_by_key(|case| case.stack);
     for Case { stack, name, call } in cases {

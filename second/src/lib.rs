@@ -1,5 +1,5 @@
 //! The second implementation of the label rules in Fickle II, written from documents 01 and 02: a tree, a typing pass and
-//! an evaluator over it, and a report over fleets. It is what the proved services are compared with.
+//! an evaluator over it, a report over fleets, and prices by date. It is what the proved services are compared with.
 
 pub mod agree;
 pub mod check;
@@ -8,6 +8,7 @@ pub mod generate;
 pub mod headings;
 pub mod machine;
 pub mod plain;
+pub mod prices;
 pub mod programs;
 pub mod random;
 pub mod rows;

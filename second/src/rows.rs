@@ -133,6 +133,8 @@ pub mod number {
     pub const FULL: u32 = 16;
     pub const SUM: u32 = 17;
     pub const CLASS: u32 = 18;
+    pub const TERM: u32 = 23;
+    pub const DATE: u32 = 24;
 }
 
 /// A refusal: its number and the line, or the place of a run, counted from 1; line 0 where no line is at fault.

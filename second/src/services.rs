@@ -42,6 +42,12 @@ pub struct Fleet {
     pub stores: Vec<u32>,
 }
 
+/// A date: year, month and day of the month.
+pub type Date = (u32, u32, u32);
+
+/// A price in cents, and the line of the term that it is from.
+pub type Price = (u32, u32);
+
 /// What a program leaves behind: its output, what it wrote to standard error, and its exit status, if it exited.
 #[derive(Clone, Debug, PartialEq, Eq)]
 pub struct Printed {
@@ -68,6 +74,18 @@ pub trait Services: Sync {
     fn count_plain_run(&self, ended: &Ended) -> Result<Counted, Refused>;
     fn rank_models(&self, counts: &[u32], report: &mut [u8]) -> Result<usize, Refused>;
     fn report_fleet(&self, fleet: &Fleet, report: &mut [u8]) -> Result<usize, Refused>;
+    fn day_of_date(&self, date: Date) -> Result<u32, Refused>;
+    fn date_of_day(&self, day: u32) -> Result<Date, Refused>;
+    fn price_on_day(&self, terms: &[u8], model: u32, day: u32) -> Result<Option<Price>, Refused>;
+    fn price_on_date(&self, terms: &[u8], model: u32, date: Date) -> Result<Option<Price>, Refused>;
+    /// The report of a month, which is a year and a month.
+    fn report_prices(
+        &self,
+        terms: &[u8],
+        model: u32,
+        month: (u32, u32),
+        report: &mut [u8],
+    ) -> Result<usize, Refused>;
 }
 
 /// The two programs of document 01, beside the services.
@@ -124,6 +142,7 @@ macro_rules! services_of {
             }
 
             $crate::fleet_services!($($implementation)+::fleet);
+            $crate::price_services!($($implementation)+::prices);
         }
 
         impl $crate::services::Programs for $name {
@@ -175,6 +194,55 @@ macro_rules! fleet_services {
         ) -> Result<usize, $crate::services::Refused> {
             let reported = $($from)+::report_fleet(&fleet.runs, &fleet.programs, &fleet.stores, report);
             reported.map_err(|no| (no.number, no.line))
+        }
+    };
+}
+
+/// The services on dates and prices, by a module that has them as functions.
+#[macro_export]
+macro_rules! price_services {
+    ($($from:tt)+) => {
+        fn day_of_date(
+            &self,
+            (year, month, day): $crate::services::Date,
+        ) -> Result<u32, $crate::services::Refused> {
+            $($from)+::day_of_date(year, month, day).map_err(|no| (no.number, no.line))
+        }
+
+        fn date_of_day(&self, day: u32) -> Result<$crate::services::Date, $crate::services::Refused> {
+            let date = $($from)+::date_of_day(day);
+            date.map(|date| (date.year, date.month, date.day)).map_err(|no| (no.number, no.line))
+        }
+
+        fn price_on_day(
+            &self,
+            terms: &[u8],
+            model: u32,
+            day: u32,
+        ) -> Result<Option<$crate::services::Price>, $crate::services::Refused> {
+            let price = $($from)+::price_on_day(terms, model, day).map_err(|no| (no.number, no.line))?;
+            Ok(price.map(|price| (price.cents, price.line)))
+        }
+
+        fn price_on_date(
+            &self,
+            terms: &[u8],
+            model: u32,
+            (year, month, day): $crate::services::Date,
+        ) -> Result<Option<$crate::services::Price>, $crate::services::Refused> {
+            let price = $($from)+::price_on_date(terms, model, year, month, day);
+            Ok(price.map_err(|no| (no.number, no.line))?.map(|price| (price.cents, price.line)))
+        }
+
+        fn report_prices(
+            &self,
+            terms: &[u8],
+            model: u32,
+            (year, month): (u32, u32),
+            report: &mut [u8],
+        ) -> Result<usize, $crate::services::Refused> {
+            let written = $($from)+::report_prices(terms, model, year, month, report);
+            written.map_err(|no| (no.number, no.line))
         }
     };
 }

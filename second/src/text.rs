@@ -5,8 +5,8 @@ use crate::rows::{
     ROW_WIDTH,
 };
 
-const TAB: u8 = b'\t';
-const LINE_FEED: u8 = b'\n';
+pub const TAB: u8 = b'\t';
+pub const LINE_FEED: u8 = b'\n';
 
 /// Reads a text, one row a line. Answers the count of rows written.
 /// Line by line: 2 for a line past the limit, then 1; after all lines, 13 where the rows do not fit.
@@ -55,7 +55,7 @@ fn read_line(line: &[u8]) -> Option<[u32; ROW_WIDTH]> {
 }
 
 /// The field after a tab, up to the next tab or the end of the line, and what follows it.
-fn next_field(line: &[u8]) -> Option<(&[u8], &[u8])> {
+pub fn next_field(line: &[u8]) -> Option<(&[u8], &[u8])> {
     let (first, rest) = line.split_first()?;
     if *first != TAB {
         return None;
@@ -65,7 +65,7 @@ fn next_field(line: &[u8]) -> Option<(&[u8], &[u8])> {
 }
 
 /// A decimal number of one to five digits, without needless leading zeros, at most 65,535.
-fn read_number(field: &[u8]) -> Option<u32> {
+pub fn read_number(field: &[u8]) -> Option<u32> {
     if field.is_empty() || field.len() > DIGITS_MOST || (field.len() > 1 && field[0] == b'0') {
         return None;
     }

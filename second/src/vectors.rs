@@ -2,6 +2,7 @@
 //! notation is unknown is an error, so that no file is left out.
 
 mod fleets;
+pub mod prices;
 
 use crate::generate::text_of_rows;
 use crate::rows::{CHECKED, OBJECT_WIDTH, ROW_WIDTH};
@@ -11,7 +12,7 @@ use std::collections::BTreeMap;
 use std::path::Path;
 
 /// The requests of document 02 that have landed: a case may hold from one of them on, or until one of them.
-const LANDED: [&str; 1] = ["§1"];
+const LANDED: [&str; 2] = ["§1", "§11"];
 /// What a case says that holds from the request on that makes objects wider.
 const WIDER: &str = "width=35";
 
@@ -30,6 +31,8 @@ pub struct Vector {
     pub why: String,
     /// What a report is asked for, and the length of what is lent for it.
     report: Option<(Asked, usize)>,
+    /// What is asked of the calendar or of terms.
+    prices: Option<prices::Asked>,
 }
 
 /// The cases of all files that hold today, or what is wrong with a file.
@@ -80,7 +83,7 @@ fn verdict(place: String, parts: &[&str]) -> Option<Option<Vector>> {
     let [expected, why, records] = *parts else { return None };
     let expected = expected.replace(' ', " line ");
     let (service, records, why) = ("check".to_string(), records.to_string(), why.to_string());
-    Some(Some(Vector { place, service, records, expected, why, report: None }))
+    Some(Some(Vector { place, service, records, expected, why, report: None, prices: None }))
 }
 
 /// A line of the cases of requests: none where it holds only later or no longer.
@@ -88,7 +91,7 @@ fn request(place: String, parts: &[&str]) -> Option<Option<Vector>> {
     let [_, records, service, from, until, expected, why] = *parts else { return None };
     let holds = (from == "-" || LANDED.contains(&from)) && !LANDED.contains(&until);
     let [service, records, expected, why] = [service, records, expected, why].map(str::to_string);
-    Some(holds.then_some(Vector { place, service, records, expected, why, report: None }))
+    Some(holds.then_some(Vector { place, service, records, expected, why, report: None, prices: None }))
 }
 
 /// A line of the cases of services: none where its request has not landed, and for the line of column names.
@@ -97,10 +100,13 @@ fn service(place: String, parts: &[&str], programs: &BTreeMap<String, String>) -
     if !LANDED.contains(&request) || inputs.starts_with(WIDER) {
         return Some(None);
     }
-    let report = Some(fleets::asked(service, inputs, programs)?);
+    let (report, prices) = (fleets::asked(service, inputs, programs), prices::asked(service, inputs));
+    if report.is_none() && prices.is_none() {
+        return None;
+    }
     let place = format!("{place} ({id})");
     let [service, records, expected, why] = [service, inputs, expected, why].map(str::to_string);
-    Some(Some(Vector { place, service, records, expected, why, report }))
+    Some(Some(Vector { place, service, records, expected, why, report, prices }))
 }
 
 impl Vector {
@@ -142,8 +148,16 @@ impl Vector {
         self.report.as_ref().map(|(asked, room)| (asked, *room))
     }
 
+    /// What is asked of the calendar or of terms; none where the case is of something else.
+    pub fn prices(&self) -> Option<&prices::Asked> {
+        self.prices.as_ref()
+    }
+
     /// The answer of an implementation, in the words of the files.
     pub fn answer(&self, services: &dyn Programs) -> String {
+        if let Some(asked) = self.prices() {
+            return prices::answer(services, asked);
+        }
         if let Some((asked, room)) = self.report() {
             return fleets::answer(services, asked, room);
         }

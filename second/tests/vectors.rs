@@ -1,4 +1,4 @@
-//! The cases of `vectors/`: open points, programs that pin a rule down, and fleets.
+//! The cases of `vectors/`: open points, programs that pin a rule down, fleets, dates and prices.
 
 use second::services::Second;
 use second::vectors;
@@ -10,5 +10,5 @@ fn vectors_hold() {
         assert_eq!(vector.answer(&Second), vector.expected, "{}: {}", vector.place, vector.why);
     }
     println!("{} cases", vectors.len());
-    assert!(vectors.len() >= 158);
+    assert!(vectors.len() >= 228);
 }

@@ -1,12 +1,12 @@
-//! Runs the commands of README.md and docs/FLEETS.md, from the project's root, and compares what they print with what the
-//! pages show. A command stands after `$ ` in a block marked `console`; the lines up to the next one are its output, standard error
+//! Runs the commands of README.md, docs/FLEETS.md and docs/PRICES.md, from the project's root, and compares what they print
+//! with what the pages show. A command stands after `$ ` in a block marked `console`; the lines up to the next one are its output, standard error
 //! included, where a line `...` stands for any lines. `.ci/run`, which runs this, is left out.
 
 use std::path::Path;
 use std::process::Command;
 
 /// The pages, in the order in which their commands are run: later ones use what earlier ones make.
-const PAGES: [&str; 2] = ["README.md", "docs/FLEETS.md"];
+const PAGES: [&str; 3] = ["README.md", "docs/FLEETS.md", "docs/PRICES.md"];
 /// The command that is left out.
 const GATE: &str = ".ci/run";
 /// A line that stands for any lines.

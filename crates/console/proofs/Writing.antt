@@ -11,7 +11,7 @@ use lib.ListN.{length, set, length-append}
 use lib.Seq.{sets}
 use Rattle.language.proofs.Filling.{sets-then}
 use Rattle.language.specs.Decimals.{digits}
-use Rattle.text.proofs.Decimals.{length-low, length-high}
+use Rattle.fields.proofs.Decimals.{length-low, length-high}
 use Rattle.language.specs.Printed.{number-text, refusal-text, counts-text}
 
 -- ten digits are enough for a number of 32 bits

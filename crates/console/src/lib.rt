@@ -35,7 +35,7 @@ fn put_numbered(out: &mut [u8], at: usize, letter: u8, n: u32) -> usize
         × (now (out .exit) ≡ sets (now (out .entry)) at (letter ∷ number-text n)) ⌝ }
 {
     out[at] = letter;
-    text::write_number(out, at + 1, n)
+    fields::write_number(out, at + 1, n)
 }
 
 // Writes the line of a refusal.
@@ -45,7 +45,7 @@ fn put_refusal(out: &mut [u8], at: usize, number: u32, line: u32) -> usize
         × (now (out .exit) ≡ sets (now (out .entry)) at (refusal-text number line)) ⌝ }
 {
     let then = put_numbered(out, at, 33, number);
-    let end = text::write_number(out, then, line);
+    let end = fields::write_number(out, then, line);
     out[end] = 10;
     end + 1
 }
@@ -87,9 +87,9 @@ fn put_counts(out: &mut [u8], at: usize, steps: u32, objects: u32, changes: u32)
     ensures { λ r. ⌜ (r ≡ at + length (counts-text steps objects changes)) × (r ≤ at + 34)
         × (now (out .exit) ≡ sets (now (out .entry)) at (counts-text steps objects changes)) ⌝ }
 {
-    let first = text::write_number(out, at, steps);
-    let second = text::write_number(out, first, objects);
-    let end = text::write_number(out, second, changes);
+    let first = fields::write_number(out, at, steps);
+    let second = fields::write_number(out, first, objects);
+    let end = fields::write_number(out, second, changes);
     out[end] = 10;
     end + 1
 }
@@ -242,7 +242,7 @@ fn hand_over(aside: &[u8], n: usize, out: &mut [u8]) -> Filled
     if out.len() < n {
         return Filled::Refused(13, 0);
     }
-    text::copy_bytes(aside, out, n);
+    fields::copy_bytes(aside, out, n);
     Filled::Done(n)
 }
 

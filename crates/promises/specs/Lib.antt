@@ -32,3 +32,14 @@ pub mod CountDemands
 pub mod CountsServe
 pub mod CountsExact
 pub mod CountsThrough
+pub mod PriceWords
+pub mod TermLines
+pub mod TermsRead
+pub mod PricesHighest
+pub mod NewTerms
+pub mod PriceRuns
+pub mod MonthDays
+pub mod PriceReports
+pub mod CalendarAnswers
+pub mod PriceDemands
+pub mod CalendarDemands

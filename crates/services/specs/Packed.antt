@@ -1,4 +1,5 @@
 -- Answers as the one number that crosses to C: a count or a value as it is, a refusal as its number times 2^32 plus its line.
+use mathlib.Core.Path.{_≡_}
 use Prim.Native.Nat.{ℕ, _+_, _*_}
 use mathlib.Core.Bool.{cond}
 use Rattle.language.specs.declared.Filled.{Filled}
@@ -20,6 +21,12 @@ use Rattle.fleet.specs.declared.Count.{Count}
 use Rattle.fleet.specs.declared.Count.the-variants.{Labels, Refused as NotCounted}
 use Rattle.fleet.specs.declared.Reported.{Reported}
 use Rattle.fleet.specs.declared.Reported.the-variants.{Done as Written, Refused as NotWritten}
+use Rattle.prices.specs.declared.DayAnswer.{DayAnswer}
+use Rattle.prices.specs.declared.DayAnswer.the-variants.{Day, Refused as NoDay}
+use Rattle.prices.specs.declared.DateAnswer.{DateAnswer}
+use Rattle.prices.specs.declared.DateAnswer.the-variants.{Date, Refused as NoDate}
+use Rattle.prices.specs.declared.PriceAnswer.{PriceAnswer}
+use Rattle.prices.specs.declared.PriceAnswer.the-variants.{Cents, Unpriced, Refused as NotPriced}
 
 abbrev pub refusal : ℕ → ℕ → ℕ
 refusal number line = number * 4294967296 + line
@@ -117,3 +124,47 @@ report-number (NotWritten number line) = number
 abbrev pub report-told : Reported → ℕ
 report-told (Written bytes) = bytes
 report-told (NotWritten number line) = line
+
+-- ---- the calendar: a day's number, or a refusal; 0 with the three numbers of a date stored, or a refusal
+
+abbrev pub packed-day : DayAnswer → ℕ
+packed-day (Day n) = n
+packed-day (NoDay number line) = refusal number line
+
+abbrev pub packed-date : DateAnswer → ℕ
+packed-date (Date year month day) = 0
+packed-date (NoDate number line) = refusal number line
+
+abbrev pub year-after : DateAnswer → ℕ → ℕ
+year-after (Date year month day) before = year
+year-after (NoDate number line) before = before
+
+abbrev pub month-after : DateAnswer → ℕ → ℕ
+month-after (Date year month day) before = month
+month-after (NoDate number line) before = before
+
+abbrev pub day-after : DateAnswer → ℕ → ℕ
+day-after (Date year month day) before = day
+day-after (NoDate number line) before = before
+
+-- ---- a price: 1 with its cents and its term's line stored, 0 where there is none, or a refusal
+
+abbrev pub packed-price : PriceAnswer → ℕ
+packed-price (Cents cents line) = 1
+packed-price Unpriced = 0
+packed-price (NotPriced number line) = refusal number line
+
+abbrev pub cents-after : PriceAnswer → ℕ → ℕ
+cents-after (Cents cents line) before = cents
+cents-after Unpriced before = before
+cents-after (NotPriced number line) before = before
+
+abbrev pub line-after : PriceAnswer → ℕ → ℕ
+line-after (Cents cents line) before = line
+line-after Unpriced before = before
+line-after (NotPriced number line) before = before
+
+-- The answer's number, with what cents and line were before and are afterwards.
+abbrev pub TellsPrice : PriceAnswer → ℕ → ℕ → ℕ → ℕ → ℕ → Type 0
+TellsPrice a number cents₀ cents line₀ line =
+    (number ≡ packed-price a) × ((cents ≡ cents-after a cents₀) × (line ≡ line-after a line₀))

@@ -5,61 +5,24 @@ use mathlib.Core.List.{List, [], _∷_, _++_, append-assoc}
 use Prim.Native.Nat.{ℕ, zero, suc, _+_, _-_, _≤_, _<_}
 use native.Mathlib.Numerals.{add-one}
 use native.Mathlib.Omega.{arith}
-use borrow.Author.Tests.{ne-eqb, eq-eqb, leb-true}
+use borrow.Author.Tests.{leb-true}
 use lib.Dec.{eqb, leb}
-use lib.ListN.{length, getD, take, drop, set, length-drop, length-append, drop-of-length-le}
-use lib.Seq.{drop-cons, drop-drop, drop-length, take-suc, getD-drop, append-snoc, sets}
+use lib.ListN.{length, getD, drop, set, length-drop, length-append, drop-of-length-le}
+use lib.Seq.{drop-cons, drop-drop, sets}
 use Rattle.language.proofs.Filling.{sets-then}
 use Rattle.language.specs.Rows.{numbers-after, row, is-row}
 use Rattle.language.proofs.Rows.{are-numbers, is-row-by}
-use Rattle.language.specs.Decimals.{decimal-of, digits}
-use Rattle.language.specs.TextLines.{field, is-end, taken, number-of, closed, then-line, numbered, line-of}
+use Rattle.language.specs.Decimals.{digits}
+use Rattle.language.specs.TextLines.{number-of, closed, then-line, numbered, line-of}
 use Rattle.language.specs.TextLines.{line-text}
-use Rattle.text.specs.Places.{taken-at, line-at}
-use Rattle.text.proofs.Decimals.{length-most}
-use Rattle.language.specs.declared.Decimal.the-variants.{Is, Bad}
+use Rattle.text.specs.Places.{line-at}
+use Rattle.fields.specs.Places.{number-at}
+use Rattle.fields.proofs.Decimals.{length-most}
+use Rattle.fields.proofs.Fields.{taken-inv, none-inv}
 use Rattle.language.specs.declared.Taken.{Taken}
 use Rattle.language.specs.declared.Taken.the-variants.{Number, NoNumber}
 use Rattle.language.specs.declared.Line.the-variants.{Row, Malformed}
 use Rattle.language.proofs.Booleans.{and-inv}
-
--- the part from at to e goes on, or ends
-pub field-end : (s : List ℕ) (e : ℕ) → e < length s → is-end (getD s e 0) ≡ true → field (drop e s) ≡ []
-unfolding field
-field-end s e h t = ap field (drop-cons s e 0 h)
-    ∙ ap (λ (b : Bool). cond b [] (getD s e 0 ∷ field (drop (suc e) s))) t
-
-pub field-all : (s : List ℕ) (e : ℕ) → e ≡ length s → field (drop e s) ≡ []
-unfolding field
-field-all s e h = ap (λ (k : ℕ). field (drop k s)) h ∙ ap field (drop-length s)
-
-pub field-more : (s : List ℕ) (at e : ℕ) → at ≤ e → e < length s → is-end (getD s e 0) ≡ false
-    → field (drop at s) ≡ take (e - at) (drop at s) ++ field (drop e s)
-    → field (drop at s) ≡ take (e + 1 - at) (drop at s) ++ field (drop (e + 1) s)
-unfolding field
-field-more s at e l h t q =
-    let d : List ℕ = drop at s in
-    let k : e + 1 - at ≡ suc (e - at) = omega arith in
-    let here : at + (e - at) ≡ e = omega arith in
-    let byte : getD d (e - at) 0 ≡ getD s e 0 = getD-drop at s (e - at) 0 ∙ ap (λ (x : ℕ). getD s x 0) here in
-    let more : take (e + 1 - at) d ≡ take (e - at) d ++ (getD s e 0 ∷ []) = ap (λ (x : ℕ). take x d) k
-    ∙ (take-suc d (e - at) 0 (omega (arith, length-drop at s))
-    ∙ ap (λ (x : ℕ). take (e - at) d ++ (x ∷ [])) byte) in
-    let step : field (drop e s) ≡ getD s e 0 ∷ field (drop (e + 1) s) = ap field (drop-cons s e 0 h)
-    ∙ (ap (λ (b : Bool). cond b [] (getD s e 0 ∷ field (drop (suc e) s))) t
-    ∙ ap (λ (x : ℕ). getD s e 0 ∷ field (drop x s)) (sym (add-one e))) in
-    q ∙ (ap (λ (x : List ℕ). take (e - at) d ++ x) step
-    ∙ (sym (append-snoc (take (e - at) d) (getD s e 0) (field (drop (e + 1) s)))
-    ∙ ap (λ (x : List ℕ). x ++ field (drop (e + 1) s)) (sym more)))
-
-pub is-tab : (b : ℕ) → b ≡ 9 → is-end b ≡ true
-is-tab b e = ap is-end e
-
-pub is-feed : (b : ℕ) → b ≡ 10 → is-end b ≡ true
-is-feed b e = ap is-end e
-
-pub is-other : (b : ℕ) → (b ≡ 9 → ⊥) → (b ≡ 10 → ⊥) → is-end b ≡ false
-is-other b f g = rw (ne-eqb b 9 f, ne-eqb b 10 g)
 
 -- what stands at a place: past the end nothing, else a byte and the rest
 pub closed-past : (code a b n at : ℕ) (s : List ℕ) → length s ≤ at → closed code a b n (drop at s) ≡ Malformed
@@ -70,29 +33,6 @@ pub closed-at : (code a b n at : ℕ) (s : List ℕ) → at < length s
     → closed code a b n (drop at s) ≡ cond (eqb (getD s at 0) 10) (Row code a b (n + 1)) Malformed
 unfolding closed
 closed-at code a b n at s h = rw (drop-cons s at 0 h)
-
-module _ (at : ℕ) (s : List ℕ) where
-  pub number-past : length s ≤ at → NoNumber ≡ taken-at at (number-of (drop at s))
-  unfolding number-of
-  number-past h = rw (drop-of-length-le s h)
-
-  module _ (h : at < length s) where
-    pub number-no-tab : (getD s at 0 ≡ 9 → ⊥) → NoNumber ≡ taken-at at (number-of (drop at s))
-    unfolding number-of
-    number-no-tab n = rw (drop-cons s at 0 h, ne-eqb (getD s at 0) 9 n)
-
-    module _ (t : getD s at 0 ≡ 9) (f : List ℕ) (e : f ≡ field (drop (at + 1) s)) where
-      number-here : number-of (drop at s) ≡ taken (1 + length f) (decimal-of f)
-      unfolding number-of
-      number-here = rw (drop-cons s at 0 h, eq-eqb (getD s at 0) 9 t, ← add-one at, ← e)
-
-      pub number-bad : decimal-of f ≡ Bad → NoNumber ≡ taken-at at (number-of (drop at s))
-      number-bad d = rw (number-here, d)
-
-      pub number-good : (v : ℕ) → decimal-of f ≡ Is v
-          → Number v (at + 1 + length f) ≡ taken-at at (number-of (drop at s))
-      number-good v d = let q : at + 1 + length f ≡ at + (1 + length f) = omega arith in
-          rw (number-here, d, q)
 
 -- a line that is closed further on in a text
 closed-shift : (code a b at n : ℕ) (s : List ℕ)
@@ -105,16 +45,6 @@ closed-shift code a b at n (x ∷ s) = go (eqb x 10)
         (Row code a b (at + n + 1)) Malformed
     go true = let e : at + (n + 1) ≡ at + n + 1 = omega arith in ap (Row code a b) e
     go false = refl
-
--- a number found at a place of a text, counted from there
-taken-inv : {A : Type 0} (p a q : ℕ) (t : Taken) → taken-at p t ≡ Number a q
-    → ((n : ℕ) → t ≡ Number a n → q ≡ p + n → A) → A
-taken-inv p a q (Number v n) e k = k n (let h : v ≡ a = cc in ap (λ (x : ℕ). Number x n) h) (cc)
-taken-inv p a q NoNumber e k = let z : _≡_ {A = ℕ} 0 1 = cc in absurd (omega arith)
-
-none-inv : (p : ℕ) (t : Taken) → taken-at p t ≡ NoNumber → t ≡ NoNumber
-none-inv p (Number v n) e = let z : _≡_ {A = ℕ} 0 1 = cc in absurd (omega arith)
-none-inv p NoNumber e = refl
 
 -- the line at a place: past the end none, and by how many numbers its letter takes
 pub line-past : (at : ℕ) (s : List ℕ) → length s ≤ at → Malformed ≡ line-at at (line-of (drop at s))
@@ -135,7 +65,7 @@ module _ (code at : ℕ) (s : List ℕ) (h : at < length s) (is : code ≡ getD 
   unfolding numbered
   line-unknown l = let e : count ≡ suc (suc (suc (count - 3))) = omega arith in rw (line-here, e)
 
-  pub line-no-first : (count ≡ 0 → ⊥) → taken-at (at + 1) (number-of (drop (at + 1) s)) ≡ NoNumber
+  pub line-no-first : (count ≡ 0 → ⊥) → number-at (at + 1) s ≡ NoNumber
       → Malformed ≡ line-at at (line-of (drop at s))
   unfolding numbered
   line-no-first z e = sym (ap (line-at at) (line-here ∙ go count z))
@@ -146,7 +76,7 @@ module _ (code at : ℕ) (s : List ℕ) (h : at < length s) (is : code ≡ getD 
       go (suc (suc zero)) n = rw (none-inv (at + 1) (number-of (drop (at + 1) s)) e)
       go (suc (suc (suc k))) n = refl
 
-  module _ (a p : ℕ) (first : taken-at (at + 1) (number-of (drop (at + 1) s)) ≡ Number a p) where
+  module _ (a p : ℕ) (first : number-at (at + 1) s ≡ Number a p) where
     pub line-one : count ≡ 1 → closed code a 0 p (drop p s) ≡ line-at at (line-of (drop at s))
     unfolding numbered
     line-one z = taken-inv (at + 1) a p (number-of (drop (at + 1) s)) first λ n e q.
@@ -161,13 +91,13 @@ module _ (code at : ℕ) (s : List ℕ) (h : at < length s) (is : code ≡ getD 
           ← w,
         ))
 
-    pub line-no-second : count ≡ 2 → taken-at p (number-of (drop p s)) ≡ NoNumber
+    pub line-no-second : count ≡ 2 → number-at p s ≡ NoNumber
         → Malformed ≡ line-at at (line-of (drop at s))
     unfolding numbered
     line-no-second z f = taken-inv (at + 1) a p (number-of (drop (at + 1) s)) first λ n e q.
         rw (line-here, z, e, drop-drop n (at + 1) s, ← q, none-inv p (number-of (drop p s)) f)
 
-    pub line-two : (b r : ℕ) → count ≡ 2 → taken-at p (number-of (drop p s)) ≡ Number b r
+    pub line-two : (b r : ℕ) → count ≡ 2 → number-at p s ≡ Number b r
         → closed code a b r (drop r s) ≡ line-at at (line-of (drop at s))
     unfolding numbered
     line-two b r z second = taken-inv (at + 1) a p (number-of (drop (at + 1) s)) first λ n e q.

@@ -13,17 +13,15 @@ use Rattle.language.specs.Results.{Checked, accept, refuse}
 use Rattle.language.specs.Filling.{before}
 use Rattle.language.specs.Rows.{numbers-after, row, is-row}
 use Rattle.language.proofs.Rows.{are-numbers, is-row-by}
-use Rattle.language.specs.Decimals.{decimal-of, digits}
-use Rattle.language.specs.TextLines.{field, is-end, taken, number-of, closed, then-line, numbered, line-of}
+use Rattle.language.specs.Decimals.{digits}
+use Rattle.language.specs.TextLines.{number-of, closed, then-line, numbered, line-of}
 use Rattle.language.specs.TextLines.{line-text}
 use Rattle.language.specs.Texts.{with-line, read-lines, read-text, write-lines, write-rows}
-use Rattle.language.specs.declared.Decimal.{Decimal}
-use Rattle.language.specs.declared.Decimal.the-variants.{Is, Bad}
 use Rattle.language.specs.declared.Taken.{Taken}
 use Rattle.language.specs.declared.Taken.the-variants.{Number, NoNumber}
 use Rattle.language.specs.declared.Line.{Line}
 use Rattle.language.specs.declared.Line.the-variants.{Row, Malformed}
-use Rattle.text.proofs.Digits.{decimal-back, decimal-forth, field-digits, decimal-range}
+use Rattle.fields.proofs.Digits.{number-back, number-forth}
 use Rattle.text.proofs.Lines.{text-none, text-one, text-two}
 use Rattle.text.proofs.Parsing.{read-whole-rows}
 use Rattle.text.proofs.Formatting.{rows-are-whole}
@@ -49,36 +47,6 @@ module _ {A : Type 0} where
       go : (t : Bool) → eqb x 10 ≡ t → cond t (Row code a b (used + 1)) Malformed ≡ Row code′ a′ b′ n → A
       go true q e = k (cc) (cc) (cc) (cc) (ap (λ (y : ℕ). y ∷ []) (eqb-true x 10 q))
       go false q e = no-row e
-
--- a field is what a text begins with
-field-first : (s : List ℕ) → take (length (field s)) s ≡ field s
-unfolding field
-field-first [] = refl
-field-first (b ∷ s) = go (is-end b) (field-first s)
-  where
-    go : (t : Bool) → take (length (field s)) s ≡ field s
-        → take (length (cond t [] (b ∷ field s))) (b ∷ s) ≡ cond t [] (b ∷ field s)
-    go true ih = refl
-    go false ih = ap (λ (r : List ℕ). b ∷ r) ih
-
--- a number that was read is written as it stood
-number-back : (s : List ℕ) (v n : ℕ) → number-of s ≡ Number v n → (take n s ≡ 9 ∷ digits v) × (v ≤ 65535)
-unfolding number-of
-number-back [] v n e = let z : _≡_ {A = ℕ} 0 1 = cc in absurd (omega arith)
-number-back (b ∷ s) v n e = go (eqb b 9) refl (decimal-of (field s)) refl e
-  where
-    go : (t : Bool) → eqb b 9 ≡ t → (d : Decimal) → decimal-of (field s) ≡ d
-        → cond t (taken (1 + length (field s)) d) NoNumber ≡ Number v n
-        → (take n (b ∷ s) ≡ 9 ∷ digits v) × (v ≤ 65535)
-    go true q (Is w) p e =
-        let x : w ≡ v = cc in
-        let y : 1 + length (field s) ≡ n = cc in
-        let z : n ≡ suc (length (field s)) = omega (arith, y) in (
-          rw (z, eqb-true b 9 q, field-first s, ← x, decimal-back (field s) w p),
-          rw (← x) (decimal-range (field s) w p),
-        )
-    go true q Bad p e = let z : _≡_ {A = ℕ} 0 1 = cc in absurd (omega arith)
-    go false q d p e = let z : _≡_ {A = ℕ} 0 1 = cc in absurd (omega arith)
 
 -- what a line that was read says: its row is one, and its text is the line of that row
 abbrev Written : List ℕ → ℕ → ℕ → ℕ → ℕ → Type 0
@@ -176,13 +144,6 @@ write-read text rows e =
     rw (eq-eqb (length rows % 4) 0 (read-whole-rows text rows e)) (lines-back 60000 1 text rows e)
 
 -- ---- a line that was written reads back
-
-number-forth : (v u : ℕ) (t : List ℕ) → v ≤ 65535 → is-end u ≡ true
-    → number-of ((9 ∷ digits v) ++ (u ∷ t)) ≡ Number v (length (9 ∷ digits v))
-unfolding number-of
-number-forth v u t h e =
-    rw (field-digits v u t e, decimal-forth v h)
-    (let z : 1 + length (digits v) ≡ suc (length (digits v)) = omega arith in ap (Number v) z)
 
 closed-forth : (code a b used : ℕ) (t : List ℕ) → closed code a b used (10 ∷ t) ≡ Row code a b (used + 1)
 unfolding closed

@@ -1,5 +1,4 @@
 // Lines of text and rows: the reader and the writer (document 01, "Lines and rows").
-use language::Decimal;
 use language::Filled;
 use language::Line;
 use language::Taken;
@@ -12,96 +11,9 @@ ghost use lib.ListN.{length, take, drop};
 ghost use lib.Seq.{sets};
 ghost use Rattle.language.specs.Rows.{numbers-after};
 ghost use Rattle.language.specs.Filling.{answer, buffer, tally, is-made, made-numbers};
-ghost use Rattle.language.specs.Decimals.{digit-of, scan, decimal-of, digits};
-ghost use Rattle.language.specs.TextLines.{field, number-of, closed, line-of, line-text, tab};
+ghost use Rattle.language.specs.TextLines.{closed, line-of, line-text};
 ghost use Rattle.language.specs.Texts.{read-text, write-rows};
-ghost use Rattle.text.specs.Places.{taken-at, line-at};
-
-// The number of a digit's byte.
-fn read_digit(b: u8) -> Decimal
-    ensures { λ r. ⌜ r ≡ digit-of b ⌝ }
-{
-    match b {
-        48..=57 => Decimal::Is((b - 48) as u32),
-        _ => Decimal::Bad,
-    }
-}
-
-// The number of a run of digits.
-fn read_digits(s: &[u8]) -> Decimal
-    ensures { λ r. ⌜ r ≡ scan (Decimal.Is 0) (now (s .entry)) ⌝ }
-{
-    let mut v: u32 = 0;
-    let mut i = 0;
-    while i < s.len() {
-        let d = read_digit(s[i]);
-        let Decimal::Is(k) = d else {
-            return Decimal::Bad;
-        };
-        let w = v * 10 + k;
-        if 65535 < w {
-            return Decimal::Bad;
-        }
-        v = w;
-        i += 1;
-    }
-    Decimal::Is(v)
-}
-
-// The number that a field holds.
-fn read_decimal(s: &[u8]) -> Decimal
-    ensures { λ r. ⌜ r ≡ decimal-of (now (s .entry)) ⌝ }
-{
-    if s.len() == 0 {
-        return Decimal::Bad;
-    }
-    if 5 < s.len() {
-        return Decimal::Bad;
-    }
-    if s[0] == 48 {
-        if 1 < s.len() {
-            return Decimal::Bad;
-        }
-    }
-    read_digits(s)
-}
-
-// The field at a place: the bytes before the next tab or line feed.
-fn find_field(s: &[u8], at: usize) -> &[u8]
-    requires { ⌜ at ≤ length (now s) ⌝ }
-    ensures { λ r. ⌜ now r ≡ field (drop at (now (s .entry))) ⌝ }
-{
-    let mut e = at;
-    while e < s.len() {
-        let b = s[e];
-        if b == 9 {
-            return &s[at..e];
-        }
-        if b == 10 {
-            return &s[at..e];
-        }
-        e += 1;
-    }
-    &s[at..]
-}
-
-// A tab at a place, and the number after it.
-fn read_number(s: &[u8], at: usize) -> Taken
-    ensures { λ r. ⌜ r ≡ taken-at at (number-of (drop at (now (s .entry)))) ⌝ }
-{
-    if s.len() <= at {
-        return Taken::NoNumber;
-    }
-    if s[at] != 9 {
-        return Taken::NoNumber;
-    }
-    let f = find_field(s, at + 1);
-    let d = read_decimal(f);
-    let Decimal::Is(v) = d else {
-        return Taken::NoNumber;
-    };
-    Taken::Number(v, at + 1 + f.len())
-}
+ghost use Rattle.text.specs.Places.{line-at};
 
 // The line feed that closes a line.
 fn close_line(s: &[u8], at: usize, code: u32, a: u32, b: u32) -> Line
@@ -131,14 +43,14 @@ fn read_line(s: &[u8], at: usize) -> Line
     if 2 < count {
         return Line::Malformed;
     }
-    let first = read_number(s, at + 1);
+    let first = fields::read_number(s, at + 1);
     let Taken::Number(a, then) = first else {
         return Line::Malformed;
     };
     if count == 1 {
         return close_line(s, then, code, a, 0);
     }
-    let second = read_number(s, then);
+    let second = fields::read_number(s, then);
     let Taken::Number(b, end) = second else {
         return Line::Malformed;
     };
@@ -227,31 +139,6 @@ pub fn read_rows(text: &[u8], rows: &mut [u32]) -> Filled
     read_through(text, &mut held, rows)
 }
 
-// Writes a number's digits at a place, and answers the place after them.
-fn write_decimal(text: &mut [u8], at: usize, n: u32) -> usize
-    requires { ⌜ at + length (digits n) ≤ length (now text) ⌝ }
-    ensures { λ r. ⌜ (r ≡ at + length (digits n)) ×
-        (now (text .exit) ≡ sets (now (text .entry)) at (digits n)) ⌝ }
-{
-    if n < 10 {
-        text[at] = (48 + n) as u8;
-        return at + 1;
-    }
-    let last = write_decimal(text, at, n / 10);
-    text[last] = (48 + n % 10) as u8;
-    last + 1
-}
-
-// Writes a tab and a number at a place, and answers the place after them.
-pub fn write_number(text: &mut [u8], at: usize, n: u32) -> usize
-    requires { ⌜ at + 1 + length (digits n) ≤ length (now text) ⌝ }
-    ensures { λ r. ⌜ (r ≡ at + 1 + length (digits n)) ×
-        (now (text .exit) ≡ sets (now (text .entry)) at (tab ∷ digits n)) ⌝ }
-{
-    text[at] = 9;
-    write_decimal(text, at + 1, n)
-}
-
 // Writes the line of a row at a place, and answers the place after it.
 fn write_line(text: &mut [u8], at: usize, code: u32, a: u32, b: u32) -> usize
     requires { ⌜ (numbers-after code < 3) × (at + length (line-text code a b) ≤ length (now text)) ⌝ }
@@ -264,12 +151,12 @@ fn write_line(text: &mut [u8], at: usize, code: u32, a: u32, b: u32) -> usize
         text[at + 1] = 10;
         return at + 2;
     }
-    let then = write_number(text, at + 1, a);
+    let then = fields::write_number(text, at + 1, a);
     if count == 1 {
         text[then] = 10;
         return then + 1;
     }
-    let end = write_number(text, then, b);
+    let end = fields::write_number(text, then, b);
     text[end] = 10;
     end + 1
 }
@@ -305,18 +192,6 @@ fn format_rows(rows: &[u32], held: &mut [u8]) -> Filled
     Filled::Done(at)
 }
 
-// Copies the first bytes of one buffer to another.
-pub fn copy_bytes(from: &[u8], to: &mut [u8], count: usize)
-    requires { ⌜ (count ≤ length (now from)) × (count ≤ length (now to)) ⌝ }
-    ensures { λ _. ⌜ now (to .exit) ≡ take count (now (from .entry)) ++ drop count (now (to .entry)) ⌝ }
-{
-    let mut i = 0;
-    while i < count {
-        to[i] = from[i];
-        i += 1;
-    }
-}
-
 // Writes rows as text: formatted aside first, and copied where it fits, so that a refusal changes nothing.
 fn write_through(rows: &[u32], held: &mut [u8], text: &mut [u8]) -> Filled
     requires { ⌜ (14 * length (now rows) ≤ 4 * length (now held)) ⊎ (840000 ≤ length (now held)) ⌝ }
@@ -330,7 +205,7 @@ fn write_through(rows: &[u32], held: &mut [u8], text: &mut [u8]) -> Filled
     if text.len() < n {
         return Filled::Refused(13, 0);
     }
-    copy_bytes(held, text, n);
+    fields::copy_bytes(held, text, n);
     Filled::Done(n)
 }
 

@@ -2,12 +2,12 @@
 //! room for the report.
 
 use crate::rows::OBJECT_WIDTH;
-use crate::services::{Fleet, Services};
+use crate::services::{Fleet, Refused, Services};
 use std::collections::BTreeMap;
 
 /// What every number stands for that a case does not name, and every byte of a lent report.
 const JUNK: u32 = 9;
-const LENT: u8 = b'?';
+pub const LENT: u8 = b'?';
 
 /// The programs that a file's opening gives names to: `@M = C 1 0, S, B 0 1, T`, several on a line, each with remarks in
 /// brackets after it.
@@ -27,9 +27,7 @@ pub enum Asked {
 
 /// What a report is asked for, and the length of what is lent for it; none where the notation is another one.
 pub fn asked(service: &str, inputs: &str, programs: &BTreeMap<String, String>) -> Option<(Asked, usize)> {
-    let inputs: Option<BTreeMap<&str, &str>> =
-        inputs.split(" | ").map(|input| input.split_once('=')).collect();
-    let inputs = inputs?;
+    let inputs = named_inputs(inputs)?;
     let numbers = |name| numbers(inputs.get(name)?);
     let asked = match service {
         "fleet" => Asked::Fleet(Fleet {
@@ -43,6 +41,11 @@ pub fn asked(service: &str, inputs: &str, programs: &BTreeMap<String, String>) -
     Some((asked, inputs.get("room")?.parse().ok()?))
 }
 
+/// The inputs of a case by their names.
+pub fn named_inputs(inputs: &str) -> Option<BTreeMap<&str, &str>> {
+    inputs.split(" | ").map(|input| input.split_once('=')).collect()
+}
+
 /// What an implementation answers, in the words of the files.
 pub fn answer(services: &dyn Services, asked: &Asked, room: usize) -> String {
     let mut report = vec![LENT; room];
@@ -50,7 +53,12 @@ pub fn answer(services: &dyn Services, asked: &Asked, room: usize) -> String {
         Asked::Fleet(fleet) => services.report_fleet(fleet, &mut report),
         Asked::Rank(counts) => services.rank_models(counts, &mut report),
     };
-    let written = answer.unwrap_or(0).min(room);
+    shown(answer, &report)
+}
+
+/// The answer of a service that writes a report into what it was lent, and what it wrote.
+pub fn shown(answer: Result<usize, Refused>, report: &[u8]) -> String {
+    let written = answer.unwrap_or(0).min(report.len());
     if report[written..].iter().any(|byte| *byte != LENT) {
         return "changed what it had not to write".to_string();
     }
@@ -69,13 +77,14 @@ fn numbers(text: &str) -> Option<Vec<u32>> {
     text.split(' ').filter(|word| !["/", "-"].contains(word)).map(|word| word.parse().ok()).collect()
 }
 
-/// A text with `{x}*n` written out as x, n times.
-fn repeated(text: &str) -> Option<String> {
+/// A text with `{x}*n` written out as x, n times; `#` within x is the index from 0.
+pub fn repeated(text: &str) -> Option<String> {
     let Some((before, rest)) = text.split_once('{') else { return Some(text.to_string()) };
     let (group, rest) = rest.split_once("}*")?;
     let digits = rest.bytes().take_while(u8::is_ascii_digit).count();
-    let times = rest[..digits].parse().ok()?;
-    Some(format!("{before}{}{}", group.repeat(times), repeated(&rest[digits..])?))
+    let times: usize = rest[..digits].parse().ok()?;
+    let written = (0..times).map(|index| group.replace('#', &index.to_string())).collect::<String>();
+    Some(format!("{before}{written}{}", repeated(&rest[digits..])?))
 }
 
 /// The rows of programs with `+` between them.

@@ -1,0 +1,3 @@
+pub mod Counting
+pub mod Months
+pub mod Answers

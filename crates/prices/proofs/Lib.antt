@@ -1,0 +1,7 @@
+pub mod Numbering
+pub mod DateOrder
+pub mod Calendar
+pub mod Months
+pub mod Terms
+pub mod Rulings
+pub mod Runs

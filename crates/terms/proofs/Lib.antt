@@ -1,0 +1,4 @@
+pub mod Lines
+pub mod Entering
+pub mod Marking
+pub mod Scanning
