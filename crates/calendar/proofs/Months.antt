@@ -130,22 +130,22 @@ until-february (suc (suc zero)) h l = refl
 until-february (suc (suc (suc m))) h l = absurd (omega arith)
 
 -- and from March on.
-dealt-out : (k : ℕ) → k ≤ 9 → (367 * (3 + k) - 362) / 12 - 2 ≡ month-start common-year (2 + k)
+shared-out : (k : ℕ) → k ≤ 9 → (367 * (3 + k) - 362) / 12 - 2 ≡ month-start common-year (2 + k)
 unfolding month-start days-in is-leap
-dealt-out zero h = refl
-dealt-out (suc zero) h = refl
-dealt-out (suc (suc zero)) h = refl
-dealt-out (suc (suc (suc zero))) h = refl
-dealt-out (suc (suc (suc (suc zero)))) h = refl
-dealt-out (suc (suc (suc (suc (suc zero))))) h = refl
-dealt-out (suc (suc (suc (suc (suc (suc zero)))))) h = refl
-dealt-out (suc (suc (suc (suc (suc (suc (suc zero))))))) h = refl
-dealt-out (suc (suc (suc (suc (suc (suc (suc (suc zero)))))))) h = refl
-dealt-out (suc (suc (suc (suc (suc (suc (suc (suc (suc zero))))))))) h = refl
-dealt-out (suc (suc (suc (suc (suc (suc (suc (suc (suc (suc k)))))))))) h = absurd (omega arith)
+shared-out zero h = refl
+shared-out (suc zero) h = refl
+shared-out (suc (suc zero)) h = refl
+shared-out (suc (suc (suc zero))) h = refl
+shared-out (suc (suc (suc (suc zero)))) h = refl
+shared-out (suc (suc (suc (suc (suc zero))))) h = refl
+shared-out (suc (suc (suc (suc (suc (suc zero)))))) h = refl
+shared-out (suc (suc (suc (suc (suc (suc (suc zero))))))) h = refl
+shared-out (suc (suc (suc (suc (suc (suc (suc (suc zero)))))))) h = refl
+shared-out (suc (suc (suc (suc (suc (suc (suc (suc (suc zero))))))))) h = refl
+shared-out (suc (suc (suc (suc (suc (suc (suc (suc (suc (suc k)))))))))) h = absurd (omega arith)
 
 pub since-march : (m : ℕ) → 3 ≤ m → m ≤ months → (367 * m - 362) / 12 - 2 ≡ month-start common-year (m - 1)
 since-march m h l =
     let e : m ≡ 3 + (m - 3) = omega arith in
     let f : m - 1 ≡ 2 + (m - 3) = omega arith in
-    rw f (ap (λ (k : ℕ). (367 * k - 362) / 12 - 2) e ∙ dealt-out (m - 3) (omega arith))
+    rw f (ap (λ (k : ℕ). (367 * k - 362) / 12 - 2) e ∙ shared-out (m - 3) (omega arith))

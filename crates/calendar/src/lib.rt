@@ -7,6 +7,18 @@ ghost use Rattle.calendar.specs.Found.{most-years, common-year, year-lik
 use prices::DateAnswer;
 use prices::DayAnswer;
 
+// The refusal of a day or date that is not in the calendar or range, the last day of the range, the years of its first and
+// last day, and the months of a year.
+const DATE_REFUSAL: u32 = 24;
+
+const LAST_DAY: u32 = 65535;
+
+const FIRST_YEAR: u32 = 2000;
+
+const LAST_YEAR: u32 = 2179;
+
+const MONTHS: u32 = 12;
+
 // Whether a year is a leap year.
 fn is_leap(year: u32) -> bool
     ensures { λ r. ⌜ r ≡ is-leap year ⌝ }
@@ -50,8 +62,8 @@ fn year_start(y: u32) -> u32
     days
 }
 
-// The number of days before a month in a year that is not a leap year. From the first of January to the first of December
-// the months are as long as if 367 days were dealt out to twelve months evenly, but for February, which is 2 days short.
+// The number of days before a month in a year that is not a leap year. If February had 30 days, the months would begin
+// where 367 days shared out evenly among twelve months put them; it has 2 fewer, so later months begin 2 days earlier.
 fn days_before(month: u32) -> u32
     requires { ⌜ (1 ≤ month) × (month ≤ months) ⌝ }
     ensures { λ r. ⌜ r ≡ month-start common-year (month - 1) ⌝ }
@@ -83,30 +95,30 @@ pub fn day_of_date(year: u32, month: u32, day: u32) -> DayAnswer
     ensures { λ r. ⌜ r ≡ day-answer year month day ⌝ }
 {
     if month == 0 {
-        return DayAnswer::Refused(24, 0);
+        return DayAnswer::Refused(DATE_REFUSAL, 0);
     }
-    if 12 < month {
-        return DayAnswer::Refused(24, 0);
+    if MONTHS < month {
+        return DayAnswer::Refused(DATE_REFUSAL, 0);
     }
     if day == 0 {
-        return DayAnswer::Refused(24, 0);
+        return DayAnswer::Refused(DATE_REFUSAL, 0);
     }
     let most = days_in(year, month);
     if most < day {
-        return DayAnswer::Refused(24, 0);
+        return DayAnswer::Refused(DATE_REFUSAL, 0);
     }
-    if year < 2000 {
-        return DayAnswer::Refused(24, 0);
+    if year < FIRST_YEAR {
+        return DayAnswer::Refused(DATE_REFUSAL, 0);
     }
-    if 2179 < year {
-        return DayAnswer::Refused(24, 0);
+    if LAST_YEAR < year {
+        return DayAnswer::Refused(DATE_REFUSAL, 0);
     }
-    let years = year_start(year - 2000);
+    let years = year_start(year - FIRST_YEAR);
     let leap = is_leap(year);
     let months = month_start(leap, month);
     let n = years + months + (day - 1);
-    if 65535 < n {
-        return DayAnswer::Refused(24, 0);
+    if LAST_DAY < n {
+        return DayAnswer::Refused(DATE_REFUSAL, 0);
     }
     DayAnswer::Day(n)
 }
@@ -130,7 +142,7 @@ fn find_month(leap: bool, rest: u32) -> u32
     ensures { λ r. ⌜ MonthOf (year-like leap) rest r ⌝ }
 {
     let mut m = rest / 32 + 1;
-    while m < 12 {
+    while m < MONTHS {
         let next = month_start(leap, m + 1);
         if rest < next {
             return m;
@@ -144,13 +156,13 @@ fn find_month(leap: bool, rest: u32) -> u32
 pub fn date_of_day(day: u32) -> DateAnswer
     ensures { λ r. ⌜ r ≡ date-answer day ⌝ }
 {
-    if 65535 < day {
-        return DateAnswer::Refused(24, 0);
+    if LAST_DAY < day {
+        return DateAnswer::Refused(DATE_REFUSAL, 0);
     }
     let y = find_year(day);
     let years = year_start(y);
     let rest = day - years;
-    let year = 2000 + y;
+    let year = FIRST_YEAR + y;
     let leap = is_leap(year);
     let month = find_month(leap, rest);
     let months = month_start(leap, month);

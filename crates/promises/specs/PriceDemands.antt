@@ -20,14 +20,14 @@ use Rattle.prices.specs.declared.PriceAnswer.the-variants.{Cents, Unpriced, Ref
 use Rattle.prices.proofs.Terms.{terms-few}
 use Rattle.promises.specs.Listed.{ListedFilling}
 use Rattle.promises.specs.PriceWords.{largest-day, term-text, TermsOf, BeginsWithTerm, TermsRefusal}
-use Rattle.promises.specs.PriceWords.{HoldsOn}
+use Rattle.promises.specs.PriceWords.{HoldsOn, DatePriceRefusal}
 use Rattle.promises.specs.PriceWords.{PricedBy, NoneHolds, PriceRefusal, SignedNext, RunsOf}
 use Rattle.promises.specs.PriceWords.{ReportOfMonth}
 use Rattle.promises.specs.PriceWords.{ReportRefusal, RunWritable, BeginsWithRun, ReadsAs}
 use Rattle.promises.specs.TermLines.{malformed-lines}
 use Rattle.promises.specs.TermsRead.{terms-accepted, terms-refused, refused-early}
 use Rattle.promises.specs.PricesHighest.{priced-by, unpriced, price-refused, price-of-date}
-use Rattle.promises.specs.PricesHighest.{price-of-no-date}
+use Rattle.promises.specs.PricesHighest.{price-of-no-date, date-price-refused}
 use Rattle.promises.specs.PricesHighest.{cents-priced, cents-unpriced}
 use Rattle.promises.specs.NewTerms.{one-term-more, new-price, new-cents, same-price, same-cents}
 use Rattle.promises.specs.NewTerms.{same-report}
@@ -91,6 +91,13 @@ pub price-without-day : (text : List ℕ) (model year month day : ℕ)
     → ((n : ℕ) → n ≤ largest-day → date-of n ≢ date year month day)
     → price-on-date text model year month day ≡ price-on-day text model (suc largest-day)
 price-without-day = price-of-no-date
+
+-- So a price on a date is refused exactly as the text is; else with 24 on no line, exactly if no day from 0 to 65,535
+-- has the date.
+pub date-price-refusals : (text : List ℕ) (model year month day n k : ℕ)
+    → (price-on-date text model year month day ≡ Refused n k)
+    ↔ DatePriceRefusal text (date year month day) n k
+date-price-refusals = date-price-refused
 
 -- ---- One more term
 

@@ -13,7 +13,7 @@ use Rattle.language.specs.TextLines.{tab, line-feed}
 use Rattle.language.specs.WellFormed.{Each}
 use Rattle.language.specs.declared.Taken.the-variants.{Number}
 use Rattle.fields.specs.Places.{number-at}
-use Rattle.prices.specs.Calendar.{date-of}
+use Rattle.prices.specs.Calendar.{Date, date-of}
 use Rattle.prices.specs.Dates.{MonthWithoutDays}
 use Rattle.prices.specs.Terms.{Term, first-number}
 use Rattle.prices.specs.Reports.{Days, PriceRun, cents-on, run-lines}
@@ -120,6 +120,12 @@ pub data PriceRefusal (text : List ℕ) (day : ℕ) : ℕ → ℕ → Type 0 whe
   price-by-text : {n k : ℕ} → TermsRefusal text n k → PriceRefusal text day n k
   no-such-day : (ts : List Term) → TermsOf text ts → largest-day < day
       → PriceRefusal text day bad-date no-line
+
+-- A price on a date is refused as the text is; else with 24 on no line, where no day has the date.
+pub data DatePriceRefusal (text : List ℕ) (d : Date) : ℕ → ℕ → Type 0 where
+  date-price-by-text : {n k : ℕ} → TermsRefusal text n k → DatePriceRefusal text d n k
+  no-such-date : (ts : List Term) → TermsOf text ts → ((n : ℕ) → n ≤ largest-day → date-of n ≢ d)
+      → DatePriceRefusal text d bad-date no-line
 
 -- A term that may be signed next, after these: its numbers are in range, its first day does not follow its last, it is
 -- on the next line, and its signing number is higher than all theirs.

@@ -13,14 +13,15 @@ use Rattle.language.proofs.Booleans.{false≢, and-inv}
 use Rattle.language.specs.Limits.{no-line}
 use Rattle.language.specs.Lists.{nth, Never, inj}
 use Rattle.language.specs.Results.{Checked, accept, refuse, require, bind-checked}
-use Rattle.prices.specs.Calendar.{date, date-refusal, date-of, day-of}
-use Rattle.prices.proofs.Calendar.{date-of-day-of, no-day}
+use Rattle.prices.specs.Calendar.{Date, date, date-refusal, date-of, day-of}
+use Rattle.prices.proofs.Calendar.{date-of-day-of, day-refused, no-day}
 use Rattle.prices.specs.Terms.{Term, terms-of}
 use Rattle.prices.specs.Prices.{holds, higher, ruling, term-on, told-price, price-on-day, price-on-date}
 use Rattle.prices.specs.Reports.{cents-of, cents-on}
 use Rattle.prices.specs.declared.PriceAnswer.the-variants.{Cents, Unpriced, Refused}
 use Rattle.promises.specs.PriceWords.{largest-day, ProperTerms, HoldsOn, HighestTerm, PricedBy}
 use Rattle.promises.specs.PriceWords.{NoneHolds, PriceRefusal, price-by-text, no-such-day}
+use Rattle.promises.specs.PriceWords.{TermsRefusal, DatePriceRefusal, date-price-by-text, no-such-date}
 use Rattle.promises.specs.TermsRead.{terms-accepted, terms-refused}
 
 -- ---- the term that rules
@@ -321,3 +322,46 @@ pub price-of-no-date : (text : List ℕ) (model year month day : ℕ)
     → price-on-date text model year month day ≡ price-on-day text model (suc largest-day)
 unfolding term-on require
 price-of-no-date text model year month day h = rw (no-day (date year month day) h)
+
+-- So a price on a date is refused exactly as listed.
+module _ (text : List ℕ) (model year month day : ℕ) where
+  abbrev asked : Date
+  asked = date year month day
+
+  abbrev Without : Type 0
+  Without = (n : ℕ) → n ≤ largest-day → date-of n ≢ asked
+
+  by-date : (j : ℕ) → (largest-day < j → Without) → {n k : ℕ} → PriceRefusal text j n k
+      → DatePriceRefusal text asked n k
+  by-date j f (price-by-text w) = date-price-by-text w
+  by-date j f (no-such-day ts w h) = no-such-date ts w (f h)
+
+  pub date-price-refused : (n k : ℕ)
+      → (price-on-date text model year month day ≡ Refused n k) ↔ DatePriceRefusal text asked n k
+  date-price-refused n k = (forth (day-of asked) refl, back)
+    where
+      without : (a b : ℕ) → day-of asked ≡ refuse a b → Without
+      without a b e = day-refused asked a b .0 e .none-has
+
+      forth : (r : Checked ℕ) → day-of asked ≡ r → price-on-date text model year month day ≡ Refused n k
+          → DatePriceRefusal text asked n k
+      forth (accept j) e f =
+          by-date j (λ h. absurd (omega (arith, h, date-of-day-of asked j e .0)))
+          (price-refused text model j n k .0 (sym (price-of-date text model year month day j e) ∙ f))
+      forth (refuse a b) e f =
+          let w = without a b e in
+          by-date (suc largest-day) (λ h. w) (price-refused text model (suc largest-day) n k .0
+          (sym (price-of-no-date text model year month day w) ∙ f))
+
+      by-text : {n k : ℕ} → TermsRefusal text n k → (r : Checked ℕ) → day-of asked ≡ r
+          → price-on-date text model year month day ≡ Refused n k
+      by-text {n} {k} w (accept j) e = price-of-date text model year month day j e
+          ∙ price-refused text model j n k .1 (price-by-text w)
+      by-text {n} {k} w (refuse a b) e = price-of-no-date text model year month day (without a b e)
+          ∙ price-refused text model (suc largest-day) n k .1 (price-by-text w)
+
+      back : {n k : ℕ} → DatePriceRefusal text asked n k
+          → price-on-date text model year month day ≡ Refused n k
+      back (date-price-by-text w) = by-text w (day-of asked) refl
+      back {n} {k} (no-such-date ts w h) = price-of-no-date text model year month day h
+          ∙ price-refused text model (suc largest-day) n k .1 (no-such-day ts w (omega arith))
