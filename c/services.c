@@ -10,7 +10,7 @@ enum { TEXT = 256, ROWS = 32, PLAIN = 1000, STORE = 54, FUEL = 10000, MOST_FUEL 
 
 static int failures;
 static uint8_t text[TEXT];
-static uint32_t rows[4 * ROWS], plain[4 * PLAIN], store[STORE], counts[3], labels[2];
+static uint32_t rows[4 * ROWS], plain[4 * PLAIN], store[STORE], value[2], counts[3], labels[2];
 static uint64_t told;
 
 /* Program D of document 01, and one program for each way in which a run can end without a value; tabs are spaces here,
@@ -29,6 +29,15 @@ static void expect(const char *what, uint64_t answer, uint32_t number, uint32_t 
 {
     if (FICKLE_NUMBER(answer) != number || FICKLE_LINE(answer) != second) {
         printf("%s: %u %u, expected %u %u\n", what, FICKLE_NUMBER(answer), FICKLE_LINE(answer), number, second);
+        failures++;
+    }
+}
+
+/* The kind and the content of a run's value. */
+static void expect_value(const char *what, uint32_t kind, uint32_t content)
+{
+    if (value[0] != kind || value[1] != content) {
+        printf("%s: value %u %u, expected %u %u\n", what, value[0], value[1], kind, content);
         failures++;
     }
 }
@@ -58,6 +67,7 @@ static void fill(void)
     memset(text, FILL, sizeof text);
     memset(plain, FILL, sizeof plain);
     memset(store, FILL, sizeof store);
+    memset(value, FILL, sizeof value);
     memset(counts, FILL, sizeof counts);
     memset(labels, FILL, sizeof labels);
 }
@@ -111,7 +121,7 @@ static size_t load(const char *source)
 
 static uint64_t run(const uint32_t *of, size_t length, size_t room, uint64_t fuel)
 {
-    return fickle_run_rows(of, length, store, room, fuel, counts, counts + 1, counts + 2);
+    return fickle_run_rows(of, length, store, room, fuel, value, value + 1, counts, counts + 1, counts + 2);
 }
 
 static void texts(void)
@@ -160,31 +170,55 @@ static void runs(void)
     expect("run_rows, fuel", run(rows, length, STORE, MOST_FUEL + 1), 2, 0);
     expect("run_rows, end", run(rows, length - 4, STORE, FUEL), 3, 15);
     expect_filled("run_rows, refused: store", store, sizeof store);
+    expect_filled("run_rows, refused: value", value, sizeof value);
     expect_filled("run_rows, refused: counts", counts, sizeof counts);
-    expect("run_rows", run(rows, length, STORE, 9), 0, 2);
+    expect("run_rows", run(rows, length, STORE, 9), 0, 0);
+    expect_value("run_rows", FICKLE_BOOL, 1);
     expect_counts("run_rows", 9, 1, 1);
     expect_filled("run_rows, past its object", store + 18, sizeof store - sizeof *store * 18);
     fickle_translate_rows(rows, length, plain, 4 * PLAIN);
-    expect("run_rows, plain", run(plain, 280, STORE, FUEL), 0, 2);
+    memset(value, FILL, sizeof value);
+    expect("run_rows, plain", run(plain, 280, STORE, FUEL), 0, 0);
+    expect_value("run_rows, plain", FICKLE_BOOL, 1);
     expect_counts("run_rows, plain", 52, 3, 0);
+}
+
+/* A run that ends in a value. */
+static void run_to_value(const char *source, uint32_t kind, uint32_t content)
+{
+    size_t length = load(source);
+    expect(source, run(rows, length, STORE, FUEL), 0, 0);
+    expect_value(source, kind, content);
+}
+
+static void values(void)
+{
+    run_to_value("S,B 0 1,N,", FICKLE_NULL, 0);
+    run_to_value("S,B 0 1,L,", FICKLE_BOOL, 0);
+    run_to_value("S,B 0 1,T,", FICKLE_BOOL, 1);
+    run_to_value("S,B 0 1,W 0,", FICKLE_OBJECT, 1);
+    run_to_value("S,B 0 3,W 0,W 0,W 0,", FICKLE_OBJECT, 3);
+}
+
+/* A run that ends without a value, and leaves kind and content as they were. */
+static void run_to_end(const char *what, const char *source, uint64_t fuel, uint32_t number, uint32_t line)
+{
+    size_t length = load(source);
+    expect(what, run(rows, length, STORE, fuel), number, line);
+    expect_filled(what, value, sizeof value);
 }
 
 static void stops_and_exceptions(void)
 {
-    size_t length = load(program);
-    expect("run_rows, spent", run(rows, length, STORE, 8), 14, 0);
+    run_to_end("run_rows, spent", program, 8, FICKLE_SPENT, 0);
     expect_counts("run_rows, spent", 8, 1, 1);
-    length = load(endless);
-    expect("run_rows, deep", run(rows, length, STORE, FUEL), 15, 0);
+    run_to_end("run_rows, deep", endless, FUEL, FICKLE_DEEP, 0);
     expect_counts("run_rows, deep", 195, 1, 0);
-    length = load(four_objects);
-    expect("run_rows, full", run(rows, length, STORE, FUEL), 16, 0);
+    run_to_end("run_rows, full", four_objects, FUEL, FICKLE_FULL, 0);
     expect_counts("run_rows, full", 5, 3, 0);
-    length = load(null_object);
-    expect("run_rows, null object", run(rows, length, STORE, FUEL), FICKLE_EXCEPTION, 1);
+    run_to_end("run_rows, null object", null_object, FUEL, FICKLE_EXCEPTION, FICKLE_NULL_OBJECT);
     expect_counts("run_rows, null object", 3, 0, 0);
-    length = load(wrong_class);
-    expect("run_rows, wrong class", run(rows, length, STORE, FUEL), FICKLE_EXCEPTION, 2);
+    run_to_end("run_rows, wrong class", wrong_class, FUEL, FICKLE_EXCEPTION, FICKLE_WRONG_CLASS);
     expect_counts("run_rows, wrong class", 3, 1, 0);
 }
 
@@ -265,89 +299,17 @@ static void fleets(void)
     expect_report("report_fleet", "8\t1\t0\t50\n9\t1\t1\t5\n");
 }
 
-static void expect_date(const char *what, uint32_t year, uint32_t month, uint32_t day)
-{
-    if (counts[0] != year || counts[1] != month || counts[2] != day) {
-        printf("%s: %u-%u-%u\n", what, counts[0], counts[1], counts[2]);
-        failures++;
-    }
-}
+#include "services_prices.h"
 
-static void dates(void)
+/* A run without a store. */
+static uint64_t run_empty(const uint32_t *of, size_t length)
 {
-    fill();
-    expect("day_of_date, 2100", fickle_day_of_date(2100, 2, 29), 24, 0);
-    expect("day_of_date, past the range", fickle_day_of_date(2179, 6, 7), 24, 0);
-    expect("day_of_date, largest numbers", fickle_day_of_date(UINT32_MAX, UINT32_MAX, UINT32_MAX), 24, 0);
-    expect("day_of_date, first", fickle_day_of_date(2000, 1, 1), 0, 0);
-    expect("day_of_date, last", fickle_day_of_date(2179, 6, 6), 0, 65535);
-    expect("date_of_day, past the range", fickle_date_of_day(65536, counts, counts + 1, counts + 2), 24, 0);
-    expect_filled("date_of_day, refused", counts, sizeof counts);
-    expect("date_of_day", fickle_date_of_day(59, counts, counts + 1, counts + 2), 0, 0);
-    expect_date("date_of_day", 2000, 2, 29);
-}
-
-/* Terms of models 7 and 8; a line that is refused, and one that is malformed. */
-static const char terms[] = "7 0 30 150 1,7 10 12 0 2,8 0 30 9 3,";
-static const char falling[] = "7 0 30 150 1,7 9 8 9 2,";
-static const char signed_twice[] = "7 0 30 150 1,8 0 30 9 1,";
-static const char no_term[] = "7 0 30 150,";
-
-static uint64_t price(size_t length, uint32_t model, uint32_t day)
-{
-    return fickle_price_on_day(text, length, model, day, labels, labels + 1);
-}
-
-static uint64_t price_by_date(size_t length, uint32_t year, uint32_t month, uint32_t day)
-{
-    return fickle_price_on_date(text, length, 7, year, month, day, labels, labels + 1);
-}
-
-static void prices(void)
-{
-    fill();
-    expect("price_on_day, days fall", price(spell(falling), 7, 65536), 23, 2);
-    expect("price_on_day, signed twice", price(spell(signed_twice), 7, 65536), 23, 2);
-    expect("price_on_day, malformed", price(spell(no_term), 7, 65536), 1, 1);
-    size_t length = spell(terms);
-    expect("price_on_day, date", price(length, 7, 65536), 24, 0);
-    expect("price_on_day, none", price(length, 7, 31), 0, 0);
-    expect("price_on_day, no such model", price(length, UINT32_MAX, 0), 0, 0);
-    expect("price_on_date, date", price_by_date(length, 2000, 2, 30), 24, 0);
-    expect("price_on_date, none", price_by_date(length, 2000, 2, 1), 0, 0);
-    expect_filled("price_on_day, no price", labels, sizeof labels);
-    expect("price_on_day", price(length, 7, 30), 0, 1);
-    expect_labels("price_on_day", 150, 1);
-    expect("price_on_date", price_by_date(length, 2000, 1, 11), 0, 1);
-    expect_labels("price_on_date", 0, 2);
-}
-
-static uint64_t report_of(const char *of, uint32_t model, uint32_t month, size_t room)
-{
-    uint8_t lines[TEXT];
-    size_t length = spell(of);
-    memcpy(lines, text, length);
-    memset(text, FILL, sizeof text);
-    return fickle_report_prices(lines, length, model, 2000, month, text, room);
-}
-
-static void price_reports(void)
-{
-    fill();
-    expect("report_prices, days fall", report_of(falling, 7, 13, 0), 23, 2);
-    expect("report_prices, malformed", report_of(no_term, 7, 13, 0), 1, 1);
-    expect("report_prices, month", report_of(terms, 7, 13, 0), 24, 0);
-    expect("report_prices, no room", report_of(terms, 7, 1, 25), 13, 0);
-    expect_filled("report_prices, refused", text, sizeof text);
-    expect("report_prices, none", report_of(terms, 7, 2, 0), 0, 0);
-    expect("report_prices", report_of(terms, 7, 1, 26), 0, 26);
-    expect_report("report_prices", "0\t9\t150\n10\t12\t0\n13\t30\t150\n");
+    return fickle_run_rows(of, length, NULL, 0, FUEL, value, value + 1, counts, counts + 1, counts + 2);
 }
 
 /* The header promises that an empty slice may be NULL. */
 static void empty_slices(void)
 {
-    uint32_t *steps = counts, *objects = counts + 1, *changes = counts + 2;
     size_t length = load(no_object);
     expect("read_rows, NULL", fickle_read_rows(NULL, 0, NULL, 0), 0, 0);
     expect("read_rows, NULL text", fickle_read_rows(NULL, 0, plain, 4), 0, 0);
@@ -360,11 +322,13 @@ static void empty_slices(void)
     expect("translate_rows, NULL rows", fickle_translate_rows(NULL, 0, plain, 4 * PLAIN), 3, 1);
     expect("translate_rows, NULL plain", fickle_translate_rows(rows, length, NULL, 0), 13, 0);
     expect_filled("NULL: plain", plain, sizeof plain);
-    expect("run_rows, NULL", fickle_run_rows(NULL, 0, NULL, 0, FUEL, steps, objects, changes), 3, 1);
-    expect("run_rows, NULL rows", fickle_run_rows(NULL, 0, store, STORE, FUEL, steps, objects, changes), 3, 1);
+    expect("run_rows, NULL", run_empty(NULL, 0), 3, 1);
+    expect("run_rows, NULL rows", run(NULL, 0, STORE, FUEL), 3, 1);
     expect_filled("NULL: store", store, sizeof store);
+    expect_filled("NULL: value", value, sizeof value);
     expect_filled("NULL: counts", counts, sizeof counts);
-    expect("run_rows, NULL store", fickle_run_rows(rows, length, NULL, 0, FUEL, steps, objects, changes), 0, 2);
+    expect("run_rows, NULL store", run_empty(rows, length), 0, 0);
+    expect_value("run_rows, NULL store", FICKLE_BOOL, 1);
     expect("count_run, NULL", fickle_count_run(NULL, 0, NULL, 0, 0, 1, 2, labels, labels + 1), 18, 1);
     expect("count_plain_run, NULL", fickle_count_plain_run(NULL, 0, NULL, 0, 0, 1, 2, labels, labels + 1), 18, 1);
     expect_filled("NULL: labels", labels, sizeof labels);
@@ -376,7 +340,8 @@ static void empty_slices(void)
     expect("report_prices, NULL", fickle_report_prices(NULL, 0, 7, 2000, 1, NULL, 0), 0, 0);
     expect("report_prices, NULL report", fickle_report_prices(text, spell(terms), 7, 2000, 1, NULL, 0), 13, 0);
     length = load(four_objects);
-    expect("run_rows, NULL, full", fickle_run_rows(rows, length, NULL, 0, FUEL, steps, objects, changes), 16, 0);
+    expect("run_rows, NULL, full", run_empty(rows, length), FICKLE_FULL, 0);
+    expect_filled("run_rows, NULL, full", value, sizeof value);
 }
 
 int main(void)
@@ -384,6 +349,7 @@ int main(void)
     texts();
     checks_and_translations();
     runs();
+    values();
     stops_and_exceptions();
     counted_runs();
     rankings();

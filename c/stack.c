@@ -61,8 +61,8 @@ static void *translate(void *unused)
 
 static void *run(void *unused)
 {
-    uint32_t counts[3];
-    answer = fickle_run_rows(rows, length, store, STORE, FUEL, counts, counts + 1, counts + 2);
+    uint32_t value[2], counts[3];
+    answer = fickle_run_rows(rows, length, store, STORE, FUEL, value, value + 1, counts, counts + 1, counts + 2);
     return unused;
 }
 
@@ -225,9 +225,9 @@ static void depths(char letter)
     deepen(letter, TRANSLATED_NESTING, 0);
     measure(&translating, DEEP, 0);
     deepen(letter, MOST_NESTING / 2, MOST_ROWS);
-    size_t half = measure(&checking, DEEP, 0), half_run = measure(&running, DEEP, 15);
+    size_t half = measure(&checking, DEEP, 0), half_run = measure(&running, DEEP, FICKLE_DEEP);
     deepen(letter, MOST_NESTING, MOST_ROWS);
-    size_t check = measure(&checking, DEEP, 0), run = measure(&running, DEEP, 15);
+    size_t check = measure(&checking, DEEP, 0), run = measure(&running, DEEP, FICKLE_DEEP);
     size_t level = (check - half) / (MOST_NESTING / 2), node = (run - half_run) / ((1 + MOST_CALLS) * MOST_NESTING / 2);
     printf("through %c: check %zu, %zu a level; translate %zu; ", letter, check, level, measure(&translating, DEEP, 2));
     printf("run %zu, %zu before its nodes, %zu a node\n", run, run - nodes * node, node);

@@ -15,6 +15,7 @@ statement stays as it is. There are three crates of it, which differ in what is 
 Each crate has the interface of `fickle/`, whose source it uses. The benchmark first asserts that all answers and buffers are those
 of the proved services. Needs target/staticlib/libservices.a (`rt staticlib services`) and cargo. Run from the repository's root.
 """
+import glob
 import os
 import re
 import subprocess
@@ -27,7 +28,7 @@ BENCH = 'twins'
 UNCHECKED, TWIN, GUARDED = 'unchecked', 'twin', 'guarded'
 VARIANTS = [UNCHECKED, TWIN, GUARDED]
 # The modules of fickle/ beside its lib.rs. None may have the name of a Rattle crate.
-MODULES = ['fleets', 'price_terms', 'refusals', 'stack']
+MODULES = ['answers', 'fleets', 'price_terms', 'refusals', 'stack']
 ALLOWED = '#![allow(warnings)]\n'
 CONTRACT = re.compile(r'\b(requires|ensures)(\s+\w+)?\s*\{')
 # What may not be left in the Rust text.
@@ -128,9 +129,16 @@ def without_checks(text):
     return result + text[at:]
 
 
-def rust_of(crate, crates):
-    """Returns the Rust module of a Rattle crate."""
-    text = open(f'crates/{crate}/src/lib.rt').read()
+def sources(crate):
+    """Returns the source files of a Rattle crate, each with the Rust module that it is: its own, and those below it."""
+    files = sorted(glob.glob(f'crates/{crate}/src/*.rt'))
+    names = [os.path.splitext(os.path.basename(file))[0] for file in files]
+    return [(file, crate if name == 'lib' else f'{crate}::{name}') for file, name in zip(files, names)]
+
+
+def rust_of(file, crates):
+    """Returns the Rust text of a source file."""
+    text = open(file).read()
     text = re.sub(r'//.*', '', text)
     text = re.sub(r'^ghost use [^;]*;\n', '', text, flags=re.M)
     text = without_contracts(text)
@@ -139,7 +147,7 @@ def rust_of(crate, crates):
     text = SERVICE.sub(r'#[inline(never)]\npub fn \1(\2) -> \3', text)
     left = LEFT_OVER.search(text)
     if left:
-        fail(f'crates/{crate}/src/lib.rt has {left[0]!r} where no contract is')
+        fail(f'{file} has {left[0]!r} where no contract is')
     return text
 
 
@@ -159,14 +167,15 @@ def c_parameter(name, kind):
 def c_interface():
     """Returns the module of the services under their C names: slices pass as pointer and length, as Rattle passes them."""
     functions = []
-    for name, parameters, result in SERVICE.findall(open(f'crates/{ROOT}/src/lib.rt').read()):
+    services = [(module, *service) for file, module in sources(ROOT) for service in SERVICE.findall(open(file).read())]
+    for module, name, parameters, result in services:
         pairs = [parameter.split(':') for parameter in parameters.split(',') if parameter.strip()]
         crossed = [c_parameter(one.strip(), kind.strip()) for one, kind in pairs]
         taken, given = (', '.join(parts) for parts in zip(*crossed))
         functions.append(f'#[inline(never)]\npub unsafe extern "C" fn {name}({taken}) -> {result} {{\n'
-                         f'    crate::{ROOT}::{name}({given})\n}}\n')
+                         f'    crate::{module}::{name}({given})\n}}\n')
     if not functions:
-        fail(f'crates/{ROOT}/src/lib.rt has no extern "C" function')
+        fail(f'crates/{ROOT} has no extern "C" function')
     return '\n'.join(functions)
 
 
@@ -197,8 +206,10 @@ def write_variant(variant, crates):
         write(f'{variant}/src/{module}.rs', open(f'fickle/src/{module}.rs').read())
     write(f'{variant}/src/c.rs', c_interface())
     for crate in crates:
-        text = rust_of(crate, crates)
-        write(f'{variant}/src/{crate}.rs', without_checks(text) if variant == UNCHECKED else text)
+        for file, module in sources(crate):
+            text = rust_of(file, crates)
+            path = f'{variant}/src/{module.replace("::", "/")}.rs'
+            write(path, without_checks(text) if variant == UNCHECKED else text)
 
 
 def write_bench():

@@ -9,6 +9,7 @@ use crate::output::print;
 use crate::progress::Progress;
 use crate::terms::Terms;
 use crate::{Status, Trouble};
+use fickle::Stop;
 use std::ffi::{OsStr, OsString};
 
 /// What is asked for.
@@ -72,8 +73,9 @@ fn counted(asked: &Asked) -> Result<Status, No> {
 }
 
 /// Says that a run was cut, and what to do.
-pub fn cut(fleet: &Fleet, run: &Run, stop: u32, labels: u32, limits: Limits) -> String {
-    let word = fickle::explanation(stop).map_or("", |found| found.word);
+pub fn cut(fleet: &Fleet, run: &Run, stop: Stop, labels: u32, limits: Limits) -> String {
+    let word = fickle::explanation(stop.number()).map_or("", |found| found.word);
     let labels = if labels == 1 { "1 label".to_string() } else { format!("{labels} labels") };
-    format!("{}: the run stopped ({stop}, {word}) after {labels}; {}", fleet.at(run), limits.advice(stop))
+    let (at, number, advice) = (fleet.at(run), stop.number(), limits.advice(stop));
+    format!("{at}: the run stopped ({number}, {word}) after {labels}; {advice}")
 }

@@ -9,6 +9,7 @@ use crate::lines::{lines, number, read, read_input, wrong, Line, No, STANDARD_IN
 use crate::store::OBJECTS_MOST;
 use crate::terms::{When, WHEN};
 use crate::Trouble;
+use fickle::Stop;
 use std::ffi::OsStr;
 use std::path::{Path, PathBuf};
 
@@ -76,10 +77,10 @@ impl Limits {
     }
 
     /// What to do about a run that was stopped.
-    pub fn advice(&self, stop: u32) -> &'static str {
+    pub fn advice(&self, stop: Stop) -> &'static str {
         match stop {
-            16 if self.objects < OBJECTS_MOST => "raise --objects",
-            16 => "no store holds more objects, so let it be several runs",
+            Stop::Full if self.objects < OBJECTS_MOST => "raise --objects",
+            Stop::Full => "no store holds more objects, so let it be several runs",
             _ if self.fuel < FUEL_MOST => "raise --fuel",
             _ => "no run may have more fuel, so let it be several runs",
         }

@@ -210,10 +210,10 @@ impl<'a> Slices<'a> {
 fn unusual(outcome: Outcome) -> String {
     let how = match outcome {
         Outcome::Stop(stop) => {
-            let word = explanation(stop).map_or("", |found| found.word);
-            format!("stopped ({stop}, {word})")
+            let word = explanation(stop.number()).map_or("", |found| found.word);
+            format!("stopped ({}, {word})", stop.number())
         }
-        Outcome::Exception(exception) => format!("ended in exception {exception}"),
+        Outcome::Exception(exception) => format!("ended in exception {}", exception.number()),
         Outcome::Value(_) => "ended in a value".to_string(),
     };
     format!("the run {how}; its labels count as they were then")

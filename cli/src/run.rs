@@ -8,7 +8,7 @@ use crate::progress::Progress;
 use crate::store::{counted, Objects, OBJECT, OBJECTS_MOST};
 use crate::translate::{plain_rows, refused};
 use crate::{Status, Trouble};
-use fickle::{explanation, run_rows_on_this_stack, Outcome, Refusal, Run, Value};
+use fickle::{explanation, run_rows_on_this_stack, Exception, Outcome, Refusal, Run, Stop, Value};
 use std::ffi::{OsStr, OsString};
 
 /// Up to the fuel that is given where none is asked for, the plain program is proved to end alike, on so many times as much.
@@ -105,10 +105,11 @@ fn source(input: &Input, asked: &Asked) -> Result<(Vec<u32>, Done), Refusal> {
 
 /// Runs the plain program beside a run, and says whether they end alike and count alike.
 fn beside(input: &Input, rows: &[u32], asked: &Asked, source: &Done) -> Result<Status, Trouble> {
-    if let Outcome::Stop(stop @ (14 | 16)) = source.run.outcome {
+    if let Outcome::Stop(stop @ (Stop::Spent | Stop::Full)) = source.run.outcome {
         say(&format!(
-            "{}: the plain program was not run, since a run that ends in {stop} is cut short",
-            input.name
+            "{}: the plain program was not run, since a run that ends in {} is cut short",
+            input.name,
+            stop.number()
         ));
         return Ok(Status::Refused);
     }
@@ -191,13 +192,17 @@ fn outcome(outcome: Outcome) -> String {
         Outcome::Value(Value::Null) => "null".to_string(),
         Outcome::Value(Value::Truth(truth)) => truth.to_string(),
         Outcome::Value(Value::Object(object)) => format!("object {object}"),
-        Outcome::Exception(1) => "exception 1: null where an object is needed".to_string(),
-        Outcome::Exception(2) => "exception 2: an object of another class than its cast asks for".to_string(),
-        Outcome::Exception(exception) => format!("exception {exception}"),
+        Outcome::Exception(exception) => {
+            let why = match exception {
+                Exception::NullObject => "null where an object is needed",
+                Exception::WrongClass => "an object of another class than its cast asks for",
+            };
+            format!("exception {}: {why}", exception.number())
+        }
         Outcome::Stop(stop) => {
-            let found = explanation(stop);
+            let found = explanation(stop.number());
             let (word, sentence) = found.map_or(("", ""), |found| (found.word, found.sentence));
-            format!("stopped ({stop}, {word}): {sentence}")
+            format!("stopped ({}, {word}): {sentence}", stop.number())
         }
     }
 }

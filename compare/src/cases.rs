@@ -40,12 +40,13 @@ pub enum Reply {
     Printed(Printed),
 }
 
-/// What a reply comes to: a result, that there is no price, a refusal or stop by its number, an exception.
+/// What a reply comes to: a result, that there is no price, a refusal, a stop or an exception, these by their numbers.
 #[derive(Clone, Copy, Debug, PartialEq, Eq, PartialOrd, Ord)]
 pub enum Answer {
     Result,
     None,
-    Number(u32),
+    Refused(u32),
+    Stopped(u32),
     Exception(u32),
 }
 
@@ -117,7 +118,7 @@ impl Reply {
             Reply::Price(Ok(None)) => Answer::None,
             Reply::Price(answer) => of_result(answer),
             Reply::Ran(Ok(Ran { end: End::Exception(exception), .. }), _) => Answer::Exception(*exception),
-            Reply::Ran(Ok(Ran { end: End::Stop(stop), .. }), _) => Answer::Number(*stop),
+            Reply::Ran(Ok(Ran { end: End::Stop(stop), .. }), _) => Answer::Stopped(*stop),
             Reply::Ran(answer, _) => of_result(answer),
             Reply::Printed(printed) => of_output(&printed.output),
         }
@@ -125,12 +126,12 @@ impl Reply {
 
     /// Whether a program was accepted: it was not refused, however its run ended.
     fn accepted(&self) -> bool {
-        !matches!(self.answer(), Answer::Number(refusal) if refusal <= number::ROOM)
+        !matches!(self.answer(), Answer::Refused(_))
     }
 }
 
 fn of_result<T>(answer: &Result<T, Refused>) -> Answer {
-    answer.as_ref().map_or_else(|(number, _)| Answer::Number(*number), |_| Answer::Result)
+    answer.as_ref().map_or_else(|(number, _)| Answer::Refused(*number), |_| Answer::Result)
 }
 
 /// What a program's first line comes to: `!` stands before the number of a refusal or stop, `E` before an exception.
@@ -138,7 +139,10 @@ fn of_output(output: &[u8]) -> Answer {
     let digits = output.iter().skip(2).take_while(|byte| byte.is_ascii_digit());
     let number = digits.fold(0, |number, digit| number * 10 + u32::from(digit - b'0'));
     match output.first() {
-        Some(b'!') => Answer::Number(number),
+        Some(b'!') => match number {
+            number::SPENT | number::DEEP | number::FULL => Answer::Stopped(number),
+            refusal => Answer::Refused(refusal),
+        },
         Some(b'E') => Answer::Exception(number),
         _ => Answer::Result,
     }
@@ -149,7 +153,7 @@ impl fmt::Display for Answer {
         match self {
             Answer::Result => write!(f, "result"),
             Answer::None => write!(f, "none"),
-            Answer::Number(number) => write!(f, "{number}"),
+            Answer::Refused(number) | Answer::Stopped(number) => write!(f, "{number}"),
             Answer::Exception(exception) => write!(f, "exception {exception}"),
         }
     }

@@ -37,16 +37,15 @@ macro_rules! services_of_fickle {
                 fuel: u64,
                 store: &mut [u32],
             ) -> Result<second::services::Ran, second::services::Refused> {
-                use second::services::{End, Ran};
-                use $from::{Outcome, Value};
+                use second::services::{End, Ran, Value};
+                use $from::{Outcome, Value as Given};
                 let run = $from::$run_rows(rows, fuel, store).map_err(|no| (no.number, no.line))?;
                 let end = match run.outcome {
-                    Outcome::Value(Value::Null) => End::Value(0),
-                    Outcome::Value(Value::Truth(false)) => End::Value(1),
-                    Outcome::Value(Value::Truth(true)) => End::Value(2),
-                    Outcome::Value(Value::Object(object)) => End::Value(2 + object),
-                    Outcome::Exception(exception) => End::Exception(exception),
-                    Outcome::Stop(stop) => End::Stop(stop),
+                    Outcome::Value(Given::Null) => End::Value(Value::Null),
+                    Outcome::Value(Given::Truth(truth)) => End::Value(Value::Truth(truth)),
+                    Outcome::Value(Given::Object(object)) => End::Value(Value::Object(object)),
+                    Outcome::Exception(exception) => End::Exception(exception.number()),
+                    Outcome::Stop(stop) => End::Stop(stop.number()),
                 };
                 let [steps, objects, changes] = [run.steps, run.objects, run.changes].map(u64::from);
                 Ok(Ran { end, steps, objects, changes })

@@ -2,7 +2,9 @@
 
 use crate::cases::{Answer, Case};
 use crate::{check, fleet, prices, programs, run, text, translate};
+use second::machine::{NULL_OBJECT, WRONG_CLASS};
 use second::random::Random;
+use second::rows::number;
 use second::vectors::{self, prices::Asked as Priced, Asked};
 
 /// Cases of one service or program.
@@ -23,13 +25,15 @@ pub const SEEDS: u64 = 100_000;
 
 /// All series, in two halves of about the same length.
 pub fn halves() -> [Vec<Series>; 2] {
-    let filling = [Answer::Result, Answer::Number(1), Answer::Number(2), Answer::Number(13)];
-    let refusals = |last: u32| (1..=last).map(Answer::Number);
+    let filling = [Answer::Result, Answer::Refused(1), Answer::Refused(2), Answer::Refused(13)];
+    let refusals = |last: u32| (1..=last).map(Answer::Refused);
     let result = || std::iter::once(Answer::Result);
-    let ends = || (14..=16).map(Answer::Number).chain((1..=2).map(Answer::Exception));
+    let stops = [number::SPENT, number::DEEP, number::FULL].map(Answer::Stopped);
+    let cut = [number::SPENT, number::DEEP].map(Answer::Stopped);
+    let exceptions = [NULL_OBJECT, WRONG_CLASS].map(Answer::Exception);
     // What the programs' generated texts surely bring about; the pinned ones bring about the rest.
-    let often = || result().chain([1, 2, 3, 4, 12, 13].map(Answer::Number));
-    let numbers = |all: &[u32]| result().chain(all.iter().copied().map(Answer::Number)).collect::<Vec<_>>();
+    let often = || result().chain([1, 2, 3, 4, 12, 13].map(Answer::Refused));
+    let numbers = |all: &[u32]| result().chain(all.iter().copied().map(Answer::Refused)).collect::<Vec<_>>();
     let or_none = |all: &[u32]| numbers(all).into_iter().chain([Answer::None]).collect::<Vec<_>>();
     let series = |name, sparse, fixed, generated, wanted| Series { name, sparse, fixed, generated, wanted };
     let none = Vec::new;
@@ -58,7 +62,7 @@ pub fn halves() -> [Vec<Series>; 2] {
                 50,
                 programs::pinned_running,
                 programs::running,
-                often().chain([14, 15].map(Answer::Number)).chain((1..=2).map(Answer::Exception)).collect(),
+                often().chain(cut).chain(exceptions).collect(),
             ),
         ],
         vec![
@@ -74,7 +78,7 @@ pub fn halves() -> [Vec<Series>; 2] {
                 1,
                 run::limits,
                 run::running,
-                result().chain(refusals(11)).chain(ends()).collect(),
+                result().chain(refusals(11)).chain(stops).chain(exceptions).collect(),
             ),
             series("run_rows, every fuel", 100, none, run::every_fuel, Vec::new()),
             series("rank_models", 1, fleet::many_models, fleet::ranking, numbers(&[1, 13, 17])),

@@ -89,7 +89,8 @@ fn stopped(example: &Example, given: &[u32]) {
     let proved = fickle::run_rows(&rows, u64::from(fuel), &mut vec![0; room]).expect("accepted");
     let second = second::machine::run_rows(&rows, u64::from(fuel), &mut vec![0; room]).expect("accepted");
     assert_eq!(stop, example.number);
-    assert_eq!(proved.outcome, fickle::Outcome::Stop(stop));
+    let fickle::Outcome::Stop(proved) = proved.outcome else { panic!("{proved:?}") };
+    assert_eq!(proved.number(), stop);
     assert_eq!(second.outcome, Outcome::Stop(stop));
 }
 

@@ -1,6 +1,7 @@
 //! Cost per label across a fleet: the labels of an ended run, and reports of many (document 02, §1).
 
-use crate::{c, unpack, Refusal};
+use crate::answers::{unpack, unpack_report};
+use crate::{c, Refusal};
 
 /// Labels printed, and those of them that were spoiled afterwards.
 #[derive(Clone, Copy, Debug, PartialEq, Eq)]
@@ -101,7 +102,7 @@ pub fn rank_models(counts: &[u32], report: &mut [u8]) -> Result<usize, Refusal> 
     let number = unsafe {
         c::fickle_rank_models(counts.as_ptr(), counts.len(), report.as_mut_ptr(), report.len(), &mut told)
     };
-    answer(number, told)
+    unpack_report(number, told)
 }
 
 /// Writes the report over a fleet of ended runs. A run is six numbers: model, count of rows, count of objects made, printed
@@ -139,13 +140,5 @@ pub fn report_fleet(
             &mut told,
         )
     };
-    answer(number, told)
-}
-
-/// A report's length, or a refusal with what was told as its line.
-fn answer(number: u32, told: u64) -> Result<usize, Refusal> {
-    match number {
-        0 => Ok(told as usize),
-        _ => Err(Refusal { number, line: told }),
-    }
+    unpack_report(number, told)
 }

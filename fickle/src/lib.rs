@@ -6,11 +6,15 @@
 //! Every function but `run_rows_on_this_stack` may be called on any thread that has `STACK_NEEDED` bytes of its stack
 //! left. A thread that `std::thread::spawn` starts has 2 MiB, which is more.
 
+mod answers;
 mod fleets;
+#[cfg(test)]
+mod header;
 mod price_terms;
 mod refusals;
 mod stack;
 
+pub use answers::{Exception, Outcome, Refusal, Run, Stop, Value};
 pub use fleets::{count_plain_run, count_run, rank_models, report_fleet, Labels};
 pub use price_terms::{date_of_day, day_of_date, price_on_date, price_on_day, report_prices, Date, Price};
 pub use refusals::{explanation, explanations, words, Explanation};
@@ -22,49 +26,7 @@ pub use stack::{
     WRITE_TEXT_STACK_NEEDED,
 };
 
-/// Why a call was refused: the number of documents 01 and 02, and the line, 0 where none is to blame. In a fleet the line
-/// is the place of a run or of a counted line, from 1; of price terms it is the line of their text.
-#[derive(Clone, Copy, Debug, PartialEq, Eq)]
-pub struct Refusal {
-    pub number: u32,
-    pub line: u64,
-}
-
-impl std::fmt::Display for Refusal {
-    fn fmt(&self, f: &mut std::fmt::Formatter) -> std::fmt::Result {
-        write!(f, "number {}, line {}: {}", self.number, self.line, words(self.number))
-    }
-}
-
-impl std::error::Error for Refusal {}
-
-/// A value. Objects count from 1 in the order in which they were made.
-#[derive(Clone, Copy, Debug, PartialEq, Eq)]
-pub enum Value {
-    Null,
-    Truth(bool),
-    Object(u32),
-}
-
-/// How a run ended: with a value, by exception 1 or 2, or at stop 14, 15 or 16.
-#[derive(Clone, Copy, Debug, PartialEq, Eq)]
-pub enum Outcome {
-    Value(Value),
-    Exception(u32),
-    Stop(u32),
-}
-
-/// The answer of a run: the outcome, nodes entered, objects made and changes of class.
-#[derive(Clone, Copy, Debug, PartialEq, Eq)]
-pub struct Run {
-    pub outcome: Outcome,
-    pub steps: u32,
-    pub objects: u32,
-    pub changes: u32,
-}
-
-/// The first word of a run's answer where an exception ended it; the second is the exception.
-const EXCEPTION: u32 = 1_000;
+use answers::{unpack, unpack_run};
 
 mod c {
     extern "C" {
@@ -93,6 +55,8 @@ mod c {
             store: *mut u32,
             store_length: usize,
             fuel: u64,
+            kind: *mut u32,
+            content: *mut u32,
             steps: *mut u32,
             objects: *mut u32,
             changes: *mut u32,
@@ -169,29 +133,21 @@ mod c {
     }
 }
 
-/// The second word of an answer.
-const LOW_WORD: u64 = 0xffff_ffff;
-
-/// A count as it is, a refusal as its number times 2^32 plus its line.
-fn unpack(answer: u64) -> Result<usize, Refusal> {
-    let number = (answer >> 32) as u32;
-    if number == 0 {
-        Ok(answer as usize)
-    } else {
-        Err(Refusal { number, line: answer & LOW_WORD })
-    }
+/// How many rows or bytes were written, or a refusal.
+fn written(answer: u64) -> Result<usize, Refusal> {
+    unpack(answer).map(|count| count as usize)
 }
 
 /// Reads a text into rows of four numbers. Answers how many rows were written.
 pub fn read_rows(text: &[u8], rows: &mut [u32]) -> Result<usize, Refusal> {
     // SAFETY: pointers and lengths are those of live slices, and `rows` is lent to nobody else.
-    unpack(unsafe { c::fickle_read_rows(text.as_ptr(), text.len(), rows.as_mut_ptr(), rows.len()) })
+    written(unsafe { c::fickle_read_rows(text.as_ptr(), text.len(), rows.as_mut_ptr(), rows.len()) })
 }
 
 /// Writes rows of four numbers as text. Answers how many bytes were written.
 pub fn write_text(rows: &[u32], text: &mut [u8]) -> Result<usize, Refusal> {
     // SAFETY: as above.
-    unpack(unsafe { c::fickle_write_text(rows.as_ptr(), rows.len(), text.as_mut_ptr(), text.len()) })
+    written(unsafe { c::fickle_write_text(rows.as_ptr(), rows.len(), text.as_mut_ptr(), text.len()) })
 }
 
 /// Checks rows: accepted, or the first refusal.
@@ -203,7 +159,7 @@ pub fn check_rows(rows: &[u32]) -> Result<(), Refusal> {
 /// Translates a program into plain rows. Answers how many rows were written.
 pub fn translate_rows(rows: &[u32], plain: &mut [u32]) -> Result<usize, Refusal> {
     // SAFETY: as above.
-    unpack(unsafe { c::fickle_translate_rows(rows.as_ptr(), rows.len(), plain.as_mut_ptr(), plain.len()) })
+    written(unsafe { c::fickle_translate_rows(rows.as_ptr(), rows.len(), plain.as_mut_ptr(), plain.len()) })
 }
 
 /// Runs a program over a lent store, 18 numbers to an object. It takes at most `STACK_NEEDED` bytes of the caller's
@@ -229,8 +185,8 @@ pub fn run_rows(rows: &[u32], fuel: u64, store: &mut [u32]) -> Result<Run, Refus
 /// Runs a program as `run_rows` does, but always on the caller's stack: `run_rows_stack_bound(rows, fuel)` bytes of it
 /// are enough for this run, and `RUN_ROWS_STACK_NEEDED` bytes for any. A stack that overflows aborts the process.
 pub fn run_rows_on_this_stack(rows: &[u32], fuel: u64, store: &mut [u32]) -> Result<Run, Refusal> {
-    let (mut steps, mut objects, mut changes) = (0, 0, 0);
-    // SAFETY: as above; the counts are lent to nobody else.
+    let (mut kind, mut content, mut steps, mut objects, mut changes) = (0, 0, 0, 0, 0);
+    // SAFETY: as above; the five numbers are lent to nobody else.
     let answer = unsafe {
         c::fickle_run_rows(
             rows.as_ptr(),
@@ -238,19 +194,12 @@ pub fn run_rows_on_this_stack(rows: &[u32], fuel: u64, store: &mut [u32]) -> Res
             store.as_mut_ptr(),
             store.len(),
             fuel,
+            &mut kind,
+            &mut content,
             &mut steps,
             &mut objects,
             &mut changes,
         )
     };
-    let outcome = match ((answer >> 32) as u32, answer as u32) {
-        (0, 0) => Outcome::Value(Value::Null),
-        (0, 1) => Outcome::Value(Value::Truth(false)),
-        (0, 2) => Outcome::Value(Value::Truth(true)),
-        (0, stored) => Outcome::Value(Value::Object(stored - 2)),
-        (EXCEPTION, exception) => Outcome::Exception(exception),
-        (stop @ 14..=16, _) => Outcome::Stop(stop),
-        (number, line) => return Err(Refusal { number, line: u64::from(line) }),
-    };
-    Ok(Run { outcome, steps, objects, changes })
+    unpack_run(answer, kind, content).map(|outcome| Run { outcome, steps, objects, changes })
 }

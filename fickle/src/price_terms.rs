@@ -3,7 +3,8 @@
 //! A term is a line of five numbers with tabs between them: model, first day, last day, cents, signing number. Days count
 //! from 2000-01-01, which is day 0, to 65,535, which is 2179-06-06.
 
-use crate::{c, unpack, Refusal};
+use crate::answers::unpack;
+use crate::{c, written, Refusal};
 
 /// A date of the Gregorian calendar.
 #[derive(Clone, Copy, Debug, PartialEq, Eq, PartialOrd, Ord, Hash)]
@@ -30,7 +31,7 @@ pub struct Price {
 /// ```
 pub fn day_of_date(year: u32, month: u32, day: u32) -> Result<u32, Refusal> {
     // SAFETY: numbers alone are passed.
-    unpack(unsafe { c::fickle_day_of_date(year, month, day) }).map(|number| number as u32)
+    unpack(unsafe { c::fickle_day_of_date(year, month, day) })
 }
 
 /// Returns the date of a day. Refused with 24, line 0, where the day's number is above 65,535.
@@ -118,7 +119,7 @@ pub fn report_prices(
     report: &mut [u8],
 ) -> Result<usize, Refusal> {
     // SAFETY: as above, and `report` is lent to nobody else.
-    unpack(unsafe {
+    written(unsafe {
         c::fickle_report_prices(
             terms.as_ptr(),
             terms.len(),
@@ -131,5 +132,5 @@ pub fn report_prices(
     })
 }
 
-/// The answer that there is a price.
-const PRICED: usize = 1;
+/// The result where there is a price; it is 0 where there is none.
+const PRICED: u32 = 1;

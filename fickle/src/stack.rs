@@ -169,6 +169,7 @@ fn close(open: &mut [u32], mut depth: usize) -> usize {
 #[cfg(test)]
 mod tests {
     use super::*;
+    use crate::header::defined;
 
     /// Rows of lines with a letter and at most two numbers.
     fn rows(lines: &[(char, u32, u32)]) -> Vec<u32> {
@@ -198,29 +199,22 @@ mod tests {
         assert_eq!(Program { methods, start }.nodes_under_way(), 5);
     }
 
-    /// Returns the number that the C header defines under a name.
-    fn in_header(name: &str) -> usize {
-        let header = include_str!("../../include/fickle.h");
-        let mut defines = header.lines().filter_map(|line| line.strip_prefix("#define ")?.split_once(' '));
-        defines.find(|&(defined, _)| defined == name).expect(name).1.parse().expect(name)
-    }
-
     #[test]
     fn needs_what_the_header_says() {
-        assert_eq!(in_header("FICKLE_READ_ROWS_STACK_NEEDED"), READ_ROWS_STACK_NEEDED);
-        assert_eq!(in_header("FICKLE_WRITE_TEXT_STACK_NEEDED"), WRITE_TEXT_STACK_NEEDED);
-        assert_eq!(in_header("FICKLE_CHECK_ROWS_STACK_NEEDED"), CHECK_ROWS_STACK_NEEDED);
-        assert_eq!(in_header("FICKLE_TRANSLATE_ROWS_STACK_NEEDED"), TRANSLATE_ROWS_STACK_NEEDED);
-        assert_eq!(in_header("FICKLE_RUN_ROWS_STACK_NEEDED"), RUN_ROWS_STACK_NEEDED);
-        assert_eq!(in_header("FICKLE_COUNT_RUN_STACK_NEEDED"), COUNT_RUN_STACK_NEEDED);
-        assert_eq!(in_header("FICKLE_COUNT_PLAIN_RUN_STACK_NEEDED"), COUNT_PLAIN_RUN_STACK_NEEDED);
-        assert_eq!(in_header("FICKLE_RANK_MODELS_STACK_NEEDED"), RANK_MODELS_STACK_NEEDED);
-        assert_eq!(in_header("FICKLE_REPORT_FLEET_STACK_NEEDED"), REPORT_FLEET_STACK_NEEDED);
-        assert_eq!(in_header("FICKLE_DAY_OF_DATE_STACK_NEEDED"), DAY_OF_DATE_STACK_NEEDED);
-        assert_eq!(in_header("FICKLE_DATE_OF_DAY_STACK_NEEDED"), DATE_OF_DAY_STACK_NEEDED);
-        assert_eq!(in_header("FICKLE_PRICE_ON_DAY_STACK_NEEDED"), PRICE_ON_DAY_STACK_NEEDED);
-        assert_eq!(in_header("FICKLE_PRICE_ON_DATE_STACK_NEEDED"), PRICE_ON_DATE_STACK_NEEDED);
-        assert_eq!(in_header("FICKLE_REPORT_PRICES_STACK_NEEDED"), REPORT_PRICES_STACK_NEEDED);
+        assert_eq!(defined::<usize>("FICKLE_READ_ROWS_STACK_NEEDED"), READ_ROWS_STACK_NEEDED);
+        assert_eq!(defined::<usize>("FICKLE_WRITE_TEXT_STACK_NEEDED"), WRITE_TEXT_STACK_NEEDED);
+        assert_eq!(defined::<usize>("FICKLE_CHECK_ROWS_STACK_NEEDED"), CHECK_ROWS_STACK_NEEDED);
+        assert_eq!(defined::<usize>("FICKLE_TRANSLATE_ROWS_STACK_NEEDED"), TRANSLATE_ROWS_STACK_NEEDED);
+        assert_eq!(defined::<usize>("FICKLE_RUN_ROWS_STACK_NEEDED"), RUN_ROWS_STACK_NEEDED);
+        assert_eq!(defined::<usize>("FICKLE_COUNT_RUN_STACK_NEEDED"), COUNT_RUN_STACK_NEEDED);
+        assert_eq!(defined::<usize>("FICKLE_COUNT_PLAIN_RUN_STACK_NEEDED"), COUNT_PLAIN_RUN_STACK_NEEDED);
+        assert_eq!(defined::<usize>("FICKLE_RANK_MODELS_STACK_NEEDED"), RANK_MODELS_STACK_NEEDED);
+        assert_eq!(defined::<usize>("FICKLE_REPORT_FLEET_STACK_NEEDED"), REPORT_FLEET_STACK_NEEDED);
+        assert_eq!(defined::<usize>("FICKLE_DAY_OF_DATE_STACK_NEEDED"), DAY_OF_DATE_STACK_NEEDED);
+        assert_eq!(defined::<usize>("FICKLE_DATE_OF_DAY_STACK_NEEDED"), DATE_OF_DAY_STACK_NEEDED);
+        assert_eq!(defined::<usize>("FICKLE_PRICE_ON_DAY_STACK_NEEDED"), PRICE_ON_DAY_STACK_NEEDED);
+        assert_eq!(defined::<usize>("FICKLE_PRICE_ON_DATE_STACK_NEEDED"), PRICE_ON_DATE_STACK_NEEDED);
+        assert_eq!(defined::<usize>("FICKLE_REPORT_PRICES_STACK_NEEDED"), REPORT_PRICES_STACK_NEEDED);
     }
 
     #[test]

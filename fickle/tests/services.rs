@@ -2,8 +2,8 @@
 
 use fickle::{
     check_rows, count_plain_run, count_run, date_of_day, day_of_date, price_on_date, price_on_day,
-    rank_models, read_rows, report_fleet, report_prices, run_rows, translate_rows, write_text, Date, Labels,
-    Outcome, Price, Refusal, Run, Value,
+    rank_models, read_rows, report_fleet, report_prices, run_rows, translate_rows, write_text, Date,
+    Exception, Labels, Outcome, Price, Refusal, Run, Stop, Value,
 };
 
 #[test]
@@ -45,7 +45,7 @@ fn empty_slices_get_answers() {
     let run = run_rows(&truth, 9, &mut []).expect("accepted");
     assert_eq!((run.outcome, run.steps), (Outcome::Value(Value::Truth(true)), 2));
     let object = [83, 0, 0, 0, 66, 0, 1, 0, 87, 0, 0, 0];
-    assert_eq!(run_rows(&object, 9, &mut []).expect("accepted").outcome, Outcome::Stop(16));
+    assert_eq!(run_rows(&object, 9, &mut []).expect("accepted").outcome, Outcome::Stop(Stop::Full));
 }
 
 /// Program D of document 01.
@@ -85,8 +85,35 @@ fn translates_and_runs() {
     assert_eq!(store[18..], [7; 42]);
     assert_eq!(run_rows(&plain[..280], 10_000, &mut store), Ok(run(52, 3, 0)));
     let spent = run_rows(&rows, 8, &mut store).expect("accepted");
-    assert_eq!((spent.outcome, spent.steps), (Outcome::Stop(14), 8));
+    assert_eq!((spent.outcome, spent.steps), (Outcome::Stop(Stop::Spent), 8));
     assert_eq!(run_rows(&rows, 100_000_001, &mut store), Err(Refusal { number: 2, line: 0 }));
+}
+
+/// Rows of a text with spaces for tabs and commas for line feeds.
+fn rows_of(text: &str) -> Vec<u32> {
+    let mut rows = vec![0; 64];
+    let count = read_rows(text.replace(' ', "\t").replace(',', "\n").as_bytes(), &mut rows);
+    rows.truncate(4 * count.expect("well-formed lines"));
+    rows
+}
+
+#[test]
+fn runs_end_in_every_way() {
+    let value = Outcome::Value;
+    for (text, outcome) in [
+        ("S,B 0 1,N,", value(Value::Null)),
+        ("S,B 0 1,L,", value(Value::Truth(false))),
+        ("S,B 0 1,T,", value(Value::Truth(true))),
+        ("S,B 0 1,W 0,", value(Value::Object(1))),
+        ("S,B 0 2,W 0,W 0,", value(Value::Object(2))),
+        ("C 0 0,F 255 0,S,B 1 1,V 1,G 0,I 1,", Outcome::Exception(Exception::NullObject)),
+        ("C 0 0,S,B 0 1,K 1,W 0,", Outcome::Exception(Exception::WrongClass)),
+        ("C 0 0,M 255 0,B 0 1,Q 0 0,I 0,S,B 0 1,Q 0 0,W 1,", Outcome::Stop(Stop::Deep)),
+        ("S,B 0 3,W 0,W 0,W 0,", Outcome::Stop(Stop::Full)),
+    ] {
+        let run = run_rows(&rows_of(text), 1_000, &mut [0; 36]).expect("accepted");
+        assert_eq!(run.outcome, outcome, "{text}");
+    }
 }
 
 #[test]

@@ -7,7 +7,7 @@ use deep::{deep, deep_beside_calls, on_stack, FUEL, LETTERS, MOST_NESTING, MOST_
 use fickle::{
     check_rows, count_plain_run, count_run, date_of_day, day_of_date, price_on_date, price_on_day,
     rank_models, read_rows, report_fleet, report_prices, run_rows_on_this_stack, run_rows_stack_bound,
-    translate_rows, write_text, Labels, Outcome, CHECK_ROWS_STACK_NEEDED, COUNT_PLAIN_RUN_STACK_NEEDED,
+    translate_rows, write_text, Labels, Outcome, Stop, CHECK_ROWS_STACK_NEEDED, COUNT_PLAIN_RUN_STACK_NEEDED,
     COUNT_RUN_STACK_NEEDED, DATE_OF_DAY_STACK_NEEDED, DAY_OF_DATE_STACK_NEEDED, PRICE_ON_DATE_STACK_NEEDED,
     PRICE_ON_DAY_STACK_NEEDED, RANK_MODELS_STACK_NEEDED, READ_ROWS_STACK_NEEDED, REPORT_FLEET_STACK_NEEDED,
     REPORT_PRICES_STACK_NEEDED, RUN_ROWS_STACK_NEEDED, TRANSLATE_ROWS_STACK_NEEDED, WRITE_TEXT_STACK_NEEDED,
@@ -70,7 +70,9 @@ fn services(letter: char) -> [Case; 4] {
         case(CHECK_ROWS_STACK_NEEDED, format!("check_rows, {letter}"), check),
         case(TRANSLATE_ROWS_STACK_NEEDED, format!("translate_rows, refused, {letter}"), refuse),
         case(TRANSLATE_ROWS_STACK_NEEDED, format!("translate_rows, {letter}"), translate),
-        case(RUN_ROWS_STACK_NEEDED, format!("run_rows, {letter}"), move || run() == Ok(Outcome::Stop(15))),
+        case(RUN_ROWS_STACK_NEEDED, format!("run_rows, {letter}"), move || {
+            run() == Ok(Outcome::Stop(Stop::Deep))
+        }),
     ]
 }
 
@@ -173,7 +175,7 @@ fn bounded(name: String, rows: Vec<u32>, fuel: u64) -> Case {
     let stack = run_rows_stack_bound(&rows, fuel) + THREAD;
     case(stack, format!("run_rows, {name}, fuel {fuel}"), move || {
         let run = run_rows_on_this_stack(&rows, fuel, &mut [0; 36]).expect("accepted");
-        run.outcome == Outcome::Stop(if u64::from(run.steps) == fuel { 14 } else { 15 })
+        run.outcome == Outcome::Stop(if u64::from(run.steps) == fuel { Stop::Spent } else { Stop::Deep })
     })
 }
 

@@ -3,7 +3,7 @@
 mod deep;
 
 use deep::{deep, deep_beside_calls, on_stack, FUEL, LETTERS, MOST_NESTING, MOST_ROWS};
-use fickle::{run_rows, run_rows_on_this_stack, Outcome, RUN_ROWS_STACK_NEEDED, STACK_NEEDED};
+use fickle::{run_rows, run_rows_on_this_stack, Outcome, Stop, RUN_ROWS_STACK_NEEDED, STACK_NEEDED};
 use std::thread;
 
 #[test]
@@ -13,7 +13,7 @@ fn the_deepest_runs_end_on_any_thread() {
     });
     for (run, letter) in runs.into_iter().zip(LETTERS) {
         let run = run.join().expect("no panic").expect("accepted");
-        assert_eq!((run.outcome, run.objects), (Outcome::Stop(15), 1), "{letter}");
+        assert_eq!((run.outcome, run.objects), (Outcome::Stop(Stop::Deep), 1), "{letter}");
     }
 }
 

@@ -7,10 +7,18 @@ pub type Refused = (u32, u64);
 /// Labels printed, and those of them that were spoiled.
 pub type Counted = (u32, u32);
 
-/// How a run ended: with a value, told by its stored number, by an exception, or at a stop.
+/// A value; objects are numbered from 1 in the order in which they were made.
+#[derive(Clone, Copy, Debug, PartialEq, Eq)]
+pub enum Value {
+    Null,
+    Truth(bool),
+    Object(u32),
+}
+
+/// How a run ended: with a value, by an exception, or at a stop.
 #[derive(Clone, Copy, Debug, PartialEq, Eq)]
 pub enum End {
-    Value(u32),
+    Value(Value),
     Exception(u32),
     Stop(u32),
 }
@@ -129,12 +137,15 @@ macro_rules! services_of {
                 fuel: u64,
                 store: &mut [u32],
             ) -> Result<$crate::services::Ran, $crate::services::Refused> {
-                use $crate::services::{End, Ran};
-                use $($implementation)+::machine::Outcome;
+                use $crate::services::{End, Ran, Value};
+                use $($implementation)+::machine::{Outcome, Value as Given};
                 let run = $($implementation)+::machine::run_rows(rows, fuel, store);
                 let run = run.map_err(|no| (no.number, no.line))?;
                 let end = match run.outcome {
-                    Outcome::Value(value) => End::Value(value.number()),
+                    Outcome::Value(Given::Null) => End::Value(Value::Null),
+                    Outcome::Value(Given::False) => End::Value(Value::Truth(false)),
+                    Outcome::Value(Given::True) => End::Value(Value::Truth(true)),
+                    Outcome::Value(Given::Object(object)) => End::Value(Value::Object(object)),
                     Outcome::Exception(exception) => End::Exception(exception),
                     Outcome::Stop(stop) => End::Stop(stop),
                 };

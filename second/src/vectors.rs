@@ -6,7 +6,7 @@ pub mod prices;
 
 use crate::generate::text_of_rows;
 use crate::rows::{CHECKED, OBJECT_WIDTH, ROW_WIDTH};
-use crate::services::{End, Programs, Ran, Refused, Services};
+use crate::services::{End, Programs, Ran, Refused, Services, Value};
 pub use fleets::Asked;
 use std::collections::BTreeMap;
 use std::path::Path;
@@ -188,10 +188,10 @@ impl Vector {
         let Ran { end, steps, objects, changes } =
             services.run_rows(rows, self.fuel(), &mut vec![9; self.store()])?;
         let end = match end {
-            End::Value(0) => "N".to_string(),
-            End::Value(1) => "L".to_string(),
-            End::Value(2) => "T".to_string(),
-            End::Value(stored) => format!("O {}", stored - 2),
+            End::Value(Value::Null) => "N".to_string(),
+            End::Value(Value::Truth(false)) => "L".to_string(),
+            End::Value(Value::Truth(true)) => "T".to_string(),
+            End::Value(Value::Object(object)) => format!("O {object}"),
             End::Exception(exception) => format!("E {exception}"),
             End::Stop(stop) => format!("! {stop}"),
         };

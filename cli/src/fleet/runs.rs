@@ -5,7 +5,7 @@ use crate::input::Input;
 use crate::lines::{lines, number, read, wrong, No};
 use crate::store::OBJECT;
 use crate::Trouble;
-use fickle::{count_plain_run, count_run, run_rows_on_this_stack, Labels, Outcome, Refusal};
+use fickle::{count_plain_run, count_run, run_rows_on_this_stack, Labels, Outcome, Refusal, Stop};
 use std::collections::HashMap;
 use std::path::{Path, PathBuf};
 use std::rc::Rc;
@@ -14,8 +14,8 @@ use std::rc::Rc;
 pub enum Ended {
     /// In a value, an exception, or too deep a call: its labels count.
     Counts(Taken),
-    /// Stopped at 14 or 16 after so many labels: it was cut.
-    Cut { stop: u32, labels: u32 },
+    /// Stopped for want of fuel or room after so many labels: it was cut.
+    Cut { stop: Stop, labels: u32 },
 }
 
 /// What the services take of a run.
@@ -86,7 +86,7 @@ impl Runs {
         let mut store = vec![0; self.limits.objects as usize * OBJECT];
         let ended = match run_rows_on_this_stack(&rows, self.limits.fuel, &mut store) {
             Ok(run) => match run.outcome {
-                Outcome::Stop(stop @ (14 | 16)) => Ended::Cut { stop, labels: run.objects },
+                Outcome::Stop(stop @ (Stop::Spent | Stop::Full)) => Ended::Cut { stop, labels: run.objects },
                 outcome => {
                     let store = store[..run.objects as usize * OBJECT].into();
                     let unusual = Some(outcome).filter(|outcome| !matches!(outcome, Outcome::Value(_)));

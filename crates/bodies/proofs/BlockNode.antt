@@ -19,7 +19,8 @@ use Rattle.language.specs.Tree.{Exprs, block, count as how-many, Class}
 use Rattle.language.specs.World.{World, is-declared-type}
 use Rattle.language.specs.Effects.{join}
 use Rattle.language.specs.Program.{world}
-use Rattle.language.specs.Typing.{Environment, TypedAll, typed, last-type, fresh-slot, locals-declared}
+use Rattle.language.specs.Environment.{Environment, fresh-slot}
+use Rattle.language.specs.Typing.{TypedAll, typed, last-type, locals-declared}
 use Rattle.language.specs.Typing.{type-all}
 use Rattle.language.specs.Encoded.{RowAt, LinesAt, TypesAt}
 use Rattle.language.specs.LookupClasses.{LooksUpAll}

@@ -17,7 +17,8 @@ use Rattle.language.specs.Tree.{size, count as how-many, Class}
 use Rattle.language.specs.World.{Method, is-declared-type}
 use Rattle.language.specs.Effects.{join, apply-class}
 use Rattle.language.specs.Program.{world}
-use Rattle.language.specs.Typing.{Environment, Typed, TypedAll, typed, last-type, all-fit, apply-all, type-of}
+use Rattle.language.specs.Environment.{Environment}
+use Rattle.language.specs.Typing.{Typed, TypedAll, typed, last-type, all-fit, apply-all, type-of}
 use Rattle.language.specs.Typing.{type-all}
 use Rattle.language.specs.Encoded.{RowAt}
 use Rattle.language.specs.LookupClasses.{LooksUp, LooksUpAll}

@@ -16,7 +16,8 @@ use Rattle.language.specs.Tree.{DeclaredType, bool, class, type-number, known, 
 use Rattle.language.specs.World.{is-declared-type}
 use Rattle.language.specs.Effects.{effect-of}
 use Rattle.language.specs.Program.{world}
-use Rattle.language.specs.Typing.{Slot, Environment, with-type, can-change, apply-slot, apply-all}
+use Rattle.language.specs.Environment.{Slot, Environment, with-type}
+use Rattle.language.specs.Typing.{can-change, apply-slot, apply-all}
 use Rattle.language.specs.Typing.{after-change}
 use Rattle.language.specs.Encoded.{RowAt}
 use Rattle.language.proofs.Lines.{le-or-less}

@@ -11,7 +11,8 @@ use Rattle.language.specs.Lists.{Never, inj}
 use Rattle.language.specs.Tree.{bool, class, ExprType, known, null-type, Expr, choose, size, Class}
 use Rattle.language.specs.Effects.{join}
 use Rattle.language.specs.Program.{world}
-use Rattle.language.specs.Typing.{Environment, Typed, not-bool, join-types, join-environments, type-of}
+use Rattle.language.specs.Environment.{Environment}
+use Rattle.language.specs.Typing.{Typed, not-bool, join-types, join-environments, type-of}
 use Rattle.language.specs.LookupClasses.{LooksUp}
 use Rattle.bodies.specs.declared.Answer.{Answer}
 use Rattle.bodies.specs.declared.Typing.{Typing}

@@ -10,7 +10,8 @@ use Rattle.language.specs.Lists.{nth, Never, inj, map-option}
 use Rattle.language.specs.Frames.{at-slot, with-slot, opened, closed, map-frame}
 use Rattle.language.specs.Tree.{DeclaredType, type-number}
 use Rattle.language.specs.World.{World, is-declared-type}
-use Rattle.language.specs.Typing.{Slot, Environment, fresh-slot, join-slot, join-slots, join-this}
+use Rattle.language.specs.Environment.{Slot, Environment, fresh-slot}
+use Rattle.language.specs.Typing.{join-slot, join-slots, join-this}
 use Rattle.language.specs.Typing.{join-environments}
 use Rattle.bodies.specs.Answers.{numbers, this-number, absent}
 

@@ -12,8 +12,8 @@ use lib.ListN.{length}
 use Rattle.language.specs.Limits.{of-check}
 use Rattle.language.specs.Lists.{nth, Never, inj}
 use Rattle.language.specs.Results.{passed, bind-checked-inv, require-inv}
-use Rattle.language.specs.Tree.{DeclaredType, type-number, type-of-number, Expr, literal-true, literal-false}
-use Rattle.language.specs.Tree.{literal-null, slot, is-null, get, cast, new, change, assign, set, call}
+use Rattle.language.specs.Tree.{DeclaredType, type-number, type-of-number, Expr, literal}
+use Rattle.language.specs.Tree.{slot, is-null, get, cast, new, change, assign, set, call}
 use Rattle.language.specs.Tree.{choose, block, Exprs, nil, cons, Declaration, method-lines, Class}
 use Rattle.language.specs.Tree.{class-lines}
 use Rattle.language.specs.World.{is-declared, is-declared-type}
@@ -45,9 +45,7 @@ mutual
   unfolding Limited
 
   pub limited-node : (e : Expr) (d n : ℕ) → NodeInForm of-check d n e → Limited e n d
-  limited-node literal-true d n h = tt
-  limited-node literal-false d n h = tt
-  limited-node literal-null d n h = tt
+  limited-node (literal l) d n h = tt
   limited-node (slot k) d n h = tt
   limited-node (is-null e) d n (form-is-null {d = j} h) =
       (omega arith, subst (Limited e n) (less j) (limited-node e j n h))

@@ -10,11 +10,13 @@ use lib.Dec.{leb, ltb}
 use Rattle.language.specs.Results.{need-checked, accept-injective, need-checked-inv, require-inv, refuse}
 use Rattle.language.specs.Results.{require}
 use Rattle.language.specs.Frames.{at-slot}
-use Rattle.language.specs.Tree.{class, known, type-number, Class, literal-true, literal-false, literal-null}
+use Rattle.language.specs.Tree.{class, known, type-number, Class, literal, literal-true, literal-false}
+use Rattle.language.specs.Tree.{literal-null}
 use Rattle.language.specs.Tree.{slot, new}
 use Rattle.language.specs.World.{World, is-declared}
 use Rattle.language.specs.Program.{world}
-use Rattle.language.specs.Typing.{Slot, Environment, Typed, typed, type-of}
+use Rattle.language.specs.Environment.{Slot, Environment}
+use Rattle.language.specs.Typing.{Typed, typed, type-of}
 use Rattle.language.specs.LookupClasses.{LooksUp}
 use Rattle.language.proofs.Lines.{le-or-less}
 use Rattle.bodies.specs.declared.Answer.{Answer}
@@ -33,15 +35,15 @@ use Rattle.bodies.proofs.Slots.{slot-some, slot-none}
 -- ---- T, L, N
 
 module _ (W : World) {γ : Environment} {at scope : ℕ} {S C : List ℕ} (v : Views W γ S scope) where
-  pub true-is : Is W literal-true γ at scope S C (answer bool-case 0)
+  pub true-is : Is W (literal literal-true) γ at scope S C (answer bool-case 0)
   unfolding type-of LooksUp
   true-is = is-accepted _ refl refl (record { views = v; declared = declared-bool; looks = tt })
 
-  pub false-is : Is W literal-false γ at scope S C (answer bool-case 0)
+  pub false-is : Is W (literal literal-false) γ at scope S C (answer bool-case 0)
   unfolding type-of LooksUp
   false-is = is-accepted _ refl refl (record { views = v; declared = declared-bool; looks = tt })
 
-  pub null-literal-is : Is W literal-null γ at scope S C (answer Null 0)
+  pub null-literal-is : Is W (literal literal-null) γ at scope S C (answer Null 0)
   unfolding type-of LooksUp
   null-literal-is = is-accepted _ refl refl (record { views = v; declared = declared-null; looks = tt })
 

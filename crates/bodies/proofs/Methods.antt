@@ -16,7 +16,8 @@ use Rattle.language.specs.Tree.{type-number, Declaration, heading-lines, Class,
 use Rattle.language.specs.World.{World}
 use Rattle.language.specs.Effects.{within, effect-of-all}
 use Rattle.language.specs.Program.{world}
-use Rattle.language.specs.Typing.{Typed, Environment, method-environment, fits, type-of, type-method}
+use Rattle.language.specs.Environment.{Environment, method-environment}
+use Rattle.language.specs.Typing.{Typed, fits, type-of, type-method}
 use Rattle.language.specs.LookupClasses.{LooksUp}
 use Rattle.language.specs.Encoded.{Encoded}
 use Rattle.language.specs.Layout.{Run, body-row}

@@ -13,7 +13,8 @@ use Rattle.language.specs.Tree.{DeclaredType, bool, class, ExprType, known, nul
 use Rattle.language.specs.Tree.{set, call, choose, block, size}
 use Rattle.language.specs.World.{Method, World, field-type}
 use Rattle.language.specs.Effects.{join, effect-of, apply-class}
-use Rattle.language.specs.Typing.{Slot, Environment, Typed, TypedAll, typed, last-type, fresh-slot}
+use Rattle.language.specs.Environment.{Slot, Environment, fresh-slot}
+use Rattle.language.specs.Typing.{Typed, TypedAll, typed, last-type}
 use Rattle.language.specs.Typing.{need-class, not-bool, all-fit, join-types, join-environments, fits}
 use Rattle.language.specs.Typing.{can-change, apply-all, after-change, locals-declared, type-of, type-all}
 use Rattle.language.specs.LookupClasses.{LooksUp, LooksUpAll}

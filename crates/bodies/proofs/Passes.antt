@@ -11,7 +11,8 @@ use Rattle.language.specs.Limits.{of-check}
 use Rattle.language.specs.Results.{Checked, accept, refuse, Pass, passed, bind-checked}
 use Rattle.language.specs.Tree.{Declaration, classes-lines, Program, Expr, block, size}
 use Rattle.language.specs.Program.{world}
-use Rattle.language.specs.Typing.{Typed, start-environment, type-of, type-method, type-classes, bodies}
+use Rattle.language.specs.Environment.{start-environment}
+use Rattle.language.specs.Typing.{Typed, type-of, type-method, type-classes, bodies}
 use Rattle.language.specs.Encoded.{Encoded}
 use Rattle.language.specs.WellFormed.{BodyInForm, form-body}
 use Rattle.language.specs.Layout.{body-row, start-row}

@@ -14,7 +14,8 @@ use Rattle.language.specs.Tree.{size, Class}
 use Rattle.language.specs.World.{field-type}
 use Rattle.language.specs.Effects.{join, apply-class}
 use Rattle.language.specs.Program.{world}
-use Rattle.language.specs.Typing.{Environment, Typed, fits, type-of}
+use Rattle.language.specs.Environment.{Environment}
+use Rattle.language.specs.Typing.{Typed, fits, type-of}
 use Rattle.language.specs.Encoded.{RowAt}
 use Rattle.language.specs.LookupClasses.{LooksUp}
 use Rattle.language.proofs.Classes as classes

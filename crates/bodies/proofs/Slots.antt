@@ -11,7 +11,8 @@ use Rattle.language.specs.Frames.{at-slot}
 use Rattle.language.specs.Tree.{DeclaredType, bool, class, type-number, Class}
 use Rattle.language.specs.World.{World, is-declared-type}
 use Rattle.language.specs.Program.{world}
-use Rattle.language.specs.Typing.{Slot, Environment, apply-slot, apply-all}
+use Rattle.language.specs.Environment.{Slot, Environment}
+use Rattle.language.specs.Typing.{apply-slot, apply-all}
 use Rattle.bodies.specs.Answers.{numbers, this-number, absent}
 use Rattle.bodies.specs.Tables.{Headed, Changed, Known, a-class, a-bool, an-absence, applied-number}
 use Rattle.bodies.specs.Cycle.{Views}

@@ -10,7 +10,7 @@ use Rattle.language.specs.Lists.{nth}
 use Rattle.language.specs.Tree.{DeclaredType, type-number, Class, Program}
 use Rattle.language.specs.World.{World, is-declared-type}
 use Rattle.language.specs.Program.{world}
-use Rattle.language.specs.Typing.{fresh-slot, method-environment, start-environment}
+use Rattle.language.specs.Environment.{fresh-slot, method-environment, start-environment}
 use Rattle.language.specs.Layout.{start-row}
 use Rattle.bodies.specs.declared.Answer.{Answer}
 use Rattle.bodies.specs.Answers.{numbers}

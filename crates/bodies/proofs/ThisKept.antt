@@ -9,12 +9,13 @@ use lib.Dec.{eqb}
 use Rattle.language.specs.Lists.{map-option}
 use Rattle.language.specs.Results.{accept, accept-injective, bind-checked-inv, need-checked-inv, require-inv}
 use Rattle.language.specs.Frames.{at-slot, with-slot, opened}
-use Rattle.language.specs.Tree.{class, ExprType, known, Expr, literal-true, literal-false, literal-null, slot}
+use Rattle.language.specs.Tree.{class, ExprType, known, Expr, literal, slot}
 use Rattle.language.specs.Tree.{is-null, get, cast, new, change, assign, set, call, choose, block, Exprs, nil}
 use Rattle.language.specs.Tree.{cons, size, count}
 use Rattle.language.specs.World.{World, field-type, is-declared}
 use Rattle.language.specs.Effects.{effect-of, apply-class}
-use Rattle.language.specs.Typing.{Slot, Environment, Typed, TypedAll, typed, fresh-slot, with-type, not-bool}
+use Rattle.language.specs.Environment.{Slot, Environment, fresh-slot, with-type}
+use Rattle.language.specs.Typing.{Typed, TypedAll, typed, not-bool}
 use Rattle.language.specs.Typing.{fits, all-fit, join-types, join-this, apply-slot, apply-all, can-change}
 use Rattle.language.specs.Typing.{locals-declared, type-of, type-all}
 use Rattle.bodies.proofs.Typings.{class-inv}
@@ -43,9 +44,7 @@ module _ (W : World) where
 
     pub this-kept : (e : Expr) (l : ℕ) (γ : Environment) (a : Typed) → type-of W e l γ ≡ accept a
         → has (a .slots .this) ≡ has (γ .this)
-    this-kept literal-true l γ a q = done (has (γ .this)) q refl
-    this-kept literal-false l γ a q = done (has (γ .this)) q refl
-    this-kept literal-null l γ a q = done (has (γ .this)) q refl
+    this-kept (literal x) l γ a q = done (has (γ .this)) q refl
     this-kept (slot k) l γ a q = need-checked-inv (at-slot γ k) 7 l _ q λ s e q. done (has (γ .this)) q refl
     this-kept (is-null e) l γ a q =
         bind-checked-inv (type-of W e (l + 1) γ) _ q λ b e₁ q. require-inv (not-bool (b .type)) 9 l _ q λ _ q.

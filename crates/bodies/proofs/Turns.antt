@@ -13,7 +13,8 @@ use Rattle.language.specs.Tree.{DeclaredType, bool, class, ExprType, known, nul
 use Rattle.language.specs.Tree.{size}
 use Rattle.language.specs.World.{World, is-declared-type}
 use Rattle.language.specs.Program.{world}
-use Rattle.language.specs.Typing.{Environment, Typed, type-of}
+use Rattle.language.specs.Environment.{Environment}
+use Rattle.language.specs.Typing.{Typed, type-of}
 use Rattle.language.specs.Encoded.{Encoded, EncodedAll}
 use Rattle.language.specs.LookupClasses.{LooksUp}
 use Rattle.bodies.specs.declared.Answer.{Answer}

@@ -13,7 +13,8 @@ use Rattle.language.specs.Tree.{ExprType, null-type, Class, Expr, Exprs, cons, 
 use Rattle.language.specs.Tree.{count as how-many}
 use Rattle.language.specs.Effects.{join, apply-expr}
 use Rattle.language.specs.Program.{world}
-use Rattle.language.specs.Typing.{Environment, TypedAll, typed, type-of, type-all}
+use Rattle.language.specs.Environment.{Environment}
+use Rattle.language.specs.Typing.{TypedAll, typed, type-of, type-all}
 use Rattle.language.specs.Encoded.{EncodedAll}
 use Rattle.language.specs.LookupClasses.{LooksUp}
 use Rattle.language.proofs.Nodes.{Head}

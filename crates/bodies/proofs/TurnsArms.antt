@@ -9,7 +9,8 @@ use Rattle.language.specs.Rows.{J-choose}
 use Rattle.language.specs.Tree.{Class, Expr, choose, size}
 use Rattle.language.specs.World.{World}
 use Rattle.language.specs.Program.{world}
-use Rattle.language.specs.Typing.{Environment, type-of}
+use Rattle.language.specs.Environment.{Environment}
+use Rattle.language.specs.Typing.{type-of}
 use Rattle.language.specs.Encoded.{Encoded}
 use Rattle.bodies.specs.declared.Answer.{Answer}
 use Rattle.bodies.specs.Answers.{is-refusal}

@@ -11,7 +11,8 @@ use Rattle.language.specs.Frames.{opened}
 use Rattle.language.specs.Tree.{DeclaredType, null-type, Class, block, Exprs, sizes, count as how-many}
 use Rattle.language.specs.Effects.{join}
 use Rattle.language.specs.Program.{world}
-use Rattle.language.specs.Typing.{Environment, typed, last-type, fresh-slot, locals-declared, type-all}
+use Rattle.language.specs.Environment.{Environment, fresh-slot}
+use Rattle.language.specs.Typing.{typed, last-type, locals-declared, type-all}
 use Rattle.language.specs.Encoded.{NodeAt, TypesAt, Encoded}
 use Rattle.bodies.specs.declared.Answer.{Answer}
 use Rattle.bodies.specs.declared.Typing.the-variants.{Null}

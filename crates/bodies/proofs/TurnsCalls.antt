@@ -9,7 +9,8 @@ use Rattle.language.specs.Rows.{Q-call}
 use Rattle.language.specs.Results.{accept, bind-checked}
 use Rattle.language.specs.Tree.{null-type, Class, Expr, call, Exprs, size, sizes, count as how-many}
 use Rattle.language.specs.Program.{world}
-use Rattle.language.specs.Typing.{Environment, TypedAll, typed, type-of, type-all}
+use Rattle.language.specs.Environment.{Environment}
+use Rattle.language.specs.Typing.{TypedAll, typed, type-of, type-all}
 use Rattle.language.specs.Encoded.{NodeAt, Encoded}
 use Rattle.bodies.specs.declared.Answer.{Answer}
 use Rattle.bodies.specs.declared.Typing.the-variants.{Null}

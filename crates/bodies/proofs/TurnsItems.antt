@@ -12,7 +12,8 @@ use Rattle.language.specs.Tree.{ExprType, Class, Expr, Exprs, nil, cons, size, 
 use Rattle.language.specs.World.{World}
 use Rattle.language.specs.Effects.{join, apply-expr}
 use Rattle.language.specs.Program.{world}
-use Rattle.language.specs.Typing.{Environment, Typed, TypedAll, typed, last-type, type-of, type-all}
+use Rattle.language.specs.Environment.{Environment}
+use Rattle.language.specs.Typing.{Typed, TypedAll, typed, last-type, type-of, type-all}
 use Rattle.language.specs.Encoded.{EncodedAll}
 use Rattle.language.specs.LookupClasses.{LooksUp}
 use Rattle.language.proofs.Nodes.{Head}

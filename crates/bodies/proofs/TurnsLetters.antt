@@ -4,7 +4,7 @@ use mathlib.Core.Logic.{inl, inr}
 use mathlib.Core.List.{List}
 use Prim.Native.Nat.{ℕ, _*_}
 use lib.ListN.{getD}
-use Rattle.language.specs.Tree.{Expr, literal-true, literal-false, literal-null, slot, is-null}
+use Rattle.language.specs.Tree.{Expr, literal, literal-true, literal-false, literal-null, slot, is-null}
 use Rattle.language.specs.Tree.{get, cast, new, change, assign, set, call, choose, block}
 use Rattle.language.specs.Encoded.{Encoded}
 use Rattle.language.proofs.Nodes.{head}
@@ -23,9 +23,12 @@ pub rest-unary : (R E : List ℕ) (x : Expr) (r : ℕ) → Encoded R E x r
     → (getD R (r * 4) 0 ≡ 74 → ⊥)
     → (getD R (r * 4) 0 ≡ 66 → ⊥)
     → Unary R r
-rest-unary R E literal-true r h n0 n1 n2 n3 n4 n5 n6 n7 n8 n9 = absurd (n0 (head literal-true h .letter))
-rest-unary R E literal-false r h n0 n1 n2 n3 n4 n5 n6 n7 n8 n9 = absurd (n1 (head literal-false h .letter))
-rest-unary R E literal-null r h n0 n1 n2 n3 n4 n5 n6 n7 n8 n9 = absurd (n2 (head literal-null h .letter))
+rest-unary R E (literal literal-true) r h n0 n1 n2 n3 n4 n5 n6 n7 n8 n9 =
+    absurd (n0 (head (literal literal-true) h .letter))
+rest-unary R E (literal literal-false) r h n0 n1 n2 n3 n4 n5 n6 n7 n8 n9 =
+    absurd (n1 (head (literal literal-false) h .letter))
+rest-unary R E (literal literal-null) r h n0 n1 n2 n3 n4 n5 n6 n7 n8 n9 =
+    absurd (n2 (head (literal literal-null) h .letter))
 rest-unary R E (slot k) r h n0 n1 n2 n3 n4 n5 n6 n7 n8 n9 = absurd (n3 (head (slot k) h .letter))
 rest-unary R E (is-null e) r h n0 n1 n2 n3 n4 n5 n6 n7 n8 n9 = inl (head (is-null e) h .letter)
 rest-unary R E (get f e) r h n0 n1 n2 n3 n4 n5 n6 n7 n8 n9 = inr (inl (head (get f e) h .letter))

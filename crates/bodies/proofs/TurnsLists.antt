@@ -12,7 +12,8 @@ use Rattle.language.specs.Tree.{ExprType, Class, Expr, Exprs, nil, cons, size, 
 use Rattle.language.specs.World.{World}
 use Rattle.language.specs.Effects.{join, apply-expr}
 use Rattle.language.specs.Program.{world}
-use Rattle.language.specs.Typing.{Environment, Typed, TypedAll, type-of, type-all}
+use Rattle.language.specs.Environment.{Environment}
+use Rattle.language.specs.Typing.{Typed, TypedAll, type-of, type-all}
 use Rattle.language.specs.Encoded.{Encoded, EncodedAll}
 use Rattle.language.specs.LookupClasses.{LooksUp, LooksUpAll}
 use Rattle.language.specs.Translation.{typed-or}

@@ -11,7 +11,8 @@ use Rattle.language.specs.Tree.{is-null, get, cast, assign}
 use Rattle.language.specs.Tree.{size}
 use Rattle.language.specs.World.{World}
 use Rattle.language.specs.Program.{world}
-use Rattle.language.specs.Typing.{Environment, Typed, type-of}
+use Rattle.language.specs.Environment.{Environment}
+use Rattle.language.specs.Typing.{Typed, type-of}
 use Rattle.language.specs.Encoded.{Encoded}
 use Rattle.language.specs.Rows.{Letter, code}
 use Rattle.language.proofs.Nodes.{EachTree, Head, head, by-row}

@@ -10,7 +10,8 @@ use Rattle.language.specs.Rows.{A-assign}
 use Rattle.language.specs.Results.{Checked, accept, refuse}
 use Rattle.language.specs.Tree.{Class, Expr, slot, change, size}
 use Rattle.language.specs.Program.{world}
-use Rattle.language.specs.Typing.{Environment, Typed, type-of}
+use Rattle.language.specs.Environment.{Environment}
+use Rattle.language.specs.Typing.{Typed, type-of}
 use Rattle.language.specs.Encoded.{RowAt, Encoded}
 use Rattle.language.proofs.Nodes.{head}
 use Rattle.language.proofs.Tables.{size-positive}

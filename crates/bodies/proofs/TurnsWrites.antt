@@ -8,7 +8,8 @@ use lib.ListN.{length, getD}
 use Rattle.language.specs.Tree.{Class, Expr, set, size}
 use Rattle.language.specs.Rows.{U-set}
 use Rattle.language.specs.Program.{world}
-use Rattle.language.specs.Typing.{Environment, type-of}
+use Rattle.language.specs.Environment.{Environment}
+use Rattle.language.specs.Typing.{type-of}
 use Rattle.language.specs.Encoded.{NodeAt, Encoded}
 use Rattle.bodies.specs.declared.Answer.{Answer}
 use Rattle.bodies.specs.Answers.{is-refusal}

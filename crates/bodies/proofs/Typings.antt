@@ -11,13 +11,15 @@ use lib.ListN.{length, getD}
 use Rattle.language.specs.Results.{Checked, accept, refuse, bind-checked, need-checked, require}
 use Rattle.language.specs.Results.{accept≢refuse}
 use Rattle.language.specs.Frames.{at-slot, opened}
-use Rattle.language.specs.Tree.{DeclaredType, bool, class, ExprType, known, null-type, Expr, literal-true}
-use Rattle.language.specs.Tree.{literal-false, literal-null, slot, is-null, get, cast, new, change, assign}
+use Rattle.language.specs.Tree.{DeclaredType, bool, class, ExprType, known, null-type, Expr, literal}
+use Rattle.language.specs.Tree.{slot, is-null, get, cast, new, change, assign}
 use Rattle.language.specs.Tree.{set, call, choose, block, Exprs, nil, cons, size, sizes}
 use Rattle.language.specs.World.{World, field-type, is-declared, is-declared-type}
 use Rattle.language.specs.Effects.{apply-class}
-use Rattle.language.specs.Typing.{Environment, Typed, TypedAll, not-bool, need-class, fits, all-fit}
-use Rattle.language.specs.Typing.{join-types, can-change, fresh-slot, locals-declared, type-of, type-all}
+use Rattle.language.specs.Environment.{Environment}
+use Rattle.language.specs.Typing.{Typed, TypedAll, not-bool, need-class, fits, all-fit}
+use Rattle.language.specs.Environment.{fresh-slot}
+use Rattle.language.specs.Typing.{join-types, can-change, locals-declared, type-of, type-all}
 use Rattle.language.specs.LookupClasses.{LooksUp, LooksUpAll}
 
 -- ---- the line changes where a refusal stands, and nothing else
@@ -66,9 +68,7 @@ module _ (W : World) where
     unfolding type-of
 
     same-typed : (e : Expr) (l l′ : ℕ) (γ : Environment) → Same (type-of W e l γ) (type-of W e l′ γ)
-    same-typed literal-true l l′ γ = same-accept _
-    same-typed literal-false l l′ γ = same-accept _
-    same-typed literal-null l l′ γ = same-accept _
+    same-typed (literal x) l l′ γ = same-accept _
     same-typed (slot k) l l′ γ = same-need (at-slot γ k) 7 l l′ λ s. same-accept _
     same-typed (is-null e) l l′ γ = same-bind (same-typed e (l + 1) (l′ + 1) γ) λ a.
         same-require (not-bool (a .type)) 9 l l′ (λ u. same-accept _)
@@ -127,9 +127,7 @@ module _ (W : World) (C C′ : List ℕ) where
     pub looks-frame : (e : Expr) (γ : Environment) (r : ℕ)
         → ((i : ℕ) → r ≤ i → i < r + size e → getD C′ i 0 ≡ getD C i 0)
         → LooksUp W C e γ r → LooksUp W C′ e γ r
-    looks-frame literal-true γ r s h = tt
-    looks-frame literal-false γ r s h = tt
-    looks-frame literal-null γ r s h = tt
+    looks-frame (literal l) γ r s h = tt
     looks-frame (slot k) γ r s h = tt
     looks-frame (is-null e) γ r s h = looks-frame e γ (r + 1) (λ i l m. s i (omega arith) (omega arith)) h
     looks-frame (get f e) γ r s h = (

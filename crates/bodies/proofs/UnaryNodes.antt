@@ -19,7 +19,8 @@ use Rattle.language.specs.Tree.{DeclaredType, bool, class, ExprType, known, nul
 use Rattle.language.specs.Tree.{get, cast, assign}
 use Rattle.language.specs.World.{field-type, is-declared, is-declared-type, World}
 use Rattle.language.specs.Program.{world}
-use Rattle.language.specs.Typing.{Slot, Environment, Typed, typed, not-bool, need-class, fits, type-of}
+use Rattle.language.specs.Environment.{Slot, Environment}
+use Rattle.language.specs.Typing.{Typed, typed, not-bool, need-class, fits, type-of}
 use Rattle.language.specs.LookupClasses.{LooksUp}
 use Rattle.language.specs.Translation.{typed-or, class-or}
 use Rattle.language.proofs.Lines.{le-or-less}

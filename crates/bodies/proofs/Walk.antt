@@ -14,7 +14,8 @@ use Rattle.language.specs.Tree.{Class, class-lines, classes-lines, Program, siz
 use Rattle.language.specs.World.{World, is-declared-type}
 use Rattle.language.specs.Program.{world}
 use Rattle.language.specs.Headings.{check-methods, check-classes, headings}
-use Rattle.language.specs.Typing.{method-environment, type-method, type-methods, type-classes}
+use Rattle.language.specs.Environment.{method-environment}
+use Rattle.language.specs.Typing.{type-method, type-methods, type-classes}
 use Rattle.language.specs.LookupClasses.{LooksUp}
 use Rattle.language.specs.WellFormed.{Each, each-nil, each-cons, MethodInForm, ClassInForm}
 use Rattle.language.specs.Encoded.{LinesAt}

@@ -13,19 +13,24 @@ use Rattle.bodies.specs.declared.Typing.the-variants.{Bool as bool-case,
 use Rattle.bodies.specs.declared.Answer.{Answer}
 use Rattle.bodies.specs.declared.Sought.{Sought}
 use Rattle.bodies.specs.declared.Sought.the-variants.{Found, Missing}
+use Rattle.bodies.specs.Answers.{absent}
 use Rattle.bodies.specs.Answers.{answer, case-of-number, is-refusal}
 use Rattle.bodies.specs.Tables.{Applicable, applied, applied-number, joined-number, root-in, is-fitting}
 use Rattle.bodies.specs.Tables.{CaseIn, Known}
 use Rattle.bodies.specs.Tables.{Runs, Changed, PreJoin}
 use Rattle.bodies.specs.Nodes.{refusal, joined-case, BothClasses, field-in, PreField, In-row}
 use Rattle.bodies.specs.Nodes.{changeable-in}
+use Rattle.language.specs.Limits.{of-check, bool-number, name-refusal, slot-refusal, member-refusal}
+use Rattle.language.specs.Limits.{type-refusal, change-refusal}
+use Rattle.language.specs.ClassTables.{class-width, methods-from, root-place}
+use Rattle.language.specs.Rows.{code, P-parameter, X-effect}
 
 -- The X lines from a row on name these classes, of those there may be, and the next line is no X line.
 pub record EffectLines (R : List ℕ) (from : ℕ) (cs : List ℕ) : Type 0 where
   pub lines : EffectsAt R cs from
-  pub low : Each (λ c. c ≤ 64) cs
+  pub low : Each (λ c. c ≤ of-check .classes) cs
   pub inside : (from + length cs) * 4 + 3 < length R
-  pub other : getD R ((from + length cs) * 4) 0 ≡ 88 → ⊥
+  pub other : getD R ((from + length cs) * 4) 0 ≡ code X-effect → ⊥
 
 pub record SomeEffects (R : List ℕ) (from : ℕ) : Type 0 where
   pub classes : List ℕ
@@ -37,11 +42,11 @@ EffectOf R from φ = (cs : List ℕ) → EffectLines R from cs → φ ≡ effect
 
 -- A number is how many P lines there are.
 abbrev pub CountOf : List ℕ → ℕ → ℕ → Type 0
-CountOf R from n = (p : ℕ) → Run R 80 from p → n ≡ p
+CountOf R from n = (p : ℕ) → Run R (code P-parameter) from p → n ≡ p
 
 -- The case of a stored argument's number.
 unfoldable pub stored-case : ℕ → Typing
-stored-case n = cond (eqb n 65535) Null (case-of-number n)
+stored-case n = cond (eqb n absent) Null (case-of-number n)
 
 -- n stored arguments fit the types of n lines.
 unfoldable pub all-fitting : List ℕ → List ℕ → List ℕ → ℕ → ℕ → ℕ → Bool
@@ -54,16 +59,17 @@ pub record PreFitting (R A S : List ℕ) (from row n : ℕ) : Type 0 where
   pub slots : from + n ≤ length S
   pub rows : (row + n) * 4 ≤ length R
   pub values : (i : ℕ) → i < n → CaseIn (length A) (stored-case (getD S (from + i) 0))
-  pub types : (i : ℕ) → i < n → (getD R ((row + i) * 4 + 1) 0 ≡ 255 → ⊥) → getD R ((row + i) * 4 + 1) 0 ≤ 64
+  pub types : (i : ℕ) → i < n → (getD R ((row + i) * 4 + 1) 0 ≡ bool-number → ⊥)
+      → getD R ((row + i) * 4 + 1) 0 ≤ of-check .classes
 
 -- V lines: the first that names no type is refused.
 unfoldable pub names-type : ℕ → ℕ → Bool
-names-type count n = eqb n 255 || leb n count
+names-type count n = eqb n bool-number || leb n count
 
 unfoldable pub opening : List ℕ → ℕ → ℕ → ℕ → Answer
 opening R count row zero = answer Null 0
 opening R count row (suc v) =
-    cond (names-type count (getD R (row * 4 + 1) 0)) (opening R count (row + 1) v) (refusal 4 row)
+    cond (names-type count (getD R (row * 4 + 1) 0)) (opening R count (row + 1) v) (refusal name-refusal row)
 
 pub record PreOpen (R S : List ℕ) (at scope v : ℕ) : Type 0 where
   pub rows : (at + 1 + v) * 4 ≤ length R
@@ -84,11 +90,12 @@ can-change-in T c d = changeable-in T c && (changeable-in T d && eqb (root-in T 
 
 unfoldable pub changed-answer : List ℕ → List ℕ → ℕ → ℕ → ℕ → ℕ → ℕ → Answer
 changed-answer T S count at scope k d =
-    cond (ltb count d) (refusal 4 at)
-    (cond (leb scope k) (refusal 7 at)
-    (cond (eqb (getD S k 0) 65535) (refusal 7 at)
-    (cond (eqb (getD S k 0) 255) (refusal 11 at)
-    (cond (can-change-in T (getD S k 0) d) (answer (Class d) (effect-of (root-in T d))) (refusal 11 at)))))
+    cond (ltb count d) (refusal name-refusal at)
+    (cond (leb scope k) (refusal slot-refusal at)
+    (cond (eqb (getD S k 0) absent) (refusal slot-refusal at)
+    (cond (eqb (getD S k 0) bool-number) (refusal change-refusal at)
+    (cond (can-change-in T (getD S k 0) d) (answer (Class d) (effect-of (root-in T d)))
+    (refusal change-refusal at)))))
 
 -- The slots after a change: the root is applied to all, and this one has the target's class.
 unfoldable pub number-after : List ℕ → List ℕ → ℕ → ℕ → ℕ → ℕ
@@ -96,9 +103,9 @@ number-after T S k d i = cond (eqb i k) d (applied-number T (effect-of (root-in 
 
 pub record PreChange (R T S : List ℕ) (count at scope : ℕ) : Type 0 where
   pub row : In-row R at
-  pub few : count ≤ 64
-  pub long : (count + 1) * 576 ≤ length T
-  pub roots : (k : ℕ) → k ≤ count → root-in T k ≤ 64
+  pub few : count ≤ of-check .classes
+  pub long : (count + 1) * class-width ≤ length T
+  pub roots : (k : ℕ) → k ≤ count → root-in T k ≤ of-check .classes
   pub scoped : scope ≤ length S
   pub slots : (k : ℕ) → k < scope → Known count (getD S k 0)
 
@@ -111,21 +118,21 @@ pub record PostChange (R T S S′ : List ℕ) (count at scope : ℕ) (r : Answer
 
 -- U: the answer, and the table of lookup classes after it, by the field found in class k.
 unfoldable pub put-answer : List ℕ → ℕ → Answer → Answer → Sought → Answer
-put-answer A at a b Missing = refusal 8 at
+put-answer A at a b Missing = refusal member-refusal at
 put-answer A at a b (Found u) =
     cond (is-fitting A (b .typing) (u .number)) (answer (b .typing) (join (a .effect) (b .effect)))
-    (refusal 9 at)
+    (refusal type-refusal at)
 
 unfoldable pub put-noted : List ℕ → List ℕ → ℕ → ℕ → Answer → Sought → List ℕ
 put-noted A C at k b Missing = C
 put-noted A C at k b (Found u) = cond (is-fitting A (b .typing) (u .number)) (set C at k) C
 
 unfoldable pub put : List ℕ → List ℕ → List ℕ → ℕ → Typing → Answer → Answer → Answer
-put R T A at bool-case a b = refusal 9 at
+put R T A at bool-case a b = refusal type-refusal at
 put R T A at (Class c) a b =
     put-answer A at a b (field-in R T (applied T (b .effect) c) (getD R (at * 4 + 1) 0))
-put R T A at Null a b = refusal 9 at
-put R T A at (Refusal n l) a b = refusal 9 at
+put R T A at Null a b = refusal type-refusal at
+put R T A at (Refusal n l) a b = refusal type-refusal at
 
 unfoldable pub put-classes : List ℕ → List ℕ → List ℕ → List ℕ → ℕ → Typing → Answer → List ℕ
 put-classes R T A C at bool-case b = C
@@ -137,10 +144,10 @@ put-classes R T A C at (Refusal n l) b = C
 
 -- A class before and after an effect is within the tables.
 pub record InTables (T : List ℕ) (φ c : ℕ) : Type 0 where
-  pub inside : c * 576 + 514 < length T
-  pub root : root-in T c ≤ 64
-  pub low : applied T φ c ≤ 64
-  pub after : (applied T φ c + 1) * 576 ≤ length T
+  pub inside : c * class-width + root-place < length T
+  pub root : root-in T c ≤ of-check .classes
+  pub low : applied T φ c ≤ of-check .classes
+  pub after : (applied T φ c + 1) * class-width ≤ length T
 
 pub record PrePut (R T A C : List ℕ) (at : ℕ) (t : Typing) (b : Answer) : Type 0 where
   pub row : In-row R at
@@ -150,17 +157,17 @@ pub record PrePut (R T A C : List ℕ) (at : ℕ) (t : Typing) (b : Answer) : Ty
       → InTables T (b .effect) c × PreField R T (applied T (b .effect) c) (getD R (at * 4 + 1) 0)
   pub declared : (c n : ℕ) → t ≡ Class c
       → field-in R T (applied T (b .effect) c) (getD R (at * 4 + 1) 0) ≡ Found (record { number = n })
-      → (n ≡ 255 → ⊥) → n ≤ 64
+      → (n ≡ bool-number → ⊥) → n ≤ of-check .classes
 
 -- Q. The table's number for a method: 0, or its row and 1.
 abbrev pub method-place : List ℕ → ℕ → ℕ → ℕ
-method-place T c m = getD T (c * 576 + (256 + m)) 0
+method-place T c m = getD T (c * class-width + (methods-from + m)) 0
 
 pub record PreMethod (R A S : List ℕ) (top n row : ℕ) : Type 0 where
   pub line : row * 4 + 3 < length R
-  pub parameters : Runs R 80 (row + 1)
-  pub fitting : Run R 80 (row + 1) n → PreFitting R A S top (row + 1) n
-  pub effects : Run R 80 (row + 1) n → SomeEffects R (row + 1 + n)
+  pub parameters : Runs R (code P-parameter) (row + 1)
+  pub fitting : Run R (code P-parameter) (row + 1) n → PreFitting R A S top (row + 1) n
+  pub effects : Run R (code P-parameter) (row + 1) n → SomeEffects R (row + 1 + n)
 
 pub record PreInvoke (R T A S C : List ℕ) (at scope top : ℕ) (t : Typing) (ψ : ℕ) : Type 0 where
   pub row : In-row R at
@@ -194,13 +201,14 @@ module _ (R T A S C : List ℕ) (at scope top : ℕ) (t : Typing) (φ ψ : ℕ) 
     pub noted : C′ ≡ set C at (applied T ψ c)
 
   pub data Invoked : Type 0 where
-    no-class : NoClass t → r ≡ refusal 9 at → Unchanged → Invoked
-    no-method : (c : ℕ) → t ≡ Class c → call-class c ≡ 0 → r ≡ refusal 8 at → Unchanged → Invoked
+    no-class : NoClass t → r ≡ refusal type-refusal at → Unchanged → Invoked
+    no-method : (c : ℕ) → t ≡ Class c → call-class c ≡ 0 → r ≡ refusal member-refusal at → Unchanged → Invoked
     other-count : (c row p : ℕ) → t ≡ Class c → call-class c ≡ suc row → CountOf R (row + 1) p
         → (p ≡ getD R (at * 4 + 2) 0 → ⊥)
-        → r ≡ refusal 8 at → Unchanged → Invoked
+        → r ≡ refusal member-refusal at → Unchanged → Invoked
     unfit : (c row : ℕ) → t ≡ Class c → call-class c ≡ suc row → CountOf R (row + 1) (getD R (at * 4 + 2) 0)
-        → all-fitting R A S top (row + 1) (getD R (at * 4 + 2) 0) ≡ false → r ≡ refusal 9 at → Unchanged
+        → all-fitting R A S top (row + 1) (getD R (at * 4 + 2) 0) ≡ false
+        → r ≡ refusal type-refusal at → Unchanged
         → Invoked
     done : (c row ε : ℕ) → t ≡ Class c → call-class c ≡ suc row → CountOf R (row + 1) (getD R (at * 4 + 2) 0)
         → all-fitting R A S top (row + 1) (getD R (at * 4 + 2) 0) ≡ true
@@ -212,13 +220,13 @@ unfoldable pub joined-answer : ℕ → ℕ → Typing → Answer
 joined-answer at φ bool-case = answer bool-case φ
 joined-answer at φ (Class c) = answer (Class c) φ
 joined-answer at φ Null = answer Null φ
-joined-answer at φ (Refusal n l) = refusal 9 at
+joined-answer at φ (Refusal n l) = refusal type-refusal at
 
 unfoldable pub chosen : List ℕ → List ℕ → ℕ → Typing → ℕ → Typing → Typing → Answer
 chosen T A at bool-case φ t u = joined-answer at φ (joined-case T A t u)
-chosen T A at (Class c) φ t u = refusal 9 at
-chosen T A at Null φ t u = refusal 9 at
-chosen T A at (Refusal n l) φ t u = refusal 9 at
+chosen T A at (Class c) φ t u = refusal type-refusal at
+chosen T A at Null φ t u = refusal type-refusal at
+chosen T A at (Refusal n l) φ t u = refusal type-refusal at
 
 pub record PreChoice (T A S : List ℕ) (at scope top : ℕ) (t u : Typing) : Type 0 where
   pub low : at < 65536

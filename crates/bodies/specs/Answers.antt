@@ -7,7 +7,8 @@ use Prim.Native.Nat.{ℕ}
 use lib.Dec.{eqb}
 use Rattle.language.specs.Results.{Checked, accept, refuse, Pass}
 use Rattle.language.specs.Tree.{DeclaredType, bool, class, ExprType, known, null-type, type-number}
-use Rattle.language.specs.Typing.{Slot, Environment, Typed}
+use Rattle.language.specs.Environment.{Slot, Environment}
+use Rattle.language.specs.Typing.{Typed}
 use Rattle.bodies.specs.declared.Typing.{Typing}
 use Rattle.bodies.specs.declared.Typing.the-variants.{Bool as bool-case, Class, Null, Refusal}
 use Rattle.bodies.specs.declared.Answer.{Answer}
@@ -15,6 +16,7 @@ use Rattle.bodies.specs.declared.Verdict.{Verdict}
 use Rattle.bodies.specs.declared.Verdict.the-variants.{Accepted, Refused}
 use Rattle.bodies.specs.declared.Sought.{Sought}
 use Rattle.bodies.specs.declared.Sought.the-variants.{Found, Missing}
+use Rattle.language.specs.Limits.{bool-number}
 
 -- The case of a type.
 abbrev pub typing-case : ExprType → Typing
@@ -40,14 +42,14 @@ sought-of (some t) = Found (record { number = type-number t })
 
 -- The case of a declared type's number.
 unfoldable pub case-of-number : ℕ → Typing
-case-of-number n = cond (eqb n 255) bool-case (Class n)
+case-of-number n = cond (eqb n bool-number) bool-case (Class n)
 
 -- `this` where there is none, and null among arguments, are 65,535.
 abbrev pub absent : ℕ
 absent = 65535
 
 abbrev pub case-number : Typing → ℕ
-case-number bool-case = 255
+case-number bool-case = bool-number
 case-number (Class c) = c
 case-number Null = absent
 case-number (Refusal n l) = absent

@@ -9,8 +9,8 @@ use Prim.Native.Nat.{ℕ, _+_, _-_, _*_, _≤_, _<_}
 use lib.ListN.{length, getD, take}
 use Rattle.language.specs.Results.{accept, bind-checked}
 use Rattle.language.specs.Frames.{at-slot}
-use Rattle.language.specs.Tree.{DeclaredType, ExprType, known, null-type, class, Expr, literal-true}
-use Rattle.language.specs.Tree.{literal-false, literal-null, slot}
+use Rattle.language.specs.Tree.{DeclaredType, ExprType, known, null-type, class, Expr, literal}
+use Rattle.language.specs.Tree.{slot}
 use Rattle.language.specs.Tree.{is-null, get, cast, new, change, assign, set, call, choose, block, Exprs, nil}
 use Rattle.language.specs.Tree.{cons, count as how-many, sizes}
 use Rattle.language.specs.Lists.{nth}
@@ -18,12 +18,15 @@ use Rattle.language.specs.Tree.{Class, type-number, type-of-number}
 use Rattle.language.specs.World.{World, is-declared-type}
 use Rattle.language.specs.Effects.{join}
 use Rattle.language.specs.Program.{world}
-use Rattle.language.specs.Typing.{Slot, Environment, Typed, TypedAll, typed, last-type, type-of, type-all}
+use Rattle.language.specs.Environment.{Slot, Environment}
+use Rattle.language.specs.Typing.{Typed, TypedAll, typed, last-type, type-of, type-all}
 use Rattle.language.specs.Encoded.{Encoded, EncodedAll}
 use Rattle.language.specs.LookupClasses.{LooksUp, LooksUpAll}
 use Rattle.bodies.specs.declared.Answer.{Answer}
 use Rattle.bodies.specs.Answers.{answer-of, typing-case, case-number, numbers}
 use Rattle.bodies.specs.Tables.{Headed}
+use Rattle.language.specs.Limits.{of-check, numbers-a-row}
+use Rattle.language.specs.Rows.{code, Z-is-null, G-get, K-cast, A-assign}
 
 -- Types as numbers write them: 255 is bool and no class.
 pub record Proper (ts : List DeclaredType) : Type 0 where
@@ -31,16 +34,15 @@ pub record Proper (ts : List DeclaredType) : Type 0 where
 
 -- A row with the letter of a node of one child.
 abbrev pub Unary : List ℕ → ℕ → Type 0
-Unary R at = (getD R (at * 4) 0 ≡ 90)
-    ⊎ ((getD R (at * 4) 0 ≡ 71) ⊎ ((getD R (at * 4) 0 ≡ 75) ⊎ (getD R (at * 4) 0 ≡ 65)))
+Unary R at = (getD R (at * 4) 0 ≡ code Z-is-null)
+    ⊎ ((getD R (at * 4) 0 ≡ code G-get)
+    ⊎ ((getD R (at * 4) 0 ≡ code K-cast) ⊎ (getD R (at * 4) 0 ≡ code A-assign)))
 
 -- Within the limits of the form pass: names up to 255, at most 256 slots in scope, and d nodes of nesting
 -- left.
 unfoldable mutual
   pub Limited : Expr → ℕ → ℕ → Type 0
-  Limited literal-true scope d = Unit {0}
-  Limited literal-false scope d = Unit {0}
-  Limited literal-null scope d = Unit {0}
+  Limited (literal l) scope d = Unit {0}
   Limited (slot k) scope d = Unit {0}
   Limited (is-null e) scope d = (1 ≤ d) × Limited e scope (d - 1)
   Limited (get f e) scope d = (1 ≤ d) × (f < 256) × Limited e scope (d - 1)
@@ -53,7 +55,7 @@ unfoldable mutual
   Limited (choose e x y) scope d =
       (1 ≤ d) × Limited e scope (d - 1) × Limited x scope (d - 1) × Limited y scope (d - 1)
   Limited (block ts es) scope d =
-      (1 ≤ d) × (scope + length ts ≤ 256) × Proper ts × LimitedAll es (scope + length ts) (d - 1)
+      (1 ≤ d) × (scope + length ts ≤ of-check .slots) × Proper ts × LimitedAll es (scope + length ts) (d - 1)
 
   pub LimitedAll : Exprs → ℕ → ℕ → Type 0
   LimitedAll nil scope d = Unit {0}
@@ -67,17 +69,17 @@ pub record Views (W : World) (γ : Environment) (S : List ℕ) (scope : ℕ) : T
 -- Room for d more nested nodes, each with 256 slots of its own.
 pub record Room (R E S C : List ℕ) (scope top d : ℕ) : Type 0 where
   pub this : 1 ≤ scope
-  pub scoped : scope ≤ 256
-  pub above : 256 ≤ top
-  pub room : top + 256 * d ≤ length S
-  pub rows : length R ≤ 240000
+  pub scoped : scope ≤ of-check .slots
+  pub above : of-check .slots ≤ top
+  pub room : top + of-check .slots * d ≤ length S
+  pub rows : length R ≤ numbers-a-row * of-check .rows
   pub nodes : length E ≤ length C
 
 -- What no call changes: lengths, the slots between the frame and `top`, and the lookup classes of other rows.
 pub record Kept (S S′ C C′ : List ℕ) (from to top : ℕ) : Type 0 where
   pub slots-long : length S′ ≡ length S
   pub classes-long : length C′ ≡ length C
-  pub between : (i : ℕ) → 256 ≤ i → i < top → getD S′ i 0 ≡ getD S i 0
+  pub between : (i : ℕ) → of-check .slots ≤ i → i < top → getD S′ i 0 ≡ getD S i 0
   pub before : (i : ℕ) → i < from → getD C′ i 0 ≡ getD C i 0
   pub after : (i : ℕ) → to ≤ i → getD C′ i 0 ≡ getD C i 0
 
@@ -138,7 +140,7 @@ pub record AcceptedAll (W : World) (es : Exprs) (γ : Environment) (at scope : �
 pub record PostItems (R E T A S C S′ C′ : List ℕ) (count at scope top n : ℕ) (last r : Answer) : Type 0 where
   pub slots-long : length S′ ≡ length S
   pub classes-long : length C′ ≡ length C
-  pub between : (i : ℕ) → 256 ≤ i → i < top → getD S′ i 0 ≡ getD S i 0
+  pub between : (i : ℕ) → of-check .slots ≤ i → i < top → getD S′ i 0 ≡ getD S i 0
   pub before : (i : ℕ) → i < at → getD C′ i 0 ≡ getD C i 0
   pub after : (es : Exprs) → n ≡ how-many es → EncodedAll R E es at → (i : ℕ) → at + sizes es ≤ i
       → getD C′ i 0 ≡ getD C i 0
@@ -159,7 +161,7 @@ stored ts = map (λ (t : ExprType). case-number (typing-case t)) ts
 pub record PostArguments (R E T A S C S′ C′ : List ℕ) (count at scope top n : ℕ) (r : Answer) : Type 0 where
   pub slots-long : length S′ ≡ length S
   pub classes-long : length C′ ≡ length C
-  pub between : (i : ℕ) → 256 ≤ i → i < top → getD S′ i 0 ≡ getD S i 0
+  pub between : (i : ℕ) → of-check .slots ≤ i → i < top → getD S′ i 0 ≡ getD S i 0
   pub before : (i : ℕ) → i < at → getD C′ i 0 ≡ getD C i 0
   pub after : (es : Exprs) → n ≡ how-many es → EncodedAll R E es at → (i : ℕ) → at + sizes es ≤ i
       → getD C′ i 0 ≡ getD C i 0

@@ -2,7 +2,7 @@
 use mathlib.Core.Bool.{Bool, true, false, cond}
 use mathlib.Core.Path.{_≡_}
 use mathlib.Core.List.{List}
-use Prim.Native.Nat.{ℕ, suc, _+_, _*_, _≤_, _<_}
+use Prim.Native.Nat.{ℕ, _-_, suc, _+_, _*_, _≤_, _<_}
 use lib.Dec.{eqb, leb, ltb}
 use lib.ListN.{length, getD, set}
 use Rattle.bodies.specs.declared.Typing.{Typing}
@@ -10,8 +10,12 @@ use Rattle.bodies.specs.declared.Typing.the-variants.{Bool as bool-case,
 use Rattle.bodies.specs.declared.Answer.{Answer}
 use Rattle.bodies.specs.declared.Sought.{Sought}
 use Rattle.bodies.specs.declared.Sought.the-variants.{Found, Missing}
+use Rattle.bodies.specs.Answers.{absent}
 use Rattle.bodies.specs.Answers.{answer, case-of-number, is-refusal}
 use Rattle.bodies.specs.Tables.{nearest-from, PreNearest, is-fitting, CaseIn}
+use Rattle.language.specs.Limits.{of-check, bool-number, name-refusal, slot-refusal, member-refusal}
+use Rattle.language.specs.Limits.{type-refusal}
+use Rattle.language.specs.ClassTables.{class-width, kind-place, rows-place}
 
 -- A refusal on the line of a row.
 abbrev pub refusal : ℕ → ℕ → Answer
@@ -19,16 +23,16 @@ refusal n at = answer (Refusal n (at + 1)) 0
 
 -- Z.
 unfoldable pub null-tested : ℕ → Typing → ℕ → Answer
-null-tested at bool-case φ = refusal 9 at
+null-tested at bool-case φ = refusal type-refusal at
 null-tested at (Class c) φ = answer bool-case φ
 null-tested at Null φ = answer bool-case φ
 null-tested at (Refusal n l) φ = answer (Refusal n l) φ
 
 -- What is no class is refused: its own refusal, or 9.
 unfoldable pub not-class : ℕ → Typing → ℕ → Answer
-not-class at bool-case φ = refusal 9 at
-not-class at (Class c) φ = refusal 9 at
-not-class at Null φ = refusal 9 at
+not-class at bool-case φ = refusal type-refusal at
+not-class at (Class c) φ = refusal type-refusal at
+not-class at Null φ = refusal type-refusal at
 not-class at (Refusal n l) φ = answer (Refusal n l) φ
 
 -- The type of two arms; a refusal where they have none.
@@ -58,29 +62,31 @@ BothClasses T A (Refusal m k) u = Unit {0}
 
 -- The type of a field, by the tables.
 abbrev pub field-place : List ℕ → ℕ → ℕ → ℕ
-field-place T c f = getD T (c * 576 + f) 0
+field-place T c f = getD T (c * class-width + f) 0
 
 abbrev pub field-row : List ℕ → ℕ → ℕ → ℕ
-field-row T c f = getD T (c * 576 + (519 + field-place T c f)) 0
+field-row T c f = getD T (c * class-width + (rows-place - 1 + field-place T c f)) 0
 
 unfoldable pub field-in : List ℕ → List ℕ → ℕ → ℕ → Sought
 field-in R T c f = cond (eqb (field-place T c f) 0) Missing
     (Found (record { number = getD R (field-row T c f * 4 + 1) 0 }))
 
 pub record PreField (R T : List ℕ) (c f : ℕ) : Type 0 where
-  pub inside : (c + 1) * 576 ≤ length T
+  pub inside : (c + 1) * class-width ≤ length T
   pub name : f < 256
-  pub found : (field-place T c f ≡ 0 → ⊥) → (field-place T c f ≤ 17) × (field-row T c f * 4 + 3 < length R)
+  pub found : (field-place T c f ≡ 0 → ⊥)
+      → (field-place T c f ≤ of-check .fields) × (field-row T c f * 4 + 3 < length R)
 
 -- W, K and I.
 unfoldable pub created : List ℕ → ℕ → ℕ → Answer
 created R count at =
-    cond (ltb count (getD R (at * 4 + 1) 0)) (refusal 4 at) (answer (Class (getD R (at * 4 + 1) 0)) 0)
+    cond (ltb count (getD R (at * 4 + 1) 0)) (refusal name-refusal at)
+    (answer (Class (getD R (at * 4 + 1) 0)) 0)
 
 unfoldable pub slot-read : List ℕ → List ℕ → ℕ → ℕ → Answer
 slot-read R S at scope =
-    cond (leb scope (getD R (at * 4 + 1) 0)) (refusal 7 at)
-    (cond (eqb (getD S (getD R (at * 4 + 1) 0) 0) 65535) (refusal 7 at)
+    cond (leb scope (getD R (at * 4 + 1) 0)) (refusal slot-refusal at)
+    (cond (eqb (getD S (getD R (at * 4 + 1) 0) 0) absent) (refusal slot-refusal at)
     (answer (case-of-number (getD S (getD R (at * 4 + 1) 0) 0)) 0))
 
 abbrev pub In-row : List ℕ → ℕ → Type 0
@@ -88,7 +94,7 @@ In-row R at = (at * 4 + 3 < length R) × (at < 65536)
 
 -- K, after a child that was not refused; then with its class.
 unfoldable pub casted : ℕ → ℕ → Typing → ℕ → Answer
-casted at c bool-case φ = refusal 9 at
+casted at c bool-case φ = refusal type-refusal at
 casted at c (Class d) φ = answer (Class c) φ
 casted at c Null φ = answer (Class c) φ
 casted at c (Refusal n l) φ = answer (Refusal n l) φ
@@ -96,37 +102,38 @@ casted at c (Refusal n l) φ = answer (Refusal n l) φ
 unfoldable pub cast-answer : List ℕ → ℕ → ℕ → Answer → Answer
 cast-answer R count at a =
     cond (is-refusal (a .typing)) a
-    (cond (ltb count (getD R (at * 4 + 1) 0)) (refusal 4 at)
+    (cond (ltb count (getD R (at * 4 + 1) 0)) (refusal name-refusal at)
     (casted at (getD R (at * 4 + 1) 0) (a .typing) (a .effect)))
 
 -- A.
 unfoldable pub assigned : List ℕ → List ℕ → List ℕ → ℕ → ℕ → Answer → Answer
 assigned R A S at scope a =
     cond (is-refusal (a .typing)) a
-    (cond (eqb (getD R (at * 4 + 1) 0) 0) (refusal 7 at)
-    (cond (leb scope (getD R (at * 4 + 1) 0)) (refusal 7 at)
-    (cond (is-fitting A (a .typing) (getD S (getD R (at * 4 + 1) 0) 0)) a (refusal 9 at))))
+    (cond (eqb (getD R (at * 4 + 1) 0) 0) (refusal slot-refusal at)
+    (cond (leb scope (getD R (at * 4 + 1) 0)) (refusal slot-refusal at)
+    (cond (is-fitting A (a .typing) (getD S (getD R (at * 4 + 1) 0) 0)) a (refusal type-refusal at))))
 
 pub record PreAssign (R A S : List ℕ) (at scope : ℕ) (t : Typing) : Type 0 where
   pub row : In-row R at
   pub scoped : scope ≤ length S
   pub value : CaseIn (length A) t
   pub slot : is-refusal t ≡ false → (getD R (at * 4 + 1) 0 ≡ 0 → ⊥) → getD R (at * 4 + 1) 0 < scope
-      → (getD S (getD R (at * 4 + 1) 0) 0 ≡ 255 → ⊥) → getD S (getD R (at * 4 + 1) 0) 0 ≤ 64
+      → (getD S (getD R (at * 4 + 1) 0) 0 ≡ bool-number → ⊥)
+      → getD S (getD R (at * 4 + 1) 0) 0 ≤ of-check .classes
 
 -- Q with more arguments than any method has parameters.
 unfoldable pub no-method-for : ℕ → Typing → Answer
-no-method-for at bool-case = refusal 9 at
-no-method-for at (Class c) = refusal 8 at
-no-method-for at Null = refusal 9 at
-no-method-for at (Refusal n l) = refusal 9 at
+no-method-for at bool-case = refusal type-refusal at
+no-method-for at (Class c) = refusal member-refusal at
+no-method-for at Null = refusal type-refusal at
+no-method-for at (Refusal n l) = refusal type-refusal at
 
 unfoldable pub too-many-answer : ℕ → Typing → Answer → Answer
 too-many-answer at t b = cond (is-refusal (b .typing)) b (no-method-for at t)
 
 -- G: the answer, and the table of lookup classes after it.
 unfoldable pub found-answer : ℕ → ℕ → Sought → Answer
-found-answer at φ Missing = refusal 8 at
+found-answer at φ Missing = refusal member-refusal at
 found-answer at φ (Found u) = answer (case-of-number (u .number)) φ
 
 unfoldable pub got : List ℕ → List ℕ → ℕ → Typing → ℕ → Answer
@@ -148,9 +155,11 @@ got-classes R T C at (Refusal n l) = C
 pub record PreGet (R T C : List ℕ) (at : ℕ) (t : Typing) : Type 0 where
   pub row : In-row R at
   pub noted-at : at < length C
-  pub field : (c : ℕ) → t ≡ Class c → PreField R T c (getD R (at * 4 + 1) 0) × (c ≤ 64)
+  pub field : (c : ℕ) → t ≡ Class c → PreField R T c (getD R (at * 4 + 1) 0) × (c ≤ of-check .classes)
 
 -- Whether a class is a root or a state class, by its kind.
 unfoldable pub changeable-in : List ℕ → ℕ → Bool
 changeable-in T c =
-    cond (eqb c 0) false (cond (eqb (getD T (c * 576 + 512) 0) 1) true (eqb (getD T (c * 576 + 512) 0) 2))
+    cond (eqb c 0) false
+    (cond (eqb (getD T (c * class-width + kind-place) 0) 1) true
+    (eqb (getD T (c * class-width + kind-place) 0) 2))

@@ -13,25 +13,28 @@ use Rattle.language.specs.Tree.{DeclaredType, type-number, Field, Class, unknow
 use Rattle.language.specs.World.{Method, is-declared-type}
 use Rattle.language.specs.Effects.{member, effect-of-all}
 use Rattle.language.specs.Program.{class-at, world}
-use Rattle.language.specs.ClassTables.{ClassTables, field-rows, method-row}
+use Rattle.language.specs.ClassTables.{ClassTables, field-rows, method-row, class-width, super-place}
 use Rattle.language.specs.Encoded.{RowAt, TypesAt}
 use Rattle.language.specs.Layout.{EffectsAt, Run}
 use Rattle.language.specs.WellFormed.{Each}
 use Rattle.classes.specs.Subclasses.{is-below}
+use Rattle.bodies.specs.Answers.{absent}
 use Rattle.bodies.specs.declared.Typing.{Typing}
 use Rattle.bodies.specs.declared.Typing.the-variants.{Bool as bool-case, Class as class-case, Null}
 use Rattle.bodies.specs.declared.Typing.the-variants.{Refusal}
+use Rattle.language.specs.Limits.{of-check, bool-number}
+use Rattle.language.specs.ClassTables.{root-place}
 
 -- The tables' numbers alone make their use safe: roots and superclasses stand no later than their class.
 pub record Sound (T A : List ℕ) (count : ℕ) : Type 0 where
-  pub few : count ≤ 64
-  pub long : (count + 1) * 576 ≤ length T
+  pub few : count ≤ of-check .classes
+  pub long : (count + 1) * class-width ≤ length T
   pub long-above : count + 1 ≤ length A
-  pub roots : (k : ℕ) → k ≤ count → getD T (k * 576 + 514) 0 ≤ k
-  pub supers : (k : ℕ) → 1 ≤ k → k ≤ count → getD T (k * 576 + 513) 0 < k
+  pub roots : (k : ℕ) → k ≤ count → getD T (k * class-width + root-place) 0 ≤ k
+  pub supers : (k : ℕ) → 1 ≤ k → k ≤ count → getD T (k * class-width + super-place) 0 < k
 
 abbrev pub root-in : List ℕ → ℕ → ℕ
-root-in T k = getD T (k * 576 + 514) 0
+root-in T k = getD T (k * class-width + root-place) 0
 
 unfoldable pub applied : List ℕ → ℕ → ℕ → ℕ
 applied T φ k = cond (member φ (root-in T k)) (root-in T k) k
@@ -39,33 +42,34 @@ applied T φ k = cond (member φ (root-in T k)) (root-in T k) k
 -- Going up from k, with fewer than n superclasses, to a class that d is or stands below.
 unfoldable pub nearest-from : List ℕ → List ℕ → ℕ → ℕ → ℕ → ℕ
 nearest-from T A zero k d = k
-nearest-from T A (suc n) k d = cond (is-below A d k) k (nearest-from T A n (getD T (k * 576 + 513) 0) d)
+nearest-from T A (suc n) k d =
+    cond (is-below A d k) k (nearest-from T A n (getD T (k * class-width + super-place) 0) d)
 
 unfoldable pub is-fitting : List ℕ → Typing → ℕ → Bool
-is-fitting A bool-case n = eqb n 255
-is-fitting A (class-case c) n = cond (eqb n 255) false (is-below A c n)
-is-fitting A Null n = not (eqb n 255)
+is-fitting A bool-case n = eqb n bool-number
+is-fitting A (class-case c) n = cond (eqb n bool-number) false (is-below A c n)
+is-fitting A Null n = not (eqb n bool-number)
 is-fitting A (Refusal m l) n = false
 
 -- The number of a class, of bool, or of what is absent.
 pub data Known (count : ℕ) : ℕ → Type 0 where
   a-class : {n : ℕ} → n ≤ count → Known count n
-  a-bool : Known count 255
-  an-absence : Known count 65535
+  a-bool : Known count bool-number
+  an-absence : Known count absent
 
 unfoldable pub applied-number : List ℕ → ℕ → ℕ → ℕ
-applied-number T φ n = cond (eqb n 255) n (cond (eqb n 65535) n (applied T φ n))
+applied-number T φ n = cond (eqb n bool-number) n (cond (eqb n absent) n (applied T φ n))
 
 unfoldable pub joined-number : List ℕ → List ℕ → ℕ → ℕ → ℕ
 joined-number T A a b =
-    cond (eqb a 255) a (cond (eqb a 65535) a (cond (eqb b 255) a
-    (cond (eqb b 65535) a (nearest-from T A (suc a) a b))))
+    cond (eqb a bool-number) a (cond (eqb a absent) a (cond (eqb b bool-number) a
+    (cond (eqb b absent) a (nearest-from T A (suc a) a b))))
 
 -- The tables hold the classes of a list, whose superclasses are earlier classes: what the heading pass gives.
 pub record Classes (P : List Class) (T A : List ℕ) (count : ℕ) : Type 0 where
   pub tables : ClassTables P T A
   pub counted : length P ≡ count
-  pub few : count ≤ 64
+  pub few : count ≤ of-check .classes
   pub lower : (k : ℕ) (c : Class) → class-at P k ≡ some c → c .super < k
 
 -- A method's heading at a row; its body's block follows.
@@ -77,7 +81,7 @@ pub record HeadingAt (R : List ℕ) (r : ℕ) (M : Method) : Type 0 where
   pub row : RowAt R r M-method (type-number (M .result)) name
   pub parameter-rows : TypesAt P-parameter R (M .parameters) (r + 1)
   pub effect-rows : EffectsAt R effects (r + 1 + length (M .parameters))
-  pub effects-low : Each (λ c. c ≤ 64) effects
+  pub effects-low : Each (λ c. c ≤ of-check .classes) effects
   pub effect-is : M .effect ≡ effect-of-all effects
   pub body-row : RowAt R (r + 1 + length (M .parameters) + length effects) B-block locals expressions
   pub few-parameters : length (M .parameters) ≤ 8
@@ -86,7 +90,7 @@ pub record HeadingAt (R : List ℕ) (r : ℕ) (M : Method) : Type 0 where
 -- gives.
 pub record Headed (P : List Class) (R T A : List ℕ) (count : ℕ) : Type 0 where
   pub classes : Classes P T A count
-  pub few-fields : (k : ℕ) → length (world P .fields k) ≤ 17
+  pub few-fields : (k : ℕ) → length (world P .fields k) ≤ of-check .fields
   pub fields : (k i : ℕ) (f : Field) → k ≤ count → nth (world P .fields k) i ≡ some f
       → (r : ℕ)
       × (nth (field-rows P k) i ≡ some r)
@@ -114,8 +118,8 @@ pub record PreNearest (T A : List ℕ) (c d : ℕ) : Type 0 where
   pub second : d ≤ count
 
 pub record Applicable (T : List ℕ) (n : ℕ) : Type 0 where
-  pub inside : (n ≡ 255 → ⊥) → (n ≡ 65535 → ⊥) → n * 576 + 514 < length T
-  pub root : (n ≡ 255 → ⊥) → (n ≡ 65535 → ⊥) → root-in T n ≤ 64
+  pub inside : (n ≡ bool-number → ⊥) → (n ≡ absent → ⊥) → n * class-width + root-place < length T
+  pub root : (n ≡ bool-number → ⊥) → (n ≡ absent → ⊥) → root-in T n ≤ of-check .classes
 
 -- Some number of rows of one letter, and a row of another.
 pub record Runs (R : List ℕ) (letter from : ℕ) : Type 0 where

@@ -1,4 +1,36 @@
 // The pass over bodies: each method's body and the start block are typed, in line order.
+use language::BLOCK;
+use language::CALL;
+use language::CAST;
+use language::CHANGE;
+use language::CHANGE_REFUSAL;
+use language::CHOOSE;
+use language::CLASS;
+use language::CLASS_WIDTH;
+use language::EFFECT;
+use language::EFFECT_REFUSAL;
+use language::FALSE;
+use language::GET;
+use language::IS_NULL;
+use language::KIND_PLACE;
+use language::MEMBER_REFUSAL;
+use language::METHOD;
+use language::METHODS_FROM;
+use language::MOST_PARAMETERS;
+use language::NAME_REFUSAL;
+use language::NEW;
+use language::NO_TYPE;
+use language::NULL;
+use language::PARAMETER;
+use language::ROOT_PLACE;
+use language::ROWS_BEFORE;
+use language::SET;
+use language::SLOT;
+use language::SLOT_REFUSAL;
+use language::START;
+use language::SUPER_PLACE;
+use language::TRUE;
+use language::TYPE_REFUSAL;
 ghost use mathlib.Core.Path.{_≡_};
 ghost use Prim.Native.Nat.{ℕ, suc, _+_, _-_, _*_, _≤_, _<_};
 ghost use lib.ListN.{length, getD};
@@ -20,6 +52,15 @@ ghost use Rattle.bodies.specs.Whole.{PreEnter, PostEnter, SomeBlock, Fir
 ghost use Rattle.bodies.specs.Whole.{PostMethodBody, PreLine, PostLine, class-next, PreNext, PostNext};
 ghost use Rattle.bodies.specs.Whole.{BodiesReady, BodiesDone};
 ghost use Rattle.bodies.specs.Tables.{Changed, Saved, Swapped, PreJoin, PreNumbers};
+ghost use Rattle.language.specs.Limits.{of-check, bool-number};
+ghost use Rattle.language.specs.ClassTables.{class-width, kind-place, root-place};
+ghost use Rattle.language.specs.Rows.{code, P-parameter, B-block, U-set, Q-call, J-choose};
+
+// How many slots may be in scope; those from here on are free for what waits.
+const MOST_SLOTS: usize = 256;
+
+// How many arguments a method can take.
+const MOST_ARGUMENTS: usize = MOST_PARAMETERS as usize;
 
 // A type as a program writes it: bool, or a class by its number.
 pub struct Type {
@@ -27,7 +68,7 @@ pub struct Type {
 }
 
 impl Type {
-    pub const BOOL: u32 = 255;
+    pub const BOOL: u32 = language::BOOL;
 
     pub const OBJECT: u32 = 0;
 
@@ -108,8 +149,8 @@ fn number_of(t: Typing) -> u32
     match t {
         Typing::Bool => Type::BOOL,
         Typing::Class(c) => c,
-        Typing::Null => 65535,
-        Typing::Refusal(_, _) => 65535,
+        Typing::Null => NO_TYPE,
+        Typing::Refusal(_, _) => NO_TYPE,
     }
 }
 
@@ -117,7 +158,7 @@ fn number_of(t: Typing) -> u32
 fn typing_at(number: u32) -> Typing
     ensures { λ r. ⌜ r ≡ stored-case number ⌝ }
 {
-    if number == 65535 {
+    if number == NO_TYPE {
         return Typing::Null;
     }
     typing_of(Type::from_number(number))
@@ -132,18 +173,19 @@ fn is_within(inner: u64, outer: u64) -> bool
 
 // A class's entry in the table of classes.
 fn entry(table: &[u16], class: u32, place: usize) -> u32
-    requires { ⌜ class * 576 + place < length (now table) ⌝ }
-    ensures { λ r. ⌜ r ≡ getD (now (table .entry)) (class * 576 + place) 0 ⌝ }
+    requires { ⌜ class * class-width + place < length (now table) ⌝ }
+    ensures { λ r. ⌜ r ≡ getD (now (table .entry)) (class * class-width + place) 0 ⌝ }
 {
-    table[class as usize * 576 + place] as u32
+    table[class as usize * CLASS_WIDTH + place] as u32
 }
 
 // The class after an effect: a state class whose root is in it becomes that root.
 fn apply(table: &[u16], effect: u64, class: u32) -> u32
-    requires { ⌜ (class * 576 + 514 < length (now table)) × (root-in (now table) class ≤ 64) ⌝ }
+    requires { ⌜ (class * class-width + root-place < length (now table)) ×
+        (root-in (now table) class ≤ of-check .classes) ⌝ }
     ensures { λ r. ⌜ r ≡ applied (now (table .entry)) effect class ⌝ }
 {
-    let root = entry(table, class, 514);
+    let root = entry(table, class, ROOT_PLACE);
     if classes::is_member(effect, root) {
         root
     } else {
@@ -154,7 +196,7 @@ fn apply(table: &[u16], effect: u64, class: u32) -> u32
 // Whether a value of an expression's type may stand where a type is declared: null fits every class and never bool.
 fn is_fitting(above: &[u64], t: Typing, u: Type) -> bool
     requires { ⌜ CaseIn (length (now above)) t ⌝ }
-    requires { ⌜ ((u .number ≡ 255 → ⊥) → u .number ≤ 64) ⌝ }
+    requires { ⌜ ((u .number ≡ bool-number → ⊥) → u .number ≤ of-check .classes) ⌝ }
     ensures { λ r. ⌜ r ≡ is-fitting (now (above .entry)) t (u .number) ⌝ }
 {
     match t {
@@ -177,18 +219,18 @@ fn nearest(table: &[u16], above: &[u64], c: u32, d: u32) -> u32
 {
     let mut k = c;
     while !classes::is_below(above, d, k) {
-        k = entry(table, k, 513);
+        k = entry(table, k, SUPER_PLACE);
     }
     k
 }
 
 // How many P lines follow one another from a row on.
 fn count_parameters(rows: &[u32], from: usize) -> usize
-    requires { ⌜ Runs (now rows) 80 from ⌝ }
-    ensures { λ r. ⌜ ((n : ℕ) → Run (now (rows .entry)) 80 from n → r ≡ n) ⌝ }
+    requires { ⌜ Runs (now rows) (code P-parameter) from ⌝ }
+    ensures { λ r. ⌜ ((n : ℕ) → Run (now (rows .entry)) (code P-parameter) from n → r ≡ n) ⌝ }
 {
     let mut n = 0;
-    while rows[(from + n) * 4] == 80 {
+    while rows[(from + n) * 4] == PARAMETER {
         n += 1;
     }
     n
@@ -202,7 +244,7 @@ fn apply_number(table: &[u16], effect: u64, number: u32) -> u32
     if number == Type::BOOL {
         return number;
     }
-    if number == 65535 {
+    if number == NO_TYPE {
         return number;
     }
     apply(table, effect, number)
@@ -241,13 +283,13 @@ fn join_number(table: &[u16], above: &[u64], a: u32, b: u32) -> u32
     if a == Type::BOOL {
         return a;
     }
-    if a == 65535 {
+    if a == NO_TYPE {
         return a;
     }
     if b == Type::BOOL {
         return a;
     }
-    if b == 65535 {
+    if b == NO_TYPE {
         return a;
     }
     nearest(table, above, a, b)
@@ -296,7 +338,7 @@ fn field_type(rows: &[u32], table: &[u16], class: u32, name: usize) -> Sought
     if place == 0 {
         return Sought::Missing;
     }
-    let row = entry(table, class, 519 + place as usize) as usize;
+    let row = entry(table, class, ROWS_BEFORE + place as usize) as usize;
     Sought::Found(Type::from_number(rows[row * 4 + 1]))
 }
 
@@ -308,23 +350,23 @@ fn join_types(table: &[u16], above: &[u64], t: Typing, u: Typing) -> Typing
     match t {
         Typing::Bool => match u {
             Typing::Bool => Typing::Bool,
-            Typing::Class(_) => Typing::Refusal(9, 0),
-            Typing::Null => Typing::Refusal(9, 0),
-            Typing::Refusal(_, _) => Typing::Refusal(9, 0),
+            Typing::Class(_) => Typing::Refusal(TYPE_REFUSAL, 0),
+            Typing::Null => Typing::Refusal(TYPE_REFUSAL, 0),
+            Typing::Refusal(_, _) => Typing::Refusal(TYPE_REFUSAL, 0),
         },
         Typing::Class(c) => match u {
             Typing::Class(d) => Typing::Class(nearest(table, above, c, d)),
             Typing::Null => Typing::Class(c),
-            Typing::Bool => Typing::Refusal(9, 0),
-            Typing::Refusal(_, _) => Typing::Refusal(9, 0),
+            Typing::Bool => Typing::Refusal(TYPE_REFUSAL, 0),
+            Typing::Refusal(_, _) => Typing::Refusal(TYPE_REFUSAL, 0),
         },
         Typing::Null => match u {
             Typing::Class(d) => Typing::Class(d),
             Typing::Null => Typing::Null,
-            Typing::Bool => Typing::Refusal(9, 0),
-            Typing::Refusal(_, _) => Typing::Refusal(9, 0),
+            Typing::Bool => Typing::Refusal(TYPE_REFUSAL, 0),
+            Typing::Refusal(_, _) => Typing::Refusal(TYPE_REFUSAL, 0),
         },
-        Typing::Refusal(_, _) => Typing::Refusal(9, 0),
+        Typing::Refusal(_, _) => Typing::Refusal(TYPE_REFUSAL, 0),
     }
 }
 
@@ -335,7 +377,7 @@ fn test_null(child: Answer, at: usize) -> Answer
 {
     let t = child.typing;
     match t {
-        Typing::Bool => refused(9, at),
+        Typing::Bool => refused(TYPE_REFUSAL, at),
         Typing::Class(_) => Answer {
             typing: Typing::Bool,
             effect: child.effect,
@@ -355,9 +397,9 @@ fn not_class(child: Answer, at: usize) -> Answer
 {
     let t = child.typing;
     match t {
-        Typing::Bool => refused(9, at),
-        Typing::Class(_) => refused(9, at),
-        Typing::Null => refused(9, at),
+        Typing::Bool => refused(TYPE_REFUSAL, at),
+        Typing::Class(_) => refused(TYPE_REFUSAL, at),
+        Typing::Null => refused(TYPE_REFUSAL, at),
         Typing::Refusal(_, _) => child,
     }
 }
@@ -369,7 +411,7 @@ fn create(rows: &[u32], count: u32, at: usize) -> Answer
 {
     let class = rows[at * 4 + 1];
     if count < class {
-        return refused(4, at);
+        return refused(NAME_REFUSAL, at);
     }
     plain(Typing::Class(class))
 }
@@ -382,11 +424,11 @@ fn read_slot(rows: &[u32], slots: &[u32], at: usize, scope: usize) -> Answer
 {
     let k = rows[at * 4 + 1] as usize;
     if scope <= k {
-        return refused(7, at);
+        return refused(SLOT_REFUSAL, at);
     }
     let number = slots[k];
-    if number == 65535 {
-        return refused(7, at);
+    if number == NO_TYPE {
+        return refused(SLOT_REFUSAL, at);
     }
     plain(typing_of(Type::from_number(number)))
 }
@@ -401,11 +443,11 @@ fn cast(rows: &[u32], count: u32, at: usize, child: Answer) -> Answer
         return child;
     }
     if count < class {
-        return refused(4, at);
+        return refused(NAME_REFUSAL, at);
     }
     let t = child.typing;
     match t {
-        Typing::Bool => refused(9, at),
+        Typing::Bool => refused(TYPE_REFUSAL, at),
         Typing::Class(_) => Answer {
             typing: Typing::Class(class),
             effect: child.effect,
@@ -436,17 +478,17 @@ fn assign(
         return child;
     }
     if k == 0 {
-        return refused(7, at);
+        return refused(SLOT_REFUSAL, at);
     }
     if scope <= k {
-        return refused(7, at);
+        return refused(SLOT_REFUSAL, at);
     }
     let t = child.typing;
     let declared = Type::from_number(slots[k]);
     if is_fitting(above, t, declared) {
         return child;
     }
-    refused(9, at)
+    refused(TYPE_REFUSAL, at)
 }
 
 // Q with more arguments than any method has parameters: 9 where the receiver is no class, else 8.
@@ -459,10 +501,10 @@ fn too_many(receiver: Answer, many: Answer, at: usize) -> Answer
     }
     let t = receiver.typing;
     match t {
-        Typing::Bool => refused(9, at),
-        Typing::Class(_) => refused(8, at),
-        Typing::Null => refused(9, at),
-        Typing::Refusal(_, _) => refused(9, at),
+        Typing::Bool => refused(TYPE_REFUSAL, at),
+        Typing::Class(_) => refused(MEMBER_REFUSAL, at),
+        Typing::Null => refused(TYPE_REFUSAL, at),
+        Typing::Refusal(_, _) => refused(TYPE_REFUSAL, at),
     }
 }
 
@@ -473,7 +515,7 @@ fn effect_at(rows: &[u32], from: usize) -> u64
 {
     let mut effect = 0;
     let mut i = from;
-    while rows[i * 4] == 88 {
+    while rows[i * 4] == EFFECT {
         effect = effect | classes::effect_of(rows[i * 4 + 1]);
         i += 1;
     }
@@ -507,13 +549,13 @@ fn are_fitting(
 
 // Whether a class is a root or a state class.
 fn is_changeable(table: &[u16], class: u32) -> bool
-    requires { ⌜ class * 576 + 512 < length (now table) ⌝ }
+    requires { ⌜ class * class-width + kind-place < length (now table) ⌝ }
     ensures { λ r. ⌜ r ≡ changeable-in (now (table .entry)) class ⌝ }
 {
     if class == Type::OBJECT {
         return false;
     }
-    let kind = entry(table, class, 512);
+    let kind = entry(table, class, KIND_PLACE);
     if kind == 1 {
         return true;
     }
@@ -536,27 +578,27 @@ fn change(
     let k = rows[at * 4 + 1] as usize;
     let target = rows[at * 4 + 2];
     if count < target {
-        return refused(4, at);
+        return refused(NAME_REFUSAL, at);
     }
     if scope <= k {
-        return refused(7, at);
+        return refused(SLOT_REFUSAL, at);
     }
     let number = slots[k];
-    if number == 65535 {
-        return refused(7, at);
+    if number == NO_TYPE {
+        return refused(SLOT_REFUSAL, at);
     }
     if number == Type::BOOL {
-        return refused(11, at);
+        return refused(CHANGE_REFUSAL, at);
     }
     if !is_changeable(table, number) {
-        return refused(11, at);
+        return refused(CHANGE_REFUSAL, at);
     }
     if !is_changeable(table, target) {
-        return refused(11, at);
+        return refused(CHANGE_REFUSAL, at);
     }
-    let root = entry(table, target, 514);
-    if entry(table, number, 514) != root {
-        return refused(11, at);
+    let root = entry(table, target, ROOT_PLACE);
+    if entry(table, number, ROOT_PLACE) != root {
+        return refused(CHANGE_REFUSAL, at);
     }
     let effect = classes::effect_of(root);
     apply_all(table, slots, scope, effect);
@@ -582,7 +624,7 @@ fn get(rows: &[u32], table: &[u16], class_at: &mut [u16], at: usize, child: Answ
     let name = rows[at * 4 + 1] as usize;
     let sought = field_type(rows, table, class, name);
     let Sought::Found(u) = sought else {
-        return refused(8, at);
+        return refused(MEMBER_REFUSAL, at);
     };
     class_at[at] = class as u16;
     let typing = typing_of(u);
@@ -611,16 +653,16 @@ fn set(
 {
     let t = object.typing;
     let Typing::Class(c) = t else {
-        return refused(9, at);
+        return refused(TYPE_REFUSAL, at);
     };
     let class = apply(table, value.effect, c);
     let sought = field_type(rows, table, class, rows[at * 4 + 1] as usize);
     let Sought::Found(u) = sought else {
-        return refused(8, at);
+        return refused(MEMBER_REFUSAL, at);
     };
     let given = value.typing;
     if !is_fitting(above, given, u) {
-        return refused(9, at);
+        return refused(TYPE_REFUSAL, at);
     }
     class_at[at] = class as u16;
     Answer {
@@ -650,22 +692,22 @@ fn invoke(
 {
     let t = receiver.typing;
     let Typing::Class(c) = t else {
-        return refused(9, at);
+        return refused(TYPE_REFUSAL, at);
     };
     let class = apply(table, effect, c);
     let name = rows[at * 4 + 1] as usize;
     let n = rows[at * 4 + 2] as usize;
-    let stored = entry(table, class, 256 + name) as usize;
+    let stored = entry(table, class, METHODS_FROM + name) as usize;
     if stored == 0 {
-        return refused(8, at);
+        return refused(MEMBER_REFUSAL, at);
     }
     let row = stored - 1;
     let parameters = count_parameters(rows, row + 1);
     if parameters != n {
-        return refused(8, at);
+        return refused(MEMBER_REFUSAL, at);
     }
     if !are_fitting(rows, above, slots, top, row + 1, n) {
-        return refused(9, at);
+        return refused(TYPE_REFUSAL, at);
     }
     let method = effect_at(rows, row + 1 + n);
     apply_all(table, slots, scope, method);
@@ -694,13 +736,13 @@ fn choice(
 {
     let t = condition.typing;
     let Typing::Bool = t else {
-        return refused(9, at);
+        return refused(TYPE_REFUSAL, at);
     };
     let first = yes.typing;
     let second = no.typing;
     let joined = join_types(table, above, first, second);
     if let Typing::Refusal(_, _) = joined {
-        return refused(9, at);
+        return refused(TYPE_REFUSAL, at);
     }
     join_slots(table, above, slots, scope, top);
     Answer {
@@ -728,7 +770,7 @@ fn open(rows: &[u32], slots: &mut [u32], count: u32, at: usize, scope: usize, v:
     for i in 0..v {
         let number = rows[(at + 1 + i) * 4 + 1];
         if !is_type(count, number) {
-            return refused(4, at + 1 + i);
+            return refused(NAME_REFUSAL, at + 1 + i);
         }
         slots[scope + i] = number;
     }
@@ -756,13 +798,13 @@ fn expression(
 {
     let letter = rows[at * 4];
     match letter {
-        84 => plain(Typing::Bool),
-        76 => plain(Typing::Bool),
-        78 => plain(Typing::Null),
-        73 => read_slot(rows, slots, at, scope),
-        87 => create(rows, count, at),
-        82 => change(rows, table, slots, count, at, scope),
-        85 => write(
+        TRUE => plain(Typing::Bool),
+        FALSE => plain(Typing::Bool),
+        NULL => plain(Typing::Null),
+        SLOT => read_slot(rows, slots, at, scope),
+        NEW => create(rows, count, at),
+        CHANGE => change(rows, table, slots, count, at, scope),
+        SET => write(
             rows,
             ends,
             table,
@@ -774,7 +816,7 @@ fn expression(
             scope,
             top,
         ),
-        81 => call(
+        CALL => call(
             rows,
             ends,
             table,
@@ -786,7 +828,7 @@ fn expression(
             scope,
             top,
         ),
-        74 => choose(
+        CHOOSE => choose(
             rows,
             ends,
             table,
@@ -798,7 +840,7 @@ fn expression(
             scope,
             top,
         ),
-        66 => block(
+        BLOCK => block(
             rows,
             ends,
             table,
@@ -859,9 +901,9 @@ fn unary(
     );
     let letter = rows[at * 4];
     match letter {
-        90 => test_null(child, at),
-        71 => get(rows, table, class_at, at, child),
-        75 => cast(rows, count, at, child),
+        IS_NULL => test_null(child, at),
+        GET => get(rows, table, class_at, at, child),
+        CAST => cast(rows, count, at, child),
         _ => assign(rows, above, slots, at, scope, child),
     }
 }
@@ -879,7 +921,7 @@ fn write(
     scope: usize,
     top: usize,
 ) -> Answer
-    requires { ⌜ getD (now rows) (at * 4) 0 ≡ 85 ⌝ }
+    requires { ⌜ getD (now rows) (at * 4) 0 ≡ code U-set ⌝ }
     requires { ⌜ Pre (now rows) (now ends) (now table) (now above) (now slots) (now «class_at») count at scope
         top ⌝ }
     ensures { λ r. ⌜ Post (now (rows .entry)) (now (ends .entry)) (now (table .entry)) (now (above .entry))
@@ -933,7 +975,7 @@ fn call(
     scope: usize,
     top: usize,
 ) -> Answer
-    requires { ⌜ getD (now rows) (at * 4) 0 ≡ 81 ⌝ }
+    requires { ⌜ getD (now rows) (at * 4) 0 ≡ code Q-call ⌝ }
     requires { ⌜ Pre (now rows) (now ends) (now table) (now above) (now slots) (now «class_at») count at scope
         top ⌝ }
     ensures { λ r. ⌜ Post (now (rows .entry)) (now (ends .entry)) (now (table .entry)) (now (above .entry))
@@ -957,7 +999,7 @@ fn call(
     }
     let next = ends[at + 1] as usize;
     let n = rows[at * 4 + 2] as usize;
-    if 8 < n {
+    if MOST_ARGUMENTS < n {
         let many = items(
             rows,
             ends,
@@ -1017,7 +1059,7 @@ fn choose(
     scope: usize,
     top: usize,
 ) -> Answer
-    requires { ⌜ getD (now rows) (at * 4) 0 ≡ 74 ⌝ }
+    requires { ⌜ getD (now rows) (at * 4) 0 ≡ code J-choose ⌝ }
     requires { ⌜ Pre (now rows) (now ends) (now table) (now above) (now slots) (now «class_at») count at scope
         top ⌝ }
     ensures { λ r. ⌜ Post (now (rows .entry)) (now (ends .entry)) (now (table .entry)) (now (above .entry))
@@ -1089,7 +1131,7 @@ fn block(
     scope: usize,
     top: usize,
 ) -> Answer
-    requires { ⌜ getD (now rows) (at * 4) 0 ≡ 66 ⌝ }
+    requires { ⌜ getD (now rows) (at * 4) 0 ≡ code B-block ⌝ }
     requires { ⌜ Pre (now rows) (now ends) (now table) (now above) (now slots) (now «class_at») count at scope
         top ⌝ }
     ensures { λ r. ⌜ Post (now (rows .entry)) (now (ends .entry)) (now (table .entry)) (now (above .entry))
@@ -1183,7 +1225,7 @@ fn arguments(
     top: usize,
     n: usize,
 ) -> Answer
-    requires { ⌜ 256 ≤ top ⌝ }
+    requires { ⌜ of-check .slots ≤ top ⌝ }
     requires { ⌜ PreList (now rows) (now ends) (now table) (now above) (now slots) (now «class_at»)
         count at scope (top + n) n ⌝ }
     ensures { λ r. ⌜ PostArguments (now (rows .entry)) (now (ends .entry)) (now (table .entry))
@@ -1250,7 +1292,7 @@ fn body_row(rows: &[u32], at: usize) -> usize
     ensures { λ r. ⌜ ((b : ℕ) → FirstBlock (now (rows .entry)) at b → r ≡ b) ⌝ }
 {
     let mut i = at + 1;
-    while rows[i * 4] != 66 {
+    while rows[i * 4] != BLOCK {
         i += 1;
     }
     i
@@ -1287,18 +1329,18 @@ fn method(
         count,
         body,
         n + 1,
-        256,
+        MOST_SLOTS,
     );
     let t = r.typing;
     if let Typing::Refusal(number, line) = t {
         return Verdict::Refused(number, line);
     }
     if !is_fitting(above, t, Type::from_number(rows[at * 4 + 1])) {
-        return Verdict::Refused(9, at as u32 + 1);
+        return Verdict::Refused(TYPE_REFUSAL, at as u32 + 1);
     }
     let declared = effect_at(rows, at + 1 + n);
     if !is_within(r.effect, declared) {
-        return Verdict::Refused(10, at as u32 + 1);
+        return Verdict::Refused(EFFECT_REFUSAL, at as u32 + 1);
     }
     Verdict::Accepted
 }
@@ -1321,7 +1363,7 @@ fn pass_line(
         (now (above .entry)) (now (slots .entry)) (now («class_at» .entry)) (now (slots .exit))
         (now («class_at» .exit)) count owner at r ⌝ }
 {
-    if rows[at * 4] != 77 {
+    if rows[at * 4] != METHOD {
         return Verdict::Accepted;
     }
     method(rows, ends, table, above, slots, class_at, count, owner, at)
@@ -1332,7 +1374,7 @@ fn class_after(rows: &[u32], class: u32, at: usize) -> u32
     requires { ⌜ (at * 4 + 3 < length (now rows)) × (class < 65536) ⌝ }
     ensures { λ r. ⌜ r ≡ class-next (now (rows .entry)) class at ⌝ }
 {
-    if rows[at * 4] == 67 {
+    if rows[at * 4] == CLASS {
         return class + 1;
     }
     class
@@ -1343,7 +1385,7 @@ fn row_after(rows: &[u32], ends: &[u16], at: usize) -> usize
     requires { ⌜ PreNext (now rows) (now ends) at ⌝ }
     ensures { λ r. ⌜ PostNext (now (rows .entry)) (now (ends .entry)) at r ⌝ }
 {
-    if rows[at * 4] == 77 {
+    if rows[at * 4] == METHOD {
         let body = body_row(rows, at);
         return ends[body] as usize;
     }
@@ -1368,7 +1410,7 @@ pub fn check_bodies(
 {
     let mut at = 0;
     let mut class = 0;
-    while rows[at * 4] != 83 {
+    while rows[at * 4] != START {
         let v = pass_line(rows, ends, table, above, slots, class_at, count, class, at);
         if let Verdict::Refused(number, line) = v {
             return Verdict::Refused(number, line);
@@ -1376,7 +1418,7 @@ pub fn check_bodies(
         class = class_after(rows, class, at);
         at = row_after(rows, ends, at);
     }
-    slots[0] = 65535;
+    slots[0] = NO_TYPE;
     let r = expression(
         rows,
         ends,
@@ -1387,7 +1429,7 @@ pub fn check_bodies(
         count,
         at + 1,
         1,
-        256,
+        MOST_SLOTS,
     );
     let t = r.typing;
     if let Typing::Refusal(number, line) = t {

@@ -58,7 +58,7 @@ module _ {R E T A : List ℕ} {p : Program} (h : ProgramAt R E p) (t : ClassTabl
           x .row .found,
           heading-at k m r x,
           g .result,
-          λ i s q. declared-nth (g .parameters) i s q,
+          λ i s q. declared-nth P (g .parameters) i s q,
         );
     no-method = λ k m l e. found-none P k m e;
   }

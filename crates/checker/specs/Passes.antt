@@ -9,7 +9,7 @@ use Rattle.language.specs.Results.{Checked, accept, passed, bind-checked}
 use Rattle.language.specs.Tree.{Program}
 use Rattle.language.specs.Headings.{headings}
 use Rattle.language.specs.Typing.{bodies}
-use Rattle.language.specs.ClassTables.{ClassTables}
+use Rattle.language.specs.ClassTables.{ClassTables, class-width}
 use Rattle.language.specs.Layout.{ProgramAt, LooksUpProgram}
 
 -- The passes that follow form, and headings.
@@ -21,15 +21,15 @@ after-form p = bind-checked (headings of-check (p .classes)) λ _. after-heading
 
 -- Tables that are long enough for the numbers R: an entry for each row that may be accepted, 64 classes and Object.
 pub record Lent (R E T A C : List ℕ) : Type 0 where
-  pub room : (length R ≤ 4 * length E) ⊎ (60000 ≤ length E)
+  pub room : (length R ≤ 4 * length E) ⊎ (of-check .rows ≤ length E)
   pub nodes : length E ≤ length C
-  pub long : 37440 ≤ length T
-  pub long-above : 65 ≤ length A
+  pub long : (of-check .classes + 1) * class-width ≤ length T
+  pub long-above : of-check .classes + 1 ≤ length A
 
 -- Whole rows, and tables of ends and of lookup classes with an entry for each row that may be accepted.
 pub record Room (R E C : List ℕ) : Type 0 where
   pub whole : length R % 4 ≡ 0
-  pub room : (length R ≤ 4 * length E) ⊎ (60000 ≤ length E)
+  pub room : (length R ≤ 4 * length E) ⊎ (of-check .rows ≤ length E)
   pub nodes : length E ≤ length C
 
 -- After form: a program of so many classes stands in the rows.
@@ -45,8 +45,8 @@ pub record FormPassed (R E T A C : List ℕ) (classes : ℕ) : Type 0 where
   pub here : ProgramAt R E program
   pub counted : length (program .classes) ≡ classes
   pub nodes : length E ≤ length C
-  pub long : (classes + 1) * 576 ≤ length T
-  pub long-above : 65 ≤ length A
+  pub long : (classes + 1) * class-width ≤ length T
+  pub long-above : of-check .classes + 1 ≤ length A
 
 -- After headings.
 pub record HeadingsPassed (R E T A C : List ℕ) (classes : ℕ) : Type 0 where

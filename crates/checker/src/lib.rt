@@ -1,6 +1,11 @@
 // The check of rows: their length, then form, headings and bodies (document 01, "Refusals and stops").
+use language::ALL_CLASSES;
+use language::CLASS_WIDTH;
+use language::LINE_REFUSAL;
+use language::MOST_ROWS;
+use language::TABLE_LENGTH;
 ghost use mathlib.Core.Path.{_≡_};
-ghost use Prim.Native.Nat.{_%_, _≤_};
+ghost use Prim.Native.Nat.{_+_, _%_, _≤_};
 ghost use lib.ListN.{length};
 ghost use Rattle.language.specs.Results.{accept};
 ghost use Rattle.language.specs.Tree.{Program};
@@ -10,6 +15,22 @@ ghost use Rattle.classes.specs.Subclasses.{Subclasses};
 ghost use Rattle.checker.specs.Answers.{checked-case, verdict-case, verdict-of-checked};
 ghost use Rattle.checker.specs.Passes.{after-headings, after-form, Lent, Room, Stands, FormPassed};
 ghost use Rattle.checker.specs.Passes.{HeadingsPassed, Held};
+ghost use Rattle.language.specs.Limits.{of-check};
+
+// Rows as lengths of tables: all that there may be, and few, with their numbers.
+pub const ALL_ROWS: usize = MOST_ROWS as usize;
+
+pub const FEW_ROWS: usize = 1024;
+
+pub const FEW_NUMBERS: usize = 4096;
+
+// Few classes, and how many numbers their table has, Object's included.
+const FEW_CLASSES: u32 = 7;
+
+const FEW_TABLE: usize = 8 * CLASS_WIDTH;
+
+// How many slots typing takes: 256 for each of 128 nested nodes, and those in scope.
+const SLOTS: usize = 33024;
 
 // Accepted, with so many classes; or a refusal's number and line.
 pub enum Checked {
@@ -49,7 +70,7 @@ fn type_bodies(
         × ((p : Program) → after-headings (w .program) ≡ accept p → LooksUpProgram (now (lookups .exit)) p))
         ⌝ }
 {
-    let mut slots = [0u32; 33024];
+    let mut slots = [0u32; SLOTS];
     let v = bodies::check_bodies(rows, ends, tables, above, &mut slots, lookups, classes);
     match v {
         bodies::Verdict::Accepted => Checked::Accepted(classes),
@@ -96,7 +117,7 @@ pub fn check_into(
         (now (lookups .exit)) p) ⌝ }
 {
     if rows.len() % 4 != 0 {
-        return Checked::Refused(1, 0);
+        return Checked::Refused(LINE_REFUSAL, 0);
     }
     let f = form::check_form(rows, ends);
     match f {
@@ -116,24 +137,24 @@ fn check_classes(
     classes: u32,
 ) -> Checked
     requires { ⌜ Stands (now rows) (now ends) (now lookups) classes ⌝ }
-    requires { ⌜ 65 ≤ length (now above) ⌝ }
+    requires { ⌜ of-check .classes + 1 ≤ length (now above) ⌝ }
     ensures { λ r. ⌜ ((w : Stands (now (rows .entry)) (now (ends .entry)) (now (lookups .entry)) classes)
         → (r ≡ checked-case (after-form (w .program)))
         × ((p : Program) → after-form (w .program) ≡ accept p → Subclasses (p .classes) (now (above .exit))))
         ⌝ }
 {
-    if classes <= 7 {
-        let mut tables = [0u16; 4608];
+    if classes <= FEW_CLASSES {
+        let mut tables = [0u16; FEW_TABLE];
         return check_formed(rows, ends, &mut tables, above, lookups, classes);
     }
-    let mut tables = [0u16; 37440];
+    let mut tables = [0u16; TABLE_LENGTH];
     check_formed(rows, ends, &mut tables, above, lookups, classes)
 }
 
 // Checks whole rows with lent tables of ends and lookup classes. Form counts the classes before there is a class table.
 fn check_whole(rows: &[u32], ends: &mut [u16], above: &mut [u64], lookups: &mut [u16]) -> Checked
     requires { ⌜ Room (now rows) (now ends) (now lookups) ⌝ }
-    requires { ⌜ 65 ≤ length (now above) ⌝ }
+    requires { ⌜ of-check .classes + 1 ≤ length (now above) ⌝ }
     ensures { λ r. ⌜ (r ≡ checked-case (check (now (rows .entry))))
         × ((p : Program) → check (now (rows .entry)) ≡ accept p → Subclasses (p .classes) (now (above .exit)))
         ⌝ }
@@ -147,50 +168,51 @@ fn check_whole(rows: &[u32], ends: &mut [u16], above: &mut [u64], lookups: &mut 
 
 // The check of at most 1,024 whole rows.
 fn check_few(rows: &[u32], above: &mut [u64]) -> Checked
-    requires { ⌜ (length (now rows) % 4 ≡ 0) × (length (now rows) ≤ 4096) × (65 ≤ length (now above)) ⌝ }
+    requires { ⌜ (length (now rows) % 4 ≡ 0) × (length (now rows) ≤ 4096) ×
+        (of-check .classes + 1 ≤ length (now above)) ⌝ }
     ensures { λ r. ⌜ (r ≡ checked-case (check (now (rows .entry))))
         × ((p : Program) → check (now (rows .entry)) ≡ accept p → Subclasses (p .classes) (now (above .exit)))
         ⌝ }
 {
-    let mut ends = [0u16; 1024];
-    let mut lookups = [0u16; 1024];
+    let mut ends = [0u16; FEW_ROWS];
+    let mut lookups = [0u16; FEW_ROWS];
     check_whole(rows, &mut ends, above, &mut lookups)
 }
 
 // The check of any number of whole rows.
 fn check_many(rows: &[u32], above: &mut [u64]) -> Checked
-    requires { ⌜ (length (now rows) % 4 ≡ 0) × (65 ≤ length (now above)) ⌝ }
+    requires { ⌜ (length (now rows) % 4 ≡ 0) × (of-check .classes + 1 ≤ length (now above)) ⌝ }
     ensures { λ r. ⌜ (r ≡ checked-case (check (now (rows .entry))))
         × ((p : Program) → check (now (rows .entry)) ≡ accept p → Subclasses (p .classes) (now (above .exit)))
         ⌝ }
 {
-    let mut ends = [0u16; 60000];
-    let mut lookups = [0u16; 60000];
+    let mut ends = [0u16; ALL_ROWS];
+    let mut lookups = [0u16; ALL_ROWS];
     check_whole(rows, &mut ends, above, &mut lookups)
 }
 
 // Checks rows with a lent table of superclasses, which tells of an accepted program which class stands below which.
 // Few rows and few classes pay for short tables alone.
 pub fn check_above(rows: &[u32], above: &mut [u64]) -> Checked
-    requires { ⌜ 65 ≤ length (now above) ⌝ }
+    requires { ⌜ of-check .classes + 1 ≤ length (now above) ⌝ }
     ensures { λ r. ⌜ (r ≡ checked-case (check (now (rows .entry))))
         × ((p : Program) → check (now (rows .entry)) ≡ accept p → Subclasses (p .classes) (now (above .exit)))
         ⌝ }
 {
     if rows.len() % 4 == 0 {
-        if rows.len() <= 4096 {
+        if rows.len() <= FEW_NUMBERS {
             return check_few(rows, above);
         }
         return check_many(rows, above);
     }
-    Checked::Refused(1, 0)
+    Checked::Refused(LINE_REFUSAL, 0)
 }
 
 // Checks rows.
 pub fn check_rows(rows: &[u32]) -> Verdict
     ensures { λ r. ⌜ r ≡ verdict-case (verdict (now (rows .entry))) ⌝ }
 {
-    let mut above = [0u64; 65];
+    let mut above = [0u64; ALL_CLASSES];
     let checked = check_above(rows, &mut above);
     verdict_of(checked)
 }

@@ -4,6 +4,7 @@ ghost use Prim.Native.Nat.{_-_, _≤_, _<_};
 ghost use lib.ListN.{length};
 ghost use Rattle.language.specs.Effects.{member, effect-of};
 ghost use Rattle.classes.specs.Subclasses.{is-below};
+ghost use Rattle.language.specs.Limits.{of-check};
 
 // The bit of a class in a set.
 fn place_of(class: u32) -> u32
@@ -17,7 +18,7 @@ fn place_of(class: u32) -> u32
 
 // Whether a class is in a set.
 pub fn is_member(set: u64, class: u32) -> bool
-    requires { ⌜ class ≤ 64 ⌝ }
+    requires { ⌜ class ≤ of-check .classes ⌝ }
     ensures { λ r. ⌜ r ≡ member set class ⌝ }
 {
     let place = place_of(class);
@@ -26,7 +27,7 @@ pub fn is_member(set: u64, class: u32) -> bool
 
 // The set of one class.
 pub fn effect_of(class: u32) -> u64
-    requires { ⌜ class ≤ 64 ⌝ }
+    requires { ⌜ class ≤ of-check .classes ⌝ }
     ensures { λ r. ⌜ r ≡ effect-of class ⌝ }
 {
     let place = place_of(class);
@@ -35,7 +36,7 @@ pub fn effect_of(class: u32) -> u64
 
 // Whether a class is another or stands below it: every class stands below Object, which is class 0 and in no set.
 pub fn is_below(above: &[u64], class: u32, over: u32) -> bool
-    requires { ⌜ (class < length (now above)) × (over ≤ 64) ⌝ }
+    requires { ⌜ (class < length (now above)) × (over ≤ of-check .classes) ⌝ }
     ensures { λ r. ⌜ r ≡ is-below (now (above .entry)) class over ⌝ }
 {
     if over == 0 {

@@ -12,13 +12,14 @@ use Rattle.language.specs.Results.{Checked, accept, refuse, bind-checked, bind-
 use Rattle.language.specs.Filling.{held, filled, overwritten, answer, buffer}
 use Rattle.language.specs.declared.Filled.{Filled}
 use Rattle.language.specs.declared.Filled.the-variants.{Done, Refused}
-use Rattle.language.specs.Evaluation.{null, truth, object, raised, spent, deep, full, stuck}
+use Rattle.language.specs.State.{null, truth, object, raised, spent, deep, full, stuck}
 use Rattle.language.specs.Store.{Answer, gave, ended, refused, ran, run-of}
 use Rattle.language.specs.Translation.{translation}
 use Rattle.language.proofs.Filling.{take-sets, sets-then, held-inv, held-again, answer-fits, answer-short}
 use Rattle.language.proofs.Filling.{answer-refused, answer-refused-inv, answer-done-inv, buffer-long}
 use Rattle.theory.specs.Translatable.{translation-takes}
 use Rattle.theory.specs.Accepts.{numbers-whole}
+use Rattle.language.specs.Alphabet.{ours}
 use Rattle.language.specs.Texts.{read-text, write-rows}
 use Rattle.text.proofs.Parsing.{read-whole-rows}
 use Rattle.runner.specs.Answers.{answer-told}
@@ -91,7 +92,7 @@ pub source-long : (input : List ℕ) → 8192 < length input → source-rows inp
 unfolding source-rows bind-checked
 source-long input h = rw (lt-leb (length input) 8192 h)
 
-source-read : (input : List ℕ) → length input ≤ 8192 → source-rows input ≡ held 2720 (read-text input)
+source-read : (input : List ℕ) → length input ≤ 8192 → source-rows input ≡ held 2720 (read-text ours input)
 unfolding source-rows bind-checked
 source-read input h = rw (le-leb (length input) 8192 h)
 
@@ -100,22 +101,23 @@ module _ (input old : List ℕ) (h : length old ≡ 2720) where
       → (Refused 13 0 ≡ answer 4 (source-rows input) (length old)) × (old ≡ buffer (source-rows input) old)
   source-refused l = answer-refused 4 13 0 old (source-long input l)
 
-  source-held : length input ≤ 8192 → source-rows input ≡ held (length old) (read-text input)
+  source-held : length input ≤ 8192 → source-rows input ≡ held (length old) (read-text ours input)
   source-held l = source-read input l ∙ rw h
 
   pub source-answer : length input ≤ 8192
-      → answer 4 (read-text input) (length old) ≡ answer 4 (source-rows input) (length old)
-  source-answer l = rw (source-held l) (ap (filled 4) (sym (held-again (length old) (read-text input))))
+      → answer 4 (read-text ours input) (length old) ≡ answer 4 (source-rows input) (length old)
+  source-answer l = rw (source-held l) (ap (filled 4) (sym (held-again (length old) (read-text ours input))))
 
-  pub source-buffer : length input ≤ 8192 → buffer (read-text input) old ≡ buffer (source-rows input) old
+  pub source-buffer : length input ≤ 8192 → buffer (read-text ours input) old ≡ buffer (source-rows input) old
   source-buffer l = rw (source-held l)
-      (ap (λ (c : Checked (List ℕ)). overwritten c old) (sym (held-again (length old) (read-text input))))
+      (ap (λ (c : Checked (List ℕ)). overwritten c old)
+      (sym (held-again (length old) (read-text ours input))))
 
 pub source-whole : (input xs : List ℕ) → source-rows input ≡ accept xs → length xs % 4 ≡ 0
 unfolding source-rows
 source-whole input xs e =
-    bind-checked-inv (held 8192 (accept input)) (λ text. held 2720 (read-text text)) e λ text _ f.
-    read-whole-rows text xs (held-inv 2720 (read-text text) xs f .0)
+    bind-checked-inv (held 8192 (accept input)) (λ text. held 2720 (read-text ours text)) e λ text _ f.
+    read-whole-rows ours text xs (held-inv 2720 (read-text ours text) xs f .0)
 
 -- the rows of an input are held already
 source-again : (input : List ℕ) → held 2720 (source-rows input) ≡ source-rows input
@@ -123,8 +125,8 @@ unfolding source-rows bind-checked
 source-again input = go (leb (length input) 8192)
   where
     go : (t : Bool) → let rows = bind-checked (cond t (accept input) (refuse 13 0)) (λ text.
-        held 2720 (read-text text)) in held 2720 rows ≡ rows
-    go true = held-again 2720 (read-text input)
+        held 2720 (read-text ours text)) in held 2720 rows ≡ rows
+    go true = held-again 2720 (read-text ours input)
     go false = refl
 
 -- ---- the plain program
@@ -161,9 +163,10 @@ refused-shown m k t n l e q = q ∙ sym (ap (λ (x : Checked (List ℕ)). printe
 
 -- the two programs, from the rows on
 module _ (rows new : List ℕ) (n : ℕ) (g : RowsMade (held 4000 (translation rows)) new n) (t : List ℕ) where
-  pub plain-shown : t ≡ printed (held 8192 (write-rows (take (n * 4) new))) → t ≡ printed (plain-text rows)
+  pub plain-shown : t ≡ printed (held 8192 (write-rows ours (take (n * 4) new)))
+      → t ≡ printed (plain-text rows)
   unfolding plain-text
-  plain-shown e = next-shown g (λ plain. held 8192 (write-rows plain)) t e
+  plain-shown e = next-shown g (λ plain. held 8192 (write-rows ours plain)) t e
 
   pub run-shown : t ≡ run-line rows ++ run-line (take (n * 4) new) → t ≡ printed (run-lines rows)
   unfolding run-lines
@@ -174,7 +177,8 @@ module _ (rows old : List ℕ) (r : Filled) (n l : ℕ) (h : length old ≡ 4000
     (e : t ≡ refusal-text n l) where
   pub plain-refused : t ≡ printed (plain-text rows)
   unfolding plain-text
-  plain-refused = refused-shown (held 4000 (translation rows)) (λ plain. held 8192 (write-rows plain)) t n l
+  plain-refused = refused-shown (held 4000 (translation rows))
+      (λ plain. held 8192 (write-rows ours plain)) t n l
       (held-refused 4 4000 (translation rows) old r n l h a d) e
 
   pub run-refused : t ≡ printed (run-lines rows)
@@ -215,22 +219,23 @@ module _ (input old : List ℕ) (r : Filled) (n l : ℕ) (h : length old ≡ 272
 
 -- the text of rows, or the refusal
 module _ (plain old new : List ℕ) (r : Filled) (h : length old ≡ 8192)
-    (a : r ≡ answer 1 (write-rows plain) (length old)) (w : new ≡ buffer (write-rows plain) old) where
+    (a : r ≡ answer 1 (write-rows ours plain) (length old))
+    (w : new ≡ buffer (write-rows ours plain) old) where
   pub rows-shown : (n : ℕ) → r ≡ Done n
-      → (take n new ≡ printed (held 8192 (write-rows plain))) × (n ≤ length new)
+      → (take n new ≡ printed (held 8192 (write-rows ours plain))) × (n ≤ length new)
   rows-shown n d =
-      let k = answer-done-inv 1 (write-rows plain) old new n (sym a ∙ d) w in
+      let k = answer-done-inv 1 (write-rows ours plain) old new n (sym a ∙ d) w in
       let e : n ≡ length (k .numbers) = omega (arith, k .count) in (
         rw e (k .first ∙ sym (ap (λ (x : Checked (List ℕ)). printed x)
-            (ap (λ (x : ℕ). held x (write-rows plain)) (sym h) ∙ k .is))),
-        omega (arith, e, k .fits, ap length w ∙ buffer-long (write-rows plain) old),
+            (ap (λ (x : ℕ). held x (write-rows ours plain)) (sym h) ∙ k .is))),
+        omega (arith, e, k .fits, ap length w ∙ buffer-long (write-rows ours plain) old),
       )
 
   pub rows-refused : (n l : ℕ) → r ≡ Refused n l → (t : List ℕ) → t ≡ refusal-text n l
-      → t ≡ printed (held 8192 (write-rows plain))
+      → t ≡ printed (held 8192 (write-rows ours plain))
   rows-refused n l d t e = e
       ∙ sym (ap (λ (x : Checked (List ℕ)). printed x)
-      (held-refused 1 8192 (write-rows plain) old r n l h a d))
+      (held-refused 1 8192 (write-rows ours plain) old r n l h a d))
 
 -- two lines, one after the other
 pub both-shown : (old mid new xs ys : List ℕ) (then r : ℕ) → then ≡ 0 + length xs → r ≡ then + length ys

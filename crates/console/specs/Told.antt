@@ -10,11 +10,12 @@ use Rattle.machine.specs.declared.Run.{Run}
 use Rattle.runner.specs.declared.Answer.{Answer}
 use Rattle.runner.specs.declared.Answer.the-variants.{Refused, Ran}
 use Rattle.language.specs.Printed.{number-text, counts-text, refusal-text}
+use Rattle.language.specs.Rows.{code, T-true, L-false, N-null}
 
 abbrev pub value-text : Value → List ℕ
-value-text Null = 78 ∷ []
-value-text (Truth true) = 84 ∷ []
-value-text (Truth false) = 76 ∷ []
+value-text Null = code N-null ∷ []
+value-text (Truth true) = code T-true ∷ []
+value-text (Truth false) = code L-false ∷ []
 value-text (Object j) = 79 ∷ number-text j
 
 abbrev pub end-text : End → List ℕ

@@ -1,7 +1,11 @@
 // What the two programs print (document 01, "Worked programs"). Callers use `translate_input` and `run_input`, which
 // take any input and a lent output of any length. The other functions write into 8,192 bytes held aside, which are
 // enough for every output.
+use language::FALSE;
 use language::Filled;
+use language::NULL;
+use language::ROOM_REFUSAL;
+use language::TRUE;
 use machine::End;
 use machine::Run;
 use objects::Value;
@@ -13,11 +17,39 @@ ghost use lib.ListN.{length, take};
 ghost use lib.Seq.{sets};
 ghost use Rattle.language.specs.Results.{accept};
 ghost use Rattle.language.specs.Filling.{held, answer, buffer};
+ghost use Rattle.language.specs.Alphabet.{ours};
 ghost use Rattle.language.specs.Texts.{write-rows};
 ghost use Rattle.language.specs.Printed.{refusal-text, counts-text, number-text, run-line, source-rows};
 ghost use Rattle.language.specs.Printed.{printed, plain-text, run-lines, translate-output};
 ghost use Rattle.language.specs.Printed.{run-output};
 ghost use Rattle.console.specs.Told.{value-text, end-text, ran-text, answer-text};
+ghost use Rattle.language.specs.Limits.{text-room, source-room};
+
+// The bytes of what is printed: null, a truth value, an object, an exception, a refusal or stop, and the end of a line.
+const NULL_BYTE: u8 = NULL as u8;
+
+const TRUE_BYTE: u8 = TRUE as u8;
+
+const FALSE_BYTE: u8 = FALSE as u8;
+
+const OBJECT_BYTE: u8 = 79;
+
+const EXCEPTION_BYTE: u8 = 69;
+
+const STOP_BYTE: u8 = 33;
+
+const LINE_FEED: u8 = 10;
+
+// What the programs hold: bytes of text, numbers of source rows and of plain rows, numbers of a store, and fuel.
+const TEXT_ROOM: usize = 8192;
+
+const SOURCE_ROOM: usize = 2720;
+
+const PLAIN_ROOM: usize = 4000;
+
+const STORE_ROOM: usize = 3000;
+
+const PROGRAM_FUEL: u64 = 10000;
 
 // Writes a letter at a place, and answers the place after it.
 fn put_letter(out: &mut [u8], at: usize, letter: u8) -> usize
@@ -44,9 +76,9 @@ fn put_refusal(out: &mut [u8], at: usize, number: u32, line: u32) -> usize
     ensures { λ r. ⌜ (r ≡ at + length (refusal-text number line)) × (r ≤ at + 24)
         × (now (out .exit) ≡ sets (now (out .entry)) at (refusal-text number line)) ⌝ }
 {
-    let then = put_numbered(out, at, 33, number);
+    let then = put_numbered(out, at, STOP_BYTE, number);
     let end = fields::write_number(out, then, line);
-    out[end] = 10;
+    out[end] = LINE_FEED;
     end + 1
 }
 
@@ -57,14 +89,14 @@ fn put_value(out: &mut [u8], at: usize, value: Value) -> usize
         × (now (out .exit) ≡ sets (now (out .entry)) at (value-text value)) ⌝ }
 {
     match value {
-        Value::Null => put_letter(out, at, 78),
+        Value::Null => put_letter(out, at, NULL_BYTE),
         Value::Truth(b) => {
             if b {
-                return put_letter(out, at, 84);
+                return put_letter(out, at, TRUE_BYTE);
             }
-            put_letter(out, at, 76)
+            put_letter(out, at, FALSE_BYTE)
         }
-        Value::Object(j) => put_numbered(out, at, 79, j),
+        Value::Object(j) => put_numbered(out, at, OBJECT_BYTE, j),
     }
 }
 
@@ -76,8 +108,8 @@ fn put_outcome(out: &mut [u8], at: usize, outcome: End) -> usize
 {
     match outcome {
         End::Gave(v) => put_value(out, at, v),
-        End::Raised(n) => put_numbered(out, at, 69, n),
-        End::Stopped(n) => put_numbered(out, at, 33, n),
+        End::Raised(n) => put_numbered(out, at, EXCEPTION_BYTE, n),
+        End::Stopped(n) => put_numbered(out, at, STOP_BYTE, n),
     }
 }
 
@@ -90,7 +122,7 @@ fn put_counts(out: &mut [u8], at: usize, steps: u32, objects: u32, changes: u32)
     let first = fields::write_number(out, at, steps);
     let second = fields::write_number(out, first, objects);
     let end = fields::write_number(out, second, changes);
-    out[end] = 10;
+    out[end] = LINE_FEED;
     end + 1
 }
 
@@ -123,27 +155,28 @@ fn put_line(out: &mut [u8], at: usize, rows: &[u32]) -> usize
     ensures { λ r. ⌜ (r ≡ at + length (run-line (now (rows .entry)))) × (r ≤ at + 46)
         × (now (out .exit) ≡ sets (now (out .entry)) at (run-line (now (rows .entry)))) ⌝ }
 {
-    let mut store = [0u32; 3000];
-    let answer = runner::run_rows(rows, &mut store, 10000);
+    let mut store = [0u32; STORE_ROOM];
+    let answer = runner::run_rows(rows, &mut store, PROGRAM_FUEL);
     put_answer(out, at, answer)
 }
 
 // Reads an input into rows.
 fn read_source(input: &[u8], rows: &mut [u32]) -> Filled
-    requires { ⌜ length (now rows) ≡ 2720 ⌝ }
+    requires { ⌜ length (now rows) ≡ source-room ⌝ }
     ensures { λ r. ⌜ (r ≡ answer 4 (source-rows (now (input .entry))) (length (now (rows .entry))))
         × (now (rows .exit) ≡ buffer (source-rows (now (input .entry))) (now (rows .entry))) ⌝ }
 {
-    if 8192 < input.len() {
-        return Filled::Refused(13, 0);
+    if TEXT_ROOM < input.len() {
+        return Filled::Refused(ROOM_REFUSAL, 0);
     }
     text::read_rows(input, rows)
 }
 
 // Writes the text of plain rows, or the line of the refusal.
 fn put_rows(plain: &[u32], out: &mut [u8]) -> usize
-    requires { ⌜ length (now out) ≡ 8192 ⌝ }
-    ensures { λ r. ⌜ (take r (now (out .exit)) ≡ printed (held 8192 (write-rows (now (plain .entry)))))
+    requires { ⌜ length (now out) ≡ text-room ⌝ }
+    ensures { λ r. ⌜ (take r (now (out .exit)) ≡ printed
+        (held text-room (write-rows ours (now (plain .entry)))))
         × (r ≤ length (now (out .exit))) ⌝ }
 {
     let written = text::write_text(plain, out);
@@ -155,11 +188,11 @@ fn put_rows(plain: &[u32], out: &mut [u8]) -> usize
 
 // Translates rows, and writes the text of the plain rows.
 fn translate_source(rows: &[u32], out: &mut [u8]) -> usize
-    requires { ⌜ length (now out) ≡ 8192 ⌝ }
+    requires { ⌜ length (now out) ≡ text-room ⌝ }
     ensures { λ r. ⌜ (take r (now (out .exit)) ≡ printed (plain-text (now (rows .entry)))) ×
         (r ≤ length (now (out .exit))) ⌝ }
 {
-    let mut plain = [0u32; 4000];
+    let mut plain = [0u32; PLAIN_ROOM];
     let translated = translator::translate_rows(rows, &mut plain);
     match translated {
         Filled::Done(n) => {
@@ -172,11 +205,11 @@ fn translate_source(rows: &[u32], out: &mut [u8]) -> usize
 
 // Writes the translating program's output for an input into the bytes held aside, and returns its length.
 fn translate_held(input: &[u8], out: &mut [u8]) -> usize
-    requires { ⌜ length (now out) ≡ 8192 ⌝ }
+    requires { ⌜ length (now out) ≡ text-room ⌝ }
     ensures { λ r. ⌜ (take r (now (out .exit)) ≡ translate-output (now (input .entry))) ×
         (r ≤ length (now (out .exit))) ⌝ }
 {
-    let mut rows = [0u32; 2720];
+    let mut rows = [0u32; SOURCE_ROOM];
     let read = read_source(input, &mut rows);
     match read {
         Filled::Done(n) => {
@@ -189,7 +222,7 @@ fn translate_held(input: &[u8], out: &mut [u8]) -> usize
 
 // Writes the lines of two runs.
 fn put_both(rows: &[u32], plain: &[u32], out: &mut [u8]) -> usize
-    requires { ⌜ length (now out) ≡ 8192 ⌝ }
+    requires { ⌜ length (now out) ≡ text-room ⌝ }
     ensures { λ r. ⌜ (take r (now (out .exit)) ≡ run-line (now (rows .entry)) ++ run-line
         (now (plain .entry)))
         × (r ≤ length (now (out .exit))) ⌝ }
@@ -200,11 +233,11 @@ fn put_both(rows: &[u32], plain: &[u32], out: &mut [u8]) -> usize
 
 // Translates rows, and writes the lines of their run and of the plain rows' run.
 fn run_source(rows: &[u32], out: &mut [u8]) -> usize
-    requires { ⌜ length (now out) ≡ 8192 ⌝ }
+    requires { ⌜ length (now out) ≡ text-room ⌝ }
     ensures { λ r. ⌜ (take r (now (out .exit)) ≡ printed (run-lines (now (rows .entry)))) ×
         (r ≤ length (now (out .exit))) ⌝ }
 {
-    let mut plain = [0u32; 4000];
+    let mut plain = [0u32; PLAIN_ROOM];
     let translated = translator::translate_rows(rows, &mut plain);
     match translated {
         Filled::Done(n) => {
@@ -217,11 +250,11 @@ fn run_source(rows: &[u32], out: &mut [u8]) -> usize
 
 // Writes the running program's output for an input into the bytes held aside, and returns its length.
 fn run_held(input: &[u8], out: &mut [u8]) -> usize
-    requires { ⌜ length (now out) ≡ 8192 ⌝ }
+    requires { ⌜ length (now out) ≡ text-room ⌝ }
     ensures { λ r. ⌜ (take r (now (out .exit)) ≡ run-output (now (input .entry))) ×
         (r ≤ length (now (out .exit))) ⌝ }
 {
-    let mut rows = [0u32; 2720];
+    let mut rows = [0u32; SOURCE_ROOM];
     let read = read_source(input, &mut rows);
     match read {
         Filled::Done(n) => {
@@ -240,7 +273,7 @@ fn hand_over(aside: &[u8], n: usize, out: &mut [u8]) -> Filled
         × (now (out .exit) ≡ buffer (accept (take n (now (aside .entry)))) (now (out .entry))) ⌝ }
 {
     if out.len() < n {
-        return Filled::Refused(13, 0);
+        return Filled::Refused(ROOM_REFUSAL, 0);
     }
     fields::copy_bytes(aside, out, n);
     Filled::Done(n)
@@ -253,7 +286,7 @@ pub fn translate_input(input: &[u8], out: &mut [u8]) -> Filled
         (length (now (out .entry))))
         × (now (out .exit) ≡ buffer (accept (translate-output (now (input .entry)))) (now (out .entry))) ⌝ }
 {
-    let mut aside = [0u8; 8192];
+    let mut aside = [0u8; TEXT_ROOM];
     let n = translate_held(input, &mut aside);
     hand_over(&aside, n, out)
 }
@@ -264,7 +297,7 @@ pub fn run_input(input: &[u8], out: &mut [u8]) -> Filled
     ensures { λ r. ⌜ (r ≡ answer 1 (accept (run-output (now (input .entry)))) (length (now (out .entry))))
         × (now (out .exit) ≡ buffer (accept (run-output (now (input .entry)))) (now (out .entry))) ⌝ }
 {
-    let mut aside = [0u8; 8192];
+    let mut aside = [0u8; TEXT_ROOM];
     let n = run_held(input, &mut aside);
     hand_over(&aside, n, out)
 }

@@ -1,7 +1,7 @@
 -- What is known of rows after their check, and of their classes.
 use mathlib.Core.Path.{_≡_}
 use mathlib.Core.List.{List}
-use Prim.Native.Nat.{ℕ, _≤_}
+use Prim.Native.Nat.{ℕ, _+_, _≤_}
 use lib.ListN.{length}
 use Rattle.language.specs.Results.{accept}
 use Rattle.language.specs.Tree.{Class, Program}
@@ -12,6 +12,7 @@ use Rattle.checker.specs.declared.Checked.the-variants.{Accepted, Refused as Fa
 use Rattle.checker.specs.Answers.{checked-case}
 use Rattle.counting.specs.declared.Known.{Known}
 use Rattle.counting.specs.declared.Known.the-variants.{Classes, Refused}
+use Rattle.language.specs.Limits.{of-check}
 
 -- What a check tells: how many classes there are, or that the rows are refused.
 abbrev pub known-case : checked.Checked → Known
@@ -21,7 +22,7 @@ known-case (Failed number line) = Refused
 -- The verdict on rows is known, and where they are accepted, the table tells which class stands below which.
 pub record Knows (R A : List ℕ) (known : Known) : Type 0 where
   pub verdict : known ≡ known-case (checked-case (check R))
-  pub long : 65 ≤ length A
+  pub long : of-check .classes + 1 ≤ length A
   pub tells : (p : Program) → check R ≡ accept p → Subclasses (p .classes) A
 
 -- The same of some rows.

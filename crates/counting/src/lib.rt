@@ -1,5 +1,9 @@
 // Counts the labels of an ended run by the class they ended in, from the store of the run or through the Identities of
 // the store that its plain run left (document 02, §1).
+use language::ALL_CLASSES;
+use language::FICKLE;
+use language::IDENTITY;
+use language::OBJECT_WIDTH;
 ghost use mathlib.Core.Path.{_≡_};
 ghost use mathlib.Core.Bool.{true, false, cond};
 ghost use mathlib.Core.Option.{none};
@@ -11,6 +15,7 @@ ghost use Rattle.classes.specs.Subclasses.{is-below};
 ghost use Rattle.counting.specs.Knowing.{known-case, Knows, Knowing, Serves};
 ghost use Rattle.counting.specs.Labels.{class-made, implementor-ended, ended-at, added, labels-next};
 ghost use Rattle.counting.specs.Labels.{counts-of};
+ghost use Rattle.language.specs.Limits.{of-check, numbers-an-object};
 
 // What is known of checked rows: how many classes they declare, or that they are refused.
 pub enum Known {
@@ -26,16 +31,8 @@ enum Ended {
     Lost,
 }
 
-// How many numbers an object has in a store: its class, then its fields.
-const OBJECT_SIZE: usize = 18;
-
 // The value of the first object that is made.
 const FIRST_OBJECT: u32 = 3;
-
-// The class of Identities in a plain program, and the class there of the source's Object: class k of the source is k + 2.
-const IDENTITY: u32 = 1;
-
-const FICKLE: u32 = 2;
 
 // The refusal of a run whose program, classes or store do not serve.
 fn refused() -> fleet::Count
@@ -56,7 +53,7 @@ fn known_of(checked: checker::Checked) -> Known
 
 // Checks rows, and keeps which class stands below which.
 pub fn learn(rows: &[u32], above: &mut [u64]) -> Known
-    requires { ⌜ 65 ≤ length (now above) ⌝ }
+    requires { ⌜ of-check .classes + 1 ≤ length (now above) ⌝ }
     ensures { λ r. ⌜ Knows (now (rows .entry)) (now (above .exit)) r ⌝ }
 {
     let checked = checker::check_above(rows, above);
@@ -118,7 +115,7 @@ fn is_related(above: &[u64], classes: u32, printed: u32, spoiled: u32) -> bool
 
 // A count, and one more where a class is another or stands below it.
 fn count_below(above: &[u64], count: u32, class: u32, over: u32) -> u32
-    requires { ⌜ (class < length (now above)) × (over ≤ 64) × (count < 4294967295) ⌝ }
+    requires { ⌜ (class < length (now above)) × (over ≤ of-check .classes) × (count < 4294967295) ⌝ }
     ensures { λ r. ⌜ r ≡ cond (is-below (now (above .entry)) class over) (count + 1) count ⌝ }
 {
     if classes::is_below(above, class, over) {
@@ -129,7 +126,7 @@ fn count_below(above: &[u64], count: u32, class: u32, over: u32) -> u32
 
 // The class of the object that a value is; Object where it is none of the first objects of a store.
 fn class_of(store: &[u32], objects: u32, value: u32) -> u32
-    requires { ⌜ objects ≤ length (now store) / 18 ⌝ }
+    requires { ⌜ objects ≤ length (now store) / numbers-an-object ⌝ }
     ensures { λ r. ⌜ r ≡ class-made objects (now (store .entry)) value ⌝ }
 {
     if value < FIRST_OBJECT {
@@ -138,7 +135,7 @@ fn class_of(store: &[u32], objects: u32, value: u32) -> u32
     if objects <= value - FIRST_OBJECT {
         return 0;
     }
-    store[OBJECT_SIZE * (value - FIRST_OBJECT) as usize]
+    store[OBJECT_WIDTH * (value - FIRST_OBJECT) as usize]
 }
 
 // What an implementor in a plain store says: the class of the source that it stands for. Other objects are no
@@ -155,17 +152,18 @@ fn implementor_ended(class: u32) -> Ended
 // What an object says of a label. In the store of a run every object ended in its class; in a plain store the Identities
 // stand for the source's objects, and the first field of each has the implementor.
 fn object_ended(store: &[u32], objects: u32, at: usize, plain: bool) -> Ended
-    requires { ⌜ (at < objects) × (objects ≤ length (now store) / 18) ⌝ }
-    ensures { λ r. ⌜ r ≡ ended-at plain objects (now (store .entry)) (drop (18 * at) (now (store .entry))) ⌝ }
+    requires { ⌜ (at < objects) × (objects ≤ length (now store) / numbers-an-object) ⌝ }
+    ensures { λ r. ⌜ r ≡ ended-at plain objects (now (store .entry))
+        (drop (numbers-an-object * at) (now (store .entry))) ⌝ }
 {
-    let class = store[OBJECT_SIZE * at];
+    let class = store[OBJECT_WIDTH * at];
     if !plain {
         return Ended::In(class);
     }
     if class != IDENTITY {
         return Ended::NoLabel;
     }
-    let held = class_of(store, objects, store[OBJECT_SIZE * at + 1]);
+    let held = class_of(store, objects, store[OBJECT_WIDTH * at + 1]);
     implementor_ended(held)
 }
 
@@ -179,7 +177,7 @@ fn count_object(
     prints: u32,
     spoils: u32,
 ) -> fleet::Count
-    requires { ⌜ Serves (now above) classes × (printed ≤ 64) × (spoiled ≤ 64)
+    requires { ⌜ Serves (now above) classes × (printed ≤ of-check .classes) × (spoiled ≤ of-check .classes)
         × (prints < 4294967295) × (spoils < 4294967295) ⌝ }
     ensures { λ r. ⌜ ((w : Serves (now (above .entry)) classes)
         → r ≡ count-told (added (world (w .program)) printed spoiled prints spoils ended)) ⌝ }
@@ -208,8 +206,8 @@ fn count_objects(
     printed: u32,
     spoiled: u32,
 ) -> fleet::Count
-    requires { ⌜ Serves (now above) classes × (printed ≤ 64) × (spoiled ≤ 64)
-        × (objects ≤ length (now store) / 18) ⌝ }
+    requires { ⌜ Serves (now above) classes × (printed ≤ of-check .classes) × (spoiled ≤ of-check .classes)
+        × (objects ≤ length (now store) / numbers-an-object) ⌝ }
     ensures { λ r. ⌜ ((w : Serves (now (above .entry)) classes)
         → r ≡ count-told (labels-next (world (w .program)) printed spoiled plain objects (now (store .entry))
         objects (now (store .entry)) 0 0)) ⌝ }
@@ -250,7 +248,7 @@ fn count_known(
 {
     match known {
         Known::Classes(classes) => {
-            if store.len() / OBJECT_SIZE < objects as usize {
+            if store.len() / OBJECT_WIDTH < objects as usize {
                 return refused();
             }
             if !is_related(above, classes, printed, spoiled) {
@@ -289,7 +287,7 @@ pub fn count_run(
     ensures { λ r. ⌜ r ≡ count-told (run-counts (now (rows .entry)) (now (store .entry)) objects printed
         spoiled) ⌝ }
 {
-    let mut above = [0u64; 65];
+    let mut above = [0u64; ALL_CLASSES];
     let known = learn(rows, &mut above);
     count_known(known, &above, store, objects, false, printed, spoiled)
 }
@@ -305,7 +303,7 @@ pub fn count_plain_run(
     ensures { λ r. ⌜ r ≡ count-told (counts-through (now (rows .entry)) (now (store .entry)) objects printed
         spoiled) ⌝ }
 {
-    let mut above = [0u64; 65];
+    let mut above = [0u64; ALL_CLASSES];
     let known = learn(rows, &mut above);
     count_known(known, &above, store, objects, true, printed, spoiled)
 }

@@ -1,5 +1,6 @@
 // The fields of a line: found, read as decimal numbers and written (document 01, "Lines and rows").
 use language::Decimal;
+use language::LARGEST;
 use language::Taken;
 ghost use mathlib.Core.Path.{_≡_};
 ghost use mathlib.Core.List.{_∷_, _++_};
@@ -32,7 +33,7 @@ fn read_digits(s: &[u8]) -> Decimal
             return Decimal::Bad;
         };
         let w = v * 10 + k;
-        if 65535 < w {
+        if LARGEST < w {
             return Decimal::Bad;
         }
         v = w;

@@ -8,9 +8,10 @@ use mathlib.Core.Option.{Option, some}
 use lib.ListN.{replicate}
 use Rattle.language.specs.Lists.{nth}
 use Rattle.language.specs.Results.{Checked, accept, refuse, bind-checked, need-checked, require, earlier}
-use Rattle.language.specs.Rows.{letter-among, numbers-after, record-of, rows-of, numbers-of}
+use Rattle.language.specs.Rows.{letter-among, record-of, rows-of, numbers-of}
 use Rattle.language.specs.Decimals.{digit-of, scan, decimal-of, digits-in, digits}
 use Rattle.language.specs.TextLines.{field, number-of, closed, numbered, line-of as text-line}
+use Rattle.language.specs.Alphabet.{ours}
 use Rattle.language.specs.Texts.{read-lines, read-text}
 use Rattle.language.specs.Tree.{count, size, heading-lines, method-lines, methods-lines, class-lines}
 use Rattle.language.specs.Tree.{classes-lines, flatten, flatten-methods, flatten-classes, flatten-program}
@@ -46,7 +47,7 @@ made-of (accept ns) = ns
 made-of (refuse n l) = []
 
 abbrev pub rows-typed : String → List ℕ
-rows-typed text = made-of (read-text (typed text))
+rows-typed text = made-of (read-text ours (typed text))
 
 -- Objects of these classes, each with 17 numbers more that counting does not look at.
 unfoldable pub objects-of : List ℕ → List ℕ
@@ -106,7 +107,7 @@ table =
 pub worked : map (λ (x : Example). fleet-report (x .runs) (rows-typed (x .programs)) (objects-of (x .ended)))
     table
     ≡ map (λ (x : Example). x .report) table
-unfolding table objects-of typed nth bind-checked need-checked require earlier letter-among numbers-after
+unfolding table objects-of typed nth bind-checked need-checked require earlier letter-among
     record-of rows-of numbers-of digit-of scan decimal-of digits-in digits field number-of closed numbered
     text-line read-lines count size heading-lines method-lines methods-lines class-lines classes-lines
     flatten flatten-methods flatten-classes flatten-program place field-type effect-of member join within
@@ -159,7 +160,7 @@ pub program-d-worked : _≡_ {A = List (Option Counts)}
     (run-counts rows-of-d store-of-d 1 1 3 ∷ counts-through rows-of-d plain-store-of-d 3 1 3
     ∷ run-counts rows-of-d store-of-d 1 1 2 ∷ counts-through rows-of-d plain-store-of-d 3 1 2 ∷ [])
     (labels 1 1 ∷ labels 1 1 ∷ labels 1 0 ∷ labels 1 0 ∷ [])
-unfolding typed nth bind-checked need-checked require earlier letter-among numbers-after record-of rows-of
+unfolding typed nth bind-checked need-checked require earlier letter-among record-of rows-of
     numbers-of digit-of scan decimal-of field number-of closed numbered text-line read-lines count size
     heading-lines method-lines methods-lines class-lines classes-lines flatten flatten-methods
     flatten-classes flatten-program place field-type effect-of member join within effect-of-all apply-class

@@ -8,12 +8,12 @@ use borrow.Author.Tests.{eq-eqb, ne-eqb}
 use lib.ListN.{length, getD}
 use Rattle.language.specs.Results.{Checked, accept, refuse, require, bind-checked-inv, require-inv}
 use Rattle.language.specs.Results.{accept≢refuse, accept-injective}
-use Rattle.language.specs.Rows.{Letter, code, Row}
+use Rattle.language.specs.Rows.{Letter, code, Row, is-node}
 use Rattle.language.specs.Rows.{C-class, F-field, M-method, P-parameter, X-effect, S-start, B-block, V-local}
 use Rattle.language.specs.Rows.{T-true, L-false, N-null, I-slot, Z-is-null, G-get, K-cast, W-new, R-change}
 use Rattle.language.specs.Rows.{A-assign, U-set, Q-call, J-choose}
 use Rattle.language.specs.Tree.{DeclaredType, type-of-number, Expr, Exprs, nil, cons, count, size, sizes}
-use Rattle.language.specs.Form.{Read, done, after, several, locals, is-node, node-of, node, next, body}
+use Rattle.language.specs.Form.{Read, done, after, several, locals, node-of, node, next, body}
 use Rattle.language.specs.Tables.{next-rows, ends-of, ends-list}
 use Rattle.language.proofs.Letters.{code-injective}
 use Rattle.language.proofs.Tables.{next-rows-long, ends-long}

@@ -8,7 +8,8 @@ use Rattle.language.specs.Results.{Checked, accept, refuse, require}
 use Rattle.language.specs.Rows.{Letter, code, Row, C-class, F-field, M-method, P-parameter, X-effect, S-start}
 use Rattle.language.specs.Rows.{B-block, V-local, T-true, L-false, N-null, I-slot, Z-is-null, G-get, K-cast}
 use Rattle.language.specs.Rows.{W-new, R-change, A-assign, U-set, Q-call, J-choose}
-use Rattle.language.specs.Tree.{DeclaredType, Expr, literal-true, literal-false, literal-null, slot, is-null}
+use Rattle.language.specs.Tree.{DeclaredType, Expr, literal, literal-true, literal-false, literal-null, slot}
+use Rattle.language.specs.Tree.{is-null}
 use Rattle.language.specs.Tree.{get, cast, new, change, assign, set, call, choose, block, Exprs, nil, cons}
 use Rattle.language.specs.Tree.{count, size, sizes}
 use Rattle.language.specs.Form.{Read, done, after, several, locals, node-of, node}
@@ -20,7 +21,7 @@ use Rattle.form.specs.Passes.{Makes, parts-read}
 use Rattle.form.specs.declared.Parts.the-variants.{Of, NoNode}
 
 abbrev first-of : Exprs → Expr
-first-of nil = literal-null
+first-of nil = literal literal-null
 first-of (cons e es) = e
 
 abbrev rest-of : Exprs → Exprs
@@ -221,21 +222,21 @@ shaped L d S-start a b n line v k rs e z = absurd (no-shape e)
 shaped L d V-local a b n line v k rs e z = absurd (no-shape e)
 shaped L d T-true a b n line v k rs e z =
     turned e (record {
-      make = λ ts es. literal-true;
-      makes = makes-none literal-true refl (λ at. refl);
-      same = leaf L d n line rs literal-true;
+      make = λ ts es. literal literal-true;
+      makes = makes-none (literal literal-true) refl (λ at. refl);
+      same = leaf L d n line rs (literal literal-true);
     })
 shaped L d L-false a b n line v k rs e z =
     turned e (record {
-      make = λ ts es. literal-false;
-      makes = makes-none literal-false refl (λ at. refl);
-      same = leaf L d n line rs literal-false;
+      make = λ ts es. literal literal-false;
+      makes = makes-none (literal literal-false) refl (λ at. refl);
+      same = leaf L d n line rs (literal literal-false);
     })
 shaped L d N-null a b n line v k rs e z =
     turned e (record {
-      make = λ ts es. literal-null;
-      makes = makes-none literal-null refl (λ at. refl);
-      same = leaf L d n line rs literal-null;
+      make = λ ts es. literal literal-null;
+      makes = makes-none (literal literal-null) refl (λ at. refl);
+      same = leaf L d n line rs (literal literal-null);
     })
 shaped L d I-slot a b n line v k rs e z =
     turned e (record {

@@ -10,9 +10,7 @@ use Rattle.language.specs.Limits.{place-refusal}
 use Rattle.language.specs.Lists.{given}
 use Rattle.language.specs.Results.{Checked, accept, refuse}
 use Rattle.language.specs.Rows.{Letter, letters, code, letter-among, name-of, Record, Row, row, rows-of}
-use Rattle.language.specs.Rows.{C-class, F-field, M-method, P-parameter, X-effect, S-start, B-block, V-local}
-use Rattle.language.specs.Rows.{T-true, L-false, N-null, I-slot, Z-is-null, G-get, K-cast, W-new, R-change}
-use Rattle.language.specs.Rows.{A-assign, U-set, Q-call, J-choose}
+use Rattle.language.specs.Rows.{Children, no-node, children, arguments, locals-and-nodes, shape}
 use Rattle.language.specs.Form.{record-on}
 use Rattle.form.specs.declared.Limits.{Limits}
 use Rattle.form.specs.Columns.{most-of, Fits}
@@ -56,29 +54,15 @@ run L n line (r ∷ rs) = cond (has-code n (record-on (most-of L) line r)) (suc 
 unfoldable pub name-at : ℕ → ℕ → ℕ → ℕ
 name-at n a b = given (letter-among letters n) 0 λ l. name-of l a b
 
--- How many V lines and children a node of a letter with its numbers has.
+-- How many V lines and children a node with these numbers has.
+abbrev pub parts : Children → ℕ → ℕ → Parts
+parts no-node a b = NoNode
+parts (children n) a b = Of 0 n
+parts arguments a b = Of 0 (b + 1)
+parts locals-and-nodes a b = Of a b
+
 abbrev pub parts-of : Letter → ℕ → ℕ → Parts
-parts-of C-class a b = NoNode
-parts-of F-field a b = NoNode
-parts-of M-method a b = NoNode
-parts-of P-parameter a b = NoNode
-parts-of X-effect a b = NoNode
-parts-of S-start a b = NoNode
-parts-of B-block a b = Of a b
-parts-of V-local a b = NoNode
-parts-of T-true a b = Of 0 0
-parts-of L-false a b = Of 0 0
-parts-of N-null a b = Of 0 0
-parts-of I-slot a b = Of 0 0
-parts-of Z-is-null a b = Of 0 1
-parts-of G-get a b = Of 0 1
-parts-of K-cast a b = Of 0 1
-parts-of W-new a b = Of 0 0
-parts-of R-change a b = Of 0 0
-parts-of A-assign a b = Of 0 1
-parts-of U-set a b = Of 0 2
-parts-of Q-call a b = Of 0 (b + 1)
-parts-of J-choose a b = Of 0 3
+parts-of l a b = parts (shape l .nodes) a b
 
 unfoldable pub parts-at : ℕ → ℕ → ℕ → Parts
 parts-at n a b = given (letter-among letters n) NoNode λ l. parts-of l a b

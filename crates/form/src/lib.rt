@@ -1,5 +1,31 @@
 // The pass over form (document 01, "Lines and rows"): is this a program, and where does each part of it end. One pass
 // serves both columns of the table of limits: that of a checked program, and that of the translator's input.
+use language::ASSIGN;
+use language::BLOCK;
+use language::CALL;
+use language::CAST;
+use language::CHANGE;
+use language::CHOOSE;
+use language::CLASS;
+use language::EFFECT;
+use language::FALSE;
+use language::FIELD;
+use language::GET;
+use language::IS_NULL;
+use language::LIMIT_REFUSAL;
+use language::LINE_REFUSAL;
+use language::LOCAL;
+use language::METHOD;
+use language::MOST_NAME;
+use language::MOST_PARAMETERS;
+use language::NEW;
+use language::NULL;
+use language::PARAMETER;
+use language::PLACE_REFUSAL;
+use language::SET;
+use language::SLOT;
+use language::START;
+use language::TRUE;
 ghost use mathlib.Core.Path.{_≡_};
 ghost use mathlib.Core.Bool.{true};
 ghost use mathlib.Core.List.{List, _++_};
@@ -7,7 +33,7 @@ ghost use mathlib.Core.Logic.{_⊎_};
 ghost use Prim.Native.Nat.{ℕ, _+_, _*_, _%_, _≤_, _<_};
 ghost use lib.ListN.{length, drop};
 ghost use lib.Seq.{sets};
-ghost use Rattle.language.specs.Limits.{of-check, of-translator};
+ghost use Rattle.language.specs.Limits.{of-check, of-translator, largest};
 ghost use Rattle.language.specs.Results.{accept};
 ghost use Rattle.language.specs.Rows.{Record, rows-of};
 ghost use Rattle.language.specs.Tree.{DeclaredType, Expr, Exprs, Class, Program};
@@ -54,11 +80,11 @@ fn name_of(code: u32, a: u32, b: u32) -> u32
     ensures { λ r. ⌜ r ≡ name-at code a b ⌝ }
 {
     match code {
-        70 => b,
-        77 => b,
-        71 => a,
-        85 => a,
-        81 => a,
+        FIELD => b,
+        METHOD => b,
+        GET => a,
+        SET => a,
+        CALL => a,
         _ => 0,
     }
 }
@@ -72,19 +98,19 @@ fn refuse_row(rows: &[u32], at: usize, limits: Limits) -> u32
 {
     let i = at * 4;
     if rows.len() <= i {
-        return 3;
+        return PLACE_REFUSAL;
     }
     let code = rows[i];
     let a = rows[i + 1];
     let b = rows[i + 2];
     if !language::is_row(code, a, b, rows[i + 3]) {
-        return 1;
+        return LINE_REFUSAL;
     }
     if limits.rows <= at {
-        return 2;
+        return LIMIT_REFUSAL;
     }
-    if 255 < name_of(code, a, b) {
-        return 2;
+    if MOST_NAME < name_of(code, a, b) {
+        return LIMIT_REFUSAL;
     }
     0
 }
@@ -139,11 +165,11 @@ fn pass_locals(
         if refusal != 0 {
             return Step::Refused(refusal, i as u32 + 1);
         }
-        if rows[i * 4] != 86 {
-            return Step::Refused(3, i as u32 + 1);
+        if rows[i * 4] != LOCAL {
+            return Step::Refused(PLACE_REFUSAL, i as u32 + 1);
         }
         if limits.slots <= scope {
-            return Step::Refused(2, i as u32 + 1);
+            return Step::Refused(LIMIT_REFUSAL, i as u32 + 1);
         }
         ends[i] = (i + 1) as u16;
         i += 1;
@@ -155,24 +181,24 @@ fn pass_locals(
 
 // How many V lines and children follow a node of this letter with these numbers.
 fn parts_of(code: u32, a: u32, b: u32) -> Parts
-    requires { ⌜ b ≤ 65535 ⌝ }
+    requires { ⌜ b ≤ largest ⌝ }
     ensures { λ r. ⌜ r ≡ parts-at code a b ⌝ }
 {
     match code {
-        84 => Parts::Of(0, 0),
-        76 => Parts::Of(0, 0),
-        78 => Parts::Of(0, 0),
-        73 => Parts::Of(0, 0),
-        87 => Parts::Of(0, 0),
-        82 => Parts::Of(0, 0),
-        90 => Parts::Of(0, 1),
-        71 => Parts::Of(0, 1),
-        75 => Parts::Of(0, 1),
-        65 => Parts::Of(0, 1),
-        85 => Parts::Of(0, 2),
-        74 => Parts::Of(0, 3),
-        81 => Parts::Of(0, b + 1),
-        66 => Parts::Of(a, b),
+        TRUE => Parts::Of(0, 0),
+        FALSE => Parts::Of(0, 0),
+        NULL => Parts::Of(0, 0),
+        SLOT => Parts::Of(0, 0),
+        NEW => Parts::Of(0, 0),
+        CHANGE => Parts::Of(0, 0),
+        IS_NULL => Parts::Of(0, 1),
+        GET => Parts::Of(0, 1),
+        CAST => Parts::Of(0, 1),
+        ASSIGN => Parts::Of(0, 1),
+        SET => Parts::Of(0, 2),
+        CHOOSE => Parts::Of(0, 3),
+        CALL => Parts::Of(0, b + 1),
+        BLOCK => Parts::Of(a, b),
         _ => Parts::NoNode,
     }
 }
@@ -198,14 +224,14 @@ fn pass_node(
     let code = rows[at * 4];
     let parts = parts_of(code, rows[at * 4 + 1], rows[at * 4 + 2]);
     let Parts::Of(variables, children) = parts else {
-        return Step::Refused(3, at as u32 + 1);
+        return Step::Refused(PLACE_REFUSAL, at as u32 + 1);
     };
     if nesting == 0 {
-        return Step::Refused(2, at as u32 + 1);
+        return Step::Refused(LIMIT_REFUSAL, at as u32 + 1);
     }
     if children == 0 {
-        if code == 66 {
-            return Step::Refused(3, at as u32 + 1); // a block without expressions
+        if code == BLOCK {
+            return Step::Refused(PLACE_REFUSAL, at as u32 + 1); // a block without expressions
         }
         ends[at] = (at + 1) as u16;
         return Step::End(at + 1);
@@ -299,8 +325,8 @@ fn pass_body(rows: &[u32], ends: &mut [u16], at: usize, slots: u32, limits: Limi
     if refusal != 0 {
         return Step::Refused(refusal, at as u32 + 1);
     }
-    if rows[at * 4] != 66 {
-        return Step::Refused(3, at as u32 + 1);
+    if rows[at * 4] != BLOCK {
+        return Step::Refused(PLACE_REFUSAL, at as u32 + 1);
     }
     pass_node(rows, ends, at, limits.nesting, slots, limits)
 }
@@ -312,12 +338,12 @@ fn pass_method(rows: &[u32], ends: &mut [u16], at: usize, limits: Limits) -> Ste
         (now (ends .entry)) at (method (most-of limits) (at + 1) x (rows-from (now (rows .entry)) (at + 1))) r
         (now (ends .exit))) ⌝ }
 {
-    let effects = pass_lines(rows, ends, at + 1, 80, limits);
+    let effects = pass_lines(rows, ends, at + 1, PARAMETER, limits);
     let parameters = (effects - at - 1) as u32;
-    if 8 < parameters {
-        return Step::Refused(2, at as u32 + 10);
+    if MOST_PARAMETERS < parameters {
+        return Step::Refused(LIMIT_REFUSAL, at as u32 + 10);
     }
-    let body = pass_lines(rows, ends, effects, 88, limits);
+    let body = pass_lines(rows, ends, effects, EFFECT, limits);
     let r = pass_body(rows, ends, body, parameters + 1, limits);
     let Step::End(next) = r else {
         return r;
@@ -334,7 +360,7 @@ fn pass_methods(rows: &[u32], ends: &mut [u16], at: usize, limits: Limits) -> St
         (rows-from (now (rows .entry)) at)) r (now (ends .exit))) ⌝ }
 {
     let mut i = at;
-    while is_letter(rows, i, 77, limits) {
+    while is_letter(rows, i, METHOD, limits) {
         let r = pass_method(rows, ends, i, limits);
         let Step::End(next) = r else {
             return r;
@@ -351,7 +377,7 @@ fn pass_class(rows: &[u32], ends: &mut [u16], at: usize, limits: Limits) -> Step
         (now (ends .entry)) at (class-read limits x (at + 1) (rows-from (now (rows .entry)) (at + 1))) r
         (now (ends .exit))) ⌝ }
 {
-    let methods = pass_lines(rows, ends, at + 1, 70, limits);
+    let methods = pass_lines(rows, ends, at + 1, FIELD, limits);
     let r = pass_methods(rows, ends, methods, limits);
     let Step::End(next) = r else {
         return r;
@@ -373,7 +399,7 @@ fn finish(rows: &[u32], at: usize, classes: u32, limits: Limits) -> Formed
     if refusal != 0 {
         return Formed::Refused(refusal, at as u32 + 1);
     }
-    Formed::Refused(3, at as u32 + 1)
+    Formed::Refused(PLACE_REFUSAL, at as u32 + 1)
 }
 
 // After the classes: the S line, the start block, the end.
@@ -388,8 +414,8 @@ fn pass_start(rows: &[u32], ends: &mut [u16], at: usize, classes: u32, limits: L
     if refusal != 0 {
         return Formed::Refused(refusal, at as u32 + 1);
     }
-    if rows[at * 4] != 83 {
-        return Formed::Refused(3, at as u32 + 1);
+    if rows[at * 4] != START {
+        return Formed::Refused(PLACE_REFUSAL, at as u32 + 1);
     }
     ends[at] = (at + 1) as u16;
     let r = pass_body(rows, ends, at + 1, 1, limits);
@@ -409,9 +435,9 @@ fn pass_form(rows: &[u32], ends: &mut [u16], limits: Limits) -> Formed
 {
     let mut i = 0;
     let mut classes: u32 = 0;
-    while is_letter(rows, i, 67, limits) {
+    while is_letter(rows, i, CLASS, limits) {
         if limits.classes <= classes {
-            return Formed::Refused(2, i as u32 + 1);
+            return Formed::Refused(LIMIT_REFUSAL, i as u32 + 1);
         }
         let r = pass_class(rows, ends, i, limits);
         match r {
@@ -430,7 +456,7 @@ fn pass_form(rows: &[u32], ends: &mut [u16], limits: Limits) -> Formed
 // The pass under the limits of a checked program.
 pub fn check_form(rows: &[u32], ends: &mut [u16]) -> Formed
     requires { ⌜ (length (now rows) % 4 ≡ 0) ×
-        ((length (now rows) ≤ 4 * length (now ends)) ⊎ (60000 ≤ length (now ends))) ⌝ }
+        ((length (now rows) ≤ 4 * length (now ends)) ⊎ (of-check .rows ≤ length (now ends))) ⌝ }
     ensures { λ r. ⌜ (r ≡ formed-of (form of-check (rows-of (now (rows .entry)))))
         × ((p : Program) → form of-check (rows-of (now (rows .entry))) ≡ accept p
         → now (ends .exit) ≡ program-ends p ++ drop (length (program-ends p)) (now (ends .entry))) ⌝ }
@@ -448,7 +474,7 @@ pub fn check_form(rows: &[u32], ends: &mut [u16]) -> Formed
 // The pass under the limits of the translator's input.
 pub fn check_translatable(rows: &[u32], ends: &mut [u16]) -> Formed
     requires { ⌜ (length (now rows) % 4 ≡ 0) ×
-        ((length (now rows) ≤ 4 * length (now ends)) ⊎ (680 ≤ length (now ends))) ⌝ }
+        ((length (now rows) ≤ 4 * length (now ends)) ⊎ (of-translator .rows ≤ length (now ends))) ⌝ }
     ensures { λ r. ⌜ (r ≡ formed-of (form of-translator (rows-of (now (rows .entry)))))
         × ((p : Program) → form of-translator (rows-of (now (rows .entry))) ≡ accept p
         → now (ends .exit) ≡ program-ends p ++ drop (length (program-ends p)) (now (ends .entry))) ⌝ }

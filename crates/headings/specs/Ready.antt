@@ -6,14 +6,14 @@ use mathlib.Core.Option.{Option, none, some}
 use mathlib.Core.List.{List}
 use lib.ListN.{length, getD}
 use lib.Dec.{eqb}
-use Rattle.language.specs.Limits.{of-check}
+use Rattle.language.specs.Limits.{of-check, numbers-a-row}
 use Rattle.language.specs.Lists.{choice, given}
 use Rattle.language.specs.Rows.{P-parameter}
 use Rattle.language.specs.Tree.{DeclaredType, type-of-number, kind-number, Field, Declaration, Class, Program}
 use Rattle.language.specs.World.{place, is-declared-type}
 use Rattle.language.specs.Program.{declared, class-at, world}
 use Rattle.language.specs.Headings.{is-some}
-use Rattle.language.specs.ClassTables.{class-row, method-row}
+use Rattle.language.specs.ClassTables.{class-row, method-row, class-width}
 use Rattle.language.specs.Encoded.{TypesAt}
 use Rattle.language.specs.Layout.{FieldsAt, EffectsAt, MethodAt, ProgramAt, methods-from-row}
 use Rattle.language.specs.WellFormed.{Each, TypeInForm, FieldInForm, MethodInForm}
@@ -37,7 +37,7 @@ pub record MethodHere (R E : List ℕ) (r : ℕ) : Type 0 where
   pub method : Declaration
   pub at : MethodAt R E method r
   pub in-form : MethodInForm of-check method
-  pub short : length R ≤ 240000
+  pub short : length R ≤ numbers-a-row * of-check .rows
 
 -- Row r is the C line of class k of a program that stands in the rows.
 pub record ClassHere (R E : List ℕ) (r : ℕ) : Type 0 where
@@ -51,8 +51,8 @@ pub record ClassHere (R E : List ℕ) (r : ℕ) : Type 0 where
 pub record ReadReady (R E T : List ℕ) : Type 0 where
   pub program : Program
   pub standing : ProgramAt R E program
-  pub long : (length (program .classes) + 1) * 576 ≤ length T
-  pub zero : (i : ℕ) → i < 576 → getD T i 0 ≡ 0
+  pub long : (length (program .classes) + 1) * class-width ≤ length T
+  pub zero : (i : ℕ) → i < class-width → getD T i 0 ≡ 0
 
 pub record StateReady (T : List ℕ) (t : ℕ) : Type 0 where
   pub P : List Class
@@ -70,9 +70,9 @@ pub record FieldReady (R T : List ℕ) (r base count : ℕ) : Type 0 where
   pub working : Working P k T fields rows methods
   pub field : Field
   pub at : FieldHere R field r
-  pub base-is : base ≡ k * 576
+  pub base-is : base ≡ k * class-width
   pub count-is : count ≡ length P
-  pub short : length R ≤ 240000
+  pub short : length R ≤ numbers-a-row * of-check .rows
 
 pub record EnterReady (R T : List ℕ) (r base : ℕ) : Type 0 where
   pub P : List Class
@@ -83,9 +83,9 @@ pub record EnterReady (R T : List ℕ) (r base : ℕ) : Type 0 where
   pub working : Working P k T fields rows methods
   pub field : Field
   pub at : FieldHere R field r
-  pub base-is : base ≡ k * 576
-  pub short : length R ≤ 240000
-  pub room : length fields < 17
+  pub base-is : base ≡ k * class-width
+  pub short : length R ≤ numbers-a-row * of-check .rows
+  pub room : length fields < of-check .fields
   pub new : place (field .name) fields ≡ none
 
 pub record FieldsReady (R T : List ℕ) (r n base count : ℕ) : Type 0 where
@@ -99,16 +99,16 @@ pub record FieldsReady (R T : List ℕ) (r n base count : ℕ) : Type 0 where
   pub here : FieldsAt R own r
   pub in-form : Each (FieldInForm of-check) own
   pub n-is : n ≡ length own
-  pub base-is : base ≡ k * 576
+  pub base-is : base ≡ k * class-width
   pub count-is : count ≡ length P
-  pub short : length R ≤ 240000
+  pub short : length R ≤ numbers-a-row * of-check .rows
 
 -- X lines.
 pub record EffectLines (R : List ℕ) (r n : ℕ) : Type 0 where
   pub effects : List ℕ
   pub here : EffectsAt R effects r
   pub n-is : n ≡ length effects
-  pub short : length R ≤ 240000
+  pub short : length R ≤ numbers-a-row * of-check .rows
 
 -- P lines.
 pub record ParameterLines (R : List ℕ) (r n : ℕ) : Type 0 where
@@ -116,7 +116,7 @@ pub record ParameterLines (R : List ℕ) (r n : ℕ) : Type 0 where
   pub here : TypesAt P-parameter R types r
   pub in-form : Each TypeInForm types
   pub n-is : n ≡ length types
-  pub short : length R ≤ 240000
+  pub short : length R ≤ numbers-a-row * of-check .rows
 
 -- A method and the one that it overrides.
 pub record OverrideReady (R : List ℕ) (r np nx over : ℕ) : Type 0 where
@@ -129,7 +129,7 @@ pub record OverrideReady (R : List ℕ) (r np nx over : ℕ) : Type 0 where
   pub over-in-form : MethodInForm of-check overridden
   pub np-is : np ≡ length (method .parameters)
   pub nx-is : nx ≡ length (method .effects)
-  pub short : length R ≤ 240000
+  pub short : length R ≤ numbers-a-row * of-check .rows
 
 pub record EffectReady (T : List ℕ) (count : ℕ) : Type 0 where
   pub P : List Class
@@ -166,7 +166,7 @@ pub record MethodReady (R T : List ℕ) (r base first count : ℕ) : Type 0 wher
   pub method : Declaration
   pub at : MethodAt R ends method r
   pub in-form : MethodInForm of-check method
-  pub base-is : base ≡ k * 576
+  pub base-is : base ≡ k * class-width
   pub count-is : count ≡ length (program .classes)
 
 pub record MethodCounted (R T : List ℕ) (r np nx base first count : ℕ) : Type 0 where
@@ -188,7 +188,7 @@ pub record MethodsReady (R E T : List ℕ) (r base first count : ℕ) : Type 0 w
   pub is : class-at (program .classes) k ≡ some one
   pub first-is : first ≡ class-row (program .classes) k
   pub row-is : r ≡ methods-from-row first one
-  pub base-is : base ≡ k * 576
+  pub base-is : base ≡ k * class-width
   pub count-is : count ≡ length (program .classes)
 
 pub record StartReady (T : List ℕ) (k over kind : ℕ) : Type 0 where
@@ -221,5 +221,5 @@ pub record ClassesReady (R E T A : List ℕ) (count : ℕ) : Type 0 where
 pub record HeadingsReady (R E T A : List ℕ) : Type 0 where
   pub program : Program
   pub standing : ProgramAt R E program
-  pub long : (length (program .classes) + 1) * 576 ≤ length T
+  pub long : (length (program .classes) + 1) * class-width ≤ length T
   pub long-above : length (program .classes) + 1 ≤ length A

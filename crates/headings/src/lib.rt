@@ -1,4 +1,23 @@
 // The pass over headings (document 01, "Headings"): classes, fields and methods as they are declared.
+use language::BOOL;
+use language::CLASS;
+use language::CLASS_WIDTH;
+use language::COUNT_PLACE;
+use language::EFFECT;
+use language::FIELD;
+use language::KIND_PLACE;
+use language::KIND_REFUSAL;
+use language::LIMIT_REFUSAL;
+use language::METHOD;
+use language::METHODS_FROM;
+use language::MOST_CLASSES;
+use language::MOST_FIELDS;
+use language::NAME_REFUSAL;
+use language::OVERRIDE_REFUSAL;
+use language::PARAMETER;
+use language::ROOT_PLACE;
+use language::ROWS_PLACE;
+use language::SUPER_PLACE;
 ghost use mathlib.Core.Path.{_≡_};
 ghost use mathlib.Core.Bool.{true};
 ghost use mathlib.Core.Option.{some};
@@ -10,7 +29,8 @@ ghost use Rattle.language.specs.Tree.{type-of-number, kind-of-number, method-li
 ghost use Rattle.language.specs.World.{is-declared-type};
 ghost use Rattle.language.specs.Program.{world, is-state-type, method-of};
 ghost use Rattle.language.specs.Effects.{effect-of-all};
-ghost use Rattle.language.specs.ClassTables.{ClassTables, rows-from, declared-row, method-row, field-rows};
+ghost use Rattle.language.specs.ClassTables.{ClassTables, class-width, rows-from, declared-row, method-row};
+ghost use Rattle.language.specs.ClassTables.{field-rows};
 ghost use Rattle.language.specs.Headings.{may-extend, may-override, same-types, lines-within, check-fields};
 ghost use Rattle.language.specs.Headings.{check-parameters, check-effects, check-methods, check-class};
 ghost use Rattle.language.specs.Headings.{headings};
@@ -24,6 +44,9 @@ ghost use Rattle.headings.specs.Ready.{FieldReady, EnterReady, FieldsRea
 ghost use Rattle.headings.specs.Ready.{ParameterLines, OverrideReady, EffectReady, EffectsReady};
 ghost use Rattle.headings.specs.Ready.{own-or, with-row, MethodReady, MethodCounted, MethodsReady};
 ghost use Rattle.headings.specs.Ready.{StartReady, ClassReady, ClassesReady, HeadingsReady};
+
+// How many numbers a class has in the table from its root on.
+const FROM_ROOT: usize = CLASS_WIDTH - ROOT_PLACE;
 
 // What the pass answers: that all is well, or a refusal's number and line.
 pub enum Headed {
@@ -49,8 +72,8 @@ fn skip_method(rows: &[u32], ends: &[u16], r: usize) -> usize
     ensures { λ n. ⌜ ((w : MethodHere (now (rows .entry)) (now (ends .entry)) r) → n ≡ r + method-lines
         (w .method)) ⌝ }
 {
-    let p = count_rows(rows, r + 1, 80);
-    let x = count_rows(rows, r + 1 + p, 88);
+    let p = count_rows(rows, r + 1, PARAMETER);
+    let x = count_rows(rows, r + 1 + p, EFFECT);
     ends[r + 1 + p + x] as usize
 }
 
@@ -60,9 +83,9 @@ fn skip_class(rows: &[u32], ends: &[u16], r: usize) -> usize
     ensures { λ n. ⌜ ((w : ClassHere (now (rows .entry)) (now (ends .entry)) r) → n ≡ r + class-lines
         (w .one)) ⌝ }
 {
-    let n = count_rows(rows, r + 1, 70);
+    let n = count_rows(rows, r + 1, FIELD);
     let mut at = r + 1 + n;
-    while rows[at * 4] == 77 {
+    while rows[at * 4] == METHOD {
         at = skip_method(rows, ends, at);
     }
     at
@@ -76,10 +99,10 @@ fn read_classes(rows: &[u32], ends: &[u16], tables: &mut [u16]) -> usize
 {
     let mut k = 0;
     let mut r = 0;
-    while rows[r * 4] == 67 {
+    while rows[r * 4] == CLASS {
         k += 1;
-        tables[k * 576 + 512] = rows[r * 4 + 1] as u16;
-        tables[k * 576 + 513] = rows[r * 4 + 2] as u16;
+        tables[k * CLASS_WIDTH + KIND_PLACE] = rows[r * 4 + 1] as u16;
+        tables[k * CLASS_WIDTH + SUPER_PLACE] = rows[r * 4 + 2] as u16;
         r = skip_class(rows, ends, r);
     }
     k
@@ -87,11 +110,11 @@ fn read_classes(rows: &[u32], ends: &[u16], tables: &mut [u16]) -> usize
 
 // Clears the block of Object.
 fn clear_object(tables: &mut [u16])
-    requires { ⌜ 576 ≤ length (now tables) ⌝ }
-    ensures { λ _. ⌜ Cleared (now (tables .entry)) (now (tables .exit)) 576 ⌝ }
+    requires { ⌜ class-width ≤ length (now tables) ⌝ }
+    ensures { λ _. ⌜ Cleared (now (tables .entry)) (now (tables .exit)) class-width ⌝ }
 {
     let mut i = 0;
-    while i < 576 {
+    while i < CLASS_WIDTH {
         tables[i] = 0;
         i += 1;
     }
@@ -114,7 +137,7 @@ fn is_declared(t: u32, count: usize) -> bool
     ensures { λ b. ⌜ ((P : List Class) → count ≡ length P → b ≡ is-declared-type (world P) (type-of-number t))
         ⌝ }
 {
-    if t == 255 {
+    if t == BOOL {
         return true;
     }
     t as usize <= count
@@ -126,10 +149,10 @@ fn is_state(tables: &[u16], t: u32) -> bool
     ensures { λ b. ⌜ ((w : StateReady (now (tables .entry)) t) → b ≡ is-state-type (w .P) (type-of-number t))
         ⌝ }
 {
-    if t == 255 {
+    if t == BOOL {
         return false;
     }
-    tables[t as usize * 576 + 512] == 2
+    tables[t as usize * CLASS_WIDTH + KIND_PLACE] == 2
 }
 
 // The first fault of an F line, or 0.
@@ -138,19 +161,19 @@ fn field_fault(rows: &[u32], tables: &[u16], r: usize, base: usize, count: usize
     ensures { λ n. ⌜ ((w : FieldReady (now (rows .entry)) (now (tables .entry)) r base count) → n ≡
         fault-of-field (w .P) (w .fields) (w .field)) ⌝ }
 {
-    if 17 <= tables[base + 515] {
-        return 2;
+    if MOST_FIELDS <= tables[base + COUNT_PLACE] {
+        return LIMIT_REFUSAL;
     }
     let t = rows[r * 4 + 1];
     if !is_declared(t, count) {
-        return 4;
+        return NAME_REFUSAL;
     }
     let name = rows[r * 4 + 2] as usize;
     if tables[base + name] != 0 {
-        return 4;
+        return NAME_REFUSAL;
     }
     if is_state(tables, t) {
-        return 5;
+        return KIND_REFUSAL;
     }
     0
 }
@@ -162,10 +185,10 @@ fn enter_field(rows: &[u32], tables: &mut [u16], r: usize, base: usize)
         (w .k) (now (tables .exit)) (w .fields ++ (w .field ∷ [])) (w .rows ++ (r ∷ [])) (w .methods)) ⌝ }
 {
     let name = rows[r * 4 + 2] as usize;
-    let n = tables[base + 515];
+    let n = tables[base + COUNT_PLACE];
     tables[base + name] = n + 1;
-    tables[base + 520 + n as usize] = r as u16;
-    tables[base + 515] = n + 1;
+    tables[base + ROWS_PLACE + n as usize] = r as u16;
+    tables[base + COUNT_PLACE] = n + 1;
 }
 
 // Checks and enters the fields of a class.
@@ -206,7 +229,7 @@ fn effect_set(rows: &[u32], r: usize, n: usize) -> u64
     while 0 < i {
         i -= 1;
         let c = rows[(r + i) * 4 + 1];
-        if c <= 64 {
+        if c <= MOST_CLASSES {
             set = classes::effect_of(c) | set;
         }
     }
@@ -224,7 +247,7 @@ fn lines_within(rows: &[u32], r: usize, n: usize, set: u64) -> bool
         if c == 0 {
             return false;
         }
-        if 64 < c {
+        if MOST_CLASSES < c {
             return false;
         }
         if !classes::is_member(set, c) {
@@ -260,14 +283,14 @@ fn may_override(rows: &[u32], r: usize, np: usize, nx: usize, over: usize) -> bo
     if rows[r * 4 + 1] != rows[over * 4 + 1] {
         return false;
     }
-    let op = count_rows(rows, over + 1, 80);
+    let op = count_rows(rows, over + 1, PARAMETER);
     if op != np {
         return false;
     }
     if !same_types(rows, r + 1, over + 1, np) {
         return false;
     }
-    let ox = count_rows(rows, over + 1 + np, 88);
+    let ox = count_rows(rows, over + 1 + np, EFFECT);
     let set = effect_set(rows, over + 1 + np, ox);
     lines_within(rows, r + 1 + np, nx, set)
 }
@@ -289,12 +312,12 @@ fn method_fault(
         (w .ready .method)) ⌝ }
 {
     if !is_declared(rows[r * 4 + 1], count) {
-        return 4;
+        return NAME_REFUSAL;
     }
     let name = rows[r * 4 + 2] as usize;
-    let entry = tables[base + 256 + name] as usize;
+    let entry = tables[base + METHODS_FROM + name] as usize;
     if first < entry {
-        return 4; // declared in this class before
+        return NAME_REFUSAL; // declared in this class before
     }
     if entry == 0 {
         return 0;
@@ -302,7 +325,7 @@ fn method_fault(
     if may_override(rows, r, np, nx, entry - 1) {
         return 0;
     }
-    6 // the heading differs
+    OVERRIDE_REFUSAL // the heading differs
 }
 
 // Checks the P lines of a method.
@@ -314,7 +337,7 @@ fn check_parameters(rows: &[u32], r: usize, n: usize, count: usize) -> Headed
     let mut i = 0;
     while i < n {
         if !is_declared(rows[(r + i) * 4 + 1], count) {
-            return Headed::Refused(4, (r + i + 1) as u32);
+            return Headed::Refused(NAME_REFUSAL, (r + i + 1) as u32);
         }
         i += 1;
     }
@@ -327,13 +350,13 @@ fn effect_fault(tables: &[u16], c: u32, last: u32, count: usize) -> u32
     ensures { λ n. ⌜ ((w : EffectReady (now (tables .entry)) count) → n ≡ fault-of-effect (w .P) last c) ⌝ }
 {
     if count < c as usize {
-        return 4;
+        return NAME_REFUSAL;
     }
-    if tables[c as usize * 576 + 512] != 1 {
-        return 5;
+    if tables[c as usize * CLASS_WIDTH + KIND_PLACE] != 1 {
+        return KIND_REFUSAL;
     }
     if c <= last {
-        return 5;
+        return KIND_REFUSAL;
     }
     0
 }
@@ -373,8 +396,8 @@ fn check_method(
         × (h ≡ Headed.Passed → Working (w .program .classes) (w .k) (now (tables .exit)) (w .fields) (w .rows)
         (with-row (w .method .name) r (own-or (w .own) (method-row (w .program .classes) (w .super)))))) ⌝ }
 {
-    let np = count_rows(rows, r + 1, 80);
-    let nx = count_rows(rows, r + 1 + np, 88);
+    let np = count_rows(rows, r + 1, PARAMETER);
+    let nx = count_rows(rows, r + 1 + np, EFFECT);
     let fault = method_fault(rows, tables, r, np, nx, base, first, count);
     if fault != 0 {
         return Headed::Refused(fault, (r + 1) as u32);
@@ -388,7 +411,7 @@ fn check_method(
         return x;
     };
     let name = rows[r * 4 + 2] as usize;
-    tables[base + 256 + name] = (r + 1) as u16;
+    tables[base + METHODS_FROM + name] = (r + 1) as u16;
     Headed::Passed
 }
 
@@ -410,7 +433,7 @@ fn check_methods(
         (own-or (declared-row r (w .one .methods)) (method-row (w .program .classes) (w .super))))) ⌝ }
 {
     let mut at = r;
-    while rows[at * 4] == 77 {
+    while rows[at * 4] == METHOD {
         let m = check_method(rows, tables, at, base, first, count);
         let Headed::Passed = m else {
             return m;
@@ -443,12 +466,12 @@ fn start_block(tables: &mut [u16], k: usize, over: usize, kind: u32)
         → Working (w .P) k (now (tables .exit)) (world (w .P) .fields over) (field-rows (w .P) over)
         (method-row (w .P) over)) ⌝ }
 {
-    let base = k * 576;
-    let from = over * 576;
-    copy_part(tables, from, base, 512);
-    copy_part(tables, from + 514, base + 514, 62);
+    let base = k * CLASS_WIDTH;
+    let from = over * CLASS_WIDTH;
+    copy_part(tables, from, base, KIND_PLACE);
+    copy_part(tables, from + ROOT_PLACE, base + ROOT_PLACE, FROM_ROOT);
     if kind != 2 {
-        tables[base + 514] = k as u16;
+        tables[base + ROOT_PLACE] = k as u16;
     }
 }
 
@@ -469,18 +492,18 @@ fn check_class(
     let kind = rows[r * 4 + 1];
     let over = rows[r * 4 + 2] as usize;
     if k <= over {
-        return Headed::Refused(4, (r + 1) as u32);
+        return Headed::Refused(NAME_REFUSAL, (r + 1) as u32);
     }
-    if !may_extend(kind, tables[over * 576 + 512]) {
-        return Headed::Refused(5, (r + 1) as u32);
+    if !may_extend(kind, tables[over * CLASS_WIDTH + KIND_PLACE]) {
+        return Headed::Refused(KIND_REFUSAL, (r + 1) as u32);
     }
     start_block(tables, k, over, kind);
-    let n = count_rows(rows, r + 1, 70);
-    let f = check_fields(rows, tables, r + 1, n, k * 576, count);
+    let n = count_rows(rows, r + 1, FIELD);
+    let f = check_fields(rows, tables, r + 1, n, k * CLASS_WIDTH, count);
     let Headed::Passed = f else {
         return f;
     };
-    check_methods(rows, ends, tables, r + 1 + n, k * 576, r, count)
+    check_methods(rows, ends, tables, r + 1 + n, k * CLASS_WIDTH, r, count)
 }
 
 // Checks all classes in order and fills both tables.

@@ -7,6 +7,7 @@ use Prim.Native.Nat.{ℕ}
 use native.Mathlib.Omega.{arith}
 use borrow.Author.Tests.{eqb-true}
 use lib.Dec.{eqb}
+use Rattle.language.specs.Alphabet.{Laws, ours}
 use Rattle.language.specs.Lists.{choice, inj}
 use Rattle.language.specs.Rows.{Letter, letters, code, letter-among}
 use Rattle.language.specs.Rows.{C-class, F-field, M-method, P-parameter, X-effect, S-start, B-block}
@@ -52,3 +53,7 @@ code-among J-choose = refl
 -- a code is one letter's alone
 pub code-injective : (l m : Letter) → code l ≡ code m → l ≡ m
 code-injective l m e = inj (sym (code-among l) ∙ ap (letter-among letters) e ∙ code-among m)
+
+-- our own alphabet has both laws
+pub our-laws : Laws ours
+our-laws = record { letter-of-byte = code-among; byte-of-letter = among-code letters }

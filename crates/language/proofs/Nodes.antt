@@ -8,17 +8,16 @@ use lib.ListN.{length, getD}
 use Rattle.language.specs.Rows.{Letter, code, C-class, F-field, M-method, P-parameter, X-effect}
 use Rattle.language.specs.Rows.{S-start, V-local, T-true, L-false, N-null, I-slot, Z-is-null, G-get}
 use Rattle.language.specs.Rows.{K-cast, W-new, R-change, A-assign, U-set, Q-call, J-choose, B-block}
-use Rattle.language.specs.Tree.{DeclaredType, Expr, literal-true, literal-false, literal-null, slot}
+use Rattle.language.specs.Tree.{DeclaredType, Expr, literal, literal-true, literal-false, literal-null}
+use Rattle.language.specs.Tree.{slot}
 use Rattle.language.specs.Tree.{is-null, get, cast, new, change, assign, set, call, choose, block}
-use Rattle.language.specs.Tree.{Exprs, size}
+use Rattle.language.specs.Tree.{Exprs, size, literal-record}
 use Rattle.language.specs.Encoded.{NodeAt, Encoded}
 use Rattle.language.proofs.Letters.{code-injective}
 
 -- The letter of an expression's line.
 abbrev pub letter-of : Expr → Letter
-letter-of literal-true = T-true
-letter-of literal-false = L-false
-letter-of literal-null = N-null
+letter-of (literal l) = literal-record l .letter
 letter-of (slot k) = I-slot
 letter-of (is-null e) = Z-is-null
 letter-of (get f e) = G-get
@@ -33,9 +32,9 @@ letter-of (block ts es) = B-block
 
 -- Something of each expression that a letter tells; of a letter that no node has there is nothing to say.
 abbrev pub EachTree : (Expr → Type 0) → Letter → Type 0
-EachTree B T-true = B literal-true
-EachTree B L-false = B literal-false
-EachTree B N-null = B literal-null
+EachTree B T-true = B (literal literal-true)
+EachTree B L-false = B (literal literal-false)
+EachTree B N-null = B (literal literal-null)
 EachTree B I-slot = (k : ℕ) → B (slot k)
 EachTree B Z-is-null = (e : Expr) → B (is-null e)
 EachTree B G-get = (f : ℕ) (e : Expr) → B (get f e)
@@ -56,9 +55,9 @@ EachTree B S-start = Unit {0}
 EachTree B V-local = Unit {0}
 
 each-tree : (B : Expr → Type 0) (e : Expr) → EachTree B (letter-of e) → B e
-each-tree B literal-true g = g
-each-tree B literal-false g = g
-each-tree B literal-null g = g
+each-tree B (literal literal-true) g = g
+each-tree B (literal literal-false) g = g
+each-tree B (literal literal-null) g = g
 each-tree B (slot k) g = g k
 each-tree B (is-null e) g = g e
 each-tree B (get f e) g = g f e
@@ -93,9 +92,7 @@ of-node h = record { row = h .row .within; letter = h .row .letter; in-ends = h 
 
 pub head : {R E : List ℕ} (e : Expr) {r : ℕ} → Encoded R E e r → Head R E e r
 unfolding Encoded size
-head literal-true h = of-node h
-head literal-false h = of-node h
-head literal-null h = of-node h
+head (literal l) h = of-node h
 head (slot k) h = of-node h
 head (is-null e) h = of-node (h .0)
 head (get f e) h = of-node (h .0)

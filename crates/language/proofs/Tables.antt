@@ -5,7 +5,7 @@ use mathlib.Core.Path.{_≡_, refl, ap}
 use mathlib.Core.List.{List, [], _∷_}
 use native.Mathlib.Omega.{arith}
 use lib.ListN.{length, length-append}
-use Rattle.language.specs.Tree.{Expr, literal-true, literal-false, literal-null, slot, is-null, get}
+use Rattle.language.specs.Tree.{Expr, literal, slot, is-null, get}
 use Rattle.language.specs.Tree.{cast, new, change, assign, set, call, choose, block, Exprs, nil, cons}
 use Rattle.language.specs.Tree.{size, sizes, Declaration, heading-lines, method-lines, methods-lines}
 use Rattle.language.specs.Tree.{Class, class-lines, classes-lines}
@@ -14,9 +14,7 @@ use Rattle.language.specs.Tables.{classes-ends}
 
 pub size-positive : (e : Expr) → 1 ≤ size e
 unfolding size
-size-positive literal-true = omega arith
-size-positive literal-false = omega arith
-size-positive literal-null = omega arith
+size-positive (literal l) = omega arith
 size-positive (slot k) = omega arith
 size-positive (is-null e) = omega arith
 size-positive (get f e) = omega arith
@@ -42,9 +40,7 @@ mutual
   unfolding ends-of size
 
   pub ends-long : (at : ℕ) (e : Expr) → length (ends-of at e) ≡ size e
-  ends-long at literal-true = refl
-  ends-long at literal-false = refl
-  ends-long at literal-null = refl
+  ends-long at (literal l) = refl
   ends-long at (slot k) = refl
   ends-long at (is-null e) = omega (arith, ends-long (at + 1) e)
   ends-long at (get f e) = omega (arith, ends-long (at + 1) e)

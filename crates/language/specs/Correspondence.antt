@@ -8,7 +8,7 @@ use mathlib.Core.List.{List, [], _∷_}
 use lib.Dec.{eqb}
 use Rattle.language.specs.Limits.{identity-class}
 use Rattle.language.specs.Lists.{nth, choice, All2}
-use Rattle.language.specs.Evaluation.{Value, null, truth, object, Object, raised, deep}
+use Rattle.language.specs.State.{Value, null, truth, object, Object, raised, deep}
 use Rattle.language.specs.Translation.{plain-class}
 use Rattle.language.specs.Store.{Outcome, gave, ended}
 

@@ -5,11 +5,11 @@ use mathlib.Core.Path.{_≡_}
 use Prim.Native.Nat.{ℕ, _+_, _*_, _<_}
 use mathlib.Core.List.{List, [], _∷_}
 use lib.ListN.{length, getD}
-use Rattle.language.specs.Rows.{Letter, T-true, L-false, N-null, I-slot, Z-is-null, G-get, K-cast}
+use Rattle.language.specs.Rows.{Letter, I-slot, Z-is-null, G-get, K-cast}
 use Rattle.language.specs.Rows.{W-new, R-change}
 use Rattle.language.specs.Rows.{A-assign, U-set, Q-call, J-choose, B-block, V-local, code}
-use Rattle.language.specs.Tree.{DeclaredType, type-number, Expr, literal-true, literal-false}
-use Rattle.language.specs.Tree.{literal-null, slot}
+use Rattle.language.specs.Tree.{DeclaredType, type-number, Expr, literal-record, literal}
+use Rattle.language.specs.Tree.{slot}
 use Rattle.language.specs.Tree.{is-null, get, cast, new, change, assign, set, call, choose, block}
 use Rattle.language.specs.Tree.{Exprs, nil, cons}
 use Rattle.language.specs.Tree.{count, size, sizes}
@@ -39,9 +39,8 @@ TypesAt l R ts r = LinesAt (λ (t : DeclaredType) (i : ℕ). RowAt R i l (type-n
 
 unfoldable mutual
   pub Encoded : List ℕ → List ℕ → Expr → ℕ → Type 0
-  Encoded R E literal-true r = NodeAt R E r T-true 0 0 1
-  Encoded R E literal-false r = NodeAt R E r L-false 0 0 1
-  Encoded R E literal-null r = NodeAt R E r N-null 0 0 1
+  Encoded R E (literal l) r =
+      NodeAt R E r (literal-record l .letter) (literal-record l .first) (literal-record l .second) 1
   Encoded R E (slot k) r = NodeAt R E r I-slot k 0 1
   Encoded R E (is-null e) r = NodeAt R E r Z-is-null 0 0 (1 + size e) × Encoded R E e (r + 1)
   Encoded R E (get f e) r = NodeAt R E r G-get f 0 (1 + size e) × Encoded R E e (r + 1)

@@ -2,45 +2,22 @@
 -- An expression gives a value and a state, or a reason to stop and the state then.
 use Prim.Native.Nat.{ℕ, zero, suc}
 use mathlib.Core.Option.{Option, none, some}
-use mathlib.Core.Bool.{Bool, true, false, cond}
+use mathlib.Core.Bool.{Bool, true, false, cond, _&&_}
 use mathlib.Core.List.{List, [], _∷_, _++_, map}
 use lib.ListN.{length, take, drop, set as replace}
 use lib.Dec.{leb}
 use Rattle.language.specs.Limits.{most-calls, null-exception, cast-exception}
+use Rattle.language.specs.State.{Value, null, truth, object, Object, State, raised, spent, deep, full}
+use Rattle.language.specs.State.{stuck, Out, entered, with-frame, with-heap, with-change, initial}
+use Rattle.language.specs.State.{initials, literal-value}
+pub use Rattle.language.specs.State.{last-value}
 use Rattle.language.specs.Lists.{nth, bind-option, choice}
-use Rattle.language.specs.Results.{Result, ok, stop, bind}
-use Rattle.language.specs.Frames.{Frame, frame, at-slot, with-slot, opened, closed}
-use Rattle.language.specs.Tree.{DeclaredType, bool, class, Expr, literal-true, literal-false}
-use Rattle.language.specs.Tree.{literal-null, slot, is-null, get, cast, new, change, assign, set, call}
-use Rattle.language.specs.Tree.{choose, block, Exprs, nil, cons, Field, Program}
+use Rattle.language.specs.Results.{ok, stop, bind}
+use Rattle.language.specs.Frames.{frame, at-slot, with-slot, opened, closed}
+use Rattle.language.specs.Tree.{Expr, literal, slot, is-null, get, cast, new, change, assign, set}
+use Rattle.language.specs.Tree.{call, choose, block, Exprs, nil, cons, Program}
 use Rattle.language.specs.World.{Method, World, place}
 use Rattle.language.specs.Program.{world}
-
--- An object is named by how many were made before it.
-pub data Value : Type 0 where
-  null : Value
-  truth : Bool → Value
-  object : ℕ → Value
-
-pub record Object : Type 0 where
-  pub class-of : ℕ
-  pub fields : List Value
-
--- Slots, objects in the order in which they were made, nodes entered, changes of class.
-pub record State : Type 0 where
-  pub frame : Frame Value
-  pub heap : List Object
-  pub steps : ℕ
-  pub changes : ℕ
-
--- Why a run ends without a value. Stuck is a member that is not there, or a value of the wrong sort;
--- it comes of no accepted program.
-pub data Stop : Type 0 where
-  raised : ℕ → Stop
-  spent deep full stuck : Stop
-
-abbrev pub Out : Type 0 → Type 0
-Out A = Result State Stop A
 
 -- The limits of a run: no fuel left after so many steps, no room left after so many objects.
 pub record Limits : Type 0 where
@@ -52,30 +29,6 @@ without-limits = record { spent-at = λ _. false; full-at = λ _. false }
 
 abbrev pub with-limits : ℕ → ℕ → Limits
 with-limits fuel capacity = record { spent-at = λ n. leb fuel n; full-at = λ n. leb capacity n }
-
-abbrev pub entered : State → State
-entered s = record { frame = s .frame; heap = s .heap; steps = suc (s .steps); changes = s .changes }
-
-abbrev pub with-frame : Frame Value → State → State
-with-frame γ s = record { frame = γ; heap = s .heap; steps = s .steps; changes = s .changes }
-
-abbrev pub with-heap : List Object → State → State
-with-heap h s = record { frame = s .frame; heap = h; steps = s .steps; changes = s .changes }
-
-abbrev pub with-change : List Object → State → State
-with-change h s = record { frame = s .frame; heap = h; steps = s .steps; changes = suc (s .changes) }
-
--- New fields and locals hold false or null.
-abbrev pub initial : DeclaredType → Value
-initial bool = truth false
-initial (class c) = null
-
-abbrev pub initials : List Field → List Value
-initials fs = map (λ f. initial (f .type)) fs
-
-abbrev pub last-value : Value → List Value → Value
-last-value v [] = v
-last-value v (w ∷ ws) = last-value w ws
 
 -- What must be there; an object; a truth value.
 abbrev pub need : {A B : Type 0} → Option A → State → (A → Out B) → Out B
@@ -92,19 +45,25 @@ need-truth null s k = stop stuck s
 need-truth (truth b) s k = k b
 need-truth (object j) s k = stop stuck s
 
-abbrev pub is-null-value : Value → Bool
-is-null-value null = true
-is-null-value (truth b) = false
-is-null-value (object j) = false
+-- Whether a value is null; a truth value is neither null nor an object.
+abbrev pub need-reference : {B : Type 0} → Value → State → (Bool → Out B) → Out B
+need-reference null s k = k true
+need-reference (truth b) s k = stop stuck s
+need-reference (object j) s k = k false
 
 module _ (W : World) where
   abbrev pub new-object : ℕ → Object
   new-object c = record { class-of = c; fields = initials (W .fields c) }
 
-  -- An object changed to class d: the root's fields stay, the others of d have their first values.
+  -- An object changed to class d: the fields of its own class's root stay, the others of d have their first values.
   abbrev pub changed : ℕ → Object → Object
-  changed d o = let n = length (W .fields (W .root d)) in
+  changed d o = let n = length (W .fields (W .root (o .class-of))) in
       record { class-of = d; fields = take n (o .fields) ++ initials (drop n (W .fields d)) }
+
+  -- The object and the target have as many fields as stay.
+  abbrev pub keeps-fields : ℕ → Object → Bool
+  keeps-fields d o = let n = length (W .fields (W .root (o .class-of))) in
+      leb n (length (o .fields)) && leb n (length (W .fields d))
 
   abbrev pub field-of : ℕ → Object → Option Value
   field-of f o = bind-option (place f (W .fields (o .class-of))) λ i. nth (o .fields) i
@@ -113,8 +72,8 @@ module _ (W : World) where
   with-field f v o = bind-option (place f (W .fields (o .class-of))) λ i.
       some (record { class-of = o .class-of; fields = replace (o .fields) i v })
 
-  -- G, U, K and R, once their parts have values. R takes the root's fields out of the object; one that lacks them
-  -- is stuck.
+  -- G, U, K and R, once their parts have values. R keeps the fields of the root of the object's class; where the object
+  -- or the target lacks them, it is stuck.
   abbrev pub do-get : ℕ → Value → State → Out Value
   do-get f v s = need-object v s λ j. need (nth (s .heap) j) s λ o. need (field-of f o) s λ w. ok w s
 
@@ -132,7 +91,7 @@ module _ (W : World) where
   do-change d null s = ok null s
   do-change d (truth b) s = stop stuck s
   do-change d (object j) s = need (nth (s .heap) j) s λ o.
-      cond (leb (length (W .fields (W .root d))) (length (o .fields)))
+      cond (keeps-fields d o)
       (ok (object j) (with-change (replace (s .heap) j (changed d o)) s))
       (stop stuck s)
 
@@ -156,16 +115,14 @@ module _ (W : World) where
 
       unfoldable mutual
         pub eval : Expr → State → Out Value
-        eval literal-true s = enter s λ s. ok (truth true) s
-        eval literal-false s = enter s λ s. ok (truth false) s
-        eval literal-null s = enter s λ s. ok null s
+        eval (literal l) s = enter s λ s. ok (literal-value l) s
         eval (slot k) s = enter s λ s. need (at-slot (s .frame) k) s λ v. ok v s
-        eval (is-null e) s = enter s λ s. bind (eval e s) λ v s. ok (truth (is-null-value v)) s
+        eval (is-null e) s = enter s λ s. bind (eval e s) λ v s. need-reference v s λ b. ok (truth b) s
         eval (get f e) s = enter s λ s. bind (eval e s) λ v s. do-get f v s
         eval (cast c e) s = enter s λ s. bind (eval e s) λ v s. do-cast c v s
         eval (new c) s = enter s λ s. do-new c s
         eval (change k d) s = enter s λ s. need (at-slot (s .frame) k) s λ v. do-change d v s
-        eval (assign k e) s = enter s λ s. bind (eval e s) λ v s.
+        eval (assign k e) s = enter s λ s. bind (eval e s) λ v s. need (at-slot (s .frame) k) s λ _.
             ok v (with-frame (with-slot (s .frame) k v) s)
         eval (set f e e′) s = enter s λ s. bind (eval e s) λ v s. bind (eval e′ s) λ w s. do-set f v w s
         eval (call m e es) s = enter s λ s. bind (eval e s) λ v s. bind (eval-all es s) λ vs s.

@@ -3,7 +3,7 @@
 -- Rows are taken one after another, so the least line comes first; on one line 1, then 2, then 3.
 use Prim.Native.Nat.{ℕ, zero, suc, _+_}
 use mathlib.Core.Option.{Option, none, some}
-use mathlib.Core.Bool.{Bool, true, false, not, cond}
+use mathlib.Core.Bool.{not, cond}
 use mathlib.Core.List.{List, [], _∷_}
 use lib.ListN.{length}
 use lib.Dec.{eqb, leb, ltb}
@@ -13,8 +13,9 @@ use Rattle.language.specs.Results.{Checked, accept, refuse, bind-checked
 use Rattle.language.specs.Rows.{Letter, C-class, F-field, M-method, P-parameter, X-effect, S-start}
 use Rattle.language.specs.Rows.{B-block, V-local, T-true, L-false, N-null, I-slot, Z-is-null, G-get}
 use Rattle.language.specs.Rows.{K-cast, W-new, R-change, A-assign, U-set, Q-call, J-choose, Record}
-use Rattle.language.specs.Rows.{name-of, same-letter, Row, record-of}
-use Rattle.language.specs.Tree.{DeclaredType, type-of-number, Expr, literal-true, literal-false}
+use Rattle.language.specs.Rows.{is-node, name-of, same-letter, Row, record-of}
+use Rattle.language.specs.Tree.{DeclaredType, type-of-number, Expr, literal, literal-true}
+use Rattle.language.specs.Tree.{literal-false}
 use Rattle.language.specs.Tree.{literal-null, slot, is-null, get, cast, new, change, assign, set, call}
 use Rattle.language.specs.Tree.{choose, block, Exprs, nil, cons, size, kind-of-number, Field}
 use Rattle.language.specs.Tree.{Declaration, method-lines, Class, class-lines, classes-lines, Program}
@@ -33,30 +34,6 @@ done a rs = accept (read a rs)
 unfoldable pub after : {A B : Type 0} → Checked (Read A) → (A → List Row → Checked B) → Checked B
 after (accept r) k = k (r .tree) (r .rest)
 after (refuse n l) k = refuse n l
-
--- Letters of nodes.
-abbrev pub is-node : Letter → Bool
-is-node C-class = false
-is-node F-field = false
-is-node M-method = false
-is-node P-parameter = false
-is-node X-effect = false
-is-node S-start = false
-is-node B-block = true
-is-node V-local = false
-is-node T-true = true
-is-node L-false = true
-is-node N-null = true
-is-node I-slot = true
-is-node Z-is-null = true
-is-node G-get = true
-is-node K-cast = true
-is-node W-new = true
-is-node R-change = true
-is-node A-assign = true
-is-node U-set = true
-is-node Q-call = true
-is-node J-choose = true
 
 -- The class of a C line, with what follows it.
 abbrev pub class-of : Record → List Field → List Declaration → Class
@@ -112,9 +89,9 @@ module _ (most : Most) where
   node-of node X-effect a b n at rs = refuse place-refusal at
   node-of node S-start a b n at rs = refuse place-refusal at
   node-of node V-local a b n at rs = refuse place-refusal at
-  node-of node T-true a b n at rs = done literal-true rs
-  node-of node L-false a b n at rs = done literal-false rs
-  node-of node N-null a b n at rs = done literal-null rs
+  node-of node T-true a b n at rs = done (literal literal-true) rs
+  node-of node L-false a b n at rs = done (literal literal-false) rs
+  node-of node N-null a b n at rs = done (literal literal-null) rs
   node-of node I-slot k b n at rs = done (slot k) rs
   node-of node Z-is-null a b n at rs = after (node n (at + 1) rs) λ e rs. done (is-null e) rs
   node-of node G-get f b n at rs = after (node n (at + 1) rs) λ e rs. done (get f e) rs

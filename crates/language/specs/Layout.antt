@@ -11,7 +11,7 @@ use Rattle.language.specs.Tree.{type-number, kind-number, size, Field, D
 use Rattle.language.specs.Tree.{method-lines}
 use Rattle.language.specs.Tree.{Class, class-lines, classes-lines, Program}
 use Rattle.language.specs.Program.{world}
-use Rattle.language.specs.Typing.{method-environment, start-environment}
+use Rattle.language.specs.Environment.{method-environment, start-environment}
 use Rattle.language.specs.LookupClasses.{LooksUp}
 use Rattle.language.specs.Encoded.{RowAt, LinesAt, TypesAt, Encoded}
 use Rattle.language.specs.WellFormed.{ProgramInForm}

@@ -3,6 +3,7 @@ pub mod Lists
 pub mod Results
 pub mod Frames
 pub mod Rows
+pub mod Alphabet
 pub mod Filling
 pub mod Decimals
 pub mod TextLines
@@ -17,11 +18,17 @@ pub mod Form
 pub mod Tables
 pub mod Headings
 pub mod Uses
+pub mod Environment
 pub mod Typing
+pub mod ClassRelations
+pub mod TypeRelations
 pub mod Rules
 pub mod WellFormed
+pub mod WorkedRules
 pub mod Verdict
+pub mod State
 pub mod Evaluation
+pub mod ObjectRelations
 pub mod Runs
 pub mod Translation
 pub mod LookupClasses

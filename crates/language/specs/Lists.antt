@@ -45,6 +45,11 @@ pub bind-option-inv : {A B C : Type 0} (r : Option A) (k : A → Option B) {b : 
 bind-option-inv none k e f = absurd (Never e)
 bind-option-inv (some a) k e f = f a refl e
 
+-- What holds of each of a list.
+pub data Each {A : Type 0} (R : A → Type 0) : List A → Type 0 where
+  each-nil : Each R []
+  each-cons : {a : A} {l : List A} → R a → Each R l → Each R (a ∷ l)
+
 -- Two lists related place by place.
 pub data All2 {A B : Type 0} (R : A → B → Type 0) : List A → List B → Type 0 where
   a-nil : All2 R [] []

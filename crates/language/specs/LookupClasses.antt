@@ -5,21 +5,20 @@ use Prim.Native.Nat.{ℕ, _+_}
 use mathlib.Core.List.{List, map}
 use lib.ListN.{length, getD}
 use Rattle.language.specs.Frames.{opened}
-use Rattle.language.specs.Tree.{Expr, literal-true, literal-false, literal-null, slot, is-null, get}
+use Rattle.language.specs.Tree.{Expr, literal, slot, is-null, get}
 use Rattle.language.specs.Tree.{cast, new}
 use Rattle.language.specs.Tree.{change, assign, set, call, choose, block, Exprs, nil, cons, size}
 use Rattle.language.specs.World.{World}
 use Rattle.language.specs.Effects.{apply-class}
-use Rattle.language.specs.Typing.{Environment, fresh-slot, type-of, type-all}
+use Rattle.language.specs.Environment.{Environment, fresh-slot}
+use Rattle.language.specs.Typing.{type-of, type-all}
 use Rattle.language.specs.Translation.{typed-or, typed-all-or, class-or}
 
 module _ (W : World) (C : List ℕ) where
   -- The table holds the lookup classes of an expression at row r, typed in γ.
   unfoldable mutual
     pub LooksUp : Expr → Environment → ℕ → Type 0
-    LooksUp literal-true γ r = Unit {0}
-    LooksUp literal-false γ r = Unit {0}
-    LooksUp literal-null γ r = Unit {0}
+    LooksUp (literal l) γ r = Unit {0}
     LooksUp (slot k) γ r = Unit {0}
     LooksUp (is-null e) γ r = LooksUp e γ (r + 1)
     LooksUp (get f e) γ r = (getD C r 0 ≡ class-or (typed-or (type-of W e 0 γ) .type)) × LooksUp e γ (r + 1)

@@ -7,12 +7,13 @@ use lib.ListN.{replicate}
 use Rattle.language.specs.Limits.{text-room, source-room, plain-room, store-room}
 use Rattle.language.specs.Limits.{program-fuel}
 use Rattle.language.specs.Results.{Checked, accept, refuse, bind-checked}
-use Rattle.language.specs.Evaluation.{null, truth, object, raised, spent, deep, full, stuck}
+use Rattle.language.specs.State.{null, truth, object, raised, spent, deep, full, stuck}
 use Rattle.language.specs.Store.{Outcome, gave, ended, stop-number, Answer, refused, ran, run-of}
 use Rattle.language.specs.Translation.{translation}
 use Rattle.language.specs.Filling.{held}
 use Rattle.language.specs.Decimals.{digits}
 use Rattle.language.specs.TextLines.{tab, line-feed}
+use Rattle.language.specs.Alphabet.{ours}
 use Rattle.language.specs.Texts.{read-text, write-rows}
 
 -- A number after a tab.
@@ -47,7 +48,8 @@ run-text (ran o steps objects changes) = outcome-text o ++ counts-text steps obj
 
 -- The rows of an input.
 unfoldable pub source-rows : List ℕ → Checked (List ℕ)
-source-rows input = bind-checked (held text-room (accept input)) λ text. held source-room (read-text text)
+source-rows input = bind-checked (held text-room (accept input)) λ text.
+    held source-room (read-text ours text)
 
 abbrev pub printed : Checked (List ℕ) → List ℕ
 printed (accept text) = text
@@ -55,7 +57,8 @@ printed (refuse n l) = refusal-text n l
 
 -- The translating program: the text of the plain rows.
 unfoldable pub plain-text : List ℕ → Checked (List ℕ)
-plain-text rows = bind-checked (held plain-room (translation rows)) λ plain. held text-room (write-rows plain)
+plain-text rows = bind-checked (held plain-room (translation rows)) λ plain.
+    held text-room (write-rows ours plain)
 
 unfoldable pub translate-output : List ℕ → List ℕ
 translate-output input = printed (bind-checked (source-rows input) λ rows. plain-text rows)

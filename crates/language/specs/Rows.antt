@@ -1,5 +1,5 @@
 -- Letters, records and rows (document 01, "Lines and rows").
-use Prim.Native.Nat.{ℕ}
+use Prim.Native.Nat.{ℕ, zero, suc}
 use mathlib.Core.Option.{Option, none, some}
 use mathlib.Core.Bool.{Bool, true, false, _&&_, cond}
 use mathlib.Core.List.{List, [], _∷_}
@@ -18,53 +18,52 @@ letters =
     ∷ T-true ∷ L-false ∷ N-null ∷ I-slot ∷ Z-is-null ∷ G-get ∷ K-cast ∷ W-new ∷ R-change
     ∷ A-assign ∷ U-set ∷ Q-call ∷ J-choose ∷ []
 
--- The ASCII code of each.
-abbrev pub code : Letter → ℕ
-code C-class = 67
-code F-field = 70
-code M-method = 77
-code P-parameter = 80
-code X-effect = 88
-code S-start = 83
-code B-block = 66
-code V-local = 86
-code T-true = 84
-code L-false = 76
-code N-null = 78
-code I-slot = 73
-code Z-is-null = 90
-code G-get = 71
-code K-cast = 75
-code W-new = 87
-code R-change = 82
-code A-assign = 65
-code U-set = 85
-code Q-call = 81
-code J-choose = 74
+-- What nodes follow a record: none, since it is no node; so many children; a receiver and as many arguments as its second
+-- number says; as many locals as its first number says, then as many nodes as its second.
+pub data Children : Type 0 where
+  no-node : Children
+  children : ℕ → Children
+  arguments locals-and-nodes : Children
 
--- How many numbers each takes.
+-- The shape of a letter's records: the letter's ASCII code, how many numbers follow it, which of them, from 1, is a name
+-- (0 for none), and the nodes that follow.
+pub record Shape : Type 0 where
+  pub code : ℕ
+  pub numbers : ℕ
+  pub name : ℕ
+  pub nodes : Children
+
+abbrev pub shaped : ℕ → ℕ → ℕ → Children → Shape
+shaped c n k d = record { code = c; numbers = n; name = k; nodes = d }
+
+abbrev pub shape : Letter → Shape
+shape C-class = shaped 67 2 0 no-node
+shape F-field = shaped 70 2 2 no-node
+shape M-method = shaped 77 2 2 no-node
+shape P-parameter = shaped 80 1 0 no-node
+shape X-effect = shaped 88 1 0 no-node
+shape S-start = shaped 83 0 0 no-node
+shape B-block = shaped 66 2 0 locals-and-nodes
+shape V-local = shaped 86 1 0 no-node
+shape T-true = shaped 84 0 0 (children 0)
+shape L-false = shaped 76 0 0 (children 0)
+shape N-null = shaped 78 0 0 (children 0)
+shape I-slot = shaped 73 1 0 (children 0)
+shape Z-is-null = shaped 90 0 0 (children 1)
+shape G-get = shaped 71 1 1 (children 1)
+shape K-cast = shaped 75 1 0 (children 1)
+shape W-new = shaped 87 1 0 (children 0)
+shape R-change = shaped 82 2 0 (children 0)
+shape A-assign = shaped 65 1 0 (children 1)
+shape U-set = shaped 85 1 1 (children 2)
+shape Q-call = shaped 81 2 1 arguments
+shape J-choose = shaped 74 0 0 (children 3)
+
+abbrev pub code : Letter → ℕ
+code l = shape l .code
+
 abbrev pub numbers : Letter → ℕ
-numbers C-class = 2
-numbers F-field = 2
-numbers M-method = 2
-numbers P-parameter = 1
-numbers X-effect = 1
-numbers S-start = 0
-numbers B-block = 2
-numbers V-local = 1
-numbers T-true = 0
-numbers L-false = 0
-numbers N-null = 0
-numbers I-slot = 1
-numbers Z-is-null = 0
-numbers G-get = 1
-numbers K-cast = 1
-numbers W-new = 1
-numbers R-change = 2
-numbers A-assign = 1
-numbers U-set = 1
-numbers Q-call = 2
-numbers J-choose = 0
+numbers l = shape l .numbers
 
 -- A record: a letter with its numbers, 0 for those that it does not take.
 pub record Record : Type 0 where
@@ -76,28 +75,23 @@ abbrev pub written : Letter → ℕ → ℕ → Record
 written l a b = record { letter = l; first = a; second = b }
 
 -- The name that a record gives, where its letter takes one; 0 elsewhere.
+abbrev pub named : ℕ → ℕ → ℕ → ℕ
+named zero a b = 0
+named (suc zero) a b = a
+named (suc (suc n)) a b = b
+
 abbrev pub name-of : Letter → ℕ → ℕ → ℕ
-name-of C-class a b = 0
-name-of F-field a b = b
-name-of M-method a b = b
-name-of P-parameter a b = 0
-name-of X-effect a b = 0
-name-of S-start a b = 0
-name-of B-block a b = 0
-name-of V-local a b = 0
-name-of T-true a b = 0
-name-of L-false a b = 0
-name-of N-null a b = 0
-name-of I-slot a b = 0
-name-of Z-is-null a b = 0
-name-of G-get a b = a
-name-of K-cast a b = 0
-name-of W-new a b = 0
-name-of R-change a b = 0
-name-of A-assign a b = 0
-name-of U-set a b = a
-name-of Q-call a b = a
-name-of J-choose a b = 0
+name-of l a b = named (shape l .name) a b
+
+-- Is a record with these children a node.
+abbrev pub has-node : Children → Bool
+has-node no-node = false
+has-node (children n) = true
+has-node arguments = true
+has-node locals-and-nodes = true
+
+abbrev pub is-node : Letter → Bool
+is-node l = has-node (shape l .nodes)
 
 abbrev pub same-letter : Letter → Letter → Bool
 same-letter l m = eqb (code l) (code m)

@@ -10,8 +10,9 @@ use Rattle.language.specs.Results.{ok, stop, Checked, accept, refuse, re
 use Rattle.language.specs.Tree.{Program}
 use Rattle.language.specs.World.{World}
 use Rattle.language.specs.Verdict.{whole-rows, three-passes}
-use Rattle.language.specs.Evaluation.{Value, null, truth, object, Object, State, Stop, raised, spent}
-use Rattle.language.specs.Evaluation.{deep, full, stuck, Out, with-limits, run}
+use Rattle.language.specs.State.{Value, null, truth, object, Object, State, Stop, raised, spent}
+use Rattle.language.specs.State.{deep, full, stuck, Out}
+use Rattle.language.specs.Evaluation.{with-limits, run}
 
 -- A value is 0 null, 1 false, 2 true, or 2 + j for the j-th object made, from 1.
 -- `object j` is the one that j others were made before, so its number is 3 + j.

@@ -4,7 +4,7 @@
 use Prim.Native.Nat.{ℕ, zero, suc, _+_}
 use mathlib.Core.List.{List, [], _∷_, _++_}
 use lib.ListN.{length}
-use Rattle.language.specs.Tree.{Expr, literal-true, literal-false, literal-null, slot, is-null, get}
+use Rattle.language.specs.Tree.{Expr, literal, slot, is-null, get}
 use Rattle.language.specs.Tree.{cast}
 use Rattle.language.specs.Tree.{new, change, assign, set, call, choose, block, Exprs, nil, cons, size}
 use Rattle.language.specs.Tree.{sizes}
@@ -19,9 +19,7 @@ next-rows at (suc k) = (at + 1) ∷ next-rows (at + 1) k
 -- The ends of the rows of an expression, and of expressions one after another, that begin at row `at`.
 unfoldable mutual
   pub ends-of : ℕ → Expr → List ℕ
-  ends-of at literal-true = (at + 1) ∷ []
-  ends-of at literal-false = (at + 1) ∷ []
-  ends-of at literal-null = (at + 1) ∷ []
+  ends-of at (literal l) = (at + 1) ∷ []
   ends-of at (slot k) = (at + 1) ∷ []
   ends-of at (is-null e) = (at + (1 + size e)) ∷ ends-of (at + 1) e
   ends-of at (get f e) = (at + (1 + size e)) ∷ ends-of (at + 1) e

@@ -1,11 +1,13 @@
--- A line and its row
+-- A line and its row, under an alphabet
 -- (document 01, "Lines and rows": a letter, then numbers, each after a tab; the line ends in a line feed).
 use mathlib.Core.Bool.{Bool, true, cond}
 use mathlib.Core.List.{List, [], _∷_, _++_}
 use Prim.Native.Nat.{ℕ, zero, suc, _+_}
 use lib.Dec.{eqb}
 use lib.ListN.{length, drop}
-use Rattle.language.specs.Rows.{numbers-after}
+use Rattle.language.specs.Lists.{given}
+use Rattle.language.specs.Rows.{letters, code, numbers, letter-among}
+use Rattle.language.specs.Alphabet.{Alphabet}
 use Rattle.language.specs.Decimals.{decimal-of, digits}
 use Rattle.language.specs.declared.Decimal.{Decimal}
 use Rattle.language.specs.declared.Decimal.the-variants.{Is, Bad}
@@ -58,10 +60,11 @@ numbered (suc (suc zero)) code s =
     (number-of s)
 numbered (suc (suc (suc k))) code s = Malformed
 
--- The line that a text begins with: its row, and how many bytes it takes.
-unfoldable pub line-of : List ℕ → Line
-line-of [] = Malformed
-line-of (code ∷ s) = numbered (numbers-after code) code s
+-- The line that a text begins with: its row, and how many bytes it takes. Its first byte stands for a letter, which says
+-- how many numbers follow.
+unfoldable pub line-of : Alphabet → List ℕ → Line
+line-of α [] = Malformed
+line-of α (x ∷ s) = given (α .letter x) Malformed λ l. numbered (numbers l) (code l) s
 
 -- The numbers of a row, each after a tab.
 abbrev pub numbers-text : ℕ → ℕ → ℕ → List ℕ
@@ -69,6 +72,10 @@ numbers-text zero a b = []
 numbers-text (suc zero) a b = tab ∷ digits a
 numbers-text (suc (suc k)) a b = tab ∷ (digits a ++ (tab ∷ digits b))
 
--- The line of a row.
-unfoldable pub line-text : ℕ → ℕ → ℕ → List ℕ
-line-text code a b = code ∷ (numbers-text (numbers-after code) a b ++ (line-feed ∷ []))
+-- The line that begins with a byte, with so many numbers.
+abbrev pub line-from : ℕ → ℕ → ℕ → ℕ → List ℕ
+line-from x count a b = x ∷ (numbers-text count a b ++ (line-feed ∷ []))
+
+-- The line of a row, given its code and numbers; nothing where the code is no letter's.
+unfoldable pub line-text : Alphabet → ℕ → ℕ → ℕ → List ℕ
+line-text α n a b = given (letter-among letters n) [] λ l. line-from (α .byte l) (numbers l) a b

@@ -1,4 +1,4 @@
--- Whole texts and their rows, as numbers
+-- Whole texts and their rows, as numbers, under an alphabet
 -- (document 01, "Refusals and stops": line by line, 2 for line 60,001, then 1; then 13. The writer does the same over
 -- rows; input rows not a multiple of 4 long come first, line 0).
 use mathlib.Core.Bool.{cond}
@@ -10,6 +10,7 @@ use Rattle.language.specs.Limits.{of-check, line-refusal, limit-refusal,
 use Rattle.language.specs.Results.{Checked, accept, refuse}
 use Rattle.language.specs.Filling.{before}
 use Rattle.language.specs.Rows.{row, is-row}
+use Rattle.language.specs.Alphabet.{Alphabet}
 use Rattle.language.specs.TextLines.{line-of, line-text}
 use Rattle.language.specs.declared.Line.{Line}
 use Rattle.language.specs.declared.Line.the-variants.{Row, Malformed}
@@ -25,27 +26,27 @@ no-more line [] = accept []
 no-more line (x ∷ s) = refuse limit-refusal line
 
 -- The rows of a text that may have `left` lines more, the next of which is line `line`.
-unfoldable pub read-lines : ℕ → ℕ → List ℕ → Checked (List ℕ)
-read-lines zero line s = no-more line s
-read-lines (suc left) line [] = accept []
-read-lines (suc left) line (x ∷ s) =
-    with-line line (λ used. read-lines left (line + 1) (drop used (x ∷ s))) (line-of (x ∷ s))
+unfoldable pub read-lines : Alphabet → ℕ → ℕ → List ℕ → Checked (List ℕ)
+read-lines α zero line s = no-more line s
+read-lines α (suc left) line [] = accept []
+read-lines α (suc left) line (x ∷ s) =
+    with-line line (λ used. read-lines α left (line + 1) (drop used (x ∷ s))) (line-of α (x ∷ s))
 
-abbrev pub read-text : List ℕ → Checked (List ℕ)
-read-text s = read-lines (of-check .rows) 1 s
+abbrev pub read-text : Alphabet → List ℕ → Checked (List ℕ)
+read-text α s = read-lines α (of-check .rows) 1 s
 
 -- The text of rows, of which `left` more are allowed and the next makes line `line`.
-unfoldable pub write-lines : ℕ → ℕ → List ℕ → Checked (List ℕ)
-write-lines zero line rows = no-more line rows
-write-lines (suc left) line [] = accept []
-write-lines (suc left) line (code ∷ []) = refuse line-refusal no-line
-write-lines (suc left) line (code ∷ a ∷ []) = refuse line-refusal no-line
-write-lines (suc left) line (code ∷ a ∷ b ∷ []) = refuse line-refusal no-line
-write-lines (suc left) line (code ∷ a ∷ b ∷ c ∷ rows) = cond (is-row (row code a b c))
-    (before (line-text code a b) (write-lines left (line + 1) rows))
+unfoldable pub write-lines : Alphabet → ℕ → ℕ → List ℕ → Checked (List ℕ)
+write-lines α zero line rows = no-more line rows
+write-lines α (suc left) line [] = accept []
+write-lines α (suc left) line (code ∷ []) = refuse line-refusal no-line
+write-lines α (suc left) line (code ∷ a ∷ []) = refuse line-refusal no-line
+write-lines α (suc left) line (code ∷ a ∷ b ∷ []) = refuse line-refusal no-line
+write-lines α (suc left) line (code ∷ a ∷ b ∷ c ∷ rows) = cond (is-row (row code a b c))
+    (before (line-text α code a b) (write-lines α left (line + 1) rows))
     (refuse line-refusal line)
 
-abbrev pub write-rows : List ℕ → Checked (List ℕ)
-write-rows rows = cond (eqb (length rows % numbers-a-row) 0)
-    (write-lines (of-check .rows) 1 rows)
+abbrev pub write-rows : Alphabet → List ℕ → Checked (List ℕ)
+write-rows α rows = cond (eqb (length rows % numbers-a-row) 0)
+    (write-lines α (of-check .rows) 1 rows)
     (refuse line-refusal no-line)

@@ -13,7 +13,7 @@ use Rattle.language.specs.Results.{earlier}
 use Rattle.language.specs.Frames.{opened}
 use Rattle.language.specs.Rows.{row-of, rows-of, numbers-of}
 use Rattle.language.specs.Tree.{DeclaredType, bool, class, ExprType, known, null-type, Expr}
-use Rattle.language.specs.Tree.{literal-true, literal-false, literal-null, slot, is-null, get, cast}
+use Rattle.language.specs.Tree.{literal, literal-null, slot, is-null, get, cast}
 use Rattle.language.specs.Tree.{new, change, assign, set, call, choose, block, Exprs, nil, cons, plain}
 use Rattle.language.specs.Tree.{Field, Declaration, Class, class-lines, Program, flatten-program}
 use Rattle.language.specs.World.{Method, World, field-type}
@@ -21,7 +21,8 @@ use Rattle.language.specs.Effects.{no-effect, apply-class}
 use Rattle.language.specs.Program.{world}
 use Rattle.language.specs.Form.{form}
 use Rattle.language.specs.Headings.{headings}
-use Rattle.language.specs.Typing.{Environment, fresh-slot, method-environment, start-environment, Typed}
+use Rattle.language.specs.Environment.{Environment, fresh-slot, method-environment, start-environment}
+use Rattle.language.specs.Typing.{Typed}
 use Rattle.language.specs.Typing.{TypedAll, type-of, type-all}
 use Rattle.language.specs.Verdict.{check}
 
@@ -117,7 +118,7 @@ plain-new n c = block (class identity-class ∷ class (plain-class c) ∷ [])
 -- K, with Identity t in slot n.
 abbrev pub plain-cast : ℕ → ℕ → Expr → Expr
 plain-cast n c e = block (class identity-class ∷ [])
-    (choose (is-null (assign n e)) literal-null (get id-field (implementor c n)) then nil)
+    (choose (is-null (assign n e)) (literal literal-null) (get id-field (implementor c n)) then nil)
 
 -- Each root field copied from the object in slot p to the one in slot o.
 unfoldable pub copies : ℕ → ℕ → List Field → Exprs → Exprs
@@ -143,15 +144,14 @@ module _ (W : World) where
   plain-change n sh zero d = block (change-types d)
       (assign n (get id-field (slot 0)) then renew n d then slot n then nil)
   plain-change n sh (suc k) d = block (change-types d)
-      (choose (is-null (assign n (slot (suc (position sh k))))) literal-null (renew n d) then slot n then nil)
+      (choose (is-null (assign n (slot (suc (position sh k))))) (literal literal-null) (renew n d) then slot n
+      then nil)
 
   -- An expression typed in γ, its plain form in slots of shape sh. Temporaries stand from slot n on.
   unfoldable mutual
     pub translate : Expr → Environment → Shape → Expr
     -- Literals, other slots, Z, A, J, B: node for node. `this`: its `id`.
-    translate literal-true γ sh = literal-true
-    translate literal-false γ sh = literal-false
-    translate literal-null γ sh = literal-null
+    translate (literal l) γ sh = (literal l)
     translate (slot k) γ sh = read-slot sh k
     translate (is-null e) γ sh = is-null (translate e γ sh)
     -- G: read from the cast of the child's `imp` to the child's class.

@@ -21,6 +21,16 @@ pub data ExprType : Type 0 where
   known : DeclaredType → ExprType
   null-type : ExprType
 
+-- T, L, N.
+pub data Literal : Type 0 where
+  literal-true literal-false literal-null : Literal
+
+-- The type of a literal.
+abbrev pub literal-type : Literal → ExprType
+literal-type literal-true = known bool
+literal-type literal-false = known bool
+literal-type literal-null = null-type
+
 abbrev pub type-number : DeclaredType → ℕ
 type-number bool = bool-number
 type-number (class c) = c
@@ -32,7 +42,7 @@ mutual
   -- T, L, N; I slot; Z; G name; K class; W class; R slot class; A slot; U name, with object and value;
   -- Q name n, with receiver and n arguments; J, with condition and arms; B v k, with v locals and k nodes.
   pub data Expr : Type 0 where
-    literal-true literal-false literal-null : Expr
+    literal : Literal → Expr
     slot : ℕ → Expr
     is-null : Expr → Expr
     get : ℕ → Expr → Expr
@@ -56,9 +66,7 @@ count (cons e es) = suc (count es)
 -- How many lines an expression takes.
 unfoldable mutual
   pub size : Expr → ℕ
-  size literal-true = 1
-  size literal-false = 1
-  size literal-null = 1
+  size (literal l) = 1
   size (slot k) = 1
   size (is-null e) = 1 + size e
   size (get f e) = 1 + size e
@@ -131,12 +139,16 @@ unfoldable pub classes-lines : List Class → ℕ
 classes-lines [] = 0
 classes-lines (c ∷ cs) = class-lines c + classes-lines cs
 
+-- The record of a literal.
+abbrev pub literal-record : Literal → Record
+literal-record literal-true = written T-true 0 0
+literal-record literal-false = written L-false 0 0
+literal-record literal-null = written N-null 0 0
+
 -- The records of an expression: a node, then its children.
 unfoldable mutual
   pub flatten : Expr → List Record
-  flatten literal-true = written T-true 0 0 ∷ []
-  flatten literal-false = written L-false 0 0 ∷ []
-  flatten literal-null = written N-null 0 0 ∷ []
+  flatten (literal l) = literal-record l ∷ []
   flatten (slot k) = written I-slot k 0 ∷ []
   flatten (is-null e) = written Z-is-null 0 0 ∷ flatten e
   flatten (get f e) = written G-get f 0 ∷ flatten e

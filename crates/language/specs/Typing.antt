@@ -11,37 +11,18 @@ use Rattle.language.specs.Limits.{name-refusal, slot-refusal, member-ref
 use Rattle.language.specs.Limits.{effect-refusal, change-refusal}
 use Rattle.language.specs.Results.{Checked, accept, refuse, Pass, passed, bind-checked, need-checked}
 use Rattle.language.specs.Results.{require}
-use Rattle.language.specs.Frames.{Frame, frame, at-slot, with-slot, opened, closed, map-frame}
+use Rattle.language.specs.Frames.{frame, at-slot, with-slot, opened, closed, map-frame}
 use Rattle.language.specs.Tree.{DeclaredType, bool, class, ExprType, known, null-type, Expr}
-use Rattle.language.specs.Tree.{literal-true, literal-false, literal-null, slot, is-null, get, cast}
+use Rattle.language.specs.Tree.{literal-type, literal, slot, is-null, get, cast}
 use Rattle.language.specs.Tree.{new, change, assign, set, call, choose, block, Exprs, nil, cons, size}
 use Rattle.language.specs.Tree.{Declaration, heading-lines, method-lines, Class, class-lines}
 use Rattle.language.specs.Tree.{classes-lines, Program}
+use Rattle.language.specs.Environment.{Slot, Environment, fresh-slot, with-type, method-environment}
+use Rattle.language.specs.Environment.{start-environment}
 use Rattle.language.specs.World.{World, field-type, is-declared, is-declared-type}
 use Rattle.language.specs.Effects.{no-effect, effect-of, effect-of-all, join, within, apply-class}
 use Rattle.language.specs.Effects.{apply, apply-expr}
 use Rattle.language.specs.Program.{world}
-
--- A slot's declared type, and its type where typing stands.
-pub record Slot : Type 0 where
-  pub declared : DeclaredType
-  pub current : DeclaredType
-
-abbrev pub Environment : Type 0
-Environment = Frame Slot
-
-abbrev pub fresh-slot : DeclaredType → Slot
-fresh-slot t = record { declared = t; current = t }
-
-abbrev pub with-type : DeclaredType → Slot → Slot
-with-type t s = record { declared = s .declared; current = t }
-
--- The slots at the start of a method's body, and of the start block.
-abbrev pub method-environment : ℕ → List DeclaredType → Environment
-method-environment owner ts = frame (some (fresh-slot (class owner))) (map fresh-slot ts)
-
-abbrev pub start-environment : Environment
-start-environment = frame none []
 
 -- What typing gives of an expression: its type, the slots afterwards, its effect.
 pub record Typed : Type 0 where
@@ -147,9 +128,7 @@ module _ (W : World) where
   unfoldable mutual
     pub type-of : Expr → ℕ → Environment → Checked Typed
     -- T, L, N.
-    type-of literal-true at γ = typed (known bool) γ no-effect
-    type-of literal-false at γ = typed (known bool) γ no-effect
-    type-of literal-null at γ = typed null-type γ no-effect
+    type-of (literal l) at γ = typed (literal-type l) γ no-effect
     -- I: 7.
     type-of (slot k) at γ = need-checked (at-slot γ k) slot-refusal at λ s.
         typed (known (s .current)) γ no-effect

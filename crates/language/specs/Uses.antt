@@ -7,7 +7,7 @@ use mathlib.Core.List.{List, [], _∷_, _++_, map}
 use lib.ListN.{length}
 use Rattle.language.specs.Limits.{Most}
 use Rattle.language.specs.Lists.{nth}
-use Rattle.language.specs.Tree.{Expr, literal-true, literal-false, literal-null, slot, is-null, get}
+use Rattle.language.specs.Tree.{Expr, literal, slot, is-null, get}
 use Rattle.language.specs.Tree.{cast, new, change, assign, set, call, choose, block, Exprs, nil, cons}
 use Rattle.language.specs.Tree.{Declaration, Class, Program}
 use Rattle.language.specs.World.{World}
@@ -36,9 +36,7 @@ counted of n (a ∷ l) = of (suc n) ∷ counted of (suc n) l
 -- The lines of an expression whose node has nesting d, with n slots in scope; its children are one deeper.
 unfoldable mutual
   pub node-uses : ℕ → ℕ → Expr → List Use
-  node-uses d n literal-true = a-node d ∷ []
-  node-uses d n literal-false = a-node d ∷ []
-  node-uses d n literal-null = a-node d ∷ []
+  node-uses d n (literal l) = a-node d ∷ []
   node-uses d n (slot k) = a-node d ∷ []
   node-uses d n (is-null e) = a-node d ∷ node-uses (suc d) n e
   node-uses d n (get f e) = a-node d ∷ node-uses (suc d) n e

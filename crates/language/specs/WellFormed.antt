@@ -1,40 +1,39 @@
 -- Well-formed programs as relations: the form that rows can have, headings and bodies
--- (document 01, "Lines and rows" with its table of limits, and "Verdict"; 002, Figures 8, 20 and 21).
+-- (document 01, "Lines and rows" with its table of limits, and "Verdict"; 002, Figures 8, 19 and 20), over the relations
+-- of ClassRelations, TypeRelations and Rules.
 -- DEPARTS marks where document 01 leaves 002.
 use mathlib.Core.Path.{_≡_}
 use Prim.Native.Nat.{ℕ, suc, _+_, _≤_, _<_}
 use mathlib.Core.Option.{Option, none, some}
-use mathlib.Core.Bool.{true, false}
+use mathlib.Core.Bool.{true}
 use mathlib.Core.List.{List, [], _∷_, _++_}
 use lib.ListN.{length}
-use Rattle.language.specs.Limits.{Most, of-check, largest, object-class}
-use Rattle.language.specs.Tree.{DeclaredType, type-number, type-of-number, ExprType, Expr}
-use Rattle.language.specs.Tree.{literal-true, literal-false, literal-null, slot, is-null, get, cast}
+use mathlib.Core.Logic.{_≢_}
+use Rattle.language.specs.Limits.{Most, of-check, largest}
+use Rattle.language.specs.Lists.{map-option}
+pub use Rattle.language.specs.Lists.{Each, each-nil, each-cons}
+use Rattle.language.specs.Tree.{DeclaredType, type-number, type-of-number, ExprType, Expr, Literal}
+use Rattle.language.specs.Tree.{literal, slot, is-null, get, cast}
 use Rattle.language.specs.Tree.{new, change, assign, set, call, choose, block, Exprs, nil, cons, count}
 use Rattle.language.specs.Tree.{Kind, plain, root, state, kind-number, kind-of-number, Field}
 use Rattle.language.specs.Tree.{Declaration, Class, Program, flatten-program}
-use Rattle.language.specs.World.{Method, place, is-declared-type}
 use Rattle.language.specs.Effects.{effect-of-all, within}
-use Rattle.language.specs.Program.{declared, class-at, kind-at, is-state-type, world}
-use Rattle.language.specs.Typing.{Environment, method-environment, start-environment, fits}
-use Rattle.language.specs.Rules.{Declared, HasType}
+use Rattle.language.specs.Program.{class-at}
+use Rattle.language.specs.Environment.{Environment, method-environment, start-environment}
+use Rattle.language.specs.ClassRelations.{Undeclared, FieldsOf, FindsMethod, TypeDeclared, FieldType}
+use Rattle.language.specs.TypeRelations.{Widens}
+use Rattle.language.specs.Rules.{HasType}
 
 -- A type that a number can stand for.
 pub record TypeInForm (t : DeclaredType) : Type 0 where
   pub small : type-number t ≤ largest
   pub back : type-of-number (type-number t) ≡ t
 
-pub data Each {A : Type 0} (R : A → Type 0) : List A → Type 0 where
-  each-nil : Each R []
-  each-cons : {a : A} {l : List A} → R a → Each R l → Each R (a ∷ l)
-
 module _ (most : Most) where
   mutual
     -- A node with so much nesting left, counting itself, and so many slots in scope, slot 0 always included.
     pub data NodeInForm : ℕ → ℕ → Expr → Type 0 where
-      form-true : {d n : ℕ} → NodeInForm (suc d) n literal-true
-      form-false : {d n : ℕ} → NodeInForm (suc d) n literal-false
-      form-null : {d n : ℕ} → NodeInForm (suc d) n literal-null
+      form-literal : {d n : ℕ} {l : Literal} → NodeInForm (suc d) n (literal l)
       form-slot : {d n k : ℕ} → k ≤ largest → NodeInForm (suc d) n (slot k)
       form-is-null : {d n : ℕ} {e : Expr} → NodeInForm d n e → NodeInForm (suc d) n (is-null e)
       form-get : {d n f : ℕ} {e : Expr} → f ≤ most .name → NodeInForm d n e → NodeInForm (suc d) n (get f e)
@@ -91,7 +90,7 @@ module _ (most : Most) where
     pub start : BodyInForm 1 (p .start)
 
 -- Figure 20: plain extends plain, root extends plain, state extends root or state. DEPARTS: plain and root may extend
--- Object, for which the figure has no rule.
+-- Object, which has no kind, and for which the figure has no rule.
 pub data Extends : Kind → Option Kind → Type 0 where
   plain-object : Extends plain none
   plain-plain : Extends plain (some plain)
@@ -101,25 +100,13 @@ pub data Extends : Kind → Option Kind → Type 0 where
   state-state : Extends state (some state)
 
 module _ (P : List Class) where
-  -- Figure 20: a class and those above it. DEPARTS: a number that is no class is right below Object.
-  pub data Subclass : ℕ → ℕ → Type 0 where
-    itself : {k : ℕ} → Subclass k k
-    below-object : {k : ℕ} → class-at P k ≡ none → Subclass k object-class
-    above : {k d : ℕ} (c : Class) → class-at P k ≡ some c → Subclass (c .super) d → Subclass k d
-
-  -- Figure 21: the least upper bound of two classes.
-  pub record Nearest (c d m : ℕ) : Type 0 where
-    pub left : Subclass c m
-    pub right : Subclass d m
-    pub least : (e : ℕ) → Subclass c e → Subclass d e → Subclass m e
-
-  -- Figure 8: fields, after those inherited and declared before. DEPARTS: at most 17.
+  -- Figures 8 and 19: fields, after those inherited and declared before, each of a name that none of these has.
+  -- DEPARTS: at most 17.
   pub data FieldsWell : List Field → List Field → Type 0 where
     well-nil : {before : List Field} → FieldsWell before []
     well-cons : {before fs : List Field} {f : Field}
-        → length before < of-check .fields → is-declared-type (world P) (f .type) ≡ true
-        → place (f .name) before ≡ none
-        → is-state-type P (f .type) ≡ false → FieldsWell (before ++ (f ∷ [])) fs
+        → length before < of-check .fields → FieldType P (f .type) → Each (λ g. g .name ≢ f .name) before
+        → FieldsWell (before ++ (f ∷ [])) fs
         → FieldsWell before (f ∷ fs)
 
   -- An effect: distinct roots. DEPARTS: in ascending order, each after `last`.
@@ -128,26 +115,27 @@ module _ (P : List Class) where
     well-root : {last k : ℕ} {ks : List ℕ} (c : Class)
         → class-at P k ≡ some c → c .kind ≡ root → last < k → EffectWell k ks → EffectWell last (k ∷ ks)
 
-  -- Figure 8: a method of a name that no superclass has, or with the same heading and an effect within the
-  -- overridden one's.
-  pub data Overrides (m : Declaration) : Option Method → Type 0 where
-    first : Overrides m none
-    again : (M : Method) → m .result ≡ M .result → m .parameters ≡ M .parameters
-        → within (effect-of-all (m .effects)) (M .effect) ≡ true → Overrides m (some M)
+  -- Figure 8: the superclass finds no method of the name, or finds one of the same heading with an effect that the new
+  -- one's is within.
+  pub data Overrides (super : ℕ) (m : Declaration) : Type 0 where
+    first : ((o : ℕ) (d : Declaration) → FindsMethod P super (m .name) o d → ⊥) → Overrides super m
+    again : (o : ℕ) (d : Declaration) → FindsMethod P super (m .name) o d
+        → m .result ≡ d .result → m .parameters ≡ d .parameters
+        → within (effect-of-all (m .effects)) (effect-of-all (d .effects)) ≡ true → Overrides super m
 
-  -- Figure 8: a method of class k, whose body has type t, slots γ afterwards and effect φ. DEPARTS: the classes of its
-  -- result and parameters are declared.
+  -- Figures 8 and 19: a method of class k, of a name that none before it has, whose body has type t, slots γ afterwards
+  -- and effect φ. DEPARTS: the classes of its result and parameters are declared.
   pub record MethodWell (k super : ℕ) (before : List Declaration) (m : Declaration) : Type 0 where
-    pub result : is-declared-type (world P) (m .result) ≡ true
-    pub parameters : Declared (world P) (m .parameters)
-    pub name : declared before (m .name) ≡ none
-    pub overrides : Overrides m (world P .method super (m .name))
+    pub result : TypeDeclared P (m .result)
+    pub parameters : Each (TypeDeclared P) (m .parameters)
+    pub name : Undeclared (m .name) before
+    pub overrides : Overrides super m
     pub effects : EffectWell 0 (m .effects)
     pub t : ExprType
     pub γ : Environment
     pub φ : ℕ
-    pub body : HasType (world P) (method-environment k (m .parameters)) (m .body) t γ φ
-    pub body-type : fits (world P) t (m .result) ≡ true
+    pub body : HasType P (method-environment k (m .parameters)) (m .body) t γ φ
+    pub body-type : Widens P t (m .result)
     pub body-effect : within φ (effect-of-all (m .effects)) ≡ true
 
   pub data MethodsWell (k super : ℕ) : List Declaration → List Declaration → Type 0 where
@@ -159,8 +147,10 @@ module _ (P : List Class) where
   -- Figure 8: class k. DEPARTS: its superclass is earlier, where Figure 20 asks that no class is above itself.
   pub record ClassWell (k : ℕ) (c : Class) : Type 0 where
     pub earlier : c .super < k
-    pub kind : Extends (c .kind) (kind-at P (c .super))
-    pub fields : FieldsWell (world P .fields (c .super)) (c .fields)
+    pub kind : Extends (c .kind) (map-option (λ (b : Class). b .kind) (class-at P (c .super)))
+    pub inherited : List Field
+    pub inherits : FieldsOf P (c .super) inherited
+    pub fields : FieldsWell inherited (c .fields)
     pub methods : MethodsWell k (c .super) [] (c .methods)
 
   pub data ClassesWell : ℕ → List Class → Type 0 where
@@ -174,4 +164,4 @@ pub record ProgramWell (p : Program) : Type 0 where
   pub t : ExprType
   pub γ : Environment
   pub φ : ℕ
-  pub start : HasType (world (p .classes)) start-environment (p .start) t γ φ
+  pub start : HasType (p .classes) start-environment (p .start) t γ φ

@@ -12,9 +12,10 @@ use Rattle.language.specs.Limits.{numbers-an-object, program-fuel, store
 use Rattle.language.specs.Lists.{nth}
 use Rattle.language.specs.Results.{Checked, accept, refuse, bind-checked, need-checked, require}
 use Rattle.language.specs.Results.{earlier}
-use Rattle.language.specs.Rows.{Row, row, letter-among, numbers-after, record-of, rows-of, numbers-of}
+use Rattle.language.specs.Rows.{Row, row, letter-among, record-of, rows-of, numbers-of}
 use Rattle.language.specs.Decimals.{digit-of, scan, decimal-of, digits-in, digits}
 use Rattle.language.specs.TextLines.{field, number-of, closed, numbered, line-of, line-text}
+use Rattle.language.specs.Alphabet.{ours}
 use Rattle.language.specs.Texts.{read-lines, read-text, write-lines, write-rows}
 use Rattle.language.specs.Tree.{count, size, heading-lines, method-lines, methods-lines, class-lines}
 use Rattle.language.specs.Tree.{classes-lines, flatten, flatten-methods, flatten-classes}
@@ -33,7 +34,8 @@ use Rattle.language.specs.Headings.{same-types, lines-within, check-fiel
 use Rattle.language.specs.Headings.{check-effects, check-methods, check-class, check-classes}
 use Rattle.language.specs.Headings.{headings}
 use Rattle.language.specs.Verdict.{Verdict, accepted, refused, whole-rows, three-passes, check, verdict}
-use Rattle.language.specs.Evaluation.{truth, object, raised, spent, deep, full, eval, call-at, run}
+use Rattle.language.specs.State.{truth, object, raised, spent, deep, full}
+use Rattle.language.specs.Evaluation.{eval, call-at, run}
 use Rattle.language.specs.Translation.{position, plain-slot, read-slot, _⊕_, reads, copies}
 use Rattle.language.specs.Translation.{plain-change, translate, plain-classes, plain-program}
 use Rattle.language.specs.Translation.{within-limits, fields-free, names-free, translation}
@@ -78,19 +80,19 @@ abbrev pub lent : List ℕ
 lent = replicate store-room 0
 
 abbrev pub plain-rows : List ℕ → Checked (List ℕ)
-plain-rows text = bind-checked (read-text text) λ rows. translation rows
+plain-rows text = bind-checked (read-text ours text) λ rows. translation rows
 
 abbrev pub ask : List ℕ → Question → Reply
-ask text its-rows = made (read-text text)
-ask text its-text-again = made (bind-checked (read-text text) λ rows. write-rows rows)
+ask text its-rows = made (read-text ours text)
+ask text its-text-again = made (bind-checked (read-text ours text) λ rows. write-rows ours rows)
 ask text translating-prints = printed (translate-output text)
 ask text running-prints = printed (run-output text)
-ask text verdict-on-it = judged (verdict-on (read-text text))
+ask text verdict-on-it = judged (verdict-on (read-text ours text))
 ask text plain-verdict = judged (verdict-on (plain-rows text))
-ask text (run-with fuel) = answered (run-on (read-text text) fuel lent .answer)
+ask text (run-with fuel) = answered (run-on (read-text ours text) fuel lent .answer)
 ask text (plain-run-with fuel) = answered (run-on (plain-rows text) fuel lent .answer)
-ask text (line-with fuel) = printed (run-text (run-on (read-text text) fuel lent .answer))
-ask text (run-in fuel store) = left (run-on (read-text text) fuel store)
+ask text (line-with fuel) = printed (run-text (run-on (read-text ours text) fuel lent .answer))
+ask text (run-in fuel store) = left (run-on (read-text ours text) fuel store)
 ask text (plain-run-in fuel store) = left (run-on (plain-rows text) fuel store)
 
 pub record Example : Type 0 where
@@ -252,7 +254,7 @@ table = map comes-back readable ++ (starred ++ (plausible ++ (runs ++ texts)))
 -- Each example of the table has its reply.
 pub worked : map (λ (x : Example). ask (typed (x .program)) (x .question)) table
     ≡ map (λ (x : Example). x .reply) table
-unfolding table typed nth bind-checked need-checked require earlier letter-among numbers-after record-of
+unfolding table typed nth bind-checked need-checked require earlier letter-among record-of
     rows-of numbers-of digit-of scan decimal-of digits-in digits field number-of closed numbered line-of
     line-text read-lines write-lines count size heading-lines method-lines methods-lines class-lines
     classes-lines flatten flatten-methods flatten-classes flatten-program place field-type effect-of member

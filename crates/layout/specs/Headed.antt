@@ -13,23 +13,24 @@ use Rattle.language.specs.Lists.{nth, Never, inj}
 use Rattle.language.specs.Results.{accept, bind-checked-inv, require-inv}
 use Rattle.language.specs.Tree.{DeclaredType, Kind, unknown, Field, Declaration, Class, class-lines}
 use Rattle.language.specs.Tree.{method-lines}
-use Rattle.language.specs.World.{World, is-declared-type}
+use Rattle.language.specs.World.{is-declared-type}
 use Rattle.language.specs.Program.{is-plain, is-root, is-state, class-at, kind-at, world}
 use Rattle.language.specs.Headings.{check-methods, check-class, check-classes, headings}
-use Rattle.language.specs.Rules.{Declared, declared-nil, declared-cons}
+use Rattle.language.specs.ClassRelations.{TypeDeclared}
 use Rattle.language.specs.WellFormed.{Each, each-nil, each-cons, Extends, plain-object, plain-plain}
 use Rattle.language.specs.WellFormed.{root-object, root-plain, state-root, state-state, FieldsWell, well-nil}
 use Rattle.language.specs.WellFormed.{well-cons, EffectWell, well-none, well-root}
 use Rattle.language.proofs.Classes.{class-count}
 use Rattle.theory.specs.WellEqual.{extends, fields-well, parameters-well, effects-well}
 use Rattle.theory.specs.Superclasses.{fields-law}
+use Rattle.theory.specs.LookupsAgree.{declared-is, field-type-declared}
 use Rattle.theory.specs.MoreLookups.{own-few}
 use Rattle.theory.specs.Lookups.{each-at, each-append}
 use Rattle.layout.specs.Found.{FoundRow}
 
 pub record MethodHeaded (P : List Class) (m : Declaration) : Type 0 where
   pub result : is-declared-type (world P) (m .result) ≡ true
-  pub parameters : Declared (world P) (m .parameters)
+  pub parameters : Each (TypeDeclared P) (m .parameters)
   pub effects : EffectWell P 0 (m .effects)
 
 pub record ClassHeaded (P : List Class) (k : ℕ) (c : Class) : Type 0 where
@@ -40,14 +41,10 @@ pub record ClassHeaded (P : List Class) (k : ℕ) (c : Class) : Type 0 where
 
 -- ---- of parts
 
-pub declared-nth : {W : World} {ts : List DeclaredType} → Declared W ts → (i : ℕ) (t : DeclaredType)
-    → nth ts i ≡ some t
-    → is-declared-type W t ≡ true
-unfolding nth
-declared-nth declared-nil i t e = absurd (Never e)
-declared-nth {W} (declared-cons d ds) zero t e =
-    subst (λ (t : DeclaredType). is-declared-type W t ≡ true) (inj e) d
-declared-nth (declared-cons d ds) (suc i) t e = declared-nth ds i t e
+pub declared-nth : (P : List Class) {ts : List DeclaredType} → Each (TypeDeclared P) ts
+    → (i : ℕ) (t : DeclaredType)
+    → nth ts i ≡ some t → is-declared-type (world P) t ≡ true
+declared-nth P ds i t e = declared-is P t .1 (each-at ds i t e)
 
 -- A kind that may extend another is one of the three.
 kind-known : {k : Kind} {o : Option Kind} (n : ℕ) → Extends k o → k ≡ unknown n → ⊥
@@ -67,7 +64,8 @@ module _ (P : List Class) where
   own-declared : {before fs : List Field} → FieldsWell P before fs
       → Each (λ (f : Field). is-declared-type (world P) (f .type) ≡ true) fs
   own-declared well-nil = each-nil
-  own-declared (well-cons a b c d w) = each-cons b (own-declared w)
+  own-declared (well-cons {f} a b c w) =
+      each-cons (declared-is P (f .type) .1 (field-type-declared P b)) (own-declared w)
 
   methods-headed : (super at : ℕ) (before ms : List Declaration) (u : Unit {0})
       → check-methods of-check P super before at ms ≡ accept u → Each (MethodHeaded P) ms

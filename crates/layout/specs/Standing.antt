@@ -9,7 +9,7 @@ use Rattle.language.specs.Limits.{of-check}
 use Rattle.language.specs.Results.{accept}
 use Rattle.language.specs.Rows.{Letter, F-field, P-parameter, X-effect, S-start, V-local, Record}
 use Rattle.language.specs.Rows.{written, row-of, rows-of, numbers-of}
-use Rattle.language.specs.Tree.{type-number, Expr, literal-true, literal-false, literal-null}
+use Rattle.language.specs.Tree.{type-number, Expr, literal}
 use Rattle.language.specs.Tree.{slot}
 use Rattle.language.specs.Tree.{is-null, get, cast, new, change, assign, set, call, choose, block, Exprs, nil}
 use Rattle.language.specs.Tree.{cons}
@@ -61,9 +61,7 @@ module _ (R E : List ℕ) where
     unfolding LinesAt flatten ends-of size count Encoded
 
     pub encoded : (e : Expr) (r : ℕ) → Records (flatten e) r → Ends (ends-of r e) r → Encoded R E e r
-    encoded literal-true r h z = node-at 1 (h .0) (z .0)
-    encoded literal-false r h z = node-at 1 (h .0) (z .0)
-    encoded literal-null r h z = node-at 1 (h .0) (z .0)
+    encoded (literal l) r h z = node-at 1 (h .0) (z .0)
     encoded (slot k) r h z = node-at 1 (h .0) (z .0)
     encoded (is-null e) r h z = (node-at (1 + size e) (h .0) (z .0), encoded e (r + 1) (h .1) (z .1))
     encoded (get f e) r h z = (node-at (1 + size e) (h .0) (z .0), encoded e (r + 1) (h .1) (z .1))

@@ -12,26 +12,27 @@ use Rattle.language.specs.Lists.{nth, inj}
 use Rattle.language.specs.Results.{accept, bind-checked-inv, require-inv, accept-injective}
 use Rattle.language.specs.Verdict.{whole-rows, three-passes, check}
 use Rattle.language.specs.Tree.{DeclaredType, bool, class, type-number, type-of-number, ExprType, Expr}
-use Rattle.language.specs.Tree.{literal-true, literal-false, literal-null, slot, is-null}
+use Rattle.language.specs.Tree.{literal, slot, is-null}
 use Rattle.language.specs.Tree.{get, cast, new, change, assign, set, call, choose, block, Exprs, nil, cons}
 use Rattle.language.specs.Tree.{count, Field, Class, Program}
 use Rattle.language.specs.World.{Method, is-declared}
 use Rattle.language.specs.Program.{world, class-at, method-of}
-use Rattle.language.specs.Typing.{Environment}
-use Rattle.language.specs.Rules.{Declared, declared-nil, declared-cons, HasType, HaveTypes, type-new}
-use Rattle.language.specs.Rules.{type-cast, type-get, type-set, type-assign, type-is-null, type-call}
-use Rattle.language.specs.Rules.{type-choose, type-block, type-change, types-nil, types-cons}
+use Rattle.language.specs.Environment.{Environment}
+use Rattle.theory.specs.ComputedRules.{Declared, declared-nil, declared-cons, HasType, HaveTypes, type-new}
+use Rattle.theory.specs.ComputedRules.{type-cast, type-get, type-set, type-assign, type-is-null, type-call}
+use Rattle.theory.specs.ComputedRules.{type-choose, type-block, type-change, types-nil, types-cons}
 use Rattle.language.specs.WellFormed.{NodeInForm, NodesInForm, form-is-null, form-get, form-cast, form-assign}
 use Rattle.language.specs.WellFormed.{form-set, form-call, form-choose, form-block, form-cons, BodyInForm}
 use Rattle.language.specs.WellFormed.{form-body, TypeInForm, ProgramWell}
 use Rattle.language.specs.ClassTables.{ClassTables, method-row}
 use Rattle.language.specs.Layout.{ProgramAt, body-row, start-row}
-use Rattle.language.specs.Evaluation.{initial}
+use Rattle.language.specs.State.{initial}
 use Rattle.language.specs.Store.{value-number}
 use Rattle.classes.proofs.Below.{below-is}
 use Rattle.theory.specs.Equal.{all-fit-length}
 use Rattle.theory.specs.WellEqual.{program-well}
-use Rattle.theory.specs.Lookups.{class-well, well-formed-laws}
+use Rattle.theory.specs.RulesAgree.{computed}
+use Rattle.theory.specs.Lookups.{hierarchy, well-formed-laws}
 use Rattle.theory.specs.MoreLookups.{well-formed-more}
 use Rattle.layout.specs.Found.{found-none, row-some, MethodHere, method-here, field-here, body-here}
 use Rattle.objects.specs.Holding.{NamedAll, Within, WithinAll, BodyAt, Linked, absent, present, FirstValueAt}
@@ -67,9 +68,7 @@ module _ (P : List Class)
 
     pub within-form : (e : Expr) {d n : ℕ} (j : ℕ) {γ γ′ : Environment} {t : ExprType} {φ : ℕ} → j + 1 ≤ n + 8
         → NodeInForm of-check d n e → HasType (world P) γ e t γ′ φ → Within (length P) j d e
-    within-form literal-true j h f t = tt
-    within-form literal-false j h f t = tt
-    within-form literal-null j h f t = tt
+    within-form (literal l) j h f t = tt
     within-form (slot k) j h f t = tt
     within-form (is-null e) j h (form-is-null {d} f) (type-is-null t b) =
         (omega arith, rw (less d) (within-form e j h f t))
@@ -149,7 +148,7 @@ module _ {R E T A : List ℕ} {p : Program} (a : Accepted R E T A p) where
       subst (λ (N : Method). length (N .parameters) ≤ 8) (inj (sym (h .row .found) ∙ e)) (h .in-form .few)
 
   lower : (k : ℕ) (c : Class) → class-at P k ≡ some c → c .super < k
-  lower k c e = class-well P (well .classes) k c e .earlier
+  lower k c e = hierarchy P (well .classes) .earlier k c e
 
   field-at : (k i : ℕ) (f : Field) → k ≤ length P → nth (world P .fields k) i ≡ some f
       → FirstValueAt R T k i f
@@ -226,7 +225,8 @@ module _ {R E T A : List ℕ} {p : Program} (a : Accepted R E T A p) where
   runs room = record {
     holds = holds;
     encoded = a .standing .start;
-    within = within-body P short (p .start) 0 (omega arith) (a .standing .in-form .start) (well .start);
+    within = within-body P short (p .start) 0 (omega arith) (a .standing .in-form .start)
+        (computed P (hierarchy P (well .classes)) (p .start) (well .start));
     room = room;
   }
 

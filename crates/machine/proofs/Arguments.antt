@@ -26,7 +26,8 @@ use Rattle.machine.proofs.Steps.{kept-then, room-same, gives, kept-of}
 use Rattle.language.specs.Results.{ok, bind}
 use Rattle.language.specs.Tree.{Expr, Exprs, nil, cons, count, Class}
 use Rattle.language.specs.Encoded.{EncodedAll}
-use Rattle.language.specs.Evaluation.{Value as Meaning, State, Out, eval-all}
+use Rattle.language.specs.State.{Value as Meaning, State, Out}
+use Rattle.language.specs.Evaluation.{eval-all}
 use Rattle.language.specs.Store.{capacity}
 
 -- the place of the next argument

@@ -27,7 +27,8 @@ use Rattle.language.specs.Results.{ok, stop, bind}
 use Rattle.language.specs.Tree.{Exprs, count, Class, DeclaredType, bool, class, type-number, block}
 use Rattle.language.specs.Encoded.{TypesAt, Encoded, EncodedAll}
 use Rattle.language.specs.Rows.{V-local}
-use Rattle.language.specs.Evaluation.{Value as Meaning, null, Out, last-value, initial, with-frame}
+use Rattle.language.specs.State.{Value as Meaning, null, Out, initial, with-frame}
+use Rattle.language.specs.Evaluation.{last-value}
 use Rattle.language.specs.Store.{capacity}
 use Rattle.language.proofs.Nodes.{head}
 use Rattle.language.proofs.Lines.{line-at}

@@ -30,8 +30,10 @@ use Rattle.language.specs.Lists.{nth}
 use Rattle.language.specs.Frames.{Frame, frame}
 use mathlib.Core.Option.{Option, some}
 use Rattle.language.specs.Encoded.{Encoded, EncodedAll}
-use Rattle.language.specs.Evaluation.{Value as Meaning, null, object, State, Out, Limits, eval, with-limits}
-use Rattle.language.specs.Evaluation.{eval-all, do-call, call-at, with-frame, Object as Thing}
+use Rattle.language.specs.State.{Value as Meaning, null, object, State, Out}
+use Rattle.language.specs.Evaluation.{Limits, eval, with-limits}
+use Rattle.language.specs.State.{with-frame, Object as Thing}
+use Rattle.language.specs.Evaluation.{eval-all, do-call, call-at}
 use Rattle.language.specs.Store.{capacity}
 use Rattle.language.proofs.Nodes.{head}
 

@@ -11,7 +11,8 @@ use Rattle.language.specs.Results.{ok, stop, accept}
 use Rattle.language.specs.Verdict.{check}
 use Rattle.language.specs.Tree.{Program}
 use Rattle.language.specs.Layout.{start-row}
-use Rattle.language.specs.Evaluation.{Value as Meaning, State, Out, stuck, with-limits, run}
+use Rattle.language.specs.State.{Value as Meaning, State, Out, stuck}
+use Rattle.language.specs.Evaluation.{with-limits, run}
 use Rattle.language.specs.Store.{gave, ended, ran, Ran as Finished, finish, capacity, run-of}
 use Rattle.theory.specs.Accepts.{check-accepts}
 use Rattle.theory.specs.Members.{well-formed-never-stuck, accepted-run}

@@ -6,14 +6,14 @@ use mathlib.Core.List.{List}
 use Prim.Native.Nat.{ℕ, zero, suc, _+_, _≤_, _<_}
 use native.Mathlib.Omega.{arith}
 use lib.ListN.{length, getD, set, length-set}
-use lib.Seq.{getD-set-same, getD-set-other, set-out}
-use Rattle.language.specs.Frames.{frame, at-slot, with-slot}
-use Rattle.language.specs.Evaluation.{Value as Meaning}
+use lib.Seq.{getD-set-same, getD-set-other}
+use Rattle.language.specs.Frames.{at-slot, with-slot}
+use Rattle.language.specs.State.{Value as Meaning}
 use Rattle.language.specs.Store.{value-of-number}
 use Rattle.machine.specs.declared.Place.{Place}
 use Rattle.objects.specs.Values.{value, decoded, outcome, bare}
 use Rattle.machine.specs.Machine.{slots-of, frame-of, this-of}
-use Rattle.machine.specs.Contracts.{PostRead, Wrote}
+use Rattle.machine.specs.Contracts.{PostRead, PostWrite}
 use Rattle.objects.proofs.Values.{value-decoded, small-decoded, outcome-value, outcome-stuck}
 use Rattle.objects.proofs.Nth.{nth-none}
 use Rattle.objects.proofs.Objects.{values-at, values-ext, values-set, values-length}
@@ -80,30 +80,35 @@ module _ {l : List ℕ} {k : ℕ} {q : Place} where
   read-this z n e m = read-some n (rw z e) m
 
 module _ {l : List ℕ} {k : ℕ} (x : ℕ) {q : Place} (room : q .base + q .scope < length l) where
-  pub write-past : q .scope < k → Wrote l l k (decoded x) q
-  unfolding frame-of
-  write-past h = record { long = refl; same = λ i o. refl; is = go k h }
-    where
-      go : (k : ℕ) → q .scope < k → frame-of l q ≡ with-slot (frame-of l q) k (value (decoded x))
-      go zero h = absurd (omega arith)
-      go (suc k) h = ap (λ (y : List Meaning). frame (this-of (q .calls) (getD l (q .base) 0)) y)
-          (sym (set-out (slots-of l (q .base + 1) (q .scope)) k (value (decoded x))
-          (omega (arith, slots-length l (q .base + 1) (q .scope) (omega arith)))))
+  -- a slot that is not there
+  pub write-none : at-slot (frame-of l q) k ≡ none → PostWrite l l k (decoded x) q (outcome 4294967296)
+  unfolding bare
+  write-none e = rw outcome-stuck (record { long = refl; same = λ i o. refl; small = tt; is = λ t. rw e })
 
-  pub write-none : k ≡ 0 → q .calls ≡ 0 → Wrote l l k (decoded x) q
-  unfolding frame-of
-  write-none z c = record { long = refl; same = λ i o. refl; is = rw z (go (q .calls) c) }
-    where
-      go : (n : ℕ) → n ≡ 0 → frame-of l q ≡ with-slot (frame-of l q) 0 (value (decoded x))
-      go n e = rw c
+  pub write-zero : k ≡ 0 → at-slot (frame-of l q) 0 ≡ none
+      → PostWrite l l k (decoded x) q (outcome 4294967296)
+  write-zero z e = write-none (rw z e)
 
-  pub write-this : k ≡ 0 → (q .calls ≡ 0 → ⊥) → Wrote l (set l (q .base) x) k (decoded x) q
+  -- one that is
+  wrote : {l′ : List ℕ} (old : Meaning) → at-slot (frame-of l q) k ≡ some old → x < 4294967296
+      → length l′ ≡ length l
+      → ((i : ℕ) → (i < q .base) ⊎ (q .base + q .scope < i) → getD l′ i 0 ≡ getD l i 0)
+      → frame-of l′ q ≡ with-slot (frame-of l q) k (value (decoded x))
+      → PostWrite l l′ k (decoded x) q (outcome x)
+  unfolding bare
+  wrote old e m long same is = rw (outcome-value x m) (record {
+    long = long;
+    same = same;
+    small = small-decoded x m;
+    is = λ t. rw (e, is);
+  })
+
+  pub write-this : k ≡ 0 → (q .calls ≡ 0 → ⊥) → x < 4294967296
+      → PostWrite l (set l (q .base) x) k (decoded x) q (outcome x)
   unfolding frame-of
-  write-this z c = record {
-    long = length-set l (q .base) x;
-    same = λ i o. getD-set-other l (q .base) i x 0 (λ p. far i o p);
-    is = rw z go;
-  }
+  write-this z c m =
+      wrote (value-of-number (getD l (q .base) 0)) (rw z (slot-this l q c)) m (length-set l (q .base) x)
+      (λ i o. getD-set-other l (q .base) i x 0 (λ p. far i o p)) (rw z go)
     where
       far : (i : ℕ) → (i < q .base) ⊎ (q .base + q .scope < i) → i ≡ q .base → ⊥
       far i (inl a) p = omega arith
@@ -119,13 +124,13 @@ module _ {l : List ℕ} {k : ℕ} (x : ℕ) {q : Place} (room : q .base + q .sco
           (λ i h. getD-set-other l (q .base) (q .base + 1 + i) x 0 (λ p. omega arith)) in
           rw (a, b, d, f)
 
-  pub write-at : (k ≡ 0 → ⊥) → k ≤ q .scope → Wrote l (set l (q .base + k) x) k (decoded x) q
+  pub write-at : (k ≡ 0 → ⊥) → k ≤ q .scope → x < 4294967296
+      → PostWrite l (set l (q .base + k) x) k (decoded x) q (outcome x)
   unfolding frame-of slots-of
-  write-at z h = record {
-    long = length-set l (q .base + k) x;
-    same = λ i o. getD-set-other l (q .base + k) i x 0 (λ p. far i o p);
-    is = go k z h;
-  }
+  write-at z h m =
+      wrote (value-of-number (getD l (q .base + k) 0)) (slot-at l q k z h room) m
+      (length-set l (q .base + k) x)
+      (λ i o. getD-set-other l (q .base + k) i x 0 (λ p. far i o p)) (go k z h)
     where
       far : (i : ℕ) → (i < q .base) ⊎ (q .base + q .scope < i) → i ≡ q .base + k → ⊥
       far i (inl a) p = omega arith

@@ -1,10 +1,10 @@
 -- What the nodes without children come to, and a node with one child once that has a value. Assumes nothing.
 use mathlib.Core.Path.{_≡_, refl, _∙_}
-use mathlib.Core.Bool.{Bool, true, false}
+use mathlib.Core.Bool.{true, false}
 use mathlib.Core.Logic.{_⊎_, inl, inr}
 use mathlib.Core.Option.{Option, none, some}
 use mathlib.Core.List.{List}
-use Prim.Native.Nat.{ℕ, zero, suc, _+_, _-_, _*_, _≤_, _<_}
+use Prim.Native.Nat.{ℕ, _+_, _-_, _*_, _≤_, _<_}
 use native.Mathlib.Omega.{arith}
 use borrow.Author.Tests.{ne-eqb}
 use lib.ListN.{length, getD}
@@ -13,11 +13,12 @@ use Rattle.language.specs.Frames.{at-slot}
 use Rattle.language.specs.Tree.{new, Class}
 use Rattle.language.specs.Program.{world}
 use Rattle.language.specs.Encoded.{Encoded}
-use Rattle.language.specs.Evaluation.{Value as Meaning, State, Out, need, is-null-value, do-change}
+use Rattle.language.specs.State.{Value as Meaning, truth, State, Out}
+use Rattle.language.specs.Evaluation.{need, need-reference, do-change}
 use Rattle.language.proofs.Nodes.{head}
 use Rattle.objects.specs.declared.Value.{Value}
-use Rattle.objects.specs.declared.Value.the-variants.{Null, Truth}
-use Rattle.objects.specs.Values.{Outcome, Gave, Raised, Stopped, Stuck, Counts, decoded, outcome, Answer}
+use Rattle.objects.specs.declared.Value.the-variants.{Null, Truth, Object}
+use Rattle.objects.specs.Values.{Outcome, Gave, Raised, Stopped, Stuck, Counts, outcome, Answer}
 use Rattle.objects.specs.Values.{value, Small, SmallOutcome, bare, told, answer}
 use Rattle.machine.specs.declared.Place.{Place}
 use Rattle.machine.specs.Machine.{state, frame-of, inside, after}
@@ -25,8 +26,7 @@ use Rattle.objects.specs.Holding.{Within}
 use Rattle.objects.specs.Contracts.{Acts, PostNew, PreNew, PreChange, PostChange, PostLoad, PostCast}
 use Rattle.objects.specs.Contracts.{PreObject, PreCast}
 use Rattle.machine.specs.Contracts.{Ready, Done, PreLeaf, PostLeaf, PostRead, no-child, PreApply}
-use Rattle.machine.specs.Contracts.{PostApply, Wrote}
-use Rattle.objects.proofs.Values.{outcome-value}
+use Rattle.machine.specs.Contracts.{PostApply, PostWrite, null-tested}
 use Rattle.objects.proofs.Acts.{stored-same}
 use Rattle.machine.proofs.Letters.{as-literal-true, as-literal-false, as-literal-null}
 use Rattle.machine.proofs.Letters.{as-slot}
@@ -275,18 +275,30 @@ module _ {R T A s l : List ℕ} {at : ℕ} {q : Place} {n : Counts} {v : Value} 
       let x = head (p .node .e) (p .node .encoded) .letter in
       x ∙ rest-assign (p .node .e) (rw x at (p .letter)) (λ z. a (x ∙ z)) (λ z. b (x ∙ z)) (λ z. c (x ∙ z))
 
-  apply-test : (b : Bool) → getD R (at * 4) 0 ≡ 90 → b ≡ is-null-value (value v)
-      → PostApply R T A s l l at q n v (Gave (Truth b))
-  unfolding bare after
-  apply-test b h g = record {
+  pub apply-test : {r : Outcome} → getD R (at * 4) 0 ≡ 90 → r ≡ null-tested v
+      → PostApply R T A s l l at q n v r
+  unfolding after bare
+  apply-test h g = record {
     applied = λ E P e d f enc w.
         let c = as-is-null (head e enc) h in
-        record { long = refl; same = λ i o. refl; small = small b; is = λ k. rw (c .1, g) };
+        record {
+          long = refl;
+          same = λ i o. refl;
+          small = rw g (small v);
+          is = λ k. rw (c .1, g) (test v (state P s l q n k));
+        };
   }
     where
-      small : (b : Bool) → SmallOutcome (Gave (Truth b))
-      small true = omega arith
-      small false = omega arith
+      small : (v : Value) → SmallOutcome (null-tested v)
+      small Null = omega arith
+      small (Truth b) = tt
+      small (Object j) = omega arith
+
+      test : (v : Value) (t : State)
+          → told (null-tested v) t ≡ bare (need-reference (value v) t λ b. ok (truth b) t)
+      test Null t = refl
+      test (Truth b) t = refl
+      test (Object j) t = refl
 
   pub apply-get : (r : Outcome) → getD R (at * 4) 0 ≡ 71 → PostLoad T s v (getD R (at * 4 + 1) 0) n r
       → PostApply R T A s l l at q n v r
@@ -321,18 +333,18 @@ module _ {R T A s l : List ℕ} {at : ℕ} {q : Place} {n : Counts} {v : Value} 
         };
   }
 
-  pub apply-assign : {l′ : List ℕ} → getD R (at * 4) 0 ≡ 65 → Wrote l l′ (getD R (at * 4 + 1) 0) v q → Small v
-      → PostApply R T A s l l′ at q n v (Gave v)
-  unfolding after Encoded bare
-  apply-assign h p m = record {
+  pub apply-assign : {l′ : List ℕ} {r : Outcome} → getD R (at * 4) 0 ≡ 65
+      → PostWrite l l′ (getD R (at * 4 + 1) 0) v q r → PostApply R T A s l l′ at q n v r
+  unfolding after Encoded
+  apply-assign h p = record {
     applied = λ E P e d f enc w.
         let c = as-assign (head e enc) h in
         let enc′ = rw (c .2) at enc in
         record {
           long = p .long;
           same = λ i o. p .same i (far E P d f i o);
-          small = m;
-          is = λ k. rw (c .2, ← enc′ .0 .row .first, p .is);
+          small = p .small;
+          is = λ k. rw (c .2, ← enc′ .0 .row .first) (p .is (state P s l q n k));
         };
   }
     where
@@ -340,29 +352,6 @@ module _ {R T A s l : List ℕ} {at : ℕ} {q : Place} {n : Counts} {v : Value} 
           → (i < q .base) ⊎ (q .base + 264 ≤ i) → (i < q .base) ⊎ (q .base + q .scope < i)
       far E P d f i (inl o) = inl o
       far E P d f i (inr o) = inr (omega (arith, f .scoped))
-
--- the test of the child's number
-pub apply-null : {R T A s l : List ℕ} {at : ℕ} {q : Place} {n : Counts} (x : ℕ) → getD R (at * 4) 0 ≡ 90
-    → x ≡ 0 → PostApply R T A s l l at q n (decoded x) (outcome 2)
-unfolding outcome
-apply-null x h e = apply-test true h (rw e)
-
-pub apply-some : {R T A s l : List ℕ} {at : ℕ} {q : Place} {n : Counts} (x : ℕ) → getD R (at * 4) 0 ≡ 90
-    → (x ≡ 0 → ⊥) → PostApply R T A s l l at q n (decoded x) (outcome 1)
-unfolding outcome
-apply-some x h f = apply-test false h (go x f)
-  where
-    go : (x : ℕ) → (x ≡ 0 → ⊥) → false ≡ is-null-value (value (decoded x))
-    go zero f = absurd (f refl)
-    go (suc zero) f = refl
-    go (suc (suc zero)) f = refl
-    go (suc (suc (suc j))) f = refl
-
--- the number of the value that was assigned
-pub apply-number : {R T A s l l′ : List ℕ} {at : ℕ} {q : Place} {n : Counts} (x : ℕ) → x < 4294967296
-    → PostApply R T A s l l′ at q n (decoded x) (Gave (decoded x))
-    → PostApply R T A s l l′ at q n (decoded x) (outcome x)
-apply-number x h p = rw (outcome-value x h) p
 
 pub no-leaf : (k : ℕ) → (k ≡ 84 → ⊥) → (k ≡ 76 → ⊥) → (k ≡ 78 → ⊥) → (k ≡ 73 → ⊥) → (k ≡ 87 → ⊥)
     → (k ≡ 82 → ⊥) → no-child k ≡ false

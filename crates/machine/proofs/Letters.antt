@@ -5,19 +5,20 @@ use Prim.Native.Nat.{ℕ, _*_}
 use lib.ListN.{getD}
 use Rattle.language.specs.Rows.{T-true, L-false, N-null, I-slot, Z-is-null, G-get, K-cast, W-new, R-change}
 use Rattle.language.specs.Rows.{A-assign, U-set, Q-call, J-choose, B-block}
-use Rattle.language.specs.Tree.{DeclaredType, Expr, literal-true, literal-false, literal-null, slot, is-null}
+use Rattle.language.specs.Tree.{DeclaredType, Expr, literal, literal-true, literal-false, literal-null, slot}
+use Rattle.language.specs.Tree.{is-null}
 use Rattle.language.specs.Tree.{get, cast, new, change, assign, set, call, choose, block, Exprs}
 use Rattle.language.proofs.Nodes.{Head, by-row}
 
 module _ {R E : List ℕ} {x : Expr} {r : ℕ} (p : Head R E x r) where
-  pub as-literal-true : getD R (r * 4) 0 ≡ 84 → x ≡ literal-true
-  as-literal-true h = by-row (λ x. x ≡ literal-true) T-true p h refl
+  pub as-literal-true : getD R (r * 4) 0 ≡ 84 → x ≡ (literal literal-true)
+  as-literal-true h = by-row (λ x. x ≡ (literal literal-true)) T-true p h refl
 
-  pub as-literal-false : getD R (r * 4) 0 ≡ 76 → x ≡ literal-false
-  as-literal-false h = by-row (λ x. x ≡ literal-false) L-false p h refl
+  pub as-literal-false : getD R (r * 4) 0 ≡ 76 → x ≡ (literal literal-false)
+  as-literal-false h = by-row (λ x. x ≡ (literal literal-false)) L-false p h refl
 
-  pub as-literal-null : getD R (r * 4) 0 ≡ 78 → x ≡ literal-null
-  as-literal-null h = by-row (λ x. x ≡ literal-null) N-null p h refl
+  pub as-literal-null : getD R (r * 4) 0 ≡ 78 → x ≡ (literal literal-null)
+  as-literal-null h = by-row (λ x. x ≡ (literal literal-null)) N-null p h refl
 
   pub as-slot : getD R (r * 4) 0 ≡ 73 → (i : ℕ) × (x ≡ slot i)
   as-slot h = by-row (λ x. (i : ℕ) × (x ≡ slot i)) I-slot p h λ i. (i, refl)

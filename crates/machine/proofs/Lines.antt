@@ -6,7 +6,7 @@ use Prim.Native.Nat.{ℕ, suc, _+_, _-_, _*_, _≤_, _<_}
 use native.Mathlib.Omega.{arith}
 use lib.ListN.{length, getD}
 use Rattle.language.specs.Rows.{Letter, code}
-use Rattle.language.specs.Tree.{Expr, literal-true, literal-false, literal-null, slot}
+use Rattle.language.specs.Tree.{Expr, literal, literal-true, literal-false, literal-null, slot}
 use Rattle.language.specs.Tree.{is-null, get, cast, new, change, assign, set, call, choose, block, Exprs, nil}
 use Rattle.language.specs.Tree.{cons, size, sizes, Declaration, method-lines, methods-lines, heading-lines}
 use Rattle.language.specs.Tree.{Class, class-lines, classes-lines}
@@ -53,9 +53,9 @@ module _ (R E : List ℕ) where
     unfolding Encoded size
 
     no-start : (e : Expr) (r : ℕ) → Encoded R E e r → No r (size e)
-    no-start literal-true r h = without-row (λ e. omega arith) (h .row)
-    no-start literal-false r h = without-row (λ e. omega arith) (h .row)
-    no-start literal-null r h = without-row (λ e. omega arith) (h .row)
+    no-start (literal literal-true) r h = without-row (λ e. omega arith) (h .row)
+    no-start (literal literal-false) r h = without-row (λ e. omega arith) (h .row)
+    no-start (literal literal-null) r h = without-row (λ e. omega arith) (h .row)
     no-start (slot k) r h = without-row (λ e. omega arith) (h .row)
     no-start (new c) r h = without-row (λ e. omega arith) (h .row)
     no-start (change k d) r h = without-row (λ e. omega arith) (h .row)

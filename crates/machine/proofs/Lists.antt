@@ -7,7 +7,8 @@ use lib.ListN.{length, getD}
 use Rattle.language.specs.Results.{ok, stop, bind}
 use Rattle.language.specs.Tree.{Expr, Exprs, nil, cons, count, Class, size}
 use Rattle.language.specs.Encoded.{Encoded, EncodedAll}
-use Rattle.language.specs.Evaluation.{Value as Meaning, State, Out, eval-all, last-value}
+use Rattle.language.specs.State.{Value as Meaning, State, Out}
+use Rattle.language.specs.Evaluation.{eval-all, last-value}
 use Rattle.language.specs.Store.{capacity}
 use Rattle.language.proofs.Nodes.{head}
 use Rattle.objects.specs.declared.Value.{Value}

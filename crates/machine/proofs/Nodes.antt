@@ -5,12 +5,13 @@ use mathlib.Core.Bool.{true, false, false≢true}
 use mathlib.Core.List.{List}
 use Prim.Native.Nat.{ℕ, _+_, _-_, _<_}
 use Rattle.language.specs.Results.{bind}
-use Rattle.language.specs.Tree.{Expr, literal-true, literal-false, literal-null, slot, is-null}
+use Rattle.language.specs.Tree.{Expr, literal, literal-true, literal-false, literal-null, slot, is-null}
 use Rattle.language.specs.Tree.{get, cast, new, change, assign, set, call, choose, block}
 use Rattle.language.specs.Rows.{code}
 use Rattle.language.specs.World.{World, Method}
 use Rattle.language.specs.Encoded.{Encoded}
-use Rattle.language.specs.Evaluation.{Value as Meaning, State, Out, Limits, enter, eval}
+use Rattle.language.specs.State.{Value as Meaning, State, Out}
+use Rattle.language.specs.Evaluation.{Limits, enter, eval}
 use Rattle.language.proofs.Nodes.{letter-of}
 use Rattle.objects.specs.Holding.{Within}
 use Rattle.machine.specs.Machine.{inside, after}
@@ -24,9 +25,9 @@ pub data OneChild : Expr → Type 0 where
   one-assign : {k : ℕ} {e : Expr} → OneChild (assign k e)
 
 pub one-of : (e : Expr) → one-child (code (letter-of e)) ≡ true → OneChild e
-one-of literal-true h = absurd (false≢true h)
-one-of literal-false h = absurd (false≢true h)
-one-of literal-null h = absurd (false≢true h)
+one-of (literal literal-true) h = absurd (false≢true h)
+one-of (literal literal-false) h = absurd (false≢true h)
+one-of (literal literal-null) h = absurd (false≢true h)
 one-of (slot i) h = absurd (false≢true h)
 one-of (is-null e) h = one-null
 one-of (get f e) h = one-get
@@ -40,9 +41,7 @@ one-of (choose a b c) h = absurd (false≢true h)
 one-of (block ts es) h = absurd (false≢true h)
 
 abbrev pub child : Expr → Expr
-child literal-true = literal-true
-child literal-false = literal-false
-child literal-null = literal-null
+child (literal l) = (literal l)
 child (slot i) = (slot i)
 child (is-null e) = e
 child (get f e) = e
@@ -82,9 +81,7 @@ module _ (W : World) (L : Limits) (K : Method → State → Out Meaning) where
   -- a node is entered, then what it is
   pub eval-inside : (e : Expr) (s : State) → eval W L K e s ≡ enter W L s (λ t. inside W L K e t)
   unfolding eval inside after
-  eval-inside literal-true s = refl
-  eval-inside literal-false s = refl
-  eval-inside literal-null s = refl
+  eval-inside (literal l) s = refl
   eval-inside (slot i) s = refl
   eval-inside (is-null e) s = refl
   eval-inside (get f e) s = refl
@@ -101,9 +98,9 @@ module _ (W : World) (L : Limits) (K : Method → State → Out Meaning) where
 pub rest-one-child : (e : Expr) → no-child (code (letter-of e)) ≡ false → code (letter-of e) ≢ 66
     → code (letter-of e) ≢ 74 → code (letter-of e) ≢ 81 → code (letter-of e) ≢ 85
     → one-child (code (letter-of e)) ≡ true
-rest-one-child literal-true h h₁ h₂ h₃ h₄ = absurd (false≢true (sym h))
-rest-one-child literal-false h h₁ h₂ h₃ h₄ = absurd (false≢true (sym h))
-rest-one-child literal-null h h₁ h₂ h₃ h₄ = absurd (false≢true (sym h))
+rest-one-child (literal literal-true) h h₁ h₂ h₃ h₄ = absurd (false≢true (sym h))
+rest-one-child (literal literal-false) h h₁ h₂ h₃ h₄ = absurd (false≢true (sym h))
+rest-one-child (literal literal-null) h h₁ h₂ h₃ h₄ = absurd (false≢true (sym h))
 rest-one-child (slot i) h h₁ h₂ h₃ h₄ = absurd (false≢true (sym h))
 rest-one-child (is-null e) h h₁ h₂ h₃ h₄ = refl
 rest-one-child (get f e) h h₁ h₂ h₃ h₄ = refl
@@ -120,9 +117,9 @@ rest-one-child (block ts es) h h₁ h₂ h₃ h₄ = absurd (h₁ refl)
 pub rest-change : (e : Expr) → no-child (code (letter-of e)) ≡ true → code (letter-of e) ≢ 84
     → code (letter-of e) ≢ 76 → code (letter-of e) ≢ 78 → code (letter-of e) ≢ 73 → code (letter-of e) ≢ 87
     → code (letter-of e) ≡ 82
-rest-change literal-true h h₁ h₂ h₃ h₄ h₅ = absurd (h₁ refl)
-rest-change literal-false h h₁ h₂ h₃ h₄ h₅ = absurd (h₂ refl)
-rest-change literal-null h h₁ h₂ h₃ h₄ h₅ = absurd (h₃ refl)
+rest-change (literal literal-true) h h₁ h₂ h₃ h₄ h₅ = absurd (h₁ refl)
+rest-change (literal literal-false) h h₁ h₂ h₃ h₄ h₅ = absurd (h₂ refl)
+rest-change (literal literal-null) h h₁ h₂ h₃ h₄ h₅ = absurd (h₃ refl)
 rest-change (slot i) h h₁ h₂ h₃ h₄ h₅ = absurd (h₄ refl)
 rest-change (is-null e) h h₁ h₂ h₃ h₄ h₅ = absurd (false≢true h)
 rest-change (get f e) h h₁ h₂ h₃ h₄ h₅ = absurd (false≢true h)
@@ -137,9 +134,9 @@ rest-change (block ts es) h h₁ h₂ h₃ h₄ h₅ = absurd (false≢true h)
 
 pub rest-assign : (e : Expr) → one-child (code (letter-of e)) ≡ true → code (letter-of e) ≢ 90
     → code (letter-of e) ≢ 71 → code (letter-of e) ≢ 75 → code (letter-of e) ≡ 65
-rest-assign literal-true h h₁ h₂ h₃ = absurd (false≢true h)
-rest-assign literal-false h h₁ h₂ h₃ = absurd (false≢true h)
-rest-assign literal-null h h₁ h₂ h₃ = absurd (false≢true h)
+rest-assign (literal literal-true) h h₁ h₂ h₃ = absurd (false≢true h)
+rest-assign (literal literal-false) h h₁ h₂ h₃ = absurd (false≢true h)
+rest-assign (literal literal-null) h h₁ h₂ h₃ = absurd (false≢true h)
 rest-assign (slot i) h h₁ h₂ h₃ = absurd (false≢true h)
 rest-assign (is-null e) h h₁ h₂ h₃ = absurd (h₁ refl)
 rest-assign (get f e) h h₁ h₂ h₃ = absurd (h₂ refl)

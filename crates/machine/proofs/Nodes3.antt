@@ -13,7 +13,8 @@ use Rattle.language.specs.Results.{ok}
 use Rattle.language.specs.Lists.{choice}
 use Rattle.language.specs.Tree.{Expr, choose, Class, size}
 use Rattle.language.specs.Encoded.{Encoded}
-use Rattle.language.specs.Evaluation.{Value as Meaning, truth, State, Out, need-truth}
+use Rattle.language.specs.State.{Value as Meaning, truth, State, Out}
+use Rattle.language.specs.Evaluation.{need-truth}
 use Rattle.language.specs.Store.{capacity}
 use Rattle.language.proofs.Nodes.{head}
 use Rattle.objects.specs.declared.Value.{Value}

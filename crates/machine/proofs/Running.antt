@@ -10,7 +10,8 @@ use Rattle.language.specs.Results.{ok, stop}
 use Rattle.language.specs.Tree.{Class, Program}
 use Rattle.language.specs.World.{World}
 use Rattle.language.specs.Program.{world}
-use Rattle.language.specs.Evaluation.{Value as Meaning, State, Out, with-limits, run}
+use Rattle.language.specs.State.{Value as Meaning, State, Out}
+use Rattle.language.specs.Evaluation.{with-limits, run}
 use Rattle.language.specs.Store.{value-number, value-of-number, heap-of-numbers, heap-numbers, object-numbers}
 use Rattle.language.specs.Store.{capacity, stored, finish, finished, ran}
 use Rattle.objects.specs.Values.{Outcome, Gave, Raised, Stopped, Stuck, Counts, Answer, outcome, counts-in}

@@ -12,7 +12,8 @@ use Rattle.language.specs.Results.{ok, bind}
 use Rattle.language.specs.Tree.{Expr, Class}
 use Rattle.language.specs.Program.{world}
 use Rattle.language.specs.Encoded.{Encoded}
-use Rattle.language.specs.Evaluation.{Value as Meaning, State, Out, with-limits}
+use Rattle.language.specs.State.{Value as Meaning, State, Out}
+use Rattle.language.specs.Evaluation.{with-limits}
 use Rattle.language.specs.Store.{capacity}
 use Rattle.language.proofs.Nodes.{head}
 use Rattle.objects.specs.declared.Value.{Value}

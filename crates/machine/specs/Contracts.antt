@@ -1,6 +1,6 @@
 -- What the functions of the evaluator require and ensure.
 use mathlib.Core.Path.{_≡_}
-use mathlib.Core.Bool.{true, _||_, Bool}
+use mathlib.Core.Bool.{true, false, _||_, Bool}
 use mathlib.Core.List.{List}
 use Prim.Native.Nat.{ℕ, suc, _+_, _-_, _*_, _≤_, _<_}
 use lib.Dec.{eqb}
@@ -12,11 +12,12 @@ use Rattle.language.specs.World.{Method}
 use Rattle.language.specs.Program.{world}
 use Rattle.language.specs.ClassTables.{ClassTables}
 use Rattle.language.specs.Encoded.{Encoded, EncodedAll}
-use Rattle.language.specs.Evaluation.{Value as Meaning, null, truth, object, State, raised, spent, deep, full}
-use Rattle.language.specs.Evaluation.{stuck, Out, last-value, need, eval, eval-all, with-limits, call-at, run}
+use Rattle.language.specs.State.{Value as Meaning, null, truth, object, State, raised, spent, deep, full}
+use Rattle.language.specs.State.{stuck, Out, with-frame}
+use Rattle.language.specs.Evaluation.{last-value, need, eval, eval-all, with-limits, call-at, run}
 use Rattle.language.specs.Store.{capacity, Outcome as Ended, gave, ended, ran, finish, Ran as Finished}
 use mathlib.Core.Logic.{_⊎_}
-use Rattle.language.specs.Limits.{of-check, spent-stop, deep-stop, full-stop}
+use Rattle.language.specs.Limits.{of-check, spent-stop, deep-stop, full-stop, most-calls}
 use Rattle.language.specs.Headings.{headings}
 use Rattle.language.specs.Typing.{bodies}
 use Rattle.language.specs.Layout.{ProgramAt}
@@ -32,8 +33,10 @@ use Rattle.objects.specs.Values.{value, stop-of, Small, SmallOutcome, told, bar
 use Rattle.objects.specs.Values.{Stopped, Stuck, Counts, outcome, Answer, answer}
 use Rattle.objects.specs.Holding.{Within, WithinAll, Holds, Sound}
 use Rattle.objects.specs.Contracts.{Written, Stored}
-use Rattle.objects.specs.Holding.{first-of-type}
+use Rattle.objects.specs.Holding.{first-of-type, frame-room}
 use Rattle.machine.specs.Machine.{told-all, slots-of, frame-of, state, after, inside}
+use Rattle.language.specs.Rows.{code, T-true, L-false, N-null, I-slot, Z-is-null, G-get, K-cast, W-new}
+use Rattle.language.specs.Rows.{R-change, A-assign}
 
 -- ---- slots
 
@@ -48,10 +51,19 @@ pub record PostRead (l : List ℕ) (k : ℕ) (q : Place) (r : Outcome) : Type 0 
   pub small : SmallOutcome r
   pub is : (t : State) → told r t ≡ bare (need (at-slot (frame-of l q) k) t λ v. ok v t)
 
-pub record Wrote (l l′ : List ℕ) (k : ℕ) (v : Value) (q : Place) : Type 0 where
+pub record PostWrite (l l′ : List ℕ) (k : ℕ) (v : Value) (q : Place) (r : Outcome) : Type 0 where
   pub long : length l′ ≡ length l
   pub same : (i : ℕ) → (i < q .base) ⊎ (q .base + q .scope < i) → getD l′ i 0 ≡ getD l i 0
-  pub is : frame-of l′ q ≡ with-slot (frame-of l q) k (value v)
+  pub small : SmallOutcome r
+  pub is : (t : State) → told r (with-frame (frame-of l′ q) t)
+      ≡ bare (need (at-slot (frame-of l q) k) t λ _.
+      ok (value v) (with-frame (with-slot (frame-of l q) k (value v)) t))
+
+-- Z of a value.
+abbrev pub null-tested : Value → Outcome
+null-tested Null = Gave (Truth true)
+null-tested (Truth b) = Stuck
+null-tested (Object j) = Gave (Truth false)
 
 -- ---- the cycle
 
@@ -59,22 +71,29 @@ pub record Wrote (l l′ : List ℕ) (k : ℕ) (v : Value) (q : Place) : Type 0 
 abbrev pub nothing : Value
 nothing = Null
 
+-- The most slots of a call: its frame, and a receiver and arguments that wait in each of its nested nodes; and of all
+-- calls together, the start block included.
+abbrev pub call-room : ℕ
+call-room = frame-room + (of-check .parameters + 1) * of-check .nesting
+
+abbrev pub slots-room : ℕ
+slots-room = (most-calls + 1) * call-room
+
 -- Everything fits: a frame at base, waiting values up to top, room for d nested nodes and the calls still allowed;
--- z is 1 where a node has been entered. A call takes at most 1416 slots: a frame of 264, and 9 values that wait in each
--- of 128 nested nodes.
+-- z is 1 where a node has been entered.
 pub record Ready (R E T A s l : List ℕ) (P : List Class) (q : Place) (n : Counts) (d z : ℕ) : Type 0 where
   pub holds : Holds R E T A P
   pub sound : Sound P (n .made) s
-  pub frame : q .base + 264 ≤ q .top
-  pub scoped : q .scope + 1 ≤ 264
-  pub above : q .top + 9 * d + (64 - q .calls) * 1416 ≤ length l
-  pub active : q .calls ≤ 64
+  pub frame : q .base + frame-room ≤ q .top
+  pub scoped : q .scope + 1 ≤ frame-room
+  pub above : q .top + (of-check .parameters + 1) * d + (most-calls - q .calls) * call-room ≤ length l
+  pub active : q .calls ≤ most-calls
   pub counted : n .changes + n .left + z ≤ 4294967295
 
 -- What is the same afterwards.
 pub record Kept (P : List Class) (s l s′ l′ : List ℕ) (q : Place) (n : Counts) (z : ℕ) (r : Answer) : Type 0
   where
-    pub same : (i : ℕ) → i < q .top → (i < q .base) ⊎ (q .base + 264 ≤ i) → getD l′ i 0 ≡ getD l i 0
+    pub same : (i : ℕ) → i < q .top → (i < q .base) ⊎ (q .base + frame-room ≤ i) → getD l′ i 0 ≡ getD l i 0
     pub long : length l′ ≡ length l
     pub stored : Stored P s s′ (n .made) (r .counts .made)
     pub falls : r .counts .left ≤ n .left
@@ -89,7 +108,7 @@ pub record Done (P : List Class) (s l s′ l′ : List ℕ) (q : Place) (n : Cou
 
 -- Calls with so many calls active, under fuel F and room for so many objects.
 abbrev pub calls-of : List Class → ℕ → ℕ → ℕ → Method → State → Out Meaning
-calls-of P F room calls M s = call-at (world P) (with-limits F room) (64 - calls) M s
+calls-of P F room calls M s = call-at (world P) (with-limits F room) (most-calls - calls) M s
 
 abbrev pub evaluated : List Class → ℕ → ℕ → ℕ → Expr → State → Out Meaning
 evaluated P F room calls e s = eval (world P) (with-limits F room) (λ M s. calls-of P F room calls M s) e s
@@ -132,10 +151,11 @@ pub record PostNode (R E T A s l s′ l′ : List ℕ) (at : ℕ) (q : Place) (n
 
 -- The letters of nodes with one child, and of nodes with none.
 abbrev pub one-child : ℕ → Bool
-one-child k = eqb k 65 || eqb k 71 || eqb k 75 || eqb k 90
+one-child k = eqb k (code A-assign) || eqb k (code G-get) || eqb k (code K-cast) || eqb k (code Z-is-null)
 
 abbrev pub no-child : ℕ → Bool
-no-child k = eqb k 84 || eqb k 76 || eqb k 78 || eqb k 73 || eqb k 87 || eqb k 82
+no-child k = eqb k (code T-true) || eqb k (code L-false) || eqb k (code N-null) || eqb k (code I-slot) || eqb
+    k (code W-new) || eqb k (code R-change)
 
 -- Functions that read no table of ends.
 pub record PreLeaf (R T s l : List ℕ) (at : ℕ) (q : Place) (n : Counts) : Type 0 where
@@ -155,7 +175,7 @@ pub record PreApply (R T A s l : List ℕ) (at : ℕ) (q : Place) (n : Counts) (
 pub record Applied (P : List Class) (s l l′ : List ℕ) (e : Expr) (q : Place) (n : Counts) (v : Value)
     (r : Outcome) : Type 0 where
   pub long : length l′ ≡ length l
-  pub same : (i : ℕ) → (i < q .base) ⊎ (q .base + 264 ≤ i) → getD l′ i 0 ≡ getD l i 0
+  pub same : (i : ℕ) → (i < q .base) ⊎ (q .base + frame-room ≤ i) → getD l′ i 0 ≡ getD l i 0
   pub small : SmallOutcome r
   pub is : (steps : ℕ)
       → told r (state P s l′ q n steps) ≡ bare (after (world P) e (value v) (state P s l q n steps))
@@ -180,7 +200,8 @@ pub record PreList (R E T A s l : List ℕ) (at : ℕ) (q : Place) (n : Counts) 
 -- The arguments of a call go to the top; there is room for them.
 pub record PreArgs (R E T A s l : List ℕ) (at : ℕ) (q : Place) (n : Counts) (m : ℕ) : Type 0 where
   pub list : PreList R E T A s l at q n m
-  pub room : q .top + m + 9 * (list .d) + (64 - q .calls) * 1416 ≤ length l
+  pub room : q .top + m + (of-check .parameters + 1) * (list .d) + (most-calls - q .calls) * call-room
+      ≤ length l
 
 pub record PostItems (R E T A s l s′ l′ : List ℕ) (at : ℕ) (q : Place) (n : Counts) (m : ℕ) (last : Value)
     (r : Answer) : Type 0 where
@@ -200,7 +221,8 @@ pub record DoneAll (P : List Class) (s l s′ l′ : List ℕ) (q : Place) (n : 
 pub record PostArgs (R E T A s l s′ l′ : List ℕ) (at : ℕ) (q : Place) (n : Counts) (m : ℕ) (r : Answer) : Type
     0 where
   pub done : (P : List Class) (es : Exprs) (d F k : ℕ) → Ready R E T A s l P q n d 0
-      → q .top + m + 9 * d + (64 - q .calls) * 1416 ≤ length l → EncodedAll R E es at
+      → q .top + m + (of-check .parameters + 1) * d + (most-calls - q .calls) * call-room ≤ length l
+      → EncodedAll R E es at
       → WithinAll (length P) (q .scope) d es → m ≡ count es → k + n .left ≡ F
       → DoneAll P s l s′ l′ q n F m r (evaluated-all P F (capacity s) (q .calls) es (state P s l q n k))
 
@@ -217,8 +239,8 @@ outcome-of Stuck = ended stuck
 pub record Runs (R E T A l : List ℕ) (at : ℕ) (p : Program) : Type 0 where
   pub holds : Holds R E T A (p .classes)
   pub encoded : Encoded R E (p .start) at
-  pub within : Within (length (p .classes)) 0 128 (p .start)
-  pub room : 92040 ≤ length l
+  pub within : Within (length (p .classes)) 0 (of-check .nesting) (p .start)
+  pub room : slots-room ≤ length l
 
 pub record PreRun (R E T A l : List ℕ) (at : ℕ) : Type 0 where
   pub p : Program

@@ -1,5 +1,4 @@
 -- The state that a store and the slots of a place hold; nodes that have been entered, and several values' outcome.
-use mathlib.Core.Bool.{true, false}
 use mathlib.Core.Option.{Option, none, some}
 use mathlib.Core.List.{List, map}
 use Prim.Native.Nat.{ℕ, zero, suc, _+_}
@@ -7,11 +6,13 @@ use lib.ListN.{length, getD, take, drop}
 use Rattle.language.specs.Lists.{choice}
 use Rattle.language.specs.Results.{ok, stop, bind}
 use Rattle.language.specs.Frames.{Frame, frame, at-slot, with-slot, opened, closed}
-use Rattle.language.specs.Tree.{Expr, literal-true, literal-false, literal-null, slot, is-null, get, cast}
+use Rattle.language.specs.Tree.{Expr, literal, slot, is-null, get, cast}
 use Rattle.language.specs.Tree.{new, change, assign, set, call, choose, block, Class}
 use Rattle.language.specs.World.{Method, World}
-use Rattle.language.specs.Evaluation.{Value as Meaning, null, truth, State, raised, stuck, Out, Limits}
-use Rattle.language.specs.Evaluation.{initial, last-value, need, need-truth, with-frame, is-null-value}
+use Rattle.language.specs.State.{Value as Meaning, null, truth, State, raised, stuck, Out, literal-value}
+use Rattle.language.specs.Evaluation.{Limits}
+use Rattle.language.specs.State.{initial, with-frame}
+use Rattle.language.specs.Evaluation.{last-value, need, need-truth, need-reference}
 use Rattle.language.specs.Evaluation.{do-get, do-set, do-cast, do-change, do-new, do-call, eval, eval-all}
 use Rattle.language.specs.Store.{value-of-number}
 use Rattle.objects.specs.Values.{Outcome, Gave, Raised, Stopped, Stuck, stop-of, bare-state, Counts}
@@ -45,13 +46,11 @@ state P s l q n steps = view P s n (frame-of l q) steps
 
 -- A node with one child, once that has a value.
 unfoldable pub after : World → Expr → Meaning → State → Out Meaning
-after W (is-null e) v s = ok (truth (is-null-value v)) s
+after W (is-null e) v s = need-reference v s λ b. ok (truth b) s
 after W (get f e) v s = do-get W f v s
 after W (cast c e) v s = do-cast W c v s
-after W (assign k e) v s = ok v (with-frame (with-slot (s .frame) k v) s)
-after W literal-true v s = ok v s
-after W literal-false v s = ok v s
-after W literal-null v s = ok v s
+after W (assign k e) v s = need (at-slot (s .frame) k) s λ _. ok v (with-frame (with-slot (s .frame) k v) s)
+after W (literal l) v s = ok v s
 after W (slot k) v s = ok v s
 after W (new c) v s = ok v s
 after W (change k d) v s = ok v s
@@ -63,9 +62,7 @@ after W (block ts es) v s = ok v s
 module _ (W : World) (L : Limits) where
   -- A node that has been entered.
   unfoldable pub inside : (Method → State → Out Meaning) → Expr → State → Out Meaning
-  inside K literal-true s = ok (truth true) s
-  inside K literal-false s = ok (truth false) s
-  inside K literal-null s = ok null s
+  inside K (literal l) s = ok (literal-value l) s
   inside K (slot k) s = need (at-slot (s .frame) k) s λ v. ok v s
   inside K (is-null e) s = bind (eval W L K e s) λ v s. after W (is-null e) v s
   inside K (get f e) s = bind (eval W L K e s) λ v s. after W (get f e) v s

@@ -1,6 +1,20 @@
 // The evaluator: runs the rows of a checked program over a lent store.
 // What is done to objects stands in the crate objects. The slots of all calls under way stand in one lent stack. Values,
 // outcomes and the tally are numbers, as there.
+use language::BLOCK;
+use language::CALL;
+use language::CAST;
+use language::CHANGE;
+use language::CHOOSE;
+use language::FALSE;
+use language::GET;
+use language::IS_NULL;
+use language::NEW;
+use language::NULL;
+use language::SET;
+use language::SLOT;
+use language::START;
+use language::TRUE;
 use objects::SPENT;
 use objects::STUCK;
 use objects::Target;
@@ -11,11 +25,17 @@ ghost use Prim.Native.Nat.{_+_, _*_, _≤_, _<_};
 ghost use lib.ListN.{length, getD, set};
 ghost use Rattle.objects.specs.Values.{value, decoded, outcome, counts-in, Small, SmallOutcome, answered};
 ghost use Rattle.machine.specs.Machine.{place-of};
-ghost use Rattle.machine.specs.Contracts.{Locals, Opened, PostRead, Wrote, PreEval};
+ghost use Rattle.machine.specs.Contracts.{Locals, Opened, PostRead, PostWrite, null-tested, PreEval};
 ghost use Rattle.machine.specs.Contracts.{PreEntered, PostEval, PostNode, one-child, no-child, PreLeaf};
 ghost use Rattle.machine.specs.Contracts.{PostLeaf, PreApply, PostApply, PreList, PreArgs, PostItems};
 ghost use Rattle.machine.specs.Contracts.{PostArgs, PreRun, PostRun, value-told, end-told, outcome-of};
-ghost use Rattle.machine.specs.Contracts.{PreChecked, PostChecked, nothing};
+ghost use Rattle.machine.specs.Contracts.{PreChecked, PostChecked, nothing, slots-room};
+ghost use Rattle.language.specs.Rows.{code, B-block, R-change, U-set, Q-call, J-choose};
+
+// How many slots a frame has room for, `this` included, and how many all calls together.
+const FRAME_ROOM: usize = 264;
+
+const SLOTS_ROOM: usize = 92040;
 
 // Where the slots of the method under way stand: `this` at base, the others after it, of which scope are in scope;
 // values that wait for a call stand from top on; so many calls are active, and outside of any there is no `this`.
@@ -67,23 +87,36 @@ fn read_slot(slots: &[u32], k: usize, place: Place) -> u64
     slots[base + k] as u64
 }
 
-// Slot k becomes v; a slot that is not there stays away.
-fn write_slot(slots: &mut [u32], k: usize, n: u32, place: Place)
+// Slot k becomes a value, which is also the answer; where there is no such slot it is stuck.
+fn write_slot(slots: &mut [u32], k: usize, n: u32, place: Place) -> u64
     requires { ⌜ place .base + place .scope < length (now slots) ⌝ }
-    ensures { λ r. ⌜ Wrote (now (slots .entry)) (now (slots .exit)) k (decoded n) place ⌝ }
+    ensures { λ r. ⌜ PostWrite (now (slots .entry)) (now (slots .exit)) k (decoded n) place (outcome r) ⌝ }
 {
     if place.scope < k {
-        return;
+        return STUCK;
     }
     let base = place.base;
     if k == 0 {
         if place.calls == 0 {
-            return;
+            return STUCK;
         }
         slots[base] = n;
-        return;
+        return n as u64;
     }
     slots[base + k] = n;
+    n as u64
+}
+
+// Z of a value: whether it is null. A truth value is neither null nor an object, and is stuck.
+fn test_null(n: u32) -> u64
+    ensures { λ r. ⌜ outcome r ≡ null-tested (decoded n) ⌝ }
+{
+    let v = objects::decode(n);
+    match v {
+        Value::Null => 2,
+        Value::Truth(_) => STUCK,
+        Value::Object(_) => 1,
+    }
 }
 
 // The locals of a block, whose V lines stand from a row on, get their first values in the slots from `from` on.
@@ -107,7 +140,7 @@ fn reclassify(
     place: Place,
 ) -> u64
     requires { ⌜ PreLeaf (now rows) (now tables) (now store) (now slots) at place (counts-in (now tally)) ⌝ }
-    requires { ⌜ getD (now rows) (at * 4) 0 ≡ 82 ⌝ }
+    requires { ⌜ getD (now rows) (at * 4) 0 ≡ code R-change ⌝ }
     ensures { λ r. ⌜ PostLeaf (now (rows .entry)) (now (tables .entry)) (now (store .entry))
         (now (slots .entry)) (now (store .exit)) at place (counts-in (now (tally .entry)))
         (answered r (now (tally .exit))) ⌝ }
@@ -125,12 +158,12 @@ fn is_leaf(k: u32) -> bool
     ensures { λ r. ⌜ r ≡ no-child k ⌝ }
 {
     match k {
-        84 => true,
-        76 => true,
-        78 => true,
-        73 => true,
-        87 => true,
-        82 => true,
+        TRUE => true,
+        FALSE => true,
+        NULL => true,
+        SLOT => true,
+        NEW => true,
+        CHANGE => true,
         _ => false,
     }
 }
@@ -153,11 +186,11 @@ fn leaf(
 {
     let k = rows[at * 4];
     match k {
-        84 => 2,
-        76 => 1,
-        78 => 0,
-        73 => read_slot(slots, rows[at * 4 + 1] as usize, place),
-        87 => objects::new_object(rows, tables, store, tally, rows[at * 4 + 1]),
+        TRUE => 2,
+        FALSE => 1,
+        NULL => 0,
+        SLOT => read_slot(slots, rows[at * 4 + 1] as usize, place),
+        NEW => objects::new_object(rows, tables, store, tally, rows[at * 4 + 1]),
         _ => reclassify(rows, tables, store, slots, tally, at, place),
     }
 }
@@ -183,13 +216,10 @@ fn apply(
     let k = rows[at * 4];
     let a = rows[at * 4 + 1];
     match k {
-        90 => { if n == 0 { 2 } else { 1 } }
-        71 => objects::load(tables, store, tally, n, a as usize),
-        75 => objects::cast_object(above, store, tally, n, a),
-        _ => {
-            write_slot(slots, a as usize, n, place);
-            n as u64
-        }
+        IS_NULL => test_null(n),
+        GET => objects::load(tables, store, tally, n, a as usize),
+        CAST => objects::cast_object(above, store, tally, n, a),
+        _ => write_slot(slots, a as usize, n, place),
     }
 }
 
@@ -231,7 +261,7 @@ fn eval(
         return leaf(rows, tables, store, slots, tally, at, place);
     }
     match k {
-        66 => block(
+        BLOCK => block(
             rows,
             ends,
             tables,
@@ -245,7 +275,7 @@ fn eval(
             top,
             calls,
         ),
-        74 => choose(
+        CHOOSE => choose(
             rows,
             ends,
             tables,
@@ -259,7 +289,7 @@ fn eval(
             top,
             calls,
         ),
-        81 => call(
+        CALL => call(
             rows,
             ends,
             tables,
@@ -273,7 +303,7 @@ fn eval(
             top,
             calls,
         ),
-        85 => set(
+        SET => set(
             rows,
             ends,
             tables,
@@ -381,7 +411,7 @@ fn set(
 ) -> u64
     requires { ⌜ PreEntered (now rows) (now ends) (now tables) (now above) (now store)
         (now slots) at (place-of base scope top calls) (counts-in (now tally)) ⌝ }
-    requires { ⌜ getD (now rows) (at * 4) 0 ≡ 85 ⌝ }
+    requires { ⌜ getD (now rows) (at * 4) 0 ≡ code U-set ⌝ }
     ensures { λ r. ⌜ PostNode (now (rows .entry)) (now (ends .entry)) (now (tables .entry))
         (now (above .entry)) (now (store .entry)) (now (slots .entry)) (now (store .exit))
         (now (slots .exit)) at (place-of base scope top calls) (counts-in (now (tally .entry)))
@@ -451,7 +481,7 @@ fn choose(
 ) -> u64
     requires { ⌜ PreEntered (now rows) (now ends) (now tables) (now above) (now store)
         (now slots) at (place-of base scope top calls) (counts-in (now tally)) ⌝ }
-    requires { ⌜ getD (now rows) (at * 4) 0 ≡ 74 ⌝ }
+    requires { ⌜ getD (now rows) (at * 4) 0 ≡ code J-choose ⌝ }
     ensures { λ r. ⌜ PostNode (now (rows .entry)) (now (ends .entry)) (now (tables .entry))
         (now (above .entry)) (now (store .entry)) (now (slots .entry)) (now (store .exit))
         (now (slots .exit)) at (place-of base scope top calls) (counts-in (now (tally .entry)))
@@ -530,7 +560,7 @@ fn block(
 ) -> u64
     requires { ⌜ PreEntered (now rows) (now ends) (now tables) (now above) (now store)
         (now slots) at (place-of base scope top calls) (counts-in (now tally)) ⌝ }
-    requires { ⌜ getD (now rows) (at * 4) 0 ≡ 66 ⌝ }
+    requires { ⌜ getD (now rows) (at * 4) 0 ≡ code B-block ⌝ }
     ensures { λ r. ⌜ PostNode (now (rows .entry)) (now (ends .entry)) (now (tables .entry))
         (now (above .entry)) (now (store .entry)) (now (slots .entry)) (now (store .exit))
         (now (slots .exit)) at (place-of base scope top calls) (counts-in (now (tally .entry)))
@@ -678,7 +708,7 @@ fn call(
 ) -> u64
     requires { ⌜ PreEntered (now rows) (now ends) (now tables) (now above) (now store)
         (now slots) at (place-of base scope top calls) (counts-in (now tally)) ⌝ }
-    requires { ⌜ getD (now rows) (at * 4) 0 ≡ 81 ⌝ }
+    requires { ⌜ getD (now rows) (at * 4) 0 ≡ code Q-call ⌝ }
     ensures { λ r. ⌜ PostNode (now (rows .entry)) (now (ends .entry)) (now (tables .entry))
         (now (above .entry)) (now (store .entry)) (now (slots .entry)) (now (store .exit))
         (now (slots .exit)) at (place-of base scope top calls) (counts-in (now (tally .entry)))
@@ -721,7 +751,7 @@ fn call(
                 b,
                 top,
                 n,
-                top + 264,
+                top + FRAME_ROOM,
                 calls + 1,
             )
         }
@@ -756,7 +786,7 @@ fn run_start(
         at,
         0,
         0,
-        264,
+        FRAME_ROOM,
         0,
     );
     Ran {
@@ -805,11 +835,11 @@ fn run_with(
     fuel: u32,
 ) -> Run
     requires { ⌜ PreChecked (now rows) (now ends) (now tables) (now above) ⌝ }
-    requires { ⌜ 92040 ≤ length (now slots) ⌝ }
+    requires { ⌜ slots-room ≤ length (now slots) ⌝ }
     ensures { λ r. ⌜ PostChecked (now (rows .entry)) (now (ends .entry)) (now (tables .entry))
         (now (above .entry)) (now (store .entry)) (now (store .exit)) fuel r ⌝ }
 {
-    let start = objects::find_letter(rows, 0, 83);
+    let start = objects::find_letter(rows, 0, START);
     let r = run_start(rows, ends, tables, above, store, slots, start + 1, fuel);
     let o = r.outcome;
     Run {
@@ -833,6 +863,6 @@ pub fn run_checked(
     ensures { λ r. ⌜ PostChecked (now (rows .entry)) (now (ends .entry)) (now (tables .entry))
         (now (above .entry)) (now (store .entry)) (now (store .exit)) fuel r ⌝ }
 {
-    let mut slots = [0u32; 92040];
+    let mut slots = [0u32; SLOTS_ROOM];
     run_with(rows, ends, tables, above, store, &mut slots, fuel)
 }

@@ -16,7 +16,8 @@ use Rattle.language.specs.Tree.{Class}
 use Rattle.language.specs.World.{place}
 use Rattle.language.specs.Program.{world}
 use Rattle.language.specs.ClassTables.{stored-place}
-use Rattle.language.specs.Evaluation.{Value as Meaning, null, truth, State, Out, is-null-value}
+use Rattle.language.specs.State.{Value as Meaning, null, truth, State, Out}
+use Rattle.objects.specs.Values.{is-null-value}
 use Rattle.language.specs.Store.{value-of-number, heap-of-numbers}
 use Rattle.objects.specs.declared.Value.{Value}
 use Rattle.objects.specs.declared.Value.the-variants.{Null, Truth, Object}

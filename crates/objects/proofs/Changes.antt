@@ -11,7 +11,8 @@ use lib.Dec.{leb}
 use lib.ListN.{length, getD, take, drop, set}
 use Rattle.language.specs.Tree.{Class}
 use Rattle.language.specs.Program.{world}
-use Rattle.language.specs.Evaluation.{Value as Meaning, initials, is-null-value}
+use Rattle.language.specs.State.{Value as Meaning, initials}
+use Rattle.objects.specs.Values.{is-null-value}
 use Rattle.language.specs.Evaluation.{changed}
 use Rattle.language.specs.Store.{value-of-number, heap-of-numbers}
 use Rattle.objects.specs.declared.Value.{Value}
@@ -28,20 +29,28 @@ use Rattle.objects.proofs.Objects.{values-length, object-at, heap-at}
 use Rattle.objects.proofs.Objects.{heap-past, heap-changed}
 use Rattle.objects.proofs.Fresh.{Renewed, renewed, fields-filled, stored-renewed, new-fill}
 
-module _ (R T s : List ℕ) (d : ℕ) (n : Counts) where
-  -- the fields that R keeps, and those that the object has
-  kept-count : {E A : List ℕ} {P : List Class} → Holds R E T A P → d ≤ length P
-      → getD T (getD T (d * 576 + 514) 0 * 576 + 515) 0 ≡ length (world P .fields (world P .root d))
-  kept-count {P = P} hold dd = ap (λ (x : ℕ). getD T (x * 576 + 515) 0) (hold .tables .roots d dd)
-      ∙ hold .tables .counts (world P .root d) (hold .roots d dd .0)
+-- how many fields the root of class c has, by the table
+abbrev kept-in : List ℕ → ℕ → ℕ
+kept-in T c = getD T (getD T (c * 576 + 514) 0 * 576 + 515) 0
 
-  own-count : {E A : List ℕ} {P : List Class} → Holds R E T A P → Sound P (n .made) s → (j : ℕ) → j < n .made
-      → length (object-at (world P) s (j * 18) .fields) ≡ getD T (getD s (j * 18) 0 * 576 + 515) 0
-  own-count {P = P} hold snd j h =
+module _ (R T s : List ℕ) (n : Counts) {E A : List ℕ} {P : List Class} (hold : Holds R E T A P)
+    (snd : Sound P (n .made) s) (j : ℕ) (h : j < n .made) where
+  -- the fields that R keeps; the object has them
+  kept-count : kept-in T (getD s (j * 18) 0) ≡ length (world P .fields (world P .root (getD s (j * 18) 0)))
+  kept-count =
       let c : ℕ = getD s (j * 18) 0 in
-      values-length s (j * 18 + 1) (length (world P .fields c))
-      (omega (arith, snd .stored, hold .counts c (snd .declared j h)))
-      ∙ sym (hold .tables .counts c (snd .declared j h))
+      ap (λ (x : ℕ). getD T (x * 576 + 515) 0) (hold .tables .roots c (snd .declared j h))
+      ∙ hold .tables .counts (world P .root c) (hold .roots c (snd .declared j h) .0)
+
+  kept-own : leb (length (world P .fields (world P .root (getD s (j * 18) 0))))
+      (length (object-at (world P) s (j * 18) .fields)) ≡ true
+  kept-own =
+      let c : ℕ = getD s (j * 18) 0 in
+      let own : length (object-at (world P) s (j * 18) .fields) ≡ length (world P .fields c)
+      = values-length s (j * 18 + 1) (length (world P .fields c))
+      (omega (arith, snd .stored, hold .counts c (snd .declared j h))) in
+      le-leb (length (world P .fields (world P .root c))) (length (object-at (world P) s (j * 18) .fields))
+      (omega (arith, own, hold .roots c (snd .declared j h) .1))
 
 module _ {R T s : List ℕ} {v : Value} {d : ℕ} {n : Counts} where
   pub change-null : is-null-value (value v) ≡ true → Small v → PostChange R T s s v d n (answer (Gave v) n)
@@ -65,22 +74,22 @@ module _ {R T s : List ℕ} {v : Value} {d : ℕ} {n : Counts} where
   }
 
   pub change-few : (j : ℕ) → v ≡ Object j → j < n .made
-      → getD T (getD s (j * 18) 0 * 576 + 515) 0 < getD T (getD T (d * 576 + 514) 0 * 576 + 515) 0
+      → getD T (d * 576 + 515) 0 < kept-in T (getD s (j * 18) 0)
       → PostChange R T s s v d n (answer (outcome 4294967296) n)
   unfolding bare outcome
   change-few j e h few = record {
     acts = λ E A P hold snd dd.
-        let z : leb (length (world P .fields (world P .root d)))
-        (length (object-at (world P) s (j * 18) .fields)) ≡ false
-        = lt-leb (length (world P .fields (world P .root d)))
-        (length (object-at (world P) s (j * 18) .fields))
-        (omega (arith, kept-count R T s d n hold dd, own-count R T s d n hold snd j h)) in
-        acts-same n Stuck snd tt (λ γ k. rw (ap value e, heap-at (world P) (n .made) s j h, z));
+        let x : ℕ = length (world P .fields (world P .root (getD s (j * 18) 0))) in
+        let z : leb x (length (world P .fields d)) ≡ false
+        = lt-leb x (length (world P .fields d))
+        (omega (arith, kept-count R T s n hold snd j h, hold .tables .counts d dd)) in
+        acts-same n Stuck snd tt
+        (λ γ k. rw (ap value e, heap-at (world P) (n .made) s j h, kept-own R T s n hold snd j h, z));
   }
 
   pub change-made : (s₁ : List ℕ) (j : ℕ) → v ≡ Object j → j < n .made
-      → getD T (getD T (d * 576 + 514) 0 * 576 + 515) 0 ≤ getD T (getD s (j * 18) 0 * 576 + 515) 0 → Small v
-      → Filled R T s s₁ (j * 18) d (getD T (getD T (d * 576 + 514) 0 * 576 + 515) 0)
+      → kept-in T (getD s (j * 18) 0) ≤ getD T (d * 576 + 515) 0 → Small v
+      → Filled R T s s₁ (j * 18) d (kept-in T (getD s (j * 18) 0))
       → PostChange R T s (set s₁ (j * 18) d) v d n
       (answer (Gave (Object j)) (record { left = n .left; made = n .made; changes = n .changes + 1 }))
   unfolding bare
@@ -88,20 +97,19 @@ module _ {R T s : List ℕ} {v : Value} {d : ℕ} {n : Counts} where
     acts = λ E A P hold snd dd.
         let made : ℕ = n .made in
         let s′ : List ℕ = set s₁ (j * 18) d in
-        let from : ℕ = getD T (getD T (d * 576 + 514) 0 * 576 + 515) 0 in
-        let g : from ≡ length (world P .fields (world P .root d)) = kept-count R T s d n hold dd in
+        let c : ℕ = getD s (j * 18) 0 in
+        let from : ℕ = kept-in T c in
+        let g : from ≡ length (world P .fields (world P .root c)) = kept-count R T s n hold snd j h in
         let room : j * 18 + 18 ≤ length s = omega (arith, snd .stored) in
-        let own : from ≤ length (world P .fields (getD s (j * 18) 0)) =
-        omega (arith, hold .tables .counts (getD s (j * 18) 0) (snd .declared j h)) in
+        let own : from ≤ length (world P .fields c) =
+        omega (arith, g, hold .roots c (snd .declared j h) .1) in
         let r : Renewed R T s s′ (j * 18) d from = renewed (j * 18) d from w
-        (omega (arith, own, hold .counts (getD s (j * 18) 0) (snd .declared j h))) room in
-        let low : from ≤ length (world P .fields d) = omega (arith, g, hold .roots d dd .1) in
-        let z : leb (length (world P .fields (world P .root d)))
-        (length (object-at (world P) s (j * 18) .fields)) ≡ true
-        = le-leb (length (world P .fields (world P .root d)))
-        (length (object-at (world P) s (j * 18) .fields))
-        (omega (arith, g, own-count R T s d n hold snd j h)) in
-        let fields = fields-filled hold s s′ (j * 18) d from (length (world P .fields (getD s (j * 18) 0))) dd
+        (omega (arith, own, hold .counts c (snd .declared j h))) room in
+        let low : from ≤ length (world P .fields d) = omega (arith, many, hold .tables .counts d dd) in
+        let x : ℕ = length (world P .fields (world P .root c)) in
+        let z : leb x (length (world P .fields d)) ≡ true =
+        le-leb x (length (world P .fields d)) (omega (arith, g, low)) in
+        let fields = fields-filled hold s s′ (j * 18) d from (length (world P .fields c)) dd
         low own room (r .long) (λ i l. r .kept i l) (λ i l k. r .first i l k) in
         let thing : object-at (world P) s′ (j * 18) ≡ changed (world P) d (object-at (world P) s (j * 18))
         = ap (λ (k : ℕ). record {
@@ -129,7 +137,7 @@ module _ {R T s : List ℕ} {v : Value} {d : ℕ} {n : Counts} where
           changed = omega arith;
           small = rw e at m;
           is = λ γ k. let one : n .changes + 1 ≡ suc (n .changes) = omega arith in
-              rw (ap value e, heap-at (world P) made s j h, z, heap, one);
+              rw (ap value e, heap-at (world P) made s j h, kept-own R T s n hold snd j h, z, heap, one);
         };
   }
 
@@ -150,46 +158,43 @@ pub one-change : {x j : ℕ} {v : Value} {t′ : List ℕ} (t : List ℕ) → v 
 one-change {x} t e f h (long, q) =
     rw q (ap₂ (λ o m. answer o m) (gave-number x (sym f ∙ e) h) (sym (set-changes t (getD t 2 0 + 1) long)))
 
--- the tables that R reads
-pub record RootSpot (R T s : List ℕ) (d : ℕ) : Type 0 where
-  pub class : d * 576 + 576 ≤ length T
-  pub root : getD T (d * 576 + 514) 0 * 576 + 576 ≤ length T
+-- what R reads in the tables: of the object's class and its root, and of the target
+pub record Spots (R T s : List ℕ) (j d : ℕ) : Type 0 where
+  pub stored : j * 18 + 18 ≤ length s
+  pub own : getD s (j * 18) 0 * 576 + 576 ≤ length T
+  pub class : getD s (j * 18) 0 ≤ 64
+  pub root : getD T (getD s (j * 18) 0 * 576 + 514) 0 * 576 + 576 ≤ length T
+  pub target : d * 576 + 576 ≤ length T
+  pub kept : kept-in T (getD s (j * 18) 0) ≤ 17
 
--- the class of the object that R changes, and how many fields it has
-pub own-spot : {R T s : List ℕ} {d made : ℕ} → PreNew R T s d made → (j : ℕ) → j < made
-    → (j * 18 + 18 ≤ length s)
-    × (getD s (j * 18) 0 * 576 + 576 ≤ length T)
-    × (getD s (j * 18) 0 ≤ 64)
-    × (getD T (getD s (j * 18) 0 * 576 + 515) 0 ≤ 17)
-own-spot {s = s} p j h =
+pub spots : {R T s : List ℕ} {d made : ℕ} → PreNew R T s d made → (j : ℕ) → j < made → Spots R T s j d
+spots {R} {T} {s} {made = made} p j h =
     let c : ℕ = getD s (j * 18) 0 in
-    let d = p .sound .declared j h in (
-      omega (arith, p .sound .stored),
-      omega (arith, p .holds .tables .long, d),
-      omega (arith, d, p .holds .classes),
-      omega (arith, p .holds .tables .counts c d, p .holds .counts c d),
-    )
-
-pub root-spot : {R T s : List ℕ} {d made : ℕ} → PreNew R T s d made → RootSpot R T s d
-root-spot {d = d} p = record {
-  class = omega (arith, p .holds .tables .long, p .declared);
-  root = omega (
-    arith,
-    p .holds .tables .long,
-    p .holds .tables .roots d (p .declared),
-    p .holds .roots d (p .declared) .0,
-  );
-}
+    let k = p .sound .declared j h in
+    let r = p .holds .roots c k in
+    record {
+      stored = omega (arith, p .sound .stored);
+      own = omega (arith, p .holds .tables .long, k);
+      class = omega (arith, k, p .holds .classes);
+      root = omega (arith, p .holds .tables .long, p .holds .tables .roots c k, r .0);
+      target = omega (arith, p .holds .tables .long, p .declared);
+      kept = omega (
+        arith,
+        kept-count R T s (record { left = 0; made = made; changes = 0 }) (p .holds) (p .sound) j h,
+        r .1,
+        p .holds .counts c k,
+      );
+    }
 
 -- first values from a place on that the object has
-pub change-fill : {R T s : List ℕ} {d made from : ℕ} (p : PreNew R T s d made) (j : ℕ) → j < made
-    → from ≤ getD T (getD s (j * 18) 0 * 576 + 515) 0 → Fill R T s (j * 18) d from
-change-fill p j h l =
+pub change-fill : {R T s : List ℕ} {d made : ℕ} (p : PreNew R T s d made) (j : ℕ) → j < made
+    → Fill R T s (j * 18) d (kept-in T (getD s (j * 18) 0))
+change-fill p j h =
     let f = new-fill p (j * 18) (omega (arith, p .sound .stored)) in
     record {
       table = f .table;
       room = f .room;
-      start = omega (arith, l, own-spot p j h .3);
+      start = spots p j h .kept;
       few = f .few;
       rows = f .rows;
     }

@@ -13,7 +13,8 @@ use Rattle.language.specs.Tree.{Class}
 use Rattle.language.specs.World.{Method}
 use Rattle.language.specs.Program.{world}
 use Rattle.language.specs.ClassTables.{method-row}
-use Rattle.language.specs.Evaluation.{is-null-value, call-at}
+use Rattle.language.specs.Evaluation.{call-at}
+use Rattle.objects.specs.Values.{is-null-value}
 use Rattle.objects.specs.declared.Value.{Value}
 use Rattle.objects.specs.declared.Value.the-variants.{Object}
 use Rattle.objects.specs.Values.{Outcome, Counts, value, decoded, outcome}

@@ -13,7 +13,7 @@ use lib.Seq.{getD-set-same, getD-set-other, ext-getD, getD-drop, length-take-le}
 use Rattle.language.specs.Lists.{nth, nth-map, nth-append}
 use Rattle.language.specs.Tree.{Class, Field}
 use Rattle.language.specs.Program.{world}
-use Rattle.language.specs.Evaluation.{Value as Meaning, Object as Thing, initial, initials}
+use Rattle.language.specs.State.{Value as Meaning, Object as Thing, initial, initials}
 use Rattle.language.specs.Evaluation.{new-object, changed}
 use Rattle.language.specs.Store.{value-of-number, heap-of-numbers, capacity}
 use Rattle.objects.specs.declared.Value.the-variants.{Object}

@@ -13,7 +13,7 @@ use Rattle.language.specs.Lists.{nth, choice, bind-option, inj, Never, nth-set-
 use Rattle.language.specs.Lists.{nth-append, nth-last, nth-map}
 use Rattle.language.specs.Tree.{Field}
 use Rattle.language.specs.World.{World, place}
-use Rattle.language.specs.Evaluation.{Value as Meaning, Object as Thing}
+use Rattle.language.specs.State.{Value as Meaning, Object as Thing}
 use Rattle.language.specs.Store.{value-of-number, heap-of-numbers}
 use Rattle.objects.proofs.Nth.{lt-or, nth-ext, nth-getD, nth-none, map-set}
 

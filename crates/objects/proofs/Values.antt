@@ -16,7 +16,7 @@ use Rattle.objects.specs.declared.Value.the-variants.{Null, Object}
 use Rattle.objects.specs.Contracts.{Written, first-of}
 use lib.Seq.{getD-set-same, getD-set-other}
 use Rattle.language.specs.Results.{ok, stop, bind}
-use Rattle.language.specs.Evaluation.{Value as Meaning, null, truth, object, State, Stop, Out}
+use Rattle.language.specs.State.{Value as Meaning, null, truth, object, State, Stop, Out}
 use Rattle.language.specs.Store.{value-number, value-of-number}
 
 -- the value of a value's number

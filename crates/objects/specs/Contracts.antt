@@ -12,8 +12,10 @@ use Rattle.language.specs.Tree.{new, count, Class}
 use Rattle.language.specs.World.{Method}
 use Rattle.language.specs.Program.{world}
 use Rattle.language.specs.Encoded.{Encoded}
-use Rattle.language.specs.Evaluation.{Value as Meaning, object, State, Out, Limits, do-get, do-set, do-cast}
-use Rattle.language.specs.Evaluation.{do-change, do-new, do-call, Object as Thing, with-limits, call-at}
+use Rattle.language.specs.State.{Value as Meaning, object, State, Out}
+use Rattle.language.specs.Evaluation.{Limits, do-get, do-set, do-cast}
+use Rattle.language.specs.State.{Object as Thing}
+use Rattle.language.specs.Evaluation.{do-change, do-new, do-call, with-limits, call-at}
 use Rattle.language.specs.Store.{capacity}
 use mathlib.Core.Logic.{_⊎_}
 use Rattle.objects.specs.declared.Value.{Value}
@@ -22,6 +24,8 @@ use Rattle.objects.specs.declared.Target.the-variants.{Body, Fails}
 use Rattle.objects.specs.Values.{value, Small, SmallOutcome, told, bare, Outcome, Gave, Counts, outcome}
 use Rattle.objects.specs.Values.{Answer, answer}
 use Rattle.objects.specs.Holding.{Within, first-of-type, Holds, Sound, view}
+use Rattle.language.specs.Limits.{of-check, most-calls, numbers-an-object}
+use Rattle.language.specs.ClassTables.{class-width, count-place, rows-place}
 
 -- ---- numbers written one after the other
 
@@ -34,30 +38,32 @@ pub record Written (l l′ : List ℕ) (from n : ℕ) (f : ℕ → ℕ) : Type 0
 -- The number of the first value of field i of class c, which has so many.
 unfoldable pub first-of : List ℕ → List ℕ → ℕ → ℕ → ℕ → ℕ
 first-of R T c i count =
-    cond (leb count i) 0 (first-of-type (getD R (getD T (c * 576 + 520 + i) 0 * 4 + 1) 0))
+    cond (leb count i) 0 (first-of-type (getD R (getD T (c * class-width + rows-place + i) 0 * 4 + 1) 0))
 
 pub record First (R T : List ℕ) (c i count : ℕ) : Type 0 where
-  pub place : i < 17
-  pub table : c * 576 + 576 ≤ length T
-  pub row : i < count → getD T (c * 576 + 520 + i) 0 * 4 + 1 < length R
+  pub place : i < of-check .fields
+  pub table : c * class-width + class-width ≤ length T
+  pub row : i < count → getD T (c * class-width + rows-place + i) 0 * 4 + 1 < length R
 
 pub record Fill (R T s : List ℕ) (o c from : ℕ) : Type 0 where
-  pub table : c * 576 + 576 ≤ length T
-  pub room : o + 18 ≤ length s
-  pub start : from ≤ 17
-  pub few : getD T (c * 576 + 515) 0 ≤ 17
-  pub rows : (i : ℕ) → i < 17 → i < getD T (c * 576 + 515) 0 → getD T (c * 576 + 520 + i) 0 * 4 + 1 < length R
+  pub table : c * class-width + class-width ≤ length T
+  pub room : o + numbers-an-object ≤ length s
+  pub start : from ≤ of-check .fields
+  pub few : getD T (c * class-width + count-place) 0 ≤ of-check .fields
+  pub rows : (i : ℕ) → i < of-check .fields → i < getD T (c * class-width + count-place) 0
+      → getD T (c * class-width + rows-place + i) 0 * 4 + 1 < length R
 
 abbrev pub Filled : List ℕ → List ℕ → List ℕ → List ℕ → ℕ → ℕ → ℕ → Type 0
 Filled R T s s′ o c from =
-    Written s s′ (o + 1 + from) (17 - from) (λ i. first-of R T c (from + i) (getD T (c * 576 + 515) 0))
+    Written s s′ (o + 1 + from) (of-check .fields - from)
+    (λ i. first-of R T c (from + i) (getD T (c * class-width + count-place) 0))
 
 -- ---- acts on the store
 
 -- What becomes of the store.
 pub record Stored (P : List Class) (s s′ : List ℕ) (made made′ : ℕ) : Type 0 where
   pub long : length s′ ≡ length s
-  pub rest : drop (made′ * 18) s′ ≡ drop (made′ * 18) s
+  pub rest : drop (made′ * numbers-an-object) s′ ≡ drop (made′ * numbers-an-object) s
   pub more : made ≤ made′
   pub sound : Sound P made′ s′
 
@@ -152,15 +158,15 @@ pub record Found (R E s : List ℕ) (P : List Class) (v : Value) (m : ℕ) (n : 
     pub known : (γ : Frame Meaning) (steps : ℕ) → nth (view P s n γ steps .heap) j ≡ some o
     pub method : world P .method (o .class-of) m ≡ some M
     pub encoded : Encoded R E (M .body) b
-    pub within : (n : ℕ) → n ≤ 8 → Within (length P) n 128 (M .body)
-    pub allowed : calls < 64
+    pub within : (n : ℕ) → n ≤ of-check .parameters → Within (length P) n (of-check .nesting) (M .body)
+    pub allowed : calls < most-calls
 
 pub record NotFound (P : List Class) (s : List ℕ) (v : Value) (m : ℕ) (n : Counts) (calls : ℕ) (r : Outcome) :
     Type 0 where
   pub small : SmallOutcome r
   pub is : (L : Limits) (vs : List Meaning) (γ : Frame Meaning) (steps : ℕ)
       → told r (view P s n γ steps)
-      ≡ bare (do-call (world P) L (λ M s. call-at (world P) L (64 - calls) M s) m (value v) vs
+      ≡ bare (do-call (world P) L (λ M s. call-at (world P) L (most-calls - calls) M s) m (value v) vs
       (view P s n γ steps))
   pub fails : (w : Value) → r ≡ Gave w → ⊥
 

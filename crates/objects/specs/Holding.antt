@@ -8,17 +8,19 @@ use lib.Dec.{eqb}
 use lib.ListN.{length, getD}
 use Rattle.language.specs.Lists.{nth}
 use Rattle.language.specs.Frames.{Frame, frame}
-use Rattle.language.specs.Tree.{DeclaredType, bool, class, Expr, literal-true, literal-false, literal-null}
+use Rattle.language.specs.Tree.{DeclaredType, bool, class, Expr, literal}
 use Rattle.language.specs.Tree.{slot, is-null, get, cast, new, change, assign, set, call, choose, block}
 use Rattle.language.specs.Tree.{Exprs, nil, cons, count, Field, Class}
 use Rattle.language.specs.World.{Method}
 use Rattle.language.specs.Program.{world}
-use Rattle.language.specs.ClassTables.{ClassTables, method-row}
+use Rattle.language.specs.ClassTables.{ClassTables, method-row, class-width, rows-place}
 use Rattle.language.specs.Encoded.{Encoded}
-use Rattle.language.specs.Evaluation.{Value as Meaning, State, initial}
+use Rattle.language.specs.State.{Value as Meaning, State, initial}
 use Rattle.language.specs.Store.{value-number, heap-of-numbers}
 use Rattle.classes.specs.Subclasses.{is-below}
 use Rattle.objects.specs.Values.{Counts}
+use Rattle.language.specs.Limits.{of-check, bool-number, numbers-an-object, most-objects}
+use Rattle.language.specs.Rows.{code, B-block}
 
 -- A type whose number stands for it: bool, or a class up to k.
 abbrev pub Named : ℕ → DeclaredType → Type 0
@@ -36,9 +38,7 @@ frame-room = 264
 -- An expression within the limits: classes up to k, n slots beside `this` in scope, d nested nodes.
 unfoldable mutual
   pub Within : ℕ → ℕ → ℕ → Expr → Type 0
-  Within k n d literal-true = Unit {0}
-  Within k n d literal-false = Unit {0}
-  Within k n d literal-null = Unit {0}
+  Within k n d (literal l) = Unit {0}
   Within k n d (slot i) = Unit {0}
   Within k n d (is-null e) = (0 < d) × Within k n (d - 1) e
   Within k n d (get f e) = (0 < d) × (f < 256) × Within k n (d - 1) e
@@ -48,7 +48,8 @@ unfoldable mutual
   Within k n d (assign i e) = (0 < d) × Within k n (d - 1) e
   Within k n d (set f e e′) = (0 < d) × (f < 256) × Within k n (d - 1) e × Within k n (d - 1) e′
   Within k n d (call m e es) =
-      (0 < d) × (m < 256) × (count es ≤ 8) × Within k n (d - 1) e × WithinAll k n (d - 1) es
+      (0 < d) × (m < 256) × (count es ≤ of-check .parameters) × Within k n (d - 1) e
+      × WithinAll k n (d - 1) es
   Within k n d (choose a b c) = (0 < d) × Within k n (d - 1) a × Within k n (d - 1) b × Within k n (d - 1) c
   Within k n d (block ts es) =
       (0 < d) × (n + length ts + 1 ≤ frame-room) × NamedAll k ts × WithinAll k (n + length ts) (d - 1) es
@@ -62,10 +63,10 @@ pub record BodyAt (R E : List ℕ) (k r : ℕ) (M : Method) : Type 0 where
   pub body : ℕ
   pub later : r + 1 ≤ body
   pub short : body * 4 < length R
-  pub between : (i : ℕ) → r + 1 ≤ i → i < body → getD R (i * 4) 0 ≡ 66 → ⊥
-  pub block : getD R (body * 4) 0 ≡ 66
+  pub between : (i : ℕ) → r + 1 ≤ i → i < body → getD R (i * 4) 0 ≡ code B-block → ⊥
+  pub block : getD R (body * 4) 0 ≡ code B-block
   pub encoded : Encoded R E (M .body) body
-  pub within : (n : ℕ) → n ≤ 8 → Within k n 128 (M .body)
+  pub within : (n : ℕ) → n ≤ of-check .parameters → Within k n (of-check .nesting) (M .body)
 
 pub data Linked (R E : List ℕ) (k : ℕ) : Option ℕ → Option Method → Type 0 where
   absent : Linked R E k none none
@@ -73,19 +74,19 @@ pub data Linked (R E : List ℕ) (k : ℕ) : Option ℕ → Option Method → Ty
 
 -- The stored number of a type's first value, by the type's number.
 abbrev pub first-of-type : ℕ → ℕ
-first-of-type t = cond (eqb t 255) 1 0
+first-of-type t = cond (eqb t bool-number) 1 0
 
 -- The row of a field's F line, in the table: its type tells the first value.
 pub record FirstValueAt (R T : List ℕ) (k i : ℕ) (f : Field) : Type 0 where
-  pub within : getD T (k * 576 + 520 + i) 0 * 4 + 1 < length R
-  pub first : first-of-type (getD R (getD T (k * 576 + 520 + i) 0 * 4 + 1) 0)
+  pub within : getD T (k * class-width + rows-place + i) 0 * 4 + 1 < length R
+  pub first : first-of-type (getD R (getD T (k * class-width + rows-place + i) 0 * 4 + 1) 0)
       ≡ value-number (initial (f .type))
 
 -- Rows and tables hold a program whose classes are P.
 pub record Holds (R E T A : List ℕ) (P : List Class) : Type 0 where
   pub tables : ClassTables P T A
-  pub classes : length P ≤ 64
-  pub counts : (k : ℕ) → k ≤ length P → length (world P .fields k) ≤ 17
+  pub classes : length P ≤ of-check .classes
+  pub counts : (k : ℕ) → k ≤ length P → length (world P .fields k) ≤ of-check .fields
   pub roots : (k : ℕ) → k ≤ length P
       → (world P .root k ≤ length P)
       × (length (world P .fields (world P .root k)) ≤ length (world P .fields k))
@@ -96,11 +97,12 @@ pub record Holds (R E T A : List ℕ) (P : List Class) : Type 0 where
 
 -- A store holds so many objects: their classes are declared, and their unused numbers 0.
 pub record Sound (P : List Class) (made : ℕ) (s : List ℕ) : Type 0 where
-  pub stored : made * 18 ≤ length s
-  pub few : made ≤ 65535
-  pub declared : (j : ℕ) → j < made → getD s (j * 18) 0 ≤ length P
-  pub unused : (j i : ℕ) → j < made → length (world P .fields (getD s (j * 18) 0)) ≤ i → i < 17
-      → getD s (j * 18 + 1 + i) 0 ≡ 0
+  pub stored : made * numbers-an-object ≤ length s
+  pub few : made ≤ most-objects
+  pub declared : (j : ℕ) → j < made → getD s (j * numbers-an-object) 0 ≤ length P
+  pub unused : (j i : ℕ) → j < made → length (world P .fields (getD s (j * numbers-an-object) 0)) ≤ i
+      → i < of-check .fields
+      → getD s (j * numbers-an-object + 1 + i) 0 ≡ 0
 
 -- The state that a store holds, with slots that are given, after so many steps.
 abbrev pub view : List Class → List ℕ → Counts → Frame Meaning → ℕ → State

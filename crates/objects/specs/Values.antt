@@ -1,5 +1,5 @@
 -- What the numbers of the evaluator mean: a value, an outcome, the tally; and what an outcome with a state tells.
-use mathlib.Core.Bool.{true, false, cond}
+use mathlib.Core.Bool.{Bool, true, false, cond}
 use mathlib.Core.Option.{none}
 use mathlib.Core.List.{List, []}
 use Prim.Native.Nat.{ℕ, zero, suc, _-_, _≤_, _<_}
@@ -7,17 +7,24 @@ use lib.Dec.{eqb, leb}
 use lib.ListN.{getD}
 use Rattle.language.specs.Results.{ok, stop}
 use Rattle.language.specs.Frames.{frame}
-use Rattle.language.specs.Evaluation.{Value as Meaning, null, truth, object, State, Stop, raised, spent, deep}
-use Rattle.language.specs.Evaluation.{full, stuck, Out, with-frame}
+use Rattle.language.specs.State.{Value as Meaning, null, truth, object, State, Stop, raised, spent, deep}
+use Rattle.language.specs.State.{full, stuck, Out, with-frame}
 use Rattle.language.specs.Store.{value-number}
 use Rattle.objects.specs.declared.Value.{Value}
 use Rattle.objects.specs.declared.Value.the-variants.{Null, Truth, Object}
+use Rattle.language.specs.Limits.{spent-stop, deep-stop, full-stop}
 
 -- What a value of the evaluator means.
 abbrev pub value : Value → Meaning
 value Null = null
 value (Truth b) = truth b
 value (Object j) = object j
+
+-- Whether a value is null.
+abbrev pub is-null-value : Meaning → Bool
+is-null-value null = true
+is-null-value (truth b) = false
+is-null-value (object j) = false
 
 -- The value that a stored number stands for.
 abbrev pub decoded : ℕ → Value
@@ -69,12 +76,12 @@ Small v = value-number (value v) < 4294967296
 abbrev pub SmallOutcome : Outcome → Type 0
 SmallOutcome (Gave v) = Small v
 SmallOutcome (Raised n) = Unit {0}
-SmallOutcome (Stopped n) = (14 ≤ n) × (n ≤ 16)
+SmallOutcome (Stopped n) = (spent-stop ≤ n) × (n ≤ full-stop)
 SmallOutcome Stuck = Unit {0}
 
 -- The stop of a number.
 abbrev pub stop-of : ℕ → Stop
-stop-of n = cond (eqb n 14) spent (cond (eqb n 15) deep full)
+stop-of n = cond (eqb n spent-stop) spent (cond (eqb n deep-stop) deep full)
 
 -- What an outcome with a state means. Where a run ends without a value its slots are not looked at.
 abbrev pub bare-state : State → State

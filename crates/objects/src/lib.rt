@@ -2,12 +2,24 @@
 // An object is 18 numbers of the store, a value is one number. Fuel left, objects made and changes of class stand in a
 // tally of three numbers. An outcome is one number too, so that it passes in a register: below 2^32 that of a value, from
 // there on why there is none (specs/Values.antt, outcome).
+use language::BLOCK;
+use language::BOOL;
+use language::CLASS_WIDTH;
+use language::COUNT_PLACE;
+use language::DEEP_STOP;
+use language::FULL_STOP;
+use language::METHODS_FROM;
+use language::MOST_CALLS;
+use language::MOST_OBJECTS;
+use language::OBJECT_WIDTH;
+use language::ROOT_PLACE;
+use language::ROWS_PLACE;
+use language::SPENT_STOP;
 ghost use mathlib.Core.Path.{_≡_};
 ghost use mathlib.Core.Bool.{true};
 ghost use Prim.Native.Nat.{_+_, _*_, _<_};
 ghost use lib.ListN.{length, set};
-ghost use Rattle.language.specs.Evaluation.{is-null-value};
-ghost use Rattle.objects.specs.Values.{value, decoded, outcome, counts-in, answered};
+ghost use Rattle.objects.specs.Values.{value, is-null-value, decoded, outcome, counts-in, answered};
 ghost use Rattle.objects.specs.Contracts.{first-of, First, Fill, Filled};
 ghost use Rattle.objects.specs.Holding.{first-of-type};
 ghost use Rattle.objects.specs.Contracts.{PreNew, PostNew, PreChange, PostChange, PreObject, PostLoad};
@@ -17,15 +29,18 @@ ghost use Rattle.objects.specs.Contracts.{LetterFrom, SomeLetter, PreFin
 // Why there is no value: no rule goes on, which comes of no checked program; the exceptions; the stops.
 pub const STUCK: u64 = 4294967296;
 
-pub const NULL_POINTER: u64 = 4294967297;
+pub const NULL_POINTER: u64 = STUCK + 1;
 
-pub const BAD_CAST: u64 = 4294967298;
+pub const BAD_CAST: u64 = STUCK + 2;
 
-pub const SPENT: u64 = 4294967310;
+pub const SPENT: u64 = STUCK + SPENT_STOP as u64;
 
-pub const DEEP: u64 = 4294967311;
+pub const DEEP: u64 = STUCK + DEEP_STOP as u64;
 
-pub const FULL: u64 = 4294967312;
+pub const FULL: u64 = STUCK + FULL_STOP as u64;
+
+// How many numbers of an object are for fields; the first is its class.
+const FIELD_PLACES: usize = OBJECT_WIDTH - 1;
 
 // A value. Object(j) is the object that j others were made before.
 pub enum Value {
@@ -66,7 +81,7 @@ fn is_null(v: Value) -> bool
 pub fn first_value(t: u32) -> u32
     ensures { λ r. ⌜ r ≡ first-of-type t ⌝ }
 {
-    if t == 255 { 1 } else { 0 }
+    if t == BOOL { 1 } else { 0 }
 }
 
 // The stored number of the first value of field i of class c, which has so many fields; 0 past them.
@@ -77,8 +92,8 @@ fn first_number(rows: &[u32], tables: &[u16], c: usize, i: usize, count: usize) 
     if count <= i {
         return 0;
     }
-    let r = tables[c * 576 + 520 + i] as usize;
-    if rows[r * 4 + 1] == 255 { 1 } else { 0 }
+    let r = tables[c * CLASS_WIDTH + ROWS_PLACE + i] as usize;
+    if rows[r * 4 + 1] == BOOL { 1 } else { 0 }
 }
 
 // The fields of the object at o from place `from` on get the first values that class c gives them, unused ones 0.
@@ -87,13 +102,13 @@ fn fill(rows: &[u32], tables: &[u16], store: &mut [u32], o: usize, c: usize, fro
     ensures { λ r. ⌜ Filled (now (rows .entry)) (now (tables .entry)) (now (store .entry)) (now (store .exit))
         o c from ⌝ }
 {
-    let count = tables[c * 576 + 515] as usize;
+    let count = tables[c * CLASS_WIDTH + COUNT_PLACE] as usize;
     let mut i = from;
     while i < count {
         store[o + 1 + i] = first_number(rows, tables, c, i, count);
         i += 1;
     }
-    while i < 17 {
+    while i < FIELD_PLACES {
         store[o + 1 + i] = 0;
         i += 1;
     }
@@ -121,11 +136,11 @@ pub fn new_object(
         (now (store .exit)) c (counts-in (now (tally .entry))) (answered r (now (tally .exit))) ⌝ }
 {
     let made = tally[1];
-    if made >= 65535 {
+    if made >= MOST_OBJECTS {
         return FULL;
     }
-    let o = made as usize * 18;
-    if store.len() < o + 18 {
+    let o = made as usize * OBJECT_WIDTH;
+    if store.len() < o + OBJECT_WIDTH {
         return FULL;
     }
     fill(rows, tables, store, o, c as usize, 0);
@@ -134,8 +149,8 @@ pub fn new_object(
     made as u64 + 3
 }
 
-// R: an object changed to class d. The fields of d's root stay, the others have their first values; one that lacks
-// them is stuck.
+// R: an object changed to class d. The fields of its own class's root stay, the others have their first values; where d
+// lacks them it is stuck.
 pub fn change_class(
     rows: &[u32],
     tables: &[u16],
@@ -159,12 +174,12 @@ pub fn change_class(
     if j >= tally[1] {
         return STUCK;
     }
-    let root = tables[d as usize * 576 + 514] as usize;
-    let kept = tables[root * 576 + 515] as usize;
-    let o = j as usize * 18;
+    let o = j as usize * OBJECT_WIDTH;
     let old = store[o];
-    let own = tables[old as usize * 576 + 515] as usize;
-    if own < kept {
+    let root = tables[old as usize * CLASS_WIDTH + ROOT_PLACE] as usize;
+    let kept = tables[root * CLASS_WIDTH + COUNT_PLACE] as usize;
+    let count = tables[d as usize * CLASS_WIDTH + COUNT_PLACE] as usize;
+    if count < kept {
         return STUCK;
     }
     fill(rows, tables, store, o, d as usize, kept);
@@ -191,9 +206,9 @@ pub fn load(tables: &[u16], store: &[u32], tally: &[u32; 3], n: u32, f: usize) -
     if j >= tally[1] {
         return STUCK;
     }
-    let o = j as usize * 18;
+    let o = j as usize * OBJECT_WIDTH;
     let c = store[o] as usize;
-    let p = tables[c * 576 + f] as usize;
+    let p = tables[c * CLASS_WIDTH + f] as usize;
     if p == 0 {
         return STUCK;
     }
@@ -217,9 +232,9 @@ pub fn save(tables: &[u16], store: &mut [u32], tally: &[u32; 3], n: u32, w: u32,
     if j >= tally[1] {
         return STUCK;
     }
-    let o = j as usize * 18;
+    let o = j as usize * OBJECT_WIDTH;
     let c = store[o] as usize;
-    let p = tables[c * 576 + f] as usize;
+    let p = tables[c * CLASS_WIDTH + f] as usize;
     if p == 0 {
         return STUCK;
     }
@@ -243,7 +258,7 @@ pub fn cast_object(above: &[u64], store: &[u32], tally: &[u32; 3], n: u32, c: u3
     if j >= tally[1] {
         return STUCK;
     }
-    let k = store[j as usize * 18];
+    let k = store[j as usize * OBJECT_WIDTH];
     if classes::is_below(above, k, c) {
         return n as u64;
     }
@@ -286,13 +301,13 @@ pub fn find_body(
     if j >= tally[1] {
         return Target::Fails(STUCK);
     }
-    let c = store[j as usize * 18] as usize;
-    let r = tables[c * 576 + 256 + m] as usize;
+    let c = store[j as usize * OBJECT_WIDTH] as usize;
+    let r = tables[c * CLASS_WIDTH + METHODS_FROM + m] as usize;
     if r == 0 {
         return Target::Fails(STUCK);
     }
-    if calls >= 64 {
+    if calls >= MOST_CALLS {
         return Target::Fails(DEEP);
     }
-    Target::Body(find_letter(rows, r, 66))
+    Target::Body(find_letter(rows, r, BLOCK))
 }

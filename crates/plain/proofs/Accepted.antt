@@ -11,15 +11,15 @@ use lib.ListN.{length, length-append, length-map}
 use Rattle.language.specs.Limits.{of-check, of-translator}
 use Rattle.language.specs.Lists.{given, bind-option-inv, nth-lt, Never}
 use Rattle.language.specs.Frames.{at-slot}
-use Rattle.language.specs.Tree.{DeclaredType, ExprType, Expr, literal-true, literal-false, literal-null, slot}
+use Rattle.language.specs.Tree.{DeclaredType, ExprType, Expr, literal, slot}
 use Rattle.language.specs.Tree.{is-null, get, cast, new, change, assign, set, call, choose, block, Exprs, nil}
 use Rattle.language.specs.Tree.{cons, count, Declaration, Class}
 use Rattle.language.specs.World.{Method, World, field-type, is-declared}
 use Rattle.language.specs.Program.{class-at, fields-at, world}
-use Rattle.language.specs.Typing.{Slot, Environment, fresh-slot, method-environment, start-environment}
-use Rattle.language.specs.Rules.{HasType, HaveTypes, type-true, type-false, type-null, type-slot, type-new}
-use Rattle.language.specs.Rules.{type-cast, type-get, type-set, type-assign, type-is-null, type-call}
-use Rattle.language.specs.Rules.{type-choose, type-block, type-change, types-nil, types-cons}
+use Rattle.language.specs.Environment.{Slot, Environment, fresh-slot, method-environment, start-environment}
+use Rattle.theory.specs.ComputedRules.{HasType, HaveTypes, type-literal, type-slot, type-new}
+use Rattle.theory.specs.ComputedRules.{type-cast, type-get, type-set, type-assign, type-is-null, type-call}
+use Rattle.theory.specs.ComputedRules.{type-choose, type-block, type-change, types-nil, types-cons}
 use Rattle.language.specs.WellFormed.{Each, each-nil, each-cons, TypeInForm, FieldInForm, MethodInForm}
 use Rattle.language.specs.WellFormed.{ClassInForm, NodeInForm, NodesInForm, form-is-null, form-get, form-cast}
 use Rattle.language.specs.WellFormed.{form-assign, form-set, form-call, form-choose, form-block, form-cons}
@@ -27,6 +27,8 @@ use Rattle.language.specs.WellFormed.{BodyInForm, form-body, MethodsWell, metho
 use Rattle.language.specs.WellFormed.{ClassesWell, classes-nil, classes-cons}
 use Rattle.language.specs.Layout.{EachMethod, EachClass, methods-from-row}
 use Rattle.theory.specs.Equal.{complete, completes, all-fit-length}
+use Rattle.theory.specs.Superclasses.{Hierarchy}
+use Rattle.theory.specs.RulesAgree.{computed}
 use Rattle.theory.specs.Lookups.{each-at, each-append, method-found}
 use Rattle.theory.specs.MoreLookups.{MoreLaws, each-declared}
 use Rattle.theory.specs.PlainForm.{slots-same}
@@ -100,9 +102,7 @@ module _ (P : List Class) (form : Each (ClassInForm of-check) P) (laws : MoreLaw
     pub ready : (e : Expr) {γ γ′ : Environment} {t : ExprType} {φ : ℕ} → HasType (world P) γ e t γ′ φ
         → (d v : ℕ) → NodeInForm of-translator d v e
         → 1 + length (γ .slots) ≡ v → Ready P e γ v
-    ready literal-true type-true d v i z = tt
-    ready literal-false type-false d v i z = tt
-    ready literal-null type-null d v i z = tt
+    ready (literal l) type-literal d v i z = tt
     ready (slot k) {γ} (type-slot {s} h) d v i z = slot-below γ k v s z h
     ready (is-null e) (type-is-null h n) (suc d) v (form-is-null i) z = ready e h d v i z
     ready (get f e) (type-get h n) (suc d) v (form-get p i) z = ready e h d v i z
@@ -163,27 +163,28 @@ module _ (P : List Class) (form : Each (ClassInForm of-check) P) (laws : MoreLaw
       → 1 + length (γ .slots) ≡ v → Ready P e γ v
   ready-body v h (form-body {ts} {es} i) z = ready (block ts es) h _ v i z
 
-  each-ready : (k super : ℕ) {before ms : List Declaration} → MethodsWell P k super before ms
+  each-ready : (𝓗 : Hierarchy P) (k super : ℕ) {before ms : List Declaration}
+      → MethodsWell P k super before ms
       → Each (MethodInForm of-translator) ms → (r : ℕ)
       → EachMethod (λ k m r. Ready P (m .body) (method-environment k (m .parameters))
       (1 + length (m .parameters))) ms k r
   unfolding EachMethod
-  each-ready k super methods-nil each-nil r = tt
-  each-ready k super (methods-cons {m} w ws) (each-cons i is) r = (
-    ready-body (1 + length (m .parameters)) (w .body) (i .body)
+  each-ready 𝓗 k super methods-nil each-nil r = tt
+  each-ready 𝓗 k super (methods-cons {m} w ws) (each-cons i is) r = (
+    ready-body (1 + length (m .parameters)) (computed P 𝓗 (m .body) (w .body)) (i .body)
         (omega (arith, length-map (m .parameters) fresh-slot)),
-    each-ready k super ws is _,
+    each-ready 𝓗 k super ws is _,
   )
 
-  pub classes-ready : {k : ℕ} {cs : List Class} → ClassesWell P k cs → Each (ClassInForm of-translator) cs
-      → (r : ℕ)
+  pub classes-ready : (𝓗 : Hierarchy P) {k : ℕ} {cs : List Class} → ClassesWell P k cs
+      → Each (ClassInForm of-translator) cs → (r : ℕ)
       → EachClass (λ k c r. EachMethod (λ k m r. Ready P (m .body) (method-environment k (m .parameters))
       (1 + length (m .parameters)))
       (c .methods) k (methods-from-row r c)) cs k r
   unfolding EachClass
-  classes-ready classes-nil each-nil r = tt
-  classes-ready {k} (classes-cons {c} w ws) (each-cons i is) r =
-      (each-ready k (c .super) (w .methods) (i .methods) _, classes-ready ws is _)
+  classes-ready 𝓗 classes-nil each-nil r = tt
+  classes-ready 𝓗 {k} (classes-cons {c} w ws) (each-cons i is) r =
+      (each-ready 𝓗 k (c .super) (w .methods) (i .methods) _, classes-ready 𝓗 ws is _)
 
   pub start-ready : {e : Expr} {γ : Environment} {t : ExprType} {φ : ℕ}
       → HasType (world P) start-environment e t γ φ → BodyInForm of-translator 1 e

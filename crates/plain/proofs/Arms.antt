@@ -8,10 +8,11 @@ use native.Mathlib.Omega.{arith}
 use lib.ListN.{length, getD, length-append}
 use Rattle.language.specs.Rows.{Letter, code, T-true, L-false, N-null, I-slot, Z-is-null, G-get, K-cast}
 use Rattle.language.specs.Rows.{W-new, R-change, A-assign, U-set, Q-call, J-choose, B-block}
-use Rattle.language.specs.Tree.{Expr, literal-true, literal-false, literal-null, slot, is-null, get, cast}
+use Rattle.language.specs.Tree.{Expr, literal, literal-true, literal-false, literal-null, slot, is-null, get}
+use Rattle.language.specs.Tree.{cast}
 use Rattle.language.specs.Tree.{new, change, assign, set, call, choose, block, size, Field, Class}
 use Rattle.language.specs.Program.{world}
-use Rattle.language.specs.Typing.{Environment}
+use Rattle.language.specs.Environment.{Environment}
 use Rattle.language.specs.Translation.{Shape, plain-slot, translate}
 use Rattle.language.proofs.Nodes.{letter-of, EachTree, head, by-row}
 use Rattle.plain.specs.Numbers.{most-numbers, node-numbers, how-many, rows-taken, slot-lines, new-lines}
@@ -31,9 +32,9 @@ use Rattle.plain.proofs.Lines.{copies-length}
 -- none of the other letters: a block
 rest-block : (e : Expr) → (n : ℕ) → n ≡ code (letter-of e) → n ≢ 84 → n ≢ 76 → n ≢ 78 → n ≢ 73
     → n ≢ 90 → n ≢ 71 → n ≢ 75 → n ≢ 87 → n ≢ 82 → n ≢ 65 → n ≢ 85 → n ≢ 81 → n ≢ 74 → n ≡ 66
-rest-block literal-true n z h0 h1 h2 h3 h4 h5 h6 h7 h8 h9 h10 h11 h12 = absurd (h0 z)
-rest-block literal-false n z h0 h1 h2 h3 h4 h5 h6 h7 h8 h9 h10 h11 h12 = absurd (h1 z)
-rest-block literal-null n z h0 h1 h2 h3 h4 h5 h6 h7 h8 h9 h10 h11 h12 = absurd (h2 z)
+rest-block (literal literal-true) n z h0 h1 h2 h3 h4 h5 h6 h7 h8 h9 h10 h11 h12 = absurd (h0 z)
+rest-block (literal literal-false) n z h0 h1 h2 h3 h4 h5 h6 h7 h8 h9 h10 h11 h12 = absurd (h1 z)
+rest-block (literal literal-null) n z h0 h1 h2 h3 h4 h5 h6 h7 h8 h9 h10 h11 h12 = absurd (h2 z)
 rest-block (slot k) n z h0 h1 h2 h3 h4 h5 h6 h7 h8 h9 h10 h11 h12 = absurd (h3 z)
 rest-block (is-null e) n z h0 h1 h2 h3 h4 h5 h6 h7 h8 h9 h10 h11 h12 = absurd (h4 z)
 rest-block (get f e) n z h0 h1 h2 h3 h4 h5 h6 h7 h8 h9 h10 h11 h12 = absurd (h5 z)

@@ -10,7 +10,7 @@ use Rattle.language.specs.Rows.{V-local}
 use Rattle.language.specs.Tree.{DeclaredType, block, Exprs, count, size, Class}
 use Rattle.language.specs.Program.{world}
 use Rattle.language.specs.Encoded.{TypesAt, Encoded}
-use Rattle.language.specs.Typing.{Environment, fresh-slot}
+use Rattle.language.specs.Environment.{Environment, fresh-slot}
 use Rattle.language.specs.Translation.{Shape, variables}
 use Rattle.language.specs.LookupClasses.{LooksUp}
 use Rattle.plain.specs.Numbers.{most-numbers, nodes-numbers, type-lines, ProperAll, nodes-of}

@@ -5,7 +5,7 @@ use Prim.Native.Nat.{ℕ, zero, suc, _+_, _≤_, _<_}
 use native.Mathlib.Omega.{arith}
 use lib.ListN.{length, getD, replicate}
 use Rattle.language.specs.Tree.{DeclaredType, Expr, Class}
-use Rattle.language.specs.Typing.{Environment}
+use Rattle.language.specs.Environment.{Environment}
 use Rattle.language.specs.Translation.{plain-slot, variables}
 use Rattle.theory.specs.PlainForm.{variable-count}
 use Rattle.plain.specs.Tasks.{Setting, NodeTask, BodyTask}

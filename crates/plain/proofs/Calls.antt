@@ -11,7 +11,8 @@ use Rattle.language.specs.Tree.{DeclaredType, Expr, call, Exprs, count, size, C
 use Rattle.language.specs.Effects.{apply-class}
 use Rattle.language.specs.Program.{world}
 use Rattle.language.specs.Encoded.{TypesAt, Encoded}
-use Rattle.language.specs.Typing.{Environment, type-of, type-all}
+use Rattle.language.specs.Environment.{Environment}
+use Rattle.language.specs.Typing.{type-of, type-all}
 use Rattle.language.specs.Translation.{Shape, typed-or, typed-all-or, class-or, parameters-or, temporaries}
 use Rattle.language.specs.LookupClasses.{LooksUp}
 use Rattle.theory.specs.PlainForm.{variable-count, count-temporaries}

@@ -12,7 +12,7 @@ use Rattle.language.specs.Tree.{heading-lines, method-lines, methods-lines}
 use Rattle.language.specs.World.{World}
 use Rattle.language.specs.Translation.{plain-type, plain-method, plain-body, variables}
 use Rattle.language.specs.Program.{world}
-use Rattle.language.specs.Typing.{method-environment}
+use Rattle.language.specs.Environment.{method-environment}
 use Rattle.language.specs.Layout.{EachMethod, body-row}
 use Rattle.plain.specs.Numbers.{most-numbers, plain-number, type-lines, Proper, ProperAll, lines-of}
 use Rattle.plain.specs.Numbers.{tree-numbers, method-numbers, node-numbers, methods-numbers}

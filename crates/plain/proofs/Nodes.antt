@@ -9,7 +9,8 @@ use native.Mathlib.Numerals.{add-one}
 use lib.ListN.{length, length-append}
 use Rattle.language.specs.Tree.{Expr, count, size, Class, Exprs, nil, cons, sizes}
 use Rattle.language.specs.Program.{world}
-use Rattle.language.specs.Typing.{Environment, type-of}
+use Rattle.language.specs.Environment.{Environment}
+use Rattle.language.specs.Typing.{type-of}
 use Rattle.language.specs.Translation.{Shape, typed-or}
 use Rattle.language.specs.World.{World}
 use Rattle.language.specs.Encoded.{EncodedAll}

@@ -6,7 +6,8 @@ use Prim.Native.Nat.{ℕ, suc, _+_}
 use native.Mathlib.Omega.{arith}
 use lib.ListN.{length}
 use Rattle.language.specs.Rows.{Record, written, V-local, numbers-of}
-use Rattle.language.specs.Tree.{DeclaredType, type-number, Expr, literal-true, literal-false, literal-null}
+use Rattle.language.specs.Tree.{DeclaredType, type-number, Expr, literal, literal-true, literal-false}
+use Rattle.language.specs.Tree.{literal-null}
 use Rattle.language.specs.Tree.{slot, is-null, get, cast, new, assign, set, call, choose, block, Exprs, nil}
 use Rattle.language.specs.Tree.{cons, count, Field, flatten, flattens}
 use Rattle.language.specs.Translation.{plain-type, copies, reads}
@@ -18,15 +19,15 @@ unfolding lines-of numbers-of
 lines-append [] b = refl
 lines-append (r ∷ a) b = rw (lines-append a b)
 
-pub n-true : tree-numbers (literal-true) ≡ 84 ∷ 0 ∷ 0 ∷ 0 ∷ []
+pub n-true : tree-numbers ((literal literal-true)) ≡ 84 ∷ 0 ∷ 0 ∷ 0 ∷ []
 unfolding tree-numbers lines-of numbers-of flatten
 n-true = refl
 
-pub n-false : tree-numbers (literal-false) ≡ 76 ∷ 0 ∷ 0 ∷ 0 ∷ []
+pub n-false : tree-numbers ((literal literal-false)) ≡ 76 ∷ 0 ∷ 0 ∷ 0 ∷ []
 unfolding tree-numbers lines-of numbers-of flatten
 n-false = refl
 
-pub n-null : tree-numbers (literal-null) ≡ 78 ∷ 0 ∷ 0 ∷ 0 ∷ []
+pub n-null : tree-numbers ((literal literal-null)) ≡ 78 ∷ 0 ∷ 0 ∷ 0 ∷ []
 unfolding tree-numbers lines-of numbers-of flatten
 n-null = refl
 

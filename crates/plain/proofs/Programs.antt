@@ -13,7 +13,7 @@ use Rattle.language.specs.Tree.{DeclaredType, bool, class, type-number, Field, 
 use Rattle.language.specs.Tree.{classes-lines, flatten, flatten-methods, flatten-classes, flatten-program}
 use Rattle.language.specs.World.{World}
 use Rattle.language.specs.Program.{world}
-use Rattle.language.specs.Typing.{method-environment, start-environment}
+use Rattle.language.specs.Environment.{method-environment, start-environment}
 use Rattle.language.specs.LookupClasses.{LooksUp}
 use Rattle.language.specs.WellFormed.{TypeInForm, Each, each-nil, each-cons, FieldInForm, MethodInForm}
 use Rattle.language.specs.WellFormed.{ClassInForm, ProgramInForm}

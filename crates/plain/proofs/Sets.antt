@@ -13,7 +13,8 @@ use Rattle.language.specs.Effects.{apply-class}
 use Rattle.language.specs.Program.{world}
 use Rattle.language.specs.ClassTables.{stored-place}
 use Rattle.language.specs.Encoded.{Encoded}
-use Rattle.language.specs.Typing.{Environment, type-of}
+use Rattle.language.specs.Environment.{Environment}
+use Rattle.language.specs.Typing.{type-of}
 use Rattle.language.specs.Translation.{Shape, plain-type, typed-or, class-or, type-or}
 use Rattle.language.specs.LookupClasses.{LooksUp}
 use Rattle.language.proofs.Lines.{line-at}

@@ -8,19 +8,22 @@ use Rattle.language.specs.Rows.{Letter, C-class, F-field, M-method, P-parameter
 use Rattle.language.specs.Rows.{V-local, T-true, L-false, N-null, I-slot, Z-is-null, G-get, K-cast, W-new}
 use Rattle.language.specs.Rows.{R-change, A-assign, U-set, Q-call, J-choose, code, Record, written, row-of}
 use Rattle.language.specs.Rows.{numbers-of}
-use Rattle.language.specs.Tree.{DeclaredType, type-number, Expr, literal-true, literal-false, literal-null}
+use Rattle.language.specs.Tree.{DeclaredType, type-number, Expr, literal, literal-true, literal-false}
+use Rattle.language.specs.Tree.{literal-null}
 use Rattle.language.specs.Tree.{slot, is-null, get, cast, new, change, assign, set, call, choose, block}
 use Rattle.language.specs.Tree.{Exprs, nil, cons, Field, Declaration, Class, Program, flatten, flattens}
 use Rattle.language.specs.Tree.{flatten-methods, flatten-classes, flatten-program}
 use Rattle.language.specs.WellFormed.{Each, each-nil, each-cons, TypeInForm, FieldInForm, MethodInForm}
-use Rattle.language.specs.WellFormed.{ClassInForm, ProgramInForm, NodeInForm, NodesInForm, form-true}
-use Rattle.language.specs.WellFormed.{form-false, form-null, form-slot, form-is-null, form-get, form-cast}
+use Rattle.language.specs.WellFormed.{ClassInForm, ProgramInForm, NodeInForm, NodesInForm, form-literal}
+use Rattle.language.specs.WellFormed.{form-slot, form-is-null, form-get, form-cast}
 use Rattle.language.specs.WellFormed.{form-new, form-change, form-assign, form-set, form-call, form-choose}
 use Rattle.language.specs.WellFormed.{form-block, form-nil, form-cons, BodyInForm, form-body}
 use Rattle.language.specs.Translation.{plain-program}
 use Rattle.language.specs.ClassTables.{ClassTables}
 use Rattle.language.specs.Layout.{ProgramAt, LooksUpProgram}
 use Rattle.theory.specs.Lookups.{each-append}
+use Rattle.theory.specs.RulesAgree.{computed}
+use Rattle.theory.specs.Lookups.{hierarchy}
 use Rattle.theory.specs.MoreLookups.{well-formed-more}
 use Rattle.theory.specs.Accepts.{RowsOf, numbers-count}
 use Rattle.theory.specs.Translatable.{TranslatableRows, taken-laws}
@@ -56,9 +59,9 @@ mutual
   unfolding flatten
 
   node-small : (e : Expr) {d n : ℕ} → NodeInForm of-check d n e → Each SmallRecord (flatten e)
-  node-small literal-true form-true = each-cons (none nought) each-nil
-  node-small literal-false form-false = each-cons (none nought) each-nil
-  node-small literal-null form-null = each-cons (none nought) each-nil
+  node-small (literal literal-true) form-literal = each-cons (none nought) each-nil
+  node-small (literal literal-false) form-literal = each-cons (none nought) each-nil
+  node-small (literal literal-null) form-literal = each-cons (none nought) each-nil
   node-small (slot k) (form-slot p) = each-cons (none p) each-nil
   node-small (is-null e) (form-is-null i) = each-cons (none nought) (node-small e i)
   node-small (get f e) (form-get p i) = each-cons (none (named p)) (node-small e i)
@@ -166,7 +169,8 @@ pub program-task : (R E T A C : List ℕ) (p : Program) → TranslatableRows R p
     → ClassTables (p .classes) T A → LooksUpProgram C p
     → length R ≤ length C * 4 → ProgramTask p E R T C
 program-task R E T A C p t rows tables looks beside =
-    let laws = well-formed-more p (t .accepted .well) in let form = t .accepted .in-form .classes in record {
+    let laws = well-formed-more p (t .accepted .well) in let form = t .accepted .in-form .classes in
+    let 𝓗 = hierarchy (p .classes) (t .accepted .well .classes) in record {
       rows = rows;
       lookups = looks;
       lent = record {
@@ -175,7 +179,8 @@ program-task R E T A C p t rows tables looks beside =
         beside = beside;
         short = rows .short;
       };
-      ready = classes-ready (p .classes) form laws (t .accepted .well .classes) (t .in-form .classes) 0;
-      start = start-ready (p .classes) form laws (t .accepted .well .start) (t .in-form .start);
+      ready = classes-ready (p .classes) form laws 𝓗 (t .accepted .well .classes) (t .in-form .classes) 0;
+      start = start-ready (p .classes) form laws
+          (computed (p .classes) 𝓗 (p .start) (t .accepted .well .start)) (t .in-form .start);
       fits = plain-fits R p t;
     }

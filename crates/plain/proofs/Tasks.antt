@@ -9,7 +9,8 @@ use lib.ListN.{length, getD, length-append}
 use Rattle.language.specs.Tree.{Expr, slot, is-null, get, cast, new, change, assign, choose, size, Class}
 use Rattle.language.specs.Program.{world}
 use Rattle.language.specs.Encoded.{Encoded}
-use Rattle.language.specs.Typing.{Environment, type-of}
+use Rattle.language.specs.Environment.{Environment}
+use Rattle.language.specs.Typing.{type-of}
 use Rattle.language.specs.Translation.{Shape, typed-or, class-or}
 use Rattle.language.specs.LookupClasses.{LooksUp}
 use Rattle.language.proofs.Nodes.{head}

@@ -12,7 +12,8 @@ use Rattle.language.specs.Tree.{cast, new, change, assign, set, call, choose, b
 use Rattle.language.specs.World.{World, field-type}
 use Rattle.language.specs.Effects.{apply-class}
 use Rattle.language.specs.Frames.{opened}
-use Rattle.language.specs.Typing.{Environment, fresh-slot, type-of, type-all}
+use Rattle.language.specs.Environment.{Environment, fresh-slot}
+use Rattle.language.specs.Typing.{type-of, type-all}
 use Rattle.language.specs.Translation.{Shape, position, plain-slot, read-slot, plain-type, plain-class}
 use Rattle.language.specs.Translation.{plain-change, translate, translate-all, translate-arguments, _⊕_}
 use Rattle.language.specs.Translation.{copies, renew, reads, variables, typed-or, typed-all-or, class-or}
@@ -24,6 +25,7 @@ use Rattle.plain.specs.Numbers.{change-lines, type-lines, read-lines, Pr
 use Rattle.plain.proofs.Numbers.{n-null, n-slot, n-is-null, n-get, n-cast, n-new, n-assign, n-set}
 use Rattle.plain.proofs.Numbers.{n-call, n-choose, n-block, n-nil, n-cons, n-locals-none, n-locals}
 use Rattle.plain.proofs.Numbers.{n-types, two, n-one, n-copies, n-reads}
+use Rattle.language.specs.Tree.{literal}
 
 module _ (W : World) (γ : Environment) (sh : Shape) where
   pub t-slot : (k : ℕ) → node-numbers W (slot k) γ sh ≡ slot-lines (plain-slot sh k)
@@ -127,9 +129,9 @@ module _ (W : World) (γ : Environment) (sh : Shape) where
       let n = suc (length sh) in
       let arm = is-null (assign n (slot (suc (position sh k)))) in
       n-block _ _ ∙ rw (
-        n-cons (choose arm literal-null (renew W n d)) (cons (slot n) nil),
+        n-cons (choose arm (literal literal-null) (renew W n d)) (cons (slot n) nil),
         n-choose arm
-            literal-null (renew W n d),
+            (literal literal-null) (renew W n d),
         n-renew n d,
         n-one (slot n),
         n-slot n,

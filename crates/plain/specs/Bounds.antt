@@ -6,7 +6,7 @@ use mathlib.Core.Bool.{cond}
 use mathlib.Core.List.{List}
 use lib.Dec.{ltb}
 use lib.ListN.{length, getD}
-use Rattle.language.specs.Limits.{of-check, of-translator, limit-refusal, reserved-refusal}
+use Rattle.language.specs.Limits.{of-check, of-translator, limit-refusal, reserved-refusal, numbers-a-row}
 use Rattle.language.specs.Results.{accept, refuse, Pass, passed}
 use Rattle.language.specs.Rows.{S-start}
 use Rattle.language.specs.Tree.{Field, Declaration, Class, Program, methods-lines, classes-lines}
@@ -19,7 +19,7 @@ use Rattle.language.specs.declared.Filled.{Filled}
 use Rattle.language.specs.declared.Filled.the-variants as filled
 use Rattle.language.specs.declared.Filled.the-variants.{Done}
 use Rattle.language.specs.Encoded.{RowAt}
-use Rattle.language.specs.ClassTables.{ClassTables}
+use Rattle.language.specs.ClassTables.{ClassTables, class-width, count-place}
 use Rattle.language.specs.Layout.{ClassEnd, EachMethod, EachClass, FieldsAt, MethodAt, ClassAt, ProgramAt}
 use Rattle.language.specs.Layout.{LooksUpProgram}
 use Rattle.form.specs.declared.Formed.{Formed}
@@ -37,12 +37,12 @@ pass-of n (suc l) = refuse n (suc l)
 pub record MethodsStand (R E : List ℕ) (k : ℕ) (ms : List Declaration) (at : ℕ) : Type 0 where
   pub methods : EachMethod (λ k m r. MethodAt R E m r) ms k at
   pub after : ClassEnd R (at + methods-lines ms)
-  pub short : length R ≤ 240000
+  pub short : length R ≤ numbers-a-row * of-check .rows
 
 pub record ClassesStand (R E : List ℕ) (k : ℕ) (cs : List Class) (at : ℕ) : Type 0 where
   pub classes : EachClass (ClassAt R E) cs k at
   pub start : RowAt R (at + classes-lines cs) S-start 0 0
-  pub short : length R ≤ 240000
+  pub short : length R ≤ numbers-a-row * of-check .rows
 
 pub record SomeMethodsStand (R E : List ℕ) (at : ℕ) : Type 0 where
   pub k : ℕ
@@ -63,8 +63,8 @@ pub record ClassesCounted (P : List Class) (R E T : List ℕ) (k : ℕ) (cs : Li
   pub stand : ClassesStand R E k cs at
   pub accepted : check-classes of-check P k (at + 1) cs ≡ passed
   pub numbered : k + length cs ≤ length P + 1
-  pub long : (length P + 1) * 576 ≤ length T
-  pub counts : (j : ℕ) → j ≤ length P → getD T (j * 576 + 515) 0 ≡ length (world P .fields j)
+  pub long : (length P + 1) * class-width ≤ length T
+  pub counts : (j : ℕ) → j ≤ length P → getD T (j * class-width + count-place) 0 ≡ length (world P .fields j)
 
 pub record SomeCounted (R E T : List ℕ) (at : ℕ) : Type 0 where
   pub P : List Class

@@ -11,7 +11,7 @@ use Rattle.language.specs.Tree.{DeclaredType, Expr, cast, set, call, block, Exp
 use Rattle.language.specs.Tree.{Class, Program, methods-lines, class-lines, classes-lines}
 use Rattle.language.specs.Program.{world}
 use Rattle.language.specs.Encoded.{TypesAt}
-use Rattle.language.specs.Typing.{Environment}
+use Rattle.language.specs.Environment.{Environment}
 use Rattle.language.specs.Translation.{Shape, variables}
 use Rattle.language.specs.Layout.{FieldsAt}
 use Rattle.plain.specs.Numbers.{most-numbers, node-numbers, type-lines, field-lines, copy-lines}
@@ -20,6 +20,7 @@ use Rattle.plain.specs.Numbers.{nodes-numbers, arguments-numbers, method
 use Rattle.plain.specs.Numbers.{class-numbers, classes-numbers, program-numbers}
 use Rattle.plain.specs.Tasks.{FieldRows, Members, NodeTask, NodesTask, BodyTask, MethodTask}
 use Rattle.plain.specs.Tasks.{MethodsTask, ClassTask, ClassesTask, ProgramTask}
+use Rattle.language.specs.Limits.{of-translator}
 
 -- Numbers written from a place on.
 pub record Written (xs O O′ : List ℕ) (place place′ : ℕ) : Type 0 where
@@ -79,7 +80,7 @@ pub record ChangeWritten (R T : List ℕ) (s n d : ℕ) (O O′ : List ℕ) (pla
 pub record Extended (S S′ : List ℕ) (vars next count : ℕ) : Type 0 where
   pub kept : (k : ℕ) → k < vars → getD S′ k 0 ≡ getD S k 0
   pub added : (i : ℕ) → i < count → getD S′ (vars + i) 0 ≡ next + i
-  pub wide : length S′ ≡ 32
+  pub wide : length S′ ≡ of-translator .slots
 
 -- There is a task for the node at a row; for its letter; for nodes from a row on.
 pub record SomeNode (R T C S : List ℕ) (at vars next place : ℕ) : Type 0 where

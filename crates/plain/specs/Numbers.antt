@@ -6,13 +6,16 @@ use mathlib.Core.Bool.{cond}
 use mathlib.Core.List.{List, [], _∷_, _++_, map}
 use lib.Dec.{eqb}
 use lib.ListN.{length}
-use Rattle.language.specs.Limits.{bool-number, identity-class}
-use Rattle.language.specs.Rows.{Record, written, row-of, numbers-of, V-local}
+use Rattle.language.specs.Limits.{bool-number, identity-class, imp-field, id-field}
+use Rattle.language.specs.Rows.{Record, written, row-of, numbers-of, V-local, code, C-class, F-field, G-get}
 use Rattle.language.specs.Tree.{DeclaredType, type-number, Expr, Exprs, nil, cons, size, Field, Declaration}
 use Rattle.language.specs.Tree.{Class, Program, flatten, flattens, flatten-program}
 use Rattle.language.specs.World.{World}
-use Rattle.language.specs.Typing.{Environment, method-environment, type-of}
+use Rattle.language.specs.Environment.{Environment, method-environment}
+use Rattle.language.specs.Typing.{type-of}
 use Rattle.language.specs.Translation.{Shape, typed-or, plain-type, variables, translate, plain-program}
+use Rattle.language.specs.Rows.{M-method, P-parameter, B-block, N-null, I-slot, Z-is-null, K-cast, W-new}
+use Rattle.language.specs.Rows.{A-assign, U-set, J-choose}
 
 -- More numbers than any translation has.
 abbrev pub most-numbers : ℕ
@@ -56,91 +59,92 @@ type-lines l (t ∷ ts) = l ∷ plain-number (type-number t) ∷ 0 ∷ 0 ∷ typ
 -- F lines of plain types.
 unfoldable pub field-lines : List Field → List ℕ
 field-lines [] = []
-field-lines (f ∷ fs) = 70 ∷ plain-number (type-number (f .type)) ∷ f .name ∷ 0 ∷ field-lines fs
+field-lines (f ∷ fs) = code F-field ∷ plain-number (type-number (f .type)) ∷ f .name ∷ 0 ∷ field-lines fs
 
 -- Slots read, from one on.
 unfoldable pub read-lines : ℕ → ℕ → List ℕ
 read-lines s zero = []
-read-lines s (suc k) = 73 ∷ s ∷ 0 ∷ 0 ∷ read-lines (suc s) k
+read-lines s (suc k) = code I-slot ∷ s ∷ 0 ∷ 0 ∷ read-lines (suc s) k
 
 -- Fields copied to the object in a slot from the one in the next.
 unfoldable pub copy-lines : ℕ → List Field → List ℕ
 copy-lines o [] = []
 copy-lines o (f ∷ fs) =
-    85 ∷ f .name ∷ 0 ∷ 0
-    ∷ 73 ∷ o ∷ 0 ∷ 0
-    ∷ 71 ∷ f .name ∷ 0 ∷ 0
-    ∷ 73 ∷ suc o ∷ 0 ∷ 0
+    code U-set ∷ f .name ∷ 0 ∷ 0
+    ∷ code I-slot ∷ o ∷ 0 ∷ 0
+    ∷ code G-get ∷ f .name ∷ 0 ∷ 0
+    ∷ code I-slot ∷ suc o ∷ 0 ∷ 0
     ∷ copy-lines o fs
 
 -- Lines of a slot read; of W of a class c, with temporaries from n on; of R's inner block, for a class d with
 -- root r and k fields; and of R of a slot.
 abbrev pub slot-lines : ℕ → List ℕ
-slot-lines zero = 71 ∷ 254 ∷ 0 ∷ 0 ∷ 73 ∷ 0 ∷ 0 ∷ 0 ∷ []
-slot-lines (suc s) = 73 ∷ suc s ∷ 0 ∷ 0 ∷ []
+slot-lines zero = code G-get ∷ id-field ∷ 0 ∷ 0 ∷ code I-slot ∷ 0 ∷ 0 ∷ 0 ∷ []
+slot-lines (suc s) = code I-slot ∷ suc s ∷ 0 ∷ 0 ∷ []
 
 abbrev pub new-lines : ℕ → ℕ → List ℕ
 new-lines n c =
-    66 ∷ 2 ∷ 5 ∷ 0
-    ∷ 86 ∷ 1 ∷ 0 ∷ 0
-    ∷ 86 ∷ (c + 2) ∷ 0 ∷ 0
-    ∷ 65 ∷ n ∷ 0 ∷ 0
-    ∷ 87 ∷ 1 ∷ 0 ∷ 0
-    ∷ 65 ∷ (n + 1) ∷ 0 ∷ 0
-    ∷ 87 ∷ (c + 2) ∷ 0 ∷ 0
-    ∷ 85 ∷ 254 ∷ 0 ∷ 0
-    ∷ 73 ∷ (n + 1) ∷ 0 ∷ 0
-    ∷ 73 ∷ n ∷ 0 ∷ 0
-    ∷ 85 ∷ 255 ∷ 0 ∷ 0
-    ∷ 73 ∷ n ∷ 0 ∷ 0
-    ∷ 73 ∷ (n + 1) ∷ 0 ∷ 0
-    ∷ 73 ∷ n ∷ 0 ∷ 0
+    code B-block ∷ 2 ∷ 5 ∷ 0
+    ∷ code V-local ∷ identity-class ∷ 0 ∷ 0
+    ∷ code V-local ∷ (c + 2) ∷ 0 ∷ 0
+    ∷ code A-assign ∷ n ∷ 0 ∷ 0
+    ∷ code W-new ∷ identity-class ∷ 0 ∷ 0
+    ∷ code A-assign ∷ (n + 1) ∷ 0 ∷ 0
+    ∷ code W-new ∷ (c + 2) ∷ 0 ∷ 0
+    ∷ code U-set ∷ id-field ∷ 0 ∷ 0
+    ∷ code I-slot ∷ (n + 1) ∷ 0 ∷ 0
+    ∷ code I-slot ∷ n ∷ 0 ∷ 0
+    ∷ code U-set ∷ imp-field ∷ 0 ∷ 0
+    ∷ code I-slot ∷ n ∷ 0 ∷ 0
+    ∷ code I-slot ∷ (n + 1) ∷ 0 ∷ 0
+    ∷ code I-slot ∷ n ∷ 0 ∷ 0
     ∷ []
 
 abbrev pub renew-head : ℕ → ℕ → ℕ → ℕ → List ℕ
 renew-head n d r k =
-    66 ∷ 0 ∷ (k + 5) ∷ 0
-    ∷ 65 ∷ (n + 1) ∷ 0 ∷ 0
-    ∷ 87 ∷ (d + 2) ∷ 0 ∷ 0
-    ∷ 65 ∷ (n + 2) ∷ 0 ∷ 0
-    ∷ 75 ∷ (r + 2) ∷ 0 ∷ 0
-    ∷ 71 ∷ 255 ∷ 0 ∷ 0
-    ∷ 73 ∷ n ∷ 0 ∷ 0
-    ∷ 85 ∷ 254 ∷ 0 ∷ 0
-    ∷ 73 ∷ (n + 1) ∷ 0 ∷ 0
-    ∷ 73 ∷ n ∷ 0 ∷ 0
-    ∷ 85 ∷ 255 ∷ 0 ∷ 0
-    ∷ 73 ∷ n ∷ 0 ∷ 0
-    ∷ 73 ∷ (n + 1) ∷ 0 ∷ 0
+    code B-block ∷ 0 ∷ (k + 5) ∷ 0
+    ∷ code A-assign ∷ (n + 1) ∷ 0 ∷ 0
+    ∷ code W-new ∷ (d + 2) ∷ 0 ∷ 0
+    ∷ code A-assign ∷ (n + 2) ∷ 0 ∷ 0
+    ∷ code K-cast ∷ (r + 2) ∷ 0 ∷ 0
+    ∷ code G-get ∷ imp-field ∷ 0 ∷ 0
+    ∷ code I-slot ∷ n ∷ 0 ∷ 0
+    ∷ code U-set ∷ id-field ∷ 0 ∷ 0
+    ∷ code I-slot ∷ (n + 1) ∷ 0 ∷ 0
+    ∷ code I-slot ∷ n ∷ 0 ∷ 0
+    ∷ code U-set ∷ imp-field ∷ 0 ∷ 0
+    ∷ code I-slot ∷ n ∷ 0 ∷ 0
+    ∷ code I-slot ∷ (n + 1) ∷ 0 ∷ 0
     ∷ []
 
 unfoldable pub renew-lines : ℕ → ℕ → ℕ → List Field → List ℕ
-renew-lines n d r fs = renew-head n d r (length fs) ++ (copy-lines (n + 1) fs ++ (73 ∷ n ∷ 0 ∷ 0 ∷ []))
+renew-lines n d r fs =
+    renew-head n d r (length fs) ++ (copy-lines (n + 1) fs ++ (code I-slot ∷ n ∷ 0 ∷ 0 ∷ []))
 
 abbrev pub change-head : ℕ → ℕ → ℕ → ℕ → List ℕ
 change-head zero n d r =
-    66 ∷ 3 ∷ 3 ∷ 0
-    ∷ 86 ∷ 1 ∷ 0 ∷ 0
-    ∷ 86 ∷ (d + 2) ∷ 0 ∷ 0
-    ∷ 86 ∷ (r + 2) ∷ 0 ∷ 0
-    ∷ 65 ∷ n ∷ 0 ∷ 0
-    ∷ 71 ∷ 254 ∷ 0 ∷ 0
-    ∷ 73 ∷ 0 ∷ 0 ∷ 0
+    code B-block ∷ 3 ∷ 3 ∷ 0
+    ∷ code V-local ∷ identity-class ∷ 0 ∷ 0
+    ∷ code V-local ∷ (d + 2) ∷ 0 ∷ 0
+    ∷ code V-local ∷ (r + 2) ∷ 0 ∷ 0
+    ∷ code A-assign ∷ n ∷ 0 ∷ 0
+    ∷ code G-get ∷ id-field ∷ 0 ∷ 0
+    ∷ code I-slot ∷ 0 ∷ 0 ∷ 0
     ∷ []
 change-head (suc s) n d r =
-    66 ∷ 3 ∷ 2 ∷ 0
-    ∷ 86 ∷ 1 ∷ 0 ∷ 0
-    ∷ 86 ∷ (d + 2) ∷ 0 ∷ 0
-    ∷ 86 ∷ (r + 2) ∷ 0 ∷ 0
-    ∷ 74 ∷ 0 ∷ 0 ∷ 0
-    ∷ 90 ∷ 0 ∷ 0 ∷ 0
-    ∷ 65 ∷ n ∷ 0 ∷ 0
-    ∷ 73 ∷ suc s ∷ 0 ∷ 0
-    ∷ 78 ∷ 0 ∷ 0 ∷ 0
+    code B-block ∷ 3 ∷ 2 ∷ 0
+    ∷ code V-local ∷ identity-class ∷ 0 ∷ 0
+    ∷ code V-local ∷ (d + 2) ∷ 0 ∷ 0
+    ∷ code V-local ∷ (r + 2) ∷ 0 ∷ 0
+    ∷ code J-choose ∷ 0 ∷ 0 ∷ 0
+    ∷ code Z-is-null ∷ 0 ∷ 0 ∷ 0
+    ∷ code A-assign ∷ n ∷ 0 ∷ 0
+    ∷ code I-slot ∷ suc s ∷ 0 ∷ 0
+    ∷ code N-null ∷ 0 ∷ 0 ∷ 0
     ∷ []
 
 unfoldable pub change-lines : ℕ → ℕ → ℕ → ℕ → List Field → List ℕ
-change-lines s n d r fs = change-head s n d r ++ (renew-lines n d r fs ++ (73 ∷ n ∷ 0 ∷ 0 ∷ []))
+change-lines s n d r fs = change-head s n d r ++ (renew-lines n d r fs ++ (code I-slot ∷ n ∷ 0 ∷ 0 ∷ []))
 
 -- How many numbers the head of R has.
 abbrev pub head-length : ℕ → ℕ
@@ -168,7 +172,8 @@ module _ (W : World) (sh : Shape) where
   -- Each put in a temporary, from one on.
   unfoldable pub arguments-numbers : ℕ → Nodes → List ℕ
   arguments-numbers s none = []
-  arguments-numbers s (also e γ es) = 65 ∷ s ∷ 0 ∷ 0 ∷ (node-numbers W e γ sh ++ arguments-numbers (suc s) es)
+  arguments-numbers s (also e γ es) =
+      code A-assign ∷ s ∷ 0 ∷ 0 ∷ (node-numbers W e γ sh ++ arguments-numbers (suc s) es)
 
 -- The nodes of a block or of a call's arguments.
 unfoldable pub nodes-of : World → Exprs → Environment → Nodes
@@ -178,8 +183,8 @@ nodes-of W (cons e es) γ = also e γ (nodes-of W es (typed-or (type-of W e 0 γ
 -- The numbers of a method of a class: its heading without X lines, then its body.
 unfoldable pub method-numbers : World → ℕ → Declaration → List ℕ
 method-numbers W owner m =
-    (77 ∷ plain-number (type-number (m .result)) ∷ m .name ∷ 0 ∷ [])
-    ++ (type-lines 80 (m .parameters)
+    (code M-method ∷ plain-number (type-number (m .result)) ∷ m .name ∷ 0 ∷ [])
+    ++ (type-lines (code P-parameter) (m .parameters)
     ++ node-numbers W (m .body) (method-environment owner (m .parameters)) (variables (m .parameters)))
 
 -- The numbers of methods, of a class and of classes from number k on.
@@ -189,7 +194,8 @@ methods-numbers W k (m ∷ ms) = method-numbers W k m ++ methods-numbers W k ms
 
 unfoldable pub class-numbers : World → ℕ → Class → List ℕ
 class-numbers W k c =
-    (67 ∷ 0 ∷ (c .super + 2) ∷ 0 ∷ []) ++ (field-lines (c .fields) ++ methods-numbers W k (c .methods))
+    (code C-class ∷ 0 ∷ (c .super + 2) ∷ 0 ∷ [])
+    ++ (field-lines (c .fields) ++ methods-numbers W k (c .methods))
 
 unfoldable pub classes-numbers : World → ℕ → List Class → List ℕ
 classes-numbers W k [] = []

@@ -8,16 +8,17 @@ use lib.ListN.{length, getD}
 use Rattle.language.specs.Lists.{nth}
 use Rattle.language.specs.Frames.{opened}
 use Rattle.language.specs.Rows.{C-class, F-field, M-method, P-parameter, S-start}
-use Rattle.language.specs.Tree.{DeclaredType, type-number, Expr, literal-true, literal-false, literal-null}
+use Rattle.language.specs.Tree.{DeclaredType, type-number, Expr, literal}
 use Rattle.language.specs.Tree.{slot, is-null, get, cast, new, change, assign, set, call, choose, block}
 use Rattle.language.specs.Tree.{Exprs, nil, cons, count, size, Field, Declaration, Class, Program}
 use Rattle.language.specs.Tree.{kind-number, methods-lines, class-lines, classes-lines}
 use Rattle.language.specs.World.{Method, World, place}
 use Rattle.language.specs.Effects.{apply-class}
 use Rattle.language.specs.Program.{world}
-use Rattle.language.specs.ClassTables.{stored-place}
+use Rattle.language.specs.ClassTables.{stored-place, class-width, methods-from, root-place, count-place}
 use Rattle.language.specs.Encoded.{RowAt, LinesAt, TypesAt, Encoded}
-use Rattle.language.specs.Typing.{Environment, fresh-slot, method-environment, start-environment, type-of}
+use Rattle.language.specs.Environment.{Environment, fresh-slot, method-environment, start-environment}
+use Rattle.language.specs.Typing.{type-of}
 use Rattle.language.specs.Typing.{type-all}
 use Rattle.language.specs.Translation.{Shape, plain-slot, typed-or, typed-all-or, class-or, variables}
 use Rattle.language.specs.LookupClasses.{LooksUp}
@@ -27,6 +28,8 @@ use Rattle.language.specs.Layout.{body-row, methods-from-row}
 use Rattle.theory.specs.PlainForm.{variable-count}
 use Rattle.plain.specs.Numbers.{most-numbers, node-numbers, Proper, ProperAll, Nodes, methods-numbers}
 use Rattle.plain.specs.Numbers.{class-numbers, classes-numbers, program-numbers, none, also}
+use Rattle.language.specs.Limits.{of-check, of-translator, numbers-a-row}
+use Rattle.language.specs.ClassTables.{rows-place}
 
 -- The table has the rows of fields from an entry on.
 abbrev pub FieldRows : List ℕ → List ℕ → List Field → ℕ → Type 0
@@ -35,15 +38,15 @@ FieldRows R T fs i = LinesAt (λ (f : Field) (i : ℕ).
 
 -- What the tables of classes tell of members, and where the rows have them.
 pub record Members (P : List Class) (R T : List ℕ) : Type 0 where
-  pub long : (length P + 1) * 576 ≤ length T
-  pub few : (k : ℕ) → k ≤ length P → length (world P .fields k) ≤ 17
-  pub roots : (k : ℕ) → k ≤ length P → getD T (k * 576 + 514) 0 ≡ world P .root k
-  pub counts : (k : ℕ) → k ≤ length P → getD T (k * 576 + 515) 0 ≡ length (world P .fields k)
+  pub long : (length P + 1) * class-width ≤ length T
+  pub few : (k : ℕ) → k ≤ length P → length (world P .fields k) ≤ of-check .fields
+  pub roots : (k : ℕ) → k ≤ length P → getD T (k * class-width + root-place) 0 ≡ world P .root k
+  pub counts : (k : ℕ) → k ≤ length P → getD T (k * class-width + count-place) 0 ≡ length (world P .fields k)
   pub places : (k f : ℕ) → k ≤ length P → f < 256
-      → getD T (k * 576 + f) 0 ≡ stored-place (place f (world P .fields k))
-  pub fields : (k : ℕ) → k ≤ length P → FieldRows R T (world P .fields k) (k * 576 + 520)
+      → getD T (k * class-width + f) 0 ≡ stored-place (place f (world P .fields k))
+  pub fields : (k : ℕ) → k ≤ length P → FieldRows R T (world P .fields k) (k * class-width + rows-place)
   pub methods : (k m : ℕ) (M : Method) → k ≤ length P → m < 256 → world P .method k m ≡ some M
-      → TypesAt P-parameter R (M .parameters) (getD T (k * 576 + 256 + m) 0)
+      → TypesAt P-parameter R (M .parameters) (getD T (k * class-width + methods-from + m) 0)
 
 -- Such nodes in the rows, and in the table of lookup classes.
 unfoldable pub EncodedNodes : List ℕ → List ℕ → Nodes → ℕ → Type 0
@@ -67,9 +70,7 @@ module _ (P : List Class) where
 
   unfoldable mutual
     pub Ready : Expr → Environment → ℕ → Type 0
-    Ready literal-true γ v = Unit {0}
-    Ready literal-false γ v = Unit {0}
-    Ready literal-null γ v = Unit {0}
+    Ready (literal l) γ v = Unit {0}
     Ready (slot k) γ v = k < v
     Ready (is-null e) γ v = Ready e γ v
     Ready (get f e) γ v = Ready e γ v
@@ -91,7 +92,7 @@ module _ (P : List Class) where
         (m < 256) × (c ≤ length P) × MethodFound c m (count es) × Ready e γ v × ReadyAll es (a .slots) v
     Ready (choose e x y) γ v = let δ = typed-or (type-of (world P) e 0 γ) .slots in
         Ready e γ v × Ready x δ v × Ready y δ v
-    Ready (block ts es) γ v = (v + length ts ≤ 32) × ProperAll ts
+    Ready (block ts es) γ v = (v + length ts ≤ of-translator .slots) × ProperAll ts
         × ReadyAll es (opened γ (map fresh-slot ts)) (v + length ts)
 
     pub ReadyAll : Exprs → Environment → ℕ → Type 0
@@ -107,14 +108,14 @@ pub record Lent (P : List Class) (R T C : List ℕ) : Type 0 where
   pub members : Members P R T
   pub small : (i : ℕ) → getD R i 0 < 65536
   pub beside : length R ≤ length C * 4
-  pub short : length R ≤ 240000
+  pub short : length R ≤ numbers-a-row * of-check .rows
 
 -- With these, the plain slot of each source slot: S has those of the slots in scope, `next` is the next free
 -- one.
 pub record Setting (P : List Class) (R T C S : List ℕ) (sh : Shape) (vars next : ℕ) : Type 0 where
   pub lent : Lent P R T C
-  pub wide : length S ≡ 32
-  pub scope : vars ≤ 32
+  pub wide : length S ≡ of-translator .slots
+  pub scope : vars ≤ of-translator .slots
   pub variables : vars ≡ suc (variable-count sh)
   pub free : next ≡ suc (length sh)
   pub renumbered : (k : ℕ) → k < vars → getD S k 0 ≡ plain-slot sh k
@@ -144,7 +145,7 @@ pub record BodyTask (P : List Class) (E : List ℕ) (e : Expr) (γ : Environment
   pub encoded : Encoded R E e at
   pub looks : LooksUp (world P) C e γ at
   pub ready : Ready P e γ (1 + length ts)
-  pub scope : 1 + length ts ≤ 32
+  pub scope : 1 + length ts ≤ of-translator .slots
   pub low : 1 + length ts ≤ place
   pub fits : place + length (node-numbers (world P) e γ (variables ts)) ≤ most-numbers
 
@@ -162,7 +163,7 @@ pub record MethodReady (P : List Class) (E R C : List ℕ) (k : ℕ) (m : Declar
   pub rows : MethodAt R E m r
   pub looks : LooksUp (world P) C (m .body) (method-environment k (m .parameters)) (body-row r m)
   pub ready : Ready P (m .body) (method-environment k (m .parameters)) (1 + length (m .parameters))
-  pub scope : 1 + length (m .parameters) ≤ 32
+  pub scope : 1 + length (m .parameters) ≤ of-translator .slots
 
 -- Class k, whose C line is row r.
 pub record ClassReady (P : List Class) (E R C : List ℕ) (k : ℕ) (c : Class) (r : ℕ) : Type 0 where

@@ -20,8 +20,49 @@ ghost use Rattle.language.specs.Filling.{answer, buffer};
 ghost use Rattle.plain.specs.Bounds.{SomeMethodsStand, MethodsPassed, SomeCounted, FieldsLimited};
 ghost use Rattle.plain.specs.Bounds.{FieldsFree, SomeClassesStand, NamesFree, limits-told, SomeChecked};
 ghost use Rattle.plain.specs.Bounds.{Limited, PlainWritten, SomeAccepted};
+ghost use Rattle.language.specs.Limits.{of-check, of-translator, numbers-a-row};
 use form::Formed;
+use language::ASSIGN;
+use language::BLOCK;
+use language::BOOL;
+use language::CALL;
+use language::CAST;
+use language::CHANGE;
+use language::CHOOSE;
+use language::CLASS;
+use language::CLASS_WIDTH;
+use language::COUNT_PLACE;
+use language::EFFECT;
+use language::FALSE;
+use language::FICKLE;
+use language::FIELD;
 use language::Filled;
+use language::GET;
+use language::ID;
+use language::IDENTITY;
+use language::IMP;
+use language::IS_NULL;
+use language::LIMIT_REFUSAL;
+use language::LOCAL;
+use language::METHOD;
+use language::METHODS_FROM;
+use language::NEW;
+use language::NULL;
+use language::PARAMETER;
+use language::RESERVED_REFUSAL;
+use language::ROOM_REFUSAL;
+use language::ROOT_PLACE;
+use language::ROWS_BEFORE;
+use language::ROWS_PLACE;
+use language::SET;
+use language::SLOT;
+use language::START;
+use language::TRUE;
+
+// How many rows the translator's input may have, and how many fields a class of it.
+const ROW_LIMIT: usize = 680;
+
+const FIELD_LIMIT: usize = 16;
 
 // The next place of the buffer and the next row of the source.
 pub struct Next {
@@ -55,7 +96,7 @@ fn put(out: &mut [u32], place: usize, numbers: &[u32]) -> usize
 fn plain_type(number: u32) -> u32
     ensures { λ r. ⌜ r ≡ plain-number number ⌝ }
 {
-    if number == 255 { 255 } else { 1 }
+    if number == BOOL { BOOL } else { IDENTITY }
 }
 
 // Lines of a letter, each with the plain type of one of the rows from `at` on.
@@ -89,7 +130,7 @@ fn put_reads(out: &mut [u32], place: usize, slot: u32, count: u32) -> usize
     if count == 0 {
         return place;
     }
-    let line = [73, slot, 0, 0];
+    let line = [SLOT, slot, 0, 0];
     let p = put(out, place, &line);
     put_reads(out, p, slot + 1, count - 1)
 }
@@ -115,19 +156,19 @@ fn put_copies(
     let row = tables[from] as usize;
     let name = rows[row * 4 + 2];
     let lines = [
-        85,
+        SET,
         name,
         0,
         0,
-        73,
+        SLOT,
         slot,
         0,
         0,
-        71,
+        GET,
         name,
         0,
         0,
-        73,
+        SLOT,
         slot + 1,
         0,
         0,
@@ -138,7 +179,8 @@ fn put_copies(
 
 // The plain slots of the source's slots where a block adds `count` locals, from plain slot `next` on.
 fn with_locals(slots: &[u32; 32], vars: usize, next: u32, count: usize) -> [u32; 32]
-    requires { ⌜ (vars + count ≤ 32) × (next ≤ most-numbers) × (length (now slots) ≡ 32) ⌝ }
+    requires { ⌜ (vars + count ≤ of-translator .slots) × (next ≤ most-numbers) ×
+        (length (now slots) ≡ of-translator .slots) ⌝ }
     ensures { λ r. ⌜ Extended (now (slots .entry)) r vars next count ⌝ }
 {
     let mut s = *slots;
@@ -156,10 +198,10 @@ fn put_slot(out: &mut [u32], place: usize, slot: u32) -> usize
     ensures { λ r. ⌜ Written (slot-lines slot) (now (out .entry)) (now (out .exit)) place r ⌝ }
 {
     if slot == 0 {
-        let lines = [71, 254, 0, 0, 73, 0, 0, 0];
+        let lines = [GET, ID, 0, 0, SLOT, 0, 0, 0];
         return put(out, place, &lines);
     }
-    let line = [73, slot, 0, 0];
+    let line = [SLOT, slot, 0, 0];
     put(out, place, &line)
 }
 
@@ -171,59 +213,59 @@ fn put_new(out: &mut [u32], place: usize, next: u32, class: u32) -> usize
     let i = next;
     let o = next + 1;
     let lines = [
-        66,
+        BLOCK,
         2,
         5,
         0,
-        86,
-        1,
+        LOCAL,
+        IDENTITY,
         0,
         0,
-        86,
+        LOCAL,
         class + 2,
         0,
         0,
-        65,
+        ASSIGN,
         i,
         0,
         0,
-        87,
-        1,
+        NEW,
+        IDENTITY,
         0,
         0,
-        65,
+        ASSIGN,
         o,
         0,
         0,
-        87,
+        NEW,
         class + 2,
         0,
         0,
-        85,
-        254,
+        SET,
+        ID,
         0,
         0,
-        73,
+        SLOT,
         o,
         0,
         0,
-        73,
+        SLOT,
         i,
         0,
         0,
-        85,
-        255,
+        SET,
+        IMP,
         0,
         0,
-        73,
+        SLOT,
         i,
         0,
         0,
-        73,
+        SLOT,
         o,
         0,
         0,
-        73,
+        SLOT,
         i,
         0,
         0,
@@ -248,64 +290,72 @@ fn put_renew(
 {
     let i = next;
     let o = next + 1;
-    let count = tables[root * 576 + 515];
+    let count = tables[root * CLASS_WIDTH + COUNT_PLACE];
     let head = [
-        66,
+        BLOCK,
         0,
         count as u32 + 5,
         0,
-        65,
+        ASSIGN,
         o,
         0,
         0,
-        87,
+        NEW,
         target + 2,
         0,
         0,
-        65,
+        ASSIGN,
         next + 2,
         0,
         0,
-        75,
+        CAST,
         root as u32 + 2,
         0,
         0,
-        71,
-        255,
+        GET,
+        IMP,
         0,
         0,
-        73,
+        SLOT,
         i,
         0,
         0,
-        85,
-        254,
+        SET,
+        ID,
         0,
         0,
-        73,
+        SLOT,
         o,
         0,
         0,
-        73,
+        SLOT,
         i,
         0,
         0,
-        85,
-        255,
+        SET,
+        IMP,
         0,
         0,
-        73,
+        SLOT,
         i,
         0,
         0,
-        73,
+        SLOT,
         o,
         0,
         0,
     ];
     let p = put(out, place, &head);
-    let q = put_copies(rows, tables, out, p, root * 576 + 520, count as usize, o);
-    let last = [73, i, 0, 0];
+    let q = put_copies(
+        rows,
+        tables,
+        out,
+        p,
+        root * CLASS_WIDTH + ROWS_PLACE,
+        count as usize,
+        o,
+    );
+    let last = [SLOT, i, 0, 0];
     put(out, q, &last)
 }
 
@@ -324,86 +374,86 @@ fn put_change(
     ensures { λ r. ⌜ ChangeWritten (now (rows .entry)) (now (tables .entry)) slot next target
         (now (out .entry)) (now (out .exit)) place r ⌝ }
 {
-    let root = tables[target as usize * 576 + 514] as usize;
+    let root = tables[target as usize * CLASS_WIDTH + ROOT_PLACE] as usize;
     let i = next;
     let r = root as u32 + 2;
     if slot == 0 {
         let head = [
-            66,
+            BLOCK,
             3,
             3,
             0,
-            86,
-            1,
+            LOCAL,
+            IDENTITY,
             0,
             0,
-            86,
+            LOCAL,
             target + 2,
             0,
             0,
-            86,
+            LOCAL,
             r,
             0,
             0,
-            65,
+            ASSIGN,
             i,
             0,
             0,
-            71,
-            254,
+            GET,
+            ID,
             0,
             0,
-            73,
+            SLOT,
             0,
             0,
             0,
         ];
         let p = put(out, place, &head);
         let q = put_renew(rows, tables, out, p, next, target, root);
-        let last = [73, i, 0, 0];
+        let last = [SLOT, i, 0, 0];
         return put(out, q, &last);
     }
     let head = [
-        66,
+        BLOCK,
         3,
         2,
         0,
-        86,
-        1,
+        LOCAL,
+        IDENTITY,
         0,
         0,
-        86,
+        LOCAL,
         target + 2,
         0,
         0,
-        86,
+        LOCAL,
         r,
         0,
         0,
-        74,
+        CHOOSE,
         0,
         0,
         0,
-        90,
+        IS_NULL,
         0,
         0,
         0,
-        65,
+        ASSIGN,
         i,
         0,
         0,
-        73,
+        SLOT,
         slot,
         0,
         0,
-        78,
+        NULL,
         0,
         0,
         0,
     ];
     let p = put(out, place, &head);
     let q = put_renew(rows, tables, out, p, next, target, root);
-    let last = [73, i, 0, 0];
+    let last = [SLOT, i, 0, 0];
     put(out, q, &last)
 }
 
@@ -425,7 +475,7 @@ fn emit_node(
 {
     let letter = rows[at * 4];
     match letter {
-        84 | 76 | 78 => {
+        TRUE | FALSE | NULL => {
             let line = [letter, 0, 0, 0];
             let p = put(out, place, &line);
             Next {
@@ -433,7 +483,7 @@ fn emit_node(
                 at: at + 1,
             }
         }
-        73 => {
+        SLOT => {
             let slot = slots[rows[at * 4 + 1] as usize];
             let p = put_slot(out, place, slot);
             Next {
@@ -441,14 +491,14 @@ fn emit_node(
                 at: at + 1,
             }
         }
-        87 => {
+        NEW => {
             let p = put_new(out, place, next, rows[at * 4 + 1]);
             Next {
                 place: p,
                 at: at + 1,
             }
         }
-        82 => {
+        CHANGE => {
             let slot = slots[rows[at * 4 + 1] as usize];
             let p = put_change(rows, tables, out, place, slot, next, rows[at * 4 + 2]);
             Next {
@@ -456,39 +506,39 @@ fn emit_node(
                 at: at + 1,
             }
         }
-        90 => {
-            let line = [90, 0, 0, 0];
+        IS_NULL => {
+            let line = [IS_NULL, 0, 0, 0];
             let p = put(out, place, &line);
             emit_node(rows, tables, lookups, slots, out, p, at + 1, vars, next)
         }
-        65 => {
-            let line = [65, slots[rows[at * 4 + 1] as usize], 0, 0];
+        ASSIGN => {
+            let line = [ASSIGN, slots[rows[at * 4 + 1] as usize], 0, 0];
             let p = put(out, place, &line);
             emit_node(rows, tables, lookups, slots, out, p, at + 1, vars, next)
         }
-        71 => {
+        GET => {
             let lines = [
-                71,
+                GET,
                 rows[at * 4 + 1],
                 0,
                 0,
-                75,
+                CAST,
                 lookups[at] as u32 + 2,
                 0,
                 0,
-                71,
-                255,
+                GET,
+                IMP,
                 0,
                 0,
             ];
             let p = put(out, place, &lines);
             emit_node(rows, tables, lookups, slots, out, p, at + 1, vars, next)
         }
-        75 => emit_cast(rows, tables, lookups, slots, out, place, at, vars, next),
-        85 => emit_set(rows, tables, lookups, slots, out, place, at, vars, next),
-        81 => emit_call(rows, tables, lookups, slots, out, place, at, vars, next),
-        74 => {
-            let line = [74, 0, 0, 0];
+        CAST => emit_cast(rows, tables, lookups, slots, out, place, at, vars, next),
+        SET => emit_set(rows, tables, lookups, slots, out, place, at, vars, next),
+        CALL => emit_call(rows, tables, lookups, slots, out, place, at, vars, next),
+        CHOOSE => {
+            let line = [CHOOSE, 0, 0, 0];
             let p = put(out, place, &line);
             emit_nodes(rows, tables, lookups, slots, out, p, at + 1, vars, next, 3)
         }
@@ -513,23 +563,23 @@ fn emit_cast(
         (now (slots .entry)) (now (out .entry)) (now (out .exit)) at vars next place (r .place) (r .at) ⌝ }
 {
     let head = [
-        66,
+        BLOCK,
         1,
         1,
         0,
-        86,
-        1,
+        LOCAL,
+        IDENTITY,
         0,
         0,
-        74,
-        0,
-        0,
-        0,
-        90,
+        CHOOSE,
         0,
         0,
         0,
-        65,
+        IS_NULL,
+        0,
+        0,
+        0,
+        ASSIGN,
         next,
         0,
         0,
@@ -537,23 +587,23 @@ fn emit_cast(
     let p = put(out, place, &head);
     let r = emit_node(rows, tables, lookups, slots, out, p, at + 1, vars, next + 1);
     let tail = [
-        78,
+        NULL,
         0,
         0,
         0,
-        71,
-        254,
+        GET,
+        ID,
         0,
         0,
-        75,
+        CAST,
         rows[at * 4 + 1] + 2,
         0,
         0,
-        71,
-        255,
+        GET,
+        IMP,
         0,
         0,
-        73,
+        SLOT,
         next,
         0,
         0,
@@ -580,18 +630,18 @@ fn emit_set(
 {
     let name = rows[at * 4 + 1];
     let class = lookups[at] as usize;
-    let field = tables[class * 576 + name as usize] as usize;
-    let row = tables[class * 576 + 519 + field] as usize;
+    let field = tables[class * CLASS_WIDTH + name as usize] as usize;
+    let row = tables[class * CLASS_WIDTH + ROWS_BEFORE + field] as usize;
     let head = [
-        66,
+        BLOCK,
         2,
         3,
         0,
-        86,
-        1,
+        LOCAL,
+        IDENTITY,
         0,
         0,
-        86,
+        LOCAL,
         plain_type(rows[row * 4 + 1]),
         0,
         0,
@@ -611,23 +661,23 @@ fn emit_set(
         next,
     );
     let tail = [
-        85,
+        SET,
         name,
         0,
         0,
-        75,
+        CAST,
         class as u32 + 2,
         0,
         0,
-        71,
-        255,
+        GET,
+        IMP,
         0,
         0,
-        73,
+        SLOT,
         next,
         0,
         0,
-        73,
+        SLOT,
         next + 1,
         0,
         0,
@@ -655,10 +705,10 @@ fn emit_call(
     let name = rows[at * 4 + 1];
     let count = rows[at * 4 + 2];
     let class = lookups[at] as usize;
-    let method = tables[class * 576 + 256 + name as usize] as usize;
-    let head = [66, count + 1, count + 2, 0, 86, 1, 0, 0];
+    let method = tables[class * CLASS_WIDTH + METHODS_FROM + name as usize] as usize;
+    let head = [BLOCK, count + 1, count + 2, 0, LOCAL, IDENTITY, 0, 0];
     let p = put(out, place, &head);
-    let p = put_types(rows, out, p, method, count as usize, 86);
+    let p = put_types(rows, out, p, method, count as usize, LOCAL);
     let r = emit_arguments(
         rows,
         tables,
@@ -673,19 +723,19 @@ fn emit_call(
         next,
     );
     let tail = [
-        81,
+        CALL,
         name,
         count,
         0,
-        75,
+        CAST,
         class as u32 + 2,
         0,
         0,
-        71,
-        255,
+        GET,
+        IMP,
         0,
         0,
-        73,
+        SLOT,
         next,
         0,
         0,
@@ -713,9 +763,9 @@ fn emit_block(
 {
     let locals = rows[at * 4 + 1];
     let count = rows[at * 4 + 2];
-    let head = [66, locals, count, 0];
+    let head = [BLOCK, locals, count, 0];
     let p = put(out, place, &head);
-    let p = put_types(rows, out, p, at + 1, locals as usize, 86);
+    let p = put_types(rows, out, p, at + 1, locals as usize, LOCAL);
     let inner = with_locals(slots, vars, next, locals as usize);
     emit_nodes(
         rows,
@@ -796,7 +846,7 @@ fn emit_arguments(
             at: at,
         };
     }
-    let line = [65, slot, 0, 0];
+    let line = [ASSIGN, slot, 0, 0];
     let p = put(out, place, &line);
     let r = emit_node(rows, tables, lookups, slots, out, p, at, vars, next);
     emit_arguments(
@@ -830,8 +880,8 @@ fn skip(rows: &[u32], at: usize, letter: u32) -> usize
 
 // The slots of a body: `this`, then its parameters.
 fn first_slots(count: usize) -> [u32; 32]
-    requires { ⌜ 1 + count ≤ 32 ⌝ }
-    ensures { λ r. ⌜ Extended (replicate 32 0) r 1 1 count ⌝ }
+    requires { ⌜ 1 + count ≤ of-translator .slots ⌝ }
+    ensures { λ r. ⌜ Extended (replicate (of-translator .slots) 0) r 1 1 count ⌝ }
 {
     let none = [0u32; 32];
     with_locals(&none, 1, 1, count)
@@ -881,9 +931,9 @@ fn emit_method(
         (now (out .entry)) (now (out .exit)) at body place count (r .place) (r .at) ⌝ }
 {
     let t = plain_type(rows[at * 4 + 1]);
-    let head = [77, t, rows[at * 4 + 2], 0];
+    let head = [METHOD, t, rows[at * 4 + 2], 0];
     let p = put(out, place, &head);
-    let q = put_types(rows, out, p, at + 1, count, 80);
+    let q = put_types(rows, out, p, at + 1, count, PARAMETER);
     emit_body(rows, tables, lookups, out, q, body, count)
 }
 
@@ -898,7 +948,7 @@ fn put_fields(rows: &[u32], out: &mut [u32], place: usize, at: usize, count: usi
         return place;
     }
     let t = plain_type(rows[at * 4 + 1]);
-    let line = [70, t, rows[at * 4 + 2], 0];
+    let line = [FIELD, t, rows[at * 4 + 2], 0];
     let p = put(out, place, &line);
     put_fields(rows, out, p, at + 1, count - 1)
 }
@@ -916,14 +966,14 @@ fn emit_methods(
     ensures { λ r. ⌜ MethodsEmitted (now (rows .entry)) (now (tables .entry)) (now (lookups .entry))
         (now (out .entry)) (now (out .exit)) at place (r .place) (r .at) ⌝ }
 {
-    if rows[at * 4] != 77 {
+    if rows[at * 4] != METHOD {
         return Next {
             place: place,
             at: at,
         };
     }
-    let x = skip(rows, at + 1, 80);
-    let body = skip(rows, x, 88);
+    let x = skip(rows, at + 1, PARAMETER);
+    let body = skip(rows, x, EFFECT);
     let n = emit_method(rows, tables, lookups, out, place, at, x - at - 1, body);
     emit_methods(rows, tables, lookups, out, n.place, n.at)
 }
@@ -941,9 +991,9 @@ fn emit_class(
     ensures { λ r. ⌜ ClassEmitted (now (rows .entry)) (now (tables .entry)) (now (lookups .entry))
         (now (out .entry)) (now (out .exit)) at place (r .place) (r .at) ⌝ }
 {
-    let head = [67, 0, rows[at * 4 + 2] + 2, 0];
+    let head = [CLASS, 0, rows[at * 4 + 2] + 2, 0];
     let p = put(out, place, &head);
-    let first = skip(rows, at + 1, 70);
+    let first = skip(rows, at + 1, FIELD);
     let q = put_fields(rows, out, p, at + 1, first - at - 1);
     emit_methods(rows, tables, lookups, out, q, first)
 }
@@ -961,7 +1011,7 @@ fn emit_classes(
     ensures { λ r. ⌜ ClassesEmitted (now (rows .entry)) (now (tables .entry)) (now (lookups .entry))
         (now (out .entry)) (now (out .exit)) at place (r .place) (r .at) ⌝ }
 {
-    if rows[at * 4] != 67 {
+    if rows[at * 4] != CLASS {
         return Next {
             place: place,
             at: at,
@@ -977,10 +1027,27 @@ fn emit_program(rows: &[u32], tables: &[u16], lookups: &[u16], out: &mut [u32]) 
     ensures { λ r. ⌜ ProgramWritten (now (rows .entry)) (now (tables .entry)) (now (lookups .entry))
         (now (out .entry)) (now (out .exit)) r ⌝ }
 {
-    let head = [67, 0, 0, 0, 70, 2, 255, 0, 67, 0, 0, 0, 70, 1, 254, 0];
+    let head = [
+        CLASS,
+        0,
+        0,
+        0,
+        FIELD,
+        FICKLE,
+        IMP,
+        0,
+        CLASS,
+        0,
+        0,
+        0,
+        FIELD,
+        IDENTITY,
+        ID,
+        0,
+    ];
     let p = put(out, 0, &head);
     let c = emit_classes(rows, tables, lookups, out, p, 0);
-    let line = [83, 0, 0, 0];
+    let line = [START, 0, 0, 0];
     let q = put(out, c.place, &line);
     let n = emit_body(rows, tables, lookups, out, q, c.at + 1, 0);
     n.place
@@ -991,23 +1058,23 @@ fn after_methods(rows: &[u32], ends: &[u16], at: usize) -> usize
     requires { ⌜ SomeMethodsStand (now rows) (now ends) at ⌝ }
     ensures { λ r. ⌜ MethodsPassed (now (rows .entry)) (now (ends .entry)) at r ⌝ }
 {
-    if rows[at * 4] != 77 {
+    if rows[at * 4] != METHOD {
         return at;
     }
-    let x = skip(rows, at + 1, 80);
-    let body = skip(rows, x, 88);
+    let x = skip(rows, at + 1, PARAMETER);
+    let body = skip(rows, x, EFFECT);
     let next = ends[body] as usize;
     after_methods(rows, ends, next)
 }
 
 // How many fields a class may add to so many inherited ones.
 fn field_room(inherited: usize) -> usize
-    ensures { λ r. ⌜ r ≡ 16 - inherited ⌝ }
+    ensures { λ r. ⌜ r ≡ of-translator .fields - inherited ⌝ }
 {
-    if 16 < inherited {
+    if FIELD_LIMIT < inherited {
         return 0;
     }
-    16 - inherited
+    FIELD_LIMIT - inherited
 }
 
 // The line of the first field over the limit, from the class at row `at` on; 0 for none.
@@ -1015,12 +1082,12 @@ fn over_fields(rows: &[u32], ends: &[u16], tables: &[u16], at: usize) -> u32
     requires { ⌜ SomeCounted (now rows) (now ends) (now tables) at ⌝ }
     ensures { λ r. ⌜ FieldsLimited (now (rows .entry)) (now (ends .entry)) (now (tables .entry)) at r ⌝ }
 {
-    if rows[at * 4] != 67 {
+    if rows[at * 4] != CLASS {
         return 0;
     }
     let above = rows[at * 4 + 2] as usize;
-    let room = field_room(tables[above * 576 + 515] as usize);
-    let first = skip(rows, at + 1, 70);
+    let room = field_room(tables[above * CLASS_WIDTH + COUNT_PLACE] as usize);
+    let first = skip(rows, at + 1, FIELD);
     if room < first - at - 1 {
         return (at + 2 + room) as u32;
     }
@@ -1030,17 +1097,17 @@ fn over_fields(rows: &[u32], ends: &[u16], tables: &[u16], at: usize) -> u32
 
 // The line of the first of so many F lines with a reserved name; 0 for none.
 fn reserved_field(rows: &[u32], at: usize, count: usize) -> u32
-    requires { ⌜ SomeFieldLines (now rows) at count × (length (now rows) ≤ 240000) ⌝ }
+    requires { ⌜ SomeFieldLines (now rows) at count × (length (now rows) ≤ numbers-a-row * of-check .rows) ⌝ }
     ensures { λ r. ⌜ FieldsFree (now (rows .entry)) at count r ⌝ }
 {
     if count == 0 {
         return 0;
     }
     let name = rows[at * 4 + 2];
-    if name == 254 {
+    if name == ID {
         return at as u32 + 1;
     }
-    if name == 255 {
+    if name == IMP {
         return at as u32 + 1;
     }
     reserved_field(rows, at + 1, count - 1)
@@ -1051,10 +1118,10 @@ fn reserved_name(rows: &[u32], ends: &[u16], at: usize) -> u32
     requires { ⌜ SomeClassesStand (now rows) (now ends) at ⌝ }
     ensures { λ r. ⌜ NamesFree (now (rows .entry)) (now (ends .entry)) at r ⌝ }
 {
-    if rows[at * 4] != 67 {
+    if rows[at * 4] != CLASS {
         return 0;
     }
-    let first = skip(rows, at + 1, 70);
+    let first = skip(rows, at + 1, FIELD);
     let line = reserved_field(rows, at + 1, first - at - 1);
     if line != 0 {
         return line;
@@ -1072,14 +1139,14 @@ fn with_fields(formed: Formed, line: u32) -> Filled
             if line == 0 {
                 return Filled::Done(0);
             }
-            Filled::Refused(2, line)
+            Filled::Refused(LIMIT_REFUSAL, line)
         }
         Formed::Refused(number, first) => {
             if line == 0 {
                 return Filled::Refused(number, first);
             }
             if line < first {
-                return Filled::Refused(2, line);
+                return Filled::Refused(LIMIT_REFUSAL, line);
             }
             Filled::Refused(number, first)
         }
@@ -1091,7 +1158,7 @@ fn over_limits(rows: &[u32], ends: &[u16], tables: &[u16]) -> Filled
     requires { ⌜ SomeChecked (now rows) (now ends) (now tables) ⌝ }
     ensures { λ r. ⌜ Limited (now (rows .entry)) (now (ends .entry)) (now (tables .entry)) r ⌝ }
 {
-    let mut scratch = [0u16; 680];
+    let mut scratch = [0u16; ROW_LIMIT];
     let formed = form::check_translatable(rows, &mut scratch);
     let line = over_fields(rows, ends, tables, 0);
     with_fields(formed, line)
@@ -1106,7 +1173,7 @@ fn write_plain(rows: &[u32], tables: &[u16], lookups: &[u16], out: &mut [u32]) -
     let mut none = [0u32; 1];
     let count = emit_program(rows, tables, lookups, &mut none);
     if out.len() < count {
-        return Filled::Refused(13, 0);
+        return Filled::Refused(ROOM_REFUSAL, 0);
     }
     let written = emit_program(rows, tables, lookups, out);
     Filled::Done(written / 4)
@@ -1130,7 +1197,7 @@ pub fn translate_checked(
     };
     let line = reserved_name(rows, ends, 0);
     if line != 0 {
-        return Filled::Refused(12, line);
+        return Filled::Refused(RESERVED_REFUSAL, line);
     }
     write_plain(rows, tables, lookups, out)
 }

@@ -1,5 +1,6 @@
 // The services on price terms (document 02, §11): the price of a model on a day or date, and the report of a month.
 use language::Filled;
+use language::ROOM_REFUSAL;
 use prices::DayAnswer;
 use prices::PriceAnswer;
 ghost use mathlib.Core.Path.{_≡_};
@@ -16,11 +17,8 @@ ghost use Rattle.prices.specs.Reports.{days-from, price-run, price-runs, run-li
 ghost use Rattle.prices.specs.Reports.{days-report, price-report};
 ghost use Rattle.pricing.specs.Runs.{Priced, RunAt, first-price};
 
-// The last day of the range, and the refusals of a report that does not fit and of a day, date or month that is not in
-// the calendar or range.
+// The last day of the range, and the refusal of a day, date or month that is not in the calendar or range.
 const LAST_DAY: u32 = 65535;
-
-const ROOM_REFUSAL: u32 = 13;
 
 const DATE_REFUSAL: u32 = 24;
 

@@ -12,7 +12,8 @@ use Rattle.language.specs.Lists.{nth, nth-lt, Never, inj}
 use Rattle.language.specs.Tree.{Class, Program}
 use Rattle.language.specs.World.{World}
 use Rattle.language.specs.Program.{world, class-at}
-use Rattle.language.specs.WellFormed.{Subclass, itself, below-object, above, ProgramWell}
+use Rattle.language.specs.ClassRelations.{Subclass, itself, below-object, above}
+use Rattle.language.specs.WellFormed.{ProgramWell}
 use Rattle.theory.specs.Lookups.{below-is-subclass}
 use Rattle.theory.specs.Superclasses.{subclass-trans, no-class, object-is-no-class}
 use Rattle.fleet.specs.Counts.{Counts, count-below, classes-in, run-counts}

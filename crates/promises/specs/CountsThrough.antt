@@ -15,7 +15,7 @@ use Rattle.language.specs.Lists.{nth, nth-lt, inj, choice, bind-option, map-opt
 use Rattle.language.specs.World.{World}
 use Rattle.language.specs.Program.{world}
 use Rattle.language.specs.Verdict.{check}
-use Rattle.language.specs.Evaluation.{Value, object, Object}
+use Rattle.language.specs.State.{Value, object, Object}
 use Rattle.language.specs.Translation.{plain-class}
 use Rattle.language.specs.Store.{value-of-number, heap-of-numbers, capacity, ran, Ran, run-of}
 use Rattle.language.specs.Correspondence.{identities, identity-of, implementor-of, Matches}

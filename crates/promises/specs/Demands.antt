@@ -13,8 +13,9 @@ use Rattle.language.specs.Results.{accept}
 use Rattle.language.specs.Filling.{answer, buffer}
 use Rattle.language.specs.Tree.{Program}
 use Rattle.language.specs.Verdict.{accepted, verdict}
-use Rattle.language.specs.Evaluation.{stuck}
+use Rattle.language.specs.State.{stuck}
 use Rattle.language.specs.WellFormed.{ProgramWell}
+use Rattle.language.specs.Alphabet.{ours}
 use Rattle.language.specs.Texts.{read-text, write-rows}
 use Rattle.language.specs.Translation.{translation}
 use Rattle.language.specs.Store.{capacity, ended, ran, refused, Ran, run-of}
@@ -37,8 +38,8 @@ use Rattle.promises.specs.DemandsRows.{runs-alike, runs-alike-back}
 -- the first malformed line, with 2 on line 60,001 where the lines before it hold a row each, or with 13 on no
 -- line where the rows do not fit.
 pub demand-1-reader : (text old : List ℕ)
-    → ListedFilling numbers-a-row (ReaderRefusal text) (read-text text) old
-    (answer numbers-a-row (read-text text) (length old)) (buffer (read-text text) old)
+    → ListedFilling numbers-a-row (ReaderRefusal text) (read-text ours text) old
+    (answer numbers-a-row (read-text ours text) (length old)) (buffer (read-text ours text) old)
 demand-1-reader text old = filling-listed numbers-a-row (reader-refuses text) old
 
 -- Demand 1, the writer. Whatever the numbers, and whatever is lent for their text, it answers how many bytes
@@ -46,8 +47,8 @@ demand-1-reader text old = filling-listed numbers-a-row (reader-refuses text) ol
 -- on no line where the numbers are not whole rows, with 1 on the first line whose row is malformed, with 2 on
 -- line 60,001 where there are more rows than 60,000, or with 13 on no line where the text does not fit.
 pub demand-1-writer : (ns old : List ℕ)
-    → ListedFilling 1 (WriterRefusal ns) (write-rows ns) old
-    (answer 1 (write-rows ns) (length old)) (buffer (write-rows ns) old)
+    → ListedFilling 1 (WriterRefusal ns) (write-rows ours ns) old
+    (answer 1 (write-rows ours ns) (length old)) (buffer (write-rows ours ns) old)
 demand-1-writer ns old = filling-listed 1 (writer-refuses ns) old
 
 -- Demand 1, the check. Whatever the numbers, they are accepted or refused with a number and a line that
@@ -92,7 +93,7 @@ pub demand-2-total : (p : Program) → ProgramWell p → (fuel : ℕ) (store : L
     → (a : Ran) × DerivedRun p fuel store a
 demand-2-total p w fuel store = (_, run-is-derived p w fuel store)
 
-pub demand-2-deterministic : (p : Program) (fuel : ℕ) (store : List ℕ) (a b : Ran)
+pub demand-2-deterministic : (p : Program) → ProgramWell p → (fuel : ℕ) (store : List ℕ) (a b : Ran)
     → DerivedRun p fuel store a → DerivedRun p fuel store b → a ≡ b
 demand-2-deterministic = one-derived
 

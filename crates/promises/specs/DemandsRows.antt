@@ -11,7 +11,8 @@ use Rattle.language.specs.Rows.{row-of, numbers-of}
 use Rattle.language.specs.Tree.{Program, flatten-program}
 use Rattle.language.specs.Program.{world}
 use Rattle.language.specs.Verdict.{check}
-use Rattle.language.specs.Evaluation.{Value, Out, with-limits, run}
+use Rattle.language.specs.State.{Value, Out}
+use Rattle.language.specs.Evaluation.{with-limits, run}
 use Rattle.language.specs.Translation.{plain-program, translation}
 use Rattle.language.specs.Store.{capacity, Outcome, gave, ended, ran, Ran, finish, run-of}
 use Rattle.language.specs.Correspondence.{EndAlike, both-give, same-exception, both-deep}

@@ -16,7 +16,8 @@ use Rattle.language.specs.Program.{world}
 use Rattle.language.specs.WellFormed.{Each, ProgramInForm}
 use Rattle.language.specs.Translation.{plain-program}
 use Rattle.language.specs.Verdict.{check}
-use Rattle.language.specs.Evaluation.{Value, Object, State, Stop, raised, deep, first-state}
+use Rattle.language.specs.State.{Value, Object, State, Stop, raised, deep}
+use Rattle.language.specs.Evaluation.{first-state}
 use Rattle.language.specs.Runs.{Evaluates}
 use Rattle.language.specs.Store.{heap-of-numbers, capacity, stored, Outcome, gave, ended, ran, Ran}
 use Rattle.language.specs.Correspondence.{identities, EndAlike, Matches}
@@ -119,10 +120,10 @@ pub record EndAlikeOnStores (ns out : List ℕ) (a a′ : Ran) : Type 0 where
 -- program and the state then, within the fuel, the room for objects and 64 active calls.
 pub data Derives (p : Program) (fuel room : ℕ) : Outcome → State → Type 0 where
   derives-value : {v : Value} {t : State}
-      → Evaluates (world (p .classes)) fuel room most-calls (p .start) first-state (ok v t)
+      → Evaluates (p .classes) fuel room most-calls (p .start) first-state (ok v t)
       → Derives p fuel room (gave v) t
   derives-stop : {x : Stop} {t : State}
-      → Evaluates (world (p .classes)) fuel room most-calls (p .start) first-state (stop x t)
+      → Evaluates (p .classes) fuel room most-calls (p .start) first-state (stop x t)
       → Derives p fuel room (ended x) t
 
 -- What the relation derives of a program with fuel and the room of a store, as an answer and the store

@@ -15,13 +15,14 @@ use Rattle.language.specs.Rows.{Letter, C-class, F-field, M-method, P-parameter
 use Rattle.language.specs.Rows.{V-local, T-true, L-false, N-null, I-slot, Z-is-null, G-get, K-cast, W-new}
 use Rattle.language.specs.Rows.{R-change, A-assign, U-set, Q-call, J-choose, Record, name-of, same-letter}
 use Rattle.language.specs.Rows.{Row, record-of}
-use Rattle.language.specs.Tree.{DeclaredType, type-of-number, Expr, literal-true, literal-false, literal-null}
+use Rattle.language.specs.Tree.{DeclaredType, type-of-number, Expr, literal, literal-true, literal-false}
+use Rattle.language.specs.Tree.{literal-null}
 use Rattle.language.specs.Tree.{slot, is-null, get, cast, new, change, assign, set, call, choose, block, nil}
 use Rattle.language.specs.Tree.{cons, size, sizes, heading-lines, method-lines, methods-lines, class-lines}
 use Rattle.language.specs.Tree.{classes-lines, Program}
 use Rattle.language.specs.Form.{Read, read, several, record-on, next, maybe, locals, node-of, node, body}
 use Rattle.language.specs.Form.{class-of, fields, parameters, effects, method, methods, classes, at-end, form}
-use Rattle.language.specs.Form.{is-node}
+use Rattle.language.specs.Rows.{is-node}
 use Rattle.promises.specs.Listed.{LineOf, FormRefusal, refuses-line, refuses-limit, refuses-place}
 use Rattle.promises.specs.Refusals.{Among, Any, Gives, gives, refuses, gives-bind, gives-after}
 use Rattle.promises.specs.Refusals.{gives-require}
@@ -141,9 +142,9 @@ module _ (most : Most) (rows : List Row) where
   node-of-gives nd g X-effect a b n at rs f h = refuses (on refuses-place f (omega (arith, bound h)) .is)
   node-of-gives nd g S-start a b n at rs f h = refuses (on refuses-place f (omega (arith, bound h)) .is)
   node-of-gives nd g V-local a b n at rs f h = refuses (on refuses-place f (omega (arith, bound h)) .is)
-  node-of-gives nd g T-true a b n at rs f h = reads literal-true rs h
-  node-of-gives nd g L-false a b n at rs f h = reads literal-false rs h
-  node-of-gives nd g N-null a b n at rs f h = reads literal-null rs h
+  node-of-gives nd g T-true a b n at rs f h = reads (literal literal-true) rs h
+  node-of-gives nd g L-false a b n at rs f h = reads (literal literal-false) rs h
+  node-of-gives nd g N-null a b n at rs f h = reads (literal literal-null) rs h
   node-of-gives nd g I-slot a b n at rs f h = reads (slot a) rs h
   node-of-gives nd g W-new a b n at rs f h = reads (new a) rs h
   node-of-gives nd g R-change a b n at rs f h = reads (change a b) rs h

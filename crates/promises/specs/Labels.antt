@@ -7,7 +7,7 @@ use mathlib.Core.List.{List, [], _∷_}
 use lib.ListN.{length, getD}
 use Rattle.language.specs.Limits.{object-class, numbers-an-object}
 use Rattle.language.specs.Tree.{Class, Program}
-use Rattle.language.specs.WellFormed.{Subclass}
+use Rattle.language.specs.ClassRelations.{Subclass}
 use Rattle.theory.specs.Accepts.{RowsOf}
 
 -- The class that object j of a store, from 0, ended in: the first of its numbers.

@@ -17,6 +17,7 @@ use Rattle.language.specs.Limits.{cast-exception}
 use Rattle.language.specs.Lists.{nth}
 use Rattle.language.specs.Results.{Checked, accept, refuse, passed}
 use Rattle.language.specs.Rows.{F-field, written, Row, row-of, record-of, is-row, rows-of}
+use Rattle.language.specs.Alphabet.{ours}
 use Rattle.language.specs.TextLines.{line-of}
 use Rattle.language.specs.declared.Line.the-variants.{Row as LineRow, Malformed}
 use Rattle.language.specs.declared.Filled.{Filled}
@@ -28,7 +29,7 @@ use Rattle.language.specs.Headings.{headings}
 use Rattle.language.specs.Typing.{bodies}
 use Rattle.language.specs.Verdict.{Verdict, accepted, refused}
 use Rattle.language.specs.Translation.{within-limits}
-use Rattle.language.specs.Evaluation.{Value, raised, spent, deep, full}
+use Rattle.language.specs.State.{Value, raised, spent, deep, full}
 use Rattle.language.specs.Store.{capacity, Outcome, gave, ended, ran, Ran, refused as run-refused}
 use Rattle.theory.specs.Accepts.{RowsOf}
 use Rattle.promises.specs.Endings.{translator-column}
@@ -41,14 +42,14 @@ pub record LineOf (rows l : ℕ) : Type 0 where
 -- n lines of a text that hold a row each, and the text after them.
 pub data LinesRead : ℕ → List ℕ → List ℕ → Type 0 where
   no-line-read : {text : List ℕ} → LinesRead 0 text text
-  line-read : {n code a b used : ℕ} {text rest : List ℕ} → line-of text ≡ LineRow code a b used
+  line-read : {n code a b used : ℕ} {text rest : List ℕ} → line-of ours text ≡ LineRow code a b used
       → LinesRead n (drop used text) rest → LinesRead (1 + n) text rest
 
 -- The reader: 1 on the first line that is malformed, 2 on line 60,001 where the lines before it hold a row
 -- each.
 pub data ReaderRefusal (text : List ℕ) : ℕ → ℕ → Type 0 where
   malformed-line : {n : ℕ} {rest : List ℕ} → n < of-check .rows → LinesRead n text rest → rest ≢ []
-      → line-of rest ≡ Malformed → ReaderRefusal text line-refusal (1 + n)
+      → line-of ours rest ≡ Malformed → ReaderRefusal text line-refusal (1 + n)
   line-too-many : {rest : List ℕ} → LinesRead (of-check .rows) text rest → rest ≢ []
       → ReaderRefusal text limit-refusal (1 + of-check .rows)
 

@@ -18,7 +18,8 @@ use Rattle.language.specs.World.{World}
 use Rattle.language.specs.Program.{world}
 use Rattle.language.specs.Form.{form}
 use Rattle.language.specs.Verdict.{whole-rows, three-passes, check, verdict-of, verdict}
-use Rattle.language.specs.Evaluation.{Value, State, Stop, Out, with-limits, first-state, run}
+use Rattle.language.specs.State.{Value, State, Stop, Out}
+use Rattle.language.specs.Evaluation.{with-limits, first-state, run}
 use Rattle.language.specs.WellFormed.{ProgramWell}
 use Rattle.language.specs.Store.{capacity, stored, ended, finish, runnable, run-checked, run-of}
 use Rattle.theory.specs.Fitting.{Fine, fine-null, fine-cast, fine-deep, fine-spent, fine-full}

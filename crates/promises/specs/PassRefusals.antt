@@ -9,8 +9,8 @@ use native.Mathlib.Omega.{arith}
 use Rattle.language.specs.Limits.{Most}
 use Rattle.language.specs.Results.{Checked}
 use Rattle.language.specs.Frames.{at-slot, opened}
-use Rattle.language.specs.Tree.{DeclaredType, bool, class, ExprType, known, null-type, Expr, literal-true}
-use Rattle.language.specs.Tree.{literal-false, literal-null, slot, is-null, get, cast, new, change, assign}
+use Rattle.language.specs.Tree.{DeclaredType, bool, class, ExprType, known, null-type, Expr, literal}
+use Rattle.language.specs.Tree.{slot, is-null, get, cast, new, change, assign}
 use Rattle.language.specs.Tree.{set, call, choose, block, Exprs, nil, cons, size, sizes, Field, Declaration}
 use Rattle.language.specs.Tree.{heading-lines, method-lines, methods-lines, Class, class-lines, classes-lines}
 use Rattle.language.specs.Tree.{Program}
@@ -19,7 +19,8 @@ use Rattle.language.specs.Effects.{apply-class, within, effect-of-all}
 use Rattle.language.specs.Program.{declared, kind-at, is-root-class, is-state-type, world}
 use Rattle.language.specs.Headings.{may-extend, is-some, may-override, check-fields, check-parameters}
 use Rattle.language.specs.Headings.{check-effects, check-methods, check-class, check-classes, headings}
-use Rattle.language.specs.Typing.{Environment, fresh-slot, method-environment, start-environment, need-class}
+use Rattle.language.specs.Environment.{Environment, fresh-slot, method-environment, start-environment}
+use Rattle.language.specs.Typing.{need-class}
 use Rattle.language.specs.Typing.{not-bool, fits, all-fit, join-types, can-change, locals-declared, type-of}
 use Rattle.language.specs.Typing.{type-all, type-method, type-methods, type-classes, bodies}
 use Rattle.promises.specs.Listed.{LineOf, HeadingRefusal, refuses-fields, refuses-heading-name}
@@ -130,9 +131,7 @@ module _ (W : World) (rows : ℕ) where
 
     type-gives : (e : Expr) (at : ℕ) (γ : Environment) → 1 ≤ at → at + size e ≤ 1 + rows
         → BodyGives (type-of W e at γ)
-    type-gives literal-true at γ f h = gives tt
-    type-gives literal-false at γ f h = gives tt
-    type-gives literal-null at γ f h = gives tt
+    type-gives (literal l) at γ f h = gives tt
     type-gives (slot k) at γ f h = gives-need (at-slot γ k) (on refuses-slot f (omega (arith, h))) λ s.
         gives tt
     type-gives (is-null e) at γ f h = let b : at ≤ rows = omega (arith, h) in

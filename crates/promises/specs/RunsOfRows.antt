@@ -11,9 +11,9 @@ use native.Mathlib.Omega.{arith}
 use Rattle.language.specs.Limits.{most-fuel, most-calls}
 use Rattle.language.specs.Results.{ok, stop, Checked, accept, refuse, require-inv}
 use Rattle.language.specs.Tree.{Program}
-use Rattle.language.specs.Program.{world}
 use Rattle.language.specs.Verdict.{whole-rows, accepted, verdict}
-use Rattle.language.specs.Evaluation.{Value, State, Out, with-limits, first-state, run}
+use Rattle.language.specs.State.{Value, State, Out}
+use Rattle.language.specs.Evaluation.{with-limits, first-state, run}
 use Rattle.language.specs.Runs.{Evaluates}
 use Rattle.language.specs.WellFormed.{ProgramWell}
 use Rattle.language.specs.Store.{capacity, stored, Outcome, Answer, ran, refused, Ran, finished, finish}
@@ -63,7 +63,7 @@ same-run {a} {b} e f = ap with-answer e ∙ ap with-store f
 
 -- The result of a run, as its outcome and state, is derived if the relation derives it.
 result-derives : (p : Program) (fuel room : ℕ) (r : Out Value)
-    → Evaluates (world (p .classes)) fuel room most-calls (p .start) first-state r
+    → Evaluates (p .classes) fuel room most-calls (p .start) first-state r
     → Derives p fuel room (outcome r) (final r)
 result-derives p fuel room (ok v t) d = derives-value d
 result-derives p fuel room (stop x t) d = derives-stop d
@@ -79,33 +79,33 @@ run-is-derived p w fuel store = let r = run (with-limits fuel (capacity store)) 
   store-after = finish-store r store;
 }
 
--- What is derived of a program over a store is its run.
-derived-finish : {p : Program} {fuel room : ℕ} {o : Outcome} {t : State} (store : List ℕ)
+-- What is derived of a well-formed program over a store is its run.
+derived-finish : {p : Program} {fuel room : ℕ} {o : Outcome} {t : State} → ProgramWell p → (store : List ℕ)
     → Derives p fuel room o t
     → finish (run (with-limits fuel room) p) store ≡ finished o t store
-derived-finish {p} {fuel} {room} store (derives-value {v} {t} d) =
-    ap (λ (r : Out Value). finish r store) (derived-is-run p fuel room (ok v t) d)
-derived-finish {p} {fuel} {room} store (derives-stop {x} {t} d) =
-    ap (λ (r : Out Value). finish r store) (derived-is-run p fuel room (stop x t) d)
+derived-finish {p} {fuel} {room} w store (derives-value {v} {t} d) =
+    ap (λ (r : Out Value). finish r store) (derived-is-run p w fuel room (ok v t) d)
+derived-finish {p} {fuel} {room} w store (derives-stop {x} {t} d) =
+    ap (λ (r : Out Value). finish r store) (derived-is-run p w fuel room (stop x t) d)
 
-pub derived-is-finish : (p : Program) (fuel : ℕ) (store : List ℕ) (a : Ran) → DerivedRun p fuel store a
-    → finish (run (with-limits fuel (capacity store)) p) store ≡ a
-derived-is-finish p fuel store a d =
-    derived-finish store (d .derived) ∙ same-run (sym (d .answer)) (sym (d .store-after))
+pub derived-is-finish : (p : Program) → ProgramWell p → (fuel : ℕ) (store : List ℕ) (a : Ran)
+    → DerivedRun p fuel store a → finish (run (with-limits fuel (capacity store)) p) store ≡ a
+derived-is-finish p w fuel store a d =
+    derived-finish w store (d .derived) ∙ same-run (sym (d .answer)) (sym (d .store-after))
 
 -- The run of the rows of a well-formed program gives a exactly if the relation derives a.
 pub runs-derived : (ns : List ℕ) (p : Program) → RowsOf ns p → (fuel : ℕ) → fuel ≤ most-fuel
     → (store : List ℕ) (a : Ran) → (run-of ns fuel store ≡ a) ↔ DerivedRun p fuel store a
 runs-derived ns p rows fuel l store a = let e = accepted-run ns p rows fuel l store in (
   (λ q. subst (DerivedRun p fuel store) (sym e ∙ q) (run-is-derived p (rows .well) fuel store)),
-  (λ d. e ∙ derived-is-finish p fuel store a d),
+  (λ d. e ∙ derived-is-finish p (rows .well) fuel store a d),
 )
 
--- The relation derives one answer and store at most.
-pub one-derived : (p : Program) (fuel : ℕ) (store : List ℕ) (a b : Ran)
+-- The relation derives one answer and store of a well-formed program at most.
+pub one-derived : (p : Program) → ProgramWell p → (fuel : ℕ) (store : List ℕ) (a b : Ran)
     → DerivedRun p fuel store a → DerivedRun p fuel store b → a ≡ b
-one-derived p fuel store a b d d′ =
-    sym (derived-is-finish p fuel store a d) ∙ derived-is-finish p fuel store b d′
+one-derived p w fuel store a b d d′ =
+    sym (derived-is-finish p w fuel store a d) ∙ derived-is-finish p w fuel store b d′
 
 finish-runs : (r : Out Value) (store : List ℕ) (n l : ℕ) → finish r store .answer ≢ refused n l
 finish-runs (ok v s) store n l e = let z : _≡_ {A = ℕ} 0 1 = cc in omega arith

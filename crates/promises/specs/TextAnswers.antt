@@ -17,6 +17,7 @@ use Rattle.language.specs.Rows.{Row, row, is-row, rows-of}
 use Rattle.language.specs.TextLines.{line-of, line-text}
 use Rattle.language.specs.declared.Line.{Line}
 use Rattle.language.specs.declared.Line.the-variants.{Row as LineRow, Malformed}
+use Rattle.language.specs.Alphabet.{ours}
 use Rattle.language.specs.Texts.{with-line, read-lines, read-text, write-lines, write-rows}
 use Rattle.promises.specs.Listed.{LinesRead, no-line-read, line-read, ReaderRefusal, malformed-line}
 use Rattle.promises.specs.Listed.{WellMade}
@@ -34,7 +35,8 @@ nonempty : {x : ℕ} {s : List ℕ} → x ∷ s ≢ []
 nonempty e = let z = ap length e in omega (arith, z)
 
 -- One line more.
-lines-then : {n code a b used : ℕ} {text s : List ℕ} → LinesRead n text s → line-of s ≡ LineRow code a b used
+lines-then : {n code a b used : ℕ} {text s : List ℕ} → LinesRead n text s
+    → line-of ours s ≡ LineRow code a b used
     → LinesRead (1 + n) text (drop used s)
 lines-then no-line-read e = line-read e no-line-read
 lines-then (line-read e₁ r) e = line-read e₁ (lines-then r e)
@@ -47,7 +49,7 @@ module _ (text : List ℕ) where
     lines : LinesRead n text s
 
   lines-refuse : (left n line : ℕ) (s : List ℕ) → Follows left n line s
-      → RefusesOnly (ReaderRefusal text) (read-lines left line s)
+      → RefusesOnly (ReaderRefusal text) (read-lines ours left line s)
   unfolding read-lines
   lines-refuse zero n line [] h = answers
   lines-refuse zero n line (x ∷ s) h = let all : n ≡ of-check .rows = omega (arith, h .allowed) in
@@ -56,13 +58,13 @@ module _ (text : List ℕ) where
       (refuses-as (line-too-many (subst (λ (k : ℕ). LinesRead k text (x ∷ s)) all (h .lines)) nonempty))
   lines-refuse (suc left) n line [] h = answers
   lines-refuse (suc left) n line (x ∷ s) h =
-      go (line-of (x ∷ s)) refl (λ used f. lines-refuse left (1 + n) (line + 1) (drop used (x ∷ s)) f)
+      go (line-of ours (x ∷ s)) refl (λ used f. lines-refuse left (1 + n) (line + 1) (drop used (x ∷ s)) f)
     where
-      go : (r : Line) → line-of (x ∷ s) ≡ r
+      go : (r : Line) → line-of ours (x ∷ s) ≡ r
           → ((used : ℕ) → Follows left (1 + n) (line + 1) (drop used (x ∷ s))
-          → RefusesOnly (ReaderRefusal text) (read-lines left (line + 1) (drop used (x ∷ s))))
+          → RefusesOnly (ReaderRefusal text) (read-lines ours left (line + 1) (drop used (x ∷ s))))
           → RefusesOnly (ReaderRefusal text)
-          (with-line line (λ used. read-lines left (line + 1) (drop used (x ∷ s))) r)
+          (with-line line (λ used. read-lines ours left (line + 1) (drop used (x ∷ s))) r)
       go Malformed e f = subst (λ (l : ℕ). RefusesOnly (ReaderRefusal text) {A = List ℕ}
           (refuse line-refusal l))
           (sym (h .next)) (refuses-as (malformed-line (omega (arith, h .allowed)) (h .lines) nonempty e))
@@ -73,7 +75,7 @@ module _ (text : List ℕ) where
       }))
 
 -- The reader refuses only in the ways listed for it.
-pub reader-refuses : (text : List ℕ) → RefusesOnly (ReaderRefusal text) (read-text text)
+pub reader-refuses : (text : List ℕ) → RefusesOnly (ReaderRefusal text) (read-text ours text)
 reader-refuses text = lines-refuse text (of-check .rows) 0 1 text
     (record { allowed = refl; next = refl; lines = no-line-read })
 
@@ -98,7 +100,7 @@ module _ (ns : List ℕ) where
     count : length (rows-of ns) ≡ n + length (rows-of rows)
 
   rows-refuse : (left n line : ℕ) (rows : List ℕ) → FollowsRows left n line rows
-      → RefusesOnly (WriterRefusal ns) (write-lines left line rows)
+      → RefusesOnly (WriterRefusal ns) (write-lines ours left line rows)
   unfolding write-lines rows-of nth
   rows-refuse zero n line [] h = answers
   rows-refuse zero n line (x ∷ []) h = absurd (omega (arith, h .whole))
@@ -128,21 +130,23 @@ module _ (ns : List ℕ) where
       this = subst (λ (k : ℕ). nth (rows-of ns) k ≡ some (row x y z w)) (omega arith) (h .each 0)
 
       go : (b : Bool) → is-row (row x y z w) ≡ b
-          → (is-row (row x y z w) ≡ true → RefusesOnly (WriterRefusal ns) (write-lines left (line + 1) rows))
+          → (is-row (row x y z w) ≡ true
+          → RefusesOnly (WriterRefusal ns) (write-lines ours left (line + 1) rows))
           → RefusesOnly (WriterRefusal ns)
-          (cond b (before (line-text x y z) (write-lines left (line + 1) rows)) (refuse line-refusal line))
-      go true e f = only-before (line-text x y z) (f e)
+          (cond b (before (line-text ours x y z) (write-lines ours left (line + 1) rows))
+          (refuse line-refusal line))
+      go true e f = only-before (line-text ours x y z) (f e)
       go false e f = subst (λ (l : ℕ). RefusesOnly (WriterRefusal ns) {A = List ℕ} (refuse line-refusal l))
           (sym (h .next))
           (refuses-as (malformed-row (row x y z w) (omega (arith, h .allowed)) (h .well-made) this e))
 
 -- The writer refuses only in the ways listed for it.
-pub writer-refuses : (ns : List ℕ) → RefusesOnly (WriterRefusal ns) (write-rows ns)
+pub writer-refuses : (ns : List ℕ) → RefusesOnly (WriterRefusal ns) (write-rows ours ns)
 writer-refuses ns = go (eqb (length ns % numbers-a-row) 0) refl
   where
     go : (b : Bool) → eqb (length ns % numbers-a-row) 0 ≡ b
         → RefusesOnly (WriterRefusal ns)
-        (cond b (write-lines (of-check .rows) 1 ns) (refuse line-refusal no-line))
+        (cond b (write-lines ours (of-check .rows) 1 ns) (refuse line-refusal no-line))
     go true e = rows-refuse ns (of-check .rows) 0 1 ns (record {
       allowed = refl;
       next = refl;

@@ -19,7 +19,7 @@ use Rattle.language.specs.Rows.{Row, record-of}
 use Rattle.language.specs.Tree.{DeclaredType, type-of-number, Expr, is-null, get, cast, assign, set, call}
 use Rattle.language.specs.Tree.{choose, block, Exprs, cons, size}
 use Rattle.language.specs.Form.{Read, read, after, several, record-on, next, locals, node-of, node, body}
-use Rattle.language.specs.Form.{is-node}
+use Rattle.language.specs.Rows.{is-node}
 use Rattle.language.specs.Uses.{a-local, counted, node-uses, nodes-uses, too-many-slots}
 use Rattle.language.specs.Uses.{nested-too-deep}
 use Rattle.theory.specs.Translatable.{Tighter}

@@ -21,7 +21,7 @@ use Rattle.language.proofs.Booleans.{false≢}
 use Rattle.theory.specs.TreeRows.{length-program}
 use Rattle.theory.specs.Whole.{form-flat}
 use Rattle.theory.specs.Accepts.{RowsOf, rows-of-numbers, check-accepts}
-use Rattle.theory.specs.WellEqual.{headings-test}
+use Rattle.theory.specs.WellPasses.{headings-test}
 use Rattle.theory.specs.MoreLookups.{check-classes-few, Free}
 use Rattle.theory.specs.MoreLookups.{names-free-at, fields-are-free}
 use Rattle.promises.specs.Endings.{Unreserved, Translatable, plain-numbers, TranslatesTo}

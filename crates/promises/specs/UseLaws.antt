@@ -8,7 +8,7 @@ use lib.ListN.{length, length-append, length-map}
 use native.Mathlib.Omega.{arith}
 use Rattle.language.specs.Limits.{Most}
 use Rattle.language.specs.Lists.{nth}
-use Rattle.language.specs.Tree.{Expr, literal-true, literal-false, literal-null, slot, is-null, get, cast}
+use Rattle.language.specs.Tree.{Expr, literal, slot, is-null, get, cast}
 use Rattle.language.specs.Tree.{new}
 use Rattle.language.specs.Tree.{change, assign, set, call, choose, block, Exprs, nil, cons, size, sizes}
 use Rattle.language.specs.Tree.{Declaration, heading-lines, method-lines, methods-lines, Class, class-lines}
@@ -29,9 +29,7 @@ mutual
   unfolding node-uses size
 
   pub node-length : (d n : ℕ) (e : Expr) → length (node-uses d n e) ≡ size e
-  node-length d n literal-true = refl
-  node-length d n literal-false = refl
-  node-length d n literal-null = refl
+  node-length d n (literal l) = refl
   node-length d n (slot k) = refl
   node-length d n (is-null e) = omega (arith, node-length (suc d) n e)
   node-length d n (get f e) = omega (arith, node-length (suc d) n e)
@@ -119,9 +117,7 @@ Excess most at us l = OnLine (Exceeds most) at us l
 pub node-exceeds : {most : Most} {d : ℕ} (n at : ℕ) (e : Expr) → Exceeds most (a-node d)
     → Excess most at (node-uses d n e) at
 unfolding node-uses
-node-exceeds n at literal-true h = here h
-node-exceeds n at literal-false h = here h
-node-exceeds n at literal-null h = here h
+node-exceeds n at (literal l) h = here h
 node-exceeds n at (slot k) h = here h
 node-exceeds n at (is-null e) h = here h
 node-exceeds n at (get f e) h = here h

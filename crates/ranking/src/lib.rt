@@ -2,6 +2,8 @@
 // window stand in a table of fixed length, and most fleets have one window. Where there are more, all are judged and measured
 // before the first byte is written; then the lines of each window are merged into those that stand in the report.
 use fleet::Reported;
+use language::LINE_REFUSAL;
+use language::ROOM_REFUSAL;
 use scanning::Scan;
 ghost use mathlib.Core.Path.{_≡_};
 ghost use Prim.Native.Nat.{ℕ, _+_, _*_, _/_, _%_, _≤_, _<_};
@@ -185,7 +187,7 @@ fn report_window(
     let w = s.window;
     let count = w.count;
     if report.len() < reports::measure(table, count) {
-        return Reported::Refused(13, 0);
+        return Reported::Refused(ROOM_REFUSAL, 0);
     }
     Reported::Done(merge_window(report, 0, table, heads, nexts, count))
 }
@@ -252,7 +254,7 @@ fn report_windows(
         let written = write_windows(fleet, lines, programs, stores, report, table, heads, nexts);
         return Reported::Done(written);
     }
-    Reported::Refused(13, 0)
+    Reported::Refused(ROOM_REFUSAL, 0)
 }
 
 // The report of lines, with tables that are lent. Once a window is summed, the chains' slices serve for the order.
@@ -339,7 +341,7 @@ pub fn rank_models(counts: &[u32], report: &mut [u8]) -> Reported
         ⌝ }
 {
     if counts.len() % 4 != 0 {
-        return Reported::Refused(1, 0);
+        return Reported::Refused(LINE_REFUSAL, 0);
     }
     if counts.len() <= 1024 {
         return report_few(false, counts, counts, counts, report);
@@ -356,7 +358,7 @@ pub fn report_fleet(runs: &[u32], programs: &[u32], stores: &[u32], report: &mut
         (now (stores .entry))) (now (report .entry)) ⌝ }
 {
     if runs.len() % 6 != 0 {
-        return Reported::Refused(1, 0);
+        return Reported::Refused(LINE_REFUSAL, 0);
     }
     if runs.len() <= 1536 {
         return report_few(true, runs, programs, stores, report);

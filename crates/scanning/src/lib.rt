@@ -2,6 +2,8 @@
 // in order, and a scan ends at the first that is refused.
 use counting::Known;
 use fleet::Count;
+use language::LINE_REFUSAL;
+use language::OBJECT_WIDTH;
 use sums::Taken;
 use sums::Window;
 ghost use mathlib.Core.Path.{_≡_};
@@ -21,18 +23,14 @@ pub struct Scan {
     pub window: Window,
 }
 
-// How many numbers a counted line has, a run, a row of a program, and an object of a store.
+// How many numbers a counted line has, a run, and a row of a program.
 const LINE_SIZE: usize = 4;
 
 const RUN_SIZE: usize = 6;
 
 const ROW_SIZE: usize = 4;
 
-const OBJECT_SIZE: usize = 18;
-
-// The refusals of a counted line, of a line that takes a sum past the largest, and of a run.
-const LINE_REFUSAL: u32 = 1;
-
+// The refusals of a line that takes a sum past the largest, and of a run.
 const SUM_REFUSAL: u32 = 17;
 
 const CLASS_REFUSAL: u32 = 18;
@@ -166,7 +164,7 @@ fn scan_runs(
         w = v;
         before = at;
         at = end;
-        from += objects as usize * OBJECT_SIZE;
+        from += objects as usize * OBJECT_WIDTH;
         i += 1;
     }
     ended(limit, 0, w)

@@ -1,35 +1,29 @@
 -- Packing an answer as the code gives it is packing that of the definition. Assumes nothing.
 use mathlib.Core.Path.{_≡_, refl, ap, _∙_}
-use mathlib.Core.Bool.{true, false}
 use Prim.Native.Nat.{ℕ}
 use native.Mathlib.Omega.{arith}
 use Rattle.language.specs.Verdict as verdicts
 use Rattle.language.specs.Verdict.{accepted, refused as not-accepted}
-use Rattle.language.specs.Evaluation.{Value, null, truth, object, raised, spent, deep, full, stuck}
-use Rattle.language.specs.Store.{Outcome, gave, ended, value-number, Answer, refused, ran}
+use Rattle.language.specs.State.{Value, null, truth, object, raised, spent, deep, full, stuck}
+use Rattle.language.specs.Store.{Outcome, gave, ended, Answer, refused, ran}
 use Rattle.checker.specs.Answers.{verdict-case}
 use Rattle.machine.specs.Contracts.{value-told, end-told}
 use Rattle.machine.specs.declared.Run.{Run}
 use Rattle.runner.specs.declared.Answer as runner
 use Rattle.runner.specs.declared.Answer.the-variants.{Refused as NotRun, Ran}
 use Rattle.runner.specs.Answers.{answer-told}
-use Rattle.services.specs.Packed.{packed-verdict, packed-outcome, packed-answer, steps-after}
-use Rattle.services.specs.Packed.{objects-after, changes-after}
-use Rattle.services.specs.Packed.{packed-checked, packed-value, packed-end, packed-run, steps-told}
-use Rattle.services.specs.Packed.{objects-told, changes-told}
+use Rattle.services.specs.Packed.{packed-verdict, packed-outcome, packed-answer, kind, content}
+use Rattle.services.specs.Packed.{kind-of-outcome, kind-after, content-of-outcome, content-after}
+use Rattle.services.specs.Packed.{steps-after, objects-after, changes-after, packed-checked, kind-of}
+use Rattle.services.specs.Packed.{content-of, packed-end, packed-run, kind-left, kind-told}
+use Rattle.services.specs.Packed.{content-left, content-told, steps-told, objects-told, changes-told}
 
 pub verdict-packed : (v : verdicts.Verdict) → packed-checked (verdict-case v) ≡ packed-verdict v
 verdict-packed accepted = refl
 verdict-packed (not-accepted number line) = refl
 
-value-packed : (v : Value) → packed-value (value-told v) ≡ value-number v
-value-packed null = refl
-value-packed (truth true) = refl
-value-packed (truth false) = refl
-value-packed (object j) = omega arith
-
 outcome-packed : (o : Outcome) → packed-end (end-told o) ≡ packed-outcome o
-outcome-packed (gave v) = value-packed v
+outcome-packed (gave v) = refl
 outcome-packed (ended (raised n)) = refl
 outcome-packed (ended spent) = refl
 outcome-packed (ended deep) = refl
@@ -39,6 +33,41 @@ outcome-packed (ended stuck) = refl
 answer-packed : (b : Answer) → packed-run (answer-told b) ≡ packed-answer b
 answer-packed (refused number line) = refl
 answer-packed (ran o steps objects changes) = outcome-packed o
+
+-- An object has one number in both.
+value-kind : (v : Value) → kind-of (value-told v) ≡ kind v
+value-kind null = refl
+value-kind (truth b) = refl
+value-kind (object j) = refl
+
+value-content : (v : Value) → content-of (value-told v) ≡ content v
+value-content null = refl
+value-content (truth b) = refl
+value-content (object j) = omega arith
+
+outcome-kind : (o : Outcome) (n : ℕ) → kind-left (end-told o) n ≡ kind-of-outcome o n
+outcome-kind (gave v) n = value-kind v
+outcome-kind (ended (raised k)) n = refl
+outcome-kind (ended spent) n = refl
+outcome-kind (ended deep) n = refl
+outcome-kind (ended full) n = refl
+outcome-kind (ended stuck) n = refl
+
+outcome-content : (o : Outcome) (n : ℕ) → content-left (end-told o) n ≡ content-of-outcome o n
+outcome-content (gave v) n = value-content v
+outcome-content (ended (raised k)) n = refl
+outcome-content (ended spent) n = refl
+outcome-content (ended deep) n = refl
+outcome-content (ended full) n = refl
+outcome-content (ended stuck) n = refl
+
+kinds-are : (b : Answer) (n : ℕ) → kind-told (answer-told b) n ≡ kind-after b n
+kinds-are (refused number line) n = refl
+kinds-are (ran o steps objects changes) n = outcome-kind o n
+
+contents-are : (b : Answer) (n : ℕ) → content-told (answer-told b) n ≡ content-after b n
+contents-are (refused number line) n = refl
+contents-are (ran o steps objects changes) n = outcome-content o n
 
 steps-are : (b : Answer) (n : ℕ) → steps-told (answer-told b) n ≡ steps-after b n
 steps-are (refused number line) n = refl
@@ -52,10 +81,16 @@ changes-are : (b : Answer) (n : ℕ) → changes-told (answer-told b) n ≡ chan
 changes-are (refused number line) n = refl
 changes-are (ran o steps objects changes) n = refl
 
--- The number and the counts of an answer that tells b.
+-- What is returned and stored of an answer that tells b.
 module _ {a : runner.Answer} (b : Answer) (e : a ≡ answer-told b) where
   pub number-is : packed-run a ≡ packed-answer b
   number-is = ap packed-run e ∙ answer-packed b
+
+  pub kind-is : (n : ℕ) → kind-told a n ≡ kind-after b n
+  kind-is n = ap (λ (x : runner.Answer). kind-told x n) e ∙ kinds-are b n
+
+  pub content-is : (n : ℕ) → content-told a n ≡ content-after b n
+  content-is n = ap (λ (x : runner.Answer). content-told x n) e ∙ contents-are b n
 
   pub steps-is : (n : ℕ) → steps-told a n ≡ steps-after b n
   steps-is n = ap (λ (x : runner.Answer). steps-told x n) e ∙ steps-are b n
@@ -65,6 +100,11 @@ module _ {a : runner.Answer} (b : Answer) (e : a ≡ answer-told b) where
 
   pub changes-is : (n : ℕ) → changes-told a n ≡ changes-after b n
   changes-is n = ap (λ (x : runner.Answer). changes-told x n) e ∙ changes-are b n
+
+-- The value that is told where the run was not refused.
+pub value-ran : {a : runner.Answer} {r : Run} (m n : ℕ) → a ≡ Ran r
+    → (kind-left (r .outcome) m ≡ kind-told a m) × (content-left (r .outcome) n ≡ content-told a n)
+value-ran m n e = rw e (refl, refl)
 
 -- The counts that are told, where the run was not refused and where it was.
 pub ran-told : {a : runner.Answer} {r : Run} (l m n : ℕ) → a ≡ Ran r

@@ -1,14 +1,15 @@
--- Answers as the one number that crosses to C: a count or a value as it is, a refusal as its number times 2^32 plus its line.
+-- Every answer as the numbers that cross to C: the one returned, and those stored where the caller says. What a caller
+-- makes of them is in Unpacked.
 use mathlib.Core.Path.{_≡_}
-use Prim.Native.Nat.{ℕ, _+_, _*_}
+use Prim.Native.Nat.{ℕ, suc, _+_, _*_}
 use mathlib.Core.Bool.{cond}
 use Rattle.language.specs.declared.Filled.{Filled}
 use Rattle.language.specs.declared.Filled.the-variants.{Done, Refused}
 use Rattle.language.specs.Limits.{spent-stop, deep-stop, full-stop}
 use Rattle.language.specs.Verdict as verdicts
 use Rattle.language.specs.Verdict.{accepted, refused as not-accepted}
-use Rattle.language.specs.Evaluation.{raised, spent, deep, full, stuck}
-use Rattle.language.specs.Store.{Outcome, gave, ended, value-number, Answer, refused, ran}
+use Rattle.language.specs.State.{Value as Meaning, null, truth, object, raised, spent, deep, full, stuck}
+use Rattle.language.specs.Store.{Outcome, gave, ended, Answer, refused, ran}
 use Rattle.checker.specs.declared.Verdict.{Verdict}
 use Rattle.checker.specs.declared.Verdict.the-variants.{Accepted, Refused as NotAccepted}
 use Rattle.objects.specs.declared.Value.{Value}
@@ -28,25 +29,55 @@ use Rattle.prices.specs.declared.DateAnswer.the-variants.{Date, Refused as NoDa
 use Rattle.prices.specs.declared.PriceAnswer.{PriceAnswer}
 use Rattle.prices.specs.declared.PriceAnswer.the-variants.{Cents, Unpriced, Refused as NotPriced}
 
+-- One number holds two words of 32 bits: of a refusal, its number and its line.
+abbrev pub word : ℕ
+word = 4294967296
+
 abbrev pub refusal : ℕ → ℕ → ℕ
-refusal number line = number * 4294967296 + line
+refusal number line = number * word + line
+
+-- ---- rows or bytes written: how many, or a refusal
 
 abbrev pub packed : Filled → ℕ
 packed (Done n) = n
 packed (Refused number line) = refusal number line
 
--- ---- the verdict: 0 accepted
+-- ---- the verdict: 0 accepted, or a refusal
 
 abbrev pub packed-verdict : verdicts.Verdict → ℕ
 packed-verdict accepted = 0
 packed-verdict (not-accepted number line) = refusal number line
 
--- ---- a run: a value is its stored number, an exception is 1000 with its number, a stop is 14, 15 or 16 with 0
+-- ---- a run: 0 with kind and content of its value stored, an exception, a stop, or a refusal
 
--- Stuck comes of no accepted program.
+-- The number that an exception stands under; the exception itself is where a refusal has its line.
+abbrev pub exception : ℕ
+exception = 1000
+
+-- The kinds of values, and what a value has as its content: a bool 0 or 1, an object its number from 1.
+abbrev pub null-kind : ℕ
+null-kind = 0
+
+abbrev pub bool-kind : ℕ
+bool-kind = 1
+
+abbrev pub object-kind : ℕ
+object-kind = 2
+
+abbrev pub kind : Meaning → ℕ
+kind null = null-kind
+kind (truth b) = bool-kind
+kind (object j) = object-kind
+
+abbrev pub content : Meaning → ℕ
+content null = 0
+content (truth b) = cond b 1 0
+content (object j) = suc j
+
+-- Stuck has the number of a value; no run of an accepted program ends so.
 abbrev pub packed-outcome : Outcome → ℕ
-packed-outcome (gave v) = value-number v
-packed-outcome (ended (raised n)) = refusal 1000 n
+packed-outcome (gave v) = 0
+packed-outcome (ended (raised n)) = refusal exception n
 packed-outcome (ended spent) = refusal spent-stop 0
 packed-outcome (ended deep) = refusal deep-stop 0
 packed-outcome (ended full) = refusal full-stop 0
@@ -55,6 +86,23 @@ packed-outcome (ended stuck) = 0
 abbrev pub packed-answer : Answer → ℕ
 packed-answer (refused number line) = refusal number line
 packed-answer (ran o steps objects changes) = packed-outcome o
+
+-- What kind and content are afterwards: those of the value in which the run ended; else what they were.
+abbrev pub kind-of-outcome : Outcome → ℕ → ℕ
+kind-of-outcome (gave v) before = kind v
+kind-of-outcome (ended x) before = before
+
+abbrev pub kind-after : Answer → ℕ → ℕ
+kind-after (refused number line) before = before
+kind-after (ran o steps objects changes) before = kind-of-outcome o before
+
+abbrev pub content-of-outcome : Outcome → ℕ → ℕ
+content-of-outcome (gave v) before = content v
+content-of-outcome (ended x) before = before
+
+abbrev pub content-after : Answer → ℕ → ℕ
+content-after (refused number line) before = before
+content-after (ran o steps objects changes) before = content-of-outcome o before
 
 -- What the three counts are afterwards: those of the run; of a refused one, what they were.
 abbrev pub steps-after : Answer → ℕ → ℕ
@@ -69,25 +117,48 @@ abbrev pub changes-after : Answer → ℕ → ℕ
 changes-after (refused number line) before = before
 changes-after (ran o steps objects changes) before = changes
 
--- ---- the same of answers as the code gives them
+-- ---- the same of answers as the code gives them; there objects count from 1
 
 abbrev pub packed-checked : Verdict → ℕ
 packed-checked Accepted = 0
 packed-checked (NotAccepted number line) = refusal number line
 
-abbrev pub packed-value : Value → ℕ
-packed-value Null = 0
-packed-value (Truth b) = cond b 2 1
-packed-value (Object j) = j + 2
+abbrev pub kind-of : Value → ℕ
+kind-of Null = null-kind
+kind-of (Truth b) = bool-kind
+kind-of (Object j) = object-kind
+
+abbrev pub content-of : Value → ℕ
+content-of Null = 0
+content-of (Truth b) = cond b 1 0
+content-of (Object j) = j
 
 abbrev pub packed-end : End → ℕ
-packed-end (Gave v) = packed-value v
-packed-end (Raised n) = refusal 1000 n
+packed-end (Gave v) = 0
+packed-end (Raised n) = refusal exception n
 packed-end (Stopped n) = refusal n 0
 
 abbrev pub packed-run : runner.Answer → ℕ
 packed-run (NotRun number line) = refusal number line
 packed-run (Ran r) = packed-end (r .outcome)
+
+abbrev pub kind-left : End → ℕ → ℕ
+kind-left (Gave v) before = kind-of v
+kind-left (Raised n) before = before
+kind-left (Stopped n) before = before
+
+abbrev pub kind-told : runner.Answer → ℕ → ℕ
+kind-told (NotRun number line) before = before
+kind-told (Ran r) before = kind-left (r .outcome) before
+
+abbrev pub content-left : End → ℕ → ℕ
+content-left (Gave v) before = content-of v
+content-left (Raised n) before = before
+content-left (Stopped n) before = before
+
+abbrev pub content-told : runner.Answer → ℕ → ℕ
+content-told (NotRun number line) before = before
+content-told (Ran r) before = content-left (r .outcome) before
 
 abbrev pub steps-told : runner.Answer → ℕ → ℕ
 steps-told (NotRun number line) before = before
@@ -149,8 +220,11 @@ day-after (NoDate number line) before = before
 
 -- ---- a price: 1 with its cents and its term's line stored, 0 where there is none, or a refusal
 
+abbrev pub priced : ℕ
+priced = 1
+
 abbrev pub packed-price : PriceAnswer → ℕ
-packed-price (Cents cents line) = 1
+packed-price (Cents cents line) = priced
 packed-price Unpriced = 0
 packed-price (NotPriced number line) = refusal number line
 

@@ -1,6 +1,7 @@
 // Price terms read from text, and the terms that rule on some days (document 02, §11).
 use language::Decimal;
 use language::Filled;
+use language::LINE_REFUSAL;
 use language::Taken;
 use prices::TermLine;
 ghost use mathlib.Core.Path.{_≡_};
@@ -14,9 +15,7 @@ ghost use Rattle.prices.specs.Prices.{covers};
 ghost use Rattle.terms.specs.Tables.{is-marked, Marks, Ruled, scanned};
 ghost use Rattle.terms.specs.Entering.{is-outranked, day-entered, days-entered, term-entered};
 
-// The refusals of a malformed line, and of one whose first day follows its last or whose signing number occurred.
-const LINE_REFUSAL: u32 = 1;
-
+// The refusal of a line whose first day follows its last or whose signing number occurred.
 const TERM_REFUSAL: u32 = 23;
 
 const LINE_FEED: u8 = 10;

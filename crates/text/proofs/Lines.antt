@@ -1,20 +1,24 @@
 -- Laws of lines. Assumes nothing.
 use mathlib.Core.Path.{_≡_, refl, sym, ap, _∙_}
+use mathlib.Core.Option.{Option, none, some}
 use mathlib.Core.Bool.{Bool, true, false, cond, false≢true}
 use mathlib.Core.List.{List, [], _∷_, _++_, append-assoc}
 use Prim.Native.Nat.{ℕ, zero, suc, _+_, _-_, _≤_, _<_}
 use native.Mathlib.Numerals.{add-one}
 use native.Mathlib.Omega.{arith}
-use borrow.Author.Tests.{leb-true}
+use borrow.Author.Tests.{leb-true, eqb-true}
 use lib.Dec.{eqb, leb}
 use lib.ListN.{length, getD, drop, set, length-drop, length-append, drop-of-length-le}
 use lib.Seq.{drop-cons, drop-drop, sets}
 use Rattle.language.proofs.Filling.{sets-then}
-use Rattle.language.specs.Rows.{numbers-after, row, is-row}
+use Rattle.language.specs.Lists.{given}
+use Rattle.language.specs.Rows.{Letter, letters, code, numbers, letter-among, numbers-after, row, is-row}
+use Rattle.language.specs.Alphabet.{Alphabet, ours}
+use Rattle.language.proofs.Letters.{among-code}
 use Rattle.language.proofs.Rows.{are-numbers, is-row-by}
 use Rattle.language.specs.Decimals.{digits}
 use Rattle.language.specs.TextLines.{number-of, closed, then-line, numbered, line-of}
-use Rattle.language.specs.TextLines.{line-text}
+use Rattle.language.specs.TextLines.{line-from, line-text}
 use Rattle.text.specs.Places.{line-at}
 use Rattle.fields.specs.Places.{number-at}
 use Rattle.fields.proofs.Decimals.{length-most}
@@ -46,27 +50,38 @@ closed-shift code a b at n (x ∷ s) = go (eqb x 10)
     go true = let e : at + (n + 1) ≡ at + n + 1 = omega arith in ap (Row code a b) e
     go false = refl
 
+-- under our own alphabet the byte that a line begins with is its row's code, and says how many numbers follow
+line-ours : (x : ℕ) (s : List ℕ) → line-of ours (x ∷ s) ≡ numbered (numbers-after x) x s
+unfolding line-of numbered numbers-after
+line-ours x s = go (letter-among letters x) refl
+  where
+    go : (o : Option Letter) → letter-among letters x ≡ o
+        → given o Malformed (λ l. numbered (numbers l) (code l) s)
+        ≡ numbered (given o 3 (λ l. numbers l)) x s
+    go none e = refl
+    go (some l) e = rw (among-code letters x l e)
+
 -- the line at a place: past the end none, and by how many numbers its letter takes
-pub line-past : (at : ℕ) (s : List ℕ) → length s ≤ at → Malformed ≡ line-at at (line-of (drop at s))
+pub line-past : (at : ℕ) (s : List ℕ) → length s ≤ at → Malformed ≡ line-at at (line-of ours (drop at s))
 unfolding line-of
 line-past at s h = rw (drop-of-length-le s h)
 
 module _ (code at : ℕ) (s : List ℕ) (h : at < length s) (is : code ≡ getD s at 0) (count : ℕ)
     (c : count ≡ numbers-after code) where
-  line-here : line-of (drop at s) ≡ numbered count code (drop (at + 1) s)
-  unfolding line-of
-  line-here = rw (drop-cons s at 0 h, ← add-one at, ← is, ← c)
+  line-here : line-of ours (drop at s) ≡ numbered count code (drop (at + 1) s)
+  line-here = rw (drop-cons s at 0 h, ← add-one at, ← is, c) (line-ours code (drop (at + 1) s))
 
-  pub line-none : count ≡ 0 → closed code 0 0 (at + 1) (drop (at + 1) s) ≡ line-at at (line-of (drop at s))
+  pub line-none : count ≡ 0
+      → closed code 0 0 (at + 1) (drop (at + 1) s) ≡ line-at at (line-of ours (drop at s))
   unfolding numbered
   line-none z = sym (rw (line-here, z, closed-shift code 0 0 at 1 (drop (at + 1) s)))
 
-  pub line-unknown : 2 < count → Malformed ≡ line-at at (line-of (drop at s))
+  pub line-unknown : 2 < count → Malformed ≡ line-at at (line-of ours (drop at s))
   unfolding numbered
   line-unknown l = let e : count ≡ suc (suc (suc (count - 3))) = omega arith in rw (line-here, e)
 
   pub line-no-first : (count ≡ 0 → ⊥) → number-at (at + 1) s ≡ NoNumber
-      → Malformed ≡ line-at at (line-of (drop at s))
+      → Malformed ≡ line-at at (line-of ours (drop at s))
   unfolding numbered
   line-no-first z e = sym (ap (line-at at) (line-here ∙ go count z))
     where
@@ -77,7 +92,7 @@ module _ (code at : ℕ) (s : List ℕ) (h : at < length s) (is : code ≡ getD 
       go (suc (suc (suc k))) n = refl
 
   module _ (a p : ℕ) (first : number-at (at + 1) s ≡ Number a p) where
-    pub line-one : count ≡ 1 → closed code a 0 p (drop p s) ≡ line-at at (line-of (drop at s))
+    pub line-one : count ≡ 1 → closed code a 0 p (drop p s) ≡ line-at at (line-of ours (drop at s))
     unfolding numbered
     line-one z = taken-inv (at + 1) a p (number-of (drop (at + 1) s)) first λ n e q.
         let w : p ≡ at + (1 + n) = omega (arith, q) in
@@ -92,13 +107,13 @@ module _ (code at : ℕ) (s : List ℕ) (h : at < length s) (is : code ≡ getD 
         ))
 
     pub line-no-second : count ≡ 2 → number-at p s ≡ NoNumber
-        → Malformed ≡ line-at at (line-of (drop at s))
+        → Malformed ≡ line-at at (line-of ours (drop at s))
     unfolding numbered
     line-no-second z f = taken-inv (at + 1) a p (number-of (drop (at + 1) s)) first λ n e q.
         rw (line-here, z, e, drop-drop n (at + 1) s, ← q, none-inv p (number-of (drop p s)) f)
 
     pub line-two : (b r : ℕ) → count ≡ 2 → number-at p s ≡ Number b r
-        → closed code a b r (drop r s) ≡ line-at at (line-of (drop at s))
+        → closed code a b r (drop r s) ≡ line-at at (line-of ours (drop at s))
     unfolding numbered
     line-two b r z second = taken-inv (at + 1) a p (number-of (drop (at + 1) s)) first λ n e q.
         taken-inv p b r (number-of (drop p s)) second λ m f w.
@@ -117,41 +132,57 @@ module _ (code at : ℕ) (s : List ℕ) (h : at < length s) (is : code ≡ getD 
           ← u,
         ))
 
--- the line of a row, by how many numbers its letter takes
+-- the line of a row, by its letter
+pub text-by : (α : Alphabet) (n a b : ℕ) (l : Letter) → letter-among letters n ≡ some l
+    → line-text α n a b ≡ line-from (α .byte l) (numbers l) a b
+unfolding line-text
+text-by α n a b l e = rw e
+
+-- under our own alphabet it begins with the row's code
+text-ours : (n a b : ℕ) → numbers-after n < 3 → line-text ours n a b ≡ line-from n (numbers-after n) a b
+unfolding numbers-after
+text-ours n a b h = go (letter-among letters n) refl h
+  where
+    go : (o : Option Letter) → letter-among letters n ≡ o → given o 3 (λ l. numbers l) < 3
+        → line-text ours n a b ≡ line-from n (given o 3 (λ l. numbers l)) a b
+    go none e h = absurd (omega (arith, h))
+    go (some l) e h = rw (text-by ours n a b l e, among-code letters n l e)
+
+-- a line with two numbers, each after its tab
+from-two : (x a b : ℕ) → line-from x 2 a b ≡ x ∷ ((9 ∷ digits a) ++ ((9 ∷ digits b) ++ (10 ∷ [])))
+from-two x a b = rw (append-assoc (digits a) (9 ∷ digits b) (10 ∷ []))
+
+-- how long a line is, by how many numbers it has
+from-one-long : (x a b : ℕ) → length (line-from x 1 a b) ≡ 3 + length (digits a)
+from-one-long x a b = simp length-append (omega arith)
+
+from-two-long : (x a b : ℕ) → length (line-from x 2 a b) ≡ 4 + length (digits a) + length (digits b)
+from-two-long x a b = ap length (from-two x a b) ∙ simp length-append (omega arith)
+
+-- so for our own alphabet
 module _ (code a b : ℕ) where
-  pub text-none : numbers-after code ≡ 0 → line-text code a b ≡ code ∷ 10 ∷ []
-  unfolding line-text
-  text-none e = rw e
+  our-text : (k : ℕ) → k < 3 → numbers-after code ≡ k → line-text ours code a b ≡ line-from code k a b
+  our-text k h e = text-ours code a b (omega (arith, h, e)) ∙ rw e
 
-  pub text-one : numbers-after code ≡ 1 → line-text code a b ≡ code ∷ ((9 ∷ digits a) ++ (10 ∷ []))
-  unfolding line-text
-  text-one e = rw e
+  pub length-none : numbers-after code ≡ 0 → length (line-text ours code a b) ≡ 2
+  length-none e = ap length (our-text 0 (omega arith) e)
 
-  pub text-two : numbers-after code ≡ 2
-      → line-text code a b ≡ code ∷ ((9 ∷ digits a) ++ ((9 ∷ digits b) ++ (10 ∷ [])))
-  unfolding line-text
-  text-two e = rw (e, append-assoc (digits a) (9 ∷ digits b) (10 ∷ []))
-
-  pub length-none : numbers-after code ≡ 0 → length (line-text code a b) ≡ 2
-  length-none e = ap length (text-none e)
-
-  pub length-one : numbers-after code ≡ 1 → length (line-text code a b) ≡ 3 + length (digits a)
-  length-one e = ap length (text-one e) ∙ simp length-append (omega arith)
+  pub length-one : numbers-after code ≡ 1 → length (line-text ours code a b) ≡ 3 + length (digits a)
+  length-one e = ap length (our-text 1 (omega arith) e) ∙ from-one-long code a b
 
   pub length-two : numbers-after code ≡ 2
-      → length (line-text code a b) ≡ 4 + length (digits a) + length (digits b)
-  length-two e = ap length (text-two e) ∙ simp length-append (omega arith)
+      → length (line-text ours code a b) ≡ 4 + length (digits a) + length (digits b)
+  length-two e = ap length (our-text 2 (omega arith) e) ∙ from-two-long code a b
 
 -- room for the letter, and for the first number where there is one
-pub length-some : (code a b : ℕ) → 1 ≤ length (line-text code a b)
-unfolding line-text
-length-some code a b = omega arith
+pub length-some : (code a b : ℕ) → numbers-after code < 3 → 1 ≤ length (line-text ours code a b)
+length-some code a b h = omega (arith, ap length (text-ours code a b h))
 
 pub length-first : (code a b : ℕ) → numbers-after code < 3 → (numbers-after code ≡ 0 → ⊥)
-    → 3 + length (digits a) ≤ length (line-text code a b)
+    → 3 + length (digits a) ≤ length (line-text ours code a b)
 length-first code a b h n = go (numbers-after code) refl
   where
-    go : (k : ℕ) → numbers-after code ≡ k → 3 + length (digits a) ≤ length (line-text code a b)
+    go : (k : ℕ) → numbers-after code ≡ k → 3 + length (digits a) ≤ length (line-text ours code a b)
     go zero e = absurd (n e)
     go (suc zero) e = omega (arith, length-one code a b e)
     go (suc (suc zero)) e = omega (arith, length-two code a b e)
@@ -206,31 +237,38 @@ numbered-span (suc (suc zero)) code s code′ a′ b′ n e = two-span code s co
 numbered-span (suc (suc (suc k))) code s code′ a′ b′ n e = let z : _≡_ {A = ℕ} 0 1 = cc in
     absurd (omega arith)
 
-pub row-span : (s : List ℕ) (code a b n : ℕ) → line-of s ≡ Row code a b n → (2 ≤ n) × (n ≤ length s)
+pub row-span : (α : Alphabet) (s : List ℕ) (code a b n : ℕ) → line-of α s ≡ Row code a b n
+    → (2 ≤ n) × (n ≤ length s)
 unfolding line-of
-row-span [] code a b n e = let z : _≡_ {A = ℕ} 0 1 = cc in absurd (omega arith)
-row-span (x ∷ s) code a b n e = numbered-span (numbers-after x) x s code a b n e
+row-span α [] code a b n e = let z : _≡_ {A = ℕ} 0 1 = cc in absurd (omega arith)
+row-span α (x ∷ s) code′ a b n e = go (α .letter x) e
+  where
+    go : (o : Option Letter) → given o Malformed (λ l. numbered (numbers l) (code l) s) ≡ Row code′ a b n
+        → Span s n
+    go none e = let z : _≡_ {A = ℕ} 0 1 = cc in absurd (omega arith)
+    go (some l) e = numbered-span (numbers l) (code l) s code′ a b n e
 
 -- a buffer with the line of a row: its letter, its numbers, the line feed
 module _ (l : List ℕ) (at code a b : ℕ) where
-  pub write-none : numbers-after code ≡ 0 → set (set l at code) (at + 1) 10 ≡ sets l at (line-text code a b)
-  write-none e = rw (text-none code a b e, add-one at)
+  pub write-none : numbers-after code ≡ 0
+      → set (set l at code) (at + 1) 10 ≡ sets l at (line-text ours code a b)
+  write-none e = rw (our-text code a b 0 (omega arith) e, add-one at)
 
   module _ (then : ℕ) (p : then ≡ at + 1 + 1 + length (digits a)) where
     pub write-one : numbers-after code ≡ 1
-        → set (sets (set l at code) (at + 1) (9 ∷ digits a)) then 10 ≡ sets l at (line-text code a b)
+        → set (sets (set l at code) (at + 1) (9 ∷ digits a)) then 10 ≡ sets l at (line-text ours code a b)
     write-one e =
         let q : then ≡ suc at + length (9 ∷ digits a) = omega (arith, p) in
-        rw (text-one code a b e, add-one at)
+        rw (our-text code a b 1 (omega arith) e, add-one at)
         (sets-then (set l at code) (suc at) then (9 ∷ digits a) (10 ∷ []) q)
 
     pub write-two : (end : ℕ) → end ≡ then + 1 + length (digits b) → numbers-after code ≡ 2
         → set (sets (sets (set l at code) (at + 1) (9 ∷ digits a)) then (9 ∷ digits b)) end 10
-        ≡ sets l at (line-text code a b)
+        ≡ sets l at (line-text ours code a b)
     write-two end w e =
         let q : then ≡ suc at + length (9 ∷ digits a) = omega (arith, p) in
         let r : end ≡ then + length (9 ∷ digits b) = omega (arith, w) in
-        rw (text-two code a b e, add-one at)
+        rw (our-text code a b 2 (omega arith) e, from-two code a b, add-one at)
         (sets-then (sets (set l at code) (suc at) (9 ∷ digits a)) then end (9 ∷ digits b) (10 ∷ []) r
         ∙ sets-then (set l at code) (suc at) then (9 ∷ digits a) ((9 ∷ digits b) ++ (10 ∷ [])) q)
 
@@ -241,29 +279,41 @@ numbers-known (suc zero) a b e = omega arith
 numbers-known (suc (suc zero)) a b e = omega arith
 numbers-known (suc (suc (suc k))) a b e = absurd (false≢true e)
 
-row-numbers : (code a b c : ℕ) → is-row (row code a b c) ≡ true → are-numbers (numbers-after code) a b ≡ true
-row-numbers code a b c e =
-    and-inv (eqb c 0) (are-numbers (numbers-after code) a b) (sym (is-row-by code a b c) ∙ e) .1
+row-parts : (n a b c : ℕ) → is-row (row n a b c) ≡ true
+    → (eqb c 0 ≡ true) × (are-numbers (numbers-after n) a b ≡ true)
+row-parts n a b c e = and-inv (eqb c 0) (are-numbers (numbers-after n) a b) (sym (is-row-by n a b c) ∙ e)
 
-pub row-known : (code a b c : ℕ) → is-row (row code a b c) ≡ true → numbers-after code < 3
-row-known code a b c e = numbers-known (numbers-after code) a b (row-numbers code a b c e)
+pub row-known : (n a b c : ℕ) → is-row (row n a b c) ≡ true → numbers-after n < 3
+row-known n a b c e = numbers-known (numbers-after n) a b (row-parts n a b c e .1)
 
-pub row-short : (code a b c : ℕ) → is-row (row code a b c) ≡ true → length (line-text code a b) ≤ 14
-row-short code a b c e = go (numbers-after code) refl (row-numbers code a b c e)
+-- so a row has a letter, and the numbers that follow it
+pub row-letter : {A : Type 0} (n a b c : ℕ) → is-row (row n a b c) ≡ true
+    → ((l : Letter) → letter-among letters n ≡ some l → are-numbers (numbers l) a b ≡ true → c ≡ 0 → A) → A
+unfolding numbers-after
+row-letter {A} n a b c e k = go (letter-among letters n) refl (row-parts n a b c e .1)
   where
-    go : (k : ℕ) → numbers-after code ≡ k → are-numbers k a b ≡ true → length (line-text code a b) ≤ 14
-    go zero q f = omega (arith, length-none code a b q)
-    go (suc zero) q f = omega (
+    go : (o : Option Letter) → letter-among letters n ≡ o
+        → are-numbers (given o 3 (λ l. numbers l)) a b ≡ true → A
+    go none q f = absurd (false≢true f)
+    go (some l) q f = k l q f (eqb-true c 0 (row-parts n a b c e .0))
+
+short-from : (k x a b : ℕ) → are-numbers k a b ≡ true → length (line-from x k a b) ≤ 14
+short-from zero x a b f = omega arith
+short-from (suc zero) x a b f = omega (
+  arith,
+  from-one-long x a b,
+  length-most a (leb-true a 65535 (and-inv (leb a 65535) (eqb b 0) f .0)),
+)
+short-from (suc (suc zero)) x a b f =
+    omega (
       arith,
-      length-one code a b q,
-      length-most a
-          (leb-true a 65535 (and-inv (leb a 65535) (eqb b 0) f .0)),
+      from-two-long x a b,
+      length-most a (leb-true a 65535 (and-inv (leb a 65535) (leb b 65535) f .0)),
+      length-most b (leb-true b 65535 (and-inv (leb a 65535) (leb b 65535) f .1)),
     )
-    go (suc (suc zero)) q f =
-        omega (
-          arith,
-          length-two code a b q,
-          length-most a (leb-true a 65535 (and-inv (leb a 65535) (leb b 65535) f .0)),
-          length-most b (leb-true b 65535 (and-inv (leb a 65535) (leb b 65535) f .1)),
-        )
-    go (suc (suc (suc k))) q f = absurd (false≢true f)
+short-from (suc (suc (suc k))) x a b f = absurd (false≢true f)
+
+pub row-short : (α : Alphabet) (n a b c : ℕ) → is-row (row n a b c) ≡ true
+    → length (line-text α n a b) ≤ 14
+row-short α n a b c e = row-letter n a b c e λ l q f _.
+    rw (text-by α n a b l q) (short-from (numbers l) (α .byte l) a b f)

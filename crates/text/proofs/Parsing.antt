@@ -12,6 +12,7 @@ use Rattle.language.specs.Filling.{before, tally, is-made, made-numbers}
 use Rattle.language.specs.declared.Filled.the-variants.{Done, Refused}
 use Rattle.language.proofs.Filling.{Left, left-start, left-refused, left-unmade, left-done, left-full}
 use Rattle.language.proofs.Filling.{left-step}
+use Rattle.language.specs.Alphabet.{Alphabet}
 use Rattle.language.specs.TextLines.{line-of}
 use Rattle.language.specs.Texts.{with-line, read-lines, read-text}
 use Rattle.text.specs.Places.{line-at}
@@ -37,107 +38,108 @@ tally-row code a b n (accept ys) =
     let e : n + suc (suc (suc (suc (length ys)))) / 4 ≡ n + 1 + length ys / 4 = omega arith in ap Done e
 tally-row code a b n (refuse number line) = refl
 
-read-end : (left line at : ℕ) (s : List ℕ) → length s ≤ at → read-lines left line (drop at s) ≡ accept []
+read-end : (α : Alphabet) (left line at : ℕ) (s : List ℕ)
+    → length s ≤ at → read-lines α left line (drop at s) ≡ accept []
 unfolding read-lines
-read-end zero line at s h = rw (drop-of-length-le s h)
-read-end (suc left) line at s h = rw (drop-of-length-le s h)
+read-end α zero line at s h = rw (drop-of-length-le s h)
+read-end α (suc left) line at s h = rw (drop-of-length-le s h)
 
-module _ (line at : ℕ) (s : List ℕ) (h : at < length s) where
-  read-over : (left : ℕ) → left ≡ 0 → read-lines left line (drop at s) ≡ refuse 2 line
+module _ (α : Alphabet) (line at : ℕ) (s : List ℕ) (h : at < length s) where
+  read-over : (left : ℕ) → left ≡ 0 → read-lines α left line (drop at s) ≡ refuse 2 line
   unfolding read-lines
   read-over left z = rw (z, drop-cons s at 0 h)
 
   read-here : (left : ℕ)
-      → read-lines (suc left) line (drop at s)
-      ≡ with-line line (λ used. read-lines left (line + 1) (drop used (drop at s))) (line-of (drop at s))
+      → read-lines α (suc left) line (drop at s)
+      ≡ with-line line (λ used. read-lines α left (line + 1) (drop used (drop at s))) (line-of α (drop at s))
   unfolding read-lines
   read-here left = rw (drop-cons s at 0 h)
 
-  read-bad : (left : ℕ) → line-at at (line-of (drop at s)) ≡ Malformed
-      → read-lines (suc left) line (drop at s) ≡ refuse 1 line
-  read-bad left e = rw (read-here left, bad-inv at (line-of (drop at s)) e)
+  read-bad : (left : ℕ) → line-at at (line-of α (drop at s)) ≡ Malformed
+      → read-lines α (suc left) line (drop at s) ≡ refuse 1 line
+  read-bad left e = rw (read-here left, bad-inv at (line-of α (drop at s)) e)
 
-  read-row : (code a b next : ℕ) → line-at at (line-of (drop at s)) ≡ Row code a b next → (left : ℕ)
-      → read-lines (suc left) line (drop at s)
-      ≡ before (code ∷ a ∷ b ∷ 0 ∷ []) (read-lines left (line + 1) (drop next s))
-  read-row code a b next e left = line-inv at code a b next (line-of (drop at s)) e λ n q w.
+  read-row : (code a b next : ℕ) → line-at at (line-of α (drop at s)) ≡ Row code a b next → (left : ℕ)
+      → read-lines α (suc left) line (drop at s)
+      ≡ before (code ∷ a ∷ b ∷ 0 ∷ []) (read-lines α left (line + 1) (drop next s))
+  read-row code a b next e left = line-inv at code a b next (line-of α (drop at s)) e λ n q w.
       rw (read-here left, q, drop-drop n at s, ← w)
 
   -- a line takes two bytes at least, and ends in the text
-  line-span : (code a b next : ℕ) → line-at at (line-of (drop at s)) ≡ Row code a b next
+  line-span : (code a b next : ℕ) → line-at at (line-of α (drop at s)) ≡ Row code a b next
       → (at + 2 ≤ next) × (next ≤ length s)
-  line-span code a b next e = line-inv at code a b next (line-of (drop at s)) e λ n q w.
-      let k = row-span (drop at s) code a b n q in
+  line-span code a b next e = line-inv at code a b next (line-of α (drop at s)) e λ n q w.
+      let k = row-span α (drop at s) code a b n q in
       (omega (arith, k .0, w), omega (arith, k .1, w, length-drop at s, h))
 
 -- the rows of the text from a place on, which is where line `line` begins
-abbrev rows-from : List ℕ → ℕ → ℕ → Checked (List ℕ)
-rows-from text at line = read-lines (60001 - line) line (drop at text)
+abbrev rows-from : Alphabet → List ℕ → ℕ → ℕ → Checked (List ℕ)
+rows-from α text at line = read-lines α (60001 - line) line (drop at text)
 
 -- what holds between two lines while a text is parsed
-pub record Parsing (text held₀ held : List ℕ) (at line : ℕ) : Type 0 where
+pub record Parsing (α : Alphabet) (text held₀ held : List ℕ) (at line : ℕ) : Type 0 where
   pub low : 1 ≤ line
   pub high : line ≤ 60001
   pub place : 2 * (line - 1) ≤ at
   pub within : at ≤ length text
-  pub left : Left 4 (read-text text) (rows-from text at line) (line - 1) held₀ held ((line - 1) * 4)
+  pub left : Left 4 (read-text α text) (rows-from α text at line) (line - 1) held₀ held ((line - 1) * 4)
 
-pub parsing-start : (text held : List ℕ) → Parsing text held held 0 1
-parsing-start text held =
+pub parsing-start : (α : Alphabet) (text held : List ℕ) → Parsing α text held held 0 1
+parsing-start α text held =
     record {
       low = omega arith;
       high = omega arith;
       place = omega arith;
       within = omega arith;
-      left = left-start 4 (read-text text) held;
+      left = left-start 4 (read-text α text) held;
     }
 
-module _ {text held₀ held : List ℕ} {at line : ℕ} (p : Parsing text held₀ held at line) where
-  pub parsing-done : length text ≤ at → Done (line - 1) ≡ tally 4 0 (read-text text)
-  parsing-done h = left-done (p .left) (read-end (60001 - line) line at text h) (omega arith)
+module _ {α : Alphabet} {text held₀ held : List ℕ} {at line : ℕ} (p : Parsing α text held₀ held at line) where
+  pub parsing-done : length text ≤ at → Done (line - 1) ≡ tally 4 0 (read-text α text)
+  parsing-done h = left-done (p .left) (read-end α (60001 - line) line at text h) (omega arith)
 
-  pub parsing-full : length text ≤ at → is-made (read-text text) ≡ true
-      → held ≡ sets held₀ 0 (made-numbers (read-text text))
-  parsing-full h = left-full (p .left) (read-end (60001 - line) line at text h)
+  pub parsing-full : length text ≤ at → is-made (read-text α text) ≡ true
+      → held ≡ sets held₀ 0 (made-numbers (read-text α text))
+  parsing-full h = left-full (p .left) (read-end α (60001 - line) line at text h)
 
   module _ (h : at < length text) where
-    over : 60000 < line → rows-from text at line ≡ refuse 2 line
-    over l = read-over line at text h (60001 - line) (omega (arith, l, p .high))
+    over : 60000 < line → rows-from α text at line ≡ refuse 2 line
+    over l = read-over α line at text h (60001 - line) (omega (arith, l, p .high))
 
-    pub parsing-over : 60000 < line → Refused 2 line ≡ tally 4 0 (read-text text)
+    pub parsing-over : 60000 < line → Refused 2 line ≡ tally 4 0 (read-text α text)
     parsing-over l = left-refused (p .left) 2 line (over l)
 
-    pub parsing-over-held : {A : Type 0} → 60000 < line → is-made (read-text text) ≡ true → A
+    pub parsing-over-held : {A : Type 0} → 60000 < line → is-made (read-text α text) ≡ true → A
     parsing-over-held l m = left-unmade (p .left) 2 line (over l) m
 
     module _ (l : line ≤ 60000) where
       more : 60001 - line ≡ suc (60000 - line)
       more = omega (arith, l)
 
-      bad : line-at at (line-of (drop at text)) ≡ Malformed → rows-from text at line ≡ refuse 1 line
-      bad e = rw more (read-bad line at text h (60000 - line) e)
+      bad : line-at at (line-of α (drop at text)) ≡ Malformed → rows-from α text at line ≡ refuse 1 line
+      bad e = rw more (read-bad α line at text h (60000 - line) e)
 
-      pub parsing-bad : line-at at (line-of (drop at text)) ≡ Malformed
-          → Refused 1 line ≡ tally 4 0 (read-text text)
+      pub parsing-bad : line-at at (line-of α (drop at text)) ≡ Malformed
+          → Refused 1 line ≡ tally 4 0 (read-text α text)
       parsing-bad e = left-refused (p .left) 1 line (bad e)
 
-      pub parsing-bad-held : {A : Type 0} → line-at at (line-of (drop at text)) ≡ Malformed
-          → is-made (read-text text) ≡ true → A
+      pub parsing-bad-held : {A : Type 0} → line-at at (line-of α (drop at text)) ≡ Malformed
+          → is-made (read-text α text) ≡ true → A
       parsing-bad-held e m = left-unmade (p .left) 1 line (bad e) m
 
-      module _ (code a b next : ℕ) (e : line-at at (line-of (drop at text)) ≡ Row code a b next) where
+      module _ (code a b next : ℕ) (e : line-at at (line-of α (drop at text)) ≡ Row code a b next) where
         -- the row fits the buffer
         pub parsing-fits : (2 * length text ≤ length held₀) ⊎ (240000 ≤ length held₀)
             → (line - 1) * 4 + 4 ≤ length held
         parsing-fits r =
-            let k = line-span line at text h code a b next e in
+            let k = line-span α line at text h code a b next e in
             ⊎-elim (λ r. omega (arith, r, k .0, k .1, p .place, p .low, p .left .long))
             (λ r. omega (arith, r, l, p .left .long)) r
 
         pub parsing-step : (held′ : List ℕ) → held′ ≡ sets held ((line - 1) * 4) (code ∷ a ∷ b ∷ 0 ∷ [])
-            → Parsing text held₀ held′ next (line + 1)
+            → Parsing α text held₀ held′ next (line + 1)
         parsing-step held′ w =
-            let k = line-span line at text h code a b next e in
+            let k = line-span α line at text h code a b next e in
             let f : 60001 - (line + 1) ≡ 60000 - line = omega arith in
             let n : line + 1 - 1 ≡ line - 1 + 1 = omega (arith, p .low) in
             let i : (line + 1 - 1) * 4 ≡ (line - 1) * 4 + 4 = omega (arith, p .low) in
@@ -148,10 +150,10 @@ module _ {text held₀ held : List ℕ} {at line : ℕ} (p : Parsing text held�
               within = k .1;
               left = rw (f, i, n)
                   (left-step (p .left) (code ∷ a ∷ b ∷ 0 ∷ [])
-                  (read-lines (60000 - line) (line + 1) (drop next text)) (line - 1 + 1) held′
+                  (read-lines α (60000 - line) (line + 1) (drop next text)) (line - 1 + 1) held′
                   ((line - 1) * 4 + 4)
-                  (rw more (read-row line at text h code a b next e (60000 - line)))
-                  (tally-row code a b (line - 1) (read-lines (60000 - line) (line + 1) (drop next text)))
+                  (rw more (read-row α line at text h code a b next e (60000 - line)))
+                  (tally-row code a b (line - 1) (read-lines α (60000 - line) (line + 1) (drop next text)))
                   w refl);
             }
 
@@ -166,14 +168,15 @@ whole-line : (line : ℕ) (rest : ℕ → Checked (List ℕ)) → ((n : ℕ) →
 whole-line line rest f (Row code a b n) = whole-before code a b (rest n) (f n)
 whole-line line rest f Malformed = refl
 
-pub read-whole : (left line : ℕ) (s : List ℕ) → length (made-numbers (read-lines left line s)) % 4 ≡ 0
+pub read-whole : (α : Alphabet) (left line : ℕ) (s : List ℕ)
+    → length (made-numbers (read-lines α left line s)) % 4 ≡ 0
 unfolding read-lines
-read-whole zero line [] = refl
-read-whole zero line (x ∷ s) = refl
-read-whole (suc left) line [] = refl
-read-whole (suc left) line (x ∷ s) =
-    whole-line line (λ used. read-lines left (line + 1) (drop used (x ∷ s)))
-    (λ n. read-whole left (line + 1) (drop n (x ∷ s))) (line-of (x ∷ s))
+read-whole α zero line [] = refl
+read-whole α zero line (x ∷ s) = refl
+read-whole α (suc left) line [] = refl
+read-whole α (suc left) line (x ∷ s) =
+    whole-line line (λ used. read-lines α left (line + 1) (drop used (x ∷ s)))
+    (λ n. read-whole α left (line + 1) (drop n (x ∷ s))) (line-of α (x ∷ s))
 
 -- and are few: a line takes two bytes at least, and `left` lines are allowed
 pub short-before : (xs : List ℕ) (m : Checked (List ℕ)) (k : ℕ) → length (made-numbers m) ≤ k
@@ -181,27 +184,27 @@ pub short-before : (xs : List ℕ) (m : Checked (List ℕ)) (k : ℕ) → length
 short-before xs (accept ys) k h = omega (arith, length-append xs ys, h)
 short-before xs (refuse number line) k h = omega arith
 
-read-short : (left line : ℕ) (s : List ℕ)
-    → (length (made-numbers (read-lines left line s)) ≤ 2 * length s)
-    × (length (made-numbers (read-lines left line s)) ≤ 4 * left)
+read-short : (α : Alphabet) (left line : ℕ) (s : List ℕ)
+    → (length (made-numbers (read-lines α left line s)) ≤ 2 * length s)
+    × (length (made-numbers (read-lines α left line s)) ≤ 4 * left)
 unfolding read-lines
-read-short zero line [] = (omega arith, omega arith)
-read-short zero line (x ∷ s) = (omega arith, omega arith)
-read-short (suc left) line [] = (omega arith, omega arith)
-read-short (suc left) line (x ∷ s) =
-    go (line-of (x ∷ s)) refl (λ n. read-short left (line + 1) (drop n (x ∷ s)))
+read-short α zero line [] = (omega arith, omega arith)
+read-short α zero line (x ∷ s) = (omega arith, omega arith)
+read-short α (suc left) line [] = (omega arith, omega arith)
+read-short α (suc left) line (x ∷ s) =
+    go (line-of α (x ∷ s)) refl (λ n. read-short α left (line + 1) (drop n (x ∷ s)))
   where
-    go : (l : Line) → line-of (x ∷ s) ≡ l
-        → ((n : ℕ) → (length (made-numbers (read-lines left (line + 1) (drop n (x ∷ s)))) ≤ 2 * length
-        (drop n (x ∷ s))) × (length (made-numbers (read-lines left (line + 1) (drop n (x ∷ s)))) ≤ 4 *
+    go : (l : Line) → line-of α (x ∷ s) ≡ l
+        → ((n : ℕ) → (length (made-numbers (read-lines α left (line + 1) (drop n (x ∷ s)))) ≤ 2 * length
+        (drop n (x ∷ s))) × (length (made-numbers (read-lines α left (line + 1) (drop n (x ∷ s)))) ≤ 4 *
         left))
-        → (length (made-numbers (with-line line (λ used. read-lines left (line + 1) (drop used (x ∷ s))) l))
+        → (length (made-numbers (with-line line (λ used. read-lines α left (line + 1) (drop used (x ∷ s))) l))
         ≤ 2 * suc (length s))
-        × (length (made-numbers (with-line line (λ used. read-lines left (line + 1) (drop used (x ∷ s))) l))
+        × (length (made-numbers (with-line line (λ used. read-lines α left (line + 1) (drop used (x ∷ s))) l))
         ≤ 4 * suc left)
     go (Row code a b n) e ih =
-        let k = row-span (x ∷ s) code a b n e in
-        let m = read-lines left (line + 1) (drop n (x ∷ s)) in (
+        let k = row-span α (x ∷ s) code a b n e in
+        let m = read-lines α left (line + 1) (drop n (x ∷ s)) in (
           omega (
             arith,
             short-before (code ∷ a ∷ b ∷ 0 ∷ []) m (2 * length (drop n (x ∷ s))) (ih n .0),
@@ -214,11 +217,12 @@ read-short (suc left) line (x ∷ s) =
     go Malformed e ih = (omega arith, omega arith)
 
 -- so they fit the buffer that they are held in
-pub read-fits : (text held : List ℕ) → (2 * length text ≤ length held) ⊎ (240000 ≤ length held)
-    → length (made-numbers (read-text text)) ≤ length held
-read-fits text held r = let k = read-short 60000 1 text in
+pub read-fits : (α : Alphabet) (text held : List ℕ) → (2 * length text ≤ length held) ⊎ (240000 ≤ length held)
+    → length (made-numbers (read-text α text)) ≤ length held
+read-fits α text held r = let k = read-short α 60000 1 text in
     ⊎-elim (λ r. omega (arith, k .0, r)) (λ r. omega (arith, k .1, r)) r
 
 -- rows that were read are whole
-pub read-whole-rows : (text rows : List ℕ) → read-text text ≡ accept rows → length rows % 4 ≡ 0
-read-whole-rows text rows e = rw e at (read-whole 60000 1 text)
+pub read-whole-rows : (α : Alphabet) (text rows : List ℕ) → read-text α text ≡ accept rows
+    → length rows % 4 ≡ 0
+read-whole-rows α text rows e = rw e at (read-whole α 60000 1 text)

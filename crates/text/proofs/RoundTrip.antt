@@ -1,6 +1,7 @@
--- Reading what the writer made gives the rows back, and writing what the reader read gives the text back.
--- Assumes nothing.
+-- Under every alphabet with the two laws, reading what the writer made gives the rows back, and writing what the reader
+-- read gives the text back. Assumes nothing.
 use mathlib.Core.Path.{_≡_, refl, sym, ap, _∙_}
+use mathlib.Core.Option.{Option, none, some}
 use mathlib.Core.Bool.{Bool, true, false, cond, false≢true}
 use mathlib.Core.List.{List, [], _∷_, _++_, append-assoc}
 use Prim.Native.Nat.{ℕ, zero, suc, _+_, _%_, _≤_}
@@ -11,23 +12,26 @@ use lib.ListN.{length, take, drop, length-append, take-append-drop}
 use lib.Seq.{take-add, drop-append-seam, drop-append-add}
 use Rattle.language.specs.Results.{Checked, accept, refuse}
 use Rattle.language.specs.Filling.{before}
-use Rattle.language.specs.Rows.{numbers-after, row, is-row}
+use Rattle.language.specs.Lists.{given}
+use Rattle.language.specs.Rows.{Letter, letters, code, numbers, numbers-after, row, is-row}
+use Rattle.language.specs.Alphabet.{Alphabet, Laws}
+use Rattle.language.proofs.Letters.{among-code, code-among}
 use Rattle.language.proofs.Rows.{are-numbers, is-row-by}
 use Rattle.language.specs.Decimals.{digits}
 use Rattle.language.specs.TextLines.{number-of, closed, then-line, numbered, line-of}
-use Rattle.language.specs.TextLines.{line-text}
+use Rattle.language.specs.TextLines.{line-from, line-text}
 use Rattle.language.specs.Texts.{with-line, read-lines, read-text, write-lines, write-rows}
 use Rattle.language.specs.declared.Taken.{Taken}
 use Rattle.language.specs.declared.Taken.the-variants.{Number, NoNumber}
 use Rattle.language.specs.declared.Line.{Line}
 use Rattle.language.specs.declared.Line.the-variants.{Row, Malformed}
 use Rattle.fields.proofs.Digits.{number-back, number-forth}
-use Rattle.text.proofs.Lines.{text-none, text-one, text-two}
+use Rattle.text.proofs.Lines.{text-by, row-letter}
 use Rattle.text.proofs.Parsing.{read-whole-rows}
 use Rattle.text.proofs.Formatting.{rows-are-whole}
 use Rattle.language.proofs.Booleans.{and-inv}
 
--- ---- a line that was read is the line of its row
+-- ---- after its first byte, a line that was read is the line of its row
 
 module _ {A : Type 0} where
   no-row : {code a b n : ℕ} → Malformed ≡ Row code a b n → A
@@ -48,131 +52,93 @@ module _ {A : Type 0} where
       go true q e = k (cc) (cc) (cc) (cc) (ap (λ (y : ℕ). y ∷ []) (eqb-true x 10 q))
       go false q e = no-row e
 
--- what a line that was read says: its row is one, and its text is the line of that row
-abbrev Written : List ℕ → ℕ → ℕ → ℕ → ℕ → Type 0
-Written s code a b n = (is-row (row code a b 0) ≡ true) × (take n s ≡ line-text code a b)
+-- what a line that was read says, after its first byte `x`: its row has the letter's code `y` and the `k` numbers that
+-- follow it, and its text is the line of these
+abbrev Numbered : ℕ → ℕ → ℕ → List ℕ → ℕ → ℕ → ℕ → ℕ → Type 0
+Numbered k y x s c a b n = (c ≡ y) × (are-numbers k a b ≡ true) × (take n (x ∷ s) ≡ line-from x k a b)
 
-row-one : (x a : ℕ) → numbers-after x ≡ 1 → a ≤ 65535 → is-row (row x a 0 0) ≡ true
-row-one x a k h = is-row-by x a 0 0 ∙ rw (k, le-leb a 65535 h)
-
-row-two : (x a b : ℕ) → numbers-after x ≡ 2 → a ≤ 65535 → b ≤ 65535 → is-row (row x a b 0) ≡ true
-row-two x a b k h l = is-row-by x a b 0 ∙ rw (k, le-leb a 65535 h, le-leb b 65535 l)
-
-module _ (x : ℕ) (s : List ℕ) (code a b n : ℕ) where
-  none-back : numbers-after x ≡ 0 → closed x 0 0 1 s ≡ Row code a b n → Written (x ∷ s) code a b n
-  none-back k e = closed-inv x 0 0 1 s code a b n e λ p q r w f.
+module _ (y x : ℕ) (s : List ℕ) (c a b n : ℕ) where
+  none-back : closed y 0 0 1 s ≡ Row c a b n → Numbered 0 y x s c a b n
+  none-back e = closed-inv y 0 0 1 s c a b n e λ p q r w f.
       let z : n ≡ 2 = omega (arith, w) in
-      rw (z, ← p, ← q, ← r) (is-row-by x 0 0 0 ∙ rw k, ap (λ (t : List ℕ). x ∷ t) f ∙ sym (text-none x 0 0 k))
+      rw (z, ← p, ← q, ← r) (refl, refl, ap (λ (t : List ℕ). x ∷ t) f)
 
-  one-back : numbers-after x ≡ 1 → (t : Taken) → number-of s ≡ t
-      → then-line (λ v m. closed x v 0 (1 + m) (drop m s)) t ≡ Row code a b n → Written (x ∷ s) code a b n
-  one-back k NoNumber g e = no-row e
-  one-back k (Number v m) g e = closed-inv x v 0 (1 + m) (drop m s) code a b n e λ p q r w f.
+  one-back : (t : Taken) → number-of s ≡ t
+      → then-line (λ v m. closed y v 0 (1 + m) (drop m s)) t ≡ Row c a b n → Numbered 1 y x s c a b n
+  one-back NoNumber g e = no-row e
+  one-back (Number v m) g e = closed-inv y v 0 (1 + m) (drop m s) c a b n e λ p q r w f.
       let h = number-back s v m g in
       let z : n ≡ suc (m + 1) = omega (arith, w) in
       rw (z, ← p, ← q, ← r) (
-        row-one x v k (h .1),
-        ap (λ (t : List ℕ). x ∷ t) (take-add m 1 s ∙ rw (h .0, f))
-            ∙ sym (text-one x v 0 k),
+        refl,
+        rw (le-leb v 65535 (h .1)),
+        ap (λ (t : List ℕ). x ∷ t) (take-add m 1 s ∙ rw (h .0, f)),
       )
 
-  second-back : numbers-after x ≡ 2 → (v m : ℕ) → number-of s ≡ Number v m → (t : Taken)
-      → number-of (drop m s) ≡ t
-      → then-line (λ u l. closed x v u (1 + m + l) (drop (m + l) s)) t ≡ Row code a b n
-      → Written (x ∷ s) code a b n
-  second-back k v m g NoNumber g′ e = no-row e
-  second-back k v m g (Number u l) g′ e =
-      closed-inv x v u (1 + m + l) (drop (m + l) s) code a b n e λ p q r w f.
+  second-back : (v m : ℕ) → number-of s ≡ Number v m → (t : Taken) → number-of (drop m s) ≡ t
+      → then-line (λ u l. closed y v u (1 + m + l) (drop (m + l) s)) t ≡ Row c a b n
+      → Numbered 2 y x s c a b n
+  second-back v m g NoNumber g′ e = no-row e
+  second-back v m g (Number u l) g′ e =
+      closed-inv y v u (1 + m + l) (drop (m + l) s) c a b n e λ p q r w f.
       let h = number-back s v m g in
       let i = number-back (drop m s) u l g′ in
       let z : n ≡ suc (m + l + 1) = omega (arith, w) in
       rw (z, ← p, ← q, ← r) (
-        row-two x v u k (h .1) (i .1),
-        ap (λ (t : List ℕ). x ∷ t)
-            (take-add (m + l) 1 s
-            ∙ rw (take-add m l s, h .0, i .0, f) (append-assoc (9 ∷ digits v) (9 ∷ digits u) (10 ∷ [])))
-            ∙ sym (text-two x v u k),
+        refl,
+        rw (le-leb v 65535 (h .1), le-leb u 65535 (i .1)),
+        ap (λ (t : List ℕ). x ∷ t) (take-add (m + l) 1 s ∙ rw (take-add m l s, h .0, i .0, f)),
       )
 
-  two-back : numbers-after x ≡ 2 → (t : Taken) → number-of s ≡ t
-      → then-line (λ v m. then-line (λ u l. closed x v u (1 + m + l) (drop (m + l) s)) (number-of (drop m s)))
-      t ≡ Row code a b n → Written (x ∷ s) code a b n
-  two-back k NoNumber g e = no-row e
-  two-back k (Number v m) g e = second-back k v m g (number-of (drop m s)) refl e
+  two-back : (t : Taken) → number-of s ≡ t
+      → then-line (λ v m. then-line (λ u l. closed y v u (1 + m + l) (drop (m + l) s)) (number-of (drop m s)))
+      t ≡ Row c a b n → Numbered 2 y x s c a b n
+  two-back NoNumber g e = no-row e
+  two-back (Number v m) g e = second-back v m g (number-of (drop m s)) refl e
 
-line-back : (s : List ℕ) (code a b n : ℕ) → line-of s ≡ Row code a b n → Written s code a b n
-unfolding line-of numbered
-line-back [] code a b n e = no-row e
-line-back (x ∷ s) code a b n e = go (numbers-after x) refl e
-  where
-    go : (k : ℕ) → numbers-after x ≡ k → numbered k x s ≡ Row code a b n → Written (x ∷ s) code a b n
-    go zero k e = none-back x s code a b n k e
-    go (suc zero) k e = one-back x s code a b n k (number-of s) refl e
-    go (suc (suc zero)) k e = two-back x s code a b n k (number-of s) refl e
-    go (suc (suc (suc j))) k e = no-row e
+numbered-back : (k y x : ℕ) (s : List ℕ) (c a b n : ℕ) → numbered k y s ≡ Row c a b n
+    → Numbered k y x s c a b n
+unfolding numbered
+numbered-back zero y x s c a b n e = none-back y x s c a b n e
+numbered-back (suc zero) y x s c a b n e = one-back y x s c a b n (number-of s) refl e
+numbered-back (suc (suc zero)) y x s c a b n e = two-back y x s c a b n (number-of s) refl e
+numbered-back (suc (suc (suc k))) y x s c a b n e = no-row e
 
--- ---- whole texts, line by line
+-- numbers that follow a letter make a row with it
+letter-row : (l : Letter) (a b : ℕ) → are-numbers (numbers l) a b ≡ true → is-row (row (code l) a b 0) ≡ true
+unfolding numbers-after
+letter-row l a b e = is-row-by (code l) a b 0 ∙ rw (code-among l, e)
 
-before-inv : {A : Type 0} (xs ys : List ℕ) (m : Checked (List ℕ)) → before xs m ≡ accept ys
-    → ((zs : List ℕ) → m ≡ accept zs → ys ≡ xs ++ zs → A) → A
-before-inv xs ys (accept zs) e k = let h : xs ++ zs ≡ ys = cc in k zs refl (sym h)
-before-inv xs ys (refuse number line) e k = no-rows e
-
-lines-back : (left line : ℕ) (s rows : List ℕ) → read-lines left line s ≡ accept rows
-    → write-lines left line rows ≡ accept s
-unfolding read-lines write-lines
-lines-back zero line [] rows e = let h : [] ≡ rows = cc in rw (← h)
-lines-back zero line (x ∷ s) rows e = no-rows e
-lines-back (suc left) line [] rows e = let h : [] ≡ rows = cc in rw (← h)
-lines-back (suc left) line (x ∷ s) rows e =
-    go (line-of (x ∷ s)) refl e (λ n zs f. lines-back left (line + 1) (drop n (x ∷ s)) zs f)
-  where
-    go : (l : Line) → line-of (x ∷ s) ≡ l
-        → with-line line (λ used. read-lines left (line + 1) (drop used (x ∷ s))) l ≡ accept rows
-        → ((n : ℕ) (zs : List ℕ) → read-lines left (line + 1) (drop n (x ∷ s)) ≡ accept zs
-        → write-lines left (line + 1) zs ≡ accept (drop n (x ∷ s)))
-        → write-lines (suc left) line rows ≡ accept (x ∷ s)
-    go Malformed q e ih = no-rows e
-    go (Row code a b n) q e ih =
-        before-inv (code ∷ a ∷ b ∷ 0 ∷ []) rows (read-lines left (line + 1) (drop n (x ∷ s))) e λ zs f h.
-        let w = line-back (x ∷ s) code a b n q in
-        rw (h, w .0, ih n zs f, ← w .1, take-append-drop n (x ∷ s))
-
--- Writing what the reader read gives the text back.
-pub write-read : (text rows : List ℕ) → read-text text ≡ accept rows → write-rows rows ≡ accept text
-write-read text rows e =
-    rw (eq-eqb (length rows % 4) 0 (read-whole-rows text rows e)) (lines-back 60000 1 text rows e)
-
--- ---- a line that was written reads back
+-- ---- and a line that was written reads back
 
 closed-forth : (code a b used : ℕ) (t : List ℕ) → closed code a b used (10 ∷ t) ≡ Row code a b (used + 1)
 unfolding closed
 closed-forth code a b used t = refl
 
-module _ (code a b : ℕ) (t : List ℕ) where
-  one-forth : numbers-after code ≡ 1 → a ≤ 65535
-      → line-of (line-text code a 0 ++ t) ≡ Row code a 0 (length (line-text code a 0))
-  unfolding line-of numbered
-  one-forth k h =
+module _ (y a b : ℕ) (t : List ℕ) where
+  one-forth : a ≤ 65535
+      → numbered 1 y ((9 ∷ digits a) ++ (10 ∷ []) ++ t)
+      ≡ Row y a 0 (suc (length ((9 ∷ digits a) ++ (10 ∷ []))))
+  unfolding numbered
+  one-forth h =
       let w : (9 ∷ digits a) ++ (10 ∷ []) ++ t ≡ (9 ∷ digits a) ++ (10 ∷ t) =
       append-assoc (9 ∷ digits a) (10 ∷ []) t in
       let l : length ((9 ∷ digits a) ++ (10 ∷ [])) ≡ length (9 ∷ digits a) + 1 =
       length-append (9 ∷ digits a) (10 ∷ []) in
       let n : 1 + length (9 ∷ digits a) + 1 ≡ suc (length ((9 ∷ digits a) ++ (10 ∷ []))) = omega (arith, l) in
       rw (
-        text-one code a 0 k,
-        k,
         w,
         number-forth a 10 t h refl,
         drop-append-seam (9 ∷ digits a) (10 ∷ t),
-        closed-forth code a 0 (1 + length (9 ∷ digits a)) t,
+        closed-forth y a 0 (1 + length (9 ∷ digits a)) t,
         n,
       )
 
-  two-forth : numbers-after code ≡ 2 → a ≤ 65535 → b ≤ 65535
-      → line-of (line-text code a b ++ t) ≡ Row code a b (length (line-text code a b))
-  unfolding line-of numbered
-  two-forth k h i =
+  two-forth : a ≤ 65535 → b ≤ 65535
+      → numbered 2 y ((9 ∷ digits a) ++ ((9 ∷ digits b) ++ (10 ∷ [])) ++ t)
+      ≡ Row y a b (suc (length ((9 ∷ digits a) ++ ((9 ∷ digits b) ++ (10 ∷ [])))))
+  unfolding numbered
+  two-forth h i =
       let X : List ℕ = 9 ∷ digits a in
       let Y : List ℕ = 9 ∷ digits b in
       let w : (X ++ (Y ++ (10 ∷ []))) ++ t ≡ X ++ (9 ∷ (digits b ++ (10 ∷ t))) =
@@ -181,80 +147,138 @@ module _ (code a b : ℕ) (t : List ℕ) where
       ∙ ap (λ (r : ℕ). length X + r) (length-append Y (10 ∷ [])) in
       let n : 1 + length X + length Y + 1 ≡ suc (length (X ++ (Y ++ (10 ∷ [])))) = omega (arith, l) in
       rw (
-        text-two code a b k,
-        k,
         w,
         number-forth a 9 (digits b ++ (10 ∷ t)) h refl,
         drop-append-seam X (9 ∷ (digits b ++ (10 ∷ t))),
         number-forth b 10 t i refl,
         drop-append-add X (Y ++ (10 ∷ t)) (length Y),
         drop-append-seam Y (10 ∷ t),
-        closed-forth code a b (1 + length X + length Y) t,
+        closed-forth y a b (1 + length X + length Y) t,
         n,
       )
 
-  none-forth : numbers-after code ≡ 0
-      → line-of (line-text code 0 0 ++ t) ≡ Row code 0 0 (length (line-text code 0 0))
-  unfolding line-of numbered
-  none-forth k = rw (text-none code 0 0 k, k, closed-forth code 0 0 1 t)
+  none-forth : numbered 0 y (10 ∷ t) ≡ Row y 0 0 2
+  unfolding numbered
+  none-forth = closed-forth y 0 0 1 t
 
-line-forth : (code a b c : ℕ) (t : List ℕ) → is-row (row code a b c) ≡ true
-    → (c ≡ 0) × (line-of (line-text code a b ++ t) ≡ Row code a b (length (line-text code a b)))
-line-forth code a b c t e =
-    let f = sym (is-row-by code a b c) ∙ e in (
-      eqb-true c 0 (and-inv (eqb c 0) (are-numbers (numbers-after code) a b) f .0),
-      go (numbers-after code) refl (and-inv (eqb c 0) (are-numbers (numbers-after code) a b) f .1),
-    )
-  where
-    go : (k : ℕ) → numbers-after code ≡ k → are-numbers k a b ≡ true
-        → line-of (line-text code a b ++ t) ≡ Row code a b (length (line-text code a b))
-    go zero k f =
-        let p : a ≡ 0 = eqb-true a 0 (and-inv (eqb a 0) (eqb b 0) f .0) in
-        let q : b ≡ 0 = eqb-true b 0 (and-inv (eqb a 0) (eqb b 0) f .1) in
-        rw (p, q) (none-forth code a b t k)
-    go (suc zero) k f =
-        let q : b ≡ 0 = eqb-true b 0 (and-inv (leb a 65535) (eqb b 0) f .1) in
-        rw q (one-forth code a b t k (leb-true a 65535 (and-inv (leb a 65535) (eqb b 0) f .0)))
-    go (suc (suc zero)) k f =
-        two-forth code a b t k (leb-true a 65535 (and-inv (leb a 65535) (leb b 65535) f .0))
-        (leb-true b 65535 (and-inv (leb a 65535) (leb b 65535) f .1))
-    go (suc (suc (suc j))) k f = absurd (false≢true f)
+-- after its first byte, a line with the numbers of a row is read as that row
+numbered-forth : (k y x a b : ℕ) (t : List ℕ) → are-numbers k a b ≡ true
+    → numbered k y (drop 1 (line-from x k a b ++ t)) ≡ Row y a b (length (line-from x k a b))
+numbered-forth zero y x a b t f =
+    let p : a ≡ 0 = eqb-true a 0 (and-inv (eqb a 0) (eqb b 0) f .0) in
+    let q : b ≡ 0 = eqb-true b 0 (and-inv (eqb a 0) (eqb b 0) f .1) in
+    rw (p, q) (none-forth y a b t)
+numbered-forth (suc zero) y x a b t f =
+    let q : b ≡ 0 = eqb-true b 0 (and-inv (leb a 65535) (eqb b 0) f .1) in
+    rw q (one-forth y a b t (leb-true a 65535 (and-inv (leb a 65535) (eqb b 0) f .0)))
+numbered-forth (suc (suc zero)) y x a b t f =
+    rw (append-assoc (digits a) (9 ∷ digits b) (10 ∷ []))
+    (two-forth y a b t (leb-true a 65535 (and-inv (leb a 65535) (leb b 65535) f .0))
+    (leb-true b 65535 (and-inv (leb a 65535) (leb b 65535) f .1)))
+numbered-forth (suc (suc (suc j))) y x a b t f = absurd (false≢true f)
 
--- a line is not empty, and reading it leaves what follows
-read-line-first : (left line code a b : ℕ) (t : List ℕ)
-    → line-of (line-text code a b ++ t) ≡ Row code a b (length (line-text code a b))
-    → read-lines (suc left) line (line-text code a b ++ t)
-    ≡ before (code ∷ a ∷ b ∷ 0 ∷ []) (read-lines left (line + 1) t)
-unfolding read-lines line-text
-read-line-first left line code a b t e = rw (e, drop-append-seam (line-text code a b) t)
+-- ---- lines and whole texts, under an alphabet with both laws
 
-empty-read : (left line : ℕ) → read-lines left line [] ≡ accept []
-unfolding read-lines
-empty-read zero line = refl
-empty-read (suc left) line = refl
+before-inv : {A : Type 0} (xs ys : List ℕ) (m : Checked (List ℕ)) → before xs m ≡ accept ys
+    → ((zs : List ℕ) → m ≡ accept zs → ys ≡ xs ++ zs → A) → A
+before-inv xs ys (accept zs) e k = let h : xs ++ zs ≡ ys = cc in k zs refl (sym h)
+before-inv xs ys (refuse number line) e k = no-rows e
 
-lines-forth : (left line : ℕ) (rows s : List ℕ) → write-lines left line rows ≡ accept s
-    → read-lines left line s ≡ accept rows
-unfolding write-lines
-lines-forth zero line [] s e = let h : [] ≡ s = cc in rw (← h) (empty-read 0 line)
-lines-forth zero line (x ∷ rows) s e = no-rows e
-lines-forth (suc left) line [] s e = let h : [] ≡ s = cc in rw (← h) (empty-read (suc left) line)
-lines-forth (suc left) line (code ∷ []) s e = no-rows e
-lines-forth (suc left) line (code ∷ a ∷ []) s e = no-rows e
-lines-forth (suc left) line (code ∷ a ∷ b ∷ []) s e = no-rows e
-lines-forth (suc left) line (code ∷ a ∷ b ∷ c ∷ rows) s e =
-    go (is-row (row code a b c)) refl e (λ t f. lines-forth left (line + 1) rows t f)
-  where
-    go : (t : Bool) → is-row (row code a b c) ≡ t
-        → cond t (before (line-text code a b) (write-lines left (line + 1) rows)) (refuse 1 line) ≡ accept s
-        → ((t : List ℕ) → write-lines left (line + 1) rows ≡ accept t
-        → read-lines left (line + 1) t ≡ accept rows)
-        → read-lines (suc left) line s ≡ accept (code ∷ a ∷ b ∷ c ∷ rows)
-    go true q e ih = before-inv (line-text code a b) s (write-lines left (line + 1) rows) e λ zs f h.
-        let w = line-forth code a b c zs q in
-        rw (h, read-line-first left line code a b zs (w .1), ih zs f, w .0)
-    go false q e ih = no-rows e
+module _ {α : Alphabet} (laws : Laws α) where
+  -- a line that was read is the line of a row
+  line-back : (s : List ℕ) (c a b n : ℕ) → line-of α s ≡ Row c a b n
+      → (is-row (row c a b 0) ≡ true) × (take n s ≡ line-text α c a b)
+  unfolding line-of
+  line-back [] c a b n e = no-row e
+  line-back (x ∷ s) c a b n e = go (α .letter x) refl e
+    where
+      go : (o : Option Letter) → α .letter x ≡ o
+          → given o Malformed (λ l. numbered (numbers l) (code l) s) ≡ Row c a b n
+          → (is-row (row c a b 0) ≡ true) × (take n (x ∷ s) ≡ line-text α c a b)
+      go none q e = no-row e
+      go (some l) q e =
+          let h = numbered-back (numbers l) (code l) x s c a b n e in
+          rw (h .0) (
+            letter-row l a b (h .1),
+            h .2 ∙ rw (text-by α (code l) a b l (code-among l), laws .byte-of-letter x l q),
+          )
 
--- Reading what the writer made gives the rows back.
-pub read-write : (rows text : List ℕ) → write-rows rows ≡ accept text → read-text text ≡ accept rows
-read-write rows text e = rows-are-whole rows text e λ f. lines-forth 60000 1 rows text f
+  lines-back : (left line : ℕ) (s rows : List ℕ) → read-lines α left line s ≡ accept rows
+      → write-lines α left line rows ≡ accept s
+  unfolding read-lines write-lines
+  lines-back zero line [] rows e = let h : [] ≡ rows = cc in rw (← h)
+  lines-back zero line (x ∷ s) rows e = no-rows e
+  lines-back (suc left) line [] rows e = let h : [] ≡ rows = cc in rw (← h)
+  lines-back (suc left) line (x ∷ s) rows e =
+      go (line-of α (x ∷ s)) refl e (λ n zs f. lines-back left (line + 1) (drop n (x ∷ s)) zs f)
+    where
+      go : (l : Line) → line-of α (x ∷ s) ≡ l
+          → with-line line (λ used. read-lines α left (line + 1) (drop used (x ∷ s))) l ≡ accept rows
+          → ((n : ℕ) (zs : List ℕ) → read-lines α left (line + 1) (drop n (x ∷ s)) ≡ accept zs
+          → write-lines α left (line + 1) zs ≡ accept (drop n (x ∷ s)))
+          → write-lines α (suc left) line rows ≡ accept (x ∷ s)
+      go Malformed q e ih = no-rows e
+      go (Row c a b n) q e ih =
+          before-inv (c ∷ a ∷ b ∷ 0 ∷ []) rows (read-lines α left (line + 1) (drop n (x ∷ s))) e λ zs f h.
+          let w = line-back (x ∷ s) c a b n q in
+          rw (h, w .0, ih n zs f, ← w .1, take-append-drop n (x ∷ s))
+
+  -- Writing what the reader read gives the text back.
+  pub write-read : (text rows : List ℕ) → read-text α text ≡ accept rows → write-rows α rows ≡ accept text
+  write-read text rows e =
+      rw (eq-eqb (length rows % 4) 0 (read-whole-rows α text rows e)) (lines-back 60000 1 text rows e)
+
+  -- a row's line is read as that row
+  line-forth : (n a b c : ℕ) (t : List ℕ) → is-row (row n a b c) ≡ true
+      → (c ≡ 0) × (line-of α (line-text α n a b ++ t) ≡ Row n a b (length (line-text α n a b)))
+  unfolding line-of
+  line-forth n a b c t e = row-letter n a b c e λ l q f z. (
+    z,
+    rw (text-by α n a b l q, laws .letter-of-byte l, ← among-code letters n l q)
+        (numbered-forth (numbers l) (code l) (α .byte l) a b t f),
+  )
+
+  -- a text that begins with a line is not empty, and reading the line leaves what follows
+  read-first : (left line c a b n : ℕ) (s : List ℕ) → line-of α s ≡ Row c a b n
+      → read-lines α (suc left) line s ≡ before (c ∷ a ∷ b ∷ 0 ∷ []) (read-lines α left (line + 1) (drop n s))
+  unfolding read-lines line-of
+  read-first left line c a b n [] e = no-row e
+  read-first left line c a b n (x ∷ s) e = rw e
+
+  empty-read : (left line : ℕ) → read-lines α left line [] ≡ accept []
+  unfolding read-lines
+  empty-read zero line = refl
+  empty-read (suc left) line = refl
+
+  lines-forth : (left line : ℕ) (rows s : List ℕ) → write-lines α left line rows ≡ accept s
+      → read-lines α left line s ≡ accept rows
+  unfolding write-lines
+  lines-forth zero line [] s e = let h : [] ≡ s = cc in rw (← h) (empty-read 0 line)
+  lines-forth zero line (x ∷ rows) s e = no-rows e
+  lines-forth (suc left) line [] s e = let h : [] ≡ s = cc in rw (← h) (empty-read (suc left) line)
+  lines-forth (suc left) line (n ∷ []) s e = no-rows e
+  lines-forth (suc left) line (n ∷ a ∷ []) s e = no-rows e
+  lines-forth (suc left) line (n ∷ a ∷ b ∷ []) s e = no-rows e
+  lines-forth (suc left) line (n ∷ a ∷ b ∷ c ∷ rows) s e =
+      go (is-row (row n a b c)) refl e (λ t f. lines-forth left (line + 1) rows t f)
+    where
+      go : (t : Bool) → is-row (row n a b c) ≡ t
+          → cond t (before (line-text α n a b) (write-lines α left (line + 1) rows)) (refuse 1 line)
+          ≡ accept s
+          → ((t : List ℕ) → write-lines α left (line + 1) rows ≡ accept t
+          → read-lines α left (line + 1) t ≡ accept rows)
+          → read-lines α (suc left) line s ≡ accept (n ∷ a ∷ b ∷ c ∷ rows)
+      go true q e ih = before-inv (line-text α n a b) s (write-lines α left (line + 1) rows) e λ zs f h.
+          let w = line-forth n a b c zs q in
+          rw (
+            h,
+            read-first left line n a b (length (line-text α n a b)) (line-text α n a b ++ zs) (w .1),
+            drop-append-seam (line-text α n a b) zs,
+            ih zs f,
+            w .0,
+          )
+      go false q e ih = no-rows e
+
+  -- Reading what the writer made gives the rows back.
+  pub read-write : (rows text : List ℕ) → write-rows α rows ≡ accept text → read-text α text ≡ accept rows
+  read-write rows text e = rows-are-whole α rows text e λ f. lines-forth 60000 1 rows text f

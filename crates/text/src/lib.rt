@@ -1,6 +1,10 @@
 // Lines of text and rows: the reader and the writer (document 01, "Lines and rows").
 use language::Filled;
+use language::LIMIT_REFUSAL;
+use language::LINE_REFUSAL;
 use language::Line;
+use language::MOST_ROWS;
+use language::ROOM_REFUSAL;
 use language::Taken;
 ghost use mathlib.Core.Path.{_≡_};
 ghost use mathlib.Core.Bool.{true};
@@ -10,10 +14,12 @@ ghost use Prim.Native.Nat.{_+_, _*_, _≤_, _<_};
 ghost use lib.ListN.{length, take, drop};
 ghost use lib.Seq.{sets};
 ghost use Rattle.language.specs.Rows.{numbers-after};
+ghost use Rattle.language.specs.Alphabet.{ours};
 ghost use Rattle.language.specs.Filling.{answer, buffer, tally, is-made, made-numbers};
 ghost use Rattle.language.specs.TextLines.{closed, line-of, line-text};
 ghost use Rattle.language.specs.Texts.{read-text, write-rows};
 ghost use Rattle.text.specs.Places.{line-at};
+ghost use Rattle.language.specs.Limits.{of-check, numbers-a-row};
 
 // The line feed that closes a line.
 fn close_line(s: &[u8], at: usize, code: u32, a: u32, b: u32) -> Line
@@ -30,7 +36,7 @@ fn close_line(s: &[u8], at: usize, code: u32, a: u32, b: u32) -> Line
 
 // The line at a place.
 fn read_line(s: &[u8], at: usize) -> Line
-    ensures { λ r. ⌜ r ≡ line-at at (line-of (drop at (now (s .entry)))) ⌝ }
+    ensures { λ r. ⌜ r ≡ line-at at (line-of ours (drop at (now (s .entry)))) ⌝ }
 {
     if s.len() <= at {
         return Line::Malformed;
@@ -71,20 +77,22 @@ fn put_row(rows: &mut [u32], i: usize, code: u32, a: u32, b: u32)
 // Parses the lines of a text into rows held aside, and answers how many they are or the first refusal.
 // A line takes two bytes at least, and there are 60,000 lines at most.
 fn parse_lines(text: &[u8], held: &mut [u32]) -> Filled
-    requires { ⌜ (2 * length (now text) ≤ length (now held)) ⊎ (240000 ≤ length (now held)) ⌝ }
-    ensures { λ r. ⌜ (r ≡ tally 4 0 (read-text (now (text .entry))))
-        × (is-made (read-text (now (text .entry))) ≡ true
-        → now (held .exit) ≡ sets (now (held .entry)) 0 (made-numbers (read-text (now (text .entry))))) ⌝ }
+    requires { ⌜ (2 * length (now text) ≤ length (now held)) ⊎
+        (numbers-a-row * of-check .rows ≤ length (now held)) ⌝ }
+    ensures { λ r. ⌜ (r ≡ tally 4 0 (read-text ours (now (text .entry))))
+        × (is-made (read-text ours (now (text .entry))) ≡ true
+        → now (held .exit) ≡ sets (now (held .entry)) 0 (made-numbers (read-text ours (now (text .entry)))))
+        ⌝ }
 {
     let mut at = 0;
     let mut line: u32 = 1;
     while at < text.len() {
-        if 60000 < line {
-            return Filled::Refused(2, line);
+        if MOST_ROWS < line {
+            return Filled::Refused(LIMIT_REFUSAL, line);
         }
         let l = read_line(text, at);
         let Line::Row(code, a, b, next) = l else {
-            return Filled::Refused(1, line); // a malformed line
+            return Filled::Refused(LINE_REFUSAL, line); // a malformed line
         };
         put_row(held, (line as usize - 1) * 4, code, a, b);
         at = next;
@@ -107,16 +115,17 @@ fn copy_numbers(from: &[u32], to: &mut [u32], count: usize)
 
 // Reads a text into rows: parsed aside first, and copied where they fit, so that a refusal changes nothing.
 fn read_through(text: &[u8], held: &mut [u32], rows: &mut [u32]) -> Filled
-    requires { ⌜ (2 * length (now text) ≤ length (now held)) ⊎ (240000 ≤ length (now held)) ⌝ }
-    ensures { λ r. ⌜ (r ≡ answer 4 (read-text (now (text .entry))) (length (now (rows .entry))))
-        × (now (rows .exit) ≡ buffer (read-text (now (text .entry))) (now (rows .entry))) ⌝ }
+    requires { ⌜ (2 * length (now text) ≤ length (now held)) ⊎
+        (numbers-a-row * of-check .rows ≤ length (now held)) ⌝ }
+    ensures { λ r. ⌜ (r ≡ answer 4 (read-text ours (now (text .entry))) (length (now (rows .entry))))
+        × (now (rows .exit) ≡ buffer (read-text ours (now (text .entry))) (now (rows .entry))) ⌝ }
 {
     let parsed = parse_lines(text, held);
     let Filled::Done(n) = parsed else {
         return parsed;
     };
     if rows.len() / 4 < n {
-        return Filled::Refused(13, 0);
+        return Filled::Refused(ROOM_REFUSAL, 0);
     }
     copy_numbers(held, rows, n * 4);
     Filled::Done(n)
@@ -124,8 +133,8 @@ fn read_through(text: &[u8], held: &mut [u32], rows: &mut [u32]) -> Filled
 
 // Reads a text into rows. A short text pays for a short buffer alone.
 pub fn read_rows(text: &[u8], rows: &mut [u32]) -> Filled
-    ensures { λ r. ⌜ (r ≡ answer 4 (read-text (now (text .entry))) (length (now (rows .entry))))
-        × (now (rows .exit) ≡ buffer (read-text (now (text .entry))) (now (rows .entry))) ⌝ }
+    ensures { λ r. ⌜ (r ≡ answer 4 (read-text ours (now (text .entry))) (length (now (rows .entry))))
+        × (now (rows .exit) ≡ buffer (read-text ours (now (text .entry))) (now (rows .entry))) ⌝ }
 {
     if text.len() <= 512 {
         let mut held = [0u32; 1024];
@@ -141,9 +150,9 @@ pub fn read_rows(text: &[u8], rows: &mut [u32]) -> Filled
 
 // Writes the line of a row at a place, and answers the place after it.
 fn write_line(text: &mut [u8], at: usize, code: u32, a: u32, b: u32) -> usize
-    requires { ⌜ (numbers-after code < 3) × (at + length (line-text code a b) ≤ length (now text)) ⌝ }
-    ensures { λ r. ⌜ (r ≡ at + length (line-text code a b)) ×
-        (now (text .exit) ≡ sets (now (text .entry)) at (line-text code a b)) ⌝ }
+    requires { ⌜ (numbers-after code < 3) × (at + length (line-text ours code a b) ≤ length (now text)) ⌝ }
+    ensures { λ r. ⌜ (r ≡ at + length (line-text ours code a b)) ×
+        (now (text .exit) ≡ sets (now (text .entry)) at (line-text ours code a b)) ⌝ }
 {
     text[at] = (code % 256) as u8;
     let count = language::count_numbers(code);
@@ -164,26 +173,28 @@ fn write_line(text: &mut [u8], at: usize, code: u32, a: u32, b: u32) -> usize
 // Writes the lines of rows into a text held aside, and answers how long it is or the first refusal.
 // A line has 14 bytes at most, and there are 60,000 rows at most.
 fn format_rows(rows: &[u32], held: &mut [u8]) -> Filled
-    requires { ⌜ (14 * length (now rows) ≤ 4 * length (now held)) ⊎ (840000 ≤ length (now held)) ⌝ }
-    ensures { λ r. ⌜ (r ≡ tally 1 0 (write-rows (now (rows .entry))))
-        × (is-made (write-rows (now (rows .entry))) ≡ true
-        → now (held .exit) ≡ sets (now (held .entry)) 0 (made-numbers (write-rows (now (rows .entry))))) ⌝ }
+    requires { ⌜ (14 * length (now rows) ≤ 4 * length (now held)) ⊎ (14 * of-check .rows ≤ length (now held))
+        ⌝ }
+    ensures { λ r. ⌜ (r ≡ tally 1 0 (write-rows ours (now (rows .entry))))
+        × (is-made (write-rows ours (now (rows .entry))) ≡ true
+        → now (held .exit) ≡ sets (now (held .entry)) 0 (made-numbers (write-rows ours (now (rows .entry)))))
+        ⌝ }
 {
     if rows.len() % 4 != 0 {
-        return Filled::Refused(1, 0);
+        return Filled::Refused(LINE_REFUSAL, 0);
     }
     let mut i = 0;
     let mut at = 0;
     let mut line: u32 = 1;
     while i < rows.len() {
-        if 60000 < line {
-            return Filled::Refused(2, line);
+        if MOST_ROWS < line {
+            return Filled::Refused(LIMIT_REFUSAL, line);
         }
         let code = rows[i];
         let a = rows[i + 1];
         let b = rows[i + 2];
         if !language::is_row(code, a, b, rows[i + 3]) {
-            return Filled::Refused(1, line);
+            return Filled::Refused(LINE_REFUSAL, line);
         }
         at = write_line(held, at, code, a, b);
         i += 4;
@@ -194,16 +205,17 @@ fn format_rows(rows: &[u32], held: &mut [u8]) -> Filled
 
 // Writes rows as text: formatted aside first, and copied where it fits, so that a refusal changes nothing.
 fn write_through(rows: &[u32], held: &mut [u8], text: &mut [u8]) -> Filled
-    requires { ⌜ (14 * length (now rows) ≤ 4 * length (now held)) ⊎ (840000 ≤ length (now held)) ⌝ }
-    ensures { λ r. ⌜ (r ≡ answer 1 (write-rows (now (rows .entry))) (length (now (text .entry))))
-        × (now (text .exit) ≡ buffer (write-rows (now (rows .entry))) (now (text .entry))) ⌝ }
+    requires { ⌜ (14 * length (now rows) ≤ 4 * length (now held)) ⊎ (14 * of-check .rows ≤ length (now held))
+        ⌝ }
+    ensures { λ r. ⌜ (r ≡ answer 1 (write-rows ours (now (rows .entry))) (length (now (text .entry))))
+        × (now (text .exit) ≡ buffer (write-rows ours (now (rows .entry))) (now (text .entry))) ⌝ }
 {
     let formatted = format_rows(rows, held);
     let Filled::Done(n) = formatted else {
         return formatted;
     };
     if text.len() < n {
-        return Filled::Refused(13, 0);
+        return Filled::Refused(ROOM_REFUSAL, 0);
     }
     fields::copy_bytes(held, text, n);
     Filled::Done(n)
@@ -211,8 +223,8 @@ fn write_through(rows: &[u32], held: &mut [u8], text: &mut [u8]) -> Filled
 
 // Writes rows as text. Few rows pay for a short buffer alone.
 pub fn write_text(rows: &[u32], text: &mut [u8]) -> Filled
-    ensures { λ r. ⌜ (r ≡ answer 1 (write-rows (now (rows .entry))) (length (now (text .entry))))
-        × (now (text .exit) ≡ buffer (write-rows (now (rows .entry))) (now (text .entry))) ⌝ }
+    ensures { λ r. ⌜ (r ≡ answer 1 (write-rows ours (now (rows .entry))) (length (now (text .entry))))
+        × (now (text .exit) ≡ buffer (write-rows ours (now (rows .entry))) (now (text .entry))) ⌝ }
 {
     if rows.len() <= 256 {
         let mut held = [0u8; 896];

@@ -19,7 +19,8 @@ use Rattle.language.specs.WellFormed.{ProgramInForm, ProgramWell}
 use Rattle.theory.specs.TreeRows.{length-program}
 use Rattle.theory.specs.Whole.{form-flat}
 use Rattle.theory.specs.WholeBack.{form-back}
-use Rattle.theory.specs.WellEqual.{program-well, program-test}
+use Rattle.theory.specs.WellEqual.{program-well}
+use Rattle.theory.specs.WellPasses.{program-test}
 
 -- The rows of the numbers of rows are those rows.
 pub rows-of-numbers : (rs : List Row) → rows-of (numbers-of rs) ≡ rs

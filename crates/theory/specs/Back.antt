@@ -10,12 +10,13 @@ use Rattle.language.specs.Results.{Checked, accept, bind-checked, need-checked,
 use Rattle.language.specs.Rows.{Letter, B-block, V-local, T-true, L-false, N-null, I-slot, Z-is-null, G-get}
 use Rattle.language.specs.Rows.{K-cast, W-new, R-change, A-assign, U-set, Q-call, J-choose, Record, written}
 use Rattle.language.specs.Rows.{name-of, Row, row-of, most-at, record-of}
-use Rattle.language.specs.Tree.{DeclaredType, type-number, Expr, literal-true, literal-false, literal-null}
+use Rattle.language.specs.Tree.{DeclaredType, type-number, Expr, literal, literal-true, literal-false}
+use Rattle.language.specs.Tree.{literal-null}
 use Rattle.language.specs.Tree.{slot, is-null, get, cast, new, change, assign, set, call, choose, block}
 use Rattle.language.specs.Tree.{Exprs, nil, cons, count, size, sizes, flatten, flattens}
 use Rattle.language.specs.Form.{done, after, record-on, next, locals, several, node-of, node}
 use Rattle.language.specs.WellFormed.{TypeInForm, Each, each-nil, each-cons, NodeInForm, NodesInForm}
-use Rattle.language.specs.WellFormed.{form-true, form-false, form-null, form-slot, form-is-null, form-get}
+use Rattle.language.specs.WellFormed.{form-literal, form-slot, form-is-null, form-get}
 use Rattle.language.specs.WellFormed.{form-cast, form-new, form-change, form-assign, form-set, form-call}
 use Rattle.language.specs.WellFormed.{form-choose, form-block, form-nil, form-cons}
 use Rattle.language.proofs.Letters.{code-among}
@@ -69,11 +70,11 @@ module _ (most : Most) (named : most .name ≤ largest) (slotted : most .slots �
     pub node-flat : (e : Expr) {d n : ℕ} → NodeInForm most d n e → (at : ℕ) (rs : List Row)
         → at + size e ≤ suc (most .rows)
         → node most d n at (map row-of (flatten e) ++ rs) ≡ done e rs
-    node-flat literal-true form-true at rs l =
+    node-flat (literal literal-true) form-literal at rs l =
         taken T-true 0 0 at rs _ (omega arith) (omega arith) (omega arith) (omega arith)
-    node-flat literal-false form-false at rs l =
+    node-flat (literal literal-false) form-literal at rs l =
         taken L-false 0 0 at rs _ (omega arith) (omega arith) (omega arith) (omega arith)
-    node-flat literal-null form-null at rs l =
+    node-flat (literal literal-null) form-literal at rs l =
         taken N-null 0 0 at rs _ (omega arith) (omega arith) (omega arith) (omega arith)
     node-flat (slot k) (form-slot p) at rs l =
         taken I-slot k 0 at rs _ p (omega arith) (omega arith) (omega arith)

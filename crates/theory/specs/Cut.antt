@@ -13,18 +13,22 @@ use Rattle.language.specs.Limits.{most-calls}
 use Rattle.language.specs.Lists.{nth, choice}
 use Rattle.language.specs.Results.{ok, stop, bind}
 use Rattle.language.specs.Frames.{Frame, frame, at-slot, with-slot, opened, closed}
-use Rattle.language.specs.Tree.{Expr, literal-true, literal-false, literal-null, slot, is-null, get, cast}
+use Rattle.language.specs.Tree.{Expr, literal, slot, is-null, get, cast}
 use Rattle.language.specs.Tree.{new, change, assign, set, call, choose, block, Exprs, nil, cons}
 use Rattle.language.specs.World.{Method, World}
-use Rattle.language.specs.Evaluation.{Value, null, truth, object, Object, State, Stop, raised, deep, spent}
-use Rattle.language.specs.Evaluation.{full, stuck, Out, without-limits, with-limits, entered, with-frame}
-use Rattle.language.specs.Evaluation.{with-heap, initial, need, need-object, need-truth, new-object, changed}
+use Rattle.language.specs.State.{Value, null, truth, object, Object, State, Stop, raised, deep, spent}
+use Rattle.language.specs.State.{full, stuck, Out, entered, with-frame}
+use Rattle.language.specs.Evaluation.{without-limits, with-limits, need-reference, keeps-fields}
+use Rattle.language.specs.State.{with-heap, initial}
+use Rattle.language.specs.Evaluation.{need, need-object, need-truth, new-object, changed}
 use Rattle.language.specs.Evaluation.{field-of, with-field, do-get, do-set, do-cast, do-change, do-new}
 use Rattle.language.specs.Evaluation.{do-call, eval, eval-all, call-at, eval-start}
 use Rattle.language.proofs.Booleans.{false≢}
 use Rattle.theory.specs.Growth.{Later, later-same, later-frame, Grows, grows-ok, grows-stop}
+use Rattle.theory.specs.Growth.{grows-reference}
 use Rattle.theory.specs.Growth.{grows-entered, grows-bind, grows-truth, grows-choice, grows-get}
 use Rattle.theory.specs.Growth.{grows-set, grows-cast, grows-call, grows, grows-all, grows-calls}
+use Rattle.theory.specs.Growth.{grows-need}
 
 module _ (F K : ℕ) where
   -- Within the limits; beyond one of them.
@@ -86,6 +90,12 @@ module _ (F K : ℕ) where
   limited-truth (truth b) s w f = f b
   limited-truth (object j) s w f = same-stop w
 
+  limited-reference : {B : Type 0} (v : Value) (s : State) {k k′ : Bool → Out B} → Within s
+      → ((b : Bool) → Limited (k b) (k′ b)) → Limited (need-reference v s k) (need-reference v s k′)
+  limited-reference null s w f = f true
+  limited-reference (truth b) s w f = same-stop w
+  limited-reference (object j) s w f = f false
+
   limited-cond : {B : Type 0} (b : Bool) {x y x′ y′ : Out B} → Limited x x′ → Limited y y′
       → Limited (cond b x y) (cond b x′ y′)
   limited-cond true p q = p
@@ -123,7 +133,7 @@ module _ (F K : ℕ) where
     limited-change d null s w = same-ok w
     limited-change d (truth b) s w = same-stop w
     limited-change d (object j) s w = limited-need (nth (s .heap) j) s w λ o.
-        limited-cond (leb (length (W .fields (W .root d))) (length (o .fields)))
+        limited-cond (keeps-fields W d o)
         (same-ok (within-put s j (changed W d o) (suc (s .changes)) w)) (same-stop w)
 
     limited-enter : {A : Type 0} (s : State) {x y : Out A} → Within s → (Within (entered s) → Limited x y)
@@ -179,15 +189,13 @@ module _ (F K : ℕ) where
 
         pub limited : (e : Expr) (s : State) → Within s
             → Limited (eval W without-limits invoke e s) (eval W (with-limits F K) invoke′ e s)
-        limited literal-true s w = limited-enter s w (λ w. same-ok w) (grows W invoke C literal-true s)
-        limited literal-false s w = limited-enter s w (λ w. same-ok w) (grows W invoke C literal-false s)
-        limited literal-null s w = limited-enter s w (λ w. same-ok w) (grows W invoke C literal-null s)
+        limited (literal l) s w = limited-enter s w (λ w. same-ok w) (grows W invoke C (literal l) s)
         limited (slot k) s w = limited-enter s w
             (λ w. limited-need (at-slot (s .frame) k) (entered s) w λ v. same-ok w)
             (grows W invoke C (slot k) s)
         limited (is-null e) s w = limited-enter s w
-            (λ w. limited-bind (limited e (entered s) w) (λ v s w. same-ok w)
-            (λ v s. grows-ok (later-same s)))
+            (λ w. limited-bind (limited e (entered s) w) (λ v s w. limited-reference v s w λ b. same-ok w)
+            (λ v s. grows-reference v s λ b. grows-ok (later-same s)))
             (grows W invoke C (is-null e) s)
         limited (get f e) s w = limited-enter s w
             (λ w. limited-bind (limited e (entered s) w) (λ v s w. limited-get f v s w)
@@ -204,7 +212,9 @@ module _ (F K : ℕ) where
             (grows W invoke C (change k d) s)
         limited (assign k e) s w = limited-enter s w
             (λ w. limited-bind (limited e (entered s) w)
-            (λ v s w. same-ok (within-frame (with-slot (s .frame) k v) w)) (λ v s. grows-ok (later-frame s)))
+            (λ v s w. limited-need (at-slot (s .frame) k) s w λ _.
+            same-ok (within-frame (with-slot (s .frame) k v) w))
+            (λ v s. grows-need (at-slot (s .frame) k) s λ _. grows-ok (later-frame s)))
             (grows W invoke C (assign k e) s)
         limited (set f e e′) s w = limited-enter s w
             (λ w. limited-bind (limited e (entered s) w)

@@ -6,11 +6,13 @@ use mathlib.Core.Logic.{_≢_}
 use Rattle.language.specs.Limits.{most-calls}
 use Rattle.language.specs.Results.{stop}
 use Rattle.language.specs.Tree.{Program}
-use Rattle.language.specs.Program.{world}
-use Rattle.language.specs.Evaluation.{Value, State, stuck, Out, with-limits, first-state, run}
+use Rattle.language.specs.State.{Value, State, stuck, Out}
+use Rattle.language.specs.Evaluation.{with-limits, first-state, run}
 use Rattle.language.specs.Runs.{Evaluates}
 use Rattle.language.specs.WellFormed.{ProgramWell}
+use Rattle.theory.specs.ObjectsAgree.{SupersEarlier}
 use Rattle.theory.specs.RunsEqual.{Claim, value, stopped, nothing, all-sound, all-complete}
+use Rattle.theory.specs.Lookups.{class-well}
 use Rattle.theory.specs.Members.{well-formed-never-stuck}
 
 -- What is claimed of a result that is not stuck is derived.
@@ -19,19 +21,23 @@ claimed (value d) u = d
 claimed (stopped d) u = d
 claimed (nothing {t}) u = absurd (u t refl)
 
+-- Superclasses of a well-formed program come before their classes.
+well-earlier : (p : Program) → ProgramWell p → SupersEarlier (p .classes)
+well-earlier p w k c e = class-well (p .classes) (w .classes) k c e .earlier
+
 -- What the run of a well-formed program gives is derived.
 pub run-derived : (p : Program) → ProgramWell p → (fuel room : ℕ)
-    → Evaluates (world (p .classes)) fuel room most-calls (p .start) first-state
+    → Evaluates (p .classes) fuel room most-calls (p .start) first-state
     (run (with-limits fuel room) p)
 unfolding run
 run-derived p w fuel room =
-    claimed (all-complete (world (p .classes)) fuel room most-calls (p .start) first-state)
+    claimed (all-complete (p .classes) (well-earlier p w) fuel room most-calls (p .start) first-state)
     (λ t. well-formed-never-stuck p w (with-limits fuel room) t)
 
--- What is derived of a program's start block is what its run gives.
-pub derived-is-run : (p : Program) (fuel room : ℕ) (r : Out Value)
-    → Evaluates (world (p .classes)) fuel room most-calls (p .start) first-state r
+-- What is derived of a well-formed program's start block is what its run gives.
+pub derived-is-run : (p : Program) → ProgramWell p → (fuel room : ℕ) (r : Out Value)
+    → Evaluates (p .classes) fuel room most-calls (p .start) first-state r
     → run (with-limits fuel room) p ≡ r
 unfolding run
-derived-is-run p fuel room r d =
-    all-sound (world (p .classes)) fuel room most-calls (p .start) first-state r d
+derived-is-run p w fuel room r d =
+    all-sound (p .classes) (well-earlier p w) fuel room most-calls (p .start) first-state r d

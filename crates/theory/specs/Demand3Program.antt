@@ -10,7 +10,11 @@ use Rattle.language.specs.Program.{world}
 use Rattle.language.specs.Evaluation.{with-limits, run}
 use Rattle.language.specs.Translation.{plain-program}
 use Rattle.language.specs.WellFormed.{ProgramWell}
+use Rattle.language.specs.Environment.{start-environment}
+use Rattle.theory.specs.ComputedRules.{HasType}
 use Rattle.theory.specs.Fitting.{Laws}
+use Rattle.theory.specs.RulesAgree.{computed}
+use Rattle.theory.specs.Lookups.{hierarchy}
 use Rattle.theory.specs.Cut.{final, proper}
 use Rattle.theory.specs.PlainSteps.{More}
 use Rattle.theory.specs.PlainLookups.{plain-program-is-plain}
@@ -18,6 +22,9 @@ use Rattle.theory.specs.Demand3World.{EndsAlike, demand-3-forward, deman
 
 module _ (p : Program) (well : ProgramWell p) (𝓛 : Laws (world (p .classes))) (𝓜 : More (world (p .classes)))
   where
+    start : HasType (world (p .classes)) start-environment (p .start) (well .t) (well .γ) (well .φ)
+    start = computed (p .classes) (hierarchy (p .classes) (well .classes)) (p .start) (well .start)
+
     -- A run with fuel F and room K that ends in a value, an exception or 15, with n objects made and r
     -- changes of class: the plain program's run with fuel 84·F or more and room for 2n + r objects or more
     -- ends alike, object j matching the j-th Identity made.
@@ -26,7 +33,7 @@ module _ (p : Program) (well : ProgramWell p) (𝓛 : Laws (world (p .classes)))
         → EndsAlike (run (with-limits F K) p) (run (with-limits F′ K′) (plain-program p))
     unfolding run plain-program
     demand-3-run F F′ K K′ f e l = demand-3-forward (world (p .classes)) _
-        (plain-program-is-plain p (well .classes)) 𝓛 𝓜 (p .start) (well .start) F F′ K K′ f e l
+        (plain-program-is-plain p (well .classes)) 𝓛 𝓜 (p .start) start F F′ K K′ f e l
 
     -- A plain program's run with fuel F and room K′ that ends in a value, an exception or 15: the source's
     -- run with fuel F and room for as many objects as the plain run made ends alike.
@@ -35,4 +42,4 @@ module _ (p : Program) (well : ProgramWell p) (𝓛 : Laws (world (p .classes)))
         → EndsAlike (run (with-limits F K) p) (run (with-limits F K′) (plain-program p))
     unfolding run plain-program
     demand-3-run-back F K K′ e l = demand-3-backward (world (p .classes)) _
-        (plain-program-is-plain p (well .classes)) 𝓛 𝓜 (p .start) (well .start) F K K′ e l
+        (plain-program-is-plain p (well .classes)) 𝓛 𝓜 (p .start) start F K K′ e l

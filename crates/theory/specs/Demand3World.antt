@@ -11,9 +11,9 @@ use Rattle.language.specs.Lists.{nth, Never, a-nil}
 use Rattle.language.specs.Results.{ok, stop, Alike, alike-ok, alike-stop}
 use Rattle.language.specs.Tree.{ExprType, Expr}
 use Rattle.language.specs.World.{World}
-use Rattle.language.specs.Typing.{Environment, start-environment}
-use Rattle.language.specs.Rules.{HasType}
-use Rattle.language.specs.Evaluation.{Value, Object, State, Stop, raised, deep, spent, full, stuck, Out}
+use Rattle.language.specs.Environment.{Environment, start-environment}
+use Rattle.theory.specs.ComputedRules.{HasType}
+use Rattle.language.specs.State.{Value, Object, State, Stop, raised, deep, spent, full, stuck, Out}
 use Rattle.language.specs.Evaluation.{without-limits, with-limits, call-at, eval-start, first-state}
 use Rattle.language.specs.Store.{Outcome, gave, ended}
 use Rattle.language.specs.Translation.{translate}

@@ -11,16 +11,19 @@ use Rattle.language.specs.Results.{Checked, accept, refuse, passed, bind-checke
 use Rattle.language.specs.Results.{bind-checked-inv, need-checked-inv, require-inv, accept-injective}
 use Rattle.language.specs.Results.{accept≢refuse}
 use Rattle.language.specs.Frames.{opened}
-use Rattle.language.specs.Tree.{DeclaredType, bool, class, ExprType, known, null-type, Expr, literal-true}
-use Rattle.language.specs.Tree.{literal-false, literal-null, slot, is-null, get, cast, new, change, assign}
+use Rattle.language.specs.Tree.{DeclaredType, bool, class, ExprType, known, null-type, Expr, literal}
+use Rattle.language.specs.Tree.{slot, is-null, get, cast, new, change, assign}
 use Rattle.language.specs.Tree.{set, call, choose, block, Exprs, nil, cons, size}
 use Rattle.language.specs.World.{World}
-use Rattle.language.specs.Typing.{Environment, fresh-slot, Typed, TypedAll, need-class, not-bool, fits}
+use Rattle.language.specs.Environment.{Environment, fresh-slot}
+use Rattle.language.specs.Typing.{Typed, TypedAll, need-class, not-bool, fits}
 use Rattle.language.specs.Typing.{all-fit, locals-declared, type-of, type-all}
-use Rattle.language.specs.Rules.{Declared, declared-nil, declared-cons, HasType, HaveTypes, type-true}
-use Rattle.language.specs.Rules.{type-false, type-null, type-slot, type-new, type-cast, type-get, type-set}
-use Rattle.language.specs.Rules.{type-assign, type-is-null, type-call, type-choose, type-block, type-change}
-use Rattle.language.specs.Rules.{types-nil, types-cons}
+use Rattle.theory.specs.ComputedRules.{Declared, declared-nil, declared-cons, HasType, HaveTypes}
+use Rattle.theory.specs.ComputedRules.{type-literal}
+use Rattle.theory.specs.ComputedRules.{type-slot, type-new, type-cast, type-get, type-set}
+use Rattle.theory.specs.ComputedRules.{type-assign, type-is-null, type-call, type-choose, type-block}
+use Rattle.theory.specs.ComputedRules.{type-change}
+use Rattle.theory.specs.ComputedRules.{types-nil, types-cons}
 use Rattle.language.proofs.Booleans.{false≢}
 
 need-class-inv : {B C : Type 0} (t : ExprType) (n l : ℕ) (k : ℕ → Checked B) {b : B}
@@ -72,9 +75,7 @@ module _ (W : World) where
     unfolding type-of
 
     pub derive : (e : Expr) (at : ℕ) (γ : Environment) (a : Typed) → type-of W e at γ ≡ accept a → Has γ e a
-    derive literal-true at γ a q = rw (← accept-injective q) type-true
-    derive literal-false at γ a q = rw (← accept-injective q) type-false
-    derive literal-null at γ a q = rw (← accept-injective q) type-null
+    derive (literal l) at γ a q = rw (← accept-injective q) type-literal
     derive (slot k) at γ a q = need-checked-inv _ _ _ _ q λ s e₁ q. rw (← accept-injective q) (type-slot e₁)
     derive (is-null e) at γ a q = bind-checked-inv _ _ q λ b e₁ q. require-inv _ _ _ _ q λ e₂ q.
         rw (← accept-injective q) (type-is-null (derive e (at + 1) γ b e₁) e₂)
@@ -128,9 +129,7 @@ module _ (W : World) where
 
     pub complete : (e : Expr) {γ γ′ : Environment} {t : ExprType} {φ : ℕ} → HasType W γ e t γ′ φ → (at : ℕ)
         → type-of W e at γ ≡ accept (record { type = t; slots = γ′; effect = φ })
-    complete literal-true type-true at = refl
-    complete literal-false type-false at = refl
-    complete literal-null type-null at = refl
+    complete (literal l) type-literal at = refl
     complete (slot k) (type-slot h) at = rw h
     complete (is-null e) (type-is-null d n) at = rw (complete e d (at + 1), n)
     complete (get f e) (type-get d h) at = rw (complete e d (at + 1), h)

@@ -12,17 +12,20 @@ use Rattle.language.specs.Limits.{null-exception, cast-exception}
 use Rattle.language.specs.Lists.{nth, map-option, inj, All2, a-nil, a-cons, all2-map, all2-mono, all2-mono-at}
 use Rattle.language.specs.Lists.{nth-set-same, nth-set-other, nth-append, nth-append-one, nth-set}
 use Rattle.language.specs.Frames.{Frame}
-use Rattle.language.specs.Tree.{DeclaredType, bool, class, ExprType, known, null-type, Field}
+use Rattle.language.specs.Tree.{literal-true, literal-false, literal-null}
+use Rattle.language.specs.Tree.{DeclaredType, bool, class, ExprType, known, null-type, Field, Literal}
 use Rattle.language.specs.World.{Method, World}
 use Rattle.language.specs.Effects.{no-effect, member, join, within, apply-class, apply, apply-expr}
-use Rattle.language.specs.Typing.{Slot, Environment, fresh-slot, method-environment, not-bool, fits}
+use Rattle.language.specs.Environment.{Slot, Environment, fresh-slot, method-environment}
+use Rattle.language.specs.Typing.{not-bool, fits}
 use Rattle.language.specs.Typing.{apply-slot, apply-all}
-use Rattle.language.specs.Rules.{HasType}
-use Rattle.language.specs.Evaluation.{Value, null, truth, object, Object, State, Stop, raised, deep, spent}
-use Rattle.language.specs.Evaluation.{full, initial, initials}
+use Rattle.theory.specs.ComputedRules.{HasType}
+use Rattle.language.specs.State.{Value, null, truth, object, Object, State, Stop, raised, deep, spent}
+use Rattle.language.specs.State.{full, initial, initials, literal-value}
 use Rattle.language.proofs.Effects.{member-none}
 use Rattle.language.proofs.Booleans.{false≢}
 use Rattle.theory.specs.EffectLaws.{has-left, has-right, has-within, expr-kept}
+use Rattle.language.specs.Tree.{literal-type}
 
 -- a value fits a type
 pub data Fits (W : World) (h : List Object) : Value → ExprType → Type 0 where
@@ -189,6 +192,12 @@ module _ {W : World} where
     to = λ j o e.
         record { now = o; there = nth-append h _ j o e; how = same refl };
   }
+
+  -- The value of a literal fits its type.
+  pub literal-fits : {h : List Object} (l : Literal) → Fits W h (literal-value l) (literal-type l)
+  literal-fits literal-true = truth-fits
+  literal-fits literal-false = truth-fits
+  literal-fits literal-null = null-fits refl
 
   initial-fits : (h : List Object) (t : DeclaredType) → Fits W h (initial t) (known t)
   initial-fits h bool = truth-fits

@@ -22,7 +22,7 @@ use Rattle.language.specs.Tree.{DeclaredType, bool, class, type-number, type-of
 use Rattle.language.specs.Tree.{size, sizes, flatten, flattens}
 use Rattle.language.specs.Form.{Read, read, after, record-on, next, locals, several, node-of, node}
 use Rattle.language.specs.WellFormed.{TypeInForm, Each, each-nil, each-cons, NodeInForm, NodesInForm}
-use Rattle.language.specs.WellFormed.{form-true, form-false, form-null, form-slot, form-is-null, form-get}
+use Rattle.language.specs.WellFormed.{form-literal, form-slot, form-is-null, form-get}
 use Rattle.language.specs.WellFormed.{form-cast, form-new, form-change, form-assign, form-set, form-call}
 use Rattle.language.specs.WellFormed.{form-choose, form-block, form-nil, form-cons}
 use Rattle.language.proofs.Booleans.{false≢, and-inv}
@@ -240,11 +240,11 @@ module _ (most : Most) where
       node-of-back S-start a b n at rs x s p q m l e = absurd (accept≢refuse _ _ e)
       node-of-back V-local a b n at rs x s p q m l e = absurd (accept≢refuse _ _ e)
       node-of-back T-true a b n at rs x s p q m l e = subst (NodeRead _ _ _ _) (accept-injective e)
-          (record { is = rw (zero-is a p, zero-is b q); formed = form-true; lines = omega arith })
+          (record { is = rw (zero-is a p, zero-is b q); formed = form-literal; lines = omega arith })
       node-of-back L-false a b n at rs x s p q m l e = subst (NodeRead _ _ _ _) (accept-injective e)
-          (record { is = rw (zero-is a p, zero-is b q); formed = form-false; lines = omega arith })
+          (record { is = rw (zero-is a p, zero-is b q); formed = form-literal; lines = omega arith })
       node-of-back N-null a b n at rs x s p q m l e = subst (NodeRead _ _ _ _) (accept-injective e)
-          (record { is = rw (zero-is a p, zero-is b q); formed = form-null; lines = omega arith })
+          (record { is = rw (zero-is a p, zero-is b q); formed = form-literal; lines = omega arith })
       node-of-back I-slot a b n at rs x s p q m l e = subst (NodeRead _ _ _ _) (accept-injective e)
           (record { is = rw (zero-is b q); formed = form-slot p; lines = omega arith })
       node-of-back Z-is-null a b n at rs x s p q m l e = after-inv _ _ e λ c rs₁ e₁ e.

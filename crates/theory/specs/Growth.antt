@@ -4,16 +4,17 @@ use mathlib.Core.Option.{Option, none, some}
 use mathlib.Core.Bool.{Bool, true, false, cond}
 use mathlib.Core.List.{List, [], _∷_, _++_, map}
 use lib.ListN.{length, set as replace, length-append, length-set}
-use lib.Dec.{leb}
 use native.Mathlib.Omega.{arith}
 use Rattle.language.specs.Lists.{nth, choice}
 use Rattle.language.specs.Results.{ok, stop, bind}
 use Rattle.language.specs.Frames.{Frame, frame, at-slot, opened, closed}
-use Rattle.language.specs.Tree.{Expr, literal-true, literal-false, literal-null, slot, is-null, get, cast}
+use Rattle.language.specs.Tree.{Expr, literal, slot, is-null, get, cast}
 use Rattle.language.specs.Tree.{new, change, assign, set, call, choose, block, Exprs, nil, cons}
 use Rattle.language.specs.World.{Method, World}
-use Rattle.language.specs.Evaluation.{Value, null, truth, object, Object, State, Stop, Out, without-limits}
-use Rattle.language.specs.Evaluation.{entered, with-frame, with-heap, with-change, initial, last-value, need}
+use Rattle.language.specs.State.{Value, null, truth, object, Object, State, Stop, Out}
+use Rattle.language.specs.Evaluation.{without-limits, need-reference, keeps-fields}
+use Rattle.language.specs.State.{entered, with-frame, with-heap, with-change, initial}
+use Rattle.language.specs.Evaluation.{last-value, need}
 use Rattle.language.specs.Evaluation.{need-object, need-truth, new-object, changed, field-of, with-field}
 use Rattle.language.specs.Evaluation.{do-get, do-set, do-cast, do-change, do-call, eval, eval-all, call-at}
 
@@ -58,7 +59,7 @@ pub grows-bind : {A B : Type 0} {s : State} {r : Out A} {k : A → State → Out
 grows-bind (grows-ok l) f = grows-after l (f _ _)
 grows-bind (grows-stop l) f = grows-stop l
 
-grows-need : {A B : Type 0} (o : Option A) (s : State) {k : A → Out B} → ((a : A) → Grows s (k a))
+pub grows-need : {A B : Type 0} (o : Option A) (s : State) {k : A → Out B} → ((a : A) → Grows s (k a))
     → Grows s (need o s k)
 grows-need none s f = grows-stop (later-same s)
 grows-need (some a) s f = f a
@@ -74,6 +75,12 @@ pub grows-truth : {B : Type 0} (v : Value) (s : State) {k : Bool → Out B} → 
 grows-truth null s f = grows-stop (later-same s)
 grows-truth (truth b) s f = f b
 grows-truth (object j) s f = grows-stop (later-same s)
+
+pub grows-reference : {B : Type 0} (v : Value) (s : State) {k : Bool → Out B} → ((b : Bool) → Grows s (k b))
+    → Grows s (need-reference v s k)
+grows-reference null s f = f true
+grows-reference (truth b) s f = grows-stop (later-same s)
+grows-reference (object j) s f = f false
 
 grows-cond : {B : Type 0} {s : State} (b : Bool) {x y : Out B} → Grows s x → Grows s y → Grows s (cond b x y)
 grows-cond true p q = p
@@ -120,7 +127,7 @@ module _ (W : World) where
   grows-change d null s = grows-ok (later-same s)
   grows-change d (truth b) s = grows-stop (later-same s)
   grows-change d (object j) s = grows-need (nth (s .heap) j) s λ o.
-      grows-cond (leb (length (W .fields (W .root d))) (length (o .fields))) (grows-ok (put o))
+      grows-cond (keeps-fields W d o) (grows-ok (put o))
       (grows-stop (later-same s))
     where
       put : (o : Object) → Later s (with-change (replace (s .heap) j (changed W d o)) s)
@@ -149,16 +156,16 @@ module _ (W : World) where
       unfolding eval
 
       pub grows : (e : Expr) (s : State) → Grows (entered s) (eval W without-limits invoke e s)
-      grows literal-true s = grows-ok (later-same (entered s))
-      grows literal-false s = grows-ok (later-same (entered s))
-      grows literal-null s = grows-ok (later-same (entered s))
+      grows (literal l) s = grows-ok (later-same (entered s))
       grows (slot k) s = grows-need (at-slot (s .frame) k) (entered s) λ v. grows-ok (later-same (entered s))
-      grows (is-null e) s = grows-bind (grows-entered (grows e (entered s))) λ v s. grows-ok (later-same s)
+      grows (is-null e) s = grows-bind (grows-entered (grows e (entered s))) λ v s.
+          grows-reference v s λ b. grows-ok (later-same s)
       grows (get f e) s = grows-bind (grows-entered (grows e (entered s))) λ v s. grows-get f v s
       grows (cast c e) s = grows-bind (grows-entered (grows e (entered s))) λ v s. grows-cast c v s
       grows (new c) s = grows-ok (later-new c (entered s))
       grows (change k d) s = grows-need (at-slot (s .frame) k) (entered s) λ v. grows-change d v (entered s)
-      grows (assign k e) s = grows-bind (grows-entered (grows e (entered s))) λ v s. grows-ok (later-frame s)
+      grows (assign k e) s = grows-bind (grows-entered (grows e (entered s))) λ v s.
+          grows-need (at-slot (s .frame) k) s λ _. grows-ok (later-frame s)
       grows (set f e e′) s = grows-bind (grows-entered (grows e (entered s))) λ v s.
           grows-bind (grows-entered (grows e′ s)) λ w s. grows-set f v w s
       grows (call m e es) s = grows-bind (grows-entered (grows e (entered s))) λ v s.

@@ -1,9 +1,12 @@
+pub mod ComputedRules
 pub mod Equal
 pub mod EffectLaws
 pub mod Fitting
 pub mod SoundActs
 pub mod SlotSorts
 pub mod Sound
+pub mod LookupsAgree
+pub mod ObjectsAgree
 pub mod RunsEqual
 pub mod Back
 pub mod TreeRows
@@ -11,7 +14,10 @@ pub mod Whole
 pub mod FormBack
 pub mod WholeBack
 pub mod WellEqual
+pub mod WellPasses
 pub mod Superclasses
+pub mod TypesAgree
+pub mod RulesAgree
 pub mod Lookups
 pub mod Accepts
 pub mod Members

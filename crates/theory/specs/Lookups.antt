@@ -3,30 +3,36 @@
 use mathlib.Core.Path.{_≡_, refl, sym, ap, _∙_, subst}
 use Prim.Native.Nat.{ℕ, zero, suc, _+_, _<_}
 use mathlib.Core.Option.{Option, none, some}
-use mathlib.Core.Bool.{Bool, true, false, _||_, cond}
-use mathlib.Core.Logic.{_⊎_, inl, inr, _↔_}
+use mathlib.Core.Bool.{Bool, true, false, cond}
+use mathlib.Core.Logic.{_⊎_, inl, inr, _↔_, _≢_}
 use mathlib.Core.List.{List, [], _++_}
 use lib.Dec.{eqb}
 use borrow.Author.Tests.{eqb-true}
 use native.Mathlib.Omega.{arith}
 use Rattle.language.specs.Limits.{object-class}
 use Rattle.language.specs.Lists.{nth, given, choice, Never, inj}
-use Rattle.language.specs.Tree.{DeclaredType, bool, class, Kind, plain, root, state, unknown, Field}
+use Rattle.language.specs.Tree.{DeclaredType, bool, class, state, Field}
 use Rattle.language.specs.Tree.{Declaration, Class, Program}
 use Rattle.language.specs.World.{Method}
 use Rattle.language.specs.Effects.{effect-of-all, within, member, apply-class, apply}
-use Rattle.language.specs.Program.{is-plain, is-root, is-state, method-of, declared, class-at, is-state-type}
-use Rattle.language.specs.Program.{fields-at, method-at, below-at, root-at, is-changeable, world}
-use Rattle.language.specs.WellFormed.{Each, each-nil, each-cons, Subclass, itself, below-object, above}
-use Rattle.language.specs.WellFormed.{Nearest, FieldsWell, well-nil, well-cons, Overrides, first, again}
-use Rattle.language.specs.WellFormed.{MethodWell, MethodsWell, methods-nil, methods-cons, ClassWell}
-use Rattle.language.specs.WellFormed.{ClassesWell, classes-nil, classes-cons, ProgramWell}
-use Rattle.language.proofs.Booleans.{false≢}
+use Rattle.language.specs.Program.{method-of, declared, class-at}
+use Rattle.language.specs.Program.{fields-at, method-at, below-at, root-at, world}
+use Rattle.language.specs.ClassRelations.{Subclass, itself, below-object, above, FieldType}
+use Rattle.language.specs.ClassRelations.{field-object, field-class}
+use Rattle.language.specs.WellFormed.{Each, each-nil, each-cons, FieldsWell, well-nil, well-cons, Overrides}
+use Rattle.language.specs.WellFormed.{first, again, MethodWell, MethodsWell, methods-nil, methods-cons}
+use Rattle.language.specs.WellFormed.{ClassWell, ClassesWell, classes-nil, classes-cons, ProgramWell}
 use Rattle.theory.specs.Fitting.{BodyOk, Laws}
 use Rattle.theory.specs.EffectLaws.{within-refl, within-trans}
-use Rattle.theory.specs.Superclasses.{object-is-no-class, subclass-trans, test-subclass, subclass-test}
+use Rattle.theory.specs.Superclasses.{one-class, no-class, object-is-no-class, Hierarchy}
+use Rattle.theory.specs.Superclasses.{subclass-trans}
+use Rattle.theory.specs.Superclasses.{test-subclass, subclass-test}
 use Rattle.theory.specs.Superclasses.{nearest-least, fields-prefix, root-is, root-subclass}
 use Rattle.theory.specs.Superclasses.{root-of-other, root-up, root-same}
+use Rattle.theory.specs.LookupsAgree.{fields-are, method-of-class, no-class-no-method, finds-is}
+use Rattle.theory.specs.LookupsAgree.{is-finds, is-change}
+use Rattle.theory.specs.RulesAgree.{computed}
+use Rattle.theory.specs.TypesAgree.{widens-is}
 
 -- What holds of each of a list holds at each place.
 pub each-at : {A : Type 0} {R : A → Type 0} {l : List A} → Each R l → (i : ℕ) (a : A) → nth l i ≡ some a → R a
@@ -57,6 +63,35 @@ class-well P w zero c e = absurd (Never e)
 class-well P w (suc i) c e =
     let z : i + 1 ≡ suc i = omega arith in subst (λ (n : ℕ). ClassWell P n c) z (class-well-from P w i c e)
 
+-- The hierarchy of well-formed classes is well formed.
+pub hierarchy : (P : List Class) → ClassesWell P 1 P → Hierarchy P
+hierarchy P w = record {
+  earlier = λ k c e. class-well P w k c e .earlier;
+  kinds = λ k c e. class-well P w k c e .kind;
+}
+
+module _ (P : List Class) (𝓗 : Hierarchy P) where
+  -- A class's own fields follow those that are found in its superclass.
+  pub fields-follow : {k : ℕ} {c : Class} → ClassWell P k c
+      → FieldsWell P (world P .fields (c .super)) (c .fields)
+  unfolding world
+  fields-follow {c} w = subst (λ (l : List Field). FieldsWell P l (c .fields))
+      (sym (fields-are P (𝓗 .earlier) (w .inherits))) (w .fields)
+
+  -- What an overriding method has in common with the one that is found in the superclass.
+  pub overridden : {super : ℕ} {m : Declaration} (M : Method) → Overrides P super m
+      → world P .method super (m .name) ≡ some M
+      → (m .parameters ≡ M .parameters) × (m .result ≡ M .result)
+      × (within (effect-of-all (m .effects)) (M .effect) ≡ true)
+  unfolding world
+  overridden {super} {m} M (first f) e = let x = is-finds P (𝓗 .earlier) super (m .name) M e in
+      absurd (f (x .owner) (x .declaration) (x .finds))
+  overridden {m} M (again o d x r p w) e = let q = inj (sym (finds-is P (𝓗 .earlier) x) ∙ e) in (
+    p ∙ ap (λ (N : Method). N .parameters) q,
+    r ∙ ap (λ (N : Method). N .result) q,
+    subst (λ (N : Method). within (effect-of-all (m .effects)) (N .effect) ≡ true) q w,
+  )
+
 -- A method declared under a name is one of the well-formed methods, and of that name.
 pub record WellDeclared (P : List Class) (k super m : ℕ) (d : Declaration) : Type 0 where
   pub before : List Declaration
@@ -76,18 +111,6 @@ well-declared P k super {before} (methods-cons {ms} {m = x} w ws) m d e =
     go true q ih e = subst (WellDeclared P k super m) (inj e)
         (record { before = before; well = w; name = eqb-true (x .name) m q })
     go false q ih e = ih e
-
--- What an overriding method has in common with the overridden one.
-overrides-one : {P : List Class} {m : Declaration} {o : Option Method} (M : Method) → Overrides P m o
-    → o ≡ some M
-    → (m .parameters ≡ M .parameters) × (m .result ≡ M .result)
-    × (within (effect-of-all (m .effects)) (M .effect) ≡ true)
-overrides-one M first e = absurd (Never e)
-overrides-one {m} M (again N r p w) e = let q = inj e in (
-  p ∙ ap (λ (x : Method). x .parameters) q,
-  r ∙ ap (λ (x : Method). x .result) q,
-  subst (λ (x : Method). within (effect-of-all (m .effects)) (x .effect) ≡ true) q w,
-)
 
 -- A method found from class k under a name: the class that declares it, at or above k.
 pub record FoundMethod (P : List Class) (k m : ℕ) (M : Method) : Type 0 where
@@ -136,34 +159,8 @@ module _ (P : List Class) (well : (k : ℕ) (c : Class) → class-at P k ≡ som
   abbrev pub superclass-earlier : (k : ℕ) (c : Class) → class-at P k ≡ some c → c .super < k
   superclass-earlier k c p = well k c p .earlier
 
-  -- More steps than there are superclasses find no other method.
-  method-enough : (n n′ k m : ℕ) → k < n → k < n′ → method-at P n k m ≡ method-at P n′ k m
-  unfolding method-at
-  method-enough zero n′ k m l l′ = absurd (omega (arith, l))
-  method-enough (suc n) zero k m l l′ = absurd (omega (arith, l′))
-  method-enough (suc n) (suc n′) k m l l′ = go (class-at P k) refl (λ c p. method-enough n n′ (c .super) m
-      (omega (arith, superclass-earlier k c p, l)) (omega (arith, superclass-earlier k c p, l′)))
-    where
-      go : (o : Option Class) → class-at P k ≡ o
-          → ((c : Class) → class-at P k ≡ some c → method-at P n (c .super) m ≡ method-at P n′ (c .super) m)
-          → given o none (λ c. given (declared (c .methods) m) (method-at P n (c .super) m) λ d. some
-          (method-of k d))
-          ≡ given o none (λ c. given (declared (c .methods) m) (method-at P n′ (c .super) m) λ d. some
-          (method-of k d))
-      go none e ih = refl
-      go (some c) e ih = rw (ih c e)
-
-  -- A class's method is its own, or else its superclass's.
-  method-of-class : (k m : ℕ) (c : Class) → class-at P k ≡ some c
-      → method-at P (suc k) k m
-      ≡ given (declared (c .methods) m) (method-at P (suc (c .super)) (c .super) m) λ d. some (method-of k d)
-  unfolding method-at
-  method-of-class k m c p =
-      rw (p, method-enough k (suc (c .super)) (c .super) m (superclass-earlier k c p) (omega arith))
-
-  method-of-object : (m : ℕ) → method-at P 1 object-class m ≡ none
-  unfolding method-at
-  method-of-object m = rw (object-is-no-class P)
+  pub ordered : Hierarchy P
+  ordered = record { earlier = superclass-earlier; kinds = λ k c p. well k c p .kind }
 
   -- Down from a class that has a method, each class has one with the same heading and an effect within.
   Inherited : (c m : ℕ) (M : Method) → Type 0
@@ -174,16 +171,17 @@ module _ (P : List Class) (well : (k : ℕ) (c : Class) → class-at P k ≡ som
       → Inherited c m M
   unfolding Inherited world
   inherited itself m M e = (M, e, refl, refl, within-refl (M .effect))
-  inherited (below-object p) m M e = absurd (Never (sym (method-of-object m) ∙ e))
+  inherited (below-object p) m M e =
+      absurd (Never (sym (no-class-no-method P superclass-earlier object-class m (object-is-no-class P)) ∙ e))
   inherited {c = k} (above c p r) m M e = go (inherited r m M e) (declared (c .methods) m) refl
     where
       go : Inherited (c .super) m M → (o : Option Declaration) → declared (c .methods) m ≡ o → Inherited k m M
-      go x none q = (x .0, method-of-class k m c p ∙ rw q (x .1), x .2, x .3, x .4)
+      go x none q = (x .0, method-of-class P superclass-earlier k m c p ∙ rw q (x .1), x .2, x .3, x .4)
       go x (some d) q = let w = well-declared P k (c .super) (well k c p .methods) m d q in
-          let y = overrides-one (x .0) (w .well .overrides)
+          let y = overridden P ordered (x .0) (w .well .overrides)
           (ap (λ (n : ℕ). method-at P (suc (c .super)) (c .super) n) (w .name) ∙ x .1) in (
             method-of k d,
-            method-of-class k m c p ∙ rw q,
+            method-of-class P superclass-earlier k m c p ∙ rw q,
             y .0 ∙ x .2,
             y .1 ∙ x .3,
             within-trans (effect-of-all (d .effects)) (x .0 .effect) (M .effect) (y .2) (x .4),
@@ -198,34 +196,38 @@ module _ (P : List Class) (well : (k : ℕ) (c : Class) → class-at P k ≡ som
         ty = w .t;
         env = w .γ;
         eff = w .φ;
-        types = w .body;
-        fits-ret = w .body-type;
+        types = computed P ordered (x .declaration .body) (w .body);
+        fits-ret = widens-is P ordered (w .body-type);
         inside = w .body-effect;
       })
 
   -- No field has a state class as its type, so no effect changes the type of a field.
-  own-fields-steady : {before fs : List Field} → FieldsWell P before fs
-      → Each (λ (f : Field). is-state-type P (f .type) ≡ false) fs
-  own-fields-steady well-nil = each-nil
-  own-fields-steady (well-cons a b c d w) = each-cons d (own-fields-steady w)
+  own-fields-typed : {before fs : List Field} → FieldsWell P before fs
+      → Each (λ (f : Field). FieldType P (f .type)) fs
+  own-fields-typed well-nil = each-nil
+  own-fields-typed (well-cons a b c w) = each-cons b (own-fields-typed w)
 
-  fields-steady : (n k : ℕ) → Each (λ (f : Field). is-state-type P (f .type) ≡ false) (fields-at P n k)
+  fields-typed : (n k : ℕ) → Each (λ (f : Field). FieldType P (f .type)) (fields-at P n k)
   unfolding fields-at
-  fields-steady zero k = each-nil
-  fields-steady (suc n) k = go (class-at P k) refl (λ c. fields-steady n (c .super))
+  fields-typed zero k = each-nil
+  fields-typed (suc n) k = go (class-at P k) refl (λ c. fields-typed n (c .super))
     where
       go : (o : Option Class) → class-at P k ≡ o
-          → ((c : Class) → Each (λ (f : Field). is-state-type P (f .type) ≡ false) (fields-at P n (c .super)))
-          → Each (λ (f : Field). is-state-type P (f .type) ≡ false)
+          → ((c : Class) → Each (λ (f : Field). FieldType P (f .type)) (fields-at P n (c .super)))
+          → Each (λ (f : Field). FieldType P (f .type))
           (given o [] λ c. fields-at P n (c .super) ++ c .fields)
       go none e ih = each-nil
-      go (some c) e ih = each-append (ih c) (own-fields-steady (well k c e .fields))
+      go (some c) e ih = each-append (ih c) (own-fields-typed (well k c e .fields))
 
-  steady-type : (φ : ℕ) (t : DeclaredType) → is-state-type P t ≡ false → apply (world P) φ t ≡ t
-  unfolding is-state-type apply-class world
-  steady-type φ bool e = refl
-  steady-type φ (class k) e = ap class (own (root-at P (suc k) k)
-      (root-of-other P superclass-earlier (λ c p. rw p at e) (root-is P superclass-earlier k)))
+  no-state-class : {k : ℕ} → FieldType P (class k) → (c : Class) → class-at P k ≡ some c → c .kind ≢ state
+  no-state-class field-object c p = no-class (object-is-no-class P) p
+  no-state-class (field-class b q s) c p = subst (λ (x : Class). x .kind ≢ state) (one-class q p) s
+
+  steady-type : (φ : ℕ) (t : DeclaredType) → FieldType P t → apply (world P) φ t ≡ t
+  unfolding apply-class world
+  steady-type φ bool x = refl
+  steady-type φ (class k) x = ap class (own (root-at P (suc k) k)
+      (root-of-other P superclass-earlier (no-state-class x) (root-is P superclass-earlier k)))
     where
       same : (b : Bool) → cond b k k ≡ k
       same true = refl
@@ -234,27 +236,9 @@ module _ (P : List Class) (well : (k : ℕ) (c : Class) → class-at P k ≡ som
       own : (r : ℕ) → r ≡ k → cond (member φ r) r k ≡ k
       own r q = rw q (same (member φ k))
 
-  -- A class that may be changed is a root or state class.
-  changeable-class : (k : ℕ) → is-changeable P k ≡ true
-      → (c : Class) × (class-at P k ≡ some c) × (is-plain (c .kind) ≡ false)
-  unfolding is-changeable
-  changeable-class k e = go (class-at P k) refl e
-    where
-      no-plain : (k : Kind) → (is-root k || is-state k) ≡ true → is-plain k ≡ false
-      no-plain plain e = false≢ e
-      no-plain root e = refl
-      no-plain state e = refl
-      no-plain (unknown n) e = refl
-
-      go : (o : Option Class) → class-at P k ≡ o
-          → given o false (λ c. is-root (c .kind) || is-state (c .kind)) ≡ true
-          → (c : Class) × (class-at P k ≡ some c) × (is-plain (c .kind) ≡ false)
-      go none p e = false≢ e
-      go (some c) p e = (c, p, no-plain (c .kind) e)
-
   up-law : (c d : ℕ) → below-at P (suc c) c d ≡ true → (root-at P (suc d) d ≡ root-at P (suc c) c)
       ⊎ ((root-at P (suc d) d ≡ d) × (below-at P (suc (root-at P (suc c) c)) (root-at P (suc c) c) d ≡ true))
-  up-law c d e = elim (root-up P superclass-earlier (λ k b p. well k b p .kind)
+  up-law c d e = elim (root-up P superclass-earlier (ordered .kinds)
       (test-subclass P superclass-earlier e)
       (root-is P superclass-earlier c) (root-is P superclass-earlier d))
       [ inl p ↦ inl p | inr p ↦ inr (p .0, subclass-test P superclass-earlier (p .1)) ]
@@ -268,12 +252,11 @@ module _ (P : List Class) (well : (k : ℕ) (c : Class) → class-at P k ≡ som
     sub-root = λ c. subclass-test P superclass-earlier
         (root-subclass P superclass-earlier (root-is P superclass-earlier c));
     up = λ c d s. up-law c d s;
-    fickle-root = λ c d s h. let x = changeable-class d h in
-        root-same P superclass-earlier (λ k b p. well k b p .kind)
-        (test-subclass P superclass-earlier s) (x .0) (x .1) (x .2)
+    fickle-root = λ c d s h. root-same P superclass-earlier (ordered .kinds)
+        (test-subclass P superclass-earlier s) (is-change P d h)
         (root-is P superclass-earlier c) (root-is P superclass-earlier d);
     prefix = λ c d s. fields-prefix P superclass-earlier (test-subclass P superclass-earlier s);
-    solid = λ c i f e φ. steady-type φ (f .type) (each-at (fields-steady (suc c) c) i f e);
+    solid = λ c i f e φ. steady-type φ (f .type) (each-at (fields-typed (suc c) c) i f e);
     lub-left = λ c d. subclass-test P superclass-earlier (nearest-least P superclass-earlier c d .left);
     lub-right = λ c d. subclass-test P superclass-earlier (nearest-least P superclass-earlier c d .right);
     override = λ c d m M s e. inherited (test-subclass P superclass-earlier s) m M e;
@@ -291,12 +274,5 @@ pub below-is-subclass : (p : Program) → ProgramWell p → (c d : ℕ)
     → (world (p .classes) .below c d ≡ true) ↔ Subclass (p .classes) c d
 unfolding world
 below-is-subclass p w c d = let P = p .classes in
-    let earlier = superclass-earlier P (class-well P (w .classes)) in
+    let earlier = hierarchy P (w .classes) .earlier in
     ((λ e. test-subclass P earlier e), (λ s. subclass-test P earlier s))
-
--- Its nearest common superclass is Figure 21's least upper bound.
-pub nearest-is-least : (p : Program) → ProgramWell p → (c d : ℕ)
-    → Nearest (p .classes) c d (world (p .classes) .nearest c d)
-unfolding world
-nearest-is-least p w c d = let P = p .classes in
-    nearest-least P (superclass-earlier P (class-well P (w .classes))) c d

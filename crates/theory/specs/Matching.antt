@@ -13,7 +13,7 @@ use Rattle.language.specs.Limits.{identity-class}
 use Rattle.language.specs.Lists.{nth, choice, Never, inj, All2, all2-mono}
 use Rattle.language.specs.Frames.{Frame}
 use Rattle.language.specs.World.{World, is-declared}
-use Rattle.language.specs.Evaluation.{Value, object, Object}
+use Rattle.language.specs.State.{Value, object, Object}
 use Rattle.language.specs.Translation.{Shape, position}
 use Rattle.language.specs.Correspondence.{identities, Corresponds, both-null, same-truth, in-place}
 use Rattle.language.specs.Correspondence.{implementor-of, Matches}

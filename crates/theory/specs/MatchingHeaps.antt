@@ -12,7 +12,7 @@ use native.Mathlib.Decide.{ℕ-discrete}
 use Rattle.language.specs.Lists.{nth, All2, nth-set-same, nth-set-other, nth-append, nth-last, nth-append-one}
 use Rattle.language.specs.Lists.{nth-set}
 use Rattle.language.specs.World.{World, is-declared}
-use Rattle.language.specs.Evaluation.{Value, null, truth, object, Object}
+use Rattle.language.specs.State.{Value, null, truth, object, Object}
 use Rattle.language.specs.Correspondence.{Corresponds, identity-of, implementor-of, Matches}
 use Rattle.theory.specs.Matching.{identities-set, identities-append, identities-implementor}
 use Rattle.theory.specs.Matching.{not-identity, Implements, HeapsMatch, Persists, all-correspond-later}

@@ -4,17 +4,18 @@
 use mathlib.Core.Path.{_≡_, refl, sym, _∙_}
 use Prim.Native.Nat.{ℕ, suc, _+_, _*_, _≤_}
 use mathlib.Core.Option.{none, some}
-use mathlib.Core.Bool.{true, false}
+use mathlib.Core.Bool.{Bool, true, false}
 use mathlib.Core.List.{List, [], _∷_, _++_, map}
 use lib.ListN.{length, set as replace}
 use native.Mathlib.Omega.{arith}
 use Rattle.language.specs.Results.{ok, alike-ok, Alike}
-use Rattle.language.specs.Evaluation.{entered, Value, Object, State, Stop, with-frame, initial, truth, Out}
-use Rattle.language.specs.Evaluation.{last-value, need-truth, is-null-value}
+use Rattle.language.specs.State.{entered, Value, Object, State, Stop, with-frame, initial, truth, Out}
+use Rattle.language.specs.Evaluation.{last-value, need-truth, need-reference}
 use Rattle.language.specs.Limits.{plain-steps-a-step}
 use Rattle.language.specs.Lists.{nth, inj, All2, up, nth-up, set-up, choice, a-nil, a-cons}
-use Rattle.language.specs.Frames.{Frame, frame, with-slot, opened, closed}
-use Rattle.language.specs.Tree.{DeclaredType, bool, class, known}
+use Rattle.language.specs.Frames.{Frame, with-slot, opened, closed, at-slot}
+use Rattle.language.specs.Tree.{literal-true, literal-false, literal-null, ExprType}
+use Rattle.language.specs.Tree.{DeclaredType, bool, class, known, Literal}
 use Rattle.language.specs.World.{World, is-declared}
 use Rattle.language.specs.Translation.{plain-type, Shape, variables, plain-slot, temporaries}
 use Rattle.language.specs.Correspondence.{Corresponds, both-null, same-truth, identity-of, implementor-of}
@@ -23,8 +24,10 @@ use Rattle.language.proofs.Booleans.{false≢}
 use Rattle.theory.specs.Matching.{persists-same, HeapsMatch, Persists, persists-trans, Mask, SlotsMatch}
 use Rattle.theory.specs.Matching.{no-slots, variable, slots-set, slots-append, slots-temporaries}
 use Rattle.theory.specs.Matching.{temporary-at, temporary-set, slots-close, temporaries-close}
-use Rattle.theory.specs.Matching.{FramesMatch, temporary, temporaries-only}
-use Rattle.theory.specs.Fitting.{Fits, null-fits}
+use Rattle.theory.specs.Matching.{FramesMatch, temporary, temporaries-only, slots-at}
+use Rattle.language.specs.Typing.{not-bool}
+use Rattle.theory.specs.Fitting.{Fits, null-fits, truth-fits}
+use Rattle.language.specs.State.{literal-value}
 
 -- Heaps and counts match; z is what the plain side may still spend.
 pub record Matched (W : World) (ids : List ℕ) (z : ℕ) (s t : State) : Type 0 where
@@ -158,6 +161,12 @@ module _ {W : World} where
         known = c .heaps .known j o p;
       }
 
+-- The value of a literal corresponds to itself.
+pub same-literal : {ids : List ℕ} (l : Literal) → Corresponds ids (literal-value l) (literal-value l)
+same-literal literal-true = same-truth
+same-literal literal-false = same-truth
+same-literal literal-null = both-null
+
 -- First values correspond, and so do a block's locals.
 pub initial-corresponds : (ids : List ℕ) (u : DeclaredType)
     → Corresponds ids (initial u) (initial (plain-type u))
@@ -180,6 +189,12 @@ module _ {W : World} {ids : List ℕ} {h : List Object} {sh : Shape} where
   unfolding plain-slot
   frames-set F k r = record { this = F .this; slots = slots-set (F .slots) k _ _ r }
 
+  -- The slot of a variable is there in the plain program.
+  pub frames-variable : {μ : Mask} {f f′ : Frame Value} (k : ℕ) (v : Value) → FramesMatch W ids h sh μ f f′
+      → at-slot f (suc k) ≡ some v → (v′ : Value) × (at-slot f′ (plain-slot sh (suc k)) ≡ some v′)
+  unfolding plain-slot
+  frames-variable k v F e = let x = slots-at (F .slots) k v e in (x .0, x .1)
+
   -- A block's locals are opened; temporaries are opened.
   pub frames-open : {μ : Mask} {f f′ : Frame Value} → FramesMatch W ids h sh μ f f′ → (ts : List DeclaredType)
       → FramesMatch W ids h (sh ++ variables ts) (μ ++ no-values ts) (opened f (map initial ts))
@@ -191,22 +206,12 @@ module _ {W : World} {ids : List ℕ} {h : List Object} {sh : Shape} where
       → FramesMatch W ids h (sh ++ sh₂) (μ ++ μ₂) f (opened f′ ws)
   frames-temporaries F r = record { this = F .this; slots = slots-temporaries (F .slots) r }
 
-  -- The k-th temporary after n slots, read and written.
+  -- The k-th temporary after n slots, read.
   pub frames-temporary : (μ μ₂ : Mask) {f f′ : Frame Value} (k n : ℕ) (w : Value)
       → FramesMatch W ids h sh (μ ++ μ₂) f f′ → length μ ≡ n → nth μ₂ k ≡ some (some w)
       → nth (f′ .slots) (up k n) ≡ some w
   frames-temporary μ μ₂ k n w F p e =
       rw (sym p) (temporary-at (F .slots) (up k (length μ)) w (nth-up μ μ₂ k ∙ e))
-
-  pub frames-put : (μ μ₂ : Mask) {f f′ : Frame Value} (k n : ℕ) (w w′ : Value)
-      → FramesMatch W ids h sh (μ ++ μ₂) f f′ → length μ ≡ n → nth μ₂ k ≡ some (some w)
-      → FramesMatch W ids h sh (μ ++ replace μ₂ k (some w′)) f
-      (frame (f′ .this) (replace (f′ .slots) (up k n) w′))
-  frames-put μ μ₂ k n w w′ F p e = rw (sym p) (record {
-    this = F .this;
-    slots = rw (set-up μ μ₂ k (some w′)) at
-        (temporary-set (F .slots) (up k (length μ)) w w′ (nth-up μ μ₂ k ∙ e));
-  })
 
   -- A block is left; a block of temporaries is left.
   pub frames-close : {ids₀ : List ℕ} {h₀ : List Object} (sh₂ : Shape) {μ : Mask} (μ₂ : Mask)
@@ -221,6 +226,21 @@ module _ {W : World} {ids : List ℕ} {h : List Object} {sh : Shape} where
       → FramesMatch W ids h sh μ f (closed (length (f₀′ .slots)) f′)
   frames-exit sh₂ μ₂ g F₀ F =
       record { this = F .this; slots = temporaries-close sh₂ μ₂ g (F₀ .slots) (F .slots) }
+
+-- The k-th temporary after n slots, written.
+pub states-put : {W : World} {ids : List ℕ} {sh : Shape} (μ μ₂ : Mask) {z : ℕ} {s t : State}
+    (k n : ℕ) (w w′ : Value) → StatesMatch W ids sh (μ ++ μ₂) z s t → length μ ≡ n → nth μ₂ k ≡ some (some w)
+    → StatesMatch W ids sh (μ ++ replace μ₂ k (some w′)) z s
+    (with-frame (with-slot (t .frame) (suc (up k n)) w′) t)
+states-put μ μ₂ {t} k n w w′ R p e = rw (sym p) (record {
+  core = spend 0 (with-frame (with-slot (t .frame) (suc (up k (length μ))) w′) t) (R .core) (omega arith)
+      refl refl (omega arith);
+  frames = record {
+    this = R .frames .this;
+    slots = rw (set-up μ μ₂ k (some w′)) at
+        (temporary-set (R .frames .slots) (up k (length μ)) w w′ (nth-up μ μ₂ k ∙ e));
+  };
+})
 
 -- What a block of temporaries answers.
 pub close-block : {W : World} {ids₀ ids : List ℕ} {h₀ h : List Object} {sh : Shape} (sh₂ : Shape) {μ : Mask}
@@ -241,11 +261,13 @@ close-block sh₂ μ₂ {s} {t} f₀′ g F a =
     })
 
 -- Z of values that correspond; J on a truth value; the last of values that correspond.
-pub null-alike : {ids : List ℕ} {v v′ : Value} → Corresponds ids v v′
-    → Corresponds ids (truth (is-null-value v)) (truth (is-null-value v′))
-null-alike both-null = same-truth
-null-alike same-truth = same-truth
-null-alike (in-place e) = same-truth
+pub null-alike : {W : World} {A : Value → State → Value → State → Type 0} {ids : List ℕ} {h : List Object}
+    {u : ExprType} {v v′ : Value} → Corresponds ids v v′ → (s t : State) → not-bool u ≡ true → Fits W h v u
+    → ((b : Bool) → A (truth b) s (truth b) t)
+    → Alike A (Ended W) (need-reference v s λ b. ok (truth b) s) (need-reference v′ t λ b. ok (truth b) t)
+null-alike both-null s t n f g = alike-ok (g true)
+null-alike same-truth s t n truth-fits g = false≢ n
+null-alike (in-place e) s t n f g = alike-ok (g false)
 
 pub choose-alike : {W : World} {A : Value → State → Value → State → Type 0} {ids : List ℕ} {h : List Object}
     {v v′ : Value}

@@ -15,7 +15,8 @@ use Rattle.language.specs.Tree.{Program}
 use Rattle.language.specs.World.{World}
 use Rattle.language.specs.Program.{world}
 use Rattle.language.specs.Verdict.{whole-rows, check, accepted, verdict}
-use Rattle.language.specs.Evaluation.{Value, State, Stop, raised, spent, deep, full, stuck, Out, Limits}
+use Rattle.language.specs.State.{Value, State, Stop, raised, spent, deep, full, stuck, Out}
+use Rattle.language.specs.Evaluation.{Limits}
 use Rattle.language.specs.Evaluation.{with-limits, call-at, first-state, run}
 use Rattle.language.specs.Store.{ended, ran, finish, runnable, run-checked, capacity, run-of}
 use Rattle.language.specs.WellFormed.{ProgramWell}
@@ -23,7 +24,8 @@ use Rattle.language.proofs.Booleans.{false≢}
 use Rattle.theory.specs.Fitting.{Good, Fine, fine-null, fine-cast, fine-deep, fine-spent, fine-full}
 use Rattle.theory.specs.Fitting.{this-none}
 use Rattle.theory.specs.Sound.{calls-ok, expression-sound}
-use Rattle.theory.specs.Lookups.{well-formed-laws}
+use Rattle.theory.specs.RulesAgree.{computed}
+use Rattle.theory.specs.Lookups.{hierarchy, well-formed-laws}
 use Rattle.theory.specs.Accepts.{RowsOf, check-accepts}
 
 -- Every stop but stuck; every result but one that stopped stuck.
@@ -55,9 +57,10 @@ holds-unstuck (holds-stop h) = fine-unstuck h
 pub run-sound : (p : Program) (w : ProgramWell p) (L : Limits)
     → Holds (Good (world (p .classes)) (w .γ) (w .φ) (w .t) []) (Fine (world (p .classes))) (run L p)
 unfolding run nth
-run-sound p w L = let W = world (p .classes) in let laws = well-formed-laws p w in
+run-sound p w L = let P = p .classes in let W = world P in let laws = well-formed-laws p w in
     expression-sound laws L (λ M s. call-at W L most-calls M s) (calls-ok laws L most-calls)
-    (p .start) (w .start) first-state (record { each = λ j o e. absurd (Never e) })
+    (p .start) (computed P (hierarchy P (w .classes)) (p .start) (w .start)) first-state
+    (record { each = λ j o e. absurd (Never e) })
     (record { this = this-none; slots = a-nil })
 
 run-unstuck : (p : Program) → ProgramWell p → (L : Limits) → unstuck (run L p) ≡ true

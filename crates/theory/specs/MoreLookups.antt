@@ -19,17 +19,18 @@ use Rattle.language.specs.Tree.{Field, Declaration, Class, class-lines, Program
 use Rattle.language.specs.World.{Method, World, place, is-declared}
 use Rattle.language.specs.Program.{method-of, declared, class-at, fields-at, method-at, world}
 use Rattle.language.specs.Headings.{check-fields, check-class, check-classes, headings}
-use Rattle.language.specs.WellFormed.{Each, each-nil, each-cons, ClassInForm, ProgramInForm, Subclass, itself}
-use Rattle.language.specs.WellFormed.{below-object, above, FieldsWell, well-nil, well-cons, ClassWell}
-use Rattle.language.specs.WellFormed.{ProgramWell}
+use Rattle.language.specs.WellFormed.{Each, each-nil, each-cons, ClassInForm, ProgramInForm, FieldsWell}
+use Rattle.language.specs.WellFormed.{well-nil, well-cons, ClassWell, ProgramWell}
 use Rattle.language.specs.Translation.{fields-free, names-free}
 use Rattle.language.proofs.Booleans.{false≢}
 use Rattle.theory.specs.Fitting.{Laws}
 use Rattle.theory.specs.SoundActs.{place-append}
-use Rattle.theory.specs.WellEqual.{class-count}
+use Rattle.theory.specs.WellPasses.{class-count}
 use Rattle.theory.specs.Superclasses.{subclass-test, subclass-top, no-class-no-fields, root-is}
-use Rattle.theory.specs.Superclasses.{root-subclass, fields-law}
-use Rattle.theory.specs.Lookups.{superclass-earlier, each-at, each-append, class-well, method-found}
+use Rattle.theory.specs.Superclasses.{root-subclass, fields-law, above-earlier}
+use Rattle.theory.specs.LookupsAgree.{unnamed-place}
+use Rattle.theory.specs.Lookups.{superclass-earlier, ordered, fields-follow, each-at, each-append}
+use Rattle.theory.specs.Lookups.{class-well, method-found}
 use Rattle.theory.specs.Lookups.{well-formed-laws}
 
 -- Every field is found under its name.
@@ -153,7 +154,7 @@ pub own-few : {P : List Class} {before fs : List Field} → FieldsWell P before 
     → length before ≤ of-check .fields
     → length (before ++ fs) ≤ of-check .fields
 own-few {before} well-nil l = omega (arith, l, length-append before [])
-own-few {before} (well-cons {fs} {f} a b c s w) l =
+own-few {before} (well-cons {fs} {f} a b c w) l =
     subst (λ (r : List Field). length r ≤ of-check .fields)
     (append-assoc before (f ∷ []) fs) (own-few w (omega (arith, a, length-append before (f ∷ []))))
 
@@ -195,25 +196,19 @@ module _ (P : List Class) (laws : Laws (world P))
     distinct-own : {before fs : List Field} → FieldsWell P before fs → Distinct before
         → Distinct (before ++ fs)
     distinct-own {before} well-nil d = rw append-nil d
-    distinct-own {before} (well-cons {fs} {f} a b c s w) d =
-        rw append-assoc at (distinct-own w (distinct-more f d c))
+    distinct-own {before} (well-cons {fs} {f} a b c w) d =
+        rw append-assoc at (distinct-own w (distinct-more f d (unnamed-place c)))
 
     all-distinct : (k : ℕ) → Distinct (fields-at P (suc k) k)
     unfolding world nth
     all-distinct k = fields-law P (superclass-earlier P well) Distinct
         (record { found = λ i f e. absurd (Never e) })
-        (λ k c p d. distinct-own (well k c p .fields) d) (suc k) k (omega arith)
+        (λ k c p d. distinct-own (fields-follow P (ordered P well) (well k c p)) d) (suc k) k (omega arith)
 
     all-few : (k : ℕ) → length (fields-at P (suc k) k) ≤ of-check .fields
     unfolding world
     all-few k = fields-law P (superclass-earlier P well) (λ fs. length fs ≤ of-check .fields) (omega arith)
-        (λ k c p l. own-few (well k c p .fields) l) (suc k) k (omega arith)
-
-    -- What is above a class does not come after it.
-    above-earlier : {k d : ℕ} → Subclass P k d → d ≤ k
-    above-earlier itself = omega arith
-    above-earlier (below-object p) = omega arith
-    above-earlier {k} (above c p s) = omega (arith, above-earlier s, well k c p .earlier)
+        (λ k c p l. own-few (fields-follow P (ordered P well) (well k c p)) l) (suc k) k (omega arith)
 
     class-with-field : (k n i : ℕ) → place n (fields-at P (suc k) k) ≡ some i → leb k (length P) ≡ true
     unfolding place
@@ -246,7 +241,8 @@ module _ (P : List Class) (laws : Laws (world P))
       declared-root = λ c e. le-leb _ (length P) (omega (
         arith,
         leb-true c (length P) e,
-        above-earlier (root-subclass P (superclass-earlier P well) (root-is P (superclass-earlier P well) c)),
+        above-earlier P (superclass-earlier P well)
+            (root-subclass P (superclass-earlier P well) (root-is P (superclass-earlier P well) c)),
       ));
       few-fields = λ c. all-few c;
     }

@@ -13,9 +13,12 @@ use Rattle.language.specs.Results.{ok, stop, bind, Alike, alike-ok, alike-stop}
 use Rattle.language.specs.Frames.{Frame, at-slot}
 use Rattle.language.specs.Tree.{DeclaredType, class, ExprType, known, Expr, literal-null, slot, get, new, set}
 use Rattle.language.specs.World.{Method, World, field-type, is-declared}
-use Rattle.language.specs.Typing.{Environment, not-bool}
-use Rattle.language.specs.Evaluation.{Value, truth, object, Object, State, raised, Out, without-limits}
-use Rattle.language.specs.Evaluation.{entered, with-heap, initials, need-truth, is-null-value, new-object}
+use Rattle.language.specs.Environment.{Environment}
+use Rattle.language.specs.Typing.{not-bool}
+use Rattle.language.specs.State.{Value, truth, object, Object, State, raised, Out}
+use Rattle.language.specs.Evaluation.{without-limits}
+use Rattle.language.specs.State.{entered, with-heap, initials}
+use Rattle.language.specs.Evaluation.{need-truth, need-reference, new-object}
 use Rattle.language.specs.Evaluation.{do-get, do-set, do-cast, do-new, eval}
 use Rattle.language.specs.Translation.{plain-class, plain-field, Shape, position, read-slot, implementor}
 use Rattle.language.specs.Translation.{translate}
@@ -35,6 +38,7 @@ use Rattle.theory.specs.PlainSteps.{More, state-of, initials-correspond,
 use Rattle.theory.specs.PlainSteps.{set-step, implementor-step, id-step, implementor-run}
 use Rattle.theory.specs.PlainSteps.{implementor-null, implementor-fails, run-this, run-plain-new}
 use Rattle.theory.specs.TranslationEquations.{plain-new-is}
+use Rattle.language.specs.Tree.{literal}
 
 -- The value of a slot of the source, and where the plain program has it.
 pub data SlotAt (W : World) (ids : List ℕ) (h : List Object) (sh : Shape) (f′ : Frame Value) : ℕ → Value
@@ -216,8 +220,8 @@ module _ (W W′ : World) (P : IsPlain W W′) (𝓛 : Laws W) (𝓜 : More W) w
         → (ids′ : List ℕ) → Persists W ids ids′ h₀ (t .heap) → StatesMatch W ids′ sh μ (4 + z) s t
         → Corresponds ids′ v v′ → nth (t .frame .slots) n ≡ some v′
         → Alike (After W ids h₀ sh μ z) (Ended W) (do-cast W c v s)
-        (need-truth (truth (is-null-value v′)) t
-        λ b. choice b (λ _. run literal-null t) (λ _. run (get id-field (implementor c (suc n))) t))
+        (bind (need-reference v′ t λ b. ok (truth b) t) λ x t. need-truth x t
+        λ b. choice b (λ _. run (literal literal-null) t) (λ _. run (get id-field (implementor c (suc n))) t))
     unfolding eval
     cast-acts {z} c n u v v′ s t N F ids′ X R both-null a = alike-ok {s = s} {t = entered t} (record {
       ids′ = ids′;

@@ -12,13 +12,14 @@ use Rattle.language.specs.Frames.{Frame, at-slot, opened}
 use Rattle.language.specs.Tree.{DeclaredType, class, ExprType, known, null-type, Expr, slot, get, block}
 use Rattle.language.specs.Tree.{Exprs, nil, Field}
 use Rattle.language.specs.World.{World, field-type, is-declared}
-use Rattle.language.specs.Typing.{Slot, Environment, last-type, after-change}
-use Rattle.language.specs.Rules.{Declared, declared-nil, declared-cons}
+use Rattle.language.specs.Environment.{Slot, Environment}
+use Rattle.language.specs.Typing.{last-type, after-change}
+use Rattle.theory.specs.ComputedRules.{Declared, declared-nil, declared-cons}
 use Rattle.language.specs.Translation.{plain-class, plain-type, Shape, position, read-slot, _then_, _⊕_}
 use Rattle.language.specs.Translation.{implementor, reads, copies, renew, change-types, plain-change}
 use Rattle.theory.specs.Fitting.{Laws}
 use Rattle.theory.specs.PlainOf.{PlainOf}
-use Rattle.theory.specs.PlainRules.{Plain, Plains, plain-null, plain-slot as slot-plain}
+use Rattle.theory.specs.PlainRules.{Plain, Plains, plain-literal, plain-slot as slot-plain}
 use Rattle.theory.specs.PlainRules.{plain-new as new-plain, plain-cast as cast-plain, plain-get}
 use Rattle.theory.specs.PlainRules.{plain-set, plain-assign, plain-is-null, plain-choose, plain-block}
 use Rattle.theory.specs.PlainRules.{plains-nil, plains-cons}
@@ -195,7 +196,7 @@ module _ {W W′ : World} (𝓟 : PlainOf W W′) (𝓛 : Laws W) (𝓝 : NameLa
         slots = match-change W m (suc k) c d s e h;
         typed = plain-block (change-declared d i)
             (plains-cons (plain-choose (plain-is-null
-            (plain-assign (slot-plain own) at₀ (𝓟 .below-identity)) refl) plain-null
+            (plain-assign (slot-plain own) at₀ (𝓟 .below-identity)) refl) plain-literal
             (renew-typed n d i at₀ at₁ at₂) refl)
             (plains-cons (slot-plain at₀) plains-nil));
       }

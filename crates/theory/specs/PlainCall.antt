@@ -11,8 +11,10 @@ use Rattle.language.specs.Results.{Alike, alike-ok, alike-stop, alike-bind}
 use Rattle.language.specs.Frames.{frame}
 use Rattle.language.specs.Tree.{DeclaredType, class, ExprType, known, call}
 use Rattle.language.specs.World.{Method, World}
-use Rattle.language.specs.Typing.{fresh-slot, method-environment, all-fit}
-use Rattle.language.specs.Evaluation.{Value, object, Object, State, Out, without-limits, entered, with-frame}
+use Rattle.language.specs.Environment.{fresh-slot, method-environment}
+use Rattle.language.specs.Typing.{all-fit}
+use Rattle.language.specs.State.{Value, object, Object, State, Out, entered, with-frame}
+use Rattle.language.specs.Evaluation.{without-limits}
 use Rattle.language.specs.Evaluation.{do-call, eval}
 use Rattle.language.specs.Translation.{Shape, variables, implementor, reads}
 use Rattle.language.specs.Correspondence.{Corresponds, both-null, in-place}

@@ -7,13 +7,16 @@ use mathlib.Core.List.{List, [], _∷_, _++_}
 use lib.ListN.{length, set as replace, length-append, length-set}
 use lib.Seq.{take-append-seam}
 use native.Mathlib.Omega.{arith}
-use Rattle.language.specs.Lists.{nth, nth-append, up, nth-up, set-up, nth₀, drop-map}
+use Rattle.language.specs.Lists.{nth, nth-append, up, nth-up, nth₀, drop-map}
 use Rattle.language.specs.Results.{ok, Alike, alike-ok}
 use Rattle.language.specs.Tree.{class, known, Expr, change}
 use Rattle.language.specs.World.{Method, World, is-declared}
-use Rattle.language.specs.Typing.{Environment, can-change}
-use Rattle.language.specs.Evaluation.{Value, null, object, Object, State, Out, without-limits, entered}
-use Rattle.language.specs.Evaluation.{with-change, initial, changed, do-change, eval}
+use Rattle.language.specs.Environment.{Environment}
+use Rattle.language.specs.Typing.{can-change}
+use Rattle.language.specs.State.{Value, null, object, Object, State, Out, entered}
+use Rattle.language.specs.Evaluation.{without-limits}
+use Rattle.language.specs.State.{with-change, initial}
+use Rattle.language.specs.Evaluation.{changed, do-change, eval}
 use Rattle.language.specs.Translation.{Shape, position, renew, plain-change, change-types, translate}
 use Rattle.language.specs.Correspondence.{both-null, in-place, identity-of, implementor-of}
 use Rattle.theory.specs.Fitting.{Laws, Fits, object-fits, HeapOk}
@@ -27,6 +30,7 @@ use Rattle.theory.specs.Renewal.{after-copies, after-copies-is, renewed,
 use Rattle.theory.specs.Renewal.{first-this}
 use Rattle.theory.specs.TranslationEquations.{plain-change-is}
 use Rattle.theory.specs.PlainActs.{SlotAt, at-this, at-variable}
+use Rattle.theory.specs.PlainSteps.{written}
 
 module _ (W W′ : World) (P : IsPlain W W′) (𝓛 : Laws W) (𝓜 : More W) where
   module _ (invoke′ : Method → State → Out Value) where
@@ -78,8 +82,8 @@ module _ (W W′ : World) (P : IsPlain W W′) (𝓛 : Laws W) (𝓜 : More W) w
             core = record {
               heaps = heap-renew (R .core .heaps) j i (g .m) o (changed W d o) (y .ws′) p e (g .at-identity)
                   dd
-                  (rw (drop-map (λ f. initial (f .type)) (length (W .fields (W .root d)))
-                  (W .fields d)) at (y .values));
+                  (rw rt (rw (drop-map (λ f. initial (f .type)) (length (W .fields (W .root d)))
+                  (W .fields d)) at (y .values)));
               count = omega (arith, R .core, l1, l2, l3);
               low = omega (arith, R .core, st, uk);
               high = omega (arith, R .core, st, fw, uk);
@@ -103,14 +107,14 @@ module _ (W W′ : World) (P : IsPlain W W′) (𝓛 : Laws W) (𝓜 : More W) w
         rw (
           plain-change-is W 0 d γ sh n (slots-length (R .frames .slots)),
           p,
-          root-fields 𝓛 (s .heap) d o rt (H .each j o p),
+          root-fields 𝓛 (s .heap) o d rt (H .each j o p),
         )
         (change-object d ids sh μ z s t H R dd j i o e p rt _ 4
         (omega arith) (omega arith) λ m′ ws ran.
         block-runs W W′ P invoke′ (change-types W d) t _
         (runs-cons (first-this W W′ P 𝓛 𝓜 invoke′ n i m (x .c) (x .vs) (t .frame .this)
         (l ++ (null ∷ null ∷ null ∷ [])) _ (t .heap) (suc (t .steps)) (t .changes) (x .known) a (x .here)
-        (set-up l _ 0 (object i)))
+        (written l _ 0 _ (object i) (nth₀ _ _)))
         (runs-cons ran
         (runs-cons (run-read W W′ P invoke′ n (object i) (t .frame .this) _ _ _ (t .changes)
         (nth-up l _ 0 ∙ nth₀ _ _))
@@ -123,7 +127,7 @@ module _ (W W′ : World) (P : IsPlain W W′) (𝓛 : Laws W) (𝓜 : More W) w
         = block-runs W W′ P invoke′ (change-types W d) t _
         (runs-cons (first-null W W′ P 𝓛 𝓜 invoke′ n (position sh k) d (t .frame .this)
         (l ++ (null ∷ null ∷ null ∷ [])) _ (t .heap) (suc (t .steps)) (t .changes)
-        (nth-append l _ _ _ a) (set-up l _ 0 null))
+        (nth-append l _ _ _ a) (written l _ 0 _ null (nth₀ _ _)))
         (runs-cons (run-read W W′ P invoke′ n null (t .frame .this) _ _ _ (t .changes)
         (nth-up l _ 0 ∙ nth₀ _ _))
         runs-nil))
@@ -145,14 +149,14 @@ module _ (W W′ : World) (P : IsPlain W W′) (𝓛 : Laws W) (𝓜 : More W) w
         rw (
           plain-change-is W (suc k) d γ sh n (slots-length (R .frames .slots)),
           p,
-          root-fields 𝓛 (s .heap) d o rt (H .each j o p),
+          root-fields 𝓛 (s .heap) o d rt (H .each j o p),
         )
         (change-object d ids sh μ z s t H R dd j i o e p rt _ 5
         (omega arith) (omega arith) λ m′ ws ran.
         block-runs W W′ P invoke′ (change-types W d) t _
         (runs-cons (first-object W W′ P 𝓛 𝓜 invoke′ n (position sh k) d i (t .frame .this)
         (l ++ (null ∷ null ∷ null ∷ [])) _ (t .heap) (suc (t .steps)) (t .changes)
-        (nth-append l _ _ _ a) (set-up l _ 0 (object i)) ∙ ran)
+        (nth-append l _ _ _ a) (written l _ 0 _ (object i) (nth₀ _ _)) ∙ ran)
         (runs-cons (run-read W W′ P invoke′ n (object i) (t .frame .this) _ _ _ (t .changes)
         (nth-up l _ 0 ∙ nth₀ _ _))
         runs-nil))

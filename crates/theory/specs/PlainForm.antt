@@ -11,14 +11,14 @@ use borrow.Author.Tests.{leb-true, ne-eqb}
 use Rattle.language.specs.Limits.{Most, of-check, largest, identity-class, id-field, imp-field}
 use Rattle.language.specs.Lists.{nth-lt, bind-option-inv, all2-length}
 use Rattle.language.specs.Frames.{at-slot}
-use Rattle.language.specs.Tree.{DeclaredType, bool, class, ExprType, Expr, literal-true, literal-false}
-use Rattle.language.specs.Tree.{literal-null, slot, is-null, get, cast, new, change, assign, set, call}
+use Rattle.language.specs.Tree.{DeclaredType, bool, class, ExprType, Expr, literal}
+use Rattle.language.specs.Tree.{slot, is-null, get, cast, new, change, assign, set, call}
 use Rattle.language.specs.Tree.{choose, block, Exprs, nil, cons, count, Field}
 use Rattle.language.specs.World.{World, field-type, is-declared}
-use Rattle.language.specs.Typing.{Slot, Environment}
-use Rattle.language.specs.Rules.{HasType}
+use Rattle.language.specs.Environment.{Slot, Environment}
+use Rattle.theory.specs.ComputedRules.{HasType}
 use Rattle.language.specs.WellFormed.{TypeInForm, Each, each-nil, each-cons, NodeInForm, NodesInForm}
-use Rattle.language.specs.WellFormed.{form-true, form-false, form-null, form-slot, form-is-null, form-get}
+use Rattle.language.specs.WellFormed.{form-literal, form-slot, form-is-null, form-get}
 use Rattle.language.specs.WellFormed.{form-cast, form-new, form-change, form-assign, form-set, form-call}
 use Rattle.language.specs.WellFormed.{form-choose, form-block, form-nil, form-cons}
 use Rattle.language.specs.Translation.{plain-class, plain-type, Shape, variables, temporaries, position}
@@ -31,9 +31,7 @@ use Rattle.theory.specs.SlotSorts.{shape}
 module _ {most : Most} where
   mutual
     pub one-deeper : {d n : ℕ} (e : Expr) → NodeInForm most d n e → NodeInForm most (suc d) n e
-    one-deeper literal-true form-true = form-true
-    one-deeper literal-false form-false = form-false
-    one-deeper literal-null form-null = form-null
+    one-deeper (literal l) form-literal = form-literal
     one-deeper (slot k) (form-slot p) = form-slot p
     one-deeper (is-null e) (form-is-null f) = form-is-null (one-deeper e f)
     one-deeper (get g e) (form-get p f) = form-get p (one-deeper e f)
@@ -284,6 +282,6 @@ module _ {W : World} (𝓢 : Small W) (𝓝 : NameLaws W) where
       (omega (arith, position-within sh k (omega (arith, nth-lt (γ .slots) k s e)))) in
       block-form sh sh₂ refl l (omega arith) (omega arith)
       (each-cons identity-form (each-cons (class-form c j) (each-cons (class-form (W .root c) j′) each-nil)))
-      (form-cons (form-choose (form-is-null (form-assign k₀ (form-slot own))) form-null
+      (form-cons (form-choose (form-is-null (form-assign k₀ (form-slot own))) form-literal
       (renew-form (suc (length sh)) c i l m))
       (form-cons (form-slot k₀) form-nil))

@@ -11,8 +11,8 @@ use Rattle.language.specs.Tree.{DeclaredType, type-number, type-of-number, Expr
 use Rattle.language.specs.Tree.{Field, Declaration, Class, Program}
 use Rattle.language.specs.World.{World}
 use Rattle.language.specs.Program.{world}
-use Rattle.language.specs.Typing.{Environment, fresh-slot}
-use Rattle.language.specs.Rules.{HasType}
+use Rattle.language.specs.Environment.{Environment, fresh-slot}
+use Rattle.theory.specs.ComputedRules.{HasType}
 use Rattle.language.specs.WellFormed.{Each, each-nil, each-cons, NodeInForm, form-block, BodyInForm}
 use Rattle.language.specs.WellFormed.{form-body, FieldInForm, MethodInForm, ClassInForm, ProgramInForm}
 use Rattle.language.specs.WellFormed.{MethodWell, MethodsWell, methods-nil, methods-cons, ClassWell}
@@ -27,12 +27,15 @@ use Rattle.theory.specs.PlainSizes.{Small, program-size}
 use Rattle.theory.specs.PlainForm.{more-left, variable-count, count-variables, plain-type-form}
 use Rattle.theory.specs.PlainForm.{plain-types-form, Room}
 use Rattle.theory.specs.TranslationInForm.{node-in-form}
+use Rattle.theory.specs.Superclasses.{Hierarchy}
+use Rattle.theory.specs.RulesAgree.{computed}
+use Rattle.theory.specs.Lookups.{hierarchy}
 
 slots-few : {most : Most} {d n : ℕ} {ts : List DeclaredType} {es : Exprs} → NodeInForm most d n (block ts es)
     → n ≤ most .slots
 slots-few (form-block a b c t f) = omega arith
 
-module _ (P : List Class) (𝓢 : Small (world P)) (𝓝 : NameLaws (world P)) where
+module _ (P : List Class) (𝓗 : Hierarchy P) (𝓢 : Small (world P)) (𝓝 : NameLaws (world P)) where
   abbrev W : World
   W = world P
 
@@ -67,7 +70,7 @@ module _ (P : List Class) (𝓢 : Small (world P)) (𝓝 : NameLaws (world P)) w
     effects = each-nil;
     body = subst (λ (n : ℕ). BodyInForm of-check n (plain-method W k m .body))
         (omega (arith, length-map (m .parameters) plain-type))
-        (body-in-form (i .body) (w .body) (variables (m .parameters))
+        (body-in-form (i .body) (computed P 𝓗 (m .body) (w .body)) (variables (m .parameters))
         (count-variables (m .parameters) ∙ sym (length-map (m .parameters) fresh-slot))
         (omega (arith, length-map (m .parameters) (λ t. true))));
   }
@@ -126,10 +129,10 @@ pub plain-in-form : (p : Program) → ProgramWell p → Small (world (p .classes
     → ProgramInForm of-translator p
     → ProgramInForm of-check (plain-program p)
 unfolding plain-program variable-count
-plain-in-form p w 𝓢 𝓝 i = let P = p .classes in record {
+plain-in-form p w 𝓢 𝓝 i = let P = p .classes in let 𝓗 = hierarchy P (w .classes) in record {
   rows = omega (arith, program-size p w 𝓢, i .rows);
   few = omega (arith, length-plain (world P) 1 P, i .few);
-  classes = each-cons (identity-in-form P 𝓢 𝓝) (each-cons (fickle-in-form P 𝓢 𝓝)
-      (classes-in-form P 𝓢 𝓝 (w .classes) (i .classes) (omega (arith, i .few))));
-  start = body-in-form P 𝓢 𝓝 (i .start) (w .start) [] refl refl;
+  classes = each-cons (identity-in-form P 𝓗 𝓢 𝓝) (each-cons (fickle-in-form P 𝓗 𝓢 𝓝)
+      (classes-in-form P 𝓗 𝓢 𝓝 (w .classes) (i .classes) (omega (arith, i .few))));
+  start = body-in-form P 𝓗 𝓢 𝓝 (i .start) (computed P 𝓗 (p .start) (w .start)) [] refl refl;
 }

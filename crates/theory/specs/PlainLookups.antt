@@ -11,31 +11,24 @@ use lib.Dec.{eqb, eqb·zero-suc, eqb·suc-zero, eqb·suc-suc}
 use borrow.Author.Tests.{eq-eqb, leb-true}
 use native.Mathlib.Omega.{arith}
 use Rattle.language.specs.Limits.{object-class}
-use Rattle.language.specs.Lists.{nth, given, choice, map-option, up, up-suc, nth-some}
+use Rattle.language.specs.Lists.{nth, given, choice, map-option, up, up-suc, nth-some, Never, inj}
 use Rattle.language.specs.Tree.{plain, Declaration, Class, Program}
 use Rattle.language.specs.World.{World}
 use Rattle.language.specs.Effects.{effect-of-all}
 use Rattle.language.specs.Program.{method-of, declared, class-at, fields-at, method-at, below-at, root-at}
 use Rattle.language.specs.Program.{nearest-at, is-changeable, world}
-use Rattle.language.specs.WellFormed.{ClassesWell}
+use Rattle.language.specs.WellFormed.{Extends, plain-object, plain-plain, ClassesWell}
 use Rattle.language.specs.Translation.{plain-class, plain-field, plain-method, plain-classes, identity}
 use Rattle.language.specs.Translation.{fickle-object, plain-program}
 use Rattle.language.proofs.Booleans.{or-inr}
-use Rattle.theory.specs.Lookups.{class-well}
+use Rattle.theory.specs.Superclasses.{Hierarchy}
+use Rattle.theory.specs.Lookups.{hierarchy}
 use Rattle.theory.specs.PlainWorld.{imp-of-identity, id-of-implementor, plain-form, IsPlain}
 use Rattle.theory.specs.PlainOf.{PlainOf, plain-of-is-plain}
-
--- Each superclass is 0 or an earlier class.
-pub record Earlier (P : List Class) : Type 0 where
-  pub super : (k : ℕ) (c : Class) → class-at P k ≡ some c → c .super < k
 
 pub up-one : (i : ℕ) → up i 1 ≡ suc i
 up-one zero = refl
 up-one (suc i) = ap suc (up-one i)
-
--- Well-formed classes have earlier superclasses.
-pub earlier-supers : (P : List Class) → ClassesWell P 1 P → Earlier P
-earlier-supers P w = record { super = λ k c e. class-well P w k c e .earlier }
 
 -- Every class is below Object.
 pub below-top : (P : List Class) (n k : ℕ) → below-at P n k object-class ≡ true
@@ -72,7 +65,7 @@ module _ (W : World) where
   length-plain j (c ∷ cs) = ap suc (length-plain (suc j) cs)
 
   -- A method sought by name among the plain ones.
-  pub declared-plain : (k : ℕ) (ds : List Declaration) (m : ℕ)
+  declared-plain : (k : ℕ) (ds : List Declaration) (m : ℕ)
       → declared (map (plain-method W k) ds) m ≡ map-option (plain-method W k) (declared ds m)
   unfolding declared
   declared-plain k [] m = refl
@@ -88,7 +81,7 @@ module _ (W : World) where
 abbrev pub plain-list : List Class → List Class
 plain-list P = identity ∷ fickle-object ∷ plain-classes (world P) 1 P
 
-module _ (P : List Class) (𝓔 : Earlier P) where
+module _ (P : List Class) (𝓗 : Hierarchy P) where
   abbrev W : World
   W = world P
 
@@ -124,7 +117,7 @@ module _ (P : List Class) (𝓔 : Earlier P) where
   fields-agree zero k p q = absurd (omega arith)
   fields-agree (suc n) zero p q = zero-fields n
   fields-agree (suc n) (suc i) p q =
-      let x = class-within i q in let c = x .0 in let l = 𝓔 .super (suc i) c (x .1) in
+      let x = class-within i q in let c = x .0 in let l = 𝓗 .earlier (suc i) c (x .1) in
       rw (class-some i c (x .1), x .1, fields-agree n (c .super) (omega arith) (omega arith))
       (ap (λ r. id-of-implementor ∷ r) (sym (map-append plain-field (fields-at P n (c .super)) (c .fields))))
 
@@ -157,7 +150,7 @@ module _ (P : List Class) (𝓔 : Earlier P) where
           → method-at Q (suc (suc (suc n))) (suc (suc (suc i))) m
           ≡ map-option (plain-form W) (method-at P (suc n) (suc i) m)
       go none e ih = rw (class-none i e, e)
-      go (some c) e ih = let l = 𝓔 .super (suc i) c e in
+      go (some c) e ih = let l = 𝓗 .earlier (suc i) c e in
           rw (class-some i c e, e, declared-plain W (suc i) (c .methods) m)
           (found c (declared (c .methods) m) (ih (c .super) (omega arith)))
 
@@ -182,7 +175,7 @@ module _ (P : List Class) (𝓔 : Earlier P) where
   below-agrees zero k d p q = absurd (omega arith)
   below-agrees (suc n) zero d p q = zero-below n d
   below-agrees (suc n) (suc i) d p q =
-      let x = class-within i q in let c = x .0 in let l = 𝓔 .super (suc i) c (x .1) in
+      let x = class-within i q in let c = x .0 in let l = 𝓗 .earlier (suc i) c (x .1) in
       rw (
         class-some i c (x .1),
         x .1,
@@ -191,7 +184,7 @@ module _ (P : List Class) (𝓔 : Earlier P) where
       )
 
   -- Every class of the plain program is plain.
-  pub plain-kind : (k : ℕ)
+  plain-kind : (k : ℕ)
       → (class-at Q k ≡ none) ⊎ ((c : Class) × (class-at Q k ≡ some c) × (c .kind ≡ plain))
   unfolding class-at nth
   plain-kind zero = inl refl
@@ -205,7 +198,29 @@ module _ (P : List Class) (𝓔 : Earlier P) where
       go none e = inl (class-none i e)
       go (some c) e = inr (plain-one W (suc i) c, class-some i c e, refl)
 
-  -- So each is its own root, none can change, and each is nearest to itself.
+  -- Its hierarchy is well formed.
+  pub extends-plain : (k : ℕ) → Extends plain (map-option (λ (b : Class). b .kind) (class-at Q k))
+  extends-plain k = elim (plain-kind k) [ inl e ↦ rw e plain-object | inr h ↦ rw (h .1, h .2) plain-plain ]
+
+  earlier-plain : (k : ℕ) (c : Class) → class-at Q k ≡ some c → (c .kind ≡ plain) × (c .super < k)
+  unfolding class-at nth
+  earlier-plain zero c e = absurd (Never e)
+  earlier-plain (suc zero) c e = rw (← inj e) (refl, omega arith)
+  earlier-plain (suc (suc zero)) c e = rw (← inj e) (refl, omega arith)
+  earlier-plain (suc (suc (suc i))) c e = go (class-at P (suc i)) refl (sym (class-plain i) ∙ e)
+    where
+      go : (o : Option Class) → class-at P (suc i) ≡ o → map-option (plain-one W (suc i)) o ≡ some c
+          → (c .kind ≡ plain) × (c .super < suc (suc (suc i)))
+      go none p e = absurd (Never e)
+      go (some b) p e = rw (← inj e) (refl, omega (arith, 𝓗 .earlier (suc i) b p))
+
+  pub hierarchy-plain : Hierarchy Q
+  hierarchy-plain = record {
+    earlier = λ k c e. earlier-plain k c e .1;
+    kinds = λ k c e. rw (earlier-plain k c e .0) (extends-plain (c .super));
+  }
+
+  -- So each class is its own root, none can change, and each is nearest to itself.
   root-itself : (k : ℕ) → root-at Q (suc k) k ≡ k
   unfolding root-at
   root-itself k = elim (plain-kind k) [ inl e ↦ rw e | inr h ↦ rw (h .1, h .2) ]
@@ -226,7 +241,7 @@ module _ (P : List Class) (𝓔 : Earlier P) where
   nearest-agrees (suc n) zero d p q r =
       rw (below-agrees (suc d) d zero (omega arith) r, below-top P (suc d) d)
   nearest-agrees (suc n) (suc i) d p q r =
-      let x = class-within i q in let c = x .0 in let l = 𝓔 .super (suc i) c (x .1) in
+      let x = class-within i q in let c = x .0 in let l = 𝓗 .earlier (suc i) c (x .1) in
       rw (below-agrees (suc d) d (suc i) (omega arith) r, class-some i c (x .1), x .1)
       (go (below-at P (suc d) d (suc i)) c (nearest-agrees n (c .super) d (omega arith) (omega arith) r))
     where
@@ -265,4 +280,4 @@ pub plain-program-is-plain : (p : Program) → ClassesWell (p .classes) 1 (p .cl
     → IsPlain (world (p .classes)) (world (plain-program p .classes))
 unfolding plain-program
 plain-program-is-plain p w =
-    plain-of-is-plain _ _ (lookups-plain (p .classes) (earlier-supers (p .classes) w))
+    plain-of-is-plain _ _ (lookups-plain (p .classes) (hierarchy (p .classes) w))

@@ -9,17 +9,19 @@ use lib.ListN.{length}
 use lib.Seq.{take-append-seam}
 use Rattle.language.specs.Lists.{nth, map-option, nth-map}
 use Rattle.language.specs.Frames.{Frame, frame, at-slot, opened, closed}
-use Rattle.language.specs.Tree.{DeclaredType, bool, class, ExprType, known, null-type, Expr, literal-true}
-use Rattle.language.specs.Tree.{literal-false, literal-null, slot, is-null, get, cast, new, assign, set, call}
-use Rattle.language.specs.Tree.{choose, block, Exprs, nil, cons}
+use Rattle.language.specs.Tree.{DeclaredType, bool, class, ExprType, known, null-type, Expr, literal}
+use Rattle.language.specs.Tree.{slot, is-null, get, cast, new, assign, set, call}
+use Rattle.language.specs.Tree.{choose, block, Exprs, nil, cons, Literal, literal-type}
 use Rattle.language.specs.World.{Method, World, field-type, is-declared}
 use Rattle.language.specs.Effects.{no-effect, join, apply-expr}
-use Rattle.language.specs.Typing.{Slot, Environment, fresh-slot, not-bool, last-type, fits, all-fit}
+use Rattle.language.specs.Environment.{Slot, Environment, fresh-slot}
+use Rattle.language.specs.Typing.{not-bool, last-type, fits, all-fit}
 use Rattle.language.specs.Typing.{join-types, join-currents, join-slot, join-slots, join-this}
 use Rattle.language.specs.Typing.{join-environments, apply-slot, apply-all}
-use Rattle.language.specs.Rules.{Declared, HasType, HaveTypes, type-true, type-false, type-null, type-slot}
-use Rattle.language.specs.Rules.{type-new, type-cast, type-get, type-set, type-assign, type-is-null}
-use Rattle.language.specs.Rules.{type-call, type-choose, type-block, types-nil, types-cons}
+use Rattle.theory.specs.ComputedRules.{Declared, HasType, HaveTypes, type-literal, type-slot}
+use Rattle.theory.specs.ComputedRules.{type-new, type-cast, type-get, type-set, type-assign}
+use Rattle.theory.specs.ComputedRules.{type-is-null}
+use Rattle.theory.specs.ComputedRules.{type-call, type-choose, type-block, types-nil, types-cons}
 use Rattle.theory.specs.EffectLaws.{class-kept, type-kept, expr-kept}
 
 -- Slots that have the types they were declared with.
@@ -29,9 +31,7 @@ fresh δ = frame (map-option fresh-slot (δ .this)) (map fresh-slot (δ .slots))
 module _ (W : World) where
   mutual
     pub data Plain : Frame DeclaredType → Expr → ExprType → Type 0 where
-      plain-true : {δ : Frame DeclaredType} → Plain δ literal-true (known bool)
-      plain-false : {δ : Frame DeclaredType} → Plain δ literal-false (known bool)
-      plain-null : {δ : Frame DeclaredType} → Plain δ literal-null null-type
+      plain-literal : {δ : Frame DeclaredType} {l : Literal} → Plain δ (literal l) (literal-type l)
       plain-slot : {δ : Frame DeclaredType} {k : ℕ} {u : DeclaredType} → at-slot δ k ≡ some u
           → Plain δ (slot k) (known u)
       plain-new : {δ : Frame DeclaredType} {c : ℕ} → is-declared W c ≡ true
@@ -123,9 +123,7 @@ module _ (W : World) where
     mutual
       pub plain-has : (e : Expr) {δ : Frame DeclaredType} {t : ExprType} → Plain δ e t
           → HasType W (fresh δ) e t (fresh δ) no-effect
-      plain-has literal-true plain-true = type-true
-      plain-has literal-false plain-false = type-false
-      plain-has literal-null plain-null = type-null
+      plain-has (literal l) plain-literal = type-literal
       plain-has (slot k) {δ} (plain-slot {u} e) = type-slot (at-fresh δ k u e)
       plain-has (new c) (plain-new i) = type-new i
       plain-has (cast c e) (plain-cast d i n) = type-cast (plain-has e d) i n

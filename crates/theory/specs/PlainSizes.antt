@@ -7,16 +7,17 @@ use mathlib.Core.List.{List, [], _∷_, _++_, map}
 use lib.ListN.{length, length-map}
 use native.Mathlib.Omega.{arith}
 use Rattle.language.specs.Limits.{of-translator}
-use Rattle.language.specs.Tree.{DeclaredType, ExprType, Expr, literal-true, literal-false, literal-null, slot}
+use Rattle.language.specs.Tree.{DeclaredType, ExprType, Expr, literal, slot}
 use Rattle.language.specs.Tree.{is-null, get, cast, new, change, assign, set, call, choose, block, Exprs, nil}
 use Rattle.language.specs.Tree.{cons, count, size, sizes, Field, Declaration, Class, Program, heading-lines}
 use Rattle.language.specs.Tree.{method-lines, methods-lines, class-lines, classes-lines, flatten-program}
 use Rattle.language.specs.World.{Method, World}
 use Rattle.language.specs.Program.{world}
-use Rattle.language.specs.Typing.{Environment}
-use Rattle.language.specs.Rules.{HasType, HaveTypes, type-true, type-false, type-null, type-slot, type-new}
-use Rattle.language.specs.Rules.{type-cast, type-get, type-set, type-assign, type-is-null, type-call}
-use Rattle.language.specs.Rules.{type-choose, type-block, type-change, types-nil, types-cons}
+use Rattle.language.specs.Environment.{Environment}
+use Rattle.theory.specs.ComputedRules.{HasType, HaveTypes, type-literal, type-slot, type-new}
+use Rattle.theory.specs.ComputedRules.{type-cast, type-get, type-set, type-assign, type-is-null}
+use Rattle.theory.specs.ComputedRules.{type-call}
+use Rattle.theory.specs.ComputedRules.{type-choose, type-block, type-change, types-nil, types-cons}
 use Rattle.language.specs.WellFormed.{Each, MethodsWell, methods-nil, methods-cons, ClassesWell, classes-nil}
 use Rattle.language.specs.WellFormed.{classes-cons, ProgramWell}
 use Rattle.language.specs.Translation.{Shape, read-slot, _⊕_, reads, copies, plain-change, translate}
@@ -24,9 +25,7 @@ use Rattle.language.specs.Translation.{translate-all, translate-arguments, plai
 use Rattle.language.specs.Translation.{temporaries, plain-method, plain-classes, plain-program}
 use Rattle.theory.specs.Equal.{all-fit-length}
 use Rattle.theory.specs.TreeRows.{length-program}
-use Rattle.theory.specs.TranslationEquations.{plain-true as translate-true}
-use Rattle.theory.specs.TranslationEquations.{plain-false as translate-false}
-use Rattle.theory.specs.TranslationEquations.{plain-null as translate-null}
+use Rattle.theory.specs.TranslationEquations.{plain-literal as translate-literal}
 use Rattle.theory.specs.TranslationEquations.{plain-read as translate-slot}
 use Rattle.theory.specs.TranslationEquations.{plain-is-null as translate-is-null}
 use Rattle.theory.specs.TranslationEquations.{plain-get as translate-get}
@@ -41,6 +40,9 @@ use Rattle.theory.specs.TranslationEquations.{plain-nil as translate-all
 use Rattle.theory.specs.TranslationEquations.{plain-cons as translate-all-cons}
 use Rattle.theory.specs.TranslationEquations.{plain-no-arguments as translate-arguments-nil}
 use Rattle.theory.specs.TranslationEquations.{plain-arguments as translate-arguments-cons}
+use Rattle.theory.specs.Superclasses.{Hierarchy}
+use Rattle.theory.specs.RulesAgree.{computed}
+use Rattle.theory.specs.Lookups.{hierarchy}
 
 -- What the translator's limits say of lookups: classes, fields with those inherited, names, parameters.
 pub record Small (W : World) : Type 0 where
@@ -100,9 +102,7 @@ module _ (W : World) (𝓢 : Small W) where
     pub translated-size : (e : Expr) {γ γ′ : Environment} {t : ExprType} {φ : ℕ} → HasType W γ e t γ′ φ
         → (sh : Shape)
         → size (translate W e γ sh) ≤ 88 * size e
-    translated-size literal-true {γ} type-true sh = rw (translate-true W γ sh) (omega arith)
-    translated-size literal-false {γ} type-false sh = rw (translate-false W γ sh) (omega arith)
-    translated-size literal-null {γ} type-null sh = rw (translate-null W γ sh) (omega arith)
+    translated-size (literal l) {γ} type-literal sh = rw (translate-literal W l γ sh) (omega arith)
     translated-size (slot k) {γ} (type-slot e) sh =
         rw (translate-slot W k γ sh) (omega (arith, size-read sh k))
     translated-size (is-null e) {γ} (type-is-null d n) sh
@@ -162,7 +162,7 @@ module _ (W : World) (𝓢 : Small W) where
         rw (translate-arguments-cons W es sh n d)
         (omega (arith, translated-size e d sh, arguments-size es d′ sh (suc n)))
 
-module _ (P : List Class) (𝓢 : Small (world P)) where
+module _ (P : List Class) (𝓗 : Hierarchy P) (𝓢 : Small (world P)) where
   methods-size : (k super : ℕ) {before ms : List Declaration} → MethodsWell P k super before ms
       → methods-lines (map (plain-method (world P) k) ms) ≤ 88 * methods-lines ms
   unfolding methods-lines method-lines heading-lines
@@ -171,7 +171,7 @@ module _ (P : List Class) (𝓢 : Small (world P)) where
     arith,
     methods-size k super ws,
     length-map (m .parameters) plain-type,
-    translated-size (world P) 𝓢 (m .body) (w .body) (variables (m .parameters)),
+    translated-size (world P) 𝓢 (m .body) (computed P 𝓗 (m .body) (w .body)) (variables (m .parameters)),
   )
 
   classes-size : {k : ℕ} {cs : List Class} → ClassesWell P k cs
@@ -185,10 +185,10 @@ module _ (P : List Class) (𝓢 : Small (world P)) where
 pub program-size : (p : Program) → ProgramWell p → Small (world (p .classes))
     → length (flatten-program (plain-program p)) ≤ 88 * length (flatten-program p) + 4
 unfolding plain-program classes-lines class-lines methods-lines
-program-size p w 𝓢 = omega (
+program-size p w 𝓢 = let 𝓗 = hierarchy (p .classes) (w .classes) in omega (
   arith,
   length-program (plain-program p),
   length-program p,
-  classes-size (p .classes) 𝓢 (w .classes),
-  translated-size (world (p .classes)) 𝓢 (p .start) (w .start) [],
+  classes-size (p .classes) 𝓗 𝓢 (w .classes),
+  translated-size (world (p .classes)) 𝓢 (p .start) (computed (p .classes) 𝓗 (p .start) (w .start)) [],
 )

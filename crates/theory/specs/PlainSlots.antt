@@ -9,10 +9,12 @@ use lib.ListN.{length, take, set as replace}
 use Rattle.language.specs.Limits.{identity-class}
 use Rattle.language.specs.Lists.{nth, map-option, Never, inj, nth-map, nth-up, up, All2, a-nil, a-cons}
 use Rattle.language.specs.Frames.{Frame, frame, at-slot, opened, closed}
-use Rattle.language.specs.Tree.{DeclaredType, bool, class, ExprType, known, null-type}
+use Rattle.language.specs.Tree.{literal-true, literal-false, literal-null}
+use Rattle.language.specs.Tree.{DeclaredType, bool, class, ExprType, known, null-type, Literal, literal-type}
 use Rattle.language.specs.World.{World, is-declared}
 use Rattle.language.specs.Effects.{effect-of, apply, apply-expr, apply-class}
-use Rattle.language.specs.Typing.{Slot, Environment, fresh-slot, with-type, not-bool, last-type, fits}
+use Rattle.language.specs.Environment.{Slot, Environment, fresh-slot, with-type}
+use Rattle.language.specs.Typing.{not-bool, last-type, fits}
 use Rattle.language.specs.Typing.{join-currents, join-slot, join-slots, join-this, join-environments}
 use Rattle.language.specs.Typing.{apply-slot, apply-all, after-change}
 use Rattle.language.specs.Translation.{plain-class, plain-type, Shape, variables, temporaries, position}
@@ -49,6 +51,11 @@ class-only both-class = refl
 pub match-plain : (t : DeclaredType) → TypesMatch (known t) (known (plain-type t))
 match-plain bool = both-bool
 match-plain (class c) = both-class
+
+pub literal-matches : (l : Literal) → TypesMatch (literal-type l) (literal-type l)
+literal-matches literal-true = both-bool
+literal-matches literal-false = both-bool
+literal-matches literal-null = both-null
 
 pub match-not-bool : {t u : ExprType} → TypesMatch t u → not-bool t ≡ true → not-bool u ≡ true
 match-not-bool both-bool n = n

@@ -18,8 +18,10 @@ use Rattle.language.specs.Frames.{frame, opened, closed}
 use Rattle.language.specs.Tree.{DeclaredType, class, Expr, slot, get, new, assign, set, block, Exprs, nil}
 use Rattle.language.specs.Tree.{cons, Field}
 use Rattle.language.specs.World.{Method, World, place, is-declared}
-use Rattle.language.specs.Evaluation.{Value, null, object, Object, State, raised, Out, without-limits}
-use Rattle.language.specs.Evaluation.{entered, with-frame, with-heap, initial, initials, last-value}
+use Rattle.language.specs.State.{Value, null, object, Object, State, raised, Out}
+use Rattle.language.specs.Evaluation.{without-limits}
+use Rattle.language.specs.State.{entered, with-frame, with-heap, initial, initials}
+use Rattle.language.specs.Evaluation.{last-value}
 use Rattle.language.specs.Evaluation.{new-object, with-field, do-get, do-set, do-cast, do-call, eval}
 use Rattle.language.specs.Evaluation.{eval-all}
 use Rattle.language.specs.Translation.{plain-class, plain-field, implementor, reads, _⊕_, plain-new}
@@ -56,6 +58,17 @@ past-is (x ∷ xs) k = omega (arith, past-is xs (suc k))
 -- The last object of a heap replaced.
 pub set-last : (l : List Object) (a b : Object) → replace (l ++ (a ∷ [])) (length l) b ≡ l ++ (b ∷ [])
 set-last l a b = set-append-seam l a [] b
+
+-- A value put in a slot that is there.
+pub record Written (l : List Value) (a : ℕ) (v : Value) (l₂ : List Value) : Type 0 where
+  pub old : Value
+  pub there : nth l a ≡ some old
+  pub is : replace l a v ≡ l₂
+
+-- A value put in the k-th slot after l.
+pub written : (l m : List Value) (k : ℕ) (w v : Value) → nth m k ≡ some w
+    → Written (l ++ m) (up k (length l)) v (l ++ replace m k v)
+written l m k w v e = record { old = w; there = nth-up l m k ∙ e; is = set-up l m k v }
 
 -- First values of fields correspond.
 pub initials-correspond : (ids : List ℕ) (fs : List Field)
@@ -207,18 +220,18 @@ module _ (W W′ : World) (P : IsPlain W W′) where
     pub run-assign : (a : ℕ) (e : Expr) (v : Value) (this : Option Value) (l l₂ : List Value)
         (h : List Object)
         (k k₂ r : ℕ) → run e (state-of this l h (suc k) r) ≡ ok v (state-of this l h k₂ r)
-        → replace l a v ≡ l₂
+        → Written l a v l₂
         → run (assign (suc a) e) (state-of this l h k r) ≡ ok v (state-of this l₂ h k₂ r)
     unfolding eval
-    run-assign a e v this l l₂ h k k₂ r p q = rw (p, q)
+    run-assign a e v this l l₂ h k k₂ r p q = rw (p, q .there, q .is)
 
     -- A new object put in a slot.
     run-new : (a c : ℕ) (this : Option Value) (l l₂ : List Value) (h : List Object) (k r : ℕ) (n : Object)
-        → new-object W′ c ≡ n → replace l a (object (length h)) ≡ l₂
+        → new-object W′ c ≡ n → Written l a (object (length h)) l₂
         → run (assign (suc a) (new c)) (state-of this l h k r)
         ≡ ok (object (length h)) (state-of this l₂ (h ++ (n ∷ [])) (up 2 k) r)
     unfolding eval
-    run-new a c this l l₂ h k r n e f = rw (← e, ← f)
+    run-new a c this l l₂ h k r n e f = rw (← e, f .there, ← f .is)
 
     -- A slot put in a field.
     run-put : (f a b x : ℕ) (w : Value) (o o′ : Object) (this : Option Value) (l : List Value)
@@ -233,7 +246,7 @@ module _ (W W′ : World) (P : IsPlain W W′) where
 
     -- A new implementor put in a slot; an Identity put in the `id`, an implementor in the `imp`.
     pub run-new-implementor : (a c : ℕ) (this : Option Value) (l l₂ : List Value) (h : List Object) (k r : ℕ)
-        → is-declared W c ≡ true → replace l a (object (length h)) ≡ l₂
+        → is-declared W c ≡ true → Written l a (object (length h)) l₂
         → run (assign (suc a) (new (plain-class c))) (state-of this l h k r) ≡ ok (object (length h))
         (state-of this l₂ (h ++ (first-implementor c (initials (map plain-field (W .fields c))) ∷ []))
         (up 2 k) r)
@@ -278,9 +291,9 @@ module _ (W W′ : World) (P : IsPlain W W′) where
         block-runs (class identity-class ∷ class (plain-class c) ∷ []) t _
         (runs-cons (run-new n identity-class this (l ++ (null ∷ null ∷ [])) (l ++ (object i ∷ null ∷ [])) h k
         r
-        first-identity new-identity (set-up l _ 0 (object i)))
+        first-identity new-identity (written l _ 0 _ (object i) (nth₀ _ _)))
         (runs-cons (run-new-implementor (suc n) c this (l ++ (object i ∷ null ∷ [])) l₂ h₁ (up 2 k) r dc
-        (set-up l _ 1 (object m)))
+        (written l _ 1 _ (object m) (nth₁ _ _ _)))
         (runs-cons (run-put-id (suc n) n m i c vs this l₂ (h₁ ++ (B ∷ [])) (h₁ ++ (B′ ∷ [])) (up 4 k) r dc at₁
         at₀
         (nth-last h₁ B) (set-last h₁ B B′))

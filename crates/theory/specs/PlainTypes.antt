@@ -13,7 +13,7 @@ use Rattle.language.specs.Lists.{nth, bind-option-inv, Never, inj, map-option, 
 use Rattle.language.specs.Tree.{DeclaredType, bool, class, ExprType, known, null-type, Field}
 use Rattle.language.specs.World.{Method, World, place, field-type, is-declared, is-declared-type}
 use Rattle.language.specs.Typing.{not-bool, fits, all-fit, join-types}
-use Rattle.language.specs.Rules.{Declared, declared-nil, declared-cons}
+use Rattle.theory.specs.ComputedRules.{Declared, declared-nil, declared-cons}
 use Rattle.language.specs.Translation.{plain-class, plain-type, plain-field}
 use Rattle.language.proofs.Booleans.{false≢, and-inv}
 use Rattle.theory.specs.Fitting.{Laws}

@@ -9,12 +9,14 @@ use lib.Seq.{append-snoc, set-comm}
 use native.Mathlib.Omega.{arith}
 use Rattle.language.specs.Limits.{id-field}
 use Rattle.language.specs.Lists.{nth, All2, all2-at, all2-at′, all2-set₂, nth-set-other, nth-append, nth-last}
-use Rattle.language.specs.Lists.{up, nth-up, set-up, nth₀, nth₁, nth₂, nth-lt, mix, mix-step, nth-map}
+use Rattle.language.specs.Lists.{up, nth-up, nth₀, nth₁, nth₂, nth-lt, mix, mix-step, nth-map}
 use Rattle.language.specs.Results.{ok}
 use Rattle.language.specs.Tree.{Expr, literal-null, slot, is-null, get, assign, set, choose, nil, Field}
 use Rattle.language.specs.World.{Method, World, place, is-declared}
-use Rattle.language.specs.Evaluation.{Value, null, object, Object, State, Out, without-limits, initial}
-use Rattle.language.specs.Evaluation.{initials, eval}
+use Rattle.language.specs.State.{Value, null, object, Object, State, Out, initial}
+use Rattle.language.specs.Evaluation.{without-limits}
+use Rattle.language.specs.State.{initials}
+use Rattle.language.specs.Evaluation.{eval}
 use Rattle.language.specs.Translation.{plain-field, implementor, _then_, copies, renew}
 use Rattle.language.specs.Correspondence.{Corresponds, identity-of, implementor-of}
 use Rattle.theory.specs.Fitting.{Laws, FitsField}
@@ -23,7 +25,8 @@ use Rattle.theory.specs.MatchingHeaps.{implementor-no-identity}
 use Rattle.theory.specs.PlainSteps.{More, state-of, set-last, initials-correspond, first-implementor}
 use Rattle.theory.specs.PlainSteps.{get-step, set-step, implementor-run, Runs, runs-nil, runs-cons}
 use Rattle.theory.specs.PlainSteps.{plain-block-runs, run-read, run-assign, run-new-implementor}
-use Rattle.theory.specs.PlainSteps.{run-put-id, run-put-imp, run-this}
+use Rattle.theory.specs.PlainSteps.{run-put-id, run-put-imp, run-this, Written, written}
+use Rattle.language.specs.Tree.{literal}
 
 -- Steps after the copies of fields and a last read.
 abbrev pub after-copies : List Field → ℕ → ℕ
@@ -180,14 +183,14 @@ module _ (W W′ : World) (P : IsPlain W W′) (𝓛 : Laws W) (𝓜 : More W) (
               (runs-cons (run-new-implementor W W′ P invoke′ (suc n) d this (l₀ ++ (object i ∷ a ∷ b ∷ [])) l₁
               h
               (suc k) r dd
-              (set-up l₀ _ 1 (object x)))
+              (written l₀ _ 1 _ (object x) (nth₁ _ _ _)))
               (runs-cons (run-assign W W′ P invoke′ (suc (suc n)) (implementor (W .root d) (suc n)) (object m)
               this l₁ l₂
               (h ++ (B₀ ∷ [])) (up 3 k) (up 7 k) r
               (implementor-run W W′ P invoke′ (W .root d) c i m n vs
               (state-of this l₁ (h ++ (B₀ ∷ [])) (up 4 k) r) dc
               (nth-up l₀ _ 0 ∙ nth₀ _ _) (nth-append h _ i _ id-at) (nth-append h _ m _ imp-at) sb)
-              (set-up l₀ _ 2 (object m)))
+              (written l₀ _ 2 _ (object m) (nth₂ _ _ _ _)))
               (runs-cons (run-put-id W W′ P invoke′ (suc n) n x i d ws this l₂ (h ++ (B₀ ∷ []))
               (h ++ (B₁ ∷ []))
               (up 7 k) r dd
@@ -201,25 +204,25 @@ module _ (W W′ : World) (P : IsPlain W W′) (𝓛 : Laws W) (𝓜 : More W) (
 
     -- The first statement of R: the slot's value goes to its temporary, and is renewed if it is an object.
     pub first-null : (n p d : ℕ) (this : Option Value) (l l₂ : List Value) (h : List Object) (k r : ℕ)
-        → nth l p ≡ some null → replace l n null ≡ l₂
-        → run (choose (is-null (assign (suc n) (slot (suc p)))) literal-null (renew W (suc n) d))
+        → nth l p ≡ some null → Written l n null l₂
+        → run (choose (is-null (assign (suc n) (slot (suc p)))) (literal literal-null) (renew W (suc n) d))
         (state-of this l h k r)
         ≡ ok null (state-of this l₂ h (up 5 k) r)
     unfolding eval
-    first-null n p d this l l₂ h k r e f = rw (e, f)
+    first-null n p d this l l₂ h k r e f = rw (e, f .there, f .is)
 
     pub first-object : (n p d i : ℕ) (this : Option Value) (l l₂ : List Value) (h : List Object) (k r : ℕ)
-        → nth l p ≡ some (object i) → replace l n (object i) ≡ l₂
-        → run (choose (is-null (assign (suc n) (slot (suc p)))) literal-null (renew W (suc n) d))
+        → nth l p ≡ some (object i) → Written l n (object i) l₂
+        → run (choose (is-null (assign (suc n) (slot (suc p)))) (literal literal-null) (renew W (suc n) d))
         (state-of this l h k r)
         ≡ run (renew W (suc n) d) (state-of this l₂ h (up 4 k) r)
     unfolding eval
-    first-object n p d i this l l₂ h k r e f = rw (e, f)
+    first-object n p d i this l l₂ h k r e f = rw (e, f .there, f .is)
 
     pub first-this : (n i m c : ℕ) (vs : List Value) (this : Option Value) (l l₂ : List Value)
         (h : List Object)
         (k r : ℕ) → is-declared W c ≡ true → this ≡ some (object m) → nth h m ≡ some (implementor-of c i vs)
-        → replace l n (object i) ≡ l₂
+        → Written l n (object i) l₂
         → run (assign (suc n) (get id-field (slot 0))) (state-of this l h k r)
         ≡ ok (object i) (state-of this l₂ h (up 3 k) r)
     first-this n i m c vs this l l₂ h k r dc e g f =

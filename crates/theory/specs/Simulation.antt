@@ -10,22 +10,24 @@ use lib.ListN.{length, length-append, length-map}
 use lib.Seq.{append-snoc}
 use native.Mathlib.Omega.{arith}
 use Rattle.language.specs.Limits.{imp-field, id-field}
-use Rattle.language.specs.Lists.{choice, a-nil, a-cons, all2-append, nth₀, nth₁, nth-suc, nth-map, up-suc}
+use Rattle.language.specs.Lists.{nth, choice, a-nil, a-cons, all2-append, nth₀, nth₁, nth-suc, nth-map}
+use Rattle.language.specs.Lists.{up-suc}
 use Rattle.language.specs.Results.{ok, bind, Alike, alike-ok, alike-stop, alike-bind, alike-context}
 use Rattle.language.specs.Results.{alike-with, alike-mono, alike-wrap}
 use Rattle.language.specs.Frames.{with-slot, opened, closed}
-use Rattle.language.specs.Tree.{DeclaredType, class, ExprType, known, Expr, literal-true, literal-false}
+use Rattle.language.specs.Tree.{DeclaredType, class, ExprType, known, Expr, literal}
 use Rattle.language.specs.Tree.{literal-null, slot, is-null, get, cast, new, change, assign, set, call}
 use Rattle.language.specs.Tree.{choose, block, Exprs, nil, cons}
 use Rattle.language.specs.World.{Method, World}
 use Rattle.language.specs.Effects.{apply-class}
-use Rattle.language.specs.Typing.{Environment}
-use Rattle.language.specs.Rules.{HasType, HaveTypes, type-true, type-false, type-null, type-slot, type-new}
-use Rattle.language.specs.Rules.{type-cast, type-get, type-set, type-assign, type-is-null, type-call}
-use Rattle.language.specs.Rules.{type-choose, type-block, type-change, types-nil, types-cons}
-use Rattle.language.specs.Evaluation.{Value, null, truth, State, Out, without-limits, entered, with-frame}
-use Rattle.language.specs.Evaluation.{initial, last-value, need-truth, is-null-value, do-get, do-cast, eval}
-use Rattle.language.specs.Evaluation.{eval-all, call-at}
+use Rattle.language.specs.Environment.{Environment}
+use Rattle.theory.specs.ComputedRules.{HasType, HaveTypes, type-literal, type-slot, type-new}
+use Rattle.theory.specs.ComputedRules.{type-cast, type-get, type-set, type-assign, type-is-null}
+use Rattle.theory.specs.ComputedRules.{type-call}
+use Rattle.theory.specs.ComputedRules.{type-choose, type-block, type-change, types-nil, types-cons}
+use Rattle.language.specs.State.{Value, null, truth, State, Out, entered, with-frame, initial}
+use Rattle.language.specs.Evaluation.{last-value, need, need-truth, need-reference, do-get, do-cast}
+use Rattle.language.specs.Evaluation.{without-limits, eval, eval-all, call-at}
 use Rattle.language.specs.Translation.{plain-class, plain-type, Shape, variables, temporaries, plain-slot}
 use Rattle.language.specs.Translation.{implementor, reads, _then_, _⊕_, translate, translate-all}
 use Rattle.language.specs.Translation.{translate-arguments}
@@ -38,14 +40,14 @@ use Rattle.theory.specs.PlainWorld.{IsPlain}
 use Rattle.theory.specs.Matching.{persists-same, persists-trans, corresponds-later, Mask, no-slots}
 use Rattle.theory.specs.Matching.{temporary, mask-length}
 use Rattle.theory.specs.MatchingStates.{literal-alike, StatesMatch, After, AfterAll, Filled, Ended}
-use Rattle.theory.specs.MatchingStates.{recount, both-enter, entering, spare, spend, from-before}
+use Rattle.theory.specs.MatchingStates.{recount, both-enter, entering, spare, from-before}
 use Rattle.theory.specs.MatchingStates.{no-values, frames-set, frames-open, frames-temporaries}
-use Rattle.theory.specs.MatchingStates.{frames-temporary, frames-put, frames-close, close-block}
+use Rattle.theory.specs.MatchingStates.{frames-temporary, states-put, frames-close, close-block}
 use Rattle.theory.specs.MatchingStates.{null-alike, choose-alike, last-alike, last-of-more}
+use Rattle.theory.specs.MatchingStates.{same-literal, frames-variable, temporaries-match}
 use Rattle.theory.specs.MatchingStates.{one-temporary, two-temporaries, more-temporaries}
-use Rattle.theory.specs.MatchingStates.{temporaries-match}
 use Rattle.theory.specs.PlainSteps.{More, run-append}
-use Rattle.theory.specs.TranslationEquations.{plain-true, plain-false, plain-null, plain-read}
+use Rattle.theory.specs.TranslationEquations.{plain-literal, plain-read}
 use Rattle.theory.specs.TranslationEquations.{plain-is-null, plain-get, plain-cast-is, plain-assign}
 use Rattle.theory.specs.TranslationEquations.{plain-set, plain-call, plain-choose, plain-block}
 use Rattle.theory.specs.TranslationEquations.{plain-nil, plain-cons, plain-no-arguments}
@@ -60,6 +62,10 @@ module _ (W W′ : World) (P : IsPlain W W′) (𝓛 : Laws W) (𝓜 : More W) w
     abbrev plain : Expr → State → Out Value
     plain e t = eval W′ without-limits invoke′ e t
 
+    -- What A does, the value having been computed, with the n-th slot after slot 0.
+    abbrev put : ℕ → Value → State → Out Value
+    put n v t = need (nth (t .frame .slots) n) t λ _. ok v (with-frame (with-slot (t .frame) (suc n) v) t)
+
     abbrev plain-all : Exprs → State → Out (List Value)
     plain-all es t = eval-all W′ without-limits invoke′ es t
 
@@ -71,25 +77,21 @@ module _ (W W′ : World) (P : IsPlain W W′) (𝓛 : Laws W) (𝓜 : More W) w
           → FitsFrame W (s .heap) (s .frame) γ → StatesMatch W ids sh μ z s t
           → Alike (After W ids (t .heap) sh μ z) (Ended W) (eval W without-limits invoke e s)
           (eval W′ without-limits invoke′ (translate W e γ sh) t)
-      simulates literal-true {γ} type-true ids sh μ z s t H S R =
-          rw (plain-true W γ sh) (literal-alike same-truth R)
-      simulates literal-false {γ} type-false ids sh μ z s t H S R =
-          rw (plain-false W γ sh) (literal-alike same-truth R)
-      simulates literal-null {γ} type-null ids sh μ z s t H S R =
-          rw (plain-null W γ sh) (literal-alike both-null R)
+      simulates (literal l) {γ} type-literal ids sh μ z s t H S R =
+          rw (plain-literal W l γ sh) (literal-alike (same-literal l) R)
       simulates (slot k) {γ} (type-slot {s = u} e) ids sh μ z s t H S R =
           let x = at (s .frame) γ S k u e in
           rw (plain-read W k γ sh, x .is)
           (read-acts W W′ P 𝓛 𝓜 invoke′ k ids sh μ z s t (x .v) R (slot-found (R .frames) k (x .v) (x .is)))
       simulates (is-null e) {γ} (type-is-null d n) ids sh μ z s t H S R = rw (plain-is-null W e γ sh)
-          (alike-bind (simulates e d ids sh μ (83 + z) (entered s) (entered t) H S (both-enter R))
-          λ v s₁ v′ t₁ p.
-          alike-ok (record {
-            ids′ = p .ids′;
-            persists = p .persists;
-            value = null-alike (p .value);
-            match = spare 83 (p .match);
-          }))
+          (alike-bind (alike-with (expression-sound 𝓛 without-limits invoke C e d (entered s) H S)
+          (simulates e d ids sh μ (83 + z) (entered s) (entered t) H S (both-enter R)))
+          λ v s₁ v′ t₁ p. null-alike (p .1 .value) s₁ t₁ n (p .0 .value-ok) λ b. record {
+            ids′ = p .1 .ids′;
+            persists = p .1 .persists;
+            value = same-truth;
+            match = spare 83 (p .1 .match);
+          })
       simulates (get f e) (type-get {c} {t = u} d i) ids sh μ z s t H S R = rw (plain-get W f sh d)
           (alike-context
           (λ r. bind (bind (bind r (λ v t. do-get W′ imp-field v t)) (λ v t. do-cast W′ (plain-class c) v t))
@@ -107,14 +109,14 @@ module _ (W W′ : World) (P : IsPlain W W′) (𝓛 : Laws W) (𝓜 : More W) w
           let N : length μ ≡ n = mask-length (R .frames .slots) in
           rw (plain-cast-is W c e γ sh)
           (alike-context
-          (λ r. bind (bind (bind (bind (bind r (λ v t. ok v (with-frame (with-slot (t .frame) (suc n) v) t)))
-          (λ v t. ok (truth (is-null-value v)) t))
-          (λ v t. need-truth v t λ b. choice b (λ _. plain literal-null t)
+          (λ r. bind (bind (bind (bind (bind r (λ v t. put n v t))
+          (λ v t. need-reference v t λ b. ok (truth b) t))
+          (λ v t. need-truth v t λ b. choice b (λ _. plain (literal literal-null) t)
           (λ _. plain (get id-field (implementor c (suc n))) t)))
           (λ v t. ok (v ∷ []) t)) done)
           (λ x t. refl)
           (alike-with (expression-sound 𝓛 without-limits invoke C e d (entered s) H S)
-          (simulates e d ids (sh ++ (false ∷ [])) (μ ++ (some null ∷ [])) (80 + z) (entered s)
+          (simulates e d ids (sh ++ (false ∷ [])) (μ ++ (some null ∷ [])) (4 + z) (entered s)
           (entered (entered (entered t₀))) H S
           (record {
             frames = frames-temporaries (R .frames) (temporary no-slots);
@@ -122,16 +124,13 @@ module _ (W W′ : World) (P : IsPlain W W′) (𝓛 : Laws W) (𝓜 : More W) w
           })))
           λ v s₁ v′ t₁ p.
           let t₁′ : State = with-frame (with-slot (t₁ .frame) (suc n) v′) t₁ in
-          let S₁ = frames-put μ _ 0 _ null v′ (p .1 .match .frames) N (nth₀ _ _) in
+          let R₁ = states-put μ _ 0 _ null v′ (p .1 .match) N (nth₀ _ _) in
+          rw (frames-temporary μ _ 0 _ null (p .1 .match .frames) N (nth₀ _ _)) (
           alike-wrap (λ r. bind (bind r (λ v t. ok (v ∷ []) t)) done) (λ x t. refl)
           (cast-acts W W′ P 𝓛 𝓜 invoke′ c n u v v′ s₁ t₁′ nb (p .0 .value-ok) (p .1 .ids′) (p .1 .persists)
-          (record {
-            frames = S₁;
-            core = spend 0 t₁′ (p .1 .match .core) (omega arith) refl refl (omega arith);
-          })
-          (p .1 .value) (frames-temporary μ _ 0 _ v′ S₁ N (nth₀ _ _)))
+          R₁ (p .1 .value) (frames-temporary μ _ 0 _ v′ (R₁ .frames) N (nth₀ _ _)))
           λ x s₃ x′ t₃ a. close-block (false ∷ []) (some v′ ∷ []) (t .frame) (λ ids l l′ r. one-temporary r)
-          (R .frames) a)
+          (R .frames) a))
       simulates (new c) {γ} (type-new i) ids sh μ z s t H S R =
           new-acts W W′ P 𝓛 𝓜 invoke′ c γ ids sh μ z s t i R
       simulates (change k d) {γ} (type-change {c} {s = u} i e q f) ids sh μ z s t H S R =
@@ -143,8 +142,10 @@ module _ (W W′ : World) (P : IsPlain W W′) (𝓛 : Laws W) (𝓜 : More W) w
           (slot-found (R .frames) k (x .v) (x .is)))
       simulates (assign (suc k) e) {γ} (type-assign d i f) ids sh μ z s t H S R =
           rw (plain-assign W (suc k) e γ sh)
-          (alike-bind (simulates e d ids sh μ (83 + z) (entered s) (entered t) H S (both-enter R))
-          λ v s₁ v′ t₁ p.
+          (alike-bind (alike-with (expression-sound 𝓛 without-limits invoke C e d (entered s) H S)
+          (simulates e d ids sh μ (83 + z) (entered s) (entered t) H S (both-enter R)))
+          λ v s₁ v′ t₁ q. let p = q .1 in let x = at (s₁ .frame) _ (q .0 .slots-ok) (suc k) _ i in
+          rw (x .is, frames-variable k (x .v) (p .match .frames) (x .is) .1) (
           alike-ok {s = with-frame (with-slot (s₁ .frame) (suc k) v) s₁}
           {t = with-frame (with-slot (t₁ .frame) (plain-slot sh (suc k)) v′) t₁}
           (record {
@@ -156,7 +157,7 @@ module _ (W W′ : World) (P : IsPlain W W′) (𝓛 : Laws W) (𝓜 : More W) w
               core = recount (p .match .core) refl refl refl refl (omega (arith, p .match .core))
                   (omega (arith, p .match .core));
             };
-          }))
+          })))
       simulates (set f e e′) {γ} (type-set {γ₁} {c} {t = y} {u} {φ₂} d d′ i j) ids sh μ z s t H S R =
           let n = length sh in let sh′ = sh ++ (false ∷ false ∷ []) in
           let t₀ : State = with-frame (opened (t .frame) (null ∷ initial (plain-type u) ∷ [])) (entered t) in
@@ -166,7 +167,7 @@ module _ (W W′ : World) (P : IsPlain W W′) (𝓛 : Laws W) (𝓜 : More W) w
           let N : length μ ≡ n = mask-length (R .frames .slots) in
           rw (plain-set W f sh d d′ i)
           (alike-context
-          (λ r. bind (bind (bind r (λ v t. ok v (with-frame (with-slot (t .frame) (suc n) v) t)))
+          (λ r. bind (bind (bind r (λ v t. put n v t))
           (λ v t. bind (plain-all (cons (assign (suc (suc n)) (translate W e′ γ₁ sh′)) act) t)
           (λ vs t. ok (v ∷ vs) t))) done)
           (λ x t. refl)
@@ -179,36 +180,35 @@ module _ (W W′ : World) (P : IsPlain W W′) (𝓛 : Laws W) (𝓜 : More W) w
           })))
           λ v s₁ v′ t₁ p.
           let t₁′ : State = with-frame (with-slot (t₁ .frame) (suc n) v′) t₁ in
+          rw (frames-temporary μ _ 0 _ null (p .1 .match .frames) N (nth₀ _ _)) (
           alike-context
-          (λ r. bind (bind (bind (bind r (λ v t. ok v (with-frame (with-slot (t .frame) (suc (suc n)) v) t)))
+          (λ r. bind (bind (bind (bind r (λ v t. put (suc n) v t))
           (λ v t. bind (plain-all act t) (λ vs t. ok (v ∷ vs) t))) (λ vs t. ok (v′ ∷ vs) t)) done)
           (λ x t. refl)
           (alike-with (expression-sound 𝓛 without-limits invoke C e′ d′ s₁ (p .0 .heap-ok) (p .0 .slots-ok))
-          (simulates e′ d′ (p .1 .ids′) sh′ (μ ++ (some v′ ∷ some (initial (plain-type u)) ∷ [])) (81 + z) s₁
+          (simulates e′ d′ (p .1 .ids′) sh′ (μ ++ (some v′ ∷ some (initial (plain-type u)) ∷ [])) (5 + z) s₁
           (entered t₁′) (p .0 .heap-ok) (p .0 .slots-ok)
           (record {
-            frames = frames-put μ _ 0 _ null v′ (p .1 .match .frames) N (nth₀ _ _);
+            frames = states-put μ _ 0 _ null v′ (p .1 .match) N (nth₀ _ _) .frames;
             core = recount (p .1 .match .core) refl refl refl refl (omega (arith, p .1 .match .core))
                 (omega (arith, p .1 .match .core));
           })))
           λ w s₂ w′ t₂ q.
           let t₂′ : State = with-frame (with-slot (t₂ .frame) (suc (suc n)) w′) t₂ in
           let X₂ = persists-trans (p .1 .persists) (q .1 .persists) in
-          let S₂ = frames-put μ _ 1 _ (initial (plain-type u)) w′ (q .1 .match .frames) N (nth₁ _ _ _) in
+          let R₂ = states-put μ _ 1 _ (initial (plain-type u)) w′ (q .1 .match) N (nth₁ _ _ _) in
+          rw (frames-temporary μ _ 1 _ (initial (plain-type u)) (q .1 .match .frames) N (nth₁ _ _ _)) (
           alike-wrap
           (λ r. bind (bind (bind (bind r (λ v t. ok (v ∷ []) t)) (λ vs t. ok (w′ ∷ vs) t))
           (λ vs t. ok (v′ ∷ vs) t)) done)
           (λ x t. refl)
           (set-acts W W′ P 𝓛 𝓜 invoke′ f (apply-class W φ₂ c) n u v v′ w w′ s₂ t₂′ (q .0 .heap-ok)
           (fits-evolves 𝓛 (q .0 .evolves) (p .0 .value-ok)) i (q .1 .ids′) X₂
-          (record {
-            frames = S₂;
-            core = spend 0 t₂′ (q .1 .match .core) (omega arith) refl refl (omega arith);
-          })
-          (corresponds-later (q .1 .persists) (p .1 .value)) (q .1 .value)
-          (frames-temporary μ _ 0 _ v′ S₂ N (nth₀ _ _)) (frames-temporary μ _ 1 _ w′ S₂ N (nth₁ _ _ _)))
+          R₂ (corresponds-later (q .1 .persists) (p .1 .value)) (q .1 .value)
+          (frames-temporary μ _ 0 _ v′ (R₂ .frames) N (nth₀ _ _))
+          (frames-temporary μ _ 1 _ w′ (R₂ .frames) N (nth₁ _ _ _)))
           λ x s₃ x′ t₃ a. close-block (false ∷ false ∷ []) (some v′ ∷ some w′ ∷ []) (t .frame)
-          (λ ids l l′ r. two-temporaries r) (R .frames) a)
+          (λ ids l l′ r. two-temporaries r) (R .frames) a)))
       simulates (call m e es) {γ} (type-call {γ₁} {c} {ts = us} {φ₂} M d d′ i j) ids sh μ z s t H S R =
           let n = length sh in let ps = M .parameters in let sh₂ = false ∷ temporaries ps in
           let xs = map initial (map plain-type ps) in
@@ -220,7 +220,7 @@ module _ (W W′ : World) (P : IsPlain W W′) (𝓛 : Laws W) (𝓜 : More W) w
           let N : length μ ≡ n = mask-length (R .frames .slots) in
           rw (plain-call W m M sh d d′ i)
           (alike-context
-          (λ r. bind (bind (bind r (λ v t. ok v (with-frame (with-slot (t .frame) (suc n) v) t)))
+          (λ r. bind (bind (bind r (λ v t. put n v t))
           (λ v t. bind (plain-all (translate-arguments W es γ₁ (sh ++ sh₂) (suc (suc n)) ⊕ act) t)
           (λ vs t. ok (v ∷ vs) t))) done)
           (λ x t. refl)
@@ -236,8 +236,11 @@ module _ (W W′ : World) (P : IsPlain W W′) (𝓛 : Laws W) (𝓜 : More W) w
           let ln : length xs ≡ length ps = length-map (map plain-type ps) initial
           ∙ length-map ps plain-type in
           let sh8 = 𝓜 .short _ m M i in
-          let S₁ = frames-put μ (some null ∷ map some xs) 0 n null v′ (p .1 .match .frames) N (nth₀ _ _) in
-          rw (run-append W W′ P invoke′ (translate-arguments W es γ₁ (sh ++ sh₂) (suc (suc n))) act t₁′)
+          let R₁ = states-put μ (some null ∷ map some xs) 0 n null v′ (p .1 .match) N (nth₀ _ _) in
+          rw (
+            frames-temporary μ _ 0 n null (p .1 .match .frames) N (nth₀ _ _),
+            run-append W W′ P invoke′ (translate-arguments W es γ₁ (sh ++ sh₂) (suc (suc n))) act t₁′,
+          )
           (alike-context
           (λ r. bind (bind (bind r (λ vs t. bind (plain-all act t) (λ ws t. ok (vs ++ ws) t)))
           (λ vs t. ok (v′ ∷ vs) t)) done)
@@ -247,7 +250,7 @@ module _ (W W′ : World) (P : IsPlain W W′) (𝓛 : Laws W) (𝓜 : More W) w
           t₁′
           (ln ∙ sym (all-fit-length W us ps j)) (p .0 .heap-ok) (p .0 .slots-ok)
           (record {
-            frames = rw (append-snoc μ (some v′) (map some xs)) S₁;
+            frames = rw (append-snoc μ (some v′) (map some xs)) (R₁ .frames);
             core = recount (p .1 .match .core) refl refl refl refl (omega (arith, p .1 .match .core))
                 (omega (arith, p .1 .match .core, ln, sh8));
           })
@@ -321,7 +324,7 @@ module _ (W W′ : World) (P : IsPlain W W′) (𝓛 : Laws W) (𝓜 : More W) w
       simulates-arguments (cons e₁ es) (types-cons {γ₁} d d′) ids sh μ (x ∷ xs) z s t L H S R n e =
           rw (plain-arguments W es sh (suc n) d)
           (alike-context
-          (λ r. bind (bind r (λ v t. ok v (with-frame (with-slot (t .frame) (suc n) v) t)))
+          (λ r. bind (bind r (λ v t. put n v t))
           (λ v t. bind (plain-all (translate-arguments W es γ₁ sh (suc (suc n))) t) (λ vs t. ok (v ∷ vs) t)))
           (λ x t. refl)
           (alike-with (expression-sound 𝓛 without-limits invoke C e₁ d s H S)
@@ -332,20 +335,18 @@ module _ (W W′ : World) (P : IsPlain W W′) (𝓛 : Laws W) (𝓜 : More W) w
           })))
           λ v s₁ v′ t₁ p.
           let t₁′ : State = with-frame (with-slot (t₁ .frame) (suc n) v′) t₁ in
-          let S₁ = frames-put μ (some x ∷ map some xs) 0 n x v′ (p .1 .match .frames) e (nth₀ _ _) in
+          let R₁ = states-put μ (some x ∷ map some xs) 0 n x v′ (p .1 .match) e (nth₀ _ _) in
+          rw (frames-temporary μ _ 0 n x (p .1 .match .frames) e (nth₀ _ _)) (
           alike-bind (simulates-arguments es d′ (p .1 .ids′) sh (μ ++ (some v′ ∷ [])) xs z s₁ t₁′ (suc-inj L)
           (p .0 .heap-ok) (p .0 .slots-ok)
-          (record {
-            frames = rw (append-snoc μ (some v′) (map some xs)) S₁;
-            core = spend 0 t₁′ (p .1 .match .core) (omega arith) refl refl (omega arith);
-          })
+          (rw (append-snoc μ (some v′) (map some xs)) R₁)
           (suc n) (omega (arith, length-append μ (some v′ ∷ []), e))) λ vs s₂ vs′ t₂ q.
           alike-ok (record {
             ids′ = q .ids′;
             persists = persists-trans (p .1 .persists) (q .persists);
             match = rw (append-snoc μ (some v′) (map some vs′)) at (q .match);
             values = a-cons (corresponds-later (q .persists) (p .1 .value)) (q .values);
-          }))
+          })))
 
       -- A block's expressions.
       pub simulates-all : (es : Exprs) {γ γ′ : Environment} {tys : List ExprType} {φ : ℕ}

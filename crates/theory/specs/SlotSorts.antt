@@ -9,17 +9,19 @@ use lib.Seq.{take-append-seam}
 use Rattle.language.specs.Lists.{map-option, Never, inj, All2, a-nil, a-cons, all2-set-right, all2-take}
 use Rattle.language.specs.Lists.{all2-map}
 use Rattle.language.specs.Frames.{Frame, at-slot, with-slot}
-use Rattle.language.specs.Tree.{DeclaredType, bool, class, ExprType, known, null-type, Expr, literal-true}
-use Rattle.language.specs.Tree.{literal-false, literal-null, slot, is-null, get, cast, new, change, assign}
+use Rattle.language.specs.Tree.{DeclaredType, bool, class, ExprType, known, null-type, Expr, literal}
+use Rattle.language.specs.Tree.{slot, is-null, get, cast, new, change, assign}
 use Rattle.language.specs.Tree.{set, call, choose, block, Exprs, nil, cons}
 use Rattle.language.specs.World.{World}
 use Rattle.language.specs.Effects.{effect-of, apply}
-use Rattle.language.specs.Typing.{Slot, Environment, with-type, join-types, join-currents, join-slots}
+use Rattle.language.specs.Environment.{Slot, Environment, with-type}
+use Rattle.language.specs.Typing.{join-types, join-currents, join-slots}
 use Rattle.language.specs.Typing.{join-this, join-environments, apply-slot, apply-all}
-use Rattle.language.specs.Rules.{HasType, HaveTypes, type-true, type-false, type-null, type-slot, type-new}
-use Rattle.language.specs.Rules.{type-cast, type-get, type-set, type-assign, type-is-null, type-call}
-use Rattle.language.specs.Rules.{type-choose, type-block, type-change, types-nil, types-cons}
-use Rattle.language.specs.Evaluation.{Value, Object}
+use Rattle.theory.specs.ComputedRules.{HasType, HaveTypes, type-literal, type-slot, type-new}
+use Rattle.theory.specs.ComputedRules.{type-cast, type-get, type-set, type-assign, type-is-null}
+use Rattle.theory.specs.ComputedRules.{type-call}
+use Rattle.theory.specs.ComputedRules.{type-choose, type-block, type-change, types-nil, types-cons}
+use Rattle.language.specs.State.{Value, Object}
 use Rattle.theory.specs.Fitting.{Fits, FitsSlot, FitsThis, this-none, this-some, FitsFrame, Laws}
 use Rattle.theory.specs.Fitting.{fits-sub}
 
@@ -118,9 +120,7 @@ module _ (W : World) where
 module _ {W : World} where
   mutual
     pub shape : (e : Expr) {γ γ′ : Environment} {t : ExprType} {φ : ℕ} → HasType W γ e t γ′ φ → SortFrame γ γ′
-    shape literal-true {γ} type-true = frames-refl γ
-    shape literal-false {γ} type-false = frames-refl γ
-    shape literal-null {γ} type-null = frames-refl γ
+    shape (literal l) {γ} type-literal = frames-refl γ
     shape (slot k) {γ} (type-slot e) = frames-refl γ
     shape (is-null e) (type-is-null d n) = shape e d
     shape (get f e) (type-get d i) = shape e d

@@ -7,22 +7,25 @@ use lib.ListN.{length}
 use Rattle.language.specs.Lists.{All2, a-nil, a-cons, all2-set, all2-append, all2-take, all2-length}
 use Rattle.language.specs.Results.{Holds, holds-ok, holds-stop, holds-bind, holds-choice, holds-mono}
 use Rattle.language.specs.Frames.{opened}
-use Rattle.language.specs.Tree.{DeclaredType, ExprType, known, Expr, literal-true, literal-false}
-use Rattle.language.specs.Tree.{literal-null, slot, is-null, get, cast, new, change, assign, set, call}
+use Rattle.language.specs.Tree.{DeclaredType, ExprType, known, Expr, literal}
+use Rattle.language.specs.Tree.{slot, is-null, get, cast, new, change, assign, set, call}
 use Rattle.language.specs.Tree.{choose, block, Exprs, nil, cons}
 use Rattle.language.specs.World.{Method, World}
-use Rattle.language.specs.Typing.{Environment, last-type}
-use Rattle.language.specs.Rules.{HasType, HaveTypes, type-true, type-false, type-null, type-slot, type-new}
-use Rattle.language.specs.Rules.{type-cast, type-get, type-set, type-assign, type-is-null, type-call}
-use Rattle.language.specs.Rules.{type-choose, type-block, type-change, types-nil, types-cons}
-use Rattle.language.specs.Evaluation.{Value, Object, State, Out, Limits, entered, with-frame, initial}
+use Rattle.language.specs.Environment.{Environment}
+use Rattle.language.specs.Typing.{last-type}
+use Rattle.theory.specs.ComputedRules.{HasType, HaveTypes, type-literal, type-slot, type-new}
+use Rattle.theory.specs.ComputedRules.{type-cast, type-get, type-set, type-assign, type-is-null}
+use Rattle.theory.specs.ComputedRules.{type-call}
+use Rattle.theory.specs.ComputedRules.{type-choose, type-block, type-change, types-nil, types-cons}
+use Rattle.language.specs.State.{Value, Object, State, Out, entered, with-frame, initial}
+use Rattle.language.specs.Evaluation.{Limits}
 use Rattle.language.specs.Evaluation.{last-value, eval, eval-all, call-at}
 use Rattle.theory.specs.Fitting.{Fits, null-fits, truth-fits, FitsFrame, Laws, HeapOk, Fine, fine-deep}
 use Rattle.theory.specs.Fitting.{fine-spent, Good, Goods, evolve-refl, evolve-trans, evolve-within}
 use Rattle.theory.specs.Fitting.{evolve-then, evolve-left, evolve-right, locals-fit, fits-evolves}
-use Rattle.theory.specs.Fitting.{fits-sub, frame-evolves, frame-grow}
+use Rattle.theory.specs.Fitting.{fits-sub, frame-evolves, frame-grow, literal-fits}
 use Rattle.theory.specs.SoundActs.{at, retyped, CallOk, cast-ok, if-ok, get-ok, set-ok, new-ok}
-use Rattle.theory.specs.SoundActs.{change-ok, call-ok}
+use Rattle.theory.specs.SoundActs.{change-ok, call-ok, null-ok}
 use Rattle.theory.specs.SlotSorts.{shape, frames-left, frames-right, join-left, join-right}
 
 module _ {W : World} where
@@ -41,20 +44,14 @@ module _ {W : World} (𝓛 : Laws W) where
           → (s : State)
           → HeapOk W (s .heap) → FitsFrame W (s .heap) (s .frame) Γ
           → Holds (Good W Γ′ φ t (s .heap)) (Fine W) (eval W L invoke e s)
-      expression-sound literal-true type-true s H S =
-          holds-choice (L .spent-at (s .steps)) (holds-stop (fine-spent H))
-          (holds-ok (record { heap-ok = H; evolves = evolve-refl _; slots-ok = S; value-ok = truth-fits }))
-      expression-sound literal-false type-false s H S =
-          holds-choice (L .spent-at (s .steps)) (holds-stop (fine-spent H))
-          (holds-ok (record { heap-ok = H; evolves = evolve-refl _; slots-ok = S; value-ok = truth-fits }))
-      expression-sound literal-null type-null s H S =
+      expression-sound (literal l) type-literal s H S =
           holds-choice (L .spent-at (s .steps)) (holds-stop (fine-spent H))
           (holds-ok (record {
             heap-ok = H;
             evolves = evolve-refl _;
             slots-ok = S;
-            value-ok = null-fits
-                refl;
+            value-ok = literal-fits
+                l;
           }))
       expression-sound (slot k) {Γ} (type-slot {s = u} e) s H S =
           holds-choice (L .spent-at (s .steps)) (holds-stop (fine-spent H))
@@ -69,7 +66,7 @@ module _ {W : World} (𝓛 : Laws W) where
       expression-sound (assign (suc k) e) (type-assign d i f) s H S =
           holds-choice (L .spent-at (s .steps)) (holds-stop (fine-spent H))
           (holds-bind (expression-sound e d (entered s) H S) λ v s′ g.
-          holds-ok (record {
+          rw (at (s′ .frame) _ (g .slots-ok) (suc k) _ i .is) (holds-ok (record {
             heap-ok = g .heap-ok;
             evolves = g .evolves;
             slots-ok = record {
@@ -78,7 +75,7 @@ module _ {W : World} (𝓛 : Laws W) where
                   (fits-sub 𝓛 _ (g .value-ok) f);
             };
             value-ok = g .value-ok;
-          }))
+          })))
       expression-sound (new c) (type-new i) s H S =
           holds-choice (L .spent-at (s .steps)) (holds-stop (fine-spent H))
           (holds-mono (new-ok 𝓛 L c (entered s) H) λ v s′ g.
@@ -104,13 +101,13 @@ module _ {W : World} (𝓛 : Laws W) where
           }))
       expression-sound (is-null e) (type-is-null d n) s H S =
           holds-choice (L .spent-at (s .steps)) (holds-stop (fine-spent H))
-          (holds-bind (expression-sound e d (entered s) H S) λ v s′ g.
-          holds-ok (record {
+          (holds-bind (expression-sound e d (entered s) H S) λ v s′ g. null-ok s′ n (g .value-ok) λ b.
+          record {
             heap-ok = g .heap-ok;
             evolves = g .evolves;
             slots-ok = g .slots-ok;
             value-ok = truth-fits;
-          }))
+          })
       expression-sound (cast c e) (type-cast d i n) s H S =
           holds-choice (L .spent-at (s .steps)) (holds-stop (fine-spent H))
           (holds-bind (expression-sound e d (entered s) H S) λ v s′ g. cast-ok c v s′ n g)

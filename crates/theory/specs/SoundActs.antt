@@ -6,7 +6,7 @@ use mathlib.Core.Bool.{Bool, true, false, _&&_, cond}
 use mathlib.Core.List.{List, [], _∷_, _++_, map}
 use lib.ListN.{length, set as replace, length-append}
 use lib.Seq.{take-append-seam, drop-append-seam}
-use lib.Dec.{eqb, leb}
+use lib.Dec.{eqb}
 use borrow.Author.Tests.{eqb-true, le-leb}
 use native.Mathlib.Omega.{arith}
 use Rattle.language.specs.Lists.{nth, bind-option, bind-option-inv, map-option, choice, Never, inj, All2}
@@ -17,9 +17,11 @@ use Rattle.language.specs.Frames.{Frame, frame, at-slot, with-slot}
 use Rattle.language.specs.Tree.{DeclaredType, bool, class, ExprType, known, Field}
 use Rattle.language.specs.World.{Method, World, place, field-type}
 use Rattle.language.specs.Effects.{no-effect, effect-of}
-use Rattle.language.specs.Typing.{Slot, Environment, fresh-slot, method-environment, not-bool, fits, all-fit}
+use Rattle.language.specs.Environment.{Slot, Environment, fresh-slot, method-environment}
+use Rattle.language.specs.Typing.{not-bool, fits, all-fit}
 use Rattle.language.specs.Typing.{apply-all, can-change}
-use Rattle.language.specs.Evaluation.{Value, null, object, Object, State, raised, Out, Limits, with-frame}
+use Rattle.language.specs.State.{Value, null, object, Object, State, raised, Out, with-frame, truth}
+use Rattle.language.specs.Evaluation.{Limits, need-reference, keeps-fields}
 use Rattle.language.specs.Evaluation.{need-truth, new-object, changed, do-get, do-set, do-cast, do-change}
 use Rattle.language.specs.Evaluation.{do-new, do-call}
 use Rattle.language.proofs.Booleans.{false≢, and-inv}
@@ -130,6 +132,13 @@ module _ {W : World} where
       go v t n truth-fits = false≢ n
       go (object j) t n (object-fits o p q) = rw p (two j o p (W .below (o .class-of) c) refl)
 
+  pub null-ok : {P : Value → State → Type 0} {v : Value} {t : ExprType} {h : List Object} (s : State)
+      → not-bool t ≡ true → Fits W h v t → ((b : Bool) → P (truth b) s)
+      → Holds P (Fine W) (need-reference v s λ b. ok (truth b) s)
+  null-ok s n (null-fits z) f = holds-ok (f true)
+  null-ok s n truth-fits f = false≢ n
+  null-ok s n (object-fits o p q) f = holds-ok (f false)
+
   pub if-ok : {P : Value → State → Type 0} {v : Value} {h : List Object} (s : State) {x y : Out Value}
       → Fits W h v (known bool) → Holds P (Fine W) x → Holds P (Fine W) y
       → Holds P (Fine W) (need-truth v s λ t. choice t (λ _. x) (λ _. y))
@@ -199,19 +208,25 @@ module _ {W : World} (𝓛 : Laws W) where
       let b : All2 (FitsField W h′) (o .fields) (W .fields (W .root d) ++ p .0)
       = rw (p .1) at (all2-mono-at a
       (λ i v f z x. rw (solid (o .class-of) i f z _) at (fits-evolves 𝓛 ev x))) in
-      rw (q .1, drop-append-seam)
+      rw (r, q .1, drop-append-seam)
       (all2-append (rw take-append-seam at (all2-take (length (W .fields (W .root d))) b))
       (initials-fit h′ (q .0)))
 
-  -- an object that R changes has the fields of its root
-  pub root-fields : (h : List Object) (d : ℕ) (o : Object) → W .root (o .class-of) ≡ W .root d
-      → All2 (FitsField W h) (o .fields) (W .fields (o .class-of))
-      → leb (length (W .fields (W .root d))) (length (o .fields)) ≡ true
-  root-fields h d o r a =
-      let p = prefix (o .class-of) (W .root d) (rw r at (sub-root (o .class-of))) in
-      let l : length (o .fields) ≡ length (W .fields (W .root d)) + length (p .0)
-      = all2-length a ∙ ap length (p .1) ∙ length-append (W .fields (W .root d)) (p .0) in
-      le-leb (length (W .fields (W .root d))) (length (o .fields)) (omega (arith, l))
+  -- an object has the fields of its class's root, and so has a class of the same root
+  pub root-fields : (h : List Object) (o : Object) (d : ℕ) → W .root (o .class-of) ≡ W .root d
+      → All2 (FitsField W h) (o .fields) (W .fields (o .class-of)) → keeps-fields W d o ≡ true
+  root-fields h o d r a =
+      let c = W .root (o .class-of) in
+      let p = prefix (o .class-of) c (sub-root (o .class-of)) in
+      let q = prefix d c (rw (← r) at (sub-root d)) in
+      let l : length (o .fields) ≡ length (W .fields c) + length (p .0)
+      = all2-length a ∙ ap length (p .1) ∙ length-append (W .fields c) (p .0) in
+      let m : length (W .fields d) ≡ length (W .fields c) + length (q .0)
+      = ap length (q .1) ∙ length-append (W .fields c) (q .0) in
+      rw (
+        le-leb (length (W .fields c)) (length (o .fields)) (omega (arith, l)),
+        le-leb (length (W .fields c)) (length (W .fields d)) (omega (arith, m)),
+      )
 
   pub change-ok : (c d : ℕ) (v : Value) (s : State) → HeapOk W (s .heap)
       → Fits W (s .heap) v (known (class c))
@@ -234,7 +249,7 @@ module _ {W : World} (𝓛 : Laws W) where
       let r : W .root (o .class-of) ≡ W .root d = fickle-root (o .class-of) c q (g .0) ∙ g .1 in
       let ev : Evolves W (effect-of (W .root d)) (s .heap) (replace (s .heap) j (changed W d o)) =
       evolve-set (s .heap) j o (changed W d o) p (moved (rw r (has-one (W .root d))) (sym r)) in
-      rw (p, root-fields (s .heap) d o r (H .each j o p)) (holds-ok (
+      rw (p, root-fields (s .heap) o d r (H .each j o p)) (holds-ok (
         refl,
         record {
           heap-ok = heap-set 𝓛 (s .heap) j (changed W d o) ev H

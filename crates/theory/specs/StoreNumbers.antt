@@ -14,7 +14,8 @@ use Rattle.language.specs.Results.{Holds, holds-ok, holds-stop}
 use Rattle.language.specs.Tree.{Program}
 use Rattle.language.specs.World.{World}
 use Rattle.language.specs.Program.{world}
-use Rattle.language.specs.Evaluation.{Value, null, truth, object, Object, State, Stop, Out, Limits, run}
+use Rattle.language.specs.State.{Value, null, truth, object, Object, State, Stop, Out}
+use Rattle.language.specs.Evaluation.{Limits, run}
 use Rattle.language.specs.Store.{value-number, value-of-number, object-numbers, heap-numbers, heap-of-numbers}
 use Rattle.language.specs.Store.{capacity, stored}
 use Rattle.language.specs.WellFormed.{Each, each-nil, each-cons, ProgramWell}

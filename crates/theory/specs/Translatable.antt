@@ -10,14 +10,14 @@ use Rattle.language.specs.Limits.{Most, of-check, of-translator}
 use Rattle.language.specs.Results.{Checked, accept, refuse, Pass, passed, earlier}
 use Rattle.language.specs.Results.{bind-checked-inv, accept-injective, accept≢refuse}
 use Rattle.language.specs.Rows.{row-of, rows-of, numbers-of}
-use Rattle.language.specs.Tree.{Expr, literal-true, literal-false, literal-null, slot, is-null, get, cast}
+use Rattle.language.specs.Tree.{Expr, literal, slot, is-null, get, cast}
 use Rattle.language.specs.Tree.{new, change, assign, set, call, choose, block, Exprs, nil, cons, Declaration}
 use Rattle.language.specs.Tree.{Class, Program, flatten-program}
 use Rattle.language.specs.Program.{world}
 use Rattle.language.specs.Form.{form}
 use Rattle.language.specs.Headings.{headings}
-use Rattle.language.specs.WellFormed.{Each, each-nil, each-cons, NodeInForm, NodesInForm, form-true}
-use Rattle.language.specs.WellFormed.{form-false, form-null, form-slot, form-is-null, form-get, form-cast}
+use Rattle.language.specs.WellFormed.{Each, each-nil, each-cons, NodeInForm, NodesInForm, form-literal}
+use Rattle.language.specs.WellFormed.{form-slot, form-is-null, form-get, form-cast}
 use Rattle.language.specs.WellFormed.{form-new, form-change, form-assign, form-set, form-call, form-choose}
 use Rattle.language.specs.WellFormed.{form-block, form-nil, form-cons, BodyInForm, form-body, MethodInForm}
 use Rattle.language.specs.WellFormed.{ClassInForm, ProgramInForm}
@@ -48,12 +48,8 @@ each-map f (each-cons r rs) = each-cons (f _ r) (each-map f rs)
 module _ (tight wide : Most) (t : Tighter tight wide) where
   mutual
     node-wider : (e : Expr) {d n : ℕ} → NodeInForm tight d n e → (d′ : ℕ) → d ≤ d′ → NodeInForm wide d′ n e
-    node-wider literal-true form-true zero l = absurd (omega arith)
-    node-wider literal-true form-true (suc d) l = form-true
-    node-wider literal-false form-false zero l = absurd (omega arith)
-    node-wider literal-false form-false (suc d) l = form-false
-    node-wider literal-null form-null zero l = absurd (omega arith)
-    node-wider literal-null form-null (suc d) l = form-null
+    node-wider (literal x) form-literal zero l = absurd (omega arith)
+    node-wider (literal x) form-literal (suc d) l = form-literal
     node-wider (slot k) (form-slot p) zero l = absurd (omega arith)
     node-wider (slot k) (form-slot p) (suc d) l = form-slot p
     node-wider (is-null e) (form-is-null i) zero l = absurd (omega arith)

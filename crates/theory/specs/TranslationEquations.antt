@@ -7,33 +7,23 @@ use mathlib.Core.List.{List, [], _∷_, _++_, map}
 use lib.ListN.{length}
 use Rattle.language.specs.Limits.{identity-class, imp-field}
 use Rattle.language.specs.Frames.{opened}
-use Rattle.language.specs.Tree.{DeclaredType, class, ExprType, known, Expr, literal-true, literal-false}
-use Rattle.language.specs.Tree.{literal-null, slot, is-null, get, cast, new, change, assign, set, call}
-use Rattle.language.specs.Tree.{choose, block, Exprs, nil, cons}
+use Rattle.language.specs.Tree.{DeclaredType, class, ExprType, known, Expr, literal}
+use Rattle.language.specs.Tree.{slot, is-null, get, cast, new, change, assign, set, call}
+use Rattle.language.specs.Tree.{choose, block, Exprs, nil, cons, Literal}
 use Rattle.language.specs.World.{Method, World, field-type}
 use Rattle.language.specs.Effects.{apply-class}
-use Rattle.language.specs.Typing.{Environment, fresh-slot}
-use Rattle.language.specs.Rules.{HasType, HaveTypes}
+use Rattle.language.specs.Environment.{Environment, fresh-slot}
+use Rattle.theory.specs.ComputedRules.{HasType, HaveTypes}
 use Rattle.language.specs.Translation.{plain-class, plain-type, Shape, variables, temporaries, plain-slot}
 use Rattle.language.specs.Translation.{read-slot, _then_, _⊕_, implementor, reads, plain-new, plain-cast}
 use Rattle.language.specs.Translation.{plain-change, translate, translate-all, translate-arguments}
 use Rattle.theory.specs.Equal.{complete, completes}
 
 module _ (W : World) where
-  -- T.
-  pub plain-true : (γ : Environment) (sh : Shape) → translate W literal-true γ sh ≡ literal-true
+  -- T, L, N.
+  pub plain-literal : (l : Literal) (γ : Environment) (sh : Shape) → translate W (literal l) γ sh ≡ literal l
   unfolding translate
-  plain-true γ sh = refl
-
-  -- L.
-  pub plain-false : (γ : Environment) (sh : Shape) → translate W literal-false γ sh ≡ literal-false
-  unfolding translate
-  plain-false γ sh = refl
-
-  -- N.
-  pub plain-null : (γ : Environment) (sh : Shape) → translate W literal-null γ sh ≡ literal-null
-  unfolding translate
-  plain-null γ sh = refl
+  plain-literal l γ sh = refl
 
   -- I.
   pub plain-read : (k : ℕ) (γ : Environment) (sh : Shape) → translate W (slot k) γ sh ≡ read-slot sh k

@@ -11,24 +11,23 @@ use native.Mathlib.Omega.{arith}
 use Rattle.language.specs.Limits.{of-check, of-translator}
 use Rattle.language.specs.Lists.{nth-lt}
 use Rattle.language.specs.Frames.{opened}
-use Rattle.language.specs.Tree.{ExprType, Expr, literal-true, literal-false, literal-null, slot, is-null, get}
+use Rattle.language.specs.Tree.{ExprType, Expr, literal, slot, is-null, get}
 use Rattle.language.specs.Tree.{cast, new, change, assign, set, call, choose, block, Exprs, nil, cons, count}
 use Rattle.language.specs.World.{World}
 use Rattle.language.specs.Effects.{apply-class}
-use Rattle.language.specs.Typing.{Environment, fresh-slot}
-use Rattle.language.specs.Rules.{HasType, HaveTypes, type-true, type-false, type-null, type-slot, type-new}
-use Rattle.language.specs.Rules.{type-cast, type-get, type-set, type-assign, type-is-null, type-call}
-use Rattle.language.specs.Rules.{type-choose, type-block, type-change, types-nil, types-cons}
-use Rattle.language.specs.WellFormed.{each-nil, each-cons, NodeInForm, NodesInForm, form-true, form-false}
-use Rattle.language.specs.WellFormed.{form-null, form-slot, form-is-null, form-get, form-cast, form-new}
+use Rattle.language.specs.Environment.{Environment, fresh-slot}
+use Rattle.theory.specs.ComputedRules.{HasType, HaveTypes, type-literal, type-slot, type-new}
+use Rattle.theory.specs.ComputedRules.{type-cast, type-get, type-set, type-assign, type-is-null}
+use Rattle.theory.specs.ComputedRules.{type-call}
+use Rattle.theory.specs.ComputedRules.{type-choose, type-block, type-change, types-nil, types-cons}
+use Rattle.language.specs.WellFormed.{each-nil, each-cons, NodeInForm, NodesInForm, form-literal}
+use Rattle.language.specs.WellFormed.{form-slot, form-is-null, form-get, form-cast, form-new}
 use Rattle.language.specs.WellFormed.{form-change, form-assign, form-set, form-call, form-choose, form-block}
 use Rattle.language.specs.WellFormed.{form-nil, form-cons}
 use Rattle.language.specs.Translation.{plain-type, Shape, variables, temporaries, position, _then_, _⊕_}
 use Rattle.language.specs.Translation.{implementor, reads, translate, translate-all, translate-arguments}
 use Rattle.theory.specs.Equal.{all-fit-length}
-use Rattle.theory.specs.TranslationEquations.{plain-true as translate-true}
-use Rattle.theory.specs.TranslationEquations.{plain-false as translate-false}
-use Rattle.theory.specs.TranslationEquations.{plain-null as translate-null}
+use Rattle.theory.specs.TranslationEquations.{plain-literal as translate-literal}
 use Rattle.theory.specs.TranslationEquations.{plain-read as translate-slot}
 use Rattle.theory.specs.TranslationEquations.{plain-is-null as translate-is-null}
 use Rattle.theory.specs.TranslationEquations.{plain-get as translate-get}
@@ -76,9 +75,8 @@ module _ (W : World) (𝓢 : Small W) (𝓝 : NameLaws W) where
         → NodeInForm of-translator d n e
         → (sh : Shape) → variable-count sh ≡ length (γ .slots) → Room d n sh
         → NodeInForm of-check (plain-left d) (suc (length sh)) (translate W e γ sh)
-    node-in-form literal-true {γ} type-true form-true sh v r = rw (translate-true W γ sh) form-true
-    node-in-form literal-false {γ} type-false form-false sh v r = rw (translate-false W γ sh) form-false
-    node-in-form literal-null {γ} type-null form-null sh v r = rw (translate-null W γ sh) form-null
+    node-in-form (literal l) {γ} type-literal form-literal sh v r =
+        rw (translate-literal W l γ sh) form-literal
     node-in-form (slot k) {γ} (type-slot {s} e) (form-slot p) sh v r =
         rw (translate-slot W k γ sh) (read-form γ sh k s v (omega (arith, r .room, r .few)) e)
     node-in-form (is-null e) {γ} (type-is-null d i) (form-is-null f) sh v r =
@@ -97,7 +95,7 @@ module _ (W : World) (𝓢 : Small W) (𝓝 : NameLaws W) where
         (form-cons (form-choose
         (form-is-null (form-assign (slot-small _ k₀)
         (node-in-form e d f (sh ++ sh₂) v′ (more-room sh₂ r (omega arith)))))
-        form-null
+        form-literal
         (form-get id-small (implementor-form c (suc (length sh)) (declared-small 𝓢 c i) k₀))) form-nil))
     node-in-form (new c) {γ} (type-new i) (form-new p) sh v r =
         let sh₂ = false ∷ false ∷ [] in let l = slots-fit sh₂ r (omega arith) in let j =

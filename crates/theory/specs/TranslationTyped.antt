@@ -8,24 +8,24 @@ use mathlib.Core.List.{List, [], _∷_, _++_, map}
 use lib.ListN.{length}
 use Rattle.language.specs.Lists.{nth, nth₀, nth₁, nth-suc, up, up-suc, a-nil, a-cons}
 use Rattle.language.specs.Frames.{Frame, opened}
-use Rattle.language.specs.Tree.{DeclaredType, bool, class, ExprType, known, null-type, Expr, literal-true}
-use Rattle.language.specs.Tree.{literal-false, literal-null, slot, is-null, get, cast, new, change, assign}
-use Rattle.language.specs.Tree.{set, call, choose, block, Exprs, nil, cons}
+use Rattle.language.specs.Tree.{DeclaredType, bool, class, ExprType, known, null-type, Expr, literal}
+use Rattle.language.specs.Tree.{slot, is-null, get, cast, new, change, assign}
+use Rattle.language.specs.Tree.{set, call, choose, block, Exprs, nil, cons, literal-type}
 use Rattle.language.specs.World.{World}
 use Rattle.language.specs.Effects.{no-effect, apply-class, apply-expr}
-use Rattle.language.specs.Typing.{Environment, last-type, all-fit}
-use Rattle.language.specs.Rules.{declared-nil, declared-cons, HasType, HaveTypes, type-true, type-false}
-use Rattle.language.specs.Rules.{type-null, type-slot, type-new, type-cast, type-get, type-set, type-assign}
-use Rattle.language.specs.Rules.{type-is-null, type-call, type-choose, type-block, type-change, types-nil}
-use Rattle.language.specs.Rules.{types-cons}
+use Rattle.language.specs.Environment.{Environment}
+use Rattle.language.specs.Typing.{last-type, all-fit}
+use Rattle.theory.specs.ComputedRules.{declared-nil, declared-cons, HasType, HaveTypes, type-literal}
+use Rattle.theory.specs.ComputedRules.{type-slot, type-new, type-cast, type-get, type-set, type-assign}
+use Rattle.theory.specs.ComputedRules.{type-is-null, type-call, type-choose, type-block, type-change}
+use Rattle.theory.specs.ComputedRules.{types-nil}
+use Rattle.theory.specs.ComputedRules.{types-cons}
 use Rattle.language.specs.Translation.{plain-class, plain-type, Shape, variables, temporaries, translate}
 use Rattle.language.specs.Translation.{translate-all, translate-arguments}
 use Rattle.theory.specs.Fitting.{Laws}
 use Rattle.theory.specs.PlainWorld.{plain-form}
 use Rattle.theory.specs.PlainOf.{PlainOf}
-use Rattle.theory.specs.TranslationEquations.{plain-true as translate-true}
-use Rattle.theory.specs.TranslationEquations.{plain-false as translate-false}
-use Rattle.theory.specs.TranslationEquations.{plain-null as translate-null}
+use Rattle.theory.specs.TranslationEquations.{plain-literal as translate-literal}
 use Rattle.theory.specs.TranslationEquations.{plain-read as translate-slot}
 use Rattle.theory.specs.TranslationEquations.{plain-is-null as translate-is-null}
 use Rattle.theory.specs.TranslationEquations.{plain-get as translate-get}
@@ -40,7 +40,7 @@ use Rattle.theory.specs.TranslationEquations.{plain-nil as translate-all
 use Rattle.theory.specs.TranslationEquations.{plain-cons as translate-all-cons}
 use Rattle.theory.specs.TranslationEquations.{plain-no-arguments as translate-arguments-nil}
 use Rattle.theory.specs.TranslationEquations.{plain-arguments as translate-arguments-cons}
-use Rattle.theory.specs.PlainRules.{fresh, Plains, plain-true, plain-false, plain-null}
+use Rattle.theory.specs.PlainRules.{fresh, Plains, plain-literal}
 use Rattle.theory.specs.PlainRules.{plain-slot as slot-plain, plain-new as new-plain}
 use Rattle.theory.specs.PlainRules.{plain-cast as cast-plain, plain-get, plain-set, plain-assign}
 use Rattle.theory.specs.PlainRules.{plain-is-null, plain-call, plain-choose, plain-block, plains-nil}
@@ -49,7 +49,7 @@ use Rattle.theory.specs.PlainSlots.{assigned-slot, TypesMatch, both-bool
 use Rattle.theory.specs.PlainSlots.{bool-only, class-only, match-plain, match-not-bool, last-match}
 use Rattle.theory.specs.PlainSlots.{Match, match-apply, fits-match, all-apply, match-join, match-opened}
 use Rattle.theory.specs.PlainSlots.{match-closed, no-temporary, a-temporary, typed-temporaries}
-use Rattle.theory.specs.PlainSlots.{match-more, match-fewer, variable-at, temporary-at}
+use Rattle.theory.specs.PlainSlots.{match-more, match-fewer, variable-at, temporary-at, literal-matches}
 use Rattle.theory.specs.PlainTypes.{NameLaws, fits-plain, fits-identity, fits-itself, all-fit-itself}
 use Rattle.theory.specs.PlainTypes.{join-plain, plain-declared, identity-declared, type-declared}
 use Rattle.theory.specs.PlainTypes.{types-declared, imp-type, id-type, method-plain, field-declared}
@@ -63,15 +63,9 @@ module _ {W W′ : World} (𝓟 : PlainOf W W′) (𝓛 : Laws W) (𝓝 : NameLa
     pub translation-typed : (e : Expr) {γ γ′ : Environment} {t : ExprType} {φ : ℕ} → HasType W γ e t γ′ φ
         → (sh : Shape) (δ : Frame DeclaredType) → Match W sh γ δ
         → TypedPlainly W W′ sh δ (translate W e γ sh) t γ′
-    translation-typed literal-true {γ} type-true sh δ m =
-        rw (translate-true W γ sh)
-        (record { u = known bool; typed = plain-true; matches = both-bool; slots = m })
-    translation-typed literal-false {γ} type-false sh δ m =
-        rw (translate-false W γ sh)
-        (record { u = known bool; typed = plain-false; matches = both-bool; slots = m })
-    translation-typed literal-null {γ} type-null sh δ m =
-        rw (translate-null W γ sh)
-        (record { u = null-type; typed = plain-null; matches = both-null; slots = m })
+    translation-typed (literal l) {γ} type-literal sh δ m =
+        rw (translate-literal W l γ sh)
+        (record { u = literal-type l; typed = plain-literal; matches = literal-matches l; slots = m })
     translation-typed (slot k) {γ} (type-slot {s} e) sh δ m =
         rw (translate-slot W k γ sh) (slot-typed 𝓟 k s m e)
     translation-typed (is-null e) {γ} (type-is-null d n) sh δ m = let a = translation-typed e d sh δ m in
@@ -100,7 +94,7 @@ module _ {W W′ : World} (𝓟 : PlainOf W W′) (𝓛 : Laws W) (𝓝 : NameLa
           slots = match-fewer W T m (a .slots);
           typed = plain-block (declared-cons (identity-declared 𝓟) declared-nil) (plains-cons
               (plain-choose (plain-is-null (plain-assign (a .typed) at₀ (fits-identity 𝓟 (a .matches) n))
-              (match-not-bool (a .matches) n)) plain-null
+              (match-not-bool (a .matches) n)) plain-literal
               (plain-get (implementor-typed 𝓟 c (length sh) i at₀) (id-type 𝓟 c i)) refl) plains-nil);
         })
     translation-typed (new c) {γ} (type-new i) sh δ m =

@@ -6,7 +6,7 @@ use lib.ListN.{length, length-append, length-map}
 use native.Mathlib.Omega.{arith}
 use Rattle.language.specs.Rows.{C-class, F-field, M-method, P-parameter, X-effect, S-start, V-local, Record}
 use Rattle.language.specs.Rows.{written, Row, row-of}
-use Rattle.language.specs.Tree.{DeclaredType, type-number, Expr, literal-true, literal-false, literal-null}
+use Rattle.language.specs.Tree.{DeclaredType, type-number, Expr, literal}
 use Rattle.language.specs.Tree.{slot, is-null, get, cast, new, change, assign, set, call, choose, block}
 use Rattle.language.specs.Tree.{Exprs, nil, cons, size, sizes, flatten, flattens, kind-number, Field}
 use Rattle.language.specs.Tree.{Declaration, Class, Program, heading-lines, method-lines, methods-lines}
@@ -102,9 +102,7 @@ mutual
   unfolding flatten size
 
   pub length-flatten : (e : Expr) → length (flatten e) ≡ size e
-  length-flatten literal-true = refl
-  length-flatten literal-false = refl
-  length-flatten literal-null = refl
+  length-flatten (literal l) = refl
   length-flatten (slot k) = refl
   length-flatten (is-null e) = omega (arith, length-flatten e)
   length-flatten (get f e) = omega (arith, length-flatten e)

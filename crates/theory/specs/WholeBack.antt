@@ -14,7 +14,8 @@ use Rattle.language.specs.Results.{Checked, accept, refuse, require, require-in
 use Rattle.language.specs.Results.{accept≢refuse}
 use Rattle.language.specs.Rows.{Letter, C-class, F-field, M-method, P-parameter, X-effect, S-start, B-block}
 use Rattle.language.specs.Rows.{Record, written, same-letter, Row, row-of, code}
-use Rattle.language.specs.Tree.{DeclaredType, type-of-number, Expr, literal-true, literal-false, literal-null}
+use Rattle.language.specs.Tree.{DeclaredType, type-of-number, Expr, literal, literal-true, literal-false}
+use Rattle.language.specs.Tree.{literal-null}
 use Rattle.language.specs.Tree.{slot, is-null, get, cast, new, change, assign, set, call, choose, block, size}
 use Rattle.language.specs.Tree.{flatten, kind-number, kind-of-number, Declaration, Class, Program}
 use Rattle.language.specs.Tree.{heading-lines, method-lines, methods-lines, class-lines, classes-lines}
@@ -129,9 +130,9 @@ module _ (most : Most) (roomy : 1 + most .parameters ≤ most .slots) where
   block-first : (n : ℕ) (e : Expr) (rs : List Row) → NodeInForm most (most .nesting) n e
       → first-code (map row-of (flatten e) ++ rs) ≡ code B-block → BodyInForm most n e
   unfolding flatten
-  block-first n literal-true rs i q = absurd (omega (arith, q))
-  block-first n literal-false rs i q = absurd (omega (arith, q))
-  block-first n literal-null rs i q = absurd (omega (arith, q))
+  block-first n (literal literal-true) rs i q = absurd (omega (arith, q))
+  block-first n (literal literal-false) rs i q = absurd (omega (arith, q))
+  block-first n (literal literal-null) rs i q = absurd (omega (arith, q))
   block-first n (slot k) rs i q = absurd (omega (arith, q))
   block-first n (is-null e) rs i q = absurd (omega (arith, q))
   block-first n (get f e) rs i q = absurd (omega (arith, q))

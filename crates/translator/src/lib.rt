@@ -1,6 +1,11 @@
 // The translation of rows: the check, then the translator's limits, reserved names and room (document 01, "Refusals and
 // stops").
+use checker::ALL_ROWS;
+use checker::FEW_NUMBERS;
+use checker::FEW_ROWS;
+use language::ALL_CLASSES;
 use language::Filled;
+use language::TABLE_LENGTH;
 ghost use mathlib.Core.Path.{_≡_};
 ghost use Prim.Native.Nat.{_≤_};
 ghost use lib.ListN.{length};
@@ -34,10 +39,10 @@ fn translate_few(rows: &[u32], out: &mut [u32]) -> Filled
     ensures { λ r. ⌜ (r ≡ answer 4 (translation (now (rows .entry))) (length (now (out .entry))))
         × (now (out .exit) ≡ buffer (translation (now (rows .entry))) (now (out .entry))) ⌝ }
 {
-    let mut tables = [0u16; 37440];
-    let mut above = [0u64; 65];
-    let mut ends = [0u16; 1024];
-    let mut lookups = [0u16; 1024];
+    let mut tables = [0u16; TABLE_LENGTH];
+    let mut above = [0u64; ALL_CLASSES];
+    let mut ends = [0u16; FEW_ROWS];
+    let mut lookups = [0u16; FEW_ROWS];
     translate_with(rows, &mut ends, &mut tables, &mut above, &mut lookups, out)
 }
 
@@ -45,10 +50,10 @@ fn translate_many(rows: &[u32], out: &mut [u32]) -> Filled
     ensures { λ r. ⌜ (r ≡ answer 4 (translation (now (rows .entry))) (length (now (out .entry))))
         × (now (out .exit) ≡ buffer (translation (now (rows .entry))) (now (out .entry))) ⌝ }
 {
-    let mut tables = [0u16; 37440];
-    let mut above = [0u64; 65];
-    let mut ends = [0u16; 60000];
-    let mut lookups = [0u16; 60000];
+    let mut tables = [0u16; TABLE_LENGTH];
+    let mut above = [0u64; ALL_CLASSES];
+    let mut ends = [0u16; ALL_ROWS];
+    let mut lookups = [0u16; ALL_ROWS];
     translate_with(rows, &mut ends, &mut tables, &mut above, &mut lookups, out)
 }
 
@@ -57,7 +62,7 @@ pub fn translate_rows(rows: &[u32], out: &mut [u32]) -> Filled
     ensures { λ r. ⌜ (r ≡ answer 4 (translation (now (rows .entry))) (length (now (out .entry))))
         × (now (out .exit) ≡ buffer (translation (now (rows .entry))) (now (out .entry))) ⌝ }
 {
-    if rows.len() <= 4096 {
+    if rows.len() <= FEW_NUMBERS {
         return translate_few(rows, out);
     }
     translate_many(rows, out)

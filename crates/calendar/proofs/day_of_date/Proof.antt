@@ -59,7 +59,8 @@ add-n-2 c = omega (
       (c .month-start .ensures ∙ months-alike _ _ _ (sym (c .before .is-leap .ensures)))
       (c .before .before .before .if6 .left)
       (c .before .before .before .before .before .before .before .before .if2 .left),
-  days-of-a-month (c .before .before .before .before .before .before .before .before .before .before .args .year)
+  days-of-a-month (c .before .before .before .before .before .before .before .before .before
+      .before .args .year)
       (c .before .before .before .before .before .before .before .before .before .before .args .month),
   c .before .before .before .before .before .before .days-in .ensures,
   c .before .before .before .before .before .if4 .left,

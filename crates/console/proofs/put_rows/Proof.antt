@@ -4,6 +4,7 @@ use native.Mathlib.Omega.{arith}
 use lib.ListN.{length}
 use Rattle.console.proofs.Showing.{rows-shown, rows-refused, shown}
 use Rattle.language.proofs.Filling.{buffer-long}
+use Rattle.language.specs.Alphabet.{ours}
 use Rattle.language.specs.Texts.{write-rows}
 use borrow.Author.Needs.{needs}
 use Rattle.console.proofs.put_rows.Statement.{statement}
@@ -43,7 +44,7 @@ returns-2 c =
     c .before .before .before .before .before .before .before .before .before .write-text in
     let the-written2 = c .before .before .before .before .before .written2 in
     (let long = ap length (the-write-text .ensures .1)
-    ∙ buffer-long (write-rows (start .args .plain .now)) (start .args .out .now) in let k =
+    ∙ buffer-long (write-rows ours (start .args .plain .now)) (start .args .out .now) in let k =
     shown (the-write-text .last .1 .0) (c .before .before .put-refusal .last .0) _
     (c .before .before .put-refusal .result) (c .before .before .put-refusal .ensures .0)
     (omega (arith, c .before .before .put-refusal .ensures .1, start .pre, long))

@@ -1,9 +1,10 @@
-use Rattle.machine.proofs.Leaves.{apply-row, apply-room, pre-load, pre-cast, apply-rest, apply-null}
-use Rattle.machine.proofs.Leaves.{apply-some, apply-get, apply-cast, apply-assign, apply-number}
+use Rattle.machine.proofs.Leaves.{apply-row, apply-room, pre-load, pre-cast, apply-rest, apply-test}
+use Rattle.machine.proofs.Leaves.{apply-get, apply-cast, apply-assign}
 use Rattle.objects.specs.Values.{outcome}
 use Rattle.machine.proofs.apply.Statement.{statement}
 use Rattle.machine.proofs.apply.Tie as tie
 use native.Mathlib.Omega.{arith}
+use borrow.Author.Needs.{needs}
 use Prim.Native.Nat.{_+_, _*_}
 
 mul-k : tie.Need-mul-k
@@ -54,33 +55,29 @@ write-slot-requires c κs =
     let start = c .before .before .before .before .before .before .before .before .before in
     apply-room (start .pre)
 
+test-null-requires : tie.Need-test-null-requires
+test-null-requires c κs = search needs
+
 returns : tie.Need-returns
-returns c =
-    let start = c .before .before .before .before .before .before .before .before .before in
-    apply-null (start .args .n) (c .before .match .keys1) (c .if1 .taken)
+returns c = apply-test (c .before .match .keys1) (c .test-null .ensures)
 
 returns-2 : tie.Need-returns-2
-returns-2 c =
-    let start = c .before .before .before .before .before .before .before .before .before in
-    apply-some (start .args .n) (c .before .match .keys1) (c .if1 .left)
+returns-2 c = apply-get (outcome (c .load .result)) (c .before .match .keys2) (c .load .ensures)
 
 returns-3 : tie.Need-returns-3
-returns-3 c = apply-get (outcome (c .load .result)) (c .before .match .keys2) (c .load .ensures)
-
-returns-4 : tie.Need-returns-4
-returns-4 c = apply-cast (outcome (c .cast-object .result)) (c .before .match .keys3)
+returns-3 c = apply-cast (outcome (c .cast-object .result)) (c .before .match .keys3)
     (c .cast-object .ensures)
 
 same-length : tie.Need-same-length
 same-length c = c .before .before .write-slot .kept .0
 
-returns-5 : tie.Need-returns-5
-returns-5 c =
+returns-4 : tie.Need-returns-4
+returns-4 c =
     let at-match = c .before .before .before .before in
     let start = at-match .before .before .before .before .before .before .before .before in
-    apply-number (start .args .n) (omega (arith, start .fits .n))
-    (apply-assign (apply-rest (start .pre) (at-match .match .rest .0 .0 .1) (at-match .match .rest .0 .1)
-    (at-match .match .rest .1)) (c .before .before .write-slot .ensures) (start .pre .small))
+    apply-assign (apply-rest (start .pre) (at-match .match .rest .0 .0 .1) (at-match .match .rest .0 .1)
+    (at-match .match .rest .1))
+    (c .before .before .write-slot .ensures)
 
 pub apply-spec : {M : Type 1} → statement M
 apply-spec =
@@ -93,6 +90,7 @@ apply-spec =
     add-a
     mul-a-2
     shared-slice-read-a
+    test-null-requires
     cast-load
     load-requires
     cast-object-requires
@@ -101,6 +99,5 @@ apply-spec =
     returns
     returns-2
     returns-3
-    returns-4
     same-length
-    returns-5)
+    returns-4)

@@ -1,15 +1,20 @@
+use native.Mathlib.Omega.{arith}
 use borrow.Author.Needs.{needs}
-use Rattle.machine.proofs.Frames.{write-past, write-none, write-this, write-at}
+use Rattle.machine.proofs.Frames.{slot-past, slot-no-this, write-none, write-zero, write-this}
+use Rattle.machine.proofs.Frames.{write-at}
 use Rattle.machine.proofs.write_slot.Statement.{statement}
 use Rattle.machine.proofs.write_slot.Tie as tie
 
 returns : tie.Need-returns
-returns c = write-past (c .before .before .args .n) (c .before .before .pre) (c .if1 .taken)
+returns c = write-none (c .before .before .args .n) (c .before .before .pre)
+    (slot-past (c .before .before .args .slots .now) (c .before .before .args .place)
+    (c .before .before .args .k) (c .if1 .taken) (c .before .before .pre))
 
 returns-2 : tie.Need-returns-2
 returns-2 c =
     let start = c .before .before .before .before .before in
-    write-none (start .args .n) (start .pre) (c .before .before .if2 .taken) (c .if3 .taken)
+    write-zero (start .args .n) (start .pre) (c .before .before .if2 .taken)
+    (slot-no-this (start .args .slots .now) (start .args .place) (c .if3 .taken))
 
 mul-slots : tie.Need-mul-slots
 mul-slots c = search needs
@@ -24,6 +29,7 @@ returns-3 : tie.Need-returns-3
 returns-3 c =
     let start = c .before .before .before .before .before in
     write-this (start .args .n) (start .pre) (c .before .before .if2 .taken) (c .if3 .left)
+    (omega (arith, start .fits .n))
 
 add-slots : tie.Need-add-slots
 add-slots c = search needs
@@ -39,7 +45,7 @@ same-length-2 c = search needs
 
 returns-4 : tie.Need-returns-4
 returns-4 c = write-at (c .before .before .before .args .n) (c .before .before .before .pre) (c .if2 .left)
-    (c .before .if1 .left)
+    (c .before .if1 .left) (omega (arith, c .before .before .before .fits .n))
 
 pub write-slot-spec : {M : Type 1} → statement M
 write-slot-spec =

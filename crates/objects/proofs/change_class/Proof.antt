@@ -3,8 +3,8 @@ use Prim.Native.Nat.{_+_, _*_}
 use native.Mathlib.Omega.{arith}
 use lib.ListN.{getD, length-set}
 use Rattle.objects.proofs.Values.{small-number}
-use Rattle.objects.proofs.Changes.{root-spot, change-fill, change-null, change-truth, change-past}
-use Rattle.objects.proofs.Changes.{change-few, change-made, own-spot, change-of, same-number}
+use Rattle.objects.proofs.Changes.{spots, change-fill, change-null, change-truth, change-past}
+use Rattle.objects.proofs.Changes.{change-few, change-made, change-of, same-number}
 use Rattle.objects.proofs.Changes.{one-change}
 use Rattle.objects.proofs.change_class.Statement.{statement}
 use Rattle.objects.proofs.change_class.Tie as tie
@@ -41,67 +41,6 @@ returns-3 c =
     (change-past (c .before .before .before .v .given .0 .0) (c .before .before .before .v .given .1)
     (c .if2 .taken))
 
-mul-root : tie.Need-mul-root
-mul-root c =
-    let start = c .before .before .before .before .before .before .before .before .before .before .before in
-    omega (arith, root-spot (start .pre .new))
-
-add-root : tie.Need-add-root
-add-root c =
-    let start = c .before .before .before .before .before .before .before .before .before .before .before in
-    omega (arith, root-spot (start .pre .new))
-
-mul-root-2 : tie.Need-mul-root-2
-mul-root-2 c =
-    let start = c .before .before .before .before .before .before .before .before .before .before .before in
-    omega (arith, root-spot (start .pre .new))
-
-shared-slice-read-root : tie.Need-shared-slice-read-root
-shared-slice-read-root c =
-    let start = c .before .before .before .before .before .before .before .before .before .before .before
-    .before in
-    omega (arith, root-spot (start .pre .new))
-
-cast-root : tie.Need-cast-root
-cast-root c =
-    let start = c .before .before .before .before .before .before .before .before .before .before .before
-    .before in
-    omega (arith, c .shared-slice-known3 .given (start .args .d * 576 + 514))
-
-mul-kept : tie.Need-mul-kept
-mul-kept c =
-    let start = c .before .before .before .before .before .before .before .before .before .before .before
-    .before in
-    omega (arith, root-spot (start .pre .new))
-
-add-kept : tie.Need-add-kept
-add-kept c =
-    let start = c .before .before .before .before .before .before .before .before .before .before .before
-    .before in
-    omega (arith, root-spot (start .pre .new))
-
-mul-kept-2 : tie.Need-mul-kept-2
-mul-kept-2 c =
-    let start = c .before .before .before .before .before .before .before .before .before .before .before
-    .before in
-    omega (arith, root-spot (start .pre .new))
-
-shared-slice-read-kept : tie.Need-shared-slice-read-kept
-shared-slice-read-kept c =
-    let start = c .before .before .before .before .before .before .before .before .before .before .before
-    .before .before in
-    omega (arith, root-spot (start .pre .new))
-
-cast-kept : tie.Need-cast-kept
-cast-kept c =
-    let start = c .before .before .before .before .before .before .before .before .before .before .before
-    .before .before in
-    omega (
-      arith,
-      c .shared-slice-known4 .given
-          (getD (start .args .tables .now) (start .args .d * 576 + 514) 0 * 576 + 515),
-    )
-
 cast-o : tie.Need-cast-o
 cast-o c = search needs
 
@@ -110,56 +49,120 @@ mul-o c = search needs
 
 mul-old : tie.Need-mul-old
 mul-old c =
-    let at-v = c .before .before .before .before .before in
-    let start = at-v .before .before .before .before .before .before .before .before in
-    omega (arith, own-spot (start .pre .new) (at-v .v .given .0 .0) (c .before .before .if2 .left))
+    let start = c .before .before .before .before .before .before .before .before .before .before .before in
+    omega (arith, spots (start .pre .new) (c .before .before .before .v .given .0 .0) (c .if2 .left))
 
 slice-read-old : tie.Need-slice-read-old
 slice-read-old c =
-    let at-v = c .before .before .before .before .before .before in
+    let at-v = c .before .before .before .before in
     let start = at-v .before .before .before .before .before .before .before .before in
-    omega (arith, own-spot (start .pre .new) (at-v .v .given .0 .0) (c .before .before .before .if2 .left))
+    omega (arith, spots (start .pre .new) (at-v .v .given .0 .0) (c .before .if2 .left))
 
-cast-own : tie.Need-cast-own
-cast-own c =
-    let at-v = c .before .before .before .before .before .before in
+cast-root : tie.Need-cast-root
+cast-root c =
+    let at-v = c .before .before .before .before in
     let start = at-v .before .before .before .before .before .before .before .before in
-    omega (arith, own-spot (start .pre .new) (at-v .v .given .0 .0) (c .before .before .before .if2 .left))
+    omega (arith, spots (start .pre .new) (at-v .v .given .0 .0) (c .before .if2 .left))
 
-mul-own : tie.Need-mul-own
-mul-own c =
-    let at-v = c .before .before .before .before .before .before in
+mul-root : tie.Need-mul-root
+mul-root c =
+    let at-v = c .before .before .before .before in
     let start = at-v .before .before .before .before .before .before .before .before in
-    omega (arith, own-spot (start .pre .new) (at-v .v .given .0 .0) (c .before .before .before .if2 .left))
+    omega (arith, spots (start .pre .new) (at-v .v .given .0 .0) (c .before .if2 .left))
 
-add-own : tie.Need-add-own
-add-own c =
-    let at-v = c .before .before .before .before .before .before in
+add-root : tie.Need-add-root
+add-root c =
+    let at-v = c .before .before .before .before in
     let start = at-v .before .before .before .before .before .before .before .before in
-    omega (arith, own-spot (start .pre .new) (at-v .v .given .0 .0) (c .before .before .before .if2 .left))
+    omega (arith, spots (start .pre .new) (at-v .v .given .0 .0) (c .before .if2 .left))
 
-mul-own-2 : tie.Need-mul-own-2
-mul-own-2 c =
-    let at-v = c .before .before .before .before .before .before in
+mul-root-2 : tie.Need-mul-root-2
+mul-root-2 c =
+    let at-v = c .before .before .before .before in
     let start = at-v .before .before .before .before .before .before .before .before in
-    omega (arith, own-spot (start .pre .new) (at-v .v .given .0 .0) (c .before .before .before .if2 .left))
+    omega (arith, spots (start .pre .new) (at-v .v .given .0 .0) (c .before .if2 .left))
 
-shared-slice-read-own : tie.Need-shared-slice-read-own
-shared-slice-read-own c =
-    let at-if2 = c .before .before .before .before in
-    let at-v = at-if2 .before .before .before in
+shared-slice-read-root : tie.Need-shared-slice-read-root
+shared-slice-read-root c =
+    let at-v = c .before .before .before .before .before in
     let start = at-v .before .before .before .before .before .before .before .before in
-    omega (arith, own-spot (start .pre .new) (at-v .v .given .0 .0) (at-if2 .if2 .left))
+    omega (arith, spots (start .pre .new) (at-v .v .given .0 .0) (c .before .before .if2 .left))
 
-cast-own-2 : tie.Need-cast-own-2
-cast-own-2 c =
-    let at-v = c .before .before .before .before .before .before .before in
+cast-root-2 : tie.Need-cast-root-2
+cast-root-2 c =
+    let at-v = c .before .before .before .before .before in
     let start = at-v .before .before .before .before .before .before .before .before in
     omega (
       arith,
-      c .shared-slice-known5 .given
-          (getD (start .args .store .now) ((at-v .v .given .0 .0) * 18) 0 * 576 + 515),
+      c .shared-slice-known3 .given
+          (getD (start .args .store .now) ((at-v .v .given .0 .0) * 18) 0 * 576 + 514),
     )
+
+mul-kept : tie.Need-mul-kept
+mul-kept c =
+    let at-v = c .before .before .before .before .before in
+    let start = at-v .before .before .before .before .before .before .before .before in
+    omega (arith, spots (start .pre .new) (at-v .v .given .0 .0) (c .before .before .if2 .left))
+
+add-kept : tie.Need-add-kept
+add-kept c =
+    let at-v = c .before .before .before .before .before in
+    let start = at-v .before .before .before .before .before .before .before .before in
+    omega (arith, spots (start .pre .new) (at-v .v .given .0 .0) (c .before .before .if2 .left))
+
+mul-kept-2 : tie.Need-mul-kept-2
+mul-kept-2 c =
+    let at-v = c .before .before .before .before .before in
+    let start = at-v .before .before .before .before .before .before .before .before in
+    omega (arith, spots (start .pre .new) (at-v .v .given .0 .0) (c .before .before .if2 .left))
+
+shared-slice-read-kept : tie.Need-shared-slice-read-kept
+shared-slice-read-kept c =
+    let at-v = c .before .before .before .before .before .before in
+    let start = at-v .before .before .before .before .before .before .before .before in
+    omega (arith, spots (start .pre .new) (at-v .v .given .0 .0) (c .before .before .before .if2 .left))
+
+cast-kept : tie.Need-cast-kept
+cast-kept c =
+    let at-v = c .before .before .before .before .before .before in
+    let start = at-v .before .before .before .before .before .before .before .before in
+    omega (
+      arith,
+      c .shared-slice-known4 .given
+          (getD (start .args .tables .now)
+          (getD (start .args .store .now) ((at-v .v .given .0 .0) * 18) 0 * 576 + 514) 0 * 576 + 515),
+    )
+
+mul-count : tie.Need-mul-count
+mul-count c =
+    let at-v = c .before .before .before .before .before .before in
+    let start = at-v .before .before .before .before .before .before .before .before in
+    omega (arith, spots (start .pre .new) (at-v .v .given .0 .0) (c .before .before .before .if2 .left))
+
+add-count : tie.Need-add-count
+add-count c =
+    let at-v = c .before .before .before .before .before .before in
+    let start = at-v .before .before .before .before .before .before .before .before in
+    omega (arith, spots (start .pre .new) (at-v .v .given .0 .0) (c .before .before .before .if2 .left))
+
+mul-count-2 : tie.Need-mul-count-2
+mul-count-2 c =
+    let at-v = c .before .before .before .before .before .before in
+    let start = at-v .before .before .before .before .before .before .before .before in
+    omega (arith, spots (start .pre .new) (at-v .v .given .0 .0) (c .before .before .before .if2 .left))
+
+shared-slice-read-count : tie.Need-shared-slice-read-count
+shared-slice-read-count c =
+    let at-if2 = c .before .before .before .before in
+    let at-v = at-if2 .before .before .before in
+    let start = at-v .before .before .before .before .before .before .before .before in
+    omega (arith, spots (start .pre .new) (at-v .v .given .0 .0) (at-if2 .if2 .left))
+
+cast-count : tie.Need-cast-count
+cast-count c =
+    let start = c .before .before .before .before .before .before .before .before .before .before .before
+    .before .before .before .before in
+    omega (arith, c .shared-slice-known5 .given (start .args .d * 576 + 515))
 
 returns-4 : tie.Need-returns-4
 returns-4 c =
@@ -175,7 +178,6 @@ fill-requires c κs =
     let at-v = at-if2 .before .before .before in
     let start = at-v .before .before .before .before .before .before .before .before in
     change-fill (start .pre .new) (at-v .v .given .0 .0) (at-if2 .if2 .left)
-    (omega (arith, c .before .if3 .left))
 
 mul-store : tie.Need-mul-store
 mul-store c =
@@ -233,26 +235,26 @@ change-class-spec =
     returns-2
     element-copy-out-if2
     returns-3
+    cast-o
+    mul-o
+    mul-old
+    slice-read-old
+    cast-root
     mul-root
     add-root
     mul-root-2
     shared-slice-read-root
-    cast-root
+    cast-root-2
     mul-kept
     add-kept
     mul-kept-2
     shared-slice-read-kept
     cast-kept
-    cast-o
-    mul-o
-    mul-old
-    slice-read-old
-    cast-own
-    mul-own
-    add-own
-    mul-own-2
-    shared-slice-read-own
-    cast-own-2
+    mul-count
+    add-count
+    mul-count-2
+    shared-slice-read-count
+    cast-count
     returns-4
     fill-requires
     mul-store

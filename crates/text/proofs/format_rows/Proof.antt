@@ -5,6 +5,7 @@ use native.Mathlib.Omega.{arith}
 use lib.ListN.{getD}
 use borrow.Author.Needs.{needs}
 use Rattle.text.proofs.Lines.{row-known}
+use Rattle.language.specs.Alphabet.{ours}
 use Rattle.text.proofs.Formatting.{Formatting, formatting-odd, formatting-odd-held, formatting-start}
 use Rattle.text.proofs.Formatting.{formatting-done, formatting-full, formatting-row, formatting-over}
 use Rattle.text.proofs.Formatting.{formatting-over-held, formatting-bad, formatting-bad-held}
@@ -14,7 +15,7 @@ use Rattle.text.proofs.format_rows.Statement.{statement}
 use Rattle.text.proofs.format_rows.Tie as tie
 
 abbrev Inv-loop : tie.InvT-loop
-Inv-loop rows held₀ i₀ at₀ line₀ held i at line = Formatting rows held₀ held i at line
+Inv-loop rows held₀ i₀ at₀ line₀ held i at line = Formatting ours rows held₀ held i at line
 
 abbrev μ-loop : tie.MeasureT-loop
 μ-loop rows held₀ i₀ at₀ line₀ held i at line = 60001 - line
@@ -23,12 +24,12 @@ returns : tie.Need-returns Inv-loop μ-loop
 returns c =
     let start = c .before .before .before in
     let rows = start .args .rows .now in
-    (formatting-odd rows (c .if1 .taken), λ m. formatting-odd-held rows (c .if1 .taken) m)
+    (formatting-odd ours rows (c .if1 .taken), λ m. formatting-odd-held ours rows (c .if1 .taken) m)
 
 loop-holds : tie.Need-loop-holds Inv-loop μ-loop
 loop-holds c =
     let start = c .before .before .before in
-    formatting-start (start .args .rows .now) (start .args .held .now) (c .if1 .left)
+    formatting-start ours (start .args .rows .now) (start .args .held .now) (c .if1 .left)
 
 same-length : tie.Need-same-length Inv-loop μ-loop
 same-length c =

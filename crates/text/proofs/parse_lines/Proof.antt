@@ -3,6 +3,7 @@ use mathlib.Core.Path.{sym, _∙_}
 use Prim.Native.Nat.{_-_}
 use native.Mathlib.Omega.{arith}
 use borrow.Author.Needs.{needs}
+use Rattle.language.specs.Alphabet.{ours}
 use Rattle.text.proofs.Parsing.{Parsing, parsing-start, parsing-done, parsing-full, parsing-over}
 use Rattle.text.proofs.Parsing.{parsing-over-held, parsing-bad, parsing-bad-held, parsing-fits}
 use Rattle.text.proofs.Parsing.{parsing-step}
@@ -10,7 +11,7 @@ use Rattle.text.proofs.parse_lines.Statement.{statement}
 use Rattle.text.proofs.parse_lines.Tie as tie
 
 abbrev Inv-loop : tie.InvT-loop
-Inv-loop text held₀ at₀ line₀ held at line = Parsing text held₀ held at line
+Inv-loop text held₀ at₀ line₀ held at line = Parsing ours text held₀ held at line
 
 abbrev μ-loop : tie.MeasureT-loop
 μ-loop text held₀ at₀ line₀ held at line = 60001 - line
@@ -18,7 +19,7 @@ abbrev μ-loop : tie.MeasureT-loop
 loop-holds : tie.Need-loop-holds Inv-loop μ-loop
 loop-holds c =
     let start = c .before .before in
-    parsing-start (start .args .text .now) (start .args .held .now)
+    parsing-start ours (start .args .text .now) (start .args .held .now)
 
 same-length : tie.Need-same-length Inv-loop μ-loop
 same-length c =

@@ -5,6 +5,7 @@ use native.Mathlib.Omega.{arith}
 use lib.ListN.{length}
 use borrow.Author.Needs.{needs}
 use Rattle.text.proofs.Parsing.{read-whole, read-fits}
+use Rattle.language.specs.Alphabet.{ours}
 use Rattle.language.specs.Texts.{read-text}
 use Rattle.language.proofs.Filling.{filled-refused, filled-made, filled-short, filled-done}
 use Rattle.language.specs.Filling.{made-numbers}
@@ -28,7 +29,8 @@ returns c =
     let start = c .before .before .before .before .before .before .before .before .before in
     let the-parse-lines = c .before .before .before .before .parse-lines in
     let rows = start .args .rows .now in
-    let r = filled-refused 4 (read-text (start .args .text .now)) (c .enum-told .given .0 .0) (c .enum-told
+    let r = filled-refused 4 (read-text ours (start .args .text .now)) (c .enum-told .given .0 .0)
+    (c .enum-told
     .given .0 .1 .0) (length rows) rows (sym (the-parse-lines .ensures .0) ∙ c .enum-told .given .1) in
     (the-parse-lines .ensures .0 ∙ r .0, r .1)
 
@@ -42,10 +44,10 @@ returns-2 c =
     let the-parsed = c .before .before .parsed in
     let text = start .args .text .now in
     let rows = start .args .rows .now in
-    filled-short 4 (read-text text) (the-parsed .given .0 .0) rows (sym (the-parse-lines .ensures .0) ∙
+    filled-short 4 (read-text ours text) (the-parsed .given .0 .0) rows (sym (the-parse-lines .ensures .0) ∙
     the-parsed .given .1) (omega (
       arith,
-      filled-made 4 (read-text text) (the-parsed .given .0 .0) rows (sym
+      filled-made 4 (read-text ours text) (the-parsed .given .0 .0) rows (sym
           (the-parse-lines .ensures .0) ∙ the-parsed .given .1) .1,
       c .if1 .taken,
     ))
@@ -59,9 +61,9 @@ mul-copy-numbers c =
     let text = start .args .text .now in
     omega (
       arith,
-      filled-made 4 (read-text text) (the-parsed .given .0 .0) (start .args .rows .now) (sym
+      filled-made 4 (read-text ours text) (the-parsed .given .0 .0) (start .args .rows .now) (sym
           (the-parse-lines .ensures .0) ∙ the-parsed .given .1) .1,
-      (read-fits text (start .args .held .now)
+      (read-fits ours text (start .args .held .now)
           (start .pre)),
       start .good .1 .0,
     )
@@ -75,26 +77,26 @@ copy-numbers-requires c κs =
     let the-if1 = c .before .before .if1 in
     let text = start .args .text .now in
     let rows = start .args .rows .now in
-    (let e : length (made-numbers (read-text text)) ≡ (the-parsed .given .0 .0) * 4 = omega (
+    (let e : length (made-numbers (read-text ours text)) ≡ (the-parsed .given .0 .0) * 4 = omega (
       arith,
-      filled-made 4 (read-text text) (the-parsed .given .0 .0) rows (sym (the-parse-lines .ensures .0) ∙
+      filled-made 4 (read-text ours text) (the-parsed .given .0 .0) rows (sym (the-parse-lines .ensures .0) ∙
           the-parsed .given .1) .1,
-      read-whole 60000 1 text,
+      read-whole ours 60000 1 text,
     ) in (
       omega (
         arith,
         e,
-        (read-fits text (start .args
+        (read-fits ours text (start .args
             .held .now) (start .pre)),
         the-parse-lines .kept .1 .0,
       ),
       omega (
         arith,
         e,
-        filled-made 4 (read-text
+        filled-made 4 (read-text ours
             text) (the-parsed .given .0 .0) rows
             (sym (the-parse-lines .ensures .0) ∙ the-parsed .given .1) .1,
-        read-whole 60000 1 text,
+        read-whole ours 60000 1 text,
         the-if1 .left,
       ),
     ))
@@ -117,22 +119,22 @@ returns-3 c =
     let text = start .args .text .now in
     let rows = start .args .rows .now in
     let held = start .args .held .now in
-    (let e : length (made-numbers (read-text text)) ≡ (the-parsed .given .0 .0) * 4 = omega (
+    (let e : length (made-numbers (read-text ours text)) ≡ (the-parsed .given .0 .0) * 4 = omega (
       arith,
-      filled-made 4 (read-text text) (the-parsed .given .0 .0) rows (sym (the-parse-lines .ensures .0) ∙
+      filled-made 4 (read-text ours text) (the-parsed .given .0 .0) rows (sym (the-parse-lines .ensures .0) ∙
           the-parsed .given .1) .1,
-      read-whole 60000 1 text,
-    ) in filled-done 4 (read-text text) (the-parsed .given
+      read-whole ours 60000 1 text,
+    ) in filled-done 4 (read-text ours text) (the-parsed .given
     .0 .0) rows (sym (the-parse-lines .ensures .0) ∙ the-parsed .given .1) (omega (
       arith,
       filled-made 4
-          (read-text text) (the-parsed .given .0 .0) rows
+          (read-text ours text) (the-parsed .given .0 .0) rows
           (sym (the-parse-lines .ensures .0) ∙ the-parsed .given
           .1) .1,
-      read-whole 60000 1 text,
+      read-whole ours 60000 1 text,
       the-if1 .left,
     )) (the-parse-lines .last .1 .0) (the-copy-numbers .last
-    .1 .0) (omega (arith, (read-fits text held (start .pre)), the-parse-lines .kept .1 .0)) (λ m. (
+    .1 .0) (omega (arith, (read-fits ours text held (start .pre)), the-parse-lines .kept .1 .0)) (λ m. (
       held,
       the-parse-lines .kept .1 .0,
       the-parse-lines .ensures .1 m,

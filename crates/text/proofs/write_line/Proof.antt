@@ -16,7 +16,11 @@ cast-text c = search needs
 slice-write-text : tie.Need-slice-write-text
 slice-write-text c =
     let start = c .before in
-    omega (arith, start .pre .1, length-some (start .args .code) (start .args .a) (start .args .b))
+    omega (
+      arith,
+      start .pre .1,
+      length-some (start .args .code) (start .args .a) (start .args .b) (start .pre .0),
+    )
 
 count-numbers-requires : tie.Need-count-numbers-requires
 count-numbers-requires c κs = search needs

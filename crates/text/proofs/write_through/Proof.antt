@@ -4,6 +4,7 @@ use native.Mathlib.Omega.{arith}
 use lib.ListN.{length}
 use borrow.Author.Needs.{needs}
 use Rattle.text.proofs.Formatting.{write-fits}
+use Rattle.language.specs.Alphabet.{ours}
 use Rattle.language.specs.Texts.{write-rows}
 use Rattle.language.proofs.Filling.{filled-refused, filled-made, filled-short, filled-done}
 use Rattle.language.specs.Filling.{made-numbers}
@@ -27,7 +28,8 @@ returns c =
     let start = c .before .before .before .before .before .before .before .before .before in
     let the-format-rows = c .before .before .before .before .format-rows in
     let text = start .args .text .now in
-    let r = filled-refused 1 (write-rows (start .args .rows .now)) (c .enum-told .given .0 .0) (c .enum-told
+    let r = filled-refused 1 (write-rows ours (start .args .rows .now)) (c .enum-told .given .0 .0)
+    (c .enum-told
     .given .0 .1 .0) (length text) text (sym (the-format-rows .ensures .0) ∙ c .enum-told .given .1) in
     (the-format-rows .ensures .0 ∙ r .0, r .1)
 
@@ -41,10 +43,11 @@ returns-2 c =
     let the-formatted = c .before .before .formatted in
     let rows = start .args .rows .now in
     let text = start .args .text .now in
-    filled-short 1 (write-rows rows) (the-formatted .given .0 .0) text (sym (the-format-rows .ensures .0) ∙
+    filled-short 1 (write-rows ours rows) (the-formatted .given .0 .0) text
+    (sym (the-format-rows .ensures .0) ∙
     the-formatted .given .1) (omega (
       arith,
-      filled-made 1 (write-rows rows) (the-formatted .given .0 .0)
+      filled-made 1 (write-rows ours rows) (the-formatted .given .0 .0)
           text (sym (the-format-rows .ensures .0) ∙ the-formatted .given .1) .1,
       c .if1 .taken,
     ))
@@ -58,23 +61,24 @@ copy-bytes-requires c κs =
     let the-if1 = c .before .before .if1 in
     let rows = start .args .rows .now in
     let text = start .args .text .now in
-    (let e : length (made-numbers (write-rows rows)) ≡ (the-formatted .given .0 .0) = omega (
+    (let e : length (made-numbers (write-rows ours rows)) ≡ (the-formatted .given .0 .0) = omega (
       arith,
-      filled-made 1 (write-rows rows) (the-formatted .given .0 .0) text (sym (the-format-rows .ensures .0) ∙
+      filled-made 1 (write-rows ours rows) (the-formatted .given .0 .0) text
+          (sym (the-format-rows .ensures .0) ∙
           the-formatted .given .1) .1,
       the-if1 .left,
     ) in (
       omega (
         arith,
         e,
-        (write-fits rows (start .args .held
+        (write-fits ours rows (start .args .held
             .now) (start .pre)),
         the-format-rows .kept .1 .0,
       ),
       omega (
         arith,
         e,
-        filled-made 1 (write-rows rows)
+        filled-made 1 (write-rows ours rows)
             (the-formatted .given .0 .0) text
             (sym (the-format-rows .ensures .0) ∙ the-formatted .given .1) .1,
         the-if1 .left,
@@ -100,22 +104,23 @@ returns-3 c =
     let rows = start .args .rows .now in
     let text = start .args .text .now in
     let held = start .args .held .now in
-    (let e : length (made-numbers (write-rows rows)) ≡ (the-formatted .given .0 .0) = omega (
+    (let e : length (made-numbers (write-rows ours rows)) ≡ (the-formatted .given .0 .0) = omega (
       arith,
-      filled-made 1 (write-rows rows) (the-formatted .given .0 .0) text (sym (the-format-rows .ensures .0) ∙
+      filled-made 1 (write-rows ours rows) (the-formatted .given .0 .0) text
+          (sym (the-format-rows .ensures .0) ∙
           the-formatted .given .1) .1,
       the-if1 .left,
-    ) in filled-done 1 (write-rows rows) (the-formatted .given .0
+    ) in filled-done 1 (write-rows ours rows) (the-formatted .given .0
     .0) text (sym (the-format-rows .ensures .0) ∙ the-formatted .given .1) (omega (
       arith,
       filled-made 1
-          (write-rows rows) (the-formatted .given .0 .0) text
+          (write-rows ours rows) (the-formatted .given .0 .0) text
           (sym (the-format-rows .ensures .0) ∙ the-formatted
           .given .1) .1,
       the-if1 .left,
       the-if1 .left,
     )) (the-format-rows .last .1 .0) (the-copy-bytes .last .1
-    .0) (omega (arith, (write-fits rows held (start .pre)), the-format-rows .kept .1 .0)) (λ m. (
+    .0) (omega (arith, (write-fits ours rows held (start .pre)), the-format-rows .kept .1 .0)) (λ m. (
       held,
       the-format-rows .kept .1 .0,
       the-format-rows .ensures .1 m,

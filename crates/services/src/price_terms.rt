@@ -1,0 +1,119 @@
+// The calendar, prices and their reports under their C names.
+use super::words::pack;
+use super::words::two_words;
+use prices::DateAnswer;
+use prices::DayAnswer;
+use prices::PriceAnswer;
+ghost use mathlib.Core.Path.{_≡_};
+ghost use lib.ListN.{length};
+ghost use Rattle.language.specs.Filling.{answer, buffer};
+ghost use Rattle.prices.specs.Calendar.{day-answer, date-answer};
+ghost use Rattle.prices.specs.Prices.{price-on-day, price-on-date};
+ghost use Rattle.prices.specs.Reports.{price-report};
+ghost use Rattle.services.specs.Packed.{packed, packed-day, packed-date, year-after, month-after};
+ghost use Rattle.services.specs.Packed.{day-after, TellsPrice};
+
+// The number of the day that has a date.
+#[no_mangle]
+pub extern "C" fn fickle_day_of_date(year: u32, month: u32, day: u32) -> u64
+    ensures { λ r. ⌜ r ≡ packed-day (day-answer year month day) ⌝ }
+{
+    let a = calendar::day_of_date(year, month, day);
+    match a {
+        DayAnswer::Day(n) => n as u64,
+        DayAnswer::Refused(number, line) => two_words(number, line),
+    }
+}
+
+// The date of a day. A refusal leaves the three numbers as they were.
+#[no_mangle]
+pub extern "C" fn fickle_date_of_day(
+    day: u32,
+    year: &mut u32,
+    month: &mut u32,
+    of_month: &mut u32,
+) -> u64
+    ensures { λ r. ⌜ r ≡ packed-date (date-answer day) ⌝ }
+    ensures { λ _. ⌜ now (year .exit) ≡ year-after (date-answer day) (now (year .entry)) ⌝ }
+    ensures { λ _. ⌜ now (month .exit) ≡ month-after (date-answer day) (now (month .entry)) ⌝ }
+    ensures { λ _. ⌜ now («of_month» .exit) ≡ day-after (date-answer day) (now («of_month» .entry)) ⌝ }
+{
+    let a = calendar::date_of_day(day);
+    match a {
+        DateAnswer::Date(y, m, d) => {
+            *year = y;
+            *month = m;
+            *of_month = d;
+            0
+        }
+        DateAnswer::Refused(number, line) => two_words(number, line),
+    }
+}
+
+// Stores a price where there is one, and returns the answer as one number.
+fn tell_price(a: PriceAnswer, cents: &mut u32, line: &mut u32) -> u64
+    ensures { λ r. ⌜ TellsPrice a r (now (cents .entry)) (now (cents .exit)) (now (line .entry))
+        (now (line .exit)) ⌝ }
+{
+    match a {
+        PriceAnswer::Cents(c, l) => {
+            *cents = c;
+            *line = l;
+            1
+        }
+        PriceAnswer::Unpriced => 0,
+        PriceAnswer::Refused(number, at) => two_words(number, at),
+    }
+}
+
+// The price of a model on a day, and the line of its term. Both stay as they were where there is none.
+#[no_mangle]
+pub extern "C" fn fickle_price_on_day(
+    terms: &[u8],
+    model: u32,
+    day: u32,
+    cents: &mut u32,
+    line: &mut u32,
+) -> u64
+    ensures { λ r. ⌜ TellsPrice (price-on-day (now (terms .entry)) model day) r (now (cents .entry))
+        (now (cents .exit)) (now (line .entry)) (now (line .exit)) ⌝ }
+{
+    let a = pricing::price_on_day(terms, model, day);
+    tell_price(a, cents, line)
+}
+
+// The price of a model on a date, returned in the same way.
+#[no_mangle]
+pub extern "C" fn fickle_price_on_date(
+    terms: &[u8],
+    model: u32,
+    year: u32,
+    month: u32,
+    day: u32,
+    cents: &mut u32,
+    line: &mut u32,
+) -> u64
+    ensures { λ r. ⌜ TellsPrice (price-on-date (now (terms .entry)) model year month day) r
+        (now (cents .entry))
+        (now (cents .exit)) (now (line .entry)) (now (line .exit)) ⌝ }
+{
+    let a = pricing::price_on_date(terms, model, year, month, day);
+    tell_price(a, cents, line)
+}
+
+// The report of a model's prices in a month.
+#[no_mangle]
+pub extern "C" fn fickle_report_prices(
+    terms: &[u8],
+    model: u32,
+    year: u32,
+    month: u32,
+    report: &mut [u8],
+) -> u64
+    ensures { λ r. ⌜ r ≡ packed (answer 1 (price-report (now (terms .entry)) model year month)
+        (length (now (report .entry)))) ⌝ }
+    ensures { λ _. ⌜ now (report .exit) ≡ buffer (price-report (now (terms .entry)) model year month)
+        (now (report .entry)) ⌝ }
+{
+    pack(pricing::report_prices(terms, model, year, month, report))
+}
