@@ -34,17 +34,22 @@ fn over_junk(rows: Vec<u32>, fuel: u64, length: usize, random: &mut Random) -> C
     Case::Run { rows, fuel, store }
 }
 
-/// The deepest runs: 64 calls and nesting 128, through each letter that can nest; chains of calls around 64; a store
-/// of 65,535 objects; the fuel limit.
+/// The deepest runs: 64 calls and nesting 128, through each letter that can nest; chains of calls around 64, also with few
+/// and with many slots, in programs of at most 1,024 rows and of more; a store of 65,535 objects; the fuel limit.
 pub fn limits() -> Vec<Case> {
     let mut random = Random::new(7);
     let deep = extreme::DEEPENING.map(|through| (extreme::deep_calls(128, &[through]), 1_000_000, 36));
     let chains = [CALLS_MOST - 1, CALLS_MOST, CALLS_MOST + 1]
         .map(|length| (extreme::chain(length), 10_000, (length + 1) * OBJECT_WIDTH));
+    let slots = [2, 9, 60, 118, 119, 120, 240].into_iter().flat_map(|locals| {
+        [(CALLS_MOST, 0), (CALLS_MOST + 1, 0), (CALLS_MOST, 600)].map(|(length, nulls)| {
+            (extreme::turning_chain(length, locals, nulls), 10_000, (length + 10) * OBJECT_WIDTH)
+        })
+    });
     let stores = [0, 17, 18, (OBJECTS_MOST - 1) * 18, OBJECTS_MOST * 18, (OBJECTS_MOST + 1) * 18]
         .map(|length| (many_objects(), 1_000_000, length));
     let fuels = [FUEL_MOST, FUEL_MOST + 1, u64::MAX, 1 << 32].map(|fuel| (extreme::names(7), fuel, 180));
-    let cases = deep.into_iter().chain(chains).chain(stores).chain(fuels);
+    let cases = deep.into_iter().chain(chains).chain(slots).chain(stores).chain(fuels);
     cases.map(|(rows, fuel, length)| over_junk(rows, fuel, length, &mut random)).collect()
 }
 

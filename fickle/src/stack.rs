@@ -42,17 +42,25 @@ const MOST_CALLS: usize = 64;
 const ROW: usize = 4;
 const CALL: u32 = b'Q' as u32;
 
-/// Bytes that a run takes while it checks rows without nesting: tables and slots. Measured: 821,980.
-const CHECK_BASE: usize = 851_968;
-/// Bytes that each level of nesting adds to the check. Measured: 2,960 in the last of 8 arguments, else 528.
-const CHECK_LEVEL: usize = 3_328;
-/// Bytes that a run takes before it enters a node: tables and slots. Measured: 688,360.
-const RUN_BASE: usize = 720_896;
-/// Bytes that each node under way adds. Measured: 336, the same for every letter, as they share one function.
-const RUN_NODE: usize = 384;
+/// Bytes that a run takes while it checks rows without nesting: tables and slots. Measured: 728,824.
+const CHECK_BASE: usize = 753_664;
+/// Bytes that each level of nesting adds to the check. Measured: 784.
+const CHECK_LEVEL: usize = 832;
+/// Bytes that a run takes before it enters a node: tables and the first segment of slots. Measured: 594,400.
+const RUN_BASE: usize = 606_208;
+/// Bytes that each node under way adds: 368 measured, the same for every letter, as they share one function; and its part
+/// of a segment, in which at most 9 values of a node wait.
+const RUN_NODE: usize = 368 + share_of_segment(9);
+/// Bytes that each active call adds beside its nodes: the part of a segment that its slots take, at most 264.
+const RUN_CALL: usize = share_of_segment(264);
+/// Bytes of a segment of 4,096 slots, with the frame of the function that makes it. Measured: 16,640.
+const SEGMENT: usize = 16_768;
 
-// What a run needs at most is the bound for the deepest program.
-const _: () = assert!(bound(MOST_NESTING, MOST_NESTING * (1 + MOST_CALLS)) <= RUN_ROWS_STACK_NEEDED);
+/// Returns the bytes that slots of a segment stand for. A segment has 4,096 slots, and any call needs at most 1,416; so when
+/// a call is given another one, at least 2,680 slots of the segment before are taken.
+const fn share_of_segment(slots: usize) -> usize {
+    (SEGMENT * slots).div_ceil(4_096 - 1_416)
+}
 
 /// Returns a bound on the bytes of native stack that `run_rows_on_this_stack` takes.
 ///
@@ -64,13 +72,15 @@ pub fn run_rows_stack_bound(rows: &[u32], fuel: u64) -> usize {
     };
     let nodes = program.nodes_under_way();
     let entered = usize::try_from(fuel).map_or(nodes, |fuel| nodes.min(fuel));
-    bound(program.start.nodes.max(program.methods.nodes), entered)
+    let calls = program.active_calls().min(entered);
+    bound(program.start.nodes.max(program.methods.nodes), entered, calls).min(RUN_ROWS_STACK_NEEDED)
 }
 
-/// Returns the larger of what the check takes at this nesting and what the run takes with this many nodes under way.
-const fn bound(nesting: usize, nodes: usize) -> usize {
+/// Returns the larger of what the check takes at this nesting and what the run takes with this many nodes under way and
+/// calls active, where one segment may be hardly used.
+const fn bound(nesting: usize, nodes: usize, calls: usize) -> usize {
     let check = CHECK_BASE + CHECK_LEVEL * nesting;
-    let run = RUN_BASE + RUN_NODE * nodes;
+    let run = RUN_BASE + RUN_NODE * nodes + RUN_CALL * calls + if calls == 0 { 0 } else { SEGMENT };
     if check < run {
         run
     } else {
@@ -98,6 +108,16 @@ impl Program {
     fn nodes_under_way(&self) -> usize {
         let calling = self.start.calls + (MOST_CALLS - 1) * self.methods.calls + self.methods.nodes;
         calling.max(self.start.nodes)
+    }
+
+    /// Returns the most calls that are active at once: none without a call in the start block, and one without any in the
+    /// methods.
+    fn active_calls(&self) -> usize {
+        match (self.start.calls, self.methods.calls) {
+            (0, _) => 0,
+            (_, 0) => 1,
+            _ => MOST_CALLS,
+        }
     }
 }
 
@@ -195,8 +215,10 @@ mod tests {
     fn counts_nodes_in_every_active_call() {
         let (methods, start) = (Nesting { nodes: 9, calls: 3 }, Nesting { nodes: 5, calls: 2 });
         assert_eq!(Program { methods, start }.nodes_under_way(), 2 + 63 * 3 + 9);
+        assert_eq!(Program { methods, start }.active_calls(), 64);
         let (methods, start) = (Nesting { nodes: 2, calls: 0 }, Nesting { nodes: 5, calls: 2 });
         assert_eq!(Program { methods, start }.nodes_under_way(), 5);
+        assert_eq!(Program { methods, start }.active_calls(), 1);
     }
 
     #[test]

@@ -1,5 +1,5 @@
 -- Laws of what R, U, Q and J answer once their children are typed, case by case. Assumes nothing.
-use mathlib.Core.Path.{_≡_, refl, sym, ap, subst, _∙_}
+use mathlib.Core.Path.{_≡_, refl, sym, ap, _∙_}
 use mathlib.Core.Bool.{Bool, true, false, cond}
 use mathlib.Core.Logic.{⊎-elim}
 use mathlib.Core.List.{List, [], _∷_}
@@ -13,22 +13,23 @@ use lib.Dec.{eqb}
 use lib.ListN.{length, getD, set, length-set}
 use lib.Seq.{getD-set-same, getD-set-other}
 use Rattle.language.specs.Effects.{effect-of, join}
-use Rattle.language.specs.Layout.{Run}
 use Rattle.bodies.proofs.Typing.{the-type}
 use Rattle.bodies.specs.declared.Typing.{Typing}
 use Rattle.bodies.specs.declared.Typing.the-variants.{Bool as bool-case, Class, Null, Refusal}
 use Rattle.bodies.specs.declared.Answer.{Answer}
 use Rattle.bodies.specs.declared.Sought.{Sought}
 use Rattle.bodies.specs.declared.Sought.the-variants.{Found, Missing}
-use Rattle.bodies.specs.Answers.{answer, case-of-number}
-use Rattle.bodies.specs.Tables.{Changed, Known, Applicable, Runs, root-in, applied, applied-number}
-use Rattle.bodies.specs.Tables.{joined-number, is-fitting}
-use Rattle.bodies.specs.Nodes.{PreField, refusal, joined-case, field-in, changeable-in}
-use Rattle.bodies.specs.Acts.{CountOf, can-change-in, changed-answer, number-after, PostChange}
-use Rattle.bodies.specs.Acts.{put-answer, put-noted, put, put-classes, method-place, NoClass}
+use Rattle.bodies.specs.Answers.{answer, case-of-number, with-current}
+use Rattle.bodies.specs.Tables.{Changed, Known, Applicable, root-in, applied, joined-slot}
+use Rattle.bodies.specs.Tables.{is-fitting, applied-slot}
+use Rattle.bodies.specs.Nodes.{PreField, refusal, joined-case, field-in, changeable-in, named-type}
+use Rattle.bodies.specs.Acts.{can-change-in, changed-answer, number-after, PostChange, PreInvoke}
+use Rattle.bodies.specs.Acts.{put-answer, put-noted, put, put-classes, method-place, NoClass, PreMethod}
 use Rattle.bodies.specs.Acts.{joined-answer, chosen, PostChoice}
 use Rattle.bodies.proofs.Laws.{known-class}
 use Rattle.bodies.proofs.LineLaws.{refused-not}
+use Rattle.bodies.proofs.Halves.{with-again}
+use Rattle.bodies.specs.declared.Scope.{Scope}
 
 -- R: a refusal, and what is done
 module _ {R T S : List ℕ} {count at scope : ℕ} where
@@ -48,34 +49,34 @@ module _ {R T S : List ℕ} {count at scope : ℕ} where
       unfolding changed-answer
       change-out m e = refused-change 7 r e (rw (le-ltb _ _ l, le-leb _ _ m) e)
 
-      module _ (m : getD R (at * 4 + 1) 0 < scope) where
-        pub change-absent : getD S (getD R (at * 4 + 1) 0) 0 ≡ 65535
+      module _ (m : getD R (at * 4 + 1) 0 < scope) (v : ℕ) (ev : v ≡ named-type R S at) where
+        pub change-absent : v ≡ 65535
             → r ≡ refusal 7 at → PostChange R T S S count at scope r
         unfolding changed-answer
-        change-absent q e = refused-change 7 r e (rw (le-ltb _ _ l, lt-leb _ _ m, eq-eqb _ _ q) e)
+        change-absent q e = refused-change 7 r e (rw (le-ltb _ _ l, lt-leb _ _ m, eq-eqb _ _ (sym ev ∙ q)) e)
 
-        module _ (q : getD S (getD R (at * 4 + 1) 0) 0 ≡ 65535 → ⊥) where
-          pub change-bool : getD S (getD R (at * 4 + 1) 0) 0 ≡ 255
+        module _ (q : v ≡ 65535 → ⊥) where
+          pub change-bool : v ≡ 255
               → r ≡ refusal 11 at → PostChange R T S S count at scope r
           unfolding changed-answer
-          change-bool p e = refused-change 11 r e (rw (le-ltb _ _ l, lt-leb _ _ m, ne-eqb _ _ q, eq-eqb _ _ p)
-              e)
+          change-bool p e = refused-change 11 r e (rw
+              (le-ltb _ _ l, lt-leb _ _ m, ne-eqb _ _ (λ x. q (ev ∙ x)), eq-eqb _ _ (sym ev ∙ p)) e)
 
-          module _ (p : getD S (getD R (at * 4 + 1) 0) 0 ≡ 255 → ⊥) where
-            change-cannot : can-change-in T (getD S (getD R (at * 4 + 1) 0) 0) (getD R (at * 4 + 2) 0) ≡ false
+          module _ (p : v ≡ 255 → ⊥) where
+            change-cannot : can-change-in T v (getD R (at * 4 + 2) 0) ≡ false
                 → r ≡ refusal 11 at
                 → PostChange R T S S count at scope r
             unfolding changed-answer
             change-cannot c e = refused-change 11 r e
-                (rw (le-ltb _ _ l, lt-leb _ _ m, ne-eqb _ _ q, ne-eqb _ _ p, c) e)
+                (rw (le-ltb _ _ l, lt-leb _ _ m, sym ev, ne-eqb _ _ q, ne-eqb _ _ p, c) e)
 
-            pub change-first : (b : Bool) → b ≡ changeable-in T (getD S (getD R (at * 4 + 1) 0) 0) → b ≡ false
+            pub change-first : (b : Bool) → b ≡ changeable-in T v → b ≡ false
                 → r ≡ refusal 11 at
                 → PostChange R T S S count at scope r
             unfolding can-change-in
             change-first b f g e = change-cannot (rw (sym f ∙ g)) e
 
-            module _ (b : Bool) (f : b ≡ changeable-in T (getD S (getD R (at * 4 + 1) 0) 0)) (g : b ≡ true)
+            module _ (b : Bool) (f : b ≡ changeable-in T v) (g : b ≡ true)
               where
                 pub change-second : (d : Bool) → d ≡ changeable-in T (getD R (at * 4 + 2) 0) → d ≡ false
                     → r ≡ refusal 11 at
@@ -86,7 +87,7 @@ module _ {R T S : List ℕ} {count at scope : ℕ} where
                 module _ (d : Bool) (i : d ≡ changeable-in T (getD R (at * 4 + 2) 0)) (j : d ≡ true)
                     (root old : ℕ)
                     (er : root ≡ root-in T (getD R (at * 4 + 2) 0))
-                    (eo : old ≡ root-in T (getD S (getD R (at * 4 + 1) 0) 0)) where
+                    (eo : old ≡ root-in T v) where
                   pub change-roots : (old ≡ root → ⊥)
                       → r ≡ refusal 11 at → PostChange R T S S count at scope r
                   unfolding can-change-in
@@ -98,20 +99,22 @@ module _ {R T S : List ℕ} {count at scope : ℕ} where
                   )) e
 
                   pub change-done : old ≡ root → (φ : ℕ) → φ ≡ effect-of root
-                      → r ≡ answer (Class (getD R (at * 4 + 2) 0)) φ → (S′ : List ℕ)
-                      → scope ≤ length S → Changed S S′ scope (λ k. applied-number T φ (getD S k 0))
-                      → PostChange R T S (set S′ (getD R (at * 4 + 1) 0) (getD R (at * 4 + 2) 0))
-                      count at scope
-                      r
-                  unfolding can-change-in changed-answer number-after
-                  change-done n φ ep e S′ ls h =
+                      → r ≡ answer (Class (getD R (at * 4 + 2) 0)) φ → (S′ : List ℕ) (u : ℕ)
+                      → u ≡ with-current (getD S′ (getD R (at * 4 + 1) 0) 0) (getD R (at * 4 + 2) 0)
+                      → scope ≤ length S → Changed S S′ scope (λ k. applied-slot T φ (getD S k 0))
+                      → PostChange R T S (set S′ (getD R (at * 4 + 1) 0) u) count at scope r
+                  unfolding can-change-in changed-answer number-after applied-slot
+                  change-done n φ ep e S′ u eu ls h =
                       let k : ℕ = getD R (at * 4 + 1) 0 in
                       let t : ℕ = getD R (at * 4 + 2) 0 in
                       let w : φ ≡ effect-of (root-in T t) = ep ∙ ap effect-of er in
+                      let z : u ≡ with-current (getD S k 0) t =
+                      eu ∙ (ap (λ (x : ℕ). with-current x t) (h .below k m) ∙ with-again (getD S k 0) _ t) in
                       record {
                         out = rw (
                           le-ltb _ _ l,
                           lt-leb _ _ m,
+                          sym ev,
                           ne-eqb _ _ q,
                           ne-eqb _ _ p,
                           sym f ∙ g,
@@ -119,20 +122,25 @@ module _ {R T S : List ℕ} {count at scope : ℕ} where
                           eq-eqb _ _ (sym eo ∙ n ∙ er),
                         )
                             (e ∙ ap (answer (Class t)) w);
-                        long = length-set S′ k t ∙ h .long;
-                        rest = λ x y. getD-set-other S′ k x t 0 (λ z. omega arith) ∙ h .rest x y;
-                        slots = λ x y z. go S′ k t (λ v. applied-number T φ (getD S v 0))
-                            (omega (arith, h .long)) y (h .below y z)
-                            ∙ ap (λ (v : ℕ). cond (eqb y k) t (applied-number T v (getD S y 0))) w;
+                        long = length-set S′ k u ∙ h .long;
+                        rest = λ x y. getD-set-other S′ k x u 0 (λ z. omega arith) ∙ h .rest x y;
+                        slots = λ x y y-low.
+                            go S′ k u t (λ c. applied-slot T φ (getD S c 0)) (omega (arith, h .long)) z y
+                            (h .below y y-low)
+                            ∙ ap (λ (c : ℕ). cond (eqb y k) (with-current (getD S y 0) t)
+                            (applied-slot T c (getD S y 0))) w;
                       }
                     where
-                      go : (U : List ℕ) (k t : ℕ) (F : ℕ → ℕ) → k < length U → (y : ℕ) → getD U y 0 ≡ F y
-                          → getD (set U k t) y 0 ≡ cond (eqb y k) t (F y)
-                      go U k t F lk y e = by-test (eqb y k) refl
+                      go : (U : List ℕ) (k u t : ℕ) (F : ℕ → ℕ) → k < length U
+                          → u ≡ with-current (getD S k 0) t → (y : ℕ) → getD U y 0 ≡ F y
+                          → getD (set U k u) y 0 ≡ cond (eqb y k) (with-current (getD S y 0) t) (F y)
+                      go U k u t F lk eu y e = by-test (eqb y k) refl
                         where
-                          by-test : (b : Bool) → eqb y k ≡ b → getD (set U k t) y 0 ≡ cond b t (F y)
-                          by-test true q = let z : y ≡ k = eqb-true y k q in rw z (getD-set-same U k t 0 lk)
-                          by-test false q = getD-set-other U k y t 0 (eqb-false y k q) ∙ e
+                          by-test : (b : Bool) → eqb y k ≡ b
+                              → getD (set U k u) y 0 ≡ cond b (with-current (getD S y 0) t) (F y)
+                          by-test true q = let z : y ≡ k = eqb-true y k q in
+                              rw z (getD-set-same U k u 0 lk ∙ eu)
+                          by-test false q = getD-set-other U k y u 0 (eqb-false y k q) ∙ e
 
 -- what is not a class
 pub no-class-of : (t : Typing) → OneOf (0 ∷ 2 ∷ 3 ∷ []) (tagOf the-type t) → NoClass t
@@ -170,14 +178,13 @@ module _ (R T A C : List ℕ) (at : ℕ) (t : Typing) (a b : Answer) (c k : ℕ)
       unfolding put put-classes put-answer put-noted
       put-unfit r g h = (rw (q, found-there, m, sym ef ∙ g) h, rw (q, found-there, m, sym ef ∙ g))
 
-      pub put-done : f ≡ true
+      pub put-done : (C′ : List ℕ) → f ≡ true → C′ ≡ set C at k
           → (answer (b .typing) (bitOr (a .effect) (b .effect)) ≡ put R T A at t a b)
-          × (set C at k ≡ put-classes R T A C at t b)
+          × (C′ ≡ put-classes R T A C at t b)
       unfolding put put-classes put-answer put-noted join
-      put-done g = (
+      put-done C′ g h = (
         rw (q, found-there, m, sym ef ∙ g),
-        rw (q, found-there, m, sym ef ∙ g)
-            (ap (λ (x : ℕ). set C at x) ek),
+        rw (q, found-there, m, sym ef ∙ g) (h ∙ ap (λ (x : ℕ). set C at x) ek),
       )
 
 -- J
@@ -221,12 +228,12 @@ refused-choice {at = at} r e o =
 pub done-choice : {T A S S′ : List ℕ} {at scope top : ℕ} {a b c : Answer} (r : Answer)
     → r ≡ chosen T A at (a .typing) (bitOr (a .effect) (bitOr (b .effect) (c .effect))) (b .typing)
     (c .typing)
-    → Changed S S′ scope (λ k. joined-number T A (getD S (top + k) 0) (getD S k 0))
+    → Changed S S′ scope (λ k. joined-slot T A (getD S (top + k) 0) (getD S k 0))
     → PostChoice T A S S′ at scope top a b c r
 unfolding join
 done-choice r o h = record { out = o; long = h .long; rest = h .rest; slots = λ x. h .below }
 
--- Q: the table's number for a method, and its lines
+-- Q: the table's number for a method, and its result
 pub place-none : (T : List ℕ) (ψ c k m stored : ℕ) → k ≡ applied T ψ c
     → stored ≡ getD T (k * 576 + (256 + m)) 0 → stored ≡ 0
     → method-place T (applied T ψ c) m ≡ 0
@@ -238,14 +245,11 @@ pub place-some : (T : List ℕ) (ψ c k m stored : ℕ) → k ≡ applied T ψ c
 place-some T ψ c k m stored e f z =
     let q : stored ≡ suc (stored - 1) = omega arith in sym (f ∙ ap (λ (x : ℕ). method-place T x m) e) ∙ q
 
-pub run-same : {R : List ℕ} {letter from : ℕ} (p : Runs R letter from) (q n : ℕ)
-    → ((m : ℕ) → Run R letter from m → q ≡ m) → q ≡ n
-    → Run R letter from n
-run-same {R} {letter} {from} p q n f e =
-    subst (λ (m : ℕ). Run R letter from m) (sym (f (p .n) (p .run)) ∙ e) (p .run)
-
-pub count-same : {R : List ℕ} {from : ℕ} (q n : ℕ) → CountOf R from q → q ≡ n → CountOf R from n
-count-same q n f e = λ p r. sym e ∙ f p r
+pub called-method : {R T A M F S : List ℕ} {at : ℕ} {scope : Scope} {t : Typing} {ψ : ℕ}
+    → PreInvoke R T A M F S at scope t ψ → {c k stored : ℕ} → t ≡ Class c → k ≡ applied T ψ c
+    → stored ≡ getD T (k * 576 + (256 + getD R (at * 4 + 1) 0)) 0 → (stored ≡ 0 → ⊥)
+    → PreMethod R A M F S (scope .top) (getD R (at * 4 + 2) 0) (stored - 1)
+called-method p q e f z = p .method _ _ q (place-some _ _ _ _ _ _ e f z)
 
 pub done-out : (R : List ℕ) (row φ ψ ε m : ℕ) (t : Typing) → m ≡ getD R (row * 4 + 1) 0 → t ≡ case-of-number m
     → answer t (bitOr (bitOr φ ψ) ε) ≡ answer (case-of-number (getD R (row * 4 + 1) 0)) (join (join φ ψ) ε)

@@ -5,21 +5,21 @@ use mathlib.Core.Bool.{Bool, true, false, cond, false≢true}
 use mathlib.Core.Option.{some}
 use mathlib.Core.Logic.{_⊎_, inl, inr, ⊎-elim}
 use mathlib.Core.List.{List, [], _∷_, _++_, map}
-use Prim.Native.Nat.{ℕ, suc, _+_, _-_, _*_, _≤_, _<_}
+use Prim.Native.Nat.{ℕ, zero, suc, _+_, _-_, _*_, _≤_, _<_}
 use native.Mathlib.Omega.{arith}
 use lib.Dec.{eqb, leb}
 use lib.ListN.{length, getD, take, length-append, length-map, List·getD-append}
 use lib.Seq.{getD-append-add, take-take}
 use Rattle.language.specs.Results.{Checked, accept, refuse, Pass, passed, bind-checked, require, require-inv}
-use Rattle.language.specs.Lists.{nth}
+use Rattle.language.specs.Lists.{nth, Never, inj}
 use Rattle.language.specs.Rows.{B-block, V-local}
-use Rattle.language.specs.Frames.{opened, closed}
+use Rattle.language.specs.Frames.{opened, closed, at-slot}
 use Rattle.language.specs.Tree.{DeclaredType, bool, class, type-number, type-of-number, ExprType, null-type}
 use Rattle.language.specs.Tree.{Exprs, block, count as how-many, Class}
 use Rattle.language.specs.World.{World, is-declared-type}
 use Rattle.language.specs.Effects.{join}
-use Rattle.language.specs.Program.{world}
-use Rattle.language.specs.Environment.{Environment, fresh-slot}
+use Rattle.language.specs.Program.{world, world-with}
+use Rattle.language.specs.Environment.{Environment, fresh-slot, Slot}
 use Rattle.language.specs.Typing.{TypedAll, typed, last-type, locals-declared}
 use Rattle.language.specs.Typing.{type-all}
 use Rattle.language.specs.Encoded.{RowAt, LinesAt, TypesAt}
@@ -27,17 +27,17 @@ use Rattle.language.specs.LookupClasses.{LooksUpAll}
 use Rattle.language.proofs.Lines.{each-line, le-or-less}
 use Rattle.bodies.specs.declared.Answer.{Answer}
 use Rattle.bodies.specs.declared.Typing.the-variants.{Null, Refusal}
-use Rattle.bodies.specs.Answers.{answer, answer-of, typing-case, is-refusal, numbers}
+use Rattle.bodies.specs.Answers.{answer, answer-of, typing-case, is-refusal, numbers, fresh-in}
 use Rattle.bodies.specs.Tables.{Headed}
 use Rattle.bodies.specs.Nodes.{refusal}
 use Rattle.bodies.specs.Acts.{names-type, opening, PreOpen, PostOpen}
 use Rattle.bodies.specs.Cycle.{Proper, Views, Declared, AcceptedAll, Is}
 use Rattle.bodies.proofs.EffectLaws.{none-join}
 use Rattle.bodies.proofs.Turns.{declared-null, is-refused, is-accepted, bind-refused, bind-accepted}
-use Rattle.bodies.proofs.HeadingLines.{TypeAt, types-number}
-use Rattle.bodies.proofs.Environments.{AllGood, fine-at, fine-opened, fine-closed, numbers-opened}
-use Rattle.bodies.proofs.Environments.{numbers-closed, numbers-length}
-use Rattle.bodies.proofs.Slots.{views-of, views-fine, views-long, views-at}
+use Rattle.bodies.proofs.TypeLines.{TypeAt, types-number}
+use Rattle.bodies.proofs.Environments.{fine-at, fine-opened, fine-closed, numbers-opened}
+use Rattle.bodies.proofs.Environments.{numbers-closed, numbers-length, fresh-number, Good, fresh-good}
+use Rattle.bodies.proofs.Slots.{views-of, views-fine, views-long, views-at, fresh-numbers}
 use Rattle.bodies.proofs.NodeTyping.{block-refused, block-inner, block-done, looks-block}
 
 -- The answer to locals that are declared, or refused.
@@ -65,10 +65,10 @@ proper-head : {t : DeclaredType} {ts : List DeclaredType} → Proper (t ∷ ts)
 unfolding nth
 proper-head {t} p = p .each 0 t refl
 
-module _ {P : List Class} {R T A : List ℕ} {count : ℕ} (h : Headed P R T A count) where
+module _ {P : List Class} {R E T A M F : List ℕ} {count : ℕ} (h : Headed P R E T A M F count) where
   names-is : (t : DeclaredType) → type-of-number (type-number t) ≡ t
       → names-type count (type-number t) ≡ is-declared-type (world P) t
-  unfolding names-type world
+  unfolding names-type world world-with
   names-is bool e = refl
   names-is (class c) e = rw (proper-class c e) (ap (leb c) (sym (h .classes .counted)))
 
@@ -88,12 +88,14 @@ module _ {P : List Class} {R T A : List ℕ} {count : ℕ} (h : Headed P R T A c
       go rec true = rec
       go rec false = refl
 
-  locals-good : (ts : List DeclaredType) (l : ℕ) → locals-declared (world P) l ts ≡ passed
-      → AllGood (world P) (map fresh-slot ts)
-  unfolding locals-declared AllGood
-  locals-good [] l e = tt
-  locals-good (t ∷ ts) l e = require-inv (is-declared-type (world P) t) 4 l _ e λ d e.
-      (d, locals-good ts (l + 1) e)
+  locals-at : (ts : List DeclaredType) (l : ℕ) → locals-declared (world P) l ts ≡ passed
+      → (i : ℕ) (t : DeclaredType) → nth ts i ≡ some t → is-declared-type (world P) t ≡ true
+  unfolding locals-declared nth
+  locals-at [] l e i t q = absurd (Never q)
+  locals-at (u ∷ ts) l e zero t q = require-inv (is-declared-type (world P) u) 4 l _ e λ d e.
+      subst (λ (x : DeclaredType). is-declared-type (world P) x ≡ true) (inj q) d
+  locals-at (u ∷ ts) l e (suc i) t q = require-inv (is-declared-type (world P) u) 4 l _ e λ d e.
+      locals-at ts (l + 1) e i t q
 
 locals-inside : (R : List ℕ) (ts : List DeclaredType) (row : ℕ) → row * 4 ≤ length R
     → TypesAt V-local R ts row
@@ -124,7 +126,8 @@ pass-refuse : {X : Type 0} (q : Pass) → is-refusal (pass-answer q .typing) ≡
 pass-refuse (accept u) e k = absurd (false≢true e)
 pass-refuse (refuse n l) e k = k n l refl
 
-module _ {P : List Class} {R T A : List ℕ} {count : ℕ} (h : Headed P R T A count) (short : length R ≤ 240000)
+module _ {P : List Class} {R E T A M F : List ℕ} {count : ℕ} (h : Headed P R E T A M F count)
+    (short : length R ≤ 240000)
   where
     pub pre-open : (ts : List DeclaredType) (es : Exprs) (at scope v : ℕ) (S : List ℕ)
         → RowAt R at B-block (length ts) (how-many es) → TypesAt V-local R ts (at + 1)
@@ -163,12 +166,12 @@ module _ {P : List Class} {R T A : List ℕ} {count : ℕ} (h : Headed P R T A c
       w .0,
       views-of (world P) (opened γ (map fresh-slot ts)) S′ (scope + v)
           (fine-opened (world P) (map fresh-slot ts) (views-fine (world P) vs)
-          (locals-good h ts (at + 1 + 1) (w .0)))
+          (fresh-good (world P) ts (locals-at h ts (at + 1 + 1) (w .0))))
           (omega (arith, q, l, po .long))
           (ap length (numbers-opened γ ts)
-          ∙ (length-append (numbers γ) (map type-number ts)
+          ∙ (length-append (numbers γ) (map fresh-number ts)
           ∙ ap₂ (λ (x : ℕ) (y : ℕ). x + y) (views-long vs (omega (arith, l)))
-          (length-map ts type-number ∙ sym q)))
+          (length-map ts fresh-number ∙ sym q)))
           (λ k m. at-slots k m (le-or-less scope k)
           ∙ sym (ap (λ (x : List ℕ). getD x k 0) (numbers-opened γ ts))),
     )
@@ -185,10 +188,10 @@ module _ {P : List Class} {R T A : List ℕ} {count : ℕ} (h : Headed P R T A c
             (ap (λ (x : Answer). is-refusal (x .typing)) (sym o) ∙ e)
 
         at-slots : (k : ℕ) → k < scope + v → (scope ≤ k) ⊎ (k < scope)
-            → getD S′ k 0 ≡ getD (numbers γ ++ map type-number ts) k 0
+            → getD S′ k 0 ≡ getD (numbers γ ++ map fresh-number ts) k 0
         at-slots k m (inr lt) =
             po .below k lt ∙ (views-at vs (omega (arith, l)) k lt ∙ sym
-            (List·getD-append (numbers γ) (map type-number ts) 0 k
+            (List·getD-append (numbers γ) (map fresh-number ts) 0 k
             (omega (arith, lt, views-long vs (omega (arith, l))))))
         at-slots k m (inl ge) =
             let j : ℕ = k - scope in
@@ -197,9 +200,10 @@ module _ {P : List Class} {R T A : List ℕ} {count : ℕ} (h : Headed P R T A c
             ap (λ (x : ℕ). x + j) (sym (views-long vs (omega (arith, l)))) in
             ap (λ (x : ℕ). getD S′ x 0) ek
             ∙ (po .filled e j (omega arith)
-            ∙ (types-number V-local R ts (at + 1) ln j (omega (arith, q, m, ge))
-            ∙ (sym (getD-append-add (numbers γ) (map type-number ts) j 0)
-            ∙ ap (λ (x : ℕ). getD (numbers γ ++ map type-number ts) x 0) (sym (ek ∙ en)))))
+            ∙ ((ap fresh-in (types-number V-local R ts (at + 1) ln j (omega (arith, q, m, ge)))
+            ∙ fresh-numbers h ts (locals-at h ts (at + 1 + 1) (w .0)) j (omega (arith, q, m, ge)))
+            ∙ (sym (getD-append-add (numbers γ) (map fresh-number ts) j 0)
+            ∙ ap (λ (x : ℕ). getD (numbers γ ++ map fresh-number ts) x 0) (sym (ek ∙ en)))))
 
     -- The whole block: what its items give, in the opened scope.
     pub block-is : (ts : List DeclaredType) (es : Exprs) (at scope v : ℕ) (γ : Environment) (S S′ C′ : List ℕ)
@@ -227,6 +231,11 @@ module _ {P : List Class} {R T A : List ℕ} {count : ℕ} (h : Headed P R T A c
             ≡ type-all (world P) es (at + 1 + v + 1) (opened γ (map fresh-slot ts))
         same = ap (λ (x : ℕ). type-all (world P) es x (opened γ (map fresh-slot ts))) (sym line)
 
+        closed-at : {δ : Environment} → Views (world P) δ S′ (scope + v) → (k : ℕ) (s : Slot)
+            → at-slot (closed (length (γ .slots)) δ) k ≡ some s → Good (world P) s
+        closed-at u k s x =
+            fine-at (world P) (fine-closed (world P) (length (γ .slots)) (views-fine (world P) u)) k s x
+
         go : (c : Checked TypedAll)
             → type-all (world P) es (at + 1 + v + 1) (opened γ (map fresh-slot ts)) ≡ c
             → Is (world P) (block ts es) γ at scope S′ C′ r
@@ -250,8 +259,8 @@ module _ {P : List Class} {R T A : List ℕ} {count : ℕ} (h : Headed P R T A c
                 same = sym (numbers-closed (length (γ .slots)) (b .slots)
                     ∙ (ap₂ (λ (x : ℕ) (y : List ℕ). take x y) z (sym (w .views .same))
                     ∙ take-take scope (scope + v) S′ (omega arith)));
-                declared = λ k s x. fine-at (world P) (fine-closed (world P) (length (γ .slots))
-                    (views-fine (world P) (w .views))) k s x;
+                current = λ k s x. closed-at (w .views) k s x .0;
+                declared = λ k s x. closed-at (w .views) k s x .1;
               };
               declared = last-declared (world P) null-type (b .types) declared-null (w .types);
               looks = looks-block (world P) C′ ts es

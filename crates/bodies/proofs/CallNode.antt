@@ -10,26 +10,27 @@ use borrow.Author.Tests.{eq-eqb, ne-eqb}
 use lib.ListN.{length, getD, set as replaced, length-set}
 use lib.Seq.{getD-set-same, getD-set-other}
 use Rattle.language.specs.Results.{Checked, accept, refuse, bind-checked}
-use Rattle.language.specs.Lists.{nth}
 use Rattle.language.specs.Rows.{Q-call}
-use Rattle.language.specs.Tree.{DeclaredType, bool, class, ExprType, known, null-type, Expr, Exprs, call}
+use Rattle.language.specs.Tree.{bool, class, ExprType, known, null-type, Expr, Exprs, call}
 use Rattle.language.specs.Tree.{size, count as how-many, Class}
-use Rattle.language.specs.World.{Method, is-declared-type}
+use Rattle.language.specs.World.{Method}
 use Rattle.language.specs.Effects.{join, apply-class}
 use Rattle.language.specs.Program.{world}
 use Rattle.language.specs.Environment.{Environment}
 use Rattle.language.specs.Typing.{Typed, TypedAll, typed, last-type, all-fit, apply-all, type-of}
 use Rattle.language.specs.Typing.{type-all}
 use Rattle.language.specs.Encoded.{RowAt}
-use Rattle.language.specs.LookupClasses.{LooksUp, LooksUpAll}
+use Rattle.language.specs.LookupClasses.{Notes, LooksUp, LooksUpAll}
 use Rattle.language.proofs.Classes as classes
 use Rattle.bodies.specs.declared.Answer.{Answer}
+use Rattle.bodies.specs.declared.Scope.{Scope}
 use Rattle.bodies.specs.declared.Typing.{Typing}
 use Rattle.bodies.specs.declared.Typing.the-variants.{Class as class-case, Refusal}
 use Rattle.bodies.specs.Answers.{answer, answer-of, case-of-number, typing-case, is-refusal}
-use Rattle.bodies.specs.Tables.{Headed, HeadingAt, Changed, applied, applied-number}
+use Rattle.bodies.specs.Tables.{Headed, Changed, applied, applied-slot}
 use Rattle.bodies.specs.Nodes.{too-many-answer, no-method-for, refusal}
-use Rattle.bodies.specs.Acts.{EffectLines, all-fitting, method-place, PreMethod, Done, NoClass}
+use Rattle.bodies.specs.Acts.{all-fitting, method-place, method-line, parameter-count, PreMethod, Done}
+use Rattle.bodies.specs.Acts.{NoClass}
 use Rattle.bodies.specs.Acts.{PreInvoke, Invoked, no-class, no-method, other-count, unfit, done}
 use Rattle.bodies.specs.Cycle.{Declared, AcceptedAll, Is, stored}
 use Rattle.bodies.proofs.ActLaws.{applicable-known}
@@ -40,7 +41,7 @@ use Rattle.bodies.proofs.Turns.{is-accepted, bind-refused, bind-accepte
 use Rattle.bodies.proofs.TypeNumbers.{type-number-case, case-known, applied-low, in-tables}
 use Rattle.bodies.proofs.Slots.{known-slots, applied-views}
 use Rattle.bodies.proofs.ThisKept.{types-count}
-use Rattle.bodies.proofs.MethodFound.{parameters-run, effects-lines, fit-all, the-method, not-there}
+use Rattle.bodies.proofs.MethodFound.{Called, fit-all, the-method, not-there}
 use Rattle.bodies.proofs.MethodFound.{few-there, pre-method}
 use Rattle.bodies.proofs.NodeTyping.{call-not, call-none, call-count, call-unfit, call-done}
 use Rattle.bodies.proofs.NodeTyping.{call-looks, call-arguments}
@@ -56,15 +57,16 @@ same-kept e f = (
   λ i n. ap (λ (x : List ℕ). getD x i 0) f,
 )
 
-pub invoked-kept : {R T A S C : List ℕ} {at scope top : ℕ} {x : Answer} {ψ : ℕ} {S′ C′ : List ℕ} {r : Answer}
-    → Invoked R T A S C at scope top (x .typing) (x .effect) ψ S′ C′ r
-    → (length S′ ≡ length S) × ((i : ℕ) → scope ≤ i → getD S′ i 0 ≡ getD S i 0)
+pub invoked-kept : {R T A M F S C : List ℕ} {at : ℕ} {scope : Scope} {x : Answer} {ψ : ℕ} {S′ C′ : List ℕ}
+    {r : Answer}
+    → Invoked R T A M F S C at scope (x .typing) (x .effect) ψ S′ C′ r
+    → (length S′ ≡ length S) × ((i : ℕ) → scope .size ≤ i → getD S′ i 0 ≡ getD S i 0)
     × (length C′ ≡ length C) × ((i : ℕ) → (i ≡ at → ⊥) → getD C′ i 0 ≡ getD C i 0)
 invoked-kept (no-class k e u) = same-kept (u .slots-same) (u .classes-same)
 invoked-kept (no-method c t z e u) = same-kept (u .slots-same) (u .classes-same)
-invoked-kept (other-count c row p t z k n e u) = same-kept (u .slots-same) (u .classes-same)
-invoked-kept (unfit c row t z k f e u) = same-kept (u .slots-same) (u .classes-same)
-invoked-kept {T = T} {C = C} {at = at} {ψ = ψ} (done c row ε t z k f g d) = (
+invoked-kept (other-count c i t z n e u) = same-kept (u .slots-same) (u .classes-same)
+invoked-kept (unfit c i t z k f e u) = same-kept (u .slots-same) (u .classes-same)
+invoked-kept {T = T} {C = C} {at = at} {ψ = ψ} (done c i t z k f d) = (
   d .slots .long,
   d .slots .rest,
   ap length (d .noted) ∙ length-set C at (applied T ψ c),
@@ -87,47 +89,46 @@ many-passed : (at : ℕ) (t : Typing) (q : Answer) → is-refusal (q .typing) �
 unfolding too-many-answer
 many-passed at t q e = rw e
 
-module _ {P : List Class} {R T A : List ℕ} {count : ℕ} (h : Headed P R T A count) (short : length R ≤ 240000)
+module _ {P : List Class} {R E T A M F : List ℕ} {count : ℕ} (h : Headed P R E T A M F count)
+    (short : length R ≤ 240000)
   where
-    pub pre-invoke : (m : ℕ) (es : Exprs) (at next scope top lb : ℕ) (γ : Environment) (a : Typed)
+    pub pre-invoke : (m : ℕ) (es : Exprs) (at next lb : ℕ) (scope : Scope) (γ : Environment) (a : Typed)
         (b : TypedAll) (S C : List ℕ) (x : Answer)
-        → RowAt R at Q-call m (how-many es) → m < 256 → at < length C
-        → type-all (world P) es lb γ ≡ accept b → AcceptedAll (world P) es γ next scope S C b
-        → scope ≤ length S → top + how-many es ≤ length S → Declared (world P) (a .type)
-        → ((i : ℕ) → i < how-many es → getD S (top + i) 0 ≡ getD (stored (b .types)) i 0)
-        → x ≡ answered a → PreInvoke R T A S C at scope top (x .typing) (b .effect)
-    pre-invoke m es at next scope top lb γ a b S C x n lm lc tb ab ls lt da st ex =
-        subst (λ (z : Answer). PreInvoke R T A S C at scope top (z .typing) (b .effect)) (sym ex) (record {
+        → RowAt R at Q-call m (how-many es) → m < 256
+        → type-all (world P) es lb γ ≡ accept b → AcceptedAll (world P) es γ next (scope .size) S C b
+        → scope .size ≤ length S → scope .top + how-many es ≤ length S → Declared (world P) (a .type)
+        → ((i : ℕ) → i < how-many es → getD S (scope .top + i) 0 ≡ getD (stored (b .types)) i 0)
+        → x ≡ answered a → PreInvoke R T A M F S at scope (x .typing) (b .effect)
+    pre-invoke m es at next lb scope γ a b S C x n lm tb ab ls lt da st ex =
+        subst (λ (z : Answer). PreInvoke R T A M F S at scope (z .typing) (b .effect)) (sym ex) (record {
           row = (n .within, omega (arith, n .within, short));
-          noted-at = lc;
           scoped = ls;
           name = omega (arith, n .first, lm);
           slots = λ k l. applicable-known (h .classes .few) (sound (h .classes) .long)
               (λ j i. omega (arith, sound (h .classes) .roots j i, h .classes .few))
               (known-slots h (ab .views) ls k l);
           receiver = λ c q. in-tables h (b .effect) c (type-low (a .type) h da c (case-known (a .type) c q));
-          method = λ c r q z.
+          method = λ c i q z.
               let l = applied-low h (b .effect) c (type-low (a .type) h da c (case-known (a .type) c q)) in
-              let w = the-method h (applied T (b .effect) c) m l lm r
+              let w = the-method h (applied T (b .effect) c) m l lm i
               (ap (λ (i : ℕ). method-place T (applied T (b .effect) c) i) (sym (n .first)) ∙ z) in
-              subst (λ (i : ℕ). PreMethod R A S top i r) (sym (n .second))
-              (pre-method h S top (how-many es) r (w .0) (b .types) (w .2) short (w .4)
+              subst (λ (j : ℕ). PreMethod R A M F S (scope .top) j i) (sym (n .second))
+              (pre-method h S (scope .top) (how-many es) (applied T (b .effect) c) m i (b .types) w
               (types-count (world P) es lb γ b tb) lt st (ab .types));
         })
 
-    pub call-is : (m : ℕ) (e : Expr) (es : Exprs) (at next scope top la lb : ℕ) (γ : Environment) (a : Typed)
-        (b : TypedAll)
-        (S C S′ C′ : List ℕ) (x r : Answer)
-        → RowAt R at Q-call m (how-many es) → m < 256 → at < length C → next ≡ at + 1 + size e
+    pub call-is : (m : ℕ) (e : Expr) (es : Exprs) (at next la lb : ℕ) (scope : Scope) (γ : Environment)
+        (a : Typed) (b : TypedAll) (S C S′ C′ : List ℕ) (x r : Answer)
+        → RowAt R at Q-call m (how-many es) → m < 256 → next ≡ at + 1 + size e
         → type-of (world P) e la γ ≡ accept a → type-all (world P) es lb (a .slots) ≡ accept b
-        → Declared (world P) (a .type) → AcceptedAll (world P) es (a .slots) next scope S C b
-        → scope ≤ length S
-        → ((i : ℕ) → i < how-many es → getD S (top + i) 0 ≡ getD (stored (b .types)) i 0)
+        → Declared (world P) (a .type) → AcceptedAll (world P) es (a .slots) next (scope .size) S C b
+        → scope .size ≤ length S
+        → ((i : ℕ) → i < how-many es → getD S (scope .top + i) 0 ≡ getD (stored (b .types)) i 0)
         → LooksUp (world P) C e γ (at + 1) → x ≡ answered a
-        → Invoked R T A S C at scope top (x .typing) (x .effect) (b .effect) S′ C′ r
-        → Is (world P) (call m e es) γ at scope S′ C′ r
-    call-is m e es at next scope top la lb γ a b S C S′ C′ x r n lm lc en ta tb da ab ls st lka ex i =
-        go (subst (λ (z : Answer). Invoked R T A S C at scope top (z .typing) (z .effect) (b .effect) S′ C′ r)
+        → Invoked R T A M F S C at scope (x .typing) (x .effect) (b .effect) S′ C′ r
+        → Is (world P) (call m e es) γ at (scope .size) S′ C′ r
+    call-is m e es at next la lb scope γ a b S C S′ C′ x r n lm en ta tb da ab ls st lka ex i =
+        go (subst (λ (z : Answer). Invoked R T A M F S C at scope (z .typing) (z .effect) (b .effect) S′ C′ r)
         ex i)
       where
         many : length (b .types) ≡ how-many es
@@ -152,66 +153,63 @@ module _ {P : List Class} {R T A : List ℕ} {count : ℕ} (h : Headed P R T A c
             → method-place T (applied T (b .effect) c) m ≡ v
         place c v z = ap (λ (j : ℕ). method-place T (applied T (b .effect) c) j) (sym (n .first)) ∙ z
 
-        found : (c row : ℕ) → typing-case (a .type) ≡ class-case c
-            → method-place T (applied T (b .effect) c) (getD R (at * 4 + 1) 0) ≡ suc row
-            → (M : Method) × (world P .method (applied T (b .effect) c) m ≡ some M) × HeadingAt R row M
-            × (is-declared-type (world P) (M .result) ≡ true)
-            × ((i : ℕ) (t : DeclaredType) → nth (M .parameters) i ≡ some t
-            → is-declared-type (world P) t ≡ true)
-        found c row t z = the-method h (applied T (b .effect) c) m (applied-low h (b .effect) c (low c t)) lm
-            row (place c (suc row) z)
+        found : (c i : ℕ) → typing-case (a .type) ≡ class-case c
+            → method-place T (applied T (b .effect) c) (getD R (at * 4 + 1) 0) ≡ suc i
+            → Called h (applied T (b .effect) c) m i
+        found c i t z = the-method h (applied T (b .effect) c) m (applied-low h (b .effect) c (low c t)) lm
+            i (place c (suc i) z)
 
-        counted : (M : Method) → getD R (at * 4 + 2) 0 ≡ length (M .parameters)
-            → length (b .types) ≡ length (M .parameters)
-        counted M z = many ∙ (sym (n .second) ∙ z)
+        -- A method with as many parameters as the call has arguments.
+        counted : {c i : ℕ} (w : Called h c m i) → parameter-count M i ≡ getD R (at * 4 + 2) 0
+            → length (b .types) ≡ length (w .method .parameters)
+        counted w z = many ∙ (sym (n .second) ∙ (sym z ∙ w .counted))
 
-        fitted : (M : Method) (row : ℕ) → HeadingAt R row M
-            → ((i : ℕ) (t : DeclaredType) → nth (M .parameters) i ≡ some t
-            → is-declared-type (world P) t ≡ true)
-            → getD R (at * 4 + 2) 0 ≡ length (M .parameters)
-            → all-fitting R A S top (row + 1) (getD R (at * 4 + 2) 0)
-            ≡ all-fit (world P) (b .types) (M .parameters)
-        fitted M row g pd z =
-            ap (all-fitting R A S top (row + 1)) (n .second ∙ sym many)
-            ∙ fit-all h S (b .types) (M .parameters) top (row + 1) (counted M z)
-            (λ i l. st i (omega (arith, l, many))) (g .parameter-rows) (ab .types) pd
+        fitted : {c i : ℕ} (w : Called h c m i) → parameter-count M i ≡ getD R (at * 4 + 2) 0
+            → all-fitting R A S (scope .top) (method-line M i + 1) (getD R (at * 4 + 2) 0)
+            ≡ all-fit (world P) (b .types) (w .method .parameters)
+        fitted {i = i} w z =
+            ap (all-fitting R A S (scope .top) (method-line M i + 1)) (n .second ∙ sym many)
+            ∙ fit-all h S (b .types) (w .method .parameters) (scope .top) (method-line M i + 1) (counted w z)
+            (λ i l. st i (omega (arith, l, many))) (w .lines) (ab .types) (w .parameters)
 
-        finish : (c row ε : ℕ) (t : typing-case (a .type) ≡ class-case c) (M : Method)
-            → world P .method (applied T (b .effect) c) m ≡ some M → HeadingAt R row M
-            → is-declared-type (world P) (M .result) ≡ true → getD R (at * 4 + 2) 0 ≡ length (M .parameters)
-            → all-fit (world P) (b .types) (M .parameters) ≡ true
-            → ε ≡ M .effect → Done R T A S C at scope top (typing-case (a .type)) (a .effect) (b .effect) S′
-            C′
-            r c row ε → Is (world P) (call m e es) γ at scope S′ C′ r
-        finish c row ε t M w g dr z f ee d =
+        finish : (c i : ℕ) (t : typing-case (a .type) ≡ class-case c)
+            (w : Called h (applied T (b .effect) c) m i) → parameter-count M i ≡ getD R (at * 4 + 2) 0
+            → all-fit (world P) (b .types) (w .method .parameters) ≡ true
+            → Done R T A M F S C at scope (typing-case (a .type)) (a .effect) (b .effect) S′ C′ r c i
+            → Is (world P) (call m e es) γ at (scope .size) S′ C′ r
+        finish c i t w z f d =
+            let N = w .method in
             let k : ℕ = apply-class (world P) (b .effect) c in
             let tab : C′ ≡ replaced C at k = d .noted ∙ ap (λ (j : ℕ). replaced C at j) (same c t) in
-            let here : getD C′ at 0 ≡ k = ap (λ (j : List ℕ). getD j at 0) tab ∙ getD-set-same C at k 0 lc in
+            let long : length C′ ≡ length C = ap length tab ∙ length-set C at k in
+            let here : Notes C′ at k = λ u. ap (λ (j : List ℕ). getD j at 0) tab
+            ∙ getD-set-same C at k 0 (omega (arith, u, long)) in
             let away : (i : ℕ) → at + 1 ≤ i → getD C′ i 0 ≡ getD C i 0 =
             λ i u. ap (λ (j : List ℕ). getD j i 0) tab ∙ getD-set-other C at i k 0 (λ y. omega arith) in
             is-accepted (record {
-              type = known (M .result);
-              slots = apply-all (world P) (M .effect) (b .slots);
-              effect = join (join (a .effect) (b .effect)) (M .effect);
+              type = known (N .result);
+              slots = apply-all (world P) (N .effect) (b .slots);
+              effect = join (join (a .effect) (b .effect)) (N .effect);
             })
-            (call-done (world P) m e es (at + 1) la lb γ a b ta tb c (typed-class c t) M
-            (at-world c t (some M) w) (eq-eqb (length (b .types)) (length (M .parameters)) (counted M z)) f)
+            (call-done (world P) m e es (at + 1) la lb γ a b ta tb c (typed-class c t) N
+            (at-world c t (some N) (w .found))
+            (eq-eqb (length (b .types)) (length (N .parameters)) (counted w z)) f)
             (d .out ∙ ap₂ (λ (u : Typing) (v : ℕ). answer u (join (join (a .effect) (b .effect)) v))
-            (ap case-of-number (g .row .first) ∙ type-number-case (M .result) h dr .0) ee)
+            (ap case-of-number (w .result-is) ∙ type-number-case (N .result) h (w .result) .0) (w .effect-is))
             (record {
-              views = applied-views h (M .effect) (ab .views) ls
-                  (subst (λ (j : ℕ). Changed S S′ scope (λ k. applied-number T j (getD S k 0))) ee
-                  (d .slots));
-              declared = declared-known (M .result) dr;
+              views = applied-views h (N .effect) (ab .views) ls
+                  (subst (λ (j : ℕ). Changed S S′ (scope .size) (λ k. applied-slot T j (getD S k 0)))
+                  (w .effect-is) (d .slots));
+              declared = declared-known (N .result) (w .result);
               looks = call-looks (world P) m e es (at + 1) la lb γ a b ta tb c (typed-class c t) C′ at here
-                  (looks-frame (world P) C C′ e γ (at + 1) (λ i u y. away i u) lka)
-                  (looks-frame-all (world P) C C′ es (a .slots) (at + 1 + size e)
+                  (looks-frame (world P) C C′ long e γ (at + 1) (λ i u y. away i u) lka)
+                  (looks-frame-all (world P) C C′ long es (a .slots) (at + 1 + size e)
                   (λ i u y. away i (omega arith))
                   (subst (λ (j : ℕ). LooksUpAll (world P) C es (a .slots) j) en (ab .looks)));
             })
 
-        go : Invoked R T A S C at scope top (typing-case (a .type)) (a .effect) (b .effect) S′ C′ r
-            → Is (world P) (call m e es) γ at scope S′ C′ r
+        go : Invoked R T A M F S C at scope (typing-case (a .type)) (a .effect) (b .effect) S′ C′ r
+            → Is (world P) (call m e es) γ at (scope .size) S′ C′ r
         go (no-class k er u) =
             is-refused 9 (at + 1) (call-not (world P) m e es (at + 1) la lb γ a b ta tb (a .type) refl k) er
         go (no-method c t z er u) =
@@ -219,28 +217,21 @@ module _ {P : List Class} {R T A : List ℕ} {count : ℕ} (h : Headed P R T A c
             (at-world c t none (not-there h (applied T (b .effect) c) m
             (applied-low h (b .effect) c (low c t))
             lm (place c 0 z)))) er
-        go (other-count c row p t z k f er u) =
-            let w = found c row t z in
+        go (other-count c i t z f er u) =
+            let w = found c i t z in
             is-refused 8 (at + 1)
-            (call-count (world P) m e es (at + 1) la lb γ a b ta tb c (typed-class c t) (w .0)
-            (at-world c t (some (w .0)) (w .1))
-            (ne-eqb (length (b .types)) (length (w .0 .parameters))
-            (λ y. f (k (length (w .0 .parameters)) (parameters-run (w .2))
-            ∙ (sym y ∙ (many ∙ sym (n .second))))))) er
-        go (unfit c row t z k f er u) =
-            let w = found c row t z in
-            let q = k (length (w .0 .parameters)) (parameters-run (w .2)) in
+            (call-count (world P) m e es (at + 1) la lb γ a b ta tb c (typed-class c t) (w .method)
+            (at-world c t (some (w .method)) (w .found))
+            (ne-eqb (length (b .types)) (length (w .method .parameters))
+            (λ y. f (w .counted ∙ (sym y ∙ (many ∙ sym (n .second))))))) er
+        go (unfit c i t z k f er u) =
+            let w = found c i t z in
             is-refused 9 (at + 1)
-            (call-unfit (world P) m e es (at + 1) la lb γ a b ta tb c (typed-class c t) (w .0)
-            (at-world c t (some (w .0)) (w .1))
-            (eq-eqb (length (b .types)) (length (w .0 .parameters)) (counted (w .0) q))
-            (sym (fitted (w .0) row (w .2) (w .4) q) ∙ f)) er
-        go (done c row ε t z k f g d) =
-            let w = found c row t z in
-            let q = k (length (w .0 .parameters)) (parameters-run (w .2)) in
-            finish c row ε t (w .0) (w .1) (w .2) (w .3) q (sym (fitted (w .0) row (w .2) (w .4) q) ∙ f)
-            (g (w .2 .effects) (subst (λ (j : ℕ). EffectLines R (row + 1 + j) (w .2 .effects)) (sym q)
-            (effects-lines (w .2))) ∙ sym (w .2 .effect-is)) d
+            (call-unfit (world P) m e es (at + 1) la lb γ a b ta tb c (typed-class c t) (w .method)
+            (at-world c t (some (w .method)) (w .found))
+            (eq-eqb (length (b .types)) (length (w .method .parameters)) (counted w k))
+            (sym (fitted w k) ∙ f)) er
+        go (done c i t z k f d) = let w = found c i t z in finish c i t w k (sym (fitted w k) ∙ f) d
 
     -- Q with more than 8 arguments: `many` is what the arguments as items give.
     pub many-is : (m : ℕ) (e : Expr) (es : Exprs) (at next scope la : ℕ) (γ : Environment) (a : Typed)
@@ -268,14 +259,14 @@ module _ {P : List Class} {R T A : List ℕ} {count : ℕ} (h : Headed P R T A c
             is-refused 8 (at + 1) (call-none (world P) m e es (at + 1) la (next + 1) γ a b ta tb c q w)
             (out ∙ (ap (λ (z : ExprType). too-many-answer at (typing-case z) many) q
             ∙ many-class-refused at c many f))
-        by-method b tb f c q (some M) w =
+        by-method b tb f c q (some N) w =
             let lc = type-low (a .type) h da c q in
             let lk : apply-class (world P) (b .effect) c ≤ count =
             omega (arith, lc, classes.apply-within P (h .classes .lower) (b .effect) c) in
-            let few = few-there h (apply-class (world P) (b .effect) c) m lk lm M w in
+            let few = few-there h (apply-class (world P) (b .effect) c) m lk lm N w in
             let many-types = types-count (world P) es (next + 1) (a .slots) b tb in
-            is-refused 8 (at + 1) (call-count (world P) m e es (at + 1) la (next + 1) γ a b ta tb c q M w
-            (ne-eqb (length (b .types)) (length (M .parameters)) (λ y. omega (arith, few, l, many-types, y))))
+            is-refused 8 (at + 1) (call-count (world P) m e es (at + 1) la (next + 1) γ a b ta tb c q N w
+            (ne-eqb (length (b .types)) (length (N .parameters)) (λ y. omega (arith, few, l, many-types, y))))
             (out ∙ (ap (λ (z : ExprType). too-many-answer at (typing-case z) many) q
             ∙ many-class-refused at c many f))
 

@@ -19,7 +19,7 @@ use Rattle.bodies.specs.declared.Sought.the-variants.{Found, Missing}
 use Rattle.bodies.specs.Answers.{answer, case-of-number, is-refusal}
 use Rattle.bodies.specs.Tables.{PreNearest, nearest-from, is-fitting}
 use Rattle.bodies.specs.Nodes.{refusal, null-tested, not-class, joined-case, BothClasses, field-in}
-use Rattle.bodies.specs.Nodes.{field-place, field-row, created, slot-read}
+use Rattle.bodies.specs.Nodes.{field-place, field-row, created, slot-read, named-type}
 use Rattle.bodies.specs.Nodes.{casted, cast-answer, assigned, no-method-for, too-many-answer, got}
 use Rattle.bodies.specs.Nodes.{got-classes, found-answer, noted, changeable-in}
 
@@ -151,15 +151,15 @@ module _ (R S : List ℕ) (at scope : ℕ) (r : Answer) where
   unfolding slot-read
   read-out l h = rw (le-leb _ _ l) h
 
-  pub read-absent : getD R (at * 4 + 1) 0 < scope → getD S (getD R (at * 4 + 1) 0) 0 ≡ 65535
+  pub read-absent : getD R (at * 4 + 1) 0 < scope → (v : ℕ) → v ≡ named-type R S at → v ≡ 65535
       → r ≡ refusal 7 at → r ≡ slot-read R S at scope
   unfolding slot-read
-  read-absent l e h = rw (lt-leb _ _ l, eq-eqb _ _ e) h
+  read-absent l v ev e h = rw (lt-leb _ _ l, eq-eqb _ _ (sym ev ∙ e)) h
 
-  pub read-there : getD R (at * 4 + 1) 0 < scope → (getD S (getD R (at * 4 + 1) 0) 0 ≡ 65535 → ⊥)
-      → r ≡ answer (case-of-number (getD S (getD R (at * 4 + 1) 0) 0)) 0 → r ≡ slot-read R S at scope
+  pub read-there : getD R (at * 4 + 1) 0 < scope → (v : ℕ) → v ≡ named-type R S at → (v ≡ 65535 → ⊥)
+      → r ≡ answer (case-of-number v) 0 → r ≡ slot-read R S at scope
   unfolding slot-read
-  read-there l e h = rw (lt-leb _ _ l, ne-eqb _ _ e) h
+  read-there l v ev e h = rw (lt-leb _ _ l, sym ev, ne-eqb _ _ e) h
 
 -- K, A and Q
 module _ (R : List ℕ) (count at : ℕ) (a : Answer) where
@@ -215,20 +215,20 @@ module _ (R A S : List ℕ) (at scope : ℕ) (a : Answer) (b : Bool) (e : b ≡ 
 
   pub assign-fits : (n : ℕ) (d : Bool) → b ≡ false → (getD R (at * 4 + 1) 0 ≡ 0 → ⊥)
       → getD R (at * 4 + 1) 0 < scope
-      → n ≡ getD S (getD R (at * 4 + 1) 0) 0 → d ≡ is-fitting A (a .typing) n → d ≡ true
+      → n ≡ named-type R S at → d ≡ is-fitting A (a .typing) n → d ≡ true
       → a ≡ assigned R A S at scope a
   unfolding assigned
   assign-fits n d f z l q g h =
-      let w : is-fitting A (a .typing) (getD S (getD R (at * 4 + 1) 0) 0) ≡ true = rw (sym q) (sym g ∙ h) in
+      let w : is-fitting A (a .typing) (named-type R S at) ≡ true = rw (sym q) (sym g ∙ h) in
       rw (sym e ∙ f, ne-eqb _ _ z, lt-leb _ _ l, w)
 
   pub assign-unfit : (n : ℕ) (d : Bool) (r : Answer) → b ≡ false → (getD R (at * 4 + 1) 0 ≡ 0 → ⊥)
       → getD R (at * 4 + 1) 0 < scope
-      → n ≡ getD S (getD R (at * 4 + 1) 0) 0 → d ≡ is-fitting A (a .typing) n → d ≡ false
+      → n ≡ named-type R S at → d ≡ is-fitting A (a .typing) n → d ≡ false
       → r ≡ refusal 9 at → r ≡ assigned R A S at scope a
   unfolding assigned
   assign-unfit n d r f z l q g h k =
-      let w : is-fitting A (a .typing) (getD S (getD R (at * 4 + 1) 0) 0) ≡ false = rw (sym q) (sym g ∙ h) in
+      let w : is-fitting A (a .typing) (named-type R S at) ≡ false = rw (sym q) (sym g ∙ h) in
       rw (sym e ∙ f, ne-eqb _ _ z, lt-leb _ _ l, w) k
 
 pub many-refused : (at : ℕ) (t : Typing) (a : Answer) (b : Bool) → b ≡ is-refusal (a .typing) → b ≡ true
@@ -273,10 +273,11 @@ module _ (R T C : List ℕ) (at φ : ℕ) (t : Typing) (c : ℕ) (q : t ≡ Clas
   unfolding got got-classes found-answer noted
   got-missing r m h = (rw (q, sym e, m) h, rw (q, sym e, m))
 
-  pub got-found : (n : ℕ) (u : Typing) → s ≡ Found (record { number = n }) → u ≡ case-of-number n
-      → (answer u φ ≡ got R T at t φ) × (set C at c ≡ got-classes R T C at t)
+  pub got-found : (C′ : List ℕ) (n : ℕ) (u : Typing) → s ≡ Found (record { number = n })
+      → u ≡ case-of-number n → C′ ≡ set C at c
+      → (answer u φ ≡ got R T at t φ) × (C′ ≡ got-classes R T C at t)
   unfolding got got-classes found-answer noted
-  got-found n u m h = (rw (q, sym e, m) (ap (λ (x : Typing). answer x φ) h), rw (q, sym e, m))
+  got-found C′ n u m h g = (rw (q, sym e, m) (ap (λ (x : Typing). answer x φ) h), rw (q, sym e, m) g)
 
 -- a root or state class
 module _ (T : List ℕ) (c : ℕ) where

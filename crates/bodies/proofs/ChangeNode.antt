@@ -15,7 +15,7 @@ use Rattle.language.specs.Frames.{at-slot}
 use Rattle.language.specs.Tree.{DeclaredType, bool, class, type-number, known, change, Class}
 use Rattle.language.specs.World.{is-declared-type}
 use Rattle.language.specs.Effects.{effect-of}
-use Rattle.language.specs.Program.{world}
+use Rattle.language.specs.Program.{world, world-with}
 use Rattle.language.specs.Environment.{Slot, Environment, with-type}
 use Rattle.language.specs.Typing.{can-change, apply-slot, apply-all}
 use Rattle.language.specs.Typing.{after-change}
@@ -23,8 +23,8 @@ use Rattle.language.specs.Encoded.{RowAt}
 use Rattle.language.proofs.Lines.{le-or-less}
 use Rattle.bodies.specs.declared.Answer.{Answer}
 use Rattle.bodies.specs.declared.Typing.the-variants.{Class as class-case}
-use Rattle.bodies.specs.Answers.{answer, is-refusal, numbers}
-use Rattle.bodies.specs.Tables.{Headed, root-in, applied-number}
+use Rattle.bodies.specs.Answers.{answer, is-refusal, numbers, slot-number, current-in, with-current}
+use Rattle.bodies.specs.Tables.{Headed, root-in, applied-slot}
 use Rattle.bodies.specs.Nodes.{refusal}
 use Rattle.bodies.specs.Acts.{PreChange, PostChange, changed-answer, number-after}
 use Rattle.bodies.specs.Cycle.{Views, Is}
@@ -33,30 +33,36 @@ use Rattle.bodies.proofs.Turns.{declared-known, class-low, low-class, i
 use Rattle.bodies.proofs.TypeNumbers.{not-absent, root-is, can-change-is}
 use Rattle.bodies.proofs.Environments.{fine-with, getD-map, numbers-with, at-map}
 use Rattle.bodies.proofs.Slots.{views-of, views-fine, views-long, views-at, slot-some, slot-none}
-use Rattle.bodies.proofs.Slots.{known-slots, numbers-applied, fine-applied}
+use Rattle.bodies.proofs.Slots.{known-slots, numbers-applied, fine-applied, whole-some}
+use Rattle.bodies.proofs.Slots.{with-type-number}
 use Rattle.bodies.proofs.NodeTyping.{change-no-name, change-no-slot, change-bool-slot, change-cannot}
 use Rattle.bodies.proofs.NodeTyping.{change-can, looks-change}
 
-module _ {P : List Class} {R T A : List ℕ} {count : ℕ} (h : Headed P R T A count) where
+module _ {P : List Class} {R E T A M F : List ℕ} {count : ℕ} (h : Headed P R E T A M F count) where
   module _ (S : List ℕ) (k d at scope : ℕ) where
     answer-no-name : leb d (world P .count) ≡ false → changed-answer T S count at scope k d ≡ refusal 4 at
-    unfolding changed-answer world
+    unfolding changed-answer world world-with
     answer-no-name e = rw (lt-ltb count d (omega (arith, leb-false d (length P) e, h .classes .counted)))
 
-    answer-no-slot : d ≤ count → (k < scope → getD S k 0 ≡ 65535)
+    answer-no-slot : d ≤ count → (k < scope → current-in (getD S k 0) ≡ 65535)
         → changed-answer T S count at scope k d ≡ refusal 7 at
     unfolding changed-answer
     answer-no-slot l f = ⊎-elim
         (λ (m : scope ≤ k). rw (le-ltb count d l, le-leb scope k m))
-        (λ (m : k < scope). rw (le-ltb count d l, lt-leb scope k m, eq-eqb (getD S k 0) 65535 (f m)))
+        (λ (m : k < scope). rw (
+          le-ltb count d l,
+          lt-leb scope k m,
+          eq-eqb (current-in (getD S k 0)) 65535
+              (f m),
+        ))
         (le-or-less scope k)
 
-    answer-bool : d ≤ count → k < scope → getD S k 0 ≡ 255
+    answer-bool : d ≤ count → k < scope → current-in (getD S k 0) ≡ 255
         → changed-answer T S count at scope k d ≡ refusal 11 at
     unfolding changed-answer
     answer-bool l m e = rw (le-ltb count d l, lt-leb scope k m, e)
 
-    module _ (c : ℕ) (l : d ≤ count) (m : k < scope) (e : getD S k 0 ≡ c) (lc : c ≤ count) where
+    module _ (c : ℕ) (l : d ≤ count) (m : k < scope) (e : current-in (getD S k 0) ≡ c) (lc : c ≤ count) where
       answer-cannot : can-change (world P) c d ≡ false → changed-answer T S count at scope k d ≡ refusal 11 at
       unfolding changed-answer
       answer-cannot f = rw (
@@ -89,37 +95,52 @@ module _ {P : List Class} {R T A : List ℕ} {count : ℕ} (h : Headed P R T A c
   change-views k d scope γ S S′ s es v l ld el f =
       views-of (world P) (after-change (world P) γ k s d) S′ scope
       (fine-with (world P) k (with-type (class d) s) (fine-applied h φ (views-fine (world P) v))
-      (low-class d h ld))
+      (low-class d h ld, v .declared k s es))
       (omega (arith, l, el))
-      (ap length list ∙ (length-set (map (applied-number T φ) (numbers γ)) k d ∙
-      (length-map (numbers γ) (applied-number T φ) ∙ views-long v l)))
+      (ap length list ∙ (length-set (map (applied-slot T φ) (numbers γ)) k changed ∙
+      (length-map (numbers γ) (applied-slot T φ) ∙ views-long v l)))
       (λ i m. f i m ∙ (pick i m (eqb i k) refl ∙ sym (ap (λ (x : List ℕ). getD x i 0) list)))
     where
       φ : ℕ
       φ = effect-of (world P .root d)
 
-      list : numbers (after-change (world P) γ k s d) ≡ replaced (map (applied-number T φ) (numbers γ)) k d
+      changed : ℕ
+      changed = slot-number (with-type (class d) s)
+
+      list : numbers (after-change (world P) γ k s d)
+          ≡ replaced (map (applied-slot T φ) (numbers γ)) k changed
       list =
           numbers-with (apply-all (world P) φ γ) k (with-type (class d) s) (apply-slot (world P) φ s)
           (at-map (apply-slot (world P) φ) γ k s es)
-          ∙ ap (λ (x : List ℕ). replaced x k d) (numbers-applied h φ (views-fine (world P) v))
+          ∙ ap (λ (x : List ℕ). replaced x k changed) (numbers-applied h φ (views-fine (world P) v))
+
+      -- what the slot has is its number with the target's class
+      whole : with-current (getD S k 0) d ≡ changed
+      whole = ap (λ (x : ℕ). with-current x d) (whole-some v l k s es .1)
+          ∙ sym (with-type-number h s (v .current k s es) (class d) (low-class d h ld))
 
       pick : (i : ℕ) → i < scope → (b : Bool) → eqb i k ≡ b
-          → cond (eqb i k) d (applied-number T (effect-of (root-in T d)) (getD S i 0))
-          ≡ getD (replaced (map (applied-number T φ) (numbers γ)) k d) i 0
+          → cond (eqb i k) (with-current (getD S i 0) d)
+          (applied-slot T (effect-of (root-in T d)) (getD S i 0))
+          ≡ getD (replaced (map (applied-slot T φ) (numbers γ)) k changed) i 0
       pick i m true e =
           let q : i ≡ k = eqb-true i k e in
-          ap (λ (b : Bool). cond b d (applied-number T (effect-of (root-in T d)) (getD S i 0))) e
-          ∙ (sym (getD-set-same (map (applied-number T φ) (numbers γ)) k d 0
-          (omega (arith, q, m, length-map (numbers γ) (applied-number T φ), views-long v l)))
-          ∙ ap (λ (x : ℕ). getD (replaced (map (applied-number T φ) (numbers γ)) k d) x 0) (sym q))
+          ap (λ (b : Bool). cond b (with-current (getD S i 0) d)
+          (applied-slot T (effect-of (root-in T d)) (getD S i 0))) e
+          ∙ (ap (λ (x : ℕ). with-current (getD S x 0) d) q
+          ∙ (whole
+          ∙ (sym (getD-set-same (map (applied-slot T φ) (numbers γ)) k changed 0
+          (omega (arith, q, m, length-map (numbers γ) (applied-slot T φ), views-long v l)))
+          ∙ ap (λ (x : ℕ). getD (replaced (map (applied-slot T φ) (numbers γ)) k changed) x 0) (sym q))))
       pick i m false e =
-          ap (λ (b : Bool). cond b d (applied-number T (effect-of (root-in T d)) (getD S i 0))) e
-          ∙ (ap₂ (λ (x : ℕ) (y : ℕ). applied-number T (effect-of x) y) (root-is h d ld) (views-at v l i m)
-          ∙ (sym (getD-map (applied-number T φ) (numbers γ) i (omega (arith, m, views-long v l)))
-          ∙ sym (getD-set-other (map (applied-number T φ) (numbers γ)) k i d 0 (eqb-false i k e))))
+          ap (λ (b : Bool). cond b (with-current (getD S i 0) d)
+          (applied-slot T (effect-of (root-in T d)) (getD S i 0))) e
+          ∙ (ap₂ (λ (x : ℕ) (y : ℕ). applied-slot T (effect-of x) y) (root-is h d ld) (views-at v l i m)
+          ∙ (sym (getD-map (applied-slot T φ) (numbers γ) i (omega (arith, m, views-long v l)))
+          ∙ sym (getD-set-other (map (applied-slot T φ) (numbers γ)) k i changed 0 (eqb-false i k e))))
 
-module _ {P : List Class} {R T A : List ℕ} {count : ℕ} (h : Headed P R T A count) (short : length R ≤ 240000)
+module _ {P : List Class} {R E T A M F : List ℕ} {count : ℕ} (h : Headed P R E T A M F count)
+    (short : length R ≤ 240000)
   where
     pub pre-change : (k d at scope : ℕ) (γ : Environment) (S : List ℕ) → RowAt R at R-change k d
         → Views (world P) γ S scope
@@ -148,12 +169,12 @@ module _ {P : List Class} {R T A : List ℕ} {count : ℕ} (h : Headed P R T A c
             → can-change (world P) c d ≡ b → Is (world P) (change k d) γ at scope S′ C r
         by-change ld s es el c ec lc false f =
             is-refused 11 (at + 1) (change-cannot (world P) k d (at + 1) γ s c el es ec f)
-            (p .out ∙ here ∙ answer-cannot h S k d at scope c ld (slot-some v l k s es .0)
-            (slot-some v l k s es .1 ∙ ap type-number ec) lc f)
+            (p .out ∙ here ∙ answer-cannot h S k d at scope c ld (slot-some h v l k s es .0)
+            (slot-some h v l k s es .1 ∙ ap type-number ec) lc f)
         by-change ld s es el c ec lc true f =
             let o : r ≡ answer (class-case d) (effect-of (world P .root d)) =
-            p .out ∙ here ∙ answer-change h S k d at scope c ld (slot-some v l k s es .0)
-            (slot-some v l k s es .1 ∙ ap type-number ec) lc f in
+            p .out ∙ here ∙ answer-change h S k d at scope c ld (slot-some h v l k s es .0)
+            (slot-some h v l k s es .1 ∙ ap type-number ec) lc f in
             is-accepted (record {
               type = known (class d);
               slots = after-change (world P) γ k s d;
@@ -173,11 +194,11 @@ module _ {P : List Class} {R T A : List ℕ} {count : ℕ} (h : Headed P R T A c
             → Is (world P) (change k d) γ at scope S′ C r
         by-type ld s es el bool ec =
             is-refused 11 (at + 1) (change-bool-slot (world P) k d (at + 1) γ s el es ec)
-            (p .out ∙ here ∙ answer-bool h S k d at scope ld (slot-some v l k s es .0)
-            (slot-some v l k s es .1 ∙ ap type-number ec))
+            (p .out ∙ here ∙ answer-bool h S k d at scope ld (slot-some h v l k s es .0)
+            (slot-some h v l k s es .1 ∙ ap type-number ec))
         by-type ld s es el (class c) ec =
             by-change ld s es el c ec
-            (class-low c h (ap (is-declared-type (world P)) (sym ec) ∙ v .declared k s es))
+            (class-low c h (ap (is-declared-type (world P)) (sym ec) ∙ v .current k s es))
             (can-change (world P) c d) refl
 
         by-slot : d ≤ count → leb d (world P .count) ≡ true → (o : Option Slot) → at-slot γ k ≡ o

@@ -11,14 +11,14 @@ use Rattle.language.specs.Lists.{Never, inj}
 use Rattle.language.specs.Tree.{bool, class, ExprType, known, null-type, Expr, choose, size, Class}
 use Rattle.language.specs.Effects.{join}
 use Rattle.language.specs.Program.{world}
-use Rattle.language.specs.Environment.{Environment}
-use Rattle.language.specs.Typing.{Typed, not-bool, join-types, join-environments, type-of}
+use Rattle.language.specs.Environment.{Environment, Slot}
+use Rattle.language.specs.Typing.{Typed, not-bool, join-types, join-environments, type-of, join-slot}
 use Rattle.language.specs.LookupClasses.{LooksUp}
 use Rattle.bodies.specs.declared.Answer.{Answer}
 use Rattle.bodies.specs.declared.Typing.{Typing}
 use Rattle.bodies.specs.declared.Typing.the-variants.{Class as class-case, Refusal}
-use Rattle.bodies.specs.Answers.{answer, typing-case, is-refusal}
-use Rattle.bodies.specs.Tables.{Headed, joined-number, Known}
+use Rattle.bodies.specs.Answers.{answer, typing-case, is-refusal, current-in, slot-of, with-current}
+use Rattle.bodies.specs.Tables.{Headed, joined-number, Known, joined-slot}
 use Rattle.bodies.specs.Nodes.{refusal, joined-case, BothClasses}
 use Rattle.bodies.specs.Acts.{joined-answer, chosen, PreChoice, PostChoice}
 use Rattle.bodies.specs.Cycle.{Views, Declared, Is}
@@ -30,6 +30,11 @@ use Rattle.bodies.proofs.Environments.{fine-join, numbers-length, has, 
 use Rattle.bodies.proofs.Slots.{views-of, views-fine, views-long, views-at, known-slots}
 use Rattle.bodies.proofs.ThisKept.{this-kept}
 use Rattle.bodies.proofs.NodeTyping.{choose-not, choose-apart, choose-done, choose-looks}
+use Rattle.bodies.specs.Answers.{declared-in, absent, slot-number}
+use Rattle.language.specs.World.{is-declared-type}
+use Rattle.bodies.proofs.Slots.{with-type-number, current-is}
+use Rattle.language.specs.Typing.{join-currents}
+use Rattle.language.specs.Typing.{join-currents}
 
 chosen-not : (T A : List ℕ) (at φ : ℕ) (t : ExprType) (u v : Typing) → not-bool t ≡ true
     → chosen T A at (typing-case t) φ u v ≡ refusal 9 at
@@ -59,7 +64,7 @@ abbrev joined-result : Option ExprType → Typing
 joined-result none = Refusal 9 0
 joined-result (some t) = typing-case t
 
-module _ {P : List Class} {R T A : List ℕ} {count : ℕ} (h : Headed P R T A count) where
+module _ {P : List Class} {R E T A M F : List ℕ} {count : ℕ} (h : Headed P R E T A M F count) where
   joined-is : (t u : ExprType) → Declared (world P) t → Declared (world P) u
       → joined-case T A (typing-case t) (typing-case u) ≡ joined-result (join-types (world P) t u)
   unfolding joined-case
@@ -104,31 +109,42 @@ module _ {P : List Class} {R T A : List ℕ} {count : ℕ} (h : Headed P R T A c
   joined-declared null-type (known (class k)) v d e q = subst (Declared (world P)) (inj q) e
   joined-declared null-type null-type v d e q = subst (Declared (world P)) (inj q) d
 
-  joined-absent : joined-number T A 65535 65535 ≡ 65535
-  unfolding joined-number
+  joined-absent : joined-slot T A (slot-of absent absent) (slot-of absent absent) ≡ slot-of absent absent
+  unfolding joined-slot joined-number slot-of current-in with-current declared-in
   joined-absent = refl
+
+  joined-slots-number : (s u : Slot) → is-declared-type (world P) (s .current) ≡ true
+      → is-declared-type (world P) (u .current) ≡ true
+      → slot-number (join-slot (world P) s u) ≡ joined-slot T A (slot-number s) (slot-number u)
+  unfolding joined-slot
+  joined-slots-number s u d e =
+      with-type-number h s d (join-currents (world P) (s .current) (u .current))
+      (join-declared h (s .current) (u .current) d e)
+      ∙ ap (with-current (slot-number s)) (joined-numbers h (s .current) (u .current) d e
+      ∙ ap₂ (joined-number T A) (current-is h s d) (current-is h u e))
 
   join-views : (b c : Environment) (S₁ S S′ : List ℕ) (scope top : ℕ) → Views (world P) b S₁ scope
       → scope ≤ length S₁ → Views (world P) c S scope → scope ≤ length S
       → length S′ ≡ length S → has (b .this) ≡ has (c .this)
       → ((k : ℕ) → k < scope → getD S (top + k) 0 ≡ getD S₁ k 0)
-      → ((k : ℕ) → k < scope → getD S′ k 0 ≡ joined-number T A (getD S (top + k) 0) (getD S k 0))
+      → ((k : ℕ) → k < scope → getD S′ k 0 ≡ joined-slot T A (getD S (top + k) 0) (getD S k 0))
       → Views (world P) (join-environments (world P) b c) S′ scope
   join-views b c S₁ S S′ scope top v₁ l₁ v l el t sv f =
       let e₁ : suc (length (b .slots)) ≡ scope = sym (numbers-length b) ∙ views-long v₁ l₁ in
       let e₂ : suc (length (c .slots)) ≡ scope = sym (numbers-length c) ∙ views-long v l in
-      let w = numbers-join (world P) (joined-number T A) joined-absent
-      (λ s u d e. joined-numbers h (s .current) (u .current) d e)
+      let w = numbers-join (world P) (joined-slot T A) joined-absent
+      (λ s u d e. joined-slots-number s u (d .0) (e .0))
       (views-fine (world P) v₁) (views-fine (world P) v) (omega arith) t in
       views-of (world P) (join-environments (world P) b c) S′ scope
-      (fine-join (world P) (λ s u d e. join-declared h (s .current) (u .current) d e)
+      (fine-join (world P) (λ s u d e. (join-declared h (s .current) (u .current) (d .0) (e .0), d .1))
       (views-fine (world P) v₁) (views-fine (world P) v))
       (omega (arith, l, el))
       (w .0 ∙ e₁)
-      (λ k m. f k m ∙ (ap₂ (joined-number T A) (sv k m ∙ views-at v₁ l₁ k m) (views-at v l k m) ∙ sym
+      (λ k m. f k m ∙ (ap₂ (joined-slot T A) (sv k m ∙ views-at v₁ l₁ k m) (views-at v l k m) ∙ sym
       (w .1 k (omega (arith, e₁, m)))))
 
-module _ {P : List Class} {R T A : List ℕ} {count : ℕ} (h : Headed P R T A count) (short : length R ≤ 240000)
+module _ {P : List Class} {R E T A M F : List ℕ} {count : ℕ} (h : Headed P R E T A M F count)
+    (short : length R ≤ 240000)
   where
     -- J: S has the slots after the second arm, and from `top` on those after the first, S₁.
     pub pre-choice : (at scope top : ℕ) (b c : Typed) (S₁ S : List ℕ) (y z : Answer) → at * 4 + 3 < length R
@@ -149,7 +165,7 @@ module _ {P : List Class} {R T A : List ℕ} {count : ℕ} (h : Headed P R T A c
             apart = l;
             room = lt;
             slots = known-slots h v (omega (arith, l, lt));
-            saved = λ k m. subst (Known count) (sym (sv k m)) (known-slots h v₁ l₁ k m);
+            saved = λ k m. subst (Known count) (ap current-in (sym (sv k m))) (known-slots h v₁ l₁ k m);
           };
         }))
 

@@ -24,7 +24,7 @@ or-bits (suc (suc x)) y z p q r = absurd (omega arith)
 same-halves : (x y : ℕ) → x / 2 ≡ y / 2 → x % 2 ≡ y % 2 → x ≡ y
 same-halves x y p q = omega arith
 
-pub or-assoc : (a b c : ℕ) → bitOr (bitOr a b) c ≡ bitOr a (bitOr b c)
+or-assoc : (a b c : ℕ) → bitOr (bitOr a b) c ≡ bitOr a (bitOr b c)
 or-assoc = bin-ind (λ (n : ℕ). (b c : ℕ) → bitOr (bitOr n b) c ≡ bitOr n (bitOr b c)) (λ b c. refl)
     (λ n ih b c. same-halves (bitOr (bitOr n b) c) (bitOr n (bitOr b c))
     (or-shr (bitOr n b) c 1 ∙ ap (λ (z : ℕ). bitOr z (c / 2)) (or-shr n b 1) ∙ ih (b / 2) (c / 2)
@@ -53,6 +53,9 @@ apply-none W (known (class c)) = rw (member-none (W .root c))
 apply-none W null-type = refl
 
 -- the code's union is the definition's
-pub join-or : (t : Typing) (a b : ℕ) → answer t (bitOr a b) ≡ answer t (join a b)
+pub or-join : (a b : ℕ) → bitOr a b ≡ join a b
 unfolding join
-join-or t a b = refl
+or-join a b = refl
+
+pub join-or : (t : Typing) (a b : ℕ) → answer t (bitOr a b) ≡ answer t (join a b)
+join-or t a b = ap (answer t) (or-join a b)

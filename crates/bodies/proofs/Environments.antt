@@ -13,15 +13,12 @@ use Rattle.language.specs.World.{World, is-declared-type}
 use Rattle.language.specs.Environment.{Slot, Environment, fresh-slot}
 use Rattle.language.specs.Typing.{join-slot, join-slots, join-this}
 use Rattle.language.specs.Typing.{join-environments}
-use Rattle.bodies.specs.Answers.{numbers, this-number, absent}
+use Rattle.bodies.specs.Answers.{numbers, slot-number, this-number, slot-of, absent}
 
-abbrev pub number : Slot → ℕ
-number s = type-number (s .current)
-
--- every slot's current type is declared
+-- both types of every slot are declared
 module _ (W : World) where
   abbrev pub Good : Slot → Type 0
-  Good s = is-declared-type W (s .current) ≡ true
+  Good s = (is-declared-type W (s .current) ≡ true) × (is-declared-type W (s .declared) ≡ true)
 
   unfoldable pub AllGood : List Slot → Type 0
   AllGood [] = Unit {0}
@@ -134,15 +131,17 @@ module _ (W : World) where
         }
 
 -- numbers of an environment with all slots changed
-list-map : (W : World) (f : Slot → Slot) (g : ℕ → ℕ) → ((s : Slot) → Good W s → number (f s) ≡ g (number s))
+list-map : (W : World) (f : Slot → Slot) (g : ℕ → ℕ)
+    → ((s : Slot) → Good W s → slot-number (f s) ≡ g (slot-number s))
     → (l : List Slot) → AllGood W l
-    → map number (map f l) ≡ map g (map number l)
+    → map slot-number (map f l) ≡ map g (map slot-number l)
 unfolding AllGood
 list-map W f g k [] h = refl
 list-map W f g k (s ∷ l) h = ap₂ (λ (x : ℕ) (xs : List ℕ). x ∷ xs) (k s (h .0)) (list-map W f g k l (h .1))
 
-pub numbers-map : (W : World) (f : Slot → Slot) (g : ℕ → ℕ) → g absent ≡ absent
-    → ((s : Slot) → Good W s → number (f s) ≡ g (number s))
+pub numbers-map : (W : World) (f : Slot → Slot) (g : ℕ → ℕ)
+    → g (slot-of absent absent) ≡ slot-of absent absent
+    → ((s : Slot) → Good W s → slot-number (f s) ≡ g (slot-number s))
     → {γ : Environment} → Fine W γ → numbers (map-frame f γ) ≡ map g (numbers γ)
 unfolding numbers
 numbers-map W f g z k {γ} h =
@@ -159,16 +158,16 @@ getD-map g (x ∷ l) (suc i) h = getD-map g l i (omega arith)
 
 -- with one slot changed
 list-set : (l : List Slot) (k : ℕ) (s : Slot)
-    → map number (replaced l k s) ≡ replaced (map number l) k (number s)
+    → map slot-number (replaced l k s) ≡ replaced (map slot-number l) k (slot-number s)
 list-set [] k s = refl
 list-set (x ∷ l) zero s = refl
-list-set (x ∷ l) (suc k) s = ap (λ (r : List ℕ). number x ∷ r) (list-set l k s)
+list-set (x ∷ l) (suc k) s = ap (λ (r : List ℕ). slot-number x ∷ r) (list-set l k s)
 
 pub numbers-with : (γ : Environment) (k : ℕ) (s t : Slot) → at-slot γ k ≡ some t
-    → numbers (with-slot γ k s) ≡ replaced (numbers γ) k (number s)
+    → numbers (with-slot γ k s) ≡ replaced (numbers γ) k (slot-number s)
 unfolding numbers
 numbers-with γ zero s t e =
-    ap (λ (o : Option Slot). this-number (map-option (λ b. s) o) ∷ map number (γ .slots)) e
+    ap (λ (o : Option Slot). this-number (map-option (λ b. s) o) ∷ map slot-number (γ .slots)) e
 numbers-with γ (suc k) s t e = ap (λ (r : List ℕ). this-number (γ .this) ∷ r) (list-set (γ .slots) k s)
 
 pub at-map : (f : Slot → Slot) (γ : Environment) (k : ℕ) (s : Slot) → at-slot γ k ≡ some s
@@ -177,26 +176,37 @@ at-map f γ zero s e = ap (map-option f) e
 at-map f γ (suc k) s e = Rattle.language.specs.Lists.nth-map f k (γ .slots) s e
 
 -- opened and closed
-list-append : (l m : List Slot) → map number (l ++ m) ≡ map number l ++ map number m
+list-append : (l m : List Slot) → map slot-number (l ++ m) ≡ map slot-number l ++ map slot-number m
 list-append [] m = refl
-list-append (x ∷ l) m = ap (λ (r : List ℕ). number x ∷ r) (list-append l m)
+list-append (x ∷ l) m = ap (λ (r : List ℕ). slot-number x ∷ r) (list-append l m)
 
-pub list-fresh : (ts : List DeclaredType) → map number (map fresh-slot ts) ≡ map type-number ts
+-- the slot-number of a fresh slot
+abbrev pub fresh-number : DeclaredType → ℕ
+fresh-number t = slot-of (type-number t) (type-number t)
+
+pub list-fresh : (ts : List DeclaredType) → map slot-number (map fresh-slot ts) ≡ map fresh-number ts
 list-fresh [] = refl
-list-fresh (t ∷ ts) = ap (λ (r : List ℕ). type-number t ∷ r) (list-fresh ts)
+list-fresh (t ∷ ts) = ap (λ (r : List ℕ). fresh-number t ∷ r) (list-fresh ts)
+
+pub fresh-good : (W : World) (ts : List DeclaredType)
+    → ((i : ℕ) (t : DeclaredType) → nth ts i ≡ some t → is-declared-type W t ≡ true)
+    → AllGood W (map fresh-slot ts)
+unfolding AllGood nth
+fresh-good W [] f = tt
+fresh-good W (t ∷ ts) f = ((f 0 t refl, f 0 t refl), fresh-good W ts (λ i u e. f (suc i) u e))
 
 pub numbers-opened : (γ : Environment) (ts : List DeclaredType)
-    → numbers (opened γ (map fresh-slot ts)) ≡ numbers γ ++ map type-number ts
+    → numbers (opened γ (map fresh-slot ts)) ≡ numbers γ ++ map fresh-number ts
 unfolding numbers
 numbers-opened γ ts =
     ap (λ (r : List ℕ). this-number (γ .this) ∷ r)
     (list-append (γ .slots) (map fresh-slot ts)
-    ∙ ap (λ (r : List ℕ). map number (γ .slots) ++ r) (list-fresh ts))
+    ∙ ap (λ (r : List ℕ). map slot-number (γ .slots) ++ r) (list-fresh ts))
 
-list-take : (n : ℕ) (l : List Slot) → map number (take n l) ≡ take n (map number l)
+list-take : (n : ℕ) (l : List Slot) → map slot-number (take n l) ≡ take n (map slot-number l)
 list-take zero l = refl
 list-take (suc n) [] = refl
-list-take (suc n) (x ∷ l) = ap (λ (r : List ℕ). number x ∷ r) (list-take n l)
+list-take (suc n) (x ∷ l) = ap (λ (r : List ℕ). slot-number x ∷ r) (list-take n l)
 
 pub numbers-closed : (n : ℕ) (γ : Environment) → numbers (closed n γ) ≡ take (suc n) (numbers γ)
 unfolding numbers
@@ -204,7 +214,7 @@ numbers-closed n γ = ap (λ (r : List ℕ). this-number (γ .this) ∷ r) (list
 
 pub numbers-length : (γ : Environment) → length (numbers γ) ≡ suc (length (γ .slots))
 unfolding numbers
-numbers-length γ = ap suc (length-map (γ .slots) number)
+numbers-length γ = ap suc (length-map (γ .slots) slot-number)
 
 -- whether there is a `this`
 abbrev pub has : Option Slot → Bool
@@ -212,10 +222,13 @@ has none = false
 has (some s) = true
 
 -- joined
-module _ (W : World) (g : ℕ → ℕ → ℕ) (z : g absent absent ≡ absent)
-    (k : (s t : Slot) → Good W s → Good W t → number (join-slot W s t) ≡ g (number s) (number t)) where
+module _ (W : World) (g : ℕ → ℕ → ℕ)
+    (z : g (slot-of absent absent) (slot-of absent absent) ≡ slot-of absent absent)
+    (k : (s t : Slot) → Good W s → Good W t
+    → slot-number (join-slot W s t) ≡ g (slot-number s) (slot-number t)) where
   list-join : (l m : List Slot) → AllGood W l → AllGood W m → length l ≡ length m → (i : ℕ) → i < length l
-      → getD (map number (join-slots W l m)) i 0 ≡ g (getD (map number l) i 0) (getD (map number m) i 0)
+      → getD (map slot-number (join-slots W l m)) i 0
+      ≡ g (getD (map slot-number l) i 0) (getD (map slot-number m) i 0)
   unfolding AllGood join-slots
   list-join [] m p q e i h = absurd (omega arith)
   list-join (s ∷ l) [] p q e i h = absurd (omega arith)
@@ -235,7 +248,8 @@ module _ (W : World) (g : ℕ → ℕ → ℕ) (z : g absent absent ≡ absent)
       → getD (numbers (join-environments W γ δ)) i 0 ≡ g (getD (numbers γ) i 0) (getD (numbers δ) i 0))
   unfolding numbers
   numbers-join {γ} {δ} p q e t = (
-    ap suc (length-map (join-slots W (γ .slots) (δ .slots)) number ∙ join-length (γ .slots) (δ .slots) e),
+    ap suc (length-map (join-slots W (γ .slots) (δ .slots)) slot-number
+        ∙ join-length (γ .slots) (δ .slots) e),
     λ i. go i,
   )
     where

@@ -31,7 +31,8 @@ place-in f i (x ∷ fs) e = go (eqb (x .name) f) (place f fs) refl e (λ j q. pl
     go false none q e rec = absurd (Never e)
     go false (some j) q e rec = let z : suc j ≡ i = inj e in rw (← z) (rec j q)
 
-module _ {P : List Class} {R T A : List ℕ} {count : ℕ} (h : Headed P R T A count) (c f : ℕ) (l : c ≤ count)
+module _ {P : List Class} {R E T A M F : List ℕ} {count : ℕ} (h : Headed P R E T A M F count) (c f : ℕ)
+    (l : c ≤ count)
     (m : f < 256) where
   place-is : field-place T c f ≡ stored-place (place f (world P .fields c))
   place-is = h .classes .tables .places c f (omega (arith, l, h .classes .counted)) m

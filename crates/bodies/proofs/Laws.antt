@@ -1,5 +1,5 @@
 -- Laws of the numbers that the functions over tables give. Assumes nothing.
-use mathlib.Core.Path.{_≡_, refl, sym, ap, subst, _∙_}
+use mathlib.Core.Path.{_≡_, refl, sym, subst, _∙_, ap₂, ap}
 use mathlib.Core.Bool.{Bool, true, false, not, false≢true}
 use mathlib.Core.Logic.{⊎-elim}
 use mathlib.Core.List.{List}
@@ -10,16 +10,16 @@ use lib.Dec.{eqb}
 use lib.ListN.{length, getD, set, length-set}
 use lib.Seq.{getD-set-same, getD-set-other}
 use Rattle.language.specs.Effects.{member}
-use Rattle.language.specs.Layout.{Run}
 use Rattle.classes.specs.Subclasses.{is-below}
 use Rattle.language.proofs.Lines.{less-or-same}
 use Rattle.bodies.specs.declared.Typing.{Typing}
 use Rattle.bodies.specs.declared.Typing.the-variants.{Bool as bool-case, Class, Null, Refusal}
-use Rattle.bodies.specs.Tables.{PreNearest, Applicable, CaseIn, root-in, applied}
-use Rattle.bodies.specs.Tables.{is-fitting}
+use Rattle.bodies.specs.Tables.{PreNearest, Applicable, CaseIn, root-in, applied, joined-slot}
+use Rattle.bodies.specs.Tables.{is-fitting, applied-slot}
 use Rattle.bodies.specs.Tables.{nearest-from, applied-number, joined-number, Known, a-class, a-bool}
 use Rattle.bodies.specs.Tables.{an-absence}
 use Rattle.bodies.specs.Tables.{Changed, Saved, Swapped, PreNumbers, PreJoin}
+use Rattle.bodies.specs.Answers.{current-in, with-current}
 
 pub applied-yes : (T : List ℕ) (φ k root : ℕ) (b : Bool) → root ≡ root-in T k → b ≡ member φ root → b ≡ true
     → root ≡ applied T φ k
@@ -90,17 +90,6 @@ going-step {T} {A} {c} {d} {k} p g b e f s q =
       low = omega
           (arith, g .low);
     }
-
--- rows of one letter
-pub run-more : {R : List ℕ} {letter from n : ℕ} → Run R letter from n → (i : ℕ) → i ≤ n
-    → getD R ((from + i) * 4) 0 ≡ letter → i < n
-run-more {R} {letter} {from} {n} r i l e =
-    ⊎-elim (λ h. h) (λ h. absurd (r .other (ap (λ (k : ℕ). getD R ((from + k) * 4) 0) (sym h) ∙ e)))
-    (less-or-same i n l)
-
-pub run-done : {R : List ℕ} {letter from n : ℕ} → Run R letter from n → (i : ℕ) → i ≤ n
-    → (getD R ((from + i) * 4) 0 ≡ letter → ⊥) → i ≡ n
-run-done {n = n} r i l e = ⊎-elim (λ h. absurd (e (r .each i h))) (λ h. h) (less-or-same i n l)
 
 pub not-yes : (b : Bool) → not b ≡ true → b ≡ false
 not-yes true e = sym e
@@ -253,25 +242,38 @@ pub fit-class-other : (A : List ℕ) (t : Typing) (c n : ℕ) (b : Bool) → t �
 unfolding is-fitting
 fit-class-other A t c n b q f e = rw (q, ne-eqb n 255 f) e
 
+pub known-same : {count a b : ℕ} → a ≡ b → Known count b → Known count a
+known-same e h = rw e h
+
 pub applicable-same : (T : List ℕ) (a b : ℕ) → a ≡ b → Applicable T b → Applicable T a
 applicable-same T a b e h = rw e h
 
 pub numbers-same : {T A S S′ : List ℕ} {n top i : ℕ} {f : ℕ → ℕ} → PreJoin T A S n top → Changed S S′ i f
-    → i < n
-    → PreNumbers T A (getD S′ (top + i) 0) (getD S′ i 0)
-numbers-same {T} {A} {S} {S′} {n} {top} {i} p c l = record {
+    → i < n → (a b : ℕ) → a ≡ current-in (getD S′ (top + i) 0) → b ≡ current-in (getD S′ i 0)
+    → PreNumbers T A a b
+numbers-same {T} {A} {S} {S′} {n} {top} {i} p c l a b ea eb = record {
   count = p .count;
   sound = p .sound;
-  first = rw (c .rest (top + i) (omega (arith, p .apart))) (p .saved i l);
-  second = rw (c .rest i (omega arith)) (p .slots i l);
+  first = rw (ea, c .rest (top + i) (omega (arith, p .apart))) (p .saved i l);
+  second = rw (eb, c .rest i (omega arith)) (p .slots i l);
 }
 
+pub applied-same : (T : List ℕ) (φ : ℕ) {v a c n m : ℕ} → v ≡ with-current n a → a ≡ applied-number T φ c
+    → c ≡ current-in n → n ≡ m → v ≡ applied-slot T φ m
+unfolding applied-slot
+applied-same T φ ev ea ec e =
+    ev ∙ ap₂ with-current e (ea ∙ ap (applied-number T φ) (ec ∙ ap current-in e))
+
 pub joined-same : {T A S S′ : List ℕ} {n top i : ℕ} {f : ℕ → ℕ} → PreJoin T A S n top → Changed S S′ i f
-    → i < n
-    → joined-number T A (getD S′ (top + i) 0) (getD S′ i 0)
-    ≡ joined-number T A (getD S (top + i) 0) (getD S i 0)
-joined-same {T} {A} {S} {S′} {n} {top} {i} p c l =
-    rw (c .rest (top + i) (omega (arith, p .apart)), c .rest i (omega arith))
+    → i < n → (v a b j : ℕ) → a ≡ current-in (getD S′ (top + i) 0) → b ≡ current-in (getD S′ i 0)
+    → j ≡ joined-number T A a b → v ≡ with-current (getD S′ (top + i) 0) j
+    → v ≡ joined-slot T A (getD S (top + i) 0) (getD S i 0)
+unfolding joined-slot
+joined-same {T} {A} {S} {S′} {n} {top} {i} p c l v a b j ea eb ej ev =
+    let x = c .rest (top + i) (omega (arith, p .apart)) in
+    let y = c .rest i (omega arith) in
+    ev ∙ ap₂ with-current x
+    (ej ∙ ap₂ (joined-number T A) (ea ∙ ap current-in x) (eb ∙ ap current-in y))
 
 pub changed-end : {S S′ : List ℕ} {i : ℕ} {f : ℕ → ℕ} → Changed S S′ i f → (n : ℕ) → i ≤ n → n ≤ i
     → Changed S S′ n f

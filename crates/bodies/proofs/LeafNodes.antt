@@ -13,8 +13,8 @@ use Rattle.language.specs.Frames.{at-slot}
 use Rattle.language.specs.Tree.{class, known, type-number, Class, literal, literal-true, literal-false}
 use Rattle.language.specs.Tree.{literal-null}
 use Rattle.language.specs.Tree.{slot, new}
-use Rattle.language.specs.World.{World, is-declared}
-use Rattle.language.specs.Program.{world}
+use Rattle.language.specs.World.{World}
+use Rattle.language.specs.Program.{world, world-with}
 use Rattle.language.specs.Environment.{Slot, Environment}
 use Rattle.language.specs.Typing.{Typed, typed, type-of}
 use Rattle.language.specs.LookupClasses.{LooksUp}
@@ -24,7 +24,7 @@ use Rattle.bodies.specs.declared.Typing.{Typing}
 use Rattle.bodies.specs.declared.Typing.the-variants.{Bool as bool-case, Null}
 use Rattle.bodies.specs.Answers.{answer, answer-of, case-of-number}
 use Rattle.bodies.specs.Tables.{Headed}
-use Rattle.bodies.specs.Nodes.{refusal, created, slot-read}
+use Rattle.bodies.specs.Nodes.{refusal, created, slot-read, named-type}
 use Rattle.bodies.specs.Cycle.{Views, Accepted, Is}
 use Rattle.bodies.proofs.Lists.{declared-test}
 use Rattle.bodies.proofs.Cases.{read-out, read-absent, read-there}
@@ -49,18 +49,18 @@ module _ (W : World) {γ : Environment} {at scope : ℕ} {S C : List ℕ} (v : V
 
 -- ---- I, W
 
-new-is : (W : World) (R : List ℕ) (c at : ℕ) (γ : Environment) → getD R (at * 4 + 1) 0 ≡ c
-    → created R (W .count) at ≡ answer-of (type-of W (new c) (at + 1) γ)
-unfolding created type-of require
-new-is W R c at γ e = rw e (go (leb c (W .count)) refl)
+new-is : (P : List Class) (R : List ℕ) (c at : ℕ) (γ : Environment) → getD R (at * 4 + 1) 0 ≡ c
+    → created R (length P) at ≡ answer-of (type-of (world P) (new c) (at + 1) γ)
+unfolding created type-of require world world-with
+new-is P R c at γ e = rw e (go (leb c (length P)) refl)
   where
-    go : (b : Bool) → leb c (W .count) ≡ b
-        → cond (ltb (W .count) c) (answer-of (refuse 4 (at + 1))) (answer-of (typed (known (class c)) γ 0))
+    go : (b : Bool) → leb c (length P) ≡ b
+        → cond (ltb (length P) c) (answer-of (refuse 4 (at + 1))) (answer-of (typed (known (class c)) γ 0))
         ≡ answer-of (require b 4 (at + 1) λ _. typed (known (class c)) γ 0)
-    go true f = rw (declared-test c (W .count) true f)
-    go false f = rw (declared-test c (W .count) false f)
+    go true f = rw (declared-test c (length P) true f)
+    go false f = rw (declared-test c (length P) false f)
 
-module _ {P : List Class} {R T A : List ℕ} {count : ℕ} (h : Headed P R T A count) where
+module _ {P : List Class} {R E T A M F : List ℕ} {count : ℕ} (h : Headed P R E T A M F count) where
   slot-reads : {γ : Environment} {S : List ℕ} {scope : ℕ} (k at : ℕ) → Views (world P) γ S scope
       → scope ≤ length S → getD R (at * 4 + 1) 0 ≡ k
       → slot-read R S at scope
@@ -72,13 +72,14 @@ module _ {P : List Class} {R T A : List ℕ} {count : ℕ} (h : Headed P R T A c
           → slot-read R S at scope ≡ answer-of (need-checked o 7 (at + 1) λ s. typed (known (s .current)) γ 0)
       go none q = ⊎-elim
           (λ m. sym (read-out R S at scope (refusal 7 at) (rw e m) refl))
-          (λ m. sym (read-absent R S at scope (refusal 7 at) (rw e m) (rw e (slot-none v l k q m .1)) refl))
+          (λ m. sym (read-absent R S at scope (refusal 7 at) (rw e m) _ refl (rw e (slot-none v l k q m .1))
+          refl))
           (le-or-less scope k)
       go (some s) q =
-          let w = slot-some v l k s q in
-          let t = type-number-case (s .current) h (v .declared k s q) in
-          let n : getD S (getD R (at * 4 + 1) 0) 0 ≡ type-number (s .current) = rw e (w .1) in
-          sym (read-there R S at scope _ (rw e (w .0)) (λ z. t .1 (sym n ∙ z)) refl)
+          let w = slot-some h v l k s q in
+          let t = type-number-case (s .current) h (v .current k s q) in
+          let n : named-type R S at ≡ type-number (s .current) = rw e (w .1) in
+          sym (read-there R S at scope _ (rw e (w .0)) _ refl (λ z. t .1 (sym n ∙ z)) refl)
           ∙ ap (λ (x : Typing). answer x 0) (ap case-of-number n ∙ t .0)
 
   pub slot-is : {γ : Environment} {S C : List ℕ} {scope : ℕ} (k at : ℕ) (r : Answer)
@@ -89,16 +90,16 @@ module _ {P : List Class} {R T A : List ℕ} {count : ℕ} (h : Headed P R T A c
     out = f ∙ slot-reads k at v l e;
     accepted = λ a q. need-checked-inv (at-slot γ k) 7 (at + 1) _ q λ s p w.
         subst (λ (x : Typed). Accepted (world P) (slot k) γ at scope S C x) (accept-injective w)
-        (record { views = v; declared = declared-known (s .current) (v .declared k s p); looks = tt });
+        (record { views = v; declared = declared-known (s .current) (v .current k s p); looks = tt });
   }
 
   pub new-node-is : {γ : Environment} {S C : List ℕ} {scope : ℕ} (c at : ℕ) (r : Answer)
       → Views (world P) γ S scope → getD R (at * 4 + 1) 0 ≡ c
       → r ≡ created R count at → Is (world P) (new c) γ at scope S C r
-  unfolding type-of LooksUp world
+  unfolding type-of LooksUp world world-with
   new-node-is {γ} {S} {C} {scope} c at r v e f = record {
-    out = f ∙ (ap (λ (n : ℕ). created R n at) (sym (h .classes .counted)) ∙ new-is (world P) R c at γ e);
-    accepted = λ a q. require-inv (is-declared (world P) c) 4 (at + 1) _ q λ d w.
+    out = f ∙ (ap (λ (n : ℕ). created R n at) (sym (h .classes .counted)) ∙ new-is P R c at γ e);
+    accepted = λ a q. require-inv (world P .makes c) 4 (at + 1) _ q λ d w.
         subst (λ (x : Typed). Accepted (world P) (new c) γ at scope S C x) (accept-injective w)
         (record { views = v; declared = declared-known (class c) d; looks = tt });
   }

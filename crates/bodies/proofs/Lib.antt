@@ -1,4 +1,5 @@
 pub mod Lists
+pub mod Halves
 pub mod EffectLaws
 pub mod Laws
 pub mod Cases
@@ -7,7 +8,7 @@ pub mod ActLaws
 pub mod WholeLaws
 pub mod Worlds
 pub mod Typings
-pub mod HeadingLines
+pub mod TypeLines
 pub mod TurnsLetters
 pub mod Turns
 pub mod TypeNumbers
@@ -22,8 +23,12 @@ pub mod ChangeNode
 pub mod SetNode
 pub mod ChooseNode
 pub mod BlockNode
+pub mod Forms
+pub mod Placed
+pub mod Within
 pub mod MethodFound
 pub mod CallNode
+pub mod Waiting
 pub mod TurnsNodes
 pub mod TurnsUnary
 pub mod TurnsLists
@@ -33,8 +38,6 @@ pub mod TurnsWrites
 pub mod TurnsArms
 pub mod TurnsBlocks
 pub mod TurnsCalls
-pub mod Forms
 pub mod Starts
 pub mod Methods
-pub mod Walk
 pub mod Passes

@@ -1,19 +1,15 @@
--- Laws of P, X and V lines read one by one: the effect they name, arguments against their types, locals.
+-- Laws of P and V lines read one by one: arguments against their types, locals.
 -- Assumes nothing.
 use mathlib.Core.Path.{_≡_, refl, sym, ap, ap₂, _∙_}
 use mathlib.Core.Bool.{Bool, true, false, _&&_, cond, false≢true}
 use mathlib.Core.Logic.{⊎-elim}
-use mathlib.Core.List.{List, [], _∷_}
+use mathlib.Core.List.{List}
 use Prim.Native.Nat.{ℕ, suc, _+_, _-_, _*_, _≤_, _<_}
 use native.Mathlib.Omega.{arith}
 use borrow.Author.Tests.{eq-eqb, ne-eqb}
-use lib.Bits.{bitOr, or-zero-r}
 use lib.Dec.{leb}
 use lib.ListN.{length, getD, set, length-set}
 use lib.Seq.{getD-set-same, getD-set-other}
-use Rattle.language.specs.Effects.{effect-of, effect-of-all, join}
-use Rattle.language.specs.WellFormed.{Each, each-cons}
-use Rattle.language.specs.Encoded.{LinesAt}
 use Rattle.language.proofs.Lines.{less-or-same}
 use Rattle.bodies.specs.declared.Typing.{Typing}
 use Rattle.bodies.specs.declared.Typing.the-variants.{Null}
@@ -21,58 +17,8 @@ use Rattle.bodies.specs.declared.Answer.{Answer}
 use Rattle.bodies.specs.Answers.{answer, case-of-number, is-refusal}
 use Rattle.bodies.specs.Tables.{is-fitting, CaseIn}
 use Rattle.bodies.specs.Nodes.{refusal}
-use Rattle.bodies.specs.Acts.{EffectLines, stored-case, all-fitting, names-type, opening, PostOpen}
-use Rattle.bodies.proofs.EffectLaws.{or-assoc}
-
--- X lines: what is left of them at row i
-pub record EffectLeft (R : List ℕ) (i φ whole : ℕ) : Type 0 where
-  pub rest : List ℕ
-  pub lines : EffectLines R i rest
-  pub same : bitOr φ (effect-of-all rest) ≡ whole
-
-pub effect-start : {R : List ℕ} {from : ℕ} (cs : List ℕ) → EffectLines R from cs
-    → EffectLeft R from 0 (effect-of-all cs)
-effect-start cs l = record { rest = cs; lines = l; same = refl }
-
-pub effect-inside : {R : List ℕ} {i φ whole : ℕ} → EffectLeft R i φ whole → i * 4 + 3 < length R
-effect-inside l = omega (arith, l .lines .inside)
-
-pub effect-step : {R : List ℕ} {i φ whole : ℕ} → EffectLeft R i φ whole → getD R (i * 4) 0 ≡ 88
-    → (getD R (i * 4 + 1) 0 ≤ 64)
-    × ((ψ : ℕ) → ψ ≡ effect-of (getD R (i * 4 + 1) 0) → EffectLeft R (i + 1) (bitOr φ ψ) whole)
-unfolding LinesAt effect-of-all join
-effect-step {R} {i} {φ} {whole} l e = go (l .rest) (l .lines) (l .lines .low) (l .same)
-  where
-    go : (cs : List ℕ) → EffectLines R i cs → Each (λ c. c ≤ 64) cs → bitOr φ (effect-of-all cs) ≡ whole
-        → (getD R (i * 4 + 1) 0 ≤ 64)
-        × ((ψ : ℕ) → ψ ≡ effect-of (getD R (i * 4 + 1) 0) → EffectLeft R (i + 1) (bitOr φ ψ) whole)
-    go [] m k s = let q : (i + 0) * 4 ≡ i * 4 = omega arith in
-        absurd (m .other (ap (λ (k : ℕ). getD R k 0) q ∙ e))
-    go (c ∷ cs) m (each-cons k ks) s =
-        let f : getD R (i * 4 + 1) 0 ≡ c = m .lines .0 .first in (
-          omega (arith, f, k),
-          λ ψ g. record {
-            rest = cs;
-            lines = record {
-              lines = m .lines .1;
-              low = ks;
-              inside = omega (arith, m .inside);
-              other = λ x. let q : (i + suc (length cs)) * 4 ≡ (i + 1 + length cs) * 4 = omega arith in
-                  m .other (ap (λ (k : ℕ). getD R k 0) q ∙ x);
-            };
-            same = or-assoc φ ψ (effect-of-all cs)
-                ∙ ap (λ (x : ℕ). bitOr φ (bitOr x (effect-of-all cs))) (g ∙ ap effect-of f) ∙ s;
-          },
-        )
-
-pub effect-end : {R : List ℕ} {i φ whole : ℕ} → EffectLeft R i φ whole → (getD R (i * 4) 0 ≡ 88 → ⊥)
-    → φ ≡ whole
-unfolding LinesAt effect-of-all
-effect-end {R} {i} {φ} {whole} l e = go (l .rest) (l .lines) (l .same)
-  where
-    go : (cs : List ℕ) → EffectLines R i cs → bitOr φ (effect-of-all cs) ≡ whole → φ ≡ whole
-    go [] m s = sym (or-zero-r φ) ∙ s
-    go (c ∷ cs) m s = absurd (e (m .lines .0 .letter))
+use Rattle.bodies.specs.Acts.{stored-case, all-fitting, names-type, opening, PostOpen}
+use Rattle.bodies.specs.Answers.{fresh-in}
 
 -- a stored argument
 pub stored-null : (n : ℕ) → n ≡ 65535 → Null ≡ stored-case n
@@ -147,7 +93,7 @@ pub record OpenLeft (R S S′ : List ℕ) (count at scope v i : ℕ) : Type 0 wh
   pub long : length S′ ≡ length S
   pub below : (k : ℕ) → k < scope → getD S′ k 0 ≡ getD S k 0
   pub after : (k : ℕ) → scope + i ≤ k → getD S′ k 0 ≡ getD S k 0
-  pub filled : (j : ℕ) → j < i → getD S′ (scope + j) 0 ≡ getD R ((at + 1 + j) * 4 + 1) 0
+  pub filled : (j : ℕ) → j < i → getD S′ (scope + j) 0 ≡ fresh-in (getD R ((at + 1 + j) * 4 + 1) 0)
 
 pub open-start : (R S : List ℕ) (count at scope v : ℕ) → OpenLeft R S S count at scope v 0
 open-start R S count at scope v = record {
@@ -173,21 +119,22 @@ module _ {R S S′ : List ℕ} {count at scope v i : ℕ} (h : OpenLeft R S S′
       ∙ ap (λ (x : Bool). cond x (opening R count (at + 1 + i + 1) (v - (i + 1))) (refusal 4 (at + 1 + i)))
       (sym (e ∙ ap (names-type count) en))
 
-  pub open-step : b ≡ true → scope + v ≤ length S
-      → OpenLeft R S (set S′ (scope + i) n) count at scope v (i + 1)
-  open-step f m = record {
+  pub open-step : b ≡ true → scope + v ≤ length S → (u : ℕ) → u ≡ fresh-in n
+      → OpenLeft R S (set S′ (scope + i) u) count at scope v (i + 1)
+  open-step f m u eu = record {
     few = omega arith;
     same =
         let q : at + 1 + i + 1 ≡ at + 1 + (i + 1) = omega arith in
         open-turn ∙ ap (λ (x : Bool). cond x (opening R count (at + 1 + i + 1) (v - (i + 1)))
         (refusal 4 (at + 1 + i))) f
         ∙ ap (λ (k : ℕ). opening R count k (v - (i + 1))) q;
-    long = length-set S′ (scope + i) n ∙ h .long;
-    below = λ k m. getD-set-other S′ (scope + i) k n 0 (λ q. omega arith) ∙ h .below k m;
-    after = λ k m. getD-set-other S′ (scope + i) k n 0 (λ q. omega arith) ∙ h .after k (omega arith);
+    long = length-set S′ (scope + i) u ∙ h .long;
+    below = λ k m. getD-set-other S′ (scope + i) k u 0 (λ q. omega arith) ∙ h .below k m;
+    after = λ k m. getD-set-other S′ (scope + i) k u 0 (λ q. omega arith) ∙ h .after k (omega arith);
     filled = λ j o. ⊎-elim
-        (λ (o : j < i). getD-set-other S′ (scope + i) (scope + j) n 0 (λ q. omega arith) ∙ h .filled j o)
-        (λ (q : j ≡ i). rw q (getD-set-same S′ (scope + i) n 0 (omega (arith, h .long)) ∙ en))
+        (λ (o : j < i). getD-set-other S′ (scope + i) (scope + j) u 0 (λ q. omega arith) ∙ h .filled j o)
+        (λ (q : j ≡ i). rw q (getD-set-same S′ (scope + i) u 0 (omega (arith, h .long)) ∙
+        (eu ∙ ap fresh-in en)))
         (less-or-same j i (omega arith));
   }
 

@@ -1,11 +1,12 @@
 -- Laws of lists and of tests that the laws of typing use. Assumes nothing.
-use mathlib.Core.Path.{_≡_, ap}
+use mathlib.Core.Path.{_≡_, refl, ap}
 use mathlib.Core.Option.{some}
 use mathlib.Core.List.{List, [], _∷_, map}
 use mathlib.Core.Bool.{Bool, true, false, cond}
-use Prim.Native.Nat.{ℕ, zero, suc}
+use Prim.Native.Nat.{ℕ, zero, suc, _≤_}
+use native.Mathlib.Omega.{arith}
 use borrow.Author.Tests.{leb-true, leb-false, le-ltb, lt-ltb}
-use lib.ListN.{getD}
+use lib.ListN.{length, getD, set as replaced}
 use lib.Dec.{leb, ltb}
 use Rattle.language.specs.Lists.{nth, Never, inj}
 
@@ -21,3 +22,9 @@ unfolding nth
 number-at f [] i x e = absurd (Never e)
 number-at f (y ∷ l) zero x e = ap f (inj e)
 number-at f (y ∷ l) (suc i) x e = number-at f l i x e
+
+-- A list stays as it is where a number past its end is replaced.
+pub replaced-past : (l : List ℕ) (i n : ℕ) → length l ≤ i → l ≡ replaced l i n
+replaced-past [] i n h = refl
+replaced-past (x ∷ l) zero n h = absurd (omega arith)
+replaced-past (x ∷ l) (suc i) n h = ap (λ (k : List ℕ). x ∷ k) (replaced-past l i n (omega arith))

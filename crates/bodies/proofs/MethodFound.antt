@@ -6,26 +6,30 @@ use mathlib.Core.List.{List, [], _∷_}
 use Prim.Native.Nat.{ℕ, zero, suc, _+_, _*_, _≤_, _<_}
 use native.Mathlib.Omega.{arith}
 use lib.ListN.{length, getD}
-use Rattle.language.specs.Lists.{nth, Never, inj, nth-some}
+use Rattle.language.specs.Lists.{nth, map-option, Never, inj, nth-some, nth-lt}
 use Rattle.language.specs.Rows.{P-parameter}
-use Rattle.language.specs.Tree.{DeclaredType, bool, class, ExprType, known, null-type, Class}
+use Rattle.language.specs.Tree.{DeclaredType, bool, class, ExprType, known, null-type, type-number, Class}
 use Rattle.language.specs.World.{Method, is-declared-type}
-use Rattle.language.specs.ClassTables.{stored-place, method-row}
+use Rattle.language.specs.ClassTables.{stored-place, method-number}
+use Rattle.language.specs.MethodTables.{PlacedMethod, placed-methods}
 use Rattle.language.specs.Program.{world}
 use Rattle.language.specs.Typing.{all-fit}
 use Rattle.language.specs.Encoded.{LinesAt, TypesAt}
-use Rattle.language.specs.Layout.{Run}
-use Rattle.language.proofs.Lines.{line-at, run-unique}
+use Rattle.language.proofs.Lines.{line-at}
+use Rattle.language.proofs.Methods.{method-found}
+use Rattle.language.proofs.Nodes.{head}
 use Rattle.bodies.specs.declared.Typing.{Typing}
 use Rattle.bodies.specs.Answers.{case-number, case-of-number, typing-case}
-use Rattle.bodies.specs.Tables.{Headed, HeadingAt, is-fitting}
-use Rattle.bodies.specs.Acts.{EffectLines, stored-case, all-fitting, method-place, PreMethod}
+use Rattle.bodies.specs.Tables.{Headed, is-fitting}
+use Rattle.bodies.specs.Acts.{stored-case, all-fitting, method-place, method-line, parameter-count}
+use Rattle.bodies.specs.Acts.{PreMethod}
 use Rattle.bodies.specs.Cycle.{Declared, stored}
-use Rattle.bodies.proofs.HeadingLines.{TypeAt, heading-run, heading-effects}
+use Rattle.bodies.proofs.TypeLines.{TypeAt}
 use Rattle.bodies.proofs.LineLaws.{case-same}
 use Rattle.bodies.proofs.Worlds.{not-255, fitting-is}
 use Rattle.bodies.proofs.Turns.{class-low, type-low, case-low}
 use Rattle.bodies.proofs.TypeNumbers.{type-number-case, not-absent}
+use Rattle.bodies.proofs.Placed.{Here, Declares, each-at, here, declares}
 
 stored-some : (o : Option ℕ) (r : ℕ) → stored-place o ≡ suc r → o ≡ some r
 stored-some none r e = absurd (omega (arith, e))
@@ -35,14 +39,14 @@ stored-none : (o : Option ℕ) → stored-place o ≡ 0 → o ≡ none
 stored-none none e = refl
 stored-none (some i) e = absurd (omega (arith, e))
 
-module _ {R : List ℕ} {r : ℕ} {M : Method} (g : HeadingAt R r M) where
-  pub parameters-run : Run R 80 (r + 1) (length (M .parameters))
-  parameters-run = heading-run R (M .parameters) (g .effects) r (g .parameter-rows) (g .effect-rows)
-      (g .body-row .within) (g .body-row .letter)
+of-number : (o : Option Method) (i : ℕ) → map-option (λ (N : Method). N .number) o ≡ some i
+    → (N : Method) × (o ≡ some N) × (N .number ≡ i)
+of-number none i e = absurd (Never e)
+of-number (some N) i e = (N, refl, inj e)
 
-  pub effects-lines : EffectLines R (r + 1 + length (M .parameters)) (g .effects)
-  effects-lines = heading-effects R (M .parameters) (g .effects) r (g .parameter-rows) (g .effect-rows)
-      (g .body-row .within) (g .body-row .letter) (g .effects-low)
+of-none : (o : Option Method) → map-option (λ (N : Method). N .number) o ≡ none → o ≡ none
+of-none none e = refl
+of-none (some N) e = absurd (Never (sym e))
 
 stored-at : (ts : List ExprType) (i : ℕ) (t : ExprType) → nth ts i ≡ some t
     → getD (stored ts) i 0 ≡ case-number (typing-case t)
@@ -51,7 +55,7 @@ stored-at [] i t e = absurd (Never e)
 stored-at (u ∷ ts) zero t e = ap (λ (x : ExprType). case-number (typing-case x)) (inj e)
 stored-at (u ∷ ts) (suc i) t e = stored-at ts i t e
 
-module _ {P : List Class} {R T A : List ℕ} {count : ℕ} (h : Headed P R T A count) where
+module _ {P : List Class} {R E T A M F : List ℕ} {count : ℕ} (h : Headed P R E T A M F count) where
   stored-is : (t : ExprType) → Declared (world P) t
       → stored-case (case-number (typing-case t)) ≡ typing-case t
   unfolding stored-case case-of-number
@@ -83,54 +87,99 @@ module _ {P : List Class} {R T A : List ℕ} {count : ℕ} (h : Headed P R T A c
       ∙ f (suc i) (omega arith))
       (n .1) (λ i v x. d (suc i) v x) (λ i v x. g (suc i) v x))
 
+  -- A method of the list, in rows, with its types declared.
+  pub method-here : (i : ℕ) (m : PlacedMethod) → nth (placed-methods P) i ≡ some m
+      → Here R E m × Declares P m
+  method-here i m e =
+      (each-at (here R E P (h .layout) (h .in-form)) i m e, each-at (declares P (h .passes)) i m e)
+
+  -- What the tables lead to under name m in class k: the method of number i.
+  pub record Called (k m i : ℕ) : Type 0 where
+    pub method : Method
+    pub found : world P .method k m ≡ some method
+    pub inside : i * 4 + 2 < length M
+    pub effect-inside : i < length F
+    pub line : method-line M i * 4 + 3 < length R
+    pub result-is : getD R (method-line M i * 4 + 1) 0 ≡ type-number (method .result)
+    pub counted : parameter-count M i ≡ length (method .parameters)
+    pub effect-is : getD F i 0 ≡ method .effect
+    pub lines : TypesAt P-parameter R (method .parameters) (method-line M i + 1)
+    pub after-lines : (method-line M i + 1 + length (method .parameters)) * 4 ≤ length R
+    pub result : is-declared-type (world P) (method .result) ≡ true
+    pub parameters : (j : ℕ) (t : DeclaredType) → nth (method .parameters) j ≡ some t
+        → is-declared-type (world P) t ≡ true
+
+  called : (k m i : ℕ) (N : Method) → world P .method k m ≡ some N → N .number ≡ i → Called k m i
+  called k m i N e n =
+      let f = method-found P k m N e in
+      let x = f .placed in
+      let there : nth (placed-methods P) i ≡ some x =
+      subst (λ (j : ℕ). nth (placed-methods P) j ≡ some x) n (f .there) in
+      let w = method-here i x there in
+      let row : method-line M i ≡ x .row = h .methods .rows i x there in
+      let same = ap length (f .parameters) in
+      let low = nth-lt (placed-methods P) i x there in
+      record {
+        method = N;
+        found = e;
+        inside = omega (arith, low, h .methods .long);
+        effect-inside = omega (arith, low, h .methods .long-effects);
+        line = omega (arith, row, w .0 .layout .line .within);
+        result-is = ap (λ (r : ℕ). getD R (r * 4 + 1) 0) row
+            ∙ (w .0 .layout .line .first ∙ ap type-number (sym (f .result)));
+        counted = h .methods .parameters i x there ∙ sym same;
+        effect-is = h .methods .effects i x there ∙ sym (f .effect);
+        lines = subst (λ (r : ℕ). TypesAt P-parameter R (N .parameters) (r + 1)) (sym row)
+            (subst (λ (ts : List DeclaredType). TypesAt P-parameter R ts (x .row + 1)) (sym (f .parameters))
+            (w .0 .layout .parameters));
+        after-lines = omega (arith, row, same, head (x .declaration .body) (w .0 .layout .body) .row);
+        result = subst (λ (t : DeclaredType). is-declared-type (world P) t ≡ true) (sym (f .result))
+            (w .1 .result);
+        parameters = λ j t q.
+            w .1 .parameters j t (sym (ap (λ (l : List DeclaredType). nth l j) (f .parameters))
+            ∙ q);
+      }
+
   module _ (k m : ℕ) (lk : k ≤ count) (lm : m < 256) where
-    method-is : method-place T k m ≡ stored-place (method-row P k m)
+    method-is : method-place T k m ≡ stored-place (method-number P k m)
     method-is = let q : k * 576 + (256 + m) ≡ k * 576 + 256 + m = omega arith in
         ap (λ (x : ℕ). getD T x 0) q ∙ h .classes .tables .methods k m (omega (arith, h .classes .counted)) lm
 
-    pub the-method : (r : ℕ) → method-place T k m ≡ suc r
-        → (M : Method) × (world P .method k m ≡ some M) × HeadingAt R r M
-        × (is-declared-type (world P) (M .result) ≡ true)
-        × ((i : ℕ) (t : DeclaredType) → nth (M .parameters) i ≡ some t → is-declared-type (world P) t ≡ true)
-    the-method r e = h .methods k m r lk (stored-some (method-row P k m) r (sym method-is ∙ e))
+    pub the-method : (i : ℕ) → method-place T k m ≡ suc i → Called k m i
+    unfolding method-number
+    the-method i e =
+        let w = of-number (world P .method k m) i (stored-some (method-number P k m) i (sym method-is ∙ e)) in
+        called k m i (w .0) (w .1) (w .2)
 
     pub not-there : method-place T k m ≡ 0 → world P .method k m ≡ none
-    not-there e = h .no-method k m lk (stored-none (method-row P k m) (sym method-is ∙ e))
+    unfolding method-number
+    not-there e = of-none (world P .method k m) (stored-none (method-number P k m) (sym method-is ∙ e))
 
-    pub few-there : (M : Method) → world P .method k m ≡ some M → length (M .parameters) ≤ 8
-    few-there M e = go (method-row P k m) refl
-      where
-        go : (o : Option ℕ) → method-row P k m ≡ o → length (M .parameters) ≤ 8
-        go none q = absurd (Never (sym (h .no-method k m lk q) ∙ e))
-        go (some r) q =
-            let w = h .methods k m r lk q in
-            let z : w .0 ≡ M = inj (sym (w .1) ∙ e) in
-            subst (λ (x : Method). length (x .parameters) ≤ 8) z (w .2 .few-parameters)
+    pub few-there : (N : Method) → world P .method k m ≡ some N → length (N .parameters) ≤ 8
+    few-there N e =
+        let f = method-found P k m N e in
+        let w = method-here (N .number) (f .placed) (f .there) in
+        omega (arith, ap length (f .parameters), w .0 .form .few)
 
-  pub pre-method : (S : List ℕ) (top n r : ℕ) (M : Method) (ts : List ExprType) → HeadingAt R r M
-      → length R ≤ 240000
-      → ((i : ℕ) (t : DeclaredType) → nth (M .parameters) i ≡ some t → is-declared-type (world P) t ≡ true)
+  pub pre-method : (S : List ℕ) (top n k m i : ℕ) (ts : List ExprType) → Called k m i
       → length ts ≡ n → top + n ≤ length S → ((i : ℕ) → i < n → getD S (top + i) 0 ≡ getD (stored ts) i 0)
-      → ((i : ℕ) (t : ExprType) → nth ts i ≡ some t → Declared (world P) t) → PreMethod R A S top n r
-  pre-method S top n r M ts g short pd en lt st td = record {
-    line = g .row .within;
-    parameters = record { n = length (M .parameters); run = parameters-run g };
-    fitting = λ run. let q : n ≡ length (M .parameters) = run-unique run (parameters-run g) in record {
+      → ((i : ℕ) (t : ExprType) → nth ts i ≡ some t → Declared (world P) t) → PreMethod R A M F S top n i
+  pre-method S top n k m i ts g en lt st td = record {
+    inside = g .inside;
+    effect = g .effect-inside;
+    line = g .line;
+    fitting = λ e. let q : n ≡ length (g .method .parameters) = sym e ∙ g .counted in record {
       slots = lt;
-      rows = omega (arith, run .inside);
+      rows = omega (arith, g .after-lines, q);
       values = λ i l.
           let t = nth-some ts i (omega (arith, en)) in
           case-same (length A) (stored-case (getD S (top + i) 0)) (typing-case (t .0))
           (ap stored-case (st i l ∙ stored-at ts i (t .0) (t .1)) ∙ stored-is (t .0) (td i (t .0) (t .1)))
           (case-low (t .0) h (td i (t .0) (t .1)));
-      types = λ i l ne.
-          let t = nth-some (M .parameters) i (omega (arith, q)) in
-          let z = line-at (TypeAt P-parameter R) (M .parameters) (r + 1) (g .parameter-rows) i (t .0)
-          (t .1) .first in
-          omega (arith, z, type-number-case (t .0) h (pd i (t .0) (t .1)) .2 (λ y. ne (z ∙ y)));
-    };
-    effects = λ run. let q : n ≡ length (M .parameters) = run-unique run (parameters-run g) in record {
-      classes = g .effects;
-      lines = subst (λ (x : ℕ). EffectLines R (r + 1 + x) (g .effects)) (sym q) (effects-lines g);
+      types = λ j l ne.
+          let t = nth-some (g .method .parameters) j (omega (arith, q)) in
+          let z = line-at (TypeAt P-parameter R) (g .method .parameters) (method-line M i + 1) (g .lines) j
+          (t .0) (t .1) .first in
+          omega (arith, z, type-number-case (t .0) h (g .parameters j (t .0) (t .1)) .2 (λ y. ne (z ∙ y)));
     };
   }

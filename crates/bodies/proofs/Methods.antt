@@ -1,6 +1,6 @@
 -- A method's verdict from what typing its body gives. Assumes nothing.
 use mathlib.Core.Path.{_≡_, refl, sym, ap, ap₂, subst, _∙_}
-use mathlib.Core.Bool.{Bool, true, false, false≢true}
+use mathlib.Core.Bool.{Bool, true, false}
 use mathlib.Core.Logic.{⊎-elim}
 use mathlib.Core.List.{List, [], _∷_}
 use Prim.Native.Nat.{ℕ, _+_, _*_, _≤_, _<_}
@@ -9,180 +9,193 @@ use borrow.Author.Tests.{eqb-false}
 use types.Run.{OneOf}
 use denote.Enum.Declared.{tagOf}
 use lib.ListN.{length, getD}
-use Rattle.language.specs.Results.{Checked, accept, refuse, Pass, passed, accept≢refuse, bind-checked}
-use Rattle.language.specs.Results.{require}
+use Rattle.language.specs.Lists.{nth-lt}
+use Rattle.language.specs.Results.{accept, refuse, Pass, passed, accept≢refuse, bind-checked, require}
 use Rattle.language.specs.Rows.{P-parameter}
-use Rattle.language.specs.Tree.{type-number, Declaration, heading-lines, Class, size}
+use Rattle.language.specs.Tree.{type-number, heading-lines, Class, size}
 use Rattle.language.specs.World.{World}
-use Rattle.language.specs.Effects.{within, effect-of-all}
-use Rattle.language.specs.Program.{world}
-use Rattle.language.specs.Environment.{Environment, method-environment}
+use Rattle.language.specs.Effects.{within}
+use Rattle.language.specs.Program.{world, world-with, effect-in}
 use Rattle.language.specs.Typing.{Typed, fits, type-of, type-method}
 use Rattle.language.specs.LookupClasses.{LooksUp}
-use Rattle.language.specs.Encoded.{Encoded}
-use Rattle.language.specs.Layout.{Run, body-row}
+use Rattle.language.specs.MethodTables.{PlacedMethod, placed-methods}
 use Rattle.language.proofs.Nodes.{head}
 use Rattle.bodies.proofs.Typing.{the-type}
 use Rattle.bodies.specs.declared.Typing.{Typing}
 use Rattle.bodies.specs.declared.Typing.the-variants.{Bool as bool-case, Class as class-case, Null}
 use Rattle.bodies.specs.declared.Typing.the-variants.{Refusal}
 use Rattle.bodies.specs.declared.Answer.{Answer}
+use Rattle.bodies.specs.declared.Scope.{Scope}
 use Rattle.bodies.specs.declared.Verdict.{Verdict}
 use Rattle.bodies.specs.declared.Verdict.the-variants.{Accepted, Refused}
-use Rattle.bodies.specs.Answers.{answer, answer-of, typing-case, verdict-of, is-refusal}
-use Rattle.bodies.specs.Tables.{Runs, CaseIn, is-fitting}
-use Rattle.bodies.specs.Acts.{EffectLines, SomeEffects, EffectOf, CountOf}
-use Rattle.bodies.specs.Cycle.{Limited, Views, Room, Pre, Post, Is, Declared}
-use Rattle.bodies.specs.Whole.{PreEnter, PostEnter, FirstBlock, SomeBlock, MethodFacts, Spacious}
-use Rattle.bodies.specs.Whole.{PostMethodBody}
+use Rattle.bodies.specs.Answers.{answer, typing-case, verdict-of, is-refusal, fresh-in}
+use Rattle.bodies.specs.Tables.{CaseIn, is-fitting}
+use Rattle.bodies.specs.Cycle.{Limited, Views, Pre, Post, Is, Declared, Accepted as Accepted-as}
+use Rattle.bodies.specs.Whole.{PreEnter, PostEnter, body-of, body-at, environment-of, type-numbered}
+use Rattle.bodies.specs.Whole.{MethodFacts, Spacious, PostMethodBody}
 use Rattle.bodies.proofs.Worlds.{fitting-is}
-use Rattle.bodies.proofs.Turns.{case-low, type-low, accepted-of, not-refused}
+use Rattle.bodies.proofs.Turns.{Given, pre-of, post-is, case-low, type-low, accepted-of, refused-of}
 use Rattle.bodies.proofs.TypeNumbers.{type-number-case}
-use Rattle.bodies.proofs.HeadingLines.{types-number, heading-run, heading-effects, heading-first}
-use Rattle.bodies.proofs.Starts.{method-views}
+use Rattle.bodies.proofs.TypeLines.{types-number}
+use Rattle.bodies.proofs.Placed.{Here, Declares, placed-effect}
+use Rattle.bodies.proofs.MethodFound.{method-here}
+use Rattle.bodies.proofs.Starts.{level-first, method-scope, method-views}
 
-module _ {R E T A : List ℕ} {count owner at : ℕ} {P : List Class} {m : Declaration}
-    (f : MethodFacts R E T A count owner at P m) where
-  inside : body-row at m * 4 + 3 < length R
-  inside = head (m .body) (f .layout .body) .row
+module _ {R E T A M F : List ℕ} {count width number depth : ℕ} {P : List Class} {m : PlacedMethod}
+    (f : MethodFacts R E T A M F count width number depth P m) where
+  here : Here R E m × Declares P m
+  here = method-here (f .headed) number m (f .there)
 
-  facts-run : Run R 80 (at + 1) (length (m .parameters))
-  facts-run = heading-run R (m .parameters) (m .effects) at (f .layout .parameters) (f .layout .effects)
-      inside
-      (f .block-line)
+  body-inside : body-at m * 4 + 3 < length R
+  body-inside = head (body-of m) (here .0 .layout .body) .row
 
-  pub facts-first : FirstBlock R at (body-row at m)
-  facts-first = heading-first R (m .parameters) (m .effects) at (f .layout .parameters) (f .layout .effects)
-      inside (f .block-line)
+  -- What the tables have under its number.
+  pub in-methods : number * 4 + 3 < length M
+  in-methods = omega (
+    arith,
+    nth-lt (placed-methods P) number m (f .there),
+    f .headed .methods .long,
+  )
 
-  facts-effects : EffectLines R (at + 1 + length (m .parameters)) (m .effects)
-  facts-effects = heading-effects R (m .parameters) (m .effects) at (f .layout .parameters)
-      (f .layout .effects) inside (f .block-line) (f .effects)
+  pub in-effects : number < length F
+  in-effects = omega (
+    arith,
+    nth-lt (placed-methods P) number m (f .there),
+    f .headed .methods .long-effects,
+  )
 
-  pub facts-runs : Runs R 80 (at + 1)
-  facts-runs = record { n = length (m .parameters); run = facts-run }
+  row-is : getD M (number * 4) 0 ≡ m .row
+  row-is = f .headed .methods .rows number m (f .there)
 
-  pub facts-block : SomeBlock R at
-  facts-block = record { row = body-row at m; first = facts-first }
+  owner-is : getD M (number * 4 + 1) 0 ≡ m .owner
+  owner-is = f .headed .methods .owners number m (f .there)
 
-  pub result-low : (u : ℕ) → u ≡ getD R (at * 4 + 1) 0 → (u ≡ 255 → ⊥) → u ≤ 64
+  parameters-are : getD M (number * 4 + 2) 0 ≡ length (m .declaration .parameters)
+  parameters-are = f .headed .methods .parameters number m (f .there)
+
+  body-is : getD M (number * 4 + 3) 0 ≡ body-at m
+  unfolding heading-lines
+  body-is = let q : m .row + (1 + length (m .declaration .parameters) + length (m .declaration .effects))
+      ≡ body-at m = omega arith in
+      f .headed .methods .bodies number m (f .there) ∙ q
+
+  pub effect-is : getD F number 0 ≡ world P .effect number
+  unfolding world world-with effect-in
+  effect-is = f .headed .methods .effects number m (f .there)
+      ∙ sym (placed-effect P number m (f .there))
+
+  pub result-low : (u : ℕ) → u ≡ getD R (getD M (number * 4) 0 * 4 + 1) 0 → (u ≡ 255 → ⊥) → u ≤ 64
   result-low u e k =
-      let z : u ≡ type-number (m .result) = e ∙ f .layout .line .first in
-      omega (arith, z, type-number-case (m .result) (f .headed) (f .result) .2 (λ y. k (z ∙ y)))
+      let z : u ≡ type-number (m .declaration .result) =
+      e ∙ (ap (λ (x : ℕ). getD R (x * 4 + 1) 0) row-is ∙ here .0 .layout .line .first) in
+      omega (
+        arith,
+        z,
+        type-number-case (m .declaration .result) (f .headed) (here .1 .result) .2 (λ y. k (z ∙ y)),
+      )
 
-  module _ {S C : List ℕ} (sp : Spacious R E S C) (n body : ℕ) (cn : CountOf R (at + 1) n)
-      (cb : (b : ℕ) → FirstBlock R at b → body ≡ b) where
-    en : n ≡ length (m .parameters)
-    en = cn (length (m .parameters)) facts-run
+  module _ {S : List ℕ} (sp : Spacious R S width depth) where
+    wide : width ≤ length S
+    wide = omega (arith, sp .slots, level-first width depth)
 
-    eb : body ≡ body-row at m
-    eb = cb (body-row at m) facts-first
-
-    pub facts-enter : PreEnter R S (at + 1) n
+    pub facts-enter : PreEnter R S (getD M (number * 4) 0 + 1) (getD M (number * 4 + 2) 0)
     facts-enter = record {
-      slots = omega (arith, en, f .few, sp .slots);
-      rows = omega
-          (arith, en, facts-first .inside);
+      slots = omega (arith, parameters-are, f .within-body .wide, wide);
+      rows = omega (arith, parameters-are, row-is, body-inside);
     }
 
-    pub facts-few : n ≤ 8
-    facts-few = omega (arith, en, f .few)
+    pub facts-few : getD M (number * 4 + 2) 0 ≤ 8
+    facts-few = omega (arith, parameters-are, here .0 .form .few)
 
-    pub facts-low : at < 60000
-    facts-low = omega (arith, sp .rows, facts-first .inside, facts-first .after)
+    pub facts-low : getD M (number * 4) 0 < 60000
+    facts-low = omega (arith, row-is, sp .rows, body-inside)
 
-    pub facts-line : at * 4 + 3 < length R
-    facts-line = omega (arith, facts-first .inside, facts-first .after)
+    pub facts-line : getD M (number * 4) 0 * 4 + 3 < length R
+    facts-line = omega (arith, row-is, body-inside)
 
-    pub facts-some : SomeEffects R (at + 1 + n)
-    facts-some = record {
-      classes = m .effects;
-      lines = subst
-          (λ (x : ℕ). EffectLines R (at + 1 + x) (m .effects)) (sym en) facts-effects;
-    }
+    abbrev scope-is : Scope
+    scope-is = method-scope count (getD M (number * 4 + 1) 0) (getD M (number * 4 + 2) 0) width
 
-    entered : {S₁ : List ℕ} → PostEnter R S S₁ owner (at + 1) n
-        → Views (world P) (method-environment owner (m .parameters)) S₁ (n + 1)
-    entered {S₁} p =
-        let q : 1 + length (m .parameters) ≡ n + 1 = omega (arith, en) in
-        subst (λ (x : ℕ). Views (world P) (method-environment owner (m .parameters)) S₁ x) q
-        (method-views P R T A count (f .headed) owner (f .owner-low) (m .parameters) (f .parameters) S₁
-        (omega (arith, p .long, f .few, sp .slots)) (p .this)
-        (λ i l. p .parameters i (omega (arith, en, l))
-        ∙ types-number P-parameter R (m .parameters) (at + 1) (f .layout .parameters) i l))
+    given-body : {S₁ C : List ℕ} → PostEnter R S S₁ (getD M (number * 4 + 1) 0) (getD M (number * 4) 0 + 1)
+        (getD M (number * 4 + 2) 0)
+        → Given R E T A M F S₁ C (getD M (number * 4 + 3) 0) scope-is P (body-of m)
+        (environment-of m) depth
+    given-body {S₁} p =
+        let n = length (m .declaration .parameters) in
+        let q : 1 + n ≡ getD M (number * 4 + 2) 0 + 1 = omega (arith, parameters-are) in
+        record {
+          headed = f .headed;
+          encoded = rw body-is (here .0 .layout .body);
+          limited = subst (λ (x : ℕ). Limited width (body-of m) x depth) q
+              (f .within-body .limited);
+          views = subst
+              (λ (x : ℕ). Views (world P) (environment-of m) S₁ x) q
+              (method-views (f .headed) (m .owner) (here .1 .owner) (m .declaration .parameters)
+              (here .1 .parameters) S₁ (omega (arith, p .long, f .within-body .wide, wide))
+              (p .this ∙ ap fresh-in owner-is)
+              (λ i l. p .parameters i (omega (arith, parameters-are, l))
+              ∙ ap fresh-in (ap (λ (x : ℕ). getD R ((x + 1 + i) * 4 + 1) 0) row-is
+              ∙ types-number P-parameter R (m .declaration .parameters) (m .row + 1)
+              (here .0 .layout .parameters) i l)));
+          room = record {
+            this = omega arith;
+            scoped = omega (arith, parameters-are, f .within-body .wide);
+            above = omega arith;
+            room = omega (arith, p .long, sp .slots, level-first width depth);
+            rows = sp .rows;
+          };
+        }
 
-    roomy : {S₁ : List ℕ} → length S₁ ≡ length S → Room R E S₁ C (n + 1) 256 128
-    roomy e = record {
-      this = omega arith;
-      scoped = omega (arith, facts-few);
-      above = omega arith;
-      room = omega (arith, e, sp .slots);
-      rows = sp .rows;
-      nodes = sp .nodes;
-    }
+    pub facts-pre : {S₁ C : List ℕ} → PostEnter R S S₁ (getD M (number * 4 + 1) 0) (getD M (number * 4) 0 + 1)
+        (getD M (number * 4 + 2) 0)
+        → Pre R E T A M F S₁ C (getD M (number * 4 + 3) 0) scope-is
+    facts-pre p = pre-of (given-body p)
 
-    coded : Encoded R E (m .body) body
-    coded = subst (λ (x : ℕ). Encoded R E (m .body) x) (sym eb) (f .layout .body)
+    module _ {S₁ C S₂ C₂ : List ℕ} {r : Answer}
+        (p : PostEnter R S S₁ (getD M (number * 4 + 1) 0) (getD M (number * 4) 0 + 1)
+        (getD M (number * 4 + 2) 0))
+        (q : Post R E T A M F S₁ C S₂ C₂ (getD M (number * 4 + 3) 0) scope-is r) where
+      facts-is : Is (world P) (body-of m)
+          (environment-of m) (body-at m)
+          (getD M (number * 4 + 2) 0 + 1) S₂ C₂ r
+      facts-is = subst (λ (x : ℕ). Is (world P) (body-of m)
+          (environment-of m) x (getD M (number * 4 + 2) 0 + 1)
+          S₂ C₂ r) body-is (post-is q (given-body p))
 
-    limits : Limited (m .body) (n + 1) 128
-    limits = let q : 1 + length (m .parameters) ≡ n + 1 = omega (arith, en) in
-        subst (λ (x : ℕ). Limited (m .body) x 128) q (f .limited)
-
-    pub facts-pre : {S₁ : List ℕ} → PostEnter R S S₁ owner (at + 1) n
-        → Pre R E T A S₁ C count body (n + 1) 256
-    facts-pre p = record {
-      P = P;
-      e = m .body;
-      γ = method-environment owner (m .parameters);
-      d = 128;
-      headed = f .headed;
-      encoded = coded;
-      limited = limits;
-      views = entered p;
-      room = roomy (p .long);
-    }
-
-    facts-is : {S₁ S₂ C₂ : List ℕ} {r : Answer} → PostEnter R S S₁ owner (at + 1) n
-        → Post R E T A S₁ C S₂ C₂ count body (n + 1) 256 r
-        → Is (world P) (m .body) (method-environment owner (m .parameters)) (body-row at m) (n + 1) S₂ C₂ r
-    facts-is {S₁} {S₂} {C₂} {r} p q =
-        subst (λ (x : ℕ). Is (world P) (m .body) (method-environment owner (m .parameters)) x (n + 1) S₂ C₂ r)
-        eb
-        (q .is P (m .body) (method-environment owner (m .parameters)) 128 (f .headed) coded limits (entered p)
-        (roomy (p .long)))
-
-    facts-end : getD E body 0 ≡ body-row at m + size (m .body)
-    facts-end = ap (λ (x : ℕ). getD E x 0) eb ∙ head (m .body) (f .layout .body) .end
-
-    facts-kept : {S₁ S₂ C₂ : List ℕ} {r : Answer} → Post R E T A S₁ C S₂ C₂ count body (n + 1) 256 r
-        → ((i : ℕ) → i < body-row at m → getD C₂ i 0 ≡ getD C i 0)
-        × ((i : ℕ) → body-row at m + size (m .body) ≤ i → getD C₂ i 0 ≡ getD C i 0)
-    facts-kept q = (
-      (λ i l. q .kept .before i (omega (arith, eb, l))),
-      λ i l. q .kept .after i
-          (omega (arith, facts-end, l)),
-    )
+      facts-kept : ((i : ℕ) → i < body-at m → getD C₂ i 0 ≡ getD C i 0)
+          × ((i : ℕ) → body-at m + size (body-of m) ≤ i
+          → getD C₂ i 0 ≡ getD C i 0)
+      facts-kept =
+          let e : getD E (getD M (number * 4 + 3) 0) 0
+          ≡ body-at m + size (body-of m) =
+          ap (λ (x : ℕ). getD E x 0) body-is ∙ head (body-of m) (here .0 .layout .body) .end in (
+            (λ i l. q .kept .before i (omega (arith, body-is, l))),
+            λ i l. q .kept .after i (omega (arith, e, l)),
+          )
 
 -- What typing the body leaves.
-pub record BodyTyped (R E T A S C S₂ C₂ : List ℕ) (count owner at : ℕ) (r : Answer) : Type 0 where
+pub record BodyTyped (R E T A M F S C S₂ C₂ : List ℕ) (count width number : ℕ) (r : Answer) : Type 0 where
   pub scope : ℕ
   pub slots-long : length S₂ ≡ length S
   pub classes-long : length C₂ ≡ length C
-  pub is : (P : List Class) (m : Declaration) → MethodFacts R E T A count owner at P m → Spacious R E S C
-      → Is (world P) (m .body) (method-environment owner (m .parameters)) (body-row at m) scope S₂ C₂ r
-      × (((i : ℕ) → i < body-row at m → getD C₂ i 0 ≡ getD C i 0)
-      × ((i : ℕ) → body-row at m + size (m .body) ≤ i → getD C₂ i 0 ≡ getD C i 0))
+  pub is : (P : List Class) (m : PlacedMethod) (depth : ℕ)
+      → MethodFacts R E T A M F count width number depth P m → Spacious R S width depth
+      → Is (world P) (body-of m) (environment-of m)
+      (body-at m) scope S₂ C₂ r
+      × (((i : ℕ) → i < body-at m → getD C₂ i 0 ≡ getD C i 0)
+      × ((i : ℕ) → body-at m + size (body-of m) ≤ i
+      → getD C₂ i 0 ≡ getD C i 0))
 
-pub body-typed : {R E T A S C S₁ S₂ C₂ : List ℕ} {count owner at : ℕ} {r : Answer} (n body : ℕ)
-    → CountOf R (at + 1) n
-    → ((b : ℕ) → FirstBlock R at b → body ≡ b) → PostEnter R S S₁ owner (at + 1) n
-    → Post R E T A S₁ C S₂ C₂ count body (n + 1) 256 r
-    → BodyTyped R E T A S C S₂ C₂ count owner at r
-body-typed n body cn cb p q = record {
-  scope = n + 1;
+pub body-typed : {R E T A M F S C S₁ S₂ C₂ : List ℕ} {count width number : ℕ} {r : Answer}
+    → PostEnter R S S₁ (getD M (number * 4 + 1) 0) (getD M (number * 4) 0 + 1) (getD M (number * 4 + 2) 0)
+    → Post R E T A M F S₁ C S₂ C₂ (getD M (number * 4 + 3) 0)
+    (method-scope count (getD M (number * 4 + 1) 0) (getD M (number * 4 + 2) 0) width) r
+    → BodyTyped R E T A M F S C S₂ C₂ count width number r
+body-typed {M = M} {number = number} p q = record {
+  scope = getD M (number * 4 + 2) 0 + 1;
   slots-long = q .kept .slots-long ∙ p .long;
   classes-long = q .kept .classes-long;
-  is = λ P m f sp. (facts-is f sp n body cn cb p q, facts-kept f sp n body cn cb q);
+  is = λ P m depth f sp. (facts-is f sp p q, facts-kept f sp p q);
 }
 
 -- not refused: accepted
@@ -195,146 +208,142 @@ not-refusal (Refusal n l) k =
     (λ m. ⊎-elim (λ e. eqb-false 3 1 refl e) (λ e. eqb-false 3 2 refl e) m) k)
 
 -- the definition, by cases
-module _ (W : World) (owner at : ℕ) (m : Declaration) where
-  abbrev γ : Environment
-  γ = method-environment owner (m .parameters)
-
-  line : at + 1 + heading-lines m ≡ body-row at m + 1
+module _ (W : World) (number : ℕ) (m : PlacedMethod) where
+  same-line : type-of W (body-of m) (m .row + 1 + heading-lines (m .declaration)) (environment-of m)
+      ≡ type-of W (body-of m) (body-at m + 1) (environment-of m)
   unfolding heading-lines
-  line = omega arith
+  same-line =
+      let q : m .row + 1 + (1 + length (m .declaration .parameters) + length (m .declaration .effects))
+      ≡ body-at m + 1 = omega arith in
+      ap (λ (x : ℕ). type-of W (body-of m) x (environment-of m)) q
 
-  same-line : type-of W (m .body) (at + 1 + heading-lines m) γ ≡ type-of W (m .body) (body-row at m + 1) γ
-  same-line = ap (λ (x : ℕ). type-of W (m .body) x γ) line
-
-  by-refusal : (n l : ℕ) → type-of W (m .body) (body-row at m + 1) γ ≡ refuse n l
-      → type-method W owner (at + 1) m ≡ refuse n l
+  by-refusal : (n l : ℕ) → type-of W (body-of m) (body-at m + 1) (environment-of m) ≡ refuse n l
+      → type-numbered W number m ≡ refuse n l
   unfolding type-method bind-checked
   by-refusal n l e = rw (same-line ∙ e)
 
-  module _ (a : Typed) (e : type-of W (m .body) (body-row at m + 1) γ ≡ accept a) where
-    by-type : fits W (a .type) (m .result) ≡ false → type-method W owner (at + 1) m ≡ refuse 9 (at + 1)
+  module _ (a : Typed) (e : type-of W (body-of m) (body-at m + 1) (environment-of m) ≡ accept a) where
+    by-type : fits W (a .type) (m .declaration .result) ≡ false
+        → type-numbered W number m ≡ refuse 9 (m .row + 1)
     unfolding type-method bind-checked require
     by-type f = rw (same-line ∙ e, f)
 
-    by-effect : fits W (a .type) (m .result) ≡ true → within (a .effect) (effect-of-all (m .effects)) ≡ false
-        → type-method W owner (at + 1) m ≡ refuse 10 (at + 1)
+    by-effect : fits W (a .type) (m .declaration .result) ≡ true
+        → within (a .effect) (W .effect number) ≡ false
+        → type-numbered W number m ≡ refuse 10 (m .row + 1)
     unfolding type-method bind-checked require
     by-effect f g = rw (same-line ∙ e, f, g)
 
-    by-both : fits W (a .type) (m .result) ≡ true → within (a .effect) (effect-of-all (m .effects)) ≡ true
-        → type-method W owner (at + 1) m ≡ passed
+    by-both : fits W (a .type) (m .declaration .result) ≡ true
+        → within (a .effect) (W .effect number) ≡ true → type-numbered W number m ≡ passed
     unfolding type-method bind-checked require
     by-both f g = rw (same-line ∙ e, f, g)
 
 pub not-passed : {X : Type 0} {q : Pass} (n k : ℕ) → q ≡ refuse n k → q ≡ passed → X
 not-passed n k e f = absurd (accept≢refuse n k (sym e ∙ f))
 
-module _ {R E T A S C S₂ C₂ : List ℕ} {count owner at : ℕ} {r : Answer}
-    (b : BodyTyped R E T A S C S₂ C₂ count owner at r) where
+module _ {R E T A M F S C S₂ C₂ : List ℕ} {count width number : ℕ} {r : Answer}
+    (b : BodyTyped R E T A M F S C S₂ C₂ count width number r) where
+  -- What is to be shown of the verdict.
+  abbrev Shown : Verdict → List Class → PlacedMethod → Type 0
+  Shown v P m = (v ≡ verdict-of (type-numbered (world P) number m))
+      × (type-numbered (world P) number m ≡ passed
+      → LooksUp (world P) C₂ (body-of m) (environment-of m) (body-at m))
+
   whole : (v : Verdict)
-      → ((P : List Class) (m : Declaration) → MethodFacts R E T A count owner at P m → Spacious R E S C
-      → (v ≡ verdict-of (type-method (world P) owner (at + 1) m))
-      × (type-method (world P) owner (at + 1) m ≡ passed
-      → LooksUp (world P) C₂ (m .body) (method-environment owner (m .parameters)) (body-row at m)))
-      → PostMethodBody R E T A S C S₂ C₂ count owner at v
+      → ((P : List Class) (m : PlacedMethod) (depth : ℕ)
+      → MethodFacts R E T A M F count width number depth P m → Spacious R S width depth → Shown v P m)
+      → PostMethodBody R E T A M F S C S₂ C₂ count width number v
   whole v k = record {
     slots-long = b .slots-long;
     classes-long = b .classes-long;
-    is = λ P m f sp. record {
-      out = k P m f sp .0;
-      before = b .is P m f sp .1 .0;
-      after = b .is P m f sp .1 .1;
-      looks = k P m f sp .1;
+    is = λ P m depth f sp. record {
+      out = k P m depth f sp .0;
+      before = b .is P m depth f sp .1 .0;
+      after = b .is P m depth f sp .1 .1;
+      looks = k P m depth f sp .1;
     };
   }
 
-  pub method-refused : (n l : ℕ) → r .typing ≡ Refusal n l
-      → PostMethodBody R E T A S C S₂ C₂ count owner at (Refused n l)
-  method-refused n l e = whole (Refused n l) λ P m f sp.
-      let i = b .is P m f sp .0 in
-      go P m (type-of (world P) (m .body) (body-row at m + 1) (method-environment owner (m .parameters))) refl
-      (i .out)
-    where
-      typing-not : (t : Typing) (u : ℕ) (k j : ℕ) → _≡_ {A = Answer} (answer (Refusal k j) 0) (answer t u)
-          → t ≡ Refusal n l → Refused n l ≡ Refused k j
-      typing-not t u k j q z = ap refusal-verdict (sym (ap (λ (x : Answer). x .typing) q ∙ z) ∙ refl)
-        where
-          refusal-verdict : Typing → Verdict
-          refusal-verdict bool-case = Accepted
-          refusal-verdict (class-case c) = Accepted
-          refusal-verdict Null = Accepted
-          refusal-verdict (Refusal x y) = Refused x y
+  -- A verdict that refuses.
+  shown-refused : (P : List Class) (m : PlacedMethod) (v : Verdict) (n l : ℕ)
+      → type-numbered (world P) number m ≡ refuse n l → v ≡ Refused n l → Shown v P m
+  shown-refused P m v n l e f = (f ∙ sym (ap verdict-of e), λ x. not-passed n l e x)
 
-      go : (P : List Class) (m : Declaration) (q : Checked Typed)
-          → type-of (world P) (m .body) (body-row at m + 1) (method-environment owner (m .parameters)) ≡ q
-          → r ≡ answer-of (type-of (world P) (m .body) (body-row at m + 1)
-          (method-environment owner (m .parameters)))
-          → (Refused n l ≡ verdict-of (type-method (world P) owner (at + 1) m))
-          × (type-method (world P) owner (at + 1) m ≡ passed
-          → LooksUp (world P) C₂ (m .body) (method-environment owner (m .parameters)) (body-row at m))
-      go P m (refuse k j) q o =
-          let w = by-refusal (world P) owner at m k j q in (
-            typing-not (r .typing) (r .effect) k j (sym (o ∙ ap answer-of q)) e ∙ sym (ap verdict-of w),
-            λ x.
-                not-passed _ _ w x,
-          )
-      go P m (accept a) q o =
-          absurd (false≢true (sym (not-refused (a .type)) ∙
-          (ap (λ (x : Answer). is-refusal (x .typing)) (sym (o ∙ ap answer-of q)) ∙ ap is-refusal e)))
+  pub method-refused : (n l : ℕ) → r .typing ≡ Refusal n l
+      → PostMethodBody R E T A M F S C S₂ C₂ count width number (Refused n l)
+  method-refused n l e = whole (Refused n l) λ P m depth f sp.
+      let i = b .is P m depth f sp .0 in
+      refused-of (type-of (world P) (body-of m) (body-at m + 1) (environment-of m)) (i .out)
+      (ap is-refusal e) λ k j q o.
+      shown-refused P m (Refused n l) k j (by-refusal (world P) number m k j q)
+      (ap refusal-verdict (sym e ∙ ap (λ (x : Answer). x .typing) o))
+    where
+      refusal-verdict : Typing → Verdict
+      refusal-verdict bool-case = Accepted
+      refusal-verdict (class-case c) = Accepted
+      refusal-verdict Null = Accepted
+      refusal-verdict (Refusal x y) = Refused x y
 
   module _ (k : OneOf (0 ∷ 1 ∷ 2 ∷ []) (tagOf the-type (r .typing))) where
-    pub body-case : {P : List Class} {m : Declaration} → MethodFacts R E T A count owner at P m
-        → Spacious R E S C → CaseIn (length A) (r .typing)
-    body-case {P} {m} f sp =
-        let i = b .is P m f sp .0 in
-        accepted-of (type-of (world P) (m .body) (body-row at m + 1)
-        (method-environment owner (m .parameters))) (i .out) (not-refusal (r .typing) k) λ a q o.
+    -- What the body was accepted with.
+    by-body : {X : Type 0} {P : List Class} {m : PlacedMethod} {depth : ℕ}
+        → MethodFacts R E T A M F count width number depth P m → Spacious R S width depth
+        → ((a : Typed) → type-of (world P) (body-of m) (body-at m + 1) (environment-of m) ≡ accept a
+        → r ≡ answer (typing-case (a .type)) (a .effect)
+        → Accepted-as (world P) (body-of m) (environment-of m) (body-at m) (b .scope) S₂ C₂ a → X) → X
+    by-body {P = P} {m} {depth} f sp g =
+        let i = b .is P m depth f sp .0 in
+        accepted-of (type-of (world P) (body-of m) (body-at m + 1) (environment-of m)) (i .out)
+        (not-refusal (r .typing) k) λ a q o. g a q o (i .accepted a q)
+
+    pub body-case : {P : List Class} {m : PlacedMethod} {depth : ℕ}
+        → MethodFacts R E T A M F count width number depth P m → Spacious R S width depth
+        → CaseIn (length A) (r .typing)
+    body-case f sp = by-body f sp λ a q o c.
         subst (λ (x : Answer). CaseIn (length A) (x .typing)) (sym o)
-        (case-low (a .type) (f .headed) (i .accepted a q .declared))
+        (case-low (a .type) (f .headed) (c .declared))
 
-    module _ (u : ℕ) (eu : u ≡ getD R (at * 4 + 1) 0) (g : Bool) (eg : g ≡ is-fitting A (r .typing) u) where
-      fits-of : (P : List Class) (m : Declaration) → MethodFacts R E T A count owner at P m → (a : Typed)
+    module _ (u : ℕ) (eu : u ≡ getD R (getD M (number * 4) 0 * 4 + 1) 0) (g : Bool)
+        (eg : g ≡ is-fitting A (r .typing) u) where
+      fits-of : {P : List Class} {m : PlacedMethod} {depth : ℕ}
+          → MethodFacts R E T A M F count width number depth P m → (a : Typed)
           → Declared (world P) (a .type) → r ≡ answer (typing-case (a .type)) (a .effect)
-          → g ≡ fits (world P) (a .type) (m .result)
-      fits-of P m f a d o =
+          → g ≡ fits (world P) (a .type) (m .declaration .result)
+      fits-of {m = m} f a d o =
           eg ∙ (ap₂ (λ (x : Typing) (y : ℕ). is-fitting A x y) (ap (λ (x : Answer). x .typing) o)
-          (eu ∙ f .layout .line .first)
-          ∙ fitting-is (f .headed .classes) (a .type) (m .result) (type-low (a .type) (f .headed) d)
-          (f .result))
+          (eu ∙ (ap (λ (x : ℕ). getD R (x * 4 + 1) 0) (row-is f) ∙ here f .0 .layout .line .first))
+          ∙ fitting-is (f .headed .classes) (a .type) (m .declaration .result)
+          (type-low (a .type) (f .headed) d) (here f .1 .result))
 
-      pub method-unfit : g ≡ false → PostMethodBody R E T A S C S₂ C₂ count owner at (Refused 9 (at + 1))
-      method-unfit z = whole (Refused 9 (at + 1)) λ P m f sp.
-          let i = b .is P m f sp .0 in
-          accepted-of (type-of (world P) (m .body) (body-row at m + 1)
-          (method-environment owner (m .parameters))) (i .out) (not-refusal (r .typing) k) λ a q o.
-          let w = by-type (world P) owner at m a q
-          (sym (fits-of P m f a (i .accepted a q .declared) o) ∙ z) in
-          (sym (ap verdict-of w), λ x. not-passed _ _ w x)
+      pub method-unfit : g ≡ false
+          → PostMethodBody R E T A M F S C S₂ C₂ count width number (Refused 9 (getD M (number * 4) 0 + 1))
+      method-unfit z = whole (Refused 9 (getD M (number * 4) 0 + 1)) λ P m depth f sp.
+          by-body f sp λ a q o c.
+          shown-refused P m (Refused 9 (getD M (number * 4) 0 + 1)) 9 (m .row + 1)
+          (by-type (world P) number m a q (sym (fits-of f a (c .declared) o) ∙ z))
+          (ap (λ (x : ℕ). Refused 9 (x + 1)) (row-is f))
 
-      module _ (z : g ≡ true) (n : ℕ) (cn : CountOf R (at + 1) n) (d : ℕ) (ed : EffectOf R (at + 1 + n) d)
-          (h : Bool) (eh : h ≡ within (r .effect) d) where
-        within-of : (P : List Class) (m : Declaration) → MethodFacts R E T A count owner at P m → (a : Typed)
+      module _ (z : g ≡ true) (h : Bool) (eh : h ≡ within (r .effect) (getD F number 0)) where
+        within-of : {P : List Class} {m : PlacedMethod} {depth : ℕ}
+            → MethodFacts R E T A M F count width number depth P m → (a : Typed)
             → r ≡ answer (typing-case (a .type)) (a .effect)
-            → h ≡ within (a .effect) (effect-of-all (m .effects))
-        within-of P m f a o =
-            eh ∙ ap₂ within (ap (λ (x : Answer). x .effect) o)
-            (ed (m .effects) (subst (λ (x : ℕ). EffectLines R (at + 1 + x) (m .effects))
-            (sym (cn (length (m .parameters)) (facts-run f))) (facts-effects f)))
+            → h ≡ within (a .effect) (world P .effect number)
+        within-of f a o = eh ∙ ap₂ within (ap (λ (x : Answer). x .effect) o) (effect-is f)
 
-        pub method-wide : h ≡ false → PostMethodBody R E T A S C S₂ C₂ count owner at (Refused 10 (at + 1))
-        method-wide y = whole (Refused 10 (at + 1)) λ P m f sp.
-            let i = b .is P m f sp .0 in
-            accepted-of (type-of (world P) (m .body) (body-row at m + 1)
-            (method-environment owner (m .parameters))) (i .out) (not-refusal (r .typing) k) λ a q o.
-            let w = by-effect (world P) owner at m a q
-            (sym (fits-of P m f a (i .accepted a q .declared) o) ∙ z) (sym (within-of P m f a o) ∙ y) in
-            (sym (ap verdict-of w), λ x. not-passed _ _ w x)
+        pub method-wide : h ≡ false
+            → PostMethodBody R E T A M F S C S₂ C₂ count width number (Refused 10 (getD M (number * 4) 0 + 1))
+        method-wide y = whole (Refused 10 (getD M (number * 4) 0 + 1)) λ P m depth f sp.
+            by-body f sp λ a q o c.
+            shown-refused P m (Refused 10 (getD M (number * 4) 0 + 1)) 10 (m .row + 1)
+            (by-effect (world P) number m a q (sym (fits-of f a (c .declared) o) ∙ z)
+            (sym (within-of f a o) ∙ y))
+            (ap (λ (x : ℕ). Refused 10 (x + 1)) (row-is f))
 
-        pub method-accepted : h ≡ true → PostMethodBody R E T A S C S₂ C₂ count owner at Accepted
-        method-accepted y = whole Accepted λ P m f sp.
-            let i = b .is P m f sp .0 in
-            accepted-of (type-of (world P) (m .body) (body-row at m + 1)
-            (method-environment owner (m .parameters))) (i .out) (not-refusal (r .typing) k) λ a q o.
-            let w = by-both (world P) owner at m a q (sym (fits-of P m f a (i .accepted a q .declared) o) ∙ z)
-            (sym (within-of P m f a o) ∙ y) in
-            (sym (ap verdict-of w), λ x. i .accepted a q .looks)
+        pub method-accepted : h ≡ true
+            → PostMethodBody R E T A M F S C S₂ C₂ count width number Accepted
+        method-accepted y = whole Accepted λ P m depth f sp.
+            by-body f sp λ a q o c.
+            let w = by-both (world P) number m a q (sym (fits-of f a (c .declared) o) ∙ z)
+            (sym (within-of f a o) ∙ y) in
+            (sym (ap verdict-of w), λ x. c .looks)

@@ -6,7 +6,7 @@ use mathlib.Core.Option.{none, some}
 use mathlib.Core.List.{List, map}
 use Prim.Native.Nat.{ℕ, _+_}
 use lib.Dec.{eqb, leb}
-use lib.ListN.{length, getD}
+use lib.ListN.{length}
 use Rattle.language.specs.Results.{Checked, accept, refuse, passed, bind-checked, need-checked, require}
 use Rattle.language.specs.Frames.{at-slot, opened, closed}
 use Rattle.language.specs.Tree.{DeclaredType, bool, class, ExprType, known, null-type, Expr, Exprs, change}
@@ -17,7 +17,7 @@ use Rattle.language.specs.Environment.{Slot, Environment, fresh-slot}
 use Rattle.language.specs.Typing.{Typed, TypedAll, typed, last-type}
 use Rattle.language.specs.Typing.{need-class, not-bool, all-fit, join-types, join-environments, fits}
 use Rattle.language.specs.Typing.{can-change, apply-all, after-change, locals-declared, type-of, type-all}
-use Rattle.language.specs.LookupClasses.{LooksUp, LooksUpAll}
+use Rattle.language.specs.LookupClasses.{Notes, LooksUp, LooksUpAll}
 use Rattle.bodies.specs.Answers.{typing-case}
 use Rattle.bodies.specs.Acts.{NoClass}
 use Rattle.bodies.proofs.Typings.{line-free, line-free-all}
@@ -98,7 +98,7 @@ module _ (W : World) (f : ℕ) (e e′ : Expr) (l la lb : ℕ) (γ : Environment
     unfolding need-class need-checked require
     set-done t m g = set-opened ∙ rw (q, m, g)
 
-    pub set-looks : (C : List ℕ) (r : ℕ) → getD C r 0 ≡ apply-class W (b .effect) c → LooksUp W C e γ (r + 1)
+    pub set-looks : (C : List ℕ) (r : ℕ) → Notes C r (apply-class W (b .effect) c) → LooksUp W C e γ (r + 1)
         → LooksUp W C e′ (a .slots) (r + 1 + size e)
         → LooksUp W C (set f e e′) γ r
     unfolding LooksUp
@@ -228,7 +228,7 @@ module _ (W : World) (m : ℕ) (e : Expr) (es : Exprs) (l la lb : ℕ) (γ : Env
       unfolding need-class need-checked require
       call-done f g = call-opened ∙ rw (q, w, f, g)
 
-    pub call-looks : (C : List ℕ) (r : ℕ) → getD C r 0 ≡ apply-class W (b .effect) c → LooksUp W C e γ (r + 1)
+    pub call-looks : (C : List ℕ) (r : ℕ) → Notes C r (apply-class W (b .effect) c) → LooksUp W C e γ (r + 1)
         → LooksUpAll W C es (a .slots) (r + 1 + size e)
         → LooksUp W C (call m e es) γ r
     unfolding LooksUp

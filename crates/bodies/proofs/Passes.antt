@@ -1,52 +1,115 @@
 -- The pass over a program: each turn of its loop, and its end. Assumes nothing.
-use mathlib.Core.Path.{_≡_, refl, sym, ap, ap₂, subst, _∙_}
-use mathlib.Core.Bool.{true, false, false≢true}
+use mathlib.Core.Path.{_≡_, refl, sym, ap, ap₂, _∙_}
+use mathlib.Core.Option.{some}
 use mathlib.Core.List.{List, [], _∷_}
-use Prim.Native.Nat.{ℕ, suc, _+_, _*_, _<_}
+use Prim.Native.Nat.{ℕ, suc, _+_, _*_, _≤_, _<_}
 use native.Mathlib.Omega.{arith}
 use types.Run.{OneOf}
 use denote.Enum.Declared.{tagOf}
 use lib.ListN.{length, getD}
-use Rattle.language.specs.Limits.{of-check}
-use Rattle.language.specs.Results.{Checked, accept, refuse, Pass, passed, bind-checked}
-use Rattle.language.specs.Tree.{Declaration, classes-lines, Program, Expr, block, size}
+use Rattle.language.specs.Lists.{nth}
+use Rattle.language.specs.Results.{accept, refuse, Pass, passed, bind-checked}
+use Rattle.language.specs.Tree.{heading-lines, method-lines, size, classes-lines, Program}
+use Rattle.language.specs.World.{World}
 use Rattle.language.specs.Program.{world}
 use Rattle.language.specs.Environment.{start-environment}
-use Rattle.language.specs.Typing.{Typed, type-of, type-method, type-classes, bodies}
-use Rattle.language.specs.Encoded.{Encoded}
-use Rattle.language.specs.WellFormed.{BodyInForm, form-body}
-use Rattle.language.specs.Layout.{body-row, start-row}
-use Rattle.language.proofs.Nodes.{head}
+use Rattle.language.specs.Typing.{Typed, type-of, type-classes, bodies}
+use Rattle.language.specs.LookupClasses.{LooksUp}
+use Rattle.language.specs.WellFormed.{Each, each-nil, each-cons}
+use Rattle.language.specs.MethodTables.{PlacedMethod, placed-methods}
+use Rattle.language.specs.Layout.{start-row}
 use Rattle.bodies.proofs.Typing.{the-type}
 use Rattle.bodies.specs.declared.Typing.the-variants.{Refusal}
 use Rattle.bodies.specs.declared.Answer.{Answer}
 use Rattle.bodies.specs.declared.Verdict.{Verdict}
 use Rattle.bodies.specs.declared.Verdict.the-variants.{Accepted, Refused}
-use Rattle.bodies.specs.Answers.{answer-of, verdict-of, is-refusal}
+use Rattle.bodies.specs.Answers.{verdict-of, is-refusal}
 use Rattle.bodies.specs.Cycle.{Pre, Post, Is}
-use Rattle.bodies.specs.Whole.{MethodFacts, Spacious, PreMethodBody, PreLine, PostLine, class-next}
-use Rattle.bodies.specs.Whole.{PreNext, PostNext, Ready, BodiesAre, BodiesDone}
-use Rattle.bodies.proofs.Turns.{accepted-of, not-refused}
-use Rattle.bodies.proofs.Forms.{body-limited}
-use Rattle.bodies.proofs.Methods.{facts-first, facts-block, not-passed, not-refusal}
-use Rattle.bodies.proofs.WholeLaws.{class-more, class-same, first-unique}
-use Rattle.bodies.proofs.Walk.{Walk, AtMethod, AtEnd, Spot, at-field, at-method, at-class, at-end}
-use Rattle.bodies.proofs.Walk.{spot, walk-start}
-use Rattle.bodies.proofs.Starts.{start-pre, start-is}
+use Rattle.bodies.specs.Whole.{body-of, body-at, environment-of, type-numbered, MethodFacts, Spacious}
+use Rattle.bodies.specs.Whole.{PreMethodBody, PostMethodBody, Ready, BodiesDone}
+use Rattle.bodies.proofs.Typings.{looks-frame}
+use Rattle.bodies.proofs.Turns.{accepted-of, refused-of}
+use Rattle.bodies.proofs.Placed.{Apart, apart, type-placed, typed-placed, by-classes}
+use Rattle.bodies.proofs.Methods.{not-passed, not-refusal}
+use Rattle.bodies.proofs.Starts.{start-scope, start-pre, start-is}
+use Rattle.bodies.specs.Answers.{absent, half}
 
--- a body in form is a block
-body-block : (R E : List ℕ) (n : ℕ) (e : Expr) (r : ℕ) → BodyInForm of-check n e → Encoded R E e r
-    → getD R (r * 4) 0 ≡ 66
-unfolding Encoded
-body-block R E n e r (form-body x) c = c .0 .row .letter
+-- ---- the methods from a number on
 
--- the whole definition, by cases
-bodies-refused : (p : Program) (n l : ℕ) → type-classes (world (p .classes)) 1 1 (p .classes) ≡ refuse n l
+-- The lookup classes of a method's body.
+abbrev pub Looks : World → List ℕ → PlacedMethod → Type 0
+Looks W C m = LooksUp W C (body-of m) (environment-of m) (body-at m)
+
+-- Before method i: the methods that are left, which stand from row `from` on, and what their passing gives.
+pub record Left (p : Program) (C : List ℕ) (i from : ℕ) (ms : List PlacedMethod) : Type 0 where
+  pub places : (j : ℕ) → nth (placed-methods (p .classes)) (i + j) ≡ nth ms j
+  pub many : i + length ms ≡ length (placed-methods (p .classes))
+  pub rows : Apart from ms (start-row p)
+  pub same : type-classes (world (p .classes)) 1 0 1 (p .classes) ≡ type-placed (world (p .classes)) i ms
+  pub whole : (C″ : List ℕ) → length C″ ≡ length C → ((r : ℕ) → r < from → getD C″ r 0 ≡ getD C r 0)
+      → Each (Looks (world (p .classes)) C″) ms
+      → Each (Looks (world (p .classes)) C″) (placed-methods (p .classes))
+
+pub record Walk (p : Program) (C : List ℕ) (i : ℕ) : Type 0 where
+  pub from : ℕ
+  pub rest : List PlacedMethod
+  pub left : Left p C i from rest
+
+walk-start : (p : Program) (C : List ℕ) → Walk p C 0
+walk-start p C = record {
+  from = 0;
+  rest = placed-methods (p .classes);
+  left = record {
+    places = λ j. let z : 0 + j ≡ j = omega arith in ap (nth (placed-methods (p .classes))) z;
+    many = omega arith;
+    rows = apart (p .classes);
+    same = typed-placed (world (p .classes)) (p .classes);
+    whole = λ C″ n e l. l;
+  };
+}
+
+body-ends : (m : PlacedMethod) → body-at m + size (body-of m) ≡ m .row + method-lines (m .declaration)
+unfolding method-lines heading-lines
+body-ends m = omega arith
+
+-- One method: it stands at its number, a refusal is the whole pass's, and else the next is looked at.
+module _ {p : Program} {C : List ℕ} {i from : ℕ} {m : PlacedMethod} {ms : List PlacedMethod}
+    (l : Left p C i from (m ∷ ms)) where
+  first-there : nth (placed-methods (p .classes)) i ≡ some m
+  unfolding nth
+  first-there = let z : i ≡ i + 0 = omega arith in ap (nth (placed-methods (p .classes))) z ∙ l .places 0
+
+  first-refused : (n j : ℕ) → type-numbered (world (p .classes)) i m ≡ refuse n j
+      → type-classes (world (p .classes)) 1 0 1 (p .classes) ≡ refuse n j
+  unfolding type-placed bind-checked
+  first-refused n j e = l .same ∙ rw e refl
+
+  next-left : (C₁ : List ℕ) → length C₁ ≡ length C → ((r : ℕ) → r < body-at m → getD C₁ r 0 ≡ getD C r 0)
+      → type-numbered (world (p .classes)) i m ≡ passed → Looks (world (p .classes)) C₁ m
+      → Left p C₁ (i + 1) (m .row + method-lines (m .declaration)) ms
+  unfolding type-placed bind-checked Apart nth
+  next-left C₁ long kept e look = let z : suc i ≡ i + 1 = omega arith in record {
+    places = λ j. let y : i + 1 + j ≡ i + suc j = omega arith in
+        ap (nth (placed-methods (p .classes))) y ∙ l .places (suc j);
+    many = omega (arith, l .many);
+    rows = l .rows .1;
+    same = l .same ∙ (rw e (ap (λ (n : ℕ). type-placed (world (p .classes)) n ms) z));
+    whole = λ C″ n k x. l .whole C″ (n ∙ long)
+        (λ r o. k r (omega (arith, l .rows .0)) ∙ kept r (omega (arith, l .rows .0)))
+        (each-cons
+        (looks-frame (world (p .classes)) C₁ C″ n (body-of m) (environment-of m) (body-at m)
+        (λ r u v. k r (omega (arith, body-ends m))) look)
+        x);
+  }
+
+-- ---- the whole definition, by cases
+
+bodies-refused : (p : Program) (n l : ℕ) → type-classes (world (p .classes)) 1 0 1 (p .classes) ≡ refuse n l
     → bodies p ≡ refuse n l
 unfolding bodies bind-checked
 bodies-refused p n l e = rw e
 
-module _ (p : Program) (e : type-classes (world (p .classes)) 1 1 (p .classes) ≡ passed) where
+module _ (p : Program) (e : type-classes (world (p .classes)) 1 0 1 (p .classes) ≡ passed) where
   same-line : type-of (world (p .classes)) (p .start) (2 + classes-lines (p .classes)) start-environment
       ≡ type-of (world (p .classes)) (p .start) (start-row p + 1 + 1) start-environment
   same-line = let q : 2 + classes-lines (p .classes) ≡ start-row p + 1 + 1 = omega arith in
@@ -64,245 +127,170 @@ module _ (p : Program) (e : type-classes (world (p .classes)) 1 1 (p .classes) �
   unfolding bodies bind-checked
   start-passed a f = rw (e, same-line ∙ f)
 
--- what two walks agree on
-pub record Going (R E T A S C S′ C′ : List ℕ) (count at k : ℕ) : Type 0 where
+-- ---- the loop
+
+pub record Going (R E T A M F S C S′ C′ : List ℕ) (count many start width i : ℕ) : Type 0 where
   pub slots-long : length S′ ≡ length S
   pub classes-long : length C′ ≡ length C
-  pub walk : (p : Program) → Ready R E T A S C count p → Walk R E p C′ at k
+  pub few : i ≤ many
+  pub walk : (p : Program) → Ready R E T A M F S count many start width p → Walk p C′ i
 
-pub going-start : (R E T A S C : List ℕ) (count : ℕ) → Going R E T A S C S C count 0 0
-going-start R E T A S C count =
-    record { slots-long = refl; classes-long = refl; walk = λ p r. walk-start C (r .layout) (r .passes) }
+pub going-start : {R E T A M F S C : List ℕ} {count many start width : ℕ}
+    → Going R E T A M F S C S C count many start width 0
+going-start {C = C} = record {
+  slots-long = refl;
+  classes-long = refl;
+  few = omega arith;
+  walk = λ p r. walk-start p C;
+}
 
-module _ {R E T A S C S′ C′ : List ℕ} {count at k : ℕ} (w : Going R E T A S C S′ C′ count at k) {p : Program}
-    (r : Ready R E T A S C count p) where
-  space : Spacious R E S′ C′
-  space = record {
-    slots = omega (arith, r .slots, w .slots-long);
-    nodes = omega (arith, r .nodes, w .classes-long);
-    rows = r .layout .short;
-  }
+module _ {R E T A M F S C S′ C′ : List ℕ} {count many start width i : ℕ}
+    (w : Going R E T A M F S C S′ C′ count many start width i) where
+  module _ (low : i < many) {p : Program} (r : Ready R E T A M F S count many start width p) where
+    -- The method at hand.
+    record AtMethod : Type 0 where
+      from : ℕ
+      m : PlacedMethod
+      ms : List PlacedMethod
+      left : Left p C′ i from (m ∷ ms)
 
-  counted : length (p .classes) ≡ count
-  counted = r .headed .classes .counted
-
-  facts-of : (m : Declaration) → AtMethod R E p C′ at k m → MethodFacts R E T A count k at (p .classes) m
-  facts-of m a = record {
-    headed = r .headed;
-    layout = a .layout;
-    limited = body-limited (1 + length (m .parameters)) (m .body) (a .form .body);
-    block-line = body-block R E (1 + length (m .parameters)) (m .body) (body-row at m) (a .form .body)
-        (a .layout .body);
-    owner-low = omega (arith, a .low, counted);
-    few = a .form .few;
-    result = a .result;
-    parameters = a .parameters;
-    effects = a .effects 64 (omega (arith, counted, r .headed .classes .few));
-  }
-
-  pub going-inside : at * 4 + 3 < length R
-  going-inside = go (spot (w .walk p r))
-    where
-      go : Spot R E p C′ at k → at * 4 + 3 < length R
-      go (at-field e l x) = l
-      go (at-method m a) = a .layout .line .within
-      go (at-class e l x) = l
-      go (at-end a) = omega (arith, a .here, r .layout .start-line .within)
-
-  pub going-line : PreLine R E T A S′ C′ count k at
-  going-line = record { inside = going-inside; method = λ e. go e (spot (w .walk p r)) }
-    where
-      go : getD R (at * 4) 0 ≡ 77 → Spot R E p C′ at k → PreMethodBody R E T A S′ C′ count k at
-      go e (at-field f l x) = absurd (omega (arith, e, f))
-      go e (at-method m a) = record { P = p .classes; m = m; facts = facts-of m a; space = space }
-      go e (at-class f l x) = absurd (omega (arith, e, f))
-      go e (at-end a) = absurd (end-letter e a)
-        where
-          end-letter : getD R (at * 4) 0 ≡ 77 → AtEnd R E p C′ at → ⊥
-          end-letter e a = let z : getD R (at * 4) 0 ≡ 83 = ap (λ (x : ℕ). getD R (x * 4) 0) (a .here)
-              ∙ r .layout .start-line .letter in omega (arith, z, e)
-
-  pub going-class : k < 65536
-  going-class = go (spot (w .walk p r)) (w .walk p r .left .number)
-    where
-      go : Spot R E p C′ at k → k + length (w .walk p r .cs) ≡ length (p .classes) → k < 65536
-      go s e = omega (arith, e, counted, r .headed .classes .few)
-
-  pub going-next : PreNext R E at
-  going-next = record {
-    inside = going-inside;
-    low = omega (arith, going-inside, r .layout .short);
-    block = λ e. facts-block (going-line .method e .facts);
-    ended = λ e b f.
-        let q = going-line .method e in
-        let z = first-unique f (facts-first (q .facts)) in
-        let h = head (q .m .body) (q .facts .layout .body) .in-ends in
-        omega (arith, z, h);
-  }
-
-module _ {R E T A S C S′ C′ S″ C″ : List ℕ} {count at k : ℕ} (w : Going R E T A S C S′ C′ count at k)
-    {v : Verdict}
-    (l : PostLine R E T A S′ C′ S″ C″ count k at v) where
-  -- a turn
-  pub going-on : (v ≡ Accepted) → (getD R (at * 4) 0 ≡ 83 → ⊥) → (k′ at′ : ℕ)
-      → k′ ≡ class-next R k at → PostNext R E at at′ → Going R E T A S C S″ C″ count at′ k′
-  going-on ev n k′ at′ ek pn = record {
-    slots-long = l .slots-long ∙ w .slots-long;
-    classes-long = l .classes-long ∙ w .classes-long;
-    walk = λ p r. go p r (spot (w .walk p r));
-  }
-    where
-      moved : (p : Program) → (c a : ℕ) → C″ ≡ C′ → at′ ≡ a → k′ ≡ c → Walk R E p C′ a c
-          → Walk R E p C″ at′ k′
-      moved p c a e f g x =
-          subst (λ (z : List ℕ). Walk R E p z at′ k′) (sym e)
-          (subst (λ (z : ℕ). Walk R E p C′ z k′) (sym f) (subst (λ (z : ℕ). Walk R E p C′ a z) (sym g) x))
-
-      go : (p : Program) → Ready R E T A S C count p → Spot R E p C′ at k → Walk R E p C″ at′ k′
-      go p r (at-field e i x) =
-          let no : getD R (at * 4) 0 ≡ 77 → ⊥ = λ z. omega (arith, z, e) in
-          moved p k (at + 1) (l .other no .1) (pn .other no)
-          (ek ∙ sym (class-same R k at (λ z. omega (arith, z, e)))) x
-      go p r (at-class e i x) =
-          let no : getD R (at * 4) 0 ≡ 77 → ⊥ = λ z. omega (arith, z, e) in
-          let q : k + 1 ≡ suc k = omega arith in
-          moved p (suc k) (at + 1) (l .other no .1) (pn .other no) (ek ∙ (sym (class-more R k at e) ∙ q)) x
-      go p r (at-end a) =
-          absurd (n (ap (λ (x : ℕ). getD R (x * 4) 0) (a .here) ∙ r .layout .start-line .letter))
-      go p r (at-method m a) =
-          let f = facts-of w r m a in
-          let i = l .method (a .letter) .is (p .classes) m f (space w r) in
-          let t = accepted-pass (type-method (world (p .classes)) k (at + 1) m) (sym ev ∙ i .out) in
-          let x = a .next C″ (i .before) t (i .looks t) in
-          let e : at′ ≡ body-row at m + size (m .body) =
-          pn .method (a .letter) (body-row at m) (facts-first f)
-          ∙ head (m .body) (f .layout .body) .end in
-          let g : k′ ≡ k = ek ∙ sym (class-same R k at (λ z. omega (arith, z, a .letter))) in
-          subst (λ (z : ℕ). Walk R E p C″ z k′) (sym e)
-          (subst (λ (z : ℕ). Walk R E p C″ (body-row at m + size (m .body)) z) (sym g) x)
-        where
-          accepted-pass : (q : Pass) → Accepted ≡ verdict-of q → q ≡ passed
-          accepted-pass (accept tt) e = refl
-          accepted-pass (refuse n l) e = absurd (let z : _≡_ {A = ℕ} 0 1 = cc in omega arith)
-
-  pub going-more : (p : Program) → Ready R E T A S C count p → (at′ : ℕ) → PostNext R E at at′
-      → (getD R (at * 4) 0 ≡ 83 → ⊥) → at < at′
-  going-more p r at′ pn n = go (spot (w .walk p r))
-    where
-      go : Spot R E p C′ at k → at < at′
-      go (at-field e i x) = omega (arith, pn .other (λ z. omega (arith, z, e)))
-      go (at-class e i x) = omega (arith, pn .other (λ z. omega (arith, z, e)))
-      go (at-end a) = absurd (n (ap (λ (x : ℕ). getD R (x * 4) 0) (a .here) ∙ r .layout .start-line .letter))
-      go (at-method m a) =
-          let f = facts-of w r m a in
-          omega (
-            arith,
-            pn .method (a .letter) (body-row at m) (facts-first f),
-            head (m .body) (f .layout .body) .end,
-          )
-
-  pub going-refused : (n j : ℕ) → v ≡ Refused n j → BodiesDone R E T A S C C″ count (Refused n j)
-  going-refused n j ev = record {
-    long = l .classes-long ∙ w .classes-long;
-    are = λ p r. go p r (spot (w .walk p r));
-  }
-    where
-      not-accepted : Accepted ≡ Refused n j → ⊥
-      not-accepted e = let z : _≡_ {A = ℕ} 0 1 = cc in omega arith
-
-      no : {X : Type 0} → (getD R (at * 4) 0 ≡ 77 → ⊥) → X
-      no f = absurd (not-accepted (sym (l .other f .0) ∙ ev))
-
-      refused-pass : (q : Pass) → Refused n j ≡ verdict-of q → q ≡ refuse n j
-      refused-pass (accept tt) e = absurd (not-accepted (sym e))
-      refused-pass (refuse x y) e = let a : n ≡ x = cc in let b : j ≡ y = cc in
-          ap₂ (λ (u : ℕ) (v : ℕ). refuse u v) (sym a) (sym b)
-
-      ended : (p : Program) → type-classes (world (p .classes)) 1 1 (p .classes) ≡ refuse n j
-          → BodiesAre p C″ (Refused n j)
-      ended p e = let z = bodies-refused p n j e in
-          record { out = sym (ap verdict-of z); looks = λ x. not-passed n j z x }
-
-      go : (p : Program) → Ready R E T A S C count p → Spot R E p C′ at k → BodiesAre p C″ (Refused n j)
-      go p r (at-field e i x) = no (λ z. omega (arith, z, e))
-      go p r (at-class e i x) = no (λ z. omega (arith, z, e))
-      go p r (at-end a) =
-          no (λ z. let y : getD R (at * 4) 0 ≡ 83 = ap (λ (x : ℕ). getD R (x * 4) 0) (a .here)
-          ∙ r .layout .start-line .letter in omega (arith, z, y))
-      go p r (at-method m a) =
-          let i = l .method (a .letter) .is (p .classes) m (facts-of w r m a) (space w r) in
-          ended p (a .refused n j
-          (refused-pass (type-method (world (p .classes)) k (at + 1) m) (sym ev ∙ i .out)))
-
--- the start block
-module _ {R E T A S C S′ C′ : List ℕ} {count at k : ℕ} (w : Going R E T A S C S′ C′ count at k)
-    (n : getD R (at * 4) 0 ≡ 83) where
-  ended : (p : Program) → Ready R E T A S C count p → AtEnd R E p C′ at
-  ended p r = go (spot (w .walk p r))
-    where
-      go : Spot R E p C′ at k → AtEnd R E p C′ at
-      go (at-field e i x) = absurd (omega (arith, e, n))
-      go (at-method m a) = absurd (omega (arith, a .letter, n))
-      go (at-class e i x) = absurd (omega (arith, e, n))
-      go (at-end a) = a
-
-module _ {R E T A S C S′ C′ : List ℕ} {count at k : ℕ} (w : Going R E T A S C S′ C′ count at k)
-    (n : getD R (at * 4) 0 ≡ 83) (S₁ : List ℕ)
-    (e₁ : length S₁ ≡ length S′) (z₁ : getD S₁ 0 0 ≡ 65535) where
-  pub going-start-pre : (p : Program) → Ready R E T A S C count p → Pre R E T A S₁ C′ count (at + 1) 1 256
-  going-start-pre p r =
-      subst (λ (x : ℕ). Pre R E T A S₁ C′ count (x + 1) 1 256) (sym (ended w n p r .here))
-      (start-pre R E T A S C S₁ C′ count p r (e₁ ∙ w .slots-long) (w .classes-long) z₁)
-
-  module _ {S₂ C₂ : List ℕ} {r : Answer} (q : Post R E T A S₁ C′ S₂ C₂ count (at + 1) 1 256 r) where
-    start-of : (p : Program) → Ready R E T A S C count p
-        → Is (world (p .classes)) (p .start) start-environment (start-row p + 1) 1 S₂ C₂ r
-    start-of p a =
-        start-is R E T A S C S₁ C′ count p a (e₁ ∙ w .slots-long) (w .classes-long) z₁ S₂ C₂ r
-        (subst (λ (x : ℕ). Post R E T A S₁ C′ S₂ C₂ count (x + 1) 1 256 r) (ended w n p a .here) q)
-
-    pub going-long : length C₂ ≡ length C
-    going-long = q .kept .classes-long ∙ w .classes-long
-
-    pub going-start-refused : (x y : ℕ) → r .typing ≡ Refusal x y
-        → BodiesDone R E T A S C C₂ count (Refused x y)
-    going-start-refused x y e = record {
-      long = going-long;
-      are = λ p a. go p a (type-of (world (p .classes)) (p .start) (start-row p + 1 + 1) start-environment)
-          refl;
-    }
+    at-method : AtMethod
+    at-method = go (w .walk p r .rest) (w .walk p r .left)
       where
-        go : (p : Program) (a : Ready R E T A S C count p) (c : Checked Typed)
-            → type-of (world (p .classes)) (p .start) (start-row p + 1 + 1) start-environment ≡ c
-            → BodiesAre p C₂ (Refused x y)
-        go p a (accept t) f =
-            absurd (false≢true (sym (not-refused (t .type))
-            ∙ (ap (λ (u : Answer). is-refusal (u .typing)) (sym (start-of p a .out ∙ ap answer-of f))
-            ∙ ap is-refusal e)))
-        go p a (refuse i j) f =
-            let u : Refusal x y ≡ Refusal i j = sym e
-            ∙ ap (λ (u : Answer). u .typing) (start-of p a .out ∙ ap answer-of f) in
-            let v : x ≡ i = cc in
-            let s : y ≡ j = cc in
-            let z = start-refused p (ended w n p a .same) i j f in
-            record {
-              out = ap₂ (λ (m : ℕ) (o : ℕ). Refused m o) v s ∙ sym (ap verdict-of z);
-              looks = λ h. not-passed i j z h;
-            }
+        go : (ms : List PlacedMethod) → Left p C′ i (w .walk p r .from) ms → AtMethod
+        go [] l = absurd (omega (arith, l .many, r .counted))
+        go (m ∷ ms) l = record { from = w .walk p r .from; m = m; ms = ms; left = l }
 
-    pub going-accepted : OneOf (0 ∷ 1 ∷ 2 ∷ []) (tagOf the-type (r .typing))
-        → BodiesDone R E T A S C C₂ count Accepted
-    going-accepted g = record {
-      long = going-long;
-      are = λ p a.
-          accepted-of (type-of (world (p .classes)) (p .start) (start-row p + 1 + 1) start-environment)
-          (start-of p a .out) (not-refusal (r .typing) g) λ t f o.
-          let z = start-passed p (ended w n p a .same) t f in
+    method-facts : MethodFacts R E T A M F count width i (r .depth) (p .classes) (at-method .m)
+    method-facts = let there = first-there (at-method .left) in
+        record { headed = r .headed; there = there; within-body = r .within .methods i (at-method .m) there }
+
+    space : Spacious R S′ width (r .depth)
+    space = record {
+      slots = omega (arith, r .slots, w .slots-long);
+      rows = r .layout .short;
+    }
+
+    pub going-method : PreMethodBody R E T A M F S′ count width i
+    going-method = record {
+      P = p .classes;
+      m = at-method .m;
+      depth = r .depth;
+      facts = method-facts;
+      space = space;
+    }
+
+  module _ (low : i < many) {S″ C″ : List ℕ} {v : Verdict}
+      (l : PostMethodBody R E T A M F S′ C′ S″ C″ count width i v) where
+    pub going-on : v ≡ Accepted → Going R E T A M F S C S″ C″ count many start width (i + 1)
+    going-on e = record {
+      slots-long = l .slots-long ∙ w .slots-long;
+      classes-long = l .classes-long ∙ w .classes-long;
+      few = omega arith;
+      walk = λ p r.
+          let a = at-method low r in
+          let is = l .is (p .classes) (a .m) (r .depth) (method-facts low r) (space low r) in
+          let t = accepted-pass (type-numbered (world (p .classes)) i (a .m)) (sym e ∙ is .out) in
           record {
-            out = sym (ap verdict-of z);
-            looks = λ h. record {
-              methods = ended w n p a .whole C₂ (λ i l. q .kept .before i (omega arith));
-              start = start-of p a .accepted t f .looks;
-            };
+            from = a .m .row + method-lines (a .m .declaration);
+            rest = a .ms;
+            left = next-left (a .left) C″ (l .classes-long) (is .before) t (is .looks t);
           };
     }
+      where
+        accepted-pass : (q : Pass) → Accepted ≡ verdict-of q → q ≡ passed
+        accepted-pass (accept tt) e = refl
+        accepted-pass (refuse n l) e = absurd (let z : _≡_ {A = ℕ} 0 1 = cc in omega arith)
+
+    pub going-refused : (n j : ℕ) → v ≡ Refused n j
+        → BodiesDone R E T A M F S C C″ count many start width (Refused n j)
+    going-refused n j e = record {
+      long = l .classes-long ∙ w .classes-long;
+      are = λ p r.
+          let a = at-method low r in
+          let is = l .is (p .classes) (a .m) (r .depth) (method-facts low r) (space low r) in
+          let z = bodies-refused p n j (first-refused (a .left) n j
+          (refused-pass (type-numbered (world (p .classes)) i (a .m)) (sym e ∙ is .out))) in
+          record { out = sym (ap verdict-of z); looks = λ x. not-passed n j z x };
+    }
+      where
+        refused-pass : (q : Pass) → Refused n j ≡ verdict-of q → q ≡ refuse n j
+        refused-pass (accept tt) e = absurd (let z : _≡_ {A = ℕ} 0 1 = cc in omega arith)
+        refused-pass (refuse x y) e = let a : n ≡ x = cc in let b : j ≡ y = cc in
+            ap₂ (λ (u : ℕ) (v : ℕ). refuse u v) (sym a) (sym b)
+
+-- ---- the start block
+
+module _ {R E T A M F S C S′ C′ : List ℕ} {count many start width i : ℕ}
+    (w : Going R E T A M F S C S′ C′ count many start width i) (last : many ≤ i) where
+  -- All methods have passed.
+  record Ended (p : Program) : Type 0 where
+    from : ℕ
+    before : from ≤ start-row p
+    same : type-classes (world (p .classes)) 1 0 1 (p .classes) ≡ passed
+    whole : (C″ : List ℕ) → length C″ ≡ length C′ → ((r : ℕ) → r < from → getD C″ r 0 ≡ getD C′ r 0)
+        → Each (Looks (world (p .classes)) C″) (placed-methods (p .classes))
+
+  ended : {p : Program} → Ready R E T A M F S count many start width p → Ended p
+  unfolding type-placed Apart
+  ended {p} r = go (w .walk p r .rest) (w .walk p r .left)
+    where
+      go : (ms : List PlacedMethod) → Left p C′ i (w .walk p r .from) ms → Ended p
+      go [] l = record {
+        from = w .walk p r .from;
+        before = l .rows;
+        same = l .same;
+        whole = λ C″ n k. l .whole C″ n k each-nil;
+      }
+      go (m ∷ ms) l = absurd (omega (arith, l .many, r .counted, last))
+
+  module _ {S₁ : List ℕ} (e₁ : length S₁ ≡ length S′) (z₁ : getD S₁ 0 0 ≡ absent * half + absent) where
+    pub going-start-pre : {p : Program} → Ready R E T A M F S count many start width p
+        → Pre R E T A M F S₁ C′ (start + 1) (start-scope count width)
+    going-start-pre r = start-pre r (e₁ ∙ w .slots-long) z₁
+
+    module _ {S₂ C₂ : List ℕ} {a : Answer}
+        (q : Post R E T A M F S₁ C′ S₂ C₂ (start + 1) (start-scope count width) a) where
+      start-of : {p : Program} → Ready R E T A M F S count many start width p
+          → Is (world (p .classes)) (p .start) start-environment (start-row p + 1) 1 S₂ C₂ a
+      start-of r = start-is r (e₁ ∙ w .slots-long) z₁ q
+
+      pub going-long : length C₂ ≡ length C
+      going-long = q .kept .classes-long ∙ w .classes-long
+
+      pub going-start-refused : (x y : ℕ) → a .typing ≡ Refusal x y
+          → BodiesDone R E T A M F S C C₂ count many start width (Refused x y)
+      going-start-refused x y e = record {
+        long = going-long;
+        are = λ p r.
+            refused-of (type-of (world (p .classes)) (p .start) (start-row p + 1 + 1) start-environment)
+            (start-of r .out) (ap is-refusal e) λ n l f o.
+            let u : Refusal x y ≡ Refusal n l = sym e ∙ ap (λ (u : Answer). u .typing) o in
+            let v : x ≡ n = cc in
+            let s : y ≡ l = cc in
+            let z = start-refused p (ended r .same) n l f in
+            record {
+              out = ap₂ (λ (m : ℕ) (o : ℕ). Refused m o) v s ∙ sym (ap verdict-of z);
+              looks = λ h. not-passed n l z h;
+            };
+      }
+
+      pub going-accepted : OneOf (0 ∷ 1 ∷ 2 ∷ []) (tagOf the-type (a .typing))
+          → BodiesDone R E T A M F S C C₂ count many start width Accepted
+      unfolding placed-methods
+      going-accepted g = record {
+        long = going-long;
+        are = λ p r.
+            accepted-of (type-of (world (p .classes)) (p .start) (start-row p + 1 + 1) start-environment)
+            (start-of r .out) (not-refusal (a .typing) g) λ t f o.
+            let z = start-passed p (ended r .same) t f in
+            record {
+              out = sym (ap verdict-of z);
+              looks = λ h. record {
+                methods = by-classes _ 1 0 (p .classes)
+                    (ended r .whole C₂ (q .kept .classes-long) (λ i l. q .kept .before i
+                    (omega (arith, ended r .before, r .started))));
+                start = start-of r .accepted t f .looks;
+              };
+            };
+      }

@@ -17,7 +17,7 @@ use Rattle.language.specs.Program.{world}
 use Rattle.language.specs.Environment.{Environment}
 use Rattle.language.specs.Typing.{Typed, fits, type-of}
 use Rattle.language.specs.Encoded.{RowAt}
-use Rattle.language.specs.LookupClasses.{LooksUp}
+use Rattle.language.specs.LookupClasses.{Notes, LooksUp}
 use Rattle.language.proofs.Classes as classes
 use Rattle.bodies.specs.declared.Answer.{Answer}
 use Rattle.bodies.specs.declared.Typing.{Typing}
@@ -79,7 +79,7 @@ put-kept R T A C C′ at x y e = rw e (go (x .typing))
     go Null = (refl, λ i n. refl)
     go (Refusal m l) = (refl, λ i n. refl)
 
-module _ {P : List Class} {R T A : List ℕ} {count : ℕ} (h : Headed P R T A count) where
+module _ {P : List Class} {R E T A M F : List ℕ} {count : ℕ} (h : Headed P R E T A M F count) where
   found-low : (c f : ℕ) → c ≤ count → f < 256 → (n : ℕ) → field-in R T c f ≡ Found (record { number = n })
       → (n ≡ 255 → ⊥) → n ≤ 64
   found-low c f l m n e = go (field-type f (world P .fields c)) refl
@@ -141,18 +141,17 @@ put-not R T A at (class-case c) x y k = absurd k
 put-not R T A at Null x y k = refl
 put-not R T A at (Refusal n l) x y k = refl
 
-module _ {P : List Class} {R T A : List ℕ} {count : ℕ} (h : Headed P R T A count) (short : length R ≤ 240000)
+module _ {P : List Class} {R E T A M F : List ℕ} {count : ℕ} (h : Headed P R E T A M F count)
+    (short : length R ≤ 240000)
   where
     -- U. The lines of the children's typing may be any.
-    pub pre-put : (f at : ℕ) (a b : Typed) (C : List ℕ) (x y : Answer) → RowAt R at U-set f 0 → f < 256
-        → at < length C
+    pub pre-put : (f at : ℕ) (a b : Typed) (x y : Answer) → RowAt R at U-set f 0 → f < 256
         → Declared (world P) (a .type) → Declared (world P) (b .type) → x ≡ answered a → y ≡ answered b
-        → PrePut R T A C at (x .typing) y
-    pre-put f at a b C x y n l m da db ex ey =
-        subst (λ (z : Answer). PrePut R T A C at (z .typing) y) (sym ex)
-        (subst (λ (z : Answer). PrePut R T A C at (typing-case (a .type)) z) (sym ey) (record {
+        → PrePut R T A at (x .typing) y
+    pre-put f at a b x y n l da db ex ey =
+        subst (λ (z : Answer). PrePut R T A at (z .typing) y) (sym ex)
+        (subst (λ (z : Answer). PrePut R T A at (typing-case (a .type)) z) (sym ey) (record {
           row = (n .within, omega (arith, n .within, short));
-          noted-at = m;
           value = case-low (b .type) h db;
           object = λ c q.
               let lc = type-low (a .type) h da c (case-known (a .type) c q) in (
@@ -168,14 +167,14 @@ module _ {P : List Class} {R T A : List ℕ} {count : ℕ} (h : Headed P R T A c
 
     pub set-is : (f : ℕ) (e e′ : Expr) (at next scope la lb : ℕ) (γ : Environment) (a b : Typed)
         (S C C′ : List ℕ) (x y r : Answer)
-        → RowAt R at U-set f 0 → f < 256 → at < length C → next ≡ at + 1 + size e
+        → RowAt R at U-set f 0 → f < 256 → next ≡ at + 1 + size e
         → type-of (world P) e la γ ≡ accept a → type-of (world P) e′ lb (a .slots) ≡ accept b
         → Declared (world P) (a .type) → Declared (world P) (b .type) → Views (world P) (b .slots) S scope
         → LooksUp (world P) C e γ (at + 1) → LooksUp (world P) C e′ (a .slots) next
         → x ≡ answered a → y ≡ answered b
         → r ≡ put R T A at (x .typing) x y → C′ ≡ put-classes R T A C at (x .typing) y
         → Is (world P) (set f e e′) γ at scope S C′ r
-    set-is f e e′ at next scope la lb γ a b S C C′ x y r n l m en ta tb da db v lka lkb ex ey er ec =
+    set-is f e e′ at next scope la lb γ a b S C C′ x y r n l en ta tb da db v lka lkb ex ey er ec =
         by-type (a .type) refl
       where
         out : r ≡ put R T A at (typing-case (a .type)) (answered a) (answered b)
@@ -196,7 +195,9 @@ module _ {P : List Class} {R T A : List ℕ} {count : ℕ} (h : Headed P R T A c
             let k : ℕ = apply-class (world P) (b .effect) c in
             let tab : C′ ≡ replaced C at k = table
             ∙ (ap (λ (z : ExprType). put-classes R T A C at (typing-case z) (answered b)) q ∙ w .1) in
-            let here : getD C′ at 0 ≡ k = ap (λ (z : List ℕ). getD z at 0) tab ∙ getD-set-same C at k 0 m in
+            let long : length C′ ≡ length C = ap length tab ∙ length-set C at k in
+            let here : Notes C′ at k = λ u. ap (λ (z : List ℕ). getD z at 0) tab
+            ∙ getD-set-same C at k 0 (omega (arith, u, long)) in
             let away : (i : ℕ) → at + 1 ≤ i → getD C′ i 0 ≡ getD C i 0 =
             λ i u. ap (λ (z : List ℕ). getD z i 0) tab ∙ getD-set-other C at i k 0 (λ z. omega arith) in
             is-accepted (record { type = b .type; slots = b .slots; effect = join (a .effect) (b .effect) })
@@ -206,8 +207,9 @@ module _ {P : List Class} {R T A : List ℕ} {count : ℕ} (h : Headed P R T A c
               views = v;
               declared = db;
               looks = set-looks (world P) f e e′ (at + 1) la lb γ a b ta tb c q C′ at here
-                  (looks-frame (world P) C C′ e γ (at + 1) (λ i u z. away i u) lka)
-                  (looks-frame (world P) C C′ e′ (a .slots) (at + 1 + size e) (λ i u z. away i (omega arith))
+                  (looks-frame (world P) C C′ long e γ (at + 1) (λ i u z. away i u) lka)
+                  (looks-frame (world P) C C′ long e′ (a .slots) (at + 1 + size e)
+                  (λ i u z. away i (omega arith))
                   (subst (λ (z : ℕ). LooksUp (world P) C e′ (a .slots) z) en lkb));
             })
 

@@ -56,7 +56,7 @@ module _ (W : World) where
     this-kept (cast c e) l γ a q =
         bind-checked-inv (type-of W e (l + 1) γ) _ q λ b e₁ q. require-inv (is-declared W c) 4 l _ q λ _ q.
         require-inv (not-bool (b .type)) 9 l _ q λ _ q. done (has (γ .this)) q (this-kept e (l + 1) γ b e₁)
-    this-kept (new c) l γ a q = require-inv (is-declared W c) 4 l _ q λ _ q. done (has (γ .this)) q refl
+    this-kept (new c) l γ a q = require-inv (W .makes c) 4 l _ q λ _ q. done (has (γ .this)) q refl
     this-kept (change k d) l γ a q =
         require-inv (is-declared W d) 4 l _ q λ _ q. need-checked-inv (at-slot γ k) 7 l _ q λ s _ q.
         class-inv (known (s .current)) 11 l _ q λ c _ q. require-inv (can-change W c d) 11 l _ q λ _ q.

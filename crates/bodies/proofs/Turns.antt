@@ -3,7 +3,7 @@
 use mathlib.Core.Path.{_≡_, refl, sym, ap, subst, _∙_}
 use mathlib.Core.Bool.{true, false, false≢true}
 use mathlib.Core.List.{List}
-use Prim.Native.Nat.{ℕ, _+_, _-_, _*_, _≤_, _<_}
+use Prim.Native.Nat.{ℕ, zero, suc, _+_, _-_, _*_, _≤_, _<_}
 use native.Mathlib.Omega.{arith}
 use borrow.Author.Tests.{leb-true, le-leb}
 use lib.ListN.{length, getD, take}
@@ -12,42 +12,44 @@ use Rattle.language.specs.Results.{Checked, accept, refuse, bind-checked, accep
 use Rattle.language.specs.Tree.{DeclaredType, bool, class, ExprType, known, null-type, Class, Expr, Exprs}
 use Rattle.language.specs.Tree.{size}
 use Rattle.language.specs.World.{World, is-declared-type}
-use Rattle.language.specs.Program.{world}
+use Rattle.language.specs.Program.{world, world-with}
 use Rattle.language.specs.Environment.{Environment}
 use Rattle.language.specs.Typing.{Typed, type-of}
 use Rattle.language.specs.Encoded.{Encoded, EncodedAll}
 use Rattle.language.specs.LookupClasses.{LooksUp}
 use Rattle.bodies.specs.declared.Answer.{Answer}
+use Rattle.bodies.specs.declared.Scope.{Scope}
 use Rattle.bodies.specs.declared.Typing.the-variants.{Refusal}
 use Rattle.bodies.specs.Answers.{answer, answer-of, typing-case, is-refusal}
 use Rattle.bodies.specs.Tables.{Headed, CaseIn}
 use Rattle.bodies.specs.Cycle.{Limited, LimitedAll, Views, Room, Kept, Pre, Post, Declared, Accepted}
-use Rattle.bodies.specs.Cycle.{Is, PreList}
+use Rattle.bodies.specs.Cycle.{Is, PreList, raised}
 use Rattle.bodies.proofs.Typings.{looks-frame}
 use Rattle.language.specs.Rows.{code}
 use Rattle.language.proofs.Nodes.{letter-of, head}
 
 -- ---- what is given of an expression, and of several in a row
 
-pub record Given (R E T A S C : List ℕ) (count at scope top : ℕ) (P : List Class) (e : Expr) (γ : Environment)
+pub record Given (R E T A M F S C : List ℕ) (at : ℕ) (scope : Scope) (P : List Class) (e : Expr)
+    (γ : Environment)
     (d : ℕ) : Type 0 where
-  pub headed : Headed P R T A count
+  pub headed : Headed P R E T A M F (scope .count)
   pub encoded : Encoded R E e at
-  pub limited : Limited e scope d
-  pub views : Views (world P) γ S scope
-  pub room : Room R E S C scope top d
+  pub limited : Limited (scope .width) e (scope .size) d
+  pub views : Views (world P) γ S (scope .size)
+  pub room : Room R S scope d
 
-pub record GivenAll (R E T A S C : List ℕ) (count at scope top : ℕ) (P : List Class) (es : Exprs)
+pub record GivenAll (R E T A M F S C : List ℕ) (at : ℕ) (scope : Scope) (P : List Class) (es : Exprs)
     (γ : Environment) (d : ℕ) : Type 0 where
-  pub headed : Headed P R T A count
+  pub headed : Headed P R E T A M F (scope .count)
   pub encoded : EncodedAll R E es at
-  pub limited : LimitedAll es scope d
-  pub views : Views (world P) γ S scope
-  pub room : Room R E S C scope top d
+  pub limited : LimitedAll (scope .width) es (scope .size) d
+  pub views : Views (world P) γ S (scope .size)
+  pub room : Room R S scope d
 
-module _ {R E T A S C : List ℕ} {count at scope top : ℕ} where
-  pub given-of : (p : Pre R E T A S C count at scope top)
-      → Given R E T A S C count at scope top (p .P) (p .e) (p .γ) (p .d)
+module _ {R E T A M F S C : List ℕ} {at : ℕ} {scope : Scope} where
+  pub given-of : (p : Pre R E T A M F S C at scope)
+      → Given R E T A M F S C at scope (p .P) (p .e) (p .γ) (p .d)
   given-of p = record {
     headed = p .headed;
     encoded = p .encoded;
@@ -57,7 +59,7 @@ module _ {R E T A S C : List ℕ} {count at scope top : ℕ} where
   }
 
   pub pre-of : {P : List Class} {e : Expr} {γ : Environment} {d : ℕ}
-      → Given R E T A S C count at scope top P e γ d → Pre R E T A S C count at scope top
+      → Given R E T A M F S C at scope P e γ d → Pre R E T A M F S C at scope
   pre-of {P} {e} {γ} {d} g =
       record {
         P = P;
@@ -71,8 +73,8 @@ module _ {R E T A S C : List ℕ} {count at scope top : ℕ} where
         room = g .room;
       }
 
-  pub given-all-of : {n : ℕ} (p : PreList R E T A S C count at scope top n)
-      → GivenAll R E T A S C count at scope top (p .P) (p .es) (p .γ) (p .d)
+  pub given-all-of : {n : ℕ} (p : PreList R E T A M F S C at scope n)
+      → GivenAll R E T A M F S C at scope (p .P) (p .es) (p .γ) (p .d)
   given-all-of p = record {
     headed = p .headed;
     encoded = p .encoded;
@@ -82,14 +84,14 @@ module _ {R E T A S C : List ℕ} {count at scope top : ℕ} where
   }
 
   pub post-is : {S′ C′ : List ℕ} {r : Answer} {P : List Class} {e : Expr} {γ : Environment} {d : ℕ}
-      → Post R E T A S C S′ C′ count at scope top r
-      → Given R E T A S C count at scope top P e γ d → Is (world P) e γ at scope S′ C′ r
+      → Post R E T A M F S C S′ C′ at scope r
+      → Given R E T A M F S C at scope P e γ d → Is (world P) e γ at (scope .size) S′ C′ r
   post-is {P = P} {e} {γ} {d} p g = p .is P e γ d (g .headed) (g .encoded) (g .limited) (g .views) (g .room)
 
-  pub post-of : {S′ C′ : List ℕ} {r : Answer} → Kept S S′ C C′ at (getD E at 0) top
-      → ((P : List Class) (e : Expr) (γ : Environment) (d : ℕ) → Given R E T A S C count at scope top P e γ d
-      → Is (world P) e γ at scope S′ C′ r)
-      → Post R E T A S C S′ C′ count at scope top r
+  pub post-of : {S′ C′ : List ℕ} {r : Answer} → Kept S S′ C C′ at (getD E at 0) (scope .width) (scope .top)
+      → ((P : List Class) (e : Expr) (γ : Environment) (d : ℕ) → Given R E T A M F S C at scope P e γ d
+      → Is (world P) e γ at (scope .size) S′ C′ r)
+      → Post R E T A M F S C S′ C′ at scope r
   post-of k f = record {
     kept = k;
     is = λ P e γ d h n l v m.
@@ -97,17 +99,17 @@ module _ {R E T A S C : List ℕ} {count at scope top : ℕ} where
   }
 
   -- the node's row
-  pub in-row : (p : Pre R E T A S C count at scope top)
-      → (at * 4 + 3 < length R) × (at < length E) × (length E ≤ length C) × (at < 60000)
-      × (getD R (at * 4) 0 ≡ code (letter-of (p .e)))
+  pub in-row : (p : Pre R E T A M F S C at scope)
+      → (at * 4 + 3 < length R) × (at < length E) × (getD R (at * 4) 0 ≡ code (letter-of (p .e)))
+      × (at < 60000)
   in-row p = let h = head (p .e) (p .encoded) in
-      (h .row, h .in-ends, p .room .nodes, omega (arith, h .row, p .room .rows), h .letter)
+      (h .row, h .in-ends, h .letter, omega (arith, h .row, p .room .rows))
 
 -- ---- what stays
 
-module _ {S S′ C C′ : List ℕ} where
-  pub kept-wider : {from to top : ℕ} (from′ to′ top′ : ℕ) → Kept S S′ C C′ from to top → from′ ≤ from
-      → to ≤ to′ → top′ ≤ top → Kept S S′ C C′ from′ to′ top′
+module _ {S S′ C C′ : List ℕ} {width : ℕ} where
+  pub kept-wider : {from to top : ℕ} (from′ to′ top′ : ℕ) → Kept S S′ C C′ from to width top → from′ ≤ from
+      → to ≤ to′ → top′ ≤ top → Kept S S′ C C′ from′ to′ width top′
   kept-wider from′ to′ top′ k a b c = record {
     slots-long = k .slots-long;
     classes-long = k .classes-long;
@@ -116,8 +118,8 @@ module _ {S S′ C C′ : List ℕ} where
     after = λ i l. k .after i (omega arith);
   }
 
-  pub kept-then : {S″ C″ : List ℕ} {from to top : ℕ} → Kept S S′ C C′ from to top
-      → Kept S′ S″ C′ C″ from to top → Kept S S″ C C″ from to top
+  pub kept-then : {S″ C″ : List ℕ} {from to top : ℕ} → Kept S S′ C C′ from to width top
+      → Kept S′ S″ C′ C″ from to width top → Kept S S″ C C″ from to width top
   kept-then a b = record {
     slots-long = b .slots-long ∙ a .slots-long;
     classes-long = b .classes-long ∙ a .classes-long;
@@ -126,7 +128,7 @@ module _ {S S′ C C′ : List ℕ} where
     after = λ i l. b .after i l ∙ a .after i l;
   }
 
-pub kept-none : {S C : List ℕ} {from to top : ℕ} → Kept S S C C from to top
+pub kept-none : {S C : List ℕ} {from to width top : ℕ} → Kept S S C C from to width top
 kept-none = record {
   slots-long = refl;
   classes-long = refl;
@@ -135,9 +137,9 @@ kept-none = record {
   after = λ i l. refl;
 }
 
--- slots change below 256 or from `top` on only
-pub kept-slots : {S S′ C : List ℕ} {from to top : ℕ} → length S′ ≡ length S
-    → ((i : ℕ) → 256 ≤ i → i < top → getD S′ i 0 ≡ getD S i 0) → Kept S S′ C C from to top
+-- slots change below the width or from the top on only
+pub kept-slots : {S S′ C : List ℕ} {from to width top : ℕ} → length S′ ≡ length S
+    → ((i : ℕ) → width ≤ i → i < top → getD S′ i 0 ≡ getD S i 0) → Kept S S′ C C from to width top
 kept-slots e f = record {
   slots-long = e;
   classes-long = refl;
@@ -147,8 +149,9 @@ kept-slots e f = record {
 }
 
 -- the table changes in one row only
-pub kept-classes : {S C C′ : List ℕ} {from to top : ℕ} (at : ℕ) → length C′ ≡ length C
-    → ((i : ℕ) → (i ≡ at → ⊥) → getD C′ i 0 ≡ getD C i 0) → from ≤ at → at < to → Kept S S C C′ from to top
+pub kept-classes : {S C C′ : List ℕ} {from to width top : ℕ} (at : ℕ) → length C′ ≡ length C
+    → ((i : ℕ) → (i ≡ at → ⊥) → getD C′ i 0 ≡ getD C i 0) → from ≤ at → at < to
+    → Kept S S C C′ from to width top
 kept-classes at e f l m = record {
   slots-long = refl;
   classes-long = e;
@@ -157,30 +160,47 @@ kept-classes at e f l m = record {
   after = λ i a. f i (λ z. omega arith);
 }
 
+-- the slots of one level more
+pub one-level : (width d : ℕ) → 1 ≤ d → width * (d - 1) + width ≡ width * d
+one-level width zero l = absurd (omega arith)
+one-level width (suc d) l = let z : suc d - 1 ≡ d = omega arith in
+    rw z (sym (level-sum width d))
+  where
+    level-sum : (w d : ℕ) → w * suc d ≡ w * d + w
+    level-sum w d = omega arith
+
 -- room for what comes next
-pub room-next : {R E S C S′ C′ : List ℕ} {scope top d : ℕ} (scope′ top′ d′ : ℕ) → Room R E S C scope top d
-    → length S′ ≡ length S → length C′ ≡ length C
-    → 1 ≤ scope′ → scope′ ≤ 256 → 256 ≤ top′ → top′ + 256 * d′ ≤ top + 256 * d → Room R E S′ C′ scope′ top′ d′
-room-next scope′ top′ d′ m a b u v w x = record {
+pub room-next : {R S S′ : List ℕ} {scope : Scope} {d : ℕ} (scope′ : Scope) (d′ : ℕ)
+    → Room R S scope d
+    → length S′ ≡ length S
+    → 1 ≤ scope′ .size → scope′ .size ≤ scope′ .width → scope′ .width ≤ scope′ .top
+    → scope′ .top + scope′ .width * d′ ≤ scope .top + scope .width * d → Room R S′ scope′ d′
+room-next scope′ d′ m a u v w x = record {
   this = u;
   scoped = v;
   above = w;
-  room = omega (arith, m .room, a);
+  room = omega (arith, m .room, a, x);
   rows = m .rows;
-  nodes = omega (arith, m .nodes, b);
 }
 
-pub room-child : {R E S C : List ℕ} {scope top d : ℕ} → Room R E S C scope top d → 1 ≤ d
-    → Room R E S C scope top (d - 1)
-room-child {scope = scope} {top} {d} m l =
-    room-next scope top (d - 1) m refl refl (m .this) (m .scoped) (m .above) (omega arith)
+-- n slots more are kept below the top for one level less
+pub room-raised : {R S S′ : List ℕ} {scope : Scope} {d : ℕ} (n : ℕ) → Room R S scope d
+    → length S′ ≡ length S → n ≤ scope .width → 1 ≤ d → Room R S′ (raised scope n) (d - 1)
+room-raised {scope = scope} {d} n m a l o =
+    room-next (raised scope n) (d - 1) m a (m .this) (m .scoped) (omega (arith, m .above))
+    (omega (arith, one-level (scope .width) d o))
 
-pub room-kept : {R E S C S′ C′ : List ℕ} {scope top d from to top′ : ℕ} → Room R E S C scope top d
-    → Kept S S′ C C′ from to top′ → Room R E S′ C′ scope top d
-room-kept {scope = scope} {top} {d} m k =
-    room-next scope top d m (k .slots-long) (k .classes-long) (m .this) (m .scoped) (m .above) (omega arith)
+pub room-child : {R S : List ℕ} {scope : Scope} {d : ℕ} → Room R S scope d → 1 ≤ d
+    → Room R S scope (d - 1)
+room-child {scope = scope} {d} m l = room-next scope (d - 1) m refl (m .this) (m .scoped) (m .above)
+    (omega (arith, one-level (scope .width) d l))
 
-pub room-slots : {R E S C : List ℕ} {scope top d : ℕ} → Room R E S C scope top d → scope ≤ length S
+pub room-kept : {R S C S′ C′ : List ℕ} {scope : Scope} {d from to width top : ℕ} → Room R S scope d
+    → Kept S S′ C C′ from to width top → Room R S′ scope d
+room-kept {scope = scope} {d} m k =
+    room-next scope d m (k .slots-long) (m .this) (m .scoped) (m .above) (omega arith)
+
+pub room-slots : {R S : List ℕ} {scope : Scope} {d : ℕ} → Room R S scope d → scope .size ≤ length S
 room-slots m = omega (arith, m .room, m .above, m .scoped)
 
 -- ---- the slots in scope
@@ -197,7 +217,7 @@ pub views-same : {W : World} {γ : Environment} {S S′ : List ℕ} {scope : ℕ
     → scope ≤ length S → length S′ ≡ length S
     → ((i : ℕ) → i < scope → getD S′ i 0 ≡ getD S i 0) → Views W γ S′ scope
 views-same {S = S} {S′} {scope} v l e f =
-    record { same = take-same scope S S′ l e f ∙ v .same; declared = v .declared }
+    record { same = take-same scope S S′ l e f ∙ v .same; current = v .current; declared = v .declared }
 
 -- ---- types
 
@@ -212,21 +232,22 @@ declared-known bool h = declared-bool
 declared-known {W} (class k) h = record { class-in = λ c e. let z : k ≡ c = cc in rw (← z) h }
 
 -- a declared class's number is in the tables
-pub class-low : {P : List Class} {R T A : List ℕ} {count : ℕ} (c : ℕ) → Headed P R T A count
+pub class-low : {P : List Class} {R E T A M F : List ℕ} {count : ℕ} (c : ℕ) → Headed P R E T A M F count
     → is-declared-type (world P) (class c) ≡ true → c ≤ count
-unfolding world
+unfolding world world-with
 class-low {P} c h e = omega (arith, leb-true c (length P) e, h .classes .counted)
 
-pub low-class : {P : List Class} {R T A : List ℕ} {count : ℕ} (c : ℕ) → Headed P R T A count → c ≤ count
+pub low-class : {P : List Class} {R E T A M F : List ℕ} {count : ℕ} (c : ℕ) → Headed P R E T A M F count
+    → c ≤ count
     → is-declared-type (world P) (class c) ≡ true
-unfolding world
+unfolding world world-with
 low-class {P} c h l = le-leb c (length P) (omega (arith, h .classes .counted))
 
-pub type-low : {P : List Class} {R T A : List ℕ} {count : ℕ} (t : ExprType) → Headed P R T A count
+pub type-low : {P : List Class} {R E T A M F : List ℕ} {count : ℕ} (t : ExprType) → Headed P R E T A M F count
     → Declared (world P) t → (c : ℕ) → t ≡ known (class c) → c ≤ count
 type-low t h d c e = class-low c h (d .class-in c e)
 
-pub case-low : {P : List Class} {R T A : List ℕ} {count : ℕ} (t : ExprType) → Headed P R T A count
+pub case-low : {P : List Class} {R E T A M F : List ℕ} {count : ℕ} (t : ExprType) → Headed P R E T A M F count
     → Declared (world P) t → CaseIn (length A) (typing-case t)
 case-low (known bool) h d = tt
 case-low (known (class c)) h d =
@@ -288,7 +309,9 @@ unfolding bind-checked
 bind-accepted q k a e = rw e
 
 -- the table of a node stays where a later call does not touch it
-pub looks-kept : (W : World) {S S′ C C′ : List ℕ} {from to top : ℕ} (e : Expr) (γ : Environment) (at : ℕ)
-    → Kept S S′ C C′ from to top → at + size e ≤ from
+pub looks-kept : (W : World) {S S′ C C′ : List ℕ} {from to width top : ℕ} (e : Expr) (γ : Environment)
+    (at : ℕ)
+    → Kept S S′ C C′ from to width top → at + size e ≤ from
     → LooksUp W C e γ at → LooksUp W C′ e γ at
-looks-kept W {C = C} {C′} e γ at k l h = looks-frame W C C′ e γ at (λ i u v. k .before i (omega arith)) h
+looks-kept W {C = C} {C′} e γ at k l h =
+    looks-frame W C C′ (k .classes-long) e γ at (λ i u v. k .before i (omega arith)) h

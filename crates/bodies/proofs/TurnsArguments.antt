@@ -1,271 +1,385 @@
--- The function arguments: a call's arguments, and their types after the effects of those that follow.
--- Assumes nothing.
+-- The function arguments: a call's arguments one by one, and their types after the effects of those that
+-- follow. Assumes nothing.
 use mathlib.Core.Path.{_≡_, refl, sym, ap, ap₂, subst, _∙_}
 use mathlib.Core.Bool.{true, false}
+use mathlib.Core.Logic.{⊎-elim}
 use mathlib.Core.List.{List, _∷_}
 use Prim.Native.Nat.{ℕ, zero, suc, _+_, _-_, _≤_, _<_}
 use native.Mathlib.Omega.{arith}
-use lib.ListN.{length, getD, set as replaced, length-set}
-use lib.Seq.{getD-set-same, getD-set-other}
+use lib.ListN.{length, getD}
 use Rattle.language.specs.Lists.{nth}
-use Rattle.language.specs.Results.{Checked, accept, refuse, bind-checked, accept≢refuse, accept-injective}
-use Rattle.language.specs.Tree.{ExprType, null-type, Class, Expr, Exprs, cons, size, sizes}
+use Rattle.language.specs.Results.{Checked, accept, refuse, bind-checked, bind-checked-inv, accept≢refuse}
+use Rattle.language.specs.Results.{accept-injective}
+use Rattle.language.specs.Tree.{null-type, Class, Expr, Exprs, cons, size, sizes}
 use Rattle.language.specs.Tree.{count as how-many}
+use Rattle.language.specs.World.{World}
 use Rattle.language.specs.Effects.{join, apply-expr}
 use Rattle.language.specs.Program.{world}
 use Rattle.language.specs.Environment.{Environment}
-use Rattle.language.specs.Typing.{TypedAll, typed, type-of, type-all}
+use Rattle.language.specs.Typing.{Typed, TypedAll, typed, type-of, type-all}
 use Rattle.language.specs.Encoded.{EncodedAll}
 use Rattle.language.specs.LookupClasses.{LooksUp}
+use Rattle.language.proofs.Lines.{less-or-same}
 use Rattle.language.proofs.Nodes.{Head}
 use Rattle.bodies.specs.declared.Answer.{Answer}
-use Rattle.bodies.specs.declared.Typing.{Typing}
+use Rattle.bodies.specs.declared.Scope.{Scope}
 use Rattle.bodies.specs.declared.Typing.the-variants.{Null}
-use Rattle.bodies.specs.Answers.{answer, answer-of, typing-case, case-number, is-refusal}
-use Rattle.bodies.specs.Tables.{Applicable, applied-number}
-use Rattle.bodies.specs.Cycle.{Views, Room, Pre, Post, PreList, AcceptedAll, PostArguments}
-use Rattle.bodies.specs.Cycle.{stored}
-use Rattle.bodies.proofs.TypeNumbers.{applicable, applied-case}
+use Rattle.bodies.specs.Answers.{answer, answer-of, case-number, is-refusal}
+use Rattle.bodies.specs.Tables.{Applicable, Known, applied-number}
+use Rattle.bodies.specs.Cycle.{raised, Pre, Post, PreList, AcceptedAll}
+use Rattle.bodies.specs.Cycle.{PostArguments, PostStore, stored}
+use Rattle.bodies.proofs.EffectLaws.{join-assoc, join-none}
+use Rattle.bodies.proofs.Laws.{known-same}
+use Rattle.bodies.proofs.TypeNumbers.{applied-case}
+use Rattle.bodies.proofs.Waiting.{applied-none, applied-join, known-applied, known-case}
+use Rattle.bodies.proofs.Waiting.{known-applicable}
 use Rattle.bodies.proofs.Turns.{Given, GivenAll, pre-of, given-all-of, room-next, views-same}
-use Rattle.bodies.proofs.Turns.{bind-refused, bind-accepted}
+use Rattle.bodies.proofs.Turns.{bind-refused}
 use Rattle.bodies.proofs.TurnsNodes.{Did, did, failed, after-row, row-of}
 use Rattle.bodies.proofs.TurnsLists.{none-accepted, by-nil, by-cons, list-first, list-rest, list-pre}
-use Rattle.bodies.proofs.TurnsLists.{both}
-use Rattle.bodies.proofs.TurnsLists.{cons-accepted, cons-refused, all-cons, all-refused, all-accepted}
+use Rattle.bodies.proofs.TurnsLists.{both, cons-accepted, cons-refused, all-cons}
 use Rattle.bodies.proofs.TurnsLists.{given-all, encoded-first, encoded-rest, first-after}
 
--- the first argument has the room of all
-lower-top : {R E T A S C : List ℕ} {count at scope top′ : ℕ} {P : List Class} {e : Expr} {γ : Environment}
-    {d : ℕ} (top : ℕ) → 256 ≤ top → top ≤ top′
-    → Given R E T A S C count at scope top′ P e γ d → Given R E T A S C count at scope top P e γ d
-lower-top {scope = scope} {d = d} top l m g = record {
+-- an argument has room below the room of all
+lower-top : {R E T A M F S C : List ℕ} {at : ℕ} {scope : Scope} {P : List Class} {e : Expr} {γ : Environment}
+    {d : ℕ} (i n : ℕ) → i ≤ n → scope .width ≤ scope .top → Given R E T A M F S C at (raised scope n) P e γ d
+    → Given R E T A M F S C at (raised scope i) P e γ d
+lower-top {scope = scope} {d = d} i n m l g = record {
   headed = g .headed;
   encoded = g .encoded;
   limited = g .limited;
   views = g .views;
-  room = room-next scope top d (g .room) refl refl (g .room .this) (g .room .scoped) l (omega arith);
+  room = room-next (raised scope i) d (g .room) refl (g .room .this) (g .room .scoped) (omega arith)
+      (omega arith);
 }
 
-module _ {R E T A S C : List ℕ} {count at scope top n : ℕ} where
-  pub argument-pre : 256 ≤ top → PreList R E T A S C count at scope (top + n) n → (n ≡ 0 → ⊥)
-      → Pre R E T A S C count at scope top
-  argument-pre l p z =
-      by-cons (p .es) n (p .many) z
-      (λ es. GivenAll R E T A S C count at scope (top + n) (p .P) es (p .γ) (p .d)
-      → Pre R E T A S C count at scope top)
-      (λ x xs m e g. pre-of (lower-top top l (omega arith) (list-first g))) (given-all-of p)
+-- What the arguments that are left come to: the definition's answer. Where they are accepted, their effect is
+-- applied to the types of the i that wait, and their own types follow.
+pub record Comes (P : List Class) (T S S′ C′ : List ℕ) (at : ℕ) (scope : Scope) (i left φ : ℕ) (r : Answer)
+    (γ : Environment) (es : Exprs) : Type 0 where
+  pub is : r ≡ answer-of (bind-checked (type-all (world P) es (at + 1) γ) λ b. typed null-type (b .slots)
+      (join φ (b .effect)))
+  pub accepted : (b : TypedAll) → type-all (world P) es (at + 1) γ ≡ accept b
+      → AcceptedAll (world P) es γ at (scope .size) S′ C′ b
+  pub waited : (b : TypedAll) → type-all (world P) es (at + 1) γ ≡ accept b → (k : ℕ) → k < i
+      → getD S′ (scope .top + k) 0 ≡ applied-number T (b .effect) (getD S (scope .top + k) 0)
+  pub own : (b : TypedAll) → type-all (world P) es (at + 1) γ ≡ accept b → (k : ℕ) → k < left
+      → getD S′ (scope .top + i + k) 0 ≡ getD (stored (b .types)) k 0
 
-  pub arguments-pre : {S′ C′ : List ℕ} {x : Answer} → 256 ≤ top
-      → PreList R E T A S C count at scope (top + n) n → (n ≡ 0 → ⊥)
-      → Post R E T A S C S′ C′ count at scope top x
-      → is-refusal (x .typing) ≡ false
-      → PreList R E T A S′ C′ count (getD E at 0) scope (top + 1 + (n - 1)) (n - 1)
-  arguments-pre {S′} {C′} l p z q ok =
-      let k : top + n ≡ top + 1 + (n - 1) = omega (arith, z) in
-      subst (λ (m : ℕ). PreList R E T A S′ C′ count (getD E at 0) scope m (n - 1)) k
-      (by-cons (p .es) n (p .many) z
-      (λ es. GivenAll R E T A S C count at scope (top + n) (p .P) es (p .γ) (p .d)
-      → PreList R E T A S′ C′ count (getD E at 0) scope (top + n) (n - 1))
-      (λ x xs m e g. subst (λ (k : ℕ). PreList R E T A S′ C′ count k scope (top + n) (n - 1))
-      (sym (row-of (list-first g) .end))
-      (list-pre m (list-rest g (q .kept) (did (lower-top top l (omega arith) (list-first g)) q ok))))
-      (given-all-of p))
+-- What typing the arguments that are left keeps, and what they come to.
+pub record PostLeft (R E T A M F S C S′ C′ : List ℕ) (at : ℕ) (scope : Scope) (n i left φ : ℕ) (r : Answer) :
+    Type 0 where
+  pub slots-long : length S′ ≡ length S
+  pub classes-long : length C′ ≡ length C
+  pub between : (k : ℕ) → scope .width ≤ k → k < scope .top → getD S′ k 0 ≡ getD S k 0
+  pub before : (k : ℕ) → k < at → getD C′ k 0 ≡ getD C k 0
+  pub after : (es : Exprs) → left ≡ how-many es → EncodedAll R E es at → (k : ℕ) → at + sizes es ≤ k
+      → getD C′ k 0 ≡ getD C k 0
+  pub out : (P : List Class) (es : Exprs) (γ : Environment) (d : ℕ) → left ≡ how-many es
+      → GivenAll R E T A M F S C at (raised scope n) P es γ d
+      → Comes P T S S′ C′ at scope i left φ r γ es
 
-  pub arguments-none : {r : Answer} → n ≡ 0 → r ≡ answer Null 0
-      → PostArguments R E T A S C S C count at scope top n r
-  unfolding type-of LooksUp bind-checked nth
-  arguments-none {r} z e = record {
-    slots-long = refl;
-    classes-long = refl;
-    between = λ i l m. refl;
-    before = λ i l. refl;
-    after = λ es m g i l. refl;
-    out = λ P es γ d m h en li v ro.
-        by-nil es n m z (λ es. (r ≡ answer-of (bind-checked (type-all (world P) es (at + 1) γ) λ b. typed
-        null-type (b .slots) (b .effect)))
-        × ((b : TypedAll) → type-all (world P) es (at + 1) γ ≡ accept b
-        → AcceptedAll (world P) es γ at scope S C b
-        × ((i : ℕ) → i < n → getD S (top + i) 0 ≡ getD (stored (b .types)) i 0))) (
-          e,
-          λ b q. (
-            none-accepted (world P) γ at scope S C b v q,
-            λ i l. absurd (omega (arith, z, l)),
-          ),
-        );
-  }
+-- an effect so far is joined to that of an argument, then to those of the rest
+argument-out : (W : World) (es : Exprs) (l : ℕ) (a : Typed) (φ : ℕ)
+    → answer-of (bind-checked (type-all W es l (a .slots)) λ b. typed null-type (b .slots)
+    (join (join φ (a .effect)) (b .effect)))
+    ≡ answer-of (bind-checked (bind-checked (type-all W es l (a .slots)) λ b. accept (both W a b)) λ b. typed
+    null-type (b .slots) (join φ (b .effect)))
+unfolding bind-checked
+argument-out W es l a φ = go (type-all W es l (a .slots))
+  where
+    go : (q : Checked TypedAll)
+        → answer-of (bind-checked q λ b. typed null-type (b .slots) (join (join φ (a .effect)) (b .effect)))
+        ≡ answer-of (bind-checked (bind-checked q λ b. accept (both W a b)) λ b. typed null-type (b .slots)
+        (join φ (b .effect)))
+    go (refuse n k) = refl
+    go (accept b) = ap (answer Null) (join-assoc φ (a .effect) (b .effect))
 
-module _ {R E T A S C : List ℕ} {count at scope top n : ℕ} (l : 256 ≤ top) (z : n ≡ 0 → ⊥) {S′ C′ : List ℕ}
-    {x : Answer} (q : Post R E T A S C S′ C′ count at scope top x) where
-  pub arguments-fail : is-refusal (x .typing) ≡ true → PostArguments R E T A S C S′ C′ count at scope top n x
-  arguments-fail f = record {
-    slots-long = q .kept .slots-long;
-    classes-long = q .kept .classes-long;
-    between = q .kept .between;
-    before = q .kept .before;
-    after = first-after z q;
-    out = λ P es γ d m h en li v ro. by-cons es n m z
-        (λ es. GivenAll R E T A S C count at scope (top + n) P es γ d
-        → (x ≡ answer-of (bind-checked (type-all (world P) es (at + 1) γ) λ b. typed null-type (b .slots)
-        (b .effect)))
-        × ((b : TypedAll) → type-all (world P) es (at + 1) γ ≡ accept b
-        → AcceptedAll (world P) es γ at scope S′ C′ b
-        × ((i : ℕ) → i < n → getD S′ (top + i) 0 ≡ getD (stored (b .types)) i 0)))
-        (λ e xs m′ s g.
-        let w = failed (lower-top top l (omega arith) (list-first g)) q f in
-        let c = cons-refused (world P) e xs at γ (w .n) (w .l) (w .typed-at) in (
-          w .is ∙ sym (ap answer-of (bind-refused (type-all (world P) (cons e xs) (at + 1) γ)
-              (λ b. typed null-type (b .slots) (b .effect)) (w .n) (w .l) c)),
-          λ b y. absurd (accept≢refuse (w .n) (w .l) (sym c ∙ y)),
-        ))
-        (given-all P es γ d h en li v ro);
-  }
+-- none is left
+left-none : {R E T A M F S C : List ℕ} {at : ℕ} {scope : Scope} {n i left φ : ℕ} {r : Answer} → left ≡ 0
+    → r ≡ answer Null φ → PostLeft R E T A M F S C S C at scope n i left φ r
+unfolding type-of LooksUp bind-checked nth
+left-none {T = T} {S = S} {C} {at} {scope} {n} {i} {left} {φ} {r} z e = record {
+  slots-long = refl;
+  classes-long = refl;
+  between = λ k l m. refl;
+  before = λ k l. refl;
+  after = λ es m g k l. refl;
+  out = λ P es γ d m g. by-nil es left m z (Comes P T S S C at scope i left φ r γ) (record {
+    is = e ∙ ap (answer Null) (sym (join-none φ));
+    accepted = λ b q. none-accepted (world P) γ at (scope .size) S C b (g .views) q;
+    waited = λ b q k l. sym (ap (λ (x : TypedAll). applied-number T (x .effect) (getD S (scope .top + k) 0))
+        (sym (accept-injective q)) ∙ applied-none T (getD S (scope .top + k) 0));
+    own = λ b q k l. absurd (omega (arith, z, l));
+  });
+}
 
-  module _ (p : PreList R E T A S C count at scope (top + n) n) (ok : is-refusal (x .typing) ≡ false)
-      {y : Answer} {S″ C″ : List ℕ}
-      (o : PostArguments R E T A S′ C′ S″ C″ count (getD E at 0) scope (top + 1) (n - 1) y) where
-    rest-at : (e : Expr)
-        → Head R E e at → PostArguments R E T A S′ C′ S″ C″ count (at + size e) scope (top + 1) (n - 1) y
-    rest-at e h = subst (λ (k : ℕ). PostArguments R E T A S′ C′ S″ C″ count k scope (top + 1) (n - 1) y)
-        (h .end) o
+-- ---- the loop over the arguments
 
-    all-after : (es : Exprs) → n ≡ how-many es → EncodedAll R E es at → (i : ℕ) → at + sizes es ≤ i
-        → getD C″ i 0 ≡ getD C i 0
-    unfolding size
-    all-after es m en i j =
-        by-cons es n m z (λ es. EncodedAll R E es at → at + sizes es ≤ i → getD C″ i 0 ≡ getD C′ i 0)
-        (λ e xs m′ s en j. rest-at e (encoded-first R E e xs at en) .after xs m′ (encoded-rest R E e xs at en)
-        i (omega (arith, j))) en j ∙ first-after z q es m en i j
+-- From a row on some are left, and the types of i wait; what those left come to, all come to.
+pub record ArgumentsLoop (R E T A M F S C : List ℕ) (at : ℕ) (scope : Scope) (n : ℕ) (S₁ C₁ : List ℕ)
+    (φ next i : ℕ) : Type 0 where
+  pub left : ℕ
+  pub sum : i + left ≡ n
+  pub above : scope .width ≤ scope .top
+  pub pre : PreList R E T A M F S₁ C₁ next (raised scope n) left
+  pub later : at ≤ next
+  pub slots-long : length S₁ ≡ length S
+  pub classes-long : length C₁ ≡ length C
+  pub waiting : (k : ℕ) → k < i → Known (scope .count) (getD S₁ (scope .top + k) 0)
+  pub rest : {S′ C′ : List ℕ} {r : Answer} → PostLeft R E T A M F S₁ C₁ S′ C′ next scope n i left φ r
+      → PostArguments R E T A M F S C S′ C′ at scope n r
 
-    rest-out : (P : List Class) (e : Expr) (xs : Exprs) (γ : Environment) (d : ℕ) → n - 1 ≡ how-many xs
-        → (g : GivenAll R E T A S C count at scope (top + n) P (cons e xs) γ d)
-        → (w : Did (world P) e γ at scope S′ C′ x)
-        → (y ≡ answer-of (bind-checked (type-all (world P) xs (at + size e + 1) (w .a .slots)) λ b. typed
-        null-type (b .slots) (b .effect)))
-        × ((b : TypedAll) → type-all (world P) xs (at + size e + 1) (w .a .slots) ≡ accept b
-        → AcceptedAll (world P) xs (w .a .slots) (at + size e) scope S″ C″ b
-        × ((i : ℕ) → i < n - 1 → getD S″ (top + 1 + i) 0 ≡ getD (stored (b .types)) i 0))
-    rest-out P e xs γ d m g w =
-        let g′ = list-rest g (q .kept) w in
-        let k : top + n ≡ top + 1 + (n - 1) = omega (arith, z) in
-        rest-at e (row-of (list-first g)) .out P xs (w .a .slots) d m (g′ .headed) (g′ .encoded) (g′ .limited)
-        (g′ .views) (subst (λ (u : ℕ). Room R E S′ C′ scope u d) k (g′ .room))
+all-left : {R E T A M F S C S′ C′ : List ℕ} {at : ℕ} {scope : Scope} {n : ℕ} {r : Answer}
+    → PostLeft R E T A M F S C S′ C′ at scope n 0 n 0 r → PostArguments R E T A M F S C S′ C′ at scope n r
+unfolding join
+all-left {scope = scope} o = record {
+  slots-long = o .slots-long;
+  classes-long = o .classes-long;
+  between = o .between;
+  before = o .before;
+  after = o .after;
+  out = λ P es γ d m h en li v ro.
+      let y = o .out P es γ d m (given-all P es γ d h en li v ro) in (
+        y .is,
+        λ b t. (
+          y .accepted b t,
+          λ k j. let e : scope .top + k ≡ scope .top + 0 + k = omega arith in rw e (y .own b t k j),
+        ),
+      );
+}
 
-    pub arguments-fail-rest : is-refusal (y .typing) ≡ true
-        → PostArguments R E T A S C S″ C″ count at scope top n y
-    arguments-fail-rest f = record {
-      slots-long = o .slots-long ∙ q .kept .slots-long;
-      classes-long = o .classes-long ∙ q .kept .classes-long;
-      between = λ i j m. o .between i j (omega arith) ∙ q .kept .between i j m;
-      before = λ i j. o .before i (omega (arith, after-row (argument-pre l p z))) ∙ q .kept .before i j;
-      after = all-after;
-      out = λ P es γ d m h en li v ro. by-cons es n m z
-          (λ es. GivenAll R E T A S C count at scope (top + n) P es γ d
-          → (y ≡ answer-of (bind-checked (type-all (world P) es (at + 1) γ) λ b. typed null-type
-          (b .slots) (b .effect)))
-          × ((b : TypedAll) → type-all (world P) es (at + 1) γ ≡ accept b
-          → AcceptedAll (world P) es γ at scope S″ C″ b
-          × ((i : ℕ) → i < n → getD S″ (top + i) 0 ≡ getD (stored (b .types)) i 0)))
-          (λ e xs m′ s g.
-          let w = did (lower-top top l (omega arith) (list-first g)) q ok in
-          all-refused (type-all (world P) xs (at + size e + 1) (w .a .slots))
-          (λ b. record { type = null-type; slots = b .slots; effect = b .effect })
-          (rest-out P e xs γ d m′ g w .0) f λ k j u v.
-          let c : type-all (world P) (cons e xs) (at + 1) γ ≡ refuse k j
-          = cons-accepted (world P) e xs at γ (w .a) (w .typed-at)
-          ∙ bind-refused (type-all (world P) xs (at + size e + 1) (w .a .slots))
-          (λ b. accept (both (world P) (w .a) b)) k j u in (
-            v ∙ sym (ap answer-of
-                (bind-refused (type-all (world P) (cons e xs) (at + 1) γ)
-                (λ b. typed null-type (b .slots) (b .effect)) k j c)),
-            λ b t. absurd (accept≢refuse k j (sym c ∙ t)),
-          ))
-          (given-all P es γ d h en li v ro);
-    }
+pub arguments-start : {R E T A M F S C : List ℕ} {at : ℕ} {scope : Scope} {n : ℕ} → scope .width ≤ scope .top
+    → PreList R E T A M F S C at (raised scope n) n → ArgumentsLoop R E T A M F S C at scope n S C 0 at 0
+arguments-start {n = n} l p = record {
+  left = n;
+  sum = omega arith;
+  above = l;
+  pre = p;
+  later = omega arith;
+  slots-long = refl;
+  classes-long = refl;
+  waiting = λ k m. absurd (omega arith);
+  rest = λ o. all-left o;
+}
 
-    -- what the last step stores
-    pub argument-applicable : Applicable T (case-number (x .typing))
-    argument-applicable =
-        by-cons (p .es) n (p .many) z
-        (λ es. GivenAll R E T A S C count at scope (top + n) (p .P) es (p .γ) (p .d)
-        → Applicable T (case-number (x .typing)))
-        (λ e xs m s g.
-        let w = did (lower-top top l (omega arith) (list-first g)) q ok in
-        subst (λ (t : Typing). Applicable T (case-number t)) (sym (ap (λ (a : Answer). a .typing) (w .is)))
-        (applicable (w .a .type) (g .headed) (w .accepted .declared)))
-        (given-all-of p)
+module _ {R E T A M F S C : List ℕ} {at : ℕ} {scope : Scope} {n : ℕ} {S₁ C₁ : List ℕ} {φ next i : ℕ}
+    (w : ArgumentsLoop R E T A M F S C at scope n S₁ C₁ φ next i) where
+  pub arguments-ended : {r : Answer} → n ≤ i → r ≡ answer Null φ
+      → PostArguments R E T A M F S C S₁ C₁ at scope n r
+  arguments-ended m e = w .rest (left-none (omega (arith, w .sum)) e)
 
-    pub argument-room : top < length S″
-    argument-room = omega (arith, p .room .room, o .slots-long, q .kept .slots-long, z)
+  module _ (m : i < n) where
+    more : w .left ≡ 0 → ⊥
+    more e = omega (arith, w .sum)
 
-    module _ (done : is-refusal (y .typing) ≡ false) {v : ℕ}
-        (e₁ : v ≡ applied-number T (y .effect) (case-number (x .typing))) where
-      step-out : (P : List Class) (e : Expr) (xs : Exprs) (γ : Environment) (d : ℕ) → n - 1 ≡ how-many xs
-          → GivenAll R E T A S C count at scope (top + n) P (cons e xs) γ d
-          → (answer Null (join (x .effect) (y .effect))
-          ≡ answer-of (bind-checked (type-all (world P) (cons e xs) (at + 1) γ) λ b. typed null-type
-          (b .slots) (b .effect)))
-          × ((b : TypedAll) → type-all (world P) (cons e xs) (at + 1) γ ≡ accept b
-          → AcceptedAll (world P) (cons e xs) γ at scope (replaced S″ top v) C″ b
-          × ((i : ℕ) → i < n → getD (replaced S″ top v) (top + i) 0 ≡ getD (stored (b .types)) i 0))
-      unfolding stored bind-checked
-      step-out P e xs γ d m g =
-          let w = did (lower-top top l (omega arith) (list-first g)) q ok in
-          let ro = rest-out P e xs γ d m g w in
-          all-accepted (type-all (world P) xs (at + size e + 1) (w .a .slots))
-          (λ b. record { type = null-type; slots = b .slots; effect = b .effect }) (ro .0) done λ b u s.
-          let c : type-all (world P) (cons e xs) (at + 1) γ ≡ accept (both (world P) (w .a) b)
-          = cons-accepted (world P) e xs at γ (w .a) (w .typed-at)
-          ∙ bind-accepted (type-all (world P) xs (at + size e + 1) (w .a .slots))
-          (λ b. accept (both (world P) (w .a) b)) b u in
-          let f : y .effect ≡ b .effect = ap (λ (a : Answer). a .effect) s in
-          let tx : x .typing ≡ typing-case (w .a .type) = ap (λ (a : Answer). a .typing) (w .is) in
-          let acc = ro .1 b u in
-          let num : v ≡ case-number (typing-case (apply-expr (world P) (b .effect) (w .a .type)))
-          = e₁ ∙ (ap₂ (λ (φ : ℕ) (t : Typing). applied-number T φ (case-number t)) f tx
-          ∙ applied-case (b .effect) (w .a .type) (g .headed) (w .accepted .declared)) in
-          let vs : Views (world P) (b .slots) (replaced S″ top v) scope
-          = views-same (acc .0 .views) (omega (arith, argument-room, g .room .scoped, l))
-          (length-set S″ top v)
-          (λ i j. getD-set-other S″ top i v 0 (λ h. omega (arith, h, j, g .room .scoped, l))) in
-          let al : AcceptedAll (world P) xs (w .a .slots) (at + size e) scope (replaced S″ top v) C″ b =
-          record { views = vs; types = acc .0 .types; looks = acc .0 .looks } in (
-            ap₂ (λ (φ ψ : ℕ). answer Null (join φ ψ)) (ap (λ (a : Answer). a .effect) (w .is)) f
-                ∙ sym (ap (λ (k : Checked TypedAll). answer-of
-                (bind-checked k λ b. typed null-type (b .slots) (b .effect))) c),
-            λ b′ t. subst (λ (k : TypedAll). AcceptedAll (world P) (cons e xs) γ at scope (replaced S″ top v)
-                C″ k × ((i : ℕ) → i < n
-                → getD (replaced S″ top v) (top + i) 0 ≡ getD (stored (k .types)) i 0))
-                (accept-injective (sym c ∙ t)) (
-                  all-cons (g .headed) w (λ i j. rest-at e (row-of (list-first g)) .before i j) al,
-                  λ i j. at-place (apply-expr (world P) (b .effect) (w .a .type)) b num (acc .1) i j,
-                ),
-          )
-        where
-          at-place : (a : ExprType) (b : TypedAll) → v ≡ case-number (typing-case a)
-              → ((i : ℕ) → i < n - 1 → getD S″ (top + 1 + i) 0 ≡ getD (stored (b .types)) i 0)
-              → (i : ℕ) → i < n → getD (replaced S″ top v) (top + i) 0 ≡ getD (stored (a ∷ b .types)) i 0
-          at-place a b num f zero j = let k : top + 0 ≡ top = omega arith in
-              rw k (getD-set-same S″ top v 0 argument-room ∙ num)
-          at-place a b num f (suc i) j =
-              let k : top + suc i ≡ top + 1 + i = omega arith in
-              rw k (getD-set-other S″ top (top + 1 + i) v 0 (λ h. omega (arith, h)) ∙ f i (omega (arith, j)))
+    first-of : {P : List Class} {e : Expr} {es : Exprs} {γ : Environment} {d : ℕ}
+        → GivenAll R E T A M F S₁ C₁ next (raised scope n) P (cons e es) γ d
+        → Given R E T A M F S₁ C₁ next (raised scope i) P e γ d
+    first-of g = lower-top i n (omega arith) (w .above) (list-first g)
 
-      pub arguments-step : {r : Answer} → r ≡ answer Null (join (x .effect) (y .effect))
-          → PostArguments R E T A S C (replaced S″ top v) C″ count at scope top n r
-      arguments-step {r} e₂ = record {
-        slots-long = length-set S″ top v ∙ (o .slots-long ∙ q .kept .slots-long);
-        classes-long = o .classes-long ∙ q .kept .classes-long;
-        between = λ i j m. getD-set-other S″ top i v 0 (λ h. omega (arith, h, m))
-            ∙ (o .between i j (omega arith) ∙ q .kept .between i j m);
-        before = λ i j. o .before i (omega (arith, after-row (argument-pre l p z))) ∙ q .kept .before i j;
-        after = all-after;
-        out = λ P es γ d m h en li vw ro. by-cons es n m z
-            (λ es. GivenAll R E T A S C count at scope (top + n) P es γ d
-            → (r ≡ answer-of (bind-checked (type-all (world P) es (at + 1) γ) λ b. typed null-type
-            (b .slots) (b .effect)))
-            × ((b : TypedAll) → type-all (world P) es (at + 1) γ ≡ accept b
-            → AcceptedAll (world P) es γ at scope (replaced S″ top v) C″ b
-            × ((i : ℕ) → i < n → getD (replaced S″ top v) (top + i) 0 ≡ getD (stored (b .types)) i 0)))
-            (λ e xs m′ s g. let so = step-out P e xs γ d m′ g in (e₂ ∙ so .0, so .1))
-            (given-all P es γ d h en li vw ro);
+    pub argument-pre : Pre R E T A M F S₁ C₁ next (raised scope i)
+    argument-pre = by-cons (w .pre .es) (w .left) (w .pre .many) more
+        (λ es. GivenAll R E T A M F S₁ C₁ next (raised scope n) (w .pre .P) es (w .pre .γ) (w .pre .d)
+        → Pre R E T A M F S₁ C₁ next (raised scope i))
+        (λ x xs k e g. pre-of (first-of g)) (given-all-of (w .pre))
+
+    module _ {S₂ C₂ : List ℕ} {x : Answer} (q : Post R E T A M F S₁ C₁ S₂ C₂ next (raised scope i) x) where
+      left-fail : is-refusal (x .typing) ≡ true
+          → PostLeft R E T A M F S₁ C₁ S₂ C₂ next scope n i (w .left) φ x
+      left-fail f = record {
+        slots-long = q .kept .slots-long;
+        classes-long = q .kept .classes-long;
+        between = λ k a b. q .kept .between k a (omega arith);
+        before = q .kept .before;
+        after = first-after more q;
+        out = λ P es γ d k. by-cons es (w .left) k more
+            (λ es. GivenAll R E T A M F S₁ C₁ next (raised scope n) P es γ d
+            → Comes P T S₁ S₂ C₂ next scope i (w .left) φ x γ es)
+            (λ e xs k′ s g.
+            let u = failed (first-of g) q f in
+            let c = cons-refused (world P) e xs next γ (u .n) (u .l) (u .typed-at) in record {
+              is = u .is ∙ sym (ap answer-of (bind-refused (type-all (world P) (cons e xs) (next + 1) γ)
+                  (λ b. typed null-type (b .slots) (join φ (b .effect))) (u .n) (u .l) c));
+              accepted = λ b y. absurd (accept≢refuse (u .n) (u .l) (sym c ∙ y));
+              waited = λ b y. absurd (accept≢refuse (u .n) (u .l) (sym c ∙ y));
+              own = λ b y. absurd (accept≢refuse (u .n) (u .l) (sym c ∙ y));
+            });
       }
+
+      pub arguments-broken : is-refusal (x .typing) ≡ true
+          → PostArguments R E T A M F S C S₂ C₂ at scope n x
+      arguments-broken f = w .rest (left-fail f)
+
+      -- the types that wait stay as they are while an argument is typed
+      still : (k : ℕ) → k < i → getD S₂ (scope .top + k) 0 ≡ getD S₁ (scope .top + k) 0
+      still k l = q .kept .between (scope .top + k) (omega (arith, w .above)) (omega arith)
+
+      pub store-ready : (scope .top + i < length S₂)
+          × ((k : ℕ) → k < i → Applicable T (getD S₂ (scope .top + k) 0))
+      store-ready = (
+        omega (arith, w .pre .room .room, q .kept .slots-long),
+        λ k l. known-applicable (w .pre .headed) (known-same (still k l) (w .waiting k l)),
+      )
+
+      module _ (ok : is-refusal (x .typing) ≡ false) {S₃ : List ℕ} (v : PostStore T S₂ S₃ (scope .top) i x)
+        where
+          -- the argument that was typed, with what is known of all
+          by-first : {X : Type 0}
+              → ((e : Expr) (xs : Exprs) → w .left - 1 ≡ how-many xs
+              → (g : GivenAll R E T A M F S₁ C₁ next (raised scope n) (w .pre .P) (cons e xs) (w .pre .γ)
+              (w .pre .d))
+              → Did (world (w .pre .P)) e (w .pre .γ) next (scope .size) S₂ C₂ x → X) → X
+          by-first {X} f = by-cons (w .pre .es) (w .left) (w .pre .many) more
+              (λ es. GivenAll R E T A M F S₁ C₁ next (raised scope n) (w .pre .P) es (w .pre .γ) (w .pre .d)
+              → X)
+              (λ e xs k s g. f e xs k g (did (first-of g) q ok)) (given-all-of (w .pre))
+
+          known-next : (k : ℕ) → k < i + 1 → Known (scope .count) (getD S₃ (scope .top + k) 0)
+          known-next k l = ⊎-elim
+              (λ (l : k < i). known-same (v .waiting k l)
+              (known-applied (w .pre .headed) (x .effect) (known-same (still k l) (w .waiting k l))))
+              (λ (e : k ≡ i). rw e (known-same (v .last) (by-first λ y xs j g u.
+              known-same (ap (λ (a : Answer). case-number (a .typing)) (u .is))
+              (known-case (g .headed) (u .a .type) (u .accepted .declared)))))
+              (less-or-same k i (omega arith))
+
+          -- the rest has the slots with the types that wait
+          rest-given : {P : List Class} {e : Expr} {xs : Exprs} {γ : Environment} {d : ℕ}
+              → (g : GivenAll R E T A M F S₁ C₁ next (raised scope n) P (cons e xs) γ d)
+              → (u : Did (world P) e γ next (scope .size) S₂ C₂ x)
+              → GivenAll R E T A M F S₃ C₂ (next + size e) (raised scope n) P xs (u .a .slots) d
+          rest-given {d = d} g u = let r = list-rest g (q .kept) u in record {
+            headed = r .headed;
+            encoded = r .encoded;
+            limited = r .limited;
+            views = views-same (r .views) (omega (arith, r .room .room, r .room .scoped, r .room .above))
+                (v .long) (λ k l. v .below k (omega (arith, r .room .scoped, w .above)));
+            room = room-next (raised scope n) d (r .room) (v .long) (r .room .this) (r .room .scoped)
+                (r .room .above) (omega arith);
+          }
+
+          left-pre : PreList R E T A M F S₃ C₂ (getD E next 0) (raised scope n) (w .left - 1)
+          left-pre = by-first λ e xs k g u.
+              subst (λ (j : ℕ). PreList R E T A M F S₃ C₂ j (raised scope n) (w .left - 1))
+              (sym (row-of (list-first g) .end)) (list-pre k (rest-given g u))
+
+          module _ {S′ C′ : List ℕ} {r : Answer}
+              (o : PostLeft R E T A M F S₃ C₂ S′ C′ (getD E next 0) scope n (i + 1) (w .left - 1)
+              (join φ (x .effect)) r)
+            where
+              rest-at : (e : Expr) → Head R E e next
+                  → PostLeft R E T A M F S₃ C₂ S′ C′ (next + size e) scope n (i + 1) (w .left - 1)
+                  (join φ (x .effect)) r
+              rest-at e h =
+                  subst (λ (k : ℕ). PostLeft R E T A M F S₃ C₂ S′ C′ k scope n (i + 1) (w .left - 1)
+                  (join φ (x .effect)) r) (h .end) o
+
+              -- where the numbers stand in the end: those that waited, the argument's own, those of the rest
+              module _ {P : List Class} {e : Expr} {xs : Exprs} {γ : Environment} {d : ℕ}
+                  (g : GivenAll R E T A M F S₁ C₁ next (raised scope n) P (cons e xs) γ d)
+                  (u : Did (world P) e γ next (scope .size) S₂ C₂ x) (b : TypedAll)
+                  (y : (k : ℕ) → k < i + 1
+                  → getD S′ (scope .top + k) 0 ≡ applied-number T (b .effect) (getD S₃ (scope .top + k) 0))
+                where
+                  both-waited : (k : ℕ) → k < i → getD S′ (scope .top + k) 0
+                      ≡ applied-number T (join (u .a .effect) (b .effect)) (getD S₁ (scope .top + k) 0)
+                  both-waited k l =
+                      y k (omega arith)
+                      ∙ (ap (applied-number T (b .effect)) (v .waiting k l
+                      ∙ ap₂ (applied-number T) (ap (λ (a : Answer). a .effect) (u .is)) (still k l))
+                      ∙ applied-join (g .headed) (u .a .effect) (b .effect) (w .waiting k l))
+
+                  both-own : ((k : ℕ) → k < w .left - 1
+                      → getD S′ (scope .top + (i + 1) + k) 0 ≡ getD (stored (b .types)) k 0)
+                      → (k : ℕ) → k < w .left
+                      → getD S′ (scope .top + i + k) 0
+                      ≡ getD (stored (apply-expr (world P) (b .effect) (u .a .type) ∷ b .types)) k 0
+                  unfolding stored
+                  both-own f zero l = let k : scope .top + i + 0 ≡ scope .top + i = omega arith in
+                      rw k (y i (omega arith)
+                      ∙ (ap (applied-number T (b .effect))
+                      (v .last ∙ ap (λ (a : Answer). case-number (a .typing)) (u .is))
+                      ∙ applied-case (b .effect) (u .a .type) (g .headed) (u .accepted .declared)))
+                  both-own f (suc j) l =
+                      let k : scope .top + i + suc j ≡ scope .top + (i + 1) + j = omega arith in
+                      rw k (f j (omega (arith, l)))
+
+              step-out : (P : List Class) (e : Expr) (xs : Exprs) (γ : Environment) (d : ℕ)
+                  → w .left - 1 ≡ how-many xs
+                  → GivenAll R E T A M F S₁ C₁ next (raised scope n) P (cons e xs) γ d
+                  → Comes P T S₁ S′ C′ next scope i (w .left) φ r γ (cons e xs)
+              step-out P e xs γ d k g =
+                  let u = did (first-of g) q ok in
+                  let o′ = rest-at e (row-of (list-first g)) in
+                  let y = o′ .out P xs (u .a .slots) d k (rest-given g u) in
+                  let c = cons-accepted (world P) e xs next γ (u .a) (u .typed-at) in record {
+                    is = y .is
+                        ∙ (ap (λ (a : Answer). answer-of
+                        (bind-checked (type-all (world P) xs (next + size e + 1) (u .a .slots)) λ b. typed
+                        null-type (b .slots) (join (join φ (a .effect)) (b .effect)))) (u .is)
+                        ∙ (argument-out (world P) xs (next + size e + 1) (u .a) φ
+                        ∙ ap (λ (t : Checked TypedAll).
+                        answer-of (bind-checked t λ b. typed null-type (b .slots)
+                        (join φ (b .effect)))) (sym c)));
+                    accepted = λ b t. by-rest u c b t
+                        (λ b. AcceptedAll (world P) (cons e xs) γ next (scope .size) S′ C′ b)
+                        λ b s. all-cons (g .headed) u (o′ .classes-long) (λ k l. o′ .before k l)
+                        (y .accepted b s);
+                    waited = λ b t. by-rest u c b t
+                        (λ b. (k : ℕ) → k < i
+                        → getD S′ (scope .top + k) 0
+                        ≡ applied-number T (b .effect) (getD S₁ (scope .top + k) 0))
+                        λ b s. both-waited g u b (y .waited b s);
+                    own = λ b t. by-rest u c b t
+                        (λ b. (k : ℕ) → k < w .left
+                        → getD S′ (scope .top + i + k) 0 ≡ getD (stored (b .types)) k 0)
+                        λ b s. both-own g u b (y .waited b s) (y .own b s);
+                  }
+                where
+                  by-rest : (u : Did (world P) e γ next (scope .size) S₂ C₂ x)
+                      → type-all (world P) (cons e xs) (next + 1) γ
+                      ≡ bind-checked (type-all (world P) xs (next + size e + 1) (u .a .slots))
+                      (λ b. accept (both (world P) (u .a) b))
+                      → (b : TypedAll) → type-all (world P) (cons e xs) (next + 1) γ ≡ accept b
+                      → (Q : TypedAll → Type 0)
+                      → ((b : TypedAll) → type-all (world P) xs (next + size e + 1) (u .a .slots) ≡ accept b
+                      → Q (both (world P) (u .a) b)) → Q b
+                  by-rest u c b t Q f =
+                      bind-checked-inv (type-all (world P) xs (next + size e + 1) (u .a .slots))
+                      (λ b. accept (both (world P) (u .a) b)) (sym c ∙ t) λ b′ s h.
+                      subst Q (accept-injective h) (f b′ s)
+
+              left-step : PostLeft R E T A M F S₁ C₁ S′ C′ next scope n i (w .left) φ r
+              unfolding size
+              left-step = record {
+                slots-long = o .slots-long ∙ (v .long ∙ q .kept .slots-long);
+                classes-long = o .classes-long ∙ q .kept .classes-long;
+                between = λ k a b. o .between k a b ∙ (v .below k b ∙ q .kept .between k a (omega arith));
+                before = λ k l. o .before k (omega (arith, after-row argument-pre)) ∙ q .kept .before k l;
+                after = λ es k en j l.
+                    by-cons es (w .left) k more
+                    (λ es. EncodedAll R E es next → next + sizes es ≤ j → getD C′ j 0 ≡ getD C₂ j 0)
+                    (λ e xs k′ s en l. rest-at e (encoded-first R E e xs next en) .after xs k′
+                    (encoded-rest R E e xs next en) j (omega (arith, l))) en l
+                    ∙ first-after more q es k en j l;
+                out = λ P es γ d k. by-cons es (w .left) k more
+                    (λ es. GivenAll R E T A M F S₁ C₁ next (raised scope n) P es γ d
+                    → Comes P T S₁ S′ C′ next scope i (w .left) φ r γ es)
+                    (λ e xs k′ s g. step-out P e xs γ d k′ g);
+              }
+
+          pub arguments-next : {ψ : ℕ} → ψ ≡ join φ (x .effect)
+              → ArgumentsLoop R E T A M F S C at scope n S₃ C₂ ψ (getD E next 0) (i + 1)
+          arguments-next {ψ} e = record {
+            left = w .left - 1;
+            sum = omega (arith, w .sum);
+            above = w .above;
+            pre = left-pre;
+            later = omega (arith, w .later, after-row argument-pre);
+            slots-long = v .long ∙ (q .kept .slots-long ∙ w .slots-long);
+            classes-long = q .kept .classes-long ∙ w .classes-long;
+            waiting = known-next;
+            rest = λ {S′} {C′} {r} o. w .rest (left-step (subst (λ (φ : ℕ). PostLeft R E T A M F S₃ C₂ S′ C′
+                (getD E next 0) scope n (i + 1) (w .left - 1) φ r) e o));
+          }

@@ -13,6 +13,8 @@ use Rattle.language.specs.Environment.{Environment}
 use Rattle.language.specs.Typing.{TypedAll, typed, type-of, type-all}
 use Rattle.language.specs.Encoded.{NodeAt, Encoded}
 use Rattle.bodies.specs.declared.Answer.{Answer}
+use Rattle.bodies.specs.declared.Scope.{Scope}
+use Rattle.bodies.specs.Cycle.{raised}
 use Rattle.bodies.specs.declared.Typing.the-variants.{Null}
 use Rattle.bodies.specs.Answers.{answer, answer-of, is-refusal}
 use Rattle.bodies.specs.Nodes.{too-many-answer}
@@ -20,22 +22,24 @@ use Rattle.bodies.specs.Acts.{PreInvoke, Invoked}
 use Rattle.bodies.specs.Cycle.{Limited, Views, Kept, Pre, Post, Is, PreList, AcceptedAll, PostItems}
 use Rattle.bodies.specs.Cycle.{PostArguments, stored}
 use Rattle.bodies.proofs.Typings.{looks-frame}
-use Rattle.bodies.proofs.Turns.{Given, GivenAll, given-of, pre-of, post-of, in-row, kept-then}
+use Rattle.bodies.proofs.Turns.{Given, GivenAll, given-of, pre-of, post-of, kept-then}
 use Rattle.bodies.proofs.Turns.{kept-slots, kept-classes, room-next, room-child, room-slots}
-use Rattle.bodies.proofs.Turns.{is-refused, bind-refused, bind-accepted}
+use Rattle.bodies.proofs.Turns.{room-raised}
+use Rattle.bodies.proofs.Turns.{is-refused, bind-refused, bind-accepted, one-level}
 use Rattle.bodies.proofs.CallNode.{invoked-kept, pre-invoke, call-is, many-is}
 use Rattle.bodies.proofs.TurnsNodes.{did, failed, after-row, kept-in, row-of, by-node}
 use Rattle.bodies.proofs.TurnsLists.{list-pre, all-refused, all-accepted}
 
-module _ {R E T A S C : List ℕ} {count at scope top : ℕ} {P : List Class} {γ : Environment} {d : ℕ} {m : ℕ}
+module _ {R E T A M F S C : List ℕ} {at : ℕ} {scope : Scope} {P : List Class} {γ : Environment} {d : ℕ}
+    {m : ℕ}
     {e : Expr} {es : Exprs}
-    (g : Given R E T A S C count at scope top P (call m e es) γ d) where
-  call-1 : Given R E T A S C count (at + 1) scope top P e γ (d - 1)
+    (g : Given R E T A M F S C at scope P (call m e es) γ d) where
+  call-1 : Given R E T A M F S C (at + 1) scope P e γ (d - 1)
   unfolding Encoded Limited
   call-1 = record {
     headed = g .headed;
     encoded = g .encoded .1;
-    limited = g .limited .2;
+    limited = g .limited .3;
     views = g .views;
     room = room-child (g .room) (g .limited .0);
   }
@@ -45,37 +49,36 @@ module _ {R E T A S C : List ℕ} {count at scope top : ℕ} {P : List Class} {�
   call-row = (g .encoded .0, g .limited .1, g .limited .0)
 
   -- the arguments, with room for n numbers of their own
-  call-all : {S′ C′ : List ℕ} {δ : Environment} (n : ℕ) → n ≤ 8 → length S′ ≡ length S → length C′ ≡ length C
-      → Views (world P) δ S′ scope
-      → GivenAll R E T A S′ C′ count (at + 1 + size e) scope (top + n) P es δ (d - 1)
+  call-all : {S′ C′ : List ℕ} {δ : Environment} (n : ℕ) → n ≡ how-many es → n ≤ 8
+      → length S′ ≡ length S → Views (world P) δ S′ (scope .size)
+      → GivenAll R E T A M F S′ C′ (at + 1 + size e) (raised scope n) P es δ (d - 1)
   unfolding Encoded Limited
-  call-all n o a b v =
+  call-all n k o a v =
       let r = g .room in
       record {
         headed = g .headed;
         encoded = g .encoded .2;
-        limited = g .limited .3;
+        limited = g .limited .4;
         views = v;
-        room = room-next scope (top + n) (d - 1) r a b (r .this) (r .scoped) (omega (arith, r .above))
-            (omega (arith, call-row .2));
+        room = room-raised n r a (omega (arith, k, g .limited .2 (omega (arith, k, o)))) (call-row .2);
       }
 
-  call-all-0 : {S′ C′ : List ℕ} {δ : Environment} → length S′ ≡ length S → length C′ ≡ length C
-      → Views (world P) δ S′ scope
-      → GivenAll R E T A S′ C′ count (at + 1 + size e) scope top P es δ (d - 1)
+  call-all-0 : {S′ C′ : List ℕ} {δ : Environment} → length S′ ≡ length S
+      → Views (world P) δ S′ (scope .size)
+      → GivenAll R E T A M F S′ C′ (at + 1 + size e) scope P es δ (d - 1)
   unfolding Encoded Limited
-  call-all-0 a b v =
+  call-all-0 a v =
       let r = g .room in
       record {
         headed = g .headed;
         encoded = g .encoded .2;
-        limited = g .limited .3;
+        limited = g .limited .4;
         views = v;
-        room = room-next scope top (d - 1) r a b (r .this) (r .scoped) (r .above)
-            (omega (arith, call-row .2));
+        room = room-next scope (d - 1) r a (r .this) (r .scoped) (r .above)
+            (omega (arith, one-level (scope .width) d (call-row .2)));
       }
 
-module _ {R E T A S C : List ℕ} {count at scope top : ℕ} (p : Pre R E T A S C count at scope top)
+module _ {R E T A M F S C : List ℕ} {at : ℕ} {scope : Scope} (p : Pre R E T A M F S C at scope)
     (l : getD R (at * 4) 0 ≡ 81) where
   abbrev given-n : ℕ
   given-n = getD R (at * 4 + 2) 0
@@ -83,79 +86,83 @@ module _ {R E T A S C : List ℕ} {count at scope top : ℕ} (p : Pre R E T A S 
   abbrev next : ℕ
   next = getD E (at + 1) 0
 
-  pub call-first : Pre R E T A S C count (at + 1) scope top
-  call-first = by-node Q-call (p .e) (given-of p) l (λ _. Pre R E T A S C count (at + 1) scope top)
+  pub call-first : Pre R E T A M F S C (at + 1) scope
+  call-first = by-node Q-call (p .e) (given-of p) l (λ _. Pre R E T A M F S C (at + 1) scope)
       λ m e es g.
       pre-of (call-1 g)
 
-  module _ {S₁ C₁ : List ℕ} {a : Answer} (q : Post R E T A S C S₁ C₁ count (at + 1) scope top a) where
-    kept-1 : Kept S S₁ C C₁ at (getD E at 0) top
+  module _ {S₁ C₁ : List ℕ} {a : Answer} (q : Post R E T A M F S C S₁ C₁ (at + 1) scope a) where
+    kept-1 : Kept S S₁ C C₁ at (getD E at 0) (scope .width) (scope .top)
     unfolding size
-    kept-1 = by-node Q-call (p .e) (given-of p) l (λ _. Kept S S₁ C C₁ at (getD E at 0) top) λ m e es g.
-        kept-in top (row-of g) (row-of (call-1 g)) (omega arith) (omega arith) (omega arith) (q .kept)
+    kept-1 = by-node Q-call (p .e) (given-of p) l
+        (λ _. Kept S S₁ C C₁ at (getD E at 0) (scope .width) (scope .top)) λ m e es g.
+        kept-in (scope .top) (row-of g) (row-of (call-1 g)) (omega arith) (omega arith) (omega arith)
+        (q .kept)
 
-    pub call-fail : is-refusal (a .typing) ≡ true → Post R E T A S C S₁ C₁ count at scope top a
+    pub call-fail : is-refusal (a .typing) ≡ true → Post R E T A M F S C S₁ C₁ at scope a
     unfolding type-of
     call-fail f = post-of kept-1 λ P z γ d g.
-        by-node Q-call z g l (λ w. Is (world P) w γ at scope S₁ C₁ a) λ m e es g.
+        by-node Q-call z g l (λ w. Is (world P) w γ at (scope .size) S₁ C₁ a) λ m e es g.
         let w = failed (call-1 g) q f in is-refused (w .n) (w .l) (bind-refused _ _ _ _ (w .typed-at)) (w .is)
 
     module _ (ok : is-refusal (a .typing) ≡ false) where
       all-given : {P : List Class} {γ : Environment} {d m : ℕ} {e : Expr} {es : Exprs}
-          (g : Given R E T A S C count at scope top P (call m e es) γ d)
-          → GivenAll R E T A S₁ C₁ count (at + 1 + size e) scope top P es (did (call-1 g) q ok .a .slots)
+          (g : Given R E T A M F S C at scope P (call m e es) γ d)
+          → GivenAll R E T A M F S₁ C₁ (at + 1 + size e) scope P es (did (call-1 g) q ok .a .slots)
           (d - 1)
-      all-given g = call-all-0 g (q .kept .slots-long) (q .kept .classes-long)
+      all-given g = call-all-0 g (q .kept .slots-long)
           (did (call-1 g) q ok .accepted .views)
 
       few-given : {P : List Class} {γ : Environment} {d m : ℕ} {e : Expr} {es : Exprs} → given-n ≤ 8
-          → (g : Given R E T A S C count at scope top P (call m e es) γ d)
-          → GivenAll R E T A S₁ C₁ count (at + 1 + size e) scope (top + given-n) P es
+          → (g : Given R E T A M F S C at scope P (call m e es) γ d)
+          → GivenAll R E T A M F S₁ C₁ (at + 1 + size e) (raised scope given-n) P es
           (did (call-1 g) q ok .a .slots) (d - 1)
-      few-given o g = call-all g given-n o (q .kept .slots-long) (q .kept .classes-long)
+      few-given o g = call-all g given-n (call-row g .0 .row .second) o (q .kept .slots-long)
           (did (call-1 g) q ok .accepted .views)
 
-      pub call-items-pre : PreList R E T A S₁ C₁ count next scope top given-n
+      pub call-items-pre : PreList R E T A M F S₁ C₁ next scope given-n
       call-items-pre = by-node Q-call (p .e) (given-of p) l
-          (λ _. PreList R E T A S₁ C₁ count next scope top given-n)
+          (λ _. PreList R E T A M F S₁ C₁ next scope given-n)
           λ m e es g.
-          subst (λ (k : ℕ). PreList R E T A S₁ C₁ count k scope top given-n) (sym (row-of (call-1 g) .end))
+          subst (λ (k : ℕ). PreList R E T A M F S₁ C₁ k scope given-n) (sym (row-of (call-1 g) .end))
           (list-pre (call-row g .0 .row .second) (all-given g))
 
       pub call-arguments-pre : given-n ≤ 8
-          → (256 ≤ top) × PreList R E T A S₁ C₁ count next scope (top + given-n) given-n
+          → (scope .width ≤ scope .top) × PreList R E T A M F S₁ C₁ next (raised scope given-n) given-n
       call-arguments-pre o = (
         p .room .above,
         by-node Q-call (p .e) (given-of p) l
-            (λ _. PreList R E T A S₁ C₁ count next scope (top + given-n) given-n)
+            (λ _. PreList R E T A M F S₁ C₁ next (raised scope given-n) given-n)
             λ m e es g.
-            subst (λ (k : ℕ). PreList R E T A S₁ C₁ count k scope (top + given-n) given-n)
+            subst (λ (k : ℕ). PreList R E T A M F S₁ C₁ k (raised scope given-n) given-n)
             (sym (row-of (call-1 g) .end)) (list-pre (call-row g .0 .row .second) (few-given o g)),
       )
 
       -- more than 8 arguments
       pub call-many : {S₂ C₂ : List ℕ} {last many r : Answer} → 8 < given-n → last ≡ answer Null 0
-          → PostItems R E T A S₁ C₁ S₂ C₂ count next scope top given-n last many
-          → r ≡ too-many-answer at (a .typing) many → Post R E T A S C S₂ C₂ count at scope top r
+          → PostItems R E T A M F S₁ C₁ S₂ C₂ next scope given-n last many
+          → r ≡ too-many-answer at (a .typing) many → Post R E T A M F S C S₂ C₂ at scope r
       call-many {S₂} {C₂} {last} {many} {r} o ln i e₁ = post-of kept-many λ P z γ d g.
-          by-node Q-call z g l (λ w. Is (world P) w γ at scope S₂ C₂ r) λ m e es g.
+          by-node Q-call z g l (λ w. Is (world P) w γ at (scope .size) S₂ C₂ r) λ m e es g.
           let u = did (call-1 g) q ok in
           let x = all-given g in
           let w = at-next g .out P es (u .a .slots) (d - 1) null-type (call-row g .0 .row .second) (x .headed)
           (x .encoded) (x .limited) (x .views) (x .room) (ap (λ (y : Answer). y .typing) ln) in
-          many-is (g .headed) (g .room .rows) m e es at (at + 1 + size e) scope (at + 1 + 1) γ (u .a) S₂ C₂ a
+          many-is (g .headed) (g .room .rows) m e es at (at + 1 + size e) (scope .size) (at + 1 + 1) γ (u .a)
+          S₂ C₂ a
           many r null-type (last .effect) (call-row g .1) (omega (arith, o, call-row g .0 .row .second))
           refl
           (u .typed-at) (u .accepted .declared) (u .is) (w .0) e₁
         where
           at-next : {P : List Class} {γ : Environment} {d m : ℕ} {e : Expr} {es : Exprs}
-              → Given R E T A S C count at scope top P (call m e es) γ d
-              → PostItems R E T A S₁ C₁ S₂ C₂ count (at + 1 + size e) scope top given-n last many
-          at-next g = subst (λ (k : ℕ). PostItems R E T A S₁ C₁ S₂ C₂ count k scope top given-n last many)
+              → Given R E T A M F S C at scope P (call m e es) γ d
+              → PostItems R E T A M F S₁ C₁ S₂ C₂ (at + 1 + size e) scope given-n last many
+          at-next g = subst (λ (k : ℕ). PostItems R E T A M F S₁ C₁ S₂ C₂ k scope given-n last many)
               (row-of (call-1 g) .end) i
 
-          kept-many : Kept S S₂ C C₂ at (getD E at 0) top
-          kept-many = by-node Q-call (p .e) (given-of p) l (λ _. Kept S S₂ C C₂ at (getD E at 0) top)
+          kept-many : Kept S S₂ C C₂ at (getD E at 0) (scope .width) (scope .top)
+          kept-many = by-node Q-call (p .e) (given-of p) l
+              (λ _. Kept S S₂ C C₂ at (getD E at 0) (scope .width) (scope .top))
               λ m e es g.
               let n = at-next g in
               kept-then kept-1 (record {
@@ -168,15 +175,16 @@ module _ {R E T A S C : List ℕ} {count at scope top : ℕ} (p : Pre R E T A S 
               })
 
       module _ (o : given-n ≤ 8) {S₂ C₂ : List ℕ} {b : Answer}
-          (i : PostArguments R E T A S₁ C₁ S₂ C₂ count next scope top given-n b) where
+          (i : PostArguments R E T A M F S₁ C₁ S₂ C₂ next scope given-n b) where
         at-next : {P : List Class} {γ : Environment} {d m : ℕ} {e : Expr} {es : Exprs}
-            → Given R E T A S C count at scope top P (call m e es) γ d
-            → PostArguments R E T A S₁ C₁ S₂ C₂ count (at + 1 + size e) scope top given-n b
-        at-next g = subst (λ (k : ℕ). PostArguments R E T A S₁ C₁ S₂ C₂ count k scope top given-n b)
+            → Given R E T A M F S C at scope P (call m e es) γ d
+            → PostArguments R E T A M F S₁ C₁ S₂ C₂ (at + 1 + size e) scope given-n b
+        at-next g = subst (λ (k : ℕ). PostArguments R E T A M F S₁ C₁ S₂ C₂ k scope given-n b)
             (row-of (call-1 g) .end) i
 
-        kept-few : Kept S S₂ C C₂ at (getD E at 0) top
-        kept-few = by-node Q-call (p .e) (given-of p) l (λ _. Kept S S₂ C C₂ at (getD E at 0) top) λ m e es g.
+        kept-few : Kept S S₂ C C₂ at (getD E at 0) (scope .width) (scope .top)
+        kept-few = by-node Q-call (p .e) (given-of p) l
+            (λ _. Kept S S₂ C C₂ at (getD E at 0) (scope .width) (scope .top)) λ m e es g.
             let n = at-next g in
             kept-then kept-1 (record {
               slots-long = n .slots-long;
@@ -188,22 +196,22 @@ module _ {R E T A S C : List ℕ} {count at scope top : ℕ} (p : Pre R E T A S 
             })
 
         outcome : {P : List Class} {γ : Environment} {d m : ℕ} {e : Expr} {es : Exprs}
-            (g : Given R E T A S C count at scope top P (call m e es) γ d)
+            (g : Given R E T A M F S C at scope P (call m e es) γ d)
             → (b ≡ answer-of (bind-checked (type-all (world P) es (at + 1 + size e + 1)
             (did (call-1 g) q ok .a .slots)) λ c. typed null-type (c .slots) (c .effect)))
             × ((c : TypedAll) → type-all (world P) es (at + 1 + size e + 1) (did (call-1 g) q ok .a .slots) ≡
             accept c
-            → AcceptedAll (world P) es (did (call-1 g) q ok .a .slots) (at + 1 + size e) scope S₂ C₂ c
-            × ((j : ℕ) → j < given-n → getD S₂ (top + j) 0 ≡ getD (stored (c .types)) j 0))
+            → AcceptedAll (world P) es (did (call-1 g) q ok .a .slots) (at + 1 + size e) (scope .size) S₂ C₂ c
+            × ((j : ℕ) → j < given-n → getD S₂ (scope .top + j) 0 ≡ getD (stored (c .types)) j 0))
         outcome {P} {d = d} {es = es} g =
             let x = few-given o g in
             at-next g .out P es (did (call-1 g) q ok .a .slots) (d - 1) (call-row g .0 .row .second)
             (x .headed) (x .encoded) (x .limited) (x .views) (x .room)
 
-        pub call-fail-arguments : is-refusal (b .typing) ≡ true → Post R E T A S C S₂ C₂ count at scope top b
+        pub call-fail-arguments : is-refusal (b .typing) ≡ true → Post R E T A M F S C S₂ C₂ at scope b
         unfolding type-of
         call-fail-arguments f = post-of kept-few λ P z γ d g.
-            by-node Q-call z g l (λ w. Is (world P) w γ at scope S₂ C₂ b) λ m e es g.
+            by-node Q-call z g l (λ w. Is (world P) w γ at (scope .size) S₂ C₂ b) λ m e es g.
             let u = did (call-1 g) q ok in
             all-refused (type-all (world P) es (at + 1 + size e + 1) (u .a .slots))
             (λ c. record { type = null-type; slots = c .slots; effect = c .effect }) (outcome g .0) f
@@ -212,14 +220,11 @@ module _ {R E T A S C : List ℕ} {count at scope top : ℕ} (p : Pre R E T A S 
             is-refused n k (bind-accepted _ _ _ (u .typed-at) ∙ bind-refused _ _ n k
             (ap (λ (j : ℕ). type-all (world P) es j (u .a .slots)) line ∙ w)) v
 
-        in-classes : at < length C₂
-        in-classes = let r = in-row p in omega (arith, r .1, r .2, kept-few .classes-long)
+        room-few : scope .top + given-n ≤ length S₂
+        room-few = by-node Q-call (p .e) (given-of p) l (λ _. scope .top + given-n ≤ length S₂) λ m e es g.
+            omega (arith, few-given o g .room .room, q .kept .slots-long, i .slots-long)
 
-        room-few : top + given-n ≤ length S₂
-        room-few = by-node Q-call (p .e) (given-of p) l (λ _. top + given-n ≤ length S₂) λ m e es g.
-            omega (arith, g .room .room, call-row g .2, kept-few .slots-long)
-
-        slots-few : scope ≤ length S₂
+        slots-few : scope .size ≤ length S₂
         slots-few = omega (arith, room-slots (p .room), kept-few .slots-long)
 
         module _ (done : is-refusal (b .typing) ≡ false) where
@@ -227,12 +232,12 @@ module _ {R E T A S C : List ℕ} {count at scope top : ℕ} (p : Pre R E T A S 
           record Argued (P : List Class) (es : Exprs) (next₁ : ℕ) (δ : Environment) : Type 0 where
             c : TypedAll
             typed-at : type-all (world P) es (next₁ + 1) δ ≡ accept c
-            accepted : AcceptedAll (world P) es δ next₁ scope S₂ C₂ c
+            accepted : AcceptedAll (world P) es δ next₁ (scope .size) S₂ C₂ c
             effect-is : b .effect ≡ c .effect
-            kept-types : (j : ℕ) → j < how-many es → getD S₂ (top + j) 0 ≡ getD (stored (c .types)) j 0
+            kept-types : (j : ℕ) → j < how-many es → getD S₂ (scope .top + j) 0 ≡ getD (stored (c .types)) j 0
 
           argued : {P : List Class} {γ : Environment} {d m : ℕ} {e : Expr} {es : Exprs}
-              (g : Given R E T A S C count at scope top P (call m e es) γ d)
+              (g : Given R E T A M F S C at scope P (call m e es) γ d)
               → Argued P es (at + 1 + size e) (did (call-1 g) q ok .a .slots)
           argued {P} {e = e} {es} g =
               all-accepted (type-all (world P) es (at + 1 + size e + 1) (did (call-1 g) q ok .a .slots))
@@ -247,34 +252,35 @@ module _ {R E T A S C : List ℕ} {count at scope top : ℕ} (p : Pre R E T A S 
                 kept-types = λ j k. n .1 j (omega (arith, k, call-row g .0 .row .second));
               }
 
-          pub call-invoke-pre : PreInvoke R T A S₂ C₂ at scope top (a .typing) (b .effect)
+          pub call-invoke-pre : PreInvoke R T A M F S₂ at scope (a .typing) (b .effect)
           call-invoke-pre = by-node Q-call (p .e) (given-of p) l
-              (λ _. PreInvoke R T A S₂ C₂ at scope top (a .typing) (b .effect)) λ m e es g.
+              (λ _. PreInvoke R T A M F S₂ at scope (a .typing) (b .effect)) λ m e es g.
               let u = did (call-1 g) q ok in
               let w = argued g in
               let row = call-row g in
-              subst (λ (φ : ℕ). PreInvoke R T A S₂ C₂ at scope top (a .typing) φ) (sym (w .effect-is))
-              (pre-invoke (g .headed) (g .room .rows) m es at (at + 1 + size e) scope top
-              (at + 1 + size e + 1) (u .a .slots) (u .a) (w .c) S₂ C₂ a (row .0 .row) (row .1) in-classes
+              subst (λ (φ : ℕ). PreInvoke R T A M F S₂ at scope (a .typing) φ) (sym (w .effect-is))
+              (pre-invoke (g .headed) (g .room .rows) m es at (at + 1 + size e) (at + 1 + size e + 1) scope
+              (u .a .slots) (u .a) (w .c) S₂ C₂ a (row .0 .row) (row .1)
               (w .typed-at) (w .accepted) slots-few
               (omega (arith, room-few, row .0 .row .second)) (u .accepted .declared) (w .kept-types) (u .is))
 
           pub call-done : {S₃ C₃ : List ℕ} {r : Answer}
-              → Invoked R T A S₂ C₂ at scope top (a .typing) (a .effect) (b .effect) S₃ C₃ r
-              → Post R E T A S C S₃ C₃ count at scope top r
+              → Invoked R T A M F S₂ C₂ at scope (a .typing) (a .effect) (b .effect) S₃ C₃ r
+              → Post R E T A M F S C S₃ C₃ at scope r
           call-done {S₃} {C₃} {r} v =
               let k = invoked-kept {x = a} v in
               post-of (kept-then (kept-then kept-few (kept-slots (k .0)
               (λ j x y. k .1 j (omega (arith, p .room .scoped)))))
               (kept-classes at (k .2) (k .3) (omega arith) (after-row p)))
-              λ P z γ d g. by-node Q-call z g l (λ w. Is (world P) w γ at scope S₃ C₃ r) λ m e es g.
+              λ P z γ d g. by-node Q-call z g l (λ w. Is (world P) w γ at (scope .size) S₃ C₃ r) λ m e es g.
               let u = did (call-1 g) q ok in
               let w = argued g in
               let row = call-row g in
-              call-is (g .headed) (g .room .rows) m e es at (at + 1 + size e) scope top (at + 1 + 1)
-              (at + 1 + size e + 1) γ (u .a) (w .c) S₂ C₂ S₃ C₃ a r (row .0 .row) (row .1) in-classes refl
+              call-is (g .headed) (g .room .rows) m e es at (at + 1 + size e) (at + 1 + 1)
+              (at + 1 + size e + 1) scope γ (u .a) (w .c) S₂ C₂ S₃ C₃ a r (row .0 .row) (row .1) refl
               (u .typed-at) (w .typed-at) (u .accepted .declared) (w .accepted) slots-few (w .kept-types)
-              (looks-frame (world P) C₁ C₂ e γ (at + 1) (λ j x y. at-next g .before j y) (u .accepted .looks))
+              (looks-frame (world P) C₁ C₂ (i .classes-long) e γ (at + 1) (λ j x y. at-next g .before j y)
+              (u .accepted .looks))
               (u .is)
-              (subst (λ (φ : ℕ). Invoked R T A S₂ C₂ at scope top (a .typing) (a .effect) φ S₃ C₃ r)
+              (subst (λ (φ : ℕ). Invoked R T A M F S₂ C₂ at scope (a .typing) (a .effect) φ S₃ C₃ r)
               (w .effect-is) v)

@@ -18,6 +18,7 @@ use Rattle.language.specs.Encoded.{EncodedAll}
 use Rattle.language.specs.LookupClasses.{LooksUp}
 use Rattle.language.proofs.Nodes.{Head}
 use Rattle.bodies.specs.declared.Answer.{Answer}
+use Rattle.bodies.specs.declared.Scope.{Scope}
 use Rattle.bodies.specs.declared.Typing.{Typing}
 use Rattle.bodies.specs.Answers.{answer, answer-of, typing-case, is-refusal}
 use Rattle.bodies.specs.Cycle.{Post, PreList, AcceptedAll, PostItems}
@@ -65,8 +66,8 @@ item-out W es l a t φ = go (type-all W es l (a .slots)) refl
         apply-none W (a .type))) in
         ap₂ (λ (u : ExprType) (ψ : ℕ). answer (typing-case u) ψ) same (join-assoc φ (a .effect) (b .effect))
 
-module _ {R E T A S C : List ℕ} {count at scope top n : ℕ} {last : Answer} where
-  items-none : {r : Answer} → n ≡ 0 → r ≡ last → PostItems R E T A S C S C count at scope top n last r
+module _ {R E T A M F S C : List ℕ} {at : ℕ} {scope : Scope} {n : ℕ} {last : Answer} where
+  items-none : {r : Answer} → n ≡ 0 → r ≡ last → PostItems R E T A M F S C S C at scope n last r
   unfolding type-of LooksUp bind-checked nth
   items-none {r} z e = record {
     slots-long = refl;
@@ -78,16 +79,17 @@ module _ {R E T A S C : List ℕ} {count at scope top n : ℕ} {last : Answer} w
         by-nil es n m z (λ es. (r ≡ answer-of (bind-checked (type-all (world P) es (at + 1) γ) λ b. typed
         (last-type t (b .types)) (b .slots) (join (last .effect) (b .effect))))
         × ((b : TypedAll) → type-all (world P) es (at + 1) γ ≡ accept b
-        → AcceptedAll (world P) es γ at scope S C b)) (
+        → AcceptedAll (world P) es γ at (scope .size) S C b)) (
           e ∙ ap₂ (λ (u : Typing) (ψ : ℕ). answer u ψ) f (sym (join-none (last .effect))),
-          λ b q. none-accepted (world P) γ at scope S C b v q,
+          λ b q. none-accepted (world P) γ at (scope .size) S C b v q,
         );
   }
 
-module _ {R E T A S C : List ℕ} {count at scope top n : ℕ} (z : n ≡ 0 → ⊥) {S′ C′ : List ℕ} {x : Answer}
-    (q : Post R E T A S C S′ C′ count at scope top x) where
+module _ {R E T A M F S C : List ℕ} {at : ℕ} {scope : Scope} {n : ℕ} (z : n ≡ 0 → ⊥) {S′ C′ : List ℕ}
+    {x : Answer}
+    (q : Post R E T A M F S C S′ C′ at scope x) where
   items-fail : {last : Answer} → is-refusal (x .typing) ≡ true
-      → PostItems R E T A S C S′ C′ count at scope top n last x
+      → PostItems R E T A M F S C S′ C′ at scope n last x
   items-fail {last} f = record {
     slots-long = q .kept .slots-long;
     classes-long = q .kept .classes-long;
@@ -95,11 +97,11 @@ module _ {R E T A S C : List ℕ} {count at scope top n : ℕ} (z : n ≡ 0 → 
     before = q .kept .before;
     after = first-after z q;
     out = λ P es γ d t m h en li v ro u. by-cons es n m z
-        (λ es. GivenAll R E T A S C count at scope top P es γ d
+        (λ es. GivenAll R E T A M F S C at scope P es γ d
         → (x ≡ answer-of (bind-checked (type-all (world P) es (at + 1) γ) λ b. typed
         (last-type t (b .types)) (b .slots) (join (last .effect) (b .effect))))
         × ((b : TypedAll) → type-all (world P) es (at + 1) γ ≡ accept b
-        → AcceptedAll (world P) es γ at scope S′ C′ b))
+        → AcceptedAll (world P) es γ at (scope .size) S′ C′ b))
         (λ e xs m′ s g.
         let w = failed (list-first g) q f in
         let c = cons-refused (world P) e xs at γ (w .n) (w .l) (w .typed-at) in (
@@ -111,10 +113,10 @@ module _ {R E T A S C : List ℕ} {count at scope top n : ℕ} (z : n ≡ 0 → 
         (given-all P es γ d h en li v ro);
   }
 
-  module _ (p : PreList R E T A S C count at scope top n) (ok : is-refusal (x .typing) ≡ false)
+  module _ (p : PreList R E T A M F S C at scope n) (ok : is-refusal (x .typing) ≡ false)
       {last so r : Answer} {S″ C″ : List ℕ} (same : so ≡ answer (x .typing) (join (last .effect) (x .effect)))
-      (o : PostItems R E T A S′ C′ S″ C″ count (getD E at 0) scope top (n - 1) so r) where
-    items-step : PostItems R E T A S C S″ C″ count at scope top n last r
+      (o : PostItems R E T A M F S′ C′ S″ C″ (getD E at 0) scope (n - 1) so r) where
+    items-step : PostItems R E T A M F S C S″ C″ at scope n last r
     unfolding size
     items-step = record {
       slots-long = o .slots-long ∙ q .kept .slots-long;
@@ -125,18 +127,18 @@ module _ {R E T A S C : List ℕ} {count at scope top n : ℕ} (z : n ≡ 0 → 
           by-cons es n m z (λ es. EncodedAll R E es at → at + sizes es ≤ i → getD C″ i 0 ≡ getD C′ i 0)
           (λ e xs m′ s en l. after-rest e xs m′ en i l) en l ∙ first-after z q es m en i l;
       out = λ P es γ d t m h en li v ro u. by-cons es n m z
-          (λ es. GivenAll R E T A S C count at scope top P es γ d
+          (λ es. GivenAll R E T A M F S C at scope P es γ d
           → (r ≡ answer-of (bind-checked (type-all (world P) es (at + 1) γ) λ b. typed
           (last-type t (b .types)) (b .slots) (join (last .effect) (b .effect))))
           × ((b : TypedAll) → type-all (world P) es (at + 1) γ ≡ accept b
-          → AcceptedAll (world P) es γ at scope S″ C″ b))
+          → AcceptedAll (world P) es γ at (scope .size) S″ C″ b))
           (λ e xs m′ s g. (out-rest P e xs γ d t m′ g, accepted-rest P e xs γ d m′ g))
           (given-all P es γ d h en li v ro);
     }
       where
         rest-at : (e : Expr)
-            → Head R E e at → PostItems R E T A S′ C′ S″ C″ count (at + size e) scope top (n - 1) so r
-        rest-at e h = subst (λ (k : ℕ). PostItems R E T A S′ C′ S″ C″ count k scope top (n - 1) so r) (h .end)
+            → Head R E e at → PostItems R E T A M F S′ C′ S″ C″ (at + size e) scope (n - 1) so r
+        rest-at e h = subst (λ (k : ℕ). PostItems R E T A M F S′ C′ S″ C″ k scope (n - 1) so r) (h .end)
             o
 
         after-rest : (e : Expr) (xs : Exprs) → n - 1 ≡ how-many xs → EncodedAll R E (cons e xs) at → (i : ℕ)
@@ -146,12 +148,12 @@ module _ {R E T A S C : List ℕ} {count at scope top n : ℕ} (z : n ≡ 0 → 
             (omega (arith, l))
 
         rest-out : (P : List Class) (e : Expr) (xs : Exprs) (γ : Environment) (d : ℕ) → n - 1 ≡ how-many xs
-            → (g : GivenAll R E T A S C count at scope top P (cons e xs) γ d)
-            → (w : Did (world P) e γ at scope S′ C′ x)
+            → (g : GivenAll R E T A M F S C at scope P (cons e xs) γ d)
+            → (w : Did (world P) e γ at (scope .size) S′ C′ x)
             → (r ≡ answer-of (bind-checked (type-all (world P) xs (at + size e + 1) (w .a .slots)) λ b. typed
             (last-type (w .a .type) (b .types)) (b .slots) (join (so .effect) (b .effect))))
             × ((b : TypedAll) → type-all (world P) xs (at + size e + 1) (w .a .slots) ≡ accept b
-            → AcceptedAll (world P) xs (w .a .slots) (at + size e) scope S″ C″ b)
+            → AcceptedAll (world P) xs (w .a .slots) (at + size e) (scope .size) S″ C″ b)
         rest-out P e xs γ d m g w =
             let g′ = list-rest g (q .kept) w in
             rest-at e (row-of (list-first g)) .out P xs (w .a .slots) d (w .a .type) m (g′ .headed)
@@ -159,7 +161,7 @@ module _ {R E T A S C : List ℕ} {count at scope top n : ℕ} (z : n ≡ 0 → 
             (ap (λ (y : Answer). y .typing) same ∙ ap (λ (y : Answer). y .typing) (w .is))
 
         out-rest : (P : List Class) (e : Expr) (xs : Exprs) (γ : Environment) (d : ℕ) (t : ExprType)
-            → n - 1 ≡ how-many xs → GivenAll R E T A S C count at scope top P (cons e xs) γ d
+            → n - 1 ≡ how-many xs → GivenAll R E T A M F S C at scope P (cons e xs) γ d
             → r ≡ answer-of (bind-checked (type-all (world P) (cons e xs) (at + 1) γ) λ b. typed
             (last-type t (b .types)) (b .slots) (join (last .effect) (b .effect)))
         out-rest P e xs γ d t m g =
@@ -176,32 +178,33 @@ module _ {R E T A S C : List ℕ} {count at scope top n : ℕ} (z : n ≡ 0 → 
             (sym (cons-accepted (world P) e xs at γ (w .a) (w .typed-at)))))
 
         accepted-rest : (P : List Class) (e : Expr) (xs : Exprs) (γ : Environment) (d : ℕ)
-            → n - 1 ≡ how-many xs → GivenAll R E T A S C count at scope top P (cons e xs) γ d
+            → n - 1 ≡ how-many xs → GivenAll R E T A M F S C at scope P (cons e xs) γ d
             → (b : TypedAll) → type-all (world P) (cons e xs) (at + 1) γ ≡ accept b
-            → AcceptedAll (world P) (cons e xs) γ at scope S″ C″ b
+            → AcceptedAll (world P) (cons e xs) γ at (scope .size) S″ C″ b
         accepted-rest P e xs γ d m g b y =
             let w = did (list-first g) q ok in
             bind-checked-inv (type-all (world P) xs (at + size e + 1) (w .a .slots))
             (λ c. accept (both (world P) (w .a) c))
             (sym (cons-accepted (world P) e xs at γ (w .a) (w .typed-at)) ∙ y) λ c u v.
-            subst (λ (k : TypedAll). AcceptedAll (world P) (cons e xs) γ at scope S″ C″ k)
+            subst (λ (k : TypedAll). AcceptedAll (world P) (cons e xs) γ at (scope .size) S″ C″ k)
             (accept-injective v)
-            (all-cons (g .headed) w (λ i l. rest-at e (row-of (list-first g)) .before i l)
+            (all-cons (g .headed) w (o .classes-long) (λ i l. rest-at e (row-of (list-first g)) .before i l)
             (rest-out P e xs γ d m g w .1 c u))
 
 -- ---- the loop over the expressions of a block
 -- so many are left, from a row on; what they come to after those before, all come to
-pub record ItemsLoop (R E T A S C : List ℕ) (count at scope top n : ℕ) (last : Answer) (S₁ C₁ : List ℕ)
+pub record ItemsLoop (R E T A M F S C : List ℕ) (at : ℕ) (scope : Scope) (n : ℕ) (last : Answer)
+    (S₁ C₁ : List ℕ)
     (so : Answer) (next left : ℕ) : Type 0 where
-  pub pre : PreList R E T A S₁ C₁ count next scope top left
+  pub pre : PreList R E T A M F S₁ C₁ next scope left
   pub later : at ≤ next
   pub slots-long : length S₁ ≡ length S
   pub classes-long : length C₁ ≡ length C
-  pub rest : {S′ C′ : List ℕ} {r : Answer} → PostItems R E T A S₁ C₁ S′ C′ count next scope top left so r
-      → PostItems R E T A S C S′ C′ count at scope top n last r
+  pub rest : {S′ C′ : List ℕ} {r : Answer} → PostItems R E T A M F S₁ C₁ S′ C′ next scope left so r
+      → PostItems R E T A M F S C S′ C′ at scope n last r
 
-pub items-start : {R E T A S C : List ℕ} {count at scope top n : ℕ} {last : Answer}
-    → PreList R E T A S C count at scope top n → ItemsLoop R E T A S C count at scope top n last S C last at n
+pub items-start : {R E T A M F S C : List ℕ} {at : ℕ} {scope : Scope} {n : ℕ} {last : Answer}
+    → PreList R E T A M F S C at scope n → ItemsLoop R E T A M F S C at scope n last S C last at n
 items-start p = record {
   pre = p;
   later = omega arith;
@@ -210,13 +213,14 @@ items-start p = record {
   rest = λ o. o;
 }
 
-module _ {R E T A S C : List ℕ} {count at scope top n : ℕ} {last : Answer} {S₁ C₁ : List ℕ} {so : Answer}
-    {next left : ℕ} (w : ItemsLoop R E T A S C count at scope top n last S₁ C₁ so next left) where
+module _ {R E T A M F S C : List ℕ} {at : ℕ} {scope : Scope} {n : ℕ} {last : Answer} {S₁ C₁ : List ℕ}
+    {so : Answer}
+    {next left : ℕ} (w : ItemsLoop R E T A M F S C at scope n last S₁ C₁ so next left) where
   pub items-next : {S₂ C₂ : List ℕ} {x so′ : Answer} → (left ≡ 0 → ⊥)
-      → Post R E T A S₁ C₁ S₂ C₂ count next scope top x → is-refusal (x .typing) ≡ false
+      → Post R E T A M F S₁ C₁ S₂ C₂ next scope x → is-refusal (x .typing) ≡ false
       → so′ ≡ answer (x .typing) (join (so .effect) (x .effect)) → length S₂ ≡ length S₁
       → length C₂ ≡ length C₁
-      → ItemsLoop R E T A S C count at scope top n last S₂ C₂ so′ (getD E next 0) (left - 1)
+      → ItemsLoop R E T A M F S C at scope n last S₂ C₂ so′ (getD E next 0) (left - 1)
   items-next z q ok same a b = record {
     pre = rest-pre (w .pre) z q ok;
     later = omega (arith, w .later, after-row (first-pre (w .pre) z));
@@ -226,10 +230,10 @@ module _ {R E T A S C : List ℕ} {count at scope top n : ℕ} {last : Answer} {
   }
 
   pub items-ended : {r : Answer} → left ≡ 0 → r ≡ so
-      → PostItems R E T A S C S₁ C₁ count at scope top n last r
+      → PostItems R E T A M F S C S₁ C₁ at scope n last r
   items-ended z e = w .rest (items-none z e)
 
   pub items-broken : {S₂ C₂ : List ℕ} {x : Answer} → (left ≡ 0 → ⊥)
-      → Post R E T A S₁ C₁ S₂ C₂ count next scope top x → is-refusal (x .typing) ≡ true
-      → PostItems R E T A S C S₂ C₂ count at scope top n last x
+      → Post R E T A M F S₁ C₁ S₂ C₂ next scope x → is-refusal (x .typing) ≡ true
+      → PostItems R E T A M F S C S₂ C₂ at scope n last x
   items-broken z q f = w .rest (items-fail z q f)

@@ -5,7 +5,7 @@ use mathlib.Core.Option.{some}
 use mathlib.Core.List.{List, _∷_}
 use Prim.Native.Nat.{ℕ, zero, suc, _+_, _-_, _≤_, _<_}
 use native.Mathlib.Omega.{arith}
-use lib.ListN.{getD}
+use lib.ListN.{length, getD}
 use Rattle.language.specs.Lists.{Never, nth, inj}
 use Rattle.language.specs.Results.{accept-injective, Checked, accept, refuse, bind-checked}
 use Rattle.language.specs.Tree.{ExprType, Class, Expr, Exprs, nil, cons, size, sizes, count as how-many}
@@ -19,6 +19,7 @@ use Rattle.language.specs.LookupClasses.{LooksUp, LooksUpAll}
 use Rattle.language.specs.Translation.{typed-or}
 use Rattle.language.proofs.Nodes.{Head, head}
 use Rattle.bodies.specs.declared.Answer.{Answer}
+use Rattle.bodies.specs.declared.Scope.{Scope}
 use Rattle.bodies.specs.declared.Typing.the-variants.{Refusal}
 use Rattle.bodies.specs.Answers.{answer, answer-of, is-refusal}
 use Rattle.bodies.specs.Tables.{Headed}
@@ -42,9 +43,9 @@ unfolding how-many
 by-cons nil n e z Q q = absurd (z e)
 by-cons (cons x es) n e z Q q = q x es (omega (arith, e)) refl
 
-module _ {R E T A S C : List ℕ} {count at scope top : ℕ} {P : List Class} {γ : Environment} {d : ℕ} where
-  pub list-first : {e : Expr} {es : Exprs} → GivenAll R E T A S C count at scope top P (cons e es) γ d
-      → Given R E T A S C count at scope top P e γ d
+module _ {R E T A M F S C : List ℕ} {at : ℕ} {scope : Scope} {P : List Class} {γ : Environment} {d : ℕ} where
+  pub list-first : {e : Expr} {es : Exprs} → GivenAll R E T A M F S C at scope P (cons e es) γ d
+      → Given R E T A M F S C at scope P e γ d
   unfolding Encoded Limited
   list-first g = record {
     headed = g .headed;
@@ -54,10 +55,10 @@ module _ {R E T A S C : List ℕ} {count at scope top : ℕ} {P : List Class} {�
     room = g .room;
   }
 
-  pub list-rest : {e : Expr} {es : Exprs} {S′ C′ : List ℕ} {x : Answer} {from to top′ : ℕ}
-      → GivenAll R E T A S C count at scope top P (cons e es) γ d → Kept S S′ C C′ from to top′
-      → (w : Did (world P) e γ at scope S′ C′ x)
-      → GivenAll R E T A S′ C′ count (at + size e) scope top P es (w .a .slots) d
+  pub list-rest : {e : Expr} {es : Exprs} {S′ C′ : List ℕ} {x : Answer} {from to width top′ : ℕ}
+      → GivenAll R E T A M F S C at scope P (cons e es) γ d → Kept S S′ C C′ from to width top′
+      → (w : Did (world P) e γ at (scope .size) S′ C′ x)
+      → GivenAll R E T A M F S′ C′ (at + size e) scope P es (w .a .slots) d
   unfolding Encoded Limited
   list-rest g k w = record {
     headed = g .headed;
@@ -67,8 +68,8 @@ module _ {R E T A S C : List ℕ} {count at scope top : ℕ} {P : List Class} {�
     room = room-kept (g .room) k;
   }
 
-  pub list-pre : {es : Exprs} {n : ℕ} → n ≡ how-many es → GivenAll R E T A S C count at scope top P es γ d
-      → PreList R E T A S C count at scope top n
+  pub list-pre : {es : Exprs} {n : ℕ} → n ≡ how-many es → GivenAll R E T A M F S C at scope P es γ d
+      → PreList R E T A M F S C at scope n
   list-pre {es} e g = record {
     P = P;
     es = es;
@@ -82,22 +83,22 @@ module _ {R E T A S C : List ℕ} {count at scope top : ℕ} {P : List Class} {�
     room = g .room;
   }
 
-module _ {R E T A S C : List ℕ} {count at scope top n : ℕ} (p : PreList R E T A S C count at scope top n)
+module _ {R E T A M F S C : List ℕ} {at : ℕ} {scope : Scope} {n : ℕ} (p : PreList R E T A M F S C at scope n)
     (z : n ≡ 0 → ⊥) where
-  pub first-pre : Pre R E T A S C count at scope top
+  pub first-pre : Pre R E T A M F S C at scope
   first-pre = by-cons (p .es) n (p .many) z
-      (λ es. GivenAll R E T A S C count at scope top (p .P) es (p .γ) (p .d)
-      → Pre R E T A S C count at scope top)
+      (λ es. GivenAll R E T A M F S C at scope (p .P) es (p .γ) (p .d)
+      → Pre R E T A M F S C at scope)
       (λ x xs m e g. pre-of (list-first g)) (given-all-of p)
 
-  pub rest-pre : {S′ C′ : List ℕ} {x : Answer} → Post R E T A S C S′ C′ count at scope top x
+  pub rest-pre : {S′ C′ : List ℕ} {x : Answer} → Post R E T A M F S C S′ C′ at scope x
       → is-refusal (x .typing) ≡ false
-      → PreList R E T A S′ C′ count (getD E at 0) scope top (n - 1)
+      → PreList R E T A M F S′ C′ (getD E at 0) scope (n - 1)
   rest-pre {S′} {C′} q ok =
       by-cons (p .es) n (p .many) z
-      (λ es. GivenAll R E T A S C count at scope top (p .P) es (p .γ) (p .d)
-      → PreList R E T A S′ C′ count (getD E at 0) scope top (n - 1))
-      (λ x xs m e g. subst (λ (k : ℕ). PreList R E T A S′ C′ count k scope top (n - 1))
+      (λ es. GivenAll R E T A M F S C at scope (p .P) es (p .γ) (p .d)
+      → PreList R E T A M F S′ C′ (getD E at 0) scope (n - 1))
+      (λ x xs m e g. subst (λ (k : ℕ). PreList R E T A M F S′ C′ k scope (n - 1))
       (sym (row-of (list-first g) .end)) (list-pre m (list-rest g (q .kept) (did (list-first g) q ok))))
       (given-all-of p)
 
@@ -125,18 +126,18 @@ pub cons-refused : (W : World) (e : Expr) (es : Exprs) (at : ℕ) (γ : Environm
 unfolding type-of
 cons-refused W e es at γ n l h = bind-refused _ _ n l h
 
-pub all-cons : {P : List Class} {R T A : List ℕ} {count : ℕ} {e : Expr} {es : Exprs} {γ : Environment}
+pub all-cons : {P : List Class} {R E T A M F : List ℕ} {count : ℕ} {e : Expr} {es : Exprs} {γ : Environment}
     {at scope : ℕ} {S′ C′ S″ C″ : List ℕ} {x : Answer} {b : TypedAll}
-    → Headed P R T A count → (w : Did (world P) e γ at scope S′ C′ x)
-    → ((i : ℕ) → i < at + size e → getD C″ i 0 ≡ getD C′ i 0)
+    → Headed P R E T A M F count → (w : Did (world P) e γ at scope S′ C′ x)
+    → length C″ ≡ length C′ → ((i : ℕ) → i < at + size e → getD C″ i 0 ≡ getD C′ i 0)
     → AcceptedAll (world P) es (w .a .slots) (at + size e) scope S″ C″ b
     → AcceptedAll (world P) (cons e es) γ at scope S″ C″ (both (world P) (w .a) b)
 unfolding LooksUp nth
-all-cons {P} {e = e} {es} {γ} {at} {scope} {S′} {C′} {S″} {C″} {x} {b} h w f g = record {
+all-cons {P} {e = e} {es} {γ} {at} {scope} {S′} {C′} {S″} {C″} {x} {b} h w long f g = record {
   views = g .views;
   types = go;
   looks = (
-    looks-frame (world P) C′ C″ e γ at (λ i u v. f i v) (w .accepted .looks),
+    looks-frame (world P) C′ C″ long e γ at (λ i u v. f i v) (w .accepted .looks),
     subst (λ (δ : Environment). LooksUpAll (world P) C″ es δ (at + size e))
         (sym (ap (λ (q : Checked Typed). typed-or q .slots)
         (line-free (world P) e (at + 1) 0 γ (w .typed-at)))) (g .looks),
@@ -180,9 +181,10 @@ all-accepted (accept b) f e t k = k b refl e
 all-accepted (refuse n l) f e t k =
     absurd (false≢true (sym t ∙ ap (λ (x : Answer). is-refusal (x .typing)) e))
 
-pub given-all : {R E T A S C : List ℕ} {count at scope top : ℕ} (P : List Class) (es : Exprs)
-    (γ : Environment) (d : ℕ) → Headed P R T A count → EncodedAll R E es at → LimitedAll es scope d
-    → Views (world P) γ S scope → Room R E S C scope top d → GivenAll R E T A S C count at scope top P es γ d
+pub given-all : {R E T A M F S C : List ℕ} {at : ℕ} {scope : Scope} (P : List Class) (es : Exprs)
+    (γ : Environment) (d : ℕ) → Headed P R E T A M F (scope .count)
+    → EncodedAll R E es at → LimitedAll (scope .width) es (scope .size) d
+    → Views (world P) γ S (scope .size) → Room R S scope d → GivenAll R E T A M F S C at scope P es γ d
 given-all P es γ d h n l v m = record { headed = h; encoded = n; limited = l; views = v; room = m }
 
 pub encoded-first : (R E : List ℕ) (e : Expr) (es : Exprs) (at : ℕ)
@@ -195,8 +197,9 @@ pub encoded-rest : (R E : List ℕ) (e : Expr) (es : Exprs) (at : ℕ)
 unfolding Encoded
 encoded-rest R E e es at h = h .1
 
-module _ {R E T A S C : List ℕ} {count at scope top n : ℕ} (z : n ≡ 0 → ⊥) {S′ C′ : List ℕ} {x : Answer}
-    (q : Post R E T A S C S′ C′ count at scope top x) where
+module _ {R E T A M F S C : List ℕ} {at : ℕ} {scope : Scope} {n : ℕ} (z : n ≡ 0 → ⊥) {S′ C′ : List ℕ}
+    {x : Answer}
+    (q : Post R E T A M F S C S′ C′ at scope x) where
   pub first-after : (es : Exprs) → n ≡ how-many es → EncodedAll R E es at → (i : ℕ) → at + sizes es ≤ i
       → getD C′ i 0 ≡ getD C i 0
   first-after es m en i l =

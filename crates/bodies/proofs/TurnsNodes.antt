@@ -18,6 +18,7 @@ use Rattle.language.specs.Rows.{Letter, code}
 use Rattle.language.proofs.Nodes.{EachTree, Head, head, by-row}
 use Rattle.language.proofs.Tables.{size-positive}
 use Rattle.bodies.specs.declared.Answer.{Answer}
+use Rattle.bodies.specs.declared.Scope.{Scope}
 use Rattle.bodies.specs.declared.Typing.the-variants.{Refusal}
 use Rattle.bodies.specs.Answers.{answer, is-refusal}
 use Rattle.bodies.specs.Cycle.{Limited, Kept, Pre, Post, Accepted}
@@ -39,42 +40,44 @@ pub record Failed (W : World) (e : Expr) (γ : Environment) (at : ℕ) (r : Answ
   pub typed-at : type-of W e (at + 1) γ ≡ refuse n l
   pub is : r ≡ answer (Refusal n l) 0
 
-module _ {R E T A S C S′ C′ : List ℕ} {count at scope top : ℕ} {P : List Class} {e : Expr} {γ : Environment}
+module _ {R E T A M F S C S′ C′ : List ℕ} {at : ℕ} {scope : Scope} {P : List Class} {e : Expr}
+    {γ : Environment}
     {d : ℕ} {r : Answer} where
-  pub did : Given R E T A S C count at scope top P e γ d → Post R E T A S C S′ C′ count at scope top r
+  pub did : Given R E T A M F S C at scope P e γ d → Post R E T A M F S C S′ C′ at scope r
       → is-refusal (r .typing) ≡ false
-      → Did (world P) e γ at scope S′ C′ r
+      → Did (world P) e γ at (scope .size) S′ C′ r
   did g p f = let i = post-is p g in accepted-of (type-of (world P) e (at + 1) γ) (i .out) f λ a q s.
       record { a = a; typed-at = q; is = s; accepted = i .accepted a q }
 
-  pub failed : Given R E T A S C count at scope top P e γ d → Post R E T A S C S′ C′ count at scope top r
+  pub failed : Given R E T A M F S C at scope P e γ d → Post R E T A M F S C S′ C′ at scope r
       → is-refusal (r .typing) ≡ true
       → Failed (world P) e γ at r
   failed g p f = let i = post-is p g in refused-of (type-of (world P) e (at + 1) γ) (i .out) f λ n l q s.
       record { n = n; l = l; typed-at = q; is = s }
 
 -- the row after a node
-pub after-row : {R E T A S C : List ℕ} {count at scope top : ℕ} → Pre R E T A S C count at scope top
+pub after-row : {R E T A M F S C : List ℕ} {at : ℕ} {scope : Scope} → Pre R E T A M F S C at scope
     → at < getD E at 0
 after-row p = omega (arith, head (p .e) (p .encoded) .end, size-positive (p .e))
 
 -- what a child's call keeps, its node's keeps
-pub kept-in : {R E S S′ C C′ : List ℕ} {at c top′ : ℕ} {x y : Expr} (top : ℕ) → Head R E x at → Head R E y c
+pub kept-in : {R E S S′ C C′ : List ℕ} {at c width top′ : ℕ} {x y : Expr} (top : ℕ)
+    → Head R E x at → Head R E y c
     → at ≤ c → c + size y ≤ at + size x → top ≤ top′
-    → Kept S S′ C C′ c (getD E c 0) top′ → Kept S S′ C C′ at (getD E at 0) top
+    → Kept S S′ C C′ c (getD E c 0) width top′ → Kept S S′ C C′ at (getD E at 0) width top
 kept-in {E = E} {at = at} {c} top hx hy u v w k =
     kept-wider at (getD E at 0) top k u (omega (arith, hx .end, hy .end)) w
 
-pub row-of : {R E T A S C : List ℕ} {count at scope top : ℕ} {P : List Class} {e : Expr} {γ : Environment}
+pub row-of : {R E T A M F S C : List ℕ} {at : ℕ} {scope : Scope} {P : List Class} {e : Expr} {γ : Environment}
     {d : ℕ}
-    → Given R E T A S C count at scope top P e γ d → Head R E e at
+    → Given R E T A M F S C at scope P e γ d → Head R E e at
 row-of {e = e} g = head e (g .encoded)
 
 -- ---- nodes of one child
 
-module _ {R E T A S C : List ℕ} {count at scope top : ℕ} {P : List Class} {γ : Environment} {d : ℕ} where
-  pub is-null-child : {e : Expr} → Given R E T A S C count at scope top P (is-null e) γ d
-      → Given R E T A S C count (at + 1) scope top P e γ (d - 1)
+module _ {R E T A M F S C : List ℕ} {at : ℕ} {scope : Scope} {P : List Class} {γ : Environment} {d : ℕ} where
+  pub is-null-child : {e : Expr} → Given R E T A M F S C at scope P (is-null e) γ d
+      → Given R E T A M F S C (at + 1) scope P e γ (d - 1)
   unfolding Encoded Limited
   is-null-child g = record {
     headed = g .headed;
@@ -84,8 +87,8 @@ module _ {R E T A S C : List ℕ} {count at scope top : ℕ} {P : List Class} {�
     room = room-child (g .room) (g .limited .0);
   }
 
-  pub get-child : {f : ℕ} {e : Expr} → Given R E T A S C count at scope top P (get f e) γ d
-      → Given R E T A S C count (at + 1) scope top P e γ (d - 1)
+  pub get-child : {f : ℕ} {e : Expr} → Given R E T A M F S C at scope P (get f e) γ d
+      → Given R E T A M F S C (at + 1) scope P e γ (d - 1)
   unfolding Encoded Limited
   get-child g = record {
     headed = g .headed;
@@ -95,13 +98,13 @@ module _ {R E T A S C : List ℕ} {count at scope top : ℕ} {P : List Class} {�
     room = room-child (g .room) (g .limited .0);
   }
 
-  pub get-row : {f : ℕ} {e : Expr} → Given R E T A S C count at scope top P (get f e) γ d
+  pub get-row : {f : ℕ} {e : Expr} → Given R E T A M F S C at scope P (get f e) γ d
       → (getD R (at * 4 + 1) 0 ≡ f) × (f < 256)
   unfolding Encoded Limited
   get-row g = (g .encoded .0 .row .first, g .limited .1)
 
-  pub cast-child : {c : ℕ} {e : Expr} → Given R E T A S C count at scope top P (cast c e) γ d
-      → Given R E T A S C count (at + 1) scope top P e γ (d - 1)
+  pub cast-child : {c : ℕ} {e : Expr} → Given R E T A M F S C at scope P (cast c e) γ d
+      → Given R E T A M F S C (at + 1) scope P e γ (d - 1)
   unfolding Encoded Limited
   cast-child g = record {
     headed = g .headed;
@@ -111,13 +114,13 @@ module _ {R E T A S C : List ℕ} {count at scope top : ℕ} {P : List Class} {�
     room = room-child (g .room) (g .limited .0);
   }
 
-  pub cast-row : {c : ℕ} {e : Expr} → Given R E T A S C count at scope top P (cast c e) γ d
+  pub cast-row : {c : ℕ} {e : Expr} → Given R E T A M F S C at scope P (cast c e) γ d
       → getD R (at * 4 + 1) 0 ≡ c
   unfolding Encoded
   cast-row g = g .encoded .0 .row .first
 
-  pub assign-child : {k : ℕ} {e : Expr} → Given R E T A S C count at scope top P (assign k e) γ d
-      → Given R E T A S C count (at + 1) scope top P e γ (d - 1)
+  pub assign-child : {k : ℕ} {e : Expr} → Given R E T A M F S C at scope P (assign k e) γ d
+      → Given R E T A M F S C (at + 1) scope P e γ (d - 1)
   unfolding Encoded Limited
   assign-child g = record {
     headed = g .headed;
@@ -127,14 +130,14 @@ module _ {R E T A S C : List ℕ} {count at scope top : ℕ} {P : List Class} {�
     room = room-child (g .room) (g .limited .0);
   }
 
-  pub assign-row : {k : ℕ} {e : Expr} → Given R E T A S C count at scope top P (assign k e) γ d
+  pub assign-row : {k : ℕ} {e : Expr} → Given R E T A M F S C at scope P (assign k e) γ d
       → getD R (at * 4 + 1) 0 ≡ k
   unfolding Encoded
   assign-row g = g .encoded .0 .row .first
 
 -- what holds of each node of the letter that the row has holds of the node there
-pub by-node : {R E T A S C : List ℕ} {count at scope top : ℕ} {P : List Class} {γ : Environment} {d : ℕ}
-    (l : Letter) (z : Expr) → Given R E T A S C count at scope top P z γ d → getD R (at * 4) 0 ≡ code l
-    → (Q : Expr → Type 0) → EachTree (λ w. Given R E T A S C count at scope top P w γ d → Q w) l → Q z
-by-node {R} {E} {T} {A} {S} {C} {count} {at} {scope} {top} {P} {γ} {d} l z g h Q q =
-    by-row (λ w. Given R E T A S C count at scope top P w γ d → Q w) l (row-of g) h q g
+pub by-node : {R E T A M F S C : List ℕ} {at : ℕ} {scope : Scope} {P : List Class} {γ : Environment} {d : ℕ}
+    (l : Letter) (z : Expr) → Given R E T A M F S C at scope P z γ d → getD R (at * 4) 0 ≡ code l
+    → (Q : Expr → Type 0) → EachTree (λ w. Given R E T A M F S C at scope P w γ d → Q w) l → Q z
+by-node {R} {E} {T} {A} {M} {F} {S} {C} {at} {scope} {P} {γ} {d} l z g h Q q =
+    by-row (λ w. Given R E T A M F S C at scope P w γ d → Q w) l (row-of g) h q g

@@ -16,6 +16,7 @@ use Rattle.language.specs.Encoded.{RowAt, Encoded}
 use Rattle.language.proofs.Nodes.{head}
 use Rattle.language.proofs.Tables.{size-positive}
 use Rattle.bodies.specs.declared.Answer.{Answer}
+use Rattle.bodies.specs.declared.Scope.{Scope}
 use Rattle.bodies.specs.declared.Typing.the-variants.{Bool as bool-case, Null}
 use Rattle.bodies.specs.Answers.{answer, is-refusal}
 use Rattle.bodies.specs.Tables.{Headed, CaseIn}
@@ -37,147 +38,152 @@ use Rattle.bodies.proofs.TurnsNodes.{cast-child, cast-row, assign-child
 
 -- ---- the leaves of `expression`
 
-module _ {R E T A S C : List ℕ} {count at scope top : ℕ} (p : Pre R E T A S C count at scope top) where
+module _ {R E T A M F S C : List ℕ} {at : ℕ} {scope : Scope} (p : Pre R E T A M F S C at scope) where
   pub leaf-row : In-row R at
   leaf-row = let i = in-row p in (i .0, omega (arith, i .3))
 
-  pub leaf-slots : scope ≤ length S
+  pub leaf-slots : scope .size ≤ length S
   leaf-slots = room-slots (p .room)
 
-  pub change-pre : getD R (at * 4) 0 ≡ 82 → PreChange R T S count at scope
+  pub change-pre : getD R (at * 4) 0 ≡ 82 → PreChange R T S (scope .count) at (scope .size)
   unfolding Encoded
-  change-pre l = by-node R-change (p .e) (given-of p) l (λ _. PreChange R T S count at scope) λ k c g.
-      pre-change (g .headed) (g .room .rows) k c at scope (p .γ) S (change-row g) (g .views)
+  change-pre l = by-node R-change (p .e) (given-of p) l (λ _. PreChange R T S (scope .count) at (scope .size))
+      λ k c g.
+      pre-change (g .headed) (g .room .rows) k c at (scope .size) (p .γ) S (change-row g) (g .views)
       (room-slots (g .room))
     where
-      change-row : {k c : ℕ} → Given R E T A S C count at scope top (p .P) (change k c) (p .γ) (p .d)
+      change-row : {k c : ℕ} → Given R E T A M F S C at scope (p .P) (change k c) (p .γ) (p .d)
           → RowAt R at R-change k c
       change-row g = g .encoded .row
 
-module _ {R E T A S C : List ℕ} {count at scope top : ℕ} where
+module _ {R E T A M F S C : List ℕ} {at : ℕ} {scope : Scope} where
   pub true-post : {r : Answer} → getD R (at * 4) 0 ≡ 84 → r ≡ answer bool-case 0
-      → Post R E T A S C S C count at scope top r
+      → Post R E T A M F S C S C at scope r
   true-post {r} l e = post-of kept-none λ P x γ d g.
-      by-node T-true x g l (λ w. Is (world P) w γ at scope S C r) λ g.
+      by-node T-true x g l (λ w. Is (world P) w γ at (scope .size) S C r) λ g.
       rw e (true-is (world P) (g .views))
 
   pub false-post : {r : Answer} → getD R (at * 4) 0 ≡ 76 → r ≡ answer bool-case 0
-      → Post R E T A S C S C count at scope top r
+      → Post R E T A M F S C S C at scope r
   false-post {r} l e = post-of kept-none λ P x γ d g.
-      by-node L-false x g l (λ w. Is (world P) w γ at scope S C r) λ g.
+      by-node L-false x g l (λ w. Is (world P) w γ at (scope .size) S C r) λ g.
       rw e (false-is (world P) (g .views))
 
   pub null-post : {r : Answer} → getD R (at * 4) 0 ≡ 78 → r ≡ answer Null 0
-      → Post R E T A S C S C count at scope top r
+      → Post R E T A M F S C S C at scope r
   null-post {r} l e = post-of kept-none λ P x γ d g.
-      by-node N-null x g l (λ w. Is (world P) w γ at scope S C r) λ g.
+      by-node N-null x g l (λ w. Is (world P) w γ at (scope .size) S C r) λ g.
       rw e (null-literal-is (world P) (g .views))
 
-  pub slot-post : {r : Answer} → getD R (at * 4) 0 ≡ 73 → r ≡ slot-read R S at scope
-      → Post R E T A S C S C count at scope top r
+  pub slot-post : {r : Answer} → getD R (at * 4) 0 ≡ 73 → r ≡ slot-read R S at (scope .size)
+      → Post R E T A M F S C S C at scope r
   unfolding Encoded
   slot-post {r} l e = post-of kept-none λ P x γ d g.
-      by-node I-slot x g l (λ w. Is (world P) w γ at scope S C r) λ k g.
+      by-node I-slot x g l (λ w. Is (world P) w γ at (scope .size) S C r) λ k g.
       slot-is (g .headed) k at r (g .views) (room-slots (g .room)) (g .encoded .row .first) e
 
   pub new-post : {r : Answer} → getD R (at * 4) 0 ≡ 87
-      → r ≡ created R count at → Post R E T A S C S C count at scope top r
+      → r ≡ created R (scope .count) at → Post R E T A M F S C S C at scope r
   unfolding Encoded
   new-post {r} l e = post-of kept-none λ P x γ d g.
-      by-node W-new x g l (λ w. Is (world P) w γ at scope S C r) λ c g.
+      by-node W-new x g l (λ w. Is (world P) w γ at (scope .size) S C r) λ c g.
       new-node-is (g .headed) c at r (g .views) (g .encoded .row .first) e
 
-  pub change-post : {S′ : List ℕ} {r : Answer} → Room R E S C scope top 0 → getD R (at * 4) 0 ≡ 82
-      → PostChange R T S S′ count at scope r
-      → Post R E T A S C S′ C count at scope top r
+  pub change-post : {S′ : List ℕ} {r : Answer} → Room R S scope 0 → getD R (at * 4) 0 ≡ 82
+      → PostChange R T S S′ (scope .count) at (scope .size) r
+      → Post R E T A M F S C S′ C at scope r
   unfolding Encoded
   change-post {S′} {r} m l q =
       post-of (kept-slots (q .long) (λ i u v. q .rest i (omega (arith, m .scoped)))) λ P x γ d g.
-      by-node R-change x g l (λ w. Is (world P) w γ at scope S′ C r) λ k c g.
-      change-is (g .headed) (g .room .rows) k c at scope γ S S′ C r (g .encoded .row) (g .views)
+      by-node R-change x g l (λ w. Is (world P) w γ at (scope .size) S′ C r) λ k c g.
+      change-is (g .headed) (g .room .rows) k c at (scope .size) γ S S′ C r (g .encoded .row) (g .views)
       (room-slots (g .room)) q
 
 -- ---- `unary`
 
-pub room-none : {R E S C : List ℕ} {scope top d : ℕ} → Room R E S C scope top d → Room R E S C scope top 0
-room-none {scope = scope} {top} {d} m =
-    room-next scope top 0 m refl refl (m .this) (m .scoped) (m .above) (omega arith)
+pub room-none : {R S : List ℕ} {scope : Scope} {d : ℕ} → Room R S scope d → Room R S scope 0
+room-none {scope = scope} {d} m = room-next scope 0 m refl (m .this) (m .scoped) (m .above) (omega arith)
 
 unary-case : (R : List ℕ) (at : ℕ) {X : Type 0} → Unary R at → (getD R (at * 4) 0 ≡ 90 → X)
     → (getD R (at * 4) 0 ≡ 71 → X) → (getD R (at * 4) 0 ≡ 75 → X) → (getD R (at * 4) 0 ≡ 65 → X) → X
 unary-case R at u a b c d = ⊎-elim a (λ v. ⊎-elim b (λ w. ⊎-elim c d w) v) u
 
-pub unary-assign : {R E T A S C : List ℕ} {count at scope top : ℕ} → Pre R E T A S C count at scope top
+pub unary-assign : {R E T A M F S C : List ℕ} {at : ℕ} {scope : Scope} → Pre R E T A M F S C at scope
     → Unary R at → (getD R (at * 4) 0 ≡ 90 → ⊥) → (getD R (at * 4) 0 ≡ 71 → ⊥) → (getD R (at * 4) 0 ≡ 75 → ⊥)
     → getD R (at * 4) 0 ≡ 65
 unary-assign {R} {at = at} p u a b c =
     unary-case R at u (λ e. absurd (a e)) (λ e. absurd (b e)) (λ e. absurd (c e)) (λ e. e)
 
-module _ {R E T A S C : List ℕ} {count at scope top : ℕ} where
-  pub unary-first : Unary R at → Pre R E T A S C count at scope top → Pre R E T A S C count (at + 1) scope top
+module _ {R E T A M F S C : List ℕ} {at : ℕ} {scope : Scope} where
+  pub unary-first : Unary R at → Pre R E T A M F S C at scope → Pre R E T A M F S C (at + 1) scope
   unary-first u p = unary-case R at u
-      (λ l. by-node Z-is-null (p .e) (given-of p) l (λ _. Pre R E T A S C count (at + 1) scope top) λ e g.
+      (λ l. by-node Z-is-null (p .e) (given-of p) l (λ _. Pre R E T A M F S C (at + 1) scope) λ e g.
       pre-of (is-null-child g))
-      (λ l. by-node G-get (p .e) (given-of p) l (λ _. Pre R E T A S C count (at + 1) scope top) λ f e g.
+      (λ l. by-node G-get (p .e) (given-of p) l (λ _. Pre R E T A M F S C (at + 1) scope) λ f e g.
       pre-of (get-child g))
-      (λ l. by-node K-cast (p .e) (given-of p) l (λ _. Pre R E T A S C count (at + 1) scope top) λ c e g.
+      (λ l. by-node K-cast (p .e) (given-of p) l (λ _. Pre R E T A M F S C (at + 1) scope) λ c e g.
       pre-of (cast-child g))
-      (λ l. by-node A-assign (p .e) (given-of p) l (λ _. Pre R E T A S C count (at + 1) scope top) λ k e g.
+      (λ l. by-node A-assign (p .e) (given-of p) l (λ _. Pre R E T A M F S C (at + 1) scope) λ k e g.
       pre-of (assign-child g))
 
-  module _ {S′ C′ : List ℕ} (p : Pre R E T A S C count at scope top) {x : Answer}
-      (q : Post R E T A S C S′ C′ count (at + 1) scope top x) where
-    unary-kept : Unary R at → Kept S S′ C C′ at (getD E at 0) top
+  module _ {S′ C′ : List ℕ} (p : Pre R E T A M F S C at scope) {x : Answer}
+      (q : Post R E T A M F S C S′ C′ (at + 1) scope x) where
+    unary-kept : Unary R at → Kept S S′ C C′ at (getD E at 0) (scope .width) (scope .top)
     unfolding size
     unary-kept u = unary-case R at u
-        (λ l. by-node Z-is-null (p .e) (given-of p) l (λ _. Kept S S′ C C′ at (getD E at 0) top) λ e g.
-        kept-in top (row-of g) (row-of (is-null-child g)) (omega arith) (omega arith) (omega arith) (q .kept))
-        (λ l. by-node G-get (p .e) (given-of p) l (λ _. Kept S S′ C C′ at (getD E at 0) top) λ f e g.
-        kept-in top (row-of g) (row-of (get-child g)) (omega arith) (omega arith) (omega arith) (q .kept))
-        (λ l. by-node K-cast (p .e) (given-of p) l (λ _. Kept S S′ C C′ at (getD E at 0) top) λ c e g.
-        kept-in top (row-of g) (row-of (cast-child g)) (omega arith) (omega arith) (omega arith) (q .kept))
-        (λ l. by-node A-assign (p .e) (given-of p) l (λ _. Kept S S′ C C′ at (getD E at 0) top) λ k e g.
-        kept-in top (row-of g) (row-of (assign-child g)) (omega arith) (omega arith) (omega arith) (q .kept))
+        (λ l. by-node Z-is-null (p .e) (given-of p) l
+        (λ _. Kept S S′ C C′ at (getD E at 0) (scope .width) (scope .top)) λ e g.
+        kept-in (scope .top) (row-of g) (row-of (is-null-child g)) (omega arith) (omega arith) (omega arith)
+        (q .kept))
+        (λ l. by-node G-get (p .e) (given-of p) l
+        (λ _. Kept S S′ C C′ at (getD E at 0) (scope .width) (scope .top)) λ f e g.
+        kept-in (scope .top) (row-of g) (row-of (get-child g)) (omega arith) (omega arith) (omega arith)
+        (q .kept))
+        (λ l. by-node K-cast (p .e) (given-of p) l
+        (λ _. Kept S S′ C C′ at (getD E at 0) (scope .width) (scope .top)) λ c e g.
+        kept-in (scope .top) (row-of g) (row-of (cast-child g)) (omega arith) (omega arith) (omega arith)
+        (q .kept))
+        (λ l. by-node A-assign (p .e) (given-of p) l
+        (λ _. Kept S S′ C C′ at (getD E at 0) (scope .width) (scope .top)) λ k e g.
+        kept-in (scope .top) (row-of g) (row-of (assign-child g)) (omega arith) (omega arith) (omega arith)
+        (q .kept))
 
     pub is-null-post : {r : Answer} → getD R (at * 4) 0 ≡ 90 → r ≡ null-tested at (x .typing) (x .effect)
-        → Post R E T A S C S′ C′ count at scope top r
+        → Post R E T A M F S C S′ C′ at scope r
     is-null-post {r} l e = post-of (unary-kept (inl l)) λ P z γ d g.
-        by-node Z-is-null z g l (λ w. Is (world P) w γ at scope S′ C′ r) λ e′ g.
+        by-node Z-is-null z g l (λ w. Is (world P) w γ at (scope .size) S′ C′ r) λ e′ g.
         is-null-is (g .headed) at x r (post-is q (is-null-child g)) e
 
-    pub cast-post : {r : Answer} → getD R (at * 4) 0 ≡ 75 → r ≡ cast-answer R count at x
-        → Post R E T A S C S′ C′ count at scope top r
+    pub cast-post : {r : Answer} → getD R (at * 4) 0 ≡ 75 → r ≡ cast-answer R (scope .count) at x
+        → Post R E T A M F S C S′ C′ at scope r
     cast-post {r} l e = post-of (unary-kept (inr (inr (inl l)))) λ P z γ d g.
-        by-node K-cast z g l (λ w. Is (world P) w γ at scope S′ C′ r) λ c e′ g.
+        by-node K-cast z g l (λ w. Is (world P) w γ at (scope .size) S′ C′ r) λ c e′ g.
         cast-is (g .headed) c at x r (cast-row g) (post-is q (cast-child g)) e
 
-    pub assign-post : {r : Answer} → getD R (at * 4) 0 ≡ 65 → r ≡ assigned R A S′ at scope x
-        → Post R E T A S C S′ C′ count at scope top r
+    pub assign-post : {r : Answer} → getD R (at * 4) 0 ≡ 65 → r ≡ assigned R A S′ at (scope .size) x
+        → Post R E T A M F S C S′ C′ at scope r
     assign-post {r} l e = post-of (unary-kept (inr (inr (inr l)))) λ P z γ d g.
-        by-node A-assign z g l (λ w. Is (world P) w γ at scope S′ C′ r) λ k e′ g.
+        by-node A-assign z g l (λ w. Is (world P) w γ at (scope .size) S′ C′ r) λ k e′ g.
         assign-is (g .headed) k at x r (assign-row g) (room-slots (room-kept (g .room) (q .kept)))
         (post-is q (assign-child g)) e
 
     pub get-post : {C″ : List ℕ} {r : Answer} → getD R (at * 4) 0 ≡ 71
         → r ≡ got R T at (x .typing) (x .effect) → C″ ≡ got-classes R T C′ at (x .typing)
-        → Post R E T A S C S′ C″ count at scope top r
+        → Post R E T A M F S C S′ C″ at scope r
     get-post {C″} {r} l e f =
         let k = got-kept (p .headed) C′ at (x .typing) in
         let h = head (p .e) (p .encoded) in
         post-of (kept-then (unary-kept (inr (inl l)))
         (kept-classes at (ap length f ∙ k .0) (λ i n. ap (λ (w : List ℕ). getD w i 0) f ∙ k .1 i n)
         (omega arith) (omega (arith, h .end, size-positive (p .e)))))
-        λ P z γ d g. by-node G-get z g l (λ w. Is (world P) w γ at scope S′ C″ r) λ n e′ g.
-        get-is (g .headed) n at x r (get-row g .0) (get-row g .1)
-        (omega (arith, h .in-ends, g .room .nodes, q .kept .classes-long)) (post-is q (get-child g)) e f
+        λ P z γ d g. by-node G-get z g l (λ w. Is (world P) w γ at (scope .size) S′ C″ r) λ n e′ g.
+        get-is (g .headed) n at x r (get-row g .0) (get-row g .1) (post-is q (get-child g)) e f
 
     -- what G and A need
-    pub get-pre : getD R (at * 4) 0 ≡ 71 → PreGet R T C′ at (x .typing)
+    pub get-pre : getD R (at * 4) 0 ≡ 71 → PreGet R T at (x .typing)
     get-pre l =
-        let i = in-row p in
         record {
           row = leaf-row p;
-          noted-at = omega (arith, i .1, i .2, q .kept .classes-long);
           field = λ c e. by-node G-get (p .e) (given-of p) l
               (λ _. PreField R T c (getD R (at * 4 + 1) 0) × (c ≤ 64))
               λ f e′ g.
@@ -189,16 +195,16 @@ module _ {R E T A S C : List ℕ} {count at scope top : ℕ} where
               );
         }
 
-    answer-in : {P : List Class} {γ : Environment} {e : Expr} → Headed P R T A count
-        → Is (world P) e γ (at + 1) scope S′ C′ x → CaseIn (length A) (x .typing)
+    answer-in : {P : List Class} {γ : Environment} {e : Expr} → Headed P R E T A M F (scope .count)
+        → Is (world P) e γ (at + 1) (scope .size) S′ C′ x → CaseIn (length A) (x .typing)
     answer-in {P} {γ} {e} h i = go (type-of (world P) e (at + 1 + 1) γ) refl
       where
         go : (w : Checked Typed) → type-of (world P) e (at + 1 + 1) γ ≡ w → CaseIn (length A) (x .typing)
         go (accept a) f = rw (i .out, f) (case-low (a .type) h (i .accepted a f .declared))
         go (refuse n l) f = rw (i .out, f) tt
 
-    pub assign-pre : getD R (at * 4) 0 ≡ 65 → PreAssign R A S′ at scope (x .typing)
-    assign-pre l = by-node A-assign (p .e) (given-of p) l (λ _. PreAssign R A S′ at scope (x .typing))
+    pub assign-pre : getD R (at * 4) 0 ≡ 65 → PreAssign R A S′ at (scope .size) (x .typing)
+    assign-pre l = by-node A-assign (p .e) (given-of p) l (λ _. PreAssign R A S′ at (scope .size) (x .typing))
         λ k e g.
         let ls = room-slots (room-kept (g .room) (q .kept)) in
         record {

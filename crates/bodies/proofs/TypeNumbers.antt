@@ -13,12 +13,12 @@ use Rattle.language.specs.Tree.{DeclaredType, bool, class, type-number, ExprTyp
 use Rattle.language.specs.Tree.{Kind, plain, root, state, unknown, kind-number}
 use Rattle.language.specs.World.{is-declared-type}
 use Rattle.language.specs.Effects.{apply-class, apply, apply-expr}
-use Rattle.language.specs.Program.{world, class-at, is-changeable, is-root, is-state}
+use Rattle.language.specs.Program.{world, world-with, class-at, is-changeable, is-root, is-state}
 use Rattle.language.specs.Typing.{can-change, join-currents}
 use Rattle.language.proofs.Classes as classes
 use Rattle.bodies.specs.declared.Typing.the-variants.{Class as class-case}
 use Rattle.bodies.specs.Answers.{case-number, case-of-number, typing-case}
-use Rattle.bodies.specs.Tables.{Headed, joined-number, root-in, applied, applied-number, Applicable}
+use Rattle.bodies.specs.Tables.{Headed, joined-number, root-in, applied, applied-number}
 use Rattle.bodies.specs.Nodes.{changeable-in}
 use Rattle.bodies.specs.Acts.{can-change-in, InTables}
 use Rattle.bodies.specs.Cycle.{Declared}
@@ -27,7 +27,8 @@ use Rattle.bodies.proofs.Worlds.{sound, applied-is, nearest-is, not-255
 use Rattle.bodies.proofs.Turns.{declared-bool, declared-null, declared-known, class-low, low-class}
 
 -- a declared type's number tells its case, and is that of nothing absent
-pub type-number-case : {P : List Class} {R T A : List ℕ} {count : ℕ} (t : DeclaredType) → Headed P R T A count
+pub type-number-case : {P : List Class} {R E T A M F : List ℕ} {count : ℕ} (t : DeclaredType)
+    → Headed P R E T A M F count
     → is-declared-type (world P) t ≡ true
     → (case-of-number (type-number t) ≡ typing-case (known t)) × (type-number t ≡ 65535 → ⊥)
     × ((type-number t ≡ 255 → ⊥) → type-number t ≤ 64)
@@ -45,8 +46,8 @@ case-known (known (class k)) c e = let z : k ≡ c = cc in ap (λ (x : ℕ). kno
 case-known null-type c e = absurd (let z : _≡_ {A = ℕ} 0 1 = cc in omega arith)
 
 -- a declared type after an effect
-pub declared-after : {P : List Class} {R T A : List ℕ} {count : ℕ} (φ : ℕ) (t : ExprType)
-    → Headed P R T A count → Declared (world P) t → Declared (world P) (apply-expr (world P) φ t)
+pub declared-after : {P : List Class} {R E T A M F : List ℕ} {count : ℕ} (φ : ℕ) (t : ExprType)
+    → Headed P R E T A M F count → Declared (world P) t → Declared (world P) (apply-expr (world P) φ t)
 declared-after φ (known bool) h d = declared-bool
 declared-after {P} φ (known (class c)) h d =
     declared-known (class (apply-class (world P) φ c))
@@ -55,7 +56,7 @@ declared-after {P} φ (known (class c)) h d =
 declared-after φ null-type h d = declared-null
 
 -- what the tables make of a declared type
-module _ {P : List Class} {R T A : List ℕ} {count : ℕ} (h : Headed P R T A count) where
+module _ {P : List Class} {R E T A M F : List ℕ} {count : ℕ} (h : Headed P R E T A M F count) where
   pub not-absent : (c : ℕ) → c ≤ count → eqb c 65535 ≡ false
   not-absent c l = ne-eqb c 65535 (λ e. omega (arith, h .classes .few))
 
@@ -100,7 +101,7 @@ module _ {P : List Class} {R T A : List ℕ} {count : ℕ} (h : Headed P R T A c
 
   -- a root or state class
   changeable-is : (c : ℕ) → c ≤ count → changeable-in T c ≡ world P .changeable c
-  unfolding changeable-in world is-changeable class-at
+  unfolding changeable-in world world-with is-changeable class-at
   changeable-is zero l = refl
   changeable-is (suc c) l =
       rw (ne-eqb (suc c) 0 (λ e. omega arith))
@@ -146,16 +147,8 @@ module _ {P : List Class} {R T A : List ℕ} {count : ℕ} (h : Headed P R T A c
   }
 
 -- the number of a type after an effect
-pub applicable : {P : List Class} {R T A : List ℕ} {count : ℕ} (t : ExprType) → Headed P R T A count
-    → Declared (world P) t → Applicable T (case-number (typing-case t))
-applicable (known bool) h d = record { inside = λ f g. absurd (f refl); root = λ f g. absurd (f refl) }
-applicable {T = T} (known (class c)) h d =
-    let l = class-low c h (d .class-in c refl) in
-    let s = sound (h .classes) in
-    record { inside = λ f g. omega (arith, l, s .long); root = λ f g. omega (arith, s .roots c l, l, s .few) }
-applicable null-type h d = record { inside = λ f g. absurd (g refl); root = λ f g. absurd (g refl) }
-
-pub applied-case : {P : List Class} {R T A : List ℕ} {count : ℕ} (φ : ℕ) (t : ExprType) → Headed P R T A count
+pub applied-case : {P : List Class} {R E T A M F : List ℕ} {count : ℕ} (φ : ℕ) (t : ExprType)
+    → Headed P R E T A M F count
     → Declared (world P) t
     → applied-number T φ (case-number (typing-case t)) ≡ case-number (typing-case (apply-expr (world P) φ t))
 applied-case {T = T} φ (known bool) h d = sym (number-bool T φ 255 refl)

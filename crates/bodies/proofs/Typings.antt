@@ -77,7 +77,7 @@ module _ (W : World) where
     same-typed (cast c e) l l′ γ = same-bind (same-typed e (l + 1) (l′ + 1) γ) λ a.
         same-require (is-declared W c) 4 l l′
         (λ u. same-require (not-bool (a .type)) 9 l l′ (λ v. same-accept _))
-    same-typed (new c) l l′ γ = same-require (is-declared W c) 4 l l′ (λ u. same-accept _)
+    same-typed (new c) l l′ γ = same-require (W .makes c) 4 l l′ (λ u. same-accept _)
     same-typed (change k d) l l′ γ = same-require (is-declared W d) 4 l l′
         (λ u. same-need (at-slot γ k) 7 l l′ λ s. same-class (known (s .current)) 11 l l′ λ c.
         same-require (can-change W c d) 11 l l′ (λ u. same-accept _))
@@ -118,9 +118,9 @@ module _ (W : World) where
       → type-all W es l′ γ ≡ accept b
   line-free-all es l l′ γ h = same-accepted (same-typed-all es l l′ γ) h
 
--- ---- the lookup classes of an expression stand in its own rows
+-- ---- the lookup classes of an expression stand in its own rows, in tables of one length
 
-module _ (W : World) (C C′ : List ℕ) where
+module _ (W : World) (C C′ : List ℕ) (long : length C′ ≡ length C) where
   mutual
     unfolding LooksUp size
 
@@ -131,7 +131,7 @@ module _ (W : World) (C C′ : List ℕ) where
     looks-frame (slot k) γ r s h = tt
     looks-frame (is-null e) γ r s h = looks-frame e γ (r + 1) (λ i l m. s i (omega arith) (omega arith)) h
     looks-frame (get f e) γ r s h = (
-      s r (omega arith) (omega arith) ∙ h .0,
+      (λ l. s r (omega arith) (omega arith) ∙ h .0 (omega (arith, l, long))),
       looks-frame e γ (r + 1) (λ i l m. s i (omega arith) (omega arith)) (h .1),
     )
     looks-frame (cast c e) γ r s h = looks-frame e γ (r + 1) (λ i l m. s i (omega arith) (omega arith)) h
@@ -139,12 +139,12 @@ module _ (W : World) (C C′ : List ℕ) where
     looks-frame (change k d) γ r s h = tt
     looks-frame (assign k e) γ r s h = looks-frame e γ (r + 1) (λ i l m. s i (omega arith) (omega arith)) h
     looks-frame (set f e e′) γ r s h = (
-      s r (omega arith) (omega arith) ∙ h .0,
+      (λ l. s r (omega arith) (omega arith) ∙ h .0 (omega (arith, l, long))),
       looks-frame e γ (r + 1) (λ i l m. s i (omega arith) (omega arith)) (h .1),
       looks-frame e′ _ (r + 1 + size e) (λ i l m. s i (omega arith) (omega arith)) (h .2),
     )
     looks-frame (call m e es) γ r s h = (
-      s r (omega arith) (omega arith) ∙ h .0,
+      (λ l. s r (omega arith) (omega arith) ∙ h .0 (omega (arith, l, long))),
       looks-frame e γ (r + 1) (λ i l m. s i (omega arith) (omega arith)) (h .1),
       looks-frame-all es _ (r + 1 + size e) (λ i l m. s i (omega arith) (omega arith)) (h .2),
     )

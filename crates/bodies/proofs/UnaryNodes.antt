@@ -18,10 +18,10 @@ use Rattle.language.specs.Frames.{at-slot}
 use Rattle.language.specs.Tree.{DeclaredType, bool, class, ExprType, known, null-type, Class, Expr, is-null}
 use Rattle.language.specs.Tree.{get, cast, assign}
 use Rattle.language.specs.World.{field-type, is-declared, is-declared-type, World}
-use Rattle.language.specs.Program.{world}
+use Rattle.language.specs.Program.{world, world-with}
 use Rattle.language.specs.Environment.{Slot, Environment}
 use Rattle.language.specs.Typing.{Typed, typed, not-bool, need-class, fits, type-of}
-use Rattle.language.specs.LookupClasses.{LooksUp}
+use Rattle.language.specs.LookupClasses.{Notes, LooksUp}
 use Rattle.language.specs.Translation.{typed-or, class-or}
 use Rattle.language.proofs.Lines.{le-or-less}
 use Rattle.bodies.specs.declared.Answer.{Answer}
@@ -30,7 +30,7 @@ use Rattle.bodies.specs.declared.Typing.the-variants.{Bool as bool-case,
 use Rattle.bodies.specs.declared.Typing.the-variants.{Refusal}
 use Rattle.bodies.specs.declared.Sought.{Sought}
 use Rattle.bodies.specs.declared.Sought.the-variants.{Found, Missing}
-use Rattle.bodies.specs.Answers.{answer, answer-of, typing-case, sought-of}
+use Rattle.bodies.specs.Answers.{answer, answer-of, typing-case, sought-of, current-in}
 use Rattle.bodies.specs.Tables.{Headed, is-fitting}
 use Rattle.bodies.specs.Nodes.{refusal, null-tested, casted, cast-answer, assigned, field-in, not-class}
 use Rattle.bodies.specs.Nodes.{got, got-classes, found-answer, noted}
@@ -64,7 +64,7 @@ null-is : (W : World) (e : Expr) (at : ℕ) (γ : Environment) → let q = type-
 unfolding type-of
 null-is W e at γ = null-go at (type-of W e (at + 1 + 1) γ)
 
-module _ {P : List Class} {R T A : List ℕ} {count : ℕ} (h : Headed P R T A count) where
+module _ {P : List Class} {R E T A M F : List ℕ} {count : ℕ} (h : Headed P R E T A M F count) where
   pub is-null-is : {e : Expr} {γ : Environment} {S C : List ℕ} {scope : ℕ} (at : ℕ) (child r : Answer)
       → Is (world P) e γ (at + 1) scope S C child
       → r ≡ null-tested at (child .typing) (child .effect) → Is (world P) (is-null e) γ at scope S C r
@@ -100,7 +100,7 @@ module _ {P : List Class} {R T A : List ℕ} {count : ℕ} (h : Headed P R T A c
   pub cast-is : {e : Expr} {γ : Environment} {S C : List ℕ} {scope : ℕ} (c at : ℕ) (child r : Answer)
       → getD R (at * 4 + 1) 0 ≡ c → Is (world P) e γ (at + 1) scope S C child
       → r ≡ cast-answer R count at child → Is (world P) (cast c e) γ at scope S C r
-  unfolding type-of LooksUp world
+  unfolding type-of LooksUp world world-with
   cast-is {e} {γ} {S} {C} {scope} c at child r z i f = record {
     out = f ∙ (ap (cast-answer R count at) (i .out) ∙ (casts c at (type-of (world P) e (at + 1 + 1) γ) z
         ∙ ap (λ (n : ℕ). answer-of (bind-checked (type-of (world P) e (at + 1 + 1) γ) λ a. require (leb c n) 4
@@ -137,7 +137,7 @@ module _ {P : List Class} {R T A : List ℕ} {count : ℕ} (h : Headed P R T A c
 
       go : (o : Option Slot) → nth (a .slots .slots) k ≡ o
           → cond (leb scope (suc k)) (refusal 7 at)
-          (cond (is-fitting A (typing-case (a .type)) (getD S (suc k) 0))
+          (cond (is-fitting A (typing-case (a .type)) (current-in (getD S (suc k) 0)))
           (answer (typing-case (a .type)) (a .effect)) (refusal 9 at))
           ≡ answer-of (need-checked o 7 (at + 1) λ s. require (fits (world P) (a .type) (s .current)) 9
           (at + 1) λ _. accept a)
@@ -146,9 +146,9 @@ module _ {P : List Class} {R T A : List ℕ} {count : ℕ} (h : Headed P R T A c
           (λ m. absurd (omega (arith, slot-none v l (suc k) q m .0)))
           (le-or-less scope (suc k))
       go (some s) q =
-          let w = slot-some v l (suc k) s q in
+          let w = slot-some h v l (suc k) s q in
           let x = fitting-is (h .classes) (a .type) (s .current) (type-low (a .type) h d)
-          (v .declared (suc k) s q) in
+          (v .current (suc k) s q) in
           rw (lt-leb scope (suc k) (w .0), w .1, x) (fit s (fits (world P) (a .type) (s .current)) refl)
 
   pub assign-is : {e : Expr} {γ : Environment} {S C : List ℕ} {scope : ℕ} (k at : ℕ) (child r : Answer)
@@ -227,12 +227,12 @@ module _ {P : List Class} {R T A : List ℕ} {count : ℕ} (h : Headed P R T A c
   got-noted C c f at t l m n e q = rw (e, field-is h c f m n, q) (getD-set-same C at c 0 l)
 
   pub get-is : {e : Expr} {γ : Environment} {S C C′ : List ℕ} {scope : ℕ} (f at : ℕ) (child r : Answer)
-      → getD R (at * 4 + 1) 0 ≡ f → f < 256 → at < length C
+      → getD R (at * 4 + 1) 0 ≡ f → f < 256
       → Is (world P) e γ (at + 1) scope S C child → r ≡ got R T at (child .typing) (child .effect)
       → C′ ≡ got-classes R T C at (child .typing)
       → Is (world P) (get f e) γ at scope S C′ r
   unfolding type-of LooksUp bind-checked got not-class
-  get-is {e} {γ} {S} {C} {C′} {scope} f at child r z m n i x y = record {
+  get-is {e} {γ} {S} {C} {C′} {scope} f at child r z m i x y = record {
     out = x ∙ (ap (λ (w : Answer). got R T at (w .typing) (w .effect)) (i .out) ∙ go
         (type-of (world P) e (at + 1 + 1) γ) refl);
     accepted = λ a q. bind-checked-inv (type-of (world P) e (at + 1 + 1) γ) _ q λ b p w.
@@ -244,16 +244,17 @@ module _ {P : List Class} {R T A : List ℕ} {count : ℕ} (h : Headed P R T A c
         let l : c ≤ count = type-low (b .type) h (ac .declared) c tc in
         let cc′ : C′ ≡ got-classes R T C at (class-case c) = y ∙ ap (got-classes R T C at) ct in
         let k = got-kept C at (class-case c) in
-        let here : getD C′ at 0 ≡ c = ap (λ (w : List ℕ). getD w at 0) cc′
-        ∙ got-noted C c f at t n l m z ft in
+        let long : length C′ ≡ length C = ap length cc′ ∙ k .0 in
+        let here : Notes C′ at c = λ n. ap (λ (w : List ℕ). getD w at 0) cc′
+        ∙ got-noted C c f at t (omega (arith, n, long)) l m z ft in
         let lf : type-of (world P) e 0 γ ≡ accept b = line-free (world P) e (at + 1 + 1) 0 γ p in
         subst (λ (w : Typed). Accepted (world P) (get f e) γ at scope S C′ w) (accept-injective u′)
         (record {
           views = ac .views;
           declared = declared-known t (field-declared h c f l m t ft);
           looks = (
-            here ∙ sym (ap (λ (w : Checked Typed). class-or (typed-or w .type)) lf ∙ ap class-or tc),
-            looks-frame (world P) C C′ e γ (at + 1)
+            (λ n. here n ∙ sym (ap (λ (w : Checked Typed). class-or (typed-or w .type)) lf ∙ ap class-or tc)),
+            looks-frame (world P) C C′ long e γ (at + 1)
                 (λ j u v. ap (λ (w : List ℕ). getD w j 0) cc′ ∙ k .1 j (λ z. omega arith)) (ac .looks),
           );
         });

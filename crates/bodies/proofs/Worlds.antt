@@ -11,7 +11,7 @@ use lib.ListN.{length, getD}
 use Rattle.language.specs.Tree.{DeclaredType, bool, class, ExprType, known, null-type, type-number, Class}
 use Rattle.language.specs.World.{is-declared-type}
 use Rattle.language.specs.Effects.{apply-class}
-use Rattle.language.specs.Program.{world}
+use Rattle.language.specs.Program.{world, world-with}
 use Rattle.language.specs.Typing.{fits}
 use Rattle.language.proofs.Classes as classes
 use Rattle.classes.specs.Subclasses.{is-below}
@@ -74,7 +74,7 @@ module _ {P : List Class} {T A : List ℕ} {count : ℕ} (h : Classes P T A coun
   not-255 d l = ne-eqb d 255 (λ e. omega (arith, h .few))
 
   declared : (c : ℕ) → is-declared-type (world P) (class c) ≡ true → c ≤ count
-  unfolding world
+  unfolding world world-with
   declared c e = omega (arith, leb-true c (length P) e, h .counted)
 
   pub fitting-is : (t : ExprType) (u : DeclaredType) → ((c : ℕ) → t ≡ known (class c) → c ≤ count)

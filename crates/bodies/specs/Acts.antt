@@ -5,44 +5,25 @@ use mathlib.Core.List.{List}
 use Prim.Native.Nat.{ℕ, zero, suc, _+_, _*_, _≤_, _<_}
 use lib.Dec.{eqb, leb, ltb}
 use lib.ListN.{length, getD, set}
-use Rattle.language.specs.Effects.{effect-of, effect-of-all, join}
-use Rattle.language.specs.WellFormed.{Each}
-use Rattle.language.specs.Layout.{EffectsAt, Run}
+use Rattle.language.specs.Effects.{effect-of, join}
 use Rattle.bodies.specs.declared.Typing.{Typing}
 use Rattle.bodies.specs.declared.Typing.the-variants.{Bool as bool-case, Class, Null, Refusal}
 use Rattle.bodies.specs.declared.Answer.{Answer}
+use Rattle.bodies.specs.declared.Scope.{Scope}
 use Rattle.bodies.specs.declared.Sought.{Sought}
 use Rattle.bodies.specs.declared.Sought.the-variants.{Found, Missing}
-use Rattle.bodies.specs.Answers.{absent}
-use Rattle.bodies.specs.Answers.{answer, case-of-number, is-refusal}
-use Rattle.bodies.specs.Tables.{Applicable, applied, applied-number, joined-number, root-in, is-fitting}
+use Rattle.bodies.specs.Answers.{answer, case-of-number, is-refusal, absent, current-in, with-current}
+use Rattle.bodies.specs.Answers.{fresh-in}
+use Rattle.bodies.specs.Tables.{Applicable, applied, applied-slot, joined-slot, root-in, is-fitting}
 use Rattle.bodies.specs.Tables.{CaseIn, Known}
-use Rattle.bodies.specs.Tables.{Runs, Changed, PreJoin}
+use Rattle.bodies.specs.Tables.{Changed, PreJoin}
 use Rattle.bodies.specs.Nodes.{refusal, joined-case, BothClasses, field-in, PreField, In-row}
 use Rattle.bodies.specs.Nodes.{changeable-in}
-use Rattle.language.specs.Limits.{of-check, bool-number, name-refusal, slot-refusal, member-refusal}
-use Rattle.language.specs.Limits.{type-refusal, change-refusal}
+use Rattle.language.specs.Limits.{bool-number, change-refusal, member-refusal, name-refusal, of-check}
 use Rattle.language.specs.ClassTables.{class-width, methods-from, root-place}
-use Rattle.language.specs.Rows.{code, P-parameter, X-effect}
-
--- The X lines from a row on name these classes, of those there may be, and the next line is no X line.
-pub record EffectLines (R : List ℕ) (from : ℕ) (cs : List ℕ) : Type 0 where
-  pub lines : EffectsAt R cs from
-  pub low : Each (λ c. c ≤ of-check .classes) cs
-  pub inside : (from + length cs) * 4 + 3 < length R
-  pub other : getD R ((from + length cs) * 4) 0 ≡ code X-effect → ⊥
-
-pub record SomeEffects (R : List ℕ) (from : ℕ) : Type 0 where
-  pub classes : List ℕ
-  pub lines : EffectLines R from classes
-
--- A number is the set of the X lines' classes.
-abbrev pub EffectOf : List ℕ → ℕ → ℕ → Type 0
-EffectOf R from φ = (cs : List ℕ) → EffectLines R from cs → φ ≡ effect-of-all cs
-
--- A number is how many P lines there are.
-abbrev pub CountOf : List ℕ → ℕ → ℕ → Type 0
-CountOf R from n = (p : ℕ) → Run R (code P-parameter) from p → n ≡ p
+use Rattle.language.specs.MethodTables.{method-width, parameters-place}
+use Rattle.language.specs.Limits.{slot-refusal}
+use Rattle.language.specs.Limits.{type-refusal}
 
 -- The case of a stored argument's number.
 unfoldable pub stored-case : ℕ → Typing
@@ -82,7 +63,7 @@ pub record PostOpen (R S S′ : List ℕ) (count at scope v : ℕ) (r : Answer) 
   pub below : (k : ℕ) → k < scope → getD S′ k 0 ≡ getD S k 0
   pub after : (k : ℕ) → scope + v ≤ k → getD S′ k 0 ≡ getD S k 0
   pub filled : is-refusal (r .typing) ≡ false → (i : ℕ) → i < v
-      → getD S′ (scope + i) 0 ≡ getD R ((at + 1 + i) * 4 + 1) 0
+      → getD S′ (scope + i) 0 ≡ fresh-in (getD R ((at + 1 + i) * 4 + 1) 0)
 
 -- R.
 unfoldable pub can-change-in : List ℕ → ℕ → ℕ → Bool
@@ -92,14 +73,15 @@ unfoldable pub changed-answer : List ℕ → List ℕ → ℕ → ℕ → ℕ �
 changed-answer T S count at scope k d =
     cond (ltb count d) (refusal name-refusal at)
     (cond (leb scope k) (refusal slot-refusal at)
-    (cond (eqb (getD S k 0) absent) (refusal slot-refusal at)
-    (cond (eqb (getD S k 0) bool-number) (refusal change-refusal at)
-    (cond (can-change-in T (getD S k 0) d) (answer (Class d) (effect-of (root-in T d)))
+    (cond (eqb (current-in (getD S k 0)) absent) (refusal slot-refusal at)
+    (cond (eqb (current-in (getD S k 0)) bool-number) (refusal change-refusal at)
+    (cond (can-change-in T (current-in (getD S k 0)) d) (answer (Class d) (effect-of (root-in T d)))
     (refusal change-refusal at)))))
 
 -- The slots after a change: the root is applied to all, and this one has the target's class.
 unfoldable pub number-after : List ℕ → List ℕ → ℕ → ℕ → ℕ → ℕ
-number-after T S k d i = cond (eqb i k) d (applied-number T (effect-of (root-in T d)) (getD S i 0))
+number-after T S k d i =
+    cond (eqb i k) (with-current (getD S i 0) d) (applied-slot T (effect-of (root-in T d)) (getD S i 0))
 
 pub record PreChange (R T S : List ℕ) (count at scope : ℕ) : Type 0 where
   pub row : In-row R at
@@ -107,7 +89,7 @@ pub record PreChange (R T S : List ℕ) (count at scope : ℕ) : Type 0 where
   pub long : (count + 1) * class-width ≤ length T
   pub roots : (k : ℕ) → k ≤ count → root-in T k ≤ of-check .classes
   pub scoped : scope ≤ length S
-  pub slots : (k : ℕ) → k < scope → Known count (getD S k 0)
+  pub slots : (k : ℕ) → k < scope → Known count (current-in (getD S k 0))
 
 pub record PostChange (R T S S′ : List ℕ) (count at scope : ℕ) (r : Answer) : Type 0 where
   pub out : r ≡ changed-answer T S count at scope (getD R (at * 4 + 1) 0) (getD R (at * 4 + 2) 0)
@@ -149,9 +131,8 @@ pub record InTables (T : List ℕ) (φ c : ℕ) : Type 0 where
   pub low : applied T φ c ≤ of-check .classes
   pub after : (applied T φ c + 1) * class-width ≤ length T
 
-pub record PrePut (R T A C : List ℕ) (at : ℕ) (t : Typing) (b : Answer) : Type 0 where
+pub record PrePut (R T A : List ℕ) (at : ℕ) (t : Typing) (b : Answer) : Type 0 where
   pub row : In-row R at
-  pub noted-at : at < length C
   pub value : CaseIn (length A) (b .typing)
   pub object : (c : ℕ) → t ≡ Class c
       → InTables T (b .effect) c × PreField R T (applied T (b .effect) c) (getD R (at * 4 + 1) 0)
@@ -159,25 +140,30 @@ pub record PrePut (R T A C : List ℕ) (at : ℕ) (t : Typing) (b : Answer) : Ty
       → field-in R T (applied T (b .effect) c) (getD R (at * 4 + 1) 0) ≡ Found (record { number = n })
       → (n ≡ bool-number → ⊥) → n ≤ of-check .classes
 
--- Q. The table's number for a method: 0, or its row and 1.
+-- Q. The table's number for a method: 0, or its number and 1. The row of a method's M line, and how many parameters it has.
 abbrev pub method-place : List ℕ → ℕ → ℕ → ℕ
 method-place T c m = getD T (c * class-width + (methods-from + m)) 0
 
-pub record PreMethod (R A S : List ℕ) (top n row : ℕ) : Type 0 where
-  pub line : row * 4 + 3 < length R
-  pub parameters : Runs R (code P-parameter) (row + 1)
-  pub fitting : Run R (code P-parameter) (row + 1) n → PreFitting R A S top (row + 1) n
-  pub effects : Run R (code P-parameter) (row + 1) n → SomeEffects R (row + 1 + n)
+abbrev pub method-line : List ℕ → ℕ → ℕ
+method-line M i = getD M (i * method-width) 0
 
-pub record PreInvoke (R T A S C : List ℕ) (at scope top : ℕ) (t : Typing) (ψ : ℕ) : Type 0 where
+abbrev pub parameter-count : List ℕ → ℕ → ℕ
+parameter-count M i = getD M (i * method-width + parameters-place) 0
+
+pub record PreMethod (R A M F S : List ℕ) (top n i : ℕ) : Type 0 where
+  pub inside : i * 4 + 2 < length M
+  pub effect : i < length F
+  pub line : method-line M i * 4 + 3 < length R
+  pub fitting : parameter-count M i ≡ n → PreFitting R A S top (method-line M i + 1) n
+
+pub record PreInvoke (R T A M F S : List ℕ) (at : ℕ) (scope : Scope) (t : Typing) (ψ : ℕ) : Type 0 where
   pub row : In-row R at
-  pub noted-at : at < length C
-  pub scoped : scope ≤ length S
+  pub scoped : scope .size ≤ length S
   pub name : getD R (at * 4 + 1) 0 < 256
-  pub slots : (k : ℕ) → k < scope → Applicable T (getD S k 0)
+  pub slots : (k : ℕ) → k < scope .size → Applicable T (current-in (getD S k 0))
   pub receiver : (c : ℕ) → t ≡ Class c → InTables T ψ c
-  pub method : (c r : ℕ) → t ≡ Class c → method-place T (applied T ψ c) (getD R (at * 4 + 1) 0) ≡ suc r
-      → PreMethod R A S top (getD R (at * 4 + 2) 0) r
+  pub method : (c i : ℕ) → t ≡ Class c → method-place T (applied T ψ c) (getD R (at * 4 + 1) 0) ≡ suc i
+      → PreMethod R A M F S (scope .top) (getD R (at * 4 + 2) 0) i
 
 -- What is no class.
 abbrev pub NoClass : Typing → Type 0
@@ -187,33 +173,37 @@ NoClass Null = Unit {0}
 NoClass (Refusal n l) = Unit {0}
 
 -- The call's outcome: φ is the receiver's effect, ψ the arguments'; name and count are the row's.
-module _ (R T A S C : List ℕ) (at scope top : ℕ) (t : Typing) (φ ψ : ℕ) (S′ C′ : List ℕ) (r : Answer) where
-  abbrev pub call-class : ℕ → ℕ
-  call-class c = method-place T (applied T ψ c) (getD R (at * 4 + 1) 0)
+module _ (R T A M F S C : List ℕ) (at : ℕ) (scope : Scope) (t : Typing) (φ ψ : ℕ) (S′ C′ : List ℕ)
+    (r : Answer)
+  where
+    abbrev pub called : ℕ → ℕ
+    called c = method-place T (applied T ψ c) (getD R (at * 4 + 1) 0)
 
-  pub record Unchanged : Type 0 where
-    pub slots-same : S′ ≡ S
-    pub classes-same : C′ ≡ C
+    abbrev pub given-count : ℕ
+    given-count = getD R (at * 4 + 2) 0
 
-  pub record Done (c row ε : ℕ) : Type 0 where
-    pub out : r ≡ answer (case-of-number (getD R (row * 4 + 1) 0)) (join (join φ ψ) ε)
-    pub slots : Changed S S′ scope (λ k. applied-number T ε (getD S k 0))
-    pub noted : C′ ≡ set C at (applied T ψ c)
+    abbrev pub arguments-fit : ℕ → Bool
+    arguments-fit i = all-fitting R A S (scope .top) (method-line M i + 1) given-count
 
-  pub data Invoked : Type 0 where
-    no-class : NoClass t → r ≡ refusal type-refusal at → Unchanged → Invoked
-    no-method : (c : ℕ) → t ≡ Class c → call-class c ≡ 0 → r ≡ refusal member-refusal at → Unchanged → Invoked
-    other-count : (c row p : ℕ) → t ≡ Class c → call-class c ≡ suc row → CountOf R (row + 1) p
-        → (p ≡ getD R (at * 4 + 2) 0 → ⊥)
-        → r ≡ refusal member-refusal at → Unchanged → Invoked
-    unfit : (c row : ℕ) → t ≡ Class c → call-class c ≡ suc row → CountOf R (row + 1) (getD R (at * 4 + 2) 0)
-        → all-fitting R A S top (row + 1) (getD R (at * 4 + 2) 0) ≡ false
-        → r ≡ refusal type-refusal at → Unchanged
-        → Invoked
-    done : (c row ε : ℕ) → t ≡ Class c → call-class c ≡ suc row → CountOf R (row + 1) (getD R (at * 4 + 2) 0)
-        → all-fitting R A S top (row + 1) (getD R (at * 4 + 2) 0) ≡ true
-        → EffectOf R (row + 1 + getD R (at * 4 + 2) 0) ε
-        → Done c row ε → Invoked
+    pub record Unchanged : Type 0 where
+      pub slots-same : S′ ≡ S
+      pub classes-same : C′ ≡ C
+
+    pub record Done (c i : ℕ) : Type 0 where
+      pub out : r ≡ answer (case-of-number (getD R (method-line M i * 4 + 1) 0))
+          (join (join φ ψ) (getD F i 0))
+      pub slots : Changed S S′ (scope .size) (λ k. applied-slot T (getD F i 0) (getD S k 0))
+      pub noted : C′ ≡ set C at (applied T ψ c)
+
+    pub data Invoked : Type 0 where
+      no-class : NoClass t → r ≡ refusal type-refusal at → Unchanged → Invoked
+      no-method : (c : ℕ) → t ≡ Class c → called c ≡ 0 → r ≡ refusal member-refusal at → Unchanged → Invoked
+      other-count : (c i : ℕ) → t ≡ Class c → called c ≡ suc i → (parameter-count M i ≡ given-count → ⊥)
+          → r ≡ refusal member-refusal at → Unchanged → Invoked
+      unfit : (c i : ℕ) → t ≡ Class c → called c ≡ suc i → parameter-count M i ≡ given-count
+          → arguments-fit i ≡ false → r ≡ refusal type-refusal at → Unchanged → Invoked
+      done : (c i : ℕ) → t ≡ Class c → called c ≡ suc i → parameter-count M i ≡ given-count
+          → arguments-fit i ≡ true → Done c i → Invoked
 
 -- J, after its arms.
 unfoldable pub joined-answer : ℕ → ℕ → Typing → Answer
@@ -239,4 +229,4 @@ pub record PostChoice (T A S S′ : List ℕ) (at scope top : ℕ) (a b c r : An
   pub long : length S′ ≡ length S
   pub rest : (i : ℕ) → scope ≤ i → getD S′ i 0 ≡ getD S i 0
   pub slots : is-refusal (r .typing) ≡ false
-      → (i : ℕ) → i < scope → getD S′ i 0 ≡ joined-number T A (getD S (top + i) 0) (getD S i 0)
+      → (i : ℕ) → i < scope → getD S′ i 0 ≡ joined-slot T A (getD S (top + i) 0) (getD S i 0)

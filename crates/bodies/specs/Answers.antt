@@ -3,7 +3,7 @@ use mathlib.Core.Bool.{true, false, cond}
 use mathlib.Core.Bool
 use mathlib.Core.Option.{Option, none, some}
 use mathlib.Core.List.{List, _∷_, map}
-use Prim.Native.Nat.{ℕ}
+use Prim.Native.Nat.{ℕ, _+_, _*_, _/_, _%_}
 use lib.Dec.{eqb}
 use Rattle.language.specs.Results.{Checked, accept, refuse, Pass}
 use Rattle.language.specs.Tree.{DeclaredType, bool, class, ExprType, known, null-type, type-number}
@@ -44,7 +44,7 @@ sought-of (some t) = Found (record { number = type-number t })
 unfoldable pub case-of-number : ℕ → Typing
 case-of-number n = cond (eqb n bool-number) bool-case (Class n)
 
--- `this` where there is none, and null among arguments, are 65,535.
+-- The types of `this` where there is none, and null among arguments, are 65,535.
 abbrev pub absent : ℕ
 absent = 65535
 
@@ -60,10 +60,35 @@ is-refusal (Class c) = false
 is-refusal Null = false
 is-refusal (Refusal n l) = true
 
-abbrev pub this-number : Option Slot → ℕ
-this-number none = absent
-this-number (some s) = type-number (s .current)
+-- A slot as one number: its declared type's number in the upper half, its current type's in the lower. The numbers of types
+-- are below 65,536.
+abbrev pub half : ℕ
+half = 65536
 
--- The numbers of an environment's current types, slot 0 first.
+unfoldable pub slot-of : ℕ → ℕ → ℕ
+slot-of declared current = declared * half + current
+
+unfoldable pub current-in : ℕ → ℕ
+current-in n = n % half
+
+unfoldable pub declared-in : ℕ → ℕ
+declared-in n = n / half
+
+unfoldable pub with-current : ℕ → ℕ → ℕ
+with-current n c = slot-of (declared-in n) (c % half)
+
+-- A slot whose current type is its declared one.
+unfoldable pub fresh-in : ℕ → ℕ
+fresh-in n = slot-of (n % half) (n % half)
+
+abbrev pub slot-number : Slot → ℕ
+slot-number s = slot-of (type-number (s .declared)) (type-number (s .current))
+
+-- `this` where there is none.
+abbrev pub this-number : Option Slot → ℕ
+this-number none = slot-of absent absent
+this-number (some s) = slot-number s
+
+-- The numbers of an environment's slots, slot 0 first.
 unfoldable pub numbers : Environment → List ℕ
-numbers γ = this-number (γ .this) ∷ map (λ (s : Slot). type-number (s .current)) (γ .slots)
+numbers γ = this-number (γ .this) ∷ map slot-number (γ .slots)

@@ -1,5 +1,5 @@
 -- What the functions of the typing cycle require and ensure. The slots in scope stand from 0 on, slot 0 for
--- `this`; from `top` on the slots are free.
+-- `this`; from a scope's top on the slots are free.
 use mathlib.Core.Path.{_≡_}
 use mathlib.Core.Bool.{true}
 use mathlib.Core.Logic.{_⊎_}
@@ -23,10 +23,11 @@ use Rattle.language.specs.Typing.{Typed, TypedAll, typed, last-type, type-of, t
 use Rattle.language.specs.Encoded.{Encoded, EncodedAll}
 use Rattle.language.specs.LookupClasses.{LooksUp, LooksUpAll}
 use Rattle.bodies.specs.declared.Answer.{Answer}
+use Rattle.bodies.specs.declared.Scope.{Scope}
 use Rattle.bodies.specs.Answers.{answer-of, typing-case, case-number, numbers}
-use Rattle.bodies.specs.Tables.{Headed}
-use Rattle.language.specs.Limits.{of-check, numbers-a-row}
-use Rattle.language.specs.Rows.{code, Z-is-null, G-get, K-cast, A-assign}
+use Rattle.bodies.specs.Tables.{Headed, applied-number}
+use Rattle.language.specs.Rows.{A-assign, G-get, K-cast, Z-is-null, code}
+use Rattle.language.specs.Limits.{of-check}
 
 -- Types as numbers write them: 255 is bool and no class.
 pub record Proper (ts : List DeclaredType) : Type 0 where
@@ -38,61 +39,85 @@ Unary R at = (getD R (at * 4) 0 ≡ code Z-is-null)
     ⊎ ((getD R (at * 4) 0 ≡ code G-get)
     ⊎ ((getD R (at * 4) 0 ≡ code K-cast) ⊎ (getD R (at * 4) 0 ≡ code A-assign)))
 
--- Within the limits of the form pass: names up to 255, at most 256 slots in scope, and d nodes of nesting
--- left.
-unfoldable mutual
-  pub Limited : Expr → ℕ → ℕ → Type 0
-  Limited (literal l) scope d = Unit {0}
-  Limited (slot k) scope d = Unit {0}
-  Limited (is-null e) scope d = (1 ≤ d) × Limited e scope (d - 1)
-  Limited (get f e) scope d = (1 ≤ d) × (f < 256) × Limited e scope (d - 1)
-  Limited (cast c e) scope d = (1 ≤ d) × Limited e scope (d - 1)
-  Limited (new c) scope d = Unit {0}
-  Limited (change k c) scope d = Unit {0}
-  Limited (assign k e) scope d = (1 ≤ d) × Limited e scope (d - 1)
-  Limited (set f e e′) scope d = (1 ≤ d) × (f < 256) × Limited e scope (d - 1) × Limited e′ scope (d - 1)
-  Limited (call m e es) scope d = (1 ≤ d) × (m < 256) × Limited e scope (d - 1) × LimitedAll es scope (d - 1)
-  Limited (choose e x y) scope d =
-      (1 ≤ d) × Limited e scope (d - 1) × Limited x scope (d - 1) × Limited y scope (d - 1)
-  Limited (block ts es) scope d =
-      (1 ≤ d) × (scope + length ts ≤ of-check .slots) × Proper ts × LimitedAll es (scope + length ts) (d - 1)
+-- At most `width` slots in scope and `d` nodes of nesting, with n slots in scope and names up to 255. The arguments of a
+-- call wait in a level's slots where they are not more than any method has parameters.
+module _ (width : ℕ) where
+  unfoldable mutual
+    pub Limited : Expr → ℕ → ℕ → Type 0
+    Limited (literal l) n d = Unit {0}
+    Limited (slot k) n d = Unit {0}
+    Limited (is-null e) n d = (1 ≤ d) × Limited e n (d - 1)
+    Limited (get f e) n d = (1 ≤ d) × (f < 256) × Limited e n (d - 1)
+    Limited (cast c e) n d = (1 ≤ d) × Limited e n (d - 1)
+    Limited (new c) n d = Unit {0}
+    Limited (change k c) n d = Unit {0}
+    Limited (assign k e) n d = (1 ≤ d) × Limited e n (d - 1)
+    Limited (set f e e′) n d = (1 ≤ d) × (f < 256) × Limited e n (d - 1) × Limited e′ n (d - 1)
+    Limited (call m e es) n d =
+        (1 ≤ d) × (m < 256) × (how-many es ≤ of-check .parameters → how-many es ≤ width) × Limited e n (d - 1)
+        × LimitedAll es n (d - 1)
+    Limited (choose e x y) n d = (1 ≤ d) × Limited e n (d - 1) × Limited x n (d - 1) × Limited y n (d - 1)
+    Limited (block ts es) n d =
+        (1 ≤ d) × (n + length ts ≤ width) × Proper ts × LimitedAll es (n + length ts) (d - 1)
 
-  pub LimitedAll : Exprs → ℕ → ℕ → Type 0
-  LimitedAll nil scope d = Unit {0}
-  LimitedAll (cons e es) scope d = Limited e scope d × LimitedAll es scope d
+    pub LimitedAll : Exprs → ℕ → ℕ → Type 0
+    LimitedAll nil n d = Unit {0}
+    LimitedAll (cons e es) n d = Limited e n d × LimitedAll es n d
 
--- The slots in scope have the current types of an environment, all of them declared.
+-- The scope with another top, with n slots more kept below its top, and with n slots more in scope.
+abbrev pub with-top : Scope → ℕ → Scope
+with-top s top = record {
+  count = s .count;
+  class = s .class;
+  size = s .size;
+  width = s .width;
+  top = top;
+}
+
+abbrev pub raised : Scope → ℕ → Scope
+raised s n = with-top s (s .top + n)
+
+abbrev pub grown : Scope → ℕ → Scope
+grown s n = record {
+  count = s .count;
+  class = s .class;
+  size = s .size + n;
+  width = s .width;
+  top = s .top;
+}
+
+-- The slots in scope have the types of an environment's slots, all of them declared.
 pub record Views (W : World) (γ : Environment) (S : List ℕ) (scope : ℕ) : Type 0 where
   pub same : take scope S ≡ numbers γ
-  pub declared : (k : ℕ) (s : Slot) → at-slot γ k ≡ some s → is-declared-type W (s .current) ≡ true
+  pub current : (k : ℕ) (s : Slot) → at-slot γ k ≡ some s → is-declared-type W (s .current) ≡ true
+  pub declared : (k : ℕ) (s : Slot) → at-slot γ k ≡ some s → is-declared-type W (s .declared) ≡ true
 
--- Room for d more nested nodes, each with 256 slots of its own.
-pub record Room (R E S C : List ℕ) (scope top d : ℕ) : Type 0 where
-  pub this : 1 ≤ scope
-  pub scoped : scope ≤ of-check .slots
-  pub above : of-check .slots ≤ top
-  pub room : top + of-check .slots * d ≤ length S
-  pub rows : length R ≤ numbers-a-row * of-check .rows
-  pub nodes : length E ≤ length C
+-- Room for d more nested nodes, each with a scope's width of slots of its own.
+pub record Room (R S : List ℕ) (scope : Scope) (d : ℕ) : Type 0 where
+  pub this : 1 ≤ scope .size
+  pub scoped : scope .size ≤ scope .width
+  pub above : scope .width ≤ scope .top
+  pub room : scope .top + scope .width * d ≤ length S
+  pub rows : length R ≤ 240000
 
--- What no call changes: lengths, the slots between the frame and `top`, and the lookup classes of other rows.
-pub record Kept (S S′ C C′ : List ℕ) (from to top : ℕ) : Type 0 where
+-- What no call changes: lengths, the slots between the scope's width and its top, and the lookup classes of other rows.
+pub record Kept (S S′ C C′ : List ℕ) (from to width top : ℕ) : Type 0 where
   pub slots-long : length S′ ≡ length S
   pub classes-long : length C′ ≡ length C
-  pub between : (i : ℕ) → of-check .slots ≤ i → i < top → getD S′ i 0 ≡ getD S i 0
+  pub between : (i : ℕ) → width ≤ i → i < top → getD S′ i 0 ≡ getD S i 0
   pub before : (i : ℕ) → i < from → getD C′ i 0 ≡ getD C i 0
   pub after : (i : ℕ) → to ≤ i → getD C′ i 0 ≡ getD C i 0
 
-pub record Pre (R E T A S C : List ℕ) (count at scope top : ℕ) : Type 0 where
+pub record Pre (R E T A M F S C : List ℕ) (at : ℕ) (scope : Scope) : Type 0 where
   pub P : List Class
   pub e : Expr
   pub γ : Environment
   pub d : ℕ
-  pub headed : Headed P R T A count
+  pub headed : Headed P R E T A M F (scope .count)
   pub encoded : Encoded R E e at
-  pub limited : Limited e scope d
-  pub views : Views (world P) γ S scope
-  pub room : Room R E S C scope top d
+  pub limited : Limited (scope .width) e (scope .size) d
+  pub views : Views (world P) γ S (scope .size)
+  pub room : Room R S scope d
 
 -- A type that names a declared class.
 pub record Declared (W : World) (t : ExprType) : Type 0 where
@@ -111,24 +136,24 @@ pub record Is (W : World) (e : Expr) (γ : Environment) (at scope : ℕ) (S′ C
     pub out : r ≡ answer-of (type-of W e (at + 1) γ)
     pub accepted : (a : Typed) → type-of W e (at + 1) γ ≡ accept a → Accepted W e γ at scope S′ C′ a
 
-pub record Post (R E T A S C S′ C′ : List ℕ) (count at scope top : ℕ) (r : Answer) : Type 0 where
-  pub kept : Kept S S′ C C′ at (getD E at 0) top
-  pub is : (P : List Class) (e : Expr) (γ : Environment) (d : ℕ) → Headed P R T A count
-      → Encoded R E e at → Limited e scope d
-      → Views (world P) γ S scope → Room R E S C scope top d → Is (world P) e γ at scope S′ C′ r
+pub record Post (R E T A M F S C S′ C′ : List ℕ) (at : ℕ) (scope : Scope) (r : Answer) : Type 0 where
+  pub kept : Kept S S′ C C′ at (getD E at 0) (scope .width) (scope .top)
+  pub is : (P : List Class) (e : Expr) (γ : Environment) (d : ℕ) → Headed P R E T A M F (scope .count)
+      → Encoded R E e at → Limited (scope .width) e (scope .size) d
+      → Views (world P) γ S (scope .size) → Room R S scope d → Is (world P) e γ at (scope .size) S′ C′ r
 
 -- n expressions in a row.
-pub record PreList (R E T A S C : List ℕ) (count at scope top n : ℕ) : Type 0 where
+pub record PreList (R E T A M F S C : List ℕ) (at : ℕ) (scope : Scope) (n : ℕ) : Type 0 where
   pub P : List Class
   pub es : Exprs
   pub γ : Environment
   pub d : ℕ
   pub many : n ≡ how-many es
-  pub headed : Headed P R T A count
+  pub headed : Headed P R E T A M F (scope .count)
   pub encoded : EncodedAll R E es at
-  pub limited : LimitedAll es scope d
-  pub views : Views (world P) γ S scope
-  pub room : Room R E S C scope top d
+  pub limited : LimitedAll (scope .width) es (scope .size) d
+  pub views : Views (world P) γ S (scope .size)
+  pub room : Room R S scope d
 
 pub record AcceptedAll (W : World) (es : Exprs) (γ : Environment) (at scope : ℕ) (S′ C′ : List ℕ)
     (b : TypedAll) : Type 0 where
@@ -137,39 +162,52 @@ pub record AcceptedAll (W : World) (es : Exprs) (γ : Environment) (at scope : �
   pub looks : LooksUpAll W C′ es γ at
 
 -- A block's list after those that gave `last`: the last type, and the effects joined to those so far.
-pub record PostItems (R E T A S C S′ C′ : List ℕ) (count at scope top n : ℕ) (last r : Answer) : Type 0 where
+pub record PostItems (R E T A M F S C S′ C′ : List ℕ) (at : ℕ) (scope : Scope) (n : ℕ) (last r : Answer) :
+    Type 0 where
   pub slots-long : length S′ ≡ length S
   pub classes-long : length C′ ≡ length C
-  pub between : (i : ℕ) → of-check .slots ≤ i → i < top → getD S′ i 0 ≡ getD S i 0
+  pub between : (i : ℕ) → scope .width ≤ i → i < scope .top → getD S′ i 0 ≡ getD S i 0
   pub before : (i : ℕ) → i < at → getD C′ i 0 ≡ getD C i 0
   pub after : (es : Exprs) → n ≡ how-many es → EncodedAll R E es at → (i : ℕ) → at + sizes es ≤ i
       → getD C′ i 0 ≡ getD C i 0
   pub out : (P : List Class) (es : Exprs) (γ : Environment) (d : ℕ) (t : ExprType) → n ≡ how-many es
-      → Headed P R T A count
-      → EncodedAll R E es at → LimitedAll es scope d → Views (world P) γ S scope → Room R E S C scope top d
+      → Headed P R E T A M F (scope .count)
+      → EncodedAll R E es at → LimitedAll (scope .width) es (scope .size) d
+      → Views (world P) γ S (scope .size)
+      → Room R S scope d
       → last .typing ≡ typing-case t
       → (r ≡ answer-of (bind-checked (type-all (world P) es (at + 1) γ) λ b. typed (last-type t (b .types))
       (b .slots) (join (last .effect) (b .effect))))
       × ((b : TypedAll) → type-all (world P) es (at + 1) γ ≡ accept b
-      → AcceptedAll (world P) es γ at scope S′ C′ b)
+      → AcceptedAll (world P) es γ at (scope .size) S′ C′ b)
 
 -- The numbers of arguments' types as they are stored.
 unfoldable pub stored : List ExprType → List ℕ
 stored ts = map (λ (t : ExprType). case-number (typing-case t)) ts
 
--- A call's arguments: their effects joined, and their types stored from `top` on.
-pub record PostArguments (R E T A S C S′ C′ : List ℕ) (count at scope top n : ℕ) (r : Answer) : Type 0 where
+-- The numbers of the n types from `top` on after an argument's effect, then the number of its own type.
+pub record PostStore (T S S′ : List ℕ) (top n : ℕ) (r : Answer) : Type 0 where
+  pub long : length S′ ≡ length S
+  pub below : (k : ℕ) → k < top → getD S′ k 0 ≡ getD S k 0
+  pub waiting : (k : ℕ) → k < n → getD S′ (top + k) 0 ≡ applied-number T (r .effect) (getD S (top + k) 0)
+  pub last : getD S′ (top + n) 0 ≡ case-number (r .typing)
+
+-- A call's arguments: their effects joined, and their types stored from the top on.
+pub record PostArguments (R E T A M F S C S′ C′ : List ℕ) (at : ℕ) (scope : Scope) (n : ℕ) (r : Answer) :
+    Type 0 where
   pub slots-long : length S′ ≡ length S
   pub classes-long : length C′ ≡ length C
-  pub between : (i : ℕ) → of-check .slots ≤ i → i < top → getD S′ i 0 ≡ getD S i 0
+  pub between : (i : ℕ) → scope .width ≤ i → i < scope .top → getD S′ i 0 ≡ getD S i 0
   pub before : (i : ℕ) → i < at → getD C′ i 0 ≡ getD C i 0
   pub after : (es : Exprs) → n ≡ how-many es → EncodedAll R E es at → (i : ℕ) → at + sizes es ≤ i
       → getD C′ i 0 ≡ getD C i 0
-  pub out : (P : List Class) (es : Exprs) (γ : Environment) (d : ℕ) → n ≡ how-many es → Headed P R T A count
-      → EncodedAll R E es at → LimitedAll es scope d → Views (world P) γ S scope
-      → Room R E S C scope (top + n) d
+  pub out : (P : List Class) (es : Exprs) (γ : Environment) (d : ℕ) → n ≡ how-many es
+      → Headed P R E T A M F (scope .count)
+      → EncodedAll R E es at → LimitedAll (scope .width) es (scope .size) d
+      → Views (world P) γ S (scope .size)
+      → Room R S (raised scope n) d
       → (r ≡ answer-of (bind-checked (type-all (world P) es (at + 1) γ) λ b. typed null-type (b .slots)
       (b .effect)))
       × ((b : TypedAll) → type-all (world P) es (at + 1) γ ≡ accept b
-      → AcceptedAll (world P) es γ at scope S′ C′ b
-      × ((i : ℕ) → i < n → getD S′ (top + i) 0 ≡ getD (stored (b .types)) i 0))
+      → AcceptedAll (world P) es γ at (scope .size) S′ C′ b
+      × ((i : ℕ) → i < n → getD S′ (scope .top + i) 0 ≡ getD (stored (b .types)) i 0))

@@ -2,7 +2,7 @@
 use mathlib.Core.Bool.{Bool, true, false, cond}
 use mathlib.Core.Path.{_≡_}
 use mathlib.Core.List.{List}
-use Prim.Native.Nat.{ℕ, _-_, suc, _+_, _*_, _≤_, _<_}
+use Prim.Native.Nat.{ℕ, suc, _+_, _*_, _≤_, _<_}
 use lib.Dec.{eqb, leb, ltb}
 use lib.ListN.{length, getD, set}
 use Rattle.bodies.specs.declared.Typing.{Typing}
@@ -10,12 +10,11 @@ use Rattle.bodies.specs.declared.Typing.the-variants.{Bool as bool-case,
 use Rattle.bodies.specs.declared.Answer.{Answer}
 use Rattle.bodies.specs.declared.Sought.{Sought}
 use Rattle.bodies.specs.declared.Sought.the-variants.{Found, Missing}
-use Rattle.bodies.specs.Answers.{absent}
-use Rattle.bodies.specs.Answers.{answer, case-of-number, is-refusal}
+use Rattle.bodies.specs.Answers.{answer, case-of-number, is-refusal, absent, current-in}
 use Rattle.bodies.specs.Tables.{nearest-from, PreNearest, is-fitting, CaseIn}
-use Rattle.language.specs.Limits.{of-check, bool-number, name-refusal, slot-refusal, member-refusal}
+use Rattle.language.specs.Limits.{bool-number, member-refusal, name-refusal, of-check, slot-refusal}
+use Rattle.language.specs.ClassTables.{class-width, kind-place}
 use Rattle.language.specs.Limits.{type-refusal}
-use Rattle.language.specs.ClassTables.{class-width, kind-place, rows-place}
 
 -- A refusal on the line of a row.
 abbrev pub refusal : ℕ → ℕ → Answer
@@ -38,18 +37,18 @@ not-class at (Refusal n l) φ = answer (Refusal n l) φ
 -- The type of two arms; a refusal where they have none.
 unfoldable pub joined-case : List ℕ → List ℕ → Typing → Typing → Typing
 joined-case T A bool-case bool-case = bool-case
-joined-case T A bool-case (Class d) = Refusal 9 0
-joined-case T A bool-case Null = Refusal 9 0
-joined-case T A bool-case (Refusal n l) = Refusal 9 0
-joined-case T A (Class c) bool-case = Refusal 9 0
+joined-case T A bool-case (Class d) = Refusal type-refusal 0
+joined-case T A bool-case Null = Refusal type-refusal 0
+joined-case T A bool-case (Refusal n l) = Refusal type-refusal 0
+joined-case T A (Class c) bool-case = Refusal type-refusal 0
 joined-case T A (Class c) (Class d) = Class (nearest-from T A (suc c) c d)
 joined-case T A (Class c) Null = Class c
-joined-case T A (Class c) (Refusal n l) = Refusal 9 0
-joined-case T A Null bool-case = Refusal 9 0
+joined-case T A (Class c) (Refusal n l) = Refusal type-refusal 0
+joined-case T A Null bool-case = Refusal type-refusal 0
 joined-case T A Null (Class d) = Class d
 joined-case T A Null Null = Null
-joined-case T A Null (Refusal n l) = Refusal 9 0
-joined-case T A (Refusal m k) u = Refusal 9 0
+joined-case T A Null (Refusal n l) = Refusal type-refusal 0
+joined-case T A (Refusal m k) u = Refusal type-refusal 0
 
 abbrev pub BothClasses : List ℕ → List ℕ → Typing → Typing → Type 0
 BothClasses T A (Class c) (Class d) = PreNearest T A c d
@@ -65,7 +64,7 @@ abbrev pub field-place : List ℕ → ℕ → ℕ → ℕ
 field-place T c f = getD T (c * class-width + f) 0
 
 abbrev pub field-row : List ℕ → ℕ → ℕ → ℕ
-field-row T c f = getD T (c * class-width + (rows-place - 1 + field-place T c f)) 0
+field-row T c f = getD T (c * class-width + (519 + field-place T c f)) 0
 
 unfoldable pub field-in : List ℕ → List ℕ → ℕ → ℕ → Sought
 field-in R T c f = cond (eqb (field-place T c f) 0) Missing
@@ -74,8 +73,11 @@ field-in R T c f = cond (eqb (field-place T c f) 0) Missing
 pub record PreField (R T : List ℕ) (c f : ℕ) : Type 0 where
   pub inside : (c + 1) * class-width ≤ length T
   pub name : f < 256
-  pub found : (field-place T c f ≡ 0 → ⊥)
-      → (field-place T c f ≤ of-check .fields) × (field-row T c f * 4 + 3 < length R)
+  pub found : (field-place T c f ≡ 0 → ⊥) → (field-place T c f ≤ 17) × (field-row T c f * 4 + 3 < length R)
+
+-- The current type of the slot that a row names, as a number.
+abbrev pub named-type : List ℕ → List ℕ → ℕ → ℕ
+named-type R S at = current-in (getD S (getD R (at * 4 + 1) 0) 0)
 
 -- W, K and I.
 unfoldable pub created : List ℕ → ℕ → ℕ → Answer
@@ -86,8 +88,8 @@ created R count at =
 unfoldable pub slot-read : List ℕ → List ℕ → ℕ → ℕ → Answer
 slot-read R S at scope =
     cond (leb scope (getD R (at * 4 + 1) 0)) (refusal slot-refusal at)
-    (cond (eqb (getD S (getD R (at * 4 + 1) 0) 0) absent) (refusal slot-refusal at)
-    (answer (case-of-number (getD S (getD R (at * 4 + 1) 0) 0)) 0))
+    (cond (eqb (named-type R S at) absent) (refusal slot-refusal at)
+    (answer (case-of-number (named-type R S at)) 0))
 
 abbrev pub In-row : List ℕ → ℕ → Type 0
 In-row R at = (at * 4 + 3 < length R) × (at < 65536)
@@ -111,15 +113,15 @@ assigned R A S at scope a =
     cond (is-refusal (a .typing)) a
     (cond (eqb (getD R (at * 4 + 1) 0) 0) (refusal slot-refusal at)
     (cond (leb scope (getD R (at * 4 + 1) 0)) (refusal slot-refusal at)
-    (cond (is-fitting A (a .typing) (getD S (getD R (at * 4 + 1) 0) 0)) a (refusal type-refusal at))))
+    (cond (is-fitting A (a .typing) (named-type R S at)) a (refusal type-refusal at))))
 
 pub record PreAssign (R A S : List ℕ) (at scope : ℕ) (t : Typing) : Type 0 where
   pub row : In-row R at
   pub scoped : scope ≤ length S
   pub value : CaseIn (length A) t
   pub slot : is-refusal t ≡ false → (getD R (at * 4 + 1) 0 ≡ 0 → ⊥) → getD R (at * 4 + 1) 0 < scope
-      → (getD S (getD R (at * 4 + 1) 0) 0 ≡ bool-number → ⊥)
-      → getD S (getD R (at * 4 + 1) 0) 0 ≤ of-check .classes
+      → (named-type R S at ≡ bool-number → ⊥)
+      → named-type R S at ≤ of-check .classes
 
 -- Q with more arguments than any method has parameters.
 unfoldable pub no-method-for : ℕ → Typing → Answer
@@ -152,9 +154,8 @@ got-classes R T C at (Class c) = noted C at c (field-in R T c (getD R (at * 4 + 
 got-classes R T C at Null = C
 got-classes R T C at (Refusal n l) = C
 
-pub record PreGet (R T C : List ℕ) (at : ℕ) (t : Typing) : Type 0 where
+pub record PreGet (R T : List ℕ) (at : ℕ) (t : Typing) : Type 0 where
   pub row : In-row R at
-  pub noted-at : at < length C
   pub field : (c : ℕ) → t ≡ Class c → PreField R T c (getD R (at * 4 + 1) 0) × (c ≤ of-check .classes)
 
 -- Whether a class is a root or a state class, by its kind.

@@ -2,28 +2,28 @@
 -- a program's classes.
 use mathlib.Core.Path.{_≡_}
 use mathlib.Core.Bool.{Bool, true, false, not, cond}
-use mathlib.Core.Option.{none, some}
+use mathlib.Core.Option.{some}
 use mathlib.Core.List.{List}
 use Prim.Native.Nat.{ℕ, zero, suc, _+_, _*_, _≤_, _<_}
 use lib.Dec.{eqb}
 use lib.ListN.{length, getD}
 use Rattle.language.specs.Lists.{nth}
-use Rattle.language.specs.Rows.{M-method, P-parameter, B-block}
-use Rattle.language.specs.Tree.{DeclaredType, type-number, Field, Class, unknown}
-use Rattle.language.specs.World.{Method, is-declared-type}
-use Rattle.language.specs.Effects.{member, effect-of-all}
+use Rattle.language.specs.Limits.{bool-number, of-check}
+use Rattle.language.specs.Results.{passed}
+use Rattle.language.specs.Tree.{type-number, Field, Class, unknown}
+use Rattle.language.specs.World.{is-declared-type}
+use Rattle.language.specs.Effects.{member}
 use Rattle.language.specs.Program.{class-at, world}
-use Rattle.language.specs.ClassTables.{ClassTables, field-rows, method-row, class-width, super-place}
-use Rattle.language.specs.Encoded.{RowAt, TypesAt}
-use Rattle.language.specs.Layout.{EffectsAt, Run}
-use Rattle.language.specs.WellFormed.{Each}
+use Rattle.language.specs.ClassTables.{ClassTables, field-rows, class-width, super-place, root-place}
+use Rattle.language.specs.MethodTables.{MethodTables}
+use Rattle.language.specs.Headings.{headings}
+use Rattle.language.specs.Layout.{EachClass, ClassAt}
+use Rattle.language.specs.WellFormed.{Each, ClassInForm}
 use Rattle.classes.specs.Subclasses.{is-below}
-use Rattle.bodies.specs.Answers.{absent}
 use Rattle.bodies.specs.declared.Typing.{Typing}
 use Rattle.bodies.specs.declared.Typing.the-variants.{Bool as bool-case, Class as class-case, Null}
 use Rattle.bodies.specs.declared.Typing.the-variants.{Refusal}
-use Rattle.language.specs.Limits.{of-check, bool-number}
-use Rattle.language.specs.ClassTables.{root-place}
+use Rattle.bodies.specs.Answers.{absent, current-in, with-current}
 
 -- The tables' numbers alone make their use safe: roots and superclasses stand no later than their class.
 pub record Sound (T A : List ℕ) (count : ℕ) : Type 0 where
@@ -65,6 +65,13 @@ joined-number T A a b =
     cond (eqb a bool-number) a (cond (eqb a absent) a (cond (eqb b bool-number) a
     (cond (eqb b absent) a (nearest-from T A (suc a) a b))))
 
+-- A slot after an effect, and after two arms: its current type alone changes.
+unfoldable pub applied-slot : List ℕ → ℕ → ℕ → ℕ
+applied-slot T φ n = with-current n (applied-number T φ (current-in n))
+
+unfoldable pub joined-slot : List ℕ → List ℕ → ℕ → ℕ → ℕ
+joined-slot T A a b = with-current a (joined-number T A (current-in a) (current-in b))
+
 -- The tables hold the classes of a list, whose superclasses are earlier classes: what the heading pass gives.
 pub record Classes (P : List Class) (T A : List ℕ) (count : ℕ) : Type 0 where
   pub tables : ClassTables P T A
@@ -72,24 +79,13 @@ pub record Classes (P : List Class) (T A : List ℕ) (count : ℕ) : Type 0 wher
   pub few : count ≤ of-check .classes
   pub lower : (k : ℕ) (c : Class) → class-at P k ≡ some c → c .super < k
 
--- A method's heading at a row; its body's block follows.
-pub record HeadingAt (R : List ℕ) (r : ℕ) (M : Method) : Type 0 where
-  pub name : ℕ
-  pub effects : List ℕ
-  pub locals : ℕ
-  pub expressions : ℕ
-  pub row : RowAt R r M-method (type-number (M .result)) name
-  pub parameter-rows : TypesAt P-parameter R (M .parameters) (r + 1)
-  pub effect-rows : EffectsAt R effects (r + 1 + length (M .parameters))
-  pub effects-low : Each (λ c. c ≤ of-check .classes) effects
-  pub effect-is : M .effect ≡ effect-of-all effects
-  pub body-row : RowAt R (r + 1 + length (M .parameters) + length effects) B-block locals expressions
-  pub few-parameters : length (M .parameters) ≤ 8
-
--- The rows hold the headings that the tables lead to, and every type there is declared: what the heading pass
--- gives.
-pub record Headed (P : List Class) (R T A : List ℕ) (count : ℕ) : Type 0 where
+-- The tables and the rows hold a program's classes, fields and methods, and its headings pass.
+pub record Headed (P : List Class) (R E T A M F : List ℕ) (count : ℕ) : Type 0 where
   pub classes : Classes P T A count
+  pub methods : MethodTables P M F
+  pub layout : EachClass (ClassAt R E) P 1 0
+  pub in-form : Each (ClassInForm of-check) P
+  pub passes : headings of-check P ≡ passed
   pub few-fields : (k : ℕ) → length (world P .fields k) ≤ of-check .fields
   pub fields : (k i : ℕ) (f : Field) → k ≤ count → nth (world P .fields k) i ≡ some f
       → (r : ℕ)
@@ -97,11 +93,6 @@ pub record Headed (P : List Class) (R T A : List ℕ) (count : ℕ) : Type 0 whe
       × (r * 4 + 3 < length R)
       × (getD R (r * 4 + 1) 0 ≡ type-number (f .type))
       × (is-declared-type (world P) (f .type) ≡ true)
-  pub methods : (k m r : ℕ) → k ≤ count → method-row P k m ≡ some r
-      → (M : Method) × (world P .method k m ≡ some M) × HeadingAt R r M
-      × (is-declared-type (world P) (M .result) ≡ true)
-      × ((i : ℕ) (t : DeclaredType) → nth (M .parameters) i ≡ some t → is-declared-type (world P) t ≡ true)
-  pub no-method : (k m : ℕ) → k ≤ count → method-row P k m ≡ none → world P .method k m ≡ none
   pub kinds : (k n : ℕ) (c : Class) → class-at P k ≡ some c → c .kind ≡ unknown n → ⊥
 
 -- A class case names a class below n; a type's number is bool's or a class's up to n.
@@ -120,11 +111,6 @@ pub record PreNearest (T A : List ℕ) (c d : ℕ) : Type 0 where
 pub record Applicable (T : List ℕ) (n : ℕ) : Type 0 where
   pub inside : (n ≡ bool-number → ⊥) → (n ≡ absent → ⊥) → n * class-width + root-place < length T
   pub root : (n ≡ bool-number → ⊥) → (n ≡ absent → ⊥) → root-in T n ≤ of-check .classes
-
--- Some number of rows of one letter, and a row of another.
-pub record Runs (R : List ℕ) (letter from : ℕ) : Type 0 where
-  pub n : ℕ
-  pub run : Run R letter from n
 
 -- The first n slots are as f says, and the others as before.
 pub record Changed (S S′ : List ℕ) (n : ℕ) (f : ℕ → ℕ) : Type 0 where
@@ -150,8 +136,8 @@ pub record PreJoin (T A S : List ℕ) (n top : ℕ) : Type 0 where
   pub sound : Sound T A count
   pub apart : n ≤ top
   pub room : top + n ≤ length S
-  pub slots : (k : ℕ) → k < n → Known count (getD S k 0)
-  pub saved : (k : ℕ) → k < n → Known count (getD S (top + k) 0)
+  pub slots : (k : ℕ) → k < n → Known count (current-in (getD S k 0))
+  pub saved : (k : ℕ) → k < n → Known count (current-in (getD S (top + k) 0))
 
 pub record PreNumbers (T A : List ℕ) (a b : ℕ) : Type 0 where
   pub count : ℕ

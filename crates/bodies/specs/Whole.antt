@@ -1,29 +1,23 @@
 -- What the functions over methods and over the whole program require and ensure.
 use mathlib.Core.Path.{_≡_}
-use mathlib.Core.Bool.{true, cond}
 use mathlib.Core.Option.{some}
 use mathlib.Core.List.{List}
 use Prim.Native.Nat.{ℕ, _+_, _*_, _≤_, _<_}
-use lib.Dec.{eqb}
 use lib.ListN.{length, getD}
 use Rattle.language.specs.Lists.{nth}
-use Rattle.language.specs.Limits.{of-check, numbers-a-row}
-use Rattle.language.specs.Results.{passed}
-use Rattle.language.specs.Tree.{DeclaredType, size, Declaration, Class, Program}
-use Rattle.language.specs.World.{World, is-declared-type}
+use Rattle.language.specs.Results.{Pass, passed}
+use Rattle.language.specs.Tree.{Expr, size, Declaration, Class, Program}
+use Rattle.language.specs.World.{World}
 use Rattle.language.specs.Program.{world}
-use Rattle.language.specs.Headings.{headings}
-use Rattle.language.specs.Environment.{method-environment}
+use Rattle.language.specs.Environment.{Environment, method-environment}
 use Rattle.language.specs.Typing.{type-method, bodies}
 use Rattle.language.specs.LookupClasses.{LooksUp}
-use Rattle.language.specs.WellFormed.{Each}
-use Rattle.language.specs.Layout.{MethodAt, body-row, ProgramAt, LooksUpProgram}
+use Rattle.language.specs.MethodTables.{PlacedMethod, placed-methods}
+use Rattle.language.specs.Layout.{body-row, start-row, ProgramAt, LooksUpProgram}
 use Rattle.bodies.specs.declared.Verdict.{Verdict}
-use Rattle.bodies.specs.declared.Verdict.the-variants.{Accepted}
-use Rattle.bodies.specs.Answers.{verdict-of}
+use Rattle.bodies.specs.Answers.{verdict-of, fresh-in}
 use Rattle.bodies.specs.Tables.{Headed}
 use Rattle.bodies.specs.Cycle.{Limited}
-use Rattle.language.specs.Rows.{code, C-class, M-method, B-block}
 
 -- The slots at the start of a method's body: `this`, then the types of n P lines.
 pub record PreEnter (R S : List ℕ) (from n : ℕ) : Type 0 where
@@ -32,103 +26,90 @@ pub record PreEnter (R S : List ℕ) (from n : ℕ) : Type 0 where
 
 pub record PostEnter (R S S′ : List ℕ) (owner from n : ℕ) : Type 0 where
   pub long : length S′ ≡ length S
-  pub this : getD S′ 0 0 ≡ owner
-  pub parameters : (i : ℕ) → i < n → getD S′ (1 + i) 0 ≡ getD R ((from + i) * 4 + 1) 0
+  pub this : getD S′ 0 0 ≡ fresh-in owner
+  pub parameters : (i : ℕ) → i < n → getD S′ (1 + i) 0 ≡ fresh-in (getD R ((from + i) * 4 + 1) 0)
 
--- The first B line after a row.
-pub record FirstBlock (R : List ℕ) (at b : ℕ) : Type 0 where
-  pub after : at < b
-  pub between : (i : ℕ) → at < i → i < b → getD R (i * 4) 0 ≡ code B-block → ⊥
-  pub here : getD R (b * 4) 0 ≡ code B-block
-  pub inside : b * 4 + 3 < length R
+-- A method's body, its row, and the slots that it begins with.
+abbrev pub body-of : PlacedMethod → Expr
+body-of m = m .declaration .body
 
-pub record SomeBlock (R : List ℕ) (at : ℕ) : Type 0 where
-  pub row : ℕ
-  pub first : FirstBlock R at row
+abbrev pub body-at : PlacedMethod → ℕ
+body-at m = body-row (m .row) (m .declaration)
 
--- A method at a row, of a class of which every type is declared, within the limits of form.
-pub record MethodFacts (R E T A : List ℕ) (count owner at : ℕ) (P : List Class) (m : Declaration) : Type 0
-  where
-    pub headed : Headed P R T A count
-    pub layout : MethodAt R E m at
-    pub limited : Limited (m .body) (1 + length (m .parameters)) (of-check .nesting)
-    pub block-line : getD R (body-row at m * 4) 0 ≡ code B-block
-    pub owner-low : owner ≤ count
-    pub few : length (m .parameters) ≤ 8
-    pub result : is-declared-type (world P) (m .result) ≡ true
-    pub parameters : (i : ℕ) (t : DeclaredType) → nth (m .parameters) i ≡ some t
-        → is-declared-type (world P) t ≡ true
-    pub effects : Each (λ c. c ≤ of-check .classes) (m .effects)
+abbrev pub environment-of : PlacedMethod → Environment
+environment-of m = method-environment (m .owner) (m .declaration .parameters)
 
--- Room for 128 nested nodes, and an entry in the table of lookup classes for each node.
-pub record Spacious (R E S C : List ℕ) : Type 0 where
-  pub slots : of-check .slots * (of-check .nesting + 1) ≤ length S
-  pub nodes : length E ≤ length C
-  pub rows : length R ≤ numbers-a-row * of-check .rows
+-- What typing answers of the method of a number.
+abbrev pub type-numbered : World → ℕ → PlacedMethod → Pass
+type-numbered W number m = type-method W (m .owner) number (m .row + 1) (m .declaration)
 
-pub record PreMethodBody (R E T A S C : List ℕ) (count owner at : ℕ) : Type 0 where
+-- A body with so many slots in scope is within a width and a depth.
+pub record WithinBody (m : Declaration) (width depth : ℕ) : Type 0 where
+  pub wide : 1 + length (m .parameters) ≤ width
+  pub limited : Limited width (m .body) (1 + length (m .parameters)) depth
+
+-- Every body of a program is.
+pub record Within (p : Program) (width depth : ℕ) : Type 0 where
+  pub methods : (i : ℕ) (m : PlacedMethod) → nth (placed-methods (p .classes)) i ≡ some m
+      → WithinBody (m .declaration) width depth
+  pub this : 1 ≤ width
+  pub start : Limited width (p .start) 1 depth
+
+-- The method of a number, whose body is within a width and a depth.
+pub record MethodFacts (R E T A M F : List ℕ) (count width number depth : ℕ) (P : List Class)
+    (m : PlacedMethod) : Type 0 where
+  pub headed : Headed P R E T A M F count
+  pub there : nth (placed-methods P) number ≡ some m
+  pub within-body : WithinBody (m .declaration) width depth
+
+-- Slots of a width for each level of nesting and for those in scope.
+pub record Spacious (R S : List ℕ) (width depth : ℕ) : Type 0 where
+  pub slots : width * (depth + 1) ≤ length S
+  pub rows : length R ≤ 240000
+
+pub record PreMethodBody (R E T A M F S : List ℕ) (count width number : ℕ) : Type 0 where
   pub P : List Class
-  pub m : Declaration
-  pub facts : MethodFacts R E T A count owner at P m
-  pub space : Spacious R E S C
+  pub m : PlacedMethod
+  pub depth : ℕ
+  pub facts : MethodFacts R E T A M F count width number depth P m
+  pub space : Spacious R S width depth
 
 -- The answer is the definition's; the lookup classes of the body alone change, and where it passes they are the
 -- definition's.
-pub record MethodIs (W : World) (owner at : ℕ) (m : Declaration) (C C′ : List ℕ) (r : Verdict) : Type 0 where
-  pub out : r ≡ verdict-of (type-method W owner (at + 1) m)
-  pub before : (i : ℕ) → i < body-row at m → getD C′ i 0 ≡ getD C i 0
-  pub after : (i : ℕ) → body-row at m + size (m .body) ≤ i → getD C′ i 0 ≡ getD C i 0
-  pub looks : type-method W owner (at + 1) m ≡ passed
-      → LooksUp W C′ (m .body) (method-environment owner (m .parameters)) (body-row at m)
+pub record MethodIs (W : World) (number : ℕ) (m : PlacedMethod) (C C′ : List ℕ) (r : Verdict) : Type 0 where
+  pub out : r ≡ verdict-of (type-numbered W number m)
+  pub before : (i : ℕ) → i < body-at m → getD C′ i 0 ≡ getD C i 0
+  pub after : (i : ℕ) → body-at m + size (body-of m) ≤ i → getD C′ i 0 ≡ getD C i 0
+  pub looks : type-numbered W number m ≡ passed → LooksUp W C′ (body-of m) (environment-of m) (body-at m)
 
-pub record PostMethodBody (R E T A S C S′ C′ : List ℕ) (count owner at : ℕ) (r : Verdict) : Type 0 where
-  pub slots-long : length S′ ≡ length S
-  pub classes-long : length C′ ≡ length C
-  pub is : (P : List Class) (m : Declaration) → MethodFacts R E T A count owner at P m → Spacious R E S C
-      → MethodIs (world P) owner at m C C′ r
+pub record PostMethodBody (R E T A M F S C S′ C′ : List ℕ) (count width number : ℕ) (r : Verdict) : Type 0
+  where
+    pub slots-long : length S′ ≡ length S
+    pub classes-long : length C′ ≡ length C
+    pub is : (P : List Class) (m : PlacedMethod) (depth : ℕ)
+        → MethodFacts R E T A M F count width number depth P m → Spacious R S width depth
+        → MethodIs (world P) number m C C′ r
 
--- A line of a class: something is done of an M line alone.
-pub record PreLine (R E T A S C : List ℕ) (count owner at : ℕ) : Type 0 where
-  pub inside : at * 4 + 3 < length R
-  pub method : getD R (at * 4) 0 ≡ code M-method → PreMethodBody R E T A S C count owner at
-
-pub record PostLine (R E T A S C S′ C′ : List ℕ) (count owner at : ℕ) (r : Verdict) : Type 0 where
-  pub slots-long : length S′ ≡ length S
-  pub classes-long : length C′ ≡ length C
-  pub other : (getD R (at * 4) 0 ≡ code M-method → ⊥) → (r ≡ Accepted) × (C′ ≡ C)
-  pub method : getD R (at * 4) 0 ≡ code M-method → PostMethodBody R E T A S C S′ C′ count owner at r
-
--- The class and the row of the next line: a C line begins a class, and a body is passed over.
-unfoldable pub class-next : List ℕ → ℕ → ℕ → ℕ
-class-next R class at = cond (eqb (getD R (at * 4) 0) (code C-class)) (class + 1) class
-
-pub record PreNext (R E : List ℕ) (at : ℕ) : Type 0 where
-  pub inside : at * 4 + 3 < length R
-  pub low : at < 65536
-  pub block : getD R (at * 4) 0 ≡ code M-method → SomeBlock R at
-  pub ended : getD R (at * 4) 0 ≡ code M-method → (b : ℕ) → FirstBlock R at b → b < length E
-
-pub record PostNext (R E : List ℕ) (at r : ℕ) : Type 0 where
-  pub other : (getD R (at * 4) 0 ≡ code M-method → ⊥) → r ≡ at + 1
-  pub method : getD R (at * 4) 0 ≡ code M-method → (b : ℕ) → FirstBlock R at b → r ≡ getD E b 0
-
--- A program whose form and headings pass, with its tables.
-pub record Ready (R E T A S C : List ℕ) (count : ℕ) (p : Program) : Type 0 where
+-- A program whose form and headings pass, with its tables; its number of methods, the row of its S line, and a width for
+-- its bodies.
+pub record Ready (R E T A M F S : List ℕ) (count many start width : ℕ) (p : Program) : Type 0 where
   pub layout : ProgramAt R E p
-  pub passes : headings of-check (p .classes) ≡ passed
-  pub headed : Headed (p .classes) R T A count
-  pub slots : of-check .slots * (of-check .nesting + 1) ≤ length S
-  pub nodes : length E ≤ length C
+  pub headed : Headed (p .classes) R E T A M F count
+  pub counted : many ≡ length (placed-methods (p .classes))
+  pub started : start ≡ start-row p
+  pub depth : ℕ
+  pub within : Within p width depth
+  pub slots : width * (depth + 1) ≤ length S
 
-pub record BodiesReady (R E T A S C : List ℕ) (count : ℕ) : Type 0 where
+pub record BodiesReady (R E T A M F S : List ℕ) (count many start width : ℕ) : Type 0 where
   pub p : Program
-  pub ready : Ready R E T A S C count p
+  pub ready : Ready R E T A M F S count many start width p
 
 -- The verdict is the definition's; where it accepts, the table has the lookup classes of every body.
 pub record BodiesAre (p : Program) (C′ : List ℕ) (r : Verdict) : Type 0 where
   pub out : r ≡ verdict-of (bodies p)
   pub looks : bodies p ≡ passed → LooksUpProgram C′ p
 
-pub record BodiesDone (R E T A S C C′ : List ℕ) (count : ℕ) (r : Verdict) : Type 0 where
+pub record BodiesDone (R E T A M F S C C′ : List ℕ) (count many start width : ℕ) (r : Verdict) : Type 0 where
   pub long : length C′ ≡ length C
-  pub are : (p : Program) → Ready R E T A S C count p → BodiesAre p C′ r
+  pub are : (p : Program) → Ready R E T A M F S count many start width p → BodiesAre p C′ r

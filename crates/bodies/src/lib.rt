@@ -1,66 +1,62 @@
 // The pass over bodies: each method's body and the start block are typed, in line order.
-use language::BLOCK;
-use language::CALL;
-use language::CAST;
-use language::CHANGE;
+use language::BODY_PLACE;
 use language::CHANGE_REFUSAL;
-use language::CHOOSE;
-use language::CLASS;
 use language::CLASS_WIDTH;
-use language::EFFECT;
 use language::EFFECT_REFUSAL;
-use language::FALSE;
-use language::GET;
-use language::IS_NULL;
 use language::KIND_PLACE;
 use language::MEMBER_REFUSAL;
-use language::METHOD;
+use language::METHOD_WIDTH;
 use language::METHODS_FROM;
-use language::MOST_PARAMETERS;
 use language::NAME_REFUSAL;
-use language::NEW;
-use language::NO_TYPE;
-use language::NULL;
-use language::PARAMETER;
+use language::OWNER_PLACE;
+use language::PARAMETERS_PLACE;
 use language::ROOT_PLACE;
-use language::ROWS_BEFORE;
-use language::SET;
-use language::SLOT;
 use language::SLOT_REFUSAL;
-use language::START;
 use language::SUPER_PLACE;
-use language::TRUE;
 use language::TYPE_REFUSAL;
 ghost use mathlib.Core.Path.{_≡_};
 ghost use Prim.Native.Nat.{ℕ, suc, _+_, _-_, _*_, _≤_, _<_};
-ghost use lib.ListN.{length, getD};
+ghost use lib.ListN.{length, getD, set as replaced};
+ghost use Rattle.language.specs.Rows.{code, B-block, J-choose, Q-call, U-set};
 ghost use Rattle.language.specs.Effects.{within};
-ghost use Rattle.language.specs.Layout.{Run};
 ghost use Rattle.bodies.specs.Answers.{answer, case-of-number, case-number, is-refusal};
+ghost use Rattle.bodies.specs.Answers.{current-in, declared-in, with-current, fresh-in};
 ghost use Rattle.bodies.specs.Tables.{root-in, applied, is-fitting, nearest-from};
-ghost use Rattle.bodies.specs.Tables.{applied-number, joined-number, CaseIn, PreNearest, Applicable};
-ghost use Rattle.bodies.specs.Tables.{Runs};
+ghost use Rattle.bodies.specs.Tables.{applied-number, applied-slot, joined-number, joined-slot, CaseIn};
+ghost use Rattle.bodies.specs.Tables.{PreNearest, Applicable};
 ghost use Rattle.bodies.specs.Nodes.{null-tested, not-class, joined-case, BothClasses, field-in};
 ghost use Rattle.bodies.specs.Nodes.{PreField, created, slot-read, In-row, cast-answer, assigned};
 ghost use Rattle.bodies.specs.Nodes.{PreAssign, too-many-answer, got, got-classes, PreGet};
 ghost use Rattle.bodies.specs.Nodes.{changeable-in};
-ghost use Rattle.bodies.specs.Cycle.{Unary, Pre, Post, PreList, PostItems, PostArguments};
-ghost use Rattle.bodies.specs.Acts.{names-type, SomeEffects, EffectOf, stored-case, all-fitting};
+ghost use Rattle.bodies.specs.Cycle.{raised, Unary, Pre, Post, PreList, PostItems, PostStore};
+ghost use Rattle.bodies.specs.Cycle.{PostArguments};
+ghost use Rattle.bodies.specs.Acts.{names-type, stored-case, all-fitting};
 ghost use Rattle.bodies.specs.Acts.{PreFitting, PreOpen, PostOpen, PreChange, PostChange, PrePut, put};
 ghost use Rattle.bodies.specs.Acts.{put-classes, PreInvoke, Invoked, PreChoice, PostChoice};
-ghost use Rattle.bodies.specs.Whole.{PreEnter, PostEnter, SomeBlock, FirstBlock, PreMethodBody};
-ghost use Rattle.bodies.specs.Whole.{PostMethodBody, PreLine, PostLine, class-next, PreNext, PostNext};
+ghost use Rattle.bodies.specs.Whole.{PreEnter, PostEnter, PreMethodBody, PostMethodBody};
 ghost use Rattle.bodies.specs.Whole.{BodiesReady, BodiesDone};
 ghost use Rattle.bodies.specs.Tables.{Changed, Saved, Swapped, PreJoin, PreNumbers};
-ghost use Rattle.language.specs.Limits.{of-check, bool-number};
-ghost use Rattle.language.specs.ClassTables.{class-width, kind-place, root-place};
-ghost use Rattle.language.specs.Rows.{code, P-parameter, B-block, U-set, Q-call, J-choose};
 
-// How many slots may be in scope; those from here on are free for what waits.
-const MOST_SLOTS: usize = 256;
+// The number of the type of `this` where there is none, and of null among the arguments of a call.
+const ABSENT: u32 = 65535;
 
-// How many arguments a method can take.
-const MOST_ARGUMENTS: usize = MOST_PARAMETERS as usize;
+// A slot has the number of its declared type in its upper half, and that of its current type in its lower. The numbers of
+// types are below this one.
+const HALF: u32 = 65536;
+
+// `this` where there is none.
+const NO_THIS: u32 = ABSENT * HALF + ABSENT;
+
+// The kinds of the classes whose objects change.
+const ROOT_KIND: u32 = 1;
+
+const STATE_KIND: u32 = 2;
+
+// The rows of a class's fields stand from here on in the table of classes, by place from 1.
+const FIELD_ROWS: usize = language::ROWS_PLACE - 1;
+
+// No method has more parameters.
+const MOST_ARGUMENTS: usize = language::MOST_PARAMETERS as usize;
 
 // A type as a program writes it: bool, or a class by its number.
 pub struct Type {
@@ -107,6 +103,16 @@ pub enum Verdict {
     Refused(u32, u32),
 }
 
+// Where typing stands in a body: how many classes are declared; the class in which the body stands, 0 in the start block; how
+// many slots are in scope, and how many may be at most; where slots that are saved and arguments that wait begin.
+pub struct Scope {
+    pub count: u32,
+    pub class: u32,
+    pub size: usize,
+    pub width: usize,
+    pub top: usize,
+}
+
 // What a lookup finds: the type of a field, or nothing.
 pub enum Sought {
     Found(Type),
@@ -142,15 +148,15 @@ fn typing_of(t: Type) -> Typing
     }
 }
 
-// The number that stands for a type in a slot; null, which no slot has, is 65,535.
+// The number that stands for a type where an argument waits; null's is 65,535.
 fn number_of(t: Typing) -> u32
     ensures { λ r. ⌜ r ≡ case-number t ⌝ }
 {
     match t {
         Typing::Bool => Type::BOOL,
         Typing::Class(c) => c,
-        Typing::Null => NO_TYPE,
-        Typing::Refusal(_, _) => NO_TYPE,
+        Typing::Null => ABSENT,
+        Typing::Refusal(_, _) => ABSENT,
     }
 }
 
@@ -158,10 +164,38 @@ fn number_of(t: Typing) -> u32
 fn typing_at(number: u32) -> Typing
     ensures { λ r. ⌜ r ≡ stored-case number ⌝ }
 {
-    if number == NO_TYPE {
+    if number == ABSENT {
         return Typing::Null;
     }
     typing_of(Type::from_number(number))
+}
+
+// The number of a slot's current type.
+fn current(slot: u32) -> u32
+    ensures { λ r. ⌜ r ≡ current-in slot ⌝ }
+{
+    slot % HALF
+}
+
+// The number of a slot's declared type.
+fn declared(slot: u32) -> u32
+    ensures { λ r. ⌜ r ≡ declared-in slot ⌝ }
+{
+    slot / HALF
+}
+
+// The slot with another current type.
+fn with_current(slot: u32, number: u32) -> u32
+    ensures { λ r. ⌜ r ≡ with-current slot number ⌝ }
+{
+    declared(slot) * HALF + number % HALF
+}
+
+// A slot whose current type is its declared one.
+fn fresh(number: u32) -> u32
+    ensures { λ r. ⌜ r ≡ fresh-in number ⌝ }
+{
+    number % HALF * HALF + number % HALF
 }
 
 // Whether every class of the first is in the second.
@@ -173,16 +207,15 @@ fn is_within(inner: u64, outer: u64) -> bool
 
 // A class's entry in the table of classes.
 fn entry(table: &[u16], class: u32, place: usize) -> u32
-    requires { ⌜ class * class-width + place < length (now table) ⌝ }
-    ensures { λ r. ⌜ r ≡ getD (now (table .entry)) (class * class-width + place) 0 ⌝ }
+    requires { ⌜ class * 576 + place < length (now table) ⌝ }
+    ensures { λ r. ⌜ r ≡ getD (now (table .entry)) (class * 576 + place) 0 ⌝ }
 {
     table[class as usize * CLASS_WIDTH + place] as u32
 }
 
 // The class after an effect: a state class whose root is in it becomes that root.
 fn apply(table: &[u16], effect: u64, class: u32) -> u32
-    requires { ⌜ (class * class-width + root-place < length (now table)) ×
-        (root-in (now table) class ≤ of-check .classes) ⌝ }
+    requires { ⌜ (class * 576 + 514 < length (now table)) × (root-in (now table) class ≤ 64) ⌝ }
     ensures { λ r. ⌜ r ≡ applied (now (table .entry)) effect class ⌝ }
 {
     let root = entry(table, class, ROOT_PLACE);
@@ -196,7 +229,7 @@ fn apply(table: &[u16], effect: u64, class: u32) -> u32
 // Whether a value of an expression's type may stand where a type is declared: null fits every class and never bool.
 fn is_fitting(above: &[u64], t: Typing, u: Type) -> bool
     requires { ⌜ CaseIn (length (now above)) t ⌝ }
-    requires { ⌜ ((u .number ≡ bool-number → ⊥) → u .number ≤ of-check .classes) ⌝ }
+    requires { ⌜ ((u .number ≡ 255 → ⊥) → u .number ≤ 64) ⌝ }
     ensures { λ r. ⌜ r ≡ is-fitting (now (above .entry)) t (u .number) ⌝ }
 {
     match t {
@@ -224,18 +257,6 @@ fn nearest(table: &[u16], above: &[u64], c: u32, d: u32) -> u32
     k
 }
 
-// How many P lines follow one another from a row on.
-fn count_parameters(rows: &[u32], from: usize) -> usize
-    requires { ⌜ Runs (now rows) (code P-parameter) from ⌝ }
-    ensures { λ r. ⌜ ((n : ℕ) → Run (now (rows .entry)) (code P-parameter) from n → r ≡ n) ⌝ }
-{
-    let mut n = 0;
-    while rows[(from + n) * 4] == PARAMETER {
-        n += 1;
-    }
-    n
-}
-
 // The number of a slot's type after an effect.
 fn apply_number(table: &[u16], effect: u64, number: u32) -> u32
     requires { ⌜ Applicable (now table) number ⌝ }
@@ -244,7 +265,7 @@ fn apply_number(table: &[u16], effect: u64, number: u32) -> u32
     if number == Type::BOOL {
         return number;
     }
-    if number == NO_TYPE {
+    if number == ABSENT {
         return number;
     }
     apply(table, effect, number)
@@ -264,15 +285,32 @@ fn is_refusal(a: Answer) -> bool
 }
 
 // An effect applied to the slots in scope.
-fn apply_all(table: &[u16], slots: &mut [u32], scope: usize, effect: u64)
-    requires { ⌜ scope ≤ length (now slots) ⌝ }
-    requires { ⌜ ((k : ℕ) → k < scope → Applicable (now table) (getD (now slots) k 0)) ⌝ }
-    ensures { λ r. ⌜ Changed (now (slots .entry)) (now (slots .exit)) scope
-        (λ k. applied-number (now (table .entry)) effect (getD (now (slots .entry)) k 0)) ⌝ }
+fn apply_all(table: &[u16], slots: &mut [u32], size: usize, effect: u64)
+    requires { ⌜ size ≤ length (now slots) ⌝ }
+    requires { ⌜ ((k : ℕ) → k < size → Applicable (now table) (current-in (getD (now slots) k 0))) ⌝ }
+    ensures { λ r. ⌜ Changed (now (slots .entry)) (now (slots .exit)) size
+        (λ k. applied-slot (now (table .entry)) effect (getD (now (slots .entry)) k 0)) ⌝ }
 {
-    for i in 0..scope {
-        slots[i] = apply_number(table, effect, slots[i]);
+    for i in 0..size {
+        let slot = slots[i];
+        slots[i] = with_current(slot, apply_number(table, effect, current(slot)));
     }
+}
+
+// Stores the type of an argument in slot `top + n`, after its effect on the types of the n arguments before
+// it, which stand from `top` on.
+fn store_type(table: &[u16], slots: &mut [u32], top: usize, n: usize, r: Answer)
+    requires { ⌜ top + n < length (now slots) ⌝ }
+    requires { ⌜ ((k : ℕ) → k < n → Applicable (now table) (getD (now slots) (top + k) 0)) ⌝ }
+    ensures { λ u. ⌜ PostStore (now (table .entry)) (now (slots .entry)) (now (slots .exit)) top n r ⌝ }
+{
+    for i in 0..n {
+        let place = top + i;
+        slots[place] = apply_number(table, r.effect, slots[place]);
+    }
+    let t = r.typing;
+    let last = top + n;
+    slots[last] = number_of(t);
 }
 
 // The number of a slot's type after two arms.
@@ -283,34 +321,34 @@ fn join_number(table: &[u16], above: &[u64], a: u32, b: u32) -> u32
     if a == Type::BOOL {
         return a;
     }
-    if a == NO_TYPE {
+    if a == ABSENT {
         return a;
     }
     if b == Type::BOOL {
         return a;
     }
-    if b == NO_TYPE {
+    if b == ABSENT {
         return a;
     }
     nearest(table, above, a, b)
 }
 
 // The slots in scope are copied to a place above them.
-fn save(slots: &mut [u32], scope: usize, top: usize)
-    requires { ⌜ (top + scope ≤ length (now slots)) × (scope ≤ top) ⌝ }
-    ensures { λ r. ⌜ Saved (now (slots .entry)) (now (slots .exit)) top scope ⌝ }
+fn save(slots: &mut [u32], size: usize, top: usize)
+    requires { ⌜ (top + size ≤ length (now slots)) × (size ≤ top) ⌝ }
+    ensures { λ r. ⌜ Saved (now (slots .entry)) (now (slots .exit)) top size ⌝ }
 {
-    for i in 0..scope {
+    for i in 0..size {
         slots[top + i] = slots[i];
     }
 }
 
 // The slots in scope change places with those saved.
-fn swap(slots: &mut [u32], scope: usize, top: usize)
-    requires { ⌜ (top + scope ≤ length (now slots)) × (scope ≤ top) ⌝ }
-    ensures { λ r. ⌜ Swapped (now (slots .entry)) (now (slots .exit)) top scope ⌝ }
+fn swap(slots: &mut [u32], size: usize, top: usize)
+    requires { ⌜ (top + size ≤ length (now slots)) × (size ≤ top) ⌝ }
+    ensures { λ r. ⌜ Swapped (now (slots .entry)) (now (slots .exit)) top size ⌝ }
 {
-    for i in 0..scope {
+    for i in 0..size {
         let a = slots[i];
         slots[i] = slots[top + i];
         slots[top + i] = a;
@@ -318,14 +356,19 @@ fn swap(slots: &mut [u32], scope: usize, top: usize)
 }
 
 // The slots in scope join with those of the first arm, which were saved.
-fn join_slots(table: &[u16], above: &[u64], slots: &mut [u32], scope: usize, top: usize)
-    requires { ⌜ PreJoin (now table) (now above) (now slots) scope top ⌝ }
-    ensures { λ r. ⌜ Changed (now (slots .entry)) (now (slots .exit)) scope
-        (λ k. joined-number (now (table .entry)) (now (above .entry)) (getD (now (slots .entry)) (top + k) 0)
+fn join_slots(table: &[u16], above: &[u64], slots: &mut [u32], size: usize, top: usize)
+    requires { ⌜ PreJoin (now table) (now above) (now slots) size top ⌝ }
+    ensures { λ r. ⌜ Changed (now (slots .entry)) (now (slots .exit)) size
+        (λ k. joined-slot (now (table .entry)) (now (above .entry)) (getD (now (slots .entry)) (top + k) 0)
         (getD (now (slots .entry)) k 0)) ⌝ }
 {
-    for i in 0..scope {
-        slots[i] = join_number(table, above, slots[top + i], slots[i]);
+    for i in 0..size {
+        let first = slots[top + i];
+        let second = slots[i];
+        slots[i] = with_current(
+            first,
+            join_number(table, above, current(first), current(second)),
+        );
     }
 }
 
@@ -338,7 +381,7 @@ fn field_type(rows: &[u32], table: &[u16], class: u32, name: usize) -> Sought
     if place == 0 {
         return Sought::Missing;
     }
-    let row = entry(table, class, ROWS_BEFORE + place as usize) as usize;
+    let row = entry(table, class, FIELD_ROWS + place as usize) as usize;
     Sought::Found(Type::from_number(rows[row * 4 + 1]))
 }
 
@@ -405,44 +448,44 @@ fn not_class(child: Answer, at: usize) -> Answer
 }
 
 // W makes an object of a declared class: 4.
-fn create(rows: &[u32], count: u32, at: usize) -> Answer
+fn create(rows: &[u32], at: usize, scope: Scope) -> Answer
     requires { ⌜ In-row (now rows) at ⌝ }
-    ensures { λ r. ⌜ r ≡ created (now (rows .entry)) count at ⌝ }
+    ensures { λ r. ⌜ r ≡ created (now (rows .entry)) (scope .count) at ⌝ }
 {
     let class = rows[at * 4 + 1];
-    if count < class {
+    if scope.count < class {
         return refused(NAME_REFUSAL, at);
     }
     plain(Typing::Class(class))
 }
 
-// T, L and N have no effect; I reads a slot in scope: 7.
-fn read_slot(rows: &[u32], slots: &[u32], at: usize, scope: usize) -> Answer
+// I reads a slot in scope: 7.
+fn read_slot(rows: &[u32], slots: &[u32], at: usize, scope: Scope) -> Answer
     requires { ⌜ In-row (now rows) at ⌝ }
-    requires { ⌜ scope ≤ length (now slots) ⌝ }
-    ensures { λ r. ⌜ r ≡ slot-read (now (rows .entry)) (now (slots .entry)) at scope ⌝ }
+    requires { ⌜ scope .size ≤ length (now slots) ⌝ }
+    ensures { λ r. ⌜ r ≡ slot-read (now (rows .entry)) (now (slots .entry)) at (scope .size) ⌝ }
 {
     let k = rows[at * 4 + 1] as usize;
-    if scope <= k {
+    if scope.size <= k {
         return refused(SLOT_REFUSAL, at);
     }
-    let number = slots[k];
-    if number == NO_TYPE {
+    let number = current(slots[k]);
+    if number == ABSENT {
         return refused(SLOT_REFUSAL, at);
     }
     plain(typing_of(Type::from_number(number)))
 }
 
 // K takes a class or null and gives its own class: 4, 9.
-fn cast(rows: &[u32], count: u32, at: usize, child: Answer) -> Answer
+fn cast(rows: &[u32], at: usize, scope: Scope, child: Answer) -> Answer
     requires { ⌜ In-row (now rows) at ⌝ }
-    ensures { λ r. ⌜ r ≡ cast-answer (now (rows .entry)) count at child ⌝ }
+    ensures { λ r. ⌜ r ≡ cast-answer (now (rows .entry)) (scope .count) at child ⌝ }
 {
     let class = rows[at * 4 + 1];
     if is_refusal(child) {
         return child;
     }
-    if count < class {
+    if scope.count < class {
         return refused(NAME_REFUSAL, at);
     }
     let t = child.typing;
@@ -466,12 +509,12 @@ fn assign(
     above: &[u64],
     slots: &[u32],
     at: usize,
-    scope: usize,
+    scope: Scope,
     child: Answer,
 ) -> Answer
-    requires { ⌜ PreAssign (now rows) (now above) (now slots) at scope (child .typing) ⌝ }
-    ensures { λ r. ⌜ r ≡ assigned (now (rows .entry)) (now (above .entry)) (now (slots .entry)) at scope child
-        ⌝ }
+    requires { ⌜ PreAssign (now rows) (now above) (now slots) at (scope .size) (child .typing) ⌝ }
+    ensures { λ r. ⌜ r ≡ assigned (now (rows .entry)) (now (above .entry)) (now (slots .entry)) at
+        (scope .size) child ⌝ }
 {
     let k = rows[at * 4 + 1] as usize;
     if is_refusal(child) {
@@ -480,12 +523,12 @@ fn assign(
     if k == 0 {
         return refused(SLOT_REFUSAL, at);
     }
-    if scope <= k {
+    if scope.size <= k {
         return refused(SLOT_REFUSAL, at);
     }
     let t = child.typing;
-    let declared = Type::from_number(slots[k]);
-    if is_fitting(above, t, declared) {
+    let allowed = Type::from_number(current(slots[k]));
+    if is_fitting(above, t, allowed) {
         return child;
     }
     refused(TYPE_REFUSAL, at)
@@ -506,20 +549,6 @@ fn too_many(receiver: Answer, many: Answer, at: usize) -> Answer
         Typing::Null => refused(TYPE_REFUSAL, at),
         Typing::Refusal(_, _) => refused(TYPE_REFUSAL, at),
     }
-}
-
-// The set of the classes on the X lines from a row on.
-fn effect_at(rows: &[u32], from: usize) -> u64
-    requires { ⌜ SomeEffects (now rows) from ⌝ }
-    ensures { λ r. ⌜ EffectOf (now (rows .entry)) from r ⌝ }
-{
-    let mut effect = 0;
-    let mut i = from;
-    while rows[i * 4] == EFFECT {
-        effect = effect | classes::effect_of(rows[i * 4 + 1]);
-        i += 1;
-    }
-    effect
 }
 
 // Whether the types stored from a place on fit the P lines from a row on.
@@ -549,42 +578,35 @@ fn are_fitting(
 
 // Whether a class is a root or a state class.
 fn is_changeable(table: &[u16], class: u32) -> bool
-    requires { ⌜ class * class-width + kind-place < length (now table) ⌝ }
+    requires { ⌜ class * 576 + 512 < length (now table) ⌝ }
     ensures { λ r. ⌜ r ≡ changeable-in (now (table .entry)) class ⌝ }
 {
     if class == Type::OBJECT {
         return false;
     }
     let kind = entry(table, class, KIND_PLACE);
-    if kind == 1 {
+    if kind == ROOT_KIND {
         return true;
     }
-    kind == 2
+    kind == STATE_KIND
 }
 
 // R: 4, 7, 11. The root is applied to all slots, then the slot has the target's class.
-fn change(
-    rows: &[u32],
-    table: &[u16],
-    slots: &mut [u32],
-    count: u32,
-    at: usize,
-    scope: usize,
-) -> Answer
-    requires { ⌜ PreChange (now rows) (now table) (now slots) count at scope ⌝ }
+fn change(rows: &[u32], table: &[u16], slots: &mut [u32], at: usize, scope: Scope) -> Answer
+    requires { ⌜ PreChange (now rows) (now table) (now slots) (scope .count) at (scope .size) ⌝ }
     ensures { λ r. ⌜ PostChange (now (rows .entry)) (now (table .entry)) (now (slots .entry))
-        (now (slots .exit)) count at scope r ⌝ }
+        (now (slots .exit)) (scope .count) at (scope .size) r ⌝ }
 {
     let k = rows[at * 4 + 1] as usize;
     let target = rows[at * 4 + 2];
-    if count < target {
+    if scope.count < target {
         return refused(NAME_REFUSAL, at);
     }
-    if scope <= k {
+    if scope.size <= k {
         return refused(SLOT_REFUSAL, at);
     }
-    let number = slots[k];
-    if number == NO_TYPE {
+    let number = current(slots[k]);
+    if number == ABSENT {
         return refused(SLOT_REFUSAL, at);
     }
     if number == Type::BOOL {
@@ -601,17 +623,27 @@ fn change(
         return refused(CHANGE_REFUSAL, at);
     }
     let effect = classes::effect_of(root);
-    apply_all(table, slots, scope, effect);
-    slots[k] = target;
+    apply_all(table, slots, scope.size, effect);
+    slots[k] = with_current(slots[k], target);
     Answer {
         typing: Typing::Class(target),
         effect,
     }
 }
 
+// Notes the class in which the member of a row is sought, where the table has an entry for that row.
+fn note(class_at: &mut [u16], at: usize, class: u32)
+    requires { ⌜ class ≤ 64 ⌝ }
+    ensures { λ r. ⌜ now («class_at» .exit) ≡ replaced (now («class_at» .entry)) at class ⌝ }
+{
+    if at < class_at.len() {
+        class_at[at] = class as u16;
+    }
+}
+
 // G: 9 where there is no class, 8 where there is no field.
 fn get(rows: &[u32], table: &[u16], class_at: &mut [u16], at: usize, child: Answer) -> Answer
-    requires { ⌜ PreGet (now rows) (now table) (now «class_at») at (child .typing) ⌝ }
+    requires { ⌜ PreGet (now rows) (now table) at (child .typing) ⌝ }
     ensures { λ r. ⌜ (r ≡ got (now (rows .entry)) (now (table .entry)) at (child .typing) (child .effect)) ×
         (now («class_at» .exit)
         ≡ got-classes (now (rows .entry)) (now (table .entry)) (now («class_at» .entry)) at (child .typing))
@@ -626,7 +658,7 @@ fn get(rows: &[u32], table: &[u16], class_at: &mut [u16], at: usize, child: Answ
     let Sought::Found(u) = sought else {
         return refused(MEMBER_REFUSAL, at);
     };
-    class_at[at] = class as u16;
+    note(class_at, at, class);
     let typing = typing_of(u);
     Answer {
         typing,
@@ -644,7 +676,7 @@ fn set(
     object: Answer,
     value: Answer,
 ) -> Answer
-    requires { ⌜ PrePut (now rows) (now table) (now above) (now «class_at») at (object .typing) value ⌝ }
+    requires { ⌜ PrePut (now rows) (now table) (now above) at (object .typing) value ⌝ }
     ensures { λ r. ⌜ (r ≡ put (now (rows .entry)) (now (table .entry))
         (now (above .entry)) at (object .typing) object value)
         × (now («class_at» .exit)
@@ -664,7 +696,7 @@ fn set(
     if !is_fitting(above, given, u) {
         return refused(TYPE_REFUSAL, at);
     }
-    class_at[at] = class as u16;
+    note(class_at, at, class);
     Answer {
         typing: given,
         effect: object.effect | value.effect,
@@ -676,19 +708,20 @@ fn invoke(
     rows: &[u32],
     table: &[u16],
     above: &[u64],
+    methods: &[u16],
+    effects: &[u64],
     slots: &mut [u32],
     class_at: &mut [u16],
     at: usize,
-    scope: usize,
-    top: usize,
+    scope: Scope,
     receiver: Answer,
     effect: u64,
 ) -> Answer
-    requires { ⌜ PreInvoke (now rows) (now table) (now above) (now slots) (now «class_at») at scope top
-        (receiver .typing) effect ⌝ }
+    requires { ⌜ PreInvoke (now rows) (now table) (now above) (now methods) (now effects) (now slots) at
+        scope (receiver .typing) effect ⌝ }
     ensures { λ r. ⌜ Invoked (now (rows .entry)) (now (table .entry)) (now (above .entry))
-        (now (slots .entry)) (now («class_at» .entry)) at scope top (receiver .typing) (receiver .effect)
-        effect (now (slots .exit)) (now («class_at» .exit)) r ⌝ }
+        (now (methods .entry)) (now (effects .entry)) (now (slots .entry)) (now («class_at» .entry)) at scope
+        (receiver .typing) (receiver .effect) effect (now (slots .exit)) (now («class_at» .exit)) r ⌝ }
 {
     let t = receiver.typing;
     let Typing::Class(c) = t else {
@@ -701,20 +734,21 @@ fn invoke(
     if stored == 0 {
         return refused(MEMBER_REFUSAL, at);
     }
-    let row = stored - 1;
-    let parameters = count_parameters(rows, row + 1);
+    let number = stored - 1;
+    let parameters = methods[number * METHOD_WIDTH + PARAMETERS_PLACE] as usize;
     if parameters != n {
         return refused(MEMBER_REFUSAL, at);
     }
-    if !are_fitting(rows, above, slots, top, row + 1, n) {
+    let row = methods[number * METHOD_WIDTH] as usize;
+    if !are_fitting(rows, above, slots, scope.top, row + 1, n) {
         return refused(TYPE_REFUSAL, at);
     }
-    let method = effect_at(rows, row + 1 + n);
-    apply_all(table, slots, scope, method);
-    class_at[at] = class as u16;
+    let own = effects[number];
+    apply_all(table, slots, scope.size, own);
+    note(class_at, at, class);
     Answer {
         typing: typing_of(Type::from_number(rows[row * 4 + 1])),
-        effect: receiver.effect | effect | method,
+        effect: receiver.effect | effect | own,
     }
 }
 
@@ -724,15 +758,15 @@ fn choice(
     above: &[u64],
     slots: &mut [u32],
     at: usize,
-    scope: usize,
-    top: usize,
+    scope: Scope,
     condition: Answer,
     yes: Answer,
     no: Answer,
 ) -> Answer
-    requires { ⌜ PreChoice (now table) (now above) (now slots) at scope top (yes .typing) (no .typing) ⌝ }
+    requires { ⌜ PreChoice (now table) (now above) (now slots) at (scope .size) (scope .top) (yes .typing)
+        (no .typing) ⌝ }
     ensures { λ r. ⌜ PostChoice (now (table .entry)) (now (above .entry)) (now (slots .entry))
-        (now (slots .exit)) at scope top condition yes no r ⌝ }
+        (now (slots .exit)) at (scope .size) (scope .top) condition yes no r ⌝ }
 {
     let t = condition.typing;
     let Typing::Bool = t else {
@@ -744,7 +778,7 @@ fn choice(
     if let Typing::Refusal(_, _) = joined {
         return refused(TYPE_REFUSAL, at);
     }
-    join_slots(table, above, slots, scope, top);
+    join_slots(table, above, slots, scope.size, scope.top);
     Answer {
         typing: joined,
         effect: condition.effect | (yes.effect | no.effect),
@@ -762,107 +796,107 @@ fn is_type(count: u32, number: u32) -> bool
 }
 
 // The V lines of a block: each names bool or a declared class, 4, and makes a slot of its type.
-fn open(rows: &[u32], slots: &mut [u32], count: u32, at: usize, scope: usize, v: usize) -> Answer
-    requires { ⌜ PreOpen (now rows) (now slots) at scope v ⌝ }
-    ensures { λ r. ⌜ PostOpen (now (rows .entry)) (now (slots .entry)) (now (slots .exit)) count at scope v r
-        ⌝ }
+fn open(rows: &[u32], slots: &mut [u32], at: usize, scope: Scope, v: usize) -> Answer
+    requires { ⌜ PreOpen (now rows) (now slots) at (scope .size) v ⌝ }
+    ensures { λ r. ⌜ PostOpen (now (rows .entry)) (now (slots .entry)) (now (slots .exit)) (scope .count) at
+        (scope .size) v r ⌝ }
 {
     for i in 0..v {
         let number = rows[(at + 1 + i) * 4 + 1];
-        if !is_type(count, number) {
+        if !is_type(scope.count, number) {
             return refused(NAME_REFUSAL, at + 1 + i);
         }
-        slots[scope + i] = number;
+        slots[scope.size + i] = fresh(number);
     }
     plain(Typing::Null)
 }
 
-// An expression at row `at`: `scope` slots are in scope, and the slots from `top` on are free.
+// An expression at row `at`.
 fn expression(
     rows: &[u32],
     ends: &[u16],
     table: &[u16],
     above: &[u64],
+    methods: &[u16],
+    effects: &[u64],
     slots: &mut [u32],
     class_at: &mut [u16],
-    count: u32,
     at: usize,
-    scope: usize,
-    top: usize,
+    scope: Scope,
 ) -> Answer
-    requires { ⌜ Pre (now rows) (now ends) (now table) (now above) (now slots) (now «class_at») count at scope
-        top ⌝ }
+    requires { ⌜ Pre (now rows) (now ends) (now table) (now above) (now methods) (now effects) (now slots)
+        (now «class_at») at scope ⌝ }
     ensures { λ r. ⌜ Post (now (rows .entry)) (now (ends .entry)) (now (table .entry)) (now (above .entry))
-        (now (slots .entry)) (now («class_at» .entry)) (now (slots .exit)) (now («class_at» .exit))
-        count at scope top r ⌝ }
+        (now (methods .entry)) (now (effects .entry)) (now (slots .entry)) (now («class_at» .entry))
+        (now (slots .exit)) (now («class_at» .exit)) at scope r ⌝ }
 {
     let letter = rows[at * 4];
     match letter {
-        TRUE => plain(Typing::Bool),
-        FALSE => plain(Typing::Bool),
-        NULL => plain(Typing::Null),
-        SLOT => read_slot(rows, slots, at, scope),
-        NEW => create(rows, count, at),
-        CHANGE => change(rows, table, slots, count, at, scope),
-        SET => write(
+        language::TRUE => plain(Typing::Bool),
+        language::FALSE => plain(Typing::Bool),
+        language::NULL => plain(Typing::Null),
+        language::SLOT => read_slot(rows, slots, at, scope),
+        language::NEW => create(rows, at, scope),
+        language::CHANGE => change(rows, table, slots, at, scope),
+        language::SET => write(
             rows,
             ends,
             table,
             above,
+            methods,
+            effects,
             slots,
             class_at,
-            count,
             at,
             scope,
-            top,
         ),
-        CALL => call(
+        language::CALL => call(
             rows,
             ends,
             table,
             above,
+            methods,
+            effects,
             slots,
             class_at,
-            count,
             at,
             scope,
-            top,
         ),
-        CHOOSE => choose(
+        language::CHOOSE => choose(
             rows,
             ends,
             table,
             above,
+            methods,
+            effects,
             slots,
             class_at,
-            count,
             at,
             scope,
-            top,
         ),
-        BLOCK => block(
+        language::BLOCK => block(
             rows,
             ends,
             table,
             above,
+            methods,
+            effects,
             slots,
             class_at,
-            count,
             at,
             scope,
-            top,
         ),
         _ => unary(
             rows,
             ends,
             table,
             above,
+            methods,
+            effects,
             slots,
             class_at,
-            count,
             at,
             scope,
-            top,
         ),
     }
 }
@@ -873,37 +907,37 @@ fn unary(
     ends: &[u16],
     table: &[u16],
     above: &[u64],
+    methods: &[u16],
+    effects: &[u64],
     slots: &mut [u32],
     class_at: &mut [u16],
-    count: u32,
     at: usize,
-    scope: usize,
-    top: usize,
+    scope: Scope,
 ) -> Answer
     requires { ⌜ Unary (now rows) at ⌝ }
-    requires { ⌜ Pre (now rows) (now ends) (now table) (now above) (now slots) (now «class_at») count at scope
-        top ⌝ }
+    requires { ⌜ Pre (now rows) (now ends) (now table) (now above) (now methods) (now effects) (now slots)
+        (now «class_at») at scope ⌝ }
     ensures { λ r. ⌜ Post (now (rows .entry)) (now (ends .entry)) (now (table .entry)) (now (above .entry))
-        (now (slots .entry)) (now («class_at» .entry)) (now (slots .exit)) (now («class_at» .exit))
-        count at scope top r ⌝ }
+        (now (methods .entry)) (now (effects .entry)) (now (slots .entry)) (now («class_at» .entry))
+        (now (slots .exit)) (now («class_at» .exit)) at scope r ⌝ }
 {
     let child = expression(
         rows,
         ends,
         table,
         above,
+        methods,
+        effects,
         slots,
         class_at,
-        count,
         at + 1,
         scope,
-        top,
     );
     let letter = rows[at * 4];
     match letter {
-        IS_NULL => test_null(child, at),
-        GET => get(rows, table, class_at, at, child),
-        CAST => cast(rows, count, at, child),
+        language::IS_NULL => test_null(child, at),
+        language::GET => get(rows, table, class_at, at, child),
+        language::CAST => cast(rows, at, scope, child),
         _ => assign(rows, above, slots, at, scope, child),
     }
 }
@@ -914,31 +948,31 @@ fn write(
     ends: &[u16],
     table: &[u16],
     above: &[u64],
+    methods: &[u16],
+    effects: &[u64],
     slots: &mut [u32],
     class_at: &mut [u16],
-    count: u32,
     at: usize,
-    scope: usize,
-    top: usize,
+    scope: Scope,
 ) -> Answer
     requires { ⌜ getD (now rows) (at * 4) 0 ≡ code U-set ⌝ }
-    requires { ⌜ Pre (now rows) (now ends) (now table) (now above) (now slots) (now «class_at») count at scope
-        top ⌝ }
+    requires { ⌜ Pre (now rows) (now ends) (now table) (now above) (now methods) (now effects) (now slots)
+        (now «class_at») at scope ⌝ }
     ensures { λ r. ⌜ Post (now (rows .entry)) (now (ends .entry)) (now (table .entry)) (now (above .entry))
-        (now (slots .entry)) (now («class_at» .entry)) (now (slots .exit)) (now («class_at» .exit))
-        count at scope top r ⌝ }
+        (now (methods .entry)) (now (effects .entry)) (now (slots .entry)) (now («class_at» .entry))
+        (now (slots .exit)) (now («class_at» .exit)) at scope r ⌝ }
 {
     let object = expression(
         rows,
         ends,
         table,
         above,
+        methods,
+        effects,
         slots,
         class_at,
-        count,
         at + 1,
         scope,
-        top,
     );
     if is_refusal(object) {
         return object;
@@ -949,12 +983,12 @@ fn write(
         ends,
         table,
         above,
+        methods,
+        effects,
         slots,
         class_at,
-        count,
         next,
         scope,
-        top,
     );
     if is_refusal(value) {
         return value;
@@ -968,31 +1002,31 @@ fn call(
     ends: &[u16],
     table: &[u16],
     above: &[u64],
+    methods: &[u16],
+    effects: &[u64],
     slots: &mut [u32],
     class_at: &mut [u16],
-    count: u32,
     at: usize,
-    scope: usize,
-    top: usize,
+    scope: Scope,
 ) -> Answer
     requires { ⌜ getD (now rows) (at * 4) 0 ≡ code Q-call ⌝ }
-    requires { ⌜ Pre (now rows) (now ends) (now table) (now above) (now slots) (now «class_at») count at scope
-        top ⌝ }
+    requires { ⌜ Pre (now rows) (now ends) (now table) (now above) (now methods) (now effects) (now slots)
+        (now «class_at») at scope ⌝ }
     ensures { λ r. ⌜ Post (now (rows .entry)) (now (ends .entry)) (now (table .entry)) (now (above .entry))
-        (now (slots .entry)) (now («class_at» .entry)) (now (slots .exit)) (now («class_at» .exit))
-        count at scope top r ⌝ }
+        (now (methods .entry)) (now (effects .entry)) (now (slots .entry)) (now («class_at» .entry))
+        (now (slots .exit)) (now («class_at» .exit)) at scope r ⌝ }
 {
     let receiver = expression(
         rows,
         ends,
         table,
         above,
+        methods,
+        effects,
         slots,
         class_at,
-        count,
         at + 1,
         scope,
-        top,
     );
     if is_refusal(receiver) {
         return receiver;
@@ -1005,12 +1039,12 @@ fn call(
             ends,
             table,
             above,
+            methods,
+            effects,
             slots,
             class_at,
-            count,
             next,
             scope,
-            top,
             n,
             plain(Typing::Null),
         );
@@ -1021,12 +1055,12 @@ fn call(
         ends,
         table,
         above,
+        methods,
+        effects,
         slots,
         class_at,
-        count,
         next,
         scope,
-        top,
         n,
     );
     if is_refusal(given) {
@@ -1036,11 +1070,12 @@ fn call(
         rows,
         table,
         above,
+        methods,
+        effects,
         slots,
         class_at,
         at,
         scope,
-        top,
         receiver,
         given.effect,
     )
@@ -1052,70 +1087,78 @@ fn choose(
     ends: &[u16],
     table: &[u16],
     above: &[u64],
+    methods: &[u16],
+    effects: &[u64],
     slots: &mut [u32],
     class_at: &mut [u16],
-    count: u32,
     at: usize,
-    scope: usize,
-    top: usize,
+    scope: Scope,
 ) -> Answer
     requires { ⌜ getD (now rows) (at * 4) 0 ≡ code J-choose ⌝ }
-    requires { ⌜ Pre (now rows) (now ends) (now table) (now above) (now slots) (now «class_at») count at scope
-        top ⌝ }
+    requires { ⌜ Pre (now rows) (now ends) (now table) (now above) (now methods) (now effects) (now slots)
+        (now «class_at») at scope ⌝ }
     ensures { λ r. ⌜ Post (now (rows .entry)) (now (ends .entry)) (now (table .entry)) (now (above .entry))
-        (now (slots .entry)) (now («class_at» .entry)) (now (slots .exit)) (now («class_at» .exit))
-        count at scope top r ⌝ }
+        (now (methods .entry)) (now (effects .entry)) (now (slots .entry)) (now («class_at» .entry))
+        (now (slots .exit)) (now («class_at» .exit)) at scope r ⌝ }
 {
     let condition = expression(
         rows,
         ends,
         table,
         above,
+        methods,
+        effects,
         slots,
         class_at,
-        count,
         at + 1,
         scope,
-        top,
     );
     if is_refusal(condition) {
         return condition;
     }
     let first = ends[at + 1] as usize;
-    save(slots, scope, top);
+    save(slots, scope.size, scope.top);
+    let top = scope.top + scope.size;
+    let arm = Scope {
+        count: scope.count,
+        class: scope.class,
+        size: scope.size,
+        width: scope.width,
+        top,
+    };
     let yes = expression(
         rows,
         ends,
         table,
         above,
+        methods,
+        effects,
         slots,
         class_at,
-        count,
         first,
-        scope,
-        top + scope,
+        arm,
     );
     if is_refusal(yes) {
         return yes;
     }
     let second = ends[first] as usize;
-    swap(slots, scope, top);
+    swap(slots, scope.size, scope.top);
     let no = expression(
         rows,
         ends,
         table,
         above,
+        methods,
+        effects,
         slots,
         class_at,
-        count,
         second,
-        scope,
-        top + scope,
+        arm,
     );
     if is_refusal(no) {
         return no;
     }
-    choice(table, above, slots, at, scope, top, condition, yes, no)
+    choice(table, above, slots, at, scope, condition, yes, no)
 }
 
 // B: its V lines, then its expressions.
@@ -1124,37 +1167,45 @@ fn block(
     ends: &[u16],
     table: &[u16],
     above: &[u64],
+    methods: &[u16],
+    effects: &[u64],
     slots: &mut [u32],
     class_at: &mut [u16],
-    count: u32,
     at: usize,
-    scope: usize,
-    top: usize,
+    scope: Scope,
 ) -> Answer
     requires { ⌜ getD (now rows) (at * 4) 0 ≡ code B-block ⌝ }
-    requires { ⌜ Pre (now rows) (now ends) (now table) (now above) (now slots) (now «class_at») count at scope
-        top ⌝ }
+    requires { ⌜ Pre (now rows) (now ends) (now table) (now above) (now methods) (now effects) (now slots)
+        (now «class_at») at scope ⌝ }
     ensures { λ r. ⌜ Post (now (rows .entry)) (now (ends .entry)) (now (table .entry)) (now (above .entry))
-        (now (slots .entry)) (now («class_at» .entry)) (now (slots .exit)) (now («class_at» .exit))
-        count at scope top r ⌝ }
+        (now (methods .entry)) (now (effects .entry)) (now (slots .entry)) (now («class_at» .entry))
+        (now (slots .exit)) (now («class_at» .exit)) at scope r ⌝ }
 {
     let v = rows[at * 4 + 1] as usize;
     let n = rows[at * 4 + 2] as usize;
-    let opened = open(rows, slots, count, at, scope, v);
+    let opened = open(rows, slots, at, scope, v);
     if is_refusal(opened) {
         return opened;
     }
+    let size = scope.size + v;
+    let inner = Scope {
+        count: scope.count,
+        class: scope.class,
+        size,
+        width: scope.width,
+        top: scope.top,
+    };
     items(
         rows,
         ends,
         table,
         above,
+        methods,
+        effects,
         slots,
         class_at,
-        count,
         at + 1 + v,
-        scope + v,
-        top,
+        inner,
         n,
         opened,
     )
@@ -1166,20 +1217,20 @@ fn items(
     ends: &[u16],
     table: &[u16],
     above: &[u64],
+    methods: &[u16],
+    effects: &[u64],
     slots: &mut [u32],
     class_at: &mut [u16],
-    count: u32,
     at: usize,
-    scope: usize,
-    top: usize,
+    scope: Scope,
     n: usize,
     last: Answer,
 ) -> Answer
-    requires { ⌜ PreList (now rows) (now ends) (now table) (now above) (now slots) (now «class_at»)
-        count at scope top n ⌝ }
+    requires { ⌜ PreList (now rows) (now ends) (now table) (now above) (now methods) (now effects) (now slots)
+        (now «class_at») at scope n ⌝ }
     ensures { λ r. ⌜ PostItems (now (rows .entry)) (now (ends .entry)) (now (table .entry))
-        (now (above .entry)) (now (slots .entry)) (now («class_at» .entry)) (now (slots .exit))
-        (now («class_at» .exit)) count at scope top n last r ⌝ }
+        (now (above .entry)) (now (methods .entry)) (now (effects .entry)) (now (slots .entry))
+        (now («class_at» .entry)) (now (slots .exit)) (now («class_at» .exit)) at scope n last r ⌝ }
 {
     let mut so_far = last;
     let mut next = at;
@@ -1190,12 +1241,12 @@ fn items(
             ends,
             table,
             above,
+            methods,
+            effects,
             slots,
             class_at,
-            count,
             next,
             scope,
-            top,
         );
         if is_refusal(r) {
             return r;
@@ -1211,67 +1262,63 @@ fn items(
     so_far
 }
 
-// n arguments in a row. Their types are stored from `top` on, each with the effects of the later ones applied.
+// n arguments in a row. Their types are stored from the scope's top on, each with the effects of the later ones applied.
 fn arguments(
     rows: &[u32],
     ends: &[u16],
     table: &[u16],
     above: &[u64],
+    methods: &[u16],
+    effects: &[u64],
     slots: &mut [u32],
     class_at: &mut [u16],
-    count: u32,
     at: usize,
-    scope: usize,
-    top: usize,
+    scope: Scope,
     n: usize,
 ) -> Answer
-    requires { ⌜ of-check .slots ≤ top ⌝ }
-    requires { ⌜ PreList (now rows) (now ends) (now table) (now above) (now slots) (now «class_at»)
-        count at scope (top + n) n ⌝ }
+    requires { ⌜ scope .width ≤ scope .top ⌝ }
+    requires { ⌜ PreList (now rows) (now ends) (now table) (now above) (now methods) (now effects) (now slots)
+        (now «class_at») at (raised scope n) n ⌝ }
     ensures { λ r. ⌜ PostArguments (now (rows .entry)) (now (ends .entry)) (now (table .entry))
-        (now (above .entry)) (now (slots .entry)) (now («class_at» .entry)) (now (slots .exit))
-        (now («class_at» .exit)) count at scope top n r ⌝ }
+        (now (above .entry)) (now (methods .entry)) (now (effects .entry)) (now (slots .entry))
+        (now («class_at» .entry)) (now (slots .exit)) (now («class_at» .exit)) at scope n r ⌝ }
 {
-    if n == 0 {
-        return plain(Typing::Null);
+    let top = scope.top;
+    let mut effect = 0;
+    let mut next = at;
+    let mut i = 0;
+    while i < n {
+        let place = top + i;
+        let own = Scope {
+            count: scope.count,
+            class: scope.class,
+            size: scope.size,
+            width: scope.width,
+            top: place,
+        };
+        let r = expression(
+            rows,
+            ends,
+            table,
+            above,
+            methods,
+            effects,
+            slots,
+            class_at,
+            next,
+            own,
+        );
+        if is_refusal(r) {
+            return r;
+        }
+        store_type(table, slots, top, i, r);
+        effect |= r.effect;
+        next = ends[next] as usize;
+        i += 1;
     }
-    let r = expression(
-        rows,
-        ends,
-        table,
-        above,
-        slots,
-        class_at,
-        count,
-        at,
-        scope,
-        top,
-    );
-    if is_refusal(r) {
-        return r;
-    }
-    let next = ends[at] as usize;
-    let rest = arguments(
-        rows,
-        ends,
-        table,
-        above,
-        slots,
-        class_at,
-        count,
-        next,
-        scope,
-        top + 1,
-        n - 1,
-    );
-    if is_refusal(rest) {
-        return rest;
-    }
-    let t = r.typing;
-    slots[top] = apply_number(table, rest.effect, number_of(t));
     Answer {
         typing: Typing::Null,
-        effect: r.effect | rest.effect,
+        effect,
     }
 }
 
@@ -1280,160 +1327,133 @@ fn enter(rows: &[u32], slots: &mut [u32], owner: u32, from: usize, n: usize)
     requires { ⌜ PreEnter (now rows) (now slots) from n ⌝ }
     ensures { λ r. ⌜ PostEnter (now (rows .entry)) (now (slots .entry)) (now (slots .exit)) owner from n ⌝ }
 {
-    slots[0] = owner;
+    slots[0] = fresh(owner);
     for i in 0..n {
-        slots[1 + i] = rows[(from + i) * 4 + 1];
+        slots[1 + i] = fresh(rows[(from + i) * 4 + 1]);
     }
 }
 
-// The row of the body of a method whose M line is at row `at`.
-fn body_row(rows: &[u32], at: usize) -> usize
-    requires { ⌜ SomeBlock (now rows) at ⌝ }
-    ensures { λ r. ⌜ ((b : ℕ) → FirstBlock (now (rows .entry)) at b → r ≡ b) ⌝ }
-{
-    let mut i = at + 1;
-    while rows[i * 4] != BLOCK {
-        i += 1;
-    }
-    i
-}
-
-// A method whose M line is at row `at`: its body, then on its M line the body's type, 9, and effect, 10.
+// The method of a number: its body, then on its M line the body's type, 9, and effect, 10.
 fn method(
     rows: &[u32],
     ends: &[u16],
     table: &[u16],
     above: &[u64],
+    methods: &[u16],
+    effects: &[u64],
     slots: &mut [u32],
     class_at: &mut [u16],
     count: u32,
-    owner: u32,
-    at: usize,
+    width: usize,
+    number: usize,
 ) -> Verdict
-    requires { ⌜ PreMethodBody (now rows) (now ends) (now table) (now above) (now slots) (now «class_at»)
-        count owner at ⌝ }
+    requires { ⌜ PreMethodBody (now rows) (now ends) (now table) (now above) (now methods) (now effects)
+        (now slots) count width number ⌝ }
     ensures { λ r. ⌜ PostMethodBody (now (rows .entry)) (now (ends .entry)) (now (table .entry))
-        (now (above .entry)) (now (slots .entry)) (now («class_at» .entry)) (now (slots .exit))
-        (now («class_at» .exit)) count owner at r ⌝ }
+        (now (above .entry)) (now (methods .entry)) (now (effects .entry)) (now (slots .entry))
+        (now («class_at» .entry)) (now (slots .exit)) (now («class_at» .exit)) count width number r ⌝ }
 {
-    let n = count_parameters(rows, at + 1);
-    let body = body_row(rows, at);
+    let at = methods[number * METHOD_WIDTH] as usize;
+    let owner = methods[number * METHOD_WIDTH + OWNER_PLACE] as u32;
+    let n = methods[number * METHOD_WIDTH + PARAMETERS_PLACE] as usize;
+    let body = methods[number * METHOD_WIDTH + BODY_PLACE] as usize;
     enter(rows, slots, owner, at + 1, n);
+    let scope = Scope {
+        count,
+        class: owner,
+        size: n + 1,
+        width,
+        top: width,
+    };
     let r = expression(
         rows,
         ends,
         table,
         above,
+        methods,
+        effects,
         slots,
         class_at,
-        count,
         body,
-        n + 1,
-        MOST_SLOTS,
+        scope,
     );
     let t = r.typing;
-    if let Typing::Refusal(number, line) = t {
-        return Verdict::Refused(number, line);
+    if let Typing::Refusal(reason, line) = t {
+        return Verdict::Refused(reason, line);
     }
     if !is_fitting(above, t, Type::from_number(rows[at * 4 + 1])) {
         return Verdict::Refused(TYPE_REFUSAL, at as u32 + 1);
     }
-    let declared = effect_at(rows, at + 1 + n);
-    if !is_within(r.effect, declared) {
+    if !is_within(r.effect, effects[number]) {
         return Verdict::Refused(EFFECT_REFUSAL, at as u32 + 1);
     }
     Verdict::Accepted
 }
 
-// A line of a class: an M line's method.
-fn pass_line(
-    rows: &[u32],
-    ends: &[u16],
-    table: &[u16],
-    above: &[u64],
-    slots: &mut [u32],
-    class_at: &mut [u16],
-    count: u32,
-    owner: u32,
-    at: usize,
-) -> Verdict
-    requires { ⌜ PreLine (now rows) (now ends) (now table) (now above) (now slots) (now «class_at») count
-        owner at ⌝ }
-    ensures { λ r. ⌜ PostLine (now (rows .entry)) (now (ends .entry)) (now (table .entry))
-        (now (above .entry)) (now (slots .entry)) (now («class_at» .entry)) (now (slots .exit))
-        (now («class_at» .exit)) count owner at r ⌝ }
-{
-    if rows[at * 4] != METHOD {
-        return Verdict::Accepted;
-    }
-    method(rows, ends, table, above, slots, class_at, count, owner, at)
-}
-
-// The class after a line: a C line begins the next.
-fn class_after(rows: &[u32], class: u32, at: usize) -> u32
-    requires { ⌜ (at * 4 + 3 < length (now rows)) × (class < 65536) ⌝ }
-    ensures { λ r. ⌜ r ≡ class-next (now (rows .entry)) class at ⌝ }
-{
-    if rows[at * 4] == CLASS {
-        return class + 1;
-    }
-    class
-}
-
-// The row after a line: after the body for an M line.
-fn row_after(rows: &[u32], ends: &[u16], at: usize) -> usize
-    requires { ⌜ PreNext (now rows) (now ends) at ⌝ }
-    ensures { λ r. ⌜ PostNext (now (rows .entry)) (now (ends .entry)) at r ⌝ }
-{
-    if rows[at * 4] == METHOD {
-        let body = body_row(rows, at);
-        return ends[body] as usize;
-    }
-    at + 1
-}
-
-// The pass: the methods in order, then the start block.
+// The pass: the methods in order, then the start block, which follows the S line at row `start`. There are
+// `many` methods; `width` is how many slots may be in scope at most. Lookup classes are noted as far as
+// `class_at` goes.
 pub fn check_bodies(
     rows: &[u32],
     ends: &[u16],
     table: &[u16],
     above: &[u64],
+    methods: &[u16],
+    effects: &[u64],
     slots: &mut [u32],
     class_at: &mut [u16],
     count: u32,
+    many: usize,
+    start: usize,
+    width: usize,
 ) -> Verdict
-    requires { ⌜ BodiesReady (now rows) (now ends) (now table) (now above) (now slots) (now «class_at») count
-        ⌝ }
+    requires { ⌜ BodiesReady (now rows) (now ends) (now table) (now above) (now methods) (now effects)
+        (now slots) count many start width ⌝ }
     ensures { λ r. ⌜ BodiesDone (now (rows .entry)) (now (ends .entry)) (now (table .entry))
-        (now (above .entry)) (now (slots .entry)) (now («class_at» .entry)) (now («class_at» .exit)) count r
-        ⌝ }
+        (now (above .entry)) (now (methods .entry)) (now (effects .entry)) (now (slots .entry))
+        (now («class_at» .entry)) (now («class_at» .exit)) count many start width r ⌝ }
 {
-    let mut at = 0;
-    let mut class = 0;
-    while rows[at * 4] != START {
-        let v = pass_line(rows, ends, table, above, slots, class_at, count, class, at);
-        if let Verdict::Refused(number, line) = v {
-            return Verdict::Refused(number, line);
+    for i in 0..many {
+        let v = method(
+            rows,
+            ends,
+            table,
+            above,
+            methods,
+            effects,
+            slots,
+            class_at,
+            count,
+            width,
+            i,
+        );
+        if let Verdict::Refused(reason, line) = v {
+            return Verdict::Refused(reason, line);
         }
-        class = class_after(rows, class, at);
-        at = row_after(rows, ends, at);
     }
-    slots[0] = NO_TYPE;
+    slots[0] = NO_THIS;
+    let scope = Scope {
+        count,
+        class: 0,
+        size: 1,
+        width,
+        top: width,
+    };
     let r = expression(
         rows,
         ends,
         table,
         above,
+        methods,
+        effects,
         slots,
         class_at,
-        count,
-        at + 1,
-        1,
-        MOST_SLOTS,
+        start + 1,
+        scope,
     );
     let t = r.typing;
-    if let Typing::Refusal(number, line) = t {
-        return Verdict::Refused(number, line);
+    if let Typing::Refusal(reason, line) = t {
+        return Verdict::Refused(reason, line);
     }
     Verdict::Accepted
 }

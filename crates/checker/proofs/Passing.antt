@@ -1,16 +1,15 @@
 -- From pass to pass: what the answer of each tells of its definition, and what the next is called on. Assumes nothing.
 use mathlib.Core.Path.{_≡_, refl, sym, ap, _∙_, subst}
-use mathlib.Core.Logic.{inl, inr}
+use mathlib.Core.Logic.{_⊎_, inl, inr}
 use mathlib.Core.List.{List, _++_}
 use Prim.Native.Nat.{ℕ, _+_, _*_, _%_, _≤_}
-use lib.ListN.{length, drop, replicate}
+use lib.ListN.{length, drop, replicate, length-replicate}
 use borrow.Author.Tests.{eq-eqb, ne-eqb}
 use native.Mathlib.Omega.{arith}
 use Rattle.language.specs.Limits.{of-check}
 use Rattle.language.specs.Results as results
-use Rattle.language.specs.Results.{Pass, accept, refuse, passed, bind-checked, require, accept-injective}
+use Rattle.language.specs.Results.{Pass, accept, refuse, bind-checked, require, accept-injective}
 use Rattle.language.specs.Results.{accept≢refuse}
-use Rattle.language.specs.Results.{bind-checked-inv, require-inv}
 use Rattle.language.specs.Rows.{rows-of}
 use Rattle.language.specs.Tree.{Program}
 use Rattle.language.specs.Form.{form}
@@ -19,11 +18,11 @@ use Rattle.language.specs.Typing.{bodies}
 use Rattle.language.specs.Tables.{program-ends}
 use Rattle.language.specs.Verdict.{whole-rows, three-passes, check, verdict, verdict-of}
 use Rattle.language.specs.ClassTables.{ClassTables}
-use Rattle.language.specs.Layout.{ProgramAt, LooksUpProgram}
-use Rattle.language.proofs.Filling.{replicate-long}
+use Rattle.language.specs.MethodTables.{MethodTables, placed-methods}
+use Rattle.language.specs.Layout.{start-row}
 use Rattle.layout.specs.Standing.{program-at}
 use Rattle.layout.specs.Headed.{super-lower}
-use Rattle.classes.specs.Subclasses.{Subclasses}
+use Rattle.layout.specs.Held.{Held}
 use Rattle.classes.proofs.Below.{subclasses}
 use Rattle.form.specs.Answers.{formed-of}
 use Rattle.form.specs.declared.Formed.{Formed}
@@ -32,278 +31,242 @@ use Rattle.headings.specs.Answers as heads
 use Rattle.headings.specs.Ready.{HeadingsReady}
 use Rattle.headings.specs.declared.Headed as answered
 use Rattle.headings.specs.declared.Headed.the-variants.{Passed, Refused as NotPassed}
+use Rattle.headings.proofs.Checks.{is-passed, passed-count, is-refused}
 use Rattle.bodies.specs.Answers as typings
 use Rattle.bodies.specs.Tables.{Headed}
-use Rattle.bodies.specs.Whole.{Ready, BodiesReady, BodiesDone}
+use Rattle.bodies.specs.Whole.{Ready, BodiesReady, BodiesAre, BodiesDone}
+use Rattle.bodies.proofs.Within.{within-limits}
 use Rattle.bodies.specs.declared.Verdict as typed
-use Rattle.bodies.specs.declared.Verdict.the-variants.{Accepted as Typed, Refused as NotTyped}
+use Rattle.checker.specs.declared.Checked.{Checked}
 use Rattle.checker.specs.declared.Checked.the-variants.{Accepted, Refused}
-use Rattle.checker.specs.Answers.{checked-case, verdict-case, verdict-of-checked}
-use Rattle.checker.specs.Passes.{after-headings, after-form, Lent, Stands, FormPassed, HeadingsPassed}
-use Rattle.checker.specs.Passes.{Held}
+use Rattle.checker.specs.Answers.{checked-case, typed-case, verdict-case, verdict-of-checked}
+use Rattle.checker.specs.Passes.{Room, ClassRoom, Stands, HeadingsPassed, Checks, ChecksAbove}
 use Rattle.checker.proofs.Heading.{headed}
 
--- ---- bodies
+-- ---- answers
 
--- What the body pass is called on.
-pub bodies-stand : {R E T A C : List ℕ} {n : ℕ} (S : List ℕ) → 33024 ≤ length S
-    → (w : HeadingsPassed R E T A C n)
-    → Ready R E T A S C n (w .program)
-bodies-stand {R} {E} {T} {A} S l w = record {
-  layout = w .here;
-  passes = w .heads;
-  headed = subst (Headed (w .program .classes) R T A) (w .counted)
-      (headed (w .here) (w .tables) tt (w .heads));
-  slots = l;
-  nodes = w .nodes;
+-- A refusal is one of the check.
+module _ (R : List ℕ) (n l : ℕ) (e : check R ≡ refuse n l) where
+  refused-only : (Q : Program → Type 0) (p : Program) → check R ≡ accept p → Q p
+  refused-only Q p g = absurd (accept≢refuse n l (sym e ∙ g))
+
+  refuses : {E T A M F C : List ℕ} → Checks R E T A M F C (Refused n l)
+  refuses = record { answer = ap checked-case (sym e); holds = refused-only _ }
+
+  pub refuses-above : {A : List ℕ} → ChecksAbove R A (Refused n l)
+  refuses-above = record { answer = ap checked-case (sym e); tells = refused-only _ }
+
+-- The table of superclasses of what is held tells which class stands below which.
+pub checks-above : {R E T A M F C : List ℕ} {r : Checked} → Checks R E T A M F C r → ChecksAbove R A r
+checks-above c = record {
+  answer = c .answer;
+  tells = λ p e. let h = c .holds p e .headed in
+      subclasses (p .classes) (super-lower (p .classes) tt (h .passes)) (h .classes) (h .here .in-form .few);
 }
 
-abbrev pub bodies-ready : {R E T A C : List ℕ} {n : ℕ} (S : List ℕ) → 33024 ≤ length S
-    → HeadingsPassed R E T A C n
-    → BodiesReady R E T A S C n
-bodies-ready S l w = record { p = w .program; ready = bodies-stand S l w }
+-- Where the check answers accepted, there is the program; else it refuses.
+pub checked-accepted : (c : results.Checked Program) (n : ℕ) → Accepted n ≡ checked-case c
+    → (p : Program) × (c ≡ accept p)
+checked-accepted (accept p) n e = (p, refl)
+checked-accepted (refuse i l) n e = let z : _≡_ {A = ℕ} 0 1 = cc in absurd (omega arith)
 
-typed-passed : (c : Pass) → Typed ≡ typings.verdict-of c → c ≡ passed
-typed-passed (accept u) e = refl
-typed-passed (refuse n l) e = let z : _≡_ {A = ℕ} 0 1 = cc in absurd (omega arith)
-
--- What it answers of the program.
-pub bodies-typed : {R E T A C C′ : List ℕ} {n : ℕ} {v : typed.Verdict} (S : List ℕ) (l : 33024 ≤ length S)
-    (w : HeadingsPassed R E T A C n) → BodiesDone R E T A S C C′ n v
-    → (v ≡ typings.verdict-of (bodies (w .program))) × (v ≡ Typed → LooksUpProgram C′ (w .program))
-bodies-typed S l w d = let b = d .are (w .program) (bodies-stand S l w) in
-    (b .out, λ e. b .looks (typed-passed (bodies (w .program)) (sym e ∙ b .out)))
-
-accepted-is : {p q : Program} → after-headings p ≡ accept q → p ≡ q
-unfolding after-headings bind-checked
-accepted-is {p} {q} e = go (bodies p) e
-  where
-    go : (c : Pass) → bind-checked c (λ _. accept p) ≡ accept q → p ≡ q
-    go (accept u) e = accept-injective e
-    go (refuse n l) e = absurd (accept≢refuse n l e)
-
-module _ (p : Program) (C : List ℕ) where
-  pub typed-accepted : (n : ℕ) (v : typed.Verdict) → length (p .classes) ≡ n → v ≡ Typed
-      → (v ≡ typings.verdict-of (bodies p)) × (v ≡ Typed → LooksUpProgram C p)
-      → (Accepted n ≡ checked-case (after-headings p))
-      × ((q : Program) → after-headings p ≡ accept q → LooksUpProgram C q)
-  unfolding after-headings bind-checked
-  typed-accepted n v k e b = go (bodies p) (sym e ∙ b .0)
-    where
-      go : (c : Pass) → Typed ≡ typings.verdict-of c
-          → (Accepted n ≡ checked-case (bind-checked c λ _. accept p))
-          × ((q : Program) → bind-checked c (λ _. accept p) ≡ accept q → LooksUpProgram C q)
-      go (accept u) f = (ap Accepted (sym k), λ q g. subst (LooksUpProgram C) (accept-injective g) (b .1 e))
-      go (refuse i l) f = let z : _≡_ {A = ℕ} 0 1 = cc in absurd (omega arith)
-
-  pub typed-refused : (i l : ℕ) (v : typed.Verdict) → v ≡ NotTyped i l → v ≡ typings.verdict-of (bodies p)
-      → (Refused i l ≡ checked-case (after-headings p))
-      × ((q : Program) → after-headings p ≡ accept q → LooksUpProgram C q)
-  unfolding after-headings bind-checked
-  typed-refused i l v e b = go (bodies p) (sym e ∙ b)
-    where
-      go : (c : Pass) → NotTyped i l ≡ typings.verdict-of c
-          → (Refused i l ≡ checked-case (bind-checked c λ _. accept p))
-          × ((q : Program) → bind-checked c (λ _. accept p) ≡ accept q → LooksUpProgram C q)
-      go (accept u) f = let z : _≡_ {A = ℕ} 0 1 = cc in absurd (omega arith)
-      go (refuse n m) f = let a : i ≡ n = cc in let b : l ≡ m = cc in
-          (rw (a, b), λ q g. absurd (accept≢refuse n m g))
-
--- ---- headings
-
-heads-passed : (c : Pass) → Passed ≡ heads.headed c → c ≡ passed
-heads-passed (accept u) e = refl
-heads-passed (refuse n l) e = let z : _≡_ {A = ℕ} 0 1 = cc in absurd (omega arith)
-
-heads-refused : (c : Pass) (n l : ℕ) → NotPassed n l ≡ heads.headed c → c ≡ refuse n l
-heads-refused (accept u) n l e = let z : _≡_ {A = ℕ} 0 1 = cc in absurd (omega arith)
-heads-refused (refuse i m) n l e = let a : n ≡ i = cc in let b : l ≡ m = cc in rw (a, b)
-
-abbrev pub ready : {R E T A C : List ℕ} {n : ℕ} → FormPassed R E T A C n → HeadingsReady R E T A
-ready w = record {
-  program = w .program;
-  standing = w .here;
-  long = omega (arith, w .counted, w .long);
-  long-above = omega (arith, w .long-above, w .here .in-form .few);
-}
-
-module _ {R E T A C : List ℕ} {n : ℕ} (w : FormPassed R E T A C n) where
-  pub headings-accepted : (h : answered.Headed) → h ≡ Passed
-      → h ≡ heads.headed (headings of-check (w .program .classes))
-      → headings of-check (w .program .classes) ≡ passed
-  headings-accepted h e f = heads-passed (headings of-check (w .program .classes)) (sym e ∙ f)
-
-  abbrev pub headings-passed : (T′ A′ : List ℕ) (h : answered.Headed) → h ≡ Passed
-      → (h ≡ heads.headed (headings of-check (w .program .classes)))
-      × (h ≡ Passed → ClassTables (w .program .classes) T′ A′)
-      → HeadingsPassed R E T′ A′ C n
-  headings-passed T′ A′ h e f = record {
-    program = w .program;
-    here = w .here;
-    counted = w .counted;
-    nodes = w .nodes;
-    heads = headings-accepted h e (f .0);
-    tables = f .1 e;
-  }
-
-  -- Bodies were checked after headings were accepted.
-  pub formed-typed : (T′ A′ C′ : List ℕ) (h : answered.Headed) → h ≡ Passed
-      → (h ≡ heads.headed (headings of-check (w .program .classes)))
-      × (h ≡ Passed → ClassTables (w .program .classes) T′ A′)
-      → {X : Type 0} (r : X) (case : results.Checked Program → X)
-      → (r ≡ case (after-headings (w .program)))
-      × ((q : Program) → after-headings (w .program) ≡ accept q → LooksUpProgram C′ q)
-      → (r ≡ case (after-form (w .program)))
-      × ((q : Program) → after-form (w .program) ≡ accept q → Held R E T′ A′ C′ q)
-  unfolding after-form bind-checked
-  formed-typed T′ A′ C′ h e f r case b =
-      let s : after-form (w .program) ≡ after-headings (w .program) = skip (headings-accepted h e (f .0)) in (
-        b .0 ∙ ap case (sym s),
-        λ q g. let a : after-headings (w .program) ≡ accept q = sym s ∙ g in
-            let i : w .program ≡ q = accepted-is a in
-            record {
-              here = subst (ProgramAt R E) i (w .here);
-              tables = subst (λ (x : Program). ClassTables (x .classes) T′ A′) i (f .1 e);
-              looks = b .1 q a;
-            },
-      )
-    where
-      skip : headings of-check (w .program .classes) ≡ passed
-          → after-form (w .program) ≡ after-headings (w .program)
-      skip e = rw e
-
-  pub formed-refused : (T′ A′ C′ : List ℕ) (i l : ℕ) (h : answered.Headed) → h ≡ NotPassed i l
-      → h ≡ heads.headed (headings of-check (w .program .classes))
-      → (Refused i l ≡ checked-case (after-form (w .program)))
-      × ((q : Program) → after-form (w .program) ≡ accept q → Held R E T′ A′ C′ q)
-  unfolding after-form bind-checked
-  formed-refused T′ A′ C′ i l h e f =
-      let s = heads-refused (headings of-check (w .program .classes)) i l (sym e ∙ f) in
-      (rw s, λ q g. absurd (accept≢refuse i l (rw s at g)))
-
--- The table of superclasses tells which class of an accepted program stands below which.
-pub tells : {R E T A C : List ℕ} (p : Program) {q : Program} → after-form p ≡ accept q → Held R E T A C q
-    → Subclasses (q .classes) A
-unfolding after-form after-headings
-tells {A = A} p {q = q} e h =
-    bind-checked-inv _ _ e λ u e₁ e. bind-checked-inv _ _ e λ v e₂ e.
-    let i : p ≡ q = accept-injective e in
-    let passes = subst (λ (p : Program). headings of-check (p .classes) ≡ accept u) i e₁ in
-    subclasses (q .classes) (super-lower (q .classes) u passes) (h .tables) (h .here .in-form .few)
+pub checked-refused : (c : results.Checked Program) (n l : ℕ) → Refused n l ≡ checked-case c → c ≡ refuse n l
+checked-refused (accept p) n l e = let z : _≡_ {A = ℕ} 0 1 = cc in absurd (omega arith)
+checked-refused (refuse i m) n l e = let a : n ≡ i = cc in let b : l ≡ m = cc in rw (a, b)
 
 -- ---- form
 
-form-accepted : (c : results.Checked Program) (n : ℕ) → InForm n ≡ formed-of c
-    → (p : Program) × (c ≡ accept p) × (length (p .classes) ≡ n)
-form-accepted (accept p) n e = let a : length (p .classes) ≡ n = cc in (p, refl, a)
-form-accepted (refuse i l) n e = let z : _≡_ {A = ℕ} 0 1 = cc in absurd (omega arith)
+form-accepted : (c : results.Checked Program) (n s : ℕ) → InForm n s ≡ formed-of c
+    → (p : Program) × (c ≡ accept p) × (length (p .classes) ≡ n) × (start-row p ≡ s)
+form-accepted (accept p) n s e =
+    let a : length (p .classes) ≡ n = cc in let b : start-row p ≡ s = cc in (p, refl, a, b)
+form-accepted (refuse i l) n s e = let z : _≡_ {A = ℕ} 0 1 = cc in absurd (omega arith)
 
 form-refused : (c : results.Checked Program) (i l : ℕ) → NotInForm i l ≡ formed-of c → c ≡ refuse i l
 form-refused (accept p) i l e = let z : _≡_ {A = ℕ} 0 1 = cc in absurd (omega arith)
 form-refused (refuse n m) i l e = let a : i ≡ n = cc in let b : l ≡ m = cc in rw (a, b)
 
-module _ {R E C : List ℕ} {n : ℕ} where
-  -- The class tables come after form.
-  abbrev pub with-tables : (T A : List ℕ) → Stands R E C n → (n + 1) * 576 ≤ length T → 65 ≤ length A
-      → FormPassed R E T A C n
-  with-tables T A w t a = record {
-    program = w .program;
-    here = w .here;
-    counted = w .counted;
-    nodes = w .nodes;
-    long = t;
-    long-above = a;
-  }
-
-  -- A table for 64 classes is long enough for any program.
-  pub for-all : (T : List ℕ) → Stands R E C n → 37440 ≤ length T → (n + 1) * 576 ≤ length T
-  for-all T w t = omega (arith, w .counted, w .here .in-form .few, t)
-
 module _ (R : List ℕ) where
   -- A length that is not a multiple of 4.
-  pub uneven : (Q : Program → Type 0) → (length R % 4 ≡ 0 → ⊥)
-      → (Refused 1 0 ≡ checked-case (check R)) × ((p : Program) → check R ≡ accept p → Q p)
+  pub uneven : (length R % 4 ≡ 0 → ⊥) → check R ≡ refuse 1 0
   unfolding check whole-rows require
-  uneven Q u = let s = ne-eqb (length R % 4) 0 u in
-      (rw s, λ p g. absurd (accept≢refuse 1 0 (rw s at g)))
+  uneven u = rw (ne-eqb (length R % 4) 0 u)
 
   module _ (whole : length R % 4 ≡ 0) where
     check-is : check R ≡ three-passes R
     unfolding check whole-rows require
     check-is = rw (eq-eqb (length R % 4) 0 whole)
 
-    pub stands : (E E′ C : List ℕ) (n : ℕ) (f : Formed) → f ≡ InForm n
+    pub stands : (E E′ : List ℕ) (n s : ℕ) (f : Formed) → f ≡ InForm n s
         → f ≡ formed-of (form of-check (rows-of R))
         → ((p : Program) → form of-check (rows-of R) ≡ accept p
         → E′ ≡ program-ends p ++ drop (length (program-ends p)) E)
-        → length E ≤ length C → length E′ ≡ length E
-        → (w : Stands R E′ C n) × (form of-check (rows-of R) ≡ accept (w .program))
-    stands E E′ C n f e b ends l k =
-        let x = form-accepted (form of-check (rows-of R)) n (sym e ∙ b) in (
-          record {
-            program = x .0;
-            here = program-at R E′ (x .0) _ (x .1) whole (ends (x .0) (x .1));
-            counted = x .2;
-            nodes = omega (arith, l, k);
-          },
-          x .1,
-        )
+        → Stands R E′ n s
+    stands E E′ n s f e b ends =
+        let x = form-accepted (form of-check (rows-of R)) n s (sym e ∙ b) in
+        record {
+          program = x .0;
+          formed = x .1;
+          here = program-at R E′ (x .0) _ (x .1) whole (ends (x .0) (x .1));
+          counted = x .2;
+          started = x .3;
+        }
 
-    pub form-passed : (E E′ T A C : List ℕ) (n : ℕ) (f : Formed) → f ≡ InForm n
-        → f ≡ formed-of (form of-check (rows-of R))
-        → ((p : Program) → form of-check (rows-of R) ≡ accept p
-        → E′ ≡ program-ends p ++ drop (length (program-ends p)) E)
-        → Lent R E T A C → length E′ ≡ length E
-        → (w : FormPassed R E′ T A C n) × (form of-check (rows-of R) ≡ accept (w .program))
-    form-passed E E′ T A C n f e b ends l k =
-        let x = stands E E′ C n f e b ends (l .nodes) k in
-        (with-tables T A (x .0) (for-all T (x .0) (l .long)) (l .long-above), x .1)
-
-    -- The passes after form were run.
-    after-form-is : (p : Program) → form of-check (rows-of R) ≡ accept p → check R ≡ after-form p
-    unfolding three-passes after-form after-headings bind-checked
-    after-form-is p e = check-is ∙ rw e
-
-    pub checked-after : {X : Type 0} (r : X) (case : results.Checked Program → X) (Q : Program → Type 0)
-        (p : Program)
-        → form of-check (rows-of R) ≡ accept p
-        → (r ≡ case (after-form p)) × ((q : Program) → after-form p ≡ accept q → Q q)
-        → (r ≡ case (check R)) × ((q : Program) → check R ≡ accept q → Q q)
-    checked-after r case Q p e b =
-        let s : check R ≡ after-form p = after-form-is p e in
-        (b .0 ∙ ap case (sym s), λ q g. b .1 q (sym s ∙ g))
-
-    pub check-refused : (Q : Program → Type 0) (i l : ℕ) (f : Formed) → f ≡ NotInForm i l
-        → f ≡ formed-of (form of-check (rows-of R))
-        → (Refused i l ≡ checked-case (check R)) × ((p : Program) → check R ≡ accept p → Q p)
+    pub not-in-form : (i l : ℕ) (f : Formed) → f ≡ NotInForm i l → f ≡ formed-of (form of-check (rows-of R))
+        → check R ≡ refuse i l
     unfolding three-passes bind-checked
-    check-refused Q i l f e b =
-        let s : check R ≡ refuse i l =
-        check-is ∙ rw (form-refused (form of-check (rows-of R)) i l (sym e ∙ b)) in
-        (ap checked-case (sym s), λ p g. absurd (accept≢refuse i l (sym s ∙ g)))
+    not-in-form i l f e b = check-is ∙ rw (form-refused (form of-check (rows-of R)) i l (sym e ∙ b))
 
--- ---- new tables that are lent to the check
+-- ---- room
 
-replicate-same : (n : ℕ) → length (replicate {A = ℕ} n 0) ≤ length (replicate {A = ℕ} n 0)
-replicate-same n = omega arith
+-- Form keeps the length of the table of ends.
+pub room-kept : {R E E′ M F : List ℕ} → Room R E M F → length E′ ≡ length E → Room R E′ M F
+room-kept {R} {E} {E′} r k = record {
+  whole = r .whole;
+  room = go (r .room);
+  methods = r .methods;
+  effects = r .effects;
+}
+  where
+    go : (length R ≤ 4 * length E) ⊎ (of-check .rows ≤ length E)
+        → (length R ≤ 4 * length E′) ⊎ (of-check .rows ≤ length E′)
+    go (inl a) = inl (omega (arith, a, k))
+    go (inr a) = inr (omega (arith, a, k))
 
-module _ (R : List ℕ) where
-  pub lent-few : length R ≤ 4096
-      → Lent R (replicate 1024 0) (replicate 37440 0) (replicate 65 0) (replicate 1024 0)
-  lent-few l = record {
-    room = inl (omega (arith, l, replicate-long 1024));
-    nodes = replicate-same 1024;
-    long = replicate-long 37440;
-    long-above = replicate-long 65;
+-- New tables are long enough.
+module _ (R : List ℕ) (whole : length R % 4 ≡ 0) where
+  new-room : (rows methods : ℕ) → (length R ≤ 4 * rows) ⊎ (60000 ≤ rows)
+      → (length R ≤ 12 * methods) ⊎ (20000 ≤ methods)
+      → Room R (replicate rows 0) (replicate (methods * 4) 0) (replicate methods 0)
+  new-room rows methods a b =
+      let e = length-replicate {A = ℕ} rows 0 in
+      let m = length-replicate {A = ℕ} (methods * 4) 0 in
+      let f = length-replicate {A = ℕ} methods 0 in
+      record {
+        whole = whole;
+        room = rw e a;
+        methods = omega (arith, m, f);
+        effects = rw f b;
+      }
+
+  pub room-short : length R ≤ 128 → Room R (replicate 32 0) (replicate 44 0) (replicate 11 0)
+  room-short l = new-room 32 11 (inl (omega (arith, l))) (inl (omega (arith, l)))
+
+  pub room-few : length R ≤ 4096 → Room R (replicate 1024 0) (replicate 1368 0) (replicate 342 0)
+  room-few l = new-room 1024 342 (inl (omega (arith, l))) (inl (omega (arith, l)))
+
+  pub room-many : Room R (replicate 60000 0) (replicate 80000 0) (replicate 20000 0)
+  room-many = new-room 60000 20000 (inr (omega arith)) (inr (omega arith))
+
+module _ (A : List ℕ) {classes : ℕ} where
+  pub few-classes : classes ≤ 7 → classes + 1 ≤ length A → ClassRoom (replicate 4608 0) A classes
+  few-classes l a = record { blocks = omega (arith, l, length-replicate {A = ℕ} 4608 0); entries = a }
+
+  -- A table for 64 classes is long enough for any program.
+  pub all-classes : {R E : List ℕ} {start : ℕ} → Stands R E classes start → 65 ≤ length A
+      → ClassRoom (replicate 37440 0) A classes
+  all-classes s a = record {
+    blocks = omega (arith, s .counted, s .here .in-form .few, length-replicate {A = ℕ} 37440 0);
+    entries = omega (arith, s .counted, s .here .in-form .few, a);
   }
 
-  pub lent-many : Lent R (replicate 60000 0) (replicate 37440 0) (replicate 65 0) (replicate 60000 0)
-  lent-many = record {
-    room = inr (replicate-long 60000);
-    nodes = replicate-same 60000;
-    long = replicate-long 37440;
-    long-above = replicate-long 65;
+-- ---- headings
+
+abbrev pub ready : {R E T A M F : List ℕ} {n start : ℕ} → Stands R E n start → Room R E M F
+    → ClassRoom T A n → HeadingsReady R E T A M F
+ready s r c = record {
+  program = s .program;
+  standing = s .here;
+  long = omega (arith, s .counted, c .blocks);
+  long-above = omega (arith, s .counted, c .entries);
+  long-methods = r .methods;
+  long-effects = r .effects;
+}
+
+module _ {R E : List ℕ} {n start : ℕ} (s : Stands R E n start) where
+  abbrev P : results.Pass
+  P = headings of-check (s .program .classes)
+
+  abbrev count : ℕ
+  count = length (placed-methods (s .program .classes))
+
+  pub headings-passed : {T A M F : List ℕ} {many : ℕ} (h : answered.Headed) → length R % 4 ≡ 0
+      → h ≡ Passed many
+      → (h ≡ heads.headed count P)
+      × ((m : ℕ) → h ≡ Passed m
+      → ClassTables (s .program .classes) T A × MethodTables (s .program .classes) M F)
+      → HeadingsPassed R E T A M F n many start
+  headings-passed {many = many} h whole e f =
+      let t = f .1 many e in
+      record {
+        whole = whole;
+        stands = s;
+        headed = record {
+          here = s .here;
+          passes = is-passed count P many (sym e ∙ f .0);
+          classes = t .0;
+          methods = t .1;
+        };
+        numbered = passed-count count P many (sym e ∙ f .0);
+      }
+
+  -- What the check comes to after form.
+  after-form : length R % 4 ≡ 0
+      → check R ≡ bind-checked P λ _. bind-checked (bodies (s .program)) λ _. accept (s .program)
+  unfolding three-passes bind-checked
+  after-form whole = check-is R whole ∙ rw (s .formed)
+
+  pub headings-refused : {T A M F C : List ℕ} {i l : ℕ} (h : answered.Headed) → length R % 4 ≡ 0
+      → h ≡ NotPassed i l → h ≡ heads.headed count P → Checks R E T A M F C (Refused i l)
+  unfolding bind-checked
+  headings-refused {i = i} {l = l} h whole e f =
+      refuses R i l (after-form whole ∙ rw (is-refused count P i l (sym e ∙ f)))
+
+-- ---- bodies
+
+module _ {R E T A M F : List ℕ} {n many start : ℕ} (w : HeadingsPassed R E T A M F n many start)
+    (S : List ℕ) (width depth : ℕ) (wide : (256 ≤ width) ⊎ (length R ≤ 4 * width))
+    (deep : (128 ≤ depth) ⊎ (length R ≤ 4 * depth)) (room : width * (depth + 1) ≤ length S) where
+  abbrev p : Program
+  p = w .stands .program
+
+  pub bodies-stand : Ready R E T A M F S n many start width p
+  bodies-stand = record {
+    layout = w .stands .here;
+    headed = subst (Headed (p .classes) R E T A M F) (w .stands .counted) (headed (w .headed));
+    counted = w .numbered;
+    started = sym (w .stands .started);
+    depth = depth;
+    within = within-limits (w .stands .here) width depth wide deep;
+    slots = room;
   }
+
+  -- What the body pass is called on.
+  abbrev pub bodies-ready : BodiesReady R E T A M F S n many start width
+  bodies-ready = record { p = p; ready = bodies-stand }
+
+  after-headings : check R ≡ bind-checked (bodies p) λ _. accept p
+  unfolding bind-checked
+  after-headings = after-form (w .stands) (w .whole) ∙ rw (w .headed .passes)
+
+  -- What it answers is what the check does.
+  pub bodies-checked : {C C′ : List ℕ} {v : typed.Verdict} {r : Checked}
+      → BodiesDone R E T A M F S C C′ n many start width v → r ≡ typed-case n v → Checks R E T A M F C′ r
+  unfolding bind-checked
+  bodies-checked {C′ = C′} {v} {r} d e = let b = d .are p bodies-stand in go (bodies p) refl b
+    where
+      go : (x : Pass) → bodies p ≡ x → BodiesAre p C′ v → Checks R E T A M F C′ r
+      go (accept u) q b =
+          let a : check R ≡ accept p = after-headings ∙ rw q in
+          let k : r ≡ Accepted n = e ∙ ap (typed-case n) (b .out ∙ ap typings.verdict-of q) in
+          record {
+            answer = k ∙ ap Accepted (sym (w .stands .counted)) ∙ ap checked-case (sym a);
+            holds = λ z g. subst (Held R E T A M F C′) (accept-injective (sym a ∙ g))
+                (record { headed = w .headed; typed = q; looks = b .looks q });
+          }
+      go (refuse i l) q b =
+          let k : r ≡ Refused i l = e ∙ ap (typed-case n) (b .out ∙ ap typings.verdict-of q) in
+          rw k (refuses R i l (after-headings ∙ rw q))
 
 -- ---- the verdict
 
@@ -314,19 +277,3 @@ verdict-is R = go (check R)
     go : (c : results.Checked Program) → verdict-of-checked (checked-case c) ≡ verdict-case (verdict-of c)
     go (accept p) = refl
     go (refuse n l) = refl
-
--- Of an accepted program headings and bodies pass.
-pub check-passes : (R : List ℕ) (p : Program) → check R ≡ accept p
-    → (headings of-check (p .classes) ≡ passed) × (bodies p ≡ passed)
-unfolding check whole-rows three-passes
-check-passes R p e =
-    require-inv _ _ _ _ e λ _ e. bind-checked-inv _ _ e λ q e₁ e.
-    bind-checked-inv _ _ e λ u e₂ e. bind-checked-inv _ _ e λ v e₃ e.
-    let i : q ≡ p = accept-injective e in
-    subst (λ (p : Program). (headings of-check (p .classes) ≡ passed) × (bodies p ≡ passed)) i (e₂, e₃)
-
--- Where the check answers accepted, there is the program.
-pub checked-accepted : (c : results.Checked Program) (n : ℕ) → Accepted n ≡ checked-case c
-    → (p : Program) × (c ≡ accept p) × (length (p .classes) ≡ n)
-checked-accepted (accept p) n e = let a : length (p .classes) ≡ n = cc in (p, refl, a)
-checked-accepted (refuse i l) n e = let z : _≡_ {A = ℕ} 0 1 = cc in absurd (omega arith)

@@ -1,64 +1,59 @@
--- What each part of the check is called on, and what the tables hold after it.
+-- What each part of the check is called on, and what it leaves: rows R, ends E, class tables T A, method tables M F,
+-- lookup classes C.
 use mathlib.Core.Path.{_≡_}
 use mathlib.Core.Logic.{_⊎_}
 use mathlib.Core.List.{List}
 use Prim.Native.Nat.{ℕ, _+_, _*_, _%_, _≤_}
 use lib.ListN.{length}
 use Rattle.language.specs.Limits.{of-check}
-use Rattle.language.specs.Results.{Checked, accept, passed, bind-checked}
+use Rattle.language.specs.Results.{accept}
+use Rattle.language.specs.Rows.{rows-of}
 use Rattle.language.specs.Tree.{Program}
-use Rattle.language.specs.Headings.{headings}
-use Rattle.language.specs.Typing.{bodies}
-use Rattle.language.specs.ClassTables.{ClassTables, class-width}
-use Rattle.language.specs.Layout.{ProgramAt, LooksUpProgram}
+use Rattle.language.specs.Form.{form}
+use Rattle.language.specs.Verdict.{check}
+use Rattle.language.specs.ClassTables.{class-width}
+use Rattle.language.specs.MethodTables.{placed-methods, method-width}
+use Rattle.language.specs.Layout.{ProgramAt, start-row}
+use Rattle.layout.specs.Held.{Headed, Held}
+use Rattle.classes.specs.Subclasses.{Subclasses}
+use Rattle.headings.specs.Numbers.{numbers-a-method, most-methods}
+use Rattle.checker.specs.declared.Checked.{Checked}
+use Rattle.checker.specs.Answers.{checked-case}
 
--- The passes that follow form, and headings.
-unfoldable pub after-headings : Program → Checked Program
-after-headings p = bind-checked (bodies p) λ _. accept p
-
-unfoldable pub after-form : Program → Checked Program
-after-form p = bind-checked (headings of-check (p .classes)) λ _. after-headings p
-
--- Tables that are long enough for the numbers R: an entry for each row that may be accepted, 64 classes and Object.
-pub record Lent (R E T A C : List ℕ) : Type 0 where
-  pub room : (length R ≤ 4 * length E) ⊎ (of-check .rows ≤ length E)
-  pub nodes : length E ≤ length C
-  pub long : (of-check .classes + 1) * class-width ≤ length T
-  pub long-above : of-check .classes + 1 ≤ length A
-
--- Whole rows, and tables of ends and of lookup classes with an entry for each row that may be accepted.
-pub record Room (R E C : List ℕ) : Type 0 where
+-- Whole rows, and tables that are long enough for them: an end for each row that may be accepted, an entry
+-- for each method.
+pub record Room (R E M F : List ℕ) : Type 0 where
   pub whole : length R % 4 ≡ 0
   pub room : (length R ≤ 4 * length E) ⊎ (of-check .rows ≤ length E)
-  pub nodes : length E ≤ length C
+  pub methods : length F * method-width ≤ length M
+  pub effects : (length R ≤ numbers-a-method * length F) ⊎ (most-methods ≤ length F)
 
--- After form: a program of so many classes stands in the rows.
-pub record Stands (R E C : List ℕ) (classes : ℕ) : Type 0 where
+-- Class tables with a block and an entry for each of so many classes and for Object.
+pub record ClassRoom (T A : List ℕ) (classes : ℕ) : Type 0 where
+  pub blocks : (classes + 1) * class-width ≤ length T
+  pub entries : classes + 1 ≤ length A
+
+-- After form: the program that stands in the rows has so many classes, and its S line is row `start`.
+pub record Stands (R E : List ℕ) (classes start : ℕ) : Type 0 where
   pub program : Program
+  pub formed : form of-check (rows-of R) ≡ accept program
   pub here : ProgramAt R E program
   pub counted : length (program .classes) ≡ classes
-  pub nodes : length E ≤ length C
+  pub started : start-row program ≡ start
 
--- After form, with class tables: a block of 576 entries for each class and for Object.
-pub record FormPassed (R E T A C : List ℕ) (classes : ℕ) : Type 0 where
-  pub program : Program
-  pub here : ProgramAt R E program
-  pub counted : length (program .classes) ≡ classes
-  pub nodes : length E ≤ length C
-  pub long : (classes + 1) * class-width ≤ length T
-  pub long-above : of-check .classes + 1 ≤ length A
+-- After headings: besides, the tables hold its classes and its methods, of which there are so many.
+pub record HeadingsPassed (R E T A M F : List ℕ) (classes many start : ℕ) : Type 0 where
+  pub whole : length R % 4 ≡ 0
+  pub stands : Stands R E classes start
+  pub headed : Headed R E T A M F (stands .program)
+  pub numbered : many ≡ length (placed-methods (stands .program .classes))
 
--- After headings.
-pub record HeadingsPassed (R E T A C : List ℕ) (classes : ℕ) : Type 0 where
-  pub program : Program
-  pub here : ProgramAt R E program
-  pub counted : length (program .classes) ≡ classes
-  pub nodes : length E ≤ length C
-  pub heads : headings of-check (program .classes) ≡ passed
-  pub tables : ClassTables (program .classes) T A
+-- The answer is that of the check; rows and tables hold the program that it accepts.
+pub record Checks (R E T A M F C : List ℕ) (r : Checked) : Type 0 where
+  pub answer : r ≡ checked-case (check R)
+  pub holds : (p : Program) → check R ≡ accept p → Held R E T A M F C p
 
--- What the tables hold of an accepted program: where its parts stand, its classes, its lookup classes.
-pub record Held (R E T A C : List ℕ) (p : Program) : Type 0 where
-  pub here : ProgramAt R E p
-  pub tables : ClassTables (p .classes) T A
-  pub looks : LooksUpProgram C p
+-- The same where the table of superclasses alone is kept: it tells which class stands below which.
+pub record ChecksAbove (R A : List ℕ) (r : Checked) : Type 0 where
+  pub answer : r ≡ checked-case (check R)
+  pub tells : (p : Program) → check R ≡ accept p → Subclasses (p .classes) A

@@ -2,35 +2,56 @@
 use language::ALL_CLASSES;
 use language::CLASS_WIDTH;
 use language::LINE_REFUSAL;
+use language::METHOD_WIDTH;
 use language::MOST_ROWS;
 use language::TABLE_LENGTH;
 ghost use mathlib.Core.Path.{_≡_};
 ghost use Prim.Native.Nat.{_+_, _%_, _≤_};
 ghost use lib.ListN.{length};
-ghost use Rattle.language.specs.Results.{accept};
-ghost use Rattle.language.specs.Tree.{Program};
-ghost use Rattle.language.specs.Layout.{LooksUpProgram};
-ghost use Rattle.language.specs.Verdict.{check, verdict};
-ghost use Rattle.classes.specs.Subclasses.{Subclasses};
-ghost use Rattle.checker.specs.Answers.{checked-case, verdict-case, verdict-of-checked};
-ghost use Rattle.checker.specs.Passes.{after-headings, after-form, Lent, Room, Stands, FormPassed};
-ghost use Rattle.checker.specs.Passes.{HeadingsPassed, Held};
 ghost use Rattle.language.specs.Limits.{of-check};
+ghost use Rattle.language.specs.Verdict.{verdict};
+ghost use Rattle.checker.specs.Answers.{typed-case, verdict-case, verdict-of-checked};
+ghost use Rattle.checker.specs.Passes.{Room, Stands, ClassRoom, HeadingsPassed, Checks, ChecksAbove};
 
-// Rows as lengths of tables: all that there may be, and few, with their numbers.
-pub const ALL_ROWS: usize = MOST_ROWS as usize;
+// Tables come in three lengths, by the number of rows: for at most 32, for at most 1,024, and for all that there may be.
+pub const SHORT_ROWS: usize = 32;
 
 pub const FEW_ROWS: usize = 1024;
 
-pub const FEW_NUMBERS: usize = 4096;
+pub const ALL_ROWS: usize = MOST_ROWS as usize;
 
-// Few classes, and how many numbers their table has, Object's included.
-const FEW_CLASSES: u32 = 7;
+// How many numbers so many rows have.
+pub const SHORT_NUMBERS: usize = 4 * SHORT_ROWS;
 
-const FEW_TABLE: usize = 8 * CLASS_WIDTH;
+pub const FEW_NUMBERS: usize = 4 * FEW_ROWS;
 
-// How many slots typing takes: 256 for each of 128 nested nodes, and those in scope.
-const SLOTS: usize = 33024;
+// How many methods so many rows may have, a third as many, and how many numbers their table has.
+pub const SHORT_METHODS: usize = 11;
+
+pub const FEW_METHODS: usize = 342;
+
+pub const ALL_METHODS: usize = 20000;
+
+pub const SHORT_METHOD_TABLE: usize = SHORT_METHODS * METHOD_WIDTH;
+
+pub const FEW_METHOD_TABLE: usize = FEW_METHODS * METHOD_WIDTH;
+
+pub const ALL_METHOD_TABLE: usize = ALL_METHODS * METHOD_WIDTH;
+
+// Few classes, and how many entries and how many numbers their tables have, Object's included.
+pub const FEW_CLASSES: u32 = 7;
+
+pub const FEW_ENTRIES: usize = FEW_CLASSES as usize + 1;
+
+pub const FEW_TABLE: usize = FEW_ENTRIES * CLASS_WIDTH;
+
+// How many slots may be in scope, and how many slots typing takes: as many for each level of nesting, of which there are at
+// most 128, and as many again. Of at most 32 rows no more slots are in scope, and no more nodes nested.
+const WIDTH: usize = 256;
+
+const SLOTS: usize = WIDTH * 129;
+
+const SHORT_SLOTS: usize = SHORT_ROWS * 33;
 
 // Accepted, with so many classes; or a refusal's number and line.
 pub enum Checked {
@@ -54,158 +75,328 @@ fn verdict_of(checked: Checked) -> Verdict
     }
 }
 
-// After headings: types the bodies.
-fn type_bodies(
-    rows: &[u32],
-    ends: &[u16],
-    tables: &[u16],
-    above: &[u64],
-    lookups: &mut [u16],
-    classes: u32,
-) -> Checked
-    requires { ⌜ HeadingsPassed (now rows) (now ends) (now tables) (now above) (now lookups) classes ⌝ }
-    ensures { λ r. ⌜ ((w : HeadingsPassed (now (rows .entry)) (now (ends .entry)) (now (tables .entry))
-        (now (above .entry)) (now (lookups .entry)) classes)
-        → (r ≡ checked-case (after-headings (w .program)))
-        × ((p : Program) → after-headings (w .program) ≡ accept p → LooksUpProgram (now (lookups .exit)) p))
-        ⌝ }
+// The answer of the body pass, with the number of classes.
+fn answer_of(typed: bodies::Verdict, classes: u32) -> Checked
+    ensures { λ r. ⌜ r ≡ typed-case classes typed ⌝ }
 {
-    let mut slots = [0u32; SLOTS];
-    let v = bodies::check_bodies(rows, ends, tables, above, &mut slots, lookups, classes);
-    match v {
+    match typed {
         bodies::Verdict::Accepted => Checked::Accepted(classes),
         bodies::Verdict::Refused(number, line) => Checked::Refused(number, line),
     }
 }
 
-// After form: checks headings, then bodies.
-fn check_formed(
+// Types the bodies of at most 32 rows.
+fn type_short(
+    rows: &[u32],
+    ends: &[u16],
+    tables: &[u16],
+    above: &[u64],
+    methods: &[u16],
+    effects: &[u64],
+    lookups: &mut [u16],
+    classes: u32,
+    many: usize,
+    start: usize,
+) -> Checked
+    requires { ⌜ HeadingsPassed (now rows) (now ends) (now tables) (now above) (now methods) (now effects)
+        classes many start ⌝ }
+    requires { ⌜ length (now rows) ≤ 128 ⌝ }
+    ensures { λ r. ⌜ Checks (now (rows .entry)) (now (ends .entry)) (now (tables .entry)) (now (above .entry))
+        (now (methods .entry)) (now (effects .entry)) (now (lookups .exit)) r ⌝ }
+{
+    let mut slots = [0u32; SHORT_SLOTS];
+    let typed = bodies::check_bodies(
+        rows,
+        ends,
+        tables,
+        above,
+        methods,
+        effects,
+        &mut slots,
+        lookups,
+        classes,
+        many,
+        start,
+        SHORT_ROWS,
+    );
+    answer_of(typed, classes)
+}
+
+// Types the bodies of any number of rows.
+fn type_long(
+    rows: &[u32],
+    ends: &[u16],
+    tables: &[u16],
+    above: &[u64],
+    methods: &[u16],
+    effects: &[u64],
+    lookups: &mut [u16],
+    classes: u32,
+    many: usize,
+    start: usize,
+) -> Checked
+    requires { ⌜ HeadingsPassed (now rows) (now ends) (now tables) (now above) (now methods) (now effects)
+        classes many start ⌝ }
+    ensures { λ r. ⌜ Checks (now (rows .entry)) (now (ends .entry)) (now (tables .entry)) (now (above .entry))
+        (now (methods .entry)) (now (effects .entry)) (now (lookups .exit)) r ⌝ }
+{
+    let mut slots = [0u32; SLOTS];
+    let typed = bodies::check_bodies(
+        rows,
+        ends,
+        tables,
+        above,
+        methods,
+        effects,
+        &mut slots,
+        lookups,
+        classes,
+        many,
+        start,
+        WIDTH,
+    );
+    answer_of(typed, classes)
+}
+
+// After headings: types the bodies. There are `many` methods, and the S line is row `start`.
+fn type_bodies(
+    rows: &[u32],
+    ends: &[u16],
+    tables: &[u16],
+    above: &[u64],
+    methods: &[u16],
+    effects: &[u64],
+    lookups: &mut [u16],
+    classes: u32,
+    many: usize,
+    start: usize,
+) -> Checked
+    requires { ⌜ HeadingsPassed (now rows) (now ends) (now tables) (now above) (now methods) (now effects)
+        classes many start ⌝ }
+    ensures { λ r. ⌜ Checks (now (rows .entry)) (now (ends .entry)) (now (tables .entry)) (now (above .entry))
+        (now (methods .entry)) (now (effects .entry)) (now (lookups .exit)) r ⌝ }
+{
+    if rows.len() <= SHORT_NUMBERS {
+        return type_short(
+            rows,
+            ends,
+            tables,
+            above,
+            methods,
+            effects,
+            lookups,
+            classes,
+            many,
+            start,
+        );
+    }
+    type_long(
+        rows,
+        ends,
+        tables,
+        above,
+        methods,
+        effects,
+        lookups,
+        classes,
+        many,
+        start,
+    )
+}
+
+// After form: checks headings, then bodies, with tables that are lent. Where the rows are accepted, the
+// tables hold what translation and evaluation read; that of lookup classes may be empty, and is filled as far
+// as it goes.
+pub fn check_formed(
     rows: &[u32],
     ends: &[u16],
     tables: &mut [u16],
     above: &mut [u64],
+    methods: &mut [u16],
+    effects: &mut [u64],
     lookups: &mut [u16],
     classes: u32,
+    start: u32,
 ) -> Checked
-    requires { ⌜ FormPassed (now rows) (now ends) (now tables) (now above) (now lookups) classes ⌝ }
-    ensures { λ r. ⌜ ((w : FormPassed (now (rows .entry)) (now (ends .entry)) (now (tables .entry))
-        (now (above .entry)) (now (lookups .entry)) classes)
-        → (r ≡ checked-case (after-form (w .program)))
-        × ((p : Program) → after-form (w .program) ≡ accept p
-        → Held (now (rows .entry)) (now (ends .entry)) (now (tables .exit)) (now (above .exit))
-        (now (lookups .exit)) p)) ⌝ }
+    requires { ⌜ Stands (now rows) (now ends) classes start ⌝ }
+    requires { ⌜ Room (now rows) (now ends) (now methods) (now effects) ⌝ }
+    requires { ⌜ ClassRoom (now tables) (now above) classes ⌝ }
+    ensures { λ r. ⌜ Checks (now (rows .entry)) (now (ends .entry)) (now (tables .exit)) (now (above .exit))
+        (now (methods .exit)) (now (effects .exit)) (now (lookups .exit)) r ⌝ }
 {
-    let h = headings::check_headings(rows, ends, tables, above);
-    match h {
-        headings::Headed::Passed => type_bodies(rows, ends, tables, above, lookups, classes),
+    let headed = headings::check_headings(rows, ends, tables, above, methods, effects);
+    match headed {
+        headings::Headed::Passed(many) => type_bodies(
+            rows,
+            ends,
+            tables,
+            above,
+            methods,
+            effects,
+            lookups,
+            classes,
+            many as usize,
+            start as usize,
+        ),
         headings::Headed::Refused(number, line) => Checked::Refused(number, line),
     }
 }
 
-// Checks rows with tables that are lent. Where the rows are accepted, the tables hold what translation and evaluation read.
-pub fn check_into(
+// After form, with a class table of its own for at most 7 classes. The check reads no lookup classes: their
+// table is empty.
+fn check_few_classes(
+    rows: &[u32],
+    ends: &[u16],
+    above: &mut [u64],
+    methods: &mut [u16],
+    effects: &mut [u64],
+    classes: u32,
+    start: u32,
+) -> Checked
+    requires { ⌜ Stands (now rows) (now ends) classes start ⌝ }
+    requires { ⌜ Room (now rows) (now ends) (now methods) (now effects) ⌝ }
+    requires { ⌜ (of-check .classes + 1 ≤ length (now above)) × (classes ≤ 7) ⌝ }
+    ensures { λ r. ⌜ ChecksAbove (now (rows .entry)) (now (above .exit)) r ⌝ }
+{
+    let mut tables = [0u16; FEW_TABLE];
+    let mut lookups = [0u16; 0];
+    check_formed(
+        rows,
+        ends,
+        &mut tables,
+        above,
+        methods,
+        effects,
+        &mut lookups,
+        classes,
+        start,
+    )
+}
+
+// The same for any number of classes.
+fn check_all_classes(
+    rows: &[u32],
+    ends: &[u16],
+    above: &mut [u64],
+    methods: &mut [u16],
+    effects: &mut [u64],
+    classes: u32,
+    start: u32,
+) -> Checked
+    requires { ⌜ Stands (now rows) (now ends) classes start ⌝ }
+    requires { ⌜ Room (now rows) (now ends) (now methods) (now effects) ⌝ }
+    requires { ⌜ of-check .classes + 1 ≤ length (now above) ⌝ }
+    ensures { λ r. ⌜ ChecksAbove (now (rows .entry)) (now (above .exit)) r ⌝ }
+{
+    let mut tables = [0u16; TABLE_LENGTH];
+    let mut lookups = [0u16; 0];
+    check_formed(
+        rows,
+        ends,
+        &mut tables,
+        above,
+        methods,
+        effects,
+        &mut lookups,
+        classes,
+        start,
+    )
+}
+
+// After form: few classes pay for a short class table alone.
+fn check_classes(
+    rows: &[u32],
+    ends: &[u16],
+    above: &mut [u64],
+    methods: &mut [u16],
+    effects: &mut [u64],
+    classes: u32,
+    start: u32,
+) -> Checked
+    requires { ⌜ Stands (now rows) (now ends) classes start ⌝ }
+    requires { ⌜ Room (now rows) (now ends) (now methods) (now effects) ⌝ }
+    requires { ⌜ of-check .classes + 1 ≤ length (now above) ⌝ }
+    ensures { λ r. ⌜ ChecksAbove (now (rows .entry)) (now (above .exit)) r ⌝ }
+{
+    if classes <= FEW_CLASSES {
+        return check_few_classes(rows, ends, above, methods, effects, classes, start);
+    }
+    check_all_classes(rows, ends, above, methods, effects, classes, start)
+}
+
+// Checks whole rows with lent tables. Form counts the classes before there is a class table.
+fn check_whole(
     rows: &[u32],
     ends: &mut [u16],
-    tables: &mut [u16],
     above: &mut [u64],
-    lookups: &mut [u16],
+    methods: &mut [u16],
+    effects: &mut [u64],
 ) -> Checked
-    requires { ⌜ Lent (now rows) (now ends) (now tables) (now above) (now lookups) ⌝ }
-    ensures { λ r. ⌜ (r ≡ checked-case (check (now (rows .entry))))
-        × ((p : Program) → check (now (rows .entry)) ≡ accept p
-        → Held (now (rows .entry)) (now (ends .exit)) (now (tables .exit)) (now (above .exit))
-        (now (lookups .exit)) p) ⌝ }
+    requires { ⌜ Room (now rows) (now ends) (now methods) (now effects) ⌝ }
+    requires { ⌜ of-check .classes + 1 ≤ length (now above) ⌝ }
+    ensures { λ r. ⌜ ChecksAbove (now (rows .entry)) (now (above .exit)) r ⌝ }
 {
-    if rows.len() % 4 != 0 {
-        return Checked::Refused(LINE_REFUSAL, 0);
-    }
-    let f = form::check_form(rows, ends);
-    match f {
-        form::Formed::InForm(classes) => {
-            check_formed(rows, ends, tables, above, lookups, classes)
+    let formed = form::check_form(rows, ends);
+    match formed {
+        form::Formed::InForm(classes, start) => {
+            check_classes(rows, ends, above, methods, effects, classes, start)
         }
         form::Formed::Refused(number, line) => Checked::Refused(number, line),
     }
 }
 
-// After form, with a class table of its own: at most 7 classes and Object pay for 8 blocks alone.
-fn check_classes(
-    rows: &[u32],
-    ends: &[u16],
-    above: &mut [u64],
-    lookups: &mut [u16],
-    classes: u32,
-) -> Checked
-    requires { ⌜ Stands (now rows) (now ends) (now lookups) classes ⌝ }
+// The check of at most 32 whole rows.
+fn check_short(rows: &[u32], above: &mut [u64]) -> Checked
+    requires { ⌜ (length (now rows) % 4 ≡ 0) × (length (now rows) ≤ 128) ⌝ }
     requires { ⌜ of-check .classes + 1 ≤ length (now above) ⌝ }
-    ensures { λ r. ⌜ ((w : Stands (now (rows .entry)) (now (ends .entry)) (now (lookups .entry)) classes)
-        → (r ≡ checked-case (after-form (w .program)))
-        × ((p : Program) → after-form (w .program) ≡ accept p → Subclasses (p .classes) (now (above .exit))))
-        ⌝ }
+    ensures { λ r. ⌜ ChecksAbove (now (rows .entry)) (now (above .exit)) r ⌝ }
 {
-    if classes <= FEW_CLASSES {
-        let mut tables = [0u16; FEW_TABLE];
-        return check_formed(rows, ends, &mut tables, above, lookups, classes);
-    }
-    let mut tables = [0u16; TABLE_LENGTH];
-    check_formed(rows, ends, &mut tables, above, lookups, classes)
-}
-
-// Checks whole rows with lent tables of ends and lookup classes. Form counts the classes before there is a class table.
-fn check_whole(rows: &[u32], ends: &mut [u16], above: &mut [u64], lookups: &mut [u16]) -> Checked
-    requires { ⌜ Room (now rows) (now ends) (now lookups) ⌝ }
-    requires { ⌜ of-check .classes + 1 ≤ length (now above) ⌝ }
-    ensures { λ r. ⌜ (r ≡ checked-case (check (now (rows .entry))))
-        × ((p : Program) → check (now (rows .entry)) ≡ accept p → Subclasses (p .classes) (now (above .exit)))
-        ⌝ }
-{
-    let f = form::check_form(rows, ends);
-    match f {
-        form::Formed::InForm(classes) => check_classes(rows, ends, above, lookups, classes),
-        form::Formed::Refused(number, line) => Checked::Refused(number, line),
-    }
+    let mut ends = [0u16; SHORT_ROWS];
+    let mut methods = [0u16; SHORT_METHOD_TABLE];
+    let mut effects = [0u64; SHORT_METHODS];
+    check_whole(rows, &mut ends, above, &mut methods, &mut effects)
 }
 
 // The check of at most 1,024 whole rows.
 fn check_few(rows: &[u32], above: &mut [u64]) -> Checked
-    requires { ⌜ (length (now rows) % 4 ≡ 0) × (length (now rows) ≤ 4096) ×
-        (of-check .classes + 1 ≤ length (now above)) ⌝ }
-    ensures { λ r. ⌜ (r ≡ checked-case (check (now (rows .entry))))
-        × ((p : Program) → check (now (rows .entry)) ≡ accept p → Subclasses (p .classes) (now (above .exit)))
-        ⌝ }
+    requires { ⌜ (length (now rows) % 4 ≡ 0) × (length (now rows) ≤ 4096) ⌝ }
+    requires { ⌜ of-check .classes + 1 ≤ length (now above) ⌝ }
+    ensures { λ r. ⌜ ChecksAbove (now (rows .entry)) (now (above .exit)) r ⌝ }
 {
     let mut ends = [0u16; FEW_ROWS];
-    let mut lookups = [0u16; FEW_ROWS];
-    check_whole(rows, &mut ends, above, &mut lookups)
+    let mut methods = [0u16; FEW_METHOD_TABLE];
+    let mut effects = [0u64; FEW_METHODS];
+    check_whole(rows, &mut ends, above, &mut methods, &mut effects)
 }
 
 // The check of any number of whole rows.
 fn check_many(rows: &[u32], above: &mut [u64]) -> Checked
-    requires { ⌜ (length (now rows) % 4 ≡ 0) × (of-check .classes + 1 ≤ length (now above)) ⌝ }
-    ensures { λ r. ⌜ (r ≡ checked-case (check (now (rows .entry))))
-        × ((p : Program) → check (now (rows .entry)) ≡ accept p → Subclasses (p .classes) (now (above .exit)))
-        ⌝ }
+    requires { ⌜ length (now rows) % 4 ≡ 0 ⌝ }
+    requires { ⌜ of-check .classes + 1 ≤ length (now above) ⌝ }
+    ensures { λ r. ⌜ ChecksAbove (now (rows .entry)) (now (above .exit)) r ⌝ }
 {
     let mut ends = [0u16; ALL_ROWS];
-    let mut lookups = [0u16; ALL_ROWS];
-    check_whole(rows, &mut ends, above, &mut lookups)
+    let mut methods = [0u16; ALL_METHOD_TABLE];
+    let mut effects = [0u64; ALL_METHODS];
+    check_whole(rows, &mut ends, above, &mut methods, &mut effects)
 }
 
 // Checks rows with a lent table of superclasses, which tells of an accepted program which class stands below which.
 // Few rows and few classes pay for short tables alone.
 pub fn check_above(rows: &[u32], above: &mut [u64]) -> Checked
     requires { ⌜ of-check .classes + 1 ≤ length (now above) ⌝ }
-    ensures { λ r. ⌜ (r ≡ checked-case (check (now (rows .entry))))
-        × ((p : Program) → check (now (rows .entry)) ≡ accept p → Subclasses (p .classes) (now (above .exit)))
-        ⌝ }
+    ensures { λ r. ⌜ ChecksAbove (now (rows .entry)) (now (above .exit)) r ⌝ }
 {
-    if rows.len() % 4 == 0 {
-        if rows.len() <= FEW_NUMBERS {
-            return check_few(rows, above);
-        }
-        return check_many(rows, above);
+    if rows.len() % 4 != 0 {
+        return Checked::Refused(LINE_REFUSAL, 0);
     }
-    Checked::Refused(LINE_REFUSAL, 0)
+    if rows.len() <= SHORT_NUMBERS {
+        return check_short(rows, above);
+    }
+    if rows.len() <= FEW_NUMBERS {
+        return check_few(rows, above);
+    }
+    check_many(rows, above)
 }
 
 // Checks rows.

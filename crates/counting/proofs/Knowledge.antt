@@ -11,7 +11,7 @@ use Rattle.language.specs.Results as results
 use Rattle.language.specs.Results.{accept, refuse}
 use Rattle.language.specs.Tree.{Class, Program}
 use Rattle.language.specs.World.{World}
-use Rattle.language.specs.Program.{world}
+use Rattle.language.specs.Program.{world, world-with}
 use Rattle.language.specs.Verdict.{check}
 use Rattle.language.proofs.Booleans.{and-inv}
 use Rattle.fleet.specs.Counts.{is-declared, relates}
@@ -52,7 +52,7 @@ module _ {R A : List ℕ} {known : Known} (k : Knows R A known) where
 -- ---- two classes that are related
 
 pub count-is : (P : List Class) → world P .count ≡ length P
-unfolding world
+unfolding world world-with
 count-is P = refl
 
 module _ {A : List ℕ} {n : ℕ} (w : Serves A n) (d e : ℕ) where

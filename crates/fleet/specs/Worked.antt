@@ -18,7 +18,8 @@ use Rattle.language.specs.Tree.{classes-lines, flatten, flatten-methods, flatte
 use Rattle.language.specs.World.{place, field-type}
 use Rattle.language.specs.Effects.{effect-of, member, join, within, effect-of-all, apply-class}
 use Rattle.language.specs.Program.{declared, class-at, kind-at, is-root-class, is-state-type, fields-at}
-use Rattle.language.specs.Program.{method-at, below-at, root-at, nearest-at, is-changeable, world}
+use Rattle.language.specs.Program.{methods-of, number-at, declared-place, method-at, below-at, root-at}
+use Rattle.language.specs.Program.{nearest-at, is-changeable, world-with, effect-in, body-in, world}
 use Rattle.language.specs.Typing.{need-class, all-fit, join-slots, can-change, locals-declared, type-of}
 use Rattle.language.specs.Typing.{type-method, type-methods, type-classes, bodies}
 use Rattle.language.specs.Form.{after, record-on, next, if-letter, locals, several, node-of, node, body}
@@ -112,7 +113,8 @@ unfolding table objects-of typed nth bind-checked need-checked require earlier l
     text-line read-lines count size heading-lines method-lines methods-lines class-lines classes-lines
     flatten flatten-methods flatten-classes flatten-program place field-type effect-of member join within
     effect-of-all apply-class declared class-at kind-at is-root-class is-state-type fields-at method-at
-    below-at root-at nearest-at is-changeable world need-class all-fit join-slots can-change locals-declared
+    below-at root-at nearest-at is-changeable world-with world need-class all-fit join-slots can-change
+    locals-declared
     type-of type-method type-methods type-classes bodies after record-on next if-letter locals several
     node-of node body fields parameters effects method methods classes at-end form same-types lines-within
     check-fields check-parameters check-effects check-methods check-class check-classes headings whole-rows
@@ -164,8 +166,9 @@ unfolding typed nth bind-checked need-checked require earlier letter-among recor
     numbers-of digit-of scan decimal-of field number-of closed numbered text-line read-lines count size
     heading-lines method-lines methods-lines class-lines classes-lines flatten flatten-methods
     flatten-classes flatten-program place field-type effect-of member join within effect-of-all apply-class
-    declared class-at kind-at is-root-class is-state-type fields-at method-at below-at root-at nearest-at
-    is-changeable world need-class all-fit join-slots can-change locals-declared type-of type-method
+    declared class-at kind-at is-root-class is-state-type fields-at methods-of number-at declared-place
+    method-at below-at root-at nearest-at is-changeable world-with effect-in body-in world need-class all-fit
+    join-slots can-change locals-declared type-of type-method
     type-methods type-classes bodies after record-on next if-letter locals several node-of node body fields
     parameters effects method methods classes at-end form same-types lines-within check-fields
     check-parameters check-effects check-methods check-class check-classes headings whole-rows three-passes

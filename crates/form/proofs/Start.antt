@@ -29,11 +29,12 @@ use Rattle.form.proofs.Classes.{Classes, all-classes}
 
 -- ---- the end
 
-module _ (L : Limits) (R : List ℕ) (at classes : ℕ) (p : Program) (n : length (p .classes) ≡ classes) where
+module _ (L : Limits) (R : List ℕ) (at classes start : ℕ) (p : Program) (n : length (p .classes) ≡ classes)
+    (s : classes-lines (p .classes) ≡ start) where
   pub finished : length R ≤ at * 4
-      → InForm classes ≡ formed-of (at-end (most-of L) (at + 1) (rows-from R at) p)
+      → InForm classes start ≡ formed-of (at-end (most-of L) (at + 1) (rows-from R at) p)
   unfolding at-end
-  finished h = rw (rows-end R at h, n)
+  finished h = rw (rows-end R at h, n, s)
 
   module _ (h : at * 4 + 4 ≤ length R) where
     more : at-end (most-of L) (at + 1) (rows-from R at) p
@@ -103,20 +104,20 @@ module _ (L : Limits) (R : List ℕ) (at : ℕ) (cs : List Class) {E E₁ : List
             ∙ rw (told-failed (body (most-of L) 1 (at + 1 + 1) (rows-from R (at + 1))) t e))
 
         pub start-end : {q classes : ℕ} {r : Formed} → s ≡ step.End q → E₀ ≡ set E at (at + 1)
-            → (q ≤ L .rows → q * 4 ≤ length R → q ≤ length E) → length cs ≡ classes
-            → ((p : Program) → length (p .classes) ≡ classes
+            → (q ≤ L .rows → q * 4 ≤ length R → q ≤ length E) → length cs ≡ classes → classes-lines cs ≡ at
+            → ((p : Program) → length (p .classes) ≡ classes → classes-lines (p .classes) ≡ at
             → r ≡ formed-of (at-end (most-of L) (q + 1) (rows-from R q) p))
             → (r ≡ formed-of (start-read L cs (at + 1) (rows-from R at)))
             × Started cs E at (start-read L cs (at + 1) (rows-from R at)) E₁
         unfolding after
-        start-end {q} {classes} {r} e w h c f =
+        start-end {q} {classes} {r} e w h c d f =
             told-end (body (most-of L) 1 (at + 1 + 1) (rows-from R (at + 1))) t e λ b y p v o u.
             let p₀ : Program = record { classes = cs; start = b } in
             let j : at + 1 + 1 + size b ≡ q + 1 = omega (arith, p) in
             let same : start-read L cs (at + 1) (rows-from R at)
             ≡ at-end (most-of L) (q + 1) (rows-from R q) p₀ = start-here L R at cs x z ∙ rw (y, j) in
             let table : E₁ ≡ sets E at ((at + 1) ∷ ends-of (at + 1) b) = u ∙ rw (w, add-one at) in (
-              rw same (f p₀ c),
+              rw same (f p₀ c d),
               rw same (started L (q + 1) (rows-from R q) p₀ refl table
                   (omega (arith, p, h v o))),
             )
@@ -152,7 +153,7 @@ module _ (L : Limits) (R E₀ : List ℕ) where
         )
 
     pub form-done : {E′ : List ℕ} {r : Formed} → length E ≡ length E₀
-        → ((cs : List Class) → length cs ≡ n
+        → ((cs : List Class) → length cs ≡ n → classes-lines cs ≡ i
         → (r ≡ formed-of (start-read L cs (i + 1) (rows-from R i)))
         × Started cs E i (start-read L cs (i + 1) (rows-from R i)) E′)
         → (r ≡ formed-of (form (most-of L) (rows-of R)))
@@ -160,7 +161,7 @@ module _ (L : Limits) (R E₀ : List ℕ) where
         → E′ ≡ program-ends p ++ drop (length (program-ends p)) E₀)
     unfolding Starts program-ends
     form-done {E′} {r} g f =
-        let s = f (c .list) (c .many) in
+        let s = f (c .list) (c .many) (sym (c .rows)) in
         (rw form-is (s .0), λ p e. filled p (rw (sym form-is ∙ e) at (s .1 .it)))
       where
         written : (p : Program) → p .classes ≡ c .list

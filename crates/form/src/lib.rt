@@ -36,7 +36,7 @@ ghost use lib.Seq.{sets};
 ghost use Rattle.language.specs.Limits.{of-check, of-translator, largest};
 ghost use Rattle.language.specs.Results.{accept};
 ghost use Rattle.language.specs.Rows.{Record, rows-of};
-ghost use Rattle.language.specs.Tree.{DeclaredType, Expr, Exprs, Class, Program};
+ghost use Rattle.language.specs.Tree.{DeclaredType, Expr, Exprs, Class, classes-lines, Program};
 ghost use Rattle.language.specs.Form.{locals, several, node, body, method, methods, at-end, form};
 ghost use Rattle.language.specs.Tables.{next-rows, program-ends};
 ghost use Rattle.form.specs.Columns.{most-of, Fits};
@@ -69,9 +69,9 @@ pub enum Parts {
     NoNode,
 }
 
-// In form, with so many classes; or a refusal's number and line.
+// In form, with how many classes and the row of the S line; or a refusal's number and line.
 pub enum Formed {
-    InForm(u32),
+    InForm(u32, u32),
     Refused(u32, u32),
 }
 
@@ -387,13 +387,13 @@ fn pass_class(rows: &[u32], ends: &mut [u16], at: usize, limits: Limits) -> Step
 }
 
 // Nothing may follow the start block.
-fn finish(rows: &[u32], at: usize, classes: u32, limits: Limits) -> Formed
+fn finish(rows: &[u32], at: usize, classes: u32, start: u32, limits: Limits) -> Formed
     requires { ⌜ (length (now rows) % 4 ≡ 0) × (at ≤ limits .rows) × Fits limits ⌝ }
-    ensures { λ r. ⌜ ((p : Program) → length (p .classes) ≡ classes → r ≡ formed-of
-        (at-end (most-of limits) (at + 1) (rows-from (now (rows .entry)) at) p)) ⌝ }
+    ensures { λ r. ⌜ ((p : Program) → length (p .classes) ≡ classes → classes-lines (p .classes) ≡ start
+        → r ≡ formed-of (at-end (most-of limits) (at + 1) (rows-from (now (rows .entry)) at) p)) ⌝ }
 {
     if rows.len() <= at * 4 {
-        return Formed::InForm(classes);
+        return Formed::InForm(classes, start);
     }
     let refusal = refuse_row(rows, at, limits);
     if refusal != 0 {
@@ -405,7 +405,7 @@ fn finish(rows: &[u32], at: usize, classes: u32, limits: Limits) -> Formed
 // After the classes: the S line, the start block, the end.
 fn pass_start(rows: &[u32], ends: &mut [u16], at: usize, classes: u32, limits: Limits) -> Formed
     requires { ⌜ Ready limits (now rows) (now ends) at ⌝ }
-    ensures { λ r. ⌜ ((cs : List Class) → length cs ≡ classes →
+    ensures { λ r. ⌜ ((cs : List Class) → length cs ≡ classes → classes-lines cs ≡ at →
         (r ≡ formed-of (start-read limits cs (at + 1) (rows-from (now (rows .entry)) at)))
         × Started cs (now (ends .entry)) at (start-read limits cs (at + 1) (rows-from (now (rows .entry)) at))
         (now (ends .exit))) ⌝ }
@@ -420,7 +420,7 @@ fn pass_start(rows: &[u32], ends: &mut [u16], at: usize, classes: u32, limits: L
     ends[at] = (at + 1) as u16;
     let r = pass_body(rows, ends, at + 1, 1, limits);
     match r {
-        Step::End(next) => finish(rows, next, classes, limits),
+        Step::End(next) => finish(rows, next, classes, at as u32, limits),
         Step::Refused(number, line) => Formed::Refused(number, line),
     }
 }

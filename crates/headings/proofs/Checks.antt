@@ -139,20 +139,24 @@ unfolding bind-checked
 bind-refused x y n l e = rw e
 
 -- an answer as the code gives it
-pub refused-is : (x : Pass) (n l : ℕ) → x ≡ refuse n l → Refused n l ≡ headed x
-refused-is x n l e = rw e
+pub refused-is : (count : ℕ) (x : Pass) (n l : ℕ) → x ≡ refuse n l → Refused n l ≡ headed count x
+refused-is count x n l e = rw e
 
-pub passed-is : (x : Pass) → x ≡ passed → Passed ≡ headed x
-passed-is x e = rw e
+pub passed-is : (count : ℕ) (x : Pass) → x ≡ passed → Passed count ≡ headed count x
+passed-is count x e = rw e
 
-pub is-passed : (x : Pass) → Passed ≡ headed x → x ≡ passed
-is-passed (accept tt) e = refl
-is-passed (refuse n l) e = let z : _≡_ {A = ℕ} 0 1 = cc in absurd (omega arith)
+pub is-passed : (count : ℕ) (x : Pass) (m : ℕ) → Passed m ≡ headed count x → x ≡ passed
+is-passed count (accept tt) m e = refl
+is-passed count (refuse n l) m e = let z : _≡_ {A = ℕ} 0 1 = cc in absurd (omega arith)
 
-pub is-refused : (x : Pass) (n l : ℕ) → Refused n l ≡ headed x → x ≡ refuse n l
-is-refused (accept a) n l e = let z : _≡_ {A = ℕ} 0 1 = cc in absurd (omega arith)
-is-refused (refuse m k) n l e = let p : n ≡ m = cc in let q : l ≡ k = cc in rw (p, q)
+pub passed-count : (count : ℕ) (x : Pass) (m : ℕ) → Passed m ≡ headed count x → m ≡ count
+passed-count count (accept a) m e = cc
+passed-count count (refuse n l) m e = let z : _≡_ {A = ℕ} 0 1 = cc in absurd (omega arith)
+
+pub is-refused : (count : ℕ) (x : Pass) (n l : ℕ) → Refused n l ≡ headed count x → x ≡ refuse n l
+is-refused count (accept a) n l e = let z : _≡_ {A = ℕ} 0 1 = cc in absurd (omega arith)
+is-refused count (refuse m k) n l e = let p : n ≡ m = cc in let q : l ≡ k = cc in rw (p, q)
 
 -- an answer is not both
-pub not-both : {A : Type 0} {h : Headed} {n l : ℕ} → h ≡ Passed → h ≡ Refused n l → A
+pub not-both : {A : Type 0} {h : Headed} {m n l : ℕ} → h ≡ Passed m → h ≡ Refused n l → A
 not-both p q = let z : _≡_ {A = ℕ} 0 1 = cc in absurd (omega arith)

@@ -1,26 +1,29 @@
 -- Laws of a class's block: how it starts, and that it is filled when the class has passed. Assumes nothing.
 use mathlib.Core.Path.{_≡_, refl, sym, ap, _∙_}
-use mathlib.Core.Bool.{Bool, true, false}
+use mathlib.Core.Bool.{Bool}
 use mathlib.Core.Option.{Option, none, some}
-use mathlib.Core.List.{List, [], _∷_, _++_}
+use mathlib.Core.List.{List, [], _++_}
 use mathlib.Core.Logic.{⊎-elim}
-use Prim.Native.Nat.{ℕ, zero, suc, _+_, _-_, _*_, _≤_, _<_}
+use Prim.Native.Nat.{ℕ, zero, suc, _+_, _*_, _≤_, _<_}
 use native.Mathlib.Omega.{arith}
 use borrow.Author.Tests.{eq-eqb, ne-eqb}
 use lib.Dec.{eqb}
-use lib.ListN.{length, getD, set, take}
+use lib.ListN.{length, getD, set}
 use lib.Seq.{getD-set-same, getD-set-other}
-use Rattle.language.specs.Lists.{nth, given, choice, Never, inj, nth-lt}
-use Rattle.language.specs.Tree.{Field, Declaration, Class, heading-lines, method-lines, methods-lines}
-use Rattle.language.specs.Tree.{class-lines, classes-lines}
-use Rattle.language.specs.World.{place}
+use Rattle.language.specs.Lists.{nth, given, choice, map-option, Never, inj, nth-lt}
+use Rattle.language.specs.Tree.{Field, Declaration, Class}
+use Rattle.language.specs.World.{Method, place}
 use Rattle.language.specs.Effects.{effect-of, join}
-use Rattle.language.specs.Program.{is-state, class-at, fields-at, root-at, world}
-use Rattle.language.specs.ClassTables.{stored-place, rows-from, declared-row, class-row, field-rows-at}
-use Rattle.language.specs.ClassTables.{field-rows, method-row-at, method-row, above-at, above}
+use Rattle.language.specs.Program.{is-state, declared, class-at, method-of, fields-at, method-at, root-at}
+use Rattle.language.specs.Program.{effect-in}
+use Rattle.language.specs.Program.{world, world-with}
+use Rattle.language.specs.ClassTables.{stored-place, rows-from, class-row, field-rows-at}
+use Rattle.language.specs.ClassTables.{field-rows, method-number, above-at, above}
 use Rattle.language.proofs.Lines.{less-or-same}
 use Rattle.headings.specs.Blocks.{Block, Filled, Lookups, Working}
+use Rattle.headings.specs.Numbers.{first-number, own-or, own-number}
 use Rattle.headings.specs.Ready.{Copied, StartReady}
+use Rattle.headings.proofs.Numbers.{first-after, own-numbered, own-numbers}
 use Rattle.headings.proofs.Tables.{kind-numbers, lookups-same, lookups-set}
 
 -- ---- up through the superclasses, which are earlier
@@ -49,7 +52,7 @@ module _ (P : List Class) (top : ℕ)
 
   module _ (k : ℕ) (c : Class) (e : class-at P k ≡ some c) (l : c .super < k) (t : k ≤ top) where
     pub fields-of : world P .fields k ≡ world P .fields (c .super) ++ c .fields
-    unfolding world fields-at
+    unfolding world world-with fields-at
     fields-of = up-one (fields-at P) (λ k. []) (λ k c x. x ++ c .fields) (λ n k. refl) k c e l t
 
     pub field-rows-of : field-rows P k ≡ field-rows P (c .super) ++ rows-from (class-row P k + 1) (c .fields)
@@ -57,16 +60,23 @@ module _ (P : List Class) (top : ℕ)
     field-rows-of = up-one (field-rows-at P) (λ k. [])
         (λ k c x. x ++ rows-from (class-row P k + 1) (c .fields)) (λ n k. refl) k c e l t
 
-    pub method-row-of : (m : ℕ)
-        → method-row P k m ≡ given (declared-row (class-row P k + 1 + length (c .fields)) (c .methods) m)
-        (method-row P (c .super) m) (λ r. some r)
-    unfolding method-row method-row-at
-    method-row-of m = up-one (λ n k. method-row-at P n k m) (λ k. none)
-        (λ k c x. given (declared-row (class-row P k + 1 + length (c .fields)) (c .methods) m) x
-        (λ r. some r)) (λ n k. refl) k c e l t
+    method-of-class : (m : ℕ) → world P .method k m
+        ≡ given (declared (c .methods) m) (world P .method (c .super) m)
+        (λ d. some (method-of P (effect-in P) k d))
+    unfolding world world-with method-at
+    method-of-class m = up-one (λ n k. method-at P (effect-in P) n k m) (λ k. none)
+        (λ k c x. given (declared (c .methods) m) x (λ d. some (method-of P (effect-in P) k d))) (λ n k. refl)
+        k c e l t
+
+    pub method-number-of : (m : ℕ)
+        → method-number P k m
+        ≡ own-or (own-number (first-number P k) (c .methods)) (method-number P (c .super)) m
+    unfolding method-number
+    method-number-of m = ap (map-option λ (M : Method). M .number) (method-of-class m)
+        ∙ own-numbers P k m c e (declared (c .methods) m) refl (world P .method (c .super) m)
 
     pub root-of : world P .root k ≡ choice (is-state (c .kind)) (λ _. world P .root (c .super)) (λ _. k)
-    unfolding world root-at
+    unfolding world world-with root-at
     root-of = up-one (root-at P) (λ k. k) (λ k c x. choice (is-state (c .kind)) (λ _. x) (λ _. k))
         (λ n k. refl) k c e l t
 
@@ -74,64 +84,38 @@ module _ (P : List Class) (top : ℕ)
     unfolding above above-at
     above-of = up-one (above-at P) (λ k. 0) (λ k c x. join (effect-of k) x) (λ n k. refl) k c e l t
 
-  -- a method's row stands before the classes after it
-  row-in : (ms : List Declaration) (r m q : ℕ) → declared-row r ms m ≡ some q → q < r + methods-lines ms
-  unfolding declared-row methods-lines method-lines heading-lines
-  row-in [] r m q e = absurd (Never e)
-  row-in (d ∷ ds) r m q e = go (eqb (d .name) m) e (λ h. row-in ds (r + method-lines d) m q h)
+  -- an inherited method has a number before those of the class
+  number-before : (n j m q : ℕ)
+      → map-option (λ (M : Method). M .number) (method-at P (effect-in P) n j m) ≡ some q
+      → j < top → q < first-number P top
+  unfolding method-at
+  number-before zero j m q e l = absurd (Never e)
+  number-before (suc n) j m q e l =
+      go (class-at P j) refl e (λ c d h. number-before n (c .super) m q h (omega (arith, l, earlier j c l d)))
     where
-      go : (b : Bool) → choice b (λ _. some r) (λ _. declared-row (r + method-lines d) ds m) ≡ some q
-          → (declared-row (r + method-lines d) ds m ≡ some q → q < r + method-lines d + methods-lines ds)
-          → q < r + (method-lines d + methods-lines ds)
-      go true h ih = omega (arith, inj h)
-      go false h ih = omega (arith, ih h)
-
-  lines-before : (cs : List Class) (i j : ℕ) (c : Class) → nth cs i ≡ some c → i < j
-      → classes-lines (take i cs) + class-lines c ≤ classes-lines (take j cs)
-  unfolding nth classes-lines
-  lines-before [] i j c e l = absurd (Never e)
-  lines-before (x ∷ cs) i zero c e l = absurd (omega (arith, l))
-  lines-before (x ∷ cs) zero (suc j) c e l = omega (arith, ap class-lines (inj e))
-  lines-before (x ∷ cs) (suc i) (suc j) c e l = omega (arith, lines-before cs i j c e (omega (arith, l)))
-
-  class-before : (j k : ℕ) (c : Class) → class-at P j ≡ some c → j < k
-      → class-row P j + class-lines c ≤ class-row P k
-  unfolding class-at class-row
-  class-before zero k c e l = absurd (Never e)
-  class-before (suc j) k c e l = let q : suc j - 1 ≡ j = omega arith in
-      rw q (lines-before P j (k - 1) c e (omega (arith, l)))
-
-  row-before : (n j m q : ℕ) → method-row-at P n j m ≡ some q → j < top → q < class-row P top
-  unfolding method-row-at class-lines
-  row-before zero j m q e l = absurd (Never e)
-  row-before (suc n) j m q e l =
-      go (class-at P j) refl e (λ c d h. row-before n (c .super) m q h (omega (arith, l, earlier j c l d)))
-    where
-      own : (c : Class) → class-at P j ≡ some c → (o : Option ℕ)
-          → declared-row (class-row P j + 1 + length (c .fields)) (c .methods) m ≡ o
-          → given o (method-row-at P n (c .super) m) (λ r. some r) ≡ some q
-          → (method-row-at P n (c .super) m ≡ some q → q < class-row P top) → q < class-row P top
-      own c d none h e ih = ih e
-      own c d (some x) h e ih =
-          omega (
-            arith,
-            inj e,
-            row-in (c .methods) (class-row P j + 1 + length (c .fields)) m x h,
-            class-before j top c d l,
-          )
+      own : (c : Class) → class-at P j ≡ some c → (o : Option Declaration) → declared (c .methods) m ≡ o
+          → map-option (λ (M : Method). M .number) (given o (method-at P (effect-in P) n (c .super) m)
+          (λ d. some (method-of P (effect-in P) j d))) ≡ some q
+          → (map-option (λ (M : Method). M .number) (method-at P (effect-in P) n (c .super) m) ≡ some q
+          → q < first-number P top)
+          → q < first-number P top
+      own c p none f h ih = ih h
+      own c p (some d) f h ih = let y = own-numbered P j m c d p f in
+          omega (arith, inj h, y .number-is, y .in-class, first-after P j top c p l)
 
       go : (o : Option Class) → class-at P j ≡ o
-          → given o none (λ c. given (declared-row (class-row P j + 1 + length (c .fields)) (c .methods) m)
-          (method-row-at P n (c .super) m) λ r. some r) ≡ some q
-          → ((c : Class) → class-at P j ≡ some c → method-row-at P n (c .super) m ≡ some q
-          → q < class-row P top) → q < class-row P top
-      go none d h ih = absurd (Never h)
-      go (some c) d h ih =
-          own c d (declared-row (class-row P j + 1 + length (c .fields)) (c .methods) m) refl h (ih c d)
+          → map-option (λ (M : Method). M .number) (given o none (λ c. given (declared (c .methods) m)
+          (method-at P (effect-in P) n (c .super) m) λ d. some (method-of P (effect-in P) j d))) ≡ some q
+          → ((c : Class) → class-at P j ≡ some c
+          → map-option (λ (M : Method). M .number) (method-at P (effect-in P) n (c .super) m) ≡ some q
+          → q < first-number P top)
+          → q < first-number P top
+      go none p h ih = absurd (Never h)
+      go (some c) p h ih = own c p (declared (c .methods) m) refl h (ih c p)
 
-  pub inherited-row : (j m q : ℕ) → method-row P j m ≡ some q → j < top → q < class-row P top
-  unfolding method-row
-  inherited-row j m q e l = row-before (suc j) j m q e l
+  pub inherited-number : (j m q : ℕ) → method-number P j m ≡ some q → j < top → q < first-number P top
+  unfolding method-number world world-with
+  inherited-number j m q e l = number-before (suc j) j m q e l
 
 -- ---- starting a block as a copy
 
@@ -176,7 +160,8 @@ module _ {T : List ℕ} {k over kind : ℕ} (w : StartReady T k over kind) where
     old : Filled (w .P) T over
     old = w .lookups .blocks over (w .earlier)
 
-    block : Block T′ (k * 576) (world (w .P) .fields over) (field-rows (w .P) over) (method-row (w .P) over)
+    block : Block T′ (k * 576) (world (w .P) .fields over) (field-rows (w .P) over)
+        (method-number (w .P) over)
     block = record {
       places = λ f l. s .first f (omega (arith, l)) ∙ old .block .places f l;
       entries = λ m l.
@@ -213,7 +198,7 @@ module _ {T : List ℕ} {k over kind : ℕ} (w : StartReady T k over kind) where
 
     -- a state class has its superclass's root
     pub start-state : kind ≡ 2
-        → Working (w .P) k T′ (world (w .P) .fields over) (field-rows (w .P) over) (method-row (w .P) over)
+        → Working (w .P) k T′ (world (w .P) .fields over) (field-rows (w .P) over) (method-number (w .P) over)
     start-state e =
         let a : k * 576 + 514 ≡ k * 576 + 514 + 0 = omega arith in
         let b : over * 576 + 514 + 0 ≡ over * 576 + 514 = omega arith in
@@ -229,7 +214,7 @@ module _ {T : List ℕ} {k over kind : ℕ} (w : StartReady T k over kind) where
     -- any other is its own root
     pub start-other : (kind ≡ 2 → ⊥)
         → Working (w .P) k (set T′ (k * 576 + 514) k) (world (w .P) .fields over) (field-rows (w .P) over)
-        (method-row (w .P) over)
+        (method-number (w .P) over)
     start-other n =
         let r : world (w .P) .root k ≡ k = root-is ∙ rw (ne-eqb kind 2 n) in
         let o : (i : ℕ) → (i ≡ k * 576 + 514 → ⊥)
@@ -253,7 +238,7 @@ module _ {T : List ℕ} {k over kind : ℕ} (w : StartReady T k over kind) where
 
 module _ {P : List Class} {k : ℕ} {T : List ℕ} {fs : List Field} {rs : List ℕ} {ms : ℕ → Option ℕ}
     (W : Working P k T fs rs ms) (c : Class) (e : class-at P k ≡ some c) (l : c .super < k)
-    (f : fs ≡ world P .fields k) (g : rs ≡ field-rows P k) (h : (m : ℕ) → ms m ≡ method-row P k m) where
+    (f : fs ≡ world P .fields k) (g : rs ≡ field-rows P k) (h : (m : ℕ) → ms m ≡ method-number P k m) where
   filled : Filled P T k
   filled = record {
     block = record {

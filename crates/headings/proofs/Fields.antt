@@ -208,8 +208,8 @@ module _ {R T₀ : List ℕ} {r n base count : ℕ} (w : FieldsReady R T₀ r n 
       module _ (f : ℕ) (e : (v : FieldReady R T (r + i) base count) → f ≡ fault-of-field (v .P) (v .fields)
           (v .field)) where
         pub fielding-refused : (f ≡ 0 → ⊥)
-            → Refused f (r + i + 1) ≡ headed (check-fields of-check (w .P) (w .fields) (r + 1) (w .own))
-        fielding-refused z = refused-is _ f (r + i + 1)
+            → Refused f (r + i + 1) ≡ headed 0 (check-fields of-check (w .P) (w .fields) (r + 1) (w .own))
+        fielding-refused z = refused-is 0 _ f (r + i + 1)
             (fault ∙ (ap (λ (g : ℕ). faulty g (r + i + 1)
             (check-fields of-check (w .P) (p .before ++ (next .0 ∷ [])) (r + i + 1 + 1) (next .1)))
             (sym (e fielding-ready))
@@ -263,9 +263,9 @@ module _ {R T₀ : List ℕ} {r n base count : ℕ} (w : FieldsReady R T₀ r n 
       over : p .rest ≡ []
       over = nil-of (p .rest) (omega (arith, l, p .left))
 
-      pub fielding-end : Passed ≡ headed (check-fields of-check (w .P) (w .fields) (r + 1) (w .own))
+      pub fielding-end : Passed 0 ≡ headed 0 (check-fields of-check (w .P) (w .fields) (r + 1) (w .own))
       unfolding check-fields
-      fielding-end = passed-is _ (p .answer ∙ rw over)
+      fielding-end = passed-is 0 _ (p .answer ∙ rw over)
 
       pub fielding-done : Working (w .P) (w .k) T (w .fields ++ w .own) (w .rows ++ rows-from r (w .own))
           (w .methods)

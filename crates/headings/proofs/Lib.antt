@@ -1,11 +1,13 @@
 pub mod Lines
 pub mod Checks
-pub mod Sets
 pub mod Loops
 pub mod Tables
 pub mod Fields
+pub mod Numbers
 pub mod Methods
+pub mod Heading
 pub mod Entering
 pub mod Classes
+pub mod Reading
 pub mod Passing
 pub mod Whole

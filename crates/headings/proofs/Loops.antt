@@ -1,10 +1,10 @@
 -- What holds between two turns of the loops over heading lines. Assumes nothing.
-use mathlib.Core.Path.{_≡_, refl, sym, ap, subst, _∙_}
+use mathlib.Core.Path.{_≡_, refl, sym, ap, ap₂, subst, _∙_}
 use mathlib.Core.Bool.{Bool, true, false, _&&_}
 use mathlib.Core.Option.{some}
 use mathlib.Core.List.{List, [], _∷_}
 use mathlib.Core.Logic.{⊎-elim}
-use Prim.Native.Nat.{ℕ, zero, suc, _+_, _-_, _*_, _%_, _^_, _≤_, _<_}
+use Prim.Native.Nat.{ℕ, zero, suc, _+_, _-_, _*_, _≤_, _<_}
 use native.Mathlib.Omega.{arith}
 use borrow.Author.Tests.{ne-eqb, lt-ltb, le-leb, lt-leb}
 use lib.Bits.{bitOr}
@@ -17,7 +17,7 @@ use Rattle.language.specs.Rows.{P-parameter, X-effect}
 use Rattle.language.specs.Results.{require}
 use Rattle.language.specs.Tree.{DeclaredType, bool, class, type-number, type-of-number, Class}
 use Rattle.language.specs.World.{is-declared-type}
-use Rattle.language.specs.Effects.{effect-of, effect-of-all, member}
+use Rattle.language.specs.Effects.{effect-of, effect-of-all, join, member}
 use Rattle.language.specs.Program.{world}
 use Rattle.language.specs.Headings.{same-type, same-types, lines-within, check-parameters, check-effects}
 use Rattle.language.specs.Encoded.{RowAt, LinesAt}
@@ -27,9 +27,8 @@ use Rattle.theory.specs.WellPasses.{type-same}
 use Rattle.headings.specs.Answers.{headed}
 use Rattle.headings.specs.declared.Headed.the-variants.{Passed, Refused}
 use Rattle.headings.specs.Faults.{faulty, fault-of-effect}
-use Rattle.headings.specs.Ready.{Copied, Cleared, EffectLines, ParameterLines}
+use Rattle.headings.specs.Ready.{Copied, Cleared, EffectLines, ClassLines, ParameterLines}
 use Rattle.headings.proofs.Checks.{faulty-none, faulty-some, effects-step, refused-is, passed-is}
-use Rattle.headings.proofs.Sets.{set-more, set-same, set-none}
 
 -- ---- parts of a table
 
@@ -111,47 +110,6 @@ module _ {R : List ℕ} {r n : ℕ} (w : EffectLines R r n) where
   effects-over i l = let h : length (w .effects) ≤ i = omega (arith, l, w .n-is) in
       drop-of-length-le (w .effects) h
 
-  -- collecting the set, from the last line to the first
-  pub record Collecting (s i : ℕ) : Type 0 where
-    pub within : i ≤ n
-    pub so-far : s ≡ effect-of-all (drop i (w .effects)) % 2 ^ 64
-
-  pub collecting-start : Collecting 0 n
-  collecting-start = record {
-    within = omega arith;
-    so-far = set-none ∙ ap
-        (λ (l : List ℕ). effect-of-all l % 2 ^ 64) (sym (effects-over n (omega arith)));
-  }
-
-  module _ (s i : ℕ) (p : Collecting s i) (l : 0 < i) where
-    at-last : s ≡ effect-of-all (effects-line (i - 1) (omega (arith, l, p .within)) .rest) % 2 ^ 64
-    at-last = let y = effects-line (i - 1) (omega (arith, l, p .within)) in
-        let e : i - 1 + 1 ≡ i = omega (arith, l) in
-        p .so-far ∙ ap (λ (l : List ℕ). effect-of-all l % 2 ^ 64)
-        (ap (λ (j : ℕ). drop j (w .effects)) (sym e) ∙ y .next)
-
-    pub collecting-more : getD R ((r + (i - 1)) * 4 + 1) 0 ≤ 64 → (b : ℕ)
-        → b ≡ effect-of (getD R ((r + (i - 1)) * 4 + 1) 0) → Collecting (bitOr b s) (i - 1)
-    collecting-more h b e = let y = effects-line (i - 1) (omega (arith, l, p .within)) in
-        record {
-          within = omega (arith, p .within);
-          so-far = rw (e, y .line .first)
-              (set-more (y .one) (y .rest) s (omega (arith, h, y .line .first)) at-last
-              ∙ ap (λ (l : List ℕ). effect-of-all l % 2 ^ 64) (sym (y .here)));
-        }
-
-    pub collecting-same : 64 < getD R ((r + (i - 1)) * 4 + 1) 0 → Collecting s (i - 1)
-    collecting-same h = let y = effects-line (i - 1) (omega (arith, l, p .within)) in
-        record {
-          within = omega (arith, p .within);
-          so-far = set-same (y .one) (y .rest) s (omega (arith, h, y .line .first)) at-last
-              ∙ ap (λ (l : List ℕ). effect-of-all l % 2 ^ 64) (sym (y .here));
-        }
-
-  pub collecting-end : (s i : ℕ) → Collecting s i → i ≤ 0 → s ≡ effect-of-all (w .effects) % 2 ^ 64
-  collecting-end s i p l = let e : i ≡ 0 = omega (arith, l) in p .so-far
-      ∙ ap (λ (j : ℕ). effect-of-all (drop j (w .effects)) % 2 ^ 64) e
-
   -- testing the lines against a set
   pub record Testing (φ i : ℕ) : Type 0 where
     pub within : i ≤ n
@@ -215,9 +173,9 @@ module _ {R : List ℕ} {r n : ℕ} (w : EffectLines R r n) where
           ∙ rw (y .here, y .next, y .line .first) (effects-step P last (r + i + 1) (y .one) (y .rest))
 
       pub effecting-refused : (f : ℕ) → f ≡ fault-of-effect P last (getD R ((r + i) * 4 + 1) 0) → (f ≡ 0 → ⊥)
-          → Refused f (r + i + 1) ≡ headed (check-effects of-check P 0 (r + 1) (w .effects))
+          → Refused f (r + i + 1) ≡ headed 0 (check-effects of-check P 0 (r + 1) (w .effects))
       effecting-refused f e z =
-          refused-is _ f (r + i + 1)
+          refused-is 0 _ f (r + i + 1)
           (fault ∙ (ap (λ (g : ℕ). faulty g (r + i + 1)
           (check-effects of-check P (getD R ((r + i) * 4 + 1) 0) (r + i + 1 + 1) (drop (i + 1) (w .effects))))
           (sym e) ∙ faulty-some f (r + i + 1) _ z))
@@ -231,9 +189,49 @@ module _ {R : List ℕ} {r n : ℕ} (w : EffectLines R r n) where
           }
 
     pub effecting-end : (last i : ℕ) → Effecting last i → n ≤ i
-        → Passed ≡ headed (check-effects of-check P 0 (r + 1) (w .effects))
+        → Passed 0 ≡ headed 0 (check-effects of-check P 0 (r + 1) (w .effects))
     unfolding check-effects
-    effecting-end last i p l = passed-is _ (p .left ∙ rw (effects-over i l))
+    effecting-end last i p l = passed-is 0 _ (p .left ∙ rw (effects-over i l))
+
+-- collecting the set, from the last line to the first
+module _ {R : List ℕ} {r n : ℕ} (w : ClassLines R r n) where
+  pub record Collecting (s i : ℕ) : Type 0 where
+    pub within : i ≤ n
+    pub so-far : s ≡ effect-of-all (drop i (w .lines .effects))
+
+  pub collecting-start : Collecting 0 n
+  unfolding effect-of-all
+  collecting-start = record {
+    within = omega arith;
+    so-far = ap effect-of-all (sym (effects-over (w .lines) n (omega arith)));
+  }
+
+  module _ (s i : ℕ) (p : Collecting s i) (l : 0 < i) where
+    last : EffectLine R (w .lines .effects) r (i - 1)
+    last = effects-line (w .lines) (i - 1) (omega (arith, l, p .within))
+
+    pub collecting-index : ((r + (i - 1)) * 4 + 3 < length R) × (length R ≤ 240000)
+    collecting-index = effects-index (w .lines) (i - 1) (omega (arith, l, p .within))
+
+    pub collecting-class : getD R ((r + (i - 1)) * 4 + 1) 0 ≤ 64
+    collecting-class = omega (arith, last .line .first, w .small (i - 1) (last .one) (last .is))
+
+    pub collecting-more : (b : ℕ) → b ≡ effect-of (getD R ((r + (i - 1)) * 4 + 1) 0)
+        → Collecting (bitOr b s) (i - 1)
+    unfolding effect-of-all join
+    collecting-more b e =
+        let q : i - 1 + 1 ≡ i = omega (arith, l) in
+        let d : drop i (w .lines .effects) ≡ last .rest =
+        ap (λ (j : ℕ). drop j (w .lines .effects)) (sym q) ∙ last .next in
+        record {
+          within = omega (arith, p .within);
+          so-far = ap₂ bitOr (e ∙ ap effect-of (last .line .first)) (p .so-far ∙ ap effect-of-all d)
+              ∙ ap effect-of-all (sym (last .here));
+        }
+
+  pub collecting-end : (s i : ℕ) → Collecting s i → i ≤ 0 → s ≡ effect-of-all (w .lines .effects)
+  collecting-end s i p l = let e : i ≡ 0 = omega (arith, l) in
+      p .so-far ∙ ap (λ (j : ℕ). effect-of-all (drop j (w .lines .effects))) e
 
 -- ---- P lines
 
@@ -274,9 +272,9 @@ module _ {R : List ℕ} {r n : ℕ} (w : ParameterLines R r n) where
 
       pub declaring-refused : (b : Bool)
           → b ≡ is-declared-type (world P) (type-of-number (getD R ((r + i) * 4 + 1) 0)) → b ≡ false
-          → Refused 4 (r + i + 1) ≡ headed (check-parameters of-check P (r + 1) (w .types))
+          → Refused 4 (r + i + 1) ≡ headed 0 (check-parameters of-check P (r + 1) (w .types))
       unfolding require
-      declaring-refused b e z = refused-is _ 4 (r + i + 1) (one ∙ rw (← e, z))
+      declaring-refused b e z = refused-is 0 _ 4 (r + i + 1) (one ∙ rw (← e, z))
 
       pub declaring-step : (b : Bool)
           → b ≡ is-declared-type (world P) (type-of-number (getD R ((r + i) * 4 + 1) 0)) → b ≡ true
@@ -286,9 +284,9 @@ module _ {R : List ℕ} {r n : ℕ} (w : ParameterLines R r n) where
           record { within = omega (arith, l); left = one ∙ rw (← e, z, d) }
 
     pub declaring-end : (i : ℕ) → Declaring P i → n ≤ i
-        → Passed ≡ headed (check-parameters of-check P (r + 1) (w .types))
+        → Passed 0 ≡ headed 0 (check-parameters of-check P (r + 1) (w .types))
     unfolding check-parameters
-    declaring-end i p l = passed-is _ (p .left ∙ rw (types-over i l))
+    declaring-end i p l = passed-is 0 _ (p .left ∙ rw (types-over i l))
 
 -- two types are the same where their numbers are
 pub same-number : (t u : DeclaredType) → type-of-number (type-number t) ≡ t

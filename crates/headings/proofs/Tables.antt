@@ -16,6 +16,7 @@ use Rattle.language.specs.Tree.{class, type-of-number, Kind, plain, root, state
 use Rattle.language.specs.Tree.{kind-of-number, Field, Class}
 use Rattle.language.specs.World.{place, is-declared-type}
 use Rattle.language.specs.Program.{class-at, is-plain, is-root, is-state, is-root-class, is-state-type, world}
+use Rattle.language.specs.Program.{world-with}
 use Rattle.language.specs.Headings.{may-extend}
 use Rattle.language.specs.ClassTables.{stored-place}
 use Rattle.theory.specs.MoreLookups.{place-last}
@@ -33,7 +34,7 @@ class-type t n = rw (ne-eqb t 255 n)
 
 pub declared-class : (P : List Class) (t count : ℕ) → count ≡ length P → (t ≡ 255 → ⊥)
     → leb t count ≡ is-declared-type (world P) (type-of-number t)
-unfolding world
+unfolding world world-with
 declared-class P t count e n = rw (ne-eqb t 255 n, e)
 
 -- a kind's number tells the kind
@@ -93,7 +94,7 @@ module _ {T : List ℕ} {t : ℕ} (w : StateReady T t) where
 
 module _ {T : List ℕ} {count : ℕ} (w : EffectReady T count) (c last : ℕ) where
   pub effect-undeclared : count < c → 4 ≡ fault-of-effect (w .P) last c
-  unfolding fault-of-effect world
+  unfolding fault-of-effect world world-with
   effect-undeclared l = rw (lt-leb c (length (w .P)) (omega (arith, l, w .count-is)))
 
   module _ (l : c ≤ count) where
@@ -102,7 +103,7 @@ module _ {T : List ℕ} {count : ℕ} (w : EffectReady T count) (c last : ℕ) w
 
     declared-effect : fault-of-effect (w .P) last c
         ≡ cond (eqb (getD T (c * 576 + 512) 0) 1 && ltb last c) 0 5
-    unfolding fault-of-effect world
+    unfolding fault-of-effect world world-with
     declared-effect = rw (
       le-leb c (length (w .P)) (omega (arith, l, w .count-is)),
       root-entry (w .lookups) c

@@ -14,19 +14,24 @@ use Rattle.language.specs.Results.{bind-checked}
 use Rattle.language.specs.Rows.{C-class}
 use Rattle.language.specs.Tree.{kind-number, Class, class-lines, classes-lines}
 use Rattle.language.specs.Effects.{effect-of, join}
-use Rattle.language.specs.Program.{class-at}
+use Rattle.language.specs.Program.{class-at, methods-of}
 use Rattle.language.specs.Headings.{check-class, check-classes, headings}
 use Rattle.language.specs.ClassTables.{ClassTables, class-row, above-at, above}
+use Rattle.language.specs.MethodTables.{placed-methods, MethodTables}
 use Rattle.language.specs.Encoded.{RowAt}
 use Rattle.language.proofs.Lines.{less-or-same}
+use Rattle.layout.specs.Found.{methods-few}
 use Rattle.headings.specs.Answers.{headed}
 use Rattle.headings.specs.declared.Headed.{Headed}
 use Rattle.headings.specs.declared.Headed.the-variants.{Passed, Refused}
 use Rattle.headings.specs.Blocks.{Lookups}
+use Rattle.headings.specs.Numbers.{first-number, Numbered}
 use Rattle.headings.specs.Ready.{Cleared, ClassHere, ClassReady, ReadReady, ClassesReady, HeadingsReady}
 use Rattle.headings.proofs.Checks.{bind-passed, bind-refused, refused-is, passed-is, is-passed}
+use Rattle.headings.proofs.Checks.{passed-count}
 use Rattle.headings.proofs.Checks.{is-refused}
 use Rattle.headings.proofs.Lines.{row-next, class-lines-at}
+use Rattle.headings.proofs.Numbers.{first-next, first-few, all-placed, numbered-all}
 use Rattle.headings.proofs.Fields.{nil-of}
 use Rattle.headings.proofs.Classes.{above-of}
 
@@ -50,8 +55,12 @@ tables-of P T A L l f = record {
   aboves = λ k p. f k (omega (arith, p));
 }
 
-module _ {R E T₀ A₀ : List ℕ} {count : ℕ} (w : ClassesReady R E T₀ A₀ count) where
-  pub record Going (T A : List ℕ) (k r : ℕ) : Type 0 where
+module _ {R E T₀ A₀ M₀ F₀ : List ℕ} {count : ℕ} (w : ClassesReady R E T₀ A₀ M₀ F₀ count) where
+  -- how many methods there are
+  abbrev all : ℕ
+  all = length (placed-methods (w .program .classes))
+
+  pub record Going (T A M F : List ℕ) (k r next : ℕ) : Type 0 where
     pub rest : List Class
     pub left : k + length rest ≡ length (w .program .classes) + 1
     pub rest-is : (i : ℕ) → class-at (w .program .classes) (k + i) ≡ nth rest i
@@ -59,11 +68,13 @@ module _ {R E T₀ A₀ : List ℕ} {count : ℕ} (w : ClassesReady R E T₀ A�
     pub answer : headings of-check (w .program .classes)
         ≡ check-classes of-check (w .program .classes) k (r + 1) rest
     pub lookups : Lookups (w .program .classes) k T
+    pub next-is : next ≡ first-number (w .program .classes) k
+    pub entered : Numbered (w .program .classes) M F next
     pub aboves : (j : ℕ) → j < k → getD A j 0 ≡ above (w .program .classes) j
     pub long-above : length A ≡ length A₀
 
-  pub going-start : Going T₀ A₀ 1 0
-  unfolding class-at class-row classes-lines headings above above-at
+  pub going-start : Going T₀ A₀ M₀ F₀ 1 0 0
+  unfolding class-at class-row classes-lines headings above above-at first-number methods-of
   going-start = record {
     rest = w .program .classes;
     left = omega arith;
@@ -71,33 +82,37 @@ module _ {R E T₀ A₀ : List ℕ} {count : ℕ} (w : ClassesReady R E T₀ A�
     row-is = refl;
     answer = refl;
     lookups = w .lookups;
+    next-is = refl;
+    entered = w .entered;
     aboves = λ j l. let e : j ≡ 0 = omega (arith, l) in rw e (w .object);
     long-above = refl;
   }
 
-  module _ {T A : List ℕ} {k r : ℕ} (p : Going T A k r) where
+  module _ {T A M F : List ℕ} {k r next : ℕ} (p : Going T A M F k r next) where
     module _ (l : k ≤ count) where
-      pub next : (c : Class) × (ds : List Class) × (p .rest ≡ c ∷ ds)
-      next = cons-of (p .rest) (omega (arith, l, p .left, w .count-is))
+      pub one : (c : Class) × (ds : List Class) × (p .rest ≡ c ∷ ds)
+      one = cons-of (p .rest) (omega (arith, l, p .left, w .count-is))
 
-      pub this : class-at (w .program .classes) k ≡ some (next .0)
+      pub this : class-at (w .program .classes) k ≡ some (one .0)
       unfolding nth
       this = let e : k ≡ k + 0 = omega arith in ap (class-at (w .program .classes)) e
-          ∙ (p .rest-is 0 ∙ ap (λ (l : List Class). nth l 0) (next .2))
+          ∙ (p .rest-is 0 ∙ ap (λ (l : List Class). nth l 0) (one .2))
 
-      rest-on : (i : ℕ) → class-at (w .program .classes) (k + 1 + i) ≡ nth (next .1) i
+      rest-on : (i : ℕ) → class-at (w .program .classes) (k + 1 + i) ≡ nth (one .1) i
       unfolding nth
       rest-on i = let e : k + 1 + i ≡ k + suc i = omega arith in ap (class-at (w .program .classes)) e
-          ∙ (p .rest-is (suc i) ∙ ap (λ (l : List Class). nth l (suc i)) (next .2))
+          ∙ (p .rest-is (suc i) ∙ ap (λ (l : List Class). nth l (suc i)) (one .2))
 
-      abbrev pub going-ready : ClassReady R E T k r count
+      abbrev pub going-ready : ClassReady R E T M F k r next count
       going-ready = record {
         program = w .program;
         standing = w .standing;
         lookups = p .lookups;
-        one = next .0;
+        entered = p .entered;
+        one = one .0;
         is = this;
         row-is = p .row-is;
+        first-is = p .next-is;
         count-is = w .count-is;
       }
 
@@ -106,12 +121,12 @@ module _ {R E T₀ A₀ : List ℕ} {count : ℕ} (w : ClassesReady R E T₀ A�
         program = w .program;
         standing = w .standing;
         k = k;
-        one = next .0;
+        one = one .0;
         is = this;
         row-is = p .row-is;
       }
 
-      line : RowAt R r C-class (kind-number (next .0 .kind)) (next .0 .super)
+      line : RowAt R r C-class (kind-number (one .0 .kind)) (one .0 .super)
       line = class-lines-at going-here .line
 
       pub going-index : (r * 4 + 3 < length R) × (length R ≤ 240000) × (k < length A) × (k ≤ 64)
@@ -124,23 +139,44 @@ module _ {R E T₀ A₀ : List ℕ} {count : ℕ} (w : ClassesReady R E T₀ A�
       )
 
       on : headings of-check (w .program .classes)
-          ≡ bind-checked (check-class of-check (w .program .classes) k (r + 1) (next .0)) (λ _.
-          check-classes of-check (w .program .classes) (suc k) (r + 1 + class-lines (next .0)) (next .1))
+          ≡ bind-checked (check-class of-check (w .program .classes) k (r + 1) (one .0)) (λ _.
+          check-classes of-check (w .program .classes) (suc k) (r + 1 + class-lines (one .0)) (one .1))
       unfolding check-classes
-      on = p .answer ∙ ap (check-classes of-check (w .program .classes) k (r + 1)) (next .2)
+      on = p .answer ∙ ap (check-classes of-check (w .program .classes) k (r + 1)) (one .2)
 
-      module _ (a : Headed) (T′ : List ℕ) (f : (v : ClassReady R E T k r count)
-          → (a ≡ headed (check-class of-check (v .program .classes) k (r + 1) (v .one)))
-          × (a ≡ Passed → Lookups (v .program .classes) (k + 1) T′)) where
-        pub going-refused : (m q : ℕ) → a ≡ Refused m q → a ≡ headed (headings of-check (w .program .classes))
+      module _ (a : Headed) (T′ M′ F′ : List ℕ) (f : (v : ClassReady R E T M F k r next count)
+          → (a ≡ headed (length (v .one .methods))
+          (check-class of-check (v .program .classes) k (r + 1) (v .one)))
+          × ((n : ℕ) → a ≡ Passed n → Lookups (v .program .classes) (k + 1) T′
+          × Numbered (v .program .classes) M′ F′ (next + length (v .one .methods)))) where
+        pub going-refused : (m q : ℕ) → a ≡ Refused m q
+            → a ≡ headed all (headings of-check (w .program .classes))
         going-refused m q e = e
-            ∙ refused-is _ m q (on ∙ bind-refused _ _ m q (is-refused _ m q (sym e ∙ f going-ready .0)))
+            ∙ refused-is all _ m q (on ∙ bind-refused _ _ m q
+            (is-refused (length (one .0 .methods)) _ m q (sym e ∙ f going-ready .0)))
 
-        module _ (d : a ≡ Passed) where
+        module _ (n : ℕ) (d : a ≡ Passed n) where
+          -- the class has n methods
+          n-is : n ≡ length (one .0 .methods)
+          n-is = passed-count (length (one .0 .methods))
+              (check-class of-check (w .program .classes) k (r + 1) (one .0)) n (sym d ∙ f going-ready .0)
+
+          -- there are at most 20,000 in all
+          pub going-count : next + n ≤ 20000
+          going-count = omega (
+            arith,
+            n-is,
+            p .next-is,
+            first-few (w .program .classes) k (one .0) this,
+            methods-few (w .standing),
+            w .standing .all,
+            w .standing .short,
+          )
+
           pub super-earlier : getD R (r * 4 + 2) 0 < k
           super-earlier = omega (
             arith,
-            f going-ready .1 d .earlier k (next .0) (omega arith) this,
+            f going-ready .1 n d .0 .earlier k (one .0) (omega arith) this,
             line .second,
           )
 
@@ -149,26 +185,30 @@ module _ {R E T₀ A₀ : List ℕ} {count : ℕ} (w : ClassesReady R E T₀ A�
           unfolding join
           above-is b e =
               let s = line .second in
-              let c = next .0 in
+              let c = one .0 in
               let h : c .super < k = omega (arith, super-earlier, s) in
               rw (e, p .aboves (getD R (r * 4 + 2) 0) super-earlier, s)
               (sym (above-of (w .program .classes) k (p .lookups .earlier) k c this h (omega arith)))
 
-          pub going-step : (b : ℕ) → b ≡ effect-of k → (n : ℕ)
-              → ((v : ClassHere R E r) → n ≡ r + class-lines (v .one))
-              → Going T′ (set A k (bitOr b (getD A (getD R (r * 4 + 2) 0) 0))) (k + 1) n
-          going-step b e n g =
+          pub going-step : (b : ℕ) → b ≡ effect-of k → (row : ℕ)
+              → ((v : ClassHere R E r) → row ≡ r + class-lines (v .one))
+              → Going T′ (set A k (bitOr b (getD A (getD R (r * 4 + 2) 0) 0))) M′ F′ (k + 1) row (next + n)
+          going-step b e row g =
               let x = bitOr b (getD A (getD R (r * 4 + 2) 0) 0) in
-              let q : n ≡ r + class-lines (next .0) = g going-here in
+              let q : row ≡ r + class-lines (one .0) = g going-here in
               let s : k + 1 ≡ suc k = omega arith in
-              let t : r + class-lines (next .0) + 1 ≡ r + 1 + class-lines (next .0) = omega arith in
+              let t : r + class-lines (one .0) + 1 ≡ r + 1 + class-lines (one .0) = omega arith in
               record {
-                rest = next .1;
-                left = omega (arith, p .left, ap length (next .2));
+                rest = one .1;
+                left = omega (arith, p .left, ap length (one .2));
                 rest-is = rest-on;
-                row-is = omega (arith, q, p .row-is, row-next (w .program .classes) k (next .0) this);
-                answer = on ∙ (bind-passed _ _ (is-passed _ (sym d ∙ f going-ready .0)) ∙ rw (q, s, t));
-                lookups = f going-ready .1 d;
+                row-is = omega (arith, q, p .row-is, row-next (w .program .classes) k (one .0) this);
+                answer = on ∙ (bind-passed _ _ (is-passed (length (one .0 .methods)) _ n
+                    (sym d ∙ f going-ready .0))
+                    ∙ rw (q, s, t));
+                lookups = f going-ready .1 n d .0;
+                next-is = omega (arith, n-is, p .next-is, first-next (w .program .classes) k (one .0) this);
+                entered = rw n-is (f going-ready .1 n d .1);
                 aboves = λ j h. ⊎-elim
                     (λ y. getD-set-other A k j x 0 (λ z. omega (arith, z, y)) ∙ p .aboves j y)
                     (λ y. ap (λ (j : ℕ). getD (set A k x) j 0) y
@@ -182,23 +222,52 @@ module _ {R E T₀ A₀ : List ℕ} {count : ℕ} (w : ClassesReady R E T₀ A�
       over : p .rest ≡ []
       over = nil-of (p .rest) (omega (arith, l, p .left, w .count-is))
 
-      pub going-end : Passed ≡ headed (headings of-check (w .program .classes))
-      unfolding check-classes
-      going-end = passed-is _ (p .answer ∙ ap (check-classes of-check (w .program .classes) k (r + 1)) over)
+      last : k ≡ length (w .program .classes) + 1
+      last = omega (arith, p .left, ap length over)
 
-      pub going-done : ClassTables (w .program .classes) T A
-      going-done =
-          let e : k ≡ length (w .program .classes) + 1 = omega (arith, p .left, ap length over) in
-          tables-of (w .program .classes) T A
-          (subst (λ (n : ℕ). Lookups (w .program .classes) n T) e (p .lookups))
-          (omega (arith, w .long-above, p .long-above))
-          (λ j h. p .aboves j (omega (arith, h, e)))
+      total : next ≡ all
+      total = p .next-is ∙ (ap (first-number (w .program .classes)) last ∙ all-placed (w .program .classes))
+
+      pub going-total : next ≤ 20000
+      going-total = omega (arith, total, methods-few (w .standing), w .standing .all, w .standing .short)
+
+      pub going-end : Passed next ≡ headed all (headings of-check (w .program .classes))
+      unfolding check-classes
+      going-end = rw total (passed-is all _ (p .answer ∙ ap
+          (check-classes of-check (w .program .classes) k (r + 1)) over))
+
+      pub going-done : ClassTables (w .program .classes) T A × MethodTables (w .program .classes) M F
+      going-done = (
+        tables-of (w .program .classes) T A
+            (subst (λ (n : ℕ). Lookups (w .program .classes) n T) last (p .lookups))
+            (omega (arith, w .long-above, p .long-above))
+            (λ j h. p .aboves j (omega (arith, h, last))),
+        numbered-all (p .entered) total,
+      )
 
 -- ---- the pass
 
-module _ {R E T A : List ℕ} (w : HeadingsReady R E T A) where
+module _ {R E T A M F : List ℕ} (w : HeadingsReady R E T A M F) where
   pub pass-long : (576 ≤ length T) × (0 < length A)
   pass-long = (omega (arith, w .long), omega (arith, w .long-above))
+
+  -- a method takes at least twelve numbers of the rows
+  effects-long : length (placed-methods (w .program .classes)) ≤ length F
+  effects-long = ⊎-elim
+      (λ q. omega (arith, q, methods-few (w .standing), w .standing .all))
+      (λ q. omega (arith, q, methods-few (w .standing), w .standing .all, w .standing .short))
+      (w .long-effects)
+
+  pub none-entered : Numbered (w .program .classes) M F 0
+  none-entered = record {
+    long = omega (arith, effects-long, w .long-methods);
+    long-effects = effects-long;
+    rows = λ i x l e. absurd (omega (arith, l));
+    owners = λ i x l e. absurd (omega (arith, l));
+    parameters = λ i x l e. absurd (omega (arith, l));
+    bodies = λ i x l e. absurd (omega (arith, l));
+    effects = λ i x l e. absurd (omega (arith, l));
+  }
 
   module _ {T₁ : List ℕ} (c : Cleared T T₁ 576) where
     abbrev pub read-ready : ReadReady R E T₁
@@ -210,13 +279,14 @@ module _ {R E T A : List ℕ} (w : HeadingsReady R E T A) where
     module _ (n : ℕ) (T₂ : List ℕ)
         (f : (v : ReadReady R E T₁) → (n ≡ length (v .program .classes)) × Lookups (v .program .classes) 1 T₂)
       where
-        abbrev pub classes-ready : ClassesReady R E T₂ (set A 0 0) n
+        abbrev pub classes-ready : ClassesReady R E T₂ (set A 0 0) M F n
         classes-ready = record {
           program = w .program;
           standing = w .standing;
           lookups = f read-ready .1;
           long-above = long;
           object = getD-set-same A 0 0 0 (pass-long .1);
+          entered = none-entered;
           count-is = f read-ready .0;
         }
           where

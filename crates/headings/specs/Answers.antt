@@ -1,8 +1,10 @@
--- The answer of the heading pass as the code gives it.
+-- The answer of the heading pass as the code gives it: that all is well, with how many methods were entered,
+-- or a refusal.
+use Prim.Native.Nat.{ℕ}
 use Rattle.language.specs.Results.{Pass, accept, refuse}
 use Rattle.headings.specs.declared.Headed.{Headed}
 use Rattle.headings.specs.declared.Headed.the-variants.{Passed, Refused}
 
-abbrev pub headed : Pass → Headed
-headed (accept a) = Passed
-headed (refuse n l) = Refused n l
+abbrev pub headed : ℕ → Pass → Headed
+headed methods (accept a) = Passed methods
+headed methods (refuse n l) = Refused n l

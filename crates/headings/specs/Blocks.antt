@@ -8,11 +8,11 @@ use Rattle.language.specs.Lists.{nth}
 use Rattle.language.specs.Tree.{kind-number, kind-of-number, Field, Class}
 use Rattle.language.specs.World.{place}
 use Rattle.language.specs.Program.{class-at, world}
-use Rattle.language.specs.ClassTables.{stored-place, field-rows, method-row, class-width, methods-from}
+use Rattle.language.specs.ClassTables.{stored-place, field-rows, method-number, class-width, methods-from}
 use Rattle.language.specs.Limits.{of-check}
 use Rattle.language.specs.ClassTables.{kind-place, super-place, root-place, count-place, rows-place}
 
--- The block at a base holds fields by name, rows of methods by name, the count of fields and the fields' rows.
+-- The block at a base holds fields by name, numbers of methods by name, the count of fields and the fields' rows.
 pub record Block (T : List ℕ) (base : ℕ) (fs : List Field) (rs : List ℕ) (methods : ℕ → Option ℕ) : Type 0
   where
     pub places : (f : ℕ) → f < 256 → getD T (base + f) 0 ≡ stored-place (place f fs)
@@ -24,7 +24,7 @@ pub record Block (T : List ℕ) (base : ℕ) (fs : List Field) (rs : List ℕ) (
 
 -- The block of a class is filled.
 pub record Filled (P : List Class) (T : List ℕ) (k : ℕ) : Type 0 where
-  pub block : Block T (k * class-width) (world P .fields k) (field-rows P k) (method-row P k)
+  pub block : Block T (k * class-width) (world P .fields k) (field-rows P k) (method-number P k)
   pub root : getD T (k * class-width + root-place) 0 ≡ world P .root k
 
 -- Kinds and superclasses of all classes are in the table; the blocks of those before n are filled.

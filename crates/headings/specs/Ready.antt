@@ -2,23 +2,27 @@
 use mathlib.Core.Path.{_≡_}
 use Prim.Native.Nat.{ℕ, _+_, _*_, _≤_, _<_}
 use mathlib.Core.Bool.{true}
+use mathlib.Core.Logic.{_⊎_}
 use mathlib.Core.Option.{Option, none, some}
 use mathlib.Core.List.{List}
 use lib.ListN.{length, getD}
-use lib.Dec.{eqb}
 use Rattle.language.specs.Limits.{of-check, numbers-a-row}
-use Rattle.language.specs.Lists.{choice, given}
+use Rattle.language.specs.Lists.{nth}
 use Rattle.language.specs.Rows.{P-parameter}
 use Rattle.language.specs.Tree.{DeclaredType, type-of-number, kind-number, Field, Declaration, Class, Program}
-use Rattle.language.specs.World.{place, is-declared-type}
+use Rattle.language.specs.World.{Method, place, is-declared-type}
 use Rattle.language.specs.Program.{declared, class-at, world}
 use Rattle.language.specs.Headings.{is-some}
-use Rattle.language.specs.ClassTables.{class-row, method-row, class-width}
+use Rattle.language.specs.ClassTables.{class-row, method-number, class-width}
+use Rattle.language.specs.MethodTables.{placed-methods, method-width}
 use Rattle.language.specs.Encoded.{TypesAt}
 use Rattle.language.specs.Layout.{FieldsAt, EffectsAt, MethodAt, ProgramAt, methods-from-row}
 use Rattle.language.specs.WellFormed.{Each, TypeInForm, FieldInForm, MethodInForm}
+use Rattle.language.proofs.Methods.{FoundMethod}
 use Rattle.layout.specs.Found.{FieldHere}
 use Rattle.headings.specs.Blocks.{Lookups, Working}
+use Rattle.headings.specs.Numbers.{numbers-a-method, most-methods, first-number, placed, own-or}
+use Rattle.headings.specs.Numbers.{Numbered}
 
 -- A part of a list was copied to a place after it.
 pub record Copied (T T′ : List ℕ) (from to n : ℕ) : Type 0 where
@@ -110,6 +114,11 @@ pub record EffectLines (R : List ℕ) (r n : ℕ) : Type 0 where
   pub n-is : n ≡ length effects
   pub short : length R ≤ numbers-a-row * of-check .rows
 
+-- X lines that name classes.
+pub record ClassLines (R : List ℕ) (r n : ℕ) : Type 0 where
+  pub lines : EffectLines R r n
+  pub small : (i c : ℕ) → nth (lines .effects) i ≡ some c → c ≤ of-check .classes
+
 -- P lines.
 pub record ParameterLines (R : List ℕ) (r n : ℕ) : Type 0 where
   pub types : List DeclaredType
@@ -118,18 +127,20 @@ pub record ParameterLines (R : List ℕ) (r n : ℕ) : Type 0 where
   pub n-is : n ≡ length types
   pub short : length R ≤ numbers-a-row * of-check .rows
 
--- A method and the one that it overrides.
-pub record OverrideReady (R : List ℕ) (r np nx over : ℕ) : Type 0 where
+-- A method and the one of number n, found by its name, that it overrides.
+pub record OverrideReady (R M F : List ℕ) (r np nx n : ℕ) : Type 0 where
   pub ends : List ℕ
+  pub program : Program
+  pub standing : ProgramAt R ends program
   pub method : Declaration
-  pub overridden : Declaration
   pub at : MethodAt R ends method r
   pub in-form : MethodInForm of-check method
-  pub over-at : MethodAt R ends overridden over
-  pub over-in-form : MethodInForm of-check overridden
+  pub found : Method
+  pub over : FoundMethod (program .classes) (method .name) found
+  pub number-is : found .number ≡ n
+  pub entered : Numbered (program .classes) M F (n + 1)
   pub np-is : np ≡ length (method .parameters)
   pub nx-is : nx ≡ length (method .effects)
-  pub short : length R ≤ numbers-a-row * of-check .rows
 
 pub record EffectReady (T : List ℕ) (count : ℕ) : Type 0 where
   pub P : List Class
@@ -141,54 +152,64 @@ pub record EffectsReady (R T : List ℕ) (r n count : ℕ) : Type 0 where
   pub table : EffectReady T count
   pub lines : EffectLines R r n
 
--- The rows of methods by name: those of the class itself, else those of its superclass.
-abbrev pub own-or : (ℕ → Option ℕ) → (ℕ → Option ℕ) → ℕ → Option ℕ
-own-or own others m = given (own m) (others m) λ r. some r
-
-abbrev pub with-row : ℕ → ℕ → (ℕ → Option ℕ) → ℕ → Option ℕ
-with-row name r others m = choice (eqb name m) (λ _. some r) (λ _. others m)
-
--- An M line in class k, whose C line has row `first`, after the methods before it.
-pub record MethodReady (R T : List ℕ) (r base first count : ℕ) : Type 0 where
+-- An M line in class k, whose first method has number `first`, after the methods before it.
+pub record MethodLine (R T : List ℕ) (r k first count : ℕ) : Type 0 where
   pub ends : List ℕ
   pub program : Program
   pub standing : ProgramAt R ends program
-  pub k : ℕ
   pub super : ℕ
   pub fields : List Field
   pub rows : List ℕ
   pub own : ℕ → Option ℕ
   pub before : List Declaration
-  pub working : Working (program .classes) k T fields rows (own-or own (method-row (program .classes) super))
+  pub working : Working (program .classes) k T fields rows
+      (own-or own (method-number (program .classes) super))
   pub names : (m : ℕ) → is-some (declared before m) ≡ is-some (own m)
-  pub later : (m q : ℕ) → own m ≡ some q → first < q
-  pub inherited : (m q : ℕ) → method-row (program .classes) super m ≡ some q → q < first
+  pub later : (m q : ℕ) → own m ≡ some q → first ≤ q
+  pub inherited : (m q : ℕ) → method-number (program .classes) super m ≡ some q → q < first
   pub method : Declaration
   pub at : MethodAt R ends method r
   pub in-form : MethodInForm of-check method
-  pub base-is : base ≡ k * class-width
   pub count-is : count ≡ length (program .classes)
 
-pub record MethodCounted (R T : List ℕ) (r np nx base first count : ℕ) : Type 0 where
-  pub ready : MethodReady R T r base first count
-  pub np-is : np ≡ length (ready .method .parameters)
-  pub nx-is : nx ≡ length (ready .method .effects)
+pub record MethodCounted (R T M F : List ℕ) (r np nx k first count : ℕ) : Type 0 where
+  pub line : MethodLine R T r k first count
+  pub entered : Numbered (line .program .classes) M F first
+  pub np-is : np ≡ length (line .method .parameters)
+  pub nx-is : nx ≡ length (line .method .effects)
 
--- The methods of class k, whose C line has row `first`, from row r on.
-pub record MethodsReady (R E T : List ℕ) (r base first count : ℕ) : Type 0 where
+-- Method `next`, which is to be entered in the tables of methods.
+pub record NumberReady (R M F : List ℕ) (r np nx k next : ℕ) : Type 0 where
+  pub ends : List ℕ
+  pub program : Program
+  pub standing : ProgramAt R ends program
+  pub method : Declaration
+  pub this : nth (placed-methods (program .classes)) next ≡ some (placed method k r)
+  pub entered : Numbered (program .classes) M F next
+  pub np-is : np ≡ length (method .parameters)
+  pub nx-is : nx ≡ length (method .effects)
+  pub small : (i c : ℕ) → nth (method .effects) i ≡ some c → c ≤ of-check .classes
+
+pub record MethodReady (R T M F : List ℕ) (r k first next count : ℕ) : Type 0 where
+  pub line : MethodLine R T r k first count
+  pub entered : Numbered (line .program .classes) M F next
+  pub low : first ≤ next
+  pub this : nth (placed-methods (line .program .classes)) next ≡ some (placed (line .method) k r)
+
+-- The methods of class k, the first of which has number `first`, from row r on.
+pub record MethodsReady (R E T M F : List ℕ) (r k first count : ℕ) : Type 0 where
   pub program : Program
   pub standing : ProgramAt R E program
-  pub k : ℕ
   pub super : ℕ
   pub fields : List Field
   pub rows : List ℕ
-  pub working : Working (program .classes) k T fields rows (method-row (program .classes) super)
-  pub inherited : (m q : ℕ) → method-row (program .classes) super m ≡ some q → q < first
+  pub working : Working (program .classes) k T fields rows (method-number (program .classes) super)
+  pub inherited : (m q : ℕ) → method-number (program .classes) super m ≡ some q → q < first
+  pub entered : Numbered (program .classes) M F first
   pub one : Class
   pub is : class-at (program .classes) k ≡ some one
-  pub first-is : first ≡ class-row (program .classes) k
-  pub row-is : r ≡ methods-from-row first one
-  pub base-is : base ≡ k * class-width
+  pub first-is : first ≡ first-number (program .classes) k
+  pub row-is : r ≡ methods-from-row (class-row (program .classes) k) one
   pub count-is : count ≡ length (program .classes)
 
 pub record StartReady (T : List ℕ) (k over kind : ℕ) : Type 0 where
@@ -200,26 +221,31 @@ pub record StartReady (T : List ℕ) (k over kind : ℕ) : Type 0 where
   pub earlier : over < k
   pub kind-is : kind ≡ kind-number (one .kind)
 
-pub record ClassReady (R E T : List ℕ) (k r count : ℕ) : Type 0 where
+pub record ClassReady (R E T M F : List ℕ) (k r first count : ℕ) : Type 0 where
   pub program : Program
   pub standing : ProgramAt R E program
   pub lookups : Lookups (program .classes) k T
+  pub entered : Numbered (program .classes) M F first
   pub one : Class
   pub is : class-at (program .classes) k ≡ some one
   pub row-is : r ≡ class-row (program .classes) k
+  pub first-is : first ≡ first-number (program .classes) k
   pub count-is : count ≡ length (program .classes)
 
-pub record ClassesReady (R E T A : List ℕ) (count : ℕ) : Type 0 where
+pub record ClassesReady (R E T A M F : List ℕ) (count : ℕ) : Type 0 where
   pub program : Program
   pub standing : ProgramAt R E program
   pub lookups : Lookups (program .classes) 1 T
   pub long-above : length (program .classes) + 1 ≤ length A
   pub object : getD A 0 0 ≡ 0
+  pub entered : Numbered (program .classes) M F 0
   pub count-is : count ≡ length (program .classes)
 
 -- The pass itself: a program that stands in the rows, and tables that are long enough.
-pub record HeadingsReady (R E T A : List ℕ) : Type 0 where
+pub record HeadingsReady (R E T A M F : List ℕ) : Type 0 where
   pub program : Program
   pub standing : ProgramAt R E program
   pub long : (length (program .classes) + 1) * class-width ≤ length T
   pub long-above : length (program .classes) + 1 ≤ length A
+  pub long-methods : length F * method-width ≤ length M
+  pub long-effects : (length R ≤ numbers-a-method * length F) ⊎ (most-methods ≤ length F)

@@ -1,4 +1,5 @@
 // The pass over headings (document 01, "Headings"): classes, fields and methods as they are declared.
+use language::BODY_PLACE;
 use language::BOOL;
 use language::CLASS;
 use language::CLASS_WIDTH;
@@ -9,12 +10,15 @@ use language::KIND_PLACE;
 use language::KIND_REFUSAL;
 use language::LIMIT_REFUSAL;
 use language::METHOD;
+use language::METHOD_WIDTH;
 use language::METHODS_FROM;
 use language::MOST_CLASSES;
 use language::MOST_FIELDS;
 use language::NAME_REFUSAL;
 use language::OVERRIDE_REFUSAL;
+use language::OWNER_PLACE;
 use language::PARAMETER;
+use language::PARAMETERS_PLACE;
 use language::ROOT_PLACE;
 use language::ROWS_PLACE;
 use language::SUPER_PLACE;
@@ -22,15 +26,15 @@ ghost use mathlib.Core.Path.{_≡_};
 ghost use mathlib.Core.Bool.{true};
 ghost use mathlib.Core.Option.{some};
 ghost use mathlib.Core.List.{List, [], _∷_, _++_};
-ghost use Prim.Native.Nat.{ℕ, _+_, _*_, _%_, _^_, _≤_, _<_};
+ghost use Prim.Native.Nat.{ℕ, _+_, _*_, _≤_, _<_};
 ghost use lib.ListN.{length};
 ghost use Rattle.language.specs.Limits.{of-check};
 ghost use Rattle.language.specs.Tree.{type-of-number, kind-of-number, method-lines, class-lines, Class};
 ghost use Rattle.language.specs.World.{is-declared-type};
-ghost use Rattle.language.specs.Program.{world, is-state-type, method-of};
+ghost use Rattle.language.specs.Program.{world, is-state-type};
 ghost use Rattle.language.specs.Effects.{effect-of-all};
-ghost use Rattle.language.specs.ClassTables.{ClassTables, class-width, rows-from, declared-row, method-row};
-ghost use Rattle.language.specs.ClassTables.{field-rows};
+ghost use Rattle.language.specs.ClassTables.{ClassTables, class-width, rows-from, method-number, field-rows};
+ghost use Rattle.language.specs.MethodTables.{placed-methods, MethodTables};
 ghost use Rattle.language.specs.Headings.{may-extend, may-override, same-types, lines-within, check-fields};
 ghost use Rattle.language.specs.Headings.{check-parameters, check-effects, check-methods, check-class};
 ghost use Rattle.language.specs.Headings.{headings};
@@ -39,18 +43,19 @@ ghost use Rattle.headings.specs.Answers.{headed};
 ghost use Rattle.headings.specs.Blocks.{Lookups, Working};
 ghost use Rattle.headings.specs.Faults.{fault-of-field, fault-of-method, fault-of-effect};
 ghost use Rattle.headings.specs.Faults.{check-heading};
+ghost use Rattle.headings.specs.Numbers.{Numbered, own-or, own-number, with-number};
 ghost use Rattle.headings.specs.Ready.{Copied, Cleared, MethodHere, ClassHere, ReadReady, StateReady};
-ghost use Rattle.headings.specs.Ready.{FieldReady, EnterReady, FieldsReady, EffectLines};
+ghost use Rattle.headings.specs.Ready.{FieldReady, EnterReady, FieldsReady, EffectLines, ClassLines};
 ghost use Rattle.headings.specs.Ready.{ParameterLines, OverrideReady, EffectReady, EffectsReady};
-ghost use Rattle.headings.specs.Ready.{own-or, with-row, MethodReady, MethodCounted, MethodsReady};
+ghost use Rattle.headings.specs.Ready.{NumberReady, MethodReady, MethodCounted, MethodsReady};
 ghost use Rattle.headings.specs.Ready.{StartReady, ClassReady, ClassesReady, HeadingsReady};
 
 // How many numbers a class has in the table from its root on.
 const FROM_ROOT: usize = CLASS_WIDTH - ROOT_PLACE;
 
-// What the pass answers: that all is well, or a refusal's number and line.
+// What a check answers: that all is well, with how many methods were entered; or a refusal's number and line.
 pub enum Headed {
-    Passed,
+    Passed(u32),
     Refused(u32, u32),
 }
 
@@ -202,8 +207,8 @@ fn check_fields(
 ) -> Headed
     requires { ⌜ FieldsReady (now rows) (now tables) r n base count ⌝ }
     ensures { λ h. ⌜ ((w : FieldsReady (now (rows .entry)) (now (tables .entry)) r n base count)
-        → (h ≡ headed (check-fields of-check (w .P) (w .fields) (r + 1) (w .own)))
-        × (h ≡ Headed.Passed
+        → (h ≡ headed 0 (check-fields of-check (w .P) (w .fields) (r + 1) (w .own)))
+        × ((m : ℕ) → h ≡ Headed.Passed m
         → Working (w .P) (w .k) (now (tables .exit)) (w .fields ++ w .own)
         (w .rows ++ rows-from r (w .own)) (w .methods))) ⌝ }
 {
@@ -216,22 +221,19 @@ fn check_fields(
         enter_field(rows, tables, r + i, base);
         i += 1;
     }
-    Headed::Passed
+    Headed::Passed(0)
 }
 
-// The set of the classes on X lines; a number above 64 is no class.
+// The set of the classes on X lines.
 fn effect_set(rows: &[u32], r: usize, n: usize) -> u64
-    requires { ⌜ EffectLines (now rows) r n ⌝ }
-    ensures { λ s. ⌜ ((w : EffectLines (now (rows .entry)) r n) → s ≡ effect-of-all (w .effects) % 2 ^ 64) ⌝ }
+    requires { ⌜ ClassLines (now rows) r n ⌝ }
+    ensures { λ s. ⌜ ((w : ClassLines (now (rows .entry)) r n) → s ≡ effect-of-all (w .lines .effects)) ⌝ }
 {
     let mut set: u64 = 0;
     let mut i = n;
     while 0 < i {
         i -= 1;
-        let c = rows[(r + i) * 4 + 1];
-        if c <= MOST_CLASSES {
-            set = classes::effect_of(c) | set;
-        }
+        set = classes::effect_of(rows[(r + i) * 4 + 1]) | set;
     }
     set
 }
@@ -274,55 +276,64 @@ fn same_types(rows: &[u32], p: usize, q: usize, n: usize) -> bool
     true
 }
 
-// May the method at a row, with its counts of P and X lines, override the one at another.
-fn may_override(rows: &[u32], r: usize, np: usize, nx: usize, over: usize) -> bool
-    requires { ⌜ OverrideReady (now rows) r np nx over ⌝ }
-    ensures { λ b. ⌜ ((w : OverrideReady (now (rows .entry)) r np nx over) → b ≡ may-override (w .method)
-        (some (method-of 0 (w .overridden)))) ⌝ }
+// May the method at a row, with its counts of P and X lines, override the method of number n.
+fn may_override(
+    rows: &[u32],
+    methods: &[u16],
+    effects: &[u64],
+    r: usize,
+    np: usize,
+    nx: usize,
+    n: usize,
+) -> bool
+    requires { ⌜ OverrideReady (now rows) (now methods) (now effects) r np nx n ⌝ }
+    ensures { λ b. ⌜ ((w : OverrideReady (now (rows .entry)) (now (methods .entry)) (now (effects .entry)) r
+        np nx n) → b ≡ may-override (w .method) (some (w .found))) ⌝ }
 {
+    let over = methods[n * METHOD_WIDTH] as usize;
     if rows[r * 4 + 1] != rows[over * 4 + 1] {
         return false;
     }
-    let op = count_rows(rows, over + 1, PARAMETER);
-    if op != np {
+    if methods[n * METHOD_WIDTH + PARAMETERS_PLACE] as usize != np {
         return false;
     }
     if !same_types(rows, r + 1, over + 1, np) {
         return false;
     }
-    let ox = count_rows(rows, over + 1 + np, EFFECT);
-    let set = effect_set(rows, over + 1 + np, ox);
-    lines_within(rows, r + 1 + np, nx, set)
+    lines_within(rows, r + 1 + np, nx, effects[n])
 }
 
-// The first fault of an M line in the class whose C line has row `first`, or 0.
+// The first fault of an M line in class k, whose first method has number `first`, or 0.
 fn method_fault(
     rows: &[u32],
     tables: &[u16],
+    methods: &[u16],
+    effects: &[u64],
     r: usize,
     np: usize,
     nx: usize,
-    base: usize,
+    k: usize,
     first: usize,
     count: usize,
 ) -> u32
-    requires { ⌜ MethodCounted (now rows) (now tables) r np nx base first count ⌝ }
-    ensures { λ n. ⌜ ((w : MethodCounted (now (rows .entry)) (now (tables .entry)) r np nx base first count)
-        → n ≡ fault-of-method (w .ready .program .classes) (w .ready .super) (w .ready .before)
-        (w .ready .method)) ⌝ }
+    requires { ⌜ MethodCounted (now rows) (now tables) (now methods) (now effects) r np nx k first count ⌝ }
+    ensures { λ n. ⌜ ((w : MethodCounted (now (rows .entry)) (now (tables .entry)) (now (methods .entry))
+        (now (effects .entry)) r np nx k first count)
+        → n ≡ fault-of-method (w .line .program .classes) (w .line .super) (w .line .before)
+        (w .line .method)) ⌝ }
 {
     if !is_declared(rows[r * 4 + 1], count) {
         return NAME_REFUSAL;
     }
     let name = rows[r * 4 + 2] as usize;
-    let entry = tables[base + METHODS_FROM + name] as usize;
+    let entry = tables[k * CLASS_WIDTH + METHODS_FROM + name] as usize;
     if first < entry {
         return NAME_REFUSAL; // declared in this class before
     }
     if entry == 0 {
         return 0;
     }
-    if may_override(rows, r, np, nx, entry - 1) {
+    if may_override(rows, methods, effects, r, np, nx, entry - 1) {
         return 0;
     }
     OVERRIDE_REFUSAL // the heading differs
@@ -332,7 +343,7 @@ fn method_fault(
 fn check_parameters(rows: &[u32], r: usize, n: usize, count: usize) -> Headed
     requires { ⌜ ParameterLines (now rows) r n ⌝ }
     ensures { λ h. ⌜ ((w : ParameterLines (now (rows .entry)) r n) → (P : List Class) → count ≡ length P
-        → h ≡ headed (check-parameters of-check P (r + 1) (w .types))) ⌝ }
+        → h ≡ headed 0 (check-parameters of-check P (r + 1) (w .types))) ⌝ }
 {
     let mut i = 0;
     while i < n {
@@ -341,7 +352,7 @@ fn check_parameters(rows: &[u32], r: usize, n: usize, count: usize) -> Headed
         }
         i += 1;
     }
-    Headed::Passed
+    Headed::Passed(0)
 }
 
 // The first fault of an X line after one that names `last`, or 0.
@@ -364,7 +375,7 @@ fn effect_fault(tables: &[u16], c: u32, last: u32, count: usize) -> u32
 // Checks the X lines of a method.
 fn check_effects(rows: &[u32], tables: &[u16], r: usize, n: usize, count: usize) -> Headed
     requires { ⌜ EffectsReady (now rows) (now tables) r n count ⌝ }
-    ensures { λ h. ⌜ ((w : EffectsReady (now (rows .entry)) (now (tables .entry)) r n count) → h ≡ headed
+    ensures { λ h. ⌜ ((w : EffectsReady (now (rows .entry)) (now (tables .entry)) r n count) → h ≡ headed 0
         (check-effects of-check (w .table .P) 0 (r + 1) (w .lines .effects))) ⌝ }
 {
     let mut last: u32 = 0;
@@ -378,69 +389,111 @@ fn check_effects(rows: &[u32], tables: &[u16], r: usize, n: usize, count: usize)
         last = c;
         i += 1;
     }
-    Headed::Passed
+    Headed::Passed(0)
 }
 
-// Checks and enters the method of an M line.
+// Enters method `next`, whose M line is row r of class k, with its counts of P and X lines.
+fn enter_method(
+    rows: &[u32],
+    methods: &mut [u16],
+    effects: &mut [u64],
+    r: usize,
+    np: usize,
+    nx: usize,
+    k: usize,
+    next: usize,
+)
+    requires { ⌜ NumberReady (now rows) (now methods) (now effects) r np nx k next ⌝ }
+    ensures { λ _. ⌜ ((w : NumberReady (now (rows .entry)) (now (methods .entry)) (now (effects .entry)) r np
+        nx k next)
+        → Numbered (w .program .classes) (now (methods .exit)) (now (effects .exit)) (next + 1)) ⌝ }
+{
+    let at = next * METHOD_WIDTH;
+    methods[at] = r as u16;
+    methods[at + OWNER_PLACE] = k as u16;
+    methods[at + PARAMETERS_PLACE] = np as u16;
+    methods[at + BODY_PLACE] = (r + 1 + np + nx) as u16;
+    effects[next] = effect_set(rows, r + 1 + np, nx);
+}
+
+// Checks and enters the method of an M line in class k: it has number `next`, the first of its class has `first`.
 fn check_method(
     rows: &[u32],
     tables: &mut [u16],
+    methods: &mut [u16],
+    effects: &mut [u64],
     r: usize,
-    base: usize,
+    k: usize,
     first: usize,
+    next: usize,
     count: usize,
 ) -> Headed
-    requires { ⌜ MethodReady (now rows) (now tables) r base first count ⌝ }
-    ensures { λ h. ⌜ ((w : MethodReady (now (rows .entry)) (now (tables .entry)) r base first count)
-        → (h ≡ headed (check-heading (w .program .classes) (w .super) (w .before) (r + 1) (w .method)))
-        × (h ≡ Headed.Passed → Working (w .program .classes) (w .k) (now (tables .exit)) (w .fields) (w .rows)
-        (with-row (w .method .name) r (own-or (w .own) (method-row (w .program .classes) (w .super)))))) ⌝ }
+    requires { ⌜ MethodReady (now rows) (now tables) (now methods) (now effects) r k first next count ⌝ }
+    ensures { λ h. ⌜ ((w : MethodReady (now (rows .entry)) (now (tables .entry)) (now (methods .entry))
+        (now (effects .entry)) r k first next count)
+        → (h ≡ headed 1 (check-heading (w .line .program .classes) (w .line .super) (w .line .before) (r + 1)
+        (w .line .method)))
+        × ((n : ℕ) → h ≡ Headed.Passed n
+        → Working (w .line .program .classes) k (now (tables .exit)) (w .line .fields) (w .line .rows)
+        (with-number (w .line .method .name) next (own-or (w .line .own)
+        (method-number (w .line .program .classes) (w .line .super))))
+        × Numbered (w .line .program .classes) (now (methods .exit)) (now (effects .exit)) (next + 1))) ⌝ }
 {
     let np = count_rows(rows, r + 1, PARAMETER);
     let nx = count_rows(rows, r + 1 + np, EFFECT);
-    let fault = method_fault(rows, tables, r, np, nx, base, first, count);
+    let fault = method_fault(rows, tables, methods, effects, r, np, nx, k, first, count);
     if fault != 0 {
         return Headed::Refused(fault, (r + 1) as u32);
     }
     let p = check_parameters(rows, r + 1, np, count);
-    let Headed::Passed = p else {
+    let Headed::Passed(_) = p else {
         return p;
     };
     let x = check_effects(rows, tables, r + 1 + np, nx, count);
-    let Headed::Passed = x else {
+    let Headed::Passed(_) = x else {
         return x;
     };
     let name = rows[r * 4 + 2] as usize;
-    tables[base + METHODS_FROM + name] = (r + 1) as u16;
-    Headed::Passed
+    tables[k * CLASS_WIDTH + METHODS_FROM + name] = (next + 1) as u16;
+    enter_method(rows, methods, effects, r, np, nx, k, next);
+    Headed::Passed(1)
 }
 
-// Checks and enters the methods of a class, the first of which would stand at row r.
+// Checks and enters the methods of class k: the first of them, if there is one, is at row r and has number `first`.
 fn check_methods(
     rows: &[u32],
     ends: &[u16],
     tables: &mut [u16],
+    methods: &mut [u16],
+    effects: &mut [u64],
     r: usize,
-    base: usize,
+    k: usize,
     first: usize,
     count: usize,
 ) -> Headed
-    requires { ⌜ MethodsReady (now rows) (now ends) (now tables) r base first count ⌝ }
-    ensures { λ h. ⌜ ((w : MethodsReady (now (rows .entry)) (now (ends .entry)) (now (tables .entry)) r base
-        first count)
-        → (h ≡ headed (check-methods of-check (w .program .classes) (w .super) [] (r + 1) (w .one .methods)))
-        × (h ≡ Headed.Passed → Working (w .program .classes) (w .k) (now (tables .exit)) (w .fields) (w .rows)
-        (own-or (declared-row r (w .one .methods)) (method-row (w .program .classes) (w .super))))) ⌝ }
+    requires { ⌜ MethodsReady (now rows) (now ends) (now tables) (now methods) (now effects) r k first count
+        ⌝ }
+    ensures { λ h. ⌜ ((w : MethodsReady (now (rows .entry)) (now (ends .entry)) (now (tables .entry))
+        (now (methods .entry)) (now (effects .entry)) r k first count)
+        → (h ≡ headed (length (w .one .methods)) (check-methods of-check (w .program .classes) (w .super) []
+        (r + 1) (w .one .methods)))
+        × ((n : ℕ) → h ≡ Headed.Passed n
+        → Working (w .program .classes) k (now (tables .exit)) (w .fields) (w .rows)
+        (own-or (own-number first (w .one .methods)) (method-number (w .program .classes) (w .super)))
+        × Numbered (w .program .classes) (now (methods .exit)) (now (effects .exit))
+        (first + length (w .one .methods)))) ⌝ }
 {
     let mut at = r;
+    let mut next = first;
     while rows[at * 4] == METHOD {
-        let m = check_method(rows, tables, at, base, first, count);
-        let Headed::Passed = m else {
+        let m = check_method(rows, tables, methods, effects, at, k, first, next, count);
+        let Headed::Passed(_) = m else {
             return m;
         };
         at = skip_method(rows, ends, at);
+        next += 1;
     }
-    Headed::Passed
+    Headed::Passed((next - first) as u32)
 }
 
 // May a class of one kind extend one of another; Object is as a plain class.
@@ -464,7 +517,7 @@ fn start_block(tables: &mut [u16], k: usize, over: usize, kind: u32)
     requires { ⌜ StartReady (now tables) k over kind ⌝ }
     ensures { λ _. ⌜ ((w : StartReady (now (tables .entry)) k over kind)
         → Working (w .P) k (now (tables .exit)) (world (w .P) .fields over) (field-rows (w .P) over)
-        (method-row (w .P) over)) ⌝ }
+        (method-number (w .P) over)) ⌝ }
 {
     let base = k * CLASS_WIDTH;
     let from = over * CLASS_WIDTH;
@@ -475,19 +528,26 @@ fn start_block(tables: &mut [u16], k: usize, over: usize, kind: u32)
     }
 }
 
-// Checks a class and fills its block.
+// Checks class k, fills its block and enters its methods, the first of which has number `first`.
 fn check_class(
     rows: &[u32],
     ends: &[u16],
     tables: &mut [u16],
+    methods: &mut [u16],
+    effects: &mut [u64],
     k: usize,
     r: usize,
+    first: usize,
     count: usize,
 ) -> Headed
-    requires { ⌜ ClassReady (now rows) (now ends) (now tables) k r count ⌝ }
-    ensures { λ h. ⌜ ((w : ClassReady (now (rows .entry)) (now (ends .entry)) (now (tables .entry)) k r count)
-        → (h ≡ headed (check-class of-check (w .program .classes) k (r + 1) (w .one)))
-        × (h ≡ Headed.Passed → Lookups (w .program .classes) (k + 1) (now (tables .exit)))) ⌝ }
+    requires { ⌜ ClassReady (now rows) (now ends) (now tables) (now methods) (now effects) k r first count ⌝ }
+    ensures { λ h. ⌜ ((w : ClassReady (now (rows .entry)) (now (ends .entry)) (now (tables .entry))
+        (now (methods .entry)) (now (effects .entry)) k r first count)
+        → (h ≡ headed (length (w .one .methods)) (check-class of-check (w .program .classes) k (r + 1)
+        (w .one)))
+        × ((n : ℕ) → h ≡ Headed.Passed n → Lookups (w .program .classes) (k + 1) (now (tables .exit))
+        × Numbered (w .program .classes) (now (methods .exit)) (now (effects .exit))
+        (first + length (w .one .methods)))) ⌝ }
 {
     let kind = rows[r * 4 + 1];
     let over = rows[r * 4 + 2] as usize;
@@ -500,53 +560,78 @@ fn check_class(
     start_block(tables, k, over, kind);
     let n = count_rows(rows, r + 1, FIELD);
     let f = check_fields(rows, tables, r + 1, n, k * CLASS_WIDTH, count);
-    let Headed::Passed = f else {
+    let Headed::Passed(_) = f else {
         return f;
     };
-    check_methods(rows, ends, tables, r + 1 + n, k * CLASS_WIDTH, r, count)
+    check_methods(
+        rows,
+        ends,
+        tables,
+        methods,
+        effects,
+        r + 1 + n,
+        k,
+        first,
+        count,
+    )
 }
 
-// Checks all classes in order and fills both tables.
+// Checks all classes in order and fills the tables.
 fn check_classes(
     rows: &[u32],
     ends: &[u16],
     tables: &mut [u16],
     above: &mut [u64],
+    methods: &mut [u16],
+    effects: &mut [u64],
     count: usize,
 ) -> Headed
-    requires { ⌜ ClassesReady (now rows) (now ends) (now tables) (now above) count ⌝ }
-    ensures { λ h. ⌜ ((w : ClassesReady (now (rows .entry)) (now (ends .entry)) (now (tables .entry))
-        (now (above .entry)) count)
-        → (h ≡ headed (headings of-check (w .program .classes)))
-        × (h ≡ Headed.Passed → ClassTables (w .program .classes) (now (tables .exit)) (now (above .exit))))
+    requires { ⌜ ClassesReady (now rows) (now ends) (now tables) (now above) (now methods) (now effects) count
         ⌝ }
+    ensures { λ h. ⌜ ((w : ClassesReady (now (rows .entry)) (now (ends .entry)) (now (tables .entry))
+        (now (above .entry)) (now (methods .entry)) (now (effects .entry)) count)
+        → (h ≡ headed (length (placed-methods (w .program .classes))) (headings of-check (w .program .classes)))
+        × ((n : ℕ) → h ≡ Headed.Passed n
+        → ClassTables (w .program .classes) (now (tables .exit)) (now (above .exit))
+        × MethodTables (w .program .classes) (now (methods .exit)) (now (effects .exit)))) ⌝ }
 {
     let mut k = 1;
     let mut r = 0;
+    let mut next = 0;
     while k <= count {
-        let h = check_class(rows, ends, tables, k, r, count);
-        let Headed::Passed = h else {
+        let h = check_class(rows, ends, tables, methods, effects, k, r, next, count);
+        let Headed::Passed(n) = h else {
             return h;
         };
         let over = rows[r * 4 + 2] as usize;
         above[k] = classes::effect_of(k as u32) | above[over];
         r = skip_class(rows, ends, r);
+        next += n as usize;
         k += 1;
     }
-    Headed::Passed
+    Headed::Passed(next as u32)
 }
 
-// The pass over headings.
-pub fn check_headings(rows: &[u32], ends: &[u16], tables: &mut [u16], above: &mut [u64]) -> Headed
-    requires { ⌜ HeadingsReady (now rows) (now ends) (now tables) (now above) ⌝ }
+// The pass over headings. Where it passes, the tables hold the classes and the methods, and it tells how many methods
+// there are.
+pub fn check_headings(
+    rows: &[u32],
+    ends: &[u16],
+    tables: &mut [u16],
+    above: &mut [u64],
+    methods: &mut [u16],
+    effects: &mut [u64],
+) -> Headed
+    requires { ⌜ HeadingsReady (now rows) (now ends) (now tables) (now above) (now methods) (now effects) ⌝ }
     ensures { λ h. ⌜ ((w : HeadingsReady (now (rows .entry)) (now (ends .entry)) (now (tables .entry))
-        (now (above .entry)))
-        → (h ≡ headed (headings of-check (w .program .classes)))
-        × (h ≡ Headed.Passed → ClassTables (w .program .classes) (now (tables .exit)) (now (above .exit))))
-        ⌝ }
+        (now (above .entry)) (now (methods .entry)) (now (effects .entry)))
+        → (h ≡ headed (length (placed-methods (w .program .classes))) (headings of-check (w .program .classes)))
+        × ((n : ℕ) → h ≡ Headed.Passed n
+        → ClassTables (w .program .classes) (now (tables .exit)) (now (above .exit))
+        × MethodTables (w .program .classes) (now (methods .exit)) (now (effects .exit)))) ⌝ }
 {
     clear_object(tables);
     above[0] = 0;
     let count = read_classes(rows, ends, tables);
-    check_classes(rows, ends, tables, above, count)
+    check_classes(rows, ends, tables, above, methods, effects, count)
 }

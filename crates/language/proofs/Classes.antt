@@ -12,7 +12,7 @@ use lib.ListN.{length}
 use Rattle.language.specs.Lists.{nth-some, choice, given, nth-lt, Never}
 use Rattle.language.specs.Tree.{Class}
 use Rattle.language.specs.Effects.{member, join, effect-of, apply-class}
-use Rattle.language.specs.Program.{is-state, class-at, below-at, root-at, nearest-at, world}
+use Rattle.language.specs.Program.{is-state, class-at, below-at, root-at, nearest-at, world, world-with}
 use Rattle.language.specs.ClassTables.{above-at, above}
 use Rattle.language.proofs.Effects.{member-join, member-none, member-of}
 
@@ -67,11 +67,11 @@ module _ (P : List Class) where
             (sym (rec (c .super) (super-in k c e))))
 
     pub below-object : (k : ℕ) → k ≤ length P → world P .below k 0 ≡ true
-    unfolding world
+    unfolding world world-with
     below-object k l = below-zero (suc k) k l
 
     pub below-is : (k d : ℕ) → k ≤ length P → 1 ≤ d → world P .below k d ≡ member (above P k) d
-    unfolding world above
+    unfolding world world-with above
     below-is k d l h = below-above (suc k) k d l h
 
     -- A root is no later than its class.
@@ -91,7 +91,7 @@ module _ (P : List Class) where
         go rec (some c) e = pick rec (is-state (c .kind)) c e
 
     pub root-within : (k : ℕ) → world P .root k ≤ k
-    unfolding world
+    unfolding world world-with
     root-within k = root-low (suc k) k
 
     pub apply-within : (φ k : ℕ) → apply-class (world P) φ k ≤ k
@@ -119,12 +119,12 @@ module _ (P : List Class) where
         go rec false (some c) e = rec (c .super) (omega (arith, lower k c e)) (omega (arith, lower k c e))
 
     pub nearest-here : (k d : ℕ) → world P .below d k ≡ true → world P .nearest k d ≡ k
-    unfolding world nearest-at
+    unfolding world world-with nearest-at
     nearest-here k d e = rw e
 
     pub nearest-up : (k d : ℕ) (c : Class) → class-at P k ≡ some c → world P .below d k ≡ false
         → world P .nearest k d ≡ world P .nearest (c .super) d
-    unfolding world nearest-at
+    unfolding world world-with nearest-at
     nearest-up k d c e f =
         rw (f, e) (nearest-more k (suc (c .super)) (c .super) d (lower k c e) (omega arith))
 
@@ -141,5 +141,5 @@ module _ (P : List Class) where
         go rec false (some c) e = omega (arith, rec (c .super) (super-in k c e), lower k c e)
 
     pub nearest-within : (k d : ℕ) → k ≤ length P → world P .nearest k d ≤ k
-    unfolding world
+    unfolding world world-with
     nearest-within k d l = nearest-low (suc k) k d l

@@ -5,5 +5,7 @@ pub mod Letters
 pub mod Tables
 pub mod Effects
 pub mod Classes
+pub mod Worlds
+pub mod Methods
 pub mod Lines
 pub mod Nodes

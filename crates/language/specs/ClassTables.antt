@@ -1,18 +1,17 @@
 -- What the tables of a program's classes hold, for lookups in constant time. The heading pass fills them;
 -- typing, translation and evaluation read them. A row is counted from 0.
 -- Class k has the numbers from k · 576 on in the table of classes: by name the place of a field (0 none, else its
--- place from 1) and the row of a method's M line (0 none, else that row from 1), then kind, superclass, root, how many
+-- place from 1) and the number of a method (0 none, else its number from 1), then kind, superclass, root, how many
 -- fields there are, and by place the row of each field's F line. The table of superclasses has for each class the set of
--- the classes that it is or stands below, as an effect is a set.
+-- the classes that it is or stands below, as an effect is a set. What the tables hold of a method is in MethodTables.
 use mathlib.Core.Path.{_≡_}
 use Prim.Native.Nat.{ℕ, zero, suc, _+_, _-_, _*_, _≤_, _<_}
 use mathlib.Core.Option.{Option, none, some}
 use mathlib.Core.List.{List, [], _∷_, _++_}
 use lib.ListN.{length, take, getD}
-use lib.Dec.{eqb}
-use Rattle.language.specs.Lists.{nth, given, choice}
-use Rattle.language.specs.Tree.{kind-number, Field, Declaration, method-lines, Class, classes-lines}
-use Rattle.language.specs.World.{place}
+use Rattle.language.specs.Lists.{nth, given, map-option}
+use Rattle.language.specs.Tree.{kind-number, Field, Class, classes-lines}
+use Rattle.language.specs.World.{Method, place}
 use Rattle.language.specs.Effects.{no-effect, effect-of, join}
 use Rattle.language.specs.Program.{class-at, world}
 
@@ -25,12 +24,6 @@ stored-place (some i) = suc i
 unfoldable pub rows-from : ℕ → List Field → List ℕ
 rows-from r [] = []
 rows-from r (f ∷ fs) = r ∷ rows-from (r + 1) fs
-
--- The row of the M line of a name among methods of which the first stands at row r.
-unfoldable pub declared-row : ℕ → List Declaration → ℕ → Option ℕ
-declared-row r [] m = none
-declared-row r (d ∷ ds) m =
-    choice (eqb (d .name) m) (λ _. some r) (λ _. declared-row (r + method-lines d) ds m)
 
 module _ (P : List Class) where
   -- The row of a class's C line.
@@ -46,16 +39,9 @@ module _ (P : List Class) where
   unfoldable pub field-rows : ℕ → List ℕ
   field-rows k = field-rows-at (suc k) k
 
-  -- The row of the method that a lookup finds.
-  unfoldable pub method-row-at : ℕ → ℕ → ℕ → Option ℕ
-  method-row-at zero k m = none
-  method-row-at (suc n) k m = given (class-at P k) none λ c.
-      given (declared-row (class-row k + 1 + length (c .fields)) (c .methods) m)
-      (method-row-at n (c .super) m)
-      λ r. some r
-
-  unfoldable pub method-row : ℕ → ℕ → Option ℕ
-  method-row k m = method-row-at (suc k) k m
+  -- The number of the method that a lookup finds.
+  unfoldable pub method-number : ℕ → ℕ → Option ℕ
+  method-number k m = map-option (λ (M : Method). M .number) (world P .method k m)
 
   -- The set of the classes that a class is or stands below; Object is in none.
   unfoldable pub above-at : ℕ → ℕ → ℕ
@@ -93,7 +79,7 @@ pub record ClassTables (P : List Class) (T A : List ℕ) : Type 0 where
   pub places : (k f : ℕ) → k ≤ length P → f < 256
       → getD T (k * class-width + f) 0 ≡ stored-place (place f (world P .fields k))
   pub methods : (k m : ℕ) → k ≤ length P → m < 256
-      → getD T (k * class-width + methods-from + m) 0 ≡ stored-place (method-row P k m)
+      → getD T (k * class-width + methods-from + m) 0 ≡ stored-place (method-number P k m)
   pub kinds : (k : ℕ) (c : Class) → class-at P k ≡ some c
       → getD T (k * class-width + kind-place) 0 ≡ kind-number (c .kind)
   pub supers : (k : ℕ) (c : Class) → class-at P k ≡ some c

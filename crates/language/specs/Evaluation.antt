@@ -5,7 +5,7 @@ use mathlib.Core.Option.{Option, none, some}
 use mathlib.Core.Bool.{Bool, true, false, cond, _&&_}
 use mathlib.Core.List.{List, [], _∷_, _++_, map}
 use lib.ListN.{length, take, drop, set as replace}
-use lib.Dec.{leb}
+use lib.Dec.{eqb, leb}
 use Rattle.language.specs.Limits.{most-calls, null-exception, cast-exception}
 use Rattle.language.specs.State.{Value, null, truth, object, Object, State, raised, spent, deep, full}
 use Rattle.language.specs.State.{stuck, Out, entered, with-frame, with-heap, with-change, initial}
@@ -17,7 +17,7 @@ use Rattle.language.specs.Frames.{frame, at-slot, with-slot, opened, clo
 use Rattle.language.specs.Tree.{Expr, literal, slot, is-null, get, cast, new, change, assign, set}
 use Rattle.language.specs.Tree.{call, choose, block, Exprs, nil, cons, Program}
 use Rattle.language.specs.World.{Method, World, place}
-use Rattle.language.specs.Program.{world}
+use Rattle.language.specs.Program.{body-in, world}
 
 -- The limits of a run: no fuel left after so many steps, no room left after so many objects.
 pub record Limits : Type 0 where
@@ -39,6 +39,9 @@ abbrev pub need-object : {B : Type 0} → Value → State → (ℕ → Out B) �
 need-object null s k = stop (raised null-exception) s
 need-object (truth b) s k = stop stuck s
 need-object (object j) s k = k j
+
+abbrev pub need-count : {B : Type 0} → ℕ → ℕ → State → (Bool → Out B) → Out B
+need-count n m s k = choice (eqb n m) k (λ _. stop stuck s)
 
 abbrev pub need-truth : {B : Type 0} → Value → State → (Bool → Out B) → Out B
 need-truth null s k = stop stuck s
@@ -107,10 +110,12 @@ module _ (W : World) where
         (ok (object (length (s .heap))) (with-heap (s .heap ++ (new-object c ∷ [])) s))
 
     module _ (invoke : Method → State → Out Value) where
-      -- Q: the body runs in slots of its own; afterwards the caller's are as before.
+      -- Q: as many arguments as there are parameters. The body runs in slots of its own; afterwards the caller's are as
+      -- before.
       abbrev pub do-call : ℕ → Value → List Value → State → Out Value
       do-call m v vs s = need-object v s λ j. need (nth (s .heap) j) s λ o.
           need (W .method (o .class-of) m) s λ M.
+          need-count (length vs) (length (M .parameters)) s λ _.
           bind (invoke M (with-frame (frame (some (object j)) vs) s)) λ w t. ok w (with-frame (s .frame) t)
 
       unfoldable mutual
@@ -138,18 +143,19 @@ module _ (W : World) where
         eval-all nil s = ok [] s
         eval-all (cons e es) s = bind (eval e s) λ v s. bind (eval-all es s) λ vs s. ok (v ∷ vs) s
 
-    -- A call with so many calls still allowed.
-    unfoldable pub call-at : ℕ → Method → State → Out Value
-    call-at zero M s = stop deep s
-    call-at (suc n) M s = eval (λ M s. call-at n M s) (M .body) s
+    module _ (bodies : ℕ → Expr) where
+      -- A call with so many calls still allowed; bodies go by the number of their method.
+      unfoldable pub call-at : ℕ → Method → State → Out Value
+      call-at zero M s = stop deep s
+      call-at (suc n) M s = eval (λ M s. call-at n M s) (bodies (M .number)) s
 
-    -- An expression outside of any call.
-    abbrev pub eval-start : Expr → State → Out Value
-    eval-start e s = eval (λ M s. call-at most-calls M s) e s
+      -- An expression outside of any call.
+      abbrev pub eval-start : Expr → State → Out Value
+      eval-start e s = eval (λ M s. call-at most-calls M s) e s
 
 abbrev pub first-state : State
 first-state = record { frame = frame none []; heap = []; steps = 0; changes = 0 }
 
 -- The run of a program.
 unfoldable pub run : Limits → Program → Out Value
-run L p = eval-start (world (p .classes)) L (p .start) first-state
+run L p = eval-start (world (p .classes)) L (body-in (p .classes)) (p .start) first-state

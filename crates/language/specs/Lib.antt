@@ -13,6 +13,7 @@ pub mod World
 pub mod Effects
 pub mod Program
 pub mod ClassTables
+pub mod MethodTables
 pub mod Encoded
 pub mod Form
 pub mod Tables

@@ -89,12 +89,13 @@ module _ (P : List Class) (fuel room : ℕ) where
           → Entered n (new c) s (ok (object (length (s .heap))) (with-heap (s .heap ++ (o ∷ [])) s))
       -- DEPARTS: there is none, 16.
       new-full : {n c : ℕ} {s : State} → room ≤ length (s .heap) → Entered n (new c) s (stop full s)
-      -- Figure 3, meth: one call fewer is allowed in the body; afterwards the caller's slots are as before.
-      -- DEPARTS: nothing is asked of the number of arguments, which typing has compared.
+      -- Figure 3, meth: there are as many arguments as parameters, one call fewer is allowed in the body; afterwards the
+      -- caller's slots are as before.
       meth : {n m j : ℕ} {e : Expr} {es : Exprs} {s t u w : State} {v : Value} {vs : List Value}
           (o : Object) (owner : ℕ) (d : Declaration)
           → Evaluates (suc n) e s (ok (object j) t) → EvaluatesAll (suc n) es t (ok vs u)
           → nth (u .heap) j ≡ some o → FindsMethod P (o .class-of) m owner d
+          → length vs ≡ length (d .parameters)
           → Evaluates n (d .body) (called j vs u) (ok v w)
           → Entered (suc n) (call m e es) s (ok v (with-frame (u .frame) w))
       -- DEPARTS: a call on an object where no more calls are allowed, 15.
@@ -102,6 +103,7 @@ module _ (P : List Class) (fuel room : ℕ) where
           (o : Object) (owner : ℕ) (d : Declaration)
           → Evaluates 0 e s (ok (object j) t) → EvaluatesAll 0 es t (ok vs u)
           → nth (u .heap) j ≡ some o → FindsMethod P (o .class-of) m owner d
+          → length vs ≡ length (d .parameters)
           → Entered 0 (call m e es) s (stop deep (called j vs u))
       -- Figure 4, recl.
       recl : {n k d j : ℕ} {s : State} (o o′ : Object)
@@ -155,6 +157,7 @@ module _ (P : List Class) (fuel room : ℕ) where
           (o : Object) (owner : ℕ) (d : Declaration)
           → Evaluates (suc n) e s (ok (object j) t) → EvaluatesAll (suc n) es t (ok vs u)
           → nth (u .heap) j ≡ some o → FindsMethod P (o .class-of) m owner d
+          → length vs ≡ length (d .parameters)
           → Evaluates n (d .body) (called j vs u) (stop x w)
           → Entered (suc n) (call m e es) s (stop x w)
       -- Figure 6: J, in its condition.

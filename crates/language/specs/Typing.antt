@@ -20,7 +20,7 @@ use Rattle.language.specs.Tree.{classes-lines, Program}
 use Rattle.language.specs.Environment.{Slot, Environment, fresh-slot, with-type, method-environment}
 use Rattle.language.specs.Environment.{start-environment}
 use Rattle.language.specs.World.{World, field-type, is-declared, is-declared-type}
-use Rattle.language.specs.Effects.{no-effect, effect-of, effect-of-all, join, within, apply-class}
+use Rattle.language.specs.Effects.{no-effect, effect-of, join, within, apply-class}
 use Rattle.language.specs.Effects.{apply, apply-expr}
 use Rattle.language.specs.Program.{world}
 
@@ -151,7 +151,7 @@ module _ (W : World) where
         typed (known (class c)) (a .slots) (a .effect)
     -- W: 4.
     type-of (new c) at γ =
-        require (is-declared W c) name-refusal at λ _.
+        require (W .makes c) name-refusal at λ _.
         typed (known (class c)) γ no-effect
     -- R: 4, 7, 11. That root is applied to all slots, then this slot becomes d.
     type-of (change k d) at γ =
@@ -211,28 +211,30 @@ module _ (W : World) where
         })
 
   -- A method: its body, then on its M line the body's type and effect.
-  unfoldable pub type-method : ℕ → ℕ → Declaration → Pass
-  type-method owner at m =
+  unfoldable pub type-method : ℕ → ℕ → ℕ → Declaration → Pass
+  type-method owner number at m =
       bind-checked (type-of (m .body) (at + heading-lines m) (method-environment owner (m .parameters))) λ a.
       require (fits (a .type) (m .result)) type-refusal at λ _.
-      require (within (a .effect) (effect-of-all (m .effects))) effect-refusal at λ _.
+      require (within (a .effect) (W .effect number)) effect-refusal at λ _.
       passed
 
-  unfoldable pub type-methods : ℕ → ℕ → List Declaration → Pass
-  type-methods owner at [] = passed
-  type-methods owner at (m ∷ ms) =
-      bind-checked (type-method owner at m) λ _. type-methods owner (at + method-lines m) ms
+  -- Methods of one class, the first of which has this number.
+  unfoldable pub type-methods : ℕ → ℕ → ℕ → List Declaration → Pass
+  type-methods owner number at [] = passed
+  type-methods owner number at (m ∷ ms) =
+      bind-checked (type-method owner number at m) λ _.
+      type-methods owner (suc number) (at + method-lines m) ms
 
-  -- The classes from number k on, the first at line `at`.
-  unfoldable pub type-classes : ℕ → ℕ → List Class → Pass
-  type-classes k at [] = passed
-  type-classes k at (c ∷ cs) =
-      bind-checked (type-methods k (at + 1 + length (c .fields)) (c .methods)) λ _.
-      type-classes (suc k) (at + class-lines c) cs
+  -- The classes from number k on, the first at line `at`; so many methods come before it.
+  unfoldable pub type-classes : ℕ → ℕ → ℕ → List Class → Pass
+  type-classes k number at [] = passed
+  type-classes k number at (c ∷ cs) =
+      bind-checked (type-methods k number (at + 1 + length (c .fields)) (c .methods)) λ _.
+      type-classes (suc k) (number + length (c .methods)) (at + class-lines c) cs
 
 -- The pass: the methods in order, then the start block, which follows the S line.
 unfoldable pub bodies : Program → Pass
 bodies p = let W = world (p .classes) in
-    bind-checked (type-classes W 1 1 (p .classes)) λ _.
+    bind-checked (type-classes W 1 0 1 (p .classes)) λ _.
     bind-checked (type-of W (p .start) (2 + classes-lines (p .classes)) start-environment) λ _.
     passed

@@ -23,6 +23,8 @@ use Rattle.language.specs.Tree.{flatten-program}
 use Rattle.language.specs.World.{place, field-type}
 use Rattle.language.specs.Effects.{effect-of, member, join, within, effect-of-all, apply-class}
 use Rattle.language.specs.Program.{declared, class-at, kind-at, is-root-class, is-state-type}
+use Rattle.language.specs.Program.{methods-of, number-at, declared-place, world-with, effect-in}
+use Rattle.language.specs.Program.{body-in}
 use Rattle.language.specs.Program.{fields-at, method-at, below-at, root-at, nearest-at, is-changeable}
 use Rattle.language.specs.Program.{world}
 use Rattle.language.specs.Typing.{need-class, all-fit, join-slots, can-change, locals-declared}
@@ -259,7 +261,9 @@ unfolding table typed nth bind-checked need-checked require earlier letter-among
     line-text read-lines write-lines count size heading-lines method-lines methods-lines class-lines
     classes-lines flatten flatten-methods flatten-classes flatten-program place field-type effect-of member
     join within effect-of-all apply-class declared class-at kind-at is-root-class is-state-type fields-at
-    method-at below-at root-at nearest-at is-changeable world need-class all-fit join-slots can-change
+    methods-of number-at declared-place method-at below-at root-at nearest-at is-changeable world-with
+    effect-in
+    body-in world need-class all-fit join-slots can-change
     locals-declared type-of type-method type-methods type-classes bodies after record-on next if-letter
     locals several node-of node body fields parameters effects method methods classes at-end form same-types
     lines-within check-fields check-parameters check-effects check-methods check-class check-classes

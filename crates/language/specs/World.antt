@@ -6,15 +6,16 @@ use mathlib.Core.Bool.{Bool, true}
 use mathlib.Core.List.{List, [], _∷_}
 use lib.Dec.{eqb, leb}
 use Rattle.language.specs.Lists.{nth, bind-option, choice}
-use Rattle.language.specs.Tree.{DeclaredType, bool, class, Expr, Field}
+use Rattle.language.specs.Tree.{DeclaredType, bool, class, Field}
 
--- A method as a lookup finds it: the class that declares it, its heading with the effect as a set, its body.
+-- A method as a lookup finds it: its number, which is how many methods stand before it in the program; the class that
+-- declares it; result and parameters; its effect as a set.
 pub record Method : Type 0 where
+  pub number : ℕ
   pub owner : ℕ
   pub result : DeclaredType
   pub parameters : List DeclaredType
   pub effect : ℕ
-  pub body : Expr
 
 pub record World : Type 0 where
   pub count : ℕ  -- classes declared
@@ -24,6 +25,8 @@ pub record World : Type 0 where
   pub root : ℕ → ℕ  -- of a state class its nearest root; of any other itself
   pub changeable : ℕ → Bool  -- a root or state class
   pub nearest : ℕ → ℕ → ℕ  -- the nearest common superclass
+  pub makes : ℕ → Bool  -- W may make an object of it
+  pub effect : ℕ → ℕ  -- of a method, by its number
 
 -- The place of the field of a name, from 0.
 unfoldable pub place : ℕ → List Field → Option ℕ

@@ -99,6 +99,16 @@ pub const ALL_CLASSES: usize = MOST_CLASSES as usize + 1;
 
 pub const TABLE_LENGTH: usize = ALL_CLASSES * CLASS_WIDTH;
 
+// Where the table of methods has what (specs/MethodTables.antt): how many numbers a method has there. The row of its M line
+// is the first; its class, its number of parameters and the row of its body have these places.
+pub const METHOD_WIDTH: usize = 4;
+
+pub const OWNER_PLACE: usize = 1;
+
+pub const PARAMETERS_PLACE: usize = 2;
+
+pub const BODY_PLACE: usize = 3;
+
 // How many numbers of a store an object has, how many objects there may be, and how many calls active at once.
 pub const OBJECT_WIDTH: usize = 18;
 

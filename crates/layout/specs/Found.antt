@@ -1,36 +1,42 @@
--- What a lookup by row finds in a program whose parts stand in rows (`ProgramAt`). No theorem here asks that
--- classes are well formed; k is any number.
+-- What stands where in a program whose parts stand in rows (`ProgramAt`). No theorem here asks that classes are well
+-- formed; k is any number.
 --   class-here    the class of number k: its C line is row class-row P k
---   found-row     where method-row P k m is some row r, the declaring class and the declaration: `FoundRow`
---   found-none    where there is no row, no method is found; row-some: where a method is found, there is a row
---   method-here   its lines and its body in rows, and its form
---   field-here    the i-th field of class k has a row, and its F line there
 --   body-here     a body is a block, whose B line is its first row
+--   each-placed   what holds of each method of each class holds of the placed methods
+--   owned         the class that declares a placed method
+--   method-here   its lines, its form, its body's B line
+--   methods-few   methods are at most a third as many as rows
+--   found-number, found-none   where the table has the number of a method, the method that is found; where it has none,
+--                 no method is found
+--   field-here    the i-th field of class k has a row, and its F line there
 use mathlib.Core.Path.{_≡_, refl, sym, ap, _∙_, subst}
-use Prim.Native.Nat.{ℕ, zero, suc, _+_, _-_}
+use Prim.Native.Nat.{ℕ, zero, suc, _+_, _-_, _*_, _≤_, _<_}
 use mathlib.Core.Option.{Option, none, some}
-use mathlib.Core.Bool.{Bool, true, false}
 use mathlib.Core.List.{List, [], _∷_, _++_}
-use lib.ListN.{length, take}
-use lib.Dec.{eqb}
-use borrow.Author.Tests.{eqb-true}
+use lib.ListN.{length, take, length-append}
 use native.Mathlib.Omega.{arith}
 use Rattle.language.specs.Limits.{Most, of-check}
-use Rattle.language.specs.Lists.{nth, given, choice, Never, inj, All2, a-nil, a-cons, all2-at′}
+use Rattle.language.specs.Lists.{nth, given, Never, inj, All2, a-nil, a-cons, all2-at′, map-option}
 use Rattle.language.specs.Lists.{all2-append}
 use Rattle.language.specs.Rows.{F-field, B-block}
 use Rattle.language.specs.Tree.{DeclaredType, type-number, Expr, block, Exprs, count, size, Field}
-use Rattle.language.specs.Tree.{Declaration, Class}
+use Rattle.language.specs.Tree.{heading-lines}
+use Rattle.language.specs.Tree.{Declaration, Class, sizes, methods-lines}
 use Rattle.language.specs.Tree.{Program, method-lines, class-lines, classes-lines}
 use Rattle.language.specs.World.{Method}
-use Rattle.language.specs.Program.{method-of, declared, class-at, fields-at, method-at, world}
+use Rattle.language.specs.Program.{class-at, fields-at, world, world-with}
 use Rattle.language.specs.WellFormed.{Each, each-cons, FieldInForm, MethodInForm, ClassInForm, BodyInForm}
-use Rattle.language.specs.WellFormed.{form-body}
-use Rattle.language.specs.ClassTables.{rows-from, declared-row, class-row, field-rows-at, field-rows}
-use Rattle.language.specs.ClassTables.{method-row-at, method-row}
+use Rattle.language.specs.WellFormed.{form-body, form-block, each-nil, NodeInForm}
+use Rattle.language.specs.Tree.{nil, cons}
+use Rattle.language.specs.ClassTables.{rows-from, class-row, field-rows-at, field-rows, method-number}
 use Rattle.language.specs.Encoded.{RowAt, NodeAt, LinesAt, Encoded}
 use Rattle.language.specs.Layout.{EachMethod, EachClass, FieldsAt, MethodAt, ClassAt, ProgramAt}
+use Rattle.language.specs.Layout.{methods-from-row}
 use Rattle.theory.specs.Lookups.{each-at}
+use Rattle.language.proofs.Tables.{size-positive}
+use Rattle.language.specs.MethodTables.{PlacedMethod, placed-in, placed-from, placed-methods}
+use mathlib.Core.Logic.{_⊎_, inl, inr}
+use Rattle.language.specs.Layout.{start-row, body-row}
 
 -- ---- classes
 
@@ -76,188 +82,209 @@ unfolding class-at
 class-in-form h zero c e = absurd (Never e)
 class-in-form h (suc i) c e = each-at (h .in-form .classes) i c e
 
+-- ---- bodies
+
+pub record BlockHere (R E : List ℕ) (e : Expr) (r : ℕ) : Type 0 where
+  pub locals : List DeclaredType
+  pub expressions : Exprs
+  pub is-block : e ≡ block locals expressions
+  pub node : NodeAt R E r B-block (length locals) (count expressions) (size e)
+
+pub body-here : {R E : List ℕ} {most : Most} {n : ℕ} {e : Expr} (r : ℕ) → BodyInForm most n e
+    → Encoded R E e r → BlockHere R E e r
+unfolding Encoded size
+body-here r (form-body {ts} {es} i) h = record { locals = ts; expressions = es; is-block = refl; node = h .0 }
+
 -- ---- methods
 
--- The declaration that a row stands for, among those of one class of which the first stands at row r.
-record Declares (ds : List Declaration) (m : ℕ) : Type 0 where
-  declaration : Declaration
-  place : ℕ
-  declares : declared ds m ≡ some declaration
-  there : nth ds place ≡ some declaration
-  name : declaration .name ≡ m
+-- What stands at a place of two lists stands in one of them.
+nth-either : {A : Type 0} (l r : List A) (i : ℕ) (a : A) → nth (l ++ r) i ≡ some a
+    → (nth l i ≡ some a) ⊎ ((j : ℕ) × (nth r j ≡ some a))
+unfolding nth
+nth-either [] r i a e = inr (i, e)
+nth-either (x ∷ l) r zero a e = inl e
+nth-either (x ∷ l) r (suc i) a e = nth-either l r i a e
 
-declares : (r : ℕ) (ds : List Declaration) (m q : ℕ) → declared-row r ds m ≡ some q → Declares ds m
-unfolding declared-row declared nth
-declares r [] m q e = absurd (Never e)
-declares r (d ∷ ds) m q e = go (eqb (d .name) m) refl (λ e. declares (r + method-lines d) ds m q e) e
-  where
-    go : (b : Bool) → eqb (d .name) m ≡ b → (declared-row (r + method-lines d) ds m ≡ some q → Declares ds m)
-        → choice b (λ _. some r) (λ _. declared-row (r + method-lines d) ds m) ≡ some q → Declares (d ∷ ds) m
-    go true t rec e = record {
-      declaration = d;
-      place = 0;
-      declares = rw t;
-      there = refl;
-      name = eqb-true
-          (d .name) m t;
-    }
-    go false t rec e = let x = rec e in
-        record {
-          declaration = x .declaration;
-          place = suc (x .place);
-          declares = rw t (x .declares);
-          there = x .there;
-          name = x .name;
-        }
+-- What holds of each method of each class holds of each placed method.
+module _ (Q : ℕ → Declaration → ℕ → Type 0) where
+  abbrev Of : PlacedMethod → Type 0
+  Of x = Q (x .owner) (x .declaration) (x .row)
 
-declares-none : (r : ℕ) (ds : List Declaration) (m : ℕ) → declared-row r ds m ≡ none → declared ds m ≡ none
-unfolding declared-row declared
-declares-none r [] m e = refl
-declares-none r (d ∷ ds) m e = go (eqb (d .name) m) (λ e. declares-none (r + method-lines d) ds m e) e
-  where
-    go : (b : Bool) → (declared-row (r + method-lines d) ds m ≡ none → declared ds m ≡ none)
-        → choice b (λ _. some r) (λ _. declared-row (r + method-lines d) ds m) ≡ none
-        → choice b (λ _. some d) (λ _. declared ds m) ≡ none
-    go true rec e = absurd (Never (sym e))
-    go false rec e = rec e
+  each-in : (k r : ℕ) (ds : List Declaration) (i : ℕ) (x : PlacedMethod) → EachMethod Q ds k r
+      → nth (placed-in k r ds) i ≡ some x → Of x
+  unfolding EachMethod placed-in nth
+  each-in k r [] i x h e = absurd (Never e)
+  each-in k r (d ∷ ds) zero x h e = subst Of (inj e) (h .0)
+  each-in k r (d ∷ ds) (suc i) x h e = each-in k (r + method-lines d) ds i x (h .1) e
 
--- What holds of each method holds of the one that a row stands for.
-at-declared : (Q : ℕ → Declaration → ℕ → Type 0) (k r : ℕ) (ds : List Declaration) (m q : ℕ) (d : Declaration)
-    → EachMethod Q ds k r → declared-row r ds m ≡ some q → declared ds m ≡ some d → Q k d q
-unfolding declared-row declared EachMethod
-at-declared Q k r [] m q d h e f = absurd (Never e)
-at-declared Q k r (x ∷ ds) m q d h e f =
-    go (eqb (x .name) m) (λ e f. at-declared Q k (r + method-lines x) ds m q d (h .1) e f) e f
-  where
-    go : (b : Bool) → (declared-row (r + method-lines x) ds m ≡ some q → declared ds m ≡ some d → Q k d q)
-        → choice b (λ _. some r) (λ _. declared-row (r + method-lines x) ds m) ≡ some q
-        → choice b (λ _. some x) (λ _. declared ds m) ≡ some d → Q k d q
-    go true rec e f = subst (λ (n : ℕ). Q k d n) (inj e) (subst (λ (y : Declaration). Q k y r) (inj f) (h .0))
-    go false rec e f = rec e f
+  each-from : (k r : ℕ) (cs : List Class) (i : ℕ) (x : PlacedMethod)
+      → EachClass (λ k c r. EachMethod Q (c .methods) k (methods-from-row r c)) cs k r
+      → nth (placed-from k r cs) i ≡ some x → Of x
+  unfolding EachClass placed-from nth
+  each-from k r [] i x h e = absurd (Never e)
+  each-from k r (c ∷ cs) i x h e =
+      elim (nth-either (placed-in k (methods-from-row r c) (c .methods)) _ i x e) [
+        | inl q ↦ each-in k (methods-from-row r c) (c .methods) i x (h .0) q
+        | inr q ↦ each-from (suc k) (r + class-lines c) cs (q .0) x (h .1) (q .1)
+      ]
 
--- A method found from class k under a name by its row: the class that declares it, and the declaration.
-pub record FoundRow (P : List Class) (k m r : ℕ) : Type 0 where
-  pub owner : ℕ
+  pub each-placed : (P : List Class)
+      → EachClass (λ k c r. EachMethod Q (c .methods) k (methods-from-row r c)) P 1 0
+      → (i : ℕ) (x : PlacedMethod) → nth (placed-methods P) i ≡ some x
+      → Q (x .owner) (x .declaration) (x .row)
+  unfolding placed-methods
+  each-placed P h i x e = each-from 1 0 P i x h e
+
+-- The class that declares a placed method, and the method's place there.
+pub record Owned (P : List Class) (x : PlacedMethod) : Type 0 where
   pub owning : Class
-  pub declaration : Declaration
   pub place : ℕ
-  pub is-class : class-at P owner ≡ some owning
-  pub declares : declared (owning .methods) m ≡ some declaration
-  pub there : nth (owning .methods) place ≡ some declaration
-  pub name : declaration .name ≡ m
-  pub row : declared-row (class-row P owner + 1 + length (owning .fields)) (owning .methods) m ≡ some r
-  pub found : world P .method k m ≡ some (method-of owner declaration)
+  pub is-class : class-at P (x .owner) ≡ some owning
+  pub there : nth (owning .methods) place ≡ some (x .declaration)
 
--- The same while going up, with fewer than n superclasses.
-record Going (P : List Class) (n k m r : ℕ) : Type 0 where
-  owner : ℕ
+owned-in : (k r : ℕ) (ds : List Declaration) (i : ℕ) (x : PlacedMethod) → nth (placed-in k r ds) i ≡ some x
+    → (x .owner ≡ k) × (nth ds i ≡ some (x .declaration))
+unfolding placed-in nth
+owned-in k r [] i x e = absurd (Never e)
+owned-in k r (d ∷ ds) zero x e = let q = inj e in
+    (sym (ap (λ (y : PlacedMethod). y .owner) q), ap (λ (y : PlacedMethod). some (y .declaration)) q)
+owned-in k r (d ∷ ds) (suc i) x e = owned-in k (r + method-lines d) ds i x e
+
+-- The same among classes of which the first has number k.
+record Within (k : ℕ) (cs : List Class) (x : PlacedMethod) : Type 0 where
+  number : ℕ
   owning : Class
-  from : Declares (owning .methods) m
-  is-class : class-at P owner ≡ some owning
-  row : declared-row (class-row P owner + 1 + length (owning .fields)) (owning .methods) m ≡ some r
-  found : method-at P n k m ≡ some (method-of owner (from .declaration))
+  place : ℕ
+  owner : x .owner ≡ k + number
+  is-class : nth cs number ≡ some owning
+  there : nth (owning .methods) place ≡ some (x .declaration)
 
-going : (P : List Class) (n k m r : ℕ) → method-row-at P n k m ≡ some r → Going P n k m r
-unfolding method-row-at method-at
-going P zero k m r e = absurd (Never e)
-going P (suc n) k m r e = go (class-at P k) refl (λ c e. going P n (c .super) m r e) e
-  where
-    own : (c : Class) → class-at P k ≡ some c → (o : Option ℕ)
-        → declared-row (class-row P k + 1 + length (c .fields)) (c .methods) m ≡ o
-        → (method-row-at P n (c .super) m ≡ some r → Going P n (c .super) m r)
-        → given o (method-row-at P n (c .super) m) (λ r. some r) ≡ some r → Going P (suc n) k m r
-    own c p none q rec e = let x = rec e in record {
-      owner = x .owner;
-      owning = x .owning;
-      from = x .from;
-      is-class = x .is-class;
-      row = x .row;
-      found = rw (p, declares-none _ (c .methods) m q) (x .found);
-    }
-    own c p (some q) t rec e = let x = declares _ (c .methods) m q t in record {
-      owner = k;
-      owning = c;
-      from = x;
-      is-class = p;
-      row = t ∙ e;
-      found = rw (p, x .declares);
-    }
-
-    go : (o : Option Class) → class-at P k ≡ o
-        → ((c : Class) → method-row-at P n (c .super) m ≡ some r → Going P n (c .super) m r)
-        → given o none (λ c. given (declared-row (class-row P k + 1 + length (c .fields)) (c .methods) m)
-        (method-row-at P n (c .super) m) λ r. some r)
-        ≡ some r → Going P (suc n) k m r
-    go none p rec e = absurd (Never e)
-    go (some c) p rec e =
-        own c p (declared-row (class-row P k + 1 + length (c .fields)) (c .methods) m) refl (rec c) e
-
-going-none : (P : List Class) (n k m : ℕ) → method-row-at P n k m ≡ none → method-at P n k m ≡ none
-unfolding method-row-at method-at
-going-none P zero k m e = refl
-going-none P (suc n) k m e = go (class-at P k) (λ c e. going-none P n (c .super) m e) e
-  where
-    own : (c : Class) (o : Option ℕ)
-        → declared-row (class-row P k + 1 + length (c .fields)) (c .methods) m ≡ o
-        → (method-row-at P n (c .super) m ≡ none → method-at P n (c .super) m ≡ none)
-        → given o (method-row-at P n (c .super) m) (λ r. some r) ≡ none
-        → given (declared (c .methods) m) (method-at P n (c .super) m) (λ d. some (method-of k d)) ≡ none
-    own c none q rec e = rw (declares-none _ (c .methods) m q) (rec e)
-    own c (some q) t rec e = absurd (Never (sym e))
-
-    go : (o : Option Class)
-        → ((c : Class) → method-row-at P n (c .super) m ≡ none → method-at P n (c .super) m ≡ none)
-        → given o none (λ c. given (declared-row (class-row P k + 1 + length (c .fields)) (c .methods) m)
-        (method-row-at P n (c .super) m) λ r. some r) ≡ none
-        → given o none (λ c. given (declared (c .methods) m) (method-at P n (c .super) m) λ d. some
-        (method-of k d)) ≡ none
-    go none rec e = refl
-    go (some c) rec e = own c (declared-row (class-row P k + 1 + length (c .fields)) (c .methods) m) refl
-        (rec c) e
-
-module _ (P : List Class) where
-  pub found-row : (k m r : ℕ) → method-row P k m ≡ some r → FoundRow P k m r
-  unfolding method-row world
-  found-row k m r e = let x = going P (suc k) k m r e in record {
-    owner = x .owner;
-    owning = x .owning;
-    declaration = x .from .declaration;
-    place = x .from .place;
-    is-class = x .is-class;
-    declares = x .from .declares;
-    there = x .from .there;
-    name = x .from .name;
-    row = x .row;
-    found = x .found;
+owned-from : (k r : ℕ) (cs : List Class) (i : ℕ) (x : PlacedMethod) → nth (placed-from k r cs) i ≡ some x
+    → Within k cs x
+unfolding placed-from nth
+owned-from k r [] i x e = absurd (Never e)
+owned-from k r (c ∷ cs) i x e = elim (nth-either (placed-in k (methods-from-row r c) (c .methods)) _ i x e) [
+  | inl q ↦ let y = owned-in k (methods-from-row r c) (c .methods) i x q in
+      record { number = 0; owning = c; place = i; owner = omega (arith, y .0); is-class = refl; there = y .1 }
+  | inr q ↦ let y = owned-from (suc k) (r + class-lines c) cs (q .0) x (q .1) in record {
+    number = suc (y .number);
+    owning = y .owning;
+    place = y .place;
+    owner = omega (arith, y .owner);
+    is-class = y .is-class;
+    there = y .there;
   }
+]
 
-  pub found-none : (k m : ℕ) → method-row P k m ≡ none → world P .method k m ≡ none
-  unfolding method-row world
-  found-none k m e = going-none P (suc k) k m e
+pub owned : (P : List Class) (i : ℕ) (x : PlacedMethod) → nth (placed-methods P) i ≡ some x → Owned P x
+unfolding placed-methods class-at
+owned P i x e = let y = owned-from 1 0 P i x e in
+    let z : x .owner ≡ suc (y .number) = omega (arith, y .owner) in
+    record {
+      owning = y .owning;
+      place = y .place;
+      is-class = ap (class-at P) z ∙ y .is-class;
+      there = y .there;
+    }
 
-  pub row-some : (k m : ℕ) (M : Method) → world P .method k m ≡ some M → (r : ℕ) × (method-row P k m ≡ some r)
-  row-some k m M e = go (method-row P k m) refl
+-- A placed method of a program that stands in rows: its class, its lines, its form, its body's B line. Its row and its
+-- body's row are among the rows that may be accepted.
+pub record MethodHere (R E : List ℕ) (P : List Class) (x : PlacedMethod) : Type 0 where
+  pub in-class : Owned P x
+  pub at : MethodAt R E (x .declaration) (x .row)
+  pub in-form : MethodInForm of-check (x .declaration)
+  pub body : BlockHere R E (x .declaration .body) (x .row + heading-lines (x .declaration))
+  pub row-short : x .row < of-check .rows
+  pub body-short : x .row + heading-lines (x .declaration) < of-check .rows
+
+classes-methods : (R E : List ℕ) (cs : List Class) (k r : ℕ) → EachClass (ClassAt R E) cs k r
+    → EachClass (λ k c r. EachMethod (λ k m r. MethodAt R E m r) (c .methods) k (methods-from-row r c)) cs k r
+unfolding EachClass
+classes-methods R E [] k r h = tt
+classes-methods R E (c ∷ cs) k r h =
+    (h .0 .methods, classes-methods R E cs (suc k) (r + class-lines c) (h .1))
+
+pub method-here : {R E : List ℕ} {p : Program} → ProgramAt R E p → (i : ℕ) (x : PlacedMethod)
+    → nth (placed-methods (p .classes)) i ≡ some x → MethodHere R E (p .classes) x
+unfolding heading-lines
+method-here {R} {E} {p} h i x e =
+    let P = p .classes in let d = x .declaration in
+    let y = owned P i x e in
+    let at = each-placed (λ k m r. MethodAt R E m r) P (classes-methods R E P 1 0 (h .classes)) i x e in
+    let form = each-at (class-in-form h (x .owner) (y .owning) (y .is-class) .methods) (y .place) d
+    (y .there) in
+    let z : body-row (x .row) d ≡ x .row + heading-lines d = omega arith in
+    let body = subst (BlockHere R E (d .body)) z (body-here (body-row (x .row) d) (form .body) (at .body)) in
+    record {
+      in-class = y;
+      at = at;
+      in-form = form;
+      body = body;
+      row-short = omega (arith, at .line .within, h .short);
+      body-short = omega (arith, body .node .row .within, h .short);
+    }
+
+-- A method takes at least three rows: its M line, its body's B line and a node.
+nodes-one : (es : Exprs) → 1 ≤ count es → 1 ≤ sizes es
+unfolding count sizes
+nodes-one nil l = l
+nodes-one (cons e es) l = omega (arith, size-positive e)
+
+block-two : {most : Most} {d n : ℕ} {ts : List DeclaredType} {es : Exprs} → NodeInForm most d n (block ts es)
+    → 2 ≤ size (block ts es)
+unfolding size
+block-two {es} (form-block a b c d i) = omega (arith, nodes-one es b)
+
+body-two : {most : Most} {n : ℕ} {e : Expr} → BodyInForm most n e → 2 ≤ size e
+body-two (form-body i) = block-two i
+
+method-three : {most : Most} (m : Declaration) → MethodInForm most m → 3 ≤ method-lines m
+unfolding method-lines heading-lines
+method-three m f = omega (arith, body-two (f .body))
+
+in-few : {most : Most} (k r : ℕ) {ds : List Declaration} → Each (MethodInForm most) ds
+    → length (placed-in k r ds) * 3 ≤ methods-lines ds
+unfolding placed-in methods-lines
+in-few k r each-nil = omega arith
+in-few k r (each-cons {a} i is) = omega (arith, method-three a i, in-few k (r + method-lines a) is)
+
+from-few : {most : Most} (k r : ℕ) {cs : List Class} → Each (ClassInForm most) cs
+    → length (placed-from k r cs) * 3 ≤ classes-lines cs
+unfolding placed-from classes-lines class-lines
+from-few k r each-nil = omega arith
+from-few k r (each-cons {a} {l} i is) = omega (
+  arith,
+  in-few k (methods-from-row r a) (i .methods),
+  from-few (suc k) (r + class-lines a) is,
+  length-append (placed-in k (methods-from-row r a) (a .methods)) (placed-from (suc k) (r + class-lines a) l),
+)
+
+-- So a program has at most a third as many methods as rows before its S line: at most 20,000.
+pub methods-few : {R E : List ℕ} {p : Program} → ProgramAt R E p
+    → length (placed-methods (p .classes)) * 3 ≤ start-row p
+unfolding placed-methods
+methods-few h = from-few 1 0 (h .in-form .classes)
+
+-- What the number of a method in the table stands for.
+module _ (P : List Class) where
+  pub found-number : (k m i : ℕ) → method-number P k m ≡ some i
+      → (M : Method) × (world P .method k m ≡ some M) × (M .number ≡ i)
+  unfolding method-number
+  found-number k m i e = go (world P .method k m) refl e
     where
-      go : (o : Option ℕ) → method-row P k m ≡ o → (r : ℕ) × (method-row P k m ≡ some r)
-      go none q = absurd (Never (sym (found-none k m q) ∙ e))
-      go (some r) q = (r, q)
+      go : (o : Option Method) → world P .method k m ≡ o → map-option (λ (M : Method). M .number) o ≡ some i
+          → (M : Method) × (world P .method k m ≡ some M) × (M .number ≡ i)
+      go none q e = absurd (Never e)
+      go (some M) q e = (M, q, inj e)
 
--- The lines and the body of a method found.
-pub record MethodHere (R E : List ℕ) (P : List Class) (k m r : ℕ) : Type 0 where
-  pub row : FoundRow P k m r
-  pub at : MethodAt R E (row .declaration) r
-  pub in-form : MethodInForm of-check (row .declaration)
-
-pub method-here : {R E : List ℕ} {p : Program} → ProgramAt R E p → (k m r : ℕ)
-    → method-row (p .classes) k m ≡ some r
-    → MethodHere R E (p .classes) k m r
-method-here {R} {E} {p} h k m r e = let x = found-row (p .classes) k m r e in record {
-  row = x;
-  at = at-declared (λ k d r. MethodAt R E d r) (x .owner) _ (x .owning .methods) m r (x .declaration)
-      (class-here h (x .owner) (x .owning) (x .is-class) .methods) (x .row) (x .declares);
-  in-form = each-at (class-in-form h (x .owner) (x .owning) (x .is-class) .methods) (x .place)
-      (x .declaration) (x .there);
-}
+  pub found-none : (k m : ℕ) → method-number P k m ≡ none → world P .method k m ≡ none
+  unfolding method-number
+  found-none k m e = go (world P .method k m) refl e
+    where
+      go : (o : Option Method) → world P .method k m ≡ o → map-option (λ (M : Method). M .number) o ≡ none
+          → world P .method k m ≡ none
+      go none q e = q
+      go (some M) q e = absurd (Never (sym e))
 
 -- ---- fields
 
@@ -292,22 +319,9 @@ module _ {R E : List ℕ} {p : Program} (h : ProgramAt R E p) where
 
   pub all-fields-here : (k : ℕ)
       → All2 (FieldHere R) (world (p .classes) .fields k) (field-rows (p .classes) k)
-  unfolding world field-rows
+  unfolding world world-with field-rows
   all-fields-here k = fields-along (suc k) k
 
   pub field-here : (k i : ℕ) (f : Field) → nth (world (p .classes) .fields k) i ≡ some f
       → (r : ℕ) × (nth (field-rows (p .classes) k) i ≡ some r) × FieldHere R f r
   field-here k i f e = all2-at′ (all-fields-here k) i f e
-
--- ---- bodies
-
-pub record BlockHere (R E : List ℕ) (e : Expr) (r : ℕ) : Type 0 where
-  pub locals : List DeclaredType
-  pub expressions : Exprs
-  pub is-block : e ≡ block locals expressions
-  pub node : NodeAt R E r B-block (length locals) (count expressions) (size e)
-
-pub body-here : {R E : List ℕ} {most : Most} {n : ℕ} {e : Expr} (r : ℕ) → BodyInForm most n e
-    → Encoded R E e r → BlockHere R E e r
-unfolding Encoded size
-body-here r (form-body {ts} {es} i) h = record { locals = ts; expressions = es; is-block = refl; node = h .0 }

@@ -14,7 +14,7 @@ use Rattle.language.specs.Results.{accept, bind-checked-inv, require-inv}
 use Rattle.language.specs.Tree.{DeclaredType, Kind, unknown, Field, Declaration, Class, class-lines}
 use Rattle.language.specs.Tree.{method-lines}
 use Rattle.language.specs.World.{is-declared-type}
-use Rattle.language.specs.Program.{is-plain, is-root, is-state, class-at, kind-at, world}
+use Rattle.language.specs.Program.{is-plain, is-root, is-state, class-at, kind-at, world, world-with}
 use Rattle.language.specs.Headings.{check-methods, check-class, check-classes, headings}
 use Rattle.language.specs.ClassRelations.{TypeDeclared}
 use Rattle.language.specs.WellFormed.{Each, each-nil, each-cons, Extends, plain-object, plain-plain}
@@ -24,9 +24,10 @@ use Rattle.language.proofs.Classes.{class-count}
 use Rattle.theory.specs.WellEqual.{extends, fields-well, parameters-well, effects-well}
 use Rattle.theory.specs.Superclasses.{fields-law}
 use Rattle.theory.specs.LookupsAgree.{declared-is, field-type-declared}
+use Rattle.language.specs.MethodTables.{PlacedMethod}
 use Rattle.theory.specs.MoreLookups.{own-few}
 use Rattle.theory.specs.Lookups.{each-at, each-append}
-use Rattle.layout.specs.Found.{FoundRow}
+use Rattle.layout.specs.Found.{Owned}
 
 pub record MethodHeaded (P : List Class) (m : Declaration) : Type 0 where
   pub result : is-declared-type (world P) (m .result) ≡ true
@@ -115,19 +116,19 @@ module _ (P : List Class) where
     kinds-known k n c e = kind-known n (class-headed k c e .kind)
 
     pub fields-few : (k : ℕ) → length (world P .fields k) ≤ 17
-    unfolding world
+    unfolding world world-with
     fields-few k = fields-law P super-lower (λ fs. length fs ≤ 17) (omega arith)
         (λ k c p l. own-few (class-headed k c p .fields) l)
         (suc k) k (omega arith)
 
     pub field-declared : (k i : ℕ) (f : Field) → nth (world P .fields k) i ≡ some f
         → is-declared-type (world P) (f .type) ≡ true
-    unfolding world
+    unfolding world world-with
     field-declared k i f e = each-at
         (fields-law P super-lower (Each (λ (f : Field). is-declared-type (world P) (f .type) ≡ true)) each-nil
         (λ k c p l. each-append l (own-declared (class-headed k c p .fields))) (suc k) k (omega arith)) i f e
 
-    pub method-headed : (k m r : ℕ) (x : FoundRow P k m r) → MethodHeaded P (x .declaration)
-    method-headed k m r x =
-        each-at (class-headed (x .owner) (x .owning) (x .is-class) .methods) (x .place) (x .declaration)
-        (x .there)
+    pub method-headed : (x : PlacedMethod) → Owned P x → MethodHeaded P (x .declaration)
+    method-headed x y =
+        each-at (class-headed (x .owner) (y .owning) (y .is-class) .methods) (y .place) (x .declaration)
+        (y .there)

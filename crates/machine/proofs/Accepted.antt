@@ -1,22 +1,20 @@
--- What the check establishes of rows and tables is what the evaluator asks of them. Assumes nothing.
-use mathlib.Core.Path.{_≡_, refl, sym, ap, _∙_, subst}
+-- What rows and tables hold of an accepted program is what the evaluator asks of them. Assumes nothing.
+use mathlib.Core.Path.{_≡_, refl, ap, _∙_}
 use mathlib.Core.Bool.{true}
-use mathlib.Core.Option.{Option, none, some}
+use mathlib.Core.Option.{some}
 use mathlib.Core.List.{List, [], _∷_}
-use Prim.Native.Nat.{ℕ, suc, _+_, _-_, _≤_, _<_}
+use Prim.Native.Nat.{ℕ, suc, _+_, _-_, _*_, _≤_, _<_}
 use native.Mathlib.Omega.{arith}
 use borrow.Author.Tests.{leb-true, le-leb, ne-eqb}
-use lib.ListN.{length, length-append}
+use lib.ListN.{length, length-append, getD}
 use Rattle.language.specs.Limits.{of-check}
-use Rattle.language.specs.Lists.{nth, inj}
-use Rattle.language.specs.Results.{accept, bind-checked-inv, require-inv, accept-injective}
-use Rattle.language.specs.Verdict.{whole-rows, three-passes, check}
+use Rattle.language.specs.Lists.{nth}
 use Rattle.language.specs.Tree.{DeclaredType, bool, class, type-number, type-of-number, ExprType, Expr}
 use Rattle.language.specs.Tree.{literal, slot, is-null}
 use Rattle.language.specs.Tree.{get, cast, new, change, assign, set, call, choose, block, Exprs, nil, cons}
-use Rattle.language.specs.Tree.{count, Field, Class, Program}
+use Rattle.language.specs.Tree.{count, Field, Class, Program, heading-lines}
 use Rattle.language.specs.World.{Method, is-declared}
-use Rattle.language.specs.Program.{world, class-at, method-of}
+use Rattle.language.specs.Program.{world, world-with, class-at}
 use Rattle.language.specs.Environment.{Environment}
 use Rattle.theory.specs.ComputedRules.{Declared, declared-nil, declared-cons, HasType, HaveTypes, type-new}
 use Rattle.theory.specs.ComputedRules.{type-cast, type-get, type-set, type-assign, type-is-null, type-call}
@@ -24,29 +22,34 @@ use Rattle.theory.specs.ComputedRules.{type-choose, type-block, type-change, ty
 use Rattle.language.specs.WellFormed.{NodeInForm, NodesInForm, form-is-null, form-get, form-cast, form-assign}
 use Rattle.language.specs.WellFormed.{form-set, form-call, form-choose, form-block, form-cons, BodyInForm}
 use Rattle.language.specs.WellFormed.{form-body, TypeInForm, ProgramWell}
-use Rattle.language.specs.ClassTables.{ClassTables, method-row}
-use Rattle.language.specs.Layout.{ProgramAt, body-row, start-row}
+use Rattle.language.specs.Layout.{body-row, start-row}
+use Rattle.language.proofs.Methods.{method-found}
 use Rattle.language.specs.State.{initial}
 use Rattle.language.specs.Store.{value-number}
 use Rattle.classes.proofs.Below.{below-is}
 use Rattle.theory.specs.Equal.{all-fit-length}
+use Rattle.theory.specs.RulesAgree.{computed}
 use Rattle.theory.specs.WellEqual.{program-well}
 use Rattle.theory.specs.RulesAgree.{computed}
-use Rattle.theory.specs.Lookups.{hierarchy, well-formed-laws}
+use Rattle.theory.specs.Lookups.{hierarchy, well-formed-laws, well-formed-bodies}
 use Rattle.theory.specs.MoreLookups.{well-formed-more}
-use Rattle.layout.specs.Found.{found-none, row-some, MethodHere, method-here, field-here, body-here}
-use Rattle.objects.specs.Holding.{NamedAll, Within, WithinAll, BodyAt, Linked, absent, present, FirstValueAt}
-use Rattle.objects.specs.Holding.{first-of-type, Holds}
-use Rattle.machine.specs.Contracts.{Accepted, Runs}
-use Rattle.machine.proofs.Lines.{Without, without-then, without-lines}
+use Rattle.layout.specs.Found.{MethodHere, method-here, field-here}
+use Rattle.layout.specs.Held.{Held}
+use Rattle.objects.specs.Holding.{NamedAll, Within, WithinAll, BodyAt, FirstValueAt}
+use Rattle.objects.specs.Holding.{first-of-type, Holds, HoldsMethods}
+use Rattle.machine.specs.Contracts.{call-room, Runs}
 
 -- ---- expressions within the limits
 
 module _ (P : List Class)
     (short : (c m : ℕ) (M : Method) → world P .method c m ≡ some M → length (M .parameters) ≤ 8) where
   is-in : (c : ℕ) → is-declared (world P) c ≡ true → c ≤ length P
-  unfolding world
+  unfolding world world-with
   is-in c e = leb-true c (length P) e
+
+  makes-in : (c : ℕ) → world P .makes c ≡ true → c ≤ length P
+  unfolding world world-with
+  makes-in c e = leb-true c (length P) e
 
   named : (ts : List DeclaredType) → Declared (world P) ts → NamedAll (length P) ts
   unfolding NamedAll
@@ -67,7 +70,7 @@ module _ (P : List Class)
     unfolding Within
 
     pub within-form : (e : Expr) {d n : ℕ} (j : ℕ) {γ γ′ : Environment} {t : ExprType} {φ : ℕ} → j + 1 ≤ n + 8
-        → NodeInForm of-check d n e → HasType (world P) γ e t γ′ φ → Within (length P) j d e
+        → NodeInForm of-check d n e → HasType (world P) γ e t γ′ φ → Within (length P) 264 j d e
     within-form (literal l) j h f t = tt
     within-form (slot k) j h f t = tt
     within-form (is-null e) j h (form-is-null {d} f) (type-is-null t b) =
@@ -76,7 +79,7 @@ module _ (P : List Class)
         (omega arith, omega (arith, l), rw (less d) (within-form e j h f t))
     within-form (cast c e) j h (form-cast {d} l f) (type-cast t b x) =
         (omega arith, is-in c b, rw (less d) (within-form e j h f t))
-    within-form (new c) j h f (type-new b) = is-in c b
+    within-form (new c) j h f (type-new b) = makes-in c b
     within-form (change k c) j h f (type-change b x y z) = is-in c b
     within-form (assign k e) j h (form-assign {d} l f) (type-assign t b x) =
         (omega arith, rw (less d) (within-form e j h f t))
@@ -114,13 +117,13 @@ module _ (P : List Class)
 
     within-all : (es : Exprs) {d n : ℕ} (j : ℕ) {γ γ′ : Environment} {ts : List ExprType} {φ : ℕ}
         → j + 1 ≤ n + 8 → NodesInForm of-check d n es → HaveTypes (world P) γ es ts γ′ φ
-        → WithinAll (length P) j d es
+        → WithinAll (length P) 264 j d es
     within-all nil j h f t = tt
     within-all (cons e es) j h (form-cons f fs) (types-cons t ts) =
         (within-form e j h f t, within-all es j h fs ts)
 
   pub within-body : (e : Expr) {n : ℕ} (j : ℕ) {γ γ′ : Environment} {t : ExprType} {φ : ℕ} → j + 1 ≤ n + 8
-      → BodyInForm of-check n e → HasType (world P) γ e t γ′ φ → Within (length P) j 128 e
+      → BodyInForm of-check n e → HasType (world P) γ e t γ′ φ → Within (length P) 264 j 128 e
   within-body (block ts es) j h (form-body f) t = within-form (block ts es) j h f t
 
 -- ---- rows and tables
@@ -134,18 +137,21 @@ first-number (class c) f = rw (ne-eqb c 255 (λ e. no-bool (f .back) e))
     no-bool : type-of-number c ≡ class c → c ≡ 255 → ⊥
     no-bool b e = let q : bool ≡ class 255 = rw e at b in let z : _≡_ {A = ℕ} 0 1 = cc in omega arith
 
-module _ {R E T A : List ℕ} {p : Program} (a : Accepted R E T A p) where
+module _ {R E T A M F C : List ℕ} {p : Program} (a : Held R E T A M F C p) where
   abbrev P : List Class
   P = p .classes
 
   pub well : ProgramWell p
-  well = program-well p tt tt (a .headings-pass) (a .bodies-pass)
+  well = program-well p tt tt (a .headed .passes) (a .typed)
 
-  short : (c m : ℕ) (M : Method) → world P .method c m ≡ some M → length (M .parameters) ≤ 8
-  short c m M e =
-      let r = row-some P c m M e in
-      let h = method-here (a .standing) c m (r .0) (r .1) in
-      subst (λ (N : Method). length (N .parameters) ≤ 8) (inj (sym (h .row .found) ∙ e)) (h .in-form .few)
+  here : (k m : ℕ) (N : Method) (e : world P .method k m ≡ some N)
+      → MethodHere R E P (method-found P k m N e .placed)
+  here k m N e = let f = method-found P k m N e in
+      method-here (a .headed .here) (N .number) (f .placed) (f .there)
+
+  short : (c m : ℕ) (N : Method) → world P .method c m ≡ some N → length (N .parameters) ≤ 8
+  short c m N e =
+      omega (arith, here c m N e .in-form .few, ap length (method-found P c m N e .parameters))
 
   lower : (k : ℕ) (c : Class) → class-at P k ≡ some c → c .super < k
   lower k c e = hierarchy P (well .classes) .earlier k c e
@@ -153,51 +159,29 @@ module _ {R E T A : List ℕ} {p : Program} (a : Accepted R E T A p) where
   field-at : (k i : ℕ) (f : Field) → k ≤ length P → nth (world P .fields k) i ≡ some f
       → FirstValueAt R T k i f
   field-at k i f l e =
-      let h = field-here (a .standing) k i f e in
-      let r = a .tables .rows k i (h .0) l (h .1) in
+      let h = field-here (a .headed .here) k i f e in
+      let r = a .headed .classes .rows k i (h .0) l (h .1) in
       record {
         within = rw r (omega (arith, h .2 .line .within));
         first = rw (r, h .2 .line .first) (first-number (f .type) (h .2 .in-form .type));
       }
 
-  method-at : (k m r : ℕ) (h : MethodHere R E P k m r)
-      → BodyAt R E (length P) r (method-of (h .row .owner) (h .row .declaration))
-  method-at k m r h =
-      let d = h .row .declaration in
-      let b = body-here (body-row r d) (h .in-form .body) (h .at .body) in
+  body-at : (k m : ℕ) (N : Method) → world P .method k m ≡ some N → BodyAt R E M P (N .number)
+  unfolding heading-lines
+  body-at k m N e =
+      let f = method-found P k m N e in
+      let h = here k m N e in
+      let d = f .placed .declaration in
+      let r : getD M (N .number * 4 + 3) 0 ≡ body-row (f .placed .row) d =
+      omega (arith, a .headed .methods .bodies (N .number) (f .placed) (f .there)) in
       record {
-        body = body-row r d;
-        later = omega arith;
-        short = omega (arith, b .node .row .within);
-        between = λ i x y e. heading .none i x (omega arith) e;
-        block = b .node .row .letter;
-        encoded = h .at .body;
-        within = λ n l. within-body P short (d .body) n (omega arith) (h .in-form .body)
-            (well-formed-laws p well .bodies k m (method-of (h .row .owner) d) (h .row .found) .types);
+        encoded = rw (r, f .body) (h .at .body);
+        within = λ n l. rw (f .body) (within-body P short (d .body) n (omega arith) (h .in-form .body)
+            (rw (f .body) at (well-formed-bodies p well .each k m N e .types)));
       }
-    where
-      heading : Without R 66 (r + 1)
-          (length (h .row .declaration .parameters) + length (h .row .declaration .effects))
-      heading =
-          let np = length (h .row .declaration .parameters) in
-          let nx = length (h .row .declaration .effects) in
-          without-then (r + 1) np (r + 1 + np) nx (np + nx)
-          (without-lines (λ t i v e. omega (arith, v .letter, e)) (h .row .declaration .parameters) (r + 1)
-          (h .at .parameters))
-          (without-lines (λ c i v e. omega (arith, v .letter, e)) (h .row .declaration .effects) (r + 1 + np)
-          (h .at .effects))
-          refl refl
-
-  linked : (k m : ℕ) → Linked R E (length P) (method-row P k m) (world P .method k m)
-  linked k m = go (method-row P k m) refl
-    where
-      go : (o : Option ℕ) → method-row P k m ≡ o → Linked R E (length P) o (world P .method k m)
-      go none e = rw (found-none P k m e) absent
-      go (some r) e = let h = method-here (a .standing) k m r e in
-          rw (h .row .found) (present (method-at k m r h))
 
   declared-in : (k : ℕ) → k ≤ length P → is-declared (world P) k ≡ true
-  unfolding world
+  unfolding world world-with
   declared-in k l = le-leb k (length P) l
 
   roots : (k : ℕ) → k ≤ length P
@@ -210,32 +194,25 @@ module _ {R E T A : List ℕ} {p : Program} (a : Accepted R E T A p) where
         omega (arith, ap length (x .1) ∙ length-append (world P .fields (world P .root k)) (x .0)),
       )
 
-  pub holds : Holds R E T A P
+  pub holds : Holds R T A P
   holds = record {
-    tables = a .tables;
-    classes = a .standing .in-form .few;
+    tables = a .headed .classes;
+    classes = a .headed .here .in-form .few;
     counts = λ k l. well-formed-more p well .few-fields k;
     roots = roots;
-    below = λ k c l m. below-is P lower (a .tables) k c l;
+    below = λ k c l m. below-is P lower (a .headed .classes) k c l;
     fields = field-at;
-    methods = λ k m l. linked k m;
   }
 
-  pub runs : {l : List ℕ} → 92040 ≤ length l → Runs R E T A l (start-row p + 1) p
+  pub holds-methods : HoldsMethods R E M P
+  holds-methods = record { effects = F; tables = a .headed .methods; bodies = body-at }
+
+  pub runs : {l : List ℕ} → call-room ≤ length l → Runs R E T A M l (start-row p + 1) p
   runs room = record {
     holds = holds;
-    encoded = a .standing .start;
-    within = within-body P short (p .start) 0 (omega arith) (a .standing .in-form .start)
+    methods = holds-methods;
+    encoded = a .headed .here .start;
+    within = within-body P short (p .start) 0 (omega arith) (a .headed .here .in-form .start)
         (computed P (hierarchy P (well .classes)) (p .start) (well .start));
     room = room;
   }
-
--- What the check of rows gives, with the tables that it fills.
-pub accepted-of : {R E T A : List ℕ} {p : Program} → check R ≡ accept p → ProgramAt R E p
-    → ClassTables (p .classes) T A → Accepted R E T A p
-unfolding check whole-rows three-passes
-accepted-of {p = p} e here tables =
-    require-inv _ _ _ _ e λ whole e. bind-checked-inv _ _ e λ q formed e. bind-checked-inv _ _ e λ u heads e.
-    bind-checked-inv _ _ e λ v typed e.
-    let z : q ≡ p = accept-injective e in
-    record { standing = here; tables = tables; headings-pass = rw z at heads; bodies-pass = rw z at typed }

@@ -2,7 +2,7 @@
 use mathlib.Core.Path.{_≡_, refl, sym, ap, _∙_}
 use mathlib.Core.Logic.{inr}
 use mathlib.Core.List.{List, _∷_, map}
-use Prim.Native.Nat.{ℕ, suc, _+_, _-_, _*_, _≤_, _<_}
+use Prim.Native.Nat.{ℕ, suc, _+_, _-_, _≤_, _<_}
 use native.Mathlib.Omega.{arith}
 use lib.ListN.{length, getD, take, drop, length-set}
 use lib.ListN.{set as put}
@@ -18,7 +18,8 @@ use Rattle.objects.specs.Values.{told, answer}
 use Rattle.machine.specs.declared.Place.{Place}
 use Rattle.machine.specs.Machine.{told-all, slots-of, state, frame-of}
 use Rattle.objects.specs.Holding.{WithinAll}
-use Rattle.machine.specs.Contracts.{Ready, Kept, PostEval, PreArgs, PostArgs, DoneAll, evaluated}
+use Rattle.machine.specs.Contracts.{waiting, Ready, Kept, PostEval, PreArgs, PostArgs, DoneAll}
+use Rattle.machine.specs.Contracts.{evaluated}
 use Rattle.machine.specs.Contracts.{evaluated-all}
 use Rattle.objects.proofs.Values.{bare-ok, bare-stop, value-of-value-number, small-of}
 use Rattle.objects.proofs.Acts.{stored-same}
@@ -35,10 +36,10 @@ abbrev pub further : Place → Place
 further q = record { base = q .base; scope = q .scope; top = q .top + 1; calls = q .calls }
 
 -- a value put above the frame leaves the frame
-pub frame-above : (l : List ℕ) (q : Place) (x : ℕ) → q .base + 264 ≤ q .top → q .scope + 1 ≤ 264
+pub frame-above : (l : List ℕ) (q : Place) (width x : ℕ) → q .base + width ≤ q .top → q .scope + 1 ≤ width
     → frame-of (put l (q .top) x) (further q) ≡ frame-of l q
 unfolding frame-of
-frame-above l q x h w =
+frame-above l q width x h w =
     let a : getD (put l (q .top) x) (q .base) 0 ≡ getD l (q .base) 0 =
     getD-set-other l (q .top) (q .base) x 0 (λ p. omega arith) in
     let b = slots-ext (put l (q .top) x) l (q .base + 1) (q .scope) (length-set l (q .top) x)
@@ -67,15 +68,17 @@ fails-all (Raised n) vs t x k not e = bare-stop x k e
 fails-all (Stopped n) vs t x k not e = bare-stop x k e
 fails-all Stuck vs t x k not e = bare-stop x k e
 
-pub args-none : {R E T A s l : List ℕ} {at : ℕ} {q : Place} {n : Counts} {m : ℕ} {v : Value} → m ≡ 0 → Small v
-    → PostArgs R E T A s l s l at q n m (answer (Gave v) n)
+pub args-none : {R E T A M s l : List ℕ} {at : ℕ} {q : Place} {n : Counts} {m : ℕ} {v : Value} → m ≡ 0
+    → Small v
+    → PostArgs R E T A M s l s l at q n m (answer (Gave v) n)
 unfolding eval-all count bare slots-of
-args-none {R} {E} {T} {A} {s} {l} {at} {q} {n} {m} {v} z small =
-    record { done = λ P es d F k f room enc w many t. go P F k t f es many }
+args-none {R} {E} {T} {A} {M} {s} {l} {at} {q} {n} {m} {v} z small =
+    record { done = λ P es width d F k f room enc w many t. go P F k t f es many }
   where
-    go : (P : List Class) (F k : ℕ) → k + n .left ≡ F → {d : ℕ} → Ready R E T A s l P q n d 0 → (es : Exprs)
+    go : (P : List Class) (F k : ℕ) → k + n .left ≡ F → {width d : ℕ} → Ready R E T A M s l P width q n d 0
+        → (es : Exprs)
         → m ≡ count es
-        → DoneAll P s l s l q n F m (answer (Gave v) n)
+        → DoneAll P width s l s l q n F m (answer (Gave v) n)
         (evaluated-all P F (capacity s) (q .calls) es (state P s l q n k))
     go P F k t f nil many = record {
       kept = record {
@@ -91,12 +94,14 @@ args-none {R} {E} {T} {A} {s} {l} {at} {q} {n} {m} {v} z small =
     go P F k t f (cons e es) many = absurd (omega arith)
 
 -- ready for the next argument
-ready-further : {R E T A s l s′ l′ : List ℕ} {P : List Class} {q : Place} {n : Counts} {d : ℕ} {r : Answer}
-    (m x : ℕ) → (m ≡ 0 → ⊥) → Ready R E T A s l P q n d 0
-    → q .top + m + 9 * d + (64 - q .calls) * 1416 ≤ length l → Kept P s l s′ l′ q n 0 r
-    → Ready R E T A s′ (put l′ (q .top) x) P (further q) (r .counts) d 0
+ready-further : {R E T A M s l s′ l′ : List ℕ} {P : List Class} {width : ℕ} {q : Place} {n : Counts} {d : ℕ}
+    {r : Answer}
+    (m x : ℕ) → (m ≡ 0 → ⊥) → Ready R E T A M s l P width q n d 0
+    → q .top + m + waiting d ≤ length l → Kept P width s l s′ l′ q n 0 r
+    → Ready R E T A M s′ (put l′ (q .top) x) P width (further q) (r .counts) d 0
 ready-further {l′ = l′} {q = q} m x z f room k = record {
   holds = f .holds;
+  methods = f .methods;
   sound = k .stored .sound;
   frame = omega (arith, f .frame);
   scoped = f .scoped;
@@ -105,19 +110,20 @@ ready-further {l′ = l′} {q = q} m x z f room k = record {
   counted = omega (arith, f .counted, k .counted);
 }
 
-pub args-rest : {R E T A s l s′ l′ : List ℕ} {at : ℕ} {q : Place} {n : Counts} {m : ℕ} {r : Answer}
-    {v : Value} {P : List Class} {e : Expr} {es : Exprs} {d F k : ℕ}
-    (y : FirstAt R E T A s l at q n m P e es d F k) → m < 4294967296
-    → q .top + m + 9 * d + (64 - q .calls) * 1416 ≤ length l
-    → (g : PostEval R E T A s l s′ l′ at q n r) (t : r .outcome ≡ Gave v) (x : ℕ)
-    → PreArgs R E T A s′ (put l′ (q .top) x) (getD E at 0) (further q) (r .counts) (m - 1)
-args-rest {s = s} {l} {s′} {l′} {q = q} {m = m} {r} {v} {P} {e} {es} {d} {F} {k} y few room g t x =
+pub args-rest : {R E T A M s l s′ l′ : List ℕ} {at : ℕ} {q : Place} {n : Counts} {m : ℕ} {r : Answer}
+    {v : Value} {P : List Class} {e : Expr} {es : Exprs} {width d F k : ℕ}
+    (y : FirstAt R E T A M s l at q n m P e es width d F k) → m < 4294967296
+    → q .top + m + waiting d ≤ length l
+    → (g : PostEval R E T A M s l s′ l′ at q n r) (t : r .outcome ≡ Gave v) (x : ℕ)
+    → PreArgs R E T A M s′ (put l′ (q .top) x) (getD E at 0) (further q) (r .counts) (m - 1)
+args-rest {s = s} {l} {s′} {l′} {q = q} {m = m} {r} {v} {P} {e} {es} {width} {d} {F} {k} y few room g t x =
     let a = head-done y few g t in
     let z : m ≡ 0 → ⊥ = λ u. omega (arith, y .many) in
     record {
       list = record {
         P = P;
         es = es;
+        width = width;
         d = d;
         ready = ready-further m x z (y .ready) room (a .kept);
         encoded = rw (y .end) (y .enc-rest);
@@ -128,19 +134,21 @@ args-rest {s = s} {l} {s′} {l′} {q = q} {m = m} {r} {v} {P} {e} {es} {d} {F}
       room = omega (arith, room, a .kept .long, length-set l′ (q .top) x, y .many);
     }
 
-module _ {R E T A s l s′ l′ : List ℕ} {at : ℕ} {q : Place} {n : Counts} {m : ℕ} {r : Answer} (z : m ≡ 0 → ⊥)
-    (g : PostEval R E T A s l s′ l′ at q n r) where
-  pub args-fail : ((v : Value) → r .outcome ≡ Gave v → ⊥) → PostArgs R E T A s l s′ l′ at q n m r
+module _ {R E T A M s l s′ l′ : List ℕ} {at : ℕ} {q : Place} {n : Counts} {m : ℕ} {r : Answer} (z : m ≡ 0 → ⊥)
+    (g : PostEval R E T A M s l s′ l′ at q n r) where
+  pub args-fail : ((v : Value) → r .outcome ≡ Gave v → ⊥) → PostArgs R E T A M s l s′ l′ at q n m r
   unfolding eval-all count
-  args-fail not = record { done = λ P es d F k f room enc w many t. go P d F k f t es enc w many }
+  args-fail not = record { done = λ P es width d F k f room enc w many t. go P width d F k f t es enc w many }
     where
-      go : (P : List Class) (d F k : ℕ) → Ready R E T A s l P q n d 0 → k + n .left ≡ F → (es : Exprs)
-          → EncodedAll R E es at → WithinAll (length P) (q .scope) d es → m ≡ count es
-          → DoneAll P s l s′ l′ q n F m r (evaluated-all P F (capacity s) (q .calls) es (state P s l q n k))
-      go P d F k f t nil enc w many = absurd (z many)
-      go P d F k f t (cons e es) enc w many =
-          let x = list-parts {at = at} m P e es d F k f enc w many t in
-          let a = g .done P e d F k f (x .enc-first) (x .within-first) t in
+      go : (P : List Class) (width d F k : ℕ) → Ready R E T A M s l P width q n d 0 → k + n .left ≡ F
+          → (es : Exprs)
+          → EncodedAll R E es at → WithinAll (length P) width (q .scope) d es → m ≡ count es
+          → DoneAll P width s l s′ l′ q n F m r
+          (evaluated-all P F (capacity s) (q .calls) es (state P s l q n k))
+      go P width d F k f t nil enc w many = absurd (z many)
+      go P width d F k f t (cons e es) enc w many =
+          let x = list-parts {at = at} m P e es width d F k f enc w many t in
+          let a = g .done P e width d F k f (x .enc-first) (x .within-first) t in
           record {
             kept = a .kept;
             is = fails-all (r .outcome) (slots-of l′ (q .top) m)
@@ -152,27 +160,28 @@ module _ {R E T A s l s′ l′ : List ℕ} {at : ℕ} {q : Place} {n : Counts} 
 
   pub args-step : {s″ l″ : List ℕ} {v : Value} {r′ : Answer} → r .outcome ≡ Gave v → (y : ℕ)
       → y ≡ value-number (value v)
-      → PostArgs R E T A s′ (put l′ (q .top) y) s″ l″ (getD E at 0) (further q) (r .counts) (m - 1) r′
-      → PostArgs R E T A s l s″ l″ at q n m r′
+      → PostArgs R E T A M s′ (put l′ (q .top) y) s″ l″ (getD E at 0) (further q) (r .counts) (m - 1) r′
+      → PostArgs R E T A M s l s″ l″ at q n m r′
   unfolding eval-all count frame-of
   args-step {s″} {l″} {v} {r′} e₁ y ey g′ =
-      record { done = λ P es d F k f room enc w many t. go P d F k f room t es enc w many }
+      record { done = λ P es width d F k f room enc w many t. go P width d F k f room t es enc w many }
     where
-      go : (P : List Class) (d F k : ℕ) → Ready R E T A s l P q n d 0
-          → q .top + m + 9 * d + (64 - q .calls) * 1416 ≤ length l → k + n .left ≡ F → (es : Exprs)
-          → EncodedAll R E es at → WithinAll (length P) (q .scope) d es → m ≡ count es
-          → DoneAll P s l s″ l″ q n F m r′ (evaluated-all P F (capacity s) (q .calls) es (state P s l q n k))
-      go P d F k f room t nil enc w many = absurd (z many)
-      go P d F k f room t (cons e es) enc w many =
-          let x = list-parts {at = at} m P e es d F k f enc w many t in
-          let a = g .done P e d F k f (x .enc-first) (x .within-first) t in
+      go : (P : List Class) (width d F k : ℕ) → Ready R E T A M s l P width q n d 0
+          → q .top + m + waiting d ≤ length l → k + n .left ≡ F → (es : Exprs)
+          → EncodedAll R E es at → WithinAll (length P) width (q .scope) d es → m ≡ count es
+          → DoneAll P width s l s″ l″ q n F m r′
+          (evaluated-all P F (capacity s) (q .calls) es (state P s l q n k))
+      go P width d F k f room t nil enc w many = absurd (z many)
+      go P width d F k f room t (cons e es) enc w many =
+          let x = list-parts {at = at} m P e es width d F k f enc w many t in
+          let a = g .done P e width d F k f (x .enc-first) (x .within-first) t in
           let c : capacity s′ ≡ capacity s = room-same s s′ (a .kept .stored .long) in
           let st : State = state P s′ l′ q (r .counts) (F - r .counts .left) in
           let gave : evaluated P F (capacity s) (q .calls) e (state P s l q n k) ≡ ok (value v) st =
           gives st (evaluated P F (capacity s) (q .calls) e (state P s l q n k)) e₁ (a .is) in
-          let fr = frame-above l′ q y (f .frame) (f .scoped) in
+          let fr = frame-above l′ q width y (f .frame) (f .scoped) in
           let top : q .top < length l′ = omega (arith, room, a .kept .long, z) in
-          let b = g′ .done P es d F (F - r .counts .left) (ready-further m y z f room (a .kept))
+          let b = g′ .done P es width d F (F - r .counts .left) (ready-further m y z f room (a .kept))
           (omega (arith, room, a .kept .long, length-set l′ (q .top) y, x .many))
           (rw (x .end) (x .enc-rest)) (x .within-rest) (omega (arith, x .many))
           (omega (arith, a .kept .falls)) in
@@ -201,10 +210,10 @@ module _ {R E T A s l s′ l′ : List ℕ} {at : ℕ} {q : Place} {n : Counts} 
 abbrev pub to : Place → ℕ → Place
 to q top = record { base = q .base; scope = q .scope; top = top; calls = q .calls }
 
-pub record ArgsLoop (R E T A s₀ l₀ : List ℕ) (at : ℕ) (q : Place) (m : ℕ) (r₀ : Answer) (s l : List ℕ)
+pub record ArgsLoop (R E T A M s₀ l₀ : List ℕ) (at : ℕ) (q : Place) (m : ℕ) (r₀ : Answer) (s l : List ℕ)
     (r : Answer) (top next i : ℕ) : Type 0 where
   pub low : i ≤ m
-  pub args : PreArgs R E T A s l next (to q top) (r .counts) (m - i)
+  pub args : PreArgs R E T A M s l next (to q top) (r .counts) (m - i)
   pub v : Value
   pub gave : r .outcome ≡ Gave v
   pub small : Small v
@@ -212,12 +221,12 @@ pub record ArgsLoop (R E T A s₀ l₀ : List ℕ) (at : ℕ) (q : Place) (m : �
   pub long-store : length s ≡ length s₀
   pub long-slots : length l ≡ length l₀
   pub rest : (s′ l′ : List ℕ) (r′ : Answer)
-      → PostArgs R E T A s l s′ l′ next (to q top) (r .counts) (m - i) r′
-      → PostArgs R E T A s₀ l₀ s′ l′ at q (r₀ .counts) m r′
+      → PostArgs R E T A M s l s′ l′ next (to q top) (r .counts) (m - i) r′
+      → PostArgs R E T A M s₀ l₀ s′ l′ at q (r₀ .counts) m r′
 
-pub args-start : {R E T A s l : List ℕ} {at : ℕ} {q : Place} {n : Counts} {m : ℕ} {o : Outcome}
-    → PreArgs R E T A s l at q n m → o ≡ Gave Null
-    → ArgsLoop R E T A s l at q m (answer (Gave Null) n) s l (answer o n) (q .top) at 0
+pub args-start : {R E T A M s l : List ℕ} {at : ℕ} {q : Place} {n : Counts} {m : ℕ} {o : Outcome}
+    → PreArgs R E T A M s l at q n m → o ≡ Gave Null
+    → ArgsLoop R E T A M s l at q m (answer (Gave Null) n) s l (answer o n) (q .top) at 0
 args-start {m = m} p gave =
     let z : m - 0 ≡ m = omega arith in
     record {
@@ -232,32 +241,34 @@ args-start {m = m} p gave =
       rest = λ s′ l′ r′ g. rw z at g;
     }
 
-module _ {R E T A s₀ l₀ : List ℕ} {at : ℕ} {q : Place} {m : ℕ} {r₀ : Answer} {s l : List ℕ} {r : Answer}
-    {top next i : ℕ} (x : ArgsLoop R E T A s₀ l₀ at q m r₀ s l r top next i) where
-  pub args-ended : m ≤ i → PostArgs R E T A s₀ l₀ s l at q (r₀ .counts) m r
+module _ {R E T A M s₀ l₀ : List ℕ} {at : ℕ} {q : Place} {m : ℕ} {r₀ : Answer} {s l : List ℕ} {r : Answer}
+    {top next i : ℕ} (x : ArgsLoop R E T A M s₀ l₀ at q m r₀ s l r top next i) where
+  pub args-ended : m ≤ i → PostArgs R E T A M s₀ l₀ s l at q (r₀ .counts) m r
   args-ended h =
       let z : m - i ≡ 0 = omega arith in
-      let g : PostArgs R E T A s l s l next (to q top) (r .counts) (m - i) (answer (r .outcome) (r .counts)) =
+      let g : PostArgs R E T A M s l s l next (to q top) (r .counts) (m - i) (answer (r .outcome) (r .counts))
+      =
       rw (x .gave) (args-none z (x .small)) in
       x .rest s l r g
 
   module _ (h : i < m) where
     abbrev pub args-head : (e : Expr) × (es : Exprs)
-        × FirstAt R E T A s l next (to q top) (r .counts) (m - i) (x .args .list .P) e es (x .args .list .d)
+        × FirstAt R E T A M s l next (to q top) (r .counts) (m - i) (x .args .list .P) e es
+        (x .args .list .width) (x .args .list .d)
         (r .counts .left) 0
     args-head = list-apart (x .args .list) (λ z. omega arith)
 
-    module _ {s′ l′ : List ℕ} {r′ : Answer} (g : PostEval R E T A s l s′ l′ next (to q top) (r .counts) r′)
+    module _ {s′ l′ : List ℕ} {r′ : Answer} (g : PostEval R E T A M s l s′ l′ next (to q top) (r .counts) r′)
       where
         pub args-broken : ((v : Value) → r′ .outcome ≡ Gave v → ⊥)
-            → PostArgs R E T A s₀ l₀ s′ l′ at q (r₀ .counts) m r′
+            → PostArgs R E T A M s₀ l₀ s′ l′ at q (r₀ .counts) m r′
         args-broken not = x .rest s′ l′ r′ (args-fail (λ z. omega arith) g not)
 
         pub args-room : top < length l′
         args-room = omega (arith, x .args .room, kept-of (list-first (args-head .2)) g .long)
 
         pub args-next : {w : Value} (y : ℕ) → r′ .outcome ≡ Gave w → y ≡ value-number (value w)
-            → ArgsLoop R E T A s₀ l₀ at q m r₀ s′ (put l′ top y) r′ (top + 1) (getD E next 0) (i + 1)
+            → ArgsLoop R E T A M s₀ l₀ at q m r₀ s′ (put l′ top y) r′ (top + 1) (getD E next 0) (i + 1)
         args-next {w} y t ey =
             let k = kept-of (list-first (args-head .2)) g in
             let z : m - i - 1 ≡ m - (i + 1) = omega arith in

@@ -58,25 +58,25 @@ nth-from : (xs ys : List Meaning) (n j i : ℕ) → length xs ≡ n → n + j �
 nth-from xs ys n j i a e = ap (nth (xs ++ ys)) (sym e ∙ ap (λ (k : ℕ). k + j) (sym a)) ∙ nth-past xs ys j
 
 -- B taken apart
-pub record BlockAt (R E T A s l : List ℕ) (at : ℕ) (q : Place) (n : Counts) (P : List Class)
-    (ts : List DeclaredType) (es : Exprs) (d F k : ℕ) : Type 0 where
-  pub ready : Ready R E T A s l P q n d 1
+pub record BlockAt (R E T A M s l : List ℕ) (at : ℕ) (q : Place) (n : Counts) (P : List Class)
+    (ts : List DeclaredType) (es : Exprs) (width d F k : ℕ) : Type 0 where
+  pub ready : Ready R E T A M s l P width q n d 1
   pub row : at * 4 + 3 < length R
   pub locals : getD R (at * 4 + 1) 0 ≡ length ts
   pub many : getD R (at * 4 + 2) 0 ≡ count es
-  pub wide : q .scope + length ts + 1 ≤ 264
+  pub wide : q .scope + length ts + 1 ≤ width
   pub named : NamedAll (length P) ts
   pub lines : TypesAt V-local R ts (at + 1)
   pub enc : EncodedAll R E es (at + 1 + length ts)
-  pub within : WithinAll (length P) (q .scope + length ts) (d - 1) es
+  pub within : WithinAll (length P) width (q .scope + length ts) (d - 1) es
   pub total : k + n .left ≡ F
 
-block-parts : {R E T A s l : List ℕ} {at : ℕ} {q : Place} {n : Counts} (P : List Class)
-    (ts : List DeclaredType) (es : Exprs) (d F k : ℕ) → Ready R E T A s l P q n d 1
-    → Encoded R E (block ts es) at → Within (length P) (q .scope) d (block ts es) → k + n .left ≡ F
-    → BlockAt R E T A s l at q n P ts es d F k
+block-parts : {R E T A M s l : List ℕ} {at : ℕ} {q : Place} {n : Counts} (P : List Class)
+    (ts : List DeclaredType) (es : Exprs) (width d F k : ℕ) → Ready R E T A M s l P width q n d 1
+    → Encoded R E (block ts es) at → Within (length P) width (q .scope) d (block ts es) → k + n .left ≡ F
+    → BlockAt R E T A M s l at q n P ts es width d F k
 unfolding Encoded Within
-block-parts P ts es d F k r enc w z = record {
+block-parts P ts es width d F k r enc w z = record {
   ready = r;
   row = enc .0 .row .within;
   locals = enc .0 .row .first;
@@ -89,19 +89,21 @@ block-parts P ts es d F k r enc w z = record {
   total = z;
 }
 
-pub block-apart : {R E T A s l : List ℕ} {at : ℕ} {q : Place} {n : Counts} (p : PreEntered R E T A s l at q n)
+pub block-apart : {R E T A M s l : List ℕ} {at : ℕ} {q : Place} {n : Counts}
+    (p : PreEntered R E T A M s l at q n)
     → getD R (at * 4) 0 ≡ 66
-    → (ts : List DeclaredType) × (es : Exprs) × BlockAt R E T A s l at q n (p .P) ts es (p .d) (n .left) 0
+    → (ts : List DeclaredType) × (es : Exprs)
+    × BlockAt R E T A M s l at q n (p .P) ts es (p .width) (p .d) (n .left) 0
 block-apart {at = at} {n = n} p h =
     let x = as-block (head (p .e) (p .encoded)) h in (
       x .0,
       x .1,
-      block-parts {at = at} (p .P) (x .0) (x .1) (p .d) (n .left) 0 (p .ready)
+      block-parts {at = at} (p .P) (x .0) (x .1) (p .width) (p .d) (n .left) 0 (p .ready)
           (rw (x .2) at (p .encoded)) (rw (x .2) at (p .within)) (omega arith),
     )
 
-module _ {R E T A s l : List ℕ} {at : ℕ} {q : Place} {n : Counts} {P : List Class} {ts : List DeclaredType}
-    {es : Exprs} {d F k : ℕ} (x : BlockAt R E T A s l at q n P ts es d F k) where
+module _ {R E T A M s l : List ℕ} {at : ℕ} {q : Place} {n : Counts} {P : List Class} {ts : List DeclaredType}
+    {es : Exprs} {width d F k : ℕ} (x : BlockAt R E T A M s l at q n P ts es width d F k) where
   pub block-locals : Locals R l (at + 1) (q .base + 1 + q .scope) (getD R (at * 4 + 1) 0)
   block-locals = record {
     room = omega (arith, x .locals, x .wide, x .ready .frame, x .ready .above);
@@ -155,9 +157,10 @@ module _ {R E T A s l : List ℕ} {at : ℕ} {q : Place} {n : Counts} {P : List 
     unfolding frame-of
     frame-opened = rw (w .outside (q .base) (inl (omega arith)), opened-slots)
 
-    pub ready-inner : Ready R E T A s l′ P (inner q (getD R (at * 4 + 1) 0)) n (d - 1) 0
+    pub ready-inner : Ready R E T A M s l′ P width (inner q (getD R (at * 4 + 1) 0)) n (d - 1) 0
     ready-inner = record {
       holds = x .ready .holds;
+      methods = x .ready .methods;
       sound = x .ready .sound;
       frame = x .ready .frame;
       scoped =
@@ -168,11 +171,12 @@ module _ {R E T A s l : List ℕ} {at : ℕ} {q : Place} {n : Counts} {P : List 
     }
 
     pub block-items : getD R (at * 4 + 2) 0 < 4294967296
-        → PreList R E T A s l′ (at + 1 + getD R (at * 4 + 1) 0) (inner q (getD R (at * 4 + 1) 0)) n
+        → PreList R E T A M s l′ (at + 1 + getD R (at * 4 + 1) 0) (inner q (getD R (at * 4 + 1) 0)) n
         (getD R (at * 4 + 2) 0)
     block-items few = record {
       P = P;
       es = es;
+      width = width;
       d = d - 1;
       ready = ready-inner;
       encoded = rw (x .locals) (x .enc);
@@ -216,22 +220,22 @@ frame-scope : (l : List ℕ) (q : Place) → q .base + 1 + q .scope ≤ length l
 unfolding frame-of
 frame-scope l q h = slots-length l (q .base + 1) (q .scope) h
 
-pub block-done : {R E T A s l l′ s″ l″ : List ℕ} (at : ℕ) {q : Place} {n : Counts} {r : Answer}
+pub block-done : {R E T A M s l l′ s″ l″ : List ℕ} (at : ℕ) {q : Place} {n : Counts} {r : Answer}
     → getD R (at * 4) 0 ≡ 66 → Opened R l l′ (at + 1) (q .base + 1 + q .scope) (getD R (at * 4 + 1) 0)
-    → PostItems R E T A s l′ s″ l″ (at + 1 + getD R (at * 4 + 1) 0) (inner q (getD R (at * 4 + 1) 0)) n
-    (getD R (at * 4 + 2) 0) Null r → PostNode R E T A s l s″ l″ at q n r
+    → PostItems R E T A M s l′ s″ l″ (at + 1 + getD R (at * 4 + 1) 0) (inner q (getD R (at * 4 + 1) 0)) n
+    (getD R (at * 4 + 2) 0) Null r → PostNode R E T A M s l s″ l″ at q n r
 unfolding inside
-block-done {R} {E} {T} {A} {s} {l} {l′} {s″} {l″} at {q} {n} {r} h w p = record {
-  done = λ P e d F k f enc wi z.
+block-done {R} {E} {T} {A} {M} {s} {l} {l′} {s″} {l″} at {q} {n} {r} h w p = record {
+  done = λ P e width d F k f enc wi z.
       let v : ℕ = getD R (at * 4 + 1) 0 in
       let y = as-block (head e enc) h in
-      let x = block-parts {at = at} P (y .0) (y .1) d F k f (rw (y .2) at enc) (rw (y .2) at wi) z in
-      let b = p .done P (y .1) (d - 1) F k (ready-inner x w) (rw (x .locals) (x .enc))
+      let x = block-parts {at = at} P (y .0) (y .1) width d F k f (rw (y .2) at enc) (rw (y .2) at wi) z in
+      let b = p .done P (y .1) width (d - 1) F k (ready-inner x w) (rw (x .locals) (x .enc))
       (rw (x .locals) (x .within)) (x .many) z in
       let i = rw (frame-opened x w) at (b .is) in
       record {
         kept = record {
-          same = λ i u o. b .kept .same i u o ∙ w .outside i (far P d f x i o);
+          same = λ i u o. b .kept .same i u o ∙ w .outside i (far P width d f x i o);
           long = b .kept .long ∙ w .long;
           stored = b .kept .stored;
           falls = b .kept .falls;
@@ -241,16 +245,19 @@ block-done {R} {E} {T} {A} {s} {l} {l′} {s″} {l″} at {q} {n} {r} h w p = r
         is = rw (y .2) (close (r .outcome) P s″ l″ q v (length (frame-of l q .slots)) (r .counts)
             (F - r .counts .left)
             (evaluated-all P F (capacity s) (q .calls) (y .1)
-            (with-frame (opened (frame-of l q) (map initial (y .0))) (state P s l q n k))) (scope P d f) i);
+            (with-frame (opened (frame-of l q) (map initial (y .0))) (state P s l q n k))) (scope P width d f)
+            i);
       };
 }
   where
-    far : (P : List Class) (d : ℕ) → Ready R E T A s l P q n d 1
-        → {ts : List DeclaredType} {es : Exprs} {F k : ℕ} → BlockAt R E T A s l at q n P ts es d F k → (i : ℕ)
-        → (i < q .base) ⊎ (q .base + 264 ≤ i)
+    far : (P : List Class) (width d : ℕ) → Ready R E T A M s l P width q n d 1
+        → {ts : List DeclaredType} {es : Exprs} {F k : ℕ} → BlockAt R E T A M s l at q n P ts es width d F k
+        → (i : ℕ)
+        → (i < q .base) ⊎ (q .base + width ≤ i)
         → (i < q .base + 1 + q .scope) ⊎ (q .base + 1 + q .scope + getD R (at * 4 + 1) 0 ≤ i)
-    far P d f x i (inl o) = inl (omega arith)
-    far P d f x i (inr o) = inr (omega (arith, x .wide, x .locals))
+    far P width d f x i (inl o) = inl (omega arith)
+    far P width d f x i (inr o) = inr (omega (arith, x .wide, x .locals))
 
-    scope : (P : List Class) (d : ℕ) → Ready R E T A s l P q n d 1 → length (frame-of l q .slots) ≡ q .scope
-    scope P d f = frame-scope l q (omega (arith, f .frame, f .scoped, f .above))
+    scope : (P : List Class) (width d : ℕ) → Ready R E T A M s l P width q n d 1
+        → length (frame-of l q .slots) ≡ q .scope
+    scope P width d f = frame-scope l q (omega (arith, f .frame, f .scoped, f .above))

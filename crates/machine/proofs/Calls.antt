@@ -1,12 +1,12 @@
 -- The steps of Q. Assumes nothing.
 use mathlib.Core.Path.{_≡_, refl, sym, ap, _∙_}
-use mathlib.Core.Logic.{inl}
 use mathlib.Core.List.{List, [], _∷_}
 use Prim.Native.Nat.{ℕ, suc, _+_, _-_, _*_, _≤_, _<_}
 use native.Mathlib.Omega.{arith}
+use borrow.Author.Tests.{eq-eqb}
 use lib.ListN.{length, getD}
 use Rattle.language.specs.Store.{value-of-number}
-use Rattle.machine.proofs.Frames.{slots-ext}
+use Rattle.machine.proofs.Frames.{slots-length, slots-ext}
 use Rattle.objects.specs.declared.Target.{Target}
 use Rattle.objects.specs.declared.Target.the-variants.{Body, Fails}
 use Rattle.machine.proofs.Arguments.{slots-cons}
@@ -16,18 +16,19 @@ use Rattle.objects.specs.Values.{outcome, bare, told, answer}
 use Rattle.machine.specs.declared.Place.{Place}
 use Rattle.machine.specs.Machine.{told-all, slots-of, this-of, inside, state, frame-of}
 use Rattle.objects.specs.Holding.{Within, WithinAll}
-use Rattle.machine.specs.Contracts.{Ready, Kept, PreEval, PreEntered, PostEval, PostNode, PreArgs}
-use Rattle.machine.specs.Contracts.{PostArgs, DoneAll, calls-of, evaluated, evaluated-all}
+use Rattle.machine.specs.Contracts.{waiting, Ready, Kept, PreEntered, PostNode, PreArgs, PostArgs}
+use Rattle.machine.specs.Contracts.{DoneAll, calls-of, evaluated-all, Entering, PreEnter, PostEnter}
+use Rattle.machine.specs.Contracts.{call-place}
 use Rattle.objects.specs.Contracts.{PreFind, PostFind, Found, NotFound}
 use Rattle.objects.proofs.Values.{bare-ok, bare-stop, value-decoded}
 use Rattle.machine.proofs.Letters.{as-call}
-use Rattle.machine.proofs.Steps.{kept-then, kept-more, kept-as, ready-child, room-same, then-eval}
+use Rattle.machine.proofs.Steps.{kept-then, kept-more, kept-as, ready-child, room-same}
 use Rattle.language.specs.Results.{ok, stop, bind}
 use Rattle.language.specs.Tree.{Expr, Exprs, cons, count, Class, call}
-use Rattle.language.specs.Program.{world}
+use Rattle.language.specs.Program.{world, body-in}
 use Rattle.language.specs.World.{Method, World}
 use Rattle.language.specs.Lists.{nth}
-use Rattle.language.specs.Frames.{Frame, frame}
+use Rattle.language.specs.Frames.{frame}
 use mathlib.Core.Option.{Option, some}
 use Rattle.language.specs.Encoded.{Encoded, EncodedAll}
 use Rattle.language.specs.State.{Value as Meaning, null, object, State, Out}
@@ -38,9 +39,10 @@ use Rattle.language.specs.Store.{capacity}
 use Rattle.language.proofs.Nodes.{head}
 
 -- Q taken apart: receiver and arguments are one list
-pub record CallAt (R E T A s l : List ℕ) (at : ℕ) (q : Place) (n : Counts) (P : List Class) (m : ℕ) (a : Expr)
-    (es : Exprs) (d F k : ℕ) : Type 0 where
-  pub ready : Ready R E T A s l P q n d 1
+pub record CallAt (R E T A M s l : List ℕ) (at : ℕ) (q : Place) (n : Counts) (P : List Class) (m : ℕ)
+    (a : Expr)
+    (es : Exprs) (width d F k : ℕ) : Type 0 where
+  pub ready : Ready R E T A M s l P width q n d 1
   pub deep : 0 < d
   pub row : at * 4 + 3 < length R
   pub first : getD R (at * 4 + 1) 0 ≡ m
@@ -48,16 +50,16 @@ pub record CallAt (R E T A s l : List ℕ) (at : ℕ) (q : Place) (n : Counts) (
   pub name : m < 256
   pub few : count es ≤ 8
   pub enc : EncodedAll R E (cons a es) (at + 1)
-  pub within : WithinAll (length P) (q .scope) (d - 1) (cons a es)
+  pub within : WithinAll (length P) width (q .scope) (d - 1) (cons a es)
   pub all : getD R (at * 4 + 2) 0 + 1 ≡ count (cons a es)
   pub total : k + n .left ≡ F
 
-call-parts : {R E T A s l : List ℕ} {at : ℕ} {q : Place} {n : Counts} (P : List Class) (m : ℕ) (a : Expr)
-    (es : Exprs) (d F k : ℕ) → Ready R E T A s l P q n d 1
-    → Encoded R E (call m a es) at → Within (length P) (q .scope) d (call m a es) → k + n .left ≡ F
-    → CallAt R E T A s l at q n P m a es d F k
+call-parts : {R E T A M s l : List ℕ} {at : ℕ} {q : Place} {n : Counts} (P : List Class) (m : ℕ) (a : Expr)
+    (es : Exprs) (width d F k : ℕ) → Ready R E T A M s l P width q n d 1
+    → Encoded R E (call m a es) at → Within (length P) width (q .scope) d (call m a es) → k + n .left ≡ F
+    → CallAt R E T A M s l at q n P m a es width d F k
 unfolding Encoded Within count
-call-parts P m a es d F k r enc w z = record {
+call-parts P m a es width d F k r enc w z = record {
   ready = r;
   deep = w .0;
   row = enc .0 .row .within;
@@ -71,15 +73,17 @@ call-parts P m a es d F k r enc w z = record {
   total = z;
 }
 
-pub call-apart : {R E T A s l : List ℕ} {at : ℕ} {q : Place} {n : Counts} (p : PreEntered R E T A s l at q n)
+pub call-apart : {R E T A M s l : List ℕ} {at : ℕ} {q : Place} {n : Counts}
+    (p : PreEntered R E T A M s l at q n)
     → getD R (at * 4) 0 ≡ 81
-    → (m : ℕ) × (a : Expr) × (es : Exprs) × CallAt R E T A s l at q n (p .P) m a es (p .d) (n .left) 0
+    → (m : ℕ) × (a : Expr) × (es : Exprs)
+    × CallAt R E T A M s l at q n (p .P) m a es (p .width) (p .d) (n .left) 0
 call-apart {at = at} {n = n} p h =
     let x = as-call (head (p .e) (p .encoded)) h in (
       x .0,
       x .1,
       x .2,
-      call-parts {at = at} (p .P) (x .0) (x .1) (x .2) (p .d) (n .left) 0 (p .ready)
+      call-parts {at = at} (p .P) (x .0) (x .1) (x .2) (p .width) (p .d) (n .left) 0 (p .ready)
           (rw (x .3) at (p .encoded)) (rw (x .3) at (p .within)) (omega arith),
     )
 
@@ -109,16 +113,17 @@ unfolding inside eval-all
 call-in-a-row W L K m a es s = in-a-row (eval W L K a s) (λ t. eval-all W L K es t)
     (λ v vs t. do-call W L K m v vs t)
 
-module _ {R E T A s l : List ℕ} {at : ℕ} {q : Place} {n : Counts} {P : List Class} {m : ℕ} {a : Expr}
-    {es : Exprs} {d F k : ℕ} (x : CallAt R E T A s l at q n P m a es d F k) where
-  pub room-args : q .top + (getD R (at * 4 + 2) 0 + 1) + 9 * (d - 1) + (64 - q .calls) * 1416 ≤ length l
+module _ {R E T A M s l : List ℕ} {at : ℕ} {q : Place} {n : Counts} {P : List Class} {m : ℕ} {a : Expr}
+    {es : Exprs} {width d F k : ℕ} (x : CallAt R E T A M s l at q n P m a es width d F k) where
+  pub room-args : q .top + (getD R (at * 4 + 2) 0 + 1) + waiting (d - 1) ≤ length l
   room-args = omega (arith, x .ready .above, x .deep, x .many, x .few)
 
-  abbrev pub call-args : PreArgs R E T A s l (at + 1) q n (getD R (at * 4 + 2) 0 + 1)
+  abbrev pub call-args : PreArgs R E T A M s l (at + 1) q n (getD R (at * 4 + 2) 0 + 1)
   call-args = record {
     list = record {
       P = P;
       es = cons a es;
+      width = width;
       d = d - 1;
       ready = ready-child 1 (d - 1) (x .ready) (omega arith);
       encoded = x .enc;
@@ -130,27 +135,35 @@ module _ {R E T A s l : List ℕ} {at : ℕ} {q : Place} {n : Counts} {P : List 
   }
 
   module _ {s′ l′ : List ℕ} {r : Answer}
-      (g : PostArgs R E T A s l s′ l′ (at + 1) q n (getD R (at * 4 + 2) 0 + 1) r) where
-    args-done : DoneAll P s l s′ l′ q n F (getD R (at * 4 + 2) 0 + 1) r
+      (g : PostArgs R E T A M s l s′ l′ (at + 1) q n (getD R (at * 4 + 2) 0 + 1) r) where
+    args-done : DoneAll P width s l s′ l′ q n F (getD R (at * 4 + 2) 0 + 1) r
         (evaluated-all P F (capacity s) (q .calls) (cons a es) (state P s l q n k))
-    args-done = g .done P (cons a es) (d - 1) F k (ready-child 1 (d - 1) (x .ready) (omega arith)) room-args
+    args-done = g .done P (cons a es) width (d - 1) F k (ready-child 1 (d - 1) (x .ready) (omega arith))
+        room-args
         (x .enc) (x .within) (x .all) (x .total)
 
-    pub kept-args : Kept P s l s′ l′ q n 0 r
+    pub kept-args : Kept P width s l s′ l′ q n 0 r
     kept-args = args-done .kept
 
     pub top-room : q .top < length l′
     top-room = omega (arith, x .ready .above, x .deep, kept-args .long)
 
-    pub call-find : PreFind R T s′ (getD R (at * 4 + 1) 0) (r .counts .made)
+    pub call-find : PreFind T M s′ (getD R (at * 4 + 1) 0) (r .counts .made)
     call-find = record {
+      R = R;
       E = E;
       A = A;
       P = P;
       holds = x .ready .holds;
+      methods = x .ready .methods;
       sound = kept-args .stored .sound;
       name = omega (arith, x .first, x .name);
     }
+
+    -- the arguments' values are as many as the row has
+    pub arguments-given : length (slots-of l′ (q .top + 1) (getD R (at * 4 + 2) 0)) ≡ getD R (at * 4 + 2) 0
+    arguments-given = slots-length l′ (q .top + 1) (getD R (at * 4 + 2) 0)
+        (omega (arith, x .ready .above, x .deep, x .many, x .few, kept-args .long))
 
     -- the values, of which the first is the receiver's
     module _ (v : Value) {w : Value} (e : r .outcome ≡ Gave w)
@@ -166,16 +179,17 @@ module _ {R E T A s l : List ℕ} {at : ℕ} {q : Place} {n : Counts} {P : List 
           bare-ok (evaluated-all P F (capacity s) (q .calls) (cons a es) (state P s l q n k))
           (rw (e, y) at (args-done .is))
 
-module _ {R E T A s l s′ l′ : List ℕ} (at : ℕ) {q : Place} {n : Counts} {r : Answer}
-    (h : getD R (at * 4) 0 ≡ 81) (g : PostArgs R E T A s l s′ l′ (at + 1) q n (getD R (at * 4 + 2) 0 + 1) r)
+module _ {R E T A M s l s′ l′ : List ℕ} (at : ℕ) {q : Place} {n : Counts} {r : Answer}
+    (h : getD R (at * 4) 0 ≡ 81) (g : PostArgs R E T A M s l s′ l′ (at + 1) q n (getD R (at * 4 + 2) 0 + 1) r)
   where
-    pub call-fail : ((v : Value) → r .outcome ≡ Gave v → ⊥) → PostNode R E T A s l s′ l′ at q n r
+    pub call-fail : ((v : Value) → r .outcome ≡ Gave v → ⊥) → PostNode R E T A M s l s′ l′ at q n r
     call-fail not = record {
-      done = λ P e d F k f enc w z.
+      done = λ P e width d F k f enc w z.
           let y = as-call (head e enc) h in
-          let x = call-parts {at = at} P (y .0) (y .1) (y .2) d F k f (rw (y .3) at enc) (rw (y .3) at w) z in
+          let x = call-parts {at = at} P (y .0) (y .1) (y .2) width d F k f (rw (y .3) at enc)
+          (rw (y .3) at w) z in
           let m = args-done x g in
-          let K : Method → State → Out Meaning = λ M t. calls-of P F (capacity s) (q .calls) M t in
+          let K : Method → State → Out Meaning = λ N t. calls-of P F (capacity s) (q .calls) N t in
           record {
             kept = kept-more 0 1 (m .kept) (omega arith);
             is = rw (
@@ -201,10 +215,6 @@ module _ {R E T A s l s′ l′ : List ℕ} (at : ℕ) {q : Place} {n : Counts} 
         fails-list (Stopped n) vs t x k not e = bare-stop x k e
         fails-list Stuck vs t x k not e = bare-stop x k e
 
--- the place of the method called
-abbrev pub called : Place → ℕ → Place
-called q n = record { base = q .top; scope = n; top = q .top + 264; calls = q .calls + 1 }
-
 this-called : (calls n : ℕ) → this-of (calls + 1) n ≡ some (value-of-number n)
 this-called calls n = let e : calls + 1 ≡ suc calls = omega arith in rw e
 
@@ -221,73 +231,57 @@ frame-kept l l′ q e h =
     rw (a, b)
 
 -- what a call comes to, its method found
-run-call : (W : World) (L : Limits) (calls m : ℕ) (v : Meaning) (vs : List Meaning) (st : State) (j : ℕ)
-    (o : Thing) (M : Method) → calls < 64 → v ≡ object j → nth (st .heap) j ≡ some o
-    → W .method (o .class-of) m ≡ some M
-    → do-call W L (λ M s. call-at W L (64 - calls) M s) m v vs st
-    ≡ bind (eval W L (λ M s. call-at W L (64 - (calls + 1)) M s) (M .body)
+run-call : (W : World) (L : Limits) (bodies : ℕ → Expr) (calls m : ℕ) (v : Meaning) (vs : List Meaning)
+    (st : State) (j : ℕ) (o : Thing) (N : Method) → calls < 64 → v ≡ object j → nth (st .heap) j ≡ some o
+    → W .method (o .class-of) m ≡ some N → length vs ≡ length (N .parameters)
+    → do-call W L (λ N s. call-at W L bodies (64 - calls) N s) m v vs st
+    ≡ bind (eval W L (λ N s. call-at W L bodies (64 - (calls + 1)) N s) (bodies (N .number))
     (with-frame (frame (some (object j)) vs) st)) λ w t. ok w (with-frame (st .frame) t)
 unfolding call-at
-run-call W L calls m v vs st j o M h e known method = let le : 64 - calls ≡ suc (64 - (calls + 1)) =
-    omega arith in rw (e, known, method, le)
+run-call W L bodies calls m v vs st j o N h e known method many =
+    let le : 64 - calls ≡ suc (64 - (calls + 1)) = omega arith in
+    rw (e, known, method, eq-eqb (length vs) (length (N .parameters)) many, le)
 
--- back in the caller's slots
-back : (o : Outcome) (P : List Class) (s l : List ℕ) (q q′ : Place) (n : Counts) (steps : ℕ)
-    (γ : Frame Meaning) (x : Out Meaning) → frame-of l q ≡ γ → told o (state P s l q′ n steps) ≡ bare x
-    → told o (state P s l q n steps) ≡ bare (bind x λ w t. ok w (with-frame γ t))
-unfolding bare
-back (Gave w) P s l q q′ n steps γ (ok v t) z e =
-    let e₁ : value w ≡ v = cc in
-    let e₂ : state P s l q′ n steps ≡ t = cc in
-    rw (e₁, ← e₂, z)
-back (Gave w) P s l q q′ n steps γ (stop y t) z e = let u : _≡_ {A = ℕ} 0 1 = cc in absurd (omega arith)
-back (Raised i) P s l q q′ n steps γ x z e = bare-stop x (λ w t. ok w (with-frame γ t)) e
-back (Stopped i) P s l q q′ n steps γ x z e = bare-stop x (λ w t. ok w (with-frame γ t)) e
-back Stuck P s l q q′ n steps γ x z e = bare-stop x (λ w t. ok w (with-frame γ t)) e
-
-module _ {R E T A s l s′ l′ : List ℕ} {at : ℕ} {q : Place} {n : Counts} {r : Answer} {v : Value}
-    {P : List Class} {m : ℕ} {a : Expr} {es : Exprs} {d F k : ℕ}
-    (x : CallAt R E T A s l at q n P m a es d F k)
-    (g : PostArgs R E T A s l s′ l′ (at + 1) q n (getD R (at * 4 + 2) 0 + 1) r) {b : ℕ} {z : Target}
-    (u : z ≡ Body b) (p : PostFind R T s′ v (getD R (at * 4 + 1) 0) (r .counts) (q .calls) z) where
-  found : Found R E s′ P v (getD R (at * 4 + 1) 0) (r .counts) (q .calls) b
-  found = rw u at (p .is E A P (x .ready .holds) (kept-args x g .stored .sound))
+module _ {R E T A M s l s′ l′ : List ℕ} {at : ℕ} {q : Place} {n : Counts} {r : Answer} {v : Value}
+    {P : List Class} {m : ℕ} {a : Expr} {es : Exprs} {width d F k : ℕ}
+    (x : CallAt R E T A M s l at q n P m a es width d F k)
+    (g : PostArgs R E T A M s l s′ l′ (at + 1) q n (getD R (at * 4 + 2) 0 + 1) r) {b : ℕ} {z : Target}
+    (u : z ≡ Body b)
+    (p : PostFind T M s′ v (getD R (at * 4 + 1) 0) (getD R (at * 4 + 2) 0) (r .counts) (q .calls) z) where
+  found : Found R E s′ P v (getD R (at * 4 + 1) 0) (getD R (at * 4 + 2) 0) (r .counts) (q .calls) b
+  found = rw u at (p .is R E A P (x .ready .holds) (x .ready .methods) (kept-args x g .stored .sound))
 
   pub body-allowed : q .calls < 64
   body-allowed = found .allowed
 
-  ready-body : Ready R E T A s′ l′ P (called q (getD R (at * 4 + 2) 0)) (r .counts) 128 0
-  ready-body =
+  entering : Entering R E T A M s′ l′ P (body-in P (found .M .number)) b (getD R (at * 4 + 2) 0) (q .top)
+      (q .calls + 1) (r .counts)
+  entering =
       let kp = kept-args x g in
       record {
         holds = x .ready .holds;
+        methods = x .ready .methods;
         sound = kp .stored .sound;
-        frame = omega arith;
-        scoped = omega (arith, x .many, x .few);
-        above = omega (arith, x .ready .above, kp .long, found .allowed);
+        few = omega (arith, x .many, x .few);
+        there = omega (arith, room-args x, kp .long);
         active = omega (arith, found .allowed);
         counted = omega (arith, x .ready .counted, kp .counted);
+        encoded = found .encoded;
+        within = found .within (getD R (at * 4 + 2) 0) (omega (arith, x .many, x .few));
       }
 
   frame-called : value v ≡ value-of-number (getD l′ (q .top) 0)
-      → frame-of l′ (called q (getD R (at * 4 + 2) 0))
+      → frame-of l′ (call-place (q .top) (getD R (at * 4 + 2) 0) (q .calls + 1))
       ≡ frame (some (object (found .j))) (slots-of l′ (q .top + 1) (getD R (at * 4 + 2) 0))
   unfolding frame-of
   frame-called dv = ap (λ (o : Option Meaning). frame o (slots-of l′ (q .top + 1) (getD R (at * 4 + 2) 0)))
       (this-called (q .calls) (getD l′ (q .top) 0) ∙ ap some (sym dv ∙ found .receiver))
 
-  pub call-body : PreEval R E T A s′ l′ b (called q (getD R (at * 4 + 2) 0)) (r .counts)
-  call-body = record {
-    P = P;
-    e = found .M .body;
-    d = 128;
-    ready = ready-body;
-    encoded = found .encoded;
-    within = found .within (getD R (at * 4 + 2) 0) (omega (arith, x .many, x .few));
-  }
+  pub call-enter : PreEnter R E T A M s′ l′ b (getD R (at * 4 + 2) 0) (q .top) (q .calls + 1) (r .counts)
+  call-enter = record { P = P; e = body-in P (found .M .number); entering = entering }
 
-module _ {R E T A s l s′ l′ : List ℕ} (at : ℕ) {q : Place} {n : Counts} {r : Answer} {w : Value}
-    (h : getD R (at * 4) 0 ≡ 81) (g : PostArgs R E T A s l s′ l′ (at + 1) q n (getD R (at * 4 + 2) 0 + 1) r)
+module _ {R E T A M s l s′ l′ : List ℕ} (at : ℕ) {q : Place} {n : Counts} {r : Answer} {w : Value}
+    (h : getD R (at * 4) 0 ≡ 81) (g : PostArgs R E T A M s l s′ l′ (at + 1) q n (getD R (at * 4 + 2) 0 + 1) r)
     (e₁ : r .outcome ≡ Gave w) where
   -- the receiver
   abbrev v : Value
@@ -297,18 +291,19 @@ module _ {R E T A s l s′ l′ : List ℕ} (at : ℕ) {q : Place} {n : Counts} 
   dv = value-decoded (getD l′ (q .top) 0)
 
   pub call-ends : {o : ℕ} {z : Target} → z ≡ Fails o
-      → PostFind R T s′ v (getD R (at * 4 + 1) 0) (r .counts) (q .calls) z
-      → PostNode R E T A s l s′ l′ at q n (answer (outcome o) (r .counts))
+      → PostFind T M s′ v (getD R (at * 4 + 1) 0) (getD R (at * 4 + 2) 0) (r .counts) (q .calls) z
+      → PostNode R E T A M s l s′ l′ at q n (answer (outcome o) (r .counts))
   call-ends {o} u p = record {
-    done = λ P e d F k f enc wi z.
+    done = λ P e width d F k f enc wi z.
         let y = as-call (head e enc) h in
-        let x = call-parts {at = at} P (y .0) (y .1) (y .2) d F k f (rw (y .3) at enc) (rw (y .3) at wi) z in
+        let x = call-parts {at = at} P (y .0) (y .1) (y .2) width d F k f (rw (y .3) at enc) (rw (y .3) at wi)
+        z in
         let kp = kept-args x g in
-        let K : Method → State → Out Meaning = λ M t. calls-of P F (capacity s) (q .calls) M t in
-        let nf : NotFound P s′ v (getD R (at * 4 + 1) 0) (r .counts) (q .calls) (outcome o) =
-        rw u at (p .is E A P (f .holds) (kp .stored .sound)) in
+        let K : Method → State → Out Meaning = λ N t. calls-of P F (capacity s) (q .calls) N t in
+        let nf : NotFound P s′ v (getD R (at * 4 + 1) 0) (getD R (at * 4 + 2) 0) (r .counts) (q .calls)
+        (outcome o) = rw u at (p .is R E A P (f .holds) (f .methods) (kp .stored .sound)) in
         let i = nf .is (with-limits F (capacity s)) (slots-of l′ (q .top + 1) (getD R (at * 4 + 2) 0))
-        (frame-of l′ q) (F - r .counts .left) in
+        (frame-of l′ q) (F - r .counts .left) (arguments-given x g) in
         record {
           kept = kept-as 1 (outcome o) (kept-more 0 1 kp (omega arith)) (nf .small);
           is = rw (
@@ -321,48 +316,44 @@ module _ {R E T A s l s′ l′ : List ℕ} (at : ℕ) {q : Place} {n : Counts} 
   }
 
   pub call-done : {s″ l″ : List ℕ} {r′ : Answer} {b : ℕ} {z : Target} → z ≡ Body b
-      → PostFind R T s′ v (getD R (at * 4 + 1) 0) (r .counts) (q .calls) z
-      → PostEval R E T A s′ l′ s″ l″ b (called q (getD R (at * 4 + 2) 0)) (r .counts) r′
-      → PostNode R E T A s l s″ l″ at q n r′
+      → PostFind T M s′ v (getD R (at * 4 + 1) 0) (getD R (at * 4 + 2) 0) (r .counts) (q .calls) z
+      → PostEnter R E T A M s′ l′ s″ l″ b (getD R (at * 4 + 2) 0) (q .top) (q .calls + 1) (r .counts) r′
+      → PostNode R E T A M s l s″ l″ at q n r′
   call-done {s″} {l″} {r′} {b} u p g′ = record {
-    done = λ P e d F k f enc wi z.
+    done = λ P e width d F k f enc wi z.
         let y = as-call (head e enc) h in
-        let x = call-parts {at = at} P (y .0) (y .1) (y .2) d F k f (rw (y .3) at enc) (rw (y .3) at wi) z in
+        let x = call-parts {at = at} P (y .0) (y .1) (y .2) width d F k f (rw (y .3) at enc) (rw (y .3) at wi)
+        z in
         let kp = kept-args x g in
         let fo = found x g u p in
         let nn : ℕ = getD R (at * 4 + 2) 0 in
-        let K : Method → State → Out Meaning = λ M t. calls-of P F (capacity s) (q .calls) M t in
-        let i = then-eval (capacity s) (room-same s s′ (kp .stored .long)) g′ P (fo .M .body) 128 F
-        (F - r .counts .left) (ready-body x g u p) (fo .encoded)
-        (fo .within nn (omega (arith, x .many, x .few))) (omega (arith, kp .falls)) in
+        let K : Method → State → Out Meaning = λ N t. calls-of P F (capacity s) (q .calls) N t in
+        let i = g′ .done P (body-in P (fo .M .number)) F (F - r .counts .left) (entering x g u p)
+        (omega (arith, kp .falls, z)) in
         let fr : frame-of l″ q ≡ frame-of l′ q =
-        frame-kept l′ l″ q (i .kept .long)
-        (λ j o. i .kept .same (q .base + j) (omega (arith, f .frame, f .scoped))
-        (inl (omega (arith, f .frame, f .scoped)))) in
-        let is′ = rw (frame-called x g u p dv) at (i .is) in
+        frame-kept l′ l″ q (i .long) (λ j o. i .same (q .base + j) (omega (arith, f .frame, f .scoped))) in
+        let is′ = rw (room-same s s′ (kp .stored .long), frame-called x g u p dv) at (i .is
+        (frame-of l′ q)) in
         let method : world P .method (fo .o .class-of) (y .0) ≡ some (fo .M) =
         rw (x .first) at (fo .method) in
         record {
           kept = kept-then 0 0 1 kp (record {
-            same = λ j o a. i .kept .same j (omega arith) (inl o);
-            long = i .kept .long;
-            stored = i .kept .stored;
-            falls = i .kept .falls;
-            counted = i .kept .counted;
-            small = i .kept .small;
+            same = λ j o a. i .same j o;
+            long = i .long;
+            stored = i .stored;
+            falls = i .falls;
+            counted = omega (arith, i .counted);
+            small = i .small;
           }) (omega arith);
           is = rw (
             y .3,
             call-in-a-row (world P) (with-limits F (capacity s)) K (y .0) (y .1) (y .2) (state P s l q n k),
             args-gave x g v e₁ dv,
-            run-call (world P) (with-limits F (capacity s)) (q .calls) (y .0) (value v)
+            run-call (world P) (with-limits F (capacity s)) (body-in P) (q .calls) (y .0) (value v)
                 (slots-of l′ (q .top + 1) nn) (state P s′ l′ q (r .counts) (F - r .counts .left)) (fo .j)
                 (fo .o) (fo .M) (fo .allowed) (fo .receiver) (fo .known (frame-of l′ q) (F - r .counts .left))
-                method,
-          )
-              (back (r′ .outcome) P s″ l″ q (called q nn) (r′ .counts) (F - r′ .counts .left) (frame-of l′ q)
-              (evaluated P F (capacity s) (q .calls + 1) (fo .M .body)
-              (with-frame (frame (some (object (fo .j))) (slots-of l′ (q .top + 1) nn))
-              (state P s′ l′ q (r .counts) (F - r .counts .left)))) fr is′);
+                method (arguments-given x g ∙ fo .parameters),
+            fr,
+          ) is′;
         };
   }

@@ -14,6 +14,7 @@ use Rattle.language.specs.Layout.{start-row}
 use Rattle.language.specs.State.{Value as Meaning, State, Out, stuck}
 use Rattle.language.specs.Evaluation.{with-limits, run}
 use Rattle.language.specs.Store.{gave, ended, ran, Ran as Finished, finish, capacity, run-of}
+use Rattle.layout.specs.Held.{Held}
 use Rattle.theory.specs.Accepts.{check-accepts}
 use Rattle.theory.specs.Members.{well-formed-never-stuck, accepted-run}
 use Rattle.objects.specs.declared.Value.{Value}
@@ -26,7 +27,7 @@ use Rattle.machine.specs.declared.End.the-variants.{Stopped as EndStoppe
 use Rattle.machine.specs.declared.Ran.{Ran}
 use Rattle.machine.specs.declared.Run.{Run}
 use Rattle.objects.specs.Contracts.{LetterFrom, SomeLetter}
-use Rattle.machine.specs.Contracts.{Accepted, Runs, PreRun, PostRun, PreChecked, PostChecked, Tells}
+use Rattle.machine.specs.Contracts.{call-room, Runs, PreRun, PostRun, PreChecked, PostChecked, Tells}
 use Rattle.machine.specs.Contracts.{outcome-of, value-told, end-told}
 use Rattle.objects.proofs.Nth.{lt-or}
 use Rattle.objects.proofs.Finding.{same-letter}
@@ -86,38 +87,38 @@ stuck-end (stop y t) s s′ a b c e =
 
 -- ---- the start block
 
-module _ {R E T A : List ℕ} {p : Program} (a : Accepted R E T A p) where
+module _ {R E T A M F C : List ℕ} {p : Program} (a : Held R E T A M F C p) where
   start-line : LetterFrom R 83 0 (start-row p)
   start-line = record {
     later = omega arith;
-    short = omega (arith, a .standing .start-line .within);
-    between = λ i x y e. no-classes R E (p .classes) 1 0 (a .standing .classes) .none i x (omega arith) e;
-    letter = a .standing .start-line .letter;
+    short = omega (arith, a .headed .here .start-line .within);
+    between = λ i x y e. no-classes R E (p .classes) 1 0 (a .headed .here .classes) .none i x (omega arith) e;
+    letter = a .headed .here .start-line .letter;
   }
 
   start-found : {b : ℕ} → LetterFrom R 83 0 b → b ≡ start-row p
   start-found f = same-letter f start-line
 
-  starts : {l : List ℕ} {b : ℕ} → LetterFrom R 83 0 b → 92040 ≤ length l → Runs R E T A l (b + 1) p
+  starts : {l : List ℕ} {b : ℕ} → LetterFrom R 83 0 b → call-room ≤ length l → Runs R E T A M l (b + 1) p
   starts f room = rw (start-found f) (runs a room)
 
-module _ {R E T A : List ℕ} (c : PreChecked R E T A) where
+module _ {R E T A M : List ℕ} (c : PreChecked R E T A M) where
   pub some-start : SomeLetter R 83 0
-  some-start = record { found = start-row (c .p); from = start-line (c .accepted) }
+  some-start = record { found = start-row (c .p); from = start-line (c .held) }
 
-  module _ {l : List ℕ} {b : ℕ} (f : LetterFrom R 83 0 b) (room : 92040 ≤ length l) where
-    pub pre-start : PreRun R E T A l (b + 1)
-    pre-start = record { p = c .p; runs = starts (c .accepted) f room }
+  module _ {l : List ℕ} {b : ℕ} (f : LetterFrom R 83 0 b) (room : call-room ≤ length l) where
+    pub pre-start : PreRun R E T A M l (b + 1)
+    pre-start = record { p = c .p; runs = starts (c .held) f room }
 
-    module _ {s s′ : List ℕ} {fuel : ℕ} {r : Ran} (post : PostRun R E T A s l s′ (b + 1) fuel r) where
+    module _ {s s′ : List ℕ} {fuel : ℕ} {r : Ran} (post : PostRun R E T A M s l s′ (b + 1) fuel r) where
       pub end-small : SmallOutcome (outcome (r .outcome))
-      end-small = post .small (c .p) (starts (c .accepted) f room)
+      end-small = post .small (c .p) (starts (c .held) f room)
 
       pub checked-done : (e : End) → e ≡ end-told (outcome-of (outcome (r .outcome)))
-          → PostChecked R E T A s s′ fuel
+          → PostChecked R E T A M s s′ fuel
           (record { outcome = e; steps = r .steps; objects = r .objects; changes = r .changes })
       checked-done e told = record {
-        tells = λ p a. record {
+        tells = λ F C p a. record {
           outcome = outcome-of (outcome (r .outcome));
           is = post .is p
               (starts a f room);
@@ -126,12 +127,12 @@ module _ {R E T A : List ℕ} (c : PreChecked R E T A) where
         unstuck = λ z.
             let q = stuck-only (outcome (r .outcome)) end-small (sym z ∙ told) in
             let x = stuck-end (run (with-limits fuel (capacity s)) (c .p)) s s′ (r .steps) (r .objects)
-            (r .changes) (rw q at (post .is (c .p) (starts (c .accepted) f room))) in
-            well-formed-never-stuck (c .p) (well (c .accepted)) (with-limits fuel (capacity s)) (x .0) (x .1);
+            (r .changes) (rw q at (post .is (c .p) (starts (c .held) f room))) in
+            well-formed-never-stuck (c .p) (well (c .held)) (with-limits fuel (capacity s)) (x .0) (x .1);
       }
 
   pub start-low : {b : ℕ} → LetterFrom R 83 0 b → b * 4 + 4 ≤ length R
-  start-low f = omega (arith, start-found (c .accepted) f, c .accepted .standing .start-line .within)
+  start-low f = omega (arith, start-found (c .held) f, c .held .headed .here .start-line .within)
 
 -- The same of rows that the check accepts: the answer and the store are those of the rows' run.
 pub tells-run-of : (R s s′ : List ℕ) (p : Program) (fuel : ℕ) (r : Run) → check R ≡ accept p

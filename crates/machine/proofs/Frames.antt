@@ -15,7 +15,7 @@ use Rattle.objects.specs.Values.{value, decoded, outcome, bare}
 use Rattle.machine.specs.Machine.{slots-of, frame-of, this-of}
 use Rattle.machine.specs.Contracts.{PostRead, PostWrite}
 use Rattle.objects.proofs.Values.{value-decoded, small-decoded, outcome-value, outcome-stuck}
-use Rattle.objects.proofs.Nth.{nth-none}
+use Rattle.objects.proofs.Nth.{nth-none, nth-ext}
 use Rattle.objects.proofs.Objects.{values-at, values-ext, values-set, values-length}
 
 this-some : (calls n : ℕ) → (calls ≡ 0 → ⊥) → this-of calls n ≡ some (value-of-number n)
@@ -30,6 +30,18 @@ pub slots-ext : (l l′ : List ℕ) (from n : ℕ) → length l ≡ length l′
     → ((i : ℕ) → i < n → getD l (from + i) 0 ≡ getD l′ (from + i) 0) → slots-of l from n ≡ slots-of l′ from n
 unfolding slots-of
 slots-ext l l′ from n e h = values-ext l l′ from n e h
+
+-- Equal numbers in two places are equal slots.
+pub slots-moved : (l l′ : List ℕ) (from from′ n : ℕ) → from + n ≤ length l → from′ + n ≤ length l′
+    → ((i : ℕ) → i < n → getD l (from + i) 0 ≡ getD l′ (from′ + i) 0)
+    → slots-of l from n ≡ slots-of l′ from′ n
+unfolding slots-of
+slots-moved l l′ from from′ n h h′ same =
+    let a = slots-length l from n h in
+    nth-ext (slots-of l from n) (slots-of l′ from′ n) (a ∙ sym (slots-length l′ from′ n h′))
+    (λ i u. values-at l from n i (omega (arith, a)) (omega (arith, a))
+    ∙ (ap (λ (y : ℕ). some (value-of-number y)) (same i (omega (arith, a)))
+    ∙ sym (values-at l′ from′ n i (omega (arith, a)) (omega (arith, a)))))
 
 -- what stands in slot k
 pub slot-this : (l : List ℕ) (q : Place) → (q .calls ≡ 0 → ⊥)

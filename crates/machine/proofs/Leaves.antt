@@ -34,9 +34,10 @@ use Rattle.machine.proofs.Letters.{as-new, as-change, as-is-null, as-ge
 use Rattle.machine.proofs.Nodes.{rest-change, rest-assign}
 
 -- an act as what a node comes to
-pub done-acts : {R E T A s l s′ : List ℕ} {P : List Class} {q : Place} {n : Counts} {d : ℕ} {r : Answer}
-    {o : State → Out Meaning} (F k : ℕ) → Ready R E T A s l P q n d 1
-    → Acts P s s′ n r o → k + n .left ≡ F → Done P s l s′ l q n F 1 r (o (state P s l q n k))
+pub done-acts : {R E T A M s l s′ : List ℕ} {P : List Class} {width : ℕ} {q : Place} {n : Counts} {d : ℕ}
+    {r : Answer}
+    {o : State → Out Meaning} (F k : ℕ) → Ready R E T A M s l P width q n d 1
+    → Acts P s s′ n r o → k + n .left ≡ F → Done P width s l s′ l q n F 1 r (o (state P s l q n k))
 done-acts {l = l} {q = q} {n = n} {r = r} F k f a e = record {
   kept = record {
     same = λ i h o. refl;
@@ -49,10 +50,11 @@ done-acts {l = l} {q = q} {n = n} {r = r} F k f a e = record {
   is = let g : F - r .counts .left ≡ k = omega (arith, a .left) in rw g (a .is (frame-of l q) k);
 }
 
-pub done-same : {R E T A s l : List ℕ} {P : List Class} {q : Place} {n : Counts} {d : ℕ} (o : Outcome)
-    {x : Out Meaning} (F k : ℕ) → Ready R E T A s l P q n d 1
+pub done-same : {R E T A M s l : List ℕ} {P : List Class} {width : ℕ} {q : Place} {n : Counts} {d : ℕ}
+    (o : Outcome)
+    {x : Out Meaning} (F k : ℕ) → Ready R E T A M s l P width q n d 1
     → SmallOutcome o → k + n .left ≡ F → told o (state P s l q n k) ≡ bare x
-    → Done P s l s l q n F 1 (answer o n) x
+    → Done P width s l s l q n F 1 (answer o n) x
 done-same {n = n} o F k f m e h = record {
   kept = record {
     same = λ i h o. refl;
@@ -82,8 +84,8 @@ module _ {R T s l : List ℕ} {at : ℕ} {q : Place} {n : Counts} where
   pub leaf-true : getD R (at * 4) 0 ≡ 84 → PostLeaf R T s l s at q n (answer (outcome 2) n)
   unfolding bare inside outcome
   leaf-true h = record {
-    post = λ E A. record {
-      done = λ P e d F k f enc w z.
+    post = λ E A M. record {
+      done = λ P e width d F k f enc w z.
           let c = as-literal-true (head e enc) h in
           done-same (Gave (Truth true)) F k f (omega arith) z (rw c);
     };
@@ -92,8 +94,8 @@ module _ {R T s l : List ℕ} {at : ℕ} {q : Place} {n : Counts} where
   pub leaf-false : getD R (at * 4) 0 ≡ 76 → PostLeaf R T s l s at q n (answer (outcome 1) n)
   unfolding bare inside outcome
   leaf-false h = record {
-    post = λ E A. record {
-      done = λ P e d F k f enc w z.
+    post = λ E A M. record {
+      done = λ P e width d F k f enc w z.
           let c = as-literal-false (head e enc) h in
           done-same (Gave (Truth false)) F k f (omega arith) z (rw c);
     };
@@ -102,8 +104,8 @@ module _ {R T s l : List ℕ} {at : ℕ} {q : Place} {n : Counts} where
   pub leaf-null : getD R (at * 4) 0 ≡ 78 → PostLeaf R T s l s at q n (answer (outcome 0) n)
   unfolding bare inside outcome
   leaf-null h = record {
-    post = λ E A. record {
-      done = λ P e d F k f enc w z.
+    post = λ E A M. record {
+      done = λ P e width d F k f enc w z.
           let c = as-literal-null (head e enc) h in
           done-same (Gave Null) F k f (omega arith) z (rw c);
     };
@@ -113,8 +115,8 @@ module _ {R T s l : List ℕ} {at : ℕ} {q : Place} {n : Counts} where
       → PostLeaf R T s l s at q n (answer o n)
   unfolding inside Encoded
   leaf-slot o h p = record {
-    post = λ E A. record {
-      done = λ P e d F k f enc w z.
+    post = λ E A M. record {
+      done = λ P e width d F k f enc w z.
           let c = as-slot (head e enc) h in
           let enc′ = rw (c .1) at enc in
           done-same o F k f (p .small) z (rw (c .1, ← enc′ .row .first) (p .is (state P s l q n k)));
@@ -129,7 +131,6 @@ module _ {R T s l : List ℕ} {at : ℕ} {q : Place} {n : Counts} where
       let enc = rw (c .1) at (p .node .encoded) in
       let w = rw (c .1) at (p .node .within) in
       record {
-        E = p .E;
         A = p .A;
         P = p .node .P;
         holds = p .node .ready .holds;
@@ -141,13 +142,13 @@ module _ {R T s l : List ℕ} {at : ℕ} {q : Place} {n : Counts} where
       → PostNew R T s s′ (getD R (at * 4 + 1) 0) n r → PostLeaf R T s l s′ at q n r
   unfolding inside Encoded Within
   leaf-new h p = record {
-    post = λ E A. record {
-      done = λ P e d F k f enc w z.
+    post = λ E A M. record {
+      done = λ P e width d F k f enc w z.
           let c = as-new (head e enc) h in
           let enc′ = rw (c .1) at enc in
           let w′ = rw (c .1) at w in
           rw (c .1, ← enc′ .row .first)
-          (done-acts F k f (p .acts E A P F (f .holds) (f .sound) (omega (arith, enc′ .row .first, w′)))
+          (done-acts F k f (p .acts A P F (f .holds) (f .sound) (omega (arith, enc′ .row .first, w′)))
           z);
     };
   }
@@ -161,7 +162,6 @@ module _ {R T s l : List ℕ} {at : ℕ} {q : Place} {n : Counts} where
       let w = rw (c .2) at (p .node .within) in
       record {
         new = record {
-          E = p .E;
           A = p .A;
           P = p .node .P;
           holds = p .node .ready .holds;
@@ -176,8 +176,8 @@ module _ {R T s l : List ℕ} {at : ℕ} {q : Place} {n : Counts} where
       → ((v : Value) → o ≡ Gave v → ⊥) → PostLeaf R T s l s at q n (answer o n)
   unfolding inside Encoded bare
   change-missing o h p not = record {
-    post = λ E A. record {
-      done = λ P e d F k f enc w z.
+    post = λ E A M. record {
+      done = λ P e width d F k f enc w z.
           let c = as-change (head e enc) h in
           let enc′ = rw (c .2) at enc in
           done-same o F k f (p .small) z
@@ -201,8 +201,8 @@ module _ {R T s l : List ℕ} {at : ℕ} {q : Place} {n : Counts} where
       → PostLeaf R T s l s′ at q n r
   unfolding inside Encoded Within
   change-done {s′} {r} o v h p g ch = record {
-    post = λ E A. record {
-      done = λ P e d F k f enc w z.
+    post = λ E A M. record {
+      done = λ P e width d F k f enc w z.
           let c = as-change (head e enc) h in
           let enc′ = rw (c .2) at enc in
           let w′ = rw (c .2) at w in
@@ -212,7 +212,7 @@ module _ {R T s l : List ℕ} {at : ℕ} {q : Place} {n : Counts} where
           (rw g at (p .is (state P s l q n k))) in
           let there′ : at-slot (frame-of l q) (c .0) ≡ some (value v) = rw (enc′ .row .first) at there in
           let a = done-acts F k f
-          (ch .acts E A P (f .holds) (f .sound) (omega (arith, enc′ .row .second, w′))) z in
+          (ch .acts A P (f .holds) (f .sound) (omega (arith, enc′ .row .second, w′))) z in
           rw (c .2) (rw (there′, ← enc′ .row .second) a);
     };
   }
@@ -243,7 +243,6 @@ module _ {R T A s l : List ℕ} {at : ℕ} {q : Place} {n : Counts} {v : Value} 
       let w = rw (c .2) at (p .node .within) in (
         record {
           R = R;
-          E = p .E;
           A = A;
           P = p .node .P;
           holds = p .node .ready .holds;
@@ -261,7 +260,6 @@ module _ {R T A s l : List ℕ} {at : ℕ} {q : Place} {n : Counts} {v : Value} 
       let w = rw (c .2) at (p .node .within) in
       record {
         R = R;
-        E = p .E;
         T = T;
         P = p .node .P;
         holds = p .node .ready .holds;
@@ -279,7 +277,7 @@ module _ {R T A s l : List ℕ} {at : ℕ} {q : Place} {n : Counts} {v : Value} 
       → PostApply R T A s l l at q n v r
   unfolding after bare
   apply-test h g = record {
-    applied = λ E P e d f enc w.
+    applied = λ E M P e width d f enc w.
         let c = as-is-null (head e enc) h in
         record {
           long = refl;
@@ -304,10 +302,10 @@ module _ {R T A s l : List ℕ} {at : ℕ} {q : Place} {n : Counts} {v : Value} 
       → PostApply R T A s l l at q n v r
   unfolding after Encoded
   apply-get r h p = record {
-    applied = λ E P e d f enc w.
+    applied = λ E M P e width d f enc w.
         let c = as-get (head e enc) h in
         let enc′ = rw (c .2) at enc in
-        let a = p .acts R E A P (f .holds) (f .sound) in
+        let a = p .acts R A P (f .holds) (f .sound) in
         record {
           long = refl;
           same = λ i o. refl;
@@ -320,11 +318,11 @@ module _ {R T A s l : List ℕ} {at : ℕ} {q : Place} {n : Counts} {v : Value} 
       → PostApply R T A s l l at q n v r
   unfolding after Encoded Within
   apply-cast r h p = record {
-    applied = λ E P e d f enc w.
+    applied = λ E M P e width d f enc w.
         let c = as-cast (head e enc) h in
         let enc′ = rw (c .2) at enc in
         let w′ = rw (c .2) at w in
-        let a = p .acts R E T P (f .holds) (f .sound) (omega (arith, enc′ .0 .row .first, w′ .1)) in
+        let a = p .acts R T P (f .holds) (f .sound) (omega (arith, enc′ .0 .row .first, w′ .1)) in
         record {
           long = refl;
           same = λ i o. refl;
@@ -337,21 +335,21 @@ module _ {R T A s l : List ℕ} {at : ℕ} {q : Place} {n : Counts} {v : Value} 
       → PostWrite l l′ (getD R (at * 4 + 1) 0) v q r → PostApply R T A s l l′ at q n v r
   unfolding after Encoded
   apply-assign h p = record {
-    applied = λ E P e d f enc w.
+    applied = λ E M P e width d f enc w.
         let c = as-assign (head e enc) h in
         let enc′ = rw (c .2) at enc in
         record {
           long = p .long;
-          same = λ i o. p .same i (far E P d f i o);
+          same = λ i o. p .same i (far E M P width d f i o);
           small = p .small;
           is = λ k. rw (c .2, ← enc′ .0 .row .first) (p .is (state P s l q n k));
         };
   }
     where
-      far : (E : List ℕ) (P : List Class) (d : ℕ) → Ready R E T A s l P q n d 0 → (i : ℕ)
-          → (i < q .base) ⊎ (q .base + 264 ≤ i) → (i < q .base) ⊎ (q .base + q .scope < i)
-      far E P d f i (inl o) = inl o
-      far E P d f i (inr o) = inr (omega (arith, f .scoped))
+      far : (E M : List ℕ) (P : List Class) (width d : ℕ) → Ready R E T A M s l P width q n d 0 → (i : ℕ)
+          → (i < q .base) ⊎ (q .base + width ≤ i) → (i < q .base) ⊎ (q .base + q .scope < i)
+      far E M P width d f i (inl o) = inl o
+      far E M P width d f i (inr o) = inr (omega (arith, f .scoped))
 
 pub no-leaf : (k : ℕ) → (k ≡ 84 → ⊥) → (k ≡ 76 → ⊥) → (k ≡ 78 → ⊥) → (k ≡ 73 → ⊥) → (k ≡ 87 → ⊥)
     → (k ≡ 82 → ⊥) → no-child k ≡ false

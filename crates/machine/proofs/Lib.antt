@@ -9,6 +9,7 @@ mod Nodes3
 mod Lists
 mod Arguments
 mod Blocks
+mod Entering
 mod Calls
 mod Running
 mod Lines

@@ -19,15 +19,15 @@ use Rattle.objects.proofs.Nth.{lt-or}
 pub record Without (R : List ℕ) (x from n : ℕ) : Type 0 where
   pub none : (i : ℕ) → from ≤ i → i < from + n → getD R (i * 4) 0 ≡ x → ⊥
 
-pub without-nil : {R : List ℕ} {x r : ℕ} → Without R x r 0
+without-nil : {R : List ℕ} {x r : ℕ} → Without R x r 0
 without-nil = record { none = λ i a b e. omega arith }
 
-pub without-row : {R : List ℕ} {x r a b : ℕ} {l : Letter} → (code l ≡ x → ⊥) → RowAt R r l a b
+without-row : {R : List ℕ} {x r a b : ℕ} {l : Letter} → (code l ≡ x → ⊥) → RowAt R r l a b
     → Without R x r 1
 without-row {R} {x} {r} n h =
     record { none = λ i a b e. let z : i ≡ r = omega arith in n (sym (h .letter) ∙ (rw z at e)) }
 
-pub without-then : {R : List ℕ} {x : ℕ} (r m r′ n k : ℕ) → Without R x r m → Without R x r′ n → r + m ≡ r′
+without-then : {R : List ℕ} {x : ℕ} (r m r′ n k : ℕ) → Without R x r m → Without R x r′ n → r + m ≡ r′
     → m + n ≡ k → Without R x r k
 without-then {R} {x} r m r′ n k p q s t = record { none = λ i a b e. go i a b e (lt-or i r′) }
   where
@@ -36,7 +36,7 @@ without-then {R} {x} r m r′ n k p q s t = record { none = λ i a b e. go i a b
     go i a b e (inr l) = q .none i l (omega arith) e
 
 -- Lines of which none has the letter.
-pub without-lines : {A : Type 0} {Q : A → ℕ → Type 0} {R : List ℕ} {x : ℕ}
+without-lines : {A : Type 0} {Q : A → ℕ → Type 0} {R : List ℕ} {x : ℕ}
     → ((y : A) (i : ℕ) → Q y i → getD R (i * 4) 0 ≡ x → ⊥) → (xs : List A) (r : ℕ) → LinesAt Q xs r
     → Without R x r (length xs)
 without-lines {Q = Q} {R} {x} other xs r h = record {

@@ -24,25 +24,27 @@ use Rattle.objects.proofs.Acts.{stored-same}
 use Rattle.machine.proofs.Steps.{kept-then, refit, room-same, gives, kept-of}
 
 -- the first of a list, and the rest
-pub record FirstAt (R E T A s l : List ℕ) (at : ℕ) (q : Place) (n : Counts) (m : ℕ) (P : List Class)
-    (e : Expr) (es : Exprs) (d F k : ℕ) : Type 0 where
-  pub ready : Ready R E T A s l P q n d 0
+pub record FirstAt (R E T A M s l : List ℕ) (at : ℕ) (q : Place) (n : Counts) (m : ℕ) (P : List Class)
+    (e : Expr) (es : Exprs) (width d F k : ℕ) : Type 0 where
+  pub ready : Ready R E T A M s l P width q n d 0
   pub in-ends : at < length E
   pub end : getD E at 0 ≡ at + size e
   pub enc-first : Encoded R E e at
   pub enc-rest : EncodedAll R E es (at + size e)
-  pub within-first : Within (length P) (q .scope) d e
-  pub within-rest : WithinAll (length P) (q .scope) d es
+  pub within-first : Within (length P) width (q .scope) d e
+  pub within-rest : WithinAll (length P) width (q .scope) d es
   pub many : m ≡ suc (count es)
   pub total : k + n .left ≡ F
 
-pub list-parts : {R E T A s l : List ℕ} {at : ℕ} {q : Place} {n : Counts} (m : ℕ) (P : List Class) (e : Expr)
-    (es : Exprs) (d F k : ℕ) → Ready R E T A s l P q n d 0
-    → EncodedAll R E (cons e es) at → WithinAll (length P) (q .scope) d (cons e es) → m ≡ count (cons e es)
+pub list-parts : {R E T A M s l : List ℕ} {at : ℕ} {q : Place} {n : Counts} (m : ℕ) (P : List Class)
+    (e : Expr)
+    (es : Exprs) (width d F k : ℕ) → Ready R E T A M s l P width q n d 0
+    → EncodedAll R E (cons e es) at → WithinAll (length P) width (q .scope) d (cons e es)
+    → m ≡ count (cons e es)
     → k + n .left ≡ F
-    → FirstAt R E T A s l at q n m P e es d F k
+    → FirstAt R E T A M s l at q n m P e es width d F k
 unfolding EncodedAll WithinAll count
-list-parts m P e es d F k r enc w many z = record {
+list-parts m P e es width d F k r enc w many z = record {
   ready = r;
   in-ends = head e (enc .0) .in-ends;
   end = head e (enc .0) .end;
@@ -54,24 +56,30 @@ list-parts m P e es d F k r enc w many z = record {
   total = z;
 }
 
-pub list-apart : {R E T A s l : List ℕ} {at : ℕ} {q : Place} {n : Counts} {m : ℕ}
-    (p : PreList R E T A s l at q n m) → (m ≡ 0 → ⊥)
-    → (e : Expr) × (es : Exprs) × FirstAt R E T A s l at q n m (p .P) e es (p .d) (n .left) 0
+pub list-apart : {R E T A M s l : List ℕ} {at : ℕ} {q : Place} {n : Counts} {m : ℕ}
+    (p : PreList R E T A M s l at q n m) → (m ≡ 0 → ⊥)
+    → (e : Expr) × (es : Exprs) × FirstAt R E T A M s l at q n m (p .P) e es (p .width) (p .d) (n .left) 0
 unfolding count
-list-apart {R} {E} {T} {A} {s} {l} {at} {q} {n} {m} p z = go (p .es) (p .encoded) (p .within) (p .many)
+list-apart {R} {E} {T} {A} {M} {s} {l} {at} {q} {n} {m} p z = go (p .es) (p .encoded) (p .within) (p .many)
   where
-    go : (es : Exprs) → EncodedAll R E es at → WithinAll (length (p .P)) (q .scope) (p .d) es → m ≡ count es
-        → (e : Expr) × (es : Exprs) × FirstAt R E T A s l at q n m (p .P) e es (p .d) (n .left) 0
+    go : (es : Exprs) → EncodedAll R E es at → WithinAll (length (p .P)) (p .width) (q .scope) (p .d) es
+        → m ≡ count es
+        → (e : Expr) × (es : Exprs) × FirstAt R E T A M s l at q n m (p .P) e es (p .width) (p .d) (n .left) 0
     go nil enc w many = absurd (z many)
-    go (cons e es) enc w many =
-        (e, es, list-parts {at = at} m (p .P) e es (p .d) (n .left) 0 (p .ready) enc w many (omega arith))
+    go (cons e es) enc w many = (
+      e,
+      es,
+      list-parts {at = at} m (p .P) e es (p .width) (p .d) (n .left) 0 (p .ready) enc w many
+          (omega arith),
+    )
 
-module _ {R E T A s l : List ℕ} {at : ℕ} {q : Place} {n : Counts} {m : ℕ} {P : List Class} {e : Expr}
-    {es : Exprs} {d F k : ℕ} (x : FirstAt R E T A s l at q n m P e es d F k) where
-  abbrev pub list-first : PreEval R E T A s l at q n
+module _ {R E T A M s l : List ℕ} {at : ℕ} {q : Place} {n : Counts} {m : ℕ} {P : List Class} {e : Expr}
+    {es : Exprs} {width d F k : ℕ} (x : FirstAt R E T A M s l at q n m P e es width d F k) where
+  abbrev pub list-first : PreEval R E T A M s l at q n
   list-first = record {
     P = P;
     e = e;
+    width = width;
     d = d;
     ready = x .ready;
     encoded = x .enc-first;
@@ -80,14 +88,16 @@ module _ {R E T A s l : List ℕ} {at : ℕ} {q : Place} {n : Counts} {m : ℕ} 
   }
 
   module _ (few : m < 4294967296) {s′ l′ : List ℕ} {r : Answer} {v : Value}
-      (g : PostEval R E T A s l s′ l′ at q n r) (t : r .outcome ≡ Gave v) where
-    pub head-done : Done P s l s′ l′ q n F 0 r (evaluated P F (capacity s) (q .calls) e (state P s l q n k))
-    head-done = g .done P e d F k (x .ready) (x .enc-first) (x .within-first) (x .total)
+      (g : PostEval R E T A M s l s′ l′ at q n r) (t : r .outcome ≡ Gave v) where
+    pub head-done : Done P width s l s′ l′ q n F 0 r
+        (evaluated P F (capacity s) (q .calls) e (state P s l q n k))
+    head-done = g .done P e width d F k (x .ready) (x .enc-first) (x .within-first) (x .total)
 
-    pub list-rest : PreList R E T A s′ l′ (getD E at 0) q (r .counts) (m - 1)
+    pub list-rest : PreList R E T A M s′ l′ (getD E at 0) q (r .counts) (m - 1)
     list-rest = record {
       P = P;
       es = es;
+      width = width;
       d = d;
       ready = refit 0 d (x .ready) (head-done .kept) (omega arith);
       encoded = rw (x .end) (x .enc-rest);
@@ -96,15 +106,16 @@ module _ {R E T A s l : List ℕ} {at : ℕ} {q : Place} {n : Counts} {m : ℕ} 
       few = omega arith;
     }
 
-pub items-none : {R E T A s l : List ℕ} {at : ℕ} {q : Place} {n : Counts} {m : ℕ} {last : Value} → m ≡ 0
-    → Small last → PostItems R E T A s l s l at q n m last (answer (Gave last) n)
+pub items-none : {R E T A M s l : List ℕ} {at : ℕ} {q : Place} {n : Counts} {m : ℕ} {last : Value} → m ≡ 0
+    → Small last → PostItems R E T A M s l s l at q n m last (answer (Gave last) n)
 unfolding eval-all count bare
-items-none {R} {E} {T} {A} {s} {l} {at} {q} {n} {m} {last} z small =
-    record { done = λ P es d F k f enc w many t. go P F k (omega arith) f es many }
+items-none {R} {E} {T} {A} {M} {s} {l} {at} {q} {n} {m} {last} z small =
+    record { done = λ P es width d F k f enc w many t. go P F k (omega arith) f es many }
   where
-    go : (P : List Class) (F k : ℕ) → k + n .left ≡ F → {d : ℕ} → Ready R E T A s l P q n d 0 → (es : Exprs)
+    go : (P : List Class) (F k : ℕ) → k + n .left ≡ F → {width d : ℕ} → Ready R E T A M s l P width q n d 0
+        → (es : Exprs)
         → m ≡ count es
-        → Done P s l s l q n F 0 (answer (Gave last) n)
+        → Done P width s l s l q n F 0 (answer (Gave last) n)
         (bind (evaluated-all P F (capacity s) (q .calls) es (state P s l q n k)) λ vs t.
         ok (last-value (value last) vs) t)
     go P F k t f nil many = record {
@@ -134,21 +145,22 @@ last-push : (x : Out (List Meaning)) (v w : Meaning)
 last-push (ok vs s) v w = refl
 last-push (stop y s) v w = refl
 
-module _ {R E T A s l s′ l′ : List ℕ} {at : ℕ} {q : Place} {n : Counts} {m : ℕ} {last : Value} {r : Answer}
-    (z : m ≡ 0 → ⊥) (g : PostEval R E T A s l s′ l′ at q n r) where
-  pub items-fail : ((v : Value) → r .outcome ≡ Gave v → ⊥) → PostItems R E T A s l s′ l′ at q n m last r
+module _ {R E T A M s l s′ l′ : List ℕ} {at : ℕ} {q : Place} {n : Counts} {m : ℕ} {last : Value} {r : Answer}
+    (z : m ≡ 0 → ⊥) (g : PostEval R E T A M s l s′ l′ at q n r) where
+  pub items-fail : ((v : Value) → r .outcome ≡ Gave v → ⊥) → PostItems R E T A M s l s′ l′ at q n m last r
   unfolding eval-all count
-  items-fail not = record { done = λ P es d F k f enc w many t. go P d F k f t es enc w many }
+  items-fail not = record { done = λ P es width d F k f enc w many t. go P width d F k f t es enc w many }
     where
-      go : (P : List Class) (d F k : ℕ) → Ready R E T A s l P q n d 0 → k + n .left ≡ F → (es : Exprs)
-          → EncodedAll R E es at → WithinAll (length P) (q .scope) d es → m ≡ count es
-          → Done P s l s′ l′ q n F 0 r
+      go : (P : List Class) (width d F k : ℕ) → Ready R E T A M s l P width q n d 0 → k + n .left ≡ F
+          → (es : Exprs)
+          → EncodedAll R E es at → WithinAll (length P) width (q .scope) d es → m ≡ count es
+          → Done P width s l s′ l′ q n F 0 r
           (bind (evaluated-all P F (capacity s) (q .calls) es (state P s l q n k)) λ vs t.
           ok (last-value (value last) vs) t)
-      go P d F k f t nil enc w many = absurd (z many)
-      go P d F k f t (cons e es) enc w many =
-          let x = list-parts {at = at} m P e es d F k f enc w many t in
-          let a = g .done P e d F k f (x .enc-first) (x .within-first) t in
+      go P width d F k f t nil enc w many = absurd (z many)
+      go P width d F k f t (cons e es) enc w many =
+          let x = list-parts {at = at} m P e es width d F k f enc w many t in
+          let a = g .done P e width d F k f (x .enc-first) (x .within-first) t in
           record {
             kept = a .kept;
             is = fails-twice (r .outcome) (state P s′ l′ q (r .counts) (F - r .counts .left))
@@ -158,26 +170,27 @@ module _ {R E T A s l s′ l′ : List ℕ} {at : ℕ} {q : Place} {n : Counts} 
           }
 
   pub items-step : {s″ l″ : List ℕ} {v : Value} {r′ : Answer} → r .outcome ≡ Gave v
-      → PostItems R E T A s′ l′ s″ l″ (getD E at 0) q (r .counts) (m - 1) v r′
-      → PostItems R E T A s l s″ l″ at q n m last r′
+      → PostItems R E T A M s′ l′ s″ l″ (getD E at 0) q (r .counts) (m - 1) v r′
+      → PostItems R E T A M s l s″ l″ at q n m last r′
   unfolding eval-all count
   items-step {s″} {l″} {v} {r′} e₁ g′ =
-      record { done = λ P es d F k f enc w many t. go P d F k f t es enc w many }
+      record { done = λ P es width d F k f enc w many t. go P width d F k f t es enc w many }
     where
-      go : (P : List Class) (d F k : ℕ) → Ready R E T A s l P q n d 0 → k + n .left ≡ F → (es : Exprs)
-          → EncodedAll R E es at → WithinAll (length P) (q .scope) d es → m ≡ count es
-          → Done P s l s″ l″ q n F 0 r′
+      go : (P : List Class) (width d F k : ℕ) → Ready R E T A M s l P width q n d 0 → k + n .left ≡ F
+          → (es : Exprs)
+          → EncodedAll R E es at → WithinAll (length P) width (q .scope) d es → m ≡ count es
+          → Done P width s l s″ l″ q n F 0 r′
           (bind (evaluated-all P F (capacity s) (q .calls) es (state P s l q n k)) λ vs t.
           ok (last-value (value last) vs) t)
-      go P d F k f t nil enc w many = absurd (z many)
-      go P d F k f t (cons e es) enc w many =
-          let x = list-parts {at = at} m P e es d F k f enc w many t in
-          let a = g .done P e d F k f (x .enc-first) (x .within-first) t in
+      go P width d F k f t nil enc w many = absurd (z many)
+      go P width d F k f t (cons e es) enc w many =
+          let x = list-parts {at = at} m P e es width d F k f enc w many t in
+          let a = g .done P e width d F k f (x .enc-first) (x .within-first) t in
           let c : capacity s′ ≡ capacity s = room-same s s′ (a .kept .stored .long) in
           let st : State = state P s′ l′ q (r .counts) (F - r .counts .left) in
           let gave : evaluated P F (capacity s) (q .calls) e (state P s l q n k) ≡ ok (value v) st =
           gives st (evaluated P F (capacity s) (q .calls) e (state P s l q n k)) e₁ (a .is) in
-          let b = rw c at (g′ .done P es d F (F - r .counts .left) (refit 0 d f (a .kept) (omega arith))
+          let b = rw c at (g′ .done P es width d F (F - r .counts .left) (refit 0 d f (a .kept) (omega arith))
           (rw (x .end) (x .enc-rest)) (x .within-rest) (omega (arith, x .many))
           (omega (arith, a .kept .falls))) in
           record {
@@ -187,10 +200,10 @@ module _ {R E T A s l s′ l′ : List ℕ} {at : ℕ} {q : Place} {n : Counts} 
           }
 
 -- the loop over a list: what is left to do, and how the whole follows from it
-pub record ItemsLoop (R E T A s₀ l₀ : List ℕ) (at : ℕ) (q : Place) (m : ℕ) (r₀ : Answer) (s l : List ℕ)
+pub record ItemsLoop (R E T A M s₀ l₀ : List ℕ) (at : ℕ) (q : Place) (m : ℕ) (r₀ : Answer) (s l : List ℕ)
     (r : Answer) (next i : ℕ) : Type 0 where
   pub low : i ≤ m
-  pub list : PreList R E T A s l next q (r .counts) (m - i)
+  pub list : PreList R E T A M s l next q (r .counts) (m - i)
   pub v : Value
   pub gave : r .outcome ≡ Gave v
   pub small : Small v
@@ -198,12 +211,12 @@ pub record ItemsLoop (R E T A s₀ l₀ : List ℕ) (at : ℕ) (q : Place) (m : 
   pub long-store : length s ≡ length s₀
   pub long-slots : length l ≡ length l₀
   pub rest : (last : Value) → r₀ .outcome ≡ Gave last → (s′ l′ : List ℕ) (r′ : Answer)
-      → PostItems R E T A s l s′ l′ next q (r .counts) (m - i) v r′
-      → PostItems R E T A s₀ l₀ s′ l′ at q (r₀ .counts) m last r′
+      → PostItems R E T A M s l s′ l′ next q (r .counts) (m - i) v r′
+      → PostItems R E T A M s₀ l₀ s′ l′ at q (r₀ .counts) m last r′
 
-pub items-start : {R E T A s l : List ℕ} {at : ℕ} {q : Place} {n : Counts} {m : ℕ} {last : Value}
-    {o : Outcome} → PreList R E T A s l at q n m → Small last → o ≡ Gave last
-    → ItemsLoop R E T A s l at q m (answer (Gave last) n) s l (answer o n) at 0
+pub items-start : {R E T A M s l : List ℕ} {at : ℕ} {q : Place} {n : Counts} {m : ℕ} {last : Value}
+    {o : Outcome} → PreList R E T A M s l at q n m → Small last → o ≡ Gave last
+    → ItemsLoop R E T A M s l at q m (answer (Gave last) n) s l (answer o n) at 0
 items-start {m = m} {last} p small gave =
     let z : m - 0 ≡ m = omega arith in
     record {
@@ -218,28 +231,30 @@ items-start {m = m} {last} p small gave =
       rest = λ last′ e s′ l′ r′ g. let y : last ≡ last′ = cc in rw (← y) (rw z at g);
     }
 
-module _ {R E T A s₀ l₀ : List ℕ} {at : ℕ} {q : Place} {m : ℕ} {r₀ : Answer} {s l : List ℕ} {r : Answer}
-    {next i : ℕ} (x : ItemsLoop R E T A s₀ l₀ at q m r₀ s l r next i) where
+module _ {R E T A M s₀ l₀ : List ℕ} {at : ℕ} {q : Place} {m : ℕ} {r₀ : Answer} {s l : List ℕ} {r : Answer}
+    {next i : ℕ} (x : ItemsLoop R E T A M s₀ l₀ at q m r₀ s l r next i) where
   pub items-ended : {last : Value} → r₀ .outcome ≡ Gave last → m ≤ i
-      → PostItems R E T A s₀ l₀ s l at q (r₀ .counts) m last r
+      → PostItems R E T A M s₀ l₀ s l at q (r₀ .counts) m last r
   items-ended {last} e h =
       let z : m - i ≡ 0 = omega arith in
-      let g : PostItems R E T A s l s l next q (r .counts) (m - i) (x .v) (answer (r .outcome) (r .counts)) =
+      let g : PostItems R E T A M s l s l next q (r .counts) (m - i) (x .v) (answer (r .outcome) (r .counts))
+      =
       rw (x .gave) (items-none z (x .small)) in
       x .rest last e s l r g
 
   module _ (h : i < m) where
     abbrev pub items-head : (e : Expr) × (es : Exprs)
-        × FirstAt R E T A s l next q (r .counts) (m - i) (x .list .P) e es (x .list .d) (r .counts .left) 0
+        × FirstAt R E T A M s l next q (r .counts) (m - i) (x .list .P) e es (x .list .width) (x .list .d)
+        (r .counts .left) 0
     items-head = list-apart (x .list) (λ z. omega arith)
 
-    module _ {s′ l′ : List ℕ} {r′ : Answer} (g : PostEval R E T A s l s′ l′ next q (r .counts) r′) where
+    module _ {s′ l′ : List ℕ} {r′ : Answer} (g : PostEval R E T A M s l s′ l′ next q (r .counts) r′) where
       pub items-broken : {last : Value} → r₀ .outcome ≡ Gave last → ((v : Value) → r′ .outcome ≡ Gave v → ⊥)
-          → PostItems R E T A s₀ l₀ s′ l′ at q (r₀ .counts) m last r′
+          → PostItems R E T A M s₀ l₀ s′ l′ at q (r₀ .counts) m last r′
       items-broken {last} e not = x .rest last e s′ l′ r′ (items-fail (λ z. omega arith) g not)
 
       pub items-next : {w : Value} → r′ .outcome ≡ Gave w
-          → ItemsLoop R E T A s₀ l₀ at q m r₀ s′ l′ r′ (getD E next 0) (i + 1)
+          → ItemsLoop R E T A M s₀ l₀ at q m r₀ s′ l′ r′ (getD E next 0) (i + 1)
       items-next {w} t =
           let k = kept-of (list-first (items-head .2)) g in
           let z : m - i - 1 ≡ m - (i + 1) = omega arith in

@@ -62,12 +62,13 @@ one-encoded R E r one-get h = h .1
 one-encoded R E r one-cast h = h .1
 one-encoded R E r one-assign h = h .1
 
-pub one-within : (k n d : ℕ) {e : Expr} → OneChild e → Within k n d e → (0 < d) × Within k n (d - 1) (child e)
+pub one-within : (k w n d : ℕ) {e : Expr} → OneChild e → Within k w n d e
+    → (0 < d) × Within k w n (d - 1) (child e)
 unfolding Within
-one-within k n d one-null h = h
-one-within k n d one-get h = (h .0, h .2)
-one-within k n d one-cast h = (h .0, h .2)
-one-within k n d one-assign h = h
+one-within k w n d one-null h = h
+one-within k w n d one-get h = (h .0, h .2)
+one-within k w n d one-cast h = (h .0, h .2)
+one-within k w n d one-assign h = h
 
 module _ (W : World) (L : Limits) (K : Method → State → Out Meaning) where
   pub one-inside : {e : Expr} → OneChild e → (s : State)

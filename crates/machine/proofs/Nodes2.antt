@@ -24,9 +24,9 @@ use Rattle.machine.proofs.Steps.{kept-then, kept-more, ready-child, ref
 use Rattle.machine.proofs.Steps.{gives, kept-of}
 
 -- U taken apart
-pub record SetAt (R E T A s l : List ℕ) (at : ℕ) (q : Place) (n : Counts) (P : List Class) (f : ℕ)
-    (a b : Expr) (d F k : ℕ) : Type 0 where
-  pub ready : Ready R E T A s l P q n d 1
+pub record SetAt (R E T A M s l : List ℕ) (at : ℕ) (q : Place) (n : Counts) (P : List Class) (f : ℕ)
+    (a b : Expr) (width d F k : ℕ) : Type 0 where
+  pub ready : Ready R E T A M s l P width q n d 1
   pub deep : 0 < d
   pub name : f < 256
   pub first : getD R (at * 4 + 1) 0 ≡ f
@@ -35,16 +35,16 @@ pub record SetAt (R E T A s l : List ℕ) (at : ℕ) (q : Place) (n : Counts) (P
   pub end : getD E (at + 1) 0 ≡ at + 1 + size a
   pub enc-a : Encoded R E a (at + 1)
   pub enc-b : Encoded R E b (at + 1 + size a)
-  pub within-a : Within (length P) (q .scope) (d - 1) a
-  pub within-b : Within (length P) (q .scope) (d - 1) b
+  pub within-a : Within (length P) width (q .scope) (d - 1) a
+  pub within-b : Within (length P) width (q .scope) (d - 1) b
   pub total : k + n .left ≡ F
 
-set-parts : {R E T A s l : List ℕ} {at : ℕ} {q : Place} {n : Counts} (P : List Class) (f : ℕ) (a b : Expr)
-    (d F k : ℕ) → Ready R E T A s l P q n d 1
-    → Encoded R E (set f a b) at → Within (length P) (q .scope) d (set f a b) → k + n .left ≡ F
-    → SetAt R E T A s l at q n P f a b d F k
+set-parts : {R E T A M s l : List ℕ} {at : ℕ} {q : Place} {n : Counts} (P : List Class) (f : ℕ) (a b : Expr)
+    (width d F k : ℕ) → Ready R E T A M s l P width q n d 1
+    → Encoded R E (set f a b) at → Within (length P) width (q .scope) d (set f a b) → k + n .left ≡ F
+    → SetAt R E T A M s l at q n P f a b width d F k
 unfolding Encoded Within
-set-parts P f a b d F k r enc w z = record {
+set-parts P f a b width d F k r enc w z = record {
   ready = r;
   deep = w .0;
   name = w .1;
@@ -59,34 +59,38 @@ set-parts P f a b d F k r enc w z = record {
   total = z;
 }
 
-pub set-apart : {R E T A s l : List ℕ} {at : ℕ} {q : Place} {n : Counts} (p : PreEntered R E T A s l at q n)
+pub set-apart : {R E T A M s l : List ℕ} {at : ℕ} {q : Place} {n : Counts}
+    (p : PreEntered R E T A M s l at q n)
     → getD R (at * 4) 0 ≡ 85
-    → (f : ℕ) × (a : Expr) × (b : Expr) × SetAt R E T A s l at q n (p .P) f a b (p .d) (n .left) 0
+    → (f : ℕ) × (a : Expr) × (b : Expr)
+    × SetAt R E T A M s l at q n (p .P) f a b (p .width) (p .d) (n .left) 0
 set-apart {at = at} {n = n} p h =
     let c = as-set (head (p .e) (p .encoded)) h in (
       c .0,
       c .1,
       c .2,
-      set-parts {at = at} (p .P) (c .0) (c .1) (c .2) (p .d) (n .left) 0 (p .ready)
+      set-parts {at = at} (p .P) (c .0) (c .1) (c .2) (p .width) (p .d) (n .left) 0 (p .ready)
           (rw (c .3) at (p .encoded)) (rw (c .3) at (p .within)) (omega arith),
     )
 
-module _ {R E T A s l : List ℕ} {at : ℕ} {q : Place} {n : Counts} {P : List Class} {f : ℕ} {a b : Expr}
-    {d F k : ℕ} (x : SetAt R E T A s l at q n P f a b d F k) where
-  abbrev pub set-first : PreEval R E T A s l (at + 1) q n
+module _ {R E T A M s l : List ℕ} {at : ℕ} {q : Place} {n : Counts} {P : List Class} {f : ℕ} {a b : Expr}
+    {width d F k : ℕ} (x : SetAt R E T A M s l at q n P f a b width d F k) where
+  abbrev pub set-first : PreEval R E T A M s l (at + 1) q n
   set-first = record {
     P = P;
     e = a;
+    width = width;
     d = d - 1;
     ready = ready-child 1 (d - 1) (x .ready) (omega arith);
     encoded = x .enc-a;
     within = x .within-a;
   }
 
-  module _ {s′ l′ : List ℕ} {r : Answer} {v : Value} (g : PostEval R E T A s l s′ l′ (at + 1) q n r)
+  module _ {s′ l′ : List ℕ} {r : Answer} {v : Value} (g : PostEval R E T A M s l s′ l′ (at + 1) q n r)
       (e : r .outcome ≡ Gave v) where
-    pub first-done : Done P s l s′ l′ q n F 0 r (evaluated P F (capacity s) (q .calls) a (state P s l q n k))
-    first-done = g .done P a (d - 1) F k (ready-child 1 (d - 1) (x .ready) (omega arith)) (x .enc-a)
+    pub first-done : Done P width s l s′ l′ q n F 0 r
+        (evaluated P F (capacity s) (q .calls) a (state P s l q n k))
+    first-done = g .done P a width (d - 1) F k (ready-child 1 (d - 1) (x .ready) (omega arith)) (x .enc-a)
         (x .within-a) (x .total)
 
     pub first-gave : evaluated P F (capacity s) (q .calls) a (state P s l q n k)
@@ -94,13 +98,14 @@ module _ {R E T A s l : List ℕ} {at : ℕ} {q : Place} {n : Counts} {P : List 
     first-gave = gives (state P s′ l′ q (r .counts) (F - r .counts .left))
         (evaluated P F (capacity s) (q .calls) a (state P s l q n k)) e (first-done .is)
 
-    abbrev pub set-second : PreEval R E T A s′ l′ (getD E (at + 1) 0) q (r .counts)
+    abbrev pub set-second : PreEval R E T A M s′ l′ (getD E (at + 1) 0) q (r .counts)
     set-second =
         let kp = first-done .kept in
         let c : capacity s′ ≡ capacity s = room-same s s′ (kp .stored .long) in
         record {
           P = P;
           e = b;
+          width = width;
           d = d - 1;
           ready = refit 1 (d - 1) (x .ready) kp (omega arith);
           encoded = rw (x .end) (x .enc-b);
@@ -108,15 +113,17 @@ module _ {R E T A s l : List ℕ} {at : ℕ} {q : Place} {n : Counts} {P : List 
         }
 
 -- J and U fail with their first child
-pub set-fail : {R E T A s l s′ l′ : List ℕ} (at : ℕ) {q : Place} {n : Counts} {r : Answer}
-    → getD R (at * 4) 0 ≡ 85 → PostEval R E T A s l s′ l′ (at + 1) q n r
-    → ((v : Value) → r .outcome ≡ Gave v → ⊥) → PostNode R E T A s l s′ l′ at q n r
+pub set-fail : {R E T A M s l s′ l′ : List ℕ} (at : ℕ) {q : Place} {n : Counts} {r : Answer}
+    → getD R (at * 4) 0 ≡ 85 → PostEval R E T A M s l s′ l′ (at + 1) q n r
+    → ((v : Value) → r .outcome ≡ Gave v → ⊥) → PostNode R E T A M s l s′ l′ at q n r
 unfolding inside
-set-fail {R} {E} {T} {A} {s} {l} {s′} {l′} at {q} {n} {r} h g not = record {
-  done = λ P e d F k f enc w z.
+set-fail {R} {E} {T} {A} {M} {s} {l} {s′} {l′} at {q} {n} {r} h g not = record {
+  done = λ P e width d F k f enc w z.
       let c = as-set (head e enc) h in
-      let x = set-parts {at = at} P (c .0) (c .1) (c .2) d F k f (rw (c .3) at enc) (rw (c .3) at w) z in
-      let a = g .done P (c .1) (d - 1) F k (ready-child 1 (d - 1) f (omega arith)) (x .enc-a) (x .within-a)
+      let x = set-parts {at = at} P (c .0) (c .1) (c .2) width d F k f (rw (c .3) at enc) (rw (c .3) at w)
+      z in
+      let a = g .done P (c .1) width (d - 1) F k (ready-child 1 (d - 1) f (omega arith)) (x .enc-a)
+      (x .within-a)
       z in
       record {
         kept = kept-more 0 1 (a .kept) (omega arith);
@@ -127,26 +134,28 @@ set-fail {R} {E} {T} {A} {s} {l} {s′} {l′} at {q} {n} {r} h g not = record {
       };
 }
 
-module _ {R E T A s l s′ l′ s″ l″ : List ℕ} (at : ℕ) {q : Place} {n : Counts} {r r′ : Answer} {v : Value}
+module _ {R E T A M s l s′ l′ s″ l″ : List ℕ} (at : ℕ) {q : Place} {n : Counts} {r r′ : Answer} {v : Value}
     (h : getD R (at * 4) 0 ≡ 85)
-    (g : PostEval R E T A s l s′ l′ (at + 1) q n r) (t : r .outcome ≡ Gave v)
-    (g′ : PostEval R E T A s′ l′ s″ l″ (getD E (at + 1) 0) q (r .counts) r′) where
-  second-done : {P : List Class} {f : ℕ} {a b : Expr} {d F k : ℕ} (x : SetAt R E T A s l at q n P f a b d F k)
-      → Done P s′ l′ s″ l″ q (r .counts) F 0 r′
+    (g : PostEval R E T A M s l s′ l′ (at + 1) q n r) (t : r .outcome ≡ Gave v)
+    (g′ : PostEval R E T A M s′ l′ s″ l″ (getD E (at + 1) 0) q (r .counts) r′) where
+  second-done : {P : List Class} {f : ℕ} {a b : Expr} {width d F k : ℕ}
+      (x : SetAt R E T A M s l at q n P f a b width d F k)
+      → Done P width s′ l′ s″ l″ q (r .counts) F 0 r′
       (evaluated P F (capacity s) (q .calls) b (state P s′ l′ q (r .counts) (F - r .counts .left)))
-  second-done {P} {f} {a} {b} {d} {F} {k} x =
+  second-done {P} {f} {a} {b} {width} {d} {F} {k} x =
       let kp = first-done x g t .kept in
       let c : capacity s′ ≡ capacity s = room-same s s′ (kp .stored .long) in
-      then-eval (capacity s) c g′ P b (d - 1) F (F - r .counts .left)
+      then-eval (capacity s) c g′ P b width (d - 1) F (F - r .counts .left)
       (refit 1 (d - 1) (x .ready) kp (omega arith)) (rw (x .end) (x .enc-b)) (x .within-b)
       (omega (arith, kp .falls, x .total))
 
-  pub set-fail-second : ((w : Value) → r′ .outcome ≡ Gave w → ⊥) → PostNode R E T A s l s″ l″ at q n r′
+  pub set-fail-second : ((w : Value) → r′ .outcome ≡ Gave w → ⊥) → PostNode R E T A M s l s″ l″ at q n r′
   unfolding inside
   set-fail-second not = record {
-    done = λ P e d F k f enc w z.
+    done = λ P e width d F k f enc w z.
         let c = as-set (head e enc) h in
-        let x = set-parts {at = at} P (c .0) (c .1) (c .2) d F k f (rw (c .3) at enc) (rw (c .3) at w) z in
+        let x = set-parts {at = at} P (c .0) (c .1) (c .2) width d F k f (rw (c .3) at enc) (rw (c .3) at w)
+        z in
         let b = second-done x in
         record {
           kept = kept-then 0 0 1 (first-done x g t .kept) (b .kept) (omega arith);
@@ -160,12 +169,13 @@ module _ {R E T A s l s′ l′ s″ l″ : List ℕ} (at : ℕ) {q : Place} {n 
 
   pub set-done : {s‴ : List ℕ} {w : Value} (y : Outcome) → r′ .outcome ≡ Gave w
       → PostSave T s″ s‴ v w (getD R (at * 4 + 1) 0) (r′ .counts) y
-      → PostNode R E T A s l s‴ l″ at q n (answer y (r′ .counts))
+      → PostNode R E T A M s l s‴ l″ at q n (answer y (r′ .counts))
   unfolding inside
   set-done {s‴} {w} y t′ p = record {
-    done = λ P e d F k f enc wi z.
+    done = λ P e width d F k f enc wi z.
         let c = as-set (head e enc) h in
-        let x = set-parts {at = at} P (c .0) (c .1) (c .2) d F k f (rw (c .3) at enc) (rw (c .3) at wi) z in
+        let x = set-parts {at = at} P (c .0) (c .1) (c .2) width d F k f (rw (c .3) at enc) (rw (c .3) at wi)
+        z in
         let a = first-done x g t in
         let b = second-done x in
         let both = kept-then 0 0 0 (a .kept) (b .kept) (omega arith) in
@@ -175,7 +185,7 @@ module _ {R E T A s l s′ l′ s″ l″ : List ℕ} (at : ℕ) {q : Place} {n 
         = gives (state P s″ l″ q (r′ .counts) (F - r′ .counts .left))
         (evaluated P F (capacity s) (q .calls) (c .2) (state P s′ l′ q (r .counts) (F - r .counts .left)))
         t′ (b .is) in
-        let u = p .acts R E A P (f .holds) (both .stored .sound) in
+        let u = p .acts R A P (f .holds) (both .stored .sound) in
         record {
           kept = record {
             same = both .same;
@@ -190,15 +200,15 @@ module _ {R E T A s l s′ l′ s″ l″ : List ℕ} (at : ℕ) {q : Place} {n 
         };
   }
 
-pub pre-save : {R E T A s l s′ l′ s″ l″ : List ℕ} {at : ℕ} {q : Place} {n : Counts} {r r′ : Answer}
-    {v : Value} {P : List Class} {f : ℕ} {a b : Expr} {d F k : ℕ} (x : SetAt R E T A s l at q n P f a b d F k)
-    (g : PostEval R E T A s l s′ l′ (at + 1) q n r) (t : r .outcome ≡ Gave v)
-    (g′ : PostEval R E T A s′ l′ s″ l″ (getD E (at + 1) 0) q (r .counts) r′)
+pub pre-save : {R E T A M s l s′ l′ s″ l″ : List ℕ} {at : ℕ} {q : Place} {n : Counts} {r r′ : Answer}
+    {v : Value} {P : List Class} {f : ℕ} {a b : Expr} {width d F k : ℕ}
+    (x : SetAt R E T A M s l at q n P f a b width d F k)
+    (g : PostEval R E T A M s l s′ l′ (at + 1) q n r) (t : r .outcome ≡ Gave v)
+    (g′ : PostEval R E T A M s′ l′ s″ l″ (getD E (at + 1) 0) q (r .counts) r′)
     → PreObject T s″ (r′ .counts .made)
-pre-save {R} {E} {A = A} {P = P} x g t g′ =
+pre-save {R} {A = A} {P = P} x g t g′ =
     record {
       R = R;
-      E = E;
       A = A;
       P = P;
       holds = x .ready .holds;

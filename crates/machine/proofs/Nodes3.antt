@@ -30,9 +30,9 @@ use Rattle.machine.proofs.Steps.{kept-then, kept-more, kept-as, ready-c
 use Rattle.machine.proofs.Steps.{then-eval, fails, gives}
 
 -- J taken apart
-pub record ChooseAt (R E T A s l : List ℕ) (at : ℕ) (q : Place) (n : Counts) (P : List Class) (a b c : Expr)
-    (d F k : ℕ) : Type 0 where
-  pub ready : Ready R E T A s l P q n d 1
+pub record ChooseAt (R E T A M s l : List ℕ) (at : ℕ) (q : Place) (n : Counts) (P : List Class) (a b c : Expr)
+    (width d F k : ℕ) : Type 0 where
+  pub ready : Ready R E T A M s l P width q n d 1
   pub row : at * 4 + 3 < length R
   pub in-ends : at + 1 < length E
   pub end-a : getD E (at + 1) 0 ≡ at + 1 + size a
@@ -41,17 +41,17 @@ pub record ChooseAt (R E T A s l : List ℕ) (at : ℕ) (q : Place) (n : Counts)
   pub enc-a : Encoded R E a (at + 1)
   pub enc-b : Encoded R E b (at + 1 + size a)
   pub enc-c : Encoded R E c (at + 1 + size a + size b)
-  pub within-a : Within (length P) (q .scope) (d - 1) a
-  pub within-b : Within (length P) (q .scope) (d - 1) b
-  pub within-c : Within (length P) (q .scope) (d - 1) c
+  pub within-a : Within (length P) width (q .scope) (d - 1) a
+  pub within-b : Within (length P) width (q .scope) (d - 1) b
+  pub within-c : Within (length P) width (q .scope) (d - 1) c
   pub total : k + n .left ≡ F
 
-choose-parts : {R E T A s l : List ℕ} {at : ℕ} {q : Place} {n : Counts} (P : List Class) (a b c : Expr)
-    (d F k : ℕ) → Ready R E T A s l P q n d 1
-    → Encoded R E (choose a b c) at → Within (length P) (q .scope) d (choose a b c) → k + n .left ≡ F
-    → ChooseAt R E T A s l at q n P a b c d F k
+choose-parts : {R E T A M s l : List ℕ} {at : ℕ} {q : Place} {n : Counts} (P : List Class) (a b c : Expr)
+    (width d F k : ℕ) → Ready R E T A M s l P width q n d 1
+    → Encoded R E (choose a b c) at → Within (length P) width (q .scope) d (choose a b c) → k + n .left ≡ F
+    → ChooseAt R E T A M s l at q n P a b c width d F k
 unfolding Encoded Within
-choose-parts P a b c d F k r enc w z = record {
+choose-parts P a b c width d F k r enc w z = record {
   ready = r;
   row = enc .0 .row .within;
   in-ends = head a (enc .1) .in-ends;
@@ -67,34 +67,37 @@ choose-parts P a b c d F k r enc w z = record {
   total = z;
 }
 
-pub choose-apart : {R E T A s l : List ℕ} {at : ℕ} {q : Place} {n : Counts}
-    (p : PreEntered R E T A s l at q n) → getD R (at * 4) 0 ≡ 74
-    → (a : Expr) × (b : Expr) × (c : Expr) × ChooseAt R E T A s l at q n (p .P) a b c (p .d) (n .left) 0
+pub choose-apart : {R E T A M s l : List ℕ} {at : ℕ} {q : Place} {n : Counts}
+    (p : PreEntered R E T A M s l at q n) → getD R (at * 4) 0 ≡ 74
+    → (a : Expr) × (b : Expr) × (c : Expr)
+    × ChooseAt R E T A M s l at q n (p .P) a b c (p .width) (p .d) (n .left) 0
 choose-apart {at = at} {n = n} p h =
     let x = as-choose (head (p .e) (p .encoded)) h in (
       x .0,
       x .1,
       x .2,
-      choose-parts {at = at} (p .P) (x .0) (x .1) (x .2) (p .d) (n .left) 0 (p .ready)
+      choose-parts {at = at} (p .P) (x .0) (x .1) (x .2) (p .width) (p .d) (n .left) 0 (p .ready)
           (rw (x .3) at (p .encoded)) (rw (x .3) at (p .within)) (omega arith),
     )
 
-module _ {R E T A s l : List ℕ} {at : ℕ} {q : Place} {n : Counts} {P : List Class} {a b c : Expr} {d F k : ℕ}
-    (x : ChooseAt R E T A s l at q n P a b c d F k) where
-  abbrev pub choose-first : PreEval R E T A s l (at + 1) q n
+module _ {R E T A M s l : List ℕ} {at : ℕ} {q : Place} {n : Counts} {P : List Class} {a b c : Expr}
+    {width d F k : ℕ}
+    (x : ChooseAt R E T A M s l at q n P a b c width d F k) where
+  abbrev pub choose-first : PreEval R E T A M s l (at + 1) q n
   choose-first = record {
     P = P;
     e = a;
+    width = width;
     d = d - 1;
     ready = ready-child 1 (d - 1) (x .ready) (omega arith);
     encoded = x .enc-a;
     within = x .within-a;
   }
 
-  module _ {s′ l′ : List ℕ} {r : Answer} (g : PostEval R E T A s l s′ l′ (at + 1) q n r) where
-    pub condition-done : Done P s l s′ l′ q n F 0 r
+  module _ {s′ l′ : List ℕ} {r : Answer} (g : PostEval R E T A M s l s′ l′ (at + 1) q n r) where
+    pub condition-done : Done P width s l s′ l′ q n F 0 r
         (evaluated P F (capacity s) (q .calls) a (state P s l q n k))
-    condition-done = g .done P a (d - 1) F k (ready-child 1 (d - 1) (x .ready) (omega arith)) (x .enc-a)
+    condition-done = g .done P a width (d - 1) F k (ready-child 1 (d - 1) (x .ready) (omega arith)) (x .enc-a)
         (x .within-a) (x .total)
 
     module _ {v : Value} {t : Bool} (e : r .outcome ≡ Gave v) (e′ : v ≡ Truth t) where
@@ -105,10 +108,11 @@ module _ {R E T A s l : List ℕ} {at : ℕ} {q : Place} {n : Counts} {P : List 
           gives (state P s′ l′ q (r .counts) (F - r .counts .left))
           (evaluated P F (capacity s) (q .calls) a (state P s l q n k)) e (condition-done .is) ∙ rw (e′, u)
 
-      abbrev pub choose-second : t ≡ true → PreEval R E T A s′ l′ (getD E (at + 1) 0) q (r .counts)
+      abbrev pub choose-second : t ≡ true → PreEval R E T A M s′ l′ (getD E (at + 1) 0) q (r .counts)
       choose-second u = record {
         P = P;
         e = b;
+        width = width;
         d = d - 1;
         ready = refit 1 (d - 1) (x .ready)
             (condition-done .kept) (omega arith);
@@ -116,10 +120,12 @@ module _ {R E T A s l : List ℕ} {at : ℕ} {q : Place} {n : Counts} {P : List 
         within = x .within-b;
       }
 
-      abbrev pub choose-third : t ≡ false → PreEval R E T A s′ l′ (getD E (getD E (at + 1) 0) 0) q (r .counts)
+      abbrev pub choose-third : t ≡ false
+          → PreEval R E T A M s′ l′ (getD E (getD E (at + 1) 0) 0) q (r .counts)
       choose-third u = record {
         P = P;
         e = c;
+        width = width;
         d = d - 1;
         ready = refit 1 (d - 1) (x .ready)
             (condition-done .kept) (omega arith);
@@ -127,14 +133,15 @@ module _ {R E T A s l : List ℕ} {at : ℕ} {q : Place} {n : Counts} {P : List 
         within = x .within-c;
       }
 
-module _ {R E T A s l s′ l′ : List ℕ} (at : ℕ) {q : Place} {n : Counts} {r : Answer}
-    (h : getD R (at * 4) 0 ≡ 74) (g : PostEval R E T A s l s′ l′ (at + 1) q n r) where
-  pub choose-fail : ((v : Value) → r .outcome ≡ Gave v → ⊥) → PostNode R E T A s l s′ l′ at q n r
+module _ {R E T A M s l s′ l′ : List ℕ} (at : ℕ) {q : Place} {n : Counts} {r : Answer}
+    (h : getD R (at * 4) 0 ≡ 74) (g : PostEval R E T A M s l s′ l′ (at + 1) q n r) where
+  pub choose-fail : ((v : Value) → r .outcome ≡ Gave v → ⊥) → PostNode R E T A M s l s′ l′ at q n r
   unfolding inside
   choose-fail not = record {
-    done = λ P e d F k f enc w z.
+    done = λ P e width d F k f enc w z.
         let y = as-choose (head e enc) h in
-        let x = choose-parts {at = at} P (y .0) (y .1) (y .2) d F k f (rw (y .3) at enc) (rw (y .3) at w) z in
+        let x = choose-parts {at = at} P (y .0) (y .1) (y .2) width d F k f (rw (y .3) at enc)
+        (rw (y .3) at w) z in
         let m = condition-done x g in
         record {
           kept = kept-more 0 1 (m .kept) (omega arith);
@@ -147,12 +154,13 @@ module _ {R E T A s l s′ l′ : List ℕ} (at : ℕ) {q : Place} {n : Counts} 
   }
 
   pub choose-stuck : {v : Value} → r .outcome ≡ Gave v → OneOf (0 ∷ 2 ∷ []) (tagOf the-type v)
-      → PostNode R E T A s l s′ l′ at q n (answer Stuck (r .counts))
+      → PostNode R E T A M s l s′ l′ at q n (answer Stuck (r .counts))
   unfolding inside bare
   choose-stuck {v} t o = record {
-    done = λ P e d F k f enc w z.
+    done = λ P e width d F k f enc w z.
         let y = as-choose (head e enc) h in
-        let x = choose-parts {at = at} P (y .0) (y .1) (y .2) d F k f (rw (y .3) at enc) (rw (y .3) at w) z in
+        let x = choose-parts {at = at} P (y .0) (y .1) (y .2) width d F k f (rw (y .3) at enc)
+        (rw (y .3) at w) z in
         let m = condition-done x g in
         let c = gives (state P s′ l′ q (r .counts) (F - r .counts .left))
         (evaluated P F (capacity s) (q .calls) (y .0) (state P s l q n k)) t (m .is) in
@@ -174,17 +182,19 @@ module _ {R E T A s l s′ l′ : List ℕ} (at : ℕ) {q : Place} {n : Counts} 
 
   module _ {s″ l″ : List ℕ} {r′ : Answer} {v : Value} {t : Bool} (e₁ : r .outcome ≡ Gave v) (e₂ : v ≡ Truth t)
     where
-      pub choose-yes : t ≡ true → PostEval R E T A s′ l′ s″ l″ (getD E (at + 1) 0) q (r .counts) r′
-          → PostNode R E T A s l s″ l″ at q n r′
+      pub choose-yes : t ≡ true → PostEval R E T A M s′ l′ s″ l″ (getD E (at + 1) 0) q (r .counts) r′
+          → PostNode R E T A M s l s″ l″ at q n r′
       unfolding inside
       choose-yes u g′ = record {
-        done = λ P e d F k f enc w z.
+        done = λ P e width d F k f enc w z.
             let y = as-choose (head e enc) h in
-            let x = choose-parts {at = at} P (y .0) (y .1) (y .2) d F k f (rw (y .3) at enc) (rw (y .3) at w)
+            let x = choose-parts {at = at} P (y .0) (y .1) (y .2) width d F k f (rw (y .3) at enc)
+            (rw (y .3) at w)
             z in
             let m = condition-done x g in
             let p = choose-second x g e₁ e₂ u in
-            let i = then-eval (capacity s) (room-same s s′ (m .kept .stored .long)) g′ P (y .1) (d - 1) F
+            let i = then-eval (capacity s) (room-same s s′ (m .kept .stored .long)) g′ P (y .1) width (d - 1)
+            F
             (F - r .counts .left) (p .ready) (p .encoded) (x .within-b) (omega (arith, m .kept .falls)) in
             record {
               kept = kept-then 0 0 1 (m .kept) (i .kept) (omega arith);
@@ -192,17 +202,20 @@ module _ {R E T A s l s′ l′ : List ℕ} (at : ℕ) {q : Place} {n : Counts} 
             };
       }
 
-      pub choose-no : t ≡ false → PostEval R E T A s′ l′ s″ l″ (getD E (getD E (at + 1) 0) 0) q (r .counts) r′
-          → PostNode R E T A s l s″ l″ at q n r′
+      pub choose-no : t ≡ false
+          → PostEval R E T A M s′ l′ s″ l″ (getD E (getD E (at + 1) 0) 0) q (r .counts) r′
+          → PostNode R E T A M s l s″ l″ at q n r′
       unfolding inside
       choose-no u g′ = record {
-        done = λ P e d F k f enc w z.
+        done = λ P e width d F k f enc w z.
             let y = as-choose (head e enc) h in
-            let x = choose-parts {at = at} P (y .0) (y .1) (y .2) d F k f (rw (y .3) at enc) (rw (y .3) at w)
+            let x = choose-parts {at = at} P (y .0) (y .1) (y .2) width d F k f (rw (y .3) at enc)
+            (rw (y .3) at w)
             z in
             let m = condition-done x g in
             let p = choose-third x g e₁ e₂ u in
-            let i = then-eval (capacity s) (room-same s s′ (m .kept .stored .long)) g′ P (y .2) (d - 1) F
+            let i = then-eval (capacity s) (room-same s s′ (m .kept .stored .long)) g′ P (y .2) width (d - 1)
+            F
             (F - r .counts .left) (p .ready) (p .encoded) (x .within-c) (omega (arith, m .kept .falls)) in
             record {
               kept = kept-then 0 0 1 (m .kept) (i .kept) (omega arith);

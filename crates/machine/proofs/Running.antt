@@ -89,7 +89,7 @@ heap-back W (suc n) s h few z =
     at′ : (j i : ℕ) → getD (drop 18 s) (j * 18 + 1 + i) 0 ≡ getD s (suc j * 18 + 1 + i) 0
     at′ j i = getD-drop 18 s (j * 18 + 1 + i) 0 ∙ ap (λ (k : ℕ). getD s k 0) (omega arith)
 
-stored-back : {R E T A : List ℕ} {P : List Class} → Holds R E T A P → (s s′ : List ℕ) (made : ℕ)
+stored-back : {R T A : List ℕ} {P : List Class} → Holds R T A P → (s s′ : List ℕ) (made : ℕ)
     → Sound P made s′ → drop (made * 18) s′ ≡ drop (made * 18) s
     → stored (heap-of-numbers (world P) made s′) s ≡ s′
 unfolding stored
@@ -120,11 +120,12 @@ first-place = record { base = 0; scope = 0; top = 264; calls = 0 }
 abbrev pub first-counts : ℕ → Counts
 first-counts fuel = record { left = fuel; made = 0; changes = 0 }
 
-module _ {R E T A s l : List ℕ} {at fuel : ℕ} {p : Program} (u : Runs R E T A l at p)
+module _ {R E T A M s l : List ℕ} {at fuel : ℕ} {p : Program} (u : Runs R E T A M l at p)
     (low : fuel ≤ 4294967295) where
-  pub ready-start : Ready R E T A s l (p .classes) first-place (first-counts fuel) 128 0
+  pub ready-start : Ready R E T A M s l (p .classes) 264 first-place (first-counts fuel) 128 0
   ready-start = record {
     holds = u .holds;
+    methods = u .methods;
     sound = record {
       stored = omega arith;
       few = omega arith;
@@ -138,10 +139,11 @@ module _ {R E T A s l : List ℕ} {at fuel : ℕ} {p : Program} (u : Runs R E T 
     counted = omega arith;
   }
 
-  pub start-pre : PreEval R E T A s l at first-place (first-counts fuel)
+  pub start-pre : PreEval R E T A M s l at first-place (first-counts fuel)
   start-pre = record {
     P = p .classes;
     e = p .start;
+    width = 264;
     d = 128;
     ready = ready-start;
     encoded = u .encoded;
@@ -149,11 +151,12 @@ module _ {R E T A s l : List ℕ} {at fuel : ℕ} {p : Program} (u : Runs R E T 
   }
 
   pub start-done : {s′ l′ : List ℕ} {r : Answer}
-      → PostEval R E T A s l s′ l′ at first-place (first-counts fuel) r
-      → Done (p .classes) s l s′ l′ first-place (first-counts fuel) fuel 0 r
+      → PostEval R E T A M s l s′ l′ at first-place (first-counts fuel) r
+      → Done (p .classes) 264 s l s′ l′ first-place (first-counts fuel) fuel 0 r
       (evaluated (p .classes) fuel (capacity s) 0 (p .start)
       (state (p .classes) s l first-place (first-counts fuel) 0))
-  start-done g = g .done (p .classes) (p .start) 128 fuel 0 ready-start (u .encoded) (u .within) (omega arith)
+  start-done g = g .done (p .classes) (p .start) 264 128 fuel 0 ready-start (u .encoded) (u .within)
+      (omega arith)
 
 run-is : (P : List Class) (s l : List ℕ) (fuel : ℕ) (p : Program) → P ≡ p .classes
     → evaluated P fuel (capacity s) 0 (p .start) (state P s l first-place (first-counts fuel) 0)
@@ -161,16 +164,16 @@ run-is : (P : List Class) (s l : List ℕ) (fuel : ℕ) (p : Program) → P ≡ 
 unfolding frame-of slots-of heap-of-numbers run
 run-is P s l fuel p e = rw e
 
-pub start-falls : {R E T A s l s′ l′ : List ℕ} {at fuel : ℕ} {r : Answer} (p : PreRun R E T A l at)
-    → fuel ≤ 4294967295 → PostEval R E T A s l s′ l′ at first-place (first-counts fuel) r
+pub start-falls : {R E T A M s l s′ l′ : List ℕ} {at fuel : ℕ} {r : Answer} (p : PreRun R E T A M l at)
+    → fuel ≤ 4294967295 → PostEval R E T A M s l s′ l′ at first-place (first-counts fuel) r
     → r .counts .left ≤ fuel
 start-falls p low g = start-done (p .runs) low g .kept .falls
 
-pub run-done : {R E T A s l s′ l′ : List ℕ} {at fuel o : ℕ} (t : List ℕ) → fuel ≤ 4294967295
-    → PostEval R E T A s l s′ l′ at first-place (first-counts fuel) (answered o t)
-    → PostRun R E T A s l s′ at fuel
+pub run-done : {R E T A M s l s′ l′ : List ℕ} {at fuel o : ℕ} (t : List ℕ) → fuel ≤ 4294967295
+    → PostEval R E T A M s l s′ l′ at first-place (first-counts fuel) (answered o t)
+    → PostRun R E T A M s l s′ at fuel
     (record { outcome = o; steps = fuel - getD t 0 0; objects = getD t 1 0; changes = getD t 2 0 })
-run-done {R} {E} {T} {A} {s} {l} {s′} {l′} {at} {fuel} {o} t low g = record {
+run-done {R} {E} {T} {A} {M} {s} {l} {s′} {l′} {at} {fuel} {o} t low g = record {
   is = λ p u.
       let d = start-done u low g in
       let n : Counts = counts-in t in

@@ -49,9 +49,11 @@ stored-then {P} {s} {s′} {s″} {a} {b} {c} x y = record {
         ∙ (sym (drop-drop (n - m) m x)
         ∙ (ap (drop (n - m)) e ∙ (drop-drop (n - m) m y ∙ ap (λ (k : ℕ). drop k y) (sym d))))
 
-pub kept-then : {P : List Class} {s l s′ l′ s″ l″ : List ℕ} {q : Place} {n : Counts} {r r′ : Answer}
-    (z z′ z″ : ℕ) → Kept P s l s′ l′ q n z r → Kept P s′ l′ s″ l″ q (r .counts) z′ r′ → z + z′ ≤ z″
-    → Kept P s l s″ l″ q n z″ r′
+pub kept-then : {P : List Class} {s l s′ l′ s″ l″ : List ℕ} {width : ℕ} {q : Place} {n : Counts}
+    {r r′ : Answer}
+    (z z′ z″ : ℕ) → Kept P width s l s′ l′ q n z r → Kept P width s′ l′ s″ l″ q (r .counts) z′ r′
+    → z + z′ ≤ z″
+    → Kept P width s l s″ l″ q n z″ r′
 kept-then z z′ z″ a b h = record {
   same = λ i u o. b .same i u o ∙ a .same i u o;
   long = b .long ∙ a .long;
@@ -61,8 +63,9 @@ kept-then z z′ z″ a b h = record {
   small = b .small;
 }
 
-pub kept-more : {P : List Class} {s l s′ l′ : List ℕ} {q : Place} {n : Counts} {r : Answer} (z z′ : ℕ)
-    → Kept P s l s′ l′ q n z r → z ≤ z′ → Kept P s l s′ l′ q n z′ r
+pub kept-more : {P : List Class} {s l s′ l′ : List ℕ} {width : ℕ} {q : Place} {n : Counts} {r : Answer}
+    (z z′ : ℕ)
+    → Kept P width s l s′ l′ q n z r → z ≤ z′ → Kept P width s l s′ l′ q n z′ r
 kept-more z z′ a h =
     record {
       same = a .same;
@@ -74,8 +77,9 @@ kept-more z z′ a h =
     }
 
 -- the same with another outcome
-pub kept-as : {P : List Class} {s l s′ l′ : List ℕ} {q : Place} {n : Counts} {r : Answer} (z : ℕ)
-    (o : Outcome) → Kept P s l s′ l′ q n z r → SmallOutcome o → Kept P s l s′ l′ q n z (answer o (r .counts))
+pub kept-as : {P : List Class} {width : ℕ} {s l s′ l′ : List ℕ} {q : Place} {n : Counts} {r : Answer} (z : ℕ)
+    (o : Outcome) → Kept P width s l s′ l′ q n z r → SmallOutcome o
+    → Kept P width s l s′ l′ q n z (answer o (r .counts))
 kept-as z o a m = record {
   same = a .same;
   long = a .long;
@@ -87,11 +91,13 @@ kept-as z o a m = record {
 }
 
 -- ready for a child, and for what follows it
-pub ready-child : {R E T A s l : List ℕ} {P : List Class} {q : Place} {n : Counts} {d : ℕ} (z d′ : ℕ)
-    → Ready R E T A s l P q n d z → d′ ≤ d → Ready R E T A s l P q n d′ 0
+pub ready-child : {R E T A M s l : List ℕ} {P : List Class} {width : ℕ} {q : Place} {n : Counts} {d : ℕ}
+    (z d′ : ℕ)
+    → Ready R E T A M s l P width q n d z → d′ ≤ d → Ready R E T A M s l P width q n d′ 0
 ready-child z d′ f h =
     record {
       holds = f .holds;
+      methods = f .methods;
       sound = f .sound;
       frame = f .frame;
       scoped = f .scoped;
@@ -100,11 +106,13 @@ ready-child z d′ f h =
       counted = omega (arith, f .counted);
     }
 
-pub refit : {R E T A s l s′ l′ : List ℕ} {P : List Class} {q : Place} {n : Counts} {d : ℕ} {r : Answer}
-    (z d′ : ℕ) → Ready R E T A s l P q n d z → Kept P s l s′ l′ q n 0 r → d′ ≤ d
-    → Ready R E T A s′ l′ P q (r .counts) d′ 0
+pub refit : {R E T A M s l s′ l′ : List ℕ} {P : List Class} {width : ℕ} {q : Place} {n : Counts} {d : ℕ}
+    {r : Answer}
+    (z d′ : ℕ) → Ready R E T A M s l P width q n d z → Kept P width s l s′ l′ q n 0 r → d′ ≤ d
+    → Ready R E T A M s′ l′ P width q (r .counts) d′ 0
 refit z d′ f k h = record {
   holds = f .holds;
+  methods = f .methods;
   sound = k .stored .sound;
   frame = f .frame;
   scoped = f .scoped;
@@ -118,12 +126,12 @@ unfolding capacity
 room-same s s′ e = ap (λ (n : ℕ). min (n / 18) 65535) e
 
 -- an answer under the capacity of the store before
-pub then-eval : {R E T A s l s′ l′ : List ℕ} {at : ℕ} {q : Place} {n : Counts} {r : Answer} (room : ℕ)
-    → capacity s ≡ room → PostEval R E T A s l s′ l′ at q n r
-    → (P : List Class) (e : Expr) (d F k : ℕ) → Ready R E T A s l P q n d 0
-    → Encoded R E e at → Within (length P) (q .scope) d e → k + n .left ≡ F
-    → Done P s l s′ l′ q n F 0 r (evaluated P F room (q .calls) e (state P s l q n k))
-then-eval room c p P e d F k f enc w z = rw c at (p .done P e d F k f enc w z)
+pub then-eval : {R E T A M s l s′ l′ : List ℕ} {at : ℕ} {q : Place} {n : Counts} {r : Answer} (room : ℕ)
+    → capacity s ≡ room → PostEval R E T A M s l s′ l′ at q n r
+    → (P : List Class) (e : Expr) (width d F k : ℕ) → Ready R E T A M s l P width q n d 0
+    → Encoded R E e at → Within (length P) width (q .scope) d e → k + n .left ≡ F
+    → Done P width s l s′ l′ q n F 0 r (evaluated P F room (q .calls) e (state P s l q n k))
+then-eval room c p P e width d F k f enc w z = rw c at (p .done P e width d F k f enc w z)
 
 -- ---- results
 
@@ -140,15 +148,16 @@ gives t x e h = bare-ok x (rw e at h)
 
 -- ---- eval
 
-pub in-rows : {R E T A s l : List ℕ} {at : ℕ} {q : Place} {n : Counts} {z : ℕ} → PreNode R E T A s l at q n z
+pub in-rows : {R E T A M s l : List ℕ} {at : ℕ} {q : Place} {n : Counts} {z : ℕ}
+    → PreNode R E T A M s l at q n z
     → at * 4 + 3 < length R
 in-rows p = head (p .e) (p .encoded) .row
 
-pub eval-spent : {R E T A s l : List ℕ} {at : ℕ} {q : Place} {n : Counts} → n .left ≡ 0
-    → PostEval R E T A s l s l at q n (answer (Stopped 14) n)
+pub eval-spent : {R E T A M s l : List ℕ} {at : ℕ} {q : Place} {n : Counts} → n .left ≡ 0
+    → PostEval R E T A M s l s l at q n (answer (Stopped 14) n)
 unfolding bare
 eval-spent {s = s} {l} {q = q} {n} z = record {
-  done = λ P e d F k f enc w t.
+  done = λ P e width d F k f enc w t.
       let g : F - n .left ≡ k = omega arith in
       let full : leb F k ≡ true = le-leb F k (omega arith) in
       record {
@@ -183,14 +192,16 @@ pub counts-entered : (t : List ℕ) → (getD t 0 0 ≡ 0 → ⊥)
 counts-entered [] z = absurd (z refl)
 counts-entered (x ∷ t) z = refl
 
-from-entered : {R E T A s l s′ l′ : List ℕ} {at : ℕ} {q : Place} {n : Counts} {r : Answer} → (n .left ≡ 0 → ⊥)
-    → PostNode R E T A s l s′ l′ at q (entered n) r → PostEval R E T A s l s′ l′ at q n r
-from-entered {R} {E} {T} {A} {s} {l} {q = q} {n} z p = record {
-  done = λ P e d F k f enc w t.
+from-entered : {R E T A M s l s′ l′ : List ℕ} {at : ℕ} {q : Place} {n : Counts} {r : Answer}
+    → (n .left ≡ 0 → ⊥)
+    → PostNode R E T A M s l s′ l′ at q (entered n) r → PostEval R E T A M s l s′ l′ at q n r
+from-entered {R} {E} {T} {A} {M} {s} {l} {q = q} {n} z p = record {
+  done = λ P e width d F k f enc w t.
       let room : leb F k ≡ false = lt-leb F k (omega arith) in
-      let f′ : Ready R E T A s l P q (entered n) d 1
+      let f′ : Ready R E T A M s l P width q (entered n) d 1
       = record {
         holds = f .holds;
+        methods = f .methods;
         sound = f .sound;
         frame = f .frame;
         scoped = f .scoped;
@@ -198,7 +209,7 @@ from-entered {R} {E} {T} {A} {s} {l} {q = q} {n} z p = record {
         active = f .active;
         counted = omega (arith, f .counted);
       } in
-      let g = p .done P e d F (suc k) f′ enc w (omega arith) in
+      let g = p .done P e width d F (suc k) f′ enc w (omega arith) in
       record {
         kept = record {
           same = g .kept .same;
@@ -216,18 +227,20 @@ from-entered {R} {E} {T} {A} {s} {l} {q = q} {n} z p = record {
       };
 }
 
-to-entered : {R E T A s l : List ℕ} {at : ℕ} {q : Place} {n : Counts} → (n .left ≡ 0 → ⊥)
-    → PreEval R E T A s l at q n → PreEntered R E T A s l at q (entered n)
+to-entered : {R E T A M s l : List ℕ} {at : ℕ} {q : Place} {n : Counts} → (n .left ≡ 0 → ⊥)
+    → PreEval R E T A M s l at q n → PreEntered R E T A M s l at q (entered n)
 to-entered z p =
     let f = p .ready in
     record {
       P = p .P;
       e = p .e;
+      width = p .width;
       d = p .d;
       encoded = p .encoded;
       within = p .within;
       ready = record {
         holds = f .holds;
+        methods = f .methods;
         sound = f .sound;
         frame = f .frame;
         scoped = f .scoped;
@@ -237,20 +250,20 @@ to-entered z p =
       };
     }
 
-pub eval-entered : {R E T A s l s′ l′ : List ℕ} {at : ℕ} {q : Place} {n n′ : Counts} {r : Answer}
+pub eval-entered : {R E T A M s l s′ l′ : List ℕ} {at : ℕ} {q : Place} {n n′ : Counts} {r : Answer}
     → (n .left ≡ 0 → ⊥) → n′ ≡ entered n
-    → PostNode R E T A s l s′ l′ at q n′ r → PostEval R E T A s l s′ l′ at q n r
+    → PostNode R E T A M s l s′ l′ at q n′ r → PostEval R E T A M s l s′ l′ at q n r
 eval-entered z e p = from-entered z (rw e at p)
 
-pub pre-entered : {R E T A s l : List ℕ} {at : ℕ} {q : Place} {n n′ : Counts} → (n .left ≡ 0 → ⊥)
-    → n′ ≡ entered n → PreEval R E T A s l at q n → PreEntered R E T A s l at q n′
+pub pre-entered : {R E T A M s l : List ℕ} {at : ℕ} {q : Place} {n n′ : Counts} → (n .left ≡ 0 → ⊥)
+    → n′ ≡ entered n → PreEval R E T A M s l at q n → PreEntered R E T A M s l at q n′
 pre-entered z e p = rw e (to-entered z p)
 
-pub pre-leaf : {R E T A s l : List ℕ} {at : ℕ} {q : Place} {n : Counts} → PreEntered R E T A s l at q n
+pub pre-leaf : {R E T A M s l : List ℕ} {at : ℕ} {q : Place} {n : Counts} → PreEntered R E T A M s l at q n
     → PreLeaf R T s l at q n
-pre-leaf {E = E} {A = A} p = record { E = E; A = A; node = p }
+pre-leaf {E = E} {A = A} {M = M} p = record { E = E; A = A; M = M; node = p }
 
-pub rest-one : {R E T A s l : List ℕ} {at : ℕ} {q : Place} {n : Counts} → PreEval R E T A s l at q n
+pub rest-one : {R E T A M s l : List ℕ} {at : ℕ} {q : Place} {n : Counts} → PreEval R E T A M s l at q n
     → no-child (getD R (at * 4) 0) ≡ false
     → (getD R (at * 4) 0 ≡ 66 → ⊥) → (getD R (at * 4) 0 ≡ 74 → ⊥) → (getD R (at * 4) 0 ≡ 81 → ⊥)
     → (getD R (at * 4) 0 ≡ 85 → ⊥) → one-child (getD R (at * 4) 0) ≡ true
@@ -261,38 +274,43 @@ rest-one p h h₁ h₂ h₃ h₄ =
 
 -- ---- a node with one child
 
-module _ {R E T A s l : List ℕ} {at : ℕ} {q : Place} {n : Counts} (p : PreEntered R E T A s l at q n)
+module _ {R E T A M s l : List ℕ} {at : ℕ} {q : Place} {n : Counts} (p : PreEntered R E T A M s l at q n)
     (h : one-child (getD R (at * 4) 0) ≡ true) where
   pub one-is : OneChild (p .e)
   one-is = one-of (p .e) (rw (head (p .e) (p .encoded) .letter) at h)
 
-  abbrev pub one-pre : PreEval R E T A s l (at + 1) q n
+  abbrev pub one-pre : PreEval R E T A M s l (at + 1) q n
   one-pre = record {
     P = p .P;
     e = child (p .e);
+    width = p .width;
     d = p .d - 1;
     ready = ready-child 1 (p .d - 1) (p .ready) (omega arith);
     encoded = one-encoded R E at one-is (p .encoded);
-    within = one-within (length (p .P)) (q .scope) (p .d) one-is (p .within) .1;
+    within = one-within (length (p .P)) (p .width) (q .scope) (p .d) one-is (p .within) .1;
   }
 
 -- what a callee keeps, for the program at hand
-pub kept-of : {R E T A s l s′ l′ : List ℕ} {at : ℕ} {q : Place} {n : Counts} {r : Answer}
-    (p : PreEval R E T A s l at q n) → PostEval R E T A s l s′ l′ at q n r → Kept (p .P) s l s′ l′ q n 0 r
+pub kept-of : {R E T A M s l s′ l′ : List ℕ} {at : ℕ} {q : Place} {n : Counts} {r : Answer}
+    (p : PreEval R E T A M s l at q n) → PostEval R E T A M s l s′ l′ at q n r
+    → Kept (p .P) (p .width) s l s′ l′ q n 0 r
 kept-of {n = n} p g =
-    g .done (p .P) (p .e) (p .d) (n .left) 0 (p .ready) (p .encoded) (p .within) (omega arith) .kept
+    g .done (p .P) (p .e) (p .width) (p .d) (n .left) 0 (p .ready) (p .encoded) (p .within)
+    (omega arith) .kept
 
-pub pre-apply : {R E T A s l s′ l′ : List ℕ} {at : ℕ} {q : Place} {n : Counts} {r : Answer} {v : Value}
-    (p : PreEntered R E T A s l at q n) (h : one-child (getD R (at * 4) 0) ≡ true)
-    → PostEval R E T A s l s′ l′ (at + 1) q n r → r .outcome ≡ Gave v
+pub pre-apply : {R E T A M s l s′ l′ : List ℕ} {at : ℕ} {q : Place} {n : Counts} {r : Answer} {v : Value}
+    (p : PreEntered R E T A M s l at q n) (h : one-child (getD R (at * 4) 0) ≡ true)
+    → PostEval R E T A M s l s′ l′ (at + 1) q n r → r .outcome ≡ Gave v
     → PreApply R T A s′ l′ at q (r .counts) v
-pre-apply {E = E} p h g e =
+pre-apply {E = E} {M = M} p h g e =
     let k = kept-of (one-pre p h) g in
     record {
       E = E;
+      M = M;
       node = record {
         P = p .P;
         e = p .e;
+        width = p .width;
         d = p .d;
         ready = refit 1 (p .d) (p .ready) k (omega arith);
         encoded = p .encoded;
@@ -302,20 +320,21 @@ pre-apply {E = E} p h g e =
       small = small-of e (k .small);
     }
 
-module _ {R E T A s l s′ l′ : List ℕ} (at : ℕ) {q : Place} {n : Counts} {r : Answer}
-    (h : one-child (getD R (at * 4) 0) ≡ true) (g : PostEval R E T A s l s′ l′ (at + 1) q n r) where
-  one-child-done : (P : List Class) (e : Expr) (d F k : ℕ) → Ready R E T A s l P q n d 1 → (o : OneChild e)
-      → Encoded R E e at → Within (length P) (q .scope) d e → k + n .left ≡ F
-      → Done P s l s′ l′ q n F 0 r (evaluated P F (capacity s) (q .calls) (child e) (state P s l q n k))
-  one-child-done P e d F k f o enc w z =
-      g .done P (child e) (d - 1) F k (ready-child 1 (d - 1) f (omega arith)) (one-encoded R E at o enc)
-      (one-within (length P) (q .scope) d o w .1) z
+module _ {R E T A M s l s′ l′ : List ℕ} (at : ℕ) {q : Place} {n : Counts} {r : Answer}
+    (h : one-child (getD R (at * 4) 0) ≡ true) (g : PostEval R E T A M s l s′ l′ (at + 1) q n r) where
+  one-child-done : (P : List Class) (e : Expr) (width d F k : ℕ) → Ready R E T A M s l P width q n d 1
+      → (o : OneChild e)
+      → Encoded R E e at → Within (length P) width (q .scope) d e → k + n .left ≡ F
+      → Done P width s l s′ l′ q n F 0 r (evaluated P F (capacity s) (q .calls) (child e) (state P s l q n k))
+  one-child-done P e width d F k f o enc w z =
+      g .done P (child e) width (d - 1) F k (ready-child 1 (d - 1) f (omega arith)) (one-encoded R E at o enc)
+      (one-within (length P) width (q .scope) d o w .1) z
 
-  pub one-fail : ((v : Value) → r .outcome ≡ Gave v → ⊥) → PostNode R E T A s l s′ l′ at q n r
+  pub one-fail : ((v : Value) → r .outcome ≡ Gave v → ⊥) → PostNode R E T A M s l s′ l′ at q n r
   one-fail not = record {
-    done = λ P e d F k f enc w z.
+    done = λ P e width d F k f enc w z.
         let o = one-of e (rw (head e enc .letter) at h) in
-        let a = one-child-done P e d F k f o enc w z in
+        let a = one-child-done P e width d F k f o enc w z in
         record {
           kept = kept-more 0 1 (a .kept) (omega arith);
           is = rw (one-inside (world P) (with-limits F (capacity s))
@@ -328,12 +347,12 @@ module _ {R E T A s l s′ l′ : List ℕ} (at : ℕ) {q : Place} {n : Counts} 
 
   pub one-done : {l″ : List ℕ} {v : Value} (x : Outcome) → r .outcome ≡ Gave v
       → PostApply R T A s′ l′ l″ at q (r .counts) v x
-      → PostNode R E T A s l s′ l″ at q n (answer x (r .counts))
+      → PostNode R E T A M s l s′ l″ at q n (answer x (r .counts))
   one-done {l″} {v} x t p = record {
-    done = λ P e d F k f enc w z.
+    done = λ P e width d F k f enc w z.
         let o = one-of e (rw (head e enc .letter) at h) in
-        let a = one-child-done P e d F k f o enc w z in
-        let b = p .applied E P e d (refit 1 d f (a .kept) (omega arith)) enc w in
+        let a = one-child-done P e width d F k f o enc w z in
+        let b = p .applied E M P e width d (refit 1 d f (a .kept) (omega arith)) enc w in
         let c : evaluated P F (capacity s) (q .calls) (child e) (state P s l q n k)
         ≡ ok (value v) (state P s′ l′ q (r .counts) (F - r .counts .left)) =
         gives (state P s′ l′ q (r .counts) (F - r .counts .left))

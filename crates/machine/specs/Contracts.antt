@@ -1,16 +1,15 @@
 -- What the functions of the evaluator require and ensure.
 use mathlib.Core.Path.{_≡_}
-use mathlib.Core.Bool.{true, false, _||_, Bool}
+use mathlib.Core.Bool.{true, false, _||_, Bool, cond}
 use mathlib.Core.List.{List}
 use Prim.Native.Nat.{ℕ, suc, _+_, _-_, _*_, _≤_, _<_}
-use lib.Dec.{eqb}
+use lib.Dec.{eqb, leb}
 use lib.ListN.{length, getD}
-use Rattle.language.specs.Results.{ok, bind, passed}
-use Rattle.language.specs.Frames.{frame, at-slot, with-slot}
+use Rattle.language.specs.Results.{ok, bind}
+use Rattle.language.specs.Frames.{Frame, frame, at-slot, with-slot}
 use Rattle.language.specs.Tree.{Expr, Exprs, count, Class, Program}
 use Rattle.language.specs.World.{Method}
-use Rattle.language.specs.Program.{world}
-use Rattle.language.specs.ClassTables.{ClassTables}
+use Rattle.language.specs.Program.{world, body-in}
 use Rattle.language.specs.Encoded.{Encoded, EncodedAll}
 use Rattle.language.specs.State.{Value as Meaning, null, truth, object, State, raised, spent, deep, full}
 use Rattle.language.specs.State.{stuck, Out, with-frame}
@@ -18,9 +17,7 @@ use Rattle.language.specs.Evaluation.{last-value, need, eval, eval-all, with-li
 use Rattle.language.specs.Store.{capacity, Outcome as Ended, gave, ended, ran, finish, Ran as Finished}
 use mathlib.Core.Logic.{_⊎_}
 use Rattle.language.specs.Limits.{of-check, spent-stop, deep-stop, full-stop, most-calls}
-use Rattle.language.specs.Headings.{headings}
-use Rattle.language.specs.Typing.{bodies}
-use Rattle.language.specs.Layout.{ProgramAt}
+use Rattle.layout.specs.Held.{Held}
 use Rattle.machine.specs.declared.Ran.{Ran}
 use Rattle.machine.specs.declared.Run.{Run}
 use Rattle.machine.specs.declared.End.{End}
@@ -31,7 +28,7 @@ use Rattle.objects.specs.declared.Value.{Value}
 use Rattle.objects.specs.declared.Value.the-variants.{Null, Truth, Object}
 use Rattle.objects.specs.Values.{value, stop-of, Small, SmallOutcome, told, bare, Outcome, Gave, Raised}
 use Rattle.objects.specs.Values.{Stopped, Stuck, Counts, outcome, Answer, answer}
-use Rattle.objects.specs.Holding.{Within, WithinAll, Holds, Sound}
+use Rattle.objects.specs.Holding.{Within, WithinAll, Holds, HoldsMethods, Sound, view}
 use Rattle.objects.specs.Contracts.{Written, Stored}
 use Rattle.objects.specs.Holding.{first-of-type, frame-room}
 use Rattle.machine.specs.Machine.{told-all, slots-of, frame-of, state, after, inside}
@@ -71,29 +68,32 @@ null-tested (Object j) = Gave (Truth false)
 abbrev pub nothing : Value
 nothing = Null
 
--- The most slots of a call: its frame, and a receiver and arguments that wait in each of its nested nodes; and of all
--- calls together, the start block included.
+-- How many values wait at most where d nodes nest: a receiver and arguments in each. And the most slots of a call: its
+-- frame, and the values that wait in it.
+abbrev pub waiting : ℕ → ℕ
+waiting d = (of-check .parameters + 1) * d
+
 abbrev pub call-room : ℕ
-call-room = frame-room + (of-check .parameters + 1) * of-check .nesting
+call-room = frame-room + waiting (of-check .nesting)
 
-abbrev pub slots-room : ℕ
-slots-room = (most-calls + 1) * call-room
-
--- Everything fits: a frame at base, waiting values up to top, room for d nested nodes and the calls still allowed;
--- z is 1 where a node has been entered.
-pub record Ready (R E T A s l : List ℕ) (P : List Class) (q : Place) (n : Counts) (d z : ℕ) : Type 0 where
-  pub holds : Holds R E T A P
+-- Everything fits: a frame of a width at base, waiting values up to top, and room for those of d nested nodes; z is 1
+-- where a node has been entered.
+pub record Ready (R E T A M s l : List ℕ) (P : List Class) (width : ℕ) (q : Place) (n : Counts) (d z : ℕ) :
+    Type 0 where
+  pub holds : Holds R T A P
+  pub methods : HoldsMethods R E M P
   pub sound : Sound P (n .made) s
-  pub frame : q .base + frame-room ≤ q .top
-  pub scoped : q .scope + 1 ≤ frame-room
-  pub above : q .top + (of-check .parameters + 1) * d + (most-calls - q .calls) * call-room ≤ length l
+  pub frame : q .base + width ≤ q .top
+  pub scoped : q .scope + 1 ≤ width
+  pub above : q .top + waiting d ≤ length l
   pub active : q .calls ≤ most-calls
   pub counted : n .changes + n .left + z ≤ 4294967295
 
 -- What is the same afterwards.
-pub record Kept (P : List Class) (s l s′ l′ : List ℕ) (q : Place) (n : Counts) (z : ℕ) (r : Answer) : Type 0
+pub record Kept (P : List Class) (width : ℕ) (s l s′ l′ : List ℕ) (q : Place) (n : Counts) (z : ℕ)
+    (r : Answer) : Type 0
   where
-    pub same : (i : ℕ) → i < q .top → (i < q .base) ⊎ (q .base + frame-room ≤ i) → getD l′ i 0 ≡ getD l i 0
+    pub same : (i : ℕ) → i < q .top → (i < q .base) ⊎ (q .base + width ≤ i) → getD l′ i 0 ≡ getD l i 0
     pub long : length l′ ≡ length l
     pub stored : Stored P s s′ (n .made) (r .counts .made)
     pub falls : r .counts .left ≤ n .left
@@ -101,14 +101,15 @@ pub record Kept (P : List Class) (s l s′ l′ : List ℕ) (q : Place) (n : Cou
     pub small : SmallOutcome (r .outcome)
 
 -- What is kept, and that outcome and state are those of the definition. F is the fuel of the whole run.
-pub record Done (P : List Class) (s l s′ l′ : List ℕ) (q : Place) (n : Counts) (F z : ℕ) (r : Answer)
+pub record Done (P : List Class) (width : ℕ) (s l s′ l′ : List ℕ) (q : Place) (n : Counts) (F z : ℕ)
+    (r : Answer)
     (o : Out Meaning) : Type 0 where
-  pub kept : Kept P s l s′ l′ q n z r
+  pub kept : Kept P width s l s′ l′ q n z r
   pub is : told (r .outcome) (state P s′ l′ q (r .counts) (F - r .counts .left)) ≡ bare o
 
 -- Calls with so many calls active, under fuel F and room for so many objects.
 abbrev pub calls-of : List Class → ℕ → ℕ → ℕ → Method → State → Out Meaning
-calls-of P F room calls M s = call-at (world P) (with-limits F room) (most-calls - calls) M s
+calls-of P F room calls M s = call-at (world P) (with-limits F room) (body-in P) (most-calls - calls) M s
 
 abbrev pub evaluated : List Class → ℕ → ℕ → ℕ → Expr → State → Out Meaning
 evaluated P F room calls e s = eval (world P) (with-limits F room) (λ M s. calls-of P F room calls M s) e s
@@ -122,32 +123,40 @@ evaluated-all P F room calls es s =
     eval-all (world P) (with-limits F room) (λ M s. calls-of P F room calls M s) es s
 
 -- A node at a row; z is 1 where it has been entered.
-pub record PreNode (R E T A s l : List ℕ) (at : ℕ) (q : Place) (n : Counts) (z : ℕ) : Type 0 where
+pub record PreNode (R E T A M s l : List ℕ) (at : ℕ) (q : Place) (n : Counts) (z : ℕ) : Type 0 where
   pub P : List Class
   pub e : Expr
+  pub width : ℕ
   pub d : ℕ
-  pub ready : Ready R E T A s l P q n d z
+  pub ready : Ready R E T A M s l P width q n d z
   pub encoded : Encoded R E e at
-  pub within : Within (length P) (q .scope) d e
+  pub within : Within (length P) width (q .scope) d e
 
 -- Before a node is entered, and once it has been.
-abbrev pub PreEval : List ℕ → List ℕ → List ℕ → List ℕ → List ℕ → List ℕ → ℕ → Place → Counts → Type 0
-PreEval R E T A s l at q n = PreNode R E T A s l at q n 0
+abbrev pub PreEval : List ℕ → List ℕ → List ℕ → List ℕ → List ℕ → List ℕ → List ℕ → ℕ → Place → Counts
+    → Type 0
+PreEval R E T A M s l at q n = PreNode R E T A M s l at q n 0
 
-abbrev pub PreEntered : List ℕ → List ℕ → List ℕ → List ℕ → List ℕ → List ℕ → ℕ → Place → Counts → Type 0
-PreEntered R E T A s l at q n = PreNode R E T A s l at q n 1
+abbrev pub PreEntered : List ℕ → List ℕ → List ℕ → List ℕ → List ℕ → List ℕ → List ℕ → ℕ → Place → Counts
+    → Type 0
+PreEntered R E T A M s l at q n = PreNode R E T A M s l at q n 1
 
 -- F is the fuel of the whole run, of which k have been spent.
-pub record PostEval (R E T A s l s′ l′ : List ℕ) (at : ℕ) (q : Place) (n : Counts) (r : Answer) : Type 0 where
-  pub done : (P : List Class) (e : Expr) (d F k : ℕ) → Ready R E T A s l P q n d 0 → Encoded R E e at
-      → Within (length P) (q .scope) d e → k + n .left ≡ F
-      → Done P s l s′ l′ q n F 0 r (evaluated P F (capacity s) (q .calls) e (state P s l q n k))
+pub record PostEval (R E T A M s l s′ l′ : List ℕ) (at : ℕ) (q : Place) (n : Counts) (r : Answer) : Type 0
+  where
+    pub done : (P : List Class) (e : Expr) (width d F k : ℕ) → Ready R E T A M s l P width q n d 0
+        → Encoded R E e at
+        → Within (length P) width (q .scope) d e → k + n .left ≡ F
+        → Done P width s l s′ l′ q n F 0 r (evaluated P F (capacity s) (q .calls) e (state P s l q n k))
 
 -- The node has been entered, as the k-th step.
-pub record PostNode (R E T A s l s′ l′ : List ℕ) (at : ℕ) (q : Place) (n : Counts) (r : Answer) : Type 0 where
-  pub done : (P : List Class) (e : Expr) (d F k : ℕ) → Ready R E T A s l P q n d 1 → Encoded R E e at
-      → Within (length P) (q .scope) d e → k + n .left ≡ F
-      → Done P s l s′ l′ q n F 1 r (evaluated-inside P F (capacity s) (q .calls) e (state P s l q n k))
+pub record PostNode (R E T A M s l s′ l′ : List ℕ) (at : ℕ) (q : Place) (n : Counts) (r : Answer) : Type 0
+  where
+    pub done : (P : List Class) (e : Expr) (width d F k : ℕ) → Ready R E T A M s l P width q n d 1
+        → Encoded R E e at
+        → Within (length P) width (q .scope) d e → k + n .left ≡ F
+        → Done P width s l s′ l′ q n F 1 r
+        (evaluated-inside P F (capacity s) (q .calls) e (state P s l q n k))
 
 -- The letters of nodes with one child, and of nodes with none.
 abbrev pub one-child : ℕ → Bool
@@ -161,70 +170,128 @@ no-child k = eqb k (code T-true) || eqb k (code L-false) || eqb k (code N-null) 
 pub record PreLeaf (R T s l : List ℕ) (at : ℕ) (q : Place) (n : Counts) : Type 0 where
   pub E : List ℕ
   pub A : List ℕ
-  pub node : PreNode R E T A s l at q n 1
+  pub M : List ℕ
+  pub node : PreNode R E T A M s l at q n 1
 
 pub record PostLeaf (R T s l s′ : List ℕ) (at : ℕ) (q : Place) (n : Counts) (r : Answer) : Type 0 where
-  pub post : (E A : List ℕ) → PostNode R E T A s l s′ l at q n r
+  pub post : (E A M : List ℕ) → PostNode R E T A M s l s′ l at q n r
 
 pub record PreApply (R T A s l : List ℕ) (at : ℕ) (q : Place) (n : Counts) (v : Value) : Type 0 where
   pub E : List ℕ
-  pub node : PreNode R E T A s l at q n 0
+  pub M : List ℕ
+  pub node : PreNode R E T A M s l at q n 0
   pub letter : one-child (getD R (at * 4) 0) ≡ true
   pub small : Small v
 
-pub record Applied (P : List Class) (s l l′ : List ℕ) (e : Expr) (q : Place) (n : Counts) (v : Value)
+pub record Applied (P : List Class) (width : ℕ) (s l l′ : List ℕ) (e : Expr) (q : Place) (n : Counts)
+    (v : Value)
     (r : Outcome) : Type 0 where
   pub long : length l′ ≡ length l
-  pub same : (i : ℕ) → (i < q .base) ⊎ (q .base + frame-room ≤ i) → getD l′ i 0 ≡ getD l i 0
+  pub same : (i : ℕ) → (i < q .base) ⊎ (q .base + width ≤ i) → getD l′ i 0 ≡ getD l i 0
   pub small : SmallOutcome r
   pub is : (steps : ℕ)
       → told r (state P s l′ q n steps) ≡ bare (after (world P) e (value v) (state P s l q n steps))
 
 pub record PostApply (R T A s l l′ : List ℕ) (at : ℕ) (q : Place) (n : Counts) (v : Value) (r : Outcome) :
     Type 0 where
-  pub applied : (E : List ℕ) (P : List Class) (e : Expr) (d : ℕ) → Ready R E T A s l P q n d 0
+  pub applied : (E M : List ℕ) (P : List Class) (e : Expr) (width d : ℕ) → Ready R E T A M s l P width q n d 0
       → Encoded R E e at
-      → Within (length P) (q .scope) d e → Applied P s l l′ e q n v r
+      → Within (length P) width (q .scope) d e → Applied P width s l l′ e q n v r
 
 -- A list of m expressions.
-pub record PreList (R E T A s l : List ℕ) (at : ℕ) (q : Place) (n : Counts) (m : ℕ) : Type 0 where
+pub record PreList (R E T A M s l : List ℕ) (at : ℕ) (q : Place) (n : Counts) (m : ℕ) : Type 0 where
   pub P : List Class
   pub es : Exprs
+  pub width : ℕ
   pub d : ℕ
-  pub ready : Ready R E T A s l P q n d 0
+  pub ready : Ready R E T A M s l P width q n d 0
   pub encoded : EncodedAll R E es at
-  pub within : WithinAll (length P) (q .scope) d es
+  pub within : WithinAll (length P) width (q .scope) d es
   pub many : m ≡ count es
   pub few : m < 4294967296
 
 -- The arguments of a call go to the top; there is room for them.
-pub record PreArgs (R E T A s l : List ℕ) (at : ℕ) (q : Place) (n : Counts) (m : ℕ) : Type 0 where
-  pub list : PreList R E T A s l at q n m
-  pub room : q .top + m + (of-check .parameters + 1) * (list .d) + (most-calls - q .calls) * call-room
-      ≤ length l
+pub record PreArgs (R E T A M s l : List ℕ) (at : ℕ) (q : Place) (n : Counts) (m : ℕ) : Type 0 where
+  pub list : PreList R E T A M s l at q n m
+  pub room : q .top + m + waiting (list .d) ≤ length l
 
-pub record PostItems (R E T A s l s′ l′ : List ℕ) (at : ℕ) (q : Place) (n : Counts) (m : ℕ) (last : Value)
+pub record PostItems (R E T A M s l s′ l′ : List ℕ) (at : ℕ) (q : Place) (n : Counts) (m : ℕ) (last : Value)
     (r : Answer) : Type 0 where
-  pub done : (P : List Class) (es : Exprs) (d F k : ℕ) → Ready R E T A s l P q n d 0 → EncodedAll R E es at
-      → WithinAll (length P) (q .scope) d es → m ≡ count es → k + n .left ≡ F
-      → Done P s l s′ l′ q n F 0 r
+  pub done : (P : List Class) (es : Exprs) (width d F k : ℕ) → Ready R E T A M s l P width q n d 0
+      → EncodedAll R E es at
+      → WithinAll (length P) width (q .scope) d es → m ≡ count es → k + n .left ≡ F
+      → Done P width s l s′ l′ q n F 0 r
       (bind (evaluated-all P F (capacity s) (q .calls) es (state P s l q n k)) λ vs t.
       ok (last-value (value last) vs) t)
 
 -- What argument evaluation comes to: the values stand from the top on.
-pub record DoneAll (P : List Class) (s l s′ l′ : List ℕ) (q : Place) (n : Counts) (F m : ℕ) (r : Answer)
+pub record DoneAll (P : List Class) (width : ℕ) (s l s′ l′ : List ℕ) (q : Place) (n : Counts) (F m : ℕ)
+    (r : Answer)
     (o : Out (List Meaning)) : Type 0 where
-  pub kept : Kept P s l s′ l′ q n 0 r
+  pub kept : Kept P width s l s′ l′ q n 0 r
   pub is : told-all (r .outcome) (slots-of l′ (q .top) m) (state P s′ l′ q (r .counts) (F - r .counts .left))
       ≡ bare o
 
-pub record PostArgs (R E T A s l s′ l′ : List ℕ) (at : ℕ) (q : Place) (n : Counts) (m : ℕ) (r : Answer) : Type
+pub record PostArgs (R E T A M s l s′ l′ : List ℕ) (at : ℕ) (q : Place) (n : Counts) (m : ℕ) (r : Answer) :
+    Type
     0 where
-  pub done : (P : List Class) (es : Exprs) (d F k : ℕ) → Ready R E T A s l P q n d 0
-      → q .top + m + (of-check .parameters + 1) * d + (most-calls - q .calls) * call-room ≤ length l
+  pub done : (P : List Class) (es : Exprs) (width d F k : ℕ) → Ready R E T A M s l P width q n d 0
+      → q .top + m + waiting d ≤ length l
       → EncodedAll R E es at
-      → WithinAll (length P) (q .scope) d es → m ≡ count es → k + n .left ≡ F
-      → DoneAll P s l s′ l′ q n F m r (evaluated-all P F (capacity s) (q .calls) es (state P s l q n k))
+      → WithinAll (length P) width (q .scope) d es → m ≡ count es → k + n .left ≡ F
+      → DoneAll P width s l s′ l′ q n F m r (evaluated-all P F (capacity s) (q .calls) es (state P s l q n k))
+
+-- ---- calls
+
+-- How many slots a call needs for `this`, n arguments and the locals of its body, and how many nodes nest in the body: no
+-- more than it has rows, and no more than the limits allow.
+unfoldable pub frame-width : ℕ → ℕ → ℕ
+frame-width size n = cond (leb (of-check .nesting) size) frame-room (n + 1 + size)
+
+unfoldable pub most-nested : ℕ → ℕ
+most-nested size = cond (leb (of-check .nesting) size) (of-check .nesting) size
+
+-- The body e of a method is at row b; `this` and n arguments are in the slots from top on; so many calls are active, this one
+-- included.
+pub record Entering (R E T A M s l : List ℕ) (P : List Class) (e : Expr) (b n top calls : ℕ) (c : Counts) :
+    Type 0 where
+  pub holds : Holds R T A P
+  pub methods : HoldsMethods R E M P
+  pub sound : Sound P (c .made) s
+  pub few : n ≤ of-check .parameters
+  pub there : top + (n + 1) ≤ length l
+  pub active : calls ≤ most-calls
+  pub counted : c .changes + c .left ≤ 4294967295
+  pub encoded : Encoded R E e b
+  pub within : Within (length P) frame-room n (of-check .nesting) e
+
+pub record PreEnter (R E T A M s l : List ℕ) (b n top calls : ℕ) (c : Counts) : Type 0 where
+  pub P : List Class
+  pub e : Expr
+  pub entering : Entering R E T A M s l P e b n top calls c
+
+-- The place of a call whose `this` is at top.
+abbrev pub call-place : ℕ → ℕ → ℕ → Place
+call-place top n calls = record { base = top; scope = n; top = top; calls = calls }
+
+-- The slots below top are kept, and outcome and state are those of the body, with the caller's slots γ again.
+pub record Entered (P : List Class) (s l s′ l′ : List ℕ) (e : Expr) (n top calls : ℕ) (c : Counts) (F k : ℕ)
+    (r : Answer) : Type 0 where
+  pub same : (i : ℕ) → i < top → getD l′ i 0 ≡ getD l i 0
+  pub long : length l′ ≡ length l
+  pub stored : Stored P s s′ (c .made) (r .counts .made)
+  pub falls : r .counts .left ≤ c .left
+  pub counted : r .counts .changes + r .counts .left ≤ c .changes + c .left
+  pub small : SmallOutcome (r .outcome)
+  pub is : (γ : Frame Meaning)
+      → told (r .outcome) (view P s′ (r .counts) γ (F - r .counts .left))
+      ≡ bare (bind (evaluated P F (capacity s) calls e (view P s c (frame-of l (call-place top n calls)) k))
+      λ w t. ok w (with-frame γ t))
+
+pub record PostEnter (R E T A M s l s′ l′ : List ℕ) (b n top calls : ℕ) (c : Counts) (r : Answer) : Type 0
+  where
+    pub done : (P : List Class) (e : Expr) (F k : ℕ) → Entering R E T A M s l P e b n top calls c
+        → k + c .left ≡ F → Entered P s l s′ l′ e n top calls c F k r
 
 -- ---- the run
 
@@ -236,37 +303,33 @@ outcome-of (Stopped n) = ended (stop-of n)
 outcome-of Stuck = ended stuck
 
 -- Rows and tables hold a program, whose start block is at a row; the slots have room.
-pub record Runs (R E T A l : List ℕ) (at : ℕ) (p : Program) : Type 0 where
-  pub holds : Holds R E T A (p .classes)
+pub record Runs (R E T A M l : List ℕ) (at : ℕ) (p : Program) : Type 0 where
+  pub holds : Holds R T A (p .classes)
+  pub methods : HoldsMethods R E M (p .classes)
   pub encoded : Encoded R E (p .start) at
-  pub within : Within (length (p .classes)) 0 (of-check .nesting) (p .start)
-  pub room : slots-room ≤ length l
+  pub within : Within (length (p .classes)) frame-room 0 (of-check .nesting) (p .start)
+  pub room : call-room ≤ length l
 
-pub record PreRun (R E T A l : List ℕ) (at : ℕ) : Type 0 where
+pub record PreRun (R E T A M l : List ℕ) (at : ℕ) : Type 0 where
   pub p : Program
-  pub runs : Runs R E T A l at p
+  pub runs : Runs R E T A M l at p
 
 -- Outcome, counts and store are those of the run.
-pub record PostRun (R E T A s l s′ : List ℕ) (at fuel : ℕ) (r : Ran) : Type 0 where
-  pub is : (p : Program) → Runs R E T A l at p
+pub record PostRun (R E T A M s l s′ : List ℕ) (at fuel : ℕ) (r : Ran) : Type 0 where
+  pub is : (p : Program) → Runs R E T A M l at p
       → finish (run (with-limits fuel (capacity s)) p) s
       ≡ record {
         answer = ran (outcome-of (outcome (r .outcome))) (r .steps) (r .objects) (r .changes);
         store = s′;
       }
-  pub small : (p : Program) → Runs R E T A l at p → SmallOutcome (outcome (r .outcome))
+  pub small : (p : Program) → Runs R E T A M l at p → SmallOutcome (outcome (r .outcome))
 
--- What the check establishes of rows and of the tables that it fills: a program stands in them, its classes are in the
--- tables, and headings and bodies pass.
-pub record Accepted (R E T A : List ℕ) (p : Program) : Type 0 where
-  pub standing : ProgramAt R E p
-  pub tables : ClassTables (p .classes) T A
-  pub headings-pass : headings of-check (p .classes) ≡ passed
-  pub bodies-pass : bodies p ≡ passed
-
-pub record PreChecked (R E T A : List ℕ) : Type 0 where
+-- Rows and tables hold a program that the check accepts.
+pub record PreChecked (R E T A M : List ℕ) : Type 0 where
+  pub F : List ℕ
+  pub C : List ℕ
   pub p : Program
-  pub accepted : Accepted R E T A p
+  pub held : Held R E T A M F C p
 
 -- How the caller is told of a value and of an end: objects count from 1; an exception and a stop are their numbers.
 abbrev pub value-told : Meaning → Value
@@ -289,7 +352,7 @@ pub record Tells (x : Finished) (s′ : List ℕ) (r : Run) : Type 0 where
   pub told : r .outcome ≡ end-told outcome
 
 -- Answer and store are those of the run of the program that the rows hold; it is not stuck.
-pub record PostChecked (R E T A s s′ : List ℕ) (fuel : ℕ) (r : Run) : Type 0 where
-  pub tells : (p : Program) → Accepted R E T A p
+pub record PostChecked (R E T A M s s′ : List ℕ) (fuel : ℕ) (r : Run) : Type 0 where
+  pub tells : (F C : List ℕ) (p : Program) → Held R E T A M F C p
       → Tells (finish (run (with-limits fuel (capacity s)) p) s) s′ r
   pub unstuck : r .outcome ≡ EndStopped 0 → ⊥

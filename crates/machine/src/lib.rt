@@ -21,7 +21,7 @@ use objects::Target;
 use objects::Value;
 ghost use mathlib.Core.Path.{_≡_};
 ghost use mathlib.Core.Bool.{true};
-ghost use Prim.Native.Nat.{_+_, _*_, _≤_, _<_};
+ghost use Prim.Native.Nat.{_+_, _-_, _*_, _≤_, _<_};
 ghost use lib.ListN.{length, getD, set};
 ghost use Rattle.objects.specs.Values.{value, decoded, outcome, counts-in, Small, SmallOutcome, answered};
 ghost use Rattle.machine.specs.Machine.{place-of};
@@ -29,13 +29,31 @@ ghost use Rattle.machine.specs.Contracts.{Locals, Opened, PostRead, Post
 ghost use Rattle.machine.specs.Contracts.{PreEntered, PostEval, PostNode, one-child, no-child, PreLeaf};
 ghost use Rattle.machine.specs.Contracts.{PostLeaf, PreApply, PostApply, PreList, PreArgs, PostItems};
 ghost use Rattle.machine.specs.Contracts.{PostArgs, PreRun, PostRun, value-told, end-told, outcome-of};
-ghost use Rattle.machine.specs.Contracts.{PreChecked, PostChecked, nothing, slots-room};
+ghost use Rattle.machine.specs.Contracts.{PreChecked, PostChecked, nothing, call-room};
+ghost use Rattle.machine.specs.Contracts.{PreEnter, PostEnter, frame-width, most-nested};
+ghost use Rattle.objects.specs.Contracts.{Written};
 ghost use Rattle.language.specs.Rows.{code, B-block, R-change, U-set, Q-call, J-choose};
 
-// How many slots a frame has room for, `this` included, and how many all calls together.
+// How many slots a frame has at most, `this` included.
 const FRAME_ROOM: usize = 264;
 
-const SLOTS_ROOM: usize = 92040;
+// How many nodes nest at most, and how many values may wait in each: a receiver and arguments.
+const MOST_NESTING: usize = 128;
+
+const WAITING: usize = language::MOST_PARAMETERS as usize + 1;
+
+// Slots are in segments: a call that finds no room in one gets another, which has room for any call, at most 1,416 slots. The
+// first segment of a run goes by its rows: for at most 32, for at most 1,024, and for more, with room for the frames of all calls.
+const SHORT_SEGMENT: usize = 1536;
+
+const SEGMENT: usize = 4096;
+
+const LONG_SEGMENT: usize = 18432;
+
+// How many numbers 32 rows and 1,024 rows have.
+const SHORT_NUMBERS: usize = 128;
+
+const FEW_NUMBERS: usize = 4096;
 
 // Where the slots of the method under way stand: `this` at base, the others after it, of which scope are in scope;
 // values that wait for a call stand from top on; so many calls are active, and outside of any there is no `this`.
@@ -126,6 +144,38 @@ fn open_locals(rows: &[u32], slots: &mut [u32], row: usize, from: usize, n: usiz
 {
     for i in 0..n {
         slots[from + i] = objects::first_value(rows[(row + i) * 4 + 1]);
+    }
+}
+
+// How many slots a call needs for `this`, n arguments and the locals of its body, which has so many rows.
+fn frame_width(size: usize, n: usize) -> usize
+    requires { ⌜ n ≤ 8 ⌝ }
+    ensures { λ r. ⌜ r ≡ frame-width size n ⌝ }
+{
+    if size < MOST_NESTING {
+        return n + 1 + size;
+    }
+    FRAME_ROOM
+}
+
+// How many nodes nest at most in a body of so many rows.
+fn most_nested(size: usize) -> usize
+    ensures { λ r. ⌜ r ≡ most-nested size ⌝ }
+{
+    if size < MOST_NESTING {
+        return size;
+    }
+    MOST_NESTING
+}
+
+// The first n slots become those that are from a place on.
+fn copy_slots(slots: &[u32], fresh: &mut [u32], from: usize, n: usize)
+    requires { ⌜ (from + n ≤ length (now slots)) × (n ≤ length (now fresh)) ⌝ }
+    ensures { λ r. ⌜ Written (now (fresh .entry)) (now (fresh .exit)) 0 n
+        (λ i. getD (now (slots .entry)) (from + i) 0) ⌝ }
+{
+    for i in 0..n {
+        fresh[i] = slots[from + i];
     }
 }
 
@@ -229,6 +279,7 @@ fn eval(
     ends: &[u16],
     tables: &[u16],
     above: &[u64],
+    methods: &[u16],
     store: &mut [u32],
     slots: &mut [u32],
     tally: &mut [u32; 3],
@@ -238,12 +289,12 @@ fn eval(
     top: usize,
     calls: u32,
 ) -> u64
-    requires { ⌜ PreEval (now rows) (now ends) (now tables) (now above) (now store)
+    requires { ⌜ PreEval (now rows) (now ends) (now tables) (now above) (now methods) (now store)
         (now slots) at (place-of base scope top calls) (counts-in (now tally)) ⌝ }
     ensures { λ r. ⌜ PostEval (now (rows .entry)) (now (ends .entry)) (now (tables .entry))
-        (now (above .entry)) (now (store .entry)) (now (slots .entry)) (now (store .exit))
-        (now (slots .exit)) at (place-of base scope top calls) (counts-in (now (tally .entry)))
-        (answered r (now (tally .exit))) ⌝ }
+        (now (above .entry)) (now (methods .entry)) (now (store .entry)) (now (slots .entry))
+        (now (store .exit)) (now (slots .exit)) at (place-of base scope top calls)
+        (counts-in (now (tally .entry))) (answered r (now (tally .exit))) ⌝ }
 {
     let place = Place {
         base,
@@ -266,6 +317,7 @@ fn eval(
             ends,
             tables,
             above,
+            methods,
             store,
             slots,
             tally,
@@ -280,6 +332,7 @@ fn eval(
             ends,
             tables,
             above,
+            methods,
             store,
             slots,
             tally,
@@ -294,6 +347,7 @@ fn eval(
             ends,
             tables,
             above,
+            methods,
             store,
             slots,
             tally,
@@ -308,6 +362,7 @@ fn eval(
             ends,
             tables,
             above,
+            methods,
             store,
             slots,
             tally,
@@ -322,6 +377,7 @@ fn eval(
             ends,
             tables,
             above,
+            methods,
             store,
             slots,
             tally,
@@ -340,6 +396,7 @@ fn one_child(
     ends: &[u16],
     tables: &[u16],
     above: &[u64],
+    methods: &[u16],
     store: &mut [u32],
     slots: &mut [u32],
     tally: &mut [u32; 3],
@@ -349,13 +406,13 @@ fn one_child(
     top: usize,
     calls: u32,
 ) -> u64
-    requires { ⌜ PreEntered (now rows) (now ends) (now tables) (now above) (now store)
+    requires { ⌜ PreEntered (now rows) (now ends) (now tables) (now above) (now methods) (now store)
         (now slots) at (place-of base scope top calls) (counts-in (now tally)) ⌝ }
     requires { ⌜ one-child (getD (now rows) (at * 4) 0) ≡ true ⌝ }
     ensures { λ r. ⌜ PostNode (now (rows .entry)) (now (ends .entry)) (now (tables .entry))
-        (now (above .entry)) (now (store .entry)) (now (slots .entry)) (now (store .exit))
-        (now (slots .exit)) at (place-of base scope top calls) (counts-in (now (tally .entry)))
-        (answered r (now (tally .exit))) ⌝ }
+        (now (above .entry)) (now (methods .entry)) (now (store .entry)) (now (slots .entry))
+        (now (store .exit)) (now (slots .exit)) at (place-of base scope top calls)
+        (counts-in (now (tally .entry))) (answered r (now (tally .exit))) ⌝ }
 {
     let place = Place {
         base,
@@ -368,6 +425,7 @@ fn one_child(
         ends,
         tables,
         above,
+        methods,
         store,
         slots,
         tally,
@@ -400,6 +458,7 @@ fn set(
     ends: &[u16],
     tables: &[u16],
     above: &[u64],
+    methods: &[u16],
     store: &mut [u32],
     slots: &mut [u32],
     tally: &mut [u32; 3],
@@ -409,19 +468,20 @@ fn set(
     top: usize,
     calls: u32,
 ) -> u64
-    requires { ⌜ PreEntered (now rows) (now ends) (now tables) (now above) (now store)
+    requires { ⌜ PreEntered (now rows) (now ends) (now tables) (now above) (now methods) (now store)
         (now slots) at (place-of base scope top calls) (counts-in (now tally)) ⌝ }
     requires { ⌜ getD (now rows) (at * 4) 0 ≡ code U-set ⌝ }
     ensures { λ r. ⌜ PostNode (now (rows .entry)) (now (ends .entry)) (now (tables .entry))
-        (now (above .entry)) (now (store .entry)) (now (slots .entry)) (now (store .exit))
-        (now (slots .exit)) at (place-of base scope top calls) (counts-in (now (tally .entry)))
-        (answered r (now (tally .exit))) ⌝ }
+        (now (above .entry)) (now (methods .entry)) (now (store .entry)) (now (slots .entry))
+        (now (store .exit)) (now (slots .exit)) at (place-of base scope top calls)
+        (counts-in (now (tally .entry))) (answered r (now (tally .exit))) ⌝ }
 {
     let n = eval(
         rows,
         ends,
         tables,
         above,
+        methods,
         store,
         slots,
         tally,
@@ -441,6 +501,7 @@ fn set(
         ends,
         tables,
         above,
+        methods,
         store,
         slots,
         tally,
@@ -470,6 +531,7 @@ fn choose(
     ends: &[u16],
     tables: &[u16],
     above: &[u64],
+    methods: &[u16],
     store: &mut [u32],
     slots: &mut [u32],
     tally: &mut [u32; 3],
@@ -479,19 +541,20 @@ fn choose(
     top: usize,
     calls: u32,
 ) -> u64
-    requires { ⌜ PreEntered (now rows) (now ends) (now tables) (now above) (now store)
+    requires { ⌜ PreEntered (now rows) (now ends) (now tables) (now above) (now methods) (now store)
         (now slots) at (place-of base scope top calls) (counts-in (now tally)) ⌝ }
     requires { ⌜ getD (now rows) (at * 4) 0 ≡ code J-choose ⌝ }
     ensures { λ r. ⌜ PostNode (now (rows .entry)) (now (ends .entry)) (now (tables .entry))
-        (now (above .entry)) (now (store .entry)) (now (slots .entry)) (now (store .exit))
-        (now (slots .exit)) at (place-of base scope top calls) (counts-in (now (tally .entry)))
-        (answered r (now (tally .exit))) ⌝ }
+        (now (above .entry)) (now (methods .entry)) (now (store .entry)) (now (slots .entry))
+        (now (store .exit)) (now (slots .exit)) at (place-of base scope top calls)
+        (counts-in (now (tally .entry))) (answered r (now (tally .exit))) ⌝ }
 {
     let n = eval(
         rows,
         ends,
         tables,
         above,
+        methods,
         store,
         slots,
         tally,
@@ -516,6 +579,7 @@ fn choose(
             ends,
             tables,
             above,
+            methods,
             store,
             slots,
             tally,
@@ -532,6 +596,7 @@ fn choose(
         ends,
         tables,
         above,
+        methods,
         store,
         slots,
         tally,
@@ -549,6 +614,7 @@ fn block(
     ends: &[u16],
     tables: &[u16],
     above: &[u64],
+    methods: &[u16],
     store: &mut [u32],
     slots: &mut [u32],
     tally: &mut [u32; 3],
@@ -558,13 +624,13 @@ fn block(
     top: usize,
     calls: u32,
 ) -> u64
-    requires { ⌜ PreEntered (now rows) (now ends) (now tables) (now above) (now store)
+    requires { ⌜ PreEntered (now rows) (now ends) (now tables) (now above) (now methods) (now store)
         (now slots) at (place-of base scope top calls) (counts-in (now tally)) ⌝ }
     requires { ⌜ getD (now rows) (at * 4) 0 ≡ code B-block ⌝ }
     ensures { λ r. ⌜ PostNode (now (rows .entry)) (now (ends .entry)) (now (tables .entry))
-        (now (above .entry)) (now (store .entry)) (now (slots .entry)) (now (store .exit))
-        (now (slots .exit)) at (place-of base scope top calls) (counts-in (now (tally .entry)))
-        (answered r (now (tally .exit))) ⌝ }
+        (now (above .entry)) (now (methods .entry)) (now (store .entry)) (now (slots .entry))
+        (now (store .exit)) (now (slots .exit)) at (place-of base scope top calls)
+        (counts-in (now (tally .entry))) (answered r (now (tally .exit))) ⌝ }
 {
     let n = rows[at * 4 + 1] as usize;
     let k = rows[at * 4 + 2] as usize;
@@ -574,6 +640,7 @@ fn block(
         ends,
         tables,
         above,
+        methods,
         store,
         slots,
         tally,
@@ -592,6 +659,7 @@ fn items(
     ends: &[u16],
     tables: &[u16],
     above: &[u64],
+    methods: &[u16],
     store: &mut [u32],
     slots: &mut [u32],
     tally: &mut [u32; 3],
@@ -602,12 +670,12 @@ fn items(
     calls: u32,
     n: usize,
 ) -> u64
-    requires { ⌜ PreList (now rows) (now ends) (now tables) (now above) (now store)
+    requires { ⌜ PreList (now rows) (now ends) (now tables) (now above) (now methods) (now store)
         (now slots) at (place-of base scope top calls) (counts-in (now tally)) n ⌝ }
     ensures { λ r. ⌜ PostItems (now (rows .entry)) (now (ends .entry)) (now (tables .entry))
-        (now (above .entry)) (now (store .entry)) (now (slots .entry)) (now (store .exit))
-        (now (slots .exit)) at (place-of base scope top calls) (counts-in (now (tally .entry))) n nothing
-        (answered r (now (tally .exit))) ⌝ }
+        (now (above .entry)) (now (methods .entry)) (now (store .entry)) (now (slots .entry))
+        (now (store .exit)) (now (slots .exit)) at (place-of base scope top calls)
+        (counts-in (now (tally .entry))) n nothing (answered r (now (tally .exit))) ⌝ }
 {
     let mut r = 0;
     let mut next = at;
@@ -618,6 +686,7 @@ fn items(
             ends,
             tables,
             above,
+            methods,
             store,
             slots,
             tally,
@@ -643,6 +712,7 @@ fn args(
     ends: &[u16],
     tables: &[u16],
     above: &[u64],
+    methods: &[u16],
     store: &mut [u32],
     slots: &mut [u32],
     tally: &mut [u32; 3],
@@ -653,12 +723,12 @@ fn args(
     calls: u32,
     n: usize,
 ) -> u64
-    requires { ⌜ PreArgs (now rows) (now ends) (now tables) (now above) (now store)
+    requires { ⌜ PreArgs (now rows) (now ends) (now tables) (now above) (now methods) (now store)
         (now slots) at (place-of base scope top calls) (counts-in (now tally)) n ⌝ }
     ensures { λ r. ⌜ PostArgs (now (rows .entry)) (now (ends .entry)) (now (tables .entry))
-        (now (above .entry)) (now (store .entry)) (now (slots .entry)) (now (store .exit))
-        (now (slots .exit)) at (place-of base scope top calls) (counts-in (now (tally .entry))) n
-        (answered r (now (tally .exit))) ⌝ }
+        (now (above .entry)) (now (methods .entry)) (now (store .entry)) (now (slots .entry))
+        (now (store .exit)) (now (slots .exit)) at (place-of base scope top calls)
+        (counts-in (now (tally .entry))) n (answered r (now (tally .exit))) ⌝ }
 {
     let mut r = 0;
     let mut far = top;
@@ -670,6 +740,7 @@ fn args(
             ends,
             tables,
             above,
+            methods,
             store,
             slots,
             tally,
@@ -697,6 +768,7 @@ fn call(
     ends: &[u16],
     tables: &[u16],
     above: &[u64],
+    methods: &[u16],
     store: &mut [u32],
     slots: &mut [u32],
     tally: &mut [u32; 3],
@@ -706,13 +778,13 @@ fn call(
     top: usize,
     calls: u32,
 ) -> u64
-    requires { ⌜ PreEntered (now rows) (now ends) (now tables) (now above) (now store)
+    requires { ⌜ PreEntered (now rows) (now ends) (now tables) (now above) (now methods) (now store)
         (now slots) at (place-of base scope top calls) (counts-in (now tally)) ⌝ }
     requires { ⌜ getD (now rows) (at * 4) 0 ≡ code Q-call ⌝ }
     ensures { λ r. ⌜ PostNode (now (rows .entry)) (now (ends .entry)) (now (tables .entry))
-        (now (above .entry)) (now (store .entry)) (now (slots .entry)) (now (store .exit))
-        (now (slots .exit)) at (place-of base scope top calls) (counts-in (now (tally .entry)))
-        (answered r (now (tally .exit))) ⌝ }
+        (now (above .entry)) (now (methods .entry)) (now (store .entry)) (now (slots .entry))
+        (now (store .exit)) (now (slots .exit)) at (place-of base scope top calls)
+        (counts-in (now (tally .entry))) (answered r (now (tally .exit))) ⌝ }
 {
     let n = rows[at * 4 + 2] as usize;
     let r = args(
@@ -720,6 +792,7 @@ fn call(
         ends,
         tables,
         above,
+        methods,
         store,
         slots,
         tally,
@@ -736,26 +809,90 @@ fn call(
 
     let v = slots[top];
     let m = rows[at * 4 + 1] as usize;
-    let t = objects::find_body(rows, tables, store, tally, v, m, calls);
+    let t = objects::find_body(tables, methods, store, tally, v, m, n, calls);
     match t {
         Target::Fails(e) => e,
         Target::Body(b) => {
+            let size = ends[b] as usize - b;
+            let width = frame_width(size, n);
+            if slots.len() < top + width + WAITING * most_nested(size) {
+                return enter_fresh(
+                    rows,
+                    ends,
+                    tables,
+                    above,
+                    methods,
+                    store,
+                    slots,
+                    tally,
+                    b,
+                    n,
+                    top,
+                    width,
+                    calls + 1,
+                );
+            }
             eval(
                 rows,
                 ends,
                 tables,
                 above,
+                methods,
                 store,
                 slots,
                 tally,
                 b,
                 top,
                 n,
-                top + FRAME_ROOM,
+                top + width,
                 calls + 1,
             )
         }
     }
+}
+
+// The same with slots of its own, which `this` and the arguments are copied to.
+fn enter_fresh(
+    rows: &[u32],
+    ends: &[u16],
+    tables: &[u16],
+    above: &[u64],
+    methods: &[u16],
+    store: &mut [u32],
+    slots: &[u32],
+    tally: &mut [u32; 3],
+    b: usize,
+    n: usize,
+    top: usize,
+    width: usize,
+    calls: u32,
+) -> u64
+    requires { ⌜ PreEnter (now rows) (now ends) (now tables) (now above) (now methods) (now store) (now slots)
+        b
+        n top calls (counts-in (now tally)) ⌝ }
+    requires { ⌜ width ≡ frame-width (getD (now ends) b 0 - b) n ⌝ }
+    ensures { λ r. ⌜ PostEnter (now (rows .entry)) (now (ends .entry)) (now (tables .entry))
+        (now (above .entry)) (now (methods .entry)) (now (store .entry)) (now (slots .entry))
+        (now (store .exit)) (now (slots .entry)) b n top calls (counts-in (now (tally .entry)))
+        (answered r (now (tally .exit))) ⌝ }
+{
+    let mut fresh = [0u32; SEGMENT];
+    copy_slots(slots, &mut fresh, top, n + 1);
+    eval(
+        rows,
+        ends,
+        tables,
+        above,
+        methods,
+        store,
+        &mut fresh,
+        tally,
+        b,
+        0,
+        n,
+        width,
+        calls,
+    )
 }
 
 // The start block, at a row, from the first state.
@@ -764,14 +901,16 @@ fn run_start(
     ends: &[u16],
     tables: &[u16],
     above: &[u64],
+    methods: &[u16],
     store: &mut [u32],
     slots: &mut [u32],
     at: usize,
     fuel: u32,
 ) -> Ran
-    requires { ⌜ PreRun (now rows) (now ends) (now tables) (now above) (now slots) at ⌝ }
+    requires { ⌜ PreRun (now rows) (now ends) (now tables) (now above) (now methods) (now slots) at ⌝ }
     ensures { λ r. ⌜ PostRun (now (rows .entry)) (now (ends .entry)) (now (tables .entry))
-        (now (above .entry)) (now (store .entry)) (now (slots .entry)) (now (store .exit)) at fuel r ⌝ }
+        (now (above .entry)) (now (methods .entry)) (now (store .entry)) (now (slots .entry))
+        (now (store .exit)) at fuel r ⌝ }
 {
     let mut tally = [0u32; 3];
     tally[0] = fuel;
@@ -780,6 +919,7 @@ fn run_start(
         ends,
         tables,
         above,
+        methods,
         store,
         slots,
         &mut tally,
@@ -830,17 +970,28 @@ fn run_with(
     ends: &[u16],
     tables: &[u16],
     above: &[u64],
+    methods: &[u16],
     store: &mut [u32],
     slots: &mut [u32],
     fuel: u32,
 ) -> Run
-    requires { ⌜ PreChecked (now rows) (now ends) (now tables) (now above) ⌝ }
-    requires { ⌜ slots-room ≤ length (now slots) ⌝ }
+    requires { ⌜ PreChecked (now rows) (now ends) (now tables) (now above) (now methods) ⌝ }
+    requires { ⌜ call-room ≤ length (now slots) ⌝ }
     ensures { λ r. ⌜ PostChecked (now (rows .entry)) (now (ends .entry)) (now (tables .entry))
-        (now (above .entry)) (now (store .entry)) (now (store .exit)) fuel r ⌝ }
+        (now (above .entry)) (now (methods .entry)) (now (store .entry)) (now (store .exit)) fuel r ⌝ }
 {
     let start = objects::find_letter(rows, 0, START);
-    let r = run_start(rows, ends, tables, above, store, slots, start + 1, fuel);
+    let r = run_start(
+        rows,
+        ends,
+        tables,
+        above,
+        methods,
+        store,
+        slots,
+        start + 1,
+        fuel,
+    );
     let o = r.outcome;
     Run {
         outcome: end_told(o),
@@ -850,19 +1001,79 @@ fn run_with(
     }
 }
 
-// The run of a checked program.
+// The run of a checked program of at most 32 rows.
+fn run_short(
+    rows: &[u32],
+    ends: &[u16],
+    tables: &[u16],
+    above: &[u64],
+    methods: &[u16],
+    store: &mut [u32],
+    fuel: u32,
+) -> Run
+    requires { ⌜ PreChecked (now rows) (now ends) (now tables) (now above) (now methods) ⌝ }
+    ensures { λ r. ⌜ PostChecked (now (rows .entry)) (now (ends .entry)) (now (tables .entry))
+        (now (above .entry)) (now (methods .entry)) (now (store .entry)) (now (store .exit)) fuel r ⌝ }
+{
+    let mut slots = [0u32; SHORT_SEGMENT];
+    run_with(rows, ends, tables, above, methods, store, &mut slots, fuel)
+}
+
+// The run of a checked program of at most 1,024 rows.
+fn run_few(
+    rows: &[u32],
+    ends: &[u16],
+    tables: &[u16],
+    above: &[u64],
+    methods: &[u16],
+    store: &mut [u32],
+    fuel: u32,
+) -> Run
+    requires { ⌜ PreChecked (now rows) (now ends) (now tables) (now above) (now methods) ⌝ }
+    ensures { λ r. ⌜ PostChecked (now (rows .entry)) (now (ends .entry)) (now (tables .entry))
+        (now (above .entry)) (now (methods .entry)) (now (store .entry)) (now (store .exit)) fuel r ⌝ }
+{
+    let mut slots = [0u32; SEGMENT];
+    run_with(rows, ends, tables, above, methods, store, &mut slots, fuel)
+}
+
+// The run of a checked program of any number of rows.
+fn run_many(
+    rows: &[u32],
+    ends: &[u16],
+    tables: &[u16],
+    above: &[u64],
+    methods: &[u16],
+    store: &mut [u32],
+    fuel: u32,
+) -> Run
+    requires { ⌜ PreChecked (now rows) (now ends) (now tables) (now above) (now methods) ⌝ }
+    ensures { λ r. ⌜ PostChecked (now (rows .entry)) (now (ends .entry)) (now (tables .entry))
+        (now (above .entry)) (now (methods .entry)) (now (store .entry)) (now (store .exit)) fuel r ⌝ }
+{
+    let mut slots = [0u32; LONG_SEGMENT];
+    run_with(rows, ends, tables, above, methods, store, &mut slots, fuel)
+}
+
+// The run of a checked program. Few rows pay for a short segment of slots alone.
 pub fn run_checked(
     rows: &[u32],
     ends: &[u16],
     tables: &[u16],
     above: &[u64],
+    methods: &[u16],
     store: &mut [u32],
     fuel: u32,
 ) -> Run
-    requires { ⌜ PreChecked (now rows) (now ends) (now tables) (now above) ⌝ }
+    requires { ⌜ PreChecked (now rows) (now ends) (now tables) (now above) (now methods) ⌝ }
     ensures { λ r. ⌜ PostChecked (now (rows .entry)) (now (ends .entry)) (now (tables .entry))
-        (now (above .entry)) (now (store .entry)) (now (store .exit)) fuel r ⌝ }
+        (now (above .entry)) (now (methods .entry)) (now (store .entry)) (now (store .exit)) fuel r ⌝ }
 {
-    let mut slots = [0u32; SLOTS_ROOM];
-    run_with(rows, ends, tables, above, store, &mut slots, fuel)
+    if rows.len() <= SHORT_NUMBERS {
+        return run_short(rows, ends, tables, above, methods, store, fuel);
+    }
+    if rows.len() <= FEW_NUMBERS {
+        return run_few(rows, ends, tables, above, methods, store, fuel);
+    }
+    run_many(rows, ends, tables, above, methods, store, fuel)
 }

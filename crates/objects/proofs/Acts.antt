@@ -46,11 +46,11 @@ truth-of (Truth b) h e = (b, refl)
 truth-of (Object j) h e = absurd (⊎-elim (λ e. eqb-false 2 0 refl e) (λ e. eqb-false 2 1 refl e) h)
 
 -- a table's number for something that may not be there
-pub place-none : (r : Option ℕ) → stored-place r ≡ 0 → r ≡ none
+place-none : (r : Option ℕ) → stored-place r ≡ 0 → r ≡ none
 place-none none e = refl
 place-none (some i) e = absurd (omega arith)
 
-pub place-some : (r : Option ℕ) (p : ℕ) → p ≡ stored-place r → (p ≡ 0 → ⊥) → r ≡ some (p - 1)
+place-some : (r : Option ℕ) (p : ℕ) → p ≡ stored-place r → (p ≡ 0 → ⊥) → r ≡ some (p - 1)
 place-some none p e h = absurd (h e)
 place-some (some i) p e h = ap some (omega arith)
 
@@ -100,19 +100,19 @@ module _ {T s : List ℕ} {v : Value} (x : ℕ) {f : ℕ} {n : Counts} (stands :
   pub load-null : is-null-value (value v) ≡ true → PostLoad T s (decoded x) f n (outcome 4294967297)
   unfolding bare
   load-null e = load-told stands outcome-null-pointer
-      (record { acts = λ R E A P h snd. acts-same n (Raised 1) snd tt (λ γ k. rw (null-of v e)) })
+      (record { acts = λ R A P h snd. acts-same n (Raised 1) snd tt (λ γ k. rw (null-of v e)) })
 
   pub load-truth : OneOf (0 ∷ 1 ∷ []) (tagOf the-type v) → is-null-value (value v) ≡ false
       → PostLoad T s (decoded x) f n (outcome 4294967296)
   unfolding bare
   load-truth h e = load-told stands outcome-stuck
-      (record { acts = λ R E A P _ snd. acts-same n Stuck snd tt (λ γ k. rw (truth-of v h e .1)) })
+      (record { acts = λ R A P _ snd. acts-same n Stuck snd tt (λ γ k. rw (truth-of v h e .1)) })
 
   pub load-past : (j : ℕ) → v ≡ Object j → n .made ≤ j → PostLoad T s (decoded x) f n (outcome 4294967296)
   unfolding bare
   load-past j e h = load-told stands outcome-stuck
       (record {
-        acts = λ R E A P _ snd.
+        acts = λ R A P _ snd.
             acts-same n Stuck snd tt (λ γ k. rw (ap value e, heap-past (world P) (n .made) s j h));
       })
 
@@ -120,7 +120,7 @@ module _ {T s : List ℕ} {v : Value} (x : ℕ) {f : ℕ} {n : Counts} (stands :
       → getD T (getD s (j * 18) 0 * 576 + f) 0 ≡ 0 → PostLoad T s (decoded x) f n (outcome 4294967296)
   unfolding bare
   load-missing j e h l z = load-told stands outcome-stuck (record {
-    acts = λ R E A P hold snd.
+    acts = λ R A P hold snd.
         let q = place-none (place f (world P .fields (getD s (j * 18) 0)))
         (sym (hold .tables .places (getD s (j * 18) 0) f (snd .declared j h) l) ∙ z) in
         acts-same n Stuck snd tt (λ γ k. rw (ap value e, heap-at (world P) (n .made) s j h, q));
@@ -134,7 +134,7 @@ module _ {T s : List ℕ} {v : Value} (x : ℕ) {f : ℕ} {n : Counts} (stands :
   load-at j e h l z m =
       let number : ℕ = getD s (j * 18 + getD T (getD s (j * 18) 0 * 576 + f) 0) 0 in
       load-told stands (outcome-value number m) (record {
-        acts = λ R E A P hold snd.
+        acts = λ R A P hold snd.
             let c : ℕ = getD s (j * 18) 0 in
             let p : ℕ = getD T (c * 576 + f) 0 in
             let i : ℕ = p - 1 in
@@ -159,20 +159,20 @@ module _ {T s : List ℕ} {v : Value} (x w : ℕ) {f : ℕ} {n : Counts} (stands
       → PostSave T s s (decoded x) (decoded w) f n (outcome 4294967297)
   unfolding bare
   save-null e = save-told stands outcome-null-pointer
-      (record { acts = λ R E A P h snd. acts-same n (Raised 1) snd tt (λ γ k. rw (null-of v e)) })
+      (record { acts = λ R A P h snd. acts-same n (Raised 1) snd tt (λ γ k. rw (null-of v e)) })
 
   pub save-truth : OneOf (0 ∷ 1 ∷ []) (tagOf the-type v) → is-null-value (value v) ≡ false
       → PostSave T s s (decoded x) (decoded w) f n (outcome 4294967296)
   unfolding bare
   save-truth h e = save-told stands outcome-stuck
-      (record { acts = λ R E A P _ snd. acts-same n Stuck snd tt (λ γ k. rw (truth-of v h e .1)) })
+      (record { acts = λ R A P _ snd. acts-same n Stuck snd tt (λ γ k. rw (truth-of v h e .1)) })
 
   pub save-past : (j : ℕ) → v ≡ Object j → n .made ≤ j
       → PostSave T s s (decoded x) (decoded w) f n (outcome 4294967296)
   unfolding bare
   save-past j e h = save-told stands outcome-stuck
       (record {
-        acts = λ R E A P _ snd.
+        acts = λ R A P _ snd.
             acts-same n Stuck snd tt (λ γ k. rw (ap value e, heap-past (world P) (n .made) s j h));
       })
 
@@ -181,7 +181,7 @@ module _ {T s : List ℕ} {v : Value} (x w : ℕ) {f : ℕ} {n : Counts} (stands
       → PostSave T s s (decoded x) (decoded w) f n (outcome 4294967296)
   unfolding bare
   save-missing j e h l z = save-told stands outcome-stuck (record {
-    acts = λ R E A P hold snd.
+    acts = λ R A P hold snd.
         let q = place-none (place f (world P .fields (getD s (j * 18) 0)))
         (sym (hold .tables .places (getD s (j * 18) 0) f (snd .declared j h) l) ∙ z) in
         acts-same n Stuck snd tt (λ γ k. rw (ap value e, heap-at (world P) (n .made) s j h, q));
@@ -193,7 +193,7 @@ module _ {T s : List ℕ} {v : Value} (x w : ℕ) {f : ℕ} {n : Counts} (stands
       (outcome w)
   unfolding bare
   save-at j e h l z m = save-told stands (outcome-value w m) (record {
-    acts = λ R E A P hold snd.
+    acts = λ R A P hold snd.
         let c : ℕ = getD s (j * 18) 0 in
         let p : ℕ = getD T (c * 576 + f) 0 in
         let i : ℕ = p - 1 in
@@ -287,7 +287,7 @@ module _ {A s : List ℕ} {v : Value} (x : ℕ) {c : ℕ} {n : Counts} (stands :
   unfolding bare
   cast-null e m = cast-told stands (passed x stands m)
       (record {
-        acts = λ R E T P h snd d.
+        acts = λ R T P h snd d.
             acts-same n (Gave v) snd (small-passed x stands m) (λ γ k. rw (null-of v e));
       })
 
@@ -295,13 +295,13 @@ module _ {A s : List ℕ} {v : Value} (x : ℕ) {c : ℕ} {n : Counts} (stands :
       → PostCast A s (decoded x) c n (outcome 4294967296)
   unfolding bare
   cast-truth h e = cast-told stands outcome-stuck
-      (record { acts = λ R E T P _ snd d. acts-same n Stuck snd tt (λ γ k. rw (truth-of v h e .1)) })
+      (record { acts = λ R T P _ snd d. acts-same n Stuck snd tt (λ γ k. rw (truth-of v h e .1)) })
 
   pub cast-past : (j : ℕ) → v ≡ Object j → n .made ≤ j → PostCast A s (decoded x) c n (outcome 4294967296)
   unfolding bare
   cast-past j e h = cast-told stands outcome-stuck
       (record {
-        acts = λ R E T P _ snd d.
+        acts = λ R T P _ snd d.
             acts-same n Stuck snd tt (λ γ k. rw (ap value e, heap-past (world P) (n .made) s j h));
       })
 
@@ -309,7 +309,7 @@ module _ {A s : List ℕ} {v : Value} (x : ℕ) {c : ℕ} {n : Counts} (stands :
       → x < 4294967296 → PostCast A s (decoded x) c n (outcome x)
   unfolding bare
   cast-passes j e h t m = cast-told stands (passed x stands m) (record {
-    acts = λ R E T P hold snd d.
+    acts = λ R T P hold snd d.
         let q = sym (hold .below (getD s (j * 18) 0) c (snd .declared j h) d) ∙ t in
         acts-same n (Gave v) snd (small-passed x stands m)
         (λ γ k. rw (ap value e, heap-at (world P) (n .made) s j h, q));
@@ -319,7 +319,7 @@ module _ {A s : List ℕ} {v : Value} (x : ℕ) {c : ℕ} {n : Counts} (stands :
       → PostCast A s (decoded x) c n (outcome 4294967298)
   unfolding bare
   cast-fails j e h t = cast-told stands outcome-bad-cast (record {
-    acts = λ R E T P hold snd d.
+    acts = λ R T P hold snd d.
         let q = sym (hold .below (getD s (j * 18) 0) c (snd .declared j h) d) ∙ t in
         acts-same n (Raised 2) snd tt (λ γ k. rw (ap value e, heap-at (world P) (n .made) s j h, q));
   })

@@ -33,7 +33,7 @@ use Rattle.objects.proofs.Fresh.{Renewed, renewed, fields-filled, store
 abbrev kept-in : List ℕ → ℕ → ℕ
 kept-in T c = getD T (getD T (c * 576 + 514) 0 * 576 + 515) 0
 
-module _ (R T s : List ℕ) (n : Counts) {E A : List ℕ} {P : List Class} (hold : Holds R E T A P)
+module _ (R T s : List ℕ) (n : Counts) {A : List ℕ} {P : List Class} (hold : Holds R T A P)
     (snd : Sound P (n .made) s) (j : ℕ) (h : j < n .made) where
   -- the fields that R keeps; the object has them
   kept-count : kept-in T (getD s (j * 18) 0) ≡ length (world P .fields (world P .root (getD s (j * 18) 0)))
@@ -55,13 +55,13 @@ module _ (R T s : List ℕ) (n : Counts) {E A : List ℕ} {P : List Class} (hold
 module _ {R T s : List ℕ} {v : Value} {d : ℕ} {n : Counts} where
   pub change-null : is-null-value (value v) ≡ true → Small v → PostChange R T s s v d n (answer (Gave v) n)
   unfolding bare
-  change-null e m = record { acts = λ E A P h snd _. acts-same n (Gave v) snd m (λ γ k. rw (null-of v e)) }
+  change-null e m = record { acts = λ A P h snd _. acts-same n (Gave v) snd m (λ γ k. rw (null-of v e)) }
 
   pub change-truth : OneOf (0 ∷ 1 ∷ []) (tagOf the-type v) → is-null-value (value v) ≡ false
       → PostChange R T s s v d n (answer (outcome 4294967296) n)
   unfolding bare outcome
   change-truth h e = record {
-    acts = λ E A P _ snd _. acts-same n Stuck snd tt
+    acts = λ A P _ snd _. acts-same n Stuck snd tt
         (λ γ k. rw (truth-of v h e .1));
   }
 
@@ -69,7 +69,7 @@ module _ {R T s : List ℕ} {v : Value} {d : ℕ} {n : Counts} where
       → PostChange R T s s v d n (answer (outcome 4294967296) n)
   unfolding bare outcome
   change-past j e h = record {
-    acts = λ E A P _ snd _. acts-same n Stuck snd tt
+    acts = λ A P _ snd _. acts-same n Stuck snd tt
         (λ γ k. rw (ap value e, heap-past (world P) (n .made) s j h));
   }
 
@@ -78,7 +78,7 @@ module _ {R T s : List ℕ} {v : Value} {d : ℕ} {n : Counts} where
       → PostChange R T s s v d n (answer (outcome 4294967296) n)
   unfolding bare outcome
   change-few j e h few = record {
-    acts = λ E A P hold snd dd.
+    acts = λ A P hold snd dd.
         let x : ℕ = length (world P .fields (world P .root (getD s (j * 18) 0))) in
         let z : leb x (length (world P .fields d)) ≡ false
         = lt-leb x (length (world P .fields d))
@@ -94,7 +94,7 @@ module _ {R T s : List ℕ} {v : Value} {d : ℕ} {n : Counts} where
       (answer (Gave (Object j)) (record { left = n .left; made = n .made; changes = n .changes + 1 }))
   unfolding bare
   change-made s₁ j e h many m w = record {
-    acts = λ E A P hold snd dd.
+    acts = λ A P hold snd dd.
         let made : ℕ = n .made in
         let s′ : List ℕ = set s₁ (j * 18) d in
         let c : ℕ = getD s (j * 18) 0 in

@@ -1,18 +1,23 @@
 -- Laws of the first row with a letter, and of the method that Q seeks. Assumes nothing.
-use mathlib.Core.Path.{_≡_, refl, sym, ap, _∙_}
+use mathlib.Core.Path.{_≡_, refl, sym, ap, _∙_, subst}
 use mathlib.Core.Bool.{true, false}
 use mathlib.Core.Logic.{⊎-elim}
 use mathlib.Core.Option.{Option, none, some}
 use mathlib.Core.List.{List, [], _∷_}
 use Prim.Native.Nat.{ℕ, _+_, _-_, _*_, _≤_, _<_}
 use native.Mathlib.Omega.{arith}
+use borrow.Author.Tests.{eq-eqb, ne-eqb}
 use types.Run.{OneOf}
 use denote.Enum.Declared.{tagOf}
 use lib.ListN.{length, getD}
 use Rattle.language.specs.Tree.{Class}
 use Rattle.language.specs.World.{Method}
-use Rattle.language.specs.Program.{world}
-use Rattle.language.specs.ClassTables.{method-row}
+use Rattle.language.specs.Program.{world, body-in}
+use Rattle.language.specs.ClassTables.{method-number, stored-place}
+use Rattle.language.specs.MethodTables.{placed-methods}
+use Rattle.language.specs.Lists.{map-option, nth-lt}
+use Rattle.language.specs.Encoded.{Encoded}
+use Rattle.language.proofs.Methods.{method-found}
 use Rattle.language.specs.Evaluation.{call-at}
 use Rattle.objects.specs.Values.{is-null-value}
 use Rattle.objects.specs.declared.Value.{Value}
@@ -20,14 +25,14 @@ use Rattle.objects.specs.declared.Value.the-variants.{Object}
 use Rattle.objects.specs.Values.{Outcome, Counts, value, decoded, outcome}
 use Rattle.objects.specs.Values.{bare}
 use Rattle.objects.specs.declared.Target.the-variants.{Body, Fails}
-use Rattle.objects.specs.Holding.{Holds, Sound, Linked, absent, present, BodyAt}
-use Rattle.objects.specs.Contracts.{PreFind, PostFind, NotFound, SomeLetter, LetterFrom}
+use Rattle.objects.specs.Holding.{Holds, HoldsMethods, Sound}
+use Rattle.objects.specs.Contracts.{PreFind, PostFind, NotFound, LetterFrom}
 use Rattle.objects.proofs.Value.{the-type}
 use Rattle.objects.proofs.Values.{outcome-stuck}
 use Rattle.objects.proofs.Values.{outcome-null-pointer, outcome-deep}
 use Rattle.objects.proofs.Nth.{lt-or}
 use Rattle.objects.proofs.Objects.{object-at, heap-at, heap-past}
-use Rattle.objects.proofs.Acts.{null-of, truth-of, place-none, place-some}
+use Rattle.objects.proofs.Acts.{null-of, truth-of}
 
 -- the first row with a letter
 pub not-past : {R : List ℕ} {x row found : ℕ} → LetterFrom R x row found → (b : ℕ)
@@ -50,145 +55,170 @@ same-letter {a = a} {b} p q =
     (λ (k : a ≤ b). omega arith) (lt-or b a)) (lt-or a b)
 
 -- the method sought
-pub record MethodSpot (R T s : List ℕ) (j m : ℕ) : Type 0 where
+pub record MethodSpot (T s : List ℕ) (j : ℕ) : Type 0 where
   pub class : getD s (j * 18) 0 * 576 + 576 ≤ length T
   pub room : j * 18 + 18 ≤ length s
 
-pub method-spot : {R T s : List ℕ} {m made : ℕ} (p : PreFind R T s m made) (j : ℕ) → j < made
-    → MethodSpot R T s j m
-method-spot {s = s} p j h =
-    record {
-      class = omega (arith, p .holds .tables .long, p .sound .declared j h);
-      room = omega (arith, p .sound .stored);
-    }
+-- what the table of classes has for method m of object j: 0, or the method's number and 1 more
+abbrev pub number-in : List ℕ → List ℕ → ℕ → ℕ → ℕ
+number-in T s j m = getD T (getD s (j * 18) 0 * 576 + 256 + m) 0
 
-linked-none : {R E : List ℕ} {k : ℕ} {r : Option ℕ} {M : Option Method} → Linked R E k r M → r ≡ none
-    → M ≡ none
-linked-none absent e = refl
-linked-none (present x) e = let z : _≡_ {A = ℕ} 0 1 = cc in absurd (omega arith)
+-- The method of class k under name m, where the table has i for its number.
+record Sought (P : List Class) (M : List ℕ) (k m i : ℕ) : Type 0 where
+  found : Method
+  method : world P .method k m ≡ some found
+  number : found .number ≡ i
+  there : i * 4 + 4 ≤ length M
+  parameters : getD M (i * 4 + 2) 0 ≡ length (found .parameters)
 
-linked-some : {R E : List ℕ} {k : ℕ} {r : Option ℕ} {M : Option Method} {x : ℕ} → Linked R E k r M
-    → r ≡ some x → (N : Method) × (M ≡ some N) × BodyAt R E k x N
-linked-some absent e = let z : _≡_ {A = ℕ} 0 1 = cc in absurd (omega arith)
-linked-some {R} {E} {k} {x = x} (present {r} {M} y) e = let z : r ≡ x = cc in (M, refl, rw z at y)
+number-none : (o : Option Method) → stored-place (map-option (λ (N : Method). N .number) o) ≡ 0 → o ≡ none
+number-none none e = refl
+number-none (some N) e = absurd (omega arith)
 
--- where the first B line is sought
-pub pre-body : {R T s : List ℕ} {m made : ℕ} (p : PreFind R T s m made) (j : ℕ) → j < made
-    → (getD T (getD s (j * 18) 0 * 576 + 256 + m) 0 ≡ 0 → ⊥)
-    → SomeLetter R 66 (getD T (getD s (j * 18) 0 * 576 + 256 + m) 0)
-pre-body {R} {T} {s} {m} p j h z =
-    let c : ℕ = getD s (j * 18) 0 in
-    let d = p .sound .declared j h in
-    let r : ℕ = getD T (c * 576 + 256 + m) 0 in
-    let e = place-some (method-row (p .P) c m) r (p .holds .tables .methods c m d (p .name)) z in
-    let x = linked-some (p .holds .methods c m d) e .2 in
-    let g : r - 1 + 1 ≡ r = omega arith in
-    record {
-      found = x .body;
-      from = record {
-        later = omega (arith, x .later);
-        short = x .short;
-        between = λ i a. x .between i (omega arith);
-        letter = x .block;
-      };
-    }
+number-some : (o : Option Method) (r : ℕ) → r ≡ stored-place (map-option (λ (N : Method). N .number) o)
+    → (r ≡ 0 → ⊥)
+    → (N : Method) × (o ≡ some N) × (N .number ≡ r - 1)
+number-some none r e h = absurd (h e)
+number-some (some N) r e h = (N, refl, omega arith)
 
-not-found : {R T s : List ℕ} {v v′ : Value} {m : ℕ} {n : Counts} {calls : ℕ} {o : Outcome} {r : ℕ} → v ≡ v′
+module _ {R T A : List ℕ} {P : List Class} (hold : Holds R T A P) where
+  none-sought : (k m : ℕ) → k ≤ length P → m < 256 → getD T (k * 576 + 256 + m) 0 ≡ 0
+      → world P .method k m ≡ none
+  unfolding method-number
+  none-sought k m l h z = number-none (world P .method k m) (sym (hold .tables .methods k m l h) ∙ z)
+
+  sought : {E M : List ℕ} → HoldsMethods R E M P → (k m : ℕ) → k ≤ length P → m < 256
+      → (getD T (k * 576 + 256 + m) 0 ≡ 0 → ⊥)
+      → Sought P M k m (getD T (k * 576 + 256 + m) 0 - 1)
+  unfolding method-number
+  sought w k m l h z =
+      let x = number-some (world P .method k m) (getD T (k * 576 + 256 + m) 0) (hold .tables .methods k m l h)
+      z in
+      let f = method-found P k m (x .0) (x .1) in
+      let t = w .tables in
+      let few = nth-lt (placed-methods P) (x .0 .number) (f .placed) (f .there) in
+      let many = t .parameters (x .0 .number) (f .placed) (f .there) ∙ ap length (sym (f .parameters)) in
+      record {
+        found = x .0;
+        method = x .1;
+        number = x .2;
+        there = omega (arith, t .long, few, x .2);
+        parameters = rw (x .2) at many;
+      }
+
+module _ {T M s : List ℕ} {m made : ℕ} (p : PreFind T M s m made) (j : ℕ) (h : j < made) where
+  pub method-spot : MethodSpot T s j
+  method-spot =
+      record {
+        class = omega (arith, p .holds .tables .long, p .sound .declared j h);
+        room = omega (arith, p .sound .stored);
+      }
+
+  -- where the table of methods has the method's numbers
+  pub number-spot : (number-in T s j m ≡ 0 → ⊥) → (number-in T s j m - 1) * 4 + 4 ≤ length M
+  number-spot z =
+      sought (p .holds) (p .methods) (getD s (j * 18) 0) m (p .sound .declared j h) (p .name) z .there
+
+not-found : {T M s : List ℕ} {v v′ : Value} {m given : ℕ} {n : Counts} {calls : ℕ} {o : Outcome} {r : ℕ}
+    → v ≡ v′
     → outcome r ≡ o
-    → ((E A : List ℕ) (P : List Class) → Holds R E T A P → Sound P (n .made) s → NotFound P s v m n calls o)
-    → PostFind R T s v′ m n calls (Fails r)
-not-found d e f = record { is = λ E A P h snd. rw (sym d, e) (f E A P h snd) }
+    → ((R E A : List ℕ) (P : List Class) → Holds R T A P → HoldsMethods R E M P → Sound P (n .made) s
+    → NotFound P s v m given n calls o)
+    → PostFind T M s v′ m given n calls (Fails r)
+not-found d e f = record { is = λ R E A P h w snd. rw (sym d, e) (f R E A P h w snd) }
 
-module _ {R T s : List ℕ} {v : Value} (x : ℕ) {m : ℕ} {n : Counts} {calls : ℕ} (stands : v ≡ decoded x) where
-  pub find-null : is-null-value (value v) ≡ true → PostFind R T s (decoded x) m n calls (Fails 4294967297)
-  unfolding bare
-  find-null e = not-found stands outcome-null-pointer (λ E A P h snd.
-      record {
-        small = tt;
-        is = λ L vs γ k. rw (null-of v e);
-        fails = λ w q. let z : _≡_ {A = ℕ} 0 1 = cc in omega arith;
-      })
-
-  pub find-truth : OneOf (0 ∷ 1 ∷ []) (tagOf the-type v) → is-null-value (value v) ≡ false
-      → PostFind R T s (decoded x) m n calls (Fails 4294967296)
-  unfolding bare
-  find-truth h e = not-found stands outcome-stuck (λ E A P _ snd.
-      record {
-        small = tt;
-        is = λ L vs γ k. rw (truth-of v h e .1);
-        fails = λ w q. let z : _≡_ {A = ℕ} 0 1 = cc in omega arith;
-      })
-
-  pub find-past : (j : ℕ) → v ≡ Object j → n .made ≤ j
-      → PostFind R T s (decoded x) m n calls (Fails 4294967296)
-  unfolding bare
-  find-past j e h = not-found stands outcome-stuck (λ E A P _ snd.
-      record {
-        small = tt;
-        is = λ L vs γ k. rw (ap value e, heap-past (world P) (n .made) s j h);
-        fails = λ w q. let z : _≡_ {A = ℕ} 0 1 = cc in omega arith;
-      })
-
-  pub find-missing : (j : ℕ) → v ≡ Object j → j < n .made → m < 256
-      → getD T (getD s (j * 18) 0 * 576 + 256 + m) 0 ≡ 0
-      → PostFind R T s (decoded x) m n calls (Fails 4294967296)
-  unfolding bare
-  find-missing j e h l z = not-found stands outcome-stuck (λ E A P hold snd.
-      let c : ℕ = getD s (j * 18) 0 in
-      let d = snd .declared j h in
-      let q = linked-none (hold .methods c m d)
-      (place-none (method-row P c m) (sym (hold .tables .methods c m d l) ∙ z)) in
-      record {
-        small = tt;
-        is = λ L vs γ k. rw (ap value e, heap-at (world P) (n .made) s j h, q);
-        fails = λ w q. let z : _≡_ {A = ℕ} 0 1 = cc in omega arith;
-      })
-
-  pub find-deep : (j : ℕ) → v ≡ Object j → j < n .made → m < 256
-      → (getD T (getD s (j * 18) 0 * 576 + 256 + m) 0 ≡ 0 → ⊥) → 64 ≤ calls
-      → PostFind R T s (decoded x) m n calls (Fails 4294967311)
-  unfolding bare call-at
-  find-deep j e h l z t = not-found stands outcome-deep (λ E A P hold snd.
-      let c : ℕ = getD s (j * 18) 0 in
-      let d = snd .declared j h in
-      let x = linked-some (hold .methods c m d)
-      (place-some (method-row P c m) (getD T (c * 576 + 256 + m) 0) (hold .tables .methods c m d l) z) in
-      let w : 64 - calls ≡ 0 = omega arith in
-      record {
-        small = (omega arith, omega arith);
-        is = λ L vs γ k. rw (ap value e, heap-at (world P) (n .made) s j h, x .1, w);
-        fails = λ w q. let z : _≡_ {A = ℕ} 0 1 = cc in omega arith;
-      })
-
-  pub find-found : (j b : ℕ) → v ≡ Object j → j < n .made → m < 256
-      → (getD T (getD s (j * 18) 0 * 576 + 256 + m) 0 ≡ 0 → ⊥) → calls < 64
-      → LetterFrom R 66 (getD T (getD s (j * 18) 0 * 576 + 256 + m) 0) b
-      → PostFind R T s (decoded x) m n calls (Body b)
-  find-found j b e h l z t f = record {
-    is = λ E A P hold snd.
-        let c : ℕ = getD s (j * 18) 0 in
-        let d = snd .declared j h in
-        let r : ℕ = getD T (c * 576 + 256 + m) 0 in
-        let x = linked-some (hold .methods c m d)
-        (place-some (method-row P c m) r (hold .tables .methods c m d l) z) in
-        let a = x .2 in
-        let g : LetterFrom R 66 r (a .body) =
+module _ {T M s : List ℕ} {v : Value} (x : ℕ) {m given : ℕ} {n : Counts} {calls : ℕ} (stands : v ≡ decoded x)
+  where
+    pub find-null : is-null-value (value v) ≡ true
+        → PostFind T M s (decoded x) m given n calls (Fails 4294967297)
+    unfolding bare
+    find-null e = not-found stands outcome-null-pointer (λ R E A P h w snd.
         record {
-          later = omega (arith, a .later);
-          short = a .short;
-          between = λ i o. a .between i (omega arith);
-          letter = a .block;
-        } in
-        let same : a .body ≡ b = same-letter g f in
+          small = tt;
+          is = λ L vs γ k q. rw (null-of v e);
+          fails = λ w q. let z : _≡_ {A = ℕ} 0 1 = cc in omega arith;
+        })
+
+    pub find-truth : OneOf (0 ∷ 1 ∷ []) (tagOf the-type v) → is-null-value (value v) ≡ false
+        → PostFind T M s (decoded x) m given n calls (Fails 4294967296)
+    unfolding bare
+    find-truth h e = not-found stands outcome-stuck (λ R E A P _ w snd.
         record {
-          j = j;
-          o = object-at (world P) s (j * 18);
-          M = x .0;
-          receiver = ap value (sym stands ∙ e);
-          known = λ γ k. heap-at (world P) (n .made) s j h;
-          method = x .1;
-          encoded = rw same at (a .encoded);
-          within = a .within;
-          allowed = t;
-        };
-  }
+          small = tt;
+          is = λ L vs γ k q. rw (truth-of v h e .1);
+          fails = λ w q. let z : _≡_ {A = ℕ} 0 1 = cc in omega arith;
+        })
+
+    pub find-past : (j : ℕ) → v ≡ Object j → n .made ≤ j
+        → PostFind T M s (decoded x) m given n calls (Fails 4294967296)
+    unfolding bare
+    find-past j e h = not-found stands outcome-stuck (λ R E A P _ w snd.
+        record {
+          small = tt;
+          is = λ L vs γ k q. rw (ap value e, heap-past (world P) (n .made) s j h);
+          fails = λ w q. let z : _≡_ {A = ℕ} 0 1 = cc in omega arith;
+        })
+
+    -- the receiver is object j
+    module _ (j : ℕ) (e : v ≡ Object j) (h : j < n .made) (l : m < 256) where
+      pub find-missing : number-in T s j m ≡ 0 → PostFind T M s (decoded x) m given n calls (Fails 4294967296)
+      unfolding bare
+      find-missing z = not-found stands outcome-stuck (λ R E A P hold w snd.
+          let q = none-sought hold (getD s (j * 18) 0) m (snd .declared j h) l z in
+          record {
+            small = tt;
+            is = λ L vs γ k many. rw (ap value e, heap-at (world P) (n .made) s j h, q);
+            fails = λ w q. let z : _≡_ {A = ℕ} 0 1 = cc in omega arith;
+          })
+
+      module _ (z : number-in T s j m ≡ 0 → ⊥) where
+        -- another number of arguments than the method has parameters
+        pub find-other : (getD M ((number-in T s j m - 1) * 4 + 2) 0 ≡ given → ⊥)
+            → PostFind T M s (decoded x) m given n calls (Fails 4294967296)
+        unfolding bare
+        find-other t = not-found stands outcome-stuck (λ R E A P hold w snd.
+            let y = sought hold w (getD s (j * 18) 0) m (snd .declared j h) l z in
+            record {
+              small = tt;
+              is = λ L vs γ k many.
+                  let d = ne-eqb (length vs) (length (y .found .parameters))
+                  (λ q. t (y .parameters ∙ (sym q ∙ many))) in
+                  rw (ap value e, heap-at (world P) (n .made) s j h, y .method, d);
+              fails = λ w q. let z : _≡_ {A = ℕ} 0 1 = cc in omega arith;
+            })
+
+        module _ (t : getD M ((number-in T s j m - 1) * 4 + 2) 0 ≡ given) where
+          pub find-deep : 64 ≤ calls → PostFind T M s (decoded x) m given n calls (Fails 4294967311)
+          unfolding bare call-at
+          find-deep a = not-found stands outcome-deep (λ R E A P hold w snd.
+              let y = sought hold w (getD s (j * 18) 0) m (snd .declared j h) l z in
+              let none-left : 64 - calls ≡ 0 = omega arith in
+              record {
+                small = (omega arith, omega arith);
+                is = λ L vs γ k many.
+                    let d = eq-eqb (length vs) (length (y .found .parameters))
+                    (many ∙ (sym t ∙ y .parameters)) in
+                    rw (ap value e, heap-at (world P) (n .made) s j h, y .method, d, none-left);
+                fails = λ w q. let z : _≡_ {A = ℕ} 0 1 = cc in omega arith;
+              })
+
+          pub find-found : calls < 64
+              → PostFind T M s (decoded x) m given n calls (Body (getD M ((number-in T s j m - 1) * 4 + 3) 0))
+          find-found a = record {
+            is = λ R E A P hold w snd.
+                let y = sought hold w (getD s (j * 18) 0) m (snd .declared j h) l z in
+                let b = w .bodies (getD s (j * 18) 0) m (y .found) (y .method) in
+                record {
+                  j = j;
+                  o = object-at (world P) s (j * 18);
+                  M = y .found;
+                  receiver = ap value (sym stands ∙ e);
+                  known = λ γ k. heap-at (world P) (n .made) s j h;
+                  method = y .method;
+                  parameters = sym t ∙ y .parameters;
+                  encoded = subst (λ (i : ℕ). Encoded R E (body-in P (y .found .number))
+                      (getD M (i * 4 + 3) 0)) (y .number) (b .encoded);
+                  within = b .within;
+                  allowed = a;
+                };
+          }

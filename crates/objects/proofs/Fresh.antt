@@ -29,7 +29,7 @@ use Rattle.objects.proofs.Objects.{values-at, values-length, object-at,
 use Rattle.objects.proofs.Objects.{heap-new}
 
 -- the first value of a field, by its number
-first-value : {R E T A : List ℕ} {P : List Class} → Holds R E T A P → (c i : ℕ) (f : Field) → c ≤ length P
+first-value : {R T A : List ℕ} {P : List Class} → Holds R T A P → (c i : ℕ) (f : Field) → c ≤ length P
     → nth (world P .fields c) i ≡ some f → i < length (world P .fields c)
     → value-of-number (first-of R T c i (getD T (c * 576 + 515) 0)) ≡ initial (f .type)
 unfolding first-of
@@ -39,7 +39,7 @@ first-value {T = T} h c i f d e l =
     (value-of-value-number (initial (f .type)))
 
 -- fields kept up to `from`, first values after it
-pub fields-filled : {R E T A : List ℕ} {P : List Class} → Holds R E T A P → (s s′ : List ℕ) (o c from m : ℕ)
+pub fields-filled : {R T A : List ℕ} {P : List Class} → Holds R T A P → (s s′ : List ℕ) (o c from m : ℕ)
     → c ≤ length P → from ≤ length (world P .fields c) → from ≤ m
     → o + 18 ≤ length s → length s′ ≡ length s
     → ((i : ℕ) → i < from → getD s′ (o + 1 + i) 0 ≡ getD s (o + 1 + i) 0)
@@ -47,7 +47,7 @@ pub fields-filled : {R E T A : List ℕ} {P : List Class} → Holds R E T A P �
     → map value-of-number (take (length (world P .fields c)) (drop (o + 1) s′))
     ≡ take from (map value-of-number (take m (drop (o + 1) s)))
     ++ initials (drop from (world P .fields c))
-fields-filled {R} {E} {T} {A} {P} h s s′ o c from m d l k room long kept first =
+fields-filled {R} {T} {A} {P} h s s′ o c from m d l k room long kept first =
     let fs : List Field = world P .fields c in
     let few : length fs ≤ 17 = h .counts c d in
     let old : List Meaning = take from (map value-of-number (take m (drop (o + 1) s))) in
@@ -127,13 +127,13 @@ drop-same s s′ n e f =
     ext-getD 0 (drop n s′) (drop n s) (simp (length-drop, e))
     (λ i h. getD-drop n s′ i 0 ∙ (f (n + i) (omega arith) ∙ sym (getD-drop n s i 0)))
 
-unused-first : {R E T A : List ℕ} {P : List Class} → Holds R E T A P → (c i : ℕ) → c ≤ length P
+unused-first : {R T A : List ℕ} {P : List Class} → Holds R T A P → (c i : ℕ) → c ≤ length P
     → length (world P .fields c) ≤ i → first-of R T c i (getD T (c * 576 + 515) 0) ≡ 0
 unfolding first-of
 unused-first {T = T} h c i d l =
     rw (le-leb (getD T (c * 576 + 515) 0) i (omega (arith, h .tables .counts c d)))
 
-module _ {R E T A : List ℕ} {P : List Class} (h : Holds R E T A P) (s s′ : List ℕ) (made made′ j c from : ℕ)
+module _ {R T A : List ℕ} {P : List Class} (h : Holds R T A P) (s s′ : List ℕ) (made made′ j c from : ℕ)
     (snd : Sound P made s) (r : Renewed R T s s′ (j * 18) c from)
     (d : c ≤ length P) (low : from ≤ length (world P .fields c)) (at : j < made′)
     (only : (i : ℕ) → i < made′ → (i < j) ⊎ (j < i) → i < made) (room : made′ * 18 ≤ length s)
@@ -204,7 +204,7 @@ pub new-full : (R T s : List ℕ) (c : ℕ) (n : Counts) → capacity s ≤ n .m
 unfolding bare outcome
 new-full R T s c n h =
     record {
-      acts = λ E A P F hold snd d.
+      acts = λ A P F hold snd d.
           acts-same n (Stopped 16) snd (omega arith, omega arith)
           (λ γ k. rw (heap-length (world P) (n .made) s, le-leb (capacity s) (n .made) h));
     }
@@ -228,7 +228,7 @@ pub new-made : (R T s s₁ : List ℕ) (c : ℕ) (n : Counts) → n .made < 6553
     (record { left = n .left; made = n .made + 1; changes = n .changes }))
 unfolding bare
 new-made R T s s₁ c n h room w = record {
-  acts = λ E A P F hold snd d.
+  acts = λ A P F hold snd d.
       let made : ℕ = n .made in
       let s′ : List ℕ = set s₁ (made * 18) c in
       let r : Renewed R T s s′ (made * 18) c 0 = renewed (made * 18) c 0 w (omega arith) room in

@@ -10,7 +10,7 @@ use Rattle.language.specs.Lists.{nth}
 use Rattle.language.specs.Frames.{Frame}
 use Rattle.language.specs.Tree.{new, count, Class}
 use Rattle.language.specs.World.{Method}
-use Rattle.language.specs.Program.{world}
+use Rattle.language.specs.Program.{world, body-in}
 use Rattle.language.specs.Encoded.{Encoded}
 use Rattle.language.specs.State.{Value as Meaning, object, State, Out}
 use Rattle.language.specs.Evaluation.{Limits, do-get, do-set, do-cast}
@@ -23,7 +23,7 @@ use Rattle.objects.specs.declared.Target.{Target}
 use Rattle.objects.specs.declared.Target.the-variants.{Body, Fails}
 use Rattle.objects.specs.Values.{value, Small, SmallOutcome, told, bare, Outcome, Gave, Counts, outcome}
 use Rattle.objects.specs.Values.{Answer, answer}
-use Rattle.objects.specs.Holding.{Within, first-of-type, Holds, Sound, view}
+use Rattle.objects.specs.Holding.{Within, frame-room, first-of-type, Holds, HoldsMethods, Sound, view}
 use Rattle.language.specs.Limits.{of-check, most-calls, numbers-an-object}
 use Rattle.language.specs.ClassTables.{class-width, count-place, rows-place}
 
@@ -78,15 +78,14 @@ pub record Acts (P : List Class) (s s′ : List ℕ) (n : Counts) (r : Answer) (
         → told (r .outcome) (view P s′ (r .counts) γ steps) ≡ bare (o (view P s n γ steps))
 
 pub record PreNew (R T s : List ℕ) (c made : ℕ) : Type 0 where
-  pub E : List ℕ
   pub A : List ℕ
   pub P : List Class
-  pub holds : Holds R E T A P
+  pub holds : Holds R T A P
   pub sound : Sound P made s
   pub declared : c ≤ length P
 
 pub record PostNew (R T s s′ : List ℕ) (c : ℕ) (n : Counts) (r : Answer) : Type 0 where
-  pub acts : (E A : List ℕ) (P : List Class) (F : ℕ) → Holds R E T A P → Sound P (n .made) s → c ≤ length P
+  pub acts : (A : List ℕ) (P : List Class) (F : ℕ) → Holds R T A P → Sound P (n .made) s → c ≤ length P
       → Acts P s s′ n r (λ t. do-new (world P) (with-limits F (capacity s)) c t)
 
 pub record PreChange (R T s : List ℕ) (v : Value) (d : ℕ) (n : Counts) : Type 0 where
@@ -95,36 +94,34 @@ pub record PreChange (R T s : List ℕ) (v : Value) (d : ℕ) (n : Counts) : Typ
   pub counted : n .changes + 1 ≤ 4294967295
 
 pub record PostChange (R T s s′ : List ℕ) (v : Value) (d : ℕ) (n : Counts) (r : Answer) : Type 0 where
-  pub acts : (E A : List ℕ) (P : List Class) → Holds R E T A P → Sound P (n .made) s → d ≤ length P
+  pub acts : (A : List ℕ) (P : List Class) → Holds R T A P → Sound P (n .made) s → d ≤ length P
       → Acts P s s′ n r (λ t. do-change (world P) d (value v) t)
 
 pub record PreObject (T s : List ℕ) (made : ℕ) : Type 0 where
   pub R : List ℕ
-  pub E : List ℕ
   pub A : List ℕ
   pub P : List Class
-  pub holds : Holds R E T A P
+  pub holds : Holds R T A P
   pub sound : Sound P made s
 
 pub record PostLoad (T s : List ℕ) (v : Value) (f : ℕ) (n : Counts) (r : Outcome) : Type 0 where
-  pub acts : (R E A : List ℕ) (P : List Class) → Holds R E T A P → Sound P (n .made) s
+  pub acts : (R A : List ℕ) (P : List Class) → Holds R T A P → Sound P (n .made) s
       → Acts P s s n (answer r n) (λ t. do-get (world P) f (value v) t)
 
 pub record PostSave (T s s′ : List ℕ) (v w : Value) (f : ℕ) (n : Counts) (r : Outcome) : Type 0 where
-  pub acts : (R E A : List ℕ) (P : List Class) → Holds R E T A P → Sound P (n .made) s
+  pub acts : (R A : List ℕ) (P : List Class) → Holds R T A P → Sound P (n .made) s
       → Acts P s s′ n (answer r n) (λ t. do-set (world P) f (value v) (value w) t)
 
 pub record PreCast (A s : List ℕ) (c made : ℕ) : Type 0 where
   pub R : List ℕ
-  pub E : List ℕ
   pub T : List ℕ
   pub P : List Class
-  pub holds : Holds R E T A P
+  pub holds : Holds R T A P
   pub sound : Sound P made s
   pub declared : c ≤ length P
 
 pub record PostCast (A s : List ℕ) (v : Value) (c : ℕ) (n : Counts) (r : Outcome) : Type 0 where
-  pub acts : (R E T : List ℕ) (P : List Class) → Holds R E T A P → Sound P (n .made) s → c ≤ length P
+  pub acts : (R T : List ℕ) (P : List Class) → Holds R T A P → Sound P (n .made) s → c ≤ length P
       → Acts P s s n (answer r n) (λ t. do-cast (world P) c (value v) t)
 
 -- ---- methods
@@ -140,40 +137,46 @@ pub record SomeLetter (R : List ℕ) (x row : ℕ) : Type 0 where
   pub found : ℕ
   pub from : LetterFrom R x row found
 
-pub record PreFind (R T s : List ℕ) (m made : ℕ) : Type 0 where
+pub record PreFind (T M s : List ℕ) (m made : ℕ) : Type 0 where
+  pub R : List ℕ
   pub E : List ℕ
   pub A : List ℕ
   pub P : List Class
-  pub holds : Holds R E T A P
+  pub holds : Holds R T A P
+  pub methods : HoldsMethods R E M P
   pub sound : Sound P made s
   pub name : m < 256
 
--- The method found: its receiver's object, and where its body is.
-pub record Found (R E s : List ℕ) (P : List Class) (v : Value) (m : ℕ) (n : Counts) (calls b : ℕ) : Type 0
-  where
-    pub j : ℕ
-    pub o : Thing
-    pub M : Method
-    pub receiver : value v ≡ object j
-    pub known : (γ : Frame Meaning) (steps : ℕ) → nth (view P s n γ steps .heap) j ≡ some o
-    pub method : world P .method (o .class-of) m ≡ some M
-    pub encoded : Encoded R E (M .body) b
-    pub within : (n : ℕ) → n ≤ of-check .parameters → Within (length P) n (of-check .nesting) (M .body)
-    pub allowed : calls < most-calls
-
-pub record NotFound (P : List Class) (s : List ℕ) (v : Value) (m : ℕ) (n : Counts) (calls : ℕ) (r : Outcome) :
+-- The method found, which has as many parameters as there are arguments: its receiver's object, and where its body is.
+pub record Found (R E s : List ℕ) (P : List Class) (v : Value) (m given : ℕ) (n : Counts) (calls b : ℕ) :
     Type 0 where
+  pub j : ℕ
+  pub o : Thing
+  pub M : Method
+  pub receiver : value v ≡ object j
+  pub known : (γ : Frame Meaning) (steps : ℕ) → nth (view P s n γ steps .heap) j ≡ some o
+  pub method : world P .method (o .class-of) m ≡ some M
+  pub parameters : given ≡ length (M .parameters)
+  pub encoded : Encoded R E (body-in P (M .number)) b
+  pub within : (n : ℕ) → n ≤ of-check .parameters
+      → Within (length P) frame-room n (of-check .nesting) (body-in P (M .number))
+  pub allowed : calls < most-calls
+
+pub record NotFound (P : List Class) (s : List ℕ) (v : Value) (m given : ℕ) (n : Counts) (calls : ℕ)
+    (r : Outcome) : Type 0 where
   pub small : SmallOutcome r
-  pub is : (L : Limits) (vs : List Meaning) (γ : Frame Meaning) (steps : ℕ)
+  pub is : (L : Limits) (vs : List Meaning) (γ : Frame Meaning) (steps : ℕ) → length vs ≡ given
       → told r (view P s n γ steps)
-      ≡ bare (do-call (world P) L (λ M s. call-at (world P) L (most-calls - calls) M s) m (value v) vs
-      (view P s n γ steps))
+      ≡ bare (do-call (world P) L (λ M s. call-at (world P) L (body-in P) (most-calls - calls) M s) m
+      (value v)
+      vs (view P s n γ steps))
   pub fails : (w : Value) → r ≡ Gave w → ⊥
 
-abbrev pub FindIs : List ℕ → List ℕ → List ℕ → List Class → Value → ℕ → Counts → ℕ → Target → Type 0
-FindIs R E s P v m n calls (Body b) = Found R E s P v m n calls b
-FindIs R E s P v m n calls (Fails o) = NotFound P s v m n calls (outcome o)
+abbrev pub FindIs : List ℕ → List ℕ → List ℕ → List Class → Value → ℕ → ℕ → Counts → ℕ → Target → Type 0
+FindIs R E s P v m given n calls (Body b) = Found R E s P v m given n calls b
+FindIs R E s P v m given n calls (Fails o) = NotFound P s v m given n calls (outcome o)
 
-pub record PostFind (R T s : List ℕ) (v : Value) (m : ℕ) (n : Counts) (calls : ℕ) (r : Target) : Type 0 where
-  pub is : (E A : List ℕ) (P : List Class) → Holds R E T A P → Sound P (n .made) s
-      → FindIs R E s P v m n calls r
+pub record PostFind (T M s : List ℕ) (v : Value) (m given : ℕ) (n : Counts) (calls : ℕ) (r : Target) : Type 0
+  where
+    pub is : (R E A : List ℕ) (P : List Class) → Holds R T A P → HoldsMethods R E M P → Sound P (n .made) s
+        → FindIs R E s P v m given n calls r

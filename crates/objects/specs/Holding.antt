@@ -1,7 +1,7 @@
 -- How rows and tables hold a program within the limits, and how a store holds its objects.
 use mathlib.Core.Path.{_≡_}
 use mathlib.Core.Bool.{cond}
-use mathlib.Core.Option.{Option, none, some}
+use mathlib.Core.Option.{some}
 use mathlib.Core.List.{List, [], _∷_}
 use Prim.Native.Nat.{ℕ, _+_, _-_, _*_, _≤_, _<_}
 use lib.Dec.{eqb}
@@ -12,15 +12,15 @@ use Rattle.language.specs.Tree.{DeclaredType, bool, class, Expr, literal}
 use Rattle.language.specs.Tree.{slot, is-null, get, cast, new, change, assign, set, call, choose, block}
 use Rattle.language.specs.Tree.{Exprs, nil, cons, count, Field, Class}
 use Rattle.language.specs.World.{Method}
-use Rattle.language.specs.Program.{world}
-use Rattle.language.specs.ClassTables.{ClassTables, method-row, class-width, rows-place}
+use Rattle.language.specs.Program.{world, body-in}
+use Rattle.language.specs.ClassTables.{ClassTables, class-width, rows-place}
+use Rattle.language.specs.MethodTables.{MethodTables, method-width, body-place}
 use Rattle.language.specs.Encoded.{Encoded}
 use Rattle.language.specs.State.{Value as Meaning, State, initial}
 use Rattle.language.specs.Store.{value-number, heap-of-numbers}
 use Rattle.classes.specs.Subclasses.{is-below}
 use Rattle.objects.specs.Values.{Counts}
 use Rattle.language.specs.Limits.{of-check, bool-number, numbers-an-object, most-objects}
-use Rattle.language.specs.Rows.{code, B-block}
 
 -- A type whose number stands for it: bool, or a class up to k.
 abbrev pub Named : ℕ → DeclaredType → Type 0
@@ -31,46 +31,33 @@ unfoldable pub NamedAll : ℕ → List DeclaredType → Type 0
 NamedAll k [] = Unit {0}
 NamedAll k (t ∷ ts) = Named k t × NamedAll k ts
 
--- How many slots a frame has room for, `this` included.
+-- How many slots a frame has at most, `this` included.
 abbrev pub frame-room : ℕ
 frame-room = 264
 
--- An expression within the limits: classes up to k, n slots beside `this` in scope, d nested nodes.
+-- An expression within bounds: classes up to k, a frame of w slots of which n beside `this` are in scope, d nested nodes.
 unfoldable mutual
-  pub Within : ℕ → ℕ → ℕ → Expr → Type 0
-  Within k n d (literal l) = Unit {0}
-  Within k n d (slot i) = Unit {0}
-  Within k n d (is-null e) = (0 < d) × Within k n (d - 1) e
-  Within k n d (get f e) = (0 < d) × (f < 256) × Within k n (d - 1) e
-  Within k n d (cast c e) = (0 < d) × (c ≤ k) × Within k n (d - 1) e
-  Within k n d (new c) = c ≤ k
-  Within k n d (change i c) = c ≤ k
-  Within k n d (assign i e) = (0 < d) × Within k n (d - 1) e
-  Within k n d (set f e e′) = (0 < d) × (f < 256) × Within k n (d - 1) e × Within k n (d - 1) e′
-  Within k n d (call m e es) =
-      (0 < d) × (m < 256) × (count es ≤ of-check .parameters) × Within k n (d - 1) e
-      × WithinAll k n (d - 1) es
-  Within k n d (choose a b c) = (0 < d) × Within k n (d - 1) a × Within k n (d - 1) b × Within k n (d - 1) c
-  Within k n d (block ts es) =
-      (0 < d) × (n + length ts + 1 ≤ frame-room) × NamedAll k ts × WithinAll k (n + length ts) (d - 1) es
+  pub Within : ℕ → ℕ → ℕ → ℕ → Expr → Type 0
+  Within k w n d (literal l) = Unit {0}
+  Within k w n d (slot i) = Unit {0}
+  Within k w n d (is-null e) = (0 < d) × Within k w n (d - 1) e
+  Within k w n d (get f e) = (0 < d) × (f < 256) × Within k w n (d - 1) e
+  Within k w n d (cast c e) = (0 < d) × (c ≤ k) × Within k w n (d - 1) e
+  Within k w n d (new c) = c ≤ k
+  Within k w n d (change i c) = c ≤ k
+  Within k w n d (assign i e) = (0 < d) × Within k w n (d - 1) e
+  Within k w n d (set f e e′) = (0 < d) × (f < 256) × Within k w n (d - 1) e × Within k w n (d - 1) e′
+  Within k w n d (call m e es) =
+      (0 < d) × (m < 256) × (count es ≤ of-check .parameters) × Within k w n (d - 1) e
+      × WithinAll k w n (d - 1) es
+  Within k w n d (choose a b c) = (0 < d) × Within k w n (d - 1) a × Within k w n (d - 1) b
+      × Within k w n (d - 1) c
+  Within k w n d (block ts es) =
+      (0 < d) × (n + length ts + 1 ≤ w) × NamedAll k ts × WithinAll k w (n + length ts) (d - 1) es
 
-  pub WithinAll : ℕ → ℕ → ℕ → Exprs → Type 0
-  WithinAll k n d nil = Unit {0}
-  WithinAll k n d (cons e es) = Within k n d e × WithinAll k n d es
-
--- Where the body of a method is whose M line is row r: at the first B line after it.
-pub record BodyAt (R E : List ℕ) (k r : ℕ) (M : Method) : Type 0 where
-  pub body : ℕ
-  pub later : r + 1 ≤ body
-  pub short : body * 4 < length R
-  pub between : (i : ℕ) → r + 1 ≤ i → i < body → getD R (i * 4) 0 ≡ code B-block → ⊥
-  pub block : getD R (body * 4) 0 ≡ code B-block
-  pub encoded : Encoded R E (M .body) body
-  pub within : (n : ℕ) → n ≤ of-check .parameters → Within k n (of-check .nesting) (M .body)
-
-pub data Linked (R E : List ℕ) (k : ℕ) : Option ℕ → Option Method → Type 0 where
-  absent : Linked R E k none none
-  present : {r : ℕ} {M : Method} → BodyAt R E k r M → Linked R E k (some r) (some M)
+  pub WithinAll : ℕ → ℕ → ℕ → ℕ → Exprs → Type 0
+  WithinAll k w n d nil = Unit {0}
+  WithinAll k w n d (cons e es) = Within k w n d e × WithinAll k w n d es
 
 -- The stored number of a type's first value, by the type's number.
 abbrev pub first-of-type : ℕ → ℕ
@@ -82,8 +69,8 @@ pub record FirstValueAt (R T : List ℕ) (k i : ℕ) (f : Field) : Type 0 where
   pub first : first-of-type (getD R (getD T (k * class-width + rows-place + i) 0 * 4 + 1) 0)
       ≡ value-number (initial (f .type))
 
--- Rows and tables hold a program whose classes are P.
-pub record Holds (R E T A : List ℕ) (P : List Class) : Type 0 where
+-- Rows and tables hold the classes P, as far as acts on objects read them.
+pub record Holds (R T A : List ℕ) (P : List Class) : Type 0 where
   pub tables : ClassTables P T A
   pub classes : length P ≤ of-check .classes
   pub counts : (k : ℕ) → k ≤ length P → length (world P .fields k) ≤ of-check .fields
@@ -93,7 +80,20 @@ pub record Holds (R E T A : List ℕ) (P : List Class) : Type 0 where
   pub below : (k c : ℕ) → k ≤ length P → c ≤ length P → is-below A k c ≡ world P .below k c
   pub fields : (k i : ℕ) (f : Field) → k ≤ length P → nth (world P .fields k) i ≡ some f
       → FirstValueAt R T k i f
-  pub methods : (k m : ℕ) → k ≤ length P → Linked R E (length P) (method-row P k m) (world P .method k m)
+
+-- The body of method i of the classes P: it is at the row that the table of methods M has for it, and within the limits
+-- whatever the number of its parameters.
+pub record BodyAt (R E M : List ℕ) (P : List Class) (i : ℕ) : Type 0 where
+  pub encoded : Encoded R E (body-in P i) (getD M (i * method-width + body-place) 0)
+  pub within : (n : ℕ) → n ≤ of-check .parameters
+      → Within (length P) frame-room n (of-check .nesting) (body-in P i)
+
+-- Rows and the table of methods hold the methods of the classes P.
+pub record HoldsMethods (R E M : List ℕ) (P : List Class) : Type 0 where
+  pub effects : List ℕ
+  pub tables : MethodTables P M effects
+  pub bodies : (k m : ℕ) (found : Method) → world P .method k m ≡ some found
+      → BodyAt R E M P (found .number)
 
 -- A store holds so many objects: their classes are declared, and their unused numbers 0.
 pub record Sound (P : List Class) (made : ℕ) (s : List ℕ) : Type 0 where

@@ -2,16 +2,18 @@
 // An object is 18 numbers of the store, a value is one number. Fuel left, objects made and changes of class stand in a
 // tally of three numbers. An outcome is one number too, so that it passes in a register: below 2^32 that of a value, from
 // there on why there is none (specs/Values.antt, outcome).
-use language::BLOCK;
+use language::BODY_PLACE;
 use language::BOOL;
 use language::CLASS_WIDTH;
 use language::COUNT_PLACE;
 use language::DEEP_STOP;
 use language::FULL_STOP;
+use language::METHOD_WIDTH;
 use language::METHODS_FROM;
 use language::MOST_CALLS;
 use language::MOST_OBJECTS;
 use language::OBJECT_WIDTH;
+use language::PARAMETERS_PLACE;
 use language::ROOT_PLACE;
 use language::ROWS_PLACE;
 use language::SPENT_STOP;
@@ -277,19 +279,21 @@ pub fn find_letter(rows: &[u32], row: usize, letter: u32) -> usize
     b
 }
 
-// Q, once receiver and arguments have values: the body of the receiver's method m.
+// Q, once receiver and arguments have values: the body of the receiver's method m. With another number of arguments than
+// the method has parameters the call is stuck.
 pub fn find_body(
-    rows: &[u32],
     tables: &[u16],
+    methods: &[u16],
     store: &[u32],
     tally: &[u32; 3],
     n: u32,
     m: usize,
+    given: usize,
     calls: u32,
 ) -> Target
-    requires { ⌜ PreFind (now rows) (now tables) (now store) m (counts-in (now tally) .made) ⌝ }
-    ensures { λ r. ⌜ PostFind (now (rows .entry)) (now (tables .entry)) (now (store .entry)) (decoded n) m
-        (counts-in (now (tally .entry))) calls r ⌝ }
+    requires { ⌜ PreFind (now tables) (now methods) (now store) m (counts-in (now tally) .made) ⌝ }
+    ensures { λ r. ⌜ PostFind (now (tables .entry)) (now (methods .entry)) (now (store .entry)) (decoded n)
+        m given (counts-in (now (tally .entry))) calls r ⌝ }
 {
     let v = decode(n);
     if is_null(v) {
@@ -306,8 +310,12 @@ pub fn find_body(
     if r == 0 {
         return Target::Fails(STUCK);
     }
+    let i = (r - 1) * METHOD_WIDTH;
+    if methods[i + PARAMETERS_PLACE] as usize != given {
+        return Target::Fails(STUCK);
+    }
     if calls >= MOST_CALLS {
         return Target::Fails(DEEP);
     }
-    Target::Body(find_letter(rows, r, BLOCK))
+    Target::Body(methods[i + BODY_PLACE] as usize)
 }

@@ -1,6 +1,6 @@
 -- What typing and the translator's limits show of every body: slots are in scope, classes declared, members
 -- found.
-use mathlib.Core.Path.{_≡_, refl, sym, ap, _∙_}
+use mathlib.Core.Path.{_≡_, refl, sym, ap, _∙_, subst}
 use mathlib.Core.Option.{Option, none, some}
 use mathlib.Core.Bool.{true}
 use mathlib.Core.List.{List, [], _++_, map}
@@ -15,7 +15,7 @@ use Rattle.language.specs.Tree.{DeclaredType, ExprType, Expr, literal, slot}
 use Rattle.language.specs.Tree.{is-null, get, cast, new, change, assign, set, call, choose, block, Exprs, nil}
 use Rattle.language.specs.Tree.{cons, count, Declaration, Class}
 use Rattle.language.specs.World.{Method, World, field-type, is-declared}
-use Rattle.language.specs.Program.{class-at, fields-at, world}
+use Rattle.language.specs.Program.{class-at, fields-at, world, world-with}
 use Rattle.language.specs.Environment.{Slot, Environment, fresh-slot, method-environment, start-environment}
 use Rattle.theory.specs.ComputedRules.{HasType, HaveTypes, type-literal, type-slot, type-new}
 use Rattle.theory.specs.ComputedRules.{type-cast, type-get, type-set, type-assign, type-is-null, type-call}
@@ -29,8 +29,10 @@ use Rattle.language.specs.Layout.{EachMethod, EachClass, methods-from-row}
 use Rattle.theory.specs.Equal.{complete, completes, all-fit-length}
 use Rattle.theory.specs.Superclasses.{Hierarchy}
 use Rattle.theory.specs.RulesAgree.{computed}
-use Rattle.theory.specs.Lookups.{each-at, each-append, method-found}
-use Rattle.theory.specs.MoreLookups.{MoreLaws, each-declared}
+use Rattle.language.proofs.Methods.{method-found}
+use Rattle.layout.specs.Found.{owned}
+use Rattle.theory.specs.Lookups.{each-at, each-append}
+use Rattle.theory.specs.MoreLookups.{MoreLaws}
 use Rattle.theory.specs.PlainForm.{slots-same}
 use Rattle.plain.specs.Tasks.{Ready, ReadyAll, FieldFound, MethodFound}
 use Rattle.plain.proofs.Programs.{proper, all-proper}
@@ -55,16 +57,17 @@ fields-form P form (suc n) k = go (class-at P k) refl (λ j. fields-form P form 
 
 world-fields : (P : List Class) → Each (ClassInForm of-check) P → (k : ℕ)
     → Each (FieldInForm of-check) (world P .fields k)
-unfolding world
+unfolding world world-with
 world-fields P form k = fields-form P form (suc k) k
 
 world-method : (P : List Class) → Each (ClassInForm of-check) P → (k m : ℕ) (M : Method)
     → world P .method k m ≡ some M → Each TypeInForm (M .parameters)
-unfolding world
-world-method P form k m M e = let x = method-found P (suc k) k m M e in
-    let i = each-declared (class-form P form (x .owner) (x .owning) (x .there) .methods) m (x .declaration)
-    (x .declares) in
-    rw (← x .is) (i .parameters)
+world-method P form k m M e =
+    let x = method-found P k m M e in
+    let y = owned P (M .number) (x .placed) (x .there) in
+    let i = each-at (class-form P form (x .placed .owner) (y .owning) (y .is-class) .methods) (y .place)
+    (x .placed .declaration) (y .there) in
+    subst (Each TypeInForm) (sym (x .parameters)) (i .parameters)
 
 types-count : {W : World} {es : Exprs} {γ γ′ : Environment} {ts : List ExprType} {φ : ℕ}
     → HaveTypes W γ es ts γ′ φ → length ts ≡ count es
@@ -79,7 +82,7 @@ slot-below γ (suc k) v s z e = omega (arith, z, nth-lt (γ .slots) k s e)
 
 module _ (P : List Class) (form : Each (ClassInForm of-check) P) (laws : MoreLaws (world P)) where
   declared-below : (c : ℕ) → is-declared (world P) c ≡ true → c ≤ length P
-  unfolding world
+  unfolding world world-with
   declared-below c e = leb-true c (length P) e
 
   field-found : (c f : ℕ) (u : DeclaredType) → field-type f (world P .fields c) ≡ some u

@@ -58,10 +58,10 @@ module _ {f : Formed} {l n k : ℕ} where
       go zero z h = absurd (z refl)
       go (suc l) z h = rw (le-ltb (suc l) k h)
 
-pub told-fields : {f : Formed} {l n : ℕ} → f ≡ InForm n → l ≢ 0 → filled.Refused 2 l ≡ limits-told f l
-told-fields {f} {l} {n} e z = rw e (go l z)
+pub told-fields : {f : Formed} {l n s : ℕ} → f ≡ InForm n s → l ≢ 0 → filled.Refused 2 l ≡ limits-told f l
+told-fields {f} {l} {n} {s} e z = rw e (go l z)
   where
-    go : (l : ℕ) → l ≢ 0 → filled.Refused 2 l ≡ limits-told (InForm n) l
+    go : (l : ℕ) → l ≢ 0 → filled.Refused 2 l ≡ limits-told (InForm n s) l
     go zero z = absurd (z refl)
     go (suc l) z = refl
 
@@ -124,8 +124,8 @@ sets-start : (l xs : List ℕ) → length xs ≤ length l → sets l 0 xs ≡ xs
 sets-start l xs h = let e : 0 + length xs ≡ length xs = omega arith in sets-eq xs l 0 (omega arith)
     ∙ ap (λ (n : ℕ). xs ++ drop n l) e
 
-module _ {R T C O N N′ : List ℕ} {count : ℕ} (w : ProgramWritten R T C N N′ count) where
-  pub plain-short : length O < count → PlainWritten R T C O O (filled.Refused 13 0)
+module _ {R T M C O N N′ : List ℕ} {count : ℕ} (w : ProgramWritten R T M C N N′ count) where
+  pub plain-short : length O < count → PlainWritten R T M C O O (filled.Refused 13 0)
   plain-short h = record {
     each = λ p E t.
         let l : length O < length (program-numbers p) = omega (arith, w .each p E t .ended, h) in (
@@ -134,8 +134,8 @@ module _ {R T C O N N′ : List ℕ} {count : ℕ} (w : ProgramWritten R T C N N
         );
   }
 
-  pub plain-done : {O′ : List ℕ} {n m : ℕ} → count ≤ length O → ProgramWritten R T C O O′ n → m ≡ n / 4
-      → PlainWritten R T C O O′ (Done m)
+  pub plain-done : {O′ : List ℕ} {n m : ℕ} → count ≤ length O → ProgramWritten R T M C O O′ n → m ≡ n / 4
+      → PlainWritten R T M C O O′ (Done m)
   plain-done {O′} {n} {m} h v q = record {
     each = λ p E t.
         let l : length (program-numbers p) ≤ length O = omega (arith, w .each p E t .ended, h) in
@@ -185,11 +185,11 @@ not-zero : (n l : ℕ) → l ≢ 0 → pass-of n l ≡ refuse n l
 not-zero n zero h = absurd (h refl)
 not-zero n (suc l) h = refl
 
-module _ {R E T C : List ℕ} where
-  pub accepted-stand : SomeAccepted R E T C → SomeClassesStand R E 0
+module _ {R E T M C : List ℕ} where
+  pub accepted-stand : SomeAccepted R E T M C → SomeClassesStand R E 0
   accepted-stand x = record { k = 1; cs = x .p .classes; stand = all-stand (x .checked .rows) }
 
-  pub answer-limits : {r : Filled} {a b : ℕ} (O : List ℕ) → SomeAccepted R E T C → Limited R E T r
+  pub answer-limits : {r : Filled} {a b : ℕ} (O : List ℕ) → SomeAccepted R E T M C → Limited R E T r
       → r ≡ filled.Refused a b → (r ≡ answer 4 (translation R) (length O)) × (O ≡ buffer (translation R) O)
   answer-limits O x h d = told-inv (within-limits R (x .p)) (h .each (x .p) (x .A) (x .checked))
       (λ u q e. absurd (not-both (sym d ∙ e)))
@@ -197,45 +197,46 @@ module _ {R E T C : List ℕ} where
       (e ∙ y .0, y .1))
 
   -- where no limit is passed
-  fine : {r : Filled} {n : ℕ} (x : SomeAccepted R E T C) → Limited R E T r → r ≡ Done n
+  fine : {r : Filled} {n : ℕ} (x : SomeAccepted R E T M C) → Limited R E T r → r ≡ Done n
       → (u : Unit {0}) × (within-limits R (x .p) ≡ accept u)
   fine {r} {n} x h d = told-inv (within-limits R (x .p)) (h .each (x .p) (x .A) (x .checked))
       (λ u q e. (u, q))
       (λ k l q e. absurd (not-both (sym e ∙ d)))
 
-  names-are : {l : ℕ} (x : SomeAccepted R E T C) → NamesFree R E 0 l
+  names-are : {l : ℕ} (x : SomeAccepted R E T M C) → NamesFree R E 0 l
       → names-free 1 (x .p .classes) ≡ pass-of reserved-refusal l
   names-are x h = h .each 1 (x .p .classes) (all-stand (x .checked .rows))
 
-  pub answer-names : {r : Filled} {n l : ℕ} (O : List ℕ) → SomeAccepted R E T C → Limited R E T r → r ≡ Done n
+  pub answer-names : {r : Filled} {n l : ℕ} (O : List ℕ) → SomeAccepted R E T M C → Limited R E T r
+      → r ≡ Done n
       → NamesFree R E 0 l → l ≢ 0
       → (filled.Refused 12 l ≡ answer 4 (translation R) (length O)) × (O ≡ buffer (translation R) O)
   answer-names {r} {n} {l} O x h d f z = let y = fine x h d in
       refused 12 l O (names-refuse R (x .p) (x .checked .accepted) (y .0) (y .1) 12 l
       (names-are x f ∙ not-zero 12 l z))
 
-  module _ {r : Filled} {n l : ℕ} (x : SomeAccepted R E T C) (h : Limited R E T r) (d : r ≡ Done n)
+  module _ {r : Filled} {n l : ℕ} (x : SomeAccepted R E T M C) (h : Limited R E T r) (d : r ≡ Done n)
       (f : NamesFree R E 0 l) (z : l ≡ 0) where
     free : names-free 1 (x .p .classes) ≡ passed
     free = names-are x f ∙ rw z refl
 
-    task : ProgramTask (x .p) E R T C
+    task : ProgramTask (x .p) E R T M C
     unfolding within-limits
     task = let y = fine x h d in let a = check-accepts R (x .p) .0 (x .checked .accepted) in
         earlier-inv _ _ (y .1) λ q w e₄ e₅.
         let same = same-program R (x .p) q a e₄ in
-        program-task R E T (x .A) C (x .p) (record {
+        program-task R E T (x .A) M (x .F) C (x .p) (record {
           accepted = a;
           in-form = subst (ProgramInForm of-translator) same
               (form-back of-translator (omega arith) (rows-of R) q e₄ .1);
           few-fields = e₅;
           unreserved = free;
-        }) (x .checked .rows) (x .checked .tables) (x .lookups) (x .beside)
+        }) (x .checked .rows) (x .checked .tables) (x .methods) (x .lookups) (x .beside)
 
-    pub answer-some : SomeProgram R T C
+    pub answer-some : SomeProgram R T M C
     answer-some = record { p = x .p; E = E; task = task }
 
-    pub answer-plain : {O O′ : List ℕ} {s : Filled} → PlainWritten R T C O O′ s
+    pub answer-plain : {O O′ : List ℕ} {s : Filled} → PlainWritten R T M C O O′ s
         → (s ≡ answer 4 (translation R) (length O)) × (O′ ≡ buffer (translation R) O)
     answer-plain {O} {O′} {s} w = let y = fine x h d in let v = w .each (x .p) E task in
         let e = taken R (x .p) (x .checked .accepted) (y .0) tt (y .1) free in (

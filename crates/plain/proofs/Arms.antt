@@ -47,33 +47,33 @@ rest-block (call m e es) n z h0 h1 h2 h3 h4 h5 h6 h7 h8 h9 h10 h11 h12 = absurd 
 rest-block (choose e x y) n z h0 h1 h2 h3 h4 h5 h6 h7 h8 h9 h10 h11 h12 = absurd (h12 z)
 rest-block (block ts es) n z h0 h1 h2 h3 h4 h5 h6 h7 h8 h9 h10 h11 h12 = z
 
-module _ {R T C S : List ℕ} {at vars next place : ℕ} where
+module _ {R T M C S : List ℕ} {at vars next place : ℕ} where
   -- a node whose letter is known: it is enough to know what follows of each tree of the letter
-  of-letter : {B : Type 0} (l : Letter) → SomeNode R T C S at vars next place → getD R (at * 4) 0 ≡ code l
+  of-letter : {B : Type 0} (l : Letter) → SomeNode R T M C S at vars next place → getD R (at * 4) 0 ≡ code l
       → ((P : List Class) (E : List ℕ) (γ : Environment) (sh : Shape)
-      → EachTree (λ e. NodeTask P E e γ sh R T C S at vars next place → B) l)
+      → EachTree (λ e. NodeTask P E e γ sh R T M C S at vars next place → B) l)
       → B
   of-letter {B} l x h g =
-      by-row (λ (e : Expr). NodeTask (x .P) (x .E) e (x .γ) (x .sh) R T C S at vars next place → B) l
+      by-row (λ (e : Expr). NodeTask (x .P) (x .E) e (x .γ) (x .sh) R T M C S at vars next place → B) l
       (head (x .e) (x .task .encoded)) h (g (x .P) (x .E) (x .γ) (x .sh)) (x .task)
 
   all-letter : {O O′ : List ℕ} {q b : ℕ} (l : Letter) → getD R (at * 4) 0 ≡ code l
       → ((P : List Class) (E : List ℕ) (γ : Environment) (sh : Shape)
-      → EachTree (λ e. NodeTask P E e γ sh R T C S at vars next place
+      → EachTree (λ e. NodeTask P E e γ sh R T M C S at vars next place
       → Emitted (node-numbers (world P) e γ sh) (size e) O O′ place at q b) l)
-      → NodeEmitted R T C S O O′ at vars next place q b
+      → NodeEmitted R T M C S O O′ at vars next place q b
   all-letter {O} {O′} {q} {b} l h g = record {
     each = λ P E e γ sh t. by-row
-        (λ (e : Expr). NodeTask P E e γ sh R T C S at vars next place
+        (λ (e : Expr). NodeTask P E e γ sh R T M C S at vars next place
         → Emitted (node-numbers (world P) e γ sh) (size e) O O′ place at q b) l
         (head e (t .encoded)) h (g P E γ sh) t;
   }
 
-  pub row-known : SomeNode R T C S at vars next place
+  pub row-known : SomeNode R T M C S at vars next place
       → (at * 4 + 3 < length R) × (at < 60000) × (at < length C)
   row-known x = node-row (x .task)
 
-  pub literal-known : SomeNode R T C S at vars next place
+  pub literal-known : SomeNode R T M C S at vars next place
       → (getD R (at * 4) 0 ≡ 76) ⊎ ((getD R (at * 4) 0 ≡ 78) ⊎ (getD R (at * 4) 0 ≡ 84))
       → place + 4 ≤ most-numbers
   unfolding translate
@@ -84,13 +84,13 @@ module _ {R T C S : List ℕ} {at vars next place : ℕ} where
   pub literal-arm : {O O′ : List ℕ} {p : ℕ}
       → (getD R (at * 4) 0 ≡ 76) ⊎ ((getD R (at * 4) 0 ≡ 78) ⊎ (getD R (at * 4) 0 ≡ 84))
       → Written (getD R (at * 4) 0 ∷ 0 ∷ 0 ∷ 0 ∷ []) O O′ place p
-      → NodeEmitted R T C S O O′ at vars next place p (at + 1)
+      → NodeEmitted R T M C S O O′ at vars next place p (at + 1)
   unfolding translate size
   literal-arm (inl h) w = all-letter L-false h λ P E γ sh t. whole w (rw h (sym n-false)) refl
   literal-arm (inr (inl h)) w = all-letter N-null h λ P E γ sh t. whole w (rw h (sym n-null)) refl
   literal-arm (inr (inr h)) w = all-letter T-true h λ P E γ sh t. whole w (rw h (sym n-true)) refl
 
-  pub slot-known : SomeNode R T C S at vars next place → getD R (at * 4) 0 ≡ 73
+  pub slot-known : SomeNode R T M C S at vars next place → getD R (at * 4) 0 ≡ 73
       → (getD R (at * 4 + 1) 0 < 32)
       × (place + length (slot-lines (getD S (getD R (at * 4 + 1) 0) 0)) ≤ most-numbers)
   slot-known x h = of-letter I-slot x h λ P E γ sh k t. let z = slot-slot t in (
@@ -101,13 +101,13 @@ module _ {R T C S : List ℕ} {at vars next place : ℕ} where
 
   pub slot-arm : {O O′ : List ℕ} {p : ℕ} → getD R (at * 4) 0 ≡ 73
       → Written (slot-lines (getD S (getD R (at * 4 + 1) 0) 0)) O O′ place p
-      → NodeEmitted R T C S O O′ at vars next place p (at + 1)
+      → NodeEmitted R T M C S O O′ at vars next place p (at + 1)
   unfolding size
   slot-arm h w = all-letter I-slot h λ P E γ sh k t. let z = slot-slot t in
       whole w (ap (λ (n : ℕ). slot-lines n) (slot-at (t .setting) (z .0) (z .1))
       ∙ sym (t-slot (world P) γ sh k)) refl
 
-  pub new-known : SomeNode R T C S at vars next place → getD R (at * 4) 0 ≡ 87
+  pub new-known : SomeNode R T M C S at vars next place → getD R (at * 4) 0 ≡ 87
       → (place + 56 ≤ most-numbers) × (next ≤ most-numbers) × (getD R (at * 4 + 1) 0 < 65536)
   new-known x h = of-letter W-new x h λ P E γ sh c t. let r : place + 56 ≤ most-numbers =
       omega (arith, t .fits, ap length (t-new (world P) γ sh c)) in
@@ -115,12 +115,12 @@ module _ {R T C S : List ℕ} {at vars next place : ℕ} where
 
   pub new-arm : {O O′ : List ℕ} {p : ℕ} → getD R (at * 4) 0 ≡ 87
       → Written (new-lines next (getD R (at * 4 + 1) 0)) O O′ place p
-      → NodeEmitted R T C S O O′ at vars next place p (at + 1)
+      → NodeEmitted R T M C S O O′ at vars next place p (at + 1)
   unfolding size
   new-arm h w = all-letter W-new h λ P E γ sh c t.
       whole w (rw (t .setting .free, new-class t) (sym (t-new (world P) γ sh c))) refl
 
-  pub change-known : SomeNode R T C S at vars next place → getD R (at * 4) 0 ≡ 82
+  pub change-known : SomeNode R T M C S at vars next place → getD R (at * 4) 0 ≡ 82
       → (getD R (at * 4 + 1) 0 < 32)
       × SomeChange R T place (getD S (getD R (at * 4 + 1) 0) 0) (getD R (at * 4 + 2) 0)
       × (next + 2 < most-numbers) × (getD R (at * 4 + 2) 0 < 65536)
@@ -168,45 +168,48 @@ module _ {R T C S : List ℕ} {at vars next place : ℕ} where
 
   pub change-arm : {O O′ : List ℕ} {p : ℕ} → getD R (at * 4) 0 ≡ 82
       → ChangeWritten R T (getD S (getD R (at * 4 + 1) 0) 0) next (getD R (at * 4 + 2) 0) O O′ place p
-      → NodeEmitted R T C S O O′ at vars next place p (at + 1)
+      → NodeEmitted R T M C S O O′ at vars next place p (at + 1)
   unfolding size
   change-arm h m = all-letter R-change h λ P E γ sh k d t. let z = change-slot t in
       let w = m .each P (t .setting .lent .members) (omega (arith, z .1, z .3)) (rw (z .1) (z .4)) in
       whole w (rw (slot-at (t .setting) (z .0) (z .2), z .1, t .setting .free)
       (sym (t-change (world P) γ sh k d))) refl
 
-  pub is-null-known : SomeNode R T C S at vars next place → getD R (at * 4) 0 ≡ 90 → place + 4 ≤ most-numbers
+  pub is-null-known : SomeNode R T M C S at vars next place → getD R (at * 4) 0 ≡ 90
+      → place + 4 ≤ most-numbers
   is-null-known x h = of-letter Z-is-null x h λ P E γ sh e t.
       omega (arith, t .fits, ap length (t-is-null (world P) γ sh e))
 
-  pub is-null-some : SomeNode R T C S at vars next place → getD R (at * 4) 0 ≡ 90 → (p : ℕ) → p ≡ place + 4
-      → SomeNode R T C S (at + 1) vars next p
+  pub is-null-some : SomeNode R T M C S at vars next place → getD R (at * 4) 0 ≡ 90 → (p : ℕ) → p ≡ place + 4
+      → SomeNode R T M C S (at + 1) vars next p
   is-null-some x h p q = of-letter Z-is-null x h λ P E γ sh e t.
       record { P = P; E = E; e = e; γ = γ; sh = sh; task = is-null-child t p q }
 
   pub is-null-arm : {O O₁ O₂ : List ℕ} {p q b : ℕ} → getD R (at * 4) 0 ≡ 90
       → Written (90 ∷ 0 ∷ 0 ∷ 0 ∷ []) O O₁ place p
-      → NodeEmitted R T C S O₁ O₂ (at + 1) vars next p q b → NodeEmitted R T C S O O₂ at vars next place q b
+      → NodeEmitted R T M C S O₁ O₂ (at + 1) vars next p q b
+      → NodeEmitted R T M C S O O₂ at vars next place q b
   unfolding size
   is-null-arm h w m = all-letter Z-is-null h λ P E γ sh e t. let em =
       m .each P E e γ sh (is-null-child t _ (w .ended)) in
       whole (written-then w (em .written)) (sym (t-is-null (world P) γ sh e)) (omega (arith, em .passed))
 
-  pub assign-known : SomeNode R T C S at vars next place → getD R (at * 4) 0 ≡ 65
+  pub assign-known : SomeNode R T M C S at vars next place → getD R (at * 4) 0 ≡ 65
       → (getD R (at * 4 + 1) 0 < 32) × (place + 4 ≤ most-numbers)
   assign-known x h = of-letter A-assign x h λ P E γ sh k e t. let z = assign-slot t in (
     omega (arith, z .0, z .1, t .setting .scope),
     omega (arith, t .fits, ap length (t-assign (world P) γ sh k e)),
   )
 
-  pub assign-some : SomeNode R T C S at vars next place → getD R (at * 4) 0 ≡ 65 → (p : ℕ) → p ≡ place + 4
-      → SomeNode R T C S (at + 1) vars next p
+  pub assign-some : SomeNode R T M C S at vars next place → getD R (at * 4) 0 ≡ 65 → (p : ℕ) → p ≡ place + 4
+      → SomeNode R T M C S (at + 1) vars next p
   assign-some x h p q = of-letter A-assign x h λ P E γ sh k e t.
       record { P = P; E = E; e = e; γ = γ; sh = sh; task = assign-child t p q }
 
   pub assign-arm : {O O₁ O₂ : List ℕ} {p q b : ℕ} → getD R (at * 4) 0 ≡ 65
       → Written (65 ∷ getD S (getD R (at * 4 + 1) 0) 0 ∷ 0 ∷ 0 ∷ []) O O₁ place p
-      → NodeEmitted R T C S O₁ O₂ (at + 1) vars next p q b → NodeEmitted R T C S O O₂ at vars next place q b
+      → NodeEmitted R T M C S O₁ O₂ (at + 1) vars next p q b
+      → NodeEmitted R T M C S O O₂ at vars next place q b
   unfolding size
   assign-arm h w m = all-letter A-assign h λ P E γ sh k e t. let z = assign-slot t in let em =
       m .each P E e γ sh (assign-child t _ (w .ended)) in
@@ -214,30 +217,31 @@ module _ {R T C S : List ℕ} {at vars next place : ℕ} where
       (rw (slot-at (t .setting) (z .0) (z .1)) (sym (t-assign (world P) γ sh k e)))
       (omega (arith, em .passed))
 
-  pub get-known : SomeNode R T C S at vars next place → getD R (at * 4) 0 ≡ 71 → place + 12 ≤ most-numbers
+  pub get-known : SomeNode R T M C S at vars next place → getD R (at * 4) 0 ≡ 71 → place + 12 ≤ most-numbers
   get-known x h = of-letter G-get x h λ P E γ sh f e t.
       omega (arith, t .fits, ap length (t-get (world P) γ sh f e))
 
-  pub get-some : SomeNode R T C S at vars next place → getD R (at * 4) 0 ≡ 71 → (p : ℕ) → p ≡ place + 12
-      → SomeNode R T C S (at + 1) vars next p
+  pub get-some : SomeNode R T M C S at vars next place → getD R (at * 4) 0 ≡ 71 → (p : ℕ) → p ≡ place + 12
+      → SomeNode R T M C S (at + 1) vars next p
   get-some x h p q = of-letter G-get x h λ P E γ sh f e t.
       record { P = P; E = E; e = e; γ = γ; sh = sh; task = get-child t p q }
 
   pub get-arm : {O O₁ O₂ : List ℕ} {p q b : ℕ} → getD R (at * 4) 0 ≡ 71
       → Written (71 ∷ getD R (at * 4 + 1) 0 ∷ 0 ∷ 0 ∷ 75 ∷ (getD C at 0 + 2) ∷ 0 ∷ 0 ∷ 71 ∷ 255 ∷ 0 ∷ 0 ∷ [])
       O O₁ place p
-      → NodeEmitted R T C S O₁ O₂ (at + 1) vars next p q b → NodeEmitted R T C S O O₂ at vars next place q b
+      → NodeEmitted R T M C S O₁ O₂ (at + 1) vars next p q b
+      → NodeEmitted R T M C S O O₂ at vars next place q b
   unfolding size
   get-arm h w m = all-letter G-get h λ P E γ sh f e t. let z = get-name t in let em =
       m .each P E e γ sh (get-child t _ (w .ended)) in
       whole (written-then w (em .written)) (rw (z .0, z .1) (sym (t-get (world P) γ sh f e)))
       (omega (arith, em .passed))
 
-  pub choose-known : SomeNode R T C S at vars next place → getD R (at * 4) 0 ≡ 74 → place + 4 ≤ most-numbers
+  pub choose-known : SomeNode R T M C S at vars next place → getD R (at * 4) 0 ≡ 74 → place + 4 ≤ most-numbers
   choose-known x h = of-letter J-choose x h λ P E γ sh e y z t. omega (arith, choose-room t)
 
-  pub choose-some : SomeNode R T C S at vars next place → getD R (at * 4) 0 ≡ 74 → (p : ℕ) → p ≡ place + 4
-      → SomeNodes R T C S (at + 1) vars next p 3
+  pub choose-some : SomeNode R T M C S at vars next place → getD R (at * 4) 0 ≡ 74 → (p : ℕ) → p ≡ place + 4
+      → SomeNodes R T M C S (at + 1) vars next p 3
   unfolding how-many
   choose-some x h p q = of-letter J-choose x h λ P E γ sh e y z t.
       record {
@@ -252,50 +256,50 @@ module _ {R T C S : List ℕ} {at vars next place : ℕ} where
 
   pub choose-arm : {O O₁ O₂ : List ℕ} {p q b : ℕ} → getD R (at * 4) 0 ≡ 74
       → Written (74 ∷ 0 ∷ 0 ∷ 0 ∷ []) O O₁ place p
-      → NodesEmitted R T C S O₁ O₂ (at + 1) vars next p 3 q b
-      → NodeEmitted R T C S O O₂ at vars next place q b
+      → NodesEmitted R T M C S O₁ O₂ (at + 1) vars next p 3 q b
+      → NodeEmitted R T M C S O O₂ at vars next place q b
   unfolding size how-many rows-taken
   choose-arm h w m = all-letter J-choose h λ P E γ sh e y z t.
       let em = m .each P E _ sh (choose-nodes t _ (w .ended)) refl (rw (w .ended) (choose-room t)) in
       whole (written-then w (em .written)) (sym (t-choose (world P) γ sh e y z)) (omega (arith, em .passed))
 
-  pub cast-some : SomeNode R T C S at vars next place → getD R (at * 4) 0 ≡ 75
-      → SomeCast R T C S at vars next place
+  pub cast-some : SomeNode R T M C S at vars next place → getD R (at * 4) 0 ≡ 75
+      → SomeCast R T M C S at vars next place
   cast-some x h = of-letter K-cast x h λ P E γ sh c e t.
       record { P = P; E = E; c = c; e = e; γ = γ; sh = sh; task = t }
 
   pub cast-arm : {O O′ : List ℕ} {q b : ℕ} → getD R (at * 4) 0 ≡ 75
-      → CastEmitted R T C S O O′ at vars next place q b → NodeEmitted R T C S O O′ at vars next place q b
+      → CastEmitted R T M C S O O′ at vars next place q b → NodeEmitted R T M C S O O′ at vars next place q b
   cast-arm h o = all-letter K-cast h λ P E γ sh c e t. o .each P E c e γ sh t
 
-  pub set-some : SomeNode R T C S at vars next place → getD R (at * 4) 0 ≡ 85
-      → SomeSet R T C S at vars next place
+  pub set-some : SomeNode R T M C S at vars next place → getD R (at * 4) 0 ≡ 85
+      → SomeSet R T M C S at vars next place
   set-some x h = of-letter U-set x h λ P E γ sh f e e′ t.
       record { P = P; E = E; f = f; e = e; e′ = e′; γ = γ; sh = sh; task = t }
 
   pub set-arm : {O O′ : List ℕ} {q b : ℕ} → getD R (at * 4) 0 ≡ 85
-      → SetEmitted R T C S O O′ at vars next place q b → NodeEmitted R T C S O O′ at vars next place q b
+      → SetEmitted R T M C S O O′ at vars next place q b → NodeEmitted R T M C S O O′ at vars next place q b
   set-arm h o = all-letter U-set h λ P E γ sh f e e′ t. o .each P E f e e′ γ sh t
 
-  pub call-some : SomeNode R T C S at vars next place → getD R (at * 4) 0 ≡ 81
-      → SomeCall R T C S at vars next place
+  pub call-some : SomeNode R T M C S at vars next place → getD R (at * 4) 0 ≡ 81
+      → SomeCall R T M C S at vars next place
   call-some x h = of-letter Q-call x h λ P E γ sh m e es t.
       record { P = P; E = E; m = m; e = e; es = es; γ = γ; sh = sh; task = t }
 
   pub call-arm : {O O′ : List ℕ} {q b : ℕ} → getD R (at * 4) 0 ≡ 81
-      → CallEmitted R T C S O O′ at vars next place q b → NodeEmitted R T C S O O′ at vars next place q b
+      → CallEmitted R T M C S O O′ at vars next place q b → NodeEmitted R T M C S O O′ at vars next place q b
   call-arm h o = all-letter Q-call h λ P E γ sh m e es t. o .each P E m e es γ sh t
 
-  pub block-some : SomeNode R T C S at vars next place → getD R (at * 4) 0 ≡ 66
-      → SomeBlock R T C S at vars next place
+  pub block-some : SomeNode R T M C S at vars next place → getD R (at * 4) 0 ≡ 66
+      → SomeBlock R T M C S at vars next place
   block-some x h = of-letter B-block x h λ P E γ sh ts es t.
       record { P = P; E = E; ts = ts; es = es; γ = γ; sh = sh; task = t }
 
   pub block-arm : {O O′ : List ℕ} {q b : ℕ} → getD R (at * 4) 0 ≡ 66
-      → BlockEmitted R T C S O O′ at vars next place q b → NodeEmitted R T C S O O′ at vars next place q b
+      → BlockEmitted R T M C S O O′ at vars next place q b → NodeEmitted R T M C S O O′ at vars next place q b
   block-arm h o = all-letter B-block h λ P E γ sh ts es t. o .each P E ts es γ sh t
 
-  pub rest-letter : SomeNode R T C S at vars next place → getD R (at * 4) 0 ≢ 84 → getD R (at * 4) 0 ≢ 76
+  pub rest-letter : SomeNode R T M C S at vars next place → getD R (at * 4) 0 ≢ 84 → getD R (at * 4) 0 ≢ 76
       → getD R (at * 4) 0 ≢ 78 → getD R (at * 4) 0 ≢ 73 → getD R (at * 4) 0 ≢ 90 → getD R (at * 4) 0 ≢ 71
       → getD R (at * 4) 0 ≢ 75 → getD R (at * 4) 0 ≢ 87 → getD R (at * 4) 0 ≢ 82 → getD R (at * 4) 0 ≢ 65
       → getD R (at * 4) 0 ≢ 85 → getD R (at * 4) 0 ≢ 81 → getD R (at * 4) 0 ≢ 74 → getD R (at * 4) 0 ≡ 66

@@ -24,9 +24,9 @@ use Rattle.plain.proofs.Shapes.{setting-locals}
 use Rattle.plain.proofs.Lines.{types-length}
 use Rattle.plain.proofs.Nodes.{encoded-nodes, looks-nodes, ready-nodes, nodes-counted, nodes-sizes}
 
-module _ {P : List Class} {E : List ℕ} {γ : Environment} {sh : Shape} {R T C S : List ℕ}
+module _ {P : List Class} {E : List ℕ} {γ : Environment} {sh : Shape} {R T M C S : List ℕ}
     {at vars next place : ℕ} {ts : List DeclaredType} {es : Exprs}
-    (t : NodeTask P E (block ts es) γ sh R T C S at vars next place) where
+    (t : NodeTask P E (block ts es) γ sh R T M C S at vars next place) where
   block-numbers : (getD R (at * 4 + 1) 0 ≡ length ts) × (getD R (at * 4 + 2) 0 ≡ count es)
   unfolding Encoded
   block-numbers = (t .encoded .0 .row .first, t .encoded .0 .row .second)
@@ -52,7 +52,7 @@ module _ {P : List Class} {E : List ℕ} {γ : Environment} {sh : Shape} {R T C 
   )
 
   block-nodes : (S′ : List ℕ) → Extended S S′ vars next (length ts) → (p : ℕ) → p ≡ place + 4 + 4 * length ts
-      → NodesTask P E (nodes-of (world P) es (opened γ (map fresh-slot ts))) (sh ++ variables ts) R T C S′
+      → NodesTask P E (nodes-of (world P) es (opened γ (map fresh-slot ts))) (sh ++ variables ts) R T M C S′
       (at + 1 + length ts) (vars + length ts) (next + length ts) p
   unfolding Encoded LooksUp Ready
   block-nodes S′ y p q = record {
@@ -64,8 +64,8 @@ module _ {P : List Class} {E : List ℕ} {γ : Environment} {sh : Shape} {R T C 
     low = omega (arith, t .low, q);
   }
 
-module _ {R T C S : List ℕ} {at vars next place : ℕ} where
-  pub block-known : SomeBlock R T C S at vars next place
+module _ {R T M C S : List ℕ} {at vars next place : ℕ} where
+  pub block-known : SomeBlock R T M C S at vars next place
       → (at * 4 + 3 < length R) × (at < 60000) × (place + 4 + 4 * getD R (at * 4 + 1) 0 ≤ most-numbers)
       × (vars + getD R (at * 4 + 1) 0 ≤ 32) × (next ≤ most-numbers) × (length S ≡ 32)
   block-known x = let t = x .task in let n = block-numbers t .0 in let r = node-row t in (
@@ -77,14 +77,14 @@ module _ {R T C S : List ℕ} {at vars next place : ℕ} where
     t .setting .wide,
   )
 
-  pub block-some-types : SomeBlock R T C S at vars next place → SomeTypes R (at + 1) (getD R (at * 4 + 1) 0)
+  pub block-some-types : SomeBlock R T M C S at vars next place → SomeTypes R (at + 1) (getD R (at * 4 + 1) 0)
   block-some-types x = let t = x .task in
       record { letter = V-local; ts = x .ts; rows = block-types t; counted = sym (block-numbers t .0) }
 
-  pub block-some : (x : SomeBlock R T C S at vars next place) (S′ : List ℕ)
+  pub block-some : (x : SomeBlock R T M C S at vars next place) (S′ : List ℕ)
       → Extended S S′ vars next (getD R (at * 4 + 1) 0)
       → (p : ℕ) → p ≡ place + 4 + 4 * getD R (at * 4 + 1) 0
-      → SomeNodes R T C S′ (at + 1 + getD R (at * 4 + 1) 0) (vars + getD R (at * 4 + 1) 0)
+      → SomeNodes R T M C S′ (at + 1 + getD R (at * 4 + 1) 0) (vars + getD R (at * 4 + 1) 0)
       (next + getD R (at * 4 + 1) 0) p (getD R (at * 4 + 2) 0)
   block-some x S′ y p q = let t = x .task in let n = block-numbers t .0 in
       let q′ : p ≡ place + 4 + 4 * length (x .ts) = omega (arith, q, n) in
@@ -99,7 +99,7 @@ module _ {R T C S : List ℕ} {at vars next place : ℕ} where
         fits = rw q′ (block-room t);
       })
 
-  pub block-ended : {O O₁ O₂ : List ℕ} {p q : ℕ} → SomeBlock R T C S at vars next place
+  pub block-ended : {O O₁ O₂ : List ℕ} {p q : ℕ} → SomeBlock R T M C S at vars next place
       → Written (66 ∷ getD R (at * 4 + 1) 0 ∷ getD R (at * 4 + 2) 0 ∷ 0 ∷ []) O O₁ place p
       → TypesWritten R (at + 1) (getD R (at * 4 + 1) 0) 86 O₁ O₂ p q
       → q ≡ place + 4 + 4 * getD R (at * 4 + 1) 0
@@ -116,9 +116,9 @@ module _ {R T C S : List ℕ} {at vars next place : ℕ} where
       → Written (66 ∷ getD R (at * 4 + 1) 0 ∷ getD R (at * 4 + 2) 0 ∷ 0 ∷ []) O O₁ place p
       → TypesWritten R (at + 1) (getD R (at * 4 + 1) 0) 86 O₁ O₂ p q
       → Extended S S′ vars next (getD R (at * 4 + 1) 0)
-      → NodesEmitted R T C S′ O₂ O₃ (at + 1 + getD R (at * 4 + 1) 0) (vars + getD R (at * 4 + 1) 0)
+      → NodesEmitted R T M C S′ O₂ O₃ (at + 1 + getD R (at * 4 + 1) 0) (vars + getD R (at * 4 + 1) 0)
       (next + getD R (at * 4 + 1) 0) q (getD R (at * 4 + 2) 0) r b
-      → BlockEmitted R T C S O O₃ at vars next place r b
+      → BlockEmitted R T M C S O O₃ at vars next place r b
   unfolding size
   block-done {O} {O₁} {O₂} {O₃} {p} {q} {r} {b} S′ w v y m = record {
     each = λ P E ts es γ sh t.

@@ -14,8 +14,8 @@ use Rattle.plain.proofs.Shapes.{setting-locals}
 
 -- no slot but `this`
 first-setting : {P : List Class} {E : List ℕ} {e : Expr} {γ : Environment} {ts : List DeclaredType}
-    {R T C : List ℕ} {at place : ℕ}
-    → BodyTask P E e γ ts R T C at place → Setting P R T C (replicate 32 0) [] 1 1
+    {R T M C : List ℕ} {at place : ℕ}
+    → BodyTask P E e γ ts R T M C at place → Setting P R T M C (replicate 32 0) [] 1 1
 unfolding variable-count plain-slot
 first-setting t = record {
   lent = t .lent;
@@ -31,10 +31,10 @@ first-setting t = record {
     go (suc k) h = absurd (omega (arith, h))
 
 body-node : {P : List Class} {E : List ℕ} {e : Expr} {γ : Environment} {ts : List DeclaredType}
-    {R T C : List ℕ} {at place : ℕ}
-    → BodyTask P E e γ ts R T C at place → (count : ℕ) → length ts ≡ count → (S : List ℕ)
+    {R T M C : List ℕ} {at place : ℕ}
+    → BodyTask P E e γ ts R T M C at place → (count : ℕ) → length ts ≡ count → (S : List ℕ)
     → Extended (replicate 32 0) S 1 1 count
-    → NodeTask P E e γ (variables ts) R T C S at (1 + count) (1 + count) place
+    → NodeTask P E e γ (variables ts) R T M C S at (1 + count) (1 + count) place
 body-node {ts = ts} t count c S y = rw (sym c) (record {
   setting = setting-locals (first-setting t) ts S (rw (sym c) at y) (t .scope);
   encoded = t .encoded;
@@ -44,13 +44,13 @@ body-node {ts = ts} t count c S y = rw (sym c) (record {
   fits = t .fits;
 })
 
-module _ {R T C : List ℕ} {at place count : ℕ} where
-  pub body-known : SomeBody R T C at place count → 1 + count ≤ 32
+module _ {R T M C : List ℕ} {at place count : ℕ} where
+  pub body-known : SomeBody R T M C at place count → 1 + count ≤ 32
   body-known x = omega (arith, x .task .scope, x .counted)
 
-  pub body-some : SomeBody R T C at place count → (S : List ℕ) → Extended (replicate 32 0) S 1 1 count
+  pub body-some : SomeBody R T M C at place count → (S : List ℕ) → Extended (replicate 32 0) S 1 1 count
       → (v n : ℕ) → v ≡ 1 + count → n ≡ 1 + count
-      → SomeNode R T C S at v n place
+      → SomeNode R T M C S at v n place
   body-some x S y v n e f =
       rw (e, f) (record {
         P = x .P;
@@ -64,7 +64,7 @@ module _ {R T C : List ℕ} {at place count : ℕ} where
 
   pub body-done : {O O′ : List ℕ} {q b : ℕ} (S : List ℕ) → Extended (replicate 32 0) S 1 1 count → (v n : ℕ)
       → v ≡ 1 + count → n ≡ 1 + count
-      → NodeEmitted R T C S O O′ at v n place q b → BodyEmitted R T C O O′ at place count q b
+      → NodeEmitted R T M C S O O′ at v n place q b → BodyEmitted R T M C O O′ at place count q b
   body-done S y v n e f m =
       record {
         each = λ P E x γ ts t c. let m′ = rw (e, f) at m in

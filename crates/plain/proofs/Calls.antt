@@ -1,11 +1,12 @@
 -- Laws of Q, which becomes a block with a temporary for the object and each argument: the method's
 -- parameters, the task of its nodes, and what they write together. Assumes nothing.
-use mathlib.Core.Path.{_≡_, sym, ap}
+use mathlib.Core.Path.{_≡_, sym, ap, subst}
 use mathlib.Core.Bool.{false}
 use mathlib.Core.List.{List, [], _∷_, _++_}
-use Prim.Native.Nat.{ℕ, suc, _+_, _*_, _≤_, _<_}
+use Prim.Native.Nat.{ℕ, suc, _+_, _-_, _*_, _≤_, _<_}
 use native.Mathlib.Omega.{arith}
 use lib.ListN.{length, getD, length-append, length-map}
+use Rattle.language.specs.Lists.{nth-lt}
 use Rattle.language.specs.Rows.{P-parameter}
 use Rattle.language.specs.Tree.{DeclaredType, Expr, call, Exprs, count, size, Class}
 use Rattle.language.specs.Effects.{apply-class}
@@ -15,6 +16,9 @@ use Rattle.language.specs.Environment.{Environment}
 use Rattle.language.specs.Typing.{type-of, type-all}
 use Rattle.language.specs.Translation.{Shape, typed-or, typed-all-or, class-or, parameters-or, temporaries}
 use Rattle.language.specs.LookupClasses.{LooksUp}
+use Rattle.language.specs.ClassTables.{method-number}
+use Rattle.language.specs.MethodTables.{placed-methods}
+use Rattle.language.proofs.Methods.{method-found}
 use Rattle.theory.specs.PlainForm.{variable-count, count-temporaries}
 use Rattle.plain.specs.Numbers.{most-numbers, arguments-numbers, type-lines, read-lines, ProperAll}
 use Rattle.plain.specs.Numbers.{Nodes, also, nodes-of, how-many, rows-taken}
@@ -29,9 +33,16 @@ use Rattle.plain.proofs.Shapes.{setting-temporaries}
 use Rattle.plain.proofs.Lines.{types-length, reads-length}
 use Rattle.plain.proofs.Nodes.{encoded-nodes, looks-nodes, ready-nodes, nodes-counted, nodes-sizes}
 
-module _ {P : List Class} {E : List ℕ} {γ : Environment} {sh : Shape} {R T C S : List ℕ}
+-- What the table of classes has for the method that a call at a row finds, and the row of the method's first P line.
+abbrev pub entry : List ℕ → List ℕ → List ℕ → ℕ → ℕ
+entry R T C at = getD T (getD C at 0 * 576 + 256 + getD R (at * 4 + 1) 0) 0
+
+abbrev first-parameter : List ℕ → List ℕ → List ℕ → List ℕ → ℕ → ℕ
+first-parameter R T M C at = getD M ((entry R T C at - 1) * 4) 0 + 1
+
+module _ {P : List Class} {E : List ℕ} {γ : Environment} {sh : Shape} {R T M C S : List ℕ}
     {at vars next place : ℕ} {m : ℕ} {e : Expr} {es : Exprs}
-    (t : NodeTask P E (call m e es) γ sh R T C S at vars next place) where
+    (t : NodeTask P E (call m e es) γ sh R T M C S at vars next place) where
   abbrev call-class : ℕ
   call-class =
       let a = typed-or (type-of (world P) e 0 γ) in
@@ -43,14 +54,36 @@ module _ {P : List Class} {E : List ℕ} {γ : Environment} {sh : Shape} {R T C 
   call-name : (getD R (at * 4 + 1) 0 ≡ m) × (getD R (at * 4 + 2) 0 ≡ count es) × (getD C at 0 ≡ call-class)
       × (m < 256) × (call-class ≤ length P)
   unfolding Encoded LooksUp Ready
-  call-name = (t .encoded .0 .row .first, t .encoded .0 .row .second, t .looks .0, t .ready .0, t .ready .1)
+  call-name = (
+    t .encoded .0 .row .first,
+    t .encoded .0 .row .second,
+    t .looks .0 (node-row t .2),
+    t .ready .0,
+    t .ready .1,
+  )
 
-  call-method : (length call-types ≡ count es) × ProperAll call-types
-      × TypesAt P-parameter R call-types (getD T (call-class * 576 + 256 + m) 0)
-  unfolding Ready MethodFound
-  call-method = let F = t .ready .2 in
-      let h = t .setting .lent .members .methods call-class m (F .0) (call-name .4) (call-name .3) (F .1) in
-      rw (F .1) (F .2, F .3, h)
+  -- the method's number in the table of classes, and its P lines
+  call-method : (length call-types ≡ count es) × ProperAll call-types × (i : ℕ)
+      × (getD T (call-class * 576 + 256 + m) 0 ≡ suc i) × (i * 4 < length M)
+      × TypesAt P-parameter R call-types (getD M (i * 4) 0 + 1)
+  unfolding Ready MethodFound method-number
+  call-method =
+      let found = t .ready .2 in
+      let lent = t .setting .lent in
+      let x = method-found P call-class m (found .0) (found .1) in
+      let i = found .0 .number in
+      let entry = lent .members .tables .methods call-class m (call-name .4) (call-name .3) in
+      let row = lent .methods .rows i (x .placed) (x .there) in
+      let below = nth-lt (placed-methods P) i (x .placed) (x .there) in
+      rw (found .1) (
+        found .2,
+        found .3,
+        i,
+        rw (found .1) at entry,
+        omega (arith, below, lent .methods .long),
+        rw row (subst (λ (ts : List DeclaredType). TypesAt P-parameter R ts (x .placed .row + 1))
+            (sym (x .parameters)) (lent .parameters i (x .placed) (x .there))),
+      )
 
   abbrev call-arguments : Nodes
   call-arguments = also e γ (nodes-of (world P) es (typed-or (type-of (world P) e 0 γ) .slots))
@@ -77,7 +110,7 @@ module _ {P : List Class} {E : List ℕ} {γ : Environment} {sh : Shape} {R T C 
   )
 
   call-nodes : (p : ℕ) → p ≡ place + 8 + 4 * count es
-      → NodesTask P E call-arguments call-shape R T C S (at + 1) vars (next + 1 + count es) p
+      → NodesTask P E call-arguments call-shape R T M C S (at + 1) vars (next + 1 + count es) p
   unfolding Encoded LooksUp Ready EncodedNodes LooksUpNodes ReadyNodes variable-count
   call-nodes p q =
       let γ′ = typed-or (type-of (world P) e 0 γ) .slots in
@@ -92,32 +125,36 @@ module _ {P : List Class} {E : List ℕ} {γ : Environment} {sh : Shape} {R T C 
         low = omega (arith, t .low, q);
       }
 
-module _ {R T C S : List ℕ} {at vars next place : ℕ} where
+module _ {R T M C S : List ℕ} {at vars next place : ℕ} where
   -- what is read on the way to the method's parameters
-  pub call-known : SomeCall R T C S at vars next place
+  pub call-known : SomeCall R T M C S at vars next place
       → (at * 4 + 3 < length R) × (at < 60000) × (at < length C)
       × (getD C at 0 * 576 + 256 + getD R (at * 4 + 1) 0 < length T) × (getD R (at * 4 + 1) 0 < 256)
       × (place + 24 + 8 * getD R (at * 4 + 2) 0 ≤ most-numbers) × (next ≤ place)
-  call-known x = let t = x .task in let n = call-name t in let r = node-row t in
+      × (1 ≤ entry R T C at) × ((entry R T C at - 1) * 4 < length M)
+  call-known x = let t = x .task in let n = call-name t in let r = node-row t in let h = call-method t in
       rw (n .0, n .1, n .2) (
         r .0,
         r .1,
         r .2,
-        omega (arith, n .3, n .4, t .setting .lent .members .long),
+        omega (arith, n .3, n .4, t .setting .lent .members .tables .long),
         n .3,
         omega (arith, call-room t),
         t .low,
+        omega (arith, h .3),
+        omega (arith, h .3, h .4),
       )
 
-  pub call-some-types : SomeCall R T C S at vars next place
-      → SomeTypes R (getD T (getD C at 0 * 576 + 256 + getD R (at * 4 + 1) 0) 0) (getD R (at * 4 + 2) 0)
+  pub call-some-types : SomeCall R T M C S at vars next place
+      → SomeTypes R (first-parameter R T M C at) (getD R (at * 4 + 2) 0)
   call-some-types x = let t = x .task in let n = call-name t in let h = call-method t in
-      rw (n .0, n .1, n .2) (record { letter = P-parameter; ts = call-types t; rows = h .2; counted = h .0 })
+      let z : suc (h .2) - 1 ≡ h .2 = omega arith in
+      rw (n .0, n .1, n .2, h .3, z)
+      (record { letter = P-parameter; ts = call-types t; rows = h .5; counted = h .0 })
 
-  pub call-ended : {O O₁ O₂ : List ℕ} {p q c d : ℕ} → (x : SomeCall R T C S at vars next place)
+  pub call-ended : {O O₁ O₂ : List ℕ} {p q c d : ℕ} → (x : SomeCall R T M C S at vars next place)
       → Written (66 ∷ c ∷ d ∷ 0 ∷ 86 ∷ 1 ∷ 0 ∷ 0 ∷ []) O O₁ place p
-      → TypesWritten R (getD T (getD C at 0 * 576 + 256 + getD R (at * 4 + 1) 0) 0) (getD R (at * 4 + 2) 0) 86
-      O₁ O₂ p q
+      → TypesWritten R (first-parameter R T M C at) (getD R (at * 4 + 2) 0) 86 O₁ O₂ p q
       → q ≡ place + 8 + 4 * getD R (at * 4 + 2) 0
   call-ended x w v = let y = call-some-types x in
       omega (
@@ -128,9 +165,9 @@ module _ {R T C S : List ℕ} {at vars next place : ℕ} where
         y .counted,
       )
 
-  pub call-some-arguments : (x : SomeCall R T C S at vars next place) (q : ℕ)
+  pub call-some-arguments : (x : SomeCall R T M C S at vars next place) (q : ℕ)
       → q ≡ place + 8 + 4 * getD R (at * 4 + 2) 0
-      → SomeArguments R T C S (at + 1) vars (next + 1 + getD R (at * 4 + 2) 0) q (getD R (at * 4 + 2) 0 + 1)
+      → SomeArguments R T M C S (at + 1) vars (next + 1 + getD R (at * 4 + 2) 0) q (getD R (at * 4 + 2) 0 + 1)
       next
   unfolding how-many
   call-some-arguments x q z = let t = x .task in let n = call-name t in
@@ -150,9 +187,9 @@ module _ {R T C S : List ℕ} {at vars next place : ℕ} where
         below = omega (arith, t .low, call-room t);
       })
 
-  pub call-room-after : {O₁ O₂ : List ℕ} {q r b : ℕ} → SomeCall R T C S at vars next place
+  pub call-room-after : {O₁ O₂ : List ℕ} {q r b : ℕ} → SomeCall R T M C S at vars next place
       → q ≡ place + 8 + 4 * getD R (at * 4 + 2) 0
-      → ArgumentsEmitted R T C S O₁ O₂ (at + 1) vars (next + 1 + getD R (at * 4 + 2) 0) q
+      → ArgumentsEmitted R T M C S O₁ O₂ (at + 1) vars (next + 1 + getD R (at * 4 + 2) 0) q
       (getD R (at * 4 + 2) 0 + 1) next r b
       → r + 16 + 4 * getD R (at * 4 + 2) 0 ≤ most-numbers
   unfolding how-many
@@ -171,24 +208,24 @@ module _ {R T C S : List ℕ} {at vars next place : ℕ} where
   pub call-done : {O O₁ O₂ O₃ O₄ O₅ : List ℕ} {p q r p′ q′ b : ℕ}
       → Written (66 ∷ (getD R (at * 4 + 2) 0 + 1) ∷ (getD R (at * 4 + 2) 0 + 2) ∷ 0 ∷ 86 ∷ 1 ∷ 0 ∷ 0 ∷ []) O
       O₁ place p
-      → TypesWritten R (getD T (getD C at 0 * 576 + 256 + getD R (at * 4 + 1) 0) 0) (getD R (at * 4 + 2) 0) 86
-      O₁ O₂ p q
-      → ArgumentsEmitted R T C S O₂ O₃ (at + 1) vars (next + 1 + getD R (at * 4 + 2) 0) q
+      → TypesWritten R (first-parameter R T M C at) (getD R (at * 4 + 2) 0) 86 O₁ O₂ p q
+      → ArgumentsEmitted R T M C S O₂ O₃ (at + 1) vars (next + 1 + getD R (at * 4 + 2) 0) q
       (getD R (at * 4 + 2) 0 + 1) next r b
       → Written (81 ∷ getD R (at * 4 + 1) 0 ∷ getD R (at * 4 + 2) 0 ∷ 0 ∷ 75 ∷ (getD C at 0 + 2) ∷ 0 ∷ 0 ∷ 71
       ∷ 255 ∷ 0 ∷ 0 ∷ 73 ∷ next ∷ 0 ∷ 0 ∷ []) O₃ O₄ r p′
       → Written (read-lines (next + 1) (getD R (at * 4 + 2) 0)) O₄ O₅ p′ q′
-      → CallEmitted R T C S O O₅ at vars next place q′ b
+      → CallEmitted R T M C S O O₅ at vars next place q′ b
   unfolding size how-many rows-taken
   call-done {O} {O₁} {O₂} {O₃} {O₄} {O₅} {p} {q} {r} {p′} {q′} {b} w v o l k = record {
     each = λ P E m e es γ sh t.
         let n = call-name t in let h = call-method t in
         let γ′ = typed-or (type-of (world P) e 0 γ) .slots in
-        let x : SomeCall R T C S at vars next place =
+        let x : SomeCall R T M C S at vars next place =
         record { P = P; E = E; m = m; e = e; es = es; γ = γ; sh = sh; task = t } in
         let z : q ≡ place + 8 + 4 * count es = rw (n .1) at (call-ended x w v) in
-        let v′ = rw (n .0, n .1, n .2) at v in
-        let u = v′ .each P-parameter (call-types t) (h .2) (h .0) in
+        let y : suc (h .2) - 1 ≡ h .2 = omega arith in
+        let v′ = rw (n .0, n .1, n .2, h .3, y) at v in
+        let u = v′ .each P-parameter (call-types t) (h .5) (h .0) in
         let o′ = rw (n .1) at o in
         let em = o′ .each P E (call-arguments t) (call-shape t) (call-nodes t q z)
         (omega (arith, nodes-counted (world P) es γ′))

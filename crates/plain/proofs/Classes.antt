@@ -29,14 +29,14 @@ class-length W k c =
       fields-length (c .fields),
     )
 
-module _ {R T C : List ℕ} {at place : ℕ} where
-  first-row : {P : List Class} {E : List ℕ} {k r : ℕ} (c : Class) → ClassTask P E k c R T C at place
+module _ {R T M C : List ℕ} {at place : ℕ} where
+  first-row : {P : List Class} {E : List ℕ} {k r : ℕ} (c : Class) → ClassTask P E k c R T M C at place
       → Skipped R 70 (at + 1) r → r ≡ methods-from-row at c
   first-row {P} {E} c t s = first-of c (class-stands P E R C c (t .ready)) (t .after) s
 
-  class-methods : {P : List Class} {E : List ℕ} {k : ℕ} (c : Class) → ClassTask P E k c R T C at place
+  class-methods : {P : List Class} {E : List ℕ} {k : ℕ} (c : Class) → ClassTask P E k c R T M C at place
       → (r q : ℕ) → r ≡ methods-from-row at c
-      → q ≡ place + 4 + 4 * length (c .fields) → MethodsTask P E k (c .methods) R T C r q
+      → q ≡ place + 4 + 4 * length (c .fields) → MethodsTask P E k (c .methods) R T M C r q
   unfolding class-lines
   class-methods {P} {E} {k} c t r q z y =
       let a : at + (1 + length (c .fields) + methods-lines (c .methods))
@@ -50,7 +50,7 @@ module _ {R T C : List ℕ} {at place : ℕ} where
         fits = f;
       })
 
-  pub class-known : SomeClass R T C at place
+  pub class-known : SomeClass R T M C at place
       → (at * 4 + 3 < length R) × (at < 60000) × (getD R (at * 4 + 2) 0 < 65536) × (place + 4 ≤ most-numbers)
   class-known x = let r = x .task .ready .line .within in (
     r,
@@ -59,7 +59,7 @@ module _ {R T C : List ℕ} {at place : ℕ} where
     omega (arith, x .task .fits, class-length (world (x .P)) (x .k) (x .c)),
   )
 
-  pub class-fields : SomeClass R T C at place → (r n p : ℕ) → Skipped R 70 (at + 1) r → n ≡ r - at - 1
+  pub class-fields : SomeClass R T M C at place → (r n p : ℕ) → Skipped R 70 (at + 1) r → n ≡ r - at - 1
       → p ≡ place + 4
       → SomeFieldLines R (at + 1) n × (p + 4 * n ≤ most-numbers)
   class-fields x r n p s z y = let e = first-row (x .c) (x .task) s in (
@@ -70,14 +70,14 @@ module _ {R T C : List ℕ} {at place : ℕ} where
   module _ {O O₁ O₂ : List ℕ} {r n p q a : ℕ} (s : Skipped R 70 (at + 1) r) (z : n ≡ r - at - 1)
       (w : Written (67 ∷ 0 ∷ a ∷ 0 ∷ []) O O₁ place p)
       (v : FieldsWritten R (at + 1) n O₁ O₂ p q) where
-    class-wrote : {P : List Class} {E : List ℕ} {k : ℕ} (c : Class) → ClassTask P E k c R T C at place
+    class-wrote : {P : List Class} {E : List ℕ} {k : ℕ} (c : Class) → ClassTask P E k c R T M C at place
         → (r ≡ methods-from-row at c) × Written (field-lines (c .fields)) O₁ O₂ p q
         × (q ≡ place + 4 + 4 * length (c .fields))
     class-wrote c t = let e = first-row c t s in let f =
         v .each (c .fields) (t .ready .fields) (omega (arith, e, z)) in
         (e, f, omega (arith, f .ended, w .ended, fields-length (c .fields)))
 
-    pub class-some : SomeClass R T C at place → SomeMethods R T C r q
+    pub class-some : SomeClass R T M C at place → SomeMethods R T M C r q
     class-some x = let d = class-wrote (x .c) (x .task) in
         record {
           P = x .P;
@@ -88,7 +88,7 @@ module _ {R T C : List ℕ} {at place : ℕ} where
         }
 
     pub class-done : {O₃ : List ℕ} {p₃ b₃ : ℕ} → a ≡ getD R (at * 4 + 2) 0 + 2
-        → MethodsEmitted R T C O₂ O₃ r q p₃ b₃ → ClassEmitted R T C O O₃ at place p₃ b₃
+        → MethodsEmitted R T M C O₂ O₃ r q p₃ b₃ → ClassEmitted R T M C O O₃ at place p₃ b₃
     unfolding class-numbers class-lines
     class-done {O₃} {p₃} {b₃} h o = record {
       each = λ P E k c t.
@@ -100,9 +100,9 @@ module _ {R T C : List ℕ} {at place : ℕ} where
     }
 
 -- classes: the first, and the rest
-module _ {P : List Class} {E : List ℕ} {k : ℕ} {R T C : List ℕ} {at place : ℕ} where
-  class-first : (c : Class) (cs : List Class) → ClassesTask P E k (c ∷ cs) R T C at place
-      → ClassTask P E k c R T C at place
+module _ {P : List Class} {E : List ℕ} {k : ℕ} {R T M C : List ℕ} {at place : ℕ} where
+  class-first : (c : Class) (cs : List Class) → ClassesTask P E k (c ∷ cs) R T M C at place
+      → ClassTask P E k c R T M C at place
   unfolding EachClass classes-numbers
   class-first c cs t =
       let f : place + length (class-numbers (world P) k c) ≤ most-numbers
@@ -117,9 +117,9 @@ module _ {P : List Class} {E : List ℕ} {k : ℕ} {R T C : List ℕ} {at place 
         fits = f;
       }
 
-  class-rest : (c : Class) (cs : List Class) → ClassesTask P E k (c ∷ cs) R T C at place → (p b : ℕ)
+  class-rest : (c : Class) (cs : List Class) → ClassesTask P E k (c ∷ cs) R T M C at place → (p b : ℕ)
       → p ≡ place + length (class-numbers (world P) k c)
-      → b ≡ at + class-lines c → ClassesTask P E (suc k) cs R T C b p
+      → b ≡ at + class-lines c → ClassesTask P E (suc k) cs R T M C b p
   unfolding EachClass classes-numbers classes-lines
   class-rest c cs t p b z y =
       let a : at + (class-lines c + classes-lines cs) ≡ at + class-lines c + classes-lines cs = omega arith in
@@ -138,32 +138,33 @@ module _ {P : List Class} {E : List ℕ} {k : ℕ} {R T C : List ℕ} {at place 
         fits = f;
       })
 
-module _ {R T C : List ℕ} {at place : ℕ} where
-  pub classes-known : SomeClasses R T C at place → (at * 4 + 3 < length R) × (at < 60000)
+module _ {R T M C : List ℕ} {at place : ℕ} where
+  pub classes-known : SomeClasses R T M C at place → (at * 4 + 3 < length R) × (at < 60000)
   classes-known x = let r = class-row (x .cs) (classes-stand (x .task)) in
       (r, omega (arith, r, x .task .lent .short))
 
-  pub classes-end : {O : List ℕ} → getD R (at * 4) 0 ≢ 67 → ClassesEmitted R T C O O at place place at
+  pub classes-end : {O : List ℕ} → getD R (at * 4) 0 ≢ 67 → ClassesEmitted R T M C O O at place place at
   unfolding EachClass classes-numbers classes-lines
   classes-end {O} h = record { each = λ P E k cs t. go P E k cs t }
     where
-      go : (P : List Class) (E : List ℕ) (k : ℕ) (cs : List Class) → ClassesTask P E k cs R T C at place
+      go : (P : List Class) (E : List ℕ) (k : ℕ) (cs : List Class) → ClassesTask P E k cs R T M C at place
           → Emitted (classes-numbers (world P) k cs) (classes-lines cs) O O place at place at
       go P E k [] t = record { written = written-none; passed = omega arith }
       go P E k (c ∷ cs) t = absurd (not-class c cs (classes-stand t) h)
 
   with-class : {D : Type 0} {P : List Class} {E : List ℕ} {k : ℕ} (cs : List Class) → getD R (at * 4) 0 ≡ 67
-      → ClassesTask P E k cs R T C at place
-      → ((c : Class) (cs : List Class) → ClassesTask P E k (c ∷ cs) R T C at place → D) → D
+      → ClassesTask P E k cs R T M C at place
+      → ((c : Class) (cs : List Class) → ClassesTask P E k (c ∷ cs) R T M C at place → D) → D
   with-class [] h t f = absurd (no-class (classes-stand t) h)
   with-class (c ∷ cs) h t f = f c cs t
 
-  pub classes-first : SomeClasses R T C at place → getD R (at * 4) 0 ≡ 67 → SomeClass R T C at place
+  pub classes-first : SomeClasses R T M C at place → getD R (at * 4) 0 ≡ 67 → SomeClass R T M C at place
   classes-first y h = with-class (y .cs) h (y .task) λ c cs t.
       record { P = y .P; E = y .E; k = y .k; c = c; task = class-first c cs t }
 
-  module _ {O O₁ : List ℕ} {p b : ℕ} (o : ClassEmitted R T C O O₁ at place p b) where
-    pub classes-rest : SomeClasses R T C at place → getD R (at * 4) 0 ≡ 67 → SomeClasses R T C b p × (at < b)
+  module _ {O O₁ : List ℕ} {p b : ℕ} (o : ClassEmitted R T M C O O₁ at place p b) where
+    pub classes-rest : SomeClasses R T M C at place → getD R (at * 4) 0 ≡ 67
+        → SomeClasses R T M C b p × (at < b)
     classes-rest y h = with-class (y .cs) h (y .task) λ c cs t. let d =
         o .each (y .P) (y .E) (y .k) c (class-first c cs t) in (
           record {
@@ -177,11 +178,11 @@ module _ {R T C : List ℕ} {at place : ℕ} where
         )
 
     pub classes-step : {O₂ : List ℕ} {p₂ b₂ : ℕ} → getD R (at * 4) 0 ≡ 67
-        → ClassesEmitted R T C O₁ O₂ b p p₂ b₂ → ClassesEmitted R T C O O₂ at place p₂ b₂
+        → ClassesEmitted R T M C O₁ O₂ b p p₂ b₂ → ClassesEmitted R T M C O O₂ at place p₂ b₂
     unfolding classes-numbers classes-lines
     classes-step {O₂} {p₂} {b₂} h v = record { each = λ P E k cs t. go P E k cs t }
       where
-        go : (P : List Class) (E : List ℕ) (k : ℕ) (cs : List Class) → ClassesTask P E k cs R T C at place
+        go : (P : List Class) (E : List ℕ) (k : ℕ) (cs : List Class) → ClassesTask P E k cs R T M C at place
             → Emitted (classes-numbers (world P) k cs) (classes-lines cs) O O₂ place at p₂ b₂
         go P E k [] t = absurd (no-class (classes-stand t) h)
         go P E k (c ∷ cs) t = let d = o .each P E k c (class-first c cs t) in let e =

@@ -24,12 +24,12 @@ use Rattle.plain.proofs.Numbers.{lines-append}
 use Rattle.plain.proofs.Lines.{types-length}
 use Rattle.plain.proofs.Standing.{method-rows, lines-positive, stand-row, no-method, methods-stand}
 
-module _ {R T C : List ℕ} {at body place count : ℕ} where
-  pub method-known : SomeMethod R T C at body place count
+module _ {R T M C : List ℕ} {at body place count : ℕ} where
+  pub method-known : SomeMethod R T M C at body place count
       → (at * 4 + 3 < length R) × (place + 4 + 4 * count ≤ most-numbers)
   method-known x = (x .task .row .within, omega (arith, x .task .task .fits, x .counted))
 
-  pub method-types : SomeMethod R T C at body place count → SomeTypes R (at + 1) count
+  pub method-types : SomeMethod R T M C at body place count → SomeTypes R (at + 1) count
   method-types x = record {
     letter = P-parameter;
     ts = x .m .parameters;
@@ -37,7 +37,7 @@ module _ {R T C : List ℕ} {at body place count : ℕ} where
     counted = x .counted;
   }
 
-  pub method-ended : {O O₁ O₂ : List ℕ} {p q a b : ℕ} → SomeMethod R T C at body place count
+  pub method-ended : {O O₁ O₂ : List ℕ} {p q a b : ℕ} → SomeMethod R T M C at body place count
       → Written (77 ∷ a ∷ b ∷ 0 ∷ []) O O₁ place p
       → TypesWritten R (at + 1) count 80 O₁ O₂ p q → q ≡ place + 4 + 4 * count
   method-ended x w v =
@@ -49,8 +49,8 @@ module _ {R T C : List ℕ} {at body place count : ℕ} where
         x .counted,
       )
 
-  pub method-body : (x : SomeMethod R T C at body place count) (q : ℕ) → q ≡ place + 4 + 4 * count
-      → SomeBody R T C body q count
+  pub method-body : (x : SomeMethod R T M C at body place count) (q : ℕ) → q ≡ place + 4 + 4 * count
+      → SomeBody R T M C body q count
   method-body x q z = let e : q ≡ place + 4 + 4 * length (x .m .parameters) = omega (arith, z, x .counted) in
       rw e (record {
         P = x .P;
@@ -64,8 +64,8 @@ module _ {R T C : List ℕ} {at body place count : ℕ} where
 
   pub method-done : {O O₁ O₂ O₃ : List ℕ} {p q r b u : ℕ} → u ≡ plain-number (getD R (at * 4 + 1) 0)
       → Written (77 ∷ u ∷ getD R (at * 4 + 2) 0 ∷ 0 ∷ []) O O₁ place p
-      → TypesWritten R (at + 1) count 80 O₁ O₂ p q → BodyEmitted R T C O₂ O₃ body q count r b
-      → MethodEmitted R T C O O₃ at body place count r b
+      → TypesWritten R (at + 1) count 80 O₁ O₂ p q → BodyEmitted R T M C O₂ O₃ body q count r b
+      → MethodEmitted R T M C O O₃ at body place count r b
   unfolding method-numbers
   method-done {O} {O₁} {O₂} {O₃} {p} {q} {r} {b} {u} k w v o = record {
     each = λ P E owner m t c.
@@ -122,10 +122,10 @@ method-length W k m = let n =
     omega (arith, length-append (type-lines 80 (m .parameters)) n, types-length 80 (m .parameters))
 
 -- methods: the first, and the rest
-module _ {P : List Class} {E : List ℕ} {k : ℕ} {R T C : List ℕ} {at place : ℕ} where
-  method-first : (m : Declaration) (ms : List Declaration) → MethodsTask P E k (m ∷ ms) R T C at place
+module _ {P : List Class} {E : List ℕ} {k : ℕ} {R T M C : List ℕ} {at place : ℕ} where
+  method-first : (m : Declaration) (ms : List Declaration) → MethodsTask P E k (m ∷ ms) R T M C at place
       → (x b : ℕ) → Skipped R 80 (at + 1) x → Skipped R 88 x b
-      → (x ≡ at + 1 + length (m .parameters)) × (b ≡ body-row at m) × MethodTask P E k m R T C at b place
+      → (x ≡ at + 1 + length (m .parameters)) × (b ≡ body-row at m) × MethodTask P E k m R T M C at b place
   unfolding EachMethod methods-numbers
   method-first m ms t x b s u =
       let y = t .methods .0 in let z = method-rows (y .rows) s u in
@@ -155,9 +155,9 @@ module _ {P : List Class} {E : List ℕ} {k : ℕ} {R T C : List ℕ} {at place 
         },
       )
 
-  method-rest : (m : Declaration) (ms : List Declaration) → MethodsTask P E k (m ∷ ms) R T C at place
+  method-rest : (m : Declaration) (ms : List Declaration) → MethodsTask P E k (m ∷ ms) R T M C at place
       → (p b : ℕ) → p ≡ place + length (method-numbers (world P) k m)
-      → b ≡ at + method-lines m → MethodsTask P E k ms R T C b p
+      → b ≡ at + method-lines m → MethodsTask P E k ms R T M C b p
   unfolding EachMethod methods-numbers methods-lines
   method-rest m ms t p b z y =
       let a : at + (method-lines m + methods-lines ms) ≡ at + method-lines m + methods-lines ms =
@@ -176,44 +176,45 @@ module _ {P : List Class} {E : List ℕ} {k : ℕ} {R T C : List ℕ} {at place 
         fits = f;
       })
 
-module _ {R T C : List ℕ} {at place : ℕ} where
-  pub methods-known : SomeMethods R T C at place → (at * 4 + 3 < length R) × (at < 60000)
+module _ {R T M C : List ℕ} {at place : ℕ} where
+  pub methods-known : SomeMethods R T M C at place → (at * 4 + 3 < length R) × (at < 60000)
   methods-known x = let r = stand-row (x .ms) (methods-stand (x .task)) in
       (r, omega (arith, r, x .task .lent .short))
 
-  pub methods-end : {O : List ℕ} → getD R (at * 4) 0 ≢ 77 → MethodsEmitted R T C O O at place place at
+  pub methods-end : {O : List ℕ} → getD R (at * 4) 0 ≢ 77 → MethodsEmitted R T M C O O at place place at
   unfolding EachMethod methods-numbers methods-lines
   methods-end {O} h = record { each = λ P E k ms t. go P E k ms t }
     where
-      go : (P : List Class) (E : List ℕ) (k : ℕ) (ms : List Declaration) → MethodsTask P E k ms R T C at place
+      go : (P : List Class) (E : List ℕ) (k : ℕ) (ms : List Declaration)
+          → MethodsTask P E k ms R T M C at place
           → Emitted (methods-numbers (world P) k ms) (methods-lines ms) O O place at place at
       go P E k [] t = record { written = written-none; passed = omega arith }
       go P E k (m ∷ ms) t = absurd (h (t .methods .0 .rows .line .letter))
 
   with-method : {D : Type 0} {P : List Class} {E : List ℕ} {k : ℕ} (ms : List Declaration)
-      → getD R (at * 4) 0 ≡ 77 → MethodsTask P E k ms R T C at place
-      → ((m : Declaration) (ms : List Declaration) → MethodsTask P E k (m ∷ ms) R T C at place → D) → D
+      → getD R (at * 4) 0 ≡ 77 → MethodsTask P E k ms R T M C at place
+      → ((m : Declaration) (ms : List Declaration) → MethodsTask P E k (m ∷ ms) R T M C at place → D) → D
   with-method [] h t f = absurd (no-method (methods-stand t) h)
   with-method (m ∷ ms) h t f = f m ms t
 
-  pub methods-first : SomeMethods R T C at place → getD R (at * 4) 0 ≡ 77 → (x b n : ℕ)
+  pub methods-first : SomeMethods R T M C at place → getD R (at * 4) 0 ≡ 77 → (x b n : ℕ)
       → Skipped R 80 (at + 1) x → Skipped R 88 x b → n ≡ x - at - 1
-      → SomeMethod R T C at b place n
+      → SomeMethod R T M C at b place n
   methods-first y h x b n s u z = with-method (y .ms) h (y .task) λ m ms t. let q =
       method-first m ms t x b s u in
       record { P = y .P; E = y .E; owner = y .k; m = m; task = q .2; counted = omega (arith, q .0, z) }
 
   module _ {O O₁ : List ℕ} {x b n p b′ : ℕ} (s : Skipped R 80 (at + 1) x) (u : Skipped R 88 x b)
-      (z : n ≡ x - at - 1) (o : MethodEmitted R T C O O₁ at b place n p b′) where
+      (z : n ≡ x - at - 1) (o : MethodEmitted R T M C O O₁ at b place n p b′) where
     method-emitted : {P : List Class} {E : List ℕ} {k : ℕ} (m : Declaration) (ms : List Declaration)
-        → MethodsTask P E k (m ∷ ms) R T C at place
+        → MethodsTask P E k (m ∷ ms) R T M C at place
         → Written (method-numbers (world P) k m) O O₁ place p × (b′ ≡ at + method-lines m)
     method-emitted {P} {E} {k} m ms t = let q = method-first m ms t x b s u in
         let e = o .each P E k m (q .2) (omega (arith, q .0, z)) in
         (e .written, method-passed at m (q .1) (e .passed))
 
-    pub methods-rest : SomeMethods R T C at place → getD R (at * 4) 0 ≡ 77
-        → SomeMethods R T C b′ p × (at < b′)
+    pub methods-rest : SomeMethods R T M C at place → getD R (at * 4) 0 ≡ 77
+        → SomeMethods R T M C b′ p × (at < b′)
     methods-rest y h = with-method (y .ms) h (y .task) λ m ms t. let d = method-emitted m ms t in (
       record {
         P = y .P;
@@ -226,12 +227,12 @@ module _ {R T C : List ℕ} {at place : ℕ} where
     )
 
     pub methods-step : {O₂ : List ℕ} {p₂ b₂ : ℕ} → getD R (at * 4) 0 ≡ 77
-        → MethodsEmitted R T C O₁ O₂ b′ p p₂ b₂ → MethodsEmitted R T C O O₂ at place p₂ b₂
+        → MethodsEmitted R T M C O₁ O₂ b′ p p₂ b₂ → MethodsEmitted R T M C O O₂ at place p₂ b₂
     unfolding methods-numbers methods-lines
     methods-step {O₂} {p₂} {b₂} h v = record { each = λ P E k ms t. go P E k ms t }
       where
         go : (P : List Class) (E : List ℕ) (k : ℕ) (ms : List Declaration)
-            → MethodsTask P E k ms R T C at place
+            → MethodsTask P E k ms R T M C at place
             → Emitted (methods-numbers (world P) k ms) (methods-lines ms) O O₂ place at p₂ b₂
         go P E k [] t = absurd (no-method (methods-stand t) h)
         go P E k (m ∷ ms) t = let d = method-emitted m ms t in let e =

@@ -57,11 +57,11 @@ nodes-sizes W nil γ = refl
 nodes-sizes W (cons e es) γ =
     ap (λ (n : ℕ). size e + n) (nodes-sizes W es (typed-or (type-of W e 0 γ) .slots))
 
-module _ {P : List Class} {E : List ℕ} {γ : Environment} {sh : Shape} {R T C S : List ℕ}
+module _ {P : List Class} {E : List ℕ} {γ : Environment} {sh : Shape} {R T M C S : List ℕ}
     {at vars next place : ℕ} {e : Expr} {es : Nodes} where
-  first-task : NodesTask P E (also e γ es) sh R T C S at vars next place → (p : ℕ) → place ≤ p
+  first-task : NodesTask P E (also e γ es) sh R T M C S at vars next place → (p : ℕ) → place ≤ p
       → p + length (node-numbers (world P) e γ sh) ≤ most-numbers
-      → NodeTask P E e γ sh R T C S at vars next p
+      → NodeTask P E e γ sh R T M C S at vars next p
   unfolding EncodedNodes LooksUpNodes ReadyNodes
   first-task t p h f =
       record {
@@ -73,8 +73,8 @@ module _ {P : List Class} {E : List ℕ} {γ : Environment} {sh : Shape} {R T C 
         fits = f;
       }
 
-  pub rest-task : NodesTask P E (also e γ es) sh R T C S at vars next place → (p b : ℕ) → place ≤ p
-      → b ≡ at + size e → NodesTask P E es sh R T C S b vars next p
+  pub rest-task : NodesTask P E (also e γ es) sh R T M C S at vars next place → (p b : ℕ) → place ≤ p
+      → b ≡ at + size e → NodesTask P E es sh R T M C S b vars next p
   unfolding EncodedNodes LooksUpNodes ReadyNodes
   rest-task t p b h k =
       rw k (record {
@@ -85,15 +85,16 @@ module _ {P : List Class} {E : List ℕ} {γ : Environment} {sh : Shape} {R T C 
         low = omega (arith, t .low, h);
       })
 
-module _ {R T C S : List ℕ} {at vars next place count : ℕ} where
-  pub nodes-first : SomeNodes R T C S at vars next place count → count ≢ 0
-      → SomeNode R T C S at vars next place
+module _ {R T M C S : List ℕ} {at vars next place count : ℕ} where
+  pub nodes-first : SomeNodes R T M C S at vars next place count → count ≢ 0
+      → SomeNode R T M C S at vars next place
   unfolding how-many nodes-numbers
   nodes-first x h = go (x .es) (x .task) (x .counted) (x .fits)
     where
-      go : (es : Nodes) → NodesTask (x .P) (x .E) es (x .sh) R T C S at vars next place → how-many es ≡ count
+      go : (es : Nodes) → NodesTask (x .P) (x .E) es (x .sh) R T M C S at vars next place
+          → how-many es ≡ count
           → place + length (nodes-numbers (world (x .P)) (x .sh) es) ≤ most-numbers
-          → SomeNode R T C S at vars next place
+          → SomeNode R T M C S at vars next place
       go none t k f = absurd (h (sym k))
       go (also e γ es) t k f = record {
         P = x .P;
@@ -110,15 +111,16 @@ module _ {R T C S : List ℕ} {at vars next place count : ℕ} where
             ));
       }
 
-  pub nodes-rest : {O O₁ : List ℕ} {p b : ℕ} → SomeNodes R T C S at vars next place count → count ≢ 0
-      → NodeEmitted R T C S O O₁ at vars next place p b
-      → SomeNodes R T C S b vars next p (count - 1) × (at < b)
+  pub nodes-rest : {O O₁ : List ℕ} {p b : ℕ} → SomeNodes R T M C S at vars next place count → count ≢ 0
+      → NodeEmitted R T M C S O O₁ at vars next place p b
+      → SomeNodes R T M C S b vars next p (count - 1) × (at < b)
   unfolding how-many nodes-numbers
   nodes-rest {O} {O₁} {p} {b} x h m = go (x .es) (x .task) (x .counted) (x .fits)
     where
-      go : (es : Nodes) → NodesTask (x .P) (x .E) es (x .sh) R T C S at vars next place → how-many es ≡ count
+      go : (es : Nodes) → NodesTask (x .P) (x .E) es (x .sh) R T M C S at vars next place
+          → how-many es ≡ count
           → place + length (nodes-numbers (world (x .P)) (x .sh) es) ≤ most-numbers
-          → SomeNodes R T C S b vars next p (count - 1) × (at < b)
+          → SomeNodes R T M C S b vars next p (count - 1) × (at < b)
       go none t k f = absurd (h (sym k))
       go (also e γ es) t k f =
           let r = length-append (node-numbers (world (x .P)) e γ (x .sh))
@@ -138,14 +140,14 @@ module _ {R T C S : List ℕ} {at vars next place count : ℕ} where
           )
 
   pub nodes-step : {O O₁ O₂ : List ℕ} {p b q d : ℕ} → count ≢ 0
-      → NodeEmitted R T C S O O₁ at vars next place p b
-      → NodesEmitted R T C S O₁ O₂ b vars next p (count - 1) q d
-      → NodesEmitted R T C S O O₂ at vars next place count q d
+      → NodeEmitted R T M C S O O₁ at vars next place p b
+      → NodesEmitted R T M C S O₁ O₂ b vars next p (count - 1) q d
+      → NodesEmitted R T M C S O O₂ at vars next place count q d
   unfolding how-many nodes-numbers rows-taken
   nodes-step {O} {O₁} {O₂} {p} {b} {q} {d} h m n = record { each = λ P E es sh t k f. go P E es sh t k f }
     where
       go : (P : List Class) (E : List ℕ) (es : Nodes) (sh : Shape)
-          → NodesTask P E es sh R T C S at vars next place → how-many es ≡ count
+          → NodesTask P E es sh R T M C S at vars next place → how-many es ≡ count
           → place + length (nodes-numbers (world P) sh es) ≤ most-numbers
           → Emitted (nodes-numbers (world P) sh es) (rows-taken es) O O₂ place at q d
       go P E none sh t k f = absurd (h (sym k))
@@ -157,8 +159,8 @@ module _ {R T C S : List ℕ} {at vars next place count : ℕ} where
           (omega (arith, f, r, o .written .ended)) in
           whole (written-then (o .written) (u .written)) refl (omega (arith, o .passed, u .passed))
 
-module _ {R T C S O : List ℕ} {at vars next place count : ℕ} where
-  pub nodes-none : count ≡ 0 → NodesEmitted R T C S O O at vars next place count place at
+module _ {R T M C S O : List ℕ} {at vars next place count : ℕ} where
+  pub nodes-none : count ≡ 0 → NodesEmitted R T M C S O O at vars next place count place at
   unfolding nodes-numbers rows-taken how-many
   nodes-none z = record { each = λ P E es sh t k f. go P E es sh k }
     where
@@ -167,15 +169,17 @@ module _ {R T C S O : List ℕ} {at vars next place count : ℕ} where
       go P E none sh k = record { written = written-none; passed = omega arith }
       go P E (also e γ es) sh k = absurd (omega (arith, k, z))
 
-module _ {R T C S : List ℕ} {at vars next place count s : ℕ} where
-  pub arguments-first : SomeArguments R T C S at vars next place count s → count ≢ 0 → (p : ℕ) → p ≡ place + 4
-      → SomeNode R T C S at vars next p
+module _ {R T M C S : List ℕ} {at vars next place count s : ℕ} where
+  pub arguments-first : SomeArguments R T M C S at vars next place count s → count ≢ 0 → (p : ℕ)
+      → p ≡ place + 4
+      → SomeNode R T M C S at vars next p
   unfolding how-many arguments-numbers
   arguments-first x h p q = go (x .es) (x .task) (x .counted) (x .fits)
     where
-      go : (es : Nodes) → NodesTask (x .P) (x .E) es (x .sh) R T C S at vars next place → how-many es ≡ count
+      go : (es : Nodes) → NodesTask (x .P) (x .E) es (x .sh) R T M C S at vars next place
+          → how-many es ≡ count
           → place + length (arguments-numbers (world (x .P)) (x .sh) s es) ≤ most-numbers
-          → SomeNode R T C S at vars next p
+          → SomeNode R T M C S at vars next p
       go none t k f = absurd (h (sym k))
       go (also e γ es) t k f = record {
         P = x .P;
@@ -193,12 +197,13 @@ module _ {R T C S : List ℕ} {at vars next place count s : ℕ} where
             ));
       }
 
-  pub arguments-line : SomeArguments R T C S at vars next place count s → count ≢ 0
+  pub arguments-line : SomeArguments R T M C S at vars next place count s → count ≢ 0
       → (place + 4 ≤ most-numbers) × (at < 60000)
   unfolding how-many arguments-numbers
   arguments-line x h = go (x .es) (x .task) (x .counted) (x .fits)
     where
-      go : (es : Nodes) → NodesTask (x .P) (x .E) es (x .sh) R T C S at vars next place → how-many es ≡ count
+      go : (es : Nodes) → NodesTask (x .P) (x .E) es (x .sh) R T M C S at vars next place
+          → how-many es ≡ count
           → place + length (arguments-numbers (world (x .P)) (x .sh) s es) ≤ most-numbers
           → (place + 4 ≤ most-numbers) × (at < 60000)
       go none t k f = absurd (h (sym k))
@@ -208,15 +213,16 @@ module _ {R T C S : List ℕ} {at vars next place count s : ℕ} where
           let g : place + 4 ≤ most-numbers = omega (arith, f) in
           (g, node-row (first-task t place (omega arith) (omega (arith, f, r))) .1)
 
-  pub arguments-rest : {O O₁ : List ℕ} {p q b : ℕ} → SomeArguments R T C S at vars next place count s
-      → count ≢ 0 → p ≡ place + 4 → NodeEmitted R T C S O O₁ at vars next p q b
-      → SomeArguments R T C S b vars next q (count - 1) (s + 1) × (at < b)
+  pub arguments-rest : {O O₁ : List ℕ} {p q b : ℕ} → SomeArguments R T M C S at vars next place count s
+      → count ≢ 0 → p ≡ place + 4 → NodeEmitted R T M C S O O₁ at vars next p q b
+      → SomeArguments R T M C S b vars next q (count - 1) (s + 1) × (at < b)
   unfolding how-many arguments-numbers
   arguments-rest {O} {O₁} {p} {q} {b} x h z m = go (x .es) (x .task) (x .counted) (x .fits)
     where
-      go : (es : Nodes) → NodesTask (x .P) (x .E) es (x .sh) R T C S at vars next place → how-many es ≡ count
+      go : (es : Nodes) → NodesTask (x .P) (x .E) es (x .sh) R T M C S at vars next place
+          → how-many es ≡ count
           → place + length (arguments-numbers (world (x .P)) (x .sh) s es) ≤ most-numbers
-          → SomeArguments R T C S b vars next q (count - 1) (s + 1) × (at < b)
+          → SomeArguments R T M C S b vars next q (count - 1) (s + 1) × (at < b)
       go none t k f = absurd (h (sym k))
       go (also e γ es) t k f =
           let r = length-append (node-numbers (world (x .P)) e γ (x .sh))
@@ -237,15 +243,15 @@ module _ {R T C S : List ℕ} {at vars next place count s : ℕ} where
           )
 
   pub arguments-step : {O O₁ O₂ O₃ : List ℕ} {p q b r d : ℕ} → count ≢ 0
-      → Written (65 ∷ s ∷ 0 ∷ 0 ∷ []) O O₁ place p → NodeEmitted R T C S O₁ O₂ at vars next p q b
-      → ArgumentsEmitted R T C S O₂ O₃ b vars next q (count - 1) (s + 1) r d
-      → ArgumentsEmitted R T C S O O₃ at vars next place count s r d
+      → Written (65 ∷ s ∷ 0 ∷ 0 ∷ []) O O₁ place p → NodeEmitted R T M C S O₁ O₂ at vars next p q b
+      → ArgumentsEmitted R T M C S O₂ O₃ b vars next q (count - 1) (s + 1) r d
+      → ArgumentsEmitted R T M C S O O₃ at vars next place count s r d
   unfolding how-many arguments-numbers rows-taken
   arguments-step {O} {O₁} {O₂} {O₃} {p} {q} {b} {r} {d} h w m n =
       record { each = λ P E es sh t k f. go P E es sh t k f }
     where
       go : (P : List Class) (E : List ℕ) (es : Nodes) (sh : Shape)
-          → NodesTask P E es sh R T C S at vars next place → how-many es ≡ count
+          → NodesTask P E es sh R T M C S at vars next place → how-many es ≡ count
           → place + length (arguments-numbers (world P) sh s es) ≤ most-numbers
           → Emitted (arguments-numbers (world P) sh s es) (rows-taken es) O O₃ place at r d
       go P E none sh t k f = absurd (h (sym k))
@@ -258,8 +264,8 @@ module _ {R T C S : List ℕ} {at vars next place count s : ℕ} where
           whole (written-then w (written-then (o .written) (u .written))) (rw add-one refl)
           (omega (arith, o .passed, u .passed))
 
-module _ {R T C S O : List ℕ} {at vars next place count s : ℕ} where
-  pub arguments-none : count ≡ 0 → ArgumentsEmitted R T C S O O at vars next place count s place at
+module _ {R T M C S O : List ℕ} {at vars next place count s : ℕ} where
+  pub arguments-none : count ≡ 0 → ArgumentsEmitted R T M C S O O at vars next place count s place at
   unfolding arguments-numbers rows-taken how-many
   arguments-none z = record { each = λ P E es sh t k f. go P E es sh k }
     where

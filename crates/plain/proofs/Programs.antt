@@ -129,7 +129,7 @@ program-length p i =
     )
 
 -- what is known of each method and of each class, put together
-module _ {p : Program} {E R T C : List ℕ} (t : ProgramTask p E R T C) where
+module _ {p : Program} {E R T M C : List ℕ} (t : ProgramTask p E R T M C) where
   each-method : (k : ℕ) (ms : List Declaration) (r : ℕ) → EachMethod (λ k m r. MethodAt R E m r) ms k r
       → EachMethod (λ k m r. LooksUp (world (p .classes)) C (m .body) (method-environment k (m .parameters))
       (body-row r m)) ms k r
@@ -162,7 +162,7 @@ module _ {p : Program} {E R T C : List ℕ} (t : ProgramTask p E R T C) where
     each-class (suc k) ds _ (a .1) (b .1) (c .1) is,
   )
 
-  program-classes : (q : ℕ) → q ≡ 16 → ClassesTask (p .classes) E 1 (p .classes) R T C 0 q
+  program-classes : (q : ℕ) → q ≡ 16 → ClassesTask (p .classes) E 1 (p .classes) R T M C 0 q
   program-classes q z =
       let y : 0 + classes-lines (p .classes) ≡ classes-lines (p .classes) = omega arith in record {
         lent = t .lent;
@@ -174,7 +174,7 @@ module _ {p : Program} {E R T C : List ℕ} (t : ProgramTask p E R T C) where
 
   program-body : (b q : ℕ) → b ≡ classes-lines (p .classes) + 1
       → q ≡ 16 + length (classes-numbers (world (p .classes)) 1 (p .classes)) + 4
-      → BodyTask (p .classes) E (p .start) start-environment [] R T C b q
+      → BodyTask (p .classes) E (p .start) start-environment [] R T M C b q
   program-body b q z y =
       let f : q + length (node-numbers (world (p .classes)) (p .start) start-environment []) ≤ most-numbers =
       omega (arith, y, t .fits, program-length p (t .rows .in-form)) in rw z (record {
@@ -187,14 +187,14 @@ module _ {p : Program} {E R T C : List ℕ} (t : ProgramTask p E R T C) where
         fits = f;
       })
 
-module _ {R T C : List ℕ} where
-  pub program-some-classes : SomeProgram R T C → (q : ℕ) → q ≡ 16 → SomeClasses R T C 0 q
+module _ {R T M C : List ℕ} where
+  pub program-some-classes : SomeProgram R T M C → (q : ℕ) → q ≡ 16 → SomeClasses R T M C 0 q
   program-some-classes x q z =
       record { P = x .p .classes; E = x .E; k = 1; cs = x .p .classes; task = program-classes (x .task) q z }
 
   module _ {O O₁ O₂ : List ℕ} {q r b : ℕ} (w : Written head-numbers O O₁ 0 q)
-      (o : ClassesEmitted R T C O₁ O₂ 0 q r b) where
-    classes-done : {p : Program} {E : List ℕ} → ProgramTask p E R T C
+      (o : ClassesEmitted R T M C O₁ O₂ 0 q r b) where
+    classes-done : {p : Program} {E : List ℕ} → ProgramTask p E R T M C
         → Written (classes-numbers (world (p .classes)) 1 (p .classes)) O₁ O₂ q r
         × (b ≡ classes-lines (p .classes))
         × (r ≡ 16 + length (classes-numbers (world (p .classes)) 1 (p .classes)))
@@ -202,14 +202,14 @@ module _ {R T C : List ℕ} where
         o .each (p .classes) E 1 (p .classes) (program-classes t q (omega (arith, w .ended))) in
         (e .written, omega (arith, e .passed), omega (arith, e .written .ended, w .ended))
 
-    pub program-room : SomeProgram R T C → (r + 4 ≤ most-numbers) × (b < 60000)
+    pub program-room : SomeProgram R T M C → (r + 4 ≤ most-numbers) × (b < 60000)
     program-room x = let d = classes-done (x .task) in (
       omega (arith, d .2, x .task .fits, program-length (x .p) (x .task .rows .in-form)),
       omega (arith, d .1, x .task .rows .all, x .task .rows .short),
     )
 
-    pub program-some-body : {O₃ : List ℕ} {s : ℕ} → SomeProgram R T C
-        → Written (83 ∷ 0 ∷ 0 ∷ 0 ∷ []) O₂ O₃ r s → SomeBody R T C (b + 1) s 0
+    pub program-some-body : {O₃ : List ℕ} {s : ℕ} → SomeProgram R T M C
+        → Written (83 ∷ 0 ∷ 0 ∷ 0 ∷ []) O₂ O₃ r s → SomeBody R T M C (b + 1) s 0
     program-some-body {O₃} {s} x v = let d = classes-done (x .task) in
         record {
           P = x .p .classes;
@@ -222,7 +222,7 @@ module _ {R T C : List ℕ} where
         }
 
     pub program-done : {O₃ O₄ : List ℕ} {s n a : ℕ} → Written (83 ∷ 0 ∷ 0 ∷ 0 ∷ []) O₂ O₃ r s
-        → BodyEmitted R T C O₃ O₄ (b + 1) s 0 n a → ProgramWritten R T C O O₄ n
+        → BodyEmitted R T M C O₃ O₄ (b + 1) s 0 n a → ProgramWritten R T M C O O₄ n
     program-done {O₃} {O₄} {s} {n} {a} v u = record {
       each = λ p E t.
           let d = classes-done t in

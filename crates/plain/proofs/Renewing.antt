@@ -23,8 +23,8 @@ module _ {R T : List ℕ} {place root : ℕ} where
   pub renew-known : SomeCopies R T place root
       → (root * 576 + 576 ≤ length T) × (getD T (root * 576 + 515) 0 ≤ 17)
       × (place + 16 * getD T (root * 576 + 515) 0 ≤ most-numbers)
-  renew-known x = let c = x .members .counts root (x .declared) in (
-    omega (arith, x .members .long, x .declared),
+  renew-known x = let c = x .members .tables .counts root (x .declared) in (
+    omega (arith, x .members .tables .long, x .declared),
     omega (arith, c, x .members .few root (x .declared)),
     omega (arith, c, x .fits),
   )
@@ -34,7 +34,7 @@ module _ {R T : List ℕ} {place root : ℕ} where
   renew-fields x = record {
     fs = world (x .P) .fields root;
     rows = x .members .fields root (x .declared);
-    counted = sym (x .members .counts root (x .declared));
+    counted = sym (x .members .tables .counts root (x .declared));
   }
 
   pub copies-ended : {O O′ : List ℕ} {s p q : ℕ} → SomeCopies R T place root
@@ -50,10 +50,10 @@ pub renew-done : {R T O O₁ O₂ O₃ : List ℕ} {place root n d p q r : ℕ}
     → RenewWritten R T n d root O O₃ place r
 unfolding renew-lines
 renew-done {R} {T} {O} {O₁} {O₂} {O₃} {place} {root} {n} {d} h m l = record {
-  each = λ P M k.
-      let c = M .counts root k in
+  each = λ P x k.
+      let c = x .tables .counts root k in
       let h′ : Written (renew-head n d root (length (world P .fields root))) O O₁ place _ = rw c at h in
-      written-then h′ (written-then (m .each (world P .fields root) (M .fields root k) (sym c)) l);
+      written-then h′ (written-then (m .each (world P .fields root) (x .fields root k) (sym c)) l);
 }
 
 -- ---- the whole
@@ -71,11 +71,11 @@ head-other {s} h = go s h
 module _ {R T : List ℕ} {place s d : ℕ} where
   pub change-root : SomeChange R T place s d
       → (d * 576 + 576 ≤ length T) × (place + head-length s + 60 ≤ most-numbers)
-  change-root x = (omega (arith, x .members .long, x .declared), omega (arith, x .fits))
+  change-root x = (omega (arith, x .members .tables .long, x .declared), omega (arith, x .fits))
 
   pub change-copies : SomeChange R T place s d → (p h : ℕ) → head-length s ≡ h → p ≡ place + h
       → SomeCopies R T (p + 56) (getD T (d * 576 + 514) 0)
-  change-copies x p h e q = let r = x .members .roots d (x .declared) in
+  change-copies x p h e q = let r = x .members .tables .roots d (x .declared) in
       rw r (record {
         P = x .P;
         members = x .members;
@@ -87,7 +87,7 @@ module _ {R T : List ℕ} {place s d : ℕ} where
       → p ≡ place + h
       → RenewWritten R T n d (getD T (d * 576 + 514) 0) O O′ p q → q + 4 ≤ most-numbers
   change-after {O} {O′} {n} {p} {q} {h} x e z m =
-      let r = x .members .roots d (x .declared) in
+      let r = x .members .tables .roots d (x .declared) in
       let m′ = rw r at m in
       let w = m′ .each (x .P) (x .members) (x .root-declared) in
       omega (
@@ -105,11 +105,11 @@ pub change-done : {R T O O₁ O₂ O₃ : List ℕ} {place s n d p q r : ℕ} (x
     → ChangeWritten R T s n d O O₃ place r
 unfolding change-lines
 change-done {R} {T} {O} {O₁} {O₂} {O₃} {place} {s} {n} {d} {p} {q} {r} xs e h m l = record {
-  each = λ P M k j.
-      let z = M .roots d k in
+  each = λ P x k j.
+      let z = x .tables .roots d k in
       let h′ = rw z at (written-as h e) in
       let m′ = rw z at m in
-      written-then h′ (written-then (m′ .each P M j) l);
+      written-then h′ (written-then (m′ .each P x j) l);
 }
 
 pub change-this : {s : ℕ} (n d r : ℕ) → s ≡ 0

@@ -29,9 +29,9 @@ use Rattle.plain.proofs.Translated.{t-set}
 use Rattle.plain.proofs.Tasks.{node-row}
 use Rattle.plain.proofs.Shapes.{setting-temporaries}
 
-module _ {P : List Class} {E : List ℕ} {γ : Environment} {sh : Shape} {R T C S : List ℕ}
+module _ {P : List Class} {E : List ℕ} {γ : Environment} {sh : Shape} {R T M C S : List ℕ}
     {at vars next place : ℕ} {f : ℕ} {e e′ : Expr}
-    (t : NodeTask P E (set f e e′) γ sh R T C S at vars next place) where
+    (t : NodeTask P E (set f e e′) γ sh R T M C S at vars next place) where
   abbrev set-class : ℕ
   set-class =
       let a = typed-or (type-of (world P) e 0 γ) in
@@ -39,7 +39,7 @@ module _ {P : List Class} {E : List ℕ} {γ : Environment} {sh : Shape} {R T C 
 
   set-name : (getD R (at * 4 + 1) 0 ≡ f) × (getD C at 0 ≡ set-class) × (f < 256) × (set-class ≤ length P)
   unfolding Encoded LooksUp Ready
-  set-name = (t .encoded .0 .row .first, t .looks .0, t .ready .0, t .ready .1)
+  set-name = (t .encoded .0 .row .first, t .looks .0 (node-row t .2), t .ready .0, t .ready .1)
 
   -- the field's entry, its row and its plain type
   set-field : (i : ℕ) × (g : Field) × (getD T (set-class * 576 + f) 0 ≡ suc i)
@@ -49,12 +49,13 @@ module _ {P : List Class} {E : List ℕ} {γ : Environment} {sh : Shape} {R T C 
   unfolding Ready FieldFound Proper field-type
   set-field =
       let F = t .ready .2 in
-      let M = t .setting .lent .members in
+      let y = t .setting .lent .members in
       let row = line-at _ (world P .fields set-class) (set-class * 576 + 520)
-      (M .fields set-class (set-name .3)) (F .0) (F .1) (F .3) in (
+      (y .fields set-class (set-name .3)) (F .0) (F .1) (F .3) in (
         F .0,
         F .1,
-        M .places set-class f (set-name .3) (set-name .2) ∙ ap (λ (o : Option ℕ). stored-place o) (F .2),
+        y .tables .places set-class f (set-name .3) (set-name .2)
+            ∙ ap (λ (o : Option ℕ). stored-place o) (F .2),
         row .0,
         row .1 .within,
         ap (λ (n : ℕ). plain-number n) (row .1 .first) ∙ F .4 ∙ rw (F .2, F .3) refl,
@@ -76,7 +77,7 @@ module _ {P : List Class} {E : List ℕ} {γ : Environment} {sh : Shape} {R T C 
   )
 
   set-nodes : (p : ℕ) → p ≡ place + 12
-      → NodesTask P E set-arguments (sh ++ (false ∷ false ∷ [])) R T C S (at + 1) vars (next + 2) p
+      → NodesTask P E set-arguments (sh ++ (false ∷ false ∷ [])) R T M C S (at + 1) vars (next + 2) p
   unfolding Encoded LooksUp Ready EncodedNodes LooksUpNodes ReadyNodes variable-count
   set-nodes p q = record {
     setting = setting-temporaries (t .setting) (false ∷ false ∷ []) refl;
@@ -86,9 +87,9 @@ module _ {P : List Class} {E : List ℕ} {γ : Environment} {sh : Shape} {R T C 
     low = omega (arith, t .low, q);
   }
 
-module _ {R T C S : List ℕ} {at vars next place : ℕ} where
+module _ {R T M C S : List ℕ} {at vars next place : ℕ} where
   -- what is read on the way to the field's type
-  pub set-known : SomeSet R T C S at vars next place
+  pub set-known : SomeSet R T M C S at vars next place
       → (at * 4 + 3 < length R) × (at < 60000) × (at < length C)
       × (getD C at 0 * 576 + getD R (at * 4 + 1) 0 < length T) × (getD R (at * 4 + 1) 0 < 256)
       × (getD C at 0 * 576 + 519 + getD T (getD C at 0 * 576 + getD R (at * 4 + 1) 0) 0 < length T)
@@ -103,7 +104,7 @@ module _ {R T C S : List ℕ} {at vars next place : ℕ} where
         r .0,
         r .1,
         r .2,
-        omega (arith, n .2, n .3, t .setting .lent .members .long),
+        omega (arith, n .2, n .3, t .setting .lent .members .tables .long),
         n .2,
         d .3,
         d .4,
@@ -111,9 +112,9 @@ module _ {R T C S : List ℕ} {at vars next place : ℕ} where
         omega (arith, t .low, set-room t),
       )
 
-  pub set-ended : {O O₁ : List ℕ} {p : ℕ} {u : ℕ} → SomeSet R T C S at vars next place
+  pub set-ended : {O O₁ : List ℕ} {p : ℕ} {u : ℕ} → SomeSet R T M C S at vars next place
       → Written (66 ∷ 2 ∷ 3 ∷ 0 ∷ 86 ∷ 1 ∷ 0 ∷ 0 ∷ 86 ∷ u ∷ 0 ∷ 0 ∷ []) O O₁ place p
-      → SomeArguments R T C S (at + 1) vars (next + 2) p 2 next
+      → SomeArguments R T M C S (at + 1) vars (next + 2) p 2 next
   unfolding how-many
   set-ended x w = let t = x .task in let z : _ ≡ place + 12 = w .ended in
       record {
@@ -127,8 +128,8 @@ module _ {R T C S : List ℕ} {at vars next place : ℕ} where
         below = omega (arith, t .low, set-room t);
       }
 
-  pub set-room-after : {O₁ O₂ : List ℕ} {p q b : ℕ} → SomeSet R T C S at vars next place → p ≡ place + 12
-      → ArgumentsEmitted R T C S O₁ O₂ (at + 1) vars (next + 2) p 2 next q b
+  pub set-room-after : {O₁ O₂ : List ℕ} {p q b : ℕ} → SomeSet R T M C S at vars next place → p ≡ place + 12
+      → ArgumentsEmitted R T M C S O₁ O₂ (at + 1) vars (next + 2) p 2 next q b
       → q + 20 ≤ most-numbers
   unfolding how-many
   set-room-after x z m = let t = x .task in
@@ -140,10 +141,10 @@ module _ {R T C S : List ℕ} {at vars next place : ℕ} where
       → u ≡ plain-number (getD R (getD T (getD C at 0 * 576 + 519 + getD T
       (getD C at 0 * 576 + getD R (at * 4 + 1) 0) 0) 0 * 4 + 1) 0)
       → Written (66 ∷ 2 ∷ 3 ∷ 0 ∷ 86 ∷ 1 ∷ 0 ∷ 0 ∷ 86 ∷ u ∷ 0 ∷ 0 ∷ []) O O₁ place p
-      → ArgumentsEmitted R T C S O₁ O₂ (at + 1) vars (next + 2) p 2 next q b
+      → ArgumentsEmitted R T M C S O₁ O₂ (at + 1) vars (next + 2) p 2 next q b
       → Written (85 ∷ getD R (at * 4 + 1) 0 ∷ 0 ∷ 0 ∷ 75 ∷ (getD C at 0 + 2) ∷ 0 ∷ 0 ∷ 71 ∷ 255 ∷ 0 ∷ 0 ∷ 73 ∷
       next ∷ 0 ∷ 0 ∷ 73 ∷ (next + 1) ∷ 0 ∷ 0 ∷ []) O₂ O₃ q p′
-      → SetEmitted R T C S O O₃ at vars next place p′ b
+      → SetEmitted R T M C S O O₃ at vars next place p′ b
   unfolding size how-many rows-taken
   set-done {O} {O₁} {O₂} {O₃} {p} {q} {p′} {b} {u} k w m v = record {
     each = λ P E f e e′ γ sh t.

@@ -20,6 +20,8 @@ use Rattle.language.specs.WellFormed.{form-new, form-change, form-assign, form-
 use Rattle.language.specs.WellFormed.{form-block, form-nil, form-cons, BodyInForm, form-body}
 use Rattle.language.specs.Translation.{plain-program}
 use Rattle.language.specs.ClassTables.{ClassTables}
+use Rattle.language.specs.MethodTables.{MethodTables}
+use Rattle.layout.specs.Found.{method-here}
 use Rattle.language.specs.Layout.{ProgramAt, LooksUpProgram}
 use Rattle.theory.specs.Lookups.{each-append}
 use Rattle.theory.specs.RulesAgree.{computed}
@@ -165,16 +167,19 @@ plain-fits R p t =
     )
 
 -- all that the translation of rows goes by, where the translator takes them
-pub program-task : (R E T A C : List ℕ) (p : Program) → TranslatableRows R p → ProgramAt R E p
-    → ClassTables (p .classes) T A → LooksUpProgram C p
-    → length R ≤ length C * 4 → ProgramTask p E R T C
-program-task R E T A C p t rows tables looks beside =
+pub program-task : (R E T A M F C : List ℕ) (p : Program) → TranslatableRows R p → ProgramAt R E p
+    → ClassTables (p .classes) T A → MethodTables (p .classes) M F → LooksUpProgram C p
+    → length R ≤ length C * 4 → ProgramTask p E R T M C
+program-task R E T A M F C p t rows tables methods looks beside =
     let laws = well-formed-more p (t .accepted .well) in let form = t .accepted .in-form .classes in
     let 𝓗 = hierarchy (p .classes) (t .accepted .well .classes) in record {
       rows = rows;
       lookups = looks;
       lent = record {
         members = members p rows tables laws;
+        F = F;
+        methods = methods;
+        parameters = λ i m e. method-here rows i m e .at .parameters;
         small = λ i. rows-small R p (t .accepted) i;
         beside = beside;
         short = rows .short;

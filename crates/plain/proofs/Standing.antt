@@ -209,12 +209,13 @@ module _ (P : List Class) (E R C : List ℕ) where
   each-class-stands [] k r h = tt
   each-class-stands (c ∷ cs) k r h = (class-stands c (h .0), each-class-stands cs (suc k) _ (h .1))
 
-module _ {P : List Class} {E : List ℕ} {k : ℕ} {R T C : List ℕ} {at place : ℕ} where
-  pub methods-stand : {ms : List Declaration} → MethodsTask P E k ms R T C at place → MethodsStand R E k ms at
+module _ {P : List Class} {E : List ℕ} {k : ℕ} {R T M C : List ℕ} {at place : ℕ} where
+  pub methods-stand : {ms : List Declaration} → MethodsTask P E k ms R T M C at place
+      → MethodsStand R E k ms at
   methods-stand {ms} t =
       record { methods = each-stands P E R C ms k at (t .methods); after = t .after; short = t .lent .short }
 
-  pub classes-stand : {cs : List Class} → ClassesTask P E k cs R T C at place → ClassesStand R E k cs at
+  pub classes-stand : {cs : List Class} → ClassesTask P E k cs R T M C at place → ClassesStand R E k cs at
   classes-stand {cs} t =
       record {
         classes = each-class-stands P E R C cs k at (t .classes);

@@ -1,20 +1,18 @@
--- What the tables of classes tell of members, where the program stands in rows.
-use mathlib.Core.Path.{_≡_, refl, sym, ap, _∙_}
-use mathlib.Core.Option.{Option, some}
+-- What the tables of classes tell of fields, where the program stands in rows.
+use mathlib.Core.Path.{_≡_, refl}
+use mathlib.Core.Option.{some}
 use mathlib.Core.List.{List, [], _∷_}
-use Prim.Native.Nat.{ℕ, suc, _+_, _*_, _≤_, _<_}
+use Prim.Native.Nat.{ℕ, suc, _+_, _*_, _≤_}
 use native.Mathlib.Omega.{arith}
 use lib.ListN.{length, getD}
-use Rattle.language.specs.Lists.{nth, inj, All2, a-nil, a-cons}
-use Rattle.language.specs.Rows.{P-parameter}
+use Rattle.language.specs.Lists.{nth, All2, a-nil, a-cons}
 use Rattle.language.specs.Tree.{Field, Program}
-use Rattle.language.specs.Encoded.{LinesAt, TypesAt}
-use Rattle.language.specs.World.{Method}
+use Rattle.language.specs.Encoded.{LinesAt}
 use Rattle.language.specs.Program.{world}
-use Rattle.language.specs.ClassTables.{ClassTables, stored-place, field-rows, method-row}
+use Rattle.language.specs.ClassTables.{ClassTables, field-rows}
 use Rattle.language.specs.Layout.{ProgramAt}
 use Rattle.theory.specs.MoreLookups.{MoreLaws}
-use Rattle.layout.specs.Found.{FieldHere, all-fields-here, row-some, method-here}
+use Rattle.layout.specs.Found.{FieldHere, all-fields-here}
 use Rattle.plain.specs.Tasks.{Members, FieldRows}
 
 -- fields whose rows the table has
@@ -34,26 +32,10 @@ fields-tabled R T (f ∷ fs) (r ∷ rs) at (a-cons h hs) t l =
 pub members : {R E T A : List ℕ} (p : Program) → ProgramAt R E p → ClassTables (p .classes) T A
     → MoreLaws (world (p .classes)) → Members (p .classes) R T
 members {R} {E} {T} {A} p h t laws = record {
-  long = t .long;
+  A = A;
+  tables = t;
   few = λ k l. laws .few-fields k;
-  roots = λ k l. t .roots k l;
-  counts = λ k l. t .counts k l;
-  places = λ k f l m. t .places k f l m;
   fields = λ k l. fields-tabled R T (world (p .classes) .fields k) (field-rows (p .classes) k) (k * 576 + 520)
       (all-fields-here h k)
       (λ i r e. t .rows k i r l e) (omega (arith, t .long, laws .few-fields k, l));
-  methods = λ k m M l n e. method k m M l n e;
 }
-  where
-    method : (k m : ℕ) (M : Method) → k ≤ length (p .classes) → m < 256
-        → world (p .classes) .method k m ≡ some M
-        → TypesAt P-parameter R (M .parameters) (getD T (k * 576 + 256 + m) 0)
-    method k m M l n e = let x = row-some (p .classes) k m M e in there (x .0) (x .1)
-      where
-        there : (r : ℕ) → method-row (p .classes) k m ≡ some r
-            → TypesAt P-parameter R (M .parameters) (getD T (k * 576 + 256 + m) 0)
-        there r q =
-            let y = method-here h k m r q in
-            let z : getD T (k * 576 + 256 + m) 0 ≡ r + 1 = t .methods k m l n
-            ∙ (ap (λ (o : Option ℕ). stored-place o) q ∙ omega arith) in
-            rw (z, ← inj (sym (y .row .found) ∙ e)) (y .at .parameters)

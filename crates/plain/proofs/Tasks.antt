@@ -22,20 +22,20 @@ use Rattle.plain.proofs.Writing.{written-then, whole}
 use Rattle.plain.proofs.Translated.{t-is-null, t-assign, t-get, t-cast, t-choose}
 use Rattle.plain.proofs.Shapes.{setting-temporaries}
 
-module _ {P : List Class} {E : List ℕ} {γ : Environment} {sh : Shape} {R T C S : List ℕ}
+module _ {P : List Class} {E : List ℕ} {γ : Environment} {sh : Shape} {R T M C S : List ℕ}
     {at vars next place : ℕ} where
-  pub node-row : {e : Expr} → NodeTask P E e γ sh R T C S at vars next place
+  pub node-row : {e : Expr} → NodeTask P E e γ sh R T M C S at vars next place
       → (at * 4 + 3 < length R) × (at < 60000) × (at < length C)
   node-row {e} t = let h = head e (t .encoded) .row in
       (h, omega (arith, h, t .setting .lent .short), omega (arith, h, t .setting .lent .beside))
 
   -- K
-  cast-class : {c : ℕ} {e : Expr} → NodeTask P E (cast c e) γ sh R T C S at vars next place
+  cast-class : {c : ℕ} {e : Expr} → NodeTask P E (cast c e) γ sh R T M C S at vars next place
       → getD R (at * 4 + 1) 0 ≡ c
   unfolding Encoded
   cast-class t = t .encoded .0 .row .first
 
-  pub cast-room : {c : ℕ} {e : Expr} → NodeTask P E (cast c e) γ sh R T C S at vars next place
+  pub cast-room : {c : ℕ} {e : Expr} → NodeTask P E (cast c e) γ sh R T M C S at vars next place
       → place + 40 + length (node-numbers (world P) e γ (sh ++ (false ∷ []))) ≤ most-numbers
   cast-room {c} {e} t =
       omega (
@@ -48,9 +48,9 @@ module _ {P : List Class} {E : List ℕ} {γ : Environment} {sh : Shape} {R T C 
             ∷ 0 ∷ []),
       )
 
-  pub cast-child : {c : ℕ} {e : Expr} → NodeTask P E (cast c e) γ sh R T C S at vars next place → (p : ℕ)
+  pub cast-child : {c : ℕ} {e : Expr} → NodeTask P E (cast c e) γ sh R T M C S at vars next place → (p : ℕ)
       → p ≡ place + 20
-      → NodeTask P E e γ (sh ++ (false ∷ [])) R T C S (at + 1) vars (next + 1) p
+      → NodeTask P E e γ (sh ++ (false ∷ [])) R T M C S (at + 1) vars (next + 1) p
   unfolding Encoded LooksUp Ready variable-count
   cast-child {c} {e} t p q = record {
     setting = setting-temporaries (t .setting) (false ∷ []) refl;
@@ -62,10 +62,10 @@ module _ {P : List Class} {E : List ℕ} {γ : Environment} {sh : Shape} {R T C 
   }
 
   pub cast-done : {c : ℕ} {e : Expr} {O O₁ O₂ O₃ : List ℕ} {p q p′ b : ℕ}
-      → NodeTask P E (cast c e) γ sh R T C S at vars next place
+      → NodeTask P E (cast c e) γ sh R T M C S at vars next place
       → Written (66 ∷ 1 ∷ 1 ∷ 0 ∷ 86 ∷ 1 ∷ 0 ∷ 0 ∷ 74 ∷ 0 ∷ 0 ∷ 0 ∷ 90 ∷ 0 ∷ 0 ∷ 0 ∷ 65 ∷ next ∷ 0 ∷ 0 ∷ []) O
       O₁ place p
-      → NodeEmitted R T C S O₁ O₂ (at + 1) vars (next + 1) p q b
+      → NodeEmitted R T M C S O₁ O₂ (at + 1) vars (next + 1) p q b
       → Written (78 ∷ 0 ∷ 0 ∷ 0 ∷ 71 ∷ 254 ∷ 0 ∷ 0 ∷ 75 ∷ (getD R (at * 4 + 1) 0 + 2) ∷ 0 ∷ 0 ∷ 71 ∷ 255 ∷ 0 ∷
       0 ∷ 73 ∷ next ∷ 0 ∷ 0 ∷ []) O₂ O₃ q p′
       → Emitted (node-numbers (world P) (cast c e) γ sh) (size (cast c e)) O O₃ place at p′ b
@@ -78,8 +78,8 @@ module _ {P : List Class} {E : List ℕ} {γ : Environment} {sh : Shape} {R T C 
       (omega (arith, em .passed))
 
   -- Z, A and G
-  pub is-null-child : {e : Expr} → NodeTask P E (is-null e) γ sh R T C S at vars next place → (p : ℕ)
-      → p ≡ place + 4 → NodeTask P E e γ sh R T C S (at + 1) vars next p
+  pub is-null-child : {e : Expr} → NodeTask P E (is-null e) γ sh R T M C S at vars next place → (p : ℕ)
+      → p ≡ place + 4 → NodeTask P E e γ sh R T M C S (at + 1) vars next p
   unfolding Encoded LooksUp Ready
   is-null-child {e} t p q = record {
     setting = t .setting;
@@ -90,13 +90,14 @@ module _ {P : List Class} {E : List ℕ} {γ : Environment} {sh : Shape} {R T C 
     fits = omega (arith, t .fits, ap length (t-is-null (world P) γ sh e), q);
   }
 
-  pub assign-slot : {k : ℕ} {e : Expr} → NodeTask P E (assign k e) γ sh R T C S at vars next place
+  pub assign-slot : {k : ℕ} {e : Expr} → NodeTask P E (assign k e) γ sh R T M C S at vars next place
       → (getD R (at * 4 + 1) 0 ≡ k) × (k < vars)
   unfolding Encoded Ready
   assign-slot t = (t .encoded .0 .row .first, t .ready .0)
 
-  pub assign-child : {k : ℕ} {e : Expr} → NodeTask P E (assign k e) γ sh R T C S at vars next place → (p : ℕ)
-      → p ≡ place + 4 → NodeTask P E e γ sh R T C S (at + 1) vars next p
+  pub assign-child : {k : ℕ} {e : Expr} → NodeTask P E (assign k e) γ sh R T M C S at vars next place
+      → (p : ℕ)
+      → p ≡ place + 4 → NodeTask P E e γ sh R T M C S (at + 1) vars next p
   unfolding Encoded LooksUp Ready
   assign-child {k} {e} t p q = record {
     setting = t .setting;
@@ -107,13 +108,13 @@ module _ {P : List Class} {E : List ℕ} {γ : Environment} {sh : Shape} {R T C 
     fits = omega (arith, t .fits, ap length (t-assign (world P) γ sh k e), q);
   }
 
-  pub get-name : {f : ℕ} {e : Expr} → NodeTask P E (get f e) γ sh R T C S at vars next place
+  pub get-name : {f : ℕ} {e : Expr} → NodeTask P E (get f e) γ sh R T M C S at vars next place
       → (getD R (at * 4 + 1) 0 ≡ f) × (getD C at 0 ≡ class-or (typed-or (type-of (world P) e 0 γ) .type))
   unfolding Encoded LooksUp
-  get-name t = (t .encoded .0 .row .first, t .looks .0)
+  get-name t = (t .encoded .0 .row .first, t .looks .0 (node-row t .2))
 
-  pub get-child : {f : ℕ} {e : Expr} → NodeTask P E (get f e) γ sh R T C S at vars next place → (p : ℕ)
-      → p ≡ place + 12 → NodeTask P E e γ sh R T C S (at + 1) vars next p
+  pub get-child : {f : ℕ} {e : Expr} → NodeTask P E (get f e) γ sh R T M C S at vars next place → (p : ℕ)
+      → p ≡ place + 12 → NodeTask P E e γ sh R T M C S (at + 1) vars next p
   unfolding Encoded LooksUp Ready
   get-child {f} {e} t p q = record {
     setting = t .setting;
@@ -125,26 +126,26 @@ module _ {P : List Class} {E : List ℕ} {γ : Environment} {sh : Shape} {R T C 
   }
 
   -- I, W and R
-  pub slot-slot : {k : ℕ} → NodeTask P E (slot k) γ sh R T C S at vars next place
+  pub slot-slot : {k : ℕ} → NodeTask P E (slot k) γ sh R T M C S at vars next place
       → (getD R (at * 4 + 1) 0 ≡ k) × (k < vars)
   unfolding Encoded Ready
   slot-slot t = (t .encoded .row .first, t .ready)
 
-  pub new-class : {c : ℕ} → NodeTask P E (new c) γ sh R T C S at vars next place → getD R (at * 4 + 1) 0 ≡ c
+  pub new-class : {c : ℕ} → NodeTask P E (new c) γ sh R T M C S at vars next place → getD R (at * 4 + 1) 0 ≡ c
   unfolding Encoded
   new-class t = t .encoded .row .first
 
-  pub change-slot : {k d : ℕ} → NodeTask P E (change k d) γ sh R T C S at vars next place
+  pub change-slot : {k d : ℕ} → NodeTask P E (change k d) γ sh R T M C S at vars next place
       → (getD R (at * 4 + 1) 0 ≡ k) × (getD R (at * 4 + 2) 0 ≡ d) × (k < vars) × (d ≤ length P)
       × (world P .root d ≤ length P)
   unfolding Encoded Ready
   change-slot t = (t .encoded .row .first, t .encoded .row .second, t .ready .0, t .ready .1, t .ready .2)
 
   -- J
-  pub choose-nodes : {e x y : Expr} → NodeTask P E (choose e x y) γ sh R T C S at vars next place → (p : ℕ)
+  pub choose-nodes : {e x y : Expr} → NodeTask P E (choose e x y) γ sh R T M C S at vars next place → (p : ℕ)
       → p ≡ place + 4
       → NodesTask P E (also e γ (also x (typed-or (type-of (world P) e 0 γ) .slots)
-      (also y (typed-or (type-of (world P) e 0 γ) .slots) none))) sh R T C S (at + 1) vars next p
+      (also y (typed-or (type-of (world P) e 0 γ) .slots) none))) sh R T M C S (at + 1) vars next p
   unfolding Encoded LooksUp Ready EncodedNodes LooksUpNodes ReadyNodes
   choose-nodes t p q = record {
     setting = t .setting;
@@ -154,7 +155,7 @@ module _ {P : List Class} {E : List ℕ} {γ : Environment} {sh : Shape} {R T C 
     low = omega (arith, t .low, q);
   }
 
-  pub choose-room : {e x y : Expr} → NodeTask P E (choose e x y) γ sh R T C S at vars next place
+  pub choose-room : {e x y : Expr} → NodeTask P E (choose e x y) γ sh R T M C S at vars next place
       → place + 4 + length
       (nodes-numbers (world P) sh
       (also e γ (also x (typed-or (type-of (world P) e 0 γ) .slots)

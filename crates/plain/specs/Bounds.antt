@@ -20,6 +20,7 @@ use Rattle.language.specs.declared.Filled.the-variants as filled
 use Rattle.language.specs.declared.Filled.the-variants.{Done}
 use Rattle.language.specs.Encoded.{RowAt}
 use Rattle.language.specs.ClassTables.{ClassTables, class-width, count-place}
+use Rattle.language.specs.MethodTables.{MethodTables}
 use Rattle.language.specs.Layout.{ClassEnd, EachMethod, EachClass, FieldsAt, MethodAt, ClassAt, ProgramAt}
 use Rattle.language.specs.Layout.{LooksUpProgram}
 use Rattle.form.specs.declared.Formed.{Formed}
@@ -93,8 +94,8 @@ told (accept u) = Done 0
 told (refuse n l) = filled.Refused n l
 
 abbrev pub limits-told : Formed → ℕ → Filled
-limits-told (InForm n) zero = Done 0
-limits-told (InForm n) (suc l) = filled.Refused limit-refusal (suc l)
+limits-told (InForm n s) zero = Done 0
+limits-told (InForm n s) (suc l) = filled.Refused limit-refusal (suc l)
 limits-told (formed.Refused n k) zero = filled.Refused n k
 limits-told (formed.Refused n k) (suc l) =
     cond (ltb (suc l) k) (filled.Refused limit-refusal (suc l)) (filled.Refused n k)
@@ -114,14 +115,16 @@ pub record Limited (R E T : List ℕ) (r : Filled) : Type 0 where
   pub each : (p : Program) (A : List ℕ) → CheckedRows p R E T A → r ≡ told (within-limits R p)
 
 -- The plain rows as an answer and in a buffer.
-pub record PlainWritten (R T C O O′ : List ℕ) (r : Filled) : Type 0 where
-  pub each : (p : Program) (E : List ℕ) → ProgramTask p E R T C
+pub record PlainWritten (R T M C O O′ : List ℕ) (r : Filled) : Type 0 where
+  pub each : (p : Program) (E : List ℕ) → ProgramTask p E R T M C
       → (r ≡ answer 4 (accept (program-numbers p)) (length O)) × (O′ ≡ buffer (accept (program-numbers p)) O)
 
--- All that translating accepted rows goes by: the table of lookup classes too.
-pub record SomeAccepted (R E T C : List ℕ) : Type 0 where
+-- All that translating accepted rows goes by: the tables of methods and of lookup classes too.
+pub record SomeAccepted (R E T M C : List ℕ) : Type 0 where
   pub p : Program
   pub A : List ℕ
   pub checked : CheckedRows p R E T A
+  pub F : List ℕ
+  pub methods : MethodTables (p .classes) M F
   pub lookups : LooksUpProgram C p
   pub beside : length R ≤ length C * 4

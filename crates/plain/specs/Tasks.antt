@@ -15,7 +15,8 @@ use Rattle.language.specs.Tree.{kind-number, methods-lines, class-lines, classe
 use Rattle.language.specs.World.{Method, World, place}
 use Rattle.language.specs.Effects.{apply-class}
 use Rattle.language.specs.Program.{world}
-use Rattle.language.specs.ClassTables.{stored-place, class-width, methods-from, root-place, count-place}
+use Rattle.language.specs.ClassTables.{ClassTables, class-width, rows-place}
+use Rattle.language.specs.MethodTables.{PlacedMethod, placed-methods, MethodTables}
 use Rattle.language.specs.Encoded.{RowAt, LinesAt, TypesAt, Encoded}
 use Rattle.language.specs.Environment.{Environment, fresh-slot, method-environment, start-environment}
 use Rattle.language.specs.Typing.{type-of}
@@ -29,24 +30,18 @@ use Rattle.theory.specs.PlainForm.{variable-count}
 use Rattle.plain.specs.Numbers.{most-numbers, node-numbers, Proper, ProperAll, Nodes, methods-numbers}
 use Rattle.plain.specs.Numbers.{class-numbers, classes-numbers, program-numbers, none, also}
 use Rattle.language.specs.Limits.{of-check, of-translator, numbers-a-row}
-use Rattle.language.specs.ClassTables.{rows-place}
 
 -- The table has the rows of fields from an entry on.
 abbrev pub FieldRows : List ℕ → List ℕ → List Field → ℕ → Type 0
 FieldRows R T fs i = LinesAt (λ (f : Field) (i : ℕ).
     (i < length T) × RowAt R (getD T i 0) F-field (type-number (f .type)) (f .name)) fs i
 
--- What the tables of classes tell of members, and where the rows have them.
+-- The tables of classes, where the rows have the fields of each class, and that these are few.
 pub record Members (P : List Class) (R T : List ℕ) : Type 0 where
-  pub long : (length P + 1) * class-width ≤ length T
+  pub A : List ℕ
+  pub tables : ClassTables P T A
   pub few : (k : ℕ) → k ≤ length P → length (world P .fields k) ≤ of-check .fields
-  pub roots : (k : ℕ) → k ≤ length P → getD T (k * class-width + root-place) 0 ≡ world P .root k
-  pub counts : (k : ℕ) → k ≤ length P → getD T (k * class-width + count-place) 0 ≡ length (world P .fields k)
-  pub places : (k f : ℕ) → k ≤ length P → f < 256
-      → getD T (k * class-width + f) 0 ≡ stored-place (place f (world P .fields k))
   pub fields : (k : ℕ) → k ≤ length P → FieldRows R T (world P .fields k) (k * class-width + rows-place)
-  pub methods : (k m : ℕ) (M : Method) → k ≤ length P → m < 256 → world P .method k m ≡ some M
-      → TypesAt P-parameter R (M .parameters) (getD T (k * class-width + methods-from + m) 0)
 
 -- Such nodes in the rows, and in the table of lookup classes.
 unfoldable pub EncodedNodes : List ℕ → List ℕ → Nodes → ℕ → Type 0
@@ -103,17 +98,21 @@ module _ (P : List Class) where
   ReadyNodes none v = Unit {0}
   ReadyNodes (also e γ es) v = Ready e γ v × ReadyNodes es v
 
--- The rows and tables that every body's translation goes by.
-pub record Lent (P : List Class) (R T C : List ℕ) : Type 0 where
+-- The rows and tables that every body's translation goes by; of a method, the rows have its P lines after its M line.
+pub record Lent (P : List Class) (R T M C : List ℕ) : Type 0 where
   pub members : Members P R T
+  pub F : List ℕ
+  pub methods : MethodTables P M F
+  pub parameters : (i : ℕ) (m : PlacedMethod) → nth (placed-methods P) i ≡ some m
+      → TypesAt P-parameter R (m .declaration .parameters) (m .row + 1)
   pub small : (i : ℕ) → getD R i 0 < 65536
   pub beside : length R ≤ length C * 4
   pub short : length R ≤ numbers-a-row * of-check .rows
 
 -- With these, the plain slot of each source slot: S has those of the slots in scope, `next` is the next free
 -- one.
-pub record Setting (P : List Class) (R T C S : List ℕ) (sh : Shape) (vars next : ℕ) : Type 0 where
-  pub lent : Lent P R T C
+pub record Setting (P : List Class) (R T M C S : List ℕ) (sh : Shape) (vars next : ℕ) : Type 0 where
+  pub lent : Lent P R T M C
   pub wide : length S ≡ of-translator .slots
   pub scope : vars ≤ of-translator .slots
   pub variables : vars ≡ suc (variable-count sh)
@@ -122,8 +121,8 @@ pub record Setting (P : List Class) (R T C S : List ℕ) (sh : Shape) (vars next
 
 -- All that a node's translation goes by.
 pub record NodeTask (P : List Class) (E : List ℕ) (e : Expr) (γ : Environment) (sh : Shape)
-    (R T C S : List ℕ) (at vars next place : ℕ) : Type 0 where
-  pub setting : Setting P R T C S sh vars next
+    (R T M C S : List ℕ) (at vars next place : ℕ) : Type 0 where
+  pub setting : Setting P R T M C S sh vars next
   pub encoded : Encoded R E e at
   pub looks : LooksUp (world P) C e γ at
   pub ready : Ready P e γ vars
@@ -131,8 +130,8 @@ pub record NodeTask (P : List Class) (E : List ℕ) (e : Expr) (γ : Environment
   pub fits : place + length (node-numbers (world P) e γ sh) ≤ most-numbers
 
 pub record NodesTask (P : List Class) (E : List ℕ) (es : Nodes) (sh : Shape)
-    (R T C S : List ℕ) (at vars next place : ℕ) : Type 0 where
-  pub setting : Setting P R T C S sh vars next
+    (R T M C S : List ℕ) (at vars next place : ℕ) : Type 0 where
+  pub setting : Setting P R T M C S sh vars next
   pub encoded : EncodedNodes R E es at
   pub looks : LooksUpNodes (world P) C es at
   pub ready : ReadyNodes P es vars
@@ -140,8 +139,8 @@ pub record NodesTask (P : List Class) (E : List ℕ) (es : Nodes) (sh : Shape)
 
 -- A body with its parameters, `this` before them: all that its translation goes by.
 pub record BodyTask (P : List Class) (E : List ℕ) (e : Expr) (γ : Environment) (ts : List DeclaredType)
-    (R T C : List ℕ) (at place : ℕ) : Type 0 where
-  pub lent : Lent P R T C
+    (R T M C : List ℕ) (at place : ℕ) : Type 0 where
+  pub lent : Lent P R T M C
   pub encoded : Encoded R E e at
   pub looks : LooksUp (world P) C e γ at
   pub ready : Ready P e γ (1 + length ts)
@@ -150,11 +149,11 @@ pub record BodyTask (P : List Class) (E : List ℕ) (e : Expr) (γ : Environment
   pub fits : place + length (node-numbers (world P) e γ (variables ts)) ≤ most-numbers
 
 -- A method whose M line stands at a row, and its body at another.
-pub record MethodTask (P : List Class) (E : List ℕ) (owner : ℕ) (m : Declaration) (R T C : List ℕ)
+pub record MethodTask (P : List Class) (E : List ℕ) (owner : ℕ) (m : Declaration) (R T M C : List ℕ)
     (at body place : ℕ) : Type 0 where
   pub row : RowAt R at M-method (type-number (m .result)) (m .name)
   pub parameters : TypesAt P-parameter R (m .parameters) (at + 1)
-  pub task : BodyTask P E (m .body) (method-environment owner (m .parameters)) (m .parameters) R T C body
+  pub task : BodyTask P E (m .body) (method-environment owner (m .parameters)) (m .parameters) R T M C body
       (place + 4 + 4 * length (m .parameters))
 
 -- Class k's method whose M line is row r: where it stands, its lookup classes, what typing has shown of its
@@ -172,32 +171,32 @@ pub record ClassReady (P : List Class) (E R C : List ℕ) (k : ℕ) (c : Class) 
   pub methods : EachMethod (MethodReady P E R C) (c .methods) k (methods-from-row r c)
 
 -- All that the translation of methods, of a class and of classes goes by.
-pub record MethodsTask (P : List Class) (E : List ℕ) (k : ℕ) (ms : List Declaration) (R T C : List ℕ)
+pub record MethodsTask (P : List Class) (E : List ℕ) (k : ℕ) (ms : List Declaration) (R T M C : List ℕ)
     (at place : ℕ) : Type 0 where
-  pub lent : Lent P R T C
+  pub lent : Lent P R T M C
   pub methods : EachMethod (MethodReady P E R C) ms k at
   pub after : ClassEnd R (at + methods-lines ms)
   pub fits : place + length (methods-numbers (world P) k ms) ≤ most-numbers
 
-pub record ClassTask (P : List Class) (E : List ℕ) (k : ℕ) (c : Class) (R T C : List ℕ) (at place : ℕ) : Type
-    0 where
-  pub lent : Lent P R T C
+pub record ClassTask (P : List Class) (E : List ℕ) (k : ℕ) (c : Class) (R T M C : List ℕ)
+    (at place : ℕ) : Type 0 where
+  pub lent : Lent P R T M C
   pub ready : ClassReady P E R C k c at
   pub after : ClassEnd R (at + class-lines c)
   pub fits : place + length (class-numbers (world P) k c) ≤ most-numbers
 
-pub record ClassesTask (P : List Class) (E : List ℕ) (k : ℕ) (cs : List Class) (R T C : List ℕ)
+pub record ClassesTask (P : List Class) (E : List ℕ) (k : ℕ) (cs : List Class) (R T M C : List ℕ)
     (at place : ℕ) : Type 0 where
-  pub lent : Lent P R T C
+  pub lent : Lent P R T M C
   pub classes : EachClass (ClassReady P E R C) cs k at
   pub start : RowAt R (at + classes-lines cs) S-start 0 0
   pub fits : place + length (classes-numbers (world P) k cs) ≤ most-numbers
 
 -- A program whose rows, tables and lookup classes are lent, and which typing has accepted.
-pub record ProgramTask (p : Program) (E R T C : List ℕ) : Type 0 where
+pub record ProgramTask (p : Program) (E R T M C : List ℕ) : Type 0 where
   pub rows : ProgramAt R E p
   pub lookups : LooksUpProgram C p
-  pub lent : Lent (p .classes) R T C
+  pub lent : Lent (p .classes) R T M C
   pub ready : EachClass
       (λ k c r. EachMethod (λ k m r. Ready (p .classes) (m .body) (method-environment k (m .parameters))
       (1 + length (m .parameters)))

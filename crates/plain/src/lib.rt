@@ -45,6 +45,7 @@ use language::IS_NULL;
 use language::LIMIT_REFUSAL;
 use language::LOCAL;
 use language::METHOD;
+use language::METHOD_WIDTH;
 use language::METHODS_FROM;
 use language::NEW;
 use language::NULL;
@@ -68,6 +69,13 @@ const FIELD_LIMIT: usize = 16;
 pub struct Next {
     pub place: usize,
     pub at: usize,
+}
+
+// The scope in which a node is translated: how many slots of the source it has, `this` among them, and the first slot of
+// the plain program that is free.
+pub struct Scope {
+    pub variables: usize,
+    pub free: u32,
 }
 
 // One number, where there is room for it.
@@ -177,16 +185,16 @@ fn put_copies(
     put_copies(rows, tables, out, p, from + 1, count - 1, slot)
 }
 
-// The plain slots of the source's slots where a block adds `count` locals, from plain slot `next` on.
-fn with_locals(slots: &[u32; 32], vars: usize, next: u32, count: usize) -> [u32; 32]
-    requires { ⌜ (vars + count ≤ of-translator .slots) × (next ≤ most-numbers) ×
+// The plain slots of the source's slots where a block adds `count` locals: the free slots of its scope.
+fn with_locals(slots: &[u32; 32], scope: Scope, count: usize) -> [u32; 32]
+    requires { ⌜ (scope .variables + count ≤ of-translator .slots) × (scope .free ≤ most-numbers) ×
         (length (now slots) ≡ of-translator .slots) ⌝ }
-    ensures { λ r. ⌜ Extended (now (slots .entry)) r vars next count ⌝ }
+    ensures { λ r. ⌜ Extended (now (slots .entry)) r (scope .variables) (scope .free) count ⌝ }
 {
     let mut s = *slots;
     let mut i = 0;
     while i < count {
-        s[vars + i] = next + i as u32;
+        s[scope.variables + i] = scope.free + i as u32;
         i += 1;
     }
     s
@@ -461,17 +469,19 @@ fn put_change(
 fn emit_node(
     rows: &[u32],
     tables: &[u16],
+    methods: &[u16],
     lookups: &[u16],
     slots: &[u32; 32],
     out: &mut [u32],
     place: usize,
     at: usize,
-    vars: usize,
-    next: u32,
+    scope: Scope,
 ) -> Next
-    requires { ⌜ SomeNode (now rows) (now tables) (now lookups) (now slots) at vars next place ⌝ }
-    ensures { λ r. ⌜ NodeEmitted (now (rows .entry)) (now (tables .entry)) (now (lookups .entry))
-        (now (slots .entry)) (now (out .entry)) (now (out .exit)) at vars next place (r .place) (r .at) ⌝ }
+    requires { ⌜ SomeNode (now rows) (now tables) (now methods) (now lookups) (now slots) at
+        (scope .variables) (scope .free) place ⌝ }
+    ensures { λ r. ⌜ NodeEmitted (now (rows .entry)) (now (tables .entry)) (now (methods .entry))
+        (now (lookups .entry)) (now (slots .entry)) (now (out .entry)) (now (out .exit)) at (scope .variables)
+        (scope .free) place (r .place) (r .at) ⌝ }
 {
     let letter = rows[at * 4];
     match letter {
@@ -492,7 +502,7 @@ fn emit_node(
             }
         }
         NEW => {
-            let p = put_new(out, place, next, rows[at * 4 + 1]);
+            let p = put_new(out, place, scope.free, rows[at * 4 + 1]);
             Next {
                 place: p,
                 at: at + 1,
@@ -500,7 +510,7 @@ fn emit_node(
         }
         CHANGE => {
             let slot = slots[rows[at * 4 + 1] as usize];
-            let p = put_change(rows, tables, out, place, slot, next, rows[at * 4 + 2]);
+            let p = put_change(rows, tables, out, place, slot, scope.free, rows[at * 4 + 2]);
             Next {
                 place: p,
                 at: at + 1,
@@ -509,12 +519,12 @@ fn emit_node(
         IS_NULL => {
             let line = [IS_NULL, 0, 0, 0];
             let p = put(out, place, &line);
-            emit_node(rows, tables, lookups, slots, out, p, at + 1, vars, next)
+            emit_node(rows, tables, methods, lookups, slots, out, p, at + 1, scope)
         }
         ASSIGN => {
             let line = [ASSIGN, slots[rows[at * 4 + 1] as usize], 0, 0];
             let p = put(out, place, &line);
-            emit_node(rows, tables, lookups, slots, out, p, at + 1, vars, next)
+            emit_node(rows, tables, methods, lookups, slots, out, p, at + 1, scope)
         }
         GET => {
             let lines = [
@@ -532,17 +542,28 @@ fn emit_node(
                 0,
             ];
             let p = put(out, place, &lines);
-            emit_node(rows, tables, lookups, slots, out, p, at + 1, vars, next)
+            emit_node(rows, tables, methods, lookups, slots, out, p, at + 1, scope)
         }
-        CAST => emit_cast(rows, tables, lookups, slots, out, place, at, vars, next),
-        SET => emit_set(rows, tables, lookups, slots, out, place, at, vars, next),
-        CALL => emit_call(rows, tables, lookups, slots, out, place, at, vars, next),
+        CAST => emit_cast(rows, tables, methods, lookups, slots, out, place, at, scope),
+        SET => emit_set(rows, tables, methods, lookups, slots, out, place, at, scope),
+        CALL => emit_call(rows, tables, methods, lookups, slots, out, place, at, scope),
         CHOOSE => {
             let line = [CHOOSE, 0, 0, 0];
             let p = put(out, place, &line);
-            emit_nodes(rows, tables, lookups, slots, out, p, at + 1, vars, next, 3)
+            emit_nodes(
+                rows,
+                tables,
+                methods,
+                lookups,
+                slots,
+                out,
+                p,
+                at + 1,
+                scope,
+                3,
+            )
         }
-        _ => emit_block(rows, tables, lookups, slots, out, place, at, vars, next),
+        _ => emit_block(rows, tables, methods, lookups, slots, out, place, at, scope),
     }
 }
 
@@ -550,18 +571,21 @@ fn emit_node(
 fn emit_cast(
     rows: &[u32],
     tables: &[u16],
+    methods: &[u16],
     lookups: &[u16],
     slots: &[u32; 32],
     out: &mut [u32],
     place: usize,
     at: usize,
-    vars: usize,
-    next: u32,
+    scope: Scope,
 ) -> Next
-    requires { ⌜ SomeCast (now rows) (now tables) (now lookups) (now slots) at vars next place ⌝ }
-    ensures { λ r. ⌜ CastEmitted (now (rows .entry)) (now (tables .entry)) (now (lookups .entry))
-        (now (slots .entry)) (now (out .entry)) (now (out .exit)) at vars next place (r .place) (r .at) ⌝ }
+    requires { ⌜ SomeCast (now rows) (now tables) (now methods) (now lookups) (now slots) at
+        (scope .variables) (scope .free) place ⌝ }
+    ensures { λ r. ⌜ CastEmitted (now (rows .entry)) (now (tables .entry)) (now (methods .entry))
+        (now (lookups .entry)) (now (slots .entry)) (now (out .entry)) (now (out .exit)) at (scope .variables)
+        (scope .free) place (r .place) (r .at) ⌝ }
 {
+    let object = scope.free;
     let head = [
         BLOCK,
         1,
@@ -580,12 +604,16 @@ fn emit_cast(
         0,
         0,
         ASSIGN,
-        next,
+        object,
         0,
         0,
     ];
     let p = put(out, place, &head);
-    let r = emit_node(rows, tables, lookups, slots, out, p, at + 1, vars, next + 1);
+    let inner = Scope {
+        variables: scope.variables,
+        free: object + 1,
+    };
+    let r = emit_node(rows, tables, methods, lookups, slots, out, p, at + 1, inner);
     let tail = [
         NULL,
         0,
@@ -604,7 +632,7 @@ fn emit_cast(
         0,
         0,
         SLOT,
-        next,
+        object,
         0,
         0,
     ];
@@ -616,22 +644,25 @@ fn emit_cast(
 fn emit_set(
     rows: &[u32],
     tables: &[u16],
+    methods: &[u16],
     lookups: &[u16],
     slots: &[u32; 32],
     out: &mut [u32],
     place: usize,
     at: usize,
-    vars: usize,
-    next: u32,
+    scope: Scope,
 ) -> Next
-    requires { ⌜ SomeSet (now rows) (now tables) (now lookups) (now slots) at vars next place ⌝ }
-    ensures { λ r. ⌜ SetEmitted (now (rows .entry)) (now (tables .entry)) (now (lookups .entry))
-        (now (slots .entry)) (now (out .entry)) (now (out .exit)) at vars next place (r .place) (r .at) ⌝ }
+    requires { ⌜ SomeSet (now rows) (now tables) (now methods) (now lookups) (now slots) at (scope .variables)
+        (scope .free) place ⌝ }
+    ensures { λ r. ⌜ SetEmitted (now (rows .entry)) (now (tables .entry)) (now (methods .entry))
+        (now (lookups .entry)) (now (slots .entry)) (now (out .entry)) (now (out .exit)) at (scope .variables)
+        (scope .free) place (r .place) (r .at) ⌝ }
 {
     let name = rows[at * 4 + 1];
     let class = lookups[at] as usize;
     let field = tables[class * CLASS_WIDTH + name as usize] as usize;
     let row = tables[class * CLASS_WIDTH + ROWS_BEFORE + field] as usize;
+    let object = scope.free;
     let head = [
         BLOCK,
         2,
@@ -647,18 +678,22 @@ fn emit_set(
         0,
     ];
     let p = put(out, place, &head);
+    let inner = Scope {
+        variables: scope.variables,
+        free: object + 2,
+    };
     let r = emit_arguments(
         rows,
         tables,
+        methods,
         lookups,
         slots,
         out,
         p,
         at + 1,
-        vars,
-        next + 2,
+        inner,
         2,
-        next,
+        object,
     );
     let tail = [
         SET,
@@ -674,11 +709,11 @@ fn emit_set(
         0,
         0,
         SLOT,
-        next,
+        object,
         0,
         0,
         SLOT,
-        next + 1,
+        object + 1,
         0,
         0,
     ];
@@ -690,37 +725,45 @@ fn emit_set(
 fn emit_call(
     rows: &[u32],
     tables: &[u16],
+    methods: &[u16],
     lookups: &[u16],
     slots: &[u32; 32],
     out: &mut [u32],
     place: usize,
     at: usize,
-    vars: usize,
-    next: u32,
+    scope: Scope,
 ) -> Next
-    requires { ⌜ SomeCall (now rows) (now tables) (now lookups) (now slots) at vars next place ⌝ }
-    ensures { λ r. ⌜ CallEmitted (now (rows .entry)) (now (tables .entry)) (now (lookups .entry))
-        (now (slots .entry)) (now (out .entry)) (now (out .exit)) at vars next place (r .place) (r .at) ⌝ }
+    requires { ⌜ SomeCall (now rows) (now tables) (now methods) (now lookups) (now slots) at
+        (scope .variables) (scope .free) place ⌝ }
+    ensures { λ r. ⌜ CallEmitted (now (rows .entry)) (now (tables .entry)) (now (methods .entry))
+        (now (lookups .entry)) (now (slots .entry)) (now (out .entry)) (now (out .exit)) at (scope .variables)
+        (scope .free) place (r .place) (r .at) ⌝ }
 {
     let name = rows[at * 4 + 1];
     let count = rows[at * 4 + 2];
     let class = lookups[at] as usize;
-    let method = tables[class * CLASS_WIDTH + METHODS_FROM + name as usize] as usize;
+    let entry = tables[class * CLASS_WIDTH + METHODS_FROM + name as usize] as usize;
+    let row = methods[(entry - 1) * METHOD_WIDTH] as usize;
+    let object = scope.free;
     let head = [BLOCK, count + 1, count + 2, 0, LOCAL, IDENTITY, 0, 0];
     let p = put(out, place, &head);
-    let p = put_types(rows, out, p, method, count as usize, LOCAL);
+    let p = put_types(rows, out, p, row + 1, count as usize, LOCAL);
+    let inner = Scope {
+        variables: scope.variables,
+        free: object + 1 + count,
+    };
     let r = emit_arguments(
         rows,
         tables,
+        methods,
         lookups,
         slots,
         out,
         p,
         at + 1,
-        vars,
-        next + 1 + count,
+        inner,
         count + 1,
-        next,
+        object,
     );
     let tail = [
         CALL,
@@ -736,12 +779,12 @@ fn emit_call(
         0,
         0,
         SLOT,
-        next,
+        object,
         0,
         0,
     ];
     let q = put(out, r.place, &tail);
-    let q = put_reads(out, q, next + 1, count);
+    let q = put_reads(out, q, object + 1, count);
     Next { place: q, at: r.at }
 }
 
@@ -749,34 +792,40 @@ fn emit_call(
 fn emit_block(
     rows: &[u32],
     tables: &[u16],
+    methods: &[u16],
     lookups: &[u16],
     slots: &[u32; 32],
     out: &mut [u32],
     place: usize,
     at: usize,
-    vars: usize,
-    next: u32,
+    scope: Scope,
 ) -> Next
-    requires { ⌜ SomeBlock (now rows) (now tables) (now lookups) (now slots) at vars next place ⌝ }
-    ensures { λ r. ⌜ BlockEmitted (now (rows .entry)) (now (tables .entry)) (now (lookups .entry))
-        (now (slots .entry)) (now (out .entry)) (now (out .exit)) at vars next place (r .place) (r .at) ⌝ }
+    requires { ⌜ SomeBlock (now rows) (now tables) (now methods) (now lookups) (now slots) at
+        (scope .variables) (scope .free) place ⌝ }
+    ensures { λ r. ⌜ BlockEmitted (now (rows .entry)) (now (tables .entry)) (now (methods .entry))
+        (now (lookups .entry)) (now (slots .entry)) (now (out .entry)) (now (out .exit)) at (scope .variables)
+        (scope .free) place (r .place) (r .at) ⌝ }
 {
     let locals = rows[at * 4 + 1];
     let count = rows[at * 4 + 2];
     let head = [BLOCK, locals, count, 0];
     let p = put(out, place, &head);
     let p = put_types(rows, out, p, at + 1, locals as usize, LOCAL);
-    let inner = with_locals(slots, vars, next, locals as usize);
+    let added = with_locals(slots, scope, locals as usize);
+    let inner = Scope {
+        variables: scope.variables + locals as usize,
+        free: scope.free + locals,
+    };
     emit_nodes(
         rows,
         tables,
+        methods,
         lookups,
-        &inner,
+        &added,
         out,
         p,
         at + 1 + locals as usize,
-        vars + locals as usize,
-        next + locals,
+        inner,
         count,
     )
 }
@@ -785,19 +834,20 @@ fn emit_block(
 fn emit_nodes(
     rows: &[u32],
     tables: &[u16],
+    methods: &[u16],
     lookups: &[u16],
     slots: &[u32; 32],
     out: &mut [u32],
     place: usize,
     at: usize,
-    vars: usize,
-    next: u32,
+    scope: Scope,
     count: u32,
 ) -> Next
-    requires { ⌜ SomeNodes (now rows) (now tables) (now lookups) (now slots) at vars next place count ⌝ }
-    ensures { λ r. ⌜ NodesEmitted (now (rows .entry)) (now (tables .entry)) (now (lookups .entry))
-        (now (slots .entry)) (now (out .entry)) (now (out .exit)) at vars next place count (r .place) (r .at)
-        ⌝ }
+    requires { ⌜ SomeNodes (now rows) (now tables) (now methods) (now lookups) (now slots) at
+        (scope .variables) (scope .free) place count ⌝ }
+    ensures { λ r. ⌜ NodesEmitted (now (rows .entry)) (now (tables .entry)) (now (methods .entry))
+        (now (lookups .entry)) (now (slots .entry)) (now (out .entry)) (now (out .exit)) at (scope .variables)
+        (scope .free) place count (r .place) (r .at) ⌝ }
 {
     if count == 0 {
         return Next {
@@ -805,17 +855,17 @@ fn emit_nodes(
             at: at,
         };
     }
-    let r = emit_node(rows, tables, lookups, slots, out, place, at, vars, next);
+    let r = emit_node(rows, tables, methods, lookups, slots, out, place, at, scope);
     emit_nodes(
         rows,
         tables,
+        methods,
         lookups,
         slots,
         out,
         r.place,
         r.at,
-        vars,
-        next,
+        scope,
         count - 1,
     )
 }
@@ -824,21 +874,21 @@ fn emit_nodes(
 fn emit_arguments(
     rows: &[u32],
     tables: &[u16],
+    methods: &[u16],
     lookups: &[u16],
     slots: &[u32; 32],
     out: &mut [u32],
     place: usize,
     at: usize,
-    vars: usize,
-    next: u32,
+    scope: Scope,
     count: u32,
     slot: u32,
 ) -> Next
-    requires { ⌜ SomeArguments (now rows) (now tables) (now lookups) (now slots) at vars next place count slot
-        ⌝ }
-    ensures { λ r. ⌜ ArgumentsEmitted (now (rows .entry)) (now (tables .entry)) (now (lookups .entry))
-        (now (slots .entry)) (now (out .entry)) (now (out .exit)) at vars next place count slot (r .place)
-        (r .at) ⌝ }
+    requires { ⌜ SomeArguments (now rows) (now tables) (now methods) (now lookups) (now slots) at
+        (scope .variables) (scope .free) place count slot ⌝ }
+    ensures { λ r. ⌜ ArgumentsEmitted (now (rows .entry)) (now (tables .entry)) (now (methods .entry))
+        (now (lookups .entry)) (now (slots .entry)) (now (out .entry)) (now (out .exit)) at (scope .variables)
+        (scope .free) place count slot (r .place) (r .at) ⌝ }
 {
     if count == 0 {
         return Next {
@@ -848,17 +898,17 @@ fn emit_arguments(
     }
     let line = [ASSIGN, slot, 0, 0];
     let p = put(out, place, &line);
-    let r = emit_node(rows, tables, lookups, slots, out, p, at, vars, next);
+    let r = emit_node(rows, tables, methods, lookups, slots, out, p, at, scope);
     emit_arguments(
         rows,
         tables,
+        methods,
         lookups,
         slots,
         out,
         r.place,
         r.at,
-        vars,
-        next,
+        scope,
         count - 1,
         slot + 1,
     )
@@ -884,34 +934,43 @@ fn first_slots(count: usize) -> [u32; 32]
     ensures { λ r. ⌜ Extended (replicate (of-translator .slots) 0) r 1 1 count ⌝ }
 {
     let none = [0u32; 32];
-    with_locals(&none, 1, 1, count)
+    let this = Scope {
+        variables: 1,
+        free: 1,
+    };
+    with_locals(&none, this, count)
 }
 
 // A body at row `at`, with so many parameters.
 fn emit_body(
     rows: &[u32],
     tables: &[u16],
+    methods: &[u16],
     lookups: &[u16],
     out: &mut [u32],
     place: usize,
     at: usize,
     count: usize,
 ) -> Next
-    requires { ⌜ SomeBody (now rows) (now tables) (now lookups) at place count ⌝ }
-    ensures { λ r. ⌜ BodyEmitted (now (rows .entry)) (now (tables .entry)) (now (lookups .entry))
-        (now (out .entry)) (now (out .exit)) at place count (r .place) (r .at) ⌝ }
+    requires { ⌜ SomeBody (now rows) (now tables) (now methods) (now lookups) at place count ⌝ }
+    ensures { λ r. ⌜ BodyEmitted (now (rows .entry)) (now (tables .entry)) (now (methods .entry))
+        (now (lookups .entry)) (now (out .entry)) (now (out .exit)) at place count (r .place) (r .at) ⌝ }
 {
     let slots = first_slots(count);
+    let scope = Scope {
+        variables: count + 1,
+        free: count as u32 + 1,
+    };
     emit_node(
         rows,
         tables,
+        methods,
         lookups,
         &slots,
         out,
         place,
         at,
-        count + 1,
-        count as u32 + 1,
+        scope,
     )
 }
 
@@ -919,6 +978,7 @@ fn emit_body(
 fn emit_method(
     rows: &[u32],
     tables: &[u16],
+    methods: &[u16],
     lookups: &[u16],
     out: &mut [u32],
     place: usize,
@@ -926,15 +986,15 @@ fn emit_method(
     count: usize,
     body: usize,
 ) -> Next
-    requires { ⌜ SomeMethod (now rows) (now tables) (now lookups) at body place count ⌝ }
-    ensures { λ r. ⌜ MethodEmitted (now (rows .entry)) (now (tables .entry)) (now (lookups .entry))
-        (now (out .entry)) (now (out .exit)) at body place count (r .place) (r .at) ⌝ }
+    requires { ⌜ SomeMethod (now rows) (now tables) (now methods) (now lookups) at body place count ⌝ }
+    ensures { λ r. ⌜ MethodEmitted (now (rows .entry)) (now (tables .entry)) (now (methods .entry))
+        (now (lookups .entry)) (now (out .entry)) (now (out .exit)) at body place count (r .place) (r .at) ⌝ }
 {
     let t = plain_type(rows[at * 4 + 1]);
     let head = [METHOD, t, rows[at * 4 + 2], 0];
     let p = put(out, place, &head);
     let q = put_types(rows, out, p, at + 1, count, PARAMETER);
-    emit_body(rows, tables, lookups, out, q, body, count)
+    emit_body(rows, tables, methods, lookups, out, q, body, count)
 }
 
 // The F lines from row `at` on, with plain types.
@@ -957,14 +1017,15 @@ fn put_fields(rows: &[u32], out: &mut [u32], place: usize, at: usize, count: usi
 fn emit_methods(
     rows: &[u32],
     tables: &[u16],
+    methods: &[u16],
     lookups: &[u16],
     out: &mut [u32],
     place: usize,
     at: usize,
 ) -> Next
-    requires { ⌜ SomeMethods (now rows) (now tables) (now lookups) at place ⌝ }
-    ensures { λ r. ⌜ MethodsEmitted (now (rows .entry)) (now (tables .entry)) (now (lookups .entry))
-        (now (out .entry)) (now (out .exit)) at place (r .place) (r .at) ⌝ }
+    requires { ⌜ SomeMethods (now rows) (now tables) (now methods) (now lookups) at place ⌝ }
+    ensures { λ r. ⌜ MethodsEmitted (now (rows .entry)) (now (tables .entry)) (now (methods .entry))
+        (now (lookups .entry)) (now (out .entry)) (now (out .exit)) at place (r .place) (r .at) ⌝ }
 {
     if rows[at * 4] != METHOD {
         return Next {
@@ -974,42 +1035,54 @@ fn emit_methods(
     }
     let x = skip(rows, at + 1, PARAMETER);
     let body = skip(rows, x, EFFECT);
-    let n = emit_method(rows, tables, lookups, out, place, at, x - at - 1, body);
-    emit_methods(rows, tables, lookups, out, n.place, n.at)
+    let n = emit_method(
+        rows,
+        tables,
+        methods,
+        lookups,
+        out,
+        place,
+        at,
+        x - at - 1,
+        body,
+    );
+    emit_methods(rows, tables, methods, lookups, out, n.place, n.at)
 }
 
 // A class: its C line, its fields, its methods.
 fn emit_class(
     rows: &[u32],
     tables: &[u16],
+    methods: &[u16],
     lookups: &[u16],
     out: &mut [u32],
     place: usize,
     at: usize,
 ) -> Next
-    requires { ⌜ SomeClass (now rows) (now tables) (now lookups) at place ⌝ }
-    ensures { λ r. ⌜ ClassEmitted (now (rows .entry)) (now (tables .entry)) (now (lookups .entry))
-        (now (out .entry)) (now (out .exit)) at place (r .place) (r .at) ⌝ }
+    requires { ⌜ SomeClass (now rows) (now tables) (now methods) (now lookups) at place ⌝ }
+    ensures { λ r. ⌜ ClassEmitted (now (rows .entry)) (now (tables .entry)) (now (methods .entry))
+        (now (lookups .entry)) (now (out .entry)) (now (out .exit)) at place (r .place) (r .at) ⌝ }
 {
     let head = [CLASS, 0, rows[at * 4 + 2] + 2, 0];
     let p = put(out, place, &head);
     let first = skip(rows, at + 1, FIELD);
     let q = put_fields(rows, out, p, at + 1, first - at - 1);
-    emit_methods(rows, tables, lookups, out, q, first)
+    emit_methods(rows, tables, methods, lookups, out, q, first)
 }
 
 // The classes from row `at` on, as long as C lines come.
 fn emit_classes(
     rows: &[u32],
     tables: &[u16],
+    methods: &[u16],
     lookups: &[u16],
     out: &mut [u32],
     place: usize,
     at: usize,
 ) -> Next
-    requires { ⌜ SomeClasses (now rows) (now tables) (now lookups) at place ⌝ }
-    ensures { λ r. ⌜ ClassesEmitted (now (rows .entry)) (now (tables .entry)) (now (lookups .entry))
-        (now (out .entry)) (now (out .exit)) at place (r .place) (r .at) ⌝ }
+    requires { ⌜ SomeClasses (now rows) (now tables) (now methods) (now lookups) at place ⌝ }
+    ensures { λ r. ⌜ ClassesEmitted (now (rows .entry)) (now (tables .entry)) (now (methods .entry))
+        (now (lookups .entry)) (now (out .entry)) (now (out .exit)) at place (r .place) (r .at) ⌝ }
 {
     if rows[at * 4] != CLASS {
         return Next {
@@ -1017,15 +1090,21 @@ fn emit_classes(
             at: at,
         };
     }
-    let n = emit_class(rows, tables, lookups, out, place, at);
-    emit_classes(rows, tables, lookups, out, n.place, n.at)
+    let n = emit_class(rows, tables, methods, lookups, out, place, at);
+    emit_classes(rows, tables, methods, lookups, out, n.place, n.at)
 }
 
 // The whole plain program; answers how many numbers it has.
-fn emit_program(rows: &[u32], tables: &[u16], lookups: &[u16], out: &mut [u32]) -> usize
-    requires { ⌜ SomeProgram (now rows) (now tables) (now lookups) ⌝ }
-    ensures { λ r. ⌜ ProgramWritten (now (rows .entry)) (now (tables .entry)) (now (lookups .entry))
-        (now (out .entry)) (now (out .exit)) r ⌝ }
+fn emit_program(
+    rows: &[u32],
+    tables: &[u16],
+    methods: &[u16],
+    lookups: &[u16],
+    out: &mut [u32],
+) -> usize
+    requires { ⌜ SomeProgram (now rows) (now tables) (now methods) (now lookups) ⌝ }
+    ensures { λ r. ⌜ ProgramWritten (now (rows .entry)) (now (tables .entry)) (now (methods .entry))
+        (now (lookups .entry)) (now (out .entry)) (now (out .exit)) r ⌝ }
 {
     let head = [
         CLASS,
@@ -1046,10 +1125,10 @@ fn emit_program(rows: &[u32], tables: &[u16], lookups: &[u16], out: &mut [u32]) 
         0,
     ];
     let p = put(out, 0, &head);
-    let c = emit_classes(rows, tables, lookups, out, p, 0);
+    let c = emit_classes(rows, tables, methods, lookups, out, p, 0);
     let line = [START, 0, 0, 0];
     let q = put(out, c.place, &line);
-    let n = emit_body(rows, tables, lookups, out, q, c.at + 1, 0);
+    let n = emit_body(rows, tables, methods, lookups, out, q, c.at + 1, 0);
     n.place
 }
 
@@ -1135,7 +1214,7 @@ fn with_fields(formed: Formed, line: u32) -> Filled
     ensures { λ r. ⌜ r ≡ limits-told formed line ⌝ }
 {
     match formed {
-        Formed::InForm(n) => {
+        Formed::InForm(n, s) => {
             if line == 0 {
                 return Filled::Done(0);
             }
@@ -1165,17 +1244,23 @@ fn over_limits(rows: &[u32], ends: &[u16], tables: &[u16]) -> Filled
 }
 
 // The plain rows, where there is room for them.
-fn write_plain(rows: &[u32], tables: &[u16], lookups: &[u16], out: &mut [u32]) -> Filled
-    requires { ⌜ SomeProgram (now rows) (now tables) (now lookups) ⌝ }
-    ensures { λ r. ⌜ PlainWritten (now (rows .entry)) (now (tables .entry)) (now (lookups .entry))
-        (now (out .entry)) (now (out .exit)) r ⌝ }
+fn write_plain(
+    rows: &[u32],
+    tables: &[u16],
+    methods: &[u16],
+    lookups: &[u16],
+    out: &mut [u32],
+) -> Filled
+    requires { ⌜ SomeProgram (now rows) (now tables) (now methods) (now lookups) ⌝ }
+    ensures { λ r. ⌜ PlainWritten (now (rows .entry)) (now (tables .entry)) (now (methods .entry))
+        (now (lookups .entry)) (now (out .entry)) (now (out .exit)) r ⌝ }
 {
     let mut none = [0u32; 1];
-    let count = emit_program(rows, tables, lookups, &mut none);
+    let count = emit_program(rows, tables, methods, lookups, &mut none);
     if out.len() < count {
         return Filled::Refused(ROOM_REFUSAL, 0);
     }
-    let written = emit_program(rows, tables, lookups, out);
+    let written = emit_program(rows, tables, methods, lookups, out);
     Filled::Done(written / 4)
 }
 
@@ -1184,10 +1269,11 @@ pub fn translate_checked(
     rows: &[u32],
     ends: &[u16],
     tables: &[u16],
+    methods: &[u16],
     lookups: &[u16],
     out: &mut [u32],
 ) -> Filled
-    requires { ⌜ SomeAccepted (now rows) (now ends) (now tables) (now lookups) ⌝ }
+    requires { ⌜ SomeAccepted (now rows) (now ends) (now tables) (now methods) (now lookups) ⌝ }
     ensures { λ r. ⌜ (r ≡ answer 4 (translation (now (rows .entry))) (length (now (out .entry))))
         × (now (out .exit) ≡ buffer (translation (now (rows .entry))) (now (out .entry))) ⌝ }
 {
@@ -1199,5 +1285,5 @@ pub fn translate_checked(
     if line != 0 {
         return Filled::Refused(RESERVED_REFUSAL, line);
     }
-    write_plain(rows, tables, lookups, out)
+    write_plain(rows, tables, methods, lookups, out)
 }

@@ -15,7 +15,7 @@ use Rattle.language.specs.Lists.{nth, nth-lt, Never, inj, choice}
 use Rattle.language.specs.Results.{Checked, accept, refuse}
 use Rattle.language.specs.Tree.{Class, Program}
 use Rattle.language.specs.World.{World}
-use Rattle.language.specs.Program.{world}
+use Rattle.language.specs.Program.{world, world-with}
 use Rattle.language.specs.Verdict.{check}
 use Rattle.language.proofs.Booleans.{and-inv, not-true}
 use Rattle.theory.specs.Lookups.{below-is-subclass}
@@ -71,7 +71,7 @@ each-known W (b ∷ cs) f =
 
 -- A class that the program knows is declared or Object, and one test tells which.
 declared-test : (P : List Class) (c : ℕ) → (is-declared (world P) c ≡ true) ↔ IsDeclared P c
-unfolding world
+unfolding world world-with
 declared-test P c = (
   (λ e. let x = and-inv (ltb object-class c) (leb c (length P)) e in
       let later = ltb-true object-class c (x .0) in
@@ -105,7 +105,7 @@ labels-in p store n printed spoiled = record {
 -- A run that serves is counted.
 pub counted : (rows store : List ℕ) (n printed spoiled : ℕ) (s : Serves rows store n printed spoiled)
     → run-counts rows store n printed spoiled ≡ some (labels-in (s .program) store n printed spoiled)
-unfolding run-counts world
+unfolding run-counts world world-with
 counted rows store n printed spoiled s =
     let p = s .program in
     let W = world (p .classes) in
@@ -127,7 +127,7 @@ counted rows store n printed spoiled s =
 -- A run that is counted serves.
 pub counted-serves : (rows store : List ℕ) (n printed spoiled : ℕ) (c : Counts)
     → run-counts rows store n printed spoiled ≡ some c → Serves rows store n printed spoiled
-unfolding run-counts world
+unfolding run-counts world world-with
 counted-serves rows store n printed spoiled c e =
     let x = chosen (holds-objects n store) e in go (check rows) refl (x .1) (leb-true n _ (x .0))
   where

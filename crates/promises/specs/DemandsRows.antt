@@ -119,6 +119,7 @@ alike-on-stores ns out p p′ c c′ r r′ shaped shaped′ a store store′ =
 -- What the translator asks of a program besides the check, for rows that it takes.
 more : (ns : List ℕ) (p : Program) → TranslatableRows ns p → More (world (p .classes))
 more ns p t = let laws = taken-laws ns p t in record {
+  declared-new = well-formed-more p (t .accepted .well) .declared-new;
   unreserved = λ n c i e. laws .unreserved n c i e .0;
   unique = well-formed-more p (t .accepted .well) .unique;
   few = laws .few;

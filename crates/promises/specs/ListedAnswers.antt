@@ -15,7 +15,7 @@ use Rattle.language.specs.Rows.{row-of, rows-of}
 use Rattle.language.specs.Filling.{filled, overwritten, answer, buffer}
 use Rattle.language.specs.Tree.{size, classes-lines, Program, flatten-program}
 use Rattle.language.specs.World.{World}
-use Rattle.language.specs.Program.{world}
+use Rattle.language.specs.Program.{world, body-in}
 use Rattle.language.specs.Form.{form}
 use Rattle.language.specs.Verdict.{whole-rows, three-passes, check, verdict-of, verdict}
 use Rattle.language.specs.State.{Value, State, Stop, Out}
@@ -117,7 +117,8 @@ outcome-listed (holds-stop h) = go h
 run-within : (p : Program) (fuel room : ℕ) → Within fuel room (final (run (with-limits fuel room) p))
 unfolding run
 run-within p fuel room =
-    ends-within fuel room (limited-start fuel room (world (p .classes)) (p .start) first-state
+    ends-within fuel room
+    (limited-start fuel room (world (p .classes)) (body-in (p .classes)) (p .start) first-state
     (record { fuel = omega arith; room = omega arith }))
 
 -- The run of a well-formed program is listed.

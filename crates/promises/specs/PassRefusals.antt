@@ -15,7 +15,7 @@ use Rattle.language.specs.Tree.{set, call, choose, block, Exprs, nil, cons, siz
 use Rattle.language.specs.Tree.{heading-lines, method-lines, methods-lines, Class, class-lines, classes-lines}
 use Rattle.language.specs.Tree.{Program}
 use Rattle.language.specs.World.{World, place, field-type, is-declared, is-declared-type}
-use Rattle.language.specs.Effects.{apply-class, within, effect-of-all}
+use Rattle.language.specs.Effects.{apply-class, within}
 use Rattle.language.specs.Program.{declared, kind-at, is-root-class, is-state-type, world}
 use Rattle.language.specs.Headings.{may-extend, is-some, may-override, check-fields, check-parameters}
 use Rattle.language.specs.Headings.{check-effects, check-methods, check-class, check-classes, headings}
@@ -145,7 +145,7 @@ module _ (W : World) (rows : ℕ) where
         gives-bind (type-gives e (at + 1) γ (omega (arith, f)) (omega (arith, h))) λ a _.
         gives-require (is-declared W c) (on refuses-name f b) λ _.
         gives-require (not-bool (a .type)) (on refuses-type f b) λ _. gives tt
-    type-gives (new c) at γ f h = gives-require (is-declared W c) (on refuses-name f (omega (arith, h))) λ _.
+    type-gives (new c) at γ f h = gives-require (W .makes c) (on refuses-name f (omega (arith, h))) λ _.
         gives tt
     type-gives (change k d) at γ f h = let b : at ≤ rows = omega (arith, h) in
         gives-require (is-declared W d) (on refuses-name f b) λ _.
@@ -189,36 +189,38 @@ module _ (W : World) (rows : ℕ) where
         gives-bind (types-give es (at + size e) (a .slots) (omega (arith, f)) (omega (arith, h))) λ a′ _.
         gives tt
 
-  method-gives : (owner at : ℕ) (m : Declaration) → 1 ≤ at → at + method-lines m ≤ 1 + rows
-      → BodyGives (type-method W owner at m)
+  method-gives : (owner number at : ℕ) (m : Declaration) → 1 ≤ at → at + method-lines m ≤ 1 + rows
+      → BodyGives (type-method W owner number at m)
   unfolding type-method method-lines heading-lines
-  method-gives owner at m f h = let b : at ≤ rows = omega (arith, h) in
+  method-gives owner number at m f h = let b : at ≤ rows = omega (arith, h) in
       gives-bind (type-gives (m .body) (at + heading-lines m) (method-environment owner (m .parameters))
       (omega (arith, f)) (omega (arith, h))) λ a _.
       gives-require (fits W (a .type) (m .result)) (on refuses-type f b) λ _.
-      gives-require (within (a .effect) (effect-of-all (m .effects))) (on refuses-effect f b) λ _. gives tt
+      gives-require (within (a .effect) (W .effect number)) (on refuses-effect f b) λ _. gives tt
 
-  bodies-of-methods : (owner at : ℕ) (ms : List Declaration) → 1 ≤ at → at + methods-lines ms ≤ 1 + rows
-      → BodyGives (type-methods W owner at ms)
+  bodies-of-methods : (owner number at : ℕ) (ms : List Declaration) → 1 ≤ at
+      → at + methods-lines ms ≤ 1 + rows → BodyGives (type-methods W owner number at ms)
   unfolding type-methods methods-lines
-  bodies-of-methods owner at [] f h = gives tt
-  bodies-of-methods owner at (m ∷ ms) f h = gives-bind (method-gives owner at m f (omega (arith, h))) λ _ _.
-      bodies-of-methods owner (at + method-lines m) ms (omega (arith, f)) (omega (arith, h))
+  bodies-of-methods owner number at [] f h = gives tt
+  bodies-of-methods owner number at (m ∷ ms) f h =
+      gives-bind (method-gives owner number at m f (omega (arith, h))) λ _ _.
+      bodies-of-methods owner (suc number) (at + method-lines m) ms (omega (arith, f)) (omega (arith, h))
 
-  bodies-of-classes : (k at : ℕ) (cs : List Class) → 1 ≤ at → at + classes-lines cs ≤ 1 + rows
-      → BodyGives (type-classes W k at cs)
+  bodies-of-classes : (k number at : ℕ) (cs : List Class) → 1 ≤ at → at + classes-lines cs ≤ 1 + rows
+      → BodyGives (type-classes W k number at cs)
   unfolding type-classes classes-lines class-lines
-  bodies-of-classes k at [] f h = gives tt
-  bodies-of-classes k at (c ∷ cs) f h =
-      gives-bind (bodies-of-methods k (at + 1 + length (c .fields)) (c .methods) (omega (arith, f))
+  bodies-of-classes k number at [] f h = gives tt
+  bodies-of-classes k number at (c ∷ cs) f h =
+      gives-bind (bodies-of-methods k number (at + 1 + length (c .fields)) (c .methods) (omega (arith, f))
       (omega (arith, h)))
-      λ _ _. bodies-of-classes (suc k) (at + class-lines c) cs (omega (arith, f)) (omega (arith, h))
+      λ _ _. bodies-of-classes (suc k) (number + length (c .methods)) (at + class-lines c) cs
+      (omega (arith, f)) (omega (arith, h))
 
 -- The pass over bodies refuses as listed, where the program takes no more lines than there are rows.
 pub body-refusals : (p : Program) (rows : ℕ) → 1 + classes-lines (p .classes) + size (p .start) ≤ rows
     → Gives (BodyRefusal rows) Any (bodies p)
 unfolding bodies
 body-refusals p rows l = let W = world (p .classes) in
-    gives-bind (bodies-of-classes W rows 1 1 (p .classes) (omega arith) (omega (arith, l))) λ _ _.
+    gives-bind (bodies-of-classes W rows 1 0 1 (p .classes) (omega arith) (omega (arith, l))) λ _ _.
     gives-bind (type-gives W rows (p .start) (2 + classes-lines (p .classes)) start-environment (omega arith)
     (omega (arith, l))) λ _ _. gives tt

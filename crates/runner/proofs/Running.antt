@@ -2,12 +2,11 @@
 use mathlib.Core.Path.{_≡_, sym, ap, _∙_}
 use mathlib.Core.List.{List}
 use Prim.Native.Nat.{ℕ, _%_, _≤_, _<_}
-use native.Mathlib.Omega.{arith}
 use borrow.Author.Tests.{eq-eqb, ne-eqb, le-leb, lt-leb}
 use lib.ListN.{length}
 use Rattle.language.specs.Limits.{most-fuel}
 use Rattle.language.specs.Results as results
-use Rattle.language.specs.Results.{accept, refuse, require}
+use Rattle.language.specs.Results.{refuse, require}
 use Rattle.language.specs.Tree.{Program}
 use Rattle.language.specs.Verdict.{whole-rows, check}
 use Rattle.language.specs.Store as store
@@ -15,11 +14,10 @@ use Rattle.language.specs.Store.{runnable, run-checked, run-of}
 use Rattle.checker.specs.declared.Checked.{Checked}
 use Rattle.checker.specs.declared.Checked.the-variants.{Accepted as Passed, Refused as Failed}
 use Rattle.checker.specs.Answers.{checked-case}
-use Rattle.checker.specs.Passes.{Held}
-use Rattle.checker.proofs.Passing.{checked-accepted}
+use Rattle.checker.specs.Passes.{Checks}
+use Rattle.checker.proofs.Passing.{checked-accepted, checked-refused}
 use Rattle.machine.specs.declared.Run.{Run}
 use Rattle.machine.specs.Contracts.{PreChecked, PostChecked, Tells}
-use Rattle.machine.proofs.Accepted.{accepted-of}
 use Rattle.machine.proofs.Checked.{tells-run-of}
 use Rattle.runner.specs.declared.Answer.the-variants.{Refused, Ran}
 use Rattle.runner.specs.Answers.{answer-told, Answers}
@@ -55,29 +53,26 @@ module _ (R s : List ℕ) (fuel : ℕ) where
   unfolding runnable check whole-rows require
   runnable-is l = rw (le-leb fuel most-fuel l)
 
+  -- What the check refuses is refused.
+  pub check-refuses : (n l : ℕ) → fuel ≤ most-fuel → check R ≡ refuse n l → Answers R fuel s s (Refused n l)
+  check-refuses n l few e = refuses n l (runnable-is few ∙ e)
+
   pub not-accepted : (n l : ℕ) (c : Checked) → fuel ≤ most-fuel → c ≡ Failed n l → c ≡ checked-case (check R)
       → Answers R fuel s s (Refused n l)
-  not-accepted n l c few e f = refuses n l (runnable-is few ∙ go (check R) (sym e ∙ f))
-    where
-      go : (x : results.Checked Program) → Failed n l ≡ checked-case x → x ≡ refuse n l
-      go (accept p) e = let z : _≡_ {A = ℕ} 0 1 = cc in absurd (omega arith)
-      go (refuse i m) e = let a : n ≡ i = cc in let b : l ≡ m = cc in rw (a, b)
+  not-accepted n l c few e f = check-refuses n l few (checked-refused (check R) n l (sym e ∙ f))
 
 -- Rows that the check accepted, with the tables that it filled.
-module _ {R E T A C : List ℕ} (n : ℕ) (c : Checked) (e : c ≡ Passed n)
-    (f : (c ≡ checked-case (check R)) × ((p : Program) → check R ≡ accept p → Held R E T A C p)) where
-  pub checked : PreChecked R E T A
+module _ {R E T A M F C : List ℕ} (n : ℕ) (c : Checked) (e : c ≡ Passed n) (f : Checks R E T A M F C c) where
+  pub checked : PreChecked R E T A M
   checked =
-      let x = checked-accepted (check R) n (sym e ∙ f .0) in
-      let h = f .1 (x .0) (x .1) in
-      record { p = x .0; accepted = accepted-of (x .1) (h .here) (h .tables) }
+      let x = checked-accepted (check R) n (sym e ∙ f .answer) in
+      record { F = F; C = C; p = x .0; held = f .holds (x .0) (x .1) }
 
-  pub answers : {s s′ : List ℕ} {fuel : ℕ} {r : Run} → fuel ≤ most-fuel → PostChecked R E T A s s′ fuel r
+  pub answers : {s s′ : List ℕ} {fuel : ℕ} {r : Run} → fuel ≤ most-fuel → PostChecked R E T A M s s′ fuel r
       → Answers R fuel s s′ (Ran r)
-  unfolding checked
   answers {s} {s′} {fuel} {r} few d =
-      let x = checked-accepted (check R) n (sym e ∙ f .0) in
-      let t = tells-run-of R s s′ (x .0) fuel r (x .1) few (d .tells (x .0) (checked .accepted)) in
+      let x = checked-accepted (check R) n (sym e ∙ f .answer) in
+      let t = tells-run-of R s s′ (x .0) fuel r (x .1) few (d .tells F C (x .0) (f .holds (x .0) (x .1))) in
       record { answer = told t; store = ap (λ (y : store.Ran). y .store) (sym (t .is)) }
     where
       told : Tells (run-of R fuel s) s′ r → Ran r ≡ answer-told (run-of R fuel s .answer)

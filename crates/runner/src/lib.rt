@@ -1,15 +1,27 @@
 // The run of rows over a lent store: length, fuel, the check, the run (document 01, "Refusals and stops").
+use checker::ALL_METHOD_TABLE;
+use checker::ALL_METHODS;
 use checker::ALL_ROWS;
+use checker::FEW_CLASSES;
+use checker::FEW_ENTRIES;
+use checker::FEW_METHOD_TABLE;
+use checker::FEW_METHODS;
 use checker::FEW_NUMBERS;
 use checker::FEW_ROWS;
+use checker::FEW_TABLE;
+use checker::SHORT_METHOD_TABLE;
+use checker::SHORT_METHODS;
+use checker::SHORT_NUMBERS;
+use checker::SHORT_ROWS;
 use language::ALL_CLASSES;
 use language::LIMIT_REFUSAL;
 use language::LINE_REFUSAL;
 use language::TABLE_LENGTH;
 use machine::Run;
-ghost use Prim.Native.Nat.{_≤_};
+ghost use mathlib.Core.Path.{_≡_};
+ghost use Prim.Native.Nat.{_%_, _≤_};
 ghost use lib.ListN.{length};
-ghost use Rattle.checker.specs.Passes.{Lent};
+ghost use Rattle.checker.specs.Passes.{Room, ClassRoom, Stands};
 ghost use Rattle.runner.specs.Answers.{Answers};
 ghost use Rattle.language.specs.Limits.{most-fuel};
 
@@ -22,72 +34,198 @@ pub enum Answer {
     Ran(Run),
 }
 
-// Checks with tables that are lent, then runs.
-fn run_into(
+// After form: checks headings and bodies with tables that are lent, then runs. A run reads no lookup
+// classes: their table is empty.
+fn run_formed(
     rows: &[u32],
-    ends: &mut [u16],
+    ends: &[u16],
     tables: &mut [u16],
     above: &mut [u64],
-    lookups: &mut [u16],
+    methods: &mut [u16],
+    effects: &mut [u64],
+    classes: u32,
+    start: u32,
     store: &mut [u32],
     fuel: u32,
 ) -> Answer
-    requires { ⌜ Lent (now rows) (now ends) (now tables) (now above) (now lookups) ⌝ }
-    requires { ⌜ fuel ≤ most-fuel ⌝ }
+    requires { ⌜ Stands (now rows) (now ends) classes start ⌝ }
+    requires { ⌜ Room (now rows) (now ends) (now methods) (now effects) ⌝ }
+    requires { ⌜ ClassRoom (now tables) (now above) classes × (fuel ≤ most-fuel) ⌝ }
     ensures { λ r. ⌜ Answers (now (rows .entry)) fuel (now (store .entry)) (now (store .exit)) r ⌝ }
 {
-    let c = checker::check_into(rows, ends, tables, above, lookups);
-    match c {
+    let mut lookups = [0u16; 0];
+    let checked = checker::check_formed(
+        rows,
+        ends,
+        tables,
+        above,
+        methods,
+        effects,
+        &mut lookups,
+        classes,
+        start,
+    );
+    match checked {
         checker::Checked::Accepted(_) => {
-            let r = machine::run_checked(rows, ends, tables, above, store, fuel);
+            let r = machine::run_checked(rows, ends, tables, above, methods, store, fuel);
             Answer::Ran(r)
         }
         checker::Checked::Refused(number, line) => Answer::Refused(number, line),
     }
 }
 
-// The run of at most 1,024 rows.
+// After form, with class tables of its own for at most 7 classes.
+fn run_few_classes(
+    rows: &[u32],
+    ends: &[u16],
+    methods: &mut [u16],
+    effects: &mut [u64],
+    classes: u32,
+    start: u32,
+    store: &mut [u32],
+    fuel: u32,
+) -> Answer
+    requires { ⌜ Stands (now rows) (now ends) classes start ⌝ }
+    requires { ⌜ Room (now rows) (now ends) (now methods) (now effects) ⌝ }
+    requires { ⌜ (classes ≤ 7) × (fuel ≤ most-fuel) ⌝ }
+    ensures { λ r. ⌜ Answers (now (rows .entry)) fuel (now (store .entry)) (now (store .exit)) r ⌝ }
+{
+    let mut tables = [0u16; FEW_TABLE];
+    let mut above = [0u64; FEW_ENTRIES];
+    run_formed(
+        rows,
+        ends,
+        &mut tables,
+        &mut above,
+        methods,
+        effects,
+        classes,
+        start,
+        store,
+        fuel,
+    )
+}
+
+// The same for any number of classes.
+fn run_all_classes(
+    rows: &[u32],
+    ends: &[u16],
+    methods: &mut [u16],
+    effects: &mut [u64],
+    classes: u32,
+    start: u32,
+    store: &mut [u32],
+    fuel: u32,
+) -> Answer
+    requires { ⌜ Stands (now rows) (now ends) classes start ⌝ }
+    requires { ⌜ Room (now rows) (now ends) (now methods) (now effects) ⌝ }
+    requires { ⌜ fuel ≤ most-fuel ⌝ }
+    ensures { λ r. ⌜ Answers (now (rows .entry)) fuel (now (store .entry)) (now (store .exit)) r ⌝ }
+{
+    let mut tables = [0u16; TABLE_LENGTH];
+    let mut above = [0u64; ALL_CLASSES];
+    run_formed(
+        rows,
+        ends,
+        &mut tables,
+        &mut above,
+        methods,
+        effects,
+        classes,
+        start,
+        store,
+        fuel,
+    )
+}
+
+// After form: few classes pay for short class tables alone.
+fn run_classes(
+    rows: &[u32],
+    ends: &[u16],
+    methods: &mut [u16],
+    effects: &mut [u64],
+    classes: u32,
+    start: u32,
+    store: &mut [u32],
+    fuel: u32,
+) -> Answer
+    requires { ⌜ Stands (now rows) (now ends) classes start ⌝ }
+    requires { ⌜ Room (now rows) (now ends) (now methods) (now effects) ⌝ }
+    requires { ⌜ fuel ≤ most-fuel ⌝ }
+    ensures { λ r. ⌜ Answers (now (rows .entry)) fuel (now (store .entry)) (now (store .exit)) r ⌝ }
+{
+    if classes <= FEW_CLASSES {
+        return run_few_classes(rows, ends, methods, effects, classes, start, store, fuel);
+    }
+    run_all_classes(rows, ends, methods, effects, classes, start, store, fuel)
+}
+
+// Runs whole rows with lent tables. Form counts the classes before there are class tables.
+fn run_whole(
+    rows: &[u32],
+    ends: &mut [u16],
+    methods: &mut [u16],
+    effects: &mut [u64],
+    store: &mut [u32],
+    fuel: u32,
+) -> Answer
+    requires { ⌜ Room (now rows) (now ends) (now methods) (now effects) ⌝ }
+    requires { ⌜ fuel ≤ most-fuel ⌝ }
+    ensures { λ r. ⌜ Answers (now (rows .entry)) fuel (now (store .entry)) (now (store .exit)) r ⌝ }
+{
+    let formed = form::check_form(rows, ends);
+    match formed {
+        form::Formed::InForm(classes, start) => run_classes(
+            rows,
+            ends,
+            methods,
+            effects,
+            classes,
+            start,
+            store,
+            fuel,
+        ),
+        form::Formed::Refused(number, line) => Answer::Refused(number, line),
+    }
+}
+
+// The run of at most 32 whole rows.
+fn run_short(rows: &[u32], store: &mut [u32], fuel: u32) -> Answer
+    requires { ⌜ (length (now rows) % 4 ≡ 0) × (length (now rows) ≤ 128) ⌝ }
+    requires { ⌜ fuel ≤ most-fuel ⌝ }
+    ensures { λ r. ⌜ Answers (now (rows .entry)) fuel (now (store .entry)) (now (store .exit)) r ⌝ }
+{
+    let mut ends = [0u16; SHORT_ROWS];
+    let mut methods = [0u16; SHORT_METHOD_TABLE];
+    let mut effects = [0u64; SHORT_METHODS];
+    run_whole(rows, &mut ends, &mut methods, &mut effects, store, fuel)
+}
+
+// The run of at most 1,024 whole rows.
 fn run_few(rows: &[u32], store: &mut [u32], fuel: u32) -> Answer
-    requires { ⌜ length (now rows) ≤ 4096 ⌝ }
+    requires { ⌜ (length (now rows) % 4 ≡ 0) × (length (now rows) ≤ 4096) ⌝ }
     requires { ⌜ fuel ≤ most-fuel ⌝ }
     ensures { λ r. ⌜ Answers (now (rows .entry)) fuel (now (store .entry)) (now (store .exit)) r ⌝ }
 {
     let mut ends = [0u16; FEW_ROWS];
-    let mut tables = [0u16; TABLE_LENGTH];
-    let mut above = [0u64; ALL_CLASSES];
-    let mut lookups = [0u16; FEW_ROWS];
-    run_into(
-        rows,
-        &mut ends,
-        &mut tables,
-        &mut above,
-        &mut lookups,
-        store,
-        fuel,
-    )
+    let mut methods = [0u16; FEW_METHOD_TABLE];
+    let mut effects = [0u64; FEW_METHODS];
+    run_whole(rows, &mut ends, &mut methods, &mut effects, store, fuel)
 }
 
-// The run of any number of rows.
+// The run of any number of whole rows.
 fn run_many(rows: &[u32], store: &mut [u32], fuel: u32) -> Answer
+    requires { ⌜ length (now rows) % 4 ≡ 0 ⌝ }
     requires { ⌜ fuel ≤ most-fuel ⌝ }
     ensures { λ r. ⌜ Answers (now (rows .entry)) fuel (now (store .entry)) (now (store .exit)) r ⌝ }
 {
     let mut ends = [0u16; ALL_ROWS];
-    let mut tables = [0u16; TABLE_LENGTH];
-    let mut above = [0u64; ALL_CLASSES];
-    let mut lookups = [0u16; ALL_ROWS];
-    run_into(
-        rows,
-        &mut ends,
-        &mut tables,
-        &mut above,
-        &mut lookups,
-        store,
-        fuel,
-    )
+    let mut methods = [0u16; ALL_METHOD_TABLE];
+    let mut effects = [0u64; ALL_METHODS];
+    run_whole(rows, &mut ends, &mut methods, &mut effects, store, fuel)
 }
 
-// Runs rows. Few rows pay for short tables alone.
+// Runs rows. Few rows and few classes pay for short tables alone.
 pub fn run_rows(rows: &[u32], store: &mut [u32], fuel: u64) -> Answer
     ensures { λ r. ⌜ Answers (now (rows .entry)) fuel (now (store .entry)) (now (store .exit)) r ⌝ }
 {
@@ -96,6 +234,9 @@ pub fn run_rows(rows: &[u32], store: &mut [u32], fuel: u64) -> Answer
     }
     if fuel > MOST_FUEL {
         return Answer::Refused(LIMIT_REFUSAL, 0);
+    }
+    if rows.len() <= SHORT_NUMBERS {
+        return run_short(rows, store, fuel as u32);
     }
     if rows.len() <= FEW_NUMBERS {
         return run_few(rows, store, fuel as u32);

@@ -33,7 +33,7 @@ module _ (W : World) where
       type-slot : {γ : Environment} {k : ℕ} {s : Slot} → at-slot γ k ≡ some s
           → HasType γ (slot k) (known (s .current)) γ no-effect
       -- W.
-      type-new : {γ : Environment} {c : ℕ} → is-declared W c ≡ true
+      type-new : {γ : Environment} {c : ℕ} → W .makes c ≡ true
           → HasType γ (new c) (known (class c)) γ no-effect
       -- K.
       type-cast : {γ γ′ : Environment} {c : ℕ} {e : Expr} {t : ExprType} {φ : ℕ}

@@ -6,7 +6,7 @@ use mathlib.Core.Option.{Option, none, some}
 use mathlib.Core.Bool.{Bool, true, false, cond}
 use mathlib.Core.List.{List, [], _∷_, _++_, map}
 use lib.ListN.{length, set as replace, length-append, length-set}
-use lib.Dec.{leb}
+use lib.Dec.{leb, eqb}
 use borrow.Author.Tests.{leb-true, leb-false}
 use native.Mathlib.Omega.{arith}
 use Rattle.language.specs.Limits.{most-calls}
@@ -18,7 +18,7 @@ use Rattle.language.specs.Tree.{new, change, assign, set, call, choose, block, 
 use Rattle.language.specs.World.{Method, World}
 use Rattle.language.specs.State.{Value, null, truth, object, Object, State, Stop, raised, deep, spent}
 use Rattle.language.specs.State.{full, stuck, Out, entered, with-frame}
-use Rattle.language.specs.Evaluation.{without-limits, with-limits, need-reference, keeps-fields}
+use Rattle.language.specs.Evaluation.{without-limits, with-limits, need-reference, need-count, keeps-fields}
 use Rattle.language.specs.State.{with-heap, initial}
 use Rattle.language.specs.Evaluation.{need, need-object, need-truth, new-object, changed}
 use Rattle.language.specs.Evaluation.{field-of, with-field, do-get, do-set, do-cast, do-change, do-new}
@@ -89,6 +89,14 @@ module _ (F K : ℕ) where
   limited-truth null s w f = same-stop w
   limited-truth (truth b) s w f = f b
   limited-truth (object j) s w f = same-stop w
+
+  limited-count : {B : Type 0} (n m : ℕ) (s : State) {k k′ : Bool → Out B} → Within s
+      → ((b : Bool) → Limited (k b) (k′ b)) → Limited (need-count n m s k) (need-count n m s k′)
+  limited-count n m s {k} {k′} w f = go (eqb n m)
+    where
+      go : (b : Bool) → Limited (choice b k (λ _. stop stuck s)) (choice b k′ (λ _. stop stuck s))
+      go true = f true
+      go false = same-stop w
 
   limited-reference : {B : Type 0} (v : Value) (s : State) {k k′ : Bool → Out B} → Within s
       → ((b : Bool) → Limited (k b) (k′ b)) → Limited (need-reference v s k) (need-reference v s k′)
@@ -181,6 +189,7 @@ module _ (F K : ℕ) where
           → Limited (do-call W without-limits invoke m v vs s) (do-call W (with-limits F K) invoke′ m v vs s)
       limited-call m v vs s w = limited-object v s w λ j. limited-need (nth (s .heap) j) s w λ o.
           limited-need (W .method (o .class-of) m) s w λ M.
+          limited-count (length vs) (length (M .parameters)) s w λ _.
           limited-back (s .frame) (D M (with-frame (frame (some (object j)) vs) s) (within-frame _ w))
 
       -- An expression run with limits is the expression run without, or is cut.
@@ -250,20 +259,21 @@ module _ (F K : ℕ) where
             (λ v s. grows-bind (grows-all W invoke C es s) λ vs s. grows-ok (later-same s))
 
     -- A call, of any depth, run with limits is the call run without, or is cut.
-    pub limited-calls : (n : ℕ) (M : Method) (s : State) → Within s
-        → Limited (call-at W without-limits n M s) (call-at W (with-limits F K) n M s)
+    pub limited-calls : (bodies : ℕ → Expr) (n : ℕ) (M : Method) (s : State) → Within s
+        → Limited (call-at W without-limits bodies n M s) (call-at W (with-limits F K) bodies n M s)
     unfolding call-at
-    limited-calls zero M s w = same-stop w
-    limited-calls (suc n) M s w = limited (λ M s. call-at W without-limits n M s)
-        (λ M s. call-at W (with-limits F K) n M s) (λ M s. grows-calls W n M s)
-        (λ M s w. limited-calls n M s w) (M .body) s w
+    limited-calls bodies zero M s w = same-stop w
+    limited-calls bodies (suc n) M s w = limited (λ M s. call-at W without-limits bodies n M s)
+        (λ M s. call-at W (with-limits F K) bodies n M s) (λ M s. grows-calls W bodies n M s)
+        (λ M s w. limited-calls bodies n M s w) (bodies (M .number)) s w
 
     -- An expression outside of any call, run with fuel F and room K, is its run without limits, or is cut.
-    pub limited-start : (e : Expr) (s : State) → Within s
-        → Limited (eval-start W without-limits e s) (eval-start W (with-limits F K) e s)
-    limited-start e s w = limited (λ M s. call-at W without-limits most-calls M s)
-        (λ M s. call-at W (with-limits F K) most-calls M s) (λ M s. grows-calls W most-calls M s)
-        (λ M s w. limited-calls most-calls M s w) e s w
+    pub limited-start : (bodies : ℕ → Expr) (e : Expr) (s : State) → Within s
+        → Limited (eval-start W without-limits bodies e s) (eval-start W (with-limits F K) bodies e s)
+    limited-start bodies e s w = limited (λ M s. call-at W without-limits bodies most-calls M s)
+        (λ M s. call-at W (with-limits F K) bodies most-calls M s)
+        (λ M s. grows-calls W bodies most-calls M s)
+        (λ M s w. limited-calls bodies most-calls M s w) e s w
 
 -- The state at the end of a run.
 abbrev pub final : {A : Type 0} → Out A → State

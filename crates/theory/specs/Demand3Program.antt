@@ -6,7 +6,7 @@ use mathlib.Core.Bool.{true}
 use lib.ListN.{length}
 use Rattle.language.specs.Limits.{plain-steps-a-step}
 use Rattle.language.specs.Tree.{Program}
-use Rattle.language.specs.Program.{world}
+use Rattle.language.specs.Program.{world, body-in}
 use Rattle.language.specs.Evaluation.{with-limits, run}
 use Rattle.language.specs.Translation.{plain-program}
 use Rattle.language.specs.WellFormed.{ProgramWell}
@@ -17,7 +17,8 @@ use Rattle.theory.specs.RulesAgree.{computed}
 use Rattle.theory.specs.Lookups.{hierarchy}
 use Rattle.theory.specs.Cut.{final, proper}
 use Rattle.theory.specs.PlainSteps.{More}
-use Rattle.theory.specs.PlainLookups.{plain-program-is-plain}
+use Rattle.theory.specs.PlainLookups.{plain-program-is-plain, plain-program-bodies}
+use Rattle.theory.specs.Lookups.{well-formed-bodies}
 use Rattle.theory.specs.Demand3World.{EndsAlike, demand-3-forward, demand-3-backward}
 
 module _ (p : Program) (well : ProgramWell p) (𝓛 : Laws (world (p .classes))) (𝓜 : More (world (p .classes)))
@@ -33,7 +34,8 @@ module _ (p : Program) (well : ProgramWell p) (𝓛 : Laws (world (p .classes)))
         → EndsAlike (run (with-limits F K) p) (run (with-limits F′ K′) (plain-program p))
     unfolding run plain-program
     demand-3-run F F′ K K′ f e l = demand-3-forward (world (p .classes)) _
-        (plain-program-is-plain p (well .classes)) 𝓛 𝓜 (p .start) start F F′ K K′ f e l
+        (plain-program-is-plain p (well .classes)) 𝓛 𝓜 (body-in (p .classes)) _
+        (well-formed-bodies p well) (plain-program-bodies p (well .classes)) (p .start) start F F′ K K′ f e l
 
     -- A plain program's run with fuel F and room K′ that ends in a value, an exception or 15: the source's
     -- run with fuel F and room for as many objects as the plain run made ends alike.
@@ -42,4 +44,5 @@ module _ (p : Program) (well : ProgramWell p) (𝓛 : Laws (world (p .classes)))
         → EndsAlike (run (with-limits F K) p) (run (with-limits F K′) (plain-program p))
     unfolding run plain-program
     demand-3-run-back F K K′ e l = demand-3-backward (world (p .classes)) _
-        (plain-program-is-plain p (well .classes)) 𝓛 𝓜 (p .start) start F K K′ e l
+        (plain-program-is-plain p (well .classes)) 𝓛 𝓜 (body-in (p .classes)) _
+        (well-formed-bodies p well) (plain-program-bodies p (well .classes)) (p .start) start F K K′ e l

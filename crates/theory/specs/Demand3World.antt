@@ -20,8 +20,8 @@ use Rattle.language.specs.Translation.{translate}
 use Rattle.language.specs.Correspondence.{identities, EndAlike, both-give, same-exception, both-deep, Matches}
 use Rattle.language.proofs.Booleans.{false≢}
 use Rattle.theory.specs.Sound.{calls-ok}
-use Rattle.theory.specs.Fitting.{Laws, this-none}
-use Rattle.theory.specs.PlainWorld.{IsPlain}
+use Rattle.theory.specs.Fitting.{Laws, this-none, BodiesOk}
+use Rattle.theory.specs.PlainWorld.{IsPlain, PlainBodies}
 use Rattle.theory.specs.Cut.{Within, limited-start, final, proper-stop, proper, kept, uncut}
 use Rattle.theory.specs.Matching.{Mask, no-slots, no-this}
 use Rattle.theory.specs.MatchingStates.{Matched, After, Ended}
@@ -98,27 +98,28 @@ both (alike-stop {x} e) = record {
   proper-too = refl;
 }
 
-module _ (W W′ : World) (P : IsPlain W W′) (𝓛 : Laws W) (𝓜 : More W) (start : Expr) {t : ExprType}
-    {γ : Environment}
+module _ (W W′ : World) (P : IsPlain W W′) (𝓛 : Laws W) (𝓜 : More W) (bodies bodies′ : ℕ → Expr)
+    (𝓑 : BodiesOk W bodies) (𝓣 : PlainBodies W bodies bodies′) (start : Expr) {t : ExprType} {γ : Environment}
     {φ : ℕ} (typed : HasType W start-environment start t γ φ) where
   -- The runs of the start block and of its translation, with fuel and room.
   abbrev pub source-run : ℕ → ℕ → Out Value
-  source-run F K = eval-start W (with-limits F K) start first-state
+  source-run F K = eval-start W (with-limits F K) bodies start first-state
 
   abbrev pub plain-run : ℕ → ℕ → Out Value
-  plain-run F K = eval-start W′ (with-limits F K) (translate W start start-environment []) first-state
+  plain-run F K = eval-start W′ (with-limits F K) bodies′ (translate W start start-environment []) first-state
 
   abbrev source-free : Out Value
-  source-free = eval-start W without-limits start first-state
+  source-free = eval-start W without-limits bodies start first-state
 
   abbrev plain-free : Out Value
-  plain-free = eval-start W′ without-limits (translate W start start-environment []) first-state
+  plain-free = eval-start W′ without-limits bodies′ (translate W start start-environment []) first-state
 
   whole : Both source-free plain-free
   unfolding nth identities
-  whole = both (simulates W W′ P 𝓛 𝓜 (λ M s. call-at W without-limits most-calls M s)
-      (λ M s. call-at W′ without-limits most-calls M s) (calls-ok 𝓛 without-limits most-calls)
-      (calls-simulate W W′ P 𝓛 𝓜 most-calls) start typed [] [] [] 0 first-state first-state
+  whole = both (simulates W W′ P 𝓛 𝓜 (λ M s. call-at W without-limits bodies most-calls M s)
+      (λ M s. call-at W′ without-limits bodies′ most-calls M s)
+      (calls-ok 𝓛 bodies 𝓑 without-limits most-calls)
+      (calls-simulate W W′ P 𝓛 𝓜 bodies bodies′ 𝓑 𝓣 most-calls) start typed [] [] [] 0 first-state first-state
       (record { each = λ j o e. absurd (Never e) }) (record { this = this-none; slots = a-nil })
       (record {
         frames = record { this = no-this; slots = no-slots };
@@ -149,10 +150,10 @@ module _ (W W′ : World) (P : IsPlain W W′) (𝓛 : Laws W) (𝓜 : More W) (
       → 2 * length (final (source-run F K) .heap) + final (source-run F K) .changes ≤ K′
       → EndsAlike (source-run F K) (plain-run F′ K′)
   demand-3-forward F F′ K K′ l p m =
-      let k = kept F K (limited-start F K W start first-state (within-first F K)) p in
+      let k = kept F K (limited-start F K W bodies start first-state (within-first F K)) p in
       let q = whole .counts in
       let m′ : 2 * length (final source-free .heap) + final source-free .changes ≤ K′ = rw (k .is) at m in
-      let u = uncut F′ K′ (limited-start F′ K′ W′ (translate W start start-environment []) first-state
+      let u = uncut F′ K′ (limited-start F′ K′ W′ bodies′ (translate W start start-environment []) first-state
       (within-first F′ K′))
       (record { fuel = omega (arith, l, q, k .within); room = omega (arith, q, m′) }) in
       rw (k .is, u) (record { ends = whole .ends (rw (k .is) at p); counts = q; stores = whole .stores })
@@ -162,11 +163,11 @@ module _ (W W′ : World) (P : IsPlain W W′) (𝓛 : Laws W) (𝓜 : More W) (
   pub demand-3-backward : (F K K′ : ℕ) → proper (plain-run F K′) ≡ true
       → length (final (plain-run F K′) .heap) ≤ K → EndsAlike (source-run F K) (plain-run F K′)
   demand-3-backward F K K′ p m =
-      let k = kept F K′ (limited-start F K′ W′ (translate W start start-environment []) first-state
+      let k = kept F K′ (limited-start F K′ W′ bodies′ (translate W start start-environment []) first-state
       (within-first F K′)) p in
       let q = whole .counts in
       let m′ : length (final plain-free .heap) ≤ K = rw (k .is) at m in
-      let u = uncut F K (limited-start F K W start first-state (within-first F K))
+      let u = uncut F K (limited-start F K W bodies start first-state (within-first F K))
       (record { fuel = omega (arith, q, k .within); room = omega (arith, q, m′) }) in
       rw (k .is, u) (record {
         ends = whole .ends (whole .proper-too ∙ rw (k .is) at p);

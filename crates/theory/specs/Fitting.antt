@@ -13,7 +13,7 @@ use Rattle.language.specs.Lists.{nth, map-option, inj, All2, a-nil, a-cons, all
 use Rattle.language.specs.Lists.{nth-set-same, nth-set-other, nth-append, nth-append-one, nth-set}
 use Rattle.language.specs.Frames.{Frame}
 use Rattle.language.specs.Tree.{literal-true, literal-false, literal-null}
-use Rattle.language.specs.Tree.{DeclaredType, bool, class, ExprType, known, null-type, Field, Literal}
+use Rattle.language.specs.Tree.{DeclaredType, bool, class, ExprType, known, null-type, Field, Literal, Expr}
 use Rattle.language.specs.World.{Method, World}
 use Rattle.language.specs.Effects.{no-effect, member, join, within, apply-class, apply, apply-expr}
 use Rattle.language.specs.Environment.{Slot, Environment, fresh-slot, method-environment}
@@ -49,11 +49,12 @@ pub record FitsFrame (W : World) (h : List Object) (f : Frame Value) (γ : Envir
   pub this : FitsThis W h (f .this) (γ .this)
   pub slots : All2 (FitsSlot W h) (f .slots) (γ .slots)
 
-pub record BodyOk (W : World) (M : Method) : Type 0 where
+-- The body of a method is typed as its heading says; bodies go by the number of their method.
+pub record BodyOk (W : World) (bodies : ℕ → Expr) (M : Method) : Type 0 where
   pub ty : ExprType
   pub env : Environment
   pub eff : ℕ
-  pub types : HasType W (method-environment (M .owner) (M .parameters)) (M .body) ty env eff
+  pub types : HasType W (method-environment (M .owner) (M .parameters)) (bodies (M .number)) ty env eff
   pub fits-ret : fits W ty (M .result) ≡ true
   pub inside : within eff (M .effect) ≡ true
 
@@ -73,7 +74,10 @@ pub record Laws (W : World) : Type 0 where
       → (M′ : Method) × (W .method c m ≡ some M′) × (M′ .parameters ≡ M .parameters)
       × (M′ .result ≡ M .result) × (within (M′ .effect) (M .effect) ≡ true)
   pub owned : (c m : ℕ) (M : Method) → W .method c m ≡ some M → W .below c (M .owner) ≡ true
-  pub bodies : (c m : ℕ) (M : Method) → W .method c m ≡ some M → BodyOk W M
+
+-- So is the body of every method that a lookup finds.
+pub record BodiesOk (W : World) (bodies : ℕ → Expr) : Type 0 where
+  pub each : (c m : ℕ) (M : Method) → W .method c m ≡ some M → BodyOk W bodies M
 
 pub record HeapOk (W : World) (h : List Object) : Type 0 where
   pub each : (j : ℕ) (o : Object) → nth h j ≡ some o

@@ -4,6 +4,7 @@ use mathlib.Core.Option.{Option, none, some}
 use mathlib.Core.Bool.{Bool, true, false, cond}
 use mathlib.Core.List.{List, [], _∷_, _++_, map}
 use lib.ListN.{length, set as replace, length-append, length-set}
+use lib.Dec.{leb, eqb}
 use native.Mathlib.Omega.{arith}
 use Rattle.language.specs.Lists.{nth, choice}
 use Rattle.language.specs.Results.{ok, stop, bind}
@@ -11,8 +12,8 @@ use Rattle.language.specs.Frames.{Frame, frame, at-slot, opened, closed}
 use Rattle.language.specs.Tree.{Expr, literal, slot, is-null, get, cast}
 use Rattle.language.specs.Tree.{new, change, assign, set, call, choose, block, Exprs, nil, cons}
 use Rattle.language.specs.World.{Method, World}
-use Rattle.language.specs.State.{Value, null, truth, object, Object, State, Stop, Out}
-use Rattle.language.specs.Evaluation.{without-limits, need-reference, keeps-fields}
+use Rattle.language.specs.State.{Value, null, truth, object, Object, State, Stop, Out, stuck}
+use Rattle.language.specs.Evaluation.{without-limits, need-reference, need-count, keeps-fields}
 use Rattle.language.specs.State.{entered, with-frame, with-heap, with-change, initial}
 use Rattle.language.specs.Evaluation.{last-value, need}
 use Rattle.language.specs.Evaluation.{need-object, need-truth, new-object, changed, field-of, with-field}
@@ -75,6 +76,14 @@ pub grows-truth : {B : Type 0} (v : Value) (s : State) {k : Bool → Out B} → 
 grows-truth null s f = grows-stop (later-same s)
 grows-truth (truth b) s f = f b
 grows-truth (object j) s f = grows-stop (later-same s)
+
+grows-count : {B : Type 0} (n m : ℕ) (s : State) {k : Bool → Out B} → ((b : Bool) → Grows s (k b))
+    → Grows s (need-count n m s k)
+grows-count n m s {k} f = go (eqb n m)
+  where
+    go : (b : Bool) → Grows s (choice b k (λ _. stop stuck s))
+    go true = f true
+    go false = grows-stop (later-same s)
 
 pub grows-reference : {B : Type 0} (v : Value) (s : State) {k : Bool → Out B} → ((b : Bool) → Grows s (k b))
     → Grows s (need-reference v s k)
@@ -149,6 +158,7 @@ module _ (W : World) where
         → Grows s (do-call W without-limits invoke m v vs s)
     grows-call m v vs s = grows-object v s λ j. grows-need (nth (s .heap) j) s λ o.
         grows-need (W .method (o .class-of) m) s λ M.
+        grows-count (length vs) (length (M .parameters)) s λ _.
         grows-called (frame (some (object j)) vs) (s .frame) (C M (with-frame (frame (some (object j)) vs) s))
 
     -- Steps, objects and changes of a run without limits only grow, from the node's own step on.
@@ -181,8 +191,9 @@ module _ (W : World) where
           grows-bind (grows-all es s) λ vs s. grows-ok (later-same s)
 
   -- So do those of a call, of any depth.
-  pub grows-calls : (n : ℕ) (M : Method) (s : State) → Grows s (call-at W without-limits n M s)
+  pub grows-calls : (bodies : ℕ → Expr) (n : ℕ) (M : Method) (s : State)
+      → Grows s (call-at W without-limits bodies n M s)
   unfolding call-at
-  grows-calls zero M s = grows-stop (later-same s)
-  grows-calls (suc n) M s =
-      grows-entered (grows (λ M s. call-at W without-limits n M s) (λ M s. grows-calls n M s) (M .body) s)
+  grows-calls bodies zero M s = grows-stop (later-same s)
+  grows-calls bodies (suc n) M s = grows-entered (grows (λ M s. call-at W without-limits bodies n M s)
+      (λ M s. grows-calls bodies n M s) (bodies (M .number)) s)

@@ -5,9 +5,6 @@ pub mod Fitting
 pub mod SoundActs
 pub mod SlotSorts
 pub mod Sound
-pub mod LookupsAgree
-pub mod ObjectsAgree
-pub mod RunsEqual
 pub mod Back
 pub mod TreeRows
 pub mod Whole
@@ -16,6 +13,10 @@ pub mod WholeBack
 pub mod WellEqual
 pub mod WellPasses
 pub mod Superclasses
+pub mod MethodNumbers
+pub mod LookupsAgree
+pub mod ObjectsAgree
+pub mod RunsEqual
 pub mod TypesAgree
 pub mod RulesAgree
 pub mod Lookups

@@ -15,14 +15,14 @@ use Rattle.language.specs.Tree.{DeclaredType, bool, class, state, Field}
 use Rattle.language.specs.Tree.{Declaration, Class, Program}
 use Rattle.language.specs.World.{Method}
 use Rattle.language.specs.Effects.{effect-of-all, within, member, apply-class, apply}
-use Rattle.language.specs.Program.{method-of, declared, class-at}
-use Rattle.language.specs.Program.{fields-at, method-at, below-at, root-at, world}
+use Rattle.language.specs.Program.{declared, class-at}
+use Rattle.language.specs.Program.{fields-at, method-at, below-at, root-at, world, world-with}
 use Rattle.language.specs.ClassRelations.{Subclass, itself, below-object, above, FieldType}
 use Rattle.language.specs.ClassRelations.{field-object, field-class}
 use Rattle.language.specs.WellFormed.{Each, each-nil, each-cons, FieldsWell, well-nil, well-cons, Overrides}
 use Rattle.language.specs.WellFormed.{first, again, MethodWell, MethodsWell, methods-nil, methods-cons}
 use Rattle.language.specs.WellFormed.{ClassWell, ClassesWell, classes-nil, classes-cons, ProgramWell}
-use Rattle.theory.specs.Fitting.{BodyOk, Laws}
+use Rattle.theory.specs.Fitting.{BodyOk, Laws, BodiesOk}
 use Rattle.theory.specs.EffectLaws.{within-refl, within-trans}
 use Rattle.theory.specs.Superclasses.{one-class, no-class, object-is-no-class, Hierarchy}
 use Rattle.theory.specs.Superclasses.{subclass-trans}
@@ -30,9 +30,12 @@ use Rattle.theory.specs.Superclasses.{test-subclass, subclass-test}
 use Rattle.theory.specs.Superclasses.{nearest-least, fields-prefix, root-is, root-subclass}
 use Rattle.theory.specs.Superclasses.{root-of-other, root-up, root-same}
 use Rattle.theory.specs.LookupsAgree.{fields-are, method-of-class, no-class-no-method, finds-is}
-use Rattle.theory.specs.LookupsAgree.{is-finds, is-change}
+use Rattle.theory.specs.LookupsAgree.{is-finds, is-change, Finds}
 use Rattle.theory.specs.RulesAgree.{computed}
 use Rattle.theory.specs.TypesAgree.{widens-is}
+use Rattle.language.specs.Program.{body-in, effect-in}
+use Rattle.theory.specs.MethodNumbers.{method-as, own-method}
+use Rattle.theory.specs.LookupsAgree.{declarer, world-finds, finds-body}
 
 -- What holds of each of a list holds at each place.
 pub each-at : {A : Type 0} {R : A → Type 0} {l : List A} → Each R l → (i : ℕ) (a : A) → nth l i ≡ some a → R a
@@ -74,7 +77,7 @@ module _ (P : List Class) (𝓗 : Hierarchy P) where
   -- A class's own fields follow those that are found in its superclass.
   pub fields-follow : {k : ℕ} {c : Class} → ClassWell P k c
       → FieldsWell P (world P .fields (c .super)) (c .fields)
-  unfolding world
+  unfolding world world-with
   fields-follow {c} w = subst (λ (l : List Field). FieldsWell P l (c .fields))
       (sym (fields-are P (𝓗 .earlier) (w .inherits))) (w .fields)
 
@@ -83,7 +86,7 @@ module _ (P : List Class) (𝓗 : Hierarchy P) where
       → world P .method super (m .name) ≡ some M
       → (m .parameters ≡ M .parameters) × (m .result ≡ M .result)
       × (within (effect-of-all (m .effects)) (M .effect) ≡ true)
-  unfolding world
+  unfolding world world-with
   overridden {super} {m} M (first f) e = let x = is-finds P (𝓗 .earlier) super (m .name) M e in
       absurd (f (x .owner) (x .declaration) (x .finds))
   overridden {m} M (again o d x r p w) e = let q = inj (sym (finds-is P (𝓗 .earlier) x) ∙ e) in (
@@ -112,48 +115,6 @@ well-declared P k super {before} (methods-cons {ms} {m = x} w ws) m d e =
         (record { before = before; well = w; name = eqb-true (x .name) m q })
     go false q ih e = ih e
 
--- A method found from class k under a name: the class that declares it, at or above k.
-pub record FoundMethod (P : List Class) (k m : ℕ) (M : Method) : Type 0 where
-  pub owner : ℕ
-  pub owning : Class
-  pub declaration : Declaration
-  pub subclass : Subclass P k owner
-  pub there : class-at P owner ≡ some owning
-  pub declares : declared (owning .methods) m ≡ some declaration
-  pub is : method-of owner declaration ≡ M
-
-pub method-found : (P : List Class) (n k m : ℕ) (M : Method) → method-at P n k m ≡ some M
-    → FoundMethod P k m M
-unfolding method-at
-method-found P zero k m M e = absurd (Never e)
-method-found P (suc n) k m M e = go (class-at P k) refl (λ c q. method-found P n (c .super) m M q) e
-  where
-    higher : (c : Class) → class-at P k ≡ some c → FoundMethod P (c .super) m M → FoundMethod P k m M
-    higher c p x = record {
-      owner = x .owner;
-      owning = x .owning;
-      declaration = x .declaration;
-      subclass = above c p (x .subclass);
-      there = x .there;
-      declares = x .declares;
-      is = x .is;
-    }
-
-    here : (c : Class) → class-at P k ≡ some c → (o : Option Declaration) → declared (c .methods) m ≡ o
-        → (method-at P n (c .super) m ≡ some M → FoundMethod P (c .super) m M)
-        → given o (method-at P n (c .super) m) (λ d. some (method-of k d)) ≡ some M → FoundMethod P k m M
-    here c p none q ih e = higher c p (ih e)
-    here c p (some d) q ih e = record
-        { owner = k; owning = c; declaration = d; subclass = itself; there = p; declares = q; is = inj e }
-
-    go : (o : Option Class) → class-at P k ≡ o
-        → ((c : Class) → method-at P n (c .super) m ≡ some M → FoundMethod P (c .super) m M)
-        → given o none (λ c. given (declared (c .methods) m) (method-at P n (c .super) m) λ d. some
-        (method-of k d))
-        ≡ some M → FoundMethod P k m M
-    go none p ih e = absurd (Never e)
-    go (some c) p ih e = here c p (declared (c .methods) m) refl (ih c) e
-
 module _ (P : List Class) (well : (k : ℕ) (c : Class) → class-at P k ≡ some c → ClassWell P k c) where
   -- Superclasses come before their classes.
   abbrev pub superclass-earlier : (k : ℕ) (c : Class) → class-at P k ≡ some c → c .super < k
@@ -164,12 +125,14 @@ module _ (P : List Class) (well : (k : ℕ) (c : Class) → class-at P k ≡ som
 
   -- Down from a class that has a method, each class has one with the same heading and an effect within.
   Inherited : (c m : ℕ) (M : Method) → Type 0
-  Inherited c m M = (N : Method) × (method-at P (suc c) c m ≡ some N) × (N .parameters ≡ M .parameters)
+  Inherited c m M = (N : Method) × (method-at P (effect-in P) (suc c) c m ≡ some N)
+      × (N .parameters ≡ M .parameters)
       × (N .result ≡ M .result) × (within (N .effect) (M .effect) ≡ true)
 
-  inherited : {c d : ℕ} → Subclass P c d → (m : ℕ) (M : Method) → method-at P (suc d) d m ≡ some M
+  inherited : {c d : ℕ} → Subclass P c d → (m : ℕ) (M : Method)
+      → method-at P (effect-in P) (suc d) d m ≡ some M
       → Inherited c m M
-  unfolding Inherited world
+  unfolding Inherited world world-with
   inherited itself m M e = (M, e, refl, refl, within-refl (M .effect))
   inherited (below-object p) m M e =
       absurd (Never (sym (no-class-no-method P superclass-earlier object-class m (object-is-no-class P)) ∙ e))
@@ -179,24 +142,25 @@ module _ (P : List Class) (well : (k : ℕ) (c : Class) → class-at P k ≡ som
       go x none q = (x .0, method-of-class P superclass-earlier k m c p ∙ rw q (x .1), x .2, x .3, x .4)
       go x (some d) q = let w = well-declared P k (c .super) (well k c p .methods) m d q in
           let y = overridden P ordered (x .0) (w .well .overrides)
-          (ap (λ (n : ℕ). method-at P (suc (c .super)) (c .super) n) (w .name) ∙ x .1) in (
-            method-of k d,
-            method-of-class P superclass-earlier k m c p ∙ rw q,
+          (ap (λ (n : ℕ). method-at P (effect-in P) (suc (c .super)) (c .super) n) (w .name) ∙ x .1) in (
+            method-as P k d,
+            method-of-class P superclass-earlier k m c p ∙ rw q (ap some (own-method P k m c d p q)),
             y .0 ∙ x .2,
             y .1 ∙ x .3,
             within-trans (effect-of-all (d .effects)) (x .0 .effect) (M .effect) (y .2) (x .4),
           )
 
   -- The body of every method that is found is typed as its heading says.
-  found-body : (k m : ℕ) (M : Method) → FoundMethod P k m M → BodyOk (world P) M
+  found-body : (k m : ℕ) (M : Method) → Finds P k m M → BodyOk (world P) (body-in P) M
   found-body k m M x =
-      let w = well-declared P (x .owner) (x .owning .super) (well (x .owner) (x .owning) (x .there) .methods)
-      m (x .declaration) (x .declares) .well in
-      subst (BodyOk (world P)) (x .is) (record {
+      let y = declarer P (x .finds) in
+      let w = well-declared P (x .owner) (y .owning .super) (well (x .owner) (y .owning) (y .there) .methods)
+      m (x .declaration) (y .declares) .well in
+      subst (BodyOk (world P) (body-in P)) (x .is) (record {
         ty = w .t;
         env = w .γ;
         eff = w .φ;
-        types = computed P ordered (x .declaration .body) (w .body);
+        types = rw (finds-body P (x .finds)) (computed P ordered (x .declaration .body) (w .body));
         fits-ret = widens-is P ordered (w .body-type);
         inside = w .body-effect;
       })
@@ -224,7 +188,7 @@ module _ (P : List Class) (well : (k : ℕ) (c : Class) → class-at P k ≡ som
   no-state-class (field-class b q s) c p = subst (λ (x : Class). x .kind ≢ state) (one-class q p) s
 
   steady-type : (φ : ℕ) (t : DeclaredType) → FieldType P t → apply (world P) φ t ≡ t
-  unfolding apply-class world
+  unfolding apply-class world world-with
   steady-type φ bool x = refl
   steady-type φ (class k) x = ap class (own (root-at P (suc k) k)
       (root-of-other P superclass-earlier (no-state-class x) (root-is P superclass-earlier k)))
@@ -244,7 +208,7 @@ module _ (P : List Class) (well : (k : ℕ) (c : Class) → class-at P k ≡ som
       [ inl p ↦ inl p | inr p ↦ inr (p .0, subclass-test P superclass-earlier (p .1)) ]
 
   classes-laws : Laws (world P)
-  unfolding world Inherited
+  unfolding world world-with Inherited
   classes-laws = record {
     sub-refl = λ c. subclass-test P superclass-earlier itself;
     sub-trans = λ c d e s t. subclass-test P superclass-earlier
@@ -260,19 +224,27 @@ module _ (P : List Class) (well : (k : ℕ) (c : Class) → class-at P k ≡ som
     lub-left = λ c d. subclass-test P superclass-earlier (nearest-least P superclass-earlier c d .left);
     lub-right = λ c d. subclass-test P superclass-earlier (nearest-least P superclass-earlier c d .right);
     override = λ c d m M s e. inherited (test-subclass P superclass-earlier s) m M e;
-    owned = λ c m M e. let x = method-found P (suc c) c m M e in subclass-test P superclass-earlier
-        (subst (λ (N : Method). Subclass P c (N .owner)) (x .is) (x .subclass));
-    bodies = λ c m M e. found-body c m M (method-found P (suc c) c m M e);
+    owned = λ c m M e. let x = is-finds P superclass-earlier c m M e in subclass-test P superclass-earlier
+        (subst (λ (N : Method). Subclass P c (N .owner)) (x .is) (declarer P (x .finds) .subclass));
   }
+
+  classes-bodies : BodiesOk (world P) (body-in P)
+  classes-bodies =
+      record { each = λ c m M e. found-body c m M (world-finds P superclass-earlier c m M e) }
 
 -- In the world of a well-formed program every law holds on which soundness rests.
 pub well-formed-laws : (p : Program) → ProgramWell p → Laws (world (p .classes))
 well-formed-laws p w = classes-laws (p .classes) (class-well (p .classes) (w .classes))
 
+-- In it the body of every method that a lookup finds is typed as its heading says.
+pub well-formed-bodies : (p : Program) → ProgramWell p
+    → BodiesOk (world (p .classes)) (body-in (p .classes))
+well-formed-bodies p w = classes-bodies (p .classes) (class-well (p .classes) (w .classes))
+
 -- The subclass test of a well-formed program is Figure 20's subclass relation.
 pub below-is-subclass : (p : Program) → ProgramWell p → (c d : ℕ)
     → (world (p .classes) .below c d ≡ true) ↔ Subclass (p .classes) c d
-unfolding world
+unfolding world world-with
 below-is-subclass p w c d = let P = p .classes in
     let earlier = hierarchy P (w .classes) .earlier in
     ((λ e. test-subclass P earlier e), (λ s. subclass-test P earlier s))

@@ -19,16 +19,18 @@ use Rattle.language.specs.Tree.{Declaration}
 use Rattle.language.specs.Tree.{Class}
 use Rattle.language.specs.World.{Method, place, field-type, is-declared-type}
 use Rattle.language.specs.Program.{is-root, is-state, method-of, declared, class-at, is-state-type}
-use Rattle.language.specs.Program.{fields-at, method-at, is-changeable, world}
+use Rattle.language.specs.Program.{world-with}
+use Rattle.language.specs.Program.{fields-at, method-at, is-changeable, world, body-in, effect-in, number-at}
 use Rattle.language.specs.ClassRelations.{FieldAt, field-here, field-later, Declares, declares-here}
 use Rattle.language.specs.ClassRelations.{declares-later, Undeclared, undeclared-nil, undeclared-cons}
-use Rattle.language.specs.ClassRelations.{FieldsOf, fields-none, fields-more}
+use Rattle.language.specs.ClassRelations.{FieldsOf, fields-none, fields-more, itself, Subclass, above}
 use Rattle.language.specs.ClassRelations.{FindsMethod, finds-own, finds-above, TypeDeclared, bool-declared}
 use Rattle.language.specs.ClassRelations.{class-declared, FieldType, field-bool, field-object, field-class}
 use Rattle.language.specs.ClassRelations.{Changeable, changes-root, changes-state}
 use Rattle.language.proofs.Booleans.{false≢}
 use Rattle.theory.specs.Superclasses.{object-is-no-class, other-kind}
 use Rattle.theory.specs.Superclasses.{fields-of-class, no-class-no-fields}
+use Rattle.theory.specs.MethodNumbers.{method-as, own-method, own-body}
 
 -- ---- fields by name
 
@@ -128,7 +130,7 @@ module _ (P : List Class) where
   -- ---- declared types, types of fields, classes that may change
 
   pub declared-is : (t : DeclaredType) → (is-declared-type (world P) t ≡ true) ↔ TypeDeclared P t
-  unfolding world
+  unfolding world world-with
   declared-is bool = ((λ _. bool-declared), (λ _. refl))
   declared-is (class k) = ((λ e. class-declared (leb-true k (length P) e)), (λ d. low k d))
     where
@@ -197,7 +199,7 @@ module _ (P : List Class) where
     pub owner : ℕ
     pub declaration : Declaration
     pub finds : FindsMethod P k m owner declaration
-    pub is : method-of owner declaration ≡ M
+    pub is : method-as P owner declaration ≡ M
 
   module _ (earlier : (k : ℕ) (c : Class) → class-at P k ≡ some c → c .super < k) where
     pub fields-are : {k : ℕ} {fs : List Field} → FieldsOf P k fs → fields-at P (suc k) k ≡ fs
@@ -220,7 +222,8 @@ module _ (P : List Class) where
     its-fields k = are-fields (suc k) k (omega arith)
 
     -- More steps than there are superclasses find no other method.
-    method-enough : (n n′ k m : ℕ) → k < n → k < n′ → method-at P n k m ≡ method-at P n′ k m
+    method-enough : (n n′ k m : ℕ) → k < n → k < n′
+        → method-at P (effect-in P) n k m ≡ method-at P (effect-in P) n′ k m
     unfolding method-at
     method-enough zero n′ k m l l′ = absurd (omega (arith, l))
     method-enough (suc n) zero k m l l′ = absurd (omega (arith, l′))
@@ -228,40 +231,46 @@ module _ (P : List Class) where
         (omega (arith, earlier k c p, l)) (omega (arith, earlier k c p, l′)))
       where
         go : (o : Option Class) → class-at P k ≡ o
-            → ((c : Class) → class-at P k ≡ some c → method-at P n (c .super) m ≡ method-at P n′ (c .super) m)
-            → given o none (λ c. given (declared (c .methods) m) (method-at P n (c .super) m) λ d. some
-            (method-of k d))
-            ≡ given o none (λ c. given (declared (c .methods) m) (method-at P n′ (c .super) m) λ d. some
-            (method-of k d))
+            → ((c : Class) → class-at P k ≡ some c
+            → method-at P (effect-in P) n (c .super) m ≡ method-at P (effect-in P) n′ (c .super) m)
+            → given o none (λ c. given (declared (c .methods) m) (method-at P (effect-in P) n (c .super) m)
+            λ d. some
+            (method-of P (effect-in P) k d))
+            ≡ given o none (λ c. given (declared (c .methods) m) (method-at P (effect-in P) n′ (c .super) m)
+            λ d. some
+            (method-of P (effect-in P) k d))
         go none e ih = refl
         go (some c) e ih = rw (ih c e)
 
     -- A class's method is its own, or else its superclass's; Object has none.
     pub method-of-class : (k m : ℕ) (c : Class) → class-at P k ≡ some c
-        → method-at P (suc k) k m
-        ≡ given (declared (c .methods) m) (method-at P (suc (c .super)) (c .super) m) λ d.
-        some (method-of k d)
+        → method-at P (effect-in P) (suc k) k m
+        ≡ given (declared (c .methods) m) (method-at P (effect-in P) (suc (c .super)) (c .super) m) λ d.
+        some (method-of P (effect-in P) k d)
     unfolding method-at
     method-of-class k m c p =
         rw (p, method-enough k (suc (c .super)) (c .super) m (earlier k c p) (omega arith))
 
-    pub no-class-no-method : (k m : ℕ) → class-at P k ≡ none → method-at P (suc k) k m ≡ none
+    pub no-class-no-method : (k m : ℕ) → class-at P k ≡ none → method-at P (effect-in P) (suc k) k m ≡ none
     unfolding method-at
     no-class-no-method k m p = rw p
 
     pub finds-is : {k m o : ℕ} {d : Declaration} → FindsMethod P k m o d
-        → method-at P (suc k) k m ≡ some (method-of o d)
-    finds-is {k} {m} (finds-own c p x) = method-of-class k m c p ∙ rw (declares-is x)
+        → method-at P (effect-in P) (suc k) k m ≡ some (method-as P o d)
+    finds-is {k} {m} {d} (finds-own c p x) = let e = declares-is x in
+        method-of-class k m c p ∙ rw e (ap some (own-method P k m c d p e))
     finds-is {k} {m} (finds-above c p u x) = method-of-class k m c p ∙ rw (undeclared-is u) (finds-is x)
 
-    is-finds-from : (n k m : ℕ) (M : Method) → k < n → method-at P (suc k) k m ≡ some M → Finds k m M
+    is-finds-from : (n k m : ℕ) (M : Method) → k < n → method-at P (effect-in P) (suc k) k m ≡ some M
+        → Finds k m M
     is-finds-from zero k m M l e = absurd (omega (arith, l))
     is-finds-from (suc n) k m M l e = go (class-at P k) refl
         (λ c p q. is-finds-from n (c .super) m M (omega (arith, earlier k c p, l)) q)
       where
         own : (c : Class) → class-at P k ≡ some c → (o : Option Declaration) → declared (c .methods) m ≡ o
-            → (method-at P (suc (c .super)) (c .super) m ≡ some M → Finds (c .super) m M)
-            → given o (method-at P (suc (c .super)) (c .super) m) (λ d. some (method-of k d)) ≡ some M
+            → (method-at P (effect-in P) (suc (c .super)) (c .super) m ≡ some M → Finds (c .super) m M)
+            → given o (method-at P (effect-in P) (suc (c .super)) (c .super) m)
+            (λ d. some (method-of P (effect-in P) k d)) ≡ some M
             → Finds k m M
         own c p none q ih e = let x = ih e in record {
           owner = x .owner;
@@ -273,15 +282,55 @@ module _ (P : List Class) where
           owner = k;
           declaration = d;
           finds = finds-own c p (is-declares m (c .methods) d q);
-          is = inj e;
+          is = sym (own-method P k m c d p q) ∙ inj e;
         }
 
         go : (o : Option Class) → class-at P k ≡ o
-            → ((c : Class) → class-at P k ≡ some c → method-at P (suc (c .super)) (c .super) m ≡ some M
+            → ((c : Class) → class-at P k ≡ some c
+            → method-at P (effect-in P) (suc (c .super)) (c .super) m ≡ some M
             → Finds (c .super) m M)
             → Finds k m M
         go none p ih = absurd (Never (sym (no-class-no-method k m p) ∙ e))
         go (some c) p ih = own c p (declared (c .methods) m) refl (ih c p) (sym (method-of-class k m c p) ∙ e)
 
-    pub is-finds : (k m : ℕ) (M : Method) → method-at P (suc k) k m ≡ some M → Finds k m M
+    pub is-finds : (k m : ℕ) (M : Method) → method-at P (effect-in P) (suc k) k m ≡ some M → Finds k m M
     is-finds k m M e = is-finds-from (suc k) k m M (omega arith) e
+
+    -- The same of the world of these classes.
+    pub fields-told : {k : ℕ} {fs : List Field} → FieldsOf P k fs → world P .fields k ≡ fs
+    unfolding world world-with
+    fields-told x = fields-are x
+
+    pub fields-found : (k : ℕ) → FieldsOf P k (world P .fields k)
+    unfolding world world-with
+    fields-found k = its-fields k
+
+    pub method-told : {k m o : ℕ} {d : Declaration} → FindsMethod P k m o d
+        → world P .method k m ≡ some (method-as P o d)
+    unfolding world world-with
+    method-told x = finds-is x
+
+    pub world-finds : (k m : ℕ) (M : Method) → world P .method k m ≡ some M → Finds k m M
+    unfolding world world-with
+    world-finds k m M e = is-finds k m M e
+
+  -- The class that declares what class k finds, at or above k.
+  pub record Declarer (k m o : ℕ) (d : Declaration) : Type 0 where
+    pub owning : Class
+    pub there : class-at P o ≡ some owning
+    pub declares : declared (owning .methods) m ≡ some d
+    pub subclass : Subclass P k o
+
+  pub declarer : {k m o : ℕ} {d : Declaration} → FindsMethod P k m o d → Declarer k m o d
+  declarer (finds-own c p x) = record { owning = c; there = p; declares = declares-is x; subclass = itself }
+  declarer (finds-above c p u x) = let y = declarer x in record {
+    owning = y .owning;
+    there = y .there;
+    declares = y .declares;
+    subclass = above c p (y .subclass);
+  }
+
+  -- The body that the relation finds is that of the method's number.
+  pub finds-body : {k m o : ℕ} {d : Declaration} → FindsMethod P k m o d
+      → body-in P (number-at P o (d .name)) ≡ d .body
+  finds-body {m} {o} {d} x = let y = declarer x in own-body P o m (y .owning) d (y .there) (y .declares)

@@ -13,7 +13,7 @@ use Rattle.language.specs.Results.{ok, stop, Checked, accept, refuse, Holds, ho
 use Rattle.language.specs.Results.{require-inv}
 use Rattle.language.specs.Tree.{Program}
 use Rattle.language.specs.World.{World}
-use Rattle.language.specs.Program.{world}
+use Rattle.language.specs.Program.{world, body-in}
 use Rattle.language.specs.Verdict.{whole-rows, check, accepted, verdict}
 use Rattle.language.specs.State.{Value, State, Stop, raised, spent, deep, full, stuck, Out}
 use Rattle.language.specs.Evaluation.{Limits}
@@ -25,7 +25,7 @@ use Rattle.theory.specs.Fitting.{Good, Fine, fine-null, fine-cast, fine-
 use Rattle.theory.specs.Fitting.{this-none}
 use Rattle.theory.specs.Sound.{calls-ok, expression-sound}
 use Rattle.theory.specs.RulesAgree.{computed}
-use Rattle.theory.specs.Lookups.{hierarchy, well-formed-laws}
+use Rattle.theory.specs.Lookups.{hierarchy, well-formed-laws, well-formed-bodies}
 use Rattle.theory.specs.Accepts.{RowsOf, check-accepts}
 
 -- Every stop but stuck; every result but one that stopped stuck.
@@ -58,7 +58,8 @@ pub run-sound : (p : Program) (w : ProgramWell p) (L : Limits)
     → Holds (Good (world (p .classes)) (w .γ) (w .φ) (w .t) []) (Fine (world (p .classes))) (run L p)
 unfolding run nth
 run-sound p w L = let P = p .classes in let W = world P in let laws = well-formed-laws p w in
-    expression-sound laws L (λ M s. call-at W L most-calls M s) (calls-ok laws L most-calls)
+    expression-sound laws L (λ M s. call-at W L (body-in P) most-calls M s)
+    (calls-ok laws (body-in P) (well-formed-bodies p w) L most-calls)
     (p .start) (computed P (hierarchy P (w .classes)) (p .start) (w .start)) first-state
     (record { each = λ j o e. absurd (Never e) })
     (record { this = this-none; slots = a-nil })

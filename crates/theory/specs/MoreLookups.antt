@@ -17,7 +17,7 @@ use Rattle.language.specs.Lists.{nth, given, choice, bind-option, bind-option-i
 use Rattle.language.specs.Results.{accept, bind-checked-inv, require-inv}
 use Rattle.language.specs.Tree.{Field, Declaration, Class, class-lines, Program}
 use Rattle.language.specs.World.{Method, World, place, is-declared}
-use Rattle.language.specs.Program.{method-of, declared, class-at, fields-at, method-at, world}
+use Rattle.language.specs.Program.{method-of, declared, class-at, fields-at, method-at, world, world-with}
 use Rattle.language.specs.Headings.{check-fields, check-class, check-classes, headings}
 use Rattle.language.specs.WellFormed.{Each, each-nil, each-cons, ClassInForm, ProgramInForm, FieldsWell}
 use Rattle.language.specs.WellFormed.{well-nil, well-cons, ClassWell, ProgramWell}
@@ -28,10 +28,11 @@ use Rattle.theory.specs.SoundActs.{place-append}
 use Rattle.theory.specs.WellPasses.{class-count}
 use Rattle.theory.specs.Superclasses.{subclass-test, subclass-top, no-class-no-fields, root-is}
 use Rattle.theory.specs.Superclasses.{root-subclass, fields-law, above-earlier}
-use Rattle.theory.specs.LookupsAgree.{unnamed-place}
+use Rattle.theory.specs.LookupsAgree.{unnamed-place, is-finds, declarer}
 use Rattle.theory.specs.Lookups.{superclass-earlier, ordered, fields-follow, each-at, each-append}
-use Rattle.theory.specs.Lookups.{class-well, method-found}
+use Rattle.theory.specs.Lookups.{class-well}
 use Rattle.theory.specs.Lookups.{well-formed-laws}
+use Rattle.language.specs.Program.{effect-in}
 
 -- Every field is found under its name.
 record Distinct (fs : List Field) : Type 0 where
@@ -164,9 +165,10 @@ pub record MoreLaws (W : World) : Type 0 where
   pub unique : (c i : ℕ) (f : Field) → nth (W .fields c) i ≡ some f → place (f .name) (W .fields c) ≡ some i
   -- Every class is below Object.
   pub top : (c : ℕ) → W .below c object-class ≡ true
-  -- A class with a field or a method is declared, and the root of a declared class is.
+  -- A class with a field or a method is declared, so is one that W may make an object of, and the root of a declared class is.
   pub declared-field : (c n i : ℕ) → place n (W .fields c) ≡ some i → is-declared W c ≡ true
   pub declared-method : (c m : ℕ) (M : Method) → W .method c m ≡ some M → is-declared W c ≡ true
+  pub declared-new : (c : ℕ) → W .makes c ≡ true → is-declared W c ≡ true
   pub declared-root : (c : ℕ) → is-declared W c ≡ true → is-declared W (W .root c) ≡ true
   -- A class has at most 17 fields, inherited included.
   pub few-fields : (c : ℕ) → length (W .fields c) ≤ of-check .fields
@@ -200,13 +202,13 @@ module _ (P : List Class) (laws : Laws (world P))
         rw append-assoc at (distinct-own w (distinct-more f d (unnamed-place c)))
 
     all-distinct : (k : ℕ) → Distinct (fields-at P (suc k) k)
-    unfolding world nth
+    unfolding world world-with nth
     all-distinct k = fields-law P (superclass-earlier P well) Distinct
         (record { found = λ i f e. absurd (Never e) })
         (λ k c p d. distinct-own (fields-follow P (ordered P well) (well k c p)) d) (suc k) k (omega arith)
 
     all-few : (k : ℕ) → length (fields-at P (suc k) k) ≤ of-check .fields
-    unfolding world
+    unfolding world world-with
     all-few k = fields-law P (superclass-earlier P well) (λ fs. length fs ≤ of-check .fields) (omega arith)
         (λ k c p l. own-few (fields-follow P (ordered P well) (well k c p)) l) (suc k) k (omega arith)
 
@@ -219,25 +221,28 @@ module _ (P : List Class) (laws : Laws (world P))
             e))
         go (some c) p = class-count P k c p
 
-    class-with-method : (k m : ℕ) (M : Method) → method-at P (suc k) k m ≡ some M → leb k (length P) ≡ true
+    class-with-method : (k m : ℕ) (M : Method) → method-at P (effect-in P) (suc k) k m ≡ some M
+        → leb k (length P) ≡ true
     unfolding method-at
     class-with-method k m M e = go (class-at P k) refl e
       where
         go : (o : Option Class) → class-at P k ≡ o
-            → given o none (λ c. given (declared (c .methods) m) (method-at P k (c .super) m) λ d. some
-            (method-of k d))
+            → given o none (λ c. given (declared (c .methods) m) (method-at P (effect-in P) k (c .super) m)
+            λ d. some
+            (method-of P (effect-in P) k d))
             ≡ some M
             → leb k (length P) ≡ true
         go none p e = absurd (Never e)
         go (some c) p e = class-count P k c p
 
     classes-more : MoreLaws (world P)
-    unfolding world
+    unfolding world world-with
     classes-more = record {
       unique = λ c i f e. all-distinct c .found i f e;
       top = λ c. subclass-test P (superclass-earlier P well) (subclass-top P (superclass-earlier P well) c);
       declared-field = λ c n i e. class-with-field c n i e;
       declared-method = λ c m M e. class-with-method c m M e;
+      declared-new = λ c e. e;
       declared-root = λ c e. le-leb _ (length P) (omega (
         arith,
         leb-true c (length P) e,
@@ -251,7 +256,7 @@ module _ (P : List Class) (laws : Laws (world P))
     module _ (u v : Unit {0}) (heads : headings of-translator P ≡ accept u) (free : names-free 1 P ≡ accept v)
         (formed : Each (ClassInForm of-translator) P) where
       fields-few : (k : ℕ) → length (fields-at P (suc k) k) ≤ of-translator .fields
-      unfolding headings world class-at
+      unfolding headings world world-with class-at
       fields-few k = fields-law P (superclass-earlier P well) (λ fs. length fs ≤ of-translator .fields)
           (omega arith) more (suc k) k
           (omega arith)
@@ -283,16 +288,17 @@ module _ (P : List Class) (laws : Laws (world P))
       class-formed (suc i) c p = each-at formed i c p
 
       classes-translatable : TranslatorLaws (world P)
-      unfolding world Free
+      unfolding world world-with Free
       classes-translatable = record {
         unreserved = λ n c i e. let x = place-named n (fields-at P (suc c) c) i e in
             subst (λ (m : ℕ). (eqb id-field m ≡ false) × (eqb imp-field m ≡ false)) (x .2)
             (each-at (all-free c) i (x .0) (x .1));
         few = λ c. fields-few c;
-        short = λ c m M e. let x = method-found P (suc c) c m M e in
+        short = λ c m M e. let x = is-finds P (superclass-earlier P well) c m M e in
+            let y = declarer P (x .finds) in
             subst (λ (N : Method). length (N .parameters) ≤ of-translator .parameters) (x .is)
-            (each-declared (class-formed (x .owner) (x .owning) (x .there) .methods)
-            m (x .declaration) (x .declares) .few);
+            (each-declared (class-formed (x .owner) (y .owning) (y .there) .methods)
+            m (x .declaration) (y .declares) .few);
       }
 
 -- No field name stands twice in a class, Object is above all, what is found is found in a declared class, and

@@ -1,5 +1,5 @@
 -- What Q does, receiver and arguments having values: if calls end alike, the source and its plain form do.
-use mathlib.Core.Path.{_≡_, refl, sym, _∙_}
+use mathlib.Core.Path.{_≡_, refl, sym, _∙_, ap}
 use Prim.Native.Nat.{ℕ, suc, _+_}
 use mathlib.Core.Option.{some}
 use mathlib.Core.Bool.{true}
@@ -18,9 +18,9 @@ use Rattle.language.specs.Evaluation.{without-limits}
 use Rattle.language.specs.Evaluation.{do-call, eval}
 use Rattle.language.specs.Translation.{Shape, variables, implementor, reads}
 use Rattle.language.specs.Correspondence.{Corresponds, both-null, in-place}
-use Rattle.theory.specs.Fitting.{Laws, BodyOk, Fits, null-fits, object-fits, HeapOk, FitsFrame}
+use Rattle.theory.specs.Fitting.{Laws, Fits, null-fits, object-fits, HeapOk, FitsFrame}
 use Rattle.theory.specs.Fitting.{this-some}
-use Rattle.theory.specs.SoundActs.{fits-all}
+use Rattle.theory.specs.SoundActs.{fits-all, arguments-counted}
 use Rattle.theory.specs.PlainWorld.{IsPlain, plain-form}
 use Rattle.theory.specs.Matching.{Persists, persists-trans, Mask, SlotsMatch, no-slots, variable}
 use Rattle.theory.specs.Matching.{this-implements, FramesMatch, frames-later}
@@ -41,11 +41,12 @@ arguments-match (t ∷ ts) (a-cons r rs) e = variable r (arguments-match ts rs (
 module _ (W W′ : World) (P : IsPlain W W′) (𝓛 : Laws W) (𝓜 : More W) where
   -- Calls on both sides end alike.
   pub record CallsMatch (invoke invoke′ : Method → State → Out Value) : Type 0 where
-    pub alike : (M : Method) → BodyOk W M → (ids : List ℕ) (z : ℕ) (s t : State) → HeapOk W (s .heap)
+    pub alike : (k m : ℕ) (M : Method) → W .method k m ≡ some M → (ids : List ℕ) (z : ℕ) (s t : State)
+        → HeapOk W (s .heap)
         → FitsFrame W (s .heap) (s .frame) (method-environment (M .owner) (M .parameters))
         → Matched W ids z s t
         → (μ : Mask) → FramesMatch W ids (t .heap) (variables (M .parameters)) μ (s .frame) (t .frame)
-        → Alike (Returned W ids (t .heap) z) (Ended W) (invoke M s) (invoke′ (plain-form W M) t)
+        → Alike (Returned W ids (t .heap) z) (Ended W) (invoke M s) (invoke′ (plain-form M) t)
 
   -- Q, its receiver and arguments in temporaries.
   pub call-acts : (invoke invoke′ : Method → State → Out Value) → CallsMatch invoke invoke′
@@ -92,6 +93,7 @@ module _ (W W′ : World) (P : IsPlain W W′) (𝓛 : Laws W) (𝓜 : More W) w
       rw (
         p,
         x .1,
+        arguments-counted 𝓛 (M .parameters) (x .2) fa,
         implementor-run W W′ P invoke′ c (o .class-of) k (g .m) n (g .vs) (entered t) (g .known) a
             (g .at-identity)
             (g .at-implementor) q,
@@ -99,9 +101,9 @@ module _ (W W′ : World) (P : IsPlain W W′) (𝓛 : Laws W) (𝓜 : More W) w
             (up 4 (t .steps))
             (t .changes) len′ b,
         method-step W W′ P (o .class-of) k (g .m) m M′ vs′ (g .vs) t₅ invoke′ (g .known) (g .at-implementor)
-            (x .1),
+            (x .1) (len′ ∙ ap length (sym (x .2))),
       )
-      (alike-bind (D .alike M′ (𝓛 .bodies _ _ _ (x .1)) ids′ z (with-frame (frame (some (object j)) vs) s)
+      (alike-bind (D .alike _ m M′ (x .1) ids′ z (with-frame (frame (some (object j)) vs) s)
       (with-frame (frame (some (object (g .m))) vs′) t₅) H callee
       (recount (R .core) refl refl refl refl (omega (arith, st, R .core)) (omega (arith, st, R .core))) _
       callee′)

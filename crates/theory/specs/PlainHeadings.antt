@@ -17,7 +17,7 @@ use Rattle.language.specs.Tree.{DeclaredType, bool, class, plain, Field, Declar
 use Rattle.language.specs.Tree.{Program}
 use Rattle.language.specs.World.{Method, World, is-declared}
 use Rattle.language.specs.Effects.{no-effect, within, effect-of-all}
-use Rattle.language.specs.Program.{class-at, world}
+use Rattle.language.specs.Program.{class-at, world, world-with}
 use Rattle.language.specs.Headings.{check-fields, check-class, check-classes, headings}
 use Rattle.language.specs.ClassRelations.{Undeclared, undeclared-nil, undeclared-cons, fields-none, FieldType}
 use Rattle.language.specs.ClassRelations.{field-bool, field-class}
@@ -35,8 +35,8 @@ use Rattle.theory.specs.PlainLookups.{plain-list, extends-plain, hierarc
 use Rattle.theory.specs.Superclasses.{Hierarchy, object-is-no-class, other-kind}
 use Rattle.theory.specs.LookupsAgree.{field-type-declared}
 use Rattle.theory.specs.RulesAgree.{computed, stated}
-use Rattle.theory.specs.TypesAgree.{stated-types, widens-is, is-widens, method-told}
-use Rattle.theory.specs.TypesAgree.{method-found, fields-found}
+use Rattle.theory.specs.TypesAgree.{stated-types, widens-is, is-widens}
+use Rattle.theory.specs.LookupsAgree.{method-told, world-finds, fields-found}
 use Rattle.theory.specs.Lookups.{hierarchy, fields-follow, overridden}
 use Rattle.theory.specs.PlainRules.{fresh}
 use Rattle.theory.specs.PlainSlots.{method-match, start-match}
@@ -111,10 +111,10 @@ module _ (P : List Class) (𝓗 : Hierarchy P) (𝓛 : Laws (world P)) (𝓝 : N
       go : (o : Option Method) → W .method super (m .name) ≡ o
           → Overrides Q (plain-class super) (plain-method W k m)
       go none e = first (λ o d y. absurd (Never
-          (sym (𝓟 .method super (m .name) ∙ ap (map-option (plain-form W)) e) ∙ method-told Q 𝓗′ y)))
+          (sym (𝓟 .method super (m .name) ∙ ap (map-option plain-form) e) ∙ method-told Q (𝓗′ .earlier) y)))
       go (some M) e = let y = overridden P 𝓗 M x e in
-          let z = method-found Q 𝓗′ (plain-class super) (m .name) (plain-form W M)
-          (𝓟 .method super (m .name) ∙ ap (map-option (plain-form W)) e) in
+          let z = world-finds Q (𝓗′ .earlier) (plain-class super) (m .name) (plain-form M)
+          (𝓟 .method super (m .name) ∙ ap (map-option plain-form) e) in
           again (z .owner) (z .declaration) (z .finds)
           (ap plain-type (y .1) ∙ ap (λ (N : Method). N .result) (sym (z .is)))
           (ap (map plain-type) (y .0) ∙ ap (λ (N : Method). N .parameters) (sym (z .is)))
@@ -151,7 +151,7 @@ module _ (P : List Class) (𝓗 : Hierarchy P) (𝓛 : Laws (world P)) (𝓝 : N
       = methods-cons (method-plain k super before m i w) (methods-plain k super i ws)
 
   known-count : W .count ≡ length P
-  unfolding world
+  unfolding world world-with
   known-count = refl
 
   class-declared : (k : ℕ) → k ≤ length P → is-declared W k ≡ true
@@ -173,7 +173,7 @@ module _ (P : List Class) (𝓗 : Hierarchy P) (𝓛 : Laws (world P)) (𝓝 : N
         earlier = omega (arith, w .earlier);
         kind = extends-plain P 𝓗 (plain-class (c .super));
         inherited = world Q .fields (plain-class (c .super));
-        inherits = fields-found Q 𝓗′ (plain-class (c .super));
+        inherits = fields-found Q (𝓗′ .earlier) (plain-class (c .super));
         fields = rw (𝓟 .fields (c .super) (class-declared (c .super) (omega (arith, w .earlier))))
             (fields-plain (at + 1) (at′ + 1) b d (fields-follow P 𝓗 w) e₃ f);
         methods = methods-plain k (c .super) (class-declared k (omega arith)) (w .methods);

@@ -1,30 +1,34 @@
 -- What is looked up in the classes of a plain program is what its source's classes give: they make a plain
 -- world.
-use mathlib.Core.Path.{_≡_, refl, sym, ap, _∙_}
-use Prim.Native.Nat.{ℕ, zero, suc, _≤_, _<_}
+use mathlib.Core.Path.{_≡_, refl, sym, ap, _∙_, subst}
+use Prim.Native.Nat.{ℕ, zero, suc, _+_, _-_, _≤_, _<_}
 use mathlib.Core.Option.{Option, none, some}
 use mathlib.Core.Bool.{Bool, true, false}
 use mathlib.Core.Logic.{_⊎_, inl, inr}
 use mathlib.Core.List.{List, [], _∷_, map, map-append}
-use lib.ListN.{length}
+use lib.ListN.{length, take, length-map, length-append}
 use lib.Dec.{eqb, eqb·zero-suc, eqb·suc-zero, eqb·suc-suc}
 use borrow.Author.Tests.{eq-eqb, leb-true}
 use native.Mathlib.Omega.{arith}
 use Rattle.language.specs.Limits.{object-class}
 use Rattle.language.specs.Lists.{nth, given, choice, map-option, up, up-suc, nth-some, Never, inj}
 use Rattle.language.specs.Tree.{plain, Declaration, Class, Program}
-use Rattle.language.specs.World.{World}
+use Rattle.language.specs.World.{World, Method}
 use Rattle.language.specs.Effects.{effect-of-all}
 use Rattle.language.specs.Program.{method-of, declared, class-at, fields-at, method-at, below-at, root-at}
-use Rattle.language.specs.Program.{nearest-at, is-changeable, world}
+use Rattle.language.specs.Program.{nearest-at, is-changeable, world, world-with, effect-in, number-at}
 use Rattle.language.specs.WellFormed.{Extends, plain-object, plain-plain, ClassesWell}
 use Rattle.language.specs.Translation.{plain-class, plain-field, plain-method, plain-classes, identity}
-use Rattle.language.specs.Translation.{fickle-object, plain-program}
+use Rattle.language.specs.Translation.{fickle-object, plain-program, plain-body}
 use Rattle.language.proofs.Booleans.{or-inr}
-use Rattle.theory.specs.Superclasses.{Hierarchy}
+use Rattle.theory.specs.Superclasses.{object-is-no-class, Hierarchy}
+use Rattle.theory.specs.MethodNumbers.{own-effect, own-body}
 use Rattle.theory.specs.Lookups.{hierarchy}
+use Rattle.theory.specs.LookupsAgree.{world-finds, Finds, declarer}
 use Rattle.theory.specs.PlainWorld.{imp-of-identity, id-of-implementor, plain-form, IsPlain}
+use Rattle.theory.specs.PlainWorld.{PlainBodies}
 use Rattle.theory.specs.PlainOf.{PlainOf, plain-of-is-plain}
+use Rattle.language.specs.Program.{declared-place, methods-of, body-in}
 
 pub up-one : (i : ℕ) → up i 1 ≡ suc i
 up-one zero = refl
@@ -77,6 +81,27 @@ module _ (W : World) where
       go true h = refl
       go false h = h
 
+  -- A plain method stands where its source stands, among those of its class and of all classes.
+  place-plain : (k : ℕ) (ds : List Declaration) (m : ℕ)
+      → declared-place (map (plain-method W k) ds) m ≡ declared-place ds m
+  unfolding declared-place
+  place-plain k [] m = refl
+  place-plain k (d ∷ ds) m =
+      ap (λ o. choice (eqb (d .name) m) (λ _. some 0) (λ _. map-option suc o)) (place-plain k ds m)
+
+  methods-before : (j : ℕ) (cs : List Class) (i : ℕ)
+      → length (methods-of (take i (plain-classes W j cs))) ≡ length (methods-of (take i cs))
+  unfolding methods-of plain-classes
+  methods-before j cs zero = refl
+  methods-before j [] (suc i) = refl
+  methods-before j (c ∷ cs) (suc i) = omega (
+    arith,
+    methods-before (suc j) cs i,
+    length-map (c .methods) (plain-method W j),
+    length-append (map (plain-method W j) (c .methods)) (methods-of (take i (plain-classes W (suc j) cs))),
+    length-append (c .methods) (methods-of (take i cs)),
+  )
+
 -- The classes of the plain program.
 abbrev pub plain-list : List Class → List Class
 plain-list P = identity ∷ fickle-object ∷ plain-classes (world P) 1 P
@@ -121,38 +146,63 @@ module _ (P : List Class) (𝓗 : Hierarchy P) where
       rw (class-some i c (x .1), x .1, fields-agree n (c .super) (omega arith) (omega arith))
       (ap (λ r. id-of-implementor ∷ r) (sym (map-append plain-field (fields-at P n (c .super)) (c .fields))))
 
+  -- A plain method has the number of its source.
+  number-plain : (i m : ℕ) → number-at Q (suc (suc (suc i))) m ≡ number-at P (suc i) m
+  unfolding number-at methods-of
+  number-plain i m =
+      let z : suc (suc (suc i)) - 1 ≡ suc (suc i) = omega arith in
+      let z′ : suc i - 1 ≡ i = omega arith in
+      rw (z, z′, methods-before W 1 P i, class-plain i)
+      (ap (λ n. length (methods-of (take i P)) + n) (go (class-at P (suc i))))
+    where
+      go : (o : Option Class)
+          → given (map-option (plain-one W (suc i)) o) 0
+          (λ c. given (declared-place (c .methods) m) 0 λ n. n)
+          ≡ given o 0 (λ c. given (declared-place (c .methods) m) 0 λ n. n)
+      go none = refl
+      go (some c) = ap (λ o. given o 0 λ n. n) (place-plain W (suc i) (c .methods) m)
+
   -- Methods.
   zero-method : (n m : ℕ)
-      → method-at Q (suc (suc (suc n))) 2 m ≡ map-option (plain-form W) (method-at P (suc n) 0 m)
+      → method-at Q (effect-in Q) (suc (suc (suc n))) 2 m
+      ≡ map-option plain-form (method-at P (effect-in P) (suc n) 0 m)
   unfolding method-at class-at nth declared
   zero-method n m = refl
 
   method-agrees : (n k m : ℕ) → k < n
-      → method-at Q (suc (suc n)) (suc (suc k)) m ≡ map-option (plain-form W) (method-at P n k m)
+      → method-at Q (effect-in Q) (suc (suc n)) (suc (suc k)) m
+      ≡ map-option plain-form (method-at P (effect-in P) n k m)
   unfolding method-at effect-of-all
   method-agrees zero k m p = absurd (omega arith)
   method-agrees (suc n) zero m p = zero-method n m
   method-agrees (suc n) (suc i) m p = go (class-at P (suc i)) refl (λ k q. method-agrees n k m q)
     where
-      found : (c : Class) (o : Option Declaration)
-          → method-at Q (suc (suc n)) (plain-class (c .super)) m
-          ≡ map-option (plain-form W) (method-at P n (c .super) m)
+      found : (c : Class) → class-at P (suc i) ≡ some c → (o : Option Declaration)
+          → declared (c .methods) m ≡ o
+          → method-at Q (effect-in Q) (suc (suc n)) (plain-class (c .super)) m
+          ≡ map-option plain-form (method-at P (effect-in P) n (c .super) m)
           → given (map-option (plain-method W (suc i)) o)
-          (method-at Q (suc (suc n)) (plain-class (c .super)) m)
-          (λ d. some (method-of (suc (suc (suc i))) d))
-          ≡ map-option (plain-form W) (given o (method-at P n (c .super) m) (λ d. some (method-of (suc i) d)))
-      found c none h = h
-      found c (some d) h = refl
+          (method-at Q (effect-in Q) (suc (suc n)) (plain-class (c .super)) m)
+          (λ d. some (method-of Q (effect-in Q) (suc (suc (suc i))) d))
+          ≡ map-option plain-form (given o (method-at P (effect-in P) n (c .super) m)
+          (λ d. some (method-of P (effect-in P) (suc i) d)))
+      found c e none q h = h
+      found c e (some d) q h = rw (
+        own-effect Q (suc (suc (suc i))) m (plain-one W (suc i) c) (plain-method W (suc i) d)
+            (class-some i c e)
+            (declared-plain W (suc i) (c .methods) m ∙ ap (map-option (plain-method W (suc i))) q),
+        number-plain i (d .name),
+      )
 
       go : (o : Option Class) → class-at P (suc i) ≡ o
-          → ((k : ℕ) → k < n → method-at Q (suc (suc n)) (suc (suc k)) m ≡ map-option (plain-form W)
-          (method-at P n k m))
-          → method-at Q (suc (suc (suc n))) (suc (suc (suc i))) m
-          ≡ map-option (plain-form W) (method-at P (suc n) (suc i) m)
+          → ((k : ℕ) → k < n → method-at Q (effect-in Q) (suc (suc n)) (suc (suc k)) m ≡ map-option plain-form
+          (method-at P (effect-in P) n k m))
+          → method-at Q (effect-in Q) (suc (suc (suc n))) (suc (suc (suc i))) m
+          ≡ map-option plain-form (method-at P (effect-in P) (suc n) (suc i) m)
       go none e ih = rw (class-none i e, e)
       go (some c) e ih = let l = 𝓗 .earlier (suc i) c e in
           rw (class-some i c e, e, declared-plain W (suc i) (c .methods) m)
-          (found c (declared (c .methods) m) (ih (c .super) (omega arith)))
+          (found c e (declared (c .methods) m) refl (ih (c .super) (omega arith)))
 
   -- Superclasses.
   two-eqb : (k d : ℕ) → eqb (suc (suc k)) (suc (suc d)) ≡ eqb k d
@@ -260,7 +310,7 @@ module _ (P : List Class) (𝓗 : Hierarchy P) where
 
   -- The lookups of a plain program are those of the plain world.
   pub lookups-plain : PlainOf (world P) (world (plain-list P))
-  unfolding world below-at
+  unfolding world world-with below-at
   lookups-plain = record {
     count = ap (λ (n : ℕ). suc (suc n)) (length-plain (world P) 1 P);
     identity-fields = identity-case;
@@ -272,8 +322,29 @@ module _ (P : List Class) (𝓗 : Hierarchy P) where
     changeable = λ c. never-changeable c;
     nearest = λ c d i j.
         nearest-agrees (suc c) c d (omega arith) (leb-true c (length P) i) (leb-true d (length P) j);
+    makes = λ c e. e;
     nearest-same = λ c. nearest-itself c;
   }
+
+  -- The body of a plain method is the translation of its source's body.
+  bodies-plain : PlainBodies (world P) (body-in P) (body-in Q)
+  bodies-plain = record { each = λ k m M e. go m M (world-finds P (𝓗 .earlier) k m M e) }
+    where
+      at : (m o : ℕ) (c : Class) (d : Declaration) → class-at P o ≡ some c → declared (c .methods) m ≡ some d
+          → body-in Q (number-at P o (d .name))
+          ≡ plain-body W o (d .parameters) (body-in P (number-at P o (d .name)))
+      at m zero c d e q = absurd (Never (sym (object-is-no-class P) ∙ e))
+      at m (suc i) c d e q = rw (own-body P (suc i) m c d e q, ← number-plain i (d .name))
+          (own-body Q (suc (suc (suc i))) m (plain-one W (suc i) c) (plain-method W (suc i) d)
+          (class-some i c e)
+          (declared-plain W (suc i) (c .methods) m ∙ ap (map-option (plain-method W (suc i))) q))
+
+      go : (m : ℕ) (M : Method) {k : ℕ} → Finds P k m M
+          → body-in Q (M .number) ≡ plain-body W (M .owner) (M .parameters) (body-in P (M .number))
+      go m M x = let y = declarer P (x .finds) in subst
+          (λ (N : Method). body-in Q (N .number) ≡ plain-body W (N .owner) (N .parameters)
+          (body-in P (N .number)))
+          (x .is) (at m (x .owner) (y .owning) (x .declaration) (y .there) (y .declares))
 
 -- The world of the plain form of a program with well-formed classes is the plain form of the program's world.
 pub plain-program-is-plain : (p : Program) → ClassesWell (p .classes) 1 (p .classes)
@@ -281,3 +352,9 @@ pub plain-program-is-plain : (p : Program) → ClassesWell (p .classes) 1 (p .cl
 unfolding plain-program
 plain-program-is-plain p w =
     plain-of-is-plain _ _ (lookups-plain (p .classes) (hierarchy (p .classes) w))
+
+-- Its bodies are the translations of the program's bodies.
+pub plain-program-bodies : (p : Program) → ClassesWell (p .classes) 1 (p .classes)
+    → PlainBodies (world (p .classes)) (body-in (p .classes)) (body-in (plain-program p .classes))
+unfolding plain-program
+plain-program-bodies p w = bodies-plain (p .classes) (hierarchy (p .classes) w)

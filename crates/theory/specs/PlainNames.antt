@@ -8,7 +8,7 @@ use Rattle.language.specs.Limits.{Most, of-translator}
 use Rattle.language.specs.Lists.{given, Never}
 use Rattle.language.specs.Tree.{Field, Class, Program}
 use Rattle.language.specs.World.{World}
-use Rattle.language.specs.Program.{class-at, fields-at, world}
+use Rattle.language.specs.Program.{class-at, fields-at, world, world-with}
 use Rattle.language.specs.WellFormed.{Each, each-nil, each-cons, FieldInForm, ClassInForm, ProgramInForm}
 use Rattle.theory.specs.Lookups.{each-at, each-append}
 use Rattle.theory.specs.MoreLookups.{MoreLaws, TranslatorLaws}
@@ -20,6 +20,7 @@ pub name-laws : (W : World) → MoreLaws W → TranslatorLaws W → NameLaws W
 name-laws W m t = record {
   declared-field = λ c n i e. m .declared-field c n i e;
   declared-method = λ c n M e. m .declared-method c n M e;
+  declared-new = λ c e. m .declared-new c e;
   declared-root = λ c d. m .declared-root c d;
   unique = λ c i f e. m .unique c i f e;
   unreserved = λ c n i e. t .unreserved n c i e .0;
@@ -55,7 +56,7 @@ names-small most P form (suc n) k = go (class-at P k) refl (λ j. names-small mo
 -- A program that the translator takes is small.
 pub small-world : (p : Program) → ProgramInForm of-translator p → TranslatorLaws (world (p .classes))
     → Small (world (p .classes))
-unfolding world
+unfolding world world-with
 small-world p i t = record {
   classes = i .few;
   fields = λ c. t .few c;

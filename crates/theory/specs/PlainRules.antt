@@ -97,7 +97,8 @@ module _ (W : World) where
   fresh-closed δ ts = ap (λ (ss : List Slot). frame (map-option fresh-slot (δ .this)) ss)
       (take-append-seam (map fresh-slot (δ .slots)) (map fresh-slot ts))
 
-  module _ (same : (c : ℕ) → W .nearest c c ≡ c) where
+  module _ (same : (c : ℕ) → W .nearest c c ≡ c)
+      (makes : (c : ℕ) → is-declared W c ≡ true → W .makes c ≡ true) where
     -- Slots joined with themselves stay.
     current-joined : (t : DeclaredType) → join-currents W t t ≡ t
     current-joined bool = refl
@@ -125,7 +126,7 @@ module _ (W : World) where
           → HasType W (fresh δ) e t (fresh δ) no-effect
       plain-has (literal l) plain-literal = type-literal
       plain-has (slot k) {δ} (plain-slot {u} e) = type-slot (at-fresh δ k u e)
-      plain-has (new c) (plain-new i) = type-new i
+      plain-has (new c) (plain-new i) = type-new (makes c i)
       plain-has (cast c e) (plain-cast d i n) = type-cast (plain-has e d) i n
       plain-has (get f e) (plain-get d i) = type-get (plain-has e d) i
       plain-has (set f e e′) (plain-set {c} d d′ i j) = rw join-none at

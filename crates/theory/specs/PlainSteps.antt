@@ -6,9 +6,10 @@ use native.Mathlib.Nat.{suc-inj}
 use mathlib.Core.Option.{Option, some}
 use mathlib.Core.Bool.{true, false}
 use mathlib.Core.List.{List, [], _∷_, _++_, map, append-nil}
-use lib.ListN.{length, take, set as replace, length-append}
+use lib.ListN.{length, take, set as replace, length-append, length-map}
 use lib.Seq.{set-append-seam, set-append-left, take-length}
 use lib.Dec.{eqb}
+use borrow.Author.Tests.{eq-eqb}
 use native.Mathlib.Omega.{arith}
 use Rattle.language.specs.Limits.{identity-class, imp-field, id-field, null-exception, cast-exception}
 use Rattle.language.specs.Lists.{nth, All2, a-nil, a-cons, nth-append, nth-last, up, up-suc, nth-up, set-up}
@@ -28,9 +29,11 @@ use Rattle.language.specs.Translation.{plain-class, plain-field, implementor, r
 use Rattle.language.specs.Correspondence.{Corresponds, identity-of, implementor-of}
 use Rattle.theory.specs.PlainWorld.{place-map, IsPlain, plain-form}
 use Rattle.theory.specs.MatchingStates.{initial-corresponds}
+use Rattle.language.specs.Translation.{plain-type}
 
 -- What the translator asks of a program besides the check.
 pub record More (W : World) : Type 0 where
+  pub declared-new : (c : ℕ) → W .makes c ≡ true → is-declared W c ≡ true
   pub unreserved : (n c i : ℕ) → place n (W .fields c) ≡ some i → eqb id-field n ≡ false
   pub unique : (c i : ℕ) (f : Field) → nth (W .fields c) i ≡ some f → place (f .name) (W .fields c) ≡ some i
   pub few : (c : ℕ) → length (W .fields c) ≤ 16
@@ -141,10 +144,16 @@ module _ (W W′ : World) (P : IsPlain W W′) where
   pub method-step : (k i x m : ℕ) (M : Method) (vs ws : List Value) (t : State)
       (invoke′ : Method → State → Out Value)
       → is-declared W k ≡ true → nth (t .heap) x ≡ some (implementor-of k i ws) → W .method k m ≡ some M
+      → length vs ≡ length (M .parameters)
       → do-call W′ without-limits invoke′ m (object x) vs t
-      ≡ bind (invoke′ (plain-form W M) (with-frame (frame (some (object x)) vs) t))
+      ≡ bind (invoke′ (plain-form M) (with-frame (frame (some (object x)) vs) t))
       (λ w t′. ok w (with-frame (t .frame) t′))
-  method-step k i x m M vs ws t invoke′ dc e f = rw (e, P .implementor-method k m M dc f)
+  method-step k i x m M vs ws t invoke′ dc e f l = rw (
+    e,
+    P .implementor-method k m M dc f,
+    eq-eqb (length vs) (length (map plain-type (M .parameters)))
+        (l ∙ sym (length-map (M .parameters) plain-type)),
+  )
 
   module _ (invoke′ : Method → State → Out Value) where
     abbrev run : Expr → State → Out Value

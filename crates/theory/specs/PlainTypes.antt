@@ -26,6 +26,7 @@ pub record NameLaws (W : World) : Type 0 where
   -- A class with a field or a method is declared, and the root of a declared class is.
   pub declared-field : (c n i : ℕ) → place n (W .fields c) ≡ some i → is-declared W c ≡ true
   pub declared-method : (c m : ℕ) (M : Method) → W .method c m ≡ some M → is-declared W c ≡ true
+  pub declared-new : (c : ℕ) → W .makes c ≡ true → is-declared W c ≡ true
   pub declared-root : (c : ℕ) → is-declared W c ≡ true → is-declared W (W .root c) ≡ true
   -- No field name stands twice in a class, and none is that of `id`.
   pub unique : (c i : ℕ) (f : Field) → nth (W .fields c) i ≡ some f → place (f .name) (W .fields c) ≡ some i
@@ -141,8 +142,8 @@ module _ {W W′ : World} (𝓟 : PlainOf W W′) where
   fickle-declared = rw (𝓟 .count) (le-leb 2 (plain-class (W .count)) (omega arith))
 
   pub method-plain : (c m : ℕ) (M : Method) → W .method c m ≡ some M
-      → W′ .method (plain-class c) m ≡ some (plain-form W M)
-  method-plain c m M e = 𝓟 .method c m ∙ ap (map-option (plain-form W)) e
+      → W′ .method (plain-class c) m ≡ some (plain-form M)
+  method-plain c m M e = 𝓟 .method c m ∙ ap (map-option plain-form) e
 
 -- A field found has a declared class, and its plain form is found there.
 pub field-declared : {W : World} (𝓝 : NameLaws W) (f c : ℕ) (t : DeclaredType)

@@ -14,10 +14,11 @@ use Rattle.language.specs.Tree.{set, call, choose, block, Exprs, nil, cons}
 use Rattle.language.specs.Tree.{Class}
 use Rattle.language.specs.World.{Method, World, field-type}
 use Rattle.language.specs.Effects.{effect-of, effect-of-all, join, apply-class}
-use Rattle.language.specs.Program.{method-of, world}
+use Rattle.language.specs.Program.{world, world-with}
 use Rattle.language.specs.Environment.{Environment, with-type}
 use Rattle.language.specs.Typing.{all-fit}
 use Rattle.language.specs.Typing.{apply-all}
+use Rattle.language.specs.ClassRelations.{TypeDeclared}
 use Rattle.language.specs.Rules.{HasType, HaveTypes, type-literal, type-slot, type-new, type-cast, type-get}
 use Rattle.language.specs.Rules.{type-set, type-assign, type-is-null, type-call, type-choose, type-block}
 use Rattle.language.specs.Rules.{type-change, types-nil, types-cons}
@@ -31,7 +32,7 @@ use Rattle.theory.specs.ComputedRules.{type-block as computed-block, typ
 use Rattle.theory.specs.ComputedRules.{types-nil as computed-nil, types-cons as computed-cons}
 use Rattle.theory.specs.SlotSorts.{shape}
 use Rattle.theory.specs.Superclasses.{Hierarchy}
-use Rattle.theory.specs.LookupsAgree.{is-field, declared-is}
+use Rattle.theory.specs.LookupsAgree.{is-field, declared-is, method-told, fields-found, world-finds}
 use Rattle.theory.specs.LookupsAgree.{changeable-declared}
 use Rattle.theory.specs.TypesAgree.{not-bool-is, is-not-bool, last-is, its-last, stated-types}
 use Rattle.theory.specs.TypesAgree.{computed-types}
@@ -40,11 +41,17 @@ use Rattle.theory.specs.TypesAgree.{its-applied-expr, applies-all-is}
 use Rattle.theory.specs.TypesAgree.{its-applied-all, widens-is, is-widens, widen-is, is-widen, joins-is}
 use Rattle.theory.specs.TypesAgree.{is-joins, joins-environments-are, are-environments, can-change-is}
 use Rattle.theory.specs.TypesAgree.{is-can-change, field-told}
-use Rattle.theory.specs.TypesAgree.{fields-found, method-told, method-found, applied-class}
+use Rattle.theory.specs.TypesAgree.{applied-class}
+use Rattle.theory.specs.MethodNumbers.{method-as}
 
 module _ (P : List Class) (𝓗 : Hierarchy P) where
   abbrev W : World
   W = world P
+
+  -- W may make an object of a class that is declared, and of no other.
+  makes-is : (c : ℕ) → (W .makes c ≡ true) ↔ TypeDeclared P (class c)
+  unfolding world world-with
+  makes-is c = declared-is P (class c)
 
   mutual
     -- What the rules derive, the computed ones do.
@@ -56,7 +63,7 @@ module _ (P : List Class) (𝓗 : Hierarchy P) where
     computed (get f e) (type-get h x y) = computed-get (computed e h) (field-told P 𝓗 x y)
     computed (cast c e) (type-cast h d n) =
         computed-cast (computed e h) (declared-is P (class c) .1 d) (not-bool-is n)
-    computed (new c) (type-new d) = computed-new (declared-is P (class c) .1 d)
+    computed (new c) (type-new d) = computed-new (makes-is c .1 d)
     computed (change k d) {γ} (type-change {r} {s} e p x q y a) =
         subst (λ (δ : Environment).
         Computed W γ (change k d) (known (class d)) (with-slot δ k (with-type (class d) s))
@@ -75,9 +82,9 @@ module _ (P : List Class) (𝓗 : Hierarchy P) where
         let φ = effect-of-all (d .effects) in
         subst (λ (δ : Environment). Computed W γ (call m e es) (known (d .result)) δ (join (join φ₁ φ₂) φ))
         (applies-all-is P 𝓗 b)
-        (computed-call (method-of o d) (computed e h) (computed-all es hs)
-        (subst (λ (k : ℕ). W .method k m ≡ some (method-of o d)) (sym (applied-class P 𝓗 a))
-        (method-told P 𝓗 f)) (widen-is P 𝓗 w))
+        (computed-call (method-as P o d) (computed e h) (computed-all es hs)
+        (subst (λ (k : ℕ). W .method k m ≡ some (method-as P o d)) (sym (applied-class P 𝓗 a))
+        (method-told P (𝓗 .earlier) f)) (widen-is P 𝓗 w))
     computed (choose e x y) {γ} (type-choose {v} {φ₀} {φ₁} {φ₂} h h′ h″ j js) =
         subst (λ (ε : Environment). Computed W γ (choose e x y) v ε (join φ₀ (join φ₁ φ₂)))
         (joins-environments-are P 𝓗 js)
@@ -101,20 +108,21 @@ module _ (P : List Class) (𝓗 : Hierarchy P) where
     stated (slot k) (computed-slot e) = type-slot e
     stated (is-null e) (computed-is-null {t} h n) = type-is-null (stated e h) (is-not-bool t n)
     stated (get f e) (computed-get {c} {t} h x) = let y = is-field f (W .fields c) t x in
-        type-get (stated e h) (fields-found P 𝓗 c) (y .1)
+        type-get (stated e h) (fields-found P (𝓗 .earlier) c) (y .1)
     stated (cast c e) (computed-cast {t} h d n) =
         type-cast (stated e h) (declared-is P (class c) .0 d) (is-not-bool t n)
-    stated (new c) (computed-new d) = type-new (declared-is P (class c) .0 d)
+    stated (new c) (computed-new d) = type-new (makes-is c .0 d)
     stated (change k d) {γ} (computed-change {c} i e p q) = let x = is-can-change P 𝓗 c d q in
         type-change e p (x .0) (x .1) (root-found P 𝓗 d) (its-applied-all P 𝓗 (effect-of (W .root d)) γ)
     stated (assign (suc k) e) (computed-assign {t} {s} h p w) =
         type-assign (stated e h) p (is-widens P 𝓗 t (s .current) w)
     stated (set f e e′) (computed-set {c} {t} {u} {φ₂} h h′ x w) =
         let d = apply-class W φ₂ c in let y = is-field f (W .fields d) u x in
-        type-set (stated e h) (stated e′ h′) (its-applied P 𝓗 φ₂ (class c)) (fields-found P 𝓗 d) (y .1)
+        type-set (stated e h) (stated e′ h′) (its-applied P 𝓗 φ₂ (class c)) (fields-found P (𝓗 .earlier) d)
+        (y .1)
         (is-widens P 𝓗 t u w)
     stated (call m e es) {γ} (computed-call {γ₂} {c} {ts} {φ₁} {φ₂} M h hs x w) =
-        let y = method-found P 𝓗 (apply-class W φ₂ c) m M x in
+        let y = world-finds P (𝓗 .earlier) (apply-class W φ₂ c) m M x in
         subst (λ (N : Method). HasType P γ (call m e es) (known (N .result)) (apply-all W (N .effect) γ₂)
         (join (join φ₁ φ₂) (N .effect))) (y .is)
         (type-call (y .declaration) (stated e h) (stated-all es hs) (its-applied P 𝓗 φ₂ (class c)) (y .finds)

@@ -6,8 +6,8 @@ use mathlib.Core.Option.{Option, none, some}
 use mathlib.Core.Bool.{Bool, true, false, cond}
 use mathlib.Core.List.{List, [], _∷_, _++_, map}
 use lib.ListN.{length, set as replace}
-use lib.Dec.{leb}
-use borrow.Author.Tests.{leb-true, leb-false, le-leb, lt-leb}
+use lib.Dec.{leb, eqb}
+use borrow.Author.Tests.{leb-true, leb-false, le-leb, lt-leb, eq-eqb, eqb-true}
 use Rattle.language.specs.Limits.{cast-exception}
 use Rattle.language.specs.Lists.{nth, choice}
 use Rattle.language.specs.Results.{ok, stop, bind}
@@ -15,10 +15,10 @@ use Rattle.language.specs.Frames.{at-slot, opened}
 use Rattle.language.specs.Tree.{Expr, literal, slot, is-null, get, cast, Class}
 use Rattle.language.specs.Tree.{new, change, assign, set, call, choose, block, Exprs, nil, cons}
 use Rattle.language.specs.World.{Method, World}
-use Rattle.language.specs.Program.{world}
+use Rattle.language.specs.Program.{world, body-in}
 use Rattle.language.specs.State.{Value, null, truth, object, Object, State, Stop, raised, spent, full}
 use Rattle.language.specs.State.{stuck, deep, Out, entered, with-frame, with-heap, with-change, initial}
-use Rattle.language.specs.Evaluation.{with-limits, need-reference, call-at, keeps-fields}
+use Rattle.language.specs.Evaluation.{with-limits, need-reference, call-at, need-count, keeps-fields}
 use Rattle.language.specs.Evaluation.{new-object, changed, field-of, with-field, need, need-truth}
 use Rattle.language.specs.Evaluation.{do-get, do-set, do-cast, do-change, do-new, do-call, eval, eval-all}
 use Rattle.language.specs.Runs.{called, Evaluates, enters, is-spent, Entered, EvaluatesAll, val}
@@ -31,7 +31,8 @@ use Rattle.language.specs.Runs.{from-arguments, from-body, from-condition, from
 use Rattle.language.proofs.Booleans.{false≢}
 use Rattle.theory.specs.ObjectsAgree.{Found, found, new-is, is-new, reads-is, is-reads, writes-is}
 use Rattle.theory.specs.ObjectsAgree.{is-writes, changes-is, is-changes, below-is, is-below, not-below}
-use Rattle.theory.specs.ObjectsAgree.{SupersEarlier, method-is, is-method}
+use Rattle.theory.specs.ObjectsAgree.{SupersEarlier, is-method}
+use Rattle.theory.specs.LookupsAgree.{finds-body, method-told}
 
 -- What is derived of a result, unless it is stuck.
 pub data Claim {A : Type 0} (D : Out A → Type 0) : Out A → Type 0 where
@@ -44,7 +45,7 @@ module _ (P : List Class) (earlier : SupersEarlier P) (F K : ℕ) where
   W = world P
 
   abbrev invoke : ℕ → Method → State → Out Value
-  invoke n M s = call-at W (with-limits F K) n M s
+  invoke n M s = call-at W (with-limits F K) (body-in P) n M s
 
   abbrev ev : ℕ → Expr → State → Out Value
   ev n e s = eval W (with-limits F K) (λ M s. invoke n M s) e s
@@ -118,15 +119,33 @@ module _ (P : List Class) (earlier : SupersEarlier P) (F K : ℕ) where
     sound (set f e e′) b (enters l (from-object d)) = rw (fueled l, sound e b d)
     sound (set f e e′) b (enters l (from-value d d′)) = rw (fueled l, sound e b d, sound e′ b d′)
     sound (set f e e′) {n} {s} b (is-spent l) = not-entered (set f e e′) n s (le-leb F (s .steps) l)
-    sound (call m e es) b (enters l (meth o owner x d d′ h g c)) =
-        rw (fueled l, sound e b d, sounds es b d′, h, method-is P earlier g, b (x .body) _ _ c)
-    sound (call m e es) b (enters l (too-deep o owner x d d′ h g)) =
-        rw (fueled l, sound e b d, sounds es b d′, h, method-is P earlier g)
+    sound (call m e es) b (enters l (meth o owner x d d′ h g i c)) =
+        rw (
+          fueled l,
+          sound e b d,
+          sounds es b d′,
+          h,
+          method-told P earlier g,
+          eq-eqb _ _ i,
+          finds-body P g,
+          b (x .body) _ _ c,
+        )
+    sound (call m e es) b (enters l (too-deep o owner x d d′ h g i)) =
+        rw (fueled l, sound e b d, sounds es b d′, h, method-told P earlier g, eq-eqb _ _ i)
     sound (call m e es) b (enters l (meth-null d d′)) = rw (fueled l, sound e b d, sounds es b d′)
     sound (call m e es) b (enters l (from-receiver d)) = rw (fueled l, sound e b d)
     sound (call m e es) b (enters l (from-arguments d d′)) = rw (fueled l, sound e b d, sounds es b d′)
-    sound (call m e es) b (enters l (from-body o owner x d d′ h g c)) =
-        rw (fueled l, sound e b d, sounds es b d′, h, method-is P earlier g, b (x .body) _ _ c)
+    sound (call m e es) b (enters l (from-body o owner x d d′ h g i c)) =
+        rw (
+          fueled l,
+          sound e b d,
+          sounds es b d′,
+          h,
+          method-told P earlier g,
+          eq-eqb _ _ i,
+          finds-body P g,
+          b (x .body) _ _ c,
+        )
     sound (call m e es) {n} {s} b (is-spent l) = not-entered (call m e es) n s (le-leb F (s .steps) l)
     sound (choose a x y) b (enters l (choose-true d d′)) = rw (fueled l, sound a b d) (sound x b d′)
     sound (choose a x y) b (enters l (choose-false d d′)) = rw (fueled l, sound a b d) (sound y b d′)
@@ -245,17 +264,29 @@ module _ (P : List Class) (earlier : SupersEarlier P) (F K : ℕ) where
   back-claim : {n m j : ℕ} {e : Expr} {es : Exprs} {s t u : State} {vs : List Value} {r : Out Value}
       (o : Object) {M : Method} → Evaluates P F K (suc n) e s (ok (object j) t)
       → EvaluatesAll P F K (suc n) es t (ok vs u) → nth (u .heap) j ≡ some o → Found P (o .class-of) m M
-      → Claim (Evaluates P F K n (M .body) (called j vs u)) r
+      → length vs ≡ length (M .parameters)
+      → Claim (Evaluates P F K n (body-in P (M .number)) (called j vs u)) r
       → Claim (Entered P F K (suc n) (call m e es) s) (bind r λ w t. ok w (with-frame (u .frame) t))
-  back-claim o d d′ h (found owner x g) (value c) = value (meth o owner x d d′ h g c)
-  back-claim o d d′ h (found owner x g) (stopped c) = stopped (from-body o owner x d d′ h g c)
-  back-claim o d d′ h (found owner x g) nothing = nothing
+  back-claim o d d′ h (found owner x g) i (value c) =
+      value (meth o owner x d d′ h g i (rw (finds-body P g) at c))
+  back-claim o d d′ h (found owner x g) i (stopped c) =
+      stopped (from-body o owner x d d′ h g i (rw (finds-body P g) at c))
+  back-claim o d d′ h (found owner x g) i nothing = nothing
 
   deep-claim : {m j : ℕ} {e : Expr} {es : Exprs} {s t u : State} {vs : List Value} (o : Object) {M : Method}
       → Evaluates P F K 0 e s (ok (object j) t) → EvaluatesAll P F K 0 es t (ok vs u)
-      → nth (u .heap) j ≡ some o → Found P (o .class-of) m M
+      → nth (u .heap) j ≡ some o → Found P (o .class-of) m M → length vs ≡ length (M .parameters)
       → Claim (Entered P F K 0 (call m e es) s) (stop deep (called j vs u))
-  deep-claim o d d′ h (found owner x g) = stopped (too-deep o owner x d d′ h g)
+  deep-claim o d d′ h (found owner x g) i = stopped (too-deep o owner x d d′ h g i)
+
+  -- The count of arguments.
+  count-claim : {D : Out Value → Type 0} (t : State) (n m : ℕ) {r : Out Value}
+      → (n ≡ m → Claim D r) → Claim D (need-count n m t λ _. r)
+  count-claim {D} t n m {r} f = go (eqb n m) refl
+    where
+      go : (b : Bool) → eqb n m ≡ b → Claim D (choice b (λ _. r) (λ _. stop stuck t))
+      go true q = f (eqb-true n m q)
+      go false q = nothing
 
   call-claim : (n m : ℕ) (e : Expr) (es : Exprs) (s t u : State) (v : Value) (vs : List Value)
       → BelowComplete n
@@ -267,10 +298,13 @@ module _ (P : List Class) (earlier : SupersEarlier P) (F K : ℕ) where
   call-claim n m e es s t u (truth x) vs b d d′ = nothing
   call-claim zero m e es s t u (object j) vs b d d′ = need-claim u (nth (u .heap) j) λ o h.
       need-claim u (W .method (o .class-of) m) λ M g.
-      deep-claim o d d′ h (is-method P earlier (o .class-of) m M g)
+      count-claim u (length vs) (length (M .parameters)) λ i.
+      deep-claim o d d′ h (is-method P earlier (o .class-of) m M g) i
   call-claim (suc n) m e es s t u (object j) vs b d d′ = need-claim u (nth (u .heap) j) λ o h.
       need-claim u (W .method (o .class-of) m) λ M g.
-      back-claim o d d′ h (is-method P earlier (o .class-of) m M g) (b (M .body) (called j vs u))
+      count-claim u (length vs) (length (M .parameters)) λ i.
+      back-claim o d d′ h (is-method P earlier (o .class-of) m M g) i
+      (b (body-in P (M .number)) (called j vs u))
 
   true-claim : {n : ℕ} {a x y : Expr} {s t : State} {r : Out Value}
       → Evaluates P F K n a s (ok (truth true) t) → Claim (Evaluates P F K n x t) r

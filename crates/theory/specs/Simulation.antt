@@ -34,9 +34,9 @@ use Rattle.language.specs.Translation.{translate-arguments}
 use Rattle.language.specs.Correspondence.{both-null, same-truth}
 use Rattle.theory.specs.Equal.{all-fit-length}
 use Rattle.theory.specs.Sound.{expression-sound, expressions-sound, calls-ok}
-use Rattle.theory.specs.Fitting.{Laws, Fits, HeapOk, FitsFrame, fits-evolves, locals-fit}
+use Rattle.theory.specs.Fitting.{Laws, Fits, HeapOk, FitsFrame, fits-evolves, locals-fit, BodiesOk}
 use Rattle.theory.specs.SoundActs.{CallOk, at}
-use Rattle.theory.specs.PlainWorld.{IsPlain}
+use Rattle.theory.specs.PlainWorld.{IsPlain, PlainBodies}
 use Rattle.theory.specs.Matching.{persists-same, persists-trans, corresponds-later, Mask, no-slots}
 use Rattle.theory.specs.Matching.{temporary, mask-length}
 use Rattle.theory.specs.MatchingStates.{literal-alike, StatesMatch, After, AfterAll, Filled, Ended}
@@ -132,7 +132,7 @@ module _ (W W′ : World) (P : IsPlain W W′) (𝓛 : Laws W) (𝓜 : More W) w
           λ x s₃ x′ t₃ a. close-block (false ∷ []) (some v′ ∷ []) (t .frame) (λ ids l l′ r. one-temporary r)
           (R .frames) a))
       simulates (new c) {γ} (type-new i) ids sh μ z s t H S R =
-          new-acts W W′ P 𝓛 𝓜 invoke′ c γ ids sh μ z s t i R
+          new-acts W W′ P 𝓛 𝓜 invoke′ c γ ids sh μ z s t (𝓜 .declared-new c i) R
       simulates (change k d) {γ} (type-change {c} {s = u} i e q f) ids sh μ z s t H S R =
           let x = at (s .frame) γ S k u e in
           let fit : Fits W (s .heap) (x .v) (known (class c))
@@ -372,26 +372,28 @@ module _ (W W′ : World) (P : IsPlain W W′) (𝓛 : Laws W) (𝓜 : More W) w
           }))
 
   -- Calls, of any depth, end alike.
-  pub calls-simulate : (n : ℕ)
-      → CallsMatch W W′ P 𝓛 𝓜 (λ M s. call-at W without-limits n M s) (λ M t. call-at W′ without-limits n M t)
+  pub calls-simulate : (bodies bodies′ : ℕ → Expr) → BodiesOk W bodies → PlainBodies W bodies bodies′
+      → (n : ℕ)
+      → CallsMatch W W′ P 𝓛 𝓜 (λ M s. call-at W without-limits bodies n M s)
+      (λ M t. call-at W′ without-limits bodies′ n M t)
   unfolding call-at
-  calls-simulate zero = record {
-    alike = λ M B ids z s t H S c μ F. alike-stop (record {
+  calls-simulate bodies bodies′ 𝓑 𝓣 zero = record {
+    alike = λ k m M e ids z s t H S c μ F. alike-stop (record {
       ids′ = ids;
       core = recount c refl refl refl refl (c .low) (omega (arith, c));
     });
   }
-  calls-simulate (suc n) = record {
-    alike = λ M B ids z s t H S c μ F.
-        alike-mono (simulates (λ M s. call-at W without-limits n M s) (λ M t. call-at W′ without-limits n M t)
-        (calls-ok 𝓛 without-limits n) (calls-simulate n) (M .body) (B .types) ids
-        (variables (M .parameters)) μ z s t
-        H S (record { core = c; frames = F }))
+  calls-simulate bodies bodies′ 𝓑 𝓣 (suc n) = record {
+    alike = λ k m M e ids z s t H S c μ F. rw (𝓣 .each k m M e)
+        (alike-mono (simulates (λ M s. call-at W without-limits bodies n M s)
+        (λ M t. call-at W′ without-limits bodies′ n M t)
+        (calls-ok 𝓛 bodies 𝓑 without-limits n) (calls-simulate bodies bodies′ 𝓑 𝓣 n) (bodies (M .number))
+        (𝓑 .each k m M e .types) ids (variables (M .parameters)) μ z s t H S
+        (record { core = c; frames = F }))
         λ v s′ v′ t′ a. record {
           ids′ = a .ids′;
           persists = a .persists;
           core = a .match .core;
-          value =
-              a .value;
-        };
+          value = a .value;
+        });
   }

@@ -23,7 +23,7 @@ use Rattle.language.specs.Evaluation.{last-value, eval, eval-all, call-at}
 use Rattle.theory.specs.Fitting.{Fits, null-fits, truth-fits, FitsFrame, Laws, HeapOk, Fine, fine-deep}
 use Rattle.theory.specs.Fitting.{fine-spent, Good, Goods, evolve-refl, evolve-trans, evolve-within}
 use Rattle.theory.specs.Fitting.{evolve-then, evolve-left, evolve-right, locals-fit, fits-evolves}
-use Rattle.theory.specs.Fitting.{fits-sub, frame-evolves, frame-grow, literal-fits}
+use Rattle.theory.specs.Fitting.{fits-sub, frame-evolves, frame-grow, literal-fits, BodiesOk}
 use Rattle.theory.specs.SoundActs.{at, retyped, CallOk, cast-ok, if-ok, get-ok, set-ok, new-ok}
 use Rattle.theory.specs.SoundActs.{change-ok, call-ok, null-ok}
 use Rattle.theory.specs.SlotSorts.{shape, frames-left, frames-right, join-left, join-right}
@@ -195,13 +195,14 @@ module _ {W : World} (𝓛 : Laws W) where
           })
 
   -- calls, of any depth
-  pub calls-ok : (L : Limits) (n : ℕ) → CallOk W (λ M s. call-at W L n M s)
+  pub calls-ok : (bodies : ℕ → Expr) → BodiesOk W bodies → (L : Limits) (n : ℕ)
+      → CallOk W (λ M s. call-at W L bodies n M s)
   unfolding call-at
-  calls-ok L zero = record { good = λ M B s H S. holds-stop (fine-deep H) }
-  calls-ok L (suc n) = record {
-    good = λ M B s H S. holds-mono (expression-sound L (λ M s. call-at W L n M s) (calls-ok L n) (M .body)
-        (B .types) s
-        H S) λ v s′ g.
+  calls-ok bodies 𝓑 L zero = record { good = λ c m M e s H S. holds-stop (fine-deep H) }
+  calls-ok bodies 𝓑 L (suc n) = record {
+    good = λ c m M e s H S. let B = 𝓑 .each c m M e in
+        holds-mono (expression-sound L (λ M s. call-at W L bodies n M s) (calls-ok bodies 𝓑 L n)
+        (bodies (M .number)) (B .types) s H S) λ v s′ g.
         record {
           heap-ok = g .heap-ok;
           evolves = evolve-within (B .inside) (g .evolves);

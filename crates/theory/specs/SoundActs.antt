@@ -4,10 +4,10 @@ use Prim.Native.Nat.{ℕ, zero, suc, _+_}
 use mathlib.Core.Option.{Option, some}
 use mathlib.Core.Bool.{Bool, true, false, _&&_, cond}
 use mathlib.Core.List.{List, [], _∷_, _++_, map}
-use lib.ListN.{length, set as replace, length-append}
+use lib.ListN.{length, set as replace, length-append, length-map}
 use lib.Seq.{take-append-seam, drop-append-seam}
-use lib.Dec.{eqb}
-use borrow.Author.Tests.{eqb-true, le-leb}
+use lib.Dec.{eqb, leb}
+use borrow.Author.Tests.{eqb-true, le-leb, eq-eqb}
 use native.Mathlib.Omega.{arith}
 use Rattle.language.specs.Lists.{nth, bind-option, bind-option-inv, map-option, choice, Never, inj, All2}
 use Rattle.language.specs.Lists.{a-nil, a-cons, all2-at, all2-set, all2-set-right, all2-append, all2-take}
@@ -28,7 +28,7 @@ use Rattle.language.proofs.Booleans.{false≢, and-inv}
 use Rattle.theory.specs.EffectLaws.{has-one}
 use Rattle.theory.specs.Fitting.{Fits, null-fits, truth-fits, object-fits, FitsField, FitsSlot}
 use Rattle.theory.specs.Fitting.{FitsThis, this-none}
-use Rattle.theory.specs.Fitting.{this-some, FitsFrame, BodyOk, Laws, HeapOk, same, moved, Evolves, Fine}
+use Rattle.theory.specs.Fitting.{this-some, FitsFrame, Laws, HeapOk, same, moved, Evolves, Fine}
 use Rattle.theory.specs.Fitting.{fine-null, fine-cast, fine-full, Good, evolve-refl, evolve-within}
 use Rattle.theory.specs.Fitting.{evolve-set, evolve-append, initials-fit, fits-evolves, fits-sub}
 use Rattle.theory.specs.Fitting.{fits-grow, heap-set, heap-append, frame-evolves}
@@ -72,14 +72,14 @@ pub record At (W : World) (h : List Object) (f : Frame Value) (k : ℕ) (s : Slo
   pub is : at-slot f k ≡ some v
   pub fit : FitsSlot W h v s
 
--- what a call of a method does
+-- what a call of a method does that a lookup finds
 pub record Called (W : World) (M : Method) (h : List Object) (v : Value) (s : State) : Type 0 where
   pub heap-ok : HeapOk W (s .heap)
   pub evolves : Evolves W (M .effect) h (s .heap)
   pub value-ok : Fits W (s .heap) v (known (M .result))
 
 pub record CallOk (W : World) (invoke : Method → State → Out Value) : Type 0 where
-  pub good : (M : Method) → BodyOk W M → (s : State) → HeapOk W (s .heap)
+  pub good : (c m : ℕ) (M : Method) → W .method c m ≡ some M → (s : State) → HeapOk W (s .heap)
       → FitsFrame W (s .heap) (s .frame) (method-environment (M .owner) (M .parameters))
       → Holds (Called W M (s .heap)) (Fine W) (invoke M s)
 
@@ -147,7 +147,7 @@ module _ {W : World} where
   if-ok s (truth-fits {b = false}) a b = b
 
 module _ {W : World} (𝓛 : Laws W) where
-  open Laws 𝓛 using (sub-refl, sub-root, fickle-root, prefix, solid, override, owned, bodies)
+  open Laws 𝓛 using (sub-refl, sub-root, fickle-root, prefix, solid, override, owned)
 
   pub inherit : (c d n : ℕ) (t : DeclaredType) → W .below c d ≡ true → field-type n (W .fields d) ≡ some t
       → Found (W .fields c) n t
@@ -269,6 +269,12 @@ module _ {W : World} (𝓛 : Laws W) where
   fits-all h (v ∷ vs) (t ∷ ts) (u ∷ us) (a-cons f fs) e = let p = and-inv (fits W t u) (all-fit W ts us) e in
       a-cons (fits-sub 𝓛 u f (p .0)) (fits-all h vs ts us fs (p .1))
 
+  -- a checked call has as many arguments as the method that is found has parameters
+  pub arguments-counted : {h : List Object} {vs : List Value} (us : List DeclaredType)
+      {ws : List DeclaredType} → ws ≡ us
+      → All2 (FitsSlot W h) vs (map fresh-slot us) → eqb (length vs) (length ws) ≡ true
+  arguments-counted us e a = eq-eqb _ _ (all2-length a ∙ length-map us fresh-slot ∙ ap length (sym e))
+
   pub call-ok : (L : Limits) (invoke : Method → State → Out Value) → CallOk W invoke
       → (m c : ℕ) (M : Method) (v : Value) (vs : List Value) (ts : List ExprType) (Γ : Environment)
       (s : State)
@@ -280,11 +286,12 @@ module _ {W : World} (𝓛 : Laws W) where
   call-ok L invoke C m c M v vs ts Γ s H S (null-fits z) A e f = holds-stop (fine-null H)
   call-ok L invoke C m c M (object j) vs ts Γ s H S (object-fits o p q) A e f =
       let x = override (o .class-of) c m M q e in let M′ = x .0 in
-      rw (p, x .1) (holds-bind
-      (C .good M′ (bodies _ _ _ (x .1)) (with-frame (frame (some (object j)) vs) s) H
+      let fa = fits-all _ vs ts (M .parameters) A f in
+      rw (p, x .1, arguments-counted (M .parameters) (x .2) fa) (holds-bind
+      (C .good _ m M′ (x .1) (with-frame (frame (some (object j)) vs) s) H
       (record {
         this = this-some (object-fits o p (owned _ _ _ (x .1)));
-        slots = rw (x .2) (fits-all _ vs ts (M .parameters) A f);
+        slots = rw (x .2) fa;
       }))
       λ w s′ g. let ev = evolve-within (x .4) (g .evolves) in
       holds-ok (record {

@@ -99,7 +99,7 @@ module _ (W : World) (𝓢 : Small W) (𝓝 : NameLaws W) where
         (form-get id-small (implementor-form c (suc (length sh)) (declared-small 𝓢 c i) k₀))) form-nil))
     node-in-form (new c) {γ} (type-new i) (form-new p) sh v r =
         let sh₂ = false ∷ false ∷ [] in let l = slots-fit sh₂ r (omega arith) in let j =
-        declared-small 𝓢 c i in
+        declared-small 𝓢 c (𝓝 .declared-new c i) in
         let k₀ = slot-small (suc (length sh)) (omega (arith, length-append sh sh₂)) in
         let k₁ = slot-small (suc (suc (length sh))) (omega (arith, length-append sh sh₂)) in
         rw (translate-new W c γ sh (length sh) refl) (block-form sh sh₂ refl l (omega arith) (omega arith)

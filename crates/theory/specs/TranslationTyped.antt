@@ -97,11 +97,12 @@ module _ {W W′ : World} (𝓟 : PlainOf W W′) (𝓛 : Laws W) (𝓝 : NameLa
               (match-not-bool (a .matches) n)) plain-literal
               (plain-get (implementor-typed 𝓟 c (length sh) i at₀) (id-type 𝓟 c i)) refl) plains-nil);
         })
-    translation-typed (new c) {γ} (type-new i) sh δ m =
+    translation-typed (new c) {γ} (type-new j) sh δ m =
         let Δ₂ = class 1 ∷ class (plain-class c) ∷ [] in
         let at₀ : nth (δ .slots ++ Δ₂) (length sh) ≡ some (class 1) = temporary-at W Δ₂ 0 _ m (nth₀ _ _) in
         let at₁ : nth (δ .slots ++ Δ₂) (suc (length sh)) ≡ some (class (plain-class c)) =
         temporary-at W Δ₂ 1 _ m (nth₁ _ _ _) in
+        let i = 𝓝 .declared-new c j in
         rw (translate-new W c γ sh (length sh) refl) (record {
           u = known (class 1);
           matches = both-class;
@@ -156,7 +157,7 @@ module _ {W W′ : World} (𝓟 : PlainOf W W′) (𝓛 : Laws W) (𝓝 : NameLa
         → nth (δ .slots ++ Δ₂) (up q (suc n)) ≡ some u
         = λ q u e. rw (up-suc q n) (temporary-at W Δ₂ (suc q) u mt (nth-suc _ _ q ∙ e)) in
         let b = arguments-typed es d′ (sh ++ sh₂) (opened δ Δ₂) (a .slots) ps (suc n) rest j in
-        let y = plains-append (b .0 .1) (plains-cons (plain-call (plain-form W M)
+        let y = plains-append (b .0 .1) (plains-cons (plain-call (plain-form M)
         (implementor-typed 𝓟 (apply-class W φ₂ c) n (𝓝 .declared-method _ m M i) at₀)
         (reads-typed ps (suc n) rest)
         (method-plain 𝓟 _ m M i) refl (all-fit-itself 𝓟 ps)) plains-nil) in
@@ -233,5 +234,8 @@ module _ {W W′ : World} (𝓟 : PlainOf W W′) (𝓛 : Laws W) (𝓝 : NameLa
   pub translation-has : (e : Expr) {γ γ′ : Environment} {t : ExprType} {φ : ℕ} → HasType W γ e t γ′ φ
       → (sh : Shape) (δ : Frame DeclaredType) → Match W sh γ δ
       → (u : ExprType) × HasType W′ (fresh δ) (translate W e γ sh) u (fresh δ) no-effect × TypesMatch t u
-  translation-has e {γ} d sh δ m = let a = translation-typed e d sh δ m in
-      (a .u, plain-has W′ (λ c. 𝓟 .nearest-same c) (translate W e γ sh) (a .typed), a .matches)
+  translation-has e {γ} d sh δ m = let a = translation-typed e d sh δ m in (
+    a .u,
+    plain-has W′ (λ c. 𝓟 .nearest-same c) (λ c. 𝓟 .makes c) (translate W e γ sh) (a .typed),
+    a .matches,
+  )

@@ -10,16 +10,16 @@ use borrow.Author.Tests.{eqb-true, eq-eqb}
 use Rattle.language.specs.Lists.{Never, inj, All2, a-nil, a-cons, Each, each-nil, each-cons, map-option}
 use Rattle.language.specs.Frames.{frame}
 use Rattle.language.specs.Tree.{DeclaredType, bool, class, ExprType, known, null-type}
-use Rattle.language.specs.Tree.{Field, Declaration, Class}
-use Rattle.language.specs.World.{Method, World, field-type}
+use Rattle.language.specs.Tree.{Field, Class}
+use Rattle.language.specs.World.{World, field-type}
 use Rattle.language.specs.Effects.{member, apply-class, apply, apply-expr}
-use Rattle.language.specs.Program.{method-of, world}
+use Rattle.language.specs.Program.{world, world-with}
 use Rattle.language.specs.Environment.{Slot, Environment, with-type}
 use Rattle.language.specs.Typing.{not-bool, last-type, fits, all-fit, join-types, join-currents, join-slot}
 use Rattle.language.specs.Typing.{join-slots, join-this, join-environments, apply-slot, apply-all, can-change}
 use Rattle.language.specs.ClassRelations.{Nearest, RootOf}
 use Rattle.language.specs.ClassRelations.{TypeDeclared, Changeable}
-use Rattle.language.specs.ClassRelations.{FieldAt, FieldsOf, FindsMethod}
+use Rattle.language.specs.ClassRelations.{FieldAt, FieldsOf}
 use Rattle.language.specs.TypeRelations.{NotBool, class-not-bool, null-not-bool, LastType, last-none}
 use Rattle.language.specs.TypeRelations.{last-one}
 use Rattle.language.specs.TypeRelations.{last-later, Both, both-none, both-some, Widens, widens-bool}
@@ -37,8 +37,7 @@ use Rattle.theory.specs.SlotSorts.{Sort, both-bool, both-class, SortS, S
 use Rattle.theory.specs.SlotSorts.{SortFrame}
 use Rattle.theory.specs.Superclasses.{Hierarchy, subclass-test, test-subclass, nearest-least, root-is}
 use Rattle.theory.specs.Superclasses.{root-one, nearest-one, same-root-changes}
-use Rattle.theory.specs.LookupsAgree.{field-is, declared-is, changeable-is, is-change}
-use Rattle.theory.specs.LookupsAgree.{fields-are, its-fields, finds-is, Finds, is-finds}
+use Rattle.theory.specs.LookupsAgree.{field-is, declared-is, changeable-is, is-change, fields-told}
 
 class-injective : {c d : ℕ} → class c ≡ class d → c ≡ d
 class-injective e = cc
@@ -79,7 +78,7 @@ module _ (P : List Class) (𝓗 : Hierarchy P) where
   -- ---- effects
 
   pub root-found : (c : ℕ) → RootOf P c (W .root c)
-  unfolding world
+  unfolding world world-with
   root-found c = root-is P (𝓗 .earlier) c
 
   pub root-told : {c r : ℕ} → RootOf P c r → W .root c ≡ r
@@ -140,13 +139,13 @@ module _ (P : List Class) (𝓗 : Hierarchy P) where
   -- ---- fits
 
   pub widens-is : {t : ExprType} {u : DeclaredType} → Widens P t u → fits W t u ≡ true
-  unfolding world
+  unfolding world world-with
   widens-is widens-bool = refl
   widens-is (widens-class s) = subclass-test P (𝓗 .earlier) s
   widens-is widens-null = refl
 
   pub is-widens : (t : ExprType) (u : DeclaredType) → fits W t u ≡ true → Widens P t u
-  unfolding world
+  unfolding world world-with
   is-widens (known bool) bool e = widens-bool
   is-widens (known bool) (class d) e = false≢ e
   is-widens (known (class c)) bool e = false≢ e
@@ -172,7 +171,7 @@ module _ (P : List Class) (𝓗 : Hierarchy P) where
   -- ---- joins
 
   nearest-found : (c d : ℕ) → Nearest P c d (W .nearest c d)
-  unfolding world
+  unfolding world world-with
   nearest-found c d = nearest-least P (𝓗 .earlier) c d
 
   nearest-told : {c d m : ℕ} → Nearest P c d m → W .nearest c d ≡ m
@@ -239,7 +238,7 @@ module _ (P : List Class) (𝓗 : Hierarchy P) where
   -- ---- changes of class
 
   pub can-change-is : {c d r : ℕ} → Changeable P d → RootOf P c r → RootOf P d r → can-change W c d ≡ true
-  unfolding can-change world
+  unfolding can-change world world-with
   can-change-is {c} {d} {r} x p q = rw (
     changeable-is P (same-root-changes P (𝓗 .earlier) (𝓗 .kinds) x p q),
     changeable-is P x,
@@ -248,32 +247,17 @@ module _ (P : List Class) (𝓗 : Hierarchy P) where
   ) (eq-eqb r r refl)
 
   pub is-can-change : (c d : ℕ) → can-change W c d ≡ true → Changeable P d × RootOf P c (W .root d)
-  unfolding can-change world
+  unfolding can-change world world-with
   is-can-change c d e = let p = and-inv (W .changeable c) _ e in
       let q = and-inv (W .changeable d) (eqb (W .root c) (W .root d)) (p .1) in
       (is-change P d (q .0), subst (RootOf P c) (eqb-true (W .root c) (W .root d) (q .1)) (root-found c))
 
-  -- ---- fields and methods
+  -- ---- fields
 
   pub field-told : {f c i : ℕ} {fs : List Field} {t : DeclaredType} → FieldsOf P c fs → FieldAt f fs i t
       → field-type f (W .fields c) ≡ some t
-  unfolding world
   field-told {f} {t} x y =
-      subst (λ (l : List Field). field-type f l ≡ some t) (sym (fields-are P (𝓗 .earlier) x))
-      (field-is y)
-
-  pub fields-found : (c : ℕ) → FieldsOf P c (W .fields c)
-  unfolding world
-  fields-found c = its-fields P (𝓗 .earlier) c
-
-  pub method-told : {c m o : ℕ} {d : Declaration} → FindsMethod P c m o d
-      → W .method c m ≡ some (method-of o d)
-  unfolding world
-  method-told x = finds-is P (𝓗 .earlier) x
-
-  pub method-found : (c m : ℕ) (M : Method) → W .method c m ≡ some M → Finds P c m M
-  unfolding world
-  method-found c m M e = is-finds P (𝓗 .earlier) c m M e
+      subst (λ (l : List Field). field-type f l ≡ some t) (sym (fields-told P (𝓗 .earlier) x)) (field-is y)
 
   pub applied-class : {φ c d : ℕ} → Applies P φ (class c) (class d) → apply-class W φ c ≡ d
   applied-class a = class-injective (applies-is a)

@@ -39,6 +39,9 @@ use Rattle.theory.specs.LookupsAgree.{is-finds}
 use Rattle.theory.specs.RulesAgree.{stated}
 use Rattle.theory.specs.TypesAgree.{is-widens}
 use Rattle.theory.specs.EffectLaws.{lines-within-is}
+use Rattle.theory.specs.MethodNumbers.{NumberedFrom, first-effect, numbered-rest, numbered-all}
+use Rattle.theory.specs.MethodNumbers.{numbered-class, numbered-classes}
+use Rattle.language.specs.Program.{world-with, methods-of}
 
 some-none : {A : Type 0} (o : Option A) → not (is-some o) ≡ true → o ≡ none
 some-none none e = refl
@@ -155,7 +158,7 @@ module _ (P : List Class) where
   module _ (𝓗 : Hierarchy P) where
     overrides : (super : ℕ) (m : Declaration) (o : Option Method) → world P .method super (m .name) ≡ o
         → may-override m o ≡ true → Overrides P super m
-    unfolding world
+    unfolding world world-with
     overrides super m none h e = first (λ o d x. absurd (Never (sym h ∙ finds-is P (𝓗 .earlier) x)))
     overrides super m (some M) h e = let x = is-finds P (𝓗 .earlier) super (m .name) M h in
         let p = and-inv (same-type (m .result) (M .result)) _ e in
@@ -166,12 +169,12 @@ module _ (P : List Class) where
         (subst (λ (N : Method). within (effect-of-all (m .effects)) (N .effect) ≡ true) (sym (x .is))
         (lines-within-is _ _ (q .1)))
 
-    methods-well : (k super at : ℕ) (before ms : List Declaration) (u v : Unit {0})
+    methods-well : (k super n at : ℕ) (before ms : List Declaration) (u v : Unit {0}) → NumberedFrom P n ms
         → check-methods of-check P super before at ms ≡ accept u
-        → type-methods (world P) k at ms ≡ accept v → MethodsWell P k super before ms
+        → type-methods (world P) k n at ms ≡ accept v → MethodsWell P k super before ms
     unfolding check-methods type-methods type-method
-    methods-well k super at before [] u v q r = methods-nil
-    methods-well k super at before (m ∷ ms) u v q r =
+    methods-well k super n at before [] u v h q r = methods-nil
+    methods-well k super n at before (m ∷ ms) u v h q r =
         require-inv _ _ _ _ q λ e₁ q. require-inv _ _ _ _ q λ e₂ q. require-inv _ _ _ _ q λ e₃ q.
         bind-checked-inv _ _ q λ a e₄ q. bind-checked-inv _ _ q λ b e₅ q. bind-checked-inv _ _ r λ c f r.
         bind-checked-inv _ _ f λ t f₁ f. require-inv _ _ _ _ f λ f₂ f. require-inv _ _ _ _ f λ f₃ f.
@@ -187,15 +190,17 @@ module _ (P : List Class) where
           body = stated P 𝓗 (m .body)
               (derive (world P) (m .body) (at + heading-lines m) (method-environment k (m .parameters)) t f₁);
           body-type = is-widens P 𝓗 (t .type) (m .result) f₂;
-          body-effect = f₃;
+          body-effect = subst (λ (φ : ℕ). within (t .effect) φ ≡ true) (first-effect P n m ms h) f₃;
         })
-        (methods-well k super (at + method-lines m) (m ∷ before) ms u v q r)
+        (methods-well k super (suc n) (at + method-lines m) (m ∷ before) ms u v (numbered-rest P n m ms h) q
+        r)
 
-    classes-well : (k at : ℕ) (cs : List Class) (u v : Unit {0}) → check-classes of-check P k at cs ≡ accept u
-        → type-classes (world P) k at cs ≡ accept v → ClassesWell P k cs
-    unfolding check-classes check-class type-classes world
-    classes-well k at [] u v q r = classes-nil
-    classes-well k at (c ∷ cs) u v q r = bind-checked-inv _ _ q λ a e q. require-inv _ _ _ _ e λ e₁ e.
+    classes-well : (k n at : ℕ) (cs : List Class) (u v : Unit {0}) → NumberedFrom P n (methods-of cs)
+        → check-classes of-check P k at cs ≡ accept u
+        → type-classes (world P) k n at cs ≡ accept v → ClassesWell P k cs
+    unfolding check-classes check-class type-classes world world-with
+    classes-well k n at [] u v h q r = classes-nil
+    classes-well k n at (c ∷ cs) u v h q r = bind-checked-inv _ _ q λ a e q. require-inv _ _ _ _ e λ e₁ e.
         require-inv _ _ _ _ e λ e₂ e. bind-checked-inv _ _ e λ b e₃ e.
         bind-checked-inv _ _ r λ d f r.
         classes-cons (record {
@@ -204,9 +209,11 @@ module _ (P : List Class) where
           inherited = world P .fields (c .super);
           inherits = its-fields P (𝓗 .earlier) (c .super);
           fields = fields-well _ (at + 1) (c .fields) b e₃;
-          methods = methods-well k (c .super) (at + 1 + length (c .fields)) [] (c .methods) a d e f;
+          methods = methods-well k (c .super) n (at + 1 + length (c .fields)) [] (c .methods) a d
+              (numbered-class P n c cs h) e f;
         })
-        (classes-well (suc k) (at + class-lines c) cs u v q r)
+        (classes-well (suc k) (n + length (c .methods)) (at + class-lines c) cs u v
+        (numbered-classes P n c cs h) q r)
 
 -- Headings and bodies that are accepted are well formed.
 pub program-well : (p : Program) (u v : Unit {0}) → headings of-check (p .classes) ≡ accept u
@@ -216,7 +223,7 @@ unfolding headings bodies
 program-well p u v q r = bind-checked-inv _ _ r λ a e r. bind-checked-inv _ _ r λ t f r.
     let P = p .classes in let 𝓗 = headings-hierarchy P of-check u q in
     record {
-      classes = classes-well P 𝓗 1 1 P u a q e;
+      classes = classes-well P 𝓗 1 0 1 P u a (numbered-all P) q e;
       t = t .type;
       γ = t .slots;
       φ = t .effect;

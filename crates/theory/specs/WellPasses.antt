@@ -16,7 +16,7 @@ use Rattle.language.specs.Tree.{Declaration, heading-lines, method-lines, Class
 use Rattle.language.specs.Tree.{Program}
 use Rattle.language.specs.World.{Method}
 use Rattle.language.specs.Effects.{effect-of-all, within}
-use Rattle.language.specs.Program.{class-at, is-root-class, world}
+use Rattle.language.specs.Program.{class-at, is-root-class, world, world-with, methods-of}
 use Rattle.language.specs.Headings.{may-extend, same-type, same-types, lines-within, may-override}
 use Rattle.language.specs.Headings.{check-fields, check-parameters, check-effects, check-methods, check-class}
 use Rattle.language.specs.Headings.{check-classes, headings}
@@ -38,6 +38,8 @@ use Rattle.theory.specs.TypesAgree.{widens-is}
 use Rattle.theory.specs.Lookups.{hierarchy, fields-follow, overridden}
 use Rattle.theory.specs.EffectLaws.{member-of-all}
 use Rattle.theory.specs.WellEqual.{kind-found}
+use Rattle.theory.specs.MethodNumbers.{NumberedFrom, first-effect, numbered-rest, numbered-all}
+use Rattle.theory.specs.MethodNumbers.{numbered-class, numbered-classes}
 
 extends-test : {k : Kind} {o : Option Kind} → Extends k o → may-extend k o ≡ true
 extends-test plain-object = refl
@@ -139,27 +141,30 @@ module _ (P : List Class) where
 
   effects-test : (most : Most) {last : ℕ} {cs : List ℕ} → EffectWell P last cs → (at : ℕ)
       → check-effects most P last at cs ≡ passed
-  unfolding check-effects require is-root-class world
+  unfolding check-effects require is-root-class world world-with
   effects-test most well-none at = refl
   effects-test most {last} (well-root {k} c h r l w) at =
       rw (class-count k c h, h, r, lt-ltb last k l) (effects-test most w (at + 1))
 
   module _ (𝓗 : Hierarchy P) where
-    method-types : (k at : ℕ) (super : ℕ) (before : List Declaration) (m : Declaration)
-        → MethodWell P k super before m → type-method (world P) k at m ≡ passed
+    method-types : (k n at : ℕ) (super : ℕ) (before : List Declaration) (m : Declaration)
+        → world P .effect n ≡ effect-of-all (m .effects)
+        → MethodWell P k super before m → type-method (world P) k n at m ≡ passed
     unfolding type-method bind-checked require
-    method-types k at super before m w = rw (
+    method-types k n at super before m h w = rw (
       complete (world P) (m .body) (computed P 𝓗 (m .body) (w .body)) (at + heading-lines m),
       widens-is P 𝓗 (w .body-type),
+      h,
       w .body-effect,
     )
 
-    methods-types : (k super : ℕ) {before ms : List Declaration} → MethodsWell P k super before ms → (at : ℕ)
-        → type-methods (world P) k at ms ≡ passed
+    methods-types : (k super : ℕ) {before ms : List Declaration} → MethodsWell P k super before ms
+        → (n at : ℕ) → NumberedFrom P n ms → type-methods (world P) k n at ms ≡ passed
     unfolding type-methods bind-checked
-    methods-types k super methods-nil at = refl
-    methods-types k super {before} (methods-cons {m} w ws) at =
-        rw (method-types k at super before m w) (methods-types k super ws (at + method-lines m))
+    methods-types k super methods-nil n at h = refl
+    methods-types k super {before} (methods-cons {ms} {m} w ws) n at h =
+        rw (method-types k n at super before m (first-effect P n m ms h) w)
+        (methods-types k super ws (suc n) (at + method-lines m) (numbered-rest P n m ms h))
 
     methods-test : (most : Most) (k super : ℕ) {before ms : List Declaration} → length P ≤ of-check .classes
         → MethodsWell P k super before ms → (at : ℕ) → check-methods most P super before at ms ≡ passed
@@ -185,13 +190,14 @@ module _ (P : List Class) where
       methods-test most k (c .super) l (w .methods) (at + 1 + length (c .fields)),
     ) (classes-test most l ws fs (at + class-lines c))
 
-    classes-types : {k : ℕ} {cs : List Class} → ClassesWell P k cs → (at : ℕ)
-        → type-classes (world P) k at cs ≡ passed
+    classes-types : {k : ℕ} {cs : List Class} → ClassesWell P k cs → (n at : ℕ)
+        → NumberedFrom P n (methods-of cs) → type-classes (world P) k n at cs ≡ passed
     unfolding type-classes bind-checked
-    classes-types classes-nil at = refl
-    classes-types {k} (classes-cons {c} w ws) at =
-        rw (methods-types k (c .super) (w .methods) (at + 1 + length (c .fields)))
-        (classes-types ws (at + class-lines c))
+    classes-types classes-nil n at h = refl
+    classes-types {k} (classes-cons {c} {cs} w ws) n at h =
+        rw (methods-types k (c .super) (w .methods) n (at + 1 + length (c .fields))
+        (numbered-class P n c cs h))
+        (classes-types ws (n + length (c .methods)) (at + class-lines c) (numbered-classes P n c cs h))
 
 -- Headings and bodies that are well formed are accepted.
 pub program-test : (p : Program) → length (p .classes) ≤ of-check .classes → ProgramWell p
@@ -200,7 +206,7 @@ unfolding headings bodies bind-checked
 program-test p l w = let P = p .classes in let 𝓗 = hierarchy P (w .classes) in (
   classes-test P 𝓗 of-check l (w .classes) (all-fields-pass P 𝓗 (w .classes)) 1,
   rw (
-    classes-types P 𝓗 (w .classes) 1,
+    classes-types P 𝓗 (w .classes) 0 1 (numbered-all P),
     complete (world P) (p .start) (computed P 𝓗 (p .start) (w .start)) (2 + classes-lines P),
   ),
 )

@@ -1,67 +1,253 @@
 // The translation of rows: the check, then the translator's limits, reserved names and room (document 01, "Refusals and
 // stops").
+use checker::ALL_METHOD_TABLE;
+use checker::ALL_METHODS;
 use checker::ALL_ROWS;
+use checker::FEW_CLASSES;
+use checker::FEW_ENTRIES;
+use checker::FEW_METHOD_TABLE;
+use checker::FEW_METHODS;
 use checker::FEW_NUMBERS;
 use checker::FEW_ROWS;
+use checker::FEW_TABLE;
+use checker::SHORT_METHOD_TABLE;
+use checker::SHORT_METHODS;
+use checker::SHORT_NUMBERS;
+use checker::SHORT_ROWS;
 use language::ALL_CLASSES;
 use language::Filled;
+use language::LINE_REFUSAL;
 use language::TABLE_LENGTH;
 ghost use mathlib.Core.Path.{_≡_};
-ghost use Prim.Native.Nat.{_≤_};
+ghost use Prim.Native.Nat.{_%_, _≤_};
 ghost use lib.ListN.{length};
 ghost use Rattle.language.specs.Filling.{answer, buffer};
 ghost use Rattle.language.specs.Translation.{translation};
-ghost use Rattle.checker.specs.Passes.{Lent};
+ghost use Rattle.checker.specs.Passes.{Room, ClassRoom, Stands};
 
-// Translates rows with tables that are lent.
-fn translate_with(
+// After form: checks headings and bodies with tables that are lent, then translates.
+fn translate_formed(
     rows: &[u32],
-    ends: &mut [u16],
+    ends: &[u16],
     tables: &mut [u16],
     above: &mut [u64],
+    methods: &mut [u16],
+    effects: &mut [u64],
     lookups: &mut [u16],
+    classes: u32,
+    start: u32,
     out: &mut [u32],
 ) -> Filled
-    requires { ⌜ Lent (now rows) (now ends) (now tables) (now above) (now lookups) ⌝ }
+    requires { ⌜ Stands (now rows) (now ends) classes start ⌝ }
+    requires { ⌜ Room (now rows) (now ends) (now methods) (now effects) ⌝ }
+    requires { ⌜ length (now ends) ≤ length (now lookups) ⌝ }
+    requires { ⌜ ClassRoom (now tables) (now above) classes ⌝ }
     ensures { λ r. ⌜ (r ≡ answer 4 (translation (now (rows .entry))) (length (now (out .entry))))
         × (now (out .exit) ≡ buffer (translation (now (rows .entry))) (now (out .entry))) ⌝ }
 {
-    let checked = checker::check_into(rows, ends, tables, above, lookups);
+    let checked = checker::check_formed(
+        rows,
+        ends,
+        tables,
+        above,
+        methods,
+        effects,
+        lookups,
+        classes,
+        start,
+    );
     match checked {
-        checker::Checked::Accepted(_) => plain::translate_checked(rows, ends, tables, lookups, out),
+        checker::Checked::Accepted(_) => {
+            plain::translate_checked(rows, ends, tables, methods, lookups, out)
+        }
         checker::Checked::Refused(number, line) => Filled::Refused(number, line),
     }
 }
 
-// Few rows pay for short tables alone.
+// After form, with class tables of its own for at most 7 classes.
+fn translate_few_classes(
+    rows: &[u32],
+    ends: &[u16],
+    methods: &mut [u16],
+    effects: &mut [u64],
+    lookups: &mut [u16],
+    classes: u32,
+    start: u32,
+    out: &mut [u32],
+) -> Filled
+    requires { ⌜ Stands (now rows) (now ends) classes start ⌝ }
+    requires { ⌜ Room (now rows) (now ends) (now methods) (now effects) ⌝ }
+    requires { ⌜ length (now ends) ≤ length (now lookups) ⌝ }
+    requires { ⌜ classes ≤ 7 ⌝ }
+    ensures { λ r. ⌜ (r ≡ answer 4 (translation (now (rows .entry))) (length (now (out .entry))))
+        × (now (out .exit) ≡ buffer (translation (now (rows .entry))) (now (out .entry))) ⌝ }
+{
+    let mut tables = [0u16; FEW_TABLE];
+    let mut above = [0u64; FEW_ENTRIES];
+    translate_formed(
+        rows,
+        ends,
+        &mut tables,
+        &mut above,
+        methods,
+        effects,
+        lookups,
+        classes,
+        start,
+        out,
+    )
+}
+
+// The same for any number of classes.
+fn translate_all_classes(
+    rows: &[u32],
+    ends: &[u16],
+    methods: &mut [u16],
+    effects: &mut [u64],
+    lookups: &mut [u16],
+    classes: u32,
+    start: u32,
+    out: &mut [u32],
+) -> Filled
+    requires { ⌜ Stands (now rows) (now ends) classes start ⌝ }
+    requires { ⌜ Room (now rows) (now ends) (now methods) (now effects) ⌝ }
+    requires { ⌜ length (now ends) ≤ length (now lookups) ⌝ }
+    ensures { λ r. ⌜ (r ≡ answer 4 (translation (now (rows .entry))) (length (now (out .entry))))
+        × (now (out .exit) ≡ buffer (translation (now (rows .entry))) (now (out .entry))) ⌝ }
+{
+    let mut tables = [0u16; TABLE_LENGTH];
+    let mut above = [0u64; ALL_CLASSES];
+    translate_formed(
+        rows,
+        ends,
+        &mut tables,
+        &mut above,
+        methods,
+        effects,
+        lookups,
+        classes,
+        start,
+        out,
+    )
+}
+
+// After form: few classes pay for short class tables alone.
+fn translate_classes(
+    rows: &[u32],
+    ends: &[u16],
+    methods: &mut [u16],
+    effects: &mut [u64],
+    lookups: &mut [u16],
+    classes: u32,
+    start: u32,
+    out: &mut [u32],
+) -> Filled
+    requires { ⌜ Stands (now rows) (now ends) classes start ⌝ }
+    requires { ⌜ Room (now rows) (now ends) (now methods) (now effects) ⌝ }
+    requires { ⌜ length (now ends) ≤ length (now lookups) ⌝ }
+    ensures { λ r. ⌜ (r ≡ answer 4 (translation (now (rows .entry))) (length (now (out .entry))))
+        × (now (out .exit) ≡ buffer (translation (now (rows .entry))) (now (out .entry))) ⌝ }
+{
+    if classes <= FEW_CLASSES {
+        return translate_few_classes(rows, ends, methods, effects, lookups, classes, start, out);
+    }
+    translate_all_classes(rows, ends, methods, effects, lookups, classes, start, out)
+}
+
+// Translates whole rows with lent tables. Form counts the classes before there are class tables.
+fn translate_whole(
+    rows: &[u32],
+    ends: &mut [u16],
+    methods: &mut [u16],
+    effects: &mut [u64],
+    lookups: &mut [u16],
+    out: &mut [u32],
+) -> Filled
+    requires { ⌜ Room (now rows) (now ends) (now methods) (now effects) ⌝ }
+    requires { ⌜ length (now ends) ≤ length (now lookups) ⌝ }
+    ensures { λ r. ⌜ (r ≡ answer 4 (translation (now (rows .entry))) (length (now (out .entry))))
+        × (now (out .exit) ≡ buffer (translation (now (rows .entry))) (now (out .entry))) ⌝ }
+{
+    let formed = form::check_form(rows, ends);
+    match formed {
+        form::Formed::InForm(classes, start) => {
+            translate_classes(rows, ends, methods, effects, lookups, classes, start, out)
+        }
+        form::Formed::Refused(number, line) => Filled::Refused(number, line),
+    }
+}
+
+// The translation of at most 32 whole rows.
+fn translate_short(rows: &[u32], out: &mut [u32]) -> Filled
+    requires { ⌜ (length (now rows) % 4 ≡ 0) × (length (now rows) ≤ 128) ⌝ }
+    ensures { λ r. ⌜ (r ≡ answer 4 (translation (now (rows .entry))) (length (now (out .entry))))
+        × (now (out .exit) ≡ buffer (translation (now (rows .entry))) (now (out .entry))) ⌝ }
+{
+    let mut ends = [0u16; SHORT_ROWS];
+    let mut methods = [0u16; SHORT_METHOD_TABLE];
+    let mut effects = [0u64; SHORT_METHODS];
+    let mut lookups = [0u16; SHORT_ROWS];
+    translate_whole(
+        rows,
+        &mut ends,
+        &mut methods,
+        &mut effects,
+        &mut lookups,
+        out,
+    )
+}
+
+// The translation of at most 1,024 whole rows.
 fn translate_few(rows: &[u32], out: &mut [u32]) -> Filled
-    requires { ⌜ length (now rows) ≤ 4096 ⌝ }
+    requires { ⌜ (length (now rows) % 4 ≡ 0) × (length (now rows) ≤ 4096) ⌝ }
     ensures { λ r. ⌜ (r ≡ answer 4 (translation (now (rows .entry))) (length (now (out .entry))))
         × (now (out .exit) ≡ buffer (translation (now (rows .entry))) (now (out .entry))) ⌝ }
 {
-    let mut tables = [0u16; TABLE_LENGTH];
-    let mut above = [0u64; ALL_CLASSES];
     let mut ends = [0u16; FEW_ROWS];
+    let mut methods = [0u16; FEW_METHOD_TABLE];
+    let mut effects = [0u64; FEW_METHODS];
     let mut lookups = [0u16; FEW_ROWS];
-    translate_with(rows, &mut ends, &mut tables, &mut above, &mut lookups, out)
+    translate_whole(
+        rows,
+        &mut ends,
+        &mut methods,
+        &mut effects,
+        &mut lookups,
+        out,
+    )
 }
 
+// The translation of any number of whole rows.
 fn translate_many(rows: &[u32], out: &mut [u32]) -> Filled
+    requires { ⌜ length (now rows) % 4 ≡ 0 ⌝ }
     ensures { λ r. ⌜ (r ≡ answer 4 (translation (now (rows .entry))) (length (now (out .entry))))
         × (now (out .exit) ≡ buffer (translation (now (rows .entry))) (now (out .entry))) ⌝ }
 {
-    let mut tables = [0u16; TABLE_LENGTH];
-    let mut above = [0u64; ALL_CLASSES];
     let mut ends = [0u16; ALL_ROWS];
+    let mut methods = [0u16; ALL_METHOD_TABLE];
+    let mut effects = [0u64; ALL_METHODS];
     let mut lookups = [0u16; ALL_ROWS];
-    translate_with(rows, &mut ends, &mut tables, &mut above, &mut lookups, out)
+    translate_whole(
+        rows,
+        &mut ends,
+        &mut methods,
+        &mut effects,
+        &mut lookups,
+        out,
+    )
 }
 
-// Translates rows into plain rows.
+// Translates rows into plain rows. Few rows and few classes pay for short tables alone.
 pub fn translate_rows(rows: &[u32], out: &mut [u32]) -> Filled
     ensures { λ r. ⌜ (r ≡ answer 4 (translation (now (rows .entry))) (length (now (out .entry))))
         × (now (out .exit) ≡ buffer (translation (now (rows .entry))) (now (out .entry))) ⌝ }
 {
+    if rows.len() % 4 != 0 {
+        return Filled::Refused(LINE_REFUSAL, 0);
+    }
+    if rows.len() <= SHORT_NUMBERS {
+        return translate_short(rows, out);
+    }
     if rows.len() <= FEW_NUMBERS {
         return translate_few(rows, out);
     }

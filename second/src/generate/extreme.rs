@@ -268,6 +268,54 @@ pub fn chain(length: usize) -> Vec<u32> {
     rows.rows
 }
 
+/// A chain of objects on which a method with 8 parameters and so many locals calls itself down to the last one, each
+/// time with its arguments turned round by one. Every call keeps its first argument in its last local, and stores it when
+/// the call within has returned. As many nulls as asked for come first in the start block.
+pub fn turning_chain(length: usize, locals: u32, nulls: usize) -> Vec<u32> {
+    let parameters = CHECKED.parameters as u32;
+    let (found, kept) = (parameters + 1, parameters + locals);
+    let mut rows = Writer::default();
+    rows.row(letter::CLASS, PLAIN, OBJECT).row(letter::FIELD, 1, 0).row(letter::FIELD, 1, 1);
+    rows.row(letter::METHOD, 1, 0);
+    for _ in 0..parameters {
+        rows.row(letter::PARAMETER, 1, 0);
+    }
+    rows.row(letter::BLOCK, locals, 4);
+    for _ in 0..locals {
+        rows.row(letter::LOCAL, 1, 0);
+    }
+    rows.row(letter::ASSIGN, kept, 0).row(letter::SLOT, 1, 0);
+    rows.row(letter::ASSIGN, found, 0).row(letter::IF, 0, 0);
+    rows.row(letter::IS_NULL, 0, 0).row(letter::GET, 0, 0).row(letter::SLOT, 0, 0).row(
+        letter::SLOT,
+        parameters,
+        0,
+    );
+    rows.row(letter::CALL, 0, parameters).row(letter::GET, 0, 0).row(letter::SLOT, 0, 0);
+    for slot in (2..=parameters).chain([1]) {
+        rows.row(letter::SLOT, slot, 0);
+    }
+    rows.row(letter::SET, 1, 0).row(letter::SLOT, 0, 0).row(letter::SLOT, kept, 0).row(
+        letter::SLOT,
+        found,
+        0,
+    );
+    rows.row(letter::START, 0, 0).row(letter::BLOCK, 2, (nulls + 2 * length + 1) as u32);
+    rows.row(letter::LOCAL, 1, 0).row(letter::LOCAL, 1, 0);
+    for _ in 0..nulls {
+        rows.row(letter::NULL, 0, 0);
+    }
+    for _ in 0..length {
+        rows.row(letter::SET, 0, 0).row(letter::ASSIGN, 2, 0).row(letter::NEW, 1, 0).row(letter::SLOT, 1, 0);
+        rows.row(letter::ASSIGN, 1, 0).row(letter::SLOT, 2, 0);
+    }
+    rows.row(letter::CALL, 0, parameters).row(letter::SLOT, 1, 0);
+    for _ in 0..parameters {
+        rows.row(letter::NEW, 1, 0);
+    }
+    rows.rows
+}
+
 /// Methods that call the next one twice, so many deep: a short program with a long run.
 pub fn doubled_calls(depth: usize) -> Vec<u32> {
     let mut rows = Writer::default();

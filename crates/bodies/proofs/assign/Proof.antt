@@ -42,22 +42,27 @@ refused-requires-2 c κs = search needs
 
 returns-3 : tie.Need-returns-3
 returns-3 c =
-    let at-is-refusal = c .before .before .before .before in
-    assign-out _ _ _ _ _ _ _ (at-is-refusal .is-refusal .ensures) _ (c .before .before .before .if1 .left)
-    (c .before .before .if2 .left) (c .before .if3 .taken) (c .refused2 .ensures)
+    let at-if1 = c .before .before .before .before in
+    let at-is-refusal = at-if1 .before in
+    assign-out _ _ _ _ _ _ _ (at-is-refusal .is-refusal .ensures) _ (at-if1 .if1 .left)
+    (c .before .before .before .if2 .left) (c .before .if3 .taken) (c .refused2 .ensures)
 
-mul-from-number : tie.Need-mul-from-number
-mul-from-number c = search needs
+mul-current : tie.Need-mul-current
+mul-current c = search needs
 
-shared-slice-read-from-number : tie.Need-shared-slice-read-from-number
-shared-slice-read-from-number c = search needs
+shared-slice-read-current : tie.Need-shared-slice-read-current
+shared-slice-read-current c = search needs
+
+current-requires : tie.Need-current-requires
+current-requires c κs = tt
 
 from-number-requires : tie.Need-from-number-requires
 from-number-requires c κs = search needs
 
 is-fitting-requires : tie.Need-is-fitting-requires
 is-fitting-requires c κs =
-    let at-if1 = c .before .before .before .before in
+    let at-if2 = c .before .before .before .before .before in
+    let at-if1 = at-if2 .before in
     let at-is-refusal = at-if1 .before in
     let start = at-is-refusal .before .before .before .before .before in (
       start .pre .value,
@@ -65,33 +70,37 @@ is-fitting-requires c κs =
           omega (
             arith,
             c .from-number .ensures,
+            c .before .current .ensures,
             start .pre .slot (sym (at-is-refusal .is-refusal .ensures) ∙ at-if1 .if1 .left)
-                (c .before .before .before .if2 .left) (c .before .before .if3 .left)
-                (λ e. f (c .from-number .ensures ∙ e)),
+                (at-if2 .if2 .left) (c .before .before .before .if3 .left)
+                (λ e. f (c .from-number .ensures ∙ (c .before .current .ensures ∙ e))),
           ),
     )
 
 returns-4 : tie.Need-returns-4
 returns-4 c =
-    let at-if3 = c .before .before .before .before in
-    let at-if2 = at-if3 .before in
+    let at-if3 = c .before .before .before .before .before in
+    let at-if2 = at-if3 .before .before in
     let at-if1 = at-if2 .before in
     let at-is-refusal = at-if1 .before in
     assign-fits _ _ _ _ _ _ _ (at-is-refusal .is-refusal .ensures) _ _ (at-if1 .if1 .left) (at-if2 .if2 .left)
-    (at-if3 .if3 .left) (c .before .before .from-number .ensures) (c .before .is-fitting .ensures)
-    (c .if4 .taken)
+    (at-if3 .if3 .left)
+    (c .before .before .from-number .ensures ∙ c .before .before .before .current .ensures)
+    (c .before .is-fitting .ensures) (c .if4 .taken)
 
 refused-requires-3 : tie.Need-refused-requires-3
 refused-requires-3 c κs = search needs
 
 returns-5 : tie.Need-returns-5
 returns-5 c =
-    let at-if3 = c .before .before .before .before .before in
-    let at-if2 = at-if3 .before in
+    let at-current = c .before .before .before .before in
+    let at-if3 = at-current .before .before in
+    let at-if2 = at-if3 .before .before in
     let at-if1 = at-if2 .before in
     let at-is-refusal = at-if1 .before in
     assign-unfit _ _ _ _ _ _ _ (at-is-refusal .is-refusal .ensures) _ _ _ (at-if1 .if1 .left)
-    (at-if2 .if2 .left) (at-if3 .if3 .left) (c .before .before .before .from-number .ensures)
+    (at-if2 .if2 .left) (at-if3 .if3 .left)
+    (c .before .before .before .from-number .ensures ∙ at-current .current .ensures)
     (c .before .before .is-fitting .ensures) (c .before .if4 .left) (c .refused3 .ensures)
 
 pub assign-spec : {M : Type 1} → statement M
@@ -109,8 +118,9 @@ assign-spec =
     returns-2
     refused-requires-2
     returns-3
-    mul-from-number
-    shared-slice-read-from-number
+    mul-current
+    shared-slice-read-current
+    current-requires
     from-number-requires
     is-fitting-requires
     returns-4

@@ -27,8 +27,8 @@ refused-requires : tie.Need-refused-requires
 refused-requires c κs = search needs
 
 returns-2 : tie.Need-returns-2
-returns-2 c = cast-name _ _ _ _ _ _ (c .before .before .before .is-refusal .ensures)
-    (c .before .before .if1 .left) (c .before .if2 .taken) (c .refused .ensures)
+returns-2 c = cast-name _ _ _ _ _ _ (c .before .before .before .before .is-refusal .ensures)
+    (c .before .before .before .if1 .left) (c .before .if2 .taken) (c .refused .ensures)
 
 enum-told : tie.Need-enum-told
 enum-told c = search needs
@@ -47,7 +47,7 @@ enum-told-4 c = search needs
 
 returns-3 : tie.Need-returns-3
 returns-3 c =
-    let at-if1 = c .before .before .before .before in
+    let at-if1 = c .before .before .before .before .before in
     let at-is-refusal = at-if1 .before in
     cast-done _ _ _ _ _ _ (at-is-refusal .is-refusal .ensures) (at-if1 .if1 .left)
     (c .before .before .before .if2 .left)
@@ -55,21 +55,24 @@ returns-3 c =
 
 returns-4 : tie.Need-returns-4
 returns-4 c =
-    let at-is-refusal = c .before .before .before .before in
-    cast-done _ _ _ _ _ _ (at-is-refusal .is-refusal .ensures) (c .before .before .before .if1 .left)
+    let at-if1 = c .before .before .before .before in
+    let at-is-refusal = at-if1 .before in
+    cast-done _ _ _ _ _ _ (at-is-refusal .is-refusal .ensures) (at-if1 .if1 .left)
     (c .before .before .if2 .left) (casted-class _ _ _ _ _ (c .enum-told2 .given .1))
 
 returns-5 : tie.Need-returns-5
 returns-5 c =
-    let at-is-refusal = c .before .before .before .before in
-    cast-done _ _ _ _ _ _ (at-is-refusal .is-refusal .ensures) (c .before .before .before .if1 .left)
+    let at-if1 = c .before .before .before .before in
+    let at-is-refusal = at-if1 .before in
+    cast-done _ _ _ _ _ _ (at-is-refusal .is-refusal .ensures) (at-if1 .if1 .left)
     (c .before .before .if2 .left) (casted-null _ _ _ _ (c .enum-told3 .given .1))
 
 returns-6 : tie.Need-returns-6
 returns-6 c =
-    let at-is-refusal = c .before .before .before .before in
+    let at-if1 = c .before .before .before .before in
+    let at-is-refusal = at-if1 .before in
     let start = at-is-refusal .before .before .before in
-    cast-done _ _ _ _ _ _ (at-is-refusal .is-refusal .ensures) (c .before .before .before .if1 .left)
+    cast-done _ _ _ _ _ _ (at-is-refusal .is-refusal .ensures) (at-if1 .if1 .left)
     (c .before .before .if2 .left) (casted-refusal _ _ (start .args .child) _ _ (c .enum-told4 .given .1))
 
 pub cast-spec : {M : Type 1} → statement M

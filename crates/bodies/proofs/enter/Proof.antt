@@ -1,5 +1,4 @@
 -- `bodies::enter` meets its contract. Assumes nothing.
-use mathlib.Core.Path.{refl}
 use Prim.Native.Nat.{_-_, _≤_}
 use native.Mathlib.Omega.{arith}
 use Rattle.bodies.proofs.WholeLaws.{Entering, enter-start, enter-step, enter-long, enter-end}
@@ -12,130 +11,159 @@ Inv-loop rows slots₀ owner from n i₀ slots i = (i ≤ n) × Entering rows sl
 abbrev μ-loop : tie.MeasureT-loop
 μ-loop rows slots₀ owner from n i₀ slots i = n - i
 
+fresh-requires : tie.Need-fresh-requires Inv-loop μ-loop
+fresh-requires c κs = tt
+
 slice-write-slots : tie.Need-slice-write-slots Inv-loop μ-loop
-slice-write-slots c = omega (arith, c .pre .slots)
+slice-write-slots c = omega (arith, c .before .before .before .pre .slots)
 
 loop-holds : tie.Need-loop-holds Inv-loop μ-loop
 loop-holds c = (omega arith, enter-start _ _ _)
 
-add-slots : tie.Need-add-slots Inv-loop μ-loop
-add-slots c = omega (
-  arith,
-  c .before .before .pre .slots,
-  c .before .before .pre .rows,
-  enter-long _
-      (c .before .before .args .slots .now) _ (c .before .before .args .owner) _ _ (c .before .loop .inv .1),
-  c .before .before .good,
-)
-
-mul-slots : tie.Need-mul-slots Inv-loop μ-loop
-mul-slots c = omega (
-  arith,
-  c .before .before .pre .slots,
-  c .before .before .pre .rows,
-  enter-long _
-      (c .before .before .args .slots .now) _ (c .before .before .args .owner) _ _ (c .before .loop .inv .1),
-  c .before .before .good,
-)
-
-add-slots-2 : tie.Need-add-slots-2 Inv-loop μ-loop
-add-slots-2 c = omega (
-  arith,
-  c .before .before .pre .slots,
-  c .before .before .pre .rows,
-  enter-long _
-      (c .before .before .args .slots .now) _ (c .before .before .args .owner) _ _ (c .before .loop .inv .1),
-  c .before .before .good,
-)
-
-mul-slots-2 : tie.Need-mul-slots-2 Inv-loop μ-loop
-mul-slots-2 c = omega (
-  arith,
-  c .before .before .pre .slots,
-  c .before .before .pre .rows,
-  enter-long _
-      (c .before .before .args .slots .now) _ (c .before .before .args .owner) _ _ (c .before .loop .inv .1),
-  c .before .before .good,
-)
-
-shared-slice-read-slots : tie.Need-shared-slice-read-slots Inv-loop μ-loop
-shared-slice-read-slots c =
+add-fresh : tie.Need-add-fresh Inv-loop μ-loop
+add-fresh c =
+    let start = c .before .before .before .before .before in
     omega (
       arith,
-      c .before .before .before .pre .slots,
-      c .before .before .before .pre .rows,
-      enter-long _ (c .before .before .before .args .slots .now) _ (c .before .before .before .args .owner) _
-          _
-          (c .before .before .loop .inv .1),
-      c .before .before .before .good,
+      start .pre .slots,
+      start .pre .rows,
+      enter-long _ (start .args .slots .now) _ (c .before .before .fresh .result) _ _
+          (c .before .loop .inv .1),
+      start .good,
     )
 
-add-slots-3 : tie.Need-add-slots-3 Inv-loop μ-loop
-add-slots-3 c = omega (
-  arith,
-  c .before .before .before .pre .slots,
-  c .before .before .before .pre .rows,
-  enter-long _ (c .before .before .before .args .slots .now) _ (c .before .before .before .args .owner) _ _
-      (c .before .before .loop .inv .1),
-  c .before .before .before .good,
-)
+mul-fresh : tie.Need-mul-fresh Inv-loop μ-loop
+mul-fresh c =
+    let start = c .before .before .before .before .before in
+    omega (
+      arith,
+      start .pre .slots,
+      start .pre .rows,
+      enter-long _ (start .args .slots .now) _ (c .before .before .fresh .result) _ _
+          (c .before .loop .inv .1),
+      start .good,
+    )
 
-mul-slots-3 : tie.Need-mul-slots-3 Inv-loop μ-loop
-mul-slots-3 c = omega (
-  arith,
-  c .before .before .before .pre .slots,
-  c .before .before .before .pre .rows,
-  enter-long _ (c .before .before .before .args .slots .now) _ (c .before .before .before .args .owner) _ _
-      (c .before .before .loop .inv .1),
-  c .before .before .before .good,
-)
+add-fresh-2 : tie.Need-add-fresh-2 Inv-loop μ-loop
+add-fresh-2 c =
+    let start = c .before .before .before .before .before in
+    omega (
+      arith,
+      start .pre .slots,
+      start .pre .rows,
+      enter-long _ (start .args .slots .now) _ (c .before .before .fresh .result) _ _
+          (c .before .loop .inv .1),
+      start .good,
+    )
+
+mul-fresh-2 : tie.Need-mul-fresh-2 Inv-loop μ-loop
+mul-fresh-2 c =
+    let start = c .before .before .before .before .before in
+    omega (
+      arith,
+      start .pre .slots,
+      start .pre .rows,
+      enter-long _ (start .args .slots .now) _ (c .before .before .fresh .result) _ _
+          (c .before .loop .inv .1),
+      start .good,
+    )
+
+shared-slice-read-fresh : tie.Need-shared-slice-read-fresh Inv-loop μ-loop
+shared-slice-read-fresh c =
+    let start = c .before .before .before .before .before .before in
+    omega (
+      arith,
+      start .pre .slots,
+      start .pre .rows,
+      enter-long _ (start .args .slots .now) _ (c .before .before .before .fresh .result) _ _
+          (c .before .before .loop .inv .1),
+      start .good,
+    )
+
+fresh-requires-2 : tie.Need-fresh-requires-2 Inv-loop μ-loop
+fresh-requires-2 c κs = tt
+
+add-slots : tie.Need-add-slots Inv-loop μ-loop
+add-slots c =
+    let at-fresh = c .before .before .before .before in
+    let start = at-fresh .before .before .before in
+    omega (
+      arith,
+      start .pre .slots,
+      start .pre .rows,
+      enter-long _ (start .args .slots .now) _ (at-fresh .fresh .result) _ _
+          (c .before .before .before .loop .inv .1),
+      start .good,
+    )
+
+mul-slots : tie.Need-mul-slots Inv-loop μ-loop
+mul-slots c =
+    let at-fresh = c .before .before .before .before in
+    let start = at-fresh .before .before .before in
+    omega (
+      arith,
+      start .pre .slots,
+      start .pre .rows,
+      enter-long _ (start .args .slots .now) _ (at-fresh .fresh .result) _ _
+          (c .before .before .before .loop .inv .1),
+      start .good,
+    )
 
 slice-write-slots-2 : tie.Need-slice-write-slots-2 Inv-loop μ-loop
 slice-write-slots-2 c =
+    let at-fresh = c .before .before .before .before in
+    let start = at-fresh .before .before .before in
     omega (
       arith,
-      c .before .before .before .pre .slots,
-      c .before .before .before .pre .rows,
-      enter-long _ (c .before .before .before .args .slots .now) _ (c .before .before .before .args .owner) _
-          _
-          (c .before .before .loop .inv .1),
-      c .before .before .before .good,
+      start .pre .slots,
+      start .pre .rows,
+      enter-long _ (start .args .slots .now) _ (at-fresh .fresh .result) _ _
+          (c .before .before .before .loop .inv .1),
+      start .good,
     )
 
 add-i : tie.Need-add-i Inv-loop μ-loop
-add-i c = omega (
-  arith,
-  c .before .before .before .pre .slots,
-  c .before .before .before .pre .rows,
-  enter-long _ (c .before .before .before .args .slots .now) _ (c .before .before .before .args .owner) _ _
-      (c .before .before .loop .inv .1),
-  c .before .before .before .good,
-)
+add-i c =
+    let at-fresh = c .before .before .before .before in
+    let start = at-fresh .before .before .before in
+    omega (
+      arith,
+      start .pre .slots,
+      start .pre .rows,
+      enter-long _ (start .args .slots .now) _ (at-fresh .fresh .result) _ _
+          (c .before .before .before .loop .inv .1),
+      start .good,
+    )
 
 loop-less : tie.Need-loop-less Inv-loop μ-loop
 loop-less c = omega arith
 
 loop-again : tie.Need-loop-again Inv-loop μ-loop
-loop-again c = (
-  omega arith,
-  enter-step (c .before .before .loop .inv .1)
-      (omega (
-        arith,
-        c .before .before .before .pre .slots,
-        enter-long _ (c .before .before .before .args .slots .now) _ (c .before .before .before .args .owner)
-            _ _
-            (c .before .before .loop .inv .1),
-        c .before .before .loop .inv .1 .long,
-      )) _ refl,
-)
+loop-again c =
+    let at-fresh = c .before .before .before .before in
+    let start = at-fresh .before .before .before in (
+      omega arith,
+      enter-step (c .before .before .before .loop .inv .1)
+          (omega (
+            arith,
+            start .pre .slots,
+            enter-long _ (start .args .slots .now) _ (at-fresh .fresh .result) _ _
+                (c .before .before .before .loop .inv .1),
+            c .before .before .before .loop .inv .1 .long,
+          )) _
+          (c .fresh2 .ensures),
+    )
 
 same-length : tie.Need-same-length Inv-loop μ-loop
-same-length c = enter-long _ (c .before .before .args .slots .now) _ (c .before .before .args .owner) _ _
-    (c .before .loop .inv .1)
+same-length c =
+    let start = c .before .before .before .before .before in
+    enter-long _ (start .args .slots .now) _ (c .before .before .fresh .result) _ _ (c .before .loop .inv .1)
 
 returns : tie.Need-returns Inv-loop μ-loop
-returns c = enter-end _ _ _ _ _ _ _ (c .loop-test .left) (omega (arith, c .before .before .pre .slots))
-    (c .before .loop .inv .1)
+returns c =
+    let start = c .before .before .before .before .before in
+    enter-end _ _ _ _ _ _ _ _ (c .before .before .fresh .ensures) (c .loop-test .left)
+    (omega (arith, start .pre .slots)) (c .before .loop .inv .1)
 
 pub enter-spec : {M : Type 1} → statement M
 enter-spec =
@@ -143,15 +171,17 @@ enter-spec =
     (tie.spec
     Inv-loop
     μ-loop
+    fresh-requires
     slice-write-slots
     loop-holds
+    add-fresh
+    mul-fresh
+    add-fresh-2
+    mul-fresh-2
+    shared-slice-read-fresh
+    fresh-requires-2
     add-slots
     mul-slots
-    add-slots-2
-    mul-slots-2
-    shared-slice-read-slots
-    add-slots-3
-    mul-slots-3
     slice-write-slots-2
     add-i
     loop-less

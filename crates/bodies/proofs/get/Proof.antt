@@ -53,17 +53,11 @@ returns-2 c =
     got-missing _ _ _ _ _ _ _ (at-t .t .given .1) _ (c .before .before .before .field-type .ensures) _
     (c .before .enum-told .given .1) (c .refused .ensures)
 
-cast-class-at : tie.Need-cast-class-at
-cast-class-at c =
-    let at-t = c .before .before .before .before .before .before in
+note-requires : tie.Need-note-requires
+note-requires c κs =
+    let at-t = c .before .before .before .before .before .before .before in
     let start = at-t .before .before .before .before .before in
-    omega (arith, start .pre .field (at-t .t .given .0 .0) (at-t .t .given .1) .1)
-
-mul-class-at : tie.Need-mul-class-at
-mul-class-at c = search needs
-
-slice-write-class-at : tie.Need-slice-write-class-at
-slice-write-class-at c = search needs
+    start .pre .field _ (at-t .t .given .1) .1
 
 typing-of-requires : tie.Need-typing-of-requires
 typing-of-requires c κs = search needs
@@ -73,11 +67,12 @@ same-length c = search needs
 
 returns-3 : tie.Need-returns-3
 returns-3 c =
-    let at-field-type = c .before .before .before .before in
+    let at-sought = c .before .before .before .before .before .before in
+    let at-field-type = at-sought .before .before in
     let at-t = at-field-type .before .before .before in
-    got-found _ _ _ _ _ _ _ (at-t .t .given .1) _ (at-field-type .field-type .ensures)
-    (c .before .before .sought .given .0 .0 .number) _ (c .before .before .sought .given .1)
-    (c .typing-of .ensures)
+    got-found _ _ _ _ _ _ _ (at-t .t .given .1) _ (at-field-type .field-type .ensures) _
+    (at-sought .sought .given .0 .0 .number) _
+    (at-sought .sought .given .1) (c .typing-of .ensures) (c .before .before .before .note .ensures)
 
 pub get-spec : {M : Type 1} → statement M
 get-spec =
@@ -96,9 +91,7 @@ get-spec =
     enum-told
     refused-requires
     returns-2
-    cast-class-at
-    mul-class-at
-    slice-write-class-at
+    note-requires
     typing-of-requires
     same-length
     returns-3)

@@ -1,12 +1,12 @@
 -- `bodies::invoke` meets its contract. Assumes nothing.
 use mathlib.Core.Path.{refl, sym, ap, _∙_}
-use Prim.Native.Nat.{ℕ, _+_, _-_, _*_}
+use Prim.Native.Nat.{ℕ, _+_, _-_, _*_, _<_}
 use borrow.Author.Needs.{needs}
 use native.Mathlib.Omega.{arith}
 use Rattle.bodies.proofs.Laws.{not-yes, not-no}
-use lib.ListN.{set}
-use Rattle.bodies.specs.Acts.{no-class, no-method, other-count, unfit, done}
-use Rattle.bodies.proofs.ActLaws.{no-class-of, place-none, place-some, run-same, count-same, done-out}
+use lib.ListN.{length, set}
+use Rattle.bodies.specs.Acts.{method-line, no-class, no-method, other-count, unfit, done}
+use Rattle.bodies.proofs.ActLaws.{no-class-of, place-none, place-some, called-method, done-out}
 use Rattle.bodies.proofs.invoke.Statement.{statement}
 use Rattle.bodies.proofs.invoke.Tie as tie
 
@@ -18,13 +18,13 @@ refused-requires c κs = search needs
 
 returns : tie.Need-returns
 returns c =
-    let start = c .before .before .before .before .before .before .before in
+    let start = c .before .before .before .before .before .before .before .before .before in
     no-class (no-class-of (start .args .receiver .typing) (c .before .match .keys2)) (c .refused .ensures)
     (record { slots-same = refl; classes-same = refl })
 
 apply-requires : tie.Need-apply-requires
 apply-requires c κs =
-    let start = c .before .before .before .before .before .before .before .before in
+    let start = c .before .before .before .before .before .before .before .before .before .before in
     let w = start .pre .receiver _ (c .before .t .given .1) in (w .inside, w .root)
 
 mul-name : tie.Need-mul-name
@@ -57,7 +57,7 @@ shared-slice-read-n c = search needs
 cast-n : tie.Need-cast-n
 cast-n c =
     let at-shared-slice-known =
-    c .before .before .before .before .before .before .before .before .before .before in
+    c .before .before .before .before .before .before .before .before .before .before .before .before in
     let start = at-shared-slice-known .before in
     omega (arith, at-shared-slice-known .shared-slice-known .given (start .args .at * 4 + 2))
 
@@ -67,7 +67,7 @@ add-entry c = search needs
 entry-requires : tie.Need-entry-requires
 entry-requires c κs =
     let at-t = c .before .before .before .before in
-    let start = at-t .before .before .before .before .before .before .before in
+    let start = at-t .before .before .before .before .before .before .before .before .before in
     omega (
       arith,
       c .before .before .apply .ensures,
@@ -89,20 +89,74 @@ returns-2 c =
     (place-none _ _ _ _ _ _ (at-apply .apply .ensures) (c .before .before .entry .ensures)
     (c .before .if1 .taken)) (c .refused2 .ensures) (record { slots-same = refl; classes-same = refl })
 
-sub-row : tie.Need-sub-row
-sub-row c = search needs
-
-add-count-parameters : tie.Need-add-count-parameters
-add-count-parameters c = search needs
-
-count-parameters-requires : tie.Need-count-parameters-requires
-count-parameters-requires c κs =
+-- Where the table leads to a method: what is known of its number.
+in-methods : (c : tie.Else1)
+    → (c .before .entry .result - 1) * 4 + 2
+    < length (c .before .before .before .before .before .before .before .before .before .before .before
+    .before .before .before .before .args .methods .now)
+in-methods c =
     let at-apply = c .before .before .before .before in
     let at-t = at-apply .before .before in
-    let start = at-t .before .before .before .before .before .before .before in
-    start .pre .method _ _ (at-t .t .given .1)
-    (place-some _ _ _ _ _ _ (at-apply .apply .ensures) (c .before .entry .ensures)
-    (c .if1 .left)) .parameters
+    let start = at-t .before .before .before .before .before .before .before .before .before in
+    called-method (start .pre) (at-t .t .given .1) (at-apply .apply .ensures) (c .before .entry .ensures)
+    (c .if1 .left) .inside
+
+in-effects : (c : tie.Else1)
+    → c .before .entry .result - 1
+    < length (c .before .before .before .before .before .before .before .before .before .before .before
+    .before .before .before .before .args .effects .now)
+in-effects c =
+    let at-apply = c .before .before .before .before in
+    let at-t = at-apply .before .before in
+    let start = at-t .before .before .before .before .before .before .before .before .before in
+    called-method (start .pre) (at-t .t .given .1) (at-apply .apply .ensures) (c .before .entry .ensures)
+    (c .if1 .left) .effect
+
+on-line : (c : tie.Else1)
+    → method-line (c .before .before .before .before .before .before .before .before .before .before .before
+    .before .before .before .before .args .methods .now) (c .before .entry .result - 1) * 4 + 3
+    < length (c .before .before .before .before .before .before .before .before .before .before .before
+    .before .before .before .before .args .rows .now)
+on-line c =
+    let at-apply = c .before .before .before .before in
+    let at-t = at-apply .before .before in
+    let start = at-t .before .before .before .before .before .before .before .before .before in
+    called-method (start .pre) (at-t .t .given .1) (at-apply .apply .ensures) (c .before .entry .ensures)
+    (c .if1 .left) .line
+
+sub-number : tie.Need-sub-number
+sub-number c = search needs
+
+mul-parameters : tie.Need-mul-parameters
+mul-parameters c =
+    let start = c .before .before .before .before .before .before .before .before .before .before .before
+    .before .before .before .before in
+    omega (arith, in-methods c, start .good)
+
+add-parameters : tie.Need-add-parameters
+add-parameters c =
+    let start = c .before .before .before .before .before .before .before .before .before .before .before
+    .before .before .before .before in
+    omega (arith, in-methods c, start .good)
+
+mul-parameters-2 : tie.Need-mul-parameters-2
+mul-parameters-2 c =
+    let start = c .before .before .before .before .before .before .before .before .before .before .before
+    .before .before .before .before in
+    omega (arith, in-methods c, start .good)
+
+shared-slice-read-parameters : tie.Need-shared-slice-read-parameters
+shared-slice-read-parameters c = omega (arith, in-methods (c .before))
+
+cast-parameters : tie.Need-cast-parameters
+cast-parameters c =
+    let at-shared-slice-known4 =
+    c .before .before .before .before .before .before .before .before .before .before .before .before in
+    omega (
+      arith,
+      at-shared-slice-known4 .shared-slice-known4 .given
+          ((c .before .before .entry .result - 1) * 4 + 2),
+    )
 
 refused-requires-3 : tie.Need-refused-requires-3
 refused-requires-3 c κs = search needs
@@ -112,27 +166,48 @@ returns-3 c =
     let at-entry = c .before .before .before .before in
     let at-apply = at-entry .before .before .before in
     let at-t = at-apply .before .before in
-    other-count _ _ _ (at-t .t .given .1)
+    other-count _ _ (at-t .t .given .1)
     (place-some _ _ _ _ _ _ (at-apply .apply .ensures) (at-entry .entry .ensures)
-    (c .before .before .before .if1 .left)) (c .before .before .count-parameters .ensures)
-    (c .before .if2 .taken) (c .refused3 .ensures) (record { slots-same = refl; classes-same = refl })
+    (c .before .before .before .if1 .left)) (c .before .if2 .taken) (c .refused3 .ensures)
+    (record { slots-same = refl; classes-same = refl })
+
+mul-row : tie.Need-mul-row
+mul-row c =
+    let start = c .before .before .before .before .before .before .before .before .before .before .before
+    .before .before .before .before .before .before in
+    omega (arith, in-methods (c .before .before), start .good)
+
+mul-row-2 : tie.Need-mul-row-2
+mul-row-2 c =
+    let start = c .before .before .before .before .before .before .before .before .before .before .before
+    .before .before .before .before .before .before in
+    omega (arith, in-methods (c .before .before), start .good)
+
+shared-slice-read-row : tie.Need-shared-slice-read-row
+shared-slice-read-row c = omega (arith, in-methods (c .before .before .before))
+
+cast-row : tie.Need-cast-row
+cast-row c =
+    let at-entry = c .before .before .before .before in
+    let at-shared-slice-known4 = at-entry .before .before .before .before .before .before .before .before
+    .before .before in
+    omega (arith, at-shared-slice-known4 .shared-slice-known4 .given ((at-entry .entry .result - 1) * 4))
 
 add-are-fitting : tie.Need-add-are-fitting
-add-are-fitting c = search needs
+add-are-fitting c =
+    let start = c .before .before .before .before .before .before .before .before .before .before .before
+    .before .before .before .before .before .before .before .before in
+    omega (arith, on-line (c .before .before .before .before), start .good)
 
 are-fitting-requires : tie.Need-are-fitting-requires
 are-fitting-requires c κs =
-    let at-entry = c .before .before .before .before in
+    let at-if1 = c .before .before .before .before in
+    let at-entry = at-if1 .before in
     let at-apply = at-entry .before .before .before in
     let at-t = at-apply .before .before in
-    let start = at-t .before .before .before .before .before .before .before in
-    start .pre .method _ _ (at-t .t .given .1)
-    (place-some _ _ _ _ _ _ (at-apply .apply .ensures) (at-entry .entry .ensures)
-    (c .before .before .before .if1 .left)) .fitting
-    (run-same (start .pre .method _ _ (at-t .t .given .1)
-    (place-some _ _ _ _ _ _ (at-apply .apply .ensures) (at-entry .entry .ensures)
-    (c .before .before .before .if1 .left)) .parameters) _ _
-    (c .before .before .count-parameters .ensures) (c .before .if2 .left))
+    let start = at-t .before .before .before .before .before .before .before .before .before in
+    called-method (start .pre) (at-t .t .given .1) (at-apply .apply .ensures) (at-entry .entry .ensures)
+    (at-if1 .if1 .left) .fitting (c .before .before .if2 .left)
 
 refused-requires-4 : tie.Need-refused-requires-4
 refused-requires-4 c κs = search needs
@@ -141,93 +216,81 @@ same-length : tie.Need-same-length
 same-length c = search needs
 
 returns-4 : tie.Need-returns-4
-returns-4 c = unfit _ _ (c .before .before .before .before .before .before .before .before .before .before
-    .before .before .t .given .1)
-    (place-some _ _ _ _ _ _
-    (c .before .before .before .before .before .before .before .before .before .before .apply .ensures)
-    (c .before .before .before .before .before .before .before .entry .ensures)
-    (c .before .before .before .before .before .before .if1 .left))
-    (count-same _ _ (c .before .before .before .before .before .count-parameters .ensures)
-    (c .before .before .before .before .if2 .left))
-    (sym (c .before .before .are-fitting .ensures) ∙ not-yes _ (c .before .if3 .taken))
-    (c .refused4 .ensures) (record { slots-same = refl; classes-same = refl })
-
-add-effect-at : tie.Need-add-effect-at
-add-effect-at c = search needs
-
-add-effect-at-2 : tie.Need-add-effect-at-2
-add-effect-at-2 c =
-    let at-count-parameters = c .before .before .before .before in
-    let at-if1 = at-count-parameters .before in
+returns-4 c =
+    let at-if2 = c .before .before .before .before .before in
+    let at-if1 = at-if2 .before .before in
     let at-entry = at-if1 .before in
     let at-apply = at-entry .before .before .before in
     let at-t = at-apply .before .before in
-    let start = at-t .before .before .before .before .before .before .before in
-    omega (
-      arith,
-      start .pre .method _ _ (at-t .t .given .1)
-          (place-some _ _ _ _ _ _ (at-apply .apply .ensures) (at-entry .entry .ensures)
-          (at-if1 .if1 .left)) .effects
-          (run-same (start .pre .method _ _ (at-t .t .given .1)
-          (place-some _ _ _ _ _ _ (at-apply .apply .ensures) (at-entry .entry .ensures)
-          (at-if1 .if1 .left)) .parameters) _ _ (at-count-parameters .count-parameters .ensures)
-          (c .before .before .before .if2 .left)) .lines .inside,
-    )
+    unfit _ _ (at-t .t .given .1)
+    (place-some _ _ _ _ _ _ (at-apply .apply .ensures) (at-entry .entry .ensures) (at-if1 .if1 .left))
+    (at-if2 .if2 .left)
+    (sym (c .before .before .are-fitting .ensures) ∙ not-yes _ (c .before .if3 .taken)) (c .refused4 .ensures)
+    (record { slots-same = refl; classes-same = refl })
 
-effect-at-requires : tie.Need-effect-at-requires
-effect-at-requires c κs =
-    let at-count-parameters = c .before .before .before .before in
-    let at-if1 = at-count-parameters .before in
-    let at-entry = at-if1 .before in
-    let at-apply = at-entry .before .before .before in
-    let at-t = at-apply .before .before in
-    let start = at-t .before .before .before .before .before .before .before in
-    start .pre .method _ _ (at-t .t .given .1)
-    (place-some _ _ _ _ _ _ (at-apply .apply .ensures) (at-entry .entry .ensures)
-    (at-if1 .if1 .left)) .effects
-    (run-same (start .pre .method _ _ (at-t .t .given .1)
-    (place-some _ _ _ _ _ _ (at-apply .apply .ensures) (at-entry .entry .ensures)
-    (at-if1 .if1 .left)) .parameters) _ _ (at-count-parameters .count-parameters .ensures)
-    (c .before .before .before .if2 .left))
+mul-own : tie.Need-mul-own
+mul-own c =
+    let start = c .before .before .before .before .before .before .before .before .before .before .before
+    .before .before .before .before .before .before .before .before .before .before in
+    omega (arith, in-effects (c .before .before .before .before .before .before), start .good)
+
+shared-slice-read-own : tie.Need-shared-slice-read-own
+shared-slice-read-own c =
+    in-effects (c .before .before .before .before .before .before .before)
 
 apply-all-requires : tie.Need-apply-all-requires
 apply-all-requires c κs = search needs
 
-cast-class-at : tie.Need-cast-class-at
-cast-class-at c =
+note-requires : tie.Need-note-requires
+note-requires c κs =
     let at-apply = c .before .before .before .before .before .before .before .before .before .before .before
-    .before .before .before in
+    .before .before .before .before .before in
     let at-t = at-apply .before .before in
-    let start = at-t .before .before .before .before .before .before .before in
+    let start = at-t .before .before .before .before .before .before .before .before .before in
     omega (arith, at-apply .apply .ensures, start .pre .receiver _ (at-t .t .given .1) .low)
 
-mul-class-at : tie.Need-mul-class-at
-mul-class-at c = search needs
-
-slice-write-class-at : tie.Need-slice-write-class-at
-slice-write-class-at c = search needs
-
 mul-from-number : tie.Need-mul-from-number
-mul-from-number c = search needs
+mul-from-number c =
+    let start = c .before .before .before .before .before .before .before .before .before .before .before
+    .before .before .before .before .before .before .before .before .before .before .before .before
+    .before .before .before .before .before .before .before in
+    omega (
+      arith,
+      on-line (c .before .before .before .before .before .before .before .before .before .before
+          .before .before .before .before .before),
+      start .good,
+    )
 
 add-from-number : tie.Need-add-from-number
-add-from-number c = search needs
+add-from-number c =
+    let start = c .before .before .before .before .before .before .before .before .before .before .before
+    .before .before .before .before .before .before .before .before .before .before .before .before
+    .before .before .before .before .before .before .before in
+    omega (
+      arith,
+      on-line (c .before .before .before .before .before .before .before .before .before .before
+          .before .before .before .before .before),
+      start .good,
+    )
 
 mul-from-number-2 : tie.Need-mul-from-number-2
-mul-from-number-2 c = search needs
+mul-from-number-2 c =
+    let start = c .before .before .before .before .before .before .before .before .before .before .before
+    .before .before .before .before .before .before .before .before .before .before .before .before
+    .before .before .before .before .before .before .before in
+    omega (
+      arith,
+      on-line (c .before .before .before .before .before .before .before .before .before .before
+          .before .before .before .before .before),
+      start .good,
+    )
 
 shared-slice-read-from-number : tie.Need-shared-slice-read-from-number
 shared-slice-read-from-number c =
-    let at-if1 = c .before .before .before .before .before .before .before .before .before .before .before in
-    let at-entry = at-if1 .before in
-    let at-apply = at-entry .before .before .before in
-    let at-t = at-apply .before .before in
-    let start = at-t .before .before .before .before .before .before .before in
     omega (
       arith,
-      start .pre .method _ _ (at-t .t .given .1)
-          (place-some _ _ _ _ _ _ (at-apply .apply .ensures) (at-entry .entry .ensures)
-          (at-if1 .if1 .left)) .line,
+      on-line (c .before .before .before .before .before .before .before .before .before .before
+          .before .before .before .before .before .before),
     )
 
 from-number-requires : tie.Need-from-number-requires
@@ -243,39 +306,28 @@ same-length-3 : tie.Need-same-length-3
 same-length-3 c = search needs
 
 returns-5 : tie.Need-returns-5
-returns-5 c = done _ _ _ (c .before .before .before .before .before .before .before .before .before .before
-    .before .before .before .before .before .before .before .before .before .before .t .given .1)
-    (place-some _ _ _ _ _ _
-    (c .before .before .before .before .before .before .before .before .before .before .before .before
-    .before .before .before .before .before .before .apply .ensures)
-    (c .before .before .before .before .before .before .before .before .before .before .before .before
-    .before .before .before .entry .ensures)
-    (c .before .before .before .before .before .before .before .before .before .before .before .before
-    .before .before .if1 .left))
-    (count-same _ _ (c .before .before .before .before .before .before .before .before .before .before .before
-    .before .before .count-parameters .ensures)
-    (c .before .before .before .before .before .before .before .before .before .before .before
-    .before .if2 .left))
-    (sym (c .before .before .before .before .before .before .before .before .before
-    .before .are-fitting .ensures)
-    ∙ not-no _ (c .before .before .before .before .before .before .before .before .before .if3 .left))
-    (c .before .before .before .before .before .before .before .before .effect-at .ensures)
+returns-5 c =
+    let at-note = c .before .before .before .before .before .before in
+    let at-apply-all = at-note .before .before .before .before in
+    let at-if3 = at-apply-all .before .before .before in
+    let at-are-fitting = at-if3 .before in
+    let at-if2 = at-are-fitting .before .before .before in
+    let at-if1 = at-if2 .before .before in
+    let at-entry = at-if1 .before in
+    let at-apply = at-entry .before .before .before in
+    let at-t = at-apply .before .before in
+    let start = at-t .before .before .before .before .before .before .before .before .before in
+    done _ _ (at-t .t .given .1)
+    (place-some _ _ _ _ _ _ (at-apply .apply .ensures) (at-entry .entry .ensures) (at-if1 .if1 .left))
+    (at-if2 .if2 .left)
+    (sym (at-are-fitting .are-fitting .ensures) ∙ not-no _ (at-if3 .if3 .left))
     (record {
-      out = done-out (c .before .before .before .before .before .before .before .before .before .before
-          .before .before .before .before .before .before .before .before .before .before .before .before
-          .before .before .before .before .before .args .rows .now)
-          (c .before .before .before .before .before .before .before .before .before .before .before .before
-          .before .before .before .entry .result - 1) _ _ _ _ _
+      out = done-out (start .args .rows .now)
+          (method-line (start .args .methods .now) (at-entry .entry .result - 1)) _ _ _ _ _
           (c .before .before .from-number .ensures) (c .before .typing-of .ensures);
-      slots = c .before .before .before .before .before .before .apply-all .ensures;
-      noted = ap (λ (x : ℕ). set (c .before .before .before .before .before .before .before .before .before
-          .before .before .before .before .before .before .before .before .before .before .before .before
-          .before .before .before .before .before .before .args .class-at .now)
-          (c .before .before .before .before .before .before .before .before .before .before .before .before
-          .before .before .before .before .before .before .before .before .before .before .before .before
-          .before .before .before .args .at) x)
-          (c .before .before .before .before .before .before .before .before .before .before .before .before
-          .before .before .before .before .before .before .apply .ensures);
+      slots = at-apply-all .apply-all .ensures;
+      noted = at-note .note .ensures
+          ∙ ap (λ (x : ℕ). set (start .args .class-at .now) (start .args .at) x) (at-apply .apply .ensures);
     })
 
 pub invoke-spec : {M : Type 1} → statement M
@@ -301,23 +353,27 @@ invoke-spec =
     cast-stored
     refused-requires-2
     returns-2
-    sub-row
-    add-count-parameters
-    count-parameters-requires
+    sub-number
+    mul-parameters
+    add-parameters
+    mul-parameters-2
+    shared-slice-read-parameters
+    cast-parameters
     refused-requires-3
     returns-3
+    mul-row
+    mul-row-2
+    shared-slice-read-row
+    cast-row
     add-are-fitting
     are-fitting-requires
     refused-requires-4
     same-length
     returns-4
-    add-effect-at
-    add-effect-at-2
-    effect-at-requires
+    mul-own
+    shared-slice-read-own
     apply-all-requires
-    cast-class-at
-    mul-class-at
-    slice-write-class-at
+    note-requires
     mul-from-number
     add-from-number
     mul-from-number-2

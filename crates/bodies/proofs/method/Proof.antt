@@ -1,50 +1,143 @@
 -- `bodies::method` meets its contract. Assumes nothing.
+use Prim.Native.Nat.{_+_, _*_}
 use native.Mathlib.Omega.{arith}
 use borrow.Author.Needs.{needs}
 use Rattle.bodies.proofs.Laws.{not-yes, not-no}
-use Rattle.bodies.proofs.Methods.{facts-runs, facts-block, facts-enter, facts-few, facts-low}
-use Rattle.bodies.proofs.Methods.{facts-line, facts-some, facts-pre, body-typed, body-case, result-low}
-use Rattle.bodies.proofs.Methods.{method-refused, method-unfit, method-wide, method-accepted}
+use Rattle.bodies.proofs.Methods.{in-methods, in-effects, facts-enter, facts-few, facts-low}
+use Rattle.bodies.proofs.Methods.{facts-line}
+use Rattle.bodies.proofs.Methods.{facts-pre, body-typed, body-case, result-low, method-refused}
+use Rattle.bodies.proofs.Methods.{method-unfit, method-wide, method-accepted}
 use Rattle.bodies.proofs.method.Statement.{statement}
 use Rattle.bodies.proofs.method.Tie as tie
 
-add-count-parameters : tie.Need-add-count-parameters
-add-count-parameters c = search needs
+mul-at : tie.Need-mul-at
+mul-at c =
+    let start = c .before .before .before .before .before .before .before .before in
+    omega (arith, in-methods (start .pre .facts), start .good)
 
-count-parameters-requires : tie.Need-count-parameters-requires
-count-parameters-requires c κs = facts-runs (c .before .before .before .before .before .before .pre .facts)
+mul-at-2 : tie.Need-mul-at-2
+mul-at-2 c =
+    let start = c .before .before .before .before .before .before .before .before in
+    omega (arith, in-methods (start .pre .facts), start .good)
 
-body-row-requires : tie.Need-body-row-requires
-body-row-requires c κs = facts-block (c .before .before .before .before .before .before .before .pre .facts)
+shared-slice-read-at : tie.Need-shared-slice-read-at
+shared-slice-read-at c =
+    let start = c .before .before .before .before .before .before .before .before .before in
+    omega (arith, in-methods (start .pre .facts))
+
+cast-at : tie.Need-cast-at
+cast-at c =
+    let at-shared-slice-known5 = c .before .before .before .before in
+    let start = at-shared-slice-known5 .before .before .before .before .before in
+    omega (arith, at-shared-slice-known5 .shared-slice-known5 .given (start .args .number * 4))
+
+mul-owner : tie.Need-mul-owner
+mul-owner c =
+    let start = c .before .before .before .before .before .before .before .before .before in
+    omega (arith, in-methods (start .pre .facts), start .good)
+
+add-owner : tie.Need-add-owner
+add-owner c =
+    let start = c .before .before .before .before .before .before .before .before .before in
+    omega (arith, in-methods (start .pre .facts), start .good)
+
+mul-owner-2 : tie.Need-mul-owner-2
+mul-owner-2 c =
+    let start = c .before .before .before .before .before .before .before .before .before in
+    omega (arith, in-methods (start .pre .facts), start .good)
+
+shared-slice-read-owner : tie.Need-shared-slice-read-owner
+shared-slice-read-owner c =
+    let start = c .before .before .before .before .before .before .before .before .before .before in
+    omega (arith, in-methods (start .pre .facts))
+
+cast-owner : tie.Need-cast-owner
+cast-owner c =
+    let at-shared-slice-known5 = c .before .before .before .before .before in
+    let start = at-shared-slice-known5 .before .before .before .before .before in
+    omega (arith, at-shared-slice-known5 .shared-slice-known5 .given (start .args .number * 4 + 1))
+
+mul-n : tie.Need-mul-n
+mul-n c =
+    let start = c .before .before .before .before .before .before .before .before .before .before in
+    omega (arith, in-methods (start .pre .facts), start .good)
+
+add-n : tie.Need-add-n
+add-n c =
+    let start = c .before .before .before .before .before .before .before .before .before .before in
+    omega (arith, in-methods (start .pre .facts), start .good)
+
+mul-n-2 : tie.Need-mul-n-2
+mul-n-2 c =
+    let start = c .before .before .before .before .before .before .before .before .before .before in
+    omega (arith, in-methods (start .pre .facts), start .good)
+
+shared-slice-read-n : tie.Need-shared-slice-read-n
+shared-slice-read-n c =
+    let start = c .before .before .before .before .before .before .before .before .before .before .before in
+    omega (arith, in-methods (start .pre .facts))
+
+cast-n : tie.Need-cast-n
+cast-n c =
+    let at-shared-slice-known5 = c .before .before .before .before .before .before in
+    let start = at-shared-slice-known5 .before .before .before .before .before in
+    omega (arith, at-shared-slice-known5 .shared-slice-known5 .given (start .args .number * 4 + 2))
+
+mul-body : tie.Need-mul-body
+mul-body c =
+    let start = c .before .before .before .before .before .before .before .before .before .before .before in
+    omega (arith, in-methods (start .pre .facts), start .good)
+
+add-body : tie.Need-add-body
+add-body c =
+    let start = c .before .before .before .before .before .before .before .before .before .before .before in
+    omega (arith, in-methods (start .pre .facts), start .good)
+
+mul-body-2 : tie.Need-mul-body-2
+mul-body-2 c =
+    let start = c .before .before .before .before .before .before .before .before .before .before .before in
+    omega (arith, in-methods (start .pre .facts), start .good)
+
+shared-slice-read-body : tie.Need-shared-slice-read-body
+shared-slice-read-body c =
+    let start = c .before .before .before .before .before .before .before .before .before .before .before
+    .before in
+    omega (arith, in-methods (start .pre .facts))
+
+cast-body : tie.Need-cast-body
+cast-body c =
+    let at-shared-slice-known5 = c .before .before .before .before .before .before .before in
+    let start = at-shared-slice-known5 .before .before .before .before .before in
+    omega (arith, at-shared-slice-known5 .shared-slice-known5 .given (start .args .number * 4 + 3))
 
 add-enter : tie.Need-add-enter
-add-enter c = search needs
+add-enter c =
+    let start = c .before .before .before .before .before .before .before .before .before .before .before
+    .before .before in
+    omega (
+      arith,
+      facts-line (start .pre .facts) (start .pre .space),
+      facts-low (start .pre .facts) (start .pre .space),
+    )
 
 enter-requires : tie.Need-enter-requires
 enter-requires c κs =
-    let start = c .before .before .before .before .before .before .before .before .before in
-    facts-enter (start .pre .facts) (start .pre .space) _ _ (c .before .before .count-parameters .ensures)
-    (c .before .body-row .ensures)
+    let start = c .before .before .before .before .before .before .before .before .before .before .before
+    .before .before in
+    facts-enter (start .pre .facts) (start .pre .space)
 
-add-expression : tie.Need-add-expression
-add-expression c =
-    let at-body-row = c .before .before .before .before .before .before in
-    let at-count-parameters = at-body-row .before in
-    let start = at-count-parameters .before .before .before .before .before .before .before in
-    omega (
-      arith,
-      facts-few (start .pre .facts) (start .pre .space) _ _
-          (at-count-parameters .count-parameters .ensures) (at-body-row .body-row .ensures),
-    )
+add-from-number : tie.Need-add-from-number
+add-from-number c =
+    let start = c .before .before .before .before .before .before .before .before .before .before .before
+    .before .before .before .before .before in
+    omega (arith, facts-few (start .pre .facts) (start .pre .space))
 
 expression-requires : tie.Need-expression-requires
 expression-requires c κs =
     let at-enter = c .before .before .before .before in
-    let at-body-row = at-enter .before .before in
-    let at-count-parameters = at-body-row .before in
-    let start = at-count-parameters .before .before .before .before .before .before .before in
-    facts-pre (start .pre .facts) (start .pre .space) _ _ (at-count-parameters .count-parameters .ensures)
-    (at-body-row .body-row .ensures) (at-enter .enter .ensures)
+    let start = at-enter .before .before .before .before .before .before .before .before .before .before
+    .before .before .before .before in
+    facts-pre (start .pre .facts) (start .pre .space) (at-enter .enter .ensures)
 
 enum-known-t : tie.Need-enum-known-t
 enum-known-t c = search needs
@@ -59,82 +152,51 @@ returns : tie.Need-returns
 returns c =
     let at-expression = c .before .before .before .before .before .before .before in
     let at-enter = at-expression .before .before .before .before .before in
-    let at-body-row = at-enter .before .before in
-    let at-count-parameters = at-body-row .before in
-    method-refused (body-typed _ _ (at-count-parameters .count-parameters .ensures)
-    (at-body-row .body-row .ensures) (at-enter .enter .ensures) (at-expression .expression .ensures)) _ _
+    method-refused (body-typed (at-enter .enter .ensures) (at-expression .expression .ensures)) _ _
     (c .before .t .given .1)
 
 mul-from-number : tie.Need-mul-from-number
 mul-from-number c =
-    let at-body-row = c .before .before .before .before .before .before .before .before .before .before
-    .before .before in
-    let at-count-parameters = at-body-row .before in
-    let start = at-count-parameters .before .before .before .before .before .before .before in
+    let start = c .before .before .before .before .before .before .before .before .before .before .before
+    .before .before .before .before .before .before .before .before .before .before .before .before
+    .before in
     omega (
       arith,
-      facts-line (start .pre .facts) (start .pre .space) _ _
-          (at-count-parameters .count-parameters .ensures) (at-body-row .body-row .ensures),
-      facts-low (start .pre .facts) (start .pre .space) _ _ (at-count-parameters .count-parameters .ensures)
-          (at-body-row .body-row .ensures),
-      facts-few (start .pre .facts) (start .pre .space) _ _ (at-count-parameters .count-parameters .ensures)
-          (at-body-row .body-row .ensures),
-      facts-some (start .pre .facts) (start .pre .space) _ _
-          (at-count-parameters .count-parameters .ensures) (at-body-row .body-row .ensures) .lines .inside,
+      facts-line (start .pre .facts) (start .pre .space),
+      facts-low (start .pre .facts) (start .pre .space),
     )
 
-add-from-number : tie.Need-add-from-number
-add-from-number c =
-    let at-body-row = c .before .before .before .before .before .before .before .before .before .before
-    .before .before in
-    let at-count-parameters = at-body-row .before in
-    let start = at-count-parameters .before .before .before .before .before .before .before in
+add-from-number-2 : tie.Need-add-from-number-2
+add-from-number-2 c =
+    let start = c .before .before .before .before .before .before .before .before .before .before .before
+    .before .before .before .before .before .before .before .before .before .before .before .before
+    .before in
     omega (
       arith,
-      facts-line (start .pre .facts) (start .pre .space) _ _
-          (at-count-parameters .count-parameters .ensures) (at-body-row .body-row .ensures),
-      facts-low (start .pre .facts) (start .pre .space) _ _ (at-count-parameters .count-parameters .ensures)
-          (at-body-row .body-row .ensures),
-      facts-few (start .pre .facts) (start .pre .space) _ _ (at-count-parameters .count-parameters .ensures)
-          (at-body-row .body-row .ensures),
-      facts-some (start .pre .facts) (start .pre .space) _ _
-          (at-count-parameters .count-parameters .ensures) (at-body-row .body-row .ensures) .lines .inside,
+      facts-line (start .pre .facts) (start .pre .space),
+      facts-low (start .pre .facts) (start .pre .space),
     )
 
 mul-from-number-2 : tie.Need-mul-from-number-2
 mul-from-number-2 c =
-    let at-body-row = c .before .before .before .before .before .before .before .before .before .before
-    .before .before in
-    let at-count-parameters = at-body-row .before in
-    let start = at-count-parameters .before .before .before .before .before .before .before in
+    let start = c .before .before .before .before .before .before .before .before .before .before .before
+    .before .before .before .before .before .before .before .before .before .before .before .before
+    .before in
     omega (
       arith,
-      facts-line (start .pre .facts) (start .pre .space) _ _
-          (at-count-parameters .count-parameters .ensures) (at-body-row .body-row .ensures),
-      facts-low (start .pre .facts) (start .pre .space) _ _ (at-count-parameters .count-parameters .ensures)
-          (at-body-row .body-row .ensures),
-      facts-few (start .pre .facts) (start .pre .space) _ _ (at-count-parameters .count-parameters .ensures)
-          (at-body-row .body-row .ensures),
-      facts-some (start .pre .facts) (start .pre .space) _ _
-          (at-count-parameters .count-parameters .ensures) (at-body-row .body-row .ensures) .lines .inside,
+      facts-line (start .pre .facts) (start .pre .space),
+      facts-low (start .pre .facts) (start .pre .space),
     )
 
 shared-slice-read-from-number : tie.Need-shared-slice-read-from-number
 shared-slice-read-from-number c =
-    let at-body-row = c .before .before .before .before .before .before .before .before .before .before
-    .before .before .before in
-    let at-count-parameters = at-body-row .before in
-    let start = at-count-parameters .before .before .before .before .before .before .before in
+    let start = c .before .before .before .before .before .before .before .before .before .before .before
+    .before .before .before .before .before .before .before .before .before .before .before .before
+    .before .before in
     omega (
       arith,
-      facts-line (start .pre .facts) (start .pre .space) _ _
-          (at-count-parameters .count-parameters .ensures) (at-body-row .body-row .ensures),
-      facts-low (start .pre .facts) (start .pre .space) _ _ (at-count-parameters .count-parameters .ensures)
-          (at-body-row .body-row .ensures),
-      facts-few (start .pre .facts) (start .pre .space) _ _ (at-count-parameters .count-parameters .ensures)
-          (at-body-row .body-row .ensures),
-      facts-some (start .pre .facts) (start .pre .space) _ _
-          (at-count-parameters .count-parameters .ensures) (at-body-row .body-row .ensures) .lines .inside,
+      facts-line (start .pre .facts) (start .pre .space),
+      facts-low (start .pre .facts) (start .pre .space),
     )
 
 from-number-requires : tie.Need-from-number-requires
@@ -144,49 +206,33 @@ is-fitting-requires : tie.Need-is-fitting-requires
 is-fitting-requires c κs =
     let at-expression = c .before .before .before .before .before .before .before in
     let at-enter = at-expression .before .before .before .before .before in
-    let at-body-row = at-enter .before .before in
-    let at-count-parameters = at-body-row .before in
-    let start = at-count-parameters .before .before .before .before .before .before .before in (
-      body-case (body-typed _ _ (at-count-parameters .count-parameters .ensures)
-          (at-body-row .body-row .ensures) (at-enter .enter .ensures) (at-expression .expression .ensures))
+    let start = at-enter .before .before .before .before .before .before .before .before .before .before
+    .before .before .before .before in (
+      body-case (body-typed (at-enter .enter .ensures) (at-expression .expression .ensures))
           (c .before .before .match .keys2) (start .pre .facts) (start .pre .space),
       result-low (start .pre .facts) _ (c .from-number .ensures),
     )
 
-cast-t32 : tie.Need-cast-t32
-cast-t32 c =
-    let at-body-row = c .before .before .before .before .before .before .before .before .before .before
-    .before .before .before .before .before .before in
-    let at-count-parameters = at-body-row .before in
-    let start = at-count-parameters .before .before .before .before .before .before .before in
+cast-t41 : tie.Need-cast-t41
+cast-t41 c =
+    let start = c .before .before .before .before .before .before .before .before .before .before .before
+    .before .before .before .before .before .before .before .before .before .before .before .before
+    .before .before .before .before .before in
     omega (
       arith,
-      facts-line (start .pre .facts) (start .pre .space) _ _
-          (at-count-parameters .count-parameters .ensures) (at-body-row .body-row .ensures),
-      facts-low (start .pre .facts) (start .pre .space) _ _ (at-count-parameters .count-parameters .ensures)
-          (at-body-row .body-row .ensures),
-      facts-few (start .pre .facts) (start .pre .space) _ _ (at-count-parameters .count-parameters .ensures)
-          (at-body-row .body-row .ensures),
-      facts-some (start .pre .facts) (start .pre .space) _ _
-          (at-count-parameters .count-parameters .ensures) (at-body-row .body-row .ensures) .lines .inside,
+      facts-line (start .pre .facts) (start .pre .space),
+      facts-low (start .pre .facts) (start .pre .space),
     )
 
-add-t33 : tie.Need-add-t33
-add-t33 c =
-    let at-body-row = c .before .before .before .before .before .before .before .before .before .before
-    .before .before .before .before .before .before in
-    let at-count-parameters = at-body-row .before in
-    let start = at-count-parameters .before .before .before .before .before .before .before in
+add-t42 : tie.Need-add-t42
+add-t42 c =
+    let start = c .before .before .before .before .before .before .before .before .before .before .before
+    .before .before .before .before .before .before .before .before .before .before .before .before
+    .before .before .before .before .before in
     omega (
       arith,
-      facts-line (start .pre .facts) (start .pre .space) _ _
-          (at-count-parameters .count-parameters .ensures) (at-body-row .body-row .ensures),
-      facts-low (start .pre .facts) (start .pre .space) _ _ (at-count-parameters .count-parameters .ensures)
-          (at-body-row .body-row .ensures),
-      facts-few (start .pre .facts) (start .pre .space) _ _ (at-count-parameters .count-parameters .ensures)
-          (at-body-row .body-row .ensures),
-      facts-some (start .pre .facts) (start .pre .space) _ _
-          (at-count-parameters .count-parameters .ensures) (at-body-row .body-row .ensures) .lines .inside,
+      facts-line (start .pre .facts) (start .pre .space),
+      facts-low (start .pre .facts) (start .pre .space),
     )
 
 same-length-3 : tie.Need-same-length-3
@@ -200,95 +246,48 @@ returns-2 c =
     let at-match = c .before .before .before .before in
     let at-expression = at-match .before .before .before .before .before in
     let at-enter = at-expression .before .before .before .before .before in
-    let at-body-row = at-enter .before .before in
-    let at-count-parameters = at-body-row .before in
-    method-unfit (body-typed _ _ (at-count-parameters .count-parameters .ensures)
-    (at-body-row .body-row .ensures) (at-enter .enter .ensures) (at-expression .expression .ensures))
+    method-unfit (body-typed (at-enter .enter .ensures) (at-expression .expression .ensures))
     (at-match .match .keys2) _ (c .before .before .from-number .ensures) _
-    (c .before .is-fitting .ensures) (not-yes _ (c .if1 .taken))
+    (c .before .is-fitting .ensures)
+    (not-yes _ (c .if1 .taken))
 
-add-effect-at : tie.Need-add-effect-at
-add-effect-at c =
-    let at-body-row = c .before .before .before .before .before .before .before .before .before .before
-    .before .before .before .before .before .before in
-    let at-count-parameters = at-body-row .before in
-    let start = at-count-parameters .before .before .before .before .before .before .before in
-    omega (
-      arith,
-      facts-line (start .pre .facts) (start .pre .space) _ _
-          (at-count-parameters .count-parameters .ensures) (at-body-row .body-row .ensures),
-      facts-low (start .pre .facts) (start .pre .space) _ _ (at-count-parameters .count-parameters .ensures)
-          (at-body-row .body-row .ensures),
-      facts-few (start .pre .facts) (start .pre .space) _ _ (at-count-parameters .count-parameters .ensures)
-          (at-body-row .body-row .ensures),
-      facts-some (start .pre .facts) (start .pre .space) _ _
-          (at-count-parameters .count-parameters .ensures) (at-body-row .body-row .ensures) .lines .inside,
-    )
+mul-is-within : tie.Need-mul-is-within
+mul-is-within c =
+    let start = c .before .before .before .before .before .before .before .before .before .before .before
+    .before .before .before .before .before .before .before .before .before .before .before .before
+    .before .before .before .before .before in
+    omega (arith, in-effects (start .pre .facts), start .good)
 
-add-effect-at-2 : tie.Need-add-effect-at-2
-add-effect-at-2 c =
-    let at-body-row = c .before .before .before .before .before .before .before .before .before .before
+shared-slice-read-is-within : tie.Need-shared-slice-read-is-within
+shared-slice-read-is-within c =
+    let start = c .before .before .before .before .before .before .before .before .before .before .before
+    .before .before .before .before .before .before .before .before .before .before .before .before
     .before .before .before .before .before .before in
-    let at-count-parameters = at-body-row .before in
-    let start = at-count-parameters .before .before .before .before .before .before .before in
-    omega (
-      arith,
-      facts-line (start .pre .facts) (start .pre .space) _ _
-          (at-count-parameters .count-parameters .ensures) (at-body-row .body-row .ensures),
-      facts-low (start .pre .facts) (start .pre .space) _ _ (at-count-parameters .count-parameters .ensures)
-          (at-body-row .body-row .ensures),
-      facts-few (start .pre .facts) (start .pre .space) _ _ (at-count-parameters .count-parameters .ensures)
-          (at-body-row .body-row .ensures),
-      facts-some (start .pre .facts) (start .pre .space) _ _
-          (at-count-parameters .count-parameters .ensures) (at-body-row .body-row .ensures) .lines .inside,
-    )
-
-effect-at-requires : tie.Need-effect-at-requires
-effect-at-requires c κs =
-    let at-body-row = c .before .before .before .before .before .before .before .before .before .before
-    .before .before .before .before .before .before in
-    let at-count-parameters = at-body-row .before in
-    let start = at-count-parameters .before .before .before .before .before .before .before in
-    facts-some (start .pre .facts) (start .pre .space) _ _ (at-count-parameters .count-parameters .ensures)
-    (at-body-row .body-row .ensures)
+    in-effects (start .pre .facts)
 
 is-within-requires : tie.Need-is-within-requires
 is-within-requires c κs = search needs
 
-cast-t34 : tie.Need-cast-t34
-cast-t34 c =
-    let at-body-row = c .before .before .before .before .before .before .before .before .before .before
-    .before .before .before .before .before .before .before .before .before in
-    let at-count-parameters = at-body-row .before in
-    let start = at-count-parameters .before .before .before .before .before .before .before in
+cast-t45 : tie.Need-cast-t45
+cast-t45 c =
+    let start = c .before .before .before .before .before .before .before .before .before .before .before
+    .before .before .before .before .before .before .before .before .before .before .before .before
+    .before .before .before .before .before .before .before .before in
     omega (
       arith,
-      facts-line (start .pre .facts) (start .pre .space) _ _
-          (at-count-parameters .count-parameters .ensures) (at-body-row .body-row .ensures),
-      facts-low (start .pre .facts) (start .pre .space) _ _ (at-count-parameters .count-parameters .ensures)
-          (at-body-row .body-row .ensures),
-      facts-few (start .pre .facts) (start .pre .space) _ _ (at-count-parameters .count-parameters .ensures)
-          (at-body-row .body-row .ensures),
-      facts-some (start .pre .facts) (start .pre .space) _ _
-          (at-count-parameters .count-parameters .ensures) (at-body-row .body-row .ensures) .lines .inside,
+      facts-line (start .pre .facts) (start .pre .space),
+      facts-low (start .pre .facts) (start .pre .space),
     )
 
-add-t35 : tie.Need-add-t35
-add-t35 c =
-    let at-body-row = c .before .before .before .before .before .before .before .before .before .before
-    .before .before .before .before .before .before .before .before .before in
-    let at-count-parameters = at-body-row .before in
-    let start = at-count-parameters .before .before .before .before .before .before .before in
+add-t46 : tie.Need-add-t46
+add-t46 c =
+    let start = c .before .before .before .before .before .before .before .before .before .before .before
+    .before .before .before .before .before .before .before .before .before .before .before .before
+    .before .before .before .before .before .before .before .before in
     omega (
       arith,
-      facts-line (start .pre .facts) (start .pre .space) _ _
-          (at-count-parameters .count-parameters .ensures) (at-body-row .body-row .ensures),
-      facts-low (start .pre .facts) (start .pre .space) _ _ (at-count-parameters .count-parameters .ensures)
-          (at-body-row .body-row .ensures),
-      facts-few (start .pre .facts) (start .pre .space) _ _ (at-count-parameters .count-parameters .ensures)
-          (at-body-row .body-row .ensures),
-      facts-some (start .pre .facts) (start .pre .space) _ _
-          (at-count-parameters .count-parameters .ensures) (at-body-row .body-row .ensures) .lines .inside,
+      facts-line (start .pre .facts) (start .pre .space),
+      facts-low (start .pre .facts) (start .pre .space),
     )
 
 same-length-5 : tie.Need-same-length-5
@@ -304,14 +303,11 @@ returns-3 c =
     let at-match = at-from-number .before .before in
     let at-expression = at-match .before .before .before .before .before in
     let at-enter = at-expression .before .before .before .before .before in
-    let at-body-row = at-enter .before .before in
-    let at-count-parameters = at-body-row .before in
-    method-wide (body-typed _ _ (at-count-parameters .count-parameters .ensures)
-    (at-body-row .body-row .ensures) (at-enter .enter .ensures) (at-expression .expression .ensures))
+    method-wide (body-typed (at-enter .enter .ensures) (at-expression .expression .ensures))
     (at-match .match .keys2) _ (at-from-number .from-number .ensures) _
-    (at-is-fitting .is-fitting .ensures) (not-no _ (c .before .before .before .if1 .left)) _
-    (at-count-parameters .count-parameters .ensures) _ (c .before .before .effect-at .ensures) _
-    (c .before .is-within .ensures) (not-yes _ (c .if2 .taken))
+    (at-is-fitting .is-fitting .ensures)
+    (not-no _ (c .before .before .before .if1 .left)) _ (c .before .is-within .ensures)
+    (not-yes _ (c .if2 .taken))
 
 same-length-7 : tie.Need-same-length-7
 same-length-7 c = search needs
@@ -326,47 +322,59 @@ returns-4 c =
     let at-match = at-from-number .before .before in
     let at-expression = at-match .before .before .before .before .before in
     let at-enter = at-expression .before .before .before .before .before in
-    let at-body-row = at-enter .before .before in
-    let at-count-parameters = at-body-row .before in
-    method-accepted (body-typed _ _ (at-count-parameters .count-parameters .ensures)
-    (at-body-row .body-row .ensures) (at-enter .enter .ensures) (at-expression .expression .ensures))
+    method-accepted (body-typed (at-enter .enter .ensures) (at-expression .expression .ensures))
     (at-match .match .keys2) _ (at-from-number .from-number .ensures) _
-    (at-is-fitting .is-fitting .ensures) (not-no _ (c .before .before .before .if1 .left)) _
-    (at-count-parameters .count-parameters .ensures) _ (c .before .before .effect-at .ensures) _
-    (c .before .is-within .ensures) (not-no _ (c .if2 .left))
+    (at-is-fitting .is-fitting .ensures)
+    (not-no _ (c .before .before .before .if1 .left)) _ (c .before .is-within .ensures)
+    (not-no _ (c .if2 .left))
 
 pub method-spec : {M : Type 1} → statement M
 method-spec =
     tie.close
     (tie.spec
-    add-count-parameters
-    count-parameters-requires
-    body-row-requires
+    mul-at
+    mul-at-2
+    shared-slice-read-at
+    cast-at
+    mul-owner
+    add-owner
+    mul-owner-2
+    shared-slice-read-owner
+    cast-owner
+    mul-n
+    add-n
+    mul-n-2
+    shared-slice-read-n
+    cast-n
+    mul-body
+    add-body
+    mul-body-2
+    shared-slice-read-body
+    cast-body
     add-enter
     enter-requires
-    add-expression
+    add-from-number
     expression-requires
     enum-known-t
     same-length
     same-length-2
     returns
     mul-from-number
-    add-from-number
+    add-from-number-2
     mul-from-number-2
     shared-slice-read-from-number
     from-number-requires
     is-fitting-requires
-    cast-t32
-    add-t33
+    cast-t41
+    add-t42
     same-length-3
     same-length-4
     returns-2
-    add-effect-at
-    add-effect-at-2
-    effect-at-requires
+    mul-is-within
+    shared-slice-read-is-within
     is-within-requires
-    cast-t34
-    add-t35
+    cast-t45
+    add-t46
     same-length-5
     same-length-6
     returns-3

@@ -9,90 +9,85 @@ use Rattle.bodies.proofs.open.Statement.{statement}
 use Rattle.bodies.proofs.open.Tie as tie
 
 abbrev Inv-loop : tie.InvT-loop
-Inv-loop rows slots₀ count at scope v i₀ slots i = OpenLeft rows slots₀ slots count at scope v i
+Inv-loop rows slots₀ at scope v i₀ slots i =
+    OpenLeft rows slots₀ slots (scope .count) at (scope .size) v i
 
 abbrev μ-loop : tie.MeasureT-loop
-μ-loop rows slots₀ count at scope v i₀ slots i = v - i
+μ-loop rows slots₀ at scope v i₀ slots i = v - i
 
 loop-holds : tie.Need-loop-holds Inv-loop μ-loop
 loop-holds c = open-start _ _ _ _ _ _
 
 add-number : tie.Need-add-number Inv-loop μ-loop
 add-number c =
-    let start = c .before .before .before .before in
     omega (
       arith,
-      start .pre .rows,
-      start .pre .slots,
-      start .pre .low,
+      c .before .before .before .before .pre .rows,
+      c .before .before .before .before .pre .slots,
+      c .before .before .before .before .pre .low,
       c .before .loop .inv .few,
       c .before .loop .inv .long,
-      start .good,
+      c .before .before .before .before .good,
     )
 
 add-number-2 : tie.Need-add-number-2 Inv-loop μ-loop
 add-number-2 c =
-    let start = c .before .before .before .before in
     omega (
       arith,
-      start .pre .rows,
-      start .pre .slots,
-      start .pre .low,
+      c .before .before .before .before .pre .rows,
+      c .before .before .before .before .pre .slots,
+      c .before .before .before .before .pre .low,
       c .before .loop .inv .few,
       c .before .loop .inv .long,
-      start .good,
+      c .before .before .before .before .good,
     )
 
 mul-number : tie.Need-mul-number Inv-loop μ-loop
 mul-number c =
-    let start = c .before .before .before .before in
     omega (
       arith,
-      start .pre .rows,
-      start .pre .slots,
-      start .pre .low,
+      c .before .before .before .before .pre .rows,
+      c .before .before .before .before .pre .slots,
+      c .before .before .before .before .pre .low,
       c .before .loop .inv .few,
       c .before .loop .inv .long,
-      start .good,
+      c .before .before .before .before .good,
     )
 
 add-number-3 : tie.Need-add-number-3 Inv-loop μ-loop
 add-number-3 c =
-    let start = c .before .before .before .before in
     omega (
       arith,
-      start .pre .rows,
-      start .pre .slots,
-      start .pre .low,
+      c .before .before .before .before .pre .rows,
+      c .before .before .before .before .pre .slots,
+      c .before .before .before .before .pre .low,
       c .before .loop .inv .few,
       c .before .loop .inv .long,
-      start .good,
+      c .before .before .before .before .good,
     )
 
 mul-number-2 : tie.Need-mul-number-2 Inv-loop μ-loop
 mul-number-2 c =
-    let start = c .before .before .before .before in
     omega (
       arith,
-      start .pre .rows,
-      start .pre .slots,
-      start .pre .low,
+      c .before .before .before .before .pre .rows,
+      c .before .before .before .before .pre .slots,
+      c .before .before .before .before .pre .low,
       c .before .loop .inv .few,
       c .before .loop .inv .long,
-      start .good,
+      c .before .before .before .before .good,
     )
 
 shared-slice-read-number : tie.Need-shared-slice-read-number Inv-loop μ-loop
 shared-slice-read-number c =
-    let start = c .before .before .before .before .before in
     omega (
       arith,
-      start .pre .rows,
-      start .pre .slots,
-      start .pre .low,
+      c .before .before .before .before .before .pre .rows,
+      c .before .before .before .before .before .pre .slots,
+      c .before .before .before .before .before .pre .low,
       c .before .before .loop .inv .few,
       c .before .before .loop .inv .long,
-      start .good,
+      c .before .before .before .before .before .good,
     )
 
 is-type-requires : tie.Need-is-type-requires Inv-loop μ-loop
@@ -100,44 +95,38 @@ is-type-requires c κs = search needs
 
 add-refused : tie.Need-add-refused Inv-loop μ-loop
 add-refused c =
-    let at-loop = c .before .before .before .before in
-    let start = at-loop .before .before .before in
     omega (
       arith,
-      start .pre .rows,
-      start .pre .slots,
-      start .pre .low,
-      at-loop .loop .inv .few,
-      at-loop .loop .inv .long,
-      start .good,
+      c .before .before .before .before .before .before .before .pre .rows,
+      c .before .before .before .before .before .before .before .pre .slots,
+      c .before .before .before .before .before .before .before .pre .low,
+      c .before .before .before .before .loop .inv .few,
+      c .before .before .before .before .loop .inv .long,
+      c .before .before .before .before .before .before .before .good,
     )
 
 add-refused-2 : tie.Need-add-refused-2 Inv-loop μ-loop
 add-refused-2 c =
-    let at-loop = c .before .before .before .before in
-    let start = at-loop .before .before .before in
     omega (
       arith,
-      start .pre .rows,
-      start .pre .slots,
-      start .pre .low,
-      at-loop .loop .inv .few,
-      at-loop .loop .inv .long,
-      start .good,
+      c .before .before .before .before .before .before .before .pre .rows,
+      c .before .before .before .before .before .before .before .pre .slots,
+      c .before .before .before .before .before .before .before .pre .low,
+      c .before .before .before .before .loop .inv .few,
+      c .before .before .before .before .loop .inv .long,
+      c .before .before .before .before .before .before .before .good,
     )
 
 refused-requires : tie.Need-refused-requires Inv-loop μ-loop
 refused-requires c κs =
-    let at-loop = c .before .before .before .before in
-    let start = at-loop .before .before .before in
     omega (
       arith,
-      start .pre .rows,
-      start .pre .slots,
-      start .pre .low,
-      at-loop .loop .inv .few,
-      at-loop .loop .inv .long,
-      start .good,
+      c .before .before .before .before .before .before .before .pre .rows,
+      c .before .before .before .before .before .before .before .pre .slots,
+      c .before .before .before .before .before .before .before .pre .low,
+      c .before .before .before .before .loop .inv .few,
+      c .before .before .before .before .loop .inv .long,
+      c .before .before .before .before .before .before .before .good,
     )
 
 same-length : tie.Need-same-length Inv-loop μ-loop
@@ -150,60 +139,55 @@ returns c =
     open-stop (at-loop .loop .inv) (at-loop-test .loop-test .taken) _ _ refl
     (c .before .before .is-type .ensures) _ (not-yes _ (c .before .if1 .taken)) (c .refused .ensures)
 
+fresh-requires : tie.Need-fresh-requires Inv-loop μ-loop
+fresh-requires c κs = tt
+
 add-slots : tie.Need-add-slots Inv-loop μ-loop
 add-slots c =
-    let at-loop = c .before .before .before .before in
-    let start = at-loop .before .before .before in
     omega (
       arith,
-      start .pre .rows,
-      start .pre .slots,
-      start .pre .low,
-      at-loop .loop .inv .few,
-      at-loop .loop .inv .long,
-      start .good,
+      c .before .before .before .before .before .before .before .before .before .pre .rows,
+      c .before .before .before .before .before .before .before .before .before .pre .slots,
+      c .before .before .before .before .before .before .before .before .before .pre .low,
+      c .before .before .before .before .before .before .loop .inv .few,
+      c .before .before .before .before .before .before .loop .inv .long,
+      c .before .before .before .before .before .before .before .before .before .good,
     )
 
 mul-slots : tie.Need-mul-slots Inv-loop μ-loop
 mul-slots c =
-    let at-loop = c .before .before .before .before in
-    let start = at-loop .before .before .before in
     omega (
       arith,
-      start .pre .rows,
-      start .pre .slots,
-      start .pre .low,
-      at-loop .loop .inv .few,
-      at-loop .loop .inv .long,
-      start .good,
+      c .before .before .before .before .before .before .before .before .before .pre .rows,
+      c .before .before .before .before .before .before .before .before .before .pre .slots,
+      c .before .before .before .before .before .before .before .before .before .pre .low,
+      c .before .before .before .before .before .before .loop .inv .few,
+      c .before .before .before .before .before .before .loop .inv .long,
+      c .before .before .before .before .before .before .before .before .before .good,
     )
 
 slice-write-slots : tie.Need-slice-write-slots Inv-loop μ-loop
 slice-write-slots c =
-    let at-loop = c .before .before .before .before in
-    let start = at-loop .before .before .before in
     omega (
       arith,
-      start .pre .rows,
-      start .pre .slots,
-      start .pre .low,
-      at-loop .loop .inv .few,
-      at-loop .loop .inv .long,
-      start .good,
+      c .before .before .before .before .before .before .before .before .before .pre .rows,
+      c .before .before .before .before .before .before .before .before .before .pre .slots,
+      c .before .before .before .before .before .before .before .before .before .pre .low,
+      c .before .before .before .before .before .before .loop .inv .few,
+      c .before .before .before .before .before .before .loop .inv .long,
+      c .before .before .before .before .before .before .before .before .before .good,
     )
 
 add-i : tie.Need-add-i Inv-loop μ-loop
 add-i c =
-    let at-loop = c .before .before .before .before in
-    let start = at-loop .before .before .before in
     omega (
       arith,
-      start .pre .rows,
-      start .pre .slots,
-      start .pre .low,
-      at-loop .loop .inv .few,
-      at-loop .loop .inv .long,
-      start .good,
+      c .before .before .before .before .before .before .before .before .before .pre .rows,
+      c .before .before .before .before .before .before .before .before .before .pre .slots,
+      c .before .before .before .before .before .before .before .before .before .pre .low,
+      c .before .before .before .before .before .before .loop .inv .few,
+      c .before .before .before .before .before .before .loop .inv .long,
+      c .before .before .before .before .before .before .before .before .before .good,
     )
 
 loop-less : tie.Need-loop-less Inv-loop μ-loop
@@ -211,10 +195,12 @@ loop-less c = omega arith
 
 loop-again : tie.Need-loop-again Inv-loop μ-loop
 loop-again c =
-    let at-loop = c .before .before .before .before in
+    let at-loop-test = c .before .before .before .before .before in
+    let at-loop = at-loop-test .before in
     let start = at-loop .before .before .before in
-    open-step (at-loop .loop .inv) (c .before .before .before .loop-test .taken) _ _ refl
-    (c .before .is-type .ensures) (not-no _ (c .if1 .left)) (start .pre .slots)
+    open-step (at-loop .loop .inv) (at-loop-test .loop-test .taken) _ _ refl
+    (c .before .before .before .is-type .ensures) (not-no _ (c .before .before .if1 .left))
+    (start .pre .slots) _ (c .before .fresh .ensures)
 
 plain-requires : tie.Need-plain-requires Inv-loop μ-loop
 plain-requires c κs = search needs
@@ -244,6 +230,7 @@ open-spec =
     refused-requires
     same-length
     returns
+    fresh-requires
     add-slots
     mul-slots
     slice-write-slots

@@ -34,17 +34,22 @@ refused-requires c κs = search needs
 returns : tie.Need-returns
 returns c = read-out _ _ _ _ _ (c .before .if1 .taken) (c .refused .ensures)
 
-mul-number : tie.Need-mul-number
-mul-number c = search needs
+mul-current : tie.Need-mul-current
+mul-current c = search needs
 
-shared-slice-read-number : tie.Need-shared-slice-read-number
-shared-slice-read-number c = search needs
+shared-slice-read-current : tie.Need-shared-slice-read-current
+shared-slice-read-current c = search needs
+
+current-requires : tie.Need-current-requires
+current-requires c κs = tt
 
 refused-requires-2 : tie.Need-refused-requires-2
 refused-requires-2 c κs = search needs
 
 returns-2 : tie.Need-returns-2
-returns-2 c = read-absent _ _ _ _ _ (c .before .before .before .if1 .left) (c .before .if2 .taken)
+returns-2 c =
+    let at-if1 = c .before .before .before .before in
+    read-absent _ _ _ _ _ (at-if1 .if1 .left) _ (c .before .before .current .ensures) (c .before .if2 .taken)
     (c .refused2 .ensures)
 
 from-number-requires : tie.Need-from-number-requires
@@ -58,8 +63,10 @@ plain-requires c κs = search needs
 
 returns-3 : tie.Need-returns-3
 returns-3 c =
-    let at-if1 = c .before .before .before .before .before in
-    read-there _ _ _ _ _ (at-if1 .if1 .left) (c .before .before .before .if2 .left)
+    let at-current = c .before .before .before .before in
+    let at-if1 = at-current .before .before in
+    read-there _ _ _ _ _ (at-if1 .if1 .left) _ (at-current .current .ensures)
+    (c .before .before .before .if2 .left)
     (c .plain .ensures ∙ ap (λ (t : Typing). answer t 0)
     (c .before .typing-of .ensures ∙ ap case-of-number (c .before .before .from-number .ensures)))
 
@@ -74,8 +81,9 @@ read-slot-spec =
     cast-k
     refused-requires
     returns
-    mul-number
-    shared-slice-read-number
+    mul-current
+    shared-slice-read-current
+    current-requires
     refused-requires-2
     returns-2
     from-number-requires

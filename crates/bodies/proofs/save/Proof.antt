@@ -8,10 +8,10 @@ use Rattle.bodies.proofs.save.Statement.{statement}
 use Rattle.bodies.proofs.save.Tie as tie
 
 abbrev Inv-loop : tie.InvT-loop
-Inv-loop slots₀ scope top i₀ slots i = (i ≤ scope) × Saved slots₀ slots top i
+Inv-loop slots₀ size top i₀ slots i = (i ≤ size) × Saved slots₀ slots top i
 
 abbrev μ-loop : tie.MeasureT-loop
-μ-loop slots₀ scope top i₀ slots i = scope - i
+μ-loop slots₀ size top i₀ slots i = size - i
 
 loop-holds : tie.Need-loop-holds Inv-loop μ-loop
 loop-holds c = (omega arith, saved-start _ _)
@@ -85,7 +85,7 @@ same-length : tie.Need-same-length Inv-loop μ-loop
 same-length c = c .before .loop .inv .1 .long
 
 returns : tie.Need-returns Inv-loop μ-loop
-returns c = saved-end (c .before .loop .inv .1) (c .before .before .args .scope) (c .before .loop .inv .0)
+returns c = saved-end (c .before .loop .inv .1) (c .before .before .args .size) (c .before .loop .inv .0)
     (c .loop-test .left)
 
 pub save-spec : {M : Type 1} → statement M

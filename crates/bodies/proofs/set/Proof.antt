@@ -94,31 +94,29 @@ returns-3 c =
     (at-field-type .field-type .ensures) _ (at-sought .sought .given .1) _
     (c .before .before .is-fitting .ensures) _ (not-yes _ (c .before .if1 .taken)) (c .refused3 .ensures)
 
-cast-class-at : tie.Need-cast-class-at
-cast-class-at c =
-    let at-apply = c .before .before .before .before .before .before .before in
+note-requires : tie.Need-note-requires
+note-requires c κs =
+    let at-apply = c .before .before .before .before .before .before .before .before in
     let at-t = at-apply .before .before in
     let start = at-t .before .before .before .before .before .before in
     omega (arith, at-apply .apply .ensures, start .pre .object _ (at-t .t .given .1) .0 .low)
-
-mul-class-at : tie.Need-mul-class-at
-mul-class-at c = search needs
-
-slice-write-class-at : tie.Need-slice-write-class-at
-slice-write-class-at c = search needs
 
 same-length : tie.Need-same-length
 same-length c = search needs
 
 returns-4 : tie.Need-returns-4
 returns-4 c =
-    let at-sought = c .before .before .before .before .before in
+    let at-note = c .before .before .before .before in
+    let at-if1 = at-note .before .before in
+    let at-is-fitting = at-if1 .before in
+    let at-sought = at-is-fitting .before .before in
     let at-field-type = at-sought .before .before in
     let at-apply = at-field-type .before .before in
     let at-t = at-apply .before .before in
     put-done _ _ _ _ _ _ _ _ _ _ (at-t .t .given .1) (at-apply .apply .ensures) _
-    (at-field-type .field-type .ensures) _ (at-sought .sought .given .1) _
-    (c .before .before .before .is-fitting .ensures) (not-no _ (c .before .before .if1 .left))
+    (at-field-type .field-type .ensures) _
+    (at-sought .sought .given .1) _ (at-is-fitting .is-fitting .ensures) _ (not-no _ (at-if1 .if1 .left))
+    (at-note .note .ensures)
 
 pub set-spec : {M : Type 1} → statement M
 set-spec =
@@ -141,8 +139,6 @@ set-spec =
     is-fitting-requires
     refused-requires-3
     returns-3
-    cast-class-at
-    mul-class-at
-    slice-write-class-at
+    note-requires
     same-length
     returns-4)

@@ -1,6 +1,5 @@
 -- `checker::check_few` meets its contract. Assumes nothing.
-use mathlib.Core.Logic.{inl}
-use native.Mathlib.Omega.{arith}
+use Rattle.checker.proofs.Passing.{room-few}
 use borrow.Author.Needs.{needs}
 use Rattle.checker.proofs.check_few.Statement.{statement}
 use Rattle.checker.proofs.check_few.Tie as tie
@@ -11,15 +10,13 @@ slice-aggregate-check-whole c = search needs
 slice-aggregate-check-whole-2 : tie.Need-slice-aggregate-check-whole-2
 slice-aggregate-check-whole-2 c = search needs
 
+slice-aggregate-check-whole-3 : tie.Need-slice-aggregate-check-whole-3
+slice-aggregate-check-whole-3 c = search needs
+
 check-whole-requires : tie.Need-check-whole-requires
-check-whole-requires c κs = (
-  record {
-    whole = c .before .before .before .before .before .pre .0;
-    room = inl (omega (arith, c .before .before .before .before .before .pre .1));
-    nodes = omega arith;
-  },
-  c .before .before .before .before .before .pre .2,
-)
+check-whole-requires c κs =
+    let start = c .before .before .before .before .before .before in
+    (room-few (start .args .rows .now) (start .pre .0 .0) (start .pre .0 .1), start .pre .1)
 
 same-length : tie.Need-same-length
 same-length c = search needs
@@ -33,6 +30,7 @@ check-few-spec =
     (tie.spec
     slice-aggregate-check-whole
     slice-aggregate-check-whole-2
+    slice-aggregate-check-whole-3
     check-whole-requires
     same-length
     returns)

@@ -1,7 +1,5 @@
 -- `checker::check_many` meets its contract. Assumes nothing.
-use mathlib.Core.Logic.{inr}
-use native.Mathlib.Omega.{arith}
-use Rattle.language.proofs.Filling.{replicate-long}
+use Rattle.checker.proofs.Passing.{room-many}
 use borrow.Author.Needs.{needs}
 use Rattle.checker.proofs.check_many.Statement.{statement}
 use Rattle.checker.proofs.check_many.Tie as tie
@@ -12,10 +10,13 @@ slice-aggregate-check-whole c = search needs
 slice-aggregate-check-whole-2 : tie.Need-slice-aggregate-check-whole-2
 slice-aggregate-check-whole-2 c = search needs
 
+slice-aggregate-check-whole-3 : tie.Need-slice-aggregate-check-whole-3
+slice-aggregate-check-whole-3 c = search needs
+
 check-whole-requires : tie.Need-check-whole-requires
 check-whole-requires c κs =
-    let start = c .before .before .before .before .before in
-    (record { whole = start .pre .0; room = inr (replicate-long 60000); nodes = omega arith }, start .pre .1)
+    let start = c .before .before .before .before .before .before in
+    (room-many (start .args .rows .now) (start .pre .0), start .pre .1)
 
 same-length : tie.Need-same-length
 same-length c = search needs
@@ -29,6 +30,7 @@ check-many-spec =
     (tie.spec
     slice-aggregate-check-whole
     slice-aggregate-check-whole-2
+    slice-aggregate-check-whole-3
     check-whole-requires
     same-length
     returns)

@@ -17,7 +17,7 @@ verdict-of-requires c κs = search needs
 
 returns : tie.Need-returns
 returns c =
-    c .verdict-of .ensures ∙ ap verdict-of-checked (c .before .before .check-above .ensures .0)
+    c .verdict-of .ensures ∙ ap verdict-of-checked (c .before .before .check-above .ensures .answer)
     ∙ verdict-is (c .before .before .before .before .before .args .rows .now)
 
 pub check-rows-spec : {M : Type 1} → statement M

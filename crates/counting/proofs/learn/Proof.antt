@@ -19,9 +19,10 @@ returns : tie.Need-returns
 returns c =
     let start = c .before .before .before .before .before .before .before in
     record {
-      verdict = c .known-of .ensures ∙ ap known-case (c .before .before .before .check-above .ensures .0);
+      verdict = c .known-of .ensures
+          ∙ ap known-case (c .before .before .before .check-above .ensures .answer);
       long = omega (arith, start .pre, c .before .before .before .check-above .kept);
-      tells = c .before .before .before .check-above .ensures .1;
+      tells = c .before .before .before .check-above .ensures .tells;
     }
 
 pub learn-spec : {M : Type 1} → statement M

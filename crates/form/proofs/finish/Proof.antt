@@ -11,36 +11,39 @@ mul-if1 : tie.Need-mul-if1
 mul-if1 c = search needs
 
 returns : tie.Need-returns
-returns c = λ p n. finished (c .before .before .args .limits) (c .before .before .args .rows .now)
-    (c .before .before .args .at) (c .before .before .args .classes) p n (c .if1 .taken)
+returns c = λ p n s. finished (c .before .before .args .limits) (c .before .before .args .rows .now)
+    (c .before .before .args .at) (c .before .before .args .classes) (c .before .before .args .start) p n s
+    (c .if1 .taken)
 
 refuse-row-requires : tie.Need-refuse-row-requires
 refuse-row-requires c κs = search needs
 
-cast-t9 : tie.Need-cast-t9
-cast-t9 c = search needs
+cast-t10 : tie.Need-cast-t10
+cast-t10 c = search needs
 
-add-t10 : tie.Need-add-t10
-add-t10 c = search needs
+add-t11 : tie.Need-add-t11
+add-t11 c = search needs
 
 returns-2 : tie.Need-returns-2
 returns-2 c =
     let start = c .before .before .before .before in
-    λ p n. not-finished (start .args .limits) (start .args .rows .now) (start .args .at)
-    (start .args .classes) p n (omega (arith, start .pre .0, c .before .before .if1 .left))
+    λ p n s. not-finished (start .args .limits) (start .args .rows .now) (start .args .at)
+    (start .args .classes) (start .args .start) p n s
+    (omega (arith, start .pre .0, c .before .before .if1 .left))
     (c .before .refuse-row .result) (c .before .refuse-row .ensures .0) (c .if2 .taken)
 
-cast-t11 : tie.Need-cast-t11
-cast-t11 c = search needs
+cast-t12 : tie.Need-cast-t12
+cast-t12 c = search needs
 
-add-t12 : tie.Need-add-t12
-add-t12 c = search needs
+add-t13 : tie.Need-add-t13
+add-t13 c = search needs
 
 returns-3 : tie.Need-returns-3
 returns-3 c =
     let start = c .before .before .before .before in
-    λ p n. more-follows (start .args .limits) (start .args .rows .now) (start .args .at)
-    (start .args .classes) p n (omega (arith, start .pre .0, c .before .before .if1 .left))
+    λ p n s. more-follows (start .args .limits) (start .args .rows .now) (start .args .at)
+    (start .args .classes) (start .args .start) p n s
+    (omega (arith, start .pre .0, c .before .before .if1 .left))
     (here (start .args .rows .now) (start .args .at)
     (sym (c .if2 .left) ∙ c .before .refuse-row .ensures .0)
     (c .before .refuse-row .ensures .1 (c .if2 .left)))
@@ -52,9 +55,9 @@ finish-spec =
     mul-if1
     returns
     refuse-row-requires
-    cast-t9
-    add-t10
+    cast-t10
+    add-t11
     returns-2
-    cast-t11
-    add-t12
+    cast-t12
+    add-t13
     returns-3)

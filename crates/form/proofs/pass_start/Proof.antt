@@ -31,7 +31,7 @@ add-t13 c =
 returns : tie.Need-returns
 returns c =
     let start = c .before .before .before .before in
-    λ cs e. start-refused (start .args .limits) (start .args .rows .now) (start .args .at) cs
+    λ cs e d. start-refused (start .args .limits) (start .args .rows .now) (start .args .at) cs
     (c .before .refuse-row .result) (c .before .refuse-row .ensures .0) (c .if1 .taken)
 
 mul-if2 : tie.Need-mul-if2
@@ -60,7 +60,7 @@ add-t19 c =
 returns-2 : tie.Need-returns-2
 returns-2 c =
     let start = c .before .before .before .before .before .before in
-    λ cs e. start-other (start .args .limits) (start .args .rows .now) (start .args .at) cs
+    λ cs e d. start-other (start .args .limits) (start .args .rows .now) (start .args .at) cs
     (here (start .args .rows .now) (start .args .at)
     (sym (c .before .before .if1 .left) ∙ c .before .before .before .refuse-row .ensures .0)
     (c .before .before .before .refuse-row .ensures .1 (c .before .before .if1 .left))) (c .if2 .taken)
@@ -102,6 +102,12 @@ pass-body-requires c κs =
       omega arith,
     )
 
+cast-finish : tie.Need-cast-finish
+cast-finish c =
+    let start = c .before .before .before .before .before .before .before .before .before .before .before
+    .before .before in
+    omega (arith, start .pre .within, start .pre .fits .rows)
+
 enum-known-r : tie.Need-enum-known-r
 enum-known-r c = search needs
 
@@ -137,10 +143,10 @@ returns-3 c =
     let the-if1 = c .before .before .before .before .before .before .before .before .before .before .if1 in
     let the-if2 = c .before .before .before .before .before .before .before .before .if2 in
     let the-pass-body = c .before .before .before .before .before .before .pass-body in
-    λ cs e. start-end (start .args .limits) (start .args .rows .now) (start .args .at) cs
+    λ cs e d. start-end (start .args .limits) (start .args .rows .now) (start .args .at) cs
     (here (start .args .rows .now) (start .args .at) (sym (the-if1 .left) ∙ the-refuse-row .ensures .0)
     (the-refuse-row .ensures .1 (the-if1 .left))) (the-if2 .left) (the-pass-body .ensures)
-    (c .before .before .r .given .1) refl (λ w o. end-room (start .pre) w o) e (c .finish .ensures)
+    (c .before .before .r .given .1) refl (λ w o. end-room (start .pre) w o) e d (c .finish .ensures)
 
 same-length-2 : tie.Need-same-length-2
 same-length-2 c =
@@ -158,7 +164,7 @@ returns-4 c =
     let the-if1 = c .before .before .before .before .before .before .before .before .before .if1 in
     let the-if2 = c .before .before .before .before .before .before .before .if2 in
     let the-pass-body = c .before .before .before .before .before .pass-body in
-    λ cs e. start-stop (start .args .limits) (start .args .rows .now) (start .args .at) cs
+    λ cs e d. start-stop (start .args .limits) (start .args .rows .now) (start .args .at) cs
     (here (start .args .rows .now) (start .args .at) (sym (the-if1 .left) ∙ the-refuse-row .ensures .0)
     (the-refuse-row .ensures .1 (the-if1 .left))) (the-if2 .left) (the-pass-body .ensures)
     (c .before .r2 .given .1)
@@ -184,6 +190,7 @@ pass-start-spec =
     add-pass-body
     pass-body-requires
     enum-known-r
+    cast-finish
     finish-requires
     enum-known-r-2
     same-length

@@ -1,11 +1,12 @@
 -- `headings::check_fields` meets its contract. Assumes nothing.
 use mathlib.Core.Path.{_≡_, refl, _∙_}
-use Prim.Native.Nat.{ℕ, _-_}
+use Prim.Native.Nat.{_-_}
 use native.Mathlib.Omega.{arith}
 use lib.ListN.{length}
 use Rattle.headings.proofs.Fields.{Fielding, fielding-start, fielding-ready, fielding-index}
 use Rattle.headings.proofs.Fields.{fielding-refused, fielding-enter, fielding-step, fielding-end}
 use Rattle.headings.proofs.Fields.{fielding-done}
+use Rattle.headings.proofs.Checks.{not-both}
 use Rattle.headings.specs.Ready.{FieldsReady}
 use Rattle.headings.proofs.check_fields.Statement.{statement}
 use Rattle.headings.proofs.check_fields.Tie as tie
@@ -64,8 +65,7 @@ returns c =
     λ w. (
       fielding-refused w (at-loop .loop .inv .1 w) (c .before .before .before .loop-test .taken)
           (c .before .field-fault .result) (c .before .field-fault .ensures) (c .if1 .taken),
-      λ e.
-          let z : _≡_ {A = ℕ} 0 1 = cc in absurd (omega arith),
+      λ m e. not-both e refl,
     )
 
 add-enter-field : tie.Need-add-enter-field Inv-loop μ-loop
@@ -120,7 +120,7 @@ same-length-2 c = c .before .loop .inv .0
 returns-2 : tie.Need-returns-2 Inv-loop μ-loop
 returns-2 c = λ w. (
   fielding-end w (c .before .loop .inv .1 w) (c .loop-test .left),
-  λ e. fielding-done w
+  λ m e. fielding-done w
       (c .before .loop .inv .1 w) (c .loop-test .left),
 )
 

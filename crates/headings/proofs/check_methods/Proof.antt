@@ -4,46 +4,51 @@ use Prim.Native.Nat.{_-_}
 use native.Mathlib.Omega.{arith}
 use lib.ListN.{length}
 use borrow.Author.Needs.{needs}
-use Rattle.headings.proofs.Entering.{Entering, entering-start, entering-within, entering-ready}
-use Rattle.headings.proofs.Entering.{entering-here, entering-grows, entering-refused, entering-step}
-use Rattle.headings.proofs.Entering.{entering-end, entering-done}
+use Rattle.headings.proofs.Entering.{Entering, entering-start, entering-within, entering-count}
+use Rattle.headings.proofs.Entering.{entering-ready, entering-here}
+use Rattle.headings.proofs.Entering.{entering-grows, entering-refused, entering-step, entering-end}
+use Rattle.headings.proofs.Entering.{entering-done}
 use Rattle.headings.proofs.Checks.{not-both}
 use Rattle.headings.specs.Ready.{MethodsReady}
 use Rattle.headings.proofs.check_methods.Statement.{statement}
 use Rattle.headings.proofs.check_methods.Tie as tie
 
 abbrev Inv-loop : tie.InvT-loop
-Inv-loop rows ends tables₀ r base first count at₀ tables at = (length tables ≡ length tables₀)
-    × ((w : MethodsReady rows ends tables₀ r base first count) → Entering w tables at)
+Inv-loop rows ends tables₀ methods₀ effects₀ r k first count at₀ next₀ tables methods effects at next =
+    (length tables ≡ length tables₀) × (length methods ≡ length methods₀) × (length effects ≡ length effects₀)
+    × ((w : MethodsReady rows ends tables₀ methods₀ effects₀ r k first count)
+    → Entering w tables methods effects at next)
 
 abbrev μ-loop : tie.MeasureT-loop
-μ-loop rows ends tables₀ r base first count at₀ tables at = length rows - at
+μ-loop rows ends tables₀ methods₀ effects₀ r k first count at₀ next₀ tables methods effects at next =
+    length rows - at
 
 loop-holds : tie.Need-loop-holds Inv-loop μ-loop
-loop-holds c = (refl, λ w. entering-start w)
+loop-holds c = (refl, refl, refl, λ w. entering-start w)
 
 mul-if1 : tie.Need-mul-if1 Inv-loop μ-loop
 mul-if1 c =
-    let start = c .before .before .before .before in
-    (let s = entering-within (start .pre) (c .loop .inv .1 (start .pre)) in
+    let start = c .before .before .before .before .before .before in
+    (let s = entering-within (start .pre) (c .loop .inv .3 (start .pre)) in
     omega (arith, s, start .pre .standing .short))
 
 mul-if1-2 : tie.Need-mul-if1-2 Inv-loop μ-loop
 mul-if1-2 c =
-    let start = c .before .before .before .before in
-    (let s = entering-within (start .pre) (c .loop .inv .1 (start .pre)) in
+    let start = c .before .before .before .before .before .before in
+    (let s = entering-within (start .pre) (c .loop .inv .3 (start .pre)) in
     omega (arith, s, start .pre .standing .short))
 
 shared-slice-read-if1 : tie.Need-shared-slice-read-if1 Inv-loop μ-loop
 shared-slice-read-if1 c =
-    let start = c .before .before .before .before .before in
-    (let s = entering-within (start .pre) (c .before .loop .inv .1 (start .pre)) in
+    let start = c .before .before .before .before .before .before .before in
+    (let s = entering-within (start .pre) (c .before .loop .inv .3 (start .pre)) in
     omega (arith, s, start .pre .standing .short))
 
 check-method-requires : tie.Need-check-method-requires Inv-loop μ-loop
 check-method-requires c κs =
-    let start = c .before .before .before .before .before .before .before in
-    entering-ready (start .pre) (c .before .before .before .loop .inv .1 (start .pre)) (c .before .if1 .taken)
+    let at-loop = c .before .before .before .before .before in
+    let start = at-loop .before .before .before .before .before .before in
+    entering-ready (start .pre) (at-loop .loop .inv .3 (start .pre)) (c .before .before .before .if1 .taken)
 
 enum-told : tie.Need-enum-told Inv-loop μ-loop
 enum-told c = search needs
@@ -53,62 +58,109 @@ enum-told-2 c = search needs
 
 same-length : tie.Need-same-length Inv-loop μ-loop
 same-length c =
-    let at-check-method = c .before .before .before .before in
-    let at-loop = at-check-method .before .before .before .before in
+    let at-check-method = c .before .before .before .before .before .before .before .before in
+    let at-loop = at-check-method .before .before .before .before .before .before in
     at-check-method .check-method .kept .1 .0 ∙ at-loop .loop .inv .0
+
+same-length-2 : tie.Need-same-length-2 Inv-loop μ-loop
+same-length-2 c =
+    let at-check-method = c .before .before .before .before .before .before .before .before in
+    let at-loop = at-check-method .before .before .before .before .before .before in
+    at-check-method .check-method .kept .1 .1 .0 ∙ at-loop .loop .inv .1
+
+same-length-3 : tie.Need-same-length-3 Inv-loop μ-loop
+same-length-3 c =
+    let at-check-method = c .before .before .before .before .before .before .before .before in
+    let at-loop = at-check-method .before .before .before .before .before .before in
+    at-check-method .check-method .kept .1 .1 .1 .0 ∙ at-loop .loop .inv .2
 
 returns : tie.Need-returns Inv-loop μ-loop
 returns c =
-    let at-check-method = c .before .before .before .before in
-    let at-if1 = at-check-method .before .before in
+    let at-check-method = c .before .before .before .before .before .before .before .before in
+    let at-if1 = at-check-method .before .before .before .before in
     let at-loop = at-if1 .before .before in
     λ w. (
-      entering-refused w (at-loop .loop .inv .1 w) (at-if1 .if1 .taken)
+      entering-refused w (at-loop .loop .inv .3 w) (at-if1 .if1 .taken)
           (at-check-method .check-method .result) (at-check-method .check-method .last .1 .0)
+          (at-check-method .check-method .last .1 .1 .0) (at-check-method .check-method .last .1 .1 .1 .0)
           (at-check-method .check-method .ensures) (c .enum-told2 .given .0 .0)
           (c .enum-told2 .given .0 .1 .0)
           (c .enum-told2 .given .1),
-      λ e. not-both e (c .enum-told2 .given .1),
+      λ n e. not-both e (c .enum-told2 .given .1),
     )
 
 skip-method-requires : tie.Need-skip-method-requires Inv-loop μ-loop
 skip-method-requires c κs =
-    let at-if1 = c .before .before .before .before .before .before in
+    let at-if1 = c .before .before .before .before .before .before .before .before .before .before .before
+    .before in
     let at-loop = at-if1 .before .before in
-    let start = at-loop .before .before .before .before in
-    entering-here (start .pre) (at-loop .loop .inv .1 (start .pre)) (at-if1 .if1 .taken)
+    let start = at-loop .before .before .before .before .before .before in
+    entering-here (start .pre) (at-loop .loop .inv .3 (start .pre)) (at-if1 .if1 .taken)
+
+add-next : tie.Need-add-next Inv-loop μ-loop
+add-next c =
+    let at-loop = c .before .before .before .before .before .before .before .before .before .before .before
+    .before .before .before .before in
+    let start = at-loop .before .before .before .before .before .before in
+    (let j = entering-count (start .pre) (at-loop .loop .inv .3 (start .pre)) in omega (arith, j .0, j .1))
 
 loop-less : tie.Need-loop-less Inv-loop μ-loop
 loop-less c =
-    let at-if1 = c .before .before .before .before .before .before .before in
+    let at-if1 = c .before .before .before .before .before .before .before .before .before .before .before
+    .before .before in
     let at-loop = at-if1 .before .before in
-    let start = at-loop .before .before .before .before in
-    (let g = entering-grows (start .pre) (at-loop .loop .inv .1 (start .pre)) (at-if1 .if1 .taken)
+    let start = at-loop .before .before .before .before .before .before in
+    (let g = entering-grows (start .pre) (at-loop .loop .inv .3 (start .pre)) (at-if1 .if1 .taken)
     (c .skip-method .result) (c .skip-method .ensures) in let s =
-    entering-within (start .pre) (at-loop .loop .inv .1 (start .pre)) in omega (arith, g, s))
+    entering-within (start .pre) (at-loop .loop .inv .3 (start .pre)) in omega (arith, g, s))
 
 loop-again : tie.Need-loop-again Inv-loop μ-loop
 loop-again c =
-    let at-check-method = c .before .before .before .before .before in
-    let at-if1 = at-check-method .before .before in
+    let at-check-method = c .before .before .before .before .before .before .before .before .before in
+    let at-if1 = at-check-method .before .before .before .before in
     let at-loop = at-if1 .before .before in (
-      at-check-method .check-method .kept .1 .0 ∙ at-loop .loop .inv .0,
+      at-check-method .check-method .kept .1 .0
+          ∙ at-loop .loop .inv .0,
+      at-check-method .check-method .kept .1 .1 .0
+          ∙ at-loop .loop .inv .1,
+      at-check-method .check-method .kept .1 .1 .1 .0 ∙ at-loop .loop .inv .2,
       λ w.
-          entering-step w (at-loop .loop .inv .1 w) (at-if1 .if1 .taken)
+          entering-step w (at-loop .loop .inv .3 w) (at-if1 .if1 .taken)
           (at-check-method .check-method .result)
-          (at-check-method .check-method .last .1 .0) (at-check-method .check-method .ensures)
-          (c .before .enum-told .given .1) (c .skip-method .result) (c .skip-method .ensures),
+          (at-check-method .check-method .last .1 .0) (at-check-method .check-method .last .1 .1 .0)
+          (at-check-method .check-method .last .1 .1 .1 .0) (at-check-method .check-method .ensures)
+          (c .before .enum-told .given .0 .0) (c .before .enum-told .given .1) (c .skip-method .result)
+          (c .skip-method .ensures),
     )
 
-same-length-2 : tie.Need-same-length-2 Inv-loop μ-loop
-same-length-2 c = c .before .before .loop .inv .0
+sub-t24 : tie.Need-sub-t24 Inv-loop μ-loop
+sub-t24 c =
+    let start = c .before .before .before .before .before .before .before .before in
+    (let j = entering-count (start .pre) (c .before .before .loop .inv .3 (start .pre)) in
+    omega (arith, j .0, j .1))
+
+cast-t25 : tie.Need-cast-t25 Inv-loop μ-loop
+cast-t25 c =
+    let start = c .before .before .before .before .before .before .before .before in
+    (let j = entering-count (start .pre) (c .before .before .loop .inv .3 (start .pre)) in
+    omega (arith, j .0, j .1))
+
+same-length-4 : tie.Need-same-length-4 Inv-loop μ-loop
+same-length-4 c = c .before .before .loop .inv .0
+
+same-length-5 : tie.Need-same-length-5 Inv-loop μ-loop
+same-length-5 c = c .before .before .loop .inv .1
+
+same-length-6 : tie.Need-same-length-6 Inv-loop μ-loop
+same-length-6 c = c .before .before .loop .inv .2
 
 returns-2 : tie.Need-returns-2 Inv-loop μ-loop
-returns-2 c = λ w. (
-  entering-end w (c .before .before .loop .inv .1 w) (c .if1 .left),
-  λ e. entering-done w
-      (c .before .before .loop .inv .1 w) (c .if1 .left),
-)
+returns-2 c =
+    λ w. (
+      entering-end w (c .before .before .loop .inv .3 w) (c .if1 .left),
+      λ n e.
+          entering-done w (c .before .before .loop .inv .3 w) (c .if1 .left),
+    )
 
 pub check-methods-spec : {M : Type 1} → statement M
 check-methods-spec =
@@ -124,9 +176,16 @@ check-methods-spec =
     enum-told
     enum-told-2
     same-length
+    same-length-2
+    same-length-3
     returns
     skip-method-requires
+    add-next
     loop-less
     loop-again
-    same-length-2
+    sub-t24
+    cast-t25
+    same-length-4
+    same-length-5
+    same-length-6
     returns-2)

@@ -1,13 +1,13 @@
 -- `headings::method_fault` meets its contract. Assumes nothing.
 use mathlib.Core.Path.{sym, ap, _∙_}
+use mathlib.Core.Bool.{cond}
 use Prim.Native.Nat.{_+_, _*_}
 use native.Mathlib.Omega.{arith}
 use lib.ListN.{getD}
 use borrow.Author.Needs.{needs}
+use borrow.Author.Tests.{not-true, not-false}
 use Rattle.headings.proofs.Methods.{method-undeclared, method-twice, method-first, override-ready}
 use Rattle.headings.proofs.Methods.{method-overrides}
-use borrow.Author.Tests.{not-true, not-false}
-use mathlib.Core.Bool.{cond}
 use Rattle.headings.proofs.method_fault.Statement.{statement}
 use Rattle.headings.proofs.method_fault.Tie as tie
 
@@ -27,8 +27,9 @@ is-declared-requires : tie.Need-is-declared-requires
 is-declared-requires c κs = search needs
 
 returns : tie.Need-returns
-returns c = λ w. method-undeclared w (sym
-    (c .before .is-declared .ensures (w .ready .program .classes) (w .ready .count-is))
+returns c =
+    λ w. method-undeclared w
+    (sym (c .before .is-declared .ensures (w .line .program .classes) (w .line .count-is))
     ∙ not-true _ (c .if1 .taken))
 
 mul-name : tie.Need-mul-name
@@ -46,39 +47,42 @@ shared-slice-read-name c = search needs
 cast-name : tie.Need-cast-name
 cast-name c = search needs
 
+mul-entry : tie.Need-mul-entry
+mul-entry c = search needs
+
 add-entry : tie.Need-add-entry
 add-entry c = search needs
 
 add-entry-2 : tie.Need-add-entry-2
 add-entry-2 c = search needs
 
-mul-entry : tie.Need-mul-entry
-mul-entry c = search needs
+mul-entry-2 : tie.Need-mul-entry-2
+mul-entry-2 c = search needs
 
 shared-slice-read-entry : tie.Need-shared-slice-read-entry
 shared-slice-read-entry c = search needs
 
 cast-entry : tie.Need-cast-entry
 cast-entry c =
-    let start = c .before .before .before .before .before .before .before in
+    let start = c .before .before .before .before .before .before .before .before .before in
     omega (
       arith,
-      c .shared-slice-known5 .given
-          ((start .args .base) + 256 + getD (start .args .rows .now) ((start .args .r) * 4 + 2) 0),
+      c .shared-slice-known7 .given
+          ((start .args .k) * 576 + 256 + getD (start .args .rows .now) ((start .args .r) * 4 + 2) 0),
     )
 
 returns-2 : tie.Need-returns-2
 returns-2 c =
     let at-is-declared = c .before .before .before .before in
-    λ w. method-twice w (sym (at-is-declared .is-declared .ensures (w .ready .program .classes)
-    (w .ready .count-is)) ∙ not-false _ (c .before .before .before .if1 .left)) (c .if2 .taken)
+    λ w. method-twice w (sym (at-is-declared .is-declared .ensures (w .line .program .classes)
+    (w .line .count-is)) ∙ not-false _ (c .before .before .before .if1 .left)) (c .if2 .taken)
 
 returns-3 : tie.Need-returns-3
 returns-3 c =
     let at-if1 = c .before .before .before .before in
     let at-is-declared = at-if1 .before in
-    λ w. method-first w (sym (at-is-declared .is-declared .ensures (w .ready .program .classes)
-    (w .ready .count-is)) ∙ not-false _ (at-if1 .if1 .left)) (c .before .if2 .left) (c .if3 .taken)
+    λ w. method-first w (sym (at-is-declared .is-declared .ensures (w .line .program .classes)
+    (w .line .count-is)) ∙ not-false _ (at-if1 .if1 .left)) (c .before .if2 .left) (c .if3 .taken)
 
 sub-may-override : tie.Need-sub-may-override
 sub-may-override c = search needs
@@ -87,11 +91,10 @@ may-override-requires : tie.Need-may-override-requires
 may-override-requires c κs =
     let at-if1 = c .before .before .before .before in
     let at-is-declared = at-if1 .before in
-    let start = at-is-declared .before .before .before .before in
+    let start = at-is-declared .before .before .before .before .before .before in
     override-ready (start .pre)
-    (sym (at-is-declared .is-declared .ensures (start .pre .ready .program .classes)
-    (start .pre .ready .count-is)) ∙ not-false _ (at-if1 .if1 .left)) (c .before .if2 .left)
-    (c .if3 .left)
+    (sym (at-is-declared .is-declared .ensures (start .pre .line .program .classes)
+    (start .pre .line .count-is)) ∙ not-false _ (at-if1 .if1 .left)) (c .before .if2 .left) (c .if3 .left)
 
 returns-4 : tie.Need-returns-4
 returns-4 c =
@@ -99,7 +102,7 @@ returns-4 c =
     let at-is-declared = at-if1 .before in
     λ w. ap (λ b. cond b 0 6) (sym (c .if4 .taken))
     ∙ method-overrides w
-    (sym (at-is-declared .is-declared .ensures (w .ready .program .classes) (w .ready .count-is))
+    (sym (at-is-declared .is-declared .ensures (w .line .program .classes) (w .line .count-is))
     ∙ not-false _ (at-if1 .if1 .left)) (c .before .before .before .if2 .left)
     (c .before .before .if3 .left) (c .before .may-override .result) (c .before .may-override .ensures)
 
@@ -109,7 +112,7 @@ returns-5 c =
     let at-is-declared = at-if1 .before in
     λ w. ap (λ b. cond b 0 6) (sym (c .if4 .left))
     ∙ method-overrides w
-    (sym (at-is-declared .is-declared .ensures (w .ready .program .classes) (w .ready .count-is))
+    (sym (at-is-declared .is-declared .ensures (w .line .program .classes) (w .line .count-is))
     ∙ not-false _ (at-if1 .if1 .left)) (c .before .before .before .if2 .left)
     (c .before .before .if3 .left) (c .before .may-override .result) (c .before .may-override .ensures)
 
@@ -128,9 +131,10 @@ method-fault-spec =
     mul-name-2
     shared-slice-read-name
     cast-name
+    mul-entry
     add-entry
     add-entry-2
-    mul-entry
+    mul-entry-2
     shared-slice-read-entry
     cast-entry
     returns-2

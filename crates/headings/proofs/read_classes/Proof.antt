@@ -3,8 +3,8 @@ use mathlib.Core.Path.{refl}
 use Prim.Native.Nat.{_-_}
 use native.Mathlib.Omega.{arith}
 use lib.ListN.{length-set}
-use Rattle.headings.proofs.Passing.{Reading, reading-start, reading-index, reading-bounds}
-use Rattle.headings.proofs.Passing.{reading-here, reading-step, reading-count, reading-done}
+use Rattle.headings.proofs.Reading.{Reading, reading-start, reading-index, reading-bounds}
+use Rattle.headings.proofs.Reading.{reading-here, reading-step, reading-count, reading-done}
 use Rattle.headings.specs.Ready.{ReadReady}
 use Rattle.headings.proofs.read_classes.Statement.{statement}
 use Rattle.headings.proofs.read_classes.Tie as tie

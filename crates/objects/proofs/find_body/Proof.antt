@@ -1,10 +1,11 @@
 use mathlib.Core.Path.{sym, _∙_}
-use Prim.Native.Nat.{_+_, _*_}
+use Prim.Native.Nat.{_+_, _-_, _*_}
 use native.Mathlib.Omega.{arith}
 use lib.ListN.{getD}
 use borrow.Author.Needs.{needs}
-use Rattle.objects.proofs.Finding.{method-spot, pre-body, find-null, find-truth, find-past}
-use Rattle.objects.proofs.Finding.{find-missing, find-deep, find-found}
+use Rattle.objects.proofs.Finding.{number-in, method-spot, number-spot, find-null, find-truth}
+use Rattle.objects.proofs.Finding.{find-past}
+use Rattle.objects.proofs.Finding.{find-missing, find-other, find-deep, find-found}
 use Rattle.objects.proofs.find_body.Statement.{statement}
 use Rattle.objects.proofs.find_body.Tie as tie
 
@@ -115,31 +116,127 @@ returns-4 c =
     find-missing (start .args .n) (at-decode .decode .ensures) (at-v .v .given .0 .0) (at-v .v .given .1)
     (c .before .before .before .if2 .left) (start .pre .name) (c .if3 .taken)
 
-returns-5 : tie.Need-returns-5
-returns-5 c =
-    let at-if2 = c .before .before .before .before in
-    let at-v = at-if2 .before .before .before in
-    let at-decode = at-v .before .before .before .before in
-    let start = at-decode .before .before .before .before in
-    find-deep (start .args .n) (at-decode .decode .ensures) (at-v .v .given .0 .0) (at-v .v .given .1)
-    (at-if2 .if2 .left) (start .pre .name) (c .before .if3 .left) (c .if4 .taken)
+sub-i : tie.Need-sub-i
+sub-i c = search needs
 
-find-letter-requires : tie.Need-find-letter-requires
-find-letter-requires c κs =
+mul-i : tie.Need-mul-i
+mul-i c =
+    let at-v = c .before .before .before .before .before .before in
+    let start = at-v .before .before .before .before .before .before .before .before in
+    omega (
+      arith,
+      number-spot (start .pre) (at-v .v .given .0 .0) (c .before .before .before .if2 .left)
+          (c .if3 .left),
+    )
+
+add-if4 : tie.Need-add-if4
+add-if4 c =
+    let at-v = c .before .before .before .before .before .before in
+    let start = at-v .before .before .before .before .before .before .before .before in
+    omega (
+      arith,
+      number-spot (start .pre) (at-v .v .given .0 .0) (c .before .before .before .if2 .left)
+          (c .if3 .left),
+    )
+
+mul-if4 : tie.Need-mul-if4
+mul-if4 c =
+    let at-v = c .before .before .before .before .before .before in
+    let start = at-v .before .before .before .before .before .before .before .before in
+    omega (
+      arith,
+      number-spot (start .pre) (at-v .v .given .0 .0) (c .before .before .before .if2 .left)
+          (c .if3 .left),
+    )
+
+shared-slice-read-if4 : tie.Need-shared-slice-read-if4
+shared-slice-read-if4 c =
     let at-if2 = c .before .before .before .before in
     let at-v = at-if2 .before .before .before in
     let start = at-v .before .before .before .before .before .before .before .before in
-    pre-body (start .pre) (at-v .v .given .0 .0) (at-if2 .if2 .left) (c .before .if3 .left)
+    omega (arith, number-spot (start .pre) (at-v .v .given .0 .0) (at-if2 .if2 .left) (c .before .if3 .left))
 
-returns-6 : tie.Need-returns-6
-returns-6 c =
+cast-if4 : tie.Need-cast-if4
+cast-if4 c =
+    let at-v = c .before .before .before .before .before .before .before in
+    let start = at-v .before .before .before .before .before .before .before .before in
+    omega (
+      arith,
+      c .shared-slice-known6 .given
+          ((number-in (start .args .tables .now) (start .args .store .now) (at-v .v .given .0 .0)
+          (start .args .m) - 1) * 4 + 2),
+    )
+
+returns-5 : tie.Need-returns-5
+returns-5 c =
     let at-if2 = c .before .before .before .before .before in
     let at-v = at-if2 .before .before .before in
     let at-decode = at-v .before .before .before .before in
     let start = at-decode .before .before .before .before in
-    find-found (start .args .n) (at-decode .decode .ensures) (at-v .v .given .0 .0) (c .find-letter .result)
-    (at-v .v .given .1) (at-if2 .if2 .left) (start .pre .name) (c .before .before .if3 .left)
-    (c .before .if4 .left) (c .find-letter .ensures)
+    find-other (start .args .n) (at-decode .decode .ensures) (at-v .v .given .0 .0) (at-v .v .given .1)
+    (at-if2 .if2 .left) (start .pre .name) (c .before .before .if3 .left) (c .if4 .taken)
+
+returns-6 : tie.Need-returns-6
+returns-6 c =
+    let at-if2 = c .before .before .before .before .before .before in
+    let at-v = at-if2 .before .before .before in
+    let at-decode = at-v .before .before .before .before in
+    let start = at-decode .before .before .before .before in
+    find-deep (start .args .n) (at-decode .decode .ensures) (at-v .v .given .0 .0) (at-v .v .given .1)
+    (at-if2 .if2 .left) (start .pre .name) (c .before .before .before .if3 .left) (c .before .if4 .left)
+    (c .if5 .taken)
+
+add-t23 : tie.Need-add-t23
+add-t23 c =
+    let at-if2 = c .before .before .before .before .before .before in
+    let at-v = at-if2 .before .before .before in
+    let start = at-v .before .before .before .before .before .before .before .before in
+    omega (
+      arith,
+      number-spot (start .pre) (at-v .v .given .0 .0) (at-if2 .if2 .left)
+          (c .before .before .before .if3 .left),
+    )
+
+mul-t20 : tie.Need-mul-t20
+mul-t20 c =
+    let at-if2 = c .before .before .before .before .before .before in
+    let at-v = at-if2 .before .before .before in
+    let start = at-v .before .before .before .before .before .before .before .before in
+    omega (
+      arith,
+      number-spot (start .pre) (at-v .v .given .0 .0) (at-if2 .if2 .left)
+          (c .before .before .before .if3 .left),
+    )
+
+shared-slice-read-t25 : tie.Need-shared-slice-read-t25
+shared-slice-read-t25 c =
+    let at-if3 = c .before .before .before .before in
+    let at-if2 = at-if3 .before .before .before in
+    let at-v = at-if2 .before .before .before in
+    let start = at-v .before .before .before .before .before .before .before .before in
+    omega (arith, number-spot (start .pre) (at-v .v .given .0 .0) (at-if2 .if2 .left) (at-if3 .if3 .left))
+
+cast-t21 : tie.Need-cast-t21
+cast-t21 c =
+    let at-v = c .before .before .before .before .before .before .before .before .before .before in
+    let start = at-v .before .before .before .before .before .before .before .before in
+    omega (
+      arith,
+      c .shared-slice-known7 .given
+          ((number-in (start .args .tables .now) (start .args .store .now) (at-v .v .given .0 .0)
+          (start .args .m) - 1) * 4 + 3),
+    )
+
+returns-7 : tie.Need-returns-7
+returns-7 c =
+    let at-if3 = c .before .before .before .before in
+    let at-if2 = at-if3 .before .before .before in
+    let at-v = at-if2 .before .before .before in
+    let at-decode = at-v .before .before .before .before in
+    let start = at-decode .before .before .before .before in
+    find-found (start .args .n) (at-decode .decode .ensures) (at-v .v .given .0 .0) (at-v .v .given .1)
+    (at-if2 .if2 .left) (start .pre .name) (at-if3 .if3 .left) (c .before .before .if4 .left)
+    (c .before .if5 .left)
 
 pub find-body-spec : {M : Type 1} → statement M
 find-body-spec =
@@ -164,6 +261,16 @@ find-body-spec =
     shared-slice-read-r
     cast-r
     returns-4
+    sub-i
+    mul-i
+    add-if4
+    mul-if4
+    shared-slice-read-if4
+    cast-if4
     returns-5
-    find-letter-requires
-    returns-6)
+    returns-6
+    add-t23
+    mul-t20
+    shared-slice-read-t25
+    cast-t21
+    returns-7)

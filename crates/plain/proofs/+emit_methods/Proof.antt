@@ -13,16 +13,16 @@ use Rattle.plain.proofs.+emit_methods.{statement}
 use Rattle.plain.proofs.+emit_methods.Tie.{close}
 use Rattle.plain.proofs.+emit_methods.Lts-emit_methods as emit-methods-lts
 
-abbrev μ-emit-methods : Measures 4 emit-methods-kinds.ps ℕ
-μ-emit-methods κs a = 60000 - a .1 .1 .1 .1 .1 .0
+abbrev μ-emit-methods : Measures 5 emit-methods-kinds.ps ℕ
+μ-emit-methods κs a = 60000 - a .1 .1 .1 .1 .1 .1 .0
 
-abbrev emit-methods-at : ℕ → In 4 emit-methods-kinds.ps
+abbrev emit-methods-at : ℕ → In 5 emit-methods-kinds.ps
 emit-methods-at t =
-    and 4 emit-methods-kinds.ps (is 4 emit-methods-kinds.ps μ-emit-methods t) emit-methods.Pre
+    and 5 emit-methods-kinds.ps (is 5 emit-methods-kinds.ps μ-emit-methods t) emit-methods.Pre
 
-abbrev emit-methods-below : ℕ → In 4 emit-methods-kinds.ps
+abbrev emit-methods-below : ℕ → In 5 emit-methods-kinds.ps
 emit-methods-below t =
-    and 4 emit-methods-kinds.ps (falls 4 emit-methods-kinds.ps _<_ μ-emit-methods t) emit-methods.Pre
+    and 5 emit-methods-kinds.ps (falls 5 emit-methods-kinds.ps _<_ μ-emit-methods t) emit-methods.Pre
 
 -- What its callees ask and give: itself, below the measure t.
 abbrev callees : ℕ → emit-methods-lts.Claims
@@ -37,16 +37,18 @@ callees t = (
 
 emit-methods-mul-if1 : (t : ℕ)
     → emit-methods-lts.Need-mul-if1 (callees t) (emit-methods-at t) emit-methods.Post
-emit-methods-mul-if1 t c = omega (arith, methods-known (c .before .before .before .before .pre .1) .0)
+emit-methods-mul-if1 t c = omega (arith, methods-known (c .before .before .before .before .before .pre .1) .0)
 
 emit-methods-mul-if1-2 : (t : ℕ)
     → emit-methods-lts.Need-mul-if1-2 (callees t) (emit-methods-at t) emit-methods.Post
-emit-methods-mul-if1-2 t c = omega (arith, methods-known (c .before .before .before .before .pre .1) .0)
+emit-methods-mul-if1-2 t c =
+    omega (arith, methods-known (c .before .before .before .before .before .pre .1) .0)
 
 emit-methods-shared-slice-read-if1 : (t : ℕ)
     → emit-methods-lts.Need-shared-slice-read-if1 (callees t) (emit-methods-at t) emit-methods.Post
 emit-methods-shared-slice-read-if1 t c =
-    let start = c .before .before .before .before .before in omega (arith, methods-known (start .pre .1) .0)
+    let start = c .before .before .before .before .before .before in
+    omega (arith, methods-known (start .pre .1) .0)
 
 emit-methods-returns : (t : ℕ)
     → emit-methods-lts.Need-returns (callees t) (emit-methods-at t) emit-methods.Post
@@ -55,7 +57,7 @@ emit-methods-returns t c = methods-end (c .if1 .taken)
 emit-methods-add-skip : (t : ℕ)
     → emit-methods-lts.Need-add-skip (callees t) (emit-methods-at t) emit-methods.Post
 emit-methods-add-skip t c =
-    let start = c .before .before .before .before .before .before in
+    let start = c .before .before .before .before .before .before .before in
     omega (arith, methods-known (start .pre .1) .1)
 
 emit-methods-skip-requires : (t : ℕ)
@@ -77,7 +79,7 @@ emit-methods-sub-emit-method-2 t c = omega (arith, c .before .before .skip .ensu
 emit-methods-emit-method-requires : (t : ℕ)
     → emit-methods-lts.Need-emit-method-requires (callees t) (emit-methods-at t) emit-methods.Post
 emit-methods-emit-method-requires t c κs =
-    let start = c .before .before .before .before .before .before .before .before .before in
+    let start = c .before .before .before .before .before .before .before .before .before .before in
     methods-first (start .pre .1) (c .before .before .before .if1 .left) _ _ _
     (c .before .before .skip .ensures) (c .before .skip2 .ensures) refl
 
@@ -85,7 +87,7 @@ emit-methods-emit-methods-requires : (t : ℕ)
     → emit-methods-lts.Need-emit-methods-requires (callees t) (emit-methods-at t) emit-methods.Post
 emit-methods-emit-methods-requires t c κs =
     let start = c .before .before .before .before .before .before .before .before .before .before .before
-    .before .before in
+    .before .before .before in
     let the-if1 = c .before .before .before .before .before .before .before .if1 in
     let the-skip = c .before .before .before .before .before .before .skip in
     let the-skip2 = c .before .before .before .before .before .skip2 in
@@ -96,8 +98,8 @@ emit-methods-emit-methods-requires t c κs =
 emit-methods-same-length : (t : ℕ)
     → emit-methods-lts.Need-same-length (callees t) (emit-methods-at t) emit-methods.Post
 emit-methods-same-length t c =
-    c .before .before .emit-methods .kept .1 .1 .1 .0
-    ∙ c .before .before .before .before .before .before .emit-method .kept .1 .1 .1 .0
+    c .before .before .emit-methods .kept .1 .1 .1 .1 .0
+    ∙ c .before .before .before .before .before .before .emit-method .kept .1 .1 .1 .1 .0
 
 emit-methods-returns-2 : (t : ℕ)
     → emit-methods-lts.Need-returns-2 (callees t) (emit-methods-at t) emit-methods.Post

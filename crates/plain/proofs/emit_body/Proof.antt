@@ -5,20 +5,20 @@ use Rattle.plain.proofs.emit_body.Statement.{statement}
 use Rattle.plain.proofs.emit_body.Tie as tie
 
 first-slots-requires : tie.Need-first-slots-requires
-first-slots-requires c κs = body-known (c .before .before .before .before .pre)
+first-slots-requires c κs = body-known (c .before .before .before .before .before .pre)
 
-add-emit-node : tie.Need-add-emit-node
-add-emit-node c = omega (arith, body-known (c .before .before .before .before .before .before .before .pre))
+add-t12 : tie.Need-add-t12
+add-t12 c = omega (arith, body-known (c .before .before .before .before .before .before .pre))
 
-cast-emit-node : tie.Need-cast-emit-node
-cast-emit-node c = omega (arith, body-known (c .before .before .before .before .before .before .before .pre))
+cast-t13 : tie.Need-cast-t13
+cast-t13 c = omega (arith, body-known (c .before .before .before .before .before .before .pre))
 
-add-emit-node-2 : tie.Need-add-emit-node-2
-add-emit-node-2 c = omega (arith, body-known (c .before .before .before .before .before .before .before .pre))
+add-t14 : tie.Need-add-t14
+add-t14 c = omega (arith, body-known (c .before .before .before .before .before .before .pre))
 
 emit-node-requires : tie.Need-emit-node-requires
 emit-node-requires c κs =
-    let start = c .before .before .before .before .before .before .before in
+    let start = c .before .before .before .before .before .before .before .before in
     body-some (start .pre) _ (c .before .before .first-slots .ensures) _ _ (omega arith) (omega arith)
 
 same-length : tie.Need-same-length
@@ -35,9 +35,9 @@ emit-body-spec =
     tie.close
     (tie.spec
     first-slots-requires
-    add-emit-node
-    cast-emit-node
-    add-emit-node-2
+    add-t12
+    cast-t13
+    add-t14
     emit-node-requires
     same-length
     returns)

@@ -5,27 +5,27 @@ use borrow.Author.Needs.{needs}
 use Rattle.plain.proofs.emit_class.Statement.{statement}
 use Rattle.plain.proofs.emit_class.Tie as tie
 
-mul-t11 : tie.Need-mul-t11
-mul-t11 c = search needs
+mul-t12 : tie.Need-mul-t12
+mul-t12 c = search needs
 
-add-t12 : tie.Need-add-t12
-add-t12 c = search needs
+add-t13 : tie.Need-add-t13
+add-t13 c = search needs
 
-mul-t13 : tie.Need-mul-t13
-mul-t13 c = search needs
+mul-t14 : tie.Need-mul-t14
+mul-t14 c = search needs
 
-shared-slice-read-t15 : tie.Need-shared-slice-read-t15
-shared-slice-read-t15 c = search needs
+shared-slice-read-t16 : tie.Need-shared-slice-read-t16
+shared-slice-read-t16 c = search needs
 
-add-t16 : tie.Need-add-t16
-add-t16 c = omega (arith, class-known (c .before .before .before .before .before .pre) .2)
+add-t17 : tie.Need-add-t17
+add-t17 c = omega (arith, class-known (c .before .before .before .before .before .before .pre) .2)
 
 slice-aggregate-put : tie.Need-slice-aggregate-put
 slice-aggregate-put c = search needs
 
 put-requires : tie.Need-put-requires
 put-requires c κs =
-    let start = c .before .before .before .before .before .before .before in
+    let start = c .before .before .before .before .before .before .before .before in
     omega (arith, class-known (start .pre) .3)
 
 add-skip : tie.Need-add-skip
@@ -46,7 +46,7 @@ sub-put-fields-2 c = search needs
 put-fields-requires : tie.Need-put-fields-requires
 put-fields-requires c κs =
     let start = c .before .before .before .before .before .before .before .before .before .before .before
-    .before in
+    .before .before in
     let the-put = c .before .before .before .before .put in
     let d = class-fields (start .pre) _ _ _ (c .before .skip .ensures) refl (the-put .ensures .ended) in
     (d .0, d .1)
@@ -54,7 +54,7 @@ put-fields-requires c κs =
 emit-methods-requires : tie.Need-emit-methods-requires
 emit-methods-requires c κs =
     let start = c .before .before .before .before .before .before .before .before .before .before .before
-    .before .before .before .before .before in
+    .before .before .before .before .before .before in
     let the-put = c .before .before .before .before .before .before .before .before .put in
     let the-skip = c .before .before .before .before .before .skip in
     class-some (the-skip .ensures) refl (the-put .ensures) (c .before .before .before .put-fields .ensures)
@@ -76,11 +76,11 @@ pub emit-class-spec : {M : Type 1} → statement M
 emit-class-spec =
     tie.close
     (tie.spec
-    mul-t11
-    add-t12
-    mul-t13
-    shared-slice-read-t15
-    add-t16
+    mul-t12
+    add-t13
+    mul-t14
+    shared-slice-read-t16
+    add-t17
     slice-aggregate-put
     put-requires
     add-skip

@@ -19,24 +19,24 @@ shared-slice-read-plain-type c = search needs
 plain-type-requires : tie.Need-plain-type-requires
 plain-type-requires c κs = search needs
 
-mul-t13 : tie.Need-mul-t13
-mul-t13 c = search needs
+mul-t14 : tie.Need-mul-t14
+mul-t14 c = search needs
 
-add-t14 : tie.Need-add-t14
-add-t14 c = search needs
+add-t15 : tie.Need-add-t15
+add-t15 c = search needs
 
-mul-t15 : tie.Need-mul-t15
-mul-t15 c = search needs
+mul-t16 : tie.Need-mul-t16
+mul-t16 c = search needs
 
-shared-slice-read-t17 : tie.Need-shared-slice-read-t17
-shared-slice-read-t17 c = search needs
+shared-slice-read-t18 : tie.Need-shared-slice-read-t18
+shared-slice-read-t18 c = search needs
 
 slice-aggregate-put : tie.Need-slice-aggregate-put
 slice-aggregate-put c = search needs
 
 put-requires : tie.Need-put-requires
 put-requires c κs =
-    let start = c .before .before .before .before .before .before .before .before .before in
+    let start = c .before .before .before .before .before .before .before .before .before .before in
     omega (arith, method-known (start .pre) .1)
 
 add-put-types : tie.Need-add-put-types
@@ -45,7 +45,7 @@ add-put-types c = search needs
 put-types-requires : tie.Need-put-types-requires
 put-types-requires c κs =
     let start = c .before .before .before .before .before .before .before .before .before .before .before
-    .before .before in (
+    .before .before .before in (
       method-types (start .pre),
       omega (arith, method-known (start .pre) .1, c .before .before .before .put .ensures .ended),
     )
@@ -53,7 +53,7 @@ put-types-requires c κs =
 emit-body-requires : tie.Need-emit-body-requires
 emit-body-requires c κs =
     let start = c .before .before .before .before .before .before .before .before .before .before .before
-    .before .before .before .before .before .before in
+    .before .before .before .before .before .before .before in
     let the-put = c .before .before .before .before .before .before .before .put in
     method-body (start .pre) _
     (method-ended (start .pre) (the-put .ensures) (c .before .before .before .put-types .ensures))
@@ -64,8 +64,8 @@ same-length c = search needs
 returns : tie.Need-returns
 returns c =
     let the-plain-type =
-    c .before .before .before .before .before .before .before .before .before .before .before .before
-    .before .before .plain-type in
+    c .before .before .before .before .before .before .before .before .before .before .before .before .before
+    .before .plain-type in
     let the-put = c .before .before .before .before .before .before .before .before .before .before .put in
     let the-put-types = c .before .before .before .before .before .before .put-types in
     method-done (the-plain-type .ensures) (the-put .ensures) (the-put-types .ensures)
@@ -80,10 +80,10 @@ emit-method-spec =
     mul-plain-type-2
     shared-slice-read-plain-type
     plain-type-requires
-    mul-t13
-    add-t14
-    mul-t15
-    shared-slice-read-t17
+    mul-t14
+    add-t15
+    mul-t16
+    shared-slice-read-t18
     slice-aggregate-put
     put-requires
     add-put-types

@@ -12,7 +12,7 @@ put-requires c κs = search needs
 
 emit-classes-requires : tie.Need-emit-classes-requires
 emit-classes-requires c κs =
-    let start = c .before .before .before .before .before .before .before .before .before .before in
+    let start = c .before .before .before .before .before .before .before .before .before .before .before in
     program-some-classes (start .pre) _ (omega (arith, c .before .before .before .put .ensures .ended))
 
 slice-aggregate-put-2 : tie.Need-slice-aggregate-put-2
@@ -21,7 +21,7 @@ slice-aggregate-put-2 c = search needs
 put-requires-2 : tie.Need-put-requires-2
 put-requires-2 c κs =
     let start = c .before .before .before .before .before .before .before .before .before .before .before
-    .before .before .before .before in
+    .before .before .before .before .before in
     let the-put = c .before .before .before .before .before .before .before .before .put in
     let the-emit-classes = c .before .before .before .before .emit-classes in
     omega (arith, program-room (the-put .ensures) (the-emit-classes .ensures) (start .pre) .0)
@@ -29,7 +29,7 @@ put-requires-2 c κs =
 add-emit-body : tie.Need-add-emit-body
 add-emit-body c =
     let start = c .before .before .before .before .before .before .before .before .before .before .before
-    .before .before .before .before .before .before .before .before .before in
+    .before .before .before .before .before .before .before .before .before .before in
     let the-put = c .before .before .before .before .before .before .before .before .before .before .before
     .before .before .put in
     let the-emit-classes =
@@ -39,7 +39,7 @@ add-emit-body c =
 emit-body-requires : tie.Need-emit-body-requires
 emit-body-requires c κs =
     let start = c .before .before .before .before .before .before .before .before .before .before .before
-    .before .before .before .before .before .before .before .before .before in
+    .before .before .before .before .before .before .before .before .before .before in
     let the-put = c .before .before .before .before .before .before .before .before .before .before .before
     .before .before .put in
     let the-emit-classes =

@@ -15,17 +15,18 @@ enum-told c = search needs
 
 returns : tie.Need-returns
 returns c =
-    let start = c .before .before .before .before .before .before .before .before in
+    let start = c .before .before .before .before .before .before .before .before .before in
     answer-limits _ (start .pre) (c .before .before .over-limits .ensures) (c .enum-told .given .1)
 
 reserved-name-requires : tie.Need-reserved-name-requires
 reserved-name-requires c κs =
-    let start = c .before .before .before .before .before .before .before .before .before in
+    let start = c .before .before .before .before .before .before .before .before .before .before in
     accepted-stand (start .pre)
 
 returns-2 : tie.Need-returns-2
 returns-2 c =
-    let start = c .before .before .before .before .before .before .before .before .before .before .before in
+    let start = c .before .before .before .before .before .before .before .before .before .before .before
+    .before in
     let the-over-limits = c .before .before .before .before .before .over-limits in
     answer-names _ (start .pre) (the-over-limits .ensures) (c .before .before .before .limited .given .1)
     (c .before .reserved-name .ensures) (c .if1 .taken)
@@ -33,7 +34,7 @@ returns-2 c =
 write-plain-requires : tie.Need-write-plain-requires
 write-plain-requires c κs =
     let start = c .before .before .before .before .before .before .before .before .before .before .before
-    .before in
+    .before .before in
     let the-over-limits = c .before .before .before .before .before .before .over-limits in
     let the-limited = c .before .before .before .before .limited in
     answer-some (start .pre) (the-over-limits .ensures) (the-limited .given .1)
@@ -45,7 +46,7 @@ same-length c = search needs
 returns-3 : tie.Need-returns-3
 returns-3 c =
     let start = c .before .before .before .before .before .before .before .before .before .before .before
-    .before .before .before .before in
+    .before .before .before .before .before in
     let the-over-limits =
     c .before .before .before .before .before .before .before .before .before .over-limits in
     let the-limited = c .before .before .before .before .before .before .before .limited in

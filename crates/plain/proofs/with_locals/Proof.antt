@@ -6,10 +6,10 @@ use Rattle.plain.proofs.with_locals.Statement.{statement}
 use Rattle.plain.proofs.with_locals.Tie as tie
 
 abbrev Inv-loop : tie.InvT-loop
-Inv-loop slots vars next count s₀ i₀ s i = Extended slots s vars next i × (i ≤ count)
+Inv-loop slots scope count s₀ i₀ s i = Extended slots s (scope .variables) (scope .free) i × (i ≤ count)
 
 abbrev μ-loop : tie.MeasureT-loop
-μ-loop slots vars next count s₀ i₀ s i = count - i
+μ-loop slots scope count s₀ i₀ s i = count - i
 
 loop-holds : tie.Need-loop-holds Inv-loop μ-loop
 loop-holds c = (extended-start (c .before .pre .2), omega arith)
@@ -36,7 +36,7 @@ loop-less : tie.Need-loop-less Inv-loop μ-loop
 loop-less c = omega arith
 
 loop-again : tie.Need-loop-again Inv-loop μ-loop
-loop-again c = (extended-step (c .before .loop .inv .0) (omega arith), omega arith)
+loop-again c = (extended-step (c .before .before .before .loop .inv .0) (omega arith), omega arith)
 
 returns : tie.Need-returns Inv-loop μ-loop
 returns c =

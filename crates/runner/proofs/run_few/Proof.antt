@@ -1,25 +1,22 @@
 -- `runner::run_few` meets its contract. Assumes nothing.
-use Rattle.checker.proofs.Passing.{lent-few}
+use Rattle.checker.proofs.Passing.{room-few}
 use borrow.Author.Needs.{needs}
 use Rattle.runner.proofs.run_few.Statement.{statement}
 use Rattle.runner.proofs.run_few.Tie as tie
 
-slice-aggregate-run-into : tie.Need-slice-aggregate-run-into
-slice-aggregate-run-into c = search needs
+slice-aggregate-run-whole : tie.Need-slice-aggregate-run-whole
+slice-aggregate-run-whole c = search needs
 
-slice-aggregate-run-into-2 : tie.Need-slice-aggregate-run-into-2
-slice-aggregate-run-into-2 c = search needs
+slice-aggregate-run-whole-2 : tie.Need-slice-aggregate-run-whole-2
+slice-aggregate-run-whole-2 c = search needs
 
-slice-aggregate-run-into-3 : tie.Need-slice-aggregate-run-into-3
-slice-aggregate-run-into-3 c = search needs
+slice-aggregate-run-whole-3 : tie.Need-slice-aggregate-run-whole-3
+slice-aggregate-run-whole-3 c = search needs
 
-slice-aggregate-run-into-4 : tie.Need-slice-aggregate-run-into-4
-slice-aggregate-run-into-4 c = search needs
-
-run-into-requires : tie.Need-run-into-requires
-run-into-requires c κs =
-    let start = c .before .before .before .before .before .before .before in
-    (lent-few (start .args .rows .now) (start .pre .0), start .pre .1)
+run-whole-requires : tie.Need-run-whole-requires
+run-whole-requires c κs =
+    let start = c .before .before .before .before .before .before in
+    (room-few (start .args .rows .now) (start .pre .0 .0) (start .pre .0 .1), start .pre .1)
 
 same-length : tie.Need-same-length
 same-length c = search needs
@@ -31,10 +28,9 @@ pub run-few-spec : {M : Type 1} → statement M
 run-few-spec =
     tie.close
     (tie.spec
-    slice-aggregate-run-into
-    slice-aggregate-run-into-2
-    slice-aggregate-run-into-3
-    slice-aggregate-run-into-4
-    run-into-requires
+    slice-aggregate-run-whole
+    slice-aggregate-run-whole-2
+    slice-aggregate-run-whole-3
+    run-whole-requires
     same-length
     returns)

@@ -3,7 +3,7 @@ use native.Mathlib.Omega.{arith}
 use mathlib.Core.Path.{sym, _∙_}
 use Prim.Native.Nat.{ℕ, _+_, _*_}
 use Rattle.bodies.proofs.Turns.{in-row}
-use Rattle.bodies.proofs.TurnsBlocks.{block-few, block-open-pre, block-fail, block-items-pre}
+use Rattle.bodies.proofs.TurnsBlocks.{block-open-pre, block-fail, block-items-pre}
 use Rattle.bodies.proofs.TurnsBlocks.{block-done}
 use Rattle.bodies.proofs.block.Reads as block
 use Rattle.bodies.proofs.+arguments+block+call+choose+expression+items+unary+write.Lts-block as block-lts
@@ -24,52 +24,58 @@ callees t = (
 )
 
 block-mul-v : (t : ℕ) → block-lts.Need-mul-v (callees t) (block-at t) block.Post
-block-mul-v t c = omega (arith, in-row (c .before .before .before .before .before .before .pre .1 .1) .3)
+block-mul-v t c =
+    let start = c .before .before .before .before .before .before .before .before in
+    omega (arith, in-row (start .pre .1 .1) .3)
 
 block-add-v : (t : ℕ) → block-lts.Need-add-v (callees t) (block-at t) block.Post
-block-add-v t c = omega (arith, in-row (c .before .before .before .before .before .before .pre .1 .1) .3)
+block-add-v t c =
+    let start = c .before .before .before .before .before .before .before .before in
+    omega (arith, in-row (start .pre .1 .1) .3)
 
 block-mul-v-2 : (t : ℕ) → block-lts.Need-mul-v-2 (callees t) (block-at t) block.Post
-block-mul-v-2 t c = omega (arith, in-row (c .before .before .before .before .before .before .pre .1 .1) .3)
+block-mul-v-2 t c =
+    let start = c .before .before .before .before .before .before .before .before in
+    omega (arith, in-row (start .pre .1 .1) .3)
 
 block-shared-slice-read-v : (t : ℕ) → block-lts.Need-shared-slice-read-v (callees t) (block-at t) block.Post
 block-shared-slice-read-v t c =
-    let start = c .before .before .before .before .before .before .before in
+    let start = c .before .before .before .before .before .before .before .before .before in
     omega (arith, in-row (start .pre .1 .1) .0)
 
 block-cast-v : (t : ℕ) → block-lts.Need-cast-v (callees t) (block-at t) block.Post
 block-cast-v t c =
-    let start = c .before .before .before .before .before .before .before in
-    omega (arith, c .shared-slice-known5 .given (start .args .at * 4 + 1))
+    let start = c .before .before .before .before .before .before .before .before .before in
+    omega (arith, c .shared-slice-known7 .given (start .args .at * 4 + 1))
 
 block-mul-n : (t : ℕ) → block-lts.Need-mul-n (callees t) (block-at t) block.Post
 block-mul-n t c =
-    let start = c .before .before .before .before .before .before .before in
+    let start = c .before .before .before .before .before .before .before .before .before in
     omega (arith, in-row (start .pre .1 .1) .3)
 
 block-add-n : (t : ℕ) → block-lts.Need-add-n (callees t) (block-at t) block.Post
 block-add-n t c =
-    let start = c .before .before .before .before .before .before .before in
+    let start = c .before .before .before .before .before .before .before .before .before in
     omega (arith, in-row (start .pre .1 .1) .3)
 
 block-mul-n-2 : (t : ℕ) → block-lts.Need-mul-n-2 (callees t) (block-at t) block.Post
 block-mul-n-2 t c =
-    let start = c .before .before .before .before .before .before .before in
+    let start = c .before .before .before .before .before .before .before .before .before in
     omega (arith, in-row (start .pre .1 .1) .3)
 
 block-shared-slice-read-n : (t : ℕ) → block-lts.Need-shared-slice-read-n (callees t) (block-at t) block.Post
 block-shared-slice-read-n t c =
-    let start = c .before .before .before .before .before .before .before .before in
+    let start = c .before .before .before .before .before .before .before .before .before .before in
     omega (arith, in-row (start .pre .1 .1) .0)
 
 block-cast-n : (t : ℕ) → block-lts.Need-cast-n (callees t) (block-at t) block.Post
 block-cast-n t c =
-    let start = c .before .before .before .before .before .before .before .before in
-    omega (arith, c .shared-slice-known6 .given (start .args .at * 4 + 2))
+    let start = c .before .before .before .before .before .before .before .before .before .before in
+    omega (arith, c .shared-slice-known8 .given (start .args .at * 4 + 2))
 
 block-open-requires : (t : ℕ) → block-lts.Need-open-requires (callees t) (block-at t) block.Post
 block-open-requires t c κs =
-    let start = c .before .before .before .before .before .before .before .before .before in
+    let start = c .before .before .before .before .before .before .before .before .before .before .before in
     block-open-pre (start .pre .1 .1) (start .pre .1 .0)
 
 block-is-refusal-requires : (t : ℕ) → block-lts.Need-is-refusal-requires (callees t) (block-at t) block.Post
@@ -81,55 +87,62 @@ block-same-length t c = c .before .before .before .before .«open» .kept .1 .0
 block-returns : (t : ℕ) → block-lts.Need-returns (callees t) (block-at t) block.Post
 block-returns t c =
     let start = c .before .before .before .before .before .before .before .before .before .before .before
-    .before .before .before in
+    .before .before .before .before .before in
     block-fail (start .pre .1 .1) (start .pre .1 .0) (c .before .before .before .before .«open» .ensures)
     (sym (c .before .is-refusal .ensures) ∙ c .if1 .taken)
+
+block-add-size : (t : ℕ) → block-lts.Need-add-size (callees t) (block-at t) block.Post
+block-add-size t c =
+    let start = c .before .before .before .before .before .before .before .before .before .before .before
+    .before .before .before .before .before .before in
+    omega (
+      arith,
+      block-open-pre (start .pre .1 .1) (start .pre .1 .0) .slots,
+      start .good .1 .1 .1 .1 .1 .1 .0 .1,
+    )
 
 block-add-items : (t : ℕ) → block-lts.Need-add-items (callees t) (block-at t) block.Post
 block-add-items t c =
     let start = c .before .before .before .before .before .before .before .before .before .before .before
-    .before .before .before .before .before in
+    .before .before .before .before .before .before .before .before in
     omega (arith, in-row (start .pre .1 .1) .3)
 
 block-add-items-2 : (t : ℕ) → block-lts.Need-add-items-2 (callees t) (block-at t) block.Post
 block-add-items-2 t c =
     let start = c .before .before .before .before .before .before .before .before .before .before .before
-    .before .before .before .before .before in
-    omega (arith, in-row (start .pre .1 .1) .3, block-few (start .pre .1 .1) (start .pre .1 .0) .0)
-
-block-add-items-3 : (t : ℕ) → block-lts.Need-add-items-3 (callees t) (block-at t) block.Post
-block-add-items-3 t c =
-    let start = c .before .before .before .before .before .before .before .before .before .before .before
-    .before .before .before .before .before in
-    omega (arith, block-few (start .pre .1 .1) (start .pre .1 .0) .0)
+    .before .before .before .before .before .before .before .before in
+    omega (arith, in-row (start .pre .1 .1) .3, block-open-pre (start .pre .1 .1) (start .pre .1 .0) .low)
 
 block-items-requires : (t : ℕ) → block-lts.Need-items-requires (callees t) (block-at t) block.Post
 block-items-requires t c κs =
-    let start = c .before .before .before .before .before .before .before .before .before .before .before
+    let at-is-refusal = c .before .before .before .before in
+    let start = at-is-refusal .before .before .before .before .before .before .before .before .before .before
     .before .before .before .before .before in (
       omega (arith, in-row (start .pre .1 .1) .3, start .pre .0),
       block-items-pre (start .pre .1 .1) (start .pre .1 .0)
-          (c .before .before .before .before .before .before .«open» .ensures)
-          (sym (c .before .before .before .is-refusal .ensures) ∙ c .before .before .if1 .left),
+          (c .before .before .before .before .before .before .before .«open» .ensures)
+          (sym (at-is-refusal .is-refusal .ensures) ∙ c .before .before .before .if1 .left),
     )
 
 block-same-length-2 : (t : ℕ) → block-lts.Need-same-length-2 (callees t) (block-at t) block.Post
-block-same-length-2 t c = c .before .before .before .before .items .kept .1 .1 .1 .1 .0
-    ∙ c .before .before .before .before .before .before .before .before .before .before .before
+block-same-length-2 t c =
+    let at-items = c .before .before .before .before in
+    at-items .items .kept .1 .1 .1 .1 .1 .1 .0
+    ∙ c .before .before .before .before .before .before .before .before .before .before .before .before
     .«open» .kept .1 .0
 
 block-same-length-3 : (t : ℕ) → block-lts.Need-same-length-3 (callees t) (block-at t) block.Post
-block-same-length-3 t c = c .before .before .before .before .items .kept .1 .1 .1 .1 .1 .0
+block-same-length-3 t c = c .before .before .before .before .items .kept .1 .1 .1 .1 .1 .1 .1 .0
 
 block-returns-2 : (t : ℕ) → block-lts.Need-returns-2 (callees t) (block-at t) block.Post
 block-returns-2 t c =
     let at-items = c .before .before .before .before in
-    let at-if1 = at-items .before .before .before in
+    let at-if1 = at-items .before .before .before .before in
     let at-is-refusal = at-if1 .before in
     let start = at-is-refusal .before .before .before .before .before .before .before .before .before .before
-    .before .before .before in
+    .before .before .before .before .before in
     block-done (start .pre .1 .1) (start .pre .1 .0)
-    (c .before .before .before .before .before .before .before .before .before .before .before
+    (c .before .before .before .before .before .before .before .before .before .before .before .before
     .«open» .ensures) (sym (at-is-refusal .is-refusal .ensures) ∙ at-if1 .if1 .left)
     (at-items .items .ensures)
 
@@ -140,5 +153,5 @@ block-holds t =
     (block-mul-v t) (block-add-v t) (block-mul-v-2 t) (block-shared-slice-read-v t) (block-cast-v t)
     (block-mul-n t) (block-add-n t) (block-mul-n-2 t) (block-shared-slice-read-n t) (block-cast-n t)
     (block-open-requires t) (block-is-refusal-requires t) (block-same-length t) (block-returns t)
-    (block-add-items t) (block-add-items-2 t) (block-add-items-3 t) (block-items-requires t)
+    (block-add-size t) (block-add-items t) (block-add-items-2 t) (block-items-requires t)
     (block-same-length-2 t) (block-same-length-3 t) (block-returns-2 t)

@@ -39,12 +39,12 @@ callees t = (
 
 call-add-expression : (t : ℕ) → call-lts.Need-add-expression (callees t) (call-at t) call.Post
 call-add-expression t c =
-    let start = c .before .before .before .before .before .before .before .before in
+    let start = c .before .before .before .before .before .before .before .before .before .before in
     omega (arith, in-row (start .pre .1 .1) .3)
 
 call-expression-requires : (t : ℕ) → call-lts.Need-expression-requires (callees t) (call-at t) call.Post
 call-expression-requires t c κs =
-    let start = c .before .before .before .before .before .before .before .before in (
+    let start = c .before .before .before .before .before .before .before .before .before .before in (
       omega (arith, in-row (start .pre .1 .1) .3, start .pre .0),
       call-first (start .pre .1 .1) (start .pre .1 .0),
     )
@@ -53,71 +53,76 @@ call-is-refusal-requires : (t : ℕ) → call-lts.Need-is-refusal-requires (call
 call-is-refusal-requires t c κs = tt
 
 call-same-length : (t : ℕ) → call-lts.Need-same-length (callees t) (call-at t) call.Post
-call-same-length t c = c .before .before .before .before .before .before .expression .kept .1 .1 .1 .1 .0
+call-same-length t c =
+    let at-expression = c .before .before .before .before .before .before in
+    at-expression .expression .kept .1 .1 .1 .1 .1 .1 .0
 
 call-same-length-2 : (t : ℕ) → call-lts.Need-same-length-2 (callees t) (call-at t) call.Post
-call-same-length-2 t c = c .before .before .before .before .before .before .expression .kept .1 .1 .1 .1 .1 .0
+call-same-length-2 t c =
+    let at-expression = c .before .before .before .before .before .before in
+    at-expression .expression .kept .1 .1 .1 .1 .1 .1 .1 .0
 
 call-returns : (t : ℕ) → call-lts.Need-returns (callees t) (call-at t) call.Post
 call-returns t c =
     let at-expression = c .before .before .before .before .before .before in
-    let start = at-expression .before .before .before .before .before .before .before .before .before in
+    let start = at-expression .before .before .before .before .before .before .before .before .before .before
+    .before in
     call-fail (start .pre .1 .1) (start .pre .1 .0) (at-expression .expression .ensures)
     (sym (c .before .is-refusal .ensures) ∙ c .if1 .taken)
 
 call-add-next : (t : ℕ) → call-lts.Need-add-next (callees t) (call-at t) call.Post
 call-add-next t c =
     let start = c .before .before .before .before .before .before .before .before .before .before .before
-    .before .before .before .before in
+    .before .before .before .before .before .before in
     omega (arith, in-row (start .pre .1 .1) .3)
 
 call-mul-next : (t : ℕ) → call-lts.Need-mul-next (callees t) (call-at t) call.Post
 call-mul-next t c =
     let start = c .before .before .before .before .before .before .before .before .before .before .before
-    .before .before .before .before in
+    .before .before .before .before .before .before in
     omega (arith, in-row (start .pre .1 .1) .3)
 
 call-shared-slice-read-next : (t : ℕ) → call-lts.Need-shared-slice-read-next (callees t) (call-at t) call.Post
 call-shared-slice-read-next t c =
     let start = c .before .before .before .before .before .before .before .before .before .before .before
-    .before .before .before .before .before in
+    .before .before .before .before .before .before .before in
     in-row (call-first (start .pre .1 .1) (start .pre .1 .0)) .1
 
 call-cast-next : (t : ℕ) → call-lts.Need-cast-next (callees t) (call-at t) call.Post
 call-cast-next t c =
     let start = c .before .before .before .before .before .before .before .before .before .before .before
-    .before .before .before .before .before in
-    omega (arith, c .shared-slice-known5 .given (start .args .at + 1))
+    .before .before .before .before .before .before .before in
+    omega (arith, c .shared-slice-known7 .given (start .args .at + 1))
 
 call-mul-n : (t : ℕ) → call-lts.Need-mul-n (callees t) (call-at t) call.Post
 call-mul-n t c =
     let start = c .before .before .before .before .before .before .before .before .before .before .before
-    .before .before .before .before .before in
+    .before .before .before .before .before .before .before in
     omega (arith, in-row (start .pre .1 .1) .3)
 
 call-add-n : (t : ℕ) → call-lts.Need-add-n (callees t) (call-at t) call.Post
 call-add-n t c =
     let start = c .before .before .before .before .before .before .before .before .before .before .before
-    .before .before .before .before .before in
+    .before .before .before .before .before .before .before in
     omega (arith, in-row (start .pre .1 .1) .3)
 
 call-mul-n-2 : (t : ℕ) → call-lts.Need-mul-n-2 (callees t) (call-at t) call.Post
 call-mul-n-2 t c =
     let start = c .before .before .before .before .before .before .before .before .before .before .before
-    .before .before .before .before .before in
+    .before .before .before .before .before .before .before in
     omega (arith, in-row (start .pre .1 .1) .3)
 
 call-shared-slice-read-n : (t : ℕ) → call-lts.Need-shared-slice-read-n (callees t) (call-at t) call.Post
 call-shared-slice-read-n t c =
     let start = c .before .before .before .before .before .before .before .before .before .before .before
-    .before .before .before .before .before .before in
+    .before .before .before .before .before .before .before .before in
     omega (arith, in-row (start .pre .1 .1) .0)
 
 call-cast-n : (t : ℕ) → call-lts.Need-cast-n (callees t) (call-at t) call.Post
 call-cast-n t c =
     let start = c .before .before .before .before .before .before .before .before .before .before .before
-    .before .before .before .before .before .before in
-    omega (arith, c .shared-slice-known6 .given (start .args .at * 4 + 2))
+    .before .before .before .before .before .before .before .before in
+    omega (arith, c .shared-slice-known8 .given (start .args .at * 4 + 2))
 
 call-plain-requires : (t : ℕ) → call-lts.Need-plain-requires (callees t) (call-at t) call.Post
 call-plain-requires t c κs = tt
@@ -127,7 +132,8 @@ call-items-requires t c κs =
     let at-if1 = c .before .before .before .before .before .before in
     let at-is-refusal = at-if1 .before in
     let at-expression = at-is-refusal .before .before .before .before .before in
-    let start = at-expression .before .before .before .before .before .before .before .before .before in (
+    let start = at-expression .before .before .before .before .before .before .before .before .before .before
+    .before in (
       omega (
         arith,
         in-row (start .pre .1 .1) .3,
@@ -142,18 +148,24 @@ call-too-many-requires : (t : ℕ) → call-lts.Need-too-many-requires (callees 
 call-too-many-requires t c κs =
     let start = c .before .before .before .before .before .before .before .before .before .before .before
     .before .before .before .before .before .before .before .before .before .before .before .before
-    .before .before .before in
+    .before .before .before .before .before in
     leaf-row (start .pre .1 .1) .1
 
 call-same-length-3 : (t : ℕ) → call-lts.Need-same-length-3 (callees t) (call-at t) call.Post
-call-same-length-3 t c = c .before .before .before .before .before .items .kept .1 .1 .1 .1 .0
-    ∙ c .before .before .before .before .before .before .before .before .before .before .before .before
-    .before .before .before .before .before .before .expression .kept .1 .1 .1 .1 .0
+call-same-length-3 t c =
+    let at-items = c .before .before .before .before .before in
+    let at-expression = at-items .before .before .before .before .before .before .before .before .before
+    .before .before .before .before in
+    at-items .items .kept .1 .1 .1 .1 .1 .1 .0
+    ∙ at-expression .expression .kept .1 .1 .1 .1 .1 .1 .0
 
 call-same-length-4 : (t : ℕ) → call-lts.Need-same-length-4 (callees t) (call-at t) call.Post
-call-same-length-4 t c = c .before .before .before .before .before .items .kept .1 .1 .1 .1 .1 .0
-    ∙ c .before .before .before .before .before .before .before .before .before .before .before .before
-    .before .before .before .before .before .before .expression .kept .1 .1 .1 .1 .1 .0
+call-same-length-4 t c =
+    let at-items = c .before .before .before .before .before in
+    let at-expression = at-items .before .before .before .before .before .before .before .before .before
+    .before .before .before .before in
+    at-items .items .kept .1 .1 .1 .1 .1 .1 .1 .0
+    ∙ at-expression .expression .kept .1 .1 .1 .1 .1 .1 .1 .0
 
 call-returns-2 : (t : ℕ) → call-lts.Need-returns-2 (callees t) (call-at t) call.Post
 call-returns-2 t c =
@@ -163,7 +175,8 @@ call-returns-2 t c =
     let at-if1 = at-if2 .before .before .before in
     let at-is-refusal = at-if1 .before in
     let at-expression = at-is-refusal .before .before .before .before .before in
-    let start = at-expression .before .before .before .before .before .before .before .before .before in
+    let start = at-expression .before .before .before .before .before .before .before .before .before .before
+    .before in
     call-many (start .pre .1 .1) (start .pre .1 .0) (at-expression .expression .ensures)
     (sym (at-is-refusal .is-refusal .ensures) ∙ at-if1 .if1 .left) (at-if2 .if2 .taken)
     (at-plain .plain .ensures) (at-items .items .ensures) (c .too-many .ensures)
@@ -173,7 +186,8 @@ call-arguments-requires t c κs =
     let at-if1 = c .before .before .before .before .before in
     let at-is-refusal = at-if1 .before in
     let at-expression = at-is-refusal .before .before .before .before .before in
-    let start = at-expression .before .before .before .before .before .before .before .before .before in (
+    let start = at-expression .before .before .before .before .before .before .before .before .before .before
+    .before in (
       omega (
         arith,
         in-row (start .pre .1 .1) .3,
@@ -189,14 +203,20 @@ call-is-refusal-requires-2 : (t : ℕ) → call-lts.Need-is-refusal-requires-2 (
 call-is-refusal-requires-2 t c κs = tt
 
 call-same-length-5 : (t : ℕ) → call-lts.Need-same-length-5 (callees t) (call-at t) call.Post
-call-same-length-5 t c = c .before .before .before .before .before .before .arguments .kept .1 .1 .1 .1 .0
-    ∙ c .before .before .before .before .before .before .before .before .before .before .before .before
-    .before .before .before .before .before .before .expression .kept .1 .1 .1 .1 .0
+call-same-length-5 t c =
+    let at-arguments = c .before .before .before .before .before .before in
+    let at-expression = at-arguments .before .before .before .before .before .before .before .before .before
+    .before .before .before in
+    at-arguments .arguments .kept .1 .1 .1 .1 .1 .1 .0
+    ∙ at-expression .expression .kept .1 .1 .1 .1 .1 .1 .0
 
 call-same-length-6 : (t : ℕ) → call-lts.Need-same-length-6 (callees t) (call-at t) call.Post
-call-same-length-6 t c = c .before .before .before .before .before .before .arguments .kept .1 .1 .1 .1 .1 .0
-    ∙ c .before .before .before .before .before .before .before .before .before .before .before .before
-    .before .before .before .before .before .before .expression .kept .1 .1 .1 .1 .1 .0
+call-same-length-6 t c =
+    let at-arguments = c .before .before .before .before .before .before in
+    let at-expression = at-arguments .before .before .before .before .before .before .before .before .before
+    .before .before .before in
+    at-arguments .arguments .kept .1 .1 .1 .1 .1 .1 .1 .0
+    ∙ at-expression .expression .kept .1 .1 .1 .1 .1 .1 .1 .0
 
 call-returns-3 : (t : ℕ) → call-lts.Need-returns-3 (callees t) (call-at t) call.Post
 call-returns-3 t c =
@@ -205,7 +225,8 @@ call-returns-3 t c =
     let at-if1 = at-if2 .before .before .before in
     let at-is-refusal = at-if1 .before in
     let at-expression = at-is-refusal .before .before .before .before .before in
-    let start = at-expression .before .before .before .before .before .before .before .before .before in
+    let start = at-expression .before .before .before .before .before .before .before .before .before .before
+    .before in
     call-fail-arguments (start .pre .1 .1) (start .pre .1 .0) (at-expression .expression .ensures)
     (sym (at-is-refusal .is-refusal .ensures) ∙ at-if1 .if1 .left) (at-if2 .if2 .left)
     (at-arguments .arguments .ensures) (sym (c .before .is-refusal2 .ensures) ∙ c .if3 .taken)
@@ -217,27 +238,32 @@ call-invoke-requires t c κs =
     let at-if1 = at-if2 .before .before .before in
     let at-is-refusal = at-if1 .before in
     let at-expression = at-is-refusal .before .before .before .before .before in
-    let start = at-expression .before .before .before .before .before .before .before .before .before in
+    let start = at-expression .before .before .before .before .before .before .before .before .before .before
+    .before in
     call-invoke-pre (start .pre .1 .1) (start .pre .1 .0) (at-expression .expression .ensures)
     (sym (at-is-refusal .is-refusal .ensures) ∙ at-if1 .if1 .left) (at-if2 .if2 .left)
     (at-arguments .arguments .ensures)
     (sym (c .before .before .before .is-refusal2 .ensures) ∙ c .before .before .if3 .left)
 
 call-same-length-7 : (t : ℕ) → call-lts.Need-same-length-7 (callees t) (call-at t) call.Post
-call-same-length-7 t c = c .before .before .before .before .invoke .kept .1 .1 .1 .0
-    ∙ (c .before .before .before .before .before .before .before .before .before .before .before .before
-    .before .arguments .kept .1 .1 .1 .1 .0
-    ∙ c .before .before .before .before .before .before .before .before .before .before .before .before
-    .before .before .before .before .before .before .before .before .before .before .before .before
-    .before .expression .kept .1 .1 .1 .1 .0)
+call-same-length-7 t c =
+    let at-invoke = c .before .before .before .before in
+    let at-arguments = at-invoke .before .before .before .before .before .before .before .before .before in
+    let at-expression = at-arguments .before .before .before .before .before .before .before .before .before
+    .before .before .before in
+    at-invoke .invoke .kept .1 .1 .1 .1 .1 .0
+    ∙ (at-arguments .arguments .kept .1 .1 .1 .1 .1 .1 .0
+    ∙ at-expression .expression .kept .1 .1 .1 .1 .1 .1 .0)
 
 call-same-length-8 : (t : ℕ) → call-lts.Need-same-length-8 (callees t) (call-at t) call.Post
-call-same-length-8 t c = c .before .before .before .before .invoke .kept .1 .1 .1 .1 .0
-    ∙ (c .before .before .before .before .before .before .before .before .before .before .before .before
-    .before .arguments .kept .1 .1 .1 .1 .1 .0
-    ∙ c .before .before .before .before .before .before .before .before .before .before .before .before
-    .before .before .before .before .before .before .before .before .before .before .before .before
-    .before .expression .kept .1 .1 .1 .1 .1 .0)
+call-same-length-8 t c =
+    let at-invoke = c .before .before .before .before in
+    let at-arguments = at-invoke .before .before .before .before .before .before .before .before .before in
+    let at-expression = at-arguments .before .before .before .before .before .before .before .before .before
+    .before .before .before in
+    at-invoke .invoke .kept .1 .1 .1 .1 .1 .1 .0
+    ∙ (at-arguments .arguments .kept .1 .1 .1 .1 .1 .1 .1 .0
+    ∙ at-expression .expression .kept .1 .1 .1 .1 .1 .1 .1 .0)
 
 call-returns-4 : (t : ℕ) → call-lts.Need-returns-4 (callees t) (call-at t) call.Post
 call-returns-4 t c =
@@ -249,7 +275,8 @@ call-returns-4 t c =
     let at-if1 = at-if2 .before .before .before in
     let at-is-refusal = at-if1 .before in
     let at-expression = at-is-refusal .before .before .before .before .before in
-    let start = at-expression .before .before .before .before .before .before .before .before .before in
+    let start = at-expression .before .before .before .before .before .before .before .before .before .before
+    .before in
     call-done (start .pre .1 .1) (start .pre .1 .0) (at-expression .expression .ensures)
     (sym (at-is-refusal .is-refusal .ensures) ∙ at-if1 .if1 .left) (at-if2 .if2 .left)
     (at-arguments .arguments .ensures) (sym (at-is-refusal2 .is-refusal2 .ensures) ∙ at-if3 .if3 .left)

@@ -34,13 +34,13 @@ callees t = (
 
 choose-add-expression : (t : ℕ) → choose-lts.Need-add-expression (callees t) (choose-at t) choose.Post
 choose-add-expression t c =
-    let start = c .before .before .before .before .before .before .before .before in
+    let start = c .before .before .before .before .before .before .before .before .before .before in
     omega (arith, in-row (start .pre .1 .1) .3)
 
 choose-expression-requires : (t : ℕ)
     → choose-lts.Need-expression-requires (callees t) (choose-at t) choose.Post
 choose-expression-requires t c κs =
-    let start = c .before .before .before .before .before .before .before .before in (
+    let start = c .before .before .before .before .before .before .before .before .before .before in (
       omega (arith, in-row (start .pre .1 .1) .3, start .pre .0),
       choose-first (start .pre .1 .1) (start .pre .1 .0),
     )
@@ -50,65 +50,69 @@ choose-is-refusal-requires : (t : ℕ)
 choose-is-refusal-requires t c κs = tt
 
 choose-same-length : (t : ℕ) → choose-lts.Need-same-length (callees t) (choose-at t) choose.Post
-choose-same-length t c = c .before .before .before .before .before .before .expression .kept .1 .1 .1 .1 .0
+choose-same-length t c =
+    let at-expression = c .before .before .before .before .before .before in
+    at-expression .expression .kept .1 .1 .1 .1 .1 .1 .0
 
 choose-same-length-2 : (t : ℕ) → choose-lts.Need-same-length-2 (callees t) (choose-at t) choose.Post
 choose-same-length-2 t c =
-    let at-expression = c .before .before .before .before .before .before in
-    at-expression .expression .kept .1 .1 .1 .1 .1 .0
+    c .before .before .before .before .before .before .expression .kept .1 .1 .1 .1 .1 .1 .1 .0
 
 choose-returns : (t : ℕ) → choose-lts.Need-returns (callees t) (choose-at t) choose.Post
 choose-returns t c =
     let at-expression = c .before .before .before .before .before .before in
-    let start = at-expression .before .before .before .before .before .before .before .before .before in
+    let start = at-expression .before .before .before .before .before .before .before .before .before .before
+    .before in
     choose-fail (start .pre .1 .1) (start .pre .1 .0) (at-expression .expression .ensures)
     (sym (c .before .is-refusal .ensures) ∙ c .if1 .taken)
 
 choose-add-first : (t : ℕ) → choose-lts.Need-add-first (callees t) (choose-at t) choose.Post
 choose-add-first t c =
     let start = c .before .before .before .before .before .before .before .before .before .before .before
-    .before .before .before .before in
+    .before .before .before .before .before .before in
     omega (arith, in-row (start .pre .1 .1) .3)
 
 choose-mul-first : (t : ℕ) → choose-lts.Need-mul-first (callees t) (choose-at t) choose.Post
 choose-mul-first t c =
     let start = c .before .before .before .before .before .before .before .before .before .before .before
-    .before .before .before .before in
+    .before .before .before .before .before .before in
     omega (arith, in-row (start .pre .1 .1) .3)
 
 choose-shared-slice-read-first : (t : ℕ)
     → choose-lts.Need-shared-slice-read-first (callees t) (choose-at t) choose.Post
 choose-shared-slice-read-first t c =
     let start = c .before .before .before .before .before .before .before .before .before .before .before
-    .before .before .before .before .before in
+    .before .before .before .before .before .before .before in
     in-row (choose-first (start .pre .1 .1) (start .pre .1 .0)) .1
 
 choose-cast-first : (t : ℕ) → choose-lts.Need-cast-first (callees t) (choose-at t) choose.Post
 choose-cast-first t c =
     let start = c .before .before .before .before .before .before .before .before .before .before .before
-    .before .before .before .before .before in
-    omega (arith, c .shared-slice-known5 .given (start .args .at + 1))
+    .before .before .before .before .before .before .before in
+    omega (arith, c .shared-slice-known7 .given (start .args .at + 1))
 
 choose-save-requires : (t : ℕ) → choose-lts.Need-save-requires (callees t) (choose-at t) choose.Post
 choose-save-requires t c κs =
     let at-expression = c .before .before .before .before .before .before .before .before in
-    let start = at-expression .before .before .before .before .before .before .before .before .before in
+    let start = at-expression .before .before .before .before .before .before .before .before .before .before
+    .before in
     save-pre (start .pre .1 .1) (start .pre .1 .0) (at-expression .expression .ensures)
 
-choose-add-expression-2 : (t : ℕ) → choose-lts.Need-add-expression-2 (callees t) (choose-at t) choose.Post
-choose-add-expression-2 t c =
+choose-add-top : (t : ℕ) → choose-lts.Need-add-top (callees t) (choose-at t) choose.Post
+choose-add-top t c =
     let start = c .before .before .before .before .before .before .before .before .before .before .before
-    .before .before .before .before .before .before .before .before .before .before .before in
-    omega (arith, choose-room (start .pre .1 .1) (start .pre .1 .0) .0, start .good .1 .1 .1 .1 .0 .1)
+    .before .before .before .before .before .before .before .before .before .before .before .before in
+    omega (arith, choose-room (start .pre .1 .1) (start .pre .1 .0) .0, start .good .1 .1 .1 .1 .1 .1 .0 .1)
 
 choose-expression-requires-2 : (t : ℕ)
     → choose-lts.Need-expression-requires-2 (callees t) (choose-at t) choose.Post
 choose-expression-requires-2 t c κs =
-    let at-save = c .before .before .before .before in
+    let at-save = c .before .before .before .before .before in
     let at-if1 = at-save .before .before .before in
     let at-is-refusal = at-if1 .before in
     let at-expression = at-is-refusal .before .before .before .before .before in
-    let start = at-expression .before .before .before .before .before .before .before .before .before in (
+    let start = at-expression .before .before .before .before .before .before .before .before .before .before
+    .before in (
       omega (
         arith,
         in-row (start .pre .1 .1) .3,
@@ -126,37 +130,41 @@ choose-is-refusal-requires-2 t c κs = tt
 choose-same-length-3 : (t : ℕ) → choose-lts.Need-same-length-3 (callees t) (choose-at t) choose.Post
 choose-same-length-3 t c =
     let at-expression2 = c .before .before .before .before .before .before in
-    let at-save = at-expression2 .before .before .before .before .before in
+    let at-save = at-expression2 .before .before .before .before .before .before in
     let at-expression = at-save .before .before .before .before .before .before .before .before .before in
-    at-expression2 .expression2 .kept .1 .1 .1 .1 .0
-    ∙ (at-save .save .kept .0 ∙ at-expression .expression .kept .1 .1 .1 .1 .0)
+    at-expression2 .expression2 .kept .1 .1 .1 .1 .1 .1 .0
+    ∙ (at-save .save .kept .0 ∙ at-expression .expression .kept .1 .1 .1 .1 .1 .1 .0)
 
 choose-same-length-4 : (t : ℕ) → choose-lts.Need-same-length-4 (callees t) (choose-at t) choose.Post
 choose-same-length-4 t c =
     let at-expression2 = c .before .before .before .before .before .before in
     let at-expression = at-expression2 .before .before .before .before .before .before .before .before .before
-    .before .before .before .before .before in
-    at-expression2 .expression2 .kept .1 .1 .1 .1 .1 .0 ∙ at-expression .expression .kept .1 .1 .1 .1 .1 .0
+    .before .before .before .before .before .before in
+    at-expression2 .expression2 .kept .1 .1 .1 .1 .1 .1 .1 .0
+    ∙ at-expression .expression .kept .1 .1 .1 .1 .1 .1 .1 .0
 
 choose-returns-2 : (t : ℕ) → choose-lts.Need-returns-2 (callees t) (choose-at t) choose.Post
 choose-returns-2 t c =
     let at-expression2 = c .before .before .before .before .before .before in
-    let at-save = at-expression2 .before .before .before .before .before in
+    let at-save = at-expression2 .before .before .before .before .before .before in
     let at-if1 = at-save .before .before .before in
     let at-is-refusal = at-if1 .before in
     let at-expression = at-is-refusal .before .before .before .before .before in
-    let start = at-expression .before .before .before .before .before .before .before .before .before in
+    let start = at-expression .before .before .before .before .before .before .before .before .before .before
+    .before in
     choose-fail-second (start .pre .1 .1) (start .pre .1 .0) (at-expression .expression .ensures)
     (sym (at-is-refusal .is-refusal .ensures) ∙ at-if1 .if1 .left) (at-save .save .ensures)
     (at-expression2 .expression2 .ensures) (sym (c .before .is-refusal2 .ensures) ∙ c .if2 .taken)
 
 choose-mul-second : (t : ℕ) → choose-lts.Need-mul-second (callees t) (choose-at t) choose.Post
 choose-mul-second t c =
-    let at-save = c .before .before .before .before .before .before .before .before .before .before .before in
+    let at-save = c .before .before .before .before .before .before .before .before .before .before .before
+    .before in
     let at-if1 = at-save .before .before .before in
     let at-is-refusal = at-if1 .before in
     let at-expression = at-is-refusal .before .before .before .before .before in
-    let start = at-expression .before .before .before .before .before .before .before .before .before in
+    let start = at-expression .before .before .before .before .before .before .before .before .before .before
+    .before in
     omega (
       arith,
       in-row
@@ -168,11 +176,12 @@ choose-shared-slice-read-second : (t : ℕ)
     → choose-lts.Need-shared-slice-read-second (callees t) (choose-at t) choose.Post
 choose-shared-slice-read-second t c =
     let at-save = c .before .before .before .before .before .before .before .before .before .before .before
-    .before in
+    .before .before in
     let at-if1 = at-save .before .before .before in
     let at-is-refusal = at-if1 .before in
     let at-expression = at-is-refusal .before .before .before .before .before in
-    let start = at-expression .before .before .before .before .before .before .before .before .before in
+    let start = at-expression .before .before .before .before .before .before .before .before .before .before
+    .before in
     in-row (choose-second (start .pre .1 .1) (start .pre .1 .0) (at-expression .expression .ensures)
     (sym (at-is-refusal .is-refusal .ensures) ∙ at-if1 .if1 .left) (at-save .save .ensures)) .1
 
@@ -180,28 +189,21 @@ choose-cast-second : (t : ℕ) → choose-lts.Need-cast-second (callees t) (choo
 choose-cast-second t c =
     let start = c .before .before .before .before .before .before .before .before .before .before .before
     .before .before .before .before .before .before .before .before .before .before .before .before
-    .before .before .before .before .before .before .before in
-    omega (arith, c .shared-slice-known6 .given (getD (start .args .ends .now) (start .args .at + 1) 0))
+    .before .before .before .before .before .before .before .before .before .before in
+    omega (arith, c .shared-slice-known8 .given (getD (start .args .ends .now) (start .args .at + 1) 0))
 
 choose-swap-requires : (t : ℕ) → choose-lts.Need-swap-requires (callees t) (choose-at t) choose.Post
 choose-swap-requires t c κs =
     let at-expression2 = c .before .before .before .before .before .before .before .before in
-    let at-save = at-expression2 .before .before .before .before .before in
+    let at-save = at-expression2 .before .before .before .before .before .before in
     let at-if1 = at-save .before .before .before in
     let at-is-refusal = at-if1 .before in
     let at-expression = at-is-refusal .before .before .before .before .before in
-    let start = at-expression .before .before .before .before .before .before .before .before .before in
+    let start = at-expression .before .before .before .before .before .before .before .before .before .before
+    .before in
     swap-pre (start .pre .1 .1) (start .pre .1 .0) (at-expression .expression .ensures)
     (sym (at-is-refusal .is-refusal .ensures) ∙ at-if1 .if1 .left) (at-save .save .ensures)
     (at-expression2 .expression2 .ensures)
-
-choose-add-expression-3 : (t : ℕ) → choose-lts.Need-add-expression-3 (callees t) (choose-at t) choose.Post
-choose-add-expression-3 t c =
-    let start = c .before .before .before .before .before .before .before .before .before .before .before
-    .before .before .before .before .before .before .before .before .before .before .before .before
-    .before .before .before .before .before .before .before .before .before .before .before .before
-    .before in
-    omega (arith, choose-room (start .pre .1 .1) (start .pre .1 .0) .0, start .good .1 .1 .1 .1 .0 .1)
 
 choose-expression-requires-3 : (t : ℕ)
     → choose-lts.Need-expression-requires-3 (callees t) (choose-at t) choose.Post
@@ -210,11 +212,12 @@ choose-expression-requires-3 t c κs =
     let at-if2 = at-swap .before .before .before in
     let at-is-refusal2 = at-if2 .before in
     let at-expression2 = at-is-refusal2 .before .before .before .before .before in
-    let at-save = at-expression2 .before .before .before .before .before in
+    let at-save = at-expression2 .before .before .before .before .before .before in
     let at-if1 = at-save .before .before .before in
     let at-is-refusal = at-if1 .before in
     let at-expression = at-is-refusal .before .before .before .before .before in
-    let start = at-expression .before .before .before .before .before .before .before .before .before in (
+    let start = at-expression .before .before .before .before .before .before .before .before .before .before
+    .before in (
       omega (
         arith,
         in-row (start .pre .1 .1) .3,
@@ -238,12 +241,12 @@ choose-same-length-5 t c =
     let at-expression3 = c .before .before .before .before .before .before in
     let at-swap = at-expression3 .before .before .before .before .before in
     let at-expression2 = at-swap .before .before .before .before .before .before .before .before .before in
-    let at-save = at-expression2 .before .before .before .before .before in
+    let at-save = at-expression2 .before .before .before .before .before .before in
     let at-expression = at-save .before .before .before .before .before .before .before .before .before in
-    at-expression3 .expression3 .kept .1 .1 .1 .1 .0
+    at-expression3 .expression3 .kept .1 .1 .1 .1 .1 .1 .0
     ∙ (at-swap .swap .kept .0
-    ∙ (at-expression2 .expression2 .kept .1 .1 .1 .1 .0
-    ∙ (at-save .save .kept .0 ∙ at-expression .expression .kept .1 .1 .1 .1 .0)))
+    ∙ (at-expression2 .expression2 .kept .1 .1 .1 .1 .1 .1 .0
+    ∙ (at-save .save .kept .0 ∙ at-expression .expression .kept .1 .1 .1 .1 .1 .1 .0)))
 
 choose-same-length-6 : (t : ℕ) → choose-lts.Need-same-length-6 (callees t) (choose-at t) choose.Post
 choose-same-length-6 t c =
@@ -251,10 +254,10 @@ choose-same-length-6 t c =
     let at-expression2 = at-expression3 .before .before .before .before .before .before .before .before
     .before .before .before .before .before .before in
     let at-expression = at-expression2 .before .before .before .before .before .before .before .before .before
-    .before .before .before .before .before in
-    at-expression3 .expression3 .kept .1 .1 .1 .1 .1 .0
-    ∙ (at-expression2 .expression2 .kept .1 .1 .1 .1 .1 .0
-    ∙ at-expression .expression .kept .1 .1 .1 .1 .1 .0)
+    .before .before .before .before .before .before in
+    at-expression3 .expression3 .kept .1 .1 .1 .1 .1 .1 .1 .0
+    ∙ (at-expression2 .expression2 .kept .1 .1 .1 .1 .1 .1 .1 .0
+    ∙ at-expression .expression .kept .1 .1 .1 .1 .1 .1 .1 .0)
 
 choose-returns-3 : (t : ℕ) → choose-lts.Need-returns-3 (callees t) (choose-at t) choose.Post
 choose-returns-3 t c =
@@ -263,11 +266,12 @@ choose-returns-3 t c =
     let at-if2 = at-swap .before .before .before in
     let at-is-refusal2 = at-if2 .before in
     let at-expression2 = at-is-refusal2 .before .before .before .before .before in
-    let at-save = at-expression2 .before .before .before .before .before in
+    let at-save = at-expression2 .before .before .before .before .before .before in
     let at-if1 = at-save .before .before .before in
     let at-is-refusal = at-if1 .before in
     let at-expression = at-is-refusal .before .before .before .before .before in
-    let start = at-expression .before .before .before .before .before .before .before .before .before in
+    let start = at-expression .before .before .before .before .before .before .before .before .before .before
+    .before in
     choose-fail-third (start .pre .1 .1) (start .pre .1 .0) (at-expression .expression .ensures)
     (sym (at-is-refusal .is-refusal .ensures) ∙ at-if1 .if1 .left) (at-save .save .ensures)
     (at-expression2 .expression2 .ensures)
@@ -281,11 +285,12 @@ choose-choice-requires t c κs =
     let at-if2 = at-swap .before .before .before in
     let at-is-refusal2 = at-if2 .before in
     let at-expression2 = at-is-refusal2 .before .before .before .before .before in
-    let at-save = at-expression2 .before .before .before .before .before in
+    let at-save = at-expression2 .before .before .before .before .before .before in
     let at-if1 = at-save .before .before .before in
     let at-is-refusal = at-if1 .before in
     let at-expression = at-is-refusal .before .before .before .before .before in
-    let start = at-expression .before .before .before .before .before .before .before .before .before in
+    let start = at-expression .before .before .before .before .before .before .before .before .before .before
+    .before in
     choice-pre (start .pre .1 .1) (start .pre .1 .0) (at-expression .expression .ensures)
     (sym (at-is-refusal .is-refusal .ensures) ∙ at-if1 .if1 .left) (at-save .save .ensures)
     (at-expression2 .expression2 .ensures)
@@ -298,13 +303,13 @@ choose-same-length-7 t c =
     let at-expression3 = c .before .before .before .before .before .before .before .before .before .before in
     let at-swap = at-expression3 .before .before .before .before .before in
     let at-expression2 = at-swap .before .before .before .before .before .before .before .before .before in
-    let at-save = at-expression2 .before .before .before .before .before in
+    let at-save = at-expression2 .before .before .before .before .before .before in
     let at-expression = at-save .before .before .before .before .before .before .before .before .before in
     c .before .before .choice .kept .1 .1 .0
-    ∙ (at-expression3 .expression3 .kept .1 .1 .1 .1 .0
+    ∙ (at-expression3 .expression3 .kept .1 .1 .1 .1 .1 .1 .0
     ∙ (at-swap .swap .kept .0
-    ∙ (at-expression2 .expression2 .kept .1 .1 .1 .1 .0
-    ∙ (at-save .save .kept .0 ∙ at-expression .expression .kept .1 .1 .1 .1 .0))))
+    ∙ (at-expression2 .expression2 .kept .1 .1 .1 .1 .1 .1 .0
+    ∙ (at-save .save .kept .0 ∙ at-expression .expression .kept .1 .1 .1 .1 .1 .1 .0))))
 
 choose-same-length-8 : (t : ℕ) → choose-lts.Need-same-length-8 (callees t) (choose-at t) choose.Post
 choose-same-length-8 t c =
@@ -312,10 +317,10 @@ choose-same-length-8 t c =
     let at-expression2 = at-expression3 .before .before .before .before .before .before .before .before
     .before .before .before .before .before .before in
     let at-expression = at-expression2 .before .before .before .before .before .before .before .before .before
-    .before .before .before .before .before in
-    at-expression3 .expression3 .kept .1 .1 .1 .1 .1 .0
-    ∙ (at-expression2 .expression2 .kept .1 .1 .1 .1 .1 .0
-    ∙ at-expression .expression .kept .1 .1 .1 .1 .1 .0)
+    .before .before .before .before .before .before in
+    at-expression3 .expression3 .kept .1 .1 .1 .1 .1 .1 .1 .0
+    ∙ (at-expression2 .expression2 .kept .1 .1 .1 .1 .1 .1 .1 .0
+    ∙ at-expression .expression .kept .1 .1 .1 .1 .1 .1 .1 .0)
 
 choose-returns-4 : (t : ℕ) → choose-lts.Need-returns-4 (callees t) (choose-at t) choose.Post
 choose-returns-4 t c =
@@ -326,11 +331,12 @@ choose-returns-4 t c =
     let at-if2 = at-swap .before .before .before in
     let at-is-refusal2 = at-if2 .before in
     let at-expression2 = at-is-refusal2 .before .before .before .before .before in
-    let at-save = at-expression2 .before .before .before .before .before in
+    let at-save = at-expression2 .before .before .before .before .before .before in
     let at-if1 = at-save .before .before .before in
     let at-is-refusal = at-if1 .before in
     let at-expression = at-is-refusal .before .before .before .before .before in
-    let start = at-expression .before .before .before .before .before .before .before .before .before in
+    let start = at-expression .before .before .before .before .before .before .before .before .before .before
+    .before in
     choose-done (start .pre .1 .1) (start .pre .1 .0) (at-expression .expression .ensures)
     (sym (at-is-refusal .is-refusal .ensures) ∙ at-if1 .if1 .left) (at-save .save .ensures)
     (at-expression2 .expression2 .ensures)
@@ -345,9 +351,9 @@ choose-holds t =
     (choose-add-expression t) (choose-expression-requires t) (choose-is-refusal-requires t)
     (choose-same-length t) (choose-same-length-2 t) (choose-returns t) (choose-add-first t)
     (choose-mul-first t) (choose-shared-slice-read-first t) (choose-cast-first t) (choose-save-requires t)
-    (choose-add-expression-2 t) (choose-expression-requires-2 t) (choose-is-refusal-requires-2 t)
+    (choose-add-top t) (choose-expression-requires-2 t) (choose-is-refusal-requires-2 t)
     (choose-same-length-3 t) (choose-same-length-4 t) (choose-returns-2 t) (choose-mul-second t)
     (choose-shared-slice-read-second t) (choose-cast-second t) (choose-swap-requires t)
-    (choose-add-expression-3 t) (choose-expression-requires-3 t) (choose-is-refusal-requires-3 t)
+    (choose-expression-requires-3 t) (choose-is-refusal-requires-3 t)
     (choose-same-length-5 t) (choose-same-length-6 t) (choose-returns-3 t) (choose-choice-requires t)
     (choose-same-length-7 t) (choose-same-length-8 t) (choose-returns-4 t)

@@ -45,19 +45,17 @@ callees t = (
 
 expression-mul-letter : (t : ℕ) → expression-lts.Need-mul-letter (callees t) (expression-at t) expression.Post
 expression-mul-letter t c =
-    let start = c .before .before .before .before .before .before in
-    omega (arith, in-row (start .pre .1) .3)
+    omega (arith, in-row (c .before .before .before .before .before .before .before .before .pre .1) .3)
 
 expression-mul-letter-2 : (t : ℕ)
     → expression-lts.Need-mul-letter-2 (callees t) (expression-at t) expression.Post
 expression-mul-letter-2 t c =
-    let start = c .before .before .before .before .before .before in
-    omega (arith, in-row (start .pre .1) .3)
+    omega (arith, in-row (c .before .before .before .before .before .before .before .before .pre .1) .3)
 
 expression-shared-slice-read-letter : (t : ℕ)
     → expression-lts.Need-shared-slice-read-letter (callees t) (expression-at t) expression.Post
 expression-shared-slice-read-letter t c =
-    let start = c .before .before .before .before .before .before .before in
+    let start = c .before .before .before .before .before .before .before .before .before in
     omega (arith, in-row (start .pre .1) .0)
 
 expression-plain-requires : (t : ℕ)
@@ -75,25 +73,25 @@ expression-plain-requires-3 t c κs = tt
 expression-read-slot-requires : (t : ℕ)
     → expression-lts.Need-read-slot-requires (callees t) (expression-at t) expression.Post
 expression-read-slot-requires t c κs =
-    let start = c .before .before .before .before .before .before .before .before .before in
+    let start = c .before .before .before .before .before .before .before .before .before .before .before in
     (leaf-row (start .pre .1), leaf-slots (start .pre .1))
 
 expression-create-requires : (t : ℕ)
     → expression-lts.Need-create-requires (callees t) (expression-at t) expression.Post
 expression-create-requires t c κs =
-    let start = c .before .before .before .before .before .before .before .before in
-    leaf-row (start .pre .1)
+    leaf-row (c .before .before .before .before .before .before .before .before .before .before .pre .1)
 
 expression-change-requires : (t : ℕ)
     → expression-lts.Need-change-requires (callees t) (expression-at t) expression.Post
 expression-change-requires t c κs =
-    let start = c .before .before .before .before .before .before .before .before .before in
+    let start = c .before .before .before .before .before .before .before .before .before .before .before in
     change-pre (start .pre .1) (c .before .match .keys6)
 
 expression-write-requires : (t : ℕ)
     → expression-lts.Need-write-requires (callees t) (expression-at t) expression.Post
 expression-write-requires t c κs =
-    let start = c .before .before .before .before .before .before .before .before .before .before in (
+    let start = c .before .before .before .before .before .before .before .before .before .before .before
+    .before in (
       omega (arith, in-row (start .pre .1) .3, start .pre .0),
       (c .before .before .match .keys7, start .pre .1),
     )
@@ -101,7 +99,8 @@ expression-write-requires t c κs =
 expression-call-requires : (t : ℕ)
     → expression-lts.Need-call-requires (callees t) (expression-at t) expression.Post
 expression-call-requires t c κs =
-    let start = c .before .before .before .before .before .before .before .before .before .before in (
+    let start = c .before .before .before .before .before .before .before .before .before .before .before
+    .before in (
       omega (arith, in-row (start .pre .1) .3, start .pre .0),
       (c .before .before .match .keys8, start .pre .1),
     )
@@ -109,7 +108,8 @@ expression-call-requires t c κs =
 expression-choose-requires : (t : ℕ)
     → expression-lts.Need-choose-requires (callees t) (expression-at t) expression.Post
 expression-choose-requires t c κs =
-    let start = c .before .before .before .before .before .before .before .before .before .before in (
+    let start = c .before .before .before .before .before .before .before .before .before .before .before
+    .before in (
       omega (arith, in-row (start .pre .1) .3, start .pre .0),
       (c .before .before .match .keys9, start .pre .1),
     )
@@ -117,7 +117,8 @@ expression-choose-requires t c κs =
 expression-block-requires : (t : ℕ)
     → expression-lts.Need-block-requires (callees t) (expression-at t) expression.Post
 expression-block-requires t c κs =
-    let start = c .before .before .before .before .before .before .before .before .before .before in (
+    let start = c .before .before .before .before .before .before .before .before .before .before .before
+    .before in (
       omega (arith, in-row (start .pre .1) .3, start .pre .0),
       (c .before .before .match .keys10, start .pre .1),
     )
@@ -125,7 +126,8 @@ expression-block-requires t c κs =
 expression-unary-requires : (t : ℕ)
     → expression-lts.Need-unary-requires (callees t) (expression-at t) expression.Post
 expression-unary-requires t c κs =
-    let start = c .before .before .before .before .before .before .before .before .before .before in (
+    let start = c .before .before .before .before .before .before .before .before .before .before .before
+    .before in (
       omega (arith, in-row (start .pre .1) .3, start .pre .0),
       (
         rest-unary _ _ (start .pre .1 .e) _ (start .pre .1 .encoded)
@@ -166,61 +168,61 @@ expression-same-length-2 t c = c .before .before .change .kept .1 .1 .0
 expression-returns-6 : (t : ℕ) → expression-lts.Need-returns-6 (callees t) (expression-at t) expression.Post
 expression-returns-6 t c =
     let at-match = c .before .before .before .before in
-    let start = at-match .before .before .before .before .before .before .before .before in
+    let start = at-match .before .before .before .before .before .before .before .before .before .before in
     change-post (room-none (start .pre .1 .room)) (at-match .match .keys6)
     (c .before .before .change .ensures)
 
 expression-same-length-3 : (t : ℕ)
     → expression-lts.Need-same-length-3 (callees t) (expression-at t) expression.Post
-expression-same-length-3 t c = c .before .before .before .before .write .kept .1 .1 .1 .1 .0
+expression-same-length-3 t c = c .before .before .before .before .write .kept .1 .1 .1 .1 .1 .1 .0
 
 expression-same-length-4 : (t : ℕ)
     → expression-lts.Need-same-length-4 (callees t) (expression-at t) expression.Post
-expression-same-length-4 t c = c .before .before .before .before .write .kept .1 .1 .1 .1 .1 .0
+expression-same-length-4 t c = c .before .before .before .before .write .kept .1 .1 .1 .1 .1 .1 .1 .0
 
 expression-returns-7 : (t : ℕ) → expression-lts.Need-returns-7 (callees t) (expression-at t) expression.Post
 expression-returns-7 t c = c .before .before .before .before .write .ensures
 
 expression-same-length-5 : (t : ℕ)
     → expression-lts.Need-same-length-5 (callees t) (expression-at t) expression.Post
-expression-same-length-5 t c = c .before .before .before .before .call .kept .1 .1 .1 .1 .0
+expression-same-length-5 t c = c .before .before .before .before .call .kept .1 .1 .1 .1 .1 .1 .0
 
 expression-same-length-6 : (t : ℕ)
     → expression-lts.Need-same-length-6 (callees t) (expression-at t) expression.Post
-expression-same-length-6 t c = c .before .before .before .before .call .kept .1 .1 .1 .1 .1 .0
+expression-same-length-6 t c = c .before .before .before .before .call .kept .1 .1 .1 .1 .1 .1 .1 .0
 
 expression-returns-8 : (t : ℕ) → expression-lts.Need-returns-8 (callees t) (expression-at t) expression.Post
 expression-returns-8 t c = c .before .before .before .before .call .ensures
 
 expression-same-length-7 : (t : ℕ)
     → expression-lts.Need-same-length-7 (callees t) (expression-at t) expression.Post
-expression-same-length-7 t c = c .before .before .before .before .choose .kept .1 .1 .1 .1 .0
+expression-same-length-7 t c = c .before .before .before .before .choose .kept .1 .1 .1 .1 .1 .1 .0
 
 expression-same-length-8 : (t : ℕ)
     → expression-lts.Need-same-length-8 (callees t) (expression-at t) expression.Post
-expression-same-length-8 t c = c .before .before .before .before .choose .kept .1 .1 .1 .1 .1 .0
+expression-same-length-8 t c = c .before .before .before .before .choose .kept .1 .1 .1 .1 .1 .1 .1 .0
 
 expression-returns-9 : (t : ℕ) → expression-lts.Need-returns-9 (callees t) (expression-at t) expression.Post
 expression-returns-9 t c = c .before .before .before .before .choose .ensures
 
 expression-same-length-9 : (t : ℕ)
     → expression-lts.Need-same-length-9 (callees t) (expression-at t) expression.Post
-expression-same-length-9 t c = c .before .before .before .before .block .kept .1 .1 .1 .1 .0
+expression-same-length-9 t c = c .before .before .before .before .block .kept .1 .1 .1 .1 .1 .1 .0
 
 expression-same-length-10 : (t : ℕ)
     → expression-lts.Need-same-length-10 (callees t) (expression-at t) expression.Post
-expression-same-length-10 t c = c .before .before .before .before .block .kept .1 .1 .1 .1 .1 .0
+expression-same-length-10 t c = c .before .before .before .before .block .kept .1 .1 .1 .1 .1 .1 .1 .0
 
 expression-returns-10 : (t : ℕ) → expression-lts.Need-returns-10 (callees t) (expression-at t) expression.Post
 expression-returns-10 t c = c .before .before .before .before .block .ensures
 
 expression-same-length-11 : (t : ℕ)
     → expression-lts.Need-same-length-11 (callees t) (expression-at t) expression.Post
-expression-same-length-11 t c = c .before .before .before .before .unary .kept .1 .1 .1 .1 .0
+expression-same-length-11 t c = c .before .before .before .before .unary .kept .1 .1 .1 .1 .1 .1 .0
 
 expression-same-length-12 : (t : ℕ)
     → expression-lts.Need-same-length-12 (callees t) (expression-at t) expression.Post
-expression-same-length-12 t c = c .before .before .before .before .unary .kept .1 .1 .1 .1 .1 .0
+expression-same-length-12 t c = c .before .before .before .before .unary .kept .1 .1 .1 .1 .1 .1 .1 .0
 
 expression-returns-11 : (t : ℕ) → expression-lts.Need-returns-11 (callees t) (expression-at t) expression.Post
 expression-returns-11 t c = c .before .before .before .before .unary .ensures

@@ -27,12 +27,13 @@ items-μ-loop rows ends table above slots₀ classes₀ count at scope top n las
 
 items-loop-holds : (t : ℕ)
     → items-lts.Need-loop-holds (callees t) (items-at t) items.Post items-Inv-loop items-μ-loop
-items-loop-holds t c = items-start (c .before .before .before .before .before .before .pre .1)
+items-loop-holds t c = items-start (c .before .before .before .before .before .before .before .before .pre .1)
 
 items-expression-requires : (t : ℕ)
     → items-lts.Need-expression-requires (callees t) (items-at t) items.Post items-Inv-loop items-μ-loop
 items-expression-requires t c κs =
-    let start = c .before .before .before .before .before .before .before .before .before .before in (
+    let start = c .before .before .before .before .before .before .before .before .before .before .before
+    .before in (
       omega (
         arith,
         in-row
@@ -54,14 +55,14 @@ items-same-length : (t : ℕ)
 items-same-length t c =
     let at-expression = c .before .before .before .before .before .before in
     let at-loop = at-expression .before .before .before .before in
-    at-expression .expression .kept .1 .1 .1 .1 .0 ∙ at-loop .loop .inv .slots-long
+    at-expression .expression .kept .1 .1 .1 .1 .1 .1 .0 ∙ at-loop .loop .inv .slots-long
 
 items-same-length-2 : (t : ℕ)
     → items-lts.Need-same-length-2 (callees t) (items-at t) items.Post items-Inv-loop items-μ-loop
 items-same-length-2 t c =
     let at-expression = c .before .before .before .before .before .before in
     let at-loop = at-expression .before .before .before .before in
-    at-expression .expression .kept .1 .1 .1 .1 .1 .0 ∙ at-loop .loop .inv .classes-long
+    at-expression .expression .kept .1 .1 .1 .1 .1 .1 .1 .0 ∙ at-loop .loop .inv .classes-long
 
 items-returns : (t : ℕ)
     → items-lts.Need-returns (callees t) (items-at t) items.Post items-Inv-loop items-μ-loop
@@ -97,7 +98,7 @@ items-cast-next : (t : ℕ)
 items-cast-next t c =
     let at-loop = c .before .before .before .before .before .before .before .before .before .before .before
     .before .before in
-    omega (arith, c .shared-slice-known5 .given (at-loop .loop .next))
+    omega (arith, c .shared-slice-known7 .given (at-loop .loop .next))
 
 items-sub-left : (t : ℕ)
     → items-lts.Need-sub-left (callees t) (items-at t) items.Post items-Inv-loop items-μ-loop
@@ -123,7 +124,8 @@ items-loop-again t c =
     items-next (at-loop .loop .inv) (λ e. omega (arith, at-loop-test .loop-test .taken))
     (at-expression .expression .ensures)
     (sym (at-is-refusal .is-refusal .ensures) ∙ c .before .before .before .if1 .left) (join-or _ _ _)
-    (at-expression .expression .kept .1 .1 .1 .1 .0) (at-expression .expression .kept .1 .1 .1 .1 .1 .0)
+    (at-expression .expression .kept .1 .1 .1 .1 .1 .1 .0)
+    (at-expression .expression .kept .1 .1 .1 .1 .1 .1 .1 .0)
 
 items-same-length-3 : (t : ℕ)
     → items-lts.Need-same-length-3 (callees t) (items-at t) items.Post items-Inv-loop items-μ-loop

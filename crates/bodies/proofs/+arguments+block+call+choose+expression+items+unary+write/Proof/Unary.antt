@@ -31,12 +31,12 @@ callees t = (
 
 unary-add-expression : (t : ℕ) → unary-lts.Need-add-expression (callees t) (unary-at t) unary.Post
 unary-add-expression t c =
-    let start = c .before .before .before .before .before .before .before .before in
+    let start = c .before .before .before .before .before .before .before .before .before .before in
     omega (arith, in-row (start .pre .1 .1) .3)
 
 unary-expression-requires : (t : ℕ) → unary-lts.Need-expression-requires (callees t) (unary-at t) unary.Post
 unary-expression-requires t c κs =
-    let start = c .before .before .before .before .before .before .before .before in (
+    let start = c .before .before .before .before .before .before .before .before .before .before in (
       omega (arith, in-row (start .pre .1 .1) .3, start .pre .0),
       unary-first (start .pre .1 .0) (start .pre .1 .1),
     )
@@ -44,114 +44,115 @@ unary-expression-requires t c κs =
 unary-mul-letter : (t : ℕ) → unary-lts.Need-mul-letter (callees t) (unary-at t) unary.Post
 unary-mul-letter t c =
     let start = c .before .before .before .before .before .before .before .before .before .before .before
-    .before .before in
+    .before .before .before .before in
     omega (arith, in-row (start .pre .1 .1) .3)
 
 unary-mul-letter-2 : (t : ℕ) → unary-lts.Need-mul-letter-2 (callees t) (unary-at t) unary.Post
 unary-mul-letter-2 t c =
     let start = c .before .before .before .before .before .before .before .before .before .before .before
-    .before .before in
+    .before .before .before .before in
     omega (arith, in-row (start .pre .1 .1) .3)
 
 unary-shared-slice-read-letter : (t : ℕ)
     → unary-lts.Need-shared-slice-read-letter (callees t) (unary-at t) unary.Post
 unary-shared-slice-read-letter t c =
     let start = c .before .before .before .before .before .before .before .before .before .before .before
-    .before .before .before in
+    .before .before .before .before .before in
     omega (arith, in-row (start .pre .1 .1) .0)
 
 unary-test-null-requires : (t : ℕ) → unary-lts.Need-test-null-requires (callees t) (unary-at t) unary.Post
 unary-test-null-requires t c κs =
     let start = c .before .before .before .before .before .before .before .before .before .before .before
-    .before .before .before .before in
+    .before .before .before .before .before .before in
     leaf-row (start .pre .1 .1) .1
 
 unary-get-requires : (t : ℕ) → unary-lts.Need-get-requires (callees t) (unary-at t) unary.Post
 unary-get-requires t c κs =
     let at-expression = c .before .before .before .before .before .before .before in
-    let start = at-expression .before .before .before .before .before .before .before .before .before in
+    let start = at-expression .before .before .before .before .before .before .before .before .before .before
+    .before in
     get-pre (start .pre .1 .1) (at-expression .expression .ensures) (c .before .match .keys2)
 
 unary-cast-requires : (t : ℕ) → unary-lts.Need-cast-requires (callees t) (unary-at t) unary.Post
 unary-cast-requires t c κs =
     let start = c .before .before .before .before .before .before .before .before .before .before .before
-    .before .before .before .before in
+    .before .before .before .before .before .before in
     leaf-row (start .pre .1 .1)
 
 unary-assign-requires : (t : ℕ) → unary-lts.Need-assign-requires (callees t) (unary-at t) unary.Post
 unary-assign-requires t c κs =
     let at-expression = c .before .before .before .before .before .before .before in
-    let start = at-expression .before .before .before .before .before .before .before .before .before in
+    let start = at-expression .before .before .before .before .before .before .before .before .before .before
+    .before in
     assign-pre (start .pre .1 .1) (at-expression .expression .ensures)
     (unary-assign (start .pre .1 .1) (start .pre .1 .0) (c .before .match .rest .0 .0 .1)
     (c .before .match .rest .0 .1) (c .before .match .rest .1))
 
 unary-same-length : (t : ℕ) → unary-lts.Need-same-length (callees t) (unary-at t) unary.Post
 unary-same-length t c =
-    let at-expression = c .before .before .before .before .before .before .before in
-    at-expression .expression .kept .1 .1 .1 .1 .0
+    c .before .before .before .before .before .before .before .expression .kept .1 .1 .1 .1 .1 .1 .0
 
 unary-same-length-2 : (t : ℕ) → unary-lts.Need-same-length-2 (callees t) (unary-at t) unary.Post
 unary-same-length-2 t c =
-    let at-expression = c .before .before .before .before .before .before .before in
-    at-expression .expression .kept .1 .1 .1 .1 .1 .0
+    c .before .before .before .before .before .before .before .expression .kept .1 .1 .1 .1 .1 .1 .1 .0
 
 unary-returns : (t : ℕ) → unary-lts.Need-returns (callees t) (unary-at t) unary.Post
 unary-returns t c =
     let at-expression = c .before .before .before .before .before .before .before in
-    let start = at-expression .before .before .before .before .before .before .before .before .before in
+    let start = at-expression .before .before .before .before .before .before .before .before .before .before
+    .before in
     is-null-post (start .pre .1 .1) (at-expression .expression .ensures) (c .before .match .keys1)
     (c .test-null .ensures)
 
 unary-same-length-3 : (t : ℕ) → unary-lts.Need-same-length-3 (callees t) (unary-at t) unary.Post
 unary-same-length-3 t c =
     let at-expression = c .before .before .before .before .before .before .before .before .before .before in
-    at-expression .expression .kept .1 .1 .1 .1 .0
+    at-expression .expression .kept .1 .1 .1 .1 .1 .1 .0
 
 unary-same-length-4 : (t : ℕ) → unary-lts.Need-same-length-4 (callees t) (unary-at t) unary.Post
 unary-same-length-4 t c =
     let at-expression = c .before .before .before .before .before .before .before .before .before .before in
-    c .before .before .get .kept .1 .1 .0 ∙ at-expression .expression .kept .1 .1 .1 .1 .1 .0
+    c .before .before .get .kept .1 .1 .0 ∙ at-expression .expression .kept .1 .1 .1 .1 .1 .1 .1 .0
 
 unary-returns-2 : (t : ℕ) → unary-lts.Need-returns-2 (callees t) (unary-at t) unary.Post
 unary-returns-2 t c =
     let at-match = c .before .before .before .before in
     let at-expression = at-match .before .before .before .before .before .before in
-    let start = at-expression .before .before .before .before .before .before .before .before .before in
+    let start = at-expression .before .before .before .before .before .before .before .before .before .before
+    .before in
     get-post (start .pre .1 .1) (at-expression .expression .ensures) (at-match .match .keys2)
     (c .before .before .get .ensures .0) (c .before .before .get .ensures .1)
 
 unary-same-length-5 : (t : ℕ) → unary-lts.Need-same-length-5 (callees t) (unary-at t) unary.Post
 unary-same-length-5 t c =
-    let at-expression = c .before .before .before .before .before .before .before in
-    at-expression .expression .kept .1 .1 .1 .1 .0
+    c .before .before .before .before .before .before .before .expression .kept .1 .1 .1 .1 .1 .1 .0
 
 unary-same-length-6 : (t : ℕ) → unary-lts.Need-same-length-6 (callees t) (unary-at t) unary.Post
 unary-same-length-6 t c =
-    let at-expression = c .before .before .before .before .before .before .before in
-    at-expression .expression .kept .1 .1 .1 .1 .1 .0
+    c .before .before .before .before .before .before .before .expression .kept .1 .1 .1 .1 .1 .1 .1 .0
 
 unary-returns-3 : (t : ℕ) → unary-lts.Need-returns-3 (callees t) (unary-at t) unary.Post
 unary-returns-3 t c =
     let at-expression = c .before .before .before .before .before .before .before in
-    let start = at-expression .before .before .before .before .before .before .before .before .before in
+    let start = at-expression .before .before .before .before .before .before .before .before .before .before
+    .before in
     cast-post (start .pre .1 .1) (at-expression .expression .ensures) (c .before .match .keys3)
     (c .cast .ensures)
 
 unary-same-length-7 : (t : ℕ) → unary-lts.Need-same-length-7 (callees t) (unary-at t) unary.Post
 unary-same-length-7 t c =
-    let at-expression = c .before .before .before .before .before .before .before .before in
-    at-expression .expression .kept .1 .1 .1 .1 .0
+    c .before .before .before .before .before .before .before .before .expression .kept .1 .1 .1 .1 .1 .1 .0
 
 unary-same-length-8 : (t : ℕ) → unary-lts.Need-same-length-8 (callees t) (unary-at t) unary.Post
 unary-same-length-8 t c =
     let at-expression = c .before .before .before .before .before .before .before .before in
-    at-expression .expression .kept .1 .1 .1 .1 .1 .0
+    at-expression .expression .kept .1 .1 .1 .1 .1 .1 .1 .0
 
 unary-returns-4 : (t : ℕ) → unary-lts.Need-returns-4 (callees t) (unary-at t) unary.Post
 unary-returns-4 t c =
     let at-expression = c .before .before .before .before .before .before .before .before in
-    let start = at-expression .before .before .before .before .before .before .before .before .before in
+    let start = at-expression .before .before .before .before .before .before .before .before .before .before
+    .before in
     assign-post (start .pre .1 .1) (at-expression .expression .ensures)
     (unary-assign (start .pre .1 .1) (start .pre .1 .0) (c .before .before .match .rest .0 .0 .1)
     (c .before .before .match .rest .0 .1) (c .before .before .match .rest .1)) (c .assign .ensures)

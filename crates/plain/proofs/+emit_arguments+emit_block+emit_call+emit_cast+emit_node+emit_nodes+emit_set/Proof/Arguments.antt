@@ -34,13 +34,14 @@ emit-arguments-slice-aggregate-put t c = search needs
 emit-arguments-put-requires : (t : ℕ)
     → emit-arguments-lts.Need-put-requires (callees t) (emit-arguments-at t) emit-arguments.Post
 emit-arguments-put-requires t c κs =
-    let start = c .before .before .before .before .before .before .before in
+    let start = c .before .before .before .before .before .before .before .before in
     arguments-line (start .pre .1) (c .before .before .if1 .left) .0
 
 emit-arguments-emit-node-requires : (t : ℕ)
     → emit-arguments-lts.Need-emit-node-requires (callees t) (emit-arguments-at t) emit-arguments.Post
 emit-arguments-emit-node-requires t c κs =
-    let start = c .before .before .before .before .before .before .before .before .before .before .before in
+    let start = c .before .before .before .before .before .before .before .before .before .before .before
+    .before in
     let the-if1 = c .before .before .before .before .before .before .if1 in (
       omega arith,
       arguments-first (start .pre .1) (the-if1 .left) _
@@ -57,14 +58,14 @@ emit-arguments-add-emit-arguments : (t : ℕ)
     → emit-arguments-lts.Need-add-emit-arguments (callees t) (emit-arguments-at t) emit-arguments.Post
 emit-arguments-add-emit-arguments t c =
     let start = c .before .before .before .before .before .before .before .before .before .before .before
-    .before .before .before .before in
+    .before .before .before .before .before in
     omega (arith, start .pre .1 .below)
 
 emit-arguments-emit-arguments-requires : (t : ℕ)
     → emit-arguments-lts.Need-emit-arguments-requires (callees t) (emit-arguments-at t) emit-arguments.Post
 emit-arguments-emit-arguments-requires t c κs =
     let start = c .before .before .before .before .before .before .before .before .before .before .before
-    .before .before .before .before in
+    .before .before .before .before .before in
     let the-if1 = c .before .before .before .before .before .before .before .before .before .before .if1 in
     let the-put = c .before .before .before .before .before .before .before .put in (
       omega (
@@ -80,8 +81,8 @@ emit-arguments-emit-arguments-requires t c κs =
 emit-arguments-same-length : (t : ℕ)
     → emit-arguments-lts.Need-same-length (callees t) (emit-arguments-at t) emit-arguments.Post
 emit-arguments-same-length t c =
-    c .before .before .emit-arguments .kept .1 .1 .1 .1 .0
-    ∙ c .before .before .before .before .before .before .emit-node .kept .1 .1 .1 .1 .0
+    c .before .before .emit-arguments .kept .1 .1 .1 .1 .1 .0
+    ∙ c .before .before .before .before .before .before .emit-node .kept .1 .1 .1 .1 .1 .0
     ∙ written-long (c .before .before .before .before .before .before .before .before .before
     .before .put .ensures)
 

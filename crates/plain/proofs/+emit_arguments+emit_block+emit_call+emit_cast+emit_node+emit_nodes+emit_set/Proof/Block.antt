@@ -27,34 +27,39 @@ callees t = (
 )
 
 emit-block-mul-locals : (t : ℕ) → emit-block-lts.Need-mul-locals (callees t) (emit-block-at t) emit-block.Post
-emit-block-mul-locals t c = omega (arith, block-known (c .before .before .before .before .pre .1) .0)
+emit-block-mul-locals t c = omega (arith, block-known (c .before .before .before .before .before .pre .1) .0)
 
 emit-block-add-locals : (t : ℕ) → emit-block-lts.Need-add-locals (callees t) (emit-block-at t) emit-block.Post
-emit-block-add-locals t c = omega (arith, block-known (c .before .before .before .before .pre .1) .0)
+emit-block-add-locals t c = omega (arith, block-known (c .before .before .before .before .before .pre .1) .0)
 
 emit-block-mul-locals-2 : (t : ℕ)
     → emit-block-lts.Need-mul-locals-2 (callees t) (emit-block-at t) emit-block.Post
-emit-block-mul-locals-2 t c = omega (arith, block-known (c .before .before .before .before .pre .1) .0)
+emit-block-mul-locals-2 t c =
+    omega (arith, block-known (c .before .before .before .before .before .pre .1) .0)
 
 emit-block-shared-slice-read-locals : (t : ℕ)
     → emit-block-lts.Need-shared-slice-read-locals (callees t) (emit-block-at t) emit-block.Post
 emit-block-shared-slice-read-locals t c =
-    let start = c .before .before .before .before .before in omega (arith, block-known (start .pre .1) .0)
+    let start = c .before .before .before .before .before .before in
+    omega (arith, block-known (start .pre .1) .0)
 
 emit-block-mul-count : (t : ℕ) → emit-block-lts.Need-mul-count (callees t) (emit-block-at t) emit-block.Post
-emit-block-mul-count t c = omega (arith, block-known (c .before .before .before .before .before .pre .1) .0)
+emit-block-mul-count t c =
+    omega (arith, block-known (c .before .before .before .before .before .before .pre .1) .0)
 
 emit-block-add-count : (t : ℕ) → emit-block-lts.Need-add-count (callees t) (emit-block-at t) emit-block.Post
-emit-block-add-count t c = omega (arith, block-known (c .before .before .before .before .before .pre .1) .0)
+emit-block-add-count t c =
+    omega (arith, block-known (c .before .before .before .before .before .before .pre .1) .0)
 
 emit-block-mul-count-2 : (t : ℕ)
     → emit-block-lts.Need-mul-count-2 (callees t) (emit-block-at t) emit-block.Post
-emit-block-mul-count-2 t c = omega (arith, block-known (c .before .before .before .before .before .pre .1) .0)
+emit-block-mul-count-2 t c =
+    omega (arith, block-known (c .before .before .before .before .before .before .pre .1) .0)
 
 emit-block-shared-slice-read-count : (t : ℕ)
     → emit-block-lts.Need-shared-slice-read-count (callees t) (emit-block-at t) emit-block.Post
 emit-block-shared-slice-read-count t c =
-    let start = c .before .before .before .before .before .before in
+    let start = c .before .before .before .before .before .before .before in
     omega (arith, block-known (start .pre .1) .0)
 
 emit-block-slice-aggregate-put : (t : ℕ)
@@ -64,28 +69,28 @@ emit-block-slice-aggregate-put t c = search needs
 emit-block-put-requires : (t : ℕ)
     → emit-block-lts.Need-put-requires (callees t) (emit-block-at t) emit-block.Post
 emit-block-put-requires t c κs =
-    let start = c .before .before .before .before .before .before .before .before in
+    let start = c .before .before .before .before .before .before .before .before .before in
     omega (arith, block-known (start .pre .1) .2)
 
 emit-block-add-put-types : (t : ℕ)
     → emit-block-lts.Need-add-put-types (callees t) (emit-block-at t) emit-block.Post
 emit-block-add-put-types t c =
     let start = c .before .before .before .before .before .before .before .before .before .before .before
-    .before in
+    .before .before in
     omega (arith, block-known (start .pre .1) .0)
 
 emit-block-cast-put-types : (t : ℕ)
     → emit-block-lts.Need-cast-put-types (callees t) (emit-block-at t) emit-block.Post
 emit-block-cast-put-types t c =
     let start = c .before .before .before .before .before .before .before .before .before .before .before
-    .before in
+    .before .before in
     omega (arith, start .pre .1 .task .setting .lent .small (start .args .at * 4 + 1))
 
 emit-block-put-types-requires : (t : ℕ)
     → emit-block-lts.Need-put-types-requires (callees t) (emit-block-at t) emit-block.Post
 emit-block-put-types-requires t c κs =
     let start = c .before .before .before .before .before .before .before .before .before .before .before
-    .before in (
+    .before .before in (
       block-some-types (start .pre .1),
       omega (arith, block-known (start .pre .1) .2, c .before .before .before .put .ensures .ended),
     )
@@ -94,88 +99,90 @@ emit-block-cast-with-locals : (t : ℕ)
     → emit-block-lts.Need-cast-with-locals (callees t) (emit-block-at t) emit-block.Post
 emit-block-cast-with-locals t c =
     let start = c .before .before .before .before .before .before .before .before .before .before .before
-    .before .before .before .before in
+    .before .before .before .before .before in
     omega (arith, start .pre .1 .task .setting .lent .small (start .args .at * 4 + 1))
 
 emit-block-with-locals-requires : (t : ℕ)
     → emit-block-lts.Need-with-locals-requires (callees t) (emit-block-at t) emit-block.Post
 emit-block-with-locals-requires t c κs =
     let start = c .before .before .before .before .before .before .before .before .before .before .before
-    .before .before .before .before in
+    .before .before .before .before .before in
     (block-known (start .pre .1) .3, block-known (start .pre .1) .4, block-known (start .pre .1) .5)
-
-emit-block-add-emit-nodes : (t : ℕ)
-    → emit-block-lts.Need-add-emit-nodes (callees t) (emit-block-at t) emit-block.Post
-emit-block-add-emit-nodes t c =
-    let start = c .before .before .before .before .before .before .before .before .before .before .before
-    .before .before .before .before .before .before .before in
-    omega (arith, block-known (start .pre .1) .0)
-
-emit-block-cast-emit-nodes : (t : ℕ)
-    → emit-block-lts.Need-cast-emit-nodes (callees t) (emit-block-at t) emit-block.Post
-emit-block-cast-emit-nodes t c =
-    let start = c .before .before .before .before .before .before .before .before .before .before .before
-    .before .before .before .before .before .before .before in
-    omega (arith, start .pre .1 .task .setting .lent .small (start .args .at * 4 + 1))
 
 emit-block-add-emit-nodes-2 : (t : ℕ)
     → emit-block-lts.Need-add-emit-nodes-2 (callees t) (emit-block-at t) emit-block.Post
 emit-block-add-emit-nodes-2 t c =
     let start = c .before .before .before .before .before .before .before .before .before .before .before
-    .before .before .before .before .before .before .before in
-    omega (
-      arith,
-      block-known (start .pre .1) .0,
-      start .pre .1 .task .setting .lent .small (start .args .at * 4 + 1),
-    )
+    .before .before .before .before .before .before .before .before .before .before in
+    omega (arith, block-known (start .pre .1) .0)
 
 emit-block-cast-emit-nodes-2 : (t : ℕ)
     → emit-block-lts.Need-cast-emit-nodes-2 (callees t) (emit-block-at t) emit-block.Post
 emit-block-cast-emit-nodes-2 t c =
     let start = c .before .before .before .before .before .before .before .before .before .before .before
-    .before .before .before .before .before .before .before in
+    .before .before .before .before .before .before .before .before .before .before in
     omega (arith, start .pre .1 .task .setting .lent .small (start .args .at * 4 + 1))
 
 emit-block-add-emit-nodes-3 : (t : ℕ)
     → emit-block-lts.Need-add-emit-nodes-3 (callees t) (emit-block-at t) emit-block.Post
 emit-block-add-emit-nodes-3 t c =
     let start = c .before .before .before .before .before .before .before .before .before .before .before
+    .before .before .before .before .before .before .before .before .before .before in
+    omega (
+      arith,
+      block-known (start .pre .1) .0,
+      start .pre .1 .task .setting .lent .small (start .args .at * 4 + 1),
+    )
+
+emit-block-cast-emit-nodes : (t : ℕ)
+    → emit-block-lts.Need-cast-emit-nodes (callees t) (emit-block-at t) emit-block.Post
+emit-block-cast-emit-nodes t c =
+    let start = c .before .before .before .before .before .before .before .before .before .before .before
+    .before .before .before .before .before .before in
+    omega (arith, start .pre .1 .task .setting .lent .small (start .args .at * 4 + 1))
+
+emit-block-add-emit-nodes : (t : ℕ)
+    → emit-block-lts.Need-add-emit-nodes (callees t) (emit-block-at t) emit-block.Post
+emit-block-add-emit-nodes t c =
+    let start = c .before .before .before .before .before .before .before .before .before .before .before
     .before .before .before .before .before .before .before in
     omega (arith, block-known (start .pre .1) .3)
 
-emit-block-add-emit-nodes-4 : (t : ℕ)
-    → emit-block-lts.Need-add-emit-nodes-4 (callees t) (emit-block-at t) emit-block.Post
-emit-block-add-emit-nodes-4 t c =
+emit-block-add-t21 : (t : ℕ)
+    → emit-block-lts.Need-add-t21 (callees t) (emit-block-at t) emit-block.Post
+emit-block-add-t21 t c =
     let start = c .before .before .before .before .before .before .before .before .before .before .before
-    .before .before .before .before .before .before .before in
+    .before .before .before .before .before .before .before .before in
     omega (arith, block-known (start .pre .1) .4, block-known (start .pre .1) .3)
 
 emit-block-emit-nodes-requires : (t : ℕ)
     → emit-block-lts.Need-emit-nodes-requires (callees t) (emit-block-at t) emit-block.Post
 emit-block-emit-nodes-requires t c κs =
     let start = c .before .before .before .before .before .before .before .before .before .before .before
-    .before .before .before .before .before .before .before in
-    let the-put = c .before .before .before .before .before .before .before .before .before .put in
-    let the-put-types = c .before .before .before .before .before .put-types in (
+    .before .before .before .before .before .before .before .before .before .before in
+    let the-put = c .before .before .before .before .before .before .before .before .before .before
+    .before .put in
+    let the-put-types = c .before .before .before .before .before .before .before .put-types in (
       omega (arith, block-known (start .pre .1) .1),
-      block-some (start .pre .1) _ (c .before .before .with-locals .ensures) _
+      block-some (start .pre .1) _ (c .before .before .before .before .with-locals .ensures) _
           (block-ended (start .pre .1) (the-put .ensures) (the-put-types .ensures)),
     )
 
 emit-block-same-length : (t : ℕ)
     → emit-block-lts.Need-same-length (callees t) (emit-block-at t) emit-block.Post
 emit-block-same-length t c =
-    c .before .before .emit-nodes .kept .1 .1 .1 .1 .0
-    ∙ c .before .before .before .before .before .before .before .before .put-types .kept .1 .0
+    c .before .before .emit-nodes .kept .1 .1 .1 .1 .1 .0
+    ∙ c .before .before .before .before .before .before .before .before .before .before .put-types .kept .1 .0
     ∙ written-long (c .before .before .before .before .before .before .before .before .before .before .before
-    .before .put .ensures)
+    .before .before .before .put .ensures)
 
 emit-block-returns : (t : ℕ) → emit-block-lts.Need-returns (callees t) (emit-block-at t) emit-block.Post
 emit-block-returns t c =
     let the-put = c .before .before .before .before .before .before .before .before .before .before .before
-    .before .put in
-    let the-put-types = c .before .before .before .before .before .before .before .before .put-types in
-    let the-with-locals = c .before .before .before .before .before .with-locals in
+    .before .before .before .put in
+    let the-put-types = c .before .before .before .before .before .before .before .before .before
+    .before .put-types in
+    let the-with-locals = c .before .before .before .before .before .before .before .with-locals in
     block-done _ (the-put .ensures) (the-put-types .ensures) (the-with-locals .ensures)
     (c .before .before .emit-nodes .ensures)
 
@@ -189,6 +196,6 @@ emit-block-holds t =
     (emit-block-mul-count-2 t) (emit-block-shared-slice-read-count t) (emit-block-slice-aggregate-put t)
     (emit-block-put-requires t) (emit-block-add-put-types t) (emit-block-cast-put-types t)
     (emit-block-put-types-requires t) (emit-block-cast-with-locals t) (emit-block-with-locals-requires t)
-    (emit-block-add-emit-nodes t) (emit-block-cast-emit-nodes t) (emit-block-add-emit-nodes-2 t)
-    (emit-block-cast-emit-nodes-2 t) (emit-block-add-emit-nodes-3 t) (emit-block-add-emit-nodes-4 t)
+    (emit-block-cast-emit-nodes t) (emit-block-add-emit-nodes t) (emit-block-add-t21 t)
+    (emit-block-add-emit-nodes-2 t) (emit-block-cast-emit-nodes-2 t) (emit-block-add-emit-nodes-3 t)
     (emit-block-emit-nodes-requires t) (emit-block-same-length t) (emit-block-returns t)

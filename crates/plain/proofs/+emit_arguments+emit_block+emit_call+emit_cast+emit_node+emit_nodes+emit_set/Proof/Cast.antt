@@ -21,25 +21,25 @@ emit-cast-slice-aggregate-put t c = search needs
 
 emit-cast-put-requires : (t : ℕ) → emit-cast-lts.Need-put-requires (callees t) (emit-cast-at t) emit-cast.Post
 emit-cast-put-requires t c κs =
-    let start = c .before .before .before .before .before .before in
+    let start = c .before .before .before .before .before .before .before in
     omega (arith, cast-room (start .pre .1 .task))
 
 emit-cast-add-emit-node : (t : ℕ)
     → emit-cast-lts.Need-add-emit-node (callees t) (emit-cast-at t) emit-cast.Post
 emit-cast-add-emit-node t c =
-    let start = c .before .before .before .before .before .before .before .before .before .before in
+    let start = c .before .before .before .before .before .before .before .before .before .before .before in
     omega (arith, node-row (start .pre .1 .task) .0)
 
-emit-cast-add-emit-node-2 : (t : ℕ)
-    → emit-cast-lts.Need-add-emit-node-2 (callees t) (emit-cast-at t) emit-cast.Post
-emit-cast-add-emit-node-2 t c =
+emit-cast-add-t21 : (t : ℕ)
+    → emit-cast-lts.Need-add-t21 (callees t) (emit-cast-at t) emit-cast.Post
+emit-cast-add-t21 t c =
     let start = c .before .before .before .before .before .before .before .before .before .before in
     omega (arith, cast-room (start .pre .1 .task), start .pre .1 .task .low)
 
 emit-cast-emit-node-requires : (t : ℕ)
     → emit-cast-lts.Need-emit-node-requires (callees t) (emit-cast-at t) emit-cast.Post
 emit-cast-emit-node-requires t c κs =
-    let start = c .before .before .before .before .before .before .before .before .before .before in (
+    let start = c .before .before .before .before .before .before .before .before .before .before .before in (
       omega (arith, node-row (start .pre .1 .task) .1),
       record {
         P = start .pre .1 .P;
@@ -51,35 +51,35 @@ emit-cast-emit-node-requires t c κs =
       },
     )
 
-emit-cast-mul-t21 : (t : ℕ) → emit-cast-lts.Need-mul-t21 (callees t) (emit-cast-at t) emit-cast.Post
-emit-cast-mul-t21 t c =
-    let start = c .before .before .before .before .before .before .before .before .before .before .before
-    .before .before in
-    omega (arith, node-row (start .pre .1 .task) .0)
-
-emit-cast-add-t23 : (t : ℕ) → emit-cast-lts.Need-add-t23 (callees t) (emit-cast-at t) emit-cast.Post
-emit-cast-add-t23 t c =
-    let start = c .before .before .before .before .before .before .before .before .before .before .before
-    .before .before in
-    omega (arith, node-row (start .pre .1 .task) .0)
-
 emit-cast-mul-t24 : (t : ℕ) → emit-cast-lts.Need-mul-t24 (callees t) (emit-cast-at t) emit-cast.Post
 emit-cast-mul-t24 t c =
     let start = c .before .before .before .before .before .before .before .before .before .before .before
-    .before .before in
+    .before .before .before in
     omega (arith, node-row (start .pre .1 .task) .0)
 
-emit-cast-shared-slice-read-t22 : (t : ℕ)
-    → emit-cast-lts.Need-shared-slice-read-t22 (callees t) (emit-cast-at t) emit-cast.Post
-emit-cast-shared-slice-read-t22 t c =
+emit-cast-add-t25 : (t : ℕ) → emit-cast-lts.Need-add-t25 (callees t) (emit-cast-at t) emit-cast.Post
+emit-cast-add-t25 t c =
     let start = c .before .before .before .before .before .before .before .before .before .before .before
     .before .before .before in
     omega (arith, node-row (start .pre .1 .task) .0)
 
-emit-cast-add-t26 : (t : ℕ) → emit-cast-lts.Need-add-t26 (callees t) (emit-cast-at t) emit-cast.Post
-emit-cast-add-t26 t c =
+emit-cast-mul-t26 : (t : ℕ) → emit-cast-lts.Need-mul-t26 (callees t) (emit-cast-at t) emit-cast.Post
+emit-cast-mul-t26 t c =
     let start = c .before .before .before .before .before .before .before .before .before .before .before
     .before .before .before in
+    omega (arith, node-row (start .pre .1 .task) .0)
+
+emit-cast-shared-slice-read-t21 : (t : ℕ)
+    → emit-cast-lts.Need-shared-slice-read-t21 (callees t) (emit-cast-at t) emit-cast.Post
+emit-cast-shared-slice-read-t21 t c =
+    let start = c .before .before .before .before .before .before .before .before .before .before .before
+    .before .before .before .before in
+    omega (arith, node-row (start .pre .1 .task) .0)
+
+emit-cast-add-t28 : (t : ℕ) → emit-cast-lts.Need-add-t28 (callees t) (emit-cast-at t) emit-cast.Post
+emit-cast-add-t28 t c =
+    let start = c .before .before .before .before .before .before .before .before .before .before .before
+    .before .before .before .before in
     omega (arith, start .pre .1 .task .setting .lent .small (start .args .at * 4 + 1))
 
 emit-cast-slice-aggregate-put-2 : (t : ℕ)
@@ -90,7 +90,7 @@ emit-cast-put-requires-2 : (t : ℕ)
     → emit-cast-lts.Need-put-requires-2 (callees t) (emit-cast-at t) emit-cast.Post
 emit-cast-put-requires-2 t c κs =
     let start = c .before .before .before .before .before .before .before .before .before .before .before
-    .before .before .before .before .before in
+    .before .before .before .before .before .before in
     let the-put = c .before .before .before .before .before .before .before .before .before .put in
     let the-emit-node = c .before .before .before .before .before .emit-node in
     omega (
@@ -104,7 +104,7 @@ emit-cast-put-requires-2 t c κs =
 emit-cast-same-length : (t : ℕ) → emit-cast-lts.Need-same-length (callees t) (emit-cast-at t) emit-cast.Post
 emit-cast-same-length t c =
     written-long (c .before .before .put2 .ensures)
-    ∙ c .before .before .before .before .before .before .before .before .emit-node .kept .1 .1 .1 .1 .0
+    ∙ c .before .before .before .before .before .before .before .before .emit-node .kept .1 .1 .1 .1 .1 .0
     ∙ written-long (c .before .before .before .before .before .before .before .before .before .before .before
     .before .put .ensures)
 
@@ -123,8 +123,8 @@ pub emit-cast-holds : {M : Type 1} (t : ℕ)
     → emit-cast-lts.Closed (callees t) (emit-cast-at t) emit-cast.Post M
 emit-cast-holds t =
     emit-cast-lts.spec (callees t) (emit-cast-at t) emit-cast.Post
-    (emit-cast-slice-aggregate-put t) (emit-cast-put-requires t) (emit-cast-add-emit-node t)
-    (emit-cast-add-emit-node-2 t) (emit-cast-emit-node-requires t) (emit-cast-mul-t21 t) (emit-cast-add-t23 t)
-    (emit-cast-mul-t24 t) (emit-cast-shared-slice-read-t22 t) (emit-cast-add-t26 t)
+    (emit-cast-slice-aggregate-put t) (emit-cast-put-requires t) (emit-cast-add-t21 t)
+    (emit-cast-add-emit-node t) (emit-cast-emit-node-requires t) (emit-cast-mul-t24 t) (emit-cast-add-t25 t)
+    (emit-cast-mul-t26 t) (emit-cast-shared-slice-read-t21 t) (emit-cast-add-t28 t)
     (emit-cast-slice-aggregate-put-2 t) (emit-cast-put-requires-2 t) (emit-cast-same-length t)
     (emit-cast-returns t)

@@ -86,7 +86,7 @@ emit-node-returns-4 t c =
 emit-node-same-length-5 : (t : ℕ)
     → emit-node-lts.Need-same-length-5 (callees t) (emit-node-at t) emit-node.Post
 emit-node-same-length-5 t c =
-    c .before .before .emit-node .kept .1 .1 .1 .1 .0
+    c .before .before .emit-node .kept .1 .1 .1 .1 .1 .0
     ∙ written-long (c .before .before .before .before .before .before .put2 .ensures)
 
 emit-node-returns-5 : (t : ℕ) → emit-node-lts.Need-returns-5 (callees t) (emit-node-at t) emit-node.Post
@@ -98,7 +98,7 @@ emit-node-returns-5 t c =
 emit-node-same-length-6 : (t : ℕ)
     → emit-node-lts.Need-same-length-6 (callees t) (emit-node-at t) emit-node.Post
 emit-node-same-length-6 t c =
-    c .before .before .emit-node2 .kept .1 .1 .1 .1 .0
+    c .before .before .emit-node2 .kept .1 .1 .1 .1 .1 .0
     ∙ written-long (c .before .before .before .before .before .before .put3 .ensures)
 
 emit-node-returns-6 : (t : ℕ) → emit-node-lts.Need-returns-6 (callees t) (emit-node-at t) emit-node.Post
@@ -111,7 +111,7 @@ emit-node-returns-6 t c =
 emit-node-same-length-7 : (t : ℕ)
     → emit-node-lts.Need-same-length-7 (callees t) (emit-node-at t) emit-node.Post
 emit-node-same-length-7 t c =
-    c .before .before .emit-node3 .kept .1 .1 .1 .1 .0
+    c .before .before .emit-node3 .kept .1 .1 .1 .1 .1 .0
     ∙ written-long (c .before .before .before .before .before .before .put4 .ensures)
 
 emit-node-returns-7 : (t : ℕ) → emit-node-lts.Need-returns-7 (callees t) (emit-node-at t) emit-node.Post
@@ -123,7 +123,7 @@ emit-node-returns-7 t c =
 
 emit-node-same-length-8 : (t : ℕ)
     → emit-node-lts.Need-same-length-8 (callees t) (emit-node-at t) emit-node.Post
-emit-node-same-length-8 t c = c .before .before .emit-cast .kept .1 .1 .1 .1 .0
+emit-node-same-length-8 t c = c .before .before .emit-cast .kept .1 .1 .1 .1 .1 .0
 
 emit-node-returns-8 : (t : ℕ) → emit-node-lts.Need-returns-8 (callees t) (emit-node-at t) emit-node.Post
 emit-node-returns-8 t c =
@@ -132,7 +132,7 @@ emit-node-returns-8 t c =
 
 emit-node-same-length-9 : (t : ℕ)
     → emit-node-lts.Need-same-length-9 (callees t) (emit-node-at t) emit-node.Post
-emit-node-same-length-9 t c = c .before .before .emit-set .kept .1 .1 .1 .1 .0
+emit-node-same-length-9 t c = c .before .before .emit-set .kept .1 .1 .1 .1 .1 .0
 
 emit-node-returns-9 : (t : ℕ) → emit-node-lts.Need-returns-9 (callees t) (emit-node-at t) emit-node.Post
 emit-node-returns-9 t c =
@@ -141,7 +141,7 @@ emit-node-returns-9 t c =
 
 emit-node-same-length-10 : (t : ℕ)
     → emit-node-lts.Need-same-length-10 (callees t) (emit-node-at t) emit-node.Post
-emit-node-same-length-10 t c = c .before .before .emit-call .kept .1 .1 .1 .1 .0
+emit-node-same-length-10 t c = c .before .before .emit-call .kept .1 .1 .1 .1 .1 .0
 
 emit-node-returns-10 : (t : ℕ) → emit-node-lts.Need-returns-10 (callees t) (emit-node-at t) emit-node.Post
 emit-node-returns-10 t c =
@@ -151,7 +151,7 @@ emit-node-returns-10 t c =
 emit-node-same-length-11 : (t : ℕ)
     → emit-node-lts.Need-same-length-11 (callees t) (emit-node-at t) emit-node.Post
 emit-node-same-length-11 t c =
-    c .before .before .emit-nodes .kept .1 .1 .1 .1 .0
+    c .before .before .emit-nodes .kept .1 .1 .1 .1 .1 .0
     ∙ written-long (c .before .before .before .before .before .before .put5 .ensures)
 
 emit-node-returns-11 : (t : ℕ) → emit-node-lts.Need-returns-11 (callees t) (emit-node-at t) emit-node.Post
@@ -162,11 +162,11 @@ emit-node-returns-11 t c =
 
 emit-node-same-length-12 : (t : ℕ)
     → emit-node-lts.Need-same-length-12 (callees t) (emit-node-at t) emit-node.Post
-emit-node-same-length-12 t c = c .before .before .emit-block .kept .1 .1 .1 .1 .0
+emit-node-same-length-12 t c = c .before .before .emit-block .kept .1 .1 .1 .1 .1 .0
 
 emit-node-returns-12 : (t : ℕ) → emit-node-lts.Need-returns-12 (callees t) (emit-node-at t) emit-node.Post
 emit-node-returns-12 t c =
-    let start = c .before .before .before .before .before .before .before .before .before .before in
+    let start = c .before .before .before .before .before .before .before .before .before .before .before in
     let the-match = c .before .before .before .before .match in
     block-arm (rest-letter (start .pre .1) (λ e. the-match .rest .0 .0 .0 .0 .0 .0 .0 .0 .0 .0 .1
     (inr (inr e))) (λ e. the-match .rest .0 .0 .0 .0 .0 .0 .0 .0 .0 .0 .1 (inl e))

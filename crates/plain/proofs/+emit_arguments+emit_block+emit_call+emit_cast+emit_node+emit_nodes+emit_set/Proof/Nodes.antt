@@ -19,7 +19,7 @@ emit-nodes-returns t c = nodes-none (c .if1 .taken)
 emit-nodes-emit-node-requires : (t : ℕ)
     → emit-nodes-lts.Need-emit-node-requires (callees t) (emit-nodes-at t) emit-nodes.Post
 emit-nodes-emit-node-requires t c κs =
-    let start = c .before .before .before .before .before .before in
+    let start = c .before .before .before .before .before .before .before in
     (omega arith, nodes-first (start .pre .1) (c .before .if1 .left))
 
 emit-nodes-sub-emit-nodes : (t : ℕ)
@@ -29,7 +29,7 @@ emit-nodes-sub-emit-nodes t c = omega (arith, c .before .before .before .before 
 emit-nodes-emit-nodes-requires : (t : ℕ)
     → emit-nodes-lts.Need-emit-nodes-requires (callees t) (emit-nodes-at t) emit-nodes.Post
 emit-nodes-emit-nodes-requires t c κs =
-    let start = c .before .before .before .before .before .before .before .before .before .before in
+    let start = c .before .before .before .before .before .before .before .before .before .before .before in
     let the-if1 = c .before .before .before .before .before .if1 in (
       omega (
         arith,
@@ -43,8 +43,8 @@ emit-nodes-emit-nodes-requires t c κs =
 emit-nodes-same-length : (t : ℕ)
     → emit-nodes-lts.Need-same-length (callees t) (emit-nodes-at t) emit-nodes.Post
 emit-nodes-same-length t c =
-    c .before .before .emit-nodes .kept .1 .1 .1 .1 .0
-    ∙ c .before .before .before .before .before .before .emit-node .kept .1 .1 .1 .1 .0
+    c .before .before .emit-nodes .kept .1 .1 .1 .1 .1 .0
+    ∙ c .before .before .before .before .before .before .emit-node .kept .1 .1 .1 .1 .1 .0
 
 emit-nodes-returns-2 : (t : ℕ) → emit-nodes-lts.Need-returns-2 (callees t) (emit-nodes-at t) emit-nodes.Post
 emit-nodes-returns-2 t c =

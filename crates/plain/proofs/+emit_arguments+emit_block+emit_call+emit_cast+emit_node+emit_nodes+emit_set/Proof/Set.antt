@@ -25,101 +25,103 @@ callees t = (
 )
 
 emit-set-mul-name : (t : ℕ) → emit-set-lts.Need-mul-name (callees t) (emit-set-at t) emit-set.Post
-emit-set-mul-name t c = omega (arith, set-known (c .before .before .before .before .pre .1) .0)
+emit-set-mul-name t c = omega (arith, set-known (c .before .before .before .before .before .pre .1) .0)
 
 emit-set-add-name : (t : ℕ) → emit-set-lts.Need-add-name (callees t) (emit-set-at t) emit-set.Post
-emit-set-add-name t c = omega (arith, set-known (c .before .before .before .before .pre .1) .0)
+emit-set-add-name t c = omega (arith, set-known (c .before .before .before .before .before .pre .1) .0)
 
 emit-set-mul-name-2 : (t : ℕ) → emit-set-lts.Need-mul-name-2 (callees t) (emit-set-at t) emit-set.Post
-emit-set-mul-name-2 t c = omega (arith, set-known (c .before .before .before .before .pre .1) .0)
+emit-set-mul-name-2 t c = omega (arith, set-known (c .before .before .before .before .before .pre .1) .0)
 
 emit-set-shared-slice-read-name : (t : ℕ)
     → emit-set-lts.Need-shared-slice-read-name (callees t) (emit-set-at t) emit-set.Post
 emit-set-shared-slice-read-name t c =
-    let start = c .before .before .before .before .before in omega (arith, set-known (start .pre .1) .0)
+    let start = c .before .before .before .before .before .before in
+    omega (arith, set-known (start .pre .1) .0)
 
 emit-set-mul-class : (t : ℕ) → emit-set-lts.Need-mul-class (callees t) (emit-set-at t) emit-set.Post
-emit-set-mul-class t c = omega (arith, set-known (c .before .before .before .before .before .pre .1) .2)
+emit-set-mul-class t c =
+    omega (arith, set-known (c .before .before .before .before .before .before .pre .1) .2)
 
 emit-set-shared-slice-read-class : (t : ℕ)
     → emit-set-lts.Need-shared-slice-read-class (callees t) (emit-set-at t) emit-set.Post
 emit-set-shared-slice-read-class t c =
-    let start = c .before .before .before .before .before .before in
+    let start = c .before .before .before .before .before .before .before in
     omega (arith, set-known (start .pre .1) .2)
 
 emit-set-cast-class : (t : ℕ) → emit-set-lts.Need-cast-class (callees t) (emit-set-at t) emit-set.Post
 emit-set-cast-class t c =
-    let start = c .before .before .before .before .before .before in
-    omega (arith, c .shared-slice-known5 .given (start .args .at))
+    let start = c .before .before .before .before .before .before .before in
+    omega (arith, c .shared-slice-known6 .given (start .args .at))
 
 emit-set-mul-field : (t : ℕ) → emit-set-lts.Need-mul-field (callees t) (emit-set-at t) emit-set.Post
 emit-set-mul-field t c =
-    let start = c .before .before .before .before .before .before in
+    let start = c .before .before .before .before .before .before .before in
     omega (arith, set-known (start .pre .1) .3, set-known (start .pre .1) .4)
 
 emit-set-cast-field : (t : ℕ) → emit-set-lts.Need-cast-field (callees t) (emit-set-at t) emit-set.Post
 emit-set-cast-field t c =
-    let start = c .before .before .before .before .before .before in
+    let start = c .before .before .before .before .before .before .before in
     omega (arith, set-known (start .pre .1) .4)
 
 emit-set-add-field : (t : ℕ) → emit-set-lts.Need-add-field (callees t) (emit-set-at t) emit-set.Post
 emit-set-add-field t c =
-    let start = c .before .before .before .before .before .before in
+    let start = c .before .before .before .before .before .before .before in
     omega (arith, set-known (start .pre .1) .3, set-known (start .pre .1) .4)
 
 emit-set-mul-field-2 : (t : ℕ) → emit-set-lts.Need-mul-field-2 (callees t) (emit-set-at t) emit-set.Post
 emit-set-mul-field-2 t c =
-    let start = c .before .before .before .before .before .before in
+    let start = c .before .before .before .before .before .before .before in
     omega (arith, set-known (start .pre .1) .3, set-known (start .pre .1) .4)
 
 emit-set-shared-slice-read-field : (t : ℕ)
     → emit-set-lts.Need-shared-slice-read-field (callees t) (emit-set-at t) emit-set.Post
 emit-set-shared-slice-read-field t c =
-    let start = c .before .before .before .before .before .before .before in
+    let start = c .before .before .before .before .before .before .before .before in
     omega (arith, set-known (start .pre .1) .3, set-known (start .pre .1) .4)
 
 emit-set-cast-field-2 : (t : ℕ) → emit-set-lts.Need-cast-field-2 (callees t) (emit-set-at t) emit-set.Post
 emit-set-cast-field-2 t c =
-    let start = c .before .before .before .before .before .before .before in
+    let start = c .before .before .before .before .before .before .before .before in
     omega (
       arith,
-      c .shared-slice-known6 .given
+      c .shared-slice-known7 .given
           (getD (start .args .lookups .now) (start .args .at) 0 * 576 + getD (start .args .rows .now)
           (start .args .at * 4 + 1) 0),
     )
 
 emit-set-mul-row : (t : ℕ) → emit-set-lts.Need-mul-row (callees t) (emit-set-at t) emit-set.Post
 emit-set-mul-row t c =
-    let start = c .before .before .before .before .before .before .before in
+    let start = c .before .before .before .before .before .before .before .before in
     omega (arith, set-known (start .pre .1) .5)
 
 emit-set-add-row : (t : ℕ) → emit-set-lts.Need-add-row (callees t) (emit-set-at t) emit-set.Post
 emit-set-add-row t c =
-    let start = c .before .before .before .before .before .before .before in
+    let start = c .before .before .before .before .before .before .before .before in
     omega (arith, set-known (start .pre .1) .5)
 
 emit-set-add-row-2 : (t : ℕ) → emit-set-lts.Need-add-row-2 (callees t) (emit-set-at t) emit-set.Post
 emit-set-add-row-2 t c =
-    let start = c .before .before .before .before .before .before .before in
+    let start = c .before .before .before .before .before .before .before .before in
     omega (arith, set-known (start .pre .1) .5)
 
 emit-set-mul-row-2 : (t : ℕ) → emit-set-lts.Need-mul-row-2 (callees t) (emit-set-at t) emit-set.Post
 emit-set-mul-row-2 t c =
-    let start = c .before .before .before .before .before .before .before in
+    let start = c .before .before .before .before .before .before .before .before in
     omega (arith, set-known (start .pre .1) .5)
 
 emit-set-shared-slice-read-row : (t : ℕ)
     → emit-set-lts.Need-shared-slice-read-row (callees t) (emit-set-at t) emit-set.Post
 emit-set-shared-slice-read-row t c =
-    let start = c .before .before .before .before .before .before .before .before in
+    let start = c .before .before .before .before .before .before .before .before .before in
     omega (arith, set-known (start .pre .1) .5)
 
 emit-set-cast-row : (t : ℕ) → emit-set-lts.Need-cast-row (callees t) (emit-set-at t) emit-set.Post
 emit-set-cast-row t c =
-    let start = c .before .before .before .before .before .before .before .before in
+    let start = c .before .before .before .before .before .before .before .before .before in
     omega (
       arith,
-      c .shared-slice-known7 .given
+      c .shared-slice-known8 .given
           (getD (start .args .lookups .now) (start .args .at) 0 * 576 + 519 + getD (start .args .tables .now)
           (getD (start .args .lookups .now) (start .args .at) 0 * 576 + getD (start .args .rows .now)
           (start .args .at * 4 + 1) 0) 0),
@@ -127,24 +129,24 @@ emit-set-cast-row t c =
 
 emit-set-mul-plain-type : (t : ℕ) → emit-set-lts.Need-mul-plain-type (callees t) (emit-set-at t) emit-set.Post
 emit-set-mul-plain-type t c =
-    let start = c .before .before .before .before .before .before .before .before in
+    let start = c .before .before .before .before .before .before .before .before .before in
     omega (arith, set-known (start .pre .1) .6)
 
 emit-set-add-plain-type : (t : ℕ) → emit-set-lts.Need-add-plain-type (callees t) (emit-set-at t) emit-set.Post
 emit-set-add-plain-type t c =
-    let start = c .before .before .before .before .before .before .before .before in
+    let start = c .before .before .before .before .before .before .before .before .before in
     omega (arith, set-known (start .pre .1) .6)
 
 emit-set-mul-plain-type-2 : (t : ℕ)
     → emit-set-lts.Need-mul-plain-type-2 (callees t) (emit-set-at t) emit-set.Post
 emit-set-mul-plain-type-2 t c =
-    let start = c .before .before .before .before .before .before .before .before in
+    let start = c .before .before .before .before .before .before .before .before .before in
     omega (arith, set-known (start .pre .1) .6)
 
 emit-set-shared-slice-read-plain-type : (t : ℕ)
     → emit-set-lts.Need-shared-slice-read-plain-type (callees t) (emit-set-at t) emit-set.Post
 emit-set-shared-slice-read-plain-type t c =
-    let start = c .before .before .before .before .before .before .before .before .before in
+    let start = c .before .before .before .before .before .before .before .before .before .before in
     omega (arith, set-known (start .pre .1) .6)
 
 emit-set-plain-type-requires : (t : ℕ)
@@ -158,19 +160,19 @@ emit-set-slice-aggregate-put t c = search needs
 emit-set-put-requires : (t : ℕ) → emit-set-lts.Need-put-requires (callees t) (emit-set-at t) emit-set.Post
 emit-set-put-requires t c κs =
     let start = c .before .before .before .before .before .before .before .before .before .before .before
-    .before in
+    .before .before in
     omega (arith, set-known (start .pre .1) .7)
 
 emit-set-add-emit-arguments : (t : ℕ)
     → emit-set-lts.Need-add-emit-arguments (callees t) (emit-set-at t) emit-set.Post
 emit-set-add-emit-arguments t c =
     let start = c .before .before .before .before .before .before .before .before .before .before .before
-    .before .before .before .before .before in
+    .before .before .before .before .before .before in
     omega (arith, set-known (start .pre .1) .0)
 
-emit-set-add-emit-arguments-2 : (t : ℕ)
-    → emit-set-lts.Need-add-emit-arguments-2 (callees t) (emit-set-at t) emit-set.Post
-emit-set-add-emit-arguments-2 t c =
+emit-set-add-t25 : (t : ℕ)
+    → emit-set-lts.Need-add-t25 (callees t) (emit-set-at t) emit-set.Post
+emit-set-add-t25 t c =
     let start = c .before .before .before .before .before .before .before .before .before .before .before
     .before .before .before .before .before in
     omega (arith, set-known (start .pre .1) .8)
@@ -179,33 +181,33 @@ emit-set-emit-arguments-requires : (t : ℕ)
     → emit-set-lts.Need-emit-arguments-requires (callees t) (emit-set-at t) emit-set.Post
 emit-set-emit-arguments-requires t c κs =
     let start = c .before .before .before .before .before .before .before .before .before .before .before
-    .before .before .before .before .before in (
+    .before .before .before .before .before .before in (
       omega (arith, set-known (start .pre .1) .1),
       set-ended (start .pre .1) (c .before .before .before .put .ensures),
     )
 
-emit-set-cast-t23 : (t : ℕ) → emit-set-lts.Need-cast-t23 (callees t) (emit-set-at t) emit-set.Post
-emit-set-cast-t23 t c =
+emit-set-cast-t25 : (t : ℕ) → emit-set-lts.Need-cast-t25 (callees t) (emit-set-at t) emit-set.Post
+emit-set-cast-t25 t c =
     let start = c .before .before .before .before .before .before .before .before .before .before .before
-    .before .before .before .before .before .before .before .before in
-    let the-shared-slice-known5 =
+    .before .before .before .before .before .before .before .before .before in
+    let the-shared-slice-known6 =
     c .before .before .before .before .before .before .before .before .before .before .before .before
-    .before .shared-slice-known5 in
-    omega (arith, the-shared-slice-known5 .given (start .args .at))
+    .before .shared-slice-known6 in
+    omega (arith, the-shared-slice-known6 .given (start .args .at))
 
-emit-set-add-t30 : (t : ℕ) → emit-set-lts.Need-add-t30 (callees t) (emit-set-at t) emit-set.Post
-emit-set-add-t30 t c =
+emit-set-add-t32 : (t : ℕ) → emit-set-lts.Need-add-t32 (callees t) (emit-set-at t) emit-set.Post
+emit-set-add-t32 t c =
     let start = c .before .before .before .before .before .before .before .before .before .before .before
-    .before .before .before .before .before .before .before .before in
-    let the-shared-slice-known5 =
+    .before .before .before .before .before .before .before .before .before in
+    let the-shared-slice-known6 =
     c .before .before .before .before .before .before .before .before .before .before .before .before
-    .before .shared-slice-known5 in
-    omega (arith, the-shared-slice-known5 .given (start .args .at))
+    .before .shared-slice-known6 in
+    omega (arith, the-shared-slice-known6 .given (start .args .at))
 
-emit-set-add-t37 : (t : ℕ) → emit-set-lts.Need-add-t37 (callees t) (emit-set-at t) emit-set.Post
-emit-set-add-t37 t c =
+emit-set-add-t39 : (t : ℕ) → emit-set-lts.Need-add-t39 (callees t) (emit-set-at t) emit-set.Post
+emit-set-add-t39 t c =
     let start = c .before .before .before .before .before .before .before .before .before .before .before
-    .before .before .before .before .before .before .before .before in
+    .before .before .before .before .before .before .before .before .before in
     omega (arith, set-known (start .pre .1) .8)
 
 emit-set-slice-aggregate-put-2 : (t : ℕ)
@@ -215,7 +217,7 @@ emit-set-slice-aggregate-put-2 t c = search needs
 emit-set-put-requires-2 : (t : ℕ) → emit-set-lts.Need-put-requires-2 (callees t) (emit-set-at t) emit-set.Post
 emit-set-put-requires-2 t c κs =
     let start = c .before .before .before .before .before .before .before .before .before .before .before
-    .before .before .before .before .before .before .before .before .before .before in
+    .before .before .before .before .before .before .before .before .before .before .before in
     let the-put = c .before .before .before .before .before .before .before .before .put in
     let the-emit-arguments = c .before .before .before .before .emit-arguments in
     set-room-after (start .pre .1) (the-put .ensures .ended) (the-emit-arguments .ensures)
@@ -223,15 +225,15 @@ emit-set-put-requires-2 t c κs =
 emit-set-same-length : (t : ℕ) → emit-set-lts.Need-same-length (callees t) (emit-set-at t) emit-set.Post
 emit-set-same-length t c =
     written-long (c .before .before .put2 .ensures)
-    ∙ c .before .before .before .before .before .before .before .emit-arguments .kept .1 .1 .1 .1 .0
+    ∙ c .before .before .before .before .before .before .before .emit-arguments .kept .1 .1 .1 .1 .1 .0
     ∙ written-long (c .before .before .before .before .before .before .before .before .before .before
     .before .put .ensures)
 
 emit-set-returns : (t : ℕ) → emit-set-lts.Need-returns (callees t) (emit-set-at t) emit-set.Post
 emit-set-returns t c =
     let the-plain-type =
-    c .before .before .before .before .before .before .before .before .before .before .before .before
-    .before .before .plain-type in
+    c .before .before .before .before .before .before .before .before .before .before .before .before .before
+    .before .plain-type in
     let the-put = c .before .before .before .before .before .before .before .before .before .before
     .before .put in
     let the-emit-arguments = c .before .before .before .before .before .before .before .emit-arguments in
@@ -249,7 +251,7 @@ emit-set-holds t =
     (emit-set-add-row-2 t) (emit-set-mul-row-2 t) (emit-set-shared-slice-read-row t) (emit-set-cast-row t)
     (emit-set-mul-plain-type t) (emit-set-add-plain-type t) (emit-set-mul-plain-type-2 t)
     (emit-set-shared-slice-read-plain-type t) (emit-set-plain-type-requires t)
-    (emit-set-slice-aggregate-put t) (emit-set-put-requires t) (emit-set-add-emit-arguments t)
-    (emit-set-add-emit-arguments-2 t) (emit-set-emit-arguments-requires t) (emit-set-cast-t23 t)
-    (emit-set-add-t30 t) (emit-set-add-t37 t) (emit-set-slice-aggregate-put-2 t) (emit-set-put-requires-2 t)
+    (emit-set-slice-aggregate-put t) (emit-set-put-requires t) (emit-set-add-t25 t)
+    (emit-set-add-emit-arguments t) (emit-set-emit-arguments-requires t) (emit-set-cast-t25 t)
+    (emit-set-add-t32 t) (emit-set-add-t39 t) (emit-set-slice-aggregate-put-2 t) (emit-set-put-requires-2 t)
     (emit-set-same-length t) (emit-set-returns t)

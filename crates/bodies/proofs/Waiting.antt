@@ -1,0 +1,158 @@
+-- The types of a call's arguments while they wait: the effect of each later argument is applied to them.
+-- Assumes nothing.
+use mathlib.Core.Path.{_≡_, refl, sym, ap, _∙_}
+use mathlib.Core.Bool.{Bool, true, false, cond, _||_}
+use mathlib.Core.Logic.{⊎-elim}
+use mathlib.Core.Option.{Option, none, some}
+use mathlib.Core.List.{List}
+use Prim.Native.Nat.{ℕ, zero, suc, _+_, _≤_, _<_}
+use native.Mathlib.Omega.{arith}
+use lib.Dec.{eqb}
+use lib.ListN.{length, getD, set as replaced, length-set}
+use lib.Seq.{getD-set-same, getD-set-other}
+use Rattle.language.specs.Lists.{choice, given}
+use Rattle.language.specs.Tree.{bool, class, ExprType, known, null-type, Class}
+use Rattle.language.specs.Effects.{member, join, apply-class}
+use Rattle.language.specs.Program.{world, world-with, class-at, root-at, is-state}
+use Rattle.language.proofs.Effects.{member-join, member-none}
+use Rattle.language.proofs.Lines.{less-or-same}
+use Rattle.bodies.specs.declared.Answer.{Answer}
+use Rattle.bodies.specs.Answers.{case-number, typing-case}
+use Rattle.bodies.specs.Tables.{Headed, Applicable, Known, a-class, a-bool, an-absence, applied}
+use Rattle.bodies.specs.Tables.{applied-number}
+use Rattle.bodies.specs.Cycle.{Declared, PostStore}
+use Rattle.bodies.proofs.Laws.{number-bool, number-absent, number-class, known-same}
+use Rattle.bodies.proofs.ActLaws.{applicable-known}
+use Rattle.bodies.proofs.Worlds.{sound, applied-is}
+use Rattle.bodies.proofs.Turns.{class-low}
+use Rattle.bodies.proofs.TypeNumbers.{applied-low}
+
+-- ---- the loop over the types that wait
+
+-- i of the numbers from `top` on have an effect applied, and the others are as before
+pub record Waiting (T S S′ : List ℕ) (top i φ : ℕ) : Type 0 where
+  pub long : length S′ ≡ length S
+  pub below : (k : ℕ) → k < top → getD S′ k 0 ≡ getD S k 0
+  pub done : (k : ℕ) → k < i → getD S′ (top + k) 0 ≡ applied-number T φ (getD S (top + k) 0)
+  pub rest : (k : ℕ) → i ≤ k → getD S′ (top + k) 0 ≡ getD S (top + k) 0
+
+pub waiting-start : (T S : List ℕ) (top φ : ℕ) → Waiting T S S top 0 φ
+waiting-start T S top φ = record {
+  long = refl;
+  below = λ k l. refl;
+  done = λ k l. absurd (omega arith);
+  rest = λ k l. refl;
+}
+
+pub waiting-step : {T S S′ : List ℕ} {top i φ v : ℕ} → Waiting T S S′ top i φ → top + i < length S
+    → v ≡ applied-number T φ (getD S′ (top + i) 0) → Waiting T S (replaced S′ (top + i) v) top (i + 1) φ
+waiting-step {T} {S} {S′} {top} {i} {φ} {v} w l e = record {
+  long = length-set S′ (top + i) v ∙ w .long;
+  below = λ k m. getD-set-other S′ (top + i) k v 0 (λ q. omega arith) ∙ w .below k m;
+  done = λ k m. ⊎-elim
+      (λ (m : k < i). getD-set-other S′ (top + i) (top + k) v 0 (λ q. omega arith) ∙ w .done k m)
+      (λ (q : k ≡ i). rw q (getD-set-same S′ (top + i) v 0 (omega (arith, w .long))
+      ∙ (e ∙ ap (applied-number T φ) (w .rest i (omega arith)))))
+      (less-or-same k i (omega arith));
+  rest = λ k m. getD-set-other S′ (top + i) (top + k) v 0 (λ q. omega arith) ∙ w .rest k (omega arith);
+}
+
+pub waiting-stored : {T S S′ : List ℕ} {top i n v : ℕ} {r : Answer} → Waiting T S S′ top i (r .effect)
+    → i ≤ n → n ≤ i → top + n < length S → v ≡ case-number (r .typing)
+    → PostStore T S (replaced S′ (top + n) v) top n r
+waiting-stored {T} {S} {S′} {top} {i} {n} {v} {r} w a b l e = record {
+  long = length-set S′ (top + n) v ∙ w .long;
+  below = λ k m. getD-set-other S′ (top + n) k v 0 (λ q. omega arith) ∙ w .below k m;
+  waiting = λ k m. getD-set-other S′ (top + n) (top + k) v 0 (λ q. omega arith) ∙ w .done k (omega arith);
+  last = getD-set-same S′ (top + n) v 0 (omega (arith, w .long)) ∙ e;
+}
+
+-- ---- an effect after another
+
+module _ (P : List Class) (lower : (k : ℕ) (c : Class) → class-at P k ≡ some c → c .super < k) where
+  root-of-root : (n m k : ℕ) → k < n → root-at P (suc m) (root-at P n k) ≡ root-at P n k
+  unfolding root-at
+  root-of-root zero m k l = absurd (omega arith)
+  root-of-root (suc n) m k l = go (λ j x. root-of-root n m j x) (class-at P k) refl
+    where
+      pick : ((j : ℕ) → j < n → root-at P (suc m) (root-at P n j) ≡ root-at P n j) → (b : Bool) (c : Class)
+          → class-at P k ≡ some c → is-state (c .kind) ≡ b
+          → root-at P (suc m) (choice b (λ _. root-at P n (c .super)) (λ _. k))
+          ≡ choice b (λ _. root-at P n (c .super)) (λ _. k)
+      pick rec true c e s = rec (c .super) (omega (arith, lower k c e))
+      pick rec false c e s = rw (e, s)
+
+      go : ((j : ℕ) → j < n → root-at P (suc m) (root-at P n j) ≡ root-at P n j) → (o : Option Class)
+          → class-at P k ≡ o
+          → root-at P (suc m)
+          (given o k (λ c. choice (is-state (c .kind)) (λ _. root-at P n (c .super)) (λ _. k)))
+          ≡ given o k (λ c. choice (is-state (c .kind)) (λ _. root-at P n (c .super)) (λ _. k))
+      go rec none e = rw e
+      go rec (some c) e = pick rec (is-state (c .kind)) c e refl
+
+  -- a root is its own root
+  root-twice : (k : ℕ) → world P .root (world P .root k) ≡ world P .root k
+  unfolding world world-with
+  root-twice k = root-of-root (suc k) (root-at P (suc k) k) k (omega arith)
+
+  apply-join : (φ ψ c : ℕ)
+      → apply-class (world P) ψ (apply-class (world P) φ c) ≡ apply-class (world P) (join φ ψ) c
+  unfolding apply-class
+  apply-join φ ψ c = rw (member-join φ ψ (world P .root c)) (go (member φ (world P .root c)))
+    where
+      same : (b : Bool) → cond b (world P .root c) (world P .root c) ≡ world P .root c
+      same true = refl
+      same false = refl
+
+      go : (b : Bool)
+          → cond (member ψ (world P .root (cond b (world P .root c) c)))
+          (world P .root (cond b (world P .root c) c)) (cond b (world P .root c) c)
+          ≡ cond (b || member ψ (world P .root c)) (world P .root c) c
+      go true = rw (root-twice c) (same (member ψ (world P .root c)))
+      go false = refl
+
+pub applied-none : (T : List ℕ) (n : ℕ) → applied-number T 0 n ≡ n
+unfolding applied-number applied
+applied-none T n = rw (member-none) (go (eqb n 255) (eqb n 65535))
+  where
+    go : (a b : Bool) → cond a n (cond b n n) ≡ n
+    go true b = refl
+    go false true = refl
+    go false false = refl
+
+module _ {P : List Class} {R E T A M F : List ℕ} {count : ℕ} (h : Headed P R E T A M F count) where
+  class-number : (φ c : ℕ) → c ≤ count → applied T φ c ≡ applied-number T φ c
+  class-number φ c l =
+      number-class T φ c (λ e. omega (arith, h .classes .few)) (λ e. omega (arith, h .classes .few))
+
+  -- one effect and then another are both at once
+  pub applied-join : (φ ψ : ℕ) {n : ℕ} → Known count n
+      → applied-number T ψ (applied-number T φ n) ≡ applied-number T (join φ ψ) n
+  applied-join φ ψ {n} (a-class l) =
+      let m = applied-low h φ n l in
+      ap (applied-number T ψ) (sym (class-number φ n l)) ∙ (sym (class-number ψ (applied T φ n) m)
+      ∙ (applied-is (h .classes) ψ (applied T φ n) m ∙ (ap (apply-class (world P) ψ)
+      (applied-is (h .classes) φ n l) ∙ (apply-join P (h .classes .lower) φ ψ n
+      ∙ (sym (applied-is (h .classes) (join φ ψ) n l) ∙ class-number (join φ ψ) n l)))))
+  applied-join φ ψ a-bool = ap (applied-number T ψ) (sym (number-bool T φ 255 refl))
+      ∙ (sym (number-bool T ψ 255 refl) ∙ number-bool T (join φ ψ) 255 refl)
+  applied-join φ ψ an-absence = let f : _≡_ {A = ℕ} 65535 255 → ⊥ = λ e. omega arith in
+      ap (applied-number T ψ) (sym (number-absent T φ 65535 f refl))
+      ∙ (sym (number-absent T ψ 65535 f refl) ∙ number-absent T (join φ ψ) 65535 f refl)
+
+  -- a number that waits, before and after an effect
+  pub known-applied : (φ : ℕ) {n : ℕ} → Known count n → Known count (applied-number T φ n)
+  known-applied φ {n} (a-class l) =
+      known-same (sym (class-number φ n l)) (a-class (applied-low h φ n l))
+  known-applied φ a-bool = known-same (sym (number-bool T φ 255 refl)) a-bool
+  known-applied φ an-absence =
+      known-same (sym (number-absent T φ 65535 (λ e. omega arith) refl)) an-absence
+
+  pub known-case : (t : ExprType) → Declared (world P) t → Known count (case-number (typing-case t))
+  known-case (known bool) d = a-bool
+  known-case (known (class c)) d = a-class (class-low c h (d .class-in c refl))
+  known-case null-type d = an-absence
+
+  pub known-applicable : {n : ℕ} → Known count n → Applicable T n
+  known-applicable k = applicable-known (h .classes .few) (sound (h .classes) .long)
+      (λ j i. omega (arith, sound (h .classes) .roots j i, h .classes .few)) k

@@ -1,0 +1,19 @@
+-- `bodies::fresh` meets its contract. Assumes nothing.
+use mathlib.Core.Path.{refl}
+use borrow.Author.Needs.{needs}
+use Rattle.bodies.specs.Answers.{slot-of, fresh-in}
+use Rattle.bodies.proofs.fresh.Statement.{statement}
+use Rattle.bodies.proofs.fresh.Tie as tie
+
+mul-result : tie.Need-mul-result
+mul-result c = search needs
+
+add-result : tie.Need-add-result
+add-result c = search needs
+
+returns : tie.Need-returns
+unfolding fresh-in slot-of
+returns c = refl
+
+pub fresh-spec : {M : Type 1} → statement M
+fresh-spec = tie.close (tie.spec mul-result add-result returns)

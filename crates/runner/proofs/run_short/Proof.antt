@@ -1,0 +1,36 @@
+-- `runner::run_short` meets its contract. Assumes nothing.
+use Rattle.checker.proofs.Passing.{room-short}
+use borrow.Author.Needs.{needs}
+use Rattle.runner.proofs.run_short.Statement.{statement}
+use Rattle.runner.proofs.run_short.Tie as tie
+
+slice-aggregate-run-whole : tie.Need-slice-aggregate-run-whole
+slice-aggregate-run-whole c = search needs
+
+slice-aggregate-run-whole-2 : tie.Need-slice-aggregate-run-whole-2
+slice-aggregate-run-whole-2 c = search needs
+
+slice-aggregate-run-whole-3 : tie.Need-slice-aggregate-run-whole-3
+slice-aggregate-run-whole-3 c = search needs
+
+run-whole-requires : tie.Need-run-whole-requires
+run-whole-requires c κs =
+    let start = c .before .before .before .before .before .before in
+    (room-short (start .args .rows .now) (start .pre .0 .0) (start .pre .0 .1), start .pre .1)
+
+same-length : tie.Need-same-length
+same-length c = search needs
+
+returns : tie.Need-returns
+returns c = search needs
+
+pub run-short-spec : {M : Type 1} → statement M
+run-short-spec =
+    tie.close
+    (tie.spec
+    slice-aggregate-run-whole
+    slice-aggregate-run-whole-2
+    slice-aggregate-run-whole-3
+    run-whole-requires
+    same-length
+    returns)
