@@ -48,19 +48,28 @@ const CHECK_BASE: usize = 753_664;
 const CHECK_LEVEL: usize = 832;
 /// Bytes that a run takes before it enters a node: tables and the first segment of slots. Measured: 594,400.
 const RUN_BASE: usize = 606_208;
-/// Bytes that each node under way adds: 368 measured, the same for every letter, as they share one function; and its part
-/// of a segment, in which at most 9 values of a node wait.
-const RUN_NODE: usize = 368 + share_of_segment(9);
-/// Bytes that each active call adds beside its nodes: the part of a segment that its slots take, at most 264.
-const RUN_CALL: usize = share_of_segment(264);
-/// Bytes of a segment of 4,096 slots, with the frame of the function that makes it. Measured: 16,640.
+/// Bytes that each node under way adds. Measured: 368, the same for every letter, as they share one function.
+const RUN_NODE: usize = 368;
+/// Bytes of a segment of slots, with the frame of the function that makes it. Measured: 16,640.
 const SEGMENT: usize = 16_768;
+/// Slots of a segment, and the most of them that must be free where a call is to go on in it.
+const SEGMENT_SLOTS: usize = 4_096;
+const CALL_SLOTS: usize = 1_416;
+/// The most slots for `this`, parameters and locals of a call, and the most values of a node that wait.
+const FRAME_SLOTS: usize = 264;
+const NODE_SLOTS: usize = 9;
+/// How many calls go on in a segment at least before one is given another.
+const CALLS_A_SEGMENT: usize = 3;
 
-/// Returns the bytes that slots of a segment stand for. A segment has 4,096 slots, and any call needs at most 1,416; so when
-/// a call is given another one, at least 2,680 slots of the segment before are taken.
-const fn share_of_segment(slots: usize) -> usize {
-    (SEGMENT * slots).div_ceil(4_096 - 1_416)
-}
+// Before the slots of the call that a call makes stand its own, and in each node within its block all values but one.
+const _: () = assert!(
+    (CALLS_A_SEGMENT - 1) * (FRAME_SLOTS + (NODE_SLOTS - 1) * (MOST_NESTING - 1)) + CALL_SLOTS
+        <= SEGMENT_SLOTS
+);
+
+// What a run needs at most is the bound for the deepest program.
+const _: () =
+    assert!(bound(MOST_NESTING, MOST_NESTING * (1 + MOST_CALLS), MOST_CALLS) <= RUN_ROWS_STACK_NEEDED);
 
 /// Returns a bound on the bytes of native stack that `run_rows_on_this_stack` takes.
 ///
@@ -73,18 +82,35 @@ pub fn run_rows_stack_bound(rows: &[u32], fuel: u64) -> usize {
     let nodes = program.nodes_under_way();
     let entered = usize::try_from(fuel).map_or(nodes, |fuel| nodes.min(fuel));
     let calls = program.active_calls().min(entered);
-    bound(program.start.nodes.max(program.methods.nodes), entered, calls).min(RUN_ROWS_STACK_NEEDED)
+    bound(program.start.nodes.max(program.methods.nodes), entered, calls)
 }
 
 /// Returns the larger of what the check takes at this nesting and what the run takes with this many nodes under way and
-/// calls active, where one segment may be hardly used.
+/// calls active.
 const fn bound(nesting: usize, nodes: usize, calls: usize) -> usize {
     let check = CHECK_BASE + CHECK_LEVEL * nesting;
-    let run = RUN_BASE + RUN_NODE * nodes + RUN_CALL * calls + if calls == 0 { 0 } else { SEGMENT };
+    let run = RUN_BASE + RUN_NODE * nodes + segments(nodes, calls);
     if check < run {
         run
     } else {
         check
+    }
+}
+
+/// Returns the bytes that the segments after the first take at most: by how many calls go on in one, or by the slots that
+/// are taken, if that is less. When a call is given another segment, no more than it must find free is free in the one
+/// before; the last one may be hardly used.
+const fn segments(nodes: usize, calls: usize) -> usize {
+    if calls == 0 {
+        return 0;
+    }
+    let by_calls = SEGMENT * calls.div_ceil(CALLS_A_SEGMENT);
+    let taken = NODE_SLOTS * nodes + FRAME_SLOTS * calls;
+    let by_slots = SEGMENT + (SEGMENT * taken).div_ceil(SEGMENT_SLOTS - CALL_SLOTS);
+    if by_calls < by_slots {
+        by_calls
+    } else {
+        by_slots
     }
 }
 

@@ -151,7 +151,7 @@ abbrev pub parameter-count : List ℕ → ℕ → ℕ
 parameter-count M i = getD M (i * method-width + parameters-place) 0
 
 pub record PreMethod (R A M F S : List ℕ) (top n i : ℕ) : Type 0 where
-  pub inside : i * 4 + 2 < length M
+  pub inside : i * method-width + parameters-place < length M
   pub effect : i < length F
   pub line : method-line M i * 4 + 3 < length R
   pub fitting : parameter-count M i ≡ n → PreFitting R A S top (method-line M i + 1) n

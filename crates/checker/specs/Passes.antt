@@ -20,6 +20,17 @@ use Rattle.headings.specs.Numbers.{numbers-a-method, most-methods}
 use Rattle.checker.specs.declared.Checked.{Checked}
 use Rattle.checker.specs.Answers.{checked-case}
 
+-- Tables come in sizes: for the numbers of at most 32 rows, of at most 1,024, and of more; for at most 7 classes, and for
+-- more.
+abbrev pub short-numbers : ℕ
+short-numbers = 128
+
+abbrev pub few-numbers : ℕ
+few-numbers = 4096
+
+abbrev pub few-classes : ℕ
+few-classes = 7
+
 -- Whole rows, and tables that are long enough for them: an end for each row that may be accepted, an entry
 -- for each method.
 pub record Room (R E M F : List ℕ) : Type 0 where

@@ -12,6 +12,7 @@ ghost use Rattle.language.specs.Limits.{of-check};
 ghost use Rattle.language.specs.Verdict.{verdict};
 ghost use Rattle.checker.specs.Answers.{typed-case, verdict-case, verdict-of-checked};
 ghost use Rattle.checker.specs.Passes.{Room, Stands, ClassRoom, HeadingsPassed, Checks, ChecksAbove};
+ghost use Rattle.checker.specs.Passes.{short-numbers, few-numbers, few-classes};
 
 // Tables come in three lengths, by the number of rows: for at most 32, for at most 1,024, and for all that there may be.
 pub const SHORT_ROWS: usize = 32;
@@ -100,7 +101,7 @@ fn type_short(
 ) -> Checked
     requires { ⌜ HeadingsPassed (now rows) (now ends) (now tables) (now above) (now methods) (now effects)
         classes many start ⌝ }
-    requires { ⌜ length (now rows) ≤ 128 ⌝ }
+    requires { ⌜ length (now rows) ≤ short-numbers ⌝ }
     ensures { λ r. ⌜ Checks (now (rows .entry)) (now (ends .entry)) (now (tables .entry)) (now (above .entry))
         (now (methods .entry)) (now (effects .entry)) (now (lookups .exit)) r ⌝ }
 {
@@ -255,7 +256,7 @@ fn check_few_classes(
 ) -> Checked
     requires { ⌜ Stands (now rows) (now ends) classes start ⌝ }
     requires { ⌜ Room (now rows) (now ends) (now methods) (now effects) ⌝ }
-    requires { ⌜ (of-check .classes + 1 ≤ length (now above)) × (classes ≤ 7) ⌝ }
+    requires { ⌜ (of-check .classes + 1 ≤ length (now above)) × (classes ≤ few-classes) ⌝ }
     ensures { λ r. ⌜ ChecksAbove (now (rows .entry)) (now (above .exit)) r ⌝ }
 {
     let mut tables = [0u16; FEW_TABLE];
@@ -347,7 +348,7 @@ fn check_whole(
 
 // The check of at most 32 whole rows.
 fn check_short(rows: &[u32], above: &mut [u64]) -> Checked
-    requires { ⌜ (length (now rows) % 4 ≡ 0) × (length (now rows) ≤ 128) ⌝ }
+    requires { ⌜ (length (now rows) % 4 ≡ 0) × (length (now rows) ≤ short-numbers) ⌝ }
     requires { ⌜ of-check .classes + 1 ≤ length (now above) ⌝ }
     ensures { λ r. ⌜ ChecksAbove (now (rows .entry)) (now (above .exit)) r ⌝ }
 {
@@ -359,7 +360,7 @@ fn check_short(rows: &[u32], above: &mut [u64]) -> Checked
 
 // The check of at most 1,024 whole rows.
 fn check_few(rows: &[u32], above: &mut [u64]) -> Checked
-    requires { ⌜ (length (now rows) % 4 ≡ 0) × (length (now rows) ≤ 4096) ⌝ }
+    requires { ⌜ (length (now rows) % 4 ≡ 0) × (length (now rows) ≤ few-numbers) ⌝ }
     requires { ⌜ of-check .classes + 1 ≤ length (now above) ⌝ }
     ensures { λ r. ⌜ ChecksAbove (now (rows .entry)) (now (above .exit)) r ⌝ }
 {

@@ -21,7 +21,7 @@ use machine::Run;
 ghost use mathlib.Core.Path.{_≡_};
 ghost use Prim.Native.Nat.{_%_, _≤_};
 ghost use lib.ListN.{length};
-ghost use Rattle.checker.specs.Passes.{Room, ClassRoom, Stands};
+ghost use Rattle.checker.specs.Passes.{Room, ClassRoom, Stands, short-numbers, few-numbers, few-classes};
 ghost use Rattle.runner.specs.Answers.{Answers};
 ghost use Rattle.language.specs.Limits.{most-fuel};
 
@@ -87,7 +87,7 @@ fn run_few_classes(
 ) -> Answer
     requires { ⌜ Stands (now rows) (now ends) classes start ⌝ }
     requires { ⌜ Room (now rows) (now ends) (now methods) (now effects) ⌝ }
-    requires { ⌜ (classes ≤ 7) × (fuel ≤ most-fuel) ⌝ }
+    requires { ⌜ (classes ≤ few-classes) × (fuel ≤ most-fuel) ⌝ }
     ensures { λ r. ⌜ Answers (now (rows .entry)) fuel (now (store .entry)) (now (store .exit)) r ⌝ }
 {
     let mut tables = [0u16; FEW_TABLE];
@@ -191,7 +191,7 @@ fn run_whole(
 
 // The run of at most 32 whole rows.
 fn run_short(rows: &[u32], store: &mut [u32], fuel: u32) -> Answer
-    requires { ⌜ (length (now rows) % 4 ≡ 0) × (length (now rows) ≤ 128) ⌝ }
+    requires { ⌜ (length (now rows) % 4 ≡ 0) × (length (now rows) ≤ short-numbers) ⌝ }
     requires { ⌜ fuel ≤ most-fuel ⌝ }
     ensures { λ r. ⌜ Answers (now (rows .entry)) fuel (now (store .entry)) (now (store .exit)) r ⌝ }
 {
@@ -203,7 +203,7 @@ fn run_short(rows: &[u32], store: &mut [u32], fuel: u32) -> Answer
 
 // The run of at most 1,024 whole rows.
 fn run_few(rows: &[u32], store: &mut [u32], fuel: u32) -> Answer
-    requires { ⌜ (length (now rows) % 4 ≡ 0) × (length (now rows) ≤ 4096) ⌝ }
+    requires { ⌜ (length (now rows) % 4 ≡ 0) × (length (now rows) ≤ few-numbers) ⌝ }
     requires { ⌜ fuel ≤ most-fuel ⌝ }
     ensures { λ r. ⌜ Answers (now (rows .entry)) fuel (now (store .entry)) (now (store .exit)) r ⌝ }
 {

@@ -23,7 +23,7 @@ ghost use Prim.Native.Nat.{_%_, _≤_};
 ghost use lib.ListN.{length};
 ghost use Rattle.language.specs.Filling.{answer, buffer};
 ghost use Rattle.language.specs.Translation.{translation};
-ghost use Rattle.checker.specs.Passes.{Room, ClassRoom, Stands};
+ghost use Rattle.checker.specs.Passes.{Room, ClassRoom, Stands, short-numbers, few-numbers, few-classes};
 
 // After form: checks headings and bodies with tables that are lent, then translates.
 fn translate_formed(
@@ -78,7 +78,7 @@ fn translate_few_classes(
     requires { ⌜ Stands (now rows) (now ends) classes start ⌝ }
     requires { ⌜ Room (now rows) (now ends) (now methods) (now effects) ⌝ }
     requires { ⌜ length (now ends) ≤ length (now lookups) ⌝ }
-    requires { ⌜ classes ≤ 7 ⌝ }
+    requires { ⌜ classes ≤ few-classes ⌝ }
     ensures { λ r. ⌜ (r ≡ answer 4 (translation (now (rows .entry))) (length (now (out .entry))))
         × (now (out .exit) ≡ buffer (translation (now (rows .entry))) (now (out .entry))) ⌝ }
 {
@@ -179,7 +179,7 @@ fn translate_whole(
 
 // The translation of at most 32 whole rows.
 fn translate_short(rows: &[u32], out: &mut [u32]) -> Filled
-    requires { ⌜ (length (now rows) % 4 ≡ 0) × (length (now rows) ≤ 128) ⌝ }
+    requires { ⌜ (length (now rows) % 4 ≡ 0) × (length (now rows) ≤ short-numbers) ⌝ }
     ensures { λ r. ⌜ (r ≡ answer 4 (translation (now (rows .entry))) (length (now (out .entry))))
         × (now (out .exit) ≡ buffer (translation (now (rows .entry))) (now (out .entry))) ⌝ }
 {
@@ -199,7 +199,7 @@ fn translate_short(rows: &[u32], out: &mut [u32]) -> Filled
 
 // The translation of at most 1,024 whole rows.
 fn translate_few(rows: &[u32], out: &mut [u32]) -> Filled
-    requires { ⌜ (length (now rows) % 4 ≡ 0) × (length (now rows) ≤ 4096) ⌝ }
+    requires { ⌜ (length (now rows) % 4 ≡ 0) × (length (now rows) ≤ few-numbers) ⌝ }
     ensures { λ r. ⌜ (r ≡ answer 4 (translation (now (rows .entry))) (length (now (out .entry))))
         × (now (out .exit) ≡ buffer (translation (now (rows .entry))) (now (out .entry))) ⌝ }
 {
