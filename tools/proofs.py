@@ -3,7 +3,8 @@
 
   tools/proofs.py skel CRATE              write the printed skeleton of each function that has no proof yet
   tools/proofs.py paths CRATE FN [NEED]   what each need of a function can name, nearest first
-  tools/proofs.py expand CRATE FN...      turn @thing into the path `c .before … .thing`, in place
+  tools/proofs.py names CRATE FN...       turn paths into @thing, in place: before the code of a proved function changes
+  tools/proofs.py expand CRATE FN...      turn @thing into the path `c .before … .thing`, in place: after it has changed
   tools/proofs.py short CRATE [FN...]     name the places of long lines once per need, by `let`
   tools/proofs.py long CRATE LOG          write them out again in the needs that a note in LOG, of `rt dev`, calls costly
 
@@ -121,7 +122,7 @@ def expand_text(crate, fn, text):
             if f not in near:
                 sys.exit(f'{fn} {name}: no {f} among {" ".join(near)}')
             return 'c' + ' .before' * near[f] + ' .' + f
-        out.append(re.sub(r'@([A-Za-z][A-Za-z0-9-]*)', sub, block))
+        out.append(re.sub(r'@([A-Za-zκ][A-Za-z0-9-]*)', sub, block))
     return ''.join(out)
 
 def proof_files(crate, fn):
@@ -180,6 +181,32 @@ def unnamed(body):
             body = before + re.sub(word + r'(?= \.)', m[2], rest)
     return body
 
+def names(crate, fns):
+    """What a path leads to is the same after a change of code, though it has another length."""
+    for fn in fns:
+        fn = proof_dir(crate, fn)
+        for p in proof_files(crate, fn):
+            blocks = re.split(r'(\n\n+)', open(p).read())
+            for i, b in enumerate(blocks):
+                m = NEED.search(b)
+                if not m or ' .before' not in m[3]:
+                    continue
+                rec, need = find_need(crate, fn, m[1])
+                if rec is None or need not in rec.need:
+                    print(f'{p}: no need for {m[1]}')
+                    continue
+                near = {}
+                for f, k in rec.chain(need):
+                    near.setdefault(f, k)
+                def sub(x):
+                    k, f = x.group(1).count('.before'), x.group(2)
+                    if near.get(f) == k:
+                        return '@' + f
+                    print(f'{p} {m[1]}: {f} is not the nearest')
+                    return x.group(0)
+                blocks[i] = b[:m.end(2)] + ' ' + re.sub(r'\bc((?: \.before)*) \.(?!before\b)([A-Za-zκ][A-Za-z0-9-]*)', sub, unnamed(m[3]))
+            open(p, 'w').write(''.join(blocks))
+
 def long(crate, log):
     """Where a `large solution` note names a need, its paths are written out again: solutions repeat what a `let` names."""
     for path, name in set(re.findall(rf'(?m)(crates/{crate}/proofs/[^/\n]+/[^:\n]*):.*large solution.*\(in `(\S+)`\)$', open(log).read())):
@@ -222,4 +249,4 @@ if __name__ == '__main__':
     if len(a) < 2:
         sys.exit(__doc__)
     {'skel': lambda: skel(a[1]), 'paths': lambda: paths(a[1], a[2], a[3] if len(a) > 3 else None),
-     'expand': lambda: expand(a[1], a[2:]), 'short': lambda: short(a[1], a[2:]), 'long': lambda: long(a[1], a[2])}[a[0]]()
+     'names': lambda: names(a[1], a[2:]), 'expand': lambda: expand(a[1], a[2:]), 'short': lambda: short(a[1], a[2:]), 'long': lambda: long(a[1], a[2])}[a[0]]()

@@ -42,24 +42,24 @@ const MOST_CALLS: usize = 64;
 const ROW: usize = 4;
 const CALL: u32 = b'Q' as u32;
 
-/// Bytes that a run takes while it checks rows without nesting: tables and slots. Measured: 728,824.
-const CHECK_BASE: usize = 753_664;
+/// Bytes that a run takes while it checks rows without nesting: tables and slots. Measured: 670,280.
+const CHECK_BASE: usize = 688_128;
 /// Bytes that each level of nesting adds to the check. Measured: 784.
 const CHECK_LEVEL: usize = 832;
-/// Bytes that a run takes before it enters a node: tables and the first segment of slots. Measured: 594,400.
-const RUN_BASE: usize = 606_208;
-/// Bytes that each node under way adds. Measured: 368, the same for every letter, as they share one function.
-const RUN_NODE: usize = 368;
-/// Bytes of a segment of slots, with the frame of the function that makes it. Measured: 16,640.
-const SEGMENT: usize = 16_768;
+/// Bytes that a run takes before it enters a node: tables and the first segment of slots. Measured: 371,760.
+const RUN_BASE: usize = 376_832;
+/// Bytes that each node under way adds. Measured: 336, the same for every letter, as they share one function.
+const RUN_NODE: usize = 336;
+/// Bytes of a segment of slots, with the frame of the function that makes it. Measured: 15,648.
+const SEGMENT: usize = 15_712;
 /// Slots of a segment, and the most of them that must be free where a call is to go on in it.
-const SEGMENT_SLOTS: usize = 4_096;
+const SEGMENT_SLOTS: usize = 1_920;
 const CALL_SLOTS: usize = 1_416;
 /// The most slots for `this`, parameters and locals of a call, and the most values of a node that wait.
 const FRAME_SLOTS: usize = 264;
 const NODE_SLOTS: usize = 9;
 /// How many calls go on in a segment at least before one is given another.
-const CALLS_A_SEGMENT: usize = 3;
+const CALLS_A_SEGMENT: usize = 1;
 
 // Before the slots of the call that a call makes stand its own, and in each node within its block all values but one.
 const _: () = assert!(

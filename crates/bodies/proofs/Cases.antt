@@ -16,7 +16,7 @@ use Rattle.bodies.specs.declared.Typing.the-variants.{Bool as bool-case,
 use Rattle.bodies.specs.declared.Answer.{Answer}
 use Rattle.bodies.specs.declared.Sought.{Sought}
 use Rattle.bodies.specs.declared.Sought.the-variants.{Found, Missing}
-use Rattle.bodies.specs.Answers.{answer, case-of-number, is-refusal}
+use Rattle.bodies.specs.Answers.{answer, case-of-number, is-refusal, current-in}
 use Rattle.bodies.specs.Tables.{PreNearest, nearest-from, is-fitting}
 use Rattle.bodies.specs.Nodes.{refusal, null-tested, not-class, joined-case, BothClasses, field-in}
 use Rattle.bodies.specs.Nodes.{field-place, field-row, created, slot-read, named-type}
@@ -135,31 +135,34 @@ pub field-row-is : (T : List ℕ) (c f p q : ℕ) → p ≡ field-place T c f �
 field-row-is T c f p q e g = rw e at g
 
 -- W and I
-pub created-no : (R : List ℕ) (count at : ℕ) (r : Answer) → count < getD R (at * 4 + 1) 0
-    → r ≡ refusal 4 at → r ≡ created R count at
-unfolding created
-created-no R count at r l h = rw (lt-ltb _ _ l) h
+module _ (R : List ℕ) (count at : ℕ) (r : Answer) (c : ℕ) (c-is : c ≡ getD R (at * 4 + 1) 0) where
+  pub created-no : count < c → r ≡ refusal 4 at → r ≡ created R count at
+  unfolding created
+  created-no l h = rw (← c-is, lt-ltb _ _ l) h
 
-pub created-yes : (R : List ℕ) (count at : ℕ) (r : Answer) → getD R (at * 4 + 1) 0 ≤ count
-    → r ≡ answer (Class (getD R (at * 4 + 1) 0)) 0
-    → r ≡ created R count at
-unfolding created
-created-yes R count at r l h = rw (le-ltb _ _ l) h
+  pub created-yes : c ≤ count → r ≡ answer (Class c) 0 → r ≡ created R count at
+  unfolding created
+  created-yes l h = rw (← c-is, le-ltb _ _ l) h
 
-module _ (R S : List ℕ) (at scope : ℕ) (r : Answer) where
-  pub read-out : scope ≤ getD R (at * 4 + 1) 0 → r ≡ refusal 7 at → r ≡ slot-read R S at scope
+module _ (R S : List ℕ) (at scope : ℕ) (r : Answer) (k : ℕ) (k-is : k ≡ getD R (at * 4 + 1) 0) where
+  pub read-out : scope ≤ k → r ≡ refusal 7 at → r ≡ slot-read R S at scope
   unfolding slot-read
-  read-out l h = rw (le-leb _ _ l) h
+  read-out l h = rw (← k-is, le-leb _ _ l) h
 
-  pub read-absent : getD R (at * 4 + 1) 0 < scope → (v : ℕ) → v ≡ named-type R S at → v ≡ 65535
+  pub read-absent : k < scope → (v : ℕ) → v ≡ current-in (getD S k 0) → v ≡ 65535
       → r ≡ refusal 7 at → r ≡ slot-read R S at scope
   unfolding slot-read
-  read-absent l v ev e h = rw (lt-leb _ _ l, eq-eqb _ _ (sym ev ∙ e)) h
+  read-absent l v ev e h = rw (← k-is, lt-leb _ _ l, eq-eqb _ _ (sym ev ∙ e)) h
 
-  pub read-there : getD R (at * 4 + 1) 0 < scope → (v : ℕ) → v ≡ named-type R S at → (v ≡ 65535 → ⊥)
+  pub read-there : k < scope → (v : ℕ) → v ≡ current-in (getD S k 0) → (v ≡ 65535 → ⊥)
       → r ≡ answer (case-of-number v) 0 → r ≡ slot-read R S at scope
   unfolding slot-read
-  read-there l v ev e h = rw (lt-leb _ _ l, sym ev, ne-eqb _ _ e) h
+  read-there l v ev e h = rw (← k-is, lt-leb _ _ l, sym ev, ne-eqb _ _ e) h
+
+-- the type of the slot that a row names
+pub named-is : (R S : List ℕ) (at k : ℕ) → k ≡ getD R (at * 4 + 1) 0
+    → current-in (getD S k 0) ≡ named-type R S at
+named-is R S at k e = rw e
 
 -- K, A and Q
 module _ (R : List ℕ) (count at : ℕ) (a : Answer) where
@@ -167,17 +170,19 @@ module _ (R : List ℕ) (count at : ℕ) (a : Answer) where
   unfolding cast-answer
   cast-refused b e f = rw (sym e ∙ f)
 
-  pub cast-name : (b : Bool) (r : Answer) → b ≡ is-refusal (a .typing) → b ≡ false
-      → count < getD R (at * 4 + 1) 0 → r ≡ refusal 4 at
+  pub cast-name : (c : ℕ) → c ≡ getD R (at * 4 + 1) 0 → (b : Bool) (r : Answer) → b ≡ is-refusal (a .typing)
+      → b ≡ false
+      → count < c → r ≡ refusal 4 at
       → r ≡ cast-answer R count at a
   unfolding cast-answer
-  cast-name b r e f l h = rw (sym e ∙ f, lt-ltb _ _ l) h
+  cast-name c c-is b r e f l h = rw (← c-is, sym e ∙ f, lt-ltb _ _ l) h
 
-  pub cast-done : (b : Bool) (r : Answer) → b ≡ is-refusal (a .typing) → b ≡ false
-      → getD R (at * 4 + 1) 0 ≤ count
-      → r ≡ casted at (getD R (at * 4 + 1) 0) (a .typing) (a .effect) → r ≡ cast-answer R count at a
+  pub cast-done : (c : ℕ) → c ≡ getD R (at * 4 + 1) 0 → (b : Bool) (r : Answer) → b ≡ is-refusal (a .typing)
+      → b ≡ false
+      → c ≤ count
+      → r ≡ casted at c (a .typing) (a .effect) → r ≡ cast-answer R count at a
   unfolding cast-answer
-  cast-done b r e f l h = rw (sym e ∙ f, le-ltb _ _ l) h
+  cast-done c c-is b r e f l h = rw (← c-is, sym e ∙ f, le-ltb _ _ l) h
 
 module _ (at c φ : ℕ) (t : Typing) where
   pub casted-bool : (r : Answer) → t ≡ bool-case → r ≡ refusal 9 at → r ≡ casted at c t φ
@@ -202,34 +207,33 @@ module _ (R A S : List ℕ) (at scope : ℕ) (a : Answer) (b : Bool) (e : b ≡ 
   unfolding assigned
   assign-refused f = rw (sym e ∙ f)
 
-  pub assign-this : (r : Answer) → b ≡ false → getD R (at * 4 + 1) 0 ≡ 0
-      → r ≡ refusal 7 at → r ≡ assigned R A S at scope a
-  unfolding assigned
-  assign-this r f z h = rw (sym e ∙ f, eq-eqb _ _ z) h
+  module _ (k : ℕ) (k-is : k ≡ getD R (at * 4 + 1) 0) where
+    pub assign-this : (r : Answer) → b ≡ false → k ≡ 0
+        → r ≡ refusal 7 at → r ≡ assigned R A S at scope a
+    unfolding assigned
+    assign-this r f z h = rw (← k-is, sym e ∙ f, eq-eqb _ _ z) h
 
-  pub assign-out : (r : Answer) → b ≡ false → (getD R (at * 4 + 1) 0 ≡ 0 → ⊥) → scope ≤ getD R (at * 4 + 1) 0
-      → r ≡ refusal 7 at
-      → r ≡ assigned R A S at scope a
-  unfolding assigned
-  assign-out r f z l h = rw (sym e ∙ f, ne-eqb _ _ z, le-leb _ _ l) h
+    pub assign-out : (r : Answer) → b ≡ false → (k ≡ 0 → ⊥) → scope ≤ k
+        → r ≡ refusal 7 at
+        → r ≡ assigned R A S at scope a
+    unfolding assigned
+    assign-out r f z l h = rw (← k-is, sym e ∙ f, ne-eqb _ _ z, le-leb _ _ l) h
 
-  pub assign-fits : (n : ℕ) (d : Bool) → b ≡ false → (getD R (at * 4 + 1) 0 ≡ 0 → ⊥)
-      → getD R (at * 4 + 1) 0 < scope
-      → n ≡ named-type R S at → d ≡ is-fitting A (a .typing) n → d ≡ true
-      → a ≡ assigned R A S at scope a
-  unfolding assigned
-  assign-fits n d f z l q g h =
-      let w : is-fitting A (a .typing) (named-type R S at) ≡ true = rw (sym q) (sym g ∙ h) in
-      rw (sym e ∙ f, ne-eqb _ _ z, lt-leb _ _ l, w)
+    pub assign-fits : (n : ℕ) (d : Bool) → b ≡ false → (k ≡ 0 → ⊥) → k < scope
+        → n ≡ current-in (getD S k 0) → d ≡ is-fitting A (a .typing) n → d ≡ true
+        → a ≡ assigned R A S at scope a
+    unfolding assigned
+    assign-fits n d f z l q g h =
+        let w : is-fitting A (a .typing) (current-in (getD S k 0)) ≡ true = rw (sym q) (sym g ∙ h) in
+        rw (← k-is, sym e ∙ f, ne-eqb _ _ z, lt-leb _ _ l, w)
 
-  pub assign-unfit : (n : ℕ) (d : Bool) (r : Answer) → b ≡ false → (getD R (at * 4 + 1) 0 ≡ 0 → ⊥)
-      → getD R (at * 4 + 1) 0 < scope
-      → n ≡ named-type R S at → d ≡ is-fitting A (a .typing) n → d ≡ false
-      → r ≡ refusal 9 at → r ≡ assigned R A S at scope a
-  unfolding assigned
-  assign-unfit n d r f z l q g h k =
-      let w : is-fitting A (a .typing) (named-type R S at) ≡ false = rw (sym q) (sym g ∙ h) in
-      rw (sym e ∙ f, ne-eqb _ _ z, lt-leb _ _ l, w) k
+    pub assign-unfit : (n : ℕ) (d : Bool) (r : Answer) → b ≡ false → (k ≡ 0 → ⊥) → k < scope
+        → n ≡ current-in (getD S k 0) → d ≡ is-fitting A (a .typing) n → d ≡ false
+        → r ≡ refusal 9 at → r ≡ assigned R A S at scope a
+    unfolding assigned
+    assign-unfit n d r f z l q g h u =
+        let w : is-fitting A (a .typing) (current-in (getD S k 0)) ≡ false = rw (sym q) (sym g ∙ h) in
+        rw (← k-is, sym e ∙ f, ne-eqb _ _ z, lt-leb _ _ l, w) u
 
 pub many-refused : (at : ℕ) (t : Typing) (a : Answer) (b : Bool) → b ≡ is-refusal (a .typing) → b ≡ true
     → a ≡ too-many-answer at t a
@@ -266,18 +270,20 @@ got-other R T C at φ (Class c) r k h =
 got-other R T C at φ Null r k h = (h, refl)
 got-other R T C at φ (Refusal n l) r k h = (h, refl)
 
-module _ (R T C : List ℕ) (at φ : ℕ) (t : Typing) (c : ℕ) (q : t ≡ Class c) (s : Sought)
-    (e : s ≡ field-in R T c (getD R (at * 4 + 1) 0)) where
+module _ (R T C : List ℕ) (at φ : ℕ) (t : Typing) (c : ℕ) (q : t ≡ Class c) (f : ℕ)
+    (f-is : f ≡ getD R (at * 4 + 1) 0)
+    (s : Sought) (e : s ≡ field-in R T c f) where
   pub got-missing : (r : Answer) → s ≡ Missing
       → r ≡ refusal 8 at → (r ≡ got R T at t φ) × (C ≡ got-classes R T C at t)
   unfolding got got-classes found-answer noted
-  got-missing r m h = (rw (q, sym e, m) h, rw (q, sym e, m))
+  got-missing r m h = (rw (q, ← f-is, sym e, m) h, rw (q, ← f-is, sym e, m))
 
   pub got-found : (C′ : List ℕ) (n : ℕ) (u : Typing) → s ≡ Found (record { number = n })
       → u ≡ case-of-number n → C′ ≡ set C at c
       → (answer u φ ≡ got R T at t φ) × (C′ ≡ got-classes R T C at t)
   unfolding got got-classes found-answer noted
-  got-found C′ n u m h g = (rw (q, sym e, m) (ap (λ (x : Typing). answer x φ) h), rw (q, sym e, m) g)
+  got-found C′ n u m h g =
+      (rw (q, ← f-is, sym e, m) (ap (λ (x : Typing). answer x φ) h), rw (q, ← f-is, sym e, m) g)
 
 -- a root or state class
 module _ (T : List ℕ) (c : ℕ) where

@@ -10,7 +10,7 @@ use lib.Dec.{leb, ltb}
 use Rattle.language.specs.Results.{need-checked, accept-injective, need-checked-inv, require-inv, refuse}
 use Rattle.language.specs.Results.{require}
 use Rattle.language.specs.Frames.{at-slot}
-use Rattle.language.specs.Tree.{class, known, type-number, Class, literal, literal-true, literal-false}
+use Rattle.language.specs.Tree.{class, known, Class, literal, literal-true, literal-false}
 use Rattle.language.specs.Tree.{literal-null}
 use Rattle.language.specs.Tree.{slot, new}
 use Rattle.language.specs.World.{World}
@@ -24,7 +24,7 @@ use Rattle.bodies.specs.declared.Typing.{Typing}
 use Rattle.bodies.specs.declared.Typing.the-variants.{Bool as bool-case, Null}
 use Rattle.bodies.specs.Answers.{answer, answer-of, case-of-number}
 use Rattle.bodies.specs.Tables.{Headed}
-use Rattle.bodies.specs.Nodes.{refusal, created, slot-read, named-type}
+use Rattle.bodies.specs.Nodes.{refusal, created, slot-read}
 use Rattle.bodies.specs.Cycle.{Views, Accepted, Is}
 use Rattle.bodies.proofs.Lists.{declared-test}
 use Rattle.bodies.proofs.Cases.{read-out, read-absent, read-there}
@@ -71,16 +71,15 @@ module _ {P : List Class} {R E T A M F : List ℕ} {count : ℕ} (h : Headed P R
       go : (o : Option Slot) → at-slot γ k ≡ o
           → slot-read R S at scope ≡ answer-of (need-checked o 7 (at + 1) λ s. typed (known (s .current)) γ 0)
       go none q = ⊎-elim
-          (λ m. sym (read-out R S at scope (refusal 7 at) (rw e m) refl))
-          (λ m. sym (read-absent R S at scope (refusal 7 at) (rw e m) _ refl (rw e (slot-none v l k q m .1))
+          (λ m. sym (read-out R S at scope (refusal 7 at) k (sym e) m refl))
+          (λ m. sym (read-absent R S at scope (refusal 7 at) k (sym e) m _ refl (slot-none v l k q m .1)
           refl))
           (le-or-less scope k)
       go (some s) q =
           let w = slot-some h v l k s q in
           let t = type-number-case (s .current) h (v .current k s q) in
-          let n : named-type R S at ≡ type-number (s .current) = rw e (w .1) in
-          sym (read-there R S at scope _ (rw e (w .0)) _ refl (λ z. t .1 (sym n ∙ z)) refl)
-          ∙ ap (λ (x : Typing). answer x 0) (ap case-of-number n ∙ t .0)
+          sym (read-there R S at scope _ k (sym e) (w .0) _ refl (λ z. t .1 (sym (w .1) ∙ z)) refl)
+          ∙ ap (λ (x : Typing). answer x 0) (ap case-of-number (w .1) ∙ t .0)
 
   pub slot-is : {γ : Environment} {S C : List ℕ} {scope : ℕ} (k at : ℕ) (r : Answer)
       → Views (world P) γ S scope → scope ≤ length S → getD R (at * 4 + 1) 0 ≡ k

@@ -1,5 +1,5 @@
 -- The function block: B's V lines, then its expressions. Assumes nothing.
-use mathlib.Core.Path.{_≡_, refl, ap, _∙_}
+use mathlib.Core.Path.{_≡_, ap, _∙_}
 use mathlib.Core.Bool.{true, false}
 use mathlib.Core.List.{List, map}
 use Prim.Native.Nat.{ℕ, _+_, _-_, _*_, _≤_}
@@ -62,22 +62,17 @@ module _ {R E T A M F S C : List ℕ} {at : ℕ} {scope : Scope} {P : List Class
       }
 
 module _ {R E T A M F S C : List ℕ} {at : ℕ} {scope : Scope} (p : Pre R E T A M F S C at scope)
-    (l : getD R (at * 4) 0 ≡ 66) where
-  abbrev locals : ℕ
-  locals = getD R (at * 4 + 1) 0
-
-  abbrev nodes : ℕ
-  nodes = getD R (at * 4 + 2) 0
-
+    (l : getD R (at * 4) 0 ≡ 66) (locals nodes : ℕ) (locals-is : locals ≡ getD R (at * 4 + 1) 0)
+    (nodes-is : nodes ≡ getD R (at * 4 + 2) 0) where
   block-few : (scope .size + locals ≤ scope .width) × (scope .width ≤ scope .top)
   block-few = by-node B-block (p .e) (given-of p) l
       (λ _. (scope .size + locals ≤ scope .width) × (scope .width ≤ scope .top)) λ ts es g.
-      (omega (arith, block-limits g .1, block-row g .row .first), g .room .above)
+      (omega (arith, block-limits g .1, locals-is, block-row g .row .first), g .room .above)
 
   pub block-open-pre : PreOpen R S at (scope .size) locals
   block-open-pre = by-node B-block (p .e) (given-of p) l (λ _. PreOpen R S at (scope .size) locals) λ ts es g.
       pre-open (g .headed) (g .room .rows) ts es at (scope .size) locals S (block-row g .row) (block-locals g)
-      refl
+      locals-is
       (block-slots g)
 
   module _ {S₁ : List ℕ} {a : Answer} (o : PostOpen R S S₁ (scope .count) at (scope .size) locals a) where
@@ -88,7 +83,7 @@ module _ {R E T A M F S C : List ℕ} {at : ℕ} {scope : Scope} (p : Pre R E T 
     block-fail f = post-of kept-open λ P z γ d g.
         by-node B-block z g l (λ w. Is (world P) w γ at (scope .size) S₁ C a) λ ts es g.
         open-refused (g .headed) (g .room .rows) ts es at (scope .size) locals γ S S₁ C a (block-row g .row)
-        (block-locals g) refl (block-limits g .2) o f
+        (block-locals g) locals-is (block-limits g .2) o f
 
     module _ (ok : is-refusal (a .typing) ≡ false) where
       opened-block : {P : List Class} {γ : Environment} {d : ℕ} {ts : List DeclaredType} {es : Exprs}
@@ -97,18 +92,18 @@ module _ {R E T A M F S C : List ℕ} {at : ℕ} {scope : Scope} (p : Pre R E T 
           × Views (world P) (opened γ (map fresh-slot ts)) S₁ (scope .size + locals)
       opened-block {γ = γ} {ts = ts} {es} g =
           open-done (g .headed) (g .room .rows) ts es at (scope .size) locals γ S S₁ a (block-row g .row)
-          (block-locals g) refl (block-limits g .2) (g .views) (block-slots g) o ok
+          (block-locals g) locals-is (block-limits g .2) (g .views) (block-slots g) o ok
 
       given-block : {P : List Class} {γ : Environment} {d : ℕ} {ts : List DeclaredType} {es : Exprs}
           (g : Given R E T A M F S C at scope P (block ts es) γ d)
           → GivenAll R E T A M F S₁ C (at + 1 + locals) (grown scope locals) P es
           (opened γ (map fresh-slot ts)) (d - 1)
-      given-block g = block-all g locals (block-row g .row .first) (o .long) (opened-block g .2)
+      given-block g = block-all g locals (locals-is ∙ block-row g .row .first) (o .long) (opened-block g .2)
 
       pub block-items-pre : PreList R E T A M F S₁ C (at + 1 + locals) (grown scope locals) nodes
       block-items-pre = by-node B-block (p .e) (given-of p) l
           (λ _. PreList R E T A M F S₁ C (at + 1 + locals) (grown scope locals) nodes) λ ts es g.
-          list-pre (block-row g .row .second) (given-block g)
+          list-pre (nodes-is ∙ block-row g .row .second) (given-block g)
 
       module _ {S₂ C₂ : List ℕ} {r : Answer}
           (q : PostItems R E T A M F S₁ C S₂ C₂ (at + 1 + locals) (grown scope locals) nodes a r) where
@@ -121,8 +116,8 @@ module _ {R E T A M F S C : List ℕ} {at : ℕ} {scope : Scope} (p : Pre R E T 
               classes-long = q .classes-long;
               between = q .between;
               before = λ i u. q .before i (omega arith);
-              after = λ i u. q .after es (block-row g .row .second) (given-block g .encoded) i
-                  (omega (arith, u, block-row g .end, block-row g .row .first));
+              after = λ i u. q .after es (nodes-is ∙ block-row g .row .second) (given-block g .encoded) i
+                  (omega (arith, u, block-row g .end, locals-is, block-row g .row .first));
             })
 
         pub block-done : Post R E T A M F S C S₂ C₂ at scope r
@@ -130,11 +125,12 @@ module _ {R E T A M F S C : List ℕ} {at : ℕ} {scope : Scope} (p : Pre R E T 
             by-node B-block z g l (λ w. Is (world P) w γ at (scope .size) S₂ C₂ r) λ ts es g.
             let b = opened-block g in
             let m = given-block g in
-            let w = q .out P es (opened γ (map fresh-slot ts)) (d - 1) null-type (block-row g .row .second)
+            let w = q .out P es (opened γ (map fresh-slot ts)) (d - 1) null-type
+            (nodes-is ∙ block-row g .row .second)
             (m .headed) (m .encoded) (m .limited) (m .views) (m .room)
             (ap (λ (y : Answer). y .typing) (b .0)) in
             block-is (g .headed) (g .room .rows) ts es at (scope .size) locals γ S S₂ C₂ r (block-row g .row)
-            (block-locals g) refl (g .views) (room-slots (g .room)) (b .1)
+            (block-locals g) locals-is (g .views) (room-slots (g .room)) (b .1)
             (w .0 ∙ ap (λ (φ : ℕ). answer-of (bind-checked
             (type-all (world P) es (at + 1 + locals + 1) (opened γ (map fresh-slot ts))) λ b.
             typed (last-type null-type (b .types)) (b .slots) (join φ (b .effect))))

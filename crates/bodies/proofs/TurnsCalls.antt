@@ -80,9 +80,6 @@ module _ {R E T A M F S C : List ℕ} {at : ℕ} {scope : Scope} {P : List Class
 
 module _ {R E T A M F S C : List ℕ} {at : ℕ} {scope : Scope} (p : Pre R E T A M F S C at scope)
     (l : getD R (at * 4) 0 ≡ 81) where
-  abbrev given-n : ℕ
-  given-n = getD R (at * 4 + 2) 0
-
   abbrev next : ℕ
   next = getD E (at + 1) 0
 
@@ -105,7 +102,12 @@ module _ {R E T A M F S C : List ℕ} {at : ℕ} {scope : Scope} (p : Pre R E T 
         by-node Q-call z g l (λ w. Is (world P) w γ at (scope .size) S₁ C₁ a) λ m e es g.
         let w = failed (call-1 g) q f in is-refused (w .n) (w .l) (bind-refused _ _ _ _ (w .typed-at)) (w .is)
 
-    module _ (ok : is-refusal (a .typing) ≡ false) where
+    module _ (ok : is-refusal (a .typing) ≡ false) (given-n : ℕ)
+        (given-is : given-n ≡ getD R (at * 4 + 2) 0) where
+      count-of : {P : List Class} {γ : Environment} {d m : ℕ} {e : Expr} {es : Exprs}
+          → Given R E T A M F S C at scope P (call m e es) γ d → given-n ≡ how-many es
+      count-of g = given-is ∙ call-row g .0 .row .second
+
       all-given : {P : List Class} {γ : Environment} {d m : ℕ} {e : Expr} {es : Exprs}
           (g : Given R E T A M F S C at scope P (call m e es) γ d)
           → GivenAll R E T A M F S₁ C₁ (at + 1 + size e) scope P es (did (call-1 g) q ok .a .slots)
@@ -117,7 +119,7 @@ module _ {R E T A M F S C : List ℕ} {at : ℕ} {scope : Scope} (p : Pre R E T 
           → (g : Given R E T A M F S C at scope P (call m e es) γ d)
           → GivenAll R E T A M F S₁ C₁ (at + 1 + size e) (raised scope given-n) P es
           (did (call-1 g) q ok .a .slots) (d - 1)
-      few-given o g = call-all g given-n (call-row g .0 .row .second) o (q .kept .slots-long)
+      few-given o g = call-all g given-n (count-of g) o (q .kept .slots-long)
           (did (call-1 g) q ok .accepted .views)
 
       pub call-items-pre : PreList R E T A M F S₁ C₁ next scope given-n
@@ -125,7 +127,7 @@ module _ {R E T A M F S C : List ℕ} {at : ℕ} {scope : Scope} (p : Pre R E T 
           (λ _. PreList R E T A M F S₁ C₁ next scope given-n)
           λ m e es g.
           subst (λ (k : ℕ). PreList R E T A M F S₁ C₁ k scope given-n) (sym (row-of (call-1 g) .end))
-          (list-pre (call-row g .0 .row .second) (all-given g))
+          (list-pre (count-of g) (all-given g))
 
       pub call-arguments-pre : given-n ≤ 8
           → (scope .width ≤ scope .top) × PreList R E T A M F S₁ C₁ next (raised scope given-n) given-n
@@ -135,7 +137,7 @@ module _ {R E T A M F S C : List ℕ} {at : ℕ} {scope : Scope} (p : Pre R E T 
             (λ _. PreList R E T A M F S₁ C₁ next (raised scope given-n) given-n)
             λ m e es g.
             subst (λ (k : ℕ). PreList R E T A M F S₁ C₁ k (raised scope given-n) given-n)
-            (sym (row-of (call-1 g) .end)) (list-pre (call-row g .0 .row .second) (few-given o g)),
+            (sym (row-of (call-1 g) .end)) (list-pre (count-of g) (few-given o g)),
       )
 
       -- more than 8 arguments
@@ -146,11 +148,11 @@ module _ {R E T A M F S C : List ℕ} {at : ℕ} {scope : Scope} (p : Pre R E T 
           by-node Q-call z g l (λ w. Is (world P) w γ at (scope .size) S₂ C₂ r) λ m e es g.
           let u = did (call-1 g) q ok in
           let x = all-given g in
-          let w = at-next g .out P es (u .a .slots) (d - 1) null-type (call-row g .0 .row .second) (x .headed)
+          let w = at-next g .out P es (u .a .slots) (d - 1) null-type (count-of g) (x .headed)
           (x .encoded) (x .limited) (x .views) (x .room) (ap (λ (y : Answer). y .typing) ln) in
           many-is (g .headed) (g .room .rows) m e es at (at + 1 + size e) (scope .size) (at + 1 + 1) γ (u .a)
           S₂ C₂ a
-          many r null-type (last .effect) (call-row g .1) (omega (arith, o, call-row g .0 .row .second))
+          many r null-type (last .effect) (call-row g .1) (omega (arith, o, count-of g))
           refl
           (u .typed-at) (u .accepted .declared) (u .is) (w .0) e₁
         where
@@ -170,7 +172,7 @@ module _ {R E T A M F S C : List ℕ} {at : ℕ} {scope : Scope} (p : Pre R E T 
                 classes-long = n .classes-long;
                 between = n .between;
                 before = λ j u. n .before j (omega arith);
-                after = λ j u. n .after es (call-row g .0 .row .second) (all-given g .encoded) j
+                after = λ j u. n .after es (count-of g) (all-given g .encoded) j
                     (omega (arith, u, call-row g .0 .end));
               })
 
@@ -191,7 +193,7 @@ module _ {R E T A M F S C : List ℕ} {at : ℕ} {scope : Scope} (p : Pre R E T 
               classes-long = n .classes-long;
               between = n .between;
               before = λ j u. n .before j (omega arith);
-              after = λ j u. n .after es (call-row g .0 .row .second) (all-given g .encoded) j
+              after = λ j u. n .after es (count-of g) (all-given g .encoded) j
                   (omega (arith, u, call-row g .0 .end));
             })
 
@@ -205,7 +207,7 @@ module _ {R E T A M F S C : List ℕ} {at : ℕ} {scope : Scope} (p : Pre R E T 
             × ((j : ℕ) → j < given-n → getD S₂ (scope .top + j) 0 ≡ getD (stored (c .types)) j 0))
         outcome {P} {d = d} {es = es} g =
             let x = few-given o g in
-            at-next g .out P es (did (call-1 g) q ok .a .slots) (d - 1) (call-row g .0 .row .second)
+            at-next g .out P es (did (call-1 g) q ok .a .slots) (d - 1) (count-of g)
             (x .headed) (x .encoded) (x .limited) (x .views) (x .room)
 
         pub call-fail-arguments : is-refusal (b .typing) ≡ true → Post R E T A M F S C S₂ C₂ at scope b
@@ -249,7 +251,7 @@ module _ {R E T A M F S C : List ℕ} {at : ℕ} {scope : Scope} (p : Pre R E T 
                 typed-at = w;
                 accepted = n .0;
                 effect-is = ap (λ (y : Answer). y .effect) v;
-                kept-types = λ j k. n .1 j (omega (arith, k, call-row g .0 .row .second));
+                kept-types = λ j k. n .1 j (omega (arith, k, count-of g));
               }
 
           pub call-invoke-pre : PreInvoke R T A M F S₂ at scope (a .typing) (b .effect)
@@ -262,7 +264,7 @@ module _ {R E T A M F S C : List ℕ} {at : ℕ} {scope : Scope} (p : Pre R E T 
               (pre-invoke (g .headed) (g .room .rows) m es at (at + 1 + size e) (at + 1 + size e + 1) scope
               (u .a .slots) (u .a) (w .c) S₂ C₂ a (row .0 .row) (row .1)
               (w .typed-at) (w .accepted) slots-few
-              (omega (arith, room-few, row .0 .row .second)) (u .accepted .declared) (w .kept-types) (u .is))
+              (omega (arith, room-few, count-of g)) (u .accepted .declared) (w .kept-types) (u .is))
 
           pub call-done : {S₃ C₃ : List ℕ} {r : Answer}
               → Invoked R T A M F S₂ C₂ at scope (a .typing) (a .effect) (b .effect) S₃ C₃ r

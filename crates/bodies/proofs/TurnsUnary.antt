@@ -109,10 +109,10 @@ unary-case : (R : List ℕ) (at : ℕ) {X : Type 0} → Unary R at → (getD R (
 unary-case R at u a b c d = ⊎-elim a (λ v. ⊎-elim b (λ w. ⊎-elim c d w) v) u
 
 pub unary-assign : {R E T A M F S C : List ℕ} {at : ℕ} {scope : Scope} → Pre R E T A M F S C at scope
-    → Unary R at → (getD R (at * 4) 0 ≡ 90 → ⊥) → (getD R (at * 4) 0 ≡ 71 → ⊥) → (getD R (at * 4) 0 ≡ 75 → ⊥)
+    → Unary R at → (n : ℕ) → n ≡ getD R (at * 4) 0 → (n ≡ 90 → ⊥) → (n ≡ 71 → ⊥) → (n ≡ 75 → ⊥)
     → getD R (at * 4) 0 ≡ 65
-unary-assign {R} {at = at} p u a b c =
-    unary-case R at u (λ e. absurd (a e)) (λ e. absurd (b e)) (λ e. absurd (c e)) (λ e. e)
+unary-assign {R} {at = at} p u n q a b c =
+    unary-case R at u (λ e. absurd (a (q ∙ e))) (λ e. absurd (b (q ∙ e))) (λ e. absurd (c (q ∙ e))) (λ e. e)
 
 module _ {R E T A M F S C : List ℕ} {at : ℕ} {scope : Scope} where
   pub unary-first : Unary R at → Pre R E T A M F S C at scope → Pre R E T A M F S C (at + 1) scope

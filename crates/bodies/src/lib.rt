@@ -1,7 +1,6 @@
 // The pass over bodies: each method's body and the start block are typed, in line order.
 use language::BODY_PLACE;
 use language::CHANGE_REFUSAL;
-use language::CLASS_WIDTH;
 use language::EFFECT_REFUSAL;
 use language::KIND_PLACE;
 use language::MEMBER_REFUSAL;
@@ -14,6 +13,10 @@ use language::ROOT_PLACE;
 use language::SLOT_REFUSAL;
 use language::SUPER_PLACE;
 use language::TYPE_REFUSAL;
+use language::class_entry;
+use language::first;
+use language::letter_at;
+use language::second;
 ghost use mathlib.Core.Path.{_≡_};
 ghost use Prim.Native.Nat.{ℕ, suc, _+_, _-_, _*_, _≤_, _<_};
 ghost use lib.ListN.{length, getD, set as replaced};
@@ -205,20 +208,12 @@ fn is_within(inner: u64, outer: u64) -> bool
     inner & outer == inner
 }
 
-// A class's entry in the table of classes.
-fn entry(table: &[u16], class: u32, place: usize) -> u32
-    requires { ⌜ class * 576 + place < length (now table) ⌝ }
-    ensures { λ r. ⌜ r ≡ getD (now (table .entry)) (class * 576 + place) 0 ⌝ }
-{
-    table[class as usize * CLASS_WIDTH + place] as u32
-}
-
 // The class after an effect: a state class whose root is in it becomes that root.
 fn apply(table: &[u16], effect: u64, class: u32) -> u32
     requires { ⌜ (class * 576 + 514 < length (now table)) × (root-in (now table) class ≤ 64) ⌝ }
     ensures { λ r. ⌜ r ≡ applied (now (table .entry)) effect class ⌝ }
 {
-    let root = entry(table, class, ROOT_PLACE);
+    let root = class_entry(table, class, ROOT_PLACE);
     if classes::is_member(effect, root) {
         root
     } else {
@@ -252,7 +247,7 @@ fn nearest(table: &[u16], above: &[u64], c: u32, d: u32) -> u32
 {
     let mut k = c;
     while !classes::is_below(above, d, k) {
-        k = entry(table, k, SUPER_PLACE);
+        k = class_entry(table, k, SUPER_PLACE);
     }
     k
 }
@@ -377,12 +372,12 @@ fn field_type(rows: &[u32], table: &[u16], class: u32, name: usize) -> Sought
     requires { ⌜ PreField (now rows) (now table) class name ⌝ }
     ensures { λ r. ⌜ r ≡ field-in (now (rows .entry)) (now (table .entry)) class name ⌝ }
 {
-    let place = entry(table, class, name);
+    let place = class_entry(table, class, name);
     if place == 0 {
         return Sought::Missing;
     }
-    let row = entry(table, class, FIELD_ROWS + place as usize) as usize;
-    Sought::Found(Type::from_number(rows[row * 4 + 1]))
+    let row = class_entry(table, class, FIELD_ROWS + place as usize) as usize;
+    Sought::Found(Type::from_number(first(rows, row)))
 }
 
 // The type of two arms together; a refusal of line 0 where they have none.
@@ -452,7 +447,7 @@ fn create(rows: &[u32], at: usize, scope: Scope) -> Answer
     requires { ⌜ In-row (now rows) at ⌝ }
     ensures { λ r. ⌜ r ≡ created (now (rows .entry)) (scope .count) at ⌝ }
 {
-    let class = rows[at * 4 + 1];
+    let class = first(rows, at);
     if scope.count < class {
         return refused(NAME_REFUSAL, at);
     }
@@ -465,7 +460,7 @@ fn read_slot(rows: &[u32], slots: &[u32], at: usize, scope: Scope) -> Answer
     requires { ⌜ scope .size ≤ length (now slots) ⌝ }
     ensures { λ r. ⌜ r ≡ slot-read (now (rows .entry)) (now (slots .entry)) at (scope .size) ⌝ }
 {
-    let k = rows[at * 4 + 1] as usize;
+    let k = first(rows, at) as usize;
     if scope.size <= k {
         return refused(SLOT_REFUSAL, at);
     }
@@ -481,7 +476,7 @@ fn cast(rows: &[u32], at: usize, scope: Scope, child: Answer) -> Answer
     requires { ⌜ In-row (now rows) at ⌝ }
     ensures { λ r. ⌜ r ≡ cast-answer (now (rows .entry)) (scope .count) at child ⌝ }
 {
-    let class = rows[at * 4 + 1];
+    let class = first(rows, at);
     if is_refusal(child) {
         return child;
     }
@@ -516,7 +511,7 @@ fn assign(
     ensures { λ r. ⌜ r ≡ assigned (now (rows .entry)) (now (above .entry)) (now (slots .entry)) at
         (scope .size) child ⌝ }
 {
-    let k = rows[at * 4 + 1] as usize;
+    let k = first(rows, at) as usize;
     if is_refusal(child) {
         return child;
     }
@@ -568,7 +563,7 @@ fn are_fitting(
         if !is_fitting(
             above,
             typing_at(slots[from + i]),
-            Type::from_number(rows[(row + i) * 4 + 1]),
+            Type::from_number(first(rows, row + i)),
         ) {
             return false;
         }
@@ -584,7 +579,7 @@ fn is_changeable(table: &[u16], class: u32) -> bool
     if class == Type::OBJECT {
         return false;
     }
-    let kind = entry(table, class, KIND_PLACE);
+    let kind = class_entry(table, class, KIND_PLACE);
     if kind == ROOT_KIND {
         return true;
     }
@@ -597,8 +592,8 @@ fn change(rows: &[u32], table: &[u16], slots: &mut [u32], at: usize, scope: Scop
     ensures { λ r. ⌜ PostChange (now (rows .entry)) (now (table .entry)) (now (slots .entry))
         (now (slots .exit)) (scope .count) at (scope .size) r ⌝ }
 {
-    let k = rows[at * 4 + 1] as usize;
-    let target = rows[at * 4 + 2];
+    let k = first(rows, at) as usize;
+    let target = second(rows, at);
     if scope.count < target {
         return refused(NAME_REFUSAL, at);
     }
@@ -618,8 +613,8 @@ fn change(rows: &[u32], table: &[u16], slots: &mut [u32], at: usize, scope: Scop
     if !is_changeable(table, target) {
         return refused(CHANGE_REFUSAL, at);
     }
-    let root = entry(table, target, ROOT_PLACE);
-    if entry(table, number, ROOT_PLACE) != root {
+    let root = class_entry(table, target, ROOT_PLACE);
+    if class_entry(table, number, ROOT_PLACE) != root {
         return refused(CHANGE_REFUSAL, at);
     }
     let effect = classes::effect_of(root);
@@ -653,7 +648,7 @@ fn get(rows: &[u32], table: &[u16], class_at: &mut [u16], at: usize, child: Answ
     let Typing::Class(class) = t else {
         return not_class(child, at);
     };
-    let name = rows[at * 4 + 1] as usize;
+    let name = first(rows, at) as usize;
     let sought = field_type(rows, table, class, name);
     let Sought::Found(u) = sought else {
         return refused(MEMBER_REFUSAL, at);
@@ -688,7 +683,7 @@ fn set(
         return refused(TYPE_REFUSAL, at);
     };
     let class = apply(table, value.effect, c);
-    let sought = field_type(rows, table, class, rows[at * 4 + 1] as usize);
+    let sought = field_type(rows, table, class, first(rows, at) as usize);
     let Sought::Found(u) = sought else {
         return refused(MEMBER_REFUSAL, at);
     };
@@ -728,9 +723,9 @@ fn invoke(
         return refused(TYPE_REFUSAL, at);
     };
     let class = apply(table, effect, c);
-    let name = rows[at * 4 + 1] as usize;
-    let n = rows[at * 4 + 2] as usize;
-    let stored = entry(table, class, METHODS_FROM + name) as usize;
+    let name = first(rows, at) as usize;
+    let n = second(rows, at) as usize;
+    let stored = class_entry(table, class, METHODS_FROM + name) as usize;
     if stored == 0 {
         return refused(MEMBER_REFUSAL, at);
     }
@@ -747,7 +742,7 @@ fn invoke(
     apply_all(table, slots, scope.size, own);
     note(class_at, at, class);
     Answer {
-        typing: typing_of(Type::from_number(rows[row * 4 + 1])),
+        typing: typing_of(Type::from_number(first(rows, row))),
         effect: receiver.effect | effect | own,
     }
 }
@@ -802,7 +797,7 @@ fn open(rows: &[u32], slots: &mut [u32], at: usize, scope: Scope, v: usize) -> A
         (scope .size) v r ⌝ }
 {
     for i in 0..v {
-        let number = rows[(at + 1 + i) * 4 + 1];
+        let number = first(rows, at + 1 + i);
         if !is_type(scope.count, number) {
             return refused(NAME_REFUSAL, at + 1 + i);
         }
@@ -830,7 +825,7 @@ fn expression(
         (now (methods .entry)) (now (effects .entry)) (now (slots .entry)) (now («class_at» .entry))
         (now (slots .exit)) (now («class_at» .exit)) at scope r ⌝ }
 {
-    let letter = rows[at * 4];
+    let letter = letter_at(rows, at);
     match letter {
         language::TRUE => plain(Typing::Bool),
         language::FALSE => plain(Typing::Bool),
@@ -933,7 +928,7 @@ fn unary(
         at + 1,
         scope,
     );
-    let letter = rows[at * 4];
+    let letter = letter_at(rows, at);
     match letter {
         language::IS_NULL => test_null(child, at),
         language::GET => get(rows, table, class_at, at, child),
@@ -1032,7 +1027,7 @@ fn call(
         return receiver;
     }
     let next = ends[at + 1] as usize;
-    let n = rows[at * 4 + 2] as usize;
+    let n = second(rows, at) as usize;
     if MOST_ARGUMENTS < n {
         let many = items(
             rows,
@@ -1181,8 +1176,8 @@ fn block(
         (now (methods .entry)) (now (effects .entry)) (now (slots .entry)) (now («class_at» .entry))
         (now (slots .exit)) (now («class_at» .exit)) at scope r ⌝ }
 {
-    let v = rows[at * 4 + 1] as usize;
-    let n = rows[at * 4 + 2] as usize;
+    let v = first(rows, at) as usize;
+    let n = second(rows, at) as usize;
     let opened = open(rows, slots, at, scope, v);
     if is_refusal(opened) {
         return opened;
@@ -1329,7 +1324,7 @@ fn enter(rows: &[u32], slots: &mut [u32], owner: u32, from: usize, n: usize)
 {
     slots[0] = fresh(owner);
     for i in 0..n {
-        slots[1 + i] = fresh(rows[(from + i) * 4 + 1]);
+        slots[1 + i] = fresh(first(rows, from + i));
     }
 }
 
@@ -1381,7 +1376,7 @@ fn method(
     if let Typing::Refusal(reason, line) = t {
         return Verdict::Refused(reason, line);
     }
-    if !is_fitting(above, t, Type::from_number(rows[at * 4 + 1])) {
+    if !is_fitting(above, t, Type::from_number(first(rows, at))) {
         return Verdict::Refused(TYPE_REFUSAL, at as u32 + 1);
     }
     if !is_within(r.effect, effects[number]) {

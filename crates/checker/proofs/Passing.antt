@@ -22,7 +22,7 @@ use Rattle.language.specs.MethodTables.{MethodTables, placed-methods}
 use Rattle.language.specs.Layout.{start-row}
 use Rattle.layout.specs.Standing.{program-at}
 use Rattle.layout.specs.Headed.{super-lower}
-use Rattle.layout.specs.Held.{Held}
+use Rattle.layout.specs.Held.{Held, Headed as HeldHeadings}
 use Rattle.classes.proofs.Below.{subclasses}
 use Rattle.form.specs.Answers.{formed-of}
 use Rattle.form.specs.declared.Formed.{Formed}
@@ -40,7 +40,7 @@ use Rattle.bodies.specs.declared.Verdict as typed
 use Rattle.checker.specs.declared.Checked.{Checked}
 use Rattle.checker.specs.declared.Checked.the-variants.{Accepted, Refused}
 use Rattle.checker.specs.Answers.{checked-case, typed-case, verdict-case, verdict-of-checked}
-use Rattle.checker.specs.Passes.{Room, ClassRoom, Stands, HeadingsPassed, Checks, ChecksAbove}
+use Rattle.checker.specs.Passes.{Room, ClassRoom, BodyRoom, Stands, Checks, ChecksAbove}
 use Rattle.checker.proofs.Heading.{headed}
 
 -- ---- answers
@@ -50,17 +50,17 @@ module _ (R : List ℕ) (n l : ℕ) (e : check R ≡ refuse n l) where
   refused-only : (Q : Program → Type 0) (p : Program) → check R ≡ accept p → Q p
   refused-only Q p g = absurd (accept≢refuse n l (sym e ∙ g))
 
-  refuses : {E T A M F C : List ℕ} → Checks R E T A M F C (Refused n l)
+  refuses : {E T A M C : List ℕ} → Checks R E T A M C (Refused n l)
   refuses = record { answer = ap checked-case (sym e); holds = refused-only _ }
 
   pub refuses-above : {A : List ℕ} → ChecksAbove R A (Refused n l)
   refuses-above = record { answer = ap checked-case (sym e); tells = refused-only _ }
 
 -- The table of superclasses of what is held tells which class stands below which.
-pub checks-above : {R E T A M F C : List ℕ} {r : Checked} → Checks R E T A M F C r → ChecksAbove R A r
+pub checks-above : {R E T A M C : List ℕ} {r : Checked} → Checks R E T A M C r → ChecksAbove R A r
 checks-above c = record {
   answer = c .answer;
-  tells = λ p e. let h = c .holds p e .headed in
+  tells = λ p e. let h = c .holds p e .1 .headed in
       subclasses (p .classes) (super-lower (p .classes) tt (h .passes)) (h .classes) (h .here .in-form .few);
 }
 
@@ -120,13 +120,8 @@ module _ (R : List ℕ) where
 -- ---- room
 
 -- Form keeps the length of the table of ends.
-pub room-kept : {R E E′ M F : List ℕ} → Room R E M F → length E′ ≡ length E → Room R E′ M F
-room-kept {R} {E} {E′} r k = record {
-  whole = r .whole;
-  room = go (r .room);
-  methods = r .methods;
-  effects = r .effects;
-}
+pub room-kept : {R E E′ M : List ℕ} → Room R E M → length E′ ≡ length E → Room R E′ M
+room-kept {R} {E} {E′} r k = record { whole = r .whole; room = go (r .room); methods = r .methods }
   where
     go : (length R ≤ 4 * length E) ⊎ (of-check .rows ≤ length E)
         → (length R ≤ 4 * length E′) ⊎ (of-check .rows ≤ length E′)
@@ -134,29 +129,45 @@ room-kept {R} {E} {E′} r k = record {
     go (inr a) = inr (omega (arith, a, k))
 
 -- New tables are long enough.
-module _ (R : List ℕ) (whole : length R % 4 ≡ 0) where
-  new-room : (rows methods : ℕ) → (length R ≤ 4 * rows) ⊎ (60000 ≤ rows)
-      → (length R ≤ 12 * methods) ⊎ (20000 ≤ methods)
-      → Room R (replicate rows 0) (replicate (methods * 4) 0) (replicate methods 0)
-  new-room rows methods a b =
-      let e = length-replicate {A = ℕ} rows 0 in
-      let m = length-replicate {A = ℕ} (methods * 4) 0 in
+module _ (R : List ℕ) where
+  module _ (whole : length R % 4 ≡ 0) where
+    new-room : (rows numbers : ℕ) → (length R ≤ 4 * rows) ⊎ (60000 ≤ rows)
+        → (length R * 4 ≤ 12 * numbers) ⊎ (80000 ≤ numbers)
+        → Room R (replicate rows 0) (replicate numbers 0)
+    new-room rows numbers a b =
+        let e = length-replicate {A = ℕ} rows 0 in
+        let m = length-replicate {A = ℕ} numbers 0 in
+        record { whole = whole; room = rw e a; methods = rw m b }
+
+    pub room-short : length R ≤ 128 → Room R (replicate 32 0) (replicate 44 0)
+    room-short l = new-room 32 44 (inl (omega (arith, l))) (inl (omega (arith, l)))
+
+    pub room-few : length R ≤ 4096 → Room R (replicate 1024 0) (replicate 1368 0)
+    room-few l = new-room 1024 1368 (inl (omega (arith, l))) (inl (omega (arith, l)))
+
+    pub room-many : Room R (replicate 60000 0) (replicate 80000 0)
+    room-many = new-room 60000 80000 (inr (omega arith)) (inr (omega arith))
+
+  -- Effects and slots of the check: 256 slots for each of 128 levels of nesting and as many again; of at most 32 rows, 32.
+  body-room : (methods width depth slots : ℕ) → (length R ≤ 12 * methods) ⊎ (20000 ≤ methods)
+      → (256 ≤ width) ⊎ (length R ≤ 4 * width) → (128 ≤ depth) ⊎ (length R ≤ 4 * depth)
+      → width * (depth + 1) ≤ slots → BodyRoom R (replicate methods 0) (replicate slots 0) width
+  body-room methods width depth slots a wide deep room =
       let f = length-replicate {A = ℕ} methods 0 in
-      record {
-        whole = whole;
-        room = rw e a;
-        methods = omega (arith, m, f);
-        effects = rw f b;
-      }
+      let s = length-replicate {A = ℕ} slots 0 in
+      record { effects = rw f a; depth = depth; wide = wide; deep = deep; slots = rw s room }
 
-  pub room-short : length R ≤ 128 → Room R (replicate 32 0) (replicate 44 0) (replicate 11 0)
-  room-short l = new-room 32 11 (inl (omega (arith, l))) (inl (omega (arith, l)))
+  pub body-short : length R ≤ 128 → BodyRoom R (replicate 11 0) (replicate 1056 0) 32
+  body-short l = body-room 11 32 32 1056 (inl (omega (arith, l))) (inr (omega (arith, l))) (inr (omega (arith, l)))
+      (omega arith)
 
-  pub room-few : length R ≤ 4096 → Room R (replicate 1024 0) (replicate 1368 0) (replicate 342 0)
-  room-few l = new-room 1024 342 (inl (omega (arith, l))) (inl (omega (arith, l)))
+  pub body-few : length R ≤ 4096 → BodyRoom R (replicate 342 0) (replicate 33024 0) 256
+  body-few l = body-room 342 256 128 33024 (inl (omega (arith, l))) (inl (omega arith)) (inl (omega arith))
+      (omega arith)
 
-  pub room-many : Room R (replicate 60000 0) (replicate 80000 0) (replicate 20000 0)
-  room-many = new-room 60000 20000 (inr (omega arith)) (inr (omega arith))
+  pub body-many : BodyRoom R (replicate 20000 0) (replicate 33024 0) 256
+  body-many = body-room 20000 256 128 33024 (inr (omega arith)) (inl (omega arith)) (inl (omega arith))
+      (omega arith)
 
 module _ (A : List ℕ) {classes : ℕ} where
   pub few-classes : classes ≤ 7 → classes + 1 ≤ length A → ClassRoom (replicate 4608 0) A classes
@@ -172,15 +183,22 @@ module _ (A : List ℕ) {classes : ℕ} where
 
 -- ---- headings
 
-abbrev pub ready : {R E T A M F : List ℕ} {n start : ℕ} → Stands R E n start → Room R E M F
-    → ClassRoom T A n → HeadingsReady R E T A M F
-ready s r c = record {
+-- After headings: besides, the tables hold its classes and its methods, of which there are so many.
+pub record HeadingsPassed (R E T A M F : List ℕ) (classes many start : ℕ) : Type 0 where
+  pub whole : length R % 4 ≡ 0
+  pub stands : Stands R E classes start
+  pub headed : HeldHeadings R E T A M F (stands .program)
+  pub numbered : many ≡ length (placed-methods (stands .program .classes))
+
+abbrev pub ready : {R E T A M F S : List ℕ} {n start width : ℕ} → Stands R E n start → Room R E M
+    → ClassRoom T A n → BodyRoom R F S width → HeadingsReady R E T A M F
+ready s r c b = record {
   program = s .program;
   standing = s .here;
   long = omega (arith, s .counted, c .blocks);
   long-above = omega (arith, s .counted, c .entries);
   long-methods = r .methods;
-  long-effects = r .effects;
+  long-effects = b .effects;
 }
 
 module _ {R E : List ℕ} {n start : ℕ} (s : Stands R E n start) where
@@ -216,8 +234,8 @@ module _ {R E : List ℕ} {n start : ℕ} (s : Stands R E n start) where
   unfolding three-passes bind-checked
   after-form whole = check-is R whole ∙ rw (s .formed)
 
-  pub headings-refused : {T A M F C : List ℕ} {i l : ℕ} (h : answered.Headed) → length R % 4 ≡ 0
-      → h ≡ NotPassed i l → h ≡ heads.headed count P → Checks R E T A M F C (Refused i l)
+  pub headings-refused : {T A M C : List ℕ} {i l : ℕ} (h : answered.Headed) → length R % 4 ≡ 0
+      → h ≡ NotPassed i l → h ≡ heads.headed count P → Checks R E T A M C (Refused i l)
   unfolding bind-checked
   headings-refused {i = i} {l = l} h whole e f =
       refuses R i l (after-form whole ∙ rw (is-refused count P i l (sym e ∙ f)))
@@ -225,8 +243,7 @@ module _ {R E : List ℕ} {n start : ℕ} (s : Stands R E n start) where
 -- ---- bodies
 
 module _ {R E T A M F : List ℕ} {n many start : ℕ} (w : HeadingsPassed R E T A M F n many start)
-    (S : List ℕ) (width depth : ℕ) (wide : (256 ≤ width) ⊎ (length R ≤ 4 * width))
-    (deep : (128 ≤ depth) ⊎ (length R ≤ 4 * depth)) (room : width * (depth + 1) ≤ length S) where
+    {G S : List ℕ} {width : ℕ} (b : BodyRoom R G S width) where
   abbrev p : Program
   p = w .stands .program
 
@@ -236,9 +253,9 @@ module _ {R E T A M F : List ℕ} {n many start : ℕ} (w : HeadingsPassed R E T
     headed = subst (Headed (p .classes) R E T A M F) (w .stands .counted) (headed (w .headed));
     counted = w .numbered;
     started = sym (w .stands .started);
-    depth = depth;
-    within = within-limits (w .stands .here) width depth wide deep;
-    slots = room;
+    depth = b .depth;
+    within = within-limits (w .stands .here) width (b .depth) (b .wide) (b .deep);
+    slots = b .slots;
   }
 
   -- What the body pass is called on.
@@ -251,18 +268,21 @@ module _ {R E T A M F : List ℕ} {n many start : ℕ} (w : HeadingsPassed R E T
 
   -- What it answers is what the check does.
   pub bodies-checked : {C C′ : List ℕ} {v : typed.Verdict} {r : Checked}
-      → BodiesDone R E T A M F S C C′ n many start width v → r ≡ typed-case n v → Checks R E T A M F C′ r
+      → BodiesDone R E T A M F S C C′ n many start width v → r ≡ typed-case n v → Checks R E T A M C′ r
   unfolding bind-checked
   bodies-checked {C′ = C′} {v} {r} d e = let b = d .are p bodies-stand in go (bodies p) refl b
     where
-      go : (x : Pass) → bodies p ≡ x → BodiesAre p C′ v → Checks R E T A M F C′ r
+      go : (x : Pass) → bodies p ≡ x → BodiesAre p C′ v → Checks R E T A M C′ r
       go (accept u) q b =
           let a : check R ≡ accept p = after-headings ∙ rw q in
           let k : r ≡ Accepted n = e ∙ ap (typed-case n) (b .out ∙ ap typings.verdict-of q) in
           record {
             answer = k ∙ ap Accepted (sym (w .stands .counted)) ∙ ap checked-case (sym a);
-            holds = λ z g. subst (Held R E T A M F C′) (accept-injective (sym a ∙ g))
-                (record { headed = w .headed; typed = q; looks = b .looks q });
+            holds = λ z g. (
+              F,
+              subst (Held R E T A M F C′) (accept-injective (sym a ∙ g))
+                  (record { headed = w .headed; typed = q; looks = b .looks q }),
+            );
           }
       go (refuse i l) q b =
           let k : r ≡ Refused i l = e ∙ ap (typed-case n) (b .out ∙ ap typings.verdict-of q) in

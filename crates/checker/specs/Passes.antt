@@ -1,5 +1,5 @@
--- What each part of the check is called on, and what it leaves: rows R, ends E, class tables T A, method tables M F,
--- lookup classes C.
+-- What each part of the check is called on, and what it leaves: rows R, ends E, class tables T A, method table M,
+-- effects F, slots S, lookup classes C.
 use mathlib.Core.Path.{_≡_}
 use mathlib.Core.Logic.{_⊎_}
 use mathlib.Core.List.{List}
@@ -33,11 +33,18 @@ few-classes = 7
 
 -- Whole rows, and tables that are long enough for them: an end for each row that may be accepted, an entry
 -- for each method.
-pub record Room (R E M F : List ℕ) : Type 0 where
+pub record Room (R E M : List ℕ) : Type 0 where
   pub whole : length R % 4 ≡ 0
   pub room : (length R ≤ 4 * length E) ⊎ (of-check .rows ≤ length E)
-  pub methods : length F * method-width ≤ length M
+  pub methods : (length R * method-width ≤ numbers-a-method * length M) ⊎ (most-methods * method-width ≤ length M)
+
+-- What the check alone reads: an effect for each method, and slots, `width` for each level of nesting and as many again.
+pub record BodyRoom (R F S : List ℕ) (width : ℕ) : Type 0 where
   pub effects : (length R ≤ numbers-a-method * length F) ⊎ (most-methods ≤ length F)
+  pub depth : ℕ
+  pub wide : (of-check .slots ≤ width) ⊎ (length R ≤ 4 * width)
+  pub deep : (of-check .nesting ≤ depth) ⊎ (length R ≤ 4 * depth)
+  pub slots : width * (depth + 1) ≤ length S
 
 -- Class tables with a block and an entry for each of so many classes and for Object.
 pub record ClassRoom (T A : List ℕ) (classes : ℕ) : Type 0 where
@@ -52,17 +59,10 @@ pub record Stands (R E : List ℕ) (classes start : ℕ) : Type 0 where
   pub counted : length (program .classes) ≡ classes
   pub started : start-row program ≡ start
 
--- After headings: besides, the tables hold its classes and its methods, of which there are so many.
-pub record HeadingsPassed (R E T A M F : List ℕ) (classes many start : ℕ) : Type 0 where
-  pub whole : length R % 4 ≡ 0
-  pub stands : Stands R E classes start
-  pub headed : Headed R E T A M F (stands .program)
-  pub numbered : many ≡ length (placed-methods (stands .program .classes))
-
 -- The answer is that of the check; rows and tables hold the program that it accepts.
-pub record Checks (R E T A M F C : List ℕ) (r : Checked) : Type 0 where
+pub record Checks (R E T A M C : List ℕ) (r : Checked) : Type 0 where
   pub answer : r ≡ checked-case (check R)
-  pub holds : (p : Program) → check R ≡ accept p → Held R E T A M F C p
+  pub holds : (p : Program) → check R ≡ accept p → (F : List ℕ) × Held R E T A M F C p
 
 -- The same where the table of superclasses alone is kept: it tells which class stands below which.
 pub record ChecksAbove (R A : List ℕ) (r : Checked) : Type 0 where

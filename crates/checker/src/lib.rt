@@ -11,7 +11,7 @@ ghost use lib.ListN.{length};
 ghost use Rattle.language.specs.Limits.{of-check};
 ghost use Rattle.language.specs.Verdict.{verdict};
 ghost use Rattle.checker.specs.Answers.{typed-case, verdict-case, verdict-of-checked};
-ghost use Rattle.checker.specs.Passes.{Room, Stands, ClassRoom, HeadingsPassed, Checks, ChecksAbove};
+ghost use Rattle.checker.specs.Passes.{Room, Stands, ClassRoom, BodyRoom, Checks, ChecksAbove};
 ghost use Rattle.checker.specs.Passes.{short-numbers, few-numbers, few-classes};
 
 // Tables come in three lengths, by the number of rows: for at most 32, for at most 1,024, and for all that there may be.
@@ -86,161 +86,180 @@ fn answer_of(typed: bodies::Verdict, classes: u32) -> Checked
     }
 }
 
-// Types the bodies of at most 32 rows.
-fn type_short(
-    rows: &[u32],
-    ends: &[u16],
-    tables: &[u16],
-    above: &[u64],
-    methods: &[u16],
-    effects: &[u64],
-    lookups: &mut [u16],
-    classes: u32,
-    many: usize,
-    start: usize,
-) -> Checked
-    requires { ⌜ HeadingsPassed (now rows) (now ends) (now tables) (now above) (now methods) (now effects)
-        classes many start ⌝ }
-    requires { ⌜ length (now rows) ≤ short-numbers ⌝ }
-    ensures { λ r. ⌜ Checks (now (rows .entry)) (now (ends .entry)) (now (tables .entry)) (now (above .entry))
-        (now (methods .entry)) (now (effects .entry)) (now (lookups .exit)) r ⌝ }
-{
-    let mut slots = [0u32; SHORT_SLOTS];
-    let typed = bodies::check_bodies(
-        rows,
-        ends,
-        tables,
-        above,
-        methods,
-        effects,
-        &mut slots,
-        lookups,
-        classes,
-        many,
-        start,
-        SHORT_ROWS,
-    );
-    answer_of(typed, classes)
-}
-
-// Types the bodies of any number of rows.
-fn type_long(
-    rows: &[u32],
-    ends: &[u16],
-    tables: &[u16],
-    above: &[u64],
-    methods: &[u16],
-    effects: &[u64],
-    lookups: &mut [u16],
-    classes: u32,
-    many: usize,
-    start: usize,
-) -> Checked
-    requires { ⌜ HeadingsPassed (now rows) (now ends) (now tables) (now above) (now methods) (now effects)
-        classes many start ⌝ }
-    ensures { λ r. ⌜ Checks (now (rows .entry)) (now (ends .entry)) (now (tables .entry)) (now (above .entry))
-        (now (methods .entry)) (now (effects .entry)) (now (lookups .exit)) r ⌝ }
-{
-    let mut slots = [0u32; SLOTS];
-    let typed = bodies::check_bodies(
-        rows,
-        ends,
-        tables,
-        above,
-        methods,
-        effects,
-        &mut slots,
-        lookups,
-        classes,
-        many,
-        start,
-        WIDTH,
-    );
-    answer_of(typed, classes)
-}
-
-// After headings: types the bodies. There are `many` methods, and the S line is row `start`.
-fn type_bodies(
-    rows: &[u32],
-    ends: &[u16],
-    tables: &[u16],
-    above: &[u64],
-    methods: &[u16],
-    effects: &[u64],
-    lookups: &mut [u16],
-    classes: u32,
-    many: usize,
-    start: usize,
-) -> Checked
-    requires { ⌜ HeadingsPassed (now rows) (now ends) (now tables) (now above) (now methods) (now effects)
-        classes many start ⌝ }
-    ensures { λ r. ⌜ Checks (now (rows .entry)) (now (ends .entry)) (now (tables .entry)) (now (above .entry))
-        (now (methods .entry)) (now (effects .entry)) (now (lookups .exit)) r ⌝ }
-{
-    if rows.len() <= SHORT_NUMBERS {
-        return type_short(
-            rows,
-            ends,
-            tables,
-            above,
-            methods,
-            effects,
-            lookups,
-            classes,
-            many,
-            start,
-        );
-    }
-    type_long(
-        rows,
-        ends,
-        tables,
-        above,
-        methods,
-        effects,
-        lookups,
-        classes,
-        many,
-        start,
-    )
-}
-
-// After form: checks headings, then bodies, with tables that are lent. Where the rows are accepted, the
-// tables hold what translation and evaluation read; that of lookup classes may be empty, and is filled as far
-// as it goes.
-pub fn check_formed(
+// After form: checks headings, then bodies, with tables and slots that are lent, as many for each level of nesting as `width`.
+fn check_with(
     rows: &[u32],
     ends: &[u16],
     tables: &mut [u16],
     above: &mut [u64],
     methods: &mut [u16],
     effects: &mut [u64],
+    slots: &mut [u32],
+    lookups: &mut [u16],
+    classes: u32,
+    start: u32,
+    width: usize,
+) -> Checked
+    requires { ⌜ Stands (now rows) (now ends) classes start ⌝ }
+    requires { ⌜ Room (now rows) (now ends) (now methods) ⌝ }
+    requires { ⌜ ClassRoom (now tables) (now above) classes ⌝ }
+    requires { ⌜ BodyRoom (now rows) (now effects) (now slots) width ⌝ }
+    ensures { λ r. ⌜ Checks (now (rows .entry)) (now (ends .entry)) (now (tables .exit)) (now (above .exit))
+        (now (methods .exit)) (now (lookups .exit)) r ⌝ }
+{
+    let headed = headings::check_headings(rows, ends, tables, above, methods, effects);
+    match headed {
+        headings::Headed::Passed(many) => {
+            let typed = bodies::check_bodies(
+                rows,
+                ends,
+                tables,
+                above,
+                methods,
+                effects,
+                slots,
+                lookups,
+                classes,
+                many as usize,
+                start as usize,
+                width,
+            );
+            answer_of(typed, classes)
+        }
+        headings::Headed::Refused(number, line) => Checked::Refused(number, line),
+    }
+}
+
+// The same for at most 32 rows, with effects and slots of its own.
+fn check_formed_short(
+    rows: &[u32],
+    ends: &[u16],
+    tables: &mut [u16],
+    above: &mut [u64],
+    methods: &mut [u16],
     lookups: &mut [u16],
     classes: u32,
     start: u32,
 ) -> Checked
     requires { ⌜ Stands (now rows) (now ends) classes start ⌝ }
-    requires { ⌜ Room (now rows) (now ends) (now methods) (now effects) ⌝ }
+    requires { ⌜ Room (now rows) (now ends) (now methods) ⌝ }
+    requires { ⌜ ClassRoom (now tables) (now above) classes ⌝ }
+    requires { ⌜ length (now rows) ≤ short-numbers ⌝ }
+    ensures { λ r. ⌜ Checks (now (rows .entry)) (now (ends .entry)) (now (tables .exit)) (now (above .exit))
+        (now (methods .exit)) (now (lookups .exit)) r ⌝ }
+{
+    let mut effects = [0u64; SHORT_METHODS];
+    let mut slots = [0u32; SHORT_SLOTS];
+    check_with(
+        rows,
+        ends,
+        tables,
+        above,
+        methods,
+        &mut effects,
+        &mut slots,
+        lookups,
+        classes,
+        start,
+        SHORT_ROWS,
+    )
+}
+
+// The same for at most 1,024 rows, with effects and slots of its own.
+fn check_formed_few(
+    rows: &[u32],
+    ends: &[u16],
+    tables: &mut [u16],
+    above: &mut [u64],
+    methods: &mut [u16],
+    lookups: &mut [u16],
+    classes: u32,
+    start: u32,
+) -> Checked
+    requires { ⌜ Stands (now rows) (now ends) classes start ⌝ }
+    requires { ⌜ Room (now rows) (now ends) (now methods) ⌝ }
+    requires { ⌜ ClassRoom (now tables) (now above) classes ⌝ }
+    requires { ⌜ length (now rows) ≤ few-numbers ⌝ }
+    ensures { λ r. ⌜ Checks (now (rows .entry)) (now (ends .entry)) (now (tables .exit)) (now (above .exit))
+        (now (methods .exit)) (now (lookups .exit)) r ⌝ }
+{
+    let mut effects = [0u64; FEW_METHODS];
+    let mut slots = [0u32; SLOTS];
+    check_with(
+        rows,
+        ends,
+        tables,
+        above,
+        methods,
+        &mut effects,
+        &mut slots,
+        lookups,
+        classes,
+        start,
+        WIDTH,
+    )
+}
+
+// The same for any number of rows, with effects and slots of its own.
+fn check_formed_many(
+    rows: &[u32],
+    ends: &[u16],
+    tables: &mut [u16],
+    above: &mut [u64],
+    methods: &mut [u16],
+    lookups: &mut [u16],
+    classes: u32,
+    start: u32,
+) -> Checked
+    requires { ⌜ Stands (now rows) (now ends) classes start ⌝ }
+    requires { ⌜ Room (now rows) (now ends) (now methods) ⌝ }
     requires { ⌜ ClassRoom (now tables) (now above) classes ⌝ }
     ensures { λ r. ⌜ Checks (now (rows .entry)) (now (ends .entry)) (now (tables .exit)) (now (above .exit))
-        (now (methods .exit)) (now (effects .exit)) (now (lookups .exit)) r ⌝ }
+        (now (methods .exit)) (now (lookups .exit)) r ⌝ }
 {
-    let headed = headings::check_headings(rows, ends, tables, above, methods, effects);
-    match headed {
-        headings::Headed::Passed(many) => type_bodies(
-            rows,
-            ends,
-            tables,
-            above,
-            methods,
-            effects,
-            lookups,
-            classes,
-            many as usize,
-            start as usize,
-        ),
-        headings::Headed::Refused(number, line) => Checked::Refused(number, line),
+    let mut effects = [0u64; ALL_METHODS];
+    let mut slots = [0u32; SLOTS];
+    check_with(
+        rows,
+        ends,
+        tables,
+        above,
+        methods,
+        &mut effects,
+        &mut slots,
+        lookups,
+        classes,
+        start,
+        WIDTH,
+    )
+}
+
+// After form: checks headings, then bodies, with tables that are lent. Where the rows are accepted, the
+// tables hold what translation and evaluation read; that of lookup classes may be empty, and is filled as far
+// as it goes. Effects and slots, which the check alone reads, are gone when it ends.
+pub fn check_formed(
+    rows: &[u32],
+    ends: &[u16],
+    tables: &mut [u16],
+    above: &mut [u64],
+    methods: &mut [u16],
+    lookups: &mut [u16],
+    classes: u32,
+    start: u32,
+) -> Checked
+    requires { ⌜ Stands (now rows) (now ends) classes start ⌝ }
+    requires { ⌜ Room (now rows) (now ends) (now methods) ⌝ }
+    requires { ⌜ ClassRoom (now tables) (now above) classes ⌝ }
+    ensures { λ r. ⌜ Checks (now (rows .entry)) (now (ends .entry)) (now (tables .exit)) (now (above .exit))
+        (now (methods .exit)) (now (lookups .exit)) r ⌝ }
+{
+    if rows.len() <= SHORT_NUMBERS {
+        return check_formed_short(rows, ends, tables, above, methods, lookups, classes, start);
     }
+    if rows.len() <= FEW_NUMBERS {
+        return check_formed_few(rows, ends, tables, above, methods, lookups, classes, start);
+    }
+    check_formed_many(rows, ends, tables, above, methods, lookups, classes, start)
 }
 
 // After form, with a class table of its own for at most 7 classes. The check reads no lookup classes: their
@@ -250,12 +269,11 @@ fn check_few_classes(
     ends: &[u16],
     above: &mut [u64],
     methods: &mut [u16],
-    effects: &mut [u64],
     classes: u32,
     start: u32,
 ) -> Checked
     requires { ⌜ Stands (now rows) (now ends) classes start ⌝ }
-    requires { ⌜ Room (now rows) (now ends) (now methods) (now effects) ⌝ }
+    requires { ⌜ Room (now rows) (now ends) (now methods) ⌝ }
     requires { ⌜ (of-check .classes + 1 ≤ length (now above)) × (classes ≤ few-classes) ⌝ }
     ensures { λ r. ⌜ ChecksAbove (now (rows .entry)) (now (above .exit)) r ⌝ }
 {
@@ -267,7 +285,6 @@ fn check_few_classes(
         &mut tables,
         above,
         methods,
-        effects,
         &mut lookups,
         classes,
         start,
@@ -280,12 +297,11 @@ fn check_all_classes(
     ends: &[u16],
     above: &mut [u64],
     methods: &mut [u16],
-    effects: &mut [u64],
     classes: u32,
     start: u32,
 ) -> Checked
     requires { ⌜ Stands (now rows) (now ends) classes start ⌝ }
-    requires { ⌜ Room (now rows) (now ends) (now methods) (now effects) ⌝ }
+    requires { ⌜ Room (now rows) (now ends) (now methods) ⌝ }
     requires { ⌜ of-check .classes + 1 ≤ length (now above) ⌝ }
     ensures { λ r. ⌜ ChecksAbove (now (rows .entry)) (now (above .exit)) r ⌝ }
 {
@@ -297,7 +313,6 @@ fn check_all_classes(
         &mut tables,
         above,
         methods,
-        effects,
         &mut lookups,
         classes,
         start,
@@ -310,37 +325,30 @@ fn check_classes(
     ends: &[u16],
     above: &mut [u64],
     methods: &mut [u16],
-    effects: &mut [u64],
     classes: u32,
     start: u32,
 ) -> Checked
     requires { ⌜ Stands (now rows) (now ends) classes start ⌝ }
-    requires { ⌜ Room (now rows) (now ends) (now methods) (now effects) ⌝ }
+    requires { ⌜ Room (now rows) (now ends) (now methods) ⌝ }
     requires { ⌜ of-check .classes + 1 ≤ length (now above) ⌝ }
     ensures { λ r. ⌜ ChecksAbove (now (rows .entry)) (now (above .exit)) r ⌝ }
 {
     if classes <= FEW_CLASSES {
-        return check_few_classes(rows, ends, above, methods, effects, classes, start);
+        return check_few_classes(rows, ends, above, methods, classes, start);
     }
-    check_all_classes(rows, ends, above, methods, effects, classes, start)
+    check_all_classes(rows, ends, above, methods, classes, start)
 }
 
 // Checks whole rows with lent tables. Form counts the classes before there is a class table.
-fn check_whole(
-    rows: &[u32],
-    ends: &mut [u16],
-    above: &mut [u64],
-    methods: &mut [u16],
-    effects: &mut [u64],
-) -> Checked
-    requires { ⌜ Room (now rows) (now ends) (now methods) (now effects) ⌝ }
+fn check_whole(rows: &[u32], ends: &mut [u16], above: &mut [u64], methods: &mut [u16]) -> Checked
+    requires { ⌜ Room (now rows) (now ends) (now methods) ⌝ }
     requires { ⌜ of-check .classes + 1 ≤ length (now above) ⌝ }
     ensures { λ r. ⌜ ChecksAbove (now (rows .entry)) (now (above .exit)) r ⌝ }
 {
     let formed = form::check_form(rows, ends);
     match formed {
         form::Formed::InForm(classes, start) => {
-            check_classes(rows, ends, above, methods, effects, classes, start)
+            check_classes(rows, ends, above, methods, classes, start)
         }
         form::Formed::Refused(number, line) => Checked::Refused(number, line),
     }
@@ -354,8 +362,7 @@ fn check_short(rows: &[u32], above: &mut [u64]) -> Checked
 {
     let mut ends = [0u16; SHORT_ROWS];
     let mut methods = [0u16; SHORT_METHOD_TABLE];
-    let mut effects = [0u64; SHORT_METHODS];
-    check_whole(rows, &mut ends, above, &mut methods, &mut effects)
+    check_whole(rows, &mut ends, above, &mut methods)
 }
 
 // The check of at most 1,024 whole rows.
@@ -366,8 +373,7 @@ fn check_few(rows: &[u32], above: &mut [u64]) -> Checked
 {
     let mut ends = [0u16; FEW_ROWS];
     let mut methods = [0u16; FEW_METHOD_TABLE];
-    let mut effects = [0u64; FEW_METHODS];
-    check_whole(rows, &mut ends, above, &mut methods, &mut effects)
+    check_whole(rows, &mut ends, above, &mut methods)
 }
 
 // The check of any number of whole rows.
@@ -378,8 +384,7 @@ fn check_many(rows: &[u32], above: &mut [u64]) -> Checked
 {
     let mut ends = [0u16; ALL_ROWS];
     let mut methods = [0u16; ALL_METHOD_TABLE];
-    let mut effects = [0u64; ALL_METHODS];
-    check_whole(rows, &mut ends, above, &mut methods, &mut effects)
+    check_whole(rows, &mut ends, above, &mut methods)
 }
 
 // Checks rows with a lent table of superclasses, which tells of an accepted program which class stands below which.

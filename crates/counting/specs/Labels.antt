@@ -7,7 +7,7 @@ use mathlib.Core.Option.{Option, none, some}
 use Prim.Native.Nat.{ℕ, zero, suc, _+_, _-_}
 use lib.Dec.{eqb, leb}
 use lib.ListN.{getD, drop}
-use Rattle.language.specs.Limits.{numbers-an-object, object-class, identity-class, fickle-class}
+use Rattle.language.specs.Limits.{object-width, object-class, identity-class, fickle-class}
 use Rattle.language.specs.Lists.{choice, bind-option}
 use Rattle.language.specs.World.{World}
 use Rattle.fleet.specs.Counts.{Counts, is-made, class-of-value, run-counts, counts-through}
@@ -45,7 +45,7 @@ module _ (W : World) (printed spoiled : ℕ) where
   unfoldable pub labels-next : Bool → ℕ → List ℕ → ℕ → List ℕ → ℕ → ℕ → Option Counts
   labels-next plain n store zero rest p s = some (counted p s)
   labels-next plain n store (suc k) rest p s = bind-option (added p s (ended-at plain n store rest)) λ c.
-      labels-next plain n store k (drop numbers-an-object rest) (c .printed) (c .spoiled)
+      labels-next plain n store k (drop object-width rest) (c .printed) (c .spoiled)
 
 -- The labels of a run by the store that it left, or through that of its plain run.
 abbrev pub counts-of : Bool → List ℕ → List ℕ → ℕ → ℕ → ℕ → Option Counts

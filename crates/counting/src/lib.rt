@@ -15,7 +15,7 @@ ghost use Rattle.classes.specs.Subclasses.{is-below};
 ghost use Rattle.counting.specs.Knowing.{known-case, Knows, Knowing, Serves};
 ghost use Rattle.counting.specs.Labels.{class-made, implementor-ended, ended-at, added, labels-next};
 ghost use Rattle.counting.specs.Labels.{counts-of};
-ghost use Rattle.language.specs.Limits.{of-check, numbers-an-object};
+ghost use Rattle.language.specs.Limits.{of-check, object-width};
 
 // What is known of checked rows: how many classes they declare, or that they are refused.
 pub enum Known {
@@ -126,7 +126,7 @@ fn count_below(above: &[u64], count: u32, class: u32, over: u32) -> u32
 
 // The class of the object that a value is; Object where it is none of the first objects of a store.
 fn class_of(store: &[u32], objects: u32, value: u32) -> u32
-    requires { ⌜ objects ≤ length (now store) / numbers-an-object ⌝ }
+    requires { ⌜ objects ≤ length (now store) / object-width ⌝ }
     ensures { λ r. ⌜ r ≡ class-made objects (now (store .entry)) value ⌝ }
 {
     if value < FIRST_OBJECT {
@@ -152,9 +152,9 @@ fn implementor_ended(class: u32) -> Ended
 // What an object says of a label. In the store of a run every object ended in its class; in a plain store the Identities
 // stand for the source's objects, and the first field of each has the implementor.
 fn object_ended(store: &[u32], objects: u32, at: usize, plain: bool) -> Ended
-    requires { ⌜ (at < objects) × (objects ≤ length (now store) / numbers-an-object) ⌝ }
+    requires { ⌜ (at < objects) × (objects ≤ length (now store) / object-width) ⌝ }
     ensures { λ r. ⌜ r ≡ ended-at plain objects (now (store .entry))
-        (drop (numbers-an-object * at) (now (store .entry))) ⌝ }
+        (drop (object-width * at) (now (store .entry))) ⌝ }
 {
     let class = store[OBJECT_WIDTH * at];
     if !plain {
@@ -207,7 +207,7 @@ fn count_objects(
     spoiled: u32,
 ) -> fleet::Count
     requires { ⌜ Serves (now above) classes × (printed ≤ of-check .classes) × (spoiled ≤ of-check .classes)
-        × (objects ≤ length (now store) / numbers-an-object) ⌝ }
+        × (objects ≤ length (now store) / object-width) ⌝ }
     ensures { λ r. ⌜ ((w : Serves (now (above .entry)) classes)
         → r ≡ count-told (labels-next (world (w .program)) printed spoiled plain objects (now (store .entry))
         objects (now (store .entry)) 0 0)) ⌝ }

@@ -7,7 +7,7 @@ use mathlib.Core.Option.{Option, none, some}
 use Prim.Native.Nat.{ℕ, zero, suc, _-_, _*_, _/_}
 use lib.Dec.{eqb, leb, ltb}
 use lib.ListN.{length, getD, drop}
-use Rattle.language.specs.Limits.{numbers-an-object, object-class, identity-class, fickle-class}
+use Rattle.language.specs.Limits.{object-width, object-class, identity-class, fickle-class}
 use Rattle.language.specs.Lists.{choice, bind-option, map-option}
 use Rattle.language.specs.Results.{Checked, accept, refuse}
 use Rattle.language.specs.Tree.{Program}
@@ -59,11 +59,11 @@ labels-of W printed spoiled cs = choice (relates W printed spoiled && knows-all 
 -- The classes that the first n objects of a store ended in: the first number of each.
 unfoldable pub classes-in : ℕ → List ℕ → List ℕ
 classes-in zero store = []
-classes-in (suc n) store = getD store 0 0 ∷ classes-in n (drop numbers-an-object store)
+classes-in (suc n) store = getD store 0 0 ∷ classes-in n (drop object-width store)
 
 -- A store holds n objects.
 abbrev pub holds-objects : ℕ → List ℕ → Bool
-holds-objects n store = leb n (length store / numbers-an-object)
+holds-objects n store = leb n (length store / object-width)
 
 -- The labels of a checked program's objects.
 abbrev pub labels-checked : Checked Program → ℕ → ℕ → List ℕ → Option Counts
@@ -85,7 +85,7 @@ module _ (n : ℕ) (store : List ℕ) where
 
   -- The class of that object.
   abbrev pub class-of-value : ℕ → ℕ
-  class-of-value v = getD store (numbers-an-object * (v - 3)) 0
+  class-of-value v = getD store (object-width * (v - 3)) 0
 
   -- The class in the source of the implementor that the value is; none where it is no implementor.
   abbrev pub implemented : ℕ → Option ℕ
@@ -98,8 +98,8 @@ module _ (n : ℕ) (store : List ℕ) where
   through-next zero rest = some []
   through-next (suc k) rest = choice (eqb (getD rest 0 0) identity-class)
       (λ _. bind-option (implemented (getD rest 1 0)) λ c.
-      map-option (λ cs. c ∷ cs) (through-next k (drop numbers-an-object rest)))
-      (λ _. through-next k (drop numbers-an-object rest))
+      map-option (λ cs. c ∷ cs) (through-next k (drop object-width rest)))
+      (λ _. through-next k (drop object-width rest))
 
 -- The classes that the labels of the source ended in, as the first n objects of a plain store have them.
 unfoldable pub classes-through : ℕ → List ℕ → Option (List ℕ)

@@ -6,7 +6,7 @@ use mathlib.Core.Option.{Option, none, some}
 use Prim.Native.Nat.{ℕ, zero, suc, _*_, _/_, _%_}
 use lib.Dec.{eqb, leb}
 use lib.ListN.{length, getD, take, drop}
-use Rattle.language.specs.Limits.{numbers-a-row, numbers-an-object, line-refusal, no-line}
+use Rattle.language.specs.Limits.{numbers-a-row, object-width, line-refusal, no-line}
 use Rattle.language.specs.Lists.{choice, map-option}
 use Rattle.language.specs.Results.{Checked, require}
 use Rattle.fleet.specs.Counts.{Counts, class-refusal, run-counts}
@@ -57,7 +57,7 @@ unfoldable pub lines-of-runs : List Run → List ℕ → List ℕ → List (Opti
 lines-of-runs [] programs stores = []
 lines-of-runs (r ∷ rs) programs stores = line-of-run r programs stores
     ∷ lines-of-runs rs (drop (numbers-a-row * r .rows) programs)
-    (drop (numbers-an-object * r .objects) stores)
+    (drop (object-width * r .objects) stores)
 
 -- The report over a fleet.
 unfoldable pub fleet-report : List ℕ → List ℕ → List ℕ → Checked (List ℕ)

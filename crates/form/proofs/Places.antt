@@ -377,9 +377,13 @@ parts-other n a b h84 h76 h78 h73 h87 h82 h90 h71 h75 h65 h85 h74 h81 h66 = go (
         (λ z. h71 (sym q ∙ z)) (λ z. h75 (sym q ∙ z)) (λ z. h65 (sym q ∙ z)) (λ z. h85 (sym q ∙ z))
         (λ z. h74 (sym q ∙ z)) (λ z. h81 (sym q ∙ z)) (λ z. h66 (sym q ∙ z)))
 
+-- the parts of equal numbers
+pub parts-same : {c a b c′ a′ b′ : ℕ} → c ≡ c′ → a ≡ a′ → b ≡ b′ → parts-at c a b ≡ parts-at c′ a′ b′
+parts-same p q r = rw (p, q, r)
+
 -- a test of equality, turned round
-pub eqb-turn : (a b : ℕ) → eqb a b ≡ eqb b a
-eqb-turn a b = go (eqb a b) refl
+pub eqb-turn : {a c : ℕ} (b : ℕ) → a ≡ c → eqb a b ≡ eqb b c
+eqb-turn {a} b p = rw (← p) (go (eqb a b) refl)
   where
     go : (t : Bool) → eqb a b ≡ t → t ≡ eqb b a
     go true e = sym (eq-eqb b a (sym (eqb-true a b e)))

@@ -26,6 +26,9 @@ use language::SET;
 use language::SLOT;
 use language::START;
 use language::TRUE;
+use language::first;
+use language::letter_at;
+use language::second;
 ghost use mathlib.Core.Path.{_≡_};
 ghost use mathlib.Core.Bool.{true};
 ghost use mathlib.Core.List.{List, _++_};
@@ -124,7 +127,7 @@ fn is_letter(rows: &[u32], at: usize, letter: u32, limits: Limits) -> bool
     if refuse_row(rows, at, limits) != 0 {
         return false;
     }
-    rows[at * 4] == letter
+    letter_at(rows, at) == letter
 }
 
 // Passes the lines of a letter, as long as they come, and answers the row after them.
@@ -165,7 +168,7 @@ fn pass_locals(
         if refusal != 0 {
             return Step::Refused(refusal, i as u32 + 1);
         }
-        if rows[i * 4] != LOCAL {
+        if letter_at(rows, i) != LOCAL {
             return Step::Refused(PLACE_REFUSAL, i as u32 + 1);
         }
         if limits.slots <= scope {
@@ -221,8 +224,8 @@ fn pass_node(
     if refusal != 0 {
         return Step::Refused(refusal, at as u32 + 1);
     }
-    let code = rows[at * 4];
-    let parts = parts_of(code, rows[at * 4 + 1], rows[at * 4 + 2]);
+    let code = letter_at(rows, at);
+    let parts = parts_of(code, first(rows, at), second(rows, at));
     let Parts::Of(variables, children) = parts else {
         return Step::Refused(PLACE_REFUSAL, at as u32 + 1);
     };
@@ -325,7 +328,7 @@ fn pass_body(rows: &[u32], ends: &mut [u16], at: usize, slots: u32, limits: Limi
     if refusal != 0 {
         return Step::Refused(refusal, at as u32 + 1);
     }
-    if rows[at * 4] != BLOCK {
+    if letter_at(rows, at) != BLOCK {
         return Step::Refused(PLACE_REFUSAL, at as u32 + 1);
     }
     pass_node(rows, ends, at, limits.nesting, slots, limits)
@@ -414,7 +417,7 @@ fn pass_start(rows: &[u32], ends: &mut [u16], at: usize, classes: u32, limits: L
     if refusal != 0 {
         return Formed::Refused(refusal, at as u32 + 1);
     }
-    if rows[at * 4] != START {
+    if letter_at(rows, at) != START {
         return Formed::Refused(PLACE_REFUSAL, at as u32 + 1);
     }
     ends[at] = (at + 1) as u16;

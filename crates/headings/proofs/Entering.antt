@@ -26,7 +26,8 @@ use Rattle.headings.specs.declared.Headed.the-variants.{Passed, Refused}
 use Rattle.headings.specs.Blocks.{Working}
 use Rattle.headings.specs.Faults.{faulty, fault-of-method, check-heading}
 use Rattle.headings.specs.Numbers.{placed, own-or, own-number, with-number, Numbered}
-use Rattle.headings.specs.Ready.{MethodHere, ClassHere, MethodReady, MethodsReady}
+use Rattle.layout.specs.Walks.{MethodStanding}
+use Rattle.headings.specs.Ready.{ClassHere, MethodReady, MethodsReady}
 use Rattle.headings.proofs.Checks.{methods-step, bind-passed, bind-refused, refused-is, passed-is}
 use Rattle.headings.proofs.Checks.{is-passed, is-refused}
 use Rattle.headings.proofs.Lines.{MethodsFrom, methods-within, next-method, no-methods, class-methods}
@@ -189,10 +190,11 @@ module _ {R E T₀ M₀ F₀ : List ℕ} {r k first count : ℕ} (w : MethodsRea
         this = this;
       }
 
-      abbrev pub entering-here : MethodHere R E at
+      abbrev pub entering-here : MethodStanding R E at
       entering-here = record { method = one .0; at = one .3; in-form = one .4; short = w .standing .short }
 
-      pub entering-grows : (n : ℕ) → ((v : MethodHere R E at) → n ≡ at + method-lines (v .method)) → at < n
+      pub entering-grows : (n : ℕ) → ((v : MethodStanding R E at) → n ≡ at + method-lines (v .method))
+          → at < n
       unfolding method-lines heading-lines
       entering-grows n f = omega (arith, f entering-here)
 
@@ -266,7 +268,7 @@ module _ {R E T₀ M₀ F₀ : List ℕ} {r k first count : ℕ} (w : MethodsRea
           numbers-next i x h = let z : next + 1 + i ≡ next + suc i = omega arith in
               ap (nth (placed-methods P)) z ∙ numbers-on (suc i) x h
 
-          pub entering-step : (n : ℕ) → ((v : MethodHere R E at) → n ≡ at + method-lines (v .method))
+          pub entering-step : (n : ℕ) → ((v : MethodStanding R E at) → n ≡ at + method-lines (v .method))
               → Entering T′ M′ F′ n (next + 1)
           entering-step n g =
               let q : n ≡ at + method-lines (one .0) = g entering-here in

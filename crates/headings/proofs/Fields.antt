@@ -31,63 +31,51 @@ stored-is none = refl
 stored-is (some i) = rw (ne-eqb (suc i) 0 (λ e. omega (arith, e)))
 
 module _ {R T : List ℕ} {r base count : ℕ} (w : FieldReady R T r base count) where
-  name-is : getD R (r * 4 + 2) 0 ≡ w .field .name
-  name-is = w .at .line .second
-
-  type-is : type-of-number (getD R (r * 4 + 1) 0) ≡ w .field .type
-  type-is = ap type-of-number (w .at .line .first) ∙ w .at .in-form .type .back
-
   count-entry : getD T (base + 515) 0 ≡ length (w .fields)
   count-entry = rw (w .base-is) (w .working .block .count)
 
-  place-entry : getD T (base + getD R (r * 4 + 2) 0) 0 ≡ stored-place (place (w .field .name) (w .fields))
-  place-entry = rw (w .base-is, name-is) (w .working .block .places (w .field .name)
-      (omega (arith, w .at .in-form .name)))
-
-  fault-is : fault-of-field (w .P) (w .fields) (w .field)
-      ≡ cond (ltb (getD T (base + 515) 0) 17)
-      (cond (is-declared-type (world (w .P)) (type-of-number (getD R (r * 4 + 1) 0)))
-      (cond (not (eqb (getD T (base + getD R (r * 4 + 2) 0) 0) 0)) 4
-      (cond (is-state-type (w .P) (type-of-number (getD R (r * 4 + 1) 0))) 5 0)) 4) 2
-  unfolding fault-of-field
-  fault-is = rw (count-entry, type-is, place-entry, stored-is (place (w .field .name) (w .fields)))
-
   pub field-full : 17 ≤ getD T (base + 515) 0 → 2 ≡ fault-of-field (w .P) (w .fields) (w .field)
-  field-full l = sym (fault-is ∙ rw (le-ltb (getD T (base + 515) 0) 17 l))
+  unfolding fault-of-field
+  field-full l = sym (rw (le-ltb (length (w .fields)) 17 (omega (arith, l, count-entry))))
 
-  module _ (a : getD T (base + 515) 0 < 17) where
-    pub field-undeclared : is-declared-type (world (w .P)) (type-of-number (getD R (r * 4 + 1) 0)) ≡ false
+  module _ (a : getD T (base + 515) 0 < 17) (t : ℕ) (t-is : t ≡ getD R (r * 4 + 1) 0) where
+    type-is : type-of-number t ≡ w .field .type
+    type-is = ap type-of-number (t-is ∙ w .at .line .first) ∙ w .at .in-form .type .back
+
+    on : fault-of-field (w .P) (w .fields) (w .field)
+        ≡ cond (is-declared-type (world (w .P)) (type-of-number t))
+        (cond (is-some (place (w .field .name) (w .fields))) 4
+        (cond (is-state-type (w .P) (type-of-number t)) 5 0)) 4
+    unfolding fault-of-field
+    on = rw (lt-ltb (length (w .fields)) 17 (omega (arith, a, count-entry)), type-is)
+
+    pub field-undeclared : is-declared-type (world (w .P)) (type-of-number t) ≡ false
         → 4 ≡ fault-of-field (w .P) (w .fields) (w .field)
-    field-undeclared b = sym (fault-is ∙ rw (lt-ltb (getD T (base + 515) 0) 17 a, b))
+    field-undeclared b = sym (on ∙ rw b)
 
-    module _ (b : is-declared-type (world (w .P)) (type-of-number (getD R (r * 4 + 1) 0)) ≡ true) where
-      pub field-twice : (getD T (base + getD R (r * 4 + 2) 0) 0 ≡ 0 → ⊥)
-          → 4 ≡ fault-of-field (w .P) (w .fields) (w .field)
-      field-twice n = sym (fault-is ∙ rw (
-        lt-ltb (getD T (base + 515) 0) 17 a,
-        b,
-        ne-eqb
-            (getD T (base + getD R (r * 4 + 2) 0) 0) 0 n,
-      ))
+    module _ (b : is-declared-type (world (w .P)) (type-of-number t) ≡ true)
+        (f : ℕ) (f-is : f ≡ getD R (r * 4 + 2) 0) where
+      place-entry : not (eqb (getD T (base + f) 0) 0) ≡ is-some (place (w .field .name) (w .fields))
+      place-entry = rw (
+        w .base-is,
+        f-is ∙ w .at .line .second,
+        w .working .block .places (w .field .name) (omega (arith, w .at .in-form .name)),
+      )
+          (sym (stored-is (place (w .field .name) (w .fields))))
 
-      module _ (e : getD T (base + getD R (r * 4 + 2) 0) 0 ≡ 0) where
-        fault-state : (s : Bool) → s ≡ is-state-type (w .P) (type-of-number (getD R (r * 4 + 1) 0))
-            → fault-of-field (w .P) (w .fields) (w .field) ≡ cond s 5 0
-        fault-state s q = fault-is
-            ∙ rw (
-              lt-ltb (getD T (base + 515) 0) 17 a,
-              b,
-              eq-eqb (getD T (base + getD R (r * 4 + 2) 0) 0) 0 e,
-              ← q,
-            )
+      pub field-twice : (getD T (base + f) 0 ≡ 0 → ⊥) → 4 ≡ fault-of-field (w .P) (w .fields) (w .field)
+      field-twice n = sym (on ∙ rw (b, ← place-entry, ne-eqb (getD T (base + f) 0) 0 n))
 
-        pub field-state : (s : Bool) → s ≡ is-state-type (w .P) (type-of-number (getD R (r * 4 + 1) 0))
-            → s ≡ true → 5 ≡ fault-of-field (w .P) (w .fields) (w .field)
-        field-state s q z = sym (fault-state s q ∙ rw z)
+      module _ (e : getD T (base + f) 0 ≡ 0) (s : Bool) (q : s ≡ is-state-type (w .P) (type-of-number t))
+        where
+          fault-state : fault-of-field (w .P) (w .fields) (w .field) ≡ cond s 5 0
+          fault-state = on ∙ rw (b, ← place-entry, eq-eqb (getD T (base + f) 0) 0 e, ← q)
 
-        pub field-fine : (s : Bool) → s ≡ is-state-type (w .P) (type-of-number (getD R (r * 4 + 1) 0))
-            → s ≡ false → 0 ≡ fault-of-field (w .P) (w .fields) (w .field)
-        field-fine s q z = sym (fault-state s q ∙ rw z)
+          pub field-state : s ≡ true → 5 ≡ fault-of-field (w .P) (w .fields) (w .field)
+          field-state z = sym (fault-state ∙ rw z)
+
+          pub field-fine : s ≡ false → 0 ≡ fault-of-field (w .P) (w .fields) (w .field)
+          field-fine z = sym (fault-state ∙ rw z)
 
 -- ---- entering a field
 
@@ -98,24 +86,26 @@ module _ {R T : List ℕ} {r base : ℕ} (w : EnterReady R T r base) where
   pub enter-count : getD T (base + 515) 0 ≡ length (w .fields)
   enter-count = rw (w .base-is) (w .working .block .count)
 
-  pub enter-bounds : (getD T (base + 515) 0 < 17) × (getD R (r * 4 + 2) 0 ≤ 255) × (r * 4 + 3 < length R)
-      × (length R ≤ 240000) × (base + 576 ≤ length T)
-  enter-bounds = (
-    omega (arith, enter-count, w .room),
-    omega (arith, w .at .line .second, w .at .in-form .name),
-    w .at .line .within,
-    w .short,
-    omega (arith, enter-index 575 (omega arith)),
-  )
+  module _ (f : ℕ) (f-is : f ≡ getD R (r * 4 + 2) 0) where
+    pub enter-bounds : (getD T (base + 515) 0 < 17) × (f ≤ 255) × (r * 4 + 3 < length R)
+        × (length R ≤ 240000) × (base + 576 ≤ length T)
+    enter-bounds = (
+      omega (arith, enter-count, w .room),
+      omega (arith, f-is, w .at .line .second, w .at .in-form .name),
+      w .at .line .within,
+      w .short,
+      omega (arith, enter-index 575 (omega arith)),
+    )
 
-  pub enter-is : (T′ : List ℕ)
-      → T′ ≡ set (set (set T (base + getD R (r * 4 + 2) 0) (getD T (base + 515) 0 + 1))
-      (base + 520 + getD T (base + 515) 0) r) (base + 515) (getD T (base + 515) 0 + 1)
-      → Working (w .P) (w .k) T′ (w .fields ++ (w .field ∷ [])) (w .rows ++ (r ∷ [])) (w .methods)
-  enter-is T′ e =
-      let d : w .k * 576 + 520 + length (w .fields) ≡ w .k * 576 + (520 + length (w .fields)) = omega arith in
-      working-field (w .working) (w .field) r (w .at .in-form .name) (w .room) (w .new) T′
-      (e ∙ rw (enter-count, w .at .line .second, w .base-is, d))
+    pub enter-is : (T′ : List ℕ)
+        → T′ ≡ set (set (set T (base + f) (getD T (base + 515) 0 + 1))
+        (base + 520 + getD T (base + 515) 0) r) (base + 515) (getD T (base + 515) 0 + 1)
+        → Working (w .P) (w .k) T′ (w .fields ++ (w .field ∷ [])) (w .rows ++ (r ∷ [])) (w .methods)
+    enter-is T′ e =
+        let d : w .k * 576 + 520 + length (w .fields) ≡ w .k * 576 + (520 + length (w .fields)) = omega arith
+        in
+        working-field (w .working) (w .field) r (w .at .in-form .name) (w .room) (w .new) T′
+        (e ∙ rw (enter-count, f-is ∙ w .at .line .second, w .base-is, d))
 
 -- no fault, so there is room and the name is new
 sound-field : (P : List Class) (fs : List Field) (f : Field) → fault-of-field P fs f ≡ 0

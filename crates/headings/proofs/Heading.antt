@@ -27,11 +27,12 @@ use Rattle.headings.specs.declared.Headed.the-variants.{Passed, Refused}
 use Rattle.headings.specs.Blocks.{Working}
 use Rattle.headings.specs.Faults.{fault-of-method, check-heading}
 use Rattle.headings.specs.Numbers.{own-or, with-number}
-use Rattle.headings.specs.Ready.{MethodHere, ParameterLines, EffectsReady, MethodCounted, NumberReady}
+use Rattle.layout.specs.Walks.{MethodStanding}
+use Rattle.headings.specs.Ready.{ParameterLines, EffectsReady, MethodCounted, NumberReady}
 use Rattle.headings.specs.Ready.{MethodReady}
 use Rattle.headings.proofs.Checks.{heading-refused, heading-on, bind-passed, bind-refused, refused-is}
 use Rattle.headings.proofs.Checks.{passed-is, is-passed, is-refused}
-use Rattle.headings.proofs.Lines.{parameters-count, effects-count}
+use Rattle.layout.proofs.Walks.{parameters-count, effects-count}
 use Rattle.headings.proofs.Numbers.{numbered-fewer}
 use Rattle.headings.proofs.Tables.{lookups-set, working-index}
 
@@ -102,7 +103,7 @@ module _ {R T M F : List ℕ} {r k first next count : ℕ} (v : MethodReady R T 
   checking = check-heading (v .line .program .classes) (v .line .super) (v .line .before) (r + 1)
       (v .line .method)
 
-  abbrev pub method-here : MethodHere R (v .line .ends) r
+  abbrev pub method-here : MethodStanding R (v .line .ends) r
   method-here = record {
     method = v .line .method;
     at = v .line .at;
@@ -214,13 +215,13 @@ module _ {R T M F : List ℕ} {r k first next count : ℕ} (v : MethodReady R T 
               small = small;
             }
 
-  pub method-working : Working (v .line .program .classes) k
-      (set T (k * 576 + 256 + getD R (r * 4 + 2) 0) (next + 1)) (v .line .fields) (v .line .rows)
+  pub method-working : (name : ℕ) → name ≡ getD R (r * 4 + 2) 0 → Working (v .line .program .classes) k
+      (set T (k * 576 + 256 + name) (next + 1)) (v .line .fields) (v .line .rows)
       (with-number (v .line .method .name) next (own-or (v .line .own)
       (method-number (v .line .program .classes) (v .line .super))))
-  method-working =
-      let e : k * 576 + (256 + v .line .method .name) ≡ k * 576 + 256 + getD R (r * 4 + 2) 0 =
-      omega (arith, v .line .at .line .second) in
+  method-working name name-is =
+      let e : k * 576 + (256 + v .line .method .name) ≡ k * 576 + 256 + name =
+      omega (arith, name-is, v .line .at .line .second) in
       subst (λ (i : ℕ). Working P k (set T i (next + 1)) (v .line .fields) (v .line .rows)
       (with-number (v .line .method .name) next (own-or (v .line .own) (method-number P (v .line .super))))) e
       (working-method (v .line .working) (v .line .method .name) next (v .line .in-form .name))

@@ -16,62 +16,15 @@ use Rattle.language.specs.Program.{class-at}
 use Rattle.language.specs.ClassTables.{class-row}
 use Rattle.language.specs.Encoded.{RowAt}
 use Rattle.language.specs.Layout.{Run, ClassEnd, EachMethod, MethodAt, ClassAt, ProgramAt}
-use Rattle.language.specs.Layout.{body-row, methods-from-row}
+use Rattle.language.specs.Layout.{methods-from-row}
 use Rattle.language.specs.WellFormed.{Each, each-cons, MethodInForm, ClassInForm}
 use Rattle.language.proofs.Classes.{class-some}
 use Rattle.language.proofs.Lines.{less-or-same, run-unique}
 use Rattle.layout.specs.Found.{class-here, class-in-form}
-use Rattle.layout.specs.HeadingRuns.{block-here, parameters-run, effects-run, end-letter, methods-first}
+use Rattle.layout.specs.HeadingRuns.{end-letter, methods-first}
 use Rattle.layout.specs.HeadingRuns.{fields-run, class-ended}
-use Rattle.headings.specs.Ready.{MethodHere, ClassHere}
-
-module _ {R : List ℕ} {l r n : ℕ} (w : Run R l r n) (i : ℕ) (p : i ≤ n) where
-  -- the next row has the letter too, so it is one of the run
-  pub run-next : getD R ((r + i) * 4) 0 ≡ l → i + 1 ≤ n
-  run-next e = ⊎-elim (λ q. omega (arith, q))
-      (λ q. absurd (w .other (ap (λ (n : ℕ). getD R ((r + n) * 4) 0) (sym q) ∙ e))) (less-or-same i n p)
-
-  -- it has not, so the run is over
-  pub run-end : (getD R ((r + i) * 4) 0 ≡ l → ⊥) → Run R l r i
-  run-end o = ⊎-elim (λ q. absurd (o (w .each i q))) (λ q. subst (Run R l r) (sym q) w) (less-or-same i n p)
-
--- ---- a method
-
-module _ {R E : List ℕ} {m : Declaration} {r : ℕ} (h : MethodAt R E m r) (f : MethodInForm of-check m) where
-  module _ (p : ℕ) (v : Run R 80 (r + 1) p) where
-    pub parameters-count : p ≡ length (m .parameters)
-    parameters-count = run-unique v (parameters-run h f)
-
-    pub effects-after : Run R 88 (r + 1 + p) (length (m .effects))
-    effects-after = rw parameters-count (effects-run h f)
-
-    pub effects-count : (x : ℕ) → Run R 88 (r + 1 + p) x → x ≡ length (m .effects)
-    effects-count x v = run-unique v effects-after
-
--- ---- skipping a method, a class
-
-module _ {R E : List ℕ} {r : ℕ} (w : MethodHere R E r) where
-  pub method-parameters : (n : ℕ) × Run R 80 (r + 1) n
-  method-parameters = (length (w .method .parameters), parameters-run (w .at) (w .in-form))
-
-  module _ (p : ℕ) (v : Run R 80 (r + 1) p) where
-    pub method-effects : (n : ℕ) × Run R 88 (r + 1 + p) n
-    method-effects = (length (w .method .effects), effects-after (w .at) (w .in-form) p v)
-
-    -- the block after both
-    pub method-block : (x : ℕ) → Run R 88 (r + 1 + p) x
-        → (r + 1 + p + x < length E) × ((r + 1 + p + x) * 4 < length R)
-        × (getD E (r + 1 + p + x) 0 ≡ r + method-lines (w .method))
-    unfolding method-lines heading-lines
-    method-block x u =
-        let a = parameters-count (w .at) (w .in-form) p v in
-        let c = effects-count (w .at) (w .in-form) p v x u in
-        let b = block-here (w .at) (w .in-form) .node in
-        let e : r + 1 + p + x ≡ body-row r (w .method) = omega (arith, a, c) in (
-          omega (arith, b .in-ends, e),
-          omega (arith, b .row .within, e),
-          ap (λ (i : ℕ). getD E i 0) e ∙ (b .end ∙ omega arith),
-        )
+use Rattle.layout.specs.Walks.{MethodStanding}
+use Rattle.headings.specs.Ready.{ClassHere}
 
 -- the methods of a class from a row on, to its last
 pub record MethodsFrom (R E : List ℕ) (ms : List Declaration) (at : ℕ) : Type 0 where
@@ -131,11 +84,11 @@ module _ {R E : List ℕ} {at end : ℕ} (s : Skipping R E at end) where
       omega (arith, s .sum, z)
 
   module _ (l : length R ≤ 240000) (e : getD R (at * 4) 0 ≡ 77) where
-    abbrev pub skip-here : MethodHere R E at
+    abbrev pub skip-here : MethodStanding R E at
     skip-here = let y = next-method (s .rest) (s .here) e in
         record { method = y .0; at = y .3; in-form = y .4; short = l }
 
-    module _ (n : ℕ) (f : (w : MethodHere R E at) → n ≡ at + method-lines (w .method)) where
+    module _ (n : ℕ) (f : (w : MethodStanding R E at) → n ≡ at + method-lines (w .method)) where
       pub skip-step : Skipping R E n end
       unfolding methods-lines
       skip-step =

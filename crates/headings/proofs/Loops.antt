@@ -118,37 +118,37 @@ module _ {R : List ℕ} {r n : ℕ} (w : EffectLines R r n) where
   pub testing-start : (φ : ℕ) → Testing φ 0
   testing-start φ = record { within = omega arith; left = refl }
 
-  module _ (φ i : ℕ) (p : Testing φ i) (l : i < n) where
+  module _ (φ i : ℕ) (p : Testing φ i) (l : i < n) (c : ℕ) (c-is : c ≡ getD R ((r + i) * 4 + 1) 0) where
     test : lines-within (w .effects) φ
-        ≡ ltb 0 (getD R ((r + i) * 4 + 1) 0) &&
-        (leb (getD R ((r + i) * 4 + 1) 0) 64 &&
-        (member φ (getD R ((r + i) * 4 + 1) 0) && lines-within (drop (i + 1) (w .effects)) φ))
+        ≡ ltb 0 c &&
+        (leb c 64 &&
+        (member φ c && lines-within (drop (i + 1) (w .effects)) φ))
     unfolding lines-within
-    test = let y = effects-line i l in p .left ∙ rw (y .here, y .next, y .line .first)
+    test = let y = effects-line i l in p .left ∙ rw (y .here, y .next, c-is ∙ y .line .first)
 
-    pub testing-zero : getD R ((r + i) * 4 + 1) 0 ≡ 0 → false ≡ lines-within (w .effects) φ
+    pub testing-zero : c ≡ 0 → false ≡ lines-within (w .effects) φ
     testing-zero e = sym (test ∙ rw e)
 
-    pub testing-large : 64 < getD R ((r + i) * 4 + 1) 0 → false ≡ lines-within (w .effects) φ
+    pub testing-large : 64 < c → false ≡ lines-within (w .effects) φ
     testing-large h = sym (test ∙ rw (
-      lt-ltb 0 (getD R ((r + i) * 4 + 1) 0) (omega (arith, h)),
+      lt-ltb 0 c (omega (arith, h)),
       lt-leb
-          (getD R ((r + i) * 4 + 1) 0) 64 h,
+          c 64 h,
     ))
 
-    module _ (z : getD R ((r + i) * 4 + 1) 0 ≡ 0 → ⊥) (h : getD R ((r + i) * 4 + 1) 0 ≤ 64) where
+    module _ (z : c ≡ 0 → ⊥) (h : c ≤ 64) where
       on : lines-within (w .effects) φ
-          ≡ member φ (getD R ((r + i) * 4 + 1) 0) && lines-within (drop (i + 1) (w .effects)) φ
+          ≡ member φ c && lines-within (drop (i + 1) (w .effects)) φ
       on = test ∙ rw (
-        lt-ltb 0 (getD R ((r + i) * 4 + 1) 0) (omega (arith, z)),
+        lt-ltb 0 c (omega (arith, z)),
         le-leb
-            (getD R ((r + i) * 4 + 1) 0) 64 h,
+            c 64 h,
       )
 
-      pub testing-out : false ≡ member φ (getD R ((r + i) * 4 + 1) 0) → false ≡ lines-within (w .effects) φ
+      pub testing-out : false ≡ member φ c → false ≡ lines-within (w .effects) φ
       testing-out e = sym (on ∙ rw (← e))
 
-      pub testing-step : true ≡ member φ (getD R ((r + i) * 4 + 1) 0) → Testing φ (i + 1)
+      pub testing-step : true ≡ member φ c → Testing φ (i + 1)
       testing-step e = record { within = omega (arith, l); left = on ∙ rw (← e) }
 
   pub testing-end : (φ i : ℕ) → Testing φ i → n ≤ i → true ≡ lines-within (w .effects) φ
@@ -165,28 +165,30 @@ module _ {R : List ℕ} {r n : ℕ} (w : EffectLines R r n) where
     pub effecting-start : Effecting 0 0
     effecting-start = let e : r + 0 + 1 ≡ r + 1 = omega arith in record { within = omega arith; left = rw e }
 
-    module _ (last i : ℕ) (p : Effecting last i) (l : i < n) where
-      fault : check-effects of-check P 0 (r + 1) (w .effects)
-          ≡ faulty (fault-of-effect P last (getD R ((r + i) * 4 + 1) 0)) (r + i + 1)
-          (check-effects of-check P (getD R ((r + i) * 4 + 1) 0) (r + i + 1 + 1) (drop (i + 1) (w .effects)))
-      fault = let y = effects-line i l in p .left
-          ∙ rw (y .here, y .next, y .line .first) (effects-step P last (r + i + 1) (y .one) (y .rest))
+    module _ (last i : ℕ) (p : Effecting last i) (l : i < n) (c : ℕ) (c-is : c ≡ getD R ((r + i) * 4 + 1) 0)
+      where
+        fault : check-effects of-check P 0 (r + 1) (w .effects)
+            ≡ faulty (fault-of-effect P last c) (r + i + 1)
+            (check-effects of-check P c (r + i + 1 + 1) (drop (i + 1) (w .effects)))
+        fault = let y = effects-line i l in p .left
+            ∙ rw (y .here, y .next, c-is ∙ y .line .first)
+            (effects-step P last (r + i + 1) (y .one) (y .rest))
 
-      pub effecting-refused : (f : ℕ) → f ≡ fault-of-effect P last (getD R ((r + i) * 4 + 1) 0) → (f ≡ 0 → ⊥)
-          → Refused f (r + i + 1) ≡ headed 0 (check-effects of-check P 0 (r + 1) (w .effects))
-      effecting-refused f e z =
-          refused-is 0 _ f (r + i + 1)
-          (fault ∙ (ap (λ (g : ℕ). faulty g (r + i + 1)
-          (check-effects of-check P (getD R ((r + i) * 4 + 1) 0) (r + i + 1 + 1) (drop (i + 1) (w .effects))))
-          (sym e) ∙ faulty-some f (r + i + 1) _ z))
+        pub effecting-refused : (f : ℕ) → f ≡ fault-of-effect P last c → (f ≡ 0 → ⊥)
+            → Refused f (r + i + 1) ≡ headed 0 (check-effects of-check P 0 (r + 1) (w .effects))
+        effecting-refused f e z =
+            refused-is 0 _ f (r + i + 1)
+            (fault ∙ (ap (λ (g : ℕ). faulty g (r + i + 1)
+            (check-effects of-check P c (r + i + 1 + 1) (drop (i + 1) (w .effects))))
+            (sym e) ∙ faulty-some f (r + i + 1) _ z))
 
-      pub effecting-step : (f : ℕ) → f ≡ fault-of-effect P last (getD R ((r + i) * 4 + 1) 0) → f ≡ 0
-          → Effecting (getD R ((r + i) * 4 + 1) 0) (i + 1)
-      effecting-step f e z = let d : r + (i + 1) + 1 ≡ r + i + 1 + 1 = omega arith in
-          record {
-            within = omega (arith, l);
-            left = fault ∙ (faulty-none _ (r + i + 1) _ (sym e ∙ z) ∙ rw d);
-          }
+        pub effecting-step : (f : ℕ) → f ≡ fault-of-effect P last c → f ≡ 0
+            → Effecting c (i + 1)
+        effecting-step f e z = let d : r + (i + 1) + 1 ≡ r + i + 1 + 1 = omega arith in
+            record {
+              within = omega (arith, l);
+              left = fault ∙ (faulty-none _ (r + i + 1) _ (sym e ∙ z) ∙ rw d);
+            }
 
     pub effecting-end : (last i : ℕ) → Effecting last i → n ≤ i
         → Passed 0 ≡ headed 0 (check-effects of-check P 0 (r + 1) (w .effects))
@@ -213,19 +215,19 @@ module _ {R : List ℕ} {r n : ℕ} (w : ClassLines R r n) where
     pub collecting-index : ((r + (i - 1)) * 4 + 3 < length R) × (length R ≤ 240000)
     collecting-index = effects-index (w .lines) (i - 1) (omega (arith, l, p .within))
 
-    pub collecting-class : getD R ((r + (i - 1)) * 4 + 1) 0 ≤ 64
-    collecting-class = omega (arith, last .line .first, w .small (i - 1) (last .one) (last .is))
+    pub collecting-class : (c : ℕ) → c ≡ getD R ((r + (i - 1)) * 4 + 1) 0 → c ≤ 64
+    collecting-class c c-is = omega (arith, c-is, last .line .first, w .small (i - 1) (last .one) (last .is))
 
-    pub collecting-more : (b : ℕ) → b ≡ effect-of (getD R ((r + (i - 1)) * 4 + 1) 0)
+    pub collecting-more : (c : ℕ) → c ≡ getD R ((r + (i - 1)) * 4 + 1) 0 → (b : ℕ) → b ≡ effect-of c
         → Collecting (bitOr b s) (i - 1)
     unfolding effect-of-all join
-    collecting-more b e =
+    collecting-more c c-is b e =
         let q : i - 1 + 1 ≡ i = omega (arith, l) in
         let d : drop i (w .lines .effects) ≡ last .rest =
         ap (λ (j : ℕ). drop j (w .lines .effects)) (sym q) ∙ last .next in
         record {
           within = omega (arith, p .within);
-          so-far = ap₂ bitOr (e ∙ ap effect-of (last .line .first)) (p .so-far ∙ ap effect-of-all d)
+          so-far = ap₂ bitOr (e ∙ ap effect-of (c-is ∙ last .line .first)) (p .so-far ∙ ap effect-of-all d)
               ∙ ap effect-of-all (sym (last .here));
         }
 
@@ -263,21 +265,21 @@ module _ {R : List ℕ} {r n : ℕ} (w : ParameterLines R r n) where
     pub declaring-start : Declaring P 0
     declaring-start = let e : r + 0 + 1 ≡ r + 1 = omega arith in record { within = omega arith; left = rw e }
 
-    module _ (i : ℕ) (p : Declaring P i) (l : i < n) where
+    module _ (i : ℕ) (p : Declaring P i) (l : i < n) (t : ℕ) (t-is : t ≡ getD R ((r + i) * 4 + 1) 0) where
       one : check-parameters of-check P (r + 1) (w .types)
-          ≡ require (is-declared-type (world P) (type-of-number (getD R ((r + i) * 4 + 1) 0))) 4 (r + i + 1)
+          ≡ require (is-declared-type (world P) (type-of-number t)) 4 (r + i + 1)
           (λ _. check-parameters of-check P (r + i + 1 + 1) (drop (i + 1) (w .types)))
       unfolding check-parameters
-      one = let y = types-line i l in p .left ∙ rw (y .here, y .next, y .line .first, types-proper i l)
+      one = let y = types-line i l in p .left ∙ rw (y .here, y .next, t-is ∙ y .line .first, types-proper i l)
 
       pub declaring-refused : (b : Bool)
-          → b ≡ is-declared-type (world P) (type-of-number (getD R ((r + i) * 4 + 1) 0)) → b ≡ false
+          → b ≡ is-declared-type (world P) (type-of-number t) → b ≡ false
           → Refused 4 (r + i + 1) ≡ headed 0 (check-parameters of-check P (r + 1) (w .types))
       unfolding require
       declaring-refused b e z = refused-is 0 _ 4 (r + i + 1) (one ∙ rw (← e, z))
 
       pub declaring-step : (b : Bool)
-          → b ≡ is-declared-type (world P) (type-of-number (getD R ((r + i) * 4 + 1) 0)) → b ≡ true
+          → b ≡ is-declared-type (world P) (type-of-number t) → b ≡ true
           → Declaring P (i + 1)
       unfolding require
       declaring-step b e z = let d : r + (i + 1) + 1 ≡ r + i + 1 + 1 = omega arith in
@@ -310,7 +312,8 @@ module _ {R : List ℕ} {p q n : ℕ} (v : ParameterLines R p n) (w : ParameterL
   pub matching-start : Matching 0
   matching-start = record { within = omega arith; left = refl }
 
-  module _ (i : ℕ) (m : Matching i) (l : i < n) where
+  module _ (i : ℕ) (m : Matching i) (l : i < n) (s t : ℕ) (s-is : s ≡ getD R ((p + i) * 4 + 1) 0)
+      (t-is : t ≡ getD R ((q + i) * 4 + 1) 0) where
     pair : same-types (v .types) (w .types)
         ≡ same-type (types-line v i l .one) (types-line w i l .one) && same-types (drop (i + 1) (v .types))
         (drop (i + 1) (w .types))
@@ -318,18 +321,18 @@ module _ {R : List ℕ} {p q n : ℕ} (v : ParameterLines R p n) (w : ParameterL
     pair = let x = types-line v i l in let y = types-line w i l in m .left
         ∙ rw (x .here, x .next, y .here, y .next)
 
-    pub matching-other : (getD R ((p + i) * 4 + 1) 0 ≡ getD R ((q + i) * 4 + 1) 0 → ⊥)
+    pub matching-other : (s ≡ t → ⊥)
         → false ≡ same-types (v .types) (w .types)
     matching-other n = let x = types-line v i l in let y = types-line w i l in
         sym (pair ∙ rw (other-number (x .one) (y .one)
-        (λ e. n (x .line .first ∙ (e ∙ sym (y .line .first))))))
+        (λ e. n (s-is ∙ (x .line .first ∙ (e ∙ sym (t-is ∙ y .line .first)))))))
 
-    pub matching-step : getD R ((p + i) * 4 + 1) 0 ≡ getD R ((q + i) * 4 + 1) 0 → Matching (i + 1)
+    pub matching-step : s ≡ t → Matching (i + 1)
     matching-step e = let x = types-line v i l in let y = types-line w i l in
         record {
           within = omega (arith, l);
           left = pair ∙ rw (same-number (x .one) (y .one) (types-proper v i l) (types-proper w i l)
-              (sym (x .line .first) ∙ (e ∙ y .line .first)));
+              (sym (s-is ∙ x .line .first) ∙ (e ∙ (t-is ∙ y .line .first))));
         }
 
   pub matching-end : (i : ℕ) → Matching i → n ≤ i → true ≡ same-types (v .types) (w .types)

@@ -75,18 +75,20 @@ module _ {R M F : List ℕ} {r np nx n : ℕ} (w : OverrideReady R M F r np nx n
   tests = override-tests (w .method) (w .found) _ _ _ (w .over .result) (w .over .parameters)
       (w .over .effect)
 
-  pub override-result : (getD R (r * 4 + 1) 0 ≡ getD R (getD M (n * 4) 0 * 4 + 1) 0 → ⊥)
+  pub override-result : (t u : ℕ) → t ≡ getD R (r * 4 + 1) 0 → u ≡ getD R (getD M (n * 4) 0 * 4 + 1) 0
+      → (t ≡ u → ⊥)
       → false ≡ may-override (w .method) (some (w .found))
-  override-result o = sym (tests ∙ rw (other-number (w .method .result) (d .result)
-      (λ e. o (w .at .line .first ∙ (e ∙ sym (over-at .line .first))))))
+  override-result t u t-is u-is o = sym (tests ∙ rw (other-number (w .method .result) (d .result)
+      (λ e. o (t-is ∙ (w .at .line .first ∙ (e ∙ sym (u-is ∙ over-at .line .first)))))))
 
-  module _ (e : getD R (r * 4 + 1) 0 ≡ getD R (getD M (n * 4) 0 * 4 + 1) 0) where
+  module _ (t u : ℕ) (t-is : t ≡ getD R (r * 4 + 1) 0) (u-is : u ≡ getD R (getD M (n * 4) 0 * 4 + 1) 0)
+      (e : t ≡ u) where
     after-result : may-override (w .method) (some (w .found))
         ≡ same-types (w .method .parameters) (d .parameters) && lines-within (w .method .effects)
         (effect-of-all (d .effects))
     unfolding d
     after-result = tests ∙ rw (same-number (w .method .result) (d .result) (w .in-form .result .back)
-        (here .in-form .result .back) (sym (w .at .line .first) ∙ (e ∙ over-at .line .first)))
+        (here .in-form .result .back) (sym (t-is ∙ w .at .line .first) ∙ (e ∙ (u-is ∙ over-at .line .first))))
 
     count-is : getD M (n * 4 + 2) 0 ≡ length (d .parameters)
     unfolding d
@@ -164,33 +166,33 @@ module _ {R T M F : List ℕ} {r np nx k first count : ℕ} (v : MethodCounted R
     P : List Class
     P = w .program .classes
 
-    -- the entry of the method's name in the class
-    abbrev entry : ℕ
-    entry = getD T (k * 576 + 256 + getD R (r * 4 + 2) 0) 0
-
     abbrev fault : ℕ
     fault = fault-of-method (v .line .program .classes) (v .line .super) (v .line .before) (v .line .method)
 
-    entry-is : entry ≡ stored-place (own-or (w .own) (method-number P (w .super)) (w .method .name))
-    unfolding w P
-    entry-is = ap (λ (n : ℕ). getD T (k * 576 + 256 + n) 0) (w .at .line .second)
-        ∙ w .working .block .entries (w .method .name) (omega (arith, w .in-form .name))
-
-    type-is : type-of-number (getD R (r * 4 + 1) 0) ≡ w .method .result
+    type-is : (t : ℕ) → t ≡ getD R (r * 4 + 1) 0 → type-of-number t ≡ w .method .result
     unfolding w
-    type-is = ap type-of-number (w .at .line .first) ∙ w .in-form .result .back
+    type-is t t-is = ap type-of-number (t-is ∙ w .at .line .first) ∙ w .in-form .result .back
 
-    pub method-undeclared : is-declared-type (world (v .line .program .classes))
-        (type-of-number (getD R (r * 4 + 1) 0)) ≡ false → 4 ≡ fault
+    pub method-undeclared : (t : ℕ) → t ≡ getD R (r * 4 + 1) 0
+        → is-declared-type (world (v .line .program .classes)) (type-of-number t) ≡ false → 4 ≡ fault
     unfolding fault-of-method w
-    method-undeclared b = let b′ = rw type-is at b in sym (rw b′)
+    method-undeclared t t-is b = let b′ = rw (type-is t t-is) at b in sym (rw b′)
 
-    module _ (b : is-declared-type (world (v .line .program .classes)) (type-of-number (getD R (r * 4 + 1) 0))
-        ≡ true) where
+    module _ (t name : ℕ) (t-is : t ≡ getD R (r * 4 + 1) 0) (name-is : name ≡ getD R (r * 4 + 2) 0)
+        (b : is-declared-type (world (v .line .program .classes)) (type-of-number t) ≡ true) where
+      -- the entry of the method's name in the class
+      abbrev entry : ℕ
+      entry = getD T (k * 576 + 256 + name) 0
+
+      entry-is : entry ≡ stored-place (own-or (w .own) (method-number P (w .super)) (w .method .name))
+      unfolding w P
+      entry-is = ap (λ (n : ℕ). getD T (k * 576 + 256 + n) 0) (name-is ∙ w .at .line .second)
+          ∙ w .working .block .entries (w .method .name) (omega (arith, w .in-form .name))
+
       on : fault ≡ cond (is-some (w .own (w .method .name))) 4
           (cond (may-override (w .method) (world P .method (w .super) (w .method .name))) 0 6)
       unfolding fault-of-method w P
-      on = let b′ = rw type-is at b in rw (b′, w .names (w .method .name))
+      on = let b′ = rw (type-is t t-is) at b in rw (b′, w .names (w .method .name))
 
       -- one of this class, none, or an inherited one
       cases : {A : Type 0} (o : Option ℕ) → w .own (w .method .name) ≡ o → (q : Option ℕ)

@@ -73,17 +73,21 @@ module _ {R E T M F : List ℕ} {k r first count : ℕ} (w : ClassReady R E T M 
       check-methods of-check P′ (w .one .super) [] (r + 1 + 1 + length (w .one .fields)) (w .one .methods))
   fault-is = class-is P′ k (r + 1) (w .one)
 
-  pub class-late : k ≤ getD R (r * 4 + 2) 0
+  pub class-late : (over : ℕ) → over ≡ getD R (r * 4 + 2) 0 → k ≤ over
       → Refused 4 (r + 1) ≡ headed own (check-class of-check (w .program .classes) k (r + 1) (w .one))
   unfolding fault-of-class
-  class-late l = refused-is own _ 4 (r + 1) (fault-is ∙ rw
-      (le-ltb (w .one .super) k (omega (arith, l, at .line .second))))
+  class-late over over-is l = refused-is own _ 4 (r + 1) (fault-is ∙ rw
+      (le-ltb (w .one .super) k (omega (arith, l, over-is, at .line .second))))
 
-  module _ (l : getD R (r * 4 + 2) 0 < k) where
+  module _ (kind over : ℕ) (kind-is : kind ≡ getD R (r * 4 + 1) 0) (over-is : over ≡ getD R (r * 4 + 2) 0)
+      (l : over < k) where
+    pub super-is : over ≡ w .one .super
+    super-is = over-is ∙ at .line .second
+
     earlier : w .one .super < k
-    earlier = omega (arith, l, at .line .second)
+    earlier = omega (arith, l, super-is)
 
-    pub super-index : getD R (r * 4 + 2) 0 * 576 + 575 < length T
+    pub super-index : over * 576 + 575 < length T
     super-index = omega (arith, l, within, w .lookups .long)
 
     kind-of-super : (o : ℕ) → o ≡ w .one .super
@@ -95,16 +99,16 @@ module _ {R E T M F : List ℕ} {k r first count : ℕ} (w : ClassReady R E T M 
         rw (z, w .lookups .object, at-object P′ (w .one .super) e) (sym (extend-object (w .one .kind))))
         (λ c e. rw (q, w .lookups .kinds (w .one .super) c e, w .lookups .proper (w .one .super) c e, e))
 
-    extends-is : may-extend (kind-of-number (getD R (r * 4 + 1) 0))
-        (some (kind-of-number (getD T (getD R (r * 4 + 2) 0 * 576 + 512) 0)))
+    extends-is : may-extend (kind-of-number kind)
+        (some (kind-of-number (getD T (over * 576 + 512) 0)))
         ≡ may-extend (w .one .kind) (kind-at P′ (w .one .super))
     extends-is = ap (λ (j : Kind). may-extend j
-        (some (kind-of-number (getD T (getD R (r * 4 + 2) 0 * 576 + 512) 0))))
-        (ap kind-of-number (at .line .first) ∙ formed .kind-back)
-        ∙ kind-of-super (getD R (r * 4 + 2) 0) (at .line .second)
+        (some (kind-of-number (getD T (over * 576 + 512) 0))))
+        (ap kind-of-number (kind-is ∙ at .line .first) ∙ formed .kind-back)
+        ∙ kind-of-super over super-is
 
-    module _ (b : Bool) (e : b ≡ may-extend (kind-of-number (getD R (r * 4 + 1) 0))
-        (some (kind-of-number (getD T (getD R (r * 4 + 2) 0 * 576 + 512) 0)))) where
+    module _ (b : Bool) (e : b ≡ may-extend (kind-of-number kind)
+        (some (kind-of-number (getD T (over * 576 + 512) 0)))) where
       fault-kind : fault-of-class P′ k (w .one) ≡ cond b 0 5
       unfolding fault-of-class
       fault-kind = rw (lt-ltb (w .one .super) k earlier, ← extends-is, ← e)
@@ -113,24 +117,24 @@ module _ {R E T M F : List ℕ} {k r first count : ℕ} (w : ClassReady R E T M 
           → Refused 5 (r + 1) ≡ headed own (check-class of-check (w .program .classes) k (r + 1) (w .one))
       class-kind z = refused-is own _ 5 (r + 1) (fault-is ∙ rw (fault-kind, z))
 
-      abbrev pub start-ready : StartReady T k (getD R (r * 4 + 2) 0) (getD R (r * 4 + 1) 0)
+      abbrev pub start-ready : StartReady T k over kind
       start-ready = record {
         P = w .program .classes;
         lookups = w .lookups;
         one = w .one;
         is = w .is;
-        over-is = at .line .second;
+        over-is = super-is;
         earlier = l;
-        kind-is = at .line .first;
+        kind-is = kind-is ∙ at .line .first;
       }
 
       pub class-fields-here : (n : ℕ) × Run R 70 (r + 1) n
       class-fields-here = class-fields class-of
 
       module _ (z : b ≡ true) (T₁ : List ℕ)
-          (s : (v : StartReady T k (getD R (r * 4 + 2) 0) (getD R (r * 4 + 1) 0))
-          → Working (v .P) k T₁ (world (v .P) .fields (getD R (r * 4 + 2) 0))
-          (field-rows (v .P) (getD R (r * 4 + 2) 0)) (method-number (v .P) (getD R (r * 4 + 2) 0)))
+          (s : (v : StartReady T k over kind)
+          → Working (v .P) k T₁ (world (v .P) .fields over)
+          (field-rows (v .P) over) (method-number (v .P) over))
           (n : ℕ) (f : Run R 70 (r + 1) n) where
         pub n-is : n ≡ length (w .one .fields)
         n-is = fields-count class-of n f
@@ -139,9 +143,9 @@ module _ {R E T M F : List ℕ} {k r first count : ℕ} (w : ClassReady R E T M 
         fields-ready = record {
           P = w .program .classes;
           k = k;
-          fields = world (w .program .classes) .fields (getD R (r * 4 + 2) 0);
-          rows = field-rows (w .program .classes) (getD R (r * 4 + 2) 0);
-          methods = method-number (w .program .classes) (getD R (r * 4 + 2) 0);
+          fields = world (w .program .classes) .fields over;
+          rows = field-rows (w .program .classes) over;
+          methods = method-number (w .program .classes) over;
           working = s start-ready;
           own = w .one .fields;
           here = at .fields;
@@ -156,15 +160,15 @@ module _ {R E T M F : List ℕ} {k r first count : ℕ} (w : ClassReady R E T M 
         methods-here = omega (arith, f .inside)
 
         on : check-class of-check P′ k (r + 1) (w .one)
-            ≡ bind-checked (check-fields of-check P′ (world P′ .fields (getD R (r * 4 + 2) 0)) (r + 1 + 1)
+            ≡ bind-checked (check-fields of-check P′ (world P′ .fields over) (r + 1 + 1)
             (w .one .fields)) (λ _.
-            check-methods of-check P′ (getD R (r * 4 + 2) 0) [] (r + 1 + 1 + length (w .one .fields))
+            check-methods of-check P′ over [] (r + 1 + 1 + length (w .one .fields))
             (w .one .methods))
         on = fault-is ∙ (faulty-none _ (r + 1) _ (fault-kind ∙ rw z)
             ∙ ap (λ (o : ℕ). bind-checked (check-fields of-check P′ (world P′ .fields o) (r + 1 + 1)
             (w .one .fields)) (λ _.
             check-methods of-check P′ o [] (r + 1 + 1 + length (w .one .fields)) (w .one .methods)))
-            (sym (at .line .second)))
+            (sym super-is))
 
         module _ (a : Headed) (T₂ : List ℕ) (g : (v : FieldsReady R T₁ (r + 1) n (k * 576) count)
             → (a ≡ headed 0 (check-fields of-check (v .P) (v .fields) (r + 1 + 1) (v .own)))
@@ -177,21 +181,21 @@ module _ {R E T M F : List ℕ} {k r first count : ℕ} (w : ClassReady R E T M 
               (on ∙ bind-refused _ _ m q (is-refused 0 _ m q (sym e ∙ g fields-ready .0)))
 
           module _ (o : ℕ) (d : a ≡ Passed o) where
-            pub inherited : (m q : ℕ) → method-number (w .program .classes) (getD R (r * 4 + 2) 0) m ≡ some q
+            pub inherited : (m q : ℕ) → method-number (w .program .classes) over m ≡ some q
                 → q < first
             inherited m q e = omega (
               arith,
               w .first-is,
-              inherited-number P′ k (w .lookups .earlier) (getD R (r * 4 + 2) 0) m q e l,
+              inherited-number P′ k (w .lookups .earlier) over m q e l,
             )
 
             abbrev pub methods-ready : MethodsReady R E T₂ M F (r + 1 + n) k first count
             methods-ready = record {
               program = w .program;
               standing = w .standing;
-              super = getD R (r * 4 + 2) 0;
-              fields = world (w .program .classes) .fields (getD R (r * 4 + 2) 0) ++ w .one .fields;
-              rows = field-rows (w .program .classes) (getD R (r * 4 + 2) 0)
+              super = over;
+              fields = world (w .program .classes) .fields over ++ w .one .fields;
+              rows = field-rows (w .program .classes) over
                   ++ rows-from (r + 1) (w .one .fields);
               working = g fields-ready .1 o d;
               inherited = inherited;
@@ -216,31 +220,31 @@ module _ {R E T M F : List ℕ} {k r first count : ℕ} (w : ClassReady R E T M 
               class-answer =
                   let q : r + 1 + n + 1 ≡ r + 1 + 1 + length (w .one .fields) = omega (arith, n-is) in
                   i methods-ready .0 ∙ ap (headed own) (ap (λ (at : ℕ). check-methods of-check P′
-                  (getD R (r * 4 + 2) 0) [] at (w .one .methods)) q
+                  over [] at (w .one .methods)) q
                   ∙ sym (on ∙ bind-passed _ _ (is-passed 0 _ o (sym d ∙ g fields-ready .0))))
 
               numbers-is : (m : ℕ) → own-or (own-number first (w .one .methods))
-                  (method-number P′ (getD R (r * 4 + 2) 0)) m ≡ method-number P′ k m
+                  (method-number P′ over) m ≡ method-number P′ k m
               numbers-is m = sym (method-number-of P′ k (w .lookups .earlier) k (w .one) (w .is) earlier
                   (omega arith) m
                   ∙ (ap (λ (x : ℕ). own-or (own-number x (w .one .methods)) (method-number P′ (w .one .super))
                   m)
                   (sym (w .first-is))
                   ∙ ap (λ (x : ℕ). own-or (own-number first (w .one .methods)) (method-number P′ x) m)
-                  (sym (at .line .second))))
+                  (sym super-is)))
 
               pub class-done : (m : ℕ) → h ≡ Passed m → Lookups (w .program .classes) (k + 1) T₃
                   × Numbered (w .program .classes) M₃ F₃ (first + length (w .one .methods))
               class-done m p =
                   let c = w .one in
-                  let e = sym (at .line .second) in
+                  let e = sym super-is in
                   let y = i methods-ready .1 m p in (
                     lookups-next (y .0) c (w .is) earlier
                         (sym (fields-of P′ k (w .lookups .earlier) k c (w .is) earlier (omega arith)
                         ∙ ap (λ (o : ℕ). world P′ .fields o ++ c .fields) e))
                         (sym (field-rows-of P′ k (w .lookups .earlier) k c (w .is) earlier (omega arith)
                         ∙ (ap (λ (o : ℕ). field-rows P′ o ++ rows-from (class-row P′ k + 1) (c .fields)) e
-                        ∙ ap (λ (s : ℕ). field-rows P′ (getD R (r * 4 + 2) 0) ++ rows-from (s + 1)
+                        ∙ ap (λ (s : ℕ). field-rows P′ over ++ rows-from (s + 1)
                         (c .fields))
                         (sym (w .row-is)))))
                         numbers-is,

@@ -93,14 +93,11 @@ module _ {R E T₀ : List ℕ} (w : ReadReady R E T₀) where
         omega (arith, c .second, class-formed reading-here .super),
       )
 
-      pub reading-step : (T′ : List ℕ)
-          → T′ ≡ set (set T ((k + 1) * 576 + 512) (getD R (r * 4 + 1) 0)) ((k + 1) * 576 + 513)
-          (getD R (r * 4 + 2) 0)
+      pub reading-step : (a b : ℕ) → a ≡ getD R (r * 4 + 1) 0 → b ≡ getD R (r * 4 + 2) 0 → (T′ : List ℕ)
+          → T′ ≡ set (set T ((k + 1) * 576 + 512) a) ((k + 1) * 576 + 513) b
           → (n : ℕ) → ((v : ClassHere R E r) → n ≡ r + class-lines (v .one)) → Reading T′ (k + 1) n
-      reading-step T′ e n f =
+      reading-step a b a-is b-is T′ e n f =
           let x = (k + 1) * 576 in
-          let a = getD R (r * 4 + 1) 0 in
-          let b = getD R (r * 4 + 2) 0 in
           let T₁ = set T (x + 512) a in
           let line = class-lines-at reading-here .line in
           let q : n ≡ r + class-lines (next .0) = f reading-here in
@@ -128,7 +125,7 @@ module _ {R E T₀ : List ℕ} (w : ReadReady R E T₀) where
                 (λ s. let z : next .0 ≡ c =
                 inj (sym (next .1) ∙ (ap (class-at (w .program .classes)) (sym s) ∙ d)) in
                 ap (λ (j : ℕ). getD T′ (j * 576 + 512) 0) s
-                ∙ (u ∙ (line .first ∙ ap (λ (c : Class). kind-number (c .kind)) z)))
+                ∙ (u ∙ (a-is ∙ (line .first ∙ ap (λ (c : Class). kind-number (c .kind)) z))))
                 (less-or-same j (k + 1) h);
             supers = λ j c h d. ⊎-elim
                 (λ s. o (j * 576 + 513) (λ y. omega (arith, y, s)) (λ y. omega (arith, y, s))
@@ -136,7 +133,7 @@ module _ {R E T₀ : List ℕ} (w : ReadReady R E T₀) where
                 (λ s. let z : next .0 ≡ c =
                 inj (sym (next .1) ∙ (ap (class-at (w .program .classes)) (sym s) ∙ d)) in
                 ap (λ (j : ℕ). getD T′ (j * 576 + 513) 0) s
-                ∙ (v ∙ (line .second ∙ ap (λ (c : Class). c .super) z)))
+                ∙ (v ∙ (b-is ∙ (line .second ∙ ap (λ (c : Class). c .super) z))))
                 (less-or-same j (k + 1) h);
           }
 

@@ -89,8 +89,10 @@ module _ {T : List ℕ} {t : ℕ} (w : StateReady T t) where
   pub state-index : (t ≡ 255 → ⊥) → t * 576 + 575 < length T
   state-index n = kind-index (w .lookups) t (state-class n)
 
-  pub state-is : (t ≡ 255 → ⊥) → eqb (getD T (t * 576 + 512) 0) 2 ≡ is-state-type (w .P) (type-of-number t)
-  state-is n = state-entry (w .lookups) t (state-class n) ∙ ap (is-state-type (w .P)) (sym (class-type t n))
+  pub state-is : (t ≡ 255 → ⊥) → (k : ℕ) → k ≡ getD T (t * 576 + 512) 0
+      → eqb k 2 ≡ is-state-type (w .P) (type-of-number t)
+  state-is n k k-is = rw k-is
+      (state-entry (w .lookups) t (state-class n) ∙ ap (is-state-type (w .P)) (sym (class-type t n)))
 
 module _ {T : List ℕ} {count : ℕ} (w : EffectReady T count) (c last : ℕ) where
   pub effect-undeclared : count < c → 4 ≡ fault-of-effect (w .P) last c
@@ -110,14 +112,15 @@ module _ {T : List ℕ} {count : ℕ} (w : EffectReady T count) (c last : ℕ) w
           (omega (arith, l, w .count-is)),
     )
 
-    pub effect-no-root : (getD T (c * 576 + 512) 0 ≡ 1 → ⊥) → 5 ≡ fault-of-effect (w .P) last c
-    effect-no-root n = sym (declared-effect ∙ rw (ne-eqb (getD T (c * 576 + 512) 0) 1 n))
+    module _ (k : ℕ) (k-is : k ≡ getD T (c * 576 + 512) 0) where
+      pub effect-no-root : (k ≡ 1 → ⊥) → 5 ≡ fault-of-effect (w .P) last c
+      effect-no-root n = sym (declared-effect ∙ rw (← k-is, ne-eqb k 1 n))
 
-    pub effect-order : getD T (c * 576 + 512) 0 ≡ 1 → c ≤ last → 5 ≡ fault-of-effect (w .P) last c
-    effect-order e h = sym (declared-effect ∙ rw (eq-eqb (getD T (c * 576 + 512) 0) 1 e, le-ltb last c h))
+      pub effect-order : k ≡ 1 → c ≤ last → 5 ≡ fault-of-effect (w .P) last c
+      effect-order e h = sym (declared-effect ∙ rw (← k-is, eq-eqb k 1 e, le-ltb last c h))
 
-    pub effect-fine : getD T (c * 576 + 512) 0 ≡ 1 → last < c → 0 ≡ fault-of-effect (w .P) last c
-    effect-fine e h = sym (declared-effect ∙ rw (eq-eqb (getD T (c * 576 + 512) 0) 1 e, lt-ltb last c h))
+      pub effect-fine : k ≡ 1 → last < c → 0 ≡ fault-of-effect (w .P) last c
+      effect-fine e h = sym (declared-effect ∙ rw (← k-is, eq-eqb k 1 e, lt-ltb last c h))
 
 -- which kind may extend which, by their numbers
 

@@ -173,28 +173,29 @@ module _ {R E T₀ A₀ M₀ F₀ : List ℕ} {count : ℕ} (w : ClassesReady R 
             w .standing .short,
           )
 
-          pub super-earlier : getD R (r * 4 + 2) 0 < k
-          super-earlier = omega (
+          pub super-earlier : (over : ℕ) → over ≡ getD R (r * 4 + 2) 0 → over < k
+          super-earlier over over-is = omega (
             arith,
+            over-is,
             f going-ready .1 n d .0 .earlier k (one .0) (omega arith) this,
             line .second,
           )
 
-          above-is : (b : ℕ) → b ≡ effect-of k
-              → bitOr b (getD A (getD R (r * 4 + 2) 0) 0) ≡ above (w .program .classes) k
+          above-is : (over : ℕ) → over ≡ getD R (r * 4 + 2) 0 → (b : ℕ) → b ≡ effect-of k
+              → bitOr b (getD A over 0) ≡ above (w .program .classes) k
           unfolding join
-          above-is b e =
-              let s = line .second in
+          above-is over over-is b e =
+              let s = over-is ∙ line .second in
               let c = one .0 in
-              let h : c .super < k = omega (arith, super-earlier, s) in
-              rw (e, p .aboves (getD R (r * 4 + 2) 0) super-earlier, s)
+              let h : c .super < k = omega (arith, super-earlier over over-is, s) in
+              rw (e, p .aboves over (super-earlier over over-is), s)
               (sym (above-of (w .program .classes) k (p .lookups .earlier) k c this h (omega arith)))
 
-          pub going-step : (b : ℕ) → b ≡ effect-of k → (row : ℕ)
+          pub going-step : (over : ℕ) → over ≡ getD R (r * 4 + 2) 0 → (b : ℕ) → b ≡ effect-of k → (row : ℕ)
               → ((v : ClassHere R E r) → row ≡ r + class-lines (v .one))
-              → Going T′ (set A k (bitOr b (getD A (getD R (r * 4 + 2) 0) 0))) M′ F′ (k + 1) row (next + n)
-          going-step b e row g =
-              let x = bitOr b (getD A (getD R (r * 4 + 2) 0) 0) in
+              → Going T′ (set A k (bitOr b (getD A over 0))) M′ F′ (k + 1) row (next + n)
+          going-step over over-is b e row g =
+              let x = bitOr b (getD A over 0) in
               let q : row ≡ r + class-lines (one .0) = g going-here in
               let s : k + 1 ≡ suc k = omega arith in
               let t : r + class-lines (one .0) + 1 ≡ r + 1 + class-lines (one .0) = omega arith in
@@ -213,7 +214,7 @@ module _ {R E T₀ A₀ M₀ F₀ : List ℕ} {count : ℕ} (w : ClassesReady R 
                     (λ y. getD-set-other A k j x 0 (λ z. omega (arith, z, y)) ∙ p .aboves j y)
                     (λ y. ap (λ (j : ℕ). getD (set A k x) j 0) y
                     ∙ (getD-set-same A k x 0 (going-index .2)
-                    ∙ (above-is b e ∙ ap (above (w .program .classes)) (sym y))))
+                    ∙ (above-is over over-is b e ∙ ap (above (w .program .classes)) (sym y))))
                     (less-or-same j k (omega (arith, h)));
                 long-above = length-set A k x ∙ p .long-above;
               }
@@ -258,9 +259,15 @@ module _ {R E T A M F : List ℕ} (w : HeadingsReady R E T A M F) where
       (λ q. omega (arith, q, methods-few (w .standing), w .standing .all, w .standing .short))
       (w .long-effects)
 
+  methods-long : length (placed-methods (w .program .classes)) * 4 ≤ length M
+  methods-long = ⊎-elim
+      (λ q. omega (arith, q, methods-few (w .standing), w .standing .all))
+      (λ q. omega (arith, q, methods-few (w .standing), w .standing .all, w .standing .short))
+      (w .long-methods)
+
   pub none-entered : Numbered (w .program .classes) M F 0
   none-entered = record {
-    long = omega (arith, effects-long, w .long-methods);
+    long = methods-long;
     long-effects = effects-long;
     rows = λ i x l e. absurd (omega (arith, l));
     owners = λ i x l e. absurd (omega (arith, l));

@@ -36,13 +36,6 @@ pub record Cleared (T T′ : List ℕ) (n : ℕ) : Type 0 where
   pub long : length T′ ≡ length T
   pub zero : (i : ℕ) → i < n → getD T′ i 0 ≡ 0
 
--- Row r is the M line of a method in form.
-pub record MethodHere (R E : List ℕ) (r : ℕ) : Type 0 where
-  pub method : Declaration
-  pub at : MethodAt R E method r
-  pub in-form : MethodInForm of-check method
-  pub short : length R ≤ numbers-a-row * of-check .rows
-
 -- Row r is the C line of class k of a program that stands in the rows.
 pub record ClassHere (R E : List ℕ) (r : ℕ) : Type 0 where
   pub program : Program
@@ -247,5 +240,5 @@ pub record HeadingsReady (R E T A M F : List ℕ) : Type 0 where
   pub standing : ProgramAt R E program
   pub long : (length (program .classes) + 1) * class-width ≤ length T
   pub long-above : length (program .classes) + 1 ≤ length A
-  pub long-methods : length F * method-width ≤ length M
+  pub long-methods : (length R * method-width ≤ numbers-a-method * length M) ⊎ (most-methods * method-width ≤ length M)
   pub long-effects : (length R ≤ numbers-a-method * length F) ⊎ (most-methods ≤ length F)

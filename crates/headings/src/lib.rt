@@ -22,6 +22,10 @@ use language::PARAMETERS_PLACE;
 use language::ROOT_PLACE;
 use language::ROWS_PLACE;
 use language::SUPER_PLACE;
+use language::class_entry;
+use language::first;
+use language::letter_at;
+use language::second;
 ghost use mathlib.Core.Path.{_≡_};
 ghost use mathlib.Core.Bool.{true};
 ghost use mathlib.Core.Option.{some};
@@ -29,7 +33,7 @@ ghost use mathlib.Core.List.{List, [], _∷_, _++_};
 ghost use Prim.Native.Nat.{ℕ, _+_, _*_, _≤_, _<_};
 ghost use lib.ListN.{length};
 ghost use Rattle.language.specs.Limits.{of-check};
-ghost use Rattle.language.specs.Tree.{type-of-number, kind-of-number, method-lines, class-lines, Class};
+ghost use Rattle.language.specs.Tree.{type-of-number, kind-of-number, class-lines, Class};
 ghost use Rattle.language.specs.World.{is-declared-type};
 ghost use Rattle.language.specs.Program.{world, is-state-type};
 ghost use Rattle.language.specs.Effects.{effect-of-all};
@@ -38,13 +42,12 @@ ghost use Rattle.language.specs.MethodTables.{placed-methods, MethodTables};
 ghost use Rattle.language.specs.Headings.{may-extend, may-override, same-types, lines-within, check-fields};
 ghost use Rattle.language.specs.Headings.{check-parameters, check-effects, check-methods, check-class};
 ghost use Rattle.language.specs.Headings.{headings};
-ghost use Rattle.language.specs.Layout.{Run};
 ghost use Rattle.headings.specs.Answers.{headed};
 ghost use Rattle.headings.specs.Blocks.{Lookups, Working};
 ghost use Rattle.headings.specs.Faults.{fault-of-field, fault-of-method, fault-of-effect};
 ghost use Rattle.headings.specs.Faults.{check-heading};
 ghost use Rattle.headings.specs.Numbers.{Numbered, own-or, own-number, with-number};
-ghost use Rattle.headings.specs.Ready.{Copied, Cleared, MethodHere, ClassHere, ReadReady, StateReady};
+ghost use Rattle.headings.specs.Ready.{Copied, Cleared, ClassHere, ReadReady, StateReady};
 ghost use Rattle.headings.specs.Ready.{FieldReady, EnterReady, FieldsReady, EffectLines, ClassLines};
 ghost use Rattle.headings.specs.Ready.{ParameterLines, OverrideReady, EffectReady, EffectsReady};
 ghost use Rattle.headings.specs.Ready.{NumberReady, MethodReady, MethodCounted, MethodsReady};
@@ -59,39 +62,16 @@ pub enum Headed {
     Refused(u32, u32),
 }
 
-// How many rows from one on have a letter.
-fn count_rows(rows: &[u32], r: usize, letter: u32) -> usize
-    requires { ⌜ ((n : ℕ) × Run (now rows) letter r n) ⌝ }
-    ensures { λ n. ⌜ Run (now (rows .entry)) letter r n ⌝ }
-{
-    let mut i = 0;
-    while rows[(r + i) * 4] == letter {
-        i += 1;
-    }
-    i
-}
-
-// The row after a method's body.
-fn skip_method(rows: &[u32], ends: &[u16], r: usize) -> usize
-    requires { ⌜ MethodHere (now rows) (now ends) r ⌝ }
-    ensures { λ n. ⌜ ((w : MethodHere (now (rows .entry)) (now (ends .entry)) r) → n ≡ r + method-lines
-        (w .method)) ⌝ }
-{
-    let p = count_rows(rows, r + 1, PARAMETER);
-    let x = count_rows(rows, r + 1 + p, EFFECT);
-    ends[r + 1 + p + x] as usize
-}
-
 // The row after a class.
 fn skip_class(rows: &[u32], ends: &[u16], r: usize) -> usize
     requires { ⌜ ClassHere (now rows) (now ends) r ⌝ }
     ensures { λ n. ⌜ ((w : ClassHere (now (rows .entry)) (now (ends .entry)) r) → n ≡ r + class-lines
         (w .one)) ⌝ }
 {
-    let n = count_rows(rows, r + 1, FIELD);
+    let n = layout::count_rows(rows, r + 1, FIELD);
     let mut at = r + 1 + n;
-    while rows[at * 4] == METHOD {
-        at = skip_method(rows, ends, at);
+    while letter_at(rows, at) == METHOD {
+        at = layout::skip_method(rows, ends, at);
     }
     at
 }
@@ -104,10 +84,10 @@ fn read_classes(rows: &[u32], ends: &[u16], tables: &mut [u16]) -> usize
 {
     let mut k = 0;
     let mut r = 0;
-    while rows[r * 4] == CLASS {
+    while letter_at(rows, r) == CLASS {
         k += 1;
-        tables[k * CLASS_WIDTH + KIND_PLACE] = rows[r * 4 + 1] as u16;
-        tables[k * CLASS_WIDTH + SUPER_PLACE] = rows[r * 4 + 2] as u16;
+        tables[k * CLASS_WIDTH + KIND_PLACE] = first(rows, r) as u16;
+        tables[k * CLASS_WIDTH + SUPER_PLACE] = second(rows, r) as u16;
         r = skip_class(rows, ends, r);
     }
     k
@@ -157,7 +137,7 @@ fn is_state(tables: &[u16], t: u32) -> bool
     if t == BOOL {
         return false;
     }
-    tables[t as usize * CLASS_WIDTH + KIND_PLACE] == 2
+    class_entry(tables, t, KIND_PLACE) == 2
 }
 
 // The first fault of an F line, or 0.
@@ -169,11 +149,11 @@ fn field_fault(rows: &[u32], tables: &[u16], r: usize, base: usize, count: usize
     if MOST_FIELDS <= tables[base + COUNT_PLACE] {
         return LIMIT_REFUSAL;
     }
-    let t = rows[r * 4 + 1];
+    let t = first(rows, r);
     if !is_declared(t, count) {
         return NAME_REFUSAL;
     }
-    let name = rows[r * 4 + 2] as usize;
+    let name = second(rows, r) as usize;
     if tables[base + name] != 0 {
         return NAME_REFUSAL;
     }
@@ -189,7 +169,7 @@ fn enter_field(rows: &[u32], tables: &mut [u16], r: usize, base: usize)
     ensures { λ _. ⌜ ((w : EnterReady (now (rows .entry)) (now (tables .entry)) r base) → Working (w .P)
         (w .k) (now (tables .exit)) (w .fields ++ (w .field ∷ [])) (w .rows ++ (r ∷ [])) (w .methods)) ⌝ }
 {
-    let name = rows[r * 4 + 2] as usize;
+    let name = second(rows, r) as usize;
     let n = tables[base + COUNT_PLACE];
     tables[base + name] = n + 1;
     tables[base + ROWS_PLACE + n as usize] = r as u16;
@@ -233,7 +213,7 @@ fn effect_set(rows: &[u32], r: usize, n: usize) -> u64
     let mut i = n;
     while 0 < i {
         i -= 1;
-        set = classes::effect_of(rows[(r + i) * 4 + 1]) | set;
+        set = classes::effect_of(first(rows, r + i)) | set;
     }
     set
 }
@@ -245,7 +225,7 @@ fn lines_within(rows: &[u32], r: usize, n: usize, set: u64) -> bool
 {
     let mut i = 0;
     while i < n {
-        let c = rows[(r + i) * 4 + 1];
+        let c = first(rows, r + i);
         if c == 0 {
             return false;
         }
@@ -268,7 +248,7 @@ fn same_types(rows: &[u32], p: usize, q: usize, n: usize) -> bool
 {
     let mut i = 0;
     while i < n {
-        if rows[(p + i) * 4 + 1] != rows[(q + i) * 4 + 1] {
+        if first(rows, p + i) != first(rows, q + i) {
             return false;
         }
         i += 1;
@@ -291,7 +271,7 @@ fn may_override(
         np nx n) → b ≡ may-override (w .method) (some (w .found))) ⌝ }
 {
     let over = methods[n * METHOD_WIDTH] as usize;
-    if rows[r * 4 + 1] != rows[over * 4 + 1] {
+    if first(rows, r) != first(rows, over) {
         return false;
     }
     if methods[n * METHOD_WIDTH + PARAMETERS_PLACE] as usize != np {
@@ -322,10 +302,10 @@ fn method_fault(
         → n ≡ fault-of-method (w .line .program .classes) (w .line .super) (w .line .before)
         (w .line .method)) ⌝ }
 {
-    if !is_declared(rows[r * 4 + 1], count) {
+    if !is_declared(language::first(rows, r), count) {
         return NAME_REFUSAL;
     }
-    let name = rows[r * 4 + 2] as usize;
+    let name = second(rows, r) as usize;
     let entry = tables[k * CLASS_WIDTH + METHODS_FROM + name] as usize;
     if first < entry {
         return NAME_REFUSAL; // declared in this class before
@@ -347,7 +327,7 @@ fn check_parameters(rows: &[u32], r: usize, n: usize, count: usize) -> Headed
 {
     let mut i = 0;
     while i < n {
-        if !is_declared(rows[(r + i) * 4 + 1], count) {
+        if !is_declared(first(rows, r + i), count) {
             return Headed::Refused(NAME_REFUSAL, (r + i + 1) as u32);
         }
         i += 1;
@@ -363,7 +343,7 @@ fn effect_fault(tables: &[u16], c: u32, last: u32, count: usize) -> u32
     if count < c as usize {
         return NAME_REFUSAL;
     }
-    if tables[c as usize * CLASS_WIDTH + KIND_PLACE] != 1 {
+    if class_entry(tables, c, KIND_PLACE) != 1 {
         return KIND_REFUSAL;
     }
     if c <= last {
@@ -381,7 +361,7 @@ fn check_effects(rows: &[u32], tables: &[u16], r: usize, n: usize, count: usize)
     let mut last: u32 = 0;
     let mut i = 0;
     while i < n {
-        let c = rows[(r + i) * 4 + 1];
+        let c = first(rows, r + i);
         let fault = effect_fault(tables, c, last, count);
         if fault != 0 {
             return Headed::Refused(fault, (r + i + 1) as u32);
@@ -439,8 +419,8 @@ fn check_method(
         (method-number (w .line .program .classes) (w .line .super))))
         × Numbered (w .line .program .classes) (now (methods .exit)) (now (effects .exit)) (next + 1))) ⌝ }
 {
-    let np = count_rows(rows, r + 1, PARAMETER);
-    let nx = count_rows(rows, r + 1 + np, EFFECT);
+    let np = layout::count_rows(rows, r + 1, PARAMETER);
+    let nx = layout::count_rows(rows, r + 1 + np, EFFECT);
     let fault = method_fault(rows, tables, methods, effects, r, np, nx, k, first, count);
     if fault != 0 {
         return Headed::Refused(fault, (r + 1) as u32);
@@ -453,7 +433,7 @@ fn check_method(
     let Headed::Passed(_) = x else {
         return x;
     };
-    let name = rows[r * 4 + 2] as usize;
+    let name = second(rows, r) as usize;
     tables[k * CLASS_WIDTH + METHODS_FROM + name] = (next + 1) as u16;
     enter_method(rows, methods, effects, r, np, nx, k, next);
     Headed::Passed(1)
@@ -485,12 +465,12 @@ fn check_methods(
 {
     let mut at = r;
     let mut next = first;
-    while rows[at * 4] == METHOD {
+    while letter_at(rows, at) == METHOD {
         let m = check_method(rows, tables, methods, effects, at, k, first, next, count);
         let Headed::Passed(_) = m else {
             return m;
         };
-        at = skip_method(rows, ends, at);
+        at = layout::skip_method(rows, ends, at);
         next += 1;
     }
     Headed::Passed((next - first) as u32)
@@ -549,8 +529,8 @@ fn check_class(
         × Numbered (w .program .classes) (now (methods .exit)) (now (effects .exit))
         (first + length (w .one .methods)))) ⌝ }
 {
-    let kind = rows[r * 4 + 1];
-    let over = rows[r * 4 + 2] as usize;
+    let kind = language::first(rows, r);
+    let over = second(rows, r) as usize;
     if k <= over {
         return Headed::Refused(NAME_REFUSAL, (r + 1) as u32);
     }
@@ -558,7 +538,7 @@ fn check_class(
         return Headed::Refused(KIND_REFUSAL, (r + 1) as u32);
     }
     start_block(tables, k, over, kind);
-    let n = count_rows(rows, r + 1, FIELD);
+    let n = layout::count_rows(rows, r + 1, FIELD);
     let f = check_fields(rows, tables, r + 1, n, k * CLASS_WIDTH, count);
     let Headed::Passed(_) = f else {
         return f;
@@ -603,7 +583,7 @@ fn check_classes(
         let Headed::Passed(n) = h else {
             return h;
         };
-        let over = rows[r * 4 + 2] as usize;
+        let over = second(rows, r) as usize;
         above[k] = classes::effect_of(k as u32) | above[over];
         r = skip_class(rows, ends, r);
         next += n as usize;

@@ -1,6 +1,6 @@
 -- The limits, sizes and refusals that document 01 names as numbers, each under a name of its own. The codes of letters
 -- are in Rows, those of kinds in Tree, those of values in Store.
-use Prim.Native.Nat.{ℕ, _*_}
+use Prim.Native.Nat.{ℕ, _+_, _*_}
 
 -- Document 01, "Lines and rows": the table of what there may be at most.
 pub record Most : Type 0 where
@@ -46,8 +46,12 @@ most-fuel = 100000000
 abbrev pub most-calls : ℕ
 most-calls = 64
 
-abbrev pub numbers-an-object : ℕ
-numbers-an-object = 18
+-- How many numbers of a store a value has, and an object: its class, then its fields.
+abbrev pub value-width : ℕ
+value-width = 1
+
+abbrev pub object-width : ℕ
+object-width = 1 + of-check .fields * value-width
 
 abbrev pub most-objects : ℕ
 most-objects = 65535

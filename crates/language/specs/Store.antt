@@ -4,7 +4,7 @@ use mathlib.Core.Bool.{true, false}
 use mathlib.Core.List.{List, [], _∷_, _++_, map}
 use lib.ListN.{length, getD, take, drop, replicate}
 use lib.Dec.{leb}
-use Rattle.language.specs.Limits.{most-fuel, most-objects, numbers-an-object, limit-refusal, no-line}
+use Rattle.language.specs.Limits.{most-fuel, most-objects, object-width, limit-refusal, no-line}
 use Rattle.language.specs.Limits.{spent-stop, deep-stop, full-stop}
 use Rattle.language.specs.Results.{ok, stop, Checked, accept, refuse, require}
 use Rattle.language.specs.Tree.{Program}
@@ -31,7 +31,7 @@ value-of-number (suc (suc (suc j))) = object j
 -- An object is 18 numbers: class, then fields, unused ones 0.
 abbrev pub object-numbers : Object → List ℕ
 object-numbers o = o .class-of
-    ∷ (map value-number (o .fields) ++ replicate (numbers-an-object - 1 - length (o .fields)) 0)
+    ∷ (map value-number (o .fields) ++ replicate (object-width - 1 - length (o .fields)) 0)
 
 unfoldable pub heap-numbers : List Object → List ℕ
 heap-numbers [] = []
@@ -42,15 +42,15 @@ unfoldable pub heap-of-numbers : World → ℕ → List ℕ → List Object
 heap-of-numbers W zero store = []
 heap-of-numbers W (suc n) store = let c = getD store 0 0 in
     record { class-of = c; fields = map value-of-number (take (length (W .fields c)) (drop 1 store)) }
-    ∷ heap-of-numbers W n (drop numbers-an-object store)
+    ∷ heap-of-numbers W n (drop object-width store)
 
 -- How many objects a store has room for.
 unfoldable pub capacity : List ℕ → ℕ
-capacity store = min (length store / numbers-an-object) most-objects
+capacity store = min (length store / object-width) most-objects
 
 -- The store afterwards: the objects made; what held none is unchanged.
 unfoldable pub stored : List Object → List ℕ → List ℕ
-stored heap store = heap-numbers heap ++ drop (numbers-an-object * length heap) store
+stored heap store = heap-numbers heap ++ drop (object-width * length heap) store
 
 -- How a run ended: with a value, or stopped.
 pub data Outcome : Type 0 where

@@ -8,7 +8,7 @@ use Prim.Native.String.{String}
 use mathlib.Core.Bool.{true}
 use mathlib.Core.List.{List, [], _∷_, _++_, map}
 use lib.ListN.{length, replicate}
-use Rattle.language.specs.Limits.{numbers-an-object, program-fuel, store-room}
+use Rattle.language.specs.Limits.{object-width, program-fuel, store-room}
 use Rattle.language.specs.Lists.{nth}
 use Rattle.language.specs.Results.{Checked, accept, refuse, bind-checked, need-checked, require}
 use Rattle.language.specs.Results.{earlier}
@@ -123,7 +123,7 @@ sevens n = replicate n 7
 
 -- The 18 numbers of an object: its class and fields, as given, then zeros.
 abbrev pub object-of : List ℕ → List ℕ
-object-of ns = ns ++ replicate (numbers-an-object - length ns) 0
+object-of ns = ns ++ replicate (object-width - length ns) 0
 
 -- The object of program D after its run: class 3, with true in its field.
 abbrev pub object-of-d : List ℕ

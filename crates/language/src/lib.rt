@@ -1,6 +1,9 @@
-// What every service shares: the letters of records, the answers of reading a line, and the answer of a service that fills a
-// lent buffer.
+// What every service shares: the letters of records, reading a row and the table of classes, the answers of reading a line,
+// and the answer of a service that fills a lent buffer.
 ghost use mathlib.Core.Path.{_≡_};
+ghost use Prim.Native.Nat.{_+_, _*_, _<_};
+ghost use lib.ListN.{length, getD};
+ghost use Rattle.language.specs.ClassTables.{class-width};
 ghost use Rattle.language.specs.Rows.{numbers-after, row, is-row};
 
 // The letters, in the order of document 01's table.
@@ -50,6 +53,9 @@ pub const CHOOSE: u32 = 74;
 pub const LARGEST: u32 = 65535;
 
 pub const MOST_NAME: u32 = 255;
+
+// How many numbers a row has.
+pub const NUMBERS_A_ROW: usize = 4;
 
 // What a checked program may have at most: rows, classes, fields of a class, parameters of a method.
 pub const MOST_ROWS: u32 = 60000;
@@ -109,8 +115,12 @@ pub const PARAMETERS_PLACE: usize = 2;
 
 pub const BODY_PLACE: usize = 3;
 
-// How many numbers of a store an object has, how many objects there may be, and how many calls active at once.
-pub const OBJECT_WIDTH: usize = 18;
+// How many numbers of a store a value has, and an object: its class, then its fields.
+pub const VALUE_WIDTH: usize = 1;
+
+pub const OBJECT_WIDTH: usize = 1 + MOST_FIELDS as usize * VALUE_WIDTH;
+
+// How many objects there may be, and how many calls active at once.
 
 pub const MOST_OBJECTS: u32 = 65535;
 
@@ -171,6 +181,36 @@ pub enum Taken {
 pub enum Line {
     Row(u32, u32, u32, usize),
     Malformed,
+}
+
+// The letter's code of a row, the first number after it, and the second.
+pub fn letter_at(rows: &[u32], at: usize) -> u32
+    requires { ⌜ at * 4 < length (now rows) ⌝ }
+    ensures { λ r. ⌜ r ≡ getD (now (rows .entry)) (at * 4) 0 ⌝ }
+{
+    rows[at * NUMBERS_A_ROW]
+}
+
+pub fn first(rows: &[u32], at: usize) -> u32
+    requires { ⌜ at * 4 + 1 < length (now rows) ⌝ }
+    ensures { λ r. ⌜ r ≡ getD (now (rows .entry)) (at * 4 + 1) 0 ⌝ }
+{
+    rows[at * NUMBERS_A_ROW + 1]
+}
+
+pub fn second(rows: &[u32], at: usize) -> u32
+    requires { ⌜ at * 4 + 2 < length (now rows) ⌝ }
+    ensures { λ r. ⌜ r ≡ getD (now (rows .entry)) (at * 4 + 2) 0 ⌝ }
+{
+    rows[at * NUMBERS_A_ROW + 2]
+}
+
+// What stands at a place of a class's part in the table of classes.
+pub fn class_entry(table: &[u16], class: u32, place: usize) -> u32
+    requires { ⌜ class * class-width + place < length (now table) ⌝ }
+    ensures { λ r. ⌜ r ≡ getD (now (table .entry)) (class * class-width + place) 0 ⌝ }
+{
+    table[class as usize * CLASS_WIDTH + place] as u32
 }
 
 // How many made-numbers follow the letter of an ASCII code; 3, more than any record has, where it is no letter's.

@@ -4,3 +4,4 @@ pub mod Found
 pub mod Headed
 pub mod Held
 pub mod HeadingRuns
+pub mod Walks

@@ -36,8 +36,9 @@ use Rattle.theory.specs.MoreLookups.{well-formed-more}
 use Rattle.layout.specs.Found.{MethodHere, method-here, field-here}
 use Rattle.layout.specs.Held.{Held}
 use Rattle.objects.specs.Holding.{NamedAll, Within, WithinAll, BodyAt, FirstValueAt}
-use Rattle.objects.specs.Holding.{first-of-type, Holds, HoldsMethods}
-use Rattle.machine.specs.Contracts.{call-room, Runs}
+use Rattle.objects.specs.Holding.{first-value-of, Holds, HoldsMethods}
+use Rattle.machine.specs.Contracts.{Segment, Runs}
+use Rattle.objects.specs.Contracts.{IsWord}
 
 -- ---- expressions within the limits
 
@@ -130,7 +131,7 @@ module _ (P : List Class)
 
 -- The first value of a type, by its number.
 first-number : (t : DeclaredType) → TypeInForm t
-    → first-of-type (type-number t) ≡ value-number (initial t)
+    → first-value-of (type-number t) ≡ initial t
 first-number bool f = refl
 first-number (class c) f = rw (ne-eqb c 255 (λ e. no-bool (f .back) e))
   where
@@ -207,12 +208,12 @@ module _ {R E T A M F C : List ℕ} {p : Program} (a : Held R E T A M F C p) whe
   pub holds-methods : HoldsMethods R E M P
   holds-methods = record { effects = F; tables = a .headed .methods; bodies = body-at }
 
-  pub runs : {l : List ℕ} → call-room ≤ length l → Runs R E T A M l (start-row p + 1) p
-  runs room = record {
+  pub runs : {l : List ℕ} → Segment l → Runs R E T A M l (start-row p + 1) p
+  runs slots = record {
     holds = holds;
     methods = holds-methods;
     encoded = a .headed .here .start;
     within = within-body P short (p .start) 0 (omega arith) (a .headed .here .in-form .start)
         (computed P (hierarchy P (well .classes)) (p .start) (well .start));
-    room = room;
+    segment = slots;
   }

@@ -8,26 +8,24 @@ use lib.ListN.{length, getD, take, drop, length-set}
 use lib.ListN.{set as put}
 use lib.Seq.{getD-set-same, getD-set-other, drop-cons}
 use native.Mathlib.Numerals.{add-one}
-use Rattle.language.specs.Store.{value-number, value-of-number}
-use Rattle.machine.proofs.Frames.{slots-ext}
+use Rattle.machine.proofs.Frames.{slots-ext, word-put}
 use Rattle.machine.proofs.Lists.{FirstAt, list-parts, list-apart, list-first, head-done}
-use Rattle.objects.specs.declared.Value.{Value}
-use Rattle.objects.specs.declared.Value.the-variants.{Null}
-use Rattle.objects.specs.Values.{Outcome, Gave, Raised, Stopped, Stuck, Counts, Answer, value, Small, bare}
+use Rattle.objects.specs.Values.{meaning, Outcome, Gave, Raised, Stopped, Stuck, Counts, Answer, Small, bare}
 use Rattle.objects.specs.Values.{told, answer}
 use Rattle.machine.specs.declared.Place.{Place}
 use Rattle.machine.specs.Machine.{told-all, slots-of, state, frame-of}
 use Rattle.objects.specs.Holding.{WithinAll}
+use Rattle.objects.specs.Contracts.{IsWord}
 use Rattle.machine.specs.Contracts.{waiting, Ready, Kept, PostEval, PreArgs, PostArgs, DoneAll}
 use Rattle.machine.specs.Contracts.{evaluated}
 use Rattle.machine.specs.Contracts.{evaluated-all}
-use Rattle.objects.proofs.Values.{bare-ok, bare-stop, value-of-value-number, small-of}
+use Rattle.objects.proofs.Values.{bare-ok, bare-stop, small-of}
 use Rattle.objects.proofs.Acts.{stored-same}
 use Rattle.machine.proofs.Steps.{kept-then, room-same, gives, kept-of}
 use Rattle.language.specs.Results.{ok, bind}
 use Rattle.language.specs.Tree.{Expr, Exprs, nil, cons, count, Class}
 use Rattle.language.specs.Encoded.{EncodedAll}
-use Rattle.language.specs.State.{Value as Meaning, State, Out}
+use Rattle.language.specs.State.{Value as Meaning, null, State, Out}
 use Rattle.language.specs.Evaluation.{eval-all}
 use Rattle.language.specs.Store.{capacity}
 
@@ -47,10 +45,10 @@ frame-above l q width x h w =
     rw (a, b)
 
 pub slots-cons : (l : List ℕ) (top m : ℕ) → top < length l → (m ≡ 0 → ⊥)
-    → slots-of l top m ≡ value-of-number (getD l top 0) ∷ slots-of l (top + 1) (m - 1)
+    → slots-of l top m ≡ meaning (getD l top 0) ∷ slots-of l (top + 1) (m - 1)
 unfolding slots-of
 slots-cons l top m h z = let e : m ≡ suc (m - 1) = omega arith in
-    ap (λ (k : ℕ). map value-of-number (take k (drop top l))) e ∙ rw (drop-cons l top 0 h, add-one top)
+    ap (λ (k : ℕ). map meaning (take k (drop top l))) e ∙ rw (drop-cons l top 0 h, add-one top)
 
 push-all : (o : Outcome) (vs : List Meaning) (t : State) (x : Out (List Meaning)) (v : Meaning)
     → told-all o vs t ≡ bare x → told-all o (v ∷ vs) t ≡ bare (bind x λ vs s. ok (v ∷ vs) s)
@@ -61,14 +59,14 @@ push-all (Stopped n) vs t x v e = bare-stop x (λ vs s. ok (v ∷ vs) s) e
 push-all Stuck vs t x v e = bare-stop x (λ vs s. ok (v ∷ vs) s) e
 
 fails-all : (o : Outcome) (vs : List Meaning) (t : State) (x : Out Meaning)
-    (k : Meaning → State → Out (List Meaning)) → ((v : Value) → o ≡ Gave v → ⊥) → told o t ≡ bare x
+    (k : Meaning → State → Out (List Meaning)) → ((v : Meaning) → o ≡ Gave v → ⊥) → told o t ≡ bare x
     → told-all o vs t ≡ bare (bind x k)
 fails-all (Gave v) vs t x k not e = absurd (not v refl)
 fails-all (Raised n) vs t x k not e = bare-stop x k e
 fails-all (Stopped n) vs t x k not e = bare-stop x k e
 fails-all Stuck vs t x k not e = bare-stop x k e
 
-pub args-none : {R E T A M s l : List ℕ} {at : ℕ} {q : Place} {n : Counts} {m : ℕ} {v : Value} → m ≡ 0
+pub args-none : {R E T A M s l : List ℕ} {at : ℕ} {q : Place} {n : Counts} {m : ℕ} {v : Meaning} → m ≡ 0
     → Small v
     → PostArgs R E T A M s l s l at q n m (answer (Gave v) n)
 unfolding eval-all count bare slots-of
@@ -84,6 +82,7 @@ args-none {R} {E} {T} {A} {M} {s} {l} {at} {q} {n} {m} {v} z small =
       kept = record {
         same = λ i h o. refl;
         long = refl;
+        words = f .words;
         stored = stored-same (f .sound);
         falls = omega arith;
         counted = omega arith;
@@ -96,27 +95,29 @@ args-none {R} {E} {T} {A} {M} {s} {l} {at} {q} {n} {m} {v} z small =
 -- ready for the next argument
 ready-further : {R E T A M s l s′ l′ : List ℕ} {P : List Class} {width : ℕ} {q : Place} {n : Counts} {d : ℕ}
     {r : Answer}
-    (m x : ℕ) → (m ≡ 0 → ⊥) → Ready R E T A M s l P width q n d 0
+    (m x : ℕ) → IsWord x → (m ≡ 0 → ⊥) → Ready R E T A M s l P width q n d 0
     → q .top + m + waiting d ≤ length l → Kept P width s l s′ l′ q n 0 r
     → Ready R E T A M s′ (put l′ (q .top) x) P width (further q) (r .counts) d 0
-ready-further {l′ = l′} {q = q} m x z f room k = record {
+ready-further {l′ = l′} {q = q} m x iw z f room k = record {
   holds = f .holds;
   methods = f .methods;
   sound = k .stored .sound;
   frame = omega (arith, f .frame);
   scoped = f .scoped;
+  whole = omega (arith, f .whole, k .long, length-set l′ (q .top) x);
   above = omega (arith, room, k .long, length-set l′ (q .top) x);
+  words = word-put l′ (q .top) x (k .words) iw;
   active = f .active;
   counted = omega (arith, f .counted, k .counted);
 }
 
 pub args-rest : {R E T A M s l s′ l′ : List ℕ} {at : ℕ} {q : Place} {n : Counts} {m : ℕ} {r : Answer}
-    {v : Value} {P : List Class} {e : Expr} {es : Exprs} {width d F k : ℕ}
+    {v : Meaning} {P : List Class} {e : Expr} {es : Exprs} {width d F k : ℕ}
     (y : FirstAt R E T A M s l at q n m P e es width d F k) → m < 4294967296
     → q .top + m + waiting d ≤ length l
     → (g : PostEval R E T A M s l s′ l′ at q n r) (t : r .outcome ≡ Gave v) (x : ℕ)
-    → PreArgs R E T A M s′ (put l′ (q .top) x) (getD E at 0) (further q) (r .counts) (m - 1)
-args-rest {s = s} {l} {s′} {l′} {q = q} {m = m} {r} {v} {P} {e} {es} {width} {d} {F} {k} y few room g t x =
+    → IsWord x → PreArgs R E T A M s′ (put l′ (q .top) x) (getD E at 0) (further q) (r .counts) (m - 1)
+args-rest {s = s} {l} {s′} {l′} {q = q} {m = m} {r} {v} {P} {e} {es} {width} {d} {F} {k} y few room g t x iw =
     let a = head-done y few g t in
     let z : m ≡ 0 → ⊥ = λ u. omega (arith, y .many) in
     record {
@@ -125,7 +126,7 @@ args-rest {s = s} {l} {s′} {l′} {q = q} {m = m} {r} {v} {P} {e} {es} {width}
         es = es;
         width = width;
         d = d;
-        ready = ready-further m x z (y .ready) room (a .kept);
+        ready = ready-further m x iw z (y .ready) room (a .kept);
         encoded = rw (y .end) (y .enc-rest);
         within = y .within-rest;
         many = omega (arith, y .many);
@@ -136,7 +137,7 @@ args-rest {s = s} {l} {s′} {l′} {q = q} {m = m} {r} {v} {P} {e} {es} {width}
 
 module _ {R E T A M s l s′ l′ : List ℕ} {at : ℕ} {q : Place} {n : Counts} {m : ℕ} {r : Answer} (z : m ≡ 0 → ⊥)
     (g : PostEval R E T A M s l s′ l′ at q n r) where
-  pub args-fail : ((v : Value) → r .outcome ≡ Gave v → ⊥) → PostArgs R E T A M s l s′ l′ at q n m r
+  pub args-fail : ((v : Meaning) → r .outcome ≡ Gave v → ⊥) → PostArgs R E T A M s l s′ l′ at q n m r
   unfolding eval-all count
   args-fail not = record { done = λ P es width d F k f room enc w many t. go P width d F k f t es enc w many }
     where
@@ -158,12 +159,12 @@ module _ {R E T A M s l s′ l′ : List ℕ} {at : ℕ} {q : Place} {n : Counts
                 (a .is);
           }
 
-  pub args-step : {s″ l″ : List ℕ} {v : Value} {r′ : Answer} → r .outcome ≡ Gave v → (y : ℕ)
-      → y ≡ value-number (value v)
+  pub args-step : {s″ l″ : List ℕ} {v : Meaning} {r′ : Answer} → r .outcome ≡ Gave v → (y : ℕ)
+      → meaning y ≡ v → IsWord y
       → PostArgs R E T A M s′ (put l′ (q .top) y) s″ l″ (getD E at 0) (further q) (r .counts) (m - 1) r′
       → PostArgs R E T A M s l s″ l″ at q n m r′
   unfolding eval-all count frame-of
-  args-step {s″} {l″} {v} {r′} e₁ y ey g′ =
+  args-step {s″} {l″} {v} {r′} e₁ y ey iw g′ =
       record { done = λ P es width d F k f room enc w many t. go P width d F k f room t es enc w many }
     where
       go : (P : List Class) (width d F k : ℕ) → Ready R E T A M s l P width q n d 0
@@ -177,24 +178,25 @@ module _ {R E T A M s l s′ l′ : List ℕ} {at : ℕ} {q : Place} {n : Counts
           let a = g .done P e width d F k f (x .enc-first) (x .within-first) t in
           let c : capacity s′ ≡ capacity s = room-same s s′ (a .kept .stored .long) in
           let st : State = state P s′ l′ q (r .counts) (F - r .counts .left) in
-          let gave : evaluated P F (capacity s) (q .calls) e (state P s l q n k) ≡ ok (value v) st =
+          let gave : evaluated P F (capacity s) (q .calls) e (state P s l q n k) ≡ ok v st =
           gives st (evaluated P F (capacity s) (q .calls) e (state P s l q n k)) e₁ (a .is) in
           let fr = frame-above l′ q width y (f .frame) (f .scoped) in
           let top : q .top < length l′ = omega (arith, room, a .kept .long, z) in
-          let b = g′ .done P es width d F (F - r .counts .left) (ready-further m y z f room (a .kept))
+          let b = g′ .done P es width d F (F - r .counts .left) (ready-further m y iw z f room (a .kept))
           (omega (arith, room, a .kept .long, length-set l′ (q .top) y, x .many))
           (rw (x .end) (x .enc-rest)) (x .within-rest) (omega (arith, x .many))
           (omega (arith, a .kept .falls)) in
           let i = rw (fr, c) at (b .is) in
-          let stays : value-of-number (getD l″ (q .top) 0) ≡ value v =
-          ap value-of-number (b .kept .same (q .top) (omega arith) (inr (f .frame)) ∙
-          (getD-set-same l′ (q .top) y 0 top ∙ ey)) ∙ value-of-value-number (value v) in
+          let stays : meaning (getD l″ (q .top) 0) ≡ v =
+          ap meaning (b .kept .same (q .top) (omega arith) (inr (f .frame))
+          ∙ getD-set-same l′ (q .top) y 0 top) ∙ ey in
           let long : length l″ ≡ length l′ = b .kept .long ∙ length-set l′ (q .top) y in
           record {
             kept = kept-then 0 0 0 (a .kept) (record {
               same = λ j u o. b .kept .same j (omega arith) o
                   ∙ getD-set-other l′ (q .top) j y 0 (λ p. omega arith);
               long = long;
+              words = b .kept .words;
               stored = b .kept .stored;
               falls = b .kept .falls;
               counted = b .kept .counted;
@@ -203,7 +205,7 @@ module _ {R E T A M s l s′ l′ : List ℕ} {at : ℕ} {q : Place} {n : Counts
             is = rw (gave, slots-cons l″ (q .top) m (omega (arith, long)) z, stays)
                 (push-all (r′ .outcome) (slots-of l″ (q .top + 1) (m - 1))
                 (state P s″ l″ q (r′ .counts) (F - r′ .counts .left))
-                (evaluated-all P F (capacity s) (q .calls) es st) (value v) i);
+                (evaluated-all P F (capacity s) (q .calls) es st) v i);
           }
 
 -- the loop over arguments: what is left to do, and how the whole follows from it
@@ -214,7 +216,7 @@ pub record ArgsLoop (R E T A M s₀ l₀ : List ℕ) (at : ℕ) (q : Place) (m :
     (r : Answer) (top next i : ℕ) : Type 0 where
   pub low : i ≤ m
   pub args : PreArgs R E T A M s l next (to q top) (r .counts) (m - i)
-  pub v : Value
+  pub v : Meaning
   pub gave : r .outcome ≡ Gave v
   pub small : Small v
   pub falls : r .counts .left ≤ r₀ .counts .left
@@ -225,14 +227,14 @@ pub record ArgsLoop (R E T A M s₀ l₀ : List ℕ) (at : ℕ) (q : Place) (m :
       → PostArgs R E T A M s₀ l₀ s′ l′ at q (r₀ .counts) m r′
 
 pub args-start : {R E T A M s l : List ℕ} {at : ℕ} {q : Place} {n : Counts} {m : ℕ} {o : Outcome}
-    → PreArgs R E T A M s l at q n m → o ≡ Gave Null
-    → ArgsLoop R E T A M s l at q m (answer (Gave Null) n) s l (answer o n) (q .top) at 0
+    → PreArgs R E T A M s l at q n m → o ≡ Gave null
+    → ArgsLoop R E T A M s l at q m (answer (Gave null) n) s l (answer o n) (q .top) at 0
 args-start {m = m} p gave =
     let z : m - 0 ≡ m = omega arith in
     record {
       low = omega arith;
       args = rw z p;
-      v = Null;
+      v = null;
       gave = gave;
       small = omega arith;
       falls = omega arith;
@@ -260,26 +262,26 @@ module _ {R E T A M s₀ l₀ : List ℕ} {at : ℕ} {q : Place} {m : ℕ} {r₀
 
     module _ {s′ l′ : List ℕ} {r′ : Answer} (g : PostEval R E T A M s l s′ l′ next (to q top) (r .counts) r′)
       where
-        pub args-broken : ((v : Value) → r′ .outcome ≡ Gave v → ⊥)
+        pub args-broken : ((v : Meaning) → r′ .outcome ≡ Gave v → ⊥)
             → PostArgs R E T A M s₀ l₀ s′ l′ at q (r₀ .counts) m r′
         args-broken not = x .rest s′ l′ r′ (args-fail (λ z. omega arith) g not)
 
         pub args-room : top < length l′
         args-room = omega (arith, x .args .room, kept-of (list-first (args-head .2)) g .long)
 
-        pub args-next : {w : Value} (y : ℕ) → r′ .outcome ≡ Gave w → y ≡ value-number (value w)
+        pub args-next : {w : Meaning} (y : ℕ) → r′ .outcome ≡ Gave w → meaning y ≡ w → IsWord y
             → ArgsLoop R E T A M s₀ l₀ at q m r₀ s′ (put l′ top y) r′ (top + 1) (getD E next 0) (i + 1)
-        args-next {w} y t ey =
+        args-next {w} y t ey iw =
             let k = kept-of (list-first (args-head .2)) g in
             let z : m - i - 1 ≡ m - (i + 1) = omega arith in
             record {
               low = omega arith;
-              args = rw z at (args-rest (args-head .2) (x .args .list .few) (x .args .room) g t y);
+              args = rw z at (args-rest (args-head .2) (x .args .list .few) (x .args .room) g t y iw);
               v = w;
               gave = t;
               small = small-of t (k .small);
               falls = omega (arith, k .falls, x .falls);
               long-store = k .stored .long ∙ x .long-store;
               long-slots = length-set l′ top y ∙ (k .long ∙ x .long-slots);
-              rest = λ s″ l″ r″ p. x .rest s″ l″ r″ (args-step (λ z. omega arith) g t y ey (rw (sym z) at p));
+              rest = λ s″ l″ r″ p. x .rest s″ l″ r″ (args-step (λ z. omega arith) g t y ey iw (rw (sym z) at p));
             }

@@ -1,5 +1,6 @@
 -- The steps of B. Assumes nothing.
 use mathlib.Core.Path.{_≡_, refl, sym, ap, ap₂, _∙_}
+use mathlib.Core.Bool.{false}
 use mathlib.Core.Logic.{_⊎_, inl, inr}
 use mathlib.Core.List.{List, [], _∷_, _++_, map}
 use Prim.Native.Nat.{ℕ, zero, suc, _+_, _-_, _*_, _≤_, _<_}
@@ -10,18 +11,18 @@ use mathlib.Core.Option.{some}
 use borrow.Author.Tests.{ne-eqb}
 use Rattle.language.specs.Lists.{nth, nth-append, nth-map, inj, Never}
 use Rattle.language.specs.Frames.{frame, opened, closed}
-use Rattle.language.specs.Store.{value-of-number}
-use Rattle.machine.proofs.Frames.{slots-length}
+use Rattle.machine.proofs.Frames.{slots-length, words-written, first-word}
 use Rattle.objects.proofs.Nth.{lt-or, nth-ext, nth-past, some-at}
-use Rattle.objects.proofs.Objects.{values-at}
-use Rattle.objects.specs.declared.Value.the-variants.{Null}
-use Rattle.objects.specs.Values.{Outcome, Gave, Raised, Stopped, Stuck, Counts, Answer, value, bare, told}
+use Rattle.objects.proofs.Objects.{mapped-at}
+use Rattle.objects.proofs.Values.{meaning-null, meaning-truth}
+use Rattle.objects.specs.Values.{word, meaning, Outcome, Gave, Raised, Stopped, Stuck, Counts, Answer}
+use Rattle.objects.specs.Values.{bare, told}
 use Rattle.machine.specs.declared.Place.{Place}
 use Rattle.machine.specs.Machine.{slots-of, inside, state, frame-of}
 use Rattle.objects.specs.Holding.{NamedAll, Named, Within, WithinAll}
 use Rattle.machine.specs.Contracts.{Ready, PreEntered, PostNode, PreList, PostItems, Opened, Locals}
 use Rattle.machine.specs.Contracts.{evaluated-all}
-use Rattle.objects.specs.Holding.{first-of-type}
+use Rattle.objects.specs.Holding.{first-value-of}
 use Rattle.machine.proofs.Letters.{as-block}
 use Rattle.language.specs.Results.{ok, stop, bind}
 use Rattle.language.specs.Tree.{Exprs, count, Class, DeclaredType, bool, class, type-number, block}
@@ -45,14 +46,14 @@ local-named k (x ∷ ts) zero t h e = rw (inj e) at (h .0)
 local-named k (x ∷ ts) (suc j) t h e = local-named k ts j t (h .1) e
 
 first-initial : (k : ℕ) (t : DeclaredType) → k ≤ 64 → Named k t
-    → value-of-number (first-of-type (type-number t)) ≡ initial t
-first-initial k bool h n = refl
-first-initial k (class c) h n = rw (ne-eqb c 255 (λ e. omega arith))
+    → meaning (word (first-value-of (type-number t))) ≡ initial t
+first-initial k bool h n = meaning-truth false
+first-initial k (class c) h n = rw (ne-eqb c 255 (λ e. omega arith)) meaning-null
 
 slots-at : (l : List ℕ) (from m i : ℕ) → i < m → from + i < length l
-    → nth (slots-of l from m) i ≡ some (value-of-number (getD l (from + i) 0))
+    → nth (slots-of l from m) i ≡ some (meaning (getD l (from + i) 0))
 unfolding slots-of
-slots-at l from m i h k = values-at l from m i h k
+slots-at l from m i h k = mapped-at meaning l from m i h k
 
 nth-from : (xs ys : List Meaning) (n j i : ℕ) → length xs ≡ n → n + j ≡ i → nth (xs ++ ys) i ≡ nth ys j
 nth-from xs ys n j i a e = ap (nth (xs ++ ys)) (sym e ∙ ap (λ (k : ℕ). k + j) (sym a)) ∙ nth-past xs ys j
@@ -131,12 +132,12 @@ module _ {R E T A M s l : List ℕ} {at : ℕ} {q : Place} {n : Counts} {P : Lis
         go : length (slots-of l (q .base + 1) (q .scope)) ≡ q .scope
             → q .base + 1 + (q .scope + getD R (at * 4 + 1) 0) ≤ length l′ → (i : ℕ)
             → i < q .scope + getD R (at * 4 + 1) 0 → (i < q .scope) ⊎ (q .scope ≤ i)
-            → some (value-of-number (getD l′ (q .base + 1 + i) 0))
+            → some (meaning (getD l′ (q .base + 1 + i) 0))
             ≡ nth (slots-of l (q .base + 1) (q .scope) ++ map initial ts) i
         go a room i h (inl o) =
-            ap (λ (y : ℕ). some (value-of-number y)) (w .outside (q .base + 1 + i) (inl (omega arith)))
+            ap (λ (y : ℕ). some (meaning y)) (w .outside (q .base + 1 + i) (inl (omega arith)))
             ∙ sym (nth-append (slots-of l (q .base + 1) (q .scope)) (map initial ts) i
-            (value-of-number (getD l (q .base + 1 + i) 0))
+            (meaning (getD l (q .base + 1 + i) 0))
             (slots-at l (q .base + 1) (q .scope) i o (omega (arith, w .long))))
         go a room i h (inr o) =
             let j : ℕ = i - q .scope in
@@ -149,7 +150,7 @@ module _ {R E T A M s l : List ℕ} {at : ℕ} {q : Place} {n : Counts} {P : Lis
             let p′ : nth (slots-of l (q .base + 1) (q .scope) ++ map initial ts) i ≡ some (initial (t .0)) =
             nth-from (slots-of l (q .base + 1) (q .scope)) (map initial ts) (q .scope) j i a e′
             ∙ nth-map initial j ts (t .0) (t .1) in
-            ap some (ap value-of-number (y ∙ ap first-of-type f)
+            ap some (ap meaning (y ∙ ap (λ (x : ℕ). word (first-value-of x)) f)
             ∙ first-initial (length P) (t .0) (x .ready .holds .classes)
             (local-named (length P) ts j (t .0) (x .named) (t .1))) ∙ sym p′
 
@@ -165,7 +166,9 @@ module _ {R E T A M s l : List ℕ} {at : ℕ} {q : Place} {n : Counts} {P : Lis
       frame = x .ready .frame;
       scoped =
           omega (arith, x .wide, x .locals);
+      whole = omega (arith, x .ready .whole, w .long);
       above = omega (arith, x .ready .above, w .long);
+      words = words-written w (λ i h. first-word (getD R ((at + 1 + i) * 4 + 1) 0)) (x .ready .words);
       active = x .ready .active;
       counted = omega (arith, x .ready .counted);
     }
@@ -188,8 +191,8 @@ module _ {R E T A M s l : List ℕ} {at : ℕ} {q : Place} {n : Counts} {P : Lis
 -- the slots of a block go when it ends
 closed-slots : (l : List ℕ) (from m v : ℕ) → take m (slots-of l from (m + v)) ≡ slots-of l from m
 unfolding slots-of
-closed-slots l from m v = sym (map-take value-of-number m (take (m + v) (drop from l)))
-    ∙ ap (map value-of-number) (take-take m (m + v) (drop from l) (omega arith))
+closed-slots l from m v = sym (map-take meaning m (take (m + v) (drop from l)))
+    ∙ ap (map meaning) (take-take m (m + v) (drop from l) (omega arith))
   where
     map-take : {A B : Type 0} (f : A → B) (n : ℕ) (l : List A) → map f (take n l) ≡ take n (map f l)
     map-take f zero l = refl
@@ -204,7 +207,7 @@ close : (o : Outcome) (P : List Class) (s l : List ℕ) (q : Place) (v m : ℕ) 
     ≡ bare (bind x λ vs t. ok (last-value null vs) (with-frame (closed m (t .frame)) t))
 unfolding bare frame-of
 close (Gave w) P s l q v m n steps (ok vs t) z e =
-    let e₁ : value w ≡ last-value null vs = cc in
+    let e₁ : w ≡ last-value null vs = cc in
     let e₂ : state P s l (inner q v) n steps ≡ t = cc in
     rw (e₁, ← e₂, z, closed-slots l (q .base + 1) (q .scope) v)
 close (Gave w) P s l q v m n steps (stop y t) z e = let u : _≡_ {A = ℕ} 0 1 = cc in absurd (omega arith)
@@ -223,7 +226,7 @@ frame-scope l q h = slots-length l (q .base + 1) (q .scope) h
 pub block-done : {R E T A M s l l′ s″ l″ : List ℕ} (at : ℕ) {q : Place} {n : Counts} {r : Answer}
     → getD R (at * 4) 0 ≡ 66 → Opened R l l′ (at + 1) (q .base + 1 + q .scope) (getD R (at * 4 + 1) 0)
     → PostItems R E T A M s l′ s″ l″ (at + 1 + getD R (at * 4 + 1) 0) (inner q (getD R (at * 4 + 1) 0)) n
-    (getD R (at * 4 + 2) 0) Null r → PostNode R E T A M s l s″ l″ at q n r
+    (getD R (at * 4 + 2) 0) null r → PostNode R E T A M s l s″ l″ at q n r
 unfolding inside
 block-done {R} {E} {T} {A} {M} {s} {l} {l′} {s″} {l″} at {q} {n} {r} h w p = record {
   done = λ P e width d F k f enc wi z.
@@ -237,6 +240,7 @@ block-done {R} {E} {T} {A} {M} {s} {l} {l′} {s″} {l″} at {q} {n} {r} h w p
         kept = record {
           same = λ i u o. b .kept .same i u o ∙ w .outside i (far P width d f x i o);
           long = b .kept .long ∙ w .long;
+          words = b .kept .words;
           stored = b .kept .stored;
           falls = b .kept .falls;
           counted = omega (arith, b .kept .counted);

@@ -5,13 +5,11 @@ use Prim.Native.Nat.{ℕ, suc, _+_, _-_, _*_, _≤_, _<_}
 use native.Mathlib.Omega.{arith}
 use borrow.Author.Tests.{eq-eqb}
 use lib.ListN.{length, getD}
-use Rattle.language.specs.Store.{value-of-number}
 use Rattle.machine.proofs.Frames.{slots-length, slots-ext}
 use Rattle.objects.specs.declared.Target.{Target}
 use Rattle.objects.specs.declared.Target.the-variants.{Body, Fails}
 use Rattle.machine.proofs.Arguments.{slots-cons}
-use Rattle.objects.specs.declared.Value.{Value}
-use Rattle.objects.specs.Values.{Outcome, Gave, Raised, Stopped, Stuck, Counts, Answer, value, decoded}
+use Rattle.objects.specs.Values.{Outcome, Gave, Raised, Stopped, Stuck, Counts, Answer, meaning}
 use Rattle.objects.specs.Values.{outcome, bare, told, answer}
 use Rattle.machine.specs.declared.Place.{Place}
 use Rattle.machine.specs.Machine.{told-all, slots-of, this-of, inside, state, frame-of}
@@ -20,7 +18,7 @@ use Rattle.machine.specs.Contracts.{waiting, Ready, Kept, PreEntered, Po
 use Rattle.machine.specs.Contracts.{DoneAll, calls-of, evaluated-all, Entering, PreEnter, PostEnter}
 use Rattle.machine.specs.Contracts.{call-place}
 use Rattle.objects.specs.Contracts.{PreFind, PostFind, Found, NotFound}
-use Rattle.objects.proofs.Values.{bare-ok, bare-stop, value-decoded}
+use Rattle.objects.proofs.Values.{bare-ok, bare-stop}
 use Rattle.machine.proofs.Letters.{as-call}
 use Rattle.machine.proofs.Steps.{kept-then, kept-more, kept-as, ready-child, room-same}
 use Rattle.language.specs.Results.{ok, stop, bind}
@@ -166,15 +164,15 @@ module _ {R E T A M s l : List ℕ} {at : ℕ} {q : Place} {n : Counts} {P : Lis
         (omega (arith, x .ready .above, x .deep, x .many, x .few, kept-args .long))
 
     -- the values, of which the first is the receiver's
-    module _ (v : Value) {w : Value} (e : r .outcome ≡ Gave w)
-        (dv : value v ≡ value-of-number (getD l′ (q .top) 0)) where
+    module _ (v : Meaning) {w : Meaning} (e : r .outcome ≡ Gave w)
+        (dv : v ≡ meaning (getD l′ (q .top) 0)) where
       args-gave : evaluated-all P F (capacity s) (q .calls) (cons a es) (state P s l q n k)
-          ≡ ok (value v ∷ slots-of l′ (q .top + 1) (getD R (at * 4 + 2) 0))
+          ≡ ok (v ∷ slots-of l′ (q .top + 1) (getD R (at * 4 + 2) 0))
           (state P s′ l′ q (r .counts) (F - r .counts .left))
       args-gave =
           let nn : ℕ = getD R (at * 4 + 2) 0 in
           let z : nn + 1 - 1 ≡ nn = omega arith in
-          let y : slots-of l′ (q .top) (nn + 1) ≡ value v ∷ slots-of l′ (q .top + 1) nn =
+          let y : slots-of l′ (q .top) (nn + 1) ≡ v ∷ slots-of l′ (q .top + 1) nn =
           slots-cons l′ (q .top) (nn + 1) top-room (λ u. omega arith) ∙ rw (z, dv) in
           bare-ok (evaluated-all P F (capacity s) (q .calls) (cons a es) (state P s l q n k))
           (rw (e, y) at (args-done .is))
@@ -182,7 +180,7 @@ module _ {R E T A M s l : List ℕ} {at : ℕ} {q : Place} {n : Counts} {P : Lis
 module _ {R E T A M s l s′ l′ : List ℕ} (at : ℕ) {q : Place} {n : Counts} {r : Answer}
     (h : getD R (at * 4) 0 ≡ 81) (g : PostArgs R E T A M s l s′ l′ (at + 1) q n (getD R (at * 4 + 2) 0 + 1) r)
   where
-    pub call-fail : ((v : Value) → r .outcome ≡ Gave v → ⊥) → PostNode R E T A M s l s′ l′ at q n r
+    pub call-fail : ((v : Meaning) → r .outcome ≡ Gave v → ⊥) → PostNode R E T A M s l s′ l′ at q n r
     call-fail not = record {
       done = λ P e width d F k f enc w z.
           let y = as-call (head e enc) h in
@@ -207,7 +205,7 @@ module _ {R E T A M s l s′ l′ : List ℕ} (at : ℕ) {q : Place} {n : Counts
     }
       where
         fails-list : (o : Outcome) (vs : List Meaning) (t : State) (x : Out (List Meaning))
-            (k : List Meaning → State → Out Meaning) → ((v : Value) → o ≡ Gave v → ⊥)
+            (k : List Meaning → State → Out Meaning) → ((v : Meaning) → o ≡ Gave v → ⊥)
             → told-all o vs t ≡ bare x
             → told o t ≡ bare (bind x k)
         fails-list (Gave v) vs t x k not e = absurd (not v refl)
@@ -215,7 +213,7 @@ module _ {R E T A M s l s′ l′ : List ℕ} (at : ℕ) {q : Place} {n : Counts
         fails-list (Stopped n) vs t x k not e = bare-stop x k e
         fails-list Stuck vs t x k not e = bare-stop x k e
 
-this-called : (calls n : ℕ) → this-of (calls + 1) n ≡ some (value-of-number n)
+this-called : (calls n : ℕ) → this-of (calls + 1) n ≡ some (meaning n)
 this-called calls n = let e : calls + 1 ≡ suc calls = omega arith in rw e
 
 frame-kept : (l l′ : List ℕ) (q : Place) → length l′ ≡ length l
@@ -242,7 +240,7 @@ run-call W L bodies calls m v vs st j o N h e known method many =
     let le : 64 - calls ≡ suc (64 - (calls + 1)) = omega arith in
     rw (e, known, method, eq-eqb (length vs) (length (N .parameters)) many, le)
 
-module _ {R E T A M s l s′ l′ : List ℕ} {at : ℕ} {q : Place} {n : Counts} {r : Answer} {v : Value}
+module _ {R E T A M s l s′ l′ : List ℕ} {at : ℕ} {q : Place} {n : Counts} {r : Answer} {v : Meaning}
     {P : List Class} {m : ℕ} {a : Expr} {es : Exprs} {width d F k : ℕ}
     (x : CallAt R E T A M s l at q n P m a es width d F k)
     (g : PostArgs R E T A M s l s′ l′ (at + 1) q n (getD R (at * 4 + 2) 0 + 1) r) {b : ℕ} {z : Target}
@@ -264,13 +262,15 @@ module _ {R E T A M s l s′ l′ : List ℕ} {at : ℕ} {q : Place} {n : Counts
         sound = kp .stored .sound;
         few = omega (arith, x .many, x .few);
         there = omega (arith, room-args x, kp .long);
+        whole = omega (arith, x .ready .whole, kp .long);
+        words = kp .words;
         active = omega (arith, found .allowed);
         counted = omega (arith, x .ready .counted, kp .counted);
         encoded = found .encoded;
         within = found .within (getD R (at * 4 + 2) 0) (omega (arith, x .many, x .few));
       }
 
-  frame-called : value v ≡ value-of-number (getD l′ (q .top) 0)
+  frame-called : v ≡ meaning (getD l′ (q .top) 0)
       → frame-of l′ (call-place (q .top) (getD R (at * 4 + 2) 0) (q .calls + 1))
       ≡ frame (some (object (found .j))) (slots-of l′ (q .top + 1) (getD R (at * 4 + 2) 0))
   unfolding frame-of
@@ -280,15 +280,15 @@ module _ {R E T A M s l s′ l′ : List ℕ} {at : ℕ} {q : Place} {n : Counts
   pub call-enter : PreEnter R E T A M s′ l′ b (getD R (at * 4 + 2) 0) (q .top) (q .calls + 1) (r .counts)
   call-enter = record { P = P; e = body-in P (found .M .number); entering = entering }
 
-module _ {R E T A M s l s′ l′ : List ℕ} (at : ℕ) {q : Place} {n : Counts} {r : Answer} {w : Value}
+module _ {R E T A M s l s′ l′ : List ℕ} (at : ℕ) {q : Place} {n : Counts} {r : Answer} {w : Meaning}
     (h : getD R (at * 4) 0 ≡ 81) (g : PostArgs R E T A M s l s′ l′ (at + 1) q n (getD R (at * 4 + 2) 0 + 1) r)
     (e₁ : r .outcome ≡ Gave w) where
   -- the receiver
-  abbrev v : Value
-  v = decoded (getD l′ (q .top) 0)
+  abbrev v : Meaning
+  v = meaning (getD l′ (q .top) 0)
 
-  dv : value v ≡ value-of-number (getD l′ (q .top) 0)
-  dv = value-decoded (getD l′ (q .top) 0)
+  dv : v ≡ meaning (getD l′ (q .top) 0)
+  dv = refl
 
   pub call-ends : {o : ℕ} {z : Target} → z ≡ Fails o
       → PostFind T M s′ v (getD R (at * 4 + 1) 0) (getD R (at * 4 + 2) 0) (r .counts) (q .calls) z
@@ -340,6 +340,7 @@ module _ {R E T A M s l s′ l′ : List ℕ} (at : ℕ) {q : Place} {n : Counts
           kept = kept-then 0 0 1 kp (record {
             same = λ j o a. i .same j o;
             long = i .long;
+            words = i .words;
             stored = i .stored;
             falls = i .falls;
             counted = omega (arith, i .counted);
@@ -349,7 +350,7 @@ module _ {R E T A M s l s′ l′ : List ℕ} (at : ℕ) {q : Place} {n : Counts
             y .3,
             call-in-a-row (world P) (with-limits F (capacity s)) K (y .0) (y .1) (y .2) (state P s l q n k),
             args-gave x g v e₁ dv,
-            run-call (world P) (with-limits F (capacity s)) (body-in P) (q .calls) (y .0) (value v)
+            run-call (world P) (with-limits F (capacity s)) (body-in P) (q .calls) (y .0) v
                 (slots-of l′ (q .top + 1) nn) (state P s′ l′ q (r .counts) (F - r .counts .left)) (fo .j)
                 (fo .o) (fo .M) (fo .allowed) (fo .receiver) (fo .known (frame-of l′ q) (F - r .counts .left))
                 method (arguments-given x g ∙ fo .parameters),

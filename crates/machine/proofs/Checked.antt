@@ -5,7 +5,8 @@ use mathlib.Core.Logic.{_⊎_, inl, inr}
 use mathlib.Core.List.{List}
 use Prim.Native.Nat.{ℕ, suc, _+_, _*_, _≤_, _<_}
 use native.Mathlib.Omega.{arith}
-use lib.ListN.{length}
+use lib.ListN.{length, getD}
+use Rattle.objects.specs.Contracts.{IsWord}
 use Rattle.language.specs.Limits.{most-fuel}
 use Rattle.language.specs.Results.{ok, stop, accept}
 use Rattle.language.specs.Verdict.{check}
@@ -17,9 +18,8 @@ use Rattle.language.specs.Store.{gave, ended, ran, Ran as Finished, finish, cap
 use Rattle.layout.specs.Held.{Held}
 use Rattle.theory.specs.Accepts.{check-accepts}
 use Rattle.theory.specs.Members.{well-formed-never-stuck, accepted-run}
+use Rattle.objects.specs.Values.{Outcome, Gave, Raised, Stopped, Stuck, SmallOutcome, outcome, case-of}
 use Rattle.objects.specs.declared.Value.{Value}
-use Rattle.objects.specs.declared.Value.the-variants.{Truth, Object}
-use Rattle.objects.specs.Values.{Outcome, Gave, Raised, Stopped, Stuck, value, Small, SmallOutcome, outcome}
 use Rattle.objects.specs.Values.{stop-of}
 use Rattle.machine.specs.declared.End.{End}
 use Rattle.machine.specs.declared.End.the-variants.{Gave as EndGave, Raised as EndRaised}
@@ -27,8 +27,8 @@ use Rattle.machine.specs.declared.End.the-variants.{Stopped as EndStoppe
 use Rattle.machine.specs.declared.Ran.{Ran}
 use Rattle.machine.specs.declared.Run.{Run}
 use Rattle.objects.specs.Contracts.{LetterFrom, SomeLetter}
-use Rattle.machine.specs.Contracts.{call-room, Runs, PreRun, PostRun, PreChecked, PostChecked, Tells}
-use Rattle.machine.specs.Contracts.{outcome-of, value-told, end-told}
+use Rattle.machine.specs.Contracts.{Segment, Runs, PreRun, PostRun, PreChecked, PostChecked, Tells}
+use Rattle.machine.specs.Contracts.{outcome-of, end-told}
 use Rattle.objects.proofs.Nth.{lt-or}
 use Rattle.objects.proofs.Finding.{same-letter}
 use Rattle.machine.proofs.Lines.{no-classes}
@@ -36,17 +36,8 @@ use Rattle.machine.proofs.Accepted.{well, runs}
 
 -- ---- ends told
 
-pub told-truth : {v : Value} {b : Bool} → v ≡ Truth b → Truth b ≡ value-told (value v)
-told-truth e = rw e
-
-pub told-object : {v : Value} {j : ℕ} → v ≡ Object j → Object (j + 1) ≡ value-told (value v)
-told-object {j = j} e = let z : j + 1 ≡ suc j = omega arith in rw (e, z)
-
-pub object-low : {v : Value} {j : ℕ} → v ≡ Object j → Small v → j + 3 < 4294967296
-object-low e h = let z = rw e at h in omega (arith, z)
-
-pub told-gave : {o : Outcome} {v w : Value} → o ≡ Gave v → w ≡ value-told (value v)
-    → EndGave w ≡ end-told (outcome-of o)
+pub told-gave : {o : Outcome} {m : Meaning} {v : Value} → o ≡ Gave m → v ≡ case-of m
+    → EndGave v ≡ end-told (outcome-of o)
 told-gave e h = rw (e, h)
 
 pub told-raised : {o : Outcome} {n : ℕ} → o ≡ Raised n → EndRaised n ≡ end-told (outcome-of o)
@@ -99,20 +90,20 @@ module _ {R E T A M F C : List ℕ} {p : Program} (a : Held R E T A M F C p) whe
   start-found : {b : ℕ} → LetterFrom R 83 0 b → b ≡ start-row p
   start-found f = same-letter f start-line
 
-  starts : {l : List ℕ} {b : ℕ} → LetterFrom R 83 0 b → call-room ≤ length l → Runs R E T A M l (b + 1) p
-  starts f room = rw (start-found f) (runs a room)
+  starts : {l : List ℕ} {b : ℕ} → LetterFrom R 83 0 b → Segment l → Runs R E T A M l (b + 1) p
+  starts f slots = rw (start-found f) (runs a slots)
 
 module _ {R E T A M : List ℕ} (c : PreChecked R E T A M) where
   pub some-start : SomeLetter R 83 0
   some-start = record { found = start-row (c .p); from = start-line (c .held) }
 
-  module _ {l : List ℕ} {b : ℕ} (f : LetterFrom R 83 0 b) (room : call-room ≤ length l) where
+  module _ {l : List ℕ} {b : ℕ} (f : LetterFrom R 83 0 b) (slots : Segment l) where
     pub pre-start : PreRun R E T A M l (b + 1)
-    pre-start = record { p = c .p; runs = starts (c .held) f room }
+    pre-start = record { p = c .p; runs = starts (c .held) f slots }
 
     module _ {s s′ : List ℕ} {fuel : ℕ} {r : Ran} (post : PostRun R E T A M s l s′ (b + 1) fuel r) where
       pub end-small : SmallOutcome (outcome (r .outcome))
-      end-small = post .small (c .p) (starts (c .held) f room)
+      end-small = post .small (c .p) (starts (c .held) f slots)
 
       pub checked-done : (e : End) → e ≡ end-told (outcome-of (outcome (r .outcome)))
           → PostChecked R E T A M s s′ fuel
@@ -121,13 +112,13 @@ module _ {R E T A M : List ℕ} (c : PreChecked R E T A M) where
         tells = λ F C p a. record {
           outcome = outcome-of (outcome (r .outcome));
           is = post .is p
-              (starts a f room);
+              (starts a f slots);
           told = told;
         };
         unstuck = λ z.
             let q = stuck-only (outcome (r .outcome)) end-small (sym z ∙ told) in
             let x = stuck-end (run (with-limits fuel (capacity s)) (c .p)) s s′ (r .steps) (r .objects)
-            (r .changes) (rw q at (post .is (c .p) (starts (c .held) f room))) in
+            (r .changes) (rw q at (post .is (c .p) (starts (c .held) f slots))) in
             well-formed-never-stuck (c .p) (well (c .held)) (with-limits fuel (capacity s)) (x .0) (x .1);
       }
 

@@ -6,7 +6,7 @@ use mathlib.Core.List.{List}
 use Prim.Native.Nat.{ℕ, _+_, _-_, _≤_, _<_}
 use native.Mathlib.Omega.{arith}
 use borrow.Author.Tests.{le-leb, lt-leb}
-use lib.ListN.{length, getD}
+use lib.ListN.{length, getD, replicate, length-replicate}
 use Rattle.language.specs.Results.{ok, stop, bind}
 use Rattle.language.specs.Frames.{Frame}
 use Rattle.language.specs.Tree.{Expr, literal, slot, is-null, get, cast, new, change, assign, set, call}
@@ -14,16 +14,16 @@ use Rattle.language.specs.Tree.{choose, block, Exprs, nil, cons, size, sizes, C
 use Rattle.language.specs.State.{Value as Meaning, Out, with-frame}
 use Rattle.language.specs.Store.{capacity}
 use Rattle.language.proofs.Nodes.{head}
-use Rattle.objects.specs.Values.{Outcome, Gave, Raised, Stopped, Stuck, Counts, Answer, value, bare, told}
+use Rattle.objects.specs.Values.{Outcome, Gave, Raised, Stopped, Stuck, Counts, Answer, bare, told}
 use Rattle.objects.specs.Holding.{Within, WithinAll, view}
-use Rattle.objects.specs.Contracts.{Written}
+use Rattle.objects.specs.Contracts.{Written, IsWord}
 use Rattle.objects.proofs.Values.{bare-stop}
 use Rattle.objects.proofs.Nth.{lt-or}
 use Rattle.machine.specs.declared.Place.{Place}
 use Rattle.machine.specs.Machine.{place-of, state, frame-of}
-use Rattle.machine.specs.Contracts.{waiting, Ready, Done, PreEval, PostEval, evaluated, frame-width}
+use Rattle.machine.specs.Contracts.{waiting, Ready, Done, PreEval, PostEval, evaluated, frame-width, Segment}
 use Rattle.machine.specs.Contracts.{most-nested, Entering, PreEnter, Entered, PostEnter, call-place}
-use Rattle.machine.proofs.Frames.{slots-moved}
+use Rattle.machine.proofs.Frames.{slots-moved, words-written, zeros-words}
 
 -- ---- room
 
@@ -117,7 +117,7 @@ back : (o : Outcome) (P : List Class) (s l : List ℕ) (q : Place) (n : Counts) 
     → told o (view P s n γ steps) ≡ bare (bind x λ w t. ok w (with-frame γ t))
 unfolding bare
 back (Gave w) P s l q n steps γ (ok v t) e =
-    let e₁ : value w ≡ v = cc in
+    let e₁ : w ≡ v = cc in
     let e₂ : state P s l q n steps ≡ t = cc in
     rw (e₁, ← e₂)
 back (Gave w) P s l q n steps γ (stop y t) e = let u : _≡_ {A = ℕ} 0 1 = cc in absurd (omega arith)
@@ -140,56 +140,60 @@ module _ {R E T A M s l : List ℕ} {P : List Class} {e : Expr} {b n top calls :
   -- in slots l₁, from base on, with values that wait from t on
   module _ (l₁ : List ℕ) (base t : ℕ) {width d : ℕ} (ew : width ≡ frame-width (getD E b 0 - b) n)
       (ed : d ≡ most-nested (getD E b 0 - b)) (low : base + width ≤ t) (room : t + waiting d ≤ length l₁)
-    where
-      ready-body : Ready R E T A M s l₁ P width (place-of base n t calls) c d 0
-      ready-body = record {
-        holds = x .holds;
-        methods = x .methods;
-        sound = x .sound;
-        frame = low;
-        scoped = omega (arith, ew, width-bounds (getD E b 0 - b) n (x .few) .0);
-        above = room;
-        active = x .active;
-        counted = omega (arith, x .counted);
-      }
+      (whole : length l₁ ≡ 1920) (ws : (i : ℕ) → IsWord (getD l₁ i 0)) where
+    ready-body : Ready R E T A M s l₁ P width (place-of base n t calls) c d 0
+    ready-body = record {
+      holds = x .holds;
+      methods = x .methods;
+      sound = x .sound;
+      frame = low;
+      scoped = omega (arith, ew, width-bounds (getD E b 0 - b) n (x .few) .0);
+      whole = whole;
+      above = room;
+      words = ws;
+      active = x .active;
+      counted = omega (arith, x .counted);
+    }
 
-      within-body : Within (length P) width n d e
-      within-body = rw (ew, ed, size-is) (within-width (length P) n e (x .within))
+    within-body : Within (length P) width n d e
+    within-body = rw (ew, ed, size-is) (within-width (length P) n e (x .within))
 
-      body-pre : PreEval R E T A M s l₁ b (place-of base n t calls) c
-      body-pre = record {
-        P = P;
-        e = e;
-        width = width;
-        d = d;
-        ready = ready-body;
-        encoded = x .encoded;
-        within = within-body;
-      }
+    body-pre : PreEval R E T A M s l₁ b (place-of base n t calls) c
+    body-pre = record {
+      P = P;
+      e = e;
+      width = width;
+      d = d;
+      ready = ready-body;
+      encoded = x .encoded;
+      within = within-body;
+    }
 
-      module _ {s′ l₁′ : List ℕ} {r : Answer} (F k : ℕ)
-          (g : PostEval R E T A M s l₁ s′ l₁′ b (place-of base n t calls) c r) (z : k + c .left ≡ F) where
-        done : Done P width s l₁ s′ l₁′ (place-of base n t calls) c F 0 r
-            (evaluated P F (capacity s) calls e (state P s l₁ (place-of base n t calls) c k))
-        done = g .done P e width d F k ready-body (x .encoded) within-body z
+    module _ {s′ l₁′ : List ℕ} {r : Answer} (F k : ℕ)
+        (g : PostEval R E T A M s l₁ s′ l₁′ b (place-of base n t calls) c r) (z : k + c .left ≡ F) where
+      done : Done P width s l₁ s′ l₁′ (place-of base n t calls) c F 0 r
+          (evaluated P F (capacity s) calls e (state P s l₁ (place-of base n t calls) c k))
+      done = g .done P e width d F k ready-body (x .encoded) within-body z
 
-        body-done : {l′ : List ℕ}
-            → frame-of l₁ (call-place base n calls) ≡ frame-of l (call-place top n calls)
-            → length l′ ≡ length l → ((i : ℕ) → i < top → getD l′ i 0 ≡ getD l i 0)
-            → Entered P s l s′ l′ e n top calls c F k r
-        unfolding frame-of
-        body-done fr long same =
-            let q : Place = place-of base n t calls in
-            record {
-              same = same;
-              long = long;
-              stored = done .kept .stored;
-              falls = done .kept .falls;
-              counted = omega (arith, done .kept .counted);
-              small = done .kept .small;
-              is = λ γ. rw (sym fr) (back (r .outcome) P s′ l₁′ q (r .counts) (F - r .counts .left) γ
-                  (evaluated P F (capacity s) calls e (state P s l₁ q c k)) (done .is));
-            }
+      body-done : {l′ : List ℕ}
+          → frame-of l₁ (call-place base n calls) ≡ frame-of l (call-place top n calls)
+          → length l′ ≡ length l → ((i : ℕ) → i < top → getD l′ i 0 ≡ getD l i 0)
+          → ((i : ℕ) → IsWord (getD l′ i 0))
+          → Entered P s l s′ l′ e n top calls c F k r
+      unfolding frame-of
+      body-done fr long same words =
+          let q : Place = place-of base n t calls in
+          record {
+            same = same;
+            long = long;
+            words = words;
+            stored = done .kept .stored;
+            falls = done .kept .falls;
+            counted = omega (arith, done .kept .counted);
+            small = done .kept .small;
+            is = λ γ. rw (sym fr) (back (r .outcome) P s′ l₁′ q (r .counts) (F - r .counts .left) γ
+                (evaluated P F (capacity s) calls e (state P s l₁ q c k)) (done .is));
+          }
 
 -- ---- in the caller's slots
 
@@ -198,16 +202,16 @@ module _ {R E T A M s l : List ℕ} {b n top calls : ℕ} {c : Counts} {width d 
     (room : top + width + waiting d ≤ length l) where
   pub here-pre : PreEnter R E T A M s l b n top calls c
       → PreEval R E T A M s l b (place-of top n (top + width) calls) c
-  here-pre p = body-pre (p .entering) l top (top + width) ew ed (omega arith) room
+  here-pre p = body-pre (p .entering) l top (top + width) ew ed (omega arith) room (p .entering .whole) (p .entering .words)
 
   pub here-done : {s′ l′ : List ℕ} {r : Answer}
       → PostEval R E T A M s l s′ l′ b (place-of top n (top + width) calls) c r
       → PostEnter R E T A M s l s′ l′ b n top calls c r
   here-done g = record {
     done = λ P e F k x z.
-        let a = done x l top (top + width) ew ed (omega arith) room F k g z in
-        body-done x l top (top + width) ew ed (omega arith) room F k g z refl (a .kept .long)
-        (λ i h. a .kept .same i (omega arith) (inl h));
+        let a = done x l top (top + width) ew ed (omega arith) room (x .whole) (x .words) F k g z in
+        body-done x l top (top + width) ew ed (omega arith) room (x .whole) (x .words) F k g z refl (a .kept .long)
+        (λ i h. a .kept .same i (omega arith) (inl h)) (a .kept .words);
   }
 
 -- ---- in slots of its own
@@ -229,23 +233,33 @@ frame-moved l l₁ l₀ n top calls room room₁ w =
     shift : (i : ℕ) → 0 + 1 + i ≡ 0 + (0 + 1 + i)
     shift i = omega arith
 
+-- Words copied among zeros are words.
+pub words-copied : (l : List ℕ) {l₁ : List ℕ} {n : ℕ} (m from : ℕ) → Written (replicate m 0) l₁ 0 n (λ i. getD l (from + i) 0)
+    → ((i : ℕ) → IsWord (getD l i 0)) → (i : ℕ) → IsWord (getD l₁ i 0)
+words-copied l m from w ws = words-written w (λ i h. ws (from + i)) (λ i. zeros-words m i)
+
 -- A segment of its own has room for any call.
-room-own : (E l₁ : List ℕ) (b n : ℕ) {width : ℕ} → width ≡ frame-width (getD E b 0 - b) n → 4096 ≤ length l₁
+room-own : (E l₁ : List ℕ) (b n : ℕ) {width : ℕ} → width ≡ frame-width (getD E b 0 - b) n → length l₁ ≡ 1920
     → n ≤ 8 → width + waiting (most-nested (getD E b 0 - b)) ≤ length l₁
 room-own E l₁ b n ew long h =
     let w = width-bounds (getD E b 0 - b) n h in omega (arith, ew, w .1, w .2)
 
 module _ {R E T A M s l l₁ : List ℕ} {b n top calls : ℕ} {c : Counts} {width : ℕ}
-    (ew : width ≡ frame-width (getD E b 0 - b) n) (long : 4096 ≤ length l₁) where
+    (ew : width ≡ frame-width (getD E b 0 - b) n) (long : length l₁ ≡ 1920)
+    (ws : (i : ℕ) → IsWord (getD l₁ i 0)) where
   pub own-pre : PreEnter R E T A M s l b n top calls c → PreEval R E T A M s l₁ b (place-of 0 n width calls) c
   own-pre p = body-pre (p .entering) l₁ 0 width ew refl (omega arith)
-      (room-own E l₁ b n ew long (p .entering .few))
+      (room-own E l₁ b n ew long (p .entering .few)) long ws
 
   pub own-done : {s′ l₁′ l₀ : List ℕ} {r : Answer} → Written l₀ l₁ 0 (n + 1) (λ i. getD l (top + i) 0)
       → PostEval R E T A M s l₁ s′ l₁′ b (place-of 0 n width calls) c r
       → PostEnter R E T A M s l s′ l b n top calls c r
   own-done {l₀ = l₀} w g = record {
     done = λ P e F k x z.
-        body-done x l₁ 0 width ew refl (omega arith) (room-own E l₁ b n ew long (x .few)) F k g z
-        (frame-moved l l₁ l₀ n top calls (x .there) (omega (arith, x .few)) w) refl (λ i h. refl);
+        body-done x l₁ 0 width ew refl (omega arith) (room-own E l₁ b n ew long (x .few)) long ws F k g z
+        (frame-moved l l₁ l₀ n top calls (x .there) (omega (arith, x .few)) w) refl (λ i h. refl) (x .words);
   }
+
+-- A segment of zeros.
+pub zeros : Segment (replicate 1920 0)
+zeros = record { whole = length-replicate {A = ℕ} 1920 0; words = zeros-words 1920 }

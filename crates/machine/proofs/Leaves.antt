@@ -13,21 +13,20 @@ use Rattle.language.specs.Frames.{at-slot}
 use Rattle.language.specs.Tree.{new, Class}
 use Rattle.language.specs.Program.{world}
 use Rattle.language.specs.Encoded.{Encoded}
-use Rattle.language.specs.State.{Value as Meaning, truth, State, Out}
+use Rattle.language.specs.State.{Value as Meaning, null, truth, object, State, Out}
 use Rattle.language.specs.Evaluation.{need, need-reference, do-change}
 use Rattle.language.proofs.Nodes.{head}
-use Rattle.objects.specs.declared.Value.{Value}
-use Rattle.objects.specs.declared.Value.the-variants.{Null, Truth, Object}
 use Rattle.objects.specs.Values.{Outcome, Gave, Raised, Stopped, Stuck, Counts, outcome, Answer}
-use Rattle.objects.specs.Values.{value, Small, SmallOutcome, bare, told, answer}
+use Rattle.objects.specs.Values.{SmallOutcome, bare, told, answer}
 use Rattle.machine.specs.declared.Place.{Place}
 use Rattle.machine.specs.Machine.{state, frame-of, inside, after}
 use Rattle.objects.specs.Holding.{Within}
 use Rattle.objects.specs.Contracts.{Acts, PostNew, PreNew, PreChange, PostChange, PostLoad, PostCast}
-use Rattle.objects.specs.Contracts.{PreObject, PreCast}
+use Rattle.objects.specs.Contracts.{PreObject, PreCast, IsWord}
 use Rattle.machine.specs.Contracts.{Ready, Done, PreLeaf, PostLeaf, PostRead, no-child, PreApply}
-use Rattle.machine.specs.Contracts.{PostApply, PostWrite, null-tested}
+use Rattle.machine.specs.Contracts.{PostApply, PostWrite, null-tested, Slots}
 use Rattle.objects.proofs.Acts.{stored-same}
+use Rattle.objects.proofs.Values.{outcome-word}
 use Rattle.machine.proofs.Letters.{as-literal-true, as-literal-false, as-literal-null}
 use Rattle.machine.proofs.Letters.{as-slot}
 use Rattle.machine.proofs.Letters.{as-new, as-change, as-is-null, as-get, as-cast, as-assign}
@@ -42,6 +41,7 @@ done-acts {l = l} {q = q} {n = n} {r = r} F k f a e = record {
   kept = record {
     same = λ i h o. refl;
     long = refl;
+    words = f .words;
     stored = a .stored;
     falls = omega (arith, a .left);
     counted = omega (arith, a .left, a .changed);
@@ -59,6 +59,7 @@ done-same {n = n} o F k f m e h = record {
   kept = record {
     same = λ i h o. refl;
     long = refl;
+    words = f .words;
     stored = stored-same (f .sound);
     falls = omega arith;
     counted = omega arith;
@@ -68,46 +69,49 @@ done-same {n = n} o F k f m e h = record {
 }
 
 -- the slot holds a value
-holds-value : (x : Option Meaning) (v : Value) (t : State) → told (Gave v) t ≡ bare (need x t λ v. ok v t)
-    → x ≡ some (value v)
+holds-value : (x : Option Meaning) (v : Meaning) (t : State) → told (Gave v) t ≡ bare (need x t λ v. ok v t)
+    → x ≡ some v
 unfolding bare
 holds-value none v t e = let z : _≡_ {A = ℕ} 0 1 = cc in absurd (omega arith)
-holds-value (some m) v t e = let z : value v ≡ m = cc in rw z
+holds-value (some m) v t e = let z : v ≡ m = cc in rw z
 
 module _ {R T s l : List ℕ} {at : ℕ} {q : Place} {n : Counts} where
   pub leaf-row : PreLeaf R T s l at q n → at * 4 + 3 < length R
   leaf-row p = head (p .node .e) (p .node .encoded) .row
 
-  pub leaf-room : PreLeaf R T s l at q n → q .base + q .scope < length l
-  leaf-room p = omega (arith, p .node .ready .frame, p .node .ready .scoped, p .node .ready .above)
+  pub leaf-slots : PreLeaf R T s l at q n → Slots l q
+  leaf-slots p = record {
+    room = omega (arith, p .node .ready .frame, p .node .ready .scoped, p .node .ready .above);
+    words = p .node .ready .words;
+  }
 
-  pub leaf-true : getD R (at * 4) 0 ≡ 84 → PostLeaf R T s l s at q n (answer (outcome 2) n)
-  unfolding bare inside outcome
+  pub leaf-true : getD R (at * 4) 0 ≡ 84 → PostLeaf R T s l s at q n (answer (outcome 4294967297) n)
+  unfolding bare inside
   leaf-true h = record {
     post = λ E A M. record {
       done = λ P e width d F k f enc w z.
           let c = as-literal-true (head e enc) h in
-          done-same (Gave (Truth true)) F k f (omega arith) z (rw c);
+          rw (outcome-word (truth true) (omega arith)) (done-same (Gave (truth true)) F k f (omega arith) z (rw c));
     };
   }
 
-  pub leaf-false : getD R (at * 4) 0 ≡ 76 → PostLeaf R T s l s at q n (answer (outcome 1) n)
-  unfolding bare inside outcome
+  pub leaf-false : getD R (at * 4) 0 ≡ 76 → PostLeaf R T s l s at q n (answer (outcome 4294967296) n)
+  unfolding bare inside
   leaf-false h = record {
     post = λ E A M. record {
       done = λ P e width d F k f enc w z.
           let c = as-literal-false (head e enc) h in
-          done-same (Gave (Truth false)) F k f (omega arith) z (rw c);
+          rw (outcome-word (truth false) (omega arith)) (done-same (Gave (truth false)) F k f (omega arith) z (rw c));
     };
   }
 
   pub leaf-null : getD R (at * 4) 0 ≡ 78 → PostLeaf R T s l s at q n (answer (outcome 0) n)
-  unfolding bare inside outcome
+  unfolding bare inside
   leaf-null h = record {
     post = λ E A M. record {
       done = λ P e width d F k f enc w z.
           let c = as-literal-null (head e enc) h in
-          done-same (Gave Null) F k f (omega arith) z (rw c);
+          rw (outcome-word null (omega arith)) (done-same (Gave null) F k f (omega arith) z (rw c));
     };
   }
 
@@ -153,10 +157,10 @@ module _ {R T s l : List ℕ} {at : ℕ} {q : Place} {n : Counts} where
     };
   }
 
-  pub pre-change : (v : Value) → PreLeaf R T s l at q n → getD R (at * 4) 0 ≡ 82 → Small v
-      → PreChange R T s v (getD R (at * 4 + 2) 0) n
+  pub pre-change : (x : ℕ) → PreLeaf R T s l at q n → getD R (at * 4) 0 ≡ 82 → IsWord x
+      → PreChange R T s x (getD R (at * 4 + 2) 0) n
   unfolding Encoded Within
-  pre-change v p h m =
+  pre-change x p h i =
       let c = as-change (head (p .node .e) (p .node .encoded)) h in
       let enc = rw (c .2) at (p .node .encoded) in
       let w = rw (c .2) at (p .node .within) in
@@ -168,12 +172,12 @@ module _ {R T s l : List ℕ} {at : ℕ} {q : Place} {n : Counts} where
           sound = p .node .ready .sound;
           declared = omega (arith, enc .row .second, w);
         };
-        small = m;
+        is-word = i;
         counted = omega (arith, p .node .ready .counted);
       }
 
   pub change-missing : (o : Outcome) → getD R (at * 4) 0 ≡ 82 → PostRead l (getD R (at * 4 + 1) 0) q o
-      → ((v : Value) → o ≡ Gave v → ⊥) → PostLeaf R T s l s at q n (answer o n)
+      → ((v : Meaning) → o ≡ Gave v → ⊥) → PostLeaf R T s l s at q n (answer o n)
   unfolding inside Encoded bare
   change-missing o h p not = record {
     post = λ E A M. record {
@@ -187,7 +191,7 @@ module _ {R T s l : List ℕ} {at : ℕ} {q : Place} {n : Counts} where
     };
   }
     where
-      go : (W : _) (d : ℕ) (x : Option Meaning) (o : Outcome) (t : State) → ((v : Value) → o ≡ Gave v → ⊥)
+      go : (W : _) (d : ℕ) (x : Option Meaning) (o : Outcome) (t : State) → ((v : Meaning) → o ≡ Gave v → ⊥)
           → told o t ≡ bare (need x t λ v. ok v t) → told o t ≡ bare (need x t λ v. do-change W d v t)
       go W d none o t not e = e
       go W d (some m) (Gave v) t not e = absurd (not v refl)
@@ -195,7 +199,7 @@ module _ {R T s l : List ℕ} {at : ℕ} {q : Place} {n : Counts} where
       go W d (some m) (Stopped n) t not e = let z : _≡_ {A = ℕ} 0 1 = cc in absurd (omega arith)
       go W d (some m) Stuck t not e = let z : _≡_ {A = ℕ} 0 1 = cc in absurd (omega arith)
 
-  pub change-done : {s′ : List ℕ} {r : Answer} (o : Outcome) (v : Value) → getD R (at * 4) 0 ≡ 82
+  pub change-done : {s′ : List ℕ} {r : Answer} (o : Outcome) (v : Meaning) → getD R (at * 4) 0 ≡ 82
       → PostRead l (getD R (at * 4 + 1) 0) q o → o ≡ Gave v
       → PostChange R T s s′ v (getD R (at * 4 + 2) 0) n r
       → PostLeaf R T s l s′ at q n r
@@ -207,10 +211,10 @@ module _ {R T s l : List ℕ} {at : ℕ} {q : Place} {n : Counts} where
           let enc′ = rw (c .2) at enc in
           let w′ = rw (c .2) at w in
           let i : ℕ = getD R (at * 4 + 1) 0 in
-          let there : at-slot (frame-of l q) i ≡ some (value v) =
+          let there : at-slot (frame-of l q) i ≡ some v =
           holds-value (at-slot (frame-of l q) i) v (state P s l q n k)
           (rw g at (p .is (state P s l q n k))) in
-          let there′ : at-slot (frame-of l q) (c .0) ≡ some (value v) = rw (enc′ .row .first) at there in
+          let there′ : at-slot (frame-of l q) (c .0) ≡ some v = rw (enc′ .row .first) at there in
           let a = done-acts F k f
           (ch .acts A P (f .holds) (f .sound) (omega (arith, enc′ .row .second, w′))) z in
           rw (c .2) (rw (there′, ← enc′ .row .second) a);
@@ -227,14 +231,17 @@ leaf-rest p h a b c d e =
     (λ z. d (x ∙ z)) (λ z. e (x ∙ z))
 
 -- a node with one child, once that has a value
-module _ {R T A s l : List ℕ} {at : ℕ} {q : Place} {n : Counts} {v : Value} where
-  pub apply-row : PreApply R T A s l at q n v → at * 4 + 3 < length R
+module _ {R T A s l : List ℕ} {at : ℕ} {q : Place} {n : Counts} {x : ℕ} where
+  pub apply-row : PreApply R T A s l at q n x → at * 4 + 3 < length R
   apply-row p = head (p .node .e) (p .node .encoded) .row
 
-  pub apply-room : PreApply R T A s l at q n v → q .base + q .scope < length l
-  apply-room p = omega (arith, p .node .ready .frame, p .node .ready .scoped, p .node .ready .above)
+  pub apply-slots : PreApply R T A s l at q n x → Slots l q
+  apply-slots p = record {
+    room = omega (arith, p .node .ready .frame, p .node .ready .scoped, p .node .ready .above);
+    words = p .node .ready .words;
+  }
 
-  pub pre-load : PreApply R T A s l at q n v → getD R (at * 4) 0 ≡ 71
+  pub pre-load : PreApply R T A s l at q n x → getD R (at * 4) 0 ≡ 71
       → PreObject T s (n .made) × (getD R (at * 4 + 1) 0 < 256)
   unfolding Encoded Within
   pre-load p h =
@@ -251,14 +258,15 @@ module _ {R T A s l : List ℕ} {at : ℕ} {q : Place} {n : Counts} {v : Value} 
         omega (arith, enc .0 .row .first, w .1),
       )
 
-  pub pre-cast : PreApply R T A s l at q n v → getD R (at * 4) 0 ≡ 75
-      → PreCast A s (getD R (at * 4 + 1) 0) (n .made)
+  pub pre-cast : PreApply R T A s l at q n x → getD R (at * 4) 0 ≡ 75
+      → PreCast A s x (getD R (at * 4 + 1) 0) (n .made)
   unfolding Encoded Within
   pre-cast p h =
       let c = as-cast (head (p .node .e) (p .node .encoded)) h in
       let enc = rw (c .2) at (p .node .encoded) in
       let w = rw (c .2) at (p .node .within) in
       record {
+        is-word = p .is-word;
         R = R;
         T = T;
         P = p .node .P;
@@ -267,12 +275,13 @@ module _ {R T A s l : List ℕ} {at : ℕ} {q : Place} {n : Counts} {v : Value} 
         declared = omega (arith, enc .0 .row .first, w .1);
       }
 
-  pub apply-rest : PreApply R T A s l at q n v → (getD R (at * 4) 0 ≡ 90 → ⊥) → (getD R (at * 4) 0 ≡ 71 → ⊥)
+  pub apply-rest : PreApply R T A s l at q n x → (getD R (at * 4) 0 ≡ 90 → ⊥) → (getD R (at * 4) 0 ≡ 71 → ⊥)
       → (getD R (at * 4) 0 ≡ 75 → ⊥) → getD R (at * 4) 0 ≡ 65
   apply-rest p a b c =
       let x = head (p .node .e) (p .node .encoded) .letter in
       x ∙ rest-assign (p .node .e) (rw x at (p .letter)) (λ z. a (x ∙ z)) (λ z. b (x ∙ z)) (λ z. c (x ∙ z))
 
+module _ {R T A s l : List ℕ} {at : ℕ} {q : Place} {n : Counts} {v : Meaning} where
   pub apply-test : {r : Outcome} → getD R (at * 4) 0 ≡ 90 → r ≡ null-tested v
       → PostApply R T A s l l at q n v r
   unfolding after bare
@@ -282,21 +291,22 @@ module _ {R T A s l : List ℕ} {at : ℕ} {q : Place} {n : Counts} {v : Value} 
         record {
           long = refl;
           same = λ i o. refl;
+          words = f .words;
           small = rw g (small v);
           is = λ k. rw (c .1, g) (test v (state P s l q n k));
         };
   }
     where
-      small : (v : Value) → SmallOutcome (null-tested v)
-      small Null = omega arith
-      small (Truth b) = tt
-      small (Object j) = omega arith
+      small : (v : Meaning) → SmallOutcome (null-tested v)
+      small null = omega arith
+      small (truth b) = tt
+      small (object j) = omega arith
 
-      test : (v : Value) (t : State)
-          → told (null-tested v) t ≡ bare (need-reference (value v) t λ b. ok (truth b) t)
-      test Null t = refl
-      test (Truth b) t = refl
-      test (Object j) t = refl
+      test : (v : Meaning) (t : State)
+          → told (null-tested v) t ≡ bare (need-reference v t λ b. ok (truth b) t)
+      test null t = refl
+      test (truth b) t = refl
+      test (object j) t = refl
 
   pub apply-get : (r : Outcome) → getD R (at * 4) 0 ≡ 71 → PostLoad T s v (getD R (at * 4 + 1) 0) n r
       → PostApply R T A s l l at q n v r
@@ -309,6 +319,7 @@ module _ {R T A s l : List ℕ} {at : ℕ} {q : Place} {n : Counts} {v : Value} 
         record {
           long = refl;
           same = λ i o. refl;
+          words = f .words;
           small = a .small;
           is = λ k. rw (c .2, ← enc′ .0 .row .first) (a .is (frame-of l q) k);
         };
@@ -326,6 +337,7 @@ module _ {R T A s l : List ℕ} {at : ℕ} {q : Place} {n : Counts} {v : Value} 
         record {
           long = refl;
           same = λ i o. refl;
+          words = f .words;
           small = a .small;
           is = λ k. rw (c .2, ← enc′ .0 .row .first) (a .is (frame-of l q) k);
         };
@@ -341,6 +353,7 @@ module _ {R T A s l : List ℕ} {at : ℕ} {q : Place} {n : Counts} {v : Value} 
         record {
           long = p .long;
           same = λ i o. p .same i (far E M P width d f i o);
+          words = p .words;
           small = p .small;
           is = λ k. rw (c .2, ← enc′ .0 .row .first) (p .is (state P s l q n k));
         };

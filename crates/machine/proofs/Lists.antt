@@ -11,8 +11,7 @@ use Rattle.language.specs.State.{Value as Meaning, State, Out}
 use Rattle.language.specs.Evaluation.{eval-all, last-value}
 use Rattle.language.specs.Store.{capacity}
 use Rattle.language.proofs.Nodes.{head}
-use Rattle.objects.specs.declared.Value.{Value}
-use Rattle.objects.specs.Values.{Outcome, Gave, Raised, Stopped, Stuck, Counts, Answer, value, Small, bare}
+use Rattle.objects.specs.Values.{Outcome, Gave, Raised, Stopped, Stuck, Counts, Answer, Small, bare}
 use Rattle.objects.specs.Values.{told, answer}
 use Rattle.machine.specs.declared.Place.{Place}
 use Rattle.machine.specs.Machine.{state}
@@ -87,7 +86,7 @@ module _ {R E T A M s l : List ℕ} {at : ℕ} {q : Place} {n : Counts} {m : ℕ
         x .within-first;
   }
 
-  module _ (few : m < 4294967296) {s′ l′ : List ℕ} {r : Answer} {v : Value}
+  module _ (few : m < 4294967296) {s′ l′ : List ℕ} {r : Answer} {v : Meaning}
       (g : PostEval R E T A M s l s′ l′ at q n r) (t : r .outcome ≡ Gave v) where
     pub head-done : Done P width s l s′ l′ q n F 0 r
         (evaluated P F (capacity s) (q .calls) e (state P s l q n k))
@@ -106,7 +105,7 @@ module _ {R E T A M s l : List ℕ} {at : ℕ} {q : Place} {n : Counts} {m : ℕ
       few = omega arith;
     }
 
-pub items-none : {R E T A M s l : List ℕ} {at : ℕ} {q : Place} {n : Counts} {m : ℕ} {last : Value} → m ≡ 0
+pub items-none : {R E T A M s l : List ℕ} {at : ℕ} {q : Place} {n : Counts} {m : ℕ} {last : Meaning} → m ≡ 0
     → Small last → PostItems R E T A M s l s l at q n m last (answer (Gave last) n)
 unfolding eval-all count bare
 items-none {R} {E} {T} {A} {M} {s} {l} {at} {q} {n} {m} {last} z small =
@@ -117,11 +116,12 @@ items-none {R} {E} {T} {A} {M} {s} {l} {at} {q} {n} {m} {last} z small =
         → m ≡ count es
         → Done P width s l s l q n F 0 (answer (Gave last) n)
         (bind (evaluated-all P F (capacity s) (q .calls) es (state P s l q n k)) λ vs t.
-        ok (last-value (value last) vs) t)
+        ok (last-value last vs) t)
     go P F k t f nil many = record {
       kept = record {
         same = λ i h o. refl;
         long = refl;
+        words = f .words;
         stored = stored-same (f .sound);
         falls = omega arith;
         counted = omega arith;
@@ -132,7 +132,7 @@ items-none {R} {E} {T} {A} {M} {s} {l} {at} {q} {n} {m} {last} z small =
     go P F k t f (cons e es) many = absurd (omega arith)
 
 fails-twice : (o : Outcome) (t : State) (x : Out Meaning) (k : Meaning → State → Out (List Meaning))
-    (k′ : List Meaning → State → Out Meaning) → ((v : Value) → o ≡ Gave v → ⊥) → told o t ≡ bare x
+    (k′ : List Meaning → State → Out Meaning) → ((v : Meaning) → o ≡ Gave v → ⊥) → told o t ≡ bare x
     → told o t ≡ bare (bind (bind x k) k′)
 fails-twice (Gave v) t x k k′ not e = absurd (not v refl)
 fails-twice (Raised n) t x k k′ not e = bare-stop (bind x k) k′ (bare-stop x k e)
@@ -145,9 +145,9 @@ last-push : (x : Out (List Meaning)) (v w : Meaning)
 last-push (ok vs s) v w = refl
 last-push (stop y s) v w = refl
 
-module _ {R E T A M s l s′ l′ : List ℕ} {at : ℕ} {q : Place} {n : Counts} {m : ℕ} {last : Value} {r : Answer}
+module _ {R E T A M s l s′ l′ : List ℕ} {at : ℕ} {q : Place} {n : Counts} {m : ℕ} {last : Meaning} {r : Answer}
     (z : m ≡ 0 → ⊥) (g : PostEval R E T A M s l s′ l′ at q n r) where
-  pub items-fail : ((v : Value) → r .outcome ≡ Gave v → ⊥) → PostItems R E T A M s l s′ l′ at q n m last r
+  pub items-fail : ((v : Meaning) → r .outcome ≡ Gave v → ⊥) → PostItems R E T A M s l s′ l′ at q n m last r
   unfolding eval-all count
   items-fail not = record { done = λ P es width d F k f enc w many t. go P width d F k f t es enc w many }
     where
@@ -156,7 +156,7 @@ module _ {R E T A M s l s′ l′ : List ℕ} {at : ℕ} {q : Place} {n : Counts
           → EncodedAll R E es at → WithinAll (length P) width (q .scope) d es → m ≡ count es
           → Done P width s l s′ l′ q n F 0 r
           (bind (evaluated-all P F (capacity s) (q .calls) es (state P s l q n k)) λ vs t.
-          ok (last-value (value last) vs) t)
+          ok (last-value last vs) t)
       go P width d F k f t nil enc w many = absurd (z many)
       go P width d F k f t (cons e es) enc w many =
           let x = list-parts {at = at} m P e es width d F k f enc w many t in
@@ -166,10 +166,10 @@ module _ {R E T A M s l s′ l′ : List ℕ} {at : ℕ} {q : Place} {n : Counts
             is = fails-twice (r .outcome) (state P s′ l′ q (r .counts) (F - r .counts .left))
                 (evaluated P F (capacity s) (q .calls) e (state P s l q n k))
                 (λ v u. bind (evaluated-all P F (capacity s) (q .calls) es u) λ vs y. ok (v ∷ vs) y)
-                (λ vs y. ok (last-value (value last) vs) y) not (a .is);
+                (λ vs y. ok (last-value last vs) y) not (a .is);
           }
 
-  pub items-step : {s″ l″ : List ℕ} {v : Value} {r′ : Answer} → r .outcome ≡ Gave v
+  pub items-step : {s″ l″ : List ℕ} {v : Meaning} {r′ : Answer} → r .outcome ≡ Gave v
       → PostItems R E T A M s′ l′ s″ l″ (getD E at 0) q (r .counts) (m - 1) v r′
       → PostItems R E T A M s l s″ l″ at q n m last r′
   unfolding eval-all count
@@ -181,21 +181,21 @@ module _ {R E T A M s l s′ l′ : List ℕ} {at : ℕ} {q : Place} {n : Counts
           → EncodedAll R E es at → WithinAll (length P) width (q .scope) d es → m ≡ count es
           → Done P width s l s″ l″ q n F 0 r′
           (bind (evaluated-all P F (capacity s) (q .calls) es (state P s l q n k)) λ vs t.
-          ok (last-value (value last) vs) t)
+          ok (last-value last vs) t)
       go P width d F k f t nil enc w many = absurd (z many)
       go P width d F k f t (cons e es) enc w many =
           let x = list-parts {at = at} m P e es width d F k f enc w many t in
           let a = g .done P e width d F k f (x .enc-first) (x .within-first) t in
           let c : capacity s′ ≡ capacity s = room-same s s′ (a .kept .stored .long) in
           let st : State = state P s′ l′ q (r .counts) (F - r .counts .left) in
-          let gave : evaluated P F (capacity s) (q .calls) e (state P s l q n k) ≡ ok (value v) st =
+          let gave : evaluated P F (capacity s) (q .calls) e (state P s l q n k) ≡ ok v st =
           gives st (evaluated P F (capacity s) (q .calls) e (state P s l q n k)) e₁ (a .is) in
           let b = rw c at (g′ .done P es width d F (F - r .counts .left) (refit 0 d f (a .kept) (omega arith))
           (rw (x .end) (x .enc-rest)) (x .within-rest) (omega (arith, x .many))
           (omega (arith, a .kept .falls))) in
           record {
             kept = kept-then 0 0 0 (a .kept) (b .kept) (omega arith);
-            is = rw (gave, last-push (evaluated-all P F (capacity s) (q .calls) es st) (value v) (value last))
+            is = rw (gave, last-push (evaluated-all P F (capacity s) (q .calls) es st) v last)
                 (b .is);
           }
 
@@ -204,17 +204,17 @@ pub record ItemsLoop (R E T A M s₀ l₀ : List ℕ) (at : ℕ) (q : Place) (m 
     (r : Answer) (next i : ℕ) : Type 0 where
   pub low : i ≤ m
   pub list : PreList R E T A M s l next q (r .counts) (m - i)
-  pub v : Value
+  pub v : Meaning
   pub gave : r .outcome ≡ Gave v
   pub small : Small v
   pub falls : r .counts .left ≤ r₀ .counts .left
   pub long-store : length s ≡ length s₀
   pub long-slots : length l ≡ length l₀
-  pub rest : (last : Value) → r₀ .outcome ≡ Gave last → (s′ l′ : List ℕ) (r′ : Answer)
+  pub rest : (last : Meaning) → r₀ .outcome ≡ Gave last → (s′ l′ : List ℕ) (r′ : Answer)
       → PostItems R E T A M s l s′ l′ next q (r .counts) (m - i) v r′
       → PostItems R E T A M s₀ l₀ s′ l′ at q (r₀ .counts) m last r′
 
-pub items-start : {R E T A M s l : List ℕ} {at : ℕ} {q : Place} {n : Counts} {m : ℕ} {last : Value}
+pub items-start : {R E T A M s l : List ℕ} {at : ℕ} {q : Place} {n : Counts} {m : ℕ} {last : Meaning}
     {o : Outcome} → PreList R E T A M s l at q n m → Small last → o ≡ Gave last
     → ItemsLoop R E T A M s l at q m (answer (Gave last) n) s l (answer o n) at 0
 items-start {m = m} {last} p small gave =
@@ -233,7 +233,7 @@ items-start {m = m} {last} p small gave =
 
 module _ {R E T A M s₀ l₀ : List ℕ} {at : ℕ} {q : Place} {m : ℕ} {r₀ : Answer} {s l : List ℕ} {r : Answer}
     {next i : ℕ} (x : ItemsLoop R E T A M s₀ l₀ at q m r₀ s l r next i) where
-  pub items-ended : {last : Value} → r₀ .outcome ≡ Gave last → m ≤ i
+  pub items-ended : {last : Meaning} → r₀ .outcome ≡ Gave last → m ≤ i
       → PostItems R E T A M s₀ l₀ s l at q (r₀ .counts) m last r
   items-ended {last} e h =
       let z : m - i ≡ 0 = omega arith in
@@ -249,11 +249,11 @@ module _ {R E T A M s₀ l₀ : List ℕ} {at : ℕ} {q : Place} {m : ℕ} {r₀
     items-head = list-apart (x .list) (λ z. omega arith)
 
     module _ {s′ l′ : List ℕ} {r′ : Answer} (g : PostEval R E T A M s l s′ l′ next q (r .counts) r′) where
-      pub items-broken : {last : Value} → r₀ .outcome ≡ Gave last → ((v : Value) → r′ .outcome ≡ Gave v → ⊥)
+      pub items-broken : {last : Meaning} → r₀ .outcome ≡ Gave last → ((v : Meaning) → r′ .outcome ≡ Gave v → ⊥)
           → PostItems R E T A M s₀ l₀ s′ l′ at q (r₀ .counts) m last r′
       items-broken {last} e not = x .rest last e s′ l′ r′ (items-fail (λ z. omega arith) g not)
 
-      pub items-next : {w : Value} → r′ .outcome ≡ Gave w
+      pub items-next : {w : Meaning} → r′ .outcome ≡ Gave w
           → ItemsLoop R E T A M s₀ l₀ at q m r₀ s′ l′ r′ (getD E next 0) (i + 1)
       items-next {w} t =
           let k = kept-of (list-first (items-head .2)) g in

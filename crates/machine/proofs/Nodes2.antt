@@ -8,11 +8,11 @@ use Rattle.language.specs.Results.{ok, bind}
 use Rattle.language.specs.Tree.{Expr, set, Class, size}
 use Rattle.language.specs.Program.{world}
 use Rattle.language.specs.Encoded.{Encoded}
+use Rattle.language.specs.State.{Value as Meaning}
 use Rattle.language.specs.Evaluation.{do-set}
 use Rattle.language.specs.Store.{capacity}
 use Rattle.language.proofs.Nodes.{head}
-use Rattle.objects.specs.declared.Value.{Value}
-use Rattle.objects.specs.Values.{Outcome, Gave, Counts, Answer, value, answer}
+use Rattle.objects.specs.Values.{Outcome, Gave, Counts, Answer, answer, SmallOutcome}
 use Rattle.machine.specs.declared.Place.{Place}
 use Rattle.machine.specs.Machine.{state, frame-of, inside}
 use Rattle.objects.specs.Holding.{Within}
@@ -86,7 +86,7 @@ module _ {R E T A M s l : List ℕ} {at : ℕ} {q : Place} {n : Counts} {P : Lis
     within = x .within-a;
   }
 
-  module _ {s′ l′ : List ℕ} {r : Answer} {v : Value} (g : PostEval R E T A M s l s′ l′ (at + 1) q n r)
+  module _ {s′ l′ : List ℕ} {r : Answer} {v : Meaning} (g : PostEval R E T A M s l s′ l′ (at + 1) q n r)
       (e : r .outcome ≡ Gave v) where
     pub first-done : Done P width s l s′ l′ q n F 0 r
         (evaluated P F (capacity s) (q .calls) a (state P s l q n k))
@@ -94,7 +94,7 @@ module _ {R E T A M s l : List ℕ} {at : ℕ} {q : Place} {n : Counts} {P : Lis
         (x .within-a) (x .total)
 
     pub first-gave : evaluated P F (capacity s) (q .calls) a (state P s l q n k)
-        ≡ ok (value v) (state P s′ l′ q (r .counts) (F - r .counts .left))
+        ≡ ok v (state P s′ l′ q (r .counts) (F - r .counts .left))
     first-gave = gives (state P s′ l′ q (r .counts) (F - r .counts .left))
         (evaluated P F (capacity s) (q .calls) a (state P s l q n k)) e (first-done .is)
 
@@ -115,7 +115,7 @@ module _ {R E T A M s l : List ℕ} {at : ℕ} {q : Place} {n : Counts} {P : Lis
 -- J and U fail with their first child
 pub set-fail : {R E T A M s l s′ l′ : List ℕ} (at : ℕ) {q : Place} {n : Counts} {r : Answer}
     → getD R (at * 4) 0 ≡ 85 → PostEval R E T A M s l s′ l′ (at + 1) q n r
-    → ((v : Value) → r .outcome ≡ Gave v → ⊥) → PostNode R E T A M s l s′ l′ at q n r
+    → ((v : Meaning) → r .outcome ≡ Gave v → ⊥) → PostNode R E T A M s l s′ l′ at q n r
 unfolding inside
 set-fail {R} {E} {T} {A} {M} {s} {l} {s′} {l′} at {q} {n} {r} h g not = record {
   done = λ P e width d F k f enc w z.
@@ -134,7 +134,7 @@ set-fail {R} {E} {T} {A} {M} {s} {l} {s′} {l′} at {q} {n} {r} h g not = reco
       };
 }
 
-module _ {R E T A M s l s′ l′ s″ l″ : List ℕ} (at : ℕ) {q : Place} {n : Counts} {r r′ : Answer} {v : Value}
+module _ {R E T A M s l s′ l′ s″ l″ : List ℕ} (at : ℕ) {q : Place} {n : Counts} {r r′ : Answer} {v : Meaning}
     (h : getD R (at * 4) 0 ≡ 85)
     (g : PostEval R E T A M s l s′ l′ (at + 1) q n r) (t : r .outcome ≡ Gave v)
     (g′ : PostEval R E T A M s′ l′ s″ l″ (getD E (at + 1) 0) q (r .counts) r′) where
@@ -149,7 +149,7 @@ module _ {R E T A M s l s′ l′ s″ l″ : List ℕ} (at : ℕ) {q : Place} {
       (refit 1 (d - 1) (x .ready) kp (omega arith)) (rw (x .end) (x .enc-b)) (x .within-b)
       (omega (arith, kp .falls, x .total))
 
-  pub set-fail-second : ((w : Value) → r′ .outcome ≡ Gave w → ⊥) → PostNode R E T A M s l s″ l″ at q n r′
+  pub set-fail-second : ((w : Meaning) → r′ .outcome ≡ Gave w → ⊥) → PostNode R E T A M s l s″ l″ at q n r′
   unfolding inside
   set-fail-second not = record {
     done = λ P e width d F k f enc w z.
@@ -163,11 +163,11 @@ module _ {R E T A M s l s′ l′ s″ l″ : List ℕ} (at : ℕ) {q : Place} {
               (fails (r′ .outcome) (state P s″ l″ q (r′ .counts) (F - r′ .counts .left))
               (evaluated P F (capacity s) (q .calls) (c .2)
               (state P s′ l′ q (r .counts) (F - r .counts .left)))
-              (λ w u. do-set (world P) (c .0) (value v) w u) not (b .is));
+              (λ w u. do-set (world P) (c .0) v w u) not (b .is));
         };
   }
 
-  pub set-done : {s‴ : List ℕ} {w : Value} (y : Outcome) → r′ .outcome ≡ Gave w
+  pub set-done : {s‴ : List ℕ} {w : Meaning} (y : Outcome) → r′ .outcome ≡ Gave w
       → PostSave T s″ s‴ v w (getD R (at * 4 + 1) 0) (r′ .counts) y
       → PostNode R E T A M s l s‴ l″ at q n (answer y (r′ .counts))
   unfolding inside
@@ -181,7 +181,7 @@ module _ {R E T A M s l s′ l′ s″ l″ : List ℕ} (at : ℕ) {q : Place} {
         let both = kept-then 0 0 0 (a .kept) (b .kept) (omega arith) in
         let gave : evaluated P F (capacity s) (q .calls) (c .2)
         (state P s′ l′ q (r .counts) (F - r .counts .left))
-        ≡ ok (value w) (state P s″ l″ q (r′ .counts) (F - r′ .counts .left))
+        ≡ ok w (state P s″ l″ q (r′ .counts) (F - r′ .counts .left))
         = gives (state P s″ l″ q (r′ .counts) (F - r′ .counts .left))
         (evaluated P F (capacity s) (q .calls) (c .2) (state P s′ l′ q (r .counts) (F - r .counts .left)))
         t′ (b .is) in
@@ -190,6 +190,7 @@ module _ {R E T A M s l s′ l′ s″ l″ : List ℕ} (at : ℕ) {q : Place} {
           kept = record {
             same = both .same;
             long = both .long;
+            words = both .words;
             stored = Steps.stored-then (both .stored) (u .stored);
             falls = both .falls;
             counted = omega (arith, both .counted);
@@ -201,16 +202,19 @@ module _ {R E T A M s l s′ l′ s″ l″ : List ℕ} (at : ℕ) {q : Place} {
   }
 
 pub pre-save : {R E T A M s l s′ l′ s″ l″ : List ℕ} {at : ℕ} {q : Place} {n : Counts} {r r′ : Answer}
-    {v : Value} {P : List Class} {f : ℕ} {a b : Expr} {width d F k : ℕ}
+    {v : Meaning} {P : List Class} {f : ℕ} {a b : Expr} {width d F k : ℕ}
     (x : SetAt R E T A M s l at q n P f a b width d F k)
     (g : PostEval R E T A M s l s′ l′ (at + 1) q n r) (t : r .outcome ≡ Gave v)
     (g′ : PostEval R E T A M s′ l′ s″ l″ (getD E (at + 1) 0) q (r .counts) r′)
-    → PreObject T s″ (r′ .counts .made)
+    → PreObject T s″ (r′ .counts .made) × SmallOutcome (r′ .outcome)
 pre-save {R} {A = A} {P = P} x g t g′ =
-    record {
-      R = R;
-      A = A;
-      P = P;
-      holds = x .ready .holds;
-      sound = kept-of (set-second x g t) g′ .stored .sound;
-    }
+    let kp = kept-of (set-second x g t) g′ in (
+      record {
+        R = R;
+        A = A;
+        P = P;
+        holds = x .ready .holds;
+        sound = kp .stored .sound;
+      },
+      kp .small,
+    )

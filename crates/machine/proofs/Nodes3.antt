@@ -13,13 +13,11 @@ use Rattle.language.specs.Results.{ok}
 use Rattle.language.specs.Lists.{choice}
 use Rattle.language.specs.Tree.{Expr, choose, Class, size}
 use Rattle.language.specs.Encoded.{Encoded}
-use Rattle.language.specs.State.{Value as Meaning, truth, State, Out}
+use Rattle.language.specs.State.{Value as Meaning, null, truth, object, State, Out}
 use Rattle.language.specs.Evaluation.{need-truth}
 use Rattle.language.specs.Store.{capacity}
 use Rattle.language.proofs.Nodes.{head}
-use Rattle.objects.specs.declared.Value.{Value}
-use Rattle.objects.specs.declared.Value.the-variants.{Null, Truth, Object}
-use Rattle.objects.specs.Values.{Gave, Stuck, Counts, Answer, value, bare, told, answer}
+use Rattle.objects.specs.Values.{Gave, Stuck, Counts, Answer, bare, told, answer, case-of}
 use Rattle.machine.specs.declared.Place.{Place}
 use Rattle.machine.specs.Machine.{state, inside}
 use Rattle.objects.specs.Holding.{Within}
@@ -100,7 +98,7 @@ module _ {R E T A M s l : List ℕ} {at : ℕ} {q : Place} {n : Counts} {P : Lis
     condition-done = g .done P a width (d - 1) F k (ready-child 1 (d - 1) (x .ready) (omega arith)) (x .enc-a)
         (x .within-a) (x .total)
 
-    module _ {v : Value} {t : Bool} (e : r .outcome ≡ Gave v) (e′ : v ≡ Truth t) where
+    module _ {v : Meaning} {t : Bool} (e : r .outcome ≡ Gave v) (e′ : v ≡ truth t) where
       pub condition-gave : (y : Bool) → t ≡ y
           → evaluated P F (capacity s) (q .calls) a (state P s l q n k)
           ≡ ok (truth y) (state P s′ l′ q (r .counts) (F - r .counts .left))
@@ -135,7 +133,7 @@ module _ {R E T A M s l : List ℕ} {at : ℕ} {q : Place} {n : Counts} {P : Lis
 
 module _ {R E T A M s l s′ l′ : List ℕ} (at : ℕ) {q : Place} {n : Counts} {r : Answer}
     (h : getD R (at * 4) 0 ≡ 74) (g : PostEval R E T A M s l s′ l′ (at + 1) q n r) where
-  pub choose-fail : ((v : Value) → r .outcome ≡ Gave v → ⊥) → PostNode R E T A M s l s′ l′ at q n r
+  pub choose-fail : ((v : Meaning) → r .outcome ≡ Gave v → ⊥) → PostNode R E T A M s l s′ l′ at q n r
   unfolding inside
   choose-fail not = record {
     done = λ P e width d F k f enc w z.
@@ -153,7 +151,7 @@ module _ {R E T A M s l s′ l′ : List ℕ} (at : ℕ) {q : Place} {n : Counts
         };
   }
 
-  pub choose-stuck : {v : Value} → r .outcome ≡ Gave v → OneOf (0 ∷ 2 ∷ []) (tagOf the-type v)
+  pub choose-stuck : {v : Meaning} → r .outcome ≡ Gave v → OneOf (0 ∷ 2 ∷ []) (tagOf the-type (case-of v))
       → PostNode R E T A M s l s′ l′ at q n (answer Stuck (r .counts))
   unfolding inside bare
   choose-stuck {v} t o = record {
@@ -174,13 +172,13 @@ module _ {R E T A M s l s′ l′ : List ℕ} (at : ℕ) {q : Place} {n : Counts
         };
   }
     where
-      no-truth : (v : Value) → OneOf (0 ∷ 2 ∷ []) (tagOf the-type v) → (u : State) (k : Bool → Out Meaning)
-          → told Stuck u ≡ bare (need-truth (value v) u k)
-      no-truth Null o u k = refl
-      no-truth (Truth b) o u k = absurd (⊎-elim (λ e. eqb-false 1 0 refl e) (λ e. eqb-false 1 2 refl e) o)
-      no-truth (Object j) o u k = refl
+      no-truth : (v : Meaning) → OneOf (0 ∷ 2 ∷ []) (tagOf the-type (case-of v)) → (u : State) (k : Bool → Out Meaning)
+          → told Stuck u ≡ bare (need-truth v u k)
+      no-truth null o u k = refl
+      no-truth (truth b) o u k = absurd (⊎-elim (λ e. eqb-false 1 0 refl e) (λ e. eqb-false 1 2 refl e) o)
+      no-truth (object j) o u k = refl
 
-  module _ {s″ l″ : List ℕ} {r′ : Answer} {v : Value} {t : Bool} (e₁ : r .outcome ≡ Gave v) (e₂ : v ≡ Truth t)
+  module _ {s″ l″ : List ℕ} {r′ : Answer} {v : Meaning} {t : Bool} (e₁ : r .outcome ≡ Gave v) (e₂ : v ≡ truth t)
     where
       pub choose-yes : t ≡ true → PostEval R E T A M s′ l′ s″ l″ (getD E (at + 1) 0) q (r .counts) r′
           → PostNode R E T A M s l s″ l″ at q n r′

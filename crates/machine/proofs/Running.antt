@@ -134,7 +134,9 @@ module _ {R E T A M s l : List ℕ} {at fuel : ℕ} {p : Program} (u : Runs R E 
     };
     frame = omega arith;
     scoped = omega arith;
-    above = omega (arith, u .room);
+    whole = u .segment .whole;
+    above = omega (arith, u .segment .whole);
+    words = u .segment .words;
     active = omega arith;
     counted = omega arith;
   }

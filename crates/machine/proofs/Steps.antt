@@ -16,8 +16,8 @@ use Rattle.language.specs.State.{Value as Meaning, State, Out}
 use Rattle.language.specs.Evaluation.{with-limits}
 use Rattle.language.specs.Store.{capacity}
 use Rattle.language.proofs.Nodes.{head}
-use Rattle.objects.specs.declared.Value.{Value}
-use Rattle.objects.specs.Values.{Outcome, Gave, Raised, Stopped, Stuck, Counts, counts-in, Answer, value}
+use Rattle.objects.specs.Values.{meaning}
+use Rattle.objects.specs.Values.{Outcome, Gave, Raised, Stopped, Stuck, Counts, counts-in, Answer}
 use Rattle.objects.specs.Values.{SmallOutcome, bare, told, answer}
 use Rattle.machine.specs.declared.Place.{Place}
 use Rattle.machine.specs.Machine.{state, after}
@@ -57,6 +57,7 @@ pub kept-then : {P : List Class} {s l s′ l′ s″ l″ : List ℕ} {width : �
 kept-then z z′ z″ a b h = record {
   same = λ i u o. b .same i u o ∙ a .same i u o;
   long = b .long ∙ a .long;
+  words = b .words;
   stored = stored-then (a .stored) (b .stored);
   falls = omega (arith, a .falls, b .falls);
   counted = omega (arith, a .counted, b .counted);
@@ -70,6 +71,7 @@ kept-more z z′ a h =
     record {
       same = a .same;
       long = a .long;
+      words = a .words;
       stored = a .stored;
       falls = a .falls;
       counted = omega (arith, a .counted);
@@ -83,6 +85,7 @@ pub kept-as : {P : List Class} {width : ℕ} {s l s′ l′ : List ℕ} {q : Pla
 kept-as z o a m = record {
   same = a .same;
   long = a .long;
+  words = a .words;
   stored = a .stored;
   falls = a .falls;
   counted =
@@ -101,7 +104,9 @@ ready-child z d′ f h =
       sound = f .sound;
       frame = f .frame;
       scoped = f .scoped;
+      whole = f .whole;
       above = omega (arith, f .above);
+      words = f .words;
       active = f .active;
       counted = omega (arith, f .counted);
     }
@@ -116,7 +121,9 @@ refit z d′ f k h = record {
   sound = k .stored .sound;
   frame = f .frame;
   scoped = f .scoped;
+  whole = omega (arith, f .whole, k .long);
   above = omega (arith, f .above, k .long);
+  words = k .words;
   active = f .active;
   counted = omega (arith, f .counted, k .counted);
 }
@@ -136,14 +143,14 @@ then-eval room c p P e width d F k f enc w z = rw c at (p .done P e width d F k 
 -- ---- results
 
 pub fails : (o : Outcome) (t : State) (x : Out Meaning) (k : Meaning → State → Out Meaning)
-    → ((v : Value) → o ≡ Gave v → ⊥) → told o t ≡ bare x → told o t ≡ bare (bind x k)
+    → ((v : Meaning) → o ≡ Gave v → ⊥) → told o t ≡ bare x → told o t ≡ bare (bind x k)
 fails (Gave v) t x k not e = absurd (not v refl)
 fails (Raised n) t x k not e = bare-stop x k e
 fails (Stopped n) t x k not e = bare-stop x k e
 fails Stuck t x k not e = bare-stop x k e
 
-pub gives : {o : Outcome} {v : Value} (t : State) (x : Out Meaning) → o ≡ Gave v → told o t ≡ bare x
-    → x ≡ ok (value v) t
+pub gives : {o : Outcome} {v : Meaning} (t : State) (x : Out Meaning) → o ≡ Gave v → told o t ≡ bare x
+    → x ≡ ok v t
 gives t x e h = bare-ok x (rw e at h)
 
 -- ---- eval
@@ -164,6 +171,7 @@ eval-spent {s = s} {l} {q = q} {n} z = record {
         kept = record {
           same = λ i h o. refl;
           long = refl;
+          words = f .words;
           stored = stored-same (f .sound);
           falls = omega arith;
           counted = omega arith;
@@ -205,7 +213,9 @@ from-entered {R} {E} {T} {A} {M} {s} {l} {q = q} {n} z p = record {
         sound = f .sound;
         frame = f .frame;
         scoped = f .scoped;
+        whole = f .whole;
         above = f .above;
+        words = f .words;
         active = f .active;
         counted = omega (arith, f .counted);
       } in
@@ -214,6 +224,7 @@ from-entered {R} {E} {T} {A} {M} {s} {l} {q = q} {n} z p = record {
         kept = record {
           same = g .kept .same;
           long = g .kept .long;
+          words = g .kept .words;
           stored = g .kept .stored;
           falls = omega (arith, g .kept .falls);
           counted = omega (arith, g .kept .counted);
@@ -244,7 +255,9 @@ to-entered z p =
         sound = f .sound;
         frame = f .frame;
         scoped = f .scoped;
+        whole = f .whole;
         above = f .above;
+        words = f .words;
         active = f .active;
         counted = omega (arith, f .counted);
       };
@@ -298,11 +311,11 @@ kept-of {n = n} p g =
     g .done (p .P) (p .e) (p .width) (p .d) (n .left) 0 (p .ready) (p .encoded) (p .within)
     (omega arith) .kept
 
-pub pre-apply : {R E T A M s l s′ l′ : List ℕ} {at : ℕ} {q : Place} {n : Counts} {r : Answer} {v : Value}
+pub pre-apply : {R E T A M s l s′ l′ : List ℕ} {at : ℕ} {q : Place} {n : Counts} {r : Answer} (w : ℕ)
     (p : PreEntered R E T A M s l at q n) (h : one-child (getD R (at * 4) 0) ≡ true)
-    → PostEval R E T A M s l s′ l′ (at + 1) q n r → r .outcome ≡ Gave v
-    → PreApply R T A s′ l′ at q (r .counts) v
-pre-apply {E = E} {M = M} p h g e =
+    → PostEval R E T A M s l s′ l′ (at + 1) q n r → r .outcome ≡ Gave (meaning w) → w < 17179869184
+    → PreApply R T A s′ l′ at q (r .counts) w
+pre-apply {E = E} {M = M} w p h g e short =
     let k = kept-of (one-pre p h) g in
     record {
       E = E;
@@ -317,7 +330,7 @@ pre-apply {E = E} {M = M} p h g e =
         within = p .within;
       };
       letter = h;
-      small = small-of e (k .small);
+      is-word = record { short = short; small = small-of e (k .small) };
     }
 
 module _ {R E T A M s l s′ l′ : List ℕ} (at : ℕ) {q : Place} {n : Counts} {r : Answer}
@@ -330,7 +343,7 @@ module _ {R E T A M s l s′ l′ : List ℕ} (at : ℕ) {q : Place} {n : Counts
       g .done P (child e) width (d - 1) F k (ready-child 1 (d - 1) f (omega arith)) (one-encoded R E at o enc)
       (one-within (length P) width (q .scope) d o w .1) z
 
-  pub one-fail : ((v : Value) → r .outcome ≡ Gave v → ⊥) → PostNode R E T A M s l s′ l′ at q n r
+  pub one-fail : ((v : Meaning) → r .outcome ≡ Gave v → ⊥) → PostNode R E T A M s l s′ l′ at q n r
   one-fail not = record {
     done = λ P e width d F k f enc w z.
         let o = one-of e (rw (head e enc .letter) at h) in
@@ -345,7 +358,7 @@ module _ {R E T A M s l s′ l′ : List ℕ} (at : ℕ) {q : Place} {n : Counts
         };
   }
 
-  pub one-done : {l″ : List ℕ} {v : Value} (x : Outcome) → r .outcome ≡ Gave v
+  pub one-done : {l″ : List ℕ} {v : Meaning} (x : Outcome) → r .outcome ≡ Gave v
       → PostApply R T A s′ l′ l″ at q (r .counts) v x
       → PostNode R E T A M s l s′ l″ at q n (answer x (r .counts))
   one-done {l″} {v} x t p = record {
@@ -354,13 +367,14 @@ module _ {R E T A M s l s′ l′ : List ℕ} (at : ℕ) {q : Place} {n : Counts
         let a = one-child-done P e width d F k f o enc w z in
         let b = p .applied E M P e width d (refit 1 d f (a .kept) (omega arith)) enc w in
         let c : evaluated P F (capacity s) (q .calls) (child e) (state P s l q n k)
-        ≡ ok (value v) (state P s′ l′ q (r .counts) (F - r .counts .left)) =
+        ≡ ok v (state P s′ l′ q (r .counts) (F - r .counts .left)) =
         gives (state P s′ l′ q (r .counts) (F - r .counts .left))
         (evaluated P F (capacity s) (q .calls) (child e) (state P s l q n k)) t (a .is) in
         record {
           kept = record {
             same = λ i u y. b .same i y ∙ a .kept .same i u y;
             long = b .long ∙ a .kept .long;
+            words = b .words;
             stored = a .kept .stored;
             falls = a .kept .falls;
             counted = omega (arith, a .kept .counted);

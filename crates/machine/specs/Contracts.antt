@@ -24,49 +24,53 @@ use Rattle.machine.specs.declared.End.{End}
 use Rattle.machine.specs.declared.Place.{Place}
 use Rattle.machine.specs.declared.End.the-variants.{Gave as EndGave, Raised as EndRaised}
 use Rattle.machine.specs.declared.End.the-variants.{Stopped as EndStopped}
-use Rattle.objects.specs.declared.Value.{Value}
-use Rattle.objects.specs.declared.Value.the-variants.{Null, Truth, Object}
-use Rattle.objects.specs.Values.{value, stop-of, Small, SmallOutcome, told, bare, Outcome, Gave, Raised}
-use Rattle.objects.specs.Values.{Stopped, Stuck, Counts, outcome, Answer, answer}
+use Rattle.objects.specs.Values.{word, meaning, case-of, stop-of, SmallOutcome, told, bare, Outcome, Gave}
+use Rattle.objects.specs.Values.{Raised, Stopped, Stuck, Counts, outcome, Answer, answer}
 use Rattle.objects.specs.Holding.{Within, WithinAll, Holds, HoldsMethods, Sound, view}
-use Rattle.objects.specs.Contracts.{Written, Stored}
-use Rattle.objects.specs.Holding.{first-of-type, frame-room}
+use Rattle.objects.specs.Contracts.{Written, Stored, IsWord}
+use Rattle.objects.specs.Holding.{first-value-of, frame-room}
 use Rattle.machine.specs.Machine.{told-all, slots-of, frame-of, state, after, inside}
 use Rattle.language.specs.Rows.{code, T-true, L-false, N-null, I-slot, Z-is-null, G-get, K-cast, W-new}
 use Rattle.language.specs.Rows.{R-change, A-assign}
 
 -- ---- slots
 
+-- The slots in scope are there, and all slots are words of values.
+pub record Slots (l : List ℕ) (q : Place) : Type 0 where
+  pub room : q .base + q .scope < length l
+  pub words : (i : ℕ) → IsWord (getD l i 0)
+
 pub record Locals (R l : List ℕ) (row from n : ℕ) : Type 0 where
   pub room : from + n ≤ length l
   pub rows : (i : ℕ) → i < n → (row + i) * 4 + 1 < length R
 
 abbrev pub Opened : List ℕ → List ℕ → List ℕ → ℕ → ℕ → ℕ → Type 0
-Opened R l l′ row from n = Written l l′ from n (λ i. first-of-type (getD R ((row + i) * 4 + 1) 0))
+Opened R l l′ row from n = Written l l′ from n (λ i. word (first-value-of (getD R ((row + i) * 4 + 1) 0)))
 
 pub record PostRead (l : List ℕ) (k : ℕ) (q : Place) (r : Outcome) : Type 0 where
   pub small : SmallOutcome r
   pub is : (t : State) → told r t ≡ bare (need (at-slot (frame-of l q) k) t λ v. ok v t)
 
-pub record PostWrite (l l′ : List ℕ) (k : ℕ) (v : Value) (q : Place) (r : Outcome) : Type 0 where
+pub record PostWrite (l l′ : List ℕ) (k : ℕ) (v : Meaning) (q : Place) (r : Outcome) : Type 0 where
   pub long : length l′ ≡ length l
   pub same : (i : ℕ) → (i < q .base) ⊎ (q .base + q .scope < i) → getD l′ i 0 ≡ getD l i 0
+  pub words : (i : ℕ) → IsWord (getD l′ i 0)
   pub small : SmallOutcome r
   pub is : (t : State) → told r (with-frame (frame-of l′ q) t)
       ≡ bare (need (at-slot (frame-of l q) k) t λ _.
-      ok (value v) (with-frame (with-slot (frame-of l q) k (value v)) t))
+      ok v (with-frame (with-slot (frame-of l q) k v) t))
 
 -- Z of a value.
-abbrev pub null-tested : Value → Outcome
-null-tested Null = Gave (Truth true)
-null-tested (Truth b) = Stuck
-null-tested (Object j) = Gave (Truth false)
+abbrev pub null-tested : Meaning → Outcome
+null-tested null = Gave (truth true)
+null-tested (truth b) = Stuck
+null-tested (object j) = Gave (truth false)
 
 -- ---- the cycle
 
 -- The value of no expressions.
-abbrev pub nothing : Value
-nothing = Null
+abbrev pub nothing : Meaning
+nothing = null
 
 -- How many values wait at most where d nodes nest: a receiver and arguments in each. And the most slots of a call: its
 -- frame, and the values that wait in it.
@@ -75,6 +79,10 @@ waiting d = (of-check .parameters + 1) * d
 
 abbrev pub call-room : ℕ
 call-room = frame-room + waiting (of-check .nesting)
+
+-- Slots come in segments of one length, which has room for any call.
+abbrev pub segment-length : ℕ
+segment-length = 1920
 
 -- Everything fits: a frame of a width at base, waiting values up to top, and room for those of d nested nodes; z is 1
 -- where a node has been entered.
@@ -85,7 +93,9 @@ pub record Ready (R E T A M s l : List ℕ) (P : List Class) (width : ℕ) (q : 
   pub sound : Sound P (n .made) s
   pub frame : q .base + width ≤ q .top
   pub scoped : q .scope + 1 ≤ width
+  pub whole : length l ≡ segment-length
   pub above : q .top + waiting d ≤ length l
+  pub words : (i : ℕ) → IsWord (getD l i 0)
   pub active : q .calls ≤ most-calls
   pub counted : n .changes + n .left + z ≤ 4294967295
 
@@ -95,6 +105,7 @@ pub record Kept (P : List Class) (width : ℕ) (s l s′ l′ : List ℕ) (q : P
   where
     pub same : (i : ℕ) → i < q .top → (i < q .base) ⊎ (q .base + width ≤ i) → getD l′ i 0 ≡ getD l i 0
     pub long : length l′ ≡ length l
+    pub words : (i : ℕ) → IsWord (getD l′ i 0)
     pub stored : Stored P s s′ (n .made) (r .counts .made)
     pub falls : r .counts .left ≤ n .left
     pub counted : r .counts .changes + r .counts .left ≤ n .changes + n .left + z
@@ -176,23 +187,24 @@ pub record PreLeaf (R T s l : List ℕ) (at : ℕ) (q : Place) (n : Counts) : Ty
 pub record PostLeaf (R T s l s′ : List ℕ) (at : ℕ) (q : Place) (n : Counts) (r : Answer) : Type 0 where
   pub post : (E A M : List ℕ) → PostNode R E T A M s l s′ l at q n r
 
-pub record PreApply (R T A s l : List ℕ) (at : ℕ) (q : Place) (n : Counts) (v : Value) : Type 0 where
+pub record PreApply (R T A s l : List ℕ) (at : ℕ) (q : Place) (n : Counts) (w : ℕ) : Type 0 where
   pub E : List ℕ
   pub M : List ℕ
   pub node : PreNode R E T A M s l at q n 0
   pub letter : one-child (getD R (at * 4) 0) ≡ true
-  pub small : Small v
+  pub is-word : IsWord w
 
 pub record Applied (P : List Class) (width : ℕ) (s l l′ : List ℕ) (e : Expr) (q : Place) (n : Counts)
-    (v : Value)
+    (v : Meaning)
     (r : Outcome) : Type 0 where
   pub long : length l′ ≡ length l
   pub same : (i : ℕ) → (i < q .base) ⊎ (q .base + width ≤ i) → getD l′ i 0 ≡ getD l i 0
+  pub words : (i : ℕ) → IsWord (getD l′ i 0)
   pub small : SmallOutcome r
   pub is : (steps : ℕ)
-      → told r (state P s l′ q n steps) ≡ bare (after (world P) e (value v) (state P s l q n steps))
+      → told r (state P s l′ q n steps) ≡ bare (after (world P) e v (state P s l q n steps))
 
-pub record PostApply (R T A s l l′ : List ℕ) (at : ℕ) (q : Place) (n : Counts) (v : Value) (r : Outcome) :
+pub record PostApply (R T A s l l′ : List ℕ) (at : ℕ) (q : Place) (n : Counts) (v : Meaning) (r : Outcome) :
     Type 0 where
   pub applied : (E M : List ℕ) (P : List Class) (e : Expr) (width d : ℕ) → Ready R E T A M s l P width q n d 0
       → Encoded R E e at
@@ -215,14 +227,14 @@ pub record PreArgs (R E T A M s l : List ℕ) (at : ℕ) (q : Place) (n : Counts
   pub list : PreList R E T A M s l at q n m
   pub room : q .top + m + waiting (list .d) ≤ length l
 
-pub record PostItems (R E T A M s l s′ l′ : List ℕ) (at : ℕ) (q : Place) (n : Counts) (m : ℕ) (last : Value)
+pub record PostItems (R E T A M s l s′ l′ : List ℕ) (at : ℕ) (q : Place) (n : Counts) (m : ℕ) (last : Meaning)
     (r : Answer) : Type 0 where
   pub done : (P : List Class) (es : Exprs) (width d F k : ℕ) → Ready R E T A M s l P width q n d 0
       → EncodedAll R E es at
       → WithinAll (length P) width (q .scope) d es → m ≡ count es → k + n .left ≡ F
       → Done P width s l s′ l′ q n F 0 r
       (bind (evaluated-all P F (capacity s) (q .calls) es (state P s l q n k)) λ vs t.
-      ok (last-value (value last) vs) t)
+      ok (last-value last vs) t)
 
 -- What argument evaluation comes to: the values stand from the top on.
 pub record DoneAll (P : List Class) (width : ℕ) (s l s′ l′ : List ℕ) (q : Place) (n : Counts) (F m : ℕ)
@@ -260,6 +272,8 @@ pub record Entering (R E T A M s l : List ℕ) (P : List Class) (e : Expr) (b n 
   pub sound : Sound P (c .made) s
   pub few : n ≤ of-check .parameters
   pub there : top + (n + 1) ≤ length l
+  pub whole : length l ≡ segment-length
+  pub words : (i : ℕ) → IsWord (getD l i 0)
   pub active : calls ≤ most-calls
   pub counted : c .changes + c .left ≤ 4294967295
   pub encoded : Encoded R E e b
@@ -279,6 +293,7 @@ pub record Entered (P : List Class) (s l s′ l′ : List ℕ) (e : Expr) (n top
     (r : Answer) : Type 0 where
   pub same : (i : ℕ) → i < top → getD l′ i 0 ≡ getD l i 0
   pub long : length l′ ≡ length l
+  pub words : (i : ℕ) → IsWord (getD l′ i 0)
   pub stored : Stored P s s′ (c .made) (r .counts .made)
   pub falls : r .counts .left ≤ c .left
   pub counted : r .counts .changes + r .counts .left ≤ c .changes + c .left
@@ -297,10 +312,15 @@ pub record PostEnter (R E T A M s l s′ l′ : List ℕ) (b n top calls : ℕ) 
 
 -- What an outcome means at the end of a run.
 abbrev pub outcome-of : Outcome → Ended
-outcome-of (Gave v) = gave (value v)
+outcome-of (Gave v) = gave v
 outcome-of (Raised n) = ended (raised n)
 outcome-of (Stopped n) = ended (stop-of n)
 outcome-of Stuck = ended stuck
+
+-- A whole segment of slots, all of them words of values.
+pub record Segment (l : List ℕ) : Type 0 where
+  pub whole : length l ≡ segment-length
+  pub words : (i : ℕ) → IsWord (getD l i 0)
 
 -- Rows and tables hold a program, whose start block is at a row; the slots have room.
 pub record Runs (R E T A M l : List ℕ) (at : ℕ) (p : Program) : Type 0 where
@@ -308,7 +328,7 @@ pub record Runs (R E T A M l : List ℕ) (at : ℕ) (p : Program) : Type 0 where
   pub methods : HoldsMethods R E M (p .classes)
   pub encoded : Encoded R E (p .start) at
   pub within : Within (length (p .classes)) frame-room 0 (of-check .nesting) (p .start)
-  pub room : call-room ≤ length l
+  pub segment : Segment l
 
 pub record PreRun (R E T A M l : List ℕ) (at : ℕ) : Type 0 where
   pub p : Program
@@ -331,14 +351,9 @@ pub record PreChecked (R E T A M : List ℕ) : Type 0 where
   pub p : Program
   pub held : Held R E T A M F C p
 
--- How the caller is told of a value and of an end: objects count from 1; an exception and a stop are their numbers.
-abbrev pub value-told : Meaning → Value
-value-told null = Null
-value-told (truth b) = Truth b
-value-told (object j) = Object (suc j)
-
+-- How the caller is told of an end: objects count from 1; an exception and a stop are their numbers.
 abbrev pub end-told : Ended → End
-end-told (gave v) = EndGave (value-told v)
+end-told (gave v) = EndGave (case-of v)
 end-told (ended (raised n)) = EndRaised n
 end-told (ended spent) = EndStopped spent-stop
 end-told (ended deep) = EndStopped deep-stop

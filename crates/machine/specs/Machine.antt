@@ -14,8 +14,7 @@ use Rattle.language.specs.Evaluation.{Limits}
 use Rattle.language.specs.State.{initial, with-frame}
 use Rattle.language.specs.Evaluation.{last-value, need, need-truth, need-reference}
 use Rattle.language.specs.Evaluation.{do-get, do-set, do-cast, do-change, do-new, do-call, eval, eval-all}
-use Rattle.language.specs.Store.{value-of-number}
-use Rattle.objects.specs.Values.{Outcome, Gave, Raised, Stopped, Stuck, stop-of, bare-state, Counts}
+use Rattle.objects.specs.Values.{Outcome, Gave, Raised, Stopped, Stuck, stop-of, bare-state, Counts, meaning}
 use Rattle.objects.specs.Holding.{view}
 use Rattle.machine.specs.declared.Place.{Place}
 
@@ -32,10 +31,10 @@ told-all Stuck vs s = stop stuck (bare-state s)
 -- The slots of a place.
 abbrev pub this-of : ℕ → ℕ → Option Meaning
 this-of zero n = none
-this-of (suc k) n = some (value-of-number n)
+this-of (suc k) n = some (meaning n)
 
 unfoldable pub slots-of : List ℕ → ℕ → ℕ → List Meaning
-slots-of l from n = map value-of-number (take n (drop from l))
+slots-of l from n = map meaning (take n (drop from l))
 
 unfoldable pub frame-of : List ℕ → Place → Frame Meaning
 frame-of l q = frame (this-of (q .calls) (getD l (q .base) 0)) (slots-of l (q .base + 1) (q .scope))

@@ -1,6 +1,7 @@
 // The evaluator: runs the rows of a checked program over a lent store.
-// What is done to objects stands in the crate objects. The slots of all calls under way stand in one lent stack. Values,
-// outcomes and the tally are numbers, as there.
+// What is done to objects is in the crate objects. The slots of the calls under way are words in lent segments; outcomes and
+// the tally are numbers, as there.
+use language::ALL_CLASSES;
 use language::BLOCK;
 use language::CALL;
 use language::CAST;
@@ -15,6 +16,9 @@ use language::SET;
 use language::SLOT;
 use language::START;
 use language::TRUE;
+use language::first;
+use language::letter_at;
+use language::second;
 use objects::SPENT;
 use objects::STUCK;
 use objects::Target;
@@ -23,15 +27,15 @@ ghost use mathlib.Core.Path.{_≡_};
 ghost use mathlib.Core.Bool.{true};
 ghost use Prim.Native.Nat.{_+_, _-_, _*_, _≤_, _<_};
 ghost use lib.ListN.{length, getD, set};
-ghost use Rattle.objects.specs.Values.{value, decoded, outcome, counts-in, Small, SmallOutcome, answered};
+ghost use Rattle.objects.specs.Values.{meaning, outcome, counts-in, SmallOutcome, answered};
 ghost use Rattle.machine.specs.Machine.{place-of};
-ghost use Rattle.machine.specs.Contracts.{Locals, Opened, PostRead, PostWrite, null-tested, PreEval};
+ghost use Rattle.machine.specs.Contracts.{Slots, Locals, Opened, PostRead, PostWrite, null-tested, PreEval};
 ghost use Rattle.machine.specs.Contracts.{PreEntered, PostEval, PostNode, one-child, no-child, PreLeaf};
 ghost use Rattle.machine.specs.Contracts.{PostLeaf, PreApply, PostApply, PreList, PreArgs, PostItems};
-ghost use Rattle.machine.specs.Contracts.{PostArgs, PreRun, PostRun, value-told, end-told, outcome-of};
-ghost use Rattle.machine.specs.Contracts.{PreChecked, PostChecked, nothing, call-room};
+ghost use Rattle.machine.specs.Contracts.{PostArgs, PreRun, PostRun, end-told, outcome-of};
+ghost use Rattle.machine.specs.Contracts.{PreChecked, PostChecked, nothing, Segment};
 ghost use Rattle.machine.specs.Contracts.{PreEnter, PostEnter, frame-width, most-nested};
-ghost use Rattle.objects.specs.Contracts.{Written};
+ghost use Rattle.objects.specs.Contracts.{Written, IsWord};
 ghost use Rattle.language.specs.Rows.{code, B-block, R-change, U-set, Q-call, J-choose};
 
 // How many slots a frame has at most, `this` included.
@@ -42,18 +46,9 @@ const MOST_NESTING: usize = 128;
 
 const WAITING: usize = language::MOST_PARAMETERS as usize + 1;
 
-// Slots are in segments: a call that finds no room in one gets another, which has room for any call, at most 1,416 slots. The
-// first segment of a run goes by its rows: for at most 32, for at most 1,024, and for more, with room for the frames of all calls.
-const SHORT_SEGMENT: usize = 1536;
-
-const SEGMENT: usize = 4096;
-
-const LONG_SEGMENT: usize = 18432;
-
-// How many numbers 32 rows and 1,024 rows have.
-const SHORT_NUMBERS: usize = 128;
-
-const FEW_NUMBERS: usize = 4096;
+// Slots are in segments of one length: a call that finds no room in one gets another, which has room for any call, at most
+// 1,416 slots.
+const SEGMENT: usize = 1920;
 
 // Where the slots of the method under way stand: `this` at base, the others after it, of which scope are in scope;
 // values that wait for a call stand from top on; so many calls are active, and outside of any there is no `this`.
@@ -88,8 +83,8 @@ pub struct Run {
 }
 
 // What stands in slot k.
-fn read_slot(slots: &[u32], k: usize, place: Place) -> u64
-    requires { ⌜ place .base + place .scope < length (now slots) ⌝ }
+fn read_slot(slots: &[u64], k: usize, place: Place) -> u64
+    requires { ⌜ Slots (now slots) place ⌝ }
     ensures { λ r. ⌜ PostRead (now (slots .entry)) k place (outcome r) ⌝ }
 {
     if place.scope < k {
@@ -100,15 +95,15 @@ fn read_slot(slots: &[u32], k: usize, place: Place) -> u64
         if place.calls == 0 {
             return STUCK;
         }
-        return slots[base] as u64;
+        return slots[base];
     }
-    slots[base + k] as u64
+    slots[base + k]
 }
 
 // Slot k becomes a value, which is also the answer; where there is no such slot it is stuck.
-fn write_slot(slots: &mut [u32], k: usize, n: u32, place: Place) -> u64
-    requires { ⌜ place .base + place .scope < length (now slots) ⌝ }
-    ensures { λ r. ⌜ PostWrite (now (slots .entry)) (now (slots .exit)) k (decoded n) place (outcome r) ⌝ }
+fn write_slot(slots: &mut [u64], k: usize, w: u64, place: Place) -> u64
+    requires { ⌜ Slots (now slots) place × IsWord w ⌝ }
+    ensures { λ r. ⌜ PostWrite (now (slots .entry)) (now (slots .exit)) k (meaning w) place (outcome r) ⌝ }
 {
     if place.scope < k {
         return STUCK;
@@ -118,32 +113,32 @@ fn write_slot(slots: &mut [u32], k: usize, n: u32, place: Place) -> u64
         if place.calls == 0 {
             return STUCK;
         }
-        slots[base] = n;
-        return n as u64;
+        slots[base] = w;
+        return w;
     }
-    slots[base + k] = n;
-    n as u64
+    slots[base + k] = w;
+    w
 }
 
 // Z of a value: whether it is null. A truth value is neither null nor an object, and is stuck.
-fn test_null(n: u32) -> u64
-    ensures { λ r. ⌜ outcome r ≡ null-tested (decoded n) ⌝ }
+fn test_null(w: u64) -> u64
+    ensures { λ r. ⌜ outcome r ≡ null-tested (meaning w) ⌝ }
 {
-    let v = objects::decode(n);
+    let v = objects::value_of(w);
     match v {
-        Value::Null => 2,
+        Value::Null => objects::TRUE,
         Value::Truth(_) => STUCK,
-        Value::Object(_) => 1,
+        Value::Object(_) => objects::FALSE,
     }
 }
 
 // The locals of a block, whose V lines stand from a row on, get their first values in the slots from `from` on.
-fn open_locals(rows: &[u32], slots: &mut [u32], row: usize, from: usize, n: usize)
+fn open_locals(rows: &[u32], slots: &mut [u64], row: usize, from: usize, n: usize)
     requires { ⌜ Locals (now rows) (now slots) row from n ⌝ }
     ensures { λ r. ⌜ Opened (now (rows .entry)) (now (slots .entry)) (now (slots .exit)) row from n ⌝ }
 {
     for i in 0..n {
-        slots[from + i] = objects::first_value(rows[(row + i) * 4 + 1]);
+        slots[from + i] = objects::first_value(first(rows, row + i));
     }
 }
 
@@ -169,7 +164,7 @@ fn most_nested(size: usize) -> usize
 }
 
 // The first n slots become those that are from a place on.
-fn copy_slots(slots: &[u32], fresh: &mut [u32], from: usize, n: usize)
+fn copy_slots(slots: &[u64], fresh: &mut [u64], from: usize, n: usize)
     requires { ⌜ (from + n ≤ length (now slots)) × (n ≤ length (now fresh)) ⌝ }
     ensures { λ r. ⌜ Written (now (fresh .entry)) (now (fresh .exit)) 0 n
         (λ i. getD (now (slots .entry)) (from + i) 0) ⌝ }
@@ -184,7 +179,7 @@ fn reclassify(
     rows: &[u32],
     tables: &[u16],
     store: &mut [u32],
-    slots: &[u32],
+    slots: &[u64],
     tally: &mut [u32; 3],
     at: usize,
     place: Place,
@@ -195,12 +190,12 @@ fn reclassify(
         (now (slots .entry)) (now (store .exit)) at place (counts-in (now (tally .entry)))
         (answered r (now (tally .exit))) ⌝ }
 {
-    let k = rows[at * 4 + 1] as usize;
+    let k = first(rows, at) as usize;
     let o = read_slot(slots, k, place);
     if o >= STUCK {
         return o;
     }
-    objects::change_class(rows, tables, store, tally, o as u32, rows[at * 4 + 2])
+    objects::change_class(rows, tables, store, tally, o, second(rows, at))
 }
 
 // The letter of a node without children.
@@ -223,7 +218,7 @@ fn leaf(
     rows: &[u32],
     tables: &[u16],
     store: &mut [u32],
-    slots: &[u32],
+    slots: &[u64],
     tally: &mut [u32; 3],
     at: usize,
     place: Place,
@@ -234,13 +229,13 @@ fn leaf(
         (now (slots .entry)) (now (store .exit)) at place (counts-in (now (tally .entry)))
         (answered r (now (tally .exit))) ⌝ }
 {
-    let k = rows[at * 4];
+    let k = letter_at(rows, at);
     match k {
-        TRUE => 2,
-        FALSE => 1,
-        NULL => 0,
-        SLOT => read_slot(slots, rows[at * 4 + 1] as usize, place),
-        NEW => objects::new_object(rows, tables, store, tally, rows[at * 4 + 1]),
+        TRUE => objects::TRUE,
+        FALSE => objects::FALSE,
+        NULL => objects::NULL,
+        SLOT => read_slot(slots, first(rows, at) as usize, place),
+        NEW => objects::new_object(rows, tables, store, tally, first(rows, at)),
         _ => reclassify(rows, tables, store, slots, tally, at, place),
     }
 }
@@ -251,25 +246,25 @@ fn apply(
     tables: &[u16],
     above: &[u64],
     store: &[u32],
-    slots: &mut [u32],
+    slots: &mut [u64],
     tally: &[u32; 3],
     at: usize,
     place: Place,
-    n: u32,
+    w: u64,
 ) -> u64
     requires { ⌜ PreApply (now rows) (now tables) (now above) (now store) (now slots) at place
-        (counts-in (now tally)) (decoded n) ⌝ }
+        (counts-in (now tally)) w ⌝ }
     ensures { λ r. ⌜ PostApply (now (rows .entry)) (now (tables .entry)) (now (above .entry))
         (now (store .entry)) (now (slots .entry)) (now (slots .exit)) at place
-        (counts-in (now (tally .entry))) (decoded n) (outcome r) ⌝ }
+        (counts-in (now (tally .entry))) (meaning w) (outcome r) ⌝ }
 {
-    let k = rows[at * 4];
-    let a = rows[at * 4 + 1];
+    let k = letter_at(rows, at);
+    let a = first(rows, at);
     match k {
-        IS_NULL => test_null(n),
-        GET => objects::load(tables, store, tally, n, a as usize),
-        CAST => objects::cast_object(above, store, tally, n, a),
-        _ => write_slot(slots, a as usize, n, place),
+        IS_NULL => test_null(w),
+        GET => objects::load(tables, store, tally, w, a as usize),
+        CAST => objects::cast_object(above, store, tally, w, a),
+        _ => write_slot(slots, a as usize, w, place),
     }
 }
 
@@ -278,10 +273,10 @@ fn eval(
     rows: &[u32],
     ends: &[u16],
     tables: &[u16],
-    above: &[u64],
+    above: &[u64; ALL_CLASSES],
     methods: &[u16],
     store: &mut [u32],
-    slots: &mut [u32],
+    slots: &mut [u64; SEGMENT],
     tally: &mut [u32; 3],
     at: usize,
     base: usize,
@@ -307,7 +302,7 @@ fn eval(
         return SPENT;
     }
     tally[0] = left - 1;
-    let k = rows[at * 4];
+    let k = letter_at(rows, at);
     if is_leaf(k) {
         return leaf(rows, tables, store, slots, tally, at, place);
     }
@@ -395,10 +390,10 @@ fn one_child(
     rows: &[u32],
     ends: &[u16],
     tables: &[u16],
-    above: &[u64],
+    above: &[u64; ALL_CLASSES],
     methods: &[u16],
     store: &mut [u32],
-    slots: &mut [u32],
+    slots: &mut [u64; SEGMENT],
     tally: &mut [u32; 3],
     at: usize,
     base: usize,
@@ -439,17 +434,7 @@ fn one_child(
         return n;
     }
 
-    apply(
-        rows,
-        tables,
-        above,
-        store,
-        slots,
-        tally,
-        at,
-        place,
-        n as u32,
-    )
+    apply(rows, tables, above, store, slots, tally, at, place, n)
 }
 
 // U, entered: the object, then the value.
@@ -457,10 +442,10 @@ fn set(
     rows: &[u32],
     ends: &[u16],
     tables: &[u16],
-    above: &[u64],
+    above: &[u64; ALL_CLASSES],
     methods: &[u16],
     store: &mut [u32],
-    slots: &mut [u32],
+    slots: &mut [u64; SEGMENT],
     tally: &mut [u32; 3],
     at: usize,
     base: usize,
@@ -515,14 +500,7 @@ fn set(
         return n2;
     }
 
-    objects::save(
-        tables,
-        store,
-        tally,
-        n as u32,
-        n2 as u32,
-        rows[at * 4 + 1] as usize,
-    )
+    objects::save(tables, store, tally, n, n2, first(rows, at) as usize)
 }
 
 // J, entered: the condition, then one arm.
@@ -530,10 +508,10 @@ fn choose(
     rows: &[u32],
     ends: &[u16],
     tables: &[u16],
-    above: &[u64],
+    above: &[u64; ALL_CLASSES],
     methods: &[u16],
     store: &mut [u32],
-    slots: &mut [u32],
+    slots: &mut [u64; SEGMENT],
     tally: &mut [u32; 3],
     at: usize,
     base: usize,
@@ -568,7 +546,7 @@ fn choose(
         return n;
     }
 
-    let v = objects::decode(n as u32);
+    let v = objects::value_of(n);
     let Value::Truth(b) = v else {
         return STUCK;
     };
@@ -613,10 +591,10 @@ fn block(
     rows: &[u32],
     ends: &[u16],
     tables: &[u16],
-    above: &[u64],
+    above: &[u64; ALL_CLASSES],
     methods: &[u16],
     store: &mut [u32],
-    slots: &mut [u32],
+    slots: &mut [u64; SEGMENT],
     tally: &mut [u32; 3],
     at: usize,
     base: usize,
@@ -632,8 +610,8 @@ fn block(
         (now (store .exit)) (now (slots .exit)) at (place-of base scope top calls)
         (counts-in (now (tally .entry))) (answered r (now (tally .exit))) ⌝ }
 {
-    let n = rows[at * 4 + 1] as usize;
-    let k = rows[at * 4 + 2] as usize;
+    let n = first(rows, at) as usize;
+    let k = second(rows, at) as usize;
     open_locals(rows, slots, at + 1, base + 1 + scope, n);
     items(
         rows,
@@ -658,10 +636,10 @@ fn items(
     rows: &[u32],
     ends: &[u16],
     tables: &[u16],
-    above: &[u64],
+    above: &[u64; ALL_CLASSES],
     methods: &[u16],
     store: &mut [u32],
-    slots: &mut [u32],
+    slots: &mut [u64; SEGMENT],
     tally: &mut [u32; 3],
     at: usize,
     base: usize,
@@ -711,10 +689,10 @@ fn args(
     rows: &[u32],
     ends: &[u16],
     tables: &[u16],
-    above: &[u64],
+    above: &[u64; ALL_CLASSES],
     methods: &[u16],
     store: &mut [u32],
-    slots: &mut [u32],
+    slots: &mut [u64; SEGMENT],
     tally: &mut [u32; 3],
     at: usize,
     base: usize,
@@ -754,7 +732,7 @@ fn args(
             return r;
         }
 
-        slots[far] = r as u32;
+        slots[far] = r;
         far += 1;
         next = ends[next] as usize;
         i += 1;
@@ -767,10 +745,10 @@ fn call(
     rows: &[u32],
     ends: &[u16],
     tables: &[u16],
-    above: &[u64],
+    above: &[u64; ALL_CLASSES],
     methods: &[u16],
     store: &mut [u32],
-    slots: &mut [u32],
+    slots: &mut [u64; SEGMENT],
     tally: &mut [u32; 3],
     at: usize,
     base: usize,
@@ -856,10 +834,10 @@ fn enter_fresh(
     rows: &[u32],
     ends: &[u16],
     tables: &[u16],
-    above: &[u64],
+    above: &[u64; ALL_CLASSES],
     methods: &[u16],
     store: &mut [u32],
-    slots: &[u32],
+    slots: &[u64; SEGMENT],
     tally: &mut [u32; 3],
     b: usize,
     n: usize,
@@ -876,7 +854,7 @@ fn enter_fresh(
         (now (store .exit)) (now (slots .entry)) b n top calls (counts-in (now (tally .entry)))
         (answered r (now (tally .exit))) ⌝ }
 {
-    let mut fresh = [0u32; SEGMENT];
+    let mut fresh = [0u64; SEGMENT];
     copy_slots(slots, &mut fresh, top, n + 1);
     eval(
         rows,
@@ -900,10 +878,10 @@ fn run_start(
     rows: &[u32],
     ends: &[u16],
     tables: &[u16],
-    above: &[u64],
+    above: &[u64; ALL_CLASSES],
     methods: &[u16],
     store: &mut [u32],
-    slots: &mut [u32],
+    slots: &mut [u64; SEGMENT],
     at: usize,
     fuel: u32,
 ) -> Ran
@@ -937,25 +915,13 @@ fn run_start(
     }
 }
 
-// A value for the caller: objects count from 1.
-fn value_told(v: Value) -> Value
-    requires { ⌜ Small v ⌝ }
-    ensures { λ r. ⌜ r ≡ value-told (value v) ⌝ }
-{
-    match v {
-        Value::Null => Value::Null,
-        Value::Truth(b) => Value::Truth(b),
-        Value::Object(j) => Value::Object(j + 1),
-    }
-}
-
 // How a run ended, for the caller. No checked program is stuck.
 fn end_told(o: u64) -> End
     requires { ⌜ SmallOutcome (outcome o) ⌝ }
     ensures { λ r. ⌜ r ≡ end-told (outcome-of (outcome o)) ⌝ }
 {
     if o < STUCK {
-        return End::Gave(value_told(objects::decode(o as u32)));
+        return End::Gave(objects::value_of(o));
     }
     let n = (o - STUCK) as u32;
     match n {
@@ -964,22 +930,21 @@ fn end_told(o: u64) -> End
     }
 }
 
-// The run of a checked program, with slots lent for all calls.
-fn run_with(
+// The run of a checked program, with the first segment of slots.
+pub fn run_checked(
     rows: &[u32],
     ends: &[u16],
     tables: &[u16],
-    above: &[u64],
+    above: &[u64; ALL_CLASSES],
     methods: &[u16],
     store: &mut [u32],
-    slots: &mut [u32],
     fuel: u32,
 ) -> Run
     requires { ⌜ PreChecked (now rows) (now ends) (now tables) (now above) (now methods) ⌝ }
-    requires { ⌜ call-room ≤ length (now slots) ⌝ }
     ensures { λ r. ⌜ PostChecked (now (rows .entry)) (now (ends .entry)) (now (tables .entry))
         (now (above .entry)) (now (methods .entry)) (now (store .entry)) (now (store .exit)) fuel r ⌝ }
 {
+    let mut slots = [0u64; SEGMENT];
     let start = objects::find_letter(rows, 0, START);
     let r = run_start(
         rows,
@@ -988,7 +953,7 @@ fn run_with(
         above,
         methods,
         store,
-        slots,
+        &mut slots,
         start + 1,
         fuel,
     );
@@ -999,81 +964,4 @@ fn run_with(
         objects: r.objects,
         changes: r.changes,
     }
-}
-
-// The run of a checked program of at most 32 rows.
-fn run_short(
-    rows: &[u32],
-    ends: &[u16],
-    tables: &[u16],
-    above: &[u64],
-    methods: &[u16],
-    store: &mut [u32],
-    fuel: u32,
-) -> Run
-    requires { ⌜ PreChecked (now rows) (now ends) (now tables) (now above) (now methods) ⌝ }
-    ensures { λ r. ⌜ PostChecked (now (rows .entry)) (now (ends .entry)) (now (tables .entry))
-        (now (above .entry)) (now (methods .entry)) (now (store .entry)) (now (store .exit)) fuel r ⌝ }
-{
-    let mut slots = [0u32; SHORT_SEGMENT];
-    run_with(rows, ends, tables, above, methods, store, &mut slots, fuel)
-}
-
-// The run of a checked program of at most 1,024 rows.
-fn run_few(
-    rows: &[u32],
-    ends: &[u16],
-    tables: &[u16],
-    above: &[u64],
-    methods: &[u16],
-    store: &mut [u32],
-    fuel: u32,
-) -> Run
-    requires { ⌜ PreChecked (now rows) (now ends) (now tables) (now above) (now methods) ⌝ }
-    ensures { λ r. ⌜ PostChecked (now (rows .entry)) (now (ends .entry)) (now (tables .entry))
-        (now (above .entry)) (now (methods .entry)) (now (store .entry)) (now (store .exit)) fuel r ⌝ }
-{
-    let mut slots = [0u32; SEGMENT];
-    run_with(rows, ends, tables, above, methods, store, &mut slots, fuel)
-}
-
-// The run of a checked program of any number of rows.
-fn run_many(
-    rows: &[u32],
-    ends: &[u16],
-    tables: &[u16],
-    above: &[u64],
-    methods: &[u16],
-    store: &mut [u32],
-    fuel: u32,
-) -> Run
-    requires { ⌜ PreChecked (now rows) (now ends) (now tables) (now above) (now methods) ⌝ }
-    ensures { λ r. ⌜ PostChecked (now (rows .entry)) (now (ends .entry)) (now (tables .entry))
-        (now (above .entry)) (now (methods .entry)) (now (store .entry)) (now (store .exit)) fuel r ⌝ }
-{
-    let mut slots = [0u32; LONG_SEGMENT];
-    run_with(rows, ends, tables, above, methods, store, &mut slots, fuel)
-}
-
-// The run of a checked program. Few rows pay for a short segment of slots alone.
-pub fn run_checked(
-    rows: &[u32],
-    ends: &[u16],
-    tables: &[u16],
-    above: &[u64],
-    methods: &[u16],
-    store: &mut [u32],
-    fuel: u32,
-) -> Run
-    requires { ⌜ PreChecked (now rows) (now ends) (now tables) (now above) (now methods) ⌝ }
-    ensures { λ r. ⌜ PostChecked (now (rows .entry)) (now (ends .entry)) (now (tables .entry))
-        (now (above .entry)) (now (methods .entry)) (now (store .entry)) (now (store .exit)) fuel r ⌝ }
-{
-    if rows.len() <= SHORT_NUMBERS {
-        return run_short(rows, ends, tables, above, methods, store, fuel);
-    }
-    if rows.len() <= FEW_NUMBERS {
-        return run_few(rows, ends, tables, above, methods, store, fuel);
-    }
-    run_many(rows, ends, tables, above, methods, store, fuel)
 }

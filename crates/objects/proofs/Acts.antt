@@ -1,14 +1,13 @@
 -- Laws of the acts on objects: G, U, K. Assumes nothing.
 use mathlib.Core.Path.{_≡_, refl, sym, ap, _∙_}
-use mathlib.Core.Bool.{Bool, true, false, false≢true}
-use mathlib.Core.Logic.{_⊎_, inl, inr, ⊎-elim}
+use mathlib.Core.Bool.{Bool, true, false, cond}
+use mathlib.Core.Logic.{_⊎_, inl, inr}
 use mathlib.Core.Option.{Option, none, some}
-use mathlib.Core.List.{List, [], _∷_, map}
+use mathlib.Core.List.{List, map}
 use Prim.Native.Nat.{ℕ, suc, _+_, _-_, _*_, _≤_, _<_}
 use native.Mathlib.Omega.{arith}
-use types.Run.{OneOf}
-use denote.Enum.Declared.{tagOf}
-use borrow.Author.Tests.{eqb-false}
+use borrow.Author.Tests.{ne-eqb, eqb-true, eqb-false}
+use lib.Dec.{eqb}
 use lib.ListN.{length, getD, take, drop, set, length-set}
 use lib.Seq.{getD-set-other, drop-set-lt}
 use Rattle.language.specs.Frames.{Frame}
@@ -16,34 +15,23 @@ use Rattle.language.specs.Tree.{Class}
 use Rattle.language.specs.World.{place}
 use Rattle.language.specs.Program.{world}
 use Rattle.language.specs.ClassTables.{stored-place}
-use Rattle.language.specs.State.{Value as Meaning, null, truth, State, Out}
-use Rattle.objects.specs.Values.{is-null-value}
-use Rattle.language.specs.Store.{value-of-number, heap-of-numbers}
-use Rattle.objects.specs.declared.Value.{Value}
-use Rattle.objects.specs.declared.Value.the-variants.{Null, Truth, Object}
-use Rattle.objects.specs.Values.{Outcome, Gave, Raised, Stuck, Counts, value, decoded, outcome, Small}
-use Rattle.objects.specs.Values.{SmallOutcome, bare, told, answer}
+use Rattle.language.specs.State.{Value as Meaning, null, object, State, Out}
+use Rattle.language.specs.Store.{value-number, value-of-number, heap-of-numbers}
+use Rattle.objects.specs.declared.Reached.the-variants.{At}
+use Rattle.objects.specs.Values.{Outcome, Gave, Raised, Stuck, Counts, word, meaning, reached, outcome}
+use Rattle.objects.specs.Values.{Small, SmallOutcome, bare, told, answer}
 use Rattle.objects.specs.Holding.{view, Sound}
-use Rattle.objects.specs.Contracts.{Stored, Acts, PreObject, PostLoad, PostSave, PostCast}
+use Rattle.objects.specs.Contracts.{Stored, Acts, PreObject, PostLoad, PostSave, PreCast, PostCast}
+use Rattle.objects.specs.Contracts.{Spot}
+use Rattle.objects.specs.Contracts.{field-index}
 use Rattle.classes.specs.Subclasses.{is-below}
-use Rattle.objects.proofs.Value.{the-type}
-use Rattle.objects.proofs.Values.{value-decoded, small-decoded, outcome-value, outcome-stuck}
-use Rattle.objects.proofs.Values.{outcome-null-pointer, outcome-bad-cast}
+use Rattle.objects.proofs.Values.{NoObject, is-truth, is-past, reached-at, outcome-value}
+use Rattle.objects.proofs.Values.{outcome-stuck}
+use Rattle.objects.proofs.Values.{outcome-null-pointer, outcome-bad-cast, outcome-word, small-stored}
+use Rattle.objects.proofs.Values.{value-of-value-number}
 use Rattle.objects.proofs.Nth.{lt-or}
-use Rattle.objects.proofs.Objects.{place-lt, values-at, values-set, object-at, heap-at, heap-past}
+use Rattle.objects.proofs.Objects.{place-lt, mapped-at, mapped-set, object-at, heap-at, heap-past}
 use Rattle.objects.proofs.Objects.{heap-changed}
-
--- what a value is, by the tests made of it
-pub null-of : (v : Value) → is-null-value (value v) ≡ true → value v ≡ null
-null-of Null e = refl
-null-of (Truth b) e = absurd (false≢true e)
-null-of (Object j) e = absurd (false≢true e)
-
-pub truth-of : (v : Value) → OneOf (0 ∷ 1 ∷ []) (tagOf the-type v) → is-null-value (value v) ≡ false
-    → (b : Bool) × (value v ≡ truth b)
-truth-of Null h e = absurd (false≢true (sym e))
-truth-of (Truth b) h e = (b, refl)
-truth-of (Object j) h e = absurd (⊎-elim (λ e. eqb-false 2 0 refl e) (λ e. eqb-false 2 1 refl e) h)
 
 -- a table's number for something that may not be there
 place-none : (r : Option ℕ) → stored-place r ≡ 0 → r ≡ none
@@ -63,17 +51,12 @@ pub acts-same : {P : List Class} {s : List ℕ} (n : Counts) (o : Outcome) {g : 
     → Acts P s s n (answer o n) g
 acts-same n o h m f = record { stored = stored-same h; left = refl; changed = omega arith; small = m; is = f }
 
--- where the number of an object's class and its fields are
-pub record Spot (T s : List ℕ) (j f : ℕ) : Type 0 where
-  pub class : getD s (j * 18) 0 * 576 + 576 ≤ length T
-  pub room : j * 18 + 18 ≤ length s
-  pub place : getD T (getD s (j * 18) 0 * 576 + f) 0 ≤ 17
-
 small-place : (r : Option ℕ) (m : ℕ) → ((i : ℕ) → r ≡ some i → i < m) → stored-place r ≤ m
 small-place none m h = omega arith
 small-place (some i) m h = omega (arith, h i refl)
 
-pub spot : {T s : List ℕ} {made : ℕ} (p : PreObject T s made) (j f : ℕ) → j < made → f < 256 → Spot T s j f
+pub spot : {T s : List ℕ} {made : ℕ} (p : PreObject T s made) (j f : ℕ) → j < made → f < 256
+    → Spot T s (j * 18) f
 spot {T} {s} p j f h l =
     let c : ℕ = getD s (j * 18) 0 in
     let d : c ≤ length (p .P) = p .sound .declared j h in
@@ -81,6 +64,7 @@ spot {T} {s} p j f h l =
     record {
       class = omega (arith, p .holds .tables .long);
       room = omega (arith, p .sound .stored);
+      name = l;
       place = omega (
         arith,
         q,
@@ -90,50 +74,78 @@ spot {T} {s} p j f h l =
       );
     }
 
--- The code has the number x of a value v, and answers by a number. Each law below takes the proof that x stands for v
--- and is carried over to those numbers.
-load-told : {T s : List ℕ} {v v′ : Value} {f : ℕ} {n : Counts} {o o′ : Outcome} → v ≡ v′ → o′ ≡ o
-    → PostLoad T s v f n o → PostLoad T s v′ f n o′
-load-told d e p = rw (sym d, e) p
+-- the same of an object that a word leads to
+pub reached-spot : {T s : List ℕ} {made f o : ℕ} (w : ℕ) → PreObject T s made → f < 256
+    → reached made (meaning w) ≡ At o → Spot T s o f
+reached-spot {made = made} {f} {o} w p l e = let x = reached-at made (meaning w) o e in
+    rw (x .3) (spot p (x .0) f (x .2) l)
 
-module _ {T s : List ℕ} {v : Value} (x : ℕ) {f : ℕ} {n : Counts} (stands : v ≡ decoded x) where
-  pub load-null : is-null-value (value v) ≡ true → PostLoad T s (decoded x) f n (outcome 4294967297)
-  unfolding bare
-  load-null e = load-told stands outcome-null-pointer
-      (record { acts = λ R A P h snd. acts-same n (Raised 1) snd tt (λ γ k. rw (null-of v e)) })
+-- the index of a field
+pub index-none : (T s : List ℕ) (o f : ℕ) → getD T (getD s o 0 * 576 + f) 0 ≡ 0 → 0 ≡ field-index T s o f
+unfolding field-index
+index-none T s o f e = rw e
 
-  pub load-truth : OneOf (0 ∷ 1 ∷ []) (tagOf the-type v) → is-null-value (value v) ≡ false
-      → PostLoad T s (decoded x) f n (outcome 4294967296)
-  unfolding bare
-  load-truth h e = load-told stands outcome-stuck
-      (record { acts = λ R A P _ snd. acts-same n Stuck snd tt (λ γ k. rw (truth-of v h e .1)) })
+pub index-some : (T s : List ℕ) (o f : ℕ) → (getD T (getD s o 0 * 576 + f) 0 ≡ 0 → ⊥)
+    → o + getD T (getD s o 0 * 576 + f) 0 ≡ field-index T s o f
+unfolding field-index
+index-some T s o f h = rw (ne-eqb (getD T (getD s o 0 * 576 + f) 0) 0 h)
 
-  pub load-past : (j : ℕ) → v ≡ Object j → n .made ≤ j → PostLoad T s (decoded x) f n (outcome 4294967296)
-  unfolding bare
-  load-past j e h = load-told stands outcome-stuck
-      (record {
-        acts = λ R A P _ snd.
-            acts-same n Stuck snd tt (λ γ k. rw (ap value e, heap-past (world P) (n .made) s j h));
-      })
+-- a value that leads to no object is stuck
+pub load-nothing : {T s : List ℕ} {v : Meaning} {f : ℕ} {n : Counts} → NoObject (n .made) v
+    → PostLoad T s v f n (outcome 17179869184)
+unfolding bare
+load-nothing {s = s} {n = n} is-truth = rw outcome-stuck
+    (record { acts = λ R A P _ snd. acts-same n Stuck snd tt (λ γ k. refl) })
+load-nothing {s = s} {n = n} (is-past {j} h) = rw outcome-stuck
+    (record {
+      acts = λ R A P _ snd. acts-same n Stuck snd tt (λ γ k. rw (heap-past (world P) (n .made) s j h));
+    })
 
-  pub load-missing : (j : ℕ) → v ≡ Object j → j < n .made → f < 256
-      → getD T (getD s (j * 18) 0 * 576 + f) 0 ≡ 0 → PostLoad T s (decoded x) f n (outcome 4294967296)
+pub save-nothing : {T s : List ℕ} {v : Meaning} {f : ℕ} {n : Counts} {w : Meaning} → NoObject (n .made) v
+    → PostSave T s s v w f n (outcome 17179869184)
+unfolding bare
+save-nothing {s = s} {n = n} is-truth = rw outcome-stuck
+    (record { acts = λ R A P _ snd. acts-same n Stuck snd tt (λ γ k. refl) })
+save-nothing {s = s} {n = n} (is-past {j} h) = rw outcome-stuck
+    (record {
+      acts = λ R A P _ snd. acts-same n Stuck snd tt (λ γ k. rw (heap-past (world P) (n .made) s j h));
+    })
+
+pub cast-nothing : {A s : List ℕ} {v : Meaning} {c : ℕ} {n : Counts} → NoObject (n .made) v
+    → PostCast A s v c n (outcome 17179869184)
+unfolding bare
+cast-nothing {s = s} {n = n} is-truth = rw outcome-stuck
+    (record { acts = λ R T P _ snd d. acts-same n Stuck snd tt (λ γ k. refl) })
+cast-nothing {s = s} {n = n} (is-past {j} h) = rw outcome-stuck
+    (record {
+      acts = λ R T P _ snd d. acts-same n Stuck snd tt (λ γ k. rw (heap-past (world P) (n .made) s j h));
+    })
+
+module _ {T s : List ℕ} {v : Meaning} {f : ℕ} {n : Counts} where
+  pub load-null : v ≡ null → PostLoad T s v f n (outcome 17179869185)
   unfolding bare
-  load-missing j e h l z = load-told stands outcome-stuck (record {
+  load-null e = rw outcome-null-pointer
+      (record { acts = λ R A P h snd. acts-same n (Raised 1) snd tt (λ γ k. rw e) })
+
+  pub load-missing : (j : ℕ) → v ≡ object j → j < n .made → f < 256
+      → getD T (getD s (j * 18) 0 * 576 + f) 0 ≡ 0 → PostLoad T s v f n (outcome 17179869184)
+  unfolding bare
+  load-missing j e h l z = rw outcome-stuck (record {
     acts = λ R A P hold snd.
         let q = place-none (place f (world P .fields (getD s (j * 18) 0)))
         (sym (hold .tables .places (getD s (j * 18) 0) f (snd .declared j h) l) ∙ z) in
-        acts-same n Stuck snd tt (λ γ k. rw (ap value e, heap-at (world P) (n .made) s j h, q));
+        acts-same n Stuck snd tt (λ γ k. rw (e, heap-at (world P) (n .made) s j h, q));
   })
 
-  pub load-at : (j : ℕ) → v ≡ Object j → j < n .made → f < 256
+  pub load-at : (j : ℕ) → v ≡ object j → j < n .made → f < 256
       → (getD T (getD s (j * 18) 0 * 576 + f) 0 ≡ 0 → ⊥)
       → getD s (j * 18 + getD T (getD s (j * 18) 0 * 576 + f) 0) 0 < 4294967296
-      → PostLoad T s (decoded x) f n (outcome (getD s (j * 18 + getD T (getD s (j * 18) 0 * 576 + f) 0) 0))
+      → PostLoad T s v f n
+      (outcome (word (value-of-number (getD s (j * 18 + getD T (getD s (j * 18) 0 * 576 + f) 0) 0))))
   unfolding bare
   load-at j e h l z m =
       let number : ℕ = getD s (j * 18 + getD T (getD s (j * 18) 0 * 576 + f) 0) 0 in
-      load-told stands (outcome-value number m) (record {
+      rw (outcome-word (value-of-number number) (small-stored number m)) (record {
         acts = λ R A P hold snd.
             let c : ℕ = getD s (j * 18) 0 in
             let p : ℕ = getD T (c * 576 + f) 0 in
@@ -144,55 +156,34 @@ module _ {T s : List ℕ} {v : Value} (x : ℕ) {f : ℕ} {n : Counts} (stands :
             let low : i < length (world P .fields c) = place-lt f (world P .fields c) i at in
             let t : p ≡ suc i = omega arith in
             let x : j * 18 + 1 + i ≡ j * 18 + p = omega arith in
-            let y = values-at s (j * 18 + 1) (length (world P .fields c)) i low
+            let y = mapped-at value-of-number s (j * 18 + 1) (length (world P .fields c)) i low
             (omega (arith, snd .stored, hold .counts c d)) in
-            acts-same n (Gave (decoded number)) snd (small-decoded number m)
-            (λ γ k. rw (ap value e, heap-at (world P) (n .made) s j h, at, y, x, value-decoded number));
+            acts-same n (Gave (value-of-number number)) snd (small-stored number m)
+            (λ γ k. rw (e, heap-at (world P) (n .made) s j h, at, y, x));
       })
 
-save-told : {T s s′ : List ℕ} {v v′ w : Value} {f : ℕ} {n : Counts} {o o′ : Outcome} → v ≡ v′ → o′ ≡ o
-    → PostSave T s s′ v w f n o → PostSave T s s′ v′ w f n o′
-save-told d e p = rw (sym d, e) p
-
-module _ {T s : List ℕ} {v : Value} (x w : ℕ) {f : ℕ} {n : Counts} (stands : v ≡ decoded x) where
-  pub save-null : is-null-value (value v) ≡ true
-      → PostSave T s s (decoded x) (decoded w) f n (outcome 4294967297)
+module _ {T s : List ℕ} {v : Meaning} {f : ℕ} {n : Counts} where
+  pub save-null : {w : Meaning} → v ≡ null → PostSave T s s v w f n (outcome 17179869185)
   unfolding bare
-  save-null e = save-told stands outcome-null-pointer
-      (record { acts = λ R A P h snd. acts-same n (Raised 1) snd tt (λ γ k. rw (null-of v e)) })
+  save-null e = rw outcome-null-pointer
+      (record { acts = λ R A P h snd. acts-same n (Raised 1) snd tt (λ γ k. rw e) })
 
-  pub save-truth : OneOf (0 ∷ 1 ∷ []) (tagOf the-type v) → is-null-value (value v) ≡ false
-      → PostSave T s s (decoded x) (decoded w) f n (outcome 4294967296)
+  pub save-missing : {w : Meaning} (j : ℕ) → v ≡ object j → j < n .made → f < 256
+      → getD T (getD s (j * 18) 0 * 576 + f) 0 ≡ 0 → PostSave T s s v w f n (outcome 17179869184)
   unfolding bare
-  save-truth h e = save-told stands outcome-stuck
-      (record { acts = λ R A P _ snd. acts-same n Stuck snd tt (λ γ k. rw (truth-of v h e .1)) })
-
-  pub save-past : (j : ℕ) → v ≡ Object j → n .made ≤ j
-      → PostSave T s s (decoded x) (decoded w) f n (outcome 4294967296)
-  unfolding bare
-  save-past j e h = save-told stands outcome-stuck
-      (record {
-        acts = λ R A P _ snd.
-            acts-same n Stuck snd tt (λ γ k. rw (ap value e, heap-past (world P) (n .made) s j h));
-      })
-
-  pub save-missing : (j : ℕ) → v ≡ Object j → j < n .made → f < 256
-      → getD T (getD s (j * 18) 0 * 576 + f) 0 ≡ 0
-      → PostSave T s s (decoded x) (decoded w) f n (outcome 4294967296)
-  unfolding bare
-  save-missing j e h l z = save-told stands outcome-stuck (record {
+  save-missing j e h l z = rw outcome-stuck (record {
     acts = λ R A P hold snd.
         let q = place-none (place f (world P .fields (getD s (j * 18) 0)))
         (sym (hold .tables .places (getD s (j * 18) 0) f (snd .declared j h) l) ∙ z) in
-        acts-same n Stuck snd tt (λ γ k. rw (ap value e, heap-at (world P) (n .made) s j h, q));
+        acts-same n Stuck snd tt (λ γ k. rw (e, heap-at (world P) (n .made) s j h, q));
   })
 
-  pub save-at : (j : ℕ) → v ≡ Object j → j < n .made → f < 256
-      → (getD T (getD s (j * 18) 0 * 576 + f) 0 ≡ 0 → ⊥) → w < 4294967296
-      → PostSave T s (set s (j * 18 + getD T (getD s (j * 18) 0 * 576 + f) 0) w) (decoded x) (decoded w) f n
-      (outcome w)
+  pub save-at : (u j : ℕ) → v ≡ object j → j < n .made → f < 256
+      → (getD T (getD s (j * 18) 0 * 576 + f) 0 ≡ 0 → ⊥) → u < 17179869184 → Small (meaning u)
+      → PostSave T s (set s (j * 18 + getD T (getD s (j * 18) 0 * 576 + f) 0) (value-number (meaning u))) v
+      (meaning u) f n (outcome u)
   unfolding bare
-  save-at j e h l z m = save-told stands (outcome-value w m) (record {
+  save-at u j e h l z short m = let w : ℕ = value-number (meaning u) in rw (outcome-value u short) (record {
     acts = λ R A P hold snd.
         let c : ℕ = getD s (j * 18) 0 in
         let p : ℕ = getD T (c * 576 + f) 0 in
@@ -208,15 +199,15 @@ module _ {T s : List ℕ} {v : Value} (x w : ℕ) {f : ℕ} {n : Counts} (stands
         let class : getD s′ (j * 18) 0 ≡ c = getD-set-other s (j * 18 + p) (j * 18) w 0 (λ k. omega arith) in
         let fields : map value-of-number (take (length (world P .fields c)) (drop (j * 18 + 1) s′))
         ≡ set (map value-of-number (take (length (world P .fields c)) (drop (j * 18 + 1) s))) i
-        (value (decoded w))
-        = rw y (values-set s (j * 18 + 1) (length (world P .fields c)) i w low
+        (meaning u)
+        = rw y (mapped-set value-of-number s (j * 18 + 1) (length (world P .fields c)) i w low
         ∙ ap (set (map value-of-number (take (length (world P .fields c)) (drop (j * 18 + 1) s))) i)
-        (sym (value-decoded w))) in
+        (value-of-value-number (meaning u))) in
         let thing : object-at (world P) s′ (j * 18)
         ≡ record {
           class-of = c;
           fields = set (map value-of-number (take (length (world P .fields c)) (drop (j * 18 + 1) s))) i
-              (value (decoded w));
+              (meaning u);
         }
         = ap (λ (k : ℕ). record {
           class-of = k;
@@ -236,16 +227,17 @@ module _ {T s : List ℕ} {v : Value} (x w : ℕ) {f : ℕ} {n : Counts} (stands
             sound = record {
               stored = omega (arith, snd .stored, length-set s (j * 18 + p) w);
               few = snd .few;
-              declared = λ i k. rw (other i p (omega arith) (omega arith)) (snd .declared i k);
-              unused = λ i y k u b.
-                  free P i y p (omega arith) (omega arith) (rw (other i p (omega arith) (omega arith)) at u) b
+              declared = λ i k. rw (other w i p (omega arith) (omega arith)) (snd .declared i k);
+              unused = λ i y k free-from b.
+                  free P w i y p (omega arith) (omega arith)
+                  (rw (other w i p (omega arith) (omega arith)) at free-from) b
                   t low k (snd .unused i y k);
             };
           };
           left = refl;
           changed = omega arith;
-          small = small-decoded w m;
-          is = λ γ k. rw (ap value e, heap-at (world P) (n .made) s j h, at, heap);
+          small = m;
+          is = λ γ k. rw (e, heap-at (world P) (n .made) s j h, at, heap);
         };
   })
     where
@@ -253,14 +245,15 @@ module _ {T s : List ℕ} {v : Value} (x w : ℕ) {f : ℕ} {n : Counts} (stands
       apart y p a b (inl o) k = omega arith
       apart y p a b (inr o) k = omega arith
 
-      other : (i p : ℕ) → 0 < p → p < 18 → getD (set s (j * 18 + p) w) (i * 18) 0 ≡ getD s (i * 18) 0
-      other i p a b = getD-set-other s (j * 18 + p) (i * 18) w 0 (λ k. omega arith)
+      other : (w i p : ℕ) → 0 < p → p < 18 → getD (set s (j * 18 + p) w) (i * 18) 0 ≡ getD s (i * 18) 0
+      other w i p a b = getD-set-other s (j * 18 + p) (i * 18) w 0 (λ k. omega arith)
 
-      free : (P : List Class) (i y p : ℕ) → 0 < p → p < 18 → length (world P .fields (getD s (i * 18) 0)) ≤ y
+      free : (P : List Class) (w i y p : ℕ) → 0 < p → p < 18
+          → length (world P .fields (getD s (i * 18) 0)) ≤ y
           → y < 17 → p ≡ suc (p - 1) → p - 1 < length (world P .fields (getD s (j * 18) 0)) → i < n .made
           → (length (world P .fields (getD s (i * 18) 0)) ≤ y → y < 17 → getD s (i * 18 + 1 + y) 0 ≡ 0)
           → getD (set s (j * 18 + p) w) (i * 18 + 1 + y) 0 ≡ 0
-      free P i y p a a′ u b t low k g =
+      free P w i y p a a′ u b t low k g =
           getD-set-other s (j * 18 + p) (i * 18 + 1 + y) w 0 (λ k. clash k (lt-or i j) (lt-or j i)) ∙ g u b
         where
           clash : i * 18 + 1 + y ≡ j * 18 + p → (i < j) ⊎ (j ≤ i) → (j < i) ⊎ (i ≤ j) → ⊥
@@ -271,55 +264,104 @@ module _ {T s : List ℕ} {v : Value} (x w : ℕ) {f : ℕ} {n : Counts} (stands
               let u′ : length (world P .fields (getD s (j * 18) 0)) ≤ y = rw z at u in
               omega arith
 
-cast-told : {A s : List ℕ} {v v′ : Value} {c : ℕ} {n : Counts} {o o′ : Outcome} → v ≡ v′ → o′ ≡ o
-    → PostCast A s v c n o → PostCast A s v′ c n o′
-cast-told d e p = rw (sym d, e) p
-
--- the value itself, as an outcome
-passed : {v : Value} (x : ℕ) → v ≡ decoded x → x < 4294967296 → outcome x ≡ Gave v
-passed x e m = outcome-value x m ∙ ap Gave (sym e)
-
-small-passed : {v : Value} (x : ℕ) → v ≡ decoded x → x < 4294967296 → Small v
-small-passed x e m = rw e (small-decoded x m)
-
-module _ {A s : List ℕ} {v : Value} (x : ℕ) {c : ℕ} {n : Counts} (stands : v ≡ decoded x) where
-  pub cast-null : is-null-value (value v) ≡ true → x < 4294967296 → PostCast A s (decoded x) c n (outcome x)
+module _ {A s : List ℕ} {v : Meaning} {c : ℕ} {n : Counts} where
+  pub cast-null : v ≡ null → Small v → PostCast A s v c n (Gave v)
   unfolding bare
-  cast-null e m = cast-told stands (passed x stands m)
-      (record {
-        acts = λ R T P h snd d.
-            acts-same n (Gave v) snd (small-passed x stands m) (λ γ k. rw (null-of v e));
-      })
+  cast-null e m = record { acts = λ R T P h snd d. acts-same n (Gave v) snd m (λ γ k. rw e) }
 
-  pub cast-truth : OneOf (0 ∷ 1 ∷ []) (tagOf the-type v) → is-null-value (value v) ≡ false
-      → PostCast A s (decoded x) c n (outcome 4294967296)
+  pub cast-passes : (j : ℕ) → v ≡ object j → j < n .made → is-below A (getD s (j * 18) 0) c ≡ true
+      → Small v → PostCast A s v c n (Gave v)
   unfolding bare
-  cast-truth h e = cast-told stands outcome-stuck
-      (record { acts = λ R T P _ snd d. acts-same n Stuck snd tt (λ γ k. rw (truth-of v h e .1)) })
-
-  pub cast-past : (j : ℕ) → v ≡ Object j → n .made ≤ j → PostCast A s (decoded x) c n (outcome 4294967296)
-  unfolding bare
-  cast-past j e h = cast-told stands outcome-stuck
-      (record {
-        acts = λ R T P _ snd d.
-            acts-same n Stuck snd tt (λ γ k. rw (ap value e, heap-past (world P) (n .made) s j h));
-      })
-
-  pub cast-passes : (j : ℕ) → v ≡ Object j → j < n .made → is-below A (getD s (j * 18) 0) c ≡ true
-      → x < 4294967296 → PostCast A s (decoded x) c n (outcome x)
-  unfolding bare
-  cast-passes j e h t m = cast-told stands (passed x stands m) (record {
+  cast-passes j e h t m = record {
     acts = λ R T P hold snd d.
         let q = sym (hold .below (getD s (j * 18) 0) c (snd .declared j h) d) ∙ t in
-        acts-same n (Gave v) snd (small-passed x stands m)
-        (λ γ k. rw (ap value e, heap-at (world P) (n .made) s j h, q));
-  })
+        acts-same n (Gave v) snd m (λ γ k. rw (e, heap-at (world P) (n .made) s j h, q));
+  }
 
-  pub cast-fails : (j : ℕ) → v ≡ Object j → j < n .made → is-below A (getD s (j * 18) 0) c ≡ false
-      → PostCast A s (decoded x) c n (outcome 4294967298)
+  pub cast-fails : (j : ℕ) → v ≡ object j → j < n .made → is-below A (getD s (j * 18) 0) c ≡ false
+      → PostCast A s v c n (outcome 17179869186)
   unfolding bare
-  cast-fails j e h t = cast-told stands outcome-bad-cast (record {
+  cast-fails j e h t = rw outcome-bad-cast (record {
     acts = λ R T P hold snd d.
         let q = sym (hold .below (getD s (j * 18) 0) c (snd .declared j h) d) ∙ t in
-        acts-same n (Raised 2) snd tt (λ γ k. rw (ap value e, heap-at (world P) (n .made) s j h, q));
+        acts-same n (Raised 2) snd tt (λ γ k. rw (e, heap-at (world P) (n .made) s j h, q));
   })
+
+-- ---- by the word of the object, and its index in the store
+
+module _ (T s : List ℕ) (o f : ℕ) {at : ℕ} (e : at ≡ field-index T s o f) where
+  pub index-lacks : at ≡ 0 → getD T (getD s o 0 * 576 + f) 0 ≡ 0
+  unfolding field-index
+  index-lacks z = go (eqb (getD T (getD s o 0 * 576 + f) 0) 0) refl (sym e ∙ z)
+    where
+      go : (b : Bool) → eqb (getD T (getD s o 0 * 576 + f) 0) 0 ≡ b
+          → cond b 0 (o + getD T (getD s o 0 * 576 + f) 0) ≡ 0 → getD T (getD s o 0 * 576 + f) 0 ≡ 0
+      go true q h = eqb-true (getD T (getD s o 0 * 576 + f) 0) 0 q
+      go false q h = omega arith
+
+  pub index-has : (at ≡ 0 → ⊥)
+      → (getD T (getD s o 0 * 576 + f) 0 ≡ 0 → ⊥) × (at ≡ o + getD T (getD s o 0 * 576 + f) 0)
+  unfolding field-index
+  index-has z = go (eqb (getD T (getD s o 0 * 576 + f) 0) 0) refl e
+    where
+      go : (b : Bool) → eqb (getD T (getD s o 0 * 576 + f) 0) 0 ≡ b
+          → at ≡ cond b 0 (o + getD T (getD s o 0 * 576 + f) 0)
+          → (getD T (getD s o 0 * 576 + f) 0 ≡ 0 → ⊥) × (at ≡ o + getD T (getD s o 0 * 576 + f) 0)
+      go true q h = absurd (z h)
+      go false q h = (λ y. eqb-false (getD T (getD s o 0 * 576 + f) 0) 0 q y, h)
+
+  pub index-within : Spot T s o f → (at ≡ 0 → ⊥) → at < length s
+  index-within p z = omega (arith, p .room, p .place, index-has z .1)
+
+module _ {T s : List ℕ} (w : ℕ) {o f at : ℕ} {n : Counts} (q : reached (n .made) (meaning w) ≡ At o)
+    (l : f < 256) (e : at ≡ field-index T s o f) where
+  pub load-lacks : at ≡ 0 → PostLoad T s (meaning w) f n (outcome 17179869184)
+  load-lacks z = let x = reached-at (n .made) (meaning w) o q in
+      load-missing (x .0) (x .1) (x .2) l (rw (x .3) at (index-lacks T s o f e z))
+
+  pub load-has : {r : ℕ} → (at ≡ 0 → ⊥) → getD s at 0 < 4294967296
+      → r ≡ word (value-of-number (getD s at 0))
+      → PostLoad T s (meaning w) f n (outcome r)
+  load-has z m d =
+      let x = reached-at (n .made) (meaning w) o q in
+      let y = index-has T s o f e z in
+      let a : at ≡ x .0 * 18 + getD T (getD s (x .0 * 18) 0 * 576 + f) 0 = rw (x .3) at (y .1) in
+      rw (d, a) (load-at (x .0) (x .1) (x .2) l (rw (x .3) at (y .0)) (rw a at m))
+
+  pub save-lacks : {v : Meaning} → at ≡ 0 → PostSave T s s (meaning w) v f n (outcome 17179869184)
+  save-lacks z = let x = reached-at (n .made) (meaning w) o q in
+      save-missing (x .0) (x .1) (x .2) l (rw (x .3) at (index-lacks T s o f e z))
+
+  pub save-has : (u : ℕ) {s′ : List ℕ} → (at ≡ 0 → ⊥) → u < 17179869184 → Small (meaning u)
+      → s′ ≡ set s at (value-number (meaning u))
+      → PostSave T s s′ (meaning w) (meaning u) f n (outcome u)
+  save-has u z short m d =
+      let x = reached-at (n .made) (meaning w) o q in
+      let y = index-has T s o f e z in
+      let a : at ≡ x .0 * 18 + getD T (getD s (x .0 * 18) 0 * 576 + f) 0 = rw (x .3) at (y .1) in
+      rw (d, a) (save-at u (x .0) (x .1) (x .2) l (rw (x .3) at (y .0)) short m)
+
+module _ {A s : List ℕ} (w : ℕ) {c o : ℕ} (n : Counts) (q : reached (n .made) (meaning w) ≡ At o) where
+  pub cast-room : PreCast A s w c (n .made)
+      → (o + 18 ≤ length s) × (getD s o 0 ≤ 64) × (getD s o 0 < length A)
+  cast-room p =
+      let x = reached-at (n .made) (meaning w) o q in
+      let d = p .sound .declared (x .0) (x .2) in
+      rw (x .3) (
+        omega (arith, p .sound .stored, x .2),
+        omega (arith, d, p .holds .classes),
+        omega (arith, d, p .holds .tables .long-above),
+      )
+
+  pub cast-below : is-below A (getD s o 0) c ≡ true → w < 17179869184 → Small (meaning w)
+      → PostCast A s (meaning w) c n (outcome w)
+  cast-below b short m = let x = reached-at (n .made) (meaning w) o q in
+      rw (outcome-value w short) (cast-passes (x .0) (x .1) (x .2) (rw (x .3) at b) m)
+
+  pub cast-not-below : is-below A (getD s o 0) c ≡ false → PostCast A s (meaning w) c n (outcome 17179869186)
+  cast-not-below b = let x = reached-at (n .made) (meaning w) o q in
+      cast-fails (x .0) (x .1) (x .2) (rw (x .3) at b)
+
+pub cast-of-null : {A s : List ℕ} (w : ℕ) {c : ℕ} {n : Counts} → meaning w ≡ null → w < 17179869184
+    → Small (meaning w) → PostCast A s (meaning w) c n (outcome w)
+cast-of-null w e short m = rw (outcome-value w short) (cast-null e m)

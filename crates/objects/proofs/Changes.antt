@@ -1,36 +1,31 @@
 -- Laws of R. Assumes nothing.
 use mathlib.Core.Path.{_≡_, refl, sym, ap, ap₂, _∙_}
 use mathlib.Core.Bool.{true, false}
-use mathlib.Core.List.{List, [], _∷_, _++_, map}
+use mathlib.Core.List.{List, _++_, map}
 use Prim.Native.Nat.{ℕ, suc, _+_, _*_, _≤_, _<_}
 use native.Mathlib.Omega.{arith}
-use types.Run.{OneOf}
-use denote.Enum.Declared.{tagOf}
 use borrow.Author.Tests.{le-leb, lt-leb}
 use lib.Dec.{leb}
 use lib.ListN.{length, getD, take, drop, set}
 use Rattle.language.specs.Tree.{Class}
 use Rattle.language.specs.Program.{world}
-use Rattle.language.specs.State.{Value as Meaning, initials}
-use Rattle.objects.specs.Values.{is-null-value}
+use Rattle.language.specs.State.{Value as Meaning, null, object, initials}
 use Rattle.language.specs.Evaluation.{changed}
 use Rattle.language.specs.Store.{value-of-number, heap-of-numbers}
-use Rattle.objects.specs.declared.Value.{Value}
-use Rattle.objects.specs.declared.Value.the-variants.{Object}
-use Rattle.objects.specs.Values.{Outcome, Gave, Stuck, Counts, decoded, outcome}
-use Rattle.objects.specs.Values.{value, Small, bare, Answer, answer, answered}
+use Rattle.objects.specs.Values.{Outcome, Gave, Stuck, Counts, meaning, reached, outcome}
+use Rattle.objects.specs.declared.Reached.the-variants.{At}
+use Rattle.objects.specs.Values.{Small, bare, Answer, answer, answered}
 use Rattle.objects.specs.Holding.{Holds, Sound}
-use Rattle.objects.specs.Contracts.{Fill, Filled, PreNew, PostChange}
-use Rattle.objects.proofs.Value.{the-type}
-use Rattle.objects.proofs.Values.{gave-number}
+use Rattle.objects.specs.Contracts.{Fill, Filled, PreNew, PreChange, PostChange}
+use Rattle.objects.proofs.Values.{NoObject, is-truth, is-past, reached-at, outcome-value}
 use Rattle.objects.proofs.Tally.{counts, set-changes}
-use Rattle.objects.proofs.Acts.{null-of, truth-of, acts-same}
-use Rattle.objects.proofs.Objects.{values-length, object-at, heap-at}
+use Rattle.objects.proofs.Acts.{acts-same}
+use Rattle.objects.proofs.Objects.{mapped-length, object-at, heap-at}
 use Rattle.objects.proofs.Objects.{heap-past, heap-changed}
 use Rattle.objects.proofs.Fresh.{Renewed, renewed, fields-filled, stored-renewed, new-fill}
 
 -- how many fields the root of class c has, by the table
-abbrev kept-in : List ℕ → ℕ → ℕ
+abbrev pub kept-in : List ℕ → ℕ → ℕ
 kept-in T c = getD T (getD T (c * 576 + 514) 0 * 576 + 515) 0
 
 module _ (R T s : List ℕ) (n : Counts) {A : List ℕ} {P : List Class} (hold : Holds R T A P)
@@ -47,35 +42,28 @@ module _ (R T s : List ℕ) (n : Counts) {A : List ℕ} {P : List Class} (hold :
   kept-own =
       let c : ℕ = getD s (j * 18) 0 in
       let own : length (object-at (world P) s (j * 18) .fields) ≡ length (world P .fields c)
-      = values-length s (j * 18 + 1) (length (world P .fields c))
+      = mapped-length value-of-number s (j * 18 + 1) (length (world P .fields c))
       (omega (arith, snd .stored, hold .counts c (snd .declared j h))) in
       le-leb (length (world P .fields (world P .root c))) (length (object-at (world P) s (j * 18) .fields))
       (omega (arith, own, hold .roots c (snd .declared j h) .1))
 
-module _ {R T s : List ℕ} {v : Value} {d : ℕ} {n : Counts} where
-  pub change-null : is-null-value (value v) ≡ true → Small v → PostChange R T s s v d n (answer (Gave v) n)
+pub change-nothing : {R T s : List ℕ} {v : Meaning} {d : ℕ} {n : Counts} → NoObject (n .made) v
+    → PostChange R T s s v d n (answer (outcome 17179869184) n)
+unfolding bare outcome
+change-nothing {s = s} {n = n} is-truth =
+    record { acts = λ A P _ snd _. acts-same n Stuck snd tt (λ γ k. refl) }
+change-nothing {s = s} {n = n} (is-past {j} h) = record {
+  acts = λ A P _ snd _. acts-same n Stuck snd tt (λ γ k. rw (heap-past (world P) (n .made) s j h));
+}
+
+module _ {R T s : List ℕ} {v : Meaning} {d : ℕ} {n : Counts} where
+  pub change-null : v ≡ null → Small v → PostChange R T s s v d n (answer (Gave v) n)
   unfolding bare
-  change-null e m = record { acts = λ A P h snd _. acts-same n (Gave v) snd m (λ γ k. rw (null-of v e)) }
+  change-null e m = record { acts = λ A P h snd _. acts-same n (Gave v) snd m (λ γ k. rw e) }
 
-  pub change-truth : OneOf (0 ∷ 1 ∷ []) (tagOf the-type v) → is-null-value (value v) ≡ false
-      → PostChange R T s s v d n (answer (outcome 4294967296) n)
-  unfolding bare outcome
-  change-truth h e = record {
-    acts = λ A P _ snd _. acts-same n Stuck snd tt
-        (λ γ k. rw (truth-of v h e .1));
-  }
-
-  pub change-past : (j : ℕ) → v ≡ Object j → n .made ≤ j
-      → PostChange R T s s v d n (answer (outcome 4294967296) n)
-  unfolding bare outcome
-  change-past j e h = record {
-    acts = λ A P _ snd _. acts-same n Stuck snd tt
-        (λ γ k. rw (ap value e, heap-past (world P) (n .made) s j h));
-  }
-
-  pub change-few : (j : ℕ) → v ≡ Object j → j < n .made
+  change-few : (j : ℕ) → v ≡ object j → j < n .made
       → getD T (d * 576 + 515) 0 < kept-in T (getD s (j * 18) 0)
-      → PostChange R T s s v d n (answer (outcome 4294967296) n)
+      → PostChange R T s s v d n (answer (outcome 17179869184) n)
   unfolding bare outcome
   change-few j e h few = record {
     acts = λ A P hold snd dd.
@@ -84,14 +72,14 @@ module _ {R T s : List ℕ} {v : Value} {d : ℕ} {n : Counts} where
         = lt-leb x (length (world P .fields d))
         (omega (arith, kept-count R T s n hold snd j h, hold .tables .counts d dd)) in
         acts-same n Stuck snd tt
-        (λ γ k. rw (ap value e, heap-at (world P) (n .made) s j h, kept-own R T s n hold snd j h, z));
+        (λ γ k. rw (e, heap-at (world P) (n .made) s j h, kept-own R T s n hold snd j h, z));
   }
 
-  pub change-made : (s₁ : List ℕ) (j : ℕ) → v ≡ Object j → j < n .made
+  change-made : (s₁ : List ℕ) (j : ℕ) → v ≡ object j → j < n .made
       → kept-in T (getD s (j * 18) 0) ≤ getD T (d * 576 + 515) 0 → Small v
       → Filled R T s s₁ (j * 18) d (kept-in T (getD s (j * 18) 0))
       → PostChange R T s (set s₁ (j * 18) d) v d n
-      (answer (Gave (Object j)) (record { left = n .left; made = n .made; changes = n .changes + 1 }))
+      (answer (Gave v) (record { left = n .left; made = n .made; changes = n .changes + 1 }))
   unfolding bare
   change-made s₁ j e h many m w = record {
     acts = λ A P hold snd dd.
@@ -135,39 +123,32 @@ module _ {R T s : List ℕ} {v : Value} {d : ℕ} {n : Counts} where
               (snd .few) (omega arith);
           left = refl;
           changed = omega arith;
-          small = rw e at m;
+          small = m;
           is = λ γ k. let one : n .changes + 1 ≡ suc (n .changes) = omega arith in
-              rw (ap value e, heap-at (world P) made s j h, kept-own R T s n hold snd j h, z, heap, one);
+              rw (e, heap-at (world P) made s j h, kept-own R T s n hold snd j h, z, heap, one);
         };
   }
 
--- the same of a value and an answer that are equal
-pub change-of : {R T s s′ : List ℕ} {v w : Value} {d : ℕ} {n : Counts} {r r′ : Answer} → v ≡ w → r ≡ r′
-    → PostChange R T s s′ v d n r → PostChange R T s s′ w d n r′
-change-of e f p = rw (← e, ← f) p
+-- the same of the word, which is returned, and of the tally, which counts the change
+pub same-word : (w : ℕ) (n : Counts) → w < 17179869184 → answer (Gave (meaning w)) n ≡ answer (outcome w) n
+same-word w n h = ap (λ (o : Outcome). answer o n) (sym (outcome-value w h))
 
--- the same of the value's number, which is returned, and of the tally, which counts the change
-pub same-number : {x : ℕ} {v : Value} {n : Counts} → v ≡ decoded x → x < 4294967296
-    → answer (Gave v) n ≡ answer (outcome x) n
-same-number {x} {n = n} e h = ap (λ (o : Outcome). answer o n) (gave-number x e h)
-
-pub one-change : {x j : ℕ} {v : Value} {t′ : List ℕ} (t : List ℕ) → v ≡ decoded x → v ≡ Object j
-    → x < 4294967296
+pub one-change : (w : ℕ) {t′ : List ℕ} (t : List ℕ) → w < 17179869184
     → (2 < length t) × (t′ ≡ set t 2 (getD t 2 0 + 1))
-    → answer (Gave (Object j)) (counts (getD t 0 0) (getD t 1 0) (getD t 2 0 + 1)) ≡ answered x t′
-one-change {x} t e f h (long, q) =
-    rw q (ap₂ (λ o m. answer o m) (gave-number x (sym f ∙ e) h) (sym (set-changes t (getD t 2 0 + 1) long)))
+    → answer (Gave (meaning w)) (counts (getD t 0 0) (getD t 1 0) (getD t 2 0 + 1)) ≡ answered w t′
+one-change w t h (long, q) =
+    rw q (ap₂ (λ o m. answer o m) (sym (outcome-value w h)) (sym (set-changes t (getD t 2 0 + 1) long)))
 
 -- what R reads in the tables: of the object's class and its root, and of the target
-pub record Spots (R T s : List ℕ) (j d : ℕ) : Type 0 where
-  pub stored : j * 18 + 18 ≤ length s
-  pub own : getD s (j * 18) 0 * 576 + 576 ≤ length T
-  pub class : getD s (j * 18) 0 ≤ 64
-  pub root : getD T (getD s (j * 18) 0 * 576 + 514) 0 * 576 + 576 ≤ length T
+pub record Spots (R T s : List ℕ) (o d : ℕ) : Type 0 where
+  pub stored : o + 18 ≤ length s
+  pub own : getD s o 0 * 576 + 576 ≤ length T
+  pub class : getD s o 0 ≤ 64
+  pub root : getD T (getD s o 0 * 576 + 514) 0 * 576 + 576 ≤ length T
   pub target : d * 576 + 576 ≤ length T
-  pub kept : kept-in T (getD s (j * 18) 0) ≤ 17
+  pub kept : kept-in T (getD s o 0) ≤ 17
 
-pub spots : {R T s : List ℕ} {d made : ℕ} → PreNew R T s d made → (j : ℕ) → j < made → Spots R T s j d
+spots : {R T s : List ℕ} {d made : ℕ} → PreNew R T s d made → (j : ℕ) → j < made → Spots R T s (j * 18) d
 spots {R} {T} {s} {made = made} p j h =
     let c : ℕ = getD s (j * 18) 0 in
     let k = p .sound .declared j h in
@@ -187,7 +168,7 @@ spots {R} {T} {s} {made = made} p j h =
     }
 
 -- first values from a place on that the object has
-pub change-fill : {R T s : List ℕ} {d made : ℕ} (p : PreNew R T s d made) (j : ℕ) → j < made
+change-fill : {R T s : List ℕ} {d made : ℕ} (p : PreNew R T s d made) (j : ℕ) → j < made
     → Fill R T s (j * 18) d (kept-in T (getD s (j * 18) 0))
 change-fill p j h =
     let f = new-fill p (j * 18) (omega (arith, p .sound .stored)) in
@@ -198,3 +179,28 @@ change-fill p j h =
       few = f .few;
       rows = f .rows;
     }
+
+-- ---- by the word of the object, and its index in the store
+
+module _ {R T s : List ℕ} (w : ℕ) {o d : ℕ} (n : Counts) (q : reached (n .made) (meaning w) ≡ At o) where
+  pub reached-spots : PreChange R T s w d n → Spots R T s o d
+  reached-spots p = let x = reached-at (n .made) (meaning w) o q in rw (x .3) (spots (p .new) (x .0) (x .2))
+
+  pub fill-at : PreChange R T s w d n → Fill R T s o d (kept-in T (getD s o 0))
+  fill-at p = let x = reached-at (n .made) (meaning w) o q in rw (x .3) (change-fill (p .new) (x .0) (x .2))
+
+  pub few-at : getD T (d * 576 + 515) 0 < kept-in T (getD s o 0)
+      → PostChange R T s s (meaning w) d n (answer (outcome 17179869184) n)
+  few-at h = let x = reached-at (n .made) (meaning w) o q in
+      change-few (x .0) (x .1) (x .2) (rw (x .3) at h)
+
+  pub made-at : (s₁ : List ℕ) {r : Answer} → kept-in T (getD s o 0) ≤ getD T (d * 576 + 515) 0
+      → Small (meaning w) → Filled R T s s₁ o d (kept-in T (getD s o 0))
+      → answer (Gave (meaning w)) (record { left = n .left; made = n .made; changes = n .changes + 1 }) ≡ r
+      → PostChange R T s (set s₁ o d) (meaning w) d n r
+  made-at s₁ h m f e = let x = reached-at (n .made) (meaning w) o q in
+      rw (← e, x .3) (change-made s₁ (x .0) (x .1) (x .2) (rw (x .3) at h) m (rw (x .3) at f))
+
+pub change-of-null : {R T s : List ℕ} (w : ℕ) {d : ℕ} (n : Counts) → meaning w ≡ null → w < 17179869184
+    → Small (meaning w) → PostChange R T s s (meaning w) d n (answer (outcome w) n)
+change-of-null w n e short m = rw (sym (same-word w n short)) (change-null e m)

@@ -1,14 +1,13 @@
 -- Laws of the first row with a letter, and of the method that Q seeks. Assumes nothing.
 use mathlib.Core.Path.{_≡_, refl, sym, ap, _∙_, subst}
-use mathlib.Core.Bool.{true, false}
+use mathlib.Core.Bool.{Bool, true, false, cond}
 use mathlib.Core.Logic.{⊎-elim}
 use mathlib.Core.Option.{Option, none, some}
-use mathlib.Core.List.{List, [], _∷_}
-use Prim.Native.Nat.{ℕ, _+_, _-_, _*_, _≤_, _<_}
+use mathlib.Core.List.{List}
+use Prim.Native.Nat.{ℕ, zero, suc, _+_, _-_, _*_, _≤_, _<_}
 use native.Mathlib.Omega.{arith}
-use borrow.Author.Tests.{eq-eqb, ne-eqb}
-use types.Run.{OneOf}
-use denote.Enum.Declared.{tagOf}
+use borrow.Author.Tests.{eq-eqb, ne-eqb, eqb-true, eqb-false, leb-true, leb-false, le-leb, lt-leb}
+use lib.Dec.{eqb, leb}
 use lib.ListN.{length, getD}
 use Rattle.language.specs.Tree.{Class}
 use Rattle.language.specs.World.{Method}
@@ -19,20 +18,19 @@ use Rattle.language.specs.Lists.{map-option, nth-lt}
 use Rattle.language.specs.Encoded.{Encoded}
 use Rattle.language.proofs.Methods.{method-found}
 use Rattle.language.specs.Evaluation.{call-at}
-use Rattle.objects.specs.Values.{is-null-value}
-use Rattle.objects.specs.declared.Value.{Value}
-use Rattle.objects.specs.declared.Value.the-variants.{Object}
-use Rattle.objects.specs.Values.{Outcome, Counts, value, decoded, outcome}
+use Rattle.language.specs.State.{Value as Meaning, null, object}
+use Rattle.objects.specs.Values.{Outcome, Counts, outcome, meaning, reached}
+use Rattle.objects.specs.declared.Reached.the-variants.{At}
 use Rattle.objects.specs.Values.{bare}
 use Rattle.objects.specs.declared.Target.the-variants.{Body, Fails}
 use Rattle.objects.specs.Holding.{Holds, HoldsMethods, Sound}
-use Rattle.objects.specs.Contracts.{PreFind, PostFind, NotFound, LetterFrom}
-use Rattle.objects.proofs.Value.{the-type}
-use Rattle.objects.proofs.Values.{outcome-stuck}
+use Rattle.objects.specs.Contracts.{PreFind, PostFind, NotFound, LetterFrom, MethodsOf, target-at}
+use Rattle.objects.specs.Contracts.{target-in}
+use Rattle.objects.specs.Contracts.{allowed-in}
+use Rattle.objects.proofs.Values.{NoObject, is-truth, is-past, reached-at, outcome-stuck}
 use Rattle.objects.proofs.Values.{outcome-null-pointer, outcome-deep}
 use Rattle.objects.proofs.Nth.{lt-or}
 use Rattle.objects.proofs.Objects.{object-at, heap-at, heap-past}
-use Rattle.objects.proofs.Acts.{null-of, truth-of}
 
 -- the first row with a letter
 pub not-past : {R : List ℕ} {x row found : ℕ} → LetterFrom R x row found → (b : ℕ)
@@ -114,111 +112,179 @@ module _ {T M s : List ℕ} {m made : ℕ} (p : PreFind T M s m made) (j : ℕ) 
         room = omega (arith, p .sound .stored);
       }
 
-  -- where the table of methods has the method's numbers
-  pub number-spot : (number-in T s j m ≡ 0 → ⊥) → (number-in T s j m - 1) * 4 + 4 ≤ length M
-  number-spot z =
-      sought (p .holds) (p .methods) (getD s (j * 18) 0) m (p .sound .declared j h) (p .name) z .there
+  -- what a lookup reads
+  pub methods-of : MethodsOf T M (getD s (j * 18) 0) m
+  methods-of = record {
+    table = omega (arith, p .holds .tables .long, p .sound .declared j h);
+    name = p .name;
+    methods = λ i e. omega (arith, e, number-spot (λ z. omega (arith, e)));
+  }
+    where
+      number-spot : (number-in T s j m ≡ 0 → ⊥) → (number-in T s j m - 1) * 4 + 4 ≤ length M
+      number-spot z =
+          sought (p .holds) (p .methods) (getD s (j * 18) 0) m (p .sound .declared j h) (p .name) z .there
 
-not-found : {T M s : List ℕ} {v v′ : Value} {m given : ℕ} {n : Counts} {calls : ℕ} {o : Outcome} {r : ℕ}
-    → v ≡ v′
+not-found : {T M s : List ℕ} {v : Meaning} {m given : ℕ} {n : Counts} {calls : ℕ} {o : Outcome} {r : ℕ}
     → outcome r ≡ o
     → ((R E A : List ℕ) (P : List Class) → Holds R T A P → HoldsMethods R E M P → Sound P (n .made) s
     → NotFound P s v m given n calls o)
-    → PostFind T M s v′ m given n calls (Fails r)
-not-found d e f = record { is = λ R E A P h w snd. rw (sym d, e) (f R E A P h w snd) }
+    → PostFind T M s v m given n calls (Fails r)
+not-found e f = record { is = λ R E A P h w snd. rw e (f R E A P h w snd) }
 
-module _ {T M s : List ℕ} {v : Value} (x : ℕ) {m given : ℕ} {n : Counts} {calls : ℕ} (stands : v ≡ decoded x)
-  where
-    pub find-null : is-null-value (value v) ≡ true
-        → PostFind T M s (decoded x) m given n calls (Fails 4294967297)
+pub find-nothing : {T M s : List ℕ} {v : Meaning} {m given : ℕ} {n : Counts} {calls : ℕ}
+    → NoObject (n .made) v
+    → PostFind T M s v m given n calls (Fails 17179869184)
+unfolding bare
+find-nothing is-truth = not-found outcome-stuck (λ R E A P _ w snd.
+    record {
+      small = tt;
+      is = λ L vs γ k q. refl;
+      fails = λ w q. let z : _≡_ {A = ℕ} 0 1 = cc in omega arith;
+    })
+find-nothing {s = s} {n = n} (is-past {j} h) = not-found outcome-stuck (λ R E A P _ w snd.
+    record {
+      small = tt;
+      is = λ L vs γ k q. rw (heap-past (world P) (n .made) s j h);
+      fails = λ w q. let z : _≡_ {A = ℕ} 0 1 = cc in omega arith;
+    })
+
+module _ {T M s : List ℕ} {v : Meaning} {m given : ℕ} {n : Counts} {calls : ℕ} where
+  pub find-null : v ≡ null → PostFind T M s v m given n calls (Fails 17179869185)
+  unfolding bare
+  find-null e = not-found outcome-null-pointer (λ R E A P h w snd.
+      record {
+        small = tt;
+        is = λ L vs γ k q. rw e;
+        fails = λ w q. let z : _≡_ {A = ℕ} 0 1 = cc in omega arith;
+      })
+
+  -- the receiver is object j
+  module _ (j : ℕ) (e : v ≡ object j) (h : j < n .made) (l : m < 256) where
+    find-missing : number-in T s j m ≡ 0 → PostFind T M s v m given n calls (Fails 17179869184)
     unfolding bare
-    find-null e = not-found stands outcome-null-pointer (λ R E A P h w snd.
+    find-missing z = not-found outcome-stuck (λ R E A P hold w snd.
+        let q = none-sought hold (getD s (j * 18) 0) m (snd .declared j h) l z in
         record {
           small = tt;
-          is = λ L vs γ k q. rw (null-of v e);
+          is = λ L vs γ k many. rw (e, heap-at (world P) (n .made) s j h, q);
           fails = λ w q. let z : _≡_ {A = ℕ} 0 1 = cc in omega arith;
         })
 
-    pub find-truth : OneOf (0 ∷ 1 ∷ []) (tagOf the-type v) → is-null-value (value v) ≡ false
-        → PostFind T M s (decoded x) m given n calls (Fails 4294967296)
-    unfolding bare
-    find-truth h e = not-found stands outcome-stuck (λ R E A P _ w snd.
-        record {
-          small = tt;
-          is = λ L vs γ k q. rw (truth-of v h e .1);
-          fails = λ w q. let z : _≡_ {A = ℕ} 0 1 = cc in omega arith;
-        })
-
-    pub find-past : (j : ℕ) → v ≡ Object j → n .made ≤ j
-        → PostFind T M s (decoded x) m given n calls (Fails 4294967296)
-    unfolding bare
-    find-past j e h = not-found stands outcome-stuck (λ R E A P _ w snd.
-        record {
-          small = tt;
-          is = λ L vs γ k q. rw (ap value e, heap-past (world P) (n .made) s j h);
-          fails = λ w q. let z : _≡_ {A = ℕ} 0 1 = cc in omega arith;
-        })
-
-    -- the receiver is object j
-    module _ (j : ℕ) (e : v ≡ Object j) (h : j < n .made) (l : m < 256) where
-      pub find-missing : number-in T s j m ≡ 0 → PostFind T M s (decoded x) m given n calls (Fails 4294967296)
+    module _ (z : number-in T s j m ≡ 0 → ⊥) where
+      -- another number of arguments than the method has parameters
+      find-other : (getD M ((number-in T s j m - 1) * 4 + 2) 0 ≡ given → ⊥)
+          → PostFind T M s v m given n calls (Fails 17179869184)
       unfolding bare
-      find-missing z = not-found stands outcome-stuck (λ R E A P hold w snd.
-          let q = none-sought hold (getD s (j * 18) 0) m (snd .declared j h) l z in
+      find-other t = not-found outcome-stuck (λ R E A P hold w snd.
+          let y = sought hold w (getD s (j * 18) 0) m (snd .declared j h) l z in
           record {
             small = tt;
-            is = λ L vs γ k many. rw (ap value e, heap-at (world P) (n .made) s j h, q);
+            is = λ L vs γ k many.
+                let d = ne-eqb (length vs) (length (y .found .parameters))
+                (λ q. t (y .parameters ∙ (sym q ∙ many))) in
+                rw (e, heap-at (world P) (n .made) s j h, y .method, d);
             fails = λ w q. let z : _≡_ {A = ℕ} 0 1 = cc in omega arith;
           })
 
-      module _ (z : number-in T s j m ≡ 0 → ⊥) where
-        -- another number of arguments than the method has parameters
-        pub find-other : (getD M ((number-in T s j m - 1) * 4 + 2) 0 ≡ given → ⊥)
-            → PostFind T M s (decoded x) m given n calls (Fails 4294967296)
-        unfolding bare
-        find-other t = not-found stands outcome-stuck (λ R E A P hold w snd.
+      module _ (t : getD M ((number-in T s j m - 1) * 4 + 2) 0 ≡ given) where
+        find-deep : 64 ≤ calls → PostFind T M s v m given n calls (Fails 17179869199)
+        unfolding bare call-at
+        find-deep a = not-found outcome-deep (λ R E A P hold w snd.
             let y = sought hold w (getD s (j * 18) 0) m (snd .declared j h) l z in
+            let none-left : 64 - calls ≡ 0 = omega arith in
             record {
-              small = tt;
+              small = (omega arith, omega arith);
               is = λ L vs γ k many.
-                  let d = ne-eqb (length vs) (length (y .found .parameters))
-                  (λ q. t (y .parameters ∙ (sym q ∙ many))) in
-                  rw (ap value e, heap-at (world P) (n .made) s j h, y .method, d);
+                  let d = eq-eqb (length vs) (length (y .found .parameters))
+                  (many ∙ (sym t ∙ y .parameters)) in
+                  rw (e, heap-at (world P) (n .made) s j h, y .method, d, none-left);
               fails = λ w q. let z : _≡_ {A = ℕ} 0 1 = cc in omega arith;
             })
 
-        module _ (t : getD M ((number-in T s j m - 1) * 4 + 2) 0 ≡ given) where
-          pub find-deep : 64 ≤ calls → PostFind T M s (decoded x) m given n calls (Fails 4294967311)
-          unfolding bare call-at
-          find-deep a = not-found stands outcome-deep (λ R E A P hold w snd.
+        find-found : calls < 64
+            → PostFind T M s v m given n calls (Body (getD M ((number-in T s j m - 1) * 4 + 3) 0))
+        find-found a = record {
+          is = λ R E A P hold w snd.
               let y = sought hold w (getD s (j * 18) 0) m (snd .declared j h) l z in
-              let none-left : 64 - calls ≡ 0 = omega arith in
+              let b = w .bodies (getD s (j * 18) 0) m (y .found) (y .method) in
               record {
-                small = (omega arith, omega arith);
-                is = λ L vs γ k many.
-                    let d = eq-eqb (length vs) (length (y .found .parameters))
-                    (many ∙ (sym t ∙ y .parameters)) in
-                    rw (ap value e, heap-at (world P) (n .made) s j h, y .method, d, none-left);
-                fails = λ w q. let z : _≡_ {A = ℕ} 0 1 = cc in omega arith;
-              })
+                j = j;
+                o = object-at (world P) s (j * 18);
+                M = y .found;
+                receiver = e;
+                known = λ γ k. heap-at (world P) (n .made) s j h;
+                method = y .method;
+                parameters = sym t ∙ y .parameters;
+                encoded = subst (λ (i : ℕ). Encoded R E (body-in P (y .found .number))
+                    (getD M (i * 4 + 3) 0)) (y .number) (b .encoded);
+                within = b .within;
+                allowed = a;
+              };
+        }
 
-          pub find-found : calls < 64
-              → PostFind T M s (decoded x) m given n calls (Body (getD M ((number-in T s j m - 1) * 4 + 3) 0))
-          find-found a = record {
-            is = λ R E A P hold w snd.
-                let y = sought hold w (getD s (j * 18) 0) m (snd .declared j h) l z in
-                let b = w .bodies (getD s (j * 18) 0) m (y .found) (y .method) in
-                record {
-                  j = j;
-                  o = object-at (world P) s (j * 18);
-                  M = y .found;
-                  receiver = ap value (sym stands ∙ e);
-                  known = λ γ k. heap-at (world P) (n .made) s j h;
-                  method = y .method;
-                  parameters = sym t ∙ y .parameters;
-                  encoded = subst (λ (i : ℕ). Encoded R E (body-in P (y .found .number))
-                      (getD M (i * 4 + 3) 0)) (y .number) (b .encoded);
-                  within = b .within;
-                  allowed = a;
-                };
-          }
+    -- what the tables tell of the call
+    pub find-in : PostFind T M s v m given n calls (target-in T M (getD s (j * 18) 0) m given calls)
+    unfolding target-in
+    find-in = go (number-in T s j m) refl
+      where
+        allowed : (i : ℕ) → number-in T s j m ≡ suc i → (a b : Bool)
+            → eqb (getD M (i * 4 + 2) 0) given ≡ a → leb 64 calls ≡ b
+            → PostFind T M s v m given n calls
+            (cond a (cond b (Fails 17179869199) (Body (getD M (i * 4 + 3) 0))) (Fails 17179869184))
+        allowed i q true true x y =
+            let o : number-in T s j m - 1 ≡ i = omega arith in
+            find-deep (λ z. omega arith) (rw o (eqb-true (getD M (i * 4 + 2) 0) given x))
+            (leb-true 64 calls y)
+        allowed i q true false x y =
+            let o : number-in T s j m - 1 ≡ i = omega arith in
+            rw o at (find-found (λ z. omega arith) (rw o (eqb-true (getD M (i * 4 + 2) 0) given x))
+            (leb-false 64 calls y))
+        allowed i q false b x y =
+            let o : number-in T s j m - 1 ≡ i = omega arith in
+            find-other (λ z. omega arith) (rw o (λ z. eqb-false (getD M (i * 4 + 2) 0) given x z))
+
+        go : (k : ℕ) → number-in T s j m ≡ k → PostFind T M s v m given n calls (target-at M k given calls)
+        go zero q = find-missing q
+        go (suc i) q = allowed i q (eqb (getD M (i * 4 + 2) 0) given) (leb 64 calls) refl refl
+
+pub find-at : {T M s : List ℕ} (w : ℕ) {o m given : ℕ} {n : Counts} {calls : ℕ}
+    → reached (n .made) (meaning w) ≡ At o → m < 256
+    → PostFind T M s (meaning w) m given n calls (target-in T M (getD s o 0) m given calls)
+find-at w {o} {n = n} q l = let x = reached-at (n .made) (meaning w) o q in
+    rw (x .3) (find-in (x .0) (x .1) (x .2) l)
+
+pub find-room : {T M s : List ℕ} {m made o : ℕ} (w : ℕ) → PreFind T M s m made
+    → reached made (meaning w) ≡ At o → (o + 18 ≤ length s) × MethodsOf T M (getD s o 0) m
+find-room {made = made} {o} w p q = let x = reached-at made (meaning w) o q in
+    rw (x .3) (omega (arith, p .sound .stored, x .2), methods-of p (x .0) (x .2))
+
+-- what the tables tell, by the tests that are made
+module _ (T M : List ℕ) (c m given calls : ℕ) where
+  abbrev pub stored-number : ℕ
+  stored-number = getD T (c * 576 + 256 + m) 0
+
+  pub target-none : stored-number ≡ 0 → Fails 17179869184 ≡ target-in T M c m given calls
+  unfolding target-in
+  target-none e = rw e
+
+  module _ (z : stored-number ≡ 0 → ⊥) where
+    pub number-suc : stored-number ≡ suc (stored-number - 1)
+    number-suc = omega (arith, z)
+
+    by-number : target-in T M c m given calls ≡ allowed-in M (stored-number - 1) given calls
+    unfolding target-in
+    by-number = ap (λ (n : ℕ). target-at M n given calls) number-suc
+
+    pub target-other : (getD M ((stored-number - 1) * 4 + 2) 0 ≡ given → ⊥)
+        → Fails 17179869184 ≡ target-in T M c m given calls
+    target-other h = sym (by-number ∙ rw (ne-eqb (getD M ((stored-number - 1) * 4 + 2) 0) given h))
+
+    module _ (e : getD M ((stored-number - 1) * 4 + 2) 0 ≡ given) where
+      pub target-deep : 64 ≤ calls → Fails 17179869199 ≡ target-in T M c m given calls
+      target-deep h = sym (by-number
+          ∙ rw (eq-eqb (getD M ((stored-number - 1) * 4 + 2) 0) given e, le-leb 64 calls h))
+
+      pub target-body : calls < 64
+          → Body (getD M ((stored-number - 1) * 4 + 3) 0) ≡ target-in T M c m given calls
+      target-body h = sym (by-number
+          ∙ rw (eq-eqb (getD M ((stored-number - 1) * 4 + 2) 0) given e, lt-leb 64 calls h))

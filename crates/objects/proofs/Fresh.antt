@@ -1,31 +1,34 @@
 -- Laws of first values, and of W. Assumes nothing.
 use mathlib.Core.Path.{_≡_, refl, sym, ap, ap₂, _∙_}
-use mathlib.Core.Bool.{false}
+use mathlib.Core.Bool.{Bool, true, false, cond}
 use mathlib.Core.Logic.{_⊎_, inl, inr}
 use mathlib.Core.Option.{some}
 use mathlib.Core.List.{List, [], _∷_, _++_, map}
 use Prim.Native.Nat.{ℕ, suc, _+_, _-_, _*_, _≤_, _<_}
 use native.Mathlib.Omega.{arith}
 use borrow.Author.Tests.{le-leb, lt-leb}
-use lib.Dec.{leb}
+use lib.Dec.{eqb, leb}
 use lib.ListN.{length, getD, take, drop, set, length-set, length-append, length-take, length-drop, length-map}
 use lib.Seq.{getD-set-same, getD-set-other, ext-getD, getD-drop, length-take-le}
 use Rattle.language.specs.Lists.{nth, nth-map, nth-append}
 use Rattle.language.specs.Tree.{Class, Field}
 use Rattle.language.specs.Program.{world}
-use Rattle.language.specs.State.{Value as Meaning, Object as Thing, initial, initials}
+use Rattle.language.specs.State.{Value as Meaning, null, truth, object, Object as Thing, initial, initials}
 use Rattle.language.specs.Evaluation.{new-object, changed}
-use Rattle.language.specs.Store.{value-of-number, heap-of-numbers, capacity}
-use Rattle.objects.specs.declared.Value.the-variants.{Object}
-use Rattle.objects.specs.Values.{Gave, Stopped, Counts, counts-in, decoded, outcome}
+use Rattle.language.specs.Store.{value-number, value-of-number, heap-of-numbers, capacity}
+use Rattle.objects.specs.Values.{Gave, Stopped, Counts, counts-in, outcome}
 use Rattle.objects.specs.Values.{bare, answer, answered}
 use Rattle.objects.specs.Holding.{Holds, Sound}
 use Rattle.objects.specs.Contracts.{Stored, first-of, Fill, Filled, PreNew, PostNew}
-use Rattle.objects.proofs.Values.{value-of-value-number, decoded-object, gave-number}
+use Rattle.objects.proofs.Values.{value-of-value-number, outcome-value, meaning-object, meaning-word}
+use Rattle.objects.proofs.Values.{meaning-null}
+use Rattle.objects.specs.Holding.{first-value-of}
+use Rattle.objects.specs.Contracts.{field-type-in}
+use Rattle.objects.specs.Values.{word, meaning, Small}
 use Rattle.objects.proofs.Tally.{set-made}
 use Rattle.objects.proofs.Acts.{acts-same}
 use Rattle.objects.proofs.Nth.{lt-or, nth-ext, nth-take, nth-drop, nth-past, some-at}
-use Rattle.objects.proofs.Objects.{values-at, values-length, object-at, heap-length}
+use Rattle.objects.proofs.Objects.{mapped-at, mapped-length, object-at, heap-length}
 use Rattle.objects.proofs.Objects.{heap-new}
 
 -- the first value of a field, by its number
@@ -53,12 +56,12 @@ fields-filled {R} {T} {A} {P} h s s′ o c from m d l k room long kept first =
     let old : List Meaning = take from (map value-of-number (take m (drop (o + 1) s))) in
     let a : length old ≡ from = old-length in
     nth-ext (map value-of-number (take (length fs) (drop (o + 1) s′))) (old ++ initials (drop from fs))
-    (values-length s′ (o + 1) (length fs) (omega arith)
+    (mapped-length value-of-number s′ (o + 1) (length fs) (omega arith)
     ∙ sym (length-append old (initials (drop from fs))
     ∙ (ap₂ (λ (x y : ℕ). x + y) a
     (length-map (drop from fs) (λ (f : Field). initial (f .type)) ∙ length-drop from fs) ∙ omega arith)))
-    (λ i b. let b′ : i < length fs = omega (arith, values-length s′ (o + 1) (length fs) (omega arith)) in
-    values-at s′ (o + 1) (length fs) i b′ (omega arith) ∙ go few a i b′ (lt-or i from))
+    (λ i b. let b′ : i < length fs = omega (arith, mapped-length value-of-number s′ (o + 1) (length fs) (omega arith)) in
+    mapped-at value-of-number s′ (o + 1) (length fs) i b′ (omega arith) ∙ go few a i b′ (lt-or i from))
   where
     old-length : length (take from (map value-of-number (take m (drop (o + 1) s)))) ≡ from
     old-length = length-take-le from (map value-of-number (take m (drop (o + 1) s)))
@@ -74,7 +77,7 @@ fields-filled {R} {T} {A} {P} h s s′ o c from m d l k room long kept first =
         let old : List Meaning = take from (map value-of-number (take m (drop (o + 1) s))) in
         let v : Meaning = value-of-number (getD s (o + 1 + i) 0) in
         let e : nth old i ≡ some v = nth-take from (map value-of-number (take m (drop (o + 1) s))) i x
-        ∙ values-at s (o + 1) m i (omega arith) (omega arith) in
+        ∙ mapped-at value-of-number s (o + 1) m i (omega arith) (omega arith) in
         ap (λ (y : ℕ). some (value-of-number y)) (kept i x)
         ∙ sym (nth-append old (initials (drop from (world P .fields c))) i v e)
     go few a i b (inr x) =
@@ -200,7 +203,7 @@ new-fill {R} {T} {s} {c} p o h = record {
 }
 
 pub new-full : (R T s : List ℕ) (c : ℕ) (n : Counts) → capacity s ≤ n .made
-    → PostNew R T s s c n (answer (outcome 4294967312) n)
+    → PostNew R T s s c n (answer (outcome 17179869200) n)
 unfolding bare outcome
 new-full R T s c n h =
     record {
@@ -224,7 +227,7 @@ has-room s made h k = omega arith
 pub new-made : (R T s s₁ : List ℕ) (c : ℕ) (n : Counts) → n .made < 65535 → n .made * 18 + 18 ≤ length s
     → Filled R T s s₁ (n .made * 18) c 0
     → PostNew R T s (set s₁ (n .made * 18) c) c n
-    (answer (Gave (Object (n .made)))
+    (answer (Gave (object (n .made)))
     (record { left = n .left; made = n .made + 1; changes = n .changes }))
 unfolding bare
 new-made R T s s₁ c n h room w = record {
@@ -266,11 +269,34 @@ new-made R T s s₁ c n h room w = record {
 pub new-told : {R T s s₁ t′ : List ℕ} (t : List ℕ) {c : ℕ} → (1 < length t) × (t′ ≡ set t 1 (getD t 1 0 + 1))
     → getD t 1 0 < 65535
     → getD t 1 0 * 18 + 18 ≤ length s → Filled R T s s₁ (getD t 1 0 * 18) c 0
-    → PostNew R T s (set s₁ (getD t 1 0 * 18) c) c (counts-in t) (answered (getD t 1 0 + 3) t′)
+    → PostNew R T s (set s₁ (getD t 1 0 * 18) c) c (counts-in t) (answered (8589934592 + (getD t 1 0 + 1)) t′)
 new-told {R} {T} {s} {s₁} t {c} (long, q) h room w =
     let made : ℕ = getD t 1 0 in
-    let e : Object made ≡ decoded (made + 3) = let z : made + 3 - 3 ≡ made = omega arith in
-    sym (decoded-object (made + 3) (omega arith) ∙ ap Object z) in
-    let r = ap₂ (λ o m. answer o m) (gave-number (made + 3) e (omega arith))
-    (sym (set-made t (made + 1) long)) in
+    let word : ℕ = 8589934592 + (made + 1) in
+    let e : outcome word ≡ Gave (object made) = outcome-value word (omega arith)
+    ∙ ap Gave (meaning-object word made (omega arith) (omega arith)) in
+    let r = ap₂ (λ o m. answer o m) (sym e) (sym (set-made t (made + 1) long)) in
     rw (q, ← r) (new-made R T s s₁ c (counts-in t) h room w)
+
+pub first-small : (t : ℕ) → Small (first-value-of t)
+first-small t = go (eqb t 255)
+  where
+    go : (b : Bool) → Small (cond b (truth false) null)
+    go true = omega arith
+    go false = omega arith
+
+-- what is written for a field: its first value, and null past the fields of the class
+pub first-written : (R T : List ℕ) (c i count w : ℕ) → i < count
+    → w ≡ word (first-value-of (field-type-in R T c i)) → value-number (meaning w) ≡ first-of R T c i count
+unfolding first-of
+first-written R T c i count w h e =
+    let v : Meaning = first-value-of (field-type-in R T c i) in
+    rw (lt-leb count i h)
+    (ap (λ (x : ℕ). value-number (meaning x)) e
+    ∙ ap value-number (meaning-word v (first-small (field-type-in R T c i))))
+
+pub first-is-word : (t w : ℕ) → w ≡ word (first-value-of t) → Small (meaning w)
+first-is-word t w e = rw (e, meaning-word (first-value-of t) (first-small t)) (first-small t)
+
+pub null-written : value-number (meaning 0) ≡ 0
+null-written = ap value-number meaning-null

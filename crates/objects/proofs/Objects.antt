@@ -30,37 +30,36 @@ place-lt f (x ∷ fs) i e = go (eqb (x .name) f) (place f fs) refl e (λ j q. pl
     go false none q e k = absurd (Never e)
     go false (some j) q e k = let h : suc j ≡ i = inj e in omega (arith, k j q)
 
--- numbers read as values
-pub values-at : (s : List ℕ) (from m i : ℕ) → i < m → from + i < length s
-    → nth (map value-of-number (take m (drop from s))) i ≡ some (value-of-number (getD s (from + i) 0))
-values-at s from m i h k =
-    let n : i < length (take m (drop from s)) = simp (length-take, length-drop) (omega arith) in
-    nth-map value-of-number i (take m (drop from s)) (getD (take m (drop from s)) i 0)
-    (nth-getD (take m (drop from s)) i 0 n)
-    ∙ ap (λ (x : ℕ). some (value-of-number x)) (getD-take m (drop from s) i 0 h ∙ getD-drop from s i 0)
+-- numbers read as values, by any function
+module _ {B : Type 0} (f : ℕ → B) where
+  pub mapped-at : (s : List ℕ) (from m i : ℕ) → i < m → from + i < length s
+      → nth (map f (take m (drop from s))) i ≡ some (f (getD s (from + i) 0))
+  mapped-at s from m i h k =
+      let n : i < length (take m (drop from s)) = simp (length-take, length-drop) (omega arith) in
+      nth-map f i (take m (drop from s)) (getD (take m (drop from s)) i 0)
+      (nth-getD (take m (drop from s)) i 0 n)
+      ∙ ap (λ (x : ℕ). some (f x)) (getD-take m (drop from s) i 0 h ∙ getD-drop from s i 0)
 
-pub values-ext : (s s′ : List ℕ) (from m : ℕ) → length s ≡ length s′
-    → ((i : ℕ) → i < m → getD s (from + i) 0 ≡ getD s′ (from + i) 0)
-    → map value-of-number (take m (drop from s)) ≡ map value-of-number (take m (drop from s′))
-values-ext s s′ from m e h =
-    ap (map value-of-number) (ext-getD 0 (take m (drop from s)) (take m (drop from s′))
-    (simp (length-take, length-drop, e))
-    (λ i l. let k : i < m = omega (arith, length-take m (drop from s)) in
-    getD-take m (drop from s) i 0 k
-    ∙ (getD-drop from s i 0
-    ∙ (h i k ∙ (sym (getD-drop from s′ i 0) ∙ sym (getD-take m (drop from s′) i 0 k))))))
+  pub mapped-ext : (s s′ : List ℕ) (from m : ℕ) → length s ≡ length s′
+      → ((i : ℕ) → i < m → getD s (from + i) 0 ≡ getD s′ (from + i) 0)
+      → map f (take m (drop from s)) ≡ map f (take m (drop from s′))
+  mapped-ext s s′ from m e h =
+      ap (map f) (ext-getD 0 (take m (drop from s)) (take m (drop from s′))
+      (simp (length-take, length-drop, e))
+      (λ i l. let k : i < m = omega (arith, length-take m (drop from s)) in
+      getD-take m (drop from s) i 0 k
+      ∙ (getD-drop from s i 0
+      ∙ (h i k ∙ (sym (getD-drop from s′ i 0) ∙ sym (getD-take m (drop from s′) i 0 k))))))
 
-pub values-set : (s : List ℕ) (from m i x : ℕ) → i < m
-    → map value-of-number (take m (drop from (set s (from + i) x)))
-    ≡ set (map value-of-number (take m (drop from s))) i (value-of-number x)
-values-set s from m i x h =
-    ap (map value-of-number) (ap (take m) (drop-set-add from s i x) ∙ take-set-lt m (drop from s) i x h)
-    ∙ map-set value-of-number (take m (drop from s)) i x
+  pub mapped-set : (s : List ℕ) (from m i x : ℕ) → i < m
+      → map f (take m (drop from (set s (from + i) x))) ≡ set (map f (take m (drop from s))) i (f x)
+  mapped-set s from m i x h =
+      ap (map f) (ap (take m) (drop-set-add from s i x) ∙ take-set-lt m (drop from s) i x h)
+      ∙ map-set f (take m (drop from s)) i x
 
-pub values-length : (s : List ℕ) (from m : ℕ) → from + m ≤ length s
-    → length (map value-of-number (take m (drop from s))) ≡ m
-values-length s from m h = length-map (take m (drop from s)) value-of-number
-    ∙ length-take-le m (drop from s) (simp length-drop (omega arith))
+  pub mapped-length : (s : List ℕ) (from m : ℕ) → from + m ≤ length s → length (map f (take m (drop from s))) ≡ m
+  mapped-length s from m h = length-map (take m (drop from s)) f
+      ∙ length-take-le m (drop from s) (simp length-drop (omega arith))
 
 -- the object at an index of the store
 module _ (W : World) where
@@ -102,7 +101,7 @@ module _ (W : World) where
       let c : getD s o 0 ≡ getD s′ o 0 = rw z at (h 0 (omega arith)) in
       let m : ℕ = length (W .fields (getD s o 0)) in
       ap (λ (l : List Meaning). record { class-of = getD s o 0; fields = l })
-      (values-ext s s′ (o + 1) m e (λ i k. shift i (h (1 + i) (omega arith))))
+      (mapped-ext value-of-number s s′ (o + 1) m e (λ i k. shift i (h (1 + i) (omega arith))))
       ∙ ap (λ (c : ℕ). record {
         class-of = c;
         fields = map value-of-number

@@ -1,19 +1,22 @@
 -- Laws of values and their numbers, of what outcomes mean, and of numbers written one after the other. Assumes nothing.
 use mathlib.Core.Path.{_≡_, refl, sym, ap, _∙_}
 use mathlib.Core.Bool.{Bool, true, false, cond}
-use lib.Dec.{eqb, leb}
-use borrow.Author.Tests.{le-leb, lt-leb, ne-eqb}
+use lib.Dec.{eqb, leb, ltb}
+use borrow.Author.Tests.{le-leb, lt-leb, ltb-true, ltb-false, lt-ltb, le-ltb, ne-eqb}
 use mathlib.Core.Logic.{_⊎_, inl, inr}
 use mathlib.Core.List.{List}
-use Prim.Native.Nat.{ℕ, zero, suc, _+_, _-_, _≤_, _<_}
+use Prim.Native.Nat.{ℕ, zero, suc, _+_, _-_, _*_, _/_, _%_, _≤_, _<_}
 use native.Mathlib.Omega.{arith}
 use lib.ListN.{length, getD, set, length-set}
 use Rattle.objects.proofs.Nth.{lt-or}
+use Rattle.objects.specs.declared.Value.the-variants.{Null, Truth, Object}
+use Rattle.objects.specs.declared.Reached.the-variants.{Null as ReachedNull, Nothing, At}
+use Rattle.objects.specs.Values.{Outcome, Gave, Raised, Stopped, Stuck, bare, bare-state, Small}
+use Rattle.objects.specs.Values.{SmallOutcome, word, meaning, case-of, numbered, of-kind, reached}
+use Rattle.objects.specs.Values.{outcome}
+use Rattle.objects.specs.Values.{failure}
 use Rattle.objects.specs.declared.Value.{Value}
-use Rattle.objects.specs.Values.{Outcome, Gave, Raised, Stopped, Stuck, value, bare, bare-state, Small}
-use Rattle.objects.specs.Values.{SmallOutcome, decoded, outcome, failure}
-use Rattle.objects.specs.declared.Value.the-variants.{Null, Object}
-use Rattle.objects.specs.Contracts.{Written, first-of}
+use Rattle.objects.specs.Contracts.{Written, first-of, IsWord}
 use lib.Seq.{getD-set-same, getD-set-other}
 use Rattle.language.specs.Results.{ok, stop, bind}
 use Rattle.language.specs.State.{Value as Meaning, null, truth, object, State, Stop, Out}
@@ -32,11 +35,166 @@ value-number-of (suc zero) = refl
 value-number-of (suc (suc zero)) = refl
 value-number-of (suc (suc (suc j))) = refl
 
-pub decoded-null : (n : ℕ) → (n ≡ 1 → ⊥) → (n ≡ 2 → ⊥) → n < 3 → Null ≡ decoded n
-decoded-null zero a b h = refl
-decoded-null (suc zero) a b h = absurd (a refl)
-decoded-null (suc (suc zero)) a b h = absurd (b refl)
-decoded-null (suc (suc (suc n))) a b h = absurd (omega arith)
+-- ---- words
+
+pub meaning-null : meaning 0 ≡ null
+unfolding meaning
+meaning-null = refl
+
+pub meaning-truth : (b : Bool) → meaning (word (truth b)) ≡ truth b
+unfolding meaning
+meaning-truth true = refl
+meaning-truth false = refl
+
+pub meaning-object : (w j : ℕ) → w ≡ 8589934592 + suc j → suc j < 4294967296 → meaning w ≡ object j
+unfolding meaning
+meaning-object w j e h =
+    let a : w / 4294967296 ≡ 2 = omega arith in
+    let b : w % 4294967296 ≡ suc j = omega arith in
+    rw (a, b)
+
+pub meaning-word : (v : Meaning) → Small v → meaning (word v) ≡ v
+meaning-word null h = meaning-null
+meaning-word (truth b) h = meaning-truth b
+meaning-word (object j) h = meaning-object (word (object j)) j (omega arith) (omega arith)
+
+pub word-short : (v : Meaning) → Small v → word v < 17179869184
+word-short null h = omega arith
+word-short (truth true) h = omega arith
+word-short (truth false) h = omega arith
+word-short (object j) h = omega arith
+
+pub small-stored : (n : ℕ) → n < 4294967296 → Small (value-of-number n)
+small-stored n h = rw (value-number-of n) h
+
+-- the value of a word by its kind
+pub kind-truth : (w : ℕ) → w / 4294967296 ≡ 1 → Truth (eqb (w % 4294967296) 1) ≡ case-of (meaning w)
+unfolding meaning
+kind-truth w e = rw e
+
+pub kind-object : (w : ℕ) {v : Value} → w / 4294967296 ≡ 2 → v ≡ case-of (numbered (w % 4294967296))
+    → v ≡ case-of (meaning w)
+unfolding meaning
+kind-object w e f = rw e f
+
+pub kind-other : (w : ℕ) → (w / 4294967296 ≡ 1 → ⊥) → (w / 4294967296 ≡ 2 → ⊥) → Null ≡ case-of (meaning w)
+unfolding meaning
+kind-other w a b = go (w / 4294967296) a b
+  where
+    go : (k : ℕ) → (k ≡ 1 → ⊥) → (k ≡ 2 → ⊥) → Null ≡ case-of (of-kind k (w % 4294967296))
+    go zero a b = refl
+    go (suc zero) a b = absurd (a refl)
+    go (suc (suc zero)) a b = absurd (b refl)
+    go (suc (suc (suc k))) a b = refl
+
+pub object-case : (j : ℕ) → (j ≡ 0 → ⊥) → Object j ≡ case-of (numbered j)
+object-case zero h = absurd (h refl)
+object-case (suc j) h = refl
+
+-- ---- cases
+
+pub case-null : (m : Meaning) → case-of m ≡ Null → m ≡ null
+case-null null e = refl
+case-null (truth b) e = let z : _≡_ {A = ℕ} 0 1 = cc in absurd (omega arith)
+case-null (object j) e = let z : _≡_ {A = ℕ} 0 1 = cc in absurd (omega arith)
+
+pub case-truth : (m : Meaning) {b : Bool} → case-of m ≡ Truth b → m ≡ truth b
+case-truth null e = let z : _≡_ {A = ℕ} 0 1 = cc in absurd (omega arith)
+case-truth (truth c) {b} e = let z : c ≡ b = cc in ap truth z
+case-truth (object j) e = let z : _≡_ {A = ℕ} 0 1 = cc in absurd (omega arith)
+
+pub case-object : (m : Meaning) {j : ℕ} → case-of m ≡ Object j → (i : ℕ) × (m ≡ object i) × (j ≡ suc i)
+case-object null e = let z : _≡_ {A = ℕ} 0 1 = cc in absurd (omega arith)
+case-object (truth b) e = let z : _≡_ {A = ℕ} 0 1 = cc in absurd (omega arith)
+case-object (object i) {j} e = let z : j ≡ suc i = cc in (i, refl, z)
+
+-- the cases of a stored number
+pub stored-null : (n : ℕ) → (n ≡ 1 → ⊥) → (n ≡ 2 → ⊥) → n < 3 → Null ≡ case-of (value-of-number n)
+stored-null zero a b h = refl
+stored-null (suc zero) a b h = absurd (a refl)
+stored-null (suc (suc zero)) a b h = absurd (b refl)
+stored-null (suc (suc (suc n))) a b h = absurd (omega arith)
+
+pub stored-object : (n : ℕ) → 3 ≤ n → Object (n - 2) ≡ case-of (value-of-number n)
+stored-object n h =
+    let e : n ≡ suc (suc (suc (n - 3))) = omega arith in
+    let z : n - 2 ≡ suc (n - 3) = omega arith in
+    ap Object z ∙ ap (λ (k : ℕ). case-of (value-of-number k)) (sym e)
+
+-- what a value leads to
+pub reached-null : (made : ℕ) (m : Meaning) → reached made m ≡ ReachedNull → m ≡ null
+reached-null made null e = refl
+reached-null made (truth b) e = let z : _≡_ {A = ℕ} 0 1 = cc in absurd (omega arith)
+reached-null made (object j) e = absurd (go (ltb j made) e)
+  where
+    go : (t : Bool) → cond t (At (j * 18)) Nothing ≡ ReachedNull → ⊥
+    go true e = let z : _≡_ {A = ℕ} 0 1 = cc in omega arith
+    go false e = let z : _≡_ {A = ℕ} 0 1 = cc in omega arith
+
+pub reached-at : (made : ℕ) (m : Meaning) (o : ℕ) → reached made m ≡ At o
+    → (j : ℕ) × (m ≡ object j) × (j < made) × (o ≡ j * 18)
+reached-at made null o e = let z : _≡_ {A = ℕ} 0 1 = cc in absurd (omega arith)
+reached-at made (truth b) o e = let z : _≡_ {A = ℕ} 0 1 = cc in absurd (omega arith)
+reached-at made (object j) o e = go (ltb j made) refl e
+  where
+    go : (t : Bool) → ltb j made ≡ t → cond t (At (j * 18)) Nothing ≡ At o
+        → (i : ℕ) × (object j ≡ object i) × (i < made) × (o ≡ i * 18)
+    go true q e = let z : j * 18 ≡ o = cc in (j, refl, ltb-true j made q, sym z)
+    go false q e = let z : _≡_ {A = ℕ} 0 1 = cc in absurd (omega arith)
+
+-- the index of an object that is there
+pub reached-object : {made j : ℕ} (m : Meaning) → case-of m ≡ Object j → j ≤ made
+    → (1 ≤ j) × (At ((j - 1) * 18) ≡ reached made m)
+reached-object {made} {j} m e h =
+    let x = case-object m e in
+    let z : j - 1 ≡ x .0 = omega (arith, x .2) in
+    (omega (arith, x .2), rw (x .1, z, lt-ltb (x .0) made (omega (arith, x .2))))
+
+pub reached-past : {made j : ℕ} (m : Meaning) → case-of m ≡ Object j → made < j → Nothing ≡ reached made m
+reached-past {made} m e h = let x = case-object m e in rw (x .1, le-ltb (x .0) made (omega (arith, x .2)))
+
+pub null-reached : (made : ℕ) (m : Meaning) → case-of m ≡ Null → ReachedNull ≡ reached made m
+null-reached made m e = rw (case-null m e)
+
+pub truth-reached : (made : ℕ) (m : Meaning) {b : Bool} → case-of m ≡ Truth b → Nothing ≡ reached made m
+truth-reached made m e = rw (case-truth m e)
+
+-- a value's word and its stored number, by its case
+pub null-word : (m : Meaning) → case-of m ≡ Null → 0 ≡ word m
+null-word m e = rw (case-null m e)
+
+pub truth-word : (m : Meaning) {b : Bool} {r : ℕ} → case-of m ≡ Truth b → r ≡ word (truth b) → r ≡ word m
+truth-word m e f = f ∙ ap word (sym (case-truth m e))
+
+pub object-word : (m : Meaning) {j : ℕ} → case-of m ≡ Object j → 8589934592 + j ≡ word m
+object-word m e = let x = case-object m e in rw (x .1) (omega (arith, x .2))
+
+pub null-stored : (m : Meaning) → case-of m ≡ Null → 0 ≡ value-number m
+null-stored m e = rw (case-null m e)
+
+pub truth-stored : (m : Meaning) {b : Bool} {r : ℕ} → case-of m ≡ Truth b → r ≡ value-number (truth b)
+    → r ≡ value-number m
+truth-stored m e f = f ∙ ap value-number (sym (case-truth m e))
+
+pub object-stored : (m : Meaning) {j : ℕ} → case-of m ≡ Object j → j + 2 ≡ value-number m
+object-stored m {j} e = let x = case-object m e in rw (x .1) (omega (arith, x .2))
+
+pub object-small : (m : Meaning) {j : ℕ} → case-of m ≡ Object j → Small m → j + 2 < 4294967296
+object-small m e h = omega (arith, object-stored m e, h)
+
+-- a truth value, or an object that is not there
+pub data NoObject (made : ℕ) : Meaning → Type 0 where
+  is-truth : {b : Bool} → NoObject made (truth b)
+  is-past : {j : ℕ} → made ≤ j → NoObject made (object j)
+
+pub reached-nothing : (made : ℕ) (m : Meaning) → reached made m ≡ Nothing → NoObject made m
+reached-nothing made null e = let z : _≡_ {A = ℕ} 0 1 = cc in absurd (omega arith)
+reached-nothing made (truth b) e = is-truth
+reached-nothing made (object j) e = go (ltb j made) refl e
+  where
+    go : (t : Bool) → ltb j made ≡ t → cond t (At (j * 18)) Nothing ≡ Nothing → NoObject made (object j)
+    go true q e = let z : _≡_ {A = ℕ} 0 1 = cc in absurd (omega arith)
+    go false q e = is-past (ltb-false j made q)
 
 -- a result whose slots are not looked at
 pub bare-ok : {A : Type 0} (o : Out A) {a : A} {s : State} → ok a s ≡ bare o → o ≡ ok a s
@@ -120,35 +278,19 @@ written-then {l} {l₁} {l₂} base from i j f low high a b = record {
     far x (inl h) = inl h
     far x (inr h) = inr (omega arith)
 
--- what a number stands for, as a value and as an outcome
-pub value-decoded : (n : ℕ) → value (decoded n) ≡ value-of-number n
-value-decoded zero = refl
-value-decoded (suc zero) = refl
-value-decoded (suc (suc zero)) = refl
-value-decoded (suc (suc (suc j))) = refl
+-- ---- outcomes
 
-pub number-decoded : (n : ℕ) → value-number (value (decoded n)) ≡ n
-number-decoded n = ap value-number (value-decoded n) ∙ value-number-of n
-
-pub small-decoded : (n : ℕ) → n < 4294967296 → Small (decoded n)
-small-decoded n h = rw (number-decoded n) h
-
-pub decoded-object : (n : ℕ) → 3 ≤ n → decoded n ≡ Object (n - 3)
-decoded-object n h =
-    let e : n ≡ suc (suc (suc (n - 3))) = omega arith in
-    ap decoded e
-
-pub outcome-value : (x : ℕ) → x < 4294967296 → outcome x ≡ Gave (decoded x)
+pub outcome-value : (x : ℕ) → x < 17179869184 → outcome x ≡ Gave (meaning x)
 unfolding outcome
-outcome-value x h = ap (λ (b : Bool). cond b (failure (x - 4294967296)) (Gave (decoded x)))
-    (lt-leb 4294967296 x h)
+outcome-value x h = ap (λ (b : Bool). cond b (failure (x - 17179869184)) (Gave (meaning x)))
+    (lt-leb 17179869184 x h)
 
-pub outcome-failure : (x : ℕ) → 4294967296 ≤ x → outcome x ≡ failure (x - 4294967296)
+pub outcome-failure : (x : ℕ) → 17179869184 ≤ x → outcome x ≡ failure (x - 17179869184)
 unfolding outcome
 outcome-failure x h =
-    ap (λ (b : Bool). cond b (failure (x - 4294967296)) (Gave (decoded x))) (le-leb 4294967296 x h)
+    ap (λ (b : Bool). cond b (failure (x - 17179869184)) (Gave (meaning x))) (le-leb 17179869184 x h)
 
-pub failure-no-value : (n : ℕ) (v : Value) → failure n ≡ Gave v → ⊥
+pub failure-no-value : (n : ℕ) (v : Meaning) → failure n ≡ Gave v → ⊥
 failure-no-value n v e = go (eqb n 0) (leb n 2) e
   where
     go : (a b : Bool) → cond a Stuck (cond b (Raised n) (Stopped n)) ≡ Gave v → ⊥
@@ -157,38 +299,40 @@ failure-no-value n v e = go (eqb n 0) (leb n 2) e
     go false false e = let z : _≡_ {A = ℕ} 0 1 = cc in omega arith
 
 -- an outcome that is not a value
-pub not-gave : (x : ℕ) → 4294967296 ≤ x → (v : Value) → outcome x ≡ Gave v → ⊥
-not-gave x h v e = failure-no-value (x - 4294967296) v (sym (outcome-failure x h) ∙ e)
+pub not-gave : (x : ℕ) → 17179869184 ≤ x → (v : Meaning) → outcome x ≡ Gave v → ⊥
+not-gave x h v e = failure-no-value (x - 17179869184) v (sym (outcome-failure x h) ∙ e)
 
 -- the outcomes that the code names
-pub outcome-stuck : outcome 4294967296 ≡ Stuck
+pub outcome-stuck : outcome 17179869184 ≡ Stuck
 unfolding outcome
 outcome-stuck = refl
 
-pub outcome-null-pointer : outcome 4294967297 ≡ Raised 1
+pub outcome-null-pointer : outcome 17179869185 ≡ Raised 1
 unfolding outcome
 outcome-null-pointer = refl
 
-pub outcome-bad-cast : outcome 4294967298 ≡ Raised 2
+pub outcome-bad-cast : outcome 17179869186 ≡ Raised 2
 unfolding outcome
 outcome-bad-cast = refl
 
-pub outcome-spent : outcome 4294967310 ≡ Stopped 14
+pub outcome-spent : outcome 17179869198 ≡ Stopped 14
 unfolding outcome
 outcome-spent = refl
 
-pub outcome-deep : outcome 4294967311 ≡ Stopped 15
+pub outcome-deep : outcome 17179869199 ≡ Stopped 15
 unfolding outcome
 outcome-deep = refl
 
-pub small-of : {o : Outcome} {v : Value} → o ≡ Gave v → SmallOutcome o → Small v
+pub small-of : {o : Outcome} {v : Meaning} → o ≡ Gave v → SmallOutcome o → Small v
 small-of e h = rw e at h
 
-pub gave-number : (x : ℕ) {v : Value} → v ≡ decoded x → x < 4294967296 → Gave v ≡ outcome x
-gave-number x e h = ap Gave e ∙ sym (outcome-value x h)
+-- the word of a value as an outcome
+pub outcome-word : (v : Meaning) → Small v → outcome (word v) ≡ Gave v
+outcome-word v h = outcome-value (word v) (word-short v h) ∙ ap Gave (meaning-word v h)
 
-pub small-number : (x : ℕ) {v : Value} → v ≡ decoded x → x < 4294967296 → Small v
-small-number x e h = rw e (small-decoded x h)
+-- an outcome that is a value is its word
+pub word-of-outcome : (x : ℕ) → x < 17179869184 → SmallOutcome (outcome x) → IsWord x
+word-of-outcome x h m = record { short = h; small = small-of (outcome-value x h) m }
 
 -- which failure a number is
 pub failure-raised : (n : ℕ) → 1 ≤ n → n ≤ 2 → failure n ≡ Raised n
@@ -198,10 +342,10 @@ pub failure-stopped : (n : ℕ) → 3 ≤ n → failure n ≡ Stopped n
 failure-stopped n h = rw (ne-eqb n 0 (λ e. omega arith), lt-leb n 2 h)
 
 -- the failures that there are have small numbers
-pub failure-low : (x : ℕ) → 4294967296 ≤ x → SmallOutcome (outcome x) → x ≤ 4294967312
-failure-low x h m = go (lt-or (x - 4294967296) 3)
+pub failure-low : (x : ℕ) → 17179869184 ≤ x → SmallOutcome (outcome x) → x ≤ 17179869200
+failure-low x h m = go (lt-or (x - 17179869184) 3)
   where
-    go : (x - 4294967296 < 3) ⊎ (3 ≤ x - 4294967296) → x ≤ 4294967312
+    go : (x - 17179869184 < 3) ⊎ (3 ≤ x - 17179869184) → x ≤ 17179869200
     go (inl a) = omega arith
-    go (inr a) = let z = rw (outcome-failure x h ∙ failure-stopped (x - 4294967296) a) at m in
+    go (inr a) = let z = rw (outcome-failure x h ∙ failure-stopped (x - 17179869184) a) at m in
         omega (arith, z)

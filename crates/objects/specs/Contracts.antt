@@ -3,8 +3,8 @@ use mathlib.Core.Path.{_≡_}
 use mathlib.Core.Bool.{cond}
 use mathlib.Core.Option.{some}
 use mathlib.Core.List.{List}
-use Prim.Native.Nat.{ℕ, _+_, _-_, _*_, _≤_, _<_}
-use lib.Dec.{leb}
+use Prim.Native.Nat.{ℕ, zero, suc, _+_, _-_, _*_, _≤_, _<_}
+use lib.Dec.{eqb, leb}
 use lib.ListN.{length, getD, drop}
 use Rattle.language.specs.Lists.{nth}
 use Rattle.language.specs.Frames.{Frame}
@@ -16,16 +16,16 @@ use Rattle.language.specs.State.{Value as Meaning, object, State, Out}
 use Rattle.language.specs.Evaluation.{Limits, do-get, do-set, do-cast}
 use Rattle.language.specs.State.{Object as Thing}
 use Rattle.language.specs.Evaluation.{do-change, do-new, do-call, with-limits, call-at}
-use Rattle.language.specs.Store.{capacity}
+use Rattle.language.specs.Store.{value-number, capacity}
 use mathlib.Core.Logic.{_⊎_}
-use Rattle.objects.specs.declared.Value.{Value}
 use Rattle.objects.specs.declared.Target.{Target}
 use Rattle.objects.specs.declared.Target.the-variants.{Body, Fails}
-use Rattle.objects.specs.Values.{value, Small, SmallOutcome, told, bare, Outcome, Gave, Counts, outcome}
-use Rattle.objects.specs.Values.{Answer, answer}
-use Rattle.objects.specs.Holding.{Within, frame-room, first-of-type, Holds, HoldsMethods, Sound, view}
-use Rattle.language.specs.Limits.{of-check, most-calls, numbers-an-object}
-use Rattle.language.specs.ClassTables.{class-width, count-place, rows-place}
+use Rattle.objects.specs.Values.{Small, SmallOutcome, told, bare, Outcome, Gave, Counts, outcome}
+use Rattle.objects.specs.Values.{Answer, answer, meaning, no-value}
+use Rattle.objects.specs.Holding.{Within, frame-room, first-value-of, Holds, HoldsMethods, Sound, view}
+use Rattle.language.specs.Limits.{of-check, most-calls, object-width, deep-stop}
+use Rattle.language.specs.ClassTables.{class-width, count-place, rows-place, methods-from}
+use Rattle.language.specs.MethodTables.{method-width, parameters-place, body-place}
 
 -- ---- numbers written one after the other
 
@@ -35,19 +35,21 @@ pub record Written (l l′ : List ℕ) (from n : ℕ) (f : ℕ → ℕ) : Type 0
   pub inside : (i : ℕ) → i < n → getD l′ (from + i) 0 ≡ f i
   pub outside : (x : ℕ) → (x < from) ⊎ (from + n ≤ x) → getD l′ x 0 ≡ getD l x 0
 
--- The number of the first value of field i of class c, which has so many.
-unfoldable pub first-of : List ℕ → List ℕ → ℕ → ℕ → ℕ → ℕ
-first-of R T c i count =
-    cond (leb count i) 0 (first-of-type (getD R (getD T (c * class-width + rows-place + i) 0 * 4 + 1) 0))
+-- The number of the type of field i of class c, and the stored number of its first value, of so many fields; 0 past them.
+abbrev pub field-type-in : List ℕ → List ℕ → ℕ → ℕ → ℕ
+field-type-in R T c i = getD R (getD T (c * class-width + rows-place + i) 0 * 4 + 1) 0
 
-pub record First (R T : List ℕ) (c i count : ℕ) : Type 0 where
+unfoldable pub first-of : List ℕ → List ℕ → ℕ → ℕ → ℕ → ℕ
+first-of R T c i count = cond (leb count i) 0 (value-number (first-value-of (field-type-in R T c i)))
+
+pub record First (R T : List ℕ) (c i : ℕ) : Type 0 where
   pub place : i < of-check .fields
   pub table : c * class-width + class-width ≤ length T
-  pub row : i < count → getD T (c * class-width + rows-place + i) 0 * 4 + 1 < length R
+  pub row : getD T (c * class-width + rows-place + i) 0 * 4 + 1 < length R
 
 pub record Fill (R T s : List ℕ) (o c from : ℕ) : Type 0 where
   pub table : c * class-width + class-width ≤ length T
-  pub room : o + numbers-an-object ≤ length s
+  pub room : o + object-width ≤ length s
   pub start : from ≤ of-check .fields
   pub few : getD T (c * class-width + count-place) 0 ≤ of-check .fields
   pub rows : (i : ℕ) → i < of-check .fields → i < getD T (c * class-width + count-place) 0
@@ -55,7 +57,7 @@ pub record Fill (R T s : List ℕ) (o c from : ℕ) : Type 0 where
 
 abbrev pub Filled : List ℕ → List ℕ → List ℕ → List ℕ → ℕ → ℕ → ℕ → Type 0
 Filled R T s s′ o c from =
-    Written s s′ (o + 1 + from) (of-check .fields - from)
+    Written s s′ (o + 1 + from) (object-width - 1 - from)
     (λ i. first-of R T c (from + i) (getD T (c * class-width + count-place) 0))
 
 -- ---- acts on the store
@@ -63,7 +65,7 @@ Filled R T s s′ o c from =
 -- What becomes of the store.
 pub record Stored (P : List Class) (s s′ : List ℕ) (made made′ : ℕ) : Type 0 where
   pub long : length s′ ≡ length s
-  pub rest : drop (made′ * numbers-an-object) s′ ≡ drop (made′ * numbers-an-object) s
+  pub rest : drop (made′ * object-width) s′ ≡ drop (made′ * object-width) s
   pub more : made ≤ made′
   pub sound : Sound P made′ s′
 
@@ -88,14 +90,19 @@ pub record PostNew (R T s s′ : List ℕ) (c : ℕ) (n : Counts) (r : Answer) :
   pub acts : (A : List ℕ) (P : List Class) (F : ℕ) → Holds R T A P → Sound P (n .made) s → c ≤ length P
       → Acts P s s′ n r (λ t. do-new (world P) (with-limits F (capacity s)) c t)
 
-pub record PreChange (R T s : List ℕ) (v : Value) (d : ℕ) (n : Counts) : Type 0 where
+-- A word of a value.
+pub record IsWord (w : ℕ) : Type 0 where
+  pub short : w < no-value
+  pub small : Small (meaning w)
+
+pub record PreChange (R T s : List ℕ) (w d : ℕ) (n : Counts) : Type 0 where
   pub new : PreNew R T s d (n .made)
-  pub small : Small v
+  pub is-word : IsWord w
   pub counted : n .changes + 1 ≤ 4294967295
 
-pub record PostChange (R T s s′ : List ℕ) (v : Value) (d : ℕ) (n : Counts) (r : Answer) : Type 0 where
+pub record PostChange (R T s s′ : List ℕ) (v : Meaning) (d : ℕ) (n : Counts) (r : Answer) : Type 0 where
   pub acts : (A : List ℕ) (P : List Class) → Holds R T A P → Sound P (n .made) s → d ≤ length P
-      → Acts P s s′ n r (λ t. do-change (world P) d (value v) t)
+      → Acts P s s′ n r (λ t. do-change (world P) d v t)
 
 pub record PreObject (T s : List ℕ) (made : ℕ) : Type 0 where
   pub R : List ℕ
@@ -104,15 +111,27 @@ pub record PreObject (T s : List ℕ) (made : ℕ) : Type 0 where
   pub holds : Holds R T A P
   pub sound : Sound P made s
 
-pub record PostLoad (T s : List ℕ) (v : Value) (f : ℕ) (n : Counts) (r : Outcome) : Type 0 where
-  pub acts : (R A : List ℕ) (P : List Class) → Holds R T A P → Sound P (n .made) s
-      → Acts P s s n (answer r n) (λ t. do-get (world P) f (value v) t)
+-- Where the class and the fields of the object at an index are, by the name of one.
+pub record Spot (T s : List ℕ) (o f : ℕ) : Type 0 where
+  pub class : getD s o 0 * class-width + class-width ≤ length T
+  pub room : o + object-width ≤ length s
+  pub name : f < 256
+  pub place : getD T (getD s o 0 * class-width + f) 0 ≤ of-check .fields
 
-pub record PostSave (T s s′ : List ℕ) (v w : Value) (f : ℕ) (n : Counts) (r : Outcome) : Type 0 where
-  pub acts : (R A : List ℕ) (P : List Class) → Holds R T A P → Sound P (n .made) s
-      → Acts P s s′ n (answer r n) (λ t. do-set (world P) f (value v) (value w) t)
+-- The index of a field; 0 where the class lacks it.
+unfoldable pub field-index : List ℕ → List ℕ → ℕ → ℕ → ℕ
+field-index T s o f = let p = getD T (getD s o 0 * class-width + f) 0 in cond (eqb p 0) 0 (o + p)
 
-pub record PreCast (A s : List ℕ) (c made : ℕ) : Type 0 where
+pub record PostLoad (T s : List ℕ) (v : Meaning) (f : ℕ) (n : Counts) (r : Outcome) : Type 0 where
+  pub acts : (R A : List ℕ) (P : List Class) → Holds R T A P → Sound P (n .made) s
+      → Acts P s s n (answer r n) (λ t. do-get (world P) f v t)
+
+pub record PostSave (T s s′ : List ℕ) (v w : Meaning) (f : ℕ) (n : Counts) (r : Outcome) : Type 0 where
+  pub acts : (R A : List ℕ) (P : List Class) → Holds R T A P → Sound P (n .made) s
+      → Acts P s s′ n (answer r n) (λ t. do-set (world P) f v w t)
+
+pub record PreCast (A s : List ℕ) (w c made : ℕ) : Type 0 where
+  pub is-word : IsWord w
   pub R : List ℕ
   pub T : List ℕ
   pub P : List Class
@@ -120,9 +139,9 @@ pub record PreCast (A s : List ℕ) (c made : ℕ) : Type 0 where
   pub sound : Sound P made s
   pub declared : c ≤ length P
 
-pub record PostCast (A s : List ℕ) (v : Value) (c : ℕ) (n : Counts) (r : Outcome) : Type 0 where
+pub record PostCast (A s : List ℕ) (v : Meaning) (c : ℕ) (n : Counts) (r : Outcome) : Type 0 where
   pub acts : (R T : List ℕ) (P : List Class) → Holds R T A P → Sound P (n .made) s → c ≤ length P
-      → Acts P s s n (answer r n) (λ t. do-cast (world P) c (value v) t)
+      → Acts P s s n (answer r n) (λ t. do-cast (world P) c v t)
 
 -- ---- methods
 
@@ -147,13 +166,35 @@ pub record PreFind (T M s : List ℕ) (m made : ℕ) : Type 0 where
   pub sound : Sound P made s
   pub name : m < 256
 
+-- The tables of classes and of methods reach what they have of method m of class c.
+pub record MethodsOf (T M : List ℕ) (c m : ℕ) : Type 0 where
+  pub table : c * class-width + class-width ≤ length T
+  pub name : m < 256
+  pub methods : (i : ℕ) → getD T (c * class-width + methods-from + m) 0 ≡ suc i
+      → i * method-width + method-width ≤ length M
+
+-- What the tables tell of a call of method m on an object of class c.
+abbrev pub allowed-in : List ℕ → ℕ → ℕ → ℕ → Target
+allowed-in M i given calls =
+    cond (eqb (getD M (i * method-width + parameters-place) 0) given)
+    (cond (leb most-calls calls) (Fails (no-value + deep-stop))
+    (Body (getD M (i * method-width + body-place) 0)))
+    (Fails no-value)
+
+abbrev pub target-at : List ℕ → ℕ → ℕ → ℕ → Target
+target-at M zero given calls = Fails no-value
+target-at M (suc i) given calls = allowed-in M i given calls
+
+unfoldable pub target-in : List ℕ → List ℕ → ℕ → ℕ → ℕ → ℕ → Target
+target-in T M c m given calls = target-at M (getD T (c * class-width + methods-from + m) 0) given calls
+
 -- The method found, which has as many parameters as there are arguments: its receiver's object, and where its body is.
-pub record Found (R E s : List ℕ) (P : List Class) (v : Value) (m given : ℕ) (n : Counts) (calls b : ℕ) :
+pub record Found (R E s : List ℕ) (P : List Class) (v : Meaning) (m given : ℕ) (n : Counts) (calls b : ℕ) :
     Type 0 where
   pub j : ℕ
   pub o : Thing
   pub M : Method
-  pub receiver : value v ≡ object j
+  pub receiver : v ≡ object j
   pub known : (γ : Frame Meaning) (steps : ℕ) → nth (view P s n γ steps .heap) j ≡ some o
   pub method : world P .method (o .class-of) m ≡ some M
   pub parameters : given ≡ length (M .parameters)
@@ -162,21 +203,22 @@ pub record Found (R E s : List ℕ) (P : List Class) (v : Value) (m given : ℕ)
       → Within (length P) frame-room n (of-check .nesting) (body-in P (M .number))
   pub allowed : calls < most-calls
 
-pub record NotFound (P : List Class) (s : List ℕ) (v : Value) (m given : ℕ) (n : Counts) (calls : ℕ)
+pub record NotFound (P : List Class) (s : List ℕ) (v : Meaning) (m given : ℕ) (n : Counts) (calls : ℕ)
     (r : Outcome) : Type 0 where
   pub small : SmallOutcome r
   pub is : (L : Limits) (vs : List Meaning) (γ : Frame Meaning) (steps : ℕ) → length vs ≡ given
       → told r (view P s n γ steps)
       ≡ bare (do-call (world P) L (λ M s. call-at (world P) L (body-in P) (most-calls - calls) M s) m
-      (value v)
+      v
       vs (view P s n γ steps))
-  pub fails : (w : Value) → r ≡ Gave w → ⊥
+  pub fails : (w : Meaning) → r ≡ Gave w → ⊥
 
-abbrev pub FindIs : List ℕ → List ℕ → List ℕ → List Class → Value → ℕ → ℕ → Counts → ℕ → Target → Type 0
+abbrev pub FindIs : List ℕ → List ℕ → List ℕ → List Class → Meaning → ℕ → ℕ → Counts → ℕ → Target → Type 0
 FindIs R E s P v m given n calls (Body b) = Found R E s P v m given n calls b
 FindIs R E s P v m given n calls (Fails o) = NotFound P s v m given n calls (outcome o)
 
-pub record PostFind (T M s : List ℕ) (v : Value) (m given : ℕ) (n : Counts) (calls : ℕ) (r : Target) : Type 0
+pub record PostFind (T M s : List ℕ) (v : Meaning) (m given : ℕ) (n : Counts) (calls : ℕ) (r : Target) : Type
+    0
   where
     pub is : (R E A : List ℕ) (P : List Class) → Holds R T A P → HoldsMethods R E M P → Sound P (n .made) s
         → FindIs R E s P v m given n calls r

@@ -1,6 +1,6 @@
 -- How rows and tables hold a program within the limits, and how a store holds its objects.
 use mathlib.Core.Path.{_≡_}
-use mathlib.Core.Bool.{cond}
+use mathlib.Core.Bool.{false, cond}
 use mathlib.Core.Option.{some}
 use mathlib.Core.List.{List, [], _∷_}
 use Prim.Native.Nat.{ℕ, _+_, _-_, _*_, _≤_, _<_}
@@ -16,11 +16,11 @@ use Rattle.language.specs.Program.{world, body-in}
 use Rattle.language.specs.ClassTables.{ClassTables, class-width, rows-place}
 use Rattle.language.specs.MethodTables.{MethodTables, method-width, body-place}
 use Rattle.language.specs.Encoded.{Encoded}
-use Rattle.language.specs.State.{Value as Meaning, State, initial}
-use Rattle.language.specs.Store.{value-number, heap-of-numbers}
+use Rattle.language.specs.State.{Value as Meaning, null, truth, State, initial}
+use Rattle.language.specs.Store.{heap-of-numbers}
 use Rattle.classes.specs.Subclasses.{is-below}
 use Rattle.objects.specs.Values.{Counts}
-use Rattle.language.specs.Limits.{of-check, bool-number, numbers-an-object, most-objects}
+use Rattle.language.specs.Limits.{of-check, bool-number, object-width, most-objects}
 
 -- A type whose number stands for it: bool, or a class up to k.
 abbrev pub Named : ℕ → DeclaredType → Type 0
@@ -59,15 +59,15 @@ unfoldable mutual
   WithinAll k w n d nil = Unit {0}
   WithinAll k w n d (cons e es) = Within k w n d e × WithinAll k w n d es
 
--- The stored number of a type's first value, by the type's number.
-abbrev pub first-of-type : ℕ → ℕ
-first-of-type t = cond (eqb t bool-number) 1 0
+-- A type's first value, by the type's number.
+abbrev pub first-value-of : ℕ → Meaning
+first-value-of t = cond (eqb t bool-number) (truth false) null
 
 -- The row of a field's F line, in the table: its type tells the first value.
 pub record FirstValueAt (R T : List ℕ) (k i : ℕ) (f : Field) : Type 0 where
   pub within : getD T (k * class-width + rows-place + i) 0 * 4 + 1 < length R
-  pub first : first-of-type (getD R (getD T (k * class-width + rows-place + i) 0 * 4 + 1) 0)
-      ≡ value-number (initial (f .type))
+  pub first : first-value-of (getD R (getD T (k * class-width + rows-place + i) 0 * 4 + 1) 0)
+      ≡ initial (f .type)
 
 -- Rows and tables hold the classes P, as far as acts on objects read them.
 pub record Holds (R T A : List ℕ) (P : List Class) : Type 0 where
@@ -97,12 +97,12 @@ pub record HoldsMethods (R E M : List ℕ) (P : List Class) : Type 0 where
 
 -- A store holds so many objects: their classes are declared, and their unused numbers 0.
 pub record Sound (P : List Class) (made : ℕ) (s : List ℕ) : Type 0 where
-  pub stored : made * numbers-an-object ≤ length s
+  pub stored : made * object-width ≤ length s
   pub few : made ≤ most-objects
-  pub declared : (j : ℕ) → j < made → getD s (j * numbers-an-object) 0 ≤ length P
-  pub unused : (j i : ℕ) → j < made → length (world P .fields (getD s (j * numbers-an-object) 0)) ≤ i
-      → i < of-check .fields
-      → getD s (j * numbers-an-object + 1 + i) 0 ≡ 0
+  pub declared : (j : ℕ) → j < made → getD s (j * object-width) 0 ≤ length P
+  pub unused : (j i : ℕ) → j < made → length (world P .fields (getD s (j * object-width) 0)) ≤ i
+      → i < object-width - 1
+      → getD s (j * object-width + 1 + i) 0 ≡ 0
 
 -- The state that a store holds, with slots that are given, after so many steps.
 abbrev pub view : List Class → List ℕ → Counts → Frame Meaning → ℕ → State

@@ -1,7 +1,7 @@
 // The acts on the objects of a lent store: W, R, G, U, K, and the method that Q seeks.
-// An object is 18 numbers of the store, a value is one number. Fuel left, objects made and changes of class stand in a
-// tally of three numbers. An outcome is one number too, so that it passes in a register: below 2^32 that of a value, from
-// there on why there is none (specs/Values.antt, outcome).
+// A value is one word, its kind and its content; only read_value and write_value know how a store holds it. Fuel left, objects
+// made and changes of class are a tally of three numbers. An outcome is one word too, so that it passes in a register: that
+// of a value, or from STUCK on why there is none (specs/Values.antt).
 use language::BODY_PLACE;
 use language::BOOL;
 use language::CLASS_WIDTH;
@@ -17,19 +17,37 @@ use language::PARAMETERS_PLACE;
 use language::ROOT_PLACE;
 use language::ROWS_PLACE;
 use language::SPENT_STOP;
+use language::letter_at;
 ghost use mathlib.Core.Path.{_≡_};
 ghost use mathlib.Core.Bool.{true};
-ghost use Prim.Native.Nat.{_+_, _*_, _<_};
-ghost use lib.ListN.{length, set};
-ghost use Rattle.objects.specs.Values.{value, is-null-value, decoded, outcome, counts-in, answered};
-ghost use Rattle.objects.specs.Contracts.{first-of, First, Fill, Filled};
-ghost use Rattle.objects.specs.Holding.{first-of-type};
+ghost use Prim.Native.Nat.{_+_, _*_, _≤_, _<_};
+ghost use lib.ListN.{length, getD, set};
+ghost use Rattle.language.specs.Store.{value-number, value-of-number};
+ghost use Rattle.objects.specs.Values.{word, meaning, case-of, reached, outcome, counts-in, answered};
+ghost use Rattle.objects.specs.Values.{Small, numbered, no-value};
+ghost use Rattle.language.specs.State.{truth};
+ghost use Rattle.objects.specs.Contracts.{IsWord, First, Fill, Filled, field-type-in, Spot, field-index};
+ghost use Rattle.objects.specs.Holding.{first-value-of};
+ghost use Rattle.objects.specs.declared.Reached.the-variants.{At};
+ghost use Rattle.objects.specs.Contracts.{MethodsOf, target-in};
 ghost use Rattle.objects.specs.Contracts.{PreNew, PostNew, PreChange, PostChange, PreObject, PostLoad};
 ghost use Rattle.objects.specs.Contracts.{PostSave, PreCast, PostCast};
 ghost use Rattle.objects.specs.Contracts.{LetterFrom, SomeLetter, PreFind, PostFind};
 
+// A word is its kind times KIND and its content, which is below KIND. Null is 0; the truth values and the first word of an
+// object, whose content is its number, from 1.
+const KIND: u64 = 4294967296;
+
+pub const NULL: u64 = 0;
+
+pub const FALSE: u64 = KIND;
+
+pub const TRUE: u64 = KIND + 1;
+
+const OBJECT: u64 = 2 * KIND;
+
 // Why there is no value: no rule goes on, which comes of no checked program; the exceptions; the stops.
-pub const STUCK: u64 = 4294967296;
+pub const STUCK: u64 = 4 * KIND;
 
 pub const NULL_POINTER: u64 = STUCK + 1;
 
@@ -44,11 +62,19 @@ pub const FULL: u64 = STUCK + FULL_STOP as u64;
 // How many numbers of an object are for fields; the first is its class.
 const FIELD_PLACES: usize = OBJECT_WIDTH - 1;
 
-// A value. Object(j) is the object that j others were made before.
+// A value. Object(j) is the j-th object made, from 1.
 pub enum Value {
     Null,
     Truth(bool),
     Object(u32),
+}
+
+// What a value leads to: nothing, as null; no object, as a truth value or an object that is not there; an object by its index
+// in the store.
+pub enum Reached {
+    Null,
+    Nothing,
+    At(usize),
 }
 
 // The row where the body of the method sought begins, or how the call ends without one.
@@ -58,47 +84,121 @@ pub enum Target {
 }
 
 // The value that a stored number stands for.
-pub fn decode(n: u32) -> Value
-    ensures { λ r. ⌜ r ≡ decoded n ⌝ }
+fn decode(n: u32) -> Value
+    ensures { λ r. ⌜ r ≡ case-of (value-of-number n) ⌝ }
 {
     match n {
         1 => Value::Truth(false),
         2 => Value::Truth(true),
-        3..=4294967295 => Value::Object(n - 3),
+        3..=4294967295 => Value::Object(n - 2),
         _ => Value::Null,
     }
 }
 
-fn is_null(v: Value) -> bool
-    ensures { λ r. ⌜ r ≡ is-null-value (value v) ⌝ }
+// The value of a word.
+pub fn value_of(w: u64) -> Value
+    ensures { λ r. ⌜ r ≡ case-of (meaning w) ⌝ }
 {
+    let content = w % KIND;
+    match w / KIND {
+        1 => Value::Truth(content == 1),
+        2 => object_of(content as u32),
+        _ => Value::Null,
+    }
+}
+
+// The object of a number from 1; 0 is none.
+fn object_of(j: u32) -> Value
+    ensures { λ r. ⌜ r ≡ case-of (numbered j) ⌝ }
+{
+    if j == 0 {
+        return Value::Null;
+    }
+    Value::Object(j)
+}
+
+// The word of the value that a store has at an index.
+fn read_value(store: &[u32], at: usize) -> u64
+    requires { ⌜ at < length (now store) ⌝ }
+    ensures { λ r. ⌜ r ≡ word (value-of-number (getD (now (store .entry)) at 0)) ⌝ }
+{
+    let v = decode(store[at]);
     match v {
-        Value::Null => true,
-        Value::Truth(_) => false,
-        Value::Object(_) => false,
+        Value::Null => NULL,
+        Value::Truth(b) => truth_word(b),
+        Value::Object(j) => OBJECT + j as u64,
     }
 }
 
-// The stored number of the first value of a type: false for bool, else null.
-pub fn first_value(t: u32) -> u32
-    ensures { λ r. ⌜ r ≡ first-of-type t ⌝ }
+// The word of a truth value.
+pub fn truth_word(b: bool) -> u64
+    ensures { λ r. ⌜ r ≡ word (truth b) ⌝ }
 {
-    if t == BOOL { 1 } else { 0 }
+    if b { TRUE } else { FALSE }
 }
 
-// The stored number of the first value of field i of class c, which has so many fields; 0 past them.
-fn first_number(rows: &[u32], tables: &[u16], c: usize, i: usize, count: usize) -> u32
-    requires { ⌜ First (now rows) (now tables) c i count ⌝ }
-    ensures { λ r. ⌜ r ≡ first-of (now (rows .entry)) (now (tables .entry)) c i count ⌝ }
+// The stored number of a truth value.
+fn truth_number(b: bool) -> u32
+    ensures { λ r. ⌜ r ≡ value-number (truth b) ⌝ }
 {
-    if count <= i {
-        return 0;
+    if b { 2 } else { 1 }
+}
+
+// The store has at an index the value of a word.
+fn write_value(store: &mut [u32], at: usize, w: u64)
+    requires { ⌜ (at < length (now store)) × Small (meaning w) ⌝ }
+    ensures { λ r. ⌜ now (store .exit) ≡ set (now (store .entry)) at (value-number (meaning w)) ⌝ }
+{
+    let v = value_of(w);
+    match v {
+        Value::Null => {
+            store[at] = 0;
+        }
+        Value::Truth(b) => {
+            store[at] = truth_number(b);
+        }
+        Value::Object(j) => {
+            store[at] = j + 2;
+        }
     }
+}
+
+// What a value leads to, of so many objects made.
+fn reach(w: u64, made: u32) -> Reached
+    requires { ⌜ made ≤ 65535 ⌝ }
+    ensures { λ r. ⌜ r ≡ reached made (meaning w) ⌝ }
+{
+    let v = value_of(w);
+    match v {
+        Value::Null => Reached::Null,
+        Value::Truth(_) => Reached::Nothing,
+        Value::Object(j) => {
+            if made < j {
+                return Reached::Nothing;
+            }
+            Reached::At((j - 1) as usize * OBJECT_WIDTH)
+        }
+    }
+}
+
+// The word of the first value of a type: false for bool, else null.
+pub fn first_value(t: u32) -> u64
+    ensures { λ r. ⌜ r ≡ word (first-value-of t) ⌝ }
+{
+    if t == BOOL { FALSE } else { NULL }
+}
+
+// The word of the first value of field i of class c.
+fn first_of_field(rows: &[u32], tables: &[u16], c: usize, i: usize) -> u64
+    requires { ⌜ First (now rows) (now tables) c i ⌝ }
+    ensures { λ r. ⌜ r ≡ word (first-value-of (field-type-in (now (rows .entry)) (now (tables .entry)) c i))
+        ⌝ }
+{
     let r = tables[c * CLASS_WIDTH + ROWS_PLACE + i] as usize;
-    if rows[r * 4 + 1] == BOOL { 1 } else { 0 }
+    first_value(rows[r * 4 + 1])
 }
 
-// The fields of the object at o from place `from` on get the first values that class c gives them, unused ones 0.
+// The fields of the object at o from place `from` on get the first values that class c gives them, unused ones null.
 fn fill(rows: &[u32], tables: &[u16], store: &mut [u32], o: usize, c: usize, from: usize)
     requires { ⌜ Fill (now rows) (now tables) (now store) o c from ⌝ }
     ensures { λ r. ⌜ Filled (now (rows .entry)) (now (tables .entry)) (now (store .entry)) (now (store .exit))
@@ -107,11 +207,12 @@ fn fill(rows: &[u32], tables: &[u16], store: &mut [u32], o: usize, c: usize, fro
     let count = tables[c * CLASS_WIDTH + COUNT_PLACE] as usize;
     let mut i = from;
     while i < count {
-        store[o + 1 + i] = first_number(rows, tables, c, i, count);
+        let w = first_of_field(rows, tables, c, i);
+        write_value(store, o + 1 + i, w);
         i += 1;
     }
     while i < FIELD_PLACES {
-        store[o + 1 + i] = 0;
+        write_value(store, o + 1 + i, NULL);
         i += 1;
     }
 }
@@ -148,7 +249,7 @@ pub fn new_object(
     fill(rows, tables, store, o, c as usize, 0);
     store[o] = c;
     put(tally, 1, made + 1);
-    made as u64 + 3
+    OBJECT + (made as u64 + 1)
 }
 
 // R: an object changed to class d. The fields of its own class's root stay, the others have their first values; where d
@@ -158,25 +259,38 @@ pub fn change_class(
     tables: &[u16],
     store: &mut [u32],
     tally: &mut [u32; 3],
-    n: u32,
+    w: u64,
     d: u32,
 ) -> u64
-    requires { ⌜ PreChange (now rows) (now tables) (now store) (decoded n) d (counts-in (now tally)) ⌝ }
+    requires { ⌜ PreChange (now rows) (now tables) (now store) w d (counts-in (now tally)) ⌝ }
     ensures { λ r. ⌜ PostChange (now (rows .entry)) (now (tables .entry)) (now (store .entry))
-        (now (store .exit)) (decoded n) d (counts-in (now (tally .entry))) (answered r (now (tally .exit)))
+        (now (store .exit)) (meaning w) d (counts-in (now (tally .entry))) (answered r (now (tally .exit)))
         ⌝ }
 {
-    let v = decode(n);
-    if is_null(v) {
-        return n as u64;
+    let to = reach(w, tally[1]);
+    match to {
+        Reached::Null => w,
+        Reached::Nothing => STUCK,
+        Reached::At(o) => change_at(rows, tables, store, tally, w, o, d),
     }
-    let Value::Object(j) = v else {
-        return STUCK;
-    };
-    if j >= tally[1] {
-        return STUCK;
-    }
-    let o = j as usize * OBJECT_WIDTH;
+}
+
+// The same of the object at an index of the store.
+fn change_at(
+    rows: &[u32],
+    tables: &[u16],
+    store: &mut [u32],
+    tally: &mut [u32; 3],
+    w: u64,
+    o: usize,
+    d: u32,
+) -> u64
+    requires { ⌜ PreChange (now rows) (now tables) (now store) w d (counts-in (now tally)) ⌝ }
+    requires { ⌜ reached (counts-in (now tally) .made) (meaning w) ≡ At o ⌝ }
+    ensures { λ r. ⌜ PostChange (now (rows .entry)) (now (tables .entry)) (now (store .entry))
+        (now (store .exit)) (meaning w) d (counts-in (now (tally .entry))) (answered r (now (tally .exit)))
+        ⌝ }
+{
     let old = store[o];
     let root = tables[old as usize * CLASS_WIDTH + ROOT_PLACE] as usize;
     let kept = tables[root * CLASS_WIDTH + COUNT_PLACE] as usize;
@@ -188,83 +302,83 @@ pub fn change_class(
     store[o] = d;
     let changes = tally[2];
     put(tally, 2, changes + 1);
-    n as u64
+    w
+}
+
+// The index in the store of the field named f of the object at an index; 0 where its class lacks it.
+fn find_field(tables: &[u16], store: &[u32], o: usize, f: usize) -> usize
+    requires { ⌜ Spot (now tables) (now store) o f ⌝ }
+    ensures { λ r. ⌜ r ≡ field-index (now (tables .entry)) (now (store .entry)) o f ⌝ }
+{
+    let c = store[o] as usize;
+    let p = tables[c * CLASS_WIDTH + f] as usize;
+    if p == 0 {
+        return 0;
+    }
+    o + p
 }
 
 // G: the field named f of an object.
-pub fn load(tables: &[u16], store: &[u32], tally: &[u32; 3], n: u32, f: usize) -> u64
+pub fn load(tables: &[u16], store: &[u32], tally: &[u32; 3], w: u64, f: usize) -> u64
     requires { ⌜ PreObject (now tables) (now store) (counts-in (now tally) .made) ⌝ }
     requires { ⌜ f < 256 ⌝ }
-    ensures { λ r. ⌜ PostLoad (now (tables .entry)) (now (store .entry)) (decoded n) f
+    ensures { λ r. ⌜ PostLoad (now (tables .entry)) (now (store .entry)) (meaning w) f
         (counts-in (now (tally .entry))) (outcome r) ⌝ }
 {
-    let v = decode(n);
-    if is_null(v) {
-        return NULL_POINTER;
+    let to = reach(w, tally[1]);
+    match to {
+        Reached::Null => NULL_POINTER,
+        Reached::Nothing => STUCK,
+        Reached::At(o) => {
+            let at = find_field(tables, store, o, f);
+            if at == 0 {
+                return STUCK;
+            }
+            read_value(store, at)
+        }
     }
-    let Value::Object(j) = v else {
-        return STUCK;
-    };
-    if j >= tally[1] {
-        return STUCK;
-    }
-    let o = j as usize * OBJECT_WIDTH;
-    let c = store[o] as usize;
-    let p = tables[c * CLASS_WIDTH + f] as usize;
-    if p == 0 {
-        return STUCK;
-    }
-    store[o + p] as u64
 }
 
-// U: the field named f of an object becomes w.
-pub fn save(tables: &[u16], store: &mut [u32], tally: &[u32; 3], n: u32, w: u32, f: usize) -> u64
+// U: the field named f of an object becomes a value, which is also the answer.
+pub fn save(tables: &[u16], store: &mut [u32], tally: &[u32; 3], w: u64, v: u64, f: usize) -> u64
     requires { ⌜ PreObject (now tables) (now store) (counts-in (now tally) .made) ⌝ }
-    requires { ⌜ f < 256 ⌝ }
-    ensures { λ r. ⌜ PostSave (now (tables .entry)) (now (store .entry)) (now (store .exit)) (decoded n)
-        (decoded w) f (counts-in (now (tally .entry))) (outcome r) ⌝ }
+    requires { ⌜ (f < 256) × IsWord v ⌝ }
+    ensures { λ r. ⌜ PostSave (now (tables .entry)) (now (store .entry)) (now (store .exit)) (meaning w)
+        (meaning v) f (counts-in (now (tally .entry))) (outcome r) ⌝ }
 {
-    let v = decode(n);
-    if is_null(v) {
-        return NULL_POINTER;
+    let to = reach(w, tally[1]);
+    match to {
+        Reached::Null => NULL_POINTER,
+        Reached::Nothing => STUCK,
+        Reached::At(o) => {
+            let at = find_field(tables, store, o, f);
+            if at == 0 {
+                return STUCK;
+            }
+            write_value(store, at, v);
+            v
+        }
     }
-    let Value::Object(j) = v else {
-        return STUCK;
-    };
-    if j >= tally[1] {
-        return STUCK;
-    }
-    let o = j as usize * OBJECT_WIDTH;
-    let c = store[o] as usize;
-    let p = tables[c * CLASS_WIDTH + f] as usize;
-    if p == 0 {
-        return STUCK;
-    }
-    store[o + p] = w;
-    w as u64
 }
 
 // K: an object of class c or below passes, and so does null.
-pub fn cast_object(above: &[u64], store: &[u32], tally: &[u32; 3], n: u32, c: u32) -> u64
-    requires { ⌜ PreCast (now above) (now store) c (counts-in (now tally) .made) ⌝ }
-    ensures { λ r. ⌜ PostCast (now (above .entry)) (now (store .entry)) (decoded n) c
+pub fn cast_object(above: &[u64], store: &[u32], tally: &[u32; 3], w: u64, c: u32) -> u64
+    requires { ⌜ PreCast (now above) (now store) w c (counts-in (now tally) .made) ⌝ }
+    ensures { λ r. ⌜ PostCast (now (above .entry)) (now (store .entry)) (meaning w) c
         (counts-in (now (tally .entry))) (outcome r) ⌝ }
 {
-    let v = decode(n);
-    if is_null(v) {
-        return n as u64;
+    let to = reach(w, tally[1]);
+    match to {
+        Reached::Null => w,
+        Reached::Nothing => STUCK,
+        Reached::At(o) => {
+            let k = store[o];
+            if classes::is_below(above, k, c) {
+                return w;
+            }
+            BAD_CAST
+        }
     }
-    let Value::Object(j) = v else {
-        return STUCK;
-    };
-    if j >= tally[1] {
-        return STUCK;
-    }
-    let k = store[j as usize * OBJECT_WIDTH];
-    if classes::is_below(above, k, c) {
-        return n as u64;
-    }
-    BAD_CAST
 }
 
 // The first row, from a row on, with a letter.
@@ -273,7 +387,7 @@ pub fn find_letter(rows: &[u32], row: usize, letter: u32) -> usize
     ensures { λ r. ⌜ LetterFrom (now (rows .entry)) letter row r ⌝ }
 {
     let mut b = row;
-    while rows[b * 4] != letter {
+    while letter_at(rows, b) != letter {
         b += 1;
     }
     b
@@ -286,27 +400,29 @@ pub fn find_body(
     methods: &[u16],
     store: &[u32],
     tally: &[u32; 3],
-    n: u32,
+    w: u64,
     m: usize,
     given: usize,
     calls: u32,
 ) -> Target
     requires { ⌜ PreFind (now tables) (now methods) (now store) m (counts-in (now tally) .made) ⌝ }
-    ensures { λ r. ⌜ PostFind (now (tables .entry)) (now (methods .entry)) (now (store .entry)) (decoded n)
+    ensures { λ r. ⌜ PostFind (now (tables .entry)) (now (methods .entry)) (now (store .entry)) (meaning w)
         m given (counts-in (now (tally .entry))) calls r ⌝ }
 {
-    let v = decode(n);
-    if is_null(v) {
-        return Target::Fails(NULL_POINTER);
+    let to = reach(w, tally[1]);
+    match to {
+        Reached::Null => Target::Fails(NULL_POINTER),
+        Reached::Nothing => Target::Fails(STUCK),
+        Reached::At(o) => find_in(tables, methods, store[o], m, given, calls),
     }
-    let Value::Object(j) = v else {
-        return Target::Fails(STUCK);
-    };
-    if j >= tally[1] {
-        return Target::Fails(STUCK);
-    }
-    let c = store[j as usize * OBJECT_WIDTH] as usize;
-    let r = tables[c * CLASS_WIDTH + METHODS_FROM + m] as usize;
+}
+
+// The body of method m of class c, where the call has as many arguments as it has parameters and may be made.
+fn find_in(tables: &[u16], methods: &[u16], c: u32, m: usize, given: usize, calls: u32) -> Target
+    requires { ⌜ MethodsOf (now tables) (now methods) c m ⌝ }
+    ensures { λ r. ⌜ r ≡ target-in (now (tables .entry)) (now (methods .entry)) c m given calls ⌝ }
+{
+    let r = tables[c as usize * CLASS_WIDTH + METHODS_FROM + m] as usize;
     if r == 0 {
         return Target::Fails(STUCK);
     }

@@ -89,7 +89,7 @@ check-passes R p e = require-inv _ _ _ _ e λ w e. bind-checked-inv _ _ e λ q e
 all-stand : {R E : List ℕ} {p : Program} → ProgramAt R E p → ClassesStand R E 1 (p .classes) 0
 all-stand {p = p} h = let z : classes-lines (p .classes) ≡ 0 + classes-lines (p .classes) = omega arith in
     let w = h .start-line in
-    record { classes = h .classes; start = rw z at w; short = h .short }
+    record { classes = h .classes; start = rw z at w; in-form = h .in-form .classes; short = h .short }
 
 module _ {R E T : List ℕ} where
   pub checked-whole : SomeChecked R E T → length R % 4 ≡ 0

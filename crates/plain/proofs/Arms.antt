@@ -299,8 +299,8 @@ module _ {R T M C S : List ℕ} {at vars next place : ℕ} where
       → BlockEmitted R T M C S O O′ at vars next place q b → NodeEmitted R T M C S O O′ at vars next place q b
   block-arm h o = all-letter B-block h λ P E γ sh ts es t. o .each P E ts es γ sh t
 
-  pub rest-letter : SomeNode R T M C S at vars next place → getD R (at * 4) 0 ≢ 84 → getD R (at * 4) 0 ≢ 76
-      → getD R (at * 4) 0 ≢ 78 → getD R (at * 4) 0 ≢ 73 → getD R (at * 4) 0 ≢ 90 → getD R (at * 4) 0 ≢ 71
-      → getD R (at * 4) 0 ≢ 75 → getD R (at * 4) 0 ≢ 87 → getD R (at * 4) 0 ≢ 82 → getD R (at * 4) 0 ≢ 65
-      → getD R (at * 4) 0 ≢ 85 → getD R (at * 4) 0 ≢ 81 → getD R (at * 4) 0 ≢ 74 → getD R (at * 4) 0 ≡ 66
-  rest-letter x = rest-block (x .e) (getD R (at * 4) 0) (head (x .e) (x .task .encoded) .letter)
+  pub rest-letter : {l : ℕ} → SomeNode R T M C S at vars next place → l ≡ getD R (at * 4) 0
+      → l ≢ 84 → l ≢ 76 → l ≢ 78 → l ≢ 73 → l ≢ 90 → l ≢ 71 → l ≢ 75 → l ≢ 87 → l ≢ 82 → l ≢ 65 → l ≢ 85
+      → l ≢ 81
+      → l ≢ 74 → l ≡ 66
+  rest-letter {l} x e = rest-block (x .e) l (e ∙ head (x .e) (x .task .encoded) .letter)

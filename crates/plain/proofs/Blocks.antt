@@ -64,73 +64,68 @@ module _ {P : List Class} {E : List ℕ} {γ : Environment} {sh : Shape} {R T M 
     low = omega (arith, t .low, q);
   }
 
-module _ {R T M C S : List ℕ} {at vars next place : ℕ} where
+module _ {R T M C S : List ℕ} {at vars next place n k : ℕ} (e : n ≡ getD R (at * 4 + 1) 0)
+    (f : k ≡ getD R (at * 4 + 2) 0) where
   pub block-known : SomeBlock R T M C S at vars next place
-      → (at * 4 + 3 < length R) × (at < 60000) × (place + 4 + 4 * getD R (at * 4 + 1) 0 ≤ most-numbers)
-      × (vars + getD R (at * 4 + 1) 0 ≤ 32) × (next ≤ most-numbers) × (length S ≡ 32)
-  block-known x = let t = x .task in let n = block-numbers t .0 in let r = node-row t in (
+      → (at * 4 + 3 < length R) × (at < 60000) × (place + 4 + 4 * n ≤ most-numbers)
+      × (vars + n ≤ 32) × (next ≤ most-numbers) × (length S ≡ 32)
+  block-known x = let t = x .task in let l = e ∙ block-numbers t .0 in let r = node-row t in (
     r .0,
     r .1,
-    omega (arith, n, block-room t),
-    omega (arith, n, block-ready t .0),
+    omega (arith, l, block-room t),
+    omega (arith, l, block-ready t .0),
     omega (arith, t .low, block-room t),
     t .setting .wide,
   )
 
-  pub block-some-types : SomeBlock R T M C S at vars next place → SomeTypes R (at + 1) (getD R (at * 4 + 1) 0)
+  pub block-some-types : SomeBlock R T M C S at vars next place → SomeTypes R (at + 1) n
   block-some-types x = let t = x .task in
-      record { letter = V-local; ts = x .ts; rows = block-types t; counted = sym (block-numbers t .0) }
+      record { letter = V-local; ts = x .ts; rows = block-types t; counted = sym (e ∙ block-numbers t .0) }
 
-  pub block-some : (x : SomeBlock R T M C S at vars next place) (S′ : List ℕ)
-      → Extended S S′ vars next (getD R (at * 4 + 1) 0)
-      → (p : ℕ) → p ≡ place + 4 + 4 * getD R (at * 4 + 1) 0
-      → SomeNodes R T M C S′ (at + 1 + getD R (at * 4 + 1) 0) (vars + getD R (at * 4 + 1) 0)
-      (next + getD R (at * 4 + 1) 0) p (getD R (at * 4 + 2) 0)
-  block-some x S′ y p q = let t = x .task in let n = block-numbers t .0 in
-      let q′ : p ≡ place + 4 + 4 * length (x .ts) = omega (arith, q, n) in
-      rw n (record {
+  pub block-some : (x : SomeBlock R T M C S at vars next place) (S′ : List ℕ) → Extended S S′ vars next n
+      → (p : ℕ) → p ≡ place + 4 + 4 * n → SomeNodes R T M C S′ (at + 1 + n) (vars + n) (next + n) p k
+  block-some x S′ y p q = let t = x .task in let l = e ∙ block-numbers t .0 in
+      let q′ : p ≡ place + 4 + 4 * length (x .ts) = omega (arith, q, l) in
+      rw l (record {
         P = x .P;
         E = x .E;
         es = nodes-of (world (x .P)) (x .es) (opened (x .γ) (map fresh-slot (x .ts)));
         sh = x .sh ++ variables (x .ts);
-        task = block-nodes t S′ (rw n at y) p q′;
+        task = block-nodes t S′ (rw l at y) p q′;
         counted = nodes-counted (world (x .P)) (x .es) (opened (x .γ) (map fresh-slot (x .ts)))
-            ∙ sym (block-numbers t .1);
+            ∙ sym (f ∙ block-numbers t .1);
         fits = rw q′ (block-room t);
       })
 
   pub block-ended : {O O₁ O₂ : List ℕ} {p q : ℕ} → SomeBlock R T M C S at vars next place
-      → Written (66 ∷ getD R (at * 4 + 1) 0 ∷ getD R (at * 4 + 2) 0 ∷ 0 ∷ []) O O₁ place p
-      → TypesWritten R (at + 1) (getD R (at * 4 + 1) 0) 86 O₁ O₂ p q
-      → q ≡ place + 4 + 4 * getD R (at * 4 + 1) 0
-  block-ended x w v = let n = block-numbers (x .task) .0 in
+      → Written (66 ∷ n ∷ k ∷ 0 ∷ []) O O₁ place p → TypesWritten R (at + 1) n 86 O₁ O₂ p q
+      → q ≡ place + 4 + 4 * n
+  block-ended x w v = let l = e ∙ block-numbers (x .task) .0 in
       omega (
         arith,
-        n,
+        l,
         w .ended,
-        v .each V-local (x .ts) (block-types (x .task)) (sym n) .ended,
+        v .each V-local (x .ts) (block-types (x .task)) (sym l) .ended,
         types-length 86 (x .ts),
       )
 
-  pub block-done : {O O₁ O₂ O₃ : List ℕ} {p q r b : ℕ} (S′ : List ℕ)
-      → Written (66 ∷ getD R (at * 4 + 1) 0 ∷ getD R (at * 4 + 2) 0 ∷ 0 ∷ []) O O₁ place p
-      → TypesWritten R (at + 1) (getD R (at * 4 + 1) 0) 86 O₁ O₂ p q
-      → Extended S S′ vars next (getD R (at * 4 + 1) 0)
-      → NodesEmitted R T M C S′ O₂ O₃ (at + 1 + getD R (at * 4 + 1) 0) (vars + getD R (at * 4 + 1) 0)
-      (next + getD R (at * 4 + 1) 0) q (getD R (at * 4 + 2) 0) r b
-      → BlockEmitted R T M C S O O₃ at vars next place r b
+  pub block-done : {O O₁ O₂ O₃ : List ℕ} {p q r j : ℕ} (S′ : List ℕ)
+      → Written (66 ∷ n ∷ k ∷ 0 ∷ []) O O₁ place p → TypesWritten R (at + 1) n 86 O₁ O₂ p q
+      → Extended S S′ vars next n
+      → NodesEmitted R T M C S′ O₂ O₃ (at + 1 + n) (vars + n) (next + n) q k r j
+      → BlockEmitted R T M C S O O₃ at vars next place r j
   unfolding size
-  block-done {O} {O₁} {O₂} {O₃} {p} {q} {r} {b} S′ w v y m = record {
+  block-done {O} {O₁} {O₂} {O₃} {p} {q} {r} {j} S′ w v y m = record {
     each = λ P E ts es γ sh t.
-        let n = block-numbers t in
+        let a = e ∙ block-numbers t .0 in let b = f ∙ block-numbers t .1 in
         let γ′ = opened γ (map fresh-slot ts) in
-        let u = v .each V-local ts (block-types t) (sym (n .0)) in
+        let u = v .each V-local ts (block-types t) (sym a) in
         let q′ : q ≡ place + 4 + 4 * length ts = omega (arith, w .ended, u .ended, types-length 86 ts) in
-        let m′ = rw (n .0, n .1) at m in
+        let m′ = rw (a, b) at m in
         let em = m′ .each P E (nodes-of (world P) es γ′) (sh ++ variables ts)
-        (block-nodes t S′ (rw (n .0) at y) _ q′)
+        (block-nodes t S′ (rw a at y) _ q′)
         (nodes-counted (world P) es γ′) (rw q′ (block-room t)) in
         whole (written-then w (written-then u (em .written)))
-        (rw (n .0, n .1) (sym (t-block (world P) γ sh ts es (block-ready t .1))))
+        (rw (a, b) (sym (t-block (world P) γ sh ts es (block-ready t .1))))
         (omega (arith, em .passed, nodes-sizes (world P) es γ′));
   }

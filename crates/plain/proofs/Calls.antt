@@ -1,6 +1,6 @@
 -- Laws of Q, which becomes a block with a temporary for the object and each argument: the method's
 -- parameters, the task of its nodes, and what they write together. Assumes nothing.
-use mathlib.Core.Path.{_≡_, sym, ap, subst}
+use mathlib.Core.Path.{_≡_, sym, ap, subst, _∙_}
 use mathlib.Core.Bool.{false}
 use mathlib.Core.List.{List, [], _∷_, _++_}
 use Prim.Native.Nat.{ℕ, suc, _+_, _-_, _*_, _≤_, _<_}
@@ -32,13 +32,6 @@ use Rattle.plain.proofs.Tasks.{node-row}
 use Rattle.plain.proofs.Shapes.{setting-temporaries}
 use Rattle.plain.proofs.Lines.{types-length, reads-length}
 use Rattle.plain.proofs.Nodes.{encoded-nodes, looks-nodes, ready-nodes, nodes-counted, nodes-sizes}
-
--- What the table of classes has for the method that a call at a row finds, and the row of the method's first P line.
-abbrev pub entry : List ℕ → List ℕ → List ℕ → ℕ → ℕ
-entry R T C at = getD T (getD C at 0 * 576 + 256 + getD R (at * 4 + 1) 0) 0
-
-abbrev first-parameter : List ℕ → List ℕ → List ℕ → List ℕ → ℕ → ℕ
-first-parameter R T M C at = getD M ((entry R T C at - 1) * 4) 0 + 1
 
 module _ {P : List Class} {E : List ℕ} {γ : Environment} {sh : Shape} {R T M C S : List ℕ}
     {at vars next place : ℕ} {m : ℕ} {e : Expr} {es : Exprs}
@@ -110,11 +103,11 @@ module _ {P : List Class} {E : List ℕ} {γ : Environment} {sh : Shape} {R T M 
   )
 
   call-nodes : (p : ℕ) → p ≡ place + 8 + 4 * count es
-      → NodesTask P E call-arguments call-shape R T M C S (at + 1) vars (next + 1 + count es) p
+      → NodesTask P E call-arguments call-shape R T M C S (at + 1) vars (next + (count es + 1)) p
   unfolding Encoded LooksUp Ready EncodedNodes LooksUpNodes ReadyNodes variable-count
   call-nodes p q =
       let γ′ = typed-or (type-of (world P) e 0 γ) .slots in
-      let z : next + length (false ∷ temporaries call-types) ≡ next + 1 + count es =
+      let z : next + length (false ∷ temporaries call-types) ≡ next + (count es + 1) =
       omega (arith, call-method .0, length-map call-types (λ (t : DeclaredType). false)) in
       record {
         setting = rw z at (setting-temporaries (t .setting) (false ∷ temporaries call-types)
@@ -126,53 +119,31 @@ module _ {P : List Class} {E : List ℕ} {γ : Environment} {sh : Shape} {R T M 
       }
 
 module _ {R T M C S : List ℕ} {at vars next place : ℕ} where
-  -- what is read on the way to the method's parameters
+  pub call-row : SomeCall R T M C S at vars next place
+      → (at * 4 + 3 < length R) × (at < 60000) × (at < length C) × (next + 24 ≤ most-numbers)
+  call-row x = let t = x .task in let r = node-row t in
+      (r .0, r .1, r .2, omega (arith, t .low, call-room t))
+
+-- what is read on the way to the method's parameters: its name, how many arguments there are, its entry
+module _ {R T M C S : List ℕ} {at vars next place f l : ℕ} (a : f ≡ getD R (at * 4 + 1) 0)
+    (d : l ≡ getD R (at * 4 + 2) 0) where
   pub call-known : SomeCall R T M C S at vars next place
-      → (at * 4 + 3 < length R) × (at < 60000) × (at < length C)
-      × (getD C at 0 * 576 + 256 + getD R (at * 4 + 1) 0 < length T) × (getD R (at * 4 + 1) 0 < 256)
-      × (place + 24 + 8 * getD R (at * 4 + 2) 0 ≤ most-numbers) × (next ≤ place)
-      × (1 ≤ entry R T C at) × ((entry R T C at - 1) * 4 < length M)
-  call-known x = let t = x .task in let n = call-name t in let r = node-row t in let h = call-method t in
-      rw (n .0, n .1, n .2) (
-        r .0,
-        r .1,
-        r .2,
-        omega (arith, n .3, n .4, t .setting .lent .members .tables .long),
+      → (f < 256) × (getD C at 0 * 576 + (256 + f) < length T)
+      × (place + 24 + 8 * l ≤ most-numbers) × (next + (l + 1) ≤ most-numbers)
+  call-known x = let t = x .task in let n = call-name t in
+      rw (a ∙ n .0, d ∙ n .1, n .2) (
         n .3,
+        omega (arith, n .3, n .4, t .setting .lent .members .tables .long),
         omega (arith, call-room t),
-        t .low,
-        omega (arith, h .3),
-        omega (arith, h .3, h .4),
-      )
-
-  pub call-some-types : SomeCall R T M C S at vars next place
-      → SomeTypes R (first-parameter R T M C at) (getD R (at * 4 + 2) 0)
-  call-some-types x = let t = x .task in let n = call-name t in let h = call-method t in
-      let z : suc (h .2) - 1 ≡ h .2 = omega arith in
-      rw (n .0, n .1, n .2, h .3, z)
-      (record { letter = P-parameter; ts = call-types t; rows = h .5; counted = h .0 })
-
-  pub call-ended : {O O₁ O₂ : List ℕ} {p q c d : ℕ} → (x : SomeCall R T M C S at vars next place)
-      → Written (66 ∷ c ∷ d ∷ 0 ∷ 86 ∷ 1 ∷ 0 ∷ 0 ∷ []) O O₁ place p
-      → TypesWritten R (first-parameter R T M C at) (getD R (at * 4 + 2) 0) 86 O₁ O₂ p q
-      → q ≡ place + 8 + 4 * getD R (at * 4 + 2) 0
-  call-ended x w v = let y = call-some-types x in
-      omega (
-        arith,
-        w .ended,
-        v .each (y .letter) (y .ts) (y .rows) (y .counted) .ended,
-        types-length 86 (y .ts),
-        y .counted,
+        omega (arith, t .low, call-room t),
       )
 
   pub call-some-arguments : (x : SomeCall R T M C S at vars next place) (q : ℕ)
-      → q ≡ place + 8 + 4 * getD R (at * 4 + 2) 0
-      → SomeArguments R T M C S (at + 1) vars (next + 1 + getD R (at * 4 + 2) 0) q (getD R (at * 4 + 2) 0 + 1)
-      next
+      → q ≡ place + 8 + 4 * l → SomeArguments R T M C S (at + 1) vars (next + (l + 1)) q (l + 1) next
   unfolding how-many
   call-some-arguments x q z = let t = x .task in let n = call-name t in
-      let z′ : q ≡ place + 8 + 4 * count (x .es) = omega (arith, z, n .1) in
-      rw (n .1) (record {
+      let z′ : q ≡ place + 8 + 4 * count (x .es) = omega (arith, z, d, n .1) in
+      rw (d ∙ n .1) (record {
         P = x .P;
         E = x .E;
         es = call-arguments t;
@@ -188,14 +159,13 @@ module _ {R T M C S : List ℕ} {at vars next place : ℕ} where
       })
 
   pub call-room-after : {O₁ O₂ : List ℕ} {q r b : ℕ} → SomeCall R T M C S at vars next place
-      → q ≡ place + 8 + 4 * getD R (at * 4 + 2) 0
-      → ArgumentsEmitted R T M C S O₁ O₂ (at + 1) vars (next + 1 + getD R (at * 4 + 2) 0) q
-      (getD R (at * 4 + 2) 0 + 1) next r b
-      → r + 16 + 4 * getD R (at * 4 + 2) 0 ≤ most-numbers
+      → q ≡ place + 8 + 4 * l
+      → ArgumentsEmitted R T M C S O₁ O₂ (at + 1) vars (next + (l + 1)) q (l + 1) next r b
+      → r + 16 + 4 * l ≤ most-numbers
   unfolding how-many
   call-room-after {O₁} {O₂} {q} {r} {b} x z o = let t = x .task in let n = call-name t in
-      let z′ : q ≡ place + 8 + 4 * count (x .es) = omega (arith, z, n .1) in
-      let o′ = rw (n .1) at o in
+      let z′ : q ≡ place + 8 + 4 * count (x .es) = omega (arith, z, d, n .1) in
+      let o′ = rw (d ∙ n .1) at o in
       let em = o′ .each (x .P) (x .E) (call-arguments t) (call-shape t) (call-nodes t q z′)
       (omega (
         arith,
@@ -203,34 +173,62 @@ module _ {R T M C S : List ℕ} {at vars next place : ℕ} where
             (typed-or (type-of (world (x .P)) (x .e) 0 (x .γ)) .slots),
       ))
       (rw (z′, t .setting .free) (omega (arith, call-room t))) in
-      omega (arith, z′, n .1, rw (t .setting .free) at (em .written .ended), call-room t)
+      omega (arith, z′, d, n .1, rw (t .setting .free) at (em .written .ended), call-room t)
 
-  pub call-done : {O O₁ O₂ O₃ O₄ O₅ : List ℕ} {p q r p′ q′ b : ℕ}
-      → Written (66 ∷ (getD R (at * 4 + 2) 0 + 1) ∷ (getD R (at * 4 + 2) 0 + 2) ∷ 0 ∷ 86 ∷ 1 ∷ 0 ∷ 0 ∷ []) O
-      O₁ place p
-      → TypesWritten R (first-parameter R T M C at) (getD R (at * 4 + 2) 0) 86 O₁ O₂ p q
-      → ArgumentsEmitted R T M C S O₂ O₃ (at + 1) vars (next + 1 + getD R (at * 4 + 2) 0) q
-      (getD R (at * 4 + 2) 0 + 1) next r b
-      → Written (81 ∷ getD R (at * 4 + 1) 0 ∷ getD R (at * 4 + 2) 0 ∷ 0 ∷ 75 ∷ (getD C at 0 + 2) ∷ 0 ∷ 0 ∷ 71
-      ∷ 255 ∷ 0 ∷ 0 ∷ 73 ∷ next ∷ 0 ∷ 0 ∷ []) O₃ O₄ r p′
-      → Written (read-lines (next + 1) (getD R (at * 4 + 2) 0)) O₄ O₅ p′ q′
-      → CallEmitted R T M C S O O₅ at vars next place q′ b
-  unfolding size how-many rows-taken
-  call-done {O} {O₁} {O₂} {O₃} {O₄} {O₅} {p} {q} {r} {p′} {q′} {b} w v o l k = record {
-    each = λ P E m e es γ sh t.
-        let n = call-name t in let h = call-method t in
-        let γ′ = typed-or (type-of (world P) e 0 γ) .slots in
-        let x : SomeCall R T M C S at vars next place =
-        record { P = P; E = E; m = m; e = e; es = es; γ = γ; sh = sh; task = t } in
-        let z : q ≡ place + 8 + 4 * count es = rw (n .1) at (call-ended x w v) in
-        let y : suc (h .2) - 1 ≡ h .2 = omega arith in
-        let v′ = rw (n .0, n .1, n .2, h .3, y) at v in
-        let u = v′ .each P-parameter (call-types t) (h .5) (h .0) in
-        let o′ = rw (n .1) at o in
-        let em = o′ .each P E (call-arguments t) (call-shape t) (call-nodes t q z)
-        (omega (arith, nodes-counted (world P) es γ′))
-        (rw (z, t .setting .free) (omega (arith, call-room t))) in
-        whole (written-then w (written-then u (written-then (em .written) (written-then l k))))
-        (rw (n .0, n .1, n .2, t .setting .free) (sym (t-call (world P) γ sh m e es (h .0) (h .1))))
-        (omega (arith, em .passed, nodes-sizes (world P) es γ′));
-  }
+  module _ {i : ℕ} (g : i ≡ getD T (getD C at 0 * 576 + (256 + f)) 0) where
+    -- the entry of the method
+    call-entry : {P : List Class} {E : List ℕ} {γ : Environment} {sh : Shape} {m : ℕ} {e : Expr} {es : Exprs}
+        (t : NodeTask P E (call m e es) γ sh R T M C S at vars next place) → i ≡ suc (call-method t .2)
+    call-entry {m = m} t = let n = call-name t in
+        let z : call-class t * 576 + (256 + m) ≡ call-class t * 576 + 256 + m = omega arith in
+        rw (a ∙ n .0, n .2, z) at g ∙ call-method t .3
+
+    pub call-found : SomeCall R T M C S at vars next place → (1 ≤ i) × ((i - 1) * 4 < length M)
+    call-found x = let z = call-entry (x .task) in
+        (omega (arith, z), omega (arith, z, call-method (x .task) .4))
+
+    pub call-some-types : SomeCall R T M C S at vars next place → SomeTypes R (getD M ((i - 1) * 4) 0 + 1) l
+    call-some-types x = let t = x .task in let n = call-name t in let h = call-method t in
+        let z : i - 1 ≡ h .2 = omega (arith, call-entry t) in
+        rw (d ∙ n .1, z) (record { letter = P-parameter; ts = call-types t; rows = h .5; counted = h .0 })
+
+    pub call-ended : {O O₁ O₂ : List ℕ} {p q c c′ : ℕ} → (x : SomeCall R T M C S at vars next place)
+        → Written (66 ∷ c ∷ c′ ∷ 0 ∷ 86 ∷ 1 ∷ 0 ∷ 0 ∷ []) O O₁ place p
+        → TypesWritten R (getD M ((i - 1) * 4) 0 + 1) l 86 O₁ O₂ p q
+        → q ≡ place + 8 + 4 * l
+    call-ended x w v = let y = call-some-types x in
+        omega (
+          arith,
+          w .ended,
+          v .each (y .letter) (y .ts) (y .rows) (y .counted) .ended,
+          types-length 86 (y .ts),
+          y .counted,
+        )
+
+    pub call-done : {O O₁ O₂ O₃ O₄ O₅ : List ℕ} {p q r p′ q′ b : ℕ}
+        → Written (66 ∷ (l + 1) ∷ (l + 2) ∷ 0 ∷ 86 ∷ 1 ∷ 0 ∷ 0 ∷ []) O O₁ place p
+        → TypesWritten R (getD M ((i - 1) * 4) 0 + 1) l 86 O₁ O₂ p q
+        → ArgumentsEmitted R T M C S O₂ O₃ (at + 1) vars (next + (l + 1)) q (l + 1) next r b
+        → Written (81 ∷ f ∷ l ∷ 0 ∷ 75 ∷ (getD C at 0 + 2) ∷ 0 ∷ 0 ∷ 71 ∷ 255 ∷ 0 ∷ 0 ∷ 73 ∷ next ∷ 0 ∷ 0 ∷
+        [])
+        O₃ O₄ r p′
+        → Written (read-lines (next + 1) l) O₄ O₅ p′ q′ → CallEmitted R T M C S O O₅ at vars next place q′ b
+    unfolding size how-many rows-taken
+    call-done {O} {O₁} {O₂} {O₃} {O₄} {O₅} {p} {q} {r} {p′} {q′} {b} w v o j k = record {
+      each = λ P E m e es γ sh t.
+          let n = call-name t in let h = call-method t in
+          let γ′ = typed-or (type-of (world P) e 0 γ) .slots in
+          let x : SomeCall R T M C S at vars next place =
+          record { P = P; E = E; m = m; e = e; es = es; γ = γ; sh = sh; task = t } in
+          let z : q ≡ place + 8 + 4 * count es = rw (d ∙ n .1) at (call-ended x w v) in
+          let y : i - 1 ≡ h .2 = omega (arith, call-entry t) in
+          let v′ = rw (d ∙ n .1, y) at v in
+          let u = v′ .each P-parameter (call-types t) (h .5) (h .0) in
+          let o′ = rw (d ∙ n .1) at o in
+          let em = o′ .each P E (call-arguments t) (call-shape t) (call-nodes t q z)
+          (omega (arith, nodes-counted (world P) es γ′))
+          (rw (z, t .setting .free) (omega (arith, call-room t))) in
+          whole (written-then w (written-then u (written-then (em .written) (written-then j k))))
+          (rw (a ∙ n .0, d ∙ n .1, n .2, t .setting .free) (sym (t-call (world P) γ sh m e es (h .0) (h .1))))
+          (omega (arith, em .passed, nodes-sizes (world P) es γ′));
+    }

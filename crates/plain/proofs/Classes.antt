@@ -1,23 +1,24 @@
 -- Laws of a class: its C line, its fields, its methods; and of classes one after another. Assumes nothing.
-use mathlib.Core.Path.{_≡_, refl}
+use mathlib.Core.Path.{_≡_, refl, sym}
 use mathlib.Core.List.{List, [], _∷_}
 use mathlib.Core.Logic.{_≢_}
-use Prim.Native.Nat.{ℕ, suc, _+_, _-_, _*_, _≤_, _<_}
+use Prim.Native.Nat.{ℕ, suc, _+_, _*_, _≤_, _<_}
 use native.Mathlib.Omega.{arith}
 use lib.ListN.{length, getD, length-append}
 use Rattle.language.specs.Tree.{Class, methods-lines, class-lines, classes-lines}
 use Rattle.language.specs.World.{World}
 use Rattle.language.specs.Program.{world}
-use Rattle.language.specs.Layout.{EachClass, methods-from-row}
+use Rattle.language.specs.Layout.{EachClass, Run, methods-from-row}
+use Rattle.language.proofs.Lines.{run-unique}
+use Rattle.layout.specs.HeadingRuns.{fields-run, classes-first}
 use Rattle.plain.specs.Numbers.{most-numbers, field-lines, methods-numbers, class-numbers}
 use Rattle.plain.specs.Numbers.{classes-numbers}
-use Rattle.plain.specs.Emission.{Written, Emitted, Skipped, SomeFieldLines, FieldsWritten, SomeMethods}
+use Rattle.plain.specs.Emission.{Written, Emitted, SomeFieldLines, FieldsWritten, SomeMethods}
 use Rattle.plain.specs.Emission.{SomeClass, SomeClasses, MethodsEmitted, ClassEmitted, ClassesEmitted}
 use Rattle.plain.specs.Tasks.{MethodsTask, ClassTask, ClassesTask}
 use Rattle.plain.proofs.Writing.{written-none, written-then, whole}
 use Rattle.plain.proofs.Lines.{fields-length}
-use Rattle.plain.proofs.Standing.{class-positive, first-of, class-row, class-end, no-class}
-use Rattle.plain.proofs.Standing.{not-class, class-stands, classes-stand}
+use Rattle.plain.proofs.Standing.{class-positive, class-end, no-class, class-stands, each-class-stands}
 
 class-length : (W : World) (k : ℕ) (c : Class)
     → length (class-numbers W k c) ≡ 4 + 4 * length (c .fields) + length (methods-numbers W k (c .methods))
@@ -30,9 +31,9 @@ class-length W k c =
     )
 
 module _ {R T M C : List ℕ} {at place : ℕ} where
-  first-row : {P : List Class} {E : List ℕ} {k r : ℕ} (c : Class) → ClassTask P E k c R T M C at place
-      → Skipped R 70 (at + 1) r → r ≡ methods-from-row at c
-  first-row {P} {E} c t s = first-of c (class-stands P E R C c (t .ready)) (t .after) s
+  class-runs : {P : List Class} {E : List ℕ} {k : ℕ} (c : Class) → ClassTask P E k c R T M C at place
+      → Run R 70 (at + 1) (length (c .fields))
+  class-runs {P} {E} c t = fields-run (class-stands P E R C c (t .ready)) (t .after)
 
   class-methods : {P : List Class} {E : List ℕ} {k : ℕ} (c : Class) → ClassTask P E k c R T M C at place
       → (r q : ℕ) → r ≡ methods-from-row at c
@@ -59,45 +60,51 @@ module _ {R T M C : List ℕ} {at place : ℕ} where
     omega (arith, x .task .fits, class-length (world (x .P)) (x .k) (x .c)),
   )
 
-  pub class-fields : SomeClass R T M C at place → (r n p : ℕ) → Skipped R 70 (at + 1) r → n ≡ r - at - 1
-      → p ≡ place + 4
-      → SomeFieldLines R (at + 1) n × (p + 4 * n ≤ most-numbers)
-  class-fields x r n p s z y = let e = first-row (x .c) (x .task) s in (
-    record { fs = x .c .fields; rows = x .task .ready .fields; counted = omega (arith, e, z) },
-    omega (arith, e, z, y, x .task .fits, class-length (world (x .P)) (x .k) (x .c)),
-  )
+  pub class-run : SomeClass R T M C at place → (n : ℕ) × Run R 70 (at + 1) n
+  class-run x = (length (x .c .fields), class-runs (x .c) (x .task))
 
-  module _ {O O₁ O₂ : List ℕ} {r n p q a : ℕ} (s : Skipped R 70 (at + 1) r) (z : n ≡ r - at - 1)
-      (w : Written (67 ∷ 0 ∷ a ∷ 0 ∷ []) O O₁ place p)
-      (v : FieldsWritten R (at + 1) n O₁ O₂ p q) where
-    class-wrote : {P : List Class} {E : List ℕ} {k : ℕ} (c : Class) → ClassTask P E k c R T M C at place
-        → (r ≡ methods-from-row at c) × Written (field-lines (c .fields)) O₁ O₂ p q
-        × (q ≡ place + 4 + 4 * length (c .fields))
-    class-wrote c t = let e = first-row c t s in let f =
-        v .each (c .fields) (t .ready .fields) (omega (arith, e, z)) in
-        (e, f, omega (arith, f .ended, w .ended, fields-length (c .fields)))
+  module _ {n : ℕ} (v : Run R 70 (at + 1) n) where
+    pub class-fields : (x : SomeClass R T M C at place) (p : ℕ) → p ≡ place + 4
+        → SomeFieldLines R (at + 1) n × (p + 4 * n ≤ most-numbers)
+    class-fields x p y = let e = run-unique v (class-runs (x .c) (x .task)) in (
+      record { fs = x .c .fields; rows = x .task .ready .fields; counted = sym e },
+      omega (arith, e, y, x .task .fits, class-length (world (x .P)) (x .k) (x .c)),
+    )
 
-    pub class-some : SomeClass R T M C at place → SomeMethods R T M C r q
-    class-some x = let d = class-wrote (x .c) (x .task) in
-        record {
-          P = x .P;
-          E = x .E;
-          k = x .k;
-          ms = x .c .methods;
-          task = class-methods (x .c) (x .task) r q (d .0) (d .2);
-        }
+    module _ {O O₁ O₂ : List ℕ} {p q a : ℕ} (w : Written (67 ∷ 0 ∷ a ∷ 0 ∷ []) O O₁ place p)
+        (f : FieldsWritten R (at + 1) n O₁ O₂ p q) where
+      class-wrote : {P : List Class} {E : List ℕ} {k : ℕ} (c : Class) → ClassTask P E k c R T M C at place
+          → (n ≡ length (c .fields)) × Written (field-lines (c .fields)) O₁ O₂ p q
+          × MethodsTask P E k (c .methods) R T M C (at + 1 + n) q
+      class-wrote c t =
+          let e = run-unique v (class-runs c t) in
+          let g = f .each (c .fields) (t .ready .fields) (sym e) in (
+            e,
+            g,
+            class-methods c t (at + 1 + n) q (omega (arith, e))
+                (omega (arith, g .ended, w .ended, fields-length (c .fields))),
+          )
 
-    pub class-done : {O₃ : List ℕ} {p₃ b₃ : ℕ} → a ≡ getD R (at * 4 + 2) 0 + 2
-        → MethodsEmitted R T M C O₂ O₃ r q p₃ b₃ → ClassEmitted R T M C O O₃ at place p₃ b₃
-    unfolding class-numbers class-lines
-    class-done {O₃} {p₃} {b₃} h o = record {
-      each = λ P E k c t.
-          let d = class-wrote c t in let e =
-          o .each P E k (c .methods) (class-methods c t r q (d .0) (d .2)) in
-          let u : a ≡ c .super + 2 = omega (arith, h, t .ready .line .second) in
-          whole (written-then w (written-then (d .1) (e .written))) (rw u refl)
-          (omega (arith, e .passed, d .0));
-    }
+      pub class-some : SomeClass R T M C at place → SomeMethods R T M C (at + 1 + n) q
+      class-some x =
+          record {
+            P = x .P;
+            E = x .E;
+            k = x .k;
+            ms = x .c .methods;
+            task = class-wrote (x .c) (x .task) .2;
+          }
+
+      pub class-done : {O₃ : List ℕ} {p₃ b₃ : ℕ} → a ≡ getD R (at * 4 + 2) 0 + 2
+          → MethodsEmitted R T M C O₂ O₃ (at + 1 + n) q p₃ b₃ → ClassEmitted R T M C O O₃ at place p₃ b₃
+      unfolding class-numbers class-lines
+      class-done {O₃} {p₃} {b₃} h o = record {
+        each = λ P E k c t.
+            let d = class-wrote c t in let e = o .each P E k (c .methods) (d .2) in
+            let u : a ≡ c .super + 2 = omega (arith, h, t .ready .line .second) in
+            whole (written-then w (written-then (d .1) (e .written))) (rw u refl)
+            (omega (arith, e .passed, d .0));
+      }
 
 -- classes: the first, and the rest
 module _ {P : List Class} {E : List ℕ} {k : ℕ} {R T M C : List ℕ} {at place : ℕ} where
@@ -113,7 +120,7 @@ module _ {P : List Class} {E : List ℕ} {k : ℕ} {R T M C : List ℕ} {at plac
       ) in record {
         lent = t .lent;
         ready = t .classes .0;
-        after = class-end c cs (classes-stand t);
+        after = class-end R E c cs k at (each-class-stands P E R C (c ∷ cs) k at (t .classes)) (t .start);
         fits = f;
       }
 
@@ -140,7 +147,9 @@ module _ {P : List Class} {E : List ℕ} {k : ℕ} {R T M C : List ℕ} {at plac
 
 module _ {R T M C : List ℕ} {at place : ℕ} where
   pub classes-known : SomeClasses R T M C at place → (at * 4 + 3 < length R) × (at < 60000)
-  classes-known x = let r = class-row (x .cs) (classes-stand (x .task)) in
+  classes-known x =
+      let h = each-class-stands (x .P) (x .E) R C (x .cs) (x .k) at (x .task .classes) in
+      let r = classes-first R (x .E) (x .cs) (x .k) at h (x .task .start) .within in
       (r, omega (arith, r, x .task .lent .short))
 
   pub classes-end : {O : List ℕ} → getD R (at * 4) 0 ≢ 67 → ClassesEmitted R T M C O O at place place at
@@ -150,16 +159,16 @@ module _ {R T M C : List ℕ} {at place : ℕ} where
       go : (P : List Class) (E : List ℕ) (k : ℕ) (cs : List Class) → ClassesTask P E k cs R T M C at place
           → Emitted (classes-numbers (world P) k cs) (classes-lines cs) O O place at place at
       go P E k [] t = record { written = written-none; passed = omega arith }
-      go P E k (c ∷ cs) t = absurd (not-class c cs (classes-stand t) h)
+      go P E k (c ∷ cs) t = absurd (h (t .classes .0 .line .letter))
 
   with-class : {D : Type 0} {P : List Class} {E : List ℕ} {k : ℕ} (cs : List Class) → getD R (at * 4) 0 ≡ 67
       → ClassesTask P E k cs R T M C at place
       → ((c : Class) (cs : List Class) → ClassesTask P E k (c ∷ cs) R T M C at place → D) → D
-  with-class [] h t f = absurd (no-class (classes-stand t) h)
+  with-class [] h t f = absurd (no-class at (t .start) h)
   with-class (c ∷ cs) h t f = f c cs t
 
-  pub classes-first : SomeClasses R T M C at place → getD R (at * 4) 0 ≡ 67 → SomeClass R T M C at place
-  classes-first y h = with-class (y .cs) h (y .task) λ c cs t.
+  pub classes-class : SomeClasses R T M C at place → getD R (at * 4) 0 ≡ 67 → SomeClass R T M C at place
+  classes-class y h = with-class (y .cs) h (y .task) λ c cs t.
       record { P = y .P; E = y .E; k = y .k; c = c; task = class-first c cs t }
 
   module _ {O O₁ : List ℕ} {p b : ℕ} (o : ClassEmitted R T M C O O₁ at place p b) where
@@ -184,7 +193,7 @@ module _ {R T M C : List ℕ} {at place : ℕ} where
       where
         go : (P : List Class) (E : List ℕ) (k : ℕ) (cs : List Class) → ClassesTask P E k cs R T M C at place
             → Emitted (classes-numbers (world P) k cs) (classes-lines cs) O O₂ place at p₂ b₂
-        go P E k [] t = absurd (no-class (classes-stand t) h)
+        go P E k [] t = absurd (no-class at (t .start) h)
         go P E k (c ∷ cs) t = let d = o .each P E k c (class-first c cs t) in let e =
             v .each P E (suc k) cs (class-rest c cs t p b (d .written .ended) (d .passed)) in
             whole (written-then (d .written) (e .written)) refl (omega (arith, d .passed, e .passed))

@@ -12,7 +12,6 @@ pub mod Calls
 pub mod Renewing
 pub mod Bodies
 pub mod Methods
-pub mod Skips
 pub mod Standing
 pub mod Classes
 pub mod Programs

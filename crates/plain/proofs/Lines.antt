@@ -68,18 +68,19 @@ module _ {R : List ℕ} {at count : ℕ} where
         go [] e = written-none
         go (t ∷ ts) e = absurd (omega (arith, e, z))
 
-    pub types-step : {O₁ O₂ : List ℕ} {p q t : ℕ} → count ≢ 0 → t ≡ plain-number (getD R (at * 4 + 1) 0)
+    pub types-step : {O₁ O₂ : List ℕ} {p q n t : ℕ} → count ≢ 0 → n ≡ getD R (at * 4 + 1) 0
+        → t ≡ plain-number n
         → Written (letter ∷ t ∷ 0 ∷ 0 ∷ []) O O₁ place p
         → TypesWritten R (at + 1) (count - 1) letter O₁ O₂ p q
         → TypesWritten R at count letter O O₂ place q
     unfolding type-lines LinesAt
-    types-step {O₁} {O₂} {p} {q} {t} h w a b = record { each = λ l ts r e. go l ts r e }
+    types-step {O₁} {O₂} {p} {q} {n} {t} h v w a b = record { each = λ l ts r e. go l ts r e }
       where
         go : (l : Letter) (ts : List DeclaredType) → TypesAt l R ts at → length ts ≡ count
             → Written (type-lines letter ts) O O₂ place q
         go l [] r e = absurd (h (sym e))
         go l (u ∷ ts) r e =
-            let f : t ≡ plain-number (type-number u) = w ∙ ap (λ n. plain-number n) (r .0 .first) in
+            let f : t ≡ plain-number (type-number u) = w ∙ ap (λ n. plain-number n) (v ∙ r .0 .first) in
             rw (← f) (written-then a (b .each l ts (r .1) (omega (arith, e))))
 
 -- slots read
@@ -171,18 +172,20 @@ module _ {R : List ℕ} {at count : ℕ} where
         go [] r e = written-none
         go (f ∷ fs) r e = absurd (omega (arith, e, z))
 
-    pub field-step : {O₁ O₂ : List ℕ} {p q t : ℕ} → count ≢ 0 → t ≡ plain-number (getD R (at * 4 + 1) 0)
-        → Written (70 ∷ t ∷ getD R (at * 4 + 2) 0 ∷ 0 ∷ []) O O₁ place p
+    pub field-step : {O₁ O₂ : List ℕ} {p q n m t : ℕ} → count ≢ 0 → n ≡ getD R (at * 4 + 1) 0
+        → t ≡ plain-number n → m ≡ getD R (at * 4 + 2) 0 → Written (70 ∷ t ∷ m ∷ 0 ∷ []) O O₁ place p
         → FieldsWritten R (at + 1) (count - 1) O₁ O₂ p q
         → FieldsWritten R at count O O₂ place q
     unfolding field-lines LinesAt
-    field-step {O₁} {O₂} {p} {q} {t} h w a b = record { each = λ fs r e. go fs r e }
+    field-step {O₁} {O₂} {p} {q} {n} {m} {t} h v w x a b = record { each = λ fs r e. go fs r e }
       where
         go : (fs : List Field) → FieldsAt R fs at → length fs ≡ count → Written (field-lines fs) O O₂ place q
         go [] r e = absurd (h (sym e))
         go (f ∷ fs) r e =
-            let u : t ≡ plain-number (type-number (f .type)) = w ∙ ap (λ n. plain-number n) (r .0 .first) in
-            rw (← u, ← r .0 .second) (written-then a (b .each fs (r .1) (omega (arith, e))))
+            let u : t ≡ plain-number (type-number (f .type)) = w
+            ∙ ap (λ n. plain-number n) (v ∙ r .0 .first) in
+            let y : m ≡ f .name = x ∙ r .0 .second in
+            rw (← u, ← y) (written-then a (b .each fs (r .1) (omega (arith, e))))
 
 -- lines of a slot read
 pub slot-zero : {s : ℕ} → s ≡ 0 → slot-lines s ≡ 71 ∷ 254 ∷ 0 ∷ 0 ∷ 73 ∷ 0 ∷ 0 ∷ 0 ∷ []

@@ -2,7 +2,7 @@
 -- after another. Assumes nothing.
 use mathlib.Core.Path.{_≡_, refl, sym, ap, _∙_}
 use mathlib.Core.List.{List, [], _∷_, _++_, map, append-assoc}
-use Prim.Native.Nat.{ℕ, _+_, _*_, _≤_, _<_, _-_}
+use Prim.Native.Nat.{ℕ, _+_, _*_, _≤_, _<_}
 use native.Mathlib.Omega.{arith}
 use lib.ListN.{length, getD, length-append}
 use mathlib.Core.Logic.{_≢_}
@@ -13,16 +13,19 @@ use Rattle.language.specs.World.{World}
 use Rattle.language.specs.Translation.{plain-type, plain-method, plain-body, variables}
 use Rattle.language.specs.Program.{world}
 use Rattle.language.specs.Environment.{method-environment}
-use Rattle.language.specs.Layout.{EachMethod, body-row}
+use Rattle.language.specs.Layout.{EachMethod, Run, body-row}
 use Rattle.plain.specs.Numbers.{most-numbers, plain-number, type-lines, Proper, ProperAll, lines-of}
 use Rattle.plain.specs.Numbers.{tree-numbers, method-numbers, node-numbers, methods-numbers}
 use Rattle.plain.specs.Emission.{Written, TypesWritten, SomeTypes, SomeBody, BodyEmitted, SomeMethod}
-use Rattle.plain.specs.Emission.{MethodEmitted, Emitted, Skipped, SomeMethods, MethodsEmitted}
+use Rattle.plain.specs.Emission.{MethodEmitted, Emitted, SomeMethods, MethodsEmitted}
 use Rattle.plain.specs.Tasks.{MethodTask, MethodsTask}
+use Rattle.layout.specs.HeadingRuns.{methods-first}
+use Rattle.layout.specs.Walks.{MethodStanding}
+use Rattle.layout.proofs.Walks.{parameters-count, effects-count}
 use Rattle.plain.proofs.Writing.{written-none, written-then, whole}
 use Rattle.plain.proofs.Numbers.{lines-append}
 use Rattle.plain.proofs.Lines.{types-length}
-use Rattle.plain.proofs.Standing.{method-rows, lines-positive, stand-row, no-method, methods-stand}
+use Rattle.plain.proofs.Standing.{lines-positive, no-method, each-stands}
 
 module _ {R T M C : List ℕ} {at body place count : ℕ} where
   pub method-known : SomeMethod R T M C at body place count
@@ -62,20 +65,20 @@ module _ {R T M C : List ℕ} {at body place count : ℕ} where
         counted = x .counted;
       })
 
-  pub method-done : {O O₁ O₂ O₃ : List ℕ} {p q r b u : ℕ} → u ≡ plain-number (getD R (at * 4 + 1) 0)
-      → Written (77 ∷ u ∷ getD R (at * 4 + 2) 0 ∷ 0 ∷ []) O O₁ place p
+  pub method-done : {O O₁ O₂ O₃ : List ℕ} {p q r b n f u : ℕ} → n ≡ getD R (at * 4 + 1) 0
+      → u ≡ plain-number n → f ≡ getD R (at * 4 + 2) 0 → Written (77 ∷ u ∷ f ∷ 0 ∷ []) O O₁ place p
       → TypesWritten R (at + 1) count 80 O₁ O₂ p q → BodyEmitted R T M C O₂ O₃ body q count r b
       → MethodEmitted R T M C O O₃ at body place count r b
   unfolding method-numbers
-  method-done {O} {O₁} {O₂} {O₃} {p} {q} {r} {b} {u} k w v o = record {
+  method-done {O} {O₁} {O₂} {O₃} {p} {q} {r} {b} {n} {f} {u} j k l w v o = record {
     each = λ P E owner m t c.
         let h = v .each P-parameter (m .parameters) (t .parameters) c in
         let z : place + 4 + 4 * length (m .parameters) ≡ q =
         omega (arith, w .ended, h .ended, types-length 80 (m .parameters)) in
         let em = o .each P E (m .body) _ (m .parameters) (rw z at (t .task)) c in
         let k′ : u ≡ plain-number (type-number (m .result)) = k
-        ∙ ap (λ (n : ℕ). plain-number n) (t .row .first) in
-        whole (written-then w (written-then h (em .written))) (rw (k′, t .row .second) refl) (em .passed);
+        ∙ ap (λ (n : ℕ). plain-number n) (j ∙ t .row .first) in
+        whole (written-then w (written-then h (em .written))) (rw (k′, l ∙ t .row .second) refl) (em .passed);
   }
 
 lines-cons : (l : Letter) (a b : ℕ) (rs : List Record)
@@ -124,11 +127,15 @@ method-length W k m = let n =
 -- methods: the first, and the rest
 module _ {P : List Class} {E : List ℕ} {k : ℕ} {R T M C : List ℕ} {at place : ℕ} where
   method-first : (m : Declaration) (ms : List Declaration) → MethodsTask P E k (m ∷ ms) R T M C at place
-      → (x b : ℕ) → Skipped R 80 (at + 1) x → Skipped R 88 x b
-      → (x ≡ at + 1 + length (m .parameters)) × (b ≡ body-row at m) × MethodTask P E k m R T M C at b place
+      → (p x : ℕ) → Run R 80 (at + 1) p → Run R 88 (at + 1 + p) x
+      → (p ≡ length (m .parameters)) × (at + 1 + p + x ≡ body-row at m)
+      × MethodTask P E k m R T M C at (at + 1 + p + x) place
   unfolding EachMethod methods-numbers
-  method-first m ms t x b s u =
-      let y = t .methods .0 in let z = method-rows (y .rows) s u in
+  method-first m ms t p x v u =
+      let y = t .methods .0 in
+      let a = parameters-count (y .rows) (y .in-form) p v in
+      let z : at + 1 + p + x ≡ body-row at m =
+      omega (arith, a, effects-count (y .rows) (y .in-form) p v x u) in
       let f : place + 4 + 4 * length (m .parameters) + length
       (node-numbers (world P) (m .body) (method-environment k (m .parameters))
       (variables (m .parameters))) ≤ most-numbers
@@ -138,17 +145,17 @@ module _ {P : List Class} {E : List ℕ} {k : ℕ} {R T M C : List ℕ} {at plac
         length-append (method-numbers (world P) k m) (methods-numbers (world P) k ms),
         method-length (world P) k m,
       ) in (
-        z .0,
-        z .1,
+        a,
+        z,
         record {
           row = y .rows .line;
           parameters = y .rows .parameters;
-          task = rw (z .1) (record {
+          task = rw z (record {
             lent = t .lent;
             encoded = y .rows .body;
             looks = y .looks;
             ready = y .ready;
-            scope = y .scope;
+            scope = omega (arith, y .in-form .few);
             low = omega arith;
             fits = f;
           });
@@ -178,7 +185,9 @@ module _ {P : List Class} {E : List ℕ} {k : ℕ} {R T M C : List ℕ} {at plac
 
 module _ {R T M C : List ℕ} {at place : ℕ} where
   pub methods-known : SomeMethods R T M C at place → (at * 4 + 3 < length R) × (at < 60000)
-  methods-known x = let r = stand-row (x .ms) (methods-stand (x .task)) in
+  methods-known x =
+      let h = each-stands (x .P) (x .E) R C (x .ms) (x .k) at (x .task .methods) in
+      let r = methods-first R (x .E) (x .ms) (x .k) at h (x .task .after) .0 in
       (r, omega (arith, r, x .task .lent .short))
 
   pub methods-end : {O : List ℕ} → getD R (at * 4) 0 ≢ 77 → MethodsEmitted R T M C O O at place place at
@@ -194,47 +203,51 @@ module _ {R T M C : List ℕ} {at place : ℕ} where
   with-method : {D : Type 0} {P : List Class} {E : List ℕ} {k : ℕ} (ms : List Declaration)
       → getD R (at * 4) 0 ≡ 77 → MethodsTask P E k ms R T M C at place
       → ((m : Declaration) (ms : List Declaration) → MethodsTask P E k (m ∷ ms) R T M C at place → D) → D
-  with-method [] h t f = absurd (no-method (methods-stand t) h)
+  with-method [] h t f = absurd (no-method at (t .after) h)
   with-method (m ∷ ms) h t f = f m ms t
 
-  pub methods-first : SomeMethods R T M C at place → getD R (at * 4) 0 ≡ 77 → (x b n : ℕ)
-      → Skipped R 80 (at + 1) x → Skipped R 88 x b → n ≡ x - at - 1
-      → SomeMethod R T M C at b place n
-  methods-first y h x b n s u z = with-method (y .ms) h (y .task) λ m ms t. let q =
-      method-first m ms t x b s u in
-      record { P = y .P; E = y .E; owner = y .k; m = m; task = q .2; counted = omega (arith, q .0, z) }
+  pub methods-here : (y : SomeMethods R T M C at place) → getD R (at * 4) 0 ≡ 77
+      → MethodStanding R (y .E) at
+  unfolding EachMethod
+  methods-here y h = with-method (y .ms) h (y .task) λ m ms t. let x = t .methods .0 in
+      record { method = m; at = x .rows; in-form = x .in-form; short = t .lent .short }
 
-  module _ {O O₁ : List ℕ} {x b n p b′ : ℕ} (s : Skipped R 80 (at + 1) x) (u : Skipped R 88 x b)
-      (z : n ≡ x - at - 1) (o : MethodEmitted R T M C O O₁ at b place n p b′) where
-    method-emitted : {P : List Class} {E : List ℕ} {k : ℕ} (m : Declaration) (ms : List Declaration)
-        → MethodsTask P E k (m ∷ ms) R T M C at place
-        → Written (method-numbers (world P) k m) O O₁ place p × (b′ ≡ at + method-lines m)
-    method-emitted {P} {E} {k} m ms t = let q = method-first m ms t x b s u in
-        let e = o .each P E k m (q .2) (omega (arith, q .0, z)) in
-        (e .written, method-passed at m (q .1) (e .passed))
+  module _ {p x : ℕ} (v : Run R 80 (at + 1) p) (u : Run R 88 (at + 1 + p) x) where
+    pub methods-method : SomeMethods R T M C at place → getD R (at * 4) 0 ≡ 77
+        → SomeMethod R T M C at (at + 1 + p + x) place p
+    methods-method y h = with-method (y .ms) h (y .task) λ m ms t. let q = method-first m ms t p x v u in
+        record { P = y .P; E = y .E; owner = y .k; m = m; task = q .2; counted = sym (q .0) }
 
-    pub methods-rest : SomeMethods R T M C at place → getD R (at * 4) 0 ≡ 77
-        → SomeMethods R T M C b′ p × (at < b′)
-    methods-rest y h = with-method (y .ms) h (y .task) λ m ms t. let d = method-emitted m ms t in (
-      record {
-        P = y .P;
-        E = y .E;
-        k = y .k;
-        ms = ms;
-        task = method-rest m ms t p b′ (d .0 .ended) (d .1);
-      },
-      omega (arith, d .1, lines-positive m),
-    )
+    module _ {O O₁ : List ℕ} {r b : ℕ} (o : MethodEmitted R T M C O O₁ at (at + 1 + p + x) place p r b) where
+      method-emitted : {P : List Class} {E : List ℕ} {k : ℕ} (m : Declaration) (ms : List Declaration)
+          → MethodsTask P E k (m ∷ ms) R T M C at place
+          → Written (method-numbers (world P) k m) O O₁ place r × (b ≡ at + method-lines m)
+      method-emitted {P} {E} {k} m ms t = let q = method-first m ms t p x v u in
+          let e = o .each P E k m (q .2) (sym (q .0)) in
+          (e .written, method-passed at m (q .1) (e .passed))
 
-    pub methods-step : {O₂ : List ℕ} {p₂ b₂ : ℕ} → getD R (at * 4) 0 ≡ 77
-        → MethodsEmitted R T M C O₁ O₂ b′ p p₂ b₂ → MethodsEmitted R T M C O O₂ at place p₂ b₂
-    unfolding methods-numbers methods-lines
-    methods-step {O₂} {p₂} {b₂} h v = record { each = λ P E k ms t. go P E k ms t }
-      where
-        go : (P : List Class) (E : List ℕ) (k : ℕ) (ms : List Declaration)
-            → MethodsTask P E k ms R T M C at place
-            → Emitted (methods-numbers (world P) k ms) (methods-lines ms) O O₂ place at p₂ b₂
-        go P E k [] t = absurd (no-method (methods-stand t) h)
-        go P E k (m ∷ ms) t = let d = method-emitted m ms t in let e =
-            v .each P E k ms (method-rest m ms t p b′ (d .0 .ended) (d .1)) in
-            whole (written-then (d .0) (e .written)) refl (omega (arith, d .1, e .passed))
+      pub methods-rest : SomeMethods R T M C at place → getD R (at * 4) 0 ≡ 77
+          → SomeMethods R T M C b r × (at < b)
+      methods-rest y h = with-method (y .ms) h (y .task) λ m ms t. let d = method-emitted m ms t in (
+        record {
+          P = y .P;
+          E = y .E;
+          k = y .k;
+          ms = ms;
+          task = method-rest m ms t r b (d .0 .ended) (d .1);
+        },
+        omega (arith, d .1, lines-positive m),
+      )
+
+      pub methods-step : {O₂ : List ℕ} {p₂ b₂ : ℕ} → getD R (at * 4) 0 ≡ 77
+          → MethodsEmitted R T M C O₁ O₂ b r p₂ b₂ → MethodsEmitted R T M C O O₂ at place p₂ b₂
+      unfolding methods-numbers methods-lines
+      methods-step {O₂} {p₂} {b₂} h w = record { each = λ P E k ms t. go P E k ms t }
+        where
+          go : (P : List Class) (E : List ℕ) (k : ℕ) (ms : List Declaration)
+              → MethodsTask P E k ms R T M C at place
+              → Emitted (methods-numbers (world P) k ms) (methods-lines ms) O O₂ place at p₂ b₂
+          go P E k [] t = absurd (no-method at (t .after) h)
+          go P E k (m ∷ ms) t = let d = method-emitted m ms t in let e =
+              w .each P E k ms (method-rest m ms t r b (d .0 .ended) (d .1)) in
+              whole (written-then (d .0) (e .written)) refl (omega (arith, d .1, e .passed))

@@ -139,7 +139,7 @@ module _ {p : Program} {E R T M C : List ℕ} (t : ProgramTask p E R T M C) wher
   unfolding EachMethod
   each-method k [] r a b c i = tt
   each-method k (m ∷ ms) r a b c (each-cons i is) = (
-    record { rows = a .0; looks = b .0; ready = c .0; scope = omega (arith, i .few) },
+    record { rows = a .0; in-form = i; looks = b .0; ready = c .0 },
     each-method k ms _ (a .1) (b .1) (c .1) is,
   )
 

@@ -88,29 +88,12 @@ module _ {P : List Class} {E : List ℕ} {γ : Environment} {sh : Shape} {R T M 
   }
 
 module _ {R T M C S : List ℕ} {at vars next place : ℕ} where
-  -- what is read on the way to the field's type
-  pub set-known : SomeSet R T M C S at vars next place
+  pub set-row : SomeSet R T M C S at vars next place
       → (at * 4 + 3 < length R) × (at < 60000) × (at < length C)
-      × (getD C at 0 * 576 + getD R (at * 4 + 1) 0 < length T) × (getD R (at * 4 + 1) 0 < 256)
-      × (getD C at 0 * 576 + 519 + getD T (getD C at 0 * 576 + getD R (at * 4 + 1) 0) 0 < length T)
-      × (getD T (getD C at 0 * 576 + 519 + getD T (getD C at 0 * 576 + getD R (at * 4 + 1) 0) 0) 0 * 4 + 3
-      < length R)
-      × (place + 32 ≤ most-numbers) × (next ≤ most-numbers)
-  set-known x =
-      let t = x .task in let n = set-name t in let r = node-row t in let d = set-field t in
-      let c = set-class t in
-      let z : c * 576 + 519 + suc (d .0) ≡ c * 576 + 520 + d .0 = omega arith in
-      rw (n .0, n .1, d .2, z) (
-        r .0,
-        r .1,
-        r .2,
-        omega (arith, n .2, n .3, t .setting .lent .members .tables .long),
-        n .2,
-        d .3,
-        d .4,
-        omega (arith, set-room t),
-        omega (arith, t .low, set-room t),
-      )
+  set-row x = node-row (x .task)
+
+  pub set-fits : SomeSet R T M C S at vars next place → (place + 32 ≤ most-numbers) × (next ≤ most-numbers)
+  set-fits x = let t = x .task in (omega (arith, set-room t), omega (arith, t .low, set-room t))
 
   pub set-ended : {O O₁ : List ℕ} {p : ℕ} {u : ℕ} → SomeSet R T M C S at vars next place
       → Written (66 ∷ 2 ∷ 3 ∷ 0 ∷ 86 ∷ 1 ∷ 0 ∷ 0 ∷ 86 ∷ u ∷ 0 ∷ 0 ∷ []) O O₁ place p
@@ -137,26 +120,44 @@ module _ {R T M C S : List ℕ} {at vars next place : ℕ} where
       (rw (z, t .setting .free) (omega (arith, set-room t))) in
       omega (arith, em .written .ended, z, rw (t .setting .free) at (em .written .ended), set-room t)
 
-  pub set-done : {O O₁ O₂ O₃ : List ℕ} {p q p′ b u : ℕ}
-      → u ≡ plain-number (getD R (getD T (getD C at 0 * 576 + 519 + getD T
-      (getD C at 0 * 576 + getD R (at * 4 + 1) 0) 0) 0 * 4 + 1) 0)
-      → Written (66 ∷ 2 ∷ 3 ∷ 0 ∷ 86 ∷ 1 ∷ 0 ∷ 0 ∷ 86 ∷ u ∷ 0 ∷ 0 ∷ []) O O₁ place p
-      → ArgumentsEmitted R T M C S O₁ O₂ (at + 1) vars (next + 2) p 2 next q b
-      → Written (85 ∷ getD R (at * 4 + 1) 0 ∷ 0 ∷ 0 ∷ 75 ∷ (getD C at 0 + 2) ∷ 0 ∷ 0 ∷ 71 ∷ 255 ∷ 0 ∷ 0 ∷ 73 ∷
-      next ∷ 0 ∷ 0 ∷ 73 ∷ (next + 1) ∷ 0 ∷ 0 ∷ []) O₂ O₃ q p′
-      → SetEmitted R T M C S O O₃ at vars next place p′ b
-  unfolding size how-many rows-taken
-  set-done {O} {O₁} {O₂} {O₃} {p} {q} {p′} {b} {u} k w m v = record {
-    each = λ P E f e e′ γ sh t.
-        let n = set-name t in let d = set-field t in let c = set-class t in
-        let z : p ≡ place + 12 = w .ended in
-        let y : c * 576 + 519 + suc (d .0) ≡ c * 576 + 520 + d .0 = omega arith in
-        let k′ : u ≡ type-number (plain-type (type-or (field-type f (world P .fields c)))) =
-        rw (n .0, n .1, d .2, y) at k ∙ d .5 in
-        let m′ = rw (t .setting .free) at m in
-        let em = m .each P E (set-arguments t) (sh ++ (false ∷ false ∷ [])) (set-nodes t p z) refl
-        (rw (z, t .setting .free) (omega (arith, set-room t))) in
-        whole (written-then w (written-then (em .written) v))
-        (rw (k′, n .0, n .1, t .setting .free) (sym (t-set (world P) γ sh f e e′)))
-        (omega (arith, em .passed));
-  }
+-- what is read on the way to the field's type: its name, its entry, its row, its number
+module _ {R T M C S : List ℕ} {at vars next place n : ℕ} (a : n ≡ getD R (at * 4 + 1) 0) where
+  pub set-known : SomeSet R T M C S at vars next place → (n < 256) × (getD C at 0 * 576 + n < length T)
+  set-known x = let t = x .task in let m = set-name t in
+      rw (a ∙ m .0, m .1) (m .2, omega (arith, m .2, m .3, t .setting .lent .members .tables .long))
+
+  module _ {i : ℕ} (b : i ≡ getD T (getD C at 0 * 576 + n) 0) where
+    -- the entry of the field's row, in the terms of its tree
+    set-entry : {P : List Class} {E : List ℕ} {γ : Environment} {sh : Shape} {f : ℕ} {e e′ : Expr}
+        (t : NodeTask P E (set f e e′) γ sh R T M C S at vars next place)
+        → getD C at 0 * 576 + (519 + i) ≡ set-class t * 576 + 520 + set-field t .0
+    set-entry t = let m = set-name t in let d = set-field t in
+        omega (arith, m .1, rw (a ∙ m .0, m .1, d .2) at b)
+
+    pub set-found : SomeSet R T M C S at vars next place → getD C at 0 * 576 + (519 + i) < length T
+    set-found x = omega (arith, set-entry (x .task), set-field (x .task) .3)
+
+    module _ {r : ℕ} (c : r ≡ getD T (getD C at 0 * 576 + (519 + i)) 0) where
+      pub set-within : SomeSet R T M C S at vars next place → r * 4 + 3 < length R
+      set-within x = let t = x .task in rw (c, set-entry t) (set-field t .4)
+
+      pub set-done : {O O₁ O₂ O₃ : List ℕ} {p q p′ j l u : ℕ} → l ≡ getD R (r * 4 + 1) 0 → u ≡ plain-number l
+          → Written (66 ∷ 2 ∷ 3 ∷ 0 ∷ 86 ∷ 1 ∷ 0 ∷ 0 ∷ 86 ∷ u ∷ 0 ∷ 0 ∷ []) O O₁ place p
+          → ArgumentsEmitted R T M C S O₁ O₂ (at + 1) vars (next + 2) p 2 next q j
+          → Written (85 ∷ n ∷ 0 ∷ 0 ∷ 75 ∷ (getD C at 0 + 2) ∷ 0 ∷ 0 ∷ 71 ∷ 255 ∷ 0 ∷ 0 ∷ 73 ∷ next ∷ 0 ∷ 0 ∷
+          73
+          ∷ (next + 1) ∷ 0 ∷ 0 ∷ []) O₂ O₃ q p′
+          → SetEmitted R T M C S O O₃ at vars next place p′ j
+      unfolding size how-many rows-taken
+      set-done {O} {O₁} {O₂} {O₃} {p} {q} {p′} {j} {l} {u} g k w m v = record {
+        each = λ P E f e e′ γ sh t.
+            let d = set-name t in
+            let z : p ≡ place + 12 = w .ended in
+            let k′ : u ≡ type-number (plain-type (type-or (field-type f (world P .fields (set-class t))))) =
+            k ∙ rw (g, c, set-entry t) (set-field t .5) in
+            let em = m .each P E (set-arguments t) (sh ++ (false ∷ false ∷ [])) (set-nodes t p z) refl
+            (rw (z, t .setting .free) (omega (arith, set-room t))) in
+            whole (written-then w (written-then (em .written) v))
+            (rw (k′, a ∙ d .0, d .1, t .setting .free) (sym (t-set (world P) γ sh f e e′)))
+            (omega (arith, em .passed));
+      }

@@ -1,38 +1,27 @@
 -- Laws of methods and classes that stand in rows: the rows of their parts, and the row after each. Assumes
 -- nothing.
-use mathlib.Core.Path.{_≡_, refl, sym, _∙_}
+use mathlib.Core.Path.{_≡_, sym}
 use mathlib.Core.Logic.{_≢_}
 use mathlib.Core.List.{List, [], _∷_}
-use Prim.Native.Nat.{ℕ, suc, _+_, _-_, _*_, _≤_, _<_}
+use Prim.Native.Nat.{ℕ, suc, _+_, _*_, _≤_, _<_}
 use native.Mathlib.Omega.{arith}
 use lib.ListN.{length, getD}
-use Rattle.language.specs.Rows.{code}
-use Rattle.language.specs.Tree.{Declaration, Class, method-lines, heading-lines, methods-lines, class-lines}
-use Rattle.language.specs.Tree.{classes-lines}
-use Rattle.language.specs.Layout.{EachMethod, EachClass, ClassEnd, MethodAt, ClassAt, effects-row, body-row}
-use Rattle.language.specs.Layout.{methods-from-row}
-use Rattle.language.proofs.Nodes.{letter-of, head, no-heading}
+use Rattle.language.specs.Rows.{S-start}
+use Rattle.language.specs.Tree.{Declaration, Class, method-lines, methods-lines, class-lines, classes-lines}
+use Rattle.language.specs.Encoded.{RowAt}
+use Rattle.language.specs.WellFormed.{Each, each-cons}
+use Rattle.language.specs.Layout.{EachMethod, EachClass, Run, ClassEnd, MethodAt, ClassAt, methods-from-row}
+use Rattle.language.proofs.Lines.{run-unique}
 use Rattle.language.proofs.Tables.{size-positive}
-use Rattle.layout.specs.HeadingRuns.{parameter-lines, effect-lines, end-letter, methods-first, fields-run}
-use Rattle.layout.specs.HeadingRuns.{classes-first}
-use Rattle.plain.specs.Tasks.{MethodReady, ClassReady, MethodsTask, ClassesTask}
-use Rattle.plain.specs.Emission.{Skipped, SomeFieldLines}
+use Rattle.layout.specs.HeadingRuns.{end-letter, methods-first, fields-run, classes-first}
+use Rattle.layout.specs.Walks.{MethodStanding}
+use Rattle.plain.specs.Tasks.{MethodReady, ClassReady}
+use Rattle.plain.specs.Emission.{SomeFieldLines}
 use Rattle.plain.specs.Bounds.{MethodsStand, ClassesStand, SomeMethodsStand, SomeClassesStand}
 use Rattle.plain.specs.Bounds.{MethodsPassed}
-use Rattle.plain.proofs.Skips.{skipped-at}
 
-pub method-rows : {R E : List ℕ} {m : Declaration} {r x b : ℕ} → MethodAt R E m r → Skipped R 80 (r + 1) x
-    → Skipped R 88 x b
-    → (x ≡ effects-row r m) × (b ≡ body-row r m)
-method-rows {R} {E} {m} {r} {x} {b} t s u =
-    let n = head (m .body) (t .body) in
-    let o = no-heading (m .body) in
-    let z : x ≡ effects-row r m = skipped-at s (parameter-lines R (m .parameters) (m .effects) r
-    (code (letter-of (m .body))) (t .parameters) (t .effects) (n .row) (n .letter) (o .0)) in (
-      z,
-      skipped-at (rw z at u) (effect-lines R (m .parameters) (m .effects) r (code (letter-of (m .body)))
-          (t .parameters) (t .effects) (n .row) (n .letter) (o .1)),
-    )
+each-head : {A : Type 0} {Q : A → Type 0} {a : A} {l : List A} → Each Q (a ∷ l) → Q a × Each Q l
+each-head (each-cons x y) = (x, y)
 
 pub lines-positive : (m : Declaration) → 1 ≤ method-lines m
 unfolding method-lines
@@ -46,38 +35,36 @@ end-at : {R : List ℕ} {a b : ℕ} → ClassEnd R a → a ≡ b → ClassEnd R 
 end-at h e = rw e at h
 
 -- methods
-module _ {R E : List ℕ} {at : ℕ} where
-  pub stand-row : {k : ℕ} (ms : List Declaration) → MethodsStand R E k ms at → at * 4 + 3 < length R
-  stand-row {k} ms t = methods-first R E ms k at (t .methods) (t .after) .0
+pub no-method : {R : List ℕ} (at : ℕ) → ClassEnd R (at + methods-lines []) → getD R (at * 4) 0 ≡ 77 → ⊥
+unfolding methods-lines
+no-method at w h = end-letter (end-at {b = at} w (omega arith)) 77 (omega arith) (omega arith) h
 
-  stand-first : {k : ℕ} (m : Declaration) (ms : List Declaration) → MethodsStand R E k (m ∷ ms) at → (x b : ℕ)
-      → Skipped R 80 (at + 1) x → Skipped R 88 x b
-      → (b < length E) × (getD E b 0 ≡ at + method-lines m)
-  unfolding EachMethod method-lines heading-lines
-  stand-first m ms t x b s u =
-      let y = t .methods .0 in
-      let z = method-rows y s u .1 in
-      let n = head (m .body) (y .body) in
-      rw z (n .in-ends, n .end ∙ omega arith)
+module _ {R E : List ℕ} {at : ℕ} where
+  stand-first : {k : ℕ} (m : Declaration) (ms : List Declaration)
+      → MethodsStand R E k (m ∷ ms) at → MethodStanding R E at
+  unfolding EachMethod
+  stand-first m ms t =
+      record { method = m; at = t .methods .0; in-form = each-head (t .in-form) .0; short = t .short }
 
   stand-rest : {k : ℕ} (m : Declaration) (ms : List Declaration) → MethodsStand R E k (m ∷ ms) at → (b : ℕ)
       → b ≡ at + method-lines m → MethodsStand R E k ms b
   unfolding EachMethod methods-lines
-  stand-rest m ms t b z =
-      rw z (record { methods = t .methods .1; after = end-at (t .after) (omega arith); short = t .short })
-
-  pub no-method : {k : ℕ} → MethodsStand R E k [] at → getD R (at * 4) 0 ≡ 77 → ⊥
-  unfolding methods-lines
-  no-method t h = end-letter (end-at {b = at} (t .after) (omega arith)) 77 (omega arith) (omega arith) h
+  stand-rest m ms t b z = rw z (record {
+    methods = t .methods .1;
+    after = end-at (t .after) (omega arith);
+    in-form = each-head (t .in-form) .1;
+    short = t .short;
+  })
 
   with-method : {D : Type 0} {k : ℕ} (ms : List Declaration) → getD R (at * 4) 0 ≡ 77
       → MethodsStand R E k ms at
       → ((m : Declaration) (ms : List Declaration) → MethodsStand R E k (m ∷ ms) at → D) → D
-  with-method [] h t f = absurd (no-method t h)
+  with-method [] h t f = absurd (no-method at (t .after) h)
   with-method (m ∷ ms) h t f = f m ms t
 
   pub stand-known : SomeMethodsStand R E at → (at * 4 + 3 < length R) × (at < 60000)
-  stand-known x = let r = stand-row (x .ms) (x .stand) in (r, omega (arith, r, x .stand .short))
+  stand-known x = let r = methods-first R E (x .ms) (x .k) at (x .stand .methods) (x .stand .after) .0 in
+      (r, omega (arith, r, x .stand .short))
 
   pub stand-none : getD R (at * 4) 0 ≢ 77 → MethodsPassed R E at at
   unfolding EachMethod methods-lines
@@ -87,66 +74,76 @@ module _ {R E : List ℕ} {at : ℕ} where
       go k [] t = omega arith
       go k (m ∷ ms) t = absurd (h (t .methods .0 .line .letter))
 
-  module _ {x b : ℕ} (s : Skipped R 80 (at + 1) x) (u : Skipped R 88 x b) (h : getD R (at * 4) 0 ≡ 77) where
-    pub stand-in : SomeMethodsStand R E at → b < length E
-    stand-in y = with-method (y .ms) h (y .stand) λ m ms t. stand-first m ms t x b s u .0
+  module _ (h : getD R (at * 4) 0 ≡ 77) where
+    pub stand-here : SomeMethodsStand R E at → MethodStanding R E at
+    stand-here y = with-method (y .ms) h (y .stand) λ m ms t. stand-first m ms t
 
-    pub stand-next : SomeMethodsStand R E at → SomeMethodsStand R E (getD E b 0) × (at < getD E b 0)
-    stand-next y = with-method (y .ms) h (y .stand) λ m ms t. let z = stand-first m ms t x b s u .1 in (
-      record { k = y .k; ms = ms; stand = stand-rest m ms t (getD E b 0) z },
-      omega (arith, z, lines-positive m),
-    )
+    module _ {b : ℕ} (s : (w : MethodStanding R E at) → b ≡ at + method-lines (w .method)) where
+      stand-after : {k : ℕ} (m : Declaration) (ms : List Declaration)
+          → MethodsStand R E k (m ∷ ms) at → b ≡ at + method-lines m
+      unfolding stand-first
+      stand-after m ms t = s (stand-first m ms t)
 
-    pub stand-step : {q : ℕ} → MethodsPassed R E (getD E b 0) q → MethodsPassed R E at q
-    unfolding methods-lines
-    stand-step {q} p = record { each = λ k ms t. go k ms t }
-      where
-        go : (k : ℕ) (ms : List Declaration) → MethodsStand R E k ms at → q ≡ at + methods-lines ms
-        go k [] t = absurd (no-method t h)
-        go k (m ∷ ms) t = let z = stand-first m ms t x b s u .1 in
-            omega (arith, z, p .each k ms (stand-rest m ms t (getD E b 0) z))
+      pub stand-next : SomeMethodsStand R E at → SomeMethodsStand R E b × (at < b)
+      stand-next y = with-method (y .ms) h (y .stand) λ m ms t. let z = stand-after m ms t in (
+        record { k = y .k; ms = ms; stand = stand-rest m ms t b z },
+        omega (arith, z, lines-positive m),
+      )
+
+      pub stand-step : {q : ℕ} → MethodsPassed R E b q → MethodsPassed R E at q
+      unfolding methods-lines
+      stand-step {q} p = record { each = λ k ms t. go k ms t }
+        where
+          go : (k : ℕ) (ms : List Declaration) → MethodsStand R E k ms at → q ≡ at + methods-lines ms
+          go k [] t = absurd (no-method at (t .after) h)
+          go k (m ∷ ms) t = let z = stand-after m ms t in
+              omega (arith, z, p .each k ms (stand-rest m ms t b z))
 
 -- classes
-module _ {R E : List ℕ} {at : ℕ} where
-  pub class-row : {k : ℕ} (cs : List Class) → ClassesStand R E k cs at → at * 4 + 3 < length R
-  class-row {k} cs t = classes-first R E cs k at (t .classes) (t .start) .within
+pub no-class : {R : List ℕ} (at : ℕ) → RowAt R (at + classes-lines []) S-start 0 0 → getD R (at * 4) 0 ≡ 67
+    → ⊥
+unfolding classes-lines
+no-class at w h = let z : at + 0 ≡ at = omega arith in let w = rw z at w in omega (arith, w .letter, h)
 
+pub class-end : (R E : List ℕ) (c : Class) (cs : List Class) (k r : ℕ) → EachClass (ClassAt R E) (c ∷ cs) k r
+    → RowAt R (r + classes-lines (c ∷ cs)) S-start 0 0 → ClassEnd R (r + class-lines c)
+unfolding EachClass classes-lines
+class-end R E c cs k r h w =
+    let a : r + (class-lines c + classes-lines cs) ≡ r + class-lines c + classes-lines cs = omega arith in
+    classes-first R E cs (suc k) (r + class-lines c) (h .1) (rw a at w)
+
+module _ {R E : List ℕ} {at : ℕ} where
   pub class-rest : {k : ℕ} (c : Class) (cs : List Class) → ClassesStand R E k (c ∷ cs) at → (b : ℕ)
       → b ≡ at + class-lines c → ClassesStand R E (suc k) cs b
   unfolding EachClass classes-lines
   class-rest c cs t b z =
       let a : at + (class-lines c + classes-lines cs) ≡ at + class-lines c + classes-lines cs = omega arith in
-      let w = t .start in rw z (record { classes = t .classes .1; start = rw a at w; short = t .short })
+      let w = t .start in rw z (record {
+        classes = t .classes .1;
+        start = rw a at w;
+        in-form = each-head (t .in-form) .1;
+        short = t .short;
+      })
 
-  pub class-end : {k : ℕ} (c : Class) (cs : List Class)
-      → ClassesStand R E k (c ∷ cs) at → ClassEnd R (at + class-lines c)
-  class-end {k} c cs t = let u = class-rest c cs t (at + class-lines c) refl in
-      classes-first R E cs (suc k) (at + class-lines c) (u .classes) (u .start)
+  -- a class's fields, and how many they are
+  class-runs : {k : ℕ} (c : Class) (cs : List Class) → ClassesStand R E k (c ∷ cs) at
+      → Run R 70 (at + 1) (length (c .fields))
+  unfolding EachClass
+  class-runs {k} c cs t = fields-run (t .classes .0) (class-end R E c cs k at (t .classes) (t .start))
 
-  -- the row after a class's fields
-  pub first-of : {k r : ℕ} (c : Class)
-      → ClassAt R E k c at → ClassEnd R (at + class-lines c) → Skipped R 70 (at + 1) r
-      → r ≡ methods-from-row at c
-  first-of c t w s = skipped-at s (fields-run t w)
+  pub class-counted : {k n : ℕ} (c : Class) (cs : List Class)
+      → ClassesStand R E k (c ∷ cs) at → Run R 70 (at + 1) n → n ≡ length (c .fields)
+  class-counted c cs t v = run-unique v (class-runs c cs t)
 
   class-methods : {k : ℕ} (c : Class) (cs : List Class)
       → ClassesStand R E k (c ∷ cs) at → MethodsStand R E k (c .methods) (methods-from-row at c)
   unfolding EachClass class-lines
-  class-methods c cs t = record {
+  class-methods {k} c cs t = record {
     methods = t .classes .0 .methods;
-    after = end-at (class-end c cs t) (omega arith);
+    after = end-at (class-end R E c cs k at (t .classes) (t .start)) (omega arith);
+    in-form = each-head (t .in-form) .0 .methods;
     short = t .short;
   }
-
-  pub first-row : {k r : ℕ} (c : Class) (cs : List Class)
-      → ClassesStand R E k (c ∷ cs) at → Skipped R 70 (at + 1) r → r ≡ methods-from-row at c
-  unfolding EachClass
-  first-row c cs t s = first-of c (t .classes .0) (class-end c cs t) s
-
-  pub no-class : {k : ℕ} → ClassesStand R E k [] at → getD R (at * 4) 0 ≡ 67 → ⊥
-  unfolding classes-lines
-  no-class t h = let z : at + 0 ≡ at = omega arith in let w = t .start in let w = rw z at w in
-      omega (arith, w .letter, h)
 
   pub not-class : {k : ℕ} (c : Class) (cs : List Class)
       → ClassesStand R E k (c ∷ cs) at → getD R (at * 4) 0 ≢ 67 → ⊥
@@ -155,41 +152,47 @@ module _ {R E : List ℕ} {at : ℕ} where
 
   with-class : {D : Type 0} {k : ℕ} (cs : List Class) → getD R (at * 4) 0 ≡ 67 → ClassesStand R E k cs at
       → ((c : Class) (cs : List Class) → ClassesStand R E k (c ∷ cs) at → D) → D
-  with-class [] h t f = absurd (no-class t h)
+  with-class [] h t f = absurd (no-class at (t .start) h)
   with-class (c ∷ cs) h t f = f c cs t
 
   -- the row after a class
-  pub class-passed : {k r q : ℕ} (c : Class) (cs : List Class)
-      → ClassesStand R E k (c ∷ cs) at → Skipped R 70 (at + 1) r → MethodsPassed R E r q
+  pub class-passed : {k n q : ℕ} (c : Class) (cs : List Class)
+      → ClassesStand R E k (c ∷ cs) at → Run R 70 (at + 1) n → MethodsPassed R E (at + 1 + n) q
       → q ≡ at + class-lines c
   unfolding class-lines
-  class-passed {k} {r} {q} c cs t s p = let z = first-row c cs t s in
-      omega (arith, z, p .each k (c .methods) (rw (sym z) at (class-methods c cs t)))
+  class-passed {k} {n} {q} c cs t v p = let z = class-counted c cs t v in
+      omega (arith, z, p .each k (c .methods) (rw z (class-methods c cs t)))
 
   pub class-known : SomeClassesStand R E at → (at * 4 + 3 < length R) × (at < 60000) × (length R ≤ 240000)
-  class-known x = let r = class-row (x .cs) (x .stand) in
-      (r, omega (arith, r, x .stand .short), x .stand .short)
+  class-known x =
+      let t = x .stand in
+      let r = classes-first R E (x .cs) (x .k) at (t .classes) (t .start) .within in
+      (r, omega (arith, r, t .short), t .short)
 
-  module _ {r : ℕ} (s : Skipped R 70 (at + 1) r) (h : getD R (at * 4) 0 ≡ 67) where
-    pub class-fields : (n : ℕ) → n ≡ r - at - 1 → SomeClassesStand R E at → SomeFieldLines R (at + 1) n
-    unfolding EachClass
-    class-fields n z y = with-class (y .cs) h (y .stand) λ c cs t. let e = first-row c cs t s in
-        record { fs = c .fields; rows = t .classes .0 .fields; counted = omega (arith, e, z) }
+  module _ (h : getD R (at * 4) 0 ≡ 67) where
+    pub class-run : SomeClassesStand R E at → (n : ℕ) × Run R 70 (at + 1) n
+    class-run y = with-class (y .cs) h (y .stand) λ c cs t. (length (c .fields), class-runs c cs t)
 
-    pub class-stand : SomeClassesStand R E at → SomeMethodsStand R E r
-    class-stand y = with-class (y .cs) h (y .stand) λ c cs t. let e = first-row c cs t s in
-        record { k = y .k; ms = c .methods; stand = rw e (class-methods c cs t) }
+    module _ {n : ℕ} (v : Run R 70 (at + 1) n) where
+      pub class-fields : SomeClassesStand R E at → SomeFieldLines R (at + 1) n
+      unfolding EachClass
+      class-fields y = with-class (y .cs) h (y .stand) λ c cs t.
+          record { fs = c .fields; rows = t .classes .0 .fields; counted = sym (class-counted c cs t v) }
 
-    pub class-next : {q : ℕ} → MethodsPassed R E r q
-        → SomeClassesStand R E at → SomeClassesStand R E q × (at < q)
-    class-next {q} p y = with-class (y .cs) h (y .stand) λ c cs t. let z = class-passed c cs t s p in (
-      record { k = suc (y .k); cs = cs; stand = class-rest c cs t q z },
-      omega (arith, z, class-positive c),
-    )
+      pub class-stand : SomeClassesStand R E at → SomeMethodsStand R E (at + 1 + n)
+      class-stand y = with-class (y .cs) h (y .stand) λ c cs t.
+          record { k = y .k; ms = c .methods; stand = rw (class-counted c cs t v) (class-methods c cs t) }
+
+      pub class-next : {q : ℕ} → MethodsPassed R E (at + 1 + n) q
+          → SomeClassesStand R E at → SomeClassesStand R E q × (at < q)
+      class-next {q} p y = with-class (y .cs) h (y .stand) λ c cs t. let z = class-passed c cs t v p in (
+        record { k = suc (y .k); cs = cs; stand = class-rest c cs t q z },
+        omega (arith, z, class-positive c),
+      )
 
 -- what is ready stands in rows
 module _ (P : List Class) (E R C : List ℕ) where
-  each-stands : (ms : List Declaration) (k r : ℕ) → EachMethod (MethodReady P E R C) ms k r
+  pub each-stands : (ms : List Declaration) (k r : ℕ) → EachMethod (MethodReady P E R C) ms k r
       → EachMethod (λ k m r. MethodAt R E m r) ms k r
   unfolding EachMethod
   each-stands [] k r h = tt
@@ -203,22 +206,8 @@ module _ (P : List Class) (E R C : List ℕ) where
         (h .methods);
   }
 
-  each-class-stands : (cs : List Class) (k r : ℕ) → EachClass (ClassReady P E R C) cs k r
+  pub each-class-stands : (cs : List Class) (k r : ℕ) → EachClass (ClassReady P E R C) cs k r
       → EachClass (ClassAt R E) cs k r
   unfolding EachClass
   each-class-stands [] k r h = tt
   each-class-stands (c ∷ cs) k r h = (class-stands c (h .0), each-class-stands cs (suc k) _ (h .1))
-
-module _ {P : List Class} {E : List ℕ} {k : ℕ} {R T M C : List ℕ} {at place : ℕ} where
-  pub methods-stand : {ms : List Declaration} → MethodsTask P E k ms R T M C at place
-      → MethodsStand R E k ms at
-  methods-stand {ms} t =
-      record { methods = each-stands P E R C ms k at (t .methods); after = t .after; short = t .lent .short }
-
-  pub classes-stand : {cs : List Class} → ClassesTask P E k cs R T M C at place → ClassesStand R E k cs at
-  classes-stand {cs} t =
-      record {
-        classes = each-class-stands P E R C cs k at (t .classes);
-        start = t .start;
-        short = t .lent .short;
-      }

@@ -1,6 +1,6 @@
 -- Laws of the tasks of nodes: what a node's row holds, the task of its parts, and what they write together.
 -- Assumes nothing.
-use mathlib.Core.Path.{_≡_, refl, sym, ap}
+use mathlib.Core.Path.{_≡_, refl, sym, ap, _∙_}
 use mathlib.Core.Bool.{false}
 use mathlib.Core.List.{List, [], _∷_, _++_}
 use Prim.Native.Nat.{ℕ, suc, _+_, _*_, _≤_, _<_}
@@ -61,20 +61,20 @@ module _ {P : List Class} {E : List ℕ} {γ : Environment} {sh : Shape} {R T M 
     fits = omega (arith, cast-room t, q);
   }
 
-  pub cast-done : {c : ℕ} {e : Expr} {O O₁ O₂ O₃ : List ℕ} {p q p′ b : ℕ}
+  pub cast-done : {c n : ℕ} {e : Expr} {O O₁ O₂ O₃ : List ℕ} {p q p′ b : ℕ} → n ≡ getD R (at * 4 + 1) 0
       → NodeTask P E (cast c e) γ sh R T M C S at vars next place
       → Written (66 ∷ 1 ∷ 1 ∷ 0 ∷ 86 ∷ 1 ∷ 0 ∷ 0 ∷ 74 ∷ 0 ∷ 0 ∷ 0 ∷ 90 ∷ 0 ∷ 0 ∷ 0 ∷ 65 ∷ next ∷ 0 ∷ 0 ∷ []) O
       O₁ place p
       → NodeEmitted R T M C S O₁ O₂ (at + 1) vars (next + 1) p q b
-      → Written (78 ∷ 0 ∷ 0 ∷ 0 ∷ 71 ∷ 254 ∷ 0 ∷ 0 ∷ 75 ∷ (getD R (at * 4 + 1) 0 + 2) ∷ 0 ∷ 0 ∷ 71 ∷ 255 ∷ 0 ∷
+      → Written (78 ∷ 0 ∷ 0 ∷ 0 ∷ 71 ∷ 254 ∷ 0 ∷ 0 ∷ 75 ∷ (n + 2) ∷ 0 ∷ 0 ∷ 71 ∷ 255 ∷ 0 ∷
       0 ∷ 73 ∷ next ∷ 0 ∷ 0 ∷ []) O₂ O₃ q p′
       → Emitted (node-numbers (world P) (cast c e) γ sh) (size (cast c e)) O O₃ place at p′ b
   unfolding size
-  cast-done {c} {e} t h m w =
+  cast-done {c} {n} {e} k t h m w =
       let ch = cast-child t _ (h .ended) in
       let em = m .each P E e γ (sh ++ (false ∷ [])) ch in
       whole (written-then h (written-then (em .written) w))
-      (rw (t .setting .free, cast-class t) (sym (t-cast (world P) γ sh c e)))
+      (rw (t .setting .free, k ∙ cast-class t) (sym (t-cast (world P) γ sh c e)))
       (omega (arith, em .passed))
 
   -- Z, A and G

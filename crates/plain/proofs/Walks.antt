@@ -18,13 +18,12 @@ use Rattle.language.specs.Headings.{check-fields, check-parameters, check-effec
 use Rattle.language.specs.Headings.{check-classes}
 use Rattle.language.specs.Translation.{fields-free, names-free}
 use Rattle.language.specs.Encoded.{LinesAt}
-use Rattle.language.specs.Layout.{EachClass, FieldsAt}
+use Rattle.language.specs.Layout.{EachClass, FieldsAt, Run}
 use Rattle.language.proofs.Lines.{le-or-less}
-use Rattle.plain.specs.Emission.{Skipped}
 use Rattle.plain.specs.Bounds.{pass-of, ClassesStand, SomeMethodsStand, SomeClassesStand, MethodsPassed}
 use Rattle.plain.specs.Bounds.{ClassesCounted, SomeCounted, FieldsLimited, FieldsFree, NamesFree}
 use Rattle.plain.proofs.Standing.{class-positive, class-known, class-stand, class-rest, no-class}
-use Rattle.plain.proofs.Standing.{not-class, first-row, class-passed}
+use Rattle.plain.proofs.Standing.{not-class, class-run, class-counted, class-passed}
 
 -- reserved names
 pass-refuse : (n l : ℕ) → 1 ≤ l → pass-of n l ≡ refuse n l
@@ -44,28 +43,29 @@ module _ {R : List ℕ} {at count : ℕ} where
       go [] e = refl
       go (f ∷ fs) e = absurd (omega (arith, e, z))
 
-  pub free-here : (line : ℕ) → line ≡ at + 1 → count ≢ 0
-      → (getD R (at * 4 + 2) 0 ≡ 254) ⊎ (getD R (at * 4 + 2) 0 ≡ 255) → FieldsFree R at count line
+  pub free-here : {n : ℕ} (line : ℕ) → line ≡ at + 1 → count ≢ 0 → n ≡ getD R (at * 4 + 2) 0
+      → (n ≡ 254) ⊎ (n ≡ 255) → FieldsFree R at count line
   unfolding fields-free LinesAt require
-  free-here line z h n = record { each = λ fs r e. go fs r e }
+  free-here {n} line z h f d = record { each = λ fs r e. go fs r e }
     where
       go : (fs : List Field) → FieldsAt R fs at → length fs ≡ count
           → fields-free (at + 1) fs ≡ pass-of reserved-refusal line
       go [] r e = absurd (h (sym e))
-      go (f ∷ fs) r e = let y = reserved (getD R (at * 4 + 2) 0) n in
-          rw (z, pass-refuse 12 (at + 1) (omega arith), rw (r .0 .second) at y)
+      go (x ∷ fs) r e = let g : n ≡ x .name = f ∙ r .0 .second in let y = reserved n d in
+          rw (z, pass-refuse 12 (at + 1) (omega arith), rw g at y)
 
-  pub free-step : {line : ℕ} → count ≢ 0 → getD R (at * 4 + 2) 0 ≢ 254 → getD R (at * 4 + 2) 0 ≢ 255
+  pub free-step : {n line : ℕ} → count ≢ 0 → n ≡ getD R (at * 4 + 2) 0 → n ≢ 254 → n ≢ 255
       → FieldsFree R (at + 1) (count - 1) line → FieldsFree R at count line
   unfolding fields-free LinesAt require
-  free-step {line} h a b p = record { each = λ fs r e. go fs r e }
+  free-step {n} {line} h x a b p = record { each = λ fs r e. go fs r e }
     where
       go : (fs : List Field) → FieldsAt R fs at → length fs ≡ count
           → fields-free (at + 1) fs ≡ pass-of reserved-refusal line
       go [] r e = absurd (h (sym e))
       go (f ∷ fs) r e =
-          let a′ = rw (r .0 .second) at a in let b′ = rw (r .0 .second) at b in
-          rw (ne-eqb (f .name) 254 a′, ne-eqb (f .name) 255 b′) (p .each fs (r .1) (omega (arith, e)))
+          let g : n ≡ f .name = x ∙ r .0 .second in
+          rw (ne-eqb (f .name) 254 (rw g at a), ne-eqb (f .name) 255 (rw g at b))
+          (p .each fs (r .1) (omega (arith, e)))
 
 module _ {R E : List ℕ} {at : ℕ} where
   pub names-none : getD R (at * 4) 0 ≢ 67 → NamesFree R E at 0
@@ -76,13 +76,12 @@ module _ {R E : List ℕ} {at : ℕ} where
       go k [] t = refl
       go k (c ∷ cs) t = absurd (not-class c cs t h)
 
-  module _ {r n : ℕ} (s : Skipped R 70 (at + 1) r) (h : getD R (at * 4) 0 ≡ 67) (z : n ≡ r - at - 1) where
+  module _ {n : ℕ} (s : Run R 70 (at + 1) n) (h : getD R (at * 4) 0 ≡ 67) where
     own-fields : {k line : ℕ} (c : Class) (cs : List Class)
         → ClassesStand R E k (c ∷ cs) at → FieldsFree R (at + 1) n line
         → fields-free (at + 1 + 1) (c .fields) ≡ pass-of reserved-refusal line
     unfolding EachClass
-    own-fields c cs t p = let e = first-row c cs t s in
-        p .each (c .fields) (t .classes .0 .fields) (omega (arith, e, z))
+    own-fields c cs t p = p .each (c .fields) (t .classes .0 .fields) (sym (class-counted c cs t s))
 
     pub names-here : {line : ℕ} → line ≢ 0 → FieldsFree R (at + 1) n line → NamesFree R E at line
     unfolding names-free bind-checked
@@ -90,17 +89,17 @@ module _ {R E : List ℕ} {at : ℕ} where
       where
         go : (k : ℕ) (cs : List Class)
             → ClassesStand R E k cs at → names-free (at + 1) cs ≡ pass-of reserved-refusal line
-        go k [] t = absurd (no-class t h)
+        go k [] t = absurd (no-class at (t .start) h)
         go k (c ∷ cs) t = rw (own-fields c cs t p, pass-refuse 12 line (omega (arith, l)))
 
-    pub names-step : {line q m : ℕ} → m ≡ 0 → FieldsFree R (at + 1) n m → MethodsPassed R E r q
+    pub names-step : {line q m : ℕ} → m ≡ 0 → FieldsFree R (at + 1) n m → MethodsPassed R E (at + 1 + n) q
         → NamesFree R E q line → NamesFree R E at line
     unfolding names-free bind-checked
     names-step {line} {q} {m} l p u v = record { each = λ k cs t. go k cs t }
       where
         go : (k : ℕ) (cs : List Class)
             → ClassesStand R E k cs at → names-free (at + 1) cs ≡ pass-of reserved-refusal line
-        go k [] t = absurd (no-class t h)
+        go k [] t = absurd (no-class at (t .start) h)
         go k (c ∷ cs) t =
             let y = class-passed c cs t s u in
             let w : q + 1 ≡ at + 1 + class-lines c = omega (arith, y) in
@@ -262,7 +261,7 @@ module _ {R E T : List ℕ} {at : ℕ} where
     where
       go : (cs : List Class)
           → ClassesCounted (x .P) R E T (x .k) cs at → getD R (at * 4 + 2) 0 * 576 + 515 < length T
-      go [] t = absurd (no-class (t .stand) h)
+      go [] t = absurd (no-class at (t .stand .start) h)
       go (c ∷ cs) t = let y = counted-super c cs t in omega (arith, y .0, y .1, t .long)
 
   pub limited-none : getD R (at * 4) 0 ≢ 67 → FieldsLimited R E T at 0
@@ -274,20 +273,25 @@ module _ {R E T : List ℕ} {at : ℕ} where
       go P k [] t = refl
       go P k (c ∷ cs) t = absurd (not-class c cs (t .stand) h)
 
-  module _ {r room : ℕ} (s : Skipped R 70 (at + 1) r) (h : getD R (at * 4) 0 ≡ 67)
-      (z : room ≡ 16 - getD T (getD R (at * 4 + 2) 0 * 576 + 515) 0) where
-    room-is : {P : List Class} {k : ℕ} (c : Class) (cs : List Class) → ClassesCounted P R E T k (c ∷ cs) at
-        → (room ≡ 16 - length (world P .fields (c .super))) × (r ≡ at + 1 + length (c .fields))
-    room-is c cs t = let x = counted-super c cs t in (z ∙ rw (x .0, x .2), first-row c cs (t .stand) s)
+  pub counted-run : SomeCounted R E T at → getD R (at * 4) 0 ≡ 67 → (n : ℕ) × Run R 70 (at + 1) n
+  counted-run x h = class-run h (stands x)
 
-    pub limited-here : (line : ℕ) → line ≡ at + 2 + room → room < r - at - 1 → FieldsLimited R E T at line
+  module _ {n above inherited room : ℕ} (s : Run R 70 (at + 1) n) (h : getD R (at * 4) 0 ≡ 67)
+      (e : above ≡ getD R (at * 4 + 2) 0) (f : inherited ≡ getD T (above * 576 + 515) 0)
+      (z : room ≡ 16 - inherited) where
+    room-is : {P : List Class} {k : ℕ} (c : Class) (cs : List Class) → ClassesCounted P R E T k (c ∷ cs) at
+        → (room ≡ 16 - length (world P .fields (c .super))) × (n ≡ length (c .fields))
+    room-is c cs t = let x = counted-super c cs t in
+        (z ∙ rw (f, e, x .0, x .2), class-counted c cs (t .stand) s)
+
+    pub limited-here : (line : ℕ) → line ≡ at + 2 + room → room < n → FieldsLimited R E T at line
     unfolding check-classes
     limited-here line y l = record { each = λ P k cs t. go P k cs t }
       where
         go : (P : List Class) (k : ℕ) (cs : List Class)
             → ClassesCounted P R E T k cs at → check-classes of-translator P k (at + 1) cs
             ≡ pass-of limit-refusal line
-        go P k [] t = absurd (no-class (t .stand) h)
+        go P k [] t = absurd (no-class at (t .stand .start) h)
         go P k (c ∷ cs) t =
             let x = room-is c cs t in let q = counted-class c cs t in
             let w : at + 1 + 1 + (16 - length (world P .fields (c .super))) ≡ line = omega (arith, y, x .0) in
@@ -296,7 +300,7 @@ module _ {R E T : List ℕ} {at : ℕ} where
             stopped _ _ (class-over P k (at + 1) c (q .0) (q .1) l′)
             ∙ (ap (λ (n : ℕ). refuse limit-refusal n) w ∙ sym (pass-refuse 2 line (omega (arith, y))))
 
-    pub limited-step : {q line : ℕ} → r - at - 1 ≤ room → MethodsPassed R E r q → FieldsLimited R E T q line
+    pub limited-step : {q line : ℕ} → n ≤ room → MethodsPassed R E (at + 1 + n) q → FieldsLimited R E T q line
         → FieldsLimited R E T at line
     unfolding check-classes
     limited-step {q} {line} l u v = record { each = λ P k cs t. go P k cs t }
@@ -304,7 +308,7 @@ module _ {R E T : List ℕ} {at : ℕ} where
         go : (P : List Class) (k : ℕ) (cs : List Class)
             → ClassesCounted P R E T k cs at → check-classes of-translator P k (at + 1) cs
             ≡ pass-of limit-refusal line
-        go P k [] t = absurd (no-class (t .stand) h)
+        go P k [] t = absurd (no-class at (t .stand .start) h)
         go P k (c ∷ cs) t =
             let x = room-is c cs t in let p = counted-class c cs t in let y =
             class-passed c cs (t .stand) s u in
@@ -314,14 +318,15 @@ module _ {R E T : List ℕ} {at : ℕ} where
             bound _ _ (class-few P k (at + 1) c (p .0) (p .1) l′)
             (rw (← w) (v .each P (suc k) cs (counted-rest c cs t q y)))
 
-    pub counted-stand : SomeCounted R E T at → SomeMethodsStand R E r
-    counted-stand x = class-stand s h (stands x)
+    pub counted-stand : SomeCounted R E T at → SomeMethodsStand R E (at + 1 + n)
+    counted-stand x = class-stand h s (stands x)
 
-    pub counted-next : {q : ℕ} → MethodsPassed R E r q → SomeCounted R E T at → SomeCounted R E T q × (at < q)
+    pub counted-next : {q : ℕ} → MethodsPassed R E (at + 1 + n) q
+        → SomeCounted R E T at → SomeCounted R E T q × (at < q)
     counted-next {q} p x = go (x .cs) (x .counted)
       where
         go : (cs : List Class) → ClassesCounted (x .P) R E T (x .k) cs at → SomeCounted R E T q × (at < q)
-        go [] t = absurd (no-class (t .stand) h)
+        go [] t = absurd (no-class at (t .stand .start) h)
         go (c ∷ cs) t = let y = class-passed c cs (t .stand) s p in (
           record { P = x .P; k = suc (x .k); cs = cs; counted = counted-rest c cs t q y },
           omega (arith, y, class-positive c),

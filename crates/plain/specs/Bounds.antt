@@ -23,6 +23,7 @@ use Rattle.language.specs.ClassTables.{ClassTables, class-width, count-place}
 use Rattle.language.specs.MethodTables.{MethodTables}
 use Rattle.language.specs.Layout.{ClassEnd, EachMethod, EachClass, FieldsAt, MethodAt, ClassAt, ProgramAt}
 use Rattle.language.specs.Layout.{LooksUpProgram}
+use Rattle.language.specs.WellFormed.{Each, MethodInForm, ClassInForm}
 use Rattle.form.specs.declared.Formed.{Formed}
 use Rattle.form.specs.declared.Formed.the-variants as formed
 use Rattle.form.specs.declared.Formed.the-variants.{InForm}
@@ -34,15 +35,17 @@ abbrev pub pass-of : ℕ → ℕ → Pass
 pass-of n zero = passed
 pass-of n (suc l) = refuse n (suc l)
 
--- Methods that stand in rows from `at` on, and classes; k is the first one's number.
+-- Methods in form that stand in rows from `at` on, and classes; k is the first one's number.
 pub record MethodsStand (R E : List ℕ) (k : ℕ) (ms : List Declaration) (at : ℕ) : Type 0 where
   pub methods : EachMethod (λ k m r. MethodAt R E m r) ms k at
   pub after : ClassEnd R (at + methods-lines ms)
+  pub in-form : Each (MethodInForm of-check) ms
   pub short : length R ≤ numbers-a-row * of-check .rows
 
 pub record ClassesStand (R E : List ℕ) (k : ℕ) (cs : List Class) (at : ℕ) : Type 0 where
   pub classes : EachClass (ClassAt R E) cs k at
   pub start : RowAt R (at + classes-lines cs) S-start 0 0
+  pub in-form : Each (ClassInForm of-check) cs
   pub short : length R ≤ numbers-a-row * of-check .rows
 
 pub record SomeMethodsStand (R E : List ℕ) (at : ℕ) : Type 0 where

@@ -2,7 +2,6 @@
 -- what stands past its end is counted and not written.
 use mathlib.Core.Path.{_≡_}
 use Prim.Native.Nat.{ℕ, _+_, _*_, _≤_, _<_}
-use mathlib.Core.Logic.{_≢_}
 use mathlib.Core.List.{List}
 use lib.ListN.{length, getD}
 use lib.Seq.{sets}
@@ -216,12 +215,6 @@ pub record MethodEmitted (R T M C O O′ : List ℕ) (at body place count place�
   pub each : (P : List Class) (E : List ℕ) (owner : ℕ) (m : Declaration)
       → MethodTask P E owner m R T M C at body place → length (m .parameters) ≡ count
       → Emitted (method-numbers (world P) owner m) (size (m .body)) O O′ place body place′ at′
-
--- The row after those of a letter from `at` on.
-pub record Skipped (R : List ℕ) (letter at r : ℕ) : Type 0 where
-  pub from : at ≤ r
-  pub each : (i : ℕ) → at ≤ i → i < r → getD R (i * 4) 0 ≡ letter
-  pub other : r * 4 + 3 < length R → getD R (r * 4) 0 ≢ letter
 
 -- Rows hold so many fields, and what is written for these.
 pub record SomeFieldLines (R : List ℕ) (at count : ℕ) : Type 0 where

@@ -26,6 +26,7 @@ use Rattle.language.specs.LookupClasses.{LooksUp}
 use Rattle.language.specs.Layout.{EachMethod, EachClass, ClassEnd, FieldsAt, MethodAt, ProgramAt}
 use Rattle.language.specs.Layout.{LooksUpProgram}
 use Rattle.language.specs.Layout.{body-row, methods-from-row}
+use Rattle.language.specs.WellFormed.{MethodInForm}
 use Rattle.theory.specs.PlainForm.{variable-count}
 use Rattle.plain.specs.Numbers.{most-numbers, node-numbers, Proper, ProperAll, Nodes, methods-numbers}
 use Rattle.plain.specs.Numbers.{class-numbers, classes-numbers, program-numbers, none, also}
@@ -156,13 +157,13 @@ pub record MethodTask (P : List Class) (E : List ℕ) (owner : ℕ) (m : Declara
   pub task : BodyTask P E (m .body) (method-environment owner (m .parameters)) (m .parameters) R T M C body
       (place + 4 + 4 * length (m .parameters))
 
--- Class k's method whose M line is row r: where it stands, its lookup classes, what typing has shown of its
--- body.
+-- Class k's method whose M line is row r: where it stands, its form, its lookup classes, what typing has shown of
+-- its body.
 pub record MethodReady (P : List Class) (E R C : List ℕ) (k : ℕ) (m : Declaration) (r : ℕ) : Type 0 where
   pub rows : MethodAt R E m r
+  pub in-form : MethodInForm of-check m
   pub looks : LooksUp (world P) C (m .body) (method-environment k (m .parameters)) (body-row r m)
   pub ready : Ready P (m .body) (method-environment k (m .parameters)) (1 + length (m .parameters))
-  pub scope : 1 + length (m .parameters) ≤ of-translator .slots
 
 -- Class k, whose C line is row r.
 pub record ClassReady (P : List Class) (E R C : List ℕ) (k : ℕ) (c : Class) (r : ℕ) : Type 0 where

@@ -4,12 +4,12 @@
 
 ghost use mathlib.Core.Path.{_≡_};
 ghost use Prim.Native.Nat.{_+_, _-_, _*_, _≤_, _<_};
-ghost use lib.ListN.{length, set, replicate};
+ghost use lib.ListN.{length, getD, set, replicate};
 ghost use Rattle.plain.specs.Numbers.{most-numbers, plain-number, read-lines, slot-lines, new-lines};
 ghost use Rattle.plain.specs.Emission.{Written, SomeTypes, TypesWritten, SomeFields, SomeCopies};
 ghost use Rattle.plain.specs.Emission.{CopiesWritten, RenewWritten, SomeChange, ChangeWritten};
 ghost use Rattle.plain.specs.Emission.{Extended, SomeNode, SomeCast, SomeSet, SomeCall, SomeBlock};
-ghost use Rattle.plain.specs.Emission.{SomeNodes, SomeArguments, Skipped, SomeFieldLines};
+ghost use Rattle.plain.specs.Emission.{SomeNodes, SomeArguments, SomeFieldLines};
 ghost use Rattle.plain.specs.Emission.{FieldsWritten, SomeMethods, MethodsEmitted, SomeClass};
 ghost use Rattle.plain.specs.Emission.{ClassEmitted, SomeClasses, ClassesEmitted, SomeProgram};
 ghost use Rattle.plain.specs.Emission.{ProgramWritten, SomeBody, BodyEmitted, SomeMethod};
@@ -59,6 +59,10 @@ use language::SET;
 use language::SLOT;
 use language::START;
 use language::TRUE;
+use language::class_entry;
+use language::first;
+use language::letter_at;
+use language::second;
 
 // How many rows the translator's input may have, and how many fields a class of it.
 const ROW_LIMIT: usize = 680;
@@ -107,6 +111,14 @@ fn plain_type(number: u32) -> u32
     if number == BOOL { BOOL } else { IDENTITY }
 }
 
+// The name of the field whose F line is a row.
+fn field_name(rows: &[u32], row: usize) -> u32
+    requires { ⌜ row * 4 + 2 < length (now rows) ⌝ }
+    ensures { λ r. ⌜ r ≡ getD (now (rows .entry)) (row * 4 + 2) 0 ⌝ }
+{
+    second(rows, row)
+}
+
 // Lines of a letter, each with the plain type of one of the rows from `at` on.
 fn put_types(
     rows: &[u32],
@@ -124,7 +136,7 @@ fn put_types(
     if count == 0 {
         return place;
     }
-    let t = plain_type(rows[at * 4 + 1]);
+    let t = plain_type(first(rows, at));
     let line = [letter, t, 0, 0];
     let p = put(out, place, &line);
     put_types(rows, out, p, at + 1, count - 1, letter)
@@ -162,7 +174,7 @@ fn put_copies(
         return place;
     }
     let row = tables[from] as usize;
-    let name = rows[row * 4 + 2];
+    let name = field_name(rows, row);
     let lines = [
         SET,
         name,
@@ -289,7 +301,7 @@ fn put_renew(
     place: usize,
     next: u32,
     target: u32,
-    root: usize,
+    root: u32,
 ) -> usize
     requires { ⌜ SomeCopies (now rows) (now tables) (place + 56) root ⌝ }
     requires { ⌜ (next + 2 < most-numbers) × (target < 65536) × (root < 65536) ⌝ }
@@ -298,11 +310,11 @@ fn put_renew(
 {
     let i = next;
     let o = next + 1;
-    let count = tables[root * CLASS_WIDTH + COUNT_PLACE];
+    let count = class_entry(tables, root, COUNT_PLACE);
     let head = [
         BLOCK,
         0,
-        count as u32 + 5,
+        count + 5,
         0,
         ASSIGN,
         o,
@@ -317,7 +329,7 @@ fn put_renew(
         0,
         0,
         CAST,
-        root as u32 + 2,
+        root + 2,
         0,
         0,
         GET,
@@ -359,7 +371,7 @@ fn put_renew(
         tables,
         out,
         p,
-        root * CLASS_WIDTH + ROWS_PLACE,
+        root as usize * CLASS_WIDTH + ROWS_PLACE,
         count as usize,
         o,
     );
@@ -382,9 +394,9 @@ fn put_change(
     ensures { λ r. ⌜ ChangeWritten (now (rows .entry)) (now (tables .entry)) slot next target
         (now (out .entry)) (now (out .exit)) place r ⌝ }
 {
-    let root = tables[target as usize * CLASS_WIDTH + ROOT_PLACE] as usize;
+    let root = class_entry(tables, target, ROOT_PLACE);
     let i = next;
-    let r = root as u32 + 2;
+    let r = root + 2;
     if slot == 0 {
         let head = [
             BLOCK,
@@ -483,7 +495,8 @@ fn emit_node(
         (now (lookups .entry)) (now (slots .entry)) (now (out .entry)) (now (out .exit)) at (scope .variables)
         (scope .free) place (r .place) (r .at) ⌝ }
 {
-    let letter = rows[at * 4];
+    let letter = letter_at(rows, at);
+    let number = first(rows, at);
     match letter {
         TRUE | FALSE | NULL => {
             let line = [letter, 0, 0, 0];
@@ -494,7 +507,7 @@ fn emit_node(
             }
         }
         SLOT => {
-            let slot = slots[rows[at * 4 + 1] as usize];
+            let slot = slots[number as usize];
             let p = put_slot(out, place, slot);
             Next {
                 place: p,
@@ -502,15 +515,15 @@ fn emit_node(
             }
         }
         NEW => {
-            let p = put_new(out, place, scope.free, rows[at * 4 + 1]);
+            let p = put_new(out, place, scope.free, number);
             Next {
                 place: p,
                 at: at + 1,
             }
         }
         CHANGE => {
-            let slot = slots[rows[at * 4 + 1] as usize];
-            let p = put_change(rows, tables, out, place, slot, scope.free, rows[at * 4 + 2]);
+            let slot = slots[number as usize];
+            let p = put_change(rows, tables, out, place, slot, scope.free, second(rows, at));
             Next {
                 place: p,
                 at: at + 1,
@@ -522,14 +535,14 @@ fn emit_node(
             emit_node(rows, tables, methods, lookups, slots, out, p, at + 1, scope)
         }
         ASSIGN => {
-            let line = [ASSIGN, slots[rows[at * 4 + 1] as usize], 0, 0];
+            let line = [ASSIGN, slots[number as usize], 0, 0];
             let p = put(out, place, &line);
             emit_node(rows, tables, methods, lookups, slots, out, p, at + 1, scope)
         }
         GET => {
             let lines = [
                 GET,
-                rows[at * 4 + 1],
+                number,
                 0,
                 0,
                 CAST,
@@ -624,7 +637,7 @@ fn emit_cast(
         0,
         0,
         CAST,
-        rows[at * 4 + 1] + 2,
+        first(rows, at) + 2,
         0,
         0,
         GET,
@@ -658,10 +671,10 @@ fn emit_set(
         (now (lookups .entry)) (now (slots .entry)) (now (out .entry)) (now (out .exit)) at (scope .variables)
         (scope .free) place (r .place) (r .at) ⌝ }
 {
-    let name = rows[at * 4 + 1];
-    let class = lookups[at] as usize;
-    let field = tables[class * CLASS_WIDTH + name as usize] as usize;
-    let row = tables[class * CLASS_WIDTH + ROWS_BEFORE + field] as usize;
+    let name = first(rows, at);
+    let class = lookups[at] as u32;
+    let field = class_entry(tables, class, name as usize);
+    let row = class_entry(tables, class, ROWS_BEFORE + field as usize);
     let object = scope.free;
     let head = [
         BLOCK,
@@ -673,7 +686,7 @@ fn emit_set(
         0,
         0,
         LOCAL,
-        plain_type(rows[row * 4 + 1]),
+        plain_type(first(rows, row as usize)),
         0,
         0,
     ];
@@ -701,7 +714,7 @@ fn emit_set(
         0,
         0,
         CAST,
-        class as u32 + 2,
+        class + 2,
         0,
         0,
         GET,
@@ -739,18 +752,19 @@ fn emit_call(
         (now (lookups .entry)) (now (slots .entry)) (now (out .entry)) (now (out .exit)) at (scope .variables)
         (scope .free) place (r .place) (r .at) ⌝ }
 {
-    let name = rows[at * 4 + 1];
-    let count = rows[at * 4 + 2];
-    let class = lookups[at] as usize;
-    let entry = tables[class * CLASS_WIDTH + METHODS_FROM + name as usize] as usize;
+    let name = first(rows, at);
+    let count = second(rows, at);
+    let class = lookups[at] as u32;
+    let entry = class_entry(tables, class, METHODS_FROM + name as usize) as usize;
     let row = methods[(entry - 1) * METHOD_WIDTH] as usize;
     let object = scope.free;
-    let head = [BLOCK, count + 1, count + 2, 0, LOCAL, IDENTITY, 0, 0];
+    let nodes = count + 1;
+    let head = [BLOCK, nodes, count + 2, 0, LOCAL, IDENTITY, 0, 0];
     let p = put(out, place, &head);
     let p = put_types(rows, out, p, row + 1, count as usize, LOCAL);
     let inner = Scope {
         variables: scope.variables,
-        free: object + 1 + count,
+        free: object + nodes,
     };
     let r = emit_arguments(
         rows,
@@ -762,7 +776,7 @@ fn emit_call(
         p,
         at + 1,
         inner,
-        count + 1,
+        nodes,
         object,
     );
     let tail = [
@@ -771,7 +785,7 @@ fn emit_call(
         count,
         0,
         CAST,
-        class as u32 + 2,
+        class + 2,
         0,
         0,
         GET,
@@ -806,8 +820,8 @@ fn emit_block(
         (now (lookups .entry)) (now (slots .entry)) (now (out .entry)) (now (out .exit)) at (scope .variables)
         (scope .free) place (r .place) (r .at) ⌝ }
 {
-    let locals = rows[at * 4 + 1];
-    let count = rows[at * 4 + 2];
+    let locals = first(rows, at);
+    let count = second(rows, at);
     let head = [BLOCK, locals, count, 0];
     let p = put(out, place, &head);
     let p = put_types(rows, out, p, at + 1, locals as usize, LOCAL);
@@ -914,20 +928,6 @@ fn emit_arguments(
     )
 }
 
-// The row after those of a letter from `at` on.
-fn skip(rows: &[u32], at: usize, letter: u32) -> usize
-    ensures { λ r. ⌜ Skipped (now (rows .entry)) letter at r ⌝ }
-{
-    let mut r = at;
-    while r < rows.len() / 4 {
-        if rows[r * 4] != letter {
-            return r;
-        }
-        r += 1;
-    }
-    r
-}
-
 // The slots of a body: `this`, then its parameters.
 fn first_slots(count: usize) -> [u32; 32]
     requires { ⌜ 1 + count ≤ of-translator .slots ⌝ }
@@ -990,8 +990,8 @@ fn emit_method(
     ensures { λ r. ⌜ MethodEmitted (now (rows .entry)) (now (tables .entry)) (now (methods .entry))
         (now (lookups .entry)) (now (out .entry)) (now (out .exit)) at body place count (r .place) (r .at) ⌝ }
 {
-    let t = plain_type(rows[at * 4 + 1]);
-    let head = [METHOD, t, rows[at * 4 + 2], 0];
+    let t = plain_type(first(rows, at));
+    let head = [METHOD, t, second(rows, at), 0];
     let p = put(out, place, &head);
     let q = put_types(rows, out, p, at + 1, count, PARAMETER);
     emit_body(rows, tables, methods, lookups, out, q, body, count)
@@ -1007,8 +1007,8 @@ fn put_fields(rows: &[u32], out: &mut [u32], place: usize, at: usize, count: usi
     if count == 0 {
         return place;
     }
-    let t = plain_type(rows[at * 4 + 1]);
-    let line = [FIELD, t, rows[at * 4 + 2], 0];
+    let t = plain_type(first(rows, at));
+    let line = [FIELD, t, field_name(rows, at), 0];
     let p = put(out, place, &line);
     put_fields(rows, out, p, at + 1, count - 1)
 }
@@ -1027,14 +1027,16 @@ fn emit_methods(
     ensures { λ r. ⌜ MethodsEmitted (now (rows .entry)) (now (tables .entry)) (now (methods .entry))
         (now (lookups .entry)) (now (out .entry)) (now (out .exit)) at place (r .place) (r .at) ⌝ }
 {
-    if rows[at * 4] != METHOD {
+    if letter_at(rows, at) != METHOD {
         return Next {
             place: place,
             at: at,
         };
     }
-    let x = skip(rows, at + 1, PARAMETER);
-    let body = skip(rows, x, EFFECT);
+    let parameters = at + 1;
+    let p = layout::count_rows(rows, parameters, PARAMETER);
+    let effects = parameters + p;
+    let x = layout::count_rows(rows, effects, EFFECT);
     let n = emit_method(
         rows,
         tables,
@@ -1043,8 +1045,8 @@ fn emit_methods(
         out,
         place,
         at,
-        x - at - 1,
-        body,
+        p,
+        effects + x,
     );
     emit_methods(rows, tables, methods, lookups, out, n.place, n.at)
 }
@@ -1063,11 +1065,12 @@ fn emit_class(
     ensures { λ r. ⌜ ClassEmitted (now (rows .entry)) (now (tables .entry)) (now (methods .entry))
         (now (lookups .entry)) (now (out .entry)) (now (out .exit)) at place (r .place) (r .at) ⌝ }
 {
-    let head = [CLASS, 0, rows[at * 4 + 2] + 2, 0];
+    let head = [CLASS, 0, second(rows, at) + 2, 0];
     let p = put(out, place, &head);
-    let first = skip(rows, at + 1, FIELD);
-    let q = put_fields(rows, out, p, at + 1, first - at - 1);
-    emit_methods(rows, tables, methods, lookups, out, q, first)
+    let fields = at + 1;
+    let n = layout::count_rows(rows, fields, FIELD);
+    let q = put_fields(rows, out, p, fields, n);
+    emit_methods(rows, tables, methods, lookups, out, q, fields + n)
 }
 
 // The classes from row `at` on, as long as C lines come.
@@ -1084,7 +1087,7 @@ fn emit_classes(
     ensures { λ r. ⌜ ClassesEmitted (now (rows .entry)) (now (tables .entry)) (now (methods .entry))
         (now (lookups .entry)) (now (out .entry)) (now (out .exit)) at place (r .place) (r .at) ⌝ }
 {
-    if rows[at * 4] != CLASS {
+    if letter_at(rows, at) != CLASS {
         return Next {
             place: place,
             at: at,
@@ -1137,12 +1140,10 @@ fn after_methods(rows: &[u32], ends: &[u16], at: usize) -> usize
     requires { ⌜ SomeMethodsStand (now rows) (now ends) at ⌝ }
     ensures { λ r. ⌜ MethodsPassed (now (rows .entry)) (now (ends .entry)) at r ⌝ }
 {
-    if rows[at * 4] != METHOD {
+    if letter_at(rows, at) != METHOD {
         return at;
     }
-    let x = skip(rows, at + 1, PARAMETER);
-    let body = skip(rows, x, EFFECT);
-    let next = ends[body] as usize;
+    let next = layout::skip_method(rows, ends, at);
     after_methods(rows, ends, next)
 }
 
@@ -1161,16 +1162,17 @@ fn over_fields(rows: &[u32], ends: &[u16], tables: &[u16], at: usize) -> u32
     requires { ⌜ SomeCounted (now rows) (now ends) (now tables) at ⌝ }
     ensures { λ r. ⌜ FieldsLimited (now (rows .entry)) (now (ends .entry)) (now (tables .entry)) at r ⌝ }
 {
-    if rows[at * 4] != CLASS {
+    if letter_at(rows, at) != CLASS {
         return 0;
     }
-    let above = rows[at * 4 + 2] as usize;
-    let room = field_room(tables[above * CLASS_WIDTH + COUNT_PLACE] as usize);
-    let first = skip(rows, at + 1, FIELD);
-    if room < first - at - 1 {
-        return (at + 2 + room) as u32;
+    let above = second(rows, at);
+    let room = field_room(class_entry(tables, above, COUNT_PLACE) as usize);
+    let fields = at + 1;
+    let n = layout::count_rows(rows, fields, FIELD);
+    if room < n {
+        return (fields + room) as u32 + 1;
     }
-    let next = after_methods(rows, ends, first);
+    let next = after_methods(rows, ends, fields + n);
     over_fields(rows, ends, tables, next)
 }
 
@@ -1182,7 +1184,7 @@ fn reserved_field(rows: &[u32], at: usize, count: usize) -> u32
     if count == 0 {
         return 0;
     }
-    let name = rows[at * 4 + 2];
+    let name = field_name(rows, at);
     if name == ID {
         return at as u32 + 1;
     }
@@ -1197,15 +1199,16 @@ fn reserved_name(rows: &[u32], ends: &[u16], at: usize) -> u32
     requires { ⌜ SomeClassesStand (now rows) (now ends) at ⌝ }
     ensures { λ r. ⌜ NamesFree (now (rows .entry)) (now (ends .entry)) at r ⌝ }
 {
-    if rows[at * 4] != CLASS {
+    if letter_at(rows, at) != CLASS {
         return 0;
     }
-    let first = skip(rows, at + 1, FIELD);
-    let line = reserved_field(rows, at + 1, first - at - 1);
+    let fields = at + 1;
+    let n = layout::count_rows(rows, fields, FIELD);
+    let line = reserved_field(rows, fields, n);
     if line != 0 {
         return line;
     }
-    let next = after_methods(rows, ends, first);
+    let next = after_methods(rows, ends, fields + n);
     reserved_name(rows, ends, next)
 }
 

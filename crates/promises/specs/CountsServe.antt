@@ -10,7 +10,7 @@ use lib.Seq.{getD-drop}
 use lib.Dec.{eqb, leb, ltb}
 use borrow.Author.Tests.{leb-true, ltb-true, eqb-false, le-leb, lt-ltb, ne-eqb}
 use native.Mathlib.Omega.{arith}
-use Rattle.language.specs.Limits.{object-class, numbers-an-object}
+use Rattle.language.specs.Limits.{object-class, object-width}
 use Rattle.language.specs.Lists.{nth, nth-lt, Never, inj, choice}
 use Rattle.language.specs.Results.{Checked, accept, refuse}
 use Rattle.language.specs.Tree.{Class, Program}
@@ -28,18 +28,18 @@ use Rattle.promises.specs.Labels.{ended-in, IsDeclared, Serves}
 pub classes-length : (n : ℕ) (store : List ℕ) → length (classes-in n store) ≡ n
 unfolding classes-in
 classes-length zero store = refl
-classes-length (suc n) store = ap suc (classes-length n (drop numbers-an-object store))
+classes-length (suc n) store = ap suc (classes-length n (drop object-width store))
 
 pub class-ended-in : (n : ℕ) (store : List ℕ) (j : ℕ) → j < n
     → nth (classes-in n store) j ≡ some (ended-in store j)
 unfolding classes-in nth
 class-ended-in zero store j l = absurd (omega (arith, l))
 class-ended-in (suc n) store zero l = refl
-class-ended-in (suc n) store (suc j) l = class-ended-in n (drop numbers-an-object store) j (omega (arith, l))
-    ∙ ap some (getD-drop numbers-an-object store (numbers-an-object * j) 0
+class-ended-in (suc n) store (suc j) l = class-ended-in n (drop object-width store) j (omega (arith, l))
+    ∙ ap some (getD-drop object-width store (object-width * j) 0
     ∙ ap (λ (k : ℕ). getD store k 0) at)
   where
-    at : numbers-an-object + numbers-an-object * j ≡ numbers-an-object * suc j
+    at : object-width + object-width * j ≡ object-width * suc j
     at = omega arith
 
 -- Two tests that hold hold together.
@@ -119,7 +119,7 @@ counted rows store n printed spoiled s =
     subst (λ (c : ℕ). c ≤ length (p .classes)) e
     (within-count (p .classes) (ended-in store j) (s .known j l))) in
     rw (
-      le-leb n (length store / numbers-an-object) (omega (arith, s .held)),
+      le-leb n (length store / object-width) (omega (arith, s .held)),
       check-accepts rows p .1 (s .rows-of-it),
       serves,
     )
@@ -133,7 +133,7 @@ counted-serves rows store n printed spoiled c e =
   where
     go : (r : Checked Program) → check rows ≡ r
         → labels-checked r printed spoiled (classes-in n store) ≡ some c
-        → n ≤ length store / numbers-an-object → Serves rows store n printed spoiled
+        → n ≤ length store / object-width → Serves rows store n printed spoiled
     go (refuse m l) q e h = absurd (Never e)
     go (accept p) q e h =
         let W = world (p .classes) in

@@ -10,7 +10,7 @@ use lib.Seq.{getD-drop, drop-drop}
 use lib.Dec.{eqb}
 use borrow.Author.Tests.{le-leb, lt-ltb}
 use native.Mathlib.Omega.{arith}
-use Rattle.language.specs.Limits.{numbers-an-object, identity-class, fickle-class}
+use Rattle.language.specs.Limits.{object-width, identity-class, fickle-class}
 use Rattle.language.specs.Lists.{nth, nth-lt, inj, choice, bind-option, map-option, All2, a-nil, a-cons}
 use Rattle.language.specs.World.{World}
 use Rattle.language.specs.Program.{world}
@@ -42,17 +42,17 @@ past-both a b c store e = drop-drop b a store ∙ ap (λ (k : ℕ). drop k store
 objects-read : (W : World) (n : ℕ) (store : List ℕ) → length (heap-of-numbers W n store) ≡ n
 unfolding heap-of-numbers
 objects-read W zero store = refl
-objects-read W (suc n) store = ap suc (objects-read W n (drop numbers-an-object store))
+objects-read W (suc n) store = ap suc (objects-read W n (drop object-width store))
 
 object-read : (W : World) (n : ℕ) (store : List ℕ) (m : ℕ) → m < n
-    → nth (heap-of-numbers W n store) m ≡ some (first-object W (drop (numbers-an-object * m) store))
+    → nth (heap-of-numbers W n store) m ≡ some (first-object W (drop (object-width * m) store))
 unfolding heap-of-numbers nth
 object-read W zero store m l = absurd (omega (arith, l))
 object-read W (suc n) store zero l = refl
 object-read W (suc n) store (suc m) l =
-    object-read W n (drop numbers-an-object store) m (omega (arith, l))
+    object-read W n (drop object-width store) m (omega (arith, l))
     ∙ ap (λ (rest : List ℕ). some (first-object W rest))
-    (past-both numbers-an-object (numbers-an-object * m) (numbers-an-object * suc m) store (omega arith))
+    (past-both object-width (object-width * m) (object-width * suc m) store (omega arith))
 
 -- The number of a value that is object m.
 object-number : (v m : ℕ) → value-of-number v ≡ object m → v ≡ 3 + m
@@ -83,15 +83,15 @@ module _ (W : World) (n : ℕ) (store : List ℕ) where
 
   -- An object among them is read from its own numbers, and its class is the first of them.
   read-as : (i : ℕ) (o : Object) → nth objects i ≡ some o
-      → (i < n) × (first-object W (drop (numbers-an-object * i) store) ≡ o)
+      → (i < n) × (first-object W (drop (object-width * i) store) ≡ o)
   read-as i o e =
       let l : i < n = omega (arith, nth-lt objects i o e, objects-read W n store) in
       (l, inj (sym (object-read W n store i l) ∙ e))
 
   class-there : (i : ℕ) (o : Object) → nth objects i ≡ some o
       → ended-in store i ≡ o .class-of
-  class-there i o e = let at : numbers-an-object * i ≡ numbers-an-object * i + 0 = omega arith in
-      ap (λ (k : ℕ). getD store k 0) at ∙ (sym (getD-drop (numbers-an-object * i) store 0 0)
+  class-there i o e = let at : object-width * i ≡ object-width * i + 0 = omega arith in
+      ap (λ (k : ℕ). getD store k 0) at ∙ (sym (getD-drop (object-width * i) store 0 0)
       ∙ ap (λ (o : Object). o .class-of) (read-as i o e .1))
 
   -- Where object m is an implementor of class c, that class is found from its value, 3 + m.
@@ -109,9 +109,9 @@ module _ (W : World) (n : ℕ) (store : List ℕ) where
 
   -- So it is from the first field of an Identity, whose implementor it is.
   finds-implementor : (i c : ℕ) → Implements objects i c
-      → implemented n store (getD (drop (numbers-an-object * i) store) 1 0) ≡ some c
+      → implemented n store (getD (drop (object-width * i) store) 1 0) ≡ some c
   finds-implementor i c x =
-      let rest = drop (numbers-an-object * i) store in
+      let rest = drop (object-width * i) store in
       let imp : map value-of-number (take (length (W .fields (getD rest 0 0))) (drop 1 rest))
       ≡ object (x .m) ∷ [] =
       ap (λ (o : Object). o .fields) (read-as i (identity-of (x .m)) (x .identity) .1) in
@@ -124,8 +124,8 @@ module _ (W : World) (n : ℕ) (store : List ℕ) where
   -- The Identities among the objects from the i-th on give the classes of their implementors.
   walk : (k i : ℕ) → (cs : List ℕ)
       → All2 (Implements objects)
-      (identities i (heap-of-numbers W k (drop (numbers-an-object * i) store))) cs
-      → through-next n store k (drop (numbers-an-object * i) store) ≡ some cs
+      (identities i (heap-of-numbers W k (drop (object-width * i) store))) cs
+      → through-next n store k (drop (object-width * i) store) ≡ some cs
   unfolding heap-of-numbers identities through-next
   walk zero i cs a = none-left a
     where
@@ -133,12 +133,12 @@ module _ (W : World) (n : ℕ) (store : List ℕ) where
           → _≡_ {A = Option (List ℕ)} (some []) (some cs)
       none-left a-nil = refl
   walk (suc k) i cs a =
-      let rest = drop (numbers-an-object * i) store in
-      let next : drop numbers-an-object rest ≡ drop (numbers-an-object * suc i) store =
-      past-both (numbers-an-object * i) numbers-an-object (numbers-an-object * suc i) store (omega arith) in
+      let rest = drop (object-width * i) store in
+      let next : drop object-width rest ≡ drop (object-width * suc i) store =
+      past-both (object-width * i) object-width (object-width * suc i) store (omega arith) in
       let ih : (cs : List ℕ) → All2 (Implements objects)
-      (identities (suc i) (heap-of-numbers W k (drop numbers-an-object rest))) cs
-      → through-next n store k (drop numbers-an-object rest) ≡ some cs =
+      (identities (suc i) (heap-of-numbers W k (drop object-width rest))) cs
+      → through-next n store k (drop object-width rest) ≡ some cs =
       λ cs a. rw next (walk k (suc i) cs (rw next at a)) in
       go (eqb (getD rest 0 0) identity-class) a ih
     where
@@ -146,7 +146,7 @@ module _ (W : World) (n : ℕ) (store : List ℕ) where
           → All2 (Implements objects) (choice b (λ _. i ∷ ids) (λ _. ids)) cs
           → ((cs : List ℕ) → All2 (Implements objects) ids cs → later ≡ some cs)
           → choice b
-          (λ _. bind-option (implemented n store (getD (drop (numbers-an-object * i) store) 1 0)) λ c.
+          (λ _. bind-option (implemented n store (getD (drop (object-width * i) store) 1 0)) λ c.
           map-option (λ cs. c ∷ cs) later) (λ _. later)
           ≡ some cs
       go true (a-cons {b = c} x xs) f = rw (finds-implementor i c x, f _ xs)

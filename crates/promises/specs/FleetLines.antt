@@ -11,7 +11,7 @@ use mathlib.Core.Option.{Option, none, some}
 use lib.Dec.{leb}
 use lib.ListN.{length, take, drop}
 use Rattle.language.specs.Lists.{Never, inj, choice, map-option}
-use Rattle.language.specs.Limits.{numbers-a-row, numbers-an-object, line-refusal}
+use Rattle.language.specs.Limits.{numbers-a-row, object-width, line-refusal}
 use Rattle.language.specs.Results.{Checked, require}
 use Rattle.language.specs.WellFormed.{Each, each-nil, each-cons}
 use Rattle.fleet.specs.Counts.{Counts}
@@ -74,10 +74,10 @@ runs-possible [] programs stores (x ∷ xs) e = let z : _≡_ {A = ℕ} 0 1 = cc
 runs-possible (r ∷ rs) programs stores (x ∷ xs) e =
     let f : line-of-run r programs stores ≡ some x = cc in
     let g : lines-of-runs rs (drop (numbers-a-row * r .rows) programs)
-    (drop (numbers-an-object * r .objects) stores)
+    (drop (object-width * r .objects) stores)
     ≡ map some xs = cc in
     each-cons (run-possible r programs stores x f)
-    (runs-possible rs (drop (numbers-a-row * r .rows) programs) (drop (numbers-an-object * r .objects) stores)
+    (runs-possible rs (drop (numbers-a-row * r .rows) programs) (drop (object-width * r .objects) stores)
     xs g)
 
 -- Counted lines as numbers are read back.

@@ -5,14 +5,14 @@ use mathlib.Core.Logic.{_↔_, _⊎_, _≢_}
 use Prim.Native.Nat.{ℕ, suc, _*_, _≤_, _<_}
 use mathlib.Core.List.{List, [], _∷_}
 use lib.ListN.{length, getD}
-use Rattle.language.specs.Limits.{object-class, numbers-an-object}
+use Rattle.language.specs.Limits.{object-class, object-width}
 use Rattle.language.specs.Tree.{Class, Program}
 use Rattle.language.specs.ClassRelations.{Subclass}
 use Rattle.theory.specs.Accepts.{RowsOf}
 
 -- The class that object j of a store, from 0, ended in: the first of its numbers.
 abbrev pub ended-in : List ℕ → ℕ → ℕ
-ended-in store j = getD store (numbers-an-object * j) 0
+ended-in store j = getD store (object-width * j) 0
 
 -- Class c is declared. Object is not.
 pub record IsDeclared (P : List Class) (c : ℕ) : Type 0 where
@@ -29,7 +29,7 @@ pub record Serves (rows store : List ℕ) (n printed spoiled : ℕ) : Type 0 whe
   pub spoiled-declared : IsDeclared (program .classes) spoiled
   pub below : Subclass (program .classes) spoiled printed
   pub strictly : spoiled ≢ printed
-  pub held : numbers-an-object * n ≤ length store
+  pub held : object-width * n ≤ length store
   pub known : (j : ℕ) → j < n
       → (ended-in store j ≡ object-class) ⊎ IsDeclared (program .classes) (ended-in store j)
 

@@ -12,7 +12,7 @@ use Rattle.language.specs.Limits.{of-check, line-refusal, limit-refusal, place-
 use Rattle.language.specs.Limits.{kind-refusal}
 use Rattle.language.specs.Limits.{override-refusal, slot-refusal, member-refusal, type-refusal}
 use Rattle.language.specs.Limits.{effect-refusal, change-refusal, reserved-refusal, room-refusal, no-line}
-use Rattle.language.specs.Limits.{most-fuel, numbers-a-row, numbers-an-object, null-exception}
+use Rattle.language.specs.Limits.{most-fuel, numbers-a-row, object-width, null-exception}
 use Rattle.language.specs.Limits.{cast-exception}
 use Rattle.language.specs.Lists.{nth}
 use Rattle.language.specs.Results.{Checked, accept, refuse, passed}
@@ -152,7 +152,7 @@ pub data ListedRun (ns : List ℕ) (fuel : ℕ) (store : List ℕ) : Ran → Typ
       → ListedRun ns fuel store (record { answer = run-refused n l; store = store })
   is-run : {o : Outcome} {steps objects changes : ℕ} {after : List ℕ} → ListedOutcome o
       → steps ≤ fuel → objects ≤ capacity store → length after ≡ length store
-      → drop (numbers-an-object * objects) after ≡ drop (numbers-an-object * objects) store
+      → drop (object-width * objects) after ≡ drop (object-width * objects) store
       → ListedRun ns fuel store (record { answer = ran o steps objects changes; store = after })
 
 -- A service that fills a lent buffer with the numbers it makes, so many to a record, and the buffer

@@ -8,7 +8,7 @@ use lib.ListN.{length, drop, length-map}
 use lib.Dec.{eqb, leb}
 use borrow.Author.Tests.{eqb-false, leb-true, leb-false, eqb-true}
 use native.Mathlib.Omega.{arith}
-use Rattle.language.specs.Limits.{of-check, most-fuel, numbers-a-row, numbers-an-object, line-refusal}
+use Rattle.language.specs.Limits.{of-check, most-fuel, numbers-a-row, object-width, line-refusal}
 use Rattle.language.specs.Limits.{limit-refusal, room-refusal, no-line}
 use Rattle.language.specs.Results.{ok, stop, Checked, accept, refuse, require, Holds, holds-ok, holds-stop}
 use Rattle.language.specs.Rows.{row-of, rows-of}
@@ -134,8 +134,8 @@ finish-listed ns fuel store p w =
     go : (r : Out Value) → ListedOutcome (outcome r) → final r .steps ≤ fuel
         → length (final r .heap) ≤ capacity store
         → length (stored (final r .heap) store) ≡ length store
-        → drop (numbers-an-object * length (final r .heap)) (stored (final r .heap) store)
-        ≡ drop (numbers-an-object * length (final r .heap)) store
+        → drop (object-width * length (final r .heap)) (stored (final r .heap) store)
+        ≡ drop (object-width * length (final r .heap)) store
         → ListedRun ns fuel store (finish r store)
     go (ok v s) o f k l d = is-run o f k l d
     go (stop x s) o f k l d = is-run o f k l d

@@ -62,17 +62,19 @@ module _ (R s : List ℕ) (fuel : ℕ) where
   not-accepted n l c few e f = check-refuses n l few (checked-refused (check R) n l (sym e ∙ f))
 
 -- Rows that the check accepted, with the tables that it filled.
-module _ {R E T A M F C : List ℕ} (n : ℕ) (c : Checked) (e : c ≡ Passed n) (f : Checks R E T A M F C c) where
+module _ {R E T A M C : List ℕ} (n : ℕ) (c : Checked) (e : c ≡ Passed n) (f : Checks R E T A M C c) where
   pub checked : PreChecked R E T A M
   checked =
       let x = checked-accepted (check R) n (sym e ∙ f .answer) in
-      record { F = F; C = C; p = x .0; held = f .holds (x .0) (x .1) }
+      let h = f .holds (x .0) (x .1) in
+      record { F = h .0; C = C; p = x .0; held = h .1 }
 
   pub answers : {s s′ : List ℕ} {fuel : ℕ} {r : Run} → fuel ≤ most-fuel → PostChecked R E T A M s s′ fuel r
       → Answers R fuel s s′ (Ran r)
   answers {s} {s′} {fuel} {r} few d =
       let x = checked-accepted (check R) n (sym e ∙ f .answer) in
-      let t = tells-run-of R s s′ (x .0) fuel r (x .1) few (d .tells F C (x .0) (f .holds (x .0) (x .1))) in
+      let h = f .holds (x .0) (x .1) in
+      let t = tells-run-of R s s′ (x .0) fuel r (x .1) few (d .tells (h .0) C (x .0) (h .1)) in
       record { answer = told t; store = ap (λ (y : store.Ran). y .store) (sym (t .is)) }
     where
       told : Tells (run-of R fuel s) s′ r → Ran r ≡ answer-told (run-of R fuel s .answer)

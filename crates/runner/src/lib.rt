@@ -1,16 +1,12 @@
 // The run of rows over a lent store: length, fuel, the check, the run (document 01, "Refusals and stops").
 use checker::ALL_METHOD_TABLE;
-use checker::ALL_METHODS;
 use checker::ALL_ROWS;
 use checker::FEW_CLASSES;
-use checker::FEW_ENTRIES;
 use checker::FEW_METHOD_TABLE;
-use checker::FEW_METHODS;
 use checker::FEW_NUMBERS;
 use checker::FEW_ROWS;
 use checker::FEW_TABLE;
 use checker::SHORT_METHOD_TABLE;
-use checker::SHORT_METHODS;
 use checker::SHORT_NUMBERS;
 use checker::SHORT_ROWS;
 use language::ALL_CLASSES;
@@ -40,16 +36,15 @@ fn run_formed(
     rows: &[u32],
     ends: &[u16],
     tables: &mut [u16],
-    above: &mut [u64],
+    above: &mut [u64; ALL_CLASSES],
     methods: &mut [u16],
-    effects: &mut [u64],
     classes: u32,
     start: u32,
     store: &mut [u32],
     fuel: u32,
 ) -> Answer
     requires { ⌜ Stands (now rows) (now ends) classes start ⌝ }
-    requires { ⌜ Room (now rows) (now ends) (now methods) (now effects) ⌝ }
+    requires { ⌜ Room (now rows) (now ends) (now methods) ⌝ }
     requires { ⌜ ClassRoom (now tables) (now above) classes × (fuel ≤ most-fuel) ⌝ }
     ensures { λ r. ⌜ Answers (now (rows .entry)) fuel (now (store .entry)) (now (store .exit)) r ⌝ }
 {
@@ -60,7 +55,6 @@ fn run_formed(
         tables,
         above,
         methods,
-        effects,
         &mut lookups,
         classes,
         start,
@@ -79,26 +73,24 @@ fn run_few_classes(
     rows: &[u32],
     ends: &[u16],
     methods: &mut [u16],
-    effects: &mut [u64],
     classes: u32,
     start: u32,
     store: &mut [u32],
     fuel: u32,
 ) -> Answer
     requires { ⌜ Stands (now rows) (now ends) classes start ⌝ }
-    requires { ⌜ Room (now rows) (now ends) (now methods) (now effects) ⌝ }
+    requires { ⌜ Room (now rows) (now ends) (now methods) ⌝ }
     requires { ⌜ (classes ≤ few-classes) × (fuel ≤ most-fuel) ⌝ }
     ensures { λ r. ⌜ Answers (now (rows .entry)) fuel (now (store .entry)) (now (store .exit)) r ⌝ }
 {
     let mut tables = [0u16; FEW_TABLE];
-    let mut above = [0u64; FEW_ENTRIES];
+    let mut above = [0u64; ALL_CLASSES];
     run_formed(
         rows,
         ends,
         &mut tables,
         &mut above,
         methods,
-        effects,
         classes,
         start,
         store,
@@ -111,14 +103,13 @@ fn run_all_classes(
     rows: &[u32],
     ends: &[u16],
     methods: &mut [u16],
-    effects: &mut [u64],
     classes: u32,
     start: u32,
     store: &mut [u32],
     fuel: u32,
 ) -> Answer
     requires { ⌜ Stands (now rows) (now ends) classes start ⌝ }
-    requires { ⌜ Room (now rows) (now ends) (now methods) (now effects) ⌝ }
+    requires { ⌜ Room (now rows) (now ends) (now methods) ⌝ }
     requires { ⌜ fuel ≤ most-fuel ⌝ }
     ensures { λ r. ⌜ Answers (now (rows .entry)) fuel (now (store .entry)) (now (store .exit)) r ⌝ }
 {
@@ -130,7 +121,6 @@ fn run_all_classes(
         &mut tables,
         &mut above,
         methods,
-        effects,
         classes,
         start,
         store,
@@ -143,21 +133,20 @@ fn run_classes(
     rows: &[u32],
     ends: &[u16],
     methods: &mut [u16],
-    effects: &mut [u64],
     classes: u32,
     start: u32,
     store: &mut [u32],
     fuel: u32,
 ) -> Answer
     requires { ⌜ Stands (now rows) (now ends) classes start ⌝ }
-    requires { ⌜ Room (now rows) (now ends) (now methods) (now effects) ⌝ }
+    requires { ⌜ Room (now rows) (now ends) (now methods) ⌝ }
     requires { ⌜ fuel ≤ most-fuel ⌝ }
     ensures { λ r. ⌜ Answers (now (rows .entry)) fuel (now (store .entry)) (now (store .exit)) r ⌝ }
 {
     if classes <= FEW_CLASSES {
-        return run_few_classes(rows, ends, methods, effects, classes, start, store, fuel);
+        return run_few_classes(rows, ends, methods, classes, start, store, fuel);
     }
-    run_all_classes(rows, ends, methods, effects, classes, start, store, fuel)
+    run_all_classes(rows, ends, methods, classes, start, store, fuel)
 }
 
 // Runs whole rows with lent tables. Form counts the classes before there are class tables.
@@ -165,11 +154,10 @@ fn run_whole(
     rows: &[u32],
     ends: &mut [u16],
     methods: &mut [u16],
-    effects: &mut [u64],
     store: &mut [u32],
     fuel: u32,
 ) -> Answer
-    requires { ⌜ Room (now rows) (now ends) (now methods) (now effects) ⌝ }
+    requires { ⌜ Room (now rows) (now ends) (now methods) ⌝ }
     requires { ⌜ fuel ≤ most-fuel ⌝ }
     ensures { λ r. ⌜ Answers (now (rows .entry)) fuel (now (store .entry)) (now (store .exit)) r ⌝ }
 {
@@ -179,7 +167,6 @@ fn run_whole(
             rows,
             ends,
             methods,
-            effects,
             classes,
             start,
             store,
@@ -197,8 +184,7 @@ fn run_short(rows: &[u32], store: &mut [u32], fuel: u32) -> Answer
 {
     let mut ends = [0u16; SHORT_ROWS];
     let mut methods = [0u16; SHORT_METHOD_TABLE];
-    let mut effects = [0u64; SHORT_METHODS];
-    run_whole(rows, &mut ends, &mut methods, &mut effects, store, fuel)
+    run_whole(rows, &mut ends, &mut methods, store, fuel)
 }
 
 // The run of at most 1,024 whole rows.
@@ -209,8 +195,7 @@ fn run_few(rows: &[u32], store: &mut [u32], fuel: u32) -> Answer
 {
     let mut ends = [0u16; FEW_ROWS];
     let mut methods = [0u16; FEW_METHOD_TABLE];
-    let mut effects = [0u64; FEW_METHODS];
-    run_whole(rows, &mut ends, &mut methods, &mut effects, store, fuel)
+    run_whole(rows, &mut ends, &mut methods, store, fuel)
 }
 
 // The run of any number of whole rows.
@@ -221,8 +206,7 @@ fn run_many(rows: &[u32], store: &mut [u32], fuel: u32) -> Answer
 {
     let mut ends = [0u16; ALL_ROWS];
     let mut methods = [0u16; ALL_METHOD_TABLE];
-    let mut effects = [0u64; ALL_METHODS];
-    run_whole(rows, &mut ends, &mut methods, &mut effects, store, fuel)
+    run_whole(rows, &mut ends, &mut methods, store, fuel)
 }
 
 // Runs rows. Few rows and few classes pay for short tables alone.

@@ -7,7 +7,8 @@ use Rattle.language.specs.Verdict.{accepted, refused as not-accepted}
 use Rattle.language.specs.State.{Value, null, truth, object, raised, spent, deep, full, stuck}
 use Rattle.language.specs.Store.{Outcome, gave, ended, Answer, refused, ran}
 use Rattle.checker.specs.Answers.{verdict-case}
-use Rattle.machine.specs.Contracts.{value-told, end-told}
+use Rattle.machine.specs.Contracts.{end-told}
+use Rattle.objects.specs.Values.{case-of}
 use Rattle.machine.specs.declared.Run.{Run}
 use Rattle.runner.specs.declared.Answer as runner
 use Rattle.runner.specs.declared.Answer.the-variants.{Refused as NotRun, Ran}
@@ -35,12 +36,12 @@ answer-packed (refused number line) = refl
 answer-packed (ran o steps objects changes) = outcome-packed o
 
 -- An object has one number in both.
-value-kind : (v : Value) → kind-of (value-told v) ≡ kind v
+value-kind : (v : Value) → kind-of (case-of v) ≡ kind v
 value-kind null = refl
 value-kind (truth b) = refl
 value-kind (object j) = refl
 
-value-content : (v : Value) → content-of (value-told v) ≡ content v
+value-content : (v : Value) → content-of (case-of v) ≡ content v
 value-content null = refl
 value-content (truth b) = refl
 value-content (object j) = omega arith

@@ -8,7 +8,7 @@ use mathlib.Core.List.{List, [], _∷_, _++_, map, append-assoc}
 use lib.ListN.{length, take, drop, replicate, length-append, length-replicate, length-drop, length-map}
 use lib.Seq.{take-at, drop-at}
 use native.Mathlib.Omega.{arith}
-use Rattle.language.specs.Limits.{of-check, numbers-an-object}
+use Rattle.language.specs.Limits.{of-check, object-width}
 use Rattle.language.specs.Lists.{nth, all2-length}
 use Rattle.language.specs.Results.{Holds, holds-ok, holds-stop}
 use Rattle.language.specs.Tree.{Program}
@@ -42,18 +42,18 @@ pub record Shaped (W : World) (o : Object) : Type 0 where
   pub few : length (o .fields) ≤ of-check .fields
 
 -- Such an object takes 18 numbers.
-pub object-length : {W : World} (o : Object) → Shaped W o → length (object-numbers o) ≡ numbers-an-object
+pub object-length : {W : World} (o : Object) → Shaped W o → length (object-numbers o) ≡ object-width
 object-length o s = omega (
   arith,
   s .few,
-  length-append (map value-number (o .fields)) (replicate (numbers-an-object - 1 - length (o .fields)) 0),
+  length-append (map value-number (o .fields)) (replicate (object-width - 1 - length (o .fields)) 0),
   length-map (o .fields) value-number,
-  length-replicate {A = ℕ} (numbers-an-object - 1 - length (o .fields)) 0,
+  length-replicate {A = ℕ} (object-width - 1 - length (o .fields)) 0,
 )
 
 -- So many objects more take 18 numbers each.
 pub heap-length : {W : World} (h : List Object) → Each (Shaped W) h
-    → length (heap-numbers h) ≡ numbers-an-object * length h
+    → length (heap-numbers h) ≡ object-width * length h
 unfolding heap-numbers
 heap-length [] each-nil = refl
 heap-length (o ∷ h) (each-cons s ss) =
@@ -65,7 +65,7 @@ read-object : (W : World) (o : Object) → Shaped W o → (n : ℕ) (rest : List
 unfolding heap-of-numbers
 read-object W o s n rest =
     let values = map value-number (o .fields) in
-    let unused : List ℕ = replicate (numbers-an-object - 1 - length (o .fields)) 0 in
+    let unused : List ℕ = replicate (object-width - 1 - length (o .fields)) 0 in
     let taken : take (length (W .fields (o .class-of))) ((values ++ unused) ++ rest) ≡ values =
     ap (take (length (W .fields (o .class-of)))) (append-assoc values unused rest)
     ∙ take-at values (unused ++ rest) _ (length-map (o .fields) value-number ∙ s .fields) in
@@ -73,9 +73,9 @@ read-object W o s n rest =
     ≡ o .fields =
     ap (map value-of-number) taken ∙ values-back (o .fields) in
     ap (λ (vs : List Value). record { class-of = o .class-of; fields = vs }
-    ∷ heap-of-numbers W n (drop numbers-an-object (object-numbers o ++ rest))) fields
+    ∷ heap-of-numbers W n (drop object-width (object-numbers o ++ rest))) fields
     ∙ ap (λ (store : List ℕ). o ∷ heap-of-numbers W n store)
-    (drop-at (object-numbers o) rest numbers-an-object (object-length o s))
+    (drop-at (object-numbers o) rest object-width (object-length o s))
 
 -- Reading as many objects as were made back from their numbers gives them, whatever stands after.
 pub heap-back : (W : World) (h : List Object) → Each (Shaped W) h → (rest : List ℕ)
@@ -91,13 +91,13 @@ heap-back W (o ∷ h) (each-cons s ss) rest =
 pub stored-back : (W : World) (h : List Object) → Each (Shaped W) h → (store : List ℕ)
     → heap-of-numbers W (length h) (stored h store) ≡ h
 unfolding stored
-stored-back W h ss store = heap-back W h ss (drop (numbers-an-object * length h) store)
+stored-back W h ss store = heap-back W h ss (drop (object-width * length h) store)
 
 -- What held no object is unchanged: the numbers past the objects made are those that stood there.
 pub stored-rest : {W : World} (h : List Object) → Each (Shaped W) h → (store : List ℕ)
-    → drop (numbers-an-object * length h) (stored h store) ≡ drop (numbers-an-object * length h) store
+    → drop (object-width * length h) (stored h store) ≡ drop (object-width * length h) store
 unfolding stored
-stored-rest h ss store = drop-at (heap-numbers h) _ (numbers-an-object * length h) (heap-length h ss)
+stored-rest h ss store = drop-at (heap-numbers h) _ (object-width * length h) (heap-length h ss)
 
 -- A store with room for the objects is as long as before.
 pub stored-length : {W : World} (h : List Object) → Each (Shaped W) h → (store : List ℕ)
@@ -108,8 +108,8 @@ stored-length h ss store l = omega (
   arith,
   l,
   heap-length h ss,
-  length-append (heap-numbers h) (drop (numbers-an-object * length h) store),
-  length-drop (numbers-an-object * length h) store,
+  length-append (heap-numbers h) (drop (object-width * length h) store),
+  length-drop (object-width * length h) store,
 )
 
 -- Objects of a heap that fits its classes have the fields of their classes.

@@ -17,17 +17,18 @@ use Rattle.checker.proofs.Passing.{checked-accepted}
 use Rattle.plain.specs.Bounds.{SomeAccepted}
 
 -- Accepted rows with their tables are what the translator takes.
-pub some-accepted : {R E T A M F C : List ℕ} {c : Checked} (n : ℕ) → length E ≤ length C → c ≡ Accepted n
-    → Checks R E T A M F C c → SomeAccepted R E T M C
-some-accepted {R} {E} {T} {A} {M} {F} {C} n l e k =
+pub some-accepted : {R E T A M C : List ℕ} {c : Checked} (n : ℕ) → length E ≤ length C → c ≡ Accepted n
+    → Checks R E T A M C c → SomeAccepted R E T M C
+some-accepted {R} {E} {T} {A} {M} {C} n l e k =
     let x = checked-accepted (check R) n (sym e ∙ k .answer) in
-    let w = k .holds (x .0) (x .1) in
+    let y = k .holds (x .0) (x .1) in
+    let w = y .1 in
     let h = w .headed in
     record {
       p = x .0;
       A = A;
       checked = record { accepted = x .1; rows = h .here; tables = h .classes };
-      F = F;
+      F = y .0;
       methods = h .methods;
       lookups = w .looks;
       beside = omega (arith, l, h .here .all, h .here .in-ends);

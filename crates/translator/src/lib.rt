@@ -1,17 +1,14 @@
 // The translation of rows: the check, then the translator's limits, reserved names and room (document 01, "Refusals and
 // stops").
 use checker::ALL_METHOD_TABLE;
-use checker::ALL_METHODS;
 use checker::ALL_ROWS;
 use checker::FEW_CLASSES;
 use checker::FEW_ENTRIES;
 use checker::FEW_METHOD_TABLE;
-use checker::FEW_METHODS;
 use checker::FEW_NUMBERS;
 use checker::FEW_ROWS;
 use checker::FEW_TABLE;
 use checker::SHORT_METHOD_TABLE;
-use checker::SHORT_METHODS;
 use checker::SHORT_NUMBERS;
 use checker::SHORT_ROWS;
 use language::ALL_CLASSES;
@@ -32,14 +29,13 @@ fn translate_formed(
     tables: &mut [u16],
     above: &mut [u64],
     methods: &mut [u16],
-    effects: &mut [u64],
     lookups: &mut [u16],
     classes: u32,
     start: u32,
     out: &mut [u32],
 ) -> Filled
     requires { ⌜ Stands (now rows) (now ends) classes start ⌝ }
-    requires { ⌜ Room (now rows) (now ends) (now methods) (now effects) ⌝ }
+    requires { ⌜ Room (now rows) (now ends) (now methods) ⌝ }
     requires { ⌜ length (now ends) ≤ length (now lookups) ⌝ }
     requires { ⌜ ClassRoom (now tables) (now above) classes ⌝ }
     ensures { λ r. ⌜ (r ≡ answer 4 (translation (now (rows .entry))) (length (now (out .entry))))
@@ -51,7 +47,6 @@ fn translate_formed(
         tables,
         above,
         methods,
-        effects,
         lookups,
         classes,
         start,
@@ -69,14 +64,13 @@ fn translate_few_classes(
     rows: &[u32],
     ends: &[u16],
     methods: &mut [u16],
-    effects: &mut [u64],
     lookups: &mut [u16],
     classes: u32,
     start: u32,
     out: &mut [u32],
 ) -> Filled
     requires { ⌜ Stands (now rows) (now ends) classes start ⌝ }
-    requires { ⌜ Room (now rows) (now ends) (now methods) (now effects) ⌝ }
+    requires { ⌜ Room (now rows) (now ends) (now methods) ⌝ }
     requires { ⌜ length (now ends) ≤ length (now lookups) ⌝ }
     requires { ⌜ classes ≤ few-classes ⌝ }
     ensures { λ r. ⌜ (r ≡ answer 4 (translation (now (rows .entry))) (length (now (out .entry))))
@@ -90,7 +84,6 @@ fn translate_few_classes(
         &mut tables,
         &mut above,
         methods,
-        effects,
         lookups,
         classes,
         start,
@@ -103,14 +96,13 @@ fn translate_all_classes(
     rows: &[u32],
     ends: &[u16],
     methods: &mut [u16],
-    effects: &mut [u64],
     lookups: &mut [u16],
     classes: u32,
     start: u32,
     out: &mut [u32],
 ) -> Filled
     requires { ⌜ Stands (now rows) (now ends) classes start ⌝ }
-    requires { ⌜ Room (now rows) (now ends) (now methods) (now effects) ⌝ }
+    requires { ⌜ Room (now rows) (now ends) (now methods) ⌝ }
     requires { ⌜ length (now ends) ≤ length (now lookups) ⌝ }
     ensures { λ r. ⌜ (r ≡ answer 4 (translation (now (rows .entry))) (length (now (out .entry))))
         × (now (out .exit) ≡ buffer (translation (now (rows .entry))) (now (out .entry))) ⌝ }
@@ -123,7 +115,6 @@ fn translate_all_classes(
         &mut tables,
         &mut above,
         methods,
-        effects,
         lookups,
         classes,
         start,
@@ -136,22 +127,21 @@ fn translate_classes(
     rows: &[u32],
     ends: &[u16],
     methods: &mut [u16],
-    effects: &mut [u64],
     lookups: &mut [u16],
     classes: u32,
     start: u32,
     out: &mut [u32],
 ) -> Filled
     requires { ⌜ Stands (now rows) (now ends) classes start ⌝ }
-    requires { ⌜ Room (now rows) (now ends) (now methods) (now effects) ⌝ }
+    requires { ⌜ Room (now rows) (now ends) (now methods) ⌝ }
     requires { ⌜ length (now ends) ≤ length (now lookups) ⌝ }
     ensures { λ r. ⌜ (r ≡ answer 4 (translation (now (rows .entry))) (length (now (out .entry))))
         × (now (out .exit) ≡ buffer (translation (now (rows .entry))) (now (out .entry))) ⌝ }
 {
     if classes <= FEW_CLASSES {
-        return translate_few_classes(rows, ends, methods, effects, lookups, classes, start, out);
+        return translate_few_classes(rows, ends, methods, lookups, classes, start, out);
     }
-    translate_all_classes(rows, ends, methods, effects, lookups, classes, start, out)
+    translate_all_classes(rows, ends, methods, lookups, classes, start, out)
 }
 
 // Translates whole rows with lent tables. Form counts the classes before there are class tables.
@@ -159,11 +149,10 @@ fn translate_whole(
     rows: &[u32],
     ends: &mut [u16],
     methods: &mut [u16],
-    effects: &mut [u64],
     lookups: &mut [u16],
     out: &mut [u32],
 ) -> Filled
-    requires { ⌜ Room (now rows) (now ends) (now methods) (now effects) ⌝ }
+    requires { ⌜ Room (now rows) (now ends) (now methods) ⌝ }
     requires { ⌜ length (now ends) ≤ length (now lookups) ⌝ }
     ensures { λ r. ⌜ (r ≡ answer 4 (translation (now (rows .entry))) (length (now (out .entry))))
         × (now (out .exit) ≡ buffer (translation (now (rows .entry))) (now (out .entry))) ⌝ }
@@ -171,7 +160,7 @@ fn translate_whole(
     let formed = form::check_form(rows, ends);
     match formed {
         form::Formed::InForm(classes, start) => {
-            translate_classes(rows, ends, methods, effects, lookups, classes, start, out)
+            translate_classes(rows, ends, methods, lookups, classes, start, out)
         }
         form::Formed::Refused(number, line) => Filled::Refused(number, line),
     }
@@ -185,16 +174,8 @@ fn translate_short(rows: &[u32], out: &mut [u32]) -> Filled
 {
     let mut ends = [0u16; SHORT_ROWS];
     let mut methods = [0u16; SHORT_METHOD_TABLE];
-    let mut effects = [0u64; SHORT_METHODS];
     let mut lookups = [0u16; SHORT_ROWS];
-    translate_whole(
-        rows,
-        &mut ends,
-        &mut methods,
-        &mut effects,
-        &mut lookups,
-        out,
-    )
+    translate_whole(rows, &mut ends, &mut methods, &mut lookups, out)
 }
 
 // The translation of at most 1,024 whole rows.
@@ -205,16 +186,8 @@ fn translate_few(rows: &[u32], out: &mut [u32]) -> Filled
 {
     let mut ends = [0u16; FEW_ROWS];
     let mut methods = [0u16; FEW_METHOD_TABLE];
-    let mut effects = [0u64; FEW_METHODS];
     let mut lookups = [0u16; FEW_ROWS];
-    translate_whole(
-        rows,
-        &mut ends,
-        &mut methods,
-        &mut effects,
-        &mut lookups,
-        out,
-    )
+    translate_whole(rows, &mut ends, &mut methods, &mut lookups, out)
 }
 
 // The translation of any number of whole rows.
@@ -225,16 +198,8 @@ fn translate_many(rows: &[u32], out: &mut [u32]) -> Filled
 {
     let mut ends = [0u16; ALL_ROWS];
     let mut methods = [0u16; ALL_METHOD_TABLE];
-    let mut effects = [0u64; ALL_METHODS];
     let mut lookups = [0u16; ALL_ROWS];
-    translate_whole(
-        rows,
-        &mut ends,
-        &mut methods,
-        &mut effects,
-        &mut lookups,
-        out,
-    )
+    translate_whole(rows, &mut ends, &mut methods, &mut lookups, out)
 }
 
 // Translates rows into plain rows. Few rows and few classes pay for short tables alone.

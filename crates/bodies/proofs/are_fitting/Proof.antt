@@ -35,29 +35,14 @@ shared-slice-read-typing-at c =
 typing-at-requires : tie.Need-typing-at-requires Inv-loop μ-loop
 typing-at-requires c κs = search needs
 
-add-from-number : tie.Need-add-from-number Inv-loop μ-loop
-add-from-number c =
+add-first : tie.Need-add-first Inv-loop μ-loop
+add-first c =
     let start = c .before .before .before .before .before .before .before in
     omega (arith, start .pre .slots, start .pre .rows, start .good)
 
-mul-from-number : tie.Need-mul-from-number Inv-loop μ-loop
-mul-from-number c =
+first-requires : tie.Need-first-requires Inv-loop μ-loop
+first-requires c κs =
     let start = c .before .before .before .before .before .before .before in
-    omega (arith, start .pre .slots, start .pre .rows, start .good)
-
-add-from-number-2 : tie.Need-add-from-number-2 Inv-loop μ-loop
-add-from-number-2 c =
-    let start = c .before .before .before .before .before .before .before in
-    omega (arith, start .pre .slots, start .pre .rows, start .good)
-
-mul-from-number-2 : tie.Need-mul-from-number-2 Inv-loop μ-loop
-mul-from-number-2 c =
-    let start = c .before .before .before .before .before .before .before in
-    omega (arith, start .pre .slots, start .pre .rows, start .good)
-
-shared-slice-read-from-number : tie.Need-shared-slice-read-from-number Inv-loop μ-loop
-shared-slice-read-from-number c =
-    let start = c .before .before .before .before .before .before .before .before in
     omega (arith, start .pre .slots, start .pre .rows, start .good)
 
 from-number-requires : tie.Need-from-number-requires Inv-loop μ-loop
@@ -73,9 +58,9 @@ is-fitting-requires c κs =
       λ f.
           omega (
             arith,
-            c .from-number .ensures,
+            c .from-number .ensures ∙ c .before .first .ensures,
             start .pre .types (at-loop .loop .i) (at-loop-test .loop-test .taken)
-                (λ e. f (c .from-number .ensures ∙ e)),
+                (λ e. f (c .from-number .ensures ∙ (c .before .first .ensures ∙ e))),
           ),
     )
 
@@ -88,7 +73,8 @@ returns c =
     fit-stop (start .args .rows .now) (start .args .above .now) (start .args .slots .now) (start .args .from)
     (start .args .row) (start .args .n) (at-loop .loop .i) (at-loop-test .loop-test .taken)
     (at-loop .loop .inv .1) _ _ _ (at-typing-at .typing-at .ensures)
-    (c .before .before .from-number .ensures) (c .before .is-fitting .ensures) (not-yes _ (c .if1 .taken))
+    (c .before .before .from-number .ensures ∙ c .before .before .before .first .ensures)
+    (c .before .is-fitting .ensures) (not-yes _ (c .if1 .taken))
 
 add-i : tie.Need-add-i Inv-loop μ-loop
 add-i c =
@@ -108,7 +94,8 @@ loop-again c =
       fit-step (start .args .rows .now) (start .args .above .now) (start .args .slots .now)
           (start .args .from) (start .args .row) (start .args .n) (at-loop .loop .i)
           (at-loop-test .loop-test .taken) (at-loop .loop .inv .1) _ _ _ (at-typing-at .typing-at .ensures)
-          (c .before .before .from-number .ensures) (c .before .is-fitting .ensures)
+          (c .before .before .from-number .ensures ∙ c .before .before .before .first .ensures)
+          (c .before .is-fitting .ensures)
           (not-no _ (c .if1 .left)),
     )
 
@@ -130,11 +117,8 @@ are-fitting-spec =
     mul-typing-at
     shared-slice-read-typing-at
     typing-at-requires
-    add-from-number
-    mul-from-number
-    add-from-number-2
-    mul-from-number-2
-    shared-slice-read-from-number
+    add-first
+    first-requires
     from-number-requires
     is-fitting-requires
     returns

@@ -1,28 +1,17 @@
 -- `bodies::assign` meets its contract. Assumes nothing.
 use mathlib.Core.Path.{sym, _∙_}
-use Prim.Native.Nat.{_+_, _*_}
 use native.Mathlib.Omega.{arith}
 use borrow.Author.Needs.{needs}
 use Rattle.bodies.proofs.Cases.{assign-refused, assign-this, assign-out, assign-fits, assign-unfit}
+use Rattle.bodies.proofs.Cases.{named-is}
 use Rattle.bodies.proofs.assign.Statement.{statement}
 use Rattle.bodies.proofs.assign.Tie as tie
 
-mul-k : tie.Need-mul-k
-mul-k c = search needs
-
-add-k : tie.Need-add-k
-add-k c = search needs
-
-mul-k-2 : tie.Need-mul-k-2
-mul-k-2 c = search needs
-
-shared-slice-read-k : tie.Need-shared-slice-read-k
-shared-slice-read-k c = search needs
+first-requires : tie.Need-first-requires
+first-requires c κs = search needs
 
 cast-k : tie.Need-cast-k
-cast-k c =
-    let start = c .before .before .before .before in
-    omega (arith, c .before .before .before .shared-slice-known .given (start .args .at * 4 + 1))
+cast-k c = search needs
 
 is-refusal-requires : tie.Need-is-refusal-requires
 is-refusal-requires c κs = search needs
@@ -34,7 +23,9 @@ refused-requires : tie.Need-refused-requires
 refused-requires c κs = search needs
 
 returns-2 : tie.Need-returns-2
-returns-2 c = assign-this _ _ _ _ _ _ _ (c .before .before .before .is-refusal .ensures) _
+returns-2 c =
+    let at-first = c .before .before .before .before in
+    assign-this _ _ _ _ _ _ _ (c .before .before .before .is-refusal .ensures) _ (at-first .first .ensures) _
     (c .before .before .if1 .left) (c .before .if2 .taken) (c .refused .ensures)
 
 refused-requires-2 : tie.Need-refused-requires-2
@@ -44,7 +35,9 @@ returns-3 : tie.Need-returns-3
 returns-3 c =
     let at-if1 = c .before .before .before .before in
     let at-is-refusal = at-if1 .before in
-    assign-out _ _ _ _ _ _ _ (at-is-refusal .is-refusal .ensures) _ (at-if1 .if1 .left)
+    let at-first = at-is-refusal .before in
+    assign-out _ _ _ _ _ _ _ (at-is-refusal .is-refusal .ensures) _ (at-first .first .ensures) _
+    (at-if1 .if1 .left)
     (c .before .before .before .if2 .left) (c .before .if3 .taken) (c .refused2 .ensures)
 
 mul-current : tie.Need-mul-current
@@ -64,17 +57,20 @@ is-fitting-requires c κs =
     let at-if2 = c .before .before .before .before .before in
     let at-if1 = at-if2 .before in
     let at-is-refusal = at-if1 .before in
-    let start = at-is-refusal .before .before .before .before .before in (
+    let at-first = at-is-refusal .before in
+    let start = at-first .before .before .before .before in
+    let e = c .from-number .ensures
+    ∙ (c .before .current .ensures
+    ∙ named-is (start .args .rows .now) (start .args .slots .now) (start .args .at) _
+    (at-first .first .ensures)) in (
       start .pre .value,
-      λ f.
-          omega (
-            arith,
-            c .from-number .ensures,
-            c .before .current .ensures,
-            start .pre .slot (sym (at-is-refusal .is-refusal .ensures) ∙ at-if1 .if1 .left)
-                (at-if2 .if2 .left) (c .before .before .before .if3 .left)
-                (λ e. f (c .from-number .ensures ∙ (c .before .current .ensures ∙ e))),
-          ),
+      λ f. omega (
+        arith,
+        e,
+        start .pre .slot (sym (at-is-refusal .is-refusal .ensures) ∙ at-if1 .if1 .left)
+            (λ y. at-if2 .if2 .left (at-first .first .ensures ∙ y))
+            (omega (arith, c .before .before .before .if3 .left, at-first .first .ensures)) (λ y. f (e ∙ y)),
+      ),
     )
 
 returns-4 : tie.Need-returns-4
@@ -83,7 +79,9 @@ returns-4 c =
     let at-if2 = at-if3 .before .before in
     let at-if1 = at-if2 .before in
     let at-is-refusal = at-if1 .before in
-    assign-fits _ _ _ _ _ _ _ (at-is-refusal .is-refusal .ensures) _ _ (at-if1 .if1 .left) (at-if2 .if2 .left)
+    let at-first = at-is-refusal .before in
+    assign-fits _ _ _ _ _ _ _ (at-is-refusal .is-refusal .ensures) _ (at-first .first .ensures) _ _
+    (at-if1 .if1 .left) (at-if2 .if2 .left)
     (at-if3 .if3 .left)
     (c .before .before .from-number .ensures ∙ c .before .before .before .current .ensures)
     (c .before .is-fitting .ensures) (c .if4 .taken)
@@ -98,7 +96,9 @@ returns-5 c =
     let at-if2 = at-if3 .before .before in
     let at-if1 = at-if2 .before in
     let at-is-refusal = at-if1 .before in
-    assign-unfit _ _ _ _ _ _ _ (at-is-refusal .is-refusal .ensures) _ _ _ (at-if1 .if1 .left)
+    let at-first = at-is-refusal .before in
+    assign-unfit _ _ _ _ _ _ _ (at-is-refusal .is-refusal .ensures) _ (at-first .first .ensures) _ _ _
+    (at-if1 .if1 .left)
     (at-if2 .if2 .left) (at-if3 .if3 .left)
     (c .before .before .before .from-number .ensures ∙ at-current .current .ensures)
     (c .before .before .is-fitting .ensures) (c .before .if4 .left) (c .refused3 .ensures)
@@ -107,10 +107,7 @@ pub assign-spec : {M : Type 1} → statement M
 assign-spec =
     tie.close
     (tie.spec
-    mul-k
-    add-k
-    mul-k-2
-    shared-slice-read-k
+    first-requires
     cast-k
     is-refusal-requires
     returns

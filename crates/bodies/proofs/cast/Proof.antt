@@ -5,17 +5,8 @@ use Rattle.bodies.proofs.Cases.{casted-null, casted-refusal}
 use Rattle.bodies.proofs.cast.Statement.{statement}
 use Rattle.bodies.proofs.cast.Tie as tie
 
-mul-class : tie.Need-mul-class
-mul-class c = search needs
-
-add-class : tie.Need-add-class
-add-class c = search needs
-
-mul-class-2 : tie.Need-mul-class-2
-mul-class-2 c = search needs
-
-shared-slice-read-class : tie.Need-shared-slice-read-class
-shared-slice-read-class c = search needs
+first-requires : tie.Need-first-requires
+first-requires c κs = search needs
 
 is-refusal-requires : tie.Need-is-refusal-requires
 is-refusal-requires c κs = search needs
@@ -27,7 +18,10 @@ refused-requires : tie.Need-refused-requires
 refused-requires c κs = search needs
 
 returns-2 : tie.Need-returns-2
-returns-2 c = cast-name _ _ _ _ _ _ (c .before .before .before .before .is-refusal .ensures)
+returns-2 c =
+    let at-is-refusal = c .before .before .before .before in
+    let at-first = at-is-refusal .before in
+    cast-name _ _ _ _ _ (at-first .first .ensures) _ _ (at-is-refusal .is-refusal .ensures)
     (c .before .before .before .if1 .left) (c .before .if2 .taken) (c .refused .ensures)
 
 enum-told : tie.Need-enum-told
@@ -49,7 +43,9 @@ returns-3 : tie.Need-returns-3
 returns-3 c =
     let at-if1 = c .before .before .before .before .before in
     let at-is-refusal = at-if1 .before in
-    cast-done _ _ _ _ _ _ (at-is-refusal .is-refusal .ensures) (at-if1 .if1 .left)
+    let at-first = at-is-refusal .before in
+    cast-done _ _ _ _ _ (at-first .first .ensures) _ _ (at-is-refusal .is-refusal .ensures)
+    (at-if1 .if1 .left)
     (c .before .before .before .if2 .left)
     (casted-bool _ _ _ _ _ (c .before .enum-told .given .1) (c .refused2 .ensures))
 
@@ -57,32 +53,35 @@ returns-4 : tie.Need-returns-4
 returns-4 c =
     let at-if1 = c .before .before .before .before in
     let at-is-refusal = at-if1 .before in
-    cast-done _ _ _ _ _ _ (at-is-refusal .is-refusal .ensures) (at-if1 .if1 .left)
+    let at-first = at-is-refusal .before in
+    cast-done _ _ _ _ _ (at-first .first .ensures) _ _ (at-is-refusal .is-refusal .ensures)
+    (at-if1 .if1 .left)
     (c .before .before .if2 .left) (casted-class _ _ _ _ _ (c .enum-told2 .given .1))
 
 returns-5 : tie.Need-returns-5
 returns-5 c =
     let at-if1 = c .before .before .before .before in
     let at-is-refusal = at-if1 .before in
-    cast-done _ _ _ _ _ _ (at-is-refusal .is-refusal .ensures) (at-if1 .if1 .left)
+    let at-first = at-is-refusal .before in
+    cast-done _ _ _ _ _ (at-first .first .ensures) _ _ (at-is-refusal .is-refusal .ensures)
+    (at-if1 .if1 .left)
     (c .before .before .if2 .left) (casted-null _ _ _ _ (c .enum-told3 .given .1))
 
 returns-6 : tie.Need-returns-6
 returns-6 c =
     let at-if1 = c .before .before .before .before in
     let at-is-refusal = at-if1 .before in
-    let start = at-is-refusal .before .before .before in
-    cast-done _ _ _ _ _ _ (at-is-refusal .is-refusal .ensures) (at-if1 .if1 .left)
+    let at-first = at-is-refusal .before in
+    let start = at-first .before .before in
+    cast-done _ _ _ _ _ (at-first .first .ensures) _ _ (at-is-refusal .is-refusal .ensures)
+    (at-if1 .if1 .left)
     (c .before .before .if2 .left) (casted-refusal _ _ (start .args .child) _ _ (c .enum-told4 .given .1))
 
 pub cast-spec : {M : Type 1} → statement M
 cast-spec =
     tie.close
     (tie.spec
-    mul-class
-    add-class
-    mul-class-2
-    shared-slice-read-class
+    first-requires
     is-refusal-requires
     returns
     refused-requires

@@ -1,6 +1,5 @@
 -- `bodies::change` meets its contract. Assumes nothing.
 use mathlib.Core.Path.{refl}
-use Prim.Native.Nat.{_+_, _*_}
 use borrow.Author.Needs.{needs}
 use native.Mathlib.Omega.{arith}
 use Rattle.bodies.proofs.Laws.{known-class, known-same, not-yes, not-no}
@@ -9,46 +8,33 @@ use Rattle.bodies.proofs.ActLaws.{change-second, change-roots, change-d
 use Rattle.bodies.proofs.change.Statement.{statement}
 use Rattle.bodies.proofs.change.Tie as tie
 
-mul-k : tie.Need-mul-k
-mul-k c = search needs
-
-add-k : tie.Need-add-k
-add-k c = search needs
-
-mul-k-2 : tie.Need-mul-k-2
-mul-k-2 c = search needs
-
-shared-slice-read-k : tie.Need-shared-slice-read-k
-shared-slice-read-k c = search needs
+first-requires : tie.Need-first-requires
+first-requires c κs = search needs
 
 cast-k : tie.Need-cast-k
-cast-k c =
-    let start = c .before .before .before .before in
-    omega (arith, c .before .before .before .shared-slice-known .given (start .args .at * 4 + 1))
+cast-k c = search needs
 
-mul-target : tie.Need-mul-target
-mul-target c = search needs
-
-add-target : tie.Need-add-target
-add-target c = search needs
-
-mul-target-2 : tie.Need-mul-target-2
-mul-target-2 c = search needs
-
-shared-slice-read-target : tie.Need-shared-slice-read-target
-shared-slice-read-target c = search needs
+second-requires : tie.Need-second-requires
+second-requires c κs = search needs
 
 refused-requires : tie.Need-refused-requires
 refused-requires c κs = search needs
 
 returns : tie.Need-returns
-returns c = change-name _ (c .before .if1 .taken) (c .refused .ensures)
+returns c =
+    let at-first = c .before .before .before .before in
+    change-name _ _ _ (at-first .first .ensures) (c .before .before .before .second .ensures)
+    (c .before .if1 .taken) (c .refused .ensures)
 
 refused-requires-2 : tie.Need-refused-requires-2
 refused-requires-2 c κs = search needs
 
 returns-2 : tie.Need-returns-2
-returns-2 c = change-out _ (c .before .before .before .if1 .left) (c .before .if2 .taken)
+returns-2 c =
+    let at-second = c .before .before .before .before .before in
+    let at-first = at-second .before in
+    change-out _ _ _ (at-first .first .ensures) (at-second .second .ensures)
+    (c .before .before .before .if1 .left) (c .before .if2 .taken)
     (c .refused2 .ensures)
 
 mul-current : tie.Need-mul-current
@@ -67,7 +53,10 @@ returns-3 : tie.Need-returns-3
 returns-3 c =
     let at-if2 = c .before .before .before .before in
     let at-if1 = at-if2 .before .before in
-    change-absent _ (at-if1 .if1 .left) (at-if2 .if2 .left) _ (c .before .before .current .ensures)
+    let at-second = at-if1 .before .before in
+    let at-first = at-second .before in
+    change-absent _ _ _ (at-first .first .ensures) (at-second .second .ensures) (at-if1 .if1 .left)
+    (at-if2 .if2 .left) _ (c .before .before .current .ensures)
     (c .before .if3 .taken)
     (c .refused3 .ensures)
 
@@ -78,7 +67,10 @@ returns-4 : tie.Need-returns-4
 returns-4 c =
     let at-if2 = c .before .before .before .before .before in
     let at-if1 = at-if2 .before .before in
-    change-bool _ (at-if1 .if1 .left) (at-if2 .if2 .left) _ (c .before .before .before .current .ensures)
+    let at-second = at-if1 .before .before in
+    let at-first = at-second .before in
+    change-bool _ _ _ (at-first .first .ensures) (at-second .second .ensures) (at-if1 .if1 .left)
+    (at-if2 .if2 .left) _ (c .before .before .before .current .ensures)
     (c .before .before .if3 .left)
     (c .before .if4 .taken) (c .refused4 .ensures)
 
@@ -103,7 +95,10 @@ returns-5 c =
     let at-current = at-if3 .before in
     let at-if2 = at-current .before .before in
     let at-if1 = at-if2 .before .before in
-    change-first _ (at-if1 .if1 .left) (at-if2 .if2 .left) _ (at-current .current .ensures)
+    let at-second = at-if1 .before .before in
+    let at-first = at-second .before in
+    change-first _ _ _ (at-first .first .ensures) (at-second .second .ensures) (at-if1 .if1 .left)
+    (at-if2 .if2 .left) _ (at-current .current .ensures)
     (at-if3 .if3 .left)
     (c .before .before .before .if4 .left) _ (c .before .before .is-changeable .ensures)
     (not-yes _ (c .before .if5 .taken)) (c .refused5 .ensures)
@@ -122,17 +117,20 @@ returns-6 c =
     let at-current = at-if3 .before in
     let at-if2 = at-current .before .before in
     let at-if1 = at-if2 .before .before in
-    change-second _ (at-if1 .if1 .left) (at-if2 .if2 .left) _ (at-current .current .ensures)
+    let at-second = at-if1 .before .before in
+    let at-first = at-second .before in
+    change-second _ _ _ (at-first .first .ensures) (at-second .second .ensures) (at-if1 .if1 .left)
+    (at-if2 .if2 .left) _ (at-current .current .ensures)
     (at-if3 .if3 .left) (at-if4 .if4 .left) _
     (at-is-changeable .is-changeable .ensures) (not-no _ (c .before .before .before .if5 .left)) _
     (c .before .before .is-changeable2 .ensures) (not-yes _ (c .before .if6 .taken))
     (c .refused6 .ensures)
 
-entry-requires : tie.Need-entry-requires
-entry-requires c κs = search needs
+class-entry-requires : tie.Need-class-entry-requires
+class-entry-requires c κs = search needs
 
-entry-requires-2 : tie.Need-entry-requires-2
-entry-requires-2 c κs =
+class-entry-requires-2 : tie.Need-class-entry-requires-2
+class-entry-requires-2 c κs =
     let at-if4 = c .before .before .before .before .before in
     let at-if3 = at-if4 .before in
     let at-current = at-if3 .before in
@@ -160,11 +158,14 @@ returns-7 c =
     let at-current = at-if3 .before in
     let at-if2 = at-current .before .before in
     let at-if1 = at-if2 .before .before in
-    change-roots _ (at-if1 .if1 .left) (at-if2 .if2 .left) _ (at-current .current .ensures)
+    let at-second = at-if1 .before .before in
+    let at-first = at-second .before in
+    change-roots _ _ _ (at-first .first .ensures) (at-second .second .ensures) (at-if1 .if1 .left)
+    (at-if2 .if2 .left) _ (at-current .current .ensures)
     (at-if3 .if3 .left) (at-if4 .if4 .left) _
     (at-is-changeable .is-changeable .ensures) (not-no _ (at-if5 .if5 .left)) _
     (at-is-changeable2 .is-changeable2 .ensures) (not-no _ (at-if6 .if6 .left)) _ _
-    (c .before .before .before .entry .ensures) (c .before .before .entry2 .ensures)
+    (c .before .before .before .class-entry .ensures) (c .before .before .class-entry2 .ensures)
     (c .before .if7 .taken) (c .refused7 .ensures)
 
 effect-of-requires : tie.Need-effect-of-requires
@@ -172,7 +173,7 @@ effect-of-requires c κs =
     let at-if1 = c .before .before .before .before .before .before .before .before .before .before .before
     .before .before in
     let start = at-if1 .before .before .before .before .before .before .before in
-    omega (arith, c .before .before .entry .ensures, start .pre .roots _ (at-if1 .if1 .left))
+    omega (arith, c .before .before .class-entry .ensures, start .pre .roots _ (at-if1 .if1 .left))
 
 apply-all-requires : tie.Need-apply-all-requires
 apply-all-requires c κs =
@@ -223,9 +224,9 @@ returns-8 c =
     let at-apply-all = c .before .before .before .before in
     let at-effect-of = at-apply-all .before .before in
     let at-if7 = at-effect-of .before in
-    let at-entry2 = at-if7 .before in
-    let at-entry = at-entry2 .before in
-    let at-if6 = at-entry .before in
+    let at-class-entry2 = at-if7 .before in
+    let at-class-entry = at-class-entry2 .before in
+    let at-if6 = at-class-entry .before in
     let at-is-changeable2 = at-if6 .before in
     let at-if5 = at-is-changeable2 .before in
     let at-is-changeable = at-if5 .before in
@@ -234,12 +235,15 @@ returns-8 c =
     let at-current = at-if3 .before in
     let at-if2 = at-current .before .before in
     let at-if1 = at-if2 .before .before in
-    let start = at-if1 .before .before .before .before .before .before .before in
-    change-done _ (at-if1 .if1 .left) (at-if2 .if2 .left) _ (at-current .current .ensures) (at-if3 .if3 .left)
+    let at-second = at-if1 .before .before in
+    let at-first = at-second .before in
+    let start = at-first .before .before .before .before in
+    change-done _ _ _ (at-first .first .ensures) (at-second .second .ensures) (at-if1 .if1 .left)
+    (at-if2 .if2 .left) _ (at-current .current .ensures) (at-if3 .if3 .left)
     (at-if4 .if4 .left) _
     (at-is-changeable .is-changeable .ensures) (not-no _ (at-if5 .if5 .left)) _
     (at-is-changeable2 .is-changeable2 .ensures) (not-no _ (at-if6 .if6 .left)) _ _
-    (at-entry .entry .ensures) (at-entry2 .entry2 .ensures) (at-if7 .if7 .left) _
+    (at-class-entry .class-entry .ensures) (at-class-entry2 .class-entry2 .ensures) (at-if7 .if7 .left) _
     (at-effect-of .effect-of .ensures) refl _ _ (c .with-current .ensures) (start .pre .scoped)
     (at-apply-all .apply-all .ensures)
 
@@ -247,15 +251,9 @@ pub change-spec : {M : Type 1} → statement M
 change-spec =
     tie.close
     (tie.spec
-    mul-k
-    add-k
-    mul-k-2
-    shared-slice-read-k
+    first-requires
     cast-k
-    mul-target
-    add-target
-    mul-target-2
-    shared-slice-read-target
+    second-requires
     refused-requires
     returns
     refused-requires-2
@@ -273,8 +271,8 @@ change-spec =
     is-changeable-requires-2
     refused-requires-6
     returns-6
-    entry-requires
-    entry-requires-2
+    class-entry-requires
+    class-entry-requires-2
     refused-requires-7
     returns-7
     effect-of-requires

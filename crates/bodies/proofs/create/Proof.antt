@@ -4,38 +4,28 @@ use Rattle.bodies.proofs.Cases.{created-no, created-yes}
 use Rattle.bodies.proofs.create.Statement.{statement}
 use Rattle.bodies.proofs.create.Tie as tie
 
-mul-class : tie.Need-mul-class
-mul-class c = search needs
-
-add-class : tie.Need-add-class
-add-class c = search needs
-
-mul-class-2 : tie.Need-mul-class-2
-mul-class-2 c = search needs
-
-shared-slice-read-class : tie.Need-shared-slice-read-class
-shared-slice-read-class c = search needs
+first-requires : tie.Need-first-requires
+first-requires c κs = search needs
 
 refused-requires : tie.Need-refused-requires
 refused-requires c κs = search needs
 
 returns : tie.Need-returns
-returns c = created-no _ _ _ _ (c .before .if1 .taken) (c .refused .ensures)
+returns c = created-no _ _ _ _ _ (c .before .before .before .first .ensures) (c .before .if1 .taken)
+    (c .refused .ensures)
 
 plain-requires : tie.Need-plain-requires
 plain-requires c κs = search needs
 
 returns-2 : tie.Need-returns-2
-returns-2 c = created-yes _ _ _ _ (c .before .if1 .left) (c .plain .ensures)
+returns-2 c = created-yes _ _ _ _ _ (c .before .before .before .first .ensures) (c .before .if1 .left)
+    (c .plain .ensures)
 
 pub create-spec : {M : Type 1} → statement M
 create-spec =
     tie.close
     (tie.spec
-    mul-class
-    add-class
-    mul-class-2
-    shared-slice-read-class
+    first-requires
     refused-requires
     returns
     plain-requires

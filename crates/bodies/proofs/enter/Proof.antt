@@ -1,7 +1,9 @@
 -- `bodies::enter` meets its contract. Assumes nothing.
+use mathlib.Core.Path.{ap, _∙_}
 use Prim.Native.Nat.{_-_, _≤_}
 use native.Mathlib.Omega.{arith}
 use Rattle.bodies.proofs.WholeLaws.{Entering, enter-start, enter-step, enter-long, enter-end}
+use Rattle.bodies.specs.Answers.{fresh-in}
 use Rattle.bodies.proofs.enter.Statement.{statement}
 use Rattle.bodies.proofs.enter.Tie as tie
 
@@ -20,65 +22,13 @@ slice-write-slots c = omega (arith, c .before .before .before .pre .slots)
 loop-holds : tie.Need-loop-holds Inv-loop μ-loop
 loop-holds c = (omega arith, enter-start _ _ _)
 
-add-fresh : tie.Need-add-fresh Inv-loop μ-loop
-add-fresh c =
+add-first : tie.Need-add-first Inv-loop μ-loop
+add-first c =
     let start = c .before .before .before .before .before in
-    omega (
-      arith,
-      start .pre .slots,
-      start .pre .rows,
-      enter-long _ (start .args .slots .now) _ (c .before .before .fresh .result) _ _
-          (c .before .loop .inv .1),
-      start .good,
-    )
+    omega (arith, start .pre .rows, start .good)
 
-mul-fresh : tie.Need-mul-fresh Inv-loop μ-loop
-mul-fresh c =
-    let start = c .before .before .before .before .before in
-    omega (
-      arith,
-      start .pre .slots,
-      start .pre .rows,
-      enter-long _ (start .args .slots .now) _ (c .before .before .fresh .result) _ _
-          (c .before .loop .inv .1),
-      start .good,
-    )
-
-add-fresh-2 : tie.Need-add-fresh-2 Inv-loop μ-loop
-add-fresh-2 c =
-    let start = c .before .before .before .before .before in
-    omega (
-      arith,
-      start .pre .slots,
-      start .pre .rows,
-      enter-long _ (start .args .slots .now) _ (c .before .before .fresh .result) _ _
-          (c .before .loop .inv .1),
-      start .good,
-    )
-
-mul-fresh-2 : tie.Need-mul-fresh-2 Inv-loop μ-loop
-mul-fresh-2 c =
-    let start = c .before .before .before .before .before in
-    omega (
-      arith,
-      start .pre .slots,
-      start .pre .rows,
-      enter-long _ (start .args .slots .now) _ (c .before .before .fresh .result) _ _
-          (c .before .loop .inv .1),
-      start .good,
-    )
-
-shared-slice-read-fresh : tie.Need-shared-slice-read-fresh Inv-loop μ-loop
-shared-slice-read-fresh c =
-    let start = c .before .before .before .before .before .before in
-    omega (
-      arith,
-      start .pre .slots,
-      start .pre .rows,
-      enter-long _ (start .args .slots .now) _ (c .before .before .before .fresh .result) _ _
-          (c .before .before .loop .inv .1),
-      start .good,
-    )
+first-requires : tie.Need-first-requires Inv-loop μ-loop
+first-requires c κs = omega (arith, c .before .before .before .before .before .pre .rows)
 
 fresh-requires-2 : tie.Need-fresh-requires-2 Inv-loop μ-loop
 fresh-requires-2 c κs = tt
@@ -151,7 +101,7 @@ loop-again c =
                 (c .before .before .before .loop .inv .1),
             c .before .before .before .loop .inv .1 .long,
           )) _
-          (c .fresh2 .ensures),
+          (c .fresh2 .ensures ∙ ap fresh-in (c .before .first .ensures)),
     )
 
 same-length : tie.Need-same-length Inv-loop μ-loop
@@ -160,10 +110,8 @@ same-length c =
     enter-long _ (start .args .slots .now) _ (c .before .before .fresh .result) _ _ (c .before .loop .inv .1)
 
 returns : tie.Need-returns Inv-loop μ-loop
-returns c =
-    let start = c .before .before .before .before .before in
-    enter-end _ _ _ _ _ _ _ _ (c .before .before .fresh .ensures) (c .loop-test .left)
-    (omega (arith, start .pre .slots)) (c .before .loop .inv .1)
+returns c = enter-end _ _ _ _ _ _ _ _ (c .before .before .fresh .ensures) (c .loop-test .left)
+    (omega (arith, c .before .before .before .before .before .pre .slots)) (c .before .loop .inv .1)
 
 pub enter-spec : {M : Type 1} → statement M
 enter-spec =
@@ -174,11 +122,8 @@ enter-spec =
     fresh-requires
     slice-write-slots
     loop-holds
-    add-fresh
-    mul-fresh
-    add-fresh-2
-    mul-fresh-2
-    shared-slice-read-fresh
+    add-first
+    first-requires
     fresh-requires-2
     add-slots
     mul-slots

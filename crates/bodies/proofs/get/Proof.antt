@@ -1,6 +1,4 @@
 -- `bodies::get` meets its contract. Assumes nothing.
-use Prim.Native.Nat.{_+_, _*_}
-use native.Mathlib.Omega.{arith}
 use borrow.Author.Needs.{needs}
 use Rattle.bodies.proofs.Cases.{got-other, got-missing, got-found}
 use Rattle.bodies.proofs.get.Statement.{statement}
@@ -15,28 +13,16 @@ not-class-requires c κs = search needs
 returns : tie.Need-returns
 returns c = got-other _ _ _ _ _ _ _ (c .before .match .keys2) (c .not-class .ensures)
 
-mul-name : tie.Need-mul-name
-mul-name c = search needs
-
-add-name : tie.Need-add-name
-add-name c = search needs
-
-mul-name-2 : tie.Need-mul-name-2
-mul-name-2 c = search needs
-
-shared-slice-read-name : tie.Need-shared-slice-read-name
-shared-slice-read-name c = search needs
+first-requires : tie.Need-first-requires
+first-requires c κs = search needs
 
 cast-name : tie.Need-cast-name
-cast-name c =
-    let at-shared-slice-known = c .before .before .before .before .before .before in
-    let start = at-shared-slice-known .before in
-    omega (arith, at-shared-slice-known .shared-slice-known .given (start .args .at * 4 + 1))
+cast-name c = search needs
 
 field-type-requires : tie.Need-field-type-requires
 field-type-requires c κs =
     let start = c .before .before .before .before .before .before .before in
-    start .pre .field _ (c .before .before .t .given .1) .0
+    rw (c .first .ensures) (start .pre .field _ (c .before .before .t .given .1) .0)
 
 enum-known-sought : tie.Need-enum-known-sought
 enum-known-sought c = search needs
@@ -49,8 +35,10 @@ refused-requires c κs = search needs
 
 returns-2 : tie.Need-returns-2
 returns-2 c =
-    let at-t = c .before .before .before .before .before .before in
-    got-missing _ _ _ _ _ _ _ (at-t .t .given .1) _ (c .before .before .before .field-type .ensures) _
+    let at-first = c .before .before .before .before in
+    let at-t = at-first .before .before in
+    got-missing _ _ _ _ _ _ _ (at-t .t .given .1) _ (at-first .first .ensures) _
+    (c .before .before .before .field-type .ensures) _
     (c .before .enum-told .given .1) (c .refused .ensures)
 
 note-requires : tie.Need-note-requires
@@ -69,8 +57,10 @@ returns-3 : tie.Need-returns-3
 returns-3 c =
     let at-sought = c .before .before .before .before .before .before in
     let at-field-type = at-sought .before .before in
-    let at-t = at-field-type .before .before .before in
-    got-found _ _ _ _ _ _ _ (at-t .t .given .1) _ (at-field-type .field-type .ensures) _
+    let at-first = at-field-type .before in
+    let at-t = at-first .before .before in
+    got-found _ _ _ _ _ _ _ (at-t .t .given .1) _ (at-first .first .ensures) _
+    (at-field-type .field-type .ensures) _
     (at-sought .sought .given .0 .0 .number) _
     (at-sought .sought .given .1) (c .typing-of .ensures) (c .before .before .before .note .ensures)
 
@@ -81,10 +71,7 @@ get-spec =
     enum-known-t
     not-class-requires
     returns
-    mul-name
-    add-name
-    mul-name-2
-    shared-slice-read-name
+    first-requires
     cast-name
     field-type-requires
     enum-known-sought

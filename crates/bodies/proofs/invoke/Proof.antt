@@ -10,6 +10,44 @@ use Rattle.bodies.proofs.ActLaws.{no-class-of, place-none, place-some, 
 use Rattle.bodies.proofs.invoke.Statement.{statement}
 use Rattle.bodies.proofs.invoke.Tie as tie
 
+-- Where the table leads to a method: what is known of its number.
+in-methods : (c : tie.Else1)
+    → (c .before .class-entry .result - 1) * 4 + 2
+    < length (c .before .before .before .before .before .before .before .before .before .before .before
+    .before .before .before .before .args .methods .now)
+in-methods c =
+    let at-apply = c .before .before .before .before in
+    let at-t = at-apply .before .before in
+    let start = at-t .before .before .before .before .before .before .before .before .before in
+    called-method (start .pre) (at-t .t .given .1) (at-apply .apply .ensures)
+    (c .before .before .before .first .ensures)
+    (c .before .class-entry .ensures) (c .if1 .left) .inside
+
+in-effects : (c : tie.Else1)
+    → c .before .class-entry .result - 1
+    < length (c .before .before .before .before .before .before .before .before .before .before .before
+    .before .before .before .before .args .effects .now)
+in-effects c =
+    let at-apply = c .before .before .before .before in
+    let at-t = at-apply .before .before in
+    let start = at-t .before .before .before .before .before .before .before .before .before in
+    called-method (start .pre) (at-t .t .given .1) (at-apply .apply .ensures)
+    (c .before .before .before .first .ensures)
+    (c .before .class-entry .ensures) (c .if1 .left) .effect
+
+on-line : (c : tie.Else1)
+    → method-line (c .before .before .before .before .before .before .before .before .before .before .before
+    .before .before .before .before .args .methods .now) (c .before .class-entry .result - 1) * 4 + 3
+    < length (c .before .before .before .before .before .before .before .before .before .before .before
+    .before .before .before .before .args .rows .now)
+on-line c =
+    let at-apply = c .before .before .before .before in
+    let at-t = at-apply .before .before in
+    let start = at-t .before .before .before .before .before .before .before .before .before in
+    called-method (start .pre) (at-t .t .given .1) (at-apply .apply .ensures)
+    (c .before .before .before .first .ensures)
+    (c .before .class-entry .ensures) (c .if1 .left) .line
+
 enum-known-t : tie.Need-enum-known-t
 enum-known-t c = search needs
 
@@ -27,45 +65,23 @@ apply-requires c κs =
     let start = c .before .before .before .before .before .before .before .before .before .before in
     let w = start .pre .receiver _ (c .before .t .given .1) in (w .inside, w .root)
 
-mul-name : tie.Need-mul-name
-mul-name c = search needs
-
-add-name : tie.Need-add-name
-add-name c = search needs
-
-mul-name-2 : tie.Need-mul-name-2
-mul-name-2 c = search needs
-
-shared-slice-read-name : tie.Need-shared-slice-read-name
-shared-slice-read-name c = search needs
+first-requires : tie.Need-first-requires
+first-requires c κs = search needs
 
 cast-name : tie.Need-cast-name
 cast-name c = search needs
 
-mul-n : tie.Need-mul-n
-mul-n c = search needs
-
-add-n : tie.Need-add-n
-add-n c = search needs
-
-mul-n-2 : tie.Need-mul-n-2
-mul-n-2 c = search needs
-
-shared-slice-read-n : tie.Need-shared-slice-read-n
-shared-slice-read-n c = search needs
+second-requires : tie.Need-second-requires
+second-requires c κs = search needs
 
 cast-n : tie.Need-cast-n
-cast-n c =
-    let at-shared-slice-known =
-    c .before .before .before .before .before .before .before .before .before .before .before .before in
-    let start = at-shared-slice-known .before in
-    omega (arith, at-shared-slice-known .shared-slice-known .given (start .args .at * 4 + 2))
+cast-n c = search needs
 
-add-entry : tie.Need-add-entry
-add-entry c = search needs
+add-class-entry : tie.Need-add-class-entry
+add-class-entry c = search needs
 
-entry-requires : tie.Need-entry-requires
-entry-requires c κs =
+class-entry-requires : tie.Need-class-entry-requires
+class-entry-requires c κs =
     let at-t = c .before .before .before .before in
     let start = at-t .before .before .before .before .before .before .before .before .before in
     omega (
@@ -73,6 +89,7 @@ entry-requires c κs =
       c .before .before .apply .ensures,
       start .pre .receiver _ (at-t .t .given .1) .after,
       start .pre .name,
+      c .before .first .ensures,
     )
 
 cast-stored : tie.Need-cast-stored
@@ -83,46 +100,13 @@ refused-requires-2 c κs = search needs
 
 returns-2 : tie.Need-returns-2
 returns-2 c =
-    let at-apply = c .before .before .before .before .before in
+    let at-first = c .before .before .before .before in
+    let at-apply = at-first .before in
     let at-t = at-apply .before .before in
     no-method _ (at-t .t .given .1)
-    (place-none _ _ _ _ _ _ (at-apply .apply .ensures) (c .before .before .entry .ensures)
+    (place-none _ _ _ _ _ _ _ (at-apply .apply .ensures) (at-first .first .ensures)
+    (c .before .before .class-entry .ensures)
     (c .before .if1 .taken)) (c .refused2 .ensures) (record { slots-same = refl; classes-same = refl })
-
--- Where the table leads to a method: what is known of its number.
-in-methods : (c : tie.Else1)
-    → (c .before .entry .result - 1) * 4 + 2
-    < length (c .before .before .before .before .before .before .before .before .before .before .before
-    .before .before .before .before .args .methods .now)
-in-methods c =
-    let at-apply = c .before .before .before .before in
-    let at-t = at-apply .before .before in
-    let start = at-t .before .before .before .before .before .before .before .before .before in
-    called-method (start .pre) (at-t .t .given .1) (at-apply .apply .ensures) (c .before .entry .ensures)
-    (c .if1 .left) .inside
-
-in-effects : (c : tie.Else1)
-    → c .before .entry .result - 1
-    < length (c .before .before .before .before .before .before .before .before .before .before .before
-    .before .before .before .before .args .effects .now)
-in-effects c =
-    let at-apply = c .before .before .before .before in
-    let at-t = at-apply .before .before in
-    let start = at-t .before .before .before .before .before .before .before .before .before in
-    called-method (start .pre) (at-t .t .given .1) (at-apply .apply .ensures) (c .before .entry .ensures)
-    (c .if1 .left) .effect
-
-on-line : (c : tie.Else1)
-    → method-line (c .before .before .before .before .before .before .before .before .before .before .before
-    .before .before .before .before .args .methods .now) (c .before .entry .result - 1) * 4 + 3
-    < length (c .before .before .before .before .before .before .before .before .before .before .before
-    .before .before .before .before .args .rows .now)
-on-line c =
-    let at-apply = c .before .before .before .before in
-    let at-t = at-apply .before .before in
-    let start = at-t .before .before .before .before .before .before .before .before .before in
-    called-method (start .pre) (at-t .t .given .1) (at-apply .apply .ensures) (c .before .entry .ensures)
-    (c .if1 .left) .line
 
 sub-number : tie.Need-sub-number
 sub-number c = search needs
@@ -155,7 +139,7 @@ cast-parameters c =
     omega (
       arith,
       at-shared-slice-known4 .shared-slice-known4 .given
-          ((c .before .before .entry .result - 1) * 4 + 2),
+          ((c .before .before .class-entry .result - 1) * 4 + 2),
     )
 
 refused-requires-3 : tie.Need-refused-requires-3
@@ -163,12 +147,16 @@ refused-requires-3 c κs = search needs
 
 returns-3 : tie.Need-returns-3
 returns-3 c =
-    let at-entry = c .before .before .before .before in
-    let at-apply = at-entry .before .before .before in
+    let at-class-entry = c .before .before .before .before in
+    let at-second = at-class-entry .before in
+    let at-first = at-second .before in
+    let at-apply = at-first .before in
     let at-t = at-apply .before .before in
     other-count _ _ (at-t .t .given .1)
-    (place-some _ _ _ _ _ _ (at-apply .apply .ensures) (at-entry .entry .ensures)
-    (c .before .before .before .if1 .left)) (c .before .if2 .taken) (c .refused3 .ensures)
+    (place-some _ _ _ _ _ _ _ (at-apply .apply .ensures) (at-first .first .ensures)
+    (at-class-entry .class-entry .ensures)
+    (c .before .before .before .if1 .left))
+    (λ e. c .before .if2 .taken (e ∙ sym (at-second .second .ensures))) (c .refused3 .ensures)
     (record { slots-same = refl; classes-same = refl })
 
 mul-row : tie.Need-mul-row
@@ -188,10 +176,14 @@ shared-slice-read-row c = omega (arith, in-methods (c .before .before .before))
 
 cast-row : tie.Need-cast-row
 cast-row c =
-    let at-entry = c .before .before .before .before in
-    let at-shared-slice-known4 = at-entry .before .before .before .before .before .before .before .before
-    .before .before in
-    omega (arith, at-shared-slice-known4 .shared-slice-known4 .given ((at-entry .entry .result - 1) * 4))
+    let at-class-entry = c .before .before .before .before in
+    let at-shared-slice-known4 = at-class-entry .before .before .before .before .before .before .before
+    .before .before .before in
+    omega (
+      arith,
+      at-shared-slice-known4 .shared-slice-known4 .given
+          ((at-class-entry .class-entry .result - 1) * 4),
+    )
 
 add-are-fitting : tie.Need-add-are-fitting
 add-are-fitting c =
@@ -202,12 +194,16 @@ add-are-fitting c =
 are-fitting-requires : tie.Need-are-fitting-requires
 are-fitting-requires c κs =
     let at-if1 = c .before .before .before .before in
-    let at-entry = at-if1 .before in
-    let at-apply = at-entry .before .before .before in
+    let at-class-entry = at-if1 .before in
+    let at-second = at-class-entry .before in
+    let at-first = at-second .before in
+    let at-apply = at-first .before in
     let at-t = at-apply .before .before in
     let start = at-t .before .before .before .before .before .before .before .before .before in
-    called-method (start .pre) (at-t .t .given .1) (at-apply .apply .ensures) (at-entry .entry .ensures)
-    (at-if1 .if1 .left) .fitting (c .before .before .if2 .left)
+    rw (at-second .second .ensures)
+    (called-method (start .pre) (at-t .t .given .1) (at-apply .apply .ensures) (at-first .first .ensures)
+    (at-class-entry .class-entry .ensures) (at-if1 .if1 .left) .fitting
+    (c .before .before .if2 .left ∙ at-second .second .ensures))
 
 refused-requires-4 : tie.Need-refused-requires-4
 refused-requires-4 c κs = search needs
@@ -219,13 +215,18 @@ returns-4 : tie.Need-returns-4
 returns-4 c =
     let at-if2 = c .before .before .before .before .before in
     let at-if1 = at-if2 .before .before in
-    let at-entry = at-if1 .before in
-    let at-apply = at-entry .before .before .before in
+    let at-class-entry = at-if1 .before in
+    let at-second = at-class-entry .before in
+    let at-first = at-second .before in
+    let at-apply = at-first .before in
     let at-t = at-apply .before .before in
     unfit _ _ (at-t .t .given .1)
-    (place-some _ _ _ _ _ _ (at-apply .apply .ensures) (at-entry .entry .ensures) (at-if1 .if1 .left))
-    (at-if2 .if2 .left)
-    (sym (c .before .before .are-fitting .ensures) ∙ not-yes _ (c .before .if3 .taken)) (c .refused4 .ensures)
+    (place-some _ _ _ _ _ _ _ (at-apply .apply .ensures) (at-first .first .ensures)
+    (at-class-entry .class-entry .ensures) (at-if1 .if1 .left))
+    (at-if2 .if2 .left ∙ at-second .second .ensures)
+    (rw (← (at-second .second .ensures))
+    (sym (c .before .before .are-fitting .ensures) ∙ not-yes _ (c .before .if3 .taken)))
+    (c .refused4 .ensures)
     (record { slots-same = refl; classes-same = refl })
 
 mul-own : tie.Need-mul-own
@@ -235,8 +236,7 @@ mul-own c =
     omega (arith, in-effects (c .before .before .before .before .before .before), start .good)
 
 shared-slice-read-own : tie.Need-shared-slice-read-own
-shared-slice-read-own c =
-    in-effects (c .before .before .before .before .before .before .before)
+shared-slice-read-own c = in-effects (c .before .before .before .before .before .before .before)
 
 apply-all-requires : tie.Need-apply-all-requires
 apply-all-requires c κs = search needs
@@ -249,48 +249,12 @@ note-requires c κs =
     let start = at-t .before .before .before .before .before .before .before .before .before in
     omega (arith, at-apply .apply .ensures, start .pre .receiver _ (at-t .t .given .1) .low)
 
-mul-from-number : tie.Need-mul-from-number
-mul-from-number c =
-    let start = c .before .before .before .before .before .before .before .before .before .before .before
-    .before .before .before .before .before .before .before .before .before .before .before .before
-    .before .before .before .before .before .before .before in
+first-requires-2 : tie.Need-first-requires-2
+first-requires-2 c κs =
     omega (
       arith,
       on-line (c .before .before .before .before .before .before .before .before .before .before
           .before .before .before .before .before),
-      start .good,
-    )
-
-add-from-number : tie.Need-add-from-number
-add-from-number c =
-    let start = c .before .before .before .before .before .before .before .before .before .before .before
-    .before .before .before .before .before .before .before .before .before .before .before .before
-    .before .before .before .before .before .before .before in
-    omega (
-      arith,
-      on-line (c .before .before .before .before .before .before .before .before .before .before
-          .before .before .before .before .before),
-      start .good,
-    )
-
-mul-from-number-2 : tie.Need-mul-from-number-2
-mul-from-number-2 c =
-    let start = c .before .before .before .before .before .before .before .before .before .before .before
-    .before .before .before .before .before .before .before .before .before .before .before .before
-    .before .before .before .before .before .before .before in
-    omega (
-      arith,
-      on-line (c .before .before .before .before .before .before .before .before .before .before
-          .before .before .before .before .before),
-      start .good,
-    )
-
-shared-slice-read-from-number : tie.Need-shared-slice-read-from-number
-shared-slice-read-from-number c =
-    omega (
-      arith,
-      on-line (c .before .before .before .before .before .before .before .before .before .before
-          .before .before .before .before .before .before),
     )
 
 from-number-requires : tie.Need-from-number-requires
@@ -313,18 +277,23 @@ returns-5 c =
     let at-are-fitting = at-if3 .before in
     let at-if2 = at-are-fitting .before .before .before in
     let at-if1 = at-if2 .before .before in
-    let at-entry = at-if1 .before in
-    let at-apply = at-entry .before .before .before in
+    let at-class-entry = at-if1 .before in
+    let at-second = at-class-entry .before in
+    let at-first = at-second .before in
+    let at-apply = at-first .before in
     let at-t = at-apply .before .before in
     let start = at-t .before .before .before .before .before .before .before .before .before in
     done _ _ (at-t .t .given .1)
-    (place-some _ _ _ _ _ _ (at-apply .apply .ensures) (at-entry .entry .ensures) (at-if1 .if1 .left))
-    (at-if2 .if2 .left)
-    (sym (at-are-fitting .are-fitting .ensures) ∙ not-no _ (at-if3 .if3 .left))
+    (place-some _ _ _ _ _ _ _ (at-apply .apply .ensures) (at-first .first .ensures)
+    (at-class-entry .class-entry .ensures) (at-if1 .if1 .left))
+    (at-if2 .if2 .left ∙ at-second .second .ensures)
+    (rw (← (at-second .second .ensures))
+    (sym (at-are-fitting .are-fitting .ensures) ∙ not-no _ (at-if3 .if3 .left)))
     (record {
       out = done-out (start .args .rows .now)
-          (method-line (start .args .methods .now) (at-entry .entry .result - 1)) _ _ _ _ _
-          (c .before .before .from-number .ensures) (c .before .typing-of .ensures);
+          (method-line (start .args .methods .now) (at-class-entry .class-entry .result - 1)) _ _ _ _ _
+          (c .before .before .from-number .ensures ∙ c .before .before .before .first2 .ensures)
+          (c .before .typing-of .ensures);
       slots = at-apply-all .apply-all .ensures;
       noted = at-note .note .ensures
           ∙ ap (λ (x : ℕ). set (start .args .class-at .now) (start .args .at) x) (at-apply .apply .ensures);
@@ -338,18 +307,12 @@ invoke-spec =
     refused-requires
     returns
     apply-requires
-    mul-name
-    add-name
-    mul-name-2
-    shared-slice-read-name
+    first-requires
     cast-name
-    mul-n
-    add-n
-    mul-n-2
-    shared-slice-read-n
+    second-requires
     cast-n
-    add-entry
-    entry-requires
+    add-class-entry
+    class-entry-requires
     cast-stored
     refused-requires-2
     returns-2
@@ -374,10 +337,7 @@ invoke-spec =
     shared-slice-read-own
     apply-all-requires
     note-requires
-    mul-from-number
-    add-from-number
-    mul-from-number-2
-    shared-slice-read-from-number
+    first-requires-2
     from-number-requires
     typing-of-requires
     same-length-2

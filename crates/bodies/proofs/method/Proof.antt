@@ -1,4 +1,5 @@
 -- `bodies::method` meets its contract. Assumes nothing.
+use mathlib.Core.Path.{_∙_}
 use Prim.Native.Nat.{_+_, _*_}
 use native.Mathlib.Omega.{arith}
 use borrow.Author.Needs.{needs}
@@ -126,8 +127,8 @@ enter-requires c κs =
     .before .before in
     facts-enter (start .pre .facts) (start .pre .space)
 
-add-from-number : tie.Need-add-from-number
-add-from-number c =
+add-t22 : tie.Need-add-t22
+add-t22 c =
     let start = c .before .before .before .before .before .before .before .before .before .before .before
     .before .before .before .before .before in
     omega (arith, facts-few (start .pre .facts) (start .pre .space))
@@ -155,44 +156,11 @@ returns c =
     method-refused (body-typed (at-enter .enter .ensures) (at-expression .expression .ensures)) _ _
     (c .before .t .given .1)
 
-mul-from-number : tie.Need-mul-from-number
-mul-from-number c =
+first-requires : tie.Need-first-requires
+first-requires c κs =
     let start = c .before .before .before .before .before .before .before .before .before .before .before
     .before .before .before .before .before .before .before .before .before .before .before .before
     .before in
-    omega (
-      arith,
-      facts-line (start .pre .facts) (start .pre .space),
-      facts-low (start .pre .facts) (start .pre .space),
-    )
-
-add-from-number-2 : tie.Need-add-from-number-2
-add-from-number-2 c =
-    let start = c .before .before .before .before .before .before .before .before .before .before .before
-    .before .before .before .before .before .before .before .before .before .before .before .before
-    .before in
-    omega (
-      arith,
-      facts-line (start .pre .facts) (start .pre .space),
-      facts-low (start .pre .facts) (start .pre .space),
-    )
-
-mul-from-number-2 : tie.Need-mul-from-number-2
-mul-from-number-2 c =
-    let start = c .before .before .before .before .before .before .before .before .before .before .before
-    .before .before .before .before .before .before .before .before .before .before .before .before
-    .before in
-    omega (
-      arith,
-      facts-line (start .pre .facts) (start .pre .space),
-      facts-low (start .pre .facts) (start .pre .space),
-    )
-
-shared-slice-read-from-number : tie.Need-shared-slice-read-from-number
-shared-slice-read-from-number c =
-    let start = c .before .before .before .before .before .before .before .before .before .before .before
-    .before .before .before .before .before .before .before .before .before .before .before .before
-    .before .before in
     omega (
       arith,
       facts-line (start .pre .facts) (start .pre .space),
@@ -210,11 +178,11 @@ is-fitting-requires c κs =
     .before .before .before .before in (
       body-case (body-typed (at-enter .enter .ensures) (at-expression .expression .ensures))
           (c .before .before .match .keys2) (start .pre .facts) (start .pre .space),
-      result-low (start .pre .facts) _ (c .from-number .ensures),
+      result-low (start .pre .facts) _ (c .from-number .ensures ∙ c .before .first .ensures),
     )
 
-cast-t41 : tie.Need-cast-t41
-cast-t41 c =
+cast-t40 : tie.Need-cast-t40
+cast-t40 c =
     let start = c .before .before .before .before .before .before .before .before .before .before .before
     .before .before .before .before .before .before .before .before .before .before .before .before
     .before .before .before .before .before in
@@ -224,8 +192,8 @@ cast-t41 c =
       facts-low (start .pre .facts) (start .pre .space),
     )
 
-add-t42 : tie.Need-add-t42
-add-t42 c =
+add-t41 : tie.Need-add-t41
+add-t41 c =
     let start = c .before .before .before .before .before .before .before .before .before .before .before
     .before .before .before .before .before .before .before .before .before .before .before .before
     .before .before .before .before .before in
@@ -247,7 +215,8 @@ returns-2 c =
     let at-expression = at-match .before .before .before .before .before in
     let at-enter = at-expression .before .before .before .before .before in
     method-unfit (body-typed (at-enter .enter .ensures) (at-expression .expression .ensures))
-    (at-match .match .keys2) _ (c .before .before .from-number .ensures) _
+    (at-match .match .keys2) _
+    (c .before .before .from-number .ensures ∙ c .before .before .before .first .ensures) _
     (c .before .is-fitting .ensures)
     (not-yes _ (c .if1 .taken))
 
@@ -268,8 +237,8 @@ shared-slice-read-is-within c =
 is-within-requires : tie.Need-is-within-requires
 is-within-requires c κs = search needs
 
-cast-t45 : tie.Need-cast-t45
-cast-t45 c =
+cast-t44 : tie.Need-cast-t44
+cast-t44 c =
     let start = c .before .before .before .before .before .before .before .before .before .before .before
     .before .before .before .before .before .before .before .before .before .before .before .before
     .before .before .before .before .before .before .before .before in
@@ -279,8 +248,8 @@ cast-t45 c =
       facts-low (start .pre .facts) (start .pre .space),
     )
 
-add-t46 : tie.Need-add-t46
-add-t46 c =
+add-t45 : tie.Need-add-t45
+add-t45 c =
     let start = c .before .before .before .before .before .before .before .before .before .before .before
     .before .before .before .before .before .before .before .before .before .before .before .before
     .before .before .before .before .before .before .before .before in
@@ -300,11 +269,12 @@ returns-3 : tie.Need-returns-3
 returns-3 c =
     let at-is-fitting = c .before .before .before .before in
     let at-from-number = at-is-fitting .before in
-    let at-match = at-from-number .before .before in
+    let at-first = at-from-number .before in
+    let at-match = at-first .before in
     let at-expression = at-match .before .before .before .before .before in
     let at-enter = at-expression .before .before .before .before .before in
     method-wide (body-typed (at-enter .enter .ensures) (at-expression .expression .ensures))
-    (at-match .match .keys2) _ (at-from-number .from-number .ensures) _
+    (at-match .match .keys2) _ (at-from-number .from-number .ensures ∙ at-first .first .ensures) _
     (at-is-fitting .is-fitting .ensures)
     (not-no _ (c .before .before .before .if1 .left)) _ (c .before .is-within .ensures)
     (not-yes _ (c .if2 .taken))
@@ -319,11 +289,12 @@ returns-4 : tie.Need-returns-4
 returns-4 c =
     let at-is-fitting = c .before .before .before .before in
     let at-from-number = at-is-fitting .before in
-    let at-match = at-from-number .before .before in
+    let at-first = at-from-number .before in
+    let at-match = at-first .before in
     let at-expression = at-match .before .before .before .before .before in
     let at-enter = at-expression .before .before .before .before .before in
     method-accepted (body-typed (at-enter .enter .ensures) (at-expression .expression .ensures))
-    (at-match .match .keys2) _ (at-from-number .from-number .ensures) _
+    (at-match .match .keys2) _ (at-from-number .from-number .ensures ∙ at-first .first .ensures) _
     (at-is-fitting .is-fitting .ensures)
     (not-no _ (c .before .before .before .if1 .left)) _ (c .before .is-within .ensures)
     (not-no _ (c .if2 .left))
@@ -353,28 +324,25 @@ method-spec =
     cast-body
     add-enter
     enter-requires
-    add-from-number
+    add-t22
     expression-requires
     enum-known-t
     same-length
     same-length-2
     returns
-    mul-from-number
-    add-from-number-2
-    mul-from-number-2
-    shared-slice-read-from-number
+    first-requires
     from-number-requires
     is-fitting-requires
-    cast-t41
-    add-t42
+    cast-t40
+    add-t41
     same-length-3
     same-length-4
     returns-2
     mul-is-within
     shared-slice-read-is-within
     is-within-requires
-    cast-t45
-    add-t46
+    cast-t44
+    add-t45
     same-length-5
     same-length-6
     returns-3

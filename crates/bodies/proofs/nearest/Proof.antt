@@ -25,8 +25,8 @@ is-below-requires c κs = (
   ),
 )
 
-entry-requires : tie.Need-entry-requires Inv-loop μ-loop
-entry-requires c κs =
+class-entry-requires : tie.Need-class-entry-requires Inv-loop μ-loop
+class-entry-requires c κs =
     let start = c .before .before .before .before .before in
     omega (arith, start .pre .sound .long, start .pre .first, c .before .before .loop .inv .low)
 
@@ -34,13 +34,13 @@ loop-less : tie.Need-loop-less Inv-loop μ-loop
 loop-less c =
     let start = c .before .before .before .before .before .before in
     going-step (start .pre) (c .before .before .before .loop .inv) _ (c .before .before .is-below .ensures)
-    (not-yes _ (c .before .if1 .taken)) _ (c .entry .ensures) .0
+    (not-yes _ (c .before .if1 .taken)) _ (c .class-entry .ensures) .0
 
 loop-again : tie.Need-loop-again Inv-loop μ-loop
 loop-again c =
     let start = c .before .before .before .before .before .before in
     going-step (start .pre) (c .before .before .before .loop .inv) _ (c .before .before .is-below .ensures)
-    (not-yes _ (c .before .if1 .taken)) _ (c .entry .ensures) .1
+    (not-yes _ (c .before .if1 .taken)) _ (c .class-entry .ensures) .1
 
 returns : tie.Need-returns Inv-loop μ-loop
 returns c = going-end (c .before .before .loop .inv) _ (c .before .is-below .ensures)
@@ -54,7 +54,7 @@ nearest-spec =
     μ-loop
     loop-holds
     is-below-requires
-    entry-requires
+    class-entry-requires
     loop-less
     loop-again
     returns)

@@ -1,7 +1,5 @@
 -- `bodies::read_slot` meets its contract. Assumes nothing.
 use mathlib.Core.Path.{ap, _∙_}
-use Prim.Native.Nat.{_+_, _*_}
-use native.Mathlib.Omega.{arith}
 use borrow.Author.Needs.{needs}
 use Rattle.bodies.proofs.Cases.{read-out, read-absent, read-there}
 use Rattle.bodies.specs.declared.Typing.{Typing}
@@ -9,30 +7,18 @@ use Rattle.bodies.specs.Answers.{answer, case-of-number}
 use Rattle.bodies.proofs.read_slot.Statement.{statement}
 use Rattle.bodies.proofs.read_slot.Tie as tie
 
-mul-k : tie.Need-mul-k
-mul-k c = search needs
-
-add-k : tie.Need-add-k
-add-k c = search needs
-
-mul-k-2 : tie.Need-mul-k-2
-mul-k-2 c = search needs
-
-shared-slice-read-k : tie.Need-shared-slice-read-k
-shared-slice-read-k c = search needs
+first-requires : tie.Need-first-requires
+first-requires c κs = search needs
 
 cast-k : tie.Need-cast-k
-cast-k c = omega (
-  arith,
-  c .before .before .shared-slice-known .given
-      (c .before .before .before .args .at * 4 + 1),
-)
+cast-k c = search needs
 
 refused-requires : tie.Need-refused-requires
 refused-requires c κs = search needs
 
 returns : tie.Need-returns
-returns c = read-out _ _ _ _ _ (c .before .if1 .taken) (c .refused .ensures)
+returns c = read-out _ _ _ _ _ _ (c .before .before .before .first .ensures) (c .before .if1 .taken)
+    (c .refused .ensures)
 
 mul-current : tie.Need-mul-current
 mul-current c = search needs
@@ -49,7 +35,9 @@ refused-requires-2 c κs = search needs
 returns-2 : tie.Need-returns-2
 returns-2 c =
     let at-if1 = c .before .before .before .before in
-    read-absent _ _ _ _ _ (at-if1 .if1 .left) _ (c .before .before .current .ensures) (c .before .if2 .taken)
+    let at-first = at-if1 .before .before in
+    read-absent _ _ _ _ _ _ (at-first .first .ensures) (at-if1 .if1 .left) _
+    (c .before .before .current .ensures) (c .before .if2 .taken)
     (c .refused2 .ensures)
 
 from-number-requires : tie.Need-from-number-requires
@@ -65,7 +53,8 @@ returns-3 : tie.Need-returns-3
 returns-3 c =
     let at-current = c .before .before .before .before in
     let at-if1 = at-current .before .before in
-    read-there _ _ _ _ _ (at-if1 .if1 .left) _ (at-current .current .ensures)
+    let at-first = at-if1 .before .before in
+    read-there _ _ _ _ _ _ (at-first .first .ensures) (at-if1 .if1 .left) _ (at-current .current .ensures)
     (c .before .before .before .if2 .left)
     (c .plain .ensures ∙ ap (λ (t : Typing). answer t 0)
     (c .before .typing-of .ensures ∙ ap case-of-number (c .before .before .from-number .ensures)))
@@ -74,10 +63,7 @@ pub read-slot-spec : {M : Type 1} → statement M
 read-slot-spec =
     tie.close
     (tie.spec
-    mul-k
-    add-k
-    mul-k-2
-    shared-slice-read-k
+    first-requires
     cast-k
     refused-requires
     returns

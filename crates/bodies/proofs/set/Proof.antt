@@ -1,12 +1,10 @@
 -- `bodies::set` meets its contract. Assumes nothing.
-use mathlib.Core.Path.{sym, ap, _∙_}
-use Prim.Native.Nat.{ℕ, _+_, _*_}
+use mathlib.Core.Path.{_∙_}
 use borrow.Author.Needs.{needs}
 use native.Mathlib.Omega.{arith}
 use Rattle.bodies.proofs.Laws.{not-yes, not-no}
-use lib.ListN.{getD}
-use Rattle.bodies.specs.Nodes.{field-in}
 use Rattle.bodies.proofs.ActLaws.{no-class-of, put-other, put-missing, put-unfit, put-done, field-at}
+use Rattle.bodies.proofs.ActLaws.{found-after}
 use Rattle.bodies.proofs.set.Statement.{statement}
 use Rattle.bodies.proofs.set.Tie as tie
 
@@ -27,29 +25,18 @@ apply-requires c κs =
     let start = c .before .before .before .before .before .before .before in
     let w = start .pre .object _ (c .before .t .given .1) .0 in (w .inside, w .root)
 
-mul-field-type : tie.Need-mul-field-type
-mul-field-type c = search needs
-
-add-field-type : tie.Need-add-field-type
-add-field-type c = search needs
-
-mul-field-type-2 : tie.Need-mul-field-type-2
-mul-field-type-2 c = search needs
-
-shared-slice-read-field-type : tie.Need-shared-slice-read-field-type
-shared-slice-read-field-type c = search needs
+first-requires : tie.Need-first-requires
+first-requires c κs = search needs
 
 cast-field-type : tie.Need-cast-field-type
-cast-field-type c =
-    let at-shared-slice-known = c .before .before .before .before .before .before .before .before in
-    let start = at-shared-slice-known .before in
-    omega (arith, at-shared-slice-known .shared-slice-known .given (start .args .at * 4 + 1))
+cast-field-type c = search needs
 
 field-type-requires : tie.Need-field-type-requires
 field-type-requires c κs =
     let start = c .before .before .before .before .before .before .before .before .before in
-    field-at _ _ _ _ _ (c .before .apply .ensures)
-    (start .pre .object _ (c .before .before .before .t .given .1) .1)
+    rw (c .first .ensures)
+    (field-at _ _ _ _ _ (c .before .apply .ensures)
+    (start .pre .object _ (c .before .before .before .t .given .1) .1))
 
 enum-known-sought : tie.Need-enum-known-sought
 enum-known-sought c = search needs
@@ -62,23 +49,24 @@ refused-requires-2 c κs = search needs
 
 returns-2 : tie.Need-returns-2
 returns-2 c =
-    let at-apply = c .before .before .before .before .before in
+    let at-first = c .before .before .before .before in
+    let at-apply = at-first .before in
     let at-t = at-apply .before .before in
     put-missing _ _ _ _ _ _ _ _ _ _ (at-t .t .given .1) (at-apply .apply .ensures) _
-    (c .before .before .before .field-type .ensures) _ (c .before .enum-told .given .1)
+    (at-first .first .ensures) _ (c .before .before .before .field-type .ensures) _
+    (c .before .enum-told .given .1)
     (c .refused2 .ensures)
 
 is-fitting-requires : tie.Need-is-fitting-requires
 is-fitting-requires c κs =
-    let at-apply = c .before .before .before .before .before in
+    let at-first = c .before .before .before .before in
+    let at-apply = at-first .before in
     let at-t = at-apply .before .before in
     let start = at-t .before .before .before .before .before .before in (
       start .pre .value,
       start .pre .declared _ _ (at-t .t .given .1)
-          (sym (c .before .before .before .field-type .ensures
-          ∙ ap (λ (x : ℕ). field-in (start .args .rows .now) (start .args .table .now) x
-          (getD (start .args .rows .now) (start .args .at * 4 + 1) 0)) (at-apply .apply .ensures))
-          ∙ c .before .sought .given .1),
+          (found-after _ _ _ _ _ _ _ (at-apply .apply .ensures) (at-first .first .ensures) _
+          (c .before .before .before .field-type .ensures) ∙ c .before .sought .given .1),
     )
 
 refused-requires-3 : tie.Need-refused-requires-3
@@ -88,10 +76,11 @@ returns-3 : tie.Need-returns-3
 returns-3 c =
     let at-sought = c .before .before .before .before in
     let at-field-type = at-sought .before .before in
-    let at-apply = at-field-type .before .before in
+    let at-first = at-field-type .before in
+    let at-apply = at-first .before in
     let at-t = at-apply .before .before in
-    put-unfit _ _ _ _ _ _ _ _ _ _ (at-t .t .given .1) (at-apply .apply .ensures) _
-    (at-field-type .field-type .ensures) _ (at-sought .sought .given .1) _
+    put-unfit _ _ _ _ _ _ _ _ _ _ (at-t .t .given .1) (at-apply .apply .ensures) _ (at-first .first .ensures)
+    _ (at-field-type .field-type .ensures) _ (at-sought .sought .given .1) _
     (c .before .before .is-fitting .ensures) _ (not-yes _ (c .before .if1 .taken)) (c .refused3 .ensures)
 
 note-requires : tie.Need-note-requires
@@ -111,9 +100,10 @@ returns-4 c =
     let at-is-fitting = at-if1 .before in
     let at-sought = at-is-fitting .before .before in
     let at-field-type = at-sought .before .before in
-    let at-apply = at-field-type .before .before in
+    let at-first = at-field-type .before in
+    let at-apply = at-first .before in
     let at-t = at-apply .before .before in
-    put-done _ _ _ _ _ _ _ _ _ _ (at-t .t .given .1) (at-apply .apply .ensures) _
+    put-done _ _ _ _ _ _ _ _ _ _ (at-t .t .given .1) (at-apply .apply .ensures) _ (at-first .first .ensures) _
     (at-field-type .field-type .ensures) _
     (at-sought .sought .given .1) _ (at-is-fitting .is-fitting .ensures) _ (not-no _ (at-if1 .if1 .left))
     (at-note .note .ensures)
@@ -126,10 +116,7 @@ set-spec =
     refused-requires
     returns
     apply-requires
-    mul-field-type
-    add-field-type
-    mul-field-type-2
-    shared-slice-read-field-type
+    first-requires
     cast-field-type
     field-type-requires
     enum-known-sought

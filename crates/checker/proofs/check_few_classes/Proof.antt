@@ -13,7 +13,7 @@ slice-aggregate-check-formed-2 c = search needs
 
 check-formed-requires : tie.Need-check-formed-requires
 check-formed-requires c κs =
-    let start = c .before .before .before .before .before .before .before .before .before .before in
+    let start = c .before .before .before .before .before .before .before .before in
     (start .pre .0, (start .pre .1 .0, few-classes _ (start .pre .1 .1 .1) (omega (arith, start .pre .1 .1))))
 
 same-length : tie.Need-same-length
@@ -22,13 +22,9 @@ same-length c = search needs
 same-length-2 : tie.Need-same-length-2
 same-length-2 c = search needs
 
-same-length-3 : tie.Need-same-length-3
-same-length-3 c = search needs
-
 returns : tie.Need-returns
 returns c =
-    let at-check-formed = c .before .before .before .before .before .before .before .before in
-    checks-above (at-check-formed .check-formed .ensures)
+    checks-above (c .before .before .before .before .before .before .check-formed .ensures)
 
 pub check-few-classes-spec : {M : Type 1} → statement M
 check-few-classes-spec =
@@ -39,5 +35,4 @@ check-few-classes-spec =
     check-formed-requires
     same-length
     same-length-2
-    same-length-3
     returns)

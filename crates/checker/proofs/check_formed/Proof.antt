@@ -1,33 +1,13 @@
 -- `checker::check_formed` meets its contract. Assumes nothing.
-use Rattle.checker.proofs.Passing.{ready, headings-passed, headings-refused}
 use borrow.Author.Needs.{needs}
 use Rattle.checker.proofs.check_formed.Statement.{statement}
 use Rattle.checker.proofs.check_formed.Tie as tie
 
-check-headings-requires : tie.Need-check-headings-requires
-check-headings-requires c κs =
-    let start = c .before .before .before .before .before .before .before .before .before .before .before in
-    ready (start .pre .0) (start .pre .1 .0) (start .pre .1 .1)
-
-enum-known-headed : tie.Need-enum-known-headed
-enum-known-headed c = search needs
-
-cast-type-bodies : tie.Need-cast-type-bodies
-cast-type-bodies c = search needs
-
-type-bodies-requires : tie.Need-type-bodies-requires
-type-bodies-requires c κs =
-    let at-headed = c .before .before .before .before .before .before in
-    let at-check-headings = at-headed .before .before .before .before .before .before .before .before .before
-    .before in
-    let start = at-check-headings .before .before .before .before .before .before .before .before .before
-    .before .before .before in
-    headings-passed (start .pre .0) _ (start .pre .1 .0 .whole) (at-headed .headed .given .1)
-    (at-check-headings .check-headings .ensures
-    (ready (start .pre .0) (start .pre .1 .0) (start .pre .1 .1)))
-
-enum-known-headed-2 : tie.Need-enum-known-headed-2
-enum-known-headed-2 c = search needs
+check-formed-short-requires : tie.Need-check-formed-short-requires
+check-formed-short-requires c κs =
+    let at-if1 = c .before .before .before .before in
+    let start = at-if1 .before .before .before .before .before .before .before in
+    (start .pre .0, (start .pre .1 .0, (start .pre .1 .1, at-if1 .if1 .taken)))
 
 same-length : tie.Need-same-length
 same-length c = search needs
@@ -41,11 +21,17 @@ same-length-3 c = search needs
 same-length-4 : tie.Need-same-length-4
 same-length-4 c = search needs
 
-same-length-5 : tie.Need-same-length-5
-same-length-5 c = search needs
-
 returns : tie.Need-returns
 returns c = search needs
+
+check-formed-few-requires : tie.Need-check-formed-few-requires
+check-formed-few-requires c κs =
+    let at-if2 = c .before .before .before .before in
+    let start = at-if2 .before .before .before .before .before .before .before .before in
+    (start .pre .0, (start .pre .1 .0, (start .pre .1 .1, at-if2 .if2 .taken)))
+
+same-length-5 : tie.Need-same-length-5
+same-length-5 c = search needs
 
 same-length-6 : tie.Need-same-length-6
 same-length-6 c = search needs
@@ -56,36 +42,46 @@ same-length-7 c = search needs
 same-length-8 : tie.Need-same-length-8
 same-length-8 c = search needs
 
+returns-2 : tie.Need-returns-2
+returns-2 c = search needs
+
+check-formed-many-requires : tie.Need-check-formed-many-requires
+check-formed-many-requires c κs = search needs
+
 same-length-9 : tie.Need-same-length-9
 same-length-9 c = search needs
 
-returns-2 : tie.Need-returns-2
-returns-2 c =
-    let at-check-headings =
-    c .before .before .before .before .before .before .before .before .before .before .before in
-    let start = at-check-headings .before .before .before .before .before .before .before .before .before
-    .before .before .before in
-    headings-refused (start .pre .0) _ (start .pre .1 .0 .whole) (c .before .headed2 .given .1)
-    (at-check-headings .check-headings .ensures
-    (ready (start .pre .0) (start .pre .1 .0) (start .pre .1 .1)) .0)
+same-length-10 : tie.Need-same-length-10
+same-length-10 c = search needs
+
+same-length-11 : tie.Need-same-length-11
+same-length-11 c = search needs
+
+same-length-12 : tie.Need-same-length-12
+same-length-12 c = search needs
+
+returns-3 : tie.Need-returns-3
+returns-3 c = search needs
 
 pub check-formed-spec : {M : Type 1} → statement M
 check-formed-spec =
     tie.close
     (tie.spec
-    check-headings-requires
-    enum-known-headed
-    cast-type-bodies
-    type-bodies-requires
-    enum-known-headed-2
+    check-formed-short-requires
     same-length
     same-length-2
     same-length-3
     same-length-4
-    same-length-5
     returns
+    check-formed-few-requires
+    same-length-5
     same-length-6
     same-length-7
     same-length-8
+    returns-2
+    check-formed-many-requires
     same-length-9
-    returns-2)
+    same-length-10
+    same-length-11
+    same-length-12
+    returns-3)

@@ -12,14 +12,10 @@ enum-known-formed c = search needs
 
 check-classes-requires : tie.Need-check-classes-requires
 check-classes-requires c κs =
-    let at-formed = c .before .before .before .before .before in
+    let at-formed = c .before .before .before .before in
     let at-check-form = at-formed .before .before .before .before in
-    let start = at-check-form .before .before .before .before .before .before .before in (
-      stands (start .args .rows .now) (start .pre .0 .whole) (start .args .ends .now) _ _ _ _
-          (at-formed .formed .given .1)
-          (at-check-form .check-form .ensures .0) (at-check-form .check-form .ensures .1),
-      (room-kept (start .pre .0) (at-check-form .check-form .kept .1 .0), start .pre .1),
-    )
+    let start = at-check-form .before .before .before .before .before .before in
+    (stands (start .args .rows .now) (start .pre .0 .whole) (start .args .ends .now) _ _ _ _ (at-formed .formed .given .1) (at-check-form .check-form .ensures .0) (at-check-form .check-form .ensures .1), (room-kept (start .pre .0) (at-check-form .check-form .kept .1 .0), start .pre .1))
 
 enum-known-formed-2 : tie.Need-enum-known-formed-2
 enum-known-formed-2 c = search needs
@@ -33,22 +29,17 @@ same-length-2 c = search needs
 same-length-3 : tie.Need-same-length-3
 same-length-3 c = search needs
 
-same-length-4 : tie.Need-same-length-4
-same-length-4 c = search needs
-
 returns : tie.Need-returns
 returns c = search needs
 
-same-length-5 : tie.Need-same-length-5
-same-length-5 c = search needs
+same-length-4 : tie.Need-same-length-4
+same-length-4 c = search needs
 
 returns-2 : tie.Need-returns-2
 returns-2 c =
     let at-check-form = c .before .before .before .before .before in
-    let start = at-check-form .before .before .before .before .before .before .before in
-    refuses-above (start .args .rows .now) _ _
-    (not-in-form (start .args .rows .now) (start .pre .0 .whole) _ _ _ (c .before .formed2 .given .1)
-    (at-check-form .check-form .ensures .0))
+    let start = at-check-form .before .before .before .before .before .before in
+    refuses-above (start .args .rows .now) _ _ (not-in-form (start .args .rows .now) (start .pre .0 .whole) _ _ _ (c .before .formed2 .given .1) (at-check-form .check-form .ensures .0))
 
 pub check-whole-spec : {M : Type 1} → statement M
 check-whole-spec =
@@ -61,7 +52,6 @@ check-whole-spec =
     same-length
     same-length-2
     same-length-3
-    same-length-4
     returns
-    same-length-5
+    same-length-4
     returns-2)

@@ -19,34 +19,26 @@ use Rattle.form.proofs.+pass_node+pass_nodes+pass_parts.Proof.PassNode.
 use Rattle.form.proofs.+pass_node+pass_nodes+pass_parts.Proof.PassNode.{pass-node-cast-t13}
 use Rattle.form.proofs.+pass_node+pass_nodes+pass_parts.Proof.PassNode.{pass-node-add-t14}
 use Rattle.form.proofs.+pass_node+pass_nodes+pass_parts.Proof.PassNode.{pass-node-returns}
-use Rattle.form.proofs.+pass_node+pass_nodes+pass_parts.Proof.PassNode.{pass-node-mul-code}
-use Rattle.form.proofs.+pass_node+pass_nodes+pass_parts.Proof.PassNode.{pass-node-mul-code-2}
-use Rattle.form.proofs.+pass_node+pass_nodes+pass_parts.Proof.PassNode.{pass-node-shared-slice-read-code}
-use Rattle.form.proofs.+pass_node+pass_nodes+pass_parts.Proof.PassNode.{pass-node-mul-parts-of}
-use Rattle.form.proofs.+pass_node+pass_nodes+pass_parts.Proof.PassNode.{pass-node-add-parts-of}
-use Rattle.form.proofs.+pass_node+pass_nodes+pass_parts.Proof.PassNode.{pass-node-mul-parts-of-2}
-use Rattle.form.proofs.+pass_node+pass_nodes+pass_parts.Proof.PassNode.{pass-node-shared-slice-read-parts-of}
-use Rattle.form.proofs.+pass_node+pass_nodes+pass_parts.Proof.PassNode.{pass-node-mul-parts-of-3}
-use Rattle.form.proofs.+pass_node+pass_nodes+pass_parts.Proof.PassNode.{pass-node-add-parts-of-2}
-use Rattle.form.proofs.+pass_node+pass_nodes+pass_parts.Proof.PassNode.{pass-node-mul-parts-of-4}
-use Rattle.form.proofs.+pass_node+pass_nodes+pass_parts.Proof.PassNode.{pass-node-shared-slice-read-parts-of-2}
+use Rattle.form.proofs.+pass_node+pass_nodes+pass_parts.Proof.PassNode.{pass-node-letter-at-requires}
+use Rattle.form.proofs.+pass_node+pass_nodes+pass_parts.Proof.PassNode.{pass-node-first-requires}
+use Rattle.form.proofs.+pass_node+pass_nodes+pass_parts.Proof.PassNode.{pass-node-second-requires}
 use Rattle.form.proofs.+pass_node+pass_nodes+pass_parts.Proof.PassNode.{pass-node-parts-of-requires}
 use Rattle.form.proofs.+pass_node+pass_nodes+pass_parts.Proof.PassNode.{pass-node-enum-known-parts}
 use Rattle.form.proofs.+pass_node+pass_nodes+pass_parts.Proof.PassNode.{pass-node-enum-told}
-use Rattle.form.proofs.+pass_node+pass_nodes+pass_parts.Proof.PassNode.{pass-node-cast-t26}
-use Rattle.form.proofs.+pass_node+pass_nodes+pass_parts.Proof.PassNode.{pass-node-add-t27}
+use Rattle.form.proofs.+pass_node+pass_nodes+pass_parts.Proof.PassNode.{pass-node-cast-t17}
+use Rattle.form.proofs.+pass_node+pass_nodes+pass_parts.Proof.PassNode.{pass-node-add-t18}
 use Rattle.form.proofs.+pass_node+pass_nodes+pass_parts.Proof.PassNode.{pass-node-returns-2}
-use Rattle.form.proofs.+pass_node+pass_nodes+pass_parts.Proof.PassNode.{pass-node-cast-t28}
-use Rattle.form.proofs.+pass_node+pass_nodes+pass_parts.Proof.PassNode.{pass-node-add-t29}
+use Rattle.form.proofs.+pass_node+pass_nodes+pass_parts.Proof.PassNode.{pass-node-cast-t19}
+use Rattle.form.proofs.+pass_node+pass_nodes+pass_parts.Proof.PassNode.{pass-node-add-t20}
 use Rattle.form.proofs.+pass_node+pass_nodes+pass_parts.Proof.PassNode.{pass-node-returns-3}
-use Rattle.form.proofs.+pass_node+pass_nodes+pass_parts.Proof.PassNode.{pass-node-cast-t31}
-use Rattle.form.proofs.+pass_node+pass_nodes+pass_parts.Proof.PassNode.{pass-node-add-t32}
+use Rattle.form.proofs.+pass_node+pass_nodes+pass_parts.Proof.PassNode.{pass-node-cast-t22}
+use Rattle.form.proofs.+pass_node+pass_nodes+pass_parts.Proof.PassNode.{pass-node-add-t23}
 use Rattle.form.proofs.+pass_node+pass_nodes+pass_parts.Proof.PassNode.{pass-node-returns-4}
 use Rattle.form.proofs.+pass_node+pass_nodes+pass_parts.Proof.PassNode.{pass-node-add-ends}
 use Rattle.form.proofs.+pass_node+pass_nodes+pass_parts.Proof.PassNode.{pass-node-cast-ends}
 use Rattle.form.proofs.+pass_node+pass_nodes+pass_parts.Proof.PassNode.{pass-node-mul-ends}
 use Rattle.form.proofs.+pass_node+pass_nodes+pass_parts.Proof.PassNode.{pass-node-slice-write-ends}
-use Rattle.form.proofs.+pass_node+pass_nodes+pass_parts.Proof.PassNode.{pass-node-add-t33}
+use Rattle.form.proofs.+pass_node+pass_nodes+pass_parts.Proof.PassNode.{pass-node-add-t24}
 use Rattle.form.proofs.+pass_node+pass_nodes+pass_parts.Proof.PassNode.{pass-node-same-length}
 use Rattle.form.proofs.+pass_node+pass_nodes+pass_parts.Proof.PassNode.{pass-node-returns-5}
 use Rattle.form.proofs.+pass_node+pass_nodes+pass_parts.Proof.PassNode.{pass-node-sub-pass-parts}
@@ -96,34 +88,26 @@ pub +pass-node+pass-nodes+pass-parts-spec : {M : Type 1} → statement M
     (pass-node-cast-t13 t)
     (pass-node-add-t14 t)
     (pass-node-returns t)
-    (pass-node-mul-code t)
-    (pass-node-mul-code-2 t)
-    (pass-node-shared-slice-read-code t)
-    (pass-node-mul-parts-of t)
-    (pass-node-add-parts-of t)
-    (pass-node-mul-parts-of-2 t)
-    (pass-node-shared-slice-read-parts-of t)
-    (pass-node-mul-parts-of-3 t)
-    (pass-node-add-parts-of-2 t)
-    (pass-node-mul-parts-of-4 t)
-    (pass-node-shared-slice-read-parts-of-2 t)
+    (pass-node-letter-at-requires t)
+    (pass-node-first-requires t)
+    (pass-node-second-requires t)
     (pass-node-parts-of-requires t)
     (pass-node-enum-known-parts t)
     (pass-node-enum-told t)
-    (pass-node-cast-t26 t)
-    (pass-node-add-t27 t)
+    (pass-node-cast-t17 t)
+    (pass-node-add-t18 t)
     (pass-node-returns-2 t)
-    (pass-node-cast-t28 t)
-    (pass-node-add-t29 t)
+    (pass-node-cast-t19 t)
+    (pass-node-add-t20 t)
     (pass-node-returns-3 t)
-    (pass-node-cast-t31 t)
-    (pass-node-add-t32 t)
+    (pass-node-cast-t22 t)
+    (pass-node-add-t23 t)
     (pass-node-returns-4 t)
     (pass-node-add-ends t)
     (pass-node-cast-ends t)
     (pass-node-mul-ends t)
     (pass-node-slice-write-ends t)
-    (pass-node-add-t33 t)
+    (pass-node-add-t24 t)
     (pass-node-same-length t)
     (pass-node-returns-5 t)
     (pass-node-sub-pass-parts t)

@@ -1,8 +1,6 @@
 -- Does a record of a letter stand at a row. Assumes nothing.
 use mathlib.Core.Path.{sym, _∙_}
-use Prim.Native.Nat.{_*_}
 use native.Mathlib.Omega.{arith}
-use lib.ListN.{getD}
 use borrow.Author.Needs.{needs}
 use mathlib.Core.Bool.{false≢true}
 use Rattle.form.proofs.Places.{here, standing-here, standing-refused, eqb-turn}
@@ -21,20 +19,13 @@ returns c = (
   λ e. absurd (false≢true e),
 )
 
-mul-result : tie.Need-mul-result
-mul-result c = search needs
-
-mul-result-2 : tie.Need-mul-result-2
-mul-result-2 c = search needs
-
-shared-slice-read-result : tie.Need-shared-slice-read-result
-shared-slice-read-result c =
-    omega (arith, (c .before .before .refuse-row .ensures .1 (c .before .if1 .left)) .1)
+letter-at-requires : tie.Need-letter-at-requires
+letter-at-requires c κs = omega (arith, (c .before .refuse-row .ensures .1 (c .if1 .left)) .1)
 
 returns-2 : tie.Need-returns-2
 returns-2 c =
     let start = c .before .before .before .before in (
-      eqb-turn (getD (start .args .rows .now) ((start .args .at) * 4) 0) (start .args .letter)
+      eqb-turn (start .args .letter) (c .letter-at .ensures)
           ∙ sym (standing-here
           (here (start .args .rows .now) (start .args .at)
           (sym (c .before .if1 .left) ∙ c .before .before .refuse-row .ensures .0)
@@ -49,7 +40,5 @@ is-letter-spec =
     (tie.spec
     refuse-row-requires
     returns
-    mul-result
-    mul-result-2
-    shared-slice-read-result
+    letter-at-requires
     returns-2)

@@ -29,26 +29,16 @@ returns c =
     (start .args .slots) (c .before .refuse-row .result) (c .before .refuse-row .ensures .0)
     (c .if1 .taken)) (told-refuse (c .before .refuse-row .result) ((start .args .at) + 1))
 
-mul-if2 : tie.Need-mul-if2
-mul-if2 c =
-    let start = c .before .before .before .before in
-    omega (arith, start .pre .0 .within, start .pre .0 .fits .rows)
+letter-at-requires : tie.Need-letter-at-requires
+letter-at-requires c κs = omega (arith, (c .before .refuse-row .ensures .1 (c .if1 .left)) .1)
 
-mul-if2-2 : tie.Need-mul-if2-2
-mul-if2-2 c =
-    let start = c .before .before .before .before in
-    omega (arith, start .pre .0 .within, start .pre .0 .fits .rows)
-
-shared-slice-read-if2 : tie.Need-shared-slice-read-if2
-shared-slice-read-if2 c = omega (arith, (c .before .before .refuse-row .ensures .1 (c .before .if1 .left)) .1)
-
-cast-t14 : tie.Need-cast-t14
-cast-t14 c =
+cast-t11 : tie.Need-cast-t11
+cast-t11 c =
     let start = c .before .before .before .before .before .before in
     omega (arith, start .pre .0 .within, start .pre .0 .fits .rows)
 
-add-t15 : tie.Need-add-t15
-add-t15 c =
+add-t12 : tie.Need-add-t12
+add-t12 c =
     let start = c .before .before .before .before .before .before in
     omega (arith, start .pre .0 .within, start .pre .0 .fits .rows)
 
@@ -58,7 +48,8 @@ returns-2 c =
     told-as (body-other (start .args .limits) (start .args .rows .now) (start .args .at) (start .args .slots)
     (here (start .args .rows .now) (start .args .at)
     (sym (c .before .before .if1 .left) ∙ c .before .before .before .refuse-row .ensures .0)
-    (c .before .before .before .refuse-row .ensures .1 (c .before .before .if1 .left))) (c .if2 .taken))
+    (c .before .before .before .refuse-row .ensures .1 (c .before .before .if1 .left)))
+    (λ e. c .if2 .taken (c .before .letter-at .ensures ∙ e)))
     (told-refuse 3 ((start .args .at) + 1))
 
 pass-node-requires : tie.Need-pass-node-requires
@@ -69,13 +60,16 @@ same-length c = c .before .before .pass-node .kept .1 .0
 
 returns-3 : tie.Need-returns-3
 returns-3 c =
-    let start = c .before .before .before .before .before .before .before .before .before .before in
-    let the-refuse-row = c .before .before .before .before .before .before .before .refuse-row in
-    let the-if1 = c .before .before .before .before .before .before .if1 in
-    let the-if2 = c .before .before .before .before .if2 in
+    let at-if2 = c .before .before .before .before in
+    let at-letter-at = at-if2 .before in
+    let at-if1 = at-letter-at .before in
+    let at-refuse-row = at-if1 .before in
+    let start = at-refuse-row .before .before .before in
     told-as (body-here (start .args .limits) (start .args .rows .now) (start .args .at) (start .args .slots)
-    (here (start .args .rows .now) (start .args .at) (sym (the-if1 .left) ∙ the-refuse-row .ensures .0)
-    (the-refuse-row .ensures .1 (the-if1 .left))) (the-if2 .left)) (c .before .before .pass-node .ensures)
+    (here (start .args .rows .now) (start .args .at)
+    (sym (at-if1 .if1 .left) ∙ at-refuse-row .refuse-row .ensures .0)
+    (at-refuse-row .refuse-row .ensures .1 (at-if1 .if1 .left)))
+    (sym (at-letter-at .letter-at .ensures) ∙ at-if2 .if2 .left)) (c .before .before .pass-node .ensures)
 
 pub pass-body-spec : {M : Type 1} → statement M
 pass-body-spec =
@@ -85,11 +79,9 @@ pass-body-spec =
     cast-t8
     add-t9
     returns
-    mul-if2
-    mul-if2-2
-    shared-slice-read-if2
-    cast-t14
-    add-t15
+    letter-at-requires
+    cast-t11
+    add-t12
     returns-2
     pass-node-requires
     same-length

@@ -46,96 +46,86 @@ returns : tie.Need-returns Inv-loop μ-loop
 returns c = declaring-refused (c .before .before .before .loop .inv) (c .before .before .loop-test .taken)
     (c .before .refuse-row .result) (c .before .refuse-row .ensures .0) (c .if1 .taken)
 
-mul-if2 : tie.Need-mul-if2 Inv-loop μ-loop
-mul-if2 c = omega (
-  arith,
-  c .before .before .before .loop .inv .ready .within,
-  c .before .before .before .loop .inv .ready .fits .rows,
-)
+letter-at-requires : tie.Need-letter-at-requires Inv-loop μ-loop
+letter-at-requires c κs = omega (arith, (c .before .refuse-row .ensures .1 (c .if1 .left)) .1)
 
-mul-if2-2 : tie.Need-mul-if2-2 Inv-loop μ-loop
-mul-if2-2 c = omega (
-  arith,
-  c .before .before .before .loop .inv .ready .within,
-  c .before .before .before .loop .inv .ready .fits .rows,
-)
+cast-t15 : tie.Need-cast-t15 Inv-loop μ-loop
+cast-t15 c =
+    let at-loop = c .before .before .before .before .before in
+    omega (arith, at-loop .loop .inv .ready .within, at-loop .loop .inv .ready .fits .rows)
 
-shared-slice-read-if2 : tie.Need-shared-slice-read-if2 Inv-loop μ-loop
-shared-slice-read-if2 c = omega (arith, (c .before .before .refuse-row .ensures .1 (c .before .if1 .left)) .1)
-
-cast-t18 : tie.Need-cast-t18 Inv-loop μ-loop
-cast-t18 c =
-    let the-loop = c .before .before .before .before .before .loop in
-    omega (arith, the-loop .inv .ready .within, the-loop .inv .ready .fits .rows)
-
-add-t19 : tie.Need-add-t19 Inv-loop μ-loop
-add-t19 c =
-    let the-loop = c .before .before .before .before .before .loop in
-    omega (arith, the-loop .inv .ready .within, the-loop .inv .ready .fits .rows)
+add-t16 : tie.Need-add-t16 Inv-loop μ-loop
+add-t16 c =
+    let at-loop = c .before .before .before .before .before in
+    omega (arith, at-loop .loop .inv .ready .within, at-loop .loop .inv .ready .fits .rows)
 
 same-length-2 : tie.Need-same-length-2 Inv-loop μ-loop
 same-length-2 c = c .before .before .before .before .before .loop .inv .long
 
 returns-2 : tie.Need-returns-2 Inv-loop μ-loop
 returns-2 c =
-    let start = c .before .before .before .before .before .before .before .before in
-    let the-loop = c .before .before .before .before .before .loop in
-    let the-loop-test = c .before .before .before .before .loop-test in
-    declaring-other (the-loop .inv) (the-loop-test .taken)
-    (here (start .args .rows .now) (the-loop .i)
+    let at-loop-test = c .before .before .before .before in
+    let at-loop = at-loop-test .before in
+    let start = at-loop .before .before .before in
+    declaring-other (at-loop .loop .inv) (at-loop-test .loop-test .taken)
+    (here (start .args .rows .now) (at-loop .loop .i)
     (sym (c .before .before .if1 .left) ∙ c .before .before .before .refuse-row .ensures .0)
-    (c .before .before .before .refuse-row .ensures .1 (c .before .before .if1 .left))) (c .if2 .taken)
+    (c .before .before .before .refuse-row .ensures .1 (c .before .before .if1 .left)))
+    (λ e. c .if2 .taken (c .before .letter-at .ensures ∙ e))
 
-cast-t20 : tie.Need-cast-t20 Inv-loop μ-loop
-cast-t20 c =
-    let the-loop = c .before .before .before .before .before .before .before .loop in
-    omega (arith, the-loop .inv .ready .within, the-loop .inv .ready .fits .rows)
+cast-t17 : tie.Need-cast-t17 Inv-loop μ-loop
+cast-t17 c =
+    let at-loop = c .before .before .before .before .before .before .before in
+    omega (arith, at-loop .loop .inv .ready .within, at-loop .loop .inv .ready .fits .rows)
 
-add-t21 : tie.Need-add-t21 Inv-loop μ-loop
-add-t21 c =
-    let the-loop = c .before .before .before .before .before .before .before .loop in
-    omega (arith, the-loop .inv .ready .within, the-loop .inv .ready .fits .rows)
+add-t18 : tie.Need-add-t18 Inv-loop μ-loop
+add-t18 c =
+    let at-loop = c .before .before .before .before .before .before .before in
+    omega (arith, at-loop .loop .inv .ready .within, at-loop .loop .inv .ready .fits .rows)
 
 same-length-3 : tie.Need-same-length-3 Inv-loop μ-loop
 same-length-3 c = c .before .before .before .before .before .before .before .loop .inv .long
 
 returns-3 : tie.Need-returns-3 Inv-loop μ-loop
 returns-3 c =
-    let start = c .before .before .before .before .before .before .before .before .before .before in
-    let the-loop = c .before .before .before .before .before .before .before .loop in
-    let the-loop-test = c .before .before .before .before .before .before .loop-test in
-    let the-refuse-row = c .before .before .before .before .before .refuse-row in
-    let the-if1 = c .before .before .before .before .if1 in
-    declaring-over (the-loop .inv) (the-loop-test .taken)
-    (here (start .args .rows .now) (the-loop .i) (sym (the-if1 .left) ∙ the-refuse-row .ensures .0)
-    (the-refuse-row .ensures .1 (the-if1 .left))) (c .before .before .if2 .left) (c .if3 .taken)
+    let at-if1 = c .before .before .before .before in
+    let at-refuse-row = at-if1 .before in
+    let at-loop-test = at-refuse-row .before in
+    let at-loop = at-loop-test .before in
+    let start = at-loop .before .before .before in
+    declaring-over (at-loop .loop .inv) (at-loop-test .loop-test .taken)
+    (here (start .args .rows .now) (at-loop .loop .i)
+    (sym (at-if1 .if1 .left) ∙ at-refuse-row .refuse-row .ensures .0)
+    (at-refuse-row .refuse-row .ensures .1 (at-if1 .if1 .left)))
+    (sym (c .before .before .before .letter-at .ensures) ∙ c .before .before .if2 .left) (c .if3 .taken)
 
 add-ends : tie.Need-add-ends Inv-loop μ-loop
 add-ends c =
-    let the-loop = c .before .before .before .before .before .before .before .loop in
-    omega (arith, the-loop .inv .ready .within, the-loop .inv .ready .fits .rows)
+    let at-loop = c .before .before .before .before .before .before .before in
+    omega (arith, at-loop .loop .inv .ready .within, at-loop .loop .inv .ready .fits .rows)
 
 cast-ends : tie.Need-cast-ends Inv-loop μ-loop
 cast-ends c =
-    let the-loop = c .before .before .before .before .before .before .before .loop in
-    omega (arith, the-loop .inv .ready .within, the-loop .inv .ready .fits .rows)
+    let at-loop = c .before .before .before .before .before .before .before in
+    omega (arith, at-loop .loop .inv .ready .within, at-loop .loop .inv .ready .fits .rows)
 
 mul-ends : tie.Need-mul-ends Inv-loop μ-loop
 mul-ends c =
-    let the-loop = c .before .before .before .before .before .before .before .loop in
-    omega (arith, the-loop .inv .ready .within, the-loop .inv .ready .fits .rows)
+    let at-loop = c .before .before .before .before .before .before .before in
+    omega (arith, at-loop .loop .inv .ready .within, at-loop .loop .inv .ready .fits .rows)
 
 slice-write-ends : tie.Need-slice-write-ends Inv-loop μ-loop
 slice-write-ends c =
-    let the-loop = c .before .before .before .before .before .before .before .loop in
-    let the-refuse-row = c .before .before .before .before .before .refuse-row in
-    let the-if1 = c .before .before .before .before .if1 in
-    row-room (the-loop .inv .ready) (the-loop .i) (the-refuse-row .ensures .1 (the-if1 .left))
+    let at-if1 = c .before .before .before .before in
+    let at-refuse-row = at-if1 .before in
+    let at-loop = at-refuse-row .before .before in
+    row-room (at-loop .loop .inv .ready) (at-loop .loop .i)
+    (at-refuse-row .refuse-row .ensures .1 (at-if1 .if1 .left))
 
 add-i : tie.Need-add-i Inv-loop μ-loop
 add-i c =
-    let the-loop = c .before .before .before .before .before .before .before .loop in
-    omega (arith, the-loop .inv .ready .within, the-loop .inv .ready .fits .rows)
+    let at-loop = c .before .before .before .before .before .before .before in
+    omega (arith, at-loop .loop .inv .ready .within, at-loop .loop .inv .ready .fits .rows)
 
 sub-left : tie.Need-sub-left Inv-loop μ-loop
 sub-left c = omega (arith, c .before .before .before .before .before .before .loop-test .taken)
@@ -148,15 +138,17 @@ loop-less c = omega (arith, c .before .before .before .before .before .before .l
 
 loop-again : tie.Need-loop-again Inv-loop μ-loop
 loop-again c =
-    let start = c .before .before .before .before .before .before .before .before .before .before in
-    let the-loop = c .before .before .before .before .before .before .before .loop in
-    let the-loop-test = c .before .before .before .before .before .before .loop-test in
-    let the-refuse-row = c .before .before .before .before .before .refuse-row in
-    let the-if1 = c .before .before .before .before .if1 in
-    declaring-step (the-loop .inv) (the-loop-test .taken)
-    (here (start .args .rows .now) (the-loop .i) (sym (the-if1 .left) ∙ the-refuse-row .ensures .0)
-    (the-refuse-row .ensures .1 (the-if1 .left))) (c .before .before .if2 .left)
-    (the-refuse-row .ensures .1 (the-if1 .left)) (c .if3 .left)
+    let at-if1 = c .before .before .before .before in
+    let at-refuse-row = at-if1 .before in
+    let at-loop-test = at-refuse-row .before in
+    let at-loop = at-loop-test .before in
+    let start = at-loop .before .before .before in
+    declaring-step (at-loop .loop .inv) (at-loop-test .loop-test .taken)
+    (here (start .args .rows .now) (at-loop .loop .i)
+    (sym (at-if1 .if1 .left) ∙ at-refuse-row .refuse-row .ensures .0)
+    (at-refuse-row .refuse-row .ensures .1 (at-if1 .if1 .left)))
+    (sym (c .before .before .before .letter-at .ensures) ∙ c .before .before .if2 .left)
+    (at-refuse-row .refuse-row .ensures .1 (at-if1 .if1 .left)) (c .if3 .left)
 
 same-length-4 : tie.Need-same-length-4 Inv-loop μ-loop
 same-length-4 c = c .before .loop .inv .long
@@ -176,15 +168,13 @@ pass-locals-spec =
     add-t13
     same-length
     returns
-    mul-if2
-    mul-if2-2
-    shared-slice-read-if2
-    cast-t18
-    add-t19
+    letter-at-requires
+    cast-t15
+    add-t16
     same-length-2
     returns-2
-    cast-t20
-    add-t21
+    cast-t17
+    add-t18
     same-length-3
     returns-3
     add-ends

@@ -34,26 +34,16 @@ returns c =
     λ cs e d. start-refused (start .args .limits) (start .args .rows .now) (start .args .at) cs
     (c .before .refuse-row .result) (c .before .refuse-row .ensures .0) (c .if1 .taken)
 
-mul-if2 : tie.Need-mul-if2
-mul-if2 c =
-    let start = c .before .before .before .before in
-    omega (arith, start .pre .within, start .pre .fits .rows)
+letter-at-requires : tie.Need-letter-at-requires
+letter-at-requires c κs = omega (arith, (c .before .refuse-row .ensures .1 (c .if1 .left)) .1)
 
-mul-if2-2 : tie.Need-mul-if2-2
-mul-if2-2 c =
-    let start = c .before .before .before .before in
-    omega (arith, start .pre .within, start .pre .fits .rows)
-
-shared-slice-read-if2 : tie.Need-shared-slice-read-if2
-shared-slice-read-if2 c = omega (arith, (c .before .before .refuse-row .ensures .1 (c .before .if1 .left)) .1)
-
-cast-t18 : tie.Need-cast-t18
-cast-t18 c =
+cast-t15 : tie.Need-cast-t15
+cast-t15 c =
     let start = c .before .before .before .before .before .before in
     omega (arith, start .pre .within, start .pre .fits .rows)
 
-add-t19 : tie.Need-add-t19
-add-t19 c =
+add-t16 : tie.Need-add-t16
+add-t16 c =
     let start = c .before .before .before .before .before .before in
     omega (arith, start .pre .within, start .pre .fits .rows)
 
@@ -63,7 +53,8 @@ returns-2 c =
     λ cs e d. start-other (start .args .limits) (start .args .rows .now) (start .args .at) cs
     (here (start .args .rows .now) (start .args .at)
     (sym (c .before .before .if1 .left) ∙ c .before .before .before .refuse-row .ensures .0)
-    (c .before .before .before .refuse-row .ensures .1 (c .before .before .if1 .left))) (c .if2 .taken)
+    (c .before .before .before .refuse-row .ensures .1 (c .before .before .if1 .left)))
+    (λ e. c .if2 .taken (c .before .letter-at .ensures ∙ e))
 
 add-ends : tie.Need-add-ends
 add-ends c =
@@ -93,14 +84,17 @@ add-pass-body c =
 
 pass-body-requires : tie.Need-pass-body-requires
 pass-body-requires c κs =
-    let start = c .before .before .before .before .before .before .before in
-    let the-refuse-row = c .before .before .before .before .refuse-row in (
+    let at-refuse-row = c .before .before .before .before in
+    let start = at-refuse-row .before .before .before in (
       ready-at ((start .args .at) + 1) (start .pre)
           (length-set (start .args .ends .now) (start .args .at) ((start .args .at) + 1))
-          (omega (arith, (the-refuse-row .ensures .1 (c .before .before .before .if1 .left)) .0))
-          (omega (arith, (the-refuse-row .ensures .1 (c .before .before .before .if1 .left)) .1)),
+          (omega (arith, (at-refuse-row .refuse-row .ensures .1 (c .before .before .before .if1 .left)) .0))
+          (omega (arith, (at-refuse-row .refuse-row .ensures .1 (c .before .before .before .if1 .left)) .1)),
       omega arith,
     )
+
+enum-known-r : tie.Need-enum-known-r
+enum-known-r c = search needs
 
 cast-finish : tie.Need-cast-finish
 cast-finish c =
@@ -108,17 +102,13 @@ cast-finish c =
     .before .before in
     omega (arith, start .pre .within, start .pre .fits .rows)
 
-enum-known-r : tie.Need-enum-known-r
-enum-known-r c = search needs
-
 finish-requires : tie.Need-finish-requires
 finish-requires c κs =
-    let start = c .before .before .before .before .before .before .before .before .before .before .before
-    .before .before in
-    let the-pass-body = c .before .before .before .before .before .pass-body in (
+    let at-pass-body = c .before .before .before .before .before in
+    let start = at-pass-body .before .before .before .before .before .before .before .before in (
       start .pre .whole,
       told-end (body (most-of (start .args .limits)) 1 ((start .args .at) + 1 + 1)
-          (rows-from (start .args .rows .now) ((start .args .at) + 1))) (the-pass-body .ensures)
+          (rows-from (start .args .rows .now) ((start .args .at) + 1))) (at-pass-body .pass-body .ensures)
           (c .before .r .given .1) λ e x y w o z. w,
       start .pre .fits,
     )
@@ -128,45 +118,46 @@ enum-known-r-2 c = search needs
 
 same-length : tie.Need-same-length
 same-length c =
-    let start = c .before .before .before .before .before .before .before .before .before .before .before
-    .before .before .before in
-    let the-pass-body = c .before .before .before .before .before .before .pass-body in
-    the-pass-body .kept .1 .0 ∙ length-set (start .args .ends .now) (start .args .at) ((start .args .at) + 1)
+    let at-pass-body = c .before .before .before .before .before .before in
+    let start = at-pass-body .before .before .before .before .before .before .before .before in
+    at-pass-body .pass-body .kept .1 .0
+    ∙ length-set (start .args .ends .now) (start .args .at) ((start .args .at) + 1)
 
 returns-3 : tie.Need-returns-3
 returns-3 c =
-    let start = c .before .before .before .before .before .before .before .before .before .before .before
-    .before .before .before in
-    let the-refuse-row =
-    c .before .before .before .before .before .before .before .before .before .before
-    .before .refuse-row in
-    let the-if1 = c .before .before .before .before .before .before .before .before .before .before .if1 in
-    let the-if2 = c .before .before .before .before .before .before .before .before .if2 in
-    let the-pass-body = c .before .before .before .before .before .before .pass-body in
+    let at-pass-body = c .before .before .before .before .before .before in
+    let at-if2 = at-pass-body .before .before in
+    let at-letter-at = at-if2 .before in
+    let at-if1 = at-letter-at .before in
+    let at-refuse-row = at-if1 .before in
+    let start = at-refuse-row .before .before .before in
     λ cs e d. start-end (start .args .limits) (start .args .rows .now) (start .args .at) cs
-    (here (start .args .rows .now) (start .args .at) (sym (the-if1 .left) ∙ the-refuse-row .ensures .0)
-    (the-refuse-row .ensures .1 (the-if1 .left))) (the-if2 .left) (the-pass-body .ensures)
+    (here (start .args .rows .now) (start .args .at)
+    (sym (at-if1 .if1 .left) ∙ at-refuse-row .refuse-row .ensures .0)
+    (at-refuse-row .refuse-row .ensures .1 (at-if1 .if1 .left)))
+    (sym (at-letter-at .letter-at .ensures) ∙ at-if2 .if2 .left) (at-pass-body .pass-body .ensures)
     (c .before .before .r .given .1) refl (λ w o. end-room (start .pre) w o) e d (c .finish .ensures)
 
 same-length-2 : tie.Need-same-length-2
 same-length-2 c =
-    let start = c .before .before .before .before .before .before .before .before .before .before .before
-    .before .before in
-    let the-pass-body = c .before .before .before .before .before .pass-body in
-    the-pass-body .kept .1 .0 ∙ length-set (start .args .ends .now) (start .args .at) ((start .args .at) + 1)
+    let at-pass-body = c .before .before .before .before .before in
+    let start = at-pass-body .before .before .before .before .before .before .before .before in
+    at-pass-body .pass-body .kept .1 .0
+    ∙ length-set (start .args .ends .now) (start .args .at) ((start .args .at) + 1)
 
 returns-4 : tie.Need-returns-4
 returns-4 c =
-    let start = c .before .before .before .before .before .before .before .before .before .before .before
-    .before .before in
-    let the-refuse-row =
-    c .before .before .before .before .before .before .before .before .before .before .refuse-row in
-    let the-if1 = c .before .before .before .before .before .before .before .before .before .if1 in
-    let the-if2 = c .before .before .before .before .before .before .before .if2 in
-    let the-pass-body = c .before .before .before .before .before .pass-body in
+    let at-pass-body = c .before .before .before .before .before in
+    let at-if2 = at-pass-body .before .before in
+    let at-letter-at = at-if2 .before in
+    let at-if1 = at-letter-at .before in
+    let at-refuse-row = at-if1 .before in
+    let start = at-refuse-row .before .before .before in
     λ cs e d. start-stop (start .args .limits) (start .args .rows .now) (start .args .at) cs
-    (here (start .args .rows .now) (start .args .at) (sym (the-if1 .left) ∙ the-refuse-row .ensures .0)
-    (the-refuse-row .ensures .1 (the-if1 .left))) (the-if2 .left) (the-pass-body .ensures)
+    (here (start .args .rows .now) (start .args .at)
+    (sym (at-if1 .if1 .left) ∙ at-refuse-row .refuse-row .ensures .0)
+    (at-refuse-row .refuse-row .ensures .1 (at-if1 .if1 .left)))
+    (sym (at-letter-at .letter-at .ensures) ∙ at-if2 .if2 .left) (at-pass-body .pass-body .ensures)
     (c .before .r2 .given .1)
 
 pub pass-start-spec : {M : Type 1} → statement M
@@ -177,11 +168,9 @@ pass-start-spec =
     cast-t12
     add-t13
     returns
-    mul-if2
-    mul-if2-2
-    shared-slice-read-if2
-    cast-t18
-    add-t19
+    letter-at-requires
+    cast-t15
+    add-t16
     returns-2
     add-ends
     cast-ends

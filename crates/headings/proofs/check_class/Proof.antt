@@ -1,6 +1,5 @@
 -- `headings::check_class` meets its contract. Assumes nothing.
 use mathlib.Core.Path.{refl}
-use Prim.Native.Nat.{_+_, _*_}
 use native.Mathlib.Omega.{arith}
 use borrow.Author.Needs.{needs}
 use Rattle.headings.proofs.Passing.{class-index, class-late, super-index, class-kind, start-ready}
@@ -12,63 +11,30 @@ use borrow.Author.Tests.{not-true, not-false}
 use Rattle.headings.proofs.check_class.Statement.{statement}
 use Rattle.headings.proofs.check_class.Tie as tie
 
-mul-kind : tie.Need-mul-kind
-mul-kind c =
-    let start = c .before .before .before .before .before in
-    (let j = class-index (start .pre) in omega (arith, j .0, j .1, j .2, j .3))
+first-requires : tie.Need-first-requires
+first-requires c κs = omega (arith, class-index (c .before .before .before .before .before .pre) .0)
 
-add-kind : tie.Need-add-kind
-add-kind c =
-    let start = c .before .before .before .before .before in
-    (let j = class-index (start .pre) in omega (arith, j .0, j .1, j .2, j .3))
-
-mul-kind-2 : tie.Need-mul-kind-2
-mul-kind-2 c =
-    let start = c .before .before .before .before .before in
-    (let j = class-index (start .pre) in omega (arith, j .0, j .1, j .2, j .3))
-
-shared-slice-read-kind : tie.Need-shared-slice-read-kind
-shared-slice-read-kind c =
-    let start = c .before .before .before .before .before .before in
-    (let j = class-index (start .pre) in omega (arith, j .0, j .1, j .2, j .3))
-
-mul-over : tie.Need-mul-over
-mul-over c =
-    let start = c .before .before .before .before .before .before in
-    (let j = class-index (start .pre) in omega (arith, j .0, j .1, j .2, j .3))
-
-add-over : tie.Need-add-over
-add-over c =
-    let start = c .before .before .before .before .before .before in
-    (let j = class-index (start .pre) in omega (arith, j .0, j .1, j .2, j .3))
-
-mul-over-2 : tie.Need-mul-over-2
-mul-over-2 c =
-    let start = c .before .before .before .before .before .before in
-    (let j = class-index (start .pre) in omega (arith, j .0, j .1, j .2, j .3))
-
-shared-slice-read-over : tie.Need-shared-slice-read-over
-shared-slice-read-over c =
-    let start = c .before .before .before .before .before .before .before in
-    (let j = class-index (start .pre) in omega (arith, j .0, j .1, j .2, j .3))
+second-requires : tie.Need-second-requires
+second-requires c κs = omega (arith, class-index (c .before .before .before .before .before .before .pre) .0)
 
 cast-over : tie.Need-cast-over
-cast-over c =
-    let start = c .before .before .before .before .before .before .before in
-    omega (arith, c .shared-slice-known4 .given ((start .args .r) * 4 + 2))
+cast-over c = search needs
 
-add-t21 : tie.Need-add-t21
-add-t21 c =
+add-t16 : tie.Need-add-t16
+add-t16 c =
     let start = c .before .before .before .before .before .before .before .before in
     (let j = class-index (start .pre) in omega (arith, j .0, j .1, j .2, j .3))
 
-cast-t22 : tie.Need-cast-t22
-cast-t22 c =
+cast-t17 : tie.Need-cast-t17
+cast-t17 c =
     let start = c .before .before .before .before .before .before .before .before in
     (let j = class-index (start .pre) in omega (arith, j .0, j .1, j .2, j .3))
 
 returns : tie.Need-returns
-returns c = λ w. (class-late w (c .if1 .taken), λ n e. not-both e refl)
+returns c = λ w. (
+  class-late w (c .before .second .result) (c .before .second .ensures) (c .if1 .taken),
+  λ n e. not-both e refl,
+)
 
 mul-may-extend : tie.Need-mul-may-extend
 mul-may-extend c =
@@ -88,25 +54,30 @@ mul-may-extend-2 c =
 slice-read-may-extend : tie.Need-slice-read-may-extend
 slice-read-may-extend c =
     let start = c .before .before .before .before .before .before .before .before .before in
-    (let h = super-index (start .pre) (c .before .if1 .left) in omega (arith, h))
+    (let h = super-index (start .pre) (c .before .before .before .first .result)
+    (c .before .before .second .result) (c .before .before .before .first .ensures)
+    (c .before .before .second .ensures) (c .before .if1 .left) in omega (arith, h))
 
 may-extend-requires : tie.Need-may-extend-requires
 may-extend-requires c κs = search needs
 
-add-t26 : tie.Need-add-t26
-add-t26 c =
+add-t24 : tie.Need-add-t24
+add-t24 c =
     let start = c .before .before .before .before .before .before .before .before .before .before .before in
     (let j = class-index (start .pre) in omega (arith, j .0, j .1, j .2, j .3))
 
-cast-t27 : tie.Need-cast-t27
-cast-t27 c =
+cast-t25 : tie.Need-cast-t25
+cast-t25 c =
     let start = c .before .before .before .before .before .before .before .before .before .before .before in
     (let j = class-index (start .pre) in omega (arith, j .0, j .1, j .2, j .3))
 
 returns-2 : tie.Need-returns-2
 returns-2 c =
+    let at-second = c .before .before .before .before in
+    let at-first = at-second .before in
     λ w. (
-      class-kind w (c .before .before .before .if1 .left) (c .before .may-extend .result)
+      class-kind w (at-first .first .result) (at-second .second .result) (at-first .first .ensures)
+          (at-second .second .ensures) (c .before .before .before .if1 .left) (c .before .may-extend .result)
           (c .before .may-extend .ensures) (not-true _ (c .if2 .taken)),
       λ n e. not-both e refl,
     )
@@ -114,8 +85,11 @@ returns-2 c =
 start-block-requires : tie.Need-start-block-requires
 start-block-requires c κs =
     let at-if1 = c .before .before .before .before in
-    let start = at-if1 .before .before .before .before .before .before .before .before in
-    start-ready (start .pre) (at-if1 .if1 .left) (c .before .before .may-extend .result)
+    let at-second = at-if1 .before in
+    let at-first = at-second .before in
+    let start = at-first .before .before .before .before .before .before in
+    start-ready (start .pre) (at-first .first .result) (at-second .second .result) (at-first .first .ensures)
+    (at-second .second .ensures) (at-if1 .if1 .left) (c .before .before .may-extend .result)
     (c .before .before .may-extend .ensures)
 
 add-count-rows : tie.Need-add-count-rows
@@ -128,8 +102,12 @@ count-rows-requires : tie.Need-count-rows-requires
 count-rows-requires c κs =
     let at-may-extend = c .before .before .before .before .before in
     let at-if1 = at-may-extend .before .before in
-    let start = at-if1 .before .before .before .before .before .before .before .before in
-    class-fields-here (start .pre) (at-if1 .if1 .left) (at-may-extend .may-extend .result)
+    let at-second = at-if1 .before in
+    let at-first = at-second .before in
+    let start = at-first .before .before .before .before .before .before in
+    class-fields-here (start .pre) (at-first .first .result) (at-second .second .result)
+    (at-first .first .ensures) (at-second .second .ensures) (at-if1 .if1 .left)
+    (at-may-extend .may-extend .result)
     (at-may-extend .may-extend .ensures)
 
 add-check-fields : tie.Need-add-check-fields
@@ -150,8 +128,11 @@ check-fields-requires c κs =
     let at-if2 = at-start-block .before .before in
     let at-may-extend = at-if2 .before in
     let at-if1 = at-may-extend .before .before in
-    let start = at-if1 .before .before .before .before .before .before .before .before in
-    fields-ready (start .pre) (at-if1 .if1 .left) (at-may-extend .may-extend .result)
+    let at-second = at-if1 .before in
+    let at-first = at-second .before in
+    let start = at-first .before .before .before .before .before .before in
+    fields-ready (start .pre) (at-first .first .result) (at-second .second .result) (at-first .first .ensures)
+    (at-second .second .ensures) (at-if1 .if1 .left) (at-may-extend .may-extend .result)
     (at-may-extend .may-extend .ensures) (not-false _ (at-if2 .if2 .left))
     (at-start-block .start-block .last .0) (at-start-block .start-block .ensures)
     (c .before .count-rows .result) (c .before .count-rows .ensures)
@@ -173,8 +154,11 @@ returns-3 c =
     let at-if2 = at-start-block .before .before in
     let at-may-extend = at-if2 .before in
     let at-if1 = at-may-extend .before .before in
+    let at-second = at-if1 .before in
+    let at-first = at-second .before in
     λ w. (
-      class-fields-refused w (at-if1 .if1 .left) (at-may-extend .may-extend .result)
+      class-fields-refused w (at-first .first .result) (at-second .second .result) (at-first .first .ensures)
+          (at-second .second .ensures) (at-if1 .if1 .left) (at-may-extend .may-extend .result)
           (at-may-extend .may-extend .ensures) (not-false _ (at-if2 .if2 .left))
           (at-start-block .start-block .last .0) (at-start-block .start-block .ensures)
           (at-count-rows .count-rows .result) (at-count-rows .count-rows .ensures)
@@ -195,9 +179,12 @@ add-check-methods-2 c =
     let at-if2 = at-start-block .before .before in
     let at-may-extend = at-if2 .before in
     let at-if1 = at-may-extend .before .before in
-    let start = at-if1 .before .before .before .before .before .before .before .before in
+    let at-second = at-if1 .before in
+    let at-first = at-second .before in
+    let start = at-first .before .before .before .before .before .before in
     (let j = class-index (start .pre) in let h =
-    methods-here (start .pre) (at-if1 .if1 .left) (at-may-extend .may-extend .result)
+    methods-here (start .pre) (at-first .first .result) (at-second .second .result) (at-first .first .ensures)
+    (at-second .second .ensures) (at-if1 .if1 .left) (at-may-extend .may-extend .result)
     (at-may-extend .may-extend .ensures) (not-false _ (at-if2 .if2 .left))
     (at-start-block .start-block .last .0) (at-start-block .start-block .ensures)
     (at-count-rows .count-rows .result) (at-count-rows .count-rows .ensures) in
@@ -211,8 +198,12 @@ check-methods-requires c κs =
     let at-if2 = at-start-block .before .before in
     let at-may-extend = at-if2 .before in
     let at-if1 = at-may-extend .before .before in
-    let start = at-if1 .before .before .before .before .before .before .before .before in
-    methods-ready (start .pre) (at-if1 .if1 .left) (at-may-extend .may-extend .result)
+    let at-second = at-if1 .before in
+    let at-first = at-second .before in
+    let start = at-first .before .before .before .before .before .before in
+    methods-ready (start .pre) (at-first .first .result) (at-second .second .result)
+    (at-first .first .ensures) (at-second .second .ensures) (at-if1 .if1 .left)
+    (at-may-extend .may-extend .result)
     (at-may-extend .may-extend .ensures) (not-false _ (at-if2 .if2 .left))
     (at-start-block .start-block .last .0) (at-start-block .start-block .ensures)
     (at-count-rows .count-rows .result) (at-count-rows .count-rows .ensures)
@@ -239,8 +230,11 @@ returns-4 c =
     let at-if2 = at-start-block .before .before in
     let at-may-extend = at-if2 .before in
     let at-if1 = at-may-extend .before .before in
+    let at-second = at-if1 .before in
+    let at-first = at-second .before in
     λ w. (
-      class-answer w (at-if1 .if1 .left) (at-may-extend .may-extend .result)
+      class-answer w (at-first .first .result) (at-second .second .result) (at-first .first .ensures)
+          (at-second .second .ensures) (at-if1 .if1 .left) (at-may-extend .may-extend .result)
           (at-may-extend .may-extend .ensures) (not-false _ (at-if2 .if2 .left))
           (at-start-block .start-block .last .0) (at-start-block .start-block .ensures)
           (at-count-rows .count-rows .result) (at-count-rows .count-rows .ensures)
@@ -249,7 +243,8 @@ returns-4 c =
           (at-enum-told .enum-told .given .1) (at-check-methods .check-methods .result)
           (at-check-methods .check-methods .last .1 .1 .0) (at-check-methods .check-methods .last .1 .1 .1 .0)
           (at-check-methods .check-methods .last .1 .1 .1 .1 .0) (at-check-methods .check-methods .ensures),
-      λ n e. class-done w (at-if1 .if1 .left) (at-may-extend .may-extend .result)
+      λ n e. class-done w (at-first .first .result) (at-second .second .result) (at-first .first .ensures)
+          (at-second .second .ensures) (at-if1 .if1 .left) (at-may-extend .may-extend .result)
           (at-may-extend .may-extend .ensures) (not-false _ (at-if2 .if2 .left))
           (at-start-block .start-block .last .0) (at-start-block .start-block .ensures)
           (at-count-rows .count-rows .result) (at-count-rows .count-rows .ensures)
@@ -265,25 +260,19 @@ pub check-class-spec : {M : Type 1} → statement M
 check-class-spec =
     tie.close
     (tie.spec
-    mul-kind
-    add-kind
-    mul-kind-2
-    shared-slice-read-kind
-    mul-over
-    add-over
-    mul-over-2
-    shared-slice-read-over
+    first-requires
+    second-requires
     cast-over
-    add-t21
-    cast-t22
+    add-t16
+    cast-t17
     returns
     mul-may-extend
     add-may-extend
     mul-may-extend-2
     slice-read-may-extend
     may-extend-requires
-    add-t26
-    cast-t27
+    add-t24
+    cast-t25
     returns-2
     start-block-requires
     add-count-rows

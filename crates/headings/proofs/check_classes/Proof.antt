@@ -77,100 +77,35 @@ returns c =
       λ n e. not-both e (c .enum-told .given .1),
     )
 
-mul-over : tie.Need-mul-over Inv-loop μ-loop
-mul-over c =
-    let at-check-class = c .before .before .before .before .before .before .before .before .before in
-    let at-loop-test = at-check-class .before .before .before .before in
+second-requires : tie.Need-second-requires Inv-loop μ-loop
+second-requires c κs =
+    let at-loop-test = c .before .before .before .before .before .before .before .before .before .before
+    .before .before .before in
     let at-loop = at-loop-test .before in
     let start = at-loop .before .before .before .before .before .before .before in
-    (let j = going-index (start .pre) (at-loop .loop .inv .4 (start .pre)) (at-loop-test .loop-test .taken) in
-    let h = super-earlier (start .pre) (at-loop .loop .inv .4 (start .pre))
-    (at-loop-test .loop-test .taken) (at-check-class .check-class .result)
-    (at-check-class .check-class .last .1 .1 .0) (at-check-class .check-class .last .1 .1 .1 .0)
-    (at-check-class .check-class .last .1 .1 .1 .1 .0) (at-check-class .check-class .ensures)
-    (c .before .h .given .0 .0) (c .before .h .given .1) in omega (arith, j .0, j .1, j .2, j .3, h))
-
-add-over : tie.Need-add-over Inv-loop μ-loop
-add-over c =
-    let at-check-class = c .before .before .before .before .before .before .before .before .before in
-    let at-loop-test = at-check-class .before .before .before .before in
-    let at-loop = at-loop-test .before in
-    let start = at-loop .before .before .before .before .before .before .before in
-    (let j = going-index (start .pre) (at-loop .loop .inv .4 (start .pre)) (at-loop-test .loop-test .taken) in
-    let h = super-earlier (start .pre) (at-loop .loop .inv .4 (start .pre))
-    (at-loop-test .loop-test .taken) (at-check-class .check-class .result)
-    (at-check-class .check-class .last .1 .1 .0) (at-check-class .check-class .last .1 .1 .1 .0)
-    (at-check-class .check-class .last .1 .1 .1 .1 .0) (at-check-class .check-class .ensures)
-    (c .before .h .given .0 .0) (c .before .h .given .1) in omega (arith, j .0, j .1, j .2, j .3, h))
-
-mul-over-2 : tie.Need-mul-over-2 Inv-loop μ-loop
-mul-over-2 c =
-    let at-check-class = c .before .before .before .before .before .before .before .before .before in
-    let at-loop-test = at-check-class .before .before .before .before in
-    let at-loop = at-loop-test .before in
-    let start = at-loop .before .before .before .before .before .before .before in
-    (let j = going-index (start .pre) (at-loop .loop .inv .4 (start .pre)) (at-loop-test .loop-test .taken) in
-    let h = super-earlier (start .pre) (at-loop .loop .inv .4 (start .pre))
-    (at-loop-test .loop-test .taken) (at-check-class .check-class .result)
-    (at-check-class .check-class .last .1 .1 .0) (at-check-class .check-class .last .1 .1 .1 .0)
-    (at-check-class .check-class .last .1 .1 .1 .1 .0) (at-check-class .check-class .ensures)
-    (c .before .h .given .0 .0) (c .before .h .given .1) in omega (arith, j .0, j .1, j .2, j .3, h))
-
-shared-slice-read-over : tie.Need-shared-slice-read-over Inv-loop μ-loop
-shared-slice-read-over c =
-    let at-check-class = c .before .before .before .before .before .before .before .before .before .before in
-    let at-loop-test = at-check-class .before .before .before .before in
-    let at-loop = at-loop-test .before in
-    let start = at-loop .before .before .before .before .before .before .before in
-    (let j = going-index (start .pre) (at-loop .loop .inv .4 (start .pre)) (at-loop-test .loop-test .taken) in
-    let h = super-earlier (start .pre) (at-loop .loop .inv .4 (start .pre))
-    (at-loop-test .loop-test .taken) (at-check-class .check-class .result)
-    (at-check-class .check-class .last .1 .1 .0) (at-check-class .check-class .last .1 .1 .1 .0)
-    (at-check-class .check-class .last .1 .1 .1 .1 .0) (at-check-class .check-class .ensures)
-    (c .before .before .h .given .0 .0) (c .before .before .h .given .1) in
-    omega (arith, j .0, j .1, j .2, j .3, h))
+    let j = going-index (start .pre) (at-loop .loop .inv .4 (start .pre)) (at-loop-test .loop-test .taken) in
+    omega (arith, j .0)
 
 cast-over : tie.Need-cast-over Inv-loop μ-loop
-cast-over c =
-    let at-check-class = c .before .before .before .before .before .before .before .before .before .before in
-    let at-loop-test = at-check-class .before .before .before .before in
-    let at-loop = at-loop-test .before in
-    let start = at-loop .before .before .before .before .before .before .before in
-    (let j = going-index (start .pre) (at-loop .loop .inv .4 (start .pre)) (at-loop-test .loop-test .taken) in
-    let h = super-earlier (start .pre) (at-loop .loop .inv .4 (start .pre))
-    (at-loop-test .loop-test .taken) (at-check-class .check-class .result)
-    (at-check-class .check-class .last .1 .1 .0) (at-check-class .check-class .last .1 .1 .1 .0)
-    (at-check-class .check-class .last .1 .1 .1 .1 .0) (at-check-class .check-class .ensures)
-    (c .before .before .h .given .0 .0) (c .before .before .h .given .1) in
-    omega (arith, j .0, j .1, j .2, j .3, h))
+cast-over c = search needs
 
 cast-effect-of : tie.Need-cast-effect-of Inv-loop μ-loop
 cast-effect-of c =
-    let at-check-class = c .before .before .before .before .before .before .before .before .before .before in
-    let at-loop-test = at-check-class .before .before .before .before in
+    let at-loop-test = c .before .before .before .before .before .before .before .before .before .before
+    .before .before .before .before in
     let at-loop = at-loop-test .before in
     let start = at-loop .before .before .before .before .before .before .before in
-    (let j = going-index (start .pre) (at-loop .loop .inv .4 (start .pre)) (at-loop-test .loop-test .taken) in
-    let h = super-earlier (start .pre) (at-loop .loop .inv .4 (start .pre))
-    (at-loop-test .loop-test .taken) (at-check-class .check-class .result)
-    (at-check-class .check-class .last .1 .1 .0) (at-check-class .check-class .last .1 .1 .1 .0)
-    (at-check-class .check-class .last .1 .1 .1 .1 .0) (at-check-class .check-class .ensures)
-    (c .before .before .h .given .0 .0) (c .before .before .h .given .1) in
-    omega (arith, j .0, j .1, j .2, j .3, h))
+    let j = going-index (start .pre) (at-loop .loop .inv .4 (start .pre)) (at-loop-test .loop-test .taken) in
+    omega (arith, j .3)
 
 effect-of-requires : tie.Need-effect-of-requires Inv-loop μ-loop
 effect-of-requires c κs =
-    let at-check-class = c .before .before .before .before .before .before .before .before .before .before in
-    let at-loop-test = at-check-class .before .before .before .before in
+    let at-loop-test = c .before .before .before .before .before .before .before .before .before .before
+    .before .before .before .before in
     let at-loop = at-loop-test .before in
     let start = at-loop .before .before .before .before .before .before .before in
-    (let j = going-index (start .pre) (at-loop .loop .inv .4 (start .pre)) (at-loop-test .loop-test .taken) in
-    let h = super-earlier (start .pre) (at-loop .loop .inv .4 (start .pre))
-    (at-loop-test .loop-test .taken) (at-check-class .check-class .result)
-    (at-check-class .check-class .last .1 .1 .0) (at-check-class .check-class .last .1 .1 .1 .0)
-    (at-check-class .check-class .last .1 .1 .1 .1 .0) (at-check-class .check-class .ensures)
-    (c .before .before .h .given .0 .0) (c .before .before .h .given .1) in
-    omega (arith, j .0, j .1, j .2, j .3, h))
+    let j = going-index (start .pre) (at-loop .loop .inv .4 (start .pre)) (at-loop-test .loop-test .taken) in
+    omega (arith, j .3)
 
 mul-above : tie.Need-mul-above Inv-loop μ-loop
 mul-above c =
@@ -179,13 +114,13 @@ mul-above c =
     let at-loop-test = at-check-class .before .before .before .before in
     let at-loop = at-loop-test .before in
     let start = at-loop .before .before .before .before .before .before .before in
-    (let j = going-index (start .pre) (at-loop .loop .inv .4 (start .pre)) (at-loop-test .loop-test .taken) in
+    let j = going-index (start .pre) (at-loop .loop .inv .4 (start .pre)) (at-loop-test .loop-test .taken) in
     let h = super-earlier (start .pre) (at-loop .loop .inv .4 (start .pre))
     (at-loop-test .loop-test .taken) (at-check-class .check-class .result)
     (at-check-class .check-class .last .1 .1 .0) (at-check-class .check-class .last .1 .1 .1 .0)
     (at-check-class .check-class .last .1 .1 .1 .1 .0) (at-check-class .check-class .ensures)
-    (c .before .before .before .h .given .0 .0) (c .before .before .before .h .given .1) in
-    omega (arith, j .0, j .1, j .2, j .3, h))
+    (c .before .before .before .h .given .0 .0) (c .before .before .before .h .given .1)
+    (c .before .second .result) (c .before .second .ensures) in omega (arith, j .3, h)
 
 slice-read-above : tie.Need-slice-read-above Inv-loop μ-loop
 slice-read-above c =
@@ -194,40 +129,31 @@ slice-read-above c =
     let at-loop-test = at-check-class .before .before .before .before in
     let at-loop = at-loop-test .before in
     let start = at-loop .before .before .before .before .before .before .before in
-    (let j = going-index (start .pre) (at-loop .loop .inv .4 (start .pre)) (at-loop-test .loop-test .taken) in
+    let j = going-index (start .pre) (at-loop .loop .inv .4 (start .pre)) (at-loop-test .loop-test .taken) in
     let h = super-earlier (start .pre) (at-loop .loop .inv .4 (start .pre))
     (at-loop-test .loop-test .taken) (at-check-class .check-class .result)
     (at-check-class .check-class .last .1 .1 .0) (at-check-class .check-class .last .1 .1 .1 .0)
     (at-check-class .check-class .last .1 .1 .1 .1 .0) (at-check-class .check-class .ensures)
-    (at-h .h .given .0 .0) (at-h .h .given .1) in omega (arith, j .0, j .1, j .2, j .3, h))
+    (at-h .h .given .0 .0) (at-h .h .given .1) (c .before .before .second .result)
+    (c .before .before .second .ensures) in omega (arith, j .2, h)
 
 mul-above-2 : tie.Need-mul-above-2 Inv-loop μ-loop
 mul-above-2 c =
-    let at-h = c .before .before .before .before in
-    let at-check-class = at-h .before .before .before .before .before .before .before .before in
-    let at-loop-test = at-check-class .before .before .before .before in
+    let at-loop-test = c .before .before .before .before .before .before .before .before .before .before
+    .before .before .before .before .before .before in
     let at-loop = at-loop-test .before in
     let start = at-loop .before .before .before .before .before .before .before in
-    (let j = going-index (start .pre) (at-loop .loop .inv .4 (start .pre)) (at-loop-test .loop-test .taken) in
-    let h = super-earlier (start .pre) (at-loop .loop .inv .4 (start .pre))
-    (at-loop-test .loop-test .taken) (at-check-class .check-class .result)
-    (at-check-class .check-class .last .1 .1 .0) (at-check-class .check-class .last .1 .1 .1 .0)
-    (at-check-class .check-class .last .1 .1 .1 .1 .0) (at-check-class .check-class .ensures)
-    (at-h .h .given .0 .0) (at-h .h .given .1) in omega (arith, j .0, j .1, j .2, j .3, h))
+    let j = going-index (start .pre) (at-loop .loop .inv .4 (start .pre)) (at-loop-test .loop-test .taken) in
+    omega (arith, j .3)
 
 slice-write-above : tie.Need-slice-write-above Inv-loop μ-loop
 slice-write-above c =
-    let at-h = c .before .before .before .before in
-    let at-check-class = at-h .before .before .before .before .before .before .before .before in
-    let at-loop-test = at-check-class .before .before .before .before in
+    let at-loop-test = c .before .before .before .before .before .before .before .before .before .before
+    .before .before .before .before .before .before in
     let at-loop = at-loop-test .before in
     let start = at-loop .before .before .before .before .before .before .before in
-    (let j = going-index (start .pre) (at-loop .loop .inv .4 (start .pre)) (at-loop-test .loop-test .taken) in
-    let h = super-earlier (start .pre) (at-loop .loop .inv .4 (start .pre))
-    (at-loop-test .loop-test .taken) (at-check-class .check-class .result)
-    (at-check-class .check-class .last .1 .1 .0) (at-check-class .check-class .last .1 .1 .1 .0)
-    (at-check-class .check-class .last .1 .1 .1 .1 .0) (at-check-class .check-class .ensures)
-    (at-h .h .given .0 .0) (at-h .h .given .1) in omega (arith, j .0, j .1, j .2, j .3, h))
+    let j = going-index (start .pre) (at-loop .loop .inv .4 (start .pre)) (at-loop-test .loop-test .taken) in
+    omega (arith, j .2)
 
 skip-class-requires : tie.Need-skip-class-requires Inv-loop μ-loop
 skip-class-requires c κs =
@@ -263,31 +189,18 @@ add-next c =
 
 add-k : tie.Need-add-k Inv-loop μ-loop
 add-k c =
-    let at-h = c .before .before .before .before .before in
-    let at-check-class = at-h .before .before .before .before .before .before .before .before in
-    let at-loop-test = at-check-class .before .before .before .before in
+    let at-loop-test = c .before .before .before .before .before .before .before .before .before .before
+    .before .before .before .before .before .before .before in
     let at-loop = at-loop-test .before in
     let start = at-loop .before .before .before .before .before .before .before in
-    (let j = going-index (start .pre) (at-loop .loop .inv .4 (start .pre)) (at-loop-test .loop-test .taken) in
-    let h = super-earlier (start .pre) (at-loop .loop .inv .4 (start .pre))
-    (at-loop-test .loop-test .taken) (at-check-class .check-class .result)
-    (at-check-class .check-class .last .1 .1 .0) (at-check-class .check-class .last .1 .1 .1 .0)
-    (at-check-class .check-class .last .1 .1 .1 .1 .0) (at-check-class .check-class .ensures)
-    (at-h .h .given .0 .0) (at-h .h .given .1) in omega (arith, j .0, j .1, j .2, j .3, h))
+    let j = going-index (start .pre) (at-loop .loop .inv .4 (start .pre)) (at-loop-test .loop-test .taken) in
+    omega (arith, j .3)
 
 loop-less : tie.Need-loop-less Inv-loop μ-loop
 loop-less c =
-    let at-h = c .before .before .before .before .before in
-    let at-check-class = at-h .before .before .before .before .before .before .before .before in
-    let at-loop-test = at-check-class .before .before .before .before in
-    let at-loop = at-loop-test .before in
-    let start = at-loop .before .before .before .before .before .before .before in
-    (let j = going-index (start .pre) (at-loop .loop .inv .4 (start .pre)) (at-loop-test .loop-test .taken) in
-    let h = super-earlier (start .pre) (at-loop .loop .inv .4 (start .pre))
-    (at-loop-test .loop-test .taken) (at-check-class .check-class .result)
-    (at-check-class .check-class .last .1 .1 .0) (at-check-class .check-class .last .1 .1 .1 .0)
-    (at-check-class .check-class .last .1 .1 .1 .1 .0) (at-check-class .check-class .ensures)
-    (at-h .h .given .0 .0) (at-h .h .given .1) in omega (arith, j .0, j .1, j .2, j .3, h))
+    let at-loop-test = c .before .before .before .before .before .before .before .before .before .before
+    .before .before .before .before .before .before .before in
+    omega (arith, at-loop-test .loop-test .taken)
 
 loop-again : tie.Need-loop-again Inv-loop μ-loop
 loop-again c =
@@ -305,13 +218,14 @@ loop-again c =
           (at-check-class .check-class .result) (at-check-class .check-class .last .1 .1 .0)
           (at-check-class .check-class .last .1 .1 .1 .0) (at-check-class .check-class .last .1 .1 .1 .1 .0)
           (at-check-class .check-class .ensures) (at-h .h .given .0 .0) (at-h .h .given .1)
+          (c .before .before .before .second .result) (c .before .before .before .second .ensures)
           (c .before .before .effect-of .result) (c .before .before .effect-of .ensures)
           (c .skip-class .result)
           (c .skip-class .ensures),
     )
 
-cast-t31 : tie.Need-cast-t31 Inv-loop μ-loop
-cast-t31 c =
+cast-t29 : tie.Need-cast-t29 Inv-loop μ-loop
+cast-t29 c =
     let start = c .before .before .before .before .before .before .before .before in
     (let j = going-total (start .pre) (c .before .loop .inv .4 (start .pre)) (c .loop-test .left) in
     omega (arith, j))
@@ -329,12 +243,11 @@ same-length-8 : tie.Need-same-length-8 Inv-loop μ-loop
 same-length-8 c = c .before .loop .inv .3
 
 returns-2 : tie.Need-returns-2 Inv-loop μ-loop
-returns-2 c =
-    λ w. (
-      going-end w (c .before .loop .inv .4 w) (c .loop-test .left),
-      λ n e.
-          going-done w (c .before .loop .inv .4 w) (c .loop-test .left),
-    )
+returns-2 c = λ w. (
+  going-end w (c .before .loop .inv .4 w) (c .loop-test .left),
+  λ n e.
+      going-done w (c .before .loop .inv .4 w) (c .loop-test .left),
+)
 
 pub check-classes-spec : {M : Type 1} → statement M
 check-classes-spec =
@@ -351,10 +264,7 @@ check-classes-spec =
     same-length-3
     same-length-4
     returns
-    mul-over
-    add-over
-    mul-over-2
-    shared-slice-read-over
+    second-requires
     cast-over
     cast-effect-of
     effect-of-requires
@@ -368,7 +278,7 @@ check-classes-spec =
     add-k
     loop-less
     loop-again
-    cast-t31
+    cast-t29
     same-length-5
     same-length-6
     same-length-7

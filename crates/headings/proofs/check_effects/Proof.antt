@@ -17,57 +17,39 @@ abbrev μ-loop : tie.MeasureT-loop
 loop-holds : tie.Need-loop-holds Inv-loop μ-loop
 loop-holds c = λ w. effecting-start (w .lines) (w .table .P)
 
-add-c : tie.Need-add-c Inv-loop μ-loop
-add-c c =
+add-first : tie.Need-add-first Inv-loop μ-loop
+add-first c =
     let start = c .before .before .before .before in
-    (let j = effects-index (start .pre .lines) (c .before .loop .i) (c .loop-test .taken) in
-    omega (arith, j .0, j .1, c .loop-test .taken))
+    let j = effects-index (start .pre .lines) (c .before .loop .i) (c .loop-test .taken) in
+    omega (arith, j .0, j .1)
 
-mul-c : tie.Need-mul-c Inv-loop μ-loop
-mul-c c =
+first-requires : tie.Need-first-requires Inv-loop μ-loop
+first-requires c κs =
     let start = c .before .before .before .before in
-    (let j = effects-index (start .pre .lines) (c .before .loop .i) (c .loop-test .taken) in
-    omega (arith, j .0, j .1, c .loop-test .taken))
-
-add-c-2 : tie.Need-add-c-2 Inv-loop μ-loop
-add-c-2 c =
-    let start = c .before .before .before .before in
-    (let j = effects-index (start .pre .lines) (c .before .loop .i) (c .loop-test .taken) in
-    omega (arith, j .0, j .1, c .loop-test .taken))
-
-mul-c-2 : tie.Need-mul-c-2 Inv-loop μ-loop
-mul-c-2 c =
-    let start = c .before .before .before .before in
-    (let j = effects-index (start .pre .lines) (c .before .loop .i) (c .loop-test .taken) in
-    omega (arith, j .0, j .1, c .loop-test .taken))
-
-shared-slice-read-c : tie.Need-shared-slice-read-c Inv-loop μ-loop
-shared-slice-read-c c =
-    let start = c .before .before .before .before .before in
-    (let j = effects-index (start .pre .lines) (c .before .before .loop .i) (c .before .loop-test .taken) in
-    omega (arith, j .0, j .1, c .before .loop-test .taken))
+    let j = effects-index (start .pre .lines) (c .before .loop .i) (c .loop-test .taken) in
+    omega (arith, j .0)
 
 effect-fault-requires : tie.Need-effect-fault-requires Inv-loop μ-loop
 effect-fault-requires c κs = c .before .before .before .before .before .pre .table
 
-add-t17 : tie.Need-add-t17 Inv-loop μ-loop
-add-t17 c =
+add-t12 : tie.Need-add-t12 Inv-loop μ-loop
+add-t12 c =
     let at-loop = c .before .before .before .before in
     let start = at-loop .before .before .before in
     (let j = effects-index (start .pre .lines) (at-loop .loop .i)
     (c .before .before .before .loop-test .taken) in
     omega (arith, j .0, j .1, c .before .before .before .loop-test .taken))
 
-add-t18 : tie.Need-add-t18 Inv-loop μ-loop
-add-t18 c =
+add-t13 : tie.Need-add-t13 Inv-loop μ-loop
+add-t13 c =
     let at-loop = c .before .before .before .before in
     let start = at-loop .before .before .before in
     (let j = effects-index (start .pre .lines) (at-loop .loop .i)
     (c .before .before .before .loop-test .taken) in
     omega (arith, j .0, j .1, c .before .before .before .loop-test .taken))
 
-cast-t19 : tie.Need-cast-t19 Inv-loop μ-loop
-cast-t19 c =
+cast-t14 : tie.Need-cast-t14 Inv-loop μ-loop
+cast-t14 c =
     let at-loop = c .before .before .before .before in
     let start = at-loop .before .before .before in
     (let j = effects-index (start .pre .lines) (at-loop .loop .i)
@@ -78,30 +60,22 @@ returns : tie.Need-returns Inv-loop μ-loop
 returns c =
     let at-loop = c .before .before .before .before in
     λ w. effecting-refused (w .lines) (w .table .P) (at-loop .loop .last) (at-loop .loop .i)
-    (at-loop .loop .inv w) (c .before .before .before .loop-test .taken) (c .before .effect-fault .result)
+    (at-loop .loop .inv w) (c .before .before .before .loop-test .taken) (c .before .before .first .result)
+    (c .before .before .first .ensures) (c .before .effect-fault .result)
     (c .before .effect-fault .ensures (w .table)) (c .if1 .taken)
 
 add-i : tie.Need-add-i Inv-loop μ-loop
-add-i c =
-    let at-loop = c .before .before .before .before in
-    let start = at-loop .before .before .before in
-    (let j = effects-index (start .pre .lines) (at-loop .loop .i)
-    (c .before .before .before .loop-test .taken) in
-    omega (arith, j .0, j .1, c .before .before .before .loop-test .taken))
+add-i c = omega (arith, c .before .before .before .loop-test .taken)
 
 loop-less : tie.Need-loop-less Inv-loop μ-loop
-loop-less c =
-    let at-loop = c .before .before .before .before in
-    let start = at-loop .before .before .before in
-    (let j = effects-index (start .pre .lines) (at-loop .loop .i)
-    (c .before .before .before .loop-test .taken) in
-    omega (arith, j .0, j .1, c .before .before .before .loop-test .taken))
+loop-less c = omega (arith, c .before .before .before .loop-test .taken)
 
 loop-again : tie.Need-loop-again Inv-loop μ-loop
 loop-again c =
     let at-loop = c .before .before .before .before in
     λ w. effecting-step (w .lines) (w .table .P) (at-loop .loop .last) (at-loop .loop .i)
-    (at-loop .loop .inv w) (c .before .before .before .loop-test .taken) (c .before .effect-fault .result)
+    (at-loop .loop .inv w) (c .before .before .before .loop-test .taken) (c .before .before .first .result)
+    (c .before .before .first .ensures) (c .before .effect-fault .result)
     (c .before .effect-fault .ensures (w .table)) (c .if1 .left)
 
 returns-2 : tie.Need-returns-2 Inv-loop μ-loop
@@ -115,15 +89,12 @@ check-effects-spec =
     Inv-loop
     μ-loop
     loop-holds
-    add-c
-    mul-c
-    add-c-2
-    mul-c-2
-    shared-slice-read-c
+    add-first
+    first-requires
     effect-fault-requires
-    add-t17
-    add-t18
-    cast-t19
+    add-t12
+    add-t13
+    cast-t14
     returns
     add-i
     loop-less

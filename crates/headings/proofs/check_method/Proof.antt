@@ -2,7 +2,7 @@
 use mathlib.Core.Path.{refl}
 use native.Mathlib.Omega.{arith}
 use borrow.Author.Needs.{needs}
-use Rattle.headings.proofs.Lines.{method-parameters, method-effects}
+use Rattle.layout.proofs.Walks.{method-parameters, method-effects}
 use Rattle.headings.proofs.Heading.{method-here, method-counted, method-types, method-effects-ready}
 use Rattle.headings.proofs.Heading.{method-refused}
 use Rattle.headings.proofs.Heading.{method-parameters-refused, method-effects-refused, method-entered}
@@ -164,77 +164,59 @@ returns-3 c =
           not-both e (c .enum-told4 .given .1),
     )
 
-mul-name : tie.Need-mul-name
-mul-name c =
+second-requires : tie.Need-second-requires
+second-requires c κs =
     let start = c .before .before .before .before .before .before .before .before .before .before .before
     .before .before .before .before .before .before .before in
-    (let j = method-index (start .pre) in omega (arith, j .0, j .1, j .2, j .3, j .4, j .5))
-
-add-name : tie.Need-add-name
-add-name c =
-    let start = c .before .before .before .before .before .before .before .before .before .before .before
-    .before .before .before .before .before .before .before in
-    (let j = method-index (start .pre) in omega (arith, j .0, j .1, j .2, j .3, j .4, j .5))
-
-mul-name-2 : tie.Need-mul-name-2
-mul-name-2 c =
-    let start = c .before .before .before .before .before .before .before .before .before .before .before
-    .before .before .before .before .before .before .before in
-    (let j = method-index (start .pre) in omega (arith, j .0, j .1, j .2, j .3, j .4, j .5))
-
-shared-slice-read-name : tie.Need-shared-slice-read-name
-shared-slice-read-name c =
-    let start = c .before .before .before .before .before .before .before .before .before .before .before
-    .before .before .before .before .before .before .before .before in
-    (let j = method-index (start .pre) in omega (arith, j .0, j .1, j .2, j .3, j .4, j .5))
+    omega (arith, method-index (start .pre) .0)
 
 cast-name : tie.Need-cast-name
 cast-name c =
     let start = c .before .before .before .before .before .before .before .before .before .before .before
     .before .before .before .before .before .before .before .before in
-    (let j = method-index (start .pre) in omega (arith, j .0, j .1, j .2, j .3, j .4, j .5))
+    let j = method-index (start .pre) in omega (arith, j .2, j .3, j .4, j .5, c .second .ensures)
 
 add-tables : tie.Need-add-tables
 add-tables c =
     let start = c .before .before .before .before .before .before .before .before .before .before .before
     .before .before .before .before .before .before .before .before in
-    (let j = method-index (start .pre) in omega (arith, j .0, j .1, j .2, j .3, j .4, j .5))
+    let j = method-index (start .pre) in omega (arith, j .2, j .3, j .4, j .5, c .second .ensures)
 
 cast-tables : tie.Need-cast-tables
 cast-tables c =
     let start = c .before .before .before .before .before .before .before .before .before .before .before
     .before .before .before .before .before .before .before .before in
-    (let j = method-index (start .pre) in omega (arith, j .0, j .1, j .2, j .3, j .4, j .5))
+    let j = method-index (start .pre) in omega (arith, j .2, j .3, j .4, j .5, c .second .ensures)
 
 mul-tables : tie.Need-mul-tables
 mul-tables c =
     let start = c .before .before .before .before .before .before .before .before .before .before .before
     .before .before .before .before .before .before .before .before in
-    (let j = method-index (start .pre) in omega (arith, j .0, j .1, j .2, j .3, j .4, j .5))
+    let j = method-index (start .pre) in omega (arith, j .2, j .3, j .4, j .5, c .second .ensures)
 
 add-tables-2 : tie.Need-add-tables-2
 add-tables-2 c =
     let start = c .before .before .before .before .before .before .before .before .before .before .before
     .before .before .before .before .before .before .before .before in
-    (let j = method-index (start .pre) in omega (arith, j .0, j .1, j .2, j .3, j .4, j .5))
+    let j = method-index (start .pre) in omega (arith, j .2, j .3, j .4, j .5, c .second .ensures)
 
 add-tables-3 : tie.Need-add-tables-3
 add-tables-3 c =
     let start = c .before .before .before .before .before .before .before .before .before .before .before
     .before .before .before .before .before .before .before .before in
-    (let j = method-index (start .pre) in omega (arith, j .0, j .1, j .2, j .3, j .4, j .5))
+    let j = method-index (start .pre) in omega (arith, j .2, j .3, j .4, j .5, c .second .ensures)
 
 mul-tables-2 : tie.Need-mul-tables-2
 mul-tables-2 c =
     let start = c .before .before .before .before .before .before .before .before .before .before .before
     .before .before .before .before .before .before .before .before in
-    (let j = method-index (start .pre) in omega (arith, j .0, j .1, j .2, j .3, j .4, j .5))
+    let j = method-index (start .pre) in omega (arith, j .2, j .3, j .4, j .5, c .second .ensures)
 
 slice-write-tables : tie.Need-slice-write-tables
 slice-write-tables c =
     let start = c .before .before .before .before .before .before .before .before .before .before .before
     .before .before .before .before .before .before .before .before in
-    (let j = method-index (start .pre) in omega (arith, j .0, j .1, j .2, j .3, j .4, j .5))
+    let j = method-index (start .pre) in omega (arith, j .2, j .3, j .4, j .5, c .second .ensures)
 
 enter-method-requires : tie.Need-enter-method-requires
 enter-method-requires c κs =
@@ -266,7 +248,8 @@ same-length-12 c = search needs
 returns-4 : tie.Need-returns-4
 returns-4 c =
     let at-enter-method = c .before .before .before .before in
-    let at-enum-told3 = at-enter-method .before .before .before .before in
+    let at-second = at-enter-method .before .before .before in
+    let at-enum-told3 = at-second .before in
     let at-check-effects = at-enum-told3 .before .before in
     let at-enum-told = at-check-effects .before .before in
     let at-check-parameters = at-enum-told .before .before in
@@ -283,7 +266,7 @@ returns-4 c =
           (at-check-effects .check-effects .result) (at-check-effects .check-effects .ensures)
           (at-enum-told3 .enum-told3 .given .0 .0) (at-enum-told3 .enum-told3 .given .1),
       λ n e. (
-        method-working w,
+        method-working w (at-second .second .result) (at-second .second .ensures),
         at-enter-method .enter-method .ensures
             (number-ready w (at-count-rows .count-rows .result) (at-count-rows2 .count-rows2 .result)
             (at-count-rows .count-rows .ensures) (at-count-rows2 .count-rows2 .ensures)
@@ -329,10 +312,7 @@ check-method-spec =
     same-length-8
     same-length-9
     returns-3
-    mul-name
-    add-name
-    mul-name-2
-    shared-slice-read-name
+    second-requires
     cast-name
     add-tables
     cast-tables

@@ -1,5 +1,5 @@
 -- `headings::check_methods` meets its contract. Assumes nothing.
-use mathlib.Core.Path.{_≡_, refl, _∙_}
+use mathlib.Core.Path.{_≡_, refl, sym, _∙_}
 use Prim.Native.Nat.{_-_}
 use native.Mathlib.Omega.{arith}
 use lib.ListN.{length}
@@ -26,29 +26,18 @@ abbrev μ-loop : tie.MeasureT-loop
 loop-holds : tie.Need-loop-holds Inv-loop μ-loop
 loop-holds c = (refl, refl, refl, λ w. entering-start w)
 
-mul-if1 : tie.Need-mul-if1 Inv-loop μ-loop
-mul-if1 c =
+letter-at-requires : tie.Need-letter-at-requires Inv-loop μ-loop
+letter-at-requires c κs =
     let start = c .before .before .before .before .before .before in
-    (let s = entering-within (start .pre) (c .loop .inv .3 (start .pre)) in
-    omega (arith, s, start .pre .standing .short))
-
-mul-if1-2 : tie.Need-mul-if1-2 Inv-loop μ-loop
-mul-if1-2 c =
-    let start = c .before .before .before .before .before .before in
-    (let s = entering-within (start .pre) (c .loop .inv .3 (start .pre)) in
-    omega (arith, s, start .pre .standing .short))
-
-shared-slice-read-if1 : tie.Need-shared-slice-read-if1 Inv-loop μ-loop
-shared-slice-read-if1 c =
-    let start = c .before .before .before .before .before .before .before in
-    (let s = entering-within (start .pre) (c .before .loop .inv .3 (start .pre)) in
-    omega (arith, s, start .pre .standing .short))
+    omega (arith, entering-within (start .pre) (c .loop .inv .3 (start .pre)))
 
 check-method-requires : tie.Need-check-method-requires Inv-loop μ-loop
 check-method-requires c κs =
-    let at-loop = c .before .before .before .before .before in
+    let at-letter-at = c .before .before .before .before in
+    let at-loop = at-letter-at .before in
     let start = at-loop .before .before .before .before .before .before in
-    entering-ready (start .pre) (at-loop .loop .inv .3 (start .pre)) (c .before .before .before .if1 .taken)
+    entering-ready (start .pre) (at-loop .loop .inv .3 (start .pre))
+    (sym (at-letter-at .letter-at .ensures) ∙ c .before .before .before .if1 .taken)
 
 enum-told : tie.Need-enum-told Inv-loop μ-loop
 enum-told c = search needs
@@ -78,9 +67,11 @@ returns : tie.Need-returns Inv-loop μ-loop
 returns c =
     let at-check-method = c .before .before .before .before .before .before .before .before in
     let at-if1 = at-check-method .before .before .before .before in
-    let at-loop = at-if1 .before .before in
+    let at-letter-at = at-if1 .before in
+    let at-loop = at-letter-at .before in
     λ w. (
-      entering-refused w (at-loop .loop .inv .3 w) (at-if1 .if1 .taken)
+      entering-refused w (at-loop .loop .inv .3 w)
+          (sym (at-letter-at .letter-at .ensures) ∙ at-if1 .if1 .taken)
           (at-check-method .check-method .result) (at-check-method .check-method .last .1 .0)
           (at-check-method .check-method .last .1 .1 .0) (at-check-method .check-method .last .1 .1 .1 .0)
           (at-check-method .check-method .ensures) (c .enum-told2 .given .0 .0)
@@ -93,9 +84,11 @@ skip-method-requires : tie.Need-skip-method-requires Inv-loop μ-loop
 skip-method-requires c κs =
     let at-if1 = c .before .before .before .before .before .before .before .before .before .before .before
     .before in
-    let at-loop = at-if1 .before .before in
+    let at-letter-at = at-if1 .before in
+    let at-loop = at-letter-at .before in
     let start = at-loop .before .before .before .before .before .before in
-    entering-here (start .pre) (at-loop .loop .inv .3 (start .pre)) (at-if1 .if1 .taken)
+    entering-here (start .pre) (at-loop .loop .inv .3 (start .pre))
+    (sym (at-letter-at .letter-at .ensures) ∙ at-if1 .if1 .taken)
 
 add-next : tie.Need-add-next Inv-loop μ-loop
 add-next c =
@@ -108,9 +101,11 @@ loop-less : tie.Need-loop-less Inv-loop μ-loop
 loop-less c =
     let at-if1 = c .before .before .before .before .before .before .before .before .before .before .before
     .before .before in
-    let at-loop = at-if1 .before .before in
+    let at-letter-at = at-if1 .before in
+    let at-loop = at-letter-at .before in
     let start = at-loop .before .before .before .before .before .before in
-    (let g = entering-grows (start .pre) (at-loop .loop .inv .3 (start .pre)) (at-if1 .if1 .taken)
+    (let g = entering-grows (start .pre) (at-loop .loop .inv .3 (start .pre))
+    (sym (at-letter-at .letter-at .ensures) ∙ at-if1 .if1 .taken)
     (c .skip-method .result) (c .skip-method .ensures) in let s =
     entering-within (start .pre) (at-loop .loop .inv .3 (start .pre)) in omega (arith, g, s))
 
@@ -118,14 +113,16 @@ loop-again : tie.Need-loop-again Inv-loop μ-loop
 loop-again c =
     let at-check-method = c .before .before .before .before .before .before .before .before .before in
     let at-if1 = at-check-method .before .before .before .before in
-    let at-loop = at-if1 .before .before in (
+    let at-letter-at = at-if1 .before in
+    let at-loop = at-letter-at .before in (
       at-check-method .check-method .kept .1 .0
           ∙ at-loop .loop .inv .0,
       at-check-method .check-method .kept .1 .1 .0
           ∙ at-loop .loop .inv .1,
       at-check-method .check-method .kept .1 .1 .1 .0 ∙ at-loop .loop .inv .2,
       λ w.
-          entering-step w (at-loop .loop .inv .3 w) (at-if1 .if1 .taken)
+          entering-step w (at-loop .loop .inv .3 w)
+          (sym (at-letter-at .letter-at .ensures) ∙ at-if1 .if1 .taken)
           (at-check-method .check-method .result)
           (at-check-method .check-method .last .1 .0) (at-check-method .check-method .last .1 .1 .0)
           (at-check-method .check-method .last .1 .1 .1 .0) (at-check-method .check-method .ensures)
@@ -133,14 +130,14 @@ loop-again c =
           (c .skip-method .ensures),
     )
 
-sub-t24 : tie.Need-sub-t24 Inv-loop μ-loop
-sub-t24 c =
+sub-t21 : tie.Need-sub-t21 Inv-loop μ-loop
+sub-t21 c =
     let start = c .before .before .before .before .before .before .before .before in
     (let j = entering-count (start .pre) (c .before .before .loop .inv .3 (start .pre)) in
     omega (arith, j .0, j .1))
 
-cast-t25 : tie.Need-cast-t25 Inv-loop μ-loop
-cast-t25 c =
+cast-t22 : tie.Need-cast-t22 Inv-loop μ-loop
+cast-t22 c =
     let start = c .before .before .before .before .before .before .before .before in
     (let j = entering-count (start .pre) (c .before .before .loop .inv .3 (start .pre)) in
     omega (arith, j .0, j .1))
@@ -155,12 +152,12 @@ same-length-6 : tie.Need-same-length-6 Inv-loop μ-loop
 same-length-6 c = c .before .before .loop .inv .2
 
 returns-2 : tie.Need-returns-2 Inv-loop μ-loop
-returns-2 c =
-    λ w. (
-      entering-end w (c .before .before .loop .inv .3 w) (c .if1 .left),
-      λ n e.
-          entering-done w (c .before .before .loop .inv .3 w) (c .if1 .left),
-    )
+returns-2 c = λ w. (
+  entering-end w (c .before .before .loop .inv .3 w) (λ e. c .if1 .left (c .before .letter-at .ensures ∙ e)),
+  λ n e.
+      entering-done w (c .before .before .loop .inv .3 w)
+      (λ e. c .if1 .left (c .before .letter-at .ensures ∙ e)),
+)
 
 pub check-methods-spec : {M : Type 1} → statement M
 check-methods-spec =
@@ -169,9 +166,7 @@ check-methods-spec =
     Inv-loop
     μ-loop
     loop-holds
-    mul-if1
-    mul-if1-2
-    shared-slice-read-if1
+    letter-at-requires
     check-method-requires
     enum-told
     enum-told-2
@@ -183,8 +178,8 @@ check-methods-spec =
     add-next
     loop-less
     loop-again
-    sub-t24
-    cast-t25
+    sub-t21
+    cast-t22
     same-length-4
     same-length-5
     same-length-6

@@ -23,49 +23,35 @@ abbrev μ-loop : tie.MeasureT-loop
 loop-holds : tie.Need-loop-holds Inv-loop μ-loop
 loop-holds c = λ w P e. declaring-start w P
 
-add-is-declared : tie.Need-add-is-declared Inv-loop μ-loop
-add-is-declared c = (let j = types-index (c .before .before .before .pre) (c .before .loop .i)
-    (c .loop-test .taken) in omega (arith, j .0, j .1, c .loop-test .taken))
+add-first : tie.Need-add-first Inv-loop μ-loop
+add-first c = let j =
+    types-index (c .before .before .before .pre) (c .before .loop .i) (c .loop-test .taken) in
+    omega (arith, j .0, j .1)
 
-mul-is-declared : tie.Need-mul-is-declared Inv-loop μ-loop
-mul-is-declared c = (let j = types-index (c .before .before .before .pre) (c .before .loop .i)
-    (c .loop-test .taken) in omega (arith, j .0, j .1, c .loop-test .taken))
-
-add-is-declared-2 : tie.Need-add-is-declared-2 Inv-loop μ-loop
-add-is-declared-2 c =
-    (let j = types-index (c .before .before .before .pre) (c .before .loop .i) (c .loop-test .taken) in
-    omega (arith, j .0, j .1, c .loop-test .taken))
-
-mul-is-declared-2 : tie.Need-mul-is-declared-2 Inv-loop μ-loop
-mul-is-declared-2 c =
-    (let j = types-index (c .before .before .before .pre) (c .before .loop .i) (c .loop-test .taken) in
-    omega (arith, j .0, j .1, c .loop-test .taken))
-
-shared-slice-read-is-declared : tie.Need-shared-slice-read-is-declared Inv-loop μ-loop
-shared-slice-read-is-declared c =
-    let start = c .before .before .before .before in
-    (let j = types-index (start .pre) (c .before .before .loop .i) (c .before .loop-test .taken) in
-    omega (arith, j .0, j .1, c .before .loop-test .taken))
+first-requires : tie.Need-first-requires Inv-loop μ-loop
+first-requires c κs = let j =
+    types-index (c .before .before .before .pre) (c .before .loop .i) (c .loop-test .taken) in
+    omega (arith, j .0)
 
 is-declared-requires : tie.Need-is-declared-requires Inv-loop μ-loop
 is-declared-requires c κs = search needs
 
-add-t14 : tie.Need-add-t14 Inv-loop μ-loop
-add-t14 c =
+add-t10 : tie.Need-add-t10 Inv-loop μ-loop
+add-t10 c =
     let at-loop = c .before .before .before .before in
     let start = at-loop .before .before in
     (let j = types-index (start .pre) (at-loop .loop .i) (c .before .before .before .loop-test .taken) in
     omega (arith, j .0, j .1, c .before .before .before .loop-test .taken))
 
-add-t15 : tie.Need-add-t15 Inv-loop μ-loop
-add-t15 c =
+add-t11 : tie.Need-add-t11 Inv-loop μ-loop
+add-t11 c =
     let at-loop = c .before .before .before .before in
     let start = at-loop .before .before in
     (let j = types-index (start .pre) (at-loop .loop .i) (c .before .before .before .loop-test .taken) in
     omega (arith, j .0, j .1, c .before .before .before .loop-test .taken))
 
-cast-t16 : tie.Need-cast-t16 Inv-loop μ-loop
-cast-t16 c =
+cast-t12 : tie.Need-cast-t12 Inv-loop μ-loop
+cast-t12 c =
     let at-loop = c .before .before .before .before in
     let start = at-loop .before .before in
     (let j = types-index (start .pre) (at-loop .loop .i) (c .before .before .before .loop-test .taken) in
@@ -75,28 +61,22 @@ returns : tie.Need-returns Inv-loop μ-loop
 returns c =
     let at-loop = c .before .before .before .before in
     λ w P e. declaring-refused w P (at-loop .loop .i) (at-loop .loop .inv w P e)
-    (c .before .before .before .loop-test .taken) (c .before .is-declared .result)
+    (c .before .before .before .loop-test .taken) (c .before .before .first .result)
+    (c .before .before .first .ensures) (c .before .is-declared .result)
     (c .before .is-declared .ensures P e) (not-true _ (c .if1 .taken))
 
 add-i : tie.Need-add-i Inv-loop μ-loop
-add-i c =
-    let at-loop = c .before .before .before .before in
-    let start = at-loop .before .before in
-    (let j = types-index (start .pre) (at-loop .loop .i) (c .before .before .before .loop-test .taken) in
-    omega (arith, j .0, j .1, c .before .before .before .loop-test .taken))
+add-i c = omega (arith, c .before .before .before .loop-test .taken)
 
 loop-less : tie.Need-loop-less Inv-loop μ-loop
-loop-less c =
-    let at-loop = c .before .before .before .before in
-    let start = at-loop .before .before in
-    (let j = types-index (start .pre) (at-loop .loop .i) (c .before .before .before .loop-test .taken) in
-    omega (arith, j .0, j .1, c .before .before .before .loop-test .taken))
+loop-less c = omega (arith, c .before .before .before .loop-test .taken)
 
 loop-again : tie.Need-loop-again Inv-loop μ-loop
 loop-again c =
     let at-loop = c .before .before .before .before in
     λ w P e. declaring-step w P (at-loop .loop .i) (at-loop .loop .inv w P e)
-    (c .before .before .before .loop-test .taken) (c .before .is-declared .result)
+    (c .before .before .before .loop-test .taken) (c .before .before .first .result)
+    (c .before .before .first .ensures) (c .before .is-declared .result)
     (c .before .is-declared .ensures P e) (not-false _ (c .if1 .left))
 
 returns-2 : tie.Need-returns-2 Inv-loop μ-loop
@@ -110,15 +90,12 @@ check-parameters-spec =
     Inv-loop
     μ-loop
     loop-holds
-    add-is-declared
-    mul-is-declared
-    add-is-declared-2
-    mul-is-declared-2
-    shared-slice-read-is-declared
+    add-first
+    first-requires
     is-declared-requires
-    add-t14
-    add-t15
-    cast-t16
+    add-t10
+    add-t11
+    cast-t12
     returns
     add-i
     loop-less

@@ -18,55 +18,35 @@ loop-holds c = λ w. collecting-start w
 sub-i : tie.Need-sub-i Inv-loop μ-loop
 sub-i c = omega (arith, c .loop-test .taken)
 
-add-effect-of : tie.Need-add-effect-of Inv-loop μ-loop
-add-effect-of c =
-    (let j = collecting-index (c .before .before .before .pre) (c .before .loop .set) (c .before .loop .i)
-    (c .before .loop .inv (c .before .before .before .pre)) (c .loop-test .taken) in
-    omega (arith, j .0, j .1))
+add-first : tie.Need-add-first Inv-loop μ-loop
+add-first c = let j =
+    collecting-index (c .before .before .before .pre) (c .before .loop .set) (c .before .loop .i)
+    (c .before .loop .inv (c .before .before .before .pre)) (c .loop-test .taken) in omega (arith, j .0, j .1)
 
-mul-effect-of : tie.Need-mul-effect-of Inv-loop μ-loop
-mul-effect-of c =
-    (let j = collecting-index (c .before .before .before .pre) (c .before .loop .set) (c .before .loop .i)
-    (c .before .loop .inv (c .before .before .before .pre)) (c .loop-test .taken) in
-    omega (arith, j .0, j .1))
-
-add-effect-of-2 : tie.Need-add-effect-of-2 Inv-loop μ-loop
-add-effect-of-2 c =
-    (let j = collecting-index (c .before .before .before .pre) (c .before .loop .set) (c .before .loop .i)
-    (c .before .loop .inv (c .before .before .before .pre)) (c .loop-test .taken) in
-    omega (arith, j .0, j .1))
-
-mul-effect-of-2 : tie.Need-mul-effect-of-2 Inv-loop μ-loop
-mul-effect-of-2 c =
-    (let j = collecting-index (c .before .before .before .pre) (c .before .loop .set) (c .before .loop .i)
-    (c .before .loop .inv (c .before .before .before .pre)) (c .loop-test .taken) in
-    omega (arith, j .0, j .1))
-
-shared-slice-read-effect-of : tie.Need-shared-slice-read-effect-of Inv-loop μ-loop
-shared-slice-read-effect-of c =
-    let start = c .before .before .before .before in
-    (let j = collecting-index (start .pre) (c .before .before .loop .set) (c .before .before .loop .i)
-    (c .before .before .loop .inv (start .pre)) (c .before .loop-test .taken) in
-    omega (arith, j .0, j .1))
+first-requires : tie.Need-first-requires Inv-loop μ-loop
+first-requires c κs = let j =
+    collecting-index (c .before .before .before .pre) (c .before .loop .set) (c .before .loop .i)
+    (c .before .loop .inv (c .before .before .before .pre)) (c .loop-test .taken) in omega (arith, j .0)
 
 effect-of-requires : tie.Need-effect-of-requires Inv-loop μ-loop
 effect-of-requires c κs =
     let start = c .before .before .before .before in
     collecting-class (start .pre) (c .before .before .loop .set) (c .before .before .loop .i)
-    (c .before .before .loop .inv (start .pre)) (c .before .loop-test .taken)
+    (c .before .before .loop .inv (start .pre)) (c .before .loop-test .taken) (c .first .result)
+    (c .first .ensures)
 
 loop-less : tie.Need-loop-less Inv-loop μ-loop
 loop-less c = omega (arith, c .before .before .loop-test .taken)
 
 loop-again : tie.Need-loop-again Inv-loop μ-loop
-loop-again c =
-    λ w. collecting-more w (c .before .before .before .loop .set) (c .before .before .before .loop .i)
-    (c .before .before .before .loop .inv w) (c .before .before .loop-test .taken) (c .effect-of .result)
+loop-again c = λ w. collecting-more w (c .before .before .before .loop .set)
+    (c .before .before .before .loop .i)
+    (c .before .before .before .loop .inv w) (c .before .before .loop-test .taken) (c .before .first .result)
+    (c .before .first .ensures) (c .effect-of .result)
     (c .effect-of .ensures)
 
 returns : tie.Need-returns Inv-loop μ-loop
-returns c =
-    λ w. collecting-end w (c .before .loop .set) (c .before .loop .i) (c .before .loop .inv w)
+returns c = λ w. collecting-end w (c .before .loop .set) (c .before .loop .i) (c .before .loop .inv w)
     (c .loop-test .left)
 
 pub effect-set-spec : {M : Type 1} → statement M
@@ -77,11 +57,8 @@ effect-set-spec =
     μ-loop
     loop-holds
     sub-i
-    add-effect-of
-    mul-effect-of
-    add-effect-of-2
-    mul-effect-of-2
-    shared-slice-read-effect-of
+    add-first
+    first-requires
     effect-of-requires
     loop-less
     loop-again

@@ -7,17 +7,8 @@ use Rattle.headings.proofs.Fields.{enter-bounds, enter-is}
 use Rattle.headings.proofs.enter_field.Statement.{statement}
 use Rattle.headings.proofs.enter_field.Tie as tie
 
-mul-name : tie.Need-mul-name
-mul-name c = search needs
-
-add-name : tie.Need-add-name
-add-name c = search needs
-
-mul-name-2 : tie.Need-mul-name-2
-mul-name-2 c = search needs
-
-shared-slice-read-name : tie.Need-shared-slice-read-name
-shared-slice-read-name c = search needs
+second-requires : tie.Need-second-requires
+second-requires c κs = search needs
 
 cast-name : tie.Need-cast-name
 cast-name c = search needs
@@ -32,8 +23,10 @@ slice-read-n : tie.Need-slice-read-n
 slice-read-n c = search needs
 
 add-tables : tie.Need-add-tables
-add-tables c = (let b = enter-bounds (c .before .before .pre) in omega
-    (arith, b .0, b .1, b .2, b .3, b .4, c .before .before .pre .base-is))
+add-tables c =
+    let start = c .before .before .before .before in
+    (let b = enter-bounds (start .pre) (c .before .second .result) (c .before .second .ensures) in omega
+    (arith, b .0, b .1, b .2, b .3, b .4, start .pre .base-is))
 
 add-tables-2 : tie.Need-add-tables-2
 add-tables-2 c = search needs
@@ -51,25 +44,34 @@ add-tables-3 : tie.Need-add-tables-3
 add-tables-3 c = search needs
 
 cast-tables-2 : tie.Need-cast-tables-2
-cast-tables-2 c = (let b = enter-bounds (c .before .before .pre) in omega
-    (arith, b .0, b .1, b .2, b .3, b .4, c .before .before .pre .base-is))
+cast-tables-2 c =
+    let start = c .before .before .before .before in
+    (let b = enter-bounds (start .pre) (c .before .second .result) (c .before .second .ensures) in omega
+    (arith, b .0, b .1, b .2, b .3, b .4, start .pre .base-is))
 
 add-tables-4 : tie.Need-add-tables-4
-add-tables-4 c = (let b = enter-bounds (c .before .before .pre) in omega
-    (arith, b .0, b .1, b .2, b .3, b .4, c .before .before .pre .base-is))
+add-tables-4 c =
+    let start = c .before .before .before .before in
+    (let b = enter-bounds (start .pre) (c .before .second .result) (c .before .second .ensures) in omega
+    (arith, b .0, b .1, b .2, b .3, b .4, start .pre .base-is))
 
 mul-tables-2 : tie.Need-mul-tables-2
-mul-tables-2 c = (let b = enter-bounds (c .before .before .pre) in omega
-    (arith, b .0, b .1, b .2, b .3, b .4, c .before .before .pre .base-is))
+mul-tables-2 c =
+    let start = c .before .before .before .before in
+    (let b = enter-bounds (start .pre) (c .before .second .result) (c .before .second .ensures) in omega
+    (arith, b .0, b .1, b .2, b .3, b .4, start .pre .base-is))
 
 slice-write-tables-2 : tie.Need-slice-write-tables-2
 slice-write-tables-2 c =
-    (let b = enter-bounds (c .before .before .pre) in
+    let start = c .before .before .before .before in
+    (let b = enter-bounds (start .pre) (c .before .second .result) (c .before .second .ensures) in
     simp length-set (omega (arith, b .0, b .1, b .2, b .3, b .4)))
 
 add-tables-5 : tie.Need-add-tables-5
-add-tables-5 c = (let b = enter-bounds (c .before .before .pre) in omega
-    (arith, b .0, b .1, b .2, b .3, b .4, c .before .before .pre .base-is))
+add-tables-5 c =
+    let start = c .before .before .before .before in
+    (let b = enter-bounds (start .pre) (c .before .second .result) (c .before .second .ensures) in omega
+    (arith, b .0, b .1, b .2, b .3, b .4, start .pre .base-is))
 
 add-tables-6 : tie.Need-add-tables-6
 add-tables-6 c = search needs
@@ -79,23 +81,21 @@ mul-tables-3 c = search needs
 
 slice-write-tables-3 : tie.Need-slice-write-tables-3
 slice-write-tables-3 c =
-    (let b = enter-bounds (c .before .before .pre) in
+    let start = c .before .before .before .before in
+    (let b = enter-bounds (start .pre) (c .before .second .result) (c .before .second .ensures) in
     simp length-set (omega (arith, b .0, b .1, b .2, b .3, b .4)))
 
 same-length : tie.Need-same-length
 same-length c = search needs
 
 returns : tie.Need-returns
-returns c = λ w. enter-is w _ refl
+returns c = λ w. enter-is w (c .before .second .result) (c .before .second .ensures) _ refl
 
 pub enter-field-spec : {M : Type 1} → statement M
 enter-field-spec =
     tie.close
     (tie.spec
-    mul-name
-    add-name
-    mul-name-2
-    shared-slice-read-name
+    second-requires
     cast-name
     add-n
     mul-n

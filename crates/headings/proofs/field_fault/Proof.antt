@@ -18,36 +18,19 @@ shared-slice-read-if1 c = search needs
 returns : tie.Need-returns
 returns c = λ w. field-full w (c .if1 .taken)
 
-mul-t : tie.Need-mul-t
-mul-t c = search needs
-
-add-t : tie.Need-add-t
-add-t c = search needs
-
-mul-t-2 : tie.Need-mul-t-2
-mul-t-2 c = search needs
-
-shared-slice-read-t : tie.Need-shared-slice-read-t
-shared-slice-read-t c = search needs
+first-requires : tie.Need-first-requires
+first-requires c κs = search needs
 
 is-declared-requires : tie.Need-is-declared-requires
 is-declared-requires c κs = search needs
 
 returns-2 : tie.Need-returns-2
 returns-2 c = λ w. field-undeclared w (c .before .before .before .if1 .left)
+    (c .before .before .first .result) (c .before .before .first .ensures)
     (sym (c .before .is-declared .ensures (w .P) (w .count-is)) ∙ not-true _ (c .if2 .taken))
 
-mul-name : tie.Need-mul-name
-mul-name c = search needs
-
-add-name : tie.Need-add-name
-add-name c = search needs
-
-mul-name-2 : tie.Need-mul-name-2
-mul-name-2 c = search needs
-
-shared-slice-read-name : tie.Need-shared-slice-read-name
-shared-slice-read-name c = search needs
+second-requires : tie.Need-second-requires
+second-requires c κs = search needs
 
 cast-name : tie.Need-cast-name
 cast-name c = search needs
@@ -64,10 +47,12 @@ shared-slice-read-if3 c = search needs
 returns-3 : tie.Need-returns-3
 returns-3 c =
     let at-is-declared = c .before .before .before .before in
-    let at-if1 = at-is-declared .before .before in
-    λ w. field-twice w (at-if1 .if1 .left)
+    let at-first = at-is-declared .before in
+    let at-if1 = at-first .before in
+    λ w. field-twice w (at-if1 .if1 .left) (at-first .first .result) (at-first .first .ensures)
     (sym (at-is-declared .is-declared .ensures (w .P) (w .count-is))
-    ∙ not-false _ (c .before .before .before .if2 .left)) (c .if3 .taken)
+    ∙ not-false _ (c .before .before .before .if2 .left)) (c .before .before .second .result)
+    (c .before .before .second .ensures) (c .if3 .taken)
 
 is-state-requires : tie.Need-is-state-requires
 is-state-requires c κs =
@@ -83,12 +68,15 @@ is-state-requires c κs =
 
 returns-4 : tie.Need-returns-4
 returns-4 c =
-    let at-if2 = c .before .before .before .before .before in
+    let at-second = c .before .before .before .before in
+    let at-if2 = at-second .before in
     let at-is-declared = at-if2 .before in
-    let at-if1 = at-is-declared .before .before in
-    λ w. field-state w (at-if1 .if1 .left)
+    let at-first = at-is-declared .before in
+    let at-if1 = at-first .before in
+    λ w. field-state w (at-if1 .if1 .left) (at-first .first .result) (at-first .first .ensures)
     (sym (at-is-declared .is-declared .ensures (w .P) (w .count-is)) ∙ not-false _ (at-if2 .if2 .left))
-    (c .before .before .if3 .left) (c .before .is-state .result)
+    (at-second .second .result) (at-second .second .ensures) (c .before .before .if3 .left)
+    (c .before .is-state .result)
     (c .before .is-state .ensures
     (record {
       P = w .P;
@@ -100,12 +88,15 @@ returns-4 c =
 
 returns-5 : tie.Need-returns-5
 returns-5 c =
-    let at-if2 = c .before .before .before .before .before in
+    let at-second = c .before .before .before .before in
+    let at-if2 = at-second .before in
     let at-is-declared = at-if2 .before in
-    let at-if1 = at-is-declared .before .before in
-    λ w. field-fine w (at-if1 .if1 .left)
+    let at-first = at-is-declared .before in
+    let at-if1 = at-first .before in
+    λ w. field-fine w (at-if1 .if1 .left) (at-first .first .result) (at-first .first .ensures)
     (sym (at-is-declared .is-declared .ensures (w .P) (w .count-is)) ∙ not-false _ (at-if2 .if2 .left))
-    (c .before .before .if3 .left) (c .before .is-state .result)
+    (at-second .second .result) (at-second .second .ensures) (c .before .before .if3 .left)
+    (c .before .is-state .result)
     (c .before .is-state .ensures
     (record {
       P = w .P;
@@ -123,16 +114,10 @@ field-fault-spec =
     mul-if1
     shared-slice-read-if1
     returns
-    mul-t
-    add-t
-    mul-t-2
-    shared-slice-read-t
+    first-requires
     is-declared-requires
     returns-2
-    mul-name
-    add-name
-    mul-name-2
-    shared-slice-read-name
+    second-requires
     cast-name
     add-if3
     mul-if3

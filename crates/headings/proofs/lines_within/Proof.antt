@@ -2,7 +2,6 @@
 use mathlib.Core.Path.{sym, _∙_}
 use Prim.Native.Nat.{_-_}
 use native.Mathlib.Omega.{arith}
-use lib.ListN.{set}
 use Rattle.headings.proofs.Loops.{Testing, testing-start, testing-zero, testing-large, testing-out}
 use Rattle.headings.proofs.Loops.{testing-step, testing-end, effects-index}
 use Rattle.headings.specs.Ready.{EffectLines}
@@ -19,80 +18,60 @@ abbrev μ-loop : tie.MeasureT-loop
 loop-holds : tie.Need-loop-holds Inv-loop μ-loop
 loop-holds c = λ w. testing-start w _
 
-add-c : tie.Need-add-c Inv-loop μ-loop
-add-c c = (let j = effects-index (c .before .before .before .pre) (c .before .loop .i)
-    (c .loop-test .taken) in
-    omega (arith, j .0, j .1, c .before .loop .inv (c .before .before .before .pre) .within))
+add-first : tie.Need-add-first Inv-loop μ-loop
+add-first c = let j =
+    effects-index (c .before .before .before .pre) (c .before .loop .i) (c .loop-test .taken) in
+    omega (arith, j .0, j .1)
 
-mul-c : tie.Need-mul-c Inv-loop μ-loop
-mul-c c = (let j = effects-index (c .before .before .before .pre) (c .before .loop .i)
-    (c .loop-test .taken) in
-    omega (arith, j .0, j .1, c .before .loop .inv (c .before .before .before .pre) .within))
-
-add-c-2 : tie.Need-add-c-2 Inv-loop μ-loop
-add-c-2 c = (let j = effects-index (c .before .before .before .pre) (c .before .loop .i)
-    (c .loop-test .taken) in
-    omega (arith, j .0, j .1, c .before .loop .inv (c .before .before .before .pre) .within))
-
-mul-c-2 : tie.Need-mul-c-2 Inv-loop μ-loop
-mul-c-2 c = (let j = effects-index (c .before .before .before .pre) (c .before .loop .i)
-    (c .loop-test .taken) in
-    omega (arith, j .0, j .1, c .before .loop .inv (c .before .before .before .pre) .within))
-
-shared-slice-read-c : tie.Need-shared-slice-read-c Inv-loop μ-loop
-shared-slice-read-c c =
-    let start = c .before .before .before .before in
-    (let j = effects-index (start .pre) (c .before .before .loop .i) (c .before .loop-test .taken) in
-    omega (arith, j .0, j .1, c .before .before .loop .inv (start .pre) .within))
+first-requires : tie.Need-first-requires Inv-loop μ-loop
+first-requires c κs = let j =
+    effects-index (c .before .before .before .pre) (c .before .loop .i) (c .loop-test .taken) in
+    omega (arith, j .0)
 
 returns : tie.Need-returns Inv-loop μ-loop
 returns c =
     let start = c .before .before .before .before .before in
     λ w. testing-zero w (start .args .set) (c .before .before .before .loop .i)
-    (c .before .before .before .loop .inv w) (c .before .before .loop-test .taken) (c .if1 .taken)
+    (c .before .before .before .loop .inv w) (c .before .before .loop-test .taken) (c .before .first .result)
+    (c .before .first .ensures) (c .if1 .taken)
 
 returns-2 : tie.Need-returns-2 Inv-loop μ-loop
 returns-2 c =
     let at-loop = c .before .before .before .before in
     let start = at-loop .before .before in
     λ w. testing-large w (start .args .set) (at-loop .loop .i) (at-loop .loop .inv w)
-    (c .before .before .before .loop-test .taken) (c .if2 .taken)
+    (c .before .before .before .loop-test .taken) (c .before .before .first .result)
+    (c .before .before .first .ensures) (c .if2 .taken)
 
 is-member-requires : tie.Need-is-member-requires Inv-loop μ-loop
 is-member-requires c κs = omega (arith, c .if2 .left)
 
 returns-3 : tie.Need-returns-3 Inv-loop μ-loop
 returns-3 c =
-    let at-loop-test = c .before .before .before .before .before in
+    let at-first = c .before .before .before .before in
+    let at-loop-test = at-first .before in
     let at-loop = at-loop-test .before in
     let start = at-loop .before .before in
     λ w. testing-out w (start .args .set) (at-loop .loop .i) (at-loop .loop .inv w)
-    (at-loop-test .loop-test .taken) (c .before .before .before .if1 .left) (c .before .before .if2 .left)
+    (at-loop-test .loop-test .taken) (at-first .first .result) (at-first .first .ensures)
+    (c .before .before .before .if1 .left) (c .before .before .if2 .left)
     (sym (not-true _ (c .if3 .taken)) ∙ c .before .is-member .ensures)
 
 add-i : tie.Need-add-i Inv-loop μ-loop
-add-i c =
-    let at-loop-test = c .before .before .before .before .before in
-    let at-loop = at-loop-test .before in
-    let start = at-loop .before .before in
-    (let j = effects-index (start .pre) (at-loop .loop .i) (at-loop-test .loop-test .taken) in
-    omega (arith, j .0, j .1, at-loop .loop .inv (start .pre) .within))
+add-i c = omega (arith, c .before .before .before .before .before .loop-test .taken)
 
 loop-less : tie.Need-loop-less Inv-loop μ-loop
-loop-less c =
-    let at-loop-test = c .before .before .before .before .before in
-    let at-loop = at-loop-test .before in
-    let start = at-loop .before .before in
-    (let j = effects-index (start .pre) (at-loop .loop .i) (at-loop-test .loop-test .taken) in
-    omega (arith, j .0, j .1, at-loop .loop .inv (start .pre) .within))
+loop-less c = omega (arith, c .before .before .before .before .before .loop-test .taken)
 
 loop-again : tie.Need-loop-again Inv-loop μ-loop
 loop-again c =
-    let at-loop-test = c .before .before .before .before .before in
+    let at-first = c .before .before .before .before in
+    let at-loop-test = at-first .before in
     let at-loop = at-loop-test .before in
     let start = at-loop .before .before in
     λ w. testing-step w (start .args .set) (at-loop .loop .i) (at-loop .loop .inv w)
-    (at-loop-test .loop-test .taken) (c .before .before .before .if1 .left) (c .before .before .if2 .left)
+    (at-loop-test .loop-test .taken) (at-first .first .result) (at-first .first .ensures)
+    (c .before .before .before .if1 .left) (c .before .before .if2 .left)
     (sym (not-false _ (c .if3 .left)) ∙ c .before .is-member .ensures)
 
 returns-4 : tie.Need-returns-4 Inv-loop μ-loop
@@ -106,11 +85,8 @@ lines-within-spec =
     Inv-loop
     μ-loop
     loop-holds
-    add-c
-    mul-c
-    add-c-2
-    mul-c-2
-    shared-slice-read-c
+    add-first
+    first-requires
     returns
     returns-2
     is-member-requires

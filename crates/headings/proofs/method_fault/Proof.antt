@@ -3,7 +3,6 @@ use mathlib.Core.Path.{sym, ap, _∙_}
 use mathlib.Core.Bool.{cond}
 use Prim.Native.Nat.{_+_, _*_}
 use native.Mathlib.Omega.{arith}
-use lib.ListN.{getD}
 use borrow.Author.Needs.{needs}
 use borrow.Author.Tests.{not-true, not-false}
 use Rattle.headings.proofs.Methods.{method-undeclared, method-twice, method-first, override-ready}
@@ -11,38 +10,19 @@ use Rattle.headings.proofs.Methods.{method-overrides}
 use Rattle.headings.proofs.method_fault.Statement.{statement}
 use Rattle.headings.proofs.method_fault.Tie as tie
 
-mul-is-declared : tie.Need-mul-is-declared
-mul-is-declared c = search needs
-
-add-is-declared : tie.Need-add-is-declared
-add-is-declared c = search needs
-
-mul-is-declared-2 : tie.Need-mul-is-declared-2
-mul-is-declared-2 c = search needs
-
-shared-slice-read-is-declared : tie.Need-shared-slice-read-is-declared
-shared-slice-read-is-declared c = search needs
+first-requires : tie.Need-first-requires
+first-requires c κs = search needs
 
 is-declared-requires : tie.Need-is-declared-requires
 is-declared-requires c κs = search needs
 
 returns : tie.Need-returns
-returns c =
-    λ w. method-undeclared w
+returns c = λ w. method-undeclared w (c .before .before .first .result) (c .before .before .first .ensures)
     (sym (c .before .is-declared .ensures (w .line .program .classes) (w .line .count-is))
     ∙ not-true _ (c .if1 .taken))
 
-mul-name : tie.Need-mul-name
-mul-name c = search needs
-
-add-name : tie.Need-add-name
-add-name c = search needs
-
-mul-name-2 : tie.Need-mul-name-2
-mul-name-2 c = search needs
-
-shared-slice-read-name : tie.Need-shared-slice-read-name
-shared-slice-read-name c = search needs
+second-requires : tie.Need-second-requires
+second-requires c κs = search needs
 
 cast-name : tie.Need-cast-name
 cast-name c = search needs
@@ -65,23 +45,25 @@ shared-slice-read-entry c = search needs
 cast-entry : tie.Need-cast-entry
 cast-entry c =
     let start = c .before .before .before .before .before .before .before .before .before in
-    omega (
-      arith,
-      c .shared-slice-known7 .given
-          ((start .args .k) * 576 + 256 + getD (start .args .rows .now) ((start .args .r) * 4 + 2) 0),
-    )
+    omega (arith, c .shared-slice-known5 .given ((start .args .k) * 576 + 256 + c .before .second .result))
 
 returns-2 : tie.Need-returns-2
 returns-2 c =
     let at-is-declared = c .before .before .before .before in
-    λ w. method-twice w (sym (at-is-declared .is-declared .ensures (w .line .program .classes)
+    let at-first = at-is-declared .before in
+    λ w. method-twice w (at-first .first .result) (c .before .before .second .result)
+    (at-first .first .ensures) (c .before .before .second .ensures)
+    (sym (at-is-declared .is-declared .ensures (w .line .program .classes)
     (w .line .count-is)) ∙ not-false _ (c .before .before .before .if1 .left)) (c .if2 .taken)
 
 returns-3 : tie.Need-returns-3
 returns-3 c =
     let at-if1 = c .before .before .before .before in
     let at-is-declared = at-if1 .before in
-    λ w. method-first w (sym (at-is-declared .is-declared .ensures (w .line .program .classes)
+    let at-first = at-is-declared .before in
+    λ w. method-first w (at-first .first .result) (c .before .before .before .second .result)
+    (at-first .first .ensures) (c .before .before .before .second .ensures)
+    (sym (at-is-declared .is-declared .ensures (w .line .program .classes)
     (w .line .count-is)) ∙ not-false _ (at-if1 .if1 .left)) (c .before .if2 .left) (c .if3 .taken)
 
 sub-may-override : tie.Need-sub-may-override
@@ -91,27 +73,35 @@ may-override-requires : tie.Need-may-override-requires
 may-override-requires c κs =
     let at-if1 = c .before .before .before .before in
     let at-is-declared = at-if1 .before in
-    let start = at-is-declared .before .before .before .before .before .before in
-    override-ready (start .pre)
+    let at-first = at-is-declared .before in
+    let start = at-first .before .before .before .before .before in
+    override-ready (start .pre) (at-first .first .result) (c .before .before .before .second .result)
+    (at-first .first .ensures) (c .before .before .before .second .ensures)
     (sym (at-is-declared .is-declared .ensures (start .pre .line .program .classes)
     (start .pre .line .count-is)) ∙ not-false _ (at-if1 .if1 .left)) (c .before .if2 .left) (c .if3 .left)
 
 returns-4 : tie.Need-returns-4
 returns-4 c =
-    let at-if1 = c .before .before .before .before .before .before in
+    let at-second = c .before .before .before .before .before in
+    let at-if1 = at-second .before in
     let at-is-declared = at-if1 .before in
+    let at-first = at-is-declared .before in
     λ w. ap (λ b. cond b 0 6) (sym (c .if4 .taken))
-    ∙ method-overrides w
+    ∙ method-overrides w (at-first .first .result) (at-second .second .result) (at-first .first .ensures)
+    (at-second .second .ensures)
     (sym (at-is-declared .is-declared .ensures (w .line .program .classes) (w .line .count-is))
     ∙ not-false _ (at-if1 .if1 .left)) (c .before .before .before .if2 .left)
     (c .before .before .if3 .left) (c .before .may-override .result) (c .before .may-override .ensures)
 
 returns-5 : tie.Need-returns-5
 returns-5 c =
-    let at-if1 = c .before .before .before .before .before .before in
+    let at-second = c .before .before .before .before .before in
+    let at-if1 = at-second .before in
     let at-is-declared = at-if1 .before in
+    let at-first = at-is-declared .before in
     λ w. ap (λ b. cond b 0 6) (sym (c .if4 .left))
-    ∙ method-overrides w
+    ∙ method-overrides w (at-first .first .result) (at-second .second .result) (at-first .first .ensures)
+    (at-second .second .ensures)
     (sym (at-is-declared .is-declared .ensures (w .line .program .classes) (w .line .count-is))
     ∙ not-false _ (at-if1 .if1 .left)) (c .before .before .before .if2 .left)
     (c .before .before .if3 .left) (c .before .may-override .result) (c .before .may-override .ensures)
@@ -120,16 +110,10 @@ pub method-fault-spec : {M : Type 1} → statement M
 method-fault-spec =
     tie.close
     (tie.spec
-    mul-is-declared
-    add-is-declared
-    mul-is-declared-2
-    shared-slice-read-is-declared
+    first-requires
     is-declared-requires
     returns
-    mul-name
-    add-name
-    mul-name-2
-    shared-slice-read-name
+    second-requires
     cast-name
     mul-entry
     add-entry

@@ -1,5 +1,5 @@
 -- `headings::read_classes` meets its contract. Assumes nothing.
-use mathlib.Core.Path.{refl}
+use mathlib.Core.Path.{refl, sym, _∙_}
 use Prim.Native.Nat.{_-_}
 use native.Mathlib.Omega.{arith}
 use lib.ListN.{length-set}
@@ -18,178 +18,122 @@ abbrev μ-loop : tie.MeasureT-loop
 loop-holds : tie.Need-loop-holds Inv-loop μ-loop
 loop-holds c = λ w. reading-start w
 
-mul-if1 : tie.Need-mul-if1 Inv-loop μ-loop
-mul-if1 c =
+letter-at-requires : tie.Need-letter-at-requires Inv-loop μ-loop
+letter-at-requires c κs =
     let start = c .before .before .before .before in
-    (let j = reading-index (start .pre) (c .loop .inv (start .pre)) in omega (arith, j .0, j .1))
-
-mul-if1-2 : tie.Need-mul-if1-2 Inv-loop μ-loop
-mul-if1-2 c =
-    let start = c .before .before .before .before in
-    (let j = reading-index (start .pre) (c .loop .inv (start .pre)) in omega (arith, j .0, j .1))
-
-shared-slice-read-if1 : tie.Need-shared-slice-read-if1 Inv-loop μ-loop
-shared-slice-read-if1 c =
-    let start = c .before .before .before .before .before in
-    (let j = reading-index (start .pre) (c .before .loop .inv (start .pre)) in omega (arith, j .0, j .1))
+    omega (arith, reading-index (start .pre) (c .loop .inv (start .pre)) .0)
 
 add-k : tie.Need-add-k Inv-loop μ-loop
 add-k c =
     let start = c .before .before .before .before .before .before in
-    (let j = reading-index (start .pre) (c .before .before .loop .inv (start .pre)) in let b =
-    reading-bounds (start .pre) (c .before .before .loop .inv (start .pre)) (c .if1 .taken) in
-    omega (arith, j .0, j .1, b .0, b .1, b .2, b .3))
+    let b = reading-bounds (start .pre) (c .before .before .loop .inv (start .pre))
+    (sym (c .before .letter-at .ensures) ∙ c .if1 .taken) in omega (arith, b .0)
 
-mul-tables : tie.Need-mul-tables Inv-loop μ-loop
-mul-tables c =
+first-requires : tie.Need-first-requires Inv-loop μ-loop
+first-requires c κs =
     let start = c .before .before .before .before .before .before in
-    (let j = reading-index (start .pre) (c .before .before .loop .inv (start .pre)) in let b =
-    reading-bounds (start .pre) (c .before .before .loop .inv (start .pre)) (c .if1 .taken) in
-    omega (arith, j .0, j .1, b .0, b .1, b .2, b .3))
-
-add-tables : tie.Need-add-tables Inv-loop μ-loop
-add-tables c =
-    let start = c .before .before .before .before .before .before in
-    (let j = reading-index (start .pre) (c .before .before .loop .inv (start .pre)) in let b =
-    reading-bounds (start .pre) (c .before .before .loop .inv (start .pre)) (c .if1 .taken) in
-    omega (arith, j .0, j .1, b .0, b .1, b .2, b .3))
-
-mul-tables-2 : tie.Need-mul-tables-2 Inv-loop μ-loop
-mul-tables-2 c =
-    let start = c .before .before .before .before .before .before in
-    (let j = reading-index (start .pre) (c .before .before .loop .inv (start .pre)) in let b =
-    reading-bounds (start .pre) (c .before .before .loop .inv (start .pre)) (c .if1 .taken) in
-    omega (arith, j .0, j .1, b .0, b .1, b .2, b .3))
-
-shared-slice-read-tables : tie.Need-shared-slice-read-tables Inv-loop μ-loop
-shared-slice-read-tables c =
-    let start = c .before .before .before .before .before .before .before in
-    (let j = reading-index (start .pre) (c .before .before .before .loop .inv (start .pre)) in let b =
-    reading-bounds (start .pre) (c .before .before .before .loop .inv (start .pre))
-    (c .before .if1 .taken) in omega (arith, j .0, j .1, b .0, b .1, b .2, b .3))
+    omega (arith, reading-index (start .pre) (c .before .before .loop .inv (start .pre)) .0)
 
 cast-tables : tie.Need-cast-tables Inv-loop μ-loop
 cast-tables c =
     let start = c .before .before .before .before .before .before .before in
-    (let j = reading-index (start .pre) (c .before .before .before .loop .inv (start .pre)) in let b =
-    reading-bounds (start .pre) (c .before .before .before .loop .inv (start .pre))
-    (c .before .if1 .taken) in omega (arith, j .0, j .1, b .0, b .1, b .2, b .3))
+    let b = reading-bounds (start .pre) (c .before .before .before .loop .inv (start .pre))
+    (sym (c .before .before .letter-at .ensures) ∙ c .before .if1 .taken) in
+    omega (arith, b .2, c .first .ensures)
 
-mul-tables-3 : tie.Need-mul-tables-3 Inv-loop μ-loop
-mul-tables-3 c =
+mul-tables : tie.Need-mul-tables Inv-loop μ-loop
+mul-tables c =
     let start = c .before .before .before .before .before .before .before in
-    (let j = reading-index (start .pre) (c .before .before .before .loop .inv (start .pre)) in let b =
-    reading-bounds (start .pre) (c .before .before .before .loop .inv (start .pre))
-    (c .before .if1 .taken) in omega (arith, j .0, j .1, b .0, b .1, b .2, b .3))
+    let b = reading-bounds (start .pre) (c .before .before .before .loop .inv (start .pre))
+    (sym (c .before .before .letter-at .ensures) ∙ c .before .if1 .taken) in omega (arith, b .0)
 
-add-tables-2 : tie.Need-add-tables-2 Inv-loop μ-loop
-add-tables-2 c =
+add-tables : tie.Need-add-tables Inv-loop μ-loop
+add-tables c =
     let start = c .before .before .before .before .before .before .before in
-    (let j = reading-index (start .pre) (c .before .before .before .loop .inv (start .pre)) in let b =
-    reading-bounds (start .pre) (c .before .before .before .loop .inv (start .pre))
-    (c .before .if1 .taken) in omega (arith, j .0, j .1, b .0, b .1, b .2, b .3))
+    let b = reading-bounds (start .pre) (c .before .before .before .loop .inv (start .pre))
+    (sym (c .before .before .letter-at .ensures) ∙ c .before .if1 .taken) in omega (arith, b .0)
 
-mul-tables-4 : tie.Need-mul-tables-4 Inv-loop μ-loop
-mul-tables-4 c =
+mul-tables-2 : tie.Need-mul-tables-2 Inv-loop μ-loop
+mul-tables-2 c =
     let start = c .before .before .before .before .before .before .before in
-    (let j = reading-index (start .pre) (c .before .before .before .loop .inv (start .pre)) in let b =
-    reading-bounds (start .pre) (c .before .before .before .loop .inv (start .pre))
-    (c .before .if1 .taken) in omega (arith, j .0, j .1, b .0, b .1, b .2, b .3))
+    let b = reading-bounds (start .pre) (c .before .before .before .loop .inv (start .pre))
+    (sym (c .before .before .letter-at .ensures) ∙ c .before .if1 .taken) in omega (arith, b .0)
 
 slice-write-tables : tie.Need-slice-write-tables Inv-loop μ-loop
 slice-write-tables c =
     let start = c .before .before .before .before .before .before .before in
-    (let j = reading-index (start .pre) (c .before .before .before .loop .inv (start .pre)) in let b =
-    reading-bounds (start .pre) (c .before .before .before .loop .inv (start .pre))
-    (c .before .if1 .taken) in omega (arith, j .0, j .1, b .0, b .1, b .2, b .3))
+    let b = reading-bounds (start .pre) (c .before .before .before .loop .inv (start .pre))
+    (sym (c .before .before .letter-at .ensures) ∙ c .before .if1 .taken) in omega (arith, b .1)
 
-mul-tables-5 : tie.Need-mul-tables-5 Inv-loop μ-loop
-mul-tables-5 c =
+second-requires : tie.Need-second-requires Inv-loop μ-loop
+second-requires c κs =
     let start = c .before .before .before .before .before .before .before in
-    (let j = reading-index (start .pre) (c .before .before .before .loop .inv (start .pre)) in let b =
-    reading-bounds (start .pre) (c .before .before .before .loop .inv (start .pre))
-    (c .before .if1 .taken) in omega (arith, j .0, j .1, b .0, b .1, b .2, b .3))
-
-add-tables-3 : tie.Need-add-tables-3 Inv-loop μ-loop
-add-tables-3 c =
-    let start = c .before .before .before .before .before .before .before in
-    (let j = reading-index (start .pre) (c .before .before .before .loop .inv (start .pre)) in let b =
-    reading-bounds (start .pre) (c .before .before .before .loop .inv (start .pre))
-    (c .before .if1 .taken) in omega (arith, j .0, j .1, b .0, b .1, b .2, b .3))
-
-mul-tables-6 : tie.Need-mul-tables-6 Inv-loop μ-loop
-mul-tables-6 c =
-    let start = c .before .before .before .before .before .before .before in
-    (let j = reading-index (start .pre) (c .before .before .before .loop .inv (start .pre)) in let b =
-    reading-bounds (start .pre) (c .before .before .before .loop .inv (start .pre))
-    (c .before .if1 .taken) in omega (arith, j .0, j .1, b .0, b .1, b .2, b .3))
-
-shared-slice-read-tables-2 : tie.Need-shared-slice-read-tables-2 Inv-loop μ-loop
-shared-slice-read-tables-2 c =
-    let at-loop = c .before .before .before .before in
-    let start = at-loop .before .before .before .before in
-    (let j = reading-index (start .pre) (at-loop .loop .inv (start .pre)) in let b =
-    reading-bounds (start .pre) (at-loop .loop .inv (start .pre)) (c .before .before .if1 .taken) in
-    omega (arith, j .0, j .1, b .0, b .1, b .2, b .3))
+    omega (arith, reading-index (start .pre) (c .before .before .before .loop .inv (start .pre)) .0)
 
 cast-tables-2 : tie.Need-cast-tables-2 Inv-loop μ-loop
 cast-tables-2 c =
     let at-loop = c .before .before .before .before in
     let start = at-loop .before .before .before .before in
-    (let j = reading-index (start .pre) (at-loop .loop .inv (start .pre)) in let b =
-    reading-bounds (start .pre) (at-loop .loop .inv (start .pre)) (c .before .before .if1 .taken) in
-    omega (arith, j .0, j .1, b .0, b .1, b .2, b .3))
+    let b = reading-bounds (start .pre) (at-loop .loop .inv (start .pre))
+    (sym (c .before .before .before .letter-at .ensures) ∙ c .before .before .if1 .taken) in
+    omega (arith, b .3, c .second .ensures)
 
-mul-tables-7 : tie.Need-mul-tables-7 Inv-loop μ-loop
-mul-tables-7 c =
+mul-tables-3 : tie.Need-mul-tables-3 Inv-loop μ-loop
+mul-tables-3 c =
     let at-loop = c .before .before .before .before in
     let start = at-loop .before .before .before .before in
-    (let j = reading-index (start .pre) (at-loop .loop .inv (start .pre)) in let b =
-    reading-bounds (start .pre) (at-loop .loop .inv (start .pre)) (c .before .before .if1 .taken) in
-    omega (arith, j .0, j .1, b .0, b .1, b .2, b .3))
+    let b = reading-bounds (start .pre) (at-loop .loop .inv (start .pre))
+    (sym (c .before .before .before .letter-at .ensures) ∙ c .before .before .if1 .taken) in
+    omega (arith, b .0)
 
-add-tables-4 : tie.Need-add-tables-4 Inv-loop μ-loop
-add-tables-4 c =
+add-tables-2 : tie.Need-add-tables-2 Inv-loop μ-loop
+add-tables-2 c =
     let at-loop = c .before .before .before .before in
     let start = at-loop .before .before .before .before in
-    (let j = reading-index (start .pre) (at-loop .loop .inv (start .pre)) in let b =
-    reading-bounds (start .pre) (at-loop .loop .inv (start .pre)) (c .before .before .if1 .taken) in
-    omega (arith, j .0, j .1, b .0, b .1, b .2, b .3))
+    let b = reading-bounds (start .pre) (at-loop .loop .inv (start .pre))
+    (sym (c .before .before .before .letter-at .ensures) ∙ c .before .before .if1 .taken) in
+    omega (arith, b .0)
 
-mul-tables-8 : tie.Need-mul-tables-8 Inv-loop μ-loop
-mul-tables-8 c =
+mul-tables-4 : tie.Need-mul-tables-4 Inv-loop μ-loop
+mul-tables-4 c =
     let at-loop = c .before .before .before .before in
     let start = at-loop .before .before .before .before in
-    (let j = reading-index (start .pre) (at-loop .loop .inv (start .pre)) in let b =
-    reading-bounds (start .pre) (at-loop .loop .inv (start .pre)) (c .before .before .if1 .taken) in
-    omega (arith, j .0, j .1, b .0, b .1, b .2, b .3))
+    let b = reading-bounds (start .pre) (at-loop .loop .inv (start .pre))
+    (sym (c .before .before .before .letter-at .ensures) ∙ c .before .before .if1 .taken) in
+    omega (arith, b .0)
 
 slice-write-tables-2 : tie.Need-slice-write-tables-2 Inv-loop μ-loop
 slice-write-tables-2 c =
     let at-loop = c .before .before .before .before in
     let start = at-loop .before .before .before .before in
-    (let j = reading-index (start .pre) (at-loop .loop .inv (start .pre)) in let b =
-    reading-bounds (start .pre) (at-loop .loop .inv (start .pre)) (c .before .before .if1 .taken) in
-    simp length-set (omega (arith, j .0, j .1, b .0, b .1, b .2, b .3)))
+    let b = reading-bounds (start .pre) (at-loop .loop .inv (start .pre))
+    (sym (c .before .before .before .letter-at .ensures) ∙ c .before .before .if1 .taken) in
+    simp length-set (omega (arith, b .1))
 
 skip-class-requires : tie.Need-skip-class-requires Inv-loop μ-loop
 skip-class-requires c κs =
     let at-loop = c .before .before .before .before in
     let start = at-loop .before .before .before .before in
-    reading-here (start .pre) (at-loop .loop .inv (start .pre)) (c .before .before .if1 .taken)
+    reading-here (start .pre) (at-loop .loop .inv (start .pre))
+    (sym (c .before .before .before .letter-at .ensures) ∙ c .before .before .if1 .taken)
 
 loop-less : tie.Need-loop-less Inv-loop μ-loop
 loop-less c =
-    let at-loop = c .before .before .before .before .before in
+    let at-letter-at = c .before .before .before .before in
+    let at-loop = at-letter-at .before in
     let start = at-loop .before .before .before .before in
-    (let j = reading-index (start .pre) (at-loop .loop .inv (start .pre)) in let b =
-    reading-bounds (start .pre) (at-loop .loop .inv (start .pre))
-    (c .before .before .before .if1 .taken) in omega (arith, j .0, j .1, b .0, b .1, b .2, b .3))
+    let b = reading-bounds (start .pre) (at-loop .loop .inv (start .pre))
+    (sym (at-letter-at .letter-at .ensures) ∙ c .before .before .before .if1 .taken) in
+    omega (arith, b .0)
 
 loop-again : tie.Need-loop-again Inv-loop μ-loop
 loop-again c =
-    let at-loop = c .before .before .before .before .before in
-    λ w. reading-step w (at-loop .loop .inv w) (c .before .before .before .if1 .taken) _ refl
+    let at-letter-at = c .before .before .before .before in
+    let at-loop = at-letter-at .before in
+    λ w. reading-step w (at-loop .loop .inv w)
+    (sym (at-letter-at .letter-at .ensures) ∙ c .before .before .before .if1 .taken)
+    (c .before .before .first .result) (c .before .second .result) (c .before .before .first .ensures)
+    (c .before .second .ensures) _ refl
     (c .skip-class .result) (c .skip-class .ensures)
 
 same-length : tie.Need-same-length Inv-loop μ-loop
@@ -197,9 +141,9 @@ same-length c = (c .before .before .loop .inv (c .before .before .before .before
 
 returns : tie.Need-returns Inv-loop μ-loop
 returns c = λ w. (
-  reading-count w (c .before .before .loop .inv w) (c .if1 .left),
+  reading-count w (c .before .before .loop .inv w) (λ e. c .if1 .left (c .before .letter-at .ensures ∙ e)),
   reading-done w
-      (c .before .before .loop .inv w) (c .if1 .left),
+      (c .before .before .loop .inv w) (λ e. c .if1 .left (c .before .letter-at .ensures ∙ e)),
 )
 
 pub read-classes-spec : {M : Type 1} → statement M
@@ -209,27 +153,19 @@ read-classes-spec =
     Inv-loop
     μ-loop
     loop-holds
-    mul-if1
-    mul-if1-2
-    shared-slice-read-if1
+    letter-at-requires
     add-k
+    first-requires
+    cast-tables
     mul-tables
     add-tables
     mul-tables-2
-    shared-slice-read-tables
-    cast-tables
+    slice-write-tables
+    second-requires
+    cast-tables-2
     mul-tables-3
     add-tables-2
     mul-tables-4
-    slice-write-tables
-    mul-tables-5
-    add-tables-3
-    mul-tables-6
-    shared-slice-read-tables-2
-    cast-tables-2
-    mul-tables-7
-    add-tables-4
-    mul-tables-8
     slice-write-tables-2
     skip-class-requires
     loop-less

@@ -16,95 +16,49 @@ abbrev μ-loop : tie.MeasureT-loop
 loop-holds : tie.Need-loop-holds Inv-loop μ-loop
 loop-holds c = λ v w. matching-start v w
 
-add-if1 : tie.Need-add-if1 Inv-loop μ-loop
-add-if1 c = (let j = types-index (c .before .before .pre .0) (c .before .loop .i) (c .loop-test .taken) in
-    let k = types-index (c .before .before .pre .1) (c .before .loop .i) (c .loop-test .taken) in
-    omega (arith, j .0, j .1, k .0, c .loop-test .taken))
+add-first : tie.Need-add-first Inv-loop μ-loop
+add-first c = let j =
+    types-index (c .before .before .before .pre .0) (c .before .loop .i) (c .loop-test .taken) in
+    omega (arith, j .0, j .1)
 
-mul-if1 : tie.Need-mul-if1 Inv-loop μ-loop
-mul-if1 c = (let j = types-index (c .before .before .pre .0) (c .before .loop .i) (c .loop-test .taken) in
-    let k = types-index (c .before .before .pre .1) (c .before .loop .i) (c .loop-test .taken) in
-    omega (arith, j .0, j .1, k .0, c .loop-test .taken))
+first-requires : tie.Need-first-requires Inv-loop μ-loop
+first-requires c κs = let j =
+    types-index (c .before .before .before .pre .0) (c .before .loop .i) (c .loop-test .taken) in
+    omega (arith, j .0)
 
-add-if1-2 : tie.Need-add-if1-2 Inv-loop μ-loop
-add-if1-2 c = (let j = types-index (c .before .before .pre .0) (c .before .loop .i) (c .loop-test .taken) in
-    let k = types-index (c .before .before .pre .1) (c .before .loop .i) (c .loop-test .taken) in
-    omega (arith, j .0, j .1, k .0, c .loop-test .taken))
-
-mul-if1-2 : tie.Need-mul-if1-2 Inv-loop μ-loop
-mul-if1-2 c = (let j = types-index (c .before .before .pre .0) (c .before .loop .i) (c .loop-test .taken) in
-    let k = types-index (c .before .before .pre .1) (c .before .loop .i) (c .loop-test .taken) in
-    omega (arith, j .0, j .1, k .0, c .loop-test .taken))
-
-shared-slice-read-if1 : tie.Need-shared-slice-read-if1 Inv-loop μ-loop
-shared-slice-read-if1 c =
-    (let j = types-index (c .before .before .before .pre .0) (c .before .before .loop .i)
-    (c .before .loop-test .taken) in let k =
-    types-index (c .before .before .before .pre .1) (c .before .before .loop .i)
-    (c .before .loop-test .taken) in omega (arith, j .0, j .1, k .0, c .before .loop-test .taken))
-
-add-if1-3 : tie.Need-add-if1-3 Inv-loop μ-loop
-add-if1-3 c = (let j = types-index (c .before .before .before .pre .0) (c .before .before .loop .i)
-    (c .before .loop-test .taken) in let k =
-    types-index (c .before .before .before .pre .1) (c .before .before .loop .i)
-    (c .before .loop-test .taken) in omega (arith, j .0, j .1, k .0, c .before .loop-test .taken))
-
-mul-if1-3 : tie.Need-mul-if1-3 Inv-loop μ-loop
-mul-if1-3 c = (let j = types-index (c .before .before .before .pre .0) (c .before .before .loop .i)
-    (c .before .loop-test .taken) in let k =
-    types-index (c .before .before .before .pre .1) (c .before .before .loop .i)
-    (c .before .loop-test .taken) in omega (arith, j .0, j .1, k .0, c .before .loop-test .taken))
-
-add-if1-4 : tie.Need-add-if1-4 Inv-loop μ-loop
-add-if1-4 c = (let j = types-index (c .before .before .before .pre .0) (c .before .before .loop .i)
-    (c .before .loop-test .taken) in let k =
-    types-index (c .before .before .before .pre .1) (c .before .before .loop .i)
-    (c .before .loop-test .taken) in omega (arith, j .0, j .1, k .0, c .before .loop-test .taken))
-
-mul-if1-4 : tie.Need-mul-if1-4 Inv-loop μ-loop
-mul-if1-4 c = (let j = types-index (c .before .before .before .pre .0) (c .before .before .loop .i)
-    (c .before .loop-test .taken) in let k =
-    types-index (c .before .before .before .pre .1) (c .before .before .loop .i)
-    (c .before .loop-test .taken) in omega (arith, j .0, j .1, k .0, c .before .loop-test .taken))
-
-shared-slice-read-if1-2 : tie.Need-shared-slice-read-if1-2 Inv-loop μ-loop
-shared-slice-read-if1-2 c =
+add-first-2 : tie.Need-add-first-2 Inv-loop μ-loop
+add-first-2 c =
     let start = c .before .before .before .before in
-    (let j = types-index (start .pre .0) (c .before .before .before .loop .i)
-    (c .before .before .loop-test .taken) in let k =
-    types-index (start .pre .1) (c .before .before .before .loop .i)
-    (c .before .before .loop-test .taken) in
-    omega (arith, j .0, j .1, k .0, c .before .before .loop-test .taken))
+    let j = types-index (start .pre .1) (c .before .before .loop .i) (c .before .loop-test .taken) in
+    omega (arith, j .0, j .1)
+
+first-requires-2 : tie.Need-first-requires-2 Inv-loop μ-loop
+first-requires-2 c κs =
+    let start = c .before .before .before .before in
+    let j = types-index (start .pre .1) (c .before .before .loop .i) (c .before .loop-test .taken) in
+    omega (arith, j .0)
 
 returns : tie.Need-returns Inv-loop μ-loop
 returns c =
     let at-loop = c .before .before .before .before in
     λ v w. matching-other v w (at-loop .loop .i) (at-loop .loop .inv v w)
-    (c .before .before .before .loop-test .taken) (c .if1 .taken)
+    (c .before .before .before .loop-test .taken) (c .before .before .first .result)
+    (c .before .first2 .result) (c .before .before .first .ensures) (c .before .first2 .ensures)
+    (c .if1 .taken)
 
 add-i : tie.Need-add-i Inv-loop μ-loop
-add-i c =
-    let at-loop = c .before .before .before .before in
-    let start = at-loop .before in
-    (let j = types-index (start .pre .0) (at-loop .loop .i) (c .before .before .before .loop-test .taken) in
-    let k = types-index (start .pre .1) (at-loop .loop .i)
-    (c .before .before .before .loop-test .taken) in
-    omega (arith, j .0, j .1, k .0, c .before .before .before .loop-test .taken))
+add-i c = omega (arith, c .before .before .before .loop-test .taken)
 
 loop-less : tie.Need-loop-less Inv-loop μ-loop
-loop-less c =
-    let at-loop = c .before .before .before .before in
-    let start = at-loop .before in
-    (let j = types-index (start .pre .0) (at-loop .loop .i) (c .before .before .before .loop-test .taken) in
-    let k = types-index (start .pre .1) (at-loop .loop .i)
-    (c .before .before .before .loop-test .taken) in
-    omega (arith, j .0, j .1, k .0, c .before .before .before .loop-test .taken))
+loop-less c = omega (arith, c .before .before .before .loop-test .taken)
 
 loop-again : tie.Need-loop-again Inv-loop μ-loop
 loop-again c =
     let at-loop = c .before .before .before .before in
     λ v w. matching-step v w (at-loop .loop .i) (at-loop .loop .inv v w)
-    (c .before .before .before .loop-test .taken) (c .if1 .left)
+    (c .before .before .before .loop-test .taken) (c .before .before .first .result)
+    (c .before .first2 .result) (c .before .before .first .ensures) (c .before .first2 .ensures)
+    (c .if1 .left)
 
 returns-2 : tie.Need-returns-2 Inv-loop μ-loop
 returns-2 c = λ v w. matching-end v w (c .before .loop .i) (c .before .loop .inv v w) (c .loop-test .left)
@@ -116,16 +70,10 @@ same-types-spec =
     Inv-loop
     μ-loop
     loop-holds
-    add-if1
-    mul-if1
-    add-if1-2
-    mul-if1-2
-    shared-slice-read-if1
-    add-if1-3
-    mul-if1-3
-    add-if1-4
-    mul-if1-4
-    shared-slice-read-if1-2
+    add-first
+    first-requires
+    add-first-2
+    first-requires-2
     returns
     add-i
     loop-less

@@ -1,4 +1,5 @@
 -- `headings::skip_class` meets its contract. Assumes nothing.
+use mathlib.Core.Path.{sym, _∙_}
 use Prim.Native.Nat.{_+_, _-_}
 use native.Mathlib.Omega.{arith}
 use lib.ListN.{length}
@@ -33,39 +34,33 @@ add-at-2 c = (let s = skip-within (skip-start (c .before .before .before .pre) (
 loop-holds : tie.Need-loop-holds Inv-loop μ-loop
 loop-holds c = λ w. skip-start w (c .count-rows .result) (c .count-rows .ensures)
 
-mul-if1 : tie.Need-mul-if1 Inv-loop μ-loop
-mul-if1 c =
+letter-at-requires : tie.Need-letter-at-requires Inv-loop μ-loop
+letter-at-requires c κs =
     let start = c .before .before .before .before in
-    (let s = skip-within (c .loop .inv (start .pre)) in omega (arith, s, start .pre .standing .short))
-
-mul-if1-2 : tie.Need-mul-if1-2 Inv-loop μ-loop
-mul-if1-2 c =
-    let start = c .before .before .before .before in
-    (let s = skip-within (c .loop .inv (start .pre)) in omega (arith, s, start .pre .standing .short))
-
-shared-slice-read-if1 : tie.Need-shared-slice-read-if1 Inv-loop μ-loop
-shared-slice-read-if1 c =
-    let start = c .before .before .before .before .before in
-    (let s = skip-within (c .before .loop .inv (start .pre)) in omega (arith, s, start .pre .standing .short))
+    let s = skip-within (c .loop .inv (start .pre)) in omega (arith, s)
 
 skip-method-requires : tie.Need-skip-method-requires Inv-loop μ-loop
 skip-method-requires c κs =
     let start = c .before .before .before .before .before .before in
-    skip-here (c .before .before .loop .inv (start .pre)) (start .pre .standing .short) (c .if1 .taken)
+    skip-here (c .before .before .loop .inv (start .pre)) (start .pre .standing .short)
+    (sym (c .before .letter-at .ensures) ∙ c .if1 .taken)
 
 loop-less : tie.Need-loop-less Inv-loop μ-loop
 loop-less c =
     let start = c .before .before .before .before .before .before .before in
     (let g = skip-grows (c .before .before .before .loop .inv (start .pre)) (start .pre .standing .short)
-    (c .before .if1 .taken) (c .skip-method .result) (c .skip-method .ensures) in let s =
+    (sym (c .before .before .letter-at .ensures) ∙ c .before .if1 .taken) (c .skip-method .result)
+    (c .skip-method .ensures) in let s =
     skip-within (c .before .before .before .loop .inv (start .pre)) in omega (arith, g, s))
 
 loop-again : tie.Need-loop-again Inv-loop μ-loop
 loop-again c = λ w. skip-step (c .before .before .before .loop .inv w) (w .standing .short)
-    (c .before .if1 .taken) (c .skip-method .result) (c .skip-method .ensures)
+    (sym (c .before .before .letter-at .ensures) ∙ c .before .if1 .taken) (c .skip-method .result)
+    (c .skip-method .ensures)
 
 returns : tie.Need-returns Inv-loop μ-loop
-returns c = λ w. skip-end (c .before .before .loop .inv w) (c .if1 .left)
+returns c = λ w. skip-end (c .before .before .loop .inv w)
+    (λ e. c .if1 .left (c .before .letter-at .ensures ∙ e))
 
 pub skip-class-spec : {M : Type 1} → statement M
 skip-class-spec =
@@ -78,9 +73,7 @@ skip-class-spec =
     add-at
     add-at-2
     loop-holds
-    mul-if1
-    mul-if1-2
-    shared-slice-read-if1
+    letter-at-requires
     skip-method-requires
     loop-less
     loop-again

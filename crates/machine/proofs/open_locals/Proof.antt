@@ -5,13 +5,14 @@ use lib.ListN.{getD}
 use borrow.Author.Needs.{needs}
 use Rattle.objects.proofs.Values.{written-none, written-more}
 use Rattle.objects.specs.Contracts.{Written}
-use Rattle.objects.specs.Holding.{first-of-type}
+use Rattle.objects.specs.Holding.{first-value-of}
+use Rattle.objects.specs.Values.{word}
 use Rattle.machine.proofs.open_locals.Statement.{statement}
 use Rattle.machine.proofs.open_locals.Tie as tie
 
 abbrev Inv-loop : tie.InvT-loop
 Inv-loop rows slots₀ row from n i₀ slots i = (i ≤ n)
-    × Written slots₀ slots from i (λ k. first-of-type (getD rows ((row + k) * 4 + 1) 0))
+    × Written slots₀ slots from i (λ k. word (first-value-of (getD rows ((row + k) * 4 + 1) 0)))
 
 abbrev μ-loop : tie.MeasureT-loop
 μ-loop rows slots₀ row from n i₀ slots i = n - i
@@ -19,30 +20,15 @@ abbrev μ-loop : tie.MeasureT-loop
 loop-holds : tie.Need-loop-holds Inv-loop μ-loop
 loop-holds c = (omega arith, written-none _ _ _)
 
-add-first-value : tie.Need-add-first-value Inv-loop μ-loop
-add-first-value c =
+add-first : tie.Need-add-first Inv-loop μ-loop
+add-first c =
     let start = c .before .before .before .before in
     omega (arith, start .pre .rows (c .before .loop .i) (c .loop-test .taken))
 
-mul-first-value : tie.Need-mul-first-value Inv-loop μ-loop
-mul-first-value c =
+first-requires : tie.Need-first-requires Inv-loop μ-loop
+first-requires c κs =
     let start = c .before .before .before .before in
     omega (arith, start .pre .rows (c .before .loop .i) (c .loop-test .taken))
-
-add-first-value-2 : tie.Need-add-first-value-2 Inv-loop μ-loop
-add-first-value-2 c =
-    let start = c .before .before .before .before in
-    omega (arith, start .pre .rows (c .before .loop .i) (c .loop-test .taken))
-
-mul-first-value-2 : tie.Need-mul-first-value-2 Inv-loop μ-loop
-mul-first-value-2 c =
-    let start = c .before .before .before .before in
-    omega (arith, start .pre .rows (c .before .loop .i) (c .loop-test .taken))
-
-shared-slice-read-first-value : tie.Need-shared-slice-read-first-value Inv-loop μ-loop
-shared-slice-read-first-value c =
-    let start = c .before .before .before .before .before in
-    omega (arith, start .pre .rows (c .before .before .loop .i) (c .before .loop-test .taken))
 
 first-value-requires : tie.Need-first-value-requires Inv-loop μ-loop
 first-value-requires c κs = search needs
@@ -73,7 +59,7 @@ loop-again c =
     let start = c .before .before .before .before .before .before in (
       omega arith,
       written-more _ _ (c .before .before .before .loop .inv .1) refl
-          (omega (arith, start .pre .room)) (c .first-value .ensures),
+          (omega (arith, start .pre .room)) (rw (c .before .first .ensures) at (c .first-value .ensures)),
     )
 
 same-length : tie.Need-same-length Inv-loop μ-loop
@@ -91,11 +77,8 @@ open-locals-spec =
     Inv-loop
     μ-loop
     loop-holds
-    add-first-value
-    mul-first-value
-    add-first-value-2
-    mul-first-value-2
-    shared-slice-read-first-value
+    add-first
+    first-requires
     first-value-requires
     add-slots
     mul-slots

@@ -9,7 +9,7 @@ use Rattle.machine.proofs.read_slot.Tie as tie
 
 returns : tie.Need-returns
 returns c = read-none (slot-past (c .before .before .args .slots .now) (c .before .before .args .place)
-    (c .before .before .args .k) (c .if1 .taken) (c .before .before .pre))
+    (c .before .before .args .k) (c .if1 .taken) (c .before .before .pre .room))
 
 returns-2 : tie.Need-returns-2
 returns-2 c =
@@ -23,18 +23,13 @@ mul-result c = search needs
 shared-slice-read-result : tie.Need-shared-slice-read-result
 shared-slice-read-result c = search needs
 
-cast-result : tie.Need-cast-result
-cast-result c =
-    let start = c .before .before .before .before .before .before in
-    omega (arith, c .shared-slice-known .given (start .args .place .base))
-
 returns-3 : tie.Need-returns-3
 returns-3 c =
     let start = c .before .before .before .before .before .before in
     read-this (c .before .before .before .if2 .taken)
     (getD (start .args .slots .now) (start .args .place .base) 0)
     (slot-this (start .args .slots .now) (start .args .place) (c .before .if3 .left))
-    (omega (arith, c .shared-slice-known .given (start .args .place .base)))
+    (start .pre .words (start .args .place .base))
 
 add-result : tie.Need-add-result
 add-result c = search needs
@@ -45,18 +40,13 @@ mul-result-2 c = search needs
 shared-slice-read-result-2 : tie.Need-shared-slice-read-result-2
 shared-slice-read-result-2 c = search needs
 
-cast-result-2 : tie.Need-cast-result-2
-cast-result-2 c =
-    let start = c .before .before .before .before in
-    omega (arith, c .shared-slice-known2 .given (start .args .place .base + start .args .k))
-
 returns-4 : tie.Need-returns-4
 returns-4 c =
     let start = c .before .before .before .before in
     read-some (getD (start .args .slots .now) (start .args .place .base + start .args .k) 0)
     (slot-at (start .args .slots .now) (start .args .place) (start .args .k) (c .before .if2 .left)
-    (c .before .before .if1 .left) (start .pre))
-    (omega (arith, c .shared-slice-known2 .given (start .args .place .base + start .args .k)))
+    (c .before .before .if1 .left) (start .pre .room))
+    (start .pre .words (start .args .place .base + start .args .k))
 
 pub read-slot-spec : {M : Type 1} → statement M
 read-slot-spec =
@@ -66,10 +56,8 @@ read-slot-spec =
     returns-2
     mul-result
     shared-slice-read-result
-    cast-result
     returns-3
     add-result
     mul-result-2
     shared-slice-read-result-2
-    cast-result-2
     returns-4)

@@ -1,10 +1,12 @@
+use mathlib.Core.Path.{sym, _∙_}
 use borrow.Author.Needs.{needs}
-use Rattle.objects.specs.Values.{outcome}
+use Rattle.objects.specs.Values.{meaning}
+use Rattle.machine.proofs.Frames.{null-is-true, truth-is-stuck, object-is-false}
 use Rattle.machine.proofs.test_null.Statement.{statement}
 use Rattle.machine.proofs.test_null.Tie as tie
 
-decode-requires : tie.Need-decode-requires
-decode-requires c κs = search needs
+value-of-requires : tie.Need-value-of-requires
+value-of-requires c κs = search needs
 
 enum-told : tie.Need-enum-told
 enum-told c = search needs
@@ -16,18 +18,18 @@ enum-told-3 : tie.Need-enum-told-3
 enum-told-3 c = search needs
 
 returns : tie.Need-returns
-unfolding outcome
-returns c = search needs
+returns c = null-is-true (meaning (c .before .before .before .args .w))
+    (sym (c .before .before .value-of .ensures) ∙ c .enum-told .given .1)
 
 returns-2 : tie.Need-returns-2
-unfolding outcome
-returns-2 c = search needs
+returns-2 c = truth-is-stuck (meaning (c .before .before .before .args .w))
+    (sym (c .before .before .value-of .ensures) ∙ c .enum-told2 .given .1)
 
 returns-3 : tie.Need-returns-3
-unfolding outcome
-returns-3 c = search needs
+returns-3 c = object-is-false (meaning (c .before .before .before .args .w))
+    (sym (c .before .before .value-of .ensures) ∙ c .enum-told3 .given .1)
 
 pub test-null-spec : {M : Type 1} → statement M
 test-null-spec =
     tie.close
-    (tie.spec decode-requires enum-told enum-told-2 enum-told-3 returns returns-2 returns-3)
+    (tie.spec value-of-requires enum-told enum-told-2 enum-told-3 returns returns-2 returns-3)

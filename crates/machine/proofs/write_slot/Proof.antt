@@ -6,14 +6,14 @@ use Rattle.machine.proofs.write_slot.Statement.{statement}
 use Rattle.machine.proofs.write_slot.Tie as tie
 
 returns : tie.Need-returns
-returns c = write-none (c .before .before .args .n) (c .before .before .pre)
+returns c = write-none (c .before .before .args .w) (c .before .before .pre .0) (c .before .before .pre .1)
     (slot-past (c .before .before .args .slots .now) (c .before .before .args .place)
-    (c .before .before .args .k) (c .if1 .taken) (c .before .before .pre))
+    (c .before .before .args .k) (c .if1 .taken) (c .before .before .pre .0 .room))
 
 returns-2 : tie.Need-returns-2
 returns-2 c =
     let start = c .before .before .before .before .before in
-    write-zero (start .args .n) (start .pre) (c .before .before .if2 .taken)
+    write-zero (start .args .w) (start .pre .0) (start .pre .1) (c .before .before .if2 .taken)
     (slot-no-this (start .args .slots .now) (start .args .place) (c .if3 .taken))
 
 mul-slots : tie.Need-mul-slots
@@ -28,8 +28,7 @@ same-length c = search needs
 returns-3 : tie.Need-returns-3
 returns-3 c =
     let start = c .before .before .before .before .before in
-    write-this (start .args .n) (start .pre) (c .before .before .if2 .taken) (c .if3 .left)
-    (omega (arith, start .fits .n))
+    write-this (start .args .w) (start .pre .0) (start .pre .1) (c .before .before .if2 .taken) (c .if3 .left)
 
 add-slots : tie.Need-add-slots
 add-slots c = search needs
@@ -44,8 +43,8 @@ same-length-2 : tie.Need-same-length-2
 same-length-2 c = search needs
 
 returns-4 : tie.Need-returns-4
-returns-4 c = write-at (c .before .before .before .args .n) (c .before .before .before .pre) (c .if2 .left)
-    (c .before .if1 .left) (omega (arith, c .before .before .before .fits .n))
+returns-4 c = write-at (c .before .before .before .args .w) (c .before .before .before .pre .0)
+    (c .before .before .before .pre .1) (c .if2 .left) (c .before .if1 .left)
 
 pub write-slot-spec : {M : Type 1} → statement M
 write-slot-spec =

@@ -1,97 +1,112 @@
 use mathlib.Core.Path.{sym, _∙_}
 use native.Mathlib.Omega.{arith}
+use Rattle.objects.specs.Values.{meaning}
+use Rattle.objects.specs.Values.{counts-in}
+use Rattle.objects.proofs.Values.{reached-null, reached-nothing}
+use Rattle.objects.proofs.Acts.{cast-room, cast-below, cast-of-null, cast-nothing, cast-not-below}
 use borrow.Author.Needs.{needs}
-use Rattle.objects.proofs.Acts.{cast-null, cast-truth, cast-past, cast-passes, cast-fails}
 use Rattle.objects.proofs.cast_object.Statement.{statement}
 use Rattle.objects.proofs.cast_object.Tie as tie
 
-decode-requires : tie.Need-decode-requires
-decode-requires c κs = search needs
+-- src/lib.rt:361:23
+element-copy-out-reach : tie.Need-element-copy-out-reach
+element-copy-out-reach c = search needs
 
-is-null-requires : tie.Need-is-null-requires
-is-null-requires c κs = search needs
+-- src/lib.rt:361:9
+reach-requires : tie.Need-reach-requires
+reach-requires c κs = search needs
 
+-- src/lib.rt:363:26
+enum-told : tie.Need-enum-told
+enum-told c = search needs
+
+-- src/lib.rt:364:29
+enum-told-2 : tie.Need-enum-told-2
+enum-told-2 c = search needs
+
+-- src/lib.rt:365:21
+enum-known-to : tie.Need-enum-known-to
+enum-known-to c = search needs
+
+-- src/lib.rt:366:21
+mul-k : tie.Need-mul-k
+mul-k c =
+    let start = c .before .before .before .before .before .before .before in
+    omega (
+      arith,
+      cast-room (start .args .w) (counts-in (start .args .tally .now))
+          (sym (c .before .before .before .reach .ensures) ∙ c .before .to .given .1) (start .pre) .0,
+      start .good .1 .0,
+    )
+
+-- src/lib.rt:366:21
+shared-slice-read-k : tie.Need-shared-slice-read-k
+shared-slice-read-k c =
+    let at-reach = c .before .before .before .before in
+    let start = at-reach .before .before .before .before in
+    omega (
+      arith,
+      cast-room (start .args .w) (counts-in (start .args .tally .now))
+          (sym (at-reach .reach .ensures) ∙ c .before .before .to .given .1) (start .pre) .0,
+    )
+
+-- src/lib.rt:367:16
+is-below-requires : tie.Need-is-below-requires
+is-below-requires c κs =
+    let at-reach = c .before .before .before .before in
+    let start = at-reach .before .before .before .before in
+    let r = cast-room (start .args .w) (counts-in (start .args .tally .now))
+    (sym (at-reach .reach .ensures) ∙ c .before .before .to .given .1) (start .pre) in
+    (r .2, omega (arith, start .pre .declared, start .pre .holds .classes))
+
+-- src/lib.rt:368:17
 returns : tie.Need-returns
 returns c =
-    let start = c .before .before .before .before .before in
-    cast-null (start .args .n) (c .before .before .decode .ensures)
-    (sym (c .before .is-null .ensures) ∙ c .if1 .taken) (omega arith)
+    let at-to = c .before .before .before .before in
+    let at-reach = at-to .before .before in
+    let start = at-reach .before .before .before .before in
+    cast-below (start .args .w) _ (sym (at-reach .reach .ensures) ∙ at-to .to .given .1)
+    (sym (c .before .is-below .ensures) ∙ c .if1 .taken) (start .pre .is-word .short)
+    (start .pre .is-word .small)
 
-enum-known-v : tie.Need-enum-known-v
-enum-known-v c = search needs
-
+-- src/lib.rt:356:1
 returns-2 : tie.Need-returns-2
 returns-2 c =
     let start = c .before .before .before .before .before .before in
-    cast-truth (start .args .n) (c .before .before .before .decode .ensures) (c .match .keys2)
-    (sym (c .before .before .is-null .ensures) ∙ c .before .if1 .left)
+    cast-of-null (start .args .w)
+    (reached-null _ (meaning (start .args .w))
+    (sym (c .before .before .reach .ensures) ∙ c .enum-told .given .1)) (start .pre .is-word .short)
+    (start .pre .is-word .small)
 
-element-copy-out-if2 : tie.Need-element-copy-out-if2
-element-copy-out-if2 c = search needs
-
+-- src/lib.rt:356:1
 returns-3 : tie.Need-returns-3
 returns-3 c =
-    let at-decode = c .before .before .before .before .before .before .before in
-    let start = at-decode .before .before .before in
-    cast-past (start .args .n) (at-decode .decode .ensures) (c .before .before .before .v .given .0 .0)
-    (c .before .before .before .v .given .1) (c .if2 .taken)
+    let start = c .before .before .before .before .before .before in
+    cast-nothing (reached-nothing _ (meaning (start .args .w))
+    (sym (c .before .before .reach .ensures) ∙ c .enum-told2 .given .1))
 
-cast-k : tie.Need-cast-k
-cast-k c = search needs
-
-mul-k : tie.Need-mul-k
-mul-k c = search needs
-
-mul-k-2 : tie.Need-mul-k-2
-mul-k-2 c = search needs
-
-shared-slice-read-k : tie.Need-shared-slice-read-k
-shared-slice-read-k c = search needs
-
-is-below-requires : tie.Need-is-below-requires
-is-below-requires c κs =
-    let at-v = c .before .before .before .before in
-    let start = at-v .before .before .before .before .before .before .before in (
-      omega (
-        arith,
-        start .pre .holds .tables .long-above,
-        start .pre .sound .declared (at-v .v .given .0 .0) (c .before .if2 .left),
-      ),
-      omega (arith, start .pre .declared, start .pre .holds .classes),
-    )
-
+-- src/lib.rt:356:1
 returns-4 : tie.Need-returns-4
 returns-4 c =
-    let at-v = c .before .before .before .before .before .before in
-    let at-decode = at-v .before .before .before .before in
-    let start = at-decode .before .before .before in
-    cast-passes (start .args .n) (at-decode .decode .ensures) (at-v .v .given .0 .0) (at-v .v .given .1)
-    (c .before .before .before .if2 .left) (sym (c .before .is-below .ensures) ∙ c .if3 .taken)
-    (omega arith)
-
-returns-5 : tie.Need-returns-5
-returns-5 c =
-    let at-v = c .before .before .before .before .before .before in
-    let at-decode = at-v .before .before .before .before in
-    let start = at-decode .before .before .before in
-    cast-fails (start .args .n) (at-decode .decode .ensures) (at-v .v .given .0 .0) (at-v .v .given .1)
-    (c .before .before .before .if2 .left) (sym (c .before .is-below .ensures) ∙ c .if3 .left)
+    let at-to = c .before .before .before .before in
+    let at-reach = at-to .before .before in
+    let start = at-reach .before .before .before .before in
+    cast-not-below (start .args .w) _ (sym (at-reach .reach .ensures) ∙ at-to .to .given .1)
+    (sym (c .before .is-below .ensures) ∙ c .if1 .left)
 
 pub cast-object-spec : {M : Type 1} → statement M
 cast-object-spec =
     tie.close
     (tie.spec
-    decode-requires
-    is-null-requires
-    returns
-    enum-known-v
-    returns-2
-    element-copy-out-if2
-    returns-3
-    cast-k
+    element-copy-out-reach
+    reach-requires
+    enum-told
+    enum-told-2
+    enum-known-to
     mul-k
-    mul-k-2
     shared-slice-read-k
     is-below-requires
-    returns-4
-    returns-5)
+    returns
+    returns-2
+    returns-3
+    returns-4)

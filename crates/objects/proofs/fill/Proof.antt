@@ -3,7 +3,8 @@ use Prim.Native.Nat.{_+_, _-_, _*_, _≤_}
 use native.Mathlib.Omega.{arith}
 use lib.ListN.{getD}
 use Rattle.objects.proofs.Values.{written-none, written-more, written-then, first-unused}
-use Rattle.objects.specs.Contracts.{first-of, Written}
+use Rattle.objects.proofs.Fresh.{first-written, first-is-word, null-written}
+use Rattle.objects.specs.Contracts.{first-of, field-type-in, Written}
 use Rattle.objects.proofs.fill.Statement.{statement}
 use Rattle.objects.proofs.fill.Tie as tie
 
@@ -25,23 +26,29 @@ Inv-loop2 rows tables store₀ o c from count i₀ store i = (i₀ ≤ i) × (i 
 abbrev μ-loop2 : tie.MeasureT-loop2
 μ-loop2 rows tables store₀ o c from count i₀ store i = 17 - i
 
+-- src/lib.rt:198:24
 mul-count : tie.Need-mul-count Inv-loop μ-loop Inv-loop2 μ-loop2
 mul-count c = omega (arith, c .before .before .before .pre .table)
 
+-- src/lib.rt:198:24
 add-count : tie.Need-add-count Inv-loop μ-loop Inv-loop2 μ-loop2
 add-count c = omega (arith, c .before .before .before .pre .table)
 
+-- src/lib.rt:198:17
 mul-count-2 : tie.Need-mul-count-2 Inv-loop μ-loop Inv-loop2 μ-loop2
 mul-count-2 c = omega (arith, c .before .before .before .pre .table)
 
+-- src/lib.rt:198:17
 shared-slice-read-count : tie.Need-shared-slice-read-count Inv-loop μ-loop Inv-loop2 μ-loop2
 shared-slice-read-count c = omega (arith, c .before .before .before .before .pre .table)
 
+-- src/lib.rt:198:17
 cast-count : tie.Need-cast-count Inv-loop μ-loop Inv-loop2 μ-loop2
 cast-count c =
     let start = c .before .before .before .before in
     omega (arith, c .shared-slice-known3 .given (start .args .c * 576 + 515))
 
+-- src/lib.rt:200:5
 loop-holds : tie.Need-loop-holds Inv-loop μ-loop Inv-loop2 μ-loop2
 loop-holds c =
     let start = c .before .before .before .before in (
@@ -51,97 +58,107 @@ loop-holds c =
       refl,
     )
 
-first-number-requires : tie.Need-first-number-requires Inv-loop μ-loop Inv-loop2 μ-loop2
-first-number-requires c κs =
+-- src/lib.rt:201:13
+first-of-field-requires : tie.Need-first-of-field-requires Inv-loop μ-loop Inv-loop2 μ-loop2
+first-of-field-requires c κs =
     let start = c .before .before .before .before .before .before in
     record {
       place = omega (arith, c .loop-test .taken, start .pre .few, c .before .loop .inv .3);
       table = start .pre .table;
-      row = λ h. start .pre .rows (c .before .loop .i)
+      row = start .pre .rows (c .before .loop .i)
           (omega (arith, c .loop-test .taken, start .pre .few, c .before .loop .inv .3))
-          (omega (arith, h, c .before .loop .inv .3));
+          (omega (arith, c .loop-test .taken, c .before .loop .inv .3));
     }
 
-add-store : tie.Need-add-store Inv-loop μ-loop Inv-loop2 μ-loop2
-add-store c =
-    let start = c .before .before .before .before .before .before .before in
+-- src/lib.rt:202:28
+add-write-value : tie.Need-add-write-value Inv-loop μ-loop Inv-loop2 μ-loop2
+add-write-value c =
+    let start = c .before .before .before .before .before .before .before .before in
     omega (
       arith,
-      start .pre .room,
+      c .before .before .loop-test .taken,
       start .pre .few,
-      c .before .loop-test .taken,
-      c .before .before .loop .inv .3,
-      c .before .before .loop .inv .2 .long,
+      start .pre .room,
+      c .before .before .before .loop .inv .3,
+      start .good .1 .1 .0,
     )
 
-add-store-2 : tie.Need-add-store-2 Inv-loop μ-loop Inv-loop2 μ-loop2
-add-store-2 c =
-    let start = c .before .before .before .before .before .before .before in
+-- src/lib.rt:202:28
+add-write-value-2 : tie.Need-add-write-value-2 Inv-loop μ-loop Inv-loop2 μ-loop2
+add-write-value-2 c =
+    let start = c .before .before .before .before .before .before .before .before in
     omega (
       arith,
-      start .pre .room,
+      c .before .before .loop-test .taken,
       start .pre .few,
-      c .before .loop-test .taken,
-      c .before .before .loop .inv .3,
-      c .before .before .loop .inv .2 .long,
+      start .pre .room,
+      c .before .before .before .loop .inv .3,
+      start .good .1 .1 .0,
     )
 
-mul-store : tie.Need-mul-store Inv-loop μ-loop Inv-loop2 μ-loop2
-mul-store c =
-    let start = c .before .before .before .before .before .before .before in
-    omega (
-      arith,
-      start .pre .room,
-      start .pre .few,
-      c .before .loop-test .taken,
-      c .before .before .loop .inv .3,
-      c .before .before .loop .inv .2 .long,
+-- src/lib.rt:202:9
+write-value-requires : tie.Need-write-value-requires Inv-loop μ-loop Inv-loop2 μ-loop2
+write-value-requires c κs =
+    let start = c .before .before .before .before .before .before .before .before in (
+      omega (
+        arith,
+        c .before .before .loop-test .taken,
+        start .pre .few,
+        start .pre .room,
+        c .before .before .before .loop .inv .3,
+        c .before .before .before .loop .inv .2 .long,
+      ),
+      first-is-word
+          (field-type-in (start .args .rows .now) (start .args .tables .now) (start .args .c)
+          (c .before .before .before .loop .i)) _ (c .before .first-of-field .ensures),
     )
 
-slice-write-store : tie.Need-slice-write-store Inv-loop μ-loop Inv-loop2 μ-loop2
-slice-write-store c =
-    let start = c .before .before .before .before .before .before .before in
-    omega (
-      arith,
-      start .pre .room,
-      start .pre .few,
-      c .before .loop-test .taken,
-      c .before .before .loop .inv .3,
-      c .before .before .loop .inv .2 .long,
-    )
-
+-- src/lib.rt:203:9
 add-i : tie.Need-add-i Inv-loop μ-loop Inv-loop2 μ-loop2
-add-i c = omega (arith, c .before .before .loop .inv .1)
+add-i c =
+    let at-loop-test = c .before .before .before .before .before in
+    let at-loop = at-loop-test .before in
+    let start = at-loop .before .before .before .before .before in
+    omega (arith, at-loop-test .loop-test .taken, start .pre .few, at-loop .loop .inv .3)
 
+-- src/lib.rt:200:5
 loop-less : tie.Need-loop-less Inv-loop μ-loop Inv-loop2 μ-loop2
 loop-less c =
-    let start = c .before .before .before .before .before .before .before in
-    omega (arith, c .before .loop-test .taken, start .pre .few, c .before .before .loop .inv .3)
+    let at-loop-test = c .before .before .before .before .before in
+    let at-loop = at-loop-test .before in
+    let start = at-loop .before .before .before .before .before in
+    omega (arith, at-loop-test .loop-test .taken, start .pre .few, at-loop .loop .inv .3)
 
+-- src/lib.rt:200:5
 loop-again : tie.Need-loop-again Inv-loop μ-loop Inv-loop2 μ-loop2
 loop-again c =
-    let start = c .before .before .before .before .before .before .before in (
-      omega (arith, c .before .before .loop .inv .0),
-      omega (arith, c .before .loop-test .taken, start .pre .few, c .before .before .loop .inv .3),
-      (let e : c .before .before .loop .i + 1 - start .args .from
-          ≡ c .before .before .loop .i - start .args .from + 1 =
-          omega (arith, c .before .before .loop .inv .0) in
-          rw e (written-more _ _ (c .before .before .loop .inv .2)
-          (omega (arith, c .before .before .loop .inv .0))
+    let at-first-of-field = c .before .before .before .before in
+    let at-loop-test = at-first-of-field .before in
+    let at-loop = at-loop-test .before in
+    let start = at-loop .before .before .before .before .before in (
+      omega (arith, at-loop .loop .inv .0),
+      omega (arith, at-loop-test .loop-test .taken, start .pre .few, at-loop .loop .inv .3),
+      (let e : at-loop .loop .i + 1 - start .args .from ≡ at-loop .loop .i - start .args .from + 1 =
+          omega (arith, at-loop .loop .inv .0) in
+          rw (e, c .before .before .write-value .ensures)
+          (written-more _ _ (at-loop .loop .inv .2) (omega (arith, at-loop .loop .inv .0))
           (omega (
             arith,
             start .pre .room,
             start .pre .few,
-            c .before .loop-test .taken,
-            c .before .before .loop .inv .3,
-            c .before .before .loop .inv .0,
+            at-loop-test .loop-test .taken,
+            at-loop .loop .inv .3,
+            at-loop .loop .inv .0,
           ))
-          (let z : start .args .from + (c .before .before .loop .i - start .args .from)
-          ≡ c .before .before .loop .i = omega (arith, c .before .before .loop .inv .0) in
-          rw z (c .first-number .ensures)))),
-      c .before .before .loop .inv .3,
+          (let z : start .args .from + (at-loop .loop .i - start .args .from) ≡ at-loop .loop .i =
+          omega (arith, at-loop .loop .inv .0) in
+          rw z (first-written _ _ _ (at-loop .loop .i) _ _
+          (omega (arith, at-loop-test .loop-test .taken, at-loop .loop .inv .3))
+          (at-first-of-field .first-of-field .ensures))))),
+      at-loop .loop .inv .3,
     )
 
+-- src/lib.rt:205:5
 loop2-holds : tie.Need-loop2-holds Inv-loop μ-loop Inv-loop2 μ-loop2
 loop2-holds c = (
   omega arith,
@@ -151,84 +168,74 @@ loop2-holds c = (
   omega (arith, c .loop-test .left),
 )
 
-add-store-3 : tie.Need-add-store-3 Inv-loop μ-loop Inv-loop2 μ-loop2
-add-store-3 c =
-    let start = c .before .before .before .before .before .before .before .before in
-    omega (
-      arith,
-      start .pre .room,
-      c .loop2-test .taken,
-      c .before .loop2 .inv .2 .long,
-      c .before .before .before .loop .inv .2 .long,
+-- src/lib.rt:206:28
+add-write-value-3 : tie.Need-add-write-value-3 Inv-loop μ-loop Inv-loop2 μ-loop2
+add-write-value-3 c =
+    let start = c .before .before .before .before .before .before .before .before .before in
+    omega (arith, start .pre .room, c .before .loop2-test .taken, start .good .1 .1 .0)
+
+-- src/lib.rt:206:28
+add-write-value-4 : tie.Need-add-write-value-4 Inv-loop μ-loop Inv-loop2 μ-loop2
+add-write-value-4 c =
+    let start = c .before .before .before .before .before .before .before .before .before in
+    omega (arith, start .pre .room, c .before .loop2-test .taken, start .good .1 .1 .0)
+
+-- src/lib.rt:206:9
+write-value-requires-2 : tie.Need-write-value-requires-2 Inv-loop μ-loop Inv-loop2 μ-loop2
+write-value-requires-2 c κs =
+    let at-loop = c .before .before .before .before in
+    let start = at-loop .before .before .before .before .before in (
+      omega (
+        arith,
+        start .pre .room,
+        c .before .loop2-test .taken,
+        c .before .before .loop2 .inv .2 .long,
+        at-loop .loop .inv .2 .long,
+      ),
+      omega (arith, null-written),
     )
 
-add-store-4 : tie.Need-add-store-4 Inv-loop μ-loop Inv-loop2 μ-loop2
-add-store-4 c =
-    let start = c .before .before .before .before .before .before .before .before in
-    omega (
-      arith,
-      start .pre .room,
-      c .loop2-test .taken,
-      c .before .loop2 .inv .2 .long,
-      c .before .before .before .loop .inv .2 .long,
-    )
-
-mul-store-2 : tie.Need-mul-store-2 Inv-loop μ-loop Inv-loop2 μ-loop2
-mul-store-2 c =
-    let start = c .before .before .before .before .before .before .before .before in
-    omega (
-      arith,
-      start .pre .room,
-      c .loop2-test .taken,
-      c .before .loop2 .inv .2 .long,
-      c .before .before .before .loop .inv .2 .long,
-    )
-
-slice-write-store-2 : tie.Need-slice-write-store-2 Inv-loop μ-loop Inv-loop2 μ-loop2
-slice-write-store-2 c =
-    let start = c .before .before .before .before .before .before .before .before in
-    omega (
-      arith,
-      start .pre .room,
-      c .loop2-test .taken,
-      c .before .loop2 .inv .2 .long,
-      c .before .before .before .loop .inv .2 .long,
-    )
-
+-- src/lib.rt:207:9
 add-i-2 : tie.Need-add-i-2 Inv-loop μ-loop Inv-loop2 μ-loop2
-add-i-2 c = omega (arith, c .loop2-test .taken)
+add-i-2 c = omega (arith, c .before .before .before .before .loop2-test .taken)
 
+-- src/lib.rt:205:5
 loop2-less : tie.Need-loop2-less Inv-loop μ-loop Inv-loop2 μ-loop2
-loop2-less c = omega (arith, c .loop2-test .taken)
+loop2-less c = omega (arith, c .before .before .before .before .loop2-test .taken)
 
+-- src/lib.rt:205:5
 loop2-again : tie.Need-loop2-again Inv-loop μ-loop Inv-loop2 μ-loop2
 loop2-again c =
-    let start = c .before .before .before .before .before .before .before .before in (
-      omega (arith, c .before .loop2 .inv .0),
-      omega (arith, c .loop2-test .taken),
-      (let e : c .before .loop2 .i + 1 - c .before .before .before .loop .i
-          ≡ c .before .loop2 .i - c .before .before .before .loop .i + 1 =
-          omega (arith, c .before .loop2 .inv .0) in
-          rw e (written-more _ _ (c .before .loop2 .inv .2) (omega (arith, c .before .loop2 .inv .0))
+    let at-loop2-test = c .before .before .before .before in
+    let at-loop2 = at-loop2-test .before in
+    let at-loop = at-loop2 .before .before in
+    let start = at-loop .before .before .before .before .before in (
+      omega (arith, at-loop2 .loop2 .inv .0),
+      omega (arith, at-loop2-test .loop2-test .taken),
+      (let e : at-loop2 .loop2 .i + 1 - at-loop .loop .i ≡ at-loop2 .loop2 .i - at-loop .loop .i + 1 =
+          omega (arith, at-loop2 .loop2 .inv .0) in
+          rw (e, c .before .before .write-value2 .ensures)
+          (written-more _ _ (at-loop2 .loop2 .inv .2) (omega (arith, at-loop2 .loop2 .inv .0))
           (omega (
             arith,
             start .pre .room,
-            c .loop2-test .taken,
-            c .before .loop2 .inv .0,
-            c .before .before .before .loop .inv .2 .long,
+            at-loop2-test .loop2-test .taken,
+            at-loop2 .loop2 .inv .0,
+            at-loop .loop .inv .2 .long,
           ))
-          (let z : c .before .before .before .loop .i +
-          (c .before .loop2 .i - c .before .before .before .loop .i) ≡ c .before .loop2 .i =
-          omega (arith, c .before .loop2 .inv .0) in
-          rw z (first-unused _ _ _ (c .before .loop2 .i) _
-          (omega (arith, c .before .loop2 .inv .3, c .before .loop2 .inv .4, c .before .loop2 .inv .0)))))),
-      c .before .loop2 .inv .3,
-      c .before .loop2 .inv .4,
+          (let z : at-loop .loop .i + (at-loop2 .loop2 .i - at-loop .loop .i) ≡ at-loop2 .loop2 .i =
+          omega (arith, at-loop2 .loop2 .inv .0) in
+          rw z (null-written ∙ first-unused _ _ _ (at-loop2 .loop2 .i) _
+          (omega (arith, at-loop2 .loop2 .inv .3, at-loop2 .loop2 .inv .4, at-loop2 .loop2 .inv .0)))))),
+      at-loop2 .loop2 .inv .3,
+      at-loop2 .loop2 .inv .4,
     )
 
+-- src/lib.rt:193:1
 same-length : tie.Need-same-length Inv-loop μ-loop Inv-loop2 μ-loop2
 same-length c = c .before .loop2 .inv .2 .long ∙ c .before .before .before .loop .inv .2 .long
 
+-- src/lib.rt:193:1
 returns : tie.Need-returns Inv-loop μ-loop Inv-loop2 μ-loop2
 returns c =
     let start = c .before .before .before .before .before .before .before .before in
@@ -255,19 +262,17 @@ fill-spec =
     shared-slice-read-count
     cast-count
     loop-holds
-    first-number-requires
-    add-store
-    add-store-2
-    mul-store
-    slice-write-store
+    first-of-field-requires
+    add-write-value
+    add-write-value-2
+    write-value-requires
     add-i
     loop-less
     loop-again
     loop2-holds
-    add-store-3
-    add-store-4
-    mul-store-2
-    slice-write-store-2
+    add-write-value-3
+    add-write-value-4
+    write-value-requires-2
     add-i-2
     loop2-less
     loop2-again

@@ -1,4 +1,4 @@
-use mathlib.Core.Path.{_≡_}
+use mathlib.Core.Path.{_≡_, sym, _∙_}
 use Prim.Native.Nat.{ℕ, _-_, _*_, _≤_, _<_}
 use native.Mathlib.Omega.{arith}
 use lib.ListN.{length, getD}
@@ -15,63 +15,28 @@ abbrev μ-loop : tie.MeasureT-loop
 loop-holds : tie.Need-loop-holds Inv-loop μ-loop
 loop-holds c = (omega arith, λ i a b e. omega arith)
 
-mul-if1 : tie.Need-mul-if1 Inv-loop μ-loop
-mul-if1 c = omega (
-  arith,
-  not-past (c .before .pre .from) (c .loop .b) (c .loop .inv .1),
-  c .before .pre .from .short,
-)
-
-mul-if1-2 : tie.Need-mul-if1-2 Inv-loop μ-loop
-mul-if1-2 c = omega (
-  arith,
-  not-past (c .before .pre .from) (c .loop .b) (c .loop .inv .1),
-  c .before .pre .from .short,
-)
-
-shared-slice-read-if1 : tie.Need-shared-slice-read-if1 Inv-loop μ-loop
-shared-slice-read-if1 c =
-    omega (
-      arith,
-      not-past (c .before .before .pre .from) (c .before .loop .b) (c .before .loop .inv .1),
-      c .before .before .pre .from .short,
-    )
+letter-at-requires : tie.Need-letter-at-requires Inv-loop μ-loop
+letter-at-requires c κs = omega (arith, not-past (c .before .before .pre .from) (c .loop .b) (c .loop .inv .1), c .before .before .pre .from .short)
 
 add-b : tie.Need-add-b Inv-loop μ-loop
-add-b c = omega (
-  arith,
-  not-past (c .before .before .before .pre .from) (c .before .before .loop .b)
-      (c .before .before .loop .inv .1),
-  c .before .before .before .pre .from .short,
-)
+add-b c = omega (arith, not-past (c .before .before .before .before .pre .from) (c .before .before .loop .b) (c .before .before .loop .inv .1), c .before .before .before .before .pre .from .short)
 
 loop-less : tie.Need-loop-less Inv-loop μ-loop
-loop-less c = omega (
-  arith,
-  not-past (c .before .before .before .pre .from) (c .before .before .loop .b)
-      (c .before .before .loop .inv .1),
-  c .before .before .before .pre .from .short,
-)
+loop-less c = omega (arith, not-past (c .before .before .before .before .pre .from) (c .before .before .loop .b) (c .before .before .loop .inv .1), c .before .before .before .before .pre .from .short)
 
 loop-again : tie.Need-loop-again Inv-loop μ-loop
 loop-again c = (
   omega arith,
-  none-more (c .before .before .before .args .rows .now)
-      (c .before .before .before .args .letter) (c .before .before .before .args .row)
-      (c .before .before .loop .b) (c .before .before .loop .inv .1) (c .if1 .taken),
+  none-more (c .before .before .before .before .args .rows .now) (c .before .before .before .before .args .letter) (c .before .before .before .before .args .row) (c .before .before .loop .b) (c .before .before .loop .inv .1)
+      (λ e. c .if1 .taken (c .before .letter-at .ensures ∙ e)),
 )
 
 returns : tie.Need-returns Inv-loop μ-loop
 returns c = record {
   later = c .before .before .loop .inv .0;
-  short = omega (
-    arith,
-    not-past (c .before .before .before .pre .from) (c .before .before .loop .b)
-        (c .before .before .loop .inv .1),
-    c .before .before .before .pre .from .short,
-  );
+  short = omega (arith, not-past (c .before .before .before .before .pre .from) (c .before .before .loop .b) (c .before .before .loop .inv .1), c .before .before .before .before .pre .from .short);
   between = c .before .before .loop .inv .1;
-  letter = c .if1 .left;
+  letter = sym (c .before .letter-at .ensures) ∙ c .if1 .left;
 }
 
 pub find-letter-spec : {M : Type 1} → statement M
@@ -81,9 +46,7 @@ find-letter-spec =
     Inv-loop
     μ-loop
     loop-holds
-    mul-if1
-    mul-if1-2
-    shared-slice-read-if1
+    letter-at-requires
     add-b
     loop-less
     loop-again

@@ -58,6 +58,9 @@ cast-result c = search needs
 add-result : tie.Need-add-result
 add-result c = search needs
 
+add-result-2 : tie.Need-add-result-2
+add-result-2 c = search needs
+
 same-length : tie.Need-same-length
 same-length c = simp length-set (c .before .before .before .before .fill .ensures .long)
 
@@ -87,5 +90,6 @@ new-object-spec =
     put-requires
     cast-result
     add-result
+    add-result-2
     same-length
     returns-3)

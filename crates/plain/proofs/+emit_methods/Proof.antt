@@ -1,14 +1,17 @@
-use mathlib.Core.Path.{refl, _∙_}
+use mathlib.Core.Path.{sym, _∙_}
 use Prim.Native.Nat.{ℕ, _-_, _<_}
 use native.Mathlib.Omega.{arith}
-use borrow.Author.Needs.{needs}
 use borrow.Fn.Kinds.{In}
 use borrow.Fn.PlainCycle.{Measures, is, falls, and}
-use Rattle.plain.proofs.Methods.{methods-known, methods-end, methods-first, methods-rest, methods-step}
+use Rattle.layout.proofs.Walks.{method-parameters, method-effects, method-block}
+use Rattle.plain.proofs.Methods.{methods-known, methods-end, methods-here, methods-method}
+use Rattle.plain.proofs.Methods.{methods-rest}
+use Rattle.plain.proofs.Methods.{methods-step}
 use Rattle.plain.proofs.emit_methods.Reads as emit-methods
 use Rattle.plain.proofs.emit_methods.Kinds as emit-methods-kinds
 use Rattle.plain.proofs.emit_method.Reads as emit-method-reads
-use Rattle.plain.proofs.skip.Reads as skip-reads
+use Rattle.language.proofs.letter_at.Reads as letter-at-reads
+use Rattle.layout.proofs.count_rows.Reads as count-rows-reads
 use Rattle.plain.proofs.+emit_methods.{statement}
 use Rattle.plain.proofs.+emit_methods.Tie.{close}
 use Rattle.plain.proofs.+emit_methods.Lts-emit_methods as emit-methods-lts
@@ -17,8 +20,7 @@ abbrev μ-emit-methods : Measures 5 emit-methods-kinds.ps ℕ
 μ-emit-methods κs a = 60000 - a .1 .1 .1 .1 .1 .1 .0
 
 abbrev emit-methods-at : ℕ → In 5 emit-methods-kinds.ps
-emit-methods-at t =
-    and 5 emit-methods-kinds.ps (is 5 emit-methods-kinds.ps μ-emit-methods t) emit-methods.Pre
+emit-methods-at t = and 5 emit-methods-kinds.ps (is 5 emit-methods-kinds.ps μ-emit-methods t) emit-methods.Pre
 
 abbrev emit-methods-below : ℕ → In 5 emit-methods-kinds.ps
 emit-methods-below t =
@@ -27,95 +29,108 @@ emit-methods-below t =
 -- What its callees ask and give: itself, below the measure t.
 abbrev callees : ℕ → emit-methods-lts.Claims
 callees t = (
-  skip-reads.Asked,
-  skip-reads.Learnt,
+  letter-at-reads.Asked,
+  letter-at-reads.Learnt,
+  count-rows-reads.Asked,
+  count-rows-reads.Learnt,
   emit-method-reads.Asked,
   emit-method-reads.Learnt,
   emit-methods-below t,
   emit-methods.Post,
 )
 
-emit-methods-mul-if1 : (t : ℕ)
-    → emit-methods-lts.Need-mul-if1 (callees t) (emit-methods-at t) emit-methods.Post
-emit-methods-mul-if1 t c = omega (arith, methods-known (c .before .before .before .before .before .pre .1) .0)
-
-emit-methods-mul-if1-2 : (t : ℕ)
-    → emit-methods-lts.Need-mul-if1-2 (callees t) (emit-methods-at t) emit-methods.Post
-emit-methods-mul-if1-2 t c =
+emit-methods-letter-at-requires : (t : ℕ)
+    → emit-methods-lts.Need-letter-at-requires (callees t) (emit-methods-at t) emit-methods.Post
+emit-methods-letter-at-requires t c κs =
     omega (arith, methods-known (c .before .before .before .before .before .pre .1) .0)
-
-emit-methods-shared-slice-read-if1 : (t : ℕ)
-    → emit-methods-lts.Need-shared-slice-read-if1 (callees t) (emit-methods-at t) emit-methods.Post
-emit-methods-shared-slice-read-if1 t c =
-    let start = c .before .before .before .before .before .before in
-    omega (arith, methods-known (start .pre .1) .0)
 
 emit-methods-returns : (t : ℕ)
     → emit-methods-lts.Need-returns (callees t) (emit-methods-at t) emit-methods.Post
-emit-methods-returns t c = methods-end (c .if1 .taken)
+emit-methods-returns t c = methods-end (λ e. c .if1 .taken (c .before .letter-at .ensures ∙ e))
 
-emit-methods-add-skip : (t : ℕ)
-    → emit-methods-lts.Need-add-skip (callees t) (emit-methods-at t) emit-methods.Post
-emit-methods-add-skip t c =
+emit-methods-add-parameters : (t : ℕ)
+    → emit-methods-lts.Need-add-parameters (callees t) (emit-methods-at t) emit-methods.Post
+emit-methods-add-parameters t c =
+    omega (arith, methods-known (c .before .before .before .before .before .before .before .pre .1) .1)
+
+emit-methods-count-rows-requires : (t : ℕ)
+    → emit-methods-lts.Need-count-rows-requires (callees t) (emit-methods-at t) emit-methods.Post
+emit-methods-count-rows-requires t c κs =
     let start = c .before .before .before .before .before .before .before in
-    omega (arith, methods-known (start .pre .1) .1)
+    method-parameters (methods-here (start .pre .1) (sym (c .before .letter-at .ensures) ∙ c .if1 .left))
 
-emit-methods-skip-requires : (t : ℕ)
-    → emit-methods-lts.Need-skip-requires (callees t) (emit-methods-at t) emit-methods.Post
-emit-methods-skip-requires t c κs = search needs
+emit-methods-add-effects : (t : ℕ)
+    → emit-methods-lts.Need-add-effects (callees t) (emit-methods-at t) emit-methods.Post
+emit-methods-add-effects t c =
+    let start = c .before .before .before .before .before .before .before .before in
+    let s = (methods-here (start .pre .1)
+    (sym (c .before .before .letter-at .ensures) ∙ c .before .if1 .left)) in
+    omega (arith, method-effects s _ (c .count-rows .ensures) .1 .inside, s .short)
 
-emit-methods-skip-requires-2 : (t : ℕ)
-    → emit-methods-lts.Need-skip-requires-2 (callees t) (emit-methods-at t) emit-methods.Post
-emit-methods-skip-requires-2 t c κs = search needs
+emit-methods-count-rows-requires-2 : (t : ℕ)
+    → emit-methods-lts.Need-count-rows-requires-2 (callees t) (emit-methods-at t) emit-methods.Post
+emit-methods-count-rows-requires-2 t c κs =
+    let start = c .before .before .before .before .before .before .before .before in
+    method-effects (methods-here (start .pre .1)
+    (sym (c .before .before .letter-at .ensures) ∙ c .before .if1 .left)) _ (c .count-rows .ensures)
 
-emit-methods-sub-emit-method : (t : ℕ)
-    → emit-methods-lts.Need-sub-emit-method (callees t) (emit-methods-at t) emit-methods.Post
-emit-methods-sub-emit-method t c = omega (arith, c .before .before .skip .ensures .from)
-
-emit-methods-sub-emit-method-2 : (t : ℕ)
-    → emit-methods-lts.Need-sub-emit-method-2 (callees t) (emit-methods-at t) emit-methods.Post
-emit-methods-sub-emit-method-2 t c = omega (arith, c .before .before .skip .ensures .from)
+emit-methods-add-emit-method : (t : ℕ)
+    → emit-methods-lts.Need-add-emit-method (callees t) (emit-methods-at t) emit-methods.Post
+emit-methods-add-emit-method t c =
+    let at-letter-at = c .before .before .before .before in
+    let start = at-letter-at .before .before .before .before .before .before in
+    let s = (methods-here (start .pre .1)
+    (sym (at-letter-at .letter-at .ensures) ∙ c .before .before .before .if1 .left)) in
+    omega (
+      arith,
+      method-block s _ (c .before .before .count-rows .ensures) _
+          (c .before .count-rows2 .ensures) .1,
+      s .short,
+    )
 
 emit-methods-emit-method-requires : (t : ℕ)
     → emit-methods-lts.Need-emit-method-requires (callees t) (emit-methods-at t) emit-methods.Post
 emit-methods-emit-method-requires t c κs =
-    let start = c .before .before .before .before .before .before .before .before .before .before in
-    methods-first (start .pre .1) (c .before .before .before .if1 .left) _ _ _
-    (c .before .before .skip .ensures) (c .before .skip2 .ensures) refl
+    let at-letter-at = c .before .before .before .before in
+    let start = at-letter-at .before .before .before .before .before .before in
+    methods-method (c .before .before .count-rows .ensures) (c .before .count-rows2 .ensures) (start .pre .1)
+    (sym (at-letter-at .letter-at .ensures) ∙ c .before .before .before .if1 .left)
 
 emit-methods-emit-methods-requires : (t : ℕ)
     → emit-methods-lts.Need-emit-methods-requires (callees t) (emit-methods-at t) emit-methods.Post
 emit-methods-emit-methods-requires t c κs =
-    let start = c .before .before .before .before .before .before .before .before .before .before .before
-    .before .before .before in
-    let the-if1 = c .before .before .before .before .before .before .before .if1 in
-    let the-skip = c .before .before .before .before .before .before .skip in
-    let the-skip2 = c .before .before .before .before .before .skip2 in
-    let r = methods-rest (the-skip .ensures) (the-skip2 .ensures) refl
-    (c .before .before .before .emit-method .ensures) (start .pre .1) (the-if1 .left) in
+    let at-count-rows2 = c .before .before .before .before .before in
+    let at-count-rows = at-count-rows2 .before in
+    let at-if1 = at-count-rows .before in
+    let at-letter-at = at-if1 .before in
+    let start = at-letter-at .before .before .before .before .before .before in
+    let r = methods-rest (at-count-rows .count-rows .ensures) (at-count-rows2 .count-rows2 .ensures)
+    (c .before .before .before .emit-method .ensures) (start .pre .1)
+    (sym (at-letter-at .letter-at .ensures) ∙ at-if1 .if1 .left) in
     (omega (arith, r .1, start .pre .0, methods-known (start .pre .1) .1), r .0)
 
 emit-methods-same-length : (t : ℕ)
     → emit-methods-lts.Need-same-length (callees t) (emit-methods-at t) emit-methods.Post
 emit-methods-same-length t c =
-    c .before .before .emit-methods .kept .1 .1 .1 .1 .0
-    ∙ c .before .before .before .before .before .before .emit-method .kept .1 .1 .1 .1 .0
+    let at-emit-method = c .before .before .before .before .before .before in
+    c .before .before .emit-methods .kept .1 .1 .1 .1 .0 ∙ at-emit-method .emit-method .kept .1 .1 .1 .1 .0
 
 emit-methods-returns-2 : (t : ℕ)
     → emit-methods-lts.Need-returns-2 (callees t) (emit-methods-at t) emit-methods.Post
 emit-methods-returns-2 t c =
-    let the-if1 = c .before .before .before .before .before .before .before .before .before .before .if1 in
-    let the-skip = c .before .before .before .before .before .before .before .before .before .skip in
-    let the-skip2 = c .before .before .before .before .before .before .before .before .skip2 in
-    let the-emit-method = c .before .before .before .before .before .before .emit-method in
-    methods-step (the-skip .ensures) (the-skip2 .ensures) refl (the-emit-method .ensures) (the-if1 .left)
+    let at-emit-method = c .before .before .before .before .before .before in
+    let at-count-rows2 = at-emit-method .before .before in
+    let at-count-rows = at-count-rows2 .before in
+    let at-if1 = at-count-rows .before in
+    let at-letter-at = at-if1 .before in
+    methods-step (at-count-rows .count-rows .ensures) (at-count-rows2 .count-rows2 .ensures)
+    (at-emit-method .emit-method .ensures) (sym (at-letter-at .letter-at .ensures) ∙ at-if1 .if1 .left)
     (c .before .before .emit-methods .ensures)
 
 pub +emit-methods-spec : {M : Type 1} → statement M
 +emit-methods-spec = close μ-emit-methods λ t.
     emit-methods-lts.spec (callees t) (emit-methods-at t) emit-methods.Post
-    (emit-methods-mul-if1 t) (emit-methods-mul-if1-2 t) (emit-methods-shared-slice-read-if1 t)
-    (emit-methods-returns t) (emit-methods-add-skip t) (emit-methods-skip-requires t)
-    (emit-methods-skip-requires-2 t) (emit-methods-sub-emit-method t) (emit-methods-sub-emit-method-2 t)
-    (emit-methods-emit-method-requires t) (emit-methods-emit-methods-requires t) (emit-methods-same-length t)
-    (emit-methods-returns-2 t)
+    (emit-methods-letter-at-requires t) (emit-methods-returns t) (emit-methods-add-parameters t)
+    (emit-methods-count-rows-requires t) (emit-methods-add-effects t) (emit-methods-count-rows-requires-2 t)
+    (emit-methods-add-emit-method t) (emit-methods-emit-method-requires t)
+    (emit-methods-emit-methods-requires t) (emit-methods-same-length t) (emit-methods-returns-2 t)

@@ -1,4 +1,4 @@
-use mathlib.Core.Path.{refl, _∙_}
+use mathlib.Core.Path.{_∙_}
 use Prim.Native.Nat.{ℕ, _<_}
 use native.Mathlib.Omega.{arith}
 use borrow.Author.Needs.{needs}
@@ -9,6 +9,7 @@ use Rattle.plain.proofs.Lines.{fields-in, fields-rest, copies-none, cop
 use Rattle.plain.proofs.put_copies.Reads as put-copies
 use Rattle.plain.proofs.put_copies.Kinds as put-copies-kinds
 use Rattle.plain.proofs.put.Reads as put-reads
+use Rattle.plain.proofs.field_name.Reads as field-name-reads
 use Rattle.plain.proofs.+put_copies.{statement}
 use Rattle.plain.proofs.+put_copies.Tie.{close}
 use Rattle.plain.proofs.+put_copies.Lts-put_copies as put-copies-lts
@@ -17,59 +18,45 @@ abbrev μ-put-copies : Measures 3 put-copies-kinds.ps ℕ
 μ-put-copies κs a = a .1 .1 .1 .1 .1 .0
 
 abbrev put-copies-at : ℕ → In 3 put-copies-kinds.ps
-put-copies-at t =
-    and 3 put-copies-kinds.ps (is 3 put-copies-kinds.ps μ-put-copies t) put-copies.Pre
+put-copies-at t = and 3 put-copies-kinds.ps (is 3 put-copies-kinds.ps μ-put-copies t) put-copies.Pre
 
 abbrev put-copies-below : ℕ → In 3 put-copies-kinds.ps
-put-copies-below t =
-    and 3 put-copies-kinds.ps (falls 3 put-copies-kinds.ps _<_ μ-put-copies t) put-copies.Pre
+put-copies-below t = and 3 put-copies-kinds.ps (falls 3 put-copies-kinds.ps _<_ μ-put-copies t) put-copies.Pre
 
 -- What its callees ask and give: itself, below the measure t.
 abbrev callees : ℕ → put-copies-lts.Claims
-callees t = (put-reads.Asked, put-reads.Learnt, put-copies-below t, put-copies.Post)
+callees t = (
+  field-name-reads.Asked,
+  field-name-reads.Learnt,
+  put-reads.Asked,
+  put-reads.Learnt,
+  put-copies-below t,
+  put-copies.Post,
+)
 
 put-copies-returns : (t : ℕ) → put-copies-lts.Need-returns (callees t) (put-copies-at t) put-copies.Post
 put-copies-returns t c = copies-none (c .if1 .taken)
 
 put-copies-mul-row : (t : ℕ) → put-copies-lts.Need-mul-row (callees t) (put-copies-at t) put-copies.Post
 put-copies-mul-row t c =
-    let start = c .before .before .before .before in
-    omega (arith, fields-in (start .pre .1 .0) (c .if1 .left) .0)
+    omega (arith, fields-in (c .before .before .before .before .pre .1 .0) (c .if1 .left) .0)
 
 put-copies-shared-slice-read-row : (t : ℕ)
     → put-copies-lts.Need-shared-slice-read-row (callees t) (put-copies-at t) put-copies.Post
 put-copies-shared-slice-read-row t c =
-    let start = c .before .before .before .before .before in
-    omega (arith, fields-in (start .pre .1 .0) (c .before .if1 .left) .0)
+    omega (arith, fields-in (c .before .before .before .before .before .pre .1 .0) (c .before .if1 .left) .0)
 
 put-copies-cast-row : (t : ℕ) → put-copies-lts.Need-cast-row (callees t) (put-copies-at t) put-copies.Post
 put-copies-cast-row t c =
-    let start = c .before .before .before .before .before in
-    omega (arith, c .shared-slice-known3 .given (start .args .from))
+    omega (arith, c .shared-slice-known3 .given (c .before .before .before .before .before .args .from))
 
-put-copies-mul-name : (t : ℕ) → put-copies-lts.Need-mul-name (callees t) (put-copies-at t) put-copies.Post
-put-copies-mul-name t c =
-    let start = c .before .before .before .before .before in
-    omega (arith, fields-in (start .pre .1 .0) (c .before .if1 .left) .1)
+put-copies-field-name-requires : (t : ℕ)
+    → put-copies-lts.Need-field-name-requires (callees t) (put-copies-at t) put-copies.Post
+put-copies-field-name-requires t c κs =
+    omega (arith, fields-in (c .before .before .before .before .before .pre .1 .0) (c .before .if1 .left) .1)
 
-put-copies-add-name : (t : ℕ) → put-copies-lts.Need-add-name (callees t) (put-copies-at t) put-copies.Post
-put-copies-add-name t c =
-    let start = c .before .before .before .before .before in
-    omega (arith, fields-in (start .pre .1 .0) (c .before .if1 .left) .1)
-
-put-copies-mul-name-2 : (t : ℕ) → put-copies-lts.Need-mul-name-2 (callees t) (put-copies-at t) put-copies.Post
-put-copies-mul-name-2 t c =
-    let start = c .before .before .before .before .before in
-    omega (arith, fields-in (start .pre .1 .0) (c .before .if1 .left) .1)
-
-put-copies-shared-slice-read-name : (t : ℕ)
-    → put-copies-lts.Need-shared-slice-read-name (callees t) (put-copies-at t) put-copies.Post
-put-copies-shared-slice-read-name t c =
-    let start = c .before .before .before .before .before .before in
-    omega (arith, fields-in (start .pre .1 .0) (c .before .before .if1 .left) .1)
-
-put-copies-add-t19 : (t : ℕ) → put-copies-lts.Need-add-t19 (callees t) (put-copies-at t) put-copies.Post
-put-copies-add-t19 t c = omega (arith, c .before .before .before .before .before .before .pre .1 .1 .1)
+put-copies-add-t16 : (t : ℕ) → put-copies-lts.Need-add-t16 (callees t) (put-copies-at t) put-copies.Post
+put-copies-add-t16 t c = omega (arith, c .before .before .before .before .before .before .pre .1 .1 .1)
 
 put-copies-slice-aggregate-put : (t : ℕ)
     → put-copies-lts.Need-slice-aggregate-put (callees t) (put-copies-at t) put-copies.Post
@@ -78,34 +65,37 @@ put-copies-slice-aggregate-put t c = search needs
 put-copies-put-requires : (t : ℕ)
     → put-copies-lts.Need-put-requires (callees t) (put-copies-at t) put-copies.Post
 put-copies-put-requires t c κs =
-    let start = c .before .before .before .before .before .before .before .before in
-    let the-if1 = c .before .before .before .before .if1 in omega (arith, start .pre .1 .1 .0, the-if1 .left)
+    let at-if1 = c .before .before .before .before in
+    let start = at-if1 .before .before .before .before in
+    omega (arith, start .pre .1 .1 .0, at-if1 .if1 .left)
 
 put-copies-add-put-copies : (t : ℕ)
     → put-copies-lts.Need-add-put-copies (callees t) (put-copies-at t) put-copies.Post
 put-copies-add-put-copies t c =
-    let start = c .before .before .before .before .before .before .before .before .before .before .before
-    .before in
-    let the-if1 = c .before .before .before .before .before .before .before .before .if1 in
-    omega (arith, fields-in (start .pre .1 .0) (the-if1 .left) .0)
+    let at-if1 = c .before .before .before .before .before .before .before .before in
+    let start = at-if1 .before .before .before .before in
+    omega (arith, fields-in (start .pre .1 .0) (at-if1 .if1 .left) .0)
 
 put-copies-sub-put-copies : (t : ℕ)
     → put-copies-lts.Need-sub-put-copies (callees t) (put-copies-at t) put-copies.Post
 put-copies-sub-put-copies t c =
-    let the-if1 = c .before .before .before .before .before .before .before .before .if1 in
-    omega (arith, the-if1 .left)
+    omega (arith, c .before .before .before .before .before .before .before .before .if1 .left)
 
 put-copies-put-copies-requires : (t : ℕ)
     → put-copies-lts.Need-put-copies-requires (callees t) (put-copies-at t) put-copies.Post
 put-copies-put-copies-requires t c κs =
-    let start = c .before .before .before .before .before .before .before .before .before .before .before
-    .before in
-    let the-if1 = c .before .before .before .before .before .before .before .before .if1 in (
-      omega (arith, the-if1 .left),
+    let at-if1 = c .before .before .before .before .before .before .before .before in
+    let start = at-if1 .before .before .before .before in (
+      omega (arith, at-if1 .if1 .left),
       (
-        fields-rest (start .pre .1 .0) (the-if1 .left),
+        fields-rest (start .pre .1 .0) (at-if1 .if1 .left),
         (
-          omega (arith, start .pre .1 .1 .0, the-if1 .left, c .before .before .before .put .ensures .ended),
+          omega (
+            arith,
+            start .pre .1 .1 .0,
+            at-if1 .if1 .left,
+            c .before .before .before .put .ensures .ended,
+          ),
           start .pre .1 .1 .1,
         ),
       ),
@@ -114,21 +104,21 @@ put-copies-put-copies-requires t c κs =
 put-copies-same-length : (t : ℕ)
     → put-copies-lts.Need-same-length (callees t) (put-copies-at t) put-copies.Post
 put-copies-same-length t c =
-    c .before .before .put-copies .kept .1 .1 .0
-    ∙ written-long (c .before .before .before .before .before .before .put .ensures)
+    let at-put = c .before .before .before .before .before .before in
+    c .before .before .put-copies .kept .1 .1 .0 ∙ written-long (at-put .put .ensures)
 
 put-copies-returns-2 : (t : ℕ) → put-copies-lts.Need-returns-2 (callees t) (put-copies-at t) put-copies.Post
 put-copies-returns-2 t c =
-    let the-if1 = c .before .before .before .before .before .before .before .before .before .before
-    .before .if1 in
-    let the-put = c .before .before .before .before .before .before .put in
-    copies-step (the-if1 .left) refl (the-put .ensures) (c .before .before .put-copies .ensures)
+    let at-put = c .before .before .before .before .before .before in
+    let at-field-name = at-put .before .before .before in
+    let at-if1 = at-field-name .before .before in
+    copies-step (at-if1 .if1 .left) (at-field-name .field-name .ensures) (at-put .put .ensures)
+    (c .before .before .put-copies .ensures)
 
 pub +put-copies-spec : {M : Type 1} → statement M
 +put-copies-spec = close μ-put-copies λ t.
     put-copies-lts.spec (callees t) (put-copies-at t) put-copies.Post
     (put-copies-returns t) (put-copies-mul-row t) (put-copies-shared-slice-read-row t) (put-copies-cast-row t)
-    (put-copies-mul-name t) (put-copies-add-name t) (put-copies-mul-name-2 t)
-    (put-copies-shared-slice-read-name t) (put-copies-add-t19 t) (put-copies-slice-aggregate-put t)
+    (put-copies-field-name-requires t) (put-copies-add-t16 t) (put-copies-slice-aggregate-put t)
     (put-copies-put-requires t) (put-copies-add-put-copies t) (put-copies-sub-put-copies t)
     (put-copies-put-copies-requires t) (put-copies-same-length t) (put-copies-returns-2 t)

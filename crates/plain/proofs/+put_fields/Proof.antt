@@ -10,6 +10,8 @@ use Rattle.plain.proofs.put_fields.Reads as put-fields
 use Rattle.plain.proofs.put_fields.Kinds as put-fields-kinds
 use Rattle.plain.proofs.plain_type.Reads as plain-type-reads
 use Rattle.plain.proofs.put.Reads as put-reads
+use Rattle.language.proofs.first.Reads as first-reads
+use Rattle.plain.proofs.field_name.Reads as field-name-reads
 use Rattle.plain.proofs.+put_fields.{statement}
 use Rattle.plain.proofs.+put_fields.Tie.{close}
 use Rattle.plain.proofs.+put_fields.Lts-put_fields as put-fields-lts
@@ -18,18 +20,20 @@ abbrev μ-put-fields : Measures 2 put-fields-kinds.ps ℕ
 μ-put-fields κs a = a .1 .1 .1 .1 .0
 
 abbrev put-fields-at : ℕ → In 2 put-fields-kinds.ps
-put-fields-at t =
-    and 2 put-fields-kinds.ps (is 2 put-fields-kinds.ps μ-put-fields t) put-fields.Pre
+put-fields-at t = and 2 put-fields-kinds.ps (is 2 put-fields-kinds.ps μ-put-fields t) put-fields.Pre
 
 abbrev put-fields-below : ℕ → In 2 put-fields-kinds.ps
-put-fields-below t =
-    and 2 put-fields-kinds.ps (falls 2 put-fields-kinds.ps _<_ μ-put-fields t) put-fields.Pre
+put-fields-below t = and 2 put-fields-kinds.ps (falls 2 put-fields-kinds.ps _<_ μ-put-fields t) put-fields.Pre
 
 -- What its callees ask and give: itself, below the measure t.
 abbrev callees : ℕ → put-fields-lts.Claims
 callees t = (
+  first-reads.Asked,
+  first-reads.Learnt,
   plain-type-reads.Asked,
   plain-type-reads.Learnt,
+  field-name-reads.Asked,
+  field-name-reads.Learnt,
   put-reads.Asked,
   put-reads.Learnt,
   put-fields-below t,
@@ -39,49 +43,20 @@ callees t = (
 put-fields-returns : (t : ℕ) → put-fields-lts.Need-returns (callees t) (put-fields-at t) put-fields.Post
 put-fields-returns t c = field-none (c .if1 .taken)
 
-put-fields-mul-plain-type : (t : ℕ)
-    → put-fields-lts.Need-mul-plain-type (callees t) (put-fields-at t) put-fields.Post
-put-fields-mul-plain-type t c = omega (arith, field-in (c .before .before .before .pre .1 .0) (c .if1 .left))
-
-put-fields-add-plain-type : (t : ℕ)
-    → put-fields-lts.Need-add-plain-type (callees t) (put-fields-at t) put-fields.Post
-put-fields-add-plain-type t c = omega (arith, field-in (c .before .before .before .pre .1 .0) (c .if1 .left))
-
-put-fields-mul-plain-type-2 : (t : ℕ)
-    → put-fields-lts.Need-mul-plain-type-2 (callees t) (put-fields-at t) put-fields.Post
-put-fields-mul-plain-type-2 t c =
+put-fields-first-requires : (t : ℕ)
+    → put-fields-lts.Need-first-requires (callees t) (put-fields-at t) put-fields.Post
+put-fields-first-requires t c κs =
     omega (arith, field-in (c .before .before .before .pre .1 .0) (c .if1 .left))
-
-put-fields-shared-slice-read-plain-type : (t : ℕ)
-    → put-fields-lts.Need-shared-slice-read-plain-type (callees t) (put-fields-at t) put-fields.Post
-put-fields-shared-slice-read-plain-type t c =
-    let start = c .before .before .before .before in
-    omega (arith, field-in (start .pre .1 .0) (c .before .if1 .left))
 
 put-fields-plain-type-requires : (t : ℕ)
     → put-fields-lts.Need-plain-type-requires (callees t) (put-fields-at t) put-fields.Post
 put-fields-plain-type-requires t c κs = search needs
 
-put-fields-mul-t10 : (t : ℕ) → put-fields-lts.Need-mul-t10 (callees t) (put-fields-at t) put-fields.Post
-put-fields-mul-t10 t c =
+put-fields-field-name-requires : (t : ℕ)
+    → put-fields-lts.Need-field-name-requires (callees t) (put-fields-at t) put-fields.Post
+put-fields-field-name-requires t c κs =
     let start = c .before .before .before .before .before in
     omega (arith, field-in (start .pre .1 .0) (c .before .before .if1 .left))
-
-put-fields-add-t11 : (t : ℕ) → put-fields-lts.Need-add-t11 (callees t) (put-fields-at t) put-fields.Post
-put-fields-add-t11 t c =
-    let start = c .before .before .before .before .before in
-    omega (arith, field-in (start .pre .1 .0) (c .before .before .if1 .left))
-
-put-fields-mul-t12 : (t : ℕ) → put-fields-lts.Need-mul-t12 (callees t) (put-fields-at t) put-fields.Post
-put-fields-mul-t12 t c =
-    let start = c .before .before .before .before .before in
-    omega (arith, field-in (start .pre .1 .0) (c .before .before .if1 .left))
-
-put-fields-shared-slice-read-t14 : (t : ℕ)
-    → put-fields-lts.Need-shared-slice-read-t14 (callees t) (put-fields-at t) put-fields.Post
-put-fields-shared-slice-read-t14 t c =
-    let start = c .before .before .before .before .before .before in
-    omega (arith, field-in (start .pre .1 .0) (c .before .before .before .if1 .left))
 
 put-fields-slice-aggregate-put : (t : ℕ)
     → put-fields-lts.Need-slice-aggregate-put (callees t) (put-fields-at t) put-fields.Post
@@ -90,59 +65,59 @@ put-fields-slice-aggregate-put t c = search needs
 put-fields-put-requires : (t : ℕ)
     → put-fields-lts.Need-put-requires (callees t) (put-fields-at t) put-fields.Post
 put-fields-put-requires t c κs =
-    let start = c .before .before .before .before .before .before .before .before in
-    let the-if1 = c .before .before .before .before .before .if1 in
-    omega (arith, start .pre .1 .1, the-if1 .left)
+    let at-if1 = c .before .before .before .before .before in
+    let start = at-if1 .before .before .before in
+    omega (arith, start .pre .1 .1, at-if1 .if1 .left)
 
 put-fields-add-put-fields : (t : ℕ)
     → put-fields-lts.Need-add-put-fields (callees t) (put-fields-at t) put-fields.Post
 put-fields-add-put-fields t c =
-    let start = c .before .before .before .before .before .before .before .before .before .before .before
-    .before in
-    let the-if1 = c .before .before .before .before .before .before .before .before .before .if1 in
-    omega (arith, field-in (start .pre .1 .0) (the-if1 .left))
+    let at-if1 = c .before .before .before .before .before .before .before .before .before in
+    let start = at-if1 .before .before .before in
+    omega (arith, field-in (start .pre .1 .0) (at-if1 .if1 .left))
 
 put-fields-sub-put-fields : (t : ℕ)
     → put-fields-lts.Need-sub-put-fields (callees t) (put-fields-at t) put-fields.Post
 put-fields-sub-put-fields t c =
-    let the-if1 = c .before .before .before .before .before .before .before .before .before .if1 in
-    omega (arith, the-if1 .left)
+    omega (arith, c .before .before .before .before .before .before .before .before .before .if1 .left)
 
 put-fields-put-fields-requires : (t : ℕ)
     → put-fields-lts.Need-put-fields-requires (callees t) (put-fields-at t) put-fields.Post
 put-fields-put-fields-requires t c κs =
-    let start = c .before .before .before .before .before .before .before .before .before .before .before
-    .before in
-    let the-if1 = c .before .before .before .before .before .before .before .before .before .if1 in (
-      omega (arith, the-if1 .left),
+    let at-if1 = c .before .before .before .before .before .before .before .before .before in
+    let start = at-if1 .before .before .before in (
+      omega (arith, at-if1 .if1 .left),
       (
-        field-rest (start .pre .1 .0) (the-if1 .left),
-        omega (arith, start .pre .1 .1, the-if1 .left, c .before .before .before .put .ensures .ended),
+        field-rest (start .pre .1 .0) (at-if1 .if1 .left),
+        omega (
+          arith,
+          start .pre .1 .1,
+          at-if1 .if1 .left,
+          c .before .before .before .put .ensures .ended,
+        ),
       ),
     )
 
 put-fields-same-length : (t : ℕ)
     → put-fields-lts.Need-same-length (callees t) (put-fields-at t) put-fields.Post
 put-fields-same-length t c =
-    c .before .before .put-fields .kept .1 .0
-    ∙ written-long (c .before .before .before .before .before .before .put .ensures)
+    let at-put = c .before .before .before .before .before .before in
+    c .before .before .put-fields .kept .1 .0 ∙ written-long (at-put .put .ensures)
 
 put-fields-returns-2 : (t : ℕ) → put-fields-lts.Need-returns-2 (callees t) (put-fields-at t) put-fields.Post
 put-fields-returns-2 t c =
-    let the-if1 = c .before .before .before .before .before .before .before .before .before .before .before
-    .before .if1 in
-    let the-plain-type =
-    c .before .before .before .before .before .before .before .before .before .before .plain-type in
-    let the-put = c .before .before .before .before .before .before .put in
-    field-step (the-if1 .left) (the-plain-type .ensures) (the-put .ensures)
-    (c .before .before .put-fields .ensures)
+    let at-put = c .before .before .before .before .before .before in
+    let at-field-name = at-put .before .before .before in
+    let at-plain-type = at-field-name .before in
+    let at-first = at-plain-type .before in
+    let at-if1 = at-first .before in
+    field-step (at-if1 .if1 .left) (at-first .first .ensures) (at-plain-type .plain-type .ensures)
+    (at-field-name .field-name .ensures) (at-put .put .ensures) (c .before .before .put-fields .ensures)
 
 pub +put-fields-spec : {M : Type 1} → statement M
 +put-fields-spec = close μ-put-fields λ t.
     put-fields-lts.spec (callees t) (put-fields-at t) put-fields.Post
-    (put-fields-returns t) (put-fields-mul-plain-type t) (put-fields-add-plain-type t)
-    (put-fields-mul-plain-type-2 t) (put-fields-shared-slice-read-plain-type t)
-    (put-fields-plain-type-requires t) (put-fields-mul-t10 t) (put-fields-add-t11 t) (put-fields-mul-t12 t)
-    (put-fields-shared-slice-read-t14 t) (put-fields-slice-aggregate-put t) (put-fields-put-requires t)
+    (put-fields-returns t) (put-fields-first-requires t) (put-fields-plain-type-requires t)
+    (put-fields-field-name-requires t) (put-fields-slice-aggregate-put t) (put-fields-put-requires t)
     (put-fields-add-put-fields t) (put-fields-sub-put-fields t) (put-fields-put-fields-requires t)
     (put-fields-same-length t) (put-fields-returns-2 t)

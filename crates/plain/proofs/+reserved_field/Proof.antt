@@ -8,6 +8,7 @@ use Rattle.plain.proofs.Walks.{free-none, free-here, free-step}
 use Rattle.plain.proofs.Lines.{field-in, field-rest}
 use Rattle.plain.proofs.reserved_field.Reads as reserved-field
 use Rattle.plain.proofs.reserved_field.Kinds as reserved-field-kinds
+use Rattle.plain.proofs.field_name.Reads as field-name-reads
 use Rattle.plain.proofs.+reserved_field.{statement}
 use Rattle.plain.proofs.+reserved_field.Tie.{close}
 use Rattle.plain.proofs.+reserved_field.Lts-reserved_field as reserved-field-lts
@@ -25,35 +26,16 @@ reserved-field-below t =
 
 -- What its callees ask and give: itself, below the measure t.
 abbrev callees : ℕ → reserved-field-lts.Claims
-callees t = (reserved-field-below t, reserved-field.Post)
+callees t = (field-name-reads.Asked, field-name-reads.Learnt, reserved-field-below t, reserved-field.Post)
 
 reserved-field-returns : (t : ℕ)
     → reserved-field-lts.Need-returns (callees t) (reserved-field-at t) reserved-field.Post
 reserved-field-returns t c = free-none (c .if1 .taken)
 
-reserved-field-mul-name : (t : ℕ)
-    → reserved-field-lts.Need-mul-name (callees t) (reserved-field-at t) reserved-field.Post
-reserved-field-mul-name t c =
-    omega (arith, field-in (c .before .before .pre .1 .0) (c .if1 .left), c .before .before .pre .1 .1)
-
-reserved-field-add-name : (t : ℕ)
-    → reserved-field-lts.Need-add-name (callees t) (reserved-field-at t) reserved-field.Post
-reserved-field-add-name t c =
-    omega (arith, field-in (c .before .before .pre .1 .0) (c .if1 .left), c .before .before .pre .1 .1)
-
-reserved-field-mul-name-2 : (t : ℕ)
-    → reserved-field-lts.Need-mul-name-2 (callees t) (reserved-field-at t) reserved-field.Post
-reserved-field-mul-name-2 t c =
-    omega (arith, field-in (c .before .before .pre .1 .0) (c .if1 .left), c .before .before .pre .1 .1)
-
-reserved-field-shared-slice-read-name : (t : ℕ)
-    → reserved-field-lts.Need-shared-slice-read-name (callees t) (reserved-field-at t) reserved-field.Post
-reserved-field-shared-slice-read-name t c =
-    omega (
-      arith,
-      field-in (c .before .before .before .pre .1 .0) (c .before .if1 .left),
-      c .before .before .before .pre .1 .1,
-    )
+reserved-field-field-name-requires : (t : ℕ)
+    → reserved-field-lts.Need-field-name-requires (callees t) (reserved-field-at t) reserved-field.Post
+reserved-field-field-name-requires t c κs =
+    omega (arith, field-in (c .before .before .pre .1 .0) (c .if1 .left))
 
 reserved-field-cast-result : (t : ℕ)
     → reserved-field-lts.Need-cast-result (callees t) (reserved-field-at t) reserved-field.Post
@@ -69,7 +51,8 @@ reserved-field-add-result t c =
 
 reserved-field-returns-2 : (t : ℕ)
     → reserved-field-lts.Need-returns-2 (callees t) (reserved-field-at t) reserved-field.Post
-reserved-field-returns-2 t c = free-here _ refl (c .before .before .if1 .left) (inl (c .if2 .taken))
+reserved-field-returns-2 t c =
+    free-here _ refl (c .before .before .if1 .left) (c .before .field-name .ensures) (inl (c .if2 .taken))
 
 reserved-field-cast-result-2 : (t : ℕ)
     → reserved-field-lts.Need-cast-result-2 (callees t) (reserved-field-at t) reserved-field.Post
@@ -85,7 +68,9 @@ reserved-field-add-result-2 t c =
 
 reserved-field-returns-3 : (t : ℕ)
     → reserved-field-lts.Need-returns-3 (callees t) (reserved-field-at t) reserved-field.Post
-reserved-field-returns-3 t c = free-here _ refl (c .before .before .before .if1 .left) (inr (c .if3 .taken))
+reserved-field-returns-3 t c =
+    free-here _ refl (c .before .before .before .if1 .left) (c .before .before .field-name .ensures)
+    (inr (c .if3 .taken))
 
 reserved-field-add-reserved-field : (t : ℕ)
     → reserved-field-lts.Need-add-reserved-field (callees t) (reserved-field-at t) reserved-field.Post
@@ -108,15 +93,15 @@ reserved-field-reserved-field-requires t c κs =
 reserved-field-returns-4 : (t : ℕ)
     → reserved-field-lts.Need-returns-4 (callees t) (reserved-field-at t) reserved-field.Post
 reserved-field-returns-4 t c =
-    let the-if1 = c .before .before .before .before .if1 in
-    free-step (the-if1 .left) (c .before .before .if2 .left) (c .before .if3 .left)
-    (c .reserved-field .ensures)
+    let at-if1 = c .before .before .before .before in
+    free-step (at-if1 .if1 .left) (c .before .before .before .field-name .ensures)
+    (c .before .before .if2 .left)
+    (c .before .if3 .left) (c .reserved-field .ensures)
 
 pub +reserved-field-spec : {M : Type 1} → statement M
 +reserved-field-spec = close μ-reserved-field λ t.
     reserved-field-lts.spec (callees t) (reserved-field-at t) reserved-field.Post
-    (reserved-field-returns t) (reserved-field-mul-name t) (reserved-field-add-name t)
-    (reserved-field-mul-name-2 t) (reserved-field-shared-slice-read-name t) (reserved-field-cast-result t)
+    (reserved-field-returns t) (reserved-field-field-name-requires t) (reserved-field-cast-result t)
     (reserved-field-add-result t) (reserved-field-returns-2 t) (reserved-field-cast-result-2 t)
     (reserved-field-add-result-2 t) (reserved-field-returns-3 t) (reserved-field-add-reserved-field t)
     (reserved-field-sub-reserved-field t) (reserved-field-reserved-field-requires t)

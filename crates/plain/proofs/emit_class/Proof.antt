@@ -1,24 +1,16 @@
 use native.Mathlib.Omega.{arith}
-use mathlib.Core.Path.{refl}
-use Rattle.plain.proofs.Classes.{class-known, class-fields, class-some, class-done}
+use Rattle.plain.proofs.Classes.{class-known, class-run, class-fields, class-some, class-done}
 use borrow.Author.Needs.{needs}
 use Rattle.plain.proofs.emit_class.Statement.{statement}
 use Rattle.plain.proofs.emit_class.Tie as tie
 
-mul-t12 : tie.Need-mul-t12
-mul-t12 c = search needs
+second-requires : tie.Need-second-requires
+second-requires c κs = omega (arith, class-known (c .before .before .before .before .before .pre) .0)
 
-add-t13 : tie.Need-add-t13
-add-t13 c = search needs
-
-mul-t14 : tie.Need-mul-t14
-mul-t14 c = search needs
-
-shared-slice-read-t16 : tie.Need-shared-slice-read-t16
-shared-slice-read-t16 c = search needs
-
-add-t17 : tie.Need-add-t17
-add-t17 c = omega (arith, class-known (c .before .before .before .before .before .before .pre) .2)
+add-t14 : tie.Need-add-t14
+add-t14 c =
+    let start = c .before .before .before .before .before .before in
+    omega (arith, class-known (start .pre) .2, c .second .ensures)
 
 slice-aggregate-put : tie.Need-slice-aggregate-put
 slice-aggregate-put c = search needs
@@ -28,67 +20,63 @@ put-requires c κs =
     let start = c .before .before .before .before .before .before .before .before in
     omega (arith, class-known (start .pre) .3)
 
-add-skip : tie.Need-add-skip
-add-skip c = search needs
+add-fields : tie.Need-add-fields
+add-fields c =
+    let start = c .before .before .before .before .before .before .before .before .before .before .before in
+    omega (arith, class-known (start .pre) .1)
 
-skip-requires : tie.Need-skip-requires
-skip-requires c κs = search needs
-
-add-put-fields : tie.Need-add-put-fields
-add-put-fields c = search needs
-
-sub-put-fields : tie.Need-sub-put-fields
-sub-put-fields c = search needs
-
-sub-put-fields-2 : tie.Need-sub-put-fields-2
-sub-put-fields-2 c = search needs
+count-rows-requires : tie.Need-count-rows-requires
+count-rows-requires c κs =
+    let start = c .before .before .before .before .before .before .before .before .before .before .before in
+    class-run (start .pre)
 
 put-fields-requires : tie.Need-put-fields-requires
 put-fields-requires c κs =
-    let start = c .before .before .before .before .before .before .before .before .before .before .before
-    .before .before in
-    let the-put = c .before .before .before .before .put in
-    let d = class-fields (start .pre) _ _ _ (c .before .skip .ensures) refl (the-put .ensures .ended) in
+    let at-put = c .before .before .before .before in
+    let start = at-put .before .before .before .before .before .before .before .before .before in
+    let d = class-fields (c .before .count-rows .ensures) (start .pre) _ (at-put .put .ensures .ended) in
     (d .0, d .1)
+
+add-emit-methods : tie.Need-add-emit-methods
+add-emit-methods c =
+    let at-count-rows = c .before .before .before .before .before in
+    let start = at-count-rows .before .before .before .before .before .before .before .before .before .before
+    .before .before in
+    omega (arith, at-count-rows .count-rows .ensures .inside, start .pre .task .lent .short)
 
 emit-methods-requires : tie.Need-emit-methods-requires
 emit-methods-requires c κs =
-    let start = c .before .before .before .before .before .before .before .before .before .before .before
-    .before .before .before .before .before .before in
-    let the-put = c .before .before .before .before .before .before .before .before .put in
-    let the-skip = c .before .before .before .before .before .skip in
-    class-some (the-skip .ensures) refl (the-put .ensures) (c .before .before .before .put-fields .ensures)
-    (start .pre)
+    let at-count-rows = c .before .before .before .before .before in
+    let at-put = at-count-rows .before .before .before in
+    let start = at-put .before .before .before .before .before .before .before .before .before in
+    class-some (at-count-rows .count-rows .ensures) (at-put .put .ensures)
+    (c .before .before .before .put-fields .ensures) (start .pre)
 
 same-length : tie.Need-same-length
 same-length c = search needs
 
 returns : tie.Need-returns
 returns c =
-    let the-put = c .before .before .before .before .before .before .before .before .before .before
-    .before .put in
-    let the-skip = c .before .before .before .before .before .before .before .before .skip in
-    let the-put-fields = c .before .before .before .before .before .before .put-fields in
-    class-done (the-skip .ensures) refl (the-put .ensures) (the-put-fields .ensures) refl
-    (c .before .before .emit-methods .ensures)
+    let at-put-fields = c .before .before .before .before .before .before in
+    let at-count-rows = at-put-fields .before .before in
+    let at-put = at-count-rows .before .before .before in
+    let at-second = at-put .before .before .before in
+    class-done (at-count-rows .count-rows .ensures) (at-put .put .ensures)
+    (at-put-fields .put-fields .ensures)
+    (omega (arith, at-second .second .ensures)) (c .before .before .emit-methods .ensures)
 
 pub emit-class-spec : {M : Type 1} → statement M
 emit-class-spec =
     tie.close
     (tie.spec
-    mul-t12
-    add-t13
-    mul-t14
-    shared-slice-read-t16
-    add-t17
+    second-requires
+    add-t14
     slice-aggregate-put
     put-requires
-    add-skip
-    skip-requires
-    add-put-fields
-    sub-put-fields
-    sub-put-fields-2
+    add-fields
+    count-rows-requires
     put-fields-requires
+    add-emit-methods
     emit-methods-requires
     same-length
     returns)

@@ -4,32 +4,14 @@ use borrow.Author.Needs.{needs}
 use Rattle.plain.proofs.emit_method.Statement.{statement}
 use Rattle.plain.proofs.emit_method.Tie as tie
 
-mul-plain-type : tie.Need-mul-plain-type
-mul-plain-type c = search needs
-
-add-plain-type : tie.Need-add-plain-type
-add-plain-type c = search needs
-
-mul-plain-type-2 : tie.Need-mul-plain-type-2
-mul-plain-type-2 c = search needs
-
-shared-slice-read-plain-type : tie.Need-shared-slice-read-plain-type
-shared-slice-read-plain-type c = search needs
+first-requires : tie.Need-first-requires
+first-requires c κs = search needs
 
 plain-type-requires : tie.Need-plain-type-requires
 plain-type-requires c κs = search needs
 
-mul-t14 : tie.Need-mul-t14
-mul-t14 c = search needs
-
-add-t15 : tie.Need-add-t15
-add-t15 c = search needs
-
-mul-t16 : tie.Need-mul-t16
-mul-t16 c = search needs
-
-shared-slice-read-t18 : tie.Need-shared-slice-read-t18
-shared-slice-read-t18 c = search needs
+second-requires : tie.Need-second-requires
+second-requires c κs = search needs
 
 slice-aggregate-put : tie.Need-slice-aggregate-put
 slice-aggregate-put c = search needs
@@ -52,38 +34,32 @@ put-types-requires c κs =
 
 emit-body-requires : tie.Need-emit-body-requires
 emit-body-requires c κs =
-    let start = c .before .before .before .before .before .before .before .before .before .before .before
-    .before .before .before .before .before .before .before in
-    let the-put = c .before .before .before .before .before .before .before .put in
+    let at-put = c .before .before .before .before .before .before .before in
+    let start = at-put .before .before .before .before .before .before .before .before .before .before
+    .before in
     method-body (start .pre) _
-    (method-ended (start .pre) (the-put .ensures) (c .before .before .before .put-types .ensures))
+    (method-ended (start .pre) (at-put .put .ensures) (c .before .before .before .put-types .ensures))
 
 same-length : tie.Need-same-length
 same-length c = search needs
 
 returns : tie.Need-returns
 returns c =
-    let the-plain-type =
-    c .before .before .before .before .before .before .before .before .before .before .before .before .before
-    .before .plain-type in
-    let the-put = c .before .before .before .before .before .before .before .before .before .before .put in
-    let the-put-types = c .before .before .before .before .before .before .put-types in
-    method-done (the-plain-type .ensures) (the-put .ensures) (the-put-types .ensures)
-    (c .before .before .emit-body .ensures)
+    let at-put-types = c .before .before .before .before .before .before in
+    let at-put = at-put-types .before .before .before .before in
+    let at-second = at-put .before .before .before in
+    let at-plain-type = at-second .before in
+    let at-first = at-plain-type .before in
+    method-done (at-first .first .ensures) (at-plain-type .plain-type .ensures) (at-second .second .ensures)
+    (at-put .put .ensures) (at-put-types .put-types .ensures) (c .before .before .emit-body .ensures)
 
 pub emit-method-spec : {M : Type 1} → statement M
 emit-method-spec =
     tie.close
     (tie.spec
-    mul-plain-type
-    add-plain-type
-    mul-plain-type-2
-    shared-slice-read-plain-type
+    first-requires
     plain-type-requires
-    mul-t14
-    add-t15
-    mul-t16
-    shared-slice-read-t18
+    second-requires
     slice-aggregate-put
     put-requires
     add-put-types

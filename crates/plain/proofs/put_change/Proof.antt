@@ -8,35 +8,20 @@ use borrow.Author.Needs.{needs}
 use Rattle.plain.proofs.put_change.Statement.{statement}
 use Rattle.plain.proofs.put_change.Tie as tie
 
-mul-root : tie.Need-mul-root
-mul-root c = omega (arith, change-root (c .before .before .before .pre .0) .0)
-
-add-root : tie.Need-add-root
-add-root c = omega (arith, change-root (c .before .before .before .pre .0) .0)
-
-mul-root-2 : tie.Need-mul-root-2
-mul-root-2 c = omega (arith, change-root (c .before .before .before .pre .0) .0)
-
-shared-slice-read-root : tie.Need-shared-slice-read-root
-shared-slice-read-root c = omega (arith, change-root (c .before .before .before .before .pre .0) .0)
-
-cast-root : tie.Need-cast-root
-cast-root c =
-    let start = c .before .before .before .before in
-    omega (arith, c .shared-slice-known3 .given (start .args .target * 576 + 514))
-
-cast-r : tie.Need-cast-r
-cast-r c =
-    let start = c .before .before .before .before in
-    omega (arith, c .shared-slice-known3 .given (start .args .target * 576 + 514))
+class-entry-requires : tie.Need-class-entry-requires
+class-entry-requires c κs = omega (arith, change-root (c .before .before .before .pre .0) .0)
 
 add-r : tie.Need-add-r
 add-r c =
     let start = c .before .before .before .before in
-    omega (arith, c .shared-slice-known3 .given (start .args .target * 576 + 514))
+    omega (
+      arith,
+      c .class-entry .ensures,
+      c .before .before .shared-slice-known2 .given (start .args .target * 576 + 514),
+    )
 
-add-t27 : tie.Need-add-t27
-add-t27 c = search needs
+add-t20 : tie.Need-add-t20
+add-t20 c = search needs
 
 slice-aggregate-put : tie.Need-slice-aggregate-put
 slice-aggregate-put c = search needs
@@ -48,16 +33,21 @@ put-requires c κs =
 
 put-renew-requires : tie.Need-put-renew-requires
 put-renew-requires c κs =
-    let start = c .before .before .before .before .before .before .before .before .before .before .before in
-    let the-shared-slice-known3 =
-    c .before .before .before .before .before .before .before .shared-slice-known3 in
-    let the-if1 = c .before .before .before .before .before .before .if1 in (
-      change-copies (start .pre .0) _ 28 (head-zero (the-if1 .taken))
-          (c .before .before .before .put .ensures .ended),
+    let at-if1 = c .before .before .before .before .before .before in
+    let at-class-entry = at-if1 .before in
+    let at-shared-slice-known2 = at-class-entry .before .before in
+    let start = at-shared-slice-known2 .before .before in (
+      change-copies (at-class-entry .class-entry .ensures) (start .pre .0) _ 28
+          (head-zero (at-if1 .if1 .taken)) (c .before .before .before .put .ensures .ended),
       (
         start .pre .1 .0,
         start .pre .1 .1,
-        omega (arith, the-shared-slice-known3 .given (start .args .target * 576 + 514)),
+        omega (
+          arith,
+          at-class-entry .class-entry .ensures,
+          at-shared-slice-known2 .shared-slice-known2 .given
+              (start .args .target * 576 + 514),
+        ),
       ),
     )
 
@@ -66,35 +56,32 @@ slice-aggregate-put-2 c = search needs
 
 put-requires-2 : tie.Need-put-requires-2
 put-requires-2 c κs =
-    let start = c .before .before .before .before .before .before .before .before .before .before .before
-    .before .before .before .before .before in
-    let the-if1 = c .before .before .before .before .before .before .before .before .before .before
-    .before .if1 in
-    let the-put = c .before .before .before .before .before .before .before .before .put in
-    let the-put-renew = c .before .before .before .before .put-renew in
-    change-after (start .pre .0) (head-zero (the-if1 .taken)) (the-put .ensures .ended)
-    (the-put-renew .ensures)
+    let at-put-renew = c .before .before .before .before in
+    let at-put = at-put-renew .before .before .before .before in
+    let at-if1 = at-put .before .before .before in
+    let at-class-entry = at-if1 .before in
+    let start = at-class-entry .before .before .before .before in
+    change-after (at-class-entry .class-entry .ensures) (start .pre .0) (head-zero (at-if1 .if1 .taken))
+    (at-put .put .ensures .ended) (at-put-renew .put-renew .ensures)
 
 same-length : tie.Need-same-length
 same-length c =
-    let the-put = c .before .before .before .before .before .before .before .before .before .before
-    .before .put in
-    let the-put-renew = c .before .before .before .before .before .before .before .put-renew in
-    written-long (c .before .before .put2 .ensures) ∙ the-put-renew .kept .1 .1 .0
-    ∙ written-long (the-put .ensures)
+    let at-put-renew = c .before .before .before .before .before .before .before in
+    let at-put = at-put-renew .before .before .before .before in
+    written-long (c .before .before .put2 .ensures) ∙ at-put-renew .put-renew .kept .1 .1 .0
+    ∙ written-long (at-put .put .ensures)
 
 returns : tie.Need-returns
 returns c =
-    let the-if1 = c .before .before .before .before .before .before .before .before .before .before .before
-    .before .before .before .if1 in
-    let the-put = c .before .before .before .before .before .before .before .before .before .before
-    .before .put in
-    let the-put-renew = c .before .before .before .before .before .before .before .put-renew in
-    change-done _ (change-this _ _ _ (the-if1 .taken)) (the-put .ensures) (the-put-renew .ensures)
-    (c .before .before .put2 .ensures)
+    let at-put-renew = c .before .before .before .before .before .before .before in
+    let at-put = at-put-renew .before .before .before .before in
+    let at-if1 = at-put .before .before .before in
+    let at-class-entry = at-if1 .before in
+    change-done (at-class-entry .class-entry .ensures) _ (change-this _ _ _ (at-if1 .if1 .taken))
+    (at-put .put .ensures) (at-put-renew .put-renew .ensures) (c .before .before .put2 .ensures)
 
-add-t25 : tie.Need-add-t25
-add-t25 c = search needs
+add-t31 : tie.Need-add-t31
+add-t31 c = search needs
 
 slice-aggregate-put-3 : tie.Need-slice-aggregate-put-3
 slice-aggregate-put-3 c = search needs
@@ -106,16 +93,21 @@ put-requires-3 c κs =
 
 put-renew-requires-2 : tie.Need-put-renew-requires-2
 put-renew-requires-2 c κs =
-    let start = c .before .before .before .before .before .before .before .before .before .before .before in
-    let the-shared-slice-known3 =
-    c .before .before .before .before .before .before .before .shared-slice-known3 in
-    let the-if1 = c .before .before .before .before .before .before .if1 in (
-      change-copies (start .pre .0) _ 36 (head-other (the-if1 .left))
-          (c .before .before .before .put3 .ensures .ended),
+    let at-if1 = c .before .before .before .before .before .before in
+    let at-class-entry = at-if1 .before in
+    let at-shared-slice-known2 = at-class-entry .before .before in
+    let start = at-shared-slice-known2 .before .before in (
+      change-copies (at-class-entry .class-entry .ensures) (start .pre .0) _ 36
+          (head-other (at-if1 .if1 .left)) (c .before .before .before .put3 .ensures .ended),
       (
         start .pre .1 .0,
         start .pre .1 .1,
-        omega (arith, the-shared-slice-known3 .given (start .args .target * 576 + 514)),
+        omega (
+          arith,
+          at-class-entry .class-entry .ensures,
+          at-shared-slice-known2 .shared-slice-known2 .given
+              (start .args .target * 576 + 514),
+        ),
       ),
     )
 
@@ -124,45 +116,37 @@ slice-aggregate-put-4 c = search needs
 
 put-requires-4 : tie.Need-put-requires-4
 put-requires-4 c κs =
-    let start = c .before .before .before .before .before .before .before .before .before .before .before
-    .before .before .before .before .before in
-    let the-if1 = c .before .before .before .before .before .before .before .before .before .before
-    .before .if1 in
-    let the-put3 = c .before .before .before .before .before .before .before .before .put3 in
-    let the-put-renew2 = c .before .before .before .before .put-renew2 in
-    change-after (start .pre .0) (head-other (the-if1 .left)) (the-put3 .ensures .ended)
-    (the-put-renew2 .ensures)
+    let at-put-renew2 = c .before .before .before .before in
+    let at-put3 = at-put-renew2 .before .before .before .before in
+    let at-if1 = at-put3 .before .before .before in
+    let at-class-entry = at-if1 .before in
+    let start = at-class-entry .before .before .before .before in
+    change-after (at-class-entry .class-entry .ensures) (start .pre .0) (head-other (at-if1 .if1 .left))
+    (at-put3 .put3 .ensures .ended) (at-put-renew2 .put-renew2 .ensures)
 
 same-length-2 : tie.Need-same-length-2
 same-length-2 c =
-    let the-put3 = c .before .before .before .before .before .before .before .before .before .before
-    .before .put3 in
-    let the-put-renew2 = c .before .before .before .before .before .before .before .put-renew2 in
-    written-long (c .before .before .put4 .ensures) ∙ the-put-renew2 .kept .1 .1 .0
-    ∙ written-long (the-put3 .ensures)
+    let at-put-renew2 = c .before .before .before .before .before .before .before in
+    let at-put3 = at-put-renew2 .before .before .before .before in
+    written-long (c .before .before .put4 .ensures) ∙ at-put-renew2 .put-renew2 .kept .1 .1 .0
+    ∙ written-long (at-put3 .put3 .ensures)
 
 returns-2 : tie.Need-returns-2
 returns-2 c =
-    let the-if1 = c .before .before .before .before .before .before .before .before .before .before .before
-    .before .before .before .if1 in
-    let the-put3 = c .before .before .before .before .before .before .before .before .before .before
-    .before .put3 in
-    let the-put-renew2 = c .before .before .before .before .before .before .before .put-renew2 in
-    change-done _ (change-other _ _ _ (the-if1 .left)) (the-put3 .ensures) (the-put-renew2 .ensures)
-    (c .before .before .put4 .ensures)
+    let at-put-renew2 = c .before .before .before .before .before .before .before in
+    let at-put3 = at-put-renew2 .before .before .before .before in
+    let at-if1 = at-put3 .before .before .before in
+    let at-class-entry = at-if1 .before in
+    change-done (at-class-entry .class-entry .ensures) _ (change-other _ _ _ (at-if1 .if1 .left))
+    (at-put3 .put3 .ensures) (at-put-renew2 .put-renew2 .ensures) (c .before .before .put4 .ensures)
 
 pub put-change-spec : {M : Type 1} → statement M
 put-change-spec =
     tie.close
     (tie.spec
-    mul-root
-    add-root
-    mul-root-2
-    shared-slice-read-root
-    cast-root
-    cast-r
+    class-entry-requires
     add-r
-    add-t27
+    add-t20
     slice-aggregate-put
     put-requires
     put-renew-requires
@@ -170,7 +154,7 @@ put-change-spec =
     put-requires-2
     same-length
     returns
-    add-t25
+    add-t31
     slice-aggregate-put-3
     put-requires-3
     put-renew-requires-2

@@ -1,5 +1,5 @@
 use Rattle.plain.proofs.Writing.{written-long}
-use Rattle.plain.proofs.Renewing.{renew-known, renew-fields, copies-ended, renew-done}
+use Rattle.plain.proofs.Renewing.{renew-in, renew-known, renew-fields, copies-ended, renew-done}
 use mathlib.Core.Path.{_∙_}
 use native.Mathlib.Omega.{arith}
 use borrow.Author.Needs.{needs}
@@ -9,63 +9,55 @@ use Rattle.plain.proofs.put_renew.Tie as tie
 add-o : tie.Need-add-o
 add-o c = omega (arith, c .before .before .before .pre .1 .0)
 
-mul-count : tie.Need-mul-count
-mul-count c = omega (arith, renew-known (c .before .before .before .pre .0) .0)
+class-entry-requires : tie.Need-class-entry-requires
+class-entry-requires c κs = omega (arith, renew-in (c .before .before .before .pre .0))
 
-add-count : tie.Need-add-count
-add-count c = omega (arith, renew-known (c .before .before .before .pre .0) .0)
+add-t15 : tie.Need-add-t15
+add-t15 c =
+    let start = c .before .before .before .before in
+    omega (arith, renew-known (c .class-entry .ensures) (start .pre .0) .0)
 
-mul-count-2 : tie.Need-mul-count-2
-mul-count-2 c = omega (arith, renew-known (c .before .before .before .pre .0) .0)
+add-t16 : tie.Need-add-t16
+add-t16 c = search needs
 
-shared-slice-read-count : tie.Need-shared-slice-read-count
-shared-slice-read-count c = omega (arith, renew-known (c .before .before .before .before .pre .0) .0)
+add-t17 : tie.Need-add-t17
+add-t17 c = search needs
 
-cast-t20 : tie.Need-cast-t20
-cast-t20 c = omega (arith, renew-known (c .before .before .before .before .pre .0) .1)
-
-add-t21 : tie.Need-add-t21
-add-t21 c = omega (arith, renew-known (c .before .before .before .before .pre .0) .1)
-
-add-t22 : tie.Need-add-t22
-add-t22 c = search needs
-
-add-t23 : tie.Need-add-t23
-add-t23 c = search needs
-
-cast-t24 : tie.Need-cast-t24
-cast-t24 c = search needs
-
-add-t25 : tie.Need-add-t25
-add-t25 c = search needs
+add-t18 : tie.Need-add-t18
+add-t18 c = search needs
 
 slice-aggregate-put : tie.Need-slice-aggregate-put
 slice-aggregate-put c = search needs
 
 put-requires : tie.Need-put-requires
-put-requires c κs = omega (arith, renew-known (c .before .before .before .before .before .before .pre .0) .2)
+put-requires c κs =
+    let start = c .before .before .before .before .before .before in
+    omega (arith, renew-known (c .before .before .class-entry .ensures) (start .pre .0) .1)
 
 mul-put-copies : tie.Need-mul-put-copies
 mul-put-copies c =
     let start = c .before .before .before .before .before .before .before .before .before .before in
-    omega (arith, renew-known (start .pre .0) .0)
+    omega (arith, renew-in (start .pre .0))
 
 add-put-copies : tie.Need-add-put-copies
 add-put-copies c =
     let start = c .before .before .before .before .before .before .before .before .before .before in
-    omega (arith, renew-known (start .pre .0) .0)
+    omega (arith, renew-in (start .pre .0))
 
 cast-put-copies : tie.Need-cast-put-copies
-cast-put-copies c =
-    let start = c .before .before .before .before .before .before .before .before .before .before in
-    omega (arith, renew-known (start .pre .0) .1)
+cast-put-copies c = search needs
 
 put-copies-requires : tie.Need-put-copies-requires
 put-copies-requires c κs =
-    let start = c .before .before .before .before .before .before .before .before .before .before in (
-      renew-fields (start .pre .0),
+    let at-class-entry = c .before .before .before .before .before .before in
+    let start = at-class-entry .before .before .before .before in (
+      renew-fields (at-class-entry .class-entry .ensures) (start .pre .0),
       (
-        omega (arith, renew-known (start .pre .0) .2, c .before .before .before .put .ensures .ended),
+        omega (
+          arith,
+          renew-known (at-class-entry .class-entry .ensures) (start .pre .0) .1,
+          c .before .before .before .put .ensures .ended,
+        ),
         omega (arith, start .pre .1 .0),
       ),
     )
@@ -75,47 +67,44 @@ slice-aggregate-put-2 c = search needs
 
 put-requires-2 : tie.Need-put-requires-2
 put-requires-2 c κs =
-    let start = c .before .before .before .before .before .before .before .before .before .before .before
-    .before .before .before .before in
-    let the-put = c .before .before .before .before .before .before .before .before .put in
-    let the-put-copies = c .before .before .before .before .put-copies in
+    let at-put-copies = c .before .before .before .before in
+    let at-put = at-put-copies .before .before .before .before in
+    let at-class-entry = at-put .before .before .before in
+    let start = at-class-entry .before .before .before .before in
     omega (
       arith,
-      renew-known (start .pre .0) .2,
-      the-put .ensures .ended,
-      copies-ended (start .pre .0) (the-put-copies .ensures),
+      renew-known (at-class-entry .class-entry .ensures)
+          (start .pre .0) .1,
+      at-put .put .ensures .ended,
+      copies-ended (at-class-entry .class-entry .ensures) (start .pre .0)
+          (at-put-copies .put-copies .ensures),
     )
 
 same-length : tie.Need-same-length
 same-length c =
-    let the-put = c .before .before .before .before .before .before .before .before .before .before
-    .before .put in
-    let the-put-copies = c .before .before .before .before .before .before .before .put-copies in
-    written-long (c .before .before .put2 .ensures) ∙ the-put-copies .kept .1 .1 .0
-    ∙ written-long (the-put .ensures)
+    let at-put-copies = c .before .before .before .before .before .before .before in
+    let at-put = at-put-copies .before .before .before .before in
+    written-long (c .before .before .put2 .ensures) ∙ at-put-copies .put-copies .kept .1 .1 .0
+    ∙ written-long (at-put .put .ensures)
 
 returns : tie.Need-returns
 returns c =
-    let the-put = c .before .before .before .before .before .before .before .before .before .before
-    .before .put in
-    let the-put-copies = c .before .before .before .before .before .before .before .put-copies in
-    renew-done (the-put .ensures) (the-put-copies .ensures) (c .before .before .put2 .ensures)
+    let at-put-copies = c .before .before .before .before .before .before .before in
+    let at-put = at-put-copies .before .before .before .before in
+    let at-class-entry = at-put .before .before .before in
+    renew-done (at-class-entry .class-entry .ensures) (at-put .put .ensures)
+    (at-put-copies .put-copies .ensures) (c .before .before .put2 .ensures)
 
 pub put-renew-spec : {M : Type 1} → statement M
 put-renew-spec =
     tie.close
     (tie.spec
     add-o
-    mul-count
-    add-count
-    mul-count-2
-    shared-slice-read-count
-    cast-t20
-    add-t21
-    add-t22
-    add-t23
-    cast-t24
-    add-t25
+    class-entry-requires
+    add-t15
+    add-t16
+    add-t17
+    add-t18
     slice-aggregate-put
     put-requires
     mul-put-copies

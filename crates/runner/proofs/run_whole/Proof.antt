@@ -13,14 +13,10 @@ enum-known-formed c = search needs
 
 run-classes-requires : tie.Need-run-classes-requires
 run-classes-requires c κs =
-    let at-formed = c .before .before .before .before .before in
+    let at-formed = c .before .before .before .before in
     let at-check-form = at-formed .before .before .before .before in
-    let start = at-check-form .before .before .before .before .before .before .before in (
-      stands (start .args .rows .now) (start .pre .0 .whole) (start .args .ends .now) _ _ _ _
-          (at-formed .formed .given .1)
-          (at-check-form .check-form .ensures .0) (at-check-form .check-form .ensures .1),
-      (room-kept (start .pre .0) (at-check-form .check-form .kept .1 .0), start .pre .1),
-    )
+    let start = at-check-form .before .before .before .before .before .before in
+    (stands (start .args .rows .now) (start .pre .0 .whole) (start .args .ends .now) _ _ _ _ (at-formed .formed .given .1) (at-check-form .check-form .ensures .0) (at-check-form .check-form .ensures .1), (room-kept (start .pre .0) (at-check-form .check-form .kept .1 .0), start .pre .1))
 
 enum-known-formed-2 : tie.Need-enum-known-formed-2
 enum-known-formed-2 c = search needs
@@ -34,22 +30,17 @@ same-length-2 c = search needs
 same-length-3 : tie.Need-same-length-3
 same-length-3 c = search needs
 
-same-length-4 : tie.Need-same-length-4
-same-length-4 c = search needs
-
 returns : tie.Need-returns
 returns c = search needs
 
-same-length-5 : tie.Need-same-length-5
-same-length-5 c = search needs
+same-length-4 : tie.Need-same-length-4
+same-length-4 c = search needs
 
 returns-2 : tie.Need-returns-2
 returns-2 c =
     let at-check-form = c .before .before .before .before .before in
-    let start = at-check-form .before .before .before .before .before .before .before in
-    check-refuses (start .args .rows .now) (start .args .store .now) (start .args .fuel) _ _ (start .pre .1)
-    (not-in-form (start .args .rows .now) (start .pre .0 .whole) _ _ _ (c .before .formed2 .given .1)
-    (at-check-form .check-form .ensures .0))
+    let start = at-check-form .before .before .before .before .before .before in
+    check-refuses (start .args .rows .now) (start .args .store .now) (start .args .fuel) _ _ (start .pre .1) (not-in-form (start .args .rows .now) (start .pre .0 .whole) _ _ _ (c .before .formed2 .given .1) (at-check-form .check-form .ensures .0))
 
 pub run-whole-spec : {M : Type 1} → statement M
 run-whole-spec =
@@ -62,7 +53,6 @@ run-whole-spec =
     same-length
     same-length-2
     same-length-3
-    same-length-4
     returns
-    same-length-5
+    same-length-4
     returns-2)

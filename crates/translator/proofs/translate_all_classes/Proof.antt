@@ -14,14 +14,8 @@ slice-aggregate-translate-formed-2 c = search needs
 
 translate-formed-requires : tie.Need-translate-formed-requires
 translate-formed-requires c κs =
-    let start = c .before .before .before .before .before .before .before .before .before .before .before
-    .before in (
-      start .pre .0,
-      (
-        start .pre .1 .0,
-        (start .pre .1 .1, all-classes (replicate 65 0) (start .pre .0) (replicate-long 65)),
-      ),
-    )
+    let start = c .before .before .before .before .before .before .before .before .before .before in
+    (start .pre .0, (start .pre .1 .0, (start .pre .1 .1, all-classes (replicate 65 0) (start .pre .0) (replicate-long 65))))
 
 same-length : tie.Need-same-length
 same-length c = search needs
@@ -31,9 +25,6 @@ same-length-2 c = search needs
 
 same-length-3 : tie.Need-same-length-3
 same-length-3 c = search needs
-
-same-length-4 : tie.Need-same-length-4
-same-length-4 c = search needs
 
 returns : tie.Need-returns
 returns c = search needs
@@ -48,5 +39,4 @@ translate-all-classes-spec =
     same-length
     same-length-2
     same-length-3
-    same-length-4
     returns)

@@ -5,9 +5,8 @@ use Rattle.translator.proofs.translate_classes.Tie as tie
 
 translate-few-classes-requires : tie.Need-translate-few-classes-requires
 translate-few-classes-requires c κs =
-    let at-if1 = c .before .before .before .before in
-    let start = at-if1 .before .before .before .before .before .before .before in
-    (start .pre .0, (start .pre .1 .0, (start .pre .1 .1, at-if1 .if1 .taken)))
+    let start = c .before .before .before .before .before .before .before .before .before in
+    (start .pre .0, (start .pre .1 .0, (start .pre .1 .1, c .before .before .before .if1 .taken)))
 
 same-length : tie.Need-same-length
 same-length c = search needs
@@ -18,26 +17,20 @@ same-length-2 c = search needs
 same-length-3 : tie.Need-same-length-3
 same-length-3 c = search needs
 
-same-length-4 : tie.Need-same-length-4
-same-length-4 c = search needs
-
 returns : tie.Need-returns
 returns c = search needs
 
 translate-all-classes-requires : tie.Need-translate-all-classes-requires
 translate-all-classes-requires c κs = search needs
 
+same-length-4 : tie.Need-same-length-4
+same-length-4 c = search needs
+
 same-length-5 : tie.Need-same-length-5
 same-length-5 c = search needs
 
 same-length-6 : tie.Need-same-length-6
 same-length-6 c = search needs
-
-same-length-7 : tie.Need-same-length-7
-same-length-7 c = search needs
-
-same-length-8 : tie.Need-same-length-8
-same-length-8 c = search needs
 
 returns-2 : tie.Need-returns-2
 returns-2 c = search needs
@@ -50,11 +43,9 @@ translate-classes-spec =
     same-length
     same-length-2
     same-length-3
-    same-length-4
     returns
     translate-all-classes-requires
+    same-length-4
     same-length-5
     same-length-6
-    same-length-7
-    same-length-8
     returns-2)

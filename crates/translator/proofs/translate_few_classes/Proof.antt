@@ -15,18 +15,8 @@ slice-aggregate-translate-formed-2 c = search needs
 
 translate-formed-requires : tie.Need-translate-formed-requires
 translate-formed-requires c κs =
-    let start = c .before .before .before .before .before .before .before .before .before .before .before
-    .before in (
-      start .pre .0,
-      (
-        start .pre .1 .0,
-        (
-          start .pre .1 .1 .0,
-          few-classes (replicate 8 0) (start .pre .1 .1 .1)
-              (omega (arith, start .pre .1 .1 .1, replicate-long 8)),
-        ),
-      ),
-    )
+    let start = c .before .before .before .before .before .before .before .before .before .before in
+    (start .pre .0, (start .pre .1 .0, (start .pre .1 .1 .0, few-classes (replicate 8 0) (start .pre .1 .1 .1) (omega (arith, start .pre .1 .1 .1, replicate-long 8)))))
 
 same-length : tie.Need-same-length
 same-length c = search needs
@@ -36,9 +26,6 @@ same-length-2 c = search needs
 
 same-length-3 : tie.Need-same-length-3
 same-length-3 c = search needs
-
-same-length-4 : tie.Need-same-length-4
-same-length-4 c = search needs
 
 returns : tie.Need-returns
 returns c = search needs
@@ -53,5 +40,4 @@ translate-few-classes-spec =
     same-length
     same-length-2
     same-length-3
-    same-length-4
     returns)

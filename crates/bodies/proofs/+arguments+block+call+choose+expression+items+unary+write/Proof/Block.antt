@@ -1,7 +1,8 @@
 -- What the borrow checker leaves of `block`.
 use native.Mathlib.Omega.{arith}
 use mathlib.Core.Path.{sym, _∙_}
-use Prim.Native.Nat.{ℕ, _+_, _*_}
+use Prim.Native.Nat.{ℕ}
+use borrow.Author.Needs.{needs}
 use Rattle.bodies.proofs.Turns.{in-row}
 use Rattle.bodies.proofs.TurnsBlocks.{block-open-pre, block-fail, block-items-pre}
 use Rattle.bodies.proofs.TurnsBlocks.{block-done}
@@ -10,11 +11,17 @@ use Rattle.bodies.proofs.+arguments+block+call+choose+expression+items+
 use Rattle.bodies.proofs.items.Reads as items
 use Rattle.bodies.proofs.is_refusal.Reads as is-refusal-reads
 use Rattle.bodies.proofs.open.Reads as open-reads
+use Rattle.language.proofs.first.Reads as first-reads
+use Rattle.language.proofs.second.Reads as second-reads
 use Rattle.bodies.proofs.+arguments+block+call+choose+expression+items+unary+write.Proof.Base.{block-at, items-below}
 
 -- What its callees ask and give: those of the cycle below the measure t.
 abbrev callees : ℕ → block-lts.Claims
 callees t = (
+  first-reads.Asked,
+  first-reads.Learnt,
+  second-reads.Asked,
+  second-reads.Learnt,
   open-reads.Asked,
   open-reads.Learnt,
   is-refusal-reads.Asked,
@@ -23,60 +30,27 @@ callees t = (
   items.Post,
 )
 
-block-mul-v : (t : ℕ) → block-lts.Need-mul-v (callees t) (block-at t) block.Post
-block-mul-v t c =
+block-first-requires : (t : ℕ) → block-lts.Need-first-requires (callees t) (block-at t) block.Post
+block-first-requires t c κs =
     let start = c .before .before .before .before .before .before .before .before in
-    omega (arith, in-row (start .pre .1 .1) .3)
-
-block-add-v : (t : ℕ) → block-lts.Need-add-v (callees t) (block-at t) block.Post
-block-add-v t c =
-    let start = c .before .before .before .before .before .before .before .before in
-    omega (arith, in-row (start .pre .1 .1) .3)
-
-block-mul-v-2 : (t : ℕ) → block-lts.Need-mul-v-2 (callees t) (block-at t) block.Post
-block-mul-v-2 t c =
-    let start = c .before .before .before .before .before .before .before .before in
-    omega (arith, in-row (start .pre .1 .1) .3)
-
-block-shared-slice-read-v : (t : ℕ) → block-lts.Need-shared-slice-read-v (callees t) (block-at t) block.Post
-block-shared-slice-read-v t c =
-    let start = c .before .before .before .before .before .before .before .before .before in
     omega (arith, in-row (start .pre .1 .1) .0)
 
 block-cast-v : (t : ℕ) → block-lts.Need-cast-v (callees t) (block-at t) block.Post
-block-cast-v t c =
-    let start = c .before .before .before .before .before .before .before .before .before in
-    omega (arith, c .shared-slice-known7 .given (start .args .at * 4 + 1))
+block-cast-v t c = search needs
 
-block-mul-n : (t : ℕ) → block-lts.Need-mul-n (callees t) (block-at t) block.Post
-block-mul-n t c =
+block-second-requires : (t : ℕ) → block-lts.Need-second-requires (callees t) (block-at t) block.Post
+block-second-requires t c κs =
     let start = c .before .before .before .before .before .before .before .before .before in
-    omega (arith, in-row (start .pre .1 .1) .3)
-
-block-add-n : (t : ℕ) → block-lts.Need-add-n (callees t) (block-at t) block.Post
-block-add-n t c =
-    let start = c .before .before .before .before .before .before .before .before .before in
-    omega (arith, in-row (start .pre .1 .1) .3)
-
-block-mul-n-2 : (t : ℕ) → block-lts.Need-mul-n-2 (callees t) (block-at t) block.Post
-block-mul-n-2 t c =
-    let start = c .before .before .before .before .before .before .before .before .before in
-    omega (arith, in-row (start .pre .1 .1) .3)
-
-block-shared-slice-read-n : (t : ℕ) → block-lts.Need-shared-slice-read-n (callees t) (block-at t) block.Post
-block-shared-slice-read-n t c =
-    let start = c .before .before .before .before .before .before .before .before .before .before in
     omega (arith, in-row (start .pre .1 .1) .0)
 
 block-cast-n : (t : ℕ) → block-lts.Need-cast-n (callees t) (block-at t) block.Post
-block-cast-n t c =
-    let start = c .before .before .before .before .before .before .before .before .before .before in
-    omega (arith, c .shared-slice-known8 .given (start .args .at * 4 + 2))
+block-cast-n t c = search needs
 
 block-open-requires : (t : ℕ) → block-lts.Need-open-requires (callees t) (block-at t) block.Post
 block-open-requires t c κs =
     let start = c .before .before .before .before .before .before .before .before .before .before .before in
-    block-open-pre (start .pre .1 .1) (start .pre .1 .0)
+    block-open-pre (start .pre .1 .1) (start .pre .1 .0) _ _ (c .before .before .first .ensures)
+    (c .before .second .ensures)
 
 block-is-refusal-requires : (t : ℕ) → block-lts.Need-is-refusal-requires (callees t) (block-at t) block.Post
 block-is-refusal-requires t c κs = tt
@@ -86,18 +60,22 @@ block-same-length t c = c .before .before .before .before .«open» .kept .1 .0
 
 block-returns : (t : ℕ) → block-lts.Need-returns (callees t) (block-at t) block.Post
 block-returns t c =
-    let start = c .before .before .before .before .before .before .before .before .before .before .before
-    .before .before .before .before .before in
-    block-fail (start .pre .1 .1) (start .pre .1 .0) (c .before .before .before .before .«open» .ensures)
+    let at-second = c .before .before .before .before .before .before in
+    let at-first = at-second .before in
+    let start = at-first .before .before .before .before .before .before .before .before .before in
+    block-fail (start .pre .1 .1) (start .pre .1 .0) _ _ (at-first .first .ensures)
+    (at-second .second .ensures) (c .before .before .before .before .«open» .ensures)
     (sym (c .before .is-refusal .ensures) ∙ c .if1 .taken)
 
 block-add-size : (t : ℕ) → block-lts.Need-add-size (callees t) (block-at t) block.Post
 block-add-size t c =
-    let start = c .before .before .before .before .before .before .before .before .before .before .before
-    .before .before .before .before .before .before in
+    let at-second = c .before .before .before .before .before .before .before in
+    let at-first = at-second .before in
+    let start = at-first .before .before .before .before .before .before .before .before .before in
     omega (
       arith,
-      block-open-pre (start .pre .1 .1) (start .pre .1 .0) .slots,
+      block-open-pre (start .pre .1 .1) (start .pre .1 .0) _ _ (at-first .first .ensures)
+          (at-second .second .ensures) .slots,
       start .good .1 .1 .1 .1 .1 .1 .0 .1,
     )
 
@@ -109,17 +87,25 @@ block-add-items t c =
 
 block-add-items-2 : (t : ℕ) → block-lts.Need-add-items-2 (callees t) (block-at t) block.Post
 block-add-items-2 t c =
-    let start = c .before .before .before .before .before .before .before .before .before .before .before
-    .before .before .before .before .before .before .before .before in
-    omega (arith, in-row (start .pre .1 .1) .3, block-open-pre (start .pre .1 .1) (start .pre .1 .0) .low)
+    let at-second = c .before .before .before .before .before .before .before .before .before in
+    let at-first = at-second .before in
+    let start = at-first .before .before .before .before .before .before .before .before .before in
+    omega (
+      arith,
+      in-row (start .pre .1 .1) .3,
+      block-open-pre (start .pre .1 .1) (start .pre .1 .0) _ _ (at-first .first .ensures)
+          (at-second .second .ensures) .low,
+    )
 
 block-items-requires : (t : ℕ) → block-lts.Need-items-requires (callees t) (block-at t) block.Post
 block-items-requires t c κs =
     let at-is-refusal = c .before .before .before .before in
-    let start = at-is-refusal .before .before .before .before .before .before .before .before .before .before
-    .before .before .before .before .before in (
+    let at-second = at-is-refusal .before .before .before .before .before in
+    let at-first = at-second .before in
+    let start = at-first .before .before .before .before .before .before .before .before .before in (
       omega (arith, in-row (start .pre .1 .1) .3, start .pre .0),
-      block-items-pre (start .pre .1 .1) (start .pre .1 .0)
+      block-items-pre (start .pre .1 .1) (start .pre .1 .0) _ _ (at-first .first .ensures)
+          (at-second .second .ensures)
           (c .before .before .before .before .before .before .before .«open» .ensures)
           (sym (at-is-refusal .is-refusal .ensures) ∙ c .before .before .before .if1 .left),
     )
@@ -139,9 +125,11 @@ block-returns-2 t c =
     let at-items = c .before .before .before .before in
     let at-if1 = at-items .before .before .before .before in
     let at-is-refusal = at-if1 .before in
-    let start = at-is-refusal .before .before .before .before .before .before .before .before .before .before
-    .before .before .before .before .before in
-    block-done (start .pre .1 .1) (start .pre .1 .0)
+    let at-second = at-is-refusal .before .before .before .before .before in
+    let at-first = at-second .before in
+    let start = at-first .before .before .before .before .before .before .before .before .before in
+    block-done (start .pre .1 .1) (start .pre .1 .0) _ _ (at-first .first .ensures)
+    (at-second .second .ensures)
     (c .before .before .before .before .before .before .before .before .before .before .before .before
     .«open» .ensures) (sym (at-is-refusal .is-refusal .ensures) ∙ at-if1 .if1 .left)
     (at-items .items .ensures)
@@ -150,8 +138,7 @@ block-returns-2 t c =
 pub block-holds : {M : Type 1} (t : ℕ) → block-lts.Closed (callees t) (block-at t) block.Post M
 block-holds t =
     block-lts.spec (callees t) (block-at t) block.Post
-    (block-mul-v t) (block-add-v t) (block-mul-v-2 t) (block-shared-slice-read-v t) (block-cast-v t)
-    (block-mul-n t) (block-add-n t) (block-mul-n-2 t) (block-shared-slice-read-n t) (block-cast-n t)
+    (block-first-requires t) (block-cast-v t) (block-second-requires t) (block-cast-n t)
     (block-open-requires t) (block-is-refusal-requires t) (block-same-length t) (block-returns t)
     (block-add-size t) (block-add-items t) (block-add-items-2 t) (block-items-requires t)
     (block-same-length-2 t) (block-same-length-3 t) (block-returns-2 t)

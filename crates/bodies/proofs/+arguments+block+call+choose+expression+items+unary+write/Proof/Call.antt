@@ -1,7 +1,8 @@
 -- What the borrow checker leaves of `call`.
 use native.Mathlib.Omega.{arith}
 use mathlib.Core.Path.{sym, _∙_}
-use Prim.Native.Nat.{ℕ, _+_, _*_}
+use Prim.Native.Nat.{ℕ, _+_}
+use borrow.Author.Needs.{needs}
 use Rattle.bodies.proofs.Turns.{in-row}
 use Rattle.bodies.proofs.TurnsNodes.{after-row}
 use Rattle.bodies.proofs.TurnsUnary.{leaf-row}
@@ -16,6 +17,7 @@ use Rattle.bodies.proofs.invoke.Reads as invoke-reads
 use Rattle.bodies.proofs.is_refusal.Reads as is-refusal-reads
 use Rattle.bodies.proofs.plain.Reads as plain-reads
 use Rattle.bodies.proofs.too_many.Reads as too-many-reads
+use Rattle.language.proofs.second.Reads as second-reads
 use Rattle.bodies.proofs.+arguments+block+call+choose+expression+items+unary+write.Proof.Base.{arguments-below, call-at, expression-below, items-below}
 
 -- What its callees ask and give: those of the cycle below the measure t.
@@ -25,6 +27,8 @@ callees t = (
   expression.Post,
   is-refusal-reads.Asked,
   is-refusal-reads.Learnt,
+  second-reads.Asked,
+  second-reads.Learnt,
   plain-reads.Asked,
   plain-reads.Learnt,
   items-below t,
@@ -94,42 +98,22 @@ call-cast-next t c =
     .before .before .before .before .before .before .before in
     omega (arith, c .shared-slice-known7 .given (start .args .at + 1))
 
-call-mul-n : (t : ℕ) → call-lts.Need-mul-n (callees t) (call-at t) call.Post
-call-mul-n t c =
+call-second-requires : (t : ℕ) → call-lts.Need-second-requires (callees t) (call-at t) call.Post
+call-second-requires t c κs =
     let start = c .before .before .before .before .before .before .before .before .before .before .before
     .before .before .before .before .before .before .before in
-    omega (arith, in-row (start .pre .1 .1) .3)
-
-call-add-n : (t : ℕ) → call-lts.Need-add-n (callees t) (call-at t) call.Post
-call-add-n t c =
-    let start = c .before .before .before .before .before .before .before .before .before .before .before
-    .before .before .before .before .before .before .before in
-    omega (arith, in-row (start .pre .1 .1) .3)
-
-call-mul-n-2 : (t : ℕ) → call-lts.Need-mul-n-2 (callees t) (call-at t) call.Post
-call-mul-n-2 t c =
-    let start = c .before .before .before .before .before .before .before .before .before .before .before
-    .before .before .before .before .before .before .before in
-    omega (arith, in-row (start .pre .1 .1) .3)
-
-call-shared-slice-read-n : (t : ℕ) → call-lts.Need-shared-slice-read-n (callees t) (call-at t) call.Post
-call-shared-slice-read-n t c =
-    let start = c .before .before .before .before .before .before .before .before .before .before .before
-    .before .before .before .before .before .before .before .before in
     omega (arith, in-row (start .pre .1 .1) .0)
 
 call-cast-n : (t : ℕ) → call-lts.Need-cast-n (callees t) (call-at t) call.Post
-call-cast-n t c =
-    let start = c .before .before .before .before .before .before .before .before .before .before .before
-    .before .before .before .before .before .before .before .before in
-    omega (arith, c .shared-slice-known8 .given (start .args .at * 4 + 2))
+call-cast-n t c = search needs
 
 call-plain-requires : (t : ℕ) → call-lts.Need-plain-requires (callees t) (call-at t) call.Post
 call-plain-requires t c κs = tt
 
 call-items-requires : (t : ℕ) → call-lts.Need-items-requires (callees t) (call-at t) call.Post
 call-items-requires t c κs =
-    let at-if1 = c .before .before .before .before .before .before in
+    let at-second = c .before .before .before .before in
+    let at-if1 = at-second .before .before in
     let at-is-refusal = at-if1 .before in
     let at-expression = at-is-refusal .before .before .before .before .before in
     let start = at-expression .before .before .before .before .before .before .before .before .before .before
@@ -141,7 +125,8 @@ call-items-requires t c κs =
         start .pre .0,
       ),
       call-items-pre (start .pre .1 .1) (start .pre .1 .0)
-          (at-expression .expression .ensures) (sym (at-is-refusal .is-refusal .ensures) ∙ at-if1 .if1 .left),
+          (at-expression .expression .ensures) (sym (at-is-refusal .is-refusal .ensures) ∙ at-if1 .if1 .left)
+          _ (at-second .second .ensures),
     )
 
 call-too-many-requires : (t : ℕ) → call-lts.Need-too-many-requires (callees t) (call-at t) call.Post
@@ -172,13 +157,15 @@ call-returns-2 t c =
     let at-items = c .before .before .before .before .before in
     let at-plain = at-items .before in
     let at-if2 = at-plain .before .before .before in
-    let at-if1 = at-if2 .before .before .before in
+    let at-second = at-if2 .before in
+    let at-if1 = at-second .before .before in
     let at-is-refusal = at-if1 .before in
     let at-expression = at-is-refusal .before .before .before .before .before in
     let start = at-expression .before .before .before .before .before .before .before .before .before .before
     .before in
     call-many (start .pre .1 .1) (start .pre .1 .0) (at-expression .expression .ensures)
-    (sym (at-is-refusal .is-refusal .ensures) ∙ at-if1 .if1 .left) (at-if2 .if2 .taken)
+    (sym (at-is-refusal .is-refusal .ensures) ∙ at-if1 .if1 .left) _ (at-second .second .ensures)
+    (at-if2 .if2 .taken)
     (at-plain .plain .ensures) (at-items .items .ensures) (c .too-many .ensures)
 
 call-arguments-requires : (t : ℕ) → call-lts.Need-arguments-requires (callees t) (call-at t) call.Post
@@ -196,6 +183,7 @@ call-arguments-requires t c κs =
       ),
       call-arguments-pre (start .pre .1 .1) (start .pre .1 .0)
           (at-expression .expression .ensures) (sym (at-is-refusal .is-refusal .ensures) ∙ at-if1 .if1 .left)
+          _ (c .before .before .before .second .ensures)
           (c .before .before .if2 .left),
     )
 
@@ -222,26 +210,30 @@ call-returns-3 : (t : ℕ) → call-lts.Need-returns-3 (callees t) (call-at t) c
 call-returns-3 t c =
     let at-arguments = c .before .before .before .before .before .before in
     let at-if2 = at-arguments .before .before .before in
-    let at-if1 = at-if2 .before .before .before in
+    let at-second = at-if2 .before in
+    let at-if1 = at-second .before .before in
     let at-is-refusal = at-if1 .before in
     let at-expression = at-is-refusal .before .before .before .before .before in
     let start = at-expression .before .before .before .before .before .before .before .before .before .before
     .before in
     call-fail-arguments (start .pre .1 .1) (start .pre .1 .0) (at-expression .expression .ensures)
-    (sym (at-is-refusal .is-refusal .ensures) ∙ at-if1 .if1 .left) (at-if2 .if2 .left)
+    (sym (at-is-refusal .is-refusal .ensures) ∙ at-if1 .if1 .left) _ (at-second .second .ensures)
+    (at-if2 .if2 .left)
     (at-arguments .arguments .ensures) (sym (c .before .is-refusal2 .ensures) ∙ c .if3 .taken)
 
 call-invoke-requires : (t : ℕ) → call-lts.Need-invoke-requires (callees t) (call-at t) call.Post
 call-invoke-requires t c κs =
     let at-arguments = c .before .before .before .before .before .before .before .before in
     let at-if2 = at-arguments .before .before .before in
-    let at-if1 = at-if2 .before .before .before in
+    let at-second = at-if2 .before in
+    let at-if1 = at-second .before .before in
     let at-is-refusal = at-if1 .before in
     let at-expression = at-is-refusal .before .before .before .before .before in
     let start = at-expression .before .before .before .before .before .before .before .before .before .before
     .before in
     call-invoke-pre (start .pre .1 .1) (start .pre .1 .0) (at-expression .expression .ensures)
-    (sym (at-is-refusal .is-refusal .ensures) ∙ at-if1 .if1 .left) (at-if2 .if2 .left)
+    (sym (at-is-refusal .is-refusal .ensures) ∙ at-if1 .if1 .left) _ (at-second .second .ensures)
+    (at-if2 .if2 .left)
     (at-arguments .arguments .ensures)
     (sym (c .before .before .before .is-refusal2 .ensures) ∙ c .before .before .if3 .left)
 
@@ -272,13 +264,15 @@ call-returns-4 t c =
     let at-is-refusal2 = at-if3 .before in
     let at-arguments = at-is-refusal2 .before .before .before .before .before in
     let at-if2 = at-arguments .before .before .before in
-    let at-if1 = at-if2 .before .before .before in
+    let at-second = at-if2 .before in
+    let at-if1 = at-second .before .before in
     let at-is-refusal = at-if1 .before in
     let at-expression = at-is-refusal .before .before .before .before .before in
     let start = at-expression .before .before .before .before .before .before .before .before .before .before
     .before in
     call-done (start .pre .1 .1) (start .pre .1 .0) (at-expression .expression .ensures)
-    (sym (at-is-refusal .is-refusal .ensures) ∙ at-if1 .if1 .left) (at-if2 .if2 .left)
+    (sym (at-is-refusal .is-refusal .ensures) ∙ at-if1 .if1 .left) _ (at-second .second .ensures)
+    (at-if2 .if2 .left)
     (at-arguments .arguments .ensures) (sym (at-is-refusal2 .is-refusal2 .ensures) ∙ at-if3 .if3 .left)
     (at-invoke .invoke .ensures)
 
@@ -288,9 +282,8 @@ call-holds t =
     call-lts.spec (callees t) (call-at t) call.Post
     (call-add-expression t) (call-expression-requires t) (call-is-refusal-requires t) (call-same-length t)
     (call-same-length-2 t) (call-returns t) (call-add-next t) (call-mul-next t)
-    (call-shared-slice-read-next t) (call-cast-next t) (call-mul-n t) (call-add-n t) (call-mul-n-2 t)
-    (call-shared-slice-read-n t) (call-cast-n t) (call-plain-requires t) (call-items-requires t)
-    (call-too-many-requires t) (call-same-length-3 t) (call-same-length-4 t) (call-returns-2 t)
-    (call-arguments-requires t) (call-is-refusal-requires-2 t) (call-same-length-5 t) (call-same-length-6 t)
-    (call-returns-3 t) (call-invoke-requires t) (call-same-length-7 t) (call-same-length-8 t)
-    (call-returns-4 t)
+    (call-shared-slice-read-next t) (call-cast-next t) (call-second-requires t) (call-cast-n t)
+    (call-plain-requires t) (call-items-requires t) (call-too-many-requires t) (call-same-length-3 t)
+    (call-same-length-4 t) (call-returns-2 t) (call-arguments-requires t) (call-is-refusal-requires-2 t)
+    (call-same-length-5 t) (call-same-length-6 t) (call-returns-3 t) (call-invoke-requires t)
+    (call-same-length-7 t) (call-same-length-8 t) (call-returns-4 t)

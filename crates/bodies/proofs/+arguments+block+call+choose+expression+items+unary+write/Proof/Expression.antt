@@ -1,6 +1,6 @@
 -- What the borrow checker leaves of `expression`.
 use native.Mathlib.Omega.{arith}
-use mathlib.Core.Path.{refl}
+use mathlib.Core.Path.{refl, sym, _∙_}
 use Prim.Native.Nat.{ℕ}
 use Rattle.bodies.proofs.TurnsLetters.{rest-unary}
 use Rattle.bodies.proofs.Turns.{in-row}
@@ -17,12 +17,15 @@ use Rattle.bodies.proofs.change.Reads as change-reads
 use Rattle.bodies.proofs.create.Reads as create-reads
 use Rattle.bodies.proofs.plain.Reads as plain-reads
 use Rattle.bodies.proofs.read_slot.Reads as read-slot-reads
+use Rattle.language.proofs.letter_at.Reads as letter-at-reads
 use Rattle.bodies.proofs.+arguments+block+call+choose+expression+items+unary+write.Proof.Base.{block-below, call-below, choose-below, expression-at}
 use Rattle.bodies.proofs.+arguments+block+call+choose+expression+items+unary+write.Proof.Base.{unary-below, write-below}
 
 -- What its callees ask and give: those of the cycle below the measure t.
 abbrev callees : ℕ → expression-lts.Claims
 callees t = (
+  letter-at-reads.Asked,
+  letter-at-reads.Learnt,
   plain-reads.Asked,
   plain-reads.Learnt,
   read-slot-reads.Asked,
@@ -43,19 +46,10 @@ callees t = (
   unary.Post,
 )
 
-expression-mul-letter : (t : ℕ) → expression-lts.Need-mul-letter (callees t) (expression-at t) expression.Post
-expression-mul-letter t c =
-    omega (arith, in-row (c .before .before .before .before .before .before .before .before .pre .1) .3)
-
-expression-mul-letter-2 : (t : ℕ)
-    → expression-lts.Need-mul-letter-2 (callees t) (expression-at t) expression.Post
-expression-mul-letter-2 t c =
-    omega (arith, in-row (c .before .before .before .before .before .before .before .before .pre .1) .3)
-
-expression-shared-slice-read-letter : (t : ℕ)
-    → expression-lts.Need-shared-slice-read-letter (callees t) (expression-at t) expression.Post
-expression-shared-slice-read-letter t c =
-    let start = c .before .before .before .before .before .before .before .before .before in
+expression-letter-at-requires : (t : ℕ)
+    → expression-lts.Need-letter-at-requires (callees t) (expression-at t) expression.Post
+expression-letter-at-requires t c κs =
+    let start = c .before .before .before .before .before .before .before .before in
     omega (arith, in-row (start .pre .1) .0)
 
 expression-plain-requires : (t : ℕ)
@@ -79,13 +73,14 @@ expression-read-slot-requires t c κs =
 expression-create-requires : (t : ℕ)
     → expression-lts.Need-create-requires (callees t) (expression-at t) expression.Post
 expression-create-requires t c κs =
-    leaf-row (c .before .before .before .before .before .before .before .before .before .before .pre .1)
+    let start = c .before .before .before .before .before .before .before .before .before .before in
+    leaf-row (start .pre .1)
 
 expression-change-requires : (t : ℕ)
     → expression-lts.Need-change-requires (callees t) (expression-at t) expression.Post
 expression-change-requires t c κs =
     let start = c .before .before .before .before .before .before .before .before .before .before .before in
-    change-pre (start .pre .1) (c .before .match .keys6)
+    change-pre (start .pre .1) (sym (c .before .before .letter-at .ensures) ∙ c .before .match .keys6)
 
 expression-write-requires : (t : ℕ)
     → expression-lts.Need-write-requires (callees t) (expression-at t) expression.Post
@@ -93,7 +88,7 @@ expression-write-requires t c κs =
     let start = c .before .before .before .before .before .before .before .before .before .before .before
     .before in (
       omega (arith, in-row (start .pre .1) .3, start .pre .0),
-      (c .before .before .match .keys7, start .pre .1),
+      (sym (c .before .before .before .letter-at .ensures) ∙ c .before .before .match .keys7, start .pre .1),
     )
 
 expression-call-requires : (t : ℕ)
@@ -102,7 +97,7 @@ expression-call-requires t c κs =
     let start = c .before .before .before .before .before .before .before .before .before .before .before
     .before in (
       omega (arith, in-row (start .pre .1) .3, start .pre .0),
-      (c .before .before .match .keys8, start .pre .1),
+      (sym (c .before .before .before .letter-at .ensures) ∙ c .before .before .match .keys8, start .pre .1),
     )
 
 expression-choose-requires : (t : ℕ)
@@ -111,7 +106,7 @@ expression-choose-requires t c κs =
     let start = c .before .before .before .before .before .before .before .before .before .before .before
     .before in (
       omega (arith, in-row (start .pre .1) .3, start .pre .0),
-      (c .before .before .match .keys9, start .pre .1),
+      (sym (c .before .before .before .letter-at .ensures) ∙ c .before .before .match .keys9, start .pre .1),
     )
 
 expression-block-requires : (t : ℕ)
@@ -120,7 +115,7 @@ expression-block-requires t c κs =
     let start = c .before .before .before .before .before .before .before .before .before .before .before
     .before in (
       omega (arith, in-row (start .pre .1) .3, start .pre .0),
-      (c .before .before .match .keys10, start .pre .1),
+      (sym (c .before .before .before .letter-at .ensures) ∙ c .before .before .match .keys10, start .pre .1),
     )
 
 expression-unary-requires : (t : ℕ)
@@ -130,7 +125,8 @@ expression-unary-requires t c κs =
     .before in (
       omega (arith, in-row (start .pre .1) .3, start .pre .0),
       (
-        rest-unary _ _ (start .pre .1 .e) _ (start .pre .1 .encoded)
+        rest-unary _ _ (start .pre .1 .e) _ (start .pre .1 .encoded) _
+            (c .before .before .before .letter-at .ensures)
             (c .before .before .match .rest .0 .0 .0 .0 .0 .0 .0 .0 .0 .1)
             (c .before .before .match .rest .0 .0 .0 .0 .0 .0 .0 .0 .1)
             (c .before .before .match .rest .0 .0 .0 .0 .0 .0 .0 .1)
@@ -143,23 +139,29 @@ expression-unary-requires t c κs =
     )
 
 expression-returns : (t : ℕ) → expression-lts.Need-returns (callees t) (expression-at t) expression.Post
-expression-returns t c = true-post (c .before .match .keys1) (c .plain .ensures)
+expression-returns t c =
+    true-post (sym (c .before .before .letter-at .ensures) ∙ c .before .match .keys1) (c .plain .ensures)
 
 expression-returns-2 : (t : ℕ) → expression-lts.Need-returns-2 (callees t) (expression-at t) expression.Post
-expression-returns-2 t c = false-post (c .before .match .keys2) (c .plain2 .ensures)
+expression-returns-2 t c =
+    false-post (sym (c .before .before .letter-at .ensures) ∙ c .before .match .keys2) (c .plain2 .ensures)
 
 expression-returns-3 : (t : ℕ) → expression-lts.Need-returns-3 (callees t) (expression-at t) expression.Post
-expression-returns-3 t c = null-post (c .before .match .keys3) (c .plain3 .ensures)
+expression-returns-3 t c =
+    null-post (sym (c .before .before .letter-at .ensures) ∙ c .before .match .keys3) (c .plain3 .ensures)
 
 expression-same-length : (t : ℕ)
     → expression-lts.Need-same-length (callees t) (expression-at t) expression.Post
 expression-same-length t c = refl
 
 expression-returns-4 : (t : ℕ) → expression-lts.Need-returns-4 (callees t) (expression-at t) expression.Post
-expression-returns-4 t c = slot-post (c .before .before .match .keys4) (c .read-slot .ensures)
+expression-returns-4 t c =
+    slot-post (sym (c .before .before .before .letter-at .ensures) ∙ c .before .before .match .keys4)
+    (c .read-slot .ensures)
 
 expression-returns-5 : (t : ℕ) → expression-lts.Need-returns-5 (callees t) (expression-at t) expression.Post
-expression-returns-5 t c = new-post (c .before .match .keys5) (c .create .ensures)
+expression-returns-5 t c =
+    new-post (sym (c .before .before .letter-at .ensures) ∙ c .before .match .keys5) (c .create .ensures)
 
 expression-same-length-2 : (t : ℕ)
     → expression-lts.Need-same-length-2 (callees t) (expression-at t) expression.Post
@@ -168,8 +170,10 @@ expression-same-length-2 t c = c .before .before .change .kept .1 .1 .0
 expression-returns-6 : (t : ℕ) → expression-lts.Need-returns-6 (callees t) (expression-at t) expression.Post
 expression-returns-6 t c =
     let at-match = c .before .before .before .before in
-    let start = at-match .before .before .before .before .before .before .before .before .before .before in
-    change-post (room-none (start .pre .1 .room)) (at-match .match .keys6)
+    let at-letter-at = at-match .before in
+    let start = at-letter-at .before .before .before .before .before .before .before .before .before in
+    change-post (room-none (start .pre .1 .room))
+    (sym (at-letter-at .letter-at .ensures) ∙ at-match .match .keys6)
     (c .before .before .change .ensures)
 
 expression-same-length-3 : (t : ℕ)
@@ -232,13 +236,12 @@ pub expression-holds : {M : Type 1} (t : ℕ)
     → expression-lts.Closed (callees t) (expression-at t) expression.Post M
 expression-holds t =
     expression-lts.spec (callees t) (expression-at t) expression.Post
-    (expression-mul-letter t) (expression-mul-letter-2 t) (expression-shared-slice-read-letter t)
-    (expression-plain-requires t) (expression-plain-requires-2 t) (expression-plain-requires-3 t)
-    (expression-read-slot-requires t) (expression-create-requires t) (expression-change-requires t)
-    (expression-write-requires t) (expression-call-requires t) (expression-choose-requires t)
-    (expression-block-requires t) (expression-unary-requires t) (expression-returns t)
-    (expression-returns-2 t) (expression-returns-3 t) (expression-same-length t) (expression-returns-4 t)
-    (expression-returns-5 t) (expression-same-length-2 t) (expression-returns-6 t)
+    (expression-letter-at-requires t) (expression-plain-requires t) (expression-plain-requires-2 t)
+    (expression-plain-requires-3 t) (expression-read-slot-requires t) (expression-create-requires t)
+    (expression-change-requires t) (expression-write-requires t) (expression-call-requires t)
+    (expression-choose-requires t) (expression-block-requires t) (expression-unary-requires t)
+    (expression-returns t) (expression-returns-2 t) (expression-returns-3 t) (expression-same-length t)
+    (expression-returns-4 t) (expression-returns-5 t) (expression-same-length-2 t) (expression-returns-6 t)
     (expression-same-length-3 t) (expression-same-length-4 t) (expression-returns-7 t)
     (expression-same-length-5 t) (expression-same-length-6 t) (expression-returns-8 t)
     (expression-same-length-7 t) (expression-same-length-8 t) (expression-returns-9 t)

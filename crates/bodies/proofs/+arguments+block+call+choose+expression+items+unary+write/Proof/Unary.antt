@@ -1,6 +1,6 @@
 -- What the borrow checker leaves of `unary`.
 use native.Mathlib.Omega.{arith}
-use mathlib.Core.Path.{_∙_}
+use mathlib.Core.Path.{sym, _∙_}
 use Prim.Native.Nat.{ℕ}
 use Rattle.bodies.proofs.Turns.{in-row}
 use Rattle.bodies.proofs.TurnsUnary.{leaf-row, unary-assign, unary-first, is-null-post, cast-post}
@@ -12,6 +12,7 @@ use Rattle.bodies.proofs.assign.Reads as assign-reads
 use Rattle.bodies.proofs.cast.Reads as cast-reads
 use Rattle.bodies.proofs.get.Reads as get-reads
 use Rattle.bodies.proofs.test_null.Reads as test-null-reads
+use Rattle.language.proofs.letter_at.Reads as letter-at-reads
 use Rattle.bodies.proofs.+arguments+block+call+choose+expression+items+unary+write.Proof.Base.{expression-below, unary-at}
 
 -- What its callees ask and give: those of the cycle below the measure t.
@@ -19,6 +20,8 @@ abbrev callees : ℕ → unary-lts.Claims
 callees t = (
   expression-below t,
   expression.Post,
+  letter-at-reads.Asked,
+  letter-at-reads.Learnt,
   test-null-reads.Asked,
   test-null-reads.Learnt,
   get-reads.Asked,
@@ -41,23 +44,10 @@ unary-expression-requires t c κs =
       unary-first (start .pre .1 .0) (start .pre .1 .1),
     )
 
-unary-mul-letter : (t : ℕ) → unary-lts.Need-mul-letter (callees t) (unary-at t) unary.Post
-unary-mul-letter t c =
+unary-letter-at-requires : (t : ℕ) → unary-lts.Need-letter-at-requires (callees t) (unary-at t) unary.Post
+unary-letter-at-requires t c κs =
     let start = c .before .before .before .before .before .before .before .before .before .before .before
     .before .before .before .before in
-    omega (arith, in-row (start .pre .1 .1) .3)
-
-unary-mul-letter-2 : (t : ℕ) → unary-lts.Need-mul-letter-2 (callees t) (unary-at t) unary.Post
-unary-mul-letter-2 t c =
-    let start = c .before .before .before .before .before .before .before .before .before .before .before
-    .before .before .before .before in
-    omega (arith, in-row (start .pre .1 .1) .3)
-
-unary-shared-slice-read-letter : (t : ℕ)
-    → unary-lts.Need-shared-slice-read-letter (callees t) (unary-at t) unary.Post
-unary-shared-slice-read-letter t c =
-    let start = c .before .before .before .before .before .before .before .before .before .before .before
-    .before .before .before .before .before in
     omega (arith, in-row (start .pre .1 .1) .0)
 
 unary-test-null-requires : (t : ℕ) → unary-lts.Need-test-null-requires (callees t) (unary-at t) unary.Post
@@ -71,7 +61,8 @@ unary-get-requires t c κs =
     let at-expression = c .before .before .before .before .before .before .before in
     let start = at-expression .before .before .before .before .before .before .before .before .before .before
     .before in
-    get-pre (start .pre .1 .1) (at-expression .expression .ensures) (c .before .match .keys2)
+    get-pre (start .pre .1 .1) (at-expression .expression .ensures)
+    (sym (c .before .before .letter-at .ensures) ∙ c .before .match .keys2)
 
 unary-cast-requires : (t : ℕ) → unary-lts.Need-cast-requires (callees t) (unary-at t) unary.Post
 unary-cast-requires t c κs =
@@ -85,23 +76,27 @@ unary-assign-requires t c κs =
     let start = at-expression .before .before .before .before .before .before .before .before .before .before
     .before in
     assign-pre (start .pre .1 .1) (at-expression .expression .ensures)
-    (unary-assign (start .pre .1 .1) (start .pre .1 .0) (c .before .match .rest .0 .0 .1)
+    (unary-assign (start .pre .1 .1) (start .pre .1 .0) _ (c .before .before .letter-at .ensures)
+    (c .before .match .rest .0 .0 .1)
     (c .before .match .rest .0 .1) (c .before .match .rest .1))
 
 unary-same-length : (t : ℕ) → unary-lts.Need-same-length (callees t) (unary-at t) unary.Post
 unary-same-length t c =
-    c .before .before .before .before .before .before .before .expression .kept .1 .1 .1 .1 .1 .1 .0
+    let at-expression = c .before .before .before .before .before .before .before in
+    at-expression .expression .kept .1 .1 .1 .1 .1 .1 .0
 
 unary-same-length-2 : (t : ℕ) → unary-lts.Need-same-length-2 (callees t) (unary-at t) unary.Post
 unary-same-length-2 t c =
-    c .before .before .before .before .before .before .before .expression .kept .1 .1 .1 .1 .1 .1 .1 .0
+    let at-expression = c .before .before .before .before .before .before .before in
+    at-expression .expression .kept .1 .1 .1 .1 .1 .1 .1 .0
 
 unary-returns : (t : ℕ) → unary-lts.Need-returns (callees t) (unary-at t) unary.Post
 unary-returns t c =
     let at-expression = c .before .before .before .before .before .before .before in
     let start = at-expression .before .before .before .before .before .before .before .before .before .before
     .before in
-    is-null-post (start .pre .1 .1) (at-expression .expression .ensures) (c .before .match .keys1)
+    is-null-post (start .pre .1 .1) (at-expression .expression .ensures)
+    (sym (c .before .before .letter-at .ensures) ∙ c .before .match .keys1)
     (c .test-null .ensures)
 
 unary-same-length-3 : (t : ℕ) → unary-lts.Need-same-length-3 (callees t) (unary-at t) unary.Post
@@ -117,31 +112,37 @@ unary-same-length-4 t c =
 unary-returns-2 : (t : ℕ) → unary-lts.Need-returns-2 (callees t) (unary-at t) unary.Post
 unary-returns-2 t c =
     let at-match = c .before .before .before .before in
-    let at-expression = at-match .before .before .before .before .before .before in
+    let at-letter-at = at-match .before in
+    let at-expression = at-letter-at .before .before .before .before .before in
     let start = at-expression .before .before .before .before .before .before .before .before .before .before
     .before in
-    get-post (start .pre .1 .1) (at-expression .expression .ensures) (at-match .match .keys2)
+    get-post (start .pre .1 .1) (at-expression .expression .ensures)
+    (sym (at-letter-at .letter-at .ensures) ∙ at-match .match .keys2)
     (c .before .before .get .ensures .0) (c .before .before .get .ensures .1)
 
 unary-same-length-5 : (t : ℕ) → unary-lts.Need-same-length-5 (callees t) (unary-at t) unary.Post
 unary-same-length-5 t c =
-    c .before .before .before .before .before .before .before .expression .kept .1 .1 .1 .1 .1 .1 .0
+    let at-expression = c .before .before .before .before .before .before .before in
+    at-expression .expression .kept .1 .1 .1 .1 .1 .1 .0
 
 unary-same-length-6 : (t : ℕ) → unary-lts.Need-same-length-6 (callees t) (unary-at t) unary.Post
 unary-same-length-6 t c =
-    c .before .before .before .before .before .before .before .expression .kept .1 .1 .1 .1 .1 .1 .1 .0
+    let at-expression = c .before .before .before .before .before .before .before in
+    at-expression .expression .kept .1 .1 .1 .1 .1 .1 .1 .0
 
 unary-returns-3 : (t : ℕ) → unary-lts.Need-returns-3 (callees t) (unary-at t) unary.Post
 unary-returns-3 t c =
     let at-expression = c .before .before .before .before .before .before .before in
     let start = at-expression .before .before .before .before .before .before .before .before .before .before
     .before in
-    cast-post (start .pre .1 .1) (at-expression .expression .ensures) (c .before .match .keys3)
+    cast-post (start .pre .1 .1) (at-expression .expression .ensures)
+    (sym (c .before .before .letter-at .ensures) ∙ c .before .match .keys3)
     (c .cast .ensures)
 
 unary-same-length-7 : (t : ℕ) → unary-lts.Need-same-length-7 (callees t) (unary-at t) unary.Post
 unary-same-length-7 t c =
-    c .before .before .before .before .before .before .before .before .expression .kept .1 .1 .1 .1 .1 .1 .0
+    let at-expression = c .before .before .before .before .before .before .before .before in
+    at-expression .expression .kept .1 .1 .1 .1 .1 .1 .0
 
 unary-same-length-8 : (t : ℕ) → unary-lts.Need-same-length-8 (callees t) (unary-at t) unary.Post
 unary-same-length-8 t c =
@@ -154,16 +155,16 @@ unary-returns-4 t c =
     let start = at-expression .before .before .before .before .before .before .before .before .before .before
     .before in
     assign-post (start .pre .1 .1) (at-expression .expression .ensures)
-    (unary-assign (start .pre .1 .1) (start .pre .1 .0) (c .before .before .match .rest .0 .0 .1)
+    (unary-assign (start .pre .1 .1) (start .pre .1 .0) _ (c .before .before .before .letter-at .ensures)
+    (c .before .before .match .rest .0 .0 .1)
     (c .before .before .match .rest .0 .1) (c .before .before .match .rest .1)) (c .assign .ensures)
 
 -- The member, of its callees' contracts.
 pub unary-holds : {M : Type 1} (t : ℕ) → unary-lts.Closed (callees t) (unary-at t) unary.Post M
 unary-holds t =
     unary-lts.spec (callees t) (unary-at t) unary.Post
-    (unary-add-expression t) (unary-expression-requires t) (unary-mul-letter t) (unary-mul-letter-2 t)
-    (unary-shared-slice-read-letter t) (unary-test-null-requires t) (unary-get-requires t)
-    (unary-cast-requires t) (unary-assign-requires t) (unary-same-length t) (unary-same-length-2 t)
-    (unary-returns t) (unary-same-length-3 t) (unary-same-length-4 t) (unary-returns-2 t)
-    (unary-same-length-5 t) (unary-same-length-6 t) (unary-returns-3 t) (unary-same-length-7 t)
-    (unary-same-length-8 t) (unary-returns-4 t)
+    (unary-add-expression t) (unary-expression-requires t) (unary-letter-at-requires t)
+    (unary-test-null-requires t) (unary-get-requires t) (unary-cast-requires t) (unary-assign-requires t)
+    (unary-same-length t) (unary-same-length-2 t) (unary-returns t) (unary-same-length-3 t)
+    (unary-same-length-4 t) (unary-returns-2 t) (unary-same-length-5 t) (unary-same-length-6 t)
+    (unary-returns-3 t) (unary-same-length-7 t) (unary-same-length-8 t) (unary-returns-4 t)

@@ -5,13 +5,16 @@ use native.Mathlib.Omega.{arith}
 use lib.ListN.{length-set}
 use borrow.Author.Needs.{needs}
 use Rattle.form.proofs.Nodes.{node-refused, node-other, node-over, node-empty, node-leaf, node-parts}
-use Rattle.form.proofs.Places.{here}
+use Rattle.form.proofs.Places.{here, parts-same}
 use Rattle.form.proofs.Passes.{told-as, told-refuse}
 use Rattle.form.proofs.Lines.{row-room}
 use Rattle.form.proofs.pass_node.Reads as pass-node
 use Rattle.form.proofs.pass_parts.Reads as pass-parts
 use Rattle.form.proofs.parts_of.Reads as parts-of-reads
 use Rattle.form.proofs.refuse_row.Reads as refuse-row-reads
+use Rattle.language.proofs.letter_at.Reads as letter-at-reads
+use Rattle.language.proofs.first.Reads as first-reads
+use Rattle.language.proofs.second.Reads as second-reads
 use Rattle.form.proofs.+pass_node+pass_nodes+pass_parts.Lts-pass_node as pass-node-lts
 use Rattle.form.proofs.+pass_node+pass_nodes+pass_parts.Proof.Base.{pass-node-at, pass-parts-below}
 
@@ -20,6 +23,12 @@ abbrev pub pass-node-calls : ℕ → pass-node-lts.Claims
 pass-node-calls t = (
   refuse-row-reads.Asked,
   refuse-row-reads.Learnt,
+  letter-at-reads.Asked,
+  letter-at-reads.Learnt,
+  first-reads.Asked,
+  first-reads.Learnt,
+  second-reads.Asked,
+  second-reads.Learnt,
   parts-of-reads.Asked,
   parts-of-reads.Learnt,
   pass-parts-below t,
@@ -55,78 +64,29 @@ pass-node-returns t c =
     (c .before .refuse-row .ensures .0) (c .if1 .taken))
     (told-refuse (c .before .refuse-row .result) ((start .args .at) + 1))
 
-pub pass-node-mul-code : (t : ℕ)
-    → pass-node-lts.Need-mul-code (pass-node-calls t) (pass-node-at t) pass-node.Post
-pass-node-mul-code t c =
-    let start = c .before .before .before .before in
-    omega (arith, start .pre .1 .0 .within, start .pre .1 .0 .fits .rows)
+pub pass-node-letter-at-requires : (t : ℕ)
+    → pass-node-lts.Need-letter-at-requires (pass-node-calls t) (pass-node-at t) pass-node.Post
+pass-node-letter-at-requires t c κs = omega (arith, (c .before .refuse-row .ensures .1 (c .if1 .left)) .1)
 
-pub pass-node-mul-code-2 : (t : ℕ)
-    → pass-node-lts.Need-mul-code-2 (pass-node-calls t) (pass-node-at t) pass-node.Post
-pass-node-mul-code-2 t c =
-    let start = c .before .before .before .before in
-    omega (arith, start .pre .1 .0 .within, start .pre .1 .0 .fits .rows)
-
-pub pass-node-shared-slice-read-code : (t : ℕ)
-    → pass-node-lts.Need-shared-slice-read-code (pass-node-calls t) (pass-node-at t) pass-node.Post
-pass-node-shared-slice-read-code t c =
+pub pass-node-first-requires : (t : ℕ)
+    → pass-node-lts.Need-first-requires (pass-node-calls t) (pass-node-at t) pass-node.Post
+pass-node-first-requires t c κs =
     omega (arith, (c .before .before .refuse-row .ensures .1 (c .before .if1 .left)) .1)
 
-pub pass-node-mul-parts-of : (t : ℕ)
-    → pass-node-lts.Need-mul-parts-of (pass-node-calls t) (pass-node-at t) pass-node.Post
-pass-node-mul-parts-of t c =
-    let start = c .before .before .before .before .before in
-    omega (arith, start .pre .1 .0 .within, start .pre .1 .0 .fits .rows)
-
-pub pass-node-add-parts-of : (t : ℕ)
-    → pass-node-lts.Need-add-parts-of (pass-node-calls t) (pass-node-at t) pass-node.Post
-pass-node-add-parts-of t c =
-    let start = c .before .before .before .before .before in
-    omega (arith, start .pre .1 .0 .within, start .pre .1 .0 .fits .rows)
-
-pub pass-node-mul-parts-of-2 : (t : ℕ)
-    → pass-node-lts.Need-mul-parts-of-2 (pass-node-calls t) (pass-node-at t) pass-node.Post
-pass-node-mul-parts-of-2 t c =
-    let start = c .before .before .before .before .before in
-    omega (arith, start .pre .1 .0 .within, start .pre .1 .0 .fits .rows)
-
-pub pass-node-shared-slice-read-parts-of : (t : ℕ)
-    → pass-node-lts.Need-shared-slice-read-parts-of (pass-node-calls t) (pass-node-at t) pass-node.Post
-pass-node-shared-slice-read-parts-of t c =
+pub pass-node-second-requires : (t : ℕ)
+    → pass-node-lts.Need-second-requires (pass-node-calls t) (pass-node-at t) pass-node.Post
+pass-node-second-requires t c κs =
     omega (arith, (c .before .before .before .refuse-row .ensures .1 (c .before .before .if1 .left)) .1)
-
-pub pass-node-mul-parts-of-3 : (t : ℕ)
-    → pass-node-lts.Need-mul-parts-of-3 (pass-node-calls t) (pass-node-at t) pass-node.Post
-pass-node-mul-parts-of-3 t c =
-    let start = c .before .before .before .before .before .before in
-    omega (arith, start .pre .1 .0 .within, start .pre .1 .0 .fits .rows)
-
-pub pass-node-add-parts-of-2 : (t : ℕ)
-    → pass-node-lts.Need-add-parts-of-2 (pass-node-calls t) (pass-node-at t) pass-node.Post
-pass-node-add-parts-of-2 t c =
-    let start = c .before .before .before .before .before .before in
-    omega (arith, start .pre .1 .0 .within, start .pre .1 .0 .fits .rows)
-
-pub pass-node-mul-parts-of-4 : (t : ℕ)
-    → pass-node-lts.Need-mul-parts-of-4 (pass-node-calls t) (pass-node-at t) pass-node.Post
-pass-node-mul-parts-of-4 t c =
-    let start = c .before .before .before .before .before .before in
-    omega (arith, start .pre .1 .0 .within, start .pre .1 .0 .fits .rows)
-
-pub pass-node-shared-slice-read-parts-of-2 : (t : ℕ)
-    → pass-node-lts.Need-shared-slice-read-parts-of-2 (pass-node-calls t) (pass-node-at t) pass-node.Post
-pass-node-shared-slice-read-parts-of-2 t c =
-    let the-refuse-row = c .before .before .before .before .refuse-row in
-    omega (arith, (the-refuse-row .ensures .1 (c .before .before .before .if1 .left)) .1)
 
 pub pass-node-parts-of-requires : (t : ℕ)
     → pass-node-lts.Need-parts-of-requires (pass-node-calls t) (pass-node-at t) pass-node.Post
 pass-node-parts-of-requires t c κs =
-    let start = c .before .before .before .before .before .before .before in
-    let the-refuse-row = c .before .before .before .before .refuse-row in
-    (here (start .args .rows .now) (start .args .at)
-    (sym (c .before .before .before .if1 .left) ∙ the-refuse-row .ensures .0)
-    (the-refuse-row .ensures .1 (c .before .before .before .if1 .left))) .second-small
+    let at-refuse-row = c .before .before .before .before in
+    let start = at-refuse-row .before .before .before in
+    let x = here (start .args .rows .now) (start .args .at)
+    (sym (c .before .before .before .if1 .left) ∙ at-refuse-row .refuse-row .ensures .0)
+    (at-refuse-row .refuse-row .ensures .1 (c .before .before .before .if1 .left)) in
+    omega (arith, c .second .ensures, x .second-small)
 
 pub pass-node-enum-known-parts : (t : ℕ)
     → pass-node-lts.Need-enum-known-parts (pass-node-calls t) (pass-node-at t) pass-node.Post
@@ -136,40 +96,45 @@ pub pass-node-enum-told : (t : ℕ)
     → pass-node-lts.Need-enum-told (pass-node-calls t) (pass-node-at t) pass-node.Post
 pass-node-enum-told t c = search needs
 
-pub pass-node-cast-t26 : (t : ℕ)
-    → pass-node-lts.Need-cast-t26 (pass-node-calls t) (pass-node-at t) pass-node.Post
-pass-node-cast-t26 t c =
+pub pass-node-cast-t17 : (t : ℕ)
+    → pass-node-lts.Need-cast-t17 (pass-node-calls t) (pass-node-at t) pass-node.Post
+pass-node-cast-t17 t c =
     let start = c .before .before .before .before .before .before .before .before .before .before in
     omega (arith, start .pre .1 .0 .within, start .pre .1 .0 .fits .rows)
 
-pub pass-node-add-t27 : (t : ℕ)
-    → pass-node-lts.Need-add-t27 (pass-node-calls t) (pass-node-at t) pass-node.Post
-pass-node-add-t27 t c =
+pub pass-node-add-t18 : (t : ℕ)
+    → pass-node-lts.Need-add-t18 (pass-node-calls t) (pass-node-at t) pass-node.Post
+pass-node-add-t18 t c =
     let start = c .before .before .before .before .before .before .before .before .before .before in
     omega (arith, start .pre .1 .0 .within, start .pre .1 .0 .fits .rows)
 
 pub pass-node-returns-2 : (t : ℕ)
     → pass-node-lts.Need-returns-2 (pass-node-calls t) (pass-node-at t) pass-node.Post
 pass-node-returns-2 t c =
-    let start = c .before .before .before .before .before .before .before .before .before .before in
-    let the-refuse-row = c .before .before .before .before .before .before .before .refuse-row in
-    let the-if1 = c .before .before .before .before .before .before .if1 in
+    let at-first = c .before .before .before .before in
+    let at-letter-at = at-first .before in
+    let at-if1 = at-letter-at .before in
+    let at-refuse-row = at-if1 .before in
+    let start = at-refuse-row .before .before .before in
     told-as (node-other (start .args .limits) (start .args .rows .now) (start .args .at) (start .args .slots)
-    (here (start .args .rows .now) (start .args .at) (sym (the-if1 .left) ∙ the-refuse-row .ensures .0)
-    (the-refuse-row .ensures .1 (the-if1 .left))) (start .args .nesting)
-    (sym (c .enum-told .given .1) ∙ c .before .before .parts-of .ensures))
+    (here (start .args .rows .now) (start .args .at)
+    (sym (at-if1 .if1 .left) ∙ at-refuse-row .refuse-row .ensures .0)
+    (at-refuse-row .refuse-row .ensures .1 (at-if1 .if1 .left))) (start .args .nesting)
+    (sym (c .enum-told .given .1) ∙ (c .before .before .parts-of .ensures
+    ∙ parts-same (at-letter-at .letter-at .ensures) (at-first .first .ensures)
+    (c .before .before .before .second .ensures))))
     (told-refuse 3 ((start .args .at) + 1))
 
-pub pass-node-cast-t28 : (t : ℕ)
-    → pass-node-lts.Need-cast-t28 (pass-node-calls t) (pass-node-at t) pass-node.Post
-pass-node-cast-t28 t c =
+pub pass-node-cast-t19 : (t : ℕ)
+    → pass-node-lts.Need-cast-t19 (pass-node-calls t) (pass-node-at t) pass-node.Post
+pass-node-cast-t19 t c =
     let start = c .before .before .before .before .before .before .before .before .before .before .before
     .before in
     omega (arith, start .pre .1 .0 .within, start .pre .1 .0 .fits .rows)
 
-pub pass-node-add-t29 : (t : ℕ)
-    → pass-node-lts.Need-add-t29 (pass-node-calls t) (pass-node-at t) pass-node.Post
-pass-node-add-t29 t c =
+pub pass-node-add-t20 : (t : ℕ)
+    → pass-node-lts.Need-add-t20 (pass-node-calls t) (pass-node-at t) pass-node.Post
+pass-node-add-t20 t c =
     let start = c .before .before .before .before .before .before .before .before .before .before .before
     .before in
     omega (arith, start .pre .1 .0 .within, start .pre .1 .0 .fits .rows)
@@ -177,28 +142,32 @@ pass-node-add-t29 t c =
 pub pass-node-returns-3 : (t : ℕ)
     → pass-node-lts.Need-returns-3 (pass-node-calls t) (pass-node-at t) pass-node.Post
 pass-node-returns-3 t c =
-    let start = c .before .before .before .before .before .before .before .before .before .before .before
-    .before in
-    let the-refuse-row =
-    c .before .before .before .before .before .before .before .before .before .refuse-row in
-    let the-if1 = c .before .before .before .before .before .before .before .before .if1 in
-    let the-parts-of = c .before .before .before .before .parts-of in
+    let at-parts-of = c .before .before .before .before in
+    let at-second = at-parts-of .before in
+    let at-first = at-second .before in
+    let at-letter-at = at-first .before in
+    let at-if1 = at-letter-at .before in
+    let at-refuse-row = at-if1 .before in
+    let start = at-refuse-row .before .before .before in
     told-as (node-over (start .args .limits) (start .args .rows .now) (start .args .at) (start .args .slots)
-    (here (start .args .rows .now) (start .args .at) (sym (the-if1 .left) ∙ the-refuse-row .ensures .0)
-    (the-refuse-row .ensures .1 (the-if1 .left)))
-    (sym (c .before .before .parts .given .1) ∙ the-parts-of .ensures) (start .args .nesting)
+    (here (start .args .rows .now) (start .args .at)
+    (sym (at-if1 .if1 .left) ∙ at-refuse-row .refuse-row .ensures .0)
+    (at-refuse-row .refuse-row .ensures .1 (at-if1 .if1 .left)))
+    (sym (c .before .before .parts .given .1) ∙ (at-parts-of .parts-of .ensures
+    ∙ parts-same (at-letter-at .letter-at .ensures) (at-first .first .ensures) (at-second .second .ensures)))
+    (start .args .nesting)
     (c .if2 .taken)) (told-refuse 2 ((start .args .at) + 1))
 
-pub pass-node-cast-t31 : (t : ℕ)
-    → pass-node-lts.Need-cast-t31 (pass-node-calls t) (pass-node-at t) pass-node.Post
-pass-node-cast-t31 t c =
+pub pass-node-cast-t22 : (t : ℕ)
+    → pass-node-lts.Need-cast-t22 (pass-node-calls t) (pass-node-at t) pass-node.Post
+pass-node-cast-t22 t c =
     let start = c .before .before .before .before .before .before .before .before .before .before .before
     .before .before .before in
     omega (arith, start .pre .1 .0 .within, start .pre .1 .0 .fits .rows)
 
-pub pass-node-add-t32 : (t : ℕ)
-    → pass-node-lts.Need-add-t32 (pass-node-calls t) (pass-node-at t) pass-node.Post
-pass-node-add-t32 t c =
+pub pass-node-add-t23 : (t : ℕ)
+    → pass-node-lts.Need-add-t23 (pass-node-calls t) (pass-node-at t) pass-node.Post
+pass-node-add-t23 t c =
     let start = c .before .before .before .before .before .before .before .before .before .before .before
     .before .before .before in
     omega (arith, start .pre .1 .0 .within, start .pre .1 .0 .fits .rows)
@@ -206,18 +175,22 @@ pass-node-add-t32 t c =
 pub pass-node-returns-4 : (t : ℕ)
     → pass-node-lts.Need-returns-4 (pass-node-calls t) (pass-node-at t) pass-node.Post
 pass-node-returns-4 t c =
-    let start = c .before .before .before .before .before .before .before .before .before .before .before
-    .before .before .before in
-    let the-refuse-row =
-    c .before .before .before .before .before .before .before .before .before .before
-    .before .refuse-row in
-    let the-if1 = c .before .before .before .before .before .before .before .before .before .before .if1 in
-    let the-parts-of = c .before .before .before .before .before .before .parts-of in
-    let the-parts = c .before .before .before .before .parts in
+    let at-parts = c .before .before .before .before in
+    let at-parts-of = at-parts .before .before in
+    let at-second = at-parts-of .before in
+    let at-first = at-second .before in
+    let at-letter-at = at-first .before in
+    let at-if1 = at-letter-at .before in
+    let at-refuse-row = at-if1 .before in
+    let start = at-refuse-row .before .before .before in
     told-as (node-empty (start .args .limits) (start .args .rows .now) (start .args .at) (start .args .slots)
-    (here (start .args .rows .now) (start .args .at) (sym (the-if1 .left) ∙ the-refuse-row .ensures .0)
-    (the-refuse-row .ensures .1 (the-if1 .left))) (sym (the-parts .given .1) ∙ the-parts-of .ensures)
-    (start .args .nesting) (c .before .before .if2 .left) (c .before .if3 .taken) (c .if4 .taken))
+    (here (start .args .rows .now) (start .args .at)
+    (sym (at-if1 .if1 .left) ∙ at-refuse-row .refuse-row .ensures .0)
+    (at-refuse-row .refuse-row .ensures .1 (at-if1 .if1 .left)))
+    (sym (at-parts .parts .given .1) ∙ (at-parts-of .parts-of .ensures
+    ∙ parts-same (at-letter-at .letter-at .ensures) (at-first .first .ensures) (at-second .second .ensures)))
+    (start .args .nesting) (c .before .before .if2 .left) (c .before .if3 .taken)
+    (sym (at-letter-at .letter-at .ensures) ∙ c .if4 .taken))
     (told-refuse 3 ((start .args .at) + 1))
 
 pub pass-node-add-ends : (t : ℕ)
@@ -244,17 +217,14 @@ pass-node-mul-ends t c =
 pub pass-node-slice-write-ends : (t : ℕ)
     → pass-node-lts.Need-slice-write-ends (pass-node-calls t) (pass-node-at t) pass-node.Post
 pass-node-slice-write-ends t c =
-    let start = c .before .before .before .before .before .before .before .before .before .before .before
-    .before .before .before in
-    let the-refuse-row =
-    c .before .before .before .before .before .before .before .before .before .before
-    .before .refuse-row in
-    let the-if1 = c .before .before .before .before .before .before .before .before .before .before .if1 in
-    row-room (start .pre .1 .0) (start .args .at) (the-refuse-row .ensures .1 (the-if1 .left))
+    let at-if1 = c .before .before .before .before .before .before .before .before .before .before in
+    let at-refuse-row = at-if1 .before in
+    let start = at-refuse-row .before .before .before in
+    row-room (start .pre .1 .0) (start .args .at) (at-refuse-row .refuse-row .ensures .1 (at-if1 .if1 .left))
 
-pub pass-node-add-t33 : (t : ℕ)
-    → pass-node-lts.Need-add-t33 (pass-node-calls t) (pass-node-at t) pass-node.Post
-pass-node-add-t33 t c =
+pub pass-node-add-t24 : (t : ℕ)
+    → pass-node-lts.Need-add-t24 (pass-node-calls t) (pass-node-at t) pass-node.Post
+pass-node-add-t24 t c =
     let start = c .before .before .before .before .before .before .before .before .before .before .before
     .before .before .before in
     omega (arith, start .pre .1 .0 .within, start .pre .1 .0 .fits .rows)
@@ -269,19 +239,23 @@ pass-node-same-length t c =
 pub pass-node-returns-5 : (t : ℕ)
     → pass-node-lts.Need-returns-5 (pass-node-calls t) (pass-node-at t) pass-node.Post
 pass-node-returns-5 t c =
-    let start = c .before .before .before .before .before .before .before .before .before .before .before
-    .before .before .before in
-    let the-refuse-row =
-    c .before .before .before .before .before .before .before .before .before .before
-    .before .refuse-row in
-    let the-if1 = c .before .before .before .before .before .before .before .before .before .before .if1 in
-    let the-parts-of = c .before .before .before .before .before .before .parts-of in
-    let the-parts = c .before .before .before .before .parts in
+    let at-parts = c .before .before .before .before in
+    let at-parts-of = at-parts .before .before in
+    let at-second = at-parts-of .before in
+    let at-first = at-second .before in
+    let at-letter-at = at-first .before in
+    let at-if1 = at-letter-at .before in
+    let at-refuse-row = at-if1 .before in
+    let start = at-refuse-row .before .before .before in
     node-leaf (start .args .limits) (start .args .rows .now) (start .args .at) (start .args .slots)
-    (here (start .args .rows .now) (start .args .at) (sym (the-if1 .left) ∙ the-refuse-row .ensures .0)
-    (the-refuse-row .ensures .1 (the-if1 .left))) (sym (the-parts .given .1) ∙ the-parts-of .ensures)
-    (start .args .nesting) (the-refuse-row .ensures .1 (the-if1 .left)) (c .before .before .if2 .left)
-    (c .before .if3 .taken) (c .if4 .left)
+    (here (start .args .rows .now) (start .args .at)
+    (sym (at-if1 .if1 .left) ∙ at-refuse-row .refuse-row .ensures .0)
+    (at-refuse-row .refuse-row .ensures .1 (at-if1 .if1 .left)))
+    (sym (at-parts .parts .given .1) ∙ (at-parts-of .parts-of .ensures
+    ∙ parts-same (at-letter-at .letter-at .ensures) (at-first .first .ensures) (at-second .second .ensures)))
+    (start .args .nesting) (at-refuse-row .refuse-row .ensures .1 (at-if1 .if1 .left))
+    (c .before .before .if2 .left)
+    (c .before .if3 .taken) (λ e. c .if4 .left (at-letter-at .letter-at .ensures ∙ e))
 
 pub pass-node-sub-pass-parts : (t : ℕ)
     → pass-node-lts.Need-sub-pass-parts (pass-node-calls t) (pass-node-at t) pass-node.Post
@@ -293,14 +267,11 @@ pass-node-sub-pass-parts t c =
 pub pass-node-pass-parts-requires : (t : ℕ)
     → pass-node-lts.Need-pass-parts-requires (pass-node-calls t) (pass-node-at t) pass-node.Post
 pass-node-pass-parts-requires t c κs =
-    let start = c .before .before .before .before .before .before .before .before .before .before .before
-    .before .before .before in
-    let the-refuse-row =
-    c .before .before .before .before .before .before .before .before .before .before
-    .before .refuse-row in
-    let the-if1 = c .before .before .before .before .before .before .before .before .before .before .if1 in (
+    let at-if1 = c .before .before .before .before .before .before .before .before .before .before in
+    let at-refuse-row = at-if1 .before in
+    let start = at-refuse-row .before .before .before in (
       omega (arith, c .before .before .if2 .left),
-      (start .pre .1 .0, (the-refuse-row .ensures .1 (the-if1 .left)), start .pre .1 .1),
+      (start .pre .1 .0, (at-refuse-row .refuse-row .ensures .1 (at-if1 .if1 .left)), start .pre .1 .1),
     )
 
 pub pass-node-same-length-2 : (t : ℕ)
@@ -310,18 +281,20 @@ pass-node-same-length-2 t c = c .before .before .pass-parts .kept .1 .0
 pub pass-node-returns-6 : (t : ℕ)
     → pass-node-lts.Need-returns-6 (pass-node-calls t) (pass-node-at t) pass-node.Post
 pass-node-returns-6 t c =
-    let start = c .before .before .before .before .before .before .before .before .before .before .before
-    .before .before .before .before .before .before in
-    let the-refuse-row =
-    c .before .before .before .before .before .before .before .before .before .before .before .before
-    .before .before .refuse-row in
-    let the-if1 = c .before .before .before .before .before .before .before .before .before .before .before
-    .before .before .if1 in
-    let the-parts-of = c .before .before .before .before .before .before .before .before .before .parts-of in
-    let the-parts = c .before .before .before .before .before .before .before .parts in
-    let the-if2 = c .before .before .before .before .before .if2 in
-    let the-if3 = c .before .before .before .before .if3 in
+    let at-if3 = c .before .before .before .before in
+    let at-if2 = at-if3 .before in
+    let at-parts = at-if2 .before .before in
+    let at-parts-of = at-parts .before .before in
+    let at-second = at-parts-of .before in
+    let at-first = at-second .before in
+    let at-letter-at = at-first .before in
+    let at-if1 = at-letter-at .before in
+    let at-refuse-row = at-if1 .before in
+    let start = at-refuse-row .before .before .before in
     node-parts (start .args .limits) (start .args .rows .now) (start .args .at) (start .args .slots)
-    (here (start .args .rows .now) (start .args .at) (sym (the-if1 .left) ∙ the-refuse-row .ensures .0)
-    (the-refuse-row .ensures .1 (the-if1 .left))) (sym (the-parts .given .1) ∙ the-parts-of .ensures)
-    (start .args .nesting) (the-if2 .left) (the-if3 .left) (c .before .before .pass-parts .ensures)
+    (here (start .args .rows .now) (start .args .at)
+    (sym (at-if1 .if1 .left) ∙ at-refuse-row .refuse-row .ensures .0)
+    (at-refuse-row .refuse-row .ensures .1 (at-if1 .if1 .left)))
+    (sym (at-parts .parts .given .1) ∙ (at-parts-of .parts-of .ensures
+    ∙ parts-same (at-letter-at .letter-at .ensures) (at-first .first .ensures) (at-second .second .ensures)))
+    (start .args .nesting) (at-if2 .if2 .left) (at-if3 .if3 .left) (c .before .before .pass-parts .ensures)

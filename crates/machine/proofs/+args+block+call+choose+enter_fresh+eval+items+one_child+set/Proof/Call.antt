@@ -36,37 +36,37 @@ callees t = (
 
 call-mul-n : (t : ℕ) → call-lts.Need-mul-n (callees t) (call-at t) call.Post
 call-mul-n t c =
-    let start = c .before .before .before .before .before .before .before in
+    let start = c .before .before .before .before .before in
     omega (arith, (call-apart (start .pre .1 .0) (start .pre .1 .1) .3) .row, start .good .0)
 
 call-add-n : (t : ℕ) → call-lts.Need-add-n (callees t) (call-at t) call.Post
 call-add-n t c =
-    let start = c .before .before .before .before .before .before .before in
+    let start = c .before .before .before .before .before in
     omega (arith, (call-apart (start .pre .1 .0) (start .pre .1 .1) .3) .row, start .good .0)
 
 call-mul-n-2 : (t : ℕ) → call-lts.Need-mul-n-2 (callees t) (call-at t) call.Post
 call-mul-n-2 t c =
-    let start = c .before .before .before .before .before .before .before in
+    let start = c .before .before .before .before .before in
     omega (arith, (call-apart (start .pre .1 .0) (start .pre .1 .1) .3) .row, start .good .0)
 
 call-shared-slice-read-n : (t : ℕ) → call-lts.Need-shared-slice-read-n (callees t) (call-at t) call.Post
 call-shared-slice-read-n t c =
-    let start = c .before .before .before .before .before .before .before .before in
+    let start = c .before .before .before .before .before .before in
     omega (arith, (call-apart (start .pre .1 .0) (start .pre .1 .1) .3) .row, start .good .0)
 
 call-cast-n : (t : ℕ) → call-lts.Need-cast-n (callees t) (call-at t) call.Post
 call-cast-n t c =
-    let start = c .before .before .before .before .before .before .before .before in
-    omega (arith, c .shared-slice-known6 .given (start .args .at * 4 + 2))
+    let start = c .before .before .before .before .before .before in
+    omega (arith, c .shared-slice-known5 .given (start .args .at * 4 + 2))
 
 call-add-args : (t : ℕ) → call-lts.Need-add-args (callees t) (call-at t) call.Post
 call-add-args t c =
-    let start = c .before .before .before .before .before .before .before .before .before .before .before in
+    let start = c .before .before .before .before .before .before .before .before .before in
     omega (arith, (call-apart (start .pre .1 .0) (start .pre .1 .1) .3) .row, start .good .0)
 
 call-add-args-2 : (t : ℕ) → call-lts.Need-add-args-2 (callees t) (call-at t) call.Post
 call-add-args-2 t c =
-    let start = c .before .before .before .before .before .before .before .before .before .before .before in
+    let start = c .before .before .before .before .before .before .before .before .before in
     omega (
       arith,
       (call-apart (start .pre .1 .0) (start .pre .1 .1) .3) .many,
@@ -75,7 +75,7 @@ call-add-args-2 t c =
 
 call-args-requires : (t : ℕ) → call-lts.Need-args-requires (callees t) (call-at t) call.Post
 call-args-requires t c κs =
-    let start = c .before .before .before .before .before .before .before .before .before .before .before in (
+    let start = c .before .before .before .before .before .before .before .before .before in (
       omega (
         arith,
         (call-apart (start .pre .1 .0) (start .pre .1 .1) .3) .many,
@@ -85,91 +85,77 @@ call-args-requires t c κs =
     )
 
 call-same-length : (t : ℕ) → call-lts.Need-same-length (callees t) (call-at t) call.Post
-call-same-length t c = c .before .before .before .before .before .args2 .kept .1 .1 .1 .1 .1 .0
-
-call-same-length-2 : (t : ℕ) → call-lts.Need-same-length-2 (callees t) (call-at t) call.Post
-call-same-length-2 t c = c .before .before .before .before .before .args2 .kept .1 .1 .1 .1 .1 .1 .0
+call-same-length t c = c .before .before .before .args2 .kept .1 .1 .1 .1 .1 .0
 
 call-returns : (t : ℕ) → call-lts.Need-returns (callees t) (call-at t) call.Post
-call-returns t c = call-fail (c .before .before .before .before .before .before .before .before .before
-    .before .before .before .before .before .before .before .before .args .at)
-    (c .before .before .before .before .before .before .before .before .before .before .before .before .before
-    .before .before .before .before .pre .1 .1) (c .before .before .before .before .before .args2 .ensures)
-    (not-gave (c .before .before .before .before .before .args2 .result) (c .if1 .taken))
+call-returns t c =
+    let start = c .before .before .before .before .before .before .before .before .before .before .before .before .before in
+    call-fail (start .args .at)
+    (start .pre .1 .1) (c .before .before .before .args2 .ensures)
+    (not-gave (c .before .before .before .args2 .result) (c .if1 .taken))
 
 call-mul-v : (t : ℕ) → call-lts.Need-mul-v (callees t) (call-at t) call.Post
-call-mul-v t c = omega (
-  arith,
-  top-room (call-apart
-      (c .before .before .before .before .before .before .before .before .before .before .before .before
-      .before .before .before .before .before .pre .1 .0)
-      (c .before .before .before .before .before .before .before .before .before .before .before .before
-      .before .before .before .before .before .pre .1 .1) .3)
-      (c .before .before .before .before .before .args2 .ensures),
-  kept-args (call-apart (c .before .before .before .before .before .before .before .before .before .before
-      .before .before .before .before .before .before .before .pre .1 .0)
-      (c .before .before .before .before .before .before .before .before .before .before .before .before
-      .before .before .before .before .before .pre .1 .1) .3)
-      (c .before .before .before .before .before .args2 .ensures) .long,
-  c .before .before .before .before .before .before .before .before .before .before .before .before
-      .before .before .before .before .before .good .1 .1 .1 .1 .1 .1 .0,
-)
+call-mul-v t c =
+    let start = c .before .before .before .before .before .before .before .before .before .before .before .before .before in
+    omega (
+      arith,
+      top-room (call-apart
+          (start .pre .1 .0)
+          (start .pre .1 .1) .3)
+          (c .before .before .before .args2 .ensures),
+      kept-args (call-apart (start .pre .1 .0)
+          (start .pre .1 .1) .3)
+          (c .before .before .before .args2 .ensures) .long,
+      start .pre .1 .0 .ready .whole,
+    )
 
-call-slice-read-v : (t : ℕ) → call-lts.Need-slice-read-v (callees t) (call-at t) call.Post
-call-slice-read-v t c = omega (
-  arith,
-  top-room (call-apart
-      (c .before .before .before .before .before .before .before .before .before .before .before .before
-      .before .before .before .before .before .before .pre .1 .0)
-      (c .before .before .before .before .before .before .before .before .before .before .before .before
-      .before .before .before .before .before .before .pre .1 .1) .3)
-      (c .before .before .before .before .before .before .args2 .ensures),
-  kept-args (call-apart (c .before .before .before .before .before .before .before .before .before .before
-      .before .before .before .before .before .before .before .before .pre .1 .0)
-      (c .before .before .before .before .before .before .before .before .before .before .before .before
-      .before .before .before .before .before .before .pre .1 .1) .3)
-      (c .before .before .before .before .before .before .args2 .ensures) .long,
-  c .before .before .before .before .before .before .before .before .before .before .before .before
-      .before .before .before .before .before .before .good .1 .1 .1 .1 .1 .1 .0,
-)
+call-element-copy-out-v : (t : ℕ) → call-lts.Need-element-copy-out-v (callees t) (call-at t) call.Post
+call-element-copy-out-v t c =
+    let start = c .before .before .before .before .before .before .before .before .before .before .before .before .before in
+    omega (
+      arith,
+      top-room (call-apart
+          (start .pre .1 .0)
+          (start .pre .1 .1) .3)
+          (c .before .before .before .args2 .ensures),
+      kept-args (call-apart (start .pre .1 .0)
+          (start .pre .1 .1) .3)
+          (c .before .before .before .args2 .ensures) .long,
+      start .pre .1 .0 .ready .whole,
+    )
 
 call-mul-m : (t : ℕ) → call-lts.Need-mul-m (callees t) (call-at t) call.Post
 call-mul-m t c =
-    let start = c .before .before .before .before .before .before .before .before .before .before .before
-    .before .before .before .before .before .before .before in
+    let start = c .before .before .before .before .before .before .before .before .before .before .before .before .before .before in
     omega (arith, (call-apart (start .pre .1 .0) (start .pre .1 .1) .3) .row, start .good .0)
 
 call-add-m : (t : ℕ) → call-lts.Need-add-m (callees t) (call-at t) call.Post
 call-add-m t c =
-    let start = c .before .before .before .before .before .before .before .before .before .before .before
-    .before .before .before .before .before .before .before in
+    let start = c .before .before .before .before .before .before .before .before .before .before .before .before .before .before in
     omega (arith, (call-apart (start .pre .1 .0) (start .pre .1 .1) .3) .row, start .good .0)
 
 call-mul-m-2 : (t : ℕ) → call-lts.Need-mul-m-2 (callees t) (call-at t) call.Post
 call-mul-m-2 t c =
-    let start = c .before .before .before .before .before .before .before .before .before .before .before
-    .before .before .before .before .before .before .before in
+    let start = c .before .before .before .before .before .before .before .before .before .before .before .before .before .before in
     omega (arith, (call-apart (start .pre .1 .0) (start .pre .1 .1) .3) .row, start .good .0)
 
 call-shared-slice-read-m : (t : ℕ) → call-lts.Need-shared-slice-read-m (callees t) (call-at t) call.Post
 call-shared-slice-read-m t c =
-    let start = c .before .before .before .before .before .before .before .before .before .before .before
-    .before .before .before .before .before .before .before .before in
+    let start = c .before .before .before .before .before .before .before .before .before .before .before .before .before .before .before in
     omega (arith, (call-apart (start .pre .1 .0) (start .pre .1 .1) .3) .row, start .good .0)
 
 call-cast-m : (t : ℕ) → call-lts.Need-cast-m (callees t) (call-at t) call.Post
 call-cast-m t c =
-    let start = c .before .before .before .before .before .before .before .before .before .before .before
-    .before .before .before .before .before .before .before .before in
-    omega (arith, c .shared-slice-known7 .given (start .args .at * 4 + 1))
+    let start = c .before .before .before .before .before .before .before .before .before .before .before .before .before .before .before in
+    omega (arith, c .shared-slice-known6 .given (start .args .at * 4 + 1))
 
 call-find-body-requires : (t : ℕ) → call-lts.Need-find-body-requires (callees t) (call-at t) call.Post
 call-find-body-requires t c κs =
-    call-find (call-apart (c .before .before .before .before .before .before .before .before .before .before
-    .before .before .before .before .before .before .before .before .before .before .before .pre .1 .0)
-    (c .before .before .before .before .before .before .before .before .before .before .before .before .before
-    .before .before .before .before .before .before .before .before .pre .1 .1) .3)
-    (c .before .before .before .before .before .before .before .before .before .args2 .ensures)
+    let at-args2 = c .before .before .before .before .before .before .before in
+    let start = at-args2 .before .before .before .before .before .before .before .before .before .before in
+    call-find (call-apart (start .pre .1 .0)
+    (start .pre .1 .1) .3)
+    (at-args2 .args2 .ensures)
 
 call-enum-known-t : (t : ℕ) → call-lts.Need-enum-known-t (callees t) (call-at t) call.Post
 call-enum-known-t t c = search needs
@@ -179,10 +165,8 @@ call-enum-known-t-2 t c = search needs
 
 call-mul-size : (t : ℕ) → call-lts.Need-mul-size (callees t) (call-at t) call.Post
 call-mul-size t c =
-    let at-args2 = c .before .before .before .before .before .before .before .before .before .before .before
-    .before .before in
-    let start = at-args2 .before .before .before .before .before .before .before .before .before .before
-    .before .before in
+    let at-args2 = c .before .before .before .before .before .before .before .before .before .before .before in
+    let start = at-args2 .before .before .before .before .before .before .before .before .before .before in
     let x = call-apart (start .pre .1 .0) (start .pre .1 .1) .3 in
     let p = call-enter x (at-args2 .args2 .ensures) (c .before .t2 .given .1)
     (c .before .before .before .find-body .ensures) in
@@ -191,26 +175,21 @@ call-mul-size t c =
 call-shared-slice-read-size : (t : ℕ) → call-lts.Need-shared-slice-read-size (callees t) (call-at t) call.Post
 call-shared-slice-read-size t c =
     let at-find-body = c .before .before .before .before in
-    let at-args2 = at-find-body .before .before .before .before .before .before .before .before .before
-    .before in
-    let start = at-args2 .before .before .before .before .before .before .before .before .before .before
-    .before .before in
+    let at-args2 = at-find-body .before .before .before .before .before .before .before .before in
+    let start = at-args2 .before .before .before .before .before .before .before .before .before .before in
     let x = call-apart (start .pre .1 .0) (start .pre .1 .1) .3 in
     let p = call-enter x (at-args2 .args2 .ensures) (c .before .before .t2 .given .1)
     (at-find-body .find-body .ensures) in
     in-ends (p .entering)
 
 call-cast-size : (t : ℕ) → call-lts.Need-cast-size (callees t) (call-at t) call.Post
-call-cast-size t c =
-    omega (arith, c .shared-slice-known8 .given (c .before .before .t2 .given .0 .0))
+call-cast-size t c = omega (arith, c .shared-slice-known7 .given (c .before .before .t2 .given .0 .0))
 
 call-sub-size : (t : ℕ) → call-lts.Need-sub-size (callees t) (call-at t) call.Post
 call-sub-size t c =
     let at-find-body = c .before .before .before .before in
-    let at-args2 = at-find-body .before .before .before .before .before .before .before .before .before
-    .before in
-    let start = at-args2 .before .before .before .before .before .before .before .before .before .before
-    .before .before in
+    let at-args2 = at-find-body .before .before .before .before .before .before .before .before in
+    let start = at-args2 .before .before .before .before .before .before .before .before .before .before in
     let x = call-apart (start .pre .1 .0) (start .pre .1 .1) .3 in
     let p = call-enter x (at-args2 .args2 .ensures) (c .before .before .t2 .given .1)
     (at-find-body .find-body .ensures) in
@@ -219,10 +198,8 @@ call-sub-size t c =
 call-frame-width-requires : (t : ℕ) → call-lts.Need-frame-width-requires (callees t) (call-at t) call.Post
 call-frame-width-requires t c κs =
     let at-find-body = c .before .before .before .before in
-    let at-args2 = at-find-body .before .before .before .before .before .before .before .before .before
-    .before in
-    let start = at-args2 .before .before .before .before .before .before .before .before .before .before
-    .before .before in
+    let at-args2 = at-find-body .before .before .before .before .before .before .before .before in
+    let start = at-args2 .before .before .before .before .before .before .before .before .before .before in
     let x = call-apart (start .pre .1 .0) (start .pre .1 .1) .3 in
     let p = call-enter x (at-args2 .args2 .ensures) (c .before .before .t2 .given .1)
     (at-find-body .find-body .ensures) in
@@ -231,10 +208,8 @@ call-frame-width-requires t c κs =
 call-add-if2 : (t : ℕ) → call-lts.Need-add-if2 (callees t) (call-at t) call.Post
 call-add-if2 t c =
     let at-find-body = c .before .before .before .before .before in
-    let at-args2 = at-find-body .before .before .before .before .before .before .before .before .before
-    .before in
-    let start = at-args2 .before .before .before .before .before .before .before .before .before .before
-    .before .before in
+    let at-args2 = at-find-body .before .before .before .before .before .before .before .before in
+    let start = at-args2 .before .before .before .before .before .before .before .before .before .before in
     let x = call-apart (start .pre .1 .0) (start .pre .1 .1) .3 in
     let p = call-enter x (at-args2 .args2 .ensures) (c .before .before .before .t2 .given .1)
     (at-find-body .find-body .ensures) in
@@ -243,7 +218,7 @@ call-add-if2 t c =
       width-small p (c .frame-width .ensures),
       p .entering .there,
       kept-args x (at-args2 .args2 .ensures) .long,
-      start .good .1 .1 .1 .1 .1 .1 .0,
+      start .pre .1 .0 .ready .whole,
     )
 
 call-most-nested-requires : (t : ℕ) → call-lts.Need-most-nested-requires (callees t) (call-at t) call.Post
@@ -254,10 +229,8 @@ call-mul-if2 : (t : ℕ) → call-lts.Need-mul-if2 (callees t) (call-at t) call.
 call-mul-if2 t c =
     let at-t2 = c .before .before .before .before in
     let at-find-body = at-t2 .before .before in
-    let at-args2 = at-find-body .before .before .before .before .before .before .before .before .before
-    .before in
-    let start = at-args2 .before .before .before .before .before .before .before .before .before .before
-    .before .before in
+    let at-args2 = at-find-body .before .before .before .before .before .before .before .before in
+    let start = at-args2 .before .before .before .before .before .before .before .before .before .before in
     let x = call-apart (start .pre .1 .0) (start .pre .1 .1) .3 in
     let p = call-enter x (at-args2 .args2 .ensures) (at-t2 .t2 .given .1)
     (at-find-body .find-body .ensures) in
@@ -267,10 +240,8 @@ call-add-if2-2 : (t : ℕ) → call-lts.Need-add-if2-2 (callees t) (call-at t) c
 call-add-if2-2 t c =
     let at-t2 = c .before .before .before .before in
     let at-find-body = at-t2 .before .before in
-    let at-args2 = at-find-body .before .before .before .before .before .before .before .before .before
-    .before in
-    let start = at-args2 .before .before .before .before .before .before .before .before .before .before
-    .before .before in
+    let at-args2 = at-find-body .before .before .before .before .before .before .before .before in
+    let start = at-args2 .before .before .before .before .before .before .before .before .before .before in
     let x = call-apart (start .pre .1 .0) (start .pre .1 .1) .3 in
     let p = call-enter x (at-args2 .args2 .ensures) (at-t2 .t2 .given .1)
     (at-find-body .find-body .ensures) in
@@ -280,17 +251,15 @@ call-add-if2-2 t c =
       nested-small p (c .most-nested .ensures),
       p .entering .there,
       kept-args x (at-args2 .args2 .ensures) .long,
-      start .good .1 .1 .1 .1 .1 .1 .0,
+      start .pre .1 .0 .ready .whole,
     )
 
 call-add-enter-fresh : (t : ℕ) → call-lts.Need-add-enter-fresh (callees t) (call-at t) call.Post
 call-add-enter-fresh t c =
     let at-t2 = c .before .before .before .before .before .before .before .before in
     let at-find-body = at-t2 .before .before in
-    let at-args2 = at-find-body .before .before .before .before .before .before .before .before .before
-    .before in
-    let start = at-args2 .before .before .before .before .before .before .before .before .before .before
-    .before .before in
+    let at-args2 = at-find-body .before .before .before .before .before .before .before .before in
+    let start = at-args2 .before .before .before .before .before .before .before .before .before .before in
     let x = call-apart (start .pre .1 .0) (start .pre .1 .1) .3 in
     let p = call-enter x (at-args2 .args2 .ensures) (at-t2 .t2 .given .1)
     (at-find-body .find-body .ensures) in
@@ -301,10 +270,8 @@ call-enter-fresh-requires t c κs =
     let at-frame-width = c .before .before .before .before .before in
     let at-t2 = at-frame-width .before .before .before in
     let at-find-body = at-t2 .before .before in
-    let at-args2 = at-find-body .before .before .before .before .before .before .before .before .before
-    .before in
-    let start = at-args2 .before .before .before .before .before .before .before .before .before .before
-    .before .before in
+    let at-args2 = at-find-body .before .before .before .before .before .before .before .before in
+    let start = at-args2 .before .before .before .before .before .before .before .before .before .before in
     let x = call-apart (start .pre .1 .0) (start .pre .1 .1) .3 in
     let p = call-enter x (at-args2 .args2 .ensures) (at-t2 .t2 .given .1)
     (at-find-body .find-body .ensures) in (
@@ -312,26 +279,18 @@ call-enter-fresh-requires t c κs =
       (p, at-frame-width .frame-width .ensures),
     )
 
-call-same-length-3 : (t : ℕ) → call-lts.Need-same-length-3 (callees t) (call-at t) call.Post
-call-same-length-3 t c =
-    let at-args2 = c .before .before .before .before .before .before .before .before .before .before .before
-    .before .before .before .before .before .before .before .before .before .before .before .before in
+call-same-length-2 : (t : ℕ) → call-lts.Need-same-length-2 (callees t) (call-at t) call.Post
+call-same-length-2 t c =
+    let at-args2 = c .before .before .before .before .before .before .before .before .before .before .before .before .before .before .before .before .before .before .before .before .before in
     c .before .before .enter-fresh .kept .1 .1 .1 .1 .1 .0 ∙ at-args2 .args2 .kept .1 .1 .1 .1 .1 .0
-
-call-same-length-4 : (t : ℕ) → call-lts.Need-same-length-4 (callees t) (call-at t) call.Post
-call-same-length-4 t c =
-    let at-args2 = c .before .before .before .before .before .before .before .before .before .before .before
-    .before .before .before .before .before .before .before .before .before .before .before .before in
-    at-args2 .args2 .kept .1 .1 .1 .1 .1 .1 .0
 
 call-returns-2 : (t : ℕ) → call-lts.Need-returns-2 (callees t) (call-at t) call.Post
 call-returns-2 t c =
     let at-t2 = c .before .before .before .before .before .before .before .before .before .before .before in
     let at-find-body = at-t2 .before .before in
     let at-if1 = at-find-body .before .before .before .before .before in
-    let at-args2 = at-if1 .before .before .before .before .before in
-    let start = at-args2 .before .before .before .before .before .before .before .before .before .before
-    .before .before in
+    let at-args2 = at-if1 .before .before .before in
+    let start = at-args2 .before .before .before .before .before .before .before .before .before .before in
     call-done (start .args .at) (start .pre .1 .1) (at-args2 .args2 .ensures)
     (outcome-value (at-args2 .args2 .result) (omega (arith, at-if1 .if1 .left))) (at-t2 .t2 .given .1)
     (at-find-body .find-body .ensures) (c .before .before .enter-fresh .ensures)
@@ -341,10 +300,8 @@ call-add-eval t c =
     let at-frame-width = c .before .before .before .before .before in
     let at-t2 = at-frame-width .before .before .before in
     let at-find-body = at-t2 .before .before in
-    let at-args2 = at-find-body .before .before .before .before .before .before .before .before .before
-    .before in
-    let start = at-args2 .before .before .before .before .before .before .before .before .before .before
-    .before .before in
+    let at-args2 = at-find-body .before .before .before .before .before .before .before .before in
+    let start = at-args2 .before .before .before .before .before .before .before .before .before .before in
     let x = call-apart (start .pre .1 .0) (start .pre .1 .1) .3 in
     let p = call-enter x (at-args2 .args2 .ensures) (at-t2 .t2 .given .1)
     (at-find-body .find-body .ensures) in
@@ -353,17 +310,15 @@ call-add-eval t c =
       width-small p (at-frame-width .frame-width .ensures),
       p .entering .there,
       kept-args x (at-args2 .args2 .ensures) .long,
-      start .good .1 .1 .1 .1 .1 .1 .0,
+      start .pre .1 .0 .ready .whole,
     )
 
 call-add-eval-2 : (t : ℕ) → call-lts.Need-add-eval-2 (callees t) (call-at t) call.Post
 call-add-eval-2 t c =
     let at-t2 = c .before .before .before .before .before .before .before .before in
     let at-find-body = at-t2 .before .before in
-    let at-args2 = at-find-body .before .before .before .before .before .before .before .before .before
-    .before in
-    let start = at-args2 .before .before .before .before .before .before .before .before .before .before
-    .before .before in
+    let at-args2 = at-find-body .before .before .before .before .before .before .before .before in
+    let start = at-args2 .before .before .before .before .before .before .before .before .before .before in
     let x = call-apart (start .pre .1 .0) (start .pre .1 .1) .3 in
     let p = call-enter x (at-args2 .args2 .ensures) (at-t2 .t2 .given .1)
     (at-find-body .find-body .ensures) in
@@ -375,83 +330,64 @@ call-eval-requires t c κs =
     let at-frame-width = at-most-nested .before in
     let at-t2 = at-frame-width .before .before .before in
     let at-find-body = at-t2 .before .before in
-    let at-args2 = at-find-body .before .before .before .before .before .before .before .before .before
-    .before in
-    let start = at-args2 .before .before .before .before .before .before .before .before .before .before
-    .before .before in
+    let at-args2 = at-find-body .before .before .before .before .before .before .before .before in
+    let start = at-args2 .before .before .before .before .before .before .before .before .before .before in
     let x = call-apart (start .pre .1 .0) (start .pre .1 .1) .3 in
     let p = call-enter x (at-args2 .args2 .ensures) (at-t2 .t2 .given .1)
     (at-find-body .find-body .ensures) in (
       omega (arith, start .pre .0, kept-args x (at-args2 .args2 .ensures) .falls),
       here-pre (at-frame-width .frame-width .ensures) (at-most-nested .most-nested .ensures)
-          (omega (arith, c .before .before .before .if2 .left)) p,
+          (omega (arith, c .before .before .before .if2 .left, p .entering .whole)) p,
     )
 
-call-same-length-5 : (t : ℕ) → call-lts.Need-same-length-5 (callees t) (call-at t) call.Post
-call-same-length-5 t c =
-    let at-args2 = c .before .before .before .before .before .before .before .before .before .before .before
-    .before .before in
+call-same-length-3 : (t : ℕ) → call-lts.Need-same-length-3 (callees t) (call-at t) call.Post
+call-same-length-3 t c =
+    let at-args2 = c .before .before .before .before .before .before .before .before .before .before .before in
     at-args2 .args2 .kept .1 .1 .1 .1 .1 .0
-
-call-same-length-6 : (t : ℕ) → call-lts.Need-same-length-6 (callees t) (call-at t) call.Post
-call-same-length-6 t c =
-    let at-args2 = c .before .before .before .before .before .before .before .before .before .before .before
-    .before .before in
-    at-args2 .args2 .kept .1 .1 .1 .1 .1 .1 .0
 
 call-returns-3 : (t : ℕ) → call-lts.Need-returns-3 (callees t) (call-at t) call.Post
 call-returns-3 t c =
     let at-if1 = c .before .before .before .before .before .before .before .before in
-    let at-args2 = at-if1 .before .before .before .before .before in
-    let start = at-args2 .before .before .before .before .before .before .before .before .before .before
-    .before .before in
+    let at-args2 = at-if1 .before .before .before in
+    let start = at-args2 .before .before .before .before .before .before .before .before .before .before in
     call-ends (start .args .at) (start .pre .1 .1) (at-args2 .args2 .ensures)
     (outcome-value (at-args2 .args2 .result) (omega (arith, at-if1 .if1 .left))) (c .before .t .given .1)
     (c .before .before .before .find-body .ensures)
 
-call-same-length-7 : (t : ℕ) → call-lts.Need-same-length-7 (callees t) (call-at t) call.Post
-call-same-length-7 t c =
-    let at-eval = c .before .before .before .before in
-    let at-args2 = at-eval .before .before .before .before .before .before .before .before .before .before
-    .before .before .before .before .before .before .before .before .before .before .before in
-    at-eval .eval .kept .1 .1 .1 .1 .1 .0 ∙ at-args2 .args2 .kept .1 .1 .1 .1 .1 .0
-
-call-same-length-8 : (t : ℕ) → call-lts.Need-same-length-8 (callees t) (call-at t) call.Post
-call-same-length-8 t c =
-    let at-eval = c .before .before .before .before in
-    let at-args2 = at-eval .before .before .before .before .before .before .before .before .before .before
-    .before .before .before .before .before .before .before .before .before .before .before in
-    at-eval .eval .kept .1 .1 .1 .1 .1 .1 .0 ∙ at-args2 .args2 .kept .1 .1 .1 .1 .1 .1 .0
+call-same-length-4 : (t : ℕ) → call-lts.Need-same-length-4 (callees t) (call-at t) call.Post
+call-same-length-4 t c =
+    let at-args2 = c .before .before .before .before .before .before .before .before .before .before .before .before .before .before .before .before .before .before .before .before .before in
+    c .before .before .eval .kept .1 .1 .1 .1 .1 .0 ∙ at-args2 .args2 .kept .1 .1 .1 .1 .1 .0
 
 call-returns-4 : (t : ℕ) → call-lts.Need-returns-4 (callees t) (call-at t) call.Post
 call-returns-4 t c =
-    let at-eval = c .before .before .before .before in
-    let at-if2 = at-eval .before .before .before .before in
+    let at-if2 = c .before .before .before .before .before .before in
     let at-most-nested = at-if2 .before in
     let at-frame-width = at-most-nested .before in
     let at-t2 = at-frame-width .before .before .before in
     let at-find-body = at-t2 .before .before in
     let at-if1 = at-find-body .before .before .before .before .before in
-    let at-args2 = at-if1 .before .before .before .before .before in
-    let start = at-args2 .before .before .before .before .before .before .before .before .before .before
-    .before .before in
+    let at-args2 = at-if1 .before .before .before in
+    let start = at-args2 .before .before .before .before .before .before .before .before .before .before in
+    let x = call-apart (start .pre .1 .0) (start .pre .1 .1) .3 in
+    let p = call-enter x (at-args2 .args2 .ensures) (at-t2 .t2 .given .1) (at-find-body .find-body .ensures) in
     call-done (start .args .at) (start .pre .1 .1) (at-args2 .args2 .ensures)
     (outcome-value (at-args2 .args2 .result) (omega (arith, at-if1 .if1 .left))) (at-t2 .t2 .given .1)
     (at-find-body .find-body .ensures)
     (here-done (at-frame-width .frame-width .ensures) (at-most-nested .most-nested .ensures)
-    (omega (arith, at-if2 .if2 .left)) (at-eval .eval .ensures))
+    (omega (arith, at-if2 .if2 .left, p .entering .whole)) (c .before .before .eval .ensures))
 
 -- The member, of its callees' contracts.
 pub call-holds : {M : Type 1} (t : ℕ) → call-lts.Closed (callees t) (call-at t) call.Post M
 call-holds t =
     call-lts.spec (callees t) (call-at t) call.Post
     (call-mul-n t) (call-add-n t) (call-mul-n-2 t) (call-shared-slice-read-n t) (call-cast-n t)
-    (call-add-args t) (call-add-args-2 t) (call-args-requires t) (call-same-length t) (call-same-length-2 t)
-    (call-returns t) (call-mul-v t) (call-slice-read-v t) (call-mul-m t) (call-add-m t) (call-mul-m-2 t)
+    (call-add-args t) (call-add-args-2 t) (call-args-requires t) (call-same-length t)
+    (call-returns t) (call-mul-v t) (call-element-copy-out-v t) (call-mul-m t) (call-add-m t) (call-mul-m-2 t)
     (call-shared-slice-read-m t) (call-cast-m t) (call-find-body-requires t) (call-enum-known-t t)
     (call-enum-known-t-2 t) (call-mul-size t) (call-shared-slice-read-size t) (call-cast-size t)
     (call-sub-size t) (call-frame-width-requires t) (call-add-if2 t) (call-most-nested-requires t)
     (call-mul-if2 t) (call-add-if2-2 t) (call-add-enter-fresh t) (call-enter-fresh-requires t)
-    (call-same-length-3 t) (call-same-length-4 t) (call-returns-2 t) (call-add-eval t) (call-add-eval-2 t)
-    (call-eval-requires t) (call-same-length-5 t) (call-same-length-6 t) (call-returns-3 t)
-    (call-same-length-7 t) (call-same-length-8 t) (call-returns-4 t)
+    (call-same-length-2 t) (call-returns-2 t) (call-add-eval t) (call-add-eval-2 t)
+    (call-eval-requires t) (call-same-length-3 t) (call-returns-3 t)
+    (call-same-length-4 t) (call-returns-4 t)

@@ -3,7 +3,7 @@ use borrow.Author.Needs.{needs}
 use native.Mathlib.Omega.{arith}
 use Prim.Native.Nat.{ℕ}
 use lib.ListN.{length-replicate}
-use Rattle.machine.proofs.Entering.{own-pre, own-done}
+use Rattle.machine.proofs.Entering.{own-pre, own-done, words-copied}
 use Rattle.machine.proofs.enter_fresh.Reads as enter-fresh
 use Rattle.machine.proofs.eval.Reads as eval
 use Rattle.machine.proofs.copy_slots.Reads as copy-slots-reads
@@ -21,44 +21,42 @@ enter-fresh-slice-aggregate-copy-slots t c = search needs
 enter-fresh-add-copy-slots : (t : ℕ)
     → enter-fresh-lts.Need-add-copy-slots (callees t) (enter-fresh-at t) enter-fresh.Post
 enter-fresh-add-copy-slots t c =
-    let start = c .before .before .before .before .before .before .before .before in
+    let start = c .before .before .before .before .before .before .before in
     omega (arith, start .pre .1 .0 .entering .few)
 
 enter-fresh-copy-slots-requires : (t : ℕ)
     → enter-fresh-lts.Need-copy-slots-requires (callees t) (enter-fresh-at t) enter-fresh.Post
 enter-fresh-copy-slots-requires t c κs =
-    let start = c .before .before .before .before .before .before .before .before in (
+    let start = c .before .before .before .before .before .before .before in (
       start .pre .1 .0 .entering .there,
-      omega (arith, length-replicate {A = ℕ} 4096 0, start .pre .1 .0 .entering .few),
+      omega (arith, length-replicate {A = ℕ} 1920 0, start .pre .1 .0 .entering .few),
     )
-
-enter-fresh-slice-aggregate-eval : (t : ℕ)
-    → enter-fresh-lts.Need-slice-aggregate-eval (callees t) (enter-fresh-at t) enter-fresh.Post
-enter-fresh-slice-aggregate-eval t c = search needs
 
 enter-fresh-eval-requires : (t : ℕ)
     → enter-fresh-lts.Need-eval-requires (callees t) (enter-fresh-at t) enter-fresh.Post
 enter-fresh-eval-requires t c κs =
     let at-copy-slots = c .before .before .before .before in
-    let start = at-copy-slots .before .before .before .before .before .before .before .before .before in (
+    let start = at-copy-slots .before .before .before .before .before .before .before .before in (
       omega (arith, start .pre .0),
       own-pre (start .pre .1 .1)
-          (omega (arith, length-replicate {A = ℕ} 4096 0, at-copy-slots .copy-slots .ensures .long))
+          (omega (arith, length-replicate {A = ℕ} 1920 0, at-copy-slots .copy-slots .ensures .long))
+          (words-copied (start .args .slots .now) 1920 (start .args .top) (at-copy-slots .copy-slots .ensures) (start .pre .1 .0 .entering .words))
           (start .pre .1 .0),
     )
 
 enter-fresh-same-length : (t : ℕ)
     → enter-fresh-lts.Need-same-length (callees t) (enter-fresh-at t) enter-fresh.Post
-enter-fresh-same-length t c = c .before .before .before .eval .kept .1 .1 .1 .1 .1 .0
+enter-fresh-same-length t c = c .before .before .eval .kept .1 .1 .1 .1 .1 .0
 
 enter-fresh-returns : (t : ℕ)
     → enter-fresh-lts.Need-returns (callees t) (enter-fresh-at t) enter-fresh.Post
 enter-fresh-returns t c =
-    let at-copy-slots = c .before .before .before .before .before .before .before .before in
-    let start = at-copy-slots .before .before .before .before .before .before .before .before .before in
+    let at-copy-slots = c .before .before .before .before .before .before .before in
+    let start = at-copy-slots .before .before .before .before .before .before .before .before in
     own-done (start .pre .1 .1)
-    (omega (arith, length-replicate {A = ℕ} 4096 0, at-copy-slots .copy-slots .ensures .long))
-    (at-copy-slots .copy-slots .ensures) (c .before .before .before .eval .ensures)
+    (omega (arith, length-replicate {A = ℕ} 1920 0, at-copy-slots .copy-slots .ensures .long))
+    (words-copied (start .args .slots .now) 1920 (start .args .top) (at-copy-slots .copy-slots .ensures) (start .pre .1 .0 .entering .words))
+    (at-copy-slots .copy-slots .ensures) (c .before .before .eval .ensures)
 
 -- The member, of its callees' contracts.
 pub enter-fresh-holds : {M : Type 1} (t : ℕ)
@@ -66,5 +64,5 @@ pub enter-fresh-holds : {M : Type 1} (t : ℕ)
 enter-fresh-holds t =
     enter-fresh-lts.spec (callees t) (enter-fresh-at t) enter-fresh.Post
     (enter-fresh-slice-aggregate-copy-slots t) (enter-fresh-add-copy-slots t)
-    (enter-fresh-copy-slots-requires t) (enter-fresh-slice-aggregate-eval t) (enter-fresh-eval-requires t)
+    (enter-fresh-copy-slots-requires t) (enter-fresh-eval-requires t)
     (enter-fresh-same-length t) (enter-fresh-returns t)

@@ -1,11 +1,11 @@
 -- What the borrow checker leaves of `items`.
 use native.Mathlib.Omega.{arith}
-use mathlib.Core.Path.{refl, _∙_}
+use mathlib.Core.Path.{refl, ap, _∙_}
 use Prim.Native.Nat.{ℕ, _-_}
 use Rattle.objects.specs.Values.{Gave, counts-in, answer, answered}
 use Rattle.machine.specs.Machine.{place-of}
 use Rattle.machine.specs.Contracts.{nothing}
-use Rattle.objects.proofs.Values.{outcome-value, not-gave}
+use Rattle.objects.proofs.Values.{outcome-value, not-gave, meaning-null}
 use Rattle.machine.proofs.Lists.{list-first, ItemsLoop, items-start, items-head, items-broken}
 use Rattle.machine.proofs.Lists.{items-next, items-ended}
 use Rattle.machine.proofs.eval.Reads as eval
@@ -33,8 +33,8 @@ items-μ-loop rows ends tables above methods store₀ slots₀ tally₀ at base 
 items-loop-holds : (t : ℕ)
     → items-lts.Need-loop-holds (callees t) (items-at t) items.Post items-Inv-loop items-μ-loop
 items-loop-holds t c =
-    let start = c .before .before .before .before .before .before .before in
-    items-start (start .pre .1) (omega arith) (outcome-value 0 (omega arith))
+    let start = c .before .before .before .before .before in
+    items-start (start .pre .1) (omega arith) (outcome-value 0 (omega arith) ∙ ap Gave meaning-null)
 
 items-eval-requires : (t : ℕ)
     → items-lts.Need-eval-requires (callees t) (items-at t) items.Post items-Inv-loop items-μ-loop
@@ -46,70 +46,60 @@ items-eval-requires t c κs =
 
 items-same-length : (t : ℕ)
     → items-lts.Need-same-length (callees t) (items-at t) items.Post items-Inv-loop items-μ-loop
-items-same-length t c = c .before .before .before .before .before .eval .kept .1 .1 .1 .1 .1 .0
-    ∙ c .before .before .before .before .before .before .before .before .before .before .loop .inv .long-store
-
-items-same-length-2 : (t : ℕ)
-    → items-lts.Need-same-length-2 (callees t) (items-at t) items.Post items-Inv-loop items-μ-loop
-items-same-length-2 t c = c .before .before .before .before .before .eval .kept .1 .1 .1 .1 .1 .1 .0
-    ∙ c .before .before .before .before .before .before .before .before .before .before .loop .inv .long-slots
+items-same-length t c = c .before .before .before .eval .kept .1 .1 .1 .1 .1 .0
+    ∙ c .before .before .before .before .before .before .before .before .loop .inv .long-store
 
 items-returns : (t : ℕ)
     → items-lts.Need-returns (callees t) (items-at t) items.Post items-Inv-loop items-μ-loop
 items-returns t c =
-    let at-eval = c .before .before .before .before .before in
-    let at-loop-test = at-eval .before .before .before .before in
+    let at-loop-test = c .before .before .before .before .before .before .before in
     let at-loop = at-loop-test .before in
-    items-broken (at-loop .loop .inv) (at-loop-test .loop-test .taken) (at-eval .eval .ensures) refl
-    (not-gave (at-eval .eval .result) (c .if1 .taken))
+    items-broken (at-loop .loop .inv) (at-loop-test .loop-test .taken) (c .before .before .before .eval .ensures) refl
+    (not-gave (c .before .before .before .eval .result) (c .if1 .taken))
 
 items-mul-next : (t : ℕ)
     → items-lts.Need-mul-next (callees t) (items-at t) items.Post items-Inv-loop items-μ-loop
 items-mul-next t c =
-    let at-loop-test = c .before .before .before .before .before .before .before .before .before in
+    let at-loop-test = c .before .before .before .before .before .before .before in
     let at-loop = at-loop-test .before in
     omega (arith, (items-head (at-loop .loop .inv) (at-loop-test .loop-test .taken) .2) .in-ends)
 
 items-shared-slice-read-next : (t : ℕ)
     → items-lts.Need-shared-slice-read-next (callees t) (items-at t) items.Post items-Inv-loop items-μ-loop
 items-shared-slice-read-next t c =
-    let at-loop-test = c .before .before .before .before .before .before .before .before .before .before in
+    let at-loop-test = c .before .before .before .before .before .before .before .before in
     let at-loop = at-loop-test .before in
     omega (arith, (items-head (at-loop .loop .inv) (at-loop-test .loop-test .taken) .2) .in-ends)
 
 items-cast-next : (t : ℕ)
     → items-lts.Need-cast-next (callees t) (items-at t) items.Post items-Inv-loop items-μ-loop
 items-cast-next t c =
-    let at-loop = c .before .before .before .before .before .before .before .before .before .before .before in
-    omega (arith, c .shared-slice-known6 .given (at-loop .loop .next))
+    let at-loop = c .before .before .before .before .before .before .before .before .before in
+    omega (arith, c .shared-slice-known5 .given (at-loop .loop .next))
 
 items-add-i : (t : ℕ) → items-lts.Need-add-i (callees t) (items-at t) items.Post items-Inv-loop items-μ-loop
 items-add-i t c =
-    let at-loop-test = c .before .before .before .before .before .before .before .before .before .before in
+    let at-loop-test = c .before .before .before .before .before .before .before .before in
     omega (arith, at-loop-test .loop-test .taken)
 
 items-loop-less : (t : ℕ)
     → items-lts.Need-loop-less (callees t) (items-at t) items.Post items-Inv-loop items-μ-loop
 items-loop-less t c =
-    let at-loop-test = c .before .before .before .before .before .before .before .before .before .before in
+    let at-loop-test = c .before .before .before .before .before .before .before .before in
     omega (arith, at-loop-test .loop-test .taken)
 
 items-loop-again : (t : ℕ)
     → items-lts.Need-loop-again (callees t) (items-at t) items.Post items-Inv-loop items-μ-loop
 items-loop-again t c =
-    let at-eval = c .before .before .before .before .before .before in
+    let at-eval = c .before .before .before .before in
     let at-loop-test = at-eval .before .before .before .before in
     let at-loop = at-loop-test .before in
     items-next (at-loop .loop .inv) (at-loop-test .loop-test .taken) (at-eval .eval .ensures)
     (outcome-value (at-eval .eval .result) (omega (arith, c .before .if1 .left)))
 
-items-same-length-3 : (t : ℕ)
-    → items-lts.Need-same-length-3 (callees t) (items-at t) items.Post items-Inv-loop items-μ-loop
-items-same-length-3 t c = c .before .loop .inv .long-store
-
-items-same-length-4 : (t : ℕ)
-    → items-lts.Need-same-length-4 (callees t) (items-at t) items.Post items-Inv-loop items-μ-loop
-items-same-length-4 t c = c .before .loop .inv .long-slots
+items-same-length-2 : (t : ℕ)
+    → items-lts.Need-same-length-2 (callees t) (items-at t) items.Post items-Inv-loop items-μ-loop
+items-same-length-2 t c = c .before .loop .inv .long-store
 
 items-returns-2 : (t : ℕ)
     → items-lts.Need-returns-2 (callees t) (items-at t) items.Post items-Inv-loop items-μ-loop
@@ -120,6 +110,6 @@ pub items-holds : {M : Type 1} (t : ℕ) → items-lts.Closed (callees t) (items
 items-holds t =
     items-lts.spec (callees t) (items-at t) items.Post
     items-Inv-loop items-μ-loop (items-loop-holds t) (items-eval-requires t) (items-same-length t)
-    (items-same-length-2 t) (items-returns t) (items-mul-next t) (items-shared-slice-read-next t)
-    (items-cast-next t) (items-add-i t) (items-loop-less t) (items-loop-again t) (items-same-length-3 t)
-    (items-same-length-4 t) (items-returns-2 t)
+    (items-returns t) (items-mul-next t) (items-shared-slice-read-next t)
+    (items-cast-next t) (items-add-i t) (items-loop-less t) (items-loop-again t) (items-same-length-2 t)
+    (items-returns-2 t)

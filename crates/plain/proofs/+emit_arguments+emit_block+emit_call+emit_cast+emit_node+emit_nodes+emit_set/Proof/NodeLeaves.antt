@@ -1,5 +1,6 @@
 -- What is left to prove of `emit_node` of nodes without children, T, L, N, I, W and R, before it returns.
-use Prim.Native.Nat.{ℕ, _+_, _*_}
+use mathlib.Core.Path.{sym, _∙_}
+use Prim.Native.Nat.{ℕ}
 use native.Mathlib.Omega.{arith}
 use borrow.Author.Needs.{needs}
 use Rattle.plain.proofs.Arms.{row-known, slot-known, new-known, change-known, literal-known}
@@ -9,6 +10,9 @@ use Rattle.plain.proofs.emit_cast.Reads as emit-cast
 use Rattle.plain.proofs.emit_node.Reads as emit-node
 use Rattle.plain.proofs.emit_nodes.Reads as emit-nodes
 use Rattle.plain.proofs.emit_set.Reads as emit-set
+use Rattle.language.proofs.letter_at.Reads as letter-at-reads
+use Rattle.language.proofs.first.Reads as first-reads
+use Rattle.language.proofs.second.Reads as second-reads
 use Rattle.plain.proofs.put.Reads as put-reads
 use Rattle.plain.proofs.put_change.Reads as put-change-reads
 use Rattle.plain.proofs.put_new.Reads as put-new-reads
@@ -21,12 +25,18 @@ use Rattle.plain.proofs.+emit_arguments+emit_block+emit_call+emit_cast+
 -- What its callees ask and give: those of the cycle below the measure t.
 abbrev pub callees : ℕ → emit-node-lts.Claims
 callees t = (
+  letter-at-reads.Asked,
+  letter-at-reads.Learnt,
+  first-reads.Asked,
+  first-reads.Learnt,
   put-reads.Asked,
   put-reads.Learnt,
   put-slot-reads.Asked,
   put-slot-reads.Learnt,
   put-new-reads.Asked,
   put-new-reads.Learnt,
+  second-reads.Asked,
+  second-reads.Learnt,
   put-change-reads.Asked,
   put-change-reads.Learnt,
   emit-node-below t,
@@ -43,18 +53,15 @@ callees t = (
   emit-block.Post,
 )
 
-pub emit-node-mul-letter : (t : ℕ) → emit-node-lts.Need-mul-letter (callees t) (emit-node-at t) emit-node.Post
-emit-node-mul-letter t c = omega (arith, row-known (c .before .before .before .before .before .pre .1) .0)
+pub emit-node-letter-at-requires : (t : ℕ)
+    → emit-node-lts.Need-letter-at-requires (callees t) (emit-node-at t) emit-node.Post
+emit-node-letter-at-requires t c κs =
+    omega (arith, row-known (c .before .before .before .before .before .pre .1) .0)
 
-pub emit-node-mul-letter-2 : (t : ℕ)
-    → emit-node-lts.Need-mul-letter-2 (callees t) (emit-node-at t) emit-node.Post
-emit-node-mul-letter-2 t c = omega (arith, row-known (c .before .before .before .before .before .pre .1) .0)
-
-pub emit-node-shared-slice-read-letter : (t : ℕ)
-    → emit-node-lts.Need-shared-slice-read-letter (callees t) (emit-node-at t) emit-node.Post
-emit-node-shared-slice-read-letter t c =
-    let start = c .before .before .before .before .before .before in
-    omega (arith, row-known (start .pre .1) .0)
+pub emit-node-first-requires : (t : ℕ)
+    → emit-node-lts.Need-first-requires (callees t) (emit-node-at t) emit-node.Post
+emit-node-first-requires t c κs =
+    omega (arith, row-known (c .before .before .before .before .before .before .pre .1) .0)
 
 pub emit-node-slice-aggregate-put : (t : ℕ)
     → emit-node-lts.Need-slice-aggregate-put (callees t) (emit-node-at t) emit-node.Post
@@ -63,176 +70,108 @@ emit-node-slice-aggregate-put t c = search needs
 pub emit-node-put-requires : (t : ℕ)
     → emit-node-lts.Need-put-requires (callees t) (emit-node-at t) emit-node.Post
 emit-node-put-requires t c κs =
-    let start = c .before .before .before .before .before .before .before .before .before in
-    literal-known (start .pre .1) (c .before .before .match .keys1)
+    let at-letter-at = c .before .before .before .before in
+    let start = at-letter-at .before .before .before .before .before .before in
+    literal-known (start .pre .1) (rw (at-letter-at .letter-at .ensures) at (c .before .before .match .keys1))
 
-pub emit-node-add-t35 : (t : ℕ) → emit-node-lts.Need-add-t35 (callees t) (emit-node-at t) emit-node.Post
-emit-node-add-t35 t c =
+pub emit-node-add-t32 : (t : ℕ) → emit-node-lts.Need-add-t32 (callees t) (emit-node-at t) emit-node.Post
+emit-node-add-t32 t c =
     let start = c .before .before .before .before .before .before .before .before .before .before .before
-    .before in
-    omega (arith, row-known (start .pre .1) .0)
-
-pub emit-node-mul-slot : (t : ℕ) → emit-node-lts.Need-mul-slot (callees t) (emit-node-at t) emit-node.Post
-emit-node-mul-slot t c =
-    let start = c .before .before .before .before .before .before .before in
-    omega (arith, row-known (start .pre .1) .0)
-
-pub emit-node-add-slot : (t : ℕ) → emit-node-lts.Need-add-slot (callees t) (emit-node-at t) emit-node.Post
-emit-node-add-slot t c =
-    let start = c .before .before .before .before .before .before .before in
-    omega (arith, row-known (start .pre .1) .0)
-
-pub emit-node-mul-slot-2 : (t : ℕ) → emit-node-lts.Need-mul-slot-2 (callees t) (emit-node-at t) emit-node.Post
-emit-node-mul-slot-2 t c =
-    let start = c .before .before .before .before .before .before .before in
-    omega (arith, row-known (start .pre .1) .0)
-
-pub emit-node-shared-slice-read-slot : (t : ℕ)
-    → emit-node-lts.Need-shared-slice-read-slot (callees t) (emit-node-at t) emit-node.Post
-emit-node-shared-slice-read-slot t c =
-    let start = c .before .before .before .before .before .before .before .before in
+    .before .before in
     omega (arith, row-known (start .pre .1) .0)
 
 pub emit-node-cast-slot : (t : ℕ) → emit-node-lts.Need-cast-slot (callees t) (emit-node-at t) emit-node.Post
-emit-node-cast-slot t c =
-    let start = c .before .before .before .before .before .before .before .before in
-    omega (arith, c .shared-slice-known6 .given (start .args .at * 4 + 1))
+emit-node-cast-slot t c = search needs
 
-pub emit-node-mul-slot-3 : (t : ℕ) → emit-node-lts.Need-mul-slot-3 (callees t) (emit-node-at t) emit-node.Post
-emit-node-mul-slot-3 t c =
+pub emit-node-mul-slot : (t : ℕ) → emit-node-lts.Need-mul-slot (callees t) (emit-node-at t) emit-node.Post
+emit-node-mul-slot t c =
     let start = c .before .before .before .before .before .before .before .before in
-    omega (arith, slot-known (start .pre .1) (c .before .match .keys2) .0)
+    omega (
+      arith,
+      c .before .first .ensures,
+      slot-known (start .pre .1) (sym (c .before .before .letter-at .ensures) ∙ c .match .keys2) .0,
+    )
 
 pub emit-node-element-copy-out-slot : (t : ℕ)
     → emit-node-lts.Need-element-copy-out-slot (callees t) (emit-node-at t) emit-node.Post
 emit-node-element-copy-out-slot t c =
     let start = c .before .before .before .before .before .before .before .before in
-    omega (arith, slot-known (start .pre .1) (c .before .match .keys2) .0)
+    omega (
+      arith,
+      c .before .first .ensures,
+      slot-known (start .pre .1) (sym (c .before .before .letter-at .ensures) ∙ c .match .keys2) .0,
+    )
 
 pub emit-node-put-slot-requires : (t : ℕ)
     → emit-node-lts.Need-put-slot-requires (callees t) (emit-node-at t) emit-node.Post
 emit-node-put-slot-requires t c κs =
-    let start = c .before .before .before .before .before .before .before .before .before .before in
-    slot-known (start .pre .1) (c .before .before .before .match .keys2) .1
+    let at-letter-at = c .before .before .before .before in
+    let start = at-letter-at .before .before .before .before .before .before in
+    rw (c .before .before .before .first .ensures)
+    (slot-known (start .pre .1)
+    (sym (at-letter-at .letter-at .ensures) ∙ c .before .before .match .keys2) .1)
 
-pub emit-node-add-t36 : (t : ℕ) → emit-node-lts.Need-add-t36 (callees t) (emit-node-at t) emit-node.Post
-emit-node-add-t36 t c =
+pub emit-node-add-t33 : (t : ℕ) → emit-node-lts.Need-add-t33 (callees t) (emit-node-at t) emit-node.Post
+emit-node-add-t33 t c =
     let start = c .before .before .before .before .before .before .before .before .before .before .before
     .before .before in
-    omega (arith, row-known (start .pre .1) .0)
-
-pub emit-node-mul-put-new : (t : ℕ)
-    → emit-node-lts.Need-mul-put-new (callees t) (emit-node-at t) emit-node.Post
-emit-node-mul-put-new t c =
-    let start = c .before .before .before .before .before .before .before .before in
-    omega (arith, row-known (start .pre .1) .0)
-
-pub emit-node-add-put-new : (t : ℕ)
-    → emit-node-lts.Need-add-put-new (callees t) (emit-node-at t) emit-node.Post
-emit-node-add-put-new t c =
-    let start = c .before .before .before .before .before .before .before .before in
-    omega (arith, row-known (start .pre .1) .0)
-
-pub emit-node-mul-put-new-2 : (t : ℕ)
-    → emit-node-lts.Need-mul-put-new-2 (callees t) (emit-node-at t) emit-node.Post
-emit-node-mul-put-new-2 t c =
-    let start = c .before .before .before .before .before .before .before .before in
-    omega (arith, row-known (start .pre .1) .0)
-
-pub emit-node-shared-slice-read-put-new : (t : ℕ)
-    → emit-node-lts.Need-shared-slice-read-put-new (callees t) (emit-node-at t) emit-node.Post
-emit-node-shared-slice-read-put-new t c =
-    let start = c .before .before .before .before .before .before .before .before .before in
     omega (arith, row-known (start .pre .1) .0)
 
 pub emit-node-put-new-requires : (t : ℕ)
     → emit-node-lts.Need-put-new-requires (callees t) (emit-node-at t) emit-node.Post
 emit-node-put-new-requires t c κs =
     let start = c .before .before .before .before .before .before .before .before .before in
-    new-known (start .pre .1) (c .before .before .match .keys3)
+    rw (c .before .before .first .ensures)
+    (new-known (start .pre .1)
+    (sym (c .before .before .before .letter-at .ensures) ∙ c .before .match .keys3))
 
-pub emit-node-add-t50 : (t : ℕ) → emit-node-lts.Need-add-t50 (callees t) (emit-node-at t) emit-node.Post
-emit-node-add-t50 t c =
+pub emit-node-add-t42 : (t : ℕ) → emit-node-lts.Need-add-t42 (callees t) (emit-node-at t) emit-node.Post
+emit-node-add-t42 t c =
     let start = c .before .before .before .before .before .before .before .before .before .before .before
     .before in
     omega (arith, row-known (start .pre .1) .0)
 
-pub emit-node-mul-slot-4 : (t : ℕ) → emit-node-lts.Need-mul-slot-4 (callees t) (emit-node-at t) emit-node.Post
-emit-node-mul-slot-4 t c =
-    let start = c .before .before .before .before .before .before .before in
-    omega (arith, row-known (start .pre .1) .0)
-
-pub emit-node-add-slot-2 : (t : ℕ) → emit-node-lts.Need-add-slot-2 (callees t) (emit-node-at t) emit-node.Post
-emit-node-add-slot-2 t c =
-    let start = c .before .before .before .before .before .before .before in
-    omega (arith, row-known (start .pre .1) .0)
-
-pub emit-node-mul-slot-5 : (t : ℕ) → emit-node-lts.Need-mul-slot-5 (callees t) (emit-node-at t) emit-node.Post
-emit-node-mul-slot-5 t c =
-    let start = c .before .before .before .before .before .before .before in
-    omega (arith, row-known (start .pre .1) .0)
-
-pub emit-node-shared-slice-read-slot-2 : (t : ℕ)
-    → emit-node-lts.Need-shared-slice-read-slot-2 (callees t) (emit-node-at t) emit-node.Post
-emit-node-shared-slice-read-slot-2 t c =
-    let start = c .before .before .before .before .before .before .before .before in
-    omega (arith, row-known (start .pre .1) .0)
-
 pub emit-node-cast-slot-2 : (t : ℕ)
     → emit-node-lts.Need-cast-slot-2 (callees t) (emit-node-at t) emit-node.Post
-emit-node-cast-slot-2 t c =
-    let start = c .before .before .before .before .before .before .before .before in
-    omega (arith, c .shared-slice-known8 .given (start .args .at * 4 + 1))
+emit-node-cast-slot-2 t c = search needs
 
-pub emit-node-mul-slot-6 : (t : ℕ) → emit-node-lts.Need-mul-slot-6 (callees t) (emit-node-at t) emit-node.Post
-emit-node-mul-slot-6 t c =
+pub emit-node-mul-slot-2 : (t : ℕ) → emit-node-lts.Need-mul-slot-2 (callees t) (emit-node-at t) emit-node.Post
+emit-node-mul-slot-2 t c =
     let start = c .before .before .before .before .before .before .before .before in
-    omega (arith, change-known (start .pre .1) (c .before .match .keys4) .0)
+    omega (
+      arith,
+      c .before .first .ensures,
+      change-known (start .pre .1) (sym (c .before .before .letter-at .ensures) ∙ c .match .keys4) .0,
+    )
 
 pub emit-node-element-copy-out-slot-2 : (t : ℕ)
     → emit-node-lts.Need-element-copy-out-slot-2 (callees t) (emit-node-at t) emit-node.Post
 emit-node-element-copy-out-slot-2 t c =
     let start = c .before .before .before .before .before .before .before .before in
-    omega (arith, change-known (start .pre .1) (c .before .match .keys4) .0)
+    omega (
+      arith,
+      c .before .first .ensures,
+      change-known (start .pre .1) (sym (c .before .before .letter-at .ensures) ∙ c .match .keys4) .0,
+    )
 
-pub emit-node-mul-put-change : (t : ℕ)
-    → emit-node-lts.Need-mul-put-change (callees t) (emit-node-at t) emit-node.Post
-emit-node-mul-put-change t c =
+pub emit-node-second-requires : (t : ℕ)
+    → emit-node-lts.Need-second-requires (callees t) (emit-node-at t) emit-node.Post
+emit-node-second-requires t c κs =
     let start = c .before .before .before .before .before .before .before .before .before .before in
-    omega (arith, row-known (start .pre .1) .0)
-
-pub emit-node-add-put-change : (t : ℕ)
-    → emit-node-lts.Need-add-put-change (callees t) (emit-node-at t) emit-node.Post
-emit-node-add-put-change t c =
-    let start = c .before .before .before .before .before .before .before .before .before .before in
-    omega (arith, row-known (start .pre .1) .0)
-
-pub emit-node-mul-put-change-2 : (t : ℕ)
-    → emit-node-lts.Need-mul-put-change-2 (callees t) (emit-node-at t) emit-node.Post
-emit-node-mul-put-change-2 t c =
-    let start = c .before .before .before .before .before .before .before .before .before .before in
-    omega (arith, row-known (start .pre .1) .0)
-
-pub emit-node-shared-slice-read-put-change : (t : ℕ)
-    → emit-node-lts.Need-shared-slice-read-put-change (callees t) (emit-node-at t) emit-node.Post
-emit-node-shared-slice-read-put-change t c =
-    let start = c .before .before .before .before .before .before .before .before .before .before .before in
     omega (arith, row-known (start .pre .1) .0)
 
 pub emit-node-put-change-requires : (t : ℕ)
     → emit-node-lts.Need-put-change-requires (callees t) (emit-node-at t) emit-node.Post
 emit-node-put-change-requires t c κs =
-    let start = c .before .before .before .before .before .before .before .before .before .before .before in
-    let the-match = c .before .before .before .before .match in (
-      change-known (start .pre .1) (the-match .keys4) .1,
-      (
-        change-known (start .pre .1) (the-match .keys4) .2,
-        change-known (start .pre .1) (the-match .keys4) .3,
-      ),
-    )
+    let at-first = c .before .before .before .before in
+    let at-letter-at = at-first .before in
+    let start = at-letter-at .before .before .before .before .before .before in
+    let k = change-known (start .pre .1)
+    (sym (at-letter-at .letter-at .ensures) ∙ c .before .before .before .match .keys4) in
+    rw (at-first .first .ensures, c .second .ensures) (k .1, (k .2, k .3))
 
-pub emit-node-add-t60 : (t : ℕ) → emit-node-lts.Need-add-t60 (callees t) (emit-node-at t) emit-node.Post
-emit-node-add-t60 t c =
+pub emit-node-add-t43 : (t : ℕ) → emit-node-lts.Need-add-t43 (callees t) (emit-node-at t) emit-node.Post
+emit-node-add-t43 t c =
     let start = c .before .before .before .before .before .before .before .before .before .before .before
     .before .before .before in
     omega (arith, row-known (start .pre .1) .0)

@@ -1,6 +1,7 @@
 -- What is left to prove of `emit_node` of nodes with children, before it returns: these have tasks.
 use mathlib.Core.Logic.{inl, inr}
-use Prim.Native.Nat.{ℕ, _+_, _*_}
+use mathlib.Core.Path.{sym, _∙_}
+use Prim.Native.Nat.{ℕ}
 use native.Mathlib.Omega.{arith}
 use borrow.Author.Needs.{needs}
 use Rattle.plain.proofs.Arms.{row-known, is-null-known, is-null-some, assign-known, assign-some}
@@ -18,62 +19,49 @@ emit-node-slice-aggregate-put-2 t c = search needs
 pub emit-node-put-requires-2 : (t : ℕ)
     → emit-node-lts.Need-put-requires-2 (callees t) (emit-node-at t) emit-node.Post
 emit-node-put-requires-2 t c κs =
-    let start = c .before .before .before .before .before .before .before .before .before in
-    is-null-known (start .pre .1) (c .before .before .match .keys5)
+    let at-letter-at = c .before .before .before .before in
+    let start = at-letter-at .before .before .before .before .before .before in
+    is-null-known (start .pre .1) (sym (at-letter-at .letter-at .ensures) ∙ c .before .before .match .keys5)
 
 pub emit-node-add-emit-node : (t : ℕ)
     → emit-node-lts.Need-add-emit-node (callees t) (emit-node-at t) emit-node.Post
 emit-node-add-emit-node t c =
     let start = c .before .before .before .before .before .before .before .before .before .before .before
-    .before .before in
+    .before .before .before in
     omega (arith, row-known (start .pre .1) .0)
 
 pub emit-node-emit-node-requires : (t : ℕ)
     → emit-node-lts.Need-emit-node-requires (callees t) (emit-node-at t) emit-node.Post
 emit-node-emit-node-requires t c κs =
-    let start = c .before .before .before .before .before .before .before .before .before .before .before
-    .before .before in
-    let the-match = c .before .before .before .before .before .before .match in (
+    let at-match = c .before .before .before .before .before .before in
+    let at-letter-at = at-match .before .before in
+    let start = at-letter-at .before .before .before .before .before .before in (
       omega (arith, row-known (start .pre .1) .1),
-      is-null-some (start .pre .1) (the-match .keys5) _ (c .before .before .before .put2 .ensures .ended),
+      is-null-some (start .pre .1) (sym (at-letter-at .letter-at .ensures) ∙ at-match .match .keys5) _
+          (c .before .before .before .put2 .ensures .ended),
     )
 
-pub emit-node-mul-t75 : (t : ℕ) → emit-node-lts.Need-mul-t75 (callees t) (emit-node-at t) emit-node.Post
-emit-node-mul-t75 t c =
-    let start = c .before .before .before .before .before .before .before in
-    omega (arith, row-known (start .pre .1) .0)
+pub emit-node-cast-t57 : (t : ℕ) → emit-node-lts.Need-cast-t57 (callees t) (emit-node-at t) emit-node.Post
+emit-node-cast-t57 t c = search needs
 
-pub emit-node-add-t76 : (t : ℕ) → emit-node-lts.Need-add-t76 (callees t) (emit-node-at t) emit-node.Post
-emit-node-add-t76 t c =
-    let start = c .before .before .before .before .before .before .before in
-    omega (arith, row-known (start .pre .1) .0)
-
-pub emit-node-mul-t77 : (t : ℕ) → emit-node-lts.Need-mul-t77 (callees t) (emit-node-at t) emit-node.Post
-emit-node-mul-t77 t c =
-    let start = c .before .before .before .before .before .before .before in
-    omega (arith, row-known (start .pre .1) .0)
-
-pub emit-node-shared-slice-read-t79 : (t : ℕ)
-    → emit-node-lts.Need-shared-slice-read-t79 (callees t) (emit-node-at t) emit-node.Post
-emit-node-shared-slice-read-t79 t c =
+pub emit-node-mul-t58 : (t : ℕ) → emit-node-lts.Need-mul-t58 (callees t) (emit-node-at t) emit-node.Post
+emit-node-mul-t58 t c =
     let start = c .before .before .before .before .before .before .before .before in
-    omega (arith, row-known (start .pre .1) .0)
+    omega (
+      arith,
+      c .before .first .ensures,
+      assign-known (start .pre .1) (sym (c .before .before .letter-at .ensures) ∙ c .match .keys6) .0,
+    )
 
-pub emit-node-cast-t80 : (t : ℕ) → emit-node-lts.Need-cast-t80 (callees t) (emit-node-at t) emit-node.Post
-emit-node-cast-t80 t c =
+pub emit-node-element-copy-out-t61 : (t : ℕ)
+    → emit-node-lts.Need-element-copy-out-t61 (callees t) (emit-node-at t) emit-node.Post
+emit-node-element-copy-out-t61 t c =
     let start = c .before .before .before .before .before .before .before .before in
-    omega (arith, c .shared-slice-known10 .given (start .args .at * 4 + 1))
-
-pub emit-node-mul-t81 : (t : ℕ) → emit-node-lts.Need-mul-t81 (callees t) (emit-node-at t) emit-node.Post
-emit-node-mul-t81 t c =
-    let start = c .before .before .before .before .before .before .before .before in
-    omega (arith, assign-known (start .pre .1) (c .before .match .keys6) .0)
-
-pub emit-node-element-copy-out-t84 : (t : ℕ)
-    → emit-node-lts.Need-element-copy-out-t84 (callees t) (emit-node-at t) emit-node.Post
-emit-node-element-copy-out-t84 t c =
-    let start = c .before .before .before .before .before .before .before .before in
-    omega (arith, assign-known (start .pre .1) (c .before .match .keys6) .0)
+    omega (
+      arith,
+      c .before .first .ensures,
+      assign-known (start .pre .1) (sym (c .before .before .letter-at .ensures) ∙ c .match .keys6) .0,
+    )
 
 pub emit-node-slice-aggregate-put-3 : (t : ℕ)
     → emit-node-lts.Need-slice-aggregate-put-3 (callees t) (emit-node-at t) emit-node.Post
@@ -82,9 +70,10 @@ emit-node-slice-aggregate-put-3 t c = search needs
 pub emit-node-put-requires-3 : (t : ℕ)
     → emit-node-lts.Need-put-requires-3 (callees t) (emit-node-at t) emit-node.Post
 emit-node-put-requires-3 t c κs =
-    let start = c .before .before .before .before .before .before .before .before .before .before .before in
-    let the-match = c .before .before .before .before .match in
-    assign-known (start .pre .1) (the-match .keys6) .1
+    let at-letter-at = c .before .before .before .before .before in
+    let start = at-letter-at .before .before .before .before .before .before in
+    assign-known (start .pre .1)
+    (sym (at-letter-at .letter-at .ensures) ∙ c .before .before .before .match .keys6) .1
 
 pub emit-node-add-emit-node-2 : (t : ℕ)
     → emit-node-lts.Need-add-emit-node-2 (callees t) (emit-node-at t) emit-node.Post
@@ -96,54 +85,33 @@ emit-node-add-emit-node-2 t c =
 pub emit-node-emit-node-requires-2 : (t : ℕ)
     → emit-node-lts.Need-emit-node-requires-2 (callees t) (emit-node-at t) emit-node.Post
 emit-node-emit-node-requires-2 t c κs =
-    let start = c .before .before .before .before .before .before .before .before .before .before .before
-    .before .before .before .before in
-    let the-match = c .before .before .before .before .before .before .before .before .match in (
+    let at-match = c .before .before .before .before .before .before .before in
+    let at-letter-at = at-match .before .before in
+    let start = at-letter-at .before .before .before .before .before .before in (
       omega (arith, row-known (start .pre .1) .1),
-      assign-some (start .pre .1) (the-match .keys6) _ (c .before .before .before .put3 .ensures .ended),
+      assign-some (start .pre .1) (sym (at-letter-at .letter-at .ensures) ∙ at-match .match .keys6) _
+          (c .before .before .before .put3 .ensures .ended),
     )
 
-pub emit-node-mul-t91 : (t : ℕ) → emit-node-lts.Need-mul-t91 (callees t) (emit-node-at t) emit-node.Post
-emit-node-mul-t91 t c =
-    let start = c .before .before .before .before .before .before .before in
-    omega (arith, row-known (start .pre .1) .0)
+pub emit-node-mul-t68 : (t : ℕ) → emit-node-lts.Need-mul-t68 (callees t) (emit-node-at t) emit-node.Post
+emit-node-mul-t68 t c =
+    omega (arith, row-known (c .before .before .before .before .before .before .before .before .pre .1) .2)
 
-pub emit-node-add-t92 : (t : ℕ) → emit-node-lts.Need-add-t92 (callees t) (emit-node-at t) emit-node.Post
-emit-node-add-t92 t c =
-    let start = c .before .before .before .before .before .before .before in
-    omega (arith, row-known (start .pre .1) .0)
-
-pub emit-node-mul-t93 : (t : ℕ) → emit-node-lts.Need-mul-t93 (callees t) (emit-node-at t) emit-node.Post
-emit-node-mul-t93 t c =
-    let start = c .before .before .before .before .before .before .before in
-    omega (arith, row-known (start .pre .1) .0)
-
-pub emit-node-shared-slice-read-t95 : (t : ℕ)
-    → emit-node-lts.Need-shared-slice-read-t95 (callees t) (emit-node-at t) emit-node.Post
-emit-node-shared-slice-read-t95 t c =
-    let start = c .before .before .before .before .before .before .before .before in
-    omega (arith, row-known (start .pre .1) .0)
-
-pub emit-node-mul-t96 : (t : ℕ) → emit-node-lts.Need-mul-t96 (callees t) (emit-node-at t) emit-node.Post
-emit-node-mul-t96 t c =
-    let start = c .before .before .before .before .before .before .before .before in
-    omega (arith, row-known (start .pre .1) .2)
-
-pub emit-node-shared-slice-read-t98 : (t : ℕ)
-    → emit-node-lts.Need-shared-slice-read-t98 (callees t) (emit-node-at t) emit-node.Post
-emit-node-shared-slice-read-t98 t c =
+pub emit-node-shared-slice-read-t70 : (t : ℕ)
+    → emit-node-lts.Need-shared-slice-read-t70 (callees t) (emit-node-at t) emit-node.Post
+emit-node-shared-slice-read-t70 t c =
     let start = c .before .before .before .before .before .before .before .before .before in
     omega (arith, row-known (start .pre .1) .2)
 
-pub emit-node-cast-t99 : (t : ℕ) → emit-node-lts.Need-cast-t99 (callees t) (emit-node-at t) emit-node.Post
-emit-node-cast-t99 t c =
+pub emit-node-cast-t71 : (t : ℕ) → emit-node-lts.Need-cast-t71 (callees t) (emit-node-at t) emit-node.Post
+emit-node-cast-t71 t c =
     let start = c .before .before .before .before .before .before .before .before .before in
-    omega (arith, c .shared-slice-known12 .given (start .args .at))
+    omega (arith, c .shared-slice-known5 .given (start .args .at))
 
-pub emit-node-add-t100 : (t : ℕ) → emit-node-lts.Need-add-t100 (callees t) (emit-node-at t) emit-node.Post
-emit-node-add-t100 t c =
+pub emit-node-add-t72 : (t : ℕ) → emit-node-lts.Need-add-t72 (callees t) (emit-node-at t) emit-node.Post
+emit-node-add-t72 t c =
     let start = c .before .before .before .before .before .before .before .before .before in
-    omega (arith, c .shared-slice-known12 .given (start .args .at))
+    omega (arith, c .shared-slice-known5 .given (start .args .at))
 
 pub emit-node-slice-aggregate-put-4 : (t : ℕ)
     → emit-node-lts.Need-slice-aggregate-put-4 (callees t) (emit-node-at t) emit-node.Post
@@ -152,8 +120,10 @@ emit-node-slice-aggregate-put-4 t c = search needs
 pub emit-node-put-requires-4 : (t : ℕ)
     → emit-node-lts.Need-put-requires-4 (callees t) (emit-node-at t) emit-node.Post
 emit-node-put-requires-4 t c κs =
-    let start = c .before .before .before .before .before .before .before .before .before .before .before in
-    let the-match = c .before .before .before .before .match in get-known (start .pre .1) (the-match .keys7)
+    let at-letter-at = c .before .before .before .before .before in
+    let start = at-letter-at .before .before .before .before .before .before in
+    get-known (start .pre .1)
+    (sym (at-letter-at .letter-at .ensures) ∙ c .before .before .before .match .keys7)
 
 pub emit-node-add-emit-node-3 : (t : ℕ)
     → emit-node-lts.Need-add-emit-node-3 (callees t) (emit-node-at t) emit-node.Post
@@ -165,30 +135,40 @@ emit-node-add-emit-node-3 t c =
 pub emit-node-emit-node-requires-3 : (t : ℕ)
     → emit-node-lts.Need-emit-node-requires-3 (callees t) (emit-node-at t) emit-node.Post
 emit-node-emit-node-requires-3 t c κs =
-    let start = c .before .before .before .before .before .before .before .before .before .before .before
-    .before .before .before .before in
-    let the-match = c .before .before .before .before .before .before .before .before .match in (
+    let at-match = c .before .before .before .before .before .before .before in
+    let at-letter-at = at-match .before .before in
+    let start = at-letter-at .before .before .before .before .before .before in (
       omega (arith, row-known (start .pre .1) .1),
-      get-some (start .pre .1) (the-match .keys7) _ (c .before .before .before .put4 .ensures .ended),
+      get-some (start .pre .1) (sym (at-letter-at .letter-at .ensures) ∙ at-match .match .keys7) _
+          (c .before .before .before .put4 .ensures .ended),
     )
 
 pub emit-node-emit-cast-requires : (t : ℕ)
     → emit-node-lts.Need-emit-cast-requires (callees t) (emit-node-at t) emit-node.Post
 emit-node-emit-cast-requires t c κs =
-    let start = c .before .before .before .before .before .before .before .before in
-    (omega arith, cast-some (start .pre .1) (c .before .match .keys8))
+    let start = c .before .before .before .before .before .before .before .before .before in (
+      omega arith,
+      cast-some (start .pre .1) (sym (c .before .before .before .letter-at .ensures) ∙
+          c .before .match .keys8),
+    )
 
 pub emit-node-emit-set-requires : (t : ℕ)
     → emit-node-lts.Need-emit-set-requires (callees t) (emit-node-at t) emit-node.Post
 emit-node-emit-set-requires t c κs =
-    let start = c .before .before .before .before .before .before .before .before in
-    (omega arith, set-some (start .pre .1) (c .before .match .keys9))
+    let start = c .before .before .before .before .before .before .before .before .before in (
+      omega arith,
+      set-some (start .pre .1) (sym (c .before .before .before .letter-at .ensures) ∙
+          c .before .match .keys9),
+    )
 
 pub emit-node-emit-call-requires : (t : ℕ)
     → emit-node-lts.Need-emit-call-requires (callees t) (emit-node-at t) emit-node.Post
 emit-node-emit-call-requires t c κs =
-    let start = c .before .before .before .before .before .before .before .before in
-    (omega arith, call-some (start .pre .1) (c .before .match .keys10))
+    let start = c .before .before .before .before .before .before .before .before .before in (
+      omega arith,
+      call-some (start .pre .1) (sym (c .before .before .before .letter-at .ensures) ∙
+          c .before .match .keys10),
+    )
 
 pub emit-node-slice-aggregate-put-5 : (t : ℕ)
     → emit-node-lts.Need-slice-aggregate-put-5 (callees t) (emit-node-at t) emit-node.Post
@@ -197,32 +177,36 @@ emit-node-slice-aggregate-put-5 t c = search needs
 pub emit-node-put-requires-5 : (t : ℕ)
     → emit-node-lts.Need-put-requires-5 (callees t) (emit-node-at t) emit-node.Post
 emit-node-put-requires-5 t c κs =
-    let start = c .before .before .before .before .before .before .before .before .before in
-    choose-known (start .pre .1) (c .before .before .match .keys11)
+    let at-letter-at = c .before .before .before .before in
+    let start = at-letter-at .before .before .before .before .before .before in
+    choose-known (start .pre .1) (sym (at-letter-at .letter-at .ensures) ∙ c .before .before .match .keys11)
 
 pub emit-node-add-emit-nodes : (t : ℕ)
     → emit-node-lts.Need-add-emit-nodes (callees t) (emit-node-at t) emit-node.Post
 emit-node-add-emit-nodes t c =
     let start = c .before .before .before .before .before .before .before .before .before .before .before
-    .before .before in
+    .before .before .before in
     omega (arith, row-known (start .pre .1) .0)
 
 pub emit-node-emit-nodes-requires : (t : ℕ)
     → emit-node-lts.Need-emit-nodes-requires (callees t) (emit-node-at t) emit-node.Post
 emit-node-emit-nodes-requires t c κs =
-    let start = c .before .before .before .before .before .before .before .before .before .before .before
-    .before .before in
-    let the-match = c .before .before .before .before .before .before .match in (
+    let at-match = c .before .before .before .before .before .before in
+    let at-letter-at = at-match .before .before in
+    let start = at-letter-at .before .before .before .before .before .before in (
       omega (arith, row-known (start .pre .1) .1),
-      choose-some (start .pre .1) (the-match .keys11) _ (c .before .before .before .put5 .ensures .ended),
+      choose-some (start .pre .1) (sym (at-letter-at .letter-at .ensures) ∙ at-match .match .keys11) _
+          (c .before .before .before .put5 .ensures .ended),
     )
 
 pub emit-node-emit-block-requires : (t : ℕ)
     → emit-node-lts.Need-emit-block-requires (callees t) (emit-node-at t) emit-node.Post
 emit-node-emit-block-requires t c κs =
-    let start = c .before .before .before .before .before .before .before .before in (
+    let start = c .before .before .before .before .before .before .before .before .before in (
       omega arith,
-      block-some (start .pre .1) (rest-letter (start .pre .1)
+      block-some (start .pre .1)
+          (sym (c .before .before .before .letter-at .ensures)
+          ∙ rest-letter (start .pre .1) (c .before .before .before .letter-at .ensures)
           (λ e. c .before .match .rest .0 .0 .0 .0 .0 .0 .0 .0 .0 .0 .1 (inr (inr e)))
           (λ e. c .before .match .rest .0 .0 .0 .0 .0 .0 .0 .0 .0 .0 .1 (inl e))
           (λ e. c .before .match .rest .0 .0 .0 .0 .0 .0 .0 .0 .0 .0 .1 (inr (inl e)))

@@ -1,21 +1,27 @@
 -- What is left to prove of `emit_set`.
 use mathlib.Core.Path.{_∙_}
-use Prim.Native.Nat.{ℕ, _+_, _*_}
+use Prim.Native.Nat.{ℕ}
 use native.Mathlib.Omega.{arith}
-use lib.ListN.{getD}
 use borrow.Author.Needs.{needs}
 use Rattle.plain.proofs.Writing.{written-long}
-use Rattle.plain.proofs.Sets.{set-known, set-ended, set-room-after, set-done}
+use Rattle.plain.proofs.Sets.{set-row, set-fits, set-ended, set-room-after, set-known, set-found}
+use Rattle.plain.proofs.Sets.{set-within, set-done}
 use Rattle.plain.proofs.emit_arguments.Reads as emit-arguments
 use Rattle.plain.proofs.emit_set.Reads as emit-set
 use Rattle.plain.proofs.plain_type.Reads as plain-type-reads
 use Rattle.plain.proofs.put.Reads as put-reads
+use Rattle.language.proofs.first.Reads as first-reads
+use Rattle.language.proofs.class_entry.Reads as class-entry-reads
 use Rattle.plain.proofs.+emit_arguments+emit_block+emit_call+emit_cast+emit_node+emit_nodes+emit_set.Proof.Base.{emit-arguments-below, emit-set-at}
 use Rattle.plain.proofs.+emit_arguments+emit_block+emit_call+emit_cast+emit_node+emit_nodes+emit_set.Lts-emit_set as emit-set-lts
 
 -- What its callees ask and give: those of the cycle below the measure t.
 abbrev pub callees : ℕ → emit-set-lts.Claims
 callees t = (
+  first-reads.Asked,
+  first-reads.Learnt,
+  class-entry-reads.Asked,
+  class-entry-reads.Learnt,
   plain-type-reads.Asked,
   plain-type-reads.Learnt,
   put-reads.Asked,
@@ -24,130 +30,60 @@ callees t = (
   emit-arguments.Post,
 )
 
-emit-set-mul-name : (t : ℕ) → emit-set-lts.Need-mul-name (callees t) (emit-set-at t) emit-set.Post
-emit-set-mul-name t c = omega (arith, set-known (c .before .before .before .before .before .pre .1) .0)
-
-emit-set-add-name : (t : ℕ) → emit-set-lts.Need-add-name (callees t) (emit-set-at t) emit-set.Post
-emit-set-add-name t c = omega (arith, set-known (c .before .before .before .before .before .pre .1) .0)
-
-emit-set-mul-name-2 : (t : ℕ) → emit-set-lts.Need-mul-name-2 (callees t) (emit-set-at t) emit-set.Post
-emit-set-mul-name-2 t c = omega (arith, set-known (c .before .before .before .before .before .pre .1) .0)
-
-emit-set-shared-slice-read-name : (t : ℕ)
-    → emit-set-lts.Need-shared-slice-read-name (callees t) (emit-set-at t) emit-set.Post
-emit-set-shared-slice-read-name t c =
-    let start = c .before .before .before .before .before .before in
-    omega (arith, set-known (start .pre .1) .0)
+emit-set-first-requires : (t : ℕ) → emit-set-lts.Need-first-requires (callees t) (emit-set-at t) emit-set.Post
+emit-set-first-requires t c κs = omega (arith, set-row (c .before .before .before .before .before .pre .1) .0)
 
 emit-set-mul-class : (t : ℕ) → emit-set-lts.Need-mul-class (callees t) (emit-set-at t) emit-set.Post
-emit-set-mul-class t c =
-    omega (arith, set-known (c .before .before .before .before .before .before .pre .1) .2)
+emit-set-mul-class t c = omega (arith, set-row (c .before .before .before .before .before .before .pre .1) .2)
 
 emit-set-shared-slice-read-class : (t : ℕ)
     → emit-set-lts.Need-shared-slice-read-class (callees t) (emit-set-at t) emit-set.Post
 emit-set-shared-slice-read-class t c =
-    let start = c .before .before .before .before .before .before .before in
-    omega (arith, set-known (start .pre .1) .2)
+    omega (arith, set-row (c .before .before .before .before .before .before .before .pre .1) .2)
 
 emit-set-cast-class : (t : ℕ) → emit-set-lts.Need-cast-class (callees t) (emit-set-at t) emit-set.Post
 emit-set-cast-class t c =
     let start = c .before .before .before .before .before .before .before in
-    omega (arith, c .shared-slice-known6 .given (start .args .at))
+    omega (arith, c .shared-slice-known5 .given (start .args .at))
 
-emit-set-mul-field : (t : ℕ) → emit-set-lts.Need-mul-field (callees t) (emit-set-at t) emit-set.Post
-emit-set-mul-field t c =
+emit-set-cast-class-entry : (t : ℕ)
+    → emit-set-lts.Need-cast-class-entry (callees t) (emit-set-at t) emit-set.Post
+emit-set-cast-class-entry t c = search needs
+
+emit-set-class-entry-requires : (t : ℕ)
+    → emit-set-lts.Need-class-entry-requires (callees t) (emit-set-at t) emit-set.Post
+emit-set-class-entry-requires t c κs =
     let start = c .before .before .before .before .before .before .before in
-    omega (arith, set-known (start .pre .1) .3, set-known (start .pre .1) .4)
+    set-known (c .before .first .ensures) (start .pre .1) .1
 
-emit-set-cast-field : (t : ℕ) → emit-set-lts.Need-cast-field (callees t) (emit-set-at t) emit-set.Post
-emit-set-cast-field t c =
-    let start = c .before .before .before .before .before .before .before in
-    omega (arith, set-known (start .pre .1) .4)
+emit-set-cast-class-entry-2 : (t : ℕ)
+    → emit-set-lts.Need-cast-class-entry-2 (callees t) (emit-set-at t) emit-set.Post
+emit-set-cast-class-entry-2 t c = search needs
 
-emit-set-add-field : (t : ℕ) → emit-set-lts.Need-add-field (callees t) (emit-set-at t) emit-set.Post
-emit-set-add-field t c =
-    let start = c .before .before .before .before .before .before .before in
-    omega (arith, set-known (start .pre .1) .3, set-known (start .pre .1) .4)
-
-emit-set-mul-field-2 : (t : ℕ) → emit-set-lts.Need-mul-field-2 (callees t) (emit-set-at t) emit-set.Post
-emit-set-mul-field-2 t c =
-    let start = c .before .before .before .before .before .before .before in
-    omega (arith, set-known (start .pre .1) .3, set-known (start .pre .1) .4)
-
-emit-set-shared-slice-read-field : (t : ℕ)
-    → emit-set-lts.Need-shared-slice-read-field (callees t) (emit-set-at t) emit-set.Post
-emit-set-shared-slice-read-field t c =
+emit-set-add-class-entry : (t : ℕ)
+    → emit-set-lts.Need-add-class-entry (callees t) (emit-set-at t) emit-set.Post
+emit-set-add-class-entry t c =
     let start = c .before .before .before .before .before .before .before .before in
-    omega (arith, set-known (start .pre .1) .3, set-known (start .pre .1) .4)
+    omega (arith, set-found (c .before .before .first .ensures) (c .class-entry .ensures) (start .pre .1))
 
-emit-set-cast-field-2 : (t : ℕ) → emit-set-lts.Need-cast-field-2 (callees t) (emit-set-at t) emit-set.Post
-emit-set-cast-field-2 t c =
+emit-set-class-entry-requires-2 : (t : ℕ)
+    → emit-set-lts.Need-class-entry-requires-2 (callees t) (emit-set-at t) emit-set.Post
+emit-set-class-entry-requires-2 t c κs =
     let start = c .before .before .before .before .before .before .before .before in
-    omega (
-      arith,
-      c .shared-slice-known7 .given
-          (getD (start .args .lookups .now) (start .args .at) 0 * 576 + getD (start .args .rows .now)
-          (start .args .at * 4 + 1) 0),
-    )
+    set-found (c .before .before .first .ensures) (c .class-entry .ensures) (start .pre .1)
 
-emit-set-mul-row : (t : ℕ) → emit-set-lts.Need-mul-row (callees t) (emit-set-at t) emit-set.Post
-emit-set-mul-row t c =
-    let start = c .before .before .before .before .before .before .before .before in
-    omega (arith, set-known (start .pre .1) .5)
+emit-set-cast-first : (t : ℕ) → emit-set-lts.Need-cast-first (callees t) (emit-set-at t) emit-set.Post
+emit-set-cast-first t c = search needs
 
-emit-set-add-row : (t : ℕ) → emit-set-lts.Need-add-row (callees t) (emit-set-at t) emit-set.Post
-emit-set-add-row t c =
-    let start = c .before .before .before .before .before .before .before .before in
-    omega (arith, set-known (start .pre .1) .5)
-
-emit-set-add-row-2 : (t : ℕ) → emit-set-lts.Need-add-row-2 (callees t) (emit-set-at t) emit-set.Post
-emit-set-add-row-2 t c =
-    let start = c .before .before .before .before .before .before .before .before in
-    omega (arith, set-known (start .pre .1) .5)
-
-emit-set-mul-row-2 : (t : ℕ) → emit-set-lts.Need-mul-row-2 (callees t) (emit-set-at t) emit-set.Post
-emit-set-mul-row-2 t c =
-    let start = c .before .before .before .before .before .before .before .before in
-    omega (arith, set-known (start .pre .1) .5)
-
-emit-set-shared-slice-read-row : (t : ℕ)
-    → emit-set-lts.Need-shared-slice-read-row (callees t) (emit-set-at t) emit-set.Post
-emit-set-shared-slice-read-row t c =
-    let start = c .before .before .before .before .before .before .before .before .before in
-    omega (arith, set-known (start .pre .1) .5)
-
-emit-set-cast-row : (t : ℕ) → emit-set-lts.Need-cast-row (callees t) (emit-set-at t) emit-set.Post
-emit-set-cast-row t c =
+emit-set-first-requires-2 : (t : ℕ)
+    → emit-set-lts.Need-first-requires-2 (callees t) (emit-set-at t) emit-set.Post
+emit-set-first-requires-2 t c κs =
     let start = c .before .before .before .before .before .before .before .before .before in
     omega (
       arith,
-      c .shared-slice-known8 .given
-          (getD (start .args .lookups .now) (start .args .at) 0 * 576 + 519 + getD (start .args .tables .now)
-          (getD (start .args .lookups .now) (start .args .at) 0 * 576 + getD (start .args .rows .now)
-          (start .args .at * 4 + 1) 0) 0),
+      set-within (c .before .before .before .first .ensures) (c .before .class-entry .ensures)
+          (c .class-entry2 .ensures) (start .pre .1),
     )
-
-emit-set-mul-plain-type : (t : ℕ) → emit-set-lts.Need-mul-plain-type (callees t) (emit-set-at t) emit-set.Post
-emit-set-mul-plain-type t c =
-    let start = c .before .before .before .before .before .before .before .before .before in
-    omega (arith, set-known (start .pre .1) .6)
-
-emit-set-add-plain-type : (t : ℕ) → emit-set-lts.Need-add-plain-type (callees t) (emit-set-at t) emit-set.Post
-emit-set-add-plain-type t c =
-    let start = c .before .before .before .before .before .before .before .before .before in
-    omega (arith, set-known (start .pre .1) .6)
-
-emit-set-mul-plain-type-2 : (t : ℕ)
-    → emit-set-lts.Need-mul-plain-type-2 (callees t) (emit-set-at t) emit-set.Post
-emit-set-mul-plain-type-2 t c =
-    let start = c .before .before .before .before .before .before .before .before .before in
-    omega (arith, set-known (start .pre .1) .6)
-
-emit-set-shared-slice-read-plain-type : (t : ℕ)
-    → emit-set-lts.Need-shared-slice-read-plain-type (callees t) (emit-set-at t) emit-set.Post
-emit-set-shared-slice-read-plain-type t c =
-    let start = c .before .before .before .before .before .before .before .before .before .before in
-    omega (arith, set-known (start .pre .1) .6)
 
 emit-set-plain-type-requires : (t : ℕ)
     → emit-set-lts.Need-plain-type-requires (callees t) (emit-set-at t) emit-set.Post
@@ -161,54 +97,43 @@ emit-set-put-requires : (t : ℕ) → emit-set-lts.Need-put-requires (callees t)
 emit-set-put-requires t c κs =
     let start = c .before .before .before .before .before .before .before .before .before .before .before
     .before .before in
-    omega (arith, set-known (start .pre .1) .7)
+    omega (arith, set-fits (start .pre .1) .0)
+
+emit-set-add-t25 : (t : ℕ) → emit-set-lts.Need-add-t25 (callees t) (emit-set-at t) emit-set.Post
+emit-set-add-t25 t c =
+    let start = c .before .before .before .before .before .before .before .before .before .before .before
+    .before .before .before .before .before in
+    omega (arith, set-fits (start .pre .1) .1)
 
 emit-set-add-emit-arguments : (t : ℕ)
     → emit-set-lts.Need-add-emit-arguments (callees t) (emit-set-at t) emit-set.Post
 emit-set-add-emit-arguments t c =
     let start = c .before .before .before .before .before .before .before .before .before .before .before
     .before .before .before .before .before .before in
-    omega (arith, set-known (start .pre .1) .0)
-
-emit-set-add-t25 : (t : ℕ)
-    → emit-set-lts.Need-add-t25 (callees t) (emit-set-at t) emit-set.Post
-emit-set-add-t25 t c =
-    let start = c .before .before .before .before .before .before .before .before .before .before .before
-    .before .before .before .before .before in
-    omega (arith, set-known (start .pre .1) .8)
+    omega (arith, set-row (start .pre .1) .0)
 
 emit-set-emit-arguments-requires : (t : ℕ)
     → emit-set-lts.Need-emit-arguments-requires (callees t) (emit-set-at t) emit-set.Post
 emit-set-emit-arguments-requires t c κs =
     let start = c .before .before .before .before .before .before .before .before .before .before .before
     .before .before .before .before .before .before in (
-      omega (arith, set-known (start .pre .1) .1),
+      omega (arith, set-row (start .pre .1) .1),
       set-ended (start .pre .1) (c .before .before .before .put .ensures),
     )
 
-emit-set-cast-t25 : (t : ℕ) → emit-set-lts.Need-cast-t25 (callees t) (emit-set-at t) emit-set.Post
-emit-set-cast-t25 t c =
-    let start = c .before .before .before .before .before .before .before .before .before .before .before
-    .before .before .before .before .before .before .before .before .before in
-    let the-shared-slice-known6 =
+emit-set-add-t25-2 : (t : ℕ) → emit-set-lts.Need-add-t25-2 (callees t) (emit-set-at t) emit-set.Post
+emit-set-add-t25-2 t c =
+    let at-shared-slice-known5 =
     c .before .before .before .before .before .before .before .before .before .before .before .before
-    .before .shared-slice-known6 in
-    omega (arith, the-shared-slice-known6 .given (start .args .at))
+    .before in
+    let start = at-shared-slice-known5 .before .before .before .before .before .before .before in
+    omega (arith, at-shared-slice-known5 .shared-slice-known5 .given (start .args .at))
 
-emit-set-add-t32 : (t : ℕ) → emit-set-lts.Need-add-t32 (callees t) (emit-set-at t) emit-set.Post
-emit-set-add-t32 t c =
+emit-set-add-t26 : (t : ℕ) → emit-set-lts.Need-add-t26 (callees t) (emit-set-at t) emit-set.Post
+emit-set-add-t26 t c =
     let start = c .before .before .before .before .before .before .before .before .before .before .before
     .before .before .before .before .before .before .before .before .before in
-    let the-shared-slice-known6 =
-    c .before .before .before .before .before .before .before .before .before .before .before .before
-    .before .shared-slice-known6 in
-    omega (arith, the-shared-slice-known6 .given (start .args .at))
-
-emit-set-add-t39 : (t : ℕ) → emit-set-lts.Need-add-t39 (callees t) (emit-set-at t) emit-set.Post
-emit-set-add-t39 t c =
-    let start = c .before .before .before .before .before .before .before .before .before .before .before
-    .before .before .before .before .before .before .before .before .before in
-    omega (arith, set-known (start .pre .1) .8)
+    omega (arith, set-fits (start .pre .1) .1)
 
 emit-set-slice-aggregate-put-2 : (t : ℕ)
     → emit-set-lts.Need-slice-aggregate-put-2 (callees t) (emit-set-at t) emit-set.Post
@@ -216,42 +141,42 @@ emit-set-slice-aggregate-put-2 t c = search needs
 
 emit-set-put-requires-2 : (t : ℕ) → emit-set-lts.Need-put-requires-2 (callees t) (emit-set-at t) emit-set.Post
 emit-set-put-requires-2 t c κs =
-    let start = c .before .before .before .before .before .before .before .before .before .before .before
-    .before .before .before .before .before .before .before .before .before .before .before in
-    let the-put = c .before .before .before .before .before .before .before .before .put in
-    let the-emit-arguments = c .before .before .before .before .emit-arguments in
-    set-room-after (start .pre .1) (the-put .ensures .ended) (the-emit-arguments .ensures)
+    let at-emit-arguments = c .before .before .before .before in
+    let at-put = at-emit-arguments .before .before .before .before in
+    let start = at-put .before .before .before .before .before .before .before .before .before .before .before
+    .before .before .before in
+    set-room-after (start .pre .1) (at-put .put .ensures .ended) (at-emit-arguments .emit-arguments .ensures)
 
 emit-set-same-length : (t : ℕ) → emit-set-lts.Need-same-length (callees t) (emit-set-at t) emit-set.Post
 emit-set-same-length t c =
+    let at-emit-arguments = c .before .before .before .before .before .before .before in
+    let at-put = at-emit-arguments .before .before .before .before in
     written-long (c .before .before .put2 .ensures)
-    ∙ c .before .before .before .before .before .before .before .emit-arguments .kept .1 .1 .1 .1 .1 .0
-    ∙ written-long (c .before .before .before .before .before .before .before .before .before .before
-    .before .put .ensures)
+    ∙ at-emit-arguments .emit-arguments .kept .1 .1 .1 .1 .1 .0 ∙ written-long (at-put .put .ensures)
 
 emit-set-returns : (t : ℕ) → emit-set-lts.Need-returns (callees t) (emit-set-at t) emit-set.Post
 emit-set-returns t c =
-    let the-plain-type =
-    c .before .before .before .before .before .before .before .before .before .before .before .before .before
-    .before .plain-type in
-    let the-put = c .before .before .before .before .before .before .before .before .before .before
-    .before .put in
-    let the-emit-arguments = c .before .before .before .before .before .before .before .emit-arguments in
-    set-done (the-plain-type .ensures) (the-put .ensures) (the-emit-arguments .ensures)
-    (c .before .before .put2 .ensures)
+    let at-emit-arguments = c .before .before .before .before .before .before .before in
+    let at-put = at-emit-arguments .before .before .before .before in
+    let at-plain-type = at-put .before .before .before in
+    let at-first2 = at-plain-type .before in
+    let at-class-entry2 = at-first2 .before in
+    let at-class-entry = at-class-entry2 .before in
+    let at-first = at-class-entry .before .before in
+    set-done (at-first .first .ensures) (at-class-entry .class-entry .ensures)
+    (at-class-entry2 .class-entry2 .ensures) (at-first2 .first2 .ensures)
+    (at-plain-type .plain-type .ensures) (at-put .put .ensures)
+    (at-emit-arguments .emit-arguments .ensures) (c .before .before .put2 .ensures)
 
 -- The member, of its callees' contracts.
 pub emit-set-holds : {M : Type 1} (t : ℕ) → emit-set-lts.Closed (callees t) (emit-set-at t) emit-set.Post M
 emit-set-holds t =
     emit-set-lts.spec (callees t) (emit-set-at t) emit-set.Post
-    (emit-set-mul-name t) (emit-set-add-name t) (emit-set-mul-name-2 t) (emit-set-shared-slice-read-name t)
-    (emit-set-mul-class t) (emit-set-shared-slice-read-class t) (emit-set-cast-class t) (emit-set-mul-field t)
-    (emit-set-cast-field t) (emit-set-add-field t) (emit-set-mul-field-2 t)
-    (emit-set-shared-slice-read-field t) (emit-set-cast-field-2 t) (emit-set-mul-row t) (emit-set-add-row t)
-    (emit-set-add-row-2 t) (emit-set-mul-row-2 t) (emit-set-shared-slice-read-row t) (emit-set-cast-row t)
-    (emit-set-mul-plain-type t) (emit-set-add-plain-type t) (emit-set-mul-plain-type-2 t)
-    (emit-set-shared-slice-read-plain-type t) (emit-set-plain-type-requires t)
+    (emit-set-first-requires t) (emit-set-mul-class t) (emit-set-shared-slice-read-class t)
+    (emit-set-cast-class t) (emit-set-cast-class-entry t) (emit-set-class-entry-requires t)
+    (emit-set-cast-class-entry-2 t) (emit-set-add-class-entry t) (emit-set-class-entry-requires-2 t)
+    (emit-set-cast-first t) (emit-set-first-requires-2 t) (emit-set-plain-type-requires t)
     (emit-set-slice-aggregate-put t) (emit-set-put-requires t) (emit-set-add-t25 t)
-    (emit-set-add-emit-arguments t) (emit-set-emit-arguments-requires t) (emit-set-cast-t25 t)
-    (emit-set-add-t32 t) (emit-set-add-t39 t) (emit-set-slice-aggregate-put-2 t) (emit-set-put-requires-2 t)
+    (emit-set-add-emit-arguments t) (emit-set-emit-arguments-requires t) (emit-set-add-t25-2 t)
+    (emit-set-add-t26 t) (emit-set-slice-aggregate-put-2 t) (emit-set-put-requires-2 t)
     (emit-set-same-length t) (emit-set-returns t)
