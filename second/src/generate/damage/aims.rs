@@ -43,7 +43,7 @@ impl Damaged {
                 let row = self.any_of(&[letter::BLOCK], random)?;
                 let more = random.pick(&[20, 31, 32, 240, 255, 256, 300]);
                 let v = self.number(row, 1);
-                self.put(row, 1, v + more);
+                self.put(row, 1, v.saturating_add(more));
                 for _ in 0..more {
                     self.insert(row + 1, [letter::LOCAL, BOOL, 0, 0]);
                 }
@@ -210,7 +210,7 @@ impl Damaged {
     pub(super) fn for_slot(&mut self, random: &mut Random) -> Option<()> {
         let row = self.any_of(&[letter::SLOT, letter::ASSIGN, letter::CHANGE], random)?;
         let slot = self.number(row, 1);
-        let next = slot + random.between(1, 4) as u32;
+        let next = slot.saturating_add(random.between(1, 4) as u32);
         self.put(row, 1, random.pick(&[0, next, next, 255, 256, NUMBER_MOST]));
         Some(())
     }
@@ -225,7 +225,7 @@ impl Damaged {
         let count = self.number(row, 2);
         if count > 0 && random.chance(30) {
             let mut last = self.end_of(row + 1);
-            for _ in 1..count {
+            for _ in 1..count.min(self.count() as u32) {
                 last = self.end_of(last);
             }
             let end = self.end_of(last);
@@ -237,7 +237,7 @@ impl Damaged {
             for _ in 0..more {
                 self.insert(end, [random.pick(&[letter::TRUE, letter::NULL]), 0, 0, 0]);
             }
-            self.put(row, 2, count + more);
+            self.put(row, 2, count.saturating_add(more));
         }
         Some(())
     }
