@@ -158,7 +158,8 @@ module _ (R : List ℕ) where
       record { effects = rw f a; depth = depth; wide = wide; deep = deep; slots = rw s room }
 
   pub body-short : length R ≤ 128 → BodyRoom R (replicate 11 0) (replicate 1056 0) 32
-  body-short l = body-room 11 32 32 1056 (inl (omega (arith, l))) (inr (omega (arith, l))) (inr (omega (arith, l)))
+  body-short l = body-room 11 32 32 1056 (inl (omega (arith, l))) (inr (omega (arith, l)))
+      (inr (omega (arith, l)))
       (omega arith)
 
   pub body-few : length R ≤ 4096 → BodyRoom R (replicate 342 0) (replicate 33024 0) 256

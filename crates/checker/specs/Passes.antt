@@ -12,9 +12,9 @@ use Rattle.language.specs.Tree.{Program}
 use Rattle.language.specs.Form.{form}
 use Rattle.language.specs.Verdict.{check}
 use Rattle.language.specs.ClassTables.{class-width}
-use Rattle.language.specs.MethodTables.{placed-methods, method-width}
+use Rattle.language.specs.MethodTables.{method-width}
 use Rattle.language.specs.Layout.{ProgramAt, start-row}
-use Rattle.layout.specs.Held.{Headed, Held}
+use Rattle.layout.specs.Held.{Held}
 use Rattle.classes.specs.Subclasses.{Subclasses}
 use Rattle.headings.specs.Numbers.{numbers-a-method, most-methods}
 use Rattle.checker.specs.declared.Checked.{Checked}
@@ -36,7 +36,8 @@ few-classes = 7
 pub record Room (R E M : List ℕ) : Type 0 where
   pub whole : length R % 4 ≡ 0
   pub room : (length R ≤ 4 * length E) ⊎ (of-check .rows ≤ length E)
-  pub methods : (length R * method-width ≤ numbers-a-method * length M) ⊎ (most-methods * method-width ≤ length M)
+  pub methods : (length R * method-width ≤ numbers-a-method * length M)
+      ⊎ (most-methods * method-width ≤ length M)
 
 -- What the check alone reads: an effect for each method, and slots, `width` for each level of nesting and as many again.
 pub record BodyRoom (R F S : List ℕ) (width : ℕ) : Type 0 where

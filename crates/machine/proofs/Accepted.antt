@@ -25,7 +25,6 @@ use Rattle.language.specs.WellFormed.{form-body, TypeInForm, ProgramWell}
 use Rattle.language.specs.Layout.{body-row, start-row}
 use Rattle.language.proofs.Methods.{method-found}
 use Rattle.language.specs.State.{initial}
-use Rattle.language.specs.Store.{value-number}
 use Rattle.classes.proofs.Below.{below-is}
 use Rattle.theory.specs.Equal.{all-fit-length}
 use Rattle.theory.specs.RulesAgree.{computed}
@@ -38,7 +37,6 @@ use Rattle.layout.specs.Held.{Held}
 use Rattle.objects.specs.Holding.{NamedAll, Within, WithinAll, BodyAt, FirstValueAt}
 use Rattle.objects.specs.Holding.{first-value-of, Holds, HoldsMethods}
 use Rattle.machine.specs.Contracts.{Segment, Runs}
-use Rattle.objects.specs.Contracts.{IsWord}
 
 -- ---- expressions within the limits
 

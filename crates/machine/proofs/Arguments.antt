@@ -283,5 +283,6 @@ module _ {R E T A M s₀ l₀ : List ℕ} {at : ℕ} {q : Place} {m : ℕ} {r₀
               falls = omega (arith, k .falls, x .falls);
               long-store = k .stored .long ∙ x .long-store;
               long-slots = length-set l′ top y ∙ (k .long ∙ x .long-slots);
-              rest = λ s″ l″ r″ p. x .rest s″ l″ r″ (args-step (λ z. omega arith) g t y ey iw (rw (sym z) at p));
+              rest = λ s″ l″ r″ p.
+                  x .rest s″ l″ r″ (args-step (λ z. omega arith) g t y ey iw (rw (sym z) at p));
             }

@@ -249,9 +249,6 @@ module _ {R E T A M s l s′ l′ : List ℕ} {at : ℕ} {q : Place} {n : Counts
   found : Found R E s′ P v (getD R (at * 4 + 1) 0) (getD R (at * 4 + 2) 0) (r .counts) (q .calls) b
   found = rw u at (p .is R E A P (x .ready .holds) (x .ready .methods) (kept-args x g .stored .sound))
 
-  pub body-allowed : q .calls < 64
-  body-allowed = found .allowed
-
   entering : Entering R E T A M s′ l′ P (body-in P (found .M .number)) b (getD R (at * 4 + 2) 0) (q .top)
       (q .calls + 1) (r .counts)
   entering =

@@ -1,12 +1,10 @@
 -- The run of a checked program: its start block is found, and its end told. Assumes nothing.
 use mathlib.Core.Path.{_≡_, refl, sym, ap, _∙_}
-use mathlib.Core.Bool.{Bool}
 use mathlib.Core.Logic.{_⊎_, inl, inr}
 use mathlib.Core.List.{List}
-use Prim.Native.Nat.{ℕ, suc, _+_, _*_, _≤_, _<_}
+use Prim.Native.Nat.{ℕ, _+_, _*_, _≤_, _<_}
 use native.Mathlib.Omega.{arith}
-use lib.ListN.{length, getD}
-use Rattle.objects.specs.Contracts.{IsWord}
+use lib.ListN.{length}
 use Rattle.language.specs.Limits.{most-fuel}
 use Rattle.language.specs.Results.{ok, stop, accept}
 use Rattle.language.specs.Verdict.{check}

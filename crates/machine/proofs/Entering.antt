@@ -21,7 +21,8 @@ use Rattle.objects.proofs.Values.{bare-stop}
 use Rattle.objects.proofs.Nth.{lt-or}
 use Rattle.machine.specs.declared.Place.{Place}
 use Rattle.machine.specs.Machine.{place-of, state, frame-of}
-use Rattle.machine.specs.Contracts.{waiting, Ready, Done, PreEval, PostEval, evaluated, frame-width, Segment}
+use Rattle.machine.specs.Contracts.{waiting, Ready, Done, PreEval, PostEval, evaluated, frame-width}
+use Rattle.machine.specs.Contracts.{Segment}
 use Rattle.machine.specs.Contracts.{most-nested, Entering, PreEnter, Entered, PostEnter, call-place}
 use Rattle.machine.proofs.Frames.{slots-moved, words-written, zeros-words}
 
@@ -202,7 +203,8 @@ module _ {R E T A M s l : List ℕ} {b n top calls : ℕ} {c : Counts} {width d 
     (room : top + width + waiting d ≤ length l) where
   pub here-pre : PreEnter R E T A M s l b n top calls c
       → PreEval R E T A M s l b (place-of top n (top + width) calls) c
-  here-pre p = body-pre (p .entering) l top (top + width) ew ed (omega arith) room (p .entering .whole) (p .entering .words)
+  here-pre p = body-pre (p .entering) l top (top + width) ew ed (omega arith) room (p .entering .whole)
+      (p .entering .words)
 
   pub here-done : {s′ l′ : List ℕ} {r : Answer}
       → PostEval R E T A M s l s′ l′ b (place-of top n (top + width) calls) c r
@@ -210,7 +212,8 @@ module _ {R E T A M s l : List ℕ} {b n top calls : ℕ} {c : Counts} {width d 
   here-done g = record {
     done = λ P e F k x z.
         let a = done x l top (top + width) ew ed (omega arith) room (x .whole) (x .words) F k g z in
-        body-done x l top (top + width) ew ed (omega arith) room (x .whole) (x .words) F k g z refl (a .kept .long)
+        body-done x l top (top + width) ew ed (omega arith) room (x .whole) (x .words) F k g z refl
+        (a .kept .long)
         (λ i h. a .kept .same i (omega arith) (inl h)) (a .kept .words);
   }
 
@@ -234,7 +237,8 @@ frame-moved l l₁ l₀ n top calls room room₁ w =
     shift i = omega arith
 
 -- Words copied among zeros are words.
-pub words-copied : (l : List ℕ) {l₁ : List ℕ} {n : ℕ} (m from : ℕ) → Written (replicate m 0) l₁ 0 n (λ i. getD l (from + i) 0)
+pub words-copied : (l : List ℕ) {l₁ : List ℕ} {n : ℕ} (m from : ℕ)
+    → Written (replicate m 0) l₁ 0 n (λ i. getD l (from + i) 0)
     → ((i : ℕ) → IsWord (getD l i 0)) → (i : ℕ) → IsWord (getD l₁ i 0)
 words-copied l m from w ws = words-written w (λ i h. ws (from + i)) (λ i. zeros-words m i)
 

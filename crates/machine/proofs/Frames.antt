@@ -122,7 +122,8 @@ module _ {l : List ℕ} {k : ℕ} {q : Place} where
   unfolding bare
   read-none e = rw outcome-stuck (record { small = tt; is = λ t. rw e })
 
-  pub read-some : (n : ℕ) → at-slot (frame-of l q) k ≡ some (meaning n) → IsWord n → PostRead l k q (outcome n)
+  pub read-some : (n : ℕ) → at-slot (frame-of l q) k ≡ some (meaning n) → IsWord n
+      → PostRead l k q (outcome n)
   unfolding bare
   read-some n e m = rw (outcome-value n (m .short)) (record { small = m .small; is = λ t. rw e })
 
@@ -165,7 +166,8 @@ module _ {l : List ℕ} {k : ℕ} (x : ℕ) {q : Place} (p : Slots l q) (m : IsW
   unfolding frame-of
   write-this z c =
       wrote (meaning (getD l (q .base) 0)) (rw z (slot-this l q c)) (length-set l (q .base) x)
-      (λ i o. getD-set-other l (q .base) i x 0 (λ p. far i o p)) (word-put l (q .base) x (p .words) m) (rw z go)
+      (λ i o. getD-set-other l (q .base) i x 0 (λ p. far i o p)) (word-put l (q .base) x (p .words) m)
+      (rw z go)
     where
       far : (i : ℕ) → (i < q .base) ⊎ (q .base + q .scope < i) → i ≡ q .base → ⊥
       far i (inl a) p = omega arith

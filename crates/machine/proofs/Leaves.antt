@@ -91,7 +91,8 @@ module _ {R T s l : List ℕ} {at : ℕ} {q : Place} {n : Counts} where
     post = λ E A M. record {
       done = λ P e width d F k f enc w z.
           let c = as-literal-true (head e enc) h in
-          rw (outcome-word (truth true) (omega arith)) (done-same (Gave (truth true)) F k f (omega arith) z (rw c));
+          rw (outcome-word (truth true) (omega arith))
+          (done-same (Gave (truth true)) F k f (omega arith) z (rw c));
     };
   }
 
@@ -101,7 +102,8 @@ module _ {R T s l : List ℕ} {at : ℕ} {q : Place} {n : Counts} where
     post = λ E A M. record {
       done = λ P e width d F k f enc w z.
           let c = as-literal-false (head e enc) h in
-          rw (outcome-word (truth false) (omega arith)) (done-same (Gave (truth false)) F k f (omega arith) z (rw c));
+          rw (outcome-word (truth false) (omega arith))
+          (done-same (Gave (truth false)) F k f (omega arith) z (rw c));
     };
   }
 

@@ -145,7 +145,8 @@ last-push : (x : Out (List Meaning)) (v w : Meaning)
 last-push (ok vs s) v w = refl
 last-push (stop y s) v w = refl
 
-module _ {R E T A M s l s′ l′ : List ℕ} {at : ℕ} {q : Place} {n : Counts} {m : ℕ} {last : Meaning} {r : Answer}
+module _ {R E T A M s l s′ l′ : List ℕ} {at : ℕ} {q : Place} {n : Counts} {m : ℕ} {last : Meaning}
+    {r : Answer}
     (z : m ≡ 0 → ⊥) (g : PostEval R E T A M s l s′ l′ at q n r) where
   pub items-fail : ((v : Meaning) → r .outcome ≡ Gave v → ⊥) → PostItems R E T A M s l s′ l′ at q n m last r
   unfolding eval-all count
@@ -249,7 +250,8 @@ module _ {R E T A M s₀ l₀ : List ℕ} {at : ℕ} {q : Place} {m : ℕ} {r₀
     items-head = list-apart (x .list) (λ z. omega arith)
 
     module _ {s′ l′ : List ℕ} {r′ : Answer} (g : PostEval R E T A M s l s′ l′ next q (r .counts) r′) where
-      pub items-broken : {last : Meaning} → r₀ .outcome ≡ Gave last → ((v : Meaning) → r′ .outcome ≡ Gave v → ⊥)
+      pub items-broken : {last : Meaning} → r₀ .outcome ≡ Gave last
+          → ((v : Meaning) → r′ .outcome ≡ Gave v → ⊥)
           → PostItems R E T A M s₀ l₀ s′ l′ at q (r₀ .counts) m last r′
       items-broken {last} e not = x .rest last e s′ l′ r′ (items-fail (λ z. omega arith) g not)
 

@@ -172,13 +172,15 @@ module _ {R E T A M s l s′ l′ : List ℕ} (at : ℕ) {q : Place} {n : Counts
         };
   }
     where
-      no-truth : (v : Meaning) → OneOf (0 ∷ 2 ∷ []) (tagOf the-type (case-of v)) → (u : State) (k : Bool → Out Meaning)
+      no-truth : (v : Meaning) → OneOf (0 ∷ 2 ∷ []) (tagOf the-type (case-of v))
+          → (u : State) (k : Bool → Out Meaning)
           → told Stuck u ≡ bare (need-truth v u k)
       no-truth null o u k = refl
       no-truth (truth b) o u k = absurd (⊎-elim (λ e. eqb-false 1 0 refl e) (λ e. eqb-false 1 2 refl e) o)
       no-truth (object j) o u k = refl
 
-  module _ {s″ l″ : List ℕ} {r′ : Answer} {v : Meaning} {t : Bool} (e₁ : r .outcome ≡ Gave v) (e₂ : v ≡ truth t)
+  module _ {s″ l″ : List ℕ} {r′ : Answer} {v : Meaning} {t : Bool} (e₁ : r .outcome ≡ Gave v)
+      (e₂ : v ≡ truth t)
     where
       pub choose-yes : t ≡ true → PostEval R E T A M s′ l′ s″ l″ (getD E (at + 1) 0) q (r .counts) r′
           → PostNode R E T A M s l s″ l″ at q n r′

@@ -2,7 +2,7 @@
 use mathlib.Core.Path.{_≡_}
 use mathlib.Core.Bool.{true, false, _||_, Bool, cond}
 use mathlib.Core.List.{List}
-use Prim.Native.Nat.{ℕ, suc, _+_, _-_, _*_, _≤_, _<_}
+use Prim.Native.Nat.{ℕ, _+_, _-_, _*_, _≤_, _<_}
 use lib.Dec.{eqb, leb}
 use lib.ListN.{length, getD}
 use Rattle.language.specs.Results.{ok, bind}
@@ -24,7 +24,7 @@ use Rattle.machine.specs.declared.End.{End}
 use Rattle.machine.specs.declared.Place.{Place}
 use Rattle.machine.specs.declared.End.the-variants.{Gave as EndGave, Raised as EndRaised}
 use Rattle.machine.specs.declared.End.the-variants.{Stopped as EndStopped}
-use Rattle.objects.specs.Values.{word, meaning, case-of, stop-of, SmallOutcome, told, bare, Outcome, Gave}
+use Rattle.objects.specs.Values.{word, case-of, stop-of, SmallOutcome, told, bare, Outcome, Gave}
 use Rattle.objects.specs.Values.{Raised, Stopped, Stuck, Counts, outcome, Answer, answer}
 use Rattle.objects.specs.Holding.{Within, WithinAll, Holds, HoldsMethods, Sound, view}
 use Rattle.objects.specs.Contracts.{Written, Stored, IsWord}
@@ -72,15 +72,11 @@ null-tested (object j) = Gave (truth false)
 abbrev pub nothing : Meaning
 nothing = null
 
--- How many values wait at most where d nodes nest: a receiver and arguments in each. And the most slots of a call: its
--- frame, and the values that wait in it.
+-- How many values wait at most where d nodes nest: a receiver and arguments in each.
 abbrev pub waiting : ℕ → ℕ
 waiting d = (of-check .parameters + 1) * d
 
-abbrev pub call-room : ℕ
-call-room = frame-room + waiting (of-check .nesting)
-
--- Slots come in segments of one length, which has room for any call.
+-- Slots come in segments of one length, in which any call has room for its frame and the values that wait in it.
 abbrev pub segment-length : ℕ
 segment-length = 1920
 

@@ -52,11 +52,6 @@ same-letter {a = a} {b} p q =
     (λ (h : b ≤ a). ⊎-elim (λ (k : b < a). absurd (p .between b (q .later) k (q .letter)))
     (λ (k : a ≤ b). omega arith) (lt-or b a)) (lt-or a b)
 
--- the method sought
-pub record MethodSpot (T s : List ℕ) (j : ℕ) : Type 0 where
-  pub class : getD s (j * 18) 0 * 576 + 576 ≤ length T
-  pub room : j * 18 + 18 ≤ length s
-
 -- what the table of classes has for method m of object j: 0, or the method's number and 1 more
 abbrev pub number-in : List ℕ → List ℕ → ℕ → ℕ → ℕ
 number-in T s j m = getD T (getD s (j * 18) 0 * 576 + 256 + m) 0
@@ -105,13 +100,6 @@ module _ {R T A : List ℕ} {P : List Class} (hold : Holds R T A P) where
       }
 
 module _ {T M s : List ℕ} {m made : ℕ} (p : PreFind T M s m made) (j : ℕ) (h : j < made) where
-  pub method-spot : MethodSpot T s j
-  method-spot =
-      record {
-        class = omega (arith, p .holds .tables .long, p .sound .declared j h);
-        room = omega (arith, p .sound .stored);
-      }
-
   -- what a lookup reads
   pub methods-of : MethodsOf T M (getD s (j * 18) 0) m
   methods-of = record {

@@ -60,7 +60,8 @@ fields-filled {R} {T} {A} {P} h s s′ o c from m d l k room long kept first =
     ∙ sym (length-append old (initials (drop from fs))
     ∙ (ap₂ (λ (x y : ℕ). x + y) a
     (length-map (drop from fs) (λ (f : Field). initial (f .type)) ∙ length-drop from fs) ∙ omega arith)))
-    (λ i b. let b′ : i < length fs = omega (arith, mapped-length value-of-number s′ (o + 1) (length fs) (omega arith)) in
+    (λ i b. let b′ : i < length fs =
+    omega (arith, mapped-length value-of-number s′ (o + 1) (length fs) (omega arith)) in
     mapped-at value-of-number s′ (o + 1) (length fs) i b′ (omega arith) ∙ go few a i b′ (lt-or i from))
   where
     old-length : length (take from (map value-of-number (take m (drop (o + 1) s)))) ≡ from

@@ -57,7 +57,8 @@ module _ {B : Type 0} (f : ℕ → B) where
       ap (map f) (ap (take m) (drop-set-add from s i x) ∙ take-set-lt m (drop from s) i x h)
       ∙ map-set f (take m (drop from s)) i x
 
-  pub mapped-length : (s : List ℕ) (from m : ℕ) → from + m ≤ length s → length (map f (take m (drop from s))) ≡ m
+  pub mapped-length : (s : List ℕ) (from m : ℕ) → from + m ≤ length s
+      → length (map f (take m (drop from s))) ≡ m
   mapped-length s from m h = length-map (take m (drop from s)) f
       ∙ length-take-le m (drop from s) (simp length-drop (omega arith))
 

@@ -17,6 +17,7 @@ use language::PARAMETERS_PLACE;
 use language::ROOT_PLACE;
 use language::ROWS_PLACE;
 use language::SPENT_STOP;
+use language::class_entry;
 use language::letter_at;
 ghost use mathlib.Core.Path.{_≡_};
 ghost use mathlib.Core.Bool.{true};
@@ -24,9 +25,10 @@ ghost use Prim.Native.Nat.{_+_, _*_, _≤_, _<_};
 ghost use lib.ListN.{length, getD, set};
 ghost use Rattle.language.specs.Store.{value-number, value-of-number};
 ghost use Rattle.objects.specs.Values.{word, meaning, case-of, reached, outcome, counts-in, answered};
-ghost use Rattle.objects.specs.Values.{Small, numbered, no-value};
+ghost use Rattle.objects.specs.Values.{Small, numbered};
 ghost use Rattle.language.specs.State.{truth};
-ghost use Rattle.objects.specs.Contracts.{IsWord, First, Fill, Filled, field-type-in, Spot, field-index};
+ghost use Rattle.objects.specs.Contracts.{IsWord, First, Fill, Filled, field-type-in, Spot};
+ghost use Rattle.objects.specs.Contracts.{field-index};
 ghost use Rattle.objects.specs.Holding.{first-value-of};
 ghost use Rattle.objects.specs.declared.Reached.the-variants.{At};
 ghost use Rattle.objects.specs.Contracts.{MethodsOf, target-in};
@@ -292,13 +294,13 @@ fn change_at(
         ⌝ }
 {
     let old = store[o];
-    let root = tables[old as usize * CLASS_WIDTH + ROOT_PLACE] as usize;
-    let kept = tables[root * CLASS_WIDTH + COUNT_PLACE] as usize;
-    let count = tables[d as usize * CLASS_WIDTH + COUNT_PLACE] as usize;
+    let root = class_entry(tables, old, ROOT_PLACE);
+    let kept = class_entry(tables, root, COUNT_PLACE);
+    let count = class_entry(tables, d, COUNT_PLACE);
     if count < kept {
         return STUCK;
     }
-    fill(rows, tables, store, o, d as usize, kept);
+    fill(rows, tables, store, o, d as usize, kept as usize);
     store[o] = d;
     let changes = tally[2];
     put(tally, 2, changes + 1);
@@ -310,8 +312,8 @@ fn find_field(tables: &[u16], store: &[u32], o: usize, f: usize) -> usize
     requires { ⌜ Spot (now tables) (now store) o f ⌝ }
     ensures { λ r. ⌜ r ≡ field-index (now (tables .entry)) (now (store .entry)) o f ⌝ }
 {
-    let c = store[o] as usize;
-    let p = tables[c * CLASS_WIDTH + f] as usize;
+    let c = store[o];
+    let p = class_entry(tables, c, f) as usize;
     if p == 0 {
         return 0;
     }

@@ -1,52 +1,29 @@
 -- `bodies::invoke` meets its contract. Assumes nothing.
 use mathlib.Core.Path.{refl, sym, ap, _∙_}
-use Prim.Native.Nat.{ℕ, _+_, _-_, _*_, _<_}
+use Prim.Native.Nat.{ℕ, _+_, _-_, _*_}
 use borrow.Author.Needs.{needs}
 use native.Mathlib.Omega.{arith}
 use Rattle.bodies.proofs.Laws.{not-yes, not-no}
-use lib.ListN.{length, set}
-use Rattle.bodies.specs.Acts.{method-line, no-class, no-method, other-count, unfit, done}
+use lib.ListN.{getD, set}
+use Rattle.bodies.specs.Acts.{PreMethod, method-line, no-class, no-method, other-count, unfit, done}
 use Rattle.bodies.proofs.ActLaws.{no-class-of, place-none, place-some, called-method, done-out}
 use Rattle.bodies.proofs.invoke.Statement.{statement}
 use Rattle.bodies.proofs.invoke.Tie as tie
 
 -- Where the table leads to a method: what is known of its number.
-in-methods : (c : tie.Else1)
-    → (c .before .class-entry .result - 1) * 4 + 2
-    < length (c .before .before .before .before .before .before .before .before .before .before .before
-    .before .before .before .before .args .methods .now)
-in-methods c =
+called : (c : tie.Else1)
+    → let start = c .before .before .before .before .before .before .before .before .before .before .before
+    .before .before .before .before in
+    PreMethod (start .args .rows .now) (start .args .above .now) (start .args .methods .now)
+    (start .args .effects .now) (start .args .slots .now) (start .args .scope .top)
+    (getD (start .args .rows .now) (start .args .at * 4 + 2) 0) (c .before .class-entry .result - 1)
+called c =
     let at-apply = c .before .before .before .before in
     let at-t = at-apply .before .before in
     let start = at-t .before .before .before .before .before .before .before .before .before in
     called-method (start .pre) (at-t .t .given .1) (at-apply .apply .ensures)
     (c .before .before .before .first .ensures)
-    (c .before .class-entry .ensures) (c .if1 .left) .inside
-
-in-effects : (c : tie.Else1)
-    → c .before .class-entry .result - 1
-    < length (c .before .before .before .before .before .before .before .before .before .before .before
-    .before .before .before .before .args .effects .now)
-in-effects c =
-    let at-apply = c .before .before .before .before in
-    let at-t = at-apply .before .before in
-    let start = at-t .before .before .before .before .before .before .before .before .before in
-    called-method (start .pre) (at-t .t .given .1) (at-apply .apply .ensures)
-    (c .before .before .before .first .ensures)
-    (c .before .class-entry .ensures) (c .if1 .left) .effect
-
-on-line : (c : tie.Else1)
-    → method-line (c .before .before .before .before .before .before .before .before .before .before .before
-    .before .before .before .before .args .methods .now) (c .before .class-entry .result - 1) * 4 + 3
-    < length (c .before .before .before .before .before .before .before .before .before .before .before
-    .before .before .before .before .args .rows .now)
-on-line c =
-    let at-apply = c .before .before .before .before in
-    let at-t = at-apply .before .before in
-    let start = at-t .before .before .before .before .before .before .before .before .before in
-    called-method (start .pre) (at-t .t .given .1) (at-apply .apply .ensures)
-    (c .before .before .before .first .ensures)
-    (c .before .class-entry .ensures) (c .if1 .left) .line
+    (c .before .class-entry .ensures) (c .if1 .left)
 
 enum-known-t : tie.Need-enum-known-t
 enum-known-t c = search needs
@@ -115,22 +92,22 @@ mul-parameters : tie.Need-mul-parameters
 mul-parameters c =
     let start = c .before .before .before .before .before .before .before .before .before .before .before
     .before .before .before .before in
-    omega (arith, in-methods c, start .good)
+    omega (arith, called c .inside, start .good)
 
 add-parameters : tie.Need-add-parameters
 add-parameters c =
     let start = c .before .before .before .before .before .before .before .before .before .before .before
     .before .before .before .before in
-    omega (arith, in-methods c, start .good)
+    omega (arith, called c .inside, start .good)
 
 mul-parameters-2 : tie.Need-mul-parameters-2
 mul-parameters-2 c =
     let start = c .before .before .before .before .before .before .before .before .before .before .before
     .before .before .before .before in
-    omega (arith, in-methods c, start .good)
+    omega (arith, called c .inside, start .good)
 
 shared-slice-read-parameters : tie.Need-shared-slice-read-parameters
-shared-slice-read-parameters c = omega (arith, in-methods (c .before))
+shared-slice-read-parameters c = omega (arith, called (c .before) .inside)
 
 cast-parameters : tie.Need-cast-parameters
 cast-parameters c =
@@ -163,16 +140,16 @@ mul-row : tie.Need-mul-row
 mul-row c =
     let start = c .before .before .before .before .before .before .before .before .before .before .before
     .before .before .before .before .before .before in
-    omega (arith, in-methods (c .before .before), start .good)
+    omega (arith, called (c .before .before) .inside, start .good)
 
 mul-row-2 : tie.Need-mul-row-2
 mul-row-2 c =
     let start = c .before .before .before .before .before .before .before .before .before .before .before
     .before .before .before .before .before .before in
-    omega (arith, in-methods (c .before .before), start .good)
+    omega (arith, called (c .before .before) .inside, start .good)
 
 shared-slice-read-row : tie.Need-shared-slice-read-row
-shared-slice-read-row c = omega (arith, in-methods (c .before .before .before))
+shared-slice-read-row c = omega (arith, called (c .before .before .before) .inside)
 
 cast-row : tie.Need-cast-row
 cast-row c =
@@ -189,7 +166,7 @@ add-are-fitting : tie.Need-add-are-fitting
 add-are-fitting c =
     let start = c .before .before .before .before .before .before .before .before .before .before .before
     .before .before .before .before .before .before .before .before in
-    omega (arith, on-line (c .before .before .before .before), start .good)
+    omega (arith, called (c .before .before .before .before) .line, start .good)
 
 are-fitting-requires : tie.Need-are-fitting-requires
 are-fitting-requires c κs =
@@ -233,10 +210,10 @@ mul-own : tie.Need-mul-own
 mul-own c =
     let start = c .before .before .before .before .before .before .before .before .before .before .before
     .before .before .before .before .before .before .before .before .before .before in
-    omega (arith, in-effects (c .before .before .before .before .before .before), start .good)
+    omega (arith, called (c .before .before .before .before .before .before) .effect, start .good)
 
 shared-slice-read-own : tie.Need-shared-slice-read-own
-shared-slice-read-own c = in-effects (c .before .before .before .before .before .before .before)
+shared-slice-read-own c = called (c .before .before .before .before .before .before .before) .effect
 
 apply-all-requires : tie.Need-apply-all-requires
 apply-all-requires c κs = search needs
@@ -253,8 +230,8 @@ first-requires-2 : tie.Need-first-requires-2
 first-requires-2 c κs =
     omega (
       arith,
-      on-line (c .before .before .before .before .before .before .before .before .before .before
-          .before .before .before .before .before),
+      called (c .before .before .before .before .before .before .before .before .before .before
+          .before .before .before .before .before) .line,
     )
 
 from-number-requires : tie.Need-from-number-requires

@@ -1,12 +1,14 @@
 -- `checker::check_with` meets its contract. Assumes nothing.
-use Rattle.checker.proofs.Passing.{ready, headings-passed, headings-refused, bodies-ready, bodies-checked}
+use Rattle.checker.proofs.Passing.{ready, headings-passed, headings-refused, bodies-ready}
+use Rattle.checker.proofs.Passing.{bodies-checked}
 use borrow.Author.Needs.{needs}
 use Rattle.checker.proofs.check_with.Statement.{statement}
 use Rattle.checker.proofs.check_with.Tie as tie
 
 check-headings-requires : tie.Need-check-headings-requires
 check-headings-requires c κs =
-    let start = c .before .before .before .before .before .before .before .before .before .before .before .before in
+    let start = c .before .before .before .before .before .before .before .before .before .before .before
+    .before in
     ready (start .pre .0) (start .pre .1 .0) (start .pre .1 .1 .0) (start .pre .1 .1 .1)
 
 enum-known-headed : tie.Need-enum-known-headed
@@ -18,9 +20,14 @@ cast-check-bodies c = search needs
 check-bodies-requires : tie.Need-check-bodies-requires
 check-bodies-requires c κs =
     let at-headed = c .before .before .before .before .before .before .before in
-    let at-check-headings = at-headed .before .before .before .before .before .before .before .before .before .before in
-    let start = at-check-headings .before .before .before .before .before .before .before .before .before .before .before .before .before in
-    bodies-ready (headings-passed (start .pre .0) _ (start .pre .1 .0 .whole) (at-headed .headed .given .1) (at-check-headings .check-headings .ensures (ready (start .pre .0) (start .pre .1 .0) (start .pre .1 .1 .0) (start .pre .1 .1 .1)))) (start .pre .1 .1 .1)
+    let at-check-headings = at-headed .before .before .before .before .before .before .before .before .before
+    .before in
+    let start = at-check-headings .before .before .before .before .before .before .before .before .before
+    .before .before .before .before in
+    bodies-ready (headings-passed (start .pre .0) _ (start .pre .1 .0 .whole) (at-headed .headed .given .1)
+    (at-check-headings .check-headings .ensures
+    (ready (start .pre .0) (start .pre .1 .0) (start .pre .1 .1 .0) (start .pre .1 .1 .1))))
+    (start .pre .1 .1 .1)
 
 answer-of-requires : tie.Need-answer-of-requires
 answer-of-requires c κs = search needs
@@ -50,9 +57,14 @@ returns : tie.Need-returns
 returns c =
     let at-check-bodies = c .before .before .before .before .before in
     let at-headed = at-check-bodies .before .before .before .before .before .before .before .before in
-    let at-check-headings = at-headed .before .before .before .before .before .before .before .before .before .before in
-    let start = at-check-headings .before .before .before .before .before .before .before .before .before .before .before .before .before in
-    bodies-checked (headings-passed (start .pre .0) _ (start .pre .1 .0 .whole) (at-headed .headed .given .1) (at-check-headings .check-headings .ensures (ready (start .pre .0) (start .pre .1 .0) (start .pre .1 .1 .0) (start .pre .1 .1 .1)))) (start .pre .1 .1 .1) (at-check-bodies .check-bodies .ensures) (c .answer-of .ensures)
+    let at-check-headings = at-headed .before .before .before .before .before .before .before .before .before
+    .before in
+    let start = at-check-headings .before .before .before .before .before .before .before .before .before
+    .before .before .before .before in
+    bodies-checked (headings-passed (start .pre .0) _ (start .pre .1 .0 .whole) (at-headed .headed .given .1)
+    (at-check-headings .check-headings .ensures
+    (ready (start .pre .0) (start .pre .1 .0) (start .pre .1 .1 .0) (start .pre .1 .1 .1))))
+    (start .pre .1 .1 .1) (at-check-bodies .check-bodies .ensures) (c .answer-of .ensures)
 
 same-length-7 : tie.Need-same-length-7
 same-length-7 c = search needs
@@ -68,9 +80,13 @@ same-length-10 c = search needs
 
 returns-2 : tie.Need-returns-2
 returns-2 c =
-    let at-check-headings = c .before .before .before .before .before .before .before .before .before .before .before in
-    let start = at-check-headings .before .before .before .before .before .before .before .before .before .before .before .before .before in
-    headings-refused (start .pre .0) _ (start .pre .1 .0 .whole) (c .before .headed2 .given .1) (at-check-headings .check-headings .ensures (ready (start .pre .0) (start .pre .1 .0) (start .pre .1 .1 .0) (start .pre .1 .1 .1)) .0)
+    let at-check-headings =
+    c .before .before .before .before .before .before .before .before .before .before .before in
+    let start = at-check-headings .before .before .before .before .before .before .before .before .before
+    .before .before .before .before in
+    headings-refused (start .pre .0) _ (start .pre .1 .0 .whole) (c .before .headed2 .given .1)
+    (at-check-headings .check-headings .ensures
+    (ready (start .pre .0) (start .pre .1 .0) (start .pre .1 .1 .0) (start .pre .1 .1 .1)) .0)
 
 pub check-with-spec : {M : Type 1} → statement M
 check-with-spec =

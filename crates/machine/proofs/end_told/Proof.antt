@@ -8,7 +8,7 @@ use Rattle.machine.proofs.end_told.Statement.{statement}
 use Rattle.machine.proofs.end_told.Tie as tie
 use native.Mathlib.Omega.{arith}
 use Prim.Native.Nat.{ℕ, _-_}
-use mathlib.Core.Path.{_≡_, sym, _∙_}
+use mathlib.Core.Path.{_≡_, _∙_}
 use borrow.Author.Needs.{needs}
 
 -- where no rule goes on
@@ -20,7 +20,8 @@ value-of-requires : tie.Need-value-of-requires
 value-of-requires c κs = search needs
 
 returns : tie.Need-returns
-returns c = told-gave (outcome-value (c .before .before .args .o) (c .before .if1 .taken)) (c .value-of .ensures)
+returns c = told-gave (outcome-value (c .before .before .args .o) (c .before .if1 .taken))
+    (c .value-of .ensures)
 
 cast-n : tie.Need-cast-n
 cast-n c = omega (arith, failure-low (c .before .args .o) (c .if1 .left) (c .before .pre))

@@ -5,7 +5,6 @@ use Rattle.objects.specs.Values.{outcome}
 use Rattle.machine.proofs.leaf.Statement.{statement}
 use Rattle.machine.proofs.leaf.Tie as tie
 use native.Mathlib.Omega.{arith}
-use Prim.Native.Nat.{_+_, _*_}
 use borrow.Author.Needs.{needs}
 
 letter-at-requires : tie.Need-letter-at-requires
@@ -29,15 +28,23 @@ new-object-requires : tie.Need-new-object-requires
 new-object-requires c κs =
     let at-letter-at = c .before .before .before .before in
     let start = at-letter-at .before .before .before .before .before in
-    rw (c .first2 .ensures) (pre-new (start .pre .0) (sym (at-letter-at .letter-at .ensures) ∙ c .before .before .before .match .keys5))
+    rw (c .first2 .ensures)
+    (pre-new (start .pre .0)
+    (sym (at-letter-at .letter-at .ensures) ∙ c .before .before .before .match .keys5))
 
 reclassify-requires : tie.Need-reclassify-requires
 reclassify-requires c κs =
     let start = c .before .before .before .before .before .before .before .before in (
       start .pre .0,
-      leaf-rest (start .pre .0) (start .pre .1) (λ e. c .before .before .match .rest .0 .0 .0 .0 .1 (c .before .before .before .letter-at .ensures ∙ e))
-          (λ e. c .before .before .match .rest .0 .0 .0 .1 (c .before .before .before .letter-at .ensures ∙ e)) (λ e. c .before .before .match .rest .0 .0 .1 (c .before .before .before .letter-at .ensures ∙ e))
-          (λ e. c .before .before .match .rest .0 .1 (c .before .before .before .letter-at .ensures ∙ e)) (λ e. c .before .before .match .rest .1 (c .before .before .before .letter-at .ensures ∙ e)),
+      leaf-rest (start .pre .0) (start .pre .1)
+          (λ e. c .before .before .match .rest .0 .0 .0 .0 .1
+          (c .before .before .before .letter-at .ensures ∙ e))
+          (λ e. c .before .before .match .rest .0 .0 .0 .1
+          (c .before .before .before .letter-at .ensures ∙ e))
+          (λ e. c .before .before .match .rest .0 .0 .1
+          (c .before .before .before .letter-at .ensures ∙ e))
+          (λ e. c .before .before .match .rest .0 .1 (c .before .before .before .letter-at .ensures ∙ e))
+          (λ e. c .before .before .match .rest .1 (c .before .before .before .letter-at .ensures ∙ e)),
     )
 
 returns : tie.Need-returns
@@ -50,7 +57,8 @@ returns-3 : tie.Need-returns-3
 returns-3 c = leaf-null (sym (c .before .letter-at .ensures) ∙ c .match .keys3)
 
 returns-4 : tie.Need-returns-4
-returns-4 c = leaf-slot (outcome (c .read-slot .result)) (sym (c .before .before .before .letter-at .ensures) ∙ c .before .before .match .keys4)
+returns-4 c = leaf-slot (outcome (c .read-slot .result))
+    (sym (c .before .before .before .letter-at .ensures) ∙ c .before .before .match .keys4)
     (rw (c .before .first .ensures) at (c .read-slot .ensures))
 
 same-length : tie.Need-same-length
@@ -60,7 +68,8 @@ returns-5 : tie.Need-returns-5
 returns-5 c =
     let at-match = c .before .before .before .before .before .before in
     let at-letter-at = at-match .before in
-    leaf-new (sym (at-letter-at .letter-at .ensures) ∙ at-match .match .keys5) (rw (c .before .before .before .first2 .ensures) at (c .before .before .new-object .ensures))
+    leaf-new (sym (at-letter-at .letter-at .ensures) ∙ at-match .match .keys5)
+    (rw (c .before .before .before .first2 .ensures) at (c .before .before .new-object .ensures))
 
 same-length-2 : tie.Need-same-length-2
 same-length-2 c = search needs

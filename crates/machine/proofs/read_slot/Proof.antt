@@ -1,5 +1,4 @@
 use Prim.Native.Nat.{_+_}
-use native.Mathlib.Omega.{arith}
 use lib.ListN.{getD}
 use borrow.Author.Needs.{needs}
 use Rattle.machine.proofs.Frames.{slot-this, slot-no-this, slot-at, slot-past, read-none, read-some}

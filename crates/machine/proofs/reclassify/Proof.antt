@@ -4,7 +4,6 @@ use Rattle.objects.specs.Values.{outcome, meaning}
 use Rattle.machine.proofs.reclassify.Statement.{statement}
 use Rattle.machine.proofs.reclassify.Tie as tie
 use native.Mathlib.Omega.{arith}
-use Prim.Native.Nat.{_+_, _*_}
 use borrow.Author.Needs.{needs}
 
 first-requires : tie.Need-first-requires
@@ -19,7 +18,8 @@ read-slot-requires c κs = leaf-slots (c .before .before .before .before .before
 returns : tie.Need-returns
 returns c =
     let start = c .before .before .before .before .before .before .before in
-    change-missing (outcome (c .before .read-slot .result)) (start .pre .1) (rw (c .before .before .first .ensures) at (c .before .read-slot .ensures))
+    change-missing (outcome (c .before .read-slot .result)) (start .pre .1)
+    (rw (c .before .before .first .ensures) at (c .before .read-slot .ensures))
     (not-gave (c .before .read-slot .result) (c .if1 .taken))
 
 second-requires : tie.Need-second-requires

@@ -30,7 +30,8 @@ same-length : tie.Need-same-length
 same-length c = c .before .before .eval .kept .1 .1 .1 .1 .1 .0
 
 returns : tie.Need-returns
-returns c = run-done (c .before .before .eval .last .1 .1 .1 .1 .1 .1 .1 .0) (omega arith) (c .before .before .eval .ensures)
+returns c = run-done (c .before .before .eval .last .1 .1 .1 .1 .1 .1 .1 .0) (omega arith)
+    (c .before .before .eval .ensures)
 
 pub run-start-spec : {M : Type 1} → statement M
 run-start-spec =

@@ -1,4 +1,3 @@
-use native.Mathlib.Omega.{arith}
 use borrow.Author.Needs.{needs}
 use Rattle.machine.proofs.Frames.{slot-past, slot-no-this, write-none, write-zero, write-this}
 use Rattle.machine.proofs.Frames.{write-at}

@@ -8,27 +8,21 @@ use borrow.Author.Needs.{needs}
 use Rattle.objects.proofs.cast_object.Statement.{statement}
 use Rattle.objects.proofs.cast_object.Tie as tie
 
--- src/lib.rt:361:23
 element-copy-out-reach : tie.Need-element-copy-out-reach
 element-copy-out-reach c = search needs
 
--- src/lib.rt:361:9
 reach-requires : tie.Need-reach-requires
 reach-requires c κs = search needs
 
--- src/lib.rt:363:26
 enum-told : tie.Need-enum-told
 enum-told c = search needs
 
--- src/lib.rt:364:29
 enum-told-2 : tie.Need-enum-told-2
 enum-told-2 c = search needs
 
--- src/lib.rt:365:21
 enum-known-to : tie.Need-enum-known-to
 enum-known-to c = search needs
 
--- src/lib.rt:366:21
 mul-k : tie.Need-mul-k
 mul-k c =
     let start = c .before .before .before .before .before .before .before in
@@ -39,7 +33,6 @@ mul-k c =
       start .good .1 .0,
     )
 
--- src/lib.rt:366:21
 shared-slice-read-k : tie.Need-shared-slice-read-k
 shared-slice-read-k c =
     let at-reach = c .before .before .before .before in
@@ -50,7 +43,6 @@ shared-slice-read-k c =
           (sym (at-reach .reach .ensures) ∙ c .before .before .to .given .1) (start .pre) .0,
     )
 
--- src/lib.rt:367:16
 is-below-requires : tie.Need-is-below-requires
 is-below-requires c κs =
     let at-reach = c .before .before .before .before in
@@ -59,7 +51,6 @@ is-below-requires c κs =
     (sym (at-reach .reach .ensures) ∙ c .before .before .to .given .1) (start .pre) in
     (r .2, omega (arith, start .pre .declared, start .pre .holds .classes))
 
--- src/lib.rt:368:17
 returns : tie.Need-returns
 returns c =
     let at-to = c .before .before .before .before in
@@ -69,7 +60,6 @@ returns c =
     (sym (c .before .is-below .ensures) ∙ c .if1 .taken) (start .pre .is-word .short)
     (start .pre .is-word .small)
 
--- src/lib.rt:356:1
 returns-2 : tie.Need-returns-2
 returns-2 c =
     let start = c .before .before .before .before .before .before in
@@ -78,14 +68,12 @@ returns-2 c =
     (sym (c .before .before .reach .ensures) ∙ c .enum-told .given .1)) (start .pre .is-word .short)
     (start .pre .is-word .small)
 
--- src/lib.rt:356:1
 returns-3 : tie.Need-returns-3
 returns-3 c =
     let start = c .before .before .before .before .before .before in
     cast-nothing (reached-nothing _ (meaning (start .args .w))
     (sym (c .before .before .reach .ensures) ∙ c .enum-told2 .given .1))
 
--- src/lib.rt:356:1
 returns-4 : tie.Need-returns-4
 returns-4 c =
     let at-to = c .before .before .before .before in

@@ -6,34 +6,27 @@ use borrow.Author.Needs.{needs}
 use Rattle.objects.proofs.change_class.Statement.{statement}
 use Rattle.objects.proofs.change_class.Tie as tie
 
--- src/lib.rt:268:23
 element-copy-out-reach : tie.Need-element-copy-out-reach
 element-copy-out-reach c = search needs
 
--- src/lib.rt:268:9
 reach-requires : tie.Need-reach-requires
 reach-requires c κs = search needs
 
--- src/lib.rt:270:26
 enum-told : tie.Need-enum-told
 enum-told c = search needs
 
--- src/lib.rt:271:29
 enum-told-2 : tie.Need-enum-told-2
 enum-told-2 c = search needs
 
--- src/lib.rt:272:21
 enum-known-to : tie.Need-enum-known-to
 enum-known-to c = search needs
 
--- src/lib.rt:272:27
 change-at-requires : tie.Need-change-at-requires
 change-at-requires c κs =
     let at-reach = c .before .before .before .before .before in
     let start = at-reach .before .before .before .before .before in
     (start .pre, (sym (at-reach .reach .ensures) ∙ c .before .before .before .to .given .1))
 
--- src/lib.rt:255:1
 returns : tie.Need-returns
 returns c =
     let start = c .before .before .before .before .before .before .before in
@@ -42,18 +35,15 @@ returns c =
     (sym (c .before .before .reach .ensures) ∙ c .enum-told .given .1)) (start .pre .is-word .short)
     (start .pre .is-word .small)
 
--- src/lib.rt:255:1
 returns-2 : tie.Need-returns-2
 returns-2 c =
     let start = c .before .before .before .before .before .before .before in
     change-nothing (reached-nothing _ (meaning (start .args .w))
     (sym (c .before .before .reach .ensures) ∙ c .enum-told2 .given .1))
 
--- src/lib.rt:255:1
 same-length : tie.Need-same-length
 same-length c = search needs
 
--- src/lib.rt:255:1
 returns-3 : tie.Need-returns-3
 returns-3 c = search needs
 

@@ -26,29 +26,23 @@ Inv-loop2 rows tables store₀ o c from count i₀ store i = (i₀ ≤ i) × (i 
 abbrev μ-loop2 : tie.MeasureT-loop2
 μ-loop2 rows tables store₀ o c from count i₀ store i = 17 - i
 
--- src/lib.rt:198:24
 mul-count : tie.Need-mul-count Inv-loop μ-loop Inv-loop2 μ-loop2
 mul-count c = omega (arith, c .before .before .before .pre .table)
 
--- src/lib.rt:198:24
 add-count : tie.Need-add-count Inv-loop μ-loop Inv-loop2 μ-loop2
 add-count c = omega (arith, c .before .before .before .pre .table)
 
--- src/lib.rt:198:17
 mul-count-2 : tie.Need-mul-count-2 Inv-loop μ-loop Inv-loop2 μ-loop2
 mul-count-2 c = omega (arith, c .before .before .before .pre .table)
 
--- src/lib.rt:198:17
 shared-slice-read-count : tie.Need-shared-slice-read-count Inv-loop μ-loop Inv-loop2 μ-loop2
 shared-slice-read-count c = omega (arith, c .before .before .before .before .pre .table)
 
--- src/lib.rt:198:17
 cast-count : tie.Need-cast-count Inv-loop μ-loop Inv-loop2 μ-loop2
 cast-count c =
     let start = c .before .before .before .before in
     omega (arith, c .shared-slice-known3 .given (start .args .c * 576 + 515))
 
--- src/lib.rt:200:5
 loop-holds : tie.Need-loop-holds Inv-loop μ-loop Inv-loop2 μ-loop2
 loop-holds c =
     let start = c .before .before .before .before in (
@@ -58,7 +52,6 @@ loop-holds c =
       refl,
     )
 
--- src/lib.rt:201:13
 first-of-field-requires : tie.Need-first-of-field-requires Inv-loop μ-loop Inv-loop2 μ-loop2
 first-of-field-requires c κs =
     let start = c .before .before .before .before .before .before in
@@ -70,7 +63,6 @@ first-of-field-requires c κs =
           (omega (arith, c .loop-test .taken, c .before .loop .inv .3));
     }
 
--- src/lib.rt:202:28
 add-write-value : tie.Need-add-write-value Inv-loop μ-loop Inv-loop2 μ-loop2
 add-write-value c =
     let start = c .before .before .before .before .before .before .before .before in
@@ -83,7 +75,6 @@ add-write-value c =
       start .good .1 .1 .0,
     )
 
--- src/lib.rt:202:28
 add-write-value-2 : tie.Need-add-write-value-2 Inv-loop μ-loop Inv-loop2 μ-loop2
 add-write-value-2 c =
     let start = c .before .before .before .before .before .before .before .before in
@@ -96,7 +87,6 @@ add-write-value-2 c =
       start .good .1 .1 .0,
     )
 
--- src/lib.rt:202:9
 write-value-requires : tie.Need-write-value-requires Inv-loop μ-loop Inv-loop2 μ-loop2
 write-value-requires c κs =
     let start = c .before .before .before .before .before .before .before .before in (
@@ -113,7 +103,6 @@ write-value-requires c κs =
           (c .before .before .before .loop .i)) _ (c .before .first-of-field .ensures),
     )
 
--- src/lib.rt:203:9
 add-i : tie.Need-add-i Inv-loop μ-loop Inv-loop2 μ-loop2
 add-i c =
     let at-loop-test = c .before .before .before .before .before in
@@ -121,7 +110,6 @@ add-i c =
     let start = at-loop .before .before .before .before .before in
     omega (arith, at-loop-test .loop-test .taken, start .pre .few, at-loop .loop .inv .3)
 
--- src/lib.rt:200:5
 loop-less : tie.Need-loop-less Inv-loop μ-loop Inv-loop2 μ-loop2
 loop-less c =
     let at-loop-test = c .before .before .before .before .before in
@@ -129,7 +117,6 @@ loop-less c =
     let start = at-loop .before .before .before .before .before in
     omega (arith, at-loop-test .loop-test .taken, start .pre .few, at-loop .loop .inv .3)
 
--- src/lib.rt:200:5
 loop-again : tie.Need-loop-again Inv-loop μ-loop Inv-loop2 μ-loop2
 loop-again c =
     let at-first-of-field = c .before .before .before .before in
@@ -158,7 +145,6 @@ loop-again c =
       at-loop .loop .inv .3,
     )
 
--- src/lib.rt:205:5
 loop2-holds : tie.Need-loop2-holds Inv-loop μ-loop Inv-loop2 μ-loop2
 loop2-holds c = (
   omega arith,
@@ -168,19 +154,16 @@ loop2-holds c = (
   omega (arith, c .loop-test .left),
 )
 
--- src/lib.rt:206:28
 add-write-value-3 : tie.Need-add-write-value-3 Inv-loop μ-loop Inv-loop2 μ-loop2
 add-write-value-3 c =
     let start = c .before .before .before .before .before .before .before .before .before in
     omega (arith, start .pre .room, c .before .loop2-test .taken, start .good .1 .1 .0)
 
--- src/lib.rt:206:28
 add-write-value-4 : tie.Need-add-write-value-4 Inv-loop μ-loop Inv-loop2 μ-loop2
 add-write-value-4 c =
     let start = c .before .before .before .before .before .before .before .before .before in
     omega (arith, start .pre .room, c .before .loop2-test .taken, start .good .1 .1 .0)
 
--- src/lib.rt:206:9
 write-value-requires-2 : tie.Need-write-value-requires-2 Inv-loop μ-loop Inv-loop2 μ-loop2
 write-value-requires-2 c κs =
     let at-loop = c .before .before .before .before in
@@ -195,15 +178,12 @@ write-value-requires-2 c κs =
       omega (arith, null-written),
     )
 
--- src/lib.rt:207:9
 add-i-2 : tie.Need-add-i-2 Inv-loop μ-loop Inv-loop2 μ-loop2
 add-i-2 c = omega (arith, c .before .before .before .before .loop2-test .taken)
 
--- src/lib.rt:205:5
 loop2-less : tie.Need-loop2-less Inv-loop μ-loop Inv-loop2 μ-loop2
 loop2-less c = omega (arith, c .before .before .before .before .loop2-test .taken)
 
--- src/lib.rt:205:5
 loop2-again : tie.Need-loop2-again Inv-loop μ-loop Inv-loop2 μ-loop2
 loop2-again c =
     let at-loop2-test = c .before .before .before .before in
@@ -231,11 +211,9 @@ loop2-again c =
       at-loop2 .loop2 .inv .4,
     )
 
--- src/lib.rt:193:1
 same-length : tie.Need-same-length Inv-loop μ-loop Inv-loop2 μ-loop2
 same-length c = c .before .loop2 .inv .2 .long ∙ c .before .before .before .loop .inv .2 .long
 
--- src/lib.rt:193:1
 returns : tie.Need-returns Inv-loop μ-loop Inv-loop2 μ-loop2
 returns c =
     let start = c .before .before .before .before .before .before .before .before in

@@ -7,27 +7,21 @@ use borrow.Author.Needs.{needs}
 use Rattle.objects.proofs.find_body.Statement.{statement}
 use Rattle.objects.proofs.find_body.Tie as tie
 
--- src/lib.rt:403:23
 element-copy-out-reach : tie.Need-element-copy-out-reach
 element-copy-out-reach c = search needs
 
--- src/lib.rt:403:9
 reach-requires : tie.Need-reach-requires
 reach-requires c κs = search needs
 
--- src/lib.rt:405:26
 enum-told : tie.Need-enum-told
 enum-told c = search needs
 
--- src/lib.rt:406:29
 enum-told-2 : tie.Need-enum-told-2
 enum-told-2 c = search needs
 
--- src/lib.rt:407:21
 enum-known-to : tie.Need-enum-known-to
 enum-known-to c = search needs
 
--- src/lib.rt:407:52
 mul-find-in : tie.Need-mul-find-in
 mul-find-in c =
     let start = c .before .before .before .before .before .before .before .before in
@@ -38,7 +32,6 @@ mul-find-in c =
       start .good .1 .1 .0,
     )
 
--- src/lib.rt:407:52
 shared-slice-read-find-in : tie.Need-shared-slice-read-find-in
 shared-slice-read-find-in c =
     let at-reach = c .before .before .before .before in
@@ -49,7 +42,6 @@ shared-slice-read-find-in c =
           (sym (at-reach .reach .ensures) ∙ c .before .before .to .given .1)) .0,
     )
 
--- src/lib.rt:407:27
 find-in-requires : tie.Need-find-in-requires
 find-in-requires c κs =
     let at-reach = c .before .before .before .before in
@@ -57,21 +49,18 @@ find-in-requires c κs =
     (find-room (start .args .w) (start .pre)
     (sym (at-reach .reach .ensures) ∙ c .before .before .to .given .1)) .1
 
--- src/lib.rt:389:1
 returns : tie.Need-returns
 returns c =
     let start = c .before .before .before .before .before .before .before in
     find-null (reached-null _ (meaning (start .args .w))
     (sym (c .before .before .reach .ensures) ∙ c .enum-told .given .1))
 
--- src/lib.rt:389:1
 returns-2 : tie.Need-returns-2
 returns-2 c =
     let start = c .before .before .before .before .before .before .before in
     find-nothing (reached-nothing _ (meaning (start .args .w))
     (sym (c .before .before .reach .ensures) ∙ c .enum-told2 .given .1))
 
--- src/lib.rt:389:1
 returns-3 : tie.Need-returns-3
 returns-3 c =
     let at-reach = c .before .before .before .before .before in

@@ -6,41 +6,32 @@ use borrow.Author.Needs.{needs}
 use Rattle.objects.proofs.find_in.Statement.{statement}
 use Rattle.objects.proofs.find_in.Tie as tie
 
--- src/lib.rt:416:20
 mul-r : tie.Need-mul-r
 mul-r c = search needs
 
--- src/lib.rt:416:20
 add-r : tie.Need-add-r
 add-r c = search needs
 
--- src/lib.rt:416:20
 add-r-2 : tie.Need-add-r-2
 add-r-2 c = search needs
 
--- src/lib.rt:416:13
 mul-r-2 : tie.Need-mul-r-2
 mul-r-2 c = search needs
 
--- src/lib.rt:416:13
 shared-slice-read-r : tie.Need-shared-slice-read-r
 shared-slice-read-r c = search needs
 
--- src/lib.rt:416:13
 cast-r : tie.Need-cast-r
 cast-r c = omega (arith, c .shared-slice-known .given (c .before .args .c * 576 + 256 + c .before .args .m))
 
--- src/lib.rt:418:9
 returns : tie.Need-returns
 returns c = target-none (c .before .before .args .tables .now) (c .before .before .args .methods .now)
     (c .before .before .args .c) (c .before .before .args .m) (c .before .before .args .given)
     (c .before .before .args .calls) (c .if1 .taken)
 
--- src/lib.rt:420:14
 sub-i : tie.Need-sub-i
 sub-i c = search needs
 
--- src/lib.rt:420:13
 mul-i : tie.Need-mul-i
 mul-i c = omega (
   arith,
@@ -51,7 +42,6 @@ mul-i c = omega (
   c .before .before .good .1 .0,
 )
 
--- src/lib.rt:421:16
 add-if2 : tie.Need-add-if2
 add-if2 c = omega (
   arith,
@@ -62,7 +52,6 @@ add-if2 c = omega (
   c .before .before .good .1 .0,
 )
 
--- src/lib.rt:421:8
 mul-if2 : tie.Need-mul-if2
 mul-if2 c = omega (
   arith,
@@ -73,18 +62,18 @@ mul-if2 c = omega (
   c .before .before .good .1 .0,
 )
 
--- src/lib.rt:421:8
 shared-slice-read-if2 : tie.Need-shared-slice-read-if2
 shared-slice-read-if2 c =
     omega (
       arith,
       c .before .before .before .pre .methods _
-          (number-suc (c .before .before .before .args .tables .now) (c .before .before .before .args .methods .now)
+          (number-suc (c .before .before .before .args .tables .now)
+          (c .before .before .before .args .methods .now)
           (c .before .before .before .args .c) (c .before .before .before .args .m)
-          (c .before .before .before .args .given) (c .before .before .before .args .calls) (c .before .if1 .left)),
+          (c .before .before .before .args .given) (c .before .before .before .args .calls)
+          (c .before .if1 .left)),
     )
 
--- src/lib.rt:421:8
 cast-if2 : tie.Need-cast-if2
 cast-if2 c = omega (
   arith,
@@ -95,14 +84,12 @@ cast-if2 c = omega (
       (c .before .before .before .args .calls) - 1) * 4 + 2),
 )
 
--- src/lib.rt:422:9
 returns-2 : tie.Need-returns-2
 returns-2 c =
     let start = c .before .before .before .before in
     target-other (start .args .tables .now) (start .args .methods .now) (start .args .c) (start .args .m)
     (start .args .given) (start .args .calls) (c .before .before .if1 .left) (c .if2 .taken)
 
--- src/lib.rt:425:9
 returns-3 : tie.Need-returns-3
 returns-3 c =
     let start = c .before .before .before .before .before in
@@ -110,7 +97,6 @@ returns-3 c =
     (start .args .given) (start .args .calls) (c .before .before .before .if1 .left)
     (c .before .if2 .left) (c .if3 .taken)
 
--- src/lib.rt:427:26
 add-t11 : tie.Need-add-t11
 add-t11 c =
     let start = c .before .before .before .before .before in
@@ -122,7 +108,6 @@ add-t11 c =
       start .good .1 .0,
     )
 
--- src/lib.rt:427:18
 mul-t12 : tie.Need-mul-t12
 mul-t12 c =
     let start = c .before .before .before .before .before in
@@ -134,7 +119,6 @@ mul-t12 c =
       start .good .1 .0,
     )
 
--- src/lib.rt:427:18
 shared-slice-read-t15 : tie.Need-shared-slice-read-t15
 shared-slice-read-t15 c =
     let at-if1 = c .before .before .before .before in
@@ -145,7 +129,6 @@ shared-slice-read-t15 c =
           (start .args .c) (start .args .m) (start .args .given) (start .args .calls) (at-if1 .if1 .left)),
     )
 
--- src/lib.rt:427:18
 cast-t13 : tie.Need-cast-t13
 cast-t13 c =
     let start = c .before .before .before .before .before .before in
@@ -156,7 +139,6 @@ cast-t13 c =
           (start .args .m) (start .args .given) (start .args .calls) - 1) * 4 + 3),
     )
 
--- src/lib.rt:412:1
 returns-4 : tie.Need-returns-4
 returns-4 c =
     let at-if1 = c .before .before .before .before in

@@ -16,25 +16,47 @@ loop-holds : tie.Need-loop-holds Inv-loop μ-loop
 loop-holds c = (omega arith, λ i a b e. omega arith)
 
 letter-at-requires : tie.Need-letter-at-requires Inv-loop μ-loop
-letter-at-requires c κs = omega (arith, not-past (c .before .before .pre .from) (c .loop .b) (c .loop .inv .1), c .before .before .pre .from .short)
+letter-at-requires c κs =
+    omega (
+      arith,
+      not-past (c .before .before .pre .from) (c .loop .b) (c .loop .inv .1),
+      c .before .before .pre .from .short,
+    )
 
 add-b : tie.Need-add-b Inv-loop μ-loop
-add-b c = omega (arith, not-past (c .before .before .before .before .pre .from) (c .before .before .loop .b) (c .before .before .loop .inv .1), c .before .before .before .before .pre .from .short)
+add-b c = omega (
+  arith,
+  not-past (c .before .before .before .before .pre .from) (c .before .before .loop .b)
+      (c .before .before .loop .inv .1),
+  c .before .before .before .before .pre .from .short,
+)
 
 loop-less : tie.Need-loop-less Inv-loop μ-loop
-loop-less c = omega (arith, not-past (c .before .before .before .before .pre .from) (c .before .before .loop .b) (c .before .before .loop .inv .1), c .before .before .before .before .pre .from .short)
+loop-less c = omega (
+  arith,
+  not-past (c .before .before .before .before .pre .from)
+      (c .before .before .loop .b) (c .before .before .loop .inv .1),
+  c .before .before .before .before .pre .from .short,
+)
 
 loop-again : tie.Need-loop-again Inv-loop μ-loop
 loop-again c = (
   omega arith,
-  none-more (c .before .before .before .before .args .rows .now) (c .before .before .before .before .args .letter) (c .before .before .before .before .args .row) (c .before .before .loop .b) (c .before .before .loop .inv .1)
+  none-more (c .before .before .before .before .args .rows .now)
+      (c .before .before .before .before .args .letter) (c .before .before .before .before .args .row)
+      (c .before .before .loop .b) (c .before .before .loop .inv .1)
       (λ e. c .if1 .taken (c .before .letter-at .ensures ∙ e)),
 )
 
 returns : tie.Need-returns Inv-loop μ-loop
 returns c = record {
   later = c .before .before .loop .inv .0;
-  short = omega (arith, not-past (c .before .before .before .before .pre .from) (c .before .before .loop .b) (c .before .before .loop .inv .1), c .before .before .before .before .pre .from .short);
+  short = omega (
+    arith,
+    not-past (c .before .before .before .before .pre .from) (c .before .before .loop .b)
+        (c .before .before .loop .inv .1),
+    c .before .before .before .before .pre .from .short,
+  );
   between = c .before .before .loop .inv .1;
   letter = sym (c .before .letter-at .ensures) ∙ c .if1 .left;
 }

@@ -8,34 +8,27 @@ use borrow.Author.Needs.{needs}
 use Rattle.objects.proofs.load.Statement.{statement}
 use Rattle.objects.proofs.load.Tie as tie
 
--- src/lib.rt:319:23
 element-copy-out-reach : tie.Need-element-copy-out-reach
 element-copy-out-reach c = search needs
 
--- src/lib.rt:319:9
 reach-requires : tie.Need-reach-requires
 reach-requires c κs = search needs
 
--- src/lib.rt:321:26
 enum-told : tie.Need-enum-told
 enum-told c = search needs
 
--- src/lib.rt:322:29
 enum-told-2 : tie.Need-enum-told-2
 enum-told-2 c = search needs
 
--- src/lib.rt:323:21
 enum-known-to : tie.Need-enum-known-to
 enum-known-to c = search needs
 
--- src/lib.rt:324:17
 find-field-requires : tie.Need-find-field-requires
 find-field-requires c κs =
     let start = c .before .before .before .before .before .before .before in
     reached-spot (start .args .w) (start .pre .0) (start .pre .1)
     (sym (c .before .before .before .reach .ensures) ∙ c .before .to .given .1)
 
--- src/lib.rt:326:17
 returns : tie.Need-returns
 returns c =
     let at-reach = c .before .before .before .before .before in
@@ -43,7 +36,6 @@ returns c =
     load-lacks (start .args .w) (sym (at-reach .reach .ensures) ∙ c .before .before .before .to .given .1)
     (start .pre .1) (c .before .find-field .ensures) (c .if1 .taken)
 
--- src/lib.rt:328:13
 read-value-requires : tie.Need-read-value-requires
 read-value-requires c κs =
     let at-reach = c .before .before .before .before .before in
@@ -52,21 +44,18 @@ read-value-requires c κs =
     (reached-spot (start .args .w) (start .pre .0) (start .pre .1)
     (sym (at-reach .reach .ensures) ∙ c .before .before .before .to .given .1)) (c .if1 .left)
 
--- src/lib.rt:313:1
 returns-2 : tie.Need-returns-2
 returns-2 c =
     let start = c .before .before .before .before .before .before in
     load-null (reached-null _ (meaning (start .args .w))
     (sym (c .before .before .reach .ensures) ∙ c .enum-told .given .1))
 
--- src/lib.rt:313:1
 returns-3 : tie.Need-returns-3
 returns-3 c =
     let start = c .before .before .before .before .before .before in
     load-nothing (reached-nothing _ (meaning (start .args .w))
     (sym (c .before .before .reach .ensures) ∙ c .enum-told2 .given .1))
 
--- src/lib.rt:313:1
 returns-4 : tie.Need-returns-4
 returns-4 c =
     let at-to = c .before .before .before .before in

@@ -3,11 +3,9 @@ use borrow.Author.Needs.{needs}
 use Rattle.objects.proofs.object_of.Statement.{statement}
 use Rattle.objects.proofs.object_of.Tie as tie
 
--- src/lib.rt:114:9
 returns : tie.Need-returns
 returns c = search needs
 
--- src/lib.rt:110:1
 returns-2 : tie.Need-returns-2
 returns-2 c = object-case _ (c .if1 .left)
 

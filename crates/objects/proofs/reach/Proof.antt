@@ -5,23 +5,18 @@ use borrow.Author.Needs.{needs}
 use Rattle.objects.proofs.reach.Statement.{statement}
 use Rattle.objects.proofs.reach.Tie as tie
 
--- src/lib.rt:163:9
 value-of-requires : tie.Need-value-of-requires
 value-of-requires c κs = search needs
 
--- src/lib.rt:165:24
 enum-told : tie.Need-enum-told
 enum-told c = search needs
 
--- src/lib.rt:166:28
 enum-told-2 : tie.Need-enum-told-2
 enum-told-2 c = search needs
 
--- src/lib.rt:167:23
 enum-known-v : tie.Need-enum-known-v
 enum-known-v c = search needs
 
--- src/lib.rt:169:17
 returns : tie.Need-returns
 returns c =
     let at-value-of = c .before .before .before .before in
@@ -29,7 +24,6 @@ returns c =
     reached-past (meaning (start .args .w))
     (sym (at-value-of .value-of .ensures) ∙ c .before .before .v .given .1) (c .if1 .taken)
 
--- src/lib.rt:171:26
 sub-t7 : tie.Need-sub-t7
 sub-t7 c =
     let at-value-of = c .before .before .before .before in
@@ -37,25 +31,20 @@ sub-t7 c =
     reached-object (meaning (start .args .w))
     (sym (at-value-of .value-of .ensures) ∙ c .before .before .v .given .1) (c .if1 .left) .0
 
--- src/lib.rt:171:25
 cast-t8 : tie.Need-cast-t8
 cast-t8 c = search needs
 
--- src/lib.rt:171:25
 mul-t9 : tie.Need-mul-t9
 mul-t9 c = search needs
 
--- src/lib.rt:159:1
 returns-2 : tie.Need-returns-2
 returns-2 c = null-reached _ (meaning (c .before .before .before .args .w))
     (sym (c .before .before .value-of .ensures) ∙ c .enum-told .given .1)
 
--- src/lib.rt:159:1
 returns-3 : tie.Need-returns-3
 returns-3 c = truth-reached _ (meaning (c .before .before .before .args .w))
     (sym (c .before .before .value-of .ensures) ∙ c .enum-told2 .given .1)
 
--- src/lib.rt:159:1
 returns-4 : tie.Need-returns-4
 returns-4 c =
     let at-value-of = c .before .before .before .before in

@@ -6,50 +6,39 @@ use borrow.Author.Needs.{needs}
 use Rattle.objects.proofs.read_value.Statement.{statement}
 use Rattle.objects.proofs.read_value.Tie as tie
 
--- src/lib.rt:124:20
 mul-decode : tie.Need-mul-decode
 mul-decode c = search needs
 
--- src/lib.rt:124:20
 shared-slice-read-decode : tie.Need-shared-slice-read-decode
 shared-slice-read-decode c = search needs
 
--- src/lib.rt:124:9
 decode-requires : tie.Need-decode-requires
 decode-requires c κs = search needs
 
--- src/lib.rt:126:24
 enum-told : tie.Need-enum-told
 enum-told c = search needs
 
--- src/lib.rt:127:22
 enum-known-v : tie.Need-enum-known-v
 enum-known-v c = search needs
 
--- src/lib.rt:127:28
 truth-word-requires : tie.Need-truth-word-requires
 truth-word-requires c κs = search needs
 
--- src/lib.rt:128:23
 enum-known-v-2 : tie.Need-enum-known-v-2
 enum-known-v-2 c = search needs
 
--- src/lib.rt:128:38
 cast-result : tie.Need-cast-result
 cast-result c = search needs
 
--- src/lib.rt:128:29
 add-result : tie.Need-add-result
 add-result c = search needs
 
--- src/lib.rt:120:1
 returns : tie.Need-returns
 returns c =
     let start = c .before .before .before .before .before in
     null-word (value-of-number (getD (start .args .store .now) (start .args .at) 0))
     (sym (c .before .before .decode .ensures) ∙ c .enum-told .given .1)
 
--- src/lib.rt:120:1
 returns-2 : tie.Need-returns-2
 returns-2 c =
     let at-decode = c .before .before .before .before in
@@ -57,7 +46,6 @@ returns-2 c =
     truth-word (value-of-number (getD (start .args .store .now) (start .args .at) 0))
     (sym (at-decode .decode .ensures) ∙ c .before .before .v .given .1) (c .truth-word .ensures)
 
--- src/lib.rt:120:1
 returns-3 : tie.Need-returns-3
 returns-3 c =
     let start = c .before .before .before .before .before .before in

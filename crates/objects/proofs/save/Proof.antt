@@ -7,27 +7,21 @@ use borrow.Author.Needs.{needs}
 use Rattle.objects.proofs.save.Statement.{statement}
 use Rattle.objects.proofs.save.Tie as tie
 
--- src/lib.rt:340:23
 element-copy-out-reach : tie.Need-element-copy-out-reach
 element-copy-out-reach c = search needs
 
--- src/lib.rt:340:9
 reach-requires : tie.Need-reach-requires
 reach-requires c κs = search needs
 
--- src/lib.rt:342:26
 enum-told : tie.Need-enum-told
 enum-told c = search needs
 
--- src/lib.rt:343:29
 enum-told-2 : tie.Need-enum-told-2
 enum-told-2 c = search needs
 
--- src/lib.rt:344:21
 enum-known-to : tie.Need-enum-known-to
 enum-known-to c = search needs
 
--- src/lib.rt:345:17
 find-field-requires : tie.Need-find-field-requires
 find-field-requires c κs =
     let at-reach = c .before .before .before .before in
@@ -35,11 +29,9 @@ find-field-requires c κs =
     reached-spot (start .args .w) (start .pre .0) (start .pre .1 .0)
     (sym (at-reach .reach .ensures) ∙ c .before .before .to .given .1)
 
--- src/lib.rt:347:17
 same-length : tie.Need-same-length
 same-length c = search needs
 
--- src/lib.rt:347:17
 returns : tie.Need-returns
 returns c =
     let at-to = c .before .before .before .before in
@@ -48,7 +40,6 @@ returns c =
     save-lacks (start .args .w) (sym (at-reach .reach .ensures) ∙ at-to .to .given .1) (start .pre .1 .0)
     (c .before .find-field .ensures) (c .if1 .taken)
 
--- src/lib.rt:349:13
 write-value-requires : tie.Need-write-value-requires
 write-value-requires c κs =
     let at-to = c .before .before .before .before .before in
@@ -60,25 +51,21 @@ write-value-requires c κs =
       start .pre .1 .1 .small,
     )
 
--- src/lib.rt:334:1
 returns-2 : tie.Need-returns-2
 returns-2 c =
     let start = c .before .before .before .before .before .before in
     save-null (reached-null _ (meaning (start .args .w))
     (sym (c .before .before .reach .ensures) ∙ c .enum-told .given .1))
 
--- src/lib.rt:334:1
 returns-3 : tie.Need-returns-3
 returns-3 c =
     let start = c .before .before .before .before .before .before in
     save-nothing (reached-nothing _ (meaning (start .args .w))
     (sym (c .before .before .reach .ensures) ∙ c .enum-told2 .given .1))
 
--- src/lib.rt:334:1
 same-length-2 : tie.Need-same-length-2
 same-length-2 c = search needs
 
--- src/lib.rt:334:1
 returns-4 : tie.Need-returns-4
 returns-4 c =
     let at-if1 = c .before .before .before .before in

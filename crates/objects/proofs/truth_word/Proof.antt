@@ -1,11 +1,9 @@
 use Rattle.objects.proofs.truth_word.Statement.{statement}
 use Rattle.objects.proofs.truth_word.Tie as tie
 
--- src/lib.rt:133:1
 returns : tie.Need-returns
 returns c = let e = c .if1 .taken in rw e
 
--- src/lib.rt:133:1
 returns-2 : tie.Need-returns-2
 returns-2 c = let e = c .if1 .left in rw e
 

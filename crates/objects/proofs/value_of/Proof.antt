@@ -3,23 +3,18 @@ use borrow.Author.Needs.{needs}
 use Rattle.objects.proofs.value_of.Statement.{statement}
 use Rattle.objects.proofs.value_of.Tie as tie
 
--- src/lib.rt:104:24
 cast-object-of : tie.Need-cast-object-of
 cast-object-of c = search needs
 
--- src/lib.rt:104:14
 object-of-requires : tie.Need-object-of-requires
 object-of-requires c κs = search needs
 
--- src/lib.rt:98:1
 returns : tie.Need-returns
 returns c = kind-truth (c .before .args .w) (c .match .keys1)
 
--- src/lib.rt:98:1
 returns-2 : tie.Need-returns-2
 returns-2 c = kind-object (c .before .before .args .w) (c .before .match .keys2) (c .object-of .ensures)
 
--- src/lib.rt:98:1
 returns-3 : tie.Need-returns-3
 returns-3 c = kind-other (c .before .args .w) (c .match .rest .0 .1) (c .match .rest .1)
 

@@ -8,43 +8,33 @@ use borrow.Author.Needs.{needs}
 use Rattle.objects.proofs.write_value.Statement.{statement}
 use Rattle.objects.proofs.write_value.Tie as tie
 
--- src/lib.rt:151:9
 value-of-requires : tie.Need-value-of-requires
 value-of-requires c κs = search needs
 
--- src/lib.rt:154:13
 enum-told : tie.Need-enum-told
 enum-told c = search needs
 
--- src/lib.rt:154:13
 mul-store : tie.Need-mul-store
 mul-store c = search needs
 
--- src/lib.rt:154:13
 slice-write-store : tie.Need-slice-write-store
 slice-write-store c = search needs
 
--- src/lib.rt:156:22
 enum-known-v : tie.Need-enum-known-v
 enum-known-v c = search needs
 
--- src/lib.rt:157:25
 truth-number-requires : tie.Need-truth-number-requires
 truth-number-requires c κs = search needs
 
--- src/lib.rt:157:13
 mul-store-2 : tie.Need-mul-store-2
 mul-store-2 c = search needs
 
--- src/lib.rt:157:13
 slice-write-store-2 : tie.Need-slice-write-store-2
 slice-write-store-2 c = search needs
 
--- src/lib.rt:159:23
 enum-known-v-2 : tie.Need-enum-known-v-2
 enum-known-v-2 c = search needs
 
--- src/lib.rt:160:25
 add-store : tie.Need-add-store
 add-store c =
     let start = c .before .before .before .before .before in
@@ -54,19 +44,15 @@ add-store c =
           (sym (c .before .before .before .value-of .ensures) ∙ c .before .v2 .given .1) (start .pre .1),
     )
 
--- src/lib.rt:160:13
 mul-store-3 : tie.Need-mul-store-3
 mul-store-3 c = search needs
 
--- src/lib.rt:160:13
 slice-write-store-3 : tie.Need-slice-write-store-3
 slice-write-store-3 c = search needs
 
--- src/lib.rt:147:1
 same-length : tie.Need-same-length
 same-length c = search needs
 
--- src/lib.rt:147:1
 returns : tie.Need-returns
 returns c =
     let start = c .before .before .before .before in
@@ -74,11 +60,9 @@ returns c =
     (null-stored (meaning (start .args .w))
     (sym (c .before .before .value-of .ensures) ∙ c .enum-told .given .1))
 
--- src/lib.rt:147:1
 same-length-2 : tie.Need-same-length-2
 same-length-2 c = search needs
 
--- src/lib.rt:147:1
 returns-2 : tie.Need-returns-2
 returns-2 c =
     let at-value-of = c .before .before .before .before in
@@ -87,11 +71,9 @@ returns-2 c =
     (truth-stored (meaning (start .args .w))
     (sym (at-value-of .value-of .ensures) ∙ c .before .before .v .given .1) (c .truth-number .ensures))
 
--- src/lib.rt:147:1
 same-length-3 : tie.Need-same-length-3
 same-length-3 c = search needs
 
--- src/lib.rt:147:1
 returns-3 : tie.Need-returns-3
 returns-3 c =
     let start = c .before .before .before .before .before in

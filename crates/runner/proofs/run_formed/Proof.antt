@@ -35,8 +35,10 @@ returns : tie.Need-returns
 returns c =
     let at-enum-told = c .before .before .before .before .before .before .before in
     let at-check-formed = at-enum-told .before .before .before .before .before .before .before in
-    let start = at-check-formed .before .before .before .before .before .before .before .before .before .before in
-    answers _ _ (at-enum-told .enum-told .given .1) (at-check-formed .check-formed .ensures) (start .pre .1 .1 .1) (c .before .before .run-checked .ensures)
+    let start = at-check-formed .before .before .before .before .before .before .before .before .before
+    .before in
+    answers _ _ (at-enum-told .enum-told .given .1) (at-check-formed .check-formed .ensures)
+    (start .pre .1 .1 .1) (c .before .before .run-checked .ensures)
 
 same-length-4 : tie.Need-same-length-4
 same-length-4 c = search needs
@@ -47,8 +49,10 @@ same-length-5 c = search needs
 returns-2 : tie.Need-returns-2
 returns-2 c =
     let at-check-formed = c .before .before .before .before .before .before .before .before in
-    let start = at-check-formed .before .before .before .before .before .before .before .before .before .before in
-    not-accepted (start .args .rows .now) (start .args .store .now) (start .args .fuel) _ _ _ (start .pre .1 .1 .1) (c .before .checked .given .1) (at-check-formed .check-formed .ensures .answer)
+    let start = at-check-formed .before .before .before .before .before .before .before .before .before
+    .before in
+    not-accepted (start .args .rows .now) (start .args .store .now) (start .args .fuel) _ _ _
+    (start .pre .1 .1 .1) (c .before .checked .given .1) (at-check-formed .check-formed .ensures .answer)
 
 pub run-formed-spec : {M : Type 1} → statement M
 run-formed-spec =

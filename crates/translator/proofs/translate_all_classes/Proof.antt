@@ -14,8 +14,17 @@ slice-aggregate-translate-formed-2 c = search needs
 
 translate-formed-requires : tie.Need-translate-formed-requires
 translate-formed-requires c κs =
-    let start = c .before .before .before .before .before .before .before .before .before .before in
-    (start .pre .0, (start .pre .1 .0, (start .pre .1 .1, all-classes (replicate 65 0) (start .pre .0) (replicate-long 65))))
+    let start = c .before .before .before .before .before .before .before .before .before .before in (
+      start .pre .0,
+      (
+        start .pre .1 .0,
+        (
+          start .pre .1 .1,
+          all-classes (replicate 65 0) (start .pre .0)
+              (replicate-long 65),
+        ),
+      ),
+    )
 
 same-length : tie.Need-same-length
 same-length c = search needs

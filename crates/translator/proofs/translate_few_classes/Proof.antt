@@ -15,8 +15,17 @@ slice-aggregate-translate-formed-2 c = search needs
 
 translate-formed-requires : tie.Need-translate-formed-requires
 translate-formed-requires c κs =
-    let start = c .before .before .before .before .before .before .before .before .before .before in
-    (start .pre .0, (start .pre .1 .0, (start .pre .1 .1 .0, few-classes (replicate 8 0) (start .pre .1 .1 .1) (omega (arith, start .pre .1 .1 .1, replicate-long 8)))))
+    let start = c .before .before .before .before .before .before .before .before .before .before in (
+      start .pre .0,
+      (
+        start .pre .1 .0,
+        (
+          start .pre .1 .1 .0,
+          few-classes (replicate 8 0) (start .pre .1 .1 .1)
+              (omega (arith, start .pre .1 .1 .1, replicate-long 8)),
+        ),
+      ),
+    )
 
 same-length : tie.Need-same-length
 same-length c = search needs

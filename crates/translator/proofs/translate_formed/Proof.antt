@@ -16,9 +16,12 @@ enum-told c = search needs
 translate-checked-requires : tie.Need-translate-checked-requires
 translate-checked-requires c κs =
     let at-enum-told = c .before .before .before .before in
-    let at-check-formed = at-enum-told .before .before .before .before .before .before .before .before .before .before in
-    let start = at-check-formed .before .before .before .before .before .before .before .before .before .before .before .before in
-    some-accepted _ (omega (arith, start .pre .1 .1 .0, at-check-formed .check-formed .kept)) (at-enum-told .enum-told .given .1) (at-check-formed .check-formed .ensures)
+    let at-check-formed = at-enum-told .before .before .before .before .before .before .before .before .before
+    .before in
+    let start = at-check-formed .before .before .before .before .before .before .before .before .before
+    .before .before .before in
+    some-accepted _ (omega (arith, start .pre .1 .1 .0, at-check-formed .check-formed .kept))
+    (at-enum-told .enum-told .given .1) (at-check-formed .check-formed .ensures)
 
 enum-known-checked : tie.Need-enum-known-checked
 enum-known-checked c = search needs
@@ -55,9 +58,13 @@ same-length-9 c = search needs
 
 returns-2 : tie.Need-returns-2
 returns-2 c =
-    let at-check-formed = c .before .before .before .before .before .before .before .before .before .before .before in
-    let start = at-check-formed .before .before .before .before .before .before .before .before .before .before .before .before in
-    translation-refused (start .args .rows .now) _ _ _ (checked-refused _ _ _ (sym (c .before .checked .given .1) ∙ at-check-formed .check-formed .ensures .answer))
+    let at-check-formed =
+    c .before .before .before .before .before .before .before .before .before .before .before in
+    let start = at-check-formed .before .before .before .before .before .before .before .before .before
+    .before .before .before in
+    translation-refused (start .args .rows .now) _ _ _
+    (checked-refused _ _ _
+    (sym (c .before .checked .given .1) ∙ at-check-formed .check-formed .ensures .answer))
 
 pub translate-formed-spec : {M : Type 1} → statement M
 translate-formed-spec =

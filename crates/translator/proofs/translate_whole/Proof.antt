@@ -16,8 +16,15 @@ translate-classes-requires : tie.Need-translate-classes-requires
 translate-classes-requires c κs =
     let at-formed = c .before .before .before .before .before in
     let at-check-form = at-formed .before .before .before .before in
-    let start = at-check-form .before .before .before .before .before .before .before in
-    (stands (start .args .rows .now) (start .pre .0 .whole) (start .args .ends .now) _ _ _ _ (at-formed .formed .given .1) (at-check-form .check-form .ensures .0) (at-check-form .check-form .ensures .1), (room-kept (start .pre .0) (at-check-form .check-form .kept .1 .0), omega (arith, start .pre .1, at-check-form .check-form .kept .1 .0)))
+    let start = at-check-form .before .before .before .before .before .before .before in (
+      stands (start .args .rows .now) (start .pre .0 .whole) (start .args .ends .now) _ _ _ _
+          (at-formed .formed .given .1) (at-check-form .check-form .ensures .0)
+          (at-check-form .check-form .ensures .1),
+      (
+        room-kept (start .pre .0) (at-check-form .check-form .kept .1 .0),
+        omega (arith, start .pre .1, at-check-form .check-form .kept .1 .0),
+      ),
+    )
 
 enum-known-formed-2 : tie.Need-enum-known-formed-2
 enum-known-formed-2 c = search needs
@@ -44,7 +51,9 @@ returns-2 : tie.Need-returns-2
 returns-2 c =
     let at-check-form = c .before .before .before .before .before in
     let start = at-check-form .before .before .before .before .before .before .before in
-    translation-refused (start .args .rows .now) _ _ _ (not-in-form (start .args .rows .now) (start .pre .0 .whole) _ _ _ (c .before .formed2 .given .1) (at-check-form .check-form .ensures .0))
+    translation-refused (start .args .rows .now) _ _ _
+    (not-in-form (start .args .rows .now) (start .pre .0 .whole) _ _ _ (c .before .formed2 .given .1)
+    (at-check-form .check-form .ensures .0))
 
 pub translate-whole-spec : {M : Type 1} → statement M
 translate-whole-spec =

@@ -55,7 +55,8 @@ args-returns : (t : ℕ) → args-lts.Need-returns (callees t) (args-at t) args.
 args-returns t c =
     let at-loop-test = c .before .before .before .before .before .before .before in
     let at-loop = at-loop-test .before in
-    args-broken (at-loop .loop .inv) (at-loop-test .loop-test .taken) (c .before .before .before .eval .ensures)
+    args-broken (at-loop .loop .inv) (at-loop-test .loop-test .taken)
+    (c .before .before .before .eval .ensures)
     (not-gave (c .before .before .before .eval .result) (c .if1 .taken))
 
 args-mul-slots : (t : ℕ) → args-lts.Need-mul-slots (callees t) (args-at t) args.Post args-Inv-loop args-μ-loop

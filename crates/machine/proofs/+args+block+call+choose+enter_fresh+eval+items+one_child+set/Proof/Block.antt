@@ -1,8 +1,7 @@
 -- What the borrow checker leaves of `block`.
 use native.Mathlib.Omega.{arith}
 use borrow.Author.Needs.{needs}
-use mathlib.Core.Path.{_∙_}
-use Prim.Native.Nat.{ℕ, _+_, _*_}
+use Prim.Native.Nat.{ℕ}
 use Rattle.machine.proofs.Blocks.{block-apart, block-locals, block-items, block-done}
 use Rattle.machine.proofs.block.Reads as block
 use Rattle.machine.proofs.+args+block+call+choose+enter_fresh+eval+items+one_child+set.Lts-block as block-lts
@@ -14,7 +13,16 @@ use Rattle.machine.proofs.+args+block+call+choose+enter_fresh+eval+item
 
 -- What its callees ask and give: those of the cycle below the measure t.
 abbrev callees : ℕ → block-lts.Claims
-callees t = (first-reads.Asked, first-reads.Learnt, second-reads.Asked, second-reads.Learnt, open-locals-reads.Asked, open-locals-reads.Learnt, items-below t, items.Post)
+callees t = (
+  first-reads.Asked,
+  first-reads.Learnt,
+  second-reads.Asked,
+  second-reads.Learnt,
+  open-locals-reads.Asked,
+  open-locals-reads.Learnt,
+  items-below t,
+  items.Post,
+)
 
 block-first-requires : (t : ℕ) → block-lts.Need-first-requires (callees t) (block-at t) block.Post
 block-first-requires t c κs =
@@ -83,7 +91,8 @@ block-add-open-locals-3 t c =
 block-open-locals-requires : (t : ℕ) → block-lts.Need-open-locals-requires (callees t) (block-at t) block.Post
 block-open-locals-requires t c κs =
     let start = c .before .before .before .before .before .before .before .before in
-    rw (c .before .before .first .ensures) (block-locals (block-apart (start .pre .1 .0) (start .pre .1 .1) .2))
+    rw (c .before .before .first .ensures)
+    (block-locals (block-apart (start .pre .1 .0) (start .pre .1 .1) .2))
 
 block-add-items : (t : ℕ) → block-lts.Need-add-items (callees t) (block-at t) block.Post
 block-add-items t c =
@@ -142,7 +151,8 @@ block-items-requires t c κs =
     let at-first = at-second .before in
     let start = at-first .before .before .before .before .before .before in (
       omega (arith, at-second .second .ok),
-      rw (at-first .first .ensures, at-second .second .ensures) (block-items (block-apart (start .pre .1 .0) (start .pre .1 .1) .2)
+      rw (at-first .first .ensures, at-second .second .ensures)
+          (block-items (block-apart (start .pre .1 .0) (start .pre .1 .1) .2)
           (rw (at-first .first .ensures) at (c .before .before .before .open-locals .ensures))
           (omega (arith, at-second .second .ok, at-second .second .ensures))),
     )

@@ -89,14 +89,16 @@ call-same-length t c = c .before .before .before .args2 .kept .1 .1 .1 .1 .1 .0
 
 call-returns : (t : ℕ) → call-lts.Need-returns (callees t) (call-at t) call.Post
 call-returns t c =
-    let start = c .before .before .before .before .before .before .before .before .before .before .before .before .before in
+    let start = c .before .before .before .before .before .before .before .before .before .before .before
+    .before .before in
     call-fail (start .args .at)
     (start .pre .1 .1) (c .before .before .before .args2 .ensures)
     (not-gave (c .before .before .before .args2 .result) (c .if1 .taken))
 
 call-mul-v : (t : ℕ) → call-lts.Need-mul-v (callees t) (call-at t) call.Post
 call-mul-v t c =
-    let start = c .before .before .before .before .before .before .before .before .before .before .before .before .before in
+    let start = c .before .before .before .before .before .before .before .before .before .before .before
+    .before .before in
     omega (
       arith,
       top-room (call-apart
@@ -111,7 +113,8 @@ call-mul-v t c =
 
 call-element-copy-out-v : (t : ℕ) → call-lts.Need-element-copy-out-v (callees t) (call-at t) call.Post
 call-element-copy-out-v t c =
-    let start = c .before .before .before .before .before .before .before .before .before .before .before .before .before in
+    let start = c .before .before .before .before .before .before .before .before .before .before .before
+    .before .before in
     omega (
       arith,
       top-room (call-apart
@@ -126,27 +129,32 @@ call-element-copy-out-v t c =
 
 call-mul-m : (t : ℕ) → call-lts.Need-mul-m (callees t) (call-at t) call.Post
 call-mul-m t c =
-    let start = c .before .before .before .before .before .before .before .before .before .before .before .before .before .before in
+    let start = c .before .before .before .before .before .before .before .before .before .before .before
+    .before .before .before in
     omega (arith, (call-apart (start .pre .1 .0) (start .pre .1 .1) .3) .row, start .good .0)
 
 call-add-m : (t : ℕ) → call-lts.Need-add-m (callees t) (call-at t) call.Post
 call-add-m t c =
-    let start = c .before .before .before .before .before .before .before .before .before .before .before .before .before .before in
+    let start = c .before .before .before .before .before .before .before .before .before .before .before
+    .before .before .before in
     omega (arith, (call-apart (start .pre .1 .0) (start .pre .1 .1) .3) .row, start .good .0)
 
 call-mul-m-2 : (t : ℕ) → call-lts.Need-mul-m-2 (callees t) (call-at t) call.Post
 call-mul-m-2 t c =
-    let start = c .before .before .before .before .before .before .before .before .before .before .before .before .before .before in
+    let start = c .before .before .before .before .before .before .before .before .before .before .before
+    .before .before .before in
     omega (arith, (call-apart (start .pre .1 .0) (start .pre .1 .1) .3) .row, start .good .0)
 
 call-shared-slice-read-m : (t : ℕ) → call-lts.Need-shared-slice-read-m (callees t) (call-at t) call.Post
 call-shared-slice-read-m t c =
-    let start = c .before .before .before .before .before .before .before .before .before .before .before .before .before .before .before in
+    let start = c .before .before .before .before .before .before .before .before .before .before .before
+    .before .before .before .before in
     omega (arith, (call-apart (start .pre .1 .0) (start .pre .1 .1) .3) .row, start .good .0)
 
 call-cast-m : (t : ℕ) → call-lts.Need-cast-m (callees t) (call-at t) call.Post
 call-cast-m t c =
-    let start = c .before .before .before .before .before .before .before .before .before .before .before .before .before .before .before in
+    let start = c .before .before .before .before .before .before .before .before .before .before .before
+    .before .before .before .before in
     omega (arith, c .shared-slice-known6 .given (start .args .at * 4 + 1))
 
 call-find-body-requires : (t : ℕ) → call-lts.Need-find-body-requires (callees t) (call-at t) call.Post
@@ -165,7 +173,8 @@ call-enum-known-t-2 t c = search needs
 
 call-mul-size : (t : ℕ) → call-lts.Need-mul-size (callees t) (call-at t) call.Post
 call-mul-size t c =
-    let at-args2 = c .before .before .before .before .before .before .before .before .before .before .before in
+    let at-args2 = c .before .before .before .before .before .before .before .before .before .before
+    .before in
     let start = at-args2 .before .before .before .before .before .before .before .before .before .before in
     let x = call-apart (start .pre .1 .0) (start .pre .1 .1) .3 in
     let p = call-enter x (at-args2 .args2 .ensures) (c .before .t2 .given .1)
@@ -281,7 +290,8 @@ call-enter-fresh-requires t c κs =
 
 call-same-length-2 : (t : ℕ) → call-lts.Need-same-length-2 (callees t) (call-at t) call.Post
 call-same-length-2 t c =
-    let at-args2 = c .before .before .before .before .before .before .before .before .before .before .before .before .before .before .before .before .before .before .before .before .before in
+    let at-args2 = c .before .before .before .before .before .before .before .before .before .before .before
+    .before .before .before .before .before .before .before .before .before .before in
     c .before .before .enter-fresh .kept .1 .1 .1 .1 .1 .0 ∙ at-args2 .args2 .kept .1 .1 .1 .1 .1 .0
 
 call-returns-2 : (t : ℕ) → call-lts.Need-returns-2 (callees t) (call-at t) call.Post
@@ -342,7 +352,8 @@ call-eval-requires t c κs =
 
 call-same-length-3 : (t : ℕ) → call-lts.Need-same-length-3 (callees t) (call-at t) call.Post
 call-same-length-3 t c =
-    let at-args2 = c .before .before .before .before .before .before .before .before .before .before .before in
+    let at-args2 = c .before .before .before .before .before .before .before .before .before .before
+    .before in
     at-args2 .args2 .kept .1 .1 .1 .1 .1 .0
 
 call-returns-3 : (t : ℕ) → call-lts.Need-returns-3 (callees t) (call-at t) call.Post
@@ -356,7 +367,8 @@ call-returns-3 t c =
 
 call-same-length-4 : (t : ℕ) → call-lts.Need-same-length-4 (callees t) (call-at t) call.Post
 call-same-length-4 t c =
-    let at-args2 = c .before .before .before .before .before .before .before .before .before .before .before .before .before .before .before .before .before .before .before .before .before in
+    let at-args2 = c .before .before .before .before .before .before .before .before .before .before .before
+    .before .before .before .before .before .before .before .before .before .before in
     c .before .before .eval .kept .1 .1 .1 .1 .1 .0 ∙ at-args2 .args2 .kept .1 .1 .1 .1 .1 .0
 
 call-returns-4 : (t : ℕ) → call-lts.Need-returns-4 (callees t) (call-at t) call.Post
@@ -370,7 +382,8 @@ call-returns-4 t c =
     let at-args2 = at-if1 .before .before .before in
     let start = at-args2 .before .before .before .before .before .before .before .before .before .before in
     let x = call-apart (start .pre .1 .0) (start .pre .1 .1) .3 in
-    let p = call-enter x (at-args2 .args2 .ensures) (at-t2 .t2 .given .1) (at-find-body .find-body .ensures) in
+    let p = call-enter x (at-args2 .args2 .ensures) (at-t2 .t2 .given .1)
+    (at-find-body .find-body .ensures) in
     call-done (start .args .at) (start .pre .1 .1) (at-args2 .args2 .ensures)
     (outcome-value (at-args2 .args2 .result) (omega (arith, at-if1 .if1 .left))) (at-t2 .t2 .given .1)
     (at-find-body .find-body .ensures)

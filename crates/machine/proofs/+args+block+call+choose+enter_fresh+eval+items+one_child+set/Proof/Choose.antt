@@ -34,7 +34,8 @@ choose-same-length t c = c .before .before .before .eval .kept .1 .1 .1 .1 .1 .0
 
 choose-returns : (t : ℕ) → choose-lts.Need-returns (callees t) (choose-at t) choose.Post
 choose-returns t c =
-    let start = c .before .before .before .before .before .before .before .before .before .before .before .before in
+    let start = c .before .before .before .before .before .before .before .before .before .before .before
+    .before in
     choose-fail (start .args .at)
     (start .pre .1 .1) (c .before .before .before .eval .ensures)
     (not-gave (c .before .before .before .eval .result) (c .if1 .taken))
@@ -60,23 +61,27 @@ choose-returns-2 t c =
 
 choose-add-yes : (t : ℕ) → choose-lts.Need-add-yes (callees t) (choose-at t) choose.Post
 choose-add-yes t c =
-    let start = c .before .before .before .before .before .before .before .before .before .before .before .before .before .before .before .before in
+    let start = c .before .before .before .before .before .before .before .before .before .before .before
+    .before .before .before .before .before in
     omega (arith, (choose-apart (start .pre .1 .0) (start .pre .1 .1) .3) .in-ends)
 
 choose-mul-yes : (t : ℕ) → choose-lts.Need-mul-yes (callees t) (choose-at t) choose.Post
 choose-mul-yes t c =
-    let start = c .before .before .before .before .before .before .before .before .before .before .before .before .before .before .before .before in
+    let start = c .before .before .before .before .before .before .before .before .before .before .before
+    .before .before .before .before .before in
     omega (arith, (choose-apart (start .pre .1 .0) (start .pre .1 .1) .3) .in-ends)
 
 choose-shared-slice-read-yes : (t : ℕ)
     → choose-lts.Need-shared-slice-read-yes (callees t) (choose-at t) choose.Post
 choose-shared-slice-read-yes t c =
-    let start = c .before .before .before .before .before .before .before .before .before .before .before .before .before .before .before .before .before in
+    let start = c .before .before .before .before .before .before .before .before .before .before .before
+    .before .before .before .before .before .before in
     omega (arith, (choose-apart (start .pre .1 .0) (start .pre .1 .1) .3) .in-ends)
 
 choose-cast-yes : (t : ℕ) → choose-lts.Need-cast-yes (callees t) (choose-at t) choose.Post
 choose-cast-yes t c =
-    let start = c .before .before .before .before .before .before .before .before .before .before .before .before .before .before .before .before .before in
+    let start = c .before .before .before .before .before .before .before .before .before .before .before
+    .before .before .before .before .before .before in
     omega (arith, c .shared-slice-known5 .given (start .args .at + 1))
 
 choose-eval-requires-2 : (t : ℕ) → choose-lts.Need-eval-requires-2 (callees t) (choose-at t) choose.Post
@@ -92,13 +97,16 @@ choose-eval-requires-2 t c κs =
             (at-eval .eval .ensures) .falls,
       ),
       choose-second (choose-apart (start .pre .1 .0) (start .pre .1 .1) .3) (at-eval .eval .ensures)
-          (outcome-value (at-eval .eval .result) (at-if1 .if1 .left)) (case-truth (meaning (at-eval .eval .result)) (sym (at-value-of .value-of .ensures) ∙ at-v .v .given .1))
+          (outcome-value (at-eval .eval .result) (at-if1 .if1 .left))
+          (case-truth (meaning (at-eval .eval .result))
+          (sym (at-value-of .value-of .ensures) ∙ at-v .v .given .1))
           (c .before .before .before .if2 .taken),
     )
 
 choose-same-length-3 : (t : ℕ) → choose-lts.Need-same-length-3 (callees t) (choose-at t) choose.Post
 choose-same-length-3 t c =
-    let at-eval = c .before .before .before .before .before .before .before .before .before .before .before .before .before .before .before in
+    let at-eval = c .before .before .before .before .before .before .before .before .before .before .before
+    .before .before .before .before in
     c .before .before .eval2 .kept .1 .1 .1 .1 .1 .0
     ∙ at-eval .eval .kept .1 .1 .1 .1 .1 .0
 
@@ -115,12 +123,14 @@ choose-returns-3 t c =
     (at-eval .eval .ensures)
     (outcome-value (at-eval .eval .result)
     (at-if1 .if1 .left))
-    (case-truth (meaning (at-eval .eval .result)) (sym (at-value-of .value-of .ensures) ∙ at-v .v .given .1)) (at-if2 .if2 .taken)
+    (case-truth (meaning (at-eval .eval .result)) (sym (at-value-of .value-of .ensures) ∙ at-v .v .given .1))
+    (at-if2 .if2 .taken)
     (c .before .before .eval2 .ensures)
 
 choose-mul-no : (t : ℕ) → choose-lts.Need-mul-no (callees t) (choose-at t) choose.Post
 choose-mul-no t c =
-    let start = c .before .before .before .before .before .before .before .before .before .before .before .before .before .before .before .before .before .before in
+    let start = c .before .before .before .before .before .before .before .before .before .before .before
+    .before .before .before .before .before .before .before in
     omega (
       arith,
       (choose-apart (start .pre .1 .0) (start .pre .1 .1) .3) .end-a,
@@ -130,7 +140,8 @@ choose-mul-no t c =
 choose-shared-slice-read-no : (t : ℕ)
     → choose-lts.Need-shared-slice-read-no (callees t) (choose-at t) choose.Post
 choose-shared-slice-read-no t c =
-    let start = c .before .before .before .before .before .before .before .before .before .before .before .before .before .before .before .before .before .before .before in
+    let start = c .before .before .before .before .before .before .before .before .before .before .before
+    .before .before .before .before .before .before .before .before in
     omega (
       arith,
       (choose-apart (start .pre .1 .0) (start .pre .1 .1) .3) .end-a,
@@ -139,7 +150,8 @@ choose-shared-slice-read-no t c =
 
 choose-cast-no : (t : ℕ) → choose-lts.Need-cast-no (callees t) (choose-at t) choose.Post
 choose-cast-no t c =
-    let start = c .before .before .before .before .before .before .before .before .before .before .before .before .before .before .before .before .before .before .before in
+    let start = c .before .before .before .before .before .before .before .before .before .before .before
+    .before .before .before .before .before .before .before .before in
     omega (arith, c .shared-slice-known6 .given (getD (start .args .ends .now) (start .args .at + 1) 0))
 
 choose-eval-requires-3 : (t : ℕ) → choose-lts.Need-eval-requires-3 (callees t) (choose-at t) choose.Post
@@ -156,12 +168,15 @@ choose-eval-requires-3 t c κs =
             (at-eval .eval .ensures) .falls,
       ),
       choose-third (choose-apart (start .pre .1 .0) (start .pre .1 .1) .3) (at-eval .eval .ensures)
-          (outcome-value (at-eval .eval .result) (at-if1 .if1 .left)) (case-truth (meaning (at-eval .eval .result)) (sym (at-value-of .value-of .ensures) ∙ at-v .v .given .1)) (at-if2 .if2 .left),
+          (outcome-value (at-eval .eval .result) (at-if1 .if1 .left))
+          (case-truth (meaning (at-eval .eval .result))
+          (sym (at-value-of .value-of .ensures) ∙ at-v .v .given .1)) (at-if2 .if2 .left),
     )
 
 choose-same-length-4 : (t : ℕ) → choose-lts.Need-same-length-4 (callees t) (choose-at t) choose.Post
 choose-same-length-4 t c =
-    let at-eval = c .before .before .before .before .before .before .before .before .before .before .before .before .before .before .before .before in
+    let at-eval = c .before .before .before .before .before .before .before .before .before .before .before
+    .before .before .before .before .before in
     c .before .before .eval3 .kept .1 .1 .1 .1 .1 .0
     ∙ at-eval .eval .kept .1 .1 .1 .1 .1 .0
 

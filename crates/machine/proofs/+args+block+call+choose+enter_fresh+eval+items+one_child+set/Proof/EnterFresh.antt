@@ -40,7 +40,8 @@ enter-fresh-eval-requires t c κs =
       omega (arith, start .pre .0),
       own-pre (start .pre .1 .1)
           (omega (arith, length-replicate {A = ℕ} 1920 0, at-copy-slots .copy-slots .ensures .long))
-          (words-copied (start .args .slots .now) 1920 (start .args .top) (at-copy-slots .copy-slots .ensures) (start .pre .1 .0 .entering .words))
+          (words-copied (start .args .slots .now) 1920 (start .args .top) (at-copy-slots .copy-slots .ensures)
+          (start .pre .1 .0 .entering .words))
           (start .pre .1 .0),
     )
 
@@ -55,7 +56,8 @@ enter-fresh-returns t c =
     let start = at-copy-slots .before .before .before .before .before .before .before .before in
     own-done (start .pre .1 .1)
     (omega (arith, length-replicate {A = ℕ} 1920 0, at-copy-slots .copy-slots .ensures .long))
-    (words-copied (start .args .slots .now) 1920 (start .args .top) (at-copy-slots .copy-slots .ensures) (start .pre .1 .0 .entering .words))
+    (words-copied (start .args .slots .now) 1920 (start .args .top) (at-copy-slots .copy-slots .ensures)
+    (start .pre .1 .0 .entering .words))
     (at-copy-slots .copy-slots .ensures) (c .before .before .eval .ensures)
 
 -- The member, of its callees' contracts.

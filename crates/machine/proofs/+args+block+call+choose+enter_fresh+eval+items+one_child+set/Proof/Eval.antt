@@ -2,7 +2,7 @@
 use borrow.Author.Needs.{needs}
 use native.Mathlib.Omega.{arith}
 use native.Mathlib.Nat.{pos-of-ne-zero}
-use mathlib.Core.Path.{refl, sym, _∙_}
+use mathlib.Core.Path.{sym, _∙_}
 use Prim.Native.Nat.{ℕ}
 use Rattle.objects.proofs.Values.{outcome-spent}
 use Rattle.machine.proofs.Steps.{in-rows, eval-spent, counts-entered, left-entered, eval-entered}
@@ -166,10 +166,13 @@ eval-one-child-requires t c κs =
       (
         pre-entered (at-if1 .if1 .left) (counts-entered (start .args .tally .now) (at-if1 .if1 .left))
             (start .pre .1),
-        rest-one (start .pre .1) (sym (rw (at-letter-at .letter-at .ensures) at (at-is-leaf .is-leaf .ensures)) ∙ at-if2 .if2 .left)
+        rest-one (start .pre .1)
+            (sym (rw (at-letter-at .letter-at .ensures) at (at-is-leaf .is-leaf .ensures))
+            ∙ at-if2 .if2 .left)
             (λ e. c .before .before .before .match .rest .0 .0 .0 .1 (at-letter-at .letter-at .ensures ∙ e))
             (λ e. c .before .before .before .match .rest .0 .0 .1 (at-letter-at .letter-at .ensures ∙ e))
-            (λ e. c .before .before .before .match .rest .0 .1 (at-letter-at .letter-at .ensures ∙ e)) (λ e. c .before .before .before .match .rest .1 (at-letter-at .letter-at .ensures ∙ e)),
+            (λ e. c .before .before .before .match .rest .0 .1 (at-letter-at .letter-at .ensures ∙ e))
+            (λ e. c .before .before .before .match .rest .1 (at-letter-at .letter-at .ensures ∙ e)),
       ),
     )
 

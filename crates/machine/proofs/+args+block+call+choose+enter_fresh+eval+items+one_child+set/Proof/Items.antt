@@ -54,7 +54,8 @@ items-returns : (t : ℕ)
 items-returns t c =
     let at-loop-test = c .before .before .before .before .before .before .before in
     let at-loop = at-loop-test .before in
-    items-broken (at-loop .loop .inv) (at-loop-test .loop-test .taken) (c .before .before .before .eval .ensures) refl
+    items-broken (at-loop .loop .inv) (at-loop-test .loop-test .taken)
+    (c .before .before .before .eval .ensures) refl
     (not-gave (c .before .before .before .eval .result) (c .if1 .taken))
 
 items-mul-next : (t : ℕ)

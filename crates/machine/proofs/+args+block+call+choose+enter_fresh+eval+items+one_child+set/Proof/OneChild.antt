@@ -1,6 +1,5 @@
 -- What the borrow checker leaves of `one_child`.
 use native.Mathlib.Omega.{arith}
-use mathlib.Core.Path.{_∙_}
 use Prim.Native.Nat.{ℕ}
 use Rattle.objects.specs.Values.{outcome}
 use Rattle.objects.proofs.Values.{not-gave, outcome-value}
@@ -31,7 +30,8 @@ one-child-same-length t c = c .before .before .before .eval .kept .1 .1 .1 .1 .1
 
 one-child-returns : (t : ℕ) → one-child-lts.Need-returns (callees t) (one-child-at t) one-child.Post
 one-child-returns t c =
-    let start = c .before .before .before .before .before .before .before .before .before .before .before .before in
+    let start = c .before .before .before .before .before .before .before .before .before .before .before
+    .before in
     one-fail (start .args .at)
     (start .pre .1 .1) (c .before .before .before .eval .ensures)
     (not-gave (c .before .before .before .eval .result) (c .if1 .taken))

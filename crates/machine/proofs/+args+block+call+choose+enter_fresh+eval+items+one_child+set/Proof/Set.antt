@@ -2,7 +2,7 @@
 use native.Mathlib.Omega.{arith}
 use borrow.Author.Needs.{needs}
 use mathlib.Core.Path.{_∙_}
-use Prim.Native.Nat.{ℕ, _+_, _*_}
+use Prim.Native.Nat.{ℕ, _+_}
 use Rattle.objects.specs.Values.{outcome}
 use Rattle.objects.proofs.Values.{not-gave, outcome-value, word-of-outcome}
 use Rattle.machine.proofs.Steps.{kept-of}
@@ -17,7 +17,14 @@ use Rattle.machine.proofs.+args+block+call+choose+enter_fresh+eval+item
 
 -- What its callees ask and give: those of the cycle below the measure t.
 abbrev callees : ℕ → set-lts.Claims
-callees t = (eval-below t, eval.Post, first-reads.Asked, first-reads.Learnt, save-reads.Asked, save-reads.Learnt)
+callees t = (
+  eval-below t,
+  eval.Post,
+  first-reads.Asked,
+  first-reads.Learnt,
+  save-reads.Asked,
+  save-reads.Learnt,
+)
 
 set-add-eval : (t : ℕ) → set-lts.Need-add-eval (callees t) (set-at t) set.Post
 set-add-eval t c =
@@ -34,29 +41,34 @@ set-same-length t c = c .before .before .before .eval .kept .1 .1 .1 .1 .1 .0
 
 set-returns : (t : ℕ) → set-lts.Need-returns (callees t) (set-at t) set.Post
 set-returns t c =
-    let start = c .before .before .before .before .before .before .before .before .before .before .before .before in
+    let start = c .before .before .before .before .before .before .before .before .before .before .before
+    .before in
     set-fail (start .args .at)
     (start .pre .1 .1) (c .before .before .before .eval .ensures)
     (not-gave (c .before .before .before .eval .result) (c .if1 .taken))
 
 set-add-next : (t : ℕ) → set-lts.Need-add-next (callees t) (set-at t) set.Post
 set-add-next t c =
-    let start = c .before .before .before .before .before .before .before .before .before .before .before .before in
+    let start = c .before .before .before .before .before .before .before .before .before .before .before
+    .before in
     omega (arith, (set-apart (start .pre .1 .0) (start .pre .1 .1) .3) .in-ends)
 
 set-mul-next : (t : ℕ) → set-lts.Need-mul-next (callees t) (set-at t) set.Post
 set-mul-next t c =
-    let start = c .before .before .before .before .before .before .before .before .before .before .before .before in
+    let start = c .before .before .before .before .before .before .before .before .before .before .before
+    .before in
     omega (arith, (set-apart (start .pre .1 .0) (start .pre .1 .1) .3) .in-ends)
 
 set-shared-slice-read-next : (t : ℕ) → set-lts.Need-shared-slice-read-next (callees t) (set-at t) set.Post
 set-shared-slice-read-next t c =
-    let start = c .before .before .before .before .before .before .before .before .before .before .before .before .before in
+    let start = c .before .before .before .before .before .before .before .before .before .before .before
+    .before .before in
     omega (arith, (set-apart (start .pre .1 .0) (start .pre .1 .1) .3) .in-ends)
 
 set-cast-next : (t : ℕ) → set-lts.Need-cast-next (callees t) (set-at t) set.Post
 set-cast-next t c =
-    let start = c .before .before .before .before .before .before .before .before .before .before .before .before .before in
+    let start = c .before .before .before .before .before .before .before .before .before .before .before
+    .before .before in
     omega (arith, c .shared-slice-known5 .given (start .args .at + 1))
 
 set-eval-requires-2 : (t : ℕ) → set-lts.Need-eval-requires-2 (callees t) (set-at t) set.Post
@@ -94,7 +106,8 @@ set-returns-2 t c =
 
 set-first-requires : (t : ℕ) → set-lts.Need-first-requires (callees t) (set-at t) set.Post
 set-first-requires t c κs =
-    let start = c .before .before .before .before .before .before .before .before .before .before .before .before .before .before .before .before .before .before .before .before .before .before in
+    let start = c .before .before .before .before .before .before .before .before .before .before .before
+    .before .before .before .before .before .before .before .before .before .before .before in
     omega (arith, (set-apart (start .pre .1 .0) (start .pre .1 .1) .3) .row, start .good .0 .1)
 
 set-cast-save : (t : ℕ) → set-lts.Need-cast-save (callees t) (set-at t) set.Post
