@@ -8,7 +8,7 @@
  *
  * An answer has two words of 32 bits: FICKLE_NUMBER and FICKLE_LINE. Where the number is 0, the second word is the
  * result; where it is another, there is none. What the comments here say of an answer's numbers is in
- * crates/services/specs/Unpacked.antt, and Faithful.antt beside it proves that every answer is so read back.
+ * crates/packing/specs/Unpacked.antt, and crates/packing/proofs/Faithful.antt proves that every answer is so read back.
  *
  * Refusals have these numbers, and the second word is the line, 0 where none is to blame:
  *    1 line      malformed line or row; length not a multiple of 4

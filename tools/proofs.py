@@ -19,6 +19,7 @@ import re
 import subprocess
 import sys
 import tempfile
+from pathlib import Path
 
 
 def gen_dir(crate):
@@ -29,11 +30,11 @@ def generate(crate, force=False):
     d = gen_dir(crate)
     stamp = d + '.stamp'
     src = subprocess.run(f'cat crates/{crate}/src/*.rt crates/{crate}/specs/*.antt | sha1sum', shell=True, capture_output=True, text=True).stdout
-    if not force and os.path.exists(stamp) and open(stamp).read() == src and os.path.isdir(d):
+    if not force and os.path.exists(stamp) and Path(stamp).read_text() == src and os.path.isdir(d):
         return d
     subprocess.run(['rm', '-rf', d])
     subprocess.run(['rt', 'dev', crate, '--generated', d], capture_output=True, text=True)
-    open(stamp, 'w').write(src)
+    Path(stamp).write_text(src)
     return d
 
 def proof_dir(crate, fn):
@@ -47,7 +48,7 @@ def proof_dir(crate, fn):
 class Records:
     """The records of one generated Lts file."""
     def __init__(self, path):
-        s = open(path).read()
+        s = Path(path).read_text()
         self.fields, self.need = {}, {}
         for x in re.finditer(r'(?m)^( *)pub record (\S+) : Type 0 where\n((?:\1 +.*\n|\n)+)', s):
             name = x.group(2)
@@ -133,9 +134,9 @@ def expand(crate, fns):
     for fn in fns:
         fn = proof_dir(crate, fn)
         for p in proof_files(crate, fn):
-            t = open(p).read()
+            t = Path(p).read_text()
             if '@' in t:
-                open(p, 'w').write(expand_text(crate, fn, t))
+                Path(p).write_text(expand_text(crate, fn, t))
 
 def paths(crate, fn, only=None):
     fn = proof_dir(crate, fn)
@@ -157,7 +158,7 @@ def skel(crate):
             continue
         text = '\n'.join(l[4:] for l in body.rstrip().split('\n')) + '\n'
         os.makedirs(os.path.dirname(path), exist_ok=True)
-        open(path, 'w').write(text)
+        Path(path).write_text(text)
         print('wrote', path)
     for l in out.split('\n'):
         if 'no proof' in l and 'help: prove it first' in l:
@@ -186,7 +187,7 @@ def names(crate, fns):
     for fn in fns:
         fn = proof_dir(crate, fn)
         for p in proof_files(crate, fn):
-            blocks = re.split(r'(\n\n+)', open(p).read())
+            blocks = re.split(r'(\n\n+)', Path(p).read_text())
             for i, b in enumerate(blocks):
                 m = NEED.search(b)
                 if not m or ' .before' not in m[3]:
@@ -205,24 +206,24 @@ def names(crate, fns):
                     print(f'{p} {m[1]}: {f} is not the nearest')
                     return x.group(0)
                 blocks[i] = b[:m.end(2)] + ' ' + re.sub(r'\bc((?: \.before)*) \.(?!before\b)([A-Za-zκ][A-Za-z0-9-]*)', sub, unnamed(m[3]))
-            open(p, 'w').write(''.join(blocks))
+            Path(p).write_text(''.join(blocks))
 
 def long(crate, log):
     """Where a `large solution` note names a need, its paths are written out again: solutions repeat what a `let` names."""
-    for path, name in set(re.findall(rf'(?m)(crates/{crate}/proofs/[^/\n]+/[^:\n]*):.*large solution.*\(in `(\S+)`\)$', open(log).read())):
-        blocks = re.split(r'(\n\n+)', open(path).read())
+    for path, name in set(re.findall(rf'(?m)(crates/{crate}/proofs/[^/\n]+/[^:\n]*):.*large solution.*\(in `(\S+)`\)$', Path(log).read_text())):
+        blocks = re.split(r'(\n\n+)', Path(path).read_text())
         for i, b in enumerate(blocks):
             m = NEED.search(b)
             if m and m[1] == name:
                 blocks[i] = b[:m.end(2)] + ' ' + unnamed(m[3])
-        open(path, 'w').write(''.join(blocks))
+        Path(path).write_text(''.join(blocks))
 
 def short(crate, fns):
     """In needs that take long lines, each place is named once, from the nearest on: `let at-put = c .before … in`."""
     for fn in fns or sorted(x for x in os.listdir(f'crates/{crate}/proofs') if os.path.isdir(f'crates/{crate}/proofs/{x}')):
         fn = proof_dir(crate, fn)
         for p in proof_files(crate, fn):
-            blocks = re.split(r'(\n\n+)', open(p).read())
+            blocks = re.split(r'(\n\n+)', Path(p).read_text())
             for i, b in enumerate(blocks):
                 m = NEED.search(b)
                 if not m or all(len(x) <= 110 for x in b[m.start(2):].split('\n')) and not NAMED.search(m.group(3)):
@@ -242,7 +243,7 @@ def short(crate, fns):
                 if lets:
                     body = PATH.sub(lambda x: names[x.group(1)] + x.group(0)[1 + len(x.group(1)):], body)
                     blocks[i] = b[:m.end(2)] + '\n    ' + '\n    '.join(lets) + '\n    ' + body
-            open(p, 'w').write(''.join(blocks))
+            Path(p).write_text(''.join(blocks))
 
 if __name__ == '__main__':
     a = sys.argv[1:]

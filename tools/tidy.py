@@ -1,7 +1,7 @@
 #!/usr/bin/env python3
 """Keeps specs, laws and contracts readable.
 
-  tools/tidy.py CRATE...    drop imported names that a file does not mention, and break lines over 110 characters
+  tools/tidy.py CRATE...    drop imported names that a file does not use, and break lines over 110 characters
                             in specs/, in proofs/ and in the contracts of src/; then run `rt fmt`
 
 A line is broken where the nesting is least, before an arrow or an operator rather than between arguments, never inside a quoted
@@ -11,6 +11,7 @@ import glob
 import re
 import subprocess
 import sys
+from pathlib import Path
 
 LIMIT = 110
 OPENING, CLOSING = '([{⌜', ')]}⌝'
@@ -39,7 +40,7 @@ def used_in(body):
     return used
 
 
-def without_idle_imports(lines):
+def without_unused_imports(lines):
     body = '\n'.join(line for line in lines if not is_comment(line) and not re.match(r'(ghost )?use ', line))
     used, kept = used_in(body), []
     for line in lines:
@@ -120,7 +121,7 @@ def broken_import(line):
 
 
 def tidied(path):
-    lines = without_idle_imports(open(path).read().split('\n'))
+    lines = without_unused_imports(Path(path).read_text().split('\n'))
     result = []
     for line in lines:
         contract = re.match(r'    (requires|ensures) ', line) or (line.startswith('        ') and '⌝' in line)
@@ -133,10 +134,16 @@ def tidied(path):
     return result
 
 
-for crate in sys.argv[1:]:
-    for path in glob.glob(f'crates/{crate}/**/*', recursive=True):
-        if path.endswith(('.antt', '.rt')):
-            text = '\n'.join(tidied(path))
-            open(path, 'w').write(text)
-if sys.argv[1:]:
+def main(crates):
+    if not crates:
+        sys.exit(__doc__)
+    for crate in crates:
+        for path in glob.glob(f'crates/{crate}/**/*', recursive=True):
+            if path.endswith(('.antt', '.rt')):
+                text = '\n'.join(tidied(path))
+                Path(path).write_text(text)
     subprocess.run(['rt', 'fmt'], check=True)
+
+
+if __name__ == '__main__':
+    main(sys.argv[1:])

@@ -20,6 +20,7 @@ import os
 import re
 import subprocess
 import sys
+from pathlib import Path
 
 ROOT = 'services'
 TARGET = 'target/twin'
@@ -27,8 +28,8 @@ PROVED = 'target/staticlib/libservices.a'
 BENCH = 'twins'
 UNCHECKED, TWIN, GUARDED = 'unchecked', 'twin', 'guarded'
 VARIANTS = [UNCHECKED, TWIN, GUARDED]
-# The modules of fickle/ beside its lib.rs. None may have the name of a Rattle crate.
-MODULES = ['answers', 'fleets', 'price_terms', 'refusals', 'stack']
+# The modules that fickle/src/lib.rs has beside itself; those for tests are left out. None may have the name of a Rattle crate.
+MODULE = re.compile(r'^(?<!#\[cfg\(test\)\]\n)mod (\w+);$', re.M)
 ALLOWED = '#![allow(warnings)]\n'
 CONTRACT = re.compile(r'\b(requires|ensures)(\s+\w+)?\s*\{')
 # What may not be left in the Rust text.
@@ -74,9 +75,9 @@ def fail(message):
 def crates_below(root):
     """Returns the crates that a crate is built from, itself last."""
     below = {}
-    for line in open('crates.txt'):
-        name, colon, needed = line.partition(':')
-        if colon and not line.startswith('#'):
+    for line in Path('crates.txt').read_text().splitlines():
+        name, colon, needed = line.partition('#')[0].partition(':')
+        if colon:
             below[name] = needed.split()
     found = []
 
@@ -138,7 +139,7 @@ def sources(crate):
 
 def rust_of(file, crates):
     """Returns the Rust text of a source file."""
-    text = open(file).read()
+    text = Path(file).read_text()
     text = re.sub(r'//.*', '', text)
     text = re.sub(r'^ghost use [^;]*;\n', '', text, flags=re.M)
     text = without_contracts(text)
@@ -167,7 +168,7 @@ def c_parameter(name, kind):
 def c_interface():
     """Returns the module of the services under their C names: slices pass as pointer and length, as Rattle passes them."""
     functions = []
-    services = [(module, *service) for file, module in sources(ROOT) for service in SERVICE.findall(open(file).read())]
+    services = [(module, *service) for file, module in sources(ROOT) for service in SERVICE.findall(Path(file).read_text())]
     for module, name, parameters, result in services:
         pairs = [parameter.split(':') for parameter in parameters.split(',') if parameter.strip()]
         crossed = [c_parameter(one.strip(), kind.strip()) for one, kind in pairs]
@@ -181,7 +182,7 @@ def c_interface():
 
 def wrapper(crates):
     """Returns the source of `fickle/` with the modules of the twin in place of the linked library."""
-    text, count = LINKED.subn('mod c;\n', open('fickle/src/lib.rs').read())
+    text, count = LINKED.subn('mod c;\n', Path('fickle/src/lib.rs').read_text())
     if count != 1:
         fail('fickle/src/lib.rs has no module c to replace')
     return ALLOWED + text + ''.join(f'mod {crate};\n' for crate in crates)
@@ -190,8 +191,8 @@ def wrapper(crates):
 def write(path, text):
     path = os.path.join(TARGET, path)
     os.makedirs(os.path.dirname(path), exist_ok=True)
-    if not os.path.exists(path) or open(path).read() != text:
-        open(path, 'w').write(text)
+    if not os.path.exists(path) or Path(path).read_text() != text:
+        Path(path).write_text(text)
 
 
 def manifest(name, paths):
@@ -202,8 +203,8 @@ def manifest(name, paths):
 def write_variant(variant, crates):
     write(f'{variant}/Cargo.toml', manifest(variant, {}))
     write(f'{variant}/src/lib.rs', wrapper(crates))
-    for module in MODULES:
-        write(f'{variant}/src/{module}.rs', open(f'fickle/src/{module}.rs').read())
+    for module in MODULE.findall(Path('fickle/src/lib.rs').read_text()):
+        write(f'{variant}/src/{module}.rs', Path(f'fickle/src/{module}.rs').read_text())
     write(f'{variant}/src/c.rs', c_interface())
     for crate in crates:
         for file, module in sources(crate):
@@ -224,16 +225,16 @@ def write_bench():
     write('Cargo.toml', WORKSPACE.format(members=members, profiles=profiles))
 
 
-def main():
-    if sys.argv[1:] not in ([], ['write']):
+def main(arguments):
+    if arguments not in ([], ['write']):
         sys.exit(__doc__)
     crates = crates_below(ROOT)
-    # The page that fickle/src/refusals.rs includes, by the path from a variant's source.
-    write('docs/REFUSALS.md', open('docs/REFUSALS.md').read())
+    # The page that fickle/src/explanations.rs includes, by the path from a variant's source.
+    write('docs/REFUSALS.md', Path('docs/REFUSALS.md').read_text())
     for variant in VARIANTS:
         write_variant(variant, crates)
     write_bench()
-    if not sys.argv[1:]:
+    if not arguments:
         if not os.path.exists(PROVED):
             fail(f'{PROVED} is missing: run `rt staticlib services`')
         environment = {'CARGO_TARGET_DIR': os.path.abspath('target/cargo')} | os.environ
@@ -241,4 +242,5 @@ def main():
         sys.exit(subprocess.run(command, env=environment).returncode)
 
 
-main()
+if __name__ == '__main__':
+    main(sys.argv[1:])

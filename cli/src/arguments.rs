@@ -3,6 +3,7 @@
 use crate::Trouble;
 use std::ffi::{OsStr, OsString};
 use std::os::unix::ffi::OsStrExt;
+use std::str::FromStr;
 
 /// The arguments of a command, read one by one. After `--` everything is a file.
 pub struct Arguments<'a> {
@@ -52,7 +53,7 @@ impl<'a> Arguments<'a> {
     }
 
     /// The value of an option that is a whole number.
-    pub fn number(&mut self, option: &str, given: Option<&'a OsStr>) -> Result<u64, Trouble> {
+    pub fn number<N: FromStr>(&mut self, option: &str, given: Option<&'a OsStr>) -> Result<N, Trouble> {
         let digits = self.value(option, given)?.to_string_lossy();
         match digits.parse() {
             Ok(number) if digits.bytes().all(|byte| byte.is_ascii_digit()) => Ok(number),

@@ -74,8 +74,7 @@ fn counted(asked: &Asked) -> Result<Status, No> {
 
 /// Says that a run was cut, and what to do.
 pub fn cut(fleet: &Fleet, run: &Run, stop: Stop, labels: u32, limits: Limits) -> String {
-    let word = fickle::explanation(stop.number()).map_or("", |found| found.word);
     let labels = if labels == 1 { "1 label".to_string() } else { format!("{labels} labels") };
-    let (at, number, advice) = (fleet.at(run), stop.number(), limits.advice(stop));
+    let (at, number, word, advice) = (fleet.at(run), stop.number(), stop.word(), limits.advice(stop));
     format!("{at}: the run stopped ({number}, {word}) after {labels}; {advice}")
 }

@@ -6,16 +6,14 @@ pub mod why;
 
 use crate::arguments::Arguments;
 use crate::lines::{lines, number, read, read_input, wrong, Line, No, STANDARD_INPUT};
-use crate::store::OBJECTS_MOST;
 use crate::terms::{When, WHEN};
 use crate::Trouble;
-use fickle::Stop;
+use fickle::{Stop, MOST_FUEL, MOST_OBJECTS, MOST_SOURCE_FUEL};
 use std::ffi::OsStr;
 use std::path::{Path, PathBuf};
 
-/// Fuel where none is given, and the most that a run may have.
-pub const FUEL: u64 = 1_000_000;
-const FUEL_MOST: u64 = 100_000_000;
+/// Fuel where none is given: as much as a plain program is promised to end alike on.
+pub const FUEL: u64 = MOST_SOURCE_FUEL;
 
 /// What a store's name begins with where a plain run left it.
 const PLAIN: &str = "plain:";
@@ -59,19 +57,19 @@ pub struct StoreFile {
 #[derive(Clone, Copy)]
 pub struct Limits {
     pub fuel: u64,
-    pub objects: u64,
+    pub objects: usize,
 }
 
 impl Limits {
-    pub const GIVEN: Limits = Limits { fuel: FUEL, objects: OBJECTS_MOST };
+    pub const GIVEN: Limits = Limits { fuel: FUEL, objects: MOST_OBJECTS };
 
     /// Refuses what no run can have.
     pub fn check(&self, arguments: &Arguments) -> Result<(), Trouble> {
-        if self.fuel > FUEL_MOST {
-            return Err(arguments.trouble(&format!("a run may have at most {FUEL_MOST} fuel")));
+        if self.fuel > MOST_FUEL {
+            return Err(arguments.trouble(&format!("a run may have at most {MOST_FUEL} fuel")));
         }
-        if self.objects > OBJECTS_MOST {
-            return Err(arguments.trouble(&format!("a store holds at most {OBJECTS_MOST} objects")));
+        if self.objects > MOST_OBJECTS {
+            return Err(arguments.trouble(&format!("a store holds at most {MOST_OBJECTS} objects")));
         }
         Ok(())
     }
@@ -79,9 +77,9 @@ impl Limits {
     /// What to do about a run that was stopped.
     pub fn advice(&self, stop: Stop) -> &'static str {
         match stop {
-            Stop::Full if self.objects < OBJECTS_MOST => "raise --objects",
+            Stop::Full if self.objects < MOST_OBJECTS => "raise --objects",
             Stop::Full => "no store holds more objects, so let it be several runs",
-            _ if self.fuel < FUEL_MOST => "raise --fuel",
+            _ if self.fuel < MOST_FUEL => "raise --fuel",
             _ => "no run may have more fuel, so let it be several runs",
         }
     }

@@ -2,21 +2,15 @@
 
 use crate::lines::STANDARD_INPUT;
 use crate::Trouble;
-use fickle::{explanation, read_rows, Refusal};
+use fickle::{rows_of_text, Reason, Refusal, MOST_LINE_BYTES, MOST_ROWS};
 use std::ffi::OsStr;
 use std::fs::File;
 use std::io::Read;
 use std::path::Path;
 
-/// Numbers in a row.
-pub const ROW: usize = 4;
-/// The most rows of a program.
-pub const ROWS_MOST: usize = 60_000;
-/// The most bytes of a well-formed line, its line feed included.
-pub const LINE_MOST: usize = 14;
 /// What decides any verdict of the reader: 60,000 lines are well formed within these bytes or one of them is not, and then
 /// whatever follows is line 60,001.
-const TEXT_MOST: u64 = (ROWS_MOST * LINE_MOST) as u64 + 1;
+const TEXT_MOST: u64 = (MOST_ROWS * MOST_LINE_BYTES) as u64 + 1;
 
 /// A text of rules or of price terms, and how its file is called in messages.
 pub struct Input {
@@ -64,10 +58,7 @@ impl Input {
 
     /// Its rows.
     pub fn rows(&self) -> Result<Vec<u32>, Refusal> {
-        let mut rows = vec![0; ROWS_MOST * ROW];
-        let count = read_rows(&self.text, &mut rows)?;
-        rows.truncate(count * ROW);
-        Ok(rows)
+        rows_of_text(&self.text)
     }
 
     /// A refusal as editors read it: file, line, number and word, sentence.
@@ -76,16 +67,19 @@ impl Input {
             0 => self.name.clone(),
             line => format!("{}:{line}", self.name),
         };
-        let found = explanation(refusal.number);
-        let (word, sentence) = found.map_or(("", ""), |found| (found.word, found.sentence));
-        format!("{place}: refused ({}, {word}): {sentence}", refusal.number)
+        format!("{place}: {}", refused(refusal.reason))
     }
 
     /// What may be wrong with a malformed line, where its bytes tell.
     pub fn hint(&self, refusal: Refusal) -> Option<String> {
-        let line = self.line(refusal.line).filter(|_| refusal.number == 1)?;
+        let line = self.line(refusal.line).filter(|_| refusal.reason == Reason::Line)?;
         Some(format!("{}:{}: note: {}", self.name, refusal.line, suspected(line)?))
     }
+}
+
+/// A refusal in words, but for its place.
+pub fn refused(reason: Reason) -> String {
+    format!("refused ({}, {}): {}", reason.number(), reason.word(), reason.sentence())
 }
 
 /// The first bytes of a file.

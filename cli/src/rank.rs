@@ -4,14 +4,9 @@ use crate::arguments::files;
 use crate::lines::{lines, number, read, read_input, told, wrong, No, STANDARD_INPUT};
 use crate::output::{print_bytes, say};
 use crate::{Status, Trouble};
-use fickle::{rank_models, Refusal};
+use fickle::{models_report, Reason, Refusal, COUNTED_WIDTH};
 use std::ffi::{OsStr, OsString};
 use std::path::Path;
-
-/// The most bytes of a report's line: four numbers of ten digits, each with a tab or line feed after it.
-pub const REPORTED_MOST: usize = 44;
-/// Numbers of a counted line: model, printed, spoiled, cents.
-const COUNTED: usize = 4;
 
 pub fn command(rest: &[OsString]) -> Result<Status, Trouble> {
     let files = files("rank", rest)?;
@@ -31,12 +26,11 @@ fn ranked(files: Vec<&OsStr>) -> Result<Status, No> {
     for file in files {
         counts.add(file)?;
     }
-    let mut report = vec![0; counts.places.len() * REPORTED_MOST];
-    let length = rank_models(&counts.numbers, &mut report).map_err(|refusal| counts.refused(refusal))?;
-    if length == 0 {
+    let report = models_report(&counts.numbers).map_err(|refusal| counts.refused(refusal))?;
+    if report.is_empty() {
         say("there are no counted lines, so there is no report");
     }
-    Ok(print_bytes(&report[..length])?)
+    Ok(print_bytes(&report)?)
 }
 
 impl Counts {
@@ -49,7 +43,7 @@ impl Counts {
         };
         for line in lines(&name, &text)? {
             let numbers: Option<Vec<u32>> = line.text.split('\t').map(number).collect();
-            let Some(numbers) = numbers.filter(|numbers| numbers.len() == COUNTED) else {
+            let Some(numbers) = numbers.filter(|numbers| numbers.len() == COUNTED_WIDTH) else {
                 let due = "the line is not model, printed, spoiled and cents: four whole numbers with one tab between \
                            them, as `sigvolar count` prints them";
                 return Err(wrong(&name, line.number, due));
@@ -65,9 +59,11 @@ impl Counts {
     fn refused(&self, refusal: Refusal) -> No {
         let place = (refusal.line as usize).checked_sub(1).and_then(|place| self.places.get(place));
         let Some((file, line)) = place else { return No::Refused(refusal.to_string()) };
-        let what = match refusal.number {
-            1 => "the line has more labels spoiled than printed".to_string(),
-            17 => "refused (17, sum): the line takes one of its model's sums past 4000000000".to_string(),
+        let what = match refusal.reason {
+            Reason::Line => "the line has more labels spoiled than printed".to_string(),
+            Reason::Sum => {
+                "refused (17, sum): the line takes one of its model's sums past 4000000000".to_string()
+            }
             _ => refusal.to_string(),
         };
         wrong(&self.names[*file], *line, &what)

@@ -9,16 +9,14 @@ use crate::count::{cut, BOTH_FROM_INPUT};
 use crate::fleet::costs::Costs;
 use crate::fleet::runs::{Ended, Runs, Taken};
 use crate::fleet::{why, Fleet, Limits, Run};
-use crate::input::{reason, same_file, ROW};
+use crate::input::{reason, same_file};
 use crate::lines::{told, No};
 use crate::names::Names;
 use crate::output::{print, print_bytes, say};
 use crate::progress::Progress;
-use crate::rank::REPORTED_MOST;
-use crate::store::OBJECT;
 use crate::terms::Terms;
 use crate::{Status, Trouble};
-use fickle::{explanation, report_fleet, Outcome};
+use fickle::{fleet_report, Outcome, OBJECT_WIDTH, ROW_WIDTH};
 use std::ffi::{OsStr, OsString};
 use table::Table;
 
@@ -161,7 +159,7 @@ impl<'a> Slices<'a> {
     fn add(&mut self, run: &'a Run, taken: Taken, cents: u32) {
         let before = self.stores.len();
         if taken.plain {
-            let mut label = |class| self.stores.extend([&[class][..], &[0; OBJECT - 1]].concat());
+            let mut label = |class| self.stores.extend([&[class][..], &[0; OBJECT_WIDTH - 1]].concat());
             match taken.labels(run) {
                 Ok(labels) => {
                     (labels.spoiled..labels.printed).for_each(|_| label(run.printed));
@@ -172,8 +170,8 @@ impl<'a> Slices<'a> {
         } else {
             self.stores.extend_from_slice(&taken.store);
         }
-        let objects = ((self.stores.len() - before) / OBJECT) as u32;
-        let rows = (taken.rows.len() / ROW) as u32;
+        let objects = ((self.stores.len() - before) / OBJECT_WIDTH) as u32;
+        let rows = (taken.rows.len() / ROW_WIDTH) as u32;
         self.runs.extend([run.model, rows, objects, run.printed, run.spoiled, cents]);
         self.programs.extend_from_slice(&taken.rows);
         if let Some(outcome) = taken.unusual {
@@ -185,15 +183,13 @@ impl<'a> Slices<'a> {
     /// The report of all runs; or why there is none: the first run that is refused, else what ended the list before its
     /// end.
     fn report(&self, fleet: &Fleet) -> Result<Vec<u8>, No> {
-        let mut report = vec![0; self.taken.len() * REPORTED_MOST];
-        match report_fleet(&self.runs, &self.programs, &self.stores, &mut report) {
-            Ok(length) => report.truncate(length),
-            Err(refusal) => {
-                let place = (refusal.line as usize).checked_sub(1).and_then(|place| self.taken.get(place));
-                let Some((run, taken)) = place else { return Err(No::Refused(refusal.to_string())) };
-                return Err(No::Refused(why::refused(fleet, run, taken, refusal)));
-            }
-        }
+        let report = fleet_report(&self.runs, &self.programs, &self.stores).map_err(|refusal| {
+            let place = (refusal.line as usize).checked_sub(1).and_then(|place| self.taken.get(place));
+            No::Refused(match place {
+                Some((run, taken)) => why::refused(fleet, run, taken, refusal),
+                None => refusal.to_string(),
+            })
+        })?;
         match &self.ended {
             Some(sentence) => Err(No::Refused(sentence.clone())),
             None => Ok(report),
@@ -209,10 +205,7 @@ impl<'a> Slices<'a> {
 /// What is said of a run that did not end in a value.
 fn unusual(outcome: Outcome) -> String {
     let how = match outcome {
-        Outcome::Stop(stop) => {
-            let word = explanation(stop.number()).map_or("", |found| found.word);
-            format!("stopped ({}, {word})", stop.number())
-        }
+        Outcome::Stop(stop) => format!("stopped ({}, {})", stop.number(), stop.word()),
         Outcome::Exception(exception) => format!("ended in exception {}", exception.number()),
         Outcome::Value(_) => "ended in a value".to_string(),
     };

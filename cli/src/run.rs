@@ -5,14 +5,14 @@ use crate::fleet::FUEL;
 use crate::input::{reason, same_file, Input};
 use crate::output::{print, say};
 use crate::progress::Progress;
-use crate::store::{counted, Objects, OBJECT, OBJECTS_MOST};
-use crate::translate::{plain_rows, refused};
+use crate::store::{counted, Objects};
+use crate::translate::refused;
 use crate::{Status, Trouble};
-use fickle::{explanation, run_rows_on_this_stack, Exception, Outcome, Refusal, Run, Stop, Value};
+use fickle::{
+    plain_rows, run_rows_on_this_stack, Exception, Outcome, Refusal, Run, Stop, Value, MOST_OBJECTS,
+    MOST_SOURCE_FUEL, OBJECT_WIDTH, PLAIN_STEPS_A_STEP,
+};
 use std::ffi::{OsStr, OsString};
-
-/// Up to the fuel that is given where none is asked for, the plain program is proved to end alike, on so many times as much.
-const PLAIN_FUEL: u64 = 84;
 
 /// The line above the counts of each program.
 const OBJECTS: &str = "objects by the class they ended in (exactly that class, not one below it):\n";
@@ -22,7 +22,7 @@ const IDENTITIES: &str = "objects of the source program, as the plain store has 
 struct Asked<'a> {
     file: &'a OsStr,
     fuel: u64,
-    objects: u64,
+    objects: usize,
     store: Option<&'a OsStr>,
     plain: bool,
 }
@@ -64,7 +64,7 @@ pub fn command(rest: &[OsString]) -> Result<Status, Trouble> {
 
 fn asked(rest: &[OsString]) -> Result<Asked<'_>, Trouble> {
     let mut arguments = Arguments::new("run", rest);
-    let (mut fuel, mut objects, mut store, mut plain) = (FUEL, OBJECTS_MOST, None, false);
+    let (mut fuel, mut objects, mut store, mut plain) = (FUEL, MOST_OBJECTS, None, false);
     let mut files = Vec::new();
     while let Some(argument) = arguments.next() {
         match argument {
@@ -78,12 +78,12 @@ fn asked(rest: &[OsString]) -> Result<Asked<'_>, Trouble> {
             },
         }
     }
-    if objects > OBJECTS_MOST {
-        return Err(arguments.trouble(&format!("a store holds at most {OBJECTS_MOST} objects")));
+    if objects > MOST_OBJECTS {
+        return Err(arguments.trouble(&format!("a store holds at most {MOST_OBJECTS} objects")));
     }
-    if plain && fuel > FUEL {
+    if plain && fuel > MOST_SOURCE_FUEL {
         return Err(arguments.trouble(&format!(
-            "with --plain the fuel is at most {FUEL}: up to there the plain program is proved to end alike"
+            "with --plain the fuel is at most {MOST_SOURCE_FUEL}: up to there the plain program is proved to end alike"
         )));
     }
     match files[..] {
@@ -99,7 +99,7 @@ fn asked(rest: &[OsString]) -> Result<Asked<'_>, Trouble> {
 fn source(input: &Input, asked: &Asked) -> Result<(Vec<u32>, Done), Refusal> {
     let rows = input.rows()?;
     let _progress = Progress::start(format!("{}: running", input.name));
-    let done = Done::of(&rows, asked.fuel, asked.objects as usize)?;
+    let done = Done::of(&rows, asked.fuel, asked.objects)?;
     Ok((rows, done))
 }
 
@@ -113,17 +113,17 @@ fn beside(input: &Input, rows: &[u32], asked: &Asked, source: &Done) -> Result<S
         ));
         return Ok(Status::Refused);
     }
-    // An Identity and an implementor for each object, and an implementor for each change of class.
-    let needed = 2 * u64::from(source.run.objects) + u64::from(source.run.changes);
-    if needed > OBJECTS_MOST {
+    let needed = source.run.plain_objects();
+    if needed > MOST_OBJECTS as u64 {
         say(&format!(
-            "{}: the plain program was not run, since it makes {needed} objects and a store holds {OBJECTS_MOST}",
+            "{}: the plain program was not run, since it makes {needed} objects and a store holds {MOST_OBJECTS}",
             input.name
         ));
         return Ok(Status::Refused);
     }
     let progress = Progress::start(format!("{}: running the plain program", input.name));
-    let ran = plain_rows(rows).and_then(|plain| Done::of(&plain, PLAIN_FUEL * asked.fuel, needed as usize));
+    let fuel = PLAIN_STEPS_A_STEP * asked.fuel;
+    let ran = plain_rows(rows).and_then(|plain| Done::of(&plain, fuel, needed as usize));
     drop(progress);
     let plain = match ran {
         Ok(plain) => plain,
@@ -146,7 +146,7 @@ fn beside(input: &Input, rows: &[u32], asked: &Asked, source: &Done) -> Result<S
 
 impl Done {
     fn of(rows: &[u32], fuel: u64, objects: usize) -> Result<Done, Refusal> {
-        let mut store = vec![0; objects * OBJECT];
+        let mut store = vec![0; objects * OBJECT_WIDTH];
         let run = run_rows_on_this_stack(rows, fuel, &mut store)?;
         Ok(Done { run, store })
     }
@@ -200,9 +200,7 @@ fn outcome(outcome: Outcome) -> String {
             format!("exception {}: {why}", exception.number())
         }
         Outcome::Stop(stop) => {
-            let found = explanation(stop.number());
-            let (word, sentence) = found.map_or(("", ""), |found| (found.word, found.sentence));
-            format!("stopped ({}, {word}): {sentence}", stop.number())
+            format!("stopped ({}, {}): {}", stop.number(), stop.word(), stop.sentence())
         }
     }
 }

@@ -1,23 +1,18 @@
 //! Price terms: their file, days and dates as they are typed, and the words for what the services answer.
 
 use crate::arguments::Arguments;
-use crate::input::Input;
+use crate::input::{refused, Input};
 use crate::lines::{number, No};
 use crate::Trouble;
 use fickle::{
-    date_of_day, day_of_date, explanation, price_on_date, price_on_day, report_prices, Date, Price, Refusal,
+    date_of_day, day_of_date, price_on_date, price_on_day, price_report, Date, Price, Reason, Refusal,
+    LARGEST_NUMBER, MOST_TERM_BYTES,
 };
 use std::ffi::OsStr;
 use std::fmt;
 
-/// The largest number of a term's line: a model above it has no term.
-pub const NUMBER_MOST: u32 = 65_535;
-/// The most bytes of a report: 31 lines of three numbers of five digits.
-const REPORTED_MOST: usize = 558;
-/// The most bytes of a well-formed line, its line feed included.
-const LINE_MOST: u64 = 30;
 /// What decides any verdict on terms. Signing numbers differ, so line 65,537 is refused at the latest.
-const TEXT_MOST: u64 = (NUMBER_MOST as u64 + 2) * LINE_MOST;
+const TEXT_MOST: u64 = (LARGEST_NUMBER as u64 + 2) * MOST_TERM_BYTES as u64;
 /// The most digits of a day's number, and the digits of a year, a month and a day.
 const DAY_DIGITS: usize = 5;
 const DATE_DIGITS: [usize; 3] = [4, 2, 2];
@@ -51,20 +46,17 @@ impl Terms {
 
     /// The report of a month, as the service writes it.
     pub fn report(&self, model: u32, month: Month) -> Result<Vec<u8>, Refusal> {
-        let mut report = vec![0; REPORTED_MOST];
-        let length = report_prices(self.0.text(), model, month.year, month.month, &mut report)?;
-        report.truncate(length);
-        Ok(report)
+        price_report(self.0.text(), model, month.year, month.month)
     }
 
     /// A refusal, with the line of the terms, or with the day, date or month where no line is to blame.
     pub fn refused(&self, refusal: Refusal, when: &str) -> No {
         if refusal.line == 0 {
-            return No::Refused(format!("{when}: {}", refused(refusal)));
+            return No::Refused(format!("{when}: {}", refused(refusal.reason)));
         }
         let sentence = self.0.refused(refusal);
         let place = format!("{}:{}", self.0.name, refusal.line);
-        let note = self.0.line(refusal.line).and_then(|line| suspected(line, refusal.number));
+        let note = self.0.line(refusal.line).and_then(|line| suspected(line, refusal.reason));
         No::Refused(note.map_or(sentence.clone(), |note| format!("{sentence}\n{place}: note: {note}")))
     }
 
@@ -86,16 +78,9 @@ impl Terms {
     }
 }
 
-/// A refusal in words, but for its place.
-pub fn refused(refusal: Refusal) -> String {
-    let found = explanation(refusal.number);
-    let (word, sentence) = found.map_or(("", ""), |found| (found.word, found.sentence));
-    format!("refused ({}, {word}): {sentence}", refusal.number)
-}
-
 /// Why a line of terms may be refused, where its bytes tell.
-fn suspected(line: &[u8], number: u32) -> Option<String> {
-    if number != 1 {
+fn suspected(line: &[u8], reason: Reason) -> Option<String> {
+    if reason != Reason::Line {
         return None;
     }
     let text = String::from_utf8_lossy(line);

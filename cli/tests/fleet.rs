@@ -3,9 +3,10 @@
 mod sites;
 mod typed;
 
-use fickle::{read_rows, run_rows, translate_rows};
+use fickle::{plain_rows, run_in_own_store, OBJECT_WIDTH};
+use second::notation::rows;
 use sites::{fleet, printed, said, site, EXCEPTION, LABELS, NO_LABEL};
-use typed::{call, file, folder, piped, rules};
+use typed::{call, file, folder, piped};
 
 /// A 65th call.
 const DEEP: &str = "C 1 0, M 255 0, B 0 1, Q 0 0, I 0, C 2 1, S, B 0 1, Q 0 0, W 1";
@@ -214,22 +215,19 @@ fn figures_are_rounded_and_the_order_is_exact() {
 
 /// The objects of a run as lines of a store file.
 fn store_lines(rows: &[u32]) -> String {
-    let mut store = vec![0; 180];
-    let made = run_rows(rows, 1_000, &mut store).unwrap().objects as usize;
+    let (_, objects) = run_in_own_store(rows, 1_000).unwrap();
     let line = |object: &[u32]| object.iter().map(u32::to_string).collect::<Vec<_>>().join("\t") + "\n";
-    store.chunks(18).take(made).map(line).collect()
+    objects.chunks(OBJECT_WIDTH).map(line).collect()
 }
 
 #[test]
 fn stores_of_runs_that_ended_elsewhere() {
     let site = site("stores", &[("a.rules", LABELS)]);
-    let (mut rows, mut plain) = (vec![0; 400], vec![0; 4_000]);
-    let count = read_rows(&rules(LABELS), &mut rows).unwrap();
-    let plain_count = translate_rows(&rows[..count * 4], &mut plain).unwrap();
+    let (rows, plain) = (rows(LABELS), plain_rows(&rows(LABELS)).unwrap());
     let store = format!("{site}/a.store");
     assert_eq!(call(&["run", "--store", &store, &format!("{site}/a.rules")]).status, Some(0));
-    assert_eq!(std::fs::read_to_string(&store).unwrap(), store_lines(&rows[..count * 4]));
-    file("stores/a.plain", store_lines(&plain[..plain_count * 4]).as_bytes());
+    assert_eq!(std::fs::read_to_string(&store).unwrap(), store_lines(&rows));
+    file("stores/a.plain", store_lines(&plain).as_bytes());
     file("stores/bad.store", b"1\t2\n");
     file("stores/odd.store", format!("9{}\n", "\t0".repeat(17)).as_bytes());
     let path = fleet(

@@ -2,13 +2,15 @@
 
 mod typed;
 
+use fickle::{Reason, Stop, MOST_ROWS};
+use second::notation::text as rules;
 use std::ffi::OsStr;
 use std::io::Write;
 use std::os::unix::ffi::OsStrExt;
 use std::os::unix::fs::PermissionsExt;
 use std::path::PathBuf;
 use std::process::{Command, Stdio};
-use typed::{call, file, folder, piped, rules, sigvolar, Left};
+use typed::{call, file, folder, piped, sigvolar, Left};
 
 const TRUE: &str = "S, B 0 1, T";
 /// A slot that is not in scope: 7 on line 3.
@@ -123,7 +125,7 @@ fn malformed_lines_have_a_note() {
     // As much as decides is read, and no more.
     let left = call(&["check", "/dev/zero"]);
     assert_eq!(left.status, Some(1), "{left:?}");
-    let left = piped(&["check", "-"], &b"T\n".repeat(60_001));
+    let left = piped(&["check", "-"], &b"T\n".repeat(MOST_ROWS + 1));
     assert!(left.printed.starts_with("<standard input>:60001: refused (2, limit): "), "{left:?}");
 }
 
@@ -215,15 +217,13 @@ fn a_store_file_has_an_object_a_line() {
 }
 
 /// Two labels; method 0 changes its object to class 2 and 3 in turn, 25 times each; method 1 calls it ten times.
-const CHANGES: &str = "C 1 0, M 1 0, X 1, B 0 50, {changes}, M 1 1, X 1, B 0 10, {calls}, C 2 1, C 2 1, \
+const CHANGES: &str =
+    "C 1 0, M 1 0, X 1, B 0 50, 25*(R 0 2; R 0 3), M 1 1, X 1, B 0 10, 10*(Q 0 0; I 0), C 2 1, C 2 1, \
      S, B 2 5, V 1, V 1, A 1, W 2, A 2, W 2, Q 1 0, I 1, Q 1 0, I 1, T";
 
 #[test]
 fn the_plain_program_beside_it() {
-    let thousand = CHANGES
-        .replace("{changes}", &["R 0 2, R 0 3"; 25].join(", "))
-        .replace("{calls}", &["Q 0 0, I 0"; 10].join(", "));
-    let left = piped(&["run", "--plain", "-"], &rules(&thousand));
+    let left = piped(&["run", "--plain", "-"], &rules(CHANGES));
     assert_eq!((left.said.as_str(), left.status), ("", Some(0)), "{left:?}");
     assert!(left.printed.contains("steps: 1072\nobjects: 2\nchanges of class: 1000\n"), "{left:?}");
     assert!(left.printed.contains("objects: 1004\nchanges of class: 0\n"), "{left:?}");
@@ -266,7 +266,7 @@ fn a_plain_program_that_is_not_run() {
 #[test]
 fn every_number_is_explained_as_the_page_does() {
     let page = include_str!("../../docs/REFUSALS.md");
-    for number in (1..=18).chain(23..=24) {
+    for number in Reason::ALL.map(Reason::number).into_iter().chain(Stop::ALL.map(Stop::number)) {
         let left = call(&["explain", &number.to_string()]);
         assert_eq!((left.said.as_str(), left.status), ("", Some(0)));
         let lines: Vec<&str> = left.printed.lines().collect();

@@ -1,6 +1,6 @@
 //! A case is one call with all that it is lent; a reply is all that comes back: the answer and the lent buffers.
 
-use second::rows::number;
+use fickle::{Exception, Reason, Stop, ROW_WIDTH};
 use second::services::{Counted, Date, End, Ended, Fleet, Price, Printed, Programs, Ran, Refused};
 use std::collections::BTreeMap;
 use std::fmt;
@@ -40,14 +40,16 @@ pub enum Reply {
     Printed(Printed),
 }
 
-/// What a reply comes to: a result, that there is no price, a refusal, a stop or an exception, these by their numbers.
+/// What a reply comes to: a result, that there is no price, a refusal, a stop or an exception; `Other` is a number that
+/// documents 01 and 02 do not have.
 #[derive(Clone, Copy, Debug, PartialEq, Eq, PartialOrd, Ord)]
 pub enum Answer {
     Result,
     None,
-    Refused(u32),
-    Stopped(u32),
-    Exception(u32),
+    Refused(Reason),
+    Stopped(Stop),
+    Exception(Exception),
+    Other(u32),
 }
 
 impl Case {
@@ -117,8 +119,8 @@ impl Reply {
             Reply::Date(answer) => of_result(answer),
             Reply::Price(Ok(None)) => Answer::None,
             Reply::Price(answer) => of_result(answer),
-            Reply::Ran(Ok(Ran { end: End::Exception(exception), .. }), _) => Answer::Exception(*exception),
-            Reply::Ran(Ok(Ran { end: End::Stop(stop), .. }), _) => Answer::Stopped(*stop),
+            Reply::Ran(Ok(Ran { end: End::Exception(exception), .. }), _) => of_exception(*exception),
+            Reply::Ran(Ok(Ran { end: End::Stop(stop), .. }), _) => of_stop(*stop),
             Reply::Ran(answer, _) => of_result(answer),
             Reply::Printed(printed) => of_output(&printed.output),
         }
@@ -131,7 +133,19 @@ impl Reply {
 }
 
 fn of_result<T>(answer: &Result<T, Refused>) -> Answer {
-    answer.as_ref().map_or_else(|(number, _)| Answer::Refused(*number), |_| Answer::Result)
+    answer.as_ref().map_or_else(|(number, _)| of_refusal(*number), |_| Answer::Result)
+}
+
+fn of_refusal(number: u32) -> Answer {
+    Reason::from_number(number).map_or(Answer::Other(number), Answer::Refused)
+}
+
+fn of_stop(number: u32) -> Answer {
+    Stop::from_number(number).map_or(Answer::Other(number), Answer::Stopped)
+}
+
+fn of_exception(number: u32) -> Answer {
+    Exception::from_number(number).map_or(Answer::Other(number), Answer::Exception)
 }
 
 /// What a program's first line comes to: `!` stands before the number of a refusal or stop, `E` before an exception.
@@ -139,11 +153,8 @@ fn of_output(output: &[u8]) -> Answer {
     let digits = output.iter().skip(2).take_while(|byte| byte.is_ascii_digit());
     let number = digits.fold(0, |number, digit| number * 10 + u32::from(digit - b'0'));
     match output.first() {
-        Some(b'!') => match number {
-            number::SPENT | number::DEEP | number::FULL => Answer::Stopped(number),
-            refusal => Answer::Refused(refusal),
-        },
-        Some(b'E') => Answer::Exception(number),
+        Some(b'!') => Stop::from_number(number).map_or_else(|| of_refusal(number), Answer::Stopped),
+        Some(b'E') => of_exception(number),
         _ => Answer::Result,
     }
 }
@@ -153,8 +164,10 @@ impl fmt::Display for Answer {
         match self {
             Answer::Result => write!(f, "result"),
             Answer::None => write!(f, "none"),
-            Answer::Refused(number) | Answer::Stopped(number) => write!(f, "{number}"),
-            Answer::Exception(exception) => write!(f, "exception {exception}"),
+            Answer::Refused(reason) => write!(f, "{}", reason.number()),
+            Answer::Stopped(stop) => write!(f, "{}", stop.number()),
+            Answer::Exception(exception) => write!(f, "exception {}", exception.number()),
+            Answer::Other(number) => write!(f, "unknown number {number}"),
         }
     }
 }
@@ -170,7 +183,7 @@ impl Reached {
     pub fn count(&mut self, case: &Case, reply: &Reply) {
         *self.answers.entry(reply.answer()).or_insert(0) += 1;
         let rows = case.program().filter(|_| reply.accepted());
-        for row in rows.into_iter().flat_map(|rows| rows.chunks_exact(4)) {
+        for row in rows.into_iter().flat_map(|rows| rows.chunks_exact(ROW_WIDTH)) {
             *self.letters.entry(char::from(row[0] as u8)).or_insert(0) += 1;
         }
     }

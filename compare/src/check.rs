@@ -3,7 +3,7 @@
 use crate::cases::Case;
 use second::generate::{self, extreme};
 use second::random::Random;
-use second::rows::{letter, CHECKED};
+use second::rows::{letter, CHECKED, ROW_WIDTH};
 
 /// Generated rows, checked.
 pub fn checking(random: &mut Random) -> Vec<Case> {
@@ -44,9 +44,9 @@ pub fn limits() -> Vec<Case> {
     let mut after_the_end = extreme::rows(CHECKED.rows);
     after_the_end.extend([letter::TRUE, 0, 0, 0]);
     let mut malformed = after_the_end.clone();
-    malformed[CHECKED.rows * 4 + 3] = 1;
+    malformed[CHECKED.rows * ROW_WIDTH + 3] = 1;
     let mut early = extreme::rows(CHECKED.rows + 1);
-    early.truncate(CHECKED.rows * 4);
+    early.truncate(CHECKED.rows * ROW_WIDTH);
     programs.extend([after_the_end, malformed, early, extreme::long_program(CHECKED.rows - 10), Vec::new()]);
     programs.extend([1, 2, 3, 5, 239_999, 240_001, 240_004].map(|length| vec![letter::TRUE; length]));
     programs.into_iter().map(|rows| Case::Check { rows }).collect()

@@ -5,6 +5,7 @@ mod parts;
 use crate::cases::Case;
 use crate::check::program;
 use crate::text::junk;
+use fickle::MOST_MODEL_BYTES;
 use parts::{
     chain, object, objects, objects_of, odd_pair, related_pair, rows_for_labels, superclasses,
     with_other_literal, ODD_CLASSES,
@@ -22,8 +23,6 @@ const ODD_COUNTS: [u32; 6] = [1 << 30, (1 << 30) + 5, 238_609_295, 1 << 31, 60_0
 /// Numbers around the largest sum, and parts of it.
 const LARGE: [u32; 8] =
     [1, 294_967_297, 1_000_000_000, 2_000_000_000, 3_999_999_999, 4_000_000_000, 4_000_000_001, u32::MAX];
-/// The most bytes of a report's line.
-const REPORTED_MOST: usize = 44;
 /// What a lent report holds before.
 const JUNK: u8 = 7;
 /// Fuel of the runs that are counted.
@@ -101,13 +100,14 @@ pub fn many_models() -> Vec<Case> {
 
 /// Counted lines, to be ranked into a buffer that is chosen by the length of their report.
 fn ranked(counts: Vec<u32>, lent: impl FnOnce(usize) -> Vec<u8>) -> Case {
-    let length = rank_models(&counts, &mut vec![0; counts.len() / LINE_WIDTH * REPORTED_MOST]).unwrap_or(9);
+    let length =
+        rank_models(&counts, &mut vec![0; counts.len() / LINE_WIDTH * MOST_MODEL_BYTES]).unwrap_or(9);
     Case::Rank { counts, report: lent(length) }
 }
 
 /// A fleet, to be reported into a buffer that is chosen by the length of its report.
 fn reported(fleet: Fleet, lent: impl FnOnce(usize) -> Vec<u8>) -> Case {
-    let mut room = vec![0; fleet.runs.len() / RUN_WIDTH * REPORTED_MOST];
+    let mut room = vec![0; fleet.runs.len() / RUN_WIDTH * MOST_MODEL_BYTES];
     let length = report_fleet(&fleet.runs, &fleet.programs, &fleet.stores, &mut room).unwrap_or(9);
     Case::Report { fleet, report: lent(length) }
 }

@@ -14,14 +14,15 @@ pub mod series;
 pub mod text;
 pub mod translate;
 
+use fickle::{MOST_ROWS, ROW_WIDTH};
 use second::random::Random;
 use second::rows::letter;
 
 /// 60,000 well-formed rows, letters and numbers as they come in programs: mostly one or two digits.
 pub fn long_rows() -> Vec<u32> {
     let mut random = Random::new(1);
-    let mut rows = Vec::with_capacity(240_000);
-    for _ in 0..60_000 {
+    let mut rows = Vec::with_capacity(MOST_ROWS * ROW_WIDTH);
+    for _ in 0..MOST_ROWS {
         let code = random.pick(&letter::ALL);
         let mut row = [code, 0, 0, 0];
         for place in &mut row[1..=letter::numbers(code).unwrap_or(0)] {

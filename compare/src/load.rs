@@ -1,22 +1,9 @@
 //! Programs for the benchmark: accepted ones of a wanted size for the check, the translator's longest, long runs for the
 //! runner, short programs as texts, and programs of runs in a fleet.
 
+use second::generate::extreme::Writer;
+use second::notation;
 use second::rows::letter::*;
-
-/// Rows written one after another.
-#[derive(Default)]
-struct Rows(Vec<u32>);
-
-impl Rows {
-    fn row(&mut self, letter: u32, first: u32, second: u32) -> &mut Rows {
-        self.0.extend([letter, first, second, 0]);
-        self
-    }
-
-    fn count(&self) -> usize {
-        self.0.len() / 4
-    }
-}
 
 /// What the start block of a program for the check is full of.
 #[derive(Clone, Copy, Debug)]
@@ -31,14 +18,14 @@ pub const LOADS: [Load; 4] = [Load::Nesting, Load::Slots, Load::Choices, Load::C
 
 /// An accepted program of just so many rows, at least 90.
 pub fn checked(load: Load, rows: usize) -> Vec<u32> {
-    let mut all = Rows::default();
+    let mut all = Writer::default();
     all.row(CLASS, 0, 0).row(METHOD, 0, 0);
     for _ in 0..3 {
         all.row(PARAMETER, 0, 0);
     }
     all.row(BLOCK, 0, 1).row(NULL, 0, 0).row(START, 0, 0);
     let locals = if matches!(load, Load::Slots) { (rows / 3).min(255) } else { 3 };
-    let mut items = Rows::default();
+    let mut items = Writer::default();
     let mut count = 0;
     let left = rows - all.count() - 1 - locals;
     while items.count() < left {
@@ -64,8 +51,8 @@ pub fn checked(load: Load, rows: usize) -> Vec<u32> {
     for _ in 0..locals {
         all.row(LOCAL, 0, 0);
     }
-    all.0.extend(items.0);
-    all.0
+    all.rows.extend(items.rows);
+    all.rows
 }
 
 /// The fields of the root in the program with the longest translation: as many as the translator takes.
@@ -75,7 +62,7 @@ const CHANGES: u32 = 660;
 
 /// The program with the longest translation. Each R of a slot copies all fields of its root, which takes some 88 plain rows.
 pub fn longest_translation() -> Vec<u32> {
-    let mut rows = Rows::default();
+    let mut rows = Writer::default();
     rows.row(CLASS, 1, 0);
     for name in 0..FIELDS {
         rows.row(FIELD, 1, name);
@@ -84,15 +71,18 @@ pub fn longest_translation() -> Vec<u32> {
     for _ in 0..CHANGES {
         rows.row(CHANGE, 1, 1);
     }
-    rows.0
+    rows.rows
 }
 
 /// Program D of document 01.
-pub const PROGRAM_D: &[u8] =
-    b"C\t1\t0\nF\t255\t0\nC\t2\t1\nC\t2\t1\nS\nB\t1\t4\nV\t1\nA\t1\nW\t2\nU\t0\nI\t1\nT\nR\t1\t3\nG\t0\nI\t1\n";
+pub fn program_d() -> Vec<u32> {
+    notation::rows("C 1 0, F 255 0, C 2 1, C 2 1, S, B 1 4, V 1, A 1, W 2, U 0, I 1, T, R 1 3, G 0, I 1")
+}
 
 /// The rules of examples/labels.md.
-pub const LABELS: &[u8] = include_bytes!("../../examples/labels.rules");
+pub fn shipped_rules() -> Vec<u32> {
+    fickle::rows_of_text(include_bytes!("../../examples/labels.rules")).expect("well formed")
+}
 
 /// What the innermost method of a long run does.
 #[derive(Clone, Copy, Debug)]
@@ -110,7 +100,7 @@ const DEPTH: u32 = 26;
 
 /// A run of far more nodes than any fuel. Class 1 is a root, 2 and 3 are its states.
 pub fn long_run(work: Work) -> Vec<u32> {
-    let mut rows = Rows::default();
+    let mut rows = Writer::default();
     rows.row(CLASS, 1, 0).row(FIELD, 1, 0).row(FIELD, 255, 1);
     for name in 0..DEPTH {
         rows.row(METHOD, 1, name).row(EFFECT, 1, 0).row(BLOCK, 0, 3);
@@ -125,7 +115,7 @@ pub fn long_run(work: Work) -> Vec<u32> {
                 rows.row(SET, 0, 0).row(SLOT, 0, 0).row(GET, 0, 0).row(SLOT, 0, 0);
                 rows.row(SET, 1, 0).row(SLOT, 0, 0).row(GET, 1, 0).row(SLOT, 0, 0);
             }
-            rows.0.truncate(rows.0.len() - 16);
+            rows.rows.truncate(rows.rows.len() - 16);
             rows.row(GET, 0, 0).row(SLOT, 0, 0)
         }
         Work::Changes => {
@@ -139,12 +129,12 @@ pub fn long_run(work: Work) -> Vec<u32> {
     };
     rows.row(CLASS, 2, 1).row(FIELD, 1, 2).row(CLASS, 2, 1);
     rows.row(START, 0, 0).row(BLOCK, 0, 1).row(CALL, 0, 0).row(NEW, 1, 0);
-    rows.0
+    rows.rows
 }
 
 /// The calls of a long run, each of them beside an arm of so many rows that is never taken.
 pub fn untaken(size: usize) -> Vec<u32> {
-    let mut rows = Rows::default();
+    let mut rows = Writer::default();
     rows.row(CLASS, 0, 0);
     for name in 0..DEPTH {
         rows.row(METHOD, 1, name).row(BLOCK, 0, 2).row(CALL, name + 1, 0).row(SLOT, 0, 0);
@@ -156,13 +146,13 @@ pub fn untaken(size: usize) -> Vec<u32> {
         rows.row(NULL, 0, 0);
     }
     rows.row(START, 0, 0).row(BLOCK, 0, 1).row(CALL, 0, 0).row(NEW, 1, 0);
-    rows.0
+    rows.rows
 }
 
 /// An accepted program of just so many rows, at least 7, with a field of this name. Class 1 is a root with the field, class
 /// 2 a state below it; labels are made, written on and changed.
 pub fn labels(name: u32, rows: usize) -> Vec<u32> {
-    let mut items = Rows::default();
+    let mut items = Writer::default();
     let mut count = 0;
     let left = rows - 6;
     while items.count() < left {
@@ -175,9 +165,9 @@ pub fn labels(name: u32, rows: usize) -> Vec<u32> {
         };
         count += 1;
     }
-    let mut all = Rows::default();
+    let mut all = Writer::default();
     all.row(CLASS, 1, 0).row(FIELD, 255, name).row(CLASS, 2, 1);
     all.row(START, 0, 0).row(BLOCK, 1, count).row(LOCAL, 1, 0);
-    all.0.extend(items.0);
-    all.0
+    all.rows.extend(items.rows);
+    all.rows
 }

@@ -7,6 +7,9 @@ mod prices;
 use crate::check::program;
 use crate::load::{self, Load, LOADS, WORKS};
 use crate::services_of_fickle;
+use fickle::{
+    MOST_FUEL, MOST_LINE_BYTES, MOST_OBJECTS, MOST_ROWS, MOST_TRANSLATED_ROWS, OBJECT_WIDTH, ROW_WIDTH,
+};
 use second::generate;
 use second::random::Random;
 use second::services::{Second, Services};
@@ -23,18 +26,14 @@ services_of_fickle!(OnThisStack, fickle, run_rows_on_this_stack);
 pub const PROVED: Measured = Measured { name: "proved", services: &OnThisStack };
 pub const SECOND: Measured = Measured { name: "second", services: &Second };
 
-/// Room for the longest text of 60,000 rows.
-const TEXT_ROOM: usize = 60_000 * 14;
-/// Room for the longest program: 60,000 rows of four numbers.
-const ROW_ROOM: usize = 60_000 * 4;
-/// Room for the most objects that a run makes: 65,535, of 18 numbers each.
-const STORE_ROOM: usize = 65_535 * 18;
+/// Room for the longest text, for the longest program, and for the most objects that a run makes.
+const TEXT_ROOM: usize = MOST_ROWS * MOST_LINE_BYTES;
+const ROW_ROOM: usize = MOST_ROWS * ROW_WIDTH;
+const STORE_ROOM: usize = MOST_OBJECTS * OBJECT_WIDTH;
 /// The fuel of short programs: more than they need.
 const SHORT_FUEL: u64 = 10_000;
 /// The fuel of long runs.
-const LONG_FUEL: [u64; 2] = [10_000_000, 100_000_000];
-/// The most rows that the translator takes.
-const TRANSLATED_ROWS: usize = 680;
+const LONG_FUEL: [u64; 2] = [10_000_000, MOST_FUEL];
 /// How often each implementation has its turn in a measurement.
 const TURNS: usize = 5;
 /// Rounds of a measurement: of reader and writer, of the translator, of short programs.
@@ -157,7 +156,7 @@ fn text(all: &[Measured]) -> Means {
     let text = &text[..length];
     let mut row_buffer = vec![0; rows.len()];
     let mut text_buffer = vec![0; length];
-    println!("{} lines, {length} bytes", rows.len() / 4);
+    println!("{} lines, {length} bytes", rows.len() / ROW_WIDTH);
     let mut table = Table::new(&["service"], "MB/s", all);
     let rate = |time: f64| format!("{:.0}", length as f64 / MILLION / time);
     let read = times(all, TEXT_ROUNDS, 1, |one| assert!(one.read_rows(text, &mut row_buffer).is_ok()));
@@ -178,7 +177,7 @@ fn checked_programs() -> Vec<(String, Vec<u32>)> {
 fn check(all: &[Measured]) -> Means {
     let mut table = Table::new(&["check_rows", "rows"], "µs", all);
     for (name, rows) in checked_programs() {
-        let count = rows.len() / 4;
+        let count = rows.len() / ROW_WIDTH;
         let best = times(all, CHECKED_IN_ALL / count, 1, |one| assert!(one.check_rows(&rows).is_ok()));
         table.line(&[&name, &count.to_string()], &best, in_microseconds);
     }
@@ -187,7 +186,7 @@ fn check(all: &[Measured]) -> Means {
 
 /// Programs of the most rows that the translator takes, each with its name. The last has the longest translation.
 fn translated_programs() -> Vec<(String, Vec<u32>)> {
-    let of_load = |load: Load| (format!("{load:?}"), load::checked(load, TRANSLATED_ROWS));
+    let of_load = |load: Load| (format!("{load:?}"), load::checked(load, MOST_TRANSLATED_ROWS));
     let changes = ("660 R, 16 fields".to_string(), load::longest_translation());
     [Load::Choices, Load::Calls].map(of_load).into_iter().chain([changes]).collect()
 }
@@ -201,7 +200,7 @@ fn translate(all: &[Measured]) -> Means {
         let best = times(all, TRANSLATED_ROUNDS, 1, |one| {
             assert_eq!(one.translate_rows(&rows, &mut plain), Ok(count));
         });
-        let counts = [rows.len() / 4, count].map(|count| count.to_string());
+        let counts = [rows.len() / ROW_WIDTH, count].map(|count| count.to_string());
         table.line(&[&name, &counts[0], &counts[1]], &best, in_microseconds);
     }
     table.means()
@@ -237,8 +236,7 @@ fn run(all: &[Measured]) -> Means {
 
 /// Programs of a few rows, each with its name.
 fn few_rows() -> [(&'static str, Vec<u32>); 2] {
-    let rows = |text| generate::rows_of_text(text).expect("well formed");
-    [("program D", rows(load::PROGRAM_D)), ("labels.rules", rows(load::LABELS))]
+    [("program D", load::program_d()), ("labels.rules", load::shipped_rules())]
 }
 
 /// The three services on programs of a few rows, and the runs of their translations.
@@ -248,7 +246,7 @@ fn short_programs(all: &[Measured]) -> Means {
     let mut store = vec![0; STORE_ROOM];
     for (name, rows) in few_rows() {
         let length = all[0].services.translate_rows(&rows, &mut plain).expect("within the limits");
-        let translated = plain[..length * 4].to_vec();
+        let translated = plain[..length * ROW_WIDTH].to_vec();
         let check = |one: &dyn Services| assert!(one.check_rows(&rows).is_ok());
         short(&mut table, [name, "check_rows"], &rows, check);
         let translate = |one: &dyn Services| assert!(one.translate_rows(&rows, &mut plain).is_ok());
@@ -264,14 +262,14 @@ fn short_programs(all: &[Measured]) -> Means {
 /// A service on a program of a few rows.
 fn short(table: &mut Table, [name, service]: [&str; 2], rows: &[u32], task: impl FnMut(&dyn Services)) {
     let best = times(table.all, SHORT_ROUNDS, SHORT_CALLS, task);
-    table.line(&[name, service, &(rows.len() / 4).to_string()], &best, in_microseconds);
+    table.line(&[name, service, &(rows.len() / ROW_WIDTH).to_string()], &best, in_microseconds);
 }
 
 /// How many generated programs and texts two implementations have to agree on.
 const AGREED: u64 = 5_000;
 /// Numbers in the buffers lent for generated programs: enough for most, too few for some.
-const PLAIN_LENT: usize = 4 * 2_000;
-const STORE_LENT: usize = 18 * 100 + 5;
+const PLAIN_LENT: usize = 2_000 * ROW_WIDTH;
+const STORE_LENT: usize = 100 * OBJECT_WIDTH + 5;
 /// What the buffers hold before, so that it shows where nothing was written.
 const JUNK: u32 = 0xABCD;
 

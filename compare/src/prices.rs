@@ -4,14 +4,14 @@ mod texts;
 
 use crate::cases::Case;
 use crate::text::junk;
+use fickle::{LARGEST_NUMBER, MOST_PRICE_REPORT_BYTES};
 use second::prices::{date_of_day, day_of_date, report_prices};
 use second::random::Random;
 use second::services::Date;
 use texts::{terms, Region};
 
-/// The last day, and the most bytes of a report.
-const LAST_DAY: u32 = 65_535;
-const REPORTED_MOST: usize = 558;
+/// The last day.
+const LAST_DAY: u32 = LARGEST_NUMBER;
 /// Numbers beyond every date, day and model; some are small ones once their upper bits are lost.
 const LARGE: [u32; 8] = [65_536, 65_543, 65_595, 146_097, 1 << 31, (1 << 31) + 7, u32::MAX - 1, u32::MAX];
 /// Days at the edges of years, of leap days and of the range.
@@ -58,7 +58,7 @@ pub fn days() -> Vec<Case> {
 /// The report of every month of the range and of those around it, by terms of its own length and by a term of all days.
 pub fn months() -> Vec<Case> {
     let all = (1999..=2180).flat_map(|year| (0..=13).map(move |month| (year, month)));
-    let report = || vec![7; REPORTED_MOST];
+    let report = || vec![7; MOST_PRICE_REPORT_BYTES];
     let mut cases = Vec::new();
     for (at, month) in all.enumerate() {
         let first = day_of_date(month.0, month.1, 1).unwrap_or(at as u32);
@@ -113,7 +113,7 @@ pub fn reporting(random: &mut Random) -> Vec<Case> {
     };
     let region = Region::new(day_of_date(month.0, month.1, 1).unwrap_or(LAST_DAY - 20));
     let (terms, model) = (terms(&region, random), model(random));
-    let mut room = [0; REPORTED_MOST];
+    let mut room = [0; MOST_PRICE_REPORT_BYTES];
     let length = report_prices(&terms, model, month.0, month.1, &mut room).unwrap_or(9);
     vec![Case::PriceReport { terms, model, month, report: junk(random, length, |bits| bits as u8) }]
 }

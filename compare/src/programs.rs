@@ -2,6 +2,7 @@
 
 use crate::cases::Case;
 use second::generate;
+use second::notation::text;
 use second::random::Random;
 
 /// A generated text for the translating program.
@@ -70,10 +71,9 @@ const NO_ROOM: &str = "!\t13\t0\n";
 /// Both sides of 8,192 bytes of input, 680 rows, 1,000 plain rows and 8,192 bytes of plain text.
 fn sizes() -> Vec<Pinned> {
     let wide = b"B\t65535\t65535\n";
-    let literals = |count: usize| lines(&["S", &format!("B 0 {count}")], &[("T", count)]);
-    let objects = |count: usize, more: usize| {
-        lines(&["S", &format!("B 0 {}", count + more)], &[("W 0", count), ("T", more)])
-    };
+    let literals = |count: usize| text(&format!("S, B 0 {count}, {count}*T"));
+    let objects =
+        |count: usize, more: usize| text(&format!("S, B 0 {}, {count}*W 0, {more}*T", count + more));
     let (ran_71, ran_wide) = ("O\t71\t72\t71\t0\nO\t141\t853\t142\t0\n", "O\t3\t7\t3\t0\nO\t5\t58\t6\t0\n");
     let mut no_text_room = accepted("8,193 bytes of plain text", wide_plain(1), 0, 0, ran_wide);
     no_text_room.translated = Translated::Refused(NO_ROOM);
@@ -92,31 +92,28 @@ fn sizes() -> Vec<Pinned> {
 /// A program of long lines. Its plain text has 8,194 bytes, and one less for each of the given count of short names.
 fn wide_plain(short_names: usize) -> Vec<u8> {
     let class = |superclass: u32, names: &[usize]| {
-        let fields: String = names.iter().map(|name| format!("\nF 255 {name}")).collect();
-        format!("C 1 {superclass}{fields}")
+        let fields: String = names.iter().map(|name| format!("; F 255 {name}")).collect();
+        format!("(C 1 {superclass}{fields})")
     };
     let names: Vec<usize> = (100..116).collect();
     let last = [&names[..14 - short_names], &[10, 11][..short_names]].concat();
     let (first, other, last) = (class(0, &names), class(8, &names), class(8, &last));
-    let classes = lines(&[], &[(&first, 7), ("C 0 0", 1), (&other, 31), (&last, 1)]);
-    let start = lines(&["S", "B 9 6"], &[("V 255", 8), ("V 10", 1), ("R 9 10", 3), ("W 10", 3)]);
-    [classes, start].concat()
+    let start = "S, B 9 6, 8*V 255, V 10, 3*R 9 10, 3*W 10";
+    text(&format!("7*{first}, C 0 0, 31*{other}, 1*{last}, {start}"))
 }
 
 /// Both sides of the 10,000 steps and the 166 objects that a run is lent, for the source and for the plain program.
 fn runs() -> Vec<Pinned> {
     let calls = |literals: usize| {
-        let head = ["C 0 0", "M 255 0", "B 0 50"];
-        let middle = lines(&["M 255 1", "B 0 10"], &[("Q 0 0\nI 0", 10)]);
-        let start = ["S", &format!("B 1 {}", 19 + literals), "V 1", "A 1", "W 1"];
-        let start = lines(&start, &[("Q 1 0\nI 1", 18), ("T", literals)]);
-        [lines(&head, &[("T", 50)]), middle, start].concat()
+        let methods = "C 0 0, M 255 0, B 0 50, 50*T, M 255 1, B 0 10, 10*(Q 0 0; I 0)";
+        let block = format!("B 1 {}, V 1, A 1, W 1, 18*(Q 1 0; I 1), {literals}*T", 19 + literals);
+        text(&format!("{methods}, S, {block}"))
     };
     let objects = |pairs: usize, single: usize| {
-        let head = ["C 0 0", "M 255 0", "B 0 3", "W 0", "W 0", "T", "S"];
-        let block = format!("B 1 {}", pairs + single + 2);
-        let start = [&head[..], &[&block, "V 1", "A 1", "W 1"]].concat();
-        lines(&start, &[("Q 0 0\nI 1", pairs), ("W 0", single), ("T", 1)])
+        let method = "C 0 0, M 255 0, B 0 3, W 0, W 0, T";
+        let block =
+            format!("B 1 {}, V 1, A 1, W 1, {pairs}*(Q 0 0; I 1), {single}*W 0, T", pairs + single + 2);
+        text(&format!("{method}, S, {block}"))
     };
     vec![
         accepted("10,000 steps", calls(403), 2_174, 714, "T\t10000\t1\t0\n!\t14\t10000\t2\t0\n"),
@@ -138,63 +135,53 @@ fn unusual_bytes() -> Vec<Pinned> {
         refused("no last line feed", b"S\nB\t0\t1\nT".to_vec(), "!\t1\t3\n"),
         refused("an empty line", b"\n".to_vec(), "!\t1\t1\n"),
         refused("an empty input", Vec::new(), "!\t3\t1\n"),
-        accepted("a literal", b"S\nB\t0\t1\nT\n".to_vec(), 38, 7, "T\t2\t0\t0\nT\t2\t0\t0\n"),
+        accepted("a literal", text("S, B 0 1, T"), 38, 7, "T\t2\t0\t0\nT\t2\t0\t0\n"),
     ]
 }
 
 /// A text for each refusal from 2 to 12; 1, 3 and 13 stand above.
 fn refusals() -> Vec<Pinned> {
-    let start = ["S", "B 0 1", "T"];
-    let before_start = |records: &[&str]| lines(&[records, &start].concat(), &[]);
+    let before_start = |records: &str| text(&format!("{records}, S, B 0 1, T"));
     vec![
-        refused("a name over 255", before_start(&["C 0 0", "F 255 256"]), "!\t2\t2\n"),
+        refused("a name over 255", before_start("C 0 0, F 255 256"), "!\t2\t2\n"),
         refused("field 17 for the translator", many_fields(17), "!\t2\t18\n"),
-        refused("an undeclared class", lines(&["S", "B 0 1", "W 1"], &[]), "!\t4\t3\n"),
-        refused("a state class below Object", before_start(&["C 2 0"]), "!\t5\t1\n"),
+        refused("an undeclared class", text("S, B 0 1, W 1"), "!\t4\t3\n"),
+        refused("a state class below Object", before_start("C 2 0"), "!\t5\t1\n"),
         refused(
             "an override with another type",
-            before_start(&["C 0 0", "M 255 0", "B 0 1", "T", "C 0 1", "M 1 0", "B 0 1", "N"]),
+            before_start("C 0 0, M 255 0, B 0 1, T, C 0 1, M 1 0, B 0 1, N"),
             "!\t6\t6\n",
         ),
-        refused("a slot out of scope", lines(&["S", "B 0 1", "I 1"], &[]), "!\t7\t3\n"),
-        refused("no such field", lines(&["C 0 0", "S", "B 0 1", "G 0", "W 1"], &[]), "!\t8\t4\n"),
-        refused("null test of a bool", lines(&["S", "B 0 1", "Z", "T"], &[]), "!\t9\t3\n"),
+        refused("a slot out of scope", text("S, B 0 1, I 1"), "!\t7\t3\n"),
+        refused("no such field", text("C 0 0, S, B 0 1, G 0, W 1"), "!\t8\t4\n"),
+        refused("null test of a bool", text("S, B 0 1, Z, T"), "!\t9\t3\n"),
         refused(
             "an effect that X lines do not name",
-            before_start(&["C 1 0", "M 1 0", "B 0 1", "R 0 1"]),
+            before_start("C 1 0, M 1 0, B 0 1, R 0 1"),
             "!\t10\t2\n",
         ),
-        refused("a change to Object", lines(&["S", "B 1 1", "V 0", "R 1 0"], &[]), "!\t11\t4\n"),
-        refused("a reserved name", before_start(&["C 0 0", "F 255 254"]), "!\t12\t2\n"),
+        refused("a change to Object", text("S, B 1 1, V 0, R 1 0"), "!\t11\t4\n"),
+        refused("a reserved name", before_start("C 0 0, F 255 254"), "!\t12\t2\n"),
     ]
 }
 
 /// A class of so many fields and a literal.
 fn many_fields(count: usize) -> Vec<u8> {
-    let fields: String = (0..count).map(|name| format!("\nF 255 {name}")).collect();
-    lines(&[&format!("C 0 0{fields}"), "S", "B 0 1", "T"], &[])
+    let fields: String = (0..count).map(|name| format!("F 255 {name}, ")).collect();
+    text(&format!("C 0 0, {fields}S, B 0 1, T"))
 }
 
 /// A text for each end of a run that does not stand above: too deep a call, both exceptions, false and null.
 fn ends() -> Vec<Pinned> {
-    let endless = ["C 0 0", "M 0 0", "B 0 1", "Q 0 0", "I 0", "S", "B 0 1", "Q 0 0", "W 1"];
-    let no_object = ["C 0 0", "F 255 0", "S", "B 1 1", "V 1", "G 0", "I 1"];
-    let wrong_class = ["C 0 0", "S", "B 0 1", "K 1", "W 0"];
-    let ran = |what, records: &[&str], bytes, plain_lines, ran| {
-        accepted(what, lines(records, &[]), bytes, plain_lines, ran)
-    };
+    let endless = "C 0 0, M 0 0, B 0 1, Q 0 0, I 0, S, B 0 1, Q 0 0, W 1";
+    let no_object = "C 0 0, F 255 0, S, B 1 1, V 1, G 0, I 1";
+    let wrong_class = "C 0 0, S, B 0 1, K 1, W 0";
+    let ran = |what, program: &str, bytes, lines, ran| accepted(what, text(program), bytes, lines, ran);
     vec![
-        ran("a 65th call", &endless, 194, 39, "!\t15\t195\t1\t0\n!\t15\t595\t2\t0\n"),
-        ran("exception 1", &no_object, 72, 13, "E\t1\t3\t0\t0\nE\t1\t5\t0\t0\n"),
-        ran("exception 2", &wrong_class, 144, 31, "E\t2\t3\t1\t0\nE\t2\t21\t2\t0\n"),
-        ran("false", &["S", "B 0 1", "L"], 38, 7, "L\t2\t0\t0\nL\t2\t0\t0\n"),
-        ran("null", &["S", "B 0 1", "N"], 38, 7, "N\t2\t0\t0\nN\t2\t0\t0\n"),
+        ran("a 65th call", endless, 194, 39, "!\t15\t195\t1\t0\n!\t15\t595\t2\t0\n"),
+        ran("exception 1", no_object, 72, 13, "E\t1\t3\t0\t0\nE\t1\t5\t0\t0\n"),
+        ran("exception 2", wrong_class, 144, 31, "E\t2\t3\t1\t0\nE\t2\t21\t2\t0\n"),
+        ran("false", "S, B 0 1, L", 38, 7, "L\t2\t0\t0\nL\t2\t0\t0\n"),
+        ran("null", "S, B 0 1, N", 38, 7, "N\t2\t0\t0\nN\t2\t0\t0\n"),
     ]
-}
-
-/// Records as lines with tabs, then repeated ones.
-fn lines(records: &[&str], repeated: &[(&str, usize)]) -> Vec<u8> {
-    let repeated = repeated.iter().flat_map(|(record, times)| std::iter::repeat_n(*record, *times));
-    let all = records.iter().copied().chain(repeated).map(|record| record.replace(' ', "\t") + "\n");
-    all.collect::<String>().into_bytes()
 }

@@ -12,15 +12,15 @@ macro_rules! services_of_fickle {
 
         impl second::services::Services for $name {
             fn read_rows(&self, text: &[u8], rows: &mut [u32]) -> Result<usize, second::services::Refused> {
-                $from::read_rows(text, rows).map_err(|no| (no.number, no.line))
+                $from::read_rows(text, rows).map_err(Into::into)
             }
 
             fn write_text(&self, rows: &[u32], text: &mut [u8]) -> Result<usize, second::services::Refused> {
-                $from::write_text(rows, text).map_err(|no| (no.number, no.line))
+                $from::write_text(rows, text).map_err(Into::into)
             }
 
             fn check_rows(&self, rows: &[u32]) -> Result<(), second::services::Refused> {
-                $from::check_rows(rows).map_err(|no| (no.number, no.line))
+                $from::check_rows(rows).map_err(Into::into)
             }
 
             fn translate_rows(
@@ -28,7 +28,7 @@ macro_rules! services_of_fickle {
                 rows: &[u32],
                 plain: &mut [u32],
             ) -> Result<usize, second::services::Refused> {
-                $from::translate_rows(rows, plain).map_err(|no| (no.number, no.line))
+                $from::translate_rows(rows, plain).map_err(Into::into)
             }
 
             fn run_rows(
@@ -39,7 +39,7 @@ macro_rules! services_of_fickle {
             ) -> Result<second::services::Ran, second::services::Refused> {
                 use second::services::{End, Ran, Value};
                 use $from::{Outcome, Value as Given};
-                let run = $from::$run_rows(rows, fuel, store).map_err(|no| (no.number, no.line))?;
+                let run = $from::$run_rows(rows, fuel, store)?;
                 let end = match run.outcome {
                     Outcome::Value(Given::Null) => End::Value(Value::Null),
                     Outcome::Value(Given::Truth(truth)) => End::Value(Value::Truth(truth)),

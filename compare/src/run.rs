@@ -3,8 +3,9 @@
 use crate::cases::Case;
 use crate::check::program;
 use second::generate::{self, extreme};
+use second::notation;
 use second::random::Random;
-use second::rows::{letter, CALLS_MOST, FUEL_MOST, OBJECTS_MOST, OBJECT_WIDTH};
+use second::rows::{CALLS_MOST, FUEL_MOST, OBJECTS_MOST, OBJECT_WIDTH};
 
 /// Generated rows, run over a store full of junk.
 pub fn running(random: &mut Random) -> Vec<Case> {
@@ -46,7 +47,9 @@ pub fn limits() -> Vec<Case> {
             (extreme::turning_chain(length, locals, nulls), 10_000, (length + 10) * OBJECT_WIDTH)
         })
     });
-    let stores = [0, 17, 18, (OBJECTS_MOST - 1) * 18, OBJECTS_MOST * 18, (OBJECTS_MOST + 1) * 18]
+    let stores = [0, OBJECT_WIDTH - 1]
+        .into_iter()
+        .chain([1, OBJECTS_MOST - 1, OBJECTS_MOST, OBJECTS_MOST + 1].map(|objects| objects * OBJECT_WIDTH))
         .map(|length| (many_objects(), 1_000_000, length));
     let fuels = [FUEL_MOST, FUEL_MOST + 1, u64::MAX, 1 << 32].map(|fuel| (extreme::names(7), fuel, 180));
     let cases = deep.into_iter().chain(chains).chain(slots).chain(stores).chain(fuels);
@@ -55,17 +58,8 @@ pub fn limits() -> Vec<Case> {
 
 /// 65,536 objects wanted.
 fn many_objects() -> Vec<u32> {
-    let mut rows = extreme::Writer::default();
-    rows.row(letter::CLASS, 0, 0).row(letter::METHOD, 0, 0).row(letter::BLOCK, 0, 16);
-    for _ in 0..16 {
-        rows.row(letter::NEW, 0, 0);
-    }
-    for name in 1..4 {
-        rows.row(letter::METHOD, 0, name).row(letter::BLOCK, 0, 16);
-        for _ in 0..16 {
-            rows.row(letter::CALL, name - 1, 0).row(letter::SLOT, 0, 0);
-        }
-    }
-    rows.row(letter::START, 0, 0).row(letter::BLOCK, 0, 1).row(letter::CALL, 3, 0).row(letter::NEW, 1, 0);
-    rows.rows
+    notation::rows(
+        "C 0 0, M 0 0, B 0 16, 16*W 0, M 0 1, B 0 16, 16*(Q 0 0; I 0), M 0 2, B 0 16, 16*(Q 1 0; I 0), \
+         M 0 3, B 0 16, 16*(Q 2 0; I 0), S, B 0 1, Q 3 0, W 1",
+    )
 }

@@ -2,9 +2,8 @@
 
 use crate::cases::{Answer, Case};
 use crate::{check, fleet, prices, programs, run, text, translate};
-use second::machine::{NULL_OBJECT, WRONG_CLASS};
+use fickle::{Exception, Reason, Stop, MOST_ROWS, ROW_WIDTH};
 use second::random::Random;
-use second::rows::number;
 use second::vectors::{self, prices::Asked as Priced, Asked};
 
 /// Cases of one service or program.
@@ -25,44 +24,42 @@ pub const SEEDS: u64 = 100_000;
 
 /// All series, in two halves of about the same length.
 pub fn halves() -> [Vec<Series>; 2] {
-    let filling = [Answer::Result, Answer::Refused(1), Answer::Refused(2), Answer::Refused(13)];
-    let refusals = |last: u32| (1..=last).map(Answer::Refused);
-    let result = || std::iter::once(Answer::Result);
-    let stops = [number::SPENT, number::DEEP, number::FULL].map(Answer::Stopped);
-    let cut = [number::SPENT, number::DEEP].map(Answer::Stopped);
-    let exceptions = [NULL_OBJECT, WRONG_CLASS].map(Answer::Exception);
+    use Reason::*;
+    let result_or = |all: &[Reason]| {
+        let refusals = all.iter().copied().map(Answer::Refused);
+        std::iter::once(Answer::Result).chain(refusals).collect::<Vec<_>>()
+    };
+    let or_none = |all: &[Reason]| [result_or(all), vec![Answer::None]].concat();
+    let filling = || result_or(&[Line, Limit, Room]);
+    let verdict =
+        || result_or(&[Line, Limit, Place, Name, Kind, Override, Slot, Member, Type, Effect, Change]);
+    let stops = Stop::ALL.map(Answer::Stopped);
+    let cut = [Stop::Spent, Stop::Deep].map(Answer::Stopped);
+    let exceptions = Exception::ALL.map(Answer::Exception);
     // What the programs' generated texts surely bring about; the pinned ones bring about the rest.
-    let often = || result().chain([1, 2, 3, 4, 12, 13].map(Answer::Refused));
-    let numbers = |all: &[u32]| result().chain(all.iter().copied().map(Answer::Refused)).collect::<Vec<_>>();
-    let or_none = |all: &[u32]| numbers(all).into_iter().chain([Answer::None]).collect::<Vec<_>>();
+    let often = || result_or(&[Line, Limit, Place, Name, Reserved, Room]);
     let series = |name, sparse, fixed, generated, wanted| Series { name, sparse, fixed, generated, wanted };
     let none = Vec::new;
     [
         vec![
-            series("read_rows", 1, none, text::reading, filling.to_vec()),
-            series("write_text", 1, none, text::writing, filling.to_vec()),
-            series("check_rows", 1, check::limits, check::checking, result().chain(refusals(11)).collect()),
-            series("count_run", 1, none, fleet::counting, numbers(&[18])),
-            series("count_plain_run", 1, none, fleet::counting_plain, numbers(&[18])),
-            series("report_fleet", 1, none, fleet::reporting, numbers(&[1, 13, 17, 18])),
-            series("day_of_date", 1, prices::dates, prices::dating, numbers(&[24])),
-            series("date_of_day", 1, prices::days, prices::numbering, numbers(&[24])),
-            series("price_on_day", 1, none, prices::pricing, or_none(&[1, 23, 24])),
-            series("price_on_date", 1, none, prices::pricing_by_date, or_none(&[1, 23, 24])),
+            series("read_rows", 1, none, text::reading, filling()),
+            series("write_text", 1, none, text::writing, filling()),
+            series("check_rows", 1, check::limits, check::checking, verdict()),
+            series("count_run", 1, none, fleet::counting, result_or(&[Class])),
+            series("count_plain_run", 1, none, fleet::counting_plain, result_or(&[Class])),
+            series("report_fleet", 1, none, fleet::reporting, result_or(&[Line, Room, Sum, Class])),
+            series("day_of_date", 1, prices::dates, prices::dating, result_or(&[Date])),
+            series("date_of_day", 1, prices::days, prices::numbering, result_or(&[Date])),
+            series("price_on_day", 1, none, prices::pricing, or_none(&[Line, Term, Date])),
+            series("price_on_date", 1, none, prices::pricing_by_date, or_none(&[Line, Term, Date])),
             series("vectors", u64::MAX, of_vectors, |_| Vec::new(), Vec::new()),
-            series(
-                "program translate",
-                50,
-                programs::pinned_translating,
-                programs::translating,
-                often().collect(),
-            ),
+            series("program translate", 50, programs::pinned_translating, programs::translating, often()),
             series(
                 "program run",
                 50,
                 programs::pinned_running,
                 programs::running,
-                often().chain(cut).chain(exceptions).collect(),
+                [&often()[..], &cut, &exceptions].concat(),
             ),
         ],
         vec![
@@ -71,18 +68,18 @@ pub fn halves() -> [Vec<Series>; 2] {
                 1,
                 translate::limits,
                 translate::translating,
-                result().chain(refusals(13)).collect(),
+                [verdict(), [Reserved, Room].map(Answer::Refused).to_vec()].concat(),
             ),
-            series(
-                "run_rows",
-                1,
-                run::limits,
-                run::running,
-                result().chain(refusals(11)).chain(stops).chain(exceptions).collect(),
-            ),
+            series("run_rows", 1, run::limits, run::running, [&verdict()[..], &stops, &exceptions].concat()),
             series("run_rows, every fuel", 100, none, run::every_fuel, Vec::new()),
-            series("rank_models", 1, fleet::many_models, fleet::ranking, numbers(&[1, 13, 17])),
-            series("report_prices", 1, prices::months, prices::reporting, numbers(&[1, 13, 23, 24])),
+            series("rank_models", 1, fleet::many_models, fleet::ranking, result_or(&[Line, Room, Sum])),
+            series(
+                "report_prices",
+                1,
+                prices::months,
+                prices::reporting,
+                result_or(&[Line, Room, Term, Date]),
+            ),
         ],
     ]
 }
@@ -94,12 +91,14 @@ fn of_vectors() -> Vec<Case> {
         .iter()
         .filter_map(|vector| match vector.service() {
             "check" => Some(Case::Check { rows: vector.rows() }),
-            "translate" => Some(Case::Translate { rows: vector.rows(), plain: vec![9; 240_000] }),
+            "translate" => {
+                Some(Case::Translate { rows: vector.rows(), plain: vec![9; MOST_ROWS * ROW_WIDTH] })
+            }
             "run" => {
                 let store = vec![9; vector.store()];
                 Some(Case::Run { rows: vector.rows(), fuel: vector.fuel(), store })
             }
-            "read" => Some(Case::Read { text: vector.text(), rows: vec![9; 240_000] }),
+            "read" => Some(Case::Read { text: vector.text(), rows: vec![9; MOST_ROWS * ROW_WIDTH] }),
             "running" => Some(Case::RunningProgram { text: vector.text() }),
             "translating" => Some(Case::TranslatingProgram { text: vector.text() }),
             _ => {

@@ -1,53 +1,46 @@
 //! Runs the examples of docs/REFUSALS.md, on the proved services and on the second implementation.
 
+use fickle::{explanations, Explanation, Reason, Stop, OBJECT_WIDTH, ROW_WIDTH};
 use second::machine::Outcome;
+use second::notation::{rows, text};
 
 type Answer = Result<(), (u32, u64)>;
-
-/// An example of the page: the refusal's number from its heading, the program, counted lines or price terms, and the call
-/// with its answer.
-struct Example {
-    number: u32,
-    program: Vec<u8>,
-    call: &'static str,
-}
-
-fn examples() -> Vec<Example> {
-    fickle::explanations()
-        .map(|found| Example {
-            number: found.number,
-            program: found.example.replace(' ', "\t").into_bytes(),
-            call: found.call,
-        })
-        .collect()
-}
 
 /// The numbers in a call, in order.
 fn numbers(call: &str) -> Vec<u32> {
     call.split(|letter: char| !letter.is_ascii_digit()).filter_map(|digits| digits.parse().ok()).collect()
 }
 
-fn rows(program: &[u8]) -> Vec<u32> {
-    second::generate::rows_of_text(program).expect("well-formed lines")
-}
-
 #[test]
 fn every_number_has_an_example_and_it_holds() {
-    let examples = examples();
-    let headings: Vec<u32> = examples.iter().map(|example| example.number).collect();
-    assert_eq!(headings, (1..=18).chain(23..=24).collect::<Vec<u32>>());
-    for example in examples {
+    let headings: Vec<u32> = explanations().map(|found| found.number).collect();
+    let reasons = Reason::ALL.map(Reason::number).into_iter();
+    let mut all: Vec<u32> = reasons.chain(Stop::ALL.map(Stop::number)).collect();
+    all.sort();
+    assert_eq!(headings, all);
+    for example in explanations() {
         let given = numbers(example.call);
         match example.call.split(' ').next().unwrap() {
             "read:" => {
-                let proved = fickle::read_rows(&example.program, &mut [0; 64]).map(|_| ());
-                let second = second::text::read_rows(&example.program, &mut [0; 64]).map(|_| ());
-                refused(&example, [given[0], given[1]], proved.map_err(pair), second.map_err(second_pair));
+                let text = text(example.example);
+                let proved = fickle::read_rows(&text, &mut [0; 64]).map(|_| ());
+                let second = second::text::read_rows(&text, &mut [0; 64]).map(|_| ());
+                refused(
+                    &example,
+                    [given[0], given[1]],
+                    proved.map_err(Into::into),
+                    second.map_err(Into::into),
+                );
             }
             "check:" => {
-                let rows = rows(&example.program);
-                let second = second::check::check_rows(&rows).map_err(second_pair);
-                refused(&example, [given[0], given[1]], fickle::check_rows(&rows).map_err(pair), second);
+                let rows = rows(example.example);
+                let second = second::check::check_rows(&rows).map_err(Into::into);
+                refused(
+                    &example,
+                    [given[0], given[1]],
+                    fickle::check_rows(&rows).map_err(Into::into),
+                    second,
+                );
             }
             "translate:" => translated(&example, 1_000, [given[0], given[1]]),
             "translate" => translated(&example, given[0] as usize, [given[1], given[2]]),
@@ -60,32 +53,25 @@ fn every_number_has_an_example_and_it_holds() {
     }
 }
 
-fn pair(no: fickle::Refusal) -> (u32, u64) {
-    (no.number, no.line)
-}
-
-fn second_pair(no: second::rows::Refusal) -> (u32, u64) {
-    (no.number, no.line)
-}
-
-fn refused(example: &Example, [number, line]: [u32; 2], proved: Answer, second: Answer) {
+fn refused(example: &Explanation, [number, line]: [u32; 2], proved: Answer, second: Answer) {
     let line = u64::from(line);
     assert_eq!(number, example.number, "{}", example.call);
     assert_eq!(proved, Err((number, line)), "{}", example.call);
     assert_eq!(second, Err((number, line)), "{}", example.call);
 }
 
-fn translated(example: &Example, room: usize, expected: [u32; 2]) {
-    let rows = rows(&example.program);
-    let proved = fickle::translate_rows(&rows, &mut vec![0; room * 4]).map(|_| ()).map_err(pair);
-    let second = second::plain::translate_rows(&rows, &mut vec![0; room * 4]).map(|_| ());
-    refused(example, expected, proved, second.map_err(second_pair));
+fn translated(example: &Explanation, room: usize, expected: [u32; 2]) {
+    let rows = rows(example.example);
+    let proved =
+        fickle::translate_rows(&rows, &mut vec![0; room * ROW_WIDTH]).map(|_| ()).map_err(Into::into);
+    let second = second::plain::translate_rows(&rows, &mut vec![0; room * ROW_WIDTH]).map(|_| ());
+    refused(example, expected, proved, second.map_err(Into::into));
 }
 
-fn stopped(example: &Example, given: &[u32]) {
+fn stopped(example: &Explanation, given: &[u32]) {
     let [fuel, objects, stop] = given[..] else { panic!("{}", example.call) };
-    let rows = rows(&example.program);
-    let room = objects as usize * 18;
+    let rows = rows(example.example);
+    let room = objects as usize * OBJECT_WIDTH;
     let proved = fickle::run_rows(&rows, u64::from(fuel), &mut vec![0; room]).expect("accepted");
     let second = second::machine::run_rows(&rows, u64::from(fuel), &mut vec![0; room]).expect("accepted");
     assert_eq!(stop, example.number);
@@ -94,31 +80,31 @@ fn stopped(example: &Example, given: &[u32]) {
     assert_eq!(second.outcome, Outcome::Stop(stop));
 }
 
-fn ranked(example: &Example, expected: [u32; 2]) {
-    let counts = numbers(&String::from_utf8_lossy(&example.program));
-    let proved = fickle::rank_models(&counts, &mut [0; 99]).map(|_| ()).map_err(pair);
-    let second = second::fleet::rank_models(&counts, &mut [0; 99]).map(|_| ()).map_err(second_pair);
+fn ranked(example: &Explanation, expected: [u32; 2]) {
+    let counts = numbers(example.example);
+    let proved = fickle::rank_models(&counts, &mut [0; 99]).map(|_| ()).map_err(Into::into);
+    let second = second::fleet::rank_models(&counts, &mut [0; 99]).map(|_| ()).map_err(Into::into);
     refused(example, expected, proved, second);
 }
 
 /// The labels of a run, counted on its own and as a fleet of one run.
-fn counted(example: &Example, given: &[u32]) {
+fn counted(example: &Explanation, given: &[u32]) {
     let [printed, spoiled, number, line] = given[..] else { panic!("{}", example.call) };
-    let rows = rows(&example.program);
+    let rows = rows(example.example);
     let mut store = [0; 180];
     let objects = fickle::run_rows(&rows, 1_000, &mut store).expect("accepted").objects;
-    let proved = fickle::count_run(&rows, &store, objects, printed, spoiled).map(|_| ()).map_err(pair);
+    let proved = fickle::count_run(&rows, &store, objects, printed, spoiled).map(|_| ()).map_err(Into::into);
     let second = second::fleet::count_run(&rows, &store, objects, printed, spoiled);
-    refused(example, [number, line], proved, second.map(|_| ()).map_err(second_pair));
-    let run = [7, rows.len() as u32 / 4, objects, printed, spoiled, 0];
-    let proved = fickle::report_fleet(&run, &rows, &store, &mut [0; 99]).map(|_| ()).map_err(pair);
+    refused(example, [number, line], proved, second.map(|_| ()).map_err(Into::into));
+    let run = [7, (rows.len() / ROW_WIDTH) as u32, objects, printed, spoiled, 0];
+    let proved = fickle::report_fleet(&run, &rows, &store, &mut [0; 99]).map(|_| ()).map_err(Into::into);
     let second = second::fleet::report_fleet(&run, &rows, &store, &mut [0; 99]).map(|_| ());
-    refused(example, [number, line], proved, second.map_err(second_pair));
+    refused(example, [number, line], proved, second.map_err(Into::into));
 }
 
 /// The price of a model on a day or on a date.
-fn priced(example: &Example, given: &[u32]) {
-    let terms = &example.program;
+fn priced(example: &Explanation, given: &[u32]) {
+    let terms = &text(example.example);
     let (proved, second, expected) = match *given {
         [model, day, number, line] => (
             fickle::price_on_day(terms, model, day).map(|_| ()),
@@ -132,5 +118,5 @@ fn priced(example: &Example, given: &[u32]) {
         ),
         _ => panic!("{}", example.call),
     };
-    refused(example, expected, proved.map_err(pair), second.map_err(second_pair));
+    refused(example, expected, proved.map_err(Into::into), second.map_err(Into::into));
 }

@@ -1,23 +1,9 @@
-//! What the proved services return, as types, and how the numbers that cross from C are read. Each function here is one of
-//! crates/services/specs/Unpacked.antt, where it is proved that every answer is read back as it was given.
+//! What the proved services return, as types, and how the numbers that cross from C are read. The functions that unpack
+//! are those of crates/packing/specs/Unpacked.antt, and crates/packing/proofs/Faithful.antt proves that every answer is
+//! read back as it was given.
 
-use crate::words;
-
-/// Why a call was refused: the number of documents 01 and 02, and the line, 0 where none is to blame. In a fleet the line
-/// is the place of a run or of a counted line, from 1; of price terms it is the line of their text.
-#[derive(Clone, Copy, Debug, PartialEq, Eq)]
-pub struct Refusal {
-    pub number: u32,
-    pub line: u64,
-}
-
-impl std::fmt::Display for Refusal {
-    fn fmt(&self, f: &mut std::fmt::Formatter) -> std::fmt::Result {
-        write!(f, "number {}, line {}: {}", self.number, self.line, words(self.number))
-    }
-}
-
-impl std::error::Error for Refusal {}
+use crate::explanations::{sentence, word};
+use crate::{Reason, Refusal};
 
 /// A value. Objects count from 1 in the order in which they were made.
 #[derive(Clone, Copy, Debug, PartialEq, Eq)]
@@ -28,43 +14,62 @@ pub enum Value {
 }
 
 /// An exception that ends a run.
-#[derive(Clone, Copy, Debug, PartialEq, Eq)]
+#[derive(Clone, Copy, Debug, PartialEq, Eq, PartialOrd, Ord, Hash)]
 pub enum Exception {
-    /// Null where an object is needed: exception 1.
-    NullObject,
-    /// An object of another class than its cast asks for: exception 2.
-    WrongClass,
+    /// Null where an object is needed.
+    NullObject = 1,
+    /// An object of another class than its cast asks for.
+    WrongClass = 2,
 }
 
 impl Exception {
-    /// Its number in document 01.
+    /// All of them, in the order of their numbers.
+    pub const ALL: [Exception; 2] = [Exception::NullObject, Exception::WrongClass];
+
+    /// Returns its number in document 01.
     pub const fn number(self) -> u32 {
-        match self {
-            Exception::NullObject => 1,
-            Exception::WrongClass => 2,
-        }
+        self as u32
+    }
+
+    /// Returns the exception that has a number, or nothing where none has it.
+    pub fn from_number(number: u32) -> Option<Exception> {
+        Exception::ALL.into_iter().find(|exception| exception.number() == number)
     }
 }
 
 /// What stops a run before it ends in a value or an exception.
-#[derive(Clone, Copy, Debug, PartialEq, Eq)]
+#[derive(Clone, Copy, Debug, PartialEq, Eq, PartialOrd, Ord, Hash)]
 pub enum Stop {
-    /// There is no fuel left to enter a node: 14.
-    Spent,
-    /// A call where 64 calls are active: 15.
-    Deep,
-    /// An object is to be made, and the store is used up: 16.
-    Full,
+    /// There is no fuel left to enter a node.
+    Spent = 14,
+    /// A call where 64 calls are active.
+    Deep = 15,
+    /// An object is to be made, and the store is used up.
+    Full = 16,
 }
 
 impl Stop {
-    /// Its number in document 01.
+    /// All of them, in the order of their numbers.
+    pub const ALL: [Stop; 3] = [Stop::Spent, Stop::Deep, Stop::Full];
+
+    /// Returns its number in document 01.
     pub const fn number(self) -> u32 {
-        match self {
-            Stop::Spent => 14,
-            Stop::Deep => 15,
-            Stop::Full => 16,
-        }
+        self as u32
+    }
+
+    /// Returns the stop that has a number, or nothing where none has it.
+    pub fn from_number(number: u32) -> Option<Stop> {
+        Stop::ALL.into_iter().find(|stop| stop.number() == number)
+    }
+
+    /// Returns its word, as `spent`.
+    pub fn word(self) -> &'static str {
+        word(self.number())
+    }
+
+    /// Returns what it means, in a sentence.
+    pub fn sentence(self) -> &'static str {
+        sentence(self.number())
     }
 }
 
@@ -85,6 +90,14 @@ pub struct Run {
     pub changes: u32,
 }
 
+impl Run {
+    /// Returns how many objects the plain program makes where it ends alike: an Identity and an implementor for each
+    /// object, and one more implementor for each change of class.
+    pub const fn plain_objects(&self) -> u64 {
+        2 * self.objects as u64 + self.changes as u64
+    }
+}
+
 /// The number of an answer that has a result, or of a run that ended in a value.
 const NO_REFUSAL: u32 = 0;
 /// The number of a run's answer where it ended in an exception, which is then in the place of a line.
@@ -103,22 +116,26 @@ fn two_words(answer: u64) -> (u32, u32) {
 pub(crate) fn unpack(answer: u64) -> Result<u32, Refusal> {
     match two_words(answer) {
         (NO_REFUSAL, result) => Ok(result),
-        (number, line) => Err(Refusal { number, line: u64::from(line) }),
+        (number, line) => Err(refusal(number, u64::from(line))),
     }
 }
 
 /// How a run ended, or its refusal.
 pub(crate) fn unpack_run(answer: u64, kind: u32, content: u32) -> Result<Outcome, Refusal> {
-    const SPENT: u32 = Stop::Spent.number();
-    const DEEP: u32 = Stop::Deep.number();
-    const FULL: u32 = Stop::Full.number();
     match two_words(answer) {
         (NO_REFUSAL, _) => Ok(Outcome::Value(unpack_value(kind, content))),
         (EXCEPTION, exception) => Ok(Outcome::Exception(unpack_exception(exception))),
-        (SPENT, _) => Ok(Outcome::Stop(Stop::Spent)),
-        (DEEP, _) => Ok(Outcome::Stop(Stop::Deep)),
-        (FULL, _) => Ok(Outcome::Stop(Stop::Full)),
-        (number, line) => Err(Refusal { number, line: u64::from(line) }),
+        (number, line) => match Stop::from_number(number) {
+            Some(stop) => Ok(Outcome::Stop(stop)),
+            None => Err(refusal(number, u64::from(line))),
+        },
+    }
+}
+
+fn refusal(number: u32, line: u64) -> Refusal {
+    match Reason::from_number(number) {
+        Some(reason) => Refusal { reason, line },
+        None => unreachable!("no service refuses with number {number}"),
     }
 }
 
@@ -132,12 +149,9 @@ fn unpack_value(kind: u32, content: u32) -> Value {
 }
 
 fn unpack_exception(number: u32) -> Exception {
-    const NULL_OBJECT: u32 = Exception::NullObject.number();
-    const WRONG_CLASS: u32 = Exception::WrongClass.number();
-    match number {
-        NULL_OBJECT => Exception::NullObject,
-        WRONG_CLASS => Exception::WrongClass,
-        _ => unreachable!("no run ends in exception {number}"),
+    match Exception::from_number(number) {
+        Some(exception) => exception,
+        None => unreachable!("no run ends in exception {number}"),
     }
 }
 
@@ -145,14 +159,16 @@ fn unpack_exception(number: u32) -> Exception {
 pub(crate) fn unpack_report(number: u32, told: u64) -> Result<usize, Refusal> {
     match number {
         NO_REFUSAL => Ok(told as usize),
-        _ => Err(Refusal { number, line: told }),
+        _ => Err(refusal(number, told)),
     }
 }
 
 #[cfg(test)]
 mod tests {
-    use super::{unpack_run, Exception, Outcome, Refusal, Stop, Value, BOOL, EXCEPTION, NULL, OBJECT};
+    use super::{unpack, unpack_report, unpack_run};
+    use super::{Exception, Outcome, Stop, Value, BOOL, EXCEPTION, NULL, OBJECT};
     use crate::header::defined;
+    use crate::{Reason, Refusal};
 
     #[test]
     fn names_numbers_as_the_header_does() {
@@ -167,9 +183,23 @@ mod tests {
         assert_eq!(defined::<u32>("FICKLE_WRONG_CLASS"), Exception::WrongClass.number());
     }
 
+    /// An answer of these two words.
+    fn words(number: u32, line: u32) -> u64 {
+        u64::from(number) << 32 | u64::from(line)
+    }
+
+    #[test]
+    fn reads_every_refusal() {
+        for reason in Reason::ALL {
+            let refused = Refusal::new(reason, 15);
+            assert_eq!(unpack(words(reason.number(), 15)), Err(refused));
+            assert_eq!(unpack_run(words(reason.number(), 15), NULL, 0), Err(refused));
+            assert_eq!(unpack_report(reason.number(), 1 << 40), Err(Refusal::new(reason, 1 << 40)));
+        }
+    }
+
     #[test]
     fn reads_every_end_of_a_run() {
-        let words = |number: u32, line: u32| u64::from(number) << 32 | u64::from(line);
         let value = |value| Ok(Outcome::Value(value));
         assert_eq!(unpack_run(0, NULL, 0), value(Value::Null));
         assert_eq!(unpack_run(0, BOOL, 0), value(Value::Truth(false)));
@@ -180,10 +210,10 @@ mod tests {
             let ended = |number, line| unpack_run(words(number, line), kind, content);
             assert_eq!(ended(EXCEPTION, 1), Ok(Outcome::Exception(Exception::NullObject)));
             assert_eq!(ended(EXCEPTION, 2), Ok(Outcome::Exception(Exception::WrongClass)));
-            for stop in [Stop::Spent, Stop::Deep, Stop::Full] {
+            for stop in Stop::ALL {
                 assert_eq!(ended(stop.number(), 0), Ok(Outcome::Stop(stop)));
             }
-            assert_eq!(ended(3, 15), Err(Refusal { number: 3, line: 15 }));
+            assert_eq!(ended(3, 15), Err(Refusal::new(Reason::Place, 15)));
         }
     }
 }

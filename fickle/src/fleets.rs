@@ -17,13 +17,14 @@ pub struct Labels {
 /// shorter.
 ///
 /// ```
-/// use fickle::{count_run, Labels, Refusal};
-/// // Class 1 is a root, class 2 a state below it: C 1 0, C 2 1, S, B 0 1, T.
-/// let rows = [67, 1, 0, 0, 67, 2, 1, 0, 83, 0, 0, 0, 66, 0, 1, 0, 84, 0, 0, 0];
+/// use fickle::{count_run, rows_of_text, Labels, Reason, Refusal};
+/// // Class 1 is a root, class 2 a state below it.
+/// let rows = rows_of_text(b"C\t1\t0\nC\t2\t1\nS\nB\t0\t1\nT\n")?;
 /// let mut store = [0; 3 * 18];
 /// (store[0], store[18], store[36]) = (1, 2, 1);
 /// assert_eq!(count_run(&rows, &store, 3, 1, 2), Ok(Labels { printed: 3, spoiled: 1 }));
-/// assert_eq!(count_run(&rows, &store, 3, 2, 1), Err(Refusal { number: 18, line: 1 }));
+/// assert_eq!(count_run(&rows, &store, 3, 2, 1), Err(Refusal::new(Reason::Class, 1)));
+/// # Ok::<(), Refusal>(())
 /// ```
 pub fn count_run(
     rows: &[u32],
@@ -40,12 +41,13 @@ pub fn count_run(
 /// line 1, also where an Identity has no implementor among the objects.
 ///
 /// ```
-/// use fickle::{count_plain_run, Labels};
-/// let rows = [67, 1, 0, 0, 67, 2, 1, 0, 83, 0, 0, 0, 66, 0, 1, 0, 84, 0, 0, 0];
+/// use fickle::{count_plain_run, rows_of_text, Labels};
+/// let rows = rows_of_text(b"C\t1\t0\nC\t2\t1\nS\nB\t0\t1\nT\n")?;
 /// // The Identity's first field holds the second object, an implementor of source class 2.
 /// let mut store = [0; 2 * 18];
 /// (store[0], store[1], store[18], store[19]) = (1, 4, 4, 3);
 /// assert_eq!(count_plain_run(&rows, &store, 2, 1, 2), Ok(Labels { printed: 1, spoiled: 1 }));
+/// # Ok::<(), fickle::Refusal>(())
 /// ```
 pub fn count_plain_run(
     rows: &[u32],
@@ -86,7 +88,7 @@ fn labels_of(
 }
 
 /// Sums counted lines by model and writes their report: a line a model, by cents per good label. A counted line is four
-/// numbers: model, printed, spoiled, cents. Answers how many bytes were written. Refusals, with the line's place from 1: 1
+/// numbers: model, printed, spoiled, cents. Returns how many bytes were written. Refusals, with the line's place from 1: 1
 /// where more labels are spoiled than printed, 17 where a sum passes 4,000,000,000; 1, line 0, where the length is not a
 /// multiple of 4; 13 last.
 ///
@@ -106,12 +108,12 @@ pub fn rank_models(counts: &[u32], report: &mut [u8]) -> Result<usize, Refusal> 
 }
 
 /// Writes the report over a fleet of ended runs. A run is six numbers: model, count of rows, count of objects made, printed
-/// class, spoiled class, cents; `programs` holds the rows of all runs one after another, `stores` their objects. Answers how
+/// class, spoiled class, cents; `programs` holds the rows of all runs one after another, `stores` their objects. Returns how
 /// many bytes were written. Refusals, with the run's place from 1 as line: 18 as for `count_run`, 17 where the run takes one
 /// of its model's sums past 4,000,000,000; 1, line 0, where the length of `runs` is not a multiple of 6; 13 last.
 ///
 /// ```
-/// let rows = [67, 1, 0, 0, 67, 2, 1, 0, 83, 0, 0, 0, 66, 0, 1, 0, 84, 0, 0, 0];
+/// let rows = fickle::rows_of_text(b"C\t1\t0\nC\t2\t1\nS\nB\t0\t1\nT\n")?;
 /// let mut store = [0; 18];
 /// store[0] = 1;
 /// let mut report = [0; 64];

@@ -25,9 +25,9 @@ pub struct Price {
 /// within 2000-01-01 to 2179-06-06.
 ///
 /// ```
-/// use fickle::{day_of_date, Refusal};
+/// use fickle::{day_of_date, Reason, Refusal};
 /// assert_eq!(day_of_date(2000, 2, 29), Ok(59));
-/// assert_eq!(day_of_date(2100, 2, 29), Err(Refusal { number: 24, line: 0 }));
+/// assert_eq!(day_of_date(2100, 2, 29), Err(Refusal::new(Reason::Date, 0)));
 /// ```
 pub fn day_of_date(year: u32, month: u32, day: u32) -> Result<u32, Refusal> {
     // SAFETY: numbers alone are passed.
@@ -37,9 +37,9 @@ pub fn day_of_date(year: u32, month: u32, day: u32) -> Result<u32, Refusal> {
 /// Returns the date of a day. Refused with 24, line 0, where the day's number is above 65,535.
 ///
 /// ```
-/// use fickle::{date_of_day, Date, Refusal};
+/// use fickle::{date_of_day, Date, Reason, Refusal};
 /// assert_eq!(date_of_day(59), Ok(Date { year: 2000, month: 2, day: 29 }));
-/// assert_eq!(date_of_day(65_536), Err(Refusal { number: 24, line: 0 }));
+/// assert_eq!(date_of_day(65_536), Err(Refusal::new(Reason::Date, 0)));
 /// ```
 pub fn date_of_day(day: u32) -> Result<Date, Refusal> {
     let (mut year, mut month, mut of_month) = (0, 0, 0);
@@ -53,11 +53,11 @@ pub fn date_of_day(day: u32) -> Result<Date, Refusal> {
 /// follows the last or an earlier line has the signing number; then 24, line 0, for a day above 65,535.
 ///
 /// ```
-/// use fickle::{price_on_day, Price, Refusal};
+/// use fickle::{price_on_day, Price, Reason, Refusal};
 /// let terms = b"7\t0\t30\t150\t1\n7\t10\t20\t120\t2\n";
 /// assert_eq!(price_on_day(terms, 7, 10), Ok(Some(Price { cents: 120, line: 2 })));
 /// assert_eq!(price_on_day(terms, 7, 31), Ok(None));
-/// assert_eq!(price_on_day(b"7\t9\t8\t150\t1\n", 7, 9), Err(Refusal { number: 23, line: 1 }));
+/// assert_eq!(price_on_day(b"7\t9\t8\t150\t1\n", 7, 9), Err(Refusal::new(Reason::Term, 1)));
 /// ```
 pub fn price_on_day(terms: &[u8], model: u32, day: u32) -> Result<Option<Price>, Refusal> {
     let mut price = Price { cents: 0, line: 0 };
@@ -71,10 +71,10 @@ pub fn price_on_day(terms: &[u8], model: u32, day: u32) -> Result<Option<Price>,
 /// Returns the price of a model on a date, as `price_on_day` does on its day; 24 where `day_of_date` refuses the date.
 ///
 /// ```
-/// use fickle::{price_on_date, Price, Refusal};
+/// use fickle::{price_on_date, Price, Reason, Refusal};
 /// let terms = b"7\t59\t59\t150\t1\n";
 /// assert_eq!(price_on_date(terms, 7, 2000, 2, 29), Ok(Some(Price { cents: 150, line: 1 })));
-/// assert_eq!(price_on_date(terms, 7, 2000, 2, 30), Err(Refusal { number: 24, line: 0 }));
+/// assert_eq!(price_on_date(terms, 7, 2000, 2, 30), Err(Refusal::new(Reason::Date, 0)));
 /// ```
 pub fn price_on_date(
     terms: &[u8],
@@ -101,11 +101,11 @@ pub fn price_on_date(
 }
 
 /// Writes the price report of a model and a month: a line for each run of days with one price, in order of days: first day,
-/// last day, cents. Answers how many bytes were written; 558 are enough for any month. Refusals: those of the terms, as for
-/// `price_on_day`; 24, line 0, where it is no month or one of its days is out of range; 13 last.
+/// last day, cents. Returns how many bytes were written; `MOST_PRICE_REPORT_BYTES` are enough for any month. Refusals: those
+/// of the terms, as for `price_on_day`; 24, line 0, where it is no month or one of its days is out of range; 13 last.
 ///
 /// ```
-/// let mut report = [0; 558];
+/// let mut report = [0; fickle::MOST_PRICE_REPORT_BYTES];
 /// let terms = b"7\t0\t30\t150\t1\n7\t10\t20\t120\t2\n";
 /// let length = fickle::report_prices(terms, 7, 2000, 1, &mut report)?;
 /// assert_eq!(report[..length], *b"0\t9\t150\n10\t20\t120\n21\t30\t150\n");

@@ -2,6 +2,8 @@
 //!
 //! `c/stack.c` measures what the numbers here rest on; `include/fickle.h` has the same constants for C.
 
+use crate::limits::ROW_WIDTH;
+
 /// Bytes of native stack that `read_rows` takes at most.
 pub const READ_ROWS_STACK_NEEDED: usize = 1_048_576;
 /// Bytes of native stack that `write_text` takes at most.
@@ -38,8 +40,7 @@ pub const STACK_NEEDED: usize = 1_310_720;
 const MOST_NESTING: usize = 128;
 /// The most calls that are active at once.
 const MOST_CALLS: usize = 64;
-/// Numbers of a row, and the letter of a call.
-const ROW: usize = 4;
+/// The letter of a call.
 const CALL: u32 = b'Q' as u32;
 
 /// Bytes that a run takes while it checks rows without nesting: tables and slots. Measured: 670,280.
@@ -179,7 +180,7 @@ fn nestings(rows: &[u32]) -> Option<Program> {
     // How many children each open node still waits for, the outermost first.
     let mut open = [0; MOST_NESTING];
     let mut depth = 0;
-    for row in rows.chunks_exact(ROW) {
+    for row in rows.chunks_exact(ROW_WIDTH) {
         match part(row)? {
             Part::Heading => {}
             Part::Start => methods = std::mem::take(&mut bodies),
@@ -216,23 +217,16 @@ fn close(open: &mut [u32], mut depth: usize) -> usize {
 mod tests {
     use super::*;
     use crate::header::defined;
-
-    /// Rows of lines with a letter and at most two numbers.
-    fn rows(lines: &[(char, u32, u32)]) -> Vec<u32> {
-        lines.iter().flat_map(|&(letter, first, second)| [u32::from(letter), first, second, 0]).collect()
-    }
+    use second::notation::rows;
 
     #[test]
     fn nests_as_the_lines_do() {
-        let method =
-            [('C', 0, 0), ('M', 255, 0), ('B', 1, 2), ('V', 0, 0), ('A', 1, 0), ('N', 0, 0), ('Z', 0, 0)];
-        let inner = [('A', 1, 0), ('I', 0, 0), ('S', 0, 0), ('B', 0, 2), ('N', 0, 0)];
-        let call = [('Q', 0, 1), ('W', 1, 0), ('J', 0, 0), ('T', 0, 0), ('N', 0, 0), ('N', 0, 0)];
-        let program = rows(&[&method[..], &inner, &call].concat());
+        let (method, call) = ("C 0 0, M 255 0, B 1 2, V 0, A 1, N, Z, A 1, I 0", "Q 0 1, W 1, J, T, N, N");
+        let program = rows(&format!("{method}, S, B 0 2, N, {call}"));
         let methods = Nesting { nodes: 4, calls: 0 };
         let start = Nesting { nodes: 4, calls: 2 };
         assert_eq!(nestings(&program), Some(Program { methods, start }));
-        let before_call = program.len() - call.len() * ROW;
+        let before_call = program.len() - rows(call).len();
         let start = Nesting { nodes: 2, calls: 0 };
         assert_eq!(nestings(&program[..before_call]), Some(Program { methods, start }));
     }
@@ -267,10 +261,10 @@ mod tests {
 
     #[test]
     fn takes_what_it_does_not_know_for_deep() {
-        assert_eq!(nestings(&rows(&[('S', 0, 0), ('B', 0, 1), ('Y', 0, 0)])), None);
+        assert_eq!(nestings(&rows("S, B 0 1, Y")), None);
         assert_eq!(nestings(&[65_536 + 83, 0, 0, 0]), None);
-        assert_eq!(nestings(&rows(&[('Q', 0, u32::MAX)])), None);
-        assert_eq!(nestings(&rows(&[('Z', 0, 0); MOST_NESTING + 1])), None);
-        assert_eq!(run_rows_stack_bound(&[0; ROW], 0), RUN_ROWS_STACK_NEEDED);
+        assert_eq!(nestings(&rows("Q 0 4294967295")), None);
+        assert_eq!(nestings(&rows("129*Z")), None);
+        assert_eq!(run_rows_stack_bound(&[0; ROW_WIDTH], 0), RUN_ROWS_STACK_NEEDED);
     }
 }

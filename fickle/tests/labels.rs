@@ -22,5 +22,5 @@ fn a_refusal_ends_it() {
     let left = labels("undeclared.rules");
     assert_eq!((left.stdout.as_slice(), left.status.code()), (&b""[..], Some(1)));
     let said = String::from_utf8_lossy(&left.stderr);
-    assert!(said.contains("number: 10, line: 7"), "{said}");
+    assert!(said.contains("reason: Effect, line: 7"), "{said}");
 }

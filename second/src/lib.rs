@@ -7,6 +7,7 @@ pub mod fleet;
 pub mod generate;
 pub mod headings;
 pub mod machine;
+pub mod notation;
 pub mod plain;
 pub mod prices;
 pub mod programs;

@@ -150,6 +150,13 @@ impl Refusal {
     }
 }
 
+/// The number and the line.
+impl From<Refusal> for (u32, u64) {
+    fn from(refusal: Refusal) -> (u32, u64) {
+        (refusal.number, refusal.line)
+    }
+}
+
 /// The refusal of a call, as an answer.
 pub fn refuse<T>(number: u32, line: u32) -> Result<T, Refusal> {
     Err(Refusal::new(number, line))

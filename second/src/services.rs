@@ -112,15 +112,15 @@ macro_rules! services_of {
 
         impl $crate::services::Services for $name {
             fn read_rows(&self, text: &[u8], rows: &mut [u32]) -> Result<usize, $crate::services::Refused> {
-                $($implementation)+::text::read_rows(text, rows).map_err(|no| (no.number, no.line))
+                $($implementation)+::text::read_rows(text, rows).map_err(Into::into)
             }
 
             fn write_text(&self, rows: &[u32], text: &mut [u8]) -> Result<usize, $crate::services::Refused> {
-                $($implementation)+::text::write_text(rows, text).map_err(|no| (no.number, no.line))
+                $($implementation)+::text::write_text(rows, text).map_err(Into::into)
             }
 
             fn check_rows(&self, rows: &[u32]) -> Result<(), $crate::services::Refused> {
-                $($implementation)+::check::check_rows(rows).map_err(|no| (no.number, no.line))
+                $($implementation)+::check::check_rows(rows).map_err(Into::into)
             }
 
             fn translate_rows(
@@ -128,7 +128,7 @@ macro_rules! services_of {
                 rows: &[u32],
                 plain: &mut [u32],
             ) -> Result<usize, $crate::services::Refused> {
-                $($implementation)+::plain::translate_rows(rows, plain).map_err(|no| (no.number, no.line))
+                $($implementation)+::plain::translate_rows(rows, plain).map_err(Into::into)
             }
 
             fn run_rows(
@@ -139,8 +139,7 @@ macro_rules! services_of {
             ) -> Result<$crate::services::Ran, $crate::services::Refused> {
                 use $crate::services::{End, Ran, Value};
                 use $($implementation)+::machine::{Outcome, Value as Given};
-                let run = $($implementation)+::machine::run_rows(rows, fuel, store);
-                let run = run.map_err(|no| (no.number, no.line))?;
+                let run = $($implementation)+::machine::run_rows(rows, fuel, store)?;
                 let end = match run.outcome {
                     Outcome::Value(Given::Null) => End::Value(Value::Null),
                     Outcome::Value(Given::False) => End::Value(Value::Truth(false)),
@@ -178,7 +177,7 @@ macro_rules! fleet_services {
         ) -> Result<$crate::services::Counted, $crate::services::Refused> {
             let $crate::services::Ended { rows, store, objects, printed, spoiled } = ended;
             let counted = $($from)+::count_run(rows, store, *objects, *printed, *spoiled);
-            counted.map(|labels| (labels.printed, labels.spoiled)).map_err(|no| (no.number, no.line))
+            counted.map(|labels| (labels.printed, labels.spoiled)).map_err(Into::into)
         }
 
         fn count_plain_run(
@@ -187,7 +186,7 @@ macro_rules! fleet_services {
         ) -> Result<$crate::services::Counted, $crate::services::Refused> {
             let $crate::services::Ended { rows, store, objects, printed, spoiled } = ended;
             let counted = $($from)+::count_plain_run(rows, store, *objects, *printed, *spoiled);
-            counted.map(|labels| (labels.printed, labels.spoiled)).map_err(|no| (no.number, no.line))
+            counted.map(|labels| (labels.printed, labels.spoiled)).map_err(Into::into)
         }
 
         fn rank_models(
@@ -195,7 +194,7 @@ macro_rules! fleet_services {
             counts: &[u32],
             report: &mut [u8],
         ) -> Result<usize, $crate::services::Refused> {
-            $($from)+::rank_models(counts, report).map_err(|no| (no.number, no.line))
+            $($from)+::rank_models(counts, report).map_err(Into::into)
         }
 
         fn report_fleet(
@@ -204,7 +203,7 @@ macro_rules! fleet_services {
             report: &mut [u8],
         ) -> Result<usize, $crate::services::Refused> {
             let reported = $($from)+::report_fleet(&fleet.runs, &fleet.programs, &fleet.stores, report);
-            reported.map_err(|no| (no.number, no.line))
+            reported.map_err(Into::into)
         }
     };
 }
@@ -217,12 +216,12 @@ macro_rules! price_services {
             &self,
             (year, month, day): $crate::services::Date,
         ) -> Result<u32, $crate::services::Refused> {
-            $($from)+::day_of_date(year, month, day).map_err(|no| (no.number, no.line))
+            $($from)+::day_of_date(year, month, day).map_err(Into::into)
         }
 
         fn date_of_day(&self, day: u32) -> Result<$crate::services::Date, $crate::services::Refused> {
             let date = $($from)+::date_of_day(day);
-            date.map(|date| (date.year, date.month, date.day)).map_err(|no| (no.number, no.line))
+            date.map(|date| (date.year, date.month, date.day)).map_err(Into::into)
         }
 
         fn price_on_day(
@@ -231,7 +230,7 @@ macro_rules! price_services {
             model: u32,
             day: u32,
         ) -> Result<Option<$crate::services::Price>, $crate::services::Refused> {
-            let price = $($from)+::price_on_day(terms, model, day).map_err(|no| (no.number, no.line))?;
+            let price = $($from)+::price_on_day(terms, model, day)?;
             Ok(price.map(|price| (price.cents, price.line)))
         }
 
@@ -241,8 +240,8 @@ macro_rules! price_services {
             model: u32,
             (year, month, day): $crate::services::Date,
         ) -> Result<Option<$crate::services::Price>, $crate::services::Refused> {
-            let price = $($from)+::price_on_date(terms, model, year, month, day);
-            Ok(price.map_err(|no| (no.number, no.line))?.map(|price| (price.cents, price.line)))
+            let price = $($from)+::price_on_date(terms, model, year, month, day)?;
+            Ok(price.map(|price| (price.cents, price.line)))
         }
 
         fn report_prices(
@@ -253,7 +252,7 @@ macro_rules! price_services {
             report: &mut [u8],
         ) -> Result<usize, $crate::services::Refused> {
             let written = $($from)+::report_prices(terms, model, year, month, report);
-            written.map_err(|no| (no.number, no.line))
+            written.map_err(Into::into)
         }
     };
 }

@@ -5,6 +5,7 @@ mod fleets;
 pub mod prices;
 
 use crate::generate::text_of_rows;
+use crate::notation;
 use crate::rows::{CHECKED, OBJECT_WIDTH, ROW_WIDTH};
 use crate::services::{End, Programs, Ran, Refused, Services, Value};
 pub use fleets::Asked;
@@ -121,16 +122,16 @@ impl Vector {
         self.service.split(' ').next().unwrap_or_default()
     }
 
-    /// The text of the records: a tab for each space, a line feed at the end of each record.
+    /// The text of the records.
     pub fn text(&self) -> Vec<u8> {
-        let lines = expanded(&self.records).into_iter().map(|record| record.replace(' ', "\t") + "\n");
-        lines.collect::<String>().into_bytes()
+        notation::text(&self.records)
     }
 
     /// The rows of the records, and as many numbers 0 more as the option `extra` says.
     pub fn rows(&self) -> Vec<u32> {
-        let rows = expanded(&self.records).into_iter().flat_map(|record| row(&record));
-        rows.chain(std::iter::repeat_n(0, self.option("extra").unwrap_or(0))).collect()
+        let mut rows = notation::rows(&self.records);
+        rows.extend(std::iter::repeat_n(0, self.option("extra").unwrap_or(0)));
+        rows
     }
 
     pub fn fuel(&self) -> u64 {
@@ -204,34 +205,6 @@ impl Vector {
         let numbers: Vec<String> = rows[..count * ROW_WIDTH].iter().map(u32::to_string).collect();
         Ok(numbers.join(" "))
     }
-}
-
-/// The records, repeated ones written out: `3*T` is T three times, `2*(T; N)` is T, N, T, N.
-fn expanded(records: &str) -> Vec<String> {
-    let mut all = Vec::new();
-    for part in records.split(',').map(str::trim).filter(|part| !part.is_empty()) {
-        let (times, group) = part.split_once('*').unwrap_or(("1", part));
-        let group = group.trim_start_matches('(').trim_end_matches(')');
-        for _ in 0..times.parse().unwrap_or(0) {
-            all.extend(group.split(';').map(|record| record.trim().to_string()));
-        }
-    }
-    all
-}
-
-/// The four numbers of a record: a letter and its numbers, or, where it begins with a digit, the numbers themselves.
-fn row(record: &str) -> [u32; ROW_WIDTH] {
-    let first = record.bytes().next().unwrap_or_default();
-    let (mut row, mut place) = ([0; ROW_WIDTH], 0);
-    if !first.is_ascii_digit() {
-        row[0] = u32::from(first);
-        place = 1;
-    }
-    let numbers = record.split(' ').filter_map(|word| word.parse().ok());
-    for (place, number) in row[place..].iter_mut().zip(numbers) {
-        *place = number;
-    }
-    row
 }
 
 /// Rows as the files write them.

@@ -1,19 +1,15 @@
 //! The report over fleets (document 02, §1): counts of a run, sums, order, refusals; counts through the plain store.
 
 use second::fleet::{count_plain_run, count_run, rank_models, report_fleet, Labels};
-use second::generate::{self, rows_of_text};
+use second::generate;
 use second::machine::{on_large_stack, run_rows, Outcome};
+use second::notation::rows;
 use second::plain::translate_rows;
 use second::random::Random;
 use second::rows::{Refusal, OBJECT_WIDTH};
 
 /// Classes 1 plain, 2 root, 3 and 4 states of 2, 5 state below 3.
 const TREE: &str = "C 0 0, C 1 0, C 2 2, C 2 2, C 2 3, S, B 0 1, T";
-
-fn rows(program: &str) -> Vec<u32> {
-    let lines = program.split(',').map(|line| line.trim().replace(' ', "\t") + "\n");
-    rows_of_text(lines.collect::<String>().as_bytes()).expect(program)
-}
 
 /// Objects of these classes, their other numbers junk.
 fn store(classes: &[u32]) -> Vec<u32> {

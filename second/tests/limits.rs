@@ -1,8 +1,9 @@
 //! Each limit of document 01 on both sides, for the check and for the translator.
 
 use second::check::check_rows;
-use second::generate::{self, extreme};
+use second::generate::extreme;
 use second::machine::{run_rows, Outcome, Value};
+use second::notation;
 use second::plain::translate_rows;
 use second::random::Random;
 use second::rows::{letter, Refusal};
@@ -52,14 +53,7 @@ fn nesting() {
         let past = extreme::nesting(129, &mut random);
         let Err((2, _)) = check(&past) else { panic!("nesting 129") };
     }
-    let blocks = |depth: usize| {
-        let mut rows = vec![letter::START, 0, 0, 0];
-        for _ in 1..depth {
-            rows.extend([letter::BLOCK, 0, 1, 0]);
-        }
-        rows.extend([letter::TRUE, 0, 0, 0]);
-        rows
-    };
+    let blocks = |depth: usize| notation::rows(&format!("S, {}*B 0 1, T", depth - 1));
     assert_eq!(check(&blocks(128)), Ok(()));
     assert_eq!(check(&blocks(129)), Err((2, 130)));
     assert_eq!(translate(&blocks(24)), Ok(()));
@@ -164,12 +158,6 @@ fn translation(rows: &[u32]) -> Vec<u32> {
     plain
 }
 
-/// Rows of a program written with spaces for tabs and commas for line feeds.
-fn rows_of(program: &str) -> Vec<u32> {
-    let lines: String = program.split(',').map(|line| line.trim().replace(' ', "\t") + "\n").collect();
-    generate::rows_of_text(lines.as_bytes()).expect(program)
-}
-
 #[test]
 fn widest_translations() {
     // One change of class with 16 root fields: 88 rows and 84 steps by slot, 86 and 83 by `this`.
@@ -180,12 +168,15 @@ fn widest_translations() {
         let run = run_rows(&plain, 1_000, &mut [0; 180]).unwrap();
         (plain.len() / 4, run.steps)
     };
-    let (base_rows, base_steps) = counts(&rows_of(&format!("{new_object}, I 1")));
-    assert_eq!(counts(&rows_of(&format!("{new_object}, R 1 1"))), (base_rows - 1 + 88, base_steps - 1 + 84));
+    let (base_rows, base_steps) = counts(&notation::rows(&format!("{new_object}, I 1")));
+    assert_eq!(
+        counts(&notation::rows(&format!("{new_object}, R 1 1"))),
+        (base_rows - 1 + 88, base_steps - 1 + 84)
+    );
     let with_call = format!("{new_object}, Q 0 0, I 1");
-    let (base_rows, base_steps) = counts(&rows_of(&with_call));
+    let (base_rows, base_steps) = counts(&notation::rows(&with_call));
     let by_this = with_call.replace("B 0 1, I 0", "B 0 1, R 0 1");
-    assert_eq!(counts(&rows_of(&by_this)), (base_rows - 2 + 86, base_steps - 2 + 83));
+    assert_eq!(counts(&notation::rows(&by_this)), (base_rows - 2 + 86, base_steps - 2 + 83));
     for calls in [false, true] {
         let rows = extreme::widest_scope(calls);
         assert_eq!(translate(&rows), Ok(()));
@@ -252,34 +243,10 @@ fn deepest_evaluation() {
 #[test]
 fn largest_store() {
     // 65,536 objects wanted, 65,535 can be held.
-    let mut rows = vec![letter::CLASS, 0, 0, 0, letter::METHOD, 0, 0, 0, letter::BLOCK, 0, 16, 0];
-    for _ in 0..16 {
-        rows.extend([letter::NEW, 0, 0, 0]);
-    }
-    for name in 1..4 {
-        rows.extend([letter::METHOD, 0, name, 0, letter::BLOCK, 0, 16, 0]);
-        for _ in 0..16 {
-            rows.extend([letter::CALL, name - 1, 0, 0, letter::SLOT, 0, 0, 0]);
-        }
-    }
-    rows.extend([
-        letter::START,
-        0,
-        0,
-        0,
-        letter::BLOCK,
-        0,
-        1,
-        0,
-        letter::CALL,
-        3,
-        0,
-        0,
-        letter::NEW,
-        1,
-        0,
-        0,
-    ]);
+    let rows = notation::rows(
+        "C 0 0, M 0 0, B 0 16, 16*W 0, M 0 1, B 0 16, 16*(Q 0 0; I 0), M 0 2, B 0 16, 16*(Q 1 0; I 0), \
+         M 0 3, B 0 16, 16*(Q 2 0; I 0), S, B 0 1, Q 3 0, W 1",
+    );
     let mut store = vec![7; 65_537 * 18];
     let run = run_rows(&rows, 1_000_000, &mut store).unwrap();
     assert_eq!(run.outcome, Outcome::Stop(16));

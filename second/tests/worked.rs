@@ -1,21 +1,11 @@
 //! The worked programs of document 01, their runs and their refusals.
 
 use second::check::check_rows;
-use second::generate::rows_of_text;
 use second::machine::{run_rows, Outcome, Run, Value};
+use second::notation::{rows, text};
 use second::plain::translate_rows;
 use second::programs;
 use second::rows::Refusal;
-
-/// A program written with spaces for tabs and commas for line feeds.
-fn text(program: &str) -> Vec<u8> {
-    let lines = program.split(',').map(|line| line.trim().replace(' ', "\t") + "\n");
-    lines.collect::<String>().into_bytes()
-}
-
-fn rows(program: &str) -> Vec<u32> {
-    rows_of_text(&text(program)).expect(program)
-}
 
 fn verdict(program: &str) -> Result<(), (u32, u64)> {
     check_rows(&rows(program)).map_err(|refusal| (refusal.number, refusal.line))

@@ -2,9 +2,10 @@
 
 use super::runs::Taken;
 use super::{Cents, Fleet, Run};
+use crate::input::refused;
 use crate::lines::{wrong, No};
-use crate::terms::{refused, Terms, When, NUMBER_MOST};
-use fickle::Labels;
+use crate::terms::{Terms, When};
+use fickle::{Labels, LARGEST_NUMBER};
 use std::collections::HashMap;
 
 /// The largest cost that a report can be given. It is past the largest sum, so a run of this or a larger cost is 17.
@@ -29,9 +30,9 @@ impl Costs {
                 let what = "the cents are a date, and no prices are given; give their file by --prices";
                 return Err(wrong(&fleet.name, run.line, what));
             }
-            if run.model > NUMBER_MOST {
+            if run.model > LARGEST_NUMBER {
                 let what = format!(
-                    "model {} has no price on any date, since terms name models up to {NUMBER_MOST}; put the cents on the line",
+                    "model {} has no price on any date, since terms name models up to {LARGEST_NUMBER}; put the cents on the line",
                     run.model
                 );
                 return Err(wrong(&fleet.name, run.line, &what));
@@ -81,7 +82,9 @@ impl Costs {
                 );
                 Err(wrong(&fleet.name, run.line, &what))
             }
-            Err(refusal) => Err(wrong(&fleet.name, run.line, &format!("{when} is {}", refused(refusal)))),
+            Err(refusal) => {
+                Err(wrong(&fleet.name, run.line, &format!("{when} is {}", refused(refusal.reason))))
+            }
         }
     }
 }

@@ -3,9 +3,10 @@
 use super::{Fleet, Limits, Run};
 use crate::input::Input;
 use crate::lines::{lines, number, read, wrong, No};
-use crate::store::OBJECT;
 use crate::Trouble;
-use fickle::{count_plain_run, count_run, run_rows_on_this_stack, Labels, Outcome, Refusal, Stop};
+use fickle::{
+    count_plain_run, count_run, run_rows_on_this_stack, Labels, Outcome, Refusal, Stop, OBJECT_WIDTH,
+};
 use std::collections::HashMap;
 use std::path::{Path, PathBuf};
 use std::rc::Rc;
@@ -31,7 +32,7 @@ pub struct Taken {
 
 impl Taken {
     pub fn objects(&self) -> u32 {
-        (self.store.len() / OBJECT) as u32
+        (self.store.len() / OBJECT_WIDTH) as u32
     }
 
     /// Its labels, or 18.
@@ -83,12 +84,12 @@ impl Runs {
             return Ok(known.again());
         }
         let rows = self.rows(rules)?;
-        let mut store = vec![0; self.limits.objects as usize * OBJECT];
+        let mut store = vec![0; self.limits.objects * OBJECT_WIDTH];
         let ended = match run_rows_on_this_stack(&rows, self.limits.fuel, &mut store) {
             Ok(run) => match run.outcome {
                 Outcome::Stop(stop @ (Stop::Spent | Stop::Full)) => Ended::Cut { stop, labels: run.objects },
                 outcome => {
-                    let store = store[..run.objects as usize * OBJECT].into();
+                    let store = store[..run.objects as usize * OBJECT_WIDTH].into();
                     let unusual = Some(outcome).filter(|outcome| !matches!(outcome, Outcome::Value(_)));
                     Ended::Counts(Taken { rows, store, plain: false, unusual })
                 }
@@ -119,9 +120,10 @@ fn objects(path: &Path) -> Result<Vec<u32>, No> {
     for line in lines(&name, &text)? {
         let numbers: Option<Vec<u32>> = line.text.split('\t').map(number).collect();
         match numbers {
-            Some(numbers) if numbers.len() == OBJECT => store.extend(numbers),
+            Some(numbers) if numbers.len() == OBJECT_WIDTH => store.extend(numbers),
             _ => {
-                let due = format!("the line is not an object: {OBJECT} numbers with one tab between them");
+                let due =
+                    format!("the line is not an object: {OBJECT_WIDTH} numbers with one tab between them");
                 return Err(wrong(&name, line.number, &due));
             }
         }

@@ -2,16 +2,13 @@
 
 use super::runs::Taken;
 use super::{Fleet, Run};
-use crate::input::{Input, ROW};
-use crate::store::OBJECT;
-use fickle::{check_rows, explanation, Refusal};
+use crate::input::{self, Input};
+use fickle::{check_rows, Reason, Refusal, OBJECT_WIDTH, ROW_WIDTH};
 
 /// A refusal of a run: the fleet's line, number and word, sentence; then why, where that can be told.
 pub fn refused(fleet: &Fleet, run: &Run, taken: &Taken, refusal: Refusal) -> String {
-    let found = explanation(refusal.number);
-    let (word, sentence) = found.map_or(("", ""), |found| (found.word, found.sentence));
-    let refused = format!("{}: refused ({}, {word}): {sentence}", fleet.at(run), refusal.number);
-    match (refusal.number == 18).then(|| why(run, taken)).flatten() {
+    let refused = format!("{}: {}", fleet.at(run), input::refused(refusal.reason));
+    match (refusal.reason == Reason::Class).then(|| why(run, taken)).flatten() {
         Some(why) => format!("{refused}\n{}: note: {why}", fleet.at(run)),
         None => refused,
     }
@@ -22,8 +19,12 @@ fn why(run: &Run, taken: &Taken) -> Option<String> {
     if let Some(verdict) = rules_refused(run) {
         return Some(format!("its rules are refused: {verdict}"));
     }
-    let above: Vec<u32> =
-        taken.rows.chunks_exact(ROW).filter(|row| row[0] == u32::from(b'C')).map(|row| row[2]).collect();
+    let above: Vec<u32> = taken
+        .rows
+        .chunks_exact(ROW_WIDTH)
+        .filter(|row| row[0] == u32::from(b'C'))
+        .map(|row| row[2])
+        .collect();
     let (printed, spoiled) = (run.printed, run.spoiled);
     let rules = run.rules.to_string_lossy();
     for (what, class) in [("printed", printed), ("spoiled", spoiled)] {
@@ -45,7 +46,7 @@ fn why(run: &Run, taken: &Taken) -> Option<String> {
         );
     }
     let lacking =
-        taken.store.chunks(OBJECT).map(|object| object[0]).find(|class| *class as usize > above.len());
+        taken.store.chunks(OBJECT_WIDTH).map(|object| object[0]).find(|class| *class as usize > above.len());
     lacking.map(|class| {
         format!("the store holds an object of class {class}, which {rules} does not declare; is it a store of these rules?")
     })

@@ -1,6 +1,7 @@
 //! Folders with rules and fleets, and what a call with them must print or say.
 
-use crate::typed::{folder, rules, Left};
+use crate::typed::{folder, Left};
+use second::notation::text as rules;
 
 /// Two labels of class 1, one of them spoiled (class 2).
 pub const LABELS: &str = "C 1 0, C 2 1, S, B 2 4, V 1, V 1, A 1, W 1, A 2, W 1, R 2 2, T";
@@ -14,8 +15,8 @@ pub fn site(name: &str, files: &[(&str, &str)]) -> String {
     let folder = folder().join(name);
     let _ = std::fs::remove_dir_all(&folder);
     std::fs::create_dir_all(&folder).unwrap();
-    for (name, text) in files {
-        std::fs::write(folder.join(name), rules(text)).unwrap();
+    for (name, program) in files {
+        std::fs::write(folder.join(name), rules(program)).unwrap();
     }
     folder.to_str().unwrap().to_string()
 }

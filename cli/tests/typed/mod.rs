@@ -54,8 +54,3 @@ pub fn file(name: &str, bytes: &[u8]) -> String {
     std::fs::write(&path, bytes).unwrap();
     path.to_str().unwrap().to_string()
 }
-
-/// Rules written with spaces for tabs and commas for line feeds.
-pub fn rules(text: &str) -> Vec<u8> {
-    text.split(',').map(|line| line.trim().replace(' ', "\t") + "\n").collect::<String>().into_bytes()
-}

@@ -9,8 +9,9 @@ use std::fs;
 use std::path::{Path, PathBuf};
 use std::process::Command;
 
-/// Modules of the second implementation that a copy needs not: what generates cases, and what asks them.
-const LEFT_OUT: [&str; 3] = ["generate", "services", "vectors"];
+/// Modules of the second implementation that a copy needs not: what generates cases, how they are written, and what asks
+/// them.
+const LEFT_OUT: [&str; 4] = ["generate", "notation", "services", "vectors"];
 
 /// A fault: its name and its changes.
 struct Fault {

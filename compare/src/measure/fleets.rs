@@ -2,6 +2,7 @@
 
 use super::{assert_same, left, times, Means, Measured, Table, JUNK, TURNS};
 use crate::load;
+use fickle::MOST_MODEL_BYTES;
 use second::fleet::LINE_WIDTH;
 use second::rows::{OBJECT_WIDTH, ROW_WIDTH};
 use second::services::{Fleet, Services};
@@ -12,8 +13,6 @@ const FLEETS: [(u32, usize, u32); 3] = [(10_000, 15, 2), (100_000, 15, 2), (10_0
 const MODELS: [u32; 3] = [100, 1_000, 10_000];
 /// Counted lines of a ranking.
 const LINES: [u32; 2] = [10_000, 100_000];
-/// The most bytes of a report's line.
-const REPORTED_MOST: usize = 44;
 /// Steps through models and costs that meet all of them in no order.
 const MODEL_STEP: u32 = 7_919;
 const COST_STEP: u32 = 31;
@@ -85,7 +84,7 @@ pub fn reports(all: &[Measured]) -> Means {
     let mut table = Table::new(&["report_fleet", "runs", "rows of each", "models"], "ms", all);
     for case in Case::all() {
         let fleet = case.fleet();
-        let mut report = vec![0; REPORTED_MOST * case.models as usize];
+        let mut report = vec![0; MOST_MODEL_BYTES * case.models as usize];
         let best = times(all, TURNS, 1, |one| assert!(one.report_fleet(&fleet, &mut report).is_ok()));
         let name = if case.equal { "equal rows" } else { "other rows in each run" };
         let numbers = [case.runs as usize, case.rows, case.models as usize].map(|number| number.to_string());
@@ -98,7 +97,7 @@ pub fn reports(all: &[Measured]) -> Means {
 pub fn ranks(all: &[Measured]) -> Means {
     let mut table = Table::new(&["rank_models", "models"], "ms", all);
     for (counts, models) in rankings() {
-        let mut report = vec![0; REPORTED_MOST * models as usize];
+        let mut report = vec![0; MOST_MODEL_BYTES * models as usize];
         let best = times(all, TURNS, 1, |one| assert!(one.rank_models(&counts, &mut report).is_ok()));
         let lines = format!("{} lines", counts.len() / LINE_WIDTH);
         table.line(&[&lines, &models.to_string()], &best, in_milliseconds);
@@ -109,12 +108,12 @@ pub fn ranks(all: &[Measured]) -> Means {
 /// Panics unless two implementations report and rank alike on all inputs of the benchmark.
 pub fn assert_fleets_agree(pair: [&dyn Services; 2]) {
     for case in Case::all() {
-        let (fleet, lent) = (case.fleet(), REPORTED_MOST * case.models as usize);
+        let (fleet, lent) = (case.fleet(), MOST_MODEL_BYTES * case.models as usize);
         let report = |one: &dyn Services| left(lent, JUNK as u8, |report| one.report_fleet(&fleet, report));
         assert_same("report_fleet", "a fleet", pair.map(report));
     }
     for (counts, models) in rankings() {
-        let lent = REPORTED_MOST * models as usize;
+        let lent = MOST_MODEL_BYTES * models as usize;
         let rank = |one: &dyn Services| left(lent, JUNK as u8, |report| one.rank_models(&counts, report));
         assert_same("rank_models", "counted lines", pair.map(rank));
     }

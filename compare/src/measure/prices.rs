@@ -2,18 +2,17 @@
 //! are signing numbers, and both conversions of all days.
 
 use super::{assert_same, left, times, Means, Measured, Table, JUNK, SHORT_CALLS, SHORT_ROUNDS, TURNS};
+use fickle::{LARGEST_NUMBER, MOST_PRICE_REPORT_BYTES};
 use second::services::{Date, Services};
 
 /// How many days there are, which is also how many signing numbers there are.
-const ALL: u32 = 65_536;
+const ALL: u32 = LARGEST_NUMBER + 1;
 /// Terms of the texts.
 const TERMS: [u32; 2] = [10, ALL];
 /// The model of all terms; a day within the month; and the month.
 const MODEL: u32 = 7;
 const DAY: u32 = 36_570;
 const MONTH: (u32, u32) = (2100, 2);
-/// The most bytes of a report.
-const REPORTED_MOST: usize = 558;
 /// Rounds of a long text, and of conversions.
 const ROUNDS: usize = 50;
 /// A step through signing numbers that meets all of them in no order.
@@ -55,7 +54,7 @@ pub fn prices(all: &[Measured]) -> Means {
             assert!(one.price_on_day(&terms, MODEL, DAY).is_ok_and(|price| price.is_some()))
         });
         table.line(&["price_on_day", &input], &best, micro);
-        let mut report = [0; REPORTED_MOST];
+        let mut report = [0; MOST_PRICE_REPORT_BYTES];
         let best = times(all, rounds, calls, |one| {
             assert!(one.report_prices(&terms, MODEL, MONTH, &mut report).is_ok_and(|length| length > 0))
         });
@@ -81,7 +80,9 @@ pub fn assert_prices_agree(pair: [&dyn Services; 2]) {
         let date = (MONTH.0, MONTH.1, 7);
         assert_same("price_on_date", "terms", pair.map(|one| one.price_on_date(&terms, MODEL, date)));
         let report = |one: &dyn Services| {
-            left(REPORTED_MOST, JUNK as u8, |report| one.report_prices(&terms, MODEL, MONTH, report))
+            left(MOST_PRICE_REPORT_BYTES, JUNK as u8, |report| {
+                one.report_prices(&terms, MODEL, MONTH, report)
+            })
         };
         assert_same("report_prices", "terms", pair.map(report));
     }

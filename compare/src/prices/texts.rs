@@ -1,10 +1,11 @@
 //! Generated texts of terms: overlapping ones of few models around a day, and every way in which a line can be wrong.
 
+use fickle::LARGEST_NUMBER;
 use second::random::Random;
 
 /// The largest number of a line, and how many there are: as many terms as can have signing numbers of their own.
-const MOST: u32 = 65_535;
-const ALL: usize = 65_536;
+const MOST: u32 = LARGEST_NUMBER;
+const ALL: usize = MOST as usize + 1;
 
 /// The days around a day.
 pub struct Region {

@@ -13,23 +13,23 @@ use lib.Dec.{eqb}
 use lib.ListN.{length, getD, set, length-set}
 use lib.Seq.{getD-set-same, getD-set-other}
 use Rattle.language.specs.Effects.{effect-of, join}
-use Rattle.bodies.proofs.Typing.{the-type}
 use Rattle.bodies.specs.declared.Typing.{Typing}
 use Rattle.bodies.specs.declared.Typing.the-variants.{Bool as bool-case, Class, Null, Refusal}
 use Rattle.bodies.specs.declared.Answer.{Answer}
 use Rattle.bodies.specs.declared.Sought.{Sought}
 use Rattle.bodies.specs.declared.Sought.the-variants.{Found, Missing}
 use Rattle.bodies.specs.Answers.{answer, case-of-number, with-current, current-in}
-use Rattle.bodies.specs.Tables.{Changed, Known, Applicable, root-in, applied, joined-slot}
-use Rattle.bodies.specs.Tables.{is-fitting, applied-slot}
+use Rattle.bodies.specs.Tables.{Changed, Known, Applicable, root-in, applied, joined-slot, is-fitting}
+use Rattle.bodies.specs.Tables.{applied-slot}
 use Rattle.bodies.specs.Nodes.{PreField, refusal, joined-case, field-in, changeable-in}
 use Rattle.bodies.specs.Acts.{can-change-in, changed-answer, number-after, PostChange, PreInvoke}
 use Rattle.bodies.specs.Acts.{put-answer, put-noted, put, put-classes, method-place, NoClass, PreMethod}
 use Rattle.bodies.specs.Acts.{joined-answer, chosen, PostChoice}
+use Rattle.bodies.specs.declared.Scope.{Scope}
+use Rattle.bodies.proofs.Typing.{the-type}
 use Rattle.bodies.proofs.Laws.{known-class}
 use Rattle.bodies.proofs.LineLaws.{refused-not}
 use Rattle.bodies.proofs.Halves.{with-again}
-use Rattle.bodies.specs.declared.Scope.{Scope}
 
 -- R: a refusal, and what is done
 module _ {R T S : List ℕ} {count at scope : ℕ} (r : Answer) (k t : ℕ) (k-is : k ≡ getD R (at * 4 + 1) 0)

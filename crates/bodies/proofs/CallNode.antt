@@ -11,27 +11,28 @@ use lib.ListN.{length, getD, set as replaced, length-set}
 use lib.Seq.{getD-set-same, getD-set-other}
 use Rattle.language.specs.Results.{Checked, accept, refuse, bind-checked}
 use Rattle.language.specs.Rows.{Q-call}
-use Rattle.language.specs.Tree.{bool, class, ExprType, known, null-type, Expr, Exprs, call}
-use Rattle.language.specs.Tree.{size, count as how-many, Class}
+use Rattle.language.specs.Tree.{Program, bool, class, ExprType, known, null-type, Expr, Exprs, call, size}
+use Rattle.language.specs.Tree.{count as how-many, Class}
 use Rattle.language.specs.World.{Method}
 use Rattle.language.specs.Effects.{join, apply-class}
 use Rattle.language.specs.Program.{world}
 use Rattle.language.specs.Environment.{Environment}
-use Rattle.language.specs.Typing.{Typed, TypedAll, typed, last-type, all-fit, apply-all, type-of}
-use Rattle.language.specs.Typing.{type-all}
+use Rattle.language.specs.Typing.{Typed, TypedAll, typed, last-type, all-fit, apply-all, type-of, type-all}
 use Rattle.language.specs.Encoded.{RowAt}
 use Rattle.language.specs.LookupClasses.{Notes, LooksUp, LooksUpAll}
 use Rattle.language.proofs.Classes as classes
+use Rattle.layout.specs.Held.{Headed}
+use Rattle.layout.specs.HeldLaws.{few, lower, parameters-few}
 use Rattle.bodies.specs.declared.Answer.{Answer}
 use Rattle.bodies.specs.declared.Scope.{Scope}
 use Rattle.bodies.specs.declared.Typing.{Typing}
 use Rattle.bodies.specs.declared.Typing.the-variants.{Class as class-case, Refusal}
 use Rattle.bodies.specs.Answers.{answer, answer-of, case-of-number, typing-case, is-refusal}
-use Rattle.bodies.specs.Tables.{Headed, Changed, applied, applied-slot}
+use Rattle.bodies.specs.Tables.{Changed, applied, applied-slot}
 use Rattle.bodies.specs.Nodes.{too-many-answer, no-method-for, refusal}
 use Rattle.bodies.specs.Acts.{all-fitting, method-place, method-line, parameter-count, PreMethod, Done}
-use Rattle.bodies.specs.Acts.{NoClass}
-use Rattle.bodies.specs.Acts.{PreInvoke, Invoked, no-class, no-method, other-count, unfit, done}
+use Rattle.bodies.specs.Acts.{NoClass, PreInvoke, Invoked, no-class, no-method, other-count, unfit}
+use Rattle.bodies.specs.Acts.{done}
 use Rattle.bodies.specs.Cycle.{Declared, AcceptedAll, Is, stored}
 use Rattle.bodies.proofs.ActLaws.{applicable-known}
 use Rattle.bodies.proofs.Worlds.{sound, applied-is}
@@ -41,8 +42,7 @@ use Rattle.bodies.proofs.Turns.{is-accepted, bind-refused, bind-accepte
 use Rattle.bodies.proofs.TypeNumbers.{type-number-case, case-known, applied-low, in-tables}
 use Rattle.bodies.proofs.Slots.{known-slots, applied-views}
 use Rattle.bodies.proofs.ThisKept.{types-count}
-use Rattle.bodies.proofs.MethodFound.{Called, fit-all, the-method, not-there}
-use Rattle.bodies.proofs.MethodFound.{few-there, pre-method}
+use Rattle.bodies.proofs.MethodFound.{Called, fit-all, the-method, not-there, pre-method}
 use Rattle.bodies.proofs.NodeTyping.{call-not, call-none, call-count, call-unfit, call-done}
 use Rattle.bodies.proofs.NodeTyping.{call-looks, call-arguments}
 
@@ -89,9 +89,11 @@ many-passed : (at : ℕ) (t : Typing) (q : Answer) → is-refusal (q .typing) �
 unfolding too-many-answer
 many-passed at t q e = rw e
 
-module _ {P : List Class} {R E T A M F : List ℕ} {count : ℕ} (h : Headed P R E T A M F count)
-    (short : length R ≤ 240000)
+module _ {p : Program} {R E T A M F : List ℕ} {count : ℕ} (h : Headed R E T A M F p count)
   where
+    abbrev P : List Class
+    P = p .classes
+
     pub pre-invoke : (m : ℕ) (es : Exprs) (at next lb : ℕ) (scope : Scope) (γ : Environment) (a : Typed)
         (b : TypedAll) (S C : List ℕ) (x : Answer)
         → RowAt R at Q-call m (how-many es) → m < 256
@@ -101,15 +103,15 @@ module _ {P : List Class} {R E T A M F : List ℕ} {count : ℕ} (h : Headed P R
         → x ≡ answered a → PreInvoke R T A M F S at scope (x .typing) (b .effect)
     pre-invoke m es at next lb scope γ a b S C x n lm tb ab ls lt da st ex =
         subst (λ (z : Answer). PreInvoke R T A M F S at scope (z .typing) (b .effect)) (sym ex) (record {
-          row = (n .within, omega (arith, n .within, short));
+          row = (n .within, omega (arith, n .within, h .here .short));
           scoped = ls;
           name = omega (arith, n .first, lm);
-          slots = λ k l. applicable-known (h .classes .few) (sound (h .classes) .long)
-              (λ j i. omega (arith, sound (h .classes) .roots j i, h .classes .few))
+          slots = λ k l. applicable-known (few h) (sound h .long)
+              (λ j i. omega (arith, sound h .roots j i, few h))
               (known-slots h (ab .views) ls k l);
-          receiver = λ c q. in-tables h (b .effect) c (type-low (a .type) h da c (case-known (a .type) c q));
+          receiver = λ c q. in-tables h (b .effect) c (type-low h (a .type) da c (case-known (a .type) c q));
           method = λ c i q z.
-              let l = applied-low h (b .effect) c (type-low (a .type) h da c (case-known (a .type) c q)) in
+              let l = applied-low h (b .effect) c (type-low h (a .type) da c (case-known (a .type) c q)) in
               let w = the-method h (applied T (b .effect) c) m l lm i
               (ap (λ (i : ℕ). method-place T (applied T (b .effect) c) i) (sym (n .first)) ∙ z) in
               subst (λ (j : ℕ). PreMethod R A M F S (scope .top) j i) (sym (n .second))
@@ -138,11 +140,11 @@ module _ {P : List Class} {R E T A M F : List ℕ} {count : ℕ} (h : Headed P R
         typed-class c t = case-known (a .type) c t
 
         low : (c : ℕ) → typing-case (a .type) ≡ class-case c → c ≤ count
-        low c t = type-low (a .type) h da c (typed-class c t)
+        low c t = type-low h (a .type) da c (typed-class c t)
 
         same : (c : ℕ) → typing-case (a .type) ≡ class-case c
             → applied T (b .effect) c ≡ apply-class (world P) (b .effect) c
-        same c t = applied-is (h .classes) (b .effect) c (low c t)
+        same c t = applied-is h (b .effect) c (low c t)
 
         at-world : (c : ℕ) → typing-case (a .type) ≡ class-case c → (o : Option Method)
             → world P .method (applied T (b .effect) c) m ≡ o
@@ -195,7 +197,7 @@ module _ {P : List Class} {R E T A M F : List ℕ} {count : ℕ} (h : Headed P R
             (at-world c t (some N) (w .found))
             (eq-eqb (length (b .types)) (length (N .parameters)) (counted w z)) f)
             (d .out ∙ ap₂ (λ (u : Typing) (v : ℕ). answer u (join (join (a .effect) (b .effect)) v))
-            (ap case-of-number (w .result-is) ∙ type-number-case (N .result) h (w .result) .0) (w .effect-is))
+            (ap case-of-number (w .result-is) ∙ type-number-case h (N .result) (w .result) .0) (w .effect-is))
             (record {
               views = applied-views h (N .effect) (ab .views) ls
                   (subst (λ (j : ℕ). Changed S S′ (scope .size) (λ k. applied-slot T j (getD S k 0)))
@@ -260,10 +262,10 @@ module _ {P : List Class} {R E T A M F : List ℕ} {count : ℕ} (h : Headed P R
             (out ∙ (ap (λ (z : ExprType). too-many-answer at (typing-case z) many) q
             ∙ many-class-refused at c many f))
         by-method b tb f c q (some N) w =
-            let lc = type-low (a .type) h da c q in
+            let lc = type-low h (a .type) da c q in
             let lk : apply-class (world P) (b .effect) c ≤ count =
-            omega (arith, lc, classes.apply-within P (h .classes .lower) (b .effect) c) in
-            let few = few-there h (apply-class (world P) (b .effect) c) m lk lm N w in
+            omega (arith, lc, classes.apply-within P (lower h) (b .effect) c) in
+            let few = parameters-few h (apply-class (world P) (b .effect) c) m N w in
             let many-types = types-count (world P) es (next + 1) (a .slots) b tb in
             is-refused 8 (at + 1) (call-count (world P) m e es (at + 1) la (next + 1) γ a b ta tb c q N w
             (ne-eqb (length (b .types)) (length (N .parameters)) (λ y. omega (arith, few, l, many-types, y))))

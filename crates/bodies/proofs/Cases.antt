@@ -4,13 +4,11 @@ use mathlib.Core.Bool.{Bool, true, false}
 use mathlib.Core.List.{List, [], _∷_}
 use mathlib.Core.Logic.{⊎-elim}
 use Prim.Native.Nat.{ℕ, suc, _+_, _*_, _≤_, _<_}
-use borrow.Author.Tests.{eq-eqb, ne-eqb, le-leb, lt-leb, lt-ltb, le-ltb}
-use borrow.Author.Tests.{eqb-false}
+use borrow.Author.Tests.{eq-eqb, ne-eqb, le-leb, lt-leb, lt-ltb, le-ltb, eqb-false}
 use types.Run.{OneOf}
 use denote.Enum.Declared.{tagOf}
 use lib.ListN.{getD, set}
 use lib.Dec.{eqb}
-use Rattle.bodies.proofs.Typing.{the-type}
 use Rattle.bodies.specs.declared.Typing.{Typing}
 use Rattle.bodies.specs.declared.Typing.the-variants.{Bool as bool-case, Class, Null, Refusal}
 use Rattle.bodies.specs.declared.Answer.{Answer}
@@ -19,9 +17,10 @@ use Rattle.bodies.specs.declared.Sought.the-variants.{Found, Missing}
 use Rattle.bodies.specs.Answers.{answer, case-of-number, is-refusal, current-in}
 use Rattle.bodies.specs.Tables.{PreNearest, nearest-from, is-fitting}
 use Rattle.bodies.specs.Nodes.{refusal, null-tested, not-class, joined-case, BothClasses, field-in}
-use Rattle.bodies.specs.Nodes.{field-place, field-row, created, slot-read, named-type}
-use Rattle.bodies.specs.Nodes.{casted, cast-answer, assigned, no-method-for, too-many-answer, got}
-use Rattle.bodies.specs.Nodes.{got-classes, found-answer, noted, changeable-in}
+use Rattle.bodies.specs.Nodes.{field-place, field-row, created, slot-read, named-type, casted}
+use Rattle.bodies.specs.Nodes.{cast-answer, assigned, no-method-for, too-many-answer, got, got-classes}
+use Rattle.bodies.specs.Nodes.{found-answer, noted, changeable-in}
+use Rattle.bodies.proofs.Typing.{the-type}
 
 module _ (at φ : ℕ) (t : Typing) (r : Answer) where
   pub null-bool : t ≡ bool-case → r ≡ refusal 9 at → r ≡ null-tested at t φ

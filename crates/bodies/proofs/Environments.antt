@@ -11,8 +11,7 @@ use Rattle.language.specs.Frames.{at-slot, with-slot, opened, closed, map-frame
 use Rattle.language.specs.Tree.{DeclaredType, type-number}
 use Rattle.language.specs.World.{World, is-declared-type}
 use Rattle.language.specs.Environment.{Slot, Environment, fresh-slot}
-use Rattle.language.specs.Typing.{join-slot, join-slots, join-this}
-use Rattle.language.specs.Typing.{join-environments}
+use Rattle.language.specs.Typing.{join-slot, join-slots, join-this, join-environments}
 use Rattle.bodies.specs.Answers.{numbers, slot-number, this-number, slot-of, absent}
 
 -- both types of every slot are declared

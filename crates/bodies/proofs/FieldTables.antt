@@ -9,13 +9,14 @@ use borrow.Author.Tests.{eq-eqb, ne-eqb}
 use lib.Dec.{eqb}
 use lib.ListN.{length, getD}
 use Rattle.language.specs.Lists.{nth, Never, inj, bind-option, choice, nth-lt}
-use Rattle.language.specs.Tree.{DeclaredType, type-number, Field, Class}
+use Rattle.language.specs.Tree.{Program, DeclaredType, type-number, Field, Class}
 use Rattle.language.specs.World.{place, field-type, is-declared-type}
 use Rattle.language.specs.Program.{world}
 use Rattle.language.specs.ClassTables.{stored-place}
+use Rattle.layout.specs.Held.{Headed}
+use Rattle.layout.specs.HeldLaws.{few-fields, fields}
 use Rattle.bodies.specs.declared.Sought.the-variants.{Found, Missing}
 use Rattle.bodies.specs.Answers.{sought-of}
-use Rattle.bodies.specs.Tables.{Headed}
 use Rattle.bodies.specs.Nodes.{field-in, field-place, field-row, PreField}
 
 place-in : (f i : ℕ) (fs : List Field) → place f fs ≡ some i → (x : Field) × (nth fs i ≡ some x)
@@ -31,11 +32,14 @@ place-in f i (x ∷ fs) e = go (eqb (x .name) f) (place f fs) refl e (λ j q. pl
     go false none q e rec = absurd (Never e)
     go false (some j) q e rec = let z : suc j ≡ i = inj e in rw (← z) (rec j q)
 
-module _ {P : List Class} {R E T A M F : List ℕ} {count : ℕ} (h : Headed P R E T A M F count) (c f : ℕ)
+module _ {p : Program} {R E T A M F : List ℕ} {count : ℕ} (h : Headed R E T A M F p count) (c f : ℕ)
     (l : c ≤ count)
     (m : f < 256) where
+  abbrev P : List Class
+  P = p .classes
+
   place-is : field-place T c f ≡ stored-place (place f (world P .fields c))
-  place-is = h .classes .tables .places c f (omega (arith, l, h .classes .counted)) m
+  place-is = h .classes .places c f (omega (arith, l, h .counted)) m
 
   record Placed (i : ℕ) (x : Field) (r : ℕ) : Type 0 where
     at-place : nth (world P .fields c) i ≡ some x
@@ -48,7 +52,7 @@ module _ {P : List Class} {R E T A M F : List ℕ} {count : ℕ} (h : Headed P R
   placed : (i : ℕ) → place f (world P .fields c) ≡ some i → (x : Field) × (r : ℕ) × Placed i x r
   placed i e =
       let p = place-in f i (world P .fields c) e in
-      let s = h .fields c i (p .0) l (p .1) in
+      let s = fields h c i (p .0) (p .1) in
       let q : field-place T c f ≡ suc i = place-is ∙ ap stored-place e in
       let u : c * 576 + (519 + suc i) ≡ c * 576 + 520 + i = omega arith in (
         p .0,
@@ -57,11 +61,11 @@ module _ {P : List Class} {R E T A M F : List ℕ} {count : ℕ} (h : Headed P R
           at-place = p .1;
           row = ap (λ (n : ℕ). getD T (c * 576 + (519 + n)) 0) q
               ∙ (ap (λ (n : ℕ). getD T n 0) u
-              ∙ h .classes .tables .rows c i (s .0) (omega (arith, l, h .classes .counted)) (s .1));
-          in-rows = s .2;
-          number = s .3;
-          declared = s .4;
-          few = omega (arith, nth-lt (world P .fields c) i (p .0) (p .1), h .few-fields c);
+              ∙ h .classes .rows c i (s .0) (omega (arith, l, h .counted)) (s .1));
+          in-rows = s .2 .line .within;
+          number = s .2 .line .first;
+          declared = s .3;
+          few = omega (arith, nth-lt (world P .fields c) i (p .0) (p .1), few-fields h c);
         },
       )
 
@@ -95,7 +99,7 @@ module _ {P : List Class} {R E T A M F : List ℕ} {count : ℕ} (h : Headed P R
 
   pub field-pre : PreField R T c f
   field-pre = record {
-    inside = omega (arith, l, h .classes .tables .long, h .classes .counted);
+    inside = omega (arith, l, h .classes .long, h .counted);
     name = m;
     found = go (place f (world P .fields c)) refl;
   }

@@ -10,15 +10,14 @@ use lib.Dec.{eqb}
 use lib.ListN.{length, getD, set, length-set}
 use lib.Seq.{getD-set-same, getD-set-other}
 use Rattle.language.specs.Effects.{member}
-use Rattle.classes.specs.Subclasses.{is-below}
 use Rattle.language.proofs.Lines.{less-or-same}
+use Rattle.classes.specs.Subclasses.{is-below}
 use Rattle.bodies.specs.declared.Typing.{Typing}
 use Rattle.bodies.specs.declared.Typing.the-variants.{Bool as bool-case, Class, Null, Refusal}
 use Rattle.bodies.specs.Tables.{PreNearest, Applicable, CaseIn, root-in, applied, joined-slot}
-use Rattle.bodies.specs.Tables.{is-fitting, applied-slot}
-use Rattle.bodies.specs.Tables.{nearest-from, applied-number, joined-number, Known, a-class, a-bool}
-use Rattle.bodies.specs.Tables.{an-absence}
-use Rattle.bodies.specs.Tables.{Changed, Saved, Swapped, PreNumbers, PreJoin}
+use Rattle.bodies.specs.Tables.{is-fitting, applied-slot, nearest-from, applied-number, joined-number}
+use Rattle.bodies.specs.Tables.{Known, a-class, a-bool, an-absence, Changed, Saved, Swapped, PreNumbers}
+use Rattle.bodies.specs.Tables.{PreJoin}
 use Rattle.bodies.specs.Answers.{current-in, with-current}
 
 pub applied-yes : (T : List ℕ) (φ k root : ℕ) (b : Bool) → root ≡ root-in T k → b ≡ member φ root → b ≡ true

@@ -10,20 +10,19 @@ use lib.Dec.{leb, ltb}
 use Rattle.language.specs.Results.{need-checked, accept-injective, need-checked-inv, require-inv, refuse}
 use Rattle.language.specs.Results.{require}
 use Rattle.language.specs.Frames.{at-slot}
-use Rattle.language.specs.Tree.{class, known, Class, literal, literal-true, literal-false}
-use Rattle.language.specs.Tree.{literal-null}
-use Rattle.language.specs.Tree.{slot, new}
+use Rattle.language.specs.Tree.{Program, class, known, Class, literal, literal-true, literal-false}
+use Rattle.language.specs.Tree.{literal-null, slot, new}
 use Rattle.language.specs.World.{World}
 use Rattle.language.specs.Program.{world, world-with}
 use Rattle.language.specs.Environment.{Slot, Environment}
 use Rattle.language.specs.Typing.{Typed, typed, type-of}
 use Rattle.language.specs.LookupClasses.{LooksUp}
 use Rattle.language.proofs.Lines.{le-or-less}
+use Rattle.layout.specs.Held.{Headed}
 use Rattle.bodies.specs.declared.Answer.{Answer}
 use Rattle.bodies.specs.declared.Typing.{Typing}
 use Rattle.bodies.specs.declared.Typing.the-variants.{Bool as bool-case, Null}
 use Rattle.bodies.specs.Answers.{answer, answer-of, case-of-number}
-use Rattle.bodies.specs.Tables.{Headed}
 use Rattle.bodies.specs.Nodes.{refusal, created, slot-read}
 use Rattle.bodies.specs.Cycle.{Views, Accepted, Is}
 use Rattle.bodies.proofs.Lists.{declared-test}
@@ -60,7 +59,10 @@ new-is P R c at γ e = rw e (go (leb c (length P)) refl)
     go true f = rw (declared-test c (length P) true f)
     go false f = rw (declared-test c (length P) false f)
 
-module _ {P : List Class} {R E T A M F : List ℕ} {count : ℕ} (h : Headed P R E T A M F count) where
+module _ {p : Program} {R E T A M F : List ℕ} {count : ℕ} (h : Headed R E T A M F p count) where
+  abbrev P : List Class
+  P = p .classes
+
   slot-reads : {γ : Environment} {S : List ℕ} {scope : ℕ} (k at : ℕ) → Views (world P) γ S scope
       → scope ≤ length S → getD R (at * 4 + 1) 0 ≡ k
       → slot-read R S at scope
@@ -77,7 +79,7 @@ module _ {P : List Class} {R E T A M F : List ℕ} {count : ℕ} (h : Headed P R
           (le-or-less scope k)
       go (some s) q =
           let w = slot-some h v l k s q in
-          let t = type-number-case (s .current) h (v .current k s q) in
+          let t = type-number-case h (s .current) (v .current k s q) in
           sym (read-there R S at scope _ k (sym e) (w .0) _ refl (λ z. t .1 (sym (w .1) ∙ z)) refl)
           ∙ ap (λ (x : Typing). answer x 0) (ap case-of-number (w .1) ∙ t .0)
 
@@ -97,7 +99,7 @@ module _ {P : List Class} {R E T A M F : List ℕ} {count : ℕ} (h : Headed P R
       → r ≡ created R count at → Is (world P) (new c) γ at scope S C r
   unfolding type-of LooksUp world world-with
   new-node-is {γ} {S} {C} {scope} c at r v e f = record {
-    out = f ∙ (ap (λ (n : ℕ). created R n at) (sym (h .classes .counted)) ∙ new-is P R c at γ e);
+    out = f ∙ (ap (λ (n : ℕ). created R n at) (sym (h .counted)) ∙ new-is P R c at γ e);
     accepted = λ a q. require-inv (world P .makes c) 4 (at + 1) _ q λ d w.
         subst (λ (x : Typed). Accepted (world P) (new c) γ at scope S C x) (accept-injective w)
         (record { views = v; declared = declared-known (class c) d; looks = tt });

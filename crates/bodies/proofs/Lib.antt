@@ -23,7 +23,6 @@ pub mod ChangeNode
 pub mod SetNode
 pub mod ChooseNode
 pub mod BlockNode
-pub mod Forms
 pub mod Placed
 pub mod Within
 pub mod MethodFound

@@ -14,11 +14,10 @@ use Rattle.language.proofs.Lines.{less-or-same}
 use Rattle.bodies.specs.declared.Typing.{Typing}
 use Rattle.bodies.specs.declared.Typing.the-variants.{Null}
 use Rattle.bodies.specs.declared.Answer.{Answer}
-use Rattle.bodies.specs.Answers.{answer, case-of-number, is-refusal}
+use Rattle.bodies.specs.Answers.{answer, case-of-number, is-refusal, fresh-in}
 use Rattle.bodies.specs.Tables.{is-fitting, CaseIn}
 use Rattle.bodies.specs.Nodes.{refusal}
 use Rattle.bodies.specs.Acts.{stored-case, all-fitting, names-type, opening, PostOpen}
-use Rattle.bodies.specs.Answers.{fresh-in}
 
 -- a stored argument
 pub stored-null : (n : ℕ) → n ≡ 65535 → Null ≡ stored-case n

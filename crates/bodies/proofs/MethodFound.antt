@@ -6,30 +6,33 @@ use mathlib.Core.List.{List, [], _∷_}
 use Prim.Native.Nat.{ℕ, zero, suc, _+_, _*_, _≤_, _<_}
 use native.Mathlib.Omega.{arith}
 use lib.ListN.{length, getD}
-use Rattle.language.specs.Lists.{nth, map-option, Never, inj, nth-some, nth-lt}
+use Rattle.language.specs.Lists.{nth, Never, inj, nth-some, nth-lt}
 use Rattle.language.specs.Rows.{P-parameter}
-use Rattle.language.specs.Tree.{DeclaredType, bool, class, ExprType, known, null-type, type-number, Class}
+use Rattle.language.specs.Tree.{Program, DeclaredType, bool, class, ExprType, known, null-type, type-number}
+use Rattle.language.specs.Tree.{Class}
 use Rattle.language.specs.World.{Method, is-declared-type}
 use Rattle.language.specs.ClassTables.{stored-place, method-number}
-use Rattle.language.specs.MethodTables.{PlacedMethod, placed-methods}
+use Rattle.language.specs.MethodTables.{placed-methods}
 use Rattle.language.specs.Program.{world}
 use Rattle.language.specs.Typing.{all-fit}
 use Rattle.language.specs.Encoded.{LinesAt, TypesAt}
 use Rattle.language.proofs.Lines.{line-at}
 use Rattle.language.proofs.Methods.{method-found}
 use Rattle.language.proofs.Nodes.{head}
+use Rattle.layout.specs.Found.{method-here, found-number, found-none}
+use Rattle.layout.specs.Headed.{method-headed, declared-nth}
+use Rattle.layout.specs.Held.{Headed}
 use Rattle.bodies.specs.declared.Typing.{Typing}
 use Rattle.bodies.specs.Answers.{case-number, case-of-number, typing-case}
-use Rattle.bodies.specs.Tables.{Headed, is-fitting}
+use Rattle.bodies.specs.Tables.{is-fitting}
 use Rattle.bodies.specs.Acts.{stored-case, all-fitting, method-place, method-line, parameter-count}
 use Rattle.bodies.specs.Acts.{PreMethod}
 use Rattle.bodies.specs.Cycle.{Declared, stored}
 use Rattle.bodies.proofs.TypeLines.{TypeAt}
 use Rattle.bodies.proofs.LineLaws.{case-same}
-use Rattle.bodies.proofs.Worlds.{not-255, fitting-is}
-use Rattle.bodies.proofs.Turns.{class-low, type-low, case-low}
+use Rattle.bodies.proofs.Worlds.{class-low, not-255, fitting-is}
+use Rattle.bodies.proofs.Turns.{type-low, case-low}
 use Rattle.bodies.proofs.TypeNumbers.{type-number-case, not-absent}
-use Rattle.bodies.proofs.Placed.{Here, Declares, each-at, here, declares}
 
 stored-some : (o : Option ℕ) (r : ℕ) → stored-place o ≡ suc r → o ≡ some r
 stored-some none r e = absurd (omega (arith, e))
@@ -39,15 +42,6 @@ stored-none : (o : Option ℕ) → stored-place o ≡ 0 → o ≡ none
 stored-none none e = refl
 stored-none (some i) e = absurd (omega (arith, e))
 
-of-number : (o : Option Method) (i : ℕ) → map-option (λ (N : Method). N .number) o ≡ some i
-    → (N : Method) × (o ≡ some N) × (N .number ≡ i)
-of-number none i e = absurd (Never e)
-of-number (some N) i e = (N, refl, inj e)
-
-of-none : (o : Option Method) → map-option (λ (N : Method). N .number) o ≡ none → o ≡ none
-of-none none e = refl
-of-none (some N) e = absurd (Never (sym e))
-
 stored-at : (ts : List ExprType) (i : ℕ) (t : ExprType) → nth ts i ≡ some t
     → getD (stored ts) i 0 ≡ case-number (typing-case t)
 unfolding stored nth
@@ -55,13 +49,16 @@ stored-at [] i t e = absurd (Never e)
 stored-at (u ∷ ts) zero t e = ap (λ (x : ExprType). case-number (typing-case x)) (inj e)
 stored-at (u ∷ ts) (suc i) t e = stored-at ts i t e
 
-module _ {P : List Class} {R E T A M F : List ℕ} {count : ℕ} (h : Headed P R E T A M F count) where
+module _ {p : Program} {R E T A M F : List ℕ} {count : ℕ} (h : Headed R E T A M F p count) where
+  abbrev P : List Class
+  P = p .classes
+
   stored-is : (t : ExprType) → Declared (world P) t
       → stored-case (case-number (typing-case t)) ≡ typing-case t
   unfolding stored-case case-of-number
   stored-is (known bool) d = refl
-  stored-is (known (class c)) d = let l = class-low c h (d .class-in c refl) in
-      rw (not-absent h c l, not-255 (h .classes) c l)
+  stored-is (known (class c)) d = let l = class-low h c (d .class-in c refl) in
+      rw (not-absent h c l, not-255 h c l)
   stored-is null-type d = refl
 
   -- the arguments against the parameters
@@ -81,17 +78,11 @@ module _ {P : List Class} {R E T A M F : List ℕ} {count : ℕ} (h : Headed P R
       ap stored-case (ap (λ (x : ℕ). getD S x 0) (sym q) ∙ f 0 (omega arith)) ∙ stored-is t (d 0 t refl) in
       ap₂ (λ (x : Bool) (y : Bool). x && y)
       (ap₂ (λ (x : Typing) (y : ℕ). is-fitting A x y) w (n .0 .first)
-      ∙ fitting-is (h .classes) t u (type-low t h (d 0 t refl)) (g 0 u refl))
+      ∙ fitting-is h t u (type-low h t (d 0 t refl)) (g 0 u refl))
       (fit-all S ts us (from + 1) (row + 1) (omega (arith, e))
       (λ i l. let z : from + 1 + i ≡ from + suc i = omega arith in ap (λ (x : ℕ). getD S x 0) z
       ∙ f (suc i) (omega arith))
       (n .1) (λ i v x. d (suc i) v x) (λ i v x. g (suc i) v x))
-
-  -- A method of the list, in rows, with its types declared.
-  pub method-here : (i : ℕ) (m : PlacedMethod) → nth (placed-methods P) i ≡ some m
-      → Here R E m × Declares P m
-  method-here i m e =
-      (each-at (here R E P (h .layout) (h .in-form)) i m e, each-at (declares P (h .passes)) i m e)
 
   -- What the tables lead to under name m in class k: the method of number i.
   pub record Called (k m i : ℕ) : Type 0 where
@@ -115,7 +106,8 @@ module _ {P : List Class} {R E T A M F : List ℕ} {count : ℕ} (h : Headed P R
       let x = f .placed in
       let there : nth (placed-methods P) i ≡ some x =
       subst (λ (j : ℕ). nth (placed-methods P) j ≡ some x) n (f .there) in
-      let w = method-here i x there in
+      let w = method-here (h .here) i x there in
+      let d = method-headed P tt (h .passes) x (w .in-class) in
       let row : method-line M i ≡ x .row = h .methods .rows i x there in
       let same = ap length (f .parameters) in
       let low = nth-lt (placed-methods P) i x there in
@@ -124,42 +116,34 @@ module _ {P : List Class} {R E T A M F : List ℕ} {count : ℕ} (h : Headed P R
         found = e;
         inside = omega (arith, low, h .methods .long);
         effect-inside = omega (arith, low, h .methods .long-effects);
-        line = omega (arith, row, w .0 .layout .line .within);
+        line = omega (arith, row, w .at .line .within);
         result-is = ap (λ (r : ℕ). getD R (r * 4 + 1) 0) row
-            ∙ (w .0 .layout .line .first ∙ ap type-number (sym (f .result)));
+            ∙ (w .at .line .first ∙ ap type-number (sym (f .result)));
         counted = h .methods .parameters i x there ∙ sym same;
         effect-is = h .methods .effects i x there ∙ sym (f .effect);
         lines = subst (λ (r : ℕ). TypesAt P-parameter R (N .parameters) (r + 1)) (sym row)
             (subst (λ (ts : List DeclaredType). TypesAt P-parameter R ts (x .row + 1)) (sym (f .parameters))
-            (w .0 .layout .parameters));
-        after-lines = omega (arith, row, same, head (x .declaration .body) (w .0 .layout .body) .row);
+            (w .at .parameters));
+        after-lines = omega (arith, row, same, head (x .declaration .body) (w .at .body) .row);
         result = subst (λ (t : DeclaredType). is-declared-type (world P) t ≡ true) (sym (f .result))
-            (w .1 .result);
+            (d .result);
         parameters = λ j t q.
-            w .1 .parameters j t (sym (ap (λ (l : List DeclaredType). nth l j) (f .parameters))
+            declared-nth P (d .parameters) j t (sym (ap (λ (l : List DeclaredType). nth l j) (f .parameters))
             ∙ q);
       }
 
   module _ (k m : ℕ) (lk : k ≤ count) (lm : m < 256) where
     method-is : method-place T k m ≡ stored-place (method-number P k m)
     method-is = let q : k * 576 + (256 + m) ≡ k * 576 + 256 + m = omega arith in
-        ap (λ (x : ℕ). getD T x 0) q ∙ h .classes .tables .methods k m (omega (arith, h .classes .counted)) lm
+        ap (λ (x : ℕ). getD T x 0) q ∙ h .classes .methods k m (omega (arith, h .counted)) lm
 
     pub the-method : (i : ℕ) → method-place T k m ≡ suc i → Called k m i
-    unfolding method-number
     the-method i e =
-        let w = of-number (world P .method k m) i (stored-some (method-number P k m) i (sym method-is ∙ e)) in
+        let w = found-number P k m i (stored-some (method-number P k m) i (sym method-is ∙ e)) in
         called k m i (w .0) (w .1) (w .2)
 
     pub not-there : method-place T k m ≡ 0 → world P .method k m ≡ none
-    unfolding method-number
-    not-there e = of-none (world P .method k m) (stored-none (method-number P k m) (sym method-is ∙ e))
-
-    pub few-there : (N : Method) → world P .method k m ≡ some N → length (N .parameters) ≤ 8
-    few-there N e =
-        let f = method-found P k m N e in
-        let w = method-here (N .number) (f .placed) (f .there) in
-        omega (arith, ap length (f .parameters), w .0 .form .few)
+    not-there e = found-none P k m (stored-none (method-number P k m) (sym method-is ∙ e))
 
   pub pre-method : (S : List ℕ) (top n k m i : ℕ) (ts : List ExprType) → Called k m i
       → length ts ≡ n → top + n ≤ length S → ((i : ℕ) → i < n → getD S (top + i) 0 ≡ getD (stored ts) i 0)
@@ -175,11 +159,11 @@ module _ {P : List Class} {R E T A M F : List ℕ} {count : ℕ} (h : Headed P R
           let t = nth-some ts i (omega (arith, en)) in
           case-same (length A) (stored-case (getD S (top + i) 0)) (typing-case (t .0))
           (ap stored-case (st i l ∙ stored-at ts i (t .0) (t .1)) ∙ stored-is (t .0) (td i (t .0) (t .1)))
-          (case-low (t .0) h (td i (t .0) (t .1)));
+          (case-low h (t .0) (td i (t .0) (t .1)));
       types = λ j l ne.
           let t = nth-some (g .method .parameters) j (omega (arith, q)) in
           let z = line-at (TypeAt P-parameter R) (g .method .parameters) (method-line M i + 1) (g .lines) j
           (t .0) (t .1) .first in
-          omega (arith, z, type-number-case (t .0) h (g .parameters j (t .0) (t .1)) .2 (λ y. ne (z ∙ y)));
+          omega (arith, z, type-number-case h (t .0) (g .parameters j (t .0) (t .1)) .2 (λ y. ne (z ∙ y)));
     };
   }

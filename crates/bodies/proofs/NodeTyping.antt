@@ -14,9 +14,9 @@ use Rattle.language.specs.Tree.{set, call, choose, block, size}
 use Rattle.language.specs.World.{Method, World, field-type}
 use Rattle.language.specs.Effects.{join, effect-of, apply-class}
 use Rattle.language.specs.Environment.{Slot, Environment, fresh-slot}
-use Rattle.language.specs.Typing.{Typed, TypedAll, typed, last-type}
-use Rattle.language.specs.Typing.{need-class, not-bool, all-fit, join-types, join-environments, fits}
-use Rattle.language.specs.Typing.{can-change, apply-all, after-change, locals-declared, type-of, type-all}
+use Rattle.language.specs.Typing.{Typed, TypedAll, typed, last-type, need-class, not-bool, all-fit}
+use Rattle.language.specs.Typing.{join-types, join-environments, fits, can-change, apply-all, after-change}
+use Rattle.language.specs.Typing.{locals-declared, type-of, type-all}
 use Rattle.language.specs.LookupClasses.{Notes, LooksUp, LooksUpAll}
 use Rattle.bodies.specs.Answers.{typing-case}
 use Rattle.bodies.specs.Acts.{NoClass}

@@ -18,21 +18,20 @@ use Rattle.language.specs.LookupClasses.{LooksUp}
 use Rattle.language.specs.WellFormed.{Each, each-nil, each-cons}
 use Rattle.language.specs.MethodTables.{PlacedMethod, placed-methods}
 use Rattle.language.specs.Layout.{start-row}
-use Rattle.bodies.proofs.Typing.{the-type}
 use Rattle.bodies.specs.declared.Typing.the-variants.{Refusal}
 use Rattle.bodies.specs.declared.Answer.{Answer}
 use Rattle.bodies.specs.declared.Verdict.{Verdict}
 use Rattle.bodies.specs.declared.Verdict.the-variants.{Accepted, Refused}
-use Rattle.bodies.specs.Answers.{verdict-of, is-refusal}
+use Rattle.bodies.specs.Answers.{verdict-of, is-refusal, absent, half}
 use Rattle.bodies.specs.Cycle.{Pre, Post, Is}
-use Rattle.bodies.specs.Whole.{body-of, body-at, environment-of, type-numbered, MethodFacts, Spacious}
-use Rattle.bodies.specs.Whole.{PreMethodBody, PostMethodBody, Ready, BodiesDone}
+use Rattle.bodies.specs.Whole.{body-of, body-at, environment-of, type-numbered, PreMethodBody}
+use Rattle.bodies.specs.Whole.{PostMethodBody, BodiesReady, BodiesDone}
+use Rattle.bodies.proofs.Typing.{the-type}
 use Rattle.bodies.proofs.Typings.{looks-frame}
 use Rattle.bodies.proofs.Turns.{accepted-of, refused-of}
 use Rattle.bodies.proofs.Placed.{Apart, apart, type-placed, typed-placed, by-classes}
 use Rattle.bodies.proofs.Methods.{not-passed, not-refusal}
 use Rattle.bodies.proofs.Starts.{start-scope, start-pre, start-is}
-use Rattle.bodies.specs.Answers.{absent, half}
 
 -- ---- the methods from a number on
 
@@ -133,7 +132,7 @@ pub record Going (R E T A M F S C S′ C′ : List ℕ) (count many start width 
   pub slots-long : length S′ ≡ length S
   pub classes-long : length C′ ≡ length C
   pub few : i ≤ many
-  pub walk : (p : Program) → Ready R E T A M F S count many start width p → Walk p C′ i
+  pub walk : (w : BodiesReady R E T A M F S count many start width) → Walk (w .p) C′ i
 
 pub going-start : {R E T A M F S C : List ℕ} {count many start width : ℕ}
     → Going R E T A M F S C S C count many start width 0
@@ -141,12 +140,15 @@ going-start {C = C} = record {
   slots-long = refl;
   classes-long = refl;
   few = omega arith;
-  walk = λ p r. walk-start p C;
+  walk = λ r. walk-start (r .p) C;
 }
 
 module _ {R E T A M F S C S′ C′ : List ℕ} {count many start width i : ℕ}
     (w : Going R E T A M F S C S′ C′ count many start width i) where
-  module _ (low : i < many) {p : Program} (r : Ready R E T A M F S count many start width p) where
+  module _ (low : i < many) (r : BodiesReady R E T A M F S count many start width) where
+    abbrev p : Program
+    p = r .p
+
     -- The method at hand.
     record AtMethod : Type 0 where
       from : ℕ
@@ -155,41 +157,39 @@ module _ {R E T A M F S C S′ C′ : List ℕ} {count many start width i : ℕ}
       left : Left p C′ i from (m ∷ ms)
 
     at-method : AtMethod
-    at-method = go (w .walk p r .rest) (w .walk p r .left)
+    at-method = go (w .walk r .rest) (w .walk r .left)
       where
-        go : (ms : List PlacedMethod) → Left p C′ i (w .walk p r .from) ms → AtMethod
+        go : (ms : List PlacedMethod) → Left p C′ i (w .walk r .from) ms → AtMethod
         go [] l = absurd (omega (arith, l .many, r .counted))
-        go (m ∷ ms) l = record { from = w .walk p r .from; m = m; ms = ms; left = l }
-
-    method-facts : MethodFacts R E T A M F count width i (r .depth) (p .classes) (at-method .m)
-    method-facts = let there = first-there (at-method .left) in
-        record { headed = r .headed; there = there; within-body = r .within .methods i (at-method .m) there }
-
-    space : Spacious R S′ width (r .depth)
-    space = record {
-      slots = omega (arith, r .slots, w .slots-long);
-      rows = r .layout .short;
-    }
+        go (m ∷ ms) l = record { from = w .walk r .from; m = m; ms = ms; left = l }
 
     pub going-method : PreMethodBody R E T A M F S′ count width i
     going-method = record {
-      P = p .classes;
+      p = p;
       m = at-method .m;
       depth = r .depth;
-      facts = method-facts;
-      space = space;
+      headed = r .headed;
+      there = first-there (at-method .left);
+      space = let s = r .space in record {
+        wide = s .wide;
+        deep = s .deep;
+        arguments = s .arguments;
+        slots = omega (arith, s .slots, w .slots-long);
+      };
     }
 
   module _ (low : i < many) {S″ C″ : List ℕ} {v : Verdict}
       (l : PostMethodBody R E T A M F S′ C′ S″ C″ count width i v) where
     pub going-on : v ≡ Accepted → Going R E T A M F S C S″ C″ count many start width (i + 1)
+    unfolding going-method at-method
     going-on e = record {
       slots-long = l .slots-long ∙ w .slots-long;
       classes-long = l .classes-long ∙ w .classes-long;
       few = omega arith;
-      walk = λ p r.
+      walk = λ r.
+          let p = r .p in
           let a = at-method low r in
-          let is = l .is (p .classes) (a .m) (r .depth) (method-facts low r) (space low r) in
+          let is = l .is (going-method low r) in
           let t = accepted-pass (type-numbered (world (p .classes)) i (a .m)) (sym e ∙ is .out) in
           record {
             from = a .m .row + method-lines (a .m .declaration);
@@ -204,11 +204,13 @@ module _ {R E T A M F S C S′ C′ : List ℕ} {count many start width i : ℕ}
 
     pub going-refused : (n j : ℕ) → v ≡ Refused n j
         → BodiesDone R E T A M F S C C″ count many start width (Refused n j)
+    unfolding going-method at-method
     going-refused n j e = record {
       long = l .classes-long ∙ w .classes-long;
-      are = λ p r.
+      are = λ r.
+          let p = r .p in
           let a = at-method low r in
-          let is = l .is (p .classes) (a .m) (r .depth) (method-facts low r) (space low r) in
+          let is = l .is (going-method low r) in
           let z = bodies-refused p n j (first-refused (a .left) n j
           (refused-pass (type-numbered (world (p .classes)) i (a .m)) (sym e ∙ is .out))) in
           record { out = sym (ap verdict-of z); looks = λ x. not-passed n j z x };
@@ -231,13 +233,13 @@ module _ {R E T A M F S C S′ C′ : List ℕ} {count many start width i : ℕ}
     whole : (C″ : List ℕ) → length C″ ≡ length C′ → ((r : ℕ) → r < from → getD C″ r 0 ≡ getD C′ r 0)
         → Each (Looks (world (p .classes)) C″) (placed-methods (p .classes))
 
-  ended : {p : Program} → Ready R E T A M F S count many start width p → Ended p
+  ended : (r : BodiesReady R E T A M F S count many start width) → Ended (r .p)
   unfolding type-placed Apart
-  ended {p} r = go (w .walk p r .rest) (w .walk p r .left)
+  ended r = go (w .walk r .rest) (w .walk r .left)
     where
-      go : (ms : List PlacedMethod) → Left p C′ i (w .walk p r .from) ms → Ended p
+      go : (ms : List PlacedMethod) → Left (r .p) C′ i (w .walk r .from) ms → Ended (r .p)
       go [] l = record {
-        from = w .walk p r .from;
+        from = w .walk r .from;
         before = l .rows;
         same = l .same;
         whole = λ C″ n k. l .whole C″ n k each-nil;
@@ -245,14 +247,14 @@ module _ {R E T A M F S C S′ C′ : List ℕ} {count many start width i : ℕ}
       go (m ∷ ms) l = absurd (omega (arith, l .many, r .counted, last))
 
   module _ {S₁ : List ℕ} (e₁ : length S₁ ≡ length S′) (z₁ : getD S₁ 0 0 ≡ absent * half + absent) where
-    pub going-start-pre : {p : Program} → Ready R E T A M F S count many start width p
-        → Pre R E T A M F S₁ C′ (start + 1) (start-scope count width)
+    pub going-start-pre : BodiesReady R E T A M F S count many start width
+        → Pre R E T A M F S₁ (start + 1) (start-scope count width)
     going-start-pre r = start-pre r (e₁ ∙ w .slots-long) z₁
 
     module _ {S₂ C₂ : List ℕ} {a : Answer}
         (q : Post R E T A M F S₁ C′ S₂ C₂ (start + 1) (start-scope count width) a) where
-      start-of : {p : Program} → Ready R E T A M F S count many start width p
-          → Is (world (p .classes)) (p .start) start-environment (start-row p + 1) 1 S₂ C₂ a
+      start-of : (r : BodiesReady R E T A M F S count many start width)
+          → Is (world (r .p .classes)) (r .p .start) start-environment (start-row (r .p) + 1) 1 S₂ C₂ a
       start-of r = start-is r (e₁ ∙ w .slots-long) z₁ q
 
       pub going-long : length C₂ ≡ length C
@@ -262,7 +264,8 @@ module _ {R E T A M F S C S′ C′ : List ℕ} {count many start width i : ℕ}
           → BodiesDone R E T A M F S C C₂ count many start width (Refused x y)
       going-start-refused x y e = record {
         long = going-long;
-        are = λ p r.
+        are = λ r.
+            let p = r .p in
             refused-of (type-of (world (p .classes)) (p .start) (start-row p + 1 + 1) start-environment)
             (start-of r .out) (ap is-refusal e) λ n l f o.
             let u : Refusal x y ≡ Refusal n l = sym e ∙ ap (λ (u : Answer). u .typing) o in
@@ -280,7 +283,8 @@ module _ {R E T A M F S C S′ C′ : List ℕ} {count many start width i : ℕ}
       unfolding placed-methods
       going-accepted g = record {
         long = going-long;
-        are = λ p r.
+        are = λ r.
+            let p = r .p in
             accepted-of (type-of (world (p .classes)) (p .start) (start-row p + 1 + 1) start-environment)
             (start-of r .out) (not-refusal (a .typing) g) λ t f o.
             let z = start-passed p (ended r .same) t f in

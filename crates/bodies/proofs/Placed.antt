@@ -1,37 +1,22 @@
 -- The methods of a program where they stand: what holds of each, their order, and the pass one by one. Assumes nothing.
 use mathlib.Core.Path.{_≡_, refl, sym, ap, ap₂, subst, _∙_}
-use mathlib.Core.Bool.{true}
 use mathlib.Core.Option.{some}
 use mathlib.Core.List.{List, [], _∷_, _++_, map, map-append}
 use Prim.Native.Nat.{ℕ, zero, suc, _+_, _≤_}
 use native.Mathlib.Omega.{arith}
 use lib.ListN.{length}
-use Rattle.language.specs.Limits.{of-check}
 use Rattle.language.specs.Lists.{nth, Never, inj, nth-map}
 use Rattle.language.specs.Results.{accept, refuse, Pass, passed, bind-checked}
-use Rattle.language.specs.Tree.{DeclaredType, Declaration, method-lines, methods-lines, Class, class-lines}
-use Rattle.language.specs.Tree.{classes-lines}
-use Rattle.language.specs.World.{World, is-declared-type}
+use Rattle.language.specs.Tree.{Declaration, method-lines, methods-lines, Class, class-lines, classes-lines}
+use Rattle.language.specs.World.{World}
 use Rattle.language.specs.Effects.{effect-of-all}
-use Rattle.language.specs.Program.{world, effect-in, methods-of}
-use Rattle.language.specs.Headings.{check-methods, check-classes, headings}
+use Rattle.language.specs.Program.{effect-in, methods-of}
 use Rattle.language.specs.Typing.{type-method, type-methods, type-classes}
-use Rattle.language.specs.WellFormed.{Each, each-nil, each-cons, MethodInForm, ClassInForm}
+use Rattle.language.specs.WellFormed.{Each, each-nil, each-cons}
 use Rattle.language.specs.MethodTables.{PlacedMethod, placed-in, placed-from, placed-methods}
-use Rattle.language.specs.Layout.{EachMethod, EachClass, MethodAt, ClassAt, methods-from-row}
-use Rattle.bodies.proofs.Forms.{heads-method, heads-class}
+use Rattle.language.specs.Layout.{EachMethod, EachClass, methods-from-row}
 
 -- ---- what holds of each
-
-pub each-at : {A : Type 0} {Q : A → Type 0} {l : List A} → Each Q l → (i : ℕ) (a : A) → nth l i ≡ some a → Q a
-unfolding nth
-each-at each-nil i a e = absurd (Never e)
-each-at (each-cons {a = b} h hs) zero a e = let z : b ≡ a = inj e in rw (← z) h
-each-at (each-cons h hs) (suc i) a e = each-at hs i a e
-
-each-append : {A : Type 0} {Q : A → Type 0} {l r : List A} → Each Q l → Each Q r → Each Q (l ++ r)
-each-append each-nil k = k
-each-append (each-cons h hs) k = each-cons h (each-append hs k)
 
 each-split : {A : Type 0} {Q : A → Type 0} (l r : List A) → Each Q (l ++ r) → Each Q l × Each Q r
 each-split [] r h = (each-nil, h)
@@ -39,62 +24,6 @@ each-split (a ∷ l) r (each-cons h hs) = let w = each-split l r hs in (each-con
 
 each-head : {A : Type 0} {Q : A → Type 0} {a : A} {l : List A} → Each Q (a ∷ l) → Q a × Each Q l
 each-head (each-cons x y) = (x, y)
-
--- A method in rows, within the limits of form.
-module _ (R E : List ℕ) where
-  pub record Here (m : PlacedMethod) : Type 0 where
-    pub layout : MethodAt R E (m .declaration) (m .row)
-    pub form : MethodInForm of-check (m .declaration)
-
-  here-in : (k r : ℕ) (ds : List Declaration) → EachMethod (λ k m r. MethodAt R E m r) ds k r
-      → Each (MethodInForm of-check) ds → Each Here (placed-in k r ds)
-  unfolding EachMethod placed-in
-  here-in k r [] l f = each-nil
-  here-in k r (d ∷ ds) l f = each-cons (record { layout = l .0; form = each-head f .0 })
-      (here-in k (r + method-lines d) ds (l .1) (each-head f .1))
-
-  here-from : (k r : ℕ) (cs : List Class) → EachClass (ClassAt R E) cs k r → Each (ClassInForm of-check) cs
-      → Each Here (placed-from k r cs)
-  unfolding EachClass placed-from
-  here-from k r [] l f = each-nil
-  here-from k r (c ∷ cs) l f =
-      each-append (here-in k (methods-from-row r c) (c .methods) (l .0 .methods) (each-head f .0 .methods))
-      (here-from (suc k) (r + class-lines c) cs (l .1) (each-head f .1))
-
-  pub here : (P : List Class) → EachClass (ClassAt R E) P 1 0 → Each (ClassInForm of-check) P
-      → Each Here (placed-methods P)
-  unfolding placed-methods
-  here P l f = here-from 1 0 P l f
-
--- A method whose types are declared, of a class that is there.
-module _ (P : List Class) where
-  pub record Declares (m : PlacedMethod) : Type 0 where
-    pub owner : m .owner ≤ length P
-    pub result : is-declared-type (world P) (m .declaration .result) ≡ true
-    pub parameters : (i : ℕ) (t : DeclaredType) → nth (m .declaration .parameters) i ≡ some t
-        → is-declared-type (world P) t ≡ true
-
-  declares-in : (k r super : ℕ) (before : List Declaration) (l : ℕ) (ds : List Declaration) → k ≤ length P
-      → check-methods of-check P super before l ds ≡ passed → Each Declares (placed-in k r ds)
-  unfolding placed-in
-  declares-in k r super before l [] o h = each-nil
-  declares-in k r super before l (d ∷ ds) o h = let w = heads-method P super before l d ds h in
-      each-cons (record { owner = o; result = w .0; parameters = w .1 })
-      (declares-in k (r + method-lines d) super (d ∷ before) (l + method-lines d) ds o (w .2))
-
-  declares-from : (k r l : ℕ) (cs : List Class) → k + length cs ≤ suc (length P)
-      → check-classes of-check P k l cs ≡ passed → Each Declares (placed-from k r cs)
-  unfolding placed-from
-  declares-from k r l [] o h = each-nil
-  declares-from k r l (c ∷ cs) o h = let w = heads-class P k l c cs h in
-      each-append
-      (declares-in k (r + 1 + length (c .fields)) (c .super) [] (l + 1 + length (c .fields)) (c .methods)
-      (omega arith) (w .0))
-      (declares-from (suc k) (r + class-lines c) (l + class-lines c) cs (omega arith) (w .1))
-
-  pub declares : headings of-check P ≡ passed → Each Declares (placed-methods P)
-  unfolding placed-methods headings
-  declares h = declares-from 1 0 1 P (omega arith) h
 
 -- ---- their declarations
 

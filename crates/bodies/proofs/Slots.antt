@@ -6,26 +6,28 @@ use Prim.Native.Nat.{ℕ, zero, suc, _≤_, _<_}
 use native.Mathlib.Omega.{arith}
 use lib.ListN.{length, getD, take, length-map}
 use lib.Seq.{ext-getD, getD-take, length-take-le}
+use mathlib.Core.Bool.{true}
 use Rattle.language.specs.Lists.{nth, Never, nth-lt, nth-some}
 use Rattle.language.specs.Frames.{at-slot}
-use Rattle.language.specs.Tree.{DeclaredType, bool, class, type-number, Class}
+use Rattle.language.specs.Tree.{Program, DeclaredType, bool, class, type-number, Class}
 use Rattle.language.specs.World.{World, is-declared-type}
 use Rattle.language.specs.Program.{world}
 use Rattle.language.specs.Environment.{Slot, Environment, with-type}
 use Rattle.language.specs.Typing.{apply-slot, apply-all}
+use Rattle.language.specs.Effects.{apply}
+use Rattle.layout.specs.Held.{Headed}
+use Rattle.layout.specs.HeldLaws.{few}
 use Rattle.bodies.specs.Answers.{numbers, this-number, absent, slot-of, current-in, slot-number}
-use Rattle.bodies.specs.Tables.{Headed, Changed, Known, a-class, a-bool, an-absence, applied-number}
+use Rattle.bodies.specs.Answers.{with-current, declared-in, half, fresh-in}
+use Rattle.bodies.specs.Tables.{Changed, Known, a-class, a-bool, an-absence, applied-number}
+use Rattle.bodies.specs.Tables.{applied-slot}
 use Rattle.bodies.specs.Cycle.{Views}
+use Rattle.bodies.proofs.Worlds.{class-low}
 use Rattle.bodies.proofs.Lists.{number-at}
-use Rattle.bodies.proofs.Turns.{class-low}
 use Rattle.bodies.proofs.TypeNumbers.{type-number-case, apply-number, apply-declared}
 use Rattle.bodies.proofs.Environments.{Fine, fine-of, fine-at, fine-map, numbers-map, getD-map}
-use Rattle.bodies.specs.Tables.{applied-slot}
-use Rattle.bodies.specs.Answers.{with-current, declared-in, half, fresh-in}
-use mathlib.Core.Bool.{true}
-use Rattle.bodies.proofs.Halves.{current-slot, with-slot, fresh-slot-of}
 use Rattle.bodies.proofs.Environments.{fresh-number}
-use Rattle.language.specs.Effects.{apply}
+use Rattle.bodies.proofs.Halves.{current-slot, with-slot, fresh-slot-of}
 
 -- from the numbers to the environment, and back
 module _ (W : World) where
@@ -85,11 +87,14 @@ module _ {W : World} {γ : Environment} {S : List ℕ} {scope : ℕ} (v : Views 
     slot-none k e m = let h = numbers-none γ k e (omega (arith, views-long)) in
         (h .0, ap current-in (views-at k m ∙ h .1))
 
-module _ {P : List Class} {R E T A M F : List ℕ} {count : ℕ} (h : Headed P R E T A M F count) where
+module _ {p : Program} {R E T A M F : List ℕ} {count : ℕ} (h : Headed R E T A M F p count) where
+  abbrev P : List Class
+  P = p .classes
+
   -- the number of a declared type is below half
   pub type-small : (t : DeclaredType) → is-declared-type (world P) t ≡ true → type-number t < half
   type-small bool d = omega arith
-  type-small (class c) d = omega (arith, class-low c h d, h .classes .few)
+  type-small (class c) d = omega (arith, class-low h c d, few h)
 
   -- the number of a slot's current type
   pub slot-some : {γ : Environment} {S : List ℕ} {scope : ℕ} (v : Views (world P) γ S scope)
@@ -103,20 +108,18 @@ module _ {P : List Class} {R E T A M F : List ℕ} {count : ℕ} (h : Headed P R
         (type-small (s .current) (v .current k s e)),
   )
 
--- the number of a slot that is no `this` is bool's or a class's
-pub slot-low : {P : List Class} {R E T A M F : List ℕ} {count : ℕ} {γ : Environment} {S : List ℕ} {scope : ℕ}
-    → Headed P R E T A M F count → Views (world P) γ S scope → scope ≤ length S
-    → (k : ℕ) → (k ≡ 0 → ⊥) → k < scope → (current-in (getD S k 0) ≡ 255 → ⊥) → current-in (getD S k 0) ≤ 64
-slot-low {P} {γ = γ} {S} {scope} h v l k z m n = go (at-slot γ k) refl
-  where
-    go : (o : Option Slot) → at-slot γ k ≡ o → current-in (getD S k 0) ≤ 64
-    go none e = absurd (z (slot-none v l k e m .0))
-    go (some s) e =
-        let w = slot-some h v l k s e in
-        let t = type-number-case (s .current) h (v .current k s e) in
-        omega (arith, w .1, t .2 (λ y. n (w .1 ∙ y)))
+  -- the number of a slot that is no `this` is bool's or a class's
+  pub slot-low : {γ : Environment} {S : List ℕ} {scope : ℕ} → Views (world P) γ S scope → scope ≤ length S
+      → (k : ℕ) → (k ≡ 0 → ⊥) → k < scope → (current-in (getD S k 0) ≡ 255 → ⊥) → current-in (getD S k 0) ≤ 64
+  slot-low {γ} {S} {scope} v l k z m n = go (at-slot γ k) refl
+    where
+      go : (o : Option Slot) → at-slot γ k ≡ o → current-in (getD S k 0) ≤ 64
+      go none e = absurd (z (slot-none v l k e m .0))
+      go (some s) e =
+          let w = slot-some v l k s e in
+          let t = type-number-case h (s .current) (v .current k s e) in
+          omega (arith, w .1, t .2 (λ y. n (w .1 ∙ y)))
 
-module _ {P : List Class} {R E T A M F : List ℕ} {count : ℕ} (h : Headed P R E T A M F count) where
   -- the number of any slot
   pub known-slots : {γ : Environment} {S : List ℕ} {scope : ℕ} → Views (world P) γ S scope → scope ≤ length S
       → (k : ℕ) → k < scope → Known count (current-in (getD S k 0))
@@ -126,11 +129,11 @@ module _ {P : List Class} {R E T A M F : List ℕ} {count : ℕ} (h : Headed P R
           → Known count (type-number t)
       of-type s e bool q = a-bool
       of-type s e (class c) q =
-          a-class (class-low c h (ap (is-declared-type (world P)) (sym q) ∙ v .current k s e))
+          a-class (class-low h c (ap (is-declared-type (world P)) (sym q) ∙ v .current k s e))
 
       go : (o : Option Slot) → at-slot γ k ≡ o → Known count (current-in (getD S k 0))
       go none e = subst (Known count) (sym (slot-none v l k e m .1)) an-absence
-      go (some s) e = subst (Known count) (sym (slot-some h v l k s e .1)) (of-type s e (s .current) refl)
+      go (some s) e = subst (Known count) (sym (slot-some v l k s e .1)) (of-type s e (s .current) refl)
 
   -- the numbers of fresh slots
   pub fresh-numbers : (ts : List DeclaredType)
@@ -139,7 +142,7 @@ module _ {P : List Class} {R E T A M F : List ℕ} {count : ℕ} (h : Headed P R
   fresh-numbers ts d j l =
       let t = nth-some ts j l in
       ap fresh-in (number-at type-number ts j (t .0) (t .1))
-      ∙ (fresh-slot-of (type-number (t .0)) (type-small h (t .0) (d j (t .0) (t .1)))
+      ∙ (fresh-slot-of (type-number (t .0)) (type-small (t .0) (d j (t .0) (t .1)))
       ∙ sym (number-at fresh-number ts j (t .0) (t .1)))
 
   applied-absent : (φ : ℕ) → applied-slot T φ (slot-of absent absent) ≡ slot-of absent absent
@@ -152,13 +155,13 @@ module _ {P : List Class} {R E T A M F : List ℕ} {count : ℕ} (h : Headed P R
       → slot-number (with-type t s) ≡ with-current (slot-number s) (type-number t)
   with-type-number s d t e =
       sym (with-slot (type-number (s .declared)) (type-number (s .current)) (type-number t)
-      (type-small h (s .current) d) (type-small h t e))
+      (type-small (s .current) d) (type-small t e))
 
   -- a slot's current type in its number
   pub current-is : (s : Slot) → is-declared-type (world P) (s .current) ≡ true
       → type-number (s .current) ≡ current-in (slot-number s)
   current-is s d =
-      sym (current-slot (type-number (s .declared)) (type-number (s .current)) (type-small h (s .current) d))
+      sym (current-slot (type-number (s .declared)) (type-number (s .current)) (type-small (s .current) d))
 
   applied-number-slot : (φ : ℕ) (s : Slot) → is-declared-type (world P) (s .current) ≡ true
       → slot-number (apply-slot (world P) φ s) ≡ applied-slot T φ (slot-number s)

@@ -9,15 +9,13 @@ use lib.Dec.{eqb}
 use Rattle.language.specs.Lists.{map-option}
 use Rattle.language.specs.Results.{accept, accept-injective, bind-checked-inv, need-checked-inv, require-inv}
 use Rattle.language.specs.Frames.{at-slot, with-slot, opened}
-use Rattle.language.specs.Tree.{class, ExprType, known, Expr, literal, slot}
-use Rattle.language.specs.Tree.{is-null, get, cast, new, change, assign, set, call, choose, block, Exprs, nil}
-use Rattle.language.specs.Tree.{cons, size, count}
+use Rattle.language.specs.Tree.{class, ExprType, known, Expr, literal, slot, is-null, get, cast, new, change}
+use Rattle.language.specs.Tree.{assign, set, call, choose, block, Exprs, nil, cons, size, count}
 use Rattle.language.specs.World.{World, field-type, is-declared}
 use Rattle.language.specs.Effects.{effect-of, apply-class}
 use Rattle.language.specs.Environment.{Slot, Environment, fresh-slot, with-type}
-use Rattle.language.specs.Typing.{Typed, TypedAll, typed, not-bool}
-use Rattle.language.specs.Typing.{fits, all-fit, join-types, join-this, apply-slot, apply-all, can-change}
-use Rattle.language.specs.Typing.{locals-declared, type-of, type-all}
+use Rattle.language.specs.Typing.{Typed, TypedAll, typed, not-bool, fits, all-fit, join-types, join-this}
+use Rattle.language.specs.Typing.{apply-slot, apply-all, can-change, locals-declared, type-of, type-all}
 use Rattle.bodies.proofs.Typings.{class-inv}
 use Rattle.bodies.proofs.Environments.{has}
 

@@ -5,105 +5,69 @@ use mathlib.Core.Bool.{true, false, false≢true}
 use mathlib.Core.List.{List}
 use Prim.Native.Nat.{ℕ, zero, suc, _+_, _-_, _*_, _≤_, _<_}
 use native.Mathlib.Omega.{arith}
-use borrow.Author.Tests.{leb-true, le-leb}
 use lib.ListN.{length, getD, take}
 use lib.Seq.{ext-getD, getD-take, length-take-le}
 use Rattle.language.specs.Results.{Checked, accept, refuse, bind-checked, accept≢refuse, accept-injective}
-use Rattle.language.specs.Tree.{DeclaredType, bool, class, ExprType, known, null-type, Class, Expr, Exprs}
-use Rattle.language.specs.Tree.{size}
+use Rattle.language.specs.Tree.{Program, DeclaredType, bool, class, ExprType, known, null-type, Expr, Exprs}
+use Rattle.language.specs.Tree.{size, count as how-many}
 use Rattle.language.specs.World.{World, is-declared-type}
-use Rattle.language.specs.Program.{world, world-with}
+use Rattle.language.specs.Program.{world}
 use Rattle.language.specs.Environment.{Environment}
 use Rattle.language.specs.Typing.{Typed, type-of}
-use Rattle.language.specs.Encoded.{Encoded, EncodedAll}
 use Rattle.language.specs.LookupClasses.{LooksUp}
+use Rattle.language.specs.Limits.{of-check}
+use Rattle.language.specs.Rows.{code}
+use Rattle.language.proofs.Nodes.{letter-of, head}
+use Rattle.layout.specs.Held.{Headed}
+use Rattle.layout.specs.NodeForms.{of-width, FormParts, FormsParts, form-parts, forms-parts}
 use Rattle.bodies.specs.declared.Answer.{Answer}
 use Rattle.bodies.specs.declared.Scope.{Scope}
 use Rattle.bodies.specs.declared.Typing.the-variants.{Refusal}
 use Rattle.bodies.specs.Answers.{answer, answer-of, typing-case, is-refusal}
-use Rattle.bodies.specs.Tables.{Headed, CaseIn}
-use Rattle.bodies.specs.Cycle.{Limited, LimitedAll, Views, Room, Kept, Pre, Post, Declared, Accepted}
-use Rattle.bodies.specs.Cycle.{Is, PreList, raised}
+use Rattle.bodies.specs.Tables.{CaseIn}
+use Rattle.bodies.specs.Cycle.{Given, GivenAll, Views, Room, Kept, Pre, Post, Declared, Accepted, Is}
+use Rattle.bodies.specs.Cycle.{PreList, raised}
+use Rattle.bodies.proofs.Worlds.{class-low}
 use Rattle.bodies.proofs.Typings.{looks-frame}
-use Rattle.language.specs.Rows.{code}
-use Rattle.language.proofs.Nodes.{letter-of, head}
 
 -- ---- what is given of an expression, and of several in a row
 
-pub record Given (R E T A M F S C : List ℕ) (at : ℕ) (scope : Scope) (P : List Class) (e : Expr)
-    (γ : Environment)
-    (d : ℕ) : Type 0 where
-  pub headed : Headed P R E T A M F (scope .count)
-  pub encoded : Encoded R E e at
-  pub limited : Limited (scope .width) e (scope .size) d
-  pub views : Views (world P) γ S (scope .size)
-  pub room : Room R S scope d
+module _ {R E T A M F S : List ℕ} {at : ℕ} {scope : Scope} where
+  abbrev pub pre-of : {p : Program} {e : Expr} {γ : Environment} {d : ℕ}
+      → Given R E T A M F S at scope p e γ d → Pre R E T A M F S at scope
+  pre-of {p} {e} {γ} {d} g = record { p = p; e = e; γ = γ; d = d; given = g }
 
-pub record GivenAll (R E T A M F S C : List ℕ) (at : ℕ) (scope : Scope) (P : List Class) (es : Exprs)
-    (γ : Environment) (d : ℕ) : Type 0 where
-  pub headed : Headed P R E T A M F (scope .count)
-  pub encoded : EncodedAll R E es at
-  pub limited : LimitedAll (scope .width) es (scope .size) d
-  pub views : Views (world P) γ S (scope .size)
-  pub room : Room R S scope d
+  abbrev pub list-pre : {p : Program} {es : Exprs} {γ : Environment} {d n : ℕ} → n ≡ how-many es
+      → GivenAll R E T A M F S at scope p es γ d → PreList R E T A M F S at scope n
+  list-pre {p} {es} {γ} {d} m g = record { p = p; es = es; γ = γ; d = d; many = m; given = g }
 
-module _ {R E T A M F S C : List ℕ} {at : ℕ} {scope : Scope} where
-  pub given-of : (p : Pre R E T A M F S C at scope)
-      → Given R E T A M F S C at scope (p .P) (p .e) (p .γ) (p .d)
-  given-of p = record {
-    headed = p .headed;
-    encoded = p .encoded;
-    limited = p .limited;
-    views = p .views;
-    room = p .room;
-  }
-
-  pub pre-of : {P : List Class} {e : Expr} {γ : Environment} {d : ℕ}
-      → Given R E T A M F S C at scope P e γ d → Pre R E T A M F S C at scope
-  pre-of {P} {e} {γ} {d} g =
-      record {
-        P = P;
-        e = e;
-        γ = γ;
-        d = d;
-        headed = g .headed;
-        encoded = g .encoded;
-        limited = g .limited;
-        views = g .views;
-        room = g .room;
-      }
-
-  pub given-all-of : {n : ℕ} (p : PreList R E T A M F S C at scope n)
-      → GivenAll R E T A M F S C at scope (p .P) (p .es) (p .γ) (p .d)
-  given-all-of p = record {
-    headed = p .headed;
-    encoded = p .encoded;
-    limited = p .limited;
-    views = p .views;
-    room = p .room;
-  }
-
-  pub post-is : {S′ C′ : List ℕ} {r : Answer} {P : List Class} {e : Expr} {γ : Environment} {d : ℕ}
+  pub post-is : {C S′ C′ : List ℕ} {r : Answer} {p : Program} {e : Expr} {γ : Environment} {d : ℕ}
       → Post R E T A M F S C S′ C′ at scope r
-      → Given R E T A M F S C at scope P e γ d → Is (world P) e γ at (scope .size) S′ C′ r
-  post-is {P = P} {e} {γ} {d} p g = p .is P e γ d (g .headed) (g .encoded) (g .limited) (g .views) (g .room)
+      → Given R E T A M F S at scope p e γ d → Is (world (p .classes)) e γ at (scope .size) S′ C′ r
+  post-is q g = q .is (pre-of g)
 
-  pub post-of : {S′ C′ : List ℕ} {r : Answer} → Kept S S′ C C′ at (getD E at 0) (scope .width) (scope .top)
-      → ((P : List Class) (e : Expr) (γ : Environment) (d : ℕ) → Given R E T A M F S C at scope P e γ d
-      → Is (world P) e γ at (scope .size) S′ C′ r)
+  pub post-of : {C S′ C′ : List ℕ} {r : Answer} → Kept S S′ C C′ at (getD E at 0) (scope .width) (scope .top)
+      → ((p : Program) (e : Expr) (γ : Environment) (d : ℕ) → Given R E T A M F S at scope p e γ d
+      → Is (world (p .classes)) e γ at (scope .size) S′ C′ r)
       → Post R E T A M F S C S′ C′ at scope r
-  post-of k f = record {
-    kept = k;
-    is = λ P e γ d h n l v m.
-        f P e γ d (record { headed = h; encoded = n; limited = l; views = v; room = m });
-  }
+  post-of k f = record { kept = k; is = λ w. f (w .p) (w .e) (w .γ) (w .d) (w .given) }
+
+  -- what its form tells of a node and of a list
+  pub parts : {p : Program} {e : Expr} {γ : Environment} {d : ℕ} → Given R E T A M F S at scope p e γ d
+      → FormParts (of-width (scope .width)) d (scope .size) e
+  parts {e = e} g = form-parts (of-width (scope .width)) e (g .in-form)
+
+  pub all-parts : {p : Program} {es : Exprs} {γ : Environment} {d : ℕ}
+      → GivenAll R E T A M F S at scope p es γ d
+      → FormsParts (of-width (scope .width)) d (scope .size) es
+  all-parts {es = es} g = forms-parts (of-width (scope .width)) es (g .in-form)
 
   -- the node's row
-  pub in-row : (p : Pre R E T A M F S C at scope)
-      → (at * 4 + 3 < length R) × (at < length E) × (getD R (at * 4) 0 ≡ code (letter-of (p .e)))
+  pub in-row : (pre : Pre R E T A M F S at scope)
+      → (at * 4 + 3 < length R) × (at < length E) × (getD R (at * 4) 0 ≡ code (letter-of (pre .e)))
       × (at < 60000)
-  in-row p = let h = head (p .e) (p .encoded) in
-      (h .row, h .in-ends, h .letter, omega (arith, h .row, p .room .rows))
+  in-row pre = let h = head (pre .e) (pre .given .encoded) in
+      (h .row, h .in-ends, h .letter, omega (arith, h .row, pre .given .headed .here .short))
 
 -- ---- what stays
 
@@ -170,37 +134,39 @@ one-level width (suc d) l = let z : suc d - 1 ≡ d = omega arith in
     level-sum w d = omega arith
 
 -- room for what comes next
-pub room-next : {R S S′ : List ℕ} {scope : Scope} {d : ℕ} (scope′ : Scope) (d′ : ℕ)
-    → Room R S scope d
+pub room-next : {S S′ : List ℕ} {scope : Scope} {d : ℕ} (scope′ : Scope) (d′ : ℕ)
+    → Room S scope d
     → length S′ ≡ length S
-    → 1 ≤ scope′ .size → scope′ .size ≤ scope′ .width → scope′ .width ≤ scope′ .top
-    → scope′ .top + scope′ .width * d′ ≤ scope .top + scope .width * d → Room R S′ scope′ d′
-room-next scope′ d′ m a u v w x = record {
+    → 1 ≤ scope′ .size → scope′ .size ≤ scope′ .width → of-check .parameters ≤ scope′ .width
+    → scope′ .width ≤ scope′ .top
+    → scope′ .top + scope′ .width * d′ ≤ scope .top + scope .width * d → Room S′ scope′ d′
+room-next scope′ d′ m a u v y w x = record {
   this = u;
   scoped = v;
+  arguments = y;
   above = w;
   room = omega (arith, m .room, a, x);
-  rows = m .rows;
 }
 
 -- n slots more are kept below the top for one level less
-pub room-raised : {R S S′ : List ℕ} {scope : Scope} {d : ℕ} (n : ℕ) → Room R S scope d
-    → length S′ ≡ length S → n ≤ scope .width → 1 ≤ d → Room R S′ (raised scope n) (d - 1)
+pub room-raised : {S S′ : List ℕ} {scope : Scope} {d : ℕ} (n : ℕ) → Room S scope d
+    → length S′ ≡ length S → n ≤ scope .width → 1 ≤ d → Room S′ (raised scope n) (d - 1)
 room-raised {scope = scope} {d} n m a l o =
-    room-next (raised scope n) (d - 1) m a (m .this) (m .scoped) (omega (arith, m .above))
+    room-next (raised scope n) (d - 1) m a (m .this) (m .scoped) (m .arguments) (omega (arith, m .above))
     (omega (arith, one-level (scope .width) d o))
 
-pub room-child : {R S : List ℕ} {scope : Scope} {d : ℕ} → Room R S scope d → 1 ≤ d
-    → Room R S scope (d - 1)
-room-child {scope = scope} {d} m l = room-next scope (d - 1) m refl (m .this) (m .scoped) (m .above)
+pub room-child : {S : List ℕ} {scope : Scope} {d : ℕ} → Room S scope d → 1 ≤ d
+    → Room S scope (d - 1)
+room-child {scope = scope} {d} m l =
+    room-next scope (d - 1) m refl (m .this) (m .scoped) (m .arguments) (m .above)
     (omega (arith, one-level (scope .width) d l))
 
-pub room-kept : {R S C S′ C′ : List ℕ} {scope : Scope} {d from to width top : ℕ} → Room R S scope d
-    → Kept S S′ C C′ from to width top → Room R S′ scope d
+pub room-kept : {S C S′ C′ : List ℕ} {scope : Scope} {d from to width top : ℕ} → Room S scope d
+    → Kept S S′ C C′ from to width top → Room S′ scope d
 room-kept {scope = scope} {d} m k =
-    room-next scope d m (k .slots-long) (m .this) (m .scoped) (m .above) (omega arith)
+    room-next scope d m (k .slots-long) (m .this) (m .scoped) (m .arguments) (m .above) (omega arith)
 
-pub room-slots : {R S : List ℕ} {scope : Scope} {d : ℕ} → Room R S scope d → scope .size ≤ length S
+pub room-slots : {S : List ℕ} {scope : Scope} {d : ℕ} → Room S scope d → scope .size ≤ length S
 room-slots m = omega (arith, m .room, m .above, m .scoped)
 
 -- ---- the slots in scope
@@ -232,27 +198,15 @@ declared-known bool h = declared-bool
 declared-known {W} (class k) h = record { class-in = λ c e. let z : k ≡ c = cc in rw (← z) h }
 
 -- a declared class's number is in the tables
-pub class-low : {P : List Class} {R E T A M F : List ℕ} {count : ℕ} (c : ℕ) → Headed P R E T A M F count
-    → is-declared-type (world P) (class c) ≡ true → c ≤ count
-unfolding world world-with
-class-low {P} c h e = omega (arith, leb-true c (length P) e, h .classes .counted)
+module _ {p : Program} {R E T A M F : List ℕ} {count : ℕ} (h : Headed R E T A M F p count) where
+  pub type-low : (t : ExprType) → Declared (world (p .classes)) t → (c : ℕ) → t ≡ known (class c) → c ≤ count
+  type-low t d c e = class-low h c (d .class-in c e)
 
-pub low-class : {P : List Class} {R E T A M F : List ℕ} {count : ℕ} (c : ℕ) → Headed P R E T A M F count
-    → c ≤ count
-    → is-declared-type (world P) (class c) ≡ true
-unfolding world world-with
-low-class {P} c h l = le-leb c (length P) (omega (arith, h .classes .counted))
-
-pub type-low : {P : List Class} {R E T A M F : List ℕ} {count : ℕ} (t : ExprType) → Headed P R E T A M F count
-    → Declared (world P) t → (c : ℕ) → t ≡ known (class c) → c ≤ count
-type-low t h d c e = class-low c h (d .class-in c e)
-
-pub case-low : {P : List Class} {R E T A M F : List ℕ} {count : ℕ} (t : ExprType) → Headed P R E T A M F count
-    → Declared (world P) t → CaseIn (length A) (typing-case t)
-case-low (known bool) h d = tt
-case-low (known (class c)) h d =
-    omega (arith, class-low c h (d .class-in c refl), h .classes .tables .long-above, h .classes .counted)
-case-low null-type h d = tt
+  pub case-low : (t : ExprType) → Declared (world (p .classes)) t → CaseIn (length A) (typing-case t)
+  case-low (known bool) d = tt
+  case-low (known (class c)) d =
+      omega (arith, class-low h c (d .class-in c refl), h .classes .long-above, h .counted)
+  case-low null-type d = tt
 
 -- ---- answers
 

@@ -10,14 +10,12 @@ use lib.ListN.{length, getD}
 use Rattle.language.specs.Lists.{nth}
 use Rattle.language.specs.Results.{Checked, accept, refuse, bind-checked, bind-checked-inv, accept≢refuse}
 use Rattle.language.specs.Results.{accept-injective}
-use Rattle.language.specs.Tree.{null-type, Class, Expr, Exprs, cons, size, sizes}
-use Rattle.language.specs.Tree.{count as how-many}
+use Rattle.language.specs.Tree.{null-type, Program, Expr, Exprs, cons, size, sizes, count as how-many}
 use Rattle.language.specs.World.{World}
 use Rattle.language.specs.Effects.{join, apply-expr}
 use Rattle.language.specs.Program.{world}
 use Rattle.language.specs.Environment.{Environment}
 use Rattle.language.specs.Typing.{Typed, TypedAll, typed, type-of, type-all}
-use Rattle.language.specs.Encoded.{EncodedAll}
 use Rattle.language.specs.LookupClasses.{LooksUp}
 use Rattle.language.proofs.Lines.{less-or-same}
 use Rattle.language.proofs.Nodes.{Head}
@@ -26,44 +24,43 @@ use Rattle.bodies.specs.declared.Scope.{Scope}
 use Rattle.bodies.specs.declared.Typing.the-variants.{Null}
 use Rattle.bodies.specs.Answers.{answer, answer-of, case-number, is-refusal}
 use Rattle.bodies.specs.Tables.{Applicable, Known, applied-number}
-use Rattle.bodies.specs.Cycle.{raised, Pre, Post, PreList, AcceptedAll}
-use Rattle.bodies.specs.Cycle.{PostArguments, PostStore, stored}
+use Rattle.bodies.specs.Cycle.{Given, GivenAll, raised, Pre, Post, PreList, AcceptedAll, PostArguments}
+use Rattle.bodies.specs.Cycle.{PostStore, stored}
 use Rattle.bodies.proofs.EffectLaws.{join-assoc, join-none}
 use Rattle.bodies.proofs.Laws.{known-same}
 use Rattle.bodies.proofs.TypeNumbers.{applied-case}
 use Rattle.bodies.proofs.Waiting.{applied-none, applied-join, known-applied, known-case}
 use Rattle.bodies.proofs.Waiting.{known-applicable}
-use Rattle.bodies.proofs.Turns.{Given, GivenAll, pre-of, given-all-of, room-next, views-same}
-use Rattle.bodies.proofs.Turns.{bind-refused}
+use Rattle.bodies.proofs.Turns.{pre-of, list-pre, room-next, views-same, bind-refused}
 use Rattle.bodies.proofs.TurnsNodes.{Did, did, failed, after-row, row-of}
-use Rattle.bodies.proofs.TurnsLists.{none-accepted, by-nil, by-cons, list-first, list-rest, list-pre}
-use Rattle.bodies.proofs.TurnsLists.{both, cons-accepted, cons-refused, all-cons}
-use Rattle.bodies.proofs.TurnsLists.{given-all, encoded-first, encoded-rest, first-after}
+use Rattle.bodies.proofs.TurnsLists.{none-accepted, by-nil, by-list, list-first, list-rest, both}
+use Rattle.bodies.proofs.TurnsLists.{cons-accepted, cons-refused, all-cons, first-after}
 
 -- an argument has room below the room of all
-lower-top : {R E T A M F S C : List ℕ} {at : ℕ} {scope : Scope} {P : List Class} {e : Expr} {γ : Environment}
-    {d : ℕ} (i n : ℕ) → i ≤ n → scope .width ≤ scope .top → Given R E T A M F S C at (raised scope n) P e γ d
-    → Given R E T A M F S C at (raised scope i) P e γ d
+lower-top : {R E T A M F S : List ℕ} {at : ℕ} {scope : Scope} {p : Program} {e : Expr} {γ : Environment}
+    {d : ℕ} (i n : ℕ) → i ≤ n → scope .width ≤ scope .top → Given R E T A M F S at (raised scope n) p e γ d
+    → Given R E T A M F S at (raised scope i) p e γ d
 lower-top {scope = scope} {d = d} i n m l g = record {
   headed = g .headed;
   encoded = g .encoded;
-  limited = g .limited;
+  in-form = g .in-form;
   views = g .views;
-  room = room-next (raised scope i) d (g .room) refl (g .room .this) (g .room .scoped) (omega arith)
+  room = room-next (raised scope i) d (g .room) refl (g .room .this) (g .room .scoped) (g .room .arguments)
+      (omega arith)
       (omega arith);
 }
 
 -- What the arguments that are left come to: the definition's answer. Where they are accepted, their effect is
 -- applied to the types of the i that wait, and their own types follow.
-pub record Comes (P : List Class) (T S S′ C′ : List ℕ) (at : ℕ) (scope : Scope) (i left φ : ℕ) (r : Answer)
+pub record Comes (W : World) (T S S′ C′ : List ℕ) (at : ℕ) (scope : Scope) (i left φ : ℕ) (r : Answer)
     (γ : Environment) (es : Exprs) : Type 0 where
-  pub is : r ≡ answer-of (bind-checked (type-all (world P) es (at + 1) γ) λ b. typed null-type (b .slots)
+  pub is : r ≡ answer-of (bind-checked (type-all W es (at + 1) γ) λ b. typed null-type (b .slots)
       (join φ (b .effect)))
-  pub accepted : (b : TypedAll) → type-all (world P) es (at + 1) γ ≡ accept b
-      → AcceptedAll (world P) es γ at (scope .size) S′ C′ b
-  pub waited : (b : TypedAll) → type-all (world P) es (at + 1) γ ≡ accept b → (k : ℕ) → k < i
+  pub accepted : (b : TypedAll) → type-all W es (at + 1) γ ≡ accept b
+      → AcceptedAll W es γ at (scope .size) S′ C′ b
+  pub waited : (b : TypedAll) → type-all W es (at + 1) γ ≡ accept b → (k : ℕ) → k < i
       → getD S′ (scope .top + k) 0 ≡ applied-number T (b .effect) (getD S (scope .top + k) 0)
-  pub own : (b : TypedAll) → type-all (world P) es (at + 1) γ ≡ accept b → (k : ℕ) → k < left
+  pub own : (b : TypedAll) → type-all W es (at + 1) γ ≡ accept b → (k : ℕ) → k < left
       → getD S′ (scope .top + i + k) 0 ≡ getD (stored (b .types)) k 0
 
 -- What typing the arguments that are left keeps, and what they come to.
@@ -73,11 +70,10 @@ pub record PostLeft (R E T A M F S C S′ C′ : List ℕ) (at : ℕ) (scope : S
   pub classes-long : length C′ ≡ length C
   pub between : (k : ℕ) → scope .width ≤ k → k < scope .top → getD S′ k 0 ≡ getD S k 0
   pub before : (k : ℕ) → k < at → getD C′ k 0 ≡ getD C k 0
-  pub after : (es : Exprs) → left ≡ how-many es → EncodedAll R E es at → (k : ℕ) → at + sizes es ≤ k
+  pub after : (ls : PreList R E T A M F S at (raised scope n) left) (k : ℕ) → at + sizes (ls .es) ≤ k
       → getD C′ k 0 ≡ getD C k 0
-  pub out : (P : List Class) (es : Exprs) (γ : Environment) (d : ℕ) → left ≡ how-many es
-      → GivenAll R E T A M F S C at (raised scope n) P es γ d
-      → Comes P T S S′ C′ at scope i left φ r γ es
+  pub out : (ls : PreList R E T A M F S at (raised scope n) left)
+      → Comes (world (ls .p .classes)) T S S′ C′ at scope i left φ r (ls .γ) (ls .es)
 
 -- an effect so far is joined to that of an argument, then to those of the rest
 argument-out : (W : World) (es : Exprs) (l : ℕ) (a : Typed) (φ : ℕ)
@@ -104,14 +100,17 @@ left-none {T = T} {S = S} {C} {at} {scope} {n} {i} {left} {φ} {r} z e = record 
   classes-long = refl;
   between = λ k l m. refl;
   before = λ k l. refl;
-  after = λ es m g k l. refl;
-  out = λ P es γ d m g. by-nil es left m z (Comes P T S S C at scope i left φ r γ) (record {
-    is = e ∙ ap (answer Null) (sym (join-none φ));
-    accepted = λ b q. none-accepted (world P) γ at (scope .size) S C b (g .views) q;
-    waited = λ b q k l. sym (ap (λ (x : TypedAll). applied-number T (x .effect) (getD S (scope .top + k) 0))
-        (sym (accept-injective q)) ∙ applied-none T (getD S (scope .top + k) 0));
-    own = λ b q k l. absurd (omega (arith, z, l));
-  });
+  after = λ ls k l. refl;
+  out = λ ls. by-nil (ls .es) left (ls .many) z
+      (Comes (world (ls .p .classes)) T S S C at scope i left φ r (ls .γ)) (record {
+        is = e ∙ ap (answer Null) (sym (join-none φ));
+        accepted = λ b q.
+            none-accepted (world (ls .p .classes)) (ls .γ) at (scope .size) S C b (ls .given .views) q;
+        waited = λ b q k l. sym (ap (λ (x : TypedAll). applied-number T (x .effect)
+            (getD S (scope .top + k) 0))
+            (sym (accept-injective q)) ∙ applied-none T (getD S (scope .top + k) 0));
+        own = λ b q k l. absurd (omega (arith, z, l));
+      });
 }
 
 -- ---- the loop over the arguments
@@ -122,7 +121,7 @@ pub record ArgumentsLoop (R E T A M F S C : List ℕ) (at : ℕ) (scope : Scope)
   pub left : ℕ
   pub sum : i + left ≡ n
   pub above : scope .width ≤ scope .top
-  pub pre : PreList R E T A M F S₁ C₁ next (raised scope n) left
+  pub pre : PreList R E T A M F S₁ next (raised scope n) left
   pub later : at ≤ next
   pub slots-long : length S₁ ≡ length S
   pub classes-long : length C₁ ≡ length C
@@ -139,23 +138,20 @@ all-left {scope = scope} o = record {
   between = o .between;
   before = o .before;
   after = o .after;
-  out = λ P es γ d m h en li v ro.
-      let y = o .out P es γ d m (given-all P es γ d h en li v ro) in (
-        y .is,
-        λ b t. (
-          y .accepted b t,
-          λ k j. let e : scope .top + k ≡ scope .top + 0 + k = omega arith in rw e (y .own b t k j),
-        ),
-      );
+  is = λ ls. let y = o .out ls in record {
+    out = y .is;
+    accepted = y .accepted;
+    waiting = λ b t k j. let e : scope .top + k ≡ scope .top + 0 + k = omega arith in rw e (y .own b t k j);
+  };
 }
 
 pub arguments-start : {R E T A M F S C : List ℕ} {at : ℕ} {scope : Scope} {n : ℕ} → scope .width ≤ scope .top
-    → PreList R E T A M F S C at (raised scope n) n → ArgumentsLoop R E T A M F S C at scope n S C 0 at 0
-arguments-start {n = n} l p = record {
+    → PreList R E T A M F S at (raised scope n) n → ArgumentsLoop R E T A M F S C at scope n S C 0 at 0
+arguments-start {n = n} l pre = record {
   left = n;
   sum = omega arith;
   above = l;
-  pre = p;
+  pre = pre;
   later = omega arith;
   slots-long = refl;
   classes-long = refl;
@@ -173,16 +169,14 @@ module _ {R E T A M F S C : List ℕ} {at : ℕ} {scope : Scope} {n : ℕ} {S₁
     more : w .left ≡ 0 → ⊥
     more e = omega (arith, w .sum)
 
-    first-of : {P : List Class} {e : Expr} {es : Exprs} {γ : Environment} {d : ℕ}
-        → GivenAll R E T A M F S₁ C₁ next (raised scope n) P (cons e es) γ d
-        → Given R E T A M F S₁ C₁ next (raised scope i) P e γ d
+    first-of : {p : Program} {e : Expr} {es : Exprs} {γ : Environment} {d : ℕ}
+        → GivenAll R E T A M F S₁ next (raised scope n) p (cons e es) γ d
+        → Given R E T A M F S₁ next (raised scope i) p e γ d
     first-of g = lower-top i n (omega arith) (w .above) (list-first g)
 
-    pub argument-pre : Pre R E T A M F S₁ C₁ next (raised scope i)
-    argument-pre = by-cons (w .pre .es) (w .left) (w .pre .many) more
-        (λ es. GivenAll R E T A M F S₁ C₁ next (raised scope n) (w .pre .P) es (w .pre .γ) (w .pre .d)
-        → Pre R E T A M F S₁ C₁ next (raised scope i))
-        (λ x xs k e g. pre-of (first-of g)) (given-all-of (w .pre))
+    pub argument-pre : Pre R E T A M F S₁ next (raised scope i)
+    argument-pre = by-list (w .pre) more (λ _. Pre R E T A M F S₁ next (raised scope i)) λ e es k g.
+        pre-of (first-of g)
 
     module _ {S₂ C₂ : List ℕ} {x : Answer} (q : Post R E T A M F S₁ C₁ S₂ C₂ next (raised scope i) x) where
       left-fail : is-refusal (x .typing) ≡ true
@@ -193,18 +187,17 @@ module _ {R E T A M F S C : List ℕ} {at : ℕ} {scope : Scope} {n : ℕ} {S₁
         between = λ k a b. q .kept .between k a (omega arith);
         before = q .kept .before;
         after = first-after more q;
-        out = λ P es γ d k. by-cons es (w .left) k more
-            (λ es. GivenAll R E T A M F S₁ C₁ next (raised scope n) P es γ d
-            → Comes P T S₁ S₂ C₂ next scope i (w .left) φ x γ es)
-            (λ e xs k′ s g.
+        out = λ ls.
+            let W = world (ls .p .classes) in
+            by-list ls more (Comes W T S₁ S₂ C₂ next scope i (w .left) φ x (ls .γ)) λ e xs k g.
             let u = failed (first-of g) q f in
-            let c = cons-refused (world P) e xs next γ (u .n) (u .l) (u .typed-at) in record {
-              is = u .is ∙ sym (ap answer-of (bind-refused (type-all (world P) (cons e xs) (next + 1) γ)
+            let c = cons-refused W e xs next (ls .γ) (u .n) (u .l) (u .typed-at) in record {
+              is = u .is ∙ sym (ap answer-of (bind-refused (type-all W (cons e xs) (next + 1) (ls .γ))
                   (λ b. typed null-type (b .slots) (join φ (b .effect))) (u .n) (u .l) c));
               accepted = λ b y. absurd (accept≢refuse (u .n) (u .l) (sym c ∙ y));
               waited = λ b y. absurd (accept≢refuse (u .n) (u .l) (sym c ∙ y));
               own = λ b y. absurd (accept≢refuse (u .n) (u .l) (sym c ∙ y));
-            });
+            };
       }
 
       pub arguments-broken : is-refusal (x .typing) ≡ true
@@ -218,8 +211,8 @@ module _ {R E T A M F S C : List ℕ} {at : ℕ} {scope : Scope} {n : ℕ} {S₁
       pub store-ready : (scope .top + i < length S₂)
           × ((k : ℕ) → k < i → Applicable T (getD S₂ (scope .top + k) 0))
       store-ready = (
-        omega (arith, w .pre .room .room, q .kept .slots-long),
-        λ k l. known-applicable (w .pre .headed) (known-same (still k l) (w .waiting k l)),
+        omega (arith, w .pre .given .room .room, q .kept .slots-long),
+        λ k l. known-applicable (w .pre .given .headed) (known-same (still k l) (w .waiting k l)),
       )
 
       module _ (ok : is-refusal (x .typing) ≡ false) {S₃ : List ℕ} (v : PostStore T S₂ S₃ (scope .top) i x)
@@ -227,41 +220,39 @@ module _ {R E T A M F S C : List ℕ} {at : ℕ} {scope : Scope} {n : ℕ} {S₁
           -- the argument that was typed, with what is known of all
           by-first : {X : Type 0}
               → ((e : Expr) (xs : Exprs) → w .left - 1 ≡ how-many xs
-              → (g : GivenAll R E T A M F S₁ C₁ next (raised scope n) (w .pre .P) (cons e xs) (w .pre .γ)
+              → (g : GivenAll R E T A M F S₁ next (raised scope n) (w .pre .p) (cons e xs) (w .pre .γ)
               (w .pre .d))
-              → Did (world (w .pre .P)) e (w .pre .γ) next (scope .size) S₂ C₂ x → X) → X
-          by-first {X} f = by-cons (w .pre .es) (w .left) (w .pre .many) more
-              (λ es. GivenAll R E T A M F S₁ C₁ next (raised scope n) (w .pre .P) es (w .pre .γ) (w .pre .d)
-              → X)
-              (λ e xs k s g. f e xs k g (did (first-of g) q ok)) (given-all-of (w .pre))
+              → Did (world (w .pre .p .classes)) e (w .pre .γ) next (scope .size) S₂ C₂ x → X) → X
+          by-first {X} f = by-list (w .pre) more (λ _. X) λ e xs k g. f e xs k g (did (first-of g) q ok)
 
           known-next : (k : ℕ) → k < i + 1 → Known (scope .count) (getD S₃ (scope .top + k) 0)
           known-next k l = ⊎-elim
               (λ (l : k < i). known-same (v .waiting k l)
-              (known-applied (w .pre .headed) (x .effect) (known-same (still k l) (w .waiting k l))))
+              (known-applied (w .pre .given .headed) (x .effect) (known-same (still k l) (w .waiting k l))))
               (λ (e : k ≡ i). rw e (known-same (v .last) (by-first λ y xs j g u.
               known-same (ap (λ (a : Answer). case-number (a .typing)) (u .is))
               (known-case (g .headed) (u .a .type) (u .accepted .declared)))))
               (less-or-same k i (omega arith))
 
           -- the rest has the slots with the types that wait
-          rest-given : {P : List Class} {e : Expr} {xs : Exprs} {γ : Environment} {d : ℕ}
-              → (g : GivenAll R E T A M F S₁ C₁ next (raised scope n) P (cons e xs) γ d)
-              → (u : Did (world P) e γ next (scope .size) S₂ C₂ x)
-              → GivenAll R E T A M F S₃ C₂ (next + size e) (raised scope n) P xs (u .a .slots) d
+          rest-given : {p : Program} {e : Expr} {xs : Exprs} {γ : Environment} {d : ℕ}
+              → (g : GivenAll R E T A M F S₁ next (raised scope n) p (cons e xs) γ d)
+              → (u : Did (world (p .classes)) e γ next (scope .size) S₂ C₂ x)
+              → GivenAll R E T A M F S₃ (next + size e) (raised scope n) p xs (u .a .slots) d
           rest-given {d = d} g u = let r = list-rest g (q .kept) u in record {
             headed = r .headed;
             encoded = r .encoded;
-            limited = r .limited;
+            in-form = r .in-form;
             views = views-same (r .views) (omega (arith, r .room .room, r .room .scoped, r .room .above))
                 (v .long) (λ k l. v .below k (omega (arith, r .room .scoped, w .above)));
             room = room-next (raised scope n) d (r .room) (v .long) (r .room .this) (r .room .scoped)
+                (r .room .arguments)
                 (r .room .above) (omega arith);
           }
 
-          left-pre : PreList R E T A M F S₃ C₂ (getD E next 0) (raised scope n) (w .left - 1)
+          left-pre : PreList R E T A M F S₃ (getD E next 0) (raised scope n) (w .left - 1)
           left-pre = by-first λ e xs k g u.
-              subst (λ (j : ℕ). PreList R E T A M F S₃ C₂ j (raised scope n) (w .left - 1))
+              subst (λ (j : ℕ). PreList R E T A M F S₃ j (raised scope n) (w .left - 1))
               (sym (row-of (list-first g) .end)) (list-pre k (rest-given g u))
 
           module _ {S′ C′ : List ℕ} {r : Answer}
@@ -276,9 +267,9 @@ module _ {R E T A M F S C : List ℕ} {at : ℕ} {scope : Scope} {n : ℕ} {S₁
                   (join φ (x .effect)) r) (h .end) o
 
               -- where the numbers stand in the end: those that waited, the argument's own, those of the rest
-              module _ {P : List Class} {e : Expr} {xs : Exprs} {γ : Environment} {d : ℕ}
-                  (g : GivenAll R E T A M F S₁ C₁ next (raised scope n) P (cons e xs) γ d)
-                  (u : Did (world P) e γ next (scope .size) S₂ C₂ x) (b : TypedAll)
+              module _ {p : Program} {e : Expr} {xs : Exprs} {γ : Environment} {d : ℕ}
+                  (g : GivenAll R E T A M F S₁ next (raised scope n) p (cons e xs) γ d)
+                  (u : Did (world (p .classes)) e γ next (scope .size) S₂ C₂ x) (b : TypedAll)
                   (y : (k : ℕ) → k < i + 1
                   → getD S′ (scope .top + k) 0 ≡ applied-number T (b .effect) (getD S₃ (scope .top + k) 0))
                 where
@@ -294,36 +285,38 @@ module _ {R E T A M F S C : List ℕ} {at : ℕ} {scope : Scope} {n : ℕ} {S₁
                       → getD S′ (scope .top + (i + 1) + k) 0 ≡ getD (stored (b .types)) k 0)
                       → (k : ℕ) → k < w .left
                       → getD S′ (scope .top + i + k) 0
-                      ≡ getD (stored (apply-expr (world P) (b .effect) (u .a .type) ∷ b .types)) k 0
+                      ≡ getD (stored (apply-expr (world (p .classes)) (b .effect) (u .a .type) ∷ b .types)) k
+                      0
                   unfolding stored
                   both-own f zero l = let k : scope .top + i + 0 ≡ scope .top + i = omega arith in
                       rw k (y i (omega arith)
                       ∙ (ap (applied-number T (b .effect))
                       (v .last ∙ ap (λ (a : Answer). case-number (a .typing)) (u .is))
-                      ∙ applied-case (b .effect) (u .a .type) (g .headed) (u .accepted .declared)))
+                      ∙ applied-case (g .headed) (b .effect) (u .a .type) (u .accepted .declared)))
                   both-own f (suc j) l =
                       let k : scope .top + i + suc j ≡ scope .top + (i + 1) + j = omega arith in
                       rw k (f j (omega (arith, l)))
 
-              step-out : (P : List Class) (e : Expr) (xs : Exprs) (γ : Environment) (d : ℕ)
+              step-out : (p : Program) (e : Expr) (xs : Exprs) (γ : Environment) (d : ℕ)
                   → w .left - 1 ≡ how-many xs
-                  → GivenAll R E T A M F S₁ C₁ next (raised scope n) P (cons e xs) γ d
-                  → Comes P T S₁ S′ C′ next scope i (w .left) φ r γ (cons e xs)
-              step-out P e xs γ d k g =
+                  → GivenAll R E T A M F S₁ next (raised scope n) p (cons e xs) γ d
+                  → Comes (world (p .classes)) T S₁ S′ C′ next scope i (w .left) φ r γ (cons e xs)
+              step-out p e xs γ d k g =
                   let u = did (first-of g) q ok in
                   let o′ = rest-at e (row-of (list-first g)) in
-                  let y = o′ .out P xs (u .a .slots) d k (rest-given g u) in
-                  let c = cons-accepted (world P) e xs next γ (u .a) (u .typed-at) in record {
+                  let y = o′ .out (list-pre k (rest-given g u)) in
+                  let c = cons-accepted (world (p .classes)) e xs next γ (u .a) (u .typed-at) in record {
                     is = y .is
                         ∙ (ap (λ (a : Answer). answer-of
-                        (bind-checked (type-all (world P) xs (next + size e + 1) (u .a .slots)) λ b. typed
+                        (bind-checked (type-all (world (p .classes)) xs (next + size e + 1) (u .a .slots))
+                        λ b. typed
                         null-type (b .slots) (join (join φ (a .effect)) (b .effect)))) (u .is)
-                        ∙ (argument-out (world P) xs (next + size e + 1) (u .a) φ
+                        ∙ (argument-out (world (p .classes)) xs (next + size e + 1) (u .a) φ
                         ∙ ap (λ (t : Checked TypedAll).
                         answer-of (bind-checked t λ b. typed null-type (b .slots)
                         (join φ (b .effect)))) (sym c)));
                     accepted = λ b t. by-rest u c b t
-                        (λ b. AcceptedAll (world P) (cons e xs) γ next (scope .size) S′ C′ b)
+                        (λ b. AcceptedAll (world (p .classes)) (cons e xs) γ next (scope .size) S′ C′ b)
                         λ b s. all-cons (g .headed) u (o′ .classes-long) (λ k l. o′ .before k l)
                         (y .accepted b s);
                     waited = λ b t. by-rest u c b t
@@ -337,17 +330,18 @@ module _ {R E T A M F S C : List ℕ} {at : ℕ} {scope : Scope} {n : ℕ} {S₁
                         λ b s. both-own g u b (y .waited b s) (y .own b s);
                   }
                 where
-                  by-rest : (u : Did (world P) e γ next (scope .size) S₂ C₂ x)
-                      → type-all (world P) (cons e xs) (next + 1) γ
-                      ≡ bind-checked (type-all (world P) xs (next + size e + 1) (u .a .slots))
-                      (λ b. accept (both (world P) (u .a) b))
-                      → (b : TypedAll) → type-all (world P) (cons e xs) (next + 1) γ ≡ accept b
+                  by-rest : (u : Did (world (p .classes)) e γ next (scope .size) S₂ C₂ x)
+                      → type-all (world (p .classes)) (cons e xs) (next + 1) γ
+                      ≡ bind-checked (type-all (world (p .classes)) xs (next + size e + 1) (u .a .slots))
+                      (λ b. accept (both (world (p .classes)) (u .a) b))
+                      → (b : TypedAll) → type-all (world (p .classes)) (cons e xs) (next + 1) γ ≡ accept b
                       → (Q : TypedAll → Type 0)
-                      → ((b : TypedAll) → type-all (world P) xs (next + size e + 1) (u .a .slots) ≡ accept b
-                      → Q (both (world P) (u .a) b)) → Q b
+                      → ((b : TypedAll) → type-all (world (p .classes)) xs (next + size e + 1) (u .a .slots) ≡
+                      accept b
+                      → Q (both (world (p .classes)) (u .a) b)) → Q b
                   by-rest u c b t Q f =
-                      bind-checked-inv (type-all (world P) xs (next + size e + 1) (u .a .slots))
-                      (λ b. accept (both (world P) (u .a) b)) (sym c ∙ t) λ b′ s h.
+                      bind-checked-inv (type-all (world (p .classes)) xs (next + size e + 1) (u .a .slots))
+                      (λ b. accept (both (world (p .classes)) (u .a) b)) (sym c ∙ t) λ b′ s h.
                       subst Q (accept-injective h) (f b′ s)
 
               left-step : PostLeft R E T A M F S₁ C₁ S′ C′ next scope n i (w .left) φ r
@@ -357,16 +351,14 @@ module _ {R E T A M F S C : List ℕ} {at : ℕ} {scope : Scope} {n : ℕ} {S₁
                 classes-long = o .classes-long ∙ q .kept .classes-long;
                 between = λ k a b. o .between k a b ∙ (v .below k b ∙ q .kept .between k a (omega arith));
                 before = λ k l. o .before k (omega (arith, after-row argument-pre)) ∙ q .kept .before k l;
-                after = λ es k en j l.
-                    by-cons es (w .left) k more
-                    (λ es. EncodedAll R E es next → next + sizes es ≤ j → getD C′ j 0 ≡ getD C₂ j 0)
-                    (λ e xs k′ s en l. rest-at e (encoded-first R E e xs next en) .after xs k′
-                    (encoded-rest R E e xs next en) j (omega (arith, l))) en l
-                    ∙ first-after more q es k en j l;
-                out = λ P es γ d k. by-cons es (w .left) k more
-                    (λ es. GivenAll R E T A M F S₁ C₁ next (raised scope n) P es γ d
-                    → Comes P T S₁ S′ C′ next scope i (w .left) φ r γ es)
-                    (λ e xs k′ s g. step-out P e xs γ d k′ g);
+                after = λ ls j l.
+                    by-list ls more (λ es. next + sizes es ≤ j → getD C′ j 0 ≡ getD C₂ j 0)
+                    (λ e xs k g l. rest-at e (row-of (list-first g)) .after
+                    (list-pre k (rest-given g (did (first-of g) q ok))) j (omega (arith, l))) l
+                    ∙ first-after more q ls j l;
+                out = λ ls. by-list ls more
+                    (Comes (world (ls .p .classes)) T S₁ S′ C′ next scope i (w .left) φ r (ls .γ)) λ e xs k g.
+                    step-out (ls .p) e xs (ls .γ) (ls .d) k g;
               }
 
           pub arguments-next : {ψ : ℕ} → ψ ≡ join φ (x .effect)

@@ -8,27 +8,25 @@ use lib.ListN.{length, getD}
 use Rattle.language.specs.Lists.{nth}
 use Rattle.language.specs.Results.{Checked, accept, refuse, bind-checked, accept≢refuse, accept-injective}
 use Rattle.language.specs.Results.{bind-checked-inv}
-use Rattle.language.specs.Tree.{ExprType, Class, Expr, Exprs, nil, cons, size, sizes, count as how-many}
+use Rattle.language.specs.Tree.{ExprType, Program, Expr, Exprs, nil, cons, size, sizes, count as how-many}
 use Rattle.language.specs.World.{World}
 use Rattle.language.specs.Effects.{join, apply-expr}
 use Rattle.language.specs.Program.{world}
 use Rattle.language.specs.Environment.{Environment}
 use Rattle.language.specs.Typing.{Typed, TypedAll, typed, last-type, type-of, type-all}
-use Rattle.language.specs.Encoded.{EncodedAll}
 use Rattle.language.specs.LookupClasses.{LooksUp}
 use Rattle.language.proofs.Nodes.{Head}
 use Rattle.bodies.specs.declared.Answer.{Answer}
 use Rattle.bodies.specs.declared.Scope.{Scope}
 use Rattle.bodies.specs.declared.Typing.{Typing}
 use Rattle.bodies.specs.Answers.{answer, answer-of, typing-case, is-refusal}
-use Rattle.bodies.specs.Cycle.{Post, PreList, AcceptedAll, PostItems}
+use Rattle.bodies.specs.Cycle.{GivenAll, Post, PreList, AcceptedAll, ItemsAre, PostItems}
 use Rattle.bodies.proofs.EffectLaws.{join-assoc, join-none, apply-none}
-use Rattle.bodies.proofs.Turns.{GivenAll, bind-refused}
+use Rattle.bodies.proofs.Turns.{list-pre, bind-refused}
 use Rattle.bodies.proofs.TurnsNodes.{Did, did, failed, after-row, row-of}
-use Rattle.bodies.proofs.TurnsLists.{none-accepted, by-nil, by-cons, list-first, list-rest, first-pre}
-use Rattle.bodies.proofs.TurnsLists.{rest-pre, both}
-use Rattle.bodies.proofs.TurnsLists.{cons-accepted, cons-refused, all-cons, given-all, encoded-first}
-use Rattle.bodies.proofs.TurnsLists.{encoded-rest, first-after}
+use Rattle.bodies.proofs.TurnsLists.{none-accepted, by-nil, by-list, list-first, list-rest, first-pre}
+use Rattle.bodies.proofs.TurnsLists.{rest-pre, both, cons-accepted, cons-refused, all-cons}
+use Rattle.bodies.proofs.TurnsLists.{first-after}
 
 -- the last type does not depend on the first where there are more
 last-same : (t u : ExprType) (ts : List ExprType) → (ts ≡ [] → t ≡ u) → last-type t ts ≡ last-type u ts
@@ -74,15 +72,14 @@ module _ {R E T A M F S C : List ℕ} {at : ℕ} {scope : Scope} {n : ℕ} {last
     classes-long = refl;
     between = λ i l m. refl;
     before = λ i l. refl;
-    after = λ es m g i l. refl;
-    out = λ P es γ d t m h en li v ro f.
-        by-nil es n m z (λ es. (r ≡ answer-of (bind-checked (type-all (world P) es (at + 1) γ) λ b. typed
-        (last-type t (b .types)) (b .slots) (join (last .effect) (b .effect))))
-        × ((b : TypedAll) → type-all (world P) es (at + 1) γ ≡ accept b
-        → AcceptedAll (world P) es γ at (scope .size) S C b)) (
-          e ∙ ap₂ (λ (u : Typing) (ψ : ℕ). answer u ψ) f (sym (join-none (last .effect))),
-          λ b q. none-accepted (world P) γ at (scope .size) S C b v q,
-        );
+    after = λ ls i l. refl;
+    is = λ ls t f. by-nil (ls .es) n (ls .many) z
+        (λ es. ItemsAre (world (ls .p .classes)) es (ls .γ) at (scope .size) S C last t r)
+        (record {
+          out = e ∙ ap₂ (λ (u : Typing) (ψ : ℕ). answer u ψ) f (sym (join-none (last .effect)));
+          accepted = λ b q.
+              none-accepted (world (ls .p .classes)) (ls .γ) at (scope .size) S C b (ls .given .views) q;
+        });
   }
 
 module _ {R E T A M F S C : List ℕ} {at : ℕ} {scope : Scope} {n : ℕ} (z : n ≡ 0 → ⊥) {S′ C′ : List ℕ}
@@ -96,107 +93,93 @@ module _ {R E T A M F S C : List ℕ} {at : ℕ} {scope : Scope} {n : ℕ} (z : 
     between = q .kept .between;
     before = q .kept .before;
     after = first-after z q;
-    out = λ P es γ d t m h en li v ro u. by-cons es n m z
-        (λ es. GivenAll R E T A M F S C at scope P es γ d
-        → (x ≡ answer-of (bind-checked (type-all (world P) es (at + 1) γ) λ b. typed
-        (last-type t (b .types)) (b .slots) (join (last .effect) (b .effect))))
-        × ((b : TypedAll) → type-all (world P) es (at + 1) γ ≡ accept b
-        → AcceptedAll (world P) es γ at (scope .size) S′ C′ b))
-        (λ e xs m′ s g.
+    is = λ ls t u.
+        let W = world (ls .p .classes) in
+        by-list ls z (λ es. ItemsAre W es (ls .γ) at (scope .size) S′ C′ last t x) λ e xs m g.
         let w = failed (list-first g) q f in
-        let c = cons-refused (world P) e xs at γ (w .n) (w .l) (w .typed-at) in (
-          w .is ∙ sym (ap answer-of (bind-refused (type-all (world P) (cons e xs) (at + 1) γ)
+        let c = cons-refused W e xs at (ls .γ) (w .n) (w .l) (w .typed-at) in
+        record {
+          out = w .is ∙ sym (ap answer-of (bind-refused (type-all W (cons e xs) (at + 1) (ls .γ))
               (λ b. typed (last-type t (b .types)) (b .slots) (join (last .effect) (b .effect))) (w .n) (w .l)
-              c)),
-          λ b y. absurd (accept≢refuse (w .n) (w .l) (sym c ∙ y)),
-        ))
-        (given-all P es γ d h en li v ro);
+              c));
+          accepted = λ b y. absurd (accept≢refuse (w .n) (w .l) (sym c ∙ y));
+        };
   }
 
-  module _ (p : PreList R E T A M F S C at scope n) (ok : is-refusal (x .typing) ≡ false)
-      {last so r : Answer} {S″ C″ : List ℕ} (same : so ≡ answer (x .typing) (join (last .effect) (x .effect)))
+  module _ (ok : is-refusal (x .typing) ≡ false) {so r : Answer} {S″ C″ : List ℕ}
       (o : PostItems R E T A M F S′ C′ S″ C″ (getD E at 0) scope (n - 1) so r) where
-    items-step : PostItems R E T A M F S C S″ C″ at scope n last r
-    unfolding size
-    items-step = record {
+    rest-at : (e : Expr)
+        → Head R E e at → PostItems R E T A M F S′ C′ S″ C″ (at + size e) scope (n - 1) so r
+    rest-at e h = subst (λ (k : ℕ). PostItems R E T A M F S′ C′ S″ C″ k scope (n - 1) so r) (h .end) o
+
+    module _ {p : Program} {e : Expr} {xs : Exprs} {γ : Environment} {d : ℕ} (m : n - 1 ≡ how-many xs)
+        (g : GivenAll R E T A M F S at scope p (cons e xs) γ d) where
+      abbrev W : World
+      W = world (p .classes)
+
+      first-did : Did W e γ at (scope .size) S′ C′ x
+      first-did = did (list-first g) q ok
+
+      abbrev rest-of : PreList R E T A M F S′ (at + size e) scope (n - 1)
+      rest-of = list-pre m (list-rest g (q .kept) first-did)
+
+      after-rest : (i : ℕ) → at + sizes (cons e xs) ≤ i → getD C″ i 0 ≡ getD C′ i 0
+      unfolding size
+      after-rest i l = rest-at e (row-of (list-first g)) .after rest-of i (omega (arith, l))
+
+      rest-is : so .typing ≡ x .typing
+          → ItemsAre W xs (first-did .a .slots) (at + size e) (scope .size) S″ C″ so (first-did .a .type) r
+      rest-is same = rest-at e (row-of (list-first g)) .is rest-of (first-did .a .type)
+          (same ∙ ap (λ (y : Answer). y .typing) (first-did .is))
+
+      both-are : {last : Answer} → so ≡ answer (x .typing) (join (last .effect) (x .effect)) → (t : ExprType)
+          → ItemsAre W (cons e xs) γ at (scope .size) S″ C″ last t r
+      both-are {last} same t =
+          let rest = rest-is (ap (λ (y : Answer). y .typing) same) in
+          let w = first-did in
+          let f : so .effect ≡ join (last .effect) (w .a .effect) = ap (λ (y : Answer). y .effect) same
+          ∙ ap (λ (y : Answer). join (last .effect) (y .effect)) (w .is) in
+          let c = cons-accepted W e xs at γ (w .a) (w .typed-at) in
+          record {
+            out = rest .out
+                ∙ (ap (λ (φ : ℕ). answer-of (bind-checked (type-all W xs (at + size e + 1) (w .a .slots))
+                λ b. typed (last-type (w .a .type) (b .types)) (b .slots) (join φ (b .effect)))) f
+                ∙ (item-out W xs (at + size e + 1) (w .a) t (last .effect)
+                ∙ ap (λ (y : Checked TypedAll).
+                answer-of (bind-checked y λ b. typed (last-type t (b .types)) (b .slots)
+                (join (last .effect) (b .effect)))) (sym c)));
+            accepted = λ b y.
+                bind-checked-inv (type-all W xs (at + size e + 1) (w .a .slots))
+                (λ k. accept (both W (w .a) k))
+                (sym c ∙ y) λ k u v.
+                subst (λ (k : TypedAll). AcceptedAll W (cons e xs) γ at (scope .size) S″ C″ k)
+                (accept-injective v)
+                (all-cons (g .headed) w (o .classes-long)
+                (λ i l. rest-at e (row-of (list-first g)) .before i l) (rest .accepted k u));
+          }
+
+    items-step : {last : Answer} → PreList R E T A M F S at scope n
+        → so ≡ answer (x .typing) (join (last .effect) (x .effect))
+        → PostItems R E T A M F S C S″ C″ at scope n last r
+    items-step {last} pre same = record {
       slots-long = o .slots-long ∙ q .kept .slots-long;
       classes-long = o .classes-long ∙ q .kept .classes-long;
       between = λ i l m. o .between i l m ∙ q .kept .between i l m;
-      before = λ i l. o .before i (omega (arith, after-row (first-pre p z))) ∙ q .kept .before i l;
-      after = λ es m en i l.
-          by-cons es n m z (λ es. EncodedAll R E es at → at + sizes es ≤ i → getD C″ i 0 ≡ getD C′ i 0)
-          (λ e xs m′ s en l. after-rest e xs m′ en i l) en l ∙ first-after z q es m en i l;
-      out = λ P es γ d t m h en li v ro u. by-cons es n m z
-          (λ es. GivenAll R E T A M F S C at scope P es γ d
-          → (r ≡ answer-of (bind-checked (type-all (world P) es (at + 1) γ) λ b. typed
-          (last-type t (b .types)) (b .slots) (join (last .effect) (b .effect))))
-          × ((b : TypedAll) → type-all (world P) es (at + 1) γ ≡ accept b
-          → AcceptedAll (world P) es γ at (scope .size) S″ C″ b))
-          (λ e xs m′ s g. (out-rest P e xs γ d t m′ g, accepted-rest P e xs γ d m′ g))
-          (given-all P es γ d h en li v ro);
+      before = λ i l. o .before i (omega (arith, after-row (first-pre pre z))) ∙ q .kept .before i l;
+      after = λ ls i l.
+          by-list ls z (λ es. at + sizes es ≤ i → getD C″ i 0 ≡ getD C′ i 0) (λ e xs m g. after-rest m g i) l
+          ∙ first-after z q ls i l;
+      is = λ ls t u. by-list ls z
+          (λ es. ItemsAre (world (ls .p .classes)) es (ls .γ) at (scope .size) S″ C″ last t r) λ e xs m g.
+          both-are m g same t;
     }
-      where
-        rest-at : (e : Expr)
-            → Head R E e at → PostItems R E T A M F S′ C′ S″ C″ (at + size e) scope (n - 1) so r
-        rest-at e h = subst (λ (k : ℕ). PostItems R E T A M F S′ C′ S″ C″ k scope (n - 1) so r) (h .end)
-            o
-
-        after-rest : (e : Expr) (xs : Exprs) → n - 1 ≡ how-many xs → EncodedAll R E (cons e xs) at → (i : ℕ)
-            → at + sizes (cons e xs) ≤ i → getD C″ i 0 ≡ getD C′ i 0
-        after-rest e xs m en i l =
-            rest-at e (encoded-first R E e xs at en) .after xs m (encoded-rest R E e xs at en) i
-            (omega (arith, l))
-
-        rest-out : (P : List Class) (e : Expr) (xs : Exprs) (γ : Environment) (d : ℕ) → n - 1 ≡ how-many xs
-            → (g : GivenAll R E T A M F S C at scope P (cons e xs) γ d)
-            → (w : Did (world P) e γ at (scope .size) S′ C′ x)
-            → (r ≡ answer-of (bind-checked (type-all (world P) xs (at + size e + 1) (w .a .slots)) λ b. typed
-            (last-type (w .a .type) (b .types)) (b .slots) (join (so .effect) (b .effect))))
-            × ((b : TypedAll) → type-all (world P) xs (at + size e + 1) (w .a .slots) ≡ accept b
-            → AcceptedAll (world P) xs (w .a .slots) (at + size e) (scope .size) S″ C″ b)
-        rest-out P e xs γ d m g w =
-            let g′ = list-rest g (q .kept) w in
-            rest-at e (row-of (list-first g)) .out P xs (w .a .slots) d (w .a .type) m (g′ .headed)
-            (g′ .encoded) (g′ .limited) (g′ .views) (g′ .room)
-            (ap (λ (y : Answer). y .typing) same ∙ ap (λ (y : Answer). y .typing) (w .is))
-
-        out-rest : (P : List Class) (e : Expr) (xs : Exprs) (γ : Environment) (d : ℕ) (t : ExprType)
-            → n - 1 ≡ how-many xs → GivenAll R E T A M F S C at scope P (cons e xs) γ d
-            → r ≡ answer-of (bind-checked (type-all (world P) (cons e xs) (at + 1) γ) λ b. typed
-            (last-type t (b .types)) (b .slots) (join (last .effect) (b .effect)))
-        out-rest P e xs γ d t m g =
-            let w = did (list-first g) q ok in
-            let f : so .effect ≡ join (last .effect) (w .a .effect) = ap (λ (y : Answer). y .effect) same
-            ∙ ap (λ (y : Answer). join (last .effect) (y .effect)) (w .is) in
-            rest-out P e xs γ d m g w .0
-            ∙ (ap (λ (φ : ℕ). answer-of (bind-checked (type-all (world P) xs (at + size e + 1) (w .a .slots))
-            λ b. typed (last-type (w .a .type) (b .types)) (b .slots) (join φ (b .effect)))) f
-            ∙ (item-out (world P) xs (at + size e + 1) (w .a) t (last .effect)
-            ∙ ap (λ (y : Checked TypedAll).
-            answer-of (bind-checked y λ b. typed (last-type t (b .types)) (b .slots)
-            (join (last .effect) (b .effect))))
-            (sym (cons-accepted (world P) e xs at γ (w .a) (w .typed-at)))))
-
-        accepted-rest : (P : List Class) (e : Expr) (xs : Exprs) (γ : Environment) (d : ℕ)
-            → n - 1 ≡ how-many xs → GivenAll R E T A M F S C at scope P (cons e xs) γ d
-            → (b : TypedAll) → type-all (world P) (cons e xs) (at + 1) γ ≡ accept b
-            → AcceptedAll (world P) (cons e xs) γ at (scope .size) S″ C″ b
-        accepted-rest P e xs γ d m g b y =
-            let w = did (list-first g) q ok in
-            bind-checked-inv (type-all (world P) xs (at + size e + 1) (w .a .slots))
-            (λ c. accept (both (world P) (w .a) c))
-            (sym (cons-accepted (world P) e xs at γ (w .a) (w .typed-at)) ∙ y) λ c u v.
-            subst (λ (k : TypedAll). AcceptedAll (world P) (cons e xs) γ at (scope .size) S″ C″ k)
-            (accept-injective v)
-            (all-cons (g .headed) w (o .classes-long) (λ i l. rest-at e (row-of (list-first g)) .before i l)
-            (rest-out P e xs γ d m g w .1 c u))
 
 -- ---- the loop over the expressions of a block
 -- so many are left, from a row on; what they come to after those before, all come to
 pub record ItemsLoop (R E T A M F S C : List ℕ) (at : ℕ) (scope : Scope) (n : ℕ) (last : Answer)
     (S₁ C₁ : List ℕ)
     (so : Answer) (next left : ℕ) : Type 0 where
-  pub pre : PreList R E T A M F S₁ C₁ next scope left
+  pub pre : PreList R E T A M F S₁ next scope left
   pub later : at ≤ next
   pub slots-long : length S₁ ≡ length S
   pub classes-long : length C₁ ≡ length C
@@ -204,9 +187,9 @@ pub record ItemsLoop (R E T A M F S C : List ℕ) (at : ℕ) (scope : Scope) (n 
       → PostItems R E T A M F S C S′ C′ at scope n last r
 
 pub items-start : {R E T A M F S C : List ℕ} {at : ℕ} {scope : Scope} {n : ℕ} {last : Answer}
-    → PreList R E T A M F S C at scope n → ItemsLoop R E T A M F S C at scope n last S C last at n
-items-start p = record {
-  pre = p;
+    → PreList R E T A M F S at scope n → ItemsLoop R E T A M F S C at scope n last S C last at n
+items-start pre = record {
+  pre = pre;
   later = omega arith;
   slots-long = refl;
   classes-long = refl;
@@ -226,7 +209,7 @@ module _ {R E T A M F S C : List ℕ} {at : ℕ} {scope : Scope} {n : ℕ} {last
     later = omega (arith, w .later, after-row (first-pre (w .pre) z));
     slots-long = a ∙ w .slots-long;
     classes-long = b ∙ w .classes-long;
-    rest = λ o. w .rest (items-step z q (w .pre) ok same o);
+    rest = λ o. w .rest (items-step z q ok o (w .pre) same);
   }
 
   pub items-ended : {r : Answer} → left ≡ 0 → r ≡ so

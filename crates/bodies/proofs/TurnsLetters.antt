@@ -4,8 +4,8 @@ use mathlib.Core.Logic.{inl, inr}
 use mathlib.Core.List.{List}
 use Prim.Native.Nat.{ℕ, _*_}
 use lib.ListN.{getD}
-use Rattle.language.specs.Tree.{Expr, literal, literal-true, literal-false, literal-null, slot, is-null}
-use Rattle.language.specs.Tree.{get, cast, new, change, assign, set, call, choose, block}
+use Rattle.language.specs.Tree.{Expr, literal, literal-true, literal-false, literal-null, slot, is-null, get}
+use Rattle.language.specs.Tree.{cast, new, change, assign, set, call, choose, block}
 use Rattle.language.specs.Encoded.{Encoded}
 use Rattle.language.proofs.Nodes.{head}
 use Rattle.bodies.specs.Cycle.{Unary}

@@ -8,27 +8,26 @@ use native.Mathlib.Omega.{arith}
 use lib.ListN.{length, getD}
 use Rattle.language.specs.Lists.{Never, nth, inj}
 use Rattle.language.specs.Results.{accept-injective, Checked, accept, refuse, bind-checked}
-use Rattle.language.specs.Tree.{ExprType, Class, Expr, Exprs, nil, cons, size, sizes, count as how-many}
+use Rattle.language.specs.Tree.{Program, ExprType, Expr, Exprs, nil, cons, size, sizes, count as how-many}
 use Rattle.language.specs.World.{World}
 use Rattle.language.specs.Effects.{join, apply-expr}
 use Rattle.language.specs.Program.{world}
 use Rattle.language.specs.Environment.{Environment}
 use Rattle.language.specs.Typing.{Typed, TypedAll, type-of, type-all}
-use Rattle.language.specs.Encoded.{Encoded, EncodedAll}
+use Rattle.language.specs.Encoded.{Encoded}
 use Rattle.language.specs.LookupClasses.{LooksUp, LooksUpAll}
 use Rattle.language.specs.Translation.{typed-or}
-use Rattle.language.proofs.Nodes.{Head, head}
+use Rattle.language.proofs.Nodes.{Head}
+use Rattle.layout.specs.Held.{Headed}
 use Rattle.bodies.specs.declared.Answer.{Answer}
 use Rattle.bodies.specs.declared.Scope.{Scope}
 use Rattle.bodies.specs.declared.Typing.the-variants.{Refusal}
 use Rattle.bodies.specs.Answers.{answer, answer-of, is-refusal}
-use Rattle.bodies.specs.Tables.{Headed}
-use Rattle.bodies.specs.Cycle.{Limited, LimitedAll, Views, Room, Kept, Pre, Post, Declared, PreList}
-use Rattle.bodies.specs.Cycle.{AcceptedAll}
+use Rattle.bodies.specs.Cycle.{Given, GivenAll, Views, Kept, Pre, Post, Declared, PreList, AcceptedAll}
 use Rattle.bodies.proofs.Typings.{line-free, looks-frame}
 use Rattle.bodies.proofs.TypeNumbers.{declared-after}
-use Rattle.bodies.proofs.Turns.{Given, GivenAll, pre-of, given-all-of, room-kept, answered}
-use Rattle.bodies.proofs.Turns.{not-refused, bind-refused, bind-accepted}
+use Rattle.bodies.proofs.Turns.{list-pre, all-parts, pre-of, room-kept, answered, not-refused}
+use Rattle.bodies.proofs.Turns.{bind-refused, bind-accepted}
 use Rattle.bodies.proofs.TurnsNodes.{Did, did, row-of}
 
 -- none left, or one and the rest
@@ -37,70 +36,59 @@ unfolding how-many
 by-nil nil n e z Q q = q
 by-nil (cons x es) n e z Q q = absurd (omega (arith, e, z))
 
-pub by-cons : (es : Exprs) (n : ℕ) → n ≡ how-many es → (n ≡ 0 → ⊥) → (Q : Exprs → Type 0)
+by-cons : (es : Exprs) (n : ℕ) → n ≡ how-many es → (n ≡ 0 → ⊥) → (Q : Exprs → Type 0)
     → ((x : Expr) (xs : Exprs) → n - 1 ≡ how-many xs → es ≡ cons x xs → Q (cons x xs)) → Q es
 unfolding how-many
 by-cons nil n e z Q q = absurd (z e)
 by-cons (cons x es) n e z Q q = q x es (omega (arith, e)) refl
 
-module _ {R E T A M F S C : List ℕ} {at : ℕ} {scope : Scope} {P : List Class} {γ : Environment} {d : ℕ} where
-  pub list-first : {e : Expr} {es : Exprs} → GivenAll R E T A M F S C at scope P (cons e es) γ d
-      → Given R E T A M F S C at scope P e γ d
-  unfolding Encoded Limited
+-- a list that is not empty, with what is given of it
+pub by-list : {R E T A M F S : List ℕ} {at : ℕ} {scope : Scope} {n : ℕ}
+    (ls : PreList R E T A M F S at scope n) → (n ≡ 0 → ⊥) → (Q : Exprs → Type 0)
+    → ((e : Expr) (es : Exprs) → n - 1 ≡ how-many es
+    → GivenAll R E T A M F S at scope (ls .p) (cons e es) (ls .γ) (ls .d) → Q (cons e es)) → Q (ls .es)
+by-list {R} {E} {T} {A} {M} {F} {S} {at} {scope} {n} ls z Q f = by-cons (ls .es) n (ls .many) z
+    (λ es. GivenAll R E T A M F S at scope (ls .p) es (ls .γ) (ls .d) → Q es) (λ e es m s g. f e es m g)
+    (ls .given)
+
+module _ {R E T A M F S : List ℕ} {at : ℕ} {scope : Scope} {p : Program} {γ : Environment} {d : ℕ} where
+  pub list-first : {e : Expr} {es : Exprs} → GivenAll R E T A M F S at scope p (cons e es) γ d
+      → Given R E T A M F S at scope p e γ d
+  unfolding Encoded
   list-first g = record {
     headed = g .headed;
     encoded = g .encoded .0;
-    limited = g .limited .0;
+    in-form = all-parts g .0;
     views = g .views;
     room = g .room;
   }
 
-  pub list-rest : {e : Expr} {es : Exprs} {S′ C′ : List ℕ} {x : Answer} {from to width top′ : ℕ}
-      → GivenAll R E T A M F S C at scope P (cons e es) γ d → Kept S S′ C C′ from to width top′
-      → (w : Did (world P) e γ at (scope .size) S′ C′ x)
-      → GivenAll R E T A M F S′ C′ (at + size e) scope P es (w .a .slots) d
-  unfolding Encoded Limited
+  pub list-rest : {e : Expr} {es : Exprs} {S′ C C′ : List ℕ} {x : Answer} {from to width top′ : ℕ}
+      → GivenAll R E T A M F S at scope p (cons e es) γ d → Kept S S′ C C′ from to width top′
+      → (w : Did (world (p .classes)) e γ at (scope .size) S′ C′ x)
+      → GivenAll R E T A M F S′ (at + size e) scope p es (w .a .slots) d
+  unfolding Encoded
   list-rest g k w = record {
     headed = g .headed;
     encoded = g .encoded .1;
-    limited = g .limited .1;
+    in-form = all-parts g .1;
     views = w .accepted .views;
     room = room-kept (g .room) k;
   }
 
-  pub list-pre : {es : Exprs} {n : ℕ} → n ≡ how-many es → GivenAll R E T A M F S C at scope P es γ d
-      → PreList R E T A M F S C at scope n
-  list-pre {es} e g = record {
-    P = P;
-    es = es;
-    γ = γ;
-    d = d;
-    many = e;
-    headed = g .headed;
-    encoded = g .encoded;
-    limited = g .limited;
-    views = g .views;
-    room = g .room;
-  }
-
-module _ {R E T A M F S C : List ℕ} {at : ℕ} {scope : Scope} {n : ℕ} (p : PreList R E T A M F S C at scope n)
+module _ {R E T A M F S : List ℕ} {at : ℕ} {scope : Scope} {n : ℕ}
+    (pre : PreList R E T A M F S at scope n)
     (z : n ≡ 0 → ⊥) where
-  pub first-pre : Pre R E T A M F S C at scope
-  first-pre = by-cons (p .es) n (p .many) z
-      (λ es. GivenAll R E T A M F S C at scope (p .P) es (p .γ) (p .d)
-      → Pre R E T A M F S C at scope)
-      (λ x xs m e g. pre-of (list-first g)) (given-all-of p)
+  pub first-pre : Pre R E T A M F S at scope
+  first-pre = by-list pre z (λ _. Pre R E T A M F S at scope) λ e es m g. pre-of (list-first g)
 
-  pub rest-pre : {S′ C′ : List ℕ} {x : Answer} → Post R E T A M F S C S′ C′ at scope x
+  pub rest-pre : {S′ C C′ : List ℕ} {x : Answer} → Post R E T A M F S C S′ C′ at scope x
       → is-refusal (x .typing) ≡ false
-      → PreList R E T A M F S′ C′ (getD E at 0) scope (n - 1)
-  rest-pre {S′} {C′} q ok =
-      by-cons (p .es) n (p .many) z
-      (λ es. GivenAll R E T A M F S C at scope (p .P) es (p .γ) (p .d)
-      → PreList R E T A M F S′ C′ (getD E at 0) scope (n - 1))
-      (λ x xs m e g. subst (λ (k : ℕ). PreList R E T A M F S′ C′ k scope (n - 1))
-      (sym (row-of (list-first g) .end)) (list-pre m (list-rest g (q .kept) (did (list-first g) q ok))))
-      (given-all-of p)
+      → PreList R E T A M F S′ (getD E at 0) scope (n - 1)
+  rest-pre {S′} q ok =
+      by-list pre z (λ _. PreList R E T A M F S′ (getD E at 0) scope (n - 1)) λ e es m g.
+      subst (λ (k : ℕ). PreList R E T A M F S′ k scope (n - 1)) (sym (row-of (list-first g) .end))
+      (list-pre m (list-rest g (q .kept) (did (list-first g) q ok)))
 
 -- what is typed of the first and of the rest
 abbrev pub both : World → Typed → TypedAll → TypedAll
@@ -126,28 +114,29 @@ pub cons-refused : (W : World) (e : Expr) (es : Exprs) (at : ℕ) (γ : Environm
 unfolding type-of
 cons-refused W e es at γ n l h = bind-refused _ _ n l h
 
-pub all-cons : {P : List Class} {R E T A M F : List ℕ} {count : ℕ} {e : Expr} {es : Exprs} {γ : Environment}
+pub all-cons : {p : Program} {R E T A M F : List ℕ} {count : ℕ} {e : Expr} {es : Exprs} {γ : Environment}
     {at scope : ℕ} {S′ C′ S″ C″ : List ℕ} {x : Answer} {b : TypedAll}
-    → Headed P R E T A M F count → (w : Did (world P) e γ at scope S′ C′ x)
+    → Headed R E T A M F p count → (w : Did (world (p .classes)) e γ at scope S′ C′ x)
     → length C″ ≡ length C′ → ((i : ℕ) → i < at + size e → getD C″ i 0 ≡ getD C′ i 0)
-    → AcceptedAll (world P) es (w .a .slots) (at + size e) scope S″ C″ b
-    → AcceptedAll (world P) (cons e es) γ at scope S″ C″ (both (world P) (w .a) b)
+    → AcceptedAll (world (p .classes)) es (w .a .slots) (at + size e) scope S″ C″ b
+    → AcceptedAll (world (p .classes)) (cons e es) γ at scope S″ C″ (both (world (p .classes)) (w .a) b)
 unfolding LooksUp nth
-all-cons {P} {e = e} {es} {γ} {at} {scope} {S′} {C′} {S″} {C″} {x} {b} h w long f g = record {
+all-cons {p} {e = e} {es} {γ} {at} {scope} {S′} {C′} {S″} {C″} {x} {b} h w long f g = record {
   views = g .views;
   types = go;
   looks = (
-    looks-frame (world P) C′ C″ long e γ at (λ i u v. f i v) (w .accepted .looks),
-    subst (λ (δ : Environment). LooksUpAll (world P) C″ es δ (at + size e))
+    looks-frame (world (p .classes)) C′ C″ long e γ at (λ i u v. f i v) (w .accepted .looks),
+    subst (λ (δ : Environment). LooksUpAll (world (p .classes)) C″ es δ (at + size e))
         (sym (ap (λ (q : Checked Typed). typed-or q .slots)
-        (line-free (world P) e (at + 1) 0 γ (w .typed-at)))) (g .looks),
+        (line-free (world (p .classes)) e (at + 1) 0 γ (w .typed-at)))) (g .looks),
   );
 }
   where
-    go : (i : ℕ) (t : ExprType) → nth (apply-expr (world P) (b .effect) (w .a .type) ∷ b .types) i ≡ some t
-        → Declared (world P) t
-    go zero t q = subst (Declared (world P)) (inj q)
-        (declared-after (b .effect) (w .a .type) h (w .accepted .declared))
+    go : (i : ℕ) (t : ExprType)
+        → nth (apply-expr (world (p .classes)) (b .effect) (w .a .type) ∷ b .types) i ≡ some t
+        → Declared (world (p .classes)) t
+    go zero t q = subst (Declared (world (p .classes))) (inj q)
+        (declared-after h (b .effect) (w .a .type) (w .accepted .declared))
     go (suc i) t q = g .types i t q
 
 -- nothing is typed of none
@@ -181,27 +170,10 @@ all-accepted (accept b) f e t k = k b refl e
 all-accepted (refuse n l) f e t k =
     absurd (false≢true (sym t ∙ ap (λ (x : Answer). is-refusal (x .typing)) e))
 
-pub given-all : {R E T A M F S C : List ℕ} {at : ℕ} {scope : Scope} (P : List Class) (es : Exprs)
-    (γ : Environment) (d : ℕ) → Headed P R E T A M F (scope .count)
-    → EncodedAll R E es at → LimitedAll (scope .width) es (scope .size) d
-    → Views (world P) γ S (scope .size) → Room R S scope d → GivenAll R E T A M F S C at scope P es γ d
-given-all P es γ d h n l v m = record { headed = h; encoded = n; limited = l; views = v; room = m }
-
-pub encoded-first : (R E : List ℕ) (e : Expr) (es : Exprs) (at : ℕ)
-    → EncodedAll R E (cons e es) at → Head R E e at
-unfolding Encoded
-encoded-first R E e es at h = head e (h .0)
-
-pub encoded-rest : (R E : List ℕ) (e : Expr) (es : Exprs) (at : ℕ)
-    → EncodedAll R E (cons e es) at → EncodedAll R E es (at + size e)
-unfolding Encoded
-encoded-rest R E e es at h = h .1
-
 module _ {R E T A M F S C : List ℕ} {at : ℕ} {scope : Scope} {n : ℕ} (z : n ≡ 0 → ⊥) {S′ C′ : List ℕ}
     {x : Answer}
     (q : Post R E T A M F S C S′ C′ at scope x) where
-  pub first-after : (es : Exprs) → n ≡ how-many es → EncodedAll R E es at → (i : ℕ) → at + sizes es ≤ i
-      → getD C′ i 0 ≡ getD C i 0
-  first-after es m en i l =
-      by-cons es n m z (λ es. EncodedAll R E es at → at + sizes es ≤ i → getD C′ i 0 ≡ getD C i 0)
-      (λ e xs m′ s en l. q .kept .after i (omega (arith, ends-in e xs (encoded-first R E e xs at en)))) en l
+  pub first-after : {scope′ : Scope} (ls : PreList R E T A M F S at scope′ n) (i : ℕ)
+      → at + sizes (ls .es) ≤ i → getD C′ i 0 ≡ getD C i 0
+  first-after ls i = by-list ls z (λ es. at + sizes es ≤ i → getD C′ i 0 ≡ getD C i 0) λ e es m g l.
+      q .kept .after i (omega (arith, ends-in e es (row-of (list-first g))))

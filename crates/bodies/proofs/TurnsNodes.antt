@@ -6,9 +6,7 @@ use Prim.Native.Nat.{ℕ, _+_, _-_, _*_, _≤_, _<_}
 use native.Mathlib.Omega.{arith}
 use lib.ListN.{getD}
 use Rattle.language.specs.Results.{accept, refuse}
-use Rattle.language.specs.Tree.{Class, Expr}
-use Rattle.language.specs.Tree.{is-null, get, cast, assign}
-use Rattle.language.specs.Tree.{size}
+use Rattle.language.specs.Tree.{Program, Expr, is-null, get, cast, assign, size}
 use Rattle.language.specs.World.{World}
 use Rattle.language.specs.Program.{world}
 use Rattle.language.specs.Environment.{Environment}
@@ -21,8 +19,8 @@ use Rattle.bodies.specs.declared.Answer.{Answer}
 use Rattle.bodies.specs.declared.Scope.{Scope}
 use Rattle.bodies.specs.declared.Typing.the-variants.{Refusal}
 use Rattle.bodies.specs.Answers.{answer, is-refusal}
-use Rattle.bodies.specs.Cycle.{Limited, Kept, Pre, Post, Accepted}
-use Rattle.bodies.proofs.Turns.{Given, post-is, kept-wider, room-child, answered, accepted-of}
+use Rattle.bodies.specs.Cycle.{Given, Kept, Pre, Post, Accepted}
+use Rattle.bodies.proofs.Turns.{parts, post-is, kept-wider, room-child, answered, accepted-of}
 use Rattle.bodies.proofs.Turns.{refused-of}
 
 -- ---- a child that was accepted, or refused
@@ -40,25 +38,27 @@ pub record Failed (W : World) (e : Expr) (γ : Environment) (at : ℕ) (r : Answ
   pub typed-at : type-of W e (at + 1) γ ≡ refuse n l
   pub is : r ≡ answer (Refusal n l) 0
 
-module _ {R E T A M F S C S′ C′ : List ℕ} {at : ℕ} {scope : Scope} {P : List Class} {e : Expr}
+module _ {R E T A M F S C S′ C′ : List ℕ} {at : ℕ} {scope : Scope} {p : Program} {e : Expr}
     {γ : Environment}
     {d : ℕ} {r : Answer} where
-  pub did : Given R E T A M F S C at scope P e γ d → Post R E T A M F S C S′ C′ at scope r
+  pub did : Given R E T A M F S at scope p e γ d → Post R E T A M F S C S′ C′ at scope r
       → is-refusal (r .typing) ≡ false
-      → Did (world P) e γ at (scope .size) S′ C′ r
-  did g p f = let i = post-is p g in accepted-of (type-of (world P) e (at + 1) γ) (i .out) f λ a q s.
-      record { a = a; typed-at = q; is = s; accepted = i .accepted a q }
+      → Did (world (p .classes)) e γ at (scope .size) S′ C′ r
+  did g q f = let i = post-is q g in
+      accepted-of (type-of (world (p .classes)) e (at + 1) γ) (i .out) f λ a t s.
+      record { a = a; typed-at = t; is = s; accepted = i .accepted a t }
 
-  pub failed : Given R E T A M F S C at scope P e γ d → Post R E T A M F S C S′ C′ at scope r
+  pub failed : Given R E T A M F S at scope p e γ d → Post R E T A M F S C S′ C′ at scope r
       → is-refusal (r .typing) ≡ true
-      → Failed (world P) e γ at r
-  failed g p f = let i = post-is p g in refused-of (type-of (world P) e (at + 1) γ) (i .out) f λ n l q s.
-      record { n = n; l = l; typed-at = q; is = s }
+      → Failed (world (p .classes)) e γ at r
+  failed g q f = let i = post-is q g in
+      refused-of (type-of (world (p .classes)) e (at + 1) γ) (i .out) f λ n l t s.
+      record { n = n; l = l; typed-at = t; is = s }
 
 -- the row after a node
-pub after-row : {R E T A M F S C : List ℕ} {at : ℕ} {scope : Scope} → Pre R E T A M F S C at scope
+pub after-row : {R E T A M F S : List ℕ} {at : ℕ} {scope : Scope} → Pre R E T A M F S at scope
     → at < getD E at 0
-after-row p = omega (arith, head (p .e) (p .encoded) .end, size-positive (p .e))
+after-row pre = omega (arith, head (pre .e) (pre .given .encoded) .end, size-positive (pre .e))
 
 -- what a child's call keeps, its node's keeps
 pub kept-in : {R E S S′ C C′ : List ℕ} {at c width top′ : ℕ} {x y : Expr} (top : ℕ)
@@ -68,76 +68,76 @@ pub kept-in : {R E S S′ C C′ : List ℕ} {at c width top′ : ℕ} {x y : Ex
 kept-in {E = E} {at = at} {c} top hx hy u v w k =
     kept-wider at (getD E at 0) top k u (omega (arith, hx .end, hy .end)) w
 
-pub row-of : {R E T A M F S C : List ℕ} {at : ℕ} {scope : Scope} {P : List Class} {e : Expr} {γ : Environment}
+pub row-of : {R E T A M F S : List ℕ} {at : ℕ} {scope : Scope} {p : Program} {e : Expr} {γ : Environment}
     {d : ℕ}
-    → Given R E T A M F S C at scope P e γ d → Head R E e at
+    → Given R E T A M F S at scope p e γ d → Head R E e at
 row-of {e = e} g = head e (g .encoded)
 
 -- ---- nodes of one child
 
-module _ {R E T A M F S C : List ℕ} {at : ℕ} {scope : Scope} {P : List Class} {γ : Environment} {d : ℕ} where
-  pub is-null-child : {e : Expr} → Given R E T A M F S C at scope P (is-null e) γ d
-      → Given R E T A M F S C (at + 1) scope P e γ (d - 1)
-  unfolding Encoded Limited
+module _ {R E T A M F S : List ℕ} {at : ℕ} {scope : Scope} {p : Program} {γ : Environment} {d : ℕ} where
+  pub is-null-child : {e : Expr} → Given R E T A M F S at scope p (is-null e) γ d
+      → Given R E T A M F S (at + 1) scope p e γ (d - 1)
+  unfolding Encoded
   is-null-child g = record {
     headed = g .headed;
     encoded = g .encoded .1;
-    limited = g .limited .1;
+    in-form = parts g .1;
     views = g .views;
-    room = room-child (g .room) (g .limited .0);
+    room = room-child (g .room) (parts g .0);
   }
 
-  pub get-child : {f : ℕ} {e : Expr} → Given R E T A M F S C at scope P (get f e) γ d
-      → Given R E T A M F S C (at + 1) scope P e γ (d - 1)
-  unfolding Encoded Limited
+  pub get-child : {f : ℕ} {e : Expr} → Given R E T A M F S at scope p (get f e) γ d
+      → Given R E T A M F S (at + 1) scope p e γ (d - 1)
+  unfolding Encoded
   get-child g = record {
     headed = g .headed;
     encoded = g .encoded .1;
-    limited = g .limited .2;
+    in-form = parts g .2;
     views = g .views;
-    room = room-child (g .room) (g .limited .0);
+    room = room-child (g .room) (parts g .0);
   }
 
-  pub get-row : {f : ℕ} {e : Expr} → Given R E T A M F S C at scope P (get f e) γ d
+  pub get-row : {f : ℕ} {e : Expr} → Given R E T A M F S at scope p (get f e) γ d
       → (getD R (at * 4 + 1) 0 ≡ f) × (f < 256)
-  unfolding Encoded Limited
-  get-row g = (g .encoded .0 .row .first, g .limited .1)
+  unfolding Encoded
+  get-row g = (g .encoded .0 .row .first, parts g .1)
 
-  pub cast-child : {c : ℕ} {e : Expr} → Given R E T A M F S C at scope P (cast c e) γ d
-      → Given R E T A M F S C (at + 1) scope P e γ (d - 1)
-  unfolding Encoded Limited
+  pub cast-child : {c : ℕ} {e : Expr} → Given R E T A M F S at scope p (cast c e) γ d
+      → Given R E T A M F S (at + 1) scope p e γ (d - 1)
+  unfolding Encoded
   cast-child g = record {
     headed = g .headed;
     encoded = g .encoded .1;
-    limited = g .limited .1;
+    in-form = parts g .1;
     views = g .views;
-    room = room-child (g .room) (g .limited .0);
+    room = room-child (g .room) (parts g .0);
   }
 
-  pub cast-row : {c : ℕ} {e : Expr} → Given R E T A M F S C at scope P (cast c e) γ d
+  pub cast-row : {c : ℕ} {e : Expr} → Given R E T A M F S at scope p (cast c e) γ d
       → getD R (at * 4 + 1) 0 ≡ c
   unfolding Encoded
   cast-row g = g .encoded .0 .row .first
 
-  pub assign-child : {k : ℕ} {e : Expr} → Given R E T A M F S C at scope P (assign k e) γ d
-      → Given R E T A M F S C (at + 1) scope P e γ (d - 1)
-  unfolding Encoded Limited
+  pub assign-child : {k : ℕ} {e : Expr} → Given R E T A M F S at scope p (assign k e) γ d
+      → Given R E T A M F S (at + 1) scope p e γ (d - 1)
+  unfolding Encoded
   assign-child g = record {
     headed = g .headed;
     encoded = g .encoded .1;
-    limited = g .limited .1;
+    in-form = parts g .1;
     views = g .views;
-    room = room-child (g .room) (g .limited .0);
+    room = room-child (g .room) (parts g .0);
   }
 
-  pub assign-row : {k : ℕ} {e : Expr} → Given R E T A M F S C at scope P (assign k e) γ d
+  pub assign-row : {k : ℕ} {e : Expr} → Given R E T A M F S at scope p (assign k e) γ d
       → getD R (at * 4 + 1) 0 ≡ k
   unfolding Encoded
   assign-row g = g .encoded .0 .row .first
 
 -- what holds of each node of the letter that the row has holds of the node there
-pub by-node : {R E T A M F S C : List ℕ} {at : ℕ} {scope : Scope} {P : List Class} {γ : Environment} {d : ℕ}
-    (l : Letter) (z : Expr) → Given R E T A M F S C at scope P z γ d → getD R (at * 4) 0 ≡ code l
-    → (Q : Expr → Type 0) → EachTree (λ w. Given R E T A M F S C at scope P w γ d → Q w) l → Q z
-by-node {R} {E} {T} {A} {M} {F} {S} {C} {at} {scope} {P} {γ} {d} l z g h Q q =
-    by-row (λ w. Given R E T A M F S C at scope P w γ d → Q w) l (row-of g) h q g
+pub by-node : {R E T A M F S : List ℕ} {at : ℕ} {scope : Scope} {p : Program} {γ : Environment} {d : ℕ}
+    (l : Letter) (z : Expr) → Given R E T A M F S at scope p z γ d → getD R (at * 4) 0 ≡ code l
+    → (Q : Expr → Type 0) → EachTree (λ w. Given R E T A M F S at scope p w γ d → Q w) l → Q z
+by-node {R} {E} {T} {A} {M} {F} {S} {at} {scope} {p} {γ} {d} l z g h Q q =
+    by-row (λ w. Given R E T A M F S at scope p w γ d → Q w) l (row-of g) h q g

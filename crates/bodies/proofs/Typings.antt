@@ -11,15 +11,14 @@ use lib.ListN.{length, getD}
 use Rattle.language.specs.Results.{Checked, accept, refuse, bind-checked, need-checked, require}
 use Rattle.language.specs.Results.{accept≢refuse}
 use Rattle.language.specs.Frames.{at-slot, opened}
-use Rattle.language.specs.Tree.{DeclaredType, bool, class, ExprType, known, null-type, Expr, literal}
-use Rattle.language.specs.Tree.{slot, is-null, get, cast, new, change, assign}
-use Rattle.language.specs.Tree.{set, call, choose, block, Exprs, nil, cons, size, sizes}
+use Rattle.language.specs.Tree.{DeclaredType, bool, class, ExprType, known, null-type, Expr, literal, slot}
+use Rattle.language.specs.Tree.{is-null, get, cast, new, change, assign, set, call, choose, block, Exprs, nil}
+use Rattle.language.specs.Tree.{cons, size, sizes}
 use Rattle.language.specs.World.{World, field-type, is-declared, is-declared-type}
 use Rattle.language.specs.Effects.{apply-class}
-use Rattle.language.specs.Environment.{Environment}
-use Rattle.language.specs.Typing.{Typed, TypedAll, not-bool, need-class, fits, all-fit}
-use Rattle.language.specs.Environment.{fresh-slot}
-use Rattle.language.specs.Typing.{join-types, can-change, locals-declared, type-of, type-all}
+use Rattle.language.specs.Environment.{Environment, fresh-slot}
+use Rattle.language.specs.Typing.{Typed, TypedAll, not-bool, need-class, fits, all-fit, join-types}
+use Rattle.language.specs.Typing.{can-change, locals-declared, type-of, type-all}
 use Rattle.language.specs.LookupClasses.{LooksUp, LooksUpAll}
 
 -- ---- the line changes where a refusal stands, and nothing else

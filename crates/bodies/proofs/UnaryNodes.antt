@@ -15,8 +15,8 @@ use Rattle.language.specs.Lists.{nth}
 use Rattle.language.specs.Results.{Checked, accept, refuse, bind-checked, need-checked, require}
 use Rattle.language.specs.Results.{accept-injective, bind-checked-inv, need-checked-inv, require-inv}
 use Rattle.language.specs.Frames.{at-slot}
-use Rattle.language.specs.Tree.{DeclaredType, bool, class, ExprType, known, null-type, Class, Expr, is-null}
-use Rattle.language.specs.Tree.{get, cast, assign}
+use Rattle.language.specs.Tree.{Program, DeclaredType, bool, class, ExprType, known, null-type, Class, Expr}
+use Rattle.language.specs.Tree.{is-null, get, cast, assign}
 use Rattle.language.specs.World.{field-type, is-declared, is-declared-type, World}
 use Rattle.language.specs.Program.{world, world-with}
 use Rattle.language.specs.Environment.{Slot, Environment}
@@ -24,6 +24,7 @@ use Rattle.language.specs.Typing.{Typed, typed, not-bool, need-class, fits, typ
 use Rattle.language.specs.LookupClasses.{Notes, LooksUp}
 use Rattle.language.specs.Translation.{typed-or, class-or}
 use Rattle.language.proofs.Lines.{le-or-less}
+use Rattle.layout.specs.Held.{Headed}
 use Rattle.bodies.specs.declared.Answer.{Answer}
 use Rattle.bodies.specs.declared.Typing.{Typing}
 use Rattle.bodies.specs.declared.Typing.the-variants.{Bool as bool-case, Class as class-case, Null}
@@ -31,14 +32,14 @@ use Rattle.bodies.specs.declared.Typing.the-variants.{Refusal}
 use Rattle.bodies.specs.declared.Sought.{Sought}
 use Rattle.bodies.specs.declared.Sought.the-variants.{Found, Missing}
 use Rattle.bodies.specs.Answers.{answer, answer-of, typing-case, sought-of, current-in}
-use Rattle.bodies.specs.Tables.{Headed, is-fitting}
+use Rattle.bodies.specs.Tables.{is-fitting}
 use Rattle.bodies.specs.Nodes.{refusal, null-tested, casted, cast-answer, assigned, field-in, not-class}
 use Rattle.bodies.specs.Nodes.{got, got-classes, found-answer, noted}
 use Rattle.bodies.specs.Cycle.{Views, Declared, Accepted, Is}
 use Rattle.bodies.proofs.Lists.{declared-test}
-use Rattle.bodies.proofs.Worlds.{fitting-is}
+use Rattle.bodies.proofs.Worlds.{class-low, fitting-is}
 use Rattle.bodies.proofs.Typings.{line-free, looks-frame, class-inv}
-use Rattle.bodies.proofs.Turns.{declared-bool, declared-known, class-low, type-low, not-refused}
+use Rattle.bodies.proofs.Turns.{declared-bool, declared-known, type-low, not-refused}
 use Rattle.bodies.proofs.TypeNumbers.{type-number-case}
 use Rattle.bodies.proofs.Slots.{slot-some, slot-none}
 use Rattle.bodies.proofs.FieldTables.{field-is, field-declared}
@@ -64,7 +65,10 @@ null-is : (W : World) (e : Expr) (at : ℕ) (γ : Environment) → let q = type-
 unfolding type-of
 null-is W e at γ = null-go at (type-of W e (at + 1 + 1) γ)
 
-module _ {P : List Class} {R E T A M F : List ℕ} {count : ℕ} (h : Headed P R E T A M F count) where
+module _ {p : Program} {R E T A M F : List ℕ} {count : ℕ} (h : Headed R E T A M F p count) where
+  abbrev P : List Class
+  P = p .classes
+
   pub is-null-is : {e : Expr} {γ : Environment} {S C : List ℕ} {scope : ℕ} (at : ℕ) (child r : Answer)
       → Is (world P) e γ (at + 1) scope S C child
       → r ≡ null-tested at (child .typing) (child .effect) → Is (world P) (is-null e) γ at scope S C r
@@ -105,7 +109,7 @@ module _ {P : List Class} {R E T A M F : List ℕ} {count : ℕ} (h : Headed P R
     out = f ∙ (ap (cast-answer R count at) (i .out) ∙ (casts c at (type-of (world P) e (at + 1 + 1) γ) z
         ∙ ap (λ (n : ℕ). answer-of (bind-checked (type-of (world P) e (at + 1 + 1) γ) λ a. require (leb c n) 4
         (at + 1) λ _. require (not-bool (a .type)) 9 (at + 1) λ _.
-        typed (known (class c)) (a .slots) (a .effect))) (sym (h .classes .counted))));
+        typed (known (class c)) (a .slots) (a .effect))) (sym (h .counted))));
     accepted = λ a q. bind-checked-inv (type-of (world P) e (at + 1 + 1) γ) _ q λ b p w.
         require-inv (is-declared (world P) c) 4 (at + 1) _ w λ d u.
         require-inv (not-bool (b .type)) 9 (at + 1) _ u λ d′ u′.
@@ -147,7 +151,7 @@ module _ {P : List Class} {R E T A M F : List ℕ} {count : ℕ} (h : Headed P R
           (le-or-less scope (suc k))
       go (some s) q =
           let w = slot-some h v l (suc k) s q in
-          let x = fitting-is (h .classes) (a .type) (s .current) (type-low (a .type) h d)
+          let x = fitting-is h (a .type) (s .current) (type-low h (a .type) d)
           (v .current (suc k) s q) in
           rw (lt-leb scope (suc k) (w .0), w .1, x) (fit s (fits (world P) (a .type) (s .current)) refl)
 
@@ -185,7 +189,7 @@ module _ {P : List Class} {R E T A M F : List ℕ} {count : ℕ} (h : Headed P R
       → found-answer at φ (sought-of o) ≡ answer-of (need-checked o 8 (at + 1) λ t. typed (known t) γ φ)
   unfolding found-answer need-checked
   found-is at φ γ none d = refl
-  found-is at φ γ (some t) d = ap (λ (x : Typing). answer x φ) (type-number-case t h (d t refl) .0)
+  found-is at φ γ (some t) d = ap (λ (x : Typing). answer x φ) (type-number-case h t (d t refl) .0)
 
   gets : (f at : ℕ) (a : Typed) → f < 256 → Declared (world P) (a .type) → getD R (at * 4 + 1) 0 ≡ f
       → got R T at (typing-case (a .type)) (a .effect)
@@ -199,7 +203,7 @@ module _ {P : List Class} {R E T A M F : List ℕ} {count : ℕ} (h : Headed P R
           λ u. typed (known u) (a .slots) (a .effect))
       go (known bool) d = refl
       go (known (class c)) d =
-          let l = class-low c h (d .class-in c refl) in
+          let l = class-low h c (d .class-in c refl) in
           rw (e, field-is h c f l m)
           (found-is at (a .effect) (a .slots) (field-type f (world P .fields c))
           (field-declared h c f l m))
@@ -241,7 +245,7 @@ module _ {P : List Class} {R E T A M F : List ℕ} {count : ℕ} (h : Headed P R
         let ac = i .accepted b p in
         let ct : child .typing ≡ class-case c = ap (λ (w : Answer). w .typing) (i .out)
         ∙ (ap (λ (w : Checked Typed). answer-of w .typing) p ∙ ap typing-case tc) in
-        let l : c ≤ count = type-low (b .type) h (ac .declared) c tc in
+        let l : c ≤ count = type-low h (b .type) (ac .declared) c tc in
         let cc′ : C′ ≡ got-classes R T C at (class-case c) = y ∙ ap (got-classes R T C at) ct in
         let k = got-kept C at (class-case c) in
         let long : length C′ ≡ length C = ap length cc′ ∙ k .0 in

@@ -11,20 +11,20 @@ use lib.Dec.{eqb}
 use lib.ListN.{length, getD, set as replaced, length-set}
 use lib.Seq.{getD-set-same, getD-set-other}
 use Rattle.language.specs.Lists.{choice, given}
-use Rattle.language.specs.Tree.{bool, class, ExprType, known, null-type, Class}
+use Rattle.language.specs.Tree.{Program, bool, class, ExprType, known, null-type, Class}
 use Rattle.language.specs.Effects.{member, join, apply-class}
 use Rattle.language.specs.Program.{world, world-with, class-at, root-at, is-state}
 use Rattle.language.proofs.Effects.{member-join, member-none}
 use Rattle.language.proofs.Lines.{less-or-same}
+use Rattle.layout.specs.Held.{Headed}
+use Rattle.layout.specs.HeldLaws.{few, lower}
 use Rattle.bodies.specs.declared.Answer.{Answer}
 use Rattle.bodies.specs.Answers.{case-number, typing-case}
-use Rattle.bodies.specs.Tables.{Headed, Applicable, Known, a-class, a-bool, an-absence, applied}
-use Rattle.bodies.specs.Tables.{applied-number}
+use Rattle.bodies.specs.Tables.{Applicable, Known, a-class, a-bool, an-absence, applied, applied-number}
 use Rattle.bodies.specs.Cycle.{Declared, PostStore}
 use Rattle.bodies.proofs.Laws.{number-bool, number-absent, number-class, known-same}
 use Rattle.bodies.proofs.ActLaws.{applicable-known}
-use Rattle.bodies.proofs.Worlds.{sound, applied-is}
-use Rattle.bodies.proofs.Turns.{class-low}
+use Rattle.bodies.proofs.Worlds.{class-low, sound, applied-is}
 use Rattle.bodies.proofs.TypeNumbers.{applied-low}
 
 -- ---- the loop over the types that wait
@@ -120,10 +120,13 @@ applied-none T n = rw (member-none) (go (eqb n 255) (eqb n 65535))
     go false true = refl
     go false false = refl
 
-module _ {P : List Class} {R E T A M F : List ℕ} {count : ℕ} (h : Headed P R E T A M F count) where
+module _ {p : Program} {R E T A M F : List ℕ} {count : ℕ} (h : Headed R E T A M F p count) where
+  abbrev P : List Class
+  P = p .classes
+
   class-number : (φ c : ℕ) → c ≤ count → applied T φ c ≡ applied-number T φ c
   class-number φ c l =
-      number-class T φ c (λ e. omega (arith, h .classes .few)) (λ e. omega (arith, h .classes .few))
+      number-class T φ c (λ e. omega (arith, few h)) (λ e. omega (arith, few h))
 
   -- one effect and then another are both at once
   pub applied-join : (φ ψ : ℕ) {n : ℕ} → Known count n
@@ -131,9 +134,9 @@ module _ {P : List Class} {R E T A M F : List ℕ} {count : ℕ} (h : Headed P R
   applied-join φ ψ {n} (a-class l) =
       let m = applied-low h φ n l in
       ap (applied-number T ψ) (sym (class-number φ n l)) ∙ (sym (class-number ψ (applied T φ n) m)
-      ∙ (applied-is (h .classes) ψ (applied T φ n) m ∙ (ap (apply-class (world P) ψ)
-      (applied-is (h .classes) φ n l) ∙ (apply-join P (h .classes .lower) φ ψ n
-      ∙ (sym (applied-is (h .classes) (join φ ψ) n l) ∙ class-number (join φ ψ) n l)))))
+      ∙ (applied-is h ψ (applied T φ n) m ∙ (ap (apply-class (world P) ψ)
+      (applied-is h φ n l) ∙ (apply-join P (lower h) φ ψ n
+      ∙ (sym (applied-is h (join φ ψ) n l) ∙ class-number (join φ ψ) n l)))))
   applied-join φ ψ a-bool = ap (applied-number T ψ) (sym (number-bool T φ 255 refl))
       ∙ (sym (number-bool T ψ 255 refl) ∙ number-bool T (join φ ψ) 255 refl)
   applied-join φ ψ an-absence = let f : _≡_ {A = ℕ} 65535 255 → ⊥ = λ e. omega arith in
@@ -150,9 +153,9 @@ module _ {P : List Class} {R E T A M F : List ℕ} {count : ℕ} (h : Headed P R
 
   pub known-case : (t : ExprType) → Declared (world P) t → Known count (case-number (typing-case t))
   known-case (known bool) d = a-bool
-  known-case (known (class c)) d = a-class (class-low c h (d .class-in c refl))
+  known-case (known (class c)) d = a-class (class-low h c (d .class-in c refl))
   known-case null-type d = an-absence
 
   pub known-applicable : {n : ℕ} → Known count n → Applicable T n
-  known-applicable k = applicable-known (h .classes .few) (sound (h .classes) .long)
-      (λ j i. omega (arith, sound (h .classes) .roots j i, h .classes .few)) k
+  known-applicable k = applicable-known (few h) (sound h .long)
+      (λ j i. omega (arith, sound h .roots j i, few h)) k

@@ -6,6 +6,10 @@ use Prim.Native.Nat.{ℕ, zero, suc, _+_, _*_, _≤_, _<_}
 use lib.Dec.{eqb, leb, ltb}
 use lib.ListN.{length, getD, set}
 use Rattle.language.specs.Effects.{effect-of, join}
+use Rattle.language.specs.Limits.{bool-number, change-refusal, member-refusal, name-refusal, of-check}
+use Rattle.language.specs.Limits.{slot-refusal, type-refusal}
+use Rattle.language.specs.ClassTables.{class-width, methods-from, root-place}
+use Rattle.language.specs.MethodTables.{method-width, parameters-place}
 use Rattle.bodies.specs.declared.Typing.{Typing}
 use Rattle.bodies.specs.declared.Typing.the-variants.{Bool as bool-case, Class, Null, Refusal}
 use Rattle.bodies.specs.declared.Answer.{Answer}
@@ -15,15 +19,9 @@ use Rattle.bodies.specs.declared.Sought.the-variants.{Found, Missing}
 use Rattle.bodies.specs.Answers.{answer, case-of-number, is-refusal, absent, current-in, with-current}
 use Rattle.bodies.specs.Answers.{fresh-in}
 use Rattle.bodies.specs.Tables.{Applicable, applied, applied-slot, joined-slot, root-in, is-fitting}
-use Rattle.bodies.specs.Tables.{CaseIn, Known}
-use Rattle.bodies.specs.Tables.{Changed, PreJoin}
+use Rattle.bodies.specs.Tables.{CaseIn, Known, Changed, PreJoin}
 use Rattle.bodies.specs.Nodes.{refusal, joined-case, BothClasses, field-in, PreField, In-row}
 use Rattle.bodies.specs.Nodes.{changeable-in}
-use Rattle.language.specs.Limits.{bool-number, change-refusal, member-refusal, name-refusal, of-check}
-use Rattle.language.specs.ClassTables.{class-width, methods-from, root-place}
-use Rattle.language.specs.MethodTables.{method-width, parameters-place}
-use Rattle.language.specs.Limits.{slot-refusal}
-use Rattle.language.specs.Limits.{type-refusal}
 
 -- The case of a stored argument's number.
 unfoldable pub stored-case : ℕ → Typing

@@ -9,6 +9,7 @@ use Rattle.language.specs.Results.{Checked, accept, refuse, Pass}
 use Rattle.language.specs.Tree.{DeclaredType, bool, class, ExprType, known, null-type, type-number}
 use Rattle.language.specs.Environment.{Slot, Environment}
 use Rattle.language.specs.Typing.{Typed}
+use Rattle.language.specs.Limits.{bool-number}
 use Rattle.bodies.specs.declared.Typing.{Typing}
 use Rattle.bodies.specs.declared.Typing.the-variants.{Bool as bool-case, Class, Null, Refusal}
 use Rattle.bodies.specs.declared.Answer.{Answer}
@@ -16,7 +17,6 @@ use Rattle.bodies.specs.declared.Verdict.{Verdict}
 use Rattle.bodies.specs.declared.Verdict.the-variants.{Accepted, Refused}
 use Rattle.bodies.specs.declared.Sought.{Sought}
 use Rattle.bodies.specs.declared.Sought.the-variants.{Found, Missing}
-use Rattle.language.specs.Limits.{bool-number}
 
 -- The case of a type.
 abbrev pub typing-case : ExprType → Typing

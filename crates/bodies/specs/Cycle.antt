@@ -5,16 +5,13 @@ use mathlib.Core.Bool.{true}
 use mathlib.Core.Logic.{_⊎_}
 use mathlib.Core.Option.{some}
 use mathlib.Core.List.{List, map}
-use Prim.Native.Nat.{ℕ, _+_, _-_, _*_, _≤_, _<_}
+use Prim.Native.Nat.{ℕ, _+_, _*_, _≤_, _<_}
 use lib.ListN.{length, getD, take}
 use Rattle.language.specs.Results.{accept, bind-checked}
 use Rattle.language.specs.Frames.{at-slot}
-use Rattle.language.specs.Tree.{DeclaredType, ExprType, known, null-type, class, Expr, literal}
-use Rattle.language.specs.Tree.{slot}
-use Rattle.language.specs.Tree.{is-null, get, cast, new, change, assign, set, call, choose, block, Exprs, nil}
-use Rattle.language.specs.Tree.{cons, count as how-many, sizes}
+use Rattle.language.specs.Tree.{ExprType, known, null-type, class, Expr, Exprs, count as how-many, sizes}
+use Rattle.language.specs.Tree.{Program}
 use Rattle.language.specs.Lists.{nth}
-use Rattle.language.specs.Tree.{Class, type-number, type-of-number}
 use Rattle.language.specs.World.{World, is-declared-type}
 use Rattle.language.specs.Effects.{join}
 use Rattle.language.specs.Program.{world}
@@ -22,47 +19,21 @@ use Rattle.language.specs.Environment.{Slot, Environment}
 use Rattle.language.specs.Typing.{Typed, TypedAll, typed, last-type, type-of, type-all}
 use Rattle.language.specs.Encoded.{Encoded, EncodedAll}
 use Rattle.language.specs.LookupClasses.{LooksUp, LooksUpAll}
+use Rattle.language.specs.WellFormed.{NodeInForm, NodesInForm}
+use Rattle.language.specs.Rows.{A-assign, G-get, K-cast, Z-is-null, code}
+use Rattle.language.specs.Limits.{of-check}
+use Rattle.layout.specs.Held.{Headed}
+use Rattle.layout.specs.NodeForms.{of-width}
 use Rattle.bodies.specs.declared.Answer.{Answer}
 use Rattle.bodies.specs.declared.Scope.{Scope}
 use Rattle.bodies.specs.Answers.{answer-of, typing-case, case-number, numbers}
-use Rattle.bodies.specs.Tables.{Headed, applied-number}
-use Rattle.language.specs.Rows.{A-assign, G-get, K-cast, Z-is-null, code}
-use Rattle.language.specs.Limits.{of-check}
-
--- Types as numbers write them: 255 is bool and no class.
-pub record Proper (ts : List DeclaredType) : Type 0 where
-  pub each : (i : ℕ) (t : DeclaredType) → nth ts i ≡ some t → type-of-number (type-number t) ≡ t
+use Rattle.bodies.specs.Tables.{applied-number}
 
 -- A row with the letter of a node of one child.
 abbrev pub Unary : List ℕ → ℕ → Type 0
 Unary R at = (getD R (at * 4) 0 ≡ code Z-is-null)
     ⊎ ((getD R (at * 4) 0 ≡ code G-get)
     ⊎ ((getD R (at * 4) 0 ≡ code K-cast) ⊎ (getD R (at * 4) 0 ≡ code A-assign)))
-
--- At most `width` slots in scope and `d` nodes of nesting, with n slots in scope and names up to 255. The arguments of a
--- call wait in a level's slots where they are not more than any method has parameters.
-module _ (width : ℕ) where
-  unfoldable mutual
-    pub Limited : Expr → ℕ → ℕ → Type 0
-    Limited (literal l) n d = Unit {0}
-    Limited (slot k) n d = Unit {0}
-    Limited (is-null e) n d = (1 ≤ d) × Limited e n (d - 1)
-    Limited (get f e) n d = (1 ≤ d) × (f < 256) × Limited e n (d - 1)
-    Limited (cast c e) n d = (1 ≤ d) × Limited e n (d - 1)
-    Limited (new c) n d = Unit {0}
-    Limited (change k c) n d = Unit {0}
-    Limited (assign k e) n d = (1 ≤ d) × Limited e n (d - 1)
-    Limited (set f e e′) n d = (1 ≤ d) × (f < 256) × Limited e n (d - 1) × Limited e′ n (d - 1)
-    Limited (call m e es) n d =
-        (1 ≤ d) × (m < 256) × (how-many es ≤ of-check .parameters → how-many es ≤ width) × Limited e n (d - 1)
-        × LimitedAll es n (d - 1)
-    Limited (choose e x y) n d = (1 ≤ d) × Limited e n (d - 1) × Limited x n (d - 1) × Limited y n (d - 1)
-    Limited (block ts es) n d =
-        (1 ≤ d) × (n + length ts ≤ width) × Proper ts × LimitedAll es (n + length ts) (d - 1)
-
-    pub LimitedAll : Exprs → ℕ → ℕ → Type 0
-    LimitedAll nil n d = Unit {0}
-    LimitedAll (cons e es) n d = Limited e n d × LimitedAll es n d
 
 -- The scope with another top, with n slots more kept below its top, and with n slots more in scope.
 abbrev pub with-top : Scope → ℕ → Scope
@@ -92,13 +63,13 @@ pub record Views (W : World) (γ : Environment) (S : List ℕ) (scope : ℕ) : T
   pub current : (k : ℕ) (s : Slot) → at-slot γ k ≡ some s → is-declared-type W (s .current) ≡ true
   pub declared : (k : ℕ) (s : Slot) → at-slot γ k ≡ some s → is-declared-type W (s .declared) ≡ true
 
--- Room for d more nested nodes, each with a scope's width of slots of its own.
-pub record Room (R S : List ℕ) (scope : Scope) (d : ℕ) : Type 0 where
+-- Room for d more nested nodes, each with a scope's width of slots of its own: enough for the arguments of any call.
+pub record Room (S : List ℕ) (scope : Scope) (d : ℕ) : Type 0 where
   pub this : 1 ≤ scope .size
   pub scoped : scope .size ≤ scope .width
+  pub arguments : of-check .parameters ≤ scope .width
   pub above : scope .width ≤ scope .top
   pub room : scope .top + scope .width * d ≤ length S
-  pub rows : length R ≤ 240000
 
 -- What no call changes: lengths, the slots between the scope's width and its top, and the lookup classes of other rows.
 pub record Kept (S S′ C C′ : List ℕ) (from to width top : ℕ) : Type 0 where
@@ -108,16 +79,23 @@ pub record Kept (S S′ C C′ : List ℕ) (from to width top : ℕ) : Type 0 wh
   pub before : (i : ℕ) → i < from → getD C′ i 0 ≡ getD C i 0
   pub after : (i : ℕ) → to ≤ i → getD C′ i 0 ≡ getD C i 0
 
-pub record Pre (R E T A M F S C : List ℕ) (at : ℕ) (scope : Scope) : Type 0 where
-  pub P : List Class
+-- What is given of expression e at a row: rows and tables hold its program p, the rows from there on are its own, it may
+-- nest d deep, the slots in scope have the types of γ, and there is room for it.
+pub record Given (R E T A M F S : List ℕ) (at : ℕ) (scope : Scope) (p : Program) (e : Expr)
+    (γ : Environment)
+    (d : ℕ) : Type 0 where
+  pub headed : Headed R E T A M F p (scope .count)
+  pub encoded : Encoded R E e at
+  pub in-form : NodeInForm (of-width (scope .width)) d (scope .size) e
+  pub views : Views (world (p .classes)) γ S (scope .size)
+  pub room : Room S scope d
+
+pub record Pre (R E T A M F S : List ℕ) (at : ℕ) (scope : Scope) : Type 0 where
+  pub p : Program
   pub e : Expr
   pub γ : Environment
   pub d : ℕ
-  pub headed : Headed P R E T A M F (scope .count)
-  pub encoded : Encoded R E e at
-  pub limited : Limited (scope .width) e (scope .size) d
-  pub views : Views (world P) γ S (scope .size)
-  pub room : Room R S scope d
+  pub given : Given R E T A M F S at scope p e γ d
 
 -- A type that names a declared class.
 pub record Declared (W : World) (t : ExprType) : Type 0 where
@@ -138,22 +116,25 @@ pub record Is (W : World) (e : Expr) (γ : Environment) (at scope : ℕ) (S′ C
 
 pub record Post (R E T A M F S C S′ C′ : List ℕ) (at : ℕ) (scope : Scope) (r : Answer) : Type 0 where
   pub kept : Kept S S′ C C′ at (getD E at 0) (scope .width) (scope .top)
-  pub is : (P : List Class) (e : Expr) (γ : Environment) (d : ℕ) → Headed P R E T A M F (scope .count)
-      → Encoded R E e at → Limited (scope .width) e (scope .size) d
-      → Views (world P) γ S (scope .size) → Room R S scope d → Is (world P) e γ at (scope .size) S′ C′ r
+  pub is : (w : Pre R E T A M F S at scope)
+      → Is (world (w .p .classes)) (w .e) (w .γ) at (scope .size) S′ C′ r
 
--- n expressions in a row.
-pub record PreList (R E T A M F S C : List ℕ) (at : ℕ) (scope : Scope) (n : ℕ) : Type 0 where
-  pub P : List Class
+-- The same of several expressions in a row; then of n of them.
+pub record GivenAll (R E T A M F S : List ℕ) (at : ℕ) (scope : Scope) (p : Program) (es : Exprs)
+    (γ : Environment) (d : ℕ) : Type 0 where
+  pub headed : Headed R E T A M F p (scope .count)
+  pub encoded : EncodedAll R E es at
+  pub in-form : NodesInForm (of-width (scope .width)) d (scope .size) es
+  pub views : Views (world (p .classes)) γ S (scope .size)
+  pub room : Room S scope d
+
+pub record PreList (R E T A M F S : List ℕ) (at : ℕ) (scope : Scope) (n : ℕ) : Type 0 where
+  pub p : Program
   pub es : Exprs
   pub γ : Environment
   pub d : ℕ
   pub many : n ≡ how-many es
-  pub headed : Headed P R E T A M F (scope .count)
-  pub encoded : EncodedAll R E es at
-  pub limited : LimitedAll (scope .width) es (scope .size) d
-  pub views : Views (world P) γ S (scope .size)
-  pub room : Room R S scope d
+  pub given : GivenAll R E T A M F S at scope p es γ d
 
 pub record AcceptedAll (W : World) (es : Exprs) (γ : Environment) (at scope : ℕ) (S′ C′ : List ℕ)
     (b : TypedAll) : Type 0 where
@@ -161,25 +142,23 @@ pub record AcceptedAll (W : World) (es : Exprs) (γ : Environment) (at scope : �
   pub types : (i : ℕ) (t : ExprType) → nth (b .types) i ≡ some t → Declared W t
   pub looks : LooksUpAll W C′ es γ at
 
--- A block's list after those that gave `last`: the last type, and the effects joined to those so far.
+-- A block's list after those that gave `last`, of type t: the last type, and the effects joined to those so far.
+pub record ItemsAre (W : World) (es : Exprs) (γ : Environment) (at scope : ℕ) (S′ C′ : List ℕ) (last : Answer)
+    (t : ExprType) (r : Answer) : Type 0 where
+  pub out : r ≡ answer-of (bind-checked (type-all W es (at + 1) γ) λ b. typed (last-type t (b .types))
+      (b .slots) (join (last .effect) (b .effect)))
+  pub accepted : (b : TypedAll) → type-all W es (at + 1) γ ≡ accept b → AcceptedAll W es γ at scope S′ C′ b
+
 pub record PostItems (R E T A M F S C S′ C′ : List ℕ) (at : ℕ) (scope : Scope) (n : ℕ) (last r : Answer) :
     Type 0 where
   pub slots-long : length S′ ≡ length S
   pub classes-long : length C′ ≡ length C
   pub between : (i : ℕ) → scope .width ≤ i → i < scope .top → getD S′ i 0 ≡ getD S i 0
   pub before : (i : ℕ) → i < at → getD C′ i 0 ≡ getD C i 0
-  pub after : (es : Exprs) → n ≡ how-many es → EncodedAll R E es at → (i : ℕ) → at + sizes es ≤ i
+  pub after : (w : PreList R E T A M F S at scope n) (i : ℕ) → at + sizes (w .es) ≤ i
       → getD C′ i 0 ≡ getD C i 0
-  pub out : (P : List Class) (es : Exprs) (γ : Environment) (d : ℕ) (t : ExprType) → n ≡ how-many es
-      → Headed P R E T A M F (scope .count)
-      → EncodedAll R E es at → LimitedAll (scope .width) es (scope .size) d
-      → Views (world P) γ S (scope .size)
-      → Room R S scope d
-      → last .typing ≡ typing-case t
-      → (r ≡ answer-of (bind-checked (type-all (world P) es (at + 1) γ) λ b. typed (last-type t (b .types))
-      (b .slots) (join (last .effect) (b .effect))))
-      × ((b : TypedAll) → type-all (world P) es (at + 1) γ ≡ accept b
-      → AcceptedAll (world P) es γ at (scope .size) S′ C′ b)
+  pub is : (w : PreList R E T A M F S at scope n) (t : ExprType) → last .typing ≡ typing-case t
+      → ItemsAre (world (w .p .classes)) (w .es) (w .γ) at (scope .size) S′ C′ last t r
 
 -- The numbers of arguments' types as they are stored.
 unfoldable pub stored : List ExprType → List ℕ
@@ -193,21 +172,21 @@ pub record PostStore (T S S′ : List ℕ) (top n : ℕ) (r : Answer) : Type 0 w
   pub last : getD S′ (top + n) 0 ≡ case-number (r .typing)
 
 -- A call's arguments: their effects joined, and their types stored from the top on.
+pub record ArgumentsAre (W : World) (es : Exprs) (γ : Environment) (at scope top n : ℕ) (S′ C′ : List ℕ)
+    (r : Answer) : Type 0 where
+  pub out : r ≡ answer-of (bind-checked (type-all W es (at + 1) γ) λ b. typed null-type (b .slots)
+      (b .effect))
+  pub accepted : (b : TypedAll) → type-all W es (at + 1) γ ≡ accept b → AcceptedAll W es γ at scope S′ C′ b
+  pub waiting : (b : TypedAll) → type-all W es (at + 1) γ ≡ accept b → (i : ℕ) → i < n
+      → getD S′ (top + i) 0 ≡ getD (stored (b .types)) i 0
+
 pub record PostArguments (R E T A M F S C S′ C′ : List ℕ) (at : ℕ) (scope : Scope) (n : ℕ) (r : Answer) :
     Type 0 where
   pub slots-long : length S′ ≡ length S
   pub classes-long : length C′ ≡ length C
   pub between : (i : ℕ) → scope .width ≤ i → i < scope .top → getD S′ i 0 ≡ getD S i 0
   pub before : (i : ℕ) → i < at → getD C′ i 0 ≡ getD C i 0
-  pub after : (es : Exprs) → n ≡ how-many es → EncodedAll R E es at → (i : ℕ) → at + sizes es ≤ i
+  pub after : (w : PreList R E T A M F S at (raised scope n) n) (i : ℕ) → at + sizes (w .es) ≤ i
       → getD C′ i 0 ≡ getD C i 0
-  pub out : (P : List Class) (es : Exprs) (γ : Environment) (d : ℕ) → n ≡ how-many es
-      → Headed P R E T A M F (scope .count)
-      → EncodedAll R E es at → LimitedAll (scope .width) es (scope .size) d
-      → Views (world P) γ S (scope .size)
-      → Room R S (raised scope n) d
-      → (r ≡ answer-of (bind-checked (type-all (world P) es (at + 1) γ) λ b. typed null-type (b .slots)
-      (b .effect)))
-      × ((b : TypedAll) → type-all (world P) es (at + 1) γ ≡ accept b
-      → AcceptedAll (world P) es γ at (scope .size) S′ C′ b
-      × ((i : ℕ) → i < n → getD S′ (scope .top + i) 0 ≡ getD (stored (b .types)) i 0))
+  pub is : (w : PreList R E T A M F S at (raised scope n) n)
+      → ArgumentsAre (world (w .p .classes)) (w .es) (w .γ) at (scope .size) (scope .top) n S′ C′ r

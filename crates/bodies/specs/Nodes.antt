@@ -5,6 +5,9 @@ use mathlib.Core.List.{List}
 use Prim.Native.Nat.{ℕ, suc, _+_, _*_, _≤_, _<_}
 use lib.Dec.{eqb, leb, ltb}
 use lib.ListN.{length, getD, set}
+use Rattle.language.specs.Limits.{bool-number, member-refusal, name-refusal, of-check, slot-refusal}
+use Rattle.language.specs.Limits.{type-refusal}
+use Rattle.language.specs.ClassTables.{class-width, kind-place}
 use Rattle.bodies.specs.declared.Typing.{Typing}
 use Rattle.bodies.specs.declared.Typing.the-variants.{Bool as bool-case, Class, Null, Refusal}
 use Rattle.bodies.specs.declared.Answer.{Answer}
@@ -12,9 +15,6 @@ use Rattle.bodies.specs.declared.Sought.{Sought}
 use Rattle.bodies.specs.declared.Sought.the-variants.{Found, Missing}
 use Rattle.bodies.specs.Answers.{answer, case-of-number, is-refusal, absent, current-in}
 use Rattle.bodies.specs.Tables.{nearest-from, PreNearest, is-fitting, CaseIn}
-use Rattle.language.specs.Limits.{bool-number, member-refusal, name-refusal, of-check, slot-refusal}
-use Rattle.language.specs.ClassTables.{class-width, kind-place}
-use Rattle.language.specs.Limits.{type-refusal}
 
 -- A refusal on the line of a row.
 abbrev pub refusal : ℕ → ℕ → Answer

@@ -1,24 +1,13 @@
--- What the functions over the tables of classes give, in terms of the tables' numbers, and when the tables hold
--- a program's classes.
+-- What the functions over the tables of classes give, in terms of the tables' numbers.
 use mathlib.Core.Path.{_≡_}
-use mathlib.Core.Bool.{Bool, true, false, not, cond}
-use mathlib.Core.Option.{some}
+use mathlib.Core.Bool.{Bool, false, not, cond}
 use mathlib.Core.List.{List}
 use Prim.Native.Nat.{ℕ, zero, suc, _+_, _*_, _≤_, _<_}
 use lib.Dec.{eqb}
 use lib.ListN.{length, getD}
-use Rattle.language.specs.Lists.{nth}
 use Rattle.language.specs.Limits.{bool-number, of-check}
-use Rattle.language.specs.Results.{passed}
-use Rattle.language.specs.Tree.{type-number, Field, Class, unknown}
-use Rattle.language.specs.World.{is-declared-type}
 use Rattle.language.specs.Effects.{member}
-use Rattle.language.specs.Program.{class-at, world}
-use Rattle.language.specs.ClassTables.{ClassTables, field-rows, class-width, super-place, root-place}
-use Rattle.language.specs.MethodTables.{MethodTables}
-use Rattle.language.specs.Headings.{headings}
-use Rattle.language.specs.Layout.{EachClass, ClassAt}
-use Rattle.language.specs.WellFormed.{Each, ClassInForm}
+use Rattle.language.specs.ClassTables.{class-width, super-place, root-place}
 use Rattle.classes.specs.Subclasses.{is-below}
 use Rattle.bodies.specs.declared.Typing.{Typing}
 use Rattle.bodies.specs.declared.Typing.the-variants.{Bool as bool-case, Class as class-case, Null}
@@ -71,29 +60,6 @@ applied-slot T φ n = with-current n (applied-number T φ (current-in n))
 
 unfoldable pub joined-slot : List ℕ → List ℕ → ℕ → ℕ → ℕ
 joined-slot T A a b = with-current a (joined-number T A (current-in a) (current-in b))
-
--- The tables hold the classes of a list, whose superclasses are earlier classes: what the heading pass gives.
-pub record Classes (P : List Class) (T A : List ℕ) (count : ℕ) : Type 0 where
-  pub tables : ClassTables P T A
-  pub counted : length P ≡ count
-  pub few : count ≤ of-check .classes
-  pub lower : (k : ℕ) (c : Class) → class-at P k ≡ some c → c .super < k
-
--- The tables and the rows hold a program's classes, fields and methods, and its headings pass.
-pub record Headed (P : List Class) (R E T A M F : List ℕ) (count : ℕ) : Type 0 where
-  pub classes : Classes P T A count
-  pub methods : MethodTables P M F
-  pub layout : EachClass (ClassAt R E) P 1 0
-  pub in-form : Each (ClassInForm of-check) P
-  pub passes : headings of-check P ≡ passed
-  pub few-fields : (k : ℕ) → length (world P .fields k) ≤ of-check .fields
-  pub fields : (k i : ℕ) (f : Field) → k ≤ count → nth (world P .fields k) i ≡ some f
-      → (r : ℕ)
-      × (nth (field-rows P k) i ≡ some r)
-      × (r * 4 + 3 < length R)
-      × (getD R (r * 4 + 1) 0 ≡ type-number (f .type))
-      × (is-declared-type (world P) (f .type) ≡ true)
-  pub kinds : (k n : ℕ) (c : Class) → class-at P k ≡ some c → c .kind ≡ unknown n → ⊥
 
 -- A class case names a class below n; a type's number is bool's or a class's up to n.
 abbrev pub CaseIn : ℕ → Typing → Type 0

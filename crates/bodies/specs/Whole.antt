@@ -1,23 +1,24 @@
 -- What the functions over methods and over the whole program require and ensure.
 use mathlib.Core.Path.{_≡_}
+use mathlib.Core.Logic.{_⊎_}
 use mathlib.Core.Option.{some}
 use mathlib.Core.List.{List}
 use Prim.Native.Nat.{ℕ, _+_, _*_, _≤_, _<_}
 use lib.ListN.{length, getD}
+use Rattle.language.specs.Limits.{of-check}
 use Rattle.language.specs.Lists.{nth}
 use Rattle.language.specs.Results.{Pass, passed}
-use Rattle.language.specs.Tree.{Expr, size, Declaration, Class, Program}
+use Rattle.language.specs.Tree.{Expr, size, Program}
 use Rattle.language.specs.World.{World}
 use Rattle.language.specs.Program.{world}
 use Rattle.language.specs.Environment.{Environment, method-environment}
 use Rattle.language.specs.Typing.{type-method, bodies}
 use Rattle.language.specs.LookupClasses.{LooksUp}
 use Rattle.language.specs.MethodTables.{PlacedMethod, placed-methods}
-use Rattle.language.specs.Layout.{body-row, start-row, ProgramAt, LooksUpProgram}
+use Rattle.language.specs.Layout.{body-row, start-row, LooksUpProgram}
+use Rattle.layout.specs.Held.{Headed}
 use Rattle.bodies.specs.declared.Verdict.{Verdict}
 use Rattle.bodies.specs.Answers.{verdict-of, fresh-in}
-use Rattle.bodies.specs.Tables.{Headed}
-use Rattle.bodies.specs.Cycle.{Limited}
 
 -- The slots at the start of a method's body: `this`, then the types of n P lines.
 pub record PreEnter (R S : List ℕ) (from n : ℕ) : Type 0 where
@@ -43,35 +44,21 @@ environment-of m = method-environment (m .owner) (m .declaration .parameters)
 abbrev pub type-numbered : World → ℕ → PlacedMethod → Pass
 type-numbered W number m = type-method W (m .owner) number (m .row + 1) (m .declaration)
 
--- A body with so many slots in scope is within a width and a depth.
-pub record WithinBody (m : Declaration) (width depth : ℕ) : Type 0 where
-  pub wide : 1 + length (m .parameters) ≤ width
-  pub limited : Limited width (m .body) (1 + length (m .parameters)) depth
-
--- Every body of a program is.
-pub record Within (p : Program) (width depth : ℕ) : Type 0 where
-  pub methods : (i : ℕ) (m : PlacedMethod) → nth (placed-methods (p .classes)) i ≡ some m
-      → WithinBody (m .declaration) width depth
-  pub this : 1 ≤ width
-  pub start : Limited width (p .start) 1 depth
-
--- The method of a number, whose body is within a width and a depth.
-pub record MethodFacts (R E T A M F : List ℕ) (count width number depth : ℕ) (P : List Class)
-    (m : PlacedMethod) : Type 0 where
-  pub headed : Headed P R E T A M F count
-  pub there : nth (placed-methods P) number ≡ some m
-  pub within-body : WithinBody (m .declaration) width depth
-
--- Slots of a width for each level of nesting and for those in scope.
+-- Slots of a width for each level of nesting and for those in scope. Width and depth are as much as form allows, or as many
+-- as there are rows; a width is enough for the arguments of any call.
 pub record Spacious (R S : List ℕ) (width depth : ℕ) : Type 0 where
+  pub wide : (of-check .slots ≤ width) ⊎ (length R ≤ 4 * width)
+  pub deep : (of-check .nesting ≤ depth) ⊎ (length R ≤ 4 * depth)
+  pub arguments : of-check .parameters ≤ width
   pub slots : width * (depth + 1) ≤ length S
-  pub rows : length R ≤ 240000
 
+-- The method of a number, m.
 pub record PreMethodBody (R E T A M F S : List ℕ) (count width number : ℕ) : Type 0 where
-  pub P : List Class
+  pub p : Program
   pub m : PlacedMethod
   pub depth : ℕ
-  pub facts : MethodFacts R E T A M F count width number depth P m
+  pub headed : Headed R E T A M F p count
+  pub there : nth (placed-methods (p .classes)) number ≡ some m
   pub space : Spacious R S width depth
 
 -- The answer is the definition's; the lookup classes of the body alone change, and where it passes they are the
@@ -86,24 +73,18 @@ pub record PostMethodBody (R E T A M F S C S′ C′ : List ℕ) (count width nu
   where
     pub slots-long : length S′ ≡ length S
     pub classes-long : length C′ ≡ length C
-    pub is : (P : List Class) (m : PlacedMethod) (depth : ℕ)
-        → MethodFacts R E T A M F count width number depth P m → Spacious R S width depth
-        → MethodIs (world P) number m C C′ r
+    pub is : (w : PreMethodBody R E T A M F S count width number)
+        → MethodIs (world (w .p .classes)) number (w .m) C C′ r
 
 -- A program whose form and headings pass, with its tables; its number of methods, the row of its S line, and a width for
 -- its bodies.
-pub record Ready (R E T A M F S : List ℕ) (count many start width : ℕ) (p : Program) : Type 0 where
-  pub layout : ProgramAt R E p
-  pub headed : Headed (p .classes) R E T A M F count
+pub record BodiesReady (R E T A M F S : List ℕ) (count many start width : ℕ) : Type 0 where
+  pub p : Program
+  pub headed : Headed R E T A M F p count
   pub counted : many ≡ length (placed-methods (p .classes))
   pub started : start ≡ start-row p
   pub depth : ℕ
-  pub within : Within p width depth
-  pub slots : width * (depth + 1) ≤ length S
-
-pub record BodiesReady (R E T A M F S : List ℕ) (count many start width : ℕ) : Type 0 where
-  pub p : Program
-  pub ready : Ready R E T A M F S count many start width p
+  pub space : Spacious R S width depth
 
 -- The verdict is the definition's; where it accepts, the table has the lookup classes of every body.
 pub record BodiesAre (p : Program) (C′ : List ℕ) (r : Verdict) : Type 0 where
@@ -112,4 +93,4 @@ pub record BodiesAre (p : Program) (C′ : List ℕ) (r : Verdict) : Type 0 wher
 
 pub record BodiesDone (R E T A M F S C C′ : List ℕ) (count many start width : ℕ) (r : Verdict) : Type 0 where
   pub long : length C′ ≡ length C
-  pub are : (p : Program) → Ready R E T A M F S count many start width p → BodiesAre p C′ r
+  pub are : (w : BodiesReady R E T A M F S count many start width) → BodiesAre (w .p) C′ r

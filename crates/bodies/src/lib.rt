@@ -820,7 +820,7 @@ fn expression(
     scope: Scope,
 ) -> Answer
     requires { ⌜ Pre (now rows) (now ends) (now table) (now above) (now methods) (now effects) (now slots)
-        (now «class_at») at scope ⌝ }
+        at scope ⌝ }
     ensures { λ r. ⌜ Post (now (rows .entry)) (now (ends .entry)) (now (table .entry)) (now (above .entry))
         (now (methods .entry)) (now (effects .entry)) (now (slots .entry)) (now («class_at» .entry))
         (now (slots .exit)) (now («class_at» .exit)) at scope r ⌝ }
@@ -911,7 +911,7 @@ fn unary(
 ) -> Answer
     requires { ⌜ Unary (now rows) at ⌝ }
     requires { ⌜ Pre (now rows) (now ends) (now table) (now above) (now methods) (now effects) (now slots)
-        (now «class_at») at scope ⌝ }
+        at scope ⌝ }
     ensures { λ r. ⌜ Post (now (rows .entry)) (now (ends .entry)) (now (table .entry)) (now (above .entry))
         (now (methods .entry)) (now (effects .entry)) (now (slots .entry)) (now («class_at» .entry))
         (now (slots .exit)) (now («class_at» .exit)) at scope r ⌝ }
@@ -952,7 +952,7 @@ fn write(
 ) -> Answer
     requires { ⌜ getD (now rows) (at * 4) 0 ≡ code U-set ⌝ }
     requires { ⌜ Pre (now rows) (now ends) (now table) (now above) (now methods) (now effects) (now slots)
-        (now «class_at») at scope ⌝ }
+        at scope ⌝ }
     ensures { λ r. ⌜ Post (now (rows .entry)) (now (ends .entry)) (now (table .entry)) (now (above .entry))
         (now (methods .entry)) (now (effects .entry)) (now (slots .entry)) (now («class_at» .entry))
         (now (slots .exit)) (now («class_at» .exit)) at scope r ⌝ }
@@ -1006,7 +1006,7 @@ fn call(
 ) -> Answer
     requires { ⌜ getD (now rows) (at * 4) 0 ≡ code Q-call ⌝ }
     requires { ⌜ Pre (now rows) (now ends) (now table) (now above) (now methods) (now effects) (now slots)
-        (now «class_at») at scope ⌝ }
+        at scope ⌝ }
     ensures { λ r. ⌜ Post (now (rows .entry)) (now (ends .entry)) (now (table .entry)) (now (above .entry))
         (now (methods .entry)) (now (effects .entry)) (now (slots .entry)) (now («class_at» .entry))
         (now (slots .exit)) (now («class_at» .exit)) at scope r ⌝ }
@@ -1091,7 +1091,7 @@ fn choose(
 ) -> Answer
     requires { ⌜ getD (now rows) (at * 4) 0 ≡ code J-choose ⌝ }
     requires { ⌜ Pre (now rows) (now ends) (now table) (now above) (now methods) (now effects) (now slots)
-        (now «class_at») at scope ⌝ }
+        at scope ⌝ }
     ensures { λ r. ⌜ Post (now (rows .entry)) (now (ends .entry)) (now (table .entry)) (now (above .entry))
         (now (methods .entry)) (now (effects .entry)) (now (slots .entry)) (now («class_at» .entry))
         (now (slots .exit)) (now («class_at» .exit)) at scope r ⌝ }
@@ -1171,7 +1171,7 @@ fn block(
 ) -> Answer
     requires { ⌜ getD (now rows) (at * 4) 0 ≡ code B-block ⌝ }
     requires { ⌜ Pre (now rows) (now ends) (now table) (now above) (now methods) (now effects) (now slots)
-        (now «class_at») at scope ⌝ }
+        at scope ⌝ }
     ensures { λ r. ⌜ Post (now (rows .entry)) (now (ends .entry)) (now (table .entry)) (now (above .entry))
         (now (methods .entry)) (now (effects .entry)) (now (slots .entry)) (now («class_at» .entry))
         (now (slots .exit)) (now («class_at» .exit)) at scope r ⌝ }
@@ -1222,7 +1222,7 @@ fn items(
     last: Answer,
 ) -> Answer
     requires { ⌜ PreList (now rows) (now ends) (now table) (now above) (now methods) (now effects) (now slots)
-        (now «class_at») at scope n ⌝ }
+        at scope n ⌝ }
     ensures { λ r. ⌜ PostItems (now (rows .entry)) (now (ends .entry)) (now (table .entry))
         (now (above .entry)) (now (methods .entry)) (now (effects .entry)) (now (slots .entry))
         (now («class_at» .entry)) (now (slots .exit)) (now («class_at» .exit)) at scope n last r ⌝ }
@@ -1273,7 +1273,7 @@ fn arguments(
 ) -> Answer
     requires { ⌜ scope .width ≤ scope .top ⌝ }
     requires { ⌜ PreList (now rows) (now ends) (now table) (now above) (now methods) (now effects) (now slots)
-        (now «class_at») at (raised scope n) n ⌝ }
+        at (raised scope n) n ⌝ }
     ensures { λ r. ⌜ PostArguments (now (rows .entry)) (now (ends .entry)) (now (table .entry))
         (now (above .entry)) (now (methods .entry)) (now (effects .entry)) (now (slots .entry))
         (now («class_at» .entry)) (now (slots .exit)) (now («class_at» .exit)) at scope n r ⌝ }

@@ -21,8 +21,8 @@ use Rattle.language.specs.ClassTables.{ClassTables}
 use Rattle.language.specs.MethodTables.{MethodTables, placed-methods}
 use Rattle.language.specs.Layout.{start-row}
 use Rattle.layout.specs.Standing.{program-at}
-use Rattle.layout.specs.Headed.{super-lower}
-use Rattle.layout.specs.Held.{Held, Headed as HeldHeadings}
+use Rattle.layout.specs.Held.{Headed, Held}
+use Rattle.layout.specs.HeldLaws.{few, lower}
 use Rattle.classes.proofs.Below.{subclasses}
 use Rattle.form.specs.Answers.{formed-of}
 use Rattle.form.specs.declared.Formed.{Formed}
@@ -33,15 +33,12 @@ use Rattle.headings.specs.declared.Headed as answered
 use Rattle.headings.specs.declared.Headed.the-variants.{Passed, Refused as NotPassed}
 use Rattle.headings.proofs.Checks.{is-passed, passed-count, is-refused}
 use Rattle.bodies.specs.Answers as typings
-use Rattle.bodies.specs.Tables.{Headed}
-use Rattle.bodies.specs.Whole.{Ready, BodiesReady, BodiesAre, BodiesDone}
-use Rattle.bodies.proofs.Within.{within-limits}
+use Rattle.bodies.specs.Whole.{BodiesReady, BodiesAre, BodiesDone}
 use Rattle.bodies.specs.declared.Verdict as typed
 use Rattle.checker.specs.declared.Checked.{Checked}
 use Rattle.checker.specs.declared.Checked.the-variants.{Accepted, Refused}
 use Rattle.checker.specs.Answers.{checked-case, typed-case, verdict-case, verdict-of-checked}
 use Rattle.checker.specs.Passes.{Room, ClassRoom, BodyRoom, Stands, Checks, ChecksAbove}
-use Rattle.checker.proofs.Heading.{headed}
 
 -- ---- answers
 
@@ -61,7 +58,7 @@ pub checks-above : {R E T A M C : List ℕ} {r : Checked} → Checks R E T A M C
 checks-above c = record {
   answer = c .answer;
   tells = λ p e. let h = c .holds p e .1 .headed in
-      subclasses (p .classes) (super-lower (p .classes) tt (h .passes)) (h .classes) (h .here .in-form .few);
+      subclasses (p .classes) (lower h) (h .classes) (few h);
 }
 
 -- Where the check answers accepted, there is the program; else it refuses.
@@ -150,25 +147,28 @@ module _ (R : List ℕ) where
 
   -- Effects and slots of the check: 256 slots for each of 128 levels of nesting and as many again; of at most 32 rows, 32.
   body-room : (methods width depth slots : ℕ) → (length R ≤ 12 * methods) ⊎ (20000 ≤ methods)
-      → (256 ≤ width) ⊎ (length R ≤ 4 * width) → (128 ≤ depth) ⊎ (length R ≤ 4 * depth)
+      → (256 ≤ width) ⊎ (length R ≤ 4 * width) → (128 ≤ depth) ⊎ (length R ≤ 4 * depth) → 8 ≤ width
       → width * (depth + 1) ≤ slots → BodyRoom R (replicate methods 0) (replicate slots 0) width
-  body-room methods width depth slots a wide deep room =
+  body-room methods width depth slots a wide deep arguments room =
       let f = length-replicate {A = ℕ} methods 0 in
       let s = length-replicate {A = ℕ} slots 0 in
-      record { effects = rw f a; depth = depth; wide = wide; deep = deep; slots = rw s room }
+      record {
+        effects = rw f a;
+        depth = depth;
+        space = record { wide = wide; deep = deep; arguments = arguments; slots = rw s room };
+      }
 
   pub body-short : length R ≤ 128 → BodyRoom R (replicate 11 0) (replicate 1056 0) 32
   body-short l = body-room 11 32 32 1056 (inl (omega (arith, l))) (inr (omega (arith, l)))
-      (inr (omega (arith, l)))
-      (omega arith)
+      (inr (omega (arith, l))) (omega arith) (omega arith)
 
   pub body-few : length R ≤ 4096 → BodyRoom R (replicate 342 0) (replicate 33024 0) 256
   body-few l = body-room 342 256 128 33024 (inl (omega (arith, l))) (inl (omega arith)) (inl (omega arith))
-      (omega arith)
+      (omega arith) (omega arith)
 
   pub body-many : BodyRoom R (replicate 20000 0) (replicate 33024 0) 256
   body-many = body-room 20000 256 128 33024 (inr (omega arith)) (inl (omega arith)) (inl (omega arith))
-      (omega arith)
+      (omega arith) (omega arith)
 
 module _ (A : List ℕ) {classes : ℕ} where
   pub few-classes : classes ≤ 7 → classes + 1 ≤ length A → ClassRoom (replicate 4608 0) A classes
@@ -188,7 +188,7 @@ module _ (A : List ℕ) {classes : ℕ} where
 pub record HeadingsPassed (R E T A M F : List ℕ) (classes many start : ℕ) : Type 0 where
   pub whole : length R % 4 ≡ 0
   pub stands : Stands R E classes start
-  pub headed : HeldHeadings R E T A M F (stands .program)
+  pub headed : Headed R E T A M F (stands .program) classes
   pub numbered : many ≡ length (placed-methods (stands .program .classes))
 
 abbrev pub ready : {R E T A M F S : List ℕ} {n start width : ℕ} → Stands R E n start → Room R E M
@@ -222,6 +222,7 @@ module _ {R E : List ℕ} {n start : ℕ} (s : Stands R E n start) where
         stands = s;
         headed = record {
           here = s .here;
+          counted = s .counted;
           passes = is-passed count P many (sym e ∙ f .0);
           classes = t .0;
           methods = t .1;
@@ -248,20 +249,16 @@ module _ {R E T A M F : List ℕ} {n many start : ℕ} (w : HeadingsPassed R E T
   abbrev p : Program
   p = w .stands .program
 
-  pub bodies-stand : Ready R E T A M F S n many start width p
-  bodies-stand = record {
-    layout = w .stands .here;
-    headed = subst (Headed (p .classes) R E T A M F) (w .stands .counted) (headed (w .headed));
+  -- What the body pass is called on.
+  abbrev pub bodies-ready : BodiesReady R E T A M F S n many start width
+  bodies-ready = record {
+    p = p;
+    headed = w .headed;
     counted = w .numbered;
     started = sym (w .stands .started);
     depth = b .depth;
-    within = within-limits (w .stands .here) width (b .depth) (b .wide) (b .deep);
-    slots = b .slots;
+    space = b .space;
   }
-
-  -- What the body pass is called on.
-  abbrev pub bodies-ready : BodiesReady R E T A M F S n many start width
-  bodies-ready = record { p = p; ready = bodies-stand }
 
   after-headings : check R ≡ bind-checked (bodies p) λ _. accept p
   unfolding bind-checked
@@ -271,7 +268,7 @@ module _ {R E T A M F : List ℕ} {n many start : ℕ} (w : HeadingsPassed R E T
   pub bodies-checked : {C C′ : List ℕ} {v : typed.Verdict} {r : Checked}
       → BodiesDone R E T A M F S C C′ n many start width v → r ≡ typed-case n v → Checks R E T A M C′ r
   unfolding bind-checked
-  bodies-checked {C′ = C′} {v} {r} d e = let b = d .are p bodies-stand in go (bodies p) refl b
+  bodies-checked {C′ = C′} {v} {r} d e = let b = d .are bodies-ready in go (bodies p) refl b
     where
       go : (x : Pass) → bodies p ≡ x → BodiesAre p C′ v → Checks R E T A M C′ r
       go (accept u) q b =
@@ -282,7 +279,11 @@ module _ {R E T A M F : List ℕ} {n many start : ℕ} (w : HeadingsPassed R E T
             holds = λ z g. (
               F,
               subst (Held R E T A M F C′) (accept-injective (sym a ∙ g))
-                  (record { headed = w .headed; typed = q; looks = b .looks q }),
+                  (record {
+                    headed = subst (Headed R E T A M F p) (sym (w .stands .counted)) (w .headed);
+                    typed = q;
+                    looks = b .looks q;
+                  }),
             );
           }
       go (refuse i l) q b =

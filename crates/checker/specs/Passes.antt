@@ -17,6 +17,7 @@ use Rattle.language.specs.Layout.{ProgramAt, start-row}
 use Rattle.layout.specs.Held.{Held}
 use Rattle.classes.specs.Subclasses.{Subclasses}
 use Rattle.headings.specs.Numbers.{numbers-a-method, most-methods}
+use Rattle.bodies.specs.Whole.{Spacious}
 use Rattle.checker.specs.declared.Checked.{Checked}
 use Rattle.checker.specs.Answers.{checked-case}
 
@@ -39,13 +40,11 @@ pub record Room (R E M : List ℕ) : Type 0 where
   pub methods : (length R * method-width ≤ numbers-a-method * length M)
       ⊎ (most-methods * method-width ≤ length M)
 
--- What the check alone reads: an effect for each method, and slots, `width` for each level of nesting and as many again.
+-- What the check alone reads: an effect for each method, and slots for bodies.
 pub record BodyRoom (R F S : List ℕ) (width : ℕ) : Type 0 where
   pub effects : (length R ≤ numbers-a-method * length F) ⊎ (most-methods ≤ length F)
   pub depth : ℕ
-  pub wide : (of-check .slots ≤ width) ⊎ (length R ≤ 4 * width)
-  pub deep : (of-check .nesting ≤ depth) ⊎ (length R ≤ 4 * depth)
-  pub slots : width * (depth + 1) ≤ length S
+  pub space : Spacious R S width depth
 
 -- Class tables with a block and an entry for each of so many classes and for Object.
 pub record ClassRoom (T A : List ℕ) (classes : ℕ) : Type 0 where

@@ -17,8 +17,8 @@ use Rattle.language.specs.Store.{Answer, gave, ended, refused, ran, run-of}
 use Rattle.language.specs.Translation.{translation}
 use Rattle.language.proofs.Filling.{take-sets, sets-then, held-inv, held-again, answer-fits, answer-short}
 use Rattle.language.proofs.Filling.{answer-refused, answer-refused-inv, answer-done-inv, buffer-long}
-use Rattle.theory.specs.Translatable.{translation-takes}
-use Rattle.theory.specs.Accepts.{numbers-whole}
+use Rattle.theory.proofs.acceptance.Translatable.{translation-takes}
+use Rattle.theory.proofs.acceptance.Acceptance.{numbers-whole}
 use Rattle.language.specs.Alphabet.{ours}
 use Rattle.language.specs.Texts.{read-text, write-rows}
 use Rattle.text.proofs.Parsing.{read-whole-rows}

@@ -12,10 +12,10 @@ use Rattle.language.specs.Filling.{held, answer, buffer}
 use Rattle.language.proofs.Filling.{Made, held-inv, answer-refused-inv, answer-done-inv}
 use Rattle.language.specs.Store.{capacity, run-of}
 use Rattle.language.specs.Translation.{translation}
-use Rattle.theory.specs.Accepts.{numbers-count}
-use Rattle.theory.specs.Translatable.{translation-takes}
+use Rattle.theory.proofs.acceptance.Acceptance.{numbers-count}
+use Rattle.theory.proofs.acceptance.Translatable.{translation-takes}
 use Rattle.promises.specs.Endings.{EndsProperly, EndAlikeOnStores}
-use Rattle.promises.specs.Demands.{demand-3, demand-3-back}
+use Rattle.promises.proofs.Demands.{demand-3, demand-3-back}
 use Rattle.runner.specs.declared.Answer.{Answer}
 use Rattle.runner.specs.declared.Answer.the-variants.{Refused}
 use Rattle.runner.specs.Answers.{answer-told, Answers}

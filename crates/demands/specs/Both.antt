@@ -11,7 +11,7 @@ use Rattle.language.specs.Filling.{held, buffer}
 use Rattle.language.specs.Store.{capacity, refused, Ran, run-of}
 use Rattle.language.specs.Translation.{translation}
 use Rattle.promises.specs.Endings.{EndsProperly, EndAlikeOnStores}
-use Rattle.promises.specs.Demands.{most-source-fuel}
+use Rattle.promises.proofs.Demands.{most-source-fuel}
 use Rattle.runner.specs.Answers.{Answers, answer-told}
 use Rattle.demands.specs.declared.Both.{Both}
 

@@ -17,8 +17,8 @@ use Rattle.language.specs.Headings.{check-parameters, check-effects}
 use Rattle.language.specs.ClassTables.{stored-place, method-number}
 use Rattle.language.specs.MethodTables.{placed-methods}
 use Rattle.language.specs.Layout.{Run, EffectsAt}
-use Rattle.theory.specs.Lookups.{each-at}
-use Rattle.theory.specs.WellEqual.{effects-well}
+use Rattle.theory.proofs.lookups.LookupLaws.{each-at}
+use Rattle.theory.proofs.acceptance.AcceptedWell.{effects-well}
 use Rattle.layout.specs.Found.{methods-few}
 use Rattle.layout.specs.Headed.{effects-declared}
 use Rattle.headings.specs.Answers.{headed}

@@ -22,8 +22,8 @@ use Rattle.language.specs.Program.{world}
 use Rattle.language.specs.Headings.{same-type, same-types, lines-within, check-parameters, check-effects}
 use Rattle.language.specs.Encoded.{RowAt, LinesAt}
 use Rattle.language.proofs.Lines.{less-or-same}
-use Rattle.theory.specs.Lookups.{each-at}
-use Rattle.theory.specs.WellPasses.{type-same}
+use Rattle.theory.proofs.lookups.LookupLaws.{each-at}
+use Rattle.theory.proofs.acceptance.WellAccepted.{type-same}
 use Rattle.headings.specs.Answers.{headed}
 use Rattle.headings.specs.declared.Headed.the-variants.{Passed, Refused}
 use Rattle.headings.specs.Faults.{faulty, fault-of-effect}

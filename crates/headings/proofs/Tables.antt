@@ -19,7 +19,7 @@ use Rattle.language.specs.Program.{class-at, is-plain, is-root, is-state, is-ro
 use Rattle.language.specs.Program.{world-with}
 use Rattle.language.specs.Headings.{may-extend}
 use Rattle.language.specs.ClassTables.{stored-place}
-use Rattle.theory.specs.MoreLookups.{place-last}
+use Rattle.theory.proofs.lookups.TranslatorLookups.{place-last}
 use Rattle.headings.specs.Blocks.{Block, Filled, Lookups, Working}
 use Rattle.headings.specs.Faults.{fault-of-effect}
 use Rattle.headings.specs.Ready.{StateReady, EffectReady}

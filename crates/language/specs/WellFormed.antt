@@ -6,11 +6,12 @@ use mathlib.Core.Path.{_≡_}
 use Prim.Native.Nat.{ℕ, suc, _+_, _≤_, _<_}
 use mathlib.Core.Option.{Option, none, some}
 use mathlib.Core.Bool.{true}
-use mathlib.Core.List.{List, [], _∷_, _++_}
+use mathlib.Core.List.{List, [], _∷_, _++_, map}
 use lib.ListN.{length}
 use mathlib.Core.Logic.{_≢_}
 use Rattle.language.specs.Limits.{Most, of-check, largest}
 use Rattle.language.specs.Lists.{map-option}
+use Rattle.language.specs.Rows.{row-of, numbers-of}
 pub use Rattle.language.specs.Lists.{Each, each-nil, each-cons}
 use Rattle.language.specs.Tree.{DeclaredType, type-number, type-of-number, ExprType, Expr, Literal}
 use Rattle.language.specs.Tree.{literal, slot, is-null, get, cast}
@@ -165,3 +166,16 @@ pub record ProgramWell (p : Program) : Type 0 where
   pub γ : Environment
   pub φ : ℕ
   pub start : HasType (p .classes) start-environment (p .start) t γ φ
+
+-- The numbers are whole rows, those of a program that is in form, within the limits of 60,000 rows, 64
+-- classes, 8 parameters, 256 slots, nesting 128 and names up to 255, and whose headings and bodies are well
+-- formed.
+pub record RowsOf (ns : List ℕ) (p : Program) : Type 0 where
+  pub rows : numbers-of (map row-of (flatten-program p)) ≡ ns
+  pub in-form : ProgramInForm of-check p
+  pub well : ProgramWell p
+
+-- The numbers are the rows of a well-formed program.
+pub record WellFormedRows (ns : List ℕ) : Type 0 where
+  pub program : Program
+  pub rows-of-it : RowsOf ns program

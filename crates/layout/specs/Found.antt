@@ -32,7 +32,7 @@ use Rattle.language.specs.ClassTables.{rows-from, class-row, field-rows-at, fie
 use Rattle.language.specs.Encoded.{RowAt, NodeAt, LinesAt, Encoded}
 use Rattle.language.specs.Layout.{EachMethod, EachClass, FieldsAt, MethodAt, ClassAt, ProgramAt}
 use Rattle.language.specs.Layout.{methods-from-row}
-use Rattle.theory.specs.Lookups.{each-at}
+use Rattle.theory.proofs.lookups.LookupLaws.{each-at}
 use Rattle.language.proofs.Tables.{size-positive}
 use Rattle.language.specs.MethodTables.{PlacedMethod, placed-in, placed-from, placed-methods}
 use mathlib.Core.Logic.{_⊎_, inl, inr}

@@ -21,12 +21,12 @@ use Rattle.language.specs.WellFormed.{Each, each-nil, each-cons, Extends, plain
 use Rattle.language.specs.WellFormed.{root-object, root-plain, state-root, state-state, FieldsWell, well-nil}
 use Rattle.language.specs.WellFormed.{well-cons, EffectWell, well-none, well-root}
 use Rattle.language.proofs.Classes.{class-count}
-use Rattle.theory.specs.WellEqual.{extends, fields-well, parameters-well, effects-well}
-use Rattle.theory.specs.Superclasses.{fields-law}
-use Rattle.theory.specs.LookupsAgree.{declared-is, field-type-declared}
+use Rattle.theory.proofs.acceptance.AcceptedWell.{extends, fields-well, parameters-well, effects-well}
+use Rattle.theory.proofs.lookups.Superclasses.{fields-law}
+use Rattle.theory.proofs.lookups.LookupsAgree.{declared-is, field-type-declared}
 use Rattle.language.specs.MethodTables.{PlacedMethod}
-use Rattle.theory.specs.MoreLookups.{own-few}
-use Rattle.theory.specs.Lookups.{each-at, each-append}
+use Rattle.theory.proofs.lookups.TranslatorLookups.{own-few}
+use Rattle.theory.proofs.lookups.LookupLaws.{each-at, each-append}
 use Rattle.layout.specs.Found.{Owned}
 
 pub record MethodHeaded (P : List Class) (m : Declaration) : Type 0 where

@@ -3,5 +3,8 @@ pub mod Standing
 pub mod Found
 pub mod Headed
 pub mod Held
+pub mod HeldLaws
+pub mod NodeForms
+pub mod ProperNodes
 pub mod HeadingRuns
 pub mod Walks

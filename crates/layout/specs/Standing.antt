@@ -27,9 +27,9 @@ use Rattle.language.specs.WellFormed.{ProgramInForm}
 use Rattle.language.proofs.Tables.{next-rows-long, ends-long, method-ends-long, class-ends-long}
 use Rattle.language.proofs.Tables.{classes-ends-long}
 use Rattle.language.proofs.Lines.{lines-map}
-use Rattle.theory.specs.TreeRows.{length-flatten, length-methods, length-classes, length-program}
-use Rattle.theory.specs.WholeBack.{form-back}
-use Rattle.theory.specs.Accepts.{numbers-of-rows}
+use Rattle.theory.proofs.reading.RowCounts.{length-flatten, length-methods, length-classes, length-program}
+use Rattle.theory.proofs.reading.FlattenProgram.{form-back}
+use Rattle.theory.proofs.acceptance.Acceptance.{numbers-of-rows}
 use Rattle.layout.specs.Places.{lines-split, RecordAt, EndAt, records-lines, ends-lines}
 
 rows-count : (xs : List Record) → length (numbers-of (map row-of xs)) ≡ 4 * length xs

@@ -9,22 +9,21 @@ use lib.ListN.{set as put}
 use lib.Seq.{getD-set-same, getD-set-other, drop-cons}
 use native.Mathlib.Numerals.{add-one}
 use Rattle.machine.proofs.Frames.{slots-ext, word-put}
-use Rattle.machine.proofs.Lists.{FirstAt, list-parts, list-apart, list-first, head-done}
+use Rattle.machine.proofs.Lists.{FirstAt, list-apart, list-ended, list-first}
 use Rattle.objects.specs.Values.{meaning, Outcome, Gave, Raised, Stopped, Stuck, Counts, Answer, Small, bare}
 use Rattle.objects.specs.Values.{told, answer}
 use Rattle.machine.specs.declared.Place.{Place}
 use Rattle.machine.specs.Machine.{told-all, slots-of, state, frame-of}
-use Rattle.objects.specs.Holding.{WithinAll}
-use Rattle.objects.specs.Contracts.{IsWord}
-use Rattle.machine.specs.Contracts.{waiting, Ready, Kept, PostEval, PreArgs, PostArgs, DoneAll}
-use Rattle.machine.specs.Contracts.{evaluated}
-use Rattle.machine.specs.Contracts.{evaluated-all}
+use Rattle.objects.proofs.Holding.{still-holding}
+use Rattle.objects.specs.Acts.{IsWord}
+use Rattle.machine.specs.Evaluator.{waiting, Ready, Kept, PostEval, PreArgs, PostArgs}
+use Rattle.machine.specs.Evaluator.{evaluated}
+use Rattle.machine.specs.Evaluator.{evaluated-all}
 use Rattle.objects.proofs.Values.{bare-ok, bare-stop, small-of}
 use Rattle.objects.proofs.Acts.{stored-same}
 use Rattle.machine.proofs.Steps.{kept-then, room-same, gives, kept-of}
 use Rattle.language.specs.Results.{ok, bind}
-use Rattle.language.specs.Tree.{Expr, Exprs, nil, cons, count, Class}
-use Rattle.language.specs.Encoded.{EncodedAll}
+use Rattle.language.specs.Tree.{Class}
 use Rattle.language.specs.State.{Value as Meaning, null, State, Out}
 use Rattle.language.specs.Evaluation.{eval-all}
 use Rattle.language.specs.Store.{capacity}
@@ -69,28 +68,21 @@ fails-all Stuck vs t x k not e = bare-stop x k e
 pub args-none : {R E T A M s l : List ℕ} {at : ℕ} {q : Place} {n : Counts} {m : ℕ} {v : Meaning} → m ≡ 0
     → Small v
     → PostArgs R E T A M s l s l at q n m (answer (Gave v) n)
-unfolding eval-all count bare slots-of
-args-none {R} {E} {T} {A} {M} {s} {l} {at} {q} {n} {m} {v} z small =
-    record { done = λ P es width d F k f room enc w many t. go P F k t f es many }
-  where
-    go : (P : List Class) (F k : ℕ) → k + n .left ≡ F → {width d : ℕ} → Ready R E T A M s l P width q n d 0
-        → (es : Exprs)
-        → m ≡ count es
-        → DoneAll P width s l s l q n F m (answer (Gave v) n)
-        (evaluated-all P F (capacity s) (q .calls) es (state P s l q n k))
-    go P F k t f nil many = record {
-      kept = record {
-        same = λ i h o. refl;
-        long = refl;
-        words = f .words;
-        stored = stored-same (f .sound);
-        falls = omega arith;
-        counted = omega arith;
-        small = small;
-      };
-      is = let g : F - n .left ≡ k = omega arith in rw (g, z);
-    }
-    go P F k t f (cons e es) many = absurd (omega arith)
+unfolding eval-all bare slots-of
+args-none {n = n} z small = record {
+  done = λ p F k t. record {
+    kept = record {
+      same = λ i h o. refl;
+      long = refl;
+      words = p .list .ready .words;
+      stored = stored-same (p .list .ready .holding .sound);
+      falls = omega arith;
+      counted = omega arith;
+      small = small;
+    };
+    is = let g : F - n .left ≡ k = omega arith in rw (g, list-ended (p .list) z, z);
+  };
+}
 
 -- ready for the next argument
 ready-further : {R E T A M s l s′ l′ : List ℕ} {P : List Class} {width : ℕ} {q : Place} {n : Counts} {d : ℕ}
@@ -99,9 +91,7 @@ ready-further : {R E T A M s l s′ l′ : List ℕ} {P : List Class} {width : �
     → q .top + m + waiting d ≤ length l → Kept P width s l s′ l′ q n 0 r
     → Ready R E T A M s′ (put l′ (q .top) x) P width (further q) (r .counts) d 0
 ready-further {l′ = l′} {q = q} m x iw z f room k = record {
-  holds = f .holds;
-  methods = f .methods;
-  sound = k .stored .sound;
+  holding = still-holding (f .holding) (k .stored .sound);
   frame = omega (arith, f .frame);
   scoped = f .scoped;
   whole = omega (arith, f .whole, k .long, length-set l′ (q .top) x);
@@ -111,102 +101,86 @@ ready-further {l′ = l′} {q = q} m x iw z f room k = record {
   counted = omega (arith, f .counted, k .counted);
 }
 
-pub args-rest : {R E T A M s l s′ l′ : List ℕ} {at : ℕ} {q : Place} {n : Counts} {m : ℕ} {r : Answer}
-    {v : Meaning} {P : List Class} {e : Expr} {es : Exprs} {width d F k : ℕ}
-    (y : FirstAt R E T A M s l at q n m P e es width d F k) → m < 4294967296
-    → q .top + m + waiting d ≤ length l
-    → (g : PostEval R E T A M s l s′ l′ at q n r) (t : r .outcome ≡ Gave v) (x : ℕ)
+abbrev args-rest : {R E T A M s l s′ l′ : List ℕ} {at : ℕ} {q : Place} {n : Counts} {m : ℕ} {r : Answer}
+    (p : PreArgs R E T A M s l at q n m) (y : FirstAt (p .list))
+    (g : PostEval R E T A M s l s′ l′ at q n r) (x : ℕ)
     → IsWord x → PreArgs R E T A M s′ (put l′ (q .top) x) (getD E at 0) (further q) (r .counts) (m - 1)
-args-rest {s = s} {l} {s′} {l′} {q = q} {m = m} {r} {v} {P} {e} {es} {width} {d} {F} {k} y few room g t x iw =
-    let a = head-done y few g t in
-    let z : m ≡ 0 → ⊥ = λ u. omega (arith, y .many) in
+args-rest {l′ = l′} {q = q} {m = m} p y g x iw =
+    let kp = kept-of (list-first y) g in
     record {
       list = record {
-        P = P;
-        es = es;
-        width = width;
-        d = d;
-        ready = ready-further m x iw z (y .ready) room (a .kept);
+        P = p .list .P;
+        es = y .es;
+        width = p .list .width;
+        d = p .list .d;
+        ready = ready-further m x iw (λ u. omega (arith, y .many)) (p .list .ready) (p .room) kp;
         encoded = rw (y .end) (y .enc-rest);
-        within = y .within-rest;
+        proper = y .proper-rest;
         many = omega (arith, y .many);
-        few = omega arith;
+        few = omega (arith, p .list .few);
       };
-      room = omega (arith, room, a .kept .long, length-set l′ (q .top) x, y .many);
+      room = omega (arith, p .room, kp .long, length-set l′ (q .top) x, y .many);
     }
 
 module _ {R E T A M s l s′ l′ : List ℕ} {at : ℕ} {q : Place} {n : Counts} {m : ℕ} {r : Answer} (z : m ≡ 0 → ⊥)
     (g : PostEval R E T A M s l s′ l′ at q n r) where
   pub args-fail : ((v : Meaning) → r .outcome ≡ Gave v → ⊥) → PostArgs R E T A M s l s′ l′ at q n m r
-  unfolding eval-all count
-  args-fail not = record { done = λ P es width d F k f room enc w many t. go P width d F k f t es enc w many }
-    where
-      go : (P : List Class) (width d F k : ℕ) → Ready R E T A M s l P width q n d 0 → k + n .left ≡ F
-          → (es : Exprs)
-          → EncodedAll R E es at → WithinAll (length P) width (q .scope) d es → m ≡ count es
-          → DoneAll P width s l s′ l′ q n F m r
-          (evaluated-all P F (capacity s) (q .calls) es (state P s l q n k))
-      go P width d F k f t nil enc w many = absurd (z many)
-      go P width d F k f t (cons e es) enc w many =
-          let x = list-parts {at = at} m P e es width d F k f enc w many t in
-          let a = g .done P e width d F k f (x .enc-first) (x .within-first) t in
-          record {
-            kept = a .kept;
-            is = fails-all (r .outcome) (slots-of l′ (q .top) m)
-                (state P s′ l′ q (r .counts) (F - r .counts .left))
-                (evaluated P F (capacity s) (q .calls) e (state P s l q n k))
-                (λ v u. bind (evaluated-all P F (capacity s) (q .calls) es u) λ vs y. ok (v ∷ vs) y) not
-                (a .is);
-          }
+  unfolding eval-all
+  args-fail not = record {
+    done = λ p F k t.
+        let P = p .list .P in
+        let x = list-apart (p .list) z in
+        let a = g .done (list-first x) F k t in
+        record {
+          kept = a .kept;
+          is = rw (x .is) (fails-all (r .outcome) (slots-of l′ (q .top) m)
+              (state P s′ l′ q (r .counts) (F - r .counts .left))
+              (evaluated P F (capacity s) (q .calls) (x .e) (state P s l q n k))
+              (λ v u. bind (evaluated-all P F (capacity s) (q .calls) (x .es) u) λ vs y. ok (v ∷ vs) y) not
+              (a .is));
+        };
+  }
 
   pub args-step : {s″ l″ : List ℕ} {v : Meaning} {r′ : Answer} → r .outcome ≡ Gave v → (y : ℕ)
       → meaning y ≡ v → IsWord y
       → PostArgs R E T A M s′ (put l′ (q .top) y) s″ l″ (getD E at 0) (further q) (r .counts) (m - 1) r′
       → PostArgs R E T A M s l s″ l″ at q n m r′
-  unfolding eval-all count frame-of
-  args-step {s″} {l″} {v} {r′} e₁ y ey iw g′ =
-      record { done = λ P es width d F k f room enc w many t. go P width d F k f room t es enc w many }
-    where
-      go : (P : List Class) (width d F k : ℕ) → Ready R E T A M s l P width q n d 0
-          → q .top + m + waiting d ≤ length l → k + n .left ≡ F → (es : Exprs)
-          → EncodedAll R E es at → WithinAll (length P) width (q .scope) d es → m ≡ count es
-          → DoneAll P width s l s″ l″ q n F m r′
-          (evaluated-all P F (capacity s) (q .calls) es (state P s l q n k))
-      go P width d F k f room t nil enc w many = absurd (z many)
-      go P width d F k f room t (cons e es) enc w many =
-          let x = list-parts {at = at} m P e es width d F k f enc w many t in
-          let a = g .done P e width d F k f (x .enc-first) (x .within-first) t in
-          let c : capacity s′ ≡ capacity s = room-same s s′ (a .kept .stored .long) in
-          let st : State = state P s′ l′ q (r .counts) (F - r .counts .left) in
-          let gave : evaluated P F (capacity s) (q .calls) e (state P s l q n k) ≡ ok v st =
-          gives st (evaluated P F (capacity s) (q .calls) e (state P s l q n k)) e₁ (a .is) in
-          let fr = frame-above l′ q width y (f .frame) (f .scoped) in
-          let top : q .top < length l′ = omega (arith, room, a .kept .long, z) in
-          let b = g′ .done P es width d F (F - r .counts .left) (ready-further m y iw z f room (a .kept))
-          (omega (arith, room, a .kept .long, length-set l′ (q .top) y, x .many))
-          (rw (x .end) (x .enc-rest)) (x .within-rest) (omega (arith, x .many))
-          (omega (arith, a .kept .falls)) in
-          let i = rw (fr, c) at (b .is) in
-          let stays : meaning (getD l″ (q .top) 0) ≡ v =
-          ap meaning (b .kept .same (q .top) (omega arith) (inr (f .frame))
-          ∙ getD-set-same l′ (q .top) y 0 top) ∙ ey in
-          let long : length l″ ≡ length l′ = b .kept .long ∙ length-set l′ (q .top) y in
-          record {
-            kept = kept-then 0 0 0 (a .kept) (record {
-              same = λ j u o. b .kept .same j (omega arith) o
-                  ∙ getD-set-other l′ (q .top) j y 0 (λ p. omega arith);
-              long = long;
-              words = b .kept .words;
-              stored = b .kept .stored;
-              falls = b .kept .falls;
-              counted = b .kept .counted;
-              small = b .kept .small;
-            }) (omega arith);
-            is = rw (gave, slots-cons l″ (q .top) m (omega (arith, long)) z, stays)
-                (push-all (r′ .outcome) (slots-of l″ (q .top + 1) (m - 1))
-                (state P s″ l″ q (r′ .counts) (F - r′ .counts .left))
-                (evaluated-all P F (capacity s) (q .calls) es st) v i);
-          }
+  unfolding eval-all frame-of
+  args-step {s″} {l″} {v} {r′} e₁ y ey iw g′ = record {
+    done = λ p F k t.
+        let P = p .list .P in
+        let f = p .list .ready in
+        let x = list-apart (p .list) z in
+        let a = g .done (list-first x) F k t in
+        let c : capacity s′ ≡ capacity s = room-same s s′ (a .kept .stored .long) in
+        let st : State = state P s′ l′ q (r .counts) (F - r .counts .left) in
+        let gave : evaluated P F (capacity s) (q .calls) (x .e) (state P s l q n k) ≡ ok v st =
+        gives st (evaluated P F (capacity s) (q .calls) (x .e) (state P s l q n k)) e₁ (a .is) in
+        let fr = frame-above l′ q (p .list .width) y (f .frame) (f .scoped) in
+        let top : q .top < length l′ = omega (arith, p .room, a .kept .long, z) in
+        let b = g′ .done (args-rest p x g y iw) F (F - r .counts .left) (omega (arith, a .kept .falls)) in
+        let i = rw (fr, c) at (b .is) in
+        let stays : meaning (getD l″ (q .top) 0) ≡ v =
+        ap meaning (b .kept .same (q .top) (omega arith) (inr (f .frame))
+        ∙ getD-set-same l′ (q .top) y 0 top) ∙ ey in
+        let long : length l″ ≡ length l′ = b .kept .long ∙ length-set l′ (q .top) y in
+        record {
+          kept = kept-then 0 0 0 (a .kept) (record {
+            same = λ j u o. b .kept .same j (omega arith) o
+                ∙ getD-set-other l′ (q .top) j y 0 (λ p. omega arith);
+            long = long;
+            words = b .kept .words;
+            stored = b .kept .stored;
+            falls = b .kept .falls;
+            counted = b .kept .counted;
+            small = b .kept .small;
+          }) (omega arith);
+          is = rw (x .is, gave, slots-cons l″ (q .top) m (omega (arith, long)) z, stays)
+              (push-all (r′ .outcome) (slots-of l″ (q .top + 1) (m - 1))
+              (state P s″ l″ q (r′ .counts) (F - r′ .counts .left))
+              (evaluated-all P F (capacity s) (q .calls) (x .es) st) v i);
+        };
+  }
 
 -- the loop over arguments: what is left to do, and how the whole follows from it
 abbrev pub to : Place → ℕ → Place
@@ -254,10 +228,7 @@ module _ {R E T A M s₀ l₀ : List ℕ} {at : ℕ} {q : Place} {m : ℕ} {r₀
       x .rest s l r g
 
   module _ (h : i < m) where
-    abbrev pub args-head : (e : Expr) × (es : Exprs)
-        × FirstAt R E T A M s l next (to q top) (r .counts) (m - i) (x .args .list .P) e es
-        (x .args .list .width) (x .args .list .d)
-        (r .counts .left) 0
+    pub args-head : FirstAt (x .args .list)
     args-head = list-apart (x .args .list) (λ z. omega arith)
 
     module _ {s′ l′ : List ℕ} {r′ : Answer} (g : PostEval R E T A M s l s′ l′ next (to q top) (r .counts) r′)
@@ -267,16 +238,16 @@ module _ {R E T A M s₀ l₀ : List ℕ} {at : ℕ} {q : Place} {m : ℕ} {r₀
         args-broken not = x .rest s′ l′ r′ (args-fail (λ z. omega arith) g not)
 
         pub args-room : top < length l′
-        args-room = omega (arith, x .args .room, kept-of (list-first (args-head .2)) g .long)
+        args-room = omega (arith, x .args .room, kept-of (list-first args-head) g .long)
 
         pub args-next : {w : Meaning} (y : ℕ) → r′ .outcome ≡ Gave w → meaning y ≡ w → IsWord y
             → ArgsLoop R E T A M s₀ l₀ at q m r₀ s′ (put l′ top y) r′ (top + 1) (getD E next 0) (i + 1)
         args-next {w} y t ey iw =
-            let k = kept-of (list-first (args-head .2)) g in
+            let k = kept-of (list-first args-head) g in
             let z : m - i - 1 ≡ m - (i + 1) = omega arith in
             record {
               low = omega arith;
-              args = rw z at (args-rest (args-head .2) (x .args .list .few) (x .args .room) g t y iw);
+              args = rw z at (args-rest (x .args) args-head g y iw);
               v = w;
               gave = t;
               small = small-of t (k .small);

@@ -8,8 +8,7 @@ use native.Mathlib.Omega.{arith}
 use lib.ListN.{length, getD, take, drop, length-append, length-map}
 use lib.Seq.{take-take}
 use mathlib.Core.Option.{some}
-use borrow.Author.Tests.{ne-eqb}
-use Rattle.language.specs.Lists.{nth, nth-append, nth-map, inj, Never}
+use Rattle.language.specs.Lists.{nth, nth-append, nth-map}
 use Rattle.language.specs.Frames.{frame, opened, closed}
 use Rattle.machine.proofs.Frames.{slots-length, words-written, first-word}
 use Rattle.objects.proofs.Nth.{lt-or, nth-ext, nth-past, some-at}
@@ -19,9 +18,13 @@ use Rattle.objects.specs.Values.{word, meaning, Outcome, Gave, Raised, Stopped,
 use Rattle.objects.specs.Values.{bare, told}
 use Rattle.machine.specs.declared.Place.{Place}
 use Rattle.machine.specs.Machine.{slots-of, inside, state, frame-of}
-use Rattle.objects.specs.Holding.{NamedAll, Named, Within, WithinAll}
-use Rattle.machine.specs.Contracts.{Ready, PreEntered, PostNode, PreList, PostItems, Opened, Locals}
-use Rattle.machine.specs.Contracts.{evaluated-all}
+use Rattle.language.specs.WellFormed.{TypeInForm, Each}
+use Rattle.theory.proofs.lookups.LookupLaws.{each-at}
+use Rattle.layout.specs.ProperNodes.{ProperAll}
+use Rattle.objects.proofs.Holding.{first-number}
+use Rattle.machine.proofs.OneChild.{node-rows, node-parts}
+use Rattle.machine.specs.Evaluator.{PreEntered, PostNode, PreList, PostItems, Opened, Locals}
+use Rattle.machine.specs.Evaluator.{evaluated-all}
 use Rattle.objects.specs.Holding.{first-value-of}
 use Rattle.machine.proofs.Letters.{as-block}
 use Rattle.language.specs.Results.{ok, stop, bind}
@@ -38,17 +41,10 @@ use Rattle.language.proofs.Lines.{line-at}
 abbrev pub inner : Place → ℕ → Place
 inner q v = record { base = q .base; scope = q .scope + v; top = q .top; calls = q .calls }
 
-local-named : (k : ℕ) (ts : List DeclaredType) (j : ℕ) (t : DeclaredType) → NamedAll k ts → nth ts j ≡ some t
-    → Named k t
-unfolding NamedAll nth
-local-named k [] j t h e = absurd (Never e)
-local-named k (x ∷ ts) zero t h e = rw (inj e) at (h .0)
-local-named k (x ∷ ts) (suc j) t h e = local-named k ts j t (h .1) e
-
-first-initial : (k : ℕ) (t : DeclaredType) → k ≤ 64 → Named k t
+first-initial : (t : DeclaredType) → TypeInForm t
     → meaning (word (first-value-of (type-number t))) ≡ initial t
-first-initial k bool h n = meaning-truth false
-first-initial k (class c) h n = rw (ne-eqb c 255 (λ e. omega arith)) meaning-null
+first-initial bool f = meaning-truth false
+first-initial (class c) f = ap (λ (v : Meaning). meaning (word v)) (first-number (class c) f) ∙ meaning-null
 
 slots-at : (l : List ℕ) (from m i : ℕ) → i < m → from + i < length l
     → nth (slots-of l from m) i ≡ some (meaning (getD l (from + i) 0))
@@ -59,72 +55,64 @@ nth-from : (xs ys : List Meaning) (n j i : ℕ) → length xs ≡ n → n + j �
 nth-from xs ys n j i a e = ap (nth (xs ++ ys)) (sym e ∙ ap (λ (k : ℕ). k + j) (sym a)) ∙ nth-past xs ys j
 
 -- B taken apart
-pub record BlockAt (R E T A M s l : List ℕ) (at : ℕ) (q : Place) (n : Counts) (P : List Class)
-    (ts : List DeclaredType) (es : Exprs) (width d F k : ℕ) : Type 0 where
-  pub ready : Ready R E T A M s l P width q n d 1
+pub record BlockAt {R E T A M s l : List ℕ} {at : ℕ} {q : Place} {n : Counts}
+    (p : PreEntered R E T A M s l at q n) : Type 0 where
+  pub ts : List DeclaredType
+  pub es : Exprs
+  pub is : p .e ≡ block ts es
   pub row : at * 4 + 3 < length R
   pub locals : getD R (at * 4 + 1) 0 ≡ length ts
   pub many : getD R (at * 4 + 2) 0 ≡ count es
-  pub wide : q .scope + length ts + 1 ≤ width
-  pub named : NamedAll (length P) ts
+  pub wide : suc (q .scope) + length ts ≤ p .width
+  pub types : Each TypeInForm ts
   pub lines : TypesAt V-local R ts (at + 1)
   pub enc : EncodedAll R E es (at + 1 + length ts)
-  pub within : WithinAll (length P) width (q .scope + length ts) (d - 1) es
-  pub total : k + n .left ≡ F
-
-block-parts : {R E T A M s l : List ℕ} {at : ℕ} {q : Place} {n : Counts} (P : List Class)
-    (ts : List DeclaredType) (es : Exprs) (width d F k : ℕ) → Ready R E T A M s l P width q n d 1
-    → Encoded R E (block ts es) at → Within (length P) width (q .scope) d (block ts es) → k + n .left ≡ F
-    → BlockAt R E T A M s l at q n P ts es width d F k
-unfolding Encoded Within
-block-parts P ts es width d F k r enc w z = record {
-  ready = r;
-  row = enc .0 .row .within;
-  locals = enc .0 .row .first;
-  many = enc .0 .row .second;
-  wide = w .1;
-  named = w .2;
-  lines = enc .1;
-  enc = enc .2;
-  within = w .3;
-  total = z;
-}
+  pub proper : ProperAll (p .P) (p .width) (suc (q .scope + length ts)) (p .d - 1) es
 
 pub block-apart : {R E T A M s l : List ℕ} {at : ℕ} {q : Place} {n : Counts}
-    (p : PreEntered R E T A M s l at q n)
-    → getD R (at * 4) 0 ≡ 66
-    → (ts : List DeclaredType) × (es : Exprs)
-    × BlockAt R E T A M s l at q n (p .P) ts es (p .width) (p .d) (n .left) 0
-block-apart {at = at} {n = n} p h =
-    let x = as-block (head (p .e) (p .encoded)) h in (
-      x .0,
-      x .1,
-      block-parts {at = at} (p .P) (x .0) (x .1) (p .width) (p .d) (n .left) 0 (p .ready)
-          (rw (x .2) at (p .encoded)) (rw (x .2) at (p .within)) (omega arith),
-    )
+    (p : PreEntered R E T A M s l at q n) → getD R (at * 4) 0 ≡ 66 → BlockAt p
+unfolding Encoded
+block-apart {q = q} p h =
+    let x = as-block (head (p .e) (p .encoded)) h in
+    let enc = node-rows p (x .2) in
+    let w = node-parts p (x .2) in
+    let scope : suc (q .scope) + length (x .0) ≡ suc (q .scope + length (x .0)) = omega arith in
+    record {
+      ts = x .0;
+      es = x .1;
+      is = x .2;
+      row = enc .0 .row .within;
+      locals = enc .0 .row .first;
+      many = enc .0 .row .second;
+      wide = w .1;
+      types = w .2;
+      lines = enc .1;
+      enc = enc .2;
+      proper = rw scope at (w .3);
+    }
 
-module _ {R E T A M s l : List ℕ} {at : ℕ} {q : Place} {n : Counts} {P : List Class} {ts : List DeclaredType}
-    {es : Exprs} {width d F k : ℕ} (x : BlockAt R E T A M s l at q n P ts es width d F k) where
+module _ {R E T A M s l : List ℕ} {at : ℕ} {q : Place} {n : Counts} {p : PreEntered R E T A M s l at q n}
+    (x : BlockAt p) where
   pub block-locals : Locals R l (at + 1) (q .base + 1 + q .scope) (getD R (at * 4 + 1) 0)
   block-locals = record {
-    room = omega (arith, x .locals, x .wide, x .ready .frame, x .ready .above);
-    rows = λ i h. let t = some-at ts i (omega (arith, x .locals)) in
-        omega (arith, line-at _ ts (at + 1) (x .lines) i (t .0) (t .1) .within);
+    room = omega (arith, x .locals, x .wide, p .ready .frame, p .ready .above);
+    rows = λ i h. let t = some-at (x .ts) i (omega (arith, x .locals)) in
+        omega (arith, line-at _ (x .ts) (at + 1) (x .lines) i (t .0) (t .1) .within);
   }
 
   module _ {l′ : List ℕ} (w : Opened R l l′ (at + 1) (q .base + 1 + q .scope) (getD R (at * 4 + 1) 0)) where
     opened-slots : slots-of l′ (q .base + 1) (q .scope + getD R (at * 4 + 1) 0)
-        ≡ slots-of l (q .base + 1) (q .scope) ++ map initial ts
+        ≡ slots-of l (q .base + 1) (q .scope) ++ map initial (x .ts)
     opened-slots =
         let v : ℕ = getD R (at * 4 + 1) 0 in
         let room : q .base + 1 + (q .scope + v) ≤ length l′ =
-        omega (arith, w .long, x .locals, x .wide, x .ready .frame, x .ready .above) in
+        omega (arith, w .long, x .locals, x .wide, p .ready .frame, p .ready .above) in
         let a = slots-length l (q .base + 1) (q .scope) (omega (arith, w .long)) in
         nth-ext (slots-of l′ (q .base + 1) (q .scope + v))
-        (slots-of l (q .base + 1) (q .scope) ++ map initial ts)
+        (slots-of l (q .base + 1) (q .scope) ++ map initial (x .ts))
         (slots-length l′ (q .base + 1) (q .scope + v) room
-        ∙ sym (length-append (slots-of l (q .base + 1) (q .scope)) (map initial ts)
-        ∙ (ap₂ (λ (x y : ℕ). x + y) a (length-map ts initial) ∙ omega (arith, x .locals))))
+        ∙ sym (length-append (slots-of l (q .base + 1) (q .scope)) (map initial (x .ts))
+        ∙ (ap₂ (λ (x y : ℕ). x + y) a (length-map (x .ts) initial) ∙ omega (arith, x .locals))))
         (λ i h. let h′ : i < q .scope + v =
         omega (arith, slots-length l′ (q .base + 1) (q .scope + v) room) in
         slots-at l′ (q .base + 1) (q .scope + v) i h′ (omega arith) ∙ go a room i h′ (lt-or i (q .scope)))
@@ -133,57 +121,52 @@ module _ {R E T A M s l : List ℕ} {at : ℕ} {q : Place} {n : Counts} {P : Lis
             → q .base + 1 + (q .scope + getD R (at * 4 + 1) 0) ≤ length l′ → (i : ℕ)
             → i < q .scope + getD R (at * 4 + 1) 0 → (i < q .scope) ⊎ (q .scope ≤ i)
             → some (meaning (getD l′ (q .base + 1 + i) 0))
-            ≡ nth (slots-of l (q .base + 1) (q .scope) ++ map initial ts) i
+            ≡ nth (slots-of l (q .base + 1) (q .scope) ++ map initial (x .ts)) i
         go a room i h (inl o) =
             ap (λ (y : ℕ). some (meaning y)) (w .outside (q .base + 1 + i) (inl (omega arith)))
-            ∙ sym (nth-append (slots-of l (q .base + 1) (q .scope)) (map initial ts) i
+            ∙ sym (nth-append (slots-of l (q .base + 1) (q .scope)) (map initial (x .ts)) i
             (meaning (getD l (q .base + 1 + i) 0))
             (slots-at l (q .base + 1) (q .scope) i o (omega (arith, w .long))))
         go a room i h (inr o) =
             let j : ℕ = i - q .scope in
-            let t = some-at ts j (omega (arith, x .locals)) in
+            let t = some-at (x .ts) j (omega (arith, x .locals)) in
             let e : q .base + 1 + q .scope + j ≡ q .base + 1 + i = omega arith in
             let e′ : q .scope + j ≡ i = omega arith in
             let y = rw e at (w .inside j (omega arith)) in
             let f : getD R ((at + 1 + j) * 4 + 1) 0 ≡ type-number (t .0) =
-            line-at _ ts (at + 1) (x .lines) j (t .0) (t .1) .first in
-            let p′ : nth (slots-of l (q .base + 1) (q .scope) ++ map initial ts) i ≡ some (initial (t .0)) =
-            nth-from (slots-of l (q .base + 1) (q .scope)) (map initial ts) (q .scope) j i a e′
-            ∙ nth-map initial j ts (t .0) (t .1) in
+            line-at _ (x .ts) (at + 1) (x .lines) j (t .0) (t .1) .first in
+            let is : nth (slots-of l (q .base + 1) (q .scope) ++ map initial (x .ts)) i
+            ≡ some (initial (t .0)) =
+            nth-from (slots-of l (q .base + 1) (q .scope)) (map initial (x .ts)) (q .scope) j i a e′
+            ∙ nth-map initial j (x .ts) (t .0) (t .1) in
             ap some (ap meaning (y ∙ ap (λ (x : ℕ). word (first-value-of x)) f)
-            ∙ first-initial (length P) (t .0) (x .ready .holds .classes)
-            (local-named (length P) ts j (t .0) (x .named) (t .1))) ∙ sym p′
+            ∙ first-initial (t .0) (each-at (x .types) j (t .0) (t .1))) ∙ sym is
 
-    pub frame-opened : frame-of l′ (inner q (getD R (at * 4 + 1) 0)) ≡ opened (frame-of l q) (map initial ts)
+    pub frame-opened : frame-of l′ (inner q (getD R (at * 4 + 1) 0))
+        ≡ opened (frame-of l q) (map initial (x .ts))
     unfolding frame-of
     frame-opened = rw (w .outside (q .base) (inl (omega arith)), opened-slots)
 
-    pub ready-inner : Ready R E T A M s l′ P width (inner q (getD R (at * 4 + 1) 0)) n (d - 1) 0
-    ready-inner = record {
-      holds = x .ready .holds;
-      methods = x .ready .methods;
-      sound = x .ready .sound;
-      frame = x .ready .frame;
-      scoped =
-          omega (arith, x .wide, x .locals);
-      whole = omega (arith, x .ready .whole, w .long);
-      above = omega (arith, x .ready .above, w .long);
-      words = words-written w (λ i h. first-word (getD R ((at + 1 + i) * 4 + 1) 0)) (x .ready .words);
-      active = x .ready .active;
-      counted = omega (arith, x .ready .counted);
-    }
-
-    pub block-items : getD R (at * 4 + 2) 0 < 4294967296
+    abbrev pub block-items : getD R (at * 4 + 2) 0 < 4294967296
         → PreList R E T A M s l′ (at + 1 + getD R (at * 4 + 1) 0) (inner q (getD R (at * 4 + 1) 0)) n
         (getD R (at * 4 + 2) 0)
     block-items few = record {
-      P = P;
-      es = es;
-      width = width;
-      d = d - 1;
-      ready = ready-inner;
+      P = p .P;
+      es = x .es;
+      width = p .width;
+      d = p .d - 1;
+      ready = record {
+        holding = p .ready .holding;
+        frame = p .ready .frame;
+        scoped = omega (arith, x .wide, x .locals);
+        whole = omega (arith, p .ready .whole, w .long);
+        above = omega (arith, p .ready .above, w .long);
+        words = words-written w (λ i h. first-word (getD R ((at + 1 + i) * 4 + 1) 0)) (p .ready .words);
+        active = p .ready .active;
+        counted = omega (arith, p .ready .counted);
+      };
       encoded = rw (x .locals) (x .enc);
-      within = rw (x .locals) (x .within);
+      proper = rw (x .locals) (x .proper);
       many = x .many;
       few = few;
     }
@@ -225,20 +208,19 @@ frame-scope l q h = slots-length l (q .base + 1) (q .scope) h
 
 pub block-done : {R E T A M s l l′ s″ l″ : List ℕ} (at : ℕ) {q : Place} {n : Counts} {r : Answer}
     → getD R (at * 4) 0 ≡ 66 → Opened R l l′ (at + 1) (q .base + 1 + q .scope) (getD R (at * 4 + 1) 0)
+    → getD R (at * 4 + 2) 0 < 4294967296
     → PostItems R E T A M s l′ s″ l″ (at + 1 + getD R (at * 4 + 1) 0) (inner q (getD R (at * 4 + 1) 0)) n
     (getD R (at * 4 + 2) 0) null r → PostNode R E T A M s l s″ l″ at q n r
 unfolding inside
-block-done {R} {E} {T} {A} {M} {s} {l} {l′} {s″} {l″} at {q} {n} {r} h w p = record {
-  done = λ P e width d F k f enc wi z.
-      let v : ℕ = getD R (at * 4 + 1) 0 in
-      let y = as-block (head e enc) h in
-      let x = block-parts {at = at} P (y .0) (y .1) width d F k f (rw (y .2) at enc) (rw (y .2) at wi) z in
-      let b = p .done P (y .1) width (d - 1) F k (ready-inner x w) (rw (x .locals) (x .enc))
-      (rw (x .locals) (x .within)) (x .many) z in
+block-done {R} {E} {T} {A} {M} {s} {l} {l′} {s″} {l″} at {q} {n} {r} h w few g = record {
+  done = λ p F k z.
+      let P = p .P in
+      let x = block-apart p h in
+      let b = g .done (block-items x w few) F k z in
       let i = rw (frame-opened x w) at (b .is) in
       record {
         kept = record {
-          same = λ i u o. b .kept .same i u o ∙ w .outside i (far P width d f x i o);
+          same = λ i u o. b .kept .same i u o ∙ w .outside i (far x i o);
           long = b .kept .long ∙ w .long;
           words = b .kept .words;
           stored = b .kept .stored;
@@ -246,22 +228,16 @@ block-done {R} {E} {T} {A} {M} {s} {l} {l′} {s″} {l″} at {q} {n} {r} h w p
           counted = omega (arith, b .kept .counted);
           small = b .kept .small;
         };
-        is = rw (y .2) (close (r .outcome) P s″ l″ q v (length (frame-of l q .slots)) (r .counts)
-            (F - r .counts .left)
-            (evaluated-all P F (capacity s) (q .calls) (y .1)
-            (with-frame (opened (frame-of l q) (map initial (y .0))) (state P s l q n k))) (scope P width d f)
-            i);
+        is = rw (x .is) (close (r .outcome) P s″ l″ q (getD R (at * 4 + 1) 0) (length (frame-of l q .slots))
+            (r .counts) (F - r .counts .left)
+            (evaluated-all P F (capacity s) (q .calls) (x .es)
+            (with-frame (opened (frame-of l q) (map initial (x .ts))) (state P s l q n k)))
+            (frame-scope l q (omega (arith, p .ready .frame, p .ready .scoped, p .ready .above))) i);
       };
 }
   where
-    far : (P : List Class) (width d : ℕ) → Ready R E T A M s l P width q n d 1
-        → {ts : List DeclaredType} {es : Exprs} {F k : ℕ} → BlockAt R E T A M s l at q n P ts es width d F k
-        → (i : ℕ)
-        → (i < q .base) ⊎ (q .base + width ≤ i)
+    far : {p : PreEntered R E T A M s l at q n} → BlockAt p → (i : ℕ)
+        → (i < q .base) ⊎ (q .base + p .width ≤ i)
         → (i < q .base + 1 + q .scope) ⊎ (q .base + 1 + q .scope + getD R (at * 4 + 1) 0 ≤ i)
-    far P width d f x i (inl o) = inl (omega arith)
-    far P width d f x i (inr o) = inr (omega (arith, x .wide, x .locals))
-
-    scope : (P : List Class) (width d : ℕ) → Ready R E T A M s l P width q n d 1
-        → length (frame-of l q .slots) ≡ q .scope
-    scope P width d f = frame-scope l q (omega (arith, f .frame, f .scoped, f .above))
+    far x i (inl o) = inl (omega arith)
+    far x i (inr o) = inr (omega (arith, x .wide, x .locals))

@@ -14,8 +14,8 @@ use Rattle.language.specs.State.{Value as Meaning, State, Out, stuck}
 use Rattle.language.specs.Evaluation.{with-limits, run}
 use Rattle.language.specs.Store.{gave, ended, ran, Ran as Finished, finish, capacity, run-of}
 use Rattle.layout.specs.Held.{Held}
-use Rattle.theory.specs.Accepts.{check-accepts}
-use Rattle.theory.specs.Members.{well-formed-never-stuck, accepted-run}
+use Rattle.theory.proofs.acceptance.Acceptance.{check-accepts}
+use Rattle.theory.proofs.soundness.Members.{well-formed-never-stuck, accepted-run}
 use Rattle.objects.specs.Values.{Outcome, Gave, Raised, Stopped, Stuck, SmallOutcome, outcome, case-of}
 use Rattle.objects.specs.declared.Value.{Value}
 use Rattle.objects.specs.Values.{stop-of}
@@ -24,13 +24,13 @@ use Rattle.machine.specs.declared.End.the-variants.{Gave as EndGave, Rai
 use Rattle.machine.specs.declared.End.the-variants.{Stopped as EndStopped}
 use Rattle.machine.specs.declared.Ran.{Ran}
 use Rattle.machine.specs.declared.Run.{Run}
-use Rattle.objects.specs.Contracts.{LetterFrom, SomeLetter}
-use Rattle.machine.specs.Contracts.{Segment, Runs, PreRun, PostRun, PreChecked, PostChecked, Tells}
-use Rattle.machine.specs.Contracts.{outcome-of, end-told}
+use Rattle.objects.specs.Acts.{LetterFrom, SomeLetter}
+use Rattle.machine.specs.Evaluator.{Segment, PreRun, PostRun, PreChecked, PostChecked, Tells}
+use Rattle.machine.specs.Evaluator.{outcome-of, end-told}
 use Rattle.objects.proofs.Nth.{lt-or}
 use Rattle.objects.proofs.Finding.{same-letter}
 use Rattle.machine.proofs.Lines.{no-classes}
-use Rattle.machine.proofs.Accepted.{well, runs}
+use Rattle.layout.specs.HeldLaws.{well}
 
 -- ---- ends told
 
@@ -88,35 +88,39 @@ module _ {R E T A M F C : List ℕ} {p : Program} (a : Held R E T A M F C p) whe
   start-found : {b : ℕ} → LetterFrom R 83 0 b → b ≡ start-row p
   start-found f = same-letter f start-line
 
-  starts : {l : List ℕ} {b : ℕ} → LetterFrom R 83 0 b → Segment l → Runs R E T A M l (b + 1) p
-  starts f slots = rw (start-found f) (runs a slots)
-
 module _ {R E T A M : List ℕ} (c : PreChecked R E T A M) where
   pub some-start : SomeLetter R 83 0
   some-start = record { found = start-row (c .p); from = start-line (c .held) }
 
   module _ {l : List ℕ} {b : ℕ} (f : LetterFrom R 83 0 b) (slots : Segment l) where
+    abbrev started : PreChecked R E T A M → PreRun R E T A M l (b + 1)
+    started c = record {
+      checked = c;
+      start = ap (λ (k : ℕ). k + 1) (start-found (c .held) f);
+      segment =
+          slots;
+    }
+
     pub pre-start : PreRun R E T A M l (b + 1)
-    pre-start = record { p = c .p; runs = starts (c .held) f slots }
+    pre-start = started c
 
     module _ {s s′ : List ℕ} {fuel : ℕ} {r : Ran} (post : PostRun R E T A M s l s′ (b + 1) fuel r) where
       pub end-small : SmallOutcome (outcome (r .outcome))
-      end-small = post .small (c .p) (starts (c .held) f slots)
+      end-small = post .small (started c)
 
       pub checked-done : (e : End) → e ≡ end-told (outcome-of (outcome (r .outcome)))
           → PostChecked R E T A M s s′ fuel
           (record { outcome = e; steps = r .steps; objects = r .objects; changes = r .changes })
       checked-done e told = record {
-        tells = λ F C p a. record {
+        tells = λ w. record {
           outcome = outcome-of (outcome (r .outcome));
-          is = post .is p
-              (starts a f slots);
+          is = post .is (started w);
           told = told;
         };
         unstuck = λ z.
             let q = stuck-only (outcome (r .outcome)) end-small (sym z ∙ told) in
             let x = stuck-end (run (with-limits fuel (capacity s)) (c .p)) s s′ (r .steps) (r .objects)
-            (r .changes) (rw q at (post .is (c .p) (starts (c .held) f slots))) in
+            (r .changes) (rw q at (post .is (started c))) in
             well-formed-never-stuck (c .p) (well (c .held)) (with-limits fuel (capacity s)) (x .0) (x .1);
       }
 

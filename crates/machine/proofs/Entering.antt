@@ -3,92 +3,54 @@
 use mathlib.Core.Path.{_≡_, refl, sym, ap, _∙_}
 use mathlib.Core.Logic.{_⊎_, inl, inr}
 use mathlib.Core.List.{List}
-use Prim.Native.Nat.{ℕ, _+_, _-_, _≤_, _<_}
+use Prim.Native.Nat.{ℕ, suc, _+_, _-_, _≤_, _<_}
 use native.Mathlib.Omega.{arith}
 use borrow.Author.Tests.{le-leb, lt-leb}
 use lib.ListN.{length, getD, replicate, length-replicate}
 use Rattle.language.specs.Results.{ok, stop, bind}
 use Rattle.language.specs.Frames.{Frame}
-use Rattle.language.specs.Tree.{Expr, literal, slot, is-null, get, cast, new, change, assign, set, call}
-use Rattle.language.specs.Tree.{choose, block, Exprs, nil, cons, size, sizes, Class}
+use Rattle.language.specs.Tree.{Expr, size, Class}
+use Rattle.language.specs.Limits.{of-check}
+use Rattle.language.specs.WellFormed.{BodyInForm}
+use Rattle.layout.specs.NodeForms.{body-within}
+use Rattle.layout.specs.ProperNodes.{Typed, Proper}
+use Rattle.machine.proofs.Steps.{kept-of}
 use Rattle.language.specs.State.{Value as Meaning, Out, with-frame}
 use Rattle.language.specs.Store.{capacity}
 use Rattle.language.proofs.Nodes.{head}
 use Rattle.objects.specs.Values.{Outcome, Gave, Raised, Stopped, Stuck, Counts, Answer, bare, told}
-use Rattle.objects.specs.Holding.{Within, WithinAll, view}
-use Rattle.objects.specs.Contracts.{Written, IsWord}
+use Rattle.objects.specs.Holding.{view}
+use Rattle.objects.specs.Acts.{Written, IsWord}
 use Rattle.objects.proofs.Values.{bare-stop}
 use Rattle.objects.proofs.Nth.{lt-or}
 use Rattle.machine.specs.declared.Place.{Place}
 use Rattle.machine.specs.Machine.{place-of, state, frame-of}
-use Rattle.machine.specs.Contracts.{waiting, Ready, Done, PreEval, PostEval, evaluated, frame-width}
-use Rattle.machine.specs.Contracts.{Segment}
-use Rattle.machine.specs.Contracts.{most-nested, Entering, PreEnter, Entered, PostEnter, call-place}
+use Rattle.machine.specs.Evaluator.{waiting, PreEval, PostEval, evaluated, frame-width}
+use Rattle.machine.specs.Evaluator.{Segment}
+use Rattle.machine.specs.Evaluator.{most-nested, PreEnter, Entered, PostEnter, call-place}
 use Rattle.machine.proofs.Frames.{slots-moved, words-written, zeros-words}
 
 -- ---- room
 
--- A body needs no more slots and nests no more nodes than it has rows.
-mutual
-  unfolding Within size
-
-  resized : (k w n d w′ d′ : ℕ) (e : Expr) → Within k w n d e → n + 1 + size e ≤ w′ → size e ≤ d′
-      → Within k w′ n d′ e
-  resized k w n d w′ d′ (literal l) h a b = tt
-  resized k w n d w′ d′ (slot i) h a b = tt
-  resized k w n d w′ d′ (is-null e) h a b =
-      (omega arith, resized k w n (d - 1) w′ (d′ - 1) e (h .1) (omega arith) (omega arith))
-  resized k w n d w′ d′ (get f e) h a b =
-      (omega arith, h .1, resized k w n (d - 1) w′ (d′ - 1) e (h .2) (omega arith) (omega arith))
-  resized k w n d w′ d′ (cast c e) h a b =
-      (omega arith, h .1, resized k w n (d - 1) w′ (d′ - 1) e (h .2) (omega arith) (omega arith))
-  resized k w n d w′ d′ (new c) h a b = h
-  resized k w n d w′ d′ (change i c) h a b = h
-  resized k w n d w′ d′ (assign i e) h a b =
-      (omega arith, resized k w n (d - 1) w′ (d′ - 1) e (h .1) (omega arith) (omega arith))
-  resized k w n d w′ d′ (set f e e′) h a b = (
-    omega arith,
-    h .1,
-    resized k w n (d - 1) w′ (d′ - 1) e (h .2) (omega arith) (omega arith),
-    resized k w n (d - 1) w′ (d′ - 1) e′ (h .3) (omega arith) (omega arith),
-  )
-  resized k w n d w′ d′ (call m e es) h a b = (
-    omega arith,
-    h .1,
-    h .2,
-    resized k w n (d - 1) w′ (d′ - 1) e (h .3) (omega arith) (omega arith),
-    resized-all k w n (d - 1) w′ (d′ - 1) es (h .4) (omega arith) (omega arith),
-  )
-  resized k w n d w′ d′ (choose x y z) h a b = (
-    omega arith,
-    resized k w n (d - 1) w′ (d′ - 1) x (h .1) (omega arith) (omega arith),
-    resized k w n (d - 1) w′ (d′ - 1) y (h .2) (omega arith) (omega arith),
-    resized k w n (d - 1) w′ (d′ - 1) z (h .3) (omega arith) (omega arith),
-  )
-  resized k w n d w′ d′ (block ts es) h a b = (
-    omega arith,
-    omega arith,
-    h .2,
-    resized-all k w (n + length ts) (d - 1) w′ (d′ - 1) es (h .3) (omega arith) (omega arith),
-  )
-
-  resized-all : (k w n d w′ d′ : ℕ) (es : Exprs) → WithinAll k w n d es → n + 1 + sizes es ≤ w′
-      → sizes es ≤ d′ → WithinAll k w′ n d′ es
-  resized-all k w n d w′ d′ nil h a b = tt
-  resized-all k w n d w′ d′ (cons e es) h a b = (
-    resized k w n d w′ d′ e (h .0) (omega arith) (omega arith),
-    resized-all k w n d w′ d′ es (h .1) (omega arith) (omega arith),
-  )
-
-within-width : (k n : ℕ) (e : Expr) → Within k 264 n 128 e
-    → Within k (frame-width (size e) n) n (most-nested (size e)) e
+-- A body needs no more slots and nests no more nodes than it has rows, and no more than the limits allow.
+body-proper : (P : List Class) (n : ℕ) (e : Expr) → BodyInForm of-check (1 + n) e → Typed P e
+    → Proper P (frame-width (size e) n) (suc n) (most-nested (size e)) e
 unfolding frame-width most-nested
-within-width k n e h = go (lt-or (size e) 128)
+body-proper P n e f t = go (lt-or (size e) 128)
   where
-    go : (size e < 128) ⊎ (128 ≤ size e) → Within k (frame-width (size e) n) n (most-nested (size e)) e
-    go (inl a) = rw (lt-leb 128 (size e) a) (resized k 264 n 128 (n + 1 + size e) (size e) e h (omega arith)
-        (omega arith))
-    go (inr a) = rw (le-leb 128 (size e) a) h
+    scope : 1 + n ≡ suc n
+    scope = omega arith
+
+    go : (size e < 128) ⊎ (128 ≤ size e) → Proper P (frame-width (size e) n) (suc n) (most-nested (size e)) e
+    go (inl a) = rw (lt-leb 128 (size e) a) (record {
+      in-form = rw scope at
+          (body-within (n + 1 + size e) (size e) (1 + n) e f (inr (omega arith)) (inr (omega arith)));
+      typed = t;
+    })
+    go (inr a) = rw (le-leb 128 (size e) a) (record {
+      in-form = rw scope at (body-within 264 128 (1 + n) e f (inl (omega arith)) (inl (omega arith)));
+      typed = t;
+    })
 
 -- A frame has `this` and the arguments, at most 264 slots; and at most 128 nodes nest.
 width-bounds : (size n : ℕ) → n ≤ 8
@@ -105,10 +67,10 @@ module _ {R E T A M s l : List ℕ} {b n top calls : ℕ} {c : Counts}
     (p : PreEnter R E T A M s l b n top calls c)
   where
     pub width-small : {w : ℕ} → w ≡ frame-width (getD E b 0 - b) n → w ≤ 264
-    width-small e = omega (arith, e, width-bounds (getD E b 0 - b) n (p .entering .few) .1)
+    width-small e = omega (arith, e, width-bounds (getD E b 0 - b) n (p .few) .1)
 
     pub nested-small : {d : ℕ} → d ≡ most-nested (getD E b 0 - b) → d ≤ 128
-    nested-small e = omega (arith, e, width-bounds (getD E b 0 - b) n (p .entering .few) .2)
+    nested-small e = omega (arith, e, width-bounds (getD E b 0 - b) n (p .few) .2)
 
 -- ---- the body
 
@@ -126,64 +88,53 @@ back (Raised i) P s l q n steps γ x e = bare-stop x (λ w t. ok w (with-frame �
 back (Stopped i) P s l q n steps γ x e = bare-stop x (λ w t. ok w (with-frame γ t)) e
 back Stuck P s l q n steps γ x e = bare-stop x (λ w t. ok w (with-frame γ t)) e
 
-module _ {R E T A M s l : List ℕ} {P : List Class} {e : Expr} {b n top calls : ℕ} {c : Counts}
-    (x : Entering R E T A M s l P e b n top calls c) where
+module _ {R E T A M s l : List ℕ} {b n top calls : ℕ} {c : Counts}
+    (x : PreEnter R E T A M s l b n top calls c) where
   pub in-ends : b < length E
-  in-ends = head e (x .encoded) .in-ends
+  in-ends = head (x .e) (x .encoded) .in-ends
 
-  pub ends-at : getD E b 0 ≡ b + size e
-  ends-at = head e (x .encoded) .end
+  pub ends-at : getD E b 0 ≡ b + size (x .e)
+  ends-at = head (x .e) (x .encoded) .end
 
   -- the number of rows of the body
-  size-is : getD E b 0 - b ≡ size e
+  size-is : getD E b 0 - b ≡ size (x .e)
   size-is = omega (arith, ends-at)
 
   -- in slots l₁, from base on, with values that wait from t on
   module _ (l₁ : List ℕ) (base t : ℕ) {width d : ℕ} (ew : width ≡ frame-width (getD E b 0 - b) n)
       (ed : d ≡ most-nested (getD E b 0 - b)) (low : base + width ≤ t) (room : t + waiting d ≤ length l₁)
       (whole : length l₁ ≡ 1920) (ws : (i : ℕ) → IsWord (getD l₁ i 0)) where
-    ready-body : Ready R E T A M s l₁ P width (place-of base n t calls) c d 0
-    ready-body = record {
-      holds = x .holds;
-      methods = x .methods;
-      sound = x .sound;
-      frame = low;
-      scoped = omega (arith, ew, width-bounds (getD E b 0 - b) n (x .few) .0);
-      whole = whole;
-      above = room;
-      words = ws;
-      active = x .active;
-      counted = omega (arith, x .counted);
-    }
-
-    within-body : Within (length P) width n d e
-    within-body = rw (ew, ed, size-is) (within-width (length P) n e (x .within))
-
-    body-pre : PreEval R E T A M s l₁ b (place-of base n t calls) c
+    abbrev body-pre : PreEval R E T A M s l₁ b (place-of base n t calls) c
     body-pre = record {
-      P = P;
-      e = e;
+      P = x .P;
+      e = x .e;
       width = width;
       d = d;
-      ready = ready-body;
+      ready = record {
+        holding = x .holding;
+        frame = low;
+        scoped = omega (arith, ew, width-bounds (getD E b 0 - b) n (x .few) .0);
+        whole = whole;
+        above = room;
+        words = ws;
+        active = x .active;
+        counted = omega (arith, x .counted);
+      };
       encoded = x .encoded;
-      within = within-body;
+      proper = rw (ew, ed, size-is) (body-proper (x .P) n (x .e) (x .in-form) (x .typed));
     }
 
     module _ {s′ l₁′ : List ℕ} {r : Answer} (F k : ℕ)
         (g : PostEval R E T A M s l₁ s′ l₁′ b (place-of base n t calls) c r) (z : k + c .left ≡ F) where
-      done : Done P width s l₁ s′ l₁′ (place-of base n t calls) c F 0 r
-          (evaluated P F (capacity s) calls e (state P s l₁ (place-of base n t calls) c k))
-      done = g .done P e width d F k ready-body (x .encoded) within-body z
-
       body-done : {l′ : List ℕ}
           → frame-of l₁ (call-place base n calls) ≡ frame-of l (call-place top n calls)
           → length l′ ≡ length l → ((i : ℕ) → i < top → getD l′ i 0 ≡ getD l i 0)
           → ((i : ℕ) → IsWord (getD l′ i 0))
-          → Entered P s l s′ l′ e n top calls c F k r
+          → Entered (x .P) s l s′ l′ (x .e) n top calls c F k r
       unfolding frame-of
       body-done fr long same words =
           let q : Place = place-of base n t calls in
+          let done = g .done body-pre F k z in
           record {
             same = same;
             long = long;
@@ -192,8 +143,8 @@ module _ {R E T A M s l : List ℕ} {P : List Class} {e : Expr} {b n top calls :
             falls = done .kept .falls;
             counted = omega (arith, done .kept .counted);
             small = done .kept .small;
-            is = λ γ. rw (sym fr) (back (r .outcome) P s′ l₁′ q (r .counts) (F - r .counts .left) γ
-                (evaluated P F (capacity s) calls e (state P s l₁ q c k)) (done .is));
+            is = λ γ. rw (sym fr) (back (r .outcome) (x .P) s′ l₁′ q (r .counts) (F - r .counts .left) γ
+                (evaluated (x .P) F (capacity s) calls (x .e) (state (x .P) s l₁ q c k)) (done .is));
           }
 
 -- ---- in the caller's slots
@@ -203,18 +154,16 @@ module _ {R E T A M s l : List ℕ} {b n top calls : ℕ} {c : Counts} {width d 
     (room : top + width + waiting d ≤ length l) where
   pub here-pre : PreEnter R E T A M s l b n top calls c
       → PreEval R E T A M s l b (place-of top n (top + width) calls) c
-  here-pre p = body-pre (p .entering) l top (top + width) ew ed (omega arith) room (p .entering .whole)
-      (p .entering .words)
+  here-pre p = body-pre p l top (top + width) ew ed (omega arith) room (p .whole) (p .words)
 
   pub here-done : {s′ l′ : List ℕ} {r : Answer}
       → PostEval R E T A M s l s′ l′ b (place-of top n (top + width) calls) c r
       → PostEnter R E T A M s l s′ l′ b n top calls c r
   here-done g = record {
-    done = λ P e F k x z.
-        let a = done x l top (top + width) ew ed (omega arith) room (x .whole) (x .words) F k g z in
+    done = λ x F k z.
+        let a = kept-of (here-pre x) g in
         body-done x l top (top + width) ew ed (omega arith) room (x .whole) (x .words) F k g z refl
-        (a .kept .long)
-        (λ i h. a .kept .same i (omega arith) (inl h)) (a .kept .words);
+        (a .long) (λ i h. a .same i (omega arith) (inl h)) (a .words);
   }
 
 -- ---- in slots of its own
@@ -252,14 +201,14 @@ module _ {R E T A M s l l₁ : List ℕ} {b n top calls : ℕ} {c : Counts} {wid
     (ew : width ≡ frame-width (getD E b 0 - b) n) (long : length l₁ ≡ 1920)
     (ws : (i : ℕ) → IsWord (getD l₁ i 0)) where
   pub own-pre : PreEnter R E T A M s l b n top calls c → PreEval R E T A M s l₁ b (place-of 0 n width calls) c
-  own-pre p = body-pre (p .entering) l₁ 0 width ew refl (omega arith)
-      (room-own E l₁ b n ew long (p .entering .few)) long ws
+  own-pre p = body-pre p l₁ 0 width ew refl (omega arith)
+      (room-own E l₁ b n ew long (p .few)) long ws
 
   pub own-done : {s′ l₁′ l₀ : List ℕ} {r : Answer} → Written l₀ l₁ 0 (n + 1) (λ i. getD l (top + i) 0)
       → PostEval R E T A M s l₁ s′ l₁′ b (place-of 0 n width calls) c r
       → PostEnter R E T A M s l s′ l b n top calls c r
   own-done {l₀ = l₀} w g = record {
-    done = λ P e F k x z.
+    done = λ x F k z.
         body-done x l₁ 0 width ew refl (omega arith) (room-own E l₁ b n ew long (x .few)) long ws F k g z
         (frame-moved l l₁ l₀ n top calls (x .there) (omega (arith, x .few)) w) refl (λ i h. refl) (x .words);
   }

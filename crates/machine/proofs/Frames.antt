@@ -15,9 +15,9 @@ use Rattle.machine.specs.declared.Place.{Place}
 use Rattle.objects.specs.Values.{word, meaning, case-of, outcome, bare}
 use Rattle.objects.specs.Holding.{first-value-of}
 use Rattle.machine.specs.Machine.{slots-of, frame-of, this-of}
-use Rattle.machine.specs.Contracts.{Slots, PostRead, PostWrite, null-tested}
+use Rattle.machine.specs.Evaluator.{Slots, PostRead, PostWrite, null-tested}
 use Rattle.objects.specs.declared.Value.the-variants.{Null, Truth, Object}
-use Rattle.objects.specs.Contracts.{IsWord, Written}
+use Rattle.objects.specs.Acts.{IsWord, Written}
 use mathlib.Core.Bool.{Bool, true, false, cond}
 use Rattle.objects.proofs.Values.{outcome-value, outcome-stuck, outcome-word, case-null, case-truth}
 use Rattle.objects.proofs.Values.{case-object, meaning-null, meaning-truth}

@@ -20,17 +20,17 @@ use Rattle.objects.specs.Values.{Outcome, Gave, Raised, Stopped, Stuck, Counts,
 use Rattle.objects.specs.Values.{SmallOutcome, bare, told, answer}
 use Rattle.machine.specs.declared.Place.{Place}
 use Rattle.machine.specs.Machine.{state, frame-of, inside, after}
-use Rattle.objects.specs.Holding.{Within}
-use Rattle.objects.specs.Contracts.{Acts, PostNew, PreNew, PreChange, PostChange, PostLoad, PostCast}
-use Rattle.objects.specs.Contracts.{PreObject, PreCast, IsWord}
-use Rattle.machine.specs.Contracts.{Ready, Done, PreLeaf, PostLeaf, PostRead, no-child, PreApply}
-use Rattle.machine.specs.Contracts.{PostApply, PostWrite, null-tested, Slots}
+use Rattle.objects.specs.Acts.{Acts, PostNew, PreNew, PreChange, PostChange, PostLoad, PostCast}
+use Rattle.objects.specs.Acts.{PreObject, PreCast, IsWord}
+use Rattle.machine.specs.Evaluator.{Ready, Done, PreNode, PreEval, PreLeaf, PostLeaf, PostRead}
+use Rattle.machine.specs.Evaluator.{no-child, PreApply}
+use Rattle.machine.specs.Evaluator.{PostApply, PostWrite, null-tested, Slots}
 use Rattle.objects.proofs.Acts.{stored-same}
 use Rattle.objects.proofs.Values.{outcome-word}
 use Rattle.machine.proofs.Letters.{as-literal-true, as-literal-false, as-literal-null}
 use Rattle.machine.proofs.Letters.{as-slot}
 use Rattle.machine.proofs.Letters.{as-new, as-change, as-is-null, as-get, as-cast, as-assign}
-use Rattle.machine.proofs.Nodes.{rest-change, rest-assign}
+use Rattle.machine.proofs.OneChild.{rest-change, rest-assign, node-rows, node-parts}
 
 -- an act as what a node comes to
 pub done-acts : {R E T A M s l s′ : List ℕ} {P : List Class} {width : ℕ} {q : Place} {n : Counts} {d : ℕ}
@@ -60,7 +60,7 @@ done-same {n = n} o F k f m e h = record {
     same = λ i h o. refl;
     long = refl;
     words = f .words;
-    stored = stored-same (f .sound);
+    stored = stored-same (f .holding .sound);
     falls = omega arith;
     counted = omega arith;
     small = m;
@@ -89,10 +89,10 @@ module _ {R T s l : List ℕ} {at : ℕ} {q : Place} {n : Counts} where
   unfolding bare inside
   leaf-true h = record {
     post = λ E A M. record {
-      done = λ P e width d F k f enc w z.
-          let c = as-literal-true (head e enc) h in
+      done = λ p F k z.
+          let c = as-literal-true (head (p .e) (p .encoded)) h in
           rw (outcome-word (truth true) (omega arith))
-          (done-same (Gave (truth true)) F k f (omega arith) z (rw c));
+          (done-same (Gave (truth true)) F k (p .ready) (omega arith) z (rw c));
     };
   }
 
@@ -100,10 +100,10 @@ module _ {R T s l : List ℕ} {at : ℕ} {q : Place} {n : Counts} where
   unfolding bare inside
   leaf-false h = record {
     post = λ E A M. record {
-      done = λ P e width d F k f enc w z.
-          let c = as-literal-false (head e enc) h in
+      done = λ p F k z.
+          let c = as-literal-false (head (p .e) (p .encoded)) h in
           rw (outcome-word (truth false) (omega arith))
-          (done-same (Gave (truth false)) F k f (omega arith) z (rw c));
+          (done-same (Gave (truth false)) F k (p .ready) (omega arith) z (rw c));
     };
   }
 
@@ -111,85 +111,76 @@ module _ {R T s l : List ℕ} {at : ℕ} {q : Place} {n : Counts} where
   unfolding bare inside
   leaf-null h = record {
     post = λ E A M. record {
-      done = λ P e width d F k f enc w z.
-          let c = as-literal-null (head e enc) h in
-          rw (outcome-word null (omega arith)) (done-same (Gave null) F k f (omega arith) z (rw c));
+      done = λ p F k z.
+          let c = as-literal-null (head (p .e) (p .encoded)) h in
+          rw (outcome-word null (omega arith)) (done-same (Gave null) F k (p .ready) (omega arith) z (rw c));
     };
   }
 
   pub leaf-slot : (o : Outcome) → getD R (at * 4) 0 ≡ 73 → PostRead l (getD R (at * 4 + 1) 0) q o
       → PostLeaf R T s l s at q n (answer o n)
   unfolding inside Encoded
-  leaf-slot o h p = record {
+  leaf-slot o h read = record {
     post = λ E A M. record {
-      done = λ P e width d F k f enc w z.
-          let c = as-slot (head e enc) h in
-          let enc′ = rw (c .1) at enc in
-          done-same o F k f (p .small) z (rw (c .1, ← enc′ .row .first) (p .is (state P s l q n k)));
+      done = λ p F k z.
+          let c = as-slot (head (p .e) (p .encoded)) h in
+          let enc = node-rows p (c .1) in
+          done-same o F k (p .ready) (read .small) z
+          (rw (c .1, ← enc .row .first) (read .is (state (p .P) s l q n k)));
     };
   }
 
+  -- what W of a class asks, and R to one; the class of their rows is declared
+  module _ {E A M : List ℕ} {z : ℕ} (p : PreNode R E T A M s l at q n z) where
+    abbrev new-of : {c : ℕ} → c ≤ length (p .P) → PreNew R T s c (n .made)
+    new-of d = record { E = E; A = A; M = M; P = p .P; holding = p .ready .holding; declared = d }
+
+    new-declared : getD R (at * 4) 0 ≡ 87 → getD R (at * 4 + 1) 0 ≤ length (p .P)
+    unfolding Encoded
+    new-declared h = let c = as-new (head (p .e) (p .encoded)) h in
+        omega (arith, node-rows p (c .1) .row .first, node-parts p (c .1))
+
+    change-declared : getD R (at * 4) 0 ≡ 82 → getD R (at * 4 + 2) 0 ≤ length (p .P)
+    unfolding Encoded
+    change-declared h = let c = as-change (head (p .e) (p .encoded)) h in
+        omega (arith, node-rows p (c .2) .row .second, node-parts p (c .2))
+
   pub pre-new : PreLeaf R T s l at q n → getD R (at * 4) 0 ≡ 87
       → PreNew R T s (getD R (at * 4 + 1) 0) (n .made)
-  unfolding Encoded Within
-  pre-new p h =
-      let c = as-new (head (p .node .e) (p .node .encoded)) h in
-      let enc = rw (c .1) at (p .node .encoded) in
-      let w = rw (c .1) at (p .node .within) in
-      record {
-        A = p .A;
-        P = p .node .P;
-        holds = p .node .ready .holds;
-        sound = p .node .ready .sound;
-        declared = omega (arith, enc .row .first, w);
-      }
+  pre-new p h = new-of (p .node) (new-declared (p .node) h)
 
   pub leaf-new : {s′ : List ℕ} {r : Answer} → getD R (at * 4) 0 ≡ 87
       → PostNew R T s s′ (getD R (at * 4 + 1) 0) n r → PostLeaf R T s l s′ at q n r
-  unfolding inside Encoded Within
-  leaf-new h p = record {
+  unfolding inside Encoded
+  leaf-new h made = record {
     post = λ E A M. record {
-      done = λ P e width d F k f enc w z.
-          let c = as-new (head e enc) h in
-          let enc′ = rw (c .1) at enc in
-          let w′ = rw (c .1) at w in
-          rw (c .1, ← enc′ .row .first)
-          (done-acts F k f (p .acts A P F (f .holds) (f .sound) (omega (arith, enc′ .row .first, w′)))
-          z);
+      done = λ p F k z.
+          let c = as-new (head (p .e) (p .encoded)) h in
+          rw (c .1, ← node-rows p (c .1) .row .first)
+          (done-acts F k (p .ready) (made .acts (new-of p (new-declared p h)) F) z);
     };
   }
 
   pub pre-change : (x : ℕ) → PreLeaf R T s l at q n → getD R (at * 4) 0 ≡ 82 → IsWord x
       → PreChange R T s x (getD R (at * 4 + 2) 0) n
-  unfolding Encoded Within
-  pre-change x p h i =
-      let c = as-change (head (p .node .e) (p .node .encoded)) h in
-      let enc = rw (c .2) at (p .node .encoded) in
-      let w = rw (c .2) at (p .node .within) in
-      record {
-        new = record {
-          A = p .A;
-          P = p .node .P;
-          holds = p .node .ready .holds;
-          sound = p .node .ready .sound;
-          declared = omega (arith, enc .row .second, w);
-        };
-        is-word = i;
-        counted = omega (arith, p .node .ready .counted);
-      }
+  pre-change x p h i = record {
+    new = new-of (p .node) (change-declared (p .node) h);
+    is-word = i;
+    counted = omega (arith, p .node .ready .counted);
+  }
 
   pub change-missing : (o : Outcome) → getD R (at * 4) 0 ≡ 82 → PostRead l (getD R (at * 4 + 1) 0) q o
       → ((v : Meaning) → o ≡ Gave v → ⊥) → PostLeaf R T s l s at q n (answer o n)
   unfolding inside Encoded bare
-  change-missing o h p not = record {
+  change-missing o h read not = record {
     post = λ E A M. record {
-      done = λ P e width d F k f enc w z.
-          let c = as-change (head e enc) h in
-          let enc′ = rw (c .2) at enc in
-          done-same o F k f (p .small) z
-          (rw (c .2, ← enc′ .row .first)
-          (go (world P) (c .1) (at-slot (frame-of l q) (getD R (at * 4 + 1) 0)) o (state P s l q n k) not
-          (p .is (state P s l q n k))));
+      done = λ p F k z.
+          let c = as-change (head (p .e) (p .encoded)) h in
+          done-same o F k (p .ready) (read .small) z
+          (rw (c .2, ← node-rows p (c .2) .row .first)
+          (go (world (p .P)) (c .1) (at-slot (frame-of l q) (getD R (at * 4 + 1) 0)) o
+          (state (p .P) s l q n k) not
+          (read .is (state (p .P) s l q n k))));
     };
   }
     where
@@ -205,21 +196,20 @@ module _ {R T s l : List ℕ} {at : ℕ} {q : Place} {n : Counts} where
       → PostRead l (getD R (at * 4 + 1) 0) q o → o ≡ Gave v
       → PostChange R T s s′ v (getD R (at * 4 + 2) 0) n r
       → PostLeaf R T s l s′ at q n r
-  unfolding inside Encoded Within
-  change-done {s′} {r} o v h p g ch = record {
+  unfolding inside Encoded
+  change-done {s′} {r} o v h read g changed = record {
     post = λ E A M. record {
-      done = λ P e width d F k f enc w z.
-          let c = as-change (head e enc) h in
-          let enc′ = rw (c .2) at enc in
-          let w′ = rw (c .2) at w in
+      done = λ p F k z.
+          let P = p .P in
+          let c = as-change (head (p .e) (p .encoded)) h in
+          let enc = node-rows p (c .2) in
           let i : ℕ = getD R (at * 4 + 1) 0 in
           let there : at-slot (frame-of l q) i ≡ some v =
           holds-value (at-slot (frame-of l q) i) v (state P s l q n k)
-          (rw g at (p .is (state P s l q n k))) in
-          let there′ : at-slot (frame-of l q) (c .0) ≡ some v = rw (enc′ .row .first) at there in
-          let a = done-acts F k f
-          (ch .acts A P (f .holds) (f .sound) (omega (arith, enc′ .row .second, w′))) z in
-          rw (c .2) (rw (there′, ← enc′ .row .second) a);
+          (rw g at (read .is (state P s l q n k))) in
+          let there′ : at-slot (frame-of l q) (c .0) ≡ some v = rw (enc .row .first) at there in
+          let a = done-acts F k (p .ready) (changed .acts (new-of p (change-declared p h))) z in
+          rw (c .2) (rw (there′, ← enc .row .second) a);
     };
   }
 
@@ -233,6 +223,24 @@ leaf-rest p h a b c d e =
     (λ z. d (x ∙ z)) (λ z. e (x ∙ z))
 
 -- a node with one child, once that has a value
+module _ {R E T A M s l : List ℕ} {at : ℕ} {q : Place} {n : Counts} (p : PreEval R E T A M s l at q n) where
+  abbrev object-at : PreObject T s (n .made)
+  object-at = record { R = R; E = E; A = A; M = M; P = p .P; holding = p .ready .holding }
+
+  abbrev cast-at : getD R (at * 4) 0 ≡ 75 → PreCast A s (getD R (at * 4 + 1) 0) (n .made)
+  unfolding Encoded
+  cast-at h =
+      let c = as-cast (head (p .e) (p .encoded)) h in
+      record {
+        R = R;
+        E = E;
+        T = T;
+        M = M;
+        P = p .P;
+        holding = p .ready .holding;
+        declared = omega (arith, node-rows p (c .2) .0 .row .first, node-parts p (c .2) .1);
+      }
+
 module _ {R T A s l : List ℕ} {at : ℕ} {q : Place} {n : Counts} {x : ℕ} where
   pub apply-row : PreApply R T A s l at q n x → at * 4 + 3 < length R
   apply-row p = head (p .node .e) (p .node .encoded) .row
@@ -245,37 +253,20 @@ module _ {R T A s l : List ℕ} {at : ℕ} {q : Place} {n : Counts} {x : ℕ} wh
 
   pub pre-load : PreApply R T A s l at q n x → getD R (at * 4) 0 ≡ 71
       → PreObject T s (n .made) × (getD R (at * 4 + 1) 0 < 256)
-  unfolding Encoded Within
+  unfolding Encoded
   pre-load p h =
-      let c = as-get (head (p .node .e) (p .node .encoded)) h in
-      let enc = rw (c .2) at (p .node .encoded) in
-      let w = rw (c .2) at (p .node .within) in (
-        record {
-          R = R;
-          A = A;
-          P = p .node .P;
-          holds = p .node .ready .holds;
-          sound = p .node .ready .sound;
-        },
-        omega (arith, enc .0 .row .first, w .1),
+      let c = as-get (head (p .node .e) (p .node .encoded)) h in (
+        object-at (p .node),
+        omega (
+          arith,
+          node-rows (p .node) (c .2) .0 .row .first,
+          node-parts (p .node) (c .2) .1,
+        ),
       )
 
   pub pre-cast : PreApply R T A s l at q n x → getD R (at * 4) 0 ≡ 75
-      → PreCast A s x (getD R (at * 4 + 1) 0) (n .made)
-  unfolding Encoded Within
-  pre-cast p h =
-      let c = as-cast (head (p .node .e) (p .node .encoded)) h in
-      let enc = rw (c .2) at (p .node .encoded) in
-      let w = rw (c .2) at (p .node .within) in
-      record {
-        is-word = p .is-word;
-        R = R;
-        T = T;
-        P = p .node .P;
-        holds = p .node .ready .holds;
-        sound = p .node .ready .sound;
-        declared = omega (arith, enc .0 .row .first, w .1);
-      }
+      → PreCast A s (getD R (at * 4 + 1) 0) (n .made)
+  pre-cast p h = cast-at (p .node) h
 
   pub apply-rest : PreApply R T A s l at q n x → (getD R (at * 4) 0 ≡ 90 → ⊥) → (getD R (at * 4) 0 ≡ 71 → ⊥)
       → (getD R (at * 4) 0 ≡ 75 → ⊥) → getD R (at * 4) 0 ≡ 65
@@ -288,14 +279,14 @@ module _ {R T A s l : List ℕ} {at : ℕ} {q : Place} {n : Counts} {v : Meaning
       → PostApply R T A s l l at q n v r
   unfolding after bare
   apply-test h g = record {
-    applied = λ E M P e width d f enc w.
-        let c = as-is-null (head e enc) h in
+    applied = λ E M p.
+        let c = as-is-null (head (p .e) (p .encoded)) h in
         record {
           long = refl;
           same = λ i o. refl;
-          words = f .words;
+          words = p .ready .words;
           small = rw g (small v);
-          is = λ k. rw (c .1, g) (test v (state P s l q n k));
+          is = λ k. rw (c .1, g) (test v (state (p .P) s l q n k));
         };
   }
     where
@@ -313,58 +304,57 @@ module _ {R T A s l : List ℕ} {at : ℕ} {q : Place} {n : Counts} {v : Meaning
   pub apply-get : (r : Outcome) → getD R (at * 4) 0 ≡ 71 → PostLoad T s v (getD R (at * 4 + 1) 0) n r
       → PostApply R T A s l l at q n v r
   unfolding after Encoded
-  apply-get r h p = record {
-    applied = λ E M P e width d f enc w.
-        let c = as-get (head e enc) h in
-        let enc′ = rw (c .2) at enc in
-        let a = p .acts R A P (f .holds) (f .sound) in
+  apply-get r h loaded = record {
+    applied = λ E M p.
+        let c = as-get (head (p .e) (p .encoded)) h in
+        let enc = node-rows p (c .2) in
+        let a = loaded .acts (object-at p) in
         record {
           long = refl;
           same = λ i o. refl;
-          words = f .words;
+          words = p .ready .words;
           small = a .small;
-          is = λ k. rw (c .2, ← enc′ .0 .row .first) (a .is (frame-of l q) k);
+          is = λ k. rw (c .2, ← enc .0 .row .first) (a .is (frame-of l q) k);
         };
   }
 
   pub apply-cast : (r : Outcome) → getD R (at * 4) 0 ≡ 75 → PostCast A s v (getD R (at * 4 + 1) 0) n r
       → PostApply R T A s l l at q n v r
-  unfolding after Encoded Within
-  apply-cast r h p = record {
-    applied = λ E M P e width d f enc w.
-        let c = as-cast (head e enc) h in
-        let enc′ = rw (c .2) at enc in
-        let w′ = rw (c .2) at w in
-        let a = p .acts R T P (f .holds) (f .sound) (omega (arith, enc′ .0 .row .first, w′ .1)) in
+  unfolding after Encoded
+  apply-cast r h tested = record {
+    applied = λ E M p.
+        let c = as-cast (head (p .e) (p .encoded)) h in
+        let enc = node-rows p (c .2) in
+        let a = tested .acts (cast-at p h) in
         record {
           long = refl;
           same = λ i o. refl;
-          words = f .words;
+          words = p .ready .words;
           small = a .small;
-          is = λ k. rw (c .2, ← enc′ .0 .row .first) (a .is (frame-of l q) k);
+          is = λ k. rw (c .2, ← enc .0 .row .first) (a .is (frame-of l q) k);
         };
   }
 
   pub apply-assign : {l′ : List ℕ} {r : Outcome} → getD R (at * 4) 0 ≡ 65
       → PostWrite l l′ (getD R (at * 4 + 1) 0) v q r → PostApply R T A s l l′ at q n v r
   unfolding after Encoded
-  apply-assign h p = record {
-    applied = λ E M P e width d f enc w.
-        let c = as-assign (head e enc) h in
-        let enc′ = rw (c .2) at enc in
+  apply-assign h written = record {
+    applied = λ E M p.
+        let c = as-assign (head (p .e) (p .encoded)) h in
+        let enc = node-rows p (c .2) in
         record {
-          long = p .long;
-          same = λ i o. p .same i (far E M P width d f i o);
-          words = p .words;
-          small = p .small;
-          is = λ k. rw (c .2, ← enc′ .0 .row .first) (p .is (state P s l q n k));
+          long = written .long;
+          same = λ i o. written .same i (far p i o);
+          words = written .words;
+          small = written .small;
+          is = λ k. rw (c .2, ← enc .0 .row .first) (written .is (state (p .P) s l q n k));
         };
   }
     where
-      far : (E M : List ℕ) (P : List Class) (width d : ℕ) → Ready R E T A M s l P width q n d 0 → (i : ℕ)
-          → (i < q .base) ⊎ (q .base + width ≤ i) → (i < q .base) ⊎ (q .base + q .scope < i)
-      far E M P width d f i (inl o) = inl o
-      far E M P width d f i (inr o) = inr (omega (arith, f .scoped))
+      far : {E M : List ℕ} (p : PreEval R E T A M s l at q n) (i : ℕ)
+          → (i < q .base) ⊎ (q .base + p .width ≤ i) → (i < q .base) ⊎ (q .base + q .scope < i)
+      far p i (inl o) = inl o
+      far p i (inr o) = inr (omega (arith, p .ready .scoped))
 
 pub no-leaf : (k : ℕ) → (k ≡ 84 → ⊥) → (k ≡ 76 → ⊥) → (k ≡ 78 → ⊥) → (k ≡ 73 → ⊥) → (k ≡ 87 → ⊥)
     → (k ≡ 82 → ⊥) → no-child k ≡ false

@@ -1,11 +1,11 @@
 -- What the proofs of several functions use.
 mod Frames
 mod Letters
-mod Nodes
+mod OneChild
 mod Leaves
 mod Steps
-mod Nodes2
-mod Nodes3
+mod Sets
+mod Choices
 mod Lists
 mod Arguments
 mod Blocks
@@ -13,5 +13,4 @@ mod Entering
 mod Calls
 mod Running
 mod Lines
-pub mod Accepted
 pub mod Checked

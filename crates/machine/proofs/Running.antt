@@ -18,11 +18,16 @@ use Rattle.objects.specs.Values.{Outcome, Gave, Raised, Stopped, Stuck, Counts,
 use Rattle.objects.specs.Values.{told, bare, answered}
 use Rattle.machine.specs.declared.Place.{Place}
 use Rattle.machine.specs.Machine.{state, frame-of, slots-of}
-use Rattle.objects.specs.Holding.{Holds, Sound}
-use Rattle.machine.specs.Contracts.{Ready, Done, PreEval, PostEval, PreRun, PostRun, Runs, outcome-of}
-use Rattle.machine.specs.Contracts.{evaluated}
+use Rattle.objects.specs.Holding.{Holding, Sound}
+use Rattle.objects.proofs.Holding.{fields-few}
+use Rattle.layout.specs.HeldLaws.{start-typed}
+use Rattle.machine.specs.Evaluator.{PreEval, PostEval, PreRun, PostRun, outcome-of}
+use Rattle.machine.specs.Evaluator.{evaluated}
 use Rattle.objects.proofs.Values.{value-number-of}
 use Rattle.objects.proofs.Objects.{heap-length}
+use mathlib.Core.Logic.{inl}
+use Rattle.layout.specs.NodeForms.{body-within}
+use Rattle.machine.proofs.Steps.{kept-of}
 
 -- ---- the store at the end
 
@@ -89,14 +94,14 @@ heap-back W (suc n) s h few z =
     at′ : (j i : ℕ) → getD (drop 18 s) (j * 18 + 1 + i) 0 ≡ getD s (suc j * 18 + 1 + i) 0
     at′ j i = getD-drop 18 s (j * 18 + 1 + i) 0 ∙ ap (λ (k : ℕ). getD s k 0) (omega arith)
 
-stored-back : {R T A : List ℕ} {P : List Class} → Holds R T A P → (s s′ : List ℕ) (made : ℕ)
-    → Sound P made s′ → drop (made * 18) s′ ≡ drop (made * 18) s
+stored-back : {R E T A M s₀ : List ℕ} {P : List Class} {made₀ : ℕ} → Holding R E T A M s₀ P made₀
+    → (s s′ : List ℕ) (made : ℕ) → Sound P made s′ → drop (made * 18) s′ ≡ drop (made * 18) s
     → stored (heap-of-numbers (world P) made s′) s ≡ s′
 unfolding stored
 stored-back {P = P} h s s′ made snd rest =
     let e : 18 * made ≡ made * 18 = omega arith in
     ap₂ (λ (x : List ℕ) (k : ℕ). x ++ drop (18 * k) s)
-    (heap-back (world P) made s′ (snd .stored) (λ j l. h .counts (getD s′ (j * 18) 0) (snd .declared j l))
+    (heap-back (world P) made s′ (snd .stored) (λ j l. fields-few h (getD s′ (j * 18) 0))
     (snd .unused)) (heap-length (world P) made s′)
     ∙ (ap (λ (k : ℕ). take (made * 18) s′ ++ drop k s) e
     ∙ (ap (λ (x : List ℕ). take (made * 18) s′ ++ x) (sym rest) ∙ take-append-drop (made * 18) s′))
@@ -120,45 +125,49 @@ first-place = record { base = 0; scope = 0; top = 264; calls = 0 }
 abbrev pub first-counts : ℕ → Counts
 first-counts fuel = record { left = fuel; made = 0; changes = 0 }
 
-module _ {R E T A M s l : List ℕ} {at fuel : ℕ} {p : Program} (u : Runs R E T A M l at p)
-    (low : fuel ≤ 4294967295) where
-  pub ready-start : Ready R E T A M s l (p .classes) 264 first-place (first-counts fuel) 128 0
-  ready-start = record {
-    holds = u .holds;
-    methods = u .methods;
-    sound = record {
-      stored = omega arith;
-      few = omega arith;
-      declared = λ j h. absurd (omega arith);
-      unused = λ j i h. absurd (omega arith);
-    };
-    frame = omega arith;
-    scoped = omega arith;
-    whole = u .segment .whole;
-    above = omega (arith, u .segment .whole);
-    words = u .segment .words;
-    active = omega arith;
-    counted = omega arith;
-  }
+-- Before the run the store holds no objects.
+pub none-made : (P : List Class) (s : List ℕ) → Sound P 0 s
+none-made P s = record {
+  stored = omega arith;
+  few = omega arith;
+  declared = λ j h. absurd (omega arith);
+  unused = λ j i h. absurd (omega arith);
+}
 
-  pub start-pre : PreEval R E T A M s l at first-place (first-counts fuel)
-  start-pre = record {
-    P = p .classes;
-    e = p .start;
-    width = 264;
-    d = 128;
-    ready = ready-start;
-    encoded = u .encoded;
-    within = u .within;
-  }
-
-  pub start-done : {s′ l′ : List ℕ} {r : Answer}
-      → PostEval R E T A M s l s′ l′ at first-place (first-counts fuel) r
-      → Done (p .classes) 264 s l s′ l′ first-place (first-counts fuel) fuel 0 r
-      (evaluated (p .classes) fuel (capacity s) 0 (p .start)
-      (state (p .classes) s l first-place (first-counts fuel) 0))
-  start-done g = g .done (p .classes) (p .start) 264 128 fuel 0 ready-start (u .encoded) (u .within)
-      (omega arith)
+abbrev pub start-pre : {R E T A M s l : List ℕ} {at fuel : ℕ} → PreRun R E T A M l at → fuel ≤ 4294967295
+    → PreEval R E T A M s l at first-place (first-counts fuel)
+start-pre {s = s} w low =
+    let c = w .checked in
+    let t = start-typed (c .held) in
+    record {
+      P = c .p .classes;
+      e = c .p .start;
+      width = 264;
+      d = 128;
+      ready = record {
+        holding = record {
+          F = c .F;
+          C = c .C;
+          start = c .p .start;
+          held = c .held;
+          sound = none-made (c .p .classes) s;
+        };
+        frame = omega arith;
+        scoped = omega arith;
+        whole = w .segment .whole;
+        above = omega (arith, w .segment .whole);
+        words = w .segment .words;
+        active = omega arith;
+        counted = omega arith;
+      };
+      encoded = rw (w .start) (c .held .headed .here .start);
+      proper = record {
+        in-form = body-within 264 128 1 (c .p .start) (c .held .headed .here .in-form .start)
+            (inl (omega arith))
+            (inl (omega arith));
+        typed = record { before = _; type = t .0; after = t .1; effect = t .2; has = t .3 };
+      };
+    }
 
 run-is : (P : List Class) (s l : List ℕ) (fuel : ℕ) (p : Program) → P ≡ p .classes
     → evaluated P fuel (capacity s) 0 (p .start) (state P s l first-place (first-counts fuel) 0)
@@ -169,15 +178,17 @@ run-is P s l fuel p e = rw e
 pub start-falls : {R E T A M s l s′ l′ : List ℕ} {at fuel : ℕ} {r : Answer} (p : PreRun R E T A M l at)
     → fuel ≤ 4294967295 → PostEval R E T A M s l s′ l′ at first-place (first-counts fuel) r
     → r .counts .left ≤ fuel
-start-falls p low g = start-done (p .runs) low g .kept .falls
+start-falls p low g = kept-of (start-pre p low) g .falls
 
 pub run-done : {R E T A M s l s′ l′ : List ℕ} {at fuel o : ℕ} (t : List ℕ) → fuel ≤ 4294967295
     → PostEval R E T A M s l s′ l′ at first-place (first-counts fuel) (answered o t)
     → PostRun R E T A M s l s′ at fuel
     (record { outcome = o; steps = fuel - getD t 0 0; objects = getD t 1 0; changes = getD t 2 0 })
-run-done {R} {E} {T} {A} {M} {s} {l} {s′} {l′} {at} {fuel} {o} t low g = record {
-  is = λ p u.
-      let d = start-done u low g in
+run-done {s = s} {l} {s′} {l′} {fuel = fuel} {o} t low g = record {
+  is = λ w.
+      let p = w .checked .p in
+      let pre = start-pre w low in
+      let d = g .done pre fuel 0 (omega arith) in
       let n : Counts = counts-in t in
       let st : State = state (p .classes) s′ l′ first-place n (fuel - n .left) in
       let e : finish (run (with-limits fuel (capacity s)) p) s ≡ finished (outcome-of (outcome o)) st s
@@ -188,6 +199,6 @@ run-done {R} {E} {T} {A} {M} {s} {l} {s′} {l′} {at} {fuel} {o} t low g = rec
       e ∙ ap₂ (λ (k : ℕ) (y : List ℕ).
       record { answer = ran (outcome-of (outcome o)) (fuel - n .left) k (n .changes); store = y })
       (heap-length (world (p .classes)) (n .made) s′)
-      (stored-back (u .holds) s s′ (n .made) (d .kept .stored .sound) (d .kept .stored .rest));
-  small = λ p u. start-done u low g .kept .small;
+      (stored-back (pre .ready .holding) s s′ (n .made) (d .kept .stored .sound) (d .kept .stored .rest));
+  small = λ w. kept-of (start-pre w low) g .small;
 }

@@ -9,9 +9,8 @@ use lib.Dec.{leb}
 use lib.ListN.{length, getD, set, drop}
 use lib.Seq.{drop-drop}
 use Rattle.language.specs.Results.{ok, bind}
-use Rattle.language.specs.Tree.{Expr, Class}
+use Rattle.language.specs.Tree.{Class}
 use Rattle.language.specs.Program.{world}
-use Rattle.language.specs.Encoded.{Encoded}
 use Rattle.language.specs.State.{Value as Meaning, State, Out}
 use Rattle.language.specs.Evaluation.{with-limits}
 use Rattle.language.specs.Store.{capacity}
@@ -21,15 +20,15 @@ use Rattle.objects.specs.Values.{Outcome, Gave, Raised, Stopped, Stuck, Counts,
 use Rattle.objects.specs.Values.{SmallOutcome, bare, told, answer}
 use Rattle.machine.specs.declared.Place.{Place}
 use Rattle.machine.specs.Machine.{state, after}
-use Rattle.objects.specs.Holding.{Within}
-use Rattle.objects.specs.Contracts.{Stored}
-use Rattle.machine.specs.Contracts.{Ready, Kept, Done, PreNode, PreEval, PreEntered, PostEval, PostNode}
-use Rattle.machine.specs.Contracts.{PreLeaf, PreApply, PostApply, calls-of, evaluated, no-child}
-use Rattle.machine.specs.Contracts.{one-child}
+use Rattle.objects.specs.Acts.{Stored}
+use Rattle.machine.specs.Evaluator.{Ready, Kept, Done, PreNode, PreEval, PreEntered, PostEval, PostNode}
+use Rattle.machine.specs.Evaluator.{PreLeaf, PreApply, PostApply, calls-of, evaluated, no-child}
+use Rattle.machine.specs.Evaluator.{one-child}
 use Rattle.objects.proofs.Values.{bare-ok, bare-stop, small-of}
 use Rattle.objects.proofs.Acts.{stored-same}
-use Rattle.machine.proofs.Nodes.{OneChild, one-of, child, one-encoded, one-within, one-inside}
-use Rattle.machine.proofs.Nodes.{eval-inside, rest-one-child}
+use Rattle.objects.proofs.Holding.{still-holding}
+use Rattle.machine.proofs.OneChild.{OneChild, one-of, child, one-encoded, one-proper, one-inside}
+use Rattle.machine.proofs.OneChild.{eval-inside, rest-one-child, node-parts}
 
 -- ---- what is kept, one answer after another
 
@@ -99,9 +98,7 @@ pub ready-child : {R E T A M s l : List ℕ} {P : List Class} {width : ℕ} {q :
     → Ready R E T A M s l P width q n d z → d′ ≤ d → Ready R E T A M s l P width q n d′ 0
 ready-child z d′ f h =
     record {
-      holds = f .holds;
-      methods = f .methods;
-      sound = f .sound;
+      holding = f .holding;
       frame = f .frame;
       scoped = f .scoped;
       whole = f .whole;
@@ -116,9 +113,7 @@ pub refit : {R E T A M s l s′ l′ : List ℕ} {P : List Class} {width : ℕ} 
     (z d′ : ℕ) → Ready R E T A M s l P width q n d z → Kept P width s l s′ l′ q n 0 r → d′ ≤ d
     → Ready R E T A M s′ l′ P width q (r .counts) d′ 0
 refit z d′ f k h = record {
-  holds = f .holds;
-  methods = f .methods;
-  sound = k .stored .sound;
+  holding = still-holding (f .holding) (k .stored .sound);
   frame = f .frame;
   scoped = f .scoped;
   whole = omega (arith, f .whole, k .long);
@@ -135,10 +130,10 @@ room-same s s′ e = ap (λ (n : ℕ). min (n / 18) 65535) e
 -- an answer under the capacity of the store before
 pub then-eval : {R E T A M s l s′ l′ : List ℕ} {at : ℕ} {q : Place} {n : Counts} {r : Answer} (room : ℕ)
     → capacity s ≡ room → PostEval R E T A M s l s′ l′ at q n r
-    → (P : List Class) (e : Expr) (width d F k : ℕ) → Ready R E T A M s l P width q n d 0
-    → Encoded R E e at → Within (length P) width (q .scope) d e → k + n .left ≡ F
-    → Done P width s l s′ l′ q n F 0 r (evaluated P F room (q .calls) e (state P s l q n k))
-then-eval room c p P e width d F k f enc w z = rw c at (p .done P e width d F k f enc w z)
+    → (w : PreEval R E T A M s l at q n) (F k : ℕ) → k + n .left ≡ F
+    → Done (w .P) (w .width) s l s′ l′ q n F 0 r
+    (evaluated (w .P) F room (q .calls) (w .e) (state (w .P) s l q n k))
+then-eval room c g w F k z = rw c at (g .done w F k z)
 
 -- ---- results
 
@@ -164,23 +159,23 @@ pub eval-spent : {R E T A M s l : List ℕ} {at : ℕ} {q : Place} {n : Counts} 
     → PostEval R E T A M s l s l at q n (answer (Stopped 14) n)
 unfolding bare
 eval-spent {s = s} {l} {q = q} {n} z = record {
-  done = λ P e width d F k f enc w t.
+  done = λ w F k t.
       let g : F - n .left ≡ k = omega arith in
       let full : leb F k ≡ true = le-leb F k (omega arith) in
       record {
         kept = record {
           same = λ i h o. refl;
           long = refl;
-          words = f .words;
-          stored = stored-same (f .sound);
+          words = w .ready .words;
+          stored = stored-same (w .ready .holding .sound);
           falls = omega arith;
           counted = omega arith;
           small = (omega arith, omega arith);
         };
         is = rw (
           g,
-          eval-inside (world P) (with-limits F (capacity s))
-              (λ M t. calls-of P F (capacity s) (q .calls) M t) e (state P s l q n k),
+          eval-inside (world (w .P)) (with-limits F (capacity s))
+              (λ M t. calls-of (w .P) F (capacity s) (q .calls) M t) (w .e) (state (w .P) s l q n k),
           full,
         );
       };
@@ -200,17 +195,19 @@ pub counts-entered : (t : List ℕ) → (getD t 0 0 ≡ 0 → ⊥)
 counts-entered [] z = absurd (z refl)
 counts-entered (x ∷ t) z = refl
 
-from-entered : {R E T A M s l s′ l′ : List ℕ} {at : ℕ} {q : Place} {n : Counts} {r : Answer}
-    → (n .left ≡ 0 → ⊥)
-    → PostNode R E T A M s l s′ l′ at q (entered n) r → PostEval R E T A M s l s′ l′ at q n r
-from-entered {R} {E} {T} {A} {M} {s} {l} {q = q} {n} z p = record {
-  done = λ P e width d F k f enc w t.
-      let room : leb F k ≡ false = lt-leb F k (omega arith) in
-      let f′ : Ready R E T A M s l P width q (entered n) d 1
-      = record {
-        holds = f .holds;
-        methods = f .methods;
-        sound = f .sound;
+abbrev to-entered : {R E T A M s l : List ℕ} {at : ℕ} {q : Place} {n : Counts} → (n .left ≡ 0 → ⊥)
+    → PreEval R E T A M s l at q n → PreEntered R E T A M s l at q (entered n)
+to-entered z p =
+    let f = p .ready in
+    record {
+      P = p .P;
+      e = p .e;
+      width = p .width;
+      d = p .d;
+      encoded = p .encoded;
+      proper = p .proper;
+      ready = record {
+        holding = f .holding;
         frame = f .frame;
         scoped = f .scoped;
         whole = f .whole;
@@ -218,8 +215,16 @@ from-entered {R} {E} {T} {A} {M} {s} {l} {q = q} {n} z p = record {
         words = f .words;
         active = f .active;
         counted = omega (arith, f .counted);
-      } in
-      let g = p .done P e width d F (suc k) f′ enc w (omega arith) in
+      };
+    }
+
+from-entered : {R E T A M s l s′ l′ : List ℕ} {at : ℕ} {q : Place} {n : Counts} {r : Answer}
+    → (n .left ≡ 0 → ⊥)
+    → PostNode R E T A M s l s′ l′ at q (entered n) r → PostEval R E T A M s l s′ l′ at q n r
+from-entered {s = s} {l} {q = q} {n} z p = record {
+  done = λ w F k t.
+      let room : leb F k ≡ false = lt-leb F k (omega arith) in
+      let g = p .done (to-entered z w) F (suc k) (omega arith) in
       record {
         kept = record {
           same = g .kept .same;
@@ -231,37 +236,12 @@ from-entered {R} {E} {T} {A} {M} {s} {l} {q = q} {n} z p = record {
           small = g .kept .small;
         };
         is = rw (
-          eval-inside (world P) (with-limits F (capacity s))
-              (λ M t. calls-of P F (capacity s) (q .calls) M t) e (state P s l q n k),
+          eval-inside (world (w .P)) (with-limits F (capacity s))
+              (λ M t. calls-of (w .P) F (capacity s) (q .calls) M t) (w .e) (state (w .P) s l q n k),
           room,
         ) (g .is);
       };
 }
-
-to-entered : {R E T A M s l : List ℕ} {at : ℕ} {q : Place} {n : Counts} → (n .left ≡ 0 → ⊥)
-    → PreEval R E T A M s l at q n → PreEntered R E T A M s l at q (entered n)
-to-entered z p =
-    let f = p .ready in
-    record {
-      P = p .P;
-      e = p .e;
-      width = p .width;
-      d = p .d;
-      encoded = p .encoded;
-      within = p .within;
-      ready = record {
-        holds = f .holds;
-        methods = f .methods;
-        sound = f .sound;
-        frame = f .frame;
-        scoped = f .scoped;
-        whole = f .whole;
-        above = f .above;
-        words = f .words;
-        active = f .active;
-        counted = omega (arith, f .counted);
-      };
-    }
 
 pub eval-entered : {R E T A M s l s′ l′ : List ℕ} {at : ℕ} {q : Place} {n n′ : Counts} {r : Answer}
     → (n .left ≡ 0 → ⊥) → n′ ≡ entered n
@@ -300,16 +280,28 @@ module _ {R E T A M s l : List ℕ} {at : ℕ} {q : Place} {n : Counts} (p : Pre
     d = p .d - 1;
     ready = ready-child 1 (p .d - 1) (p .ready) (omega arith);
     encoded = one-encoded R E at one-is (p .encoded);
-    within = one-within (length (p .P)) (p .width) (q .scope) (p .d) one-is (p .within) .1;
+    proper = one-proper (p .P) (p .width) (suc (q .scope)) (p .d) one-is (node-parts p refl);
   }
 
 -- what a callee keeps, for the program at hand
 pub kept-of : {R E T A M s l s′ l′ : List ℕ} {at : ℕ} {q : Place} {n : Counts} {r : Answer}
     (p : PreEval R E T A M s l at q n) → PostEval R E T A M s l s′ l′ at q n r
     → Kept (p .P) (p .width) s l s′ l′ q n 0 r
-kept-of {n = n} p g =
-    g .done (p .P) (p .e) (p .width) (p .d) (n .left) 0 (p .ready) (p .encoded) (p .within)
-    (omega arith) .kept
+kept-of {n = n} p g = g .done p (n .left) 0 (omega arith) .kept
+
+-- the node again, once its child has a value
+abbrev again : {R E T A M s l s′ l′ : List ℕ} {at : ℕ} {q : Place} {n : Counts} {r : Answer}
+    (p : PreEntered R E T A M s l at q n) → Kept (p .P) (p .width) s l s′ l′ q n 0 r
+    → PreEval R E T A M s′ l′ at q (r .counts)
+again p k = record {
+  P = p .P;
+  e = p .e;
+  width = p .width;
+  d = p .d;
+  ready = refit 1 (p .d) (p .ready) k (omega arith);
+  encoded = p .encoded;
+  proper = p .proper;
+}
 
 pub pre-apply : {R E T A M s l s′ l′ : List ℕ} {at : ℕ} {q : Place} {n : Counts} {r : Answer} (w : ℕ)
     (p : PreEntered R E T A M s l at q n) (h : one-child (getD R (at * 4) 0) ≡ true)
@@ -320,56 +312,40 @@ pre-apply {E = E} {M = M} w p h g e short =
     record {
       E = E;
       M = M;
-      node = record {
-        P = p .P;
-        e = p .e;
-        width = p .width;
-        d = p .d;
-        ready = refit 1 (p .d) (p .ready) k (omega arith);
-        encoded = p .encoded;
-        within = p .within;
-      };
+      node = again p k;
       letter = h;
       is-word = record { short = short; small = small-of e (k .small) };
     }
 
 module _ {R E T A M s l s′ l′ : List ℕ} (at : ℕ) {q : Place} {n : Counts} {r : Answer}
     (h : one-child (getD R (at * 4) 0) ≡ true) (g : PostEval R E T A M s l s′ l′ (at + 1) q n r) where
-  one-child-done : (P : List Class) (e : Expr) (width d F k : ℕ) → Ready R E T A M s l P width q n d 1
-      → (o : OneChild e)
-      → Encoded R E e at → Within (length P) width (q .scope) d e → k + n .left ≡ F
-      → Done P width s l s′ l′ q n F 0 r (evaluated P F (capacity s) (q .calls) (child e) (state P s l q n k))
-  one-child-done P e width d F k f o enc w z =
-      g .done P (child e) width (d - 1) F k (ready-child 1 (d - 1) f (omega arith)) (one-encoded R E at o enc)
-      (one-within (length P) width (q .scope) d o w .1) z
-
   pub one-fail : ((v : Meaning) → r .outcome ≡ Gave v → ⊥) → PostNode R E T A M s l s′ l′ at q n r
   one-fail not = record {
-    done = λ P e width d F k f enc w z.
-        let o = one-of e (rw (head e enc .letter) at h) in
-        let a = one-child-done P e width d F k f o enc w z in
+    done = λ p F k z.
+        let P = p .P in
+        let a = g .done (one-pre p h) F k z in
         record {
           kept = kept-more 0 1 (a .kept) (omega arith);
           is = rw (one-inside (world P) (with-limits F (capacity s))
-              (λ M t. calls-of P F (capacity s) (q .calls) M t) o (state P s l q n k))
+              (λ M t. calls-of P F (capacity s) (q .calls) M t) (one-is p h) (state P s l q n k))
               (fails (r .outcome) (state P s′ l′ q (r .counts) (F - r .counts .left))
-              (evaluated P F (capacity s) (q .calls) (child e) (state P s l q n k))
-              (λ v s. after (world P) e v s) not (a .is));
+              (evaluated P F (capacity s) (q .calls) (child (p .e)) (state P s l q n k))
+              (λ v s. after (world P) (p .e) v s) not (a .is));
         };
   }
 
   pub one-done : {l″ : List ℕ} {v : Meaning} (x : Outcome) → r .outcome ≡ Gave v
       → PostApply R T A s′ l′ l″ at q (r .counts) v x
       → PostNode R E T A M s l s′ l″ at q n (answer x (r .counts))
-  one-done {l″} {v} x t p = record {
-    done = λ P e width d F k f enc w z.
-        let o = one-of e (rw (head e enc .letter) at h) in
-        let a = one-child-done P e width d F k f o enc w z in
-        let b = p .applied E M P e width d (refit 1 d f (a .kept) (omega arith)) enc w in
-        let c : evaluated P F (capacity s) (q .calls) (child e) (state P s l q n k)
+  one-done {l″} {v} x t applied = record {
+    done = λ p F k z.
+        let P = p .P in
+        let a = g .done (one-pre p h) F k z in
+        let b = applied .applied E M (again p (a .kept)) in
+        let c : evaluated P F (capacity s) (q .calls) (child (p .e)) (state P s l q n k)
         ≡ ok v (state P s′ l′ q (r .counts) (F - r .counts .left)) =
         gives (state P s′ l′ q (r .counts) (F - r .counts .left))
-        (evaluated P F (capacity s) (q .calls) (child e) (state P s l q n k)) t (a .is) in
+        (evaluated P F (capacity s) (q .calls) (child (p .e)) (state P s l q n k)) t (a .is) in
         record {
           kept = record {
             same = λ i u y. b .same i y ∙ a .kept .same i u y;
@@ -382,7 +358,7 @@ module _ {R E T A M s l s′ l′ : List ℕ} (at : ℕ) {q : Place} {n : Counts
           };
           is = rw (
             one-inside (world P) (with-limits F (capacity s))
-                (λ M t. calls-of P F (capacity s) (q .calls) M t) o (state P s l q n k),
+                (λ M t. calls-of P F (capacity s) (q .calls) M t) (one-is p h) (state P s l q n k),
             c,
           )
               (b .is (F - r .counts .left));

@@ -29,14 +29,14 @@ ghost use Prim.Native.Nat.{_+_, _-_, _*_, _≤_, _<_};
 ghost use lib.ListN.{length, getD, set};
 ghost use Rattle.objects.specs.Values.{meaning, outcome, counts-in, SmallOutcome, answered};
 ghost use Rattle.machine.specs.Machine.{place-of};
-ghost use Rattle.machine.specs.Contracts.{Slots, Locals, Opened, PostRead, PostWrite, null-tested};
-ghost use Rattle.machine.specs.Contracts.{PreEval};
-ghost use Rattle.machine.specs.Contracts.{PreEntered, PostEval, PostNode, one-child, no-child, PreLeaf};
-ghost use Rattle.machine.specs.Contracts.{PostLeaf, PreApply, PostApply, PreList, PreArgs, PostItems};
-ghost use Rattle.machine.specs.Contracts.{PostArgs, PreRun, PostRun, end-told, outcome-of};
-ghost use Rattle.machine.specs.Contracts.{PreChecked, PostChecked, nothing};
-ghost use Rattle.machine.specs.Contracts.{PreEnter, PostEnter, frame-width, most-nested};
-ghost use Rattle.objects.specs.Contracts.{Written, IsWord};
+ghost use Rattle.machine.specs.Evaluator.{Slots, Locals, Opened, PostRead, PostWrite, null-tested};
+ghost use Rattle.machine.specs.Evaluator.{PreEval};
+ghost use Rattle.machine.specs.Evaluator.{PreEntered, PostEval, PostNode, one-child, no-child, PreLeaf};
+ghost use Rattle.machine.specs.Evaluator.{PostLeaf, PreApply, PostApply, PreList, PreArgs, PostItems};
+ghost use Rattle.machine.specs.Evaluator.{PostArgs, PreRun, PostRun, end-told, outcome-of};
+ghost use Rattle.machine.specs.Evaluator.{PreChecked, PostChecked, nothing};
+ghost use Rattle.machine.specs.Evaluator.{PreEnter, PostEnter, frame-width, most-nested};
+ghost use Rattle.objects.specs.Acts.{Written, IsWord};
 ghost use Rattle.language.specs.Rows.{code, B-block, R-change, U-set, Q-call, J-choose};
 
 // How many slots a frame has at most, `this` included.

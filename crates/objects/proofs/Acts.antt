@@ -20,15 +20,17 @@ use Rattle.language.specs.Store.{value-number, value-of-number, heap-of-numbers
 use Rattle.objects.specs.declared.Reached.the-variants.{At}
 use Rattle.objects.specs.Values.{Outcome, Gave, Raised, Stuck, Counts, word, meaning, reached, outcome}
 use Rattle.objects.specs.Values.{Small, SmallOutcome, bare, told, answer}
-use Rattle.objects.specs.Holding.{view, Sound}
-use Rattle.objects.specs.Contracts.{Stored, Acts, PreObject, PostLoad, PostSave, PreCast, PostCast}
-use Rattle.objects.specs.Contracts.{Spot}
-use Rattle.objects.specs.Contracts.{field-index}
+use Rattle.language.specs.Evaluation.{do-set}
+use Rattle.objects.specs.Holding.{view, Sound, Holding}
+use Rattle.objects.specs.Acts.{Stored, Acts, PreObject, PostLoad, PostSave, PreCast, PostCast}
+use Rattle.objects.specs.Acts.{Spot}
+use Rattle.objects.specs.Acts.{field-index}
 use Rattle.classes.specs.Subclasses.{is-below}
 use Rattle.objects.proofs.Values.{NoObject, is-truth, is-past, reached-at, outcome-value}
 use Rattle.objects.proofs.Values.{outcome-stuck}
 use Rattle.objects.proofs.Values.{outcome-null-pointer, outcome-bad-cast, outcome-word, small-stored}
 use Rattle.objects.proofs.Values.{value-of-value-number}
+use Rattle.objects.proofs.Holding.{tables, few-classes, fields-few, below}
 use Rattle.objects.proofs.Nth.{lt-or}
 use Rattle.objects.proofs.Objects.{place-lt, mapped-at, mapped-set, object-at, heap-at, heap-past}
 use Rattle.objects.proofs.Objects.{heap-changed}
@@ -59,18 +61,18 @@ pub spot : {T s : List ℕ} {made : ℕ} (p : PreObject T s made) (j f : ℕ) �
     → Spot T s (j * 18) f
 spot {T} {s} p j f h l =
     let c : ℕ = getD s (j * 18) 0 in
-    let d : c ≤ length (p .P) = p .sound .declared j h in
-    let q = p .holds .tables .places c f d l in
+    let d : c ≤ length (p .P) = p .holding .sound .declared j h in
+    let q = tables (p .holding) .places c f d l in
     record {
-      class = omega (arith, p .holds .tables .long);
-      room = omega (arith, p .sound .stored);
+      class = omega (arith, tables (p .holding) .long);
+      room = omega (arith, p .holding .sound .stored);
       name = l;
       place = omega (
         arith,
         q,
         small-place (place f (world (p .P) .fields c))
             (length (world (p .P) .fields c)) (λ i e. place-lt f (world (p .P) .fields c) i e),
-        p .holds .counts c d,
+        fields-few (p .holding) c,
       );
     }
 
@@ -95,45 +97,51 @@ pub load-nothing : {T s : List ℕ} {v : Meaning} {f : ℕ} {n : Counts} → NoO
     → PostLoad T s v f n (outcome 17179869184)
 unfolding bare
 load-nothing {s = s} {n = n} is-truth = rw outcome-stuck
-    (record { acts = λ R A P _ snd. acts-same n Stuck snd tt (λ γ k. refl) })
+    (record { acts = λ p. acts-same n Stuck (p .holding .sound) tt (λ γ k. refl) })
 load-nothing {s = s} {n = n} (is-past {j} h) = rw outcome-stuck
     (record {
-      acts = λ R A P _ snd. acts-same n Stuck snd tt (λ γ k. rw (heap-past (world P) (n .made) s j h));
+      acts = λ p. acts-same n Stuck (p .holding .sound) tt
+          (λ γ k. rw (heap-past (world (p .P)) (n .made) s j h));
     })
 
 pub save-nothing : {T s : List ℕ} {v : Meaning} {f : ℕ} {n : Counts} {w : Meaning} → NoObject (n .made) v
     → PostSave T s s v w f n (outcome 17179869184)
 unfolding bare
 save-nothing {s = s} {n = n} is-truth = rw outcome-stuck
-    (record { acts = λ R A P _ snd. acts-same n Stuck snd tt (λ γ k. refl) })
+    (record { acts = λ p. acts-same n Stuck (p .holding .sound) tt (λ γ k. refl) })
 save-nothing {s = s} {n = n} (is-past {j} h) = rw outcome-stuck
     (record {
-      acts = λ R A P _ snd. acts-same n Stuck snd tt (λ γ k. rw (heap-past (world P) (n .made) s j h));
+      acts = λ p. acts-same n Stuck (p .holding .sound) tt
+          (λ γ k. rw (heap-past (world (p .P)) (n .made) s j h));
     })
 
 pub cast-nothing : {A s : List ℕ} {v : Meaning} {c : ℕ} {n : Counts} → NoObject (n .made) v
     → PostCast A s v c n (outcome 17179869184)
 unfolding bare
 cast-nothing {s = s} {n = n} is-truth = rw outcome-stuck
-    (record { acts = λ R T P _ snd d. acts-same n Stuck snd tt (λ γ k. refl) })
+    (record { acts = λ p. acts-same n Stuck (p .holding .sound) tt (λ γ k. refl) })
 cast-nothing {s = s} {n = n} (is-past {j} h) = rw outcome-stuck
     (record {
-      acts = λ R T P _ snd d. acts-same n Stuck snd tt (λ γ k. rw (heap-past (world P) (n .made) s j h));
+      acts = λ p. acts-same n Stuck (p .holding .sound) tt
+          (λ γ k. rw (heap-past (world (p .P)) (n .made) s j h));
     })
 
 module _ {T s : List ℕ} {v : Meaning} {f : ℕ} {n : Counts} where
   pub load-null : v ≡ null → PostLoad T s v f n (outcome 17179869185)
   unfolding bare
   load-null e = rw outcome-null-pointer
-      (record { acts = λ R A P h snd. acts-same n (Raised 1) snd tt (λ γ k. rw e) })
+      (record { acts = λ p. acts-same n (Raised 1) (p .holding .sound) tt (λ γ k. rw e) })
 
   pub load-missing : (j : ℕ) → v ≡ object j → j < n .made → f < 256
       → getD T (getD s (j * 18) 0 * 576 + f) 0 ≡ 0 → PostLoad T s v f n (outcome 17179869184)
   unfolding bare
   load-missing j e h l z = rw outcome-stuck (record {
-    acts = λ R A P hold snd.
+    acts = λ pre.
+        let P = pre .P in
+        let hold = pre .holding in
+        let snd = hold .sound in
         let q = place-none (place f (world P .fields (getD s (j * 18) 0)))
-        (sym (hold .tables .places (getD s (j * 18) 0) f (snd .declared j h) l) ∙ z) in
+        (sym (tables hold .places (getD s (j * 18) 0) f (snd .declared j h) l) ∙ z) in
         acts-same n Stuck snd tt (λ γ k. rw (e, heap-at (world P) (n .made) s j h, q));
   })
 
@@ -146,18 +154,21 @@ module _ {T s : List ℕ} {v : Meaning} {f : ℕ} {n : Counts} where
   load-at j e h l z m =
       let number : ℕ = getD s (j * 18 + getD T (getD s (j * 18) 0 * 576 + f) 0) 0 in
       rw (outcome-word (value-of-number number) (small-stored number m)) (record {
-        acts = λ R A P hold snd.
+        acts = λ pre.
+            let P = pre .P in
+            let hold = pre .holding in
+            let snd = hold .sound in
             let c : ℕ = getD s (j * 18) 0 in
             let p : ℕ = getD T (c * 576 + f) 0 in
             let i : ℕ = p - 1 in
             let d : c ≤ length P = snd .declared j h in
             let at : place f (world P .fields c) ≡ some i =
-            place-some (place f (world P .fields c)) p (hold .tables .places c f d l) z in
+            place-some (place f (world P .fields c)) p (tables hold .places c f d l) z in
             let low : i < length (world P .fields c) = place-lt f (world P .fields c) i at in
             let t : p ≡ suc i = omega arith in
             let x : j * 18 + 1 + i ≡ j * 18 + p = omega arith in
             let y = mapped-at value-of-number s (j * 18 + 1) (length (world P .fields c)) i low
-            (omega (arith, snd .stored, hold .counts c d)) in
+            (omega (arith, snd .stored, fields-few hold c)) in
             acts-same n (Gave (value-of-number number)) snd (small-stored number m)
             (λ γ k. rw (e, heap-at (world P) (n .made) s j h, at, y, x));
       })
@@ -166,80 +177,84 @@ module _ {T s : List ℕ} {v : Meaning} {f : ℕ} {n : Counts} where
   pub save-null : {w : Meaning} → v ≡ null → PostSave T s s v w f n (outcome 17179869185)
   unfolding bare
   save-null e = rw outcome-null-pointer
-      (record { acts = λ R A P h snd. acts-same n (Raised 1) snd tt (λ γ k. rw e) })
+      (record { acts = λ p. acts-same n (Raised 1) (p .holding .sound) tt (λ γ k. rw e) })
 
   pub save-missing : {w : Meaning} (j : ℕ) → v ≡ object j → j < n .made → f < 256
       → getD T (getD s (j * 18) 0 * 576 + f) 0 ≡ 0 → PostSave T s s v w f n (outcome 17179869184)
   unfolding bare
   save-missing j e h l z = rw outcome-stuck (record {
-    acts = λ R A P hold snd.
+    acts = λ pre.
+        let P = pre .P in
+        let hold = pre .holding in
+        let snd = hold .sound in
         let q = place-none (place f (world P .fields (getD s (j * 18) 0)))
-        (sym (hold .tables .places (getD s (j * 18) 0) f (snd .declared j h) l) ∙ z) in
+        (sym (tables hold .places (getD s (j * 18) 0) f (snd .declared j h) l) ∙ z) in
         acts-same n Stuck snd tt (λ γ k. rw (e, heap-at (world P) (n .made) s j h, q));
   })
 
-  pub save-at : (u j : ℕ) → v ≡ object j → j < n .made → f < 256
-      → (getD T (getD s (j * 18) 0 * 576 + f) 0 ≡ 0 → ⊥) → u < 17179869184 → Small (meaning u)
-      → PostSave T s (set s (j * 18 + getD T (getD s (j * 18) 0 * 576 + f) 0) (value-number (meaning u))) v
-      (meaning u) f n (outcome u)
+  save-acts : (u j : ℕ) → v ≡ object j → j < n .made → f < 256
+      → (getD T (getD s (j * 18) 0 * 576 + f) 0 ≡ 0 → ⊥) → Small (meaning u)
+      → {R E A M : List ℕ} {P : List Class} → Holding R E T A M s P (n .made)
+      → Acts P s (set s (j * 18 + getD T (getD s (j * 18) 0 * 576 + f) 0) (value-number (meaning u))) n
+      (answer (Gave (meaning u)) n) (λ t. do-set (world P) f v (meaning u) t)
   unfolding bare
-  save-at u j e h l z short m = let w : ℕ = value-number (meaning u) in rw (outcome-value u short) (record {
-    acts = λ R A P hold snd.
-        let c : ℕ = getD s (j * 18) 0 in
-        let p : ℕ = getD T (c * 576 + f) 0 in
-        let i : ℕ = p - 1 in
-        let d : c ≤ length P = snd .declared j h in
-        let at : place f (world P .fields c) ≡ some i =
-        place-some (place f (world P .fields c)) p (hold .tables .places c f d l) z in
-        let low : i < length (world P .fields c) = place-lt f (world P .fields c) i at in
-        let few : length (world P .fields c) ≤ 17 = hold .counts c d in
-        let t : p ≡ suc i = omega arith in
-        let y : j * 18 + p ≡ j * 18 + 1 + i = omega arith in
-        let s′ : List ℕ = set s (j * 18 + p) w in
-        let class : getD s′ (j * 18) 0 ≡ c = getD-set-other s (j * 18 + p) (j * 18) w 0 (λ k. omega arith) in
-        let fields : map value-of-number (take (length (world P .fields c)) (drop (j * 18 + 1) s′))
-        ≡ set (map value-of-number (take (length (world P .fields c)) (drop (j * 18 + 1) s))) i
-        (meaning u)
-        = rw y (mapped-set value-of-number s (j * 18 + 1) (length (world P .fields c)) i w low
-        ∙ ap (set (map value-of-number (take (length (world P .fields c)) (drop (j * 18 + 1) s))) i)
-        (value-of-value-number (meaning u))) in
-        let thing : object-at (world P) s′ (j * 18)
-        ≡ record {
-          class-of = c;
-          fields = set (map value-of-number (take (length (world P .fields c)) (drop (j * 18 + 1) s))) i
-              (meaning u);
-        }
-        = ap (λ (k : ℕ). record {
-          class-of = k;
-          fields = map value-of-number
-              (take (length (world P .fields k)) (drop (j * 18 + 1) s′));
-        }) class
-        ∙ ap (λ (y : List Meaning). record { class-of = c; fields = y }) fields in
-        let heap = heap-changed (world P) (n .made) s s′ j h (length-set s (j * 18 + p) w)
-        (λ i k. hold .counts (getD s (i * 18) 0) (snd .declared i k))
-        (λ y o. getD-set-other s (j * 18 + p) y w 0 (λ k. apart y p (omega arith) (omega arith) o k))
-        ∙ ap (set (heap-of-numbers (world P) (n .made) s) j) thing in
-        record {
-          stored = record {
-            long = length-set s (j * 18 + p) w;
-            rest = drop-set-lt (n .made * 18) s (j * 18 + p) w (omega arith);
-            more = omega arith;
-            sound = record {
-              stored = omega (arith, snd .stored, length-set s (j * 18 + p) w);
-              few = snd .few;
-              declared = λ i k. rw (other w i p (omega arith) (omega arith)) (snd .declared i k);
-              unused = λ i y k free-from b.
-                  free P w i y p (omega arith) (omega arith)
-                  (rw (other w i p (omega arith) (omega arith)) at free-from) b
-                  t low k (snd .unused i y k);
-            };
+  save-acts u j e h l z m {P = P} hold =
+      let snd = hold .sound in
+      let w : ℕ = value-number (meaning u) in
+      let c : ℕ = getD s (j * 18) 0 in
+      let p : ℕ = getD T (c * 576 + f) 0 in
+      let i : ℕ = p - 1 in
+      let d : c ≤ length P = snd .declared j h in
+      let at : place f (world P .fields c) ≡ some i =
+      place-some (place f (world P .fields c)) p (tables hold .places c f d l) z in
+      let low : i < length (world P .fields c) = place-lt f (world P .fields c) i at in
+      let few : length (world P .fields c) ≤ 17 = fields-few hold c in
+      let t : p ≡ suc i = omega arith in
+      let y : j * 18 + p ≡ j * 18 + 1 + i = omega arith in
+      let s′ : List ℕ = set s (j * 18 + p) w in
+      let class : getD s′ (j * 18) 0 ≡ c = getD-set-other s (j * 18 + p) (j * 18) w 0 (λ k. omega arith) in
+      let fields : map value-of-number (take (length (world P .fields c)) (drop (j * 18 + 1) s′))
+      ≡ set (map value-of-number (take (length (world P .fields c)) (drop (j * 18 + 1) s))) i
+      (meaning u)
+      = rw y (mapped-set value-of-number s (j * 18 + 1) (length (world P .fields c)) i w low
+      ∙ ap (set (map value-of-number (take (length (world P .fields c)) (drop (j * 18 + 1) s))) i)
+      (value-of-value-number (meaning u))) in
+      let thing : object-at (world P) s′ (j * 18)
+      ≡ record {
+        class-of = c;
+        fields = set (map value-of-number (take (length (world P .fields c)) (drop (j * 18 + 1) s))) i
+            (meaning u);
+      }
+      = ap (λ (k : ℕ). record {
+        class-of = k;
+        fields = map value-of-number
+            (take (length (world P .fields k)) (drop (j * 18 + 1) s′));
+      }) class
+      ∙ ap (λ (y : List Meaning). record { class-of = c; fields = y }) fields in
+      let heap = heap-changed (world P) (n .made) s s′ j h (length-set s (j * 18 + p) w)
+      (λ i k. fields-few hold (getD s (i * 18) 0))
+      (λ y o. getD-set-other s (j * 18 + p) y w 0 (λ k. apart y p (omega arith) (omega arith) o k))
+      ∙ ap (set (heap-of-numbers (world P) (n .made) s) j) thing in
+      record {
+        stored = record {
+          long = length-set s (j * 18 + p) w;
+          rest = drop-set-lt (n .made * 18) s (j * 18 + p) w (omega arith);
+          more = omega arith;
+          sound = record {
+            stored = omega (arith, snd .stored, length-set s (j * 18 + p) w);
+            few = snd .few;
+            declared = λ i k. rw (other w i p (omega arith) (omega arith)) (snd .declared i k);
+            unused = λ i y k free-from b.
+                free P w i y p (omega arith) (omega arith)
+                (rw (other w i p (omega arith) (omega arith)) at free-from) b
+                t low k (snd .unused i y k);
           };
-          left = refl;
-          changed = omega arith;
-          small = m;
-          is = λ γ k. rw (e, heap-at (world P) (n .made) s j h, at, heap);
         };
-  })
+        left = refl;
+        changed = omega arith;
+        small = m;
+        is = λ γ k. rw (e, heap-at (world P) (n .made) s j h, at, heap);
+      }
     where
       apart : (y p : ℕ) → 0 < p → p < 18 → (y < j * 18) ⊎ (j * 18 + 18 ≤ y) → y ≡ j * 18 + p → ⊥
       apart y p a b (inl o) k = omega arith
@@ -264,17 +279,27 @@ module _ {T s : List ℕ} {v : Meaning} {f : ℕ} {n : Counts} where
               let u′ : length (world P .fields (getD s (j * 18) 0)) ≤ y = rw z at u in
               omega arith
 
+  pub save-at : (u j : ℕ) → v ≡ object j → j < n .made → f < 256
+      → (getD T (getD s (j * 18) 0 * 576 + f) 0 ≡ 0 → ⊥) → u < 17179869184 → Small (meaning u)
+      → PostSave T s (set s (j * 18 + getD T (getD s (j * 18) 0 * 576 + f) 0) (value-number (meaning u))) v
+      (meaning u) f n (outcome u)
+  save-at u j e h l z short m =
+      rw (outcome-value u short) (record { acts = λ pre. save-acts u j e h l z m (pre .holding) })
+
 module _ {A s : List ℕ} {v : Meaning} {c : ℕ} {n : Counts} where
   pub cast-null : v ≡ null → Small v → PostCast A s v c n (Gave v)
   unfolding bare
-  cast-null e m = record { acts = λ R T P h snd d. acts-same n (Gave v) snd m (λ γ k. rw e) }
+  cast-null e m = record { acts = λ p. acts-same n (Gave v) (p .holding .sound) m (λ γ k. rw e) }
 
   pub cast-passes : (j : ℕ) → v ≡ object j → j < n .made → is-below A (getD s (j * 18) 0) c ≡ true
       → Small v → PostCast A s v c n (Gave v)
   unfolding bare
   cast-passes j e h t m = record {
-    acts = λ R T P hold snd d.
-        let q = sym (hold .below (getD s (j * 18) 0) c (snd .declared j h) d) ∙ t in
+    acts = λ pre.
+        let P = pre .P in
+        let hold = pre .holding in
+        let snd = hold .sound in
+        let q = sym (below hold (getD s (j * 18) 0) c (snd .declared j h)) ∙ t in
         acts-same n (Gave v) snd m (λ γ k. rw (e, heap-at (world P) (n .made) s j h, q));
   }
 
@@ -282,8 +307,11 @@ module _ {A s : List ℕ} {v : Meaning} {c : ℕ} {n : Counts} where
       → PostCast A s v c n (outcome 17179869186)
   unfolding bare
   cast-fails j e h t = rw outcome-bad-cast (record {
-    acts = λ R T P hold snd d.
-        let q = sym (hold .below (getD s (j * 18) 0) c (snd .declared j h) d) ∙ t in
+    acts = λ pre.
+        let P = pre .P in
+        let hold = pre .holding in
+        let snd = hold .sound in
+        let q = sym (below hold (getD s (j * 18) 0) c (snd .declared j h)) ∙ t in
         acts-same n (Raised 2) snd tt (λ γ k. rw (e, heap-at (world P) (n .made) s j h, q));
   })
 
@@ -342,15 +370,15 @@ module _ {T s : List ℕ} (w : ℕ) {o f at : ℕ} {n : Counts} (q : reached (n 
       rw (d, a) (save-at u (x .0) (x .1) (x .2) l (rw (x .3) at (y .0)) short m)
 
 module _ {A s : List ℕ} (w : ℕ) {c o : ℕ} (n : Counts) (q : reached (n .made) (meaning w) ≡ At o) where
-  pub cast-room : PreCast A s w c (n .made)
+  pub cast-room : PreCast A s c (n .made)
       → (o + 18 ≤ length s) × (getD s o 0 ≤ 64) × (getD s o 0 < length A)
   cast-room p =
       let x = reached-at (n .made) (meaning w) o q in
-      let d = p .sound .declared (x .0) (x .2) in
+      let d = p .holding .sound .declared (x .0) (x .2) in
       rw (x .3) (
-        omega (arith, p .sound .stored, x .2),
-        omega (arith, d, p .holds .classes),
-        omega (arith, d, p .holds .tables .long-above),
+        omega (arith, p .holding .sound .stored, x .2),
+        omega (arith, d, few-classes (p .holding)),
+        omega (arith, d, tables (p .holding) .long-above),
       )
 
   pub cast-below : is-below A (getD s o 0) c ≡ true → w < 17179869184 → Small (meaning w)

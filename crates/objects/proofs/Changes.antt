@@ -10,14 +10,16 @@ use lib.ListN.{length, getD, take, drop, set}
 use Rattle.language.specs.Tree.{Class}
 use Rattle.language.specs.Program.{world}
 use Rattle.language.specs.State.{Value as Meaning, null, object, initials}
-use Rattle.language.specs.Evaluation.{changed}
+use Rattle.language.specs.Evaluation.{changed, do-change}
 use Rattle.language.specs.Store.{value-of-number, heap-of-numbers}
 use Rattle.objects.specs.Values.{Outcome, Gave, Stuck, Counts, meaning, reached, outcome}
 use Rattle.objects.specs.declared.Reached.the-variants.{At}
 use Rattle.objects.specs.Values.{Small, bare, Answer, answer, answered}
-use Rattle.objects.specs.Holding.{Holds, Sound}
-use Rattle.objects.specs.Contracts.{Fill, Filled, PreNew, PreChange, PostChange}
+use Rattle.objects.specs.Holding.{Holding}
+use Rattle.objects.specs.Acts.{Acts, Fill, Filled, PreNew, PreChange, PostChange}
 use Rattle.objects.proofs.Values.{NoObject, is-truth, is-past, reached-at, outcome-value}
+use Rattle.layout.specs.HeldLaws.{roots}
+use Rattle.objects.proofs.Holding.{tables, few-classes, fields-few}
 use Rattle.objects.proofs.Tally.{counts, set-changes}
 use Rattle.objects.proofs.Acts.{acts-same}
 use Rattle.objects.proofs.Objects.{mapped-length, object-at, heap-at}
@@ -28,14 +30,14 @@ use Rattle.objects.proofs.Fresh.{Renewed, renewed, fields-filled, store
 abbrev pub kept-in : List ℕ → ℕ → ℕ
 kept-in T c = getD T (getD T (c * 576 + 514) 0 * 576 + 515) 0
 
-module _ (R T s : List ℕ) (n : Counts) {A : List ℕ} {P : List Class} (hold : Holds R T A P)
-    (snd : Sound P (n .made) s) (j : ℕ) (h : j < n .made) where
+module _ {R E T A M s : List ℕ} {P : List Class} {made : ℕ} (hold : Holding R E T A M s P made) (j : ℕ)
+    (h : j < made) where
   -- the fields that R keeps; the object has them
   kept-count : kept-in T (getD s (j * 18) 0) ≡ length (world P .fields (world P .root (getD s (j * 18) 0)))
   kept-count =
       let c : ℕ = getD s (j * 18) 0 in
-      ap (λ (x : ℕ). getD T (x * 576 + 515) 0) (hold .tables .roots c (snd .declared j h))
-      ∙ hold .tables .counts (world P .root c) (hold .roots c (snd .declared j h) .0)
+      ap (λ (x : ℕ). getD T (x * 576 + 515) 0) (tables hold .roots c (hold .sound .declared j h))
+      ∙ tables hold .counts (world P .root c) (roots (hold .held) c (hold .sound .declared j h) .0)
 
   kept-own : leb (length (world P .fields (world P .root (getD s (j * 18) 0))))
       (length (object-at (world P) s (j * 18) .fields)) ≡ true
@@ -43,91 +45,105 @@ module _ (R T s : List ℕ) (n : Counts) {A : List ℕ} {P : List Class} (hold :
       let c : ℕ = getD s (j * 18) 0 in
       let own : length (object-at (world P) s (j * 18) .fields) ≡ length (world P .fields c)
       = mapped-length value-of-number s (j * 18 + 1) (length (world P .fields c))
-      (omega (arith, snd .stored, hold .counts c (snd .declared j h))) in
+      (omega (arith, hold .sound .stored, fields-few hold c)) in
       le-leb (length (world P .fields (world P .root c))) (length (object-at (world P) s (j * 18) .fields))
-      (omega (arith, own, hold .roots c (snd .declared j h) .1))
+      (omega (arith, own, roots (hold .held) c (hold .sound .declared j h) .1))
 
 pub change-nothing : {R T s : List ℕ} {v : Meaning} {d : ℕ} {n : Counts} → NoObject (n .made) v
     → PostChange R T s s v d n (answer (outcome 17179869184) n)
 unfolding bare outcome
 change-nothing {s = s} {n = n} is-truth =
-    record { acts = λ A P _ snd _. acts-same n Stuck snd tt (λ γ k. refl) }
+    record { acts = λ pre. acts-same n Stuck (pre .holding .sound) tt (λ γ k. refl) }
 change-nothing {s = s} {n = n} (is-past {j} h) = record {
-  acts = λ A P _ snd _. acts-same n Stuck snd tt (λ γ k. rw (heap-past (world P) (n .made) s j h));
+  acts = λ pre. acts-same n Stuck (pre .holding .sound) tt
+      (λ γ k. rw (heap-past (world (pre .P)) (n .made) s j h));
 }
 
 module _ {R T s : List ℕ} {v : Meaning} {d : ℕ} {n : Counts} where
   pub change-null : v ≡ null → Small v → PostChange R T s s v d n (answer (Gave v) n)
   unfolding bare
-  change-null e m = record { acts = λ A P h snd _. acts-same n (Gave v) snd m (λ γ k. rw e) }
+  change-null e m = record { acts = λ pre. acts-same n (Gave v) (pre .holding .sound) m (λ γ k. rw e) }
 
   change-few : (j : ℕ) → v ≡ object j → j < n .made
       → getD T (d * 576 + 515) 0 < kept-in T (getD s (j * 18) 0)
       → PostChange R T s s v d n (answer (outcome 17179869184) n)
   unfolding bare outcome
   change-few j e h few = record {
-    acts = λ A P hold snd dd.
+    acts = λ pre.
+        let P = pre .P in
+        let hold = pre .holding in
+        let snd = hold .sound in
+        let dd = pre .declared in
         let x : ℕ = length (world P .fields (world P .root (getD s (j * 18) 0))) in
         let z : leb x (length (world P .fields d)) ≡ false
         = lt-leb x (length (world P .fields d))
-        (omega (arith, kept-count R T s n hold snd j h, hold .tables .counts d dd)) in
+        (omega (arith, kept-count hold j h, tables hold .counts d dd)) in
         acts-same n Stuck snd tt
-        (λ γ k. rw (e, heap-at (world P) (n .made) s j h, kept-own R T s n hold snd j h, z));
+        (λ γ k. rw (e, heap-at (world P) (n .made) s j h, kept-own hold j h, z));
   }
+
+  change-acts : (s₁ : List ℕ) (j : ℕ) → v ≡ object j → j < n .made
+      → kept-in T (getD s (j * 18) 0) ≤ getD T (d * 576 + 515) 0 → Small v
+      → Filled R T s s₁ (j * 18) d (kept-in T (getD s (j * 18) 0))
+      → {E A M : List ℕ} {P : List Class} → Holding R E T A M s P (n .made) → d ≤ length P
+      → Acts P s (set s₁ (j * 18) d) n
+      (answer (Gave v) (record { left = n .left; made = n .made; changes = n .changes + 1 }))
+      (λ t. do-change (world P) d v t)
+  unfolding bare
+  change-acts s₁ j e h many m w {P = P} hold dd =
+      let snd = hold .sound in
+      let made : ℕ = n .made in
+      let s′ : List ℕ = set s₁ (j * 18) d in
+      let c : ℕ = getD s (j * 18) 0 in
+      let from : ℕ = kept-in T c in
+      let g : from ≡ length (world P .fields (world P .root c)) = kept-count hold j h in
+      let room : j * 18 + 18 ≤ length s = omega (arith, snd .stored) in
+      let own : from ≤ length (world P .fields c) =
+      omega (arith, g, roots (hold .held) c (snd .declared j h) .1) in
+      let r : Renewed R T s s′ (j * 18) d from = renewed (j * 18) d from w
+      (omega (arith, own, fields-few hold c)) room in
+      let low : from ≤ length (world P .fields d) = omega (arith, many, tables hold .counts d dd) in
+      let x : ℕ = length (world P .fields (world P .root c)) in
+      let z : leb x (length (world P .fields d)) ≡ true =
+      le-leb x (length (world P .fields d)) (omega (arith, g, low)) in
+      let fields = fields-filled hold s s′ (j * 18) d from (length (world P .fields c)) dd
+      low own room (r .long) (λ i l. r .kept i l) (λ i l k. r .first i l k) in
+      let thing : object-at (world P) s′ (j * 18) ≡ changed (world P) d (object-at (world P) s (j * 18))
+      = ap (λ (k : ℕ). record {
+        class-of = k;
+        fields = map value-of-number
+            (take (length (world P .fields k)) (drop (j * 18 + 1) s′));
+      }) (r .class)
+      ∙ (ap (λ (y : List Meaning). record { class-of = d; fields = y }) fields
+      ∙ ap (λ (x : ℕ). record {
+        class-of = d;
+        fields = take x
+            (map value-of-number
+            (take (length (world P .fields (getD s (j * 18) 0))) (drop (j * 18 + 1) s)))
+            ++ initials (drop x (world P .fields d));
+      }) g) in
+      let heap : heap-of-numbers (world P) made s′
+      ≡ set (heap-of-numbers (world P) made s) j (changed (world P) d (object-at (world P) s (j * 18)))
+      = heap-changed (world P) made s s′ j h (r .long)
+      (λ i k. fields-few hold (getD s (i * 18) 0)) (λ x o. r .outside x o)
+      ∙ ap (set (heap-of-numbers (world P) made s) j) thing in
+      record {
+        stored = stored-renewed hold s′ made j d from r dd low h (λ i k o. k) (snd .stored)
+            (snd .few) (omega arith);
+        left = refl;
+        changed = omega arith;
+        small = m;
+        is = λ γ k. let one : n .changes + 1 ≡ suc (n .changes) = omega arith in
+            rw (e, heap-at (world P) made s j h, kept-own hold j h, z, heap, one);
+      }
 
   change-made : (s₁ : List ℕ) (j : ℕ) → v ≡ object j → j < n .made
       → kept-in T (getD s (j * 18) 0) ≤ getD T (d * 576 + 515) 0 → Small v
       → Filled R T s s₁ (j * 18) d (kept-in T (getD s (j * 18) 0))
       → PostChange R T s (set s₁ (j * 18) d) v d n
       (answer (Gave v) (record { left = n .left; made = n .made; changes = n .changes + 1 }))
-  unfolding bare
-  change-made s₁ j e h many m w = record {
-    acts = λ A P hold snd dd.
-        let made : ℕ = n .made in
-        let s′ : List ℕ = set s₁ (j * 18) d in
-        let c : ℕ = getD s (j * 18) 0 in
-        let from : ℕ = kept-in T c in
-        let g : from ≡ length (world P .fields (world P .root c)) = kept-count R T s n hold snd j h in
-        let room : j * 18 + 18 ≤ length s = omega (arith, snd .stored) in
-        let own : from ≤ length (world P .fields c) =
-        omega (arith, g, hold .roots c (snd .declared j h) .1) in
-        let r : Renewed R T s s′ (j * 18) d from = renewed (j * 18) d from w
-        (omega (arith, own, hold .counts c (snd .declared j h))) room in
-        let low : from ≤ length (world P .fields d) = omega (arith, many, hold .tables .counts d dd) in
-        let x : ℕ = length (world P .fields (world P .root c)) in
-        let z : leb x (length (world P .fields d)) ≡ true =
-        le-leb x (length (world P .fields d)) (omega (arith, g, low)) in
-        let fields = fields-filled hold s s′ (j * 18) d from (length (world P .fields c)) dd
-        low own room (r .long) (λ i l. r .kept i l) (λ i l k. r .first i l k) in
-        let thing : object-at (world P) s′ (j * 18) ≡ changed (world P) d (object-at (world P) s (j * 18))
-        = ap (λ (k : ℕ). record {
-          class-of = k;
-          fields = map value-of-number
-              (take (length (world P .fields k)) (drop (j * 18 + 1) s′));
-        }) (r .class)
-        ∙ (ap (λ (y : List Meaning). record { class-of = d; fields = y }) fields
-        ∙ ap (λ (x : ℕ). record {
-          class-of = d;
-          fields = take x
-              (map value-of-number
-              (take (length (world P .fields (getD s (j * 18) 0))) (drop (j * 18 + 1) s)))
-              ++ initials (drop x (world P .fields d));
-        }) g) in
-        let heap : heap-of-numbers (world P) made s′
-        ≡ set (heap-of-numbers (world P) made s) j (changed (world P) d (object-at (world P) s (j * 18)))
-        = heap-changed (world P) made s s′ j h (r .long)
-        (λ i k. hold .counts (getD s (i * 18) 0) (snd .declared i k)) (λ x o. r .outside x o)
-        ∙ ap (set (heap-of-numbers (world P) made s) j) thing in
-        record {
-          stored = stored-renewed hold s s′ made made j d from snd r dd low h (λ i k o. k) (snd .stored)
-              (snd .few) (omega arith);
-          left = refl;
-          changed = omega arith;
-          small = m;
-          is = λ γ k. let one : n .changes + 1 ≡ suc (n .changes) = omega arith in
-              rw (e, heap-at (world P) made s j h, kept-own R T s n hold snd j h, z, heap, one);
-        };
-  }
+  change-made s₁ j e h many m w =
+      record { acts = λ pre. change-acts s₁ j e h many m w (pre .holding) (pre .declared) }
 
 -- the same of the word, which is returned, and of the tally, which counts the change
 pub same-word : (w : ℕ) (n : Counts) → w < 17179869184 → answer (Gave (meaning w)) n ≡ answer (outcome w) n
@@ -151,19 +167,19 @@ pub record Spots (R T s : List ℕ) (o d : ℕ) : Type 0 where
 spots : {R T s : List ℕ} {d made : ℕ} → PreNew R T s d made → (j : ℕ) → j < made → Spots R T s (j * 18) d
 spots {R} {T} {s} {made = made} p j h =
     let c : ℕ = getD s (j * 18) 0 in
-    let k = p .sound .declared j h in
-    let r = p .holds .roots c k in
+    let k = p .holding .sound .declared j h in
+    let r = roots (p .holding .held) c k in
     record {
-      stored = omega (arith, p .sound .stored);
-      own = omega (arith, p .holds .tables .long, k);
-      class = omega (arith, k, p .holds .classes);
-      root = omega (arith, p .holds .tables .long, p .holds .tables .roots c k, r .0);
-      target = omega (arith, p .holds .tables .long, p .declared);
+      stored = omega (arith, p .holding .sound .stored);
+      own = omega (arith, tables (p .holding) .long, k);
+      class = omega (arith, k, few-classes (p .holding));
+      root = omega (arith, tables (p .holding) .long, tables (p .holding) .roots c k, r .0);
+      target = omega (arith, tables (p .holding) .long, p .declared);
       kept = omega (
         arith,
-        kept-count R T s (record { left = 0; made = made; changes = 0 }) (p .holds) (p .sound) j h,
+        kept-count (p .holding) j h,
         r .1,
-        p .holds .counts c k,
+        fields-few (p .holding) c,
       );
     }
 
@@ -171,7 +187,7 @@ spots {R} {T} {s} {made = made} p j h =
 change-fill : {R T s : List ℕ} {d made : ℕ} (p : PreNew R T s d made) (j : ℕ) → j < made
     → Fill R T s (j * 18) d (kept-in T (getD s (j * 18) 0))
 change-fill p j h =
-    let f = new-fill p (j * 18) (omega (arith, p .sound .stored)) in
+    let f = new-fill p (j * 18) (omega (arith, p .holding .sound .stored)) in
     record {
       table = f .table;
       room = f .room;

@@ -23,12 +23,13 @@ use Rattle.objects.specs.Values.{Outcome, Counts, outcome, meaning, reac
 use Rattle.objects.specs.declared.Reached.the-variants.{At}
 use Rattle.objects.specs.Values.{bare}
 use Rattle.objects.specs.declared.Target.the-variants.{Body, Fails}
-use Rattle.objects.specs.Holding.{Holds, HoldsMethods, Sound}
-use Rattle.objects.specs.Contracts.{PreFind, PostFind, NotFound, LetterFrom, MethodsOf, target-at}
-use Rattle.objects.specs.Contracts.{target-in}
-use Rattle.objects.specs.Contracts.{allowed-in}
+use Rattle.objects.specs.Holding.{Holding}
+use Rattle.objects.specs.Acts.{PreFind, PostFind, NotFound, LetterFrom, MethodsOf, target-at}
+use Rattle.objects.specs.Acts.{target-in}
+use Rattle.objects.specs.Acts.{allowed-in}
 use Rattle.objects.proofs.Values.{NoObject, is-truth, is-past, reached-at, outcome-stuck}
 use Rattle.objects.proofs.Values.{outcome-null-pointer, outcome-deep}
+use Rattle.objects.proofs.Holding.{tables, body-at}
 use Rattle.objects.proofs.Nth.{lt-or}
 use Rattle.objects.proofs.Objects.{object-at, heap-at, heap-past}
 
@@ -74,21 +75,21 @@ number-some : (o : Option Method) (r : ℕ) → r ≡ stored-place (map-option (
 number-some none r e h = absurd (h e)
 number-some (some N) r e h = (N, refl, omega arith)
 
-module _ {R T A : List ℕ} {P : List Class} (hold : Holds R T A P) where
+module _ {R E T A M s : List ℕ} {P : List Class} {made : ℕ} (hold : Holding R E T A M s P made) where
   none-sought : (k m : ℕ) → k ≤ length P → m < 256 → getD T (k * 576 + 256 + m) 0 ≡ 0
       → world P .method k m ≡ none
   unfolding method-number
-  none-sought k m l h z = number-none (world P .method k m) (sym (hold .tables .methods k m l h) ∙ z)
+  none-sought k m l h z = number-none (world P .method k m) (sym (tables hold .methods k m l h) ∙ z)
 
-  sought : {E M : List ℕ} → HoldsMethods R E M P → (k m : ℕ) → k ≤ length P → m < 256
+  sought : (k m : ℕ) → k ≤ length P → m < 256
       → (getD T (k * 576 + 256 + m) 0 ≡ 0 → ⊥)
       → Sought P M k m (getD T (k * 576 + 256 + m) 0 - 1)
   unfolding method-number
-  sought w k m l h z =
-      let x = number-some (world P .method k m) (getD T (k * 576 + 256 + m) 0) (hold .tables .methods k m l h)
+  sought k m l h z =
+      let x = number-some (world P .method k m) (getD T (k * 576 + 256 + m) 0) (tables hold .methods k m l h)
       z in
       let f = method-found P k m (x .0) (x .1) in
-      let t = w .tables in
+      let t = hold .held .headed .methods in
       let few = nth-lt (placed-methods P) (x .0 .number) (f .placed) (f .there) in
       let many = t .parameters (x .0 .number) (f .placed) (f .there) ∙ ap length (sym (f .parameters)) in
       record {
@@ -103,43 +104,42 @@ module _ {T M s : List ℕ} {m made : ℕ} (p : PreFind T M s m made) (j : ℕ) 
   -- what a lookup reads
   pub methods-of : MethodsOf T M (getD s (j * 18) 0) m
   methods-of = record {
-    table = omega (arith, p .holds .tables .long, p .sound .declared j h);
+    table = omega (arith, tables (p .holding) .long, p .holding .sound .declared j h);
     name = p .name;
     methods = λ i e. omega (arith, e, number-spot (λ z. omega (arith, e)));
   }
     where
       number-spot : (number-in T s j m ≡ 0 → ⊥) → (number-in T s j m - 1) * 4 + 4 ≤ length M
       number-spot z =
-          sought (p .holds) (p .methods) (getD s (j * 18) 0) m (p .sound .declared j h) (p .name) z .there
+          sought (p .holding) (getD s (j * 18) 0) m (p .holding .sound .declared j h) (p .name) z .there
 
 not-found : {T M s : List ℕ} {v : Meaning} {m given : ℕ} {n : Counts} {calls : ℕ} {o : Outcome} {r : ℕ}
     → outcome r ≡ o
-    → ((R E A : List ℕ) (P : List Class) → Holds R T A P → HoldsMethods R E M P → Sound P (n .made) s
-    → NotFound P s v m given n calls o)
+    → ((pre : PreFind T M s m (n .made)) → NotFound (pre .P) s v m given n calls o)
     → PostFind T M s v m given n calls (Fails r)
-not-found e f = record { is = λ R E A P h w snd. rw e (f R E A P h w snd) }
+not-found e f = record { is = λ pre. rw e (f pre) }
 
 pub find-nothing : {T M s : List ℕ} {v : Meaning} {m given : ℕ} {n : Counts} {calls : ℕ}
     → NoObject (n .made) v
     → PostFind T M s v m given n calls (Fails 17179869184)
 unfolding bare
-find-nothing is-truth = not-found outcome-stuck (λ R E A P _ w snd.
+find-nothing is-truth = not-found outcome-stuck (λ pre.
     record {
       small = tt;
       is = λ L vs γ k q. refl;
       fails = λ w q. let z : _≡_ {A = ℕ} 0 1 = cc in omega arith;
     })
-find-nothing {s = s} {n = n} (is-past {j} h) = not-found outcome-stuck (λ R E A P _ w snd.
+find-nothing {s = s} {n = n} (is-past {j} h) = not-found outcome-stuck (λ pre.
     record {
       small = tt;
-      is = λ L vs γ k q. rw (heap-past (world P) (n .made) s j h);
+      is = λ L vs γ k q. rw (heap-past (world (pre .P)) (n .made) s j h);
       fails = λ w q. let z : _≡_ {A = ℕ} 0 1 = cc in omega arith;
     })
 
 module _ {T M s : List ℕ} {v : Meaning} {m given : ℕ} {n : Counts} {calls : ℕ} where
   pub find-null : v ≡ null → PostFind T M s v m given n calls (Fails 17179869185)
   unfolding bare
-  find-null e = not-found outcome-null-pointer (λ R E A P h w snd.
+  find-null e = not-found outcome-null-pointer (λ pre.
       record {
         small = tt;
         is = λ L vs γ k q. rw e;
@@ -150,11 +150,11 @@ module _ {T M s : List ℕ} {v : Meaning} {m given : ℕ} {n : Counts} {calls : 
   module _ (j : ℕ) (e : v ≡ object j) (h : j < n .made) (l : m < 256) where
     find-missing : number-in T s j m ≡ 0 → PostFind T M s v m given n calls (Fails 17179869184)
     unfolding bare
-    find-missing z = not-found outcome-stuck (λ R E A P hold w snd.
-        let q = none-sought hold (getD s (j * 18) 0) m (snd .declared j h) l z in
+    find-missing z = not-found outcome-stuck (λ pre.
+        let q = none-sought (pre .holding) (getD s (j * 18) 0) m (pre .holding .sound .declared j h) l z in
         record {
           small = tt;
-          is = λ L vs γ k many. rw (e, heap-at (world P) (n .made) s j h, q);
+          is = λ L vs γ k many. rw (e, heap-at (world (pre .P)) (n .made) s j h, q);
           fails = λ w q. let z : _≡_ {A = ℕ} 0 1 = cc in omega arith;
         })
 
@@ -163,49 +163,50 @@ module _ {T M s : List ℕ} {v : Meaning} {m given : ℕ} {n : Counts} {calls : 
       find-other : (getD M ((number-in T s j m - 1) * 4 + 2) 0 ≡ given → ⊥)
           → PostFind T M s v m given n calls (Fails 17179869184)
       unfolding bare
-      find-other t = not-found outcome-stuck (λ R E A P hold w snd.
-          let y = sought hold w (getD s (j * 18) 0) m (snd .declared j h) l z in
+      find-other t = not-found outcome-stuck (λ pre.
+          let y = sought (pre .holding) (getD s (j * 18) 0) m (pre .holding .sound .declared j h) l z in
           record {
             small = tt;
             is = λ L vs γ k many.
                 let d = ne-eqb (length vs) (length (y .found .parameters))
                 (λ q. t (y .parameters ∙ (sym q ∙ many))) in
-                rw (e, heap-at (world P) (n .made) s j h, y .method, d);
+                rw (e, heap-at (world (pre .P)) (n .made) s j h, y .method, d);
             fails = λ w q. let z : _≡_ {A = ℕ} 0 1 = cc in omega arith;
           })
 
       module _ (t : getD M ((number-in T s j m - 1) * 4 + 2) 0 ≡ given) where
         find-deep : 64 ≤ calls → PostFind T M s v m given n calls (Fails 17179869199)
         unfolding bare call-at
-        find-deep a = not-found outcome-deep (λ R E A P hold w snd.
-            let y = sought hold w (getD s (j * 18) 0) m (snd .declared j h) l z in
+        find-deep a = not-found outcome-deep (λ pre.
+            let y = sought (pre .holding) (getD s (j * 18) 0) m (pre .holding .sound .declared j h) l z in
             let none-left : 64 - calls ≡ 0 = omega arith in
             record {
               small = (omega arith, omega arith);
               is = λ L vs γ k many.
                   let d = eq-eqb (length vs) (length (y .found .parameters))
                   (many ∙ (sym t ∙ y .parameters)) in
-                  rw (e, heap-at (world P) (n .made) s j h, y .method, d, none-left);
+                  rw (e, heap-at (world (pre .P)) (n .made) s j h, y .method, d, none-left);
               fails = λ w q. let z : _≡_ {A = ℕ} 0 1 = cc in omega arith;
             })
 
         find-found : calls < 64
             → PostFind T M s v m given n calls (Body (getD M ((number-in T s j m - 1) * 4 + 3) 0))
         find-found a = record {
-          is = λ R E A P hold w snd.
-              let y = sought hold w (getD s (j * 18) 0) m (snd .declared j h) l z in
-              let b = w .bodies (getD s (j * 18) 0) m (y .found) (y .method) in
+          is = λ pre.
+              let y = sought (pre .holding) (getD s (j * 18) 0) m (pre .holding .sound .declared j h) l z in
+              let b = body-at (pre .holding) (getD s (j * 18) 0) m (y .found) (y .method) in
               record {
                 j = j;
-                o = object-at (world P) s (j * 18);
+                o = object-at (world (pre .P)) s (j * 18);
                 M = y .found;
                 receiver = e;
-                known = λ γ k. heap-at (world P) (n .made) s j h;
+                known = λ γ k. heap-at (world (pre .P)) (n .made) s j h;
                 method = y .method;
                 parameters = sym t ∙ y .parameters;
-                encoded = subst (λ (i : ℕ). Encoded R E (body-in P (y .found .number))
-                    (getD M (i * 4 + 3) 0)) (y .number) (b .encoded);
-                within = b .within;
+                encoded = subst (λ (i : ℕ). Encoded (pre .R) (pre .E) (body-in (pre .P) (y .found .number))
+                    (getD M (i * 4 + 3) 0)) (y .number) (b .0);
+                in-form = rw (sym t ∙ y .parameters) (b .1);
+                typed = b .2;
                 allowed = a;
               };
         }
@@ -244,7 +245,7 @@ find-at w {o} {n = n} q l = let x = reached-at (n .made) (meaning w) o q in
 pub find-room : {T M s : List ℕ} {m made o : ℕ} (w : ℕ) → PreFind T M s m made
     → reached made (meaning w) ≡ At o → (o + 18 ≤ length s) × MethodsOf T M (getD s o 0) m
 find-room {made = made} {o} w p q = let x = reached-at made (meaning w) o q in
-    rw (x .3) (omega (arith, p .sound .stored, x .2), methods-of p (x .0) (x .2))
+    rw (x .3) (omega (arith, p .holding .sound .stored, x .2), methods-of p (x .0) (x .2))
 
 -- what the tables tell, by the tests that are made
 module _ (T M : List ℕ) (c m given calls : ℕ) where

@@ -14,17 +14,18 @@ use Rattle.language.specs.Lists.{nth, nth-map, nth-append}
 use Rattle.language.specs.Tree.{Class, Field}
 use Rattle.language.specs.Program.{world}
 use Rattle.language.specs.State.{Value as Meaning, null, truth, object, Object as Thing, initial, initials}
-use Rattle.language.specs.Evaluation.{new-object, changed}
+use Rattle.language.specs.Evaluation.{new-object, do-new, with-limits}
 use Rattle.language.specs.Store.{value-number, value-of-number, heap-of-numbers, capacity}
 use Rattle.objects.specs.Values.{Gave, Stopped, Counts, counts-in, outcome}
 use Rattle.objects.specs.Values.{bare, answer, answered}
-use Rattle.objects.specs.Holding.{Holds, Sound}
-use Rattle.objects.specs.Contracts.{Stored, first-of, Fill, Filled, PreNew, PostNew}
+use Rattle.objects.specs.Holding.{Sound, Holding}
+use Rattle.objects.specs.Acts.{Stored, Acts, first-of, Fill, Filled, PreNew, PostNew}
 use Rattle.objects.proofs.Values.{value-of-value-number, outcome-value, meaning-object, meaning-word}
 use Rattle.objects.proofs.Values.{meaning-null}
 use Rattle.objects.specs.Holding.{first-value-of}
-use Rattle.objects.specs.Contracts.{field-type-in}
+use Rattle.objects.specs.Acts.{field-type-in}
 use Rattle.objects.specs.Values.{word, meaning, Small}
+use Rattle.objects.proofs.Holding.{tables, fields-few, field-at}
 use Rattle.objects.proofs.Tally.{set-made}
 use Rattle.objects.proofs.Acts.{acts-same}
 use Rattle.objects.proofs.Nth.{lt-or, nth-ext, nth-take, nth-drop, nth-past, some-at}
@@ -32,17 +33,19 @@ use Rattle.objects.proofs.Objects.{mapped-at, mapped-length, object-at,
 use Rattle.objects.proofs.Objects.{heap-new}
 
 -- the first value of a field, by its number
-first-value : {R T A : List ℕ} {P : List Class} → Holds R T A P → (c i : ℕ) (f : Field) → c ≤ length P
+first-value : {R E T A M s : List ℕ} {P : List Class} {made : ℕ} → Holding R E T A M s P made
+    → (c i : ℕ) (f : Field) → c ≤ length P
     → nth (world P .fields c) i ≡ some f → i < length (world P .fields c)
     → value-of-number (first-of R T c i (getD T (c * 576 + 515) 0)) ≡ initial (f .type)
 unfolding first-of
 first-value {T = T} h c i f d e l =
-    let n = h .tables .counts c d in
-    rw (lt-leb (getD T (c * 576 + 515) 0) i (omega (arith, n)), h .fields c i f d e .first)
+    let n = tables h .counts c d in
+    rw (lt-leb (getD T (c * 576 + 515) 0) i (omega (arith, n)), field-at h c i f d e .1)
     (value-of-value-number (initial (f .type)))
 
 -- fields kept up to `from`, first values after it
-pub fields-filled : {R T A : List ℕ} {P : List Class} → Holds R T A P → (s s′ : List ℕ) (o c from m : ℕ)
+pub fields-filled : {R E T A M s₀ : List ℕ} {P : List Class} {made : ℕ} → Holding R E T A M s₀ P made
+    → (s s′ : List ℕ) (o c from m : ℕ)
     → c ≤ length P → from ≤ length (world P .fields c) → from ≤ m
     → o + 18 ≤ length s → length s′ ≡ length s
     → ((i : ℕ) → i < from → getD s′ (o + 1 + i) 0 ≡ getD s (o + 1 + i) 0)
@@ -50,9 +53,9 @@ pub fields-filled : {R T A : List ℕ} {P : List Class} → Holds R T A P → (s
     → map value-of-number (take (length (world P .fields c)) (drop (o + 1) s′))
     ≡ take from (map value-of-number (take m (drop (o + 1) s)))
     ++ initials (drop from (world P .fields c))
-fields-filled {R} {T} {A} {P} h s s′ o c from m d l k room long kept first =
+fields-filled {P = P} h s s′ o c from m d l k room long kept first =
     let fs : List Field = world P .fields c in
-    let few : length fs ≤ 17 = h .counts c d in
+    let few : length fs ≤ 17 = fields-few h c in
     let old : List Meaning = take from (map value-of-number (take m (drop (o + 1) s))) in
     let a : length old ≡ from = old-length in
     nth-ext (map value-of-number (take (length fs) (drop (o + 1) s′))) (old ++ initials (drop from fs))
@@ -66,7 +69,7 @@ fields-filled {R} {T} {A} {P} h s s′ o c from m d l k room long kept first =
   where
     old-length : length (take from (map value-of-number (take m (drop (o + 1) s)))) ≡ from
     old-length = length-take-le from (map value-of-number (take m (drop (o + 1) s)))
-        (simp (length-map, length-take, length-drop) (omega (arith, h .counts c d)))
+        (simp (length-map, length-take, length-drop) (omega (arith, fields-few h c)))
 
     go : length (world P .fields c) ≤ 17
         → length (take from (map value-of-number (take m (drop (o + 1) s)))) ≡ from → (i : ℕ)
@@ -131,14 +134,15 @@ drop-same s s′ n e f =
     ext-getD 0 (drop n s′) (drop n s) (simp (length-drop, e))
     (λ i h. getD-drop n s′ i 0 ∙ (f (n + i) (omega arith) ∙ sym (getD-drop n s i 0)))
 
-unused-first : {R T A : List ℕ} {P : List Class} → Holds R T A P → (c i : ℕ) → c ≤ length P
+unused-first : {R E T A M s : List ℕ} {P : List Class} {made : ℕ} → Holding R E T A M s P made
+    → (c i : ℕ) → c ≤ length P
     → length (world P .fields c) ≤ i → first-of R T c i (getD T (c * 576 + 515) 0) ≡ 0
 unfolding first-of
 unused-first {T = T} h c i d l =
-    rw (le-leb (getD T (c * 576 + 515) 0) i (omega (arith, h .tables .counts c d)))
+    rw (le-leb (getD T (c * 576 + 515) 0) i (omega (arith, tables h .counts c d)))
 
-module _ {R T A : List ℕ} {P : List Class} (h : Holds R T A P) (s s′ : List ℕ) (made made′ j c from : ℕ)
-    (snd : Sound P made s) (r : Renewed R T s s′ (j * 18) c from)
+module _ {R E T A M s : List ℕ} {P : List Class} {made : ℕ} (h : Holding R E T A M s P made) (s′ : List ℕ)
+    (made′ j c from : ℕ) (r : Renewed R T s s′ (j * 18) c from)
     (d : c ≤ length P) (low : from ≤ length (world P .fields c)) (at : j < made′)
     (only : (i : ℕ) → i < made′ → (i < j) ⊎ (j < i) → i < made) (room : made′ * 18 ≤ length s)
     (few : made′ ≤ 65535) where
@@ -161,8 +165,8 @@ module _ {R T A : List ℕ} {P : List Class} (h : Holds R T A P) (s s′ : List 
   }
     where
       declared : (i : ℕ) → i < made′ → (i < j) ⊎ (j ≤ i) → (j < i) ⊎ (i ≤ j) → getD s′ (i * 18) 0 ≤ length P
-      declared i k (inl o) o′ = rw (other-class i (inl o)) (snd .declared i (only i k (inl o)))
-      declared i k (inr o) (inl o′) = rw (other-class i (inr o′)) (snd .declared i (only i k (inr o′)))
+      declared i k (inl o) o′ = rw (other-class i (inl o)) (h .sound .declared i (only i k (inl o)))
+      declared i k (inr o) (inl o′) = rw (other-class i (inr o′)) (h .sound .declared i (only i k (inr o′)))
       declared i k (inr o) (inr o′) = let z : i ≡ j = omega arith in rw (z, r .class) d
 
       same : (i x : ℕ) → i < made′ → length (world P .fields (getD s′ (i * 18) 0)) ≤ x → x < 17
@@ -170,7 +174,7 @@ module _ {R T A : List ℕ} {P : List Class} (h : Holds R T A P) (s s′ : List 
       same i x k u l o =
           let e : i * 18 + (1 + x) ≡ i * 18 + 1 + x = omega arith in
           (rw e at (other i (1 + x) (omega arith) o))
-          ∙ snd .unused i x (only i k o) (rw (other-class i o) at u) l
+          ∙ h .sound .unused i x (only i k o) (rw (other-class i o) at u) l
 
       unused : (i x : ℕ) → i < made′ → length (world P .fields (getD s′ (i * 18) 0)) ≤ x → x < 17
           → (i < j) ⊎ (j ≤ i) → (j < i) ⊎ (i ≤ j) → getD s′ (i * 18 + 1 + x) 0 ≡ 0
@@ -194,13 +198,14 @@ pub new-fill : {R T s : List ℕ} {c made : ℕ} (p : PreNew R T s c made) (o : 
     → Fill R T s o c 0
 unfolding nth
 new-fill {R} {T} {s} {c} p o h = record {
-  table = omega (arith, p .holds .tables .long, p .declared);
+  table = omega (arith, tables (p .holding) .long, p .declared);
   room = h;
   start = omega arith;
-  few = omega (arith, p .holds .tables .counts c (p .declared), p .holds .counts c (p .declared));
+  few = omega (arith, tables (p .holding) .counts c (p .declared), fields-few (p .holding) c);
   rows = λ i l k.
-      let f = some-at (world (p .P) .fields c) i (omega (arith, p .holds .tables .counts c (p .declared))) in
-      p .holds .fields c i (f .0) (p .declared) (f .1) .within;
+      let f = some-at (world (p .P) .fields c) i
+      (omega (arith, tables (p .holding) .counts c (p .declared))) in
+      field-at (p .holding) c i (f .0) (p .declared) (f .1) .0;
 }
 
 pub new-full : (R T s : List ℕ) (c : ℕ) (n : Counts) → capacity s ≤ n .made
@@ -208,9 +213,9 @@ pub new-full : (R T s : List ℕ) (c : ℕ) (n : Counts) → capacity s ≤ n .m
 unfolding bare outcome
 new-full R T s c n h =
     record {
-      acts = λ A P F hold snd d.
-          acts-same n (Stopped 16) snd (omega arith, omega arith)
-          (λ γ k. rw (heap-length (world P) (n .made) s, le-leb (capacity s) (n .made) h));
+      acts = λ pre F.
+          acts-same n (Stopped 16) (pre .holding .sound) (omega arith, omega arith)
+          (λ γ k. rw (heap-length (world (pre .P)) (n .made) s, le-leb (capacity s) (n .made) h));
     }
 
 pub full-count : (s : List ℕ) (made : ℕ) → 65535 ≤ made → capacity s ≤ made
@@ -225,46 +230,54 @@ has-room : (s : List ℕ) (made : ℕ) → made < 65535 → made * 18 + 18 ≤ l
 unfolding capacity
 has-room s made h k = omega arith
 
-pub new-made : (R T s s₁ : List ℕ) (c : ℕ) (n : Counts) → n .made < 65535 → n .made * 18 + 18 ≤ length s
+new-acts : (R T s s₁ : List ℕ) (c : ℕ) (n : Counts) → n .made < 65535 → n .made * 18 + 18 ≤ length s
     → Filled R T s s₁ (n .made * 18) c 0
-    → PostNew R T s (set s₁ (n .made * 18) c) c n
+    → {E A M : List ℕ} {P : List Class} → Holding R E T A M s P (n .made) → c ≤ length P → (F : ℕ)
+    → Acts P s (set s₁ (n .made * 18) c) n
     (answer (Gave (object (n .made)))
     (record { left = n .left; made = n .made + 1; changes = n .changes }))
+    (λ t. do-new (world P) (with-limits F (capacity s)) c t)
 unfolding bare
-new-made R T s s₁ c n h room w = record {
-  acts = λ A P F hold snd d.
-      let made : ℕ = n .made in
-      let s′ : List ℕ = set s₁ (made * 18) c in
-      let r : Renewed R T s s′ (made * 18) c 0 = renewed (made * 18) c 0 w (omega arith) room in
-      let e : made + 1 ≡ suc made = omega arith in
-      let z : leb (capacity s) made ≡ false = lt-leb (capacity s) made (has-room s made h room) in
-      let fields = fields-filled hold s s′ (made * 18) c 0 0 d (omega arith) (omega arith) room (r .long)
-      (λ i l. r .kept i l) (λ i l k. r .first i l k) in
-      let thing : object-at (world P) s′ (made * 18) ≡ new-object (world P) c
-      = ap (λ (k : ℕ). record {
-        class-of = k;
-        fields = map value-of-number
-            (take (length (world P .fields k)) (drop (made * 18 + 1) s′));
-      }) (r .class)
-      ∙ ap (λ (y : List Meaning). record { class-of = c; fields = y }) fields in
-      let heap : heap-of-numbers (world P) (made + 1) s′ ≡ heap-of-numbers (world P) made s
-      ++ (new-object (world P) c ∷ [])
-      = rw e (heap-new (world P) made s s′ (r .long)
-      (λ i k. hold .counts (getD s (i * 18) 0) (snd .declared i k)) (λ x l. r .outside x (inl l))
-      ∙ ap (λ (o : Thing). heap-of-numbers (world P) made s ++ (o ∷ [])) thing) in
-      record {
-        stored = stored-renewed hold s s′ made (made + 1) made c 0 snd r d (omega arith) (omega arith)
-            (λ i k o. only made i k o) (omega arith) (omega arith) (omega arith);
-        left = refl;
-        changed = omega arith;
-        small = omega arith;
-        is = λ γ k. rw (heap-length (world P) made s, z, heap);
-      };
-}
+new-acts R T s s₁ c n h room w {P = P} hold d F =
+    let made : ℕ = n .made in
+    let s′ : List ℕ = set s₁ (made * 18) c in
+    let r : Renewed R T s s′ (made * 18) c 0 = renewed (made * 18) c 0 w (omega arith) room in
+    let e : made + 1 ≡ suc made = omega arith in
+    let z : leb (capacity s) made ≡ false = lt-leb (capacity s) made (has-room s made h room) in
+    let fields = fields-filled hold s s′ (made * 18) c 0 0 d (omega arith) (omega arith) room (r .long)
+    (λ i l. r .kept i l) (λ i l k. r .first i l k) in
+    let thing : object-at (world P) s′ (made * 18) ≡ new-object (world P) c
+    = ap (λ (k : ℕ). record {
+      class-of = k;
+      fields = map value-of-number
+          (take (length (world P .fields k)) (drop (made * 18 + 1) s′));
+    }) (r .class)
+    ∙ ap (λ (y : List Meaning). record { class-of = c; fields = y }) fields in
+    let heap : heap-of-numbers (world P) (made + 1) s′ ≡ heap-of-numbers (world P) made s
+    ++ (new-object (world P) c ∷ [])
+    = rw e (heap-new (world P) made s s′ (r .long)
+    (λ i k. fields-few hold (getD s (i * 18) 0)) (λ x l. r .outside x (inl l))
+    ∙ ap (λ (o : Thing). heap-of-numbers (world P) made s ++ (o ∷ [])) thing) in
+    record {
+      stored = stored-renewed hold s′ (made + 1) made c 0 r d (omega arith) (omega arith)
+          (λ i k o. only made i k o) (omega arith) (omega arith) (omega arith);
+      left = refl;
+      changed = omega arith;
+      small = omega arith;
+      is = λ γ k. rw (heap-length (world P) made s, z, heap);
+    }
   where
     only : (made i : ℕ) → i < made + 1 → (i < made) ⊎ (made < i) → i < made
     only made i k (inl o) = o
     only made i k (inr o) = absurd (omega arith)
+
+new-made : (R T s s₁ : List ℕ) (c : ℕ) (n : Counts) → n .made < 65535 → n .made * 18 + 18 ≤ length s
+    → Filled R T s s₁ (n .made * 18) c 0
+    → PostNew R T s (set s₁ (n .made * 18) c) c n
+    (answer (Gave (object (n .made)))
+    (record { left = n .left; made = n .made + 1; changes = n .changes }))
+new-made R T s s₁ c n h room w =
+    record { acts = λ pre F. new-acts R T s s₁ c n h room w (pre .holding) (pre .declared) F }
 
 -- the same of the number that is returned and of the tally, which counts the new object
 pub new-told : {R T s s₁ t′ : List ℕ} (t : List ℕ) {c : ℕ} → (1 < length t) × (t′ ≡ set t 1 (getD t 1 0 + 1))

@@ -2,6 +2,7 @@
 pub mod Nth
 pub mod Objects
 pub mod Values
+pub mod Holding
 mod Tally
 pub mod Acts
 mod Fresh

@@ -16,7 +16,7 @@ use Rattle.objects.specs.Values.{SmallOutcome, word, meaning, case-of, n
 use Rattle.objects.specs.Values.{outcome}
 use Rattle.objects.specs.Values.{failure}
 use Rattle.objects.specs.declared.Value.{Value}
-use Rattle.objects.specs.Contracts.{Written, first-of, IsWord}
+use Rattle.objects.specs.Acts.{Written, first-of, IsWord}
 use lib.Seq.{getD-set-same, getD-set-other}
 use Rattle.language.specs.Results.{ok, stop, bind}
 use Rattle.language.specs.State.{Value as Meaning, null, truth, object, State, Stop, Out}

@@ -1,3 +1,3 @@
 pub mod Values
 pub mod Holding
-pub mod Contracts
+pub mod Acts

@@ -27,14 +27,14 @@ ghost use Rattle.language.specs.Store.{value-number, value-of-number};
 ghost use Rattle.objects.specs.Values.{word, meaning, case-of, reached, outcome, counts-in, answered};
 ghost use Rattle.objects.specs.Values.{Small, numbered};
 ghost use Rattle.language.specs.State.{truth};
-ghost use Rattle.objects.specs.Contracts.{IsWord, First, Fill, Filled, field-type-in, Spot};
-ghost use Rattle.objects.specs.Contracts.{field-index};
+ghost use Rattle.objects.specs.Acts.{IsWord, First, Fill, Filled, field-type-in, Spot};
+ghost use Rattle.objects.specs.Acts.{field-index};
 ghost use Rattle.objects.specs.Holding.{first-value-of};
 ghost use Rattle.objects.specs.declared.Reached.the-variants.{At};
-ghost use Rattle.objects.specs.Contracts.{MethodsOf, target-in};
-ghost use Rattle.objects.specs.Contracts.{PreNew, PostNew, PreChange, PostChange, PreObject, PostLoad};
-ghost use Rattle.objects.specs.Contracts.{PostSave, PreCast, PostCast};
-ghost use Rattle.objects.specs.Contracts.{LetterFrom, SomeLetter, PreFind, PostFind};
+ghost use Rattle.objects.specs.Acts.{MethodsOf, target-in};
+ghost use Rattle.objects.specs.Acts.{PreNew, PostNew, PreChange, PostChange, PreObject, PostLoad};
+ghost use Rattle.objects.specs.Acts.{PostSave, PreCast, PostCast};
+ghost use Rattle.objects.specs.Acts.{LetterFrom, SomeLetter, PreFind, PostFind};
 
 // A word is its kind times KIND and its content, which is below KIND. Null is 0; the truth values and the first word of an
 // object, whose content is its number, from 1.
@@ -365,7 +365,8 @@ pub fn save(tables: &[u16], store: &mut [u32], tally: &[u32; 3], w: u64, v: u64,
 
 // K: an object of class c or below passes, and so does null.
 pub fn cast_object(above: &[u64], store: &[u32], tally: &[u32; 3], w: u64, c: u32) -> u64
-    requires { ⌜ PreCast (now above) (now store) w c (counts-in (now tally) .made) ⌝ }
+    requires { ⌜ PreCast (now above) (now store) c (counts-in (now tally) .made) ⌝ }
+    requires { ⌜ IsWord w ⌝ }
     ensures { λ r. ⌜ PostCast (now (above .entry)) (now (store .entry)) (meaning w) c
         (counts-in (now (tally .entry))) (outcome r) ⌝ }
 {

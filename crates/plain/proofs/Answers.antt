@@ -5,39 +5,37 @@ use mathlib.Core.Logic.{_≢_}
 use mathlib.Core.List.{List, _++_}
 use Prim.Native.Nat.{ℕ, zero, suc, _+_, _/_, _%_, _≤_, _<_}
 use native.Mathlib.Omega.{arith}
-use borrow.Author.Tests.{lt-ltb, le-ltb, lt-leb, le-leb, eqb-true}
+use borrow.Author.Tests.{lt-ltb, le-ltb, lt-leb, le-leb}
 use lib.Dec.{ltb}
 use lib.ListN.{length, drop}
 use lib.Seq.{sets, sets-eq}
-use Rattle.language.specs.Limits.{of-check, of-translator, limit-refusal, reserved-refusal}
-use Rattle.language.specs.Results.{Checked, accept, refuse, Pass, passed, earlier, bind-checked, require-inv}
-use Rattle.language.specs.Results.{bind-checked-inv, accept-injective}
+use Rattle.language.specs.Limits.{of-translator, limit-refusal, reserved-refusal}
+use Rattle.language.specs.Results.{Checked, accept, refuse, Pass, passed, earlier, bind-checked}
 use Rattle.language.specs.Rows.{rows-of}
-use Rattle.language.specs.Tree.{Program, classes-lines}
+use Rattle.language.specs.Tree.{Program}
 use Rattle.language.specs.Form.{form}
 use Rattle.language.specs.Headings.{headings}
-use Rattle.language.specs.Verdict.{check, whole-rows, three-passes}
+use Rattle.language.specs.Verdict.{check}
 use Rattle.language.specs.Translation.{within-limits, names-free, translation}
 use Rattle.language.specs.WellFormed.{ProgramInForm}
 use Rattle.language.specs.Filling.{answer, buffer}
 use Rattle.language.specs.declared.Filled.{Filled}
 use Rattle.language.specs.declared.Filled.the-variants as filled
 use Rattle.language.specs.declared.Filled.the-variants.{Done}
-use Rattle.language.specs.Layout.{ProgramAt}
 use Rattle.form.specs.Answers.{formed-of}
 use Rattle.form.specs.declared.Formed.{Formed}
 use Rattle.form.specs.declared.Formed.the-variants as formed
 use Rattle.form.specs.declared.Formed.the-variants.{InForm}
-use Rattle.theory.specs.Accepts.{check-accepts}
-use Rattle.theory.specs.WholeBack.{form-back}
-use Rattle.theory.specs.Translatable.{earlier-inv, same-program}
+use Rattle.theory.proofs.acceptance.Acceptance.{check-accepts}
+use Rattle.theory.proofs.reading.FlattenProgram.{form-back}
+use Rattle.theory.proofs.acceptance.Translatable.{earlier-inv, same-program}
 use Rattle.plain.specs.Numbers.{program-numbers}
 use Rattle.plain.specs.Tasks.{ProgramTask}
 use Rattle.plain.specs.Emission.{SomeProgram, ProgramWritten}
-use Rattle.plain.specs.Bounds.{pass-of, ClassesStand, SomeClassesStand, ClassesCounted, SomeCounted}
-use Rattle.plain.specs.Bounds.{FieldsLimited, NamesFree, told, limits-told, CheckedRows, SomeChecked}
+use Rattle.plain.specs.Bounds.{pass-of, SomeClassesStand, ClassesCounted, SomeCounted}
+use Rattle.plain.specs.Bounds.{FieldsLimited, NamesFree, told, limits-told, SomeChecked}
 use Rattle.plain.specs.Bounds.{Limited, PlainWritten, SomeAccepted}
-use Rattle.plain.proofs.Sizes.{program-task}
+use Rattle.plain.proofs.Standing.{all-stand}
 
 -- limits of form and of fields together
 module _ {f : Formed} {l n k : ℕ} where
@@ -78,45 +76,31 @@ told-earlier (refuse n k) (suc l) = go (ltb (suc l) k)
     go true = refl
     go false = refl
 
--- what the check has passed
-check-passes : (R : List ℕ) (p : Program) → check R ≡ accept p
-    → (length R % 4 ≡ 0) × (u : Unit {0}) × (headings of-check (p .classes) ≡ accept u)
-unfolding check whole-rows three-passes
-check-passes R p e = require-inv _ _ _ _ e λ w e. bind-checked-inv _ _ e λ q e₁ e.
-    bind-checked-inv _ _ e λ u e₂ e.
-    bind-checked-inv _ _ e λ v e₃ e. (eqb-true (length R % 4) 0 w, u, rw (← accept-injective e) e₂)
-
-all-stand : {R E : List ℕ} {p : Program} → ProgramAt R E p → ClassesStand R E 1 (p .classes) 0
-all-stand {p = p} h = let z : classes-lines (p .classes) ≡ 0 + classes-lines (p .classes) = omega arith in
-    let w = h .start-line in
-    record { classes = h .classes; start = rw z at w; in-form = h .in-form .classes; short = h .short }
-
 module _ {R E T : List ℕ} where
   pub checked-whole : SomeChecked R E T → length R % 4 ≡ 0
-  checked-whole x = check-passes R (x .p) (x .is .accepted) .0
+  checked-whole x = omega (arith, x .held .headed .here .all)
 
-  all-counted : {p : Program} {A : List ℕ} → CheckedRows p R E T A
-      → ClassesCounted (p .classes) R E T 1 (p .classes) 0
+  all-counted : (x : SomeChecked R E T) → ClassesCounted (x .p .classes) R E T 1 (x .p .classes) 0
   unfolding headings
-  all-counted {p} {A} x = record {
-    stand = all-stand (x .rows);
-    accepted = check-passes R p (x .accepted) .2;
+  all-counted x = record {
+    stand = all-stand (x .held .headed .here);
+    accepted = x .held .headed .passes;
     numbered = omega arith;
-    long = x .tables .long;
-    counts = λ j l. x .tables .counts j l;
+    A = x .A;
+    tables = x .held .headed .classes;
   }
 
   pub checked-counted : SomeChecked R E T → SomeCounted R E T 0
-  checked-counted x = record { P = x .p .classes; k = 1; cs = x .p .classes; counted = all-counted (x .is) }
+  checked-counted x = record { P = x .p .classes; k = 1; cs = x .p .classes; counted = all-counted x }
 
   pub limits-answer : {f : Formed} {l : ℕ} {r : Filled} → f ≡ formed-of (form of-translator (rows-of R))
       → FieldsLimited R E T 0 l → r ≡ limits-told f l → Limited R E T r
   unfolding within-limits headings
   limits-answer {f} {l} {r} e h q = record {
-    each = λ p A x. q ∙ (ap (λ (g : Formed). limits-told g l) e ∙
+    each = λ x. q ∙ (ap (λ (g : Formed). limits-told g l) e ∙
         (told-earlier (form of-translator (rows-of R)) l
         ∙ ap (λ (c : Pass). told (earlier (form of-translator (rows-of R)) c))
-        (sym (h .each (p .classes) 1 (p .classes) (all-counted x)))));
+        (sym (h .each (x .p .classes) 1 (x .p .classes) (all-counted x)))));
   }
 
 -- the plain rows in a buffer
@@ -187,32 +171,43 @@ not-zero n (suc l) h = refl
 
 module _ {R E T M C : List ℕ} where
   pub accepted-stand : SomeAccepted R E T M C → SomeClassesStand R E 0
-  accepted-stand x = record { k = 1; cs = x .p .classes; stand = all-stand (x .checked .rows) }
+  accepted-stand x = record { k = 1; cs = x .p .classes; stand = all-stand (x .held .headed .here) }
+
+  abbrev checked : SomeAccepted R E T M C → SomeChecked R E T
+  checked x = record {
+    p = x .p;
+    A = x .A;
+    M = M;
+    F = x .F;
+    C = C;
+    accepted = x .accepted;
+    held = x .held;
+  }
 
   pub answer-limits : {r : Filled} {a b : ℕ} (O : List ℕ) → SomeAccepted R E T M C → Limited R E T r
       → r ≡ filled.Refused a b → (r ≡ answer 4 (translation R) (length O)) × (O ≡ buffer (translation R) O)
-  answer-limits O x h d = told-inv (within-limits R (x .p)) (h .each (x .p) (x .A) (x .checked))
+  answer-limits O x h d = told-inv (within-limits R (x .p)) (h .each (checked x))
       (λ u q e. absurd (not-both (sym d ∙ e)))
-      (λ n l q e. let y = refused n l O (limits-refuse R (x .p) (x .checked .accepted) n l q) in
+      (λ n l q e. let y = refused n l O (limits-refuse R (x .p) (x .accepted) n l q) in
       (e ∙ y .0, y .1))
 
   -- where no limit is passed
   fine : {r : Filled} {n : ℕ} (x : SomeAccepted R E T M C) → Limited R E T r → r ≡ Done n
       → (u : Unit {0}) × (within-limits R (x .p) ≡ accept u)
-  fine {r} {n} x h d = told-inv (within-limits R (x .p)) (h .each (x .p) (x .A) (x .checked))
+  fine {r} {n} x h d = told-inv (within-limits R (x .p)) (h .each (checked x))
       (λ u q e. (u, q))
       (λ k l q e. absurd (not-both (sym e ∙ d)))
 
   names-are : {l : ℕ} (x : SomeAccepted R E T M C) → NamesFree R E 0 l
       → names-free 1 (x .p .classes) ≡ pass-of reserved-refusal l
-  names-are x h = h .each 1 (x .p .classes) (all-stand (x .checked .rows))
+  names-are x h = h .each 1 (x .p .classes) (all-stand (x .held .headed .here))
 
   pub answer-names : {r : Filled} {n l : ℕ} (O : List ℕ) → SomeAccepted R E T M C → Limited R E T r
       → r ≡ Done n
       → NamesFree R E 0 l → l ≢ 0
       → (filled.Refused 12 l ≡ answer 4 (translation R) (length O)) × (O ≡ buffer (translation R) O)
   answer-names {r} {n} {l} O x h d f z = let y = fine x h d in
-      refused 12 l O (names-refuse R (x .p) (x .checked .accepted) (y .0) (y .1) 12 l
+      refused 12 l O (names-refuse R (x .p) (x .accepted) (y .0) (y .1) 12 l
       (names-are x f ∙ not-zero 12 l z))
 
   module _ {r : Filled} {n l : ℕ} (x : SomeAccepted R E T M C) (h : Limited R E T r) (d : r ≡ Done n)
@@ -222,16 +217,22 @@ module _ {R E T M C : List ℕ} where
 
     task : ProgramTask (x .p) E R T M C
     unfolding within-limits
-    task = let y = fine x h d in let a = check-accepts R (x .p) .0 (x .checked .accepted) in
+    task = let y = fine x h d in let a = check-accepts R (x .p) .0 (x .accepted) in
         earlier-inv _ _ (y .1) λ q w e₄ e₅.
         let same = same-program R (x .p) q a e₄ in
-        program-task R E T (x .A) M (x .F) C (x .p) (record {
-          accepted = a;
-          in-form = subst (ProgramInForm of-translator) same
-              (form-back of-translator (omega arith) (rows-of R) q e₄ .1);
-          few-fields = e₅;
-          unreserved = free;
-        }) (x .checked .rows) (x .checked .tables) (x .methods) (x .lookups) (x .beside)
+        record {
+          A = x .A;
+          F = x .F;
+          held = x .held;
+          beside = x .beside;
+          taken = record {
+            accepted = a;
+            in-form = subst (ProgramInForm of-translator) same
+                (form-back of-translator (omega arith) (rows-of R) q e₄ .1);
+            few-fields = e₅;
+            unreserved = free;
+          };
+        }
 
     pub answer-some : SomeProgram R T M C
     answer-some = record { p = x .p; E = E; task = task }
@@ -239,7 +240,7 @@ module _ {R E T M C : List ℕ} where
     pub answer-plain : {O O′ : List ℕ} {s : Filled} → PlainWritten R T M C O O′ s
         → (s ≡ answer 4 (translation R) (length O)) × (O′ ≡ buffer (translation R) O)
     answer-plain {O} {O′} {s} w = let y = fine x h d in let v = w .each (x .p) E task in
-        let e = taken R (x .p) (x .checked .accepted) (y .0) tt (y .1) free in (
+        let e = taken R (x .p) (x .accepted) (y .0) tt (y .1) free in (
           v .0 ∙ ap (λ (c : Checked (List ℕ)). answer 4 c (length O)) (sym e),
           v .1
               ∙ ap (λ (c : Checked (List ℕ)). buffer c O) (sym e),

@@ -111,69 +111,75 @@ module _ {R T M C S : List ℕ} {at vars next place : ℕ} where
       → (place + 56 ≤ most-numbers) × (next ≤ most-numbers) × (getD R (at * 4 + 1) 0 < 65536)
   new-known x h = of-letter W-new x h λ P E γ sh c t. let r : place + 56 ≤ most-numbers =
       omega (arith, t .fits, ap length (t-new (world P) γ sh c)) in
-      (r, omega (arith, r, t .low), t .setting .lent .small (at * 4 + 1))
+      (r, omega (arith, r, t .low), omega (arith, new-class t .0, new-class t .1))
 
   pub new-arm : {O O′ : List ℕ} {p : ℕ} → getD R (at * 4) 0 ≡ 87
       → Written (new-lines next (getD R (at * 4 + 1) 0)) O O′ place p
       → NodeEmitted R T M C S O O′ at vars next place p (at + 1)
   unfolding size
   new-arm h w = all-letter W-new h λ P E γ sh c t.
-      whole w (rw (t .setting .free, new-class t) (sym (t-new (world P) γ sh c))) refl
+      whole w (rw (t .setting .free, new-class t .0) (sym (t-new (world P) γ sh c))) refl
+
+  change-room : {P : List Class} {E : List ℕ} {γ : Environment} {sh : Shape} {k d : ℕ}
+      → NodeTask P E (change k d) γ sh R T M C S at vars next place
+      → place + head-length (plain-slot sh k) + 60 + 16 * length (world P .fields (world P .root d))
+      ≤ most-numbers
+  unfolding change-lines renew-lines
+  change-room {P} {E} {γ} {sh} {k} {d} t =
+      rooms (world P .fields (world P .root d)) (suc (length sh)) (world P .root d) (plain-slot sh k)
+      (rw (t-change (world P) γ sh k d) at (t .fits))
+    where
+      rooms : (fs : List Field) (n r s : ℕ) → place + length (change-lines s n d r fs) ≤ most-numbers
+          → place + head-length s + 60 + 16 * length fs ≤ most-numbers
+      rooms fs n r zero h =
+          omega (
+            arith,
+            h,
+            copies-length (n + 1) fs,
+            length-append (copy-lines (n + 1) fs) (73 ∷ n ∷ 0 ∷ 0 ∷ []),
+            length-append (renew-head n d r (length fs) ++ (copy-lines (n + 1) fs ++ (73 ∷ n ∷ 0 ∷ 0 ∷ [])))
+                (73 ∷ n ∷ 0 ∷ 0 ∷ []),
+          )
+      rooms fs n r (suc s) h =
+          omega (
+            arith,
+            h,
+            copies-length (n + 1) fs,
+            length-append (copy-lines (n + 1) fs) (73 ∷ n ∷ 0 ∷ 0 ∷ []),
+            length-append (renew-head n d r (length fs) ++ (copy-lines (n + 1) fs ++ (73 ∷ n ∷ 0 ∷ 0 ∷ [])))
+                (73 ∷ n ∷ 0 ∷ 0 ∷ []),
+          )
+
+  change-some : {P : List Class} {E : List ℕ} {γ : Environment} {sh : Shape} {k d : ℕ}
+      → NodeTask P E (change k d) γ sh R T M C S at vars next place → SomeChange R T place (plain-slot sh k) d
+  change-some {P} {E} t = record {
+    P = P;
+    E = E;
+    M = M;
+    C = C;
+    lent = t .setting .lent;
+    declared = change-slot t .4;
+    fits = change-room t;
+  }
 
   pub change-known : SomeNode R T M C S at vars next place → getD R (at * 4) 0 ≡ 82
       → (getD R (at * 4 + 1) 0 < 32)
       × SomeChange R T place (getD S (getD R (at * 4 + 1) 0) 0) (getD R (at * 4 + 2) 0)
       × (next + 2 < most-numbers) × (getD R (at * 4 + 2) 0 < 65536)
-  unfolding change-lines renew-lines
-  change-known x h = of-letter R-change x h λ P E γ sh k d t. let z = change-slot t in
-      let fs = world P .fields (world P .root d) in
-      let n = suc (length sh) in
-      let r : place + head-length (plain-slot sh k) + 60 + 16 * length fs ≤ most-numbers =
-      rooms place fs n d (world P .root d) (plain-slot sh k)
-      (rw (t-change (world P) γ sh k d) at (t .fits)) in (
-        omega (arith, z .0, z .2, t .setting .scope),
-        rw (slot-at (t .setting) (z .0) (z .2), z .1)
-            (record {
-              P = P;
-              members = t .setting .lent .members;
-              declared = z .3;
-              root-declared = z .4;
-              fits = r;
-            }),
-        omega (arith, t .low, r),
-        t .setting .lent .small (at * 4 + 2),
-      )
-    where
-      rooms : (place : ℕ) (fs : List Field) (n d r s : ℕ)
-          → place + length (change-lines s n d r fs) ≤ most-numbers
-          → place + head-length s + 60 + 16 * length fs ≤ most-numbers
-      rooms place fs n d r zero h =
-          omega (
-            arith,
-            h,
-            copies-length (n + 1) fs,
-            length-append (copy-lines (n + 1) fs) (73 ∷ n ∷ 0 ∷ 0 ∷ []),
-            length-append (renew-head n d r (length fs) ++ (copy-lines (n + 1) fs ++ (73 ∷ n ∷ 0 ∷ 0 ∷ [])))
-                (73 ∷ n ∷ 0 ∷ 0 ∷ []),
-          )
-      rooms place fs n d r (suc s) h =
-          omega (
-            arith,
-            h,
-            copies-length (n + 1) fs,
-            length-append (copy-lines (n + 1) fs) (73 ∷ n ∷ 0 ∷ 0 ∷ []),
-            length-append (renew-head n d r (length fs) ++ (copy-lines (n + 1) fs ++ (73 ∷ n ∷ 0 ∷ 0 ∷ [])))
-                (73 ∷ n ∷ 0 ∷ 0 ∷ []),
-          )
+  change-known x h = of-letter R-change x h λ P E γ sh k d t. let z = change-slot t in (
+    omega (arith, z .0, z .2, t .setting .scope),
+    rw (slot-at (t .setting) (z .0) (z .2), z .1) (change-some t),
+    omega (arith, t .low, change-room t),
+    omega (arith, z .1, z .3),
+  )
 
   pub change-arm : {O O′ : List ℕ} {p : ℕ} → getD R (at * 4) 0 ≡ 82
       → ChangeWritten R T (getD S (getD R (at * 4 + 1) 0) 0) next (getD R (at * 4 + 2) 0) O O′ place p
       → NodeEmitted R T M C S O O′ at vars next place p (at + 1)
-  unfolding size
+  unfolding size change-some
   change-arm h m = all-letter R-change h λ P E γ sh k d t. let z = change-slot t in
-      let w = m .each P (t .setting .lent .members) (omega (arith, z .1, z .3)) (rw (z .1) (z .4)) in
-      whole w (rw (slot-at (t .setting) (z .0) (z .2), z .1, t .setting .free)
-      (sym (t-change (world P) γ sh k d))) refl
+      let m′ = rw (slot-at (t .setting) (z .0) (z .2), z .1, t .setting .free) at m in
+      whole (m′ .each (change-some t)) (sym (t-change (world P) γ sh k d)) refl
 
   pub is-null-known : SomeNode R T M C S at vars next place → getD R (at * 4) 0 ≡ 90
       → place + 4 ≤ most-numbers

@@ -8,21 +8,22 @@ use lib.ListN.{length, getD, length-append}
 use Rattle.language.specs.Frames.{opened}
 use Rattle.language.specs.Rows.{V-local}
 use Rattle.language.specs.Tree.{DeclaredType, block, Exprs, count, size, Class}
+use Rattle.language.specs.WellFormed.{Each, TypeInForm}
 use Rattle.language.specs.Program.{world}
 use Rattle.language.specs.Encoded.{TypesAt, Encoded}
 use Rattle.language.specs.Environment.{Environment, fresh-slot}
 use Rattle.language.specs.Translation.{Shape, variables}
 use Rattle.language.specs.LookupClasses.{LooksUp}
-use Rattle.plain.specs.Numbers.{most-numbers, nodes-numbers, type-lines, ProperAll, nodes-of}
+use Rattle.plain.specs.Numbers.{most-numbers, nodes-numbers, type-lines, nodes-of}
 use Rattle.plain.specs.Emission.{Written, Extended, SomeTypes, TypesWritten, SomeBlock, SomeNodes}
 use Rattle.plain.specs.Emission.{BlockEmitted, NodesEmitted}
-use Rattle.plain.specs.Tasks.{NodeTask, NodesTask, Ready}
+use Rattle.plain.specs.Tasks.{NodeTask, NodesTask}
 use Rattle.plain.proofs.Writing.{written-then, whole}
 use Rattle.plain.proofs.Translated.{t-block}
-use Rattle.plain.proofs.Tasks.{node-row}
+use Rattle.plain.proofs.Tasks.{node-row, node-parts}
 use Rattle.plain.proofs.Shapes.{setting-locals}
 use Rattle.plain.proofs.Lines.{types-length}
-use Rattle.plain.proofs.Nodes.{encoded-nodes, looks-nodes, ready-nodes, nodes-counted, nodes-sizes}
+use Rattle.plain.proofs.Nodes.{encoded-nodes, looks-nodes, nodes-counted, nodes-sizes}
 
 module _ {P : List Class} {E : List ℕ} {γ : Environment} {sh : Shape} {R T M C S : List ℕ}
     {at vars next place : ℕ} {ts : List DeclaredType} {es : Exprs}
@@ -35,9 +36,8 @@ module _ {P : List Class} {E : List ℕ} {γ : Environment} {sh : Shape} {R T M 
   unfolding Encoded
   block-types = t .encoded .1
 
-  block-ready : (vars + length ts ≤ 32) × ProperAll ts
-  unfolding Ready
-  block-ready = (t .ready .0, t .ready .1)
+  block-ready : (vars + length ts ≤ 32) × Each TypeInForm ts
+  block-ready = let h = node-parts t in (h .0, h .1)
 
   block-room : place + 4 + 4 * length ts + length
       (nodes-numbers (world P) (sh ++ variables ts) (nodes-of (world P) es (opened γ (map fresh-slot ts))))
@@ -54,13 +54,13 @@ module _ {P : List Class} {E : List ℕ} {γ : Environment} {sh : Shape} {R T M 
   block-nodes : (S′ : List ℕ) → Extended S S′ vars next (length ts) → (p : ℕ) → p ≡ place + 4 + 4 * length ts
       → NodesTask P E (nodes-of (world P) es (opened γ (map fresh-slot ts))) (sh ++ variables ts) R T M C S′
       (at + 1 + length ts) (vars + length ts) (next + length ts) p
-  unfolding Encoded LooksUp Ready
+  unfolding Encoded LooksUp
   block-nodes S′ y p q = record {
     setting = setting-locals (t .setting) ts S′ y (block-ready .0);
     encoded = encoded-nodes (world P) R E es (opened γ (map fresh-slot ts)) (at + 1 + length ts)
         (t .encoded .2);
     looks = looks-nodes (world P) C es (opened γ (map fresh-slot ts)) (at + 1 + length ts) (t .looks);
-    ready = ready-nodes P es (opened γ (map fresh-slot ts)) (vars + length ts) (t .ready .2);
+    typed = node-parts t .2 (at + 1 + length ts);
     low = omega (arith, t .low, q);
   }
 

@@ -7,7 +7,7 @@ use lib.ListN.{length, getD, replicate}
 use Rattle.language.specs.Tree.{DeclaredType, Expr, Class}
 use Rattle.language.specs.Environment.{Environment}
 use Rattle.language.specs.Translation.{plain-slot, variables}
-use Rattle.theory.specs.PlainForm.{variable-count}
+use Rattle.theory.proofs.translation.PlainForm.{variable-count}
 use Rattle.plain.specs.Tasks.{Setting, NodeTask, BodyTask}
 use Rattle.plain.specs.Emission.{Extended, SomeNode, NodeEmitted, SomeBody, BodyEmitted}
 use Rattle.plain.proofs.Shapes.{setting-locals}
@@ -15,7 +15,7 @@ use Rattle.plain.proofs.Shapes.{setting-locals}
 -- no slot but `this`
 first-setting : {P : List Class} {E : List ℕ} {e : Expr} {γ : Environment} {ts : List DeclaredType}
     {R T M C : List ℕ} {at place : ℕ}
-    → BodyTask P E e γ ts R T M C at place → Setting P R T M C (replicate 32 0) [] 1 1
+    → BodyTask P E e γ ts R T M C at place → Setting P E R T M C (replicate 32 0) [] 1 1
 unfolding variable-count plain-slot
 first-setting t = record {
   lent = t .lent;
@@ -39,7 +39,7 @@ body-node {ts = ts} t count c S y = rw (sym c) (record {
   setting = setting-locals (first-setting t) ts S (rw (sym c) at y) (t .scope);
   encoded = t .encoded;
   looks = t .looks;
-  ready = t .ready;
+  typed = t .typed;
   low = t .low;
   fits = t .fits;
 })

@@ -9,6 +9,7 @@ use lib.ListN.{length, getD, length-append, length-map}
 use Rattle.language.specs.Lists.{nth-lt}
 use Rattle.language.specs.Rows.{P-parameter}
 use Rattle.language.specs.Tree.{DeclaredType, Expr, call, Exprs, count, size, Class}
+use Rattle.language.specs.WellFormed.{Each, TypeInForm}
 use Rattle.language.specs.Effects.{apply-class}
 use Rattle.language.specs.Program.{world}
 use Rattle.language.specs.Encoded.{TypesAt, Encoded}
@@ -19,19 +20,19 @@ use Rattle.language.specs.LookupClasses.{LooksUp}
 use Rattle.language.specs.ClassTables.{method-number}
 use Rattle.language.specs.MethodTables.{placed-methods}
 use Rattle.language.proofs.Methods.{method-found}
-use Rattle.theory.specs.PlainForm.{variable-count, count-temporaries}
-use Rattle.plain.specs.Numbers.{most-numbers, arguments-numbers, type-lines, read-lines, ProperAll}
+use Rattle.layout.specs.HeldLaws.{method-at}
+use Rattle.theory.proofs.translation.PlainForm.{variable-count, count-temporaries}
+use Rattle.plain.specs.Numbers.{most-numbers, arguments-numbers, type-lines, read-lines}
 use Rattle.plain.specs.Numbers.{Nodes, also, nodes-of, how-many, rows-taken}
 use Rattle.plain.specs.Emission.{Written, SomeTypes, TypesWritten, SomeCall, SomeArguments, CallEmitted}
 use Rattle.plain.specs.Emission.{ArgumentsEmitted}
-use Rattle.plain.specs.Tasks.{NodeTask, NodesTask, EncodedNodes, LooksUpNodes, ReadyNodes, Ready}
-use Rattle.plain.specs.Tasks.{MethodFound}
+use Rattle.plain.specs.Tasks.{NodeTask, NodesTask, EachNode}
 use Rattle.plain.proofs.Writing.{written-then, whole}
 use Rattle.plain.proofs.Translated.{t-call}
-use Rattle.plain.proofs.Tasks.{node-row}
+use Rattle.plain.proofs.Tasks.{node-row, node-parts}
 use Rattle.plain.proofs.Shapes.{setting-temporaries}
 use Rattle.plain.proofs.Lines.{types-length, reads-length}
-use Rattle.plain.proofs.Nodes.{encoded-nodes, looks-nodes, ready-nodes, nodes-counted, nodes-sizes}
+use Rattle.plain.proofs.Nodes.{encoded-nodes, looks-nodes, nodes-counted, nodes-sizes}
 
 module _ {P : List Class} {E : List ℕ} {γ : Environment} {sh : Shape} {R T M C S : List ℕ}
     {at vars next place : ℕ} {m : ℕ} {e : Expr} {es : Exprs}
@@ -46,36 +47,36 @@ module _ {P : List Class} {E : List ℕ} {γ : Environment} {sh : Shape} {R T M 
 
   call-name : (getD R (at * 4 + 1) 0 ≡ m) × (getD R (at * 4 + 2) 0 ≡ count es) × (getD C at 0 ≡ call-class)
       × (m < 256) × (call-class ≤ length P)
-  unfolding Encoded LooksUp Ready
-  call-name = (
+  unfolding Encoded LooksUp
+  call-name = let h = node-parts t in (
     t .encoded .0 .row .first,
     t .encoded .0 .row .second,
     t .looks .0 (node-row t .2),
-    t .ready .0,
-    t .ready .1,
+    h .0,
+    h .1,
   )
 
   -- the method's number in the table of classes, and its P lines
-  call-method : (length call-types ≡ count es) × ProperAll call-types × (i : ℕ)
+  call-method : (length call-types ≡ count es) × Each TypeInForm call-types × (i : ℕ)
       × (getD T (call-class * 576 + 256 + m) 0 ≡ suc i) × (i * 4 < length M)
       × TypesAt P-parameter R call-types (getD M (i * 4) 0 + 1)
-  unfolding Ready MethodFound method-number
+  unfolding method-number
   call-method =
-      let found = t .ready .2 in
-      let lent = t .setting .lent in
+      let found = node-parts t .2 in
+      let held = t .setting .lent .held .headed in
       let x = method-found P call-class m (found .0) (found .1) in
       let i = found .0 .number in
-      let entry = lent .members .tables .methods call-class m (call-name .4) (call-name .3) in
-      let row = lent .methods .rows i (x .placed) (x .there) in
+      let entry = held .classes .methods call-class m (call-name .4) (call-name .3) in
+      let row = held .methods .rows i (x .placed) (x .there) in
       let below = nth-lt (placed-methods P) i (x .placed) (x .there) in
       rw (found .1) (
         found .2,
         found .3,
         i,
         rw (found .1) at entry,
-        omega (arith, below, lent .methods .long),
+        omega (arith, below, held .methods .long),
         rw row (subst (λ (ts : List DeclaredType). TypesAt P-parameter R ts (x .placed .row + 1))
-            (sym (x .parameters)) (lent .parameters i (x .placed) (x .there))),
+            (sym (x .parameters)) (method-at held call-class m (found .0) (found .1) .at .parameters)),
       )
 
   abbrev call-arguments : Nodes
@@ -104,8 +105,9 @@ module _ {P : List Class} {E : List ℕ} {γ : Environment} {sh : Shape} {R T M 
 
   call-nodes : (p : ℕ) → p ≡ place + 8 + 4 * count es
       → NodesTask P E call-arguments call-shape R T M C S (at + 1) vars (next + (count es + 1)) p
-  unfolding Encoded LooksUp Ready EncodedNodes LooksUpNodes ReadyNodes variable-count
+  unfolding Encoded LooksUp EachNode variable-count
   call-nodes p q =
+      let h = node-parts t in
       let γ′ = typed-or (type-of (world P) e 0 γ) .slots in
       let z : next + length (false ∷ temporaries call-types) ≡ next + (count es + 1) =
       omega (arith, call-method .0, length-map call-types (λ (t : DeclaredType). false)) in
@@ -114,7 +116,7 @@ module _ {P : List Class} {E : List ℕ} {γ : Environment} {sh : Shape} {R T M 
             (count-temporaries call-types));
         encoded = (t .encoded .1, encoded-nodes (world P) R E es γ′ (at + 1 + size e) (t .encoded .2));
         looks = (t .looks .1, looks-nodes (world P) C es γ′ (at + 1 + size e) (t .looks .2));
-        ready = (t .ready .3, ready-nodes P es γ′ vars (t .ready .4));
+        typed = (h .3, h .4 (at + 1 + size e));
         low = omega (arith, t .low, q);
       }
 
@@ -133,7 +135,7 @@ module _ {R T M C S : List ℕ} {at vars next place f l : ℕ} (a : f ≡ getD R
   call-known x = let t = x .task in let n = call-name t in
       rw (a ∙ n .0, d ∙ n .1, n .2) (
         n .3,
-        omega (arith, n .3, n .4, t .setting .lent .members .tables .long),
+        omega (arith, n .3, n .4, t .setting .lent .held .headed .classes .long),
         omega (arith, call-room t),
         omega (arith, t .low, call-room t),
       )

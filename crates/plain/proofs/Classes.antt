@@ -5,12 +5,10 @@ use mathlib.Core.Logic.{_≢_}
 use Prim.Native.Nat.{ℕ, suc, _+_, _*_, _≤_, _<_}
 use native.Mathlib.Omega.{arith}
 use lib.ListN.{length, getD, length-append}
-use Rattle.language.specs.Tree.{Class, methods-lines, class-lines, classes-lines}
+use Rattle.language.specs.Tree.{Class, class-lines, classes-lines}
 use Rattle.language.specs.World.{World}
 use Rattle.language.specs.Program.{world}
 use Rattle.language.specs.Layout.{EachClass, Run, methods-from-row}
-use Rattle.language.proofs.Lines.{run-unique}
-use Rattle.layout.specs.HeadingRuns.{fields-run, classes-first}
 use Rattle.plain.specs.Numbers.{most-numbers, field-lines, methods-numbers, class-numbers}
 use Rattle.plain.specs.Numbers.{classes-numbers}
 use Rattle.plain.specs.Emission.{Written, Emitted, SomeFieldLines, FieldsWritten, SomeMethods}
@@ -18,7 +16,7 @@ use Rattle.plain.specs.Emission.{SomeClass, SomeClasses, MethodsEmitted,
 use Rattle.plain.specs.Tasks.{MethodsTask, ClassTask, ClassesTask}
 use Rattle.plain.proofs.Writing.{written-none, written-then, whole}
 use Rattle.plain.proofs.Lines.{fields-length}
-use Rattle.plain.proofs.Standing.{class-positive, class-end, no-class, class-stands, each-class-stands}
+use Rattle.plain.proofs.Standing as standing
 
 class-length : (W : World) (k : ℕ) (c : Class)
     → length (class-numbers W k c) ≡ 4 + 4 * length (c .fields) + length (methods-numbers W k (c .methods))
@@ -31,57 +29,53 @@ class-length W k c =
     )
 
 module _ {R T M C : List ℕ} {at place : ℕ} where
-  class-runs : {P : List Class} {E : List ℕ} {k : ℕ} (c : Class) → ClassTask P E k c R T M C at place
-      → Run R 70 (at + 1) (length (c .fields))
-  class-runs {P} {E} c t = fields-run (class-stands P E R C c (t .ready)) (t .after)
-
-  class-methods : {P : List Class} {E : List ℕ} {k : ℕ} (c : Class) → ClassTask P E k c R T M C at place
-      → (r q : ℕ) → r ≡ methods-from-row at c
+  class-methods : {P : List Class} {E : List ℕ} {k : ℕ} (c : Class) (cs : List Class)
+      → ClassTask P E k c cs R T M C at place → (r q : ℕ) → r ≡ methods-from-row at c
       → q ≡ place + 4 + 4 * length (c .fields) → MethodsTask P E k (c .methods) R T M C r q
-  unfolding class-lines
-  class-methods {P} {E} {k} c t r q z y =
-      let a : at + (1 + length (c .fields) + methods-lines (c .methods))
-      ≡ methods-from-row at c + methods-lines (c .methods) = omega arith in
-      let w = t .after in
+  class-methods {P} {E} {k} c cs t r q z y =
       let f : q + length (methods-numbers (world P) k (c .methods)) ≤ most-numbers =
       omega (arith, y, t .fits, class-length (world P) k c) in rw z (record {
         lent = t .lent;
-        methods = t .ready .methods;
-        after = rw a at w;
+        stand = standing.class-methods c cs (t .stand);
+        bodies = t .bodies;
         fits = f;
       })
 
   pub class-known : SomeClass R T M C at place
       → (at * 4 + 3 < length R) × (at < 60000) × (getD R (at * 4 + 2) 0 < 65536) × (place + 4 ≤ most-numbers)
-  class-known x = let r = x .task .ready .line .within in (
-    r,
-    omega (arith, r, x .task .lent .short),
-    x .task .lent .small (at * 4 + 2),
+  unfolding EachClass
+  class-known x = let l = x .task .stand .classes .0 .line in (
+    l .within,
+    omega (arith, l .within, x .task .stand .short),
+    omega (arith, l .second, standing.each-head (x .task .stand .in-form) .0 .super),
     omega (arith, x .task .fits, class-length (world (x .P)) (x .k) (x .c)),
   )
 
   pub class-run : SomeClass R T M C at place → (n : ℕ) × Run R 70 (at + 1) n
-  class-run x = (length (x .c .fields), class-runs (x .c) (x .task))
+  class-run x = (length (x .c .fields), standing.class-runs (x .c) (x .cs) (x .task .stand))
 
   module _ {n : ℕ} (v : Run R 70 (at + 1) n) where
     pub class-fields : (x : SomeClass R T M C at place) (p : ℕ) → p ≡ place + 4
         → SomeFieldLines R (at + 1) n × (p + 4 * n ≤ most-numbers)
-    class-fields x p y = let e = run-unique v (class-runs (x .c) (x .task)) in (
-      record { fs = x .c .fields; rows = x .task .ready .fields; counted = sym e },
+    unfolding EachClass
+    class-fields x p y = let e = standing.class-counted (x .c) (x .cs) (x .task .stand) v in (
+      record { fs = x .c .fields; rows = x .task .stand .classes .0 .fields; counted = sym e },
       omega (arith, e, y, x .task .fits, class-length (world (x .P)) (x .k) (x .c)),
     )
 
     module _ {O O₁ O₂ : List ℕ} {p q a : ℕ} (w : Written (67 ∷ 0 ∷ a ∷ 0 ∷ []) O O₁ place p)
         (f : FieldsWritten R (at + 1) n O₁ O₂ p q) where
-      class-wrote : {P : List Class} {E : List ℕ} {k : ℕ} (c : Class) → ClassTask P E k c R T M C at place
+      class-wrote : {P : List Class} {E : List ℕ} {k : ℕ} (c : Class) (cs : List Class)
+          → ClassTask P E k c cs R T M C at place
           → (n ≡ length (c .fields)) × Written (field-lines (c .fields)) O₁ O₂ p q
           × MethodsTask P E k (c .methods) R T M C (at + 1 + n) q
-      class-wrote c t =
-          let e = run-unique v (class-runs c t) in
-          let g = f .each (c .fields) (t .ready .fields) (sym e) in (
+      unfolding EachClass
+      class-wrote c cs t =
+          let e = standing.class-counted c cs (t .stand) v in
+          let g = f .each (c .fields) (t .stand .classes .0 .fields) (sym e) in (
             e,
             g,
-            class-methods c t (at + 1 + n) q (omega (arith, e))
+            class-methods c cs t (at + 1 + n) q (omega (arith, e))
                 (omega (arith, g .ended, w .ended, fields-length (c .fields))),
           )
 
@@ -92,16 +86,16 @@ module _ {R T M C : List ℕ} {at place : ℕ} where
             E = x .E;
             k = x .k;
             ms = x .c .methods;
-            task = class-wrote (x .c) (x .task) .2;
+            task = class-wrote (x .c) (x .cs) (x .task) .2;
           }
 
       pub class-done : {O₃ : List ℕ} {p₃ b₃ : ℕ} → a ≡ getD R (at * 4 + 2) 0 + 2
           → MethodsEmitted R T M C O₂ O₃ (at + 1 + n) q p₃ b₃ → ClassEmitted R T M C O O₃ at place p₃ b₃
-      unfolding class-numbers class-lines
+      unfolding EachClass class-numbers class-lines
       class-done {O₃} {p₃} {b₃} h o = record {
-        each = λ P E k c t.
-            let d = class-wrote c t in let e = o .each P E k (c .methods) (d .2) in
-            let u : a ≡ c .super + 2 = omega (arith, h, t .ready .line .second) in
+        each = λ P E k c cs t.
+            let d = class-wrote c cs t in let e = o .each P E k (c .methods) (d .2) in
+            let u : a ≡ c .super + 2 = omega (arith, h, t .stand .classes .0 .line .second) in
             whole (written-then w (written-then (d .1) (e .written))) (rw u refl)
             (omega (arith, e .passed, d .0));
       }
@@ -109,7 +103,7 @@ module _ {R T M C : List ℕ} {at place : ℕ} where
 -- classes: the first, and the rest
 module _ {P : List Class} {E : List ℕ} {k : ℕ} {R T M C : List ℕ} {at place : ℕ} where
   class-first : (c : Class) (cs : List Class) → ClassesTask P E k (c ∷ cs) R T M C at place
-      → ClassTask P E k c R T M C at place
+      → ClassTask P E k c cs R T M C at place
   unfolding EachClass classes-numbers
   class-first c cs t =
       let f : place + length (class-numbers (world P) k c) ≤ most-numbers
@@ -119,18 +113,16 @@ module _ {P : List Class} {E : List ℕ} {k : ℕ} {R T M C : List ℕ} {at plac
         length-append (class-numbers (world P) k c) (classes-numbers (world P) (suc k) cs),
       ) in record {
         lent = t .lent;
-        ready = t .classes .0;
-        after = class-end R E c cs k at (each-class-stands P E R C (c ∷ cs) k at (t .classes)) (t .start);
+        stand = t .stand;
+        bodies = t .bodies .0;
         fits = f;
       }
 
   class-rest : (c : Class) (cs : List Class) → ClassesTask P E k (c ∷ cs) R T M C at place → (p b : ℕ)
       → p ≡ place + length (class-numbers (world P) k c)
       → b ≡ at + class-lines c → ClassesTask P E (suc k) cs R T M C b p
-  unfolding EachClass classes-numbers classes-lines
+  unfolding EachClass classes-numbers
   class-rest c cs t p b z y =
-      let a : at + (class-lines c + classes-lines cs) ≡ at + class-lines c + classes-lines cs = omega arith in
-      let w = t .start in
       let f : p + length (classes-numbers (world P) (suc k) cs) ≤ most-numbers
       = omega (
         arith,
@@ -140,17 +132,15 @@ module _ {P : List Class} {E : List ℕ} {k : ℕ} {R T M C : List ℕ} {at plac
       ) in
       rw y (record {
         lent = t .lent;
-        classes = t .classes .1;
-        start = rw a at w;
+        stand = standing.class-rest c cs (t .stand) _ refl;
+        bodies = t .bodies .1;
         fits = f;
       })
 
 module _ {R T M C : List ℕ} {at place : ℕ} where
   pub classes-known : SomeClasses R T M C at place → (at * 4 + 3 < length R) × (at < 60000)
-  classes-known x =
-      let h = each-class-stands (x .P) (x .E) R C (x .cs) (x .k) at (x .task .classes) in
-      let r = classes-first R (x .E) (x .cs) (x .k) at h (x .task .start) .within in
-      (r, omega (arith, r, x .task .lent .short))
+  classes-known x = let h = standing.class-known (record { k = x .k; cs = x .cs; stand = x .task .stand }) in
+      (h .0, h .1)
 
   pub classes-end : {O : List ℕ} → getD R (at * 4) 0 ≢ 67 → ClassesEmitted R T M C O O at place place at
   unfolding EachClass classes-numbers classes-lines
@@ -159,23 +149,23 @@ module _ {R T M C : List ℕ} {at place : ℕ} where
       go : (P : List Class) (E : List ℕ) (k : ℕ) (cs : List Class) → ClassesTask P E k cs R T M C at place
           → Emitted (classes-numbers (world P) k cs) (classes-lines cs) O O place at place at
       go P E k [] t = record { written = written-none; passed = omega arith }
-      go P E k (c ∷ cs) t = absurd (h (t .classes .0 .line .letter))
+      go P E k (c ∷ cs) t = absurd (h (t .stand .classes .0 .line .letter))
 
   with-class : {D : Type 0} {P : List Class} {E : List ℕ} {k : ℕ} (cs : List Class) → getD R (at * 4) 0 ≡ 67
       → ClassesTask P E k cs R T M C at place
       → ((c : Class) (cs : List Class) → ClassesTask P E k (c ∷ cs) R T M C at place → D) → D
-  with-class [] h t f = absurd (no-class at (t .start) h)
+  with-class [] h t f = absurd (standing.no-class at (t .stand .start) h)
   with-class (c ∷ cs) h t f = f c cs t
 
   pub classes-class : SomeClasses R T M C at place → getD R (at * 4) 0 ≡ 67 → SomeClass R T M C at place
   classes-class y h = with-class (y .cs) h (y .task) λ c cs t.
-      record { P = y .P; E = y .E; k = y .k; c = c; task = class-first c cs t }
+      record { P = y .P; E = y .E; k = y .k; c = c; cs = cs; task = class-first c cs t }
 
   module _ {O O₁ : List ℕ} {p b : ℕ} (o : ClassEmitted R T M C O O₁ at place p b) where
     pub classes-rest : SomeClasses R T M C at place → getD R (at * 4) 0 ≡ 67
         → SomeClasses R T M C b p × (at < b)
     classes-rest y h = with-class (y .cs) h (y .task) λ c cs t. let d =
-        o .each (y .P) (y .E) (y .k) c (class-first c cs t) in (
+        o .each (y .P) (y .E) (y .k) c cs (class-first c cs t) in (
           record {
             P = y .P;
             E = y .E;
@@ -183,7 +173,7 @@ module _ {R T M C : List ℕ} {at place : ℕ} where
             cs = cs;
             task = class-rest c cs t p b (d .written .ended) (d .passed);
           },
-          omega (arith, d .passed, class-positive c),
+          omega (arith, d .passed, standing.class-positive c),
         )
 
     pub classes-step : {O₂ : List ℕ} {p₂ b₂ : ℕ} → getD R (at * 4) 0 ≡ 67
@@ -193,7 +183,7 @@ module _ {R T M C : List ℕ} {at place : ℕ} where
       where
         go : (P : List Class) (E : List ℕ) (k : ℕ) (cs : List Class) → ClassesTask P E k cs R T M C at place
             → Emitted (classes-numbers (world P) k cs) (classes-lines cs) O O₂ place at p₂ b₂
-        go P E k [] t = absurd (no-class at (t .start) h)
-        go P E k (c ∷ cs) t = let d = o .each P E k c (class-first c cs t) in let e =
+        go P E k [] t = absurd (standing.no-class at (t .stand .start) h)
+        go P E k (c ∷ cs) t = let d = o .each P E k c cs (class-first c cs t) in let e =
             v .each P E (suc k) cs (class-rest c cs t p b (d .written .ended) (d .passed)) in
             whole (written-then (d .written) (e .written)) refl (omega (arith, d .passed, e .passed))

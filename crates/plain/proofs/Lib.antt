@@ -3,6 +3,8 @@ pub mod Lines
 pub mod Numbers
 pub mod Translated
 pub mod Shapes
+pub mod Typed
+pub mod Tabled
 pub mod Tasks
 pub mod Nodes
 pub mod Arms
@@ -15,8 +17,5 @@ pub mod Methods
 pub mod Standing
 pub mod Classes
 pub mod Programs
-pub mod Accepted
-pub mod Tabled
-pub mod Sizes
 pub mod Walks
 pub mod Answers

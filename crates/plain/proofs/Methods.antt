@@ -13,19 +13,21 @@ use Rattle.language.specs.World.{World}
 use Rattle.language.specs.Translation.{plain-type, plain-method, plain-body, variables}
 use Rattle.language.specs.Program.{world}
 use Rattle.language.specs.Environment.{method-environment}
+use Rattle.language.specs.Limits.{Most}
+use Rattle.language.specs.WellFormed.{TypeInForm, Each, each-nil, each-cons, MethodInForm}
 use Rattle.language.specs.Layout.{EachMethod, Run, body-row}
-use Rattle.plain.specs.Numbers.{most-numbers, plain-number, type-lines, Proper, ProperAll, lines-of}
+use Rattle.plain.specs.Numbers.{most-numbers, plain-number, type-lines, lines-of}
 use Rattle.plain.specs.Numbers.{tree-numbers, method-numbers, node-numbers, methods-numbers}
 use Rattle.plain.specs.Emission.{Written, TypesWritten, SomeTypes, SomeBody, BodyEmitted, SomeMethod}
 use Rattle.plain.specs.Emission.{MethodEmitted, Emitted, SomeMethods, MethodsEmitted}
 use Rattle.plain.specs.Tasks.{MethodTask, MethodsTask}
-use Rattle.layout.specs.HeadingRuns.{methods-first}
 use Rattle.layout.specs.Walks.{MethodStanding}
 use Rattle.layout.proofs.Walks.{parameters-count, effects-count}
 use Rattle.plain.proofs.Writing.{written-none, written-then, whole}
-use Rattle.plain.proofs.Numbers.{lines-append}
+use Rattle.plain.proofs.Numbers.{lines-append, plain-told}
 use Rattle.plain.proofs.Lines.{types-length}
-use Rattle.plain.proofs.Standing.{lines-positive, no-method, each-stands}
+use Rattle.plain.proofs.Standing.{each-head, lines-positive, no-method, stand-rest, stand-known}
+use Rattle.plain.proofs.Standing.{stand-here}
 
 module _ {R T M C : List ℕ} {at body place count : ℕ} where
   pub method-known : SomeMethod R T M C at body place count
@@ -87,25 +89,30 @@ unfolding lines-of numbers-of
 lines-cons l a b rs = refl
 
 -- P lines of plain types
-parameter-lines : (ts : List DeclaredType) → ProperAll ts
+parameter-lines : (ts : List DeclaredType) → Each TypeInForm ts
     → lines-of (map (λ t. written P-parameter (type-number t) 0) (map plain-type ts)) ≡ type-lines 80 ts
-unfolding lines-of numbers-of type-lines ProperAll Proper
-parameter-lines [] p = refl
-parameter-lines (t ∷ ts) p = rw (parameter-lines ts (p .1), p .0)
+unfolding lines-of numbers-of type-lines
+parameter-lines [] each-nil = refl
+parameter-lines (t ∷ ts) (each-cons i is) = rw (parameter-lines ts is, plain-told t i)
 
 -- the numbers of a plain method are those that are emitted
-pub plain-methods : (W : World) (owner : ℕ) (m : Declaration) (ms : List Declaration) → Proper (m .result)
-    → ProperAll (m .parameters)
+pub plain-methods : {most : Most} (W : World) (owner : ℕ) (m : Declaration) (ms : List Declaration)
+    → MethodInForm most m
     → lines-of (flatten-methods (map (plain-method W owner) (m ∷ ms))) ≡ method-numbers W owner m
     ++ lines-of (flatten-methods (map (plain-method W owner) ms))
-unfolding flatten-methods method-numbers tree-numbers Proper
-plain-methods W owner m ms r p =
+unfolding flatten-methods method-numbers tree-numbers
+plain-methods W owner m ms i =
     let ps = map (λ (t : DeclaredType). written P-parameter (type-number t) 0)
     (map plain-type (m .parameters)) in
     let b = flatten (plain-body W owner (m .parameters) (m .body)) in
     let d = flatten-methods (map (plain-method W owner) ms) in
     lines-cons M-method (type-number (plain-type (m .result))) (m .name) (ps ++ (b ++ d))
-    ∙ rw (lines-append ps (b ++ d), lines-append b d, parameter-lines (m .parameters) p, ← r)
+    ∙ rw (
+      lines-append ps (b ++ d),
+      lines-append b d,
+      parameter-lines (m .parameters) (i .parameters),
+      ← plain-told (m .result) (i .result),
+    )
     (ap (λ (l : List ℕ). 77 ∷ plain-number (type-number (m .result)) ∷ m .name ∷ 0 ∷ l)
     (sym (append-assoc (type-lines 80 (m .parameters)) (lines-of b) (lines-of d))))
 
@@ -132,10 +139,10 @@ module _ {P : List Class} {E : List ℕ} {k : ℕ} {R T M C : List ℕ} {at plac
       × MethodTask P E k m R T M C at (at + 1 + p + x) place
   unfolding EachMethod methods-numbers
   method-first m ms t p x v u =
-      let y = t .methods .0 in
-      let a = parameters-count (y .rows) (y .in-form) p v in
-      let z : at + 1 + p + x ≡ body-row at m =
-      omega (arith, a, effects-count (y .rows) (y .in-form) p v x u) in
+      let y = t .stand .methods .0 in
+      let i = each-head (t .stand .in-form) .0 in
+      let a = parameters-count y i p v in
+      let z : at + 1 + p + x ≡ body-row at m = omega (arith, a, effects-count y i p v x u) in
       let f : place + 4 + 4 * length (m .parameters) + length
       (node-numbers (world P) (m .body) (method-environment k (m .parameters))
       (variables (m .parameters))) ≤ most-numbers
@@ -148,14 +155,14 @@ module _ {P : List Class} {E : List ℕ} {k : ℕ} {R T M C : List ℕ} {at plac
         a,
         z,
         record {
-          row = y .rows .line;
-          parameters = y .rows .parameters;
+          row = y .line;
+          parameters = y .parameters;
           task = rw z (record {
             lent = t .lent;
-            encoded = y .rows .body;
-            looks = y .looks;
-            ready = y .ready;
-            scope = omega (arith, y .in-form .few);
+            encoded = y .body;
+            looks = t .bodies .0 .looks;
+            typed = t .bodies .0 .typed;
+            scope = omega (arith, i .few);
             low = omega arith;
             fits = f;
           });
@@ -165,11 +172,8 @@ module _ {P : List Class} {E : List ℕ} {k : ℕ} {R T M C : List ℕ} {at plac
   method-rest : (m : Declaration) (ms : List Declaration) → MethodsTask P E k (m ∷ ms) R T M C at place
       → (p b : ℕ) → p ≡ place + length (method-numbers (world P) k m)
       → b ≡ at + method-lines m → MethodsTask P E k ms R T M C b p
-  unfolding EachMethod methods-numbers methods-lines
+  unfolding EachMethod methods-numbers
   method-rest m ms t p b z y =
-      let a : at + (method-lines m + methods-lines ms) ≡ at + method-lines m + methods-lines ms =
-      omega arith in
-      let w = t .after in
       let f : p + length (methods-numbers (world P) k ms) ≤ most-numbers
       = omega (
         arith,
@@ -178,17 +182,14 @@ module _ {P : List Class} {E : List ℕ} {k : ℕ} {R T M C : List ℕ} {at plac
         length-append (method-numbers (world P) k m) (methods-numbers (world P) k ms),
       ) in rw y (record {
         lent = t .lent;
-        methods = t .methods .1;
-        after = rw a at w;
+        stand = stand-rest m ms (t .stand) _ refl;
+        bodies = t .bodies .1;
         fits = f;
       })
 
 module _ {R T M C : List ℕ} {at place : ℕ} where
   pub methods-known : SomeMethods R T M C at place → (at * 4 + 3 < length R) × (at < 60000)
-  methods-known x =
-      let h = each-stands (x .P) (x .E) R C (x .ms) (x .k) at (x .task .methods) in
-      let r = methods-first R (x .E) (x .ms) (x .k) at h (x .task .after) .0 in
-      (r, omega (arith, r, x .task .lent .short))
+  methods-known x = stand-known (record { k = x .k; ms = x .ms; stand = x .task .stand })
 
   pub methods-end : {O : List ℕ} → getD R (at * 4) 0 ≢ 77 → MethodsEmitted R T M C O O at place place at
   unfolding EachMethod methods-numbers methods-lines
@@ -198,19 +199,17 @@ module _ {R T M C : List ℕ} {at place : ℕ} where
           → MethodsTask P E k ms R T M C at place
           → Emitted (methods-numbers (world P) k ms) (methods-lines ms) O O place at place at
       go P E k [] t = record { written = written-none; passed = omega arith }
-      go P E k (m ∷ ms) t = absurd (h (t .methods .0 .rows .line .letter))
+      go P E k (m ∷ ms) t = absurd (h (t .stand .methods .0 .line .letter))
 
   with-method : {D : Type 0} {P : List Class} {E : List ℕ} {k : ℕ} (ms : List Declaration)
       → getD R (at * 4) 0 ≡ 77 → MethodsTask P E k ms R T M C at place
       → ((m : Declaration) (ms : List Declaration) → MethodsTask P E k (m ∷ ms) R T M C at place → D) → D
-  with-method [] h t f = absurd (no-method at (t .after) h)
+  with-method [] h t f = absurd (no-method at (t .stand .after) h)
   with-method (m ∷ ms) h t f = f m ms t
 
   pub methods-here : (y : SomeMethods R T M C at place) → getD R (at * 4) 0 ≡ 77
       → MethodStanding R (y .E) at
-  unfolding EachMethod
-  methods-here y h = with-method (y .ms) h (y .task) λ m ms t. let x = t .methods .0 in
-      record { method = m; at = x .rows; in-form = x .in-form; short = t .lent .short }
+  methods-here y h = stand-here h (record { k = y .k; ms = y .ms; stand = y .task .stand })
 
   module _ {p x : ℕ} (v : Run R 80 (at + 1) p) (u : Run R 88 (at + 1 + p) x) where
     pub methods-method : SomeMethods R T M C at place → getD R (at * 4) 0 ≡ 77
@@ -247,7 +246,7 @@ module _ {R T M C : List ℕ} {at place : ℕ} where
           go : (P : List Class) (E : List ℕ) (k : ℕ) (ms : List Declaration)
               → MethodsTask P E k ms R T M C at place
               → Emitted (methods-numbers (world P) k ms) (methods-lines ms) O O₂ place at p₂ b₂
-          go P E k [] t = absurd (no-method at (t .after) h)
+          go P E k [] t = absurd (no-method at (t .stand .after) h)
           go P E k (m ∷ ms) t = let d = method-emitted m ms t in let e =
               w .each P E k ms (method-rest m ms t r b (d .0 .ended) (d .1)) in
               whole (written-then (d .0) (e .written)) refl (omega (arith, d .1, e .passed))

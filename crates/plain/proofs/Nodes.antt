@@ -13,38 +13,31 @@ use Rattle.language.specs.Environment.{Environment}
 use Rattle.language.specs.Typing.{type-of}
 use Rattle.language.specs.Translation.{Shape, typed-or}
 use Rattle.language.specs.World.{World}
-use Rattle.language.specs.Encoded.{EncodedAll}
-use Rattle.language.specs.LookupClasses.{LooksUpAll}
+use Rattle.language.specs.Encoded.{Encoded, EncodedAll}
+use Rattle.language.specs.LookupClasses.{LooksUp, LooksUpAll}
 use Rattle.language.proofs.Tables.{size-positive}
 use Rattle.plain.specs.Numbers.{most-numbers, node-numbers, nodes-numbers, arguments-numbers, Nodes}
 use Rattle.plain.specs.Numbers.{none, also, how-many, rows-taken, nodes-of}
 use Rattle.plain.specs.Emission.{Written, Emitted, SomeNode, SomeNodes, SomeArguments, NodeEmitted}
 use Rattle.plain.specs.Emission.{NodesEmitted, ArgumentsEmitted}
-use Rattle.plain.specs.Tasks.{NodeTask, NodesTask, EncodedNodes, LooksUpNodes, ReadyNodes, ReadyAll}
+use Rattle.plain.specs.Tasks.{NodeTask, NodesTask, EachNode}
 use Rattle.plain.proofs.Writing.{written-none, written-then, whole}
 use Rattle.plain.proofs.Tasks.{node-row}
 
 -- the nodes of a block or of a call's arguments
 pub encoded-nodes : (W : World) (R E : List ℕ) (es : Exprs) (γ : Environment) (r : ℕ) → EncodedAll R E es r
-    → EncodedNodes R E (nodes-of W es γ) r
-unfolding EncodedAll EncodedNodes nodes-of
+    → EachNode (λ e γ r. Encoded R E e r) (nodes-of W es γ) r
+unfolding EncodedAll EachNode nodes-of
 encoded-nodes W R E nil γ r h = tt
 encoded-nodes W R E (cons e es) γ r h =
     (h .0, encoded-nodes W R E es (typed-or (type-of W e 0 γ) .slots) (r + size e) (h .1))
 
 pub looks-nodes : (W : World) (C : List ℕ) (es : Exprs) (γ : Environment) (r : ℕ) → LooksUpAll W C es γ r
-    → LooksUpNodes W C (nodes-of W es γ) r
-unfolding LooksUpAll LooksUpNodes nodes-of
+    → EachNode (λ e γ r. LooksUp W C e γ r) (nodes-of W es γ) r
+unfolding LooksUpAll EachNode nodes-of
 looks-nodes W C nil γ r h = tt
 looks-nodes W C (cons e es) γ r h =
     (h .0, looks-nodes W C es (typed-or (type-of W e 0 γ) .slots) (r + size e) (h .1))
-
-pub ready-nodes : (P : List Class) (es : Exprs) (γ : Environment) (v : ℕ) → ReadyAll P es γ v
-    → ReadyNodes P (nodes-of (world P) es γ) v
-unfolding ReadyAll ReadyNodes nodes-of
-ready-nodes P nil γ v h = tt
-ready-nodes P (cons e es) γ v h =
-    (h .0, ready-nodes P es (typed-or (type-of (world P) e 0 γ) .slots) v (h .1))
 
 pub nodes-counted : (W : World) (es : Exprs) (γ : Environment) → how-many (nodes-of W es γ) ≡ count es
 unfolding how-many nodes-of count
@@ -62,26 +55,26 @@ module _ {P : List Class} {E : List ℕ} {γ : Environment} {sh : Shape} {R T M 
   first-task : NodesTask P E (also e γ es) sh R T M C S at vars next place → (p : ℕ) → place ≤ p
       → p + length (node-numbers (world P) e γ sh) ≤ most-numbers
       → NodeTask P E e γ sh R T M C S at vars next p
-  unfolding EncodedNodes LooksUpNodes ReadyNodes
+  unfolding EachNode
   first-task t p h f =
       record {
         setting = t .setting;
         encoded = t .encoded .0;
         looks = t .looks .0;
-        ready = t .ready .0;
+        typed = t .typed .0;
         low = omega (arith, t .low, h);
         fits = f;
       }
 
   pub rest-task : NodesTask P E (also e γ es) sh R T M C S at vars next place → (p b : ℕ) → place ≤ p
       → b ≡ at + size e → NodesTask P E es sh R T M C S b vars next p
-  unfolding EncodedNodes LooksUpNodes ReadyNodes
+  unfolding EachNode
   rest-task t p b h k =
       rw k (record {
         setting = t .setting;
         encoded = t .encoded .1;
         looks = t .looks .1;
-        ready = t .ready .1;
+        typed = t .typed .1;
         low = omega (arith, t .low, h);
       })
 

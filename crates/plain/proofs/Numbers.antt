@@ -1,18 +1,32 @@
 -- Laws of the numbers of plain trees: one for each constructor, and of copied fields and slots read. Assumes
 -- nothing.
 use mathlib.Core.Path.{_≡_, refl, _∙_}
+use mathlib.Core.Bool.{Bool, true, false, cond}
 use mathlib.Core.List.{List, [], _∷_, _++_, map, append-nil}
 use Prim.Native.Nat.{ℕ, suc, _+_}
 use native.Mathlib.Omega.{arith}
+use lib.Dec.{eqb}
 use lib.ListN.{length}
+use Rattle.language.specs.Limits.{bool-number, identity-class}
 use Rattle.language.specs.Rows.{Record, written, V-local, numbers-of}
-use Rattle.language.specs.Tree.{DeclaredType, type-number, Expr, literal, literal-true, literal-false}
+use Rattle.language.specs.Tree.{DeclaredType, bool, class, type-number, Expr, literal, literal-true}
+use Rattle.language.specs.Tree.{literal-false}
 use Rattle.language.specs.Tree.{literal-null}
 use Rattle.language.specs.Tree.{slot, is-null, get, cast, new, assign, set, call, choose, block, Exprs, nil}
 use Rattle.language.specs.Tree.{cons, count, Field, flatten, flattens}
+use Rattle.language.specs.WellFormed.{TypeInForm, Each, each-nil, each-cons}
 use Rattle.language.specs.Translation.{plain-type, copies, reads}
 use Rattle.plain.specs.Numbers.{lines-of, tree-numbers, trees-numbers, local-lines, copy-lines}
-use Rattle.plain.specs.Numbers.{type-lines, read-lines, Proper, ProperAll}
+use Rattle.plain.specs.Numbers.{type-lines, read-lines, plain-number}
+
+-- The number of a type that rows can hold tells its plain type: no class has the number of bool.
+pub plain-told : (t : DeclaredType) → TypeInForm t → plain-number (type-number t) ≡ type-number (plain-type t)
+plain-told bool i = refl
+plain-told (class c) i = go (eqb c bool-number) (i .back)
+  where
+    go : (b : Bool) → cond b bool (class c) ≡ class c → cond b bool-number identity-class ≡ identity-class
+    go true e = let z : _≡_ {A = ℕ} 0 1 = cc in absurd (omega (arith, z))
+    go false e = refl
 
 pub lines-append : (a b : List Record) → lines-of (a ++ b) ≡ lines-of a ++ lines-of b
 unfolding lines-of numbers-of
@@ -93,10 +107,12 @@ unfolding local-lines lines-of numbers-of
 n-locals t ts = refl
 
 -- V lines of plain types
-pub n-types : (ts : List DeclaredType) → ProperAll ts → local-lines (map plain-type ts) ≡ type-lines 86 ts
-unfolding type-lines ProperAll Proper
-n-types [] p = n-locals-none
-n-types (t ∷ ts) p = n-locals (plain-type t) (map plain-type ts) ∙ rw (n-types ts (p .1), p .0)
+pub n-types : (ts : List DeclaredType) → Each TypeInForm ts
+    → local-lines (map plain-type ts) ≡ type-lines 86 ts
+unfolding type-lines
+n-types [] each-nil = n-locals-none
+n-types (t ∷ ts) (each-cons i is) = n-locals (plain-type t) (map plain-type ts)
+    ∙ rw (n-types ts is, plain-told t i)
 
 pub two : (c : ℕ) → c + 2 ≡ suc (suc c)
 two c = omega arith

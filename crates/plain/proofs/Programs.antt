@@ -1,48 +1,37 @@
 -- Laws of the whole program: its classes and its start block, and that what is written are the numbers of its
 -- plain program. Assumes nothing.
 use mathlib.Core.Path.{_≡_, refl, sym, ap, _∙_}
-use mathlib.Core.Bool.{Bool, true, false, cond}
 use mathlib.Core.List.{List, [], _∷_, _++_, map, append-assoc}
 use Prim.Native.Nat.{ℕ, suc, _+_, _≤_, _<_}
 use native.Mathlib.Omega.{arith}
-use lib.Dec.{eqb}
-use lib.ListN.{length, length-append}
-use Rattle.language.specs.Limits.{of-check, bool-number, identity-class}
-use Rattle.language.specs.Rows.{Letter, code, Record, written, numbers-of, C-class, F-field, S-start}
-use Rattle.language.specs.Tree.{DeclaredType, bool, class, type-number, Field, Declaration, Class, Program}
+use lib.ListN.{length, length-append, length-map}
+use Rattle.language.specs.Limits.{of-check}
+use Rattle.language.specs.Rows.{Letter, code, Record, written, row-of, numbers-of, C-class, F-field, S-start}
+use Rattle.language.specs.Tree.{type-number, Field, Declaration, Class, Program}
 use Rattle.language.specs.Tree.{classes-lines, flatten, flatten-methods, flatten-classes, flatten-program}
 use Rattle.language.specs.World.{World}
 use Rattle.language.specs.Program.{world}
-use Rattle.language.specs.Environment.{method-environment, start-environment}
-use Rattle.language.specs.LookupClasses.{LooksUp}
+use Rattle.language.specs.Environment.{start-environment}
 use Rattle.language.specs.WellFormed.{TypeInForm, Each, each-nil, each-cons, FieldInForm, MethodInForm}
 use Rattle.language.specs.WellFormed.{ClassInForm, ProgramInForm}
 use Rattle.language.specs.Translation.{plain-field, plain-method, plain-classes, plain-program, translate}
-use Rattle.language.specs.Layout.{EachMethod, EachClass, MethodAt, ClassAt, body-row, methods-from-row}
-use Rattle.plain.specs.Numbers.{most-numbers, Proper, ProperAll, lines-of, tree-numbers, field-lines}
+use Rattle.plain.specs.Numbers.{most-numbers, lines-of, tree-numbers, field-lines}
 use Rattle.plain.specs.Numbers.{node-numbers, method-numbers, methods-numbers, class-numbers}
 use Rattle.plain.specs.Numbers.{classes-numbers, program-numbers}
-use Rattle.plain.specs.Tasks.{Ready, BodyTask, MethodReady, ClassReady, ClassesTask, ProgramTask}
+use Rattle.plain.specs.Tasks.{Lent, BodyTask, ClassesTask, ProgramTask}
 use Rattle.plain.specs.Emission.{Written, SomeBody, BodyEmitted, SomeClasses, ClassesEmitted}
 use Rattle.plain.specs.Emission.{SomeProgram, ProgramWritten}
 use Rattle.plain.proofs.Writing.{written-then, written-as}
-use Rattle.plain.proofs.Numbers.{lines-append}
+use Rattle.theory.proofs.acceptance.Acceptance.{numbers-count}
+use Rattle.theory.proofs.lookups.LookupLaws.{hierarchy}
+use Rattle.theory.proofs.acceptance.Translatable.{TranslatableRows, taken-laws}
+use Rattle.theory.proofs.translation.PlainNames.{small-world}
+use Rattle.theory.proofs.translation.PlainSizes.{program-size}
+use Rattle.layout.specs.HeldLaws.{well, start-typed}
+use Rattle.plain.proofs.Numbers.{lines-append, plain-told}
+use Rattle.plain.proofs.Typed.{typed-body, classes-ready}
+use Rattle.plain.proofs.Standing.{all-stand}
 use Rattle.plain.proofs.Methods.{plain-methods}
-
--- a type that rows can hold is told by its number
-pub proper : (t : DeclaredType) → TypeInForm t → Proper t
-unfolding Proper
-proper bool i = refl
-proper (class c) i = go (eqb c bool-number) (i .back)
-  where
-    go : (b : Bool) → cond b bool (class c) ≡ class c → cond b bool-number identity-class ≡ identity-class
-    go true e = let z : _≡_ {A = ℕ} 0 1 = cc in absurd (omega (arith, z))
-    go false e = refl
-
-pub all-proper : {ts : List DeclaredType} → Each TypeInForm ts → ProperAll ts
-unfolding ProperAll
-all-proper each-nil = tt
-all-proper (each-cons {a} i is) = (proper a i, all-proper is)
 
 -- the numbers of plain fields, methods and classes are those that are emitted
 lines-cons : (l : Letter) (a b : ℕ) (rs : List Record)
@@ -62,9 +51,9 @@ field-types (each-cons i is) = each-cons (i .type) (field-types is)
 plain-fields : (fs : List Field) → Each (λ (f : Field). TypeInForm (f .type)) fs
     → lines-of (map (λ (f : Field). written F-field (type-number (f .type)) (f .name)) (map plain-field fs))
     ≡ field-lines fs
-unfolding lines-of numbers-of field-lines Proper
+unfolding lines-of numbers-of field-lines
 plain-fields [] i = refl
-plain-fields (f ∷ fs) (each-cons i is) = rw (plain-fields fs is, ← proper (f .type) i)
+plain-fields (f ∷ fs) (each-cons i is) = rw (plain-fields fs is, ← plain-told (f .type) i)
 
 module _ (W : World) where
   methods-plain : (k : ℕ) (ms : List Declaration) → Each (MethodInForm of-check) ms
@@ -72,7 +61,7 @@ module _ (W : World) where
   unfolding flatten-methods methods-numbers lines-of numbers-of
   methods-plain k [] i = refl
   methods-plain k (m ∷ ms) (each-cons i is) =
-      plain-methods W k m ms (proper (m .result) (i .result)) (all-proper (i .parameters))
+      plain-methods W k m ms i
       ∙ ap (λ (l : List ℕ). method-numbers W k m ++ l) (methods-plain k ms is)
 
   classes-plain : (k : ℕ) (cs : List Class) → Each (ClassInForm of-check) cs
@@ -128,60 +117,45 @@ program-length p i =
       length-append a ((83 ∷ 0 ∷ 0 ∷ 0 ∷ []) ++ b),
     )
 
--- what is known of each method and of each class, put together
-module _ {p : Program} {E R T M C : List ℕ} (t : ProgramTask p E R T M C) where
-  each-method : (k : ℕ) (ms : List Declaration) (r : ℕ) → EachMethod (λ k m r. MethodAt R E m r) ms k r
-      → EachMethod (λ k m r. LooksUp (world (p .classes)) C (m .body) (method-environment k (m .parameters))
-      (body-row r m)) ms k r
-      → EachMethod (λ k m r. Ready (p .classes) (m .body) (method-environment k (m .parameters))
-      (1 + length (m .parameters))) ms k r
-      → Each (MethodInForm of-check) ms → EachMethod (MethodReady (p .classes) E R C) ms k r
-  unfolding EachMethod
-  each-method k [] r a b c i = tt
-  each-method k (m ∷ ms) r a b c (each-cons i is) = (
-    record { rows = a .0; in-form = i; looks = b .0; ready = c .0 },
-    each-method k ms _ (a .1) (b .1) (c .1) is,
-  )
+-- at most 88 rows for each row of the source, and 4
+plain-fits : (R : List ℕ) (p : Program) → TranslatableRows R p → length (program-numbers p) ≤ most-numbers
+plain-fits R p t =
+    let s = program-size p (t .accepted .well) (small-world p (t .in-form) (taken-laws R p t)) in
+    omega (
+      arith,
+      s,
+      t .in-form .rows,
+      numbers-count (map row-of (flatten-program (plain-program p))),
+      length-map (flatten-program (plain-program p)) row-of,
+    )
 
-  each-class : (k : ℕ) (cs : List Class) (r : ℕ) → EachClass (ClassAt R E) cs k r
-      → EachClass (λ k c r. EachMethod (λ k m r. LooksUp (world (p .classes)) C (m .body)
-      (method-environment k (m .parameters)) (body-row r m))
-      (c .methods) k (methods-from-row r c)) cs k r
-      → EachClass (λ k c r. EachMethod (λ k m r. Ready (p .classes) (m .body)
-      (method-environment k (m .parameters)) (1 + length (m .parameters)))
-      (c .methods) k (methods-from-row r c)) cs k r
-      → Each (ClassInForm of-check) cs → EachClass (ClassReady (p .classes) E R C) cs k r
-  unfolding EachClass
-  each-class k [] r a b c i = tt
-  each-class k (d ∷ ds) r a b c (each-cons i is) = (
-    record {
-      line = a .0 .line;
-      fields = a .0 .fields;
-      methods = each-method k (d .methods) _ (a .0 .methods) (b .0) (c .0) (i .methods);
-    },
-    each-class (suc k) ds _ (a .1) (b .1) (c .1) is,
-  )
+module _ {p : Program} {E R T M C : List ℕ} (t : ProgramTask p E R T M C) where
+  program-lent : Lent (p .classes) E R T M C
+  program-lent = record { start = p .start; A = t .A; F = t .F; held = t .held; beside = t .beside }
+
+  room : 16 + length (classes-numbers (world (p .classes)) 1 (p .classes)) + 4 + length
+      (node-numbers (world (p .classes)) (p .start) start-environment []) ≤ most-numbers
+  room = omega (arith, plain-fits R p (t .taken), program-length p (t .held .headed .here .in-form))
 
   program-classes : (q : ℕ) → q ≡ 16 → ClassesTask (p .classes) E 1 (p .classes) R T M C 0 q
-  program-classes q z =
-      let y : 0 + classes-lines (p .classes) ≡ classes-lines (p .classes) = omega arith in record {
-        lent = t .lent;
-        classes = each-class 1 (p .classes) 0 (t .rows .classes) (t .lookups .methods) (t .ready)
-            (t .rows .in-form .classes);
-        start = rw y (t .rows .start-line);
-        fits = omega (arith, z, t .fits, program-length p (t .rows .in-form));
-      }
+  program-classes q z = record {
+    lent = program-lent;
+    stand = all-stand (t .held .headed .here);
+    bodies = classes-ready (p .classes) (hierarchy (p .classes) (well (t .held) .classes)) C
+        (well (t .held) .classes) (t .taken .in-form .classes) 0 (t .held .looks .methods);
+    fits = omega (arith, z, room);
+  }
 
   program-body : (b q : ℕ) → b ≡ classes-lines (p .classes) + 1
       → q ≡ 16 + length (classes-numbers (world (p .classes)) 1 (p .classes)) + 4
       → BodyTask (p .classes) E (p .start) start-environment [] R T M C b q
   program-body b q z y =
       let f : q + length (node-numbers (world (p .classes)) (p .start) start-environment []) ≤ most-numbers =
-      omega (arith, y, t .fits, program-length p (t .rows .in-form)) in rw z (record {
-        lent = t .lent;
-        encoded = t .rows .start;
-        looks = t .lookups .start;
-        ready = t .start;
+      omega (arith, y, room) in rw z (record {
+        lent = program-lent;
+        encoded = t .held .headed .here .start;
+        looks = t .held .looks .start;
+        typed = typed-body (p .classes) 1 (start-typed (t .held) .3) (t .taken .in-form .start) refl;
         scope = omega arith;
         low = omega (arith, y);
         fits = f;
@@ -204,8 +178,8 @@ module _ {R T M C : List ℕ} where
 
     pub program-room : SomeProgram R T M C → (r + 4 ≤ most-numbers) × (b < 60000)
     program-room x = let d = classes-done (x .task) in (
-      omega (arith, d .2, x .task .fits, program-length (x .p) (x .task .rows .in-form)),
-      omega (arith, d .1, x .task .rows .all, x .task .rows .short),
+      omega (arith, d .2, room (x .task)),
+      omega (arith, d .1, x .task .held .headed .here .all, x .task .held .headed .here .short),
     )
 
     pub program-some-body : {O₃ : List ℕ} {s : ℕ} → SomeProgram R T M C
@@ -229,5 +203,5 @@ module _ {R T M C : List ℕ} where
           let e = u .each (p .classes) E (p .start) start-environment []
           (program-body t (b + 1) s (omega (arith, d .1)) (omega (arith, d .2, v .ended))) refl in
           written-as (written-then w (written-then (d .0) (written-then v (e .written))))
-          (sym (program-plain p (t .rows .in-form)));
+          (sym (program-plain p (t .held .headed .here .in-form)));
     }

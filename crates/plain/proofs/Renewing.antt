@@ -7,12 +7,14 @@ use native.Mathlib.Omega.{arith}
 use lib.ListN.{length, getD, length-append}
 use Rattle.language.specs.Tree.{Field}
 use Rattle.language.specs.Program.{world}
+use Rattle.layout.specs.HeldLaws.{few-fields, roots}
 use Rattle.plain.specs.Numbers.{most-numbers, copy-lines, renew-head, renew-lines, change-head}
 use Rattle.plain.specs.Numbers.{change-lines, head-length}
 use Rattle.plain.specs.Emission.{Written, SomeCopies, SomeFields, CopiesWritten, RenewWritten}
 use Rattle.plain.specs.Emission.{SomeChange, ChangeWritten}
 use Rattle.plain.proofs.Writing.{written-then, written-as}
 use Rattle.plain.proofs.Lines.{copies-length}
+use Rattle.plain.proofs.Tabled.{fields-tabled}
 
 renew-length : (n d r : ℕ) (fs : List Field) → length (renew-lines n d r fs) ≡ 56 + 16 * length fs
 unfolding renew-lines
@@ -21,19 +23,19 @@ renew-length n d r fs =
 
 module _ {R T : List ℕ} {place root : ℕ} where
   pub renew-in : SomeCopies R T place root → root * 576 + 576 ≤ length T
-  renew-in x = omega (arith, x .members .tables .long, x .declared)
+  renew-in x = omega (arith, x .lent .held .headed .classes .long, x .declared)
 
 -- the root has as many fields as were read
 module _ {R T : List ℕ} {place root count : ℕ} (e : count ≡ getD T (root * 576 + 515) 0) where
   pub renew-known : SomeCopies R T place root → (count ≤ 17) × (place + 16 * count ≤ most-numbers)
-  renew-known x = let c = e ∙ x .members .tables .counts root (x .declared) in
-      (omega (arith, c, x .members .few root (x .declared)), omega (arith, c, x .fits))
+  renew-known x = let c = e ∙ x .lent .held .headed .classes .counts root (x .declared) in
+      (omega (arith, c, few-fields (x .lent .held .headed) root), omega (arith, c, x .fits))
 
   pub renew-fields : SomeCopies R T place root → SomeFields R T (root * 576 + 520) count
   renew-fields x = record {
     fs = world (x .P) .fields root;
-    rows = x .members .fields root (x .declared);
-    counted = sym (e ∙ x .members .tables .counts root (x .declared));
+    rows = fields-tabled (x .lent) root (x .declared);
+    counted = sym (e ∙ x .lent .held .headed .classes .counts root (x .declared));
   }
 
   pub copies-ended : {O O′ : List ℕ} {s p q : ℕ} → SomeCopies R T place root
@@ -46,10 +48,11 @@ module _ {R T : List ℕ} {place root count : ℕ} (e : count ≡ getD T (root *
       → RenewWritten R T n d root O O₃ place r
   unfolding renew-lines
   renew-done {O} {O₁} {O₂} {O₃} {n} {d} h m l = record {
-    each = λ P x k.
-        let c = e ∙ x .tables .counts root k in
-        let h′ : Written (renew-head n d root (length (world P .fields root))) O O₁ place _ = rw c at h in
-        written-then h′ (written-then (m .each (world P .fields root) (x .fields root k) (sym c)) l);
+    each = λ x.
+        let fs = world (x .P) .fields root in
+        let c = e ∙ x .lent .held .headed .classes .counts root (x .declared) in
+        let h′ : Written (renew-head n d root (length fs)) O O₁ place _ = rw c at h in
+        written-then h′ (written-then (m .each fs (fields-tabled (x .lent) root (x .declared)) (sym c)) l);
   }
 
 -- ---- the whole
@@ -64,27 +67,42 @@ head-other {s} h = go s h
     go zero h = absurd (h refl)
     go (suc s) h = refl
 
+head-counted : (s n d r : ℕ) → length (change-head s n d r) ≡ head-length s
+head-counted zero n d r = refl
+head-counted (suc s) n d r = refl
+
 module _ {R T : List ℕ} {place s d : ℕ} where
   pub change-root : SomeChange R T place s d
       → (d * 576 + 576 ≤ length T) × (place + head-length s + 60 ≤ most-numbers)
-  change-root x = (omega (arith, x .members .tables .long, x .declared), omega (arith, x .fits))
+  change-root x = (omega (arith, x .lent .held .headed .classes .long, x .declared), omega (arith, x .fits))
+
+  root-copies : (x : SomeChange R T place s d) (p : ℕ) → p ≡ place + head-length s
+      → SomeCopies R T (p + 56) (world (x .P) .root d)
+  root-copies x p q = record {
+    P = x .P;
+    E = x .E;
+    M = x .M;
+    C = x .C;
+    lent = x .lent;
+    declared = roots (x .lent .held) d (x .declared) .0;
+    fits = omega (arith, x .fits, q);
+  }
 
 -- the root that was read
 module _ {R T : List ℕ} {place s d r : ℕ} (a : r ≡ getD T (d * 576 + 514) 0) where
+  root-read : (x : SomeChange R T place s d) → r ≡ world (x .P) .root d
+  root-read x = a ∙ x .lent .held .headed .classes .roots d (x .declared)
+
   pub change-copies : SomeChange R T place s d → (p h : ℕ) → head-length s ≡ h → p ≡ place + h
       → SomeCopies R T (p + 56) r
-  change-copies x p h e q = rw (a ∙ x .members .tables .roots d (x .declared)) (record {
-    P = x .P;
-    members = x .members;
-    declared = x .root-declared;
-    fits = omega (arith, x .fits, e, q);
-  })
+  change-copies x p h e q = rw (root-read x) (root-copies x p (omega (arith, e, q)))
 
   pub change-after : {O O′ : List ℕ} {n p q h : ℕ} → SomeChange R T place s d → head-length s ≡ h
       → p ≡ place + h → RenewWritten R T n d r O O′ p q → q + 4 ≤ most-numbers
+  unfolding root-copies
   change-after {O} {O′} {n} {p} {q} {h} x e z m =
-      let m′ = rw (a ∙ x .members .tables .roots d (x .declared)) at m in
-      let w = m′ .each (x .P) (x .members) (x .root-declared) in
+      let m′ = rw (root-read x) at m in
+      let w = m′ .each (root-copies x p (omega (arith, e, z))) in
       omega (
         arith,
         w .ended,
@@ -97,13 +115,15 @@ module _ {R T : List ℕ} {place s d r : ℕ} (a : r ≡ getD T (d * 576 + 514) 
   pub change-done : {O O₁ O₂ O₃ : List ℕ} {n p q p′ : ℕ} (xs : List ℕ) → xs ≡ change-head s n d r
       → Written xs O O₁ place p → RenewWritten R T n d r O₁ O₂ p q → Written (73 ∷ n ∷ 0 ∷ 0 ∷ []) O₂ O₃ q p′
       → ChangeWritten R T s n d O O₃ place p′
-  unfolding change-lines
-  change-done xs e h m l = record {
-    each = λ P x k j.
-        let z = a ∙ x .tables .roots d k in
-        let h′ = rw z at (written-as h e) in
+  unfolding change-lines root-copies
+  change-done {n = n} {p = p} xs e h m l = record {
+    each = λ x.
+        let z = root-read x in
+        let w = written-as h e in
+        let h′ = rw z at w in
         let m′ = rw z at m in
-        written-then h′ (written-then (m′ .each P x j) l);
+        let y : p ≡ place + head-length s = omega (arith, w .ended, head-counted s n d r) in
+        written-then h′ (written-then (m′ .each (root-copies x p y)) l);
   }
 
 pub change-this : {s : ℕ} (n d r : ℕ) → s ≡ 0

@@ -18,15 +18,16 @@ use Rattle.language.specs.Typing.{type-of}
 use Rattle.language.specs.Translation.{Shape, plain-type, typed-or, class-or, type-or}
 use Rattle.language.specs.LookupClasses.{LooksUp}
 use Rattle.language.proofs.Lines.{line-at}
-use Rattle.theory.specs.PlainForm.{variable-count}
-use Rattle.plain.specs.Numbers.{most-numbers, arguments-numbers, plain-number, Proper, Nodes, none}
+use Rattle.theory.proofs.translation.PlainForm.{variable-count}
+use Rattle.plain.specs.Numbers.{most-numbers, arguments-numbers, plain-number, Nodes, none}
 use Rattle.plain.specs.Numbers.{also, how-many, rows-taken}
 use Rattle.plain.specs.Emission.{Written, SomeSet, SomeArguments, SetEmitted, ArgumentsEmitted}
-use Rattle.plain.specs.Tasks.{NodeTask, NodesTask, EncodedNodes, LooksUpNodes, ReadyNodes, Ready}
-use Rattle.plain.specs.Tasks.{FieldFound}
+use Rattle.plain.specs.Tasks.{NodeTask, NodesTask, EachNode}
 use Rattle.plain.proofs.Writing.{written-then, whole}
 use Rattle.plain.proofs.Translated.{t-set}
-use Rattle.plain.proofs.Tasks.{node-row}
+use Rattle.plain.proofs.Tasks.{node-row, node-parts}
+use Rattle.plain.proofs.Numbers.{plain-told}
+use Rattle.plain.proofs.Tabled.{fields-tabled}
 use Rattle.plain.proofs.Shapes.{setting-temporaries}
 
 module _ {P : List Class} {E : List ℕ} {γ : Environment} {sh : Shape} {R T M C S : List ℕ}
@@ -38,27 +39,28 @@ module _ {P : List Class} {E : List ℕ} {γ : Environment} {sh : Shape} {R T M 
       apply-class (world P) (typed-or (type-of (world P) e′ 0 (a .slots)) .effect) (class-or (a .type))
 
   set-name : (getD R (at * 4 + 1) 0 ≡ f) × (getD C at 0 ≡ set-class) × (f < 256) × (set-class ≤ length P)
-  unfolding Encoded LooksUp Ready
-  set-name = (t .encoded .0 .row .first, t .looks .0 (node-row t .2), t .ready .0, t .ready .1)
+  unfolding Encoded LooksUp
+  set-name = let h = node-parts t in
+      (t .encoded .0 .row .first, t .looks .0 (node-row t .2), h .0, h .1)
 
   -- the field's entry, its row and its plain type
   set-field : (i : ℕ) × (g : Field) × (getD T (set-class * 576 + f) 0 ≡ suc i)
       × (set-class * 576 + 520 + i < length T) × (getD T (set-class * 576 + 520 + i) 0 * 4 + 3 < length R)
       × (plain-number (getD R (getD T (set-class * 576 + 520 + i) 0 * 4 + 1) 0)
       ≡ type-number (plain-type (type-or (field-type f (world P .fields set-class)))))
-  unfolding Ready FieldFound Proper field-type
+  unfolding field-type
   set-field =
-      let F = t .ready .2 in
-      let y = t .setting .lent .members in
+      let F = node-parts t .2 in
       let row = line-at _ (world P .fields set-class) (set-class * 576 + 520)
-      (y .fields set-class (set-name .3)) (F .0) (F .1) (F .3) in (
+      (fields-tabled (t .setting .lent) set-class (set-name .3)) (F .0) (F .1) (F .3) in (
         F .0,
         F .1,
-        y .tables .places set-class f (set-name .3) (set-name .2)
+        t .setting .lent .held .headed .classes .places set-class f (set-name .3) (set-name .2)
             ∙ ap (λ (o : Option ℕ). stored-place o) (F .2),
         row .0,
         row .1 .within,
-        ap (λ (n : ℕ). plain-number n) (row .1 .first) ∙ F .4 ∙ rw (F .2, F .3) refl,
+        ap (λ (n : ℕ). plain-number n) (row .1 .first) ∙ plain-told (F .1 .type) (F .4)
+            ∙ rw (F .2, F .3) refl,
       )
 
   abbrev set-arguments : Nodes
@@ -78,12 +80,12 @@ module _ {P : List Class} {E : List ℕ} {γ : Environment} {sh : Shape} {R T M 
 
   set-nodes : (p : ℕ) → p ≡ place + 12
       → NodesTask P E set-arguments (sh ++ (false ∷ false ∷ [])) R T M C S (at + 1) vars (next + 2) p
-  unfolding Encoded LooksUp Ready EncodedNodes LooksUpNodes ReadyNodes variable-count
-  set-nodes p q = record {
+  unfolding Encoded LooksUp EachNode variable-count
+  set-nodes p q = let h = node-parts t in record {
     setting = setting-temporaries (t .setting) (false ∷ false ∷ []) refl;
     encoded = (t .encoded .1, (t .encoded .2, tt));
     looks = (t .looks .1, (t .looks .2, tt));
-    ready = (t .ready .3, (t .ready .4, tt));
+    typed = (h .3, (h .4, tt));
     low = omega (arith, t .low, q);
   }
 
@@ -124,7 +126,7 @@ module _ {R T M C S : List ℕ} {at vars next place : ℕ} where
 module _ {R T M C S : List ℕ} {at vars next place n : ℕ} (a : n ≡ getD R (at * 4 + 1) 0) where
   pub set-known : SomeSet R T M C S at vars next place → (n < 256) × (getD C at 0 * 576 + n < length T)
   set-known x = let t = x .task in let m = set-name t in
-      rw (a ∙ m .0, m .1) (m .2, omega (arith, m .2, m .3, t .setting .lent .members .tables .long))
+      rw (a ∙ m .0, m .1) (m .2, omega (arith, m .2, m .3, t .setting .lent .held .headed .classes .long))
 
   module _ {i : ℕ} (b : i ≡ getD T (getD C at 0 * 576 + n) 0) where
     -- the entry of the field's row, in the terms of its tree

@@ -12,7 +12,7 @@ use lib.Seq.{getD-set-same, getD-set-other}
 use Rattle.language.specs.Tree.{DeclaredType, Class}
 use Rattle.language.specs.Translation.{Shape, position, plain-slot, variables}
 use Rattle.language.proofs.Lines.{le-or-less}
-use Rattle.theory.specs.PlainForm.{variable-count, count-append, count-variables}
+use Rattle.theory.proofs.translation.PlainForm.{variable-count, count-append, count-variables}
 use Rattle.plain.specs.Tasks.{Setting}
 use Rattle.plain.specs.Emission.{Extended}
 
@@ -43,12 +43,12 @@ position-added (true ∷ a) ts (suc k) i e h = let r = position-added a ts k i (
     omega (arith, r)
 position-added (false ∷ a) ts k i e h = let r = position-added a ts k i e h in omega (arith, r)
 
-module _ {P : List Class} {R T M C S : List ℕ} {sh : Shape} {vars next : ℕ}
-    (x : Setting P R T M C S sh vars next)
+module _ {P : List Class} {E R T M C S : List ℕ} {sh : Shape} {vars next : ℕ}
+    (x : Setting P E R T M C S sh vars next)
   where
     -- temporaries added
     pub setting-temporaries : (fs : Shape) → variable-count fs ≡ 0
-        → Setting P R T M C S (sh ++ fs) vars (next + length fs)
+        → Setting P E R T M C S (sh ++ fs) vars (next + length fs)
     setting-temporaries fs z = record {
       lent = x .lent;
       wide = x .wide;
@@ -61,7 +61,7 @@ module _ {P : List Class} {R T M C S : List ℕ} {sh : Shape} {vars next : ℕ}
     -- a block's locals added
     pub setting-locals : (ts : List DeclaredType) (S′ : List ℕ) → Extended S S′ vars next (length ts)
         → vars + length ts ≤ 32
-        → Setting P R T M C S′ (sh ++ variables ts) (vars + length ts) (next + length ts)
+        → Setting P E R T M C S′ (sh ++ variables ts) (vars + length ts) (next + length ts)
     unfolding plain-slot
     setting-locals ts S′ y h = record {
       lent = x .lent;
@@ -86,8 +86,8 @@ module _ {P : List Class} {R T M C S : List ℕ} {sh : Shape} {vars next : ℕ}
             ∙ ap (λ (m : ℕ). plain-slot (sh ++ variables ts) m) (sym b)
 
 -- a slot's plain slot
-pub slot-at : {P : List Class} {R T M C S : List ℕ} {sh : Shape} {vars next j k : ℕ}
-    → Setting P R T M C S sh vars next → j ≡ k → k < vars → getD S j 0 ≡ plain-slot sh k
+pub slot-at : {P : List Class} {E R T M C S : List ℕ} {sh : Shape} {vars next j k : ℕ}
+    → Setting P E R T M C S sh vars next → j ≡ k → k < vars → getD S j 0 ≡ plain-slot sh k
 slot-at x e h = rw e (x .renumbered _ h)
 
 -- slots of a block's locals, the first i of them added

@@ -7,20 +7,20 @@ use Prim.Native.Nat.{ℕ, suc, _+_, _*_, _≤_, _<_}
 use native.Mathlib.Omega.{arith}
 use lib.ListN.{length, getD}
 use Rattle.language.specs.Rows.{S-start}
-use Rattle.language.specs.Tree.{Declaration, Class, method-lines, methods-lines, class-lines, classes-lines}
+use Rattle.language.specs.Tree.{Declaration, Class, Program, method-lines, methods-lines, class-lines}
+use Rattle.language.specs.Tree.{classes-lines}
 use Rattle.language.specs.Encoded.{RowAt}
 use Rattle.language.specs.WellFormed.{Each, each-cons}
-use Rattle.language.specs.Layout.{EachMethod, EachClass, Run, ClassEnd, MethodAt, ClassAt, methods-from-row}
+use Rattle.language.specs.Layout.{EachMethod, EachClass, Run, ClassEnd, ClassAt, ProgramAt, methods-from-row}
 use Rattle.language.proofs.Lines.{run-unique}
 use Rattle.language.proofs.Tables.{size-positive}
 use Rattle.layout.specs.HeadingRuns.{end-letter, methods-first, fields-run, classes-first}
 use Rattle.layout.specs.Walks.{MethodStanding}
-use Rattle.plain.specs.Tasks.{MethodReady, ClassReady}
+use Rattle.plain.specs.Tasks.{MethodsStand, ClassesStand}
 use Rattle.plain.specs.Emission.{SomeFieldLines}
-use Rattle.plain.specs.Bounds.{MethodsStand, ClassesStand, SomeMethodsStand, SomeClassesStand}
-use Rattle.plain.specs.Bounds.{MethodsPassed}
+use Rattle.plain.specs.Bounds.{SomeMethodsStand, SomeClassesStand, MethodsPassed}
 
-each-head : {A : Type 0} {Q : A → Type 0} {a : A} {l : List A} → Each Q (a ∷ l) → Q a × Each Q l
+pub each-head : {A : Type 0} {Q : A → Type 0} {a : A} {l : List A} → Each Q (a ∷ l) → Q a × Each Q l
 each-head (each-cons x y) = (x, y)
 
 pub lines-positive : (m : Declaration) → 1 ≤ method-lines m
@@ -46,7 +46,8 @@ module _ {R E : List ℕ} {at : ℕ} where
   stand-first m ms t =
       record { method = m; at = t .methods .0; in-form = each-head (t .in-form) .0; short = t .short }
 
-  stand-rest : {k : ℕ} (m : Declaration) (ms : List Declaration) → MethodsStand R E k (m ∷ ms) at → (b : ℕ)
+  pub stand-rest : {k : ℕ} (m : Declaration) (ms : List Declaration)
+      → MethodsStand R E k (m ∷ ms) at → (b : ℕ)
       → b ≡ at + method-lines m → MethodsStand R E k ms b
   unfolding EachMethod methods-lines
   stand-rest m ms t b z = rw z (record {
@@ -126,7 +127,7 @@ module _ {R E : List ℕ} {at : ℕ} where
       })
 
   -- a class's fields, and how many they are
-  class-runs : {k : ℕ} (c : Class) (cs : List Class) → ClassesStand R E k (c ∷ cs) at
+  pub class-runs : {k : ℕ} (c : Class) (cs : List Class) → ClassesStand R E k (c ∷ cs) at
       → Run R 70 (at + 1) (length (c .fields))
   unfolding EachClass
   class-runs {k} c cs t = fields-run (t .classes .0) (class-end R E c cs k at (t .classes) (t .start))
@@ -135,7 +136,7 @@ module _ {R E : List ℕ} {at : ℕ} where
       → ClassesStand R E k (c ∷ cs) at → Run R 70 (at + 1) n → n ≡ length (c .fields)
   class-counted c cs t v = run-unique v (class-runs c cs t)
 
-  class-methods : {k : ℕ} (c : Class) (cs : List Class)
+  pub class-methods : {k : ℕ} (c : Class) (cs : List Class)
       → ClassesStand R E k (c ∷ cs) at → MethodsStand R E k (c .methods) (methods-from-row at c)
   unfolding EachClass class-lines
   class-methods {k} c cs t = record {
@@ -190,24 +191,8 @@ module _ {R E : List ℕ} {at : ℕ} where
         omega (arith, z, class-positive c),
       )
 
--- what is ready stands in rows
-module _ (P : List Class) (E R C : List ℕ) where
-  pub each-stands : (ms : List Declaration) (k r : ℕ) → EachMethod (MethodReady P E R C) ms k r
-      → EachMethod (λ k m r. MethodAt R E m r) ms k r
-  unfolding EachMethod
-  each-stands [] k r h = tt
-  each-stands (m ∷ ms) k r h = (h .0 .rows, each-stands ms k _ (h .1))
-
-  pub class-stands : (c : Class) {k r : ℕ} → ClassReady P E R C k c r → ClassAt R E k c r
-  class-stands c h = record {
-    line = h .line;
-    fields = h .fields;
-    methods = each-stands (c .methods) _ _
-        (h .methods);
-  }
-
-  pub each-class-stands : (cs : List Class) (k r : ℕ) → EachClass (ClassReady P E R C) cs k r
-      → EachClass (ClassAt R E) cs k r
-  unfolding EachClass
-  each-class-stands [] k r h = tt
-  each-class-stands (c ∷ cs) k r h = (class-stands c (h .0), each-class-stands cs (suc k) _ (h .1))
+-- all classes of a program
+pub all-stand : {R E : List ℕ} {p : Program} → ProgramAt R E p → ClassesStand R E 1 (p .classes) 0
+all-stand {p = p} h = let z : classes-lines (p .classes) ≡ 0 + classes-lines (p .classes) = omega arith in
+    let w = h .start-line in
+    record { classes = h .classes; start = rw z at w; in-form = h .in-form .classes; short = h .short }

@@ -6,6 +6,7 @@ use mathlib.Core.List.{List, [], _∷_, _++_}
 use Prim.Native.Nat.{ℕ, suc, _+_, _*_, _≤_, _<_}
 use native.Mathlib.Omega.{arith}
 use lib.ListN.{length, getD, length-append}
+use Rattle.language.specs.Limits.{largest}
 use Rattle.language.specs.Tree.{Expr, slot, is-null, get, cast, new, change, assign, choose, size, Class}
 use Rattle.language.specs.Program.{world}
 use Rattle.language.specs.Encoded.{Encoded}
@@ -14,26 +15,37 @@ use Rattle.language.specs.Typing.{type-of}
 use Rattle.language.specs.Translation.{Shape, typed-or, class-or}
 use Rattle.language.specs.LookupClasses.{LooksUp}
 use Rattle.language.proofs.Nodes.{head}
-use Rattle.theory.specs.PlainForm.{variable-count}
+use Rattle.theory.proofs.translation.PlainForm.{variable-count}
 use Rattle.plain.specs.Numbers.{most-numbers, node-numbers, nodes-numbers, none, also}
 use Rattle.plain.specs.Emission.{Written, Emitted, NodeEmitted}
-use Rattle.plain.specs.Tasks.{NodeTask, NodesTask, EncodedNodes, LooksUpNodes, ReadyNodes, Ready}
+use Rattle.plain.specs.Tasks.{NodeTask, NodesTask, EachNode}
 use Rattle.plain.proofs.Writing.{written-then, whole}
 use Rattle.plain.proofs.Translated.{t-is-null, t-assign, t-get, t-cast, t-choose}
+use Rattle.plain.proofs.Typed.{TypedParts, typed-parts}
 use Rattle.plain.proofs.Shapes.{setting-temporaries}
 
 module _ {P : List Class} {E : List ℕ} {γ : Environment} {sh : Shape} {R T M C S : List ℕ}
     {at vars next place : ℕ} where
   pub node-row : {e : Expr} → NodeTask P E e γ sh R T M C S at vars next place
       → (at * 4 + 3 < length R) × (at < 60000) × (at < length C)
-  node-row {e} t = let h = head e (t .encoded) .row in
-      (h, omega (arith, h, t .setting .lent .short), omega (arith, h, t .setting .lent .beside))
+  node-row {e} t = let h = head e (t .encoded) .row in (
+    h,
+    omega (arith, h, t .setting .lent .held .headed .here .short),
+    omega (arith, h, t .setting .lent .beside),
+  )
+
+  pub node-parts : {e : Expr} → NodeTask P E e γ sh R T M C S at vars next place → TypedParts P e γ vars
+  node-parts {e} t = typed-parts (t .setting .lent) e (t .typed)
 
   -- K
   cast-class : {c : ℕ} {e : Expr} → NodeTask P E (cast c e) γ sh R T M C S at vars next place
       → getD R (at * 4 + 1) 0 ≡ c
   unfolding Encoded
   cast-class t = t .encoded .0 .row .first
+
+  pub cast-small : {c : ℕ} {e : Expr} → NodeTask P E (cast c e) γ sh R T M C S at vars next place
+      → getD R (at * 4 + 1) 0 < 65536
+  cast-small t = omega (arith, cast-class t, node-parts t .0)
 
   pub cast-room : {c : ℕ} {e : Expr} → NodeTask P E (cast c e) γ sh R T M C S at vars next place
       → place + 40 + length (node-numbers (world P) e γ (sh ++ (false ∷ []))) ≤ most-numbers
@@ -51,12 +63,12 @@ module _ {P : List Class} {E : List ℕ} {γ : Environment} {sh : Shape} {R T M 
   pub cast-child : {c : ℕ} {e : Expr} → NodeTask P E (cast c e) γ sh R T M C S at vars next place → (p : ℕ)
       → p ≡ place + 20
       → NodeTask P E e γ (sh ++ (false ∷ [])) R T M C S (at + 1) vars (next + 1) p
-  unfolding Encoded LooksUp Ready variable-count
+  unfolding Encoded LooksUp variable-count
   cast-child {c} {e} t p q = record {
     setting = setting-temporaries (t .setting) (false ∷ []) refl;
     encoded = t .encoded .1;
     looks = t .looks;
-    ready = t .ready;
+    typed = node-parts t .1;
     low = omega (arith, t .low, q);
     fits = omega (arith, cast-room t, q);
   }
@@ -80,30 +92,30 @@ module _ {P : List Class} {E : List ℕ} {γ : Environment} {sh : Shape} {R T M 
   -- Z, A and G
   pub is-null-child : {e : Expr} → NodeTask P E (is-null e) γ sh R T M C S at vars next place → (p : ℕ)
       → p ≡ place + 4 → NodeTask P E e γ sh R T M C S (at + 1) vars next p
-  unfolding Encoded LooksUp Ready
+  unfolding Encoded LooksUp
   is-null-child {e} t p q = record {
     setting = t .setting;
     encoded = t .encoded .1;
     looks = t .looks;
-    ready = t .ready;
+    typed = node-parts t;
     low = omega (arith, t .low, q);
     fits = omega (arith, t .fits, ap length (t-is-null (world P) γ sh e), q);
   }
 
   pub assign-slot : {k : ℕ} {e : Expr} → NodeTask P E (assign k e) γ sh R T M C S at vars next place
       → (getD R (at * 4 + 1) 0 ≡ k) × (k < vars)
-  unfolding Encoded Ready
-  assign-slot t = (t .encoded .0 .row .first, t .ready .0)
+  unfolding Encoded
+  assign-slot t = (t .encoded .0 .row .first, node-parts t .0)
 
   pub assign-child : {k : ℕ} {e : Expr} → NodeTask P E (assign k e) γ sh R T M C S at vars next place
       → (p : ℕ)
       → p ≡ place + 4 → NodeTask P E e γ sh R T M C S (at + 1) vars next p
-  unfolding Encoded LooksUp Ready
+  unfolding Encoded LooksUp
   assign-child {k} {e} t p q = record {
     setting = t .setting;
     encoded = t .encoded .1;
     looks = t .looks;
-    ready = t .ready .1;
+    typed = node-parts t .1;
     low = omega (arith, t .low, q);
     fits = omega (arith, t .fits, ap length (t-assign (world P) γ sh k e), q);
   }
@@ -115,12 +127,12 @@ module _ {P : List Class} {E : List ℕ} {γ : Environment} {sh : Shape} {R T M 
 
   pub get-child : {f : ℕ} {e : Expr} → NodeTask P E (get f e) γ sh R T M C S at vars next place → (p : ℕ)
       → p ≡ place + 12 → NodeTask P E e γ sh R T M C S (at + 1) vars next p
-  unfolding Encoded LooksUp Ready
+  unfolding Encoded LooksUp
   get-child {f} {e} t p q = record {
     setting = t .setting;
     encoded = t .encoded .1;
     looks = t .looks .1;
-    ready = t .ready;
+    typed = node-parts t;
     low = omega (arith, t .low, q);
     fits = omega (arith, t .fits, ap length (t-get (world P) γ sh f e), q);
   }
@@ -128,30 +140,32 @@ module _ {P : List Class} {E : List ℕ} {γ : Environment} {sh : Shape} {R T M 
   -- I, W and R
   pub slot-slot : {k : ℕ} → NodeTask P E (slot k) γ sh R T M C S at vars next place
       → (getD R (at * 4 + 1) 0 ≡ k) × (k < vars)
-  unfolding Encoded Ready
-  slot-slot t = (t .encoded .row .first, t .ready)
-
-  pub new-class : {c : ℕ} → NodeTask P E (new c) γ sh R T M C S at vars next place → getD R (at * 4 + 1) 0 ≡ c
   unfolding Encoded
-  new-class t = t .encoded .row .first
+  slot-slot t = (t .encoded .row .first, node-parts t)
+
+  pub new-class : {c : ℕ} → NodeTask P E (new c) γ sh R T M C S at vars next place
+      → (getD R (at * 4 + 1) 0 ≡ c) × (c ≤ largest)
+  unfolding Encoded
+  new-class t = (t .encoded .row .first, node-parts t)
 
   pub change-slot : {k d : ℕ} → NodeTask P E (change k d) γ sh R T M C S at vars next place
-      → (getD R (at * 4 + 1) 0 ≡ k) × (getD R (at * 4 + 2) 0 ≡ d) × (k < vars) × (d ≤ length P)
-      × (world P .root d ≤ length P)
-  unfolding Encoded Ready
-  change-slot t = (t .encoded .row .first, t .encoded .row .second, t .ready .0, t .ready .1, t .ready .2)
+      → (getD R (at * 4 + 1) 0 ≡ k) × (getD R (at * 4 + 2) 0 ≡ d) × (k < vars) × (d ≤ largest)
+      × (d ≤ length P)
+  unfolding Encoded
+  change-slot t = let h = node-parts t in
+      (t .encoded .row .first, t .encoded .row .second, h .0, h .1, h .2)
 
   -- J
   pub choose-nodes : {e x y : Expr} → NodeTask P E (choose e x y) γ sh R T M C S at vars next place → (p : ℕ)
       → p ≡ place + 4
       → NodesTask P E (also e γ (also x (typed-or (type-of (world P) e 0 γ) .slots)
       (also y (typed-or (type-of (world P) e 0 γ) .slots) none))) sh R T M C S (at + 1) vars next p
-  unfolding Encoded LooksUp Ready EncodedNodes LooksUpNodes ReadyNodes
-  choose-nodes t p q = record {
+  unfolding Encoded LooksUp EachNode
+  choose-nodes t p q = let h = node-parts t in record {
     setting = t .setting;
     encoded = (t .encoded .1, (t .encoded .2, (t .encoded .3, tt)));
     looks = (t .looks .0, (t .looks .1, (t .looks .2, tt)));
-    ready = (t .ready .0, (t .ready .1, (t .ready .2, tt)));
+    typed = (h .0, (h .1, (h .2, tt)));
     low = omega (arith, t .low, q);
   }
 

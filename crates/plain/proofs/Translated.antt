@@ -18,10 +18,11 @@ use Rattle.language.specs.Translation.{Shape, position, plain-slot, read-slot, 
 use Rattle.language.specs.Translation.{plain-change, translate, translate-all, translate-arguments, _⊕_}
 use Rattle.language.specs.Translation.{copies, renew, reads, variables, typed-or, typed-all-or, class-or}
 use Rattle.language.specs.Translation.{type-or, parameters-or, temporaries}
-use Rattle.theory.specs.PlainForm.{count-copies, count-reads}
+use Rattle.theory.proofs.translation.PlainForm.{count-copies, count-reads}
 use Rattle.plain.specs.Numbers.{none, also, nodes-of, nodes-numbers, arguments-numbers, tree-numbers}
 use Rattle.plain.specs.Numbers.{trees-numbers, node-numbers, slot-lines, new-lines, renew-lines}
-use Rattle.plain.specs.Numbers.{change-lines, type-lines, read-lines, ProperAll}
+use Rattle.language.specs.WellFormed.{Each, TypeInForm}
+use Rattle.plain.specs.Numbers.{change-lines, type-lines, read-lines}
 use Rattle.plain.proofs.Numbers.{n-null, n-slot, n-is-null, n-get, n-cast, n-new, n-assign, n-set}
 use Rattle.plain.proofs.Numbers.{n-call, n-choose, n-block, n-nil, n-cons, n-locals-none, n-locals}
 use Rattle.plain.proofs.Numbers.{n-types, two, n-one, n-copies, n-reads}
@@ -158,7 +159,8 @@ unfolding translate-all count
 c-all W sh nil γ = refl
 c-all W sh (cons e es) γ = rw (c-all W sh es (typed-or (type-of W e 0 γ) .slots))
 
-pub t-block : (W : World) (γ : Environment) (sh : Shape) (ts : List DeclaredType) (es : Exprs) → ProperAll ts
+pub t-block : (W : World) (γ : Environment) (sh : Shape) (ts : List DeclaredType) (es : Exprs)
+    → Each TypeInForm ts
     → node-numbers W (block ts es) γ sh
     ≡ (66 ∷ length ts ∷ count es ∷ 0 ∷ [])
     ++ (type-lines 86 ts
@@ -232,7 +234,7 @@ pub t-call : (W : World) (γ : Environment) (sh : Shape) (m : ℕ) (e : Expr) (e
     let b = typed-all-or (type-all W es 0 (a .slots)) in
     let c = apply-class W (b .effect) (class-or (a .type)) in
     let ts = parameters-or (W .method c m) in
-    length ts ≡ count es → ProperAll ts →
+    length ts ≡ count es → Each TypeInForm ts →
     node-numbers W (call m e es) γ sh
     ≡ (66 ∷ (count es + 1) ∷ (count es + 2) ∷ 0 ∷ 86 ∷ 1 ∷ 0 ∷ 0 ∷ [])
     ++ (type-lines 86 ts

@@ -20,7 +20,8 @@ use Rattle.language.specs.Translation.{fields-free, names-free}
 use Rattle.language.specs.Encoded.{LinesAt}
 use Rattle.language.specs.Layout.{EachClass, FieldsAt, Run}
 use Rattle.language.proofs.Lines.{le-or-less}
-use Rattle.plain.specs.Bounds.{pass-of, ClassesStand, SomeMethodsStand, SomeClassesStand, MethodsPassed}
+use Rattle.plain.specs.Tasks.{ClassesStand}
+use Rattle.plain.specs.Bounds.{pass-of, SomeMethodsStand, SomeClassesStand, MethodsPassed}
 use Rattle.plain.specs.Bounds.{ClassesCounted, SomeCounted, FieldsLimited, FieldsFree, NamesFree}
 use Rattle.plain.proofs.Standing.{class-positive, class-known, class-stand, class-rest, no-class}
 use Rattle.plain.proofs.Standing.{not-class, class-run, class-counted, class-passed}
@@ -235,7 +236,7 @@ module _ {P : List Class} {R E T : List ℕ} {k at : ℕ} where
   counted-super c cs t =
       let x = counted-class c cs t in
       let l : c .super ≤ length P = omega (arith, super-before P k (at + 1) c (x .0) (x .1), t .numbered) in
-      (t .stand .classes .0 .line .second, l, t .counts (c .super) l)
+      (t .stand .classes .0 .line .second, l, t .tables .counts (c .super) l)
 
   counted-rest : (c : Class) (cs : List Class) → ClassesCounted P R E T k (c ∷ cs) at → (b : ℕ)
       → b ≡ at + class-lines c → ClassesCounted P R E T (suc k) cs b
@@ -244,8 +245,8 @@ module _ {P : List Class} {R E T : List ℕ} {k at : ℕ} where
         stand = class-rest c cs (t .stand) b z;
         accepted = rw y (counted-class c cs t .2);
         numbered = omega (arith, t .numbered);
-        long = t .long;
-        counts = λ j l. t .counts j l;
+        A = t .A;
+        tables = t .tables;
       }
 
 module _ {R E T : List ℕ} {at : ℕ} where
@@ -262,7 +263,7 @@ module _ {R E T : List ℕ} {at : ℕ} where
       go : (cs : List Class)
           → ClassesCounted (x .P) R E T (x .k) cs at → getD R (at * 4 + 2) 0 * 576 + 515 < length T
       go [] t = absurd (no-class at (t .stand .start) h)
-      go (c ∷ cs) t = let y = counted-super c cs t in omega (arith, y .0, y .1, t .long)
+      go (c ∷ cs) t = let y = counted-super c cs t in omega (arith, y .0, y .1, t .tables .long)
 
   pub limited-none : getD R (at * 4) 0 ≢ 67 → FieldsLimited R E T at 0
   unfolding check-classes

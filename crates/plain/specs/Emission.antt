@@ -17,7 +17,7 @@ use Rattle.plain.specs.Numbers.{most-numbers, node-numbers, type-lines, 
 use Rattle.plain.specs.Numbers.{renew-lines, change-lines, head-length, Nodes, how-many, rows-taken}
 use Rattle.plain.specs.Numbers.{nodes-numbers, arguments-numbers, method-numbers, methods-numbers}
 use Rattle.plain.specs.Numbers.{class-numbers, classes-numbers, program-numbers}
-use Rattle.plain.specs.Tasks.{FieldRows, Members, NodeTask, NodesTask, BodyTask, MethodTask}
+use Rattle.plain.specs.Tasks.{FieldRows, Lent, NodeTask, NodesTask, BodyTask, MethodTask}
 use Rattle.plain.specs.Tasks.{MethodsTask, ClassTask, ClassesTask, ProgramTask}
 use Rattle.language.specs.Limits.{of-translator}
 
@@ -48,10 +48,13 @@ pub record SomeFields (R T : List ℕ) (from count : ℕ) : Type 0 where
   pub rows : FieldRows R T fs from
   pub counted : length fs ≡ count
 
--- A class with its tables; its fields are copied from `place` on.
+-- A declared class, whose fields are copied from `place` on.
 pub record SomeCopies (R T : List ℕ) (place class : ℕ) : Type 0 where
   pub P : List Class
-  pub members : Members P R T
+  pub E : List ℕ
+  pub M : List ℕ
+  pub C : List ℕ
+  pub lent : Lent P E R T M C
   pub declared : class ≤ length P
   pub fits : place + 16 * length (world P .fields class) ≤ most-numbers
 
@@ -60,20 +63,23 @@ pub record CopiesWritten (R T : List ℕ) (from count s : ℕ) (O O′ : List �
       → Written (copy-lines s fs) O O′ place place′
 
 pub record RenewWritten (R T : List ℕ) (n d class : ℕ) (O O′ : List ℕ) (place place′ : ℕ) : Type 0 where
-  pub each : (P : List Class) → Members P R T → class ≤ length P
-      → Written (renew-lines n d class (world P .fields class)) O O′ place place′
+  pub each : (w : SomeCopies R T (place + 56) class)
+      → Written (renew-lines n d class (world (w .P) .fields class)) O O′ place place′
 
--- R to a class, its root declared.
+-- R to a declared class.
 pub record SomeChange (R T : List ℕ) (place s d : ℕ) : Type 0 where
   pub P : List Class
-  pub members : Members P R T
+  pub E : List ℕ
+  pub M : List ℕ
+  pub C : List ℕ
+  pub lent : Lent P E R T M C
   pub declared : d ≤ length P
-  pub root-declared : world P .root d ≤ length P
   pub fits : place + head-length s + 60 + 16 * length (world P .fields (world P .root d)) ≤ most-numbers
 
 pub record ChangeWritten (R T : List ℕ) (s n d : ℕ) (O O′ : List ℕ) (place place′ : ℕ) : Type 0 where
-  pub each : (P : List Class) → Members P R T → d ≤ length P → world P .root d ≤ length P
-      → Written (change-lines s n d (world P .root d) (world P .fields (world P .root d))) O O′ place place′
+  pub each : (w : SomeChange R T place s d)
+      → Written (change-lines s n d (world (w .P) .root d) (world (w .P) .fields (world (w .P) .root d)))
+      O O′ place place′
 
 -- Source slots of a block's locals added to those in scope.
 pub record Extended (S S′ : List ℕ) (vars next count : ℕ) : Type 0 where
@@ -239,7 +245,8 @@ pub record SomeClass (R T M C : List ℕ) (at place : ℕ) : Type 0 where
   pub E : List ℕ
   pub k : ℕ
   pub c : Class
-  pub task : ClassTask P E k c R T M C at place
+  pub cs : List Class
+  pub task : ClassTask P E k c cs R T M C at place
 
 pub record SomeClasses (R T M C : List ℕ) (at place : ℕ) : Type 0 where
   pub P : List Class
@@ -254,7 +261,8 @@ pub record MethodsEmitted (R T M C O O′ : List ℕ) (at place place′ at′ :
       → Emitted (methods-numbers (world P) k ms) (methods-lines ms) O O′ place at place′ at′
 
 pub record ClassEmitted (R T M C O O′ : List ℕ) (at place place′ at′ : ℕ) : Type 0 where
-  pub each : (P : List Class) (E : List ℕ) (k : ℕ) (c : Class) → ClassTask P E k c R T M C at place
+  pub each : (P : List Class) (E : List ℕ) (k : ℕ) (c : Class) (cs : List Class)
+      → ClassTask P E k c cs R T M C at place
       → Emitted (class-numbers (world P) k c) (class-lines c) O O′ place at place′ at′
 
 pub record ClassesEmitted (R T M C O O′ : List ℕ) (at place place′ at′ : ℕ) : Type 0 where

@@ -1,6 +1,5 @@
 -- The numbers that the translator writes: for each node, method and class of an accepted program the lines of
 -- its plain form, four numbers each.
-use mathlib.Core.Path.{_≡_}
 use Prim.Native.Nat.{ℕ, zero, suc, _+_}
 use mathlib.Core.Bool.{cond}
 use mathlib.Core.List.{List, [], _∷_, _++_, map}
@@ -13,7 +12,7 @@ use Rattle.language.specs.Tree.{Class, Program, flatten, flattens, flatten-prog
 use Rattle.language.specs.World.{World}
 use Rattle.language.specs.Environment.{Environment, method-environment}
 use Rattle.language.specs.Typing.{type-of}
-use Rattle.language.specs.Translation.{Shape, typed-or, plain-type, variables, translate, plain-program}
+use Rattle.language.specs.Translation.{Shape, typed-or, variables, translate, plain-program}
 use Rattle.language.specs.Rows.{M-method, P-parameter, B-block, N-null, I-slot, Z-is-null, K-cast, W-new}
 use Rattle.language.specs.Rows.{A-assign, U-set, J-choose}
 
@@ -42,14 +41,6 @@ node-numbers W e γ sh = tree-numbers (translate W e γ sh)
 -- A type's number in a plain program.
 abbrev pub plain-number : ℕ → ℕ
 plain-number n = cond (eqb n bool-number) bool-number identity-class
-
--- A declared type whose number tells it: no class has the number of bool.
-unfoldable pub Proper : DeclaredType → Type 0
-Proper t = plain-number (type-number t) ≡ type-number (plain-type t)
-
-unfoldable pub ProperAll : List DeclaredType → Type 0
-ProperAll [] = Unit {0}
-ProperAll (t ∷ ts) = Proper t × ProperAll ts
 
 -- Lines of a letter's code, one for each type.
 unfoldable pub type-lines : ℕ → List DeclaredType → List ℕ

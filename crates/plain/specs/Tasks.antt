@@ -2,118 +2,62 @@
 -- rows and the tables that hold them.
 use mathlib.Core.Path.{_≡_}
 use Prim.Native.Nat.{ℕ, suc, _+_, _*_, _≤_, _<_}
-use mathlib.Core.Option.{some}
-use mathlib.Core.List.{List, map}
+use mathlib.Core.List.{List, _∷_}
 use lib.ListN.{length, getD}
-use Rattle.language.specs.Lists.{nth}
-use Rattle.language.specs.Frames.{opened}
-use Rattle.language.specs.Rows.{C-class, F-field, M-method, P-parameter, S-start}
-use Rattle.language.specs.Tree.{DeclaredType, type-number, Expr, literal}
-use Rattle.language.specs.Tree.{slot, is-null, get, cast, new, change, assign, set, call, choose, block}
-use Rattle.language.specs.Tree.{Exprs, nil, cons, count, size, Field, Declaration, Class, Program}
-use Rattle.language.specs.Tree.{kind-number, methods-lines, class-lines, classes-lines}
-use Rattle.language.specs.World.{Method, World, place}
-use Rattle.language.specs.Effects.{apply-class}
+use Rattle.language.specs.Rows.{F-field, M-method, P-parameter, S-start}
+use Rattle.language.specs.Tree.{DeclaredType, type-number, ExprType, Expr, size, Field, Declaration}
+use Rattle.language.specs.Tree.{Class, Program, methods-lines, classes-lines}
 use Rattle.language.specs.Program.{world}
-use Rattle.language.specs.ClassTables.{ClassTables, class-width, rows-place}
-use Rattle.language.specs.MethodTables.{PlacedMethod, placed-methods, MethodTables}
 use Rattle.language.specs.Encoded.{RowAt, LinesAt, TypesAt, Encoded}
-use Rattle.language.specs.Environment.{Environment, fresh-slot, method-environment, start-environment}
-use Rattle.language.specs.Typing.{type-of}
-use Rattle.language.specs.Typing.{type-all}
-use Rattle.language.specs.Translation.{Shape, plain-slot, typed-or, typed-all-or, class-or, variables}
+use Rattle.language.specs.Environment.{Environment, method-environment}
+use Rattle.language.specs.Translation.{Shape, plain-slot, variables}
 use Rattle.language.specs.LookupClasses.{LooksUp}
-use Rattle.language.specs.Layout.{EachMethod, EachClass, ClassEnd, FieldsAt, MethodAt, ProgramAt}
-use Rattle.language.specs.Layout.{LooksUpProgram}
-use Rattle.language.specs.Layout.{body-row, methods-from-row}
-use Rattle.language.specs.WellFormed.{MethodInForm}
-use Rattle.theory.specs.PlainForm.{variable-count}
-use Rattle.plain.specs.Numbers.{most-numbers, node-numbers, Proper, ProperAll, Nodes, methods-numbers}
-use Rattle.plain.specs.Numbers.{class-numbers, classes-numbers, program-numbers, none, also}
+use Rattle.language.specs.Layout.{EachMethod, EachClass, ClassEnd, MethodAt, ClassAt, body-row}
+use Rattle.language.specs.Layout.{methods-from-row}
+use Rattle.language.specs.WellFormed.{Each, MethodInForm, ClassInForm, NodeInForm}
+use Rattle.theory.specs.ComputedRules.{HasType}
+use Rattle.theory.proofs.translation.PlainForm.{variable-count}
+use Rattle.theory.proofs.acceptance.Translatable.{TranslatableRows}
+use Rattle.layout.specs.Held.{Held}
+use Rattle.plain.specs.Numbers.{most-numbers, node-numbers, Nodes, methods-numbers}
+use Rattle.plain.specs.Numbers.{class-numbers, classes-numbers, none, also}
 use Rattle.language.specs.Limits.{of-check, of-translator, numbers-a-row}
+
+-- The rows and tables that every translation goes by: they hold an accepted program with classes P, and each
+-- row has a lookup class.
+pub record Lent (P : List Class) (E R T M C : List ℕ) : Type 0 where
+  pub start : Expr
+  pub A : List ℕ
+  pub F : List ℕ
+  pub held : Held R E T A M F C (record { classes = P; start = start })
+  pub beside : length R ≤ length C * 4
 
 -- The table has the rows of fields from an entry on.
 abbrev pub FieldRows : List ℕ → List ℕ → List Field → ℕ → Type 0
 FieldRows R T fs i = LinesAt (λ (f : Field) (i : ℕ).
     (i < length T) × RowAt R (getD T i 0) F-field (type-number (f .type)) (f .name)) fs i
 
--- The tables of classes, where the rows have the fields of each class, and that these are few.
-pub record Members (P : List Class) (R T : List ℕ) : Type 0 where
-  pub A : List ℕ
-  pub tables : ClassTables P T A
-  pub few : (k : ℕ) → k ≤ length P → length (world P .fields k) ≤ of-check .fields
-  pub fields : (k : ℕ) → k ≤ length P → FieldRows R T (world P .fields k) (k * class-width + rows-place)
+-- ---- nodes
 
--- Such nodes in the rows, and in the table of lookup classes.
-unfoldable pub EncodedNodes : List ℕ → List ℕ → Nodes → ℕ → Type 0
-EncodedNodes R E none r = Unit {0}
-EncodedNodes R E (also e γ es) r = Encoded R E e r × EncodedNodes R E es (r + size e)
+-- A node in form under the translator's limits, with v source slots in scope, slot 0 included, and typed in γ.
+pub record TypedIn (P : List Class) (γ : Environment) (v : ℕ) (e : Expr) : Type 0 where
+  pub depth : ℕ
+  pub in-form : NodeInForm of-translator depth v e
+  pub scope : 1 + length (γ .slots) ≡ v
+  pub type : ExprType
+  pub after : Environment
+  pub effect : ℕ
+  pub has : HasType (world P) γ e type after effect
 
-unfoldable pub LooksUpNodes : World → List ℕ → Nodes → ℕ → Type 0
-LooksUpNodes W C none r = Unit {0}
-LooksUpNodes W C (also e γ es) r = LooksUp W C e γ r × LooksUpNodes W C es (r + size e)
+-- Something of each node of a list: its tree, its environment, its row.
+module _ (Q : Expr → Environment → ℕ → Type 0) where
+  unfoldable pub EachNode : Nodes → ℕ → Type 0
+  EachNode none r = Unit {0}
+  EachNode (also e γ es) r = Q e γ r × EachNode es (r + size e)
 
--- What typing has shown of a node with v source slots in scope, slot 0 included: slots are in scope, classes
--- are declared, members are found.
-module _ (P : List Class) where
-  unfoldable pub FieldFound : ℕ → ℕ → Type 0
-  FieldFound c f = (i : ℕ) × (g : Field) × (place f (world P .fields c) ≡ some i)
-      × (nth (world P .fields c) i ≡ some g) × Proper (g .type)
-
-  unfoldable pub MethodFound : ℕ → ℕ → ℕ → Type 0
-  MethodFound c m n = (M : Method) × (world P .method c m ≡ some M) × (length (M .parameters) ≡ n)
-      × ProperAll (M .parameters)
-
-  unfoldable mutual
-    pub Ready : Expr → Environment → ℕ → Type 0
-    Ready (literal l) γ v = Unit {0}
-    Ready (slot k) γ v = k < v
-    Ready (is-null e) γ v = Ready e γ v
-    Ready (get f e) γ v = Ready e γ v
-    Ready (cast c e) γ v = Ready e γ v
-    Ready (new c) γ v = Unit {0}
-    Ready (change k d) γ v = (k < v) × (d ≤ length P) × (world P .root d ≤ length P)
-    Ready (assign k e) γ v = (k < v) × Ready e γ v
-    Ready (set f e e′) γ v =
-        let W = world P in
-        let a = typed-or (type-of W e 0 γ) in
-        let b = typed-or (type-of W e′ 0 (a .slots)) in
-        let c = apply-class W (b .effect) (class-or (a .type)) in
-        (f < 256) × (c ≤ length P) × FieldFound c f × Ready e γ v × Ready e′ (a .slots) v
-    Ready (call m e es) γ v =
-        let W = world P in
-        let a = typed-or (type-of W e 0 γ) in
-        let b = typed-all-or (type-all W es 0 (a .slots)) in
-        let c = apply-class W (b .effect) (class-or (a .type)) in
-        (m < 256) × (c ≤ length P) × MethodFound c m (count es) × Ready e γ v × ReadyAll es (a .slots) v
-    Ready (choose e x y) γ v = let δ = typed-or (type-of (world P) e 0 γ) .slots in
-        Ready e γ v × Ready x δ v × Ready y δ v
-    Ready (block ts es) γ v = (v + length ts ≤ of-translator .slots) × ProperAll ts
-        × ReadyAll es (opened γ (map fresh-slot ts)) (v + length ts)
-
-    pub ReadyAll : Exprs → Environment → ℕ → Type 0
-    ReadyAll nil γ v = Unit {0}
-    ReadyAll (cons e es) γ v = Ready e γ v × ReadyAll es (typed-or (type-of (world P) e 0 γ) .slots) v
-
-  unfoldable pub ReadyNodes : Nodes → ℕ → Type 0
-  ReadyNodes none v = Unit {0}
-  ReadyNodes (also e γ es) v = Ready e γ v × ReadyNodes es v
-
--- The rows and tables that every body's translation goes by; of a method, the rows have its P lines after its M line.
-pub record Lent (P : List Class) (R T M C : List ℕ) : Type 0 where
-  pub members : Members P R T
-  pub F : List ℕ
-  pub methods : MethodTables P M F
-  pub parameters : (i : ℕ) (m : PlacedMethod) → nth (placed-methods P) i ≡ some m
-      → TypesAt P-parameter R (m .declaration .parameters) (m .row + 1)
-  pub small : (i : ℕ) → getD R i 0 < 65536
-  pub beside : length R ≤ length C * 4
-  pub short : length R ≤ numbers-a-row * of-check .rows
-
--- With these, the plain slot of each source slot: S has those of the slots in scope, `next` is the next free
--- one.
-pub record Setting (P : List Class) (R T M C S : List ℕ) (sh : Shape) (vars next : ℕ) : Type 0 where
-  pub lent : Lent P R T M C
+-- The plain slot of each source slot: S has those of the slots in scope, `next` is the next free one.
+pub record Setting (P : List Class) (E R T M C S : List ℕ) (sh : Shape) (vars next : ℕ) : Type 0 where
+  pub lent : Lent P E R T M C
   pub wide : length S ≡ of-translator .slots
   pub scope : vars ≤ of-translator .slots
   pub variables : vars ≡ suc (variable-count sh)
@@ -123,31 +67,33 @@ pub record Setting (P : List Class) (R T M C S : List ℕ) (sh : Shape) (vars ne
 -- All that a node's translation goes by.
 pub record NodeTask (P : List Class) (E : List ℕ) (e : Expr) (γ : Environment) (sh : Shape)
     (R T M C S : List ℕ) (at vars next place : ℕ) : Type 0 where
-  pub setting : Setting P R T M C S sh vars next
+  pub setting : Setting P E R T M C S sh vars next
   pub encoded : Encoded R E e at
   pub looks : LooksUp (world P) C e γ at
-  pub ready : Ready P e γ vars
+  pub typed : TypedIn P γ vars e
   pub low : next ≤ place
   pub fits : place + length (node-numbers (world P) e γ sh) ≤ most-numbers
 
 pub record NodesTask (P : List Class) (E : List ℕ) (es : Nodes) (sh : Shape)
     (R T M C S : List ℕ) (at vars next place : ℕ) : Type 0 where
-  pub setting : Setting P R T M C S sh vars next
-  pub encoded : EncodedNodes R E es at
-  pub looks : LooksUpNodes (world P) C es at
-  pub ready : ReadyNodes P es vars
+  pub setting : Setting P E R T M C S sh vars next
+  pub encoded : EachNode (λ e γ r. Encoded R E e r) es at
+  pub looks : EachNode (λ e γ r. LooksUp (world P) C e γ r) es at
+  pub typed : EachNode (λ e γ r. TypedIn P γ vars e) es at
   pub low : next ≤ place
 
 -- A body with its parameters, `this` before them: all that its translation goes by.
 pub record BodyTask (P : List Class) (E : List ℕ) (e : Expr) (γ : Environment) (ts : List DeclaredType)
     (R T M C : List ℕ) (at place : ℕ) : Type 0 where
-  pub lent : Lent P R T M C
+  pub lent : Lent P E R T M C
   pub encoded : Encoded R E e at
   pub looks : LooksUp (world P) C e γ at
-  pub ready : Ready P e γ (1 + length ts)
+  pub typed : TypedIn P γ (1 + length ts) e
   pub scope : 1 + length ts ≤ of-translator .slots
   pub low : 1 + length ts ≤ place
   pub fits : place + length (node-numbers (world P) e γ (variables ts)) ≤ most-numbers
+
+-- ---- methods and classes
 
 -- A method whose M line stands at a row, and its body at another.
 pub record MethodTask (P : List Class) (E : List ℕ) (owner : ℕ) (m : Declaration) (R T M C : List ℕ)
@@ -157,50 +103,54 @@ pub record MethodTask (P : List Class) (E : List ℕ) (owner : ℕ) (m : Declara
   pub task : BodyTask P E (m .body) (method-environment owner (m .parameters)) (m .parameters) R T M C body
       (place + 4 + 4 * length (m .parameters))
 
--- Class k's method whose M line is row r: where it stands, its form, its lookup classes, what typing has shown of
--- its body.
-pub record MethodReady (P : List Class) (E R C : List ℕ) (k : ℕ) (m : Declaration) (r : ℕ) : Type 0 where
-  pub rows : MethodAt R E m r
-  pub in-form : MethodInForm of-check m
+-- Methods in form that stand in rows from `at` on, and classes; k is the first one's number.
+pub record MethodsStand (R E : List ℕ) (k : ℕ) (ms : List Declaration) (at : ℕ) : Type 0 where
+  pub methods : EachMethod (λ k m r. MethodAt R E m r) ms k at
+  pub after : ClassEnd R (at + methods-lines ms)
+  pub in-form : Each (MethodInForm of-check) ms
+  pub short : length R ≤ numbers-a-row * of-check .rows
+
+pub record ClassesStand (R E : List ℕ) (k : ℕ) (cs : List Class) (at : ℕ) : Type 0 where
+  pub classes : EachClass (ClassAt R E) cs k at
+  pub start : RowAt R (at + classes-lines cs) S-start 0 0
+  pub in-form : Each (ClassInForm of-check) cs
+  pub short : length R ≤ numbers-a-row * of-check .rows
+
+-- The body of class k's method whose M line is row r: its lookup classes, its form and type.
+pub record BodyReady (P : List Class) (C : List ℕ) (k : ℕ) (m : Declaration) (r : ℕ) : Type 0 where
   pub looks : LooksUp (world P) C (m .body) (method-environment k (m .parameters)) (body-row r m)
-  pub ready : Ready P (m .body) (method-environment k (m .parameters)) (1 + length (m .parameters))
+  pub typed : TypedIn P (method-environment k (m .parameters)) (1 + length (m .parameters)) (m .body)
 
--- Class k, whose C line is row r.
-pub record ClassReady (P : List Class) (E R C : List ℕ) (k : ℕ) (c : Class) (r : ℕ) : Type 0 where
-  pub line : RowAt R r C-class (kind-number (c .kind)) (c .super)
-  pub fields : FieldsAt R (c .fields) (r + 1)
-  pub methods : EachMethod (MethodReady P E R C) (c .methods) k (methods-from-row r c)
+-- The same of all bodies of class k, whose C line is row r.
+abbrev pub BodiesReady : List Class → List ℕ → ℕ → Class → ℕ → Type 0
+BodiesReady P C k c r = EachMethod (BodyReady P C) (c .methods) k (methods-from-row r c)
 
--- All that the translation of methods, of a class and of classes goes by.
+-- All that the translation of methods, of a class before others, and of classes goes by.
 pub record MethodsTask (P : List Class) (E : List ℕ) (k : ℕ) (ms : List Declaration) (R T M C : List ℕ)
     (at place : ℕ) : Type 0 where
-  pub lent : Lent P R T M C
-  pub methods : EachMethod (MethodReady P E R C) ms k at
-  pub after : ClassEnd R (at + methods-lines ms)
+  pub lent : Lent P E R T M C
+  pub stand : MethodsStand R E k ms at
+  pub bodies : EachMethod (BodyReady P C) ms k at
   pub fits : place + length (methods-numbers (world P) k ms) ≤ most-numbers
 
-pub record ClassTask (P : List Class) (E : List ℕ) (k : ℕ) (c : Class) (R T M C : List ℕ)
+pub record ClassTask (P : List Class) (E : List ℕ) (k : ℕ) (c : Class) (cs : List Class) (R T M C : List ℕ)
     (at place : ℕ) : Type 0 where
-  pub lent : Lent P R T M C
-  pub ready : ClassReady P E R C k c at
-  pub after : ClassEnd R (at + class-lines c)
+  pub lent : Lent P E R T M C
+  pub stand : ClassesStand R E k (c ∷ cs) at
+  pub bodies : BodiesReady P C k c at
   pub fits : place + length (class-numbers (world P) k c) ≤ most-numbers
 
 pub record ClassesTask (P : List Class) (E : List ℕ) (k : ℕ) (cs : List Class) (R T M C : List ℕ)
     (at place : ℕ) : Type 0 where
-  pub lent : Lent P R T M C
-  pub classes : EachClass (ClassReady P E R C) cs k at
-  pub start : RowAt R (at + classes-lines cs) S-start 0 0
+  pub lent : Lent P E R T M C
+  pub stand : ClassesStand R E k cs at
+  pub bodies : EachClass (BodiesReady P C) cs k at
   pub fits : place + length (classes-numbers (world P) k cs) ≤ most-numbers
 
--- A program whose rows, tables and lookup classes are lent, and which typing has accepted.
+-- A program that rows and tables hold and that the translator takes.
 pub record ProgramTask (p : Program) (E R T M C : List ℕ) : Type 0 where
-  pub rows : ProgramAt R E p
-  pub lookups : LooksUpProgram C p
-  pub lent : Lent (p .classes) R T M C
-  pub ready : EachClass
-      (λ k c r. EachMethod (λ k m r. Ready (p .classes) (m .body) (method-environment k (m .parameters))
-      (1 + length (m .parameters)))
-      (c .methods) k (methods-from-row r c)) (p .classes) 1 0
-  pub start : Ready (p .classes) (p .start) start-environment 1
-  pub fits : length (program-numbers p) ≤ most-numbers
+  pub A : List ℕ
+  pub F : List ℕ
+  pub held : Held R E T A M F C p
+  pub beside : length R ≤ length C * 4
+  pub taken : TranslatableRows R p

@@ -8,13 +8,17 @@ use Prim.Native.Nat.{ℕ, _+_, _*_, _≤_, _<_}
 use lib.Dec.{eqb}
 use lib.ListN.{length, getD}
 use Rattle.language.specs.Limits.{largest}
-use Rattle.terms.specs.Tables.{most-days}
+use Rattle.terms.specs.Tables.{most-days, day-numbers}
 use Rattle.prices.specs.declared.PriceAnswer.{PriceAnswer}
 use Rattle.prices.specs.declared.PriceAnswer.the-variants.{Cents, Unpriced}
 
+-- The bytes of the longest report: a line for each day of the longest month, with three numbers of at most five digits.
+abbrev pub most-report : ℕ
+most-report = 18 * most-days
+
 -- The table has these prices on `count` days from a day on.
 pub record Priced (price : ℕ → Option ℕ) (day count : ℕ) (table : List ℕ) : Type 0 where
-  pub long : length table ≡ 3 * most-days
+  pub long : length table ≡ day-numbers
   pub none-on : (i : ℕ) → i < count → getD table (3 * i) 0 ≡ 0 → price (day + i) ≡ none
   pub some-on : (i : ℕ) → i < count → (getD table (3 * i) 0 ≡ 0 → ⊥)
       → price (day + i) ≡ some (getD table (3 * i + 2) 0)

@@ -12,10 +12,12 @@ ghost use Rattle.language.specs.Results.{accept, refuse};
 ghost use Rattle.language.specs.Filling.{filled, answer, buffer};
 ghost use Rattle.prices.specs.Terms.{terms-of};
 ghost use Rattle.prices.specs.Prices.{term-on, told-price, price-on-day, price-on-date};
-ghost use Rattle.terms.specs.Tables.{scanned};
+ghost use Rattle.terms.specs.Tables.{scanned, most-days, day-numbers};
+ghost use Rattle.prices.specs.Calendar.{last-day, date-refusal};
+ghost use Rattle.language.specs.Limits.{no-line};
 ghost use Rattle.prices.specs.Reports.{days-from, price-run, price-runs, run-line, run-lines};
 ghost use Rattle.prices.specs.Reports.{days-report, price-report};
-ghost use Rattle.pricing.specs.Runs.{Priced, RunAt, first-price};
+ghost use Rattle.pricing.specs.Runs.{Priced, RunAt, first-price, most-report};
 
 // The last day of the range, and the refusal of a day, date or month that is not in the calendar or range.
 const LAST_DAY: u32 = 65535;
@@ -23,6 +25,9 @@ const LAST_DAY: u32 = 65535;
 const DATE_REFUSAL: u32 = 24;
 
 const LINE_FEED: u8 = 10;
+
+// The bytes of the longest report: 31 lines of at most 18.
+const MOST_REPORT: usize = 558;
 
 // Writes the line of a run at a place, and returns the place after it.
 fn write_run(held: &mut [u8], at: usize, first: u32, last: u32, cents: u32) -> usize
@@ -40,7 +45,7 @@ fn write_run(held: &mut [u8], at: usize, first: u32, last: u32, cents: u32) -> u
 // The place after the run that begins at place i of a table. A day has three numbers there: the line of its term, or 0
 // where it has none, the term's signing number and its cents.
 fn find_end(table: &[u32], i: usize, count: usize) -> usize
-    requires { ⌜ (length (now table) ≡ 93) × (count ≤ 31) × (i < count) ×
+    requires { ⌜ (length (now table) ≡ day-numbers) × (count ≤ most-days) × (i < count) ×
         (getD (now table) (3 * i) 0 ≡ 0 → ⊥) ⌝ }
     ensures { λ r. ⌜ RunAt (now (table .entry)) count i r ⌝ }
 {
@@ -60,9 +65,9 @@ fn find_end(table: &[u32], i: usize, count: usize) -> usize
 // Writes the lines of the runs of a table, and returns how long they are. A line has at most 18 bytes, and there are at
 // most 31 days.
 fn write_runs(table: &[u32], day: u32, count: usize, held: &mut [u8]) -> usize
-    requires { ⌜ (day + count ≤ 65536) × (count ≤ 31) × (558 ≤ length (now held)) ×
+    requires { ⌜ (day + count ≤ last-day + 1) × (count ≤ most-days) × (most-report ≤ length (now held)) ×
         ((price : ℕ → Option ℕ) × Priced price day count (now table)) ⌝ }
-    ensures { λ r. ⌜ (r ≤ 558) × ((price : ℕ → Option ℕ) → Priced price day count (now (table .entry))
+    ensures { λ r. ⌜ (r ≤ most-report) × ((price : ℕ → Option ℕ) → Priced price day count (now (table .entry))
         → (r ≡ length (run-lines (price-runs price day count)))
         × (now (held .exit) ≡ sets (now (held .entry)) 0 (run-lines (price-runs price day count)))) ⌝ }
 {
@@ -89,14 +94,14 @@ fn write_runs(table: &[u32], day: u32, count: usize, held: &mut [u8]) -> usize
 // Writes the lines of the runs of a table into a report. They are written aside first, and copied if they fit, so that a
 // refusal changes nothing.
 fn write_report(table: &[u32], day: u32, count: usize, report: &mut [u8]) -> Filled
-    requires { ⌜ (day + count ≤ 65536) × (count ≤ 31) ×
+    requires { ⌜ (day + count ≤ last-day + 1) × (count ≤ most-days) ×
         ((price : ℕ → Option ℕ) × Priced price day count (now table)) ⌝ }
     ensures { λ r. ⌜ ((price : ℕ → Option ℕ) → Priced price day count (now (table .entry))
         → (r ≡ answer 1 (accept (run-lines (price-runs price day count))) (length (now (report .entry))))
         × (now (report .exit)
         ≡ buffer (accept (run-lines (price-runs price day count))) (now (report .entry)))) ⌝ }
 {
-    let mut held = [0u8; 558];
+    let mut held = [0u8; MOST_REPORT];
     let n = write_runs(table, day, count, &mut held);
     if report.len() < n {
         return Filled::Refused(ROOM_REFUSAL, 0);
@@ -109,14 +114,14 @@ fn write_report(table: &[u32], day: u32, count: usize, report: &mut [u8]) -> Fil
 fn check_terms(terms: &[u8]) -> Filled
     ensures { λ r. ⌜ r ≡ scanned (terms-of (now (terms .entry))) ⌝ }
 {
-    let mut marks = [0u64; 1024];
-    let mut table = [0u32; 93];
+    let mut marks = [0u64; terms::MARK_WORDS];
+    let mut table = [0u32; terms::DAY_NUMBERS];
     terms::scan_terms(terms, 0, 0, 0, &mut marks, &mut table)
 }
 
 // The price on a day or date that is refused, whatever the model: the refusal of the terms, or else 24.
 fn refuse_price(terms: &[u8]) -> PriceAnswer
-    ensures { λ r. ⌜ ((model : ℕ) → r ≡ told-price (term-on (now (terms .entry)) model (refuse 24 0))) ⌝ }
+    ensures { λ r. ⌜ ((model : ℕ) → r ≡ told-price (term-on (now (terms .entry)) model (refuse date-refusal no-line))) ⌝ }
 {
     let checked = check_terms(terms);
     let Filled::Refused(number, line) = checked else {
@@ -127,7 +132,7 @@ fn refuse_price(terms: &[u8]) -> PriceAnswer
 
 // The price of the first day of a table.
 fn first_price(table: &[u32]) -> PriceAnswer
-    requires { ⌜ length (now table) ≡ 93 ⌝ }
+    requires { ⌜ length (now table) ≡ day-numbers ⌝ }
     ensures { λ r. ⌜ r ≡ first-price (now (table .entry)) ⌝ }
 {
     if table[0] == 0 {
@@ -138,11 +143,11 @@ fn first_price(table: &[u32]) -> PriceAnswer
 
 // The price of a model on a day in range: the terms are scanned for that day alone.
 fn price_within(terms: &[u8], model: u32, day: u32) -> PriceAnswer
-    requires { ⌜ day ≤ 65535 ⌝ }
+    requires { ⌜ day ≤ last-day ⌝ }
     ensures { λ r. ⌜ r ≡ told-price (term-on (now (terms .entry)) model (accept day)) ⌝ }
 {
-    let mut marks = [0u64; 1024];
-    let mut table = [0u32; 93];
+    let mut marks = [0u64; terms::MARK_WORDS];
+    let mut table = [0u32; terms::DAY_NUMBERS];
     let scanned = terms::scan_terms(terms, model, day, 1, &mut marks, &mut table);
     let Filled::Refused(number, line) = scanned else {
         return first_price(&table);
@@ -173,7 +178,7 @@ pub fn price_on_date(terms: &[u8], model: u32, year: u32, month: u32, day: u32) 
 
 // The report of a month that is refused, whatever the model: the refusal of the terms, or else 24.
 fn refuse_report(terms: &[u8]) -> Filled
-    ensures { λ r. ⌜ ((model : ℕ) → r ≡ filled 1 (days-report (now (terms .entry)) model (refuse 24 0))) ⌝ }
+    ensures { λ r. ⌜ ((model : ℕ) → r ≡ filled 1 (days-report (now (terms .entry)) model (refuse date-refusal no-line))) ⌝ }
 {
     let checked = check_terms(terms);
     let Filled::Refused(number, line) = checked else {
@@ -184,14 +189,14 @@ fn refuse_report(terms: &[u8]) -> Filled
 
 // The report of `count` days from a day on.
 fn report_days(terms: &[u8], model: u32, day: u32, count: usize, report: &mut [u8]) -> Filled
-    requires { ⌜ (day ≤ 65535) × (day + count ≤ 65536) × (count ≤ 31) ⌝ }
+    requires { ⌜ (day ≤ last-day) × (day + count ≤ last-day + 1) × (count ≤ most-days) ⌝ }
     ensures { λ r. ⌜ (r ≡ answer 1 (days-report (now (terms .entry)) model (accept (days-from day count)))
         (length (now (report .entry))))
         × (now (report .exit) ≡ buffer (days-report (now (terms .entry)) model (accept (days-from day count)))
         (now (report .entry))) ⌝ }
 {
-    let mut marks = [0u64; 1024];
-    let mut table = [0u32; 93];
+    let mut marks = [0u64; terms::MARK_WORDS];
+    let mut table = [0u32; terms::DAY_NUMBERS];
     let scanned = terms::scan_terms(terms, model, day, count, &mut marks, &mut table);
     let Filled::Done(_) = scanned else {
         return scanned;

@@ -21,7 +21,7 @@ use Rattle.language.specs.Evaluation.{first-state}
 use Rattle.language.specs.Runs.{Evaluates}
 use Rattle.language.specs.Store.{heap-of-numbers, capacity, stored, Outcome, gave, ended, ran, Ran}
 use Rattle.language.specs.Correspondence.{identities, EndAlike, Matches}
-use Rattle.theory.specs.Accepts.{RowsOf}
+use Rattle.language.specs.WellFormed.{RowsOf}
 
 -- The column "translator's input" of the table of limits (document 01, "Lines and rows"). The numbers are
 -- written out here, so that the demand does not follow the definition if that has another one.

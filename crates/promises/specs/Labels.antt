@@ -8,7 +8,7 @@ use lib.ListN.{length, getD}
 use Rattle.language.specs.Limits.{object-class, object-width}
 use Rattle.language.specs.Tree.{Class, Program}
 use Rattle.language.specs.ClassRelations.{Subclass}
-use Rattle.theory.specs.Accepts.{RowsOf}
+use Rattle.language.specs.WellFormed.{RowsOf}
 
 -- The class that object j of a store, from 0, ended in: the first of its numbers.
 abbrev pub ended-in : List ℕ → ℕ → ℕ

@@ -31,7 +31,7 @@ use Rattle.language.specs.Verdict.{Verdict, accepted, refused}
 use Rattle.language.specs.Translation.{within-limits}
 use Rattle.language.specs.State.{Value, raised, spent, deep, full}
 use Rattle.language.specs.Store.{capacity, Outcome, gave, ended, ran, Ran, refused as run-refused}
-use Rattle.theory.specs.Accepts.{RowsOf}
+use Rattle.language.specs.WellFormed.{RowsOf}
 use Rattle.promises.specs.Endings.{translator-column}
 
 -- A line of so many rows.

@@ -6,7 +6,7 @@ use borrow.Author.Tests.{eq-eqb, ne-eqb, le-leb, lt-leb}
 use lib.ListN.{length}
 use Rattle.language.specs.Limits.{most-fuel}
 use Rattle.language.specs.Results as results
-use Rattle.language.specs.Results.{refuse, require}
+use Rattle.language.specs.Results.{refuse, accept, require}
 use Rattle.language.specs.Tree.{Program}
 use Rattle.language.specs.Verdict.{whole-rows, check}
 use Rattle.language.specs.Store as store
@@ -17,7 +17,7 @@ use Rattle.checker.specs.Answers.{checked-case}
 use Rattle.checker.specs.Passes.{Checks}
 use Rattle.checker.proofs.Passing.{checked-accepted, checked-refused}
 use Rattle.machine.specs.declared.Run.{Run}
-use Rattle.machine.specs.Contracts.{PreChecked, PostChecked, Tells}
+use Rattle.machine.specs.Evaluator.{PreChecked, PostChecked, Tells}
 use Rattle.machine.proofs.Checked.{tells-run-of}
 use Rattle.runner.specs.declared.Answer.the-variants.{Refused, Ran}
 use Rattle.runner.specs.Answers.{answer-told, Answers}
@@ -63,18 +63,17 @@ module _ (R s : List ℕ) (fuel : ℕ) where
 
 -- Rows that the check accepted, with the tables that it filled.
 module _ {R E T A M C : List ℕ} (n : ℕ) (c : Checked) (e : c ≡ Passed n) (f : Checks R E T A M C c) where
-  pub checked : PreChecked R E T A M
-  checked =
-      let x = checked-accepted (check R) n (sym e ∙ f .answer) in
-      let h = f .holds (x .0) (x .1) in
-      record { F = h .0; C = C; p = x .0; held = h .1 }
+  pub accepted : (p : Program) × (check R ≡ accept p)
+  accepted = checked-accepted (check R) n (sym e ∙ f .answer)
+
+  abbrev pub checked : PreChecked R E T A M
+  checked = let h = f .holds (accepted .0) (accepted .1) in
+      record { F = h .0; C = C; p = accepted .0; held = h .1 }
 
   pub answers : {s s′ : List ℕ} {fuel : ℕ} {r : Run} → fuel ≤ most-fuel → PostChecked R E T A M s s′ fuel r
       → Answers R fuel s s′ (Ran r)
   answers {s} {s′} {fuel} {r} few d =
-      let x = checked-accepted (check R) n (sym e ∙ f .answer) in
-      let h = f .holds (x .0) (x .1) in
-      let t = tells-run-of R s s′ (x .0) fuel r (x .1) few (d .tells (h .0) C (x .0) (h .1)) in
+      let t = tells-run-of R s s′ (accepted .0) fuel r (accepted .1) few (d .tells checked) in
       record { answer = told t; store = ap (λ (y : store.Ran). y .store) (sym (t .is)) }
     where
       told : Tells (run-of R fuel s) s′ r → Ran r ≡ answer-told (run-of R fuel s .answer)

@@ -4,7 +4,7 @@ use mathlib.Core.List.{List}
 use Prim.Native.Nat.{ℕ}
 use Rattle.language.specs.Store as store
 use Rattle.language.specs.Store.{refused, ran, run-of}
-use Rattle.machine.specs.Contracts.{end-told}
+use Rattle.machine.specs.Evaluator.{end-told}
 use Rattle.runner.specs.declared.Answer.{Answer}
 use Rattle.runner.specs.declared.Answer.the-variants.{Refused, Ran}
 

@@ -7,17 +7,18 @@ use Rattle.language.specs.Verdict.{accepted, refused as not-accepted}
 use Rattle.language.specs.State.{Value, null, truth, object, raised, spent, deep, full, stuck}
 use Rattle.language.specs.Store.{Outcome, gave, ended, Answer, refused, ran}
 use Rattle.checker.specs.Answers.{verdict-case}
-use Rattle.machine.specs.Contracts.{end-told}
+use Rattle.machine.specs.Evaluator.{end-told}
 use Rattle.objects.specs.Values.{case-of}
 use Rattle.machine.specs.declared.Run.{Run}
 use Rattle.runner.specs.declared.Answer as runner
 use Rattle.runner.specs.declared.Answer.the-variants.{Refused as NotRun, Ran}
 use Rattle.runner.specs.Answers.{answer-told}
-use Rattle.services.specs.Packed.{packed-verdict, packed-outcome, packed-answer, kind, content}
-use Rattle.services.specs.Packed.{kind-of-outcome, kind-after, content-of-outcome, content-after}
-use Rattle.services.specs.Packed.{steps-after, objects-after, changes-after, packed-checked, kind-of}
-use Rattle.services.specs.Packed.{content-of, packed-end, packed-run, kind-left, kind-told}
-use Rattle.services.specs.Packed.{content-left, content-told, steps-told, objects-told, changes-told}
+use Rattle.packing.specs.Packed.{packed-verdict, packed-outcome, packed-answer, kind, content}
+use Rattle.packing.specs.Packed.{kind-of-outcome, kind-after, content-of-outcome, content-after}
+use Rattle.services.specs.Cases.{packed-checked, kind-of}
+use Rattle.packing.specs.Packed.{steps-after, objects-after, changes-after}
+use Rattle.services.specs.Cases.{content-of, packed-end, packed-run, kind-left, kind-told}
+use Rattle.services.specs.Cases.{content-left, content-told, steps-told, objects-told, changes-told}
 
 pub verdict-packed : (v : verdicts.Verdict) → packed-checked (verdict-case v) ≡ packed-verdict v
 verdict-packed accepted = refl

@@ -1,5 +1,1 @@
-pub mod Packed
-pub mod Unpacked
-pub mod FormLines
-pub mod Ranges
-pub mod Faithful
+pub mod Cases

@@ -8,8 +8,8 @@ ghost use Rattle.language.specs.Filling.{buffer};
 ghost use Rattle.fleet.specs.Counts.{run-counts, counts-through, count-told};
 ghost use Rattle.fleet.specs.Ranking.{report-answer};
 ghost use Rattle.fleet.specs.Fleet.{fleet-report, models-report};
-ghost use Rattle.services.specs.Packed.{packed-count, printed-after, spoiled-after, report-number};
-ghost use Rattle.services.specs.Packed.{report-told};
+ghost use Rattle.packing.specs.Packed.{packed-count, printed-after, spoiled-after, report-number};
+ghost use Rattle.packing.specs.Packed.{report-told};
 
 // The labels of a run as one number.
 fn pack_count(c: Count) -> u64

@@ -10,8 +10,8 @@ ghost use Rattle.language.specs.Filling.{answer, buffer};
 ghost use Rattle.prices.specs.Calendar.{day-answer, date-answer};
 ghost use Rattle.prices.specs.Prices.{price-on-day, price-on-date};
 ghost use Rattle.prices.specs.Reports.{price-report};
-ghost use Rattle.services.specs.Packed.{packed, packed-day, packed-date, year-after, month-after};
-ghost use Rattle.services.specs.Packed.{day-after, TellsPrice};
+ghost use Rattle.packing.specs.Packed.{packed, packed-day, packed-date, year-after, month-after};
+ghost use Rattle.packing.specs.Packed.{day-after, TellsPrice};
 
 // The number of the day that has a date.
 #[no_mangle]

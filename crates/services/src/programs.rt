@@ -9,7 +9,8 @@ ghost use Rattle.language.specs.Translation.{translation};
 ghost use Rattle.language.specs.Verdict.{verdict};
 ghost use Rattle.language.specs.Alphabet.{ours};
 ghost use Rattle.language.specs.Texts.{read-text, write-rows};
-ghost use Rattle.services.specs.Packed.{packed, packed-verdict, packed-checked};
+ghost use Rattle.services.specs.Cases.{packed-checked};
+ghost use Rattle.packing.specs.Packed.{packed, packed-verdict};
 
 // Reads a text into rows.
 #[no_mangle]

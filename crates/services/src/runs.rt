@@ -6,10 +6,11 @@ use objects::Value;
 use runner::Answer;
 ghost use mathlib.Core.Path.{_≡_};
 ghost use Rattle.language.specs.Store.{run-of};
-ghost use Rattle.services.specs.Packed.{packed-answer, kind-after, content-after, steps-after};
-ghost use Rattle.services.specs.Packed.{objects-after, changes-after, packed-end, packed-run, kind-of};
-ghost use Rattle.services.specs.Packed.{content-of, kind-left, content-left, kind-told, content-told};
-ghost use Rattle.services.specs.Packed.{steps-told, objects-told, changes-told};
+ghost use Rattle.packing.specs.Packed.{packed-answer, kind-after, content-after, steps-after};
+ghost use Rattle.services.specs.Cases.{packed-end, packed-run, kind-of};
+ghost use Rattle.packing.specs.Packed.{objects-after, changes-after};
+ghost use Rattle.services.specs.Cases.{content-of, kind-left, content-left, kind-told, content-told};
+ghost use Rattle.services.specs.Cases.{steps-told, objects-told, changes-told};
 
 // The number of an answer where the run ended in an exception.
 const EXCEPTION: u32 = 1000;

@@ -1,7 +1,7 @@
 // Answers as one number of two words.
 use language::Filled;
 ghost use mathlib.Core.Path.{_≡_};
-ghost use Rattle.services.specs.Packed.{refusal, packed};
+ghost use Rattle.packing.specs.Packed.{refusal, packed};
 
 // Two words of 32 bits as one number.
 pub fn two_words(number: u32, line: u32) -> u64

@@ -14,13 +14,17 @@ use Rattle.language.specs.declared.Filled.the-variants.{Done, Refused}
 use Rattle.prices.specs.Terms.{Term, is-signed}
 use Rattle.prices.specs.Prices.{ruling}
 
+-- One mark for each signing number up to the largest, 64 to a word.
+abbrev pub mark-words : ℕ
+mark-words = 1024
+
 -- Number n among sets of 64 numbers each.
 abbrev pub is-marked : List ℕ → ℕ → Bool
 is-marked sets n = member (getD sets (n / 64) 0) (n % 64 + 1)
 
 -- The marks are the signing numbers of these terms.
 pub record Marks (sets : List ℕ) (ts : List Term) : Type 0 where
-  pub long : length sets ≡ 1024
+  pub long : length sets ≡ mark-words
   pub each : (n : ℕ) → n ≤ largest → is-marked sets n ≡ is-signed n ts
 
 -- A day's three numbers: the line of its term, or 0 where none rules, and the term's signing number and cents.
@@ -36,12 +40,17 @@ abbrev pub cents-kept : Option Term → ℕ
 cents-kept none = 0
 cents-kept (some t) = t .cents
 
--- The table has room for the longest month and tells the terms that rule a model on `count` days from a day on.
+-- The days of the longest month, and three numbers for each.
 abbrev pub most-days : ℕ
 most-days = 31
 
+abbrev pub day-numbers : ℕ
+day-numbers = 3 * most-days
+
+-- The table has room for the longest month and tells the terms that rule a model on `count` days from a day on.
+
 pub record Ruled (model first count : ℕ) (table : List ℕ) (ts : List Term) : Type 0 where
-  pub long : length table ≡ 3 * most-days
+  pub long : length table ≡ day-numbers
   pub line : (i : ℕ) → i < count → getD table (3 * i) 0 ≡ line-kept (ruling model (first + i) ts)
   pub signing : (i : ℕ) → i < count → getD table (3 * i + 1) 0 ≡ signing-kept (ruling model (first + i) ts)
   pub cents : (i : ℕ) → i < count → getD table (3 * i + 2) 0 ≡ cents-kept (ruling model (first + i) ts)

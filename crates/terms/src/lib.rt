@@ -12,11 +12,19 @@ ghost use Rattle.language.specs.Effects.{join, effect-of};
 ghost use Rattle.language.specs.Results.{accept};
 ghost use Rattle.prices.specs.Terms.{Term, first-number, ended, term-line, terms-of};
 ghost use Rattle.prices.specs.Prices.{covers};
-ghost use Rattle.terms.specs.Tables.{is-marked, Marks, Ruled, scanned};
+ghost use Rattle.prices.specs.Calendar.{last-day};
+ghost use Rattle.language.specs.Limits.{largest};
+ghost use Rattle.terms.specs.Tables.{is-marked, Marks, Ruled, scanned, mark-words, most-days};
+ghost use Rattle.terms.specs.Tables.{day-numbers};
 ghost use Rattle.terms.specs.Entering.{is-outranked, day-entered, days-entered, term-entered};
 
 // The refusal of a line whose first day follows its last or whose signing number occurred.
 const TERM_REFUSAL: u32 = 23;
+
+// One mark for each signing number, 64 to a word; three numbers for each day of the longest month.
+pub const MARK_WORDS: usize = 1024;
+
+pub const DAY_NUMBERS: usize = 93;
 
 const LINE_FEED: u8 = 10;
 
@@ -90,7 +98,7 @@ fn read_term_at(text: &[u8], at: usize) -> TermLine
 
 // Whether a signing number is marked.
 fn is_marked(marks: &[u64], n: u32) -> bool
-    requires { ⌜ (n ≤ 65535) × (length (now marks) ≡ 1024) ⌝ }
+    requires { ⌜ (n ≤ largest) × (length (now marks) ≡ mark-words) ⌝ }
     ensures { λ r. ⌜ r ≡ is-marked (now (marks .entry)) n ⌝ }
 {
     classes::is_member(marks[(n / 64) as usize], n % 64 + 1)
@@ -98,7 +106,7 @@ fn is_marked(marks: &[u64], n: u32) -> bool
 
 // Marks a signing number.
 fn mark(marks: &mut [u64], n: u32)
-    requires { ⌜ (n ≤ 65535) × (length (now marks) ≡ 1024) ⌝ }
+    requires { ⌜ (n ≤ largest) × (length (now marks) ≡ mark-words) ⌝ }
     ensures { λ _. ⌜ now (marks .exit) ≡ set (now (marks .entry)) (n / 64)
         (join (getD (now (marks .entry)) (n / 64) 0) (effect-of (n % 64 + 1))) ⌝ }
 {
@@ -129,7 +137,7 @@ fn is_outranked(held: u32, highest: u32, signing: u32) -> bool
 // Enters a term for a day on which it holds, unless the one entered there has a higher signing number. A day takes three
 // numbers of the table: the line of its term, the signing number and the cents.
 fn enter_day(table: &mut [u32], i: usize, line: u32, signing: u32, cents: u32)
-    requires { ⌜ (i < 31) × (length (now table) ≡ 93) ⌝ }
+    requires { ⌜ (i < most-days) × (length (now table) ≡ day-numbers) ⌝ }
     ensures { λ _. ⌜ now (table .exit) ≡ day-entered (now (table .entry)) i line signing cents ⌝ }
 {
     let outranked = is_outranked(table[3 * i], table[3 * i + 1], signing);
@@ -152,7 +160,7 @@ fn enter_days(
     signing: u32,
     cents: u32,
 )
-    requires { ⌜ (day ≤ 65535) × (count ≤ 31) × (length (now table) ≡ 93) ⌝ }
+    requires { ⌜ (day ≤ last-day) × (count ≤ most-days) × (length (now table) ≡ day-numbers) ⌝ }
     ensures { λ _. ⌜ now (table .exit)
         ≡ days-entered day first last line signing cents (now (table .entry)) 0 count ⌝ }
 {
@@ -179,7 +187,7 @@ fn enter_term(
     signing: u32,
     cents: u32,
 )
-    requires { ⌜ (day ≤ 65535) × (count ≤ 31) × (length (now table) ≡ 93) ⌝ }
+    requires { ⌜ (day ≤ last-day) × (count ≤ most-days) × (length (now table) ≡ day-numbers) ⌝ }
     ensures { λ _. ⌜ now (table .exit)
         ≡ term-entered model day count of first last line signing cents (now (table .entry)) ⌝ }
 {
@@ -198,7 +206,7 @@ pub fn scan_terms(
     marks: &mut [u64],
     table: &mut [u32],
 ) -> Filled
-    requires { ⌜ (day ≤ 65535) × (count ≤ 31) ⌝ }
+    requires { ⌜ (day ≤ last-day) × (count ≤ most-days) ⌝ }
     requires { ⌜ Marks (now marks) [] × Ruled model day count (now table) [] ⌝ }
     ensures { λ r. ⌜ (r ≡ scanned (terms-of (now (text .entry)))) × ((ts : List Term)
         → terms-of (now (text .entry)) ≡ accept ts → Ruled model day count (now (table .exit)) ts) ⌝ }

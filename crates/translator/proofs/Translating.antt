@@ -22,16 +22,14 @@ pub some-accepted : {R E T A M C : List ℕ} {c : Checked} (n : ℕ) → length 
 some-accepted {R} {E} {T} {A} {M} {C} n l e k =
     let x = checked-accepted (check R) n (sym e ∙ k .answer) in
     let y = k .holds (x .0) (x .1) in
-    let w = y .1 in
-    let h = w .headed in
+    let h = y .1 .headed .here in
     record {
       p = x .0;
       A = A;
-      checked = record { accepted = x .1; rows = h .here; tables = h .classes };
       F = y .0;
-      methods = h .methods;
-      lookups = w .looks;
-      beside = omega (arith, l, h .here .all, h .here .in-ends);
+      accepted = x .1;
+      held = y .1;
+      beside = omega (arith, l, h .all, h .in-ends);
     }
 
 -- A refusal of the check is one of the translation.

@@ -1,7 +1,7 @@
 //! Programs at each limit and one step past it.
 
 use crate::random::Random;
-use crate::rows::{letter, BOOL, CHECKED, OBJECT, PLAIN, ROOT, STATE, TRANSLATED};
+use crate::rows::{letter, BOOL, CHECKED, OBJECT, PLAIN, ROOT, ROW_WIDTH, STATE, TRANSLATED};
 
 /// Rows written one after the other.
 #[derive(Default)]
@@ -13,6 +13,11 @@ impl Writer {
     pub fn row(&mut self, letter: u32, first: u32, second: u32) -> &mut Writer {
         self.rows.extend_from_slice(&[letter, first, second, 0]);
         self
+    }
+
+    /// How many rows there are.
+    pub fn count(&self) -> usize {
+        self.rows.len() / ROW_WIDTH
     }
 
     /// The start with a block of one literal.

@@ -1,6 +1,7 @@
 //! The notation of fleets in the cases of document 02: runs, programs one after another and stores, or counted lines, and
 //! room for the report.
 
+use crate::notation;
 use crate::rows::OBJECT_WIDTH;
 use crate::services::{Fleet, Refused, Services};
 use std::collections::BTreeMap;
@@ -102,8 +103,7 @@ fn all_programs(text: &str, programs: &BTreeMap<String, String>) -> Option<Vec<u
             }
             None => (part, 1),
         };
-        let rows: Vec<u32> = super::expanded(records).iter().flat_map(|record| super::row(record)).collect();
-        all.extend(rows.repeat(times));
+        all.extend(notation::rows(records).repeat(times));
     }
     Some(all)
 }

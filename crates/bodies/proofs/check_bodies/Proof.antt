@@ -28,7 +28,7 @@ method-requires c κs =
     let start = c .before .before .before .before .before .before .before .before .before .before .before
     .before in
     going-method (c .before .before .before .loop .inv) (c .before .before .loop-test .taken)
-    (start .pre .ready)
+    (start .pre)
 
 enum-known-v : tie.Need-enum-known-v Inv-loop μ-loop
 enum-known-v c = search needs
@@ -75,7 +75,7 @@ loop-again c =
 slice-write-slots : tie.Need-slice-write-slots Inv-loop μ-loop
 slice-write-slots c =
     let start = c .before .before .before .before .before .before .before .before .before .before in
-    omega (arith, c .before .loop .inv .slots-long, ready-slots (start .pre .ready))
+    omega (arith, c .before .loop .inv .slots-long, ready-slots (start .pre))
 
 add-expression : tie.Need-add-expression Inv-loop μ-loop
 add-expression c =
@@ -83,9 +83,9 @@ add-expression c =
     .before in
     omega (
       arith,
-      start .pre .ready .started,
-      start .pre .ready .layout .start-line .within,
-      start .pre .ready .layout .short,
+      start .pre .started,
+      start .pre .headed .here .start-line .within,
+      start .pre .headed .here .short,
     )
 
 expression-requires : tie.Need-expression-requires Inv-loop μ-loop
@@ -95,8 +95,8 @@ expression-requires c κs =
     going-start-pre (c .before .before .before .loop .inv) (c .before .before .loop-test .left)
     (length-set (c .before .before .before .loop .slots) 0 4294967295)
     (getD-set-same (c .before .before .before .loop .slots) 0 4294967295 0
-    (omega (arith, c .before .before .before .loop .inv .slots-long, ready-slots (start .pre .ready))))
-    (start .pre .ready)
+    (omega (arith, c .before .before .before .loop .inv .slots-long, ready-slots (start .pre))))
+    (start .pre)
 
 enum-known-t : tie.Need-enum-known-t Inv-loop μ-loop
 enum-known-t c = search needs
@@ -117,7 +117,7 @@ same-length-4 c =
     going-long (at-loop .loop .inv) (at-loop-test .loop-test .left)
     (length-set (at-loop .loop .slots) 0 4294967295)
     (getD-set-same (at-loop .loop .slots) 0 4294967295 0
-    (omega (arith, at-loop .loop .inv .slots-long, ready-slots (start .pre .ready))))
+    (omega (arith, at-loop .loop .inv .slots-long, ready-slots (start .pre))))
     (at-expression .expression .ensures)
 
 returns-2 : tie.Need-returns-2 Inv-loop μ-loop
@@ -129,7 +129,7 @@ returns-2 c =
     going-start-refused (at-loop .loop .inv) (at-loop-test .loop-test .left)
     (length-set (at-loop .loop .slots) 0 4294967295)
     (getD-set-same (at-loop .loop .slots) 0 4294967295 0
-    (omega (arith, at-loop .loop .inv .slots-long, ready-slots (start .pre .ready))))
+    (omega (arith, at-loop .loop .inv .slots-long, ready-slots (start .pre))))
     (at-expression .expression .ensures) _ _ (c .before .t .given .1)
 
 same-length-5 : tie.Need-same-length-5 Inv-loop μ-loop
@@ -148,7 +148,7 @@ same-length-6 c =
     going-long (at-loop .loop .inv) (at-loop-test .loop-test .left)
     (length-set (at-loop .loop .slots) 0 4294967295)
     (getD-set-same (at-loop .loop .slots) 0 4294967295 0
-    (omega (arith, at-loop .loop .inv .slots-long, ready-slots (start .pre .ready))))
+    (omega (arith, at-loop .loop .inv .slots-long, ready-slots (start .pre))))
     (at-expression .expression .ensures)
 
 returns-3 : tie.Need-returns-3 Inv-loop μ-loop
@@ -160,7 +160,7 @@ returns-3 c =
     going-accepted (at-loop .loop .inv) (at-loop-test .loop-test .left)
     (length-set (at-loop .loop .slots) 0 4294967295)
     (getD-set-same (at-loop .loop .slots) 0 4294967295 0
-    (omega (arith, at-loop .loop .inv .slots-long, ready-slots (start .pre .ready))))
+    (omega (arith, at-loop .loop .inv .slots-long, ready-slots (start .pre))))
     (at-expression .expression .ensures) (c .match2 .keys2)
 
 pub check-bodies-spec : {M : Type 1} → statement M

@@ -4,9 +4,9 @@ use Prim.Native.Nat.{_+_, _*_}
 use native.Mathlib.Omega.{arith}
 use borrow.Author.Needs.{needs}
 use Rattle.bodies.proofs.Laws.{not-yes, not-no}
-use Rattle.bodies.proofs.Methods.{in-methods, in-effects, facts-enter, facts-few, facts-low}
-use Rattle.bodies.proofs.Methods.{facts-line}
-use Rattle.bodies.proofs.Methods.{facts-pre, body-typed, body-case, result-low, method-refused}
+use Rattle.bodies.proofs.Methods.{in-methods, in-effects, enter-ready, parameters-low, row-low}
+use Rattle.bodies.proofs.Methods.{row-inside}
+use Rattle.bodies.proofs.Methods.{body-pre, body-typed, body-case, result-low, method-refused}
 use Rattle.bodies.proofs.Methods.{method-unfit, method-wide, method-accepted}
 use Rattle.bodies.proofs.method.Statement.{statement}
 use Rattle.bodies.proofs.method.Tie as tie
@@ -14,17 +14,17 @@ use Rattle.bodies.proofs.method.Tie as tie
 mul-at : tie.Need-mul-at
 mul-at c =
     let start = c .before .before .before .before .before .before .before .before in
-    omega (arith, in-methods (start .pre .facts), start .good)
+    omega (arith, in-methods (start .pre), start .good)
 
 mul-at-2 : tie.Need-mul-at-2
 mul-at-2 c =
     let start = c .before .before .before .before .before .before .before .before in
-    omega (arith, in-methods (start .pre .facts), start .good)
+    omega (arith, in-methods (start .pre), start .good)
 
 shared-slice-read-at : tie.Need-shared-slice-read-at
 shared-slice-read-at c =
     let start = c .before .before .before .before .before .before .before .before .before in
-    omega (arith, in-methods (start .pre .facts))
+    omega (arith, in-methods (start .pre))
 
 cast-at : tie.Need-cast-at
 cast-at c =
@@ -35,22 +35,22 @@ cast-at c =
 mul-owner : tie.Need-mul-owner
 mul-owner c =
     let start = c .before .before .before .before .before .before .before .before .before in
-    omega (arith, in-methods (start .pre .facts), start .good)
+    omega (arith, in-methods (start .pre), start .good)
 
 add-owner : tie.Need-add-owner
 add-owner c =
     let start = c .before .before .before .before .before .before .before .before .before in
-    omega (arith, in-methods (start .pre .facts), start .good)
+    omega (arith, in-methods (start .pre), start .good)
 
 mul-owner-2 : tie.Need-mul-owner-2
 mul-owner-2 c =
     let start = c .before .before .before .before .before .before .before .before .before in
-    omega (arith, in-methods (start .pre .facts), start .good)
+    omega (arith, in-methods (start .pre), start .good)
 
 shared-slice-read-owner : tie.Need-shared-slice-read-owner
 shared-slice-read-owner c =
     let start = c .before .before .before .before .before .before .before .before .before .before in
-    omega (arith, in-methods (start .pre .facts))
+    omega (arith, in-methods (start .pre))
 
 cast-owner : tie.Need-cast-owner
 cast-owner c =
@@ -61,22 +61,22 @@ cast-owner c =
 mul-n : tie.Need-mul-n
 mul-n c =
     let start = c .before .before .before .before .before .before .before .before .before .before in
-    omega (arith, in-methods (start .pre .facts), start .good)
+    omega (arith, in-methods (start .pre), start .good)
 
 add-n : tie.Need-add-n
 add-n c =
     let start = c .before .before .before .before .before .before .before .before .before .before in
-    omega (arith, in-methods (start .pre .facts), start .good)
+    omega (arith, in-methods (start .pre), start .good)
 
 mul-n-2 : tie.Need-mul-n-2
 mul-n-2 c =
     let start = c .before .before .before .before .before .before .before .before .before .before in
-    omega (arith, in-methods (start .pre .facts), start .good)
+    omega (arith, in-methods (start .pre), start .good)
 
 shared-slice-read-n : tie.Need-shared-slice-read-n
 shared-slice-read-n c =
     let start = c .before .before .before .before .before .before .before .before .before .before .before in
-    omega (arith, in-methods (start .pre .facts))
+    omega (arith, in-methods (start .pre))
 
 cast-n : tie.Need-cast-n
 cast-n c =
@@ -87,23 +87,23 @@ cast-n c =
 mul-body : tie.Need-mul-body
 mul-body c =
     let start = c .before .before .before .before .before .before .before .before .before .before .before in
-    omega (arith, in-methods (start .pre .facts), start .good)
+    omega (arith, in-methods (start .pre), start .good)
 
 add-body : tie.Need-add-body
 add-body c =
     let start = c .before .before .before .before .before .before .before .before .before .before .before in
-    omega (arith, in-methods (start .pre .facts), start .good)
+    omega (arith, in-methods (start .pre), start .good)
 
 mul-body-2 : tie.Need-mul-body-2
 mul-body-2 c =
     let start = c .before .before .before .before .before .before .before .before .before .before .before in
-    omega (arith, in-methods (start .pre .facts), start .good)
+    omega (arith, in-methods (start .pre), start .good)
 
 shared-slice-read-body : tie.Need-shared-slice-read-body
 shared-slice-read-body c =
     let start = c .before .before .before .before .before .before .before .before .before .before .before
     .before in
-    omega (arith, in-methods (start .pre .facts))
+    omega (arith, in-methods (start .pre))
 
 cast-body : tie.Need-cast-body
 cast-body c =
@@ -117,28 +117,28 @@ add-enter c =
     .before .before in
     omega (
       arith,
-      facts-line (start .pre .facts) (start .pre .space),
-      facts-low (start .pre .facts) (start .pre .space),
+      row-inside (start .pre),
+      row-low (start .pre),
     )
 
 enter-requires : tie.Need-enter-requires
 enter-requires c κs =
     let start = c .before .before .before .before .before .before .before .before .before .before .before
     .before .before in
-    facts-enter (start .pre .facts) (start .pre .space)
+    enter-ready (start .pre)
 
 add-t22 : tie.Need-add-t22
 add-t22 c =
     let start = c .before .before .before .before .before .before .before .before .before .before .before
     .before .before .before .before .before in
-    omega (arith, facts-few (start .pre .facts) (start .pre .space))
+    omega (arith, parameters-low (start .pre))
 
 expression-requires : tie.Need-expression-requires
 expression-requires c κs =
     let at-enter = c .before .before .before .before in
     let start = at-enter .before .before .before .before .before .before .before .before .before .before
     .before .before .before .before in
-    facts-pre (start .pre .facts) (start .pre .space) (at-enter .enter .ensures)
+    body-pre (start .pre) (at-enter .enter .ensures)
 
 enum-known-t : tie.Need-enum-known-t
 enum-known-t c = search needs
@@ -163,8 +163,8 @@ first-requires c κs =
     .before in
     omega (
       arith,
-      facts-line (start .pre .facts) (start .pre .space),
-      facts-low (start .pre .facts) (start .pre .space),
+      row-inside (start .pre),
+      row-low (start .pre),
     )
 
 from-number-requires : tie.Need-from-number-requires
@@ -177,8 +177,8 @@ is-fitting-requires c κs =
     let start = at-enter .before .before .before .before .before .before .before .before .before .before
     .before .before .before .before in (
       body-case (body-typed (at-enter .enter .ensures) (at-expression .expression .ensures))
-          (c .before .before .match .keys2) (start .pre .facts) (start .pre .space),
-      result-low (start .pre .facts) _ (c .from-number .ensures ∙ c .before .first .ensures),
+          (c .before .before .match .keys2) (start .pre),
+      result-low (start .pre) _ (c .from-number .ensures ∙ c .before .first .ensures),
     )
 
 cast-t40 : tie.Need-cast-t40
@@ -188,8 +188,8 @@ cast-t40 c =
     .before .before .before .before .before in
     omega (
       arith,
-      facts-line (start .pre .facts) (start .pre .space),
-      facts-low (start .pre .facts) (start .pre .space),
+      row-inside (start .pre),
+      row-low (start .pre),
     )
 
 add-t41 : tie.Need-add-t41
@@ -199,8 +199,8 @@ add-t41 c =
     .before .before .before .before .before in
     omega (
       arith,
-      facts-line (start .pre .facts) (start .pre .space),
-      facts-low (start .pre .facts) (start .pre .space),
+      row-inside (start .pre),
+      row-low (start .pre),
     )
 
 same-length-3 : tie.Need-same-length-3
@@ -225,14 +225,14 @@ mul-is-within c =
     let start = c .before .before .before .before .before .before .before .before .before .before .before
     .before .before .before .before .before .before .before .before .before .before .before .before
     .before .before .before .before .before in
-    omega (arith, in-effects (start .pre .facts), start .good)
+    omega (arith, in-effects (start .pre), start .good)
 
 shared-slice-read-is-within : tie.Need-shared-slice-read-is-within
 shared-slice-read-is-within c =
     let start = c .before .before .before .before .before .before .before .before .before .before .before
     .before .before .before .before .before .before .before .before .before .before .before .before
     .before .before .before .before .before .before in
-    in-effects (start .pre .facts)
+    in-effects (start .pre)
 
 is-within-requires : tie.Need-is-within-requires
 is-within-requires c κs = search needs
@@ -244,8 +244,8 @@ cast-t44 c =
     .before .before .before .before .before .before .before .before in
     omega (
       arith,
-      facts-line (start .pre .facts) (start .pre .space),
-      facts-low (start .pre .facts) (start .pre .space),
+      row-inside (start .pre),
+      row-low (start .pre),
     )
 
 add-t45 : tie.Need-add-t45
@@ -255,8 +255,8 @@ add-t45 c =
     .before .before .before .before .before .before .before .before in
     omega (
       arith,
-      facts-line (start .pre .facts) (start .pre .space),
-      facts-low (start .pre .facts) (start .pre .space),
+      row-inside (start .pre),
+      row-low (start .pre),
     )
 
 same-length-5 : tie.Need-same-length-5

@@ -25,8 +25,10 @@ load-requires c κs =
 cast-object-requires : tie.Need-cast-object-requires
 cast-object-requires c κs =
     let start = c .before .before .before .before .before .before .before .before in
-    rw (c .before .first .ensures)
-    (pre-cast (start .pre) (sym (c .before .before .letter-at .ensures) ∙ c .match .keys3))
+    rw (c .before .first .ensures) (
+      pre-cast (start .pre) (sym (c .before .before .letter-at .ensures) ∙ c .match .keys3),
+      start .pre .is-word,
+    )
 
 cast-write-slot : tie.Need-cast-write-slot
 cast-write-slot c = search needs

@@ -4,7 +4,7 @@ use native.Mathlib.Omega.{arith}
 use lib.ListN.{getD}
 use borrow.Author.Needs.{needs}
 use Rattle.objects.proofs.Values.{written-none, written-more}
-use Rattle.objects.specs.Contracts.{Written}
+use Rattle.objects.specs.Acts.{Written}
 use Rattle.machine.proofs.copy_slots.Statement.{statement}
 use Rattle.machine.proofs.copy_slots.Tie as tie
 

@@ -1,6 +1,6 @@
 use borrow.Author.Needs.{needs}
 use borrow.Author.Tests.{le-leb, lt-leb}
-use Rattle.machine.specs.Contracts.{frame-width}
+use Rattle.machine.specs.Evaluator.{frame-width}
 use Rattle.machine.proofs.frame_width.Statement.{statement}
 use Rattle.machine.proofs.frame_width.Tie as tie
 

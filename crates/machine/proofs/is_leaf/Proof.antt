@@ -1,5 +1,5 @@
 use mathlib.Core.Path.{sym, ap}
-use Rattle.machine.specs.Contracts.{no-child}
+use Rattle.machine.specs.Evaluator.{no-child}
 use Rattle.machine.proofs.Leaves.{no-leaf}
 use Rattle.machine.proofs.is_leaf.Statement.{statement}
 use Rattle.machine.proofs.is_leaf.Tie as tie

@@ -1,5 +1,5 @@
 use borrow.Author.Tests.{le-leb, lt-leb}
-use Rattle.machine.specs.Contracts.{most-nested}
+use Rattle.machine.specs.Evaluator.{most-nested}
 use Rattle.machine.proofs.most_nested.Statement.{statement}
 use Rattle.machine.proofs.most_nested.Tie as tie
 

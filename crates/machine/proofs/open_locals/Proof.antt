@@ -4,7 +4,7 @@ use native.Mathlib.Omega.{arith}
 use lib.ListN.{getD}
 use borrow.Author.Needs.{needs}
 use Rattle.objects.proofs.Values.{written-none, written-more}
-use Rattle.objects.specs.Contracts.{Written}
+use Rattle.objects.specs.Acts.{Written}
 use Rattle.objects.specs.Holding.{first-value-of}
 use Rattle.objects.specs.Values.{word}
 use Rattle.machine.proofs.open_locals.Statement.{statement}

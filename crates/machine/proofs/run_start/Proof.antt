@@ -10,7 +10,7 @@ array-write-tally c = search needs
 eval-requires : tie.Need-eval-requires
 eval-requires c κs =
     let start = c .before .before .before .before .before .before .before .before in
-    start-pre (start .pre .runs) (omega arith)
+    start-pre (start .pre) (omega arith)
 
 array-read-t20 : tie.Need-array-read-t20
 array-read-t20 c = search needs

@@ -4,6 +4,7 @@ use Rattle.objects.specs.Values.{meaning}
 use Rattle.objects.specs.Values.{counts-in}
 use Rattle.objects.proofs.Values.{reached-null, reached-nothing}
 use Rattle.objects.proofs.Acts.{cast-room, cast-below, cast-of-null, cast-nothing, cast-not-below}
+use Rattle.objects.proofs.Holding.{few-classes}
 use borrow.Author.Needs.{needs}
 use Rattle.objects.proofs.cast_object.Statement.{statement}
 use Rattle.objects.proofs.cast_object.Tie as tie
@@ -29,7 +30,7 @@ mul-k c =
     omega (
       arith,
       cast-room (start .args .w) (counts-in (start .args .tally .now))
-          (sym (c .before .before .before .reach .ensures) ∙ c .before .to .given .1) (start .pre) .0,
+          (sym (c .before .before .before .reach .ensures) ∙ c .before .to .given .1) (start .pre .0) .0,
       start .good .1 .0,
     )
 
@@ -40,7 +41,7 @@ shared-slice-read-k c =
     omega (
       arith,
       cast-room (start .args .w) (counts-in (start .args .tally .now))
-          (sym (at-reach .reach .ensures) ∙ c .before .before .to .given .1) (start .pre) .0,
+          (sym (at-reach .reach .ensures) ∙ c .before .before .to .given .1) (start .pre .0) .0,
     )
 
 is-below-requires : tie.Need-is-below-requires
@@ -48,8 +49,8 @@ is-below-requires c κs =
     let at-reach = c .before .before .before .before in
     let start = at-reach .before .before .before .before in
     let r = cast-room (start .args .w) (counts-in (start .args .tally .now))
-    (sym (at-reach .reach .ensures) ∙ c .before .before .to .given .1) (start .pre) in
-    (r .2, omega (arith, start .pre .declared, start .pre .holds .classes))
+    (sym (at-reach .reach .ensures) ∙ c .before .before .to .given .1) (start .pre .0) in
+    (r .2, omega (arith, start .pre .0 .declared, few-classes (start .pre .0 .holding)))
 
 returns : tie.Need-returns
 returns c =
@@ -57,16 +58,16 @@ returns c =
     let at-reach = at-to .before .before in
     let start = at-reach .before .before .before .before in
     cast-below (start .args .w) _ (sym (at-reach .reach .ensures) ∙ at-to .to .given .1)
-    (sym (c .before .is-below .ensures) ∙ c .if1 .taken) (start .pre .is-word .short)
-    (start .pre .is-word .small)
+    (sym (c .before .is-below .ensures) ∙ c .if1 .taken) (start .pre .1 .short)
+    (start .pre .1 .small)
 
 returns-2 : tie.Need-returns-2
 returns-2 c =
     let start = c .before .before .before .before .before .before in
     cast-of-null (start .args .w)
     (reached-null _ (meaning (start .args .w))
-    (sym (c .before .before .reach .ensures) ∙ c .enum-told .given .1)) (start .pre .is-word .short)
-    (start .pre .is-word .small)
+    (sym (c .before .before .reach .ensures) ∙ c .enum-told .given .1)) (start .pre .1 .short)
+    (start .pre .1 .small)
 
 returns-3 : tie.Need-returns-3
 returns-3 c =

@@ -38,7 +38,8 @@ class-entry-requires-2 c κs =
       arith,
       reached-spots (c .before .before .before .before .before .args .w)
           (counts-in (c .before .before .before .before .before .args .tally .now))
-          (c .before .before .before .before .before .pre .1) (c .before .before .before .before .before .pre .0),
+          (c .before .before .before .before .before .pre .1)
+          (c .before .before .before .before .before .pre .0),
       c .class-entry .ensures,
     )
 

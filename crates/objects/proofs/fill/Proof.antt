@@ -4,7 +4,7 @@ use native.Mathlib.Omega.{arith}
 use lib.ListN.{getD}
 use Rattle.objects.proofs.Values.{written-none, written-more, written-then, first-unused}
 use Rattle.objects.proofs.Fresh.{first-written, first-is-word, null-written}
-use Rattle.objects.specs.Contracts.{first-of, field-type-in, Written}
+use Rattle.objects.specs.Acts.{first-of, field-type-in, Written}
 use Rattle.objects.proofs.fill.Statement.{statement}
 use Rattle.objects.proofs.fill.Tie as tie
 

@@ -42,7 +42,7 @@ add-emit-methods c =
     let at-count-rows = c .before .before .before .before .before in
     let start = at-count-rows .before .before .before .before .before .before .before .before .before .before
     .before .before in
-    omega (arith, at-count-rows .count-rows .ensures .inside, start .pre .task .lent .short)
+    omega (arith, at-count-rows .count-rows .ensures .inside, start .pre .task .stand .short)
 
 emit-methods-requires : tie.Need-emit-methods-requires
 emit-methods-requires c κs =

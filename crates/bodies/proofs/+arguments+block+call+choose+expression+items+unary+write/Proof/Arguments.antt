@@ -47,7 +47,7 @@ arguments-add-place t c =
     let start = c .before .before .before .before .before .before .before .before .before .before in
     omega (
       arith,
-      c .before .loop .inv .pre .room .room,
+      c .before .loop .inv .pre .given .room .room,
       c .loop-test .taken,
       c .before .loop .inv .slots-long,
       start .good .1 .1 .1 .1 .1 .1 .0 .1,

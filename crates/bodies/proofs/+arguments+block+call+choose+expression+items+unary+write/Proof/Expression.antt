@@ -125,7 +125,7 @@ expression-unary-requires t c κs =
     .before in (
       omega (arith, in-row (start .pre .1) .3, start .pre .0),
       (
-        rest-unary _ _ (start .pre .1 .e) _ (start .pre .1 .encoded) _
+        rest-unary _ _ (start .pre .1 .e) _ (start .pre .1 .given .encoded) _
             (c .before .before .before .letter-at .ensures)
             (c .before .before .match .rest .0 .0 .0 .0 .0 .0 .0 .0 .0 .1)
             (c .before .before .match .rest .0 .0 .0 .0 .0 .0 .0 .0 .1)
@@ -172,7 +172,7 @@ expression-returns-6 t c =
     let at-match = c .before .before .before .before in
     let at-letter-at = at-match .before in
     let start = at-letter-at .before .before .before .before .before .before .before .before .before in
-    change-post (room-none (start .pre .1 .room))
+    change-post (room-none (start .pre .1 .given .room))
     (sym (at-letter-at .letter-at .ensures) ∙ at-match .match .keys6)
     (c .before .before .change .ensures)
 

@@ -4,7 +4,7 @@ use mathlib.Core.Path.{refl, ap, _∙_}
 use Prim.Native.Nat.{ℕ, _-_}
 use Rattle.objects.specs.Values.{Gave, counts-in, answer, answered}
 use Rattle.machine.specs.Machine.{place-of}
-use Rattle.machine.specs.Contracts.{nothing}
+use Rattle.machine.specs.Evaluator.{nothing}
 use Rattle.objects.proofs.Values.{outcome-value, not-gave, meaning-null, word-of-outcome}
 use Rattle.machine.proofs.Steps.{kept-of}
 use Rattle.machine.proofs.Lists.{list-first}
@@ -43,7 +43,7 @@ args-eval-requires : (t : ℕ)
 args-eval-requires t c κs =
     let at-loop = c .before .before .before .before in (
       omega (arith, at-loop .loop .inv .falls),
-      list-first (args-head (at-loop .loop .inv) (c .before .before .before .loop-test .taken) .2),
+      list-first (args-head (at-loop .loop .inv) (c .before .before .before .loop-test .taken)),
     )
 
 args-same-length : (t : ℕ)
@@ -70,7 +70,7 @@ args-mul-slots t c =
       args-room (at-loop .loop .inv) (at-loop-test .loop-test .taken)
           (c .before .before .before .eval .ensures),
       at-loop .loop .inv .long-slots,
-      kept-of (list-first (args-head (at-loop .loop .inv) (at-loop-test .loop-test .taken) .2))
+      kept-of (list-first (args-head (at-loop .loop .inv) (at-loop-test .loop-test .taken)))
           (c .before .before .before .eval .ensures) .long,
     )
 
@@ -86,7 +86,7 @@ args-element-write-slots t c =
       args-room (at-loop .loop .inv) (at-loop-test .loop-test .taken)
           (c .before .before .before .eval .ensures),
       at-loop .loop .inv .long-slots,
-      kept-of (list-first (args-head (at-loop .loop .inv) (at-loop-test .loop-test .taken) .2))
+      kept-of (list-first (args-head (at-loop .loop .inv) (at-loop-test .loop-test .taken)))
           (c .before .before .before .eval .ensures) .long,
     )
 
@@ -101,7 +101,7 @@ args-add-far t c =
       args-room (at-loop .loop .inv) (at-loop-test .loop-test .taken)
           (c .before .before .before .eval .ensures),
       at-loop .loop .inv .long-slots,
-      kept-of (list-first (args-head (at-loop .loop .inv) (at-loop-test .loop-test .taken) .2))
+      kept-of (list-first (args-head (at-loop .loop .inv) (at-loop-test .loop-test .taken)))
           (c .before .before .before .eval .ensures) .long,
     )
 
@@ -113,7 +113,7 @@ args-mul-next t c =
     omega (
       arith,
       start .good .1 .0,
-      (args-head (at-loop .loop .inv) (at-loop-test .loop-test .taken) .2) .in-ends,
+      (args-head (at-loop .loop .inv) (at-loop-test .loop-test .taken)) .in-ends,
     )
 
 args-shared-slice-read-next : (t : ℕ)
@@ -121,7 +121,7 @@ args-shared-slice-read-next : (t : ℕ)
 args-shared-slice-read-next t c =
     let at-loop-test = c .before .before .before .before .before .before .before .before in
     let at-loop = at-loop-test .before in
-    omega (arith, (args-head (at-loop .loop .inv) (at-loop-test .loop-test .taken) .2) .in-ends)
+    omega (arith, (args-head (at-loop .loop .inv) (at-loop-test .loop-test .taken)) .in-ends)
 
 args-cast-next : (t : ℕ) → args-lts.Need-cast-next (callees t) (args-at t) args.Post args-Inv-loop args-μ-loop
 args-cast-next t c =
@@ -148,7 +148,7 @@ args-loop-again t c =
     (at-eval .eval .result) (outcome-value (at-eval .eval .result) (c .before .if1 .left))
     refl
     (word-of-outcome (at-eval .eval .result) (c .before .if1 .left)
-    (kept-of (list-first (args-head (at-loop .loop .inv) (at-loop-test .loop-test .taken) .2))
+    (kept-of (list-first (args-head (at-loop .loop .inv) (at-loop-test .loop-test .taken)))
     (at-eval .eval .ensures) .small))
 
 args-same-length-2 : (t : ℕ)

@@ -27,7 +27,7 @@ callees t = (
 block-first-requires : (t : ℕ) → block-lts.Need-first-requires (callees t) (block-at t) block.Post
 block-first-requires t c κs =
     let start = c .before .before .before .before .before in
-    omega (arith, (block-apart (start .pre .1 .0) (start .pre .1 .1) .2) .row, start .good .0)
+    omega (arith, (block-apart (start .pre .1 .0) (start .pre .1 .1)) .row, start .good .0)
 
 block-cast-n : (t : ℕ) → block-lts.Need-cast-n (callees t) (block-at t) block.Post
 block-cast-n t c = search needs
@@ -35,7 +35,7 @@ block-cast-n t c = search needs
 block-second-requires : (t : ℕ) → block-lts.Need-second-requires (callees t) (block-at t) block.Post
 block-second-requires t c κs =
     let start = c .before .before .before .before .before .before in
-    omega (arith, (block-apart (start .pre .1 .0) (start .pre .1 .1) .2) .row, start .good .0)
+    omega (arith, (block-apart (start .pre .1 .0) (start .pre .1 .1)) .row, start .good .0)
 
 block-cast-k : (t : ℕ) → block-lts.Need-cast-k (callees t) (block-at t) block.Post
 block-cast-k t c = search needs
@@ -45,12 +45,12 @@ block-add-open-locals t c =
     let start = c .before .before .before .before .before .before .before .before in
     omega (
       arith,
-      (block-apart (start .pre .1 .0) (start .pre .1 .1) .2) .ready .frame,
-      (block-apart (start .pre .1 .0) (start .pre .1 .1) .2) .ready .scoped,
-      (block-apart (start .pre .1 .0) (start .pre .1 .1) .2) .ready .above,
-      (block-apart (start .pre .1 .0) (start .pre .1 .1) .2) .wide,
-      (block-apart (start .pre .1 .0) (start .pre .1 .1) .2) .locals,
-      (block-apart (start .pre .1 .0) (start .pre .1 .1) .2) .row,
+      start .pre .1 .0 .ready .frame,
+      start .pre .1 .0 .ready .scoped,
+      start .pre .1 .0 .ready .above,
+      (block-apart (start .pre .1 .0) (start .pre .1 .1)) .wide,
+      (block-apart (start .pre .1 .0) (start .pre .1 .1)) .locals,
+      (block-apart (start .pre .1 .0) (start .pre .1 .1)) .row,
       start .pre .1 .0 .ready .whole,
       start .good .0,
       c .before .before .first .ensures,
@@ -61,12 +61,12 @@ block-add-open-locals-2 t c =
     let start = c .before .before .before .before .before .before .before .before in
     omega (
       arith,
-      (block-apart (start .pre .1 .0) (start .pre .1 .1) .2) .ready .frame,
-      (block-apart (start .pre .1 .0) (start .pre .1 .1) .2) .ready .scoped,
-      (block-apart (start .pre .1 .0) (start .pre .1 .1) .2) .ready .above,
-      (block-apart (start .pre .1 .0) (start .pre .1 .1) .2) .wide,
-      (block-apart (start .pre .1 .0) (start .pre .1 .1) .2) .locals,
-      (block-apart (start .pre .1 .0) (start .pre .1 .1) .2) .row,
+      start .pre .1 .0 .ready .frame,
+      start .pre .1 .0 .ready .scoped,
+      start .pre .1 .0 .ready .above,
+      (block-apart (start .pre .1 .0) (start .pre .1 .1)) .wide,
+      (block-apart (start .pre .1 .0) (start .pre .1 .1)) .locals,
+      (block-apart (start .pre .1 .0) (start .pre .1 .1)) .row,
       start .pre .1 .0 .ready .whole,
       start .good .0,
       c .before .before .first .ensures,
@@ -77,12 +77,12 @@ block-add-open-locals-3 t c =
     let start = c .before .before .before .before .before .before .before .before in
     omega (
       arith,
-      (block-apart (start .pre .1 .0) (start .pre .1 .1) .2) .ready .frame,
-      (block-apart (start .pre .1 .0) (start .pre .1 .1) .2) .ready .scoped,
-      (block-apart (start .pre .1 .0) (start .pre .1 .1) .2) .ready .above,
-      (block-apart (start .pre .1 .0) (start .pre .1 .1) .2) .wide,
-      (block-apart (start .pre .1 .0) (start .pre .1 .1) .2) .locals,
-      (block-apart (start .pre .1 .0) (start .pre .1 .1) .2) .row,
+      start .pre .1 .0 .ready .frame,
+      start .pre .1 .0 .ready .scoped,
+      start .pre .1 .0 .ready .above,
+      (block-apart (start .pre .1 .0) (start .pre .1 .1)) .wide,
+      (block-apart (start .pre .1 .0) (start .pre .1 .1)) .locals,
+      (block-apart (start .pre .1 .0) (start .pre .1 .1)) .row,
       start .pre .1 .0 .ready .whole,
       start .good .0,
       c .before .before .first .ensures,
@@ -92,7 +92,7 @@ block-open-locals-requires : (t : ℕ) → block-lts.Need-open-locals-requires (
 block-open-locals-requires t c κs =
     let start = c .before .before .before .before .before .before .before .before in
     rw (c .before .before .first .ensures)
-    (block-locals (block-apart (start .pre .1 .0) (start .pre .1 .1) .2))
+    (block-locals (block-apart (start .pre .1 .0) (start .pre .1 .1)))
 
 block-add-items : (t : ℕ) → block-lts.Need-add-items (callees t) (block-at t) block.Post
 block-add-items t c =
@@ -100,12 +100,12 @@ block-add-items t c =
     let start = at-first .before .before .before .before .before .before in
     omega (
       arith,
-      (block-apart (start .pre .1 .0) (start .pre .1 .1) .2) .ready .frame,
-      (block-apart (start .pre .1 .0) (start .pre .1 .1) .2) .ready .scoped,
-      (block-apart (start .pre .1 .0) (start .pre .1 .1) .2) .ready .above,
-      (block-apart (start .pre .1 .0) (start .pre .1 .1) .2) .wide,
-      (block-apart (start .pre .1 .0) (start .pre .1 .1) .2) .locals,
-      (block-apart (start .pre .1 .0) (start .pre .1 .1) .2) .row,
+      start .pre .1 .0 .ready .frame,
+      start .pre .1 .0 .ready .scoped,
+      start .pre .1 .0 .ready .above,
+      (block-apart (start .pre .1 .0) (start .pre .1 .1)) .wide,
+      (block-apart (start .pre .1 .0) (start .pre .1 .1)) .locals,
+      (block-apart (start .pre .1 .0) (start .pre .1 .1)) .row,
       start .pre .1 .0 .ready .whole,
       start .good .0,
       at-first .first .ensures,
@@ -117,12 +117,12 @@ block-add-items-2 t c =
     let start = at-first .before .before .before .before .before .before in
     omega (
       arith,
-      (block-apart (start .pre .1 .0) (start .pre .1 .1) .2) .ready .frame,
-      (block-apart (start .pre .1 .0) (start .pre .1 .1) .2) .ready .scoped,
-      (block-apart (start .pre .1 .0) (start .pre .1 .1) .2) .ready .above,
-      (block-apart (start .pre .1 .0) (start .pre .1 .1) .2) .wide,
-      (block-apart (start .pre .1 .0) (start .pre .1 .1) .2) .locals,
-      (block-apart (start .pre .1 .0) (start .pre .1 .1) .2) .row,
+      start .pre .1 .0 .ready .frame,
+      start .pre .1 .0 .ready .scoped,
+      start .pre .1 .0 .ready .above,
+      (block-apart (start .pre .1 .0) (start .pre .1 .1)) .wide,
+      (block-apart (start .pre .1 .0) (start .pre .1 .1)) .locals,
+      (block-apart (start .pre .1 .0) (start .pre .1 .1)) .row,
       start .pre .1 .0 .ready .whole,
       start .good .0,
       at-first .first .ensures,
@@ -134,12 +134,12 @@ block-add-items-3 t c =
     let start = at-first .before .before .before .before .before .before in
     omega (
       arith,
-      (block-apart (start .pre .1 .0) (start .pre .1 .1) .2) .ready .frame,
-      (block-apart (start .pre .1 .0) (start .pre .1 .1) .2) .ready .scoped,
-      (block-apart (start .pre .1 .0) (start .pre .1 .1) .2) .ready .above,
-      (block-apart (start .pre .1 .0) (start .pre .1 .1) .2) .wide,
-      (block-apart (start .pre .1 .0) (start .pre .1 .1) .2) .locals,
-      (block-apart (start .pre .1 .0) (start .pre .1 .1) .2) .row,
+      start .pre .1 .0 .ready .frame,
+      start .pre .1 .0 .ready .scoped,
+      start .pre .1 .0 .ready .above,
+      (block-apart (start .pre .1 .0) (start .pre .1 .1)) .wide,
+      (block-apart (start .pre .1 .0) (start .pre .1 .1)) .locals,
+      (block-apart (start .pre .1 .0) (start .pre .1 .1)) .row,
       start .pre .1 .0 .ready .whole,
       start .good .0,
       at-first .first .ensures,
@@ -152,7 +152,7 @@ block-items-requires t c κs =
     let start = at-first .before .before .before .before .before .before in (
       omega (arith, at-second .second .ok),
       rw (at-first .first .ensures, at-second .second .ensures)
-          (block-items (block-apart (start .pre .1 .0) (start .pre .1 .1) .2)
+          (block-items (block-apart (start .pre .1 .0) (start .pre .1 .1))
           (rw (at-first .first .ensures) at (c .before .before .before .open-locals .ensures))
           (omega (arith, at-second .second .ok, at-second .second .ensures))),
     )
@@ -169,6 +169,7 @@ block-returns t c =
     block-done (start .args .at)
     (start .pre .1 .1)
     (rw (at-first .first .ensures) at (at-open-locals .open-locals .ensures))
+    (omega (arith, at-second .second .ok, at-second .second .ensures))
     (rw (at-first .first .ensures, at-second .second .ensures) at (c .before .before .items .ensures))
 
 -- The member, of its callees' contracts.

@@ -37,22 +37,22 @@ callees t = (
 call-mul-n : (t : ℕ) → call-lts.Need-mul-n (callees t) (call-at t) call.Post
 call-mul-n t c =
     let start = c .before .before .before .before .before in
-    omega (arith, (call-apart (start .pre .1 .0) (start .pre .1 .1) .3) .row, start .good .0)
+    omega (arith, (call-apart (start .pre .1 .0) (start .pre .1 .1)) .row, start .good .0)
 
 call-add-n : (t : ℕ) → call-lts.Need-add-n (callees t) (call-at t) call.Post
 call-add-n t c =
     let start = c .before .before .before .before .before in
-    omega (arith, (call-apart (start .pre .1 .0) (start .pre .1 .1) .3) .row, start .good .0)
+    omega (arith, (call-apart (start .pre .1 .0) (start .pre .1 .1)) .row, start .good .0)
 
 call-mul-n-2 : (t : ℕ) → call-lts.Need-mul-n-2 (callees t) (call-at t) call.Post
 call-mul-n-2 t c =
     let start = c .before .before .before .before .before in
-    omega (arith, (call-apart (start .pre .1 .0) (start .pre .1 .1) .3) .row, start .good .0)
+    omega (arith, (call-apart (start .pre .1 .0) (start .pre .1 .1)) .row, start .good .0)
 
 call-shared-slice-read-n : (t : ℕ) → call-lts.Need-shared-slice-read-n (callees t) (call-at t) call.Post
 call-shared-slice-read-n t c =
     let start = c .before .before .before .before .before .before in
-    omega (arith, (call-apart (start .pre .1 .0) (start .pre .1 .1) .3) .row, start .good .0)
+    omega (arith, (call-apart (start .pre .1 .0) (start .pre .1 .1)) .row, start .good .0)
 
 call-cast-n : (t : ℕ) → call-lts.Need-cast-n (callees t) (call-at t) call.Post
 call-cast-n t c =
@@ -62,15 +62,15 @@ call-cast-n t c =
 call-add-args : (t : ℕ) → call-lts.Need-add-args (callees t) (call-at t) call.Post
 call-add-args t c =
     let start = c .before .before .before .before .before .before .before .before .before in
-    omega (arith, (call-apart (start .pre .1 .0) (start .pre .1 .1) .3) .row, start .good .0)
+    omega (arith, (call-apart (start .pre .1 .0) (start .pre .1 .1)) .row, start .good .0)
 
 call-add-args-2 : (t : ℕ) → call-lts.Need-add-args-2 (callees t) (call-at t) call.Post
 call-add-args-2 t c =
     let start = c .before .before .before .before .before .before .before .before .before in
     omega (
       arith,
-      (call-apart (start .pre .1 .0) (start .pre .1 .1) .3) .many,
-      (call-apart (start .pre .1 .0) (start .pre .1 .1) .3) .few,
+      (call-apart (start .pre .1 .0) (start .pre .1 .1)) .many,
+      (call-apart (start .pre .1 .0) (start .pre .1 .1)) .few,
     )
 
 call-args-requires : (t : ℕ) → call-lts.Need-args-requires (callees t) (call-at t) call.Post
@@ -78,10 +78,10 @@ call-args-requires t c κs =
     let start = c .before .before .before .before .before .before .before .before .before in (
       omega (
         arith,
-        (call-apart (start .pre .1 .0) (start .pre .1 .1) .3) .many,
-        (call-apart (start .pre .1 .0) (start .pre .1 .1) .3) .few,
+        (call-apart (start .pre .1 .0) (start .pre .1 .1)) .many,
+        (call-apart (start .pre .1 .0) (start .pre .1 .1)) .few,
       ),
-      call-args (call-apart (start .pre .1 .0) (start .pre .1 .1) .3),
+      call-args (call-apart (start .pre .1 .0) (start .pre .1 .1)),
     )
 
 call-same-length : (t : ℕ) → call-lts.Need-same-length (callees t) (call-at t) call.Post
@@ -103,10 +103,10 @@ call-mul-v t c =
       arith,
       top-room (call-apart
           (start .pre .1 .0)
-          (start .pre .1 .1) .3)
+          (start .pre .1 .1))
           (c .before .before .before .args2 .ensures),
       kept-args (call-apart (start .pre .1 .0)
-          (start .pre .1 .1) .3)
+          (start .pre .1 .1))
           (c .before .before .before .args2 .ensures) .long,
       start .pre .1 .0 .ready .whole,
     )
@@ -119,10 +119,10 @@ call-element-copy-out-v t c =
       arith,
       top-room (call-apart
           (start .pre .1 .0)
-          (start .pre .1 .1) .3)
+          (start .pre .1 .1))
           (c .before .before .before .args2 .ensures),
       kept-args (call-apart (start .pre .1 .0)
-          (start .pre .1 .1) .3)
+          (start .pre .1 .1))
           (c .before .before .before .args2 .ensures) .long,
       start .pre .1 .0 .ready .whole,
     )
@@ -131,25 +131,25 @@ call-mul-m : (t : ℕ) → call-lts.Need-mul-m (callees t) (call-at t) call.Post
 call-mul-m t c =
     let start = c .before .before .before .before .before .before .before .before .before .before .before
     .before .before .before in
-    omega (arith, (call-apart (start .pre .1 .0) (start .pre .1 .1) .3) .row, start .good .0)
+    omega (arith, (call-apart (start .pre .1 .0) (start .pre .1 .1)) .row, start .good .0)
 
 call-add-m : (t : ℕ) → call-lts.Need-add-m (callees t) (call-at t) call.Post
 call-add-m t c =
     let start = c .before .before .before .before .before .before .before .before .before .before .before
     .before .before .before in
-    omega (arith, (call-apart (start .pre .1 .0) (start .pre .1 .1) .3) .row, start .good .0)
+    omega (arith, (call-apart (start .pre .1 .0) (start .pre .1 .1)) .row, start .good .0)
 
 call-mul-m-2 : (t : ℕ) → call-lts.Need-mul-m-2 (callees t) (call-at t) call.Post
 call-mul-m-2 t c =
     let start = c .before .before .before .before .before .before .before .before .before .before .before
     .before .before .before in
-    omega (arith, (call-apart (start .pre .1 .0) (start .pre .1 .1) .3) .row, start .good .0)
+    omega (arith, (call-apart (start .pre .1 .0) (start .pre .1 .1)) .row, start .good .0)
 
 call-shared-slice-read-m : (t : ℕ) → call-lts.Need-shared-slice-read-m (callees t) (call-at t) call.Post
 call-shared-slice-read-m t c =
     let start = c .before .before .before .before .before .before .before .before .before .before .before
     .before .before .before .before in
-    omega (arith, (call-apart (start .pre .1 .0) (start .pre .1 .1) .3) .row, start .good .0)
+    omega (arith, (call-apart (start .pre .1 .0) (start .pre .1 .1)) .row, start .good .0)
 
 call-cast-m : (t : ℕ) → call-lts.Need-cast-m (callees t) (call-at t) call.Post
 call-cast-m t c =
@@ -162,7 +162,7 @@ call-find-body-requires t c κs =
     let at-args2 = c .before .before .before .before .before .before .before in
     let start = at-args2 .before .before .before .before .before .before .before .before .before .before in
     call-find (call-apart (start .pre .1 .0)
-    (start .pre .1 .1) .3)
+    (start .pre .1 .1))
     (at-args2 .args2 .ensures)
 
 call-enum-known-t : (t : ℕ) → call-lts.Need-enum-known-t (callees t) (call-at t) call.Post
@@ -176,20 +176,20 @@ call-mul-size t c =
     let at-args2 = c .before .before .before .before .before .before .before .before .before .before
     .before in
     let start = at-args2 .before .before .before .before .before .before .before .before .before .before in
-    let x = call-apart (start .pre .1 .0) (start .pre .1 .1) .3 in
+    let x = call-apart (start .pre .1 .0) (start .pre .1 .1) in
     let p = call-enter x (at-args2 .args2 .ensures) (c .before .t2 .given .1)
     (c .before .before .before .find-body .ensures) in
-    omega (arith, in-ends (p .entering), start .good .1 .0)
+    omega (arith, in-ends p, start .good .1 .0)
 
 call-shared-slice-read-size : (t : ℕ) → call-lts.Need-shared-slice-read-size (callees t) (call-at t) call.Post
 call-shared-slice-read-size t c =
     let at-find-body = c .before .before .before .before in
     let at-args2 = at-find-body .before .before .before .before .before .before .before .before in
     let start = at-args2 .before .before .before .before .before .before .before .before .before .before in
-    let x = call-apart (start .pre .1 .0) (start .pre .1 .1) .3 in
+    let x = call-apart (start .pre .1 .0) (start .pre .1 .1) in
     let p = call-enter x (at-args2 .args2 .ensures) (c .before .before .t2 .given .1)
     (at-find-body .find-body .ensures) in
-    in-ends (p .entering)
+    in-ends p
 
 call-cast-size : (t : ℕ) → call-lts.Need-cast-size (callees t) (call-at t) call.Post
 call-cast-size t c = omega (arith, c .shared-slice-known7 .given (c .before .before .t2 .given .0 .0))
@@ -199,33 +199,33 @@ call-sub-size t c =
     let at-find-body = c .before .before .before .before in
     let at-args2 = at-find-body .before .before .before .before .before .before .before .before in
     let start = at-args2 .before .before .before .before .before .before .before .before .before .before in
-    let x = call-apart (start .pre .1 .0) (start .pre .1 .1) .3 in
+    let x = call-apart (start .pre .1 .0) (start .pre .1 .1) in
     let p = call-enter x (at-args2 .args2 .ensures) (c .before .before .t2 .given .1)
     (at-find-body .find-body .ensures) in
-    omega (arith, ends-at (p .entering))
+    omega (arith, ends-at p)
 
 call-frame-width-requires : (t : ℕ) → call-lts.Need-frame-width-requires (callees t) (call-at t) call.Post
 call-frame-width-requires t c κs =
     let at-find-body = c .before .before .before .before in
     let at-args2 = at-find-body .before .before .before .before .before .before .before .before in
     let start = at-args2 .before .before .before .before .before .before .before .before .before .before in
-    let x = call-apart (start .pre .1 .0) (start .pre .1 .1) .3 in
+    let x = call-apart (start .pre .1 .0) (start .pre .1 .1) in
     let p = call-enter x (at-args2 .args2 .ensures) (c .before .before .t2 .given .1)
     (at-find-body .find-body .ensures) in
-    p .entering .few
+    p .few
 
 call-add-if2 : (t : ℕ) → call-lts.Need-add-if2 (callees t) (call-at t) call.Post
 call-add-if2 t c =
     let at-find-body = c .before .before .before .before .before in
     let at-args2 = at-find-body .before .before .before .before .before .before .before .before in
     let start = at-args2 .before .before .before .before .before .before .before .before .before .before in
-    let x = call-apart (start .pre .1 .0) (start .pre .1 .1) .3 in
+    let x = call-apart (start .pre .1 .0) (start .pre .1 .1) in
     let p = call-enter x (at-args2 .args2 .ensures) (c .before .before .before .t2 .given .1)
     (at-find-body .find-body .ensures) in
     omega (
       arith,
       width-small p (c .frame-width .ensures),
-      p .entering .there,
+      p .there,
       kept-args x (at-args2 .args2 .ensures) .long,
       start .pre .1 .0 .ready .whole,
     )
@@ -240,7 +240,7 @@ call-mul-if2 t c =
     let at-find-body = at-t2 .before .before in
     let at-args2 = at-find-body .before .before .before .before .before .before .before .before in
     let start = at-args2 .before .before .before .before .before .before .before .before .before .before in
-    let x = call-apart (start .pre .1 .0) (start .pre .1 .1) .3 in
+    let x = call-apart (start .pre .1 .0) (start .pre .1 .1) in
     let p = call-enter x (at-args2 .args2 .ensures) (at-t2 .t2 .given .1)
     (at-find-body .find-body .ensures) in
     omega (arith, nested-small p (c .most-nested .ensures))
@@ -251,14 +251,14 @@ call-add-if2-2 t c =
     let at-find-body = at-t2 .before .before in
     let at-args2 = at-find-body .before .before .before .before .before .before .before .before in
     let start = at-args2 .before .before .before .before .before .before .before .before .before .before in
-    let x = call-apart (start .pre .1 .0) (start .pre .1 .1) .3 in
+    let x = call-apart (start .pre .1 .0) (start .pre .1 .1) in
     let p = call-enter x (at-args2 .args2 .ensures) (at-t2 .t2 .given .1)
     (at-find-body .find-body .ensures) in
     omega (
       arith,
       width-small p (c .before .frame-width .ensures),
       nested-small p (c .most-nested .ensures),
-      p .entering .there,
+      p .there,
       kept-args x (at-args2 .args2 .ensures) .long,
       start .pre .1 .0 .ready .whole,
     )
@@ -269,10 +269,10 @@ call-add-enter-fresh t c =
     let at-find-body = at-t2 .before .before in
     let at-args2 = at-find-body .before .before .before .before .before .before .before .before in
     let start = at-args2 .before .before .before .before .before .before .before .before .before .before in
-    let x = call-apart (start .pre .1 .0) (start .pre .1 .1) .3 in
+    let x = call-apart (start .pre .1 .0) (start .pre .1 .1) in
     let p = call-enter x (at-args2 .args2 .ensures) (at-t2 .t2 .given .1)
     (at-find-body .find-body .ensures) in
-    omega (arith, p .entering .active)
+    omega (arith, p .active)
 
 call-enter-fresh-requires : (t : ℕ) → call-lts.Need-enter-fresh-requires (callees t) (call-at t) call.Post
 call-enter-fresh-requires t c κs =
@@ -281,7 +281,7 @@ call-enter-fresh-requires t c κs =
     let at-find-body = at-t2 .before .before in
     let at-args2 = at-find-body .before .before .before .before .before .before .before .before in
     let start = at-args2 .before .before .before .before .before .before .before .before .before .before in
-    let x = call-apart (start .pre .1 .0) (start .pre .1 .1) .3 in
+    let x = call-apart (start .pre .1 .0) (start .pre .1 .1) in
     let p = call-enter x (at-args2 .args2 .ensures) (at-t2 .t2 .given .1)
     (at-find-body .find-body .ensures) in (
       omega (arith, start .pre .0, kept-args x (at-args2 .args2 .ensures) .falls),
@@ -312,13 +312,13 @@ call-add-eval t c =
     let at-find-body = at-t2 .before .before in
     let at-args2 = at-find-body .before .before .before .before .before .before .before .before in
     let start = at-args2 .before .before .before .before .before .before .before .before .before .before in
-    let x = call-apart (start .pre .1 .0) (start .pre .1 .1) .3 in
+    let x = call-apart (start .pre .1 .0) (start .pre .1 .1) in
     let p = call-enter x (at-args2 .args2 .ensures) (at-t2 .t2 .given .1)
     (at-find-body .find-body .ensures) in
     omega (
       arith,
       width-small p (at-frame-width .frame-width .ensures),
-      p .entering .there,
+      p .there,
       kept-args x (at-args2 .args2 .ensures) .long,
       start .pre .1 .0 .ready .whole,
     )
@@ -329,10 +329,10 @@ call-add-eval-2 t c =
     let at-find-body = at-t2 .before .before in
     let at-args2 = at-find-body .before .before .before .before .before .before .before .before in
     let start = at-args2 .before .before .before .before .before .before .before .before .before .before in
-    let x = call-apart (start .pre .1 .0) (start .pre .1 .1) .3 in
+    let x = call-apart (start .pre .1 .0) (start .pre .1 .1) in
     let p = call-enter x (at-args2 .args2 .ensures) (at-t2 .t2 .given .1)
     (at-find-body .find-body .ensures) in
-    omega (arith, p .entering .active)
+    omega (arith, p .active)
 
 call-eval-requires : (t : ℕ) → call-lts.Need-eval-requires (callees t) (call-at t) call.Post
 call-eval-requires t c κs =
@@ -342,12 +342,12 @@ call-eval-requires t c κs =
     let at-find-body = at-t2 .before .before in
     let at-args2 = at-find-body .before .before .before .before .before .before .before .before in
     let start = at-args2 .before .before .before .before .before .before .before .before .before .before in
-    let x = call-apart (start .pre .1 .0) (start .pre .1 .1) .3 in
+    let x = call-apart (start .pre .1 .0) (start .pre .1 .1) in
     let p = call-enter x (at-args2 .args2 .ensures) (at-t2 .t2 .given .1)
     (at-find-body .find-body .ensures) in (
       omega (arith, start .pre .0, kept-args x (at-args2 .args2 .ensures) .falls),
       here-pre (at-frame-width .frame-width .ensures) (at-most-nested .most-nested .ensures)
-          (omega (arith, c .before .before .before .if2 .left, p .entering .whole)) p,
+          (omega (arith, c .before .before .before .if2 .left, p .whole)) p,
     )
 
 call-same-length-3 : (t : ℕ) → call-lts.Need-same-length-3 (callees t) (call-at t) call.Post
@@ -381,14 +381,14 @@ call-returns-4 t c =
     let at-if1 = at-find-body .before .before .before .before .before in
     let at-args2 = at-if1 .before .before .before in
     let start = at-args2 .before .before .before .before .before .before .before .before .before .before in
-    let x = call-apart (start .pre .1 .0) (start .pre .1 .1) .3 in
+    let x = call-apart (start .pre .1 .0) (start .pre .1 .1) in
     let p = call-enter x (at-args2 .args2 .ensures) (at-t2 .t2 .given .1)
     (at-find-body .find-body .ensures) in
     call-done (start .args .at) (start .pre .1 .1) (at-args2 .args2 .ensures)
     (outcome-value (at-args2 .args2 .result) (omega (arith, at-if1 .if1 .left))) (at-t2 .t2 .given .1)
     (at-find-body .find-body .ensures)
     (here-done (at-frame-width .frame-width .ensures) (at-most-nested .most-nested .ensures)
-    (omega (arith, at-if2 .if2 .left, p .entering .whole)) (c .before .before .eval .ensures))
+    (omega (arith, at-if2 .if2 .left, p .whole)) (c .before .before .eval .ensures))
 
 -- The member, of its callees' contracts.
 pub call-holds : {M : Type 1} (t : ℕ) → call-lts.Closed (callees t) (call-at t) call.Post M

@@ -7,8 +7,9 @@ use lib.ListN.{getD}
 use Rattle.objects.specs.Values.{meaning}
 use Rattle.objects.proofs.Values.{not-gave, outcome-value, outcome-stuck, case-truth}
 use Rattle.machine.proofs.Steps.{kept-of}
-use Rattle.machine.proofs.Nodes3.{choose-apart, choose-first, choose-second, choose-third, choose-fail}
-use Rattle.machine.proofs.Nodes3.{choose-stuck, choose-yes, choose-no}
+use Rattle.machine.proofs.Choices.{choose-apart, choose-first, choose-second, choose-third}
+use Rattle.machine.proofs.Choices.{choose-fail}
+use Rattle.machine.proofs.Choices.{choose-stuck, choose-yes, choose-no}
 use Rattle.machine.proofs.choose.Reads as choose
 use Rattle.machine.proofs.+args+block+call+choose+enter_fresh+eval+items+one_child+set.Lts-choose as choose-lts
 use Rattle.objects.proofs.value_of.Reads as value-of-reads
@@ -22,12 +23,12 @@ callees t = (eval-below t, eval.Post, value-of-reads.Asked, value-of-reads.Learn
 choose-add-eval : (t : ℕ) → choose-lts.Need-add-eval (callees t) (choose-at t) choose.Post
 choose-add-eval t c =
     let start = c .before .before .before .before .before .before .before .before in
-    omega (arith, (choose-apart (start .pre .1 .0) (start .pre .1 .1) .3) .row)
+    omega (arith, (choose-apart (start .pre .1 .0) (start .pre .1 .1)) .row)
 
 choose-eval-requires : (t : ℕ) → choose-lts.Need-eval-requires (callees t) (choose-at t) choose.Post
 choose-eval-requires t c κs =
     let start = c .before .before .before .before .before .before .before .before in
-    (omega arith, choose-first (choose-apart (start .pre .1 .0) (start .pre .1 .1) .3))
+    (omega arith, choose-first (choose-apart (start .pre .1 .0) (start .pre .1 .1)))
 
 choose-same-length : (t : ℕ) → choose-lts.Need-same-length (callees t) (choose-at t) choose.Post
 choose-same-length t c = c .before .before .before .eval .kept .1 .1 .1 .1 .1 .0
@@ -63,20 +64,20 @@ choose-add-yes : (t : ℕ) → choose-lts.Need-add-yes (callees t) (choose-at t)
 choose-add-yes t c =
     let start = c .before .before .before .before .before .before .before .before .before .before .before
     .before .before .before .before .before in
-    omega (arith, (choose-apart (start .pre .1 .0) (start .pre .1 .1) .3) .in-ends)
+    omega (arith, (choose-apart (start .pre .1 .0) (start .pre .1 .1)) .in-ends)
 
 choose-mul-yes : (t : ℕ) → choose-lts.Need-mul-yes (callees t) (choose-at t) choose.Post
 choose-mul-yes t c =
     let start = c .before .before .before .before .before .before .before .before .before .before .before
     .before .before .before .before .before in
-    omega (arith, (choose-apart (start .pre .1 .0) (start .pre .1 .1) .3) .in-ends)
+    omega (arith, (choose-apart (start .pre .1 .0) (start .pre .1 .1)) .in-ends)
 
 choose-shared-slice-read-yes : (t : ℕ)
     → choose-lts.Need-shared-slice-read-yes (callees t) (choose-at t) choose.Post
 choose-shared-slice-read-yes t c =
     let start = c .before .before .before .before .before .before .before .before .before .before .before
     .before .before .before .before .before .before in
-    omega (arith, (choose-apart (start .pre .1 .0) (start .pre .1 .1) .3) .in-ends)
+    omega (arith, (choose-apart (start .pre .1 .0) (start .pre .1 .1)) .in-ends)
 
 choose-cast-yes : (t : ℕ) → choose-lts.Need-cast-yes (callees t) (choose-at t) choose.Post
 choose-cast-yes t c =
@@ -93,14 +94,10 @@ choose-eval-requires-2 t c κs =
     let start = at-eval .before .before .before .before .before .before .before .before .before in (
       omega (
         arith,
-        kept-of (choose-first (choose-apart (start .pre .1 .0) (start .pre .1 .1) .3))
+        kept-of (choose-first (choose-apart (start .pre .1 .0) (start .pre .1 .1)))
             (at-eval .eval .ensures) .falls,
       ),
-      choose-second (choose-apart (start .pre .1 .0) (start .pre .1 .1) .3) (at-eval .eval .ensures)
-          (outcome-value (at-eval .eval .result) (at-if1 .if1 .left))
-          (case-truth (meaning (at-eval .eval .result))
-          (sym (at-value-of .value-of .ensures) ∙ at-v .v .given .1))
-          (c .before .before .before .if2 .taken),
+      choose-second (choose-apart (start .pre .1 .0) (start .pre .1 .1)) (at-eval .eval .ensures),
     )
 
 choose-same-length-3 : (t : ℕ) → choose-lts.Need-same-length-3 (callees t) (choose-at t) choose.Post
@@ -133,8 +130,8 @@ choose-mul-no t c =
     .before .before .before .before .before .before .before in
     omega (
       arith,
-      (choose-apart (start .pre .1 .0) (start .pre .1 .1) .3) .end-a,
-      (choose-apart (start .pre .1 .0) (start .pre .1 .1) .3) .in-ends-b,
+      (choose-apart (start .pre .1 .0) (start .pre .1 .1)) .end-a,
+      (choose-apart (start .pre .1 .0) (start .pre .1 .1)) .in-ends-b,
     )
 
 choose-shared-slice-read-no : (t : ℕ)
@@ -144,8 +141,8 @@ choose-shared-slice-read-no t c =
     .before .before .before .before .before .before .before .before in
     omega (
       arith,
-      (choose-apart (start .pre .1 .0) (start .pre .1 .1) .3) .end-a,
-      (choose-apart (start .pre .1 .0) (start .pre .1 .1) .3) .in-ends-b,
+      (choose-apart (start .pre .1 .0) (start .pre .1 .1)) .end-a,
+      (choose-apart (start .pre .1 .0) (start .pre .1 .1)) .in-ends-b,
     )
 
 choose-cast-no : (t : ℕ) → choose-lts.Need-cast-no (callees t) (choose-at t) choose.Post
@@ -164,13 +161,10 @@ choose-eval-requires-3 t c κs =
     let start = at-eval .before .before .before .before .before .before .before .before .before in (
       omega (
         arith,
-        kept-of (choose-first (choose-apart (start .pre .1 .0) (start .pre .1 .1) .3))
+        kept-of (choose-first (choose-apart (start .pre .1 .0) (start .pre .1 .1)))
             (at-eval .eval .ensures) .falls,
       ),
-      choose-third (choose-apart (start .pre .1 .0) (start .pre .1 .1) .3) (at-eval .eval .ensures)
-          (outcome-value (at-eval .eval .result) (at-if1 .if1 .left))
-          (case-truth (meaning (at-eval .eval .result))
-          (sym (at-value-of .value-of .ensures) ∙ at-v .v .given .1)) (at-if2 .if2 .left),
+      choose-third (choose-apart (start .pre .1 .0) (start .pre .1 .1)) (at-eval .eval .ensures),
     )
 
 choose-same-length-4 : (t : ℕ) → choose-lts.Need-same-length-4 (callees t) (choose-at t) choose.Post

@@ -22,14 +22,14 @@ enter-fresh-add-copy-slots : (t : ℕ)
     → enter-fresh-lts.Need-add-copy-slots (callees t) (enter-fresh-at t) enter-fresh.Post
 enter-fresh-add-copy-slots t c =
     let start = c .before .before .before .before .before .before .before in
-    omega (arith, start .pre .1 .0 .entering .few)
+    omega (arith, start .pre .1 .0 .few)
 
 enter-fresh-copy-slots-requires : (t : ℕ)
     → enter-fresh-lts.Need-copy-slots-requires (callees t) (enter-fresh-at t) enter-fresh.Post
 enter-fresh-copy-slots-requires t c κs =
     let start = c .before .before .before .before .before .before .before in (
-      start .pre .1 .0 .entering .there,
-      omega (arith, length-replicate {A = ℕ} 1920 0, start .pre .1 .0 .entering .few),
+      start .pre .1 .0 .there,
+      omega (arith, length-replicate {A = ℕ} 1920 0, start .pre .1 .0 .few),
     )
 
 enter-fresh-eval-requires : (t : ℕ)
@@ -41,7 +41,7 @@ enter-fresh-eval-requires t c κs =
       own-pre (start .pre .1 .1)
           (omega (arith, length-replicate {A = ℕ} 1920 0, at-copy-slots .copy-slots .ensures .long))
           (words-copied (start .args .slots .now) 1920 (start .args .top) (at-copy-slots .copy-slots .ensures)
-          (start .pre .1 .0 .entering .words))
+          (start .pre .1 .0 .words))
           (start .pre .1 .0),
     )
 
@@ -57,7 +57,7 @@ enter-fresh-returns t c =
     own-done (start .pre .1 .1)
     (omega (arith, length-replicate {A = ℕ} 1920 0, at-copy-slots .copy-slots .ensures .long))
     (words-copied (start .args .slots .now) 1920 (start .args .top) (at-copy-slots .copy-slots .ensures)
-    (start .pre .1 .0 .entering .words))
+    (start .pre .1 .0 .words))
     (at-copy-slots .copy-slots .ensures) (c .before .before .eval .ensures)
 
 -- The member, of its callees' contracts.

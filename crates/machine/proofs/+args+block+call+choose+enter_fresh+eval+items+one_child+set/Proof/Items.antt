@@ -4,7 +4,7 @@ use mathlib.Core.Path.{refl, ap, _∙_}
 use Prim.Native.Nat.{ℕ, _-_}
 use Rattle.objects.specs.Values.{Gave, counts-in, answer, answered}
 use Rattle.machine.specs.Machine.{place-of}
-use Rattle.machine.specs.Contracts.{nothing}
+use Rattle.machine.specs.Evaluator.{nothing}
 use Rattle.objects.proofs.Values.{outcome-value, not-gave, meaning-null}
 use Rattle.machine.proofs.Lists.{list-first, ItemsLoop, items-start, items-head, items-broken}
 use Rattle.machine.proofs.Lists.{items-next, items-ended}
@@ -41,7 +41,7 @@ items-eval-requires : (t : ℕ)
 items-eval-requires t c κs =
     let at-loop = c .before .before .before .before in (
       omega (arith, at-loop .loop .inv .falls),
-      list-first (items-head (at-loop .loop .inv) (c .before .before .before .loop-test .taken) .2),
+      list-first (items-head (at-loop .loop .inv) (c .before .before .before .loop-test .taken)),
     )
 
 items-same-length : (t : ℕ)
@@ -63,14 +63,14 @@ items-mul-next : (t : ℕ)
 items-mul-next t c =
     let at-loop-test = c .before .before .before .before .before .before .before in
     let at-loop = at-loop-test .before in
-    omega (arith, (items-head (at-loop .loop .inv) (at-loop-test .loop-test .taken) .2) .in-ends)
+    omega (arith, (items-head (at-loop .loop .inv) (at-loop-test .loop-test .taken)) .in-ends)
 
 items-shared-slice-read-next : (t : ℕ)
     → items-lts.Need-shared-slice-read-next (callees t) (items-at t) items.Post items-Inv-loop items-μ-loop
 items-shared-slice-read-next t c =
     let at-loop-test = c .before .before .before .before .before .before .before .before in
     let at-loop = at-loop-test .before in
-    omega (arith, (items-head (at-loop .loop .inv) (at-loop-test .loop-test .taken) .2) .in-ends)
+    omega (arith, (items-head (at-loop .loop .inv) (at-loop-test .loop-test .taken)) .in-ends)
 
 items-cast-next : (t : ℕ)
     → items-lts.Need-cast-next (callees t) (items-at t) items.Post items-Inv-loop items-μ-loop

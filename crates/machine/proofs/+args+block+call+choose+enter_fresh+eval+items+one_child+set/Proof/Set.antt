@@ -6,8 +6,8 @@ use Prim.Native.Nat.{ℕ, _+_}
 use Rattle.objects.specs.Values.{outcome}
 use Rattle.objects.proofs.Values.{not-gave, outcome-value, word-of-outcome}
 use Rattle.machine.proofs.Steps.{kept-of}
-use Rattle.machine.proofs.Nodes2.{set-apart, set-first, set-second, set-fail, set-fail-second}
-use Rattle.machine.proofs.Nodes2.{set-done, pre-save}
+use Rattle.machine.proofs.Sets.{set-apart, set-first, set-second, set-fail, set-fail-second}
+use Rattle.machine.proofs.Sets.{set-done, set-object}
 use Rattle.machine.proofs.eval.Reads as eval
 use Rattle.machine.proofs.set.Reads as set
 use Rattle.machine.proofs.+args+block+call+choose+enter_fresh+eval+items+one_child+set.Lts-set as set-lts
@@ -29,12 +29,12 @@ callees t = (
 set-add-eval : (t : ℕ) → set-lts.Need-add-eval (callees t) (set-at t) set.Post
 set-add-eval t c =
     let start = c .before .before .before .before .before .before .before .before in
-    omega (arith, (set-apart (start .pre .1 .0) (start .pre .1 .1) .3) .row)
+    omega (arith, (set-apart (start .pre .1 .0) (start .pre .1 .1)) .row)
 
 set-eval-requires : (t : ℕ) → set-lts.Need-eval-requires (callees t) (set-at t) set.Post
 set-eval-requires t c κs =
     let start = c .before .before .before .before .before .before .before .before in
-    (omega arith, set-first (set-apart (start .pre .1 .0) (start .pre .1 .1) .3))
+    (omega arith, set-first (set-apart (start .pre .1 .0) (start .pre .1 .1)))
 
 set-same-length : (t : ℕ) → set-lts.Need-same-length (callees t) (set-at t) set.Post
 set-same-length t c = c .before .before .before .eval .kept .1 .1 .1 .1 .1 .0
@@ -51,19 +51,19 @@ set-add-next : (t : ℕ) → set-lts.Need-add-next (callees t) (set-at t) set.Po
 set-add-next t c =
     let start = c .before .before .before .before .before .before .before .before .before .before .before
     .before in
-    omega (arith, (set-apart (start .pre .1 .0) (start .pre .1 .1) .3) .in-ends)
+    omega (arith, (set-apart (start .pre .1 .0) (start .pre .1 .1)) .in-ends)
 
 set-mul-next : (t : ℕ) → set-lts.Need-mul-next (callees t) (set-at t) set.Post
 set-mul-next t c =
     let start = c .before .before .before .before .before .before .before .before .before .before .before
     .before in
-    omega (arith, (set-apart (start .pre .1 .0) (start .pre .1 .1) .3) .in-ends)
+    omega (arith, (set-apart (start .pre .1 .0) (start .pre .1 .1)) .in-ends)
 
 set-shared-slice-read-next : (t : ℕ) → set-lts.Need-shared-slice-read-next (callees t) (set-at t) set.Post
 set-shared-slice-read-next t c =
     let start = c .before .before .before .before .before .before .before .before .before .before .before
     .before .before in
-    omega (arith, (set-apart (start .pre .1 .0) (start .pre .1 .1) .3) .in-ends)
+    omega (arith, (set-apart (start .pre .1 .0) (start .pre .1 .1)) .in-ends)
 
 set-cast-next : (t : ℕ) → set-lts.Need-cast-next (callees t) (set-at t) set.Post
 set-cast-next t c =
@@ -78,11 +78,10 @@ set-eval-requires-2 t c κs =
     let start = at-eval .before .before .before .before .before .before .before .before .before in (
       omega (
         arith,
-        kept-of (set-first (set-apart (start .pre .1 .0) (start .pre .1 .1) .3))
+        kept-of (set-first (set-apart (start .pre .1 .0) (start .pre .1 .1)))
             (at-eval .eval .ensures) .falls,
       ),
-      set-second (set-apart (start .pre .1 .0) (start .pre .1 .1) .3) (at-eval .eval .ensures)
-          (outcome-value (at-eval .eval .result) (at-if1 .if1 .left)),
+      set-second (set-apart (start .pre .1 .0) (start .pre .1 .1)) (at-eval .eval .ensures),
     )
 
 set-same-length-2 : (t : ℕ) → set-lts.Need-same-length-2 (callees t) (set-at t) set.Post
@@ -108,7 +107,7 @@ set-first-requires : (t : ℕ) → set-lts.Need-first-requires (callees t) (set-
 set-first-requires t c κs =
     let start = c .before .before .before .before .before .before .before .before .before .before .before
     .before .before .before .before .before .before .before .before .before .before .before in
-    omega (arith, (set-apart (start .pre .1 .0) (start .pre .1 .1) .3) .row, start .good .0 .1)
+    omega (arith, (set-apart (start .pre .1 .0) (start .pre .1 .1)) .row, start .good .0 .1)
 
 set-cast-save : (t : ℕ) → set-lts.Need-cast-save (callees t) (set-at t) set.Post
 set-cast-save t c = search needs
@@ -119,17 +118,12 @@ set-save-requires t c κs =
     let at-if1 = at-eval2 .before .before .before .before .before in
     let at-eval = at-if1 .before .before .before in
     let start = at-eval .before .before .before .before .before .before .before .before .before in
-    let saved = pre-save (set-apart (start .pre .1 .0) (start .pre .1 .1) .3) (at-eval .eval .ensures)
-    (outcome-value (at-eval .eval .result) (at-if1 .if1 .left)) (at-eval2 .eval2 .ensures) in (
-      saved .0,
+    let x = set-apart (start .pre .1 .0) (start .pre .1 .1) in (
+      set-object x (at-eval .eval .ensures) (at-eval2 .eval2 .ensures),
       (
-        omega (
-          arith,
-          c .first .ensures,
-          (set-apart (start .pre .1 .0) (start .pre .1 .1) .3) .first,
-          (set-apart (start .pre .1 .0) (start .pre .1 .1) .3) .name,
-        ),
-        word-of-outcome (at-eval2 .eval2 .result) (c .before .before .before .if2 .left) (saved .1),
+        omega (arith, c .first .ensures, x .first, x .name),
+        word-of-outcome (at-eval2 .eval2 .result) (c .before .before .before .if2 .left)
+            (kept-of (set-second x (at-eval .eval .ensures)) (at-eval2 .eval2 .ensures) .small),
       ),
     )
 

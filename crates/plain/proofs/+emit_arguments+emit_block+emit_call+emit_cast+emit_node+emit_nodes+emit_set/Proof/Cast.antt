@@ -1,10 +1,10 @@
 -- What is left to prove of `emit_cast`.
 use mathlib.Core.Path.{_∙_}
-use Prim.Native.Nat.{ℕ, _+_, _*_}
+use Prim.Native.Nat.{ℕ}
 use native.Mathlib.Omega.{arith}
 use borrow.Author.Needs.{needs}
 use Rattle.plain.proofs.Writing.{written-long}
-use Rattle.plain.proofs.Tasks.{node-row, cast-room, cast-child, cast-done}
+use Rattle.plain.proofs.Tasks.{node-row, cast-small, cast-room, cast-child, cast-done}
 use Rattle.plain.proofs.emit_cast.Reads as emit-cast
 use Rattle.plain.proofs.emit_node.Reads as emit-node
 use Rattle.plain.proofs.put.Reads as put-reads
@@ -69,7 +69,7 @@ emit-cast-add-t25 : (t : ℕ) → emit-cast-lts.Need-add-t25 (callees t) (emit-c
 emit-cast-add-t25 t c =
     let start = c .before .before .before .before .before .before .before .before .before .before .before
     .before .before .before .before in
-    omega (arith, c .first .ensures, start .pre .1 .task .setting .lent .small (start .args .at * 4 + 1))
+    omega (arith, c .first .ensures, cast-small (start .pre .1 .task))
 
 emit-cast-slice-aggregate-put-2 : (t : ℕ)
     → emit-cast-lts.Need-slice-aggregate-put-2 (callees t) (emit-cast-at t) emit-cast.Post

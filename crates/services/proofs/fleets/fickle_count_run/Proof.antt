@@ -1,6 +1,6 @@
 -- `services::fleets::fickle_count_run` meets its contract. Assumes nothing.
 use mathlib.Core.Path.{ap, _∙_}
-use Rattle.services.specs.Packed.{packed-count}
+use Rattle.packing.specs.Packed.{packed-count}
 use borrow.Author.Needs.{needs}
 use Rattle.services.proofs.fleets.fickle_count_run.Statement.{statement}
 use Rattle.services.proofs.fleets.fickle_count_run.Tie as tie

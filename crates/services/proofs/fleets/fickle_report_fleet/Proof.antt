@@ -1,6 +1,6 @@
 -- `services::fleets::fickle_report_fleet` meets its contract. Assumes nothing.
 use mathlib.Core.Path.{ap, _∙_}
-use Rattle.services.specs.Packed.{report-number, report-told}
+use Rattle.packing.specs.Packed.{report-number, report-told}
 use borrow.Author.Needs.{needs}
 use Rattle.services.proofs.fleets.fickle_report_fleet.Statement.{statement}
 use Rattle.services.proofs.fleets.fickle_report_fleet.Tie as tie

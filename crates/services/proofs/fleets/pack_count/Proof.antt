@@ -1,6 +1,6 @@
 -- `services::fleets::pack_count` meets its contract. Assumes nothing.
 use mathlib.Core.Path.{sym, ap, _∙_}
-use Rattle.services.specs.Packed.{packed-count}
+use Rattle.packing.specs.Packed.{packed-count}
 use borrow.Author.Needs.{needs}
 use Rattle.services.proofs.fleets.pack_count.Statement.{statement}
 use Rattle.services.proofs.fleets.pack_count.Tie as tie

@@ -1,6 +1,6 @@
 -- `services::price_terms::fickle_day_of_date` meets its contract. Assumes nothing.
 use mathlib.Core.Path.{sym, ap, _∙_}
-use Rattle.services.specs.Packed.{packed-day}
+use Rattle.packing.specs.Packed.{packed-day}
 use borrow.Author.Needs.{needs}
 use Rattle.services.proofs.price_terms.fickle_day_of_date.Statement.{statement}
 use Rattle.services.proofs.price_terms.fickle_day_of_date.Tie as tie

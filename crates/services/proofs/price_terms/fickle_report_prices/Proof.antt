@@ -1,6 +1,6 @@
 -- `services::price_terms::fickle_report_prices` meets its contract. Assumes nothing.
 use mathlib.Core.Path.{ap, _∙_}
-use Rattle.services.specs.Packed.{packed}
+use Rattle.packing.specs.Packed.{packed}
 use borrow.Author.Needs.{needs}
 use Rattle.services.proofs.price_terms.fickle_report_prices.Statement.{statement}
 use Rattle.services.proofs.price_terms.fickle_report_prices.Tie as tie

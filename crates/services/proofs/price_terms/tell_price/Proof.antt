@@ -1,6 +1,6 @@
 -- `services::price_terms::tell_price` meets its contract. Assumes nothing.
 use mathlib.Core.Path.{sym, ap, _∙_}
-use Rattle.services.specs.Packed.{packed-price}
+use Rattle.packing.specs.Packed.{packed-price}
 use borrow.Author.Needs.{needs}
 use Rattle.services.proofs.price_terms.tell_price.Statement.{statement}
 use Rattle.services.proofs.price_terms.tell_price.Tie as tie

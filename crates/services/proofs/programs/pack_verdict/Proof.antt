@@ -1,6 +1,6 @@
 -- `services::programs::pack_verdict` meets its contract. Assumes nothing.
 use mathlib.Core.Path.{sym, ap, _∙_}
-use Rattle.services.specs.Packed.{packed-checked}
+use Rattle.services.specs.Cases.{packed-checked}
 use borrow.Author.Needs.{needs}
 use Rattle.services.proofs.programs.pack_verdict.Statement.{statement}
 use Rattle.services.proofs.programs.pack_verdict.Tie as tie

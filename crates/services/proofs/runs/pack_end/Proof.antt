@@ -1,6 +1,6 @@
 -- `services::runs::pack_end` meets its contract. Assumes nothing.
 use mathlib.Core.Path.{sym, ap, _∙_}
-use Rattle.services.specs.Packed.{packed-end}
+use Rattle.services.specs.Cases.{packed-end}
 use borrow.Author.Needs.{needs}
 use Rattle.services.proofs.runs.pack_end.Statement.{statement}
 use Rattle.services.proofs.runs.pack_end.Tie as tie

@@ -1,6 +1,6 @@
 -- `services::runs::pack_run` meets its contract. Assumes nothing.
 use mathlib.Core.Path.{sym, ap, _∙_}
-use Rattle.services.specs.Packed.{packed-run}
+use Rattle.services.specs.Cases.{packed-run}
 use borrow.Author.Needs.{needs}
 use Rattle.services.proofs.runs.pack_run.Statement.{statement}
 use Rattle.services.proofs.runs.pack_run.Tie as tie

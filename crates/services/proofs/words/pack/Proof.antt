@@ -1,6 +1,6 @@
 -- `services::words::pack` meets its contract. Assumes nothing.
 use mathlib.Core.Path.{sym, ap, _∙_}
-use Rattle.services.specs.Packed.{packed}
+use Rattle.packing.specs.Packed.{packed}
 use borrow.Author.Needs.{needs}
 use Rattle.services.proofs.words.pack.Statement.{statement}
 use Rattle.services.proofs.words.pack.Tie as tie

@@ -1,0 +1,3 @@
+pub mod FormLines
+pub mod Ranges
+pub mod Faithful

@@ -1,0 +1,9 @@
+pub mod Demands
+pub mod FleetDemands
+pub mod CountDemands
+pub mod PriceDemands
+pub mod CalendarDemands
+pub mod answers
+pub mod programs
+pub mod fleets
+pub mod prices

@@ -1,0 +1,11 @@
+pub mod Refusals
+pub mod FormRefusals
+pub mod PassRefusals
+pub mod ListedAnswers
+pub mod TextAnswers
+pub mod OnLines
+pub mod UseLaws
+pub mod TighterNodes
+pub mod TighterForm
+pub mod ReservedNames
+pub mod TranslatorAnswers

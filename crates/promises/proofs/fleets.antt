@@ -1,0 +1,12 @@
+pub mod SumLaws
+pub mod SumEndings
+pub mod ReportLaws
+pub mod ReportOrder
+pub mod ReportParts
+pub mod FleetLines
+pub mod ReportSpoiled
+pub mod FleetAnswers
+pub mod ReportCounted
+pub mod CountsServe
+pub mod CountsExact
+pub mod CountsThrough

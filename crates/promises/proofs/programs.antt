@@ -1,0 +1,4 @@
+pub mod Translates
+pub mod AcceptedTranslation
+pub mod RunsOfRows
+pub mod DemandsRows

@@ -1,0 +1,4 @@
+pub mod AcceptedWell
+pub mod WellAccepted
+pub mod Acceptance
+pub mod Translatable

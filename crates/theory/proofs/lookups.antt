@@ -1,0 +1,5 @@
+pub mod Superclasses
+pub mod MethodNumbers
+pub mod LookupsAgree
+pub mod LookupLaws
+pub mod TranslatorLookups

@@ -1,0 +1,12 @@
+pub mod Matching
+pub mod MatchingHeaps
+pub mod MatchingStates
+pub mod PlainSteps
+pub mod Renewal
+pub mod TranslationEquations
+pub mod ActsSimulated
+pub mod ChangeSimulated
+pub mod CallSimulated
+pub mod Simulation
+pub mod LimitedSimulation
+pub mod ProgramSimulation

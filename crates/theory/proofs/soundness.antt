@@ -1,0 +1,4 @@
+pub mod Fitting
+pub mod ActsSound
+pub mod Soundness
+pub mod Members

@@ -1,0 +1,14 @@
+pub mod PlainWorld
+pub mod PlainOf
+pub mod PlainLookups
+pub mod PlainRules
+pub mod PlainSlots
+pub mod PlainTypes
+pub mod PlainBlocks
+pub mod TranslationTyped
+pub mod PlainHeadings
+pub mod PlainSizes
+pub mod PlainForm
+pub mod TranslationInForm
+pub mod PlainInForm
+pub mod PlainNames
