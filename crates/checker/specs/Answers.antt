@@ -13,12 +13,12 @@ use Rattle.checker.specs.declared.Checked.the-variants.{Accepted as Pass
 use Rattle.checker.specs.declared.Verdict.{Verdict}
 use Rattle.checker.specs.declared.Verdict.the-variants.{Accepted, Refused}
 
--- Accepted with so many classes, or the refusal.
+-- Accepted with its number of classes, or the refusal.
 abbrev pub checked-case : results.Checked Program → Checked
 checked-case (accept p) = Passed (length (p .classes))
 checked-case (refuse number line) = Failed number line
 
--- What the body pass answers, of a program with so many classes.
+-- What the body pass answers, of a program with n classes.
 abbrev pub typed-case : ℕ → typed.Verdict → Checked
 typed-case classes Typed = Passed classes
 typed-case classes (NotTyped number line) = Failed number line

@@ -46,12 +46,12 @@ pub record BodyRoom (R F S : List ℕ) (width : ℕ) : Type 0 where
   pub depth : ℕ
   pub space : Spacious R S width depth
 
--- Class tables with a block and an entry for each of so many classes and for Object.
+-- Class tables with a block and an entry for each of `classes` classes and for Object.
 pub record ClassRoom (T A : List ℕ) (classes : ℕ) : Type 0 where
   pub blocks : (classes + 1) * class-width ≤ length T
   pub entries : classes + 1 ≤ length A
 
--- After form: the program that stands in the rows has so many classes, and its S line is row `start`.
+-- After form: the program in the rows has `classes` classes, and its S line is row `start`.
 pub record Stands (R E : List ℕ) (classes start : ℕ) : Type 0 where
   pub program : Program
   pub formed : form of-check (rows-of R) ≡ accept program

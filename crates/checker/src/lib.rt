@@ -21,12 +21,12 @@ pub const FEW_ROWS: usize = 1024;
 
 pub const ALL_ROWS: usize = MOST_ROWS as usize;
 
-// How many numbers so many rows have.
+// How many numbers the rows of each size have.
 pub const SHORT_NUMBERS: usize = 4 * SHORT_ROWS;
 
 pub const FEW_NUMBERS: usize = 4 * FEW_ROWS;
 
-// How many methods so many rows may have, a third as many, and how many numbers their table has.
+// How many methods these rows may have, a third as many, and how many numbers their table has.
 pub const SHORT_METHODS: usize = 11;
 
 pub const FEW_METHODS: usize = 342;
@@ -54,7 +54,7 @@ const SLOTS: usize = WIDTH * 129;
 
 const SHORT_SLOTS: usize = SHORT_ROWS * 33;
 
-// Accepted, with so many classes; or a refusal's number and line.
+// Accepted, with its number of classes; or a refusal's number and line.
 pub enum Checked {
     Accepted(u32),
     Refused(u32, u32),

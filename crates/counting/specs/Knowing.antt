@@ -30,7 +30,7 @@ pub record Knowing (A : List ℕ) (known : Known) : Type 0 where
   pub rows : List ℕ
   pub knows : Knows rows A known
 
--- The table tells which class stands below which of some program with so many classes.
+-- The table tells which class stands below which of some program with `classes` classes.
 pub record Serves (A : List ℕ) (classes : ℕ) : Type 0 where
   pub program : List Class
   pub counted : length program ≡ classes

@@ -276,7 +276,7 @@ pub fn count_labels(
     count_known(known, above, store, objects, false, printed, spoiled)
 }
 
-// The labels of a run of rows that made so many objects and left this store.
+// The labels of a run of rows that made `objects` objects and left this store.
 pub fn count_run(
     rows: &[u32],
     store: &[u32],
@@ -292,7 +292,7 @@ pub fn count_run(
     count_known(known, &above, store, objects, false, printed, spoiled)
 }
 
-// The labels of a run of rows, through the store that a run of their plain program left with so many objects.
+// The labels of a run of rows, through the store that a run of their plain program left with `objects` objects.
 pub fn count_plain_run(
     rows: &[u32],
     store: &[u32],

@@ -33,7 +33,7 @@ pub record RunsBoth (R : List ℕ) (fuel plain-fuel : ℕ) (s s′ O O′ t t′
       ≡ answer-told (run-of-plain (held (length O) (translation R)) plain-fuel t .answer)
   pub plain-store : t′ ≡ run-of-plain (held (length O) (translation R)) plain-fuel t .store
   -- Where the source ended in a value, an exception or too deep a call, with n objects and k changes, and the second store
-  -- has room for 2n + k objects, the plain rows ended alike, made just so many, and all objects match.
+  -- has room for 2n + k objects, the plain rows ended alike, made exactly that many, and all objects match.
   pub forth : (out : List ℕ) → held (length O) (translation R) ≡ accept out
       → fuel ≤ most-source-fuel → plain-fuel ≡ plain-steps-a-step * fuel
       → (end : EndsProperly (run-of R fuel s)) → 2 * end .objects + end .changes ≤ capacity t

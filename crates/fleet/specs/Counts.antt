@@ -70,7 +70,7 @@ abbrev pub labels-checked : Checked Program → ℕ → ℕ → List ℕ → Opt
 labels-checked (accept p) printed spoiled cs = labels-of (world (p .classes)) printed spoiled cs
 labels-checked (refuse n l) printed spoiled cs = none
 
--- The labels of a run of rows that made so many objects and left this store. What the store holds beyond them is ignored.
+-- The labels of a run of rows that made `objects` objects and left this store. What the store holds beyond them is ignored.
 unfoldable pub run-counts : List ℕ → List ℕ → ℕ → ℕ → ℕ → Option Counts
 run-counts rows store n printed spoiled = choice (holds-objects n store)
     (λ _. labels-checked (check rows) printed spoiled (classes-in n store))
@@ -105,7 +105,7 @@ module _ (n : ℕ) (store : List ℕ) where
 unfoldable pub classes-through : ℕ → List ℕ → Option (List ℕ)
 classes-through n store = through-next n store n store
 
--- The labels of a run of rows, counted through the store that a run of their plain program left with so many objects.
+-- The labels of a run of rows, counted through the store that a run of their plain program left with `objects` objects.
 unfoldable pub counts-through : List ℕ → List ℕ → ℕ → ℕ → ℕ → Option Counts
 counts-through rows store n printed spoiled = choice (holds-objects n store)
     (λ _. bind-option (classes-through n store) λ cs. labels-checked (check rows) printed spoiled cs)

@@ -145,7 +145,7 @@ fn pass_lines(rows: &[u32], ends: &mut [u16], at: usize, letter: u32, limits: Li
     i
 }
 
-// Passes so many V lines, with so many slots in scope before the first.
+// Passes `count` V lines, with `slots` slots in scope before the first.
 fn pass_locals(
     rows: &[u32],
     ends: &mut [u16],
@@ -206,7 +206,7 @@ fn parts_of(code: u32, a: u32, b: u32) -> Parts
     }
 }
 
-// Passes a node, with so much nesting left and so many slots in scope.
+// Passes a node, with the nesting that is left and the slots in scope.
 fn pass_node(
     rows: &[u32],
     ends: &mut [u16],
@@ -289,7 +289,7 @@ fn pass_parts(
     r
 }
 
-// Passes so many nodes, one after another.
+// Passes `count` nodes, one after another.
 fn pass_nodes(
     rows: &[u32],
     ends: &mut [u16],

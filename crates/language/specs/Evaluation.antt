@@ -19,7 +19,7 @@ use Rattle.language.specs.Tree.{call, choose, block, Exprs, nil, cons, P
 use Rattle.language.specs.World.{Method, World, place}
 use Rattle.language.specs.Program.{body-in, world}
 
--- The limits of a run: no fuel left after so many steps, no room left after so many objects.
+-- The limits of a run: after how many steps no fuel is left, and after how many objects no room.
 pub record Limits : Type 0 where
   pub spent-at : ℕ → Bool
   pub full-at : ℕ → Bool
@@ -144,7 +144,7 @@ module _ (W : World) where
         eval-all (cons e es) s = bind (eval e s) λ v s. bind (eval-all es s) λ vs s. ok (v ∷ vs) s
 
     module _ (bodies : ℕ → Expr) where
-      -- A call with so many calls still allowed; bodies go by the number of their method.
+      -- A call where n more calls are allowed; bodies go by the number of their method.
       unfoldable pub call-at : ℕ → Method → State → Out Value
       call-at zero M s = stop deep s
       call-at (suc n) M s = eval (λ M s. call-at n M s) (bodies (M .number)) s

@@ -18,7 +18,7 @@ letters =
     ∷ T-true ∷ L-false ∷ N-null ∷ I-slot ∷ Z-is-null ∷ G-get ∷ K-cast ∷ W-new ∷ R-change
     ∷ A-assign ∷ U-set ∷ Q-call ∷ J-choose ∷ []
 
--- What nodes follow a record: none, since it is no node; so many children; a receiver and as many arguments as its second
+-- What nodes follow a record: none, since it is not a node; n children; a receiver and as many arguments as its second
 -- number says; as many locals as its first number says, then as many nodes as its second.
 pub data Children : Type 0 where
   no-node : Children

@@ -26,7 +26,7 @@ pub record State : Type 0 where
   pub changes : ℕ
 
 -- Why a run ends without a value. Stuck is a member that is not there, or a value of the wrong sort;
--- it comes of no accepted program.
+-- no accepted program gets there.
 pub data Stop : Type 0 where
   raised : ℕ → Stop
   spent deep full stuck : Stop

@@ -37,7 +37,7 @@ unfoldable pub heap-numbers : List Object → List ℕ
 heap-numbers [] = []
 heap-numbers (o ∷ os) = object-numbers o ++ heap-numbers os
 
--- The objects that numbers hold, so many of them: of each as many fields as its class has.
+-- The first n objects that numbers hold: of each as many fields as its class has.
 unfoldable pub heap-of-numbers : World → ℕ → List ℕ → List Object
 heap-of-numbers W zero store = []
 heap-of-numbers W (suc n) store = let c = getD store 0 0 in
@@ -57,7 +57,7 @@ pub data Outcome : Type 0 where
   gave : Value → Outcome
   ended : Stop → Outcome
 
--- The number of an exception or stop. Stuck comes of no accepted program.
+-- The number of an exception or stop. No accepted program gets stuck.
 abbrev pub stop-number : Stop → ℕ
 stop-number (raised n) = n
 stop-number spent = spent-stop

@@ -51,7 +51,7 @@ abbrev pub then-line : (ℕ → ℕ → Line) → Taken → Line
 then-line rest NoNumber = Malformed
 then-line rest (Number v n) = rest v n
 
--- The line of a letter that takes so many numbers, given what follows the letter.
+-- The line of a letter that takes n numbers, given what follows the letter.
 unfoldable pub numbered : ℕ → ℕ → List ℕ → Line
 numbered zero code s = closed code 0 0 1 s
 numbered (suc zero) code s = then-line (λ a n. closed code a 0 (1 + n) (drop n s)) (number-of s)
@@ -72,7 +72,7 @@ numbers-text zero a b = []
 numbers-text (suc zero) a b = tab ∷ digits a
 numbers-text (suc (suc k)) a b = tab ∷ (digits a ++ (tab ∷ digits b))
 
--- The line that begins with a byte, with so many numbers.
+-- The line that begins with a byte, with n numbers.
 abbrev pub line-from : ℕ → ℕ → ℕ → ℕ → List ℕ
 line-from x count a b = x ∷ (numbers-text count a b ++ (line-feed ∷ []))
 

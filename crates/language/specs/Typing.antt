@@ -225,7 +225,7 @@ module _ (W : World) where
       bind-checked (type-method owner number at m) λ _.
       type-methods owner (suc number) (at + method-lines m) ms
 
-  -- The classes from number k on, the first at line `at`; so many methods come before it.
+  -- The classes from number k on, the first at line `at`; `before` methods come before it.
   unfoldable pub type-classes : ℕ → ℕ → ℕ → List Class → Pass
   type-classes k number at [] = passed
   type-classes k number at (c ∷ cs) =

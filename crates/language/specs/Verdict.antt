@@ -12,7 +12,7 @@ use Rattle.language.specs.Form.{form}
 use Rattle.language.specs.Headings.{headings}
 use Rattle.language.specs.Typing.{bodies}
 
--- What the numbers of whole rows say; a length that is no multiple of 4 comes first, on no line.
+-- What the numbers of whole rows say; a length that is not a multiple of 4 is refused first, on no line.
 unfoldable pub whole-rows : {A : Type 0} → List ℕ → (Bool → Checked A) → Checked A
 whole-rows ns k = require (eqb (length ns % numbers-a-row) 0) line-refusal no-line k
 

@@ -32,7 +32,7 @@ pub record TypeInForm (t : DeclaredType) : Type 0 where
 
 module _ (most : Most) where
   mutual
-    -- A node with so much nesting left, counting itself, and so many slots in scope, slot 0 always included.
+    -- A node that may nest d deep, itself included, with n slots in scope, slot 0 always included.
     pub data NodeInForm : ℕ → ℕ → Expr → Type 0 where
       form-literal : {d n : ℕ} {l : Literal} → NodeInForm (suc d) n (literal l)
       form-slot : {d n k : ℕ} → k ≤ largest → NodeInForm (suc d) n (slot k)

@@ -115,7 +115,7 @@ pub record Done (P : List Class) (width : ℕ) (s l s′ l′ : List ℕ) (q : P
   pub kept : Kept P width s l s′ l′ q n z r
   pub is : told (r .outcome) (state P s′ l′ q (r .counts) (F - r .counts .left)) ≡ bare o
 
--- Calls with so many calls active, under fuel F and room for so many objects.
+-- Calls with `calls` calls active, under fuel F and with room for `room` objects.
 abbrev pub calls-of : List Class → ℕ → ℕ → ℕ → Method → State → Out Meaning
 calls-of P F room calls M s = call-at (world P) (with-limits F room) (body-in P) (most-calls - calls) M s
 
@@ -256,7 +256,7 @@ frame-width size n = cond (leb (of-check .nesting) size) frame-room (n + 1 + siz
 unfoldable pub most-nested : ℕ → ℕ
 most-nested size = cond (leb (of-check .nesting) size) (of-check .nesting) size
 
--- The body e of a method is at row b; `this` and n arguments are in the slots from top on; so many calls are active, this one
+-- The body e of a method is at row b; `this` and n arguments are in the slots from top on; `calls` calls are active, this one
 -- included.
 pub record PreEnter (R E T A M s l : List ℕ) (b n top calls : ℕ) (c : Counts) : Type 0 where
   pub P : List Class

@@ -39,7 +39,7 @@ slots-of l from n = map meaning (take n (drop from l))
 unfoldable pub frame-of : List ℕ → Place → Frame Meaning
 frame-of l q = frame (this-of (q .calls) (getD l (q .base) 0)) (slots-of l (q .base + 1) (q .scope))
 
--- The state that store and slots hold, after so many steps.
+-- The state that store and slots hold, after `steps` steps.
 abbrev pub state : List Class → List ℕ → List ℕ → Place → Counts → ℕ → State
 state P s l q n steps = view P s n (frame-of l q) steps
 

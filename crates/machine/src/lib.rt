@@ -52,7 +52,7 @@ const WAITING: usize = language::MOST_PARAMETERS as usize + 1;
 const SEGMENT: usize = 1920;
 
 // Where the slots of the method under way stand: `this` at base, the others after it, of which scope are in scope;
-// values that wait for a call stand from top on; so many calls are active, and outside of any there is no `this`.
+// values that wait for a call are from top on; `calls` calls are active, and outside of any there is no `this`.
 pub struct Place {
     pub base: usize,
     pub scope: usize,
@@ -143,7 +143,7 @@ fn open_locals(rows: &[u32], slots: &mut [u64], row: usize, from: usize, n: usiz
     }
 }
 
-// How many slots a call needs for `this`, n arguments and the locals of its body, which has so many rows.
+// How many slots a call needs for `this`, n arguments and the locals of its body, which has `size` rows.
 fn frame_width(size: usize, n: usize) -> usize
     requires { ⌜ n ≤ 8 ⌝ }
     ensures { λ r. ⌜ r ≡ frame-width size n ⌝ }
@@ -154,7 +154,7 @@ fn frame_width(size: usize, n: usize) -> usize
     FRAME_ROOM
 }
 
-// How many nodes nest at most in a body of so many rows.
+// How many nodes nest at most in a body of `size` rows.
 fn most_nested(size: usize) -> usize
     ensures { λ r. ⌜ r ≡ most-nested size ⌝ }
 {

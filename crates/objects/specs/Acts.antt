@@ -37,7 +37,7 @@ pub record Written (l l′ : List ℕ) (from n : ℕ) (f : ℕ → ℕ) : Type 0
   pub inside : (i : ℕ) → i < n → getD l′ (from + i) 0 ≡ f i
   pub outside : (x : ℕ) → (x < from) ⊎ (from + n ≤ x) → getD l′ x 0 ≡ getD l x 0
 
--- The number of the type of field i of class c, and the stored number of its first value, of so many fields; 0 past them.
+-- The number of the type of field i of class c, and the stored number of its first value; 0 past the `count` fields.
 abbrev pub field-type-in : List ℕ → List ℕ → ℕ → ℕ → ℕ
 field-type-in R T c i = getD R (getD T (c * class-width + rows-place + i) 0 * 4 + 1) 0
 

@@ -35,7 +35,7 @@ pub record Holding (R E T A M s : List ℕ) (P : List Class) (made : ℕ) : Type
   pub held : Held R E T A M F C (record { classes = P; start = start })
   pub sound : Sound P made s
 
--- The state that a store holds, with slots that are given, after so many steps.
+-- The state that a store holds, with slots that are given, after `steps` steps.
 abbrev pub view : List Class → List ℕ → Counts → Frame Meaning → ℕ → State
 view P s n γ steps = record {
   frame = γ;

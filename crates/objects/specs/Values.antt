@@ -46,14 +46,14 @@ case-of null = Null
 case-of (truth b) = Truth b
 case-of (object j) = Object (suc j)
 
--- What a value leads to, of so many objects made: an object by its index in the store.
+-- What a value leads to, where n objects are made: an object by its index in the store.
 abbrev pub reached : ℕ → Meaning → Reached
 reached made null = ReachedNull
 reached made (truth b) = Nothing
 reached made (object j) = cond (ltb j made) (At (j * object-width)) Nothing
 
 -- How evaluating ended: with a value, with an exception, stopped (14 spent, 15 deep, 16 full), or where no rule goes on,
--- which comes of no checked program.
+-- which no checked program reaches.
 pub data Outcome : Type 0 where
   Gave : Meaning → Outcome
   Raised : ℕ → Outcome

@@ -48,7 +48,7 @@ pub const TRUE: u64 = KIND + 1;
 
 const OBJECT: u64 = 2 * KIND;
 
-// Why there is no value: no rule goes on, which comes of no checked program; the exceptions; the stops.
+// Why there is no value: no rule goes on, which no checked program reaches; the exceptions; the stops.
 pub const STUCK: u64 = 4 * KIND;
 
 pub const NULL_POINTER: u64 = STUCK + 1;
@@ -165,7 +165,7 @@ fn write_value(store: &mut [u32], at: usize, w: u64)
     }
 }
 
-// What a value leads to, of so many objects made.
+// What a value leads to, where `made` objects are made.
 fn reach(w: u64, made: u32) -> Reached
     requires { ⌜ made ≤ 65535 ⌝ }
     ensures { λ r. ⌜ r ≡ reached made (meaning w) ⌝ }

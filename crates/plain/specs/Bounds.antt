@@ -64,7 +64,7 @@ pub record FieldsLimited (R E T : List ℕ) (at line : ℕ) : Type 0 where
   pub each : (P : List Class) (k : ℕ) (cs : List Class) → ClassesCounted P R E T k cs at
       → check-classes of-translator P k (at + 1) cs ≡ pass-of limit-refusal line
 
--- The line of the first field with a reserved name: of so many fields, and of the classes.
+-- The line of the first field with a reserved name: of `count` fields, and of the classes.
 pub record FieldsFree (R : List ℕ) (at count line : ℕ) : Type 0 where
   pub each : (fs : List Field) → FieldsAt R fs at → length fs ≡ count
       → fields-free (at + 1) fs ≡ pass-of reserved-refusal line

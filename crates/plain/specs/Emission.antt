@@ -31,7 +31,7 @@ pub record Emitted (xs : List ℕ) (lines : ℕ) (O O′ : List ℕ) (place at p
   pub written : Written xs O O′ place place′
   pub passed : at′ ≡ at + lines
 
--- Rows of a letter from one on hold types, so many of them.
+-- Rows of a letter from one on hold `count` types.
 pub record SomeTypes (R : List ℕ) (at count : ℕ) : Type 0 where
   pub letter : Letter
   pub ts : List DeclaredType
@@ -222,7 +222,7 @@ pub record MethodEmitted (R T M C O O′ : List ℕ) (at body place count place�
       → MethodTask P E owner m R T M C at body place → length (m .parameters) ≡ count
       → Emitted (method-numbers (world P) owner m) (size (m .body)) O O′ place body place′ at′
 
--- Rows hold so many fields, and what is written for these.
+-- Rows hold `count` fields, and what is written for these.
 pub record SomeFieldLines (R : List ℕ) (at count : ℕ) : Type 0 where
   pub fs : List Field
   pub rows : FieldsAt R fs at

@@ -941,7 +941,7 @@ fn first_slots(count: usize) -> [u32; 32]
     with_locals(&none, this, count)
 }
 
-// A body at row `at`, with so many parameters.
+// A body at row `at`, with n parameters.
 fn emit_body(
     rows: &[u32],
     tables: &[u16],
@@ -1147,7 +1147,7 @@ fn after_methods(rows: &[u32], ends: &[u16], at: usize) -> usize
     after_methods(rows, ends, next)
 }
 
-// How many fields a class may add to so many inherited ones.
+// How many fields a class may add to those it inherits.
 fn field_room(inherited: usize) -> usize
     ensures { λ r. ⌜ r ≡ of-translator .fields - inherited ⌝ }
 {
@@ -1176,7 +1176,7 @@ fn over_fields(rows: &[u32], ends: &[u16], tables: &[u16], at: usize) -> u32
     over_fields(rows, ends, tables, next)
 }
 
-// The line of the first of so many F lines with a reserved name; 0 for none.
+// The line of the first of `count` F lines with a reserved name; 0 for none.
 fn reserved_field(rows: &[u32], at: usize, count: usize) -> u32
     requires { ⌜ SomeFieldLines (now rows) at count × (length (now rows) ≤ numbers-a-row * of-check .rows) ⌝ }
     ensures { λ r. ⌜ FieldsFree (now (rows .entry)) at count r ⌝ }

@@ -34,7 +34,7 @@ pub record Unreserved (f : Field) : Type 0 where
   pub not-id : f .name ≢ 254
   pub not-imp : f .name ≢ 255
 
--- A program within that column, with at most so many fields in each class, its superclass's included, and no
+-- A program within that column, with at most its number of fields in each class, its superclass's included, and no
 -- field of a reserved name.
 pub record Translatable (p : Program) : Type 0 where
   pub in-form : ProgramInForm translator-column p
@@ -70,7 +70,7 @@ pub data Proper : Outcome → Type 0 where
   an-exception : {n : ℕ} → Proper (ended (raised n))
   too-deep : Proper (ended deep)
 
--- A run ends in one of some outcomes, after so many steps, objects made and changes of class.
+-- A run ends in one of some outcomes, with these counts of steps, objects made and changes of class.
 pub record Ends (Outcomes : Outcome → Type 0) (a : Ran) : Type 0 where
   pub outcome : Outcome
   pub steps : ℕ

@@ -34,7 +34,7 @@ use Rattle.language.specs.Store.{capacity, Outcome, gave, ended, ran, Ran, refu
 use Rattle.language.specs.WellFormed.{RowsOf}
 use Rattle.promises.specs.Endings.{translator-column}
 
--- A line of so many rows.
+-- A line of `rows` rows.
 pub record LineOf (rows l : ℕ) : Type 0 where
   pub from : 1 ≤ l
   pub to : l ≤ rows
@@ -155,7 +155,7 @@ pub data ListedRun (ns : List ℕ) (fuel : ℕ) (store : List ℕ) : Ran → Typ
       → drop (object-width * objects) after ≡ drop (object-width * objects) store
       → ListedRun ns fuel store (record { answer = ran o steps objects changes; store = after })
 
--- A service that fills a lent buffer with the numbers it makes, so many to a record, and the buffer
+-- A service that fills a lent buffer with the numbers it makes, n to a record, and the buffer
 -- afterwards: the numbers and then what was there past them; 13 on no line where they do not fit, or a
 -- refusal that is listed for their making, and then the buffer is unchanged.
 pub data ListedFilling (width : ℕ) (Refusal : ℕ → ℕ → Type 0) (made : Checked (List ℕ)) (old : List ℕ) :

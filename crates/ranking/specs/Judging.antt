@@ -25,12 +25,12 @@ pub record Lent (T H N : List ℕ) : Type 0 where
   pub sized : Sized T H N
   pub heads-long : length N ≤ length H
 
--- Of so many bytes the lines of some sums leave this room, or are more.
+-- How much of `bytes` bytes the lines of some sums leave, or that they are more.
 pub record Measured (bytes : ℕ) (room : Room) (ds : List Counted) : Type 0 where
   pub fits : room .fits ≡ true → length (lines-of ds) + room .left ≡ bytes
   pub over : room .fits ≡ false → bytes < length (lines-of ds)
 
--- The models below `low` are judged: so many lines count, none of these models' sums goes past the largest before that
+-- The models below `low` are judged: n lines count, none of these models' sums goes past the largest before that
 -- place, and where no line is refused so far, that is the room that their lines leave.
 pub record Judging (number : ℕ) (ls : List (Option Counted)) (bytes low : ℕ) (j : Judged) : Type 0 where
   pub within : j .place ≤ length ls
@@ -70,7 +70,7 @@ pub record Stands (report : List ℕ) (have : ℕ) : Type 0 where
   pub lines : List Counted
   pub standing : Standing report have lines
 
--- A table has so many sums, and there is room for their order.
+-- A table has `count` sums, and there is room for their order.
 pub record Ready (T order spare : List ℕ) (count : ℕ) : Type 0 where
   pub table : count * 4 ≤ length T
   pub few : count ≤ 65535
@@ -92,7 +92,7 @@ pub record SomeWhole (T order spare : List ℕ) (s : Scan) : Type 0 where
   pub lines : List (Option Counted)
   pub whole : Whole number lines T order spare s
 
--- All lines count, none of their sums is past the largest, and their report fits into so many bytes.
+-- All lines count, none of their sums is past the largest, and their report fits into `bytes` bytes.
 pub record Fits (fleet : Bool) (ns programs stores : List ℕ) (bytes : ℕ) : Type 0 where
   pub count : all-count (lines-given fleet ns programs stores) ≡ true
   pub clean : all-within (summed (lines-given fleet ns programs stores)) ≡ true

@@ -22,7 +22,7 @@ use Rattle.sums.specs.declared.Taken.the-variants.{Within, Past}
 abbrev pub in-window : ℕ → ℕ → ℕ → Bool
 in-window low end m = leb low m && ltb m end
 
--- The bucket of a model, of so many.
+-- The bucket of a model, of n buckets.
 unfoldable pub bucket-of : ℕ → ℕ → ℕ
 bucket-of buckets m = bitAnd (m * 2654435769 / 2 ^ 18) (buckets - 1)
 

@@ -25,14 +25,14 @@ pub enum Taken {
     Past,
 }
 
-// A line is added, and so many models have sums; or it takes a sum past the largest; or there is no room for its model.
+// A line is added, and n models have sums; or it takes a sum past the largest; or there is no room for its model.
 enum Added {
     Entered(usize),
     Exceeds,
     Full,
 }
 
-// The bucket of a model, of so many.
+// The bucket of a model, of `buckets` buckets.
 fn bucket(model: u32, buckets: usize) -> usize
     requires { ⌜ 1 ≤ buckets ⌝ }
     ensures { λ r. ⌜ (r ≡ bucket-of buckets model) × (r < buckets) ⌝ }
