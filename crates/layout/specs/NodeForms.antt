@@ -1,6 +1,6 @@
 -- Nodes in form (`NodeInForm` of WellFormed), one level at a time, and under other limits.
 --   form-parts, forms-parts   what form tells of a node and of a list: the nesting that it uses, its name, its children
---   form-within, body-within  a node in form is in form under any width and nesting that allow as much, or that are as many as
+--   body-within               a body in form is in form under any width and nesting that allow as much, or that are as many as
 --                             its rows
 use mathlib.Core.Path.{_≡_}
 use Prim.Native.Nat.{ℕ, suc, _+_, _-_, _≤_, _<_}
@@ -14,7 +14,7 @@ use Rattle.language.specs.WellFormed.{TypeInForm, Each, NodeInForm, NodesInForm
 use Rattle.language.specs.WellFormed.{form-is-null, form-get, form-cast, form-assign}
 use Rattle.language.specs.WellFormed.{form-set, form-call, form-choose, form-block, form-cons}
 use Rattle.language.specs.WellFormed.{BodyInForm}
-use Rattle.theory.proofs.reading.FormLimits.{node-within, body-within as within}
+use Rattle.theory.proofs.reading.FormLimits.{body-within as within}
 
 -- The limits of the check with another width: how many slots may be in scope.
 abbrev pub of-width : ℕ → Most
@@ -80,11 +80,7 @@ module _ (most : Most) where
 -- ---- other limits
 
 module _ (w : ℕ) where
-  pub form-within : (e : Expr) (j d n : ℕ) → NodeInForm of-check j n e
-      → (of-check .slots ≤ w) ⊎ (n + size e ≤ w) → (j ≤ d) ⊎ (size e ≤ d) → NodeInForm (of-width w) d n e
-  form-within e j d n h u v = node-within of-check (of-width w) (omega arith) e j d n h u v
-
-  -- The same of a body.
+  -- A body in form is in form under any width and nesting that allow as much, or that are as many as its rows.
   pub body-within : (d n : ℕ) (e : Expr) → BodyInForm of-check n e → (of-check .slots ≤ w) ⊎ (n + size e ≤ w)
       → (of-check .nesting ≤ d) ⊎ (size e ≤ d) → NodeInForm (of-width w) d n e
   body-within d n e h u v = within of-check (of-width w) (omega arith) d n e h u v

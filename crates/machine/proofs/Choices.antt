@@ -25,7 +25,7 @@ use Rattle.machine.proofs.OneChild.{node-rows, node-parts}
 use Rattle.machine.specs.Evaluator.{PreEval, PreEntered, PostEval, PostNode, evaluated}
 use Rattle.objects.proofs.Value.{the-type}
 use Rattle.machine.proofs.Letters.{as-choose}
-use Rattle.machine.proofs.Steps.{kept-then, kept-more, kept-as, ready-child, refit, room-same}
+use Rattle.machine.proofs.Steps.{first-child, next-child, kept-then, kept-more, kept-as, room-same}
 use Rattle.machine.proofs.Steps.{then-eval, fails, gives, kept-of}
 
 -- J taken apart
@@ -75,38 +75,15 @@ choose-apart p h =
 module _ {R E T A M s l : List ℕ} {at : ℕ} {q : Place} {n : Counts} {p : PreEntered R E T A M s l at q n}
     (x : ChooseAt p) where
   abbrev pub choose-first : PreEval R E T A M s l (at + 1) q n
-  choose-first = record {
-    P = p .P;
-    e = x .a;
-    width = p .width;
-    d = p .d - 1;
-    ready = ready-child 1 (p .d - 1) (p .ready) (omega arith);
-    encoded = x .enc-a;
-    proper = x .proper-a;
-  }
+  choose-first = first-child p (x .a) (x .enc-a) (x .proper-a)
 
   module _ {s′ l′ : List ℕ} {r : Answer} (g : PostEval R E T A M s l s′ l′ (at + 1) q n r) where
     abbrev pub choose-second : PreEval R E T A M s′ l′ (getD E (at + 1) 0) q (r .counts)
-    choose-second = record {
-      P = p .P;
-      e = x .b;
-      width = p .width;
-      d = p .d - 1;
-      ready = refit 1 (p .d - 1) (p .ready) (kept-of choose-first g) (omega arith);
-      encoded = rw (x .end-a) (x .enc-b);
-      proper = x .proper-b;
-    }
+    choose-second = next-child p (x .b) (kept-of choose-first g) (rw (x .end-a) (x .enc-b)) (x .proper-b)
 
     abbrev pub choose-third : PreEval R E T A M s′ l′ (getD E (getD E (at + 1) 0) 0) q (r .counts)
-    choose-third = record {
-      P = p .P;
-      e = x .c;
-      width = p .width;
-      d = p .d - 1;
-      ready = refit 1 (p .d - 1) (p .ready) (kept-of choose-first g) (omega arith);
-      encoded = rw (x .end-a, x .end-b) (x .enc-c);
-      proper = x .proper-c;
-    }
+    choose-third = next-child p (x .c) (kept-of choose-first g) (rw (x .end-a, x .end-b) (x .enc-c))
+        (x .proper-c)
 
     module _ {v : Meaning} {t : Bool} (e : r .outcome ≡ Gave v) (e′ : v ≡ truth t) (F k : ℕ)
         (z : k + n .left ≡ F) where

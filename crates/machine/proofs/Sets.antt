@@ -22,7 +22,8 @@ use Rattle.machine.specs.Evaluator.{Done, PreEval, PreEntered, PostEval,
 use Rattle.objects.specs.Acts.{PostSave, PreObject}
 use Rattle.machine.proofs.Letters.{as-set}
 use Rattle.machine.proofs.Steps
-use Rattle.machine.proofs.Steps.{kept-then, kept-more, ready-child, refit, room-same, then-eval, fails}
+use Rattle.machine.proofs.Steps.{first-child, next-child, kept-then, kept-more, room-same, then-eval}
+use Rattle.machine.proofs.Steps.{fails}
 use Rattle.machine.proofs.Steps.{gives, kept-of}
 
 -- U taken apart
@@ -70,27 +71,11 @@ set-apart p h =
 module _ {R E T A M s l : List ℕ} {at : ℕ} {q : Place} {n : Counts} {p : PreEntered R E T A M s l at q n}
     (x : SetAt p) where
   abbrev pub set-first : PreEval R E T A M s l (at + 1) q n
-  set-first = record {
-    P = p .P;
-    e = x .a;
-    width = p .width;
-    d = p .d - 1;
-    ready = ready-child 1 (p .d - 1) (p .ready) (omega arith);
-    encoded = x .enc-a;
-    proper = x .proper-a;
-  }
+  set-first = first-child p (x .a) (x .enc-a) (x .proper-a)
 
   module _ {s′ l′ : List ℕ} {r : Answer} (g : PostEval R E T A M s l s′ l′ (at + 1) q n r) where
     abbrev pub set-second : PreEval R E T A M s′ l′ (getD E (at + 1) 0) q (r .counts)
-    set-second = record {
-      P = p .P;
-      e = x .b;
-      width = p .width;
-      d = p .d - 1;
-      ready = refit 1 (p .d - 1) (p .ready) (kept-of set-first g) (omega arith);
-      encoded = rw (x .end) (x .enc-b);
-      proper = x .proper-b;
-    }
+    set-second = next-child p (x .b) (kept-of set-first g) (rw (x .end) (x .enc-b)) (x .proper-b)
 
     abbrev pub set-object : {s″ l″ : List ℕ} {r′ : Answer}
         → PostEval R E T A M s′ l′ s″ l″ (getD E (at + 1) 0) q (r .counts) r′

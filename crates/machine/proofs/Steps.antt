@@ -9,7 +9,9 @@ use lib.Dec.{leb}
 use lib.ListN.{length, getD, set, drop}
 use lib.Seq.{drop-drop}
 use Rattle.language.specs.Results.{ok, bind}
-use Rattle.language.specs.Tree.{Class}
+use Rattle.language.specs.Tree.{Expr, Class}
+use Rattle.language.specs.Encoded.{Encoded}
+use Rattle.layout.specs.ProperNodes.{Proper}
 use Rattle.language.specs.Program.{world}
 use Rattle.language.specs.State.{Value as Meaning, State, Out}
 use Rattle.language.specs.Evaluation.{with-limits}
@@ -122,6 +124,34 @@ refit z d′ f k h = record {
   active = f .active;
   counted = omega (arith, f .counted, k .counted);
 }
+
+-- What evaluating a child of an entered node asks: of the first one, and of one that follows another.
+module _ {R E T A M s l : List ℕ} {at : ℕ} {q : Place} {n : Counts} (p : PreEntered R E T A M s l at q n)
+  where
+    abbrev pub first-child : {row : ℕ} (e : Expr) → Encoded R E e row
+        → Proper (p .P) (p .width) (suc (q .scope)) (p .d - 1) e → PreEval R E T A M s l row q n
+    first-child e encoded proper = record {
+      P = p .P;
+      e = e;
+      width = p .width;
+      d = p .d - 1;
+      ready = ready-child 1 (p .d - 1) (p .ready) (omega arith);
+      encoded = encoded;
+      proper = proper;
+    }
+
+    abbrev pub next-child : {s′ l′ : List ℕ} {r : Answer} {row : ℕ} (e : Expr)
+        → Kept (p .P) (p .width) s l s′ l′ q n 0 r → Encoded R E e row
+        → Proper (p .P) (p .width) (suc (q .scope)) (p .d - 1) e → PreEval R E T A M s′ l′ row q (r .counts)
+    next-child e kept encoded proper = record {
+      P = p .P;
+      e = e;
+      width = p .width;
+      d = p .d - 1;
+      ready = refit 1 (p .d - 1) (p .ready) kept (omega arith);
+      encoded = encoded;
+      proper = proper;
+    }
 
 pub room-same : (s s′ : List ℕ) → length s′ ≡ length s → capacity s′ ≡ capacity s
 unfolding capacity
@@ -273,15 +303,8 @@ module _ {R E T A M s l : List ℕ} {at : ℕ} {q : Place} {n : Counts} (p : Pre
   one-is = one-of (p .e) (rw (head (p .e) (p .encoded) .letter) at h)
 
   abbrev pub one-pre : PreEval R E T A M s l (at + 1) q n
-  one-pre = record {
-    P = p .P;
-    e = child (p .e);
-    width = p .width;
-    d = p .d - 1;
-    ready = ready-child 1 (p .d - 1) (p .ready) (omega arith);
-    encoded = one-encoded R E at one-is (p .encoded);
-    proper = one-proper (p .P) (p .width) (suc (q .scope)) (p .d) one-is (node-parts p refl);
-  }
+  one-pre = first-child p (child (p .e)) (one-encoded R E at one-is (p .encoded))
+      (one-proper (p .P) (p .width) (suc (q .scope)) (p .d) one-is (node-parts p refl))
 
 -- what a callee keeps, for the program at hand
 pub kept-of : {R E T A M s l s′ l′ : List ℕ} {at : ℕ} {q : Place} {n : Counts} {r : Answer}
