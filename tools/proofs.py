@@ -10,7 +10,7 @@
 
 @S is the start of the function: @S .args .x, @S .pre, @S .good. Paths are read from the records that
 `rt dev CRATE --generated DIR` writes; DIR is outside the repository. Run from the repository's root.
-In a cycle FN is the folder's name, +a+b, or one of its members; its needs are a-returns and so on.
+In a cycle FN is the folder's name, +a+b, or one of its members; its needs are a-returns and so on. In a module FN is MODULE/NAME.
 """
 import glob
 import hashlib
@@ -40,9 +40,10 @@ def generate(crate, force=False):
 def proof_dir(crate, fn):
     if os.path.isdir(f'crates/{crate}/proofs/{fn}'):
         return fn
-    for x in sorted(os.listdir(f'crates/{crate}/proofs')):
-        if x.startswith('+') and fn in x[1:].split('+'):
-            return x
+    module, slash, name = fn.rpartition('/')
+    for x in sorted(os.listdir(f'crates/{crate}/proofs/{module}')):
+        if name in members(x):
+            return module + slash + x
     return fn
 
 class Records:
@@ -79,11 +80,13 @@ def records(crate, fn, member=None):
     return cache[path]
 
 def members(fn):
-    return fn[1:].split('+') if fn.startswith('+') else []
+    """The functions of a cycle, `+a+b` or `module/+a+b`; none of a function by itself."""
+    name = fn.rpartition('/')[2]
+    return name[1:].split('+') if name.startswith('+') else []
 
 def find_need(crate, fn, name):
     """The records and the name of the need that a definition answers."""
-    if not fn.startswith('+'):
+    if not members(fn):
         r = records(crate, fn)
         return r, 'Need-' + name
     for m in sorted(members(fn), key=len, reverse=True):

@@ -13,6 +13,7 @@ from contextlib import redirect_stdout
 from unittest import mock
 
 import graph
+import pages
 import proofs
 import tidy
 import twin
@@ -38,6 +39,54 @@ class InFolder(unittest.TestCase):
     def read(self, path):
         with open(path) as file:
             return file.read()
+
+
+class Pages(InFolder):
+    PAGE = """Text.
+
+```console
+$ printf 'a\\nb\\n'
+a
+b
+$ .ci/run
+...
+3 passed, 0 failed
+$ printf 'first\\n2\\nlast\\n' >&2
+...
+last
+```
+
+```text
+$ false
+```
+"""
+
+    def shown(self, page):
+        """What is said of a page, and the status."""
+        for name in pages.PAGES:
+            self.write(name, page)
+        said = io.StringIO()
+        with redirect_stdout(said):
+            try:
+                pages.main()
+            except SystemExit as end:
+                return said.getvalue(), end.code
+        return said.getvalue(), None
+
+    def test_commands_print_what_the_page_shows(self):
+        said, status = self.shown(self.PAGE)
+        self.assertIsNone(status)
+        self.assertEqual(said.count("printf 'a"), len(pages.PAGES))
+        self.assertNotIn('.ci/run', said)
+        self.assertNotIn('false', said)
+
+    def test_another_line_or_one_too_many_is_told(self):
+        for old, new in [('a\nb\n$', 'a\nc\n$'), ('a\nb\n$', 'a\n$'), ('last\n', 'lost\n')]:
+            said, status = self.shown(self.PAGE.replace(old, new))
+            self.assertIn('README.md shows:', status)
+
+    def test_a_page_without_examples_is_told(self):
+        self.assertIn('no examples', self.shown('Text.\n')[1])
 
 
 class Graph(InFolder):
@@ -160,6 +209,15 @@ returns c = c .put .ensures
         generated = mock.patch('proofs.generate', return_value=os.path.abspath('generated'))
         generated.start()
         self.addCleanup(generated.stop)
+
+    def test_cycles_are_found_in_modules_too(self):
+        self.write('crates/sample/proofs/+f+g/Proof.antt', '')
+        self.write('crates/sample/proofs/nodes/+h+call/Proof.antt', '')
+        self.assertEqual(proofs.proof_dir('sample', 'g'), '+f+g')
+        self.assertEqual(proofs.proof_dir('sample', 'nodes/call'), 'nodes/+h+call')
+        self.assertEqual(proofs.proof_dir('sample', 'nodes/alone'), 'nodes/alone')
+        self.assertEqual(proofs.members('nodes/+h+call'), ['h', 'call'])
+        self.assertEqual(proofs.members('put_row'), [])
 
     def test_records_are_read(self):
         found = proofs.records('sample', 'put_row')

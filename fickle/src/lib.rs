@@ -38,24 +38,24 @@
 //! left. A thread that `std::thread::spawn` starts has 2 MiB, which is more.
 
 mod answers;
+mod constants;
 mod explanations;
 mod fleets;
 #[cfg(test)]
 mod header;
-mod limits;
 mod owned;
 mod price_terms;
 mod refusals;
 mod stack;
 
 pub use answers::{Exception, Outcome, Run, Stop, Value};
-pub use explanations::{explanation, explanations, Explanation};
-pub use fleets::{count_plain_run, count_run, rank_models, report_fleet, Labels};
-pub use limits::{
+pub use constants::{
     COUNTED_WIDTH, LARGEST_NUMBER, MOST_FUEL, MOST_LINE_BYTES, MOST_MODEL_BYTES, MOST_OBJECTS,
     MOST_PRICE_REPORT_BYTES, MOST_ROWS, MOST_SOURCE_FUEL, MOST_TERM_BYTES, MOST_TRANSLATED_ROWS,
     OBJECT_WIDTH, PLAIN_STEPS_A_STEP, ROW_WIDTH, RUN_WIDTH,
 };
+pub use explanations::{explanation, explanations, Explanation};
+pub use fleets::{count_plain_run, count_run, rank_models, report_fleet, Labels};
 pub use owned::{
     fleet_report, models_report, plain_rows, price_report, rows_of_text, run_in_own_store, text_of_rows,
 };

@@ -1,7 +1,7 @@
 //! The services with buffers of their own. Each function allocates what is enough for every input, so none of them is ever
 //! refused with `Reason::Room`; its other refusals are those of the function over lent buffers that it calls.
 
-use crate::limits::{
+use crate::constants::{
     COUNTED_WIDTH, MOST_LINE_BYTES, MOST_MODEL_BYTES, MOST_OBJECTS, MOST_PRICE_REPORT_BYTES, MOST_ROWS,
     MOST_TRANSLATED_ROWS, OBJECT_WIDTH, ROW_WIDTH, RUN_WIDTH,
 };

@@ -2,7 +2,7 @@
 //!
 //! `c/stack.c` measures what the numbers here rest on; `include/fickle.h` has the same constants for C.
 
-use crate::limits::ROW_WIDTH;
+use crate::constants::ROW_WIDTH;
 
 /// Bytes of native stack that `read_rows` takes at most.
 pub const READ_ROWS_STACK_NEEDED: usize = 1_048_576;

@@ -19,14 +19,14 @@ use Rattle.language.specs.Typing.{Typed, typed, type-of}
 use Rattle.language.specs.LookupClasses.{LooksUp}
 use Rattle.language.proofs.Lines.{le-or-less}
 use Rattle.layout.specs.Held.{Headed}
-use Rattle.bodies.specs.declared.Answer.{Answer}
-use Rattle.bodies.specs.declared.Typing.{Typing}
-use Rattle.bodies.specs.declared.Typing.the-variants.{Bool as bool-case, Null}
-use Rattle.bodies.specs.Answers.{answer, answer-of, case-of-number}
-use Rattle.bodies.specs.Nodes.{refusal, created, slot-read}
+use Rattle.typing.specs.declared.types.Answer.{Answer}
+use Rattle.typing.specs.declared.types.Typing.{Typing}
+use Rattle.typing.specs.declared.types.Typing.the-variants.{Bool as bool-case, Null}
+use Rattle.typing.specs.Answers.{answer, answer-of, case-of-number}
+use Rattle.typing.specs.Nodes.{refusal, created, slot-read}
 use Rattle.bodies.specs.Cycle.{Views, Accepted, Is}
-use Rattle.bodies.proofs.Lists.{declared-test}
-use Rattle.bodies.proofs.Cases.{read-out, read-absent, read-there}
+use Rattle.typing.proofs.Lists.{declared-test}
+use Rattle.typing.proofs.Cases.{read-out, read-absent, read-there}
 use Rattle.bodies.proofs.Turns.{declared-bool, declared-null, declared-known, is-accepted}
 use Rattle.bodies.proofs.TypeNumbers.{type-number-case}
 use Rattle.bodies.proofs.Slots.{slot-some, slot-none}

@@ -1,10 +1,4 @@
-pub mod Lists
-pub mod Halves
 pub mod EffectLaws
-pub mod Laws
-pub mod Cases
-pub mod LineLaws
-pub mod ActLaws
 pub mod WholeLaws
 pub mod Worlds
 pub mod Typings
@@ -27,7 +21,7 @@ pub mod Placed
 pub mod Within
 pub mod MethodFound
 pub mod CallNode
-pub mod Waiting
+pub mod AppliedNumbers
 pub mod TurnsNodes
 pub mod TurnsUnary
 pub mod TurnsLists

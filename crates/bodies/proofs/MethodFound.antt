@@ -22,14 +22,14 @@ use Rattle.language.proofs.Nodes.{head}
 use Rattle.layout.specs.Found.{method-here, found-number, found-none}
 use Rattle.layout.specs.Headed.{method-headed, declared-nth}
 use Rattle.layout.specs.Held.{Headed}
-use Rattle.bodies.specs.declared.Typing.{Typing}
-use Rattle.bodies.specs.Answers.{case-number, case-of-number, typing-case}
-use Rattle.bodies.specs.Tables.{is-fitting}
-use Rattle.bodies.specs.Acts.{stored-case, all-fitting, method-place, method-line, parameter-count}
-use Rattle.bodies.specs.Acts.{PreMethod}
+use Rattle.typing.specs.declared.types.Typing.{Typing}
+use Rattle.typing.specs.Answers.{case-number, case-of-number, typing-case}
+use Rattle.typing.specs.Tables.{is-fitting}
+use Rattle.typing.specs.Acts.{stored-case, all-fitting, method-place, method-line, parameter-count}
+use Rattle.typing.specs.Acts.{PreMethod}
 use Rattle.bodies.specs.Cycle.{Declared, stored}
 use Rattle.bodies.proofs.TypeLines.{TypeAt}
-use Rattle.bodies.proofs.LineLaws.{case-same}
+use Rattle.typing.proofs.LineLaws.{case-same}
 use Rattle.bodies.proofs.Worlds.{class-low, not-255, fitting-is}
 use Rattle.bodies.proofs.Turns.{type-low, case-low}
 use Rattle.bodies.proofs.TypeNumbers.{type-number-case, not-absent}

@@ -19,18 +19,19 @@ use Rattle.language.specs.Typing.{Typed, TypedAll, typed, type-of, type-all}
 use Rattle.language.specs.LookupClasses.{LooksUp}
 use Rattle.language.proofs.Lines.{less-or-same}
 use Rattle.language.proofs.Nodes.{Head}
-use Rattle.bodies.specs.declared.Answer.{Answer}
-use Rattle.bodies.specs.declared.Scope.{Scope}
-use Rattle.bodies.specs.declared.Typing.the-variants.{Null}
-use Rattle.bodies.specs.Answers.{answer, answer-of, case-number, is-refusal}
-use Rattle.bodies.specs.Tables.{Applicable, Known, applied-number}
+use Rattle.typing.specs.declared.types.Answer.{Answer}
+use Rattle.typing.specs.declared.slots.Scope.{Scope}
+use Rattle.typing.specs.declared.types.Typing.the-variants.{Null}
+use Rattle.typing.specs.Answers.{answer, answer-of, case-number, is-refusal}
+use Rattle.typing.specs.Tables.{Applicable, Known, applied-number}
 use Rattle.bodies.specs.Cycle.{Given, GivenAll, raised, Pre, Post, PreList, AcceptedAll, PostArguments}
-use Rattle.bodies.specs.Cycle.{PostStore, stored}
+use Rattle.bodies.specs.Cycle.{stored}
+use Rattle.typing.specs.Tables.{PostStore}
 use Rattle.bodies.proofs.EffectLaws.{join-assoc, join-none}
-use Rattle.bodies.proofs.Laws.{known-same}
+use Rattle.typing.proofs.Laws.{known-same}
 use Rattle.bodies.proofs.TypeNumbers.{applied-case}
-use Rattle.bodies.proofs.Waiting.{applied-none, applied-join, known-applied, known-case}
-use Rattle.bodies.proofs.Waiting.{known-applicable}
+use Rattle.bodies.proofs.AppliedNumbers.{applied-none, applied-join, known-applied, known-case}
+use Rattle.bodies.proofs.AppliedNumbers.{known-applicable}
 use Rattle.bodies.proofs.Turns.{pre-of, list-pre, room-next, views-same, bind-refused}
 use Rattle.bodies.proofs.TurnsNodes.{Did, did, failed, after-row, row-of}
 use Rattle.bodies.proofs.TurnsLists.{none-accepted, by-nil, by-list, list-first, list-rest, both}

@@ -25,18 +25,18 @@ use Rattle.language.specs.LookupClasses.{Notes, LooksUp}
 use Rattle.language.specs.Translation.{typed-or, class-or}
 use Rattle.language.proofs.Lines.{le-or-less}
 use Rattle.layout.specs.Held.{Headed}
-use Rattle.bodies.specs.declared.Answer.{Answer}
-use Rattle.bodies.specs.declared.Typing.{Typing}
-use Rattle.bodies.specs.declared.Typing.the-variants.{Bool as bool-case, Class as class-case, Null}
-use Rattle.bodies.specs.declared.Typing.the-variants.{Refusal}
-use Rattle.bodies.specs.declared.Sought.{Sought}
-use Rattle.bodies.specs.declared.Sought.the-variants.{Found, Missing}
-use Rattle.bodies.specs.Answers.{answer, answer-of, typing-case, sought-of, current-in}
-use Rattle.bodies.specs.Tables.{is-fitting}
-use Rattle.bodies.specs.Nodes.{refusal, null-tested, casted, cast-answer, assigned, field-in, not-class}
-use Rattle.bodies.specs.Nodes.{got, got-classes, found-answer, noted}
+use Rattle.typing.specs.declared.types.Answer.{Answer}
+use Rattle.typing.specs.declared.types.Typing.{Typing}
+use Rattle.typing.specs.declared.types.Typing.the-variants.{Bool as bool-case, Class as class-case, Null}
+use Rattle.typing.specs.declared.types.Typing.the-variants.{Refusal}
+use Rattle.typing.specs.declared.members.Sought.{Sought}
+use Rattle.typing.specs.declared.members.Sought.the-variants.{Found, Missing}
+use Rattle.typing.specs.Answers.{answer, answer-of, typing-case, sought-of, current-in}
+use Rattle.typing.specs.Tables.{is-fitting}
+use Rattle.typing.specs.Nodes.{refusal, null-tested, casted, cast-answer, assigned, field-in, not-class}
+use Rattle.typing.specs.Nodes.{got, got-classes, found-answer, noted}
 use Rattle.bodies.specs.Cycle.{Views, Declared, Accepted, Is}
-use Rattle.bodies.proofs.Lists.{declared-test}
+use Rattle.typing.proofs.Lists.{declared-test}
 use Rattle.bodies.proofs.Worlds.{class-low, fitting-is}
 use Rattle.bodies.proofs.Typings.{line-free, looks-frame, class-inv}
 use Rattle.bodies.proofs.Turns.{declared-bool, declared-known, type-low, not-refused}

@@ -24,10 +24,9 @@ use Rattle.language.specs.Rows.{A-assign, G-get, K-cast, Z-is-null, code}
 use Rattle.language.specs.Limits.{of-check}
 use Rattle.layout.specs.Held.{Headed}
 use Rattle.layout.specs.NodeForms.{of-width}
-use Rattle.bodies.specs.declared.Answer.{Answer}
-use Rattle.bodies.specs.declared.Scope.{Scope}
-use Rattle.bodies.specs.Answers.{answer-of, typing-case, case-number, numbers}
-use Rattle.bodies.specs.Tables.{applied-number}
+use Rattle.typing.specs.declared.types.Answer.{Answer}
+use Rattle.typing.specs.declared.slots.Scope.{Scope}
+use Rattle.typing.specs.Answers.{answer-of, typing-case, case-number, numbers}
 
 -- A row with the letter of a node of one child.
 abbrev pub Unary : List ℕ → ℕ → Type 0
@@ -163,13 +162,6 @@ pub record PostItems (R E T A M F S C S′ C′ : List ℕ) (at : ℕ) (scope : 
 -- The numbers of arguments' types as they are stored.
 unfoldable pub stored : List ExprType → List ℕ
 stored ts = map (λ (t : ExprType). case-number (typing-case t)) ts
-
--- The numbers of the n types from `top` on after an argument's effect, then the number of its own type.
-pub record PostStore (T S S′ : List ℕ) (top n : ℕ) (r : Answer) : Type 0 where
-  pub long : length S′ ≡ length S
-  pub below : (k : ℕ) → k < top → getD S′ k 0 ≡ getD S k 0
-  pub waiting : (k : ℕ) → k < n → getD S′ (top + k) 0 ≡ applied-number T (r .effect) (getD S (top + k) 0)
-  pub last : getD S′ (top + n) 0 ≡ case-number (r .typing)
 
 -- A call's arguments: their effects joined, and their types stored from the top on.
 pub record ArgumentsAre (W : World) (es : Exprs) (γ : Environment) (at scope top n : ℕ) (S′ C′ : List ℕ)

@@ -7,7 +7,7 @@ use Prim.Native.Nat.{ℕ, _+_, _*_, _≤_, _<_}
 use lib.ListN.{length, getD}
 use Rattle.language.specs.Limits.{of-check}
 use Rattle.language.specs.Lists.{nth}
-use Rattle.language.specs.Results.{Pass, passed}
+use Rattle.language.specs.Results.{Pass, accept, refuse, passed}
 use Rattle.language.specs.Tree.{Expr, size, Program}
 use Rattle.language.specs.World.{World}
 use Rattle.language.specs.Program.{world}
@@ -18,7 +18,12 @@ use Rattle.language.specs.MethodTables.{PlacedMethod, placed-methods}
 use Rattle.language.specs.Layout.{body-row, start-row, LooksUpProgram}
 use Rattle.layout.specs.Held.{Headed}
 use Rattle.bodies.specs.declared.Verdict.{Verdict}
-use Rattle.bodies.specs.Answers.{verdict-of, fresh-in}
+use Rattle.bodies.specs.declared.Verdict.the-variants.{Accepted, Refused}
+use Rattle.typing.specs.Answers.{fresh-in}
+
+abbrev pub verdict-of : Pass → Verdict
+verdict-of (accept t) = Accepted
+verdict-of (refuse n l) = Refused n l
 
 -- The slots at the start of a method's body: `this`, then the types of n P lines.
 pub record PreEnter (R S : List ℕ) (from n : ℕ) : Type 0 where

@@ -1,27 +1,10 @@
--- The answers of the check as the code gives them.
-use Prim.Native.Nat.{ℕ}
-use lib.ListN.{length}
-use Rattle.language.specs.Results as results
-use Rattle.language.specs.Results.{accept, refuse}
-use Rattle.language.specs.Tree.{Program}
+-- The verdict as the code gives it.
 use Rattle.language.specs.Verdict as verdicts
 use Rattle.language.specs.Verdict.{accepted, refused}
-use Rattle.bodies.specs.declared.Verdict as typed
-use Rattle.bodies.specs.declared.Verdict.the-variants.{Accepted as Typed, Refused as NotTyped}
-use Rattle.checker.specs.declared.Checked.{Checked}
-use Rattle.checker.specs.declared.Checked.the-variants.{Accepted as Passed, Refused as Failed}
+use Rattle.passes.specs.declared.Checked.{Checked}
+use Rattle.passes.specs.declared.Checked.the-variants.{Accepted as Passed, Refused as Failed}
 use Rattle.checker.specs.declared.Verdict.{Verdict}
 use Rattle.checker.specs.declared.Verdict.the-variants.{Accepted, Refused}
-
--- Accepted with its number of classes, or the refusal.
-abbrev pub checked-case : results.Checked Program → Checked
-checked-case (accept p) = Passed (length (p .classes))
-checked-case (refuse number line) = Failed number line
-
--- What the body pass answers, of a program with n classes.
-abbrev pub typed-case : ℕ → typed.Verdict → Checked
-typed-case classes Typed = Passed classes
-typed-case classes (NotTyped number line) = Failed number line
 
 abbrev pub verdict-case : verdicts.Verdict → Verdict
 verdict-case accepted = Accepted

@@ -1,4 +1,5 @@
 // Sets of classes as one number, and the subclass test over a table that has such a set for each class.
+use language::Type;
 ghost use mathlib.Core.Path.{_≡_};
 ghost use Prim.Native.Nat.{_-_, _≤_, _<_};
 ghost use lib.ListN.{length};
@@ -10,7 +11,7 @@ ghost use Rattle.language.specs.Limits.{of-check};
 fn place_of(class: u32) -> u32
     ensures { λ r. ⌜ r ≡ class - 1 ⌝ }
 {
-    if class == 0 {
+    if class == Type::OBJECT {
         return 0;
     }
     class - 1
@@ -39,7 +40,7 @@ pub fn is_below(above: &[u64], class: u32, over: u32) -> bool
     requires { ⌜ (class < length (now above)) × (over ≤ of-check .classes) ⌝ }
     ensures { λ r. ⌜ r ≡ is-below (now (above .entry)) class over ⌝ }
 {
-    if over == 0 {
+    if over == Type::OBJECT {
         return true;
     }
     is_member(above[class as usize], over)

@@ -25,8 +25,8 @@ use Rattle.text.proofs.Parsing.{read-whole-rows}
 use Rattle.runner.specs.Answers.{answer-told}
 use Rattle.language.specs.Printed.{refusal-text, run-text, run-line, source-rows, printed}
 use Rattle.language.specs.Printed.{plain-text, run-lines, translate-output, run-output}
-use Rattle.console.specs.Told.{answer-text}
-use Rattle.console.proofs.Writing.{both-long}
+use Rattle.printing.specs.Told.{answer-text}
+use Rattle.printing.proofs.Writing.{both-long}
 
 -- ---- the line of a run
 

@@ -16,7 +16,7 @@ use Rattle.language.specs.Verdict.{check}
 use Rattle.language.proofs.Booleans.{and-inv}
 use Rattle.fleet.specs.Counts.{is-declared, relates}
 use Rattle.classes.specs.Subclasses.{is-below}
-use Rattle.checker.specs.Answers.{checked-case}
+use Rattle.passes.specs.Answers.{checked-case}
 use Rattle.counting.specs.declared.Known.{Known}
 use Rattle.counting.specs.declared.Known.the-variants.{Classes, Refused}
 use Rattle.counting.specs.Knowing.{known-case, Knows, Serves}

@@ -9,6 +9,7 @@ use borrow.Author.Tests.{eq-eqb, ne-eqb, lt-ltb, le-ltb, le-leb, lt-leb}
 use lib.Dec.{leb}
 use lib.ListN.{length, getD, drop}
 use lib.Seq.{getD-drop}
+use Rattle.language.specs.Limits.{object-width}
 use Rattle.language.specs.Lists.{choice, Never, inj}
 use Rattle.language.specs.World.{World}
 use Rattle.language.specs.Program.{world}
@@ -30,7 +31,7 @@ module _ (n : ℕ) (store : List ℕ) (v : ℕ) where
   pub not-made : 3 ≤ v → n ≤ v - 3 → 0 ≡ class-made n store v
   not-made h l = rw (le-leb 3 v h, le-ltb (v - 3) n l)
 
-  pub made : 3 ≤ v → v - 3 < n → getD store (18 * (v - 3)) 0 ≡ class-made n store v
+  pub made : 3 ≤ v → v - 3 < n → getD store (object-width * (v - 3)) 0 ≡ class-made n store v
   made h l = rw (le-leb 3 v h, lt-ltb (v - 3) n l)
 
 pub not-implementor : (c : ℕ) → c < 2 → Lost ≡ implementor-ended c
@@ -42,29 +43,29 @@ implementor c l = rw (le-leb 2 c l)
 -- ---- objects of a store
 
 module _ (n : ℕ) (store : List ℕ) (at : ℕ) where
-  first : getD (drop (18 * at) store) 0 0 ≡ getD store (18 * at) 0
-  first = let z : 18 * at + 0 ≡ 18 * at = omega arith in
-      getD-drop (18 * at) store 0 0 ∙ ap (λ (k : ℕ). getD store k 0) z
+  first : getD (drop (object-width * at) store) 0 0 ≡ getD store (object-width * at) 0
+  first = let z : object-width * at + 0 ≡ object-width * at = omega arith in
+      getD-drop (object-width * at) store 0 0 ∙ ap (λ (k : ℕ). getD store k 0) z
 
   pub ended-run : (plain : Bool) → plain ≡ false
-      → In (getD store (18 * at) 0) ≡ ended-at plain n store (drop (18 * at) store)
+      → In (getD store (object-width * at) 0) ≡ ended-at plain n store (drop (object-width * at) store)
   ended-run false q = ap In (sym first)
   ended-run true q = let z : _≡_ {A = ℕ} 0 1 = cc in absurd (omega arith)
 
-  pub ended-other : (plain : Bool) → plain ≡ true → (getD store (18 * at) 0 ≡ 1 → ⊥)
-      → NoLabel ≡ ended-at plain n store (drop (18 * at) store)
+  pub ended-other : (plain : Bool) → plain ≡ true → (getD store (object-width * at) 0 ≡ 1 → ⊥)
+      → NoLabel ≡ ended-at plain n store (drop (object-width * at) store)
   ended-other false q c = let z : _≡_ {A = ℕ} 0 1 = cc in absurd (omega arith)
   ended-other true q c =
-      rw (ne-eqb (getD (drop (18 * at) store) 0 0) 1 (λ e. c (sym first ∙ e)))
+      rw (ne-eqb (getD (drop (object-width * at) store) 0 0) 1 (λ e. c (sym first ∙ e)))
 
-  pub ended-identity : (plain : Bool) → plain ≡ true → getD store (18 * at) 0 ≡ 1
-      → implementor-ended (class-made n store (getD store (18 * at + 1) 0))
-      ≡ ended-at plain n store (drop (18 * at) store)
+  pub ended-identity : (plain : Bool) → plain ≡ true → getD store (object-width * at) 0 ≡ 1
+      → implementor-ended (class-made n store (getD store (object-width * at + 1) 0))
+      ≡ ended-at plain n store (drop (object-width * at) store)
   ended-identity false q c = let z : _≡_ {A = ℕ} 0 1 = cc in absurd (omega arith)
   ended-identity true q c =
       rw (
-        eq-eqb (getD (drop (18 * at) store) 0 0) 1 (first ∙ c),
-        getD-drop (18 * at) store 1 0,
+        eq-eqb (getD (drop (object-width * at) store) 0 0) 1 (first ∙ c),
+        getD-drop (object-width * at) store 1 0,
       )
 
 -- ---- one object more

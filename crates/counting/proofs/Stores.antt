@@ -9,7 +9,7 @@ use borrow.Author.Tests.{le-leb, lt-leb}
 use lib.Dec.{eqb, leb}
 use lib.ListN.{length, getD, drop}
 use lib.Seq.{drop-drop}
-use Rattle.language.specs.Limits.{identity-class}
+use Rattle.language.specs.Limits.{identity-class, object-width}
 use Rattle.language.specs.Lists.{choice, given, bind-option, map-option}
 use Rattle.language.specs.Results.{accept, refuse}
 use Rattle.language.specs.Tree.{Program}
@@ -62,16 +62,16 @@ module _ (W : World) (d e : ℕ) where
     unfolding labels-next classes-in
     next-run zero rest p s = on-nil p s
     next-run (suc k) rest p s =
-        go (λ x y. next-run k (drop 18 rest) x y) (leb (getD rest 0 0) (W .count)) refl
+        go (λ x y. next-run k (drop object-width rest) x y) (leb (getD rest 0 0) (W .count)) refl
       where
-        go : ((x y : ℕ) → labels-next W d e false n store k (drop 18 rest) x y
-            ≡ labels-on x y (classes-in k (drop 18 rest)))
+        go : ((x y : ℕ) → labels-next W d e false n store k (drop object-width rest) x y
+            ≡ labels-on x y (classes-in k (drop object-width rest)))
             → (b : Bool) → leb (getD rest 0 0) (W .count) ≡ b
             → bind-option (added W d e p s (In (getD rest 0 0)))
-            (λ c. labels-next W d e false n store k (drop 18 rest) (c .printed) (c .spoiled))
-            ≡ labels-on p s (getD rest 0 0 ∷ classes-in k (drop 18 rest))
-        go rec true l = rw l (rec _ _ ∙ on-cons p s (getD rest 0 0) (classes-in k (drop 18 rest)) l)
-        go rec false l = rw l (on-unknown p s (getD rest 0 0) (classes-in k (drop 18 rest)) l)
+            (λ c. labels-next W d e false n store k (drop object-width rest) (c .printed) (c .spoiled))
+            ≡ labels-on p s (getD rest 0 0 ∷ classes-in k (drop object-width rest))
+        go rec true l = rw l (rec _ _ ∙ on-cons p s (getD rest 0 0) (classes-in k (drop object-width rest)) l)
+        go rec false l = rw l (on-unknown p s (getD rest 0 0) (classes-in k (drop object-width rest)) l)
 
     -- What the implementor that a value is says.
     held-is : (v : ℕ) → implementor-ended (class-made n store v) ≡ given (implemented n store v) Lost λ c. In
@@ -95,13 +95,13 @@ module _ (W : World) (d e : ℕ) where
         ≡ bind-option (through-next n store k rest) λ cs. labels-on p s cs
     unfolding labels-next through-next
     next-plain zero rest p s = on-nil p s
-    next-plain (suc k) rest p s = go (λ x y. next-plain k (drop 18 rest) x y)
+    next-plain (suc k) rest p s = go (λ x y. next-plain k (drop object-width rest) x y)
         (eqb (getD rest 0 0) identity-class) (implemented n store (getD rest 1 0))
         (implementor-ended (class-made n store (getD rest 1 0))) (held-is (getD rest 1 0))
       where
         Rec : Type 0
-        Rec = (x y : ℕ) → labels-next W d e true n store k (drop 18 rest) x y
-            ≡ bind-option (through-next n store k (drop 18 rest)) λ cs. labels-on x y cs
+        Rec = (x y : ℕ) → labels-next W d e true n store k (drop object-width rest) x y
+            ≡ bind-option (through-next n store k (drop object-width rest)) λ cs. labels-on x y cs
 
         unknown : (c : ℕ) (t : Option (List ℕ)) → leb c (W .count) ≡ false
             → none ≡ bind-option (map-option (λ cs. c ∷ cs) t) λ cs. labels-on p s cs
@@ -117,18 +117,19 @@ module _ (W : World) (d e : ℕ) where
 
         add : Rec → (c : ℕ) (b : Bool) → leb c (W .count) ≡ b
             → bind-option (added W d e p s (In c))
-            (λ t. labels-next W d e true n store k (drop 18 rest) (t .printed) (t .spoiled))
-            ≡ bind-option (map-option (λ cs. c ∷ cs) (through-next n store k (drop 18 rest))) λ cs.
+            (λ t. labels-next W d e true n store k (drop object-width rest) (t .printed) (t .spoiled))
+            ≡ bind-option (map-option (λ cs. c ∷ cs) (through-next n store k (drop object-width rest))) λ cs.
             labels-on p s cs
-        add rec c true l = rw l (rec _ _ ∙ one c (through-next n store k (drop 18 rest)) l)
-        add rec c false l = rw l (unknown c (through-next n store k (drop 18 rest)) l)
+        add rec c true l = rw l (rec _ _ ∙ one c (through-next n store k (drop object-width rest)) l)
+        add rec c false l = rw l (unknown c (through-next n store k (drop object-width rest)) l)
 
         go : Rec → (b : Bool) (v : Option ℕ) (h : Ended) → h ≡ given v Lost (λ c. In c)
             → bind-option (added W d e p s (choice b (λ _. h) (λ _. NoLabel)))
-            (λ t. labels-next W d e true n store k (drop 18 rest) (t .printed) (t .spoiled))
+            (λ t. labels-next W d e true n store k (drop object-width rest) (t .printed) (t .spoiled))
             ≡ bind-option (choice b
-            (λ _. bind-option v λ c. map-option (λ cs. c ∷ cs) (through-next n store k (drop 18 rest)))
-            (λ _. through-next n store k (drop 18 rest))) λ cs. labels-on p s cs
+            (λ _. bind-option v λ c.
+            map-option (λ cs. c ∷ cs) (through-next n store k (drop object-width rest)))
+            (λ _. through-next n store k (drop object-width rest))) λ cs. labels-on p s cs
         go rec false v h q = rec p s
         go rec true none h q = rw q
         go rec true (some c) h q = rw q (add rec c (leb c (W .count)) refl)
@@ -136,30 +137,30 @@ module _ (W : World) (d e : ℕ) where
     -- Object i of the store comes next.
     module _ (plain : Bool) (i p s : ℕ) (l : i < n) where
       next-is : (m : ℕ) → n - i ≡ suc m
-          → labels-next W d e plain n store (n - i) (drop (18 * i) store) p s
-          ≡ bind-option (added W d e p s (ended-at plain n store (drop (18 * i) store))) λ c.
-          labels-next W d e plain n store m (drop (18 * (i + 1)) store) (c .printed) (c .spoiled)
+          → labels-next W d e plain n store (n - i) (drop (object-width * i) store) p s
+          ≡ bind-option (added W d e p s (ended-at plain n store (drop (object-width * i) store))) λ c.
+          labels-next W d e plain n store m (drop (object-width * (i + 1)) store) (c .printed) (c .spoiled)
       unfolding labels-next
       next-is m q =
-          let r : 18 * i + 18 ≡ 18 * (i + 1) = omega arith in
-          rw (q, drop-drop 18 (18 * i) store, r)
+          let r : object-width * i + object-width ≡ object-width * (i + 1) = omega arith in
+          rw (q, drop-drop object-width (object-width * i) store, r)
 
-      pub next-some : (o : Ended) → o ≡ ended-at plain n store (drop (18 * i) store)
+      pub next-some : (o : Ended) → o ≡ ended-at plain n store (drop (object-width * i) store)
           → (x y : ℕ) → Labels x y ≡ count-told (added W d e p s o)
-          → labels-next W d e plain n store (n - i) (drop (18 * i) store) p s
-          ≡ labels-next W d e plain n store (n - (i + 1)) (drop (18 * (i + 1)) store) x y
+          → labels-next W d e plain n store (n - i) (drop (object-width * i) store) p s
+          ≡ labels-next W d e plain n store (n - (i + 1)) (drop (object-width * (i + 1)) store) x y
       next-some o q x y f =
           next-is (n - (i + 1)) (omega arith) ∙ rw (sym q, told-labels (added W d e p s o) x y f)
 
-      pub next-none : (o : Ended) → o ≡ ended-at plain n store (drop (18 * i) store)
+      pub next-none : (o : Ended) → o ≡ ended-at plain n store (drop (object-width * i) store)
           → (x y : ℕ) → Refused x y ≡ count-told (added W d e p s o)
-          → labels-next W d e plain n store (n - i) (drop (18 * i) store) p s ≡ none
+          → labels-next W d e plain n store (n - i) (drop (object-width * i) store) p s ≡ none
       next-none o q x y f =
           next-is (n - (i + 1)) (omega arith) ∙ rw (sym q, told-refused (added W d e p s o) x y f)
 
     pub next-start : (plain : Bool)
         → labels-next W d e plain n store n store 0 0
-        ≡ labels-next W d e plain n store (n - 0) (drop (18 * 0) store) 0 0
+        ≡ labels-next W d e plain n store (n - 0) (drop (object-width * 0) store) 0 0
     next-start plain = let z : n - 0 ≡ n = omega arith in rw z
 
     pub next-end : (plain : Bool) (i : ℕ) (rest : List ℕ) (p s : ℕ) → n ≤ i
@@ -187,19 +188,19 @@ module _ (W : World) (d e : ℕ) where
 -- ---- all the labels of a run
 
 module _ (R store : List ℕ) (n d e : ℕ) where
-  pub counts-short : (plain : Bool) → length store / 18 < n → none ≡ counts-of plain R store n d e
+  pub counts-short : (plain : Bool) → length store / object-width < n → none ≡ counts-of plain R store n d e
   unfolding run-counts counts-through
-  counts-short false l = rw (lt-leb n (length store / 18) l)
-  counts-short true l = rw (lt-leb n (length store / 18) l)
+  counts-short false l = rw (lt-leb n (length store / object-width) l)
+  counts-short true l = rw (lt-leb n (length store / object-width) l)
 
   pub counts-refused : (plain : Bool) (i l : ℕ) → check R ≡ refuse i l → none ≡ counts-of plain R store n d e
   unfolding run-counts counts-through
-  counts-refused false i l q = rw q (go (leb n (length store / 18)))
+  counts-refused false i l q = rw q (go (leb n (length store / object-width)))
     where
       go : (b : Bool) → none ≡ choice {A = Option Counts} b (λ _. none) (λ _. none)
       go true = refl
       go false = refl
-  counts-refused true i l q = rw q (go (leb n (length store / 18)) (classes-through n store))
+  counts-refused true i l q = rw q (go (leb n (length store / object-width)) (classes-through n store))
     where
       go : (b : Bool) (o : Option (List ℕ))
           → none ≡ choice b (λ _. bind-option {B = Counts} o λ cs. none) (λ _. none)
@@ -207,17 +208,18 @@ module _ (R store : List ℕ) (n d e : ℕ) where
       go true (some cs) = refl
       go false o = refl
 
-  module _ (p : Program) (q : check R ≡ accept p) (l : n ≤ length store / 18) where
+  module _ (p : Program) (q : check R ≡ accept p) (l : n ≤ length store / object-width) where
     abbrev W : World
     W = world (p .classes)
 
     counts-accepted : (plain : Bool) → counts-of plain R store n d e
         ≡ choice (relates W d e) (λ _. labels-next W d e plain n store n store 0 0) (λ _. none)
     unfolding run-counts counts-through classes-through
-    counts-accepted false = rw (q, le-leb n (length store / 18) l, next-run W d e n store n store 0 0)
+    counts-accepted false =
+        rw (q, le-leb n (length store / object-width) l, next-run W d e n store n store 0 0)
         (related-first W d e (classes-in n store))
     counts-accepted true =
-        rw (q, le-leb n (length store / 18) l, next-plain W d e n store n store 0 0)
+        rw (q, le-leb n (length store / object-width) l, next-plain W d e n store n store 0 0)
         (go (through-next n store n store))
       where
         none-left : (b : Bool) → none ≡ choice {A = Option Counts} b (λ _. none) (λ _. none)

@@ -7,9 +7,9 @@ use Rattle.language.specs.Results.{accept}
 use Rattle.language.specs.Tree.{Class, Program}
 use Rattle.language.specs.Verdict.{check}
 use Rattle.classes.specs.Subclasses.{Subclasses}
-use Rattle.checker.specs.declared.Checked as checked
-use Rattle.checker.specs.declared.Checked.the-variants.{Accepted, Refused as Failed}
-use Rattle.checker.specs.Answers.{checked-case}
+use Rattle.passes.specs.declared.Checked as checked
+use Rattle.passes.specs.declared.Checked.the-variants.{Accepted, Refused as Failed}
+use Rattle.passes.specs.Answers.{checked-case}
 use Rattle.counting.specs.declared.Known.{Known}
 use Rattle.counting.specs.declared.Known.the-variants.{Classes, Refused}
 use Rattle.language.specs.Limits.{of-check}

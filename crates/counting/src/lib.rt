@@ -4,6 +4,7 @@ use language::ALL_CLASSES;
 use language::FICKLE;
 use language::IDENTITY;
 use language::OBJECT_WIDTH;
+use language::Type;
 ghost use mathlib.Core.Path.{_≡_};
 ghost use mathlib.Core.Bool.{true, false, cond};
 ghost use mathlib.Core.Option.{none};
@@ -42,12 +43,12 @@ fn refused() -> fleet::Count
 }
 
 // What is known after a check.
-fn known_of(checked: checker::Checked) -> Known
+fn known_of(checked: passes::Checked) -> Known
     ensures { λ r. ⌜ r ≡ known-case checked ⌝ }
 {
     match checked {
-        checker::Checked::Accepted(classes) => Known::Classes(classes),
-        checker::Checked::Refused(_, _) => Known::Refused,
+        passes::Checked::Accepted(classes) => Known::Classes(classes),
+        passes::Checked::Refused(_, _) => Known::Refused,
     }
 }
 
@@ -95,13 +96,13 @@ fn is_related(above: &[u64], classes: u32, printed: u32, spoiled: u32) -> bool
     ensures { λ r. ⌜ ((w : Serves (now (above .entry)) classes)
         → r ≡ relates (world (w .program)) printed spoiled) ⌝ }
 {
-    if printed == 0 {
+    if printed == Type::OBJECT {
         return false;
     }
     if classes < printed {
         return false;
     }
-    if spoiled == 0 {
+    if spoiled == Type::OBJECT {
         return false;
     }
     if classes < spoiled {

@@ -20,11 +20,11 @@ use Rattle.language.specs.Program.{world, world-with}
 use Rattle.language.specs.ClassTables.{stored-place, rows-from, class-row, field-rows-at}
 use Rattle.language.specs.ClassTables.{field-rows, method-number, above-at, above}
 use Rattle.language.proofs.Lines.{less-or-same}
-use Rattle.headings.specs.Blocks.{Block, Filled, Lookups, Working}
-use Rattle.headings.specs.Numbers.{first-number, own-or, own-number}
+use Rattle.members.specs.Blocks.{Block, Filled, Lookups, Working}
+use Rattle.members.specs.Numbers.{first-number, own-or, own-number}
 use Rattle.headings.specs.Ready.{Copied, StartReady}
-use Rattle.headings.proofs.Numbers.{first-after, own-numbered, own-numbers}
-use Rattle.headings.proofs.Tables.{kind-numbers, lookups-same, lookups-set}
+use Rattle.members.proofs.Numbers.{first-after, own-numbered, own-numbers}
+use Rattle.members.proofs.Tables.{kind-numbers, lookups-same, lookups-set}
 
 -- ---- up through the superclasses, which are earlier
 

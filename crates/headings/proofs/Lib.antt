@@ -1,13 +1,5 @@
-pub mod Lines
-pub mod Checks
-pub mod Loops
-pub mod Tables
-pub mod Fields
-pub mod Numbers
-pub mod Methods
-pub mod Heading
-pub mod Entering
-pub mod Classes
-pub mod Reading
-pub mod Passing
-pub mod Whole
+mod Copying
+mod Classes
+mod Reading
+mod Passing
+mod Whole

@@ -16,17 +16,18 @@ use Rattle.language.specs.ClassTables.{rows-from, class-row, field-rows, method
 use Rattle.language.specs.Layout.{Run, ClassAt}
 use Rattle.language.specs.WellFormed.{ClassInForm}
 use Rattle.language.proofs.Classes.{class-count}
-use Rattle.headings.specs.Answers.{headed}
-use Rattle.headings.specs.declared.Headed.{Headed}
-use Rattle.headings.specs.declared.Headed.the-variants.{Passed, Refused}
-use Rattle.headings.specs.Blocks.{Lookups, Working}
-use Rattle.headings.specs.Faults.{faulty, fault-of-class}
-use Rattle.headings.specs.Numbers.{own-or, own-number, Numbered}
-use Rattle.headings.specs.Ready.{ClassHere, FieldsReady, MethodsReady, StartReady, ClassReady}
-use Rattle.headings.proofs.Checks.{class-is, faulty-none, bind-passed, bind-refused, refused-is}
-use Rattle.headings.proofs.Checks.{is-passed, is-refused}
-use Rattle.headings.proofs.Lines.{class-lines-at, class-formed, class-fields, fields-count}
-use Rattle.headings.proofs.Tables.{class-or-object, at-object, extend-object}
+use Rattle.members.specs.Answers.{headed}
+use Rattle.members.specs.declared.Headed.{Headed}
+use Rattle.members.specs.declared.Headed.the-variants.{Passed, Refused}
+use Rattle.members.specs.Blocks.{Lookups, Working}
+use Rattle.members.specs.Faults.{faulty, fault-of-class}
+use Rattle.members.specs.Numbers.{own-or, own-number, Numbered}
+use Rattle.members.specs.Ready.{ClassHere, FieldsReady, MethodsReady}
+use Rattle.headings.specs.Ready.{StartReady, ClassReady}
+use Rattle.members.proofs.Checks.{class-is, faulty-none, bind-passed, bind-refused, refused-is}
+use Rattle.members.proofs.Checks.{is-passed, is-refused}
+use Rattle.members.proofs.Lines.{class-lines-at, class-formed, class-fields, fields-count}
+use Rattle.members.proofs.Tables.{class-or-object, at-object, extend-object}
 use Rattle.headings.proofs.Classes.{fields-of, field-rows-of, method-number-of, inherited-number}
 use Rattle.headings.proofs.Classes.{lookups-next}
 

@@ -21,18 +21,19 @@ use Rattle.language.specs.MethodTables.{placed-methods, MethodTables}
 use Rattle.language.specs.Encoded.{RowAt}
 use Rattle.language.proofs.Lines.{less-or-same}
 use Rattle.layout.specs.Found.{methods-few}
-use Rattle.headings.specs.Answers.{headed}
-use Rattle.headings.specs.declared.Headed.{Headed}
-use Rattle.headings.specs.declared.Headed.the-variants.{Passed, Refused}
-use Rattle.headings.specs.Blocks.{Lookups}
-use Rattle.headings.specs.Numbers.{first-number, Numbered}
-use Rattle.headings.specs.Ready.{Cleared, ClassHere, ClassReady, ReadReady, ClassesReady, HeadingsReady}
-use Rattle.headings.proofs.Checks.{bind-passed, bind-refused, refused-is, passed-is, is-passed}
-use Rattle.headings.proofs.Checks.{passed-count}
-use Rattle.headings.proofs.Checks.{is-refused}
-use Rattle.headings.proofs.Lines.{row-next, class-lines-at}
-use Rattle.headings.proofs.Numbers.{first-next, first-few, all-placed, numbered-all}
-use Rattle.headings.proofs.Fields.{nil-of}
+use Rattle.members.specs.Answers.{headed}
+use Rattle.members.specs.declared.Headed.{Headed}
+use Rattle.members.specs.declared.Headed.the-variants.{Passed, Refused}
+use Rattle.members.specs.Blocks.{Lookups}
+use Rattle.members.specs.Numbers.{first-number, Numbered}
+use Rattle.members.specs.Ready.{ClassHere}
+use Rattle.headings.specs.Ready.{Cleared, ClassReady, ReadReady, ClassesReady, HeadingsReady}
+use Rattle.members.proofs.Checks.{bind-passed, bind-refused, refused-is, passed-is, is-passed}
+use Rattle.members.proofs.Checks.{passed-count}
+use Rattle.members.proofs.Checks.{is-refused}
+use Rattle.members.proofs.Lines.{row-next, class-lines-at}
+use Rattle.members.proofs.Numbers.{first-next, first-few, all-placed, numbered-all}
+use Rattle.members.proofs.FieldLaws.{nil-of}
 use Rattle.headings.proofs.Classes.{above-of}
 
 cons-of : {A : Type 0} (l : List A) → 0 < length l → (x : A) × (xs : List A) × (l ≡ x ∷ xs)

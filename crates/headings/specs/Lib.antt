@@ -1,5 +1,1 @@
-pub mod Answers
-pub mod Blocks
-pub mod Faults
-pub mod Numbers
 pub mod Ready

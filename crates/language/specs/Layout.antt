@@ -6,7 +6,7 @@ use mathlib.Core.Logic.{_⊎_}
 use mathlib.Core.List.{List, [], _∷_}
 use lib.ListN.{length, getD}
 use Rattle.language.specs.Limits.{of-check}
-use Rattle.language.specs.Rows.{C-class, F-field, M-method, P-parameter, X-effect, S-start}
+use Rattle.language.specs.Rows.{code, C-class, F-field, M-method, P-parameter, X-effect, S-start}
 use Rattle.language.specs.Tree.{type-number, kind-number, size, Field, Declaration}
 use Rattle.language.specs.Tree.{method-lines}
 use Rattle.language.specs.Tree.{Class, class-lines, classes-lines, Program}
@@ -43,7 +43,7 @@ pub record Run (R : List ℕ) (letter from n : ℕ) : Type 0 where
 -- Row r is a C line or the S line: a class has ended there.
 pub record ClassEnd (R : List ℕ) (r : ℕ) : Type 0 where
   pub within : r * 4 + 3 < length R
-  pub letter : (getD R (r * 4) 0 ≡ 67) ⊎ (getD R (r * 4) 0 ≡ 83)
+  pub letter : (getD R (r * 4) 0 ≡ code C-class) ⊎ (getD R (r * 4) 0 ≡ code S-start)
 
 -- The row of a method's body, and of a class's first method.
 abbrev pub effects-row : ℕ → Declaration → ℕ

@@ -66,9 +66,6 @@ pub const MOST_FIELDS: u16 = 17;
 
 pub const MOST_PARAMETERS: u32 = 8;
 
-// The number of the type bool; every other type is a class's number.
-pub const BOOL: u32 = 255;
-
 // What stands for null, or for a slot that is not there, where the number of a type is stored.
 pub const NO_TYPE: u32 = 65535;
 
@@ -158,6 +155,32 @@ pub const SPENT_STOP: u32 = 14;
 pub const DEEP_STOP: u32 = 15;
 
 pub const FULL_STOP: u32 = 16;
+
+// A type as a program writes it: bool, or a class by its number.
+pub struct Type {
+    pub number: u32,
+}
+
+impl Type {
+    // Every number but this one is a class's.
+    pub const BOOL: u32 = 255;
+
+    pub const OBJECT: u32 = 0;
+
+    // The type that a number on a line stands for.
+    pub fn from_number(number: u32) -> Type
+        ensures { λ r. ⌜ r .number ≡ number ⌝ }
+    {
+        Type { number }
+    }
+
+    // The type of a class.
+    pub fn from_class(class: u32) -> Type
+        ensures { λ r. ⌜ r .number ≡ class ⌝ }
+    {
+        Type { number: class }
+    }
+}
 
 // What filling a lent buffer answers: how many rows or bytes were written, or a refusal's number and line.
 pub enum Filled {

@@ -6,6 +6,7 @@ use native.Mathlib.Omega.{arith}
 use lib.ListN.{length, getD, take, drop, replicate, take-append-drop, length-map, length-drop}
 use lib.ListN.{length-replicate, getD-replicate}
 use lib.Seq.{drop-drop, take-add, ext-getD, getD-drop, getD-take, length-take-le}
+use Rattle.language.specs.Limits.{object-width}
 use Rattle.language.specs.Results.{ok, stop}
 use Rattle.language.specs.Tree.{Class, Program}
 use Rattle.language.specs.World.{World}
@@ -43,68 +44,72 @@ zeros-at s from n h z =
     (λ i l. let k : i < n = omega (arith, length-replicate {A = ℕ} n 0) in getD-replicate n i 0 0 k
     ∙ sym (getD-take n (drop from s) i 0 k ∙ (getD-drop from s i 0 ∙ z i k)))
 
-object-back : (W : World) (s : List ℕ) → 18 ≤ length s → length (W .fields (getD s 0 0)) ≤ 17
-    → ((i : ℕ) → length (W .fields (getD s 0 0)) ≤ i → i < 17 → getD s (1 + i) 0 ≡ 0)
+object-back : (W : World) (s : List ℕ) → object-width ≤ length s → length (W .fields (getD s 0 0)) ≤ 17
+    → ((i : ℕ) → length (W .fields (getD s 0 0)) ≤ i → i < object-width - 1 → getD s (1 + i) 0 ≡ 0)
     → object-numbers (record {
       class-of = getD s 0 0;
       fields = map value-of-number
           (take (length (W .fields (getD s 0 0))) (drop 1 s));
-    }) ≡ take 18 s
+    }) ≡ take object-width s
 object-back W s h few z =
     let m : ℕ = length (W .fields (getD s 0 0)) in
     let n : length (map value-of-number (take m (drop 1 s))) ≡ m =
     length-map (take m (drop 1 s)) value-of-number
     ∙ length-take-le m (drop 1 s) (simp length-drop (omega arith)) in
-    let e : 18 - 1 - m ≡ 17 - m = omega arith in
-    let a : 18 ≡ 1 + (m + (17 - m)) = omega arith in
+    let a : object-width ≡ 1 + (m + (object-width - 1 - m)) = omega arith in
     let b : 1 + m ≡ m + 1 = omega arith in
-    let rest : replicate (17 - m) 0 ≡ take (17 - m) (drop m (drop 1 s)) =
-    zeros-at s (1 + m) (17 - m) (omega arith)
+    let rest : replicate (object-width - 1 - m) 0 ≡ take (object-width - 1 - m) (drop m (drop 1 s)) =
+    zeros-at s (1 + m) (object-width - 1 - m) (omega arith)
     (λ i l. let y : 1 + m + i ≡ 1 + (m + i) = omega arith in rw y (z (m + i) (omega arith) (omega arith)))
-    ∙ sym (ap (take (17 - m)) (drop-drop m 1 s)) in
+    ∙ sym (ap (take (object-width - 1 - m)) (drop-drop m 1 s)) in
     ap (λ (k : ℕ). getD s 0 0 ∷ (map value-number (map value-of-number (take m (drop 1 s))) ++ replicate
-    (18 - 1 - k) 0)) n
+    (object-width - 1 - k) 0)) n
     ∙ (ap₂ (λ (x y : List ℕ). getD s 0 0 ∷ (x ++ y)) (numbers-back (take m (drop 1 s)))
-    (ap (λ (k : ℕ). replicate k 0) e ∙ rest)
+    rest
     ∙ sym (ap (λ (k : ℕ). take k s) a
-    ∙ (first s (m + (17 - m)) (omega arith)
-    ∙ ap (λ (x : List ℕ). getD s 0 0 ∷ x) (take-add m (17 - m) (drop 1 s)))))
+    ∙ (first s (m + (object-width - 1 - m)) (omega arith)
+    ∙ ap (λ (x : List ℕ). getD s 0 0 ∷ x) (take-add m (object-width - 1 - m) (drop 1 s)))))
   where
     first : (s : List ℕ) (n : ℕ) → 0 < length s → take (1 + n) s ≡ getD s 0 0 ∷ take n (drop 1 s)
     first [] n h = absurd (omega arith)
     first (x ∷ s) n h = let e : 1 + n ≡ suc n = omega arith in rw e
 
-heap-back : (W : World) (n : ℕ) (s : List ℕ) → n * 18 ≤ length s
-    → ((j : ℕ) → j < n → length (W .fields (getD s (j * 18) 0)) ≤ 17)
-    → ((j i : ℕ) → j < n → length (W .fields (getD s (j * 18) 0)) ≤ i → i < 17
-    → getD s (j * 18 + 1 + i) 0 ≡ 0) → heap-numbers (heap-of-numbers W n s) ≡ take (n * 18) s
+heap-back : (W : World) (n : ℕ) (s : List ℕ) → n * object-width ≤ length s
+    → ((j : ℕ) → j < n → length (W .fields (getD s (j * object-width) 0)) ≤ 17)
+    → ((j i : ℕ) → j < n → length (W .fields (getD s (j * object-width) 0)) ≤ i → i < object-width - 1
+    → getD s (j * object-width + 1 + i) 0 ≡ 0)
+    → heap-numbers (heap-of-numbers W n s) ≡ take (n * object-width) s
 unfolding heap-of-numbers heap-numbers
 heap-back W zero s h few z = refl
 heap-back W (suc n) s h few z =
-    let e : suc n * 18 ≡ 18 + n * 18 = omega arith in
+    let e : suc n * object-width ≡ object-width + n * object-width = omega arith in
     ap₂ (λ (x y : List ℕ). x ++ y)
     (object-back W s (omega arith) (few 0 (omega arith)) (λ i a b. z 0 i (omega arith) a b))
-    (heap-back W n (drop 18 s) (simp length-drop (omega arith)) (λ j l. rw (at j) (few (suc j) (omega arith)))
+    (heap-back W n (drop object-width s) (simp length-drop (omega arith))
+    (λ j l. rw (at j) (few (suc j) (omega arith)))
     (λ j i l a b. at′ j i ∙ z (suc j) i (omega arith) (rw (at j) at a) b))
-    ∙ sym (ap (λ (k : ℕ). take k s) e ∙ take-add 18 (n * 18) s)
+    ∙ sym (ap (λ (k : ℕ). take k s) e ∙ take-add object-width (n * object-width) s)
   where
-    at : (j : ℕ) → getD (drop 18 s) (j * 18) 0 ≡ getD s (suc j * 18) 0
-    at j = getD-drop 18 s (j * 18) 0 ∙ ap (λ (k : ℕ). getD s k 0) (omega arith)
+    at : (j : ℕ) → getD (drop object-width s) (j * object-width) 0 ≡ getD s (suc j * object-width) 0
+    at j = getD-drop object-width s (j * object-width) 0 ∙ ap (λ (k : ℕ). getD s k 0) (omega arith)
 
-    at′ : (j i : ℕ) → getD (drop 18 s) (j * 18 + 1 + i) 0 ≡ getD s (suc j * 18 + 1 + i) 0
-    at′ j i = getD-drop 18 s (j * 18 + 1 + i) 0 ∙ ap (λ (k : ℕ). getD s k 0) (omega arith)
+    at′ : (j i : ℕ) → getD (drop object-width s) (j * object-width + 1 + i) 0 ≡ getD s
+        (suc j * object-width + 1 + i) 0
+    at′ j i = getD-drop object-width s (j * object-width + 1 + i) 0 ∙ ap (λ (k : ℕ). getD s k 0) (omega arith)
 
 stored-back : {R E T A M s₀ : List ℕ} {P : List Class} {made₀ : ℕ} → Holding R E T A M s₀ P made₀
-    → (s s′ : List ℕ) (made : ℕ) → Sound P made s′ → drop (made * 18) s′ ≡ drop (made * 18) s
+    → (s s′ : List ℕ) (made : ℕ) → Sound P made s′
+    → drop (made * object-width) s′ ≡ drop (made * object-width) s
     → stored (heap-of-numbers (world P) made s′) s ≡ s′
 unfolding stored
 stored-back {P = P} h s s′ made snd rest =
-    let e : 18 * made ≡ made * 18 = omega arith in
-    ap₂ (λ (x : List ℕ) (k : ℕ). x ++ drop (18 * k) s)
-    (heap-back (world P) made s′ (snd .stored) (λ j l. fields-few h (getD s′ (j * 18) 0))
+    let e : object-width * made ≡ made * object-width = omega arith in
+    ap₂ (λ (x : List ℕ) (k : ℕ). x ++ drop (object-width * k) s)
+    (heap-back (world P) made s′ (snd .stored) (λ j l. fields-few h (getD s′ (j * object-width) 0))
     (snd .unused)) (heap-length (world P) made s′)
-    ∙ (ap (λ (k : ℕ). take (made * 18) s′ ++ drop k s) e
-    ∙ (ap (λ (x : List ℕ). take (made * 18) s′ ++ x) (sym rest) ∙ take-append-drop (made * 18) s′))
+    ∙ (ap (λ (k : ℕ). take (made * object-width) s′ ++ drop k s) e
+    ∙ (ap (λ (x : List ℕ). take (made * object-width) s′ ++ x) (sym rest)
+    ∙ take-append-drop (made * object-width) s′))
 
 -- ---- the run
 

@@ -8,6 +8,7 @@ use borrow.Author.Tests.{le-leb, lt-leb}
 use lib.Dec.{leb}
 use lib.ListN.{length, getD, set, drop}
 use lib.Seq.{drop-drop}
+use Rattle.language.specs.Limits.{object-width}
 use Rattle.language.specs.Results.{ok, bind}
 use Rattle.language.specs.Tree.{Expr, Class}
 use Rattle.language.specs.Encoded.{Encoded}
@@ -38,7 +39,7 @@ pub stored-then : {P : List Class} {s s′ s″ : List ℕ} {a b c : ℕ} → St
     → Stored P s s″ a c
 stored-then {P} {s} {s′} {s″} {a} {b} {c} x y = record {
   long = y .long ∙ x .long;
-  rest = y .rest ∙ further s′ s (b * 18) (c * 18) (omega (arith, y .more)) (x .rest);
+  rest = y .rest ∙ further s′ s (b * object-width) (c * object-width) (omega (arith, y .more)) (x .rest);
   more = omega (arith, x .more, y .more);
   sound = y .sound;
 }
@@ -155,7 +156,7 @@ module _ {R E T A M s l : List ℕ} {at : ℕ} {q : Place} {n : Counts} (p : Pre
 
 pub room-same : (s s′ : List ℕ) → length s′ ≡ length s → capacity s′ ≡ capacity s
 unfolding capacity
-room-same s s′ e = ap (λ (n : ℕ). min (n / 18) 65535) e
+room-same s s′ e = ap (λ (n : ℕ). min (n / object-width) 65535) e
 
 -- an answer under the capacity of the store before
 pub then-eval : {R E T A M s l s′ l′ : List ℕ} {at : ℕ} {q : Place} {n : Counts} {r : Answer} (room : ℕ)

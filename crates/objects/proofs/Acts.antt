@@ -1,4 +1,5 @@
 -- Laws of the acts on objects: G, U, K. Assumes nothing.
+use Rattle.language.specs.Limits.{object-width}
 use mathlib.Core.Path.{_≡_, refl, sym, ap, _∙_}
 use mathlib.Core.Bool.{Bool, true, false, cond}
 use mathlib.Core.Logic.{_⊎_, inl, inr}
@@ -58,9 +59,9 @@ small-place none m h = omega arith
 small-place (some i) m h = omega (arith, h i refl)
 
 pub spot : {T s : List ℕ} {made : ℕ} (p : PreObject T s made) (j f : ℕ) → j < made → f < 256
-    → Spot T s (j * 18) f
+    → Spot T s (j * object-width) f
 spot {T} {s} p j f h l =
-    let c : ℕ = getD s (j * 18) 0 in
+    let c : ℕ = getD s (j * object-width) 0 in
     let d : c ≤ length (p .P) = p .holding .sound .declared j h in
     let q = tables (p .holding) .places c f d l in
     record {
@@ -133,32 +134,33 @@ module _ {T s : List ℕ} {v : Meaning} {f : ℕ} {n : Counts} where
       (record { acts = λ p. acts-same n (Raised 1) (p .holding .sound) tt (λ γ k. rw e) })
 
   pub load-missing : (j : ℕ) → v ≡ object j → j < n .made → f < 256
-      → getD T (getD s (j * 18) 0 * 576 + f) 0 ≡ 0 → PostLoad T s v f n (outcome 17179869184)
+      → getD T (getD s (j * object-width) 0 * 576 + f) 0 ≡ 0 → PostLoad T s v f n (outcome 17179869184)
   unfolding bare
   load-missing j e h l z = rw outcome-stuck (record {
     acts = λ pre.
         let P = pre .P in
         let hold = pre .holding in
         let snd = hold .sound in
-        let q = place-none (place f (world P .fields (getD s (j * 18) 0)))
-        (sym (tables hold .places (getD s (j * 18) 0) f (snd .declared j h) l) ∙ z) in
+        let q = place-none (place f (world P .fields (getD s (j * object-width) 0)))
+        (sym (tables hold .places (getD s (j * object-width) 0) f (snd .declared j h) l) ∙ z) in
         acts-same n Stuck snd tt (λ γ k. rw (e, heap-at (world P) (n .made) s j h, q));
   })
 
   pub load-at : (j : ℕ) → v ≡ object j → j < n .made → f < 256
-      → (getD T (getD s (j * 18) 0 * 576 + f) 0 ≡ 0 → ⊥)
-      → getD s (j * 18 + getD T (getD s (j * 18) 0 * 576 + f) 0) 0 < 4294967296
+      → (getD T (getD s (j * object-width) 0 * 576 + f) 0 ≡ 0 → ⊥)
+      → getD s (j * object-width + getD T (getD s (j * object-width) 0 * 576 + f) 0) 0 < 4294967296
       → PostLoad T s v f n
-      (outcome (word (value-of-number (getD s (j * 18 + getD T (getD s (j * 18) 0 * 576 + f) 0) 0))))
+      (outcome (word (value-of-number (getD s (j * object-width + getD T
+      (getD s (j * object-width) 0 * 576 + f) 0) 0))))
   unfolding bare
   load-at j e h l z m =
-      let number : ℕ = getD s (j * 18 + getD T (getD s (j * 18) 0 * 576 + f) 0) 0 in
+      let number : ℕ = getD s (j * object-width + getD T (getD s (j * object-width) 0 * 576 + f) 0) 0 in
       rw (outcome-word (value-of-number number) (small-stored number m)) (record {
         acts = λ pre.
             let P = pre .P in
             let hold = pre .holding in
             let snd = hold .sound in
-            let c : ℕ = getD s (j * 18) 0 in
+            let c : ℕ = getD s (j * object-width) 0 in
             let p : ℕ = getD T (c * 576 + f) 0 in
             let i : ℕ = p - 1 in
             let d : c ≤ length P = snd .declared j h in
@@ -166,8 +168,8 @@ module _ {T s : List ℕ} {v : Meaning} {f : ℕ} {n : Counts} where
             place-some (place f (world P .fields c)) p (tables hold .places c f d l) z in
             let low : i < length (world P .fields c) = place-lt f (world P .fields c) i at in
             let t : p ≡ suc i = omega arith in
-            let x : j * 18 + 1 + i ≡ j * 18 + p = omega arith in
-            let y = mapped-at value-of-number s (j * 18 + 1) (length (world P .fields c)) i low
+            let x : j * object-width + 1 + i ≡ j * object-width + p = omega arith in
+            let y = mapped-at value-of-number s (j * object-width + 1) (length (world P .fields c)) i low
             (omega (arith, snd .stored, fields-few hold c)) in
             acts-same n (Gave (value-of-number number)) snd (small-stored number m)
             (λ γ k. rw (e, heap-at (world P) (n .made) s j h, at, y, x));
@@ -180,28 +182,29 @@ module _ {T s : List ℕ} {v : Meaning} {f : ℕ} {n : Counts} where
       (record { acts = λ p. acts-same n (Raised 1) (p .holding .sound) tt (λ γ k. rw e) })
 
   pub save-missing : {w : Meaning} (j : ℕ) → v ≡ object j → j < n .made → f < 256
-      → getD T (getD s (j * 18) 0 * 576 + f) 0 ≡ 0 → PostSave T s s v w f n (outcome 17179869184)
+      → getD T (getD s (j * object-width) 0 * 576 + f) 0 ≡ 0 → PostSave T s s v w f n (outcome 17179869184)
   unfolding bare
   save-missing j e h l z = rw outcome-stuck (record {
     acts = λ pre.
         let P = pre .P in
         let hold = pre .holding in
         let snd = hold .sound in
-        let q = place-none (place f (world P .fields (getD s (j * 18) 0)))
-        (sym (tables hold .places (getD s (j * 18) 0) f (snd .declared j h) l) ∙ z) in
+        let q = place-none (place f (world P .fields (getD s (j * object-width) 0)))
+        (sym (tables hold .places (getD s (j * object-width) 0) f (snd .declared j h) l) ∙ z) in
         acts-same n Stuck snd tt (λ γ k. rw (e, heap-at (world P) (n .made) s j h, q));
   })
 
   save-acts : (u j : ℕ) → v ≡ object j → j < n .made → f < 256
-      → (getD T (getD s (j * 18) 0 * 576 + f) 0 ≡ 0 → ⊥) → Small (meaning u)
+      → (getD T (getD s (j * object-width) 0 * 576 + f) 0 ≡ 0 → ⊥) → Small (meaning u)
       → {R E A M : List ℕ} {P : List Class} → Holding R E T A M s P (n .made)
-      → Acts P s (set s (j * 18 + getD T (getD s (j * 18) 0 * 576 + f) 0) (value-number (meaning u))) n
+      → Acts P s (set s (j * object-width + getD T (getD s (j * object-width) 0 * 576 + f) 0)
+      (value-number (meaning u))) n
       (answer (Gave (meaning u)) n) (λ t. do-set (world P) f v (meaning u) t)
   unfolding bare
   save-acts u j e h l z m {P = P} hold =
       let snd = hold .sound in
       let w : ℕ = value-number (meaning u) in
-      let c : ℕ = getD s (j * 18) 0 in
+      let c : ℕ = getD s (j * object-width) 0 in
       let p : ℕ = getD T (c * 576 + f) 0 in
       let i : ℕ = p - 1 in
       let d : c ≤ length P = snd .declared j h in
@@ -210,38 +213,40 @@ module _ {T s : List ℕ} {v : Meaning} {f : ℕ} {n : Counts} where
       let low : i < length (world P .fields c) = place-lt f (world P .fields c) i at in
       let few : length (world P .fields c) ≤ 17 = fields-few hold c in
       let t : p ≡ suc i = omega arith in
-      let y : j * 18 + p ≡ j * 18 + 1 + i = omega arith in
-      let s′ : List ℕ = set s (j * 18 + p) w in
-      let class : getD s′ (j * 18) 0 ≡ c = getD-set-other s (j * 18 + p) (j * 18) w 0 (λ k. omega arith) in
-      let fields : map value-of-number (take (length (world P .fields c)) (drop (j * 18 + 1) s′))
-      ≡ set (map value-of-number (take (length (world P .fields c)) (drop (j * 18 + 1) s))) i
+      let y : j * object-width + p ≡ j * object-width + 1 + i = omega arith in
+      let s′ : List ℕ = set s (j * object-width + p) w in
+      let class : getD s′ (j * object-width) 0 ≡ c =
+      getD-set-other s (j * object-width + p) (j * object-width) w 0 (λ k. omega arith) in
+      let fields : map value-of-number (take (length (world P .fields c)) (drop (j * object-width + 1) s′))
+      ≡ set (map value-of-number (take (length (world P .fields c)) (drop (j * object-width + 1) s))) i
       (meaning u)
-      = rw y (mapped-set value-of-number s (j * 18 + 1) (length (world P .fields c)) i w low
-      ∙ ap (set (map value-of-number (take (length (world P .fields c)) (drop (j * 18 + 1) s))) i)
+      = rw y (mapped-set value-of-number s (j * object-width + 1) (length (world P .fields c)) i w low
+      ∙ ap (set (map value-of-number (take (length (world P .fields c)) (drop (j * object-width + 1) s))) i)
       (value-of-value-number (meaning u))) in
-      let thing : object-at (world P) s′ (j * 18)
+      let thing : object-at (world P) s′ (j * object-width)
       ≡ record {
         class-of = c;
-        fields = set (map value-of-number (take (length (world P .fields c)) (drop (j * 18 + 1) s))) i
+        fields = set (map value-of-number (take (length (world P .fields c)) (drop (j * object-width + 1) s)))
+            i
             (meaning u);
       }
       = ap (λ (k : ℕ). record {
         class-of = k;
         fields = map value-of-number
-            (take (length (world P .fields k)) (drop (j * 18 + 1) s′));
+            (take (length (world P .fields k)) (drop (j * object-width + 1) s′));
       }) class
       ∙ ap (λ (y : List Meaning). record { class-of = c; fields = y }) fields in
-      let heap = heap-changed (world P) (n .made) s s′ j h (length-set s (j * 18 + p) w)
-      (λ i k. fields-few hold (getD s (i * 18) 0))
-      (λ y o. getD-set-other s (j * 18 + p) y w 0 (λ k. apart y p (omega arith) (omega arith) o k))
+      let heap = heap-changed (world P) (n .made) s s′ j h (length-set s (j * object-width + p) w)
+      (λ i k. fields-few hold (getD s (i * object-width) 0))
+      (λ y o. getD-set-other s (j * object-width + p) y w 0 (λ k. apart y p (omega arith) (omega arith) o k))
       ∙ ap (set (heap-of-numbers (world P) (n .made) s) j) thing in
       record {
         stored = record {
-          long = length-set s (j * 18 + p) w;
-          rest = drop-set-lt (n .made * 18) s (j * 18 + p) w (omega arith);
+          long = length-set s (j * object-width + p) w;
+          rest = drop-set-lt (n .made * object-width) s (j * object-width + p) w (omega arith);
           more = omega arith;
           sound = record {
-            stored = omega (arith, snd .stored, length-set s (j * 18 + p) w);
+            stored = omega (arith, snd .stored, length-set s (j * object-width + p) w);
             few = snd .few;
             declared = λ i k. rw (other w i p (omega arith) (omega arith)) (snd .declared i k);
             unused = λ i y k free-from b.
@@ -256,32 +261,38 @@ module _ {T s : List ℕ} {v : Meaning} {f : ℕ} {n : Counts} where
         is = λ γ k. rw (e, heap-at (world P) (n .made) s j h, at, heap);
       }
     where
-      apart : (y p : ℕ) → 0 < p → p < 18 → (y < j * 18) ⊎ (j * 18 + 18 ≤ y) → y ≡ j * 18 + p → ⊥
+      apart : (y p : ℕ) → 0 < p → p < object-width
+          → (y < j * object-width) ⊎ (j * object-width + object-width ≤ y) → y ≡ j * object-width + p → ⊥
       apart y p a b (inl o) k = omega arith
       apart y p a b (inr o) k = omega arith
 
-      other : (w i p : ℕ) → 0 < p → p < 18 → getD (set s (j * 18 + p) w) (i * 18) 0 ≡ getD s (i * 18) 0
-      other w i p a b = getD-set-other s (j * 18 + p) (i * 18) w 0 (λ k. omega arith)
+      other : (w i p : ℕ) → 0 < p → p < object-width
+          → getD (set s (j * object-width + p) w) (i * object-width) 0 ≡ getD s (i * object-width) 0
+      other w i p a b = getD-set-other s (j * object-width + p) (i * object-width) w 0 (λ k. omega arith)
 
-      free : (P : List Class) (w i y p : ℕ) → 0 < p → p < 18
-          → length (world P .fields (getD s (i * 18) 0)) ≤ y
-          → y < 17 → p ≡ suc (p - 1) → p - 1 < length (world P .fields (getD s (j * 18) 0)) → i < n .made
-          → (length (world P .fields (getD s (i * 18) 0)) ≤ y → y < 17 → getD s (i * 18 + 1 + y) 0 ≡ 0)
-          → getD (set s (j * 18 + p) w) (i * 18 + 1 + y) 0 ≡ 0
+      free : (P : List Class) (w i y p : ℕ) → 0 < p → p < object-width
+          → length (world P .fields (getD s (i * object-width) 0)) ≤ y
+          → y < object-width - 1 → p ≡ suc (p - 1)
+          → p - 1 < length (world P .fields (getD s (j * object-width) 0)) → i < n .made
+          → (length (world P .fields (getD s (i * object-width) 0)) ≤ y → y < object-width - 1
+          → getD s (i * object-width + 1 + y) 0 ≡ 0)
+          → getD (set s (j * object-width + p) w) (i * object-width + 1 + y) 0 ≡ 0
       free P w i y p a a′ u b t low k g =
-          getD-set-other s (j * 18 + p) (i * 18 + 1 + y) w 0 (λ k. clash k (lt-or i j) (lt-or j i)) ∙ g u b
+          getD-set-other s (j * object-width + p) (i * object-width + 1 + y) w 0
+          (λ k. clash k (lt-or i j) (lt-or j i)) ∙ g u b
         where
-          clash : i * 18 + 1 + y ≡ j * 18 + p → (i < j) ⊎ (j ≤ i) → (j < i) ⊎ (i ≤ j) → ⊥
+          clash : i * object-width + 1 + y ≡ j * object-width + p → (i < j) ⊎ (j ≤ i) → (j < i) ⊎ (i ≤ j) → ⊥
           clash k (inl o) o′ = omega arith
           clash k (inr o) (inl o′) = omega arith
           clash k (inr o) (inr o′) =
               let z : i ≡ j = omega arith in
-              let u′ : length (world P .fields (getD s (j * 18) 0)) ≤ y = rw z at u in
+              let u′ : length (world P .fields (getD s (j * object-width) 0)) ≤ y = rw z at u in
               omega arith
 
   pub save-at : (u j : ℕ) → v ≡ object j → j < n .made → f < 256
-      → (getD T (getD s (j * 18) 0 * 576 + f) 0 ≡ 0 → ⊥) → u < 17179869184 → Small (meaning u)
-      → PostSave T s (set s (j * 18 + getD T (getD s (j * 18) 0 * 576 + f) 0) (value-number (meaning u))) v
+      → (getD T (getD s (j * object-width) 0 * 576 + f) 0 ≡ 0 → ⊥) → u < 17179869184 → Small (meaning u)
+      → PostSave T s (set s (j * object-width + getD T (getD s (j * object-width) 0 * 576 + f) 0)
+      (value-number (meaning u))) v
       (meaning u) f n (outcome u)
   save-at u j e h l z short m =
       rw (outcome-value u short) (record { acts = λ pre. save-acts u j e h l z m (pre .holding) })
@@ -291,7 +302,7 @@ module _ {A s : List ℕ} {v : Meaning} {c : ℕ} {n : Counts} where
   unfolding bare
   cast-null e m = record { acts = λ p. acts-same n (Gave v) (p .holding .sound) m (λ γ k. rw e) }
 
-  pub cast-passes : (j : ℕ) → v ≡ object j → j < n .made → is-below A (getD s (j * 18) 0) c ≡ true
+  pub cast-passes : (j : ℕ) → v ≡ object j → j < n .made → is-below A (getD s (j * object-width) 0) c ≡ true
       → Small v → PostCast A s v c n (Gave v)
   unfolding bare
   cast-passes j e h t m = record {
@@ -299,11 +310,11 @@ module _ {A s : List ℕ} {v : Meaning} {c : ℕ} {n : Counts} where
         let P = pre .P in
         let hold = pre .holding in
         let snd = hold .sound in
-        let q = sym (below hold (getD s (j * 18) 0) c (snd .declared j h)) ∙ t in
+        let q = sym (below hold (getD s (j * object-width) 0) c (snd .declared j h)) ∙ t in
         acts-same n (Gave v) snd m (λ γ k. rw (e, heap-at (world P) (n .made) s j h, q));
   }
 
-  pub cast-fails : (j : ℕ) → v ≡ object j → j < n .made → is-below A (getD s (j * 18) 0) c ≡ false
+  pub cast-fails : (j : ℕ) → v ≡ object j → j < n .made → is-below A (getD s (j * object-width) 0) c ≡ false
       → PostCast A s v c n (outcome 17179869186)
   unfolding bare
   cast-fails j e h t = rw outcome-bad-cast (record {
@@ -311,7 +322,7 @@ module _ {A s : List ℕ} {v : Meaning} {c : ℕ} {n : Counts} where
         let P = pre .P in
         let hold = pre .holding in
         let snd = hold .sound in
-        let q = sym (below hold (getD s (j * 18) 0) c (snd .declared j h)) ∙ t in
+        let q = sym (below hold (getD s (j * object-width) 0) c (snd .declared j h)) ∙ t in
         acts-same n (Raised 2) snd tt (λ γ k. rw (e, heap-at (world P) (n .made) s j h, q));
   })
 
@@ -353,7 +364,8 @@ module _ {T s : List ℕ} (w : ℕ) {o f at : ℕ} {n : Counts} (q : reached (n 
   load-has z m d =
       let x = reached-at (n .made) (meaning w) o q in
       let y = index-has T s o f e z in
-      let a : at ≡ x .0 * 18 + getD T (getD s (x .0 * 18) 0 * 576 + f) 0 = rw (x .3) at (y .1) in
+      let a : at ≡ x .0 * object-width + getD T (getD s (x .0 * object-width) 0 * 576 + f) 0 =
+      rw (x .3) at (y .1) in
       rw (d, a) (load-at (x .0) (x .1) (x .2) l (rw (x .3) at (y .0)) (rw a at m))
 
   pub save-lacks : {v : Meaning} → at ≡ 0 → PostSave T s s (meaning w) v f n (outcome 17179869184)
@@ -366,12 +378,13 @@ module _ {T s : List ℕ} (w : ℕ) {o f at : ℕ} {n : Counts} (q : reached (n 
   save-has u z short m d =
       let x = reached-at (n .made) (meaning w) o q in
       let y = index-has T s o f e z in
-      let a : at ≡ x .0 * 18 + getD T (getD s (x .0 * 18) 0 * 576 + f) 0 = rw (x .3) at (y .1) in
+      let a : at ≡ x .0 * object-width + getD T (getD s (x .0 * object-width) 0 * 576 + f) 0 =
+      rw (x .3) at (y .1) in
       rw (d, a) (save-at u (x .0) (x .1) (x .2) l (rw (x .3) at (y .0)) short m)
 
 module _ {A s : List ℕ} (w : ℕ) {c o : ℕ} (n : Counts) (q : reached (n .made) (meaning w) ≡ At o) where
   pub cast-room : PreCast A s c (n .made)
-      → (o + 18 ≤ length s) × (getD s o 0 ≤ 64) × (getD s o 0 < length A)
+      → (o + object-width ≤ length s) × (getD s o 0 ≤ 64) × (getD s o 0 < length A)
   cast-room p =
       let x = reached-at (n .made) (meaning w) o q in
       let d = p .holding .sound .declared (x .0) (x .2) in

@@ -1,4 +1,5 @@
 -- Laws of R. Assumes nothing.
+use Rattle.language.specs.Limits.{object-width}
 use mathlib.Core.Path.{_≡_, refl, sym, ap, ap₂, _∙_}
 use mathlib.Core.Bool.{true, false}
 use mathlib.Core.List.{List, _++_, map}
@@ -33,20 +34,22 @@ kept-in T c = getD T (getD T (c * 576 + 514) 0 * 576 + 515) 0
 module _ {R E T A M s : List ℕ} {P : List Class} {made : ℕ} (hold : Holding R E T A M s P made) (j : ℕ)
     (h : j < made) where
   -- the fields that R keeps; the object has them
-  kept-count : kept-in T (getD s (j * 18) 0) ≡ length (world P .fields (world P .root (getD s (j * 18) 0)))
+  kept-count : kept-in T (getD s (j * object-width) 0)
+      ≡ length (world P .fields (world P .root (getD s (j * object-width) 0)))
   kept-count =
-      let c : ℕ = getD s (j * 18) 0 in
+      let c : ℕ = getD s (j * object-width) 0 in
       ap (λ (x : ℕ). getD T (x * 576 + 515) 0) (tables hold .roots c (hold .sound .declared j h))
       ∙ tables hold .counts (world P .root c) (roots (hold .held) c (hold .sound .declared j h) .0)
 
-  kept-own : leb (length (world P .fields (world P .root (getD s (j * 18) 0))))
-      (length (object-at (world P) s (j * 18) .fields)) ≡ true
+  kept-own : leb (length (world P .fields (world P .root (getD s (j * object-width) 0))))
+      (length (object-at (world P) s (j * object-width) .fields)) ≡ true
   kept-own =
-      let c : ℕ = getD s (j * 18) 0 in
-      let own : length (object-at (world P) s (j * 18) .fields) ≡ length (world P .fields c)
-      = mapped-length value-of-number s (j * 18 + 1) (length (world P .fields c))
+      let c : ℕ = getD s (j * object-width) 0 in
+      let own : length (object-at (world P) s (j * object-width) .fields) ≡ length (world P .fields c)
+      = mapped-length value-of-number s (j * object-width + 1) (length (world P .fields c))
       (omega (arith, hold .sound .stored, fields-few hold c)) in
-      le-leb (length (world P .fields (world P .root c))) (length (object-at (world P) s (j * 18) .fields))
+      le-leb (length (world P .fields (world P .root c)))
+      (length (object-at (world P) s (j * object-width) .fields))
       (omega (arith, own, roots (hold .held) c (hold .sound .declared j h) .1))
 
 pub change-nothing : {R T s : List ℕ} {v : Meaning} {d : ℕ} {n : Counts} → NoObject (n .made) v
@@ -65,7 +68,7 @@ module _ {R T s : List ℕ} {v : Meaning} {d : ℕ} {n : Counts} where
   change-null e m = record { acts = λ pre. acts-same n (Gave v) (pre .holding .sound) m (λ γ k. rw e) }
 
   change-few : (j : ℕ) → v ≡ object j → j < n .made
-      → getD T (d * 576 + 515) 0 < kept-in T (getD s (j * 18) 0)
+      → getD T (d * 576 + 515) 0 < kept-in T (getD s (j * object-width) 0)
       → PostChange R T s s v d n (answer (outcome 17179869184) n)
   unfolding bare outcome
   change-few j e h few = record {
@@ -74,7 +77,7 @@ module _ {R T s : List ℕ} {v : Meaning} {d : ℕ} {n : Counts} where
         let hold = pre .holding in
         let snd = hold .sound in
         let dd = pre .declared in
-        let x : ℕ = length (world P .fields (world P .root (getD s (j * 18) 0))) in
+        let x : ℕ = length (world P .fields (world P .root (getD s (j * object-width) 0))) in
         let z : leb x (length (world P .fields d)) ≡ false
         = lt-leb x (length (world P .fields d))
         (omega (arith, kept-count hold j h, tables hold .counts d dd)) in
@@ -83,49 +86,51 @@ module _ {R T s : List ℕ} {v : Meaning} {d : ℕ} {n : Counts} where
   }
 
   change-acts : (s₁ : List ℕ) (j : ℕ) → v ≡ object j → j < n .made
-      → kept-in T (getD s (j * 18) 0) ≤ getD T (d * 576 + 515) 0 → Small v
-      → Filled R T s s₁ (j * 18) d (kept-in T (getD s (j * 18) 0))
+      → kept-in T (getD s (j * object-width) 0) ≤ getD T (d * 576 + 515) 0 → Small v
+      → Filled R T s s₁ (j * object-width) d (kept-in T (getD s (j * object-width) 0))
       → {E A M : List ℕ} {P : List Class} → Holding R E T A M s P (n .made) → d ≤ length P
-      → Acts P s (set s₁ (j * 18) d) n
+      → Acts P s (set s₁ (j * object-width) d) n
       (answer (Gave v) (record { left = n .left; made = n .made; changes = n .changes + 1 }))
       (λ t. do-change (world P) d v t)
   unfolding bare
   change-acts s₁ j e h many m w {P = P} hold dd =
       let snd = hold .sound in
       let made : ℕ = n .made in
-      let s′ : List ℕ = set s₁ (j * 18) d in
-      let c : ℕ = getD s (j * 18) 0 in
+      let s′ : List ℕ = set s₁ (j * object-width) d in
+      let c : ℕ = getD s (j * object-width) 0 in
       let from : ℕ = kept-in T c in
       let g : from ≡ length (world P .fields (world P .root c)) = kept-count hold j h in
-      let room : j * 18 + 18 ≤ length s = omega (arith, snd .stored) in
+      let room : j * object-width + object-width ≤ length s = omega (arith, snd .stored) in
       let own : from ≤ length (world P .fields c) =
       omega (arith, g, roots (hold .held) c (snd .declared j h) .1) in
-      let r : Renewed R T s s′ (j * 18) d from = renewed (j * 18) d from w
+      let r : Renewed R T s s′ (j * object-width) d from = renewed (j * object-width) d from w
       (omega (arith, own, fields-few hold c)) room in
       let low : from ≤ length (world P .fields d) = omega (arith, many, tables hold .counts d dd) in
       let x : ℕ = length (world P .fields (world P .root c)) in
       let z : leb x (length (world P .fields d)) ≡ true =
       le-leb x (length (world P .fields d)) (omega (arith, g, low)) in
-      let fields = fields-filled hold s s′ (j * 18) d from (length (world P .fields c)) dd
+      let fields = fields-filled hold s s′ (j * object-width) d from (length (world P .fields c)) dd
       low own room (r .long) (λ i l. r .kept i l) (λ i l k. r .first i l k) in
-      let thing : object-at (world P) s′ (j * 18) ≡ changed (world P) d (object-at (world P) s (j * 18))
+      let thing : object-at (world P) s′ (j * object-width)
+      ≡ changed (world P) d (object-at (world P) s (j * object-width))
       = ap (λ (k : ℕ). record {
         class-of = k;
         fields = map value-of-number
-            (take (length (world P .fields k)) (drop (j * 18 + 1) s′));
+            (take (length (world P .fields k)) (drop (j * object-width + 1) s′));
       }) (r .class)
       ∙ (ap (λ (y : List Meaning). record { class-of = d; fields = y }) fields
       ∙ ap (λ (x : ℕ). record {
         class-of = d;
         fields = take x
             (map value-of-number
-            (take (length (world P .fields (getD s (j * 18) 0))) (drop (j * 18 + 1) s)))
+            (take (length (world P .fields (getD s (j * object-width) 0))) (drop (j * object-width + 1) s)))
             ++ initials (drop x (world P .fields d));
       }) g) in
       let heap : heap-of-numbers (world P) made s′
-      ≡ set (heap-of-numbers (world P) made s) j (changed (world P) d (object-at (world P) s (j * 18)))
+      ≡ set (heap-of-numbers (world P) made s) j
+      (changed (world P) d (object-at (world P) s (j * object-width)))
       = heap-changed (world P) made s s′ j h (r .long)
-      (λ i k. fields-few hold (getD s (i * 18) 0)) (λ x o. r .outside x o)
+      (λ i k. fields-few hold (getD s (i * object-width) 0)) (λ x o. r .outside x o)
       ∙ ap (set (heap-of-numbers (world P) made s) j) thing in
       record {
         stored = stored-renewed hold s′ made j d from r dd low h (λ i k o. k) (snd .stored)
@@ -138,9 +143,9 @@ module _ {R T s : List ℕ} {v : Meaning} {d : ℕ} {n : Counts} where
       }
 
   change-made : (s₁ : List ℕ) (j : ℕ) → v ≡ object j → j < n .made
-      → kept-in T (getD s (j * 18) 0) ≤ getD T (d * 576 + 515) 0 → Small v
-      → Filled R T s s₁ (j * 18) d (kept-in T (getD s (j * 18) 0))
-      → PostChange R T s (set s₁ (j * 18) d) v d n
+      → kept-in T (getD s (j * object-width) 0) ≤ getD T (d * 576 + 515) 0 → Small v
+      → Filled R T s s₁ (j * object-width) d (kept-in T (getD s (j * object-width) 0))
+      → PostChange R T s (set s₁ (j * object-width) d) v d n
       (answer (Gave v) (record { left = n .left; made = n .made; changes = n .changes + 1 }))
   change-made s₁ j e h many m w =
       record { acts = λ pre. change-acts s₁ j e h many m w (pre .holding) (pre .declared) }
@@ -157,16 +162,17 @@ one-change w t h (long, q) =
 
 -- what R reads in the tables: of the object's class and its root, and of the target
 pub record Spots (R T s : List ℕ) (o d : ℕ) : Type 0 where
-  pub stored : o + 18 ≤ length s
+  pub stored : o + object-width ≤ length s
   pub own : getD s o 0 * 576 + 576 ≤ length T
   pub class : getD s o 0 ≤ 64
   pub root : getD T (getD s o 0 * 576 + 514) 0 * 576 + 576 ≤ length T
   pub target : d * 576 + 576 ≤ length T
   pub kept : kept-in T (getD s o 0) ≤ 17
 
-spots : {R T s : List ℕ} {d made : ℕ} → PreNew R T s d made → (j : ℕ) → j < made → Spots R T s (j * 18) d
+spots : {R T s : List ℕ} {d made : ℕ} → PreNew R T s d made → (j : ℕ) → j < made
+    → Spots R T s (j * object-width) d
 spots {R} {T} {s} {made = made} p j h =
-    let c : ℕ = getD s (j * 18) 0 in
+    let c : ℕ = getD s (j * object-width) 0 in
     let k = p .holding .sound .declared j h in
     let r = roots (p .holding .held) c k in
     record {
@@ -185,9 +191,9 @@ spots {R} {T} {s} {made = made} p j h =
 
 -- first values from a place on that the object has
 change-fill : {R T s : List ℕ} {d made : ℕ} (p : PreNew R T s d made) (j : ℕ) → j < made
-    → Fill R T s (j * 18) d (kept-in T (getD s (j * 18) 0))
+    → Fill R T s (j * object-width) d (kept-in T (getD s (j * object-width) 0))
 change-fill p j h =
-    let f = new-fill p (j * 18) (omega (arith, p .holding .sound .stored)) in
+    let f = new-fill p (j * object-width) (omega (arith, p .holding .sound .stored)) in
     record {
       table = f .table;
       room = f .room;

@@ -1,4 +1,5 @@
 -- Laws of the first row with a letter, and of the method that Q seeks. Assumes nothing.
+use Rattle.language.specs.Limits.{object-width}
 use mathlib.Core.Path.{_≡_, refl, sym, ap, _∙_, subst}
 use mathlib.Core.Bool.{Bool, true, false, cond}
 use mathlib.Core.Logic.{⊎-elim}
@@ -55,7 +56,7 @@ same-letter {a = a} {b} p q =
 
 -- what the table of classes has for method m of object j: 0, or the method's number and 1 more
 abbrev pub number-in : List ℕ → List ℕ → ℕ → ℕ → ℕ
-number-in T s j m = getD T (getD s (j * 18) 0 * 576 + 256 + m) 0
+number-in T s j m = getD T (getD s (j * object-width) 0 * 576 + 256 + m) 0
 
 -- The method of class k under name m, where the table has i for its number.
 record Sought (P : List Class) (M : List ℕ) (k m i : ℕ) : Type 0 where
@@ -102,7 +103,7 @@ module _ {R E T A M s : List ℕ} {P : List Class} {made : ℕ} (hold : Holding 
 
 module _ {T M s : List ℕ} {m made : ℕ} (p : PreFind T M s m made) (j : ℕ) (h : j < made) where
   -- what a lookup reads
-  pub methods-of : MethodsOf T M (getD s (j * 18) 0) m
+  pub methods-of : MethodsOf T M (getD s (j * object-width) 0) m
   methods-of = record {
     table = omega (arith, tables (p .holding) .long, p .holding .sound .declared j h);
     name = p .name;
@@ -111,7 +112,8 @@ module _ {T M s : List ℕ} {m made : ℕ} (p : PreFind T M s m made) (j : ℕ) 
     where
       number-spot : (number-in T s j m ≡ 0 → ⊥) → (number-in T s j m - 1) * 4 + 4 ≤ length M
       number-spot z =
-          sought (p .holding) (getD s (j * 18) 0) m (p .holding .sound .declared j h) (p .name) z .there
+          sought (p .holding) (getD s (j * object-width) 0) m (p .holding .sound .declared j h) (p .name)
+          z .there
 
 not-found : {T M s : List ℕ} {v : Meaning} {m given : ℕ} {n : Counts} {calls : ℕ} {o : Outcome} {r : ℕ}
     → outcome r ≡ o
@@ -151,7 +153,8 @@ module _ {T M s : List ℕ} {v : Meaning} {m given : ℕ} {n : Counts} {calls : 
     find-missing : number-in T s j m ≡ 0 → PostFind T M s v m given n calls (Fails 17179869184)
     unfolding bare
     find-missing z = not-found outcome-stuck (λ pre.
-        let q = none-sought (pre .holding) (getD s (j * 18) 0) m (pre .holding .sound .declared j h) l z in
+        let q = none-sought (pre .holding) (getD s (j * object-width) 0) m (pre .holding .sound .declared j h)
+        l z in
         record {
           small = tt;
           is = λ L vs γ k many. rw (e, heap-at (world (pre .P)) (n .made) s j h, q);
@@ -164,7 +167,8 @@ module _ {T M s : List ℕ} {v : Meaning} {m given : ℕ} {n : Counts} {calls : 
           → PostFind T M s v m given n calls (Fails 17179869184)
       unfolding bare
       find-other t = not-found outcome-stuck (λ pre.
-          let y = sought (pre .holding) (getD s (j * 18) 0) m (pre .holding .sound .declared j h) l z in
+          let y = sought (pre .holding) (getD s (j * object-width) 0) m (pre .holding .sound .declared j h) l
+          z in
           record {
             small = tt;
             is = λ L vs γ k many.
@@ -178,7 +182,8 @@ module _ {T M s : List ℕ} {v : Meaning} {m given : ℕ} {n : Counts} {calls : 
         find-deep : 64 ≤ calls → PostFind T M s v m given n calls (Fails 17179869199)
         unfolding bare call-at
         find-deep a = not-found outcome-deep (λ pre.
-            let y = sought (pre .holding) (getD s (j * 18) 0) m (pre .holding .sound .declared j h) l z in
+            let y = sought (pre .holding) (getD s (j * object-width) 0) m (pre .holding .sound .declared j h)
+            l z in
             let none-left : 64 - calls ≡ 0 = omega arith in
             record {
               small = (omega arith, omega arith);
@@ -193,11 +198,12 @@ module _ {T M s : List ℕ} {v : Meaning} {m given : ℕ} {n : Counts} {calls : 
             → PostFind T M s v m given n calls (Body (getD M ((number-in T s j m - 1) * 4 + 3) 0))
         find-found a = record {
           is = λ pre.
-              let y = sought (pre .holding) (getD s (j * 18) 0) m (pre .holding .sound .declared j h) l z in
-              let b = body-at (pre .holding) (getD s (j * 18) 0) m (y .found) (y .method) in
+              let y = sought (pre .holding) (getD s (j * object-width) 0) m
+              (pre .holding .sound .declared j h) l z in
+              let b = body-at (pre .holding) (getD s (j * object-width) 0) m (y .found) (y .method) in
               record {
                 j = j;
-                o = object-at (world (pre .P)) s (j * 18);
+                o = object-at (world (pre .P)) s (j * object-width);
                 M = y .found;
                 receiver = e;
                 known = λ γ k. heap-at (world (pre .P)) (n .made) s j h;
@@ -212,7 +218,7 @@ module _ {T M s : List ℕ} {v : Meaning} {m given : ℕ} {n : Counts} {calls : 
         }
 
     -- what the tables tell of the call
-    pub find-in : PostFind T M s v m given n calls (target-in T M (getD s (j * 18) 0) m given calls)
+    pub find-in : PostFind T M s v m given n calls (target-in T M (getD s (j * object-width) 0) m given calls)
     unfolding target-in
     find-in = go (number-in T s j m) refl
       where
@@ -243,7 +249,7 @@ find-at w {o} {n = n} q l = let x = reached-at (n .made) (meaning w) o q in
     rw (x .3) (find-in (x .0) (x .1) (x .2) l)
 
 pub find-room : {T M s : List ℕ} {m made o : ℕ} (w : ℕ) → PreFind T M s m made
-    → reached made (meaning w) ≡ At o → (o + 18 ≤ length s) × MethodsOf T M (getD s o 0) m
+    → reached made (meaning w) ≡ At o → (o + object-width ≤ length s) × MethodsOf T M (getD s o 0) m
 find-room {made = made} {o} w p q = let x = reached-at made (meaning w) o q in
     rw (x .3) (omega (arith, p .holding .sound .stored, x .2), methods-of p (x .0) (x .2))
 

@@ -1,4 +1,5 @@
 -- Laws of first values, and of W. Assumes nothing.
+use Rattle.language.specs.Limits.{object-width}
 use mathlib.Core.Path.{_≡_, refl, sym, ap, ap₂, _∙_}
 use mathlib.Core.Bool.{Bool, true, false, cond}
 use mathlib.Core.Logic.{_⊎_, inl, inr}
@@ -47,9 +48,10 @@ first-value {T = T} h c i f d e l =
 pub fields-filled : {R E T A M s₀ : List ℕ} {P : List Class} {made : ℕ} → Holding R E T A M s₀ P made
     → (s s′ : List ℕ) (o c from m : ℕ)
     → c ≤ length P → from ≤ length (world P .fields c) → from ≤ m
-    → o + 18 ≤ length s → length s′ ≡ length s
+    → o + object-width ≤ length s → length s′ ≡ length s
     → ((i : ℕ) → i < from → getD s′ (o + 1 + i) 0 ≡ getD s (o + 1 + i) 0)
-    → ((i : ℕ) → from ≤ i → i < 17 → getD s′ (o + 1 + i) 0 ≡ first-of R T c i (getD T (c * 576 + 515) 0))
+    → ((i : ℕ) → from ≤ i → i < object-width - 1
+    → getD s′ (o + 1 + i) 0 ≡ first-of R T c i (getD T (c * 576 + 515) 0))
     → map value-of-number (take (length (world P .fields c)) (drop (o + 1) s′))
     ≡ take from (map value-of-number (take m (drop (o + 1) s)))
     ++ initials (drop from (world P .fields c))
@@ -101,11 +103,12 @@ pub record Renewed (R T s s′ : List ℕ) (o c from : ℕ) : Type 0 where
   pub long : length s′ ≡ length s
   pub class : getD s′ o 0 ≡ c
   pub kept : (i : ℕ) → i < from → getD s′ (o + 1 + i) 0 ≡ getD s (o + 1 + i) 0
-  pub first : (i : ℕ) → from ≤ i → i < 17
+  pub first : (i : ℕ) → from ≤ i → i < object-width - 1
       → getD s′ (o + 1 + i) 0 ≡ first-of R T c i (getD T (c * 576 + 515) 0)
-  pub outside : (x : ℕ) → (x < o) ⊎ (o + 18 ≤ x) → getD s′ x 0 ≡ getD s x 0
+  pub outside : (x : ℕ) → (x < o) ⊎ (o + object-width ≤ x) → getD s′ x 0 ≡ getD s x 0
 
-pub renewed : {R T s s₁ : List ℕ} (o c from : ℕ) → Filled R T s s₁ o c from → from ≤ 17 → o + 18 ≤ length s
+pub renewed : {R T s s₁ : List ℕ} (o c from : ℕ) → Filled R T s s₁ o c from → from ≤ 17
+    → o + object-width ≤ length s
     → Renewed R T s (set s₁ o c) o c from
 renewed {R} {T} {s} {s₁} o c from w h room = record {
   long = length-set s₁ o c ∙ w .long;
@@ -120,11 +123,12 @@ renewed {R} {T} {s} {s₁} o c from w h room = record {
   outside = λ x l. getD-set-other s₁ o x c 0 (λ e. apart x l e) ∙ w .outside x (far x l);
 }
   where
-    apart : (x : ℕ) → (x < o) ⊎ (o + 18 ≤ x) → x ≡ o → ⊥
+    apart : (x : ℕ) → (x < o) ⊎ (o + object-width ≤ x) → x ≡ o → ⊥
     apart x (inl a) e = omega arith
     apart x (inr a) e = omega arith
 
-    far : (x : ℕ) → (x < o) ⊎ (o + 18 ≤ x) → (x < o + 1 + from) ⊎ (o + 1 + from + (17 - from) ≤ x)
+    far : (x : ℕ) → (x < o) ⊎ (o + object-width ≤ x)
+        → (x < o + 1 + from) ⊎ (o + 1 + from + (object-width - 1 - from) ≤ x)
     far x (inl a) = inl (omega arith)
     far x (inr a) = inr (omega arith)
 
@@ -142,19 +146,23 @@ unused-first {T = T} h c i d l =
     rw (le-leb (getD T (c * 576 + 515) 0) i (omega (arith, tables h .counts c d)))
 
 module _ {R E T A M s : List ℕ} {P : List Class} {made : ℕ} (h : Holding R E T A M s P made) (s′ : List ℕ)
-    (made′ j c from : ℕ) (r : Renewed R T s s′ (j * 18) c from)
+    (made′ j c from : ℕ) (r : Renewed R T s s′ (j * object-width) c from)
     (d : c ≤ length P) (low : from ≤ length (world P .fields c)) (at : j < made′)
-    (only : (i : ℕ) → i < made′ → (i < j) ⊎ (j < i) → i < made) (room : made′ * 18 ≤ length s)
+    (only : (i : ℕ) → i < made′ → (i < j) ⊎ (j < i) → i < made) (room : made′ * object-width ≤ length s)
     (few : made′ ≤ 65535) where
-  other : (i x : ℕ) → x < 18 → (i < j) ⊎ (j < i) → getD s′ (i * 18 + x) 0 ≡ getD s (i * 18 + x) 0
-  other i x l o = r .outside (i * 18 + x) (far o)
+  other : (i x : ℕ) → x < object-width → (i < j) ⊎ (j < i)
+      → getD s′ (i * object-width + x) 0 ≡ getD s (i * object-width + x) 0
+  other i x l o = r .outside (i * object-width + x) (far o)
     where
-      far : (i < j) ⊎ (j < i) → (i * 18 + x < j * 18) ⊎ (j * 18 + 18 ≤ i * 18 + x)
+      far : (i < j) ⊎ (j < i)
+          → (i * object-width + x < j * object-width)
+          ⊎ (j * object-width + object-width ≤ i * object-width + x)
       far (inl a) = inl (omega arith)
       far (inr a) = inr (omega arith)
 
-  other-class : (i : ℕ) → (i < j) ⊎ (j < i) → getD s′ (i * 18) 0 ≡ getD s (i * 18) 0
-  other-class i o = let e : i * 18 + 0 ≡ i * 18 = omega arith in rw e at (other i 0 (omega arith) o)
+  other-class : (i : ℕ) → (i < j) ⊎ (j < i) → getD s′ (i * object-width) 0 ≡ getD s (i * object-width) 0
+  other-class i o = let e : i * object-width + 0 ≡ i * object-width = omega arith in
+      rw e at (other i 0 (omega arith) o)
 
   pub sound-renewed : Sound P made′ s′
   sound-renewed = record {
@@ -164,20 +172,23 @@ module _ {R E T A M s : List ℕ} {P : List Class} {made : ℕ} (h : Holding R E
     unused = λ i x k u l. unused i x k u l (lt-or i j) (lt-or j i);
   }
     where
-      declared : (i : ℕ) → i < made′ → (i < j) ⊎ (j ≤ i) → (j < i) ⊎ (i ≤ j) → getD s′ (i * 18) 0 ≤ length P
+      declared : (i : ℕ) → i < made′ → (i < j) ⊎ (j ≤ i) → (j < i) ⊎ (i ≤ j)
+          → getD s′ (i * object-width) 0 ≤ length P
       declared i k (inl o) o′ = rw (other-class i (inl o)) (h .sound .declared i (only i k (inl o)))
       declared i k (inr o) (inl o′) = rw (other-class i (inr o′)) (h .sound .declared i (only i k (inr o′)))
       declared i k (inr o) (inr o′) = let z : i ≡ j = omega arith in rw (z, r .class) d
 
-      same : (i x : ℕ) → i < made′ → length (world P .fields (getD s′ (i * 18) 0)) ≤ x → x < 17
-          → (i < j) ⊎ (j < i) → getD s′ (i * 18 + 1 + x) 0 ≡ 0
+      same : (i x : ℕ) → i < made′ → length (world P .fields (getD s′ (i * object-width) 0)) ≤ x
+          → x < object-width - 1
+          → (i < j) ⊎ (j < i) → getD s′ (i * object-width + 1 + x) 0 ≡ 0
       same i x k u l o =
-          let e : i * 18 + (1 + x) ≡ i * 18 + 1 + x = omega arith in
+          let e : i * object-width + (1 + x) ≡ i * object-width + 1 + x = omega arith in
           (rw e at (other i (1 + x) (omega arith) o))
           ∙ h .sound .unused i x (only i k o) (rw (other-class i o) at u) l
 
-      unused : (i x : ℕ) → i < made′ → length (world P .fields (getD s′ (i * 18) 0)) ≤ x → x < 17
-          → (i < j) ⊎ (j ≤ i) → (j < i) ⊎ (i ≤ j) → getD s′ (i * 18 + 1 + x) 0 ≡ 0
+      unused : (i x : ℕ) → i < made′ → length (world P .fields (getD s′ (i * object-width) 0)) ≤ x
+          → x < object-width - 1
+          → (i < j) ⊎ (j ≤ i) → (j < i) ⊎ (i ≤ j) → getD s′ (i * object-width + 1 + x) 0 ≡ 0
       unused i x k u l (inl o) o′ = same i x k u l (inl o)
       unused i x k u l (inr o) (inl o′) = same i x k u l (inr o′)
       unused i x k u l (inr o) (inr o′) =
@@ -188,13 +199,13 @@ module _ {R E T A M s : List ℕ} {P : List Class} {made : ℕ} (h : Holding R E
   pub stored-renewed : made ≤ made′ → Stored P s s′ made made′
   stored-renewed m = record {
     long = r .long;
-    rest = drop-same s s′ (made′ * 18) (r .long) (λ x l. r .outside x (inr (omega arith)));
+    rest = drop-same s s′ (made′ * object-width) (r .long) (λ x l. r .outside x (inr (omega arith)));
     more = m;
     sound = sound-renewed;
   }
 
 -- W
-pub new-fill : {R T s : List ℕ} {c made : ℕ} (p : PreNew R T s c made) (o : ℕ) → o + 18 ≤ length s
+pub new-fill : {R T s : List ℕ} {c made : ℕ} (p : PreNew R T s c made) (o : ℕ) → o + object-width ≤ length s
     → Fill R T s o c 0
 unfolding nth
 new-fill {R} {T} {s} {c} p o h = record {
@@ -222,41 +233,45 @@ pub full-count : (s : List ℕ) (made : ℕ) → 65535 ≤ made → capacity s �
 unfolding capacity
 full-count s made h = omega arith
 
-pub full-store : (s : List ℕ) (made : ℕ) → length s < made * 18 + 18 → capacity s ≤ made
+pub full-store : (s : List ℕ) (made : ℕ) → length s < made * object-width + object-width → capacity s ≤ made
 unfolding capacity
 full-store s made h = omega arith
 
-has-room : (s : List ℕ) (made : ℕ) → made < 65535 → made * 18 + 18 ≤ length s → made < capacity s
+has-room : (s : List ℕ) (made : ℕ) → made < 65535 → made * object-width + object-width ≤ length s
+    → made < capacity s
 unfolding capacity
 has-room s made h k = omega arith
 
-new-acts : (R T s s₁ : List ℕ) (c : ℕ) (n : Counts) → n .made < 65535 → n .made * 18 + 18 ≤ length s
-    → Filled R T s s₁ (n .made * 18) c 0
+new-acts : (R T s s₁ : List ℕ) (c : ℕ) (n : Counts) → n .made < 65535
+    → n .made * object-width + object-width ≤ length s
+    → Filled R T s s₁ (n .made * object-width) c 0
     → {E A M : List ℕ} {P : List Class} → Holding R E T A M s P (n .made) → c ≤ length P → (F : ℕ)
-    → Acts P s (set s₁ (n .made * 18) c) n
+    → Acts P s (set s₁ (n .made * object-width) c) n
     (answer (Gave (object (n .made)))
     (record { left = n .left; made = n .made + 1; changes = n .changes }))
     (λ t. do-new (world P) (with-limits F (capacity s)) c t)
 unfolding bare
 new-acts R T s s₁ c n h room w {P = P} hold d F =
     let made : ℕ = n .made in
-    let s′ : List ℕ = set s₁ (made * 18) c in
-    let r : Renewed R T s s′ (made * 18) c 0 = renewed (made * 18) c 0 w (omega arith) room in
+    let s′ : List ℕ = set s₁ (made * object-width) c in
+    let r : Renewed R T s s′ (made * object-width) c 0 =
+    renewed (made * object-width) c 0 w (omega arith) room in
     let e : made + 1 ≡ suc made = omega arith in
     let z : leb (capacity s) made ≡ false = lt-leb (capacity s) made (has-room s made h room) in
-    let fields = fields-filled hold s s′ (made * 18) c 0 0 d (omega arith) (omega arith) room (r .long)
+    let fields = fields-filled hold s s′ (made * object-width) c 0 0 d (omega arith) (omega arith) room
+    (r .long)
     (λ i l. r .kept i l) (λ i l k. r .first i l k) in
-    let thing : object-at (world P) s′ (made * 18) ≡ new-object (world P) c
+    let thing : object-at (world P) s′ (made * object-width) ≡ new-object (world P) c
     = ap (λ (k : ℕ). record {
       class-of = k;
       fields = map value-of-number
-          (take (length (world P .fields k)) (drop (made * 18 + 1) s′));
+          (take (length (world P .fields k)) (drop (made * object-width + 1) s′));
     }) (r .class)
     ∙ ap (λ (y : List Meaning). record { class-of = c; fields = y }) fields in
     let heap : heap-of-numbers (world P) (made + 1) s′ ≡ heap-of-numbers (world P) made s
     ++ (new-object (world P) c ∷ [])
     = rw e (heap-new (world P) made s s′ (r .long)
-    (λ i k. fields-few hold (getD s (i * 18) 0)) (λ x l. r .outside x (inl l))
+    (λ i k. fields-few hold (getD s (i * object-width) 0)) (λ x l. r .outside x (inl l))
     ∙ ap (λ (o : Thing). heap-of-numbers (world P) made s ++ (o ∷ [])) thing) in
     record {
       stored = stored-renewed hold s′ (made + 1) made c 0 r d (omega arith) (omega arith)
@@ -271,9 +286,10 @@ new-acts R T s s₁ c n h room w {P = P} hold d F =
     only made i k (inl o) = o
     only made i k (inr o) = absurd (omega arith)
 
-new-made : (R T s s₁ : List ℕ) (c : ℕ) (n : Counts) → n .made < 65535 → n .made * 18 + 18 ≤ length s
-    → Filled R T s s₁ (n .made * 18) c 0
-    → PostNew R T s (set s₁ (n .made * 18) c) c n
+new-made : (R T s s₁ : List ℕ) (c : ℕ) (n : Counts) → n .made < 65535
+    → n .made * object-width + object-width ≤ length s
+    → Filled R T s s₁ (n .made * object-width) c 0
+    → PostNew R T s (set s₁ (n .made * object-width) c) c n
     (answer (Gave (object (n .made)))
     (record { left = n .left; made = n .made + 1; changes = n .changes }))
 new-made R T s s₁ c n h room w =
@@ -282,8 +298,9 @@ new-made R T s s₁ c n h room w =
 -- the same of the number that is returned and of the tally, which counts the new object
 pub new-told : {R T s s₁ t′ : List ℕ} (t : List ℕ) {c : ℕ} → (1 < length t) × (t′ ≡ set t 1 (getD t 1 0 + 1))
     → getD t 1 0 < 65535
-    → getD t 1 0 * 18 + 18 ≤ length s → Filled R T s s₁ (getD t 1 0 * 18) c 0
-    → PostNew R T s (set s₁ (getD t 1 0 * 18) c) c (counts-in t) (answered (8589934592 + (getD t 1 0 + 1)) t′)
+    → getD t 1 0 * object-width + object-width ≤ length s → Filled R T s s₁ (getD t 1 0 * object-width) c 0
+    → PostNew R T s (set s₁ (getD t 1 0 * object-width) c) c (counts-in t)
+    (answered (8589934592 + (getD t 1 0 + 1)) t′)
 new-told {R} {T} {s} {s₁} t {c} (long, q) h room w =
     let made : ℕ = getD t 1 0 in
     let word : ℕ = 8589934592 + (made + 1) in

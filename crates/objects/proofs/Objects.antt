@@ -1,4 +1,5 @@
 -- Laws of the objects that a store holds. Assumes nothing.
+use Rattle.language.specs.Limits.{object-width}
 use mathlib.Core.Path.{_≡_, refl, sym, ap, ap₂, _∙_}
 use mathlib.Core.Bool.{Bool, true, false}
 use mathlib.Core.Logic.{_⊎_, inl, inr}
@@ -74,29 +75,30 @@ module _ (W : World) where
   pub heap-length : (n : ℕ) (s : List ℕ) → length (heap-of-numbers W n s) ≡ n
   unfolding heap-of-numbers
   heap-length zero s = refl
-  heap-length (suc n) s = ap suc (heap-length n (drop 18 s))
+  heap-length (suc n) s = ap suc (heap-length n (drop object-width s))
 
-  object-shift : (s : List ℕ) (j : ℕ) → object-at (drop 18 s) (j * 18) ≡ object-at s (suc j * 18)
+  object-shift : (s : List ℕ) (j : ℕ)
+      → object-at (drop object-width s) (j * object-width) ≡ object-at s (suc j * object-width)
   object-shift s j =
-      let e : 18 + j * 18 ≡ suc j * 18 = omega arith in
-      let e′ : 18 + (j * 18 + 1) ≡ suc j * 18 + 1 = omega arith in
+      let e : object-width + j * object-width ≡ suc j * object-width = omega arith in
+      let e′ : object-width + (j * object-width + 1) ≡ suc j * object-width + 1 = omega arith in
       ap₂ (λ (c : ℕ) (l : List ℕ).
       record { class-of = c; fields = map value-of-number (take (length (W .fields c)) l) })
-      (getD-drop 18 s (j * 18) 0 ∙ ap (λ (x : ℕ). getD s x 0) e)
-      (drop-drop (j * 18 + 1) 18 s ∙ ap (λ (x : ℕ). drop x s) e′)
+      (getD-drop object-width s (j * object-width) 0 ∙ ap (λ (x : ℕ). getD s x 0) e)
+      (drop-drop (j * object-width + 1) object-width s ∙ ap (λ (x : ℕ). drop x s) e′)
 
   pub heap-at : (n : ℕ) (s : List ℕ) (j : ℕ) → j < n
-      → nth (heap-of-numbers W n s) j ≡ some (object-at s (j * 18))
+      → nth (heap-of-numbers W n s) j ≡ some (object-at s (j * object-width))
   unfolding heap-of-numbers nth
   heap-at zero s j h = absurd (omega arith)
   heap-at (suc n) s zero h = refl
-  heap-at (suc n) s (suc j) h = heap-at n (drop 18 s) j (omega arith) ∙ ap some (object-shift s j)
+  heap-at (suc n) s (suc j) h = heap-at n (drop object-width s) j (omega arith) ∙ ap some (object-shift s j)
 
   pub heap-past : (n : ℕ) (s : List ℕ) (j : ℕ) → n ≤ j → nth (heap-of-numbers W n s) j ≡ none
   heap-past n s j h = nth-none (heap-of-numbers W n s) j (omega (arith, heap-length n s))
 
   object-ext : (s s′ : List ℕ) (o : ℕ) → length s ≡ length s′ → length (W .fields (getD s o 0)) ≤ 17
-      → ((i : ℕ) → i < 18 → getD s (o + i) 0 ≡ getD s′ (o + i) 0) → object-at s o ≡ object-at s′ o
+      → ((i : ℕ) → i < object-width → getD s (o + i) 0 ≡ getD s′ (o + i) 0) → object-at s o ≡ object-at s′ o
   object-ext s s′ o e few h =
       let z : o + 0 ≡ o = omega arith in
       let c : getD s o 0 ≡ getD s′ o 0 = rw z at (h 0 (omega arith)) in
@@ -115,66 +117,71 @@ module _ (W : World) where
 
   -- one object changed
   pub heap-changed : (made : ℕ) (s s′ : List ℕ) (j : ℕ) → j < made → length s′ ≡ length s
-      → ((i : ℕ) → i < made → length (W .fields (getD s (i * 18) 0)) ≤ 17)
-      → ((x : ℕ) → (x < j * 18) ⊎ (j * 18 + 18 ≤ x) → getD s′ x 0 ≡ getD s x 0)
-      → heap-of-numbers W made s′ ≡ set (heap-of-numbers W made s) j (object-at s′ (j * 18))
+      → ((i : ℕ) → i < made → length (W .fields (getD s (i * object-width) 0)) ≤ 17)
+      → ((x : ℕ) → (x < j * object-width) ⊎ (j * object-width + object-width ≤ x) → getD s′ x 0 ≡ getD s x 0)
+      → heap-of-numbers W made s′ ≡ set (heap-of-numbers W made s) j (object-at s′ (j * object-width))
   heap-changed made s s′ j h e few same =
-      nth-ext (heap-of-numbers W made s′) (set (heap-of-numbers W made s) j (object-at s′ (j * 18)))
+      nth-ext (heap-of-numbers W made s′) (set (heap-of-numbers W made s) j (object-at s′ (j * object-width)))
       (heap-length made s′
-      ∙ sym (length-set (heap-of-numbers W made s) j (object-at s′ (j * 18)) ∙ heap-length made s))
+      ∙ sym (length-set (heap-of-numbers W made s) j (object-at s′ (j * object-width)) ∙ heap-length made s))
       (λ i k. let l : i < made = omega (arith, heap-length made s′) in go i l (lt-or i j) (lt-or j i))
     where
       other : (i : ℕ) → i < made → (i < j) ⊎ (j < i)
           → nth (heap-of-numbers W made s′) i ≡ nth (heap-of-numbers W made s) i
       other i l d = heap-at made s′ i l
-          ∙ (ap some (sym (object-ext s s′ (i * 18) (sym e) (few i l)
-          (λ x k. sym (same (i * 18 + x) (far x k d))))) ∙ sym (heap-at made s i l))
+          ∙ (ap some (sym (object-ext s s′ (i * object-width) (sym e) (few i l)
+          (λ x k. sym (same (i * object-width + x) (far x k d))))) ∙ sym (heap-at made s i l))
         where
-          far : (x : ℕ) → x < 18 → (i < j) ⊎ (j < i) → (i * 18 + x < j * 18) ⊎ (j * 18 + 18 ≤ i * 18 + x)
+          far : (x : ℕ) → x < object-width → (i < j) ⊎ (j < i)
+              → (i * object-width + x < j * object-width)
+              ⊎ (j * object-width + object-width ≤ i * object-width + x)
           far x k (inl p) = inl (omega arith)
           far x k (inr p) = inr (omega arith)
 
       apart : (i : ℕ) → i < made → (i < j) ⊎ (j < i) → (j ≡ i → ⊥)
           → nth (heap-of-numbers W made s′) i
-          ≡ nth (set (heap-of-numbers W made s) j (object-at s′ (j * 18))) i
+          ≡ nth (set (heap-of-numbers W made s) j (object-at s′ (j * object-width))) i
       apart i l d n = other i l d
-          ∙ sym (nth-set-other (heap-of-numbers W made s) j i (object-at s′ (j * 18)) n)
+          ∙ sym (nth-set-other (heap-of-numbers W made s) j i (object-at s′ (j * object-width)) n)
 
       go : (i : ℕ) → i < made → (i < j) ⊎ (j ≤ i) → (j < i) ⊎ (i ≤ j)
           → nth (heap-of-numbers W made s′) i
-          ≡ nth (set (heap-of-numbers W made s) j (object-at s′ (j * 18))) i
+          ≡ nth (set (heap-of-numbers W made s) j (object-at s′ (j * object-width))) i
       go i l (inl p) d = apart i l (inl p) (λ q. omega arith)
       go i l (inr p) (inl q) = apart i l (inr q) (λ z. omega arith)
       go i l (inr p) (inr q) =
           let z : i ≡ j = omega arith in
           rw z (heap-at made s′ j h
-          ∙ sym (nth-set-same (heap-of-numbers W made s) j (object-at s′ (j * 18)) (object-at s (j * 18))
+          ∙ sym (nth-set-same (heap-of-numbers W made s) j (object-at s′ (j * object-width))
+          (object-at s (j * object-width))
           (heap-at made s j h)))
 
   -- one object more
   pub heap-new : (made : ℕ) (s s′ : List ℕ) → length s′ ≡ length s
-      → ((i : ℕ) → i < made → length (W .fields (getD s (i * 18) 0)) ≤ 17)
-      → ((x : ℕ) → x < made * 18 → getD s′ x 0 ≡ getD s x 0)
-      → heap-of-numbers W (suc made) s′ ≡ heap-of-numbers W made s ++ (object-at s′ (made * 18) ∷ [])
+      → ((i : ℕ) → i < made → length (W .fields (getD s (i * object-width) 0)) ≤ 17)
+      → ((x : ℕ) → x < made * object-width → getD s′ x 0 ≡ getD s x 0)
+      → heap-of-numbers W (suc made) s′ ≡ heap-of-numbers W made s
+      ++ (object-at s′ (made * object-width) ∷ [])
   heap-new made s s′ e few same =
-      nth-ext (heap-of-numbers W (suc made) s′) (heap-of-numbers W made s ++ (object-at s′ (made * 18) ∷ []))
+      nth-ext (heap-of-numbers W (suc made) s′)
+      (heap-of-numbers W made s ++ (object-at s′ (made * object-width) ∷ []))
       (heap-length (suc made) s′
-      ∙ sym (length-append (heap-of-numbers W made s) (object-at s′ (made * 18) ∷ [])
+      ∙ sym (length-append (heap-of-numbers W made s) (object-at s′ (made * object-width) ∷ [])
       ∙ (ap (λ (n : ℕ). n + 1) (heap-length made s) ∙ omega arith)))
       (λ i k. let l : i < suc made = omega (arith, heap-length (suc made) s′) in go i l (lt-or i made))
     where
       go : (i : ℕ) → i < suc made → (i < made) ⊎ (made ≤ i)
           → nth (heap-of-numbers W (suc made) s′) i
-          ≡ nth (heap-of-numbers W made s ++ (object-at s′ (made * 18) ∷ [])) i
+          ≡ nth (heap-of-numbers W made s ++ (object-at s′ (made * object-width) ∷ [])) i
       go i l (inl p) =
           heap-at (suc made) s′ i l
-          ∙ (ap some (sym (object-ext s s′ (i * 18) (sym e) (few i p)
-          (λ x k. sym (same (i * 18 + x) (omega arith)))))
-          ∙ sym (nth-append (heap-of-numbers W made s) (object-at s′ (made * 18) ∷ []) i
-          (object-at s (i * 18)) (heap-at made s i p)))
+          ∙ (ap some (sym (object-ext s s′ (i * object-width) (sym e) (few i p)
+          (λ x k. sym (same (i * object-width + x) (omega arith)))))
+          ∙ sym (nth-append (heap-of-numbers W made s) (object-at s′ (made * object-width) ∷ []) i
+          (object-at s (i * object-width)) (heap-at made s i p)))
       go i l (inr p) =
           let z : i ≡ made = omega arith in
-          let last : nth (heap-of-numbers W made s ++ (object-at s′ (made * 18) ∷ []))
-          (length (heap-of-numbers W made s)) ≡ some (object-at s′ (made * 18)) =
-          nth-last (heap-of-numbers W made s) (object-at s′ (made * 18)) in
+          let last : nth (heap-of-numbers W made s ++ (object-at s′ (made * object-width) ∷ []))
+          (length (heap-of-numbers W made s)) ≡ some (object-at s′ (made * object-width)) =
+          nth-last (heap-of-numbers W made s) (object-at s′ (made * object-width)) in
           rw z (heap-at (suc made) s′ made (omega arith) ∙ sym (rw (heap-length made s) at last))

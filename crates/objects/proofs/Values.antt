@@ -1,4 +1,5 @@
 -- Laws of values and their numbers, of what outcomes mean, and of numbers written one after the other. Assumes nothing.
+use Rattle.language.specs.Limits.{object-width}
 use mathlib.Core.Path.{_≡_, refl, sym, ap, _∙_}
 use mathlib.Core.Bool.{Bool, true, false, cond}
 use lib.Dec.{eqb, leb, ltb}
@@ -127,24 +128,24 @@ reached-null made null e = refl
 reached-null made (truth b) e = let z : _≡_ {A = ℕ} 0 1 = cc in absurd (omega arith)
 reached-null made (object j) e = absurd (go (ltb j made) e)
   where
-    go : (t : Bool) → cond t (At (j * 18)) Nothing ≡ ReachedNull → ⊥
+    go : (t : Bool) → cond t (At (j * object-width)) Nothing ≡ ReachedNull → ⊥
     go true e = let z : _≡_ {A = ℕ} 0 1 = cc in omega arith
     go false e = let z : _≡_ {A = ℕ} 0 1 = cc in omega arith
 
 pub reached-at : (made : ℕ) (m : Meaning) (o : ℕ) → reached made m ≡ At o
-    → (j : ℕ) × (m ≡ object j) × (j < made) × (o ≡ j * 18)
+    → (j : ℕ) × (m ≡ object j) × (j < made) × (o ≡ j * object-width)
 reached-at made null o e = let z : _≡_ {A = ℕ} 0 1 = cc in absurd (omega arith)
 reached-at made (truth b) o e = let z : _≡_ {A = ℕ} 0 1 = cc in absurd (omega arith)
 reached-at made (object j) o e = go (ltb j made) refl e
   where
-    go : (t : Bool) → ltb j made ≡ t → cond t (At (j * 18)) Nothing ≡ At o
-        → (i : ℕ) × (object j ≡ object i) × (i < made) × (o ≡ i * 18)
-    go true q e = let z : j * 18 ≡ o = cc in (j, refl, ltb-true j made q, sym z)
+    go : (t : Bool) → ltb j made ≡ t → cond t (At (j * object-width)) Nothing ≡ At o
+        → (i : ℕ) × (object j ≡ object i) × (i < made) × (o ≡ i * object-width)
+    go true q e = let z : j * object-width ≡ o = cc in (j, refl, ltb-true j made q, sym z)
     go false q e = let z : _≡_ {A = ℕ} 0 1 = cc in absurd (omega arith)
 
 -- the index of an object that is there
 pub reached-object : {made j : ℕ} (m : Meaning) → case-of m ≡ Object j → j ≤ made
-    → (1 ≤ j) × (At ((j - 1) * 18) ≡ reached made m)
+    → (1 ≤ j) × (At ((j - 1) * object-width) ≡ reached made m)
 reached-object {made} {j} m e h =
     let x = case-object m e in
     let z : j - 1 ≡ x .0 = omega (arith, x .2) in
@@ -192,7 +193,8 @@ reached-nothing made null e = let z : _≡_ {A = ℕ} 0 1 = cc in absurd (omega 
 reached-nothing made (truth b) e = is-truth
 reached-nothing made (object j) e = go (ltb j made) refl e
   where
-    go : (t : Bool) → ltb j made ≡ t → cond t (At (j * 18)) Nothing ≡ Nothing → NoObject made (object j)
+    go : (t : Bool) → ltb j made ≡ t → cond t (At (j * object-width)) Nothing ≡ Nothing
+        → NoObject made (object j)
     go true q e = let z : _≡_ {A = ℕ} 0 1 = cc in absurd (omega arith)
     go false q e = is-past (ltb-false j made q)
 

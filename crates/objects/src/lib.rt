@@ -3,7 +3,6 @@
 // made and changes of class are a tally of three numbers. An outcome is one word too, so that it passes in a register: that
 // of a value, or from STUCK on why there is none (specs/Values.antt).
 use language::BODY_PLACE;
-use language::BOOL;
 use language::CLASS_WIDTH;
 use language::COUNT_PLACE;
 use language::DEEP_STOP;
@@ -17,6 +16,7 @@ use language::PARAMETERS_PLACE;
 use language::ROOT_PLACE;
 use language::ROWS_PLACE;
 use language::SPENT_STOP;
+use language::Type;
 use language::class_entry;
 use language::letter_at;
 ghost use mathlib.Core.Path.{_≡_};
@@ -187,7 +187,7 @@ fn reach(w: u64, made: u32) -> Reached
 pub fn first_value(t: u32) -> u64
     ensures { λ r. ⌜ r ≡ word (first-value-of t) ⌝ }
 {
-    if t == BOOL { FALSE } else { NULL }
+    if t == Type::BOOL { FALSE } else { NULL }
 }
 
 // The word of the first value of field i of class c.

@@ -9,25 +9,27 @@ use lib.ListN.{length, getD, length-append}
 use Rattle.language.specs.Rows.{Letter, code, T-true, L-false, N-null, I-slot, Z-is-null, G-get, K-cast}
 use Rattle.language.specs.Rows.{W-new, R-change, A-assign, U-set, Q-call, J-choose, B-block}
 use Rattle.language.specs.Tree.{Expr, literal, literal-true, literal-false, literal-null, slot, is-null, get}
-use Rattle.language.specs.Tree.{cast}
-use Rattle.language.specs.Tree.{new, change, assign, set, call, choose, block, size, Field, Class}
+use Rattle.language.specs.Tree.{cast, new, change, assign, set, call, choose, block, size, Field, Class}
 use Rattle.language.specs.Program.{world}
 use Rattle.language.specs.Environment.{Environment}
 use Rattle.language.specs.Translation.{Shape, plain-slot, translate}
 use Rattle.language.proofs.Nodes.{letter-of, EachTree, head, by-row}
-use Rattle.plain.specs.Numbers.{most-numbers, node-numbers, how-many, rows-taken, slot-lines, new-lines}
-use Rattle.plain.specs.Numbers.{change-lines, renew-lines, renew-head, copy-lines, head-length}
-use Rattle.plain.specs.Emission.{Written, Emitted, SomeChange, ChangeWritten, SomeNode, SomeCast}
-use Rattle.plain.specs.Emission.{SomeSet, SomeCall, SomeBlock, SomeNodes, NodeEmitted, CastEmitted}
-use Rattle.plain.specs.Emission.{SetEmitted, CallEmitted, BlockEmitted, NodesEmitted}
+use Rattle.emitters.specs.Lines.{most-numbers, slot-lines, new-lines, change-lines, renew-lines, renew-head}
+use Rattle.emitters.specs.Lines.{copy-lines, head-length}
+use Rattle.plain.specs.Numbers.{node-numbers, how-many, rows-taken}
+use Rattle.emitters.specs.Writing.{Written, SomeChange, ChangeWritten}
+use Rattle.plain.specs.Emission.{Emitted, SomeNode, SomeCast, SomeSet, SomeCall, SomeBlock, SomeNodes}
+use Rattle.plain.specs.Emission.{NodeEmitted, CastEmitted, SetEmitted, CallEmitted, BlockEmitted}
+use Rattle.plain.specs.Emission.{NodesEmitted}
 use Rattle.plain.specs.Tasks.{NodeTask}
-use Rattle.plain.proofs.Writing.{written-then, whole}
+use Rattle.emitters.proofs.Writing.{written-then}
+use Rattle.plain.proofs.Emission.{whole}
 use Rattle.plain.proofs.Numbers.{n-true, n-false, n-null}
 use Rattle.plain.proofs.Translated.{t-slot, t-is-null, t-assign, t-get, t-new, t-choose, t-change}
 use Rattle.plain.proofs.Tasks.{node-row, slot-slot, new-class, change-slot, is-null-child, assign-slot}
 use Rattle.plain.proofs.Tasks.{assign-child, get-name, get-child, choose-nodes, choose-room}
 use Rattle.plain.proofs.Shapes.{slot-at}
-use Rattle.plain.proofs.Lines.{copies-length}
+use Rattle.emitters.proofs.Lines.{copies-length}
 
 -- none of the other letters: a block
 rest-block : (e : Expr) → (n : ℕ) → n ≡ code (letter-of e) → n ≢ 84 → n ≢ 76 → n ≢ 78 → n ≢ 73

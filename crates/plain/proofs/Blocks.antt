@@ -14,15 +14,17 @@ use Rattle.language.specs.Encoded.{TypesAt, Encoded}
 use Rattle.language.specs.Environment.{Environment, fresh-slot}
 use Rattle.language.specs.Translation.{Shape, variables}
 use Rattle.language.specs.LookupClasses.{LooksUp}
-use Rattle.plain.specs.Numbers.{most-numbers, nodes-numbers, type-lines, nodes-of}
-use Rattle.plain.specs.Emission.{Written, Extended, SomeTypes, TypesWritten, SomeBlock, SomeNodes}
-use Rattle.plain.specs.Emission.{BlockEmitted, NodesEmitted}
+use Rattle.emitters.specs.Lines.{most-numbers, type-lines}
+use Rattle.plain.specs.Numbers.{nodes-numbers, nodes-of}
+use Rattle.emitters.specs.Writing.{Written, Extended, SomeTypes, TypesWritten}
+use Rattle.plain.specs.Emission.{SomeBlock, SomeNodes, BlockEmitted, NodesEmitted}
 use Rattle.plain.specs.Tasks.{NodeTask, NodesTask}
-use Rattle.plain.proofs.Writing.{written-then, whole}
+use Rattle.emitters.proofs.Writing.{written-then}
+use Rattle.plain.proofs.Emission.{whole}
 use Rattle.plain.proofs.Translated.{t-block}
 use Rattle.plain.proofs.Tasks.{node-row, node-parts}
 use Rattle.plain.proofs.Shapes.{setting-locals}
-use Rattle.plain.proofs.Lines.{types-length}
+use Rattle.emitters.proofs.Lines.{types-length}
 use Rattle.plain.proofs.Nodes.{encoded-nodes, looks-nodes, nodes-counted, nodes-sizes}
 
 module _ {P : List Class} {E : List ℕ} {γ : Environment} {sh : Shape} {R T M C S : List ℕ}

@@ -9,7 +9,8 @@ use Rattle.language.specs.Environment.{Environment}
 use Rattle.language.specs.Translation.{plain-slot, variables}
 use Rattle.theory.proofs.translation.PlainForm.{variable-count}
 use Rattle.plain.specs.Tasks.{Setting, NodeTask, BodyTask}
-use Rattle.plain.specs.Emission.{Extended, SomeNode, NodeEmitted, SomeBody, BodyEmitted}
+use Rattle.emitters.specs.Writing.{Extended}
+use Rattle.plain.specs.Emission.{SomeNode, NodeEmitted, SomeBody, BodyEmitted}
 use Rattle.plain.proofs.Shapes.{setting-locals}
 
 -- no slot but `this`

@@ -22,16 +22,17 @@ use Rattle.language.specs.MethodTables.{placed-methods}
 use Rattle.language.proofs.Methods.{method-found}
 use Rattle.layout.specs.HeldLaws.{method-at}
 use Rattle.theory.proofs.translation.PlainForm.{variable-count, count-temporaries}
-use Rattle.plain.specs.Numbers.{most-numbers, arguments-numbers, type-lines, read-lines}
-use Rattle.plain.specs.Numbers.{Nodes, also, nodes-of, how-many, rows-taken}
-use Rattle.plain.specs.Emission.{Written, SomeTypes, TypesWritten, SomeCall, SomeArguments, CallEmitted}
-use Rattle.plain.specs.Emission.{ArgumentsEmitted}
+use Rattle.emitters.specs.Lines.{most-numbers, type-lines, read-lines}
+use Rattle.plain.specs.Numbers.{arguments-numbers, Nodes, also, nodes-of, how-many, rows-taken}
+use Rattle.emitters.specs.Writing.{Written, SomeTypes, TypesWritten}
+use Rattle.plain.specs.Emission.{SomeCall, SomeArguments, CallEmitted, ArgumentsEmitted}
 use Rattle.plain.specs.Tasks.{NodeTask, NodesTask, EachNode}
-use Rattle.plain.proofs.Writing.{written-then, whole}
+use Rattle.emitters.proofs.Writing.{written-then}
+use Rattle.plain.proofs.Emission.{whole}
 use Rattle.plain.proofs.Translated.{t-call}
 use Rattle.plain.proofs.Tasks.{node-row, node-parts}
 use Rattle.plain.proofs.Shapes.{setting-temporaries}
-use Rattle.plain.proofs.Lines.{types-length, reads-length}
+use Rattle.emitters.proofs.Lines.{types-length, reads-length}
 use Rattle.plain.proofs.Nodes.{encoded-nodes, looks-nodes, nodes-counted, nodes-sizes}
 
 module _ {P : List Class} {E : List ℕ} {γ : Environment} {sh : Shape} {R T M C S : List ℕ}

@@ -9,14 +9,16 @@ use Rattle.language.specs.Tree.{Class, class-lines, classes-lines}
 use Rattle.language.specs.World.{World}
 use Rattle.language.specs.Program.{world}
 use Rattle.language.specs.Layout.{EachClass, Run, methods-from-row}
-use Rattle.plain.specs.Numbers.{most-numbers, field-lines, methods-numbers, class-numbers}
-use Rattle.plain.specs.Numbers.{classes-numbers}
-use Rattle.plain.specs.Emission.{Written, Emitted, SomeFieldLines, FieldsWritten, SomeMethods}
-use Rattle.plain.specs.Emission.{SomeClass, SomeClasses, MethodsEmitted, ClassEmitted, ClassesEmitted}
+use Rattle.emitters.specs.Lines.{most-numbers, field-lines}
+use Rattle.plain.specs.Numbers.{methods-numbers, class-numbers, classes-numbers}
+use Rattle.emitters.specs.Writing.{Written, SomeFieldLines, FieldsWritten}
+use Rattle.plain.specs.Emission.{Emitted, SomeMethods, SomeClass, SomeClasses, MethodsEmitted}
+use Rattle.plain.specs.Emission.{ClassEmitted, ClassesEmitted}
 use Rattle.plain.specs.Tasks.{MethodsTask, ClassTask, ClassesTask}
-use Rattle.plain.proofs.Writing.{written-none, written-then, whole}
-use Rattle.plain.proofs.Lines.{fields-length}
-use Rattle.plain.proofs.Standing as standing
+use Rattle.emitters.proofs.Writing.{written-none, written-then}
+use Rattle.plain.proofs.Emission.{whole}
+use Rattle.emitters.proofs.Lines.{fields-length}
+use Rattle.limits.proofs.Standing as standing
 
 class-length : (W : World) (k : ℕ) (c : Class)
     → length (class-numbers W k c) ≡ 4 + 4 * length (c .fields) + length (methods-numbers W k (c .methods))

@@ -16,18 +16,19 @@ use Rattle.language.specs.Environment.{method-environment}
 use Rattle.language.specs.Limits.{Most}
 use Rattle.language.specs.WellFormed.{TypeInForm, Each, each-nil, each-cons, MethodInForm}
 use Rattle.language.specs.Layout.{EachMethod, Run, body-row}
-use Rattle.plain.specs.Numbers.{most-numbers, plain-number, type-lines, lines-of}
-use Rattle.plain.specs.Numbers.{tree-numbers, method-numbers, node-numbers, methods-numbers}
-use Rattle.plain.specs.Emission.{Written, TypesWritten, SomeTypes, SomeBody, BodyEmitted, SomeMethod}
-use Rattle.plain.specs.Emission.{MethodEmitted, Emitted, SomeMethods, MethodsEmitted}
+use Rattle.emitters.specs.Lines.{most-numbers, plain-number, type-lines}
+use Rattle.plain.specs.Numbers.{lines-of, tree-numbers, method-numbers, node-numbers, methods-numbers}
+use Rattle.emitters.specs.Writing.{Written, TypesWritten, SomeTypes}
+use Rattle.plain.specs.Emission.{SomeBody, BodyEmitted, SomeMethod, MethodEmitted, Emitted, SomeMethods}
+use Rattle.plain.specs.Emission.{MethodsEmitted}
 use Rattle.plain.specs.Tasks.{MethodTask, MethodsTask}
 use Rattle.layout.specs.Walks.{MethodStanding}
 use Rattle.layout.proofs.Walks.{parameters-count, effects-count}
-use Rattle.plain.proofs.Writing.{written-none, written-then, whole}
+use Rattle.emitters.proofs.Writing.{written-none, written-then}
+use Rattle.plain.proofs.Emission.{whole}
 use Rattle.plain.proofs.Numbers.{lines-append, plain-told}
-use Rattle.plain.proofs.Lines.{types-length}
-use Rattle.plain.proofs.Standing.{each-head, lines-positive, no-method, stand-rest, stand-known}
-use Rattle.plain.proofs.Standing.{stand-here}
+use Rattle.emitters.proofs.Lines.{types-length}
+use Rattle.limits.proofs.Standing.{each-head, lines-positive, no-method, stand-rest, stand-known, stand-here}
 
 module _ {R T M C : List ℕ} {at body place count : ℕ} where
   pub method-known : SomeMethod R T M C at body place count

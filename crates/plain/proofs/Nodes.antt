@@ -16,12 +16,15 @@ use Rattle.language.specs.World.{World}
 use Rattle.language.specs.Encoded.{Encoded, EncodedAll}
 use Rattle.language.specs.LookupClasses.{LooksUp, LooksUpAll}
 use Rattle.language.proofs.Tables.{size-positive}
-use Rattle.plain.specs.Numbers.{most-numbers, node-numbers, nodes-numbers, arguments-numbers, Nodes}
-use Rattle.plain.specs.Numbers.{none, also, how-many, rows-taken, nodes-of}
-use Rattle.plain.specs.Emission.{Written, Emitted, SomeNode, SomeNodes, SomeArguments, NodeEmitted}
-use Rattle.plain.specs.Emission.{NodesEmitted, ArgumentsEmitted}
+use Rattle.emitters.specs.Lines.{most-numbers}
+use Rattle.plain.specs.Numbers.{node-numbers, nodes-numbers, arguments-numbers, Nodes, none, also}
+use Rattle.plain.specs.Numbers.{how-many, rows-taken, nodes-of}
+use Rattle.emitters.specs.Writing.{Written}
+use Rattle.plain.specs.Emission.{Emitted, SomeNode, SomeNodes, SomeArguments, NodeEmitted, NodesEmitted}
+use Rattle.plain.specs.Emission.{ArgumentsEmitted}
 use Rattle.plain.specs.Tasks.{NodeTask, NodesTask, EachNode}
-use Rattle.plain.proofs.Writing.{written-none, written-then, whole}
+use Rattle.emitters.proofs.Writing.{written-none, written-then}
+use Rattle.plain.proofs.Emission.{whole}
 use Rattle.plain.proofs.Tasks.{node-row}
 
 -- the nodes of a block or of a call's arguments

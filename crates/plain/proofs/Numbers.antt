@@ -10,14 +10,12 @@ use lib.ListN.{length}
 use Rattle.language.specs.Limits.{bool-number, identity-class}
 use Rattle.language.specs.Rows.{Record, written, V-local, numbers-of}
 use Rattle.language.specs.Tree.{DeclaredType, bool, class, type-number, Expr, literal, literal-true}
-use Rattle.language.specs.Tree.{literal-false}
-use Rattle.language.specs.Tree.{literal-null}
-use Rattle.language.specs.Tree.{slot, is-null, get, cast, new, assign, set, call, choose, block, Exprs, nil}
-use Rattle.language.specs.Tree.{cons, count, Field, flatten, flattens}
+use Rattle.language.specs.Tree.{literal-false, literal-null, slot, is-null, get, cast, new, assign, set, call}
+use Rattle.language.specs.Tree.{choose, block, Exprs, nil, cons, count, Field, flatten, flattens}
 use Rattle.language.specs.WellFormed.{TypeInForm, Each, each-nil, each-cons}
 use Rattle.language.specs.Translation.{plain-type, copies, reads}
-use Rattle.plain.specs.Numbers.{lines-of, tree-numbers, trees-numbers, local-lines, copy-lines}
-use Rattle.plain.specs.Numbers.{type-lines, read-lines, plain-number}
+use Rattle.plain.specs.Numbers.{lines-of, tree-numbers, trees-numbers, local-lines}
+use Rattle.emitters.specs.Lines.{copy-lines, type-lines, read-lines, plain-number}
 
 -- The number of a type that rows can hold tells its plain type: no class has the number of bool.
 pub plain-told : (t : DeclaredType) → TypeInForm t → plain-number (type-number t) ≡ type-number (plain-type t)

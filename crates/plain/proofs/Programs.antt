@@ -7,21 +7,22 @@ use native.Mathlib.Omega.{arith}
 use lib.ListN.{length, length-append, length-map}
 use Rattle.language.specs.Limits.{of-check}
 use Rattle.language.specs.Rows.{Letter, code, Record, written, row-of, numbers-of, C-class, F-field, S-start}
-use Rattle.language.specs.Tree.{type-number, Field, Declaration, Class, Program}
-use Rattle.language.specs.Tree.{classes-lines, flatten, flatten-methods, flatten-classes, flatten-program}
+use Rattle.language.specs.Tree.{type-number, Field, Declaration, Class, Program, classes-lines, flatten}
+use Rattle.language.specs.Tree.{flatten-methods, flatten-classes, flatten-program}
 use Rattle.language.specs.World.{World}
 use Rattle.language.specs.Program.{world}
 use Rattle.language.specs.Environment.{start-environment}
 use Rattle.language.specs.WellFormed.{TypeInForm, Each, each-nil, each-cons, FieldInForm, MethodInForm}
 use Rattle.language.specs.WellFormed.{ClassInForm, ProgramInForm}
 use Rattle.language.specs.Translation.{plain-field, plain-method, plain-classes, plain-program, translate}
-use Rattle.plain.specs.Numbers.{most-numbers, lines-of, tree-numbers, field-lines}
-use Rattle.plain.specs.Numbers.{node-numbers, method-numbers, methods-numbers, class-numbers}
-use Rattle.plain.specs.Numbers.{classes-numbers, program-numbers}
-use Rattle.plain.specs.Tasks.{Lent, BodyTask, ClassesTask, ProgramTask}
-use Rattle.plain.specs.Emission.{Written, SomeBody, BodyEmitted, SomeClasses, ClassesEmitted}
-use Rattle.plain.specs.Emission.{SomeProgram, ProgramWritten}
-use Rattle.plain.proofs.Writing.{written-then, written-as}
+use Rattle.emitters.specs.Lines.{most-numbers, field-lines}
+use Rattle.plain.specs.Numbers.{lines-of, tree-numbers, node-numbers, method-numbers, methods-numbers}
+use Rattle.plain.specs.Numbers.{class-numbers, classes-numbers, program-numbers}
+use Rattle.emitters.specs.Writing.{Lent, Written}
+use Rattle.plain.specs.Tasks.{BodyTask, ClassesTask, ProgramTask}
+use Rattle.plain.specs.Emission.{SomeBody, BodyEmitted, SomeClasses, ClassesEmitted, SomeProgram}
+use Rattle.plain.specs.Emission.{ProgramWritten}
+use Rattle.emitters.proofs.Writing.{written-then, written-as}
 use Rattle.theory.proofs.acceptance.Acceptance.{numbers-count}
 use Rattle.theory.proofs.lookups.LookupLaws.{hierarchy}
 use Rattle.theory.proofs.acceptance.Translatable.{TranslatableRows, taken-laws}
@@ -30,7 +31,7 @@ use Rattle.theory.proofs.translation.PlainSizes.{program-size}
 use Rattle.layout.specs.HeldLaws.{well, start-typed}
 use Rattle.plain.proofs.Numbers.{lines-append, plain-told}
 use Rattle.plain.proofs.Typed.{typed-body, classes-ready}
-use Rattle.plain.proofs.Standing.{all-stand}
+use Rattle.limits.proofs.Standing.{all-stand}
 use Rattle.plain.proofs.Methods.{plain-methods}
 
 -- the numbers of plain fields, methods and classes are those that are emitted

@@ -19,15 +19,17 @@ use Rattle.language.specs.Translation.{Shape, plain-type, typed-or, class-or, t
 use Rattle.language.specs.LookupClasses.{LooksUp}
 use Rattle.language.proofs.Lines.{line-at}
 use Rattle.theory.proofs.translation.PlainForm.{variable-count}
-use Rattle.plain.specs.Numbers.{most-numbers, arguments-numbers, plain-number, Nodes, none}
-use Rattle.plain.specs.Numbers.{also, how-many, rows-taken}
-use Rattle.plain.specs.Emission.{Written, SomeSet, SomeArguments, SetEmitted, ArgumentsEmitted}
+use Rattle.emitters.specs.Lines.{most-numbers, plain-number}
+use Rattle.plain.specs.Numbers.{arguments-numbers, Nodes, none, also, how-many, rows-taken}
+use Rattle.emitters.specs.Writing.{Written}
+use Rattle.plain.specs.Emission.{SomeSet, SomeArguments, SetEmitted, ArgumentsEmitted}
 use Rattle.plain.specs.Tasks.{NodeTask, NodesTask, EachNode}
-use Rattle.plain.proofs.Writing.{written-then, whole}
+use Rattle.emitters.proofs.Writing.{written-then}
+use Rattle.plain.proofs.Emission.{whole}
 use Rattle.plain.proofs.Translated.{t-set}
 use Rattle.plain.proofs.Tasks.{node-row, node-parts}
 use Rattle.plain.proofs.Numbers.{plain-told}
-use Rattle.plain.proofs.Tabled.{fields-tabled}
+use Rattle.emitters.proofs.Tabled.{fields-tabled}
 use Rattle.plain.proofs.Shapes.{setting-temporaries}
 
 module _ {P : List Class} {E : List ℕ} {γ : Environment} {sh : Shape} {R T M C S : List ℕ}

@@ -6,15 +6,13 @@ use mathlib.Core.Logic.{_⊎_, inl, inr}
 use mathlib.Core.List.{List, [], _∷_, _++_}
 use Prim.Native.Nat.{ℕ, zero, suc, _+_, _-_, _≤_, _<_}
 use native.Mathlib.Omega.{arith}
-use lib.ListN.{length, getD, length-append, length-map, set, length-set}
-use native.Mathlib.Nat.{eq-or-lt-of-le}
-use lib.Seq.{getD-set-same, getD-set-other}
+use lib.ListN.{length, getD, length-append, length-map}
 use Rattle.language.specs.Tree.{DeclaredType, Class}
 use Rattle.language.specs.Translation.{Shape, position, plain-slot, variables}
 use Rattle.language.proofs.Lines.{le-or-less}
 use Rattle.theory.proofs.translation.PlainForm.{variable-count, count-append, count-variables}
 use Rattle.plain.specs.Tasks.{Setting}
-use Rattle.plain.specs.Emission.{Extended}
+use Rattle.emitters.specs.Writing.{Extended}
 
 position-kept : (a b : Shape) (k : ℕ) → k < variable-count a → position (a ++ b) k ≡ position a k
 unfolding position variable-count
@@ -89,25 +87,3 @@ module _ {P : List Class} {E R T M C S : List ℕ} {sh : Shape} {vars next : ℕ
 pub slot-at : {P : List Class} {E R T M C S : List ℕ} {sh : Shape} {vars next j k : ℕ}
     → Setting P E R T M C S sh vars next → j ≡ k → k < vars → getD S j 0 ≡ plain-slot sh k
 slot-at x e h = rw e (x .renumbered _ h)
-
--- slots of a block's locals, the first i of them added
-pub extended-start : {S : List ℕ} {vars next : ℕ} → length S ≡ 32 → Extended S S vars next 0
-extended-start e = record { kept = λ k h. refl; added = λ i h. absurd (omega (arith, h)); wide = e }
-
-pub extended-step : {S S′ : List ℕ} {vars next i : ℕ} → Extended S S′ vars next i → vars + i < 32
-    → Extended S (set S′ (vars + i) (next + i)) vars next (i + 1)
-extended-step {S} {S′} {vars} {next} {i} x h = record {
-  kept = λ k l. getD-set-other S′ (vars + i) k (next + i) 0 (omega (arith, l)) ∙ x .kept k l;
-  added = λ j l. go j l;
-  wide = simp length-set (x .wide);
-}
-  where
-    go : (j : ℕ) → j < i + 1 → getD (set S′ (vars + i) (next + i)) (vars + j) 0 ≡ next + j
-    go j l = elim (let z : j ≤ i = omega (arith, l) in eq-or-lt-of-le z) [
-      | inl e ↦ rw e (getD-set-same S′ (vars + i) (next + i) 0 (omega (arith, h, x .wide)))
-      | inr n ↦ getD-set-other S′ (vars + i) (vars + j) (next + i) 0 (omega (arith, n)) ∙ x .added j n
-    ]
-
-pub extended-end : {S S′ : List ℕ} {vars next i count : ℕ} → Extended S S′ vars next i → i ≡ count
-    → Extended S S′ vars next count
-extended-end x e = rw e at x

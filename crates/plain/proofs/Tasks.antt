@@ -16,10 +16,13 @@ use Rattle.language.specs.Translation.{Shape, typed-or, class-or}
 use Rattle.language.specs.LookupClasses.{LooksUp}
 use Rattle.language.proofs.Nodes.{head}
 use Rattle.theory.proofs.translation.PlainForm.{variable-count}
-use Rattle.plain.specs.Numbers.{most-numbers, node-numbers, nodes-numbers, none, also}
-use Rattle.plain.specs.Emission.{Written, Emitted, NodeEmitted}
+use Rattle.emitters.specs.Lines.{most-numbers}
+use Rattle.plain.specs.Numbers.{node-numbers, nodes-numbers, none, also}
+use Rattle.emitters.specs.Writing.{Written}
+use Rattle.plain.specs.Emission.{Emitted, NodeEmitted}
 use Rattle.plain.specs.Tasks.{NodeTask, NodesTask, EachNode}
-use Rattle.plain.proofs.Writing.{written-then, whole}
+use Rattle.emitters.proofs.Writing.{written-then}
+use Rattle.plain.proofs.Emission.{whole}
 use Rattle.plain.proofs.Translated.{t-is-null, t-assign, t-get, t-cast, t-choose}
 use Rattle.plain.proofs.Typed.{TypedParts, typed-parts}
 use Rattle.plain.proofs.Shapes.{setting-temporaries}

@@ -9,6 +9,7 @@ use native.Mathlib.Numerals.{add-one}
 use Rattle.language.specs.Limits.{identity-class, id-field, imp-field}
 use Rattle.language.specs.Tree.{DeclaredType, class, type-number, Expr, literal-null, slot, is-null, get}
 use Rattle.language.specs.Tree.{cast, new, change, assign, set, call, choose, block, Exprs, nil, cons, count}
+use Rattle.language.specs.Tree.{literal}
 use Rattle.language.specs.World.{World, field-type}
 use Rattle.language.specs.Effects.{apply-class}
 use Rattle.language.specs.Frames.{opened}
@@ -20,13 +21,12 @@ use Rattle.language.specs.Translation.{copies, renew, reads, variables, typed-o
 use Rattle.language.specs.Translation.{type-or, parameters-or, temporaries}
 use Rattle.theory.proofs.translation.PlainForm.{count-copies, count-reads}
 use Rattle.plain.specs.Numbers.{none, also, nodes-of, nodes-numbers, arguments-numbers, tree-numbers}
-use Rattle.plain.specs.Numbers.{trees-numbers, node-numbers, slot-lines, new-lines, renew-lines}
+use Rattle.plain.specs.Numbers.{trees-numbers, node-numbers}
+use Rattle.emitters.specs.Lines.{slot-lines, new-lines, renew-lines, change-lines, type-lines, read-lines}
 use Rattle.language.specs.WellFormed.{Each, TypeInForm}
-use Rattle.plain.specs.Numbers.{change-lines, type-lines, read-lines}
 use Rattle.plain.proofs.Numbers.{n-null, n-slot, n-is-null, n-get, n-cast, n-new, n-assign, n-set}
 use Rattle.plain.proofs.Numbers.{n-call, n-choose, n-block, n-nil, n-cons, n-locals-none, n-locals}
 use Rattle.plain.proofs.Numbers.{n-types, two, n-one, n-copies, n-reads}
-use Rattle.language.specs.Tree.{literal}
 
 module _ (W : World) (γ : Environment) (sh : Shape) where
   pub t-slot : (k : ℕ) → node-numbers W (slot k) γ sh ≡ slot-lines (plain-slot sh k)

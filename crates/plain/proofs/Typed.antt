@@ -10,9 +10,9 @@ use lib.ListN.{length, length-append, length-map}
 use Rattle.language.specs.Limits.{of-translator, largest}
 use Rattle.language.specs.Lists.{nth, bind-option-inv, nth-lt}
 use Rattle.language.specs.Frames.{at-slot, opened}
-use Rattle.language.specs.Tree.{DeclaredType, ExprType, Expr, literal, slot}
-use Rattle.language.specs.Tree.{is-null, get, cast, new, change, assign, set, call, choose, block, Exprs, nil}
-use Rattle.language.specs.Tree.{cons, count, size, Field, Declaration, Class}
+use Rattle.language.specs.Tree.{DeclaredType, ExprType, Expr, literal, slot, is-null, get, cast, new, change}
+use Rattle.language.specs.Tree.{assign, set, call, choose, block, Exprs, nil, cons, count, size, Field}
+use Rattle.language.specs.Tree.{Declaration, Class}
 use Rattle.language.specs.World.{Method, World, place, field-type}
 use Rattle.language.specs.Effects.{apply-class}
 use Rattle.language.specs.Program.{world}
@@ -27,16 +27,17 @@ use Rattle.language.specs.WellFormed.{form-change, form-assign, form-set, form-
 use Rattle.language.specs.WellFormed.{form-cons, BodyInForm, form-body, MethodsWell, methods-nil}
 use Rattle.language.specs.WellFormed.{methods-cons, ClassesWell, classes-nil, classes-cons}
 use Rattle.language.proofs.Methods.{method-found}
-use Rattle.theory.specs.ComputedRules.{HasType, HaveTypes, type-literal, type-slot, type-new}
-use Rattle.theory.specs.ComputedRules.{type-cast, type-get, type-set, type-assign, type-is-null, type-call}
-use Rattle.theory.specs.ComputedRules.{type-choose, type-block, type-change, types-nil, types-cons}
+use Rattle.theory.specs.ComputedRules.{HasType, HaveTypes, type-literal, type-slot, type-new, type-cast}
+use Rattle.theory.specs.ComputedRules.{type-get, type-set, type-assign, type-is-null, type-call, type-choose}
+use Rattle.theory.specs.ComputedRules.{type-block, type-change, types-nil, types-cons}
 use Rattle.theory.proofs.typing.TypingRules.{complete, completes, all-fit-length}
 use Rattle.theory.proofs.lookups.Superclasses.{Hierarchy}
 use Rattle.theory.proofs.typing.RulesAgree.{computed}
 use Rattle.theory.proofs.translation.PlainForm.{slots-same}
 use Rattle.layout.specs.HeldLaws.{fields, method-at, in-declared, field-in, method-in}
 use Rattle.plain.specs.Numbers.{nodes-of}
-use Rattle.plain.specs.Tasks.{Lent, TypedIn, EachNode, BodyReady, BodiesReady}
+use Rattle.emitters.specs.Writing.{Lent}
+use Rattle.plain.specs.Tasks.{TypedIn, EachNode, BodyReady, BodiesReady}
 
 -- A slot that is there stands below the number of slots.
 slot-below : (γ : Environment) (k v : ℕ) (s : Slot) → 1 + length (γ .slots) ≡ v → at-slot γ k ≡ some s → k < v

@@ -1,91 +1,26 @@
 -- What each function of the translator has to be given, and what it leaves. The buffer is a list of numbers;
 -- what stands past its end is counted and not written.
 use mathlib.Core.Path.{_≡_}
-use Prim.Native.Nat.{ℕ, _+_, _*_, _≤_, _<_}
+use Prim.Native.Nat.{ℕ, _+_, _≤_}
 use mathlib.Core.List.{List}
-use lib.ListN.{length, getD}
-use lib.Seq.{sets}
-use Rattle.language.specs.Rows.{Letter}
-use Rattle.language.specs.Tree.{DeclaredType, Expr, cast, set, call, block, Exprs, size, Field, Declaration}
-use Rattle.language.specs.Tree.{Class, Program, methods-lines, class-lines, classes-lines}
+use lib.ListN.{length}
+use Rattle.language.specs.Tree.{DeclaredType, Expr, cast, set, call, block, Exprs, size, Declaration, Class}
+use Rattle.language.specs.Tree.{Program, methods-lines, class-lines, classes-lines}
 use Rattle.language.specs.Program.{world}
-use Rattle.language.specs.Encoded.{TypesAt}
 use Rattle.language.specs.Environment.{Environment}
 use Rattle.language.specs.Translation.{Shape, variables}
-use Rattle.language.specs.Layout.{FieldsAt}
-use Rattle.plain.specs.Numbers.{most-numbers, node-numbers, type-lines, field-lines, copy-lines}
-use Rattle.plain.specs.Numbers.{renew-lines, change-lines, head-length, Nodes, how-many, rows-taken}
-use Rattle.plain.specs.Numbers.{nodes-numbers, arguments-numbers, method-numbers, methods-numbers}
-use Rattle.plain.specs.Numbers.{class-numbers, classes-numbers, program-numbers}
-use Rattle.plain.specs.Tasks.{FieldRows, Lent, NodeTask, NodesTask, BodyTask, MethodTask}
-use Rattle.plain.specs.Tasks.{MethodsTask, ClassTask, ClassesTask, ProgramTask}
-use Rattle.language.specs.Limits.{of-translator}
-
--- Numbers written from a place on.
-pub record Written (xs O O′ : List ℕ) (place place′ : ℕ) : Type 0 where
-  pub content : O′ ≡ sets O place xs
-  pub ended : place′ ≡ place + length xs
+use Rattle.emitters.specs.Lines.{most-numbers}
+use Rattle.plain.specs.Numbers.{node-numbers, Nodes, how-many, rows-taken, nodes-numbers}
+use Rattle.plain.specs.Numbers.{arguments-numbers, method-numbers, methods-numbers, class-numbers}
+use Rattle.plain.specs.Numbers.{classes-numbers, program-numbers}
+use Rattle.plain.specs.Tasks.{NodeTask, NodesTask, BodyTask, MethodTask, MethodsTask, ClassTask}
+use Rattle.plain.specs.Tasks.{ClassesTask, ProgramTask}
+use Rattle.emitters.specs.Writing.{Written}
 
 -- Numbers written from a place on, and lines of the source passed.
 pub record Emitted (xs : List ℕ) (lines : ℕ) (O O′ : List ℕ) (place at place′ at′ : ℕ) : Type 0 where
   pub written : Written xs O O′ place place′
   pub passed : at′ ≡ at + lines
-
--- Rows of a letter from one on hold `count` types.
-pub record SomeTypes (R : List ℕ) (at count : ℕ) : Type 0 where
-  pub letter : Letter
-  pub ts : List DeclaredType
-  pub rows : TypesAt letter R ts at
-  pub counted : length ts ≡ count
-
-pub record TypesWritten (R : List ℕ) (at count letter : ℕ) (O O′ : List ℕ) (place place′ : ℕ) : Type 0 where
-  pub each : (l : Letter) (ts : List DeclaredType) → TypesAt l R ts at → length ts ≡ count
-      → Written (type-lines letter ts) O O′ place place′
-
--- So many fields have their rows in the table, from an entry on.
-pub record SomeFields (R T : List ℕ) (from count : ℕ) : Type 0 where
-  pub fs : List Field
-  pub rows : FieldRows R T fs from
-  pub counted : length fs ≡ count
-
--- A declared class, whose fields are copied from `place` on.
-pub record SomeCopies (R T : List ℕ) (place class : ℕ) : Type 0 where
-  pub P : List Class
-  pub E : List ℕ
-  pub M : List ℕ
-  pub C : List ℕ
-  pub lent : Lent P E R T M C
-  pub declared : class ≤ length P
-  pub fits : place + 16 * length (world P .fields class) ≤ most-numbers
-
-pub record CopiesWritten (R T : List ℕ) (from count s : ℕ) (O O′ : List ℕ) (place place′ : ℕ) : Type 0 where
-  pub each : (fs : List Field) → FieldRows R T fs from → length fs ≡ count
-      → Written (copy-lines s fs) O O′ place place′
-
-pub record RenewWritten (R T : List ℕ) (n d class : ℕ) (O O′ : List ℕ) (place place′ : ℕ) : Type 0 where
-  pub each : (w : SomeCopies R T (place + 56) class)
-      → Written (renew-lines n d class (world (w .P) .fields class)) O O′ place place′
-
--- R to a declared class.
-pub record SomeChange (R T : List ℕ) (place s d : ℕ) : Type 0 where
-  pub P : List Class
-  pub E : List ℕ
-  pub M : List ℕ
-  pub C : List ℕ
-  pub lent : Lent P E R T M C
-  pub declared : d ≤ length P
-  pub fits : place + head-length s + 60 + 16 * length (world P .fields (world P .root d)) ≤ most-numbers
-
-pub record ChangeWritten (R T : List ℕ) (s n d : ℕ) (O O′ : List ℕ) (place place′ : ℕ) : Type 0 where
-  pub each : (w : SomeChange R T place s d)
-      → Written (change-lines s n d (world (w .P) .root d) (world (w .P) .fields (world (w .P) .root d)))
-      O O′ place place′
-
--- Source slots of a block's locals added to those in scope.
-pub record Extended (S S′ : List ℕ) (vars next count : ℕ) : Type 0 where
-  pub kept : (k : ℕ) → k < vars → getD S′ k 0 ≡ getD S k 0
-  pub added : (i : ℕ) → i < count → getD S′ (vars + i) 0 ≡ next + i
-  pub wide : length S′ ≡ of-translator .slots
 
 -- There is a task for the node at a row; for its letter; for nodes from a row on.
 pub record SomeNode (R T M C S : List ℕ) (at vars next place : ℕ) : Type 0 where
@@ -221,16 +156,6 @@ pub record MethodEmitted (R T M C O O′ : List ℕ) (at body place count place�
   pub each : (P : List Class) (E : List ℕ) (owner : ℕ) (m : Declaration)
       → MethodTask P E owner m R T M C at body place → length (m .parameters) ≡ count
       → Emitted (method-numbers (world P) owner m) (size (m .body)) O O′ place body place′ at′
-
--- Rows hold `count` fields, and what is written for these.
-pub record SomeFieldLines (R : List ℕ) (at count : ℕ) : Type 0 where
-  pub fs : List Field
-  pub rows : FieldsAt R fs at
-  pub counted : length fs ≡ count
-
-pub record FieldsWritten (R : List ℕ) (at count : ℕ) (O O′ : List ℕ) (place place′ : ℕ) : Type 0 where
-  pub each : (fs : List Field) → FieldsAt R fs at → length fs ≡ count
-      → Written (field-lines fs) O O′ place place′
 
 -- There is a task for methods, for a class, for classes; and what is left of each.
 pub record SomeMethods (R T M C : List ℕ) (at place : ℕ) : Type 0 where

@@ -1,4 +1,4 @@
 pub mod Numbers
 pub mod Tasks
 pub mod Emission
-pub mod Bounds
+pub mod Answers

@@ -4,38 +4,25 @@ use mathlib.Core.Path.{_≡_}
 use Prim.Native.Nat.{ℕ, suc, _+_, _*_, _≤_, _<_}
 use mathlib.Core.List.{List, _∷_}
 use lib.ListN.{length, getD}
-use Rattle.language.specs.Rows.{F-field, M-method, P-parameter, S-start}
-use Rattle.language.specs.Tree.{DeclaredType, type-number, ExprType, Expr, size, Field, Declaration}
-use Rattle.language.specs.Tree.{Class, Program, methods-lines, classes-lines}
+use Rattle.language.specs.Rows.{M-method, P-parameter}
+use Rattle.language.specs.Tree.{DeclaredType, type-number, ExprType, Expr, size, Declaration, Class, Program}
 use Rattle.language.specs.Program.{world}
-use Rattle.language.specs.Encoded.{RowAt, LinesAt, TypesAt, Encoded}
+use Rattle.language.specs.Encoded.{RowAt, TypesAt, Encoded}
 use Rattle.language.specs.Environment.{Environment, method-environment}
 use Rattle.language.specs.Translation.{Shape, plain-slot, variables}
 use Rattle.language.specs.LookupClasses.{LooksUp}
-use Rattle.language.specs.Layout.{EachMethod, EachClass, ClassEnd, MethodAt, ClassAt, body-row}
-use Rattle.language.specs.Layout.{methods-from-row}
-use Rattle.language.specs.WellFormed.{Each, MethodInForm, ClassInForm, NodeInForm}
+use Rattle.language.specs.Layout.{EachMethod, EachClass, body-row, methods-from-row}
+use Rattle.language.specs.WellFormed.{NodeInForm}
 use Rattle.theory.specs.ComputedRules.{HasType}
 use Rattle.theory.proofs.translation.PlainForm.{variable-count}
 use Rattle.theory.proofs.acceptance.Translatable.{TranslatableRows}
 use Rattle.layout.specs.Held.{Held}
-use Rattle.plain.specs.Numbers.{most-numbers, node-numbers, Nodes, methods-numbers}
-use Rattle.plain.specs.Numbers.{class-numbers, classes-numbers, none, also}
-use Rattle.language.specs.Limits.{of-check, of-translator, numbers-a-row}
-
--- The rows and tables that every translation goes by: they hold an accepted program with classes P, and each
--- row has a lookup class.
-pub record Lent (P : List Class) (E R T M C : List ℕ) : Type 0 where
-  pub start : Expr
-  pub A : List ℕ
-  pub F : List ℕ
-  pub held : Held R E T A M F C (record { classes = P; start = start })
-  pub beside : length R ≤ length C * 4
-
--- The table has the rows of fields from an entry on.
-abbrev pub FieldRows : List ℕ → List ℕ → List Field → ℕ → Type 0
-FieldRows R T fs i = LinesAt (λ (f : Field) (i : ℕ).
-    (i < length T) × RowAt R (getD T i 0) F-field (type-number (f .type)) (f .name)) fs i
+use Rattle.emitters.specs.Lines.{most-numbers}
+use Rattle.plain.specs.Numbers.{node-numbers, Nodes, methods-numbers, class-numbers, classes-numbers}
+use Rattle.plain.specs.Numbers.{none, also}
+use Rattle.language.specs.Limits.{of-translator}
+use Rattle.emitters.specs.Writing.{Lent}
+use Rattle.limits.specs.Standing.{MethodsStand, ClassesStand}
 
 -- ---- nodes
 
@@ -102,19 +89,6 @@ pub record MethodTask (P : List Class) (E : List ℕ) (owner : ℕ) (m : Declara
   pub parameters : TypesAt P-parameter R (m .parameters) (at + 1)
   pub task : BodyTask P E (m .body) (method-environment owner (m .parameters)) (m .parameters) R T M C body
       (place + 4 + 4 * length (m .parameters))
-
--- Methods in form that stand in rows from `at` on, and classes; k is the first one's number.
-pub record MethodsStand (R E : List ℕ) (k : ℕ) (ms : List Declaration) (at : ℕ) : Type 0 where
-  pub methods : EachMethod (λ k m r. MethodAt R E m r) ms k at
-  pub after : ClassEnd R (at + methods-lines ms)
-  pub in-form : Each (MethodInForm of-check) ms
-  pub short : length R ≤ numbers-a-row * of-check .rows
-
-pub record ClassesStand (R E : List ℕ) (k : ℕ) (cs : List Class) (at : ℕ) : Type 0 where
-  pub classes : EachClass (ClassAt R E) cs k at
-  pub start : RowAt R (at + classes-lines cs) S-start 0 0
-  pub in-form : Each (ClassInForm of-check) cs
-  pub short : length R ≤ numbers-a-row * of-check .rows
 
 -- The body of class k's method whose M line is row r: its lookup classes, its form and type.
 pub record BodyReady (P : List Class) (C : List ℕ) (k : ℕ) (m : Declaration) (r : ℕ) : Type 0 where

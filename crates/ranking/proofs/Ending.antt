@@ -23,9 +23,9 @@ use Rattle.fleet.specs.declared.Reported.the-variants.{Done, Refused}
 use Rattle.fleet.specs.LineLists.{in-models}
 use Rattle.sums.specs.Window.{in-window}
 use Rattle.sums.proofs.Windows.{all-same}
-use Rattle.scanning.specs.Lines.{all-count, summing, summed}
-use Rattle.scanning.specs.Scanning.{all-models, Fault, no-line, past-sum, Reached, window-sums}
-use Rattle.scanning.proofs.Windows.{summing-before}
+use Rattle.counted.specs.Lines.{all-count, summing, summed}
+use Rattle.counted.specs.Scanning.{all-models, Fault, no-line, past-sum, Reached, window-sums}
+use Rattle.counted.proofs.Windows.{summing-before}
 use Rattle.ranking.specs.declared.Judged.{Judged}
 use Rattle.ranking.specs.Judging.{Measured, Judging}
 use Rattle.ranking.proofs.Measuring.{lines-ranked}

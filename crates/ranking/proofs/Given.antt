@@ -8,6 +8,7 @@ use native.Mathlib.Omega.{arith}
 use lib.Dec.{leb}
 use lib.ListN.{length, getD, take, drop}
 use lib.Seq.{getD-drop}
+use Rattle.language.specs.Limits.{object-width}
 use Rattle.language.specs.Lists.{choice, map-option}
 use Rattle.fleet.specs.Counts.{Counts, run-counts}
 use Rattle.fleet.specs.Ranking.{Counted, report-answer}
@@ -19,8 +20,8 @@ use borrow.Author.Tests.{eq-eqb, ne-eqb}
 use Rattle.ranking.specs.Judging.{Reports}
 use Rattle.fleet.specs.Fleet.{Run, runs-in, runs-of, line-of-counts, lines-of-runs, lines-in, counted-lines}
 use Rattle.fleet.specs.Fleet.{fleet-report, models-report}
-use Rattle.scanning.specs.Lines.{lines-given, width-given}
-use Rattle.scanning.specs.Scanning.{all-models}
+use Rattle.counted.specs.Lines.{lines-given, width-given}
+use Rattle.counted.specs.Scanning.{all-models}
 use Rattle.ranking.proofs.Ending.{Modelled, modelled-nil, modelled-none, modelled-some}
 
 runs-long : (n : ℕ) (ns P S : List ℕ) → length (lines-of-runs (runs-in n ns) P S) ≡ n
@@ -56,7 +57,8 @@ unfolding runs-in lines-of-runs
 modelled-runs zero ns P S h = modelled-nil
 modelled-runs (suc n) ns P S h = go (leb (getD ns 1 0) (length P / 4))
     (run-counts (take (4 * getD ns 1 0) P) S (getD ns 2 0) (getD ns 3 0) (getD ns 4 0))
-    (modelled-runs n (drop 6 ns) (drop (4 * getD ns 1 0) P) (drop (18 * getD ns 2 0) S) (small-drop 6 ns h))
+    (modelled-runs n (drop 6 ns) (drop (4 * getD ns 1 0) P) (drop (object-width * getD ns 2 0) S)
+    (small-drop 6 ns h))
   where
     line : (r : Run) (x : Option Counts) {ls : List (Option Counted)} → r .model < all-models → Modelled ls
         → Modelled (map-option (line-of-counts r) x ∷ ls)

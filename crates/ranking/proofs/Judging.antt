@@ -17,10 +17,10 @@ use Rattle.fleet.specs.LineLists.{in-models}
 use Rattle.fleet.specs.LineLists.{Permuted, permuted-nil, permuted-cons, permuted-swap, permuted-then}
 use Rattle.fleet.proofs.Sorting.{permuted-back, permuted-middle}
 use Rattle.sums.specs.Window.{in-window}
-use Rattle.scanning.specs.declared.Scan.{Scan}
-use Rattle.scanning.specs.Lines.{summing, summed}
-use Rattle.scanning.specs.Scanning.{all-models, window-sums}
-use Rattle.scanning.proofs.Windows.{summing-append, summing-before}
+use Rattle.counted.specs.declared.Scan.{Scan}
+use Rattle.counted.specs.Lines.{summing, summed}
+use Rattle.counted.specs.Scanning.{all-models, window-sums}
+use Rattle.counted.proofs.Windows.{summing-append, summing-before}
 use Rattle.ranking.specs.declared.Judged.{Judged}
 use Rattle.ranking.specs.declared.Room.{Room}
 use Rattle.ranking.specs.Judging.{Measured, Judging, JudgesNext}

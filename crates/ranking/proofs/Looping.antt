@@ -8,8 +8,8 @@ use lib.ListN.{length}
 use Rattle.fleet.specs.Ranking.{Counted}
 use Rattle.sums.specs.Window.{Sized}
 use Rattle.sums.proofs.Adding.{sized-same}
-use Rattle.scanning.specs.declared.Scan.{Scan}
-use Rattle.scanning.specs.Scanning.{all-models, Scanned}
+use Rattle.counted.specs.declared.Scan.{Scan}
+use Rattle.counted.specs.Scanning.{all-models, Scanned}
 use Rattle.ranking.specs.declared.Judged.{Judged}
 use Rattle.ranking.specs.Judging.{Judging, JudgesNext, SomeNext}
 

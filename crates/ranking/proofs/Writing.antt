@@ -21,9 +21,9 @@ use Rattle.reports.specs.Places.{Printable}
 use Rattle.sums.specs.Window.{in-window, Open}
 use Rattle.sums.proofs.Adding.{sized-same}
 use Rattle.sums.proofs.Windows.{all-same, each-chosen, distinct-chosen, within-chosen}
-use Rattle.scanning.specs.declared.Scan.{Scan}
-use Rattle.scanning.specs.Lines.{all-count, summing, summed, lines-given}
-use Rattle.scanning.specs.Scanning.{all-models, Reached, Scanned}
+use Rattle.counted.specs.declared.Scan.{Scan}
+use Rattle.counted.specs.Lines.{all-count, summing, summed, lines-given}
+use Rattle.counted.specs.Scanning.{all-models, Reached, Scanned}
 use Rattle.ranking.specs.Judging.{Lent, Standing, Ready, Whole, Written}
 use Rattle.ranking.proofs.Measuring.{lines-append, lines-permuted, lines-ranked}
 use Rattle.ranking.proofs.Judging.{windows-meet, window-none, clean-earlier}

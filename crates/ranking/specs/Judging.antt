@@ -14,9 +14,9 @@ use Rattle.fleet.specs.declared.Reported.{Reported}
 use Rattle.fleet.specs.LineLists.{Sorted}
 use Rattle.reports.specs.Places.{Printable}
 use Rattle.sums.specs.Window.{Sized}
-use Rattle.scanning.specs.declared.Scan.{Scan}
-use Rattle.scanning.specs.Lines.{all-count, summed, lines-given, number-given}
-use Rattle.scanning.specs.Scanning.{Fault, Reached, window-sums}
+use Rattle.counted.specs.declared.Scan.{Scan}
+use Rattle.counted.specs.Lines.{all-count, summed, lines-given, number-given}
+use Rattle.counted.specs.Scanning.{Fault, Reached, window-sums}
 use Rattle.ranking.specs.declared.Room.{Room}
 use Rattle.ranking.specs.declared.Judged.{Judged}
 

@@ -1,10 +1,10 @@
 // The report of counted lines, or of the runs of a fleet (document 02, §1). The sums are taken by windows of models: those of a
 // window stand in a table of fixed length, and most fleets have one window. Where there are more, all are judged and measured
 // before the first byte is written; then the lines of each window are merged into those that stand in the report.
+use counted::Scan;
 use fleet::Reported;
 use language::LINE_REFUSAL;
 use language::ROOM_REFUSAL;
-use scanning::Scan;
 ghost use mathlib.Core.Path.{_≡_};
 ghost use Prim.Native.Nat.{ℕ, _+_, _*_, _/_, _%_, _≤_, _<_};
 ghost use mathlib.Core.List.{List, _++_};
@@ -15,7 +15,7 @@ ghost use Rattle.fleet.specs.Ranking.{Counted, lines-of, ranked, report-of, rep
 ghost use Rattle.fleet.specs.Entries.{entries};
 ghost use Rattle.fleet.specs.Fleet.{fleet-report, models-report};
 ghost use Rattle.fleet.specs.LineLists.{merged};
-ghost use Rattle.scanning.specs.Lines.{lines-given, width-given, number-given};
+ghost use Rattle.counted.specs.Lines.{lines-given, width-given, number-given};
 ghost use Rattle.ranking.specs.Judging.{Lent, Measured, Judging, JudgesNext, SomeNext, Standing};
 ghost use Rattle.ranking.specs.Judging.{Stands, Ready};
 ghost use Rattle.ranking.specs.Judging.{SomeWhole, Whole, Fits, Written, Reports};

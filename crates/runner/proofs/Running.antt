@@ -11,11 +11,11 @@ use Rattle.language.specs.Tree.{Program}
 use Rattle.language.specs.Verdict.{whole-rows, check}
 use Rattle.language.specs.Store as store
 use Rattle.language.specs.Store.{runnable, run-checked, run-of}
-use Rattle.checker.specs.declared.Checked.{Checked}
-use Rattle.checker.specs.declared.Checked.the-variants.{Accepted as Passed, Refused as Failed}
-use Rattle.checker.specs.Answers.{checked-case}
-use Rattle.checker.specs.Passes.{Checks}
-use Rattle.checker.proofs.Passing.{checked-accepted, checked-refused}
+use Rattle.passes.specs.declared.Checked.{Checked}
+use Rattle.passes.specs.declared.Checked.the-variants.{Accepted as Passed, Refused as Failed}
+use Rattle.passes.specs.Answers.{checked-case}
+use Rattle.passes.specs.Passes.{Checks}
+use Rattle.passes.proofs.Passing.{checked-accepted, checked-refused}
 use Rattle.machine.specs.declared.Run.{Run}
 use Rattle.machine.specs.Evaluator.{PreChecked, PostChecked, Tells}
 use Rattle.machine.proofs.Checked.{tells-run-of}

@@ -1,23 +1,23 @@
 // The run of rows over a lent store: length, fuel, the check, the run (document 01, "Refusals and stops").
-use checker::ALL_METHOD_TABLE;
-use checker::ALL_ROWS;
-use checker::FEW_CLASSES;
-use checker::FEW_METHOD_TABLE;
-use checker::FEW_NUMBERS;
-use checker::FEW_ROWS;
-use checker::FEW_TABLE;
-use checker::SHORT_METHOD_TABLE;
-use checker::SHORT_NUMBERS;
-use checker::SHORT_ROWS;
 use language::ALL_CLASSES;
 use language::LIMIT_REFUSAL;
 use language::LINE_REFUSAL;
 use language::TABLE_LENGTH;
 use machine::Run;
+use passes::ALL_METHOD_TABLE;
+use passes::ALL_ROWS;
+use passes::FEW_CLASSES;
+use passes::FEW_METHOD_TABLE;
+use passes::FEW_NUMBERS;
+use passes::FEW_ROWS;
+use passes::FEW_TABLE;
+use passes::SHORT_METHOD_TABLE;
+use passes::SHORT_NUMBERS;
+use passes::SHORT_ROWS;
 ghost use mathlib.Core.Path.{_≡_};
 ghost use Prim.Native.Nat.{_%_, _≤_};
 ghost use lib.ListN.{length};
-ghost use Rattle.checker.specs.Passes.{Room, ClassRoom, Stands, short-numbers, few-numbers, few-classes};
+ghost use Rattle.passes.specs.Passes.{Room, ClassRoom, Stands, short-numbers, few-numbers, few-classes};
 ghost use Rattle.runner.specs.Answers.{Answers};
 ghost use Rattle.language.specs.Limits.{most-fuel};
 
@@ -49,7 +49,7 @@ fn run_formed(
     ensures { λ r. ⌜ Answers (now (rows .entry)) fuel (now (store .entry)) (now (store .exit)) r ⌝ }
 {
     let mut lookups = [0u16; 0];
-    let checked = checker::check_formed(
+    let checked = passes::check_formed(
         rows,
         ends,
         tables,
@@ -60,11 +60,11 @@ fn run_formed(
         start,
     );
     match checked {
-        checker::Checked::Accepted(_) => {
+        passes::Checked::Accepted(_) => {
             let r = machine::run_checked(rows, ends, tables, above, methods, store, fuel);
             Answer::Ran(r)
         }
-        checker::Checked::Refused(number, line) => Answer::Refused(number, line),
+        passes::Checked::Refused(number, line) => Answer::Refused(number, line),
     }
 }
 

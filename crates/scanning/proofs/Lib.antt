@@ -1,4 +1,1 @@
-pub mod Windows
-pub mod Scanning
-pub mod Counts
-pub mod Runs
+mod Runs

@@ -10,6 +10,7 @@ use borrow.Author.Tests.{le-leb, lt-leb, leb-true}
 use lib.Dec.{leb}
 use lib.ListN.{length, getD, take, drop, length-drop}
 use lib.Seq.{getD-drop, drop-drop}
+use Rattle.language.specs.Limits.{object-width}
 use Rattle.language.specs.Lists.{nth, nth₀, choice, map-option, Never}
 use Rattle.language.specs.Results.{accept, accept≢refuse, bind-checked, require}
 use Rattle.language.specs.Rows.{rows-of}
@@ -66,7 +67,7 @@ first-at ns i = number-at ns i 0 ∙ ap (λ (k : ℕ). getD ns k 0) (add-zero (i
 lines-next : (n : ℕ) (ns P S : List ℕ)
     → lines-of-runs (runs-in (suc n) ns) P S ≡ line-of-run (first-run ns) P S
     ∷ lines-of-runs (runs-in n (drop 6 ns)) (drop (4 * first-run ns .rows) P)
-    (drop (18 * first-run ns .objects) S)
+    (drop (object-width * first-run ns .objects) S)
 unfolding lines-of-runs runs-in
 lines-next n ns P S = refl
 
@@ -78,14 +79,15 @@ nth-left (x ∷ l) zero = refl
 nth-left (x ∷ l) (suc i) = nth-left l i
 
 -- A store of which labels are counted holds the objects.
-objects-held : (R S : List ℕ) (n d e : ℕ) (c : Counts) → run-counts R S n d e ≡ some c → n ≤ length S / 18
+objects-held : (R S : List ℕ) (n d e : ℕ) (c : Counts) → run-counts R S n d e ≡ some c
+    → n ≤ length S / object-width
 unfolding run-counts
-objects-held R S n d e c q = go (leb n (length S / 18)) refl q
+objects-held R S n d e c q = go (leb n (length S / object-width)) refl q
   where
-    go : (b : Bool) → leb n (length S / 18) ≡ b
+    go : (b : Bool) → leb n (length S / object-width) ≡ b
         → choice b (λ _. labels-checked (check R) d e (classes-in n S)) (λ _. none) ≡ some c
-        → n ≤ length S / 18
-    go true t _ = leb-true n (length S / 18) t
+        → n ≤ length S / object-width
+    go true t _ = leb-true n (length S / object-width) t
     go false t q = absurd (Never q)
 
 module _ (runs programs stores : List ℕ) where
@@ -121,12 +123,12 @@ module _ (runs programs stores : List ℕ) where
     run = run-at runs i
 
     next-lines : drop i all-lines ≡ line-of-run run (drop at programs) (drop from stores)
-        ∷ lines-from (i + 1) (at + run .rows * 4) (from + run .objects * 18)
+        ∷ lines-from (i + 1) (at + run .rows * 4) (from + run .objects * object-width)
     next-lines =
         let q : length runs / 6 - i ≡ suc (length runs / 6 - (i + 1)) = omega (arith, l) in
         let a : i * 6 + 6 ≡ (i + 1) * 6 = omega arith in
         let b : at + 4 * run .rows ≡ at + run .rows * 4 = omega arith in
-        let d : from + 18 * run .objects ≡ from + run .objects * 18 = omega arith in
+        let d : from + object-width * run .objects ≡ from + run .objects * object-width = omega arith in
         p .lines ∙ rw (
           q,
           lines-next (length runs / 6 - (i + 1)) (drop (i * 6) runs) (drop at programs)
@@ -139,7 +141,7 @@ module _ (runs programs stores : List ℕ) where
           number-at runs i 5,
           drop-drop 6 (i * 6) runs,
           drop-drop (4 * run .rows) at programs,
-          drop-drop (18 * run .objects) from stores,
+          drop-drop (object-width * run .objects) from stores,
           a,
           b,
           d,
@@ -174,7 +176,7 @@ module _ (runs programs stores : List ℕ) where
           pub run-counted : nth all-lines i ≡ some (some (counted (run .model) x y (run .cents)))
           run-counted = counts-line ∙ rw labels refl
 
-          pub store-holds : from + run .objects * 18 ≤ length stores
+          pub store-holds : from + run .objects * object-width ≤ length stores
           store-holds = omega (
             arith,
             p .objects-within,
@@ -184,7 +186,7 @@ module _ (runs programs stores : List ℕ) where
 
           pub left-next : {above′ : List ℕ} {known′ : Known}
               → Knows (take (at + run .rows * 4 - at) (drop at programs)) above′ known′
-              → Left above′ known′ at (at + run .rows * 4) (from + run .objects * 18) (i + 1)
+              → Left above′ known′ at (at + run .rows * 4) (from + run .objects * object-width) (i + 1)
           left-next k = record {
             lines = sym (drop-drop 1 i all-lines) ∙ ap (λ z. drop 1 z) next-lines;
             after = omega arith;

@@ -1,85 +1,29 @@
-// The sums of lines by windows of models: of counted lines, or of the lines of a fleet's runs (document 02, §1). Lines are judged
+// The sums of lines by windows of models: of the lines of a fleet's runs, or of counted lines (document 02, §1). Lines are judged
 // in order, and a scan ends at the first that is refused.
+use counted::SUM_REFUSAL;
+use counted::Scan;
+use counted::ended;
 use counting::Known;
 use fleet::Count;
-use language::LINE_REFUSAL;
 use language::OBJECT_WIDTH;
 use sums::Taken;
-use sums::Window;
 ghost use mathlib.Core.Path.{_≡_};
 ghost use Prim.Native.Nat.{_-_, _*_, _≤_, _<_};
 ghost use lib.ListN.{length, take, drop};
 ghost use Rattle.fleet.specs.Counts.{run-counts, count-told};
-ghost use Rattle.fleet.specs.Fleet.{counted-lines, runs-of, lines-of-runs};
+ghost use Rattle.fleet.specs.Fleet.{runs-of, lines-of-runs};
 ghost use Rattle.counting.specs.Knowing.{Knows, Knowing};
-ghost use Rattle.scanning.specs.Lines.{lines-given, width-given, number-given};
-ghost use Rattle.scanning.specs.Scanning.{Scanned};
+ghost use Rattle.counted.specs.Lines.{lines-given, width-given, number-given};
+ghost use Rattle.counted.specs.Scanning.{Scanned};
 ghost use Rattle.sums.specs.Window.{Sized};
 
-// How many lines count, the refusal of the next one (0 where there is none), and the window of models that was summed.
-pub struct Scan {
-    pub place: usize,
-    pub number: u32,
-    pub window: Window,
-}
-
-// How many numbers a counted line has, a run, and a row of a program.
-const LINE_SIZE: usize = 4;
-
+// How many numbers a run has, and a row of a program.
 const RUN_SIZE: usize = 6;
 
 const ROW_SIZE: usize = 4;
 
-// The refusals of a line that takes a sum past the largest, and of a run.
-const SUM_REFUSAL: u32 = 17;
-
+// The refusal of a run.
 const CLASS_REFUSAL: u32 = 18;
-
-// What a scan tells that ends at a place.
-fn ended(place: usize, number: u32, window: Window) -> Scan
-    ensures { λ r. ⌜ (r .place ≡ place) × (r .number ≡ number) × (r .window ≡ window) ⌝ }
-{
-    Scan {
-        place,
-        number,
-        window,
-    }
-}
-
-// Sums counted lines up to a limit, of models from `low` on.
-fn scan_counts(
-    counts: &[u32],
-    limit: usize,
-    low: u64,
-    table: &mut [u32],
-    heads: &mut [u16],
-    nexts: &mut [u16],
-) -> Scan
-    requires { ⌜ (limit * 4 ≤ length (now counts)) × (low < 4294967296) ⌝ }
-    requires { ⌜ Sized (now table) (now heads) (now nexts) ⌝ }
-    ensures { λ r. ⌜ Scanned 1 (counted-lines (now (counts .entry))) limit low
-        (now (table .entry)) (now (heads .entry)) (now (nexts .entry))
-        (now (table .exit)) (now (heads .exit)) (now (nexts .exit)) r ⌝ }
-{
-    let mut w = sums::open_window(table, heads, nexts);
-    let mut i = 0;
-    while i < limit {
-        let model = counts[i * LINE_SIZE];
-        let printed = counts[i * LINE_SIZE + 1];
-        let spoiled = counts[i * LINE_SIZE + 2];
-        let cents = counts[i * LINE_SIZE + 3];
-        if printed < spoiled {
-            return ended(i, LINE_REFUSAL, w);
-        }
-        let taken = sums::take(table, heads, nexts, low, w, model, printed, spoiled, cents);
-        let Taken::Within(v) = taken else {
-            return ended(i, SUM_REFUSAL, w);
-        };
-        w = v;
-        i += 1;
-    }
-    ended(limit, 0, w)
-}
 
 // What is known of a run's rows, which follow those of the run before.
 fn know_next(
@@ -192,5 +136,5 @@ pub fn scan_lines(
     if fleet {
         return scan_runs(lines, programs, stores, limit, low, table, heads, nexts);
     }
-    scan_counts(lines, limit, low, table, heads, nexts)
+    counted::scan_counts(lines, limit, low, table, heads, nexts)
 }

@@ -1,7 +1,7 @@
 // The labels of runs, and reports over fleets, under their C names.
-use super::words::two_words;
-use fleet::Count;
-use fleet::Reported;
+use telling::fleets::pack_count;
+use telling::fleets::tell_labels;
+use telling::fleets::tell_report;
 ghost use mathlib.Core.Path.{_≡_};
 ghost use lib.ListN.{length};
 ghost use Rattle.language.specs.Filling.{buffer};
@@ -10,27 +10,6 @@ ghost use Rattle.fleet.specs.Ranking.{report-answer};
 ghost use Rattle.fleet.specs.Fleet.{fleet-report, models-report};
 ghost use Rattle.packing.specs.Packed.{packed-count, printed-after, spoiled-after, report-number};
 ghost use Rattle.packing.specs.Packed.{report-told};
-
-// The labels of a run as one number.
-fn pack_count(c: Count) -> u64
-    ensures { λ r. ⌜ r ≡ packed-count c ⌝ }
-{
-    match c {
-        Count::Labels(_, _) => 0,
-        Count::Refused(number, line) => two_words(number, line),
-    }
-}
-
-// Stores the labels where they were counted.
-fn tell_labels(c: Count, printed: &mut u32, spoiled: &mut u32)
-    ensures { λ _. ⌜ now (printed .exit) ≡ printed-after c (now (printed .entry)) ⌝ }
-    ensures { λ _. ⌜ now (spoiled .exit) ≡ spoiled-after c (now (spoiled .entry)) ⌝ }
-{
-    if let Count::Labels(p, s) = c {
-        *printed = p;
-        *spoiled = s;
-    }
-}
 
 // Counts the labels of a run. A refused one leaves the counts as they were.
 #[no_mangle]
@@ -78,23 +57,6 @@ pub extern "C" fn fickle_count_plain_run(
     let c = counting::count_plain_run(rows, store, objects, printed, spoiled);
     tell_labels(c, printed_labels, spoiled_labels);
     pack_count(c)
-}
-
-// The number of a report's answer, 0 where it was written; stores how many bytes were written, or the line.
-fn tell_report(r: Reported, told: &mut u64) -> u32
-    ensures { λ n. ⌜ n ≡ report-number r ⌝ }
-    ensures { λ _. ⌜ now (told .exit) ≡ report-told r ⌝ }
-{
-    match r {
-        Reported::Done(bytes) => {
-            *told = bytes as u64;
-            0
-        }
-        Reported::Refused(number, line) => {
-            *told = line as u64;
-            number
-        }
-    }
 }
 
 // The report over counted lines. Stores how many bytes were written, or a refusal's line, and returns its number.

@@ -1,9 +1,8 @@
 // The calendar, prices and their reports under their C names.
-use super::words::pack;
-use super::words::two_words;
-use prices::DateAnswer;
-use prices::DayAnswer;
-use prices::PriceAnswer;
+use telling::price_terms::pack_day;
+use telling::price_terms::tell_date;
+use telling::price_terms::tell_price;
+use telling::words::pack;
 ghost use mathlib.Core.Path.{_≡_};
 ghost use lib.ListN.{length};
 ghost use Rattle.language.specs.Filling.{answer, buffer};
@@ -18,11 +17,7 @@ ghost use Rattle.packing.specs.Packed.{day-after, TellsPrice};
 pub extern "C" fn fickle_day_of_date(year: u32, month: u32, day: u32) -> u64
     ensures { λ r. ⌜ r ≡ packed-day (day-answer year month day) ⌝ }
 {
-    let a = calendar::day_of_date(year, month, day);
-    match a {
-        DayAnswer::Day(n) => n as u64,
-        DayAnswer::Refused(number, line) => two_words(number, line),
-    }
+    pack_day(calendar::day_of_date(year, month, day))
 }
 
 // The date of a day. A refusal leaves the three numbers as they were.
@@ -39,31 +34,7 @@ pub extern "C" fn fickle_date_of_day(
     ensures { λ _. ⌜ now («of_month» .exit) ≡ day-after (date-answer day) (now («of_month» .entry)) ⌝ }
 {
     let a = calendar::date_of_day(day);
-    match a {
-        DateAnswer::Date(y, m, d) => {
-            *year = y;
-            *month = m;
-            *of_month = d;
-            0
-        }
-        DateAnswer::Refused(number, line) => two_words(number, line),
-    }
-}
-
-// Stores a price where there is one, and returns the answer as one number.
-fn tell_price(a: PriceAnswer, cents: &mut u32, line: &mut u32) -> u64
-    ensures { λ r. ⌜ TellsPrice a r (now (cents .entry)) (now (cents .exit)) (now (line .entry))
-        (now (line .exit)) ⌝ }
-{
-    match a {
-        PriceAnswer::Cents(c, l) => {
-            *cents = c;
-            *line = l;
-            1
-        }
-        PriceAnswer::Unpriced => 0,
-        PriceAnswer::Refused(number, at) => two_words(number, at),
-    }
+    tell_date(a, year, month, of_month)
 }
 
 // The price of a model on a day, and the line of its term. Both stay as they were where there is none.

@@ -1,7 +1,6 @@
 // Texts and rows, the check and the translation under their C names.
-use super::words::pack;
-use super::words::two_words;
-use checker::Verdict;
+use telling::programs::pack_verdict;
+use telling::words::pack;
 ghost use mathlib.Core.Path.{_≡_};
 ghost use lib.ListN.{length};
 ghost use Rattle.language.specs.Filling.{answer, buffer};
@@ -9,7 +8,6 @@ ghost use Rattle.language.specs.Translation.{translation};
 ghost use Rattle.language.specs.Verdict.{verdict};
 ghost use Rattle.language.specs.Alphabet.{ours};
 ghost use Rattle.language.specs.Texts.{read-text, write-rows};
-ghost use Rattle.services.specs.Cases.{packed-checked};
 ghost use Rattle.packing.specs.Packed.{packed, packed-verdict};
 
 // Reads a text into rows.
@@ -29,16 +27,6 @@ pub extern "C" fn fickle_write_text(rows: &[u32], text: &mut [u8]) -> u64
         × (now (text .exit) ≡ buffer (write-rows ours (now (rows .entry))) (now (text .entry))) ⌝ }
 {
     pack(text::write_text(rows, text))
-}
-
-// A verdict as one number.
-fn pack_verdict(v: Verdict) -> u64
-    ensures { λ r. ⌜ r ≡ packed-checked v ⌝ }
-{
-    match v {
-        Verdict::Accepted => 0,
-        Verdict::Refused(number, line) => two_words(number, line),
-    }
 }
 
 // Checks rows.

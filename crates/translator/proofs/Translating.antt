@@ -10,11 +10,11 @@ use Rattle.language.specs.Filling.{answer, buffer}
 use Rattle.language.proofs.Filling.{answer-refused}
 use Rattle.language.specs.Verdict.{check}
 use Rattle.language.specs.Translation.{translation}
-use Rattle.checker.specs.declared.Checked.{Checked}
-use Rattle.checker.specs.declared.Checked.the-variants.{Accepted}
-use Rattle.checker.specs.Passes.{Checks}
-use Rattle.checker.proofs.Passing.{checked-accepted}
-use Rattle.plain.specs.Bounds.{SomeAccepted}
+use Rattle.passes.specs.declared.Checked.{Checked}
+use Rattle.passes.specs.declared.Checked.the-variants.{Accepted}
+use Rattle.passes.specs.Passes.{Checks}
+use Rattle.passes.proofs.Passing.{checked-accepted}
+use Rattle.plain.specs.Answers.{SomeAccepted}
 
 -- Accepted rows with their tables are what the translator takes.
 pub some-accepted : {R E T A M C : List ℕ} {c : Checked} (n : ℕ) → length E ≤ length C → c ≡ Accepted n

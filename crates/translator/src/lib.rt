@@ -1,26 +1,26 @@
 // The translation of rows: the check, then the translator's limits, reserved names and room (document 01, "Refusals and
 // stops").
-use checker::ALL_METHOD_TABLE;
-use checker::ALL_ROWS;
-use checker::FEW_CLASSES;
-use checker::FEW_ENTRIES;
-use checker::FEW_METHOD_TABLE;
-use checker::FEW_NUMBERS;
-use checker::FEW_ROWS;
-use checker::FEW_TABLE;
-use checker::SHORT_METHOD_TABLE;
-use checker::SHORT_NUMBERS;
-use checker::SHORT_ROWS;
 use language::ALL_CLASSES;
 use language::Filled;
 use language::LINE_REFUSAL;
 use language::TABLE_LENGTH;
+use passes::ALL_METHOD_TABLE;
+use passes::ALL_ROWS;
+use passes::FEW_CLASSES;
+use passes::FEW_ENTRIES;
+use passes::FEW_METHOD_TABLE;
+use passes::FEW_NUMBERS;
+use passes::FEW_ROWS;
+use passes::FEW_TABLE;
+use passes::SHORT_METHOD_TABLE;
+use passes::SHORT_NUMBERS;
+use passes::SHORT_ROWS;
 ghost use mathlib.Core.Path.{_≡_};
 ghost use Prim.Native.Nat.{_%_, _≤_};
 ghost use lib.ListN.{length};
 ghost use Rattle.language.specs.Filling.{answer, buffer};
 ghost use Rattle.language.specs.Translation.{translation};
-ghost use Rattle.checker.specs.Passes.{Room, ClassRoom, Stands, short-numbers, few-numbers, few-classes};
+ghost use Rattle.passes.specs.Passes.{Room, ClassRoom, Stands, short-numbers, few-numbers, few-classes};
 
 // After form: checks headings and bodies with tables that are lent, then translates.
 fn translate_formed(
@@ -41,21 +41,12 @@ fn translate_formed(
     ensures { λ r. ⌜ (r ≡ answer 4 (translation (now (rows .entry))) (length (now (out .entry))))
         × (now (out .exit) ≡ buffer (translation (now (rows .entry))) (now (out .entry))) ⌝ }
 {
-    let checked = checker::check_formed(
-        rows,
-        ends,
-        tables,
-        above,
-        methods,
-        lookups,
-        classes,
-        start,
-    );
+    let checked = passes::check_formed(rows, ends, tables, above, methods, lookups, classes, start);
     match checked {
-        checker::Checked::Accepted(_) => {
+        passes::Checked::Accepted(_) => {
             plain::translate_checked(rows, ends, tables, methods, lookups, out)
         }
-        checker::Checked::Refused(number, line) => Filled::Refused(number, line),
+        passes::Checked::Refused(number, line) => Filled::Refused(number, line),
     }
 }
 

@@ -3,7 +3,7 @@ use mathlib.Core.Path.{_∙_}
 use Prim.Native.Nat.{_+_, _*_}
 use native.Mathlib.Omega.{arith}
 use borrow.Author.Needs.{needs}
-use Rattle.bodies.proofs.Laws.{not-yes, not-no}
+use Rattle.typing.proofs.Laws.{not-yes, not-no}
 use Rattle.bodies.proofs.Methods.{in-methods, in-effects, enter-ready, parameters-low, row-low}
 use Rattle.bodies.proofs.Methods.{row-inside}
 use Rattle.bodies.proofs.Methods.{body-pre, body-typed, body-case, result-low, method-refused}

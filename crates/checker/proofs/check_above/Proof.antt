@@ -1,5 +1,5 @@
 -- `checker::check_above` meets its contract. Assumes nothing.
-use Rattle.checker.proofs.Passing.{uneven, refuses-above}
+use Rattle.passes.proofs.Passing.{uneven, refuses-above}
 use borrow.Author.Needs.{needs}
 use Rattle.checker.proofs.check_above.Statement.{statement}
 use Rattle.checker.proofs.check_above.Tie as tie

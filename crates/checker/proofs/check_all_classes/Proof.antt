@@ -1,5 +1,5 @@
 -- `checker::check_all_classes` meets its contract. Assumes nothing.
-use Rattle.checker.proofs.Passing.{all-classes, checks-above}
+use Rattle.passes.proofs.Passing.{all-classes, checks-above}
 use borrow.Author.Needs.{needs}
 use Rattle.checker.proofs.check_all_classes.Statement.{statement}
 use Rattle.checker.proofs.check_all_classes.Tie as tie

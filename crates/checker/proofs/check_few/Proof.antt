@@ -1,5 +1,5 @@
 -- `checker::check_few` meets its contract. Assumes nothing.
-use Rattle.checker.proofs.Passing.{room-few}
+use Rattle.passes.proofs.Passing.{room-few}
 use borrow.Author.Needs.{needs}
 use Rattle.checker.proofs.check_few.Statement.{statement}
 use Rattle.checker.proofs.check_few.Tie as tie

@@ -1,5 +1,5 @@
 -- `checker::check_few_classes` meets its contract. Assumes nothing.
-use Rattle.checker.proofs.Passing.{few-classes, checks-above}
+use Rattle.passes.proofs.Passing.{few-classes, checks-above}
 use native.Mathlib.Omega.{arith}
 use borrow.Author.Needs.{needs}
 use Rattle.checker.proofs.check_few_classes.Statement.{statement}

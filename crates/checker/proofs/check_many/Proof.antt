@@ -1,5 +1,5 @@
 -- `checker::check_many` meets its contract. Assumes nothing.
-use Rattle.checker.proofs.Passing.{room-many}
+use Rattle.passes.proofs.Passing.{room-many}
 use borrow.Author.Needs.{needs}
 use Rattle.checker.proofs.check_many.Statement.{statement}
 use Rattle.checker.proofs.check_many.Tie as tie

@@ -1,7 +1,7 @@
 -- `checker::check_rows` meets its contract. Assumes nothing.
 use mathlib.Core.Path.{ap, _∙_}
 use Rattle.checker.specs.Answers.{verdict-of-checked}
-use Rattle.checker.proofs.Passing.{verdict-is}
+use Rattle.checker.proofs.Verdicts.{verdict-is}
 use borrow.Author.Needs.{needs}
 use Rattle.checker.proofs.check_rows.Statement.{statement}
 use Rattle.checker.proofs.check_rows.Tie as tie

@@ -1,5 +1,5 @@
 -- `checker::check_short` meets its contract. Assumes nothing.
-use Rattle.checker.proofs.Passing.{room-short}
+use Rattle.passes.proofs.Passing.{room-short}
 use borrow.Author.Needs.{needs}
 use Rattle.checker.proofs.check_short.Statement.{statement}
 use Rattle.checker.proofs.check_short.Tie as tie

@@ -1,5 +1,5 @@
 -- `checker::check_whole` meets its contract. Assumes nothing.
-use Rattle.checker.proofs.Passing.{stands, room-kept, not-in-form, refuses-above}
+use Rattle.passes.proofs.Passing.{stands, room-kept, not-in-form, refuses-above}
 use borrow.Author.Needs.{needs}
 use Rattle.checker.proofs.check_whole.Statement.{statement}
 use Rattle.checker.proofs.check_whole.Tie as tie

@@ -5,7 +5,7 @@ use lib.ListN.{length}
 use lib.Seq.{sets}
 use mathlib.Core.List.{List}
 use Rattle.console.proofs.Showing.{line-told}
-use Rattle.console.specs.Told.{answer-text}
+use Rattle.printing.specs.Told.{answer-text}
 use borrow.Author.Needs.{needs}
 use Rattle.console.proofs.put_line.Statement.{statement}
 use Rattle.console.proofs.put_line.Tie as tie

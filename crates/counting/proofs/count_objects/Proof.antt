@@ -4,6 +4,7 @@ use Prim.Native.Nat.{_≤_, _*_, _-_}
 use native.Mathlib.Omega.{arith}
 use lib.ListN.{drop}
 use borrow.Author.Needs.{needs}
+use Rattle.language.specs.Limits.{object-width}
 use Rattle.language.specs.Program.{world}
 use Rattle.fleet.specs.Counts.{count-told}
 use Rattle.counting.specs.Knowing.{Serves}
@@ -18,7 +19,8 @@ Inv-loop above classes store objects plain printed spoiled prints₀ spoils₀ i
     (i ≤ objects) × (prints ≤ i) × (spoils ≤ i)
     × ((w : Serves above classes)
     → labels-next (world (w .program)) printed spoiled plain objects store objects store 0 0
-    ≡ labels-next (world (w .program)) printed spoiled plain objects store (objects - i) (drop (18 * i) store)
+    ≡ labels-next (world (w .program)) printed spoiled plain objects store (objects - i)
+    (drop (object-width * i) store)
     prints spoils)
 
 abbrev μ-loop : tie.MeasureT-loop

@@ -6,7 +6,7 @@ use Rattle.headings.proofs.Passing.{class-index, class-late, super-inde
 use Rattle.headings.proofs.Passing.{class-fields-here}
 use Rattle.headings.proofs.Passing.{methods-here, fields-ready, class-fields-refused, methods-ready}
 use Rattle.headings.proofs.Passing.{class-answer, class-done}
-use Rattle.headings.proofs.Checks.{not-both}
+use Rattle.members.proofs.Checks.{not-both}
 use borrow.Author.Tests.{not-true, not-false}
 use Rattle.headings.proofs.check_class.Statement.{statement}
 use Rattle.headings.proofs.check_class.Tie as tie

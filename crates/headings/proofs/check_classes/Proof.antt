@@ -7,7 +7,7 @@ use borrow.Author.Needs.{needs}
 use Rattle.headings.proofs.Whole.{Going, going-start, going-ready, going-here, going-index}
 use Rattle.headings.proofs.Whole.{going-refused, going-count}
 use Rattle.headings.proofs.Whole.{super-earlier, going-step, going-total, going-end, going-done}
-use Rattle.headings.proofs.Checks.{not-both}
+use Rattle.members.proofs.Checks.{not-both}
 use Rattle.headings.specs.Ready.{ClassesReady}
 use Rattle.headings.proofs.check_classes.Statement.{statement}
 use Rattle.headings.proofs.check_classes.Tie as tie

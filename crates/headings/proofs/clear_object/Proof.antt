@@ -2,7 +2,7 @@
 use mathlib.Core.Path.{_≡_}
 use Prim.Native.Nat.{_-_, _≤_}
 use native.Mathlib.Omega.{arith}
-use Rattle.headings.proofs.Loops.{cleared-start, cleared-step}
+use Rattle.headings.proofs.Copying.{cleared-start, cleared-step}
 use Rattle.headings.specs.Ready.{Cleared}
 use Rattle.headings.proofs.clear_object.Statement.{statement}
 use Rattle.headings.proofs.clear_object.Tie as tie

@@ -2,7 +2,7 @@
 use mathlib.Core.Path.{_≡_}
 use Prim.Native.Nat.{_-_, _≤_}
 use native.Mathlib.Omega.{arith}
-use Rattle.headings.proofs.Loops.{copied-start, copied-step}
+use Rattle.headings.proofs.Copying.{copied-start, copied-step}
 use Rattle.headings.specs.Ready.{Copied}
 use Rattle.headings.proofs.copy_part.Statement.{statement}
 use Rattle.headings.proofs.copy_part.Tie as tie

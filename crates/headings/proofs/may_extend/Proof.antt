@@ -1,5 +1,5 @@
 -- `headings::may_extend` meets its contract. Assumes nothing.
-use Rattle.headings.proofs.Tables.{extend-low, extend-root, extend-state, extend-none}
+use Rattle.members.proofs.Tables.{extend-low, extend-root, extend-state, extend-none}
 use Rattle.headings.proofs.may_extend.Statement.{statement}
 use Rattle.headings.proofs.may_extend.Tie as tie
 

@@ -3,9 +3,9 @@ use mathlib.Core.Path.{sym, _∙_}
 use Prim.Native.Nat.{_+_, _-_}
 use native.Mathlib.Omega.{arith}
 use lib.ListN.{length}
-use Rattle.headings.proofs.Lines.{Skipping, skip-here, skip-step, skip-within, skip-end, skip-grows}
-use Rattle.headings.proofs.Lines.{skip-start, class-within, class-fields}
-use Rattle.headings.specs.Ready.{ClassHere}
+use Rattle.members.proofs.Lines.{Skipping, skip-here, skip-step, skip-within, skip-end, skip-grows}
+use Rattle.members.proofs.Lines.{skip-start, class-within, class-fields}
+use Rattle.members.specs.Ready.{ClassHere}
 use Rattle.language.specs.Tree.{class-lines}
 use Rattle.headings.proofs.skip_class.Statement.{statement}
 use Rattle.headings.proofs.skip_class.Tie as tie

@@ -1,3 +1,4 @@
+use Rattle.language.specs.Limits.{object-width}
 use mathlib.Core.Path.{_≡_, refl, _∙_}
 use Prim.Native.Nat.{_+_, _-_, _*_, _≤_}
 use native.Mathlib.Omega.{arith}
@@ -9,22 +10,22 @@ use Rattle.objects.proofs.fill.Statement.{statement}
 use Rattle.objects.proofs.fill.Tie as tie
 
 abbrev Inv-loop : tie.InvT-loop
-Inv-loop rows tables store₀ o c from count i₀ store i = (from ≤ i) × (i ≤ 17)
+Inv-loop rows tables store₀ o c from count i₀ store i = (from ≤ i) × (i ≤ object-width - 1)
     × Written store₀ store (o + 1 + from) (i - from)
     (λ k. first-of rows tables c (from + k) (getD tables (c * 576 + 515) 0))
     × (count ≡ getD tables (c * 576 + 515) 0)
 
 abbrev μ-loop : tie.MeasureT-loop
-μ-loop rows tables store₀ o c from count i₀ store i = 17 - i
+μ-loop rows tables store₀ o c from count i₀ store i = object-width - 1 - i
 
 abbrev Inv-loop2 : tie.InvT-loop2
-Inv-loop2 rows tables store₀ o c from count i₀ store i = (i₀ ≤ i) × (i ≤ 17)
+Inv-loop2 rows tables store₀ o c from count i₀ store i = (i₀ ≤ i) × (i ≤ object-width - 1)
     × Written store₀ store (o + 1 + i₀) (i - i₀)
     (λ k. first-of rows tables c (i₀ + k) (getD tables (c * 576 + 515) 0))
     × (count ≡ getD tables (c * 576 + 515) 0) × (count ≤ i₀)
 
 abbrev μ-loop2 : tie.MeasureT-loop2
-μ-loop2 rows tables store₀ o c from count i₀ store i = 17 - i
+μ-loop2 rows tables store₀ o c from count i₀ store i = object-width - 1 - i
 
 mul-count : tie.Need-mul-count Inv-loop μ-loop Inv-loop2 μ-loop2
 mul-count c = omega (arith, c .before .before .before .pre .table)
@@ -47,7 +48,7 @@ loop-holds : tie.Need-loop-holds Inv-loop μ-loop Inv-loop2 μ-loop2
 loop-holds c =
     let start = c .before .before .before .before in (
       omega arith,
-      start .pre .start,
+      omega (arith, start .pre .start),
       (let e : start .args .from - start .args .from ≡ 0 = omega arith in rw e (written-none _ _ _)),
       refl,
     )
@@ -217,7 +218,7 @@ same-length c = c .before .loop2 .inv .2 .long ∙ c .before .before .before .lo
 returns : tie.Need-returns Inv-loop μ-loop Inv-loop2 μ-loop2
 returns c =
     let start = c .before .before .before .before .before .before .before .before in
-    let e : c .before .loop2 .i - start .args .from ≡ 17 - start .args .from =
+    let e : c .before .loop2 .i - start .args .from ≡ object-width - 1 - start .args .from =
     omega (arith, c .before .loop2 .inv .1, c .loop2-test .left) in
     rw e at (written-then (start .args .o + 1) (start .args .from) (c .before .before .before .loop .i)
     (c .before .loop2 .i)

@@ -1,3 +1,4 @@
+use Rattle.language.specs.Limits.{object-width}
 use Prim.Native.Nat.{_*_}
 use native.Mathlib.Omega.{arith}
 use lib.ListN.{length-set, getD}
@@ -36,7 +37,7 @@ returns-2 c =
 fill-requires : tie.Need-fill-requires
 fill-requires c κs =
     let start = c .before .before .before .before .before .before .before in
-    new-fill (start .pre) (getD (start .args .tally .now) 1 0 * 18) (c .before .if2 .left)
+    new-fill (start .pre) (getD (start .args .tally .now) 1 0 * object-width) (c .before .if2 .left)
 
 mul-store : tie.Need-mul-store
 mul-store c = omega (arith, c .before .before .before .before .before .if1 .left)

@@ -2,7 +2,7 @@
 use mathlib.Core.Path.{refl, sym, _∙_}
 use Prim.Native.Nat.{_-_}
 use native.Mathlib.Omega.{arith}
-use Rattle.scanning.specs.Lines.{number-given, lines-given}
+use Rattle.counted.specs.Lines.{number-given, lines-given}
 use Rattle.ranking.proofs.Judging.{judge-none, judged-all}
 use Rattle.ranking.proofs.Given.{given-long, given-room}
 use Rattle.ranking.proofs.Looping.{JudgingAll, some-next, judges-next, judging-on}

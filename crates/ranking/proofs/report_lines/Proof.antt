@@ -3,7 +3,7 @@ use mathlib.Core.Path.{_≡_, sym, _∙_}
 use native.Mathlib.Nat.{le-of-eq}
 use native.Mathlib.Omega.{arith}
 use lib.ListN.{length}
-use Rattle.scanning.specs.Lines.{lines-given}
+use Rattle.counted.specs.Lines.{lines-given}
 use Rattle.ranking.proofs.Given.{given-long, given-room, given-modelled}
 use Rattle.ranking.proofs.Writing.{whole-scan, lent-same}
 use borrow.Author.Needs.{needs}

@@ -4,7 +4,7 @@ use Prim.Native.Nat.{_-_}
 use native.Mathlib.Nat.{le-of-eq}
 use native.Mathlib.Omega.{arith}
 use lib.ListN.{length}
-use Rattle.scanning.specs.Lines.{lines-given}
+use Rattle.counted.specs.Lines.{lines-given}
 use Rattle.ranking.proofs.Given.{given-long, given-room, given-modelled}
 use Rattle.ranking.proofs.Writing.{WritingAll, writing-start, writing-stands, writing-room}
 use Rattle.ranking.proofs.Writing.{writing-next}

@@ -1,5 +1,5 @@
 -- `runner::run_few` meets its contract. Assumes nothing.
-use Rattle.checker.proofs.Passing.{room-few}
+use Rattle.passes.proofs.Passing.{room-few}
 use borrow.Author.Needs.{needs}
 use Rattle.runner.proofs.run_few.Statement.{statement}
 use Rattle.runner.proofs.run_few.Tie as tie

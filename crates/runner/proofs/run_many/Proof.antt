@@ -1,5 +1,5 @@
 -- `runner::run_many` meets its contract. Assumes nothing.
-use Rattle.checker.proofs.Passing.{room-many}
+use Rattle.passes.proofs.Passing.{room-many}
 use borrow.Author.Needs.{needs}
 use Rattle.runner.proofs.run_many.Statement.{statement}
 use Rattle.runner.proofs.run_many.Tie as tie

@@ -1,5 +1,5 @@
 -- `runner::run_short` meets its contract. Assumes nothing.
-use Rattle.checker.proofs.Passing.{room-short}
+use Rattle.passes.proofs.Passing.{room-short}
 use borrow.Author.Needs.{needs}
 use Rattle.runner.proofs.run_short.Statement.{statement}
 use Rattle.runner.proofs.run_short.Tie as tie

@@ -1,6 +1,6 @@
 -- `runner::run_whole` meets its contract. Assumes nothing.
 use Rattle.runner.proofs.Running.{check-refuses}
-use Rattle.checker.proofs.Passing.{stands, room-kept, not-in-form}
+use Rattle.passes.proofs.Passing.{stands, room-kept, not-in-form}
 use borrow.Author.Needs.{needs}
 use Rattle.runner.proofs.run_whole.Statement.{statement}
 use Rattle.runner.proofs.run_whole.Tie as tie

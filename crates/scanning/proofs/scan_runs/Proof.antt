@@ -5,9 +5,9 @@ use native.Mathlib.Omega.{arith}
 use borrow.Author.Needs.{needs}
 use lib.ListN.{length}
 use Rattle.fleet.specs.Fleet.{runs-of, lines-of-runs}
-use Rattle.scanning.specs.Scanning.{no-line}
-use Rattle.scanning.proofs.Scanning.{Scanning, scan-start, scan-next, scan-end, scan-fault, past-fault}
-use Rattle.scanning.proofs.Scanning.{scanned-from}
+use Rattle.counted.specs.Scanning.{no-line}
+use Rattle.counted.proofs.Scanning.{Scanning, scan-start, scan-next, scan-end, scan-fault, past-fault}
+use Rattle.counted.proofs.Scanning.{scanned-from}
 use Rattle.scanning.proofs.Runs.{Left, left-start, rows-refused, run-refused, run-counted, store-holds}
 use Rattle.scanning.proofs.Runs.{left-next}
 use Rattle.scanning.proofs.scan_runs.Statement.{statement}
@@ -131,7 +131,8 @@ same-length-3 c = search needs
 
 returns : tie.Need-returns Inv-loop μ-loop
 returns c =
-    let at-loop-test = c .before .before .before .before .before .before .before .before in let at-loop = at-loop-test .before in
+    let at-loop-test = c .before .before .before .before .before .before .before .before in
+    let at-loop = at-loop-test .before in
     let at-open-window = at-loop .before .before .before .before .before in
     let start = at-open-window .before .before .before .before .before .before .before .before .before
     .before in
@@ -198,8 +199,10 @@ same-length-6 c = search needs
 
 returns-2 : tie.Need-returns-2 Inv-loop μ-loop
 returns-2 c =
-    let at-know-next = c .before .before .before .before .before .before in let at-if1 = at-know-next .before .before in
-    let at-loop-test = at-if1 .before .before .before .before .before .before .before in let at-loop = at-loop-test .before in
+    let at-know-next = c .before .before .before .before .before .before in
+    let at-if1 = at-know-next .before .before in
+    let at-loop-test = at-if1 .before .before .before .before .before .before .before in
+    let at-loop = at-loop-test .before in
     let at-open-window = at-loop .before .before .before .before .before in
     let start = at-open-window .before .before .before .before .before .before .before .before .before
     .before in
@@ -259,7 +262,8 @@ returns-3 c =
     let at-count = at-take .before .before .before .before .before in
     let at-count-next = at-count .before .before in
     let at-know-next = at-count-next .before .before .before in let at-if1 = at-know-next .before .before in
-    let at-loop-test = at-if1 .before .before .before .before .before .before .before in let at-loop = at-loop-test .before in
+    let at-loop-test = at-if1 .before .before .before .before .before .before .before in
+    let at-loop = at-loop-test .before in
     let at-open-window = at-loop .before .before .before .before .before in
     let start = at-open-window .before .before .before .before .before .before .before .before .before
     .before in
@@ -289,7 +293,8 @@ mul-from c =
     .before .before .before in
     let at-count-next = at-count .before .before in
     let at-know-next = at-count-next .before .before .before in let at-if1 = at-know-next .before .before in
-    let at-loop-test = at-if1 .before .before .before .before .before .before .before in let at-loop = at-loop-test .before in
+    let at-loop-test = at-if1 .before .before .before .before .before .before .before in
+    let at-loop = at-loop-test .before in
     let start = at-loop .before .before .before .before .before .before .before .before .before .before
     .before .before .before .before .before in
     let l : at-loop .loop .i * 6 + 5 < length (start .args .runs .now) =
@@ -306,7 +311,8 @@ add-from c =
     .before .before .before in
     let at-count-next = at-count .before .before in
     let at-know-next = at-count-next .before .before .before in let at-if1 = at-know-next .before .before in
-    let at-loop-test = at-if1 .before .before .before .before .before .before .before in let at-loop = at-loop-test .before in
+    let at-loop-test = at-if1 .before .before .before .before .before .before .before in
+    let at-loop = at-loop-test .before in
     let start = at-loop .before .before .before .before .before .before .before .before .before .before
     .before .before .before .before .before in
     let l : at-loop .loop .i * 6 + 5 < length (start .args .runs .now) =
@@ -339,7 +345,8 @@ loop-again c =
     let at-count = at-take .before .before .before .before .before in
     let at-count-next = at-count .before .before in
     let at-know-next = at-count-next .before .before .before in let at-if1 = at-know-next .before .before in
-    let at-loop-test = at-if1 .before .before .before .before .before .before .before in let at-loop = at-loop-test .before in
+    let at-loop-test = at-if1 .before .before .before .before .before .before .before in
+    let at-loop = at-loop-test .before in
     let start = at-loop .before .before .before .before .before .before .before .before .before .before
     .before .before .before .before .before in
     let l : at-loop .loop .i * 6 + 5 < length (start .args .runs .now) =

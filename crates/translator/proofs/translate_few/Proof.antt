@@ -1,5 +1,5 @@
 -- `translator::translate_few` meets its contract. Assumes nothing.
-use Rattle.checker.proofs.Passing.{room-few}
+use Rattle.passes.proofs.Passing.{room-few}
 use native.Mathlib.Omega.{arith}
 use borrow.Author.Needs.{needs}
 use Rattle.translator.proofs.translate_few.Statement.{statement}

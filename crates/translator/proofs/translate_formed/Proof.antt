@@ -1,6 +1,6 @@
 -- `translator::translate_formed` meets its contract. Assumes nothing.
 use Rattle.translator.proofs.Translating.{some-accepted, translation-refused}
-use Rattle.checker.proofs.Passing.{checked-refused}
+use Rattle.passes.proofs.Passing.{checked-refused}
 use native.Mathlib.Omega.{arith}
 use mathlib.Core.Path.{sym, _∙_}
 use borrow.Author.Needs.{needs}

@@ -1,5 +1,5 @@
 -- `translator::translate_many` meets its contract. Assumes nothing.
-use Rattle.checker.proofs.Passing.{room-many}
+use Rattle.passes.proofs.Passing.{room-many}
 use native.Mathlib.Omega.{arith}
 use borrow.Author.Needs.{needs}
 use Rattle.translator.proofs.translate_many.Statement.{statement}

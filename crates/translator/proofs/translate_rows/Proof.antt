@@ -1,6 +1,6 @@
 -- `translator::translate_rows` meets its contract. Assumes nothing.
 use Rattle.translator.proofs.Translating.{translation-refused}
-use Rattle.checker.proofs.Passing.{uneven}
+use Rattle.passes.proofs.Passing.{uneven}
 use borrow.Author.Needs.{needs}
 use Rattle.translator.proofs.translate_rows.Statement.{statement}
 use Rattle.translator.proofs.translate_rows.Tie as tie

@@ -1,5 +1,5 @@
 -- `translator::translate_short` meets its contract. Assumes nothing.
-use Rattle.checker.proofs.Passing.{room-short}
+use Rattle.passes.proofs.Passing.{room-short}
 use native.Mathlib.Omega.{arith}
 use borrow.Author.Needs.{needs}
 use Rattle.translator.proofs.translate_short.Statement.{statement}

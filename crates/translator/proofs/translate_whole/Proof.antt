@@ -1,6 +1,6 @@
 -- `translator::translate_whole` meets its contract. Assumes nothing.
 use Rattle.translator.proofs.Translating.{translation-refused}
-use Rattle.checker.proofs.Passing.{stands, room-kept, not-in-form}
+use Rattle.passes.proofs.Passing.{stands, room-kept, not-in-form}
 use native.Mathlib.Omega.{arith}
 use borrow.Author.Needs.{needs}
 use Rattle.translator.proofs.translate_whole.Statement.{statement}

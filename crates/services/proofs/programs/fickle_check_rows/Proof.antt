@@ -1,8 +1,8 @@
 -- `services::programs::fickle_check_rows` meets its contract. Assumes nothing.
 use mathlib.Core.Path.{ap, _∙_}
 use Rattle.language.specs.Verdict.{verdict}
-use Rattle.services.specs.Cases.{packed-checked}
-use Rattle.services.proofs.Telling.{verdict-packed}
+use Rattle.telling.specs.Cases.{packed-checked}
+use Rattle.telling.proofs.Telling.{verdict-packed}
 use borrow.Author.Needs.{needs}
 use Rattle.services.proofs.programs.fickle_check_rows.Statement.{statement}
 use Rattle.services.proofs.programs.fickle_check_rows.Tie as tie

@@ -1,7 +1,7 @@
 -- `services::runs::fickle_run_rows` meets its contract. Assumes nothing.
 use mathlib.Core.Path.{_∙_}
 use Rattle.language.specs.Store.{run-of}
-use Rattle.services.proofs.Telling.{number-is, kind-is, content-is, steps-is, objects-is, changes-is}
+use Rattle.telling.proofs.Telling.{number-is, kind-is, content-is, steps-is, objects-is, changes-is}
 use borrow.Author.Needs.{needs}
 use Rattle.services.proofs.runs.fickle_run_rows.Statement.{statement}
 use Rattle.services.proofs.runs.fickle_run_rows.Tie as tie

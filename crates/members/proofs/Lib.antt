@@ -1,0 +1,9 @@
+pub mod Lines
+pub mod Checks
+pub mod Loops
+pub mod Tables
+pub mod FieldLaws
+pub mod Numbers
+pub mod MethodLaws
+pub mod Heading
+pub mod Entering
