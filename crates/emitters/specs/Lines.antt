@@ -1,4 +1,4 @@
--- The numbers of lines that stand by themselves, four to a line: of types, of fields, of slots read, of W and of R.
+-- The numbers of the plain lines for which no child is translated, four to a line: of types, of fields, of slots read, of W and of R.
 use Prim.Native.Nat.{ℕ, zero, suc, _+_}
 use mathlib.Core.Bool.{cond}
 use mathlib.Core.List.{List, [], _∷_, _++_}

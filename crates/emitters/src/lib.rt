@@ -1,4 +1,4 @@
-// The lines of the translator that stand by themselves: what is written for a type, a field, a slot, W and R.
+// The plain lines for which no child is translated: what is written for a type, a field, a slot, W and R.
 // What has no room is counted and not written.
 pub mod changes;
 pub mod rows;

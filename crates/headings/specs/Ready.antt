@@ -1,27 +1,17 @@
 -- What each function of the heading pass is called on: the part of a program that its rows hold, and what the tables hold.
 use mathlib.Core.Path.{_≡_}
 use Prim.Native.Nat.{ℕ, _+_, _*_, _≤_, _<_}
-use mathlib.Core.Bool.{true}
 use mathlib.Core.Logic.{_⊎_}
-use mathlib.Core.Option.{Option, none, some}
+use mathlib.Core.Option.{some}
 use mathlib.Core.List.{List}
 use lib.ListN.{length, getD}
-use Rattle.language.specs.Limits.{of-check, numbers-a-row}
-use Rattle.language.specs.Lists.{nth}
-use Rattle.language.specs.Rows.{P-parameter}
-use Rattle.language.specs.Tree.{DeclaredType, type-of-number, kind-number, Field, Declaration, Class, Program}
-use Rattle.language.specs.World.{Method, place, is-declared-type}
-use Rattle.language.specs.Program.{declared, class-at, world}
-use Rattle.language.specs.Headings.{is-some}
-use Rattle.language.specs.ClassTables.{class-row, method-number, class-width}
-use Rattle.language.specs.MethodTables.{placed-methods, method-width}
-use Rattle.language.specs.Encoded.{TypesAt}
-use Rattle.language.specs.Layout.{FieldsAt, EffectsAt, MethodAt, ProgramAt, methods-from-row}
-use Rattle.language.specs.WellFormed.{Each, TypeInForm, FieldInForm, MethodInForm}
-use Rattle.language.proofs.Methods.{FoundMethod}
-use Rattle.layout.specs.Found.{FieldHere}
-use Rattle.members.specs.Blocks.{Lookups, Working}
-use Rattle.members.specs.Numbers.{numbers-a-method, most-methods, first-number, placed, own-or}
+use Rattle.language.specs.Tree.{kind-number, Class, Program}
+use Rattle.language.specs.Program.{class-at}
+use Rattle.language.specs.ClassTables.{class-row, class-width}
+use Rattle.language.specs.MethodTables.{method-width}
+use Rattle.language.specs.Layout.{ProgramAt}
+use Rattle.members.specs.Blocks.{Lookups}
+use Rattle.members.specs.Numbers.{numbers-a-method, most-methods, first-number}
 use Rattle.members.specs.Numbers.{Numbered}
 
 -- A part of a list was copied to a place after it.
@@ -77,5 +67,6 @@ pub record HeadingsReady (R E T A M F : List ℕ) : Type 0 where
   pub standing : ProgramAt R E program
   pub long : (length (program .classes) + 1) * class-width ≤ length T
   pub long-above : length (program .classes) + 1 ≤ length A
-  pub long-methods : (length R * method-width ≤ numbers-a-method * length M) ⊎ (most-methods * method-width ≤ length M)
+  pub long-methods : (length R * method-width ≤ numbers-a-method * length M)
+      ⊎ (most-methods * method-width ≤ length M)
   pub long-effects : (length R ≤ numbers-a-method * length F) ⊎ (most-methods ≤ length F)

@@ -3,14 +3,12 @@ use mathlib.Core.Path.{_≡_, refl, sym, ap, ap₂, subst, _∙_}
 use mathlib.Core.Bool.{Bool, true, false, _&&_}
 use mathlib.Core.Option.{some}
 use mathlib.Core.List.{List, [], _∷_}
-use mathlib.Core.Logic.{⊎-elim}
 use Prim.Native.Nat.{ℕ, zero, suc, _+_, _-_, _*_, _≤_, _<_}
 use native.Mathlib.Omega.{arith}
 use borrow.Author.Tests.{ne-eqb, lt-ltb, le-leb, lt-leb}
 use lib.Bits.{bitOr}
 use lib.Dec.{leb, ltb}
-use lib.ListN.{length, getD, set, drop, length-set, drop-of-length-le}
-use lib.Seq.{getD-set-same, getD-set-other}
+use lib.ListN.{length, getD, drop, drop-of-length-le}
 use Rattle.language.specs.Limits.{of-check}
 use Rattle.language.specs.Lists.{nth}
 use Rattle.language.specs.Rows.{P-parameter, X-effect}
@@ -21,7 +19,6 @@ use Rattle.language.specs.Effects.{effect-of, effect-of-all, join, member}
 use Rattle.language.specs.Program.{world}
 use Rattle.language.specs.Headings.{same-type, same-types, lines-within, check-parameters, check-effects}
 use Rattle.language.specs.Encoded.{RowAt, LinesAt}
-use Rattle.language.proofs.Lines.{less-or-same}
 use Rattle.theory.proofs.lookups.LookupLaws.{each-at}
 use Rattle.theory.proofs.acceptance.WellAccepted.{type-same}
 use Rattle.members.specs.Answers.{headed}

@@ -2,26 +2,25 @@
 use mathlib.Core.Path.{_≡_}
 use Prim.Native.Nat.{ℕ, _+_, _*_, _≤_, _<_}
 use mathlib.Core.Bool.{true}
-use mathlib.Core.Logic.{_⊎_}
 use mathlib.Core.Option.{Option, none, some}
 use mathlib.Core.List.{List}
-use lib.ListN.{length, getD}
+use lib.ListN.{length}
 use Rattle.language.specs.Limits.{of-check, numbers-a-row}
 use Rattle.language.specs.Lists.{nth}
 use Rattle.language.specs.Rows.{P-parameter}
-use Rattle.language.specs.Tree.{DeclaredType, type-of-number, kind-number, Field, Declaration, Class, Program}
+use Rattle.language.specs.Tree.{DeclaredType, type-of-number, Field, Declaration, Class, Program}
 use Rattle.language.specs.World.{Method, place, is-declared-type}
 use Rattle.language.specs.Program.{declared, class-at, world}
 use Rattle.language.specs.Headings.{is-some}
 use Rattle.language.specs.ClassTables.{class-row, method-number, class-width}
-use Rattle.language.specs.MethodTables.{placed-methods, method-width}
+use Rattle.language.specs.MethodTables.{placed-methods}
 use Rattle.language.specs.Encoded.{TypesAt}
 use Rattle.language.specs.Layout.{FieldsAt, EffectsAt, MethodAt, ProgramAt, methods-from-row}
 use Rattle.language.specs.WellFormed.{Each, TypeInForm, FieldInForm, MethodInForm}
 use Rattle.language.proofs.Methods.{FoundMethod}
 use Rattle.layout.specs.Found.{FieldHere}
 use Rattle.members.specs.Blocks.{Lookups, Working}
-use Rattle.members.specs.Numbers.{numbers-a-method, most-methods, first-number, placed, own-or}
+use Rattle.members.specs.Numbers.{first-number, placed, own-or}
 use Rattle.members.specs.Numbers.{Numbered}
 
 -- Row r is the C line of class k of a program that stands in the rows.
