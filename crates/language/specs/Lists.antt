@@ -100,7 +100,7 @@ module _ {A B : Type 0} {R : A → B → Type 0} where
   pub all2_take : {xs : List A} {ys : List B} → (n : ℕ) → All2 R xs ys → All2 R (take n xs) (take n ys)
   all2_take zero rs = a_nil
   all2_take (suc n) a_nil = a_nil
-  all2_take (suc n) (a_cons r rs) = a_cons r (all2_take n rs)
+  all2_take (suc n) (a_cons {xs = xs} r rs) = a_cons r (all2_take {xs = xs} n rs)
 
   pub all2_length : {xs : List A} {ys : List B} → All2 R xs ys → length xs ≡ length ys
   all2_length a_nil = refl

@@ -1,5 +1,7 @@
 // What every service shares: the letters of records, reading a row and the table of classes, the answers of reading a line,
 // and the answer of a service that fills a lent buffer.
+#![tactic(auto)]
+
 ghost use Rattle.std.specs.Prelude.{◌≡◌, ◌+◌, ◌*◌, ◌<◌, length, get_or};
 ghost use Rattle.language.specs.ClassTables.{class_width};
 ghost use Rattle.language.specs.Rows.{numbers_after, row, is_row};
