@@ -1,4 +1,6 @@
 // The pass over bodies: each method's body and the start block are typed, in line order.
+#![tactic(auto)]
+
 ghost use Rattle.bodies.specs.Whole.{PreEnter, PostEnter, PreMethodBody, PostMethodBody, BodiesReady};
 ghost use Rattle.bodies.specs.Whole.{BodiesDone};
 

@@ -1,4 +1,6 @@
 // The Gregorian calendar (document 02, §11): the day of a date, the date of a day.
+#![tactic(auto)]
+
 ghost use Rattle.std.specs.Prelude.{◌≡◌, ◌-◌, ◌≤◌, ◌<◌};
 ghost use Rattle.prices.specs.Calendar.{last_day, months, is_leap, days_in, day_answer, date_answer};
 ghost use Rattle.prices.specs.Numbering.{year_start, month_start};

@@ -1,4 +1,6 @@
 // The check of rows: their length, then form, headings and bodies (document 01, "Refusals and stops").
+#![tactic(auto)]
+
 ghost use Rattle.std.specs.Prelude.{◌≡◌, ◌+◌, ◌%◌, ◌≤◌, length};
 ghost use Rattle.language.specs.Limits.{of_check};
 ghost use Rattle.language.specs.Verdict.{verdict};

@@ -1,4 +1,6 @@
 // Sets of classes as one number, and the subclass test over a table that has such a set for each class.
+#![tactic(auto)]
+
 ghost use Rattle.std.specs.Prelude.{◌≡◌, ◌-◌, ◌≤◌, ◌<◌, length};
 ghost use Rattle.language.specs.Effects.{member, effect_of};
 ghost use Rattle.classes.specs.Subclasses.{is_below};

@@ -1,6 +1,8 @@
 // What the two programs print (document 01, "Worked programs"). Callers use `translate_input` and `run_input`, which
 // take any input and a lent output of any length. The other functions write into 8,192 bytes held aside, which are
 // enough for every output.
+#![tactic(auto)]
+
 ghost use Rattle.std.specs.Prelude.{◌≡◌, ◌++◌, ◌+◌, ◌≤◌, length, take};
 ghost use Rattle.std.proofs.lemmas.List.Edits.{sets};
 ghost use Rattle.language.specs.Results.{accept};

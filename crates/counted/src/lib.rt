@@ -1,5 +1,7 @@
 // The sums of counted lines by windows of models (document 02, §1), and how a scan of lines ends: lines are judged in order, up to
 // the first that is refused.
+#![tactic(auto)]
+
 ghost use Rattle.std.specs.Prelude.{◌≡◌, ◌*◌, ◌≤◌, ◌<◌, length};
 ghost use Rattle.fleet.specs.Fleet.{counted_lines};
 ghost use Rattle.counted.specs.Scanning.{Scanned};

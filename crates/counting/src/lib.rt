@@ -1,5 +1,7 @@
 // Counts the labels of an ended run by the class they ended in, from the store of the run or through the Identities of
 // the store that its plain run left (document 02, §1).
+#![tactic(auto)]
+
 ghost use Rattle.std.specs.Prelude.{◌≡◌, true, false, cond, ◌+◌, ◌*◌, ◌/◌, ◌≤◌, ◌<◌, length, drop};
 ghost use Rattle.std.proofs.Math.Option.{none};
 ghost use Rattle.language.specs.Program.{world};

@@ -1,4 +1,6 @@
 // Demand 3 on the services themselves: rows are run, translated, and run as plain rows.
+#![tactic(auto)]
+
 ghost use Rattle.std.specs.Prelude.{◌*◌, ◌≤◌, length, take};
 ghost use Rattle.running.specs.Answers.{Answers};
 ghost use Rattle.demands.specs.Both.{RunsBoth};

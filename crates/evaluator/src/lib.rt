@@ -1,4 +1,6 @@
 // The evaluator: the rows of a checked program, node by node, over a lent store.
+#![tactic(auto)]
+
 ghost use Rattle.std.specs.Prelude.{◌≡◌, true, ◌-◌, ◌*◌, get_or};
 ghost use Rattle.objects.specs.Values.{counts_in, answered};
 ghost use Rattle.frames.specs.Places.{place_of};

@@ -1,4 +1,6 @@
 // Types of expressions, as one cycle of functions: an expression, by its letter, with its children.
+#![tactic(auto)]
+
 ghost use Rattle.std.specs.Prelude.{◌≡◌, ◌*◌, ◌≤◌, get_or};
 ghost use Rattle.language.specs.Rows.{code, B_block, J_choose, Q_call, U_set};
 ghost use Rattle.expressions.specs.Cycle.{raised, Unary, Pre, Post, PreList, PostItems, PostArguments};

@@ -1,4 +1,6 @@
 // The fields of a line: found, read as decimal numbers and written (document 01, "Lines and rows").
+#![tactic(auto)]
+
 ghost use Rattle.std.specs.Prelude.{◌≡◌, ◌∷◌, ◌++◌, ◌+◌, ◌≤◌, length, take, drop};
 ghost use Rattle.std.proofs.lemmas.List.Edits.{sets};
 ghost use Rattle.language.specs.Decimals.{digit_of, scan, decimal_of, digits};

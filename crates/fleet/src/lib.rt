@@ -1,6 +1,8 @@
 // What counting and ranking answer (document 02, §1). The definitions are in specs/.
 
 // The labels of a run that were printed, and those of them that were spoiled; or a refusal's number and line.
+#![tactic(auto)]
+
 #[derive(Drop)]
 pub enum Count {
     Labels(u32, u32),

@@ -1,5 +1,7 @@
 // The pass over form (document 01, "Lines and rows"): is this a program, and where does each part of it end. One pass
 // serves both columns of the table of limits: that of a checked program, and that of the translator's input.
+#![tactic(auto)]
+
 ghost use Rattle.std.specs.Prelude.{◌≡◌, List, ◌++◌, ◌⊎◌, ◌+◌, ◌*◌, ◌%◌, ◌≤◌, length, drop};
 ghost use Rattle.language.specs.Limits.{of_check, of_translator};
 ghost use Rattle.language.specs.Results.{accept};

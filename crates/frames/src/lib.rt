@@ -1,5 +1,7 @@
 // The slots of the calls under way, and what evaluating a node does that needs no child evaluated.
 // What is done to objects is in the crate objects. Slots are words in lent segments; outcomes and the tally are numbers, as there.
+#![tactic(auto)]
+
 ghost use Rattle.std.specs.Prelude.{◌≡◌, true, ◌+◌, ◌*◌, ◌≤◌, eqb, length, get_or};
 ghost use Rattle.objects.specs.Values.{meaning, outcome, counts_in, answered};
 ghost use Rattle.objects.specs.Acts.{Written, IsWord};

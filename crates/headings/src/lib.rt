@@ -1,4 +1,6 @@
 // The pass over headings (document 01, "Headings"): classes as they are declared, each with its members.
+#![tactic(auto)]
+
 ghost use Rattle.std.specs.Prelude.{◌≡◌, true, ℕ, ◌+◌, ◌*◌, ◌≤◌, ◌<◌, length};
 ghost use Rattle.std.proofs.Math.Option.{some};
 ghost use Rattle.language.specs.Limits.{of_check};

@@ -1,4 +1,6 @@
 // Walking over the lines of a heading: those of one letter, and those of a method.
+#![tactic(auto)]
+
 ghost use Rattle.std.specs.Prelude.{◌≡◌, ℕ, ◌+◌};
 ghost use Rattle.language.specs.Layout.{Run};
 ghost use Rattle.language.specs.Tree.{method_lines};

@@ -1,4 +1,6 @@
 // The translator's own refusals of accepted rows: what passes its limits, and the field names that it keeps for itself.
+#![tactic(auto)]
+
 ghost use Rattle.std.specs.Prelude.{◌≡◌, ◌-◌, ◌*◌, ◌≤◌, length};
 ghost use Rattle.emitters.specs.Writing.{SomeFieldLines};
 ghost use Rattle.limits.specs.Standing.{SomeMethodsStand, MethodsPassed, SomeClassesStand};

@@ -1,4 +1,6 @@
 // The run of a checked program over a lent store: from the start block, with the first segment of slots, to the answer.
+#![tactic(auto)]
+
 ghost use Rattle.std.specs.Prelude.{◌≡◌};
 ghost use Rattle.objects.specs.Values.{outcome, SmallOutcome};
 ghost use Rattle.machine.specs.Runs.{PreRun, PostRun, end_told, outcome_of, PreChecked, PostChecked};

@@ -1,5 +1,7 @@
 // The members of a class in the pass over headings (document 01, "Headings"): its fields and its methods, checked and entered in the
 // tables.
+#![tactic(auto)]
+
 pub mod fields;
 pub mod methods;
 

@@ -2,6 +2,8 @@
 // A value is one word, its kind and its content; only read_value and write_value know how a store holds it. Fuel left, objects
 // made and changes of class are a tally of three numbers. An outcome is one word too, so that it passes in a register: that
 // of a value, or from STUCK on why there is none (specs/Values.antt).
+#![tactic(auto)]
+
 ghost use Rattle.std.specs.Prelude.{◌≡◌, true, ◌+◌, ◌*◌, ◌≤◌, ◌<◌, length, get_or, set};
 ghost use Rattle.language.specs.Store.{value_number, value_of_number};
 ghost use Rattle.objects.specs.Values.{word, meaning, case_of, reached, outcome, counts_in, answered};

@@ -1,4 +1,6 @@
 // The pass over the parts of a program under given limits: lines, nodes, methods, classes, and where each ends.
+#![tactic(auto)]
+
 pub mod classes;
 pub mod lines;
 pub mod nodes;

@@ -1,4 +1,6 @@
 // The check after form: headings, then bodies, with tables that are lent, in sizes by the number of rows.
+#![tactic(auto)]
+
 ghost use Rattle.std.specs.Prelude.{◌≡◌, ◌≤◌, length};
 ghost use Rattle.passes.specs.Answers.{typed_case};
 ghost use Rattle.passes.specs.Passes.{Room, Stands, ClassRoom, BodyRoom, Checks, short_numbers, few_numbers};

@@ -1,6 +1,8 @@
 // The translator: the plain rows of an accepted program, written into a lent buffer.
 // The check has filled the tables; nothing is typed here. What has no room is counted and not written, so a first
 // call over a short buffer tells how many numbers there are, and a second one writes them.
+#![tactic(auto)]
+
 mod node;
 mod program;
 

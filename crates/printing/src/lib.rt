@@ -1,5 +1,7 @@
 // The lines that the two programs print of answers (document 01, "Worked programs"), each written at a place of a lent output that has
 // room for it.
+#![tactic(auto)]
+
 ghost use Rattle.std.specs.Prelude.{◌≡◌, [], ◌∷◌, ◌+◌, ◌≤◌, length};
 ghost use Rattle.std.proofs.lemmas.List.Edits.{sets};
 ghost use Rattle.language.specs.Printed.{refusal_text, counts_text, number_text};

@@ -1,6 +1,8 @@
 // The report of counted lines, or of the runs of a fleet (document 02, §1). The sums are taken by windows of models: those of a
 // window stand in a table of fixed length, and most fleets have one window. Where there are more, all are judged and measured
 // before the first byte is written; then the lines of each window are merged into those that stand in the report.
+#![tactic(auto)]
+
 ghost use Rattle.std.specs.Prelude.{◌≡◌, ℕ, ◌+◌, ◌*◌, ◌/◌, ◌%◌, ◌≤◌, ◌<◌, List, ◌++◌, length, drop};
 ghost use Rattle.std.proofs.Math.Option.{Option};
 ghost use Rattle.language.specs.Filling.{buffer};

@@ -1,4 +1,6 @@
 // The run of rows over a lent store: length, fuel, tables by size, the run (document 01, "Refusals and stops").
+#![tactic(auto)]
+
 ghost use Rattle.std.specs.Prelude.{◌≡◌, ◌%◌, ◌≤◌, length};
 ghost use Rattle.passes.specs.Passes.{short_numbers, few_numbers};
 ghost use Rattle.running.specs.Answers.{Answers};

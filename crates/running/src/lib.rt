@@ -1,4 +1,6 @@
 // The run of whole rows with lent tables: form, the check of headings and bodies, evaluation (document 01, "Refusals and stops").
+#![tactic(auto)]
+
 ghost use Rattle.std.specs.Prelude.{◌≤◌};
 ghost use Rattle.passes.specs.Passes.{Room, ClassRoom, Stands, few_classes};
 ghost use Rattle.running.specs.Answers.{Answers};

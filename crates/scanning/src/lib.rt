@@ -1,5 +1,7 @@
 // The sums of lines by windows of models: of the lines of a fleet's runs, or of counted lines (document 02, §1). Lines are judged
 // in order, and a scan ends at the first that is refused.
+#![tactic(auto)]
+
 ghost use Rattle.std.specs.Prelude.{◌≡◌, ◌-◌, ◌*◌, ◌≤◌, ◌<◌, length, take, drop};
 ghost use Rattle.fleet.specs.Counts.{class_refusal, run_counts, count_told};
 ghost use Rattle.fleet.specs.Fleet.{runs_of, lines_of_runs};

@@ -1,5 +1,7 @@
 // The sums of a window of models, in tables that are lent: a line is added to its model's sums. Where the table is full, the
 // window is narrowed to its lower models, and the sums of the others are given up.
+#![tactic(auto)]
+
 ghost use Rattle.std.specs.Prelude.{◌≡◌, true, ◌⊎◌, [], ◌∷◌, ◌++◌, ℕ, suc, ◌≤◌, ◌<◌, ◌+◌, ◌*◌, ◌/◌, ltb, length};
 ghost use Rattle.fleet.specs.Ranking.{is_within, plus, most_sum};
 ghost use Rattle.fleet.specs.Entries.{entries, counted};

@@ -1,4 +1,6 @@
 // Price terms read from text, and the terms that rule on some days (document 02, §11).
+#![tactic(auto)]
+
 ghost use Rattle.std.specs.Prelude.{◌≡◌, List, [], ◌+◌, ◌*◌, ◌/◌, ◌%◌, ◌≤◌, ◌<◌, length, drop, get_or, set};
 ghost use Rattle.language.specs.Effects.{join, effect_of};
 ghost use Rattle.language.specs.Results.{accept};

@@ -1,6 +1,8 @@
 // The translating program (document 01, "Worked programs"): standard input to standard output.
 // One byte more is read than a program may hold, so that a longer input shows. An output has at most 8,192 bytes, as
 // many as are held aside for it, so the answer is never a refusal.
+#![tactic(auto)]
+
 use language::Filled;
 
 fn main() {

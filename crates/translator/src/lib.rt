@@ -1,5 +1,7 @@
 // The translation of rows: the check, then the translator's limits, reserved names and room (document 01, "Refusals and
 // stops").
+#![tactic(auto)]
+
 ghost use Rattle.std.specs.Prelude.{◌≡◌, ◌%◌, ◌≤◌, length};
 ghost use Rattle.language.specs.Filling.{answer, buffer};
 ghost use Rattle.language.specs.Translation.{translation};

@@ -1,4 +1,6 @@
 // Types as typing answers them: what fits what, joins, and effects applied to classes.
+#![tactic(auto)]
+
 ghost use Rattle.std.specs.Prelude.{◌≡◌, suc, ◌+◌, ◌*◌, ◌≤◌, ◌<◌, length};
 ghost use Rattle.language.specs.Effects.{within};
 ghost use Rattle.language.specs.Limits.{bool_number, of_check};
