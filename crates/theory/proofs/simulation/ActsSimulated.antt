@@ -96,6 +96,8 @@ module _ (W W' : World) (P : IsPlain W W') (laws : Laws W) (𝓜 : More W) where
             core = recount R.core refl refl refl refl (omega (arith, R.core)) (omega (arith, R.core));
           };
         }))
+    read_acts zero ids sh μ z s t Rattle.language.specs.State.null R x4 = elim x4 [ ]
+    read_acts zero ids sh μ z s t (truth _) R x6 = elim x6 [ ]
 
     -- W.
     pub new_acts : (c : ℕ) (γ : Environment) (ids : List ℕ) (sh : Shape) (μ : Mask) (z : ℕ) (s t : State)
@@ -167,6 +169,7 @@ module _ (W W' : World) (P : IsPlain W W') (laws : Laws W) (𝓜 : More W) where
             )
             (alike_ok {s = s} {t = t} (record
             { ids' = a.ids'; persists = a.persists; value = y'.2; match = spare 81 a.match }))
+        go (same_truth {b = b}) x4 = elim x4 [ ]
 
     -- U, its object and value in temporaries.
     pub set_acts : {ids : List ℕ} {h₀ : List Object} {sh : Shape} {μ : Mask} {z : ℕ} (f c n : ℕ)
@@ -217,6 +220,8 @@ module _ (W W' : World) (P : IsPlain W W') (laws : Laws W) (𝓜 : More W) where
             };
           };
         }))
+    set_acts {ids = ids} {h₀ = h₀} {sh = sh} {μ = μ} {z = z} f c n u (object _) Rattle.language.specs.State.null w w' s t H (object_fits {j = j} o p q) i ids' X R x14 r a b = elim x14 [ ]
+    set_acts {ids = ids} {h₀ = h₀} {sh = sh} {μ = μ} {z = z} f c n u (object _) (truth _) w w' s t H (object_fits {j = j} o p q) i ids' X R x16 r a b = elim x16 [ ]
 
     -- K's arms, the value in its temporary.
     pub cast_acts : {ids : List ℕ} {h₀ : List Object} {sh : Shape} {μ : Mask} {z : ℕ} (c n : ℕ) (u : ExprType)

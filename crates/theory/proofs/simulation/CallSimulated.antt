@@ -120,3 +120,5 @@ module _ (W W' : World) (P : IsPlain W W') (laws : Laws W) (𝓜 : More W) where
           core = recount y.core refl refl refl refl (omega (arith, y.core)) (omega (arith, y.core));
         };
       }))
+  call_acts invoke invoke' D {ids = ids} {h₀ = h₀} {sh = sh} {μ = μ} {z = z} m c n M (object _) Rattle.language.specs.State.null vs vs' us s t H (object_fits {j = j} o p q) A f i ids' X R x16 r a b = elim x16 [ ]
+  call_acts invoke invoke' D {ids = ids} {h₀ = h₀} {sh = sh} {μ = μ} {z = z} m c n M (object _) (Rattle.language.specs.State.truth _) vs vs' us s t H (object_fits {j = j} o p q) A f i ids' X R x18 r a b = elim x18 [ ]

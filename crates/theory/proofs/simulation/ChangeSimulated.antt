@@ -163,3 +163,6 @@ module _ (W W' : World) (P : IsPlain W W') (laws : Laws W) (𝓜 : More W) where
         (nth_up l _ 0 ∙ nth₀ _ _))
         runs_nil))
         ∙ rw take-append_seam)
+    change_acts zero c d γ ids sh μ z s t H R dd null F can x9 = elim x9 [ ]
+    change_acts zero c d γ ids sh μ z s t H R dd (Rattle.language.specs.State.truth _) F can _ = elim F [ ]
+    change_acts (suc k) c d γ ids sh μ z s t H R dd (Rattle.language.specs.State.truth _) F can _ = elim F [ ]

@@ -281,6 +281,7 @@ pub choose_alike : {W : World} {A : Value → State → Value → State → Type
 choose_alike both_null s t (null_fits n) a b = false≢ n
 choose_alike (same_truth {b = true}) s t f a b = a
 choose_alike (same_truth {b = false}) s t f a b = b
+choose_alike {W = W} {A = A} {ids = ids} {h = h} (in_place {j = j} {i = i} _) s t {y = y} f a b = elim f [ ]
 
 pub last_alike : {ids : List ℕ} {v v' : Value} {vs vs' : List Value} → Corresponds ids v v'
     → All2 (Corresponds ids) vs vs' → Corresponds ids (last_value v vs) (last_value v' vs')

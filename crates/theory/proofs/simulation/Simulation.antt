@@ -313,6 +313,7 @@ module _ (W W' : World) (P : IsPlain W W') (laws : Laws W) (𝓜 : More W) where
                   (omega (arith, p.match.core));
             };
           }))
+      simulates (assign zero e) {γ = γ} {ty = ty} {φ = φ} x16 ids sh μ z s t H S R = elim x16 [ ]
 
       -- A call's arguments, put into temporaries from place n on, which hold xs.
       pub simulates_arguments : (es : Exprs) {γ γ' : Environment} {tys : List ExprType} {φ : ℕ}

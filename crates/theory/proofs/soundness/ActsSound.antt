@@ -151,7 +151,7 @@ module _ {W : World} where
   if_ok s (truth_fits {b = false}) a b = b
 
 module _ {W : World} (laws : Laws W) where
-  open laws use {sub_refl, sub-root, fickle-root, prefix, solid, override, owned}
+  open laws use {sub_refl, sub_root, fickle_root, prefix, solid, override, owned}
 
   pub inherit : (c d n : ℕ) (t : DeclaredType) → W.below c d ≡ true → field_type n (W.fields d) ≡ some t
       → Found (W.fields c) n t
@@ -208,8 +208,8 @@ module _ {W : World} (laws : Laws W) where
       → All2 (FitsField W h) o.fields (W.fields o.class_of)
       → Evolves W (effect_of (W.root d)) h h' → All2 (FitsField W h') (changed W d o).fields (W.fields d)
   changed_ok h h' d o r a ev =
-      let p = prefix o.class_of (W.root d) (rw r at (sub-root o.class_of)) in
-      let q = prefix d (W.root d) (sub-root d) in
+      let p = prefix o.class_of (W.root d) (rw r at (sub_root o.class_of)) in
+      let q = prefix d (W.root d) (sub_root d) in
       let b : All2 (FitsField W h') o.fields (W.fields (W.root d) ++ p.0)
       = rw p.1 at (all2_mono_at a
       (λ i v f z x. rw (solid o.class_of i f z _) at (fits_evolves laws ev x))) in
@@ -222,8 +222,8 @@ module _ {W : World} (laws : Laws W) where
       → All2 (FitsField W h) o.fields (W.fields o.class_of) → keeps_fields W d o ≡ true
   root_fields h o d r a =
       let c = W.root o.class_of in
-      let p = prefix o.class_of c (sub-root o.class_of) in
-      let q = prefix d c (rw (← r) at (sub-root d)) in
+      let p = prefix o.class_of c (sub_root o.class_of) in
+      let q = prefix d c (rw (← r) at (sub_root d)) in
       let l : length o.fields ≡ length (W.fields c) + length p.0
       = all2_length a ∙ ap length p.1 ∙ length-append (W.fields c) p.0 in
       let m : length (W.fields d) ≡ length (W.fields c) + length q.0
@@ -251,7 +251,7 @@ module _ {W : World} (laws : Laws W) where
       )
   change_ok c d (object j) s H (object_fits o p q) e =
       let g = can_inv W c d e in
-      let r : W.root o.class_of ≡ W.root d = fickle-root o.class_of c q g.0 ∙ g.1 in
+      let r : W.root o.class_of ≡ W.root d = fickle_root o.class_of c q g.0 ∙ g.1 in
       let ev : Evolves W (effect_of (W.root d)) s.heap (replace s.heap j (changed W d o)) =
       evolve_set s.heap j o (changed W d o) p (moved (rw r (has_one (W.root d))) (sym r)) in
       rw (p, root_fields s.heap o d r (H.each j o p)) (holds_ok (
@@ -273,6 +273,8 @@ module _ {W : World} (laws : Laws W) where
   fits_all h (v ∷ vs) (t ∷ ts) [] (a_cons f fs) e = false≢ e
   fits_all h (v ∷ vs) (t ∷ ts) (u ∷ us) (a_cons f fs) e = let p = and_inv (fits W t u) (all_fit W ts us) e in
       a_cons (fits_sub laws u f p.0) (fits_all h vs ts us fs p.1)
+  fits_all h [] (t ∷ ts) us x4 e = elim x4 [ ]
+  fits_all h (v ∷ vs) [] us x4 e = elim x4 [ ]
 
   -- a checked call has as many arguments as the method that is found has parameters
   pub arguments_counted : {h : List Object} {vs : List Value} (us : List DeclaredType)

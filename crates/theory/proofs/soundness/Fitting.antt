@@ -217,7 +217,7 @@ module _ {W : World} where
   locals_fit h (t ∷ ts) = a_cons (initial_fits h t) (locals_fit h ts)
 
 module _ {W : World} (laws : Laws W) where
-  open laws use {sub_trans, sub-root, up, solid}
+  open laws use {sub_trans, sub_root, up, solid}
 
   -- what a type becomes by an effect lets an object be as the effect left it
   sub_evolves : {φ : ℕ} {o n : ℕ} (c : ℕ) → Shift W φ o n → W.below o c ≡ true
@@ -226,12 +226,12 @@ module _ {W : World} (laws : Laws W) where
   sub_evolves {φ} {o} c (same p) s = rw p (go (member φ (W.root c)))
     where
       go : (b : Bool) → W.below o (cond b (W.root c) c) ≡ true
-      go true = sub_trans _ _ _ s (sub-root c)
+      go true = sub_trans _ _ _ s (sub_root c)
       go false = s
   sub_evolves {φ} {o} {n} c (moved h p) s = go (up o c s) (member φ (W.root c)) refl
     where
       below : W.below n (W.root o) ≡ true
-      below = rw p at (sub-root n)
+      below = rw p at (sub_root n)
 
       go : (W.root c ≡ W.root o) ⊎ ((W.root c ≡ c) × (W.below (W.root o) c ≡ true)) → (b : Bool)
           → member φ (W.root c) ≡ b

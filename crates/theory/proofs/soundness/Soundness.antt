@@ -39,6 +39,8 @@ module _ {W : World} where
       → Fits W h v t → All2 (Fits W h) vs ts → Fits W h (last_value v vs) (last_type t ts)
   last_fits [] [] f a_nil = f
   last_fits (w ∷ vs) (u ∷ ts) f (a_cons g gs) = last_fits vs ts g gs
+  last_fits {h = h} {v = v} {t = t} [] (u ∷ ts) f x4 = elim x4 [ ]
+  last_fits {h = h} {v = v} {t = t} (w ∷ vs) [] f x4 = elim x4 [ ]
 
 module _ {W : World} (laws : Laws W) where
   module _ (L : Limits) (invoke : Method → State → Out Value) (C : CallOk W invoke) where
@@ -183,6 +185,7 @@ module _ {W : World} (laws : Laws W) where
             };
             value_ok = last_fits vs _ (null_fits refl) g.value_ok;
           }))
+      expression_sound (assign zero e) {Γ = Γ} {t = t} {φ = φ} x8 s H S = elim x8 [ ]
 
       pub expressions_sound : (es : Exprs) {Γ Γ' : Environment} {ts : List ExprType} {φ : ℕ}
           → HaveTypes W Γ es ts Γ' φ

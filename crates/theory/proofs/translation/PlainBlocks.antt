@@ -101,6 +101,8 @@ module _ {W W' : World} (𝓟 : PlainOf W W') where
             matches = rw (sym (ap (λ (z : Slot). z.current) (inj f)) ∙ h) both_class;
             slots = m;
           }
+      go none (some y) a b x10 f = elim x10 [ ]
+      go (some x) none a b x9 f = elim x9 [ ]
   slot_typed (suc k) s m e = record {
     u = known (plain_type s.current);
     typed = slot_plain (variable_at W m k s e);
@@ -188,6 +190,8 @@ module _ {W W' : World} (𝓟 : PlainOf W W') (laws : Laws W) (𝓝 : NameLaws W
           → (o : ℕ) × (is_declared W o ≡ true) × (δ.this ≡ some (class (plain_class o)))
       this-plain none none a no_this f = absurd (Never f)
       this-plain (some x) (some y) a (a_this {o} q j) f = (o, j, a)
+      this-plain none (some y) a x10 f = elim x10 [ ]
+      this-plain (some x) none a x10 f = elim x10 [ ]
   change_typed (suc k) c d s sh γ δ m i e h =
       let Δ₂ = change_types W d in let n = length sh in
       let at₀ : nth (δ.slots ++ Δ₂) n ≡ some (class 1) = temporary_at W Δ₂ 0 _ m (nth₀ _ _) in

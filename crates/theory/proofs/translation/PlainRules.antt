@@ -155,6 +155,8 @@ module _ (W : World) where
           = rw (fresh_opened δ ts) at (plains_have es d) in
           subst (λ γ. HasType W (fresh δ) (block ts es) (last_type null_type us) γ no_effect)
           (fresh_closed δ ts) (type_block l h)
+      plain_has (Rattle.language.specs.Tree.change _ _) {δ = δ} {t = t} x4 = elim x4 [ ]
+      plain_has (assign zero e) {δ = δ} {t = t} x5 = elim x5 [ ]
 
       pub plains_have : (es : Exprs) {δ : Frame DeclaredType} {ts : List ExprType} → Plains δ es ts
           → HaveTypes W (fresh δ) es ts (fresh δ) no_effect

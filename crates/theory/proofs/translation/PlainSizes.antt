@@ -117,6 +117,7 @@ module _ (W : World) (𝓢 : Small W) where
         (omega (arith, size_change (suc (length sh)) sh k c))
     translated_size (assign (suc k) e) {γ} (type_assign d i f) sh
         = rw (translate_assign W (suc k) e γ sh) (omega (arith, translated_size e d sh))
+    translated_size (assign zero e) {γ = γ} {t = t} {φ = φ} x5 sh = elim x5 [ ]
     translated_size (set f e e') (type_set d d' i j) sh = rw (translate_set W f sh d d' i)
         (omega (
           arith,

@@ -188,6 +188,7 @@ module _ (W : World) (𝓢 : Small W) (𝓝 : NameLaws W) where
         (rw (count_all es (opened γ (map fresh_slot ts)) (sh ++ sh₂)) c)
         (plain_types_form ts) (all_deeper _
         (all_deeper _ (all_deeper _ (nodes_in_form es d fs (sh ++ sh₂) v' (block_room ts r a))))))
+    node_in_form (assign Prim.Native.Nat.zero e) {γ = γ} {t = t} {φ = φ} x16 {d = d} {n = n} _ sh v r = elim x16 [ ]
 
     nodes_in_form : (es : Exprs) {γ γ' : Environment} {ts : List ExprType} {φ : ℕ} → HaveTypes W γ es ts γ' φ
         → {d n : ℕ}

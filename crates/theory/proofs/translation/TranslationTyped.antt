@@ -198,6 +198,7 @@ module _ {W W' : World} (𝓟 : PlainOf W W') (laws : Laws W) (𝓝 : NameLaws W
           slots = match_closed W (variables ts) (map plain_type ts) m a.slots;
           typed = plain_block (types_declared 𝓟 ts) a.typed;
         })
+    translation_typed (assign Prim.Native.Nat.zero e) {γ = γ} {t = t} {φ = φ} x10 sh δ m = elim x10 [ ]
 
     pub all_typed : (es : Exprs) {γ γ' : Environment} {ts : List ExprType} {φ : ℕ}
         → HaveTypes W γ es ts γ' φ

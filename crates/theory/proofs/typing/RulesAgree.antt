@@ -95,6 +95,7 @@ module _ (P : List Class) (𝓗 : Hierarchy P) where
     computed (block ts es) {γ} {φ} (type_block {γ'} d hs l) =
         subst (λ (t : ExprType). Computed W γ (block ts es) t (closed (length γ.slots) γ') φ) (last_is l)
         (computed_block (computed_types P d) (computed_all es hs))
+    computed (assign Prim.Native.Nat.zero e) {γ = γ} {t = t} {φ = φ} x4 = elim x4 [ ]
 
     computed_all : (es : Exprs) {γ γ' : Environment} {ts : List ExprType} {φ : ℕ} → HaveTypes P γ es ts γ' φ
         → ComputedAll W γ es ts γ' φ
@@ -137,6 +138,7 @@ module _ (P : List Class) (𝓗 : Hierarchy P) where
         (are_environments P 𝓗 (shape x h') (shape y h''))
     stated (block ts es) (computed_block {us} d hs) =
         type_block (stated_types P d) (stated_all es hs) (its_last us)
+    stated (assign Prim.Native.Nat.zero e) {γ = γ} {t = t} {φ = φ} x4 = elim x4 [ ]
 
     stated_all : (es : Exprs) {γ γ' : Environment} {ts : List ExprType} {φ : ℕ} → ComputedAll W γ es ts γ' φ
         → HaveTypes P γ es ts γ' φ

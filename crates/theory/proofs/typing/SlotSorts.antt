@@ -145,20 +145,20 @@ module _ {W : World} where
     shapes (cons e es) (types_cons d d') = frames_trans (shape e d) (shapes es d')
 
 module _ {W : World} (laws : Laws W) where
-  open laws use {lub-left, lub-right}
+  open laws use {lub_left, lub_right}
 
   -- joined slots
   currents_left : {h : List Object} {v : Value} {x t u : DeclaredType} → Sort x t → Sort x u
       → Fits W h v (known t) → Fits W h v (known (join_currents W t u))
   currents_left both_bool both_bool f = f
   currents_left (both_class {d = c}) (both_class {d}) f =
-      fits_sub laws (class (W.nearest c d)) f (lub-left c d)
+      fits_sub laws (class (W.nearest c d)) f (lub_left c d)
 
   currents_right : {h : List Object} {v : Value} {x t u : DeclaredType} → Sort x t → Sort x u
       → Fits W h v (known u) → Fits W h v (known (join_currents W t u))
   currents_right both_bool both_bool f = f
   currents_right (both_class {d = c}) (both_class {d}) f =
-      fits_sub laws (class (W.nearest c d)) f (lub-right c d)
+      fits_sub laws (class (W.nearest c d)) f (lub_right c d)
 
   slots_left : {h : List Object} {vs : List Value} {a b c : List Slot} → All2 SortS a b → All2 SortS a c
       → All2 (FitsSlot W h) vs b → All2 (FitsSlot W h) vs (join_slots W b c)
@@ -205,7 +205,7 @@ module _ {W : World} (laws : Laws W) where
   join_left (known bool) null_type w e f = absurd (Never e)
   join_left (known (class c)) (known bool) w e f = absurd (Never e)
   join_left (known (class c)) (known (class d)) w e f =
-      rw (inj e) at (fits_sub laws (class (W.nearest c d)) f (lub-left c d))
+      rw (inj e) at (fits_sub laws (class (W.nearest c d)) f (lub_left c d))
   join_left (known (class c)) null_type w e f = rw (inj e) at f
   join_left null_type (known bool) w e f = absurd (Never e)
   join_left null_type (known (class d)) w e f = rw (inj e) at (fits_sub laws (class d) f refl)
@@ -218,7 +218,7 @@ module _ {W : World} (laws : Laws W) where
   join_right (known bool) null_type w e f = absurd (Never e)
   join_right (known (class c)) (known bool) w e f = absurd (Never e)
   join_right (known (class c)) (known (class d)) w e f =
-      rw (inj e) at (fits_sub laws (class (W.nearest c d)) f (lub-right c d))
+      rw (inj e) at (fits_sub laws (class (W.nearest c d)) f (lub_right c d))
   join_right (known (class c)) null_type w e f = rw (inj e) at (fits_sub laws (class c) f refl)
   join_right null_type (known bool) w e f = absurd (Never e)
   join_right null_type (known (class d)) w e f = rw (inj e) at f

@@ -7,7 +7,7 @@ use lib.ListN.{length}
 use lib.Dec.{eqb}
 use native.Mathlib.Omega.{arith}
 use borrow.Author.Tests.{ne_eqb}
-use Rattle.language.specs.Results.{Checked, accept, refuse, passed, bind_checked, need_checked, require}
+use Rattle.language.specs.Results.{Checked, accept, passed, bind_checked, need_checked, require}
 use Rattle.language.specs.Results.{bind_checked_inv, need_checked_inv, require_inv, accept_injective}
 use Rattle.language.specs.Results.{accept≢refuse}
 use Rattle.language.specs.Frames.{opened}
@@ -155,6 +155,7 @@ module _ (W : World) where
         )
     complete (block ts es) (type_block l d) at =
         rw (locals_complete (at + 1) l, completes es d (at + 1 + length ts))
+    complete (assign zero e) {γ = γ} {t = t} {φ = φ} x4 at = elim x4 [ ]
 
     pub completes : (es : Exprs) {γ γ' : Environment} {ts : List ExprType} {φ : ℕ} → HaveTypes W γ es ts γ' φ
         → (at : ℕ)
