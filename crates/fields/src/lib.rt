@@ -41,6 +41,7 @@ fn read_digits(s: &[u8]) -> Decimal
 }
 
 // The number that a field holds.
+#[tactic(auto, unfolding(language::specs::Decimals::decimal_of))]
 pub fn read_decimal(s: &[u8]) -> Decimal
     ensures { result ≡ decimal_of s.now }
 {

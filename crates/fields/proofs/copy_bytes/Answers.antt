@@ -1,0 +1,46 @@
+-- `fields::copy_bytes` meets its contract. Assumes nothing.
+use native.Mathlib.Omega.{arith}
+use Rattle.language.proofs.Filling.{copying_start, copying_long, copying_step, copying_end}
+use Rattle.fields.proofs.copy_bytes.Goals as goal
+
+pub loop-i-init : goal.loop-i-init
+loop-i-init c = copying_start c.args.from.now c.args.to.now c.args.count
+
+pub bounds-from-i : goal.bounds-from-i
+bounds-from-i c = omega (
+  arith,
+  c.requires.0,
+  c.requires.1,
+  c.loop-i-test.true,
+  copying_long c.loop-i.invariant c.requires.0 c.requires.1,
+)
+
+pub bounds-to-i : goal.bounds-to-i
+bounds-to-i c = omega (
+  arith,
+  c.requires.0,
+  c.requires.1,
+  c.loop-i-test.true,
+  copying_long c.loop-i.invariant c.requires.0 c.requires.1,
+)
+
+pub overflow_add-i : goal.overflow_add-i
+overflow_add-i c = omega (
+  arith,
+  c.requires.0,
+  c.requires.1,
+  c.loop-i-test.true,
+  copying_long c.loop-i.invariant c.requires.0 c.requires.1,
+)
+
+pub loop-i-smaller : goal.loop-i-smaller
+loop-i-smaller c = omega (arith, c.loop-i-test.true)
+
+pub loop-i-preserved : goal.loop-i-preserved
+loop-i-preserved c = copying_step c.loop-i.invariant c.requires.0 c.requires.1 c.loop-i-test.true
+
+pub shape_of-to : goal.shape_of-to
+shape_of-to c = copying_long c.loop-i.invariant c.requires.0 c.requires.1
+
+pub returns : goal.returns
+returns c = copying_end c.loop-i.invariant c.requires.0 c.requires.1 c.loop-i-test.false
