@@ -10,7 +10,7 @@ ghost use Rattle.sums.specs.Window.{Put, SumsAfter, Increases, Adds, below, Coun
 ghost use Rattle.sums.specs.Window.{KeepsEntry, Cleared, Open, Narrows, Takes};
 
 // How many models have sums, and the first number that is no longer of the window.
-#[derive(Drop)]
+#[derive(Clone, Copy)]
 pub struct Window {
     pub count: usize,
     pub end: u64,
