@@ -174,10 +174,10 @@ date_of_last = ap date_of (sym number_of_last) ∙ date_of_number last_date last
 
 -- A date has a day exactly if it is in the calendar, not before 2000-01-01 and not after 2179-06-06.
 pub range_of_dates : (d : Date) → ((n : ℕ) × (day_of d ≡ accept n)) ↔ InRange d
-range_of_dates d = (λ p. in-range p.0 p.1, has-day)
+range_of_dates d = (λ p. in_range p.0 p.1, has-day)
   where
     in_range : (n : ℕ) → day_of d ≡ accept n → InRange d
-    in-range n e =
+    in_range n e =
         let h = number_of_day d n e in let l = (date_of_day_of d n e).0 in
         record {
           in_calendar = h.0;

@@ -30,8 +30,8 @@ module _ (y m : ℕ) (in_calendar : InCalendar (date y m 1)) (from : first_year 
   of_month n l u =
       let d = date y m (suc (n - start y m)) in
       let c : InCalendar d = record {
-        month_from = in-calendar.month_from;
-        month_to = in-calendar.month_to;
+        month_from = in_calendar.month_from;
+        month_to = in_calendar.month_to;
         day_from = omega arith;
         day_to = omega arith;
       } in

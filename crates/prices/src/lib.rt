@@ -1,8 +1,7 @@
 // What the calendar and the services on price terms return (document 02, §11). The definitions are in specs/.
-
-// The number of the day that has a date; or a refusal's number and line.
 #![tactic(auto)]
 
+// The number of the day that has a date; or a refusal's number and line.
 #[derive(Drop)]
 pub enum DayAnswer {
     Day(u32),
