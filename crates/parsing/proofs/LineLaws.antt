@@ -12,7 +12,7 @@ use lib.Seq.{sets}
 use Rattle.language.specs.Results.{refuse, require}
 use Rattle.language.specs.Rows.{code, Row}
 use Rattle.language.specs.Tree.{DeclaredType, type_of_number}
-use Rattle.language.specs.Form.{done, after, next, locals}
+use Rattle.language.specs.Form.{done, after, locals}
 use Rattle.language.specs.Tables.{next_rows}
 use Rattle.parsing.specs.declared.lines.Limits.{Limits}
 use Rattle.parsing.specs.Columns.{most_of}

@@ -14,7 +14,7 @@ use language::{
 
 // What there may be at most: the numbers in which the columns of the table of limits differ (document 01, "Lines and rows").
 // `fields` is there for the contracts: how many fields a class has is no matter of this pass.
-#[derive(Drop)]
+#[derive(Clone, Copy)]
 pub struct Limits {
     pub rows: usize,
     pub classes: u32,
