@@ -26,6 +26,8 @@ tabled R T (f ∷ fs) (r ∷ rs) at (a_cons h hs) t l =
       tabled R T fs rs (at + 1) hs
           (λ i q u. let y : at + 1 + i ≡ at + suc i = omega arith in rw y (t (suc i) q u)) (omega (arith, l)),
     )
+tabled R T [] (r ∷ rs) at x6 t l = elim x6 [ ]
+tabled R T (f ∷ fs) [] at x5 t l = elim x5 [ ]
 
 pub fields_tabled : {P : List Class} {E R T M C : List ℕ} → Lent P E R T M C → (k : ℕ) → k ≤ length P
     → FieldRows R T ((world P).fields k) (k * class_width + rows_place)

@@ -1,0 +1,4 @@
+use Rattle.emitters.proofs.rows.+put_fields.Given as goal
+
+abbrev pub decreases-put_fields : goal.decreases-put_fields
+decreases-put_fields l = l.count
