@@ -59,9 +59,9 @@ object_counts_nowhere = object_not_counted
 -- counted through the Identities in the plain run's store are those counted in the source's own, whatever the
 -- two classes; and neither has counts where the other has none.
 pub counts_alike : (ns out : List ℕ) (fuel fuel' : ℕ) (store plain_store : List ℕ)
-    → (e : EndAlikeOnStores ns out (run_of ns fuel store) (run_of out fuel' plain-store))
+    → (e : EndAlikeOnStores ns out (run_of ns fuel store) (run_of out fuel' plain_store))
     → (printed spoiled : ℕ)
-    → counts_through ns (run_of out fuel' plain-store).store e.plain.objects printed spoiled
+    → counts_through ns (run_of out fuel' plain_store).store e.plain.objects printed spoiled
     ≡ run_counts ns (run_of ns fuel store).store e.source.objects printed spoiled
 counts_alike = counted_alike
 
@@ -73,27 +73,27 @@ pub counts_forth : (ns out : List ℕ) → translation ns ≡ accept out
     → (fuel : ℕ) → fuel ≤ most_source_fuel
     → (store : List ℕ) (end : EndsProperly (run_of ns fuel store))
     → (plain_store : List ℕ)
-    → 2 * end.objects + end.changes ≤ capacity plain-store
-    → (plain_end : EndsProperly (run_of out (plain_steps_a_step * fuel) plain-store))
+    → 2 * end.objects + end.changes ≤ capacity plain_store
+    → (plain_end : EndsProperly (run_of out (plain_steps_a_step * fuel) plain_store))
     × ((printed spoiled : ℕ)
-    → counts_through ns (run_of out (plain_steps_a_step * fuel) plain-store).store plain_end.objects
+    → counts_through ns (run_of out (plain_steps_a_step * fuel) plain_store).store plain_end.objects
     printed spoiled
     ≡ run_counts ns (run_of ns fuel store).store end.objects printed spoiled)
-counts_forth ns out t fuel l store end plain-store room =
-    let e = demand_3 ns out t fuel l store end plain-store room in
-    (e.plain, counted_as_ended ns out fuel _ store plain-store e end e.plain)
+counts_forth ns out t fuel l store end plain_store room =
+    let e = demand_3 ns out t fuel l store end plain_store room in
+    (e.plain, counted_as_ended ns out fuel _ store plain_store e end e.plain)
 
 -- And back. If the run of the plain rows, with any fuel and any store, ends in one of those ways, then with
 -- the same fuel and any store with room for as many objects as it made the run of the program ends so too,
 -- and the labels of its store are those counted through the plain store.
 pub counts_back : (ns out : List ℕ) → translation ns ≡ accept out
-    → (fuel : ℕ) (plain_store : List ℕ) (plain_end : EndsProperly (run_of out fuel plain-store))
+    → (fuel : ℕ) (plain_store : List ℕ) (plain_end : EndsProperly (run_of out fuel plain_store))
     → (store : List ℕ)
     → plain_end.objects ≤ capacity store
     → (end : EndsProperly (run_of ns fuel store))
     × ((printed spoiled : ℕ)
-    → counts_through ns (run_of out fuel plain-store).store plain_end.objects printed spoiled
+    → counts_through ns (run_of out fuel plain_store).store plain_end.objects printed spoiled
     ≡ run_counts ns (run_of ns fuel store).store end.objects printed spoiled)
-counts_back ns out t fuel plain-store plain_end store room =
-    let e = demand_3_back ns out t fuel plain-store plain_end store room in
-    (e.source, counted_as_ended ns out fuel fuel store plain-store e e.source plain_end)
+counts_back ns out t fuel plain_store plain_end store room =
+    let e = demand_3_back ns out t fuel plain_store plain_end store room in
+    (e.source, counted_as_ended ns out fuel fuel store plain_store e e.source plain_end)

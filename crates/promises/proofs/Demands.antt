@@ -138,18 +138,18 @@ pub demand_3 : (ns out : List ℕ) → translation ns ≡ accept out
     → (fuel : ℕ) → fuel ≤ most_source_fuel
     → (store : List ℕ) (end : EndsProperly (run_of ns fuel store))
     → (plain_store : List ℕ)
-    → 2 * end.objects + end.changes ≤ capacity plain-store
-    → EndAlikeOnStores ns out (run_of ns fuel store) (run_of out (plain_steps_a_step * fuel) plain-store)
-demand_3 ns out t fuel l store end plain-store room =
-    runs_alike ns out t fuel _ (omega arith) (omega (arith, l)) store end plain-store (omega (arith, room))
+    → 2 * end.objects + end.changes ≤ capacity plain_store
+    → EndAlikeOnStores ns out (run_of ns fuel store) (run_of out (plain_steps_a_step * fuel) plain_store)
+demand_3 ns out t fuel l store end plain_store room =
+    runs_alike ns out t fuel _ (omega arith) (omega (arith, l)) store end plain_store (omega (arith, room))
 
 -- Demand 3, back. If the run of the plain rows, with any fuel and any store, ends in one of those ways, then
 -- for every store with room for as many objects as the plain run made, whatever it held before, the run of
 -- the program with the same fuel ends alike.
 pub demand_3_back : (ns out : List ℕ) → translation ns ≡ accept out
-    → (fuel : ℕ) (plain_store : List ℕ) (end : EndsProperly (run_of out fuel plain-store))
+    → (fuel : ℕ) (plain_store : List ℕ) (end : EndsProperly (run_of out fuel plain_store))
     → (store : List ℕ)
     → end.objects ≤ capacity store
-    → EndAlikeOnStores ns out (run_of ns fuel store) (run_of out fuel plain-store)
-demand_3_back ns out t fuel plain-store end store room =
-    runs_alike_back ns out t fuel plain-store end store room
+    → EndAlikeOnStores ns out (run_of ns fuel store) (run_of out fuel plain_store)
+demand_3_back ns out t fuel plain_store end store room =
+    runs_alike_back ns out t fuel plain_store end store room

@@ -198,10 +198,10 @@ pub record BeginsWithRun (s : List ℕ) (r : PriceRun) (rest : List ℕ) : Type 
   pub after_from : ℕ
   pub after_to : ℕ
   pub after_cents : ℕ
-  pub from_read : first_number s ≡ Number r.from after-from
-  pub to_read : number_at after-from s ≡ Number r.to after-to
-  pub cents_read : number_at after-to s ≡ Number r.cents after-cents
-  pub ended : drop after-cents s ≡ line_feed ∷ rest
+  pub from_read : first_number s ≡ Number r.from after_from
+  pub to_read : number_at after_from s ≡ Number r.to after_to
+  pub cents_read : number_at after_to s ≡ Number r.cents after_cents
+  pub ended : drop after_cents s ≡ line_feed ∷ rest
 
 -- A text is the lines of these runs one after another, each read like a term's line, and nothing else.
 pub data ReadsAs : List ℕ → List PriceRun → Type 0 where

@@ -89,10 +89,10 @@ place_of m (d ∷ ds) = cond (eqb d.model m) 0 (suc (place_of m ds))
 pub record ReportOf (number : ℕ) (cs : List (Option Counted)) (bytes : List ℕ) : Type 0 where
   pub sums_of_lines : List Counted
   pub in_report : List Counted
-  pub summed : sums number cs ≡ accept sums-of-lines
-  pub all_there : Permuted sums-of-lines in-report
-  pub in_order : InOrder in-report
-  pub written : bytes ≡ lines_of in-report
+  pub summed : sums number cs ≡ accept sums_of_lines
+  pub all_there : Permuted sums_of_lines in_report
+  pub in_order : InOrder in_report
+  pub written : bytes ≡ lines_of in_report
 
 -- Two reports are the same bytes, or both are refused with 17, each on a line of its own.
 pub data AgreeOnSums : Checked (List ℕ) → Checked (List ℕ) → Type 0 where

@@ -23,7 +23,7 @@ module _ {A : Type 0} {P : A → Type 0} where
       → OnLine P at (xs ++ ys) l
   on_right {l} [] {ys} n e h = subst (λ (k : ℕ). OnLine P k ys l) (omega (arith, e)) h
   on_right {at} {l} (x ∷ xs) {ys} n e h = later {at = at}
-      (on_right xs (length xs) refl (subst (λ (k : ℕ). OnLine P k ys l) (omega (arith, e)) h))
+      (on_right {at = at + 1} xs (length xs) refl (subst (λ (k : ℕ). OnLine P k ys l) (omega (arith, e)) h))
 
   -- The lines of a list are as many as its entries.
   pub on_from : {at l : ℕ} {xs : List A} → OnLine P at xs l → at ≤ l

@@ -145,10 +145,10 @@ counted_serves rows store n printed spoiled c e =
         let z = and_inv (not (eqb spoiled printed)) _ y.1 in
         record {
           program = p;
-          rows_of_it = rows-of-it;
+          rows_of_it = rows_of_it;
           printed_declared = (declared_test p.classes printed).0 x.0;
           spoiled_declared = (declared_test p.classes spoiled).0 y.0;
-          below = (below_is_subclass p rows-of-it.well spoiled printed).0 z.1;
+          below = (below_is_subclass p rows_of_it.well spoiled printed).0 z.1;
           strictly = eqb-false spoiled printed (not_true _ z.0);
           held = omega (arith, h);
           known = λ j l. declared_or_object p.classes (ended_in store j)

@@ -211,15 +211,15 @@ classes_alike ns out {a} {a'} e =
 
 -- Where two runs end alike, the labels counted through the plain store are those of the source's store.
 pub counted_alike : (ns out : List ℕ) (fuel fuel' : ℕ) (store plain_store : List ℕ)
-    → (e : EndAlikeOnStores ns out (run_of ns fuel store) (run_of out fuel' plain-store))
+    → (e : EndAlikeOnStores ns out (run_of ns fuel store) (run_of out fuel' plain_store))
     → (printed spoiled : ℕ)
-    → counts_through ns (run_of out fuel' plain-store).store e.plain.objects printed spoiled
+    → counts_through ns (run_of out fuel' plain_store).store e.plain.objects printed spoiled
     ≡ run_counts ns (run_of ns fuel store).store e.source.objects printed spoiled
 unfolding counts_through run_counts
-counted_alike ns out fuel fuel' store plain-store e printed spoiled =
+counted_alike ns out fuel fuel' store plain_store e printed spoiled =
     rw (
       holds_them ns fuel store e.source,
-      holds_them out fuel' plain-store e.plain,
+      holds_them out fuel' plain_store e.plain,
       classes_alike ns out e,
     )
 
@@ -230,11 +230,11 @@ one_number x y = let q : ran x.outcome x.steps x.objects x.changes
 
 -- So the labels are the same with the objects of any proper ends of the two runs.
 pub counted_as_ended : (ns out : List ℕ) (fuel fuel' : ℕ) (store plain_store : List ℕ)
-    → EndAlikeOnStores ns out (run_of ns fuel store) (run_of out fuel' plain-store)
-    → (end : EndsProperly (run_of ns fuel store)) (plain_end : EndsProperly (run_of out fuel' plain-store))
+    → EndAlikeOnStores ns out (run_of ns fuel store) (run_of out fuel' plain_store)
+    → (end : EndsProperly (run_of ns fuel store)) (plain_end : EndsProperly (run_of out fuel' plain_store))
     → (printed spoiled : ℕ)
-    → counts_through ns (run_of out fuel' plain-store).store plain_end.objects printed spoiled
+    → counts_through ns (run_of out fuel' plain_store).store plain_end.objects printed spoiled
     ≡ run_counts ns (run_of ns fuel store).store end.objects printed spoiled
-counted_as_ended ns out fuel fuel' store plain-store e end plain_end printed spoiled =
+counted_as_ended ns out fuel fuel' store plain_store e end plain_end printed spoiled =
     rw (one_number plain_end e.plain, one_number end e.source)
-    (counted_alike ns out fuel fuel' store plain-store e printed spoiled)
+    (counted_alike ns out fuel fuel' store plain_store e printed spoiled)

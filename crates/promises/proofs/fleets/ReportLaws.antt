@@ -30,6 +30,7 @@ has_permuted permuted_swap (has_here h) = has_later (has_here h)
 has_permuted permuted_swap (has_later (has_here h)) = has_here h
 has_permuted permuted_swap (has_later (has_later h)) = has_later (has_later h)
 has_permuted (permuted_then p q) h = has_permuted q (has_permuted p h)
+has_permuted {m = m} permuted_nil h = elim h [ ]
 
 -- The line of a model put first.
 pub record First (m : ℕ) (xs : List Counted) : Type 0 where
@@ -51,6 +52,7 @@ put_first (has_later {x} {xs} h) = let f = put_first h in record {
 pub no_model : {m : ℕ} {xs : List Counted} → Each (Other m) xs → Has m xs → ⊥
 no_model (each_cons n ns) (has_here h) = n h
 no_model (each_cons n ns) (has_later h) = no_model ns h
+no_model {m = m} each_nil x3 = elim x3 [ ]
 
 -- Sums with the same models, each what its model gives, are permutations of one another.
 pub same_sums : (of : ℕ → Counted) {ds es : List Counted} → Distinct ds → Distinct es

@@ -162,6 +162,7 @@ totals_within xs w m = within_is (totals xs m) (elim (has_or_not m xs)
     one (each_cons {a} {l} e es) w (has_here h) =
         rw h at (ap is_within (sym e) ∙ (and_inv (is_within a) (all_within l) w).0)
     one (each_cons {a} {l} e es) w (has_later h) = one es (and_inv (is_within a) (all_within l) w).1 h
+    one each_nil w x5 = elim x5 [ ]
 
     zeros : Each (Other m) xs → is_within (totals xs m) ≡ true
     zeros h = rw (

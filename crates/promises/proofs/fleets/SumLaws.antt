@@ -68,6 +68,7 @@ module _ (m : ℕ) where
   unfolding added
   added_takes ds (x ∷ xs) (has_here h) = added_keeps (add x ds) xs ((add_has m x ds).0 (has_here h))
   added_takes ds (x ∷ xs) (has_later h) = added_takes (add x ds) xs h
+  added_takes ds [] x' = elim x' [ ]
 
   added_from : (ds xs : List Counted) → Has m (added ds xs) → Has m ds ⊎ Has m xs
   unfolding added

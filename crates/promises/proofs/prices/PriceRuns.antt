@@ -146,6 +146,7 @@ not_before : {end first : ℕ} {rs : List PriceRun} (day : ℕ) → InOrder end 
     → first ≤ day
 not_before day (run_then a b c o) (in_this d e) = omega (arith, a, d)
 not_before day (run_then a b c o) (in_later i) = omega (arith, a, b, not_before day o i)
+not_before {end = end} day (no_more_runs {first = first}) x4 = elim x4 [ ]
 
 module _ (price : ℕ → Option ℕ) (end : ℕ) where
   -- The first run, and those after it.
