@@ -34,6 +34,7 @@ fn is_leap(year: u32) -> bool
 }
 
 // The number of days of a month.
+#[tactic(auto, unfolding(prices::specs::Calendar::days_in))]
 pub fn days_in(year: u32, month: u32) -> u32
     ensures { result ≡ days_in year month }
 {
