@@ -2,11 +2,8 @@
 use mathlib.Core.Path.{◌≡◌, refl, sym, ap, ◌∙◌}
 use mathlib.Core.Bool.{Bool, true, false}
 use mathlib.Core.List.{List, [], ◌∷◌}
-use mathlib.Core.Logic.{⊎_elim}
 use Prim.Native.Nat.{ℕ, zero, suc, ◌+◌, ◌*◌, ◌≤◌}
-use borrow.Author.Tests.{eq-eqb, ne_eqb, eqb-false}
-use types.Run.{OneOf}
-use denote.Enum.Declared.{tag_of}
+use borrow.Author.Tests.{eq-eqb, ne_eqb}
 use lib.ListN.{length, get_or, set, set as replaced}
 use Rattle.types.specs.declared.Typing.{Typing}
 use Rattle.types.specs.declared.Typing.TheVariants.{Bool as Bool_case, Class, Null, Refusal}
@@ -18,7 +15,6 @@ use Rattle.types.specs.Tables.{is_fitting, applied}
 use Rattle.access.specs.Fields.{not_class, field_in, field_place, field_row, got, got_classes}
 use Rattle.access.specs.Fields.{found_answer, noted, PreField, put_answer, put_noted, put, put_classes}
 use Rattle.access.specs.Fields.{NoClass}
-use Rattle.types.specs.contracts.Typing.{the_type}
 use native.Mathlib.Omega.{arith}
 use lib.Bits.{bit_or}
 use Rattle.language.specs.Effects.{join}
@@ -42,11 +38,9 @@ pub class_refusal : (at : ℕ) (a : Answer) (n l : ℕ) → a.typing ≡ Refusal
 unfolding not_class
 class_refusal at a n l e = rw e
 
-pub no_class_of : (t : Typing) → OneOf (0 ∷ 2 ∷ 3 ∷ []) (tag_of the_type t) → NoClass t
+pub no_class_of : (t : Typing) → ((c : ℕ) → t ≡ Class c → ⊥) → NoClass t
 no_class_of Bool_case k = tt
-no_class_of (Class c) k =
-    absurd (⊎_elim (λ e. eqb-false 1 0 refl e)
-    (λ m. ⊎_elim (λ e. eqb-false 1 2 refl e) (λ e. eqb-false 1 3 refl e) m) k)
+no_class_of (Class c) k = absurd (k c refl)
 no_class_of Null k = tt
 no_class_of (Refusal n l) k = tt
 
@@ -79,13 +73,11 @@ field_at R T k j f e h = rw e h
 
 -- G
 pub got_other : (R T C : List ℕ) (at φ : ℕ) (t : Typing) (r : Answer)
-    → OneOf (0 ∷ 2 ∷ 3 ∷ []) (tag_of the_type t) → r ≡ not_class at t φ
+    → ((c : ℕ) → t ≡ Class c → ⊥) → r ≡ not_class at t φ
     → (r ≡ got R T at t φ) × (C ≡ got_classes R T C at t)
 unfolding got got_classes
 got_other R T C at φ Bool_case r k h = (h, refl)
-got_other R T C at φ (Class c) r k h =
-    absurd (⊎_elim (λ e. eqb-false 1 0 refl e)
-    (λ m. ⊎_elim (λ e. eqb-false 1 2 refl e) (λ e. eqb-false 1 3 refl e) m) k)
+got_other R T C at φ (Class c) r k h = absurd (k c refl)
 got_other R T C at φ Null r k h = (h, refl)
 got_other R T C at φ (Refusal n l) r k h = (h, refl)
 
