@@ -3,7 +3,7 @@ use Rattle.std.specs.Prelude.{◌≡◌, cond, List, ℕ, zero, suc, ◌+◌, �
 use Rattle.std.proofs.Math.Option.{some}
 use Rattle.language.specs.Lists.{nth}
 use Rattle.language.specs.Frames.{Frame}
-use Rattle.language.specs.Tree.{new, count, Class}
+use Rattle.language.specs.Tree.{count, Class}
 use Rattle.language.specs.World.{Method}
 use Rattle.language.specs.Program.{world, body_in}
 use Rattle.language.specs.Encoded.{Encoded}

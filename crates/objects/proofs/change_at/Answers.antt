@@ -1,0 +1,98 @@
+use native.Mathlib.Omega.{arith}
+use Rattle.objects.specs.Values.{counts_in}
+use Rattle.objects.proofs.Changes.{reached_spots, fill_at, few_at, made_at, one_change}
+use Rattle.objects.proofs.change_at.Goals as goal
+
+pub offset_bounds-store-o : goal.offset_bounds-store-o
+offset_bounds-store-o c = omega (
+  arith,
+  reached_spots c.args.w
+      (counts_in c.args.tally.now) c.requires.w_value
+      c.requires.pre_change,
+  c.well_formed.1.1.0,
+)
+
+pub bounds-store-o : goal.bounds-store-o
+bounds-store-o c = omega (
+  arith,
+  reached_spots c.args.w
+      (counts_in c.args.tally.now)
+      c.requires.w_value
+      c.requires.pre_change,
+)
+
+pub class_entry-root-requires : goal.class_entry-root-requires
+class_entry-root-requires c = omega (
+  arith,
+  reached_spots c.args.w
+      (counts_in c.args.tally.now)
+      c.requires.w_value
+      c.requires.pre_change,
+)
+
+pub class_entry-kept-requires : goal.class_entry-kept-requires
+class_entry-kept-requires c = omega (
+  arith,
+  reached_spots c.args.w
+      (counts_in c.args.tally.now)
+      c.requires.w_value
+      c.requires.pre_change,
+  c.class_entry-root.ensures,
+)
+
+pub returns-then-count-kept : goal.returns-then-count-kept
+returns-then-count-kept c = few_at c.args.w _
+    c.requires.w_value
+    (rw (
+      c.class_entry-kept.ensures,
+      c.class_entry-root.ensures,
+      c.class_entry-count.ensures,
+    ) at c.if-count-kept.true)
+
+pub fill-requires : goal.fill-requires
+fill-requires c = rw (
+  c.class_entry-kept.ensures,
+  c.class_entry-root.ensures,
+)
+    (fill_at c.args.w
+    (counts_in c.args.tally.now)
+    c.requires.w_value
+    c.requires.pre_change)
+
+pub offset_bounds-store-o-2 : goal.offset_bounds-store-o-2
+offset_bounds-store-o-2 c = omega (
+  arith,
+  reached_spots c.args.w (counts_in c.args.tally.now)
+      c.requires.w_value
+      c.requires.pre_change,
+  c.well_formed.1.1.0,
+)
+
+pub bounds-store-o-2 : goal.bounds-store-o-2
+bounds-store-o-2 c = omega (
+  arith,
+  reached_spots c.args.w (counts_in c.args.tally.now)
+      c.requires.w_value
+      c.requires.pre_change,
+  c.fill.ensures.long,
+)
+
+pub returns : goal.returns
+returns c = made_at c.args.w
+    (counts_in c.args.tally.now)
+    c.requires.w_value
+    c.fill.new.store
+    (rw (
+      c.class_entry-kept.ensures,
+      c.class_entry-root.ensures,
+      c.class_entry-count.ensures,
+    ) at c.if-count-kept.false)
+    c.requires.pre_change.is_word.small
+    (rw (
+      c.class_entry-kept.ensures,
+      c.class_entry-root.ensures,
+    ) at c.fill.ensures)
+    (one_change c.args.w
+    c.args.tally.now
+    c.requires.pre_change.is_word.short
+    c.put.ensures)
