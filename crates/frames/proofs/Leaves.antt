@@ -10,7 +10,7 @@ use borrow.Author.Tests.{ne_eqb}
 use lib.ListN.{length, get_or}
 use Rattle.language.specs.Results.{ok}
 use Rattle.language.specs.Frames.{at_slot}
-use Rattle.language.specs.Tree.{new, Class}
+use Rattle.language.specs.Tree.{Class}
 use Rattle.language.specs.Program.{world}
 use Rattle.language.specs.Encoded.{Encoded}
 use Rattle.language.specs.State.{Value as Meaning, null, truth, object, State, Out}

@@ -1,7 +1,6 @@
 -- What a node requires and ensures before it is entered and once it has been, and what the functions of nodes that need no
 -- child evaluated do.
 use Rattle.std.specs.Prelude.{◌≡◌, true, ◌||◌, Bool, List, ℕ, suc, ◌+◌, ◌-◌, ◌*◌, ◌≤◌, ◌<◌, eqb, length, get_or, ◌⊎◌}
-use Rattle.language.specs.Frames.{frame}
 use Rattle.language.specs.Tree.{Expr, Class}
 use Rattle.language.specs.World.{Method}
 use Rattle.language.specs.Program.{world, body_in}
