@@ -107,7 +107,7 @@ module _ {R M F : List ℕ} {r np nx n : ℕ} (w : OverrideReady R M F r np nx n
 
     pub override_count : (get_or M (n * 4 + 2) 0 ≡ np → ⊥) → false ≡ may_override w.method (some w.found)
     override_count o = sym (after-result ∙ rw (other_length w.method.parameters d.parameters
-        (λ q. o (count-is ∙ (q ∙ sym w.np_is)))))
+        (λ q. o (count_is ∙ (q ∙ sym w.np_is)))))
 
     module _ (q : get_or M (n * 4 + 2) 0 ≡ np) where
       abbrev pub own_types : ParameterLines R (r + 1) np
@@ -125,7 +125,7 @@ module _ {R M F : List ℕ} {r np nx n : ℕ} (w : OverrideReady R M F r np nx n
         types = w.over.placed.declaration.parameters;
         here = over_at.parameters;
         in_form = here.in_form.parameters;
-        n_is = sym q ∙ count-is;
+        n_is = sym q ∙ count_is;
         short = w.standing.short;
       }
 
