@@ -77,13 +77,13 @@ module _ {R E T M F : List ℕ} {k r first count : ℕ} (w : ClassReady R E T M 
   pub class_late : (over : ℕ) → over ≡ get_or R (r * 4 + 2) 0 → k ≤ over
       → Refused 4 (r + 1) ≡ headed own (check_class of_check w.program.classes k (r + 1) w.one)
   unfolding fault_of_class
-  class_late over over-is l = refused_is own _ 4 (r + 1) (fault_is ∙ rw
-      (le-ltb w.one.super k (omega (arith, l, over-is, at.line.second))))
+  class_late over over_is l = refused_is own _ 4 (r + 1) (fault_is ∙ rw
+      (le-ltb w.one.super k (omega (arith, l, over_is, at.line.second))))
 
   module _ (kind over : ℕ) (kind_is : kind ≡ get_or R (r * 4 + 1) 0) (over_is : over ≡ get_or R (r * 4 + 2) 0)
       (l : over < k) where
     pub super_is : over ≡ w.one.super
-    super_is = over-is ∙ at.line.second
+    super_is = over_is ∙ at.line.second
 
     earlier : w.one.super < k
     earlier = omega (arith, l, super_is)
@@ -105,7 +105,7 @@ module _ {R E T M F : List ℕ} {k r first count : ℕ} (w : ClassReady R E T M 
         ≡ may_extend w.one.kind (kind_at P' w.one.super)
     extends-is = ap (λ (j : Kind). may_extend j
         (some (kind_of_number (get_or T (over * 576 + 512) 0))))
-        (ap kind_of_number (kind-is ∙ at.line.first) ∙ formed.kind_back)
+        (ap kind_of_number (kind_is ∙ at.line.first) ∙ formed.kind_back)
         ∙ kind-of-super over super_is
 
     module _ (b : Bool) (e : b ≡ may_extend (kind_of_number kind)
@@ -126,7 +126,7 @@ module _ {R E T M F : List ℕ} {k r first count : ℕ} (w : ClassReady R E T M 
         is = w.is;
         over_is = super_is;
         earlier = l;
-        kind_is = kind-is ∙ at.line.first;
+        kind_is = kind_is ∙ at.line.first;
       }
 
       pub class_fields_here : (n : ℕ) × Run R 70 (r + 1) n

@@ -3,7 +3,7 @@ use mathlib.Core.Path.{◌≡◌, refl, sym, ap, subst, ◌∙◌}
 use mathlib.Core.Option.{some}
 use mathlib.Core.List.{List, [], ◌∷◌}
 use mathlib.Core.Logic.{⊎_elim}
-use Prim.Native.Nat.{ℕ, zero, suc, ◌+◌, ◌*◌, ◌≤◌, ◌<◌}
+use Prim.Native.Nat.{ℕ, suc, ◌+◌, ◌*◌, ◌≤◌, ◌<◌}
 use native.Mathlib.Omega.{arith}
 use lib.Bits.{bit_or}
 use lib.ListN.{length, get_or, set, length-set}
@@ -166,7 +166,7 @@ module _ {R E T₀ A₀ M₀ F₀ : List ℕ} {count : ℕ} (w : ClassesReady R 
           pub going_count : next + n ≤ 20000
           going_count = omega (
             arith,
-            n-is,
+            n_is,
             p.next_is,
             first_few w.program.classes k one.0 this,
             methods_few w.standing,
@@ -177,7 +177,7 @@ module _ {R E T₀ A₀ M₀ F₀ : List ℕ} {count : ℕ} (w : ClassesReady R 
           pub super_earlier : (over : ℕ) → over ≡ get_or R (r * 4 + 2) 0 → over < k
           super_earlier over over_is = omega (
             arith,
-            over-is,
+            over_is,
             ((f going_ready).1 n d).0.earlier k one.0 (omega arith) this,
             line.second,
           )
@@ -185,17 +185,17 @@ module _ {R E T₀ A₀ M₀ F₀ : List ℕ} {count : ℕ} (w : ClassesReady R 
           above-is : (over : ℕ) → over ≡ get_or R (r * 4 + 2) 0 → (b : ℕ) → b ≡ effect_of k
               → bit_or b (get_or A over 0) ≡ above w.program.classes k
           unfolding join
-          above-is over over-is b e =
-              let s = over-is ∙ line.second in
+          above-is over over_is b e =
+              let s = over_is ∙ line.second in
               let c = one.0 in
-              let h : c.super < k = omega (arith, super_earlier over over-is, s) in
-              rw (e, p.aboves over (super_earlier over over-is), s)
+              let h : c.super < k = omega (arith, super_earlier over over_is, s) in
+              rw (e, p.aboves over (super_earlier over over_is), s)
               (sym (above_of w.program.classes k p.lookups.earlier k c this h (omega arith)))
 
           pub going_step : (over : ℕ) → over ≡ get_or R (r * 4 + 2) 0 → (b : ℕ) → b ≡ effect_of k → (row : ℕ)
               → ((v : ClassHere R E r) → row ≡ r + class_lines v.one)
               → Going T' (set A k (bit_or b (get_or A over 0))) M' F' (k + 1) row (next + n)
-          going_step over over-is b e row g =
+          going_step over over_is b e row g =
               let x = bit_or b (get_or A over 0) in
               let q : row ≡ r + class_lines one.0 = g going_here in
               let s : k + 1 ≡ suc k = omega arith in
@@ -209,13 +209,13 @@ module _ {R E T₀ A₀ M₀ F₀ : List ℕ} {count : ℕ} (w : ClassesReady R 
                     (sym d ∙ (f going_ready).0))
                     ∙ rw (q, s, t));
                 lookups = ((f going_ready).1 n d).0;
-                next_is = omega (arith, n-is, p.next_is, first_next w.program.classes k one.0 this);
-                entered = rw n-is ((f going_ready).1 n d).1;
+                next_is = omega (arith, n_is, p.next_is, first_next w.program.classes k one.0 this);
+                entered = rw n_is ((f going_ready).1 n d).1;
                 aboves = λ j h. ⊎_elim
                     (λ y. get_or-set_other A k j x 0 (λ z. omega (arith, z, y)) ∙ p.aboves j y)
                     (λ y. ap (λ (j : ℕ). get_or (set A k x) j 0) y
                     ∙ (get_or-set_same A k x 0 going_index.2
-                    ∙ (above-is over over-is b e ∙ ap (above w.program.classes) (sym y))))
+                    ∙ (above-is over over_is b e ∙ ap (above w.program.classes) (sym y))))
                     (less_or_same j k (omega (arith, h)));
                 long_above = length-set A k x ∙ p.long_above;
               }
