@@ -11,7 +11,7 @@ use language::LINE_REFUSAL;
 use sums::{Taken, Window};
 
 // How many lines count, the refusal of the next one (0 where there is none), and the window of models that was summed.
-#[derive(Drop)]
+#[derive(Clone, Copy)]
 pub struct Scan {
     pub place: usize,
     pub number: u32,

@@ -15,7 +15,7 @@ ghost use Rattle.language.specs.Limits.{of_check, object_width};
 use language::{ALL_CLASSES, FICKLE, IDENTITY, OBJECT_WIDTH, Type};
 
 // What is known of checked rows: how many classes they declare, or that they are refused.
-#[derive(Drop)]
+#[derive(Clone, Copy)]
 pub enum Known {
     Classes(u32),
     Refused,

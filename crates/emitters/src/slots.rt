@@ -6,7 +6,7 @@ ghost use Rattle.language.specs.Limits.{of_translator};
 
 // The scope in which a node is translated: how many slots of the source it has, `this` among them, and the first slot of
 // the plain program that is free.
-#[derive(Drop)]
+#[derive(Clone, Copy)]
 pub struct Scope {
     pub variables: usize,
     pub free: u32,

@@ -53,7 +53,7 @@ pub const FULL: u64 = STUCK + FULL_STOP as u64;
 const FIELD_PLACES: usize = OBJECT_WIDTH - 1;
 
 // A value. Object(j) is the j-th object made, from 1.
-#[derive(Drop)]
+#[derive(Clone, Copy)]
 pub enum Value {
     Null,
     Truth(bool),

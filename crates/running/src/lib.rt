@@ -11,7 +11,7 @@ use machine::Run;
 use passes::{FEW_CLASSES, FEW_TABLE};
 
 // A refusal's number and line, or how the run ended.
-#[derive(Drop)]
+#[derive(Clone, Copy)]
 pub enum Answer {
     Refused(u32, u32),
     Ran(Run),
