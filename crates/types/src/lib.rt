@@ -15,7 +15,7 @@ use language::{NO_TYPE, ROOT_PLACE, SUPER_PLACE, TYPE_REFUSAL, Type, class_entry
 pub mod slots;
 
 // What typing answers of an expression: bool, a class, null, or a refusal's number and line.
-#[derive(Drop)]
+#[derive(Clone, Copy)]
 pub enum Typing {
     Bool,
     Class(u32),
@@ -24,7 +24,7 @@ pub enum Typing {
 }
 
 // The answer with the expression's effect, a set of classes; a refusal has none.
-#[derive(Drop)]
+#[derive(Clone, Copy)]
 pub struct Answer {
     pub typing: Typing,
     pub effect: u64,

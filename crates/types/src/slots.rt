@@ -14,7 +14,7 @@ pub const HALF: u32 = 65536;
 
 // Where typing stands in a body: how many classes are declared; the class in which the body stands, 0 in the start block; how
 // many slots are in scope, and how many may be at most; where slots that are saved and arguments that wait begin.
-#[derive(Drop)]
+#[derive(Clone, Copy)]
 pub struct Scope {
     pub count: u32,
     pub class: u32,
