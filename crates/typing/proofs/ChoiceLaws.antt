@@ -1,11 +1,7 @@
 -- Laws of what J answers and leaves in the slots once its children are typed, case by case. Assumes nothing.
 use mathlib.Core.Path.{◌≡◌, refl, sym, ◌∙◌}
-use mathlib.Core.Logic.{⊎_elim}
-use mathlib.Core.List.{List, [], ◌∷◌}
+use mathlib.Core.List.{List}
 use Prim.Native.Nat.{ℕ, ◌+◌}
-use borrow.Author.Tests.{eqb-false}
-use types.Run.{OneOf}
-use denote.Enum.Declared.{tag_of}
 use lib.Bits.{bit_or}
 use lib.ListN.{get_or}
 use Rattle.language.specs.Effects.{join}
@@ -15,16 +11,13 @@ use Rattle.types.specs.declared.Answer.{Answer}
 use Rattle.types.specs.Answers.{answer, refusal}
 use Rattle.types.specs.Tables.{Changed, joined_slot, joined_case}
 use Rattle.typing.specs.Nodes.{joined_answer, chosen, PostChoice}
-use Rattle.types.specs.contracts.Typing.{the_type}
 use Rattle.types.proofs.Cases.{refused_not}
 
 pub chosen_other : (T A : List ℕ) (at : ℕ) (t : Typing) (φ : ℕ) (u v : Typing) (r : Answer)
-    → OneOf (1 ∷ 2 ∷ 3 ∷ []) (tag_of the_type t)
+    → (t ≡ Bool_case → ⊥)
     → r ≡ refusal 9 at → r ≡ chosen T A at t φ u v
 unfolding chosen
-chosen_other T A at Bool_case φ u v r k e =
-    absurd (⊎_elim (λ e. eqb-false 0 1 refl e)
-    (λ m. ⊎_elim (λ e. eqb-false 0 2 refl e) (λ e. eqb-false 0 3 refl e) m) k)
+chosen_other T A at Bool_case φ u v r k e = absurd (k refl)
 chosen_other T A at (Class c) φ u v r k e = e
 chosen_other T A at Null φ u v r k e = e
 chosen_other T A at (Refusal n l) φ u v r k e = e
@@ -35,17 +28,15 @@ module _ (T A : List ℕ) (at : ℕ) (t : Typing) (φ : ℕ) (u v w : Typing) (r
   unfolding chosen joined_answer
   chosen_none n l f e = rw (q, sym ew, f) e
 
-  pub chosen_some : OneOf (0 ∷ 1 ∷ 2 ∷ []) (tag_of the_type w) → r ≡ answer w φ → r ≡ chosen T A at t φ u v
+  pub chosen_some : ((n l : ℕ) → w ≡ Refusal n l → ⊥) → r ≡ answer w φ → r ≡ chosen T A at t φ u v
   unfolding chosen joined_answer
   chosen_some k e = rw (q, sym ew) (e ∙ go w k)
     where
-      go : (w : Typing) → OneOf (0 ∷ 1 ∷ 2 ∷ []) (tag_of the_type w) → answer w φ ≡ joined_answer at φ w
+      go : (w : Typing) → ((n l : ℕ) → w ≡ Refusal n l → ⊥) → answer w φ ≡ joined_answer at φ w
       go Bool_case k = refl
       go (Class c) k = refl
       go Null k = refl
-      go (Refusal n l) k =
-          absurd (⊎_elim (λ e. eqb-false 3 0 refl e)
-          (λ m. ⊎_elim (λ e. eqb-false 3 1 refl e) (λ e. eqb-false 3 2 refl e) m) k)
+      go (Refusal n l) k = absurd (k n l refl)
 
 pub refused_choice : {T A S : List ℕ} {at scope top : ℕ} {a b c : Answer} (r : Answer) → r ≡ refusal 9 at
     → r ≡ chosen T A at a.typing (bit_or a.effect (bit_or b.effect c.effect)) b.typing

@@ -1,6 +1,5 @@
 // What each node of a body does with the types of its children.
 ghost use Rattle.std.specs.Prelude.{◌≡◌, ◌+◌, ◌*◌, ◌≤◌, ◌<◌, length};
-ghost use Rattle.language.specs.ClassTables.{class_width, kind_place};
 ghost use Rattle.typing.specs.Nodes.{null_tested, created, slot_read, cast_answer, assigned, PreAssign};
 ghost use Rattle.typing.specs.Nodes.{changeable_in, PreOpen, PostOpen, PreChange, PostChange};
 ghost use Rattle.typing.specs.Nodes.{PreChoice, PostChoice};
@@ -129,7 +128,7 @@ pub fn assign(
 
 // Whether a class is a root or a state class.
 pub fn is_changeable(table: &[u16], class: u32) -> bool
-    requires { class * class_width + kind_place < length table.now }
+    requires { class * 576 + 512 < length table.now }
     ensures { result ≡ changeable_in table.now class }
 {
     if class == Type::OBJECT {
