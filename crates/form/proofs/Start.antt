@@ -10,7 +10,7 @@ use lib.Seq.{sets, sets-eq}
 use Rattle.language.specs.Results.{Checked, accept, refuse, bind_checked, require}
 use Rattle.language.specs.Rows.{code, Row, Record, rows_of}
 use Rattle.language.specs.Tree.{size, Class, classes_lines, Program}
-use Rattle.language.specs.Form.{after, record_on, next, body, classes, at_end, form}
+use Rattle.language.specs.Form.{after, record_on, next, body, at_end, form}
 use Rattle.language.specs.Tables.{ends_of, classes_ends, program_ends}
 use Rattle.language.proofs.Tables.{ends_long, classes_ends_long}
 use Rattle.language.proofs.Filling.{sets_then}

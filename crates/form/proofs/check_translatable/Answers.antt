@@ -1,0 +1,13 @@
+-- The pass under the limits of the translator's input: they fit, and they are that column of the table. Assumes nothing.
+use native.Mathlib.Omega.{arith}
+use Rattle.form.proofs.check_translatable.Goals as goal
+
+pub pass_form-requires : goal.pass_form-requires
+pass_form-requires c = (
+  c.requires.0,
+  c.requires.1,
+  record { rows = omega arith; slots = omega arith },
+)
+
+pub returns : goal.returns
+returns c = c.pass_form.ensures
