@@ -1,4 +1,4 @@
-//! Links the static library that `rt staticlib services` makes, target/staticlib/libservices.a.
+//! Links the static library that `tools/build.sh` makes, target/staticlib/libservices.a.
 
 use std::path::Path;
 

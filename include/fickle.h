@@ -1,5 +1,5 @@
 /* Label rules in Fickle II: read, write, check, translate, run; labels counted, and reports over fleets; price terms by
- * date (libservices.a, made by `rt staticlib services`).
+ * date (libservices.a, made by `tools/build.sh`).
  *
  * Rows are numbers, four to a row: a letter's ASCII code, then its numbers, the rest 0. Lengths count numbers or bytes.
  * Every input gets an answer. A refusal changes nothing that was lent. What is lent past what was written is unchanged.

@@ -13,7 +13,7 @@ statement stays as it is. There are three crates of it, which differ in what is 
   guarded     indices, and that no sum wraps
 
 Each crate has the interface of `fickle/`, whose source it uses. The benchmark first asserts that all answers and buffers are those
-of the proved services. Needs target/staticlib/libservices.a (`rt staticlib services`) and cargo. Run from the repository's root.
+of the proved services. Needs target/staticlib/libservices.a (`tools/build.sh`) and cargo. Run from the repository's root.
 """
 import glob
 import os
@@ -236,7 +236,7 @@ def main(arguments):
     write_bench()
     if not arguments:
         if not os.path.exists(PROVED):
-            fail(f'{PROVED} is missing: run `rt staticlib services`')
+            fail(f'{PROVED} is missing: run `tools/build.sh`')
         environment = {'CARGO_TARGET_DIR': os.path.abspath('target/cargo')} | os.environ
         command = ['cargo', 'run', '--offline', '--release', '--manifest-path', f'{TARGET}/Cargo.toml', '-p', BENCH]
         sys.exit(subprocess.run(command, env=environment).returncode)

@@ -73,7 +73,7 @@ impl Programs for Proved {
 fn printed(name: &str, input: &[u8]) -> Printed {
     let program = format!("{}/../target/bin/{name}", env!("CARGO_MANIFEST_DIR"));
     started(&program, input).unwrap_or_else(|error| {
-        let errors = format!("{program}: {error}; `rt check translate run` makes it").into_bytes();
+        let errors = format!("{program}: {error}; `tools/build.sh` makes it").into_bytes();
         Printed { output: Vec::new(), errors, status: None }
     })
 }
