@@ -38,7 +38,7 @@ pub date_refused : (year month day : ℕ) {number line : ℕ} → day_answer yea
 date_refused year month day {number} {line} e =
     let q = no_day_is (day_of (date year month day)) number line e in
     let w = (day_refused (date year month day) number line).0 q in
-    rw (w.number-is, w.line_is) at q
+    rw (w.number_is, w.line_is) at q
 
 -- a day's number, in range and past it
 pub day_within : (day : ℕ) → day ≤ 65535 → day_in_range day ≡ accept day

@@ -43,6 +43,7 @@ fn write_run(held: &mut [u8], at: usize, first: u32, last: u32, cents: u32) -> u
 
 // The place after the run that begins at place i of a table. A day has three numbers there: the line of its term, or 0
 // where it has none, the term's signing number and its cents.
+#[tactic(auto, using(crate::proofs::Runs::alike_step, crate::proofs::Runs::alike_end))]
 fn find_end(table: &[u32], i: usize, count: usize) -> usize
     requires { (length table.now ≡ day_numbers) × (count ≤ most_days) × (i < count) ×
         (get_or table.now (3 * i) 0 ≡ 0 → ⊥) }
