@@ -130,13 +130,13 @@ module _ {R E T A M F S C : List ℕ} {at : ℕ} {scope : Scope} {n : ℕ} (z : 
 
       rest_is : so.typing ≡ x.typing
           → ItemsAre W xs first-did.a.slots (at + size e) scope.size S'' C'' so first-did.a.type r
-      rest-is same = (rest_at e (row_of (list_first g))).is rest_of first-did.a.type
+      rest_is same = (rest_at e (row_of (list_first g))).is rest_of first-did.a.type
           (same ∙ ap (λ (y : Answer). y.typing) first-did.is)
 
       both-are : {last : Answer} → so ≡ answer x.typing (join last.effect x.effect) → (t : ExprType)
           → ItemsAre W (cons e xs) γ at scope.size S'' C'' last t r
       both-are {last} same t =
-          let rest = rest-is (ap (λ (y : Answer). y.typing) same) in
+          let rest = rest_is (ap (λ (y : Answer). y.typing) same) in
           let w = first-did in
           let f : so.effect ≡ join last.effect w.a.effect = ap (λ (y : Answer). y.effect) same
           ∙ ap (λ (y : Answer). join last.effect y.effect) w.is in

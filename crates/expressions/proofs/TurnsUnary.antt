@@ -8,7 +8,7 @@ use lib.ListN.{length, get_or}
 use Rattle.language.specs.Rows.{T_true, L_false, N_null, I_slot, Z_is_null, G_get, K_cast, W_new, R_change}
 use Rattle.language.specs.Rows.{A_assign}
 use Rattle.language.specs.Results.{Checked, accept, refuse}
-use Rattle.language.specs.Tree.{Program, Expr, slot, change, size}
+use Rattle.language.specs.Tree.{Program, Expr, change, size}
 use Rattle.language.specs.Program.{world}
 use Rattle.language.specs.Environment.{Environment}
 use Rattle.language.specs.Typing.{Typed, type_of}

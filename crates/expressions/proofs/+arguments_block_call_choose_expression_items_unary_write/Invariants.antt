@@ -1,0 +1,42 @@
+use Prim.Native.Nat.{◌-◌}
+use Rattle.expressions.proofs.TurnsArguments.{ArgumentsLoop}
+use Prim.Native.Nat.{◌+◌, ◌-◌, ◌*◌}
+use Prim.Native.Nat.{◌+◌}
+use Rattle.expressions.proofs.TurnsItems.{ItemsLoop}
+use Rattle.expressions.proofs.+arguments_block_call_choose_expression_items_unary_write.Given as goal
+
+abbrev pub invariant-arguments-loop-i : goal.invariant-arguments-loop-i
+invariant-arguments-loop-i l = ArgumentsLoop l.rows l.ends l.table l.above l.methods l.effects l.initial.slots l.initial.class_at l.at l.scope l.n l.slots l.class_at l.effect l.next l.i
+
+abbrev pub decreases-arguments-loop-i : goal.decreases-arguments-loop-i
+decreases-arguments-loop-i l = l.n - l.i
+
+abbrev pub decreases-arguments : goal.decreases-arguments
+decreases-arguments l = (60000 - l.at) * 4 + 2
+
+abbrev pub decreases-block : goal.decreases-block
+decreases-block l = (60000 - l.at) * 4
+
+abbrev pub decreases-call : goal.decreases-call
+decreases-call l = (60000 - l.at) * 4
+
+abbrev pub decreases-choose : goal.decreases-choose
+decreases-choose l = (60000 - l.at) * 4
+
+abbrev pub decreases-expression : goal.decreases-expression
+decreases-expression l = (60000 - l.at) * 4 + 1
+
+abbrev pub decreases-items : goal.decreases-items
+decreases-items l = (60000 - l.at) * 4 + 2
+
+abbrev pub invariant-items-loop-left : goal.invariant-items-loop-left
+invariant-items-loop-left l = ItemsLoop l.rows l.ends l.table l.above l.methods l.effects l.initial.slots l.initial.class_at l.at l.scope l.n l.initial.so_far l.slots l.class_at l.so_far l.next l.left
+
+abbrev pub decreases-items-loop-left : goal.decreases-items-loop-left
+decreases-items-loop-left l = l.left
+
+abbrev pub decreases-unary : goal.decreases-unary
+decreases-unary l = (60000 - l.at) * 4
+
+abbrev pub decreases-write : goal.decreases-write
+decreases-write l = (60000 - l.at) * 4
