@@ -9,7 +9,6 @@ use Rattle.text.proofs.Formatting.{formatting_odd, formatting_odd_held, formatti
 use Rattle.text.proofs.Formatting.{formatting_done, formatting_full, formatting_row, formatting_over}
 use Rattle.text.proofs.Formatting.{formatting_over_held, formatting_bad, formatting_bad_held}
 use Rattle.text.proofs.Formatting.{formatting_fits, formatting_step}
-use borrow.Author.Tests.{not-true, not-false}
 use Rattle.writer.proofs.format_rows.Goals as goal
 
 pub returns-then-rows-ne0 : goal.returns-then-rows-ne0
@@ -69,25 +68,23 @@ pub returns-then-not-is_row : goal.returns-then-not-is_row
 returns-then-not-is_row c = let rows = c.args.rows.now in (
   formatting_bad c.loop-i.invariant c.loop-i-test.true c.if-line-gt-MOST_ROWS.false (get_or rows c.loop-i.i 0) (get_or
       rows (c.loop-i.i + 1) 0) (get_or rows (c.loop-i.i + 2) 0) (get_or rows (c.loop-i.i + 3) 0) refl
-      refl refl refl (sym c.is_row.ensures ∙ not-true c.is_row.result c.if-not-is_row.true-raw),
+      refl refl refl (sym c.is_row.ensures ∙ c.if-not-is_row.true),
   λ m.
       formatting_bad_held c.loop-i.invariant c.loop-i-test.true c.if-line-gt-MOST_ROWS.false
       (get_or rows c.loop-i.i 0)
       (get_or rows (c.loop-i.i + 1) 0) (get_or rows (c.loop-i.i + 2) 0)
       (get_or rows (c.loop-i.i + 3) 0)
-      refl refl refl refl (sym c.is_row.ensures ∙ not-true c.is_row.result c.if-not-is_row.true-raw) m,
+      refl refl refl refl (sym c.is_row.ensures ∙ c.if-not-is_row.true) m,
 )
 
 pub write_line-at-requires : goal.write_line-at-requires
 write_line-at-requires c = let rows = c.args.rows.now in (
   row_known (get_or rows c.loop-i.i 0) (get_or rows (c.loop-i.i + 1) 0) (get_or rows (c.loop-i.i + 2)
-      0) (get_or rows (c.loop-i.i + 3) 0) (sym c.is_row.ensures ∙ not-false c.is_row.result
-      c.if-not-is_row.false-raw),
+      0) (get_or rows (c.loop-i.i + 3) 0) (sym c.is_row.ensures ∙ c.if-not-is_row.false),
   formatting_fits c.loop-i.invariant c.loop-i-test.true c.if-line-gt-MOST_ROWS.false (get_or rows
       c.loop-i.i 0) (get_or rows (c.loop-i.i + 1) 0) (get_or rows (c.loop-i.i + 2) 0) (get_or rows
       (c.loop-i.i + 3) 0) refl refl refl refl
-      (sym c.is_row.ensures ∙ not-false c.is_row.result
-      c.if-not-is_row.false-raw) c.requires,
+      (sym c.is_row.ensures ∙ c.if-not-is_row.false) c.requires,
 )
 
 pub overflow_add-i-in-loop-i : goal.overflow_add-i-in-loop-i
@@ -103,7 +100,7 @@ pub loop-i-preserved : goal.loop-i-preserved
 loop-i-preserved c = let rows = c.args.rows.now in
     formatting_step c.loop-i.invariant c.loop-i-test.true c.if-line-gt-MOST_ROWS.false (get_or rows c.loop-i.i 0) (get_or
     rows (c.loop-i.i + 1) 0) (get_or rows (c.loop-i.i + 2) 0) (get_or rows (c.loop-i.i + 3) 0) refl
-    refl refl refl (sym c.is_row.ensures ∙ not-false c.is_row.result c.if-not-is_row.false-raw)
+    refl refl refl (sym c.is_row.ensures ∙ c.if-not-is_row.false)
     c.write_line-at.new.text c.write_line-at.result c.write_line-at.ensures.1 c.write_line-at.ensures.0
 
 pub shape_of-held : goal.shape_of-held
