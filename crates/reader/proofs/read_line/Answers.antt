@@ -9,9 +9,6 @@ use Rattle.reader.proofs.read_line.Goals as goal
 pub returns-then-s-at : goal.returns-then-s-at
 returns-then-s-at c = line_past c.args.at c.args.s.now c.if-s-at.true
 
-pub overflow_cast-code : goal.overflow_cast-code
-overflow_cast-code c = omega (arith, c.shared_slice_known-1.given c.args.at)
-
 pub returns-then-count-eq0 : goal.returns-then-count-eq0
 returns-then-count-eq0 c = let s = c.args.s.now in
     let at = c.args.at in
