@@ -165,6 +165,7 @@ module _ {P : List Class} {E R T M C : List ℕ} (l : Lent P E R T M C) where
     typed_nodes P es is
         (omega (arith, z, length-append γ.slots (map fresh_slot ts), length-map ts fresh_slot)) h,
   )
+  parts (assign zero e) {d = d} {v = v} {γ = γ} {t = t} {φ = φ} i z x5 = elim x5 [ ]
 
   pub typed_parts : (e : Expr) {v : ℕ} {γ : Environment} → TypedIn P γ v e → TypedParts P e γ v
   typed_parts e h = parts e h.in_form h.scope h.has

@@ -1,0 +1,37 @@
+use native.Mathlib.Omega.{arith}
+use Rattle.plain.proofs.Classes.{class_known, class_run, class_fields, class_some, class_done}
+use Rattle.plain.proofs.program.emit_class.Goals as goal
+
+pub second-requires : goal.second-requires
+second-requires c = omega (arith, (class_known c.requires).0)
+
+pub overflow_add-head : goal.overflow_add-head
+overflow_add-head c = omega (arith, (class_known c.requires).2, c.second.ensures)
+
+pub put-p-requires : goal.put-p-requires
+put-p-requires c = omega (arith, (class_known c.requires).3)
+
+pub overflow_add-fields : goal.overflow_add-fields
+overflow_add-fields c = omega (arith, (class_known c.requires).1)
+
+pub count_rows-n-requires : goal.count_rows-n-requires
+count_rows-n-requires c = class_run c.requires
+
+pub put_fields-q-requires : goal.put_fields-q-requires
+put_fields-q-requires c = let d = class_fields c.count_rows-n.ensures c.requires _ c.put-p.ensures.ended in
+    record {
+      some_field_lines = d.0;
+      count_bound = d.1;
+    }
+
+pub overflow_add-fields-2 : goal.overflow_add-fields-2
+overflow_add-fields-2 c = omega (arith, c.count_rows-n.ensures.inside, c.requires.task.stand.short)
+
+pub emit_methods-requires : goal.emit_methods-requires
+emit_methods-requires c = class_some c.count_rows-n.ensures c.put-p.ensures
+    c.put_fields-q.ensures c.requires
+
+pub returns : goal.returns
+returns c = class_done c.count_rows-n.ensures c.put-p.ensures
+    c.put_fields-q.ensures
+    (omega (arith, c.second.ensures)) c.emit_methods.ensures
