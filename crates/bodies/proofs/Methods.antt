@@ -1,7 +1,7 @@
 -- A method's verdict from what typing its body gives. Assumes nothing.
 use mathlib.Core.Path.{◌≡◌, refl, sym, ap, ap₂, subst, ◌∙◌}
 use mathlib.Core.Bool.{Bool, true, false}
-use mathlib.Core.Logic.{⊎_elim}
+use mathlib.Core.Logic.{inl, inr, ⊎_elim}
 use mathlib.Core.List.{List, [], ◌∷◌}
 use Prim.Native.Nat.{ℕ, ◌+◌, ◌*◌, ◌≤◌, ◌<◌}
 use native.Mathlib.Omega.{arith}
@@ -223,6 +223,13 @@ not_refusal Null k = refl
 not_refusal (Refusal n l) k =
     absurd (⊎_elim (λ e. eqb-false 3 0 refl e)
     (λ m. ⊎_elim (λ e. eqb-false 3 1 refl e) (λ e. eqb-false 3 2 refl e) m) k)
+
+-- none of the refused ones: one of the others
+pub not_refusal_one : (t : Typing) → ((n l : ℕ) → t ≡ Refusal n l → ⊥) → OneOf (0 ∷ 1 ∷ 2 ∷ []) (tag_of the_type t)
+not_refusal_one Bool_case k = inl refl
+not_refusal_one (class_case c) k = inr (inl refl)
+not_refusal_one Null k = inr (inr refl)
+not_refusal_one (Refusal n l) k = absurd (k n l refl)
 
 -- the definition, by cases
 module _ (W : World) (number : ℕ) (m : PlacedMethod) where

@@ -84,15 +84,15 @@ apart_from k r (c ∷ cs) =
     let z : r + class_lines c + classes_lines cs ≡ r + (class_lines c + classes_lines cs) = omega arith in
     apart_append r (r + class_lines c) (r + (class_lines c + classes_lines cs))
     (placed_in k (r + 1 + length c.fields) c.methods) (placed_from (suc k) (r + class_lines c) cs)
-    (in-class (placed_in k (r + 1 + length c.fields) c.methods)
+    (in_class (placed_in k (r + 1 + length c.fields) c.methods)
     (apart_in k (r + 1 + length c.fields) c.methods))
     (rw (← z) (apart_from (suc k) (r + class_lines c) cs))
   where
     in_class : (l : List PlacedMethod)
         → Apart (r + 1 + length c.fields) l (r + 1 + length c.fields + methods_lines c.methods)
         → Apart r l (r + class_lines c)
-    in-class [] h = omega (arith, h)
-    in-class (m ∷ ms) h =
+    in_class [] h = omega (arith, h)
+    in_class (m ∷ ms) h =
         let z : r + 1 + length c.fields + methods_lines c.methods
         ≡ r + (1 + length c.fields + methods_lines c.methods) = omega arith in
         (omega (arith, h.0), rw (← z) h.1)
@@ -111,7 +111,8 @@ apart_at a b (x ∷ l) h zero m e = let z : x ≡ m = inj e in rw (← z) (later
   where
     later : {c : ℕ} (l : List PlacedMethod) → Apart c l b → c ≤ b
     later [] h = h
-    later (y ∷ l) h = omega (arith, h.0, later l h.1)
+    later {c = c} (y ∷ l) h =
+        omega (arith, h.0, later {c = y.row + method_lines y.declaration} l h.1)
 apart_at a b (x ∷ l) h (suc i) m e = apart_at (x.row + method_lines x.declaration) b l h.1 i m e
 
 -- ---- the pass one by one
