@@ -9,7 +9,7 @@ use lib.ListN.{length, get_or, take, drop, length-append, length-map}
 use lib.Seq.{take-take}
 use mathlib.Core.Option.{some}
 use Rattle.language.specs.Lists.{nth, nth_append, nth_map}
-use Rattle.language.specs.Frames.{frame, opened, closed}
+use Rattle.language.specs.Frames.{opened, closed}
 use Rattle.frames.proofs.Frames.{slots_length, words_written, first_word}
 use Rattle.objects.proofs.Nth.{lt_or, nth_ext, nth_past, some_at}
 use Rattle.objects.proofs.Objects.{mapped_at}

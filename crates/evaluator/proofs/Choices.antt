@@ -1,7 +1,7 @@
 -- The steps of J. Assumes nothing.
 use mathlib.Core.Path.{◌≡◌, refl, ◌∙◌}
 use mathlib.Core.Bool.{Bool, true, false}
-use mathlib.Core.Logic.{⊎_elim}
+use mathlib.Core.Logic.{inl, inr, ⊎_elim}
 use mathlib.Core.List.{List, [], ◌∷◌}
 use Prim.Native.Nat.{ℕ, suc, ◌+◌, ◌-◌, ◌*◌, ◌<◌}
 use native.Mathlib.Omega.{arith}
@@ -25,10 +25,18 @@ use Rattle.frames.proofs.OneChild.{node_rows, node_parts}
 use Rattle.frames.specs.Nodes.{PreEval, PreEntered, PostNode, evaluated}
 use Rattle.evaluator.specs.Evaluator.{PostEval}
 use Rattle.objects.specs.contracts.Value.{the_type}
+use Rattle.objects.specs.declared.Value.TheVariants.{Truth}
 use Rattle.frames.proofs.Letters.{as_choose}
 use Rattle.evaluator.proofs.Steps.{first_child, next_child, kept_then, kept_more, kept_as, room_same}
 use Rattle.evaluator.proofs.Steps.{then_eval, fails, gives, kept_of}
 use Rattle.language.specs.Rows.{code, J_choose}
+
+-- a value that is no truth value is null or an object
+pub null_or_object : (v : Meaning) → ((b : Bool) → case_of v ≡ Truth b → ⊥)
+    → OneOf (0 ∷ 2 ∷ []) (tag_of the_type (case_of v))
+null_or_object null other = inl refl
+null_or_object (truth b) other = absurd (other b refl)
+null_or_object (object j) other = inr refl
 
 -- J taken apart
 pub record ChooseAt {R E T A M s l : List ℕ} {at : ℕ} {q : Place} {n : Counts}
