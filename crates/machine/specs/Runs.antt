@@ -8,8 +8,8 @@ use Rattle.language.specs.Store.{capacity, Outcome as Ended, gave, ended, ran, f
 use Rattle.language.specs.Limits.{spent_stop, deep_stop, full_stop}
 use Rattle.language.specs.Layout.{start_row}
 use Rattle.layout.specs.Held.{Held}
-use Rattle.objects.specs.Values.{case_of, stop_of, SmallOutcome, told, Outcome, Gave}
-use Rattle.objects.specs.Values.{Raised, Stopped, Stuck, outcome, answer}
+use Rattle.objects.specs.Values.{case_of, stop_of, SmallOutcome, Outcome, Gave}
+use Rattle.objects.specs.Values.{Raised, Stopped, Stuck, outcome}
 use Rattle.frames.specs.Slots.{Segment}
 use Rattle.machine.specs.declared.Ran.{Ran}
 use Rattle.machine.specs.declared.Run.{Run}
