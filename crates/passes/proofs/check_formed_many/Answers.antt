@@ -1,0 +1,11 @@
+-- `passes::check_formed_many` meets its contract. Assumes nothing.
+use Rattle.passes.proofs.Passing.{body_many}
+use Rattle.passes.proofs.check_formed_many.Goals as goal
+
+pub check_with-requires : goal.check_with-requires
+check_with-requires c = record {
+  stands = c.requires.stands;
+  room = c.requires.room;
+  class_room = c.requires.class_room;
+  body_room = body_many _;
+}
