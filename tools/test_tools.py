@@ -295,7 +295,7 @@ pub fn number(rows: &[u32], row: usize) -> u32
 '''
     SERVICES = '''use rows::Row;
 
-#[no_mangle]
+#[unsafe(no_mangle)]
 pub extern "C" fn sum_rows(rows: &[u32], total: &mut u32, counts: &mut [u32], from: u64) -> u64
     ensures { λ r. ⌜ r ≡ 0 ⌝ }
 {

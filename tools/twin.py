@@ -32,10 +32,12 @@ VARIANTS = [UNCHECKED, TWIN, GUARDED]
 MODULE = re.compile(r'^(?<!#\[cfg\(test\)\]\n)mod (\w+);$', re.M)
 ALLOWED = '#![allow(warnings)]\n'
 CONTRACT = re.compile(r'\b(requires|ensures)(\s+\w+)?\s*\{')
+# What asks the check for tactics, names a cycle or derives: the twin has derives of its own.
+ATTRIBUTE = re.compile(r'^#!?\[(?:tactic|cycle|derive)\b[^\n]*\]\n+', re.M)
 # What may not be left in the Rust text.
 LEFT_OVER = re.compile(r'[^\x00-\x7f]|\b(ghost|requires|ensures|invariant|decreases)\b')
 # A service under its C name, and the declarations of all of them in fickle/src/lib.rs.
-SERVICE = re.compile(r'#\[no_mangle\]\s*pub extern "C" fn (\w+)\(([^)]*)\) -> (\w+)')
+SERVICE = re.compile(r'#\[unsafe\(no_mangle\)\]\s*pub extern "C" fn (\w+)\(([^)]*)\) -> (\w+)')
 LINKED = re.compile(r'^mod c \{\n.*?^\}\n', re.M | re.S)
 
 WORKSPACE = '''# Written by tools/twin.py. All Rattle crates are compiled as one; codegen-units says the same for each twin.
@@ -78,7 +80,7 @@ def crates_below(root):
     for line in Path('crates.txt').read_text().splitlines():
         name, colon, needed = line.partition('#')[0].partition(':')
         if colon:
-            below[name] = needed.split()
+            below[name.split()[0]] = needed.split()
     found = []
 
     def visit(name):
@@ -142,6 +144,7 @@ def rust_of(file, crates):
     text = Path(file).read_text()
     text = re.sub(r'//.*', '', text)
     text = re.sub(r'^ghost use [^;]*;\n', '', text, flags=re.M)
+    text = ATTRIBUTE.sub('', text)
     text = without_contracts(text)
     text = re.sub(rf'(?<![\w:])({"|".join(crates)})::', r'crate::\1::', text)
     text = re.sub(r'^(pub )?(struct|enum) ', r'#[derive(Clone, Copy)]\n\g<0>', text, flags=re.M)
