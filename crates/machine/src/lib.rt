@@ -10,7 +10,7 @@ use language::{ALL_CLASSES, START};
 use objects::{STUCK, Value};
 
 // The answer of a run: the outcome, nodes entered, objects made, changes of class.
-#[derive(Drop)]
+#[derive(Clone, Copy)]
 pub struct Ran {
     pub outcome: u64,
     pub steps: u32,
@@ -19,7 +19,7 @@ pub struct Ran {
 }
 
 // How a run of a checked program ended: with a value, whose objects count from 1, with an exception, or stopped.
-#[derive(Drop)]
+#[derive(Clone, Copy)]
 pub enum End {
     Gave(Value),
     Raised(u32),
@@ -27,7 +27,7 @@ pub enum End {
 }
 
 // The answer to the caller: how the run ended, nodes entered, objects made, changes of class.
-#[derive(Drop)]
+#[derive(Clone, Copy)]
 pub struct Run {
     pub outcome: End,
     pub steps: u32,
