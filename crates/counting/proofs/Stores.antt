@@ -141,7 +141,7 @@ module _ (W : World) (d e : ℕ) where
           ≡ bind_option (added W d e p s (ended_at plain n store (drop (object_width * i) store))) λ c.
           labels_next W d e plain n store m (drop (object_width * (i + 1)) store) c.printed c.spoiled
       unfolding labels_next
-      next-is m q =
+      next_is m q =
           let r : object_width * i + object_width ≡ object_width * (i + 1) = omega arith in
           rw (q, drop-drop object_width (object_width * i) store, r)
 
@@ -150,13 +150,13 @@ module _ (W : World) (d e : ℕ) where
           → labels_next W d e plain n store (n - i) (drop (object_width * i) store) p s
           ≡ labels_next W d e plain n store (n - (i + 1)) (drop (object_width * (i + 1)) store) x y
       next_some o q x y f =
-          next-is (n - (i + 1)) (omega arith) ∙ rw (sym q, told_labels (added W d e p s o) x y f)
+          next_is (n - (i + 1)) (omega arith) ∙ rw (sym q, told_labels (added W d e p s o) x y f)
 
       pub next_none : (o : Ended) → o ≡ ended_at plain n store (drop (object_width * i) store)
           → (x y : ℕ) → Refused x y ≡ count_told (added W d e p s o)
           → labels_next W d e plain n store (n - i) (drop (object_width * i) store) p s ≡ none
       next_none o q x y f =
-          next-is (n - (i + 1)) (omega arith) ∙ rw (sym q, told_refused (added W d e p s o) x y f)
+          next_is (n - (i + 1)) (omega arith) ∙ rw (sym q, told_refused (added W d e p s o) x y f)
 
     pub next_start : (plain : Bool)
         → labels_next W d e plain n store n store 0 0
