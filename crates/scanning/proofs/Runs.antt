@@ -152,7 +152,7 @@ module _ (runs programs stores : List ℕ) where
 
     pub rows_refused : (length programs - at) / 4 < run.rows → nth all_lines i ≡ some none
     rows_refused h =
-        next-line ∙ rw (length-drop at programs, lt-leb run.rows ((length programs - at) / 4) h) refl
+        next_line ∙ rw (length-drop at programs, lt-leb run.rows ((length programs - at) / 4) h) refl
 
     module _ (h : run.rows ≤ (length programs - at) / 4) where
       abbrev counts : Option Counts
@@ -163,7 +163,7 @@ module _ (runs programs stores : List ℕ) where
       counts-line : nth all_lines i ≡ some (map_option (line_of_counts run) counts)
       counts-line =
           let q : at + run.rows * 4 - at ≡ 4 * run.rows = omega arith in
-          next-line ∙ rw (length-drop at programs, le-leb run.rows ((length programs - at) / 4) h, q) refl
+          next_line ∙ rw (length-drop at programs, le-leb run.rows ((length programs - at) / 4) h, q) refl
 
       module _ {count : Count} (t : count ≡ count_told counts) (x y : ℕ) where
         pub run_refused : count ≡ Refused x y → nth all_lines i ≡ some none

@@ -3,7 +3,7 @@
 #![tactic(auto)]
 
 ghost use Rattle.std.specs.Prelude.{◌≡◌, ◌-◌, ◌*◌, ◌≤◌, ◌<◌, length, take, drop};
-ghost use Rattle.fleet.specs.Counts.{class_refusal, run_counts, count_told};
+ghost use Rattle.fleet.specs.Counts.{run_counts, count_told};
 ghost use Rattle.fleet.specs.Fleet.{runs_of, lines_of_runs};
 ghost use Rattle.counting.specs.Knowing.{Knows, Knowing};
 ghost use Rattle.counted.specs.Lines.{lines_given, width_given, number_given};
@@ -67,7 +67,7 @@ fn scan_runs(
 ) -> Scan
     requires limit_in_bounds { (limit * 6 ≤ length runs.now) × (low < 4294967296) }
     requires sized { Sized table.old heads.old nexts.old }
-    ensures { Scanned class_refusal
+    ensures { Scanned 18
         (lines_of_runs (runs_of runs.now) programs.now stores.now) limit low
         table.old heads.old nexts.old
         table.new heads.new nexts.new result }
