@@ -1,9 +1,10 @@
-// What the two programs print (document 01, "Worked programs"). Callers use `translate_input` and `run_input`, which
-// take any input and a lent output of any length. The other functions write into 8,192 bytes held aside, which are
-// enough for every output.
+// What the two programs read and print (document 01, "Worked programs"). Callers use `read_input`, which reads an input into a
+// lent buffer of any length, and `translate_input` and `run_input`, which take any input and a lent output of any length. The
+// other functions write into 8,192 bytes held aside, which are enough for every output.
 #![tactic(auto)]
 
 ghost use Rattle.std.specs.Prelude.{◌≡◌, ◌++◌, ◌+◌, ◌≤◌, length, take};
+ghost use Rattle.std.specs.Io.KnownBytes.{Consumes};
 ghost use Rattle.std.proofs.lemmas.List.Edits.{sets};
 ghost use Rattle.language.specs.Results.{accept};
 ghost use Rattle.language.specs.Filling.{held, answer, buffer};
@@ -16,6 +17,7 @@ ghost use Rattle.language.specs.Limits.{text_room, source_room};
 
 use language::{Filled, ROOM_REFUSAL};
 use printing::{put_answer, put_refusal};
+use std::io::Read;
 
 // What the programs hold: bytes of text, numbers of source rows and of plain rows, numbers of a store, and fuel.
 const TEXT_ROOM: usize = 8192;
@@ -27,6 +29,23 @@ const PLAIN_ROOM: usize = 4000;
 const STORE_ROOM: usize = 3000;
 
 const PROGRAM_FUEL: u64 = 10000;
+
+// Reads until the buffer is full, the input ends or a read fails, and returns how many bytes it put at the start of the
+// buffer. Input that is closed or cannot be read counts as ended there.
+pub fn read_input<R: Read>(reader: &mut R, buffer: &mut [u8]) -> usize
+    ensures bound { result ≤ length buffer.new }
+    ensures bytes { Consumes (R.remaining reader.old) (R.remaining reader.new) (take result buffer.new) }
+{
+    let mut filled = 0;
+    while filled < buffer.len() {
+        match reader.read(&mut buffer[filled..]) {
+            Ok(0) => break,
+            Ok(n) => filled += n,
+            Err(_) => break,
+        }
+    }
+    filled
+}
 
 // Runs rows over a store of zeros, and writes the line of the run.
 fn put_line(out: &mut [u8], at: usize, rows: &[u32]) -> usize
