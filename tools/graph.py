@@ -17,10 +17,12 @@ def read_crates(text):
     crates, purposes = {}, {}
     for line in text.splitlines():
         entry, _, comment = line.partition('#')
-        name, colon, words = entry.partition(':')
+        names, colon, words = entry.partition(':')
         if colon:
-            crates[name.strip()] = words.split()
-            purposes[name.strip()] = comment.strip()
+            # A static library's line has a word more: NAME staticlib: ..
+            name = names.split()[0]
+            crates[name] = words.split()
+            purposes[name] = comment.strip()
     return {name: [d for d in on if d in crates] for name, on in crates.items()}, purposes
 
 
