@@ -7,7 +7,7 @@ use Prim.Native.Nat.{ℕ, zero, suc, ◌+◌, ◌≤◌, ◌<◌}
 use native.Mathlib.Omega.{arith}
 use lib.ListN.{length, length-append, take, drop}
 use lib.Seq.{take-length}
-use Rattle.language.specs.Results.{accept, refuse, accept≢refuse}
+use Rattle.language.specs.Results.{accept≢refuse}
 use Rattle.language.specs.WellFormed.{Each, each_nil, each_cons}
 use Rattle.language.proofs.Booleans.{and_inv}
 use Rattle.fleet.specs.Ranking.{Counted, add, is_within, all_within, line_of, lines_of, ranked}
