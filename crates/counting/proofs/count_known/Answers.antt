@@ -1,6 +1,5 @@
 -- `counting::count_known` meets its contract. Assumes nothing.
 use mathlib.Core.Path.{sym, ap, ◌∙◌}
-use borrow.Author.Tests.{not-true, not-false}
 use Rattle.fleet.specs.Counts.{count_told}
 use Rattle.counting.proofs.Knowledge.{accepted, is_refused, serving, related_low}
 use Rattle.counting.proofs.Stores.{counts_short, counts_refused, counts_unrelated, counts_related}
@@ -21,12 +20,12 @@ returns-then-not-is_related c = λ w. let x = accepted w.knows _ c.in-Classes.is
     c.args.printed c.args.spoiled x.0 x.1 c.if-store-objects.false
     c.args.plain
     (sym (c.is_related.ensures (serving w.knows _ c.in-Classes.is))
-    ∙ not-true _ c.if-not-is_related.true-raw))
+    ∙ c.if-not-is_related.true))
 
 pub count_objects-requires : goal.count_objects-requires
 count_objects-requires c = let s = serving c.requires.knows _ c.in-Classes.is in
     let low = related_low s c.args.printed c.args.spoiled
-    (sym (c.is_related.ensures s) ∙ not-false _ c.if-not-is_related.false-raw) in
+    (sym (c.is_related.ensures s) ∙ c.if-not-is_related.false) in
     (s, low.0, low.1, c.if-store-objects.false)
 
 pub returns-else-not-is_related : goal.returns-else-not-is_related
@@ -36,7 +35,7 @@ returns-else-not-is_related c = λ w. let x = accepted w.knows _ c.in-Classes.is
     ∙ ap count_told (counts_related w.rows c.args.store.now c.args.objects
     c.args.printed c.args.spoiled x.0 x.1 c.if-store-objects.false
     c.args.plain
-    (sym (c.is_related.ensures s) ∙ not-false _ c.if-not-is_related.false-raw))
+    (sym (c.is_related.ensures s) ∙ c.if-not-is_related.false))
 
 pub returns-in-Refused : goal.returns-in-Refused
 returns-in-Refused c = λ w. let x = is_refused w.knows c.in-Refused.is in
