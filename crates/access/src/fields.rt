@@ -1,6 +1,5 @@
 // Fields sought in the class of an expression: G and U.
 ghost use Rattle.std.specs.Prelude.{◌≡◌, ◌≤◌, ◌<◌, set as replaced};
-ghost use Rattle.language.specs.Limits.{of_check};
 ghost use Rattle.access.specs.Fields.{not_class, field_in, PreField, got, got_classes, PreGet, PrePut};
 ghost use Rattle.access.specs.Fields.{put, put_classes};
 
@@ -43,7 +42,7 @@ pub fn not_class(child: Answer, at: usize) -> Answer
 
 // Notes the class in which the member of a row is sought, where the table has an entry for that row.
 pub fn note(class_at: &mut [u16], at: usize, class: u32)
-    requires { class ≤ of_check.classes }
+    requires { class ≤ 64 }
     ensures { class_at.new ≡ replaced class_at.old at class }
 {
     if at < class_at.len() {

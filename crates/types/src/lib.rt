@@ -3,8 +3,6 @@
 
 ghost use Rattle.std.specs.Prelude.{◌≡◌, suc, ◌+◌, ◌*◌, ◌≤◌, ◌<◌, length};
 ghost use Rattle.language.specs.Effects.{within};
-ghost use Rattle.language.specs.Limits.{bool_number, of_check};
-ghost use Rattle.language.specs.ClassTables.{class_width, root_place};
 ghost use Rattle.types.specs.Answers.{answer, case_of_number, case_number, is_refusal, names_type};
 ghost use Rattle.types.specs.Answers.{stored_case};
 ghost use Rattle.types.specs.Tables.{root_in, applied, is_fitting, nearest_from, CaseIn, PreNearest};
@@ -113,8 +111,7 @@ pub fn is_within(inner: u64, outer: u64) -> bool
 
 // The class after an effect: a state class whose root is in it becomes that root.
 pub fn apply(table: &[u16], effect: u64, class: u32) -> u32
-    requires { (class * class_width + root_place < length table.now) ×
-        (root_in table.now class ≤ of_check.classes) }
+    requires { (class * 576 + 514 < length table.now) × (root_in table.now class ≤ 64) }
     ensures { result ≡ applied table.now effect class }
 {
     let root = class_entry(table, class, ROOT_PLACE);
@@ -128,7 +125,7 @@ pub fn apply(table: &[u16], effect: u64, class: u32) -> u32
 // Whether a value of an expression's type may stand where a type is declared: null fits every class and never bool.
 pub fn is_fitting(above: &[u64], t: Typing, u: Type) -> bool
     requires case_in { CaseIn (length above.now) t }
-    requires number_le_classes { (u.number ≡ bool_number → ⊥) → u.number ≤ of_check.classes }
+    requires number_le_classes { (u.number ≡ 255 → ⊥) → u.number ≤ 64 }
     ensures { result ≡ is_fitting above.now t u.number }
 {
     match t {
