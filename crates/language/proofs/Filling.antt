@@ -13,7 +13,9 @@ use lib.Seq.{append_snoc}
 use Rattle.language.specs.Results.{Checked, accept, refuse}
 use Rattle.language.specs.Filling.{before, held, filled, overwritten, answer, buffer, tally, is_made}
 use Rattle.language.specs.Filling.{made_numbers}
-use Rattle.language.specs.declared.Filled.TheVariants.{Done, Refused}
+use Rattle.std.specs.Prelude.{Ok, Err}
+use Rattle.language.specs.Refusals.{refusal}
+use Rattle.language.proofs.Refusals.{err_injective}
 
 -- two lists written one after the other
 pub sets_append : (l : List ℕ) (i : ℕ) (xs ys : List ℕ)
@@ -59,15 +61,15 @@ left_start width m held = record { count = refl; same = refl; goal = λ e. refl;
 
 module _ {width : ℕ} {m₀ m : Checked (List ℕ)} {n : ℕ} {held₀ held : List ℕ} {i : ℕ}
     (l : Left width m₀ m n held₀ held i) where
-  pub left_refused : (number line : ℕ) → m ≡ refuse number line → Refused number line ≡ tally width 0 m₀
+  pub left_refused : (number line : ℕ) → m ≡ refuse number line → Err (refusal number line) ≡ tally width 0 m₀
   left_refused number line e = sym (l.count ∙ ap (tally width n) e)
 
   pub left_unmade : {A : Type 0} (number line : ℕ) → m ≡ refuse number line → is_made m₀ ≡ true → A
   left_unmade number line e f =
       absurd (false≢true (ap (λ (x : Checked (List ℕ)). is_made x) (sym e) ∙ sym l.same ∙ f))
 
-  pub left_done : m ≡ accept [] → n + 0 / width ≡ n → Done n ≡ tally width 0 m₀
-  left_done e q = sym (l.count ∙ ap (tally width n) e ∙ ap Done q)
+  pub left_done : m ≡ accept [] → n + 0 / width ≡ n → Ok n ≡ tally width 0 m₀
+  left_done e q = sym (l.count ∙ ap (tally width n) e ∙ ap Ok q)
 
   pub left_full : m ≡ accept [] → is_made m₀ ≡ true → held ≡ sets held₀ 0 (made_numbers m₀)
   left_full e f = rw e at (l.goal f)
@@ -159,28 +161,28 @@ held_again room (refuse n l) = refl
 
 -- the answer and the buffer where it fits
 pub answer_fits : (width : ℕ) (xs old : List ℕ) → length xs ≤ length old
-    → (Done (length xs / width) ≡ answer width (accept xs) (length old))
+    → (Ok (length xs / width) ≡ answer width (accept xs) (length old))
     × (xs ++ drop (length xs) old ≡ buffer (accept xs) old)
 answer_fits width xs old h = (rw (held_fits (length old) xs h), rw (held_fits (length old) xs h))
 
 -- where it does not
 pub answer_short : (width : ℕ) (xs old : List ℕ) → length old < length xs
-    → (Refused 13 0 ≡ answer width (accept xs) (length old)) × (old ≡ buffer (accept xs) old)
+    → (Err (refusal 13 0) ≡ answer width (accept xs) (length old)) × (old ≡ buffer (accept xs) old)
 answer_short width xs old h = (rw (held_short (length old) xs h), rw (held_short (length old) xs h))
 
 -- where it is refused
 pub answer_refused : (width : ℕ) {m : Checked (List ℕ)} (n l : ℕ) (old : List ℕ) → m ≡ refuse n l
-    → (Refused n l ≡ answer width m (length old)) × (old ≡ buffer m old)
+    → (Err (refusal n l) ≡ answer width m (length old)) × (old ≡ buffer m old)
 answer_refused width n l old e = (rw e refl, rw e refl)
 
 -- a refused answer: that is what is made for the room
-pub answer_refused_inv : (width room : ℕ) (m : Checked (List ℕ)) (n l : ℕ) → answer width m room ≡ Refused n l
+pub answer_refused_inv : (width room : ℕ) (m : Checked (List ℕ)) (n l : ℕ) → answer width m room ≡ Err (refusal n l)
     → held room m ≡ refuse n l
 answer_refused_inv width room m n l e = go (held room m) e
   where
-    go : (c : Checked (List ℕ)) → filled width c ≡ Refused n l → c ≡ refuse n l
+    go : (c : Checked (List ℕ)) → filled width c ≡ Err (refusal n l) → c ≡ refuse n l
     go (accept xs) e = let z : ◌≡◌ {A = ℕ} 0 1 = cc in absurd (omega arith)
-    go (refuse k j) e = let p : k ≡ n = cc in let q : j ≡ l = cc in rw (p, q)
+    go (refuse k j) e = let p = err_injective e in rw (p.0, p.1)
 
 -- an answer that n records are written: their numbers are made, and stand first in the buffer
 pub record Made (width : ℕ) (m : Checked (List ℕ)) (old new : List ℕ) (n : ℕ) : Type 0 where
@@ -192,10 +194,10 @@ pub record Made (width : ℕ) (m : Checked (List ℕ)) (old new : List ℕ) (n :
   pub first : take (length numbers) new ≡ numbers
 
 pub answer_done_inv : (width : ℕ) (m : Checked (List ℕ)) (old new : List ℕ) (n : ℕ)
-    → answer width m (length old) ≡ Done n → new ≡ buffer m old → Made width m old new n
+    → answer width m (length old) ≡ Ok n → new ≡ buffer m old → Made width m old new n
 answer_done_inv width m old new n e w = go (held (length old) m) refl e w
   where
-    go : (c : Checked (List ℕ)) → held (length old) m ≡ c → filled width c ≡ Done n → new ≡ overwritten c old
+    go : (c : Checked (List ℕ)) → held (length old) m ≡ c → filled width c ≡ Ok n → new ≡ overwritten c old
         → Made width m old new n
     go (accept xs) q e w = let k : length xs / width ≡ n = cc in let h = held_inv (length old) m xs q in
         record {
@@ -229,46 +231,46 @@ take_sets l xs h = rw (sets_start l xs h) (take-append_seam xs (drop (length xs)
 
 -- a refusal
 pub filled_refused : (width : ℕ) (m : Checked (List ℕ)) (number line room : ℕ) (old : List ℕ)
-    → tally width 0 m ≡ Refused number line
+    → tally width 0 m ≡ Err (refusal number line)
     → (tally width 0 m ≡ answer width m room) × (old ≡ buffer m old)
 filled_refused width (accept xs) number line room old e = let z : ◌≡◌ {A = ℕ} 0 1 = cc in absurd (omega arith)
 filled_refused width (refuse k l) number line room old e = (refl, refl)
 
 module _ (width : ℕ) (m : Checked (List ℕ)) (n : ℕ) (old : List ℕ) where
   -- all was made, n records of it
-  pub filled_made : tally width 0 m ≡ Done n → (is_made m ≡ true) × (n ≡ length (made_numbers m) / width)
+  pub filled_made : tally width 0 m ≡ Ok n → (is_made m ≡ true) × (n ≡ length (made_numbers m) / width)
   filled_made e = go m e
     where
-      go : (m : Checked (List ℕ)) → tally width 0 m ≡ Done n
+      go : (m : Checked (List ℕ)) → tally width 0 m ≡ Ok n
           → (is_made m ≡ true) × (n ≡ length (made_numbers m) / width)
       go (accept xs) e = let h : 0 + length xs / width ≡ n = cc in (refl, omega (arith, h))
       go (refuse k l) e = let z : ◌≡◌ {A = ℕ} 0 1 = cc in absurd (omega arith)
 
   -- no room
-  pub filled_short : tally width 0 m ≡ Done n → length old < length (made_numbers m)
-      → (Refused 13 0 ≡ answer width m (length old)) × (old ≡ buffer m old)
+  pub filled_short : tally width 0 m ≡ Ok n → length old < length (made_numbers m)
+      → (Err (refusal 13 0) ≡ answer width m (length old)) × (old ≡ buffer m old)
   filled_short e l = go m e l
     where
-      go : (m : Checked (List ℕ)) → tally width 0 m ≡ Done n → length old < length (made_numbers m)
-          → (Refused 13 0 ≡ answer width m (length old)) × (old ≡ buffer m old)
+      go : (m : Checked (List ℕ)) → tally width 0 m ≡ Ok n → length old < length (made_numbers m)
+          → (Err (refusal 13 0) ≡ answer width m (length old)) × (old ≡ buffer m old)
       go (accept xs) e l = answer_short width xs old l
       go (refuse k l) e h = let z : ◌≡◌ {A = ℕ} 0 1 = cc in absurd (omega arith)
 
   -- copied from a buffer that holds what was made
-  pub filled_done : tally width 0 m ≡ Done n → length (made_numbers m) ≤ length old → (held new : List ℕ)
+  pub filled_done : tally width 0 m ≡ Ok n → length (made_numbers m) ≤ length old → (held new : List ℕ)
       → length (made_numbers m) ≤ length held
       → (is_made m ≡ true → (held' : List ℕ) × (length held ≡ length held') ×
       (held ≡ sets held' 0 (made_numbers m)))
       → new ≡ take (length (made_numbers m)) held ++ drop (length (made_numbers m)) old
-      → (Done n ≡ answer width m (length old)) × (new ≡ buffer m old)
+      → (Ok n ≡ answer width m (length old)) × (new ≡ buffer m old)
   filled_done e l held new k f w = go m e l k f w
     where
-      go : (m : Checked (List ℕ)) → tally width 0 m ≡ Done n → length (made_numbers m) ≤ length old
+      go : (m : Checked (List ℕ)) → tally width 0 m ≡ Ok n → length (made_numbers m) ≤ length old
           → length (made_numbers m) ≤ length held
           → (is_made m ≡ true → (held' : List ℕ) × (length held ≡ length held') ×
           (held ≡ sets held' 0 (made_numbers m)))
           → new ≡ take (length (made_numbers m)) held ++ drop (length (made_numbers m)) old
-          → (Done n ≡ answer width m (length old)) × (new ≡ buffer m old)
+          → (Ok n ≡ answer width m (length old)) × (new ≡ buffer m old)
       go (accept xs) e l k f w =
           let h : 0 + length xs / width ≡ n = cc in
           let q : n ≡ length xs / width = omega (arith, h) in
@@ -276,5 +278,5 @@ module _ (width : ℕ) (m : Checked (List ℕ)) (n : ℕ) (old : List ℕ) where
           let t : take (length xs) held ≡ xs = ap (take (length xs)) b.2
           ∙ take_sets b.0 xs (omega (arith, k, b.1)) in
           let a = answer_fits width xs old l in
-          (ap Done q ∙ a.0, w ∙ ap (λ (ys : List ℕ). ys ++ drop (length xs) old) t ∙ a.1)
+          (ap Ok q ∙ a.0, w ∙ ap (λ (ys : List ℕ). ys ++ drop (length xs) old) t ∙ a.1)
       go (refuse k l) e h j f w = let z : ◌≡◌ {A = ℕ} 0 1 = cc in absurd (omega arith)

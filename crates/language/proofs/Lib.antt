@@ -1,5 +1,6 @@
 pub mod Booleans
 pub mod Filling
+pub mod Refusals
 pub mod Rows
 pub mod Letters
 pub mod Tables

@@ -1,11 +1,11 @@
 -- What a service that fills a lent buffer answers, and what the buffer holds afterwards
 -- (document 01, "Refusals and stops": a refusal changes no lent buffer, and past what was written it is unchanged).
 -- Such a service makes of its input all the numbers to write, or a refusal.
-use Rattle.std.specs.Prelude.{Bool, true, false, cond, List, [], ◌++◌, ℕ, ◌+◌, ◌/◌, leb, length, drop}
+use Rattle.std.specs.Prelude.{Bool, true, false, cond, List, [], ◌++◌, ℕ, ◌+◌, ◌/◌, leb, length, drop, Result}
 use Rattle.language.specs.Limits.{room_refusal, no_line}
 use Rattle.language.specs.Results.{Checked, accept, refuse}
-use Rattle.language.specs.declared.Filled.{Filled}
-use Rattle.language.specs.declared.Filled.TheVariants.{Done, Refused}
+use Rattle.language.specs.Refusals.{result_of}
+use Rattle.language.specs.declared.Refusal.{Refusal}
 
 -- Numbers before those that are made next.
 abbrev pub before : List ℕ → Checked (List ℕ) → Checked (List ℕ)
@@ -18,9 +18,8 @@ held room (accept xs) = cond (leb (length xs) room) (accept xs) (refuse room_ref
 held room (refuse number line) = refuse number line
 
 -- How many records of `width` numbers are made, or the refusal.
-abbrev pub filled : ℕ → Checked (List ℕ) → Filled
-filled width (accept xs) = Done (length xs / width)
-filled width (refuse number line) = Refused number line
+abbrev pub filled : ℕ → Checked (List ℕ) → Result ℕ Refusal
+filled width made = result_of (λ xs. length xs / width) made
 
 -- Numbers with those that are made before the rest of them; unchanged by a refusal.
 abbrev pub overwritten : Checked (List ℕ) → List ℕ → List ℕ
@@ -28,7 +27,7 @@ overwritten (accept xs) old = xs ++ drop (length xs) old
 overwritten (refuse number line) old = old
 
 -- The answer where `room` numbers are lent and a record takes `width` of them.
-abbrev pub answer : ℕ → Checked (List ℕ) → ℕ → Filled
+abbrev pub answer : ℕ → Checked (List ℕ) → ℕ → Result ℕ Refusal
 answer width made room = filled width (held room made)
 
 -- The lent buffer afterwards.
@@ -36,9 +35,8 @@ abbrev pub buffer : Checked (List ℕ) → List ℕ → List ℕ
 buffer made old = overwritten (held (length old) made) old
 
 -- How many records of `width` numbers are made, `n` having been counted before.
-abbrev pub tally : ℕ → ℕ → Checked (List ℕ) → Filled
-tally width n (accept xs) = Done (n + length xs / width)
-tally width n (refuse number line) = Refused number line
+abbrev pub tally : ℕ → ℕ → Checked (List ℕ) → Result ℕ Refusal
+tally width n made = result_of (λ xs. n + length xs / width) made
 
 abbrev pub is_made : Checked (List ℕ) → Bool
 is_made (accept xs) = true

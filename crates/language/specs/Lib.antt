@@ -3,6 +3,7 @@ pub mod Limits
 pub mod Rows
 pub mod Alphabet
 pub mod Results
+pub mod Refusals
 pub mod Filling
 pub mod Decimals
 pub mod TextLines

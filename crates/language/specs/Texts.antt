@@ -1,7 +1,7 @@
 -- Whole texts and their rows, as numbers, under an alphabet
 -- (document 01, "Refusals and stops": line by line, 2 for line 60,001, then 1; then 13. The writer does the same over
 -- rows; input rows not a multiple of 4 long come first, line 0).
-use Rattle.std.specs.Prelude.{cond, List, [], ◌∷◌, ℕ, zero, suc, ◌+◌, ◌%◌, eqb, length, drop}
+use Rattle.std.specs.Prelude.{cond, List, [], ◌∷◌, ℕ, zero, suc, ◌+◌, ◌%◌, eqb, length, drop, Option, Some, None}
 use Rattle.language.specs.Limits.{of_check, line_refusal, limit_refusal, numbers_a_row, no_line}
 use Rattle.language.specs.Results.{Checked, accept, refuse}
 use Rattle.language.specs.Filling.{before}
@@ -9,12 +9,11 @@ use Rattle.language.specs.Rows.{row, is_row}
 use Rattle.language.specs.Alphabet.{Alphabet}
 use Rattle.language.specs.TextLines.{line_of, line_text}
 use Rattle.language.specs.declared.Line.{Line}
-use Rattle.language.specs.declared.Line.TheVariants.{Row, Malformed}
 
 -- A line's row before the rows of the text after it, or the line's refusal.
-abbrev pub with_line : ℕ → (ℕ → Checked (List ℕ)) → Line → Checked (List ℕ)
-with_line line rest Malformed = refuse line_refusal line
-with_line line rest (Row code a b used) = before (code ∷ a ∷ b ∷ 0 ∷ []) (rest used)
+abbrev pub with_line : ℕ → (ℕ → Checked (List ℕ)) → Option Line → Checked (List ℕ)
+with_line line rest None = refuse line_refusal line
+with_line line rest (Some l) = before (l.code ∷ l.first ∷ l.second ∷ 0 ∷ []) (rest l.end)
 
 -- Where no line is allowed any more.
 abbrev pub no_more : ℕ → List ℕ → Checked (List ℕ)

@@ -1,5 +1,5 @@
-// What every service shares: the letters of records, reading a row and the table of classes, the answers of reading a line,
-// and the answer of a service that fills a lent buffer.
+// What every service shares: the letters of records, reading a row and the table of classes, the row of a line, and a
+// refusal.
 #![tactic(auto)]
 
 ghost use Rattle.std.specs.Prelude.{◌≡◌, ◌+◌, ◌*◌, ◌<◌, length, get_or};
@@ -183,32 +183,20 @@ impl Type {
     }
 }
 
-// What filling a lent buffer answers: how many rows or bytes were written, or a refusal's number and line.
-#[derive(Drop)]
-pub enum Filled {
-    Done(usize),
-    Refused(u32, u32),
+// A refusal: its number in document 01's list or one of document 02's, and the line that it stands on.
+#[derive(Clone, Copy, Debug, PartialEq, Eq)]
+pub struct Refusal {
+    pub number: u32,
+    pub line: u32,
 }
 
-// The number of a digit or of a field.
-#[derive(Drop)]
-pub enum Decimal {
-    Is(u32),
-    Bad,
-}
-
-// A number after its tab, and where what follows begins.
-#[derive(Drop)]
-pub enum Taken {
-    Number(u32, usize),
-    NoNumber,
-}
-
-// A line's row, code and two numbers, and where the next line begins.
-#[derive(Drop)]
-pub enum Line {
-    Row(u32, u32, u32, usize),
-    Malformed,
+// A line's row, its letter's code and two numbers, and where the line ends.
+#[derive(Clone, Copy)]
+pub struct Line {
+    pub code: u32,
+    pub first: u32,
+    pub second: u32,
+    pub end: usize,
 }
 
 // The letter's code of a row, the first number after it, and the second.
