@@ -2,6 +2,7 @@
 -- it ended in it or below it. Spoiled lies strictly below printed"); from the store of the run, or through the
 -- Identities of the store that its plain run left.
 use Rattle.std.specs.Prelude.{Bool, true, ◌&&◌, cond, not, List, [], ◌∷◌, ℕ, zero, suc, ◌-◌, ◌*◌, ◌/◌, eqb, leb, ltb, length, get_or, drop}
+use Rattle.std.specs.Prelude.{Result, Ok, Err}
 use Rattle.std.proofs.Math.Option.{Option, none, some}
 use Rattle.language.specs.Limits.{object_width, object_class, identity_class, fickle_class}
 use Rattle.language.specs.Lists.{choice, bind_option, map_option}
@@ -10,8 +11,9 @@ use Rattle.language.specs.Tree.{Program}
 use Rattle.language.specs.World.{World}
 use Rattle.language.specs.Program.{world}
 use Rattle.language.specs.Verdict.{check}
-use Rattle.fleet.specs.declared.Count.{Count}
-use Rattle.fleet.specs.declared.Count.TheVariants.{Labels, Refused}
+use Rattle.language.specs.Refusals.{refusal}
+use Rattle.language.specs.declared.Refusal.{Refusal}
+use Rattle.fleet.specs.declared.Labels.{Labels}
 
 -- The refusal of a run whose program, classes or store do not serve.
 abbrev pub class_refusal : ℕ
@@ -107,7 +109,11 @@ counts_through rows store n printed spoiled = choice (holds_objects n store)
     (λ _. bind_option (classes_through n store) λ cs. labels_checked (check rows) printed spoiled cs)
     (λ _. none)
 
+-- The labels as counting answers them.
+abbrev pub labels : ℕ → ℕ → Labels
+labels printed spoiled = record { printed = printed; spoiled = spoiled }
+
 -- What counting a run by itself answers.
-abbrev pub count_told : Option Counts → Count
-count_told (some c) = Labels c.printed c.spoiled
-count_told none = Refused class_refusal first_place
+abbrev pub count_told : Option Counts → Result Labels Refusal
+count_told (some c) = Ok (labels c.printed c.spoiled)
+count_told none = Err (refusal class_refusal first_place)

@@ -1,17 +1,25 @@
-// What counting and ranking answer (document 02, §1). The definitions are in specs/.
-
-// The labels of a run that were printed, and those of them that were spoiled; or a refusal's number and line.
+// What counting and ranking work on and what they answer (document 02, §1). The definitions are in specs/.
 #![tactic(auto)]
 
-#[derive(Clone, Copy)]
-pub enum Count {
-    Labels(u32, u32),
-    Refused(u32, u32),
+// A model with labels printed, those of them that were spoiled, and cents: of one run, of one counted line, or of all so far.
+#[derive(Clone, Copy, Debug, PartialEq, Eq)]
+pub struct Counted {
+    pub model: u32,
+    pub printed: u32,
+    pub spoiled: u32,
+    pub cents: u32,
 }
 
-// How many bytes of a report were written; or a refusal's number and line, which is the place of a run or of a counted line.
-#[derive(Clone, Copy)]
-pub enum Reported {
-    Done(usize),
-    Refused(u32, usize),
+// The labels of a run that were printed, and those of them that were spoiled.
+#[derive(Clone, Copy, Debug, PartialEq, Eq)]
+pub struct Labels {
+    pub printed: u32,
+    pub spoiled: u32,
+}
+
+// A refusal of a report: its number, and the place of the run or of the counted line that it stands on, 0 for none of them.
+#[derive(Clone, Copy, Debug, PartialEq, Eq)]
+pub struct Fault {
+    pub number: u32,
+    pub place: usize,
 }
