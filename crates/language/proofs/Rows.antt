@@ -5,7 +5,7 @@ use mathlib.Core.Bool.{Bool, true, false, false≢true, ◌&&◌, cond}
 use mathlib.Core.List.{List, [], ◌∷◌}
 use Prim.Native.Nat.{ℕ, zero, suc, ◌<◌}
 use native.Mathlib.Omega.{arith}
-use borrow.Author.Tests.{eqb-true, ltb-true, lt-leb}
+use borrow.Author.Tests.{eqb-true, ltb-true}
 use lib.Dec.{eqb, leb, ltb, leb-suc-zero, eqb-suc-zero}
 use Rattle.language.specs.Limits.{largest}
 use Rattle.language.specs.Lists.{bind_option, given, choice}
@@ -95,10 +95,3 @@ is_row_by n a b c = go (letter_among letters n) refl
         let k : numbers l < 3 =
         ltb-true (numbers l) 3 (among (λ l. ltb (numbers l) 3) letters refl n l e).0 in
         given_cond (well_made l (row n a b c)) (written l a b) ∙ in_range (numbers l) a b c k
-
--- a first number out of range, where there is one
-pub first_big : (k a b : ℕ) → (k ≡ 0 → ⊥) → 65535 < a → are_numbers k a b ≡ false
-first_big zero a b n h = absurd (n refl)
-first_big (suc zero) a b n h = rw (lt-leb a 65535 h)
-first_big (suc (suc zero)) a b n h = rw (lt-leb a 65535 h)
-first_big (suc (suc (suc k))) a b n h = refl

@@ -7,6 +7,7 @@ ghost use Rattle.language.specs.ClassTables.{class_width};
 ghost use Rattle.language.specs.Rows.{numbers_after, row, is_row};
 
 // The letters, in the order of document 01's table.
+// Kept: numbers, no enum. Rows are lent from C as plain numbers, and a letter in them is its code, which `code` of specs/Rows names.
 pub const CLASS: u32 = 67;
 
 pub const FIELD: u32 = 70;
@@ -67,6 +68,7 @@ pub const MOST_FIELDS: u16 = 17;
 pub const MOST_PARAMETERS: u32 = 8;
 
 // What stands for null, or for a slot that is not there, where the number of a type is stored.
+// Kept: a number, no Option. The table of slots holds plain numbers, two types to each (`numbers` of types/specs/Answers).
 pub const NO_TYPE: u32 = 65535;
 
 // Classes Identity and FickleObject of a plain program, and their fields `imp` and `id`.
@@ -124,6 +126,7 @@ pub const MOST_OBJECTS: u32 = 65535;
 pub const MOST_CALLS: u32 = 64;
 
 // The refusals and the stops, in the order of document 01's list.
+// Kept: numbers, no enum. The list is numbered, `refuse` of specs/Results carries the number, and the services return it to C.
 pub const LINE_REFUSAL: u32 = 1;
 
 pub const LIMIT_REFUSAL: u32 = 2;
@@ -174,13 +177,6 @@ impl Type {
     {
         Type { number }
     }
-
-    // The type of a class.
-    pub fn from_class(class: u32) -> Type
-        ensures { result.number ≡ class }
-    {
-        Type { number: class }
-    }
 }
 
 // A refusal: its number in document 01's list or one of document 02's, and the line that it stands on.
@@ -230,57 +226,29 @@ pub fn class_entry(table: &[u16], class: u32, place: usize) -> u32
 }
 
 // How many made-numbers follow the letter of an ASCII code; 3, more than any record has, where it is no letter's.
+// Kept: 3 and no None, as `numbers_after` of specs/Rows has it, by which `is_row` needs no case of its own for other codes.
+#[tactic(auto, unfolding(crate::specs::Rows::numbers_after, crate::specs::Rows::letter_among))]
 pub fn count_numbers(code: u32) -> u32
     ensures { result ≡ numbers_after code }
 {
     match code {
-        CLASS => 2,
-        FIELD => 2,
-        METHOD => 2,
-        PARAMETER => 1,
-        EFFECT => 1,
-        START => 0,
-        BLOCK => 2,
-        LOCAL => 1,
-        TRUE => 0,
-        FALSE => 0,
-        NULL => 0,
-        SLOT => 1,
-        IS_NULL => 0,
-        GET => 1,
-        CAST => 1,
-        NEW => 1,
-        CHANGE => 2,
-        ASSIGN => 1,
-        SET => 1,
-        CALL => 2,
-        CHOOSE => 0,
+        START | TRUE | FALSE | NULL | IS_NULL | CHOOSE => 0,
+        PARAMETER | EFFECT | LOCAL | SLOT | GET | CAST | NEW | ASSIGN | SET => 1,
+        CLASS | FIELD | METHOD | BLOCK | CHANGE | CALL => 2,
         _ => 3,
     }
 }
 
 // Is this a row: a letter's code, its numbers in range, the rest 0.
+#[tactic(auto, using(crate::proofs::Rows::is_row_by))]
 pub fn is_row(code: u32, a: u32, b: u32, c: u32) -> bool
     ensures { result ≡ is_row (row code a b c) }
 {
-    if c != 0 {
-        return false;
-    }
-    let count = count_numbers(code);
-    if count == 0 {
-        if a != 0 {
-            return false;
+    c == 0
+        && match count_numbers(code) {
+            0 => a == 0 && b == 0,
+            1 => a <= LARGEST && b == 0,
+            2 => a <= LARGEST && b <= LARGEST,
+            _ => false,
         }
-        return b == 0;
-    }
-    if 2 < count {
-        return false;
-    }
-    if LARGEST < a {
-        return false;
-    }
-    if count == 1 {
-        return b == 0;
-    }
-    b <= LARGEST
 }
