@@ -1,27 +1,16 @@
 -- The subclass test over the table of superclasses is the one of the program. Assumes nothing.
 use mathlib.Core.Path.{◌≡◌, sym}
-use mathlib.Core.Bool.{true}
 use mathlib.Core.Option.{some}
 use mathlib.Core.List.{List}
 use Prim.Native.Nat.{ℕ, zero, suc, ◌≤◌, ◌<◌}
 use native.Mathlib.Omega.{arith}
-use borrow.Author.Tests.{eq-eqb, ne_eqb}
-use lib.ListN.{length, get_or}
+use borrow.Author.Tests.{ne_eqb}
+use lib.ListN.{length}
 use Rattle.language.specs.Tree.{Class}
-use Rattle.language.specs.Effects.{member}
 use Rattle.language.specs.Program.{class_at, world}
 use Rattle.language.specs.ClassTables.{ClassTables}
 use Rattle.language.proofs.Classes as classes
 use Rattle.classes.specs.Subclasses.{is_below, Subclasses}
-
--- The two cases of the test.
-pub below_object : (A : List ℕ) (k d : ℕ) → d ≡ 0 → true ≡ is_below A k d
-unfolding is_below
-below_object A k d e = rw (eq-eqb d 0 e)
-
-pub below_other : (A : List ℕ) (k d : ℕ) → (d ≡ 0 → ⊥) → member (get_or A k 0) d ≡ is_below A k d
-unfolding is_below
-below_other A k d e = rw (ne_eqb d 0 e)
 
 -- Where every superclass is an earlier class, the table tells of any two classes whether one stands below the other.
 module _ (P : List Class) (lower : (k : ℕ) (c : Class) → class_at P k ≡ some c → c.super < k) where

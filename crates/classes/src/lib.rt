@@ -12,10 +12,7 @@ use language::Type;
 fn place_of(class: u32) -> u32
     ensures { result ≡ class - 1 }
 {
-    if class == Type::OBJECT {
-        return 0;
-    }
-    class - 1
+    class.saturating_sub(1)
 }
 
 // Whether a class is in a set.
@@ -23,8 +20,7 @@ pub fn is_member(set: u64, class: u32) -> bool
     requires { class ≤ of_check.classes }
     ensures { result ≡ member set class }
 {
-    let place = place_of(class);
-    (set >> place) & 1 == 1
+    (set >> place_of(class)) & 1 == 1
 }
 
 // The set of one class.
@@ -32,17 +28,14 @@ pub fn effect_of(class: u32) -> u64
     requires { class ≤ of_check.classes }
     ensures { result ≡ effect_of class }
 {
-    let place = place_of(class);
-    1u64 << place
+    1u64 << place_of(class)
 }
 
 // Whether a class is another or stands below it: every class stands below Object, which is class 0 and in no set.
+#[tactic(auto, unfolding(crate::specs::Subclasses::is_below))]
 pub fn is_below(above: &[u64], class: u32, over: u32) -> bool
     requires { (class < length above.now) × (over ≤ of_check.classes) }
     ensures { result ≡ is_below above.now class over }
 {
-    if over == Type::OBJECT {
-        return true;
-    }
-    is_member(above[class as usize], over)
+    over == Type::OBJECT || is_member(above[class as usize], over)
 }

@@ -9,5 +9,5 @@ use Rattle.classes.proofs.effect_of.Goals as goal
 
 pub returns : goal.returns
 unfolding effect_of
-returns c = one_shifted c.place_of-place.result (omega (arith, c.place_of-place.ensures))
-    ∙ ap (λ (k : ℕ). 2 ^ k) c.place_of-place.ensures
+returns c = one_shifted c.place_of.result (omega (arith, c.place_of.ensures))
+    ∙ ap (λ (k : ℕ). 2 ^ k) c.place_of.ensures

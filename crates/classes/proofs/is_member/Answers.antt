@@ -7,5 +7,5 @@ use Rattle.language.proofs.Effects.{member_mask}
 use Rattle.classes.proofs.is_member.Goals as goal
 
 pub returns : goal.returns
-returns c = ap (λ (x : ℕ). eqb (bit_and (c.args.set / 2 ^ x) 1) 1) c.place_of-place.ensures
+returns c = ap (λ (x : ℕ). eqb (bit_and (c.args.set / 2 ^ x) 1) 1) c.place_of.ensures
     ∙ member_mask c.args.set c.args.class
