@@ -1,4 +1,3 @@
 pub mod Halves
 pub mod Laws
-pub mod Cases
 pub mod Waiting

@@ -8,7 +8,7 @@ use native.Mathlib.Omega.{arith}
 use lib.ListN.{length, get_or, set as replaced, length-set}
 use lib.Seq.{get_or-set_same, get_or-set_other}
 use Rattle.language.proofs.Lines.{less_or_same}
-use Rattle.types.specs.declared.Answer.{Answer}
+use Rattle.types.specs.declared.Typed.{Typed as TypedCase}
 use Rattle.types.specs.Answers.{case_number}
 use Rattle.types.specs.Tables.{applied_number, PostStore}
 
@@ -40,7 +40,7 @@ waiting_step {T} {S} {S'} {top} {i} {φ} {v} w l e = record {
   rest = λ k m. get_or-set_other S' (top + i) (top + k) v 0 (λ q. omega arith) ∙ w.rest k (omega arith);
 }
 
-pub waiting_stored : {T S S' : List ℕ} {top i n v : ℕ} {r : Answer} → Waiting T S S' top i r.effect
+pub waiting_stored : {T S S' : List ℕ} {top i n v : ℕ} {r : TypedCase} → Waiting T S S' top i r.effect
     → i ≤ n → n ≤ i → top + n < length S → v ≡ case_number r.typing
     → PostStore T S (replaced S' (top + n) v) top n r
 waiting_stored {T} {S} {S'} {top} {i} {n} {v} {r} w a b l e = record {

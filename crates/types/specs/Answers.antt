@@ -1,16 +1,18 @@
--- What each case of typing's answer stands for, and the numbers that stand for types in slots.
-use mathlib.Core.Bool.{true, false, cond, ◌||◌}
+-- What typing's answer stands for, and the numbers that stand for types in slots.
+use mathlib.Core.Bool.{cond, ◌||◌}
 use mathlib.Core.Bool
 use Rattle.std.proofs.Math.Option.{Option, none, some}
-use Rattle.std.specs.Prelude.{List, ◌∷◌, map, ℕ, ◌+◌, ◌*◌, ◌/◌, ◌%◌, eqb, leb}
-use Rattle.language.specs.Results.{Checked, accept, refuse}
+use Rattle.std.specs.Prelude.{Result, Ok, Err, List, ◌∷◌, map, ℕ, ◌+◌, ◌*◌, ◌/◌, ◌%◌, eqb, leb}
+use Rattle.language.specs.Results.{Checked}
+use Rattle.language.specs.declared.Refusal.{Refusal}
+use Rattle.language.specs.Refusals.{refusal, result_of}
 use Rattle.language.specs.Tree.{bool, class, ExprType, known, null_type, type_number}
 use Rattle.language.specs.Environment.{Slot, Environment}
 use Rattle.language.specs.Typing.{Typed}
 use Rattle.language.specs.Limits.{bool_number}
 use Rattle.types.specs.declared.Typing.{Typing}
-use Rattle.types.specs.declared.Typing.TheVariants.{Bool as Bool_case, Class, Null, Refusal}
-use Rattle.types.specs.declared.Answer.{Answer}
+use Rattle.types.specs.declared.Typing.TheVariants.{Bool as Bool_case, Class, Null}
+use Rattle.types.specs.declared.Typed.{Typed as TypedCase}
 
 -- The case of a type.
 abbrev pub typing_case : ExprType → Typing
@@ -18,13 +20,22 @@ typing_case (known bool) = Bool_case
 typing_case (known (class c)) = Class c
 typing_case null_type = Null
 
-abbrev pub answer : Typing → ℕ → Answer
-answer t φ = record { typing = t; effect = φ }
+abbrev pub typed_case : Typing → ℕ → TypedCase
+typed_case t φ = record { typing = t; effect = φ }
 
--- The answer that a definition's result stands for; a refusal has no effect.
+-- What typing answers: a type with its effect, or a refusal.
+abbrev pub Answer : Type 0
+Answer = Result TypedCase Refusal
+
+abbrev pub answer : Typing → ℕ → Answer
+answer t φ = Ok (typed_case t φ)
+
+-- The answer that a definition's result stands for.
+abbrev pub answered : Typed → TypedCase
+answered a = typed_case (typing_case a.type) a.effect
+
 abbrev pub answer_of : Checked Typed → Answer
-answer_of (accept a) = answer (typing_case a.type) a.effect
-answer_of (refuse n l) = answer (Refusal n l) 0
+answer_of q = result_of answered q
 
 -- The case of a declared type's number.
 unfoldable pub case_of_number : ℕ → Typing
@@ -38,17 +49,10 @@ abbrev pub case_number : Typing → ℕ
 case_number Bool_case = bool_number
 case_number (Class c) = c
 case_number Null = absent
-case_number (Refusal n l) = absent
-
-abbrev pub is_refusal : Typing → mathlib.Core.Bool.Bool
-is_refusal Bool_case = false
-is_refusal (Class c) = false
-is_refusal Null = false
-is_refusal (Refusal n l) = true
 
 -- A refusal on the line of a row.
-abbrev pub refusal : ℕ → ℕ → Answer
-refusal n at = answer (Refusal n (at + 1)) 0
+abbrev pub refused : ℕ → ℕ → Answer
+refused n at = Err (refusal n (at + 1))
 
 -- The case of a stored argument's number.
 unfoldable pub stored_case : ℕ → Typing

@@ -1,13 +1,12 @@
 -- What the functions over the tables of classes give, in terms of the tables' numbers.
-use Rattle.std.specs.Prelude.{◌≡◌, Bool, false, not, cond, List, ℕ, zero, suc, ◌+◌, ◌*◌, ◌≤◌, ◌<◌, eqb, length, get_or}
-use Rattle.language.specs.Limits.{bool_number, of_check, type_refusal}
+use Rattle.std.specs.Prelude.{◌≡◌, Bool, false, not, cond, List, ℕ, zero, suc, ◌+◌, ◌*◌, ◌≤◌, ◌<◌, eqb, length, get_or, Option, Some, None}
+use Rattle.language.specs.Limits.{bool_number, of_check}
 use Rattle.language.specs.Effects.{member}
 use Rattle.language.specs.ClassTables.{class_width, super_place, root_place}
 use Rattle.classes.specs.Subclasses.{is_below}
 use Rattle.types.specs.declared.Typing.{Typing}
 use Rattle.types.specs.declared.Typing.TheVariants.{Bool as Bool_case, Class, Null}
-use Rattle.types.specs.declared.Typing.TheVariants.{Refusal}
-use Rattle.types.specs.declared.Answer.{Answer}
+use Rattle.types.specs.declared.Typed.{Typed as TypedCase}
 use Rattle.types.specs.Answers.{absent, case_number, current_in, with_current}
 
 -- The tables' numbers alone make their use safe: roots and superclasses stand no later than their class.
@@ -34,7 +33,6 @@ unfoldable pub is_fitting : List ℕ → Typing → ℕ → Bool
 is_fitting A Bool_case n = eqb n bool_number
 is_fitting A (Class c) n = cond (eqb n bool_number) false (is_below A c n)
 is_fitting A Null n = not (eqb n bool_number)
-is_fitting A (Refusal m l) n = false
 
 -- The number of a class, of bool, or of what is absent.
 pub data Known (count : ℕ) : ℕ → Type 0 where
@@ -62,7 +60,6 @@ abbrev pub CaseIn : ℕ → Typing → Type 0
 CaseIn n Bool_case = Unit {0}
 CaseIn n (Class c) = c < n
 CaseIn n Null = Unit {0}
-CaseIn n (Refusal m l) = Unit {0}
 
 pub record PreNearest (T A : List ℕ) (c d : ℕ) : Type 0 where
   pub count : ℕ
@@ -108,36 +105,30 @@ pub record PreNumbers (T A : List ℕ) (a b : ℕ) : Type 0 where
   pub second : Known count b
 
 -- The numbers of the n types from `top` on after an argument's effect, then the number of its own type.
-pub record PostStore (T S S' : List ℕ) (top n : ℕ) (r : Answer) : Type 0 where
+pub record PostStore (T S S' : List ℕ) (top n : ℕ) (r : TypedCase) : Type 0 where
   pub long : length S' ≡ length S
   pub below : (k : ℕ) → k < top → get_or S' k 0 ≡ get_or S k 0
   pub waiting : (k : ℕ) → k < n → get_or S' (top + k) 0 ≡ applied_number T r.effect (get_or S (top + k) 0)
   pub last : get_or S' (top + n) 0 ≡ case_number r.typing
 
--- The type of two arms; a refusal where they have none.
-unfoldable pub joined_case : List ℕ → List ℕ → Typing → Typing → Typing
-joined_case T A Bool_case Bool_case = Bool_case
-joined_case T A Bool_case (Class d) = Refusal type_refusal 0
-joined_case T A Bool_case Null = Refusal type_refusal 0
-joined_case T A Bool_case (Refusal n l) = Refusal type_refusal 0
-joined_case T A (Class c) Bool_case = Refusal type_refusal 0
-joined_case T A (Class c) (Class d) = Class (nearest_from T A (suc c) c d)
-joined_case T A (Class c) Null = Class c
-joined_case T A (Class c) (Refusal n l) = Refusal type_refusal 0
-joined_case T A Null Bool_case = Refusal type_refusal 0
-joined_case T A Null (Class d) = Class d
-joined_case T A Null Null = Null
-joined_case T A Null (Refusal n l) = Refusal type_refusal 0
-joined_case T A (Refusal m k) u = Refusal type_refusal 0
+-- The type of two arms, where they have one.
+unfoldable pub joined_case : List ℕ → List ℕ → Typing → Typing → Option Typing
+joined_case T A Bool_case Bool_case = Some Bool_case
+joined_case T A Bool_case (Class d) = None
+joined_case T A Bool_case Null = None
+joined_case T A (Class c) Bool_case = None
+joined_case T A (Class c) (Class d) = Some (Class (nearest_from T A (suc c) c d))
+joined_case T A (Class c) Null = Some (Class c)
+joined_case T A Null Bool_case = None
+joined_case T A Null (Class d) = Some (Class d)
+joined_case T A Null Null = Some Null
 
 abbrev pub BothClasses : List ℕ → List ℕ → Typing → Typing → Type 0
 BothClasses T A (Class c) (Class d) = PreNearest T A c d
 BothClasses T A (Class c) Bool_case = Unit {0}
 BothClasses T A (Class c) Null = Unit {0}
-BothClasses T A (Class c) (Refusal n l) = Unit {0}
 BothClasses T A Bool_case u = Unit {0}
 BothClasses T A Null u = Unit {0}
-BothClasses T A (Refusal m k) u = Unit {0}
 
 -- A row is within the rows, and its number fits a line's.
 abbrev pub In_row : List ℕ → ℕ → Type 0

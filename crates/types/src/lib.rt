@@ -3,50 +3,50 @@
 
 ghost use Rattle.std.specs.Prelude.{◌≡◌, suc, ◌+◌, ◌*◌, ◌≤◌, ◌<◌, length};
 ghost use Rattle.language.specs.Effects.{within};
-ghost use Rattle.types.specs.Answers.{answer, case_of_number, case_number, is_refusal, names_type};
-ghost use Rattle.types.specs.Answers.{stored_case};
+ghost use Rattle.language.specs.Refusals.{refusal};
+ghost use Rattle.types.specs.Answers.{typed_case, case_of_number, case_number, names_type, stored_case};
 ghost use Rattle.types.specs.Tables.{root_in, applied, is_fitting, nearest_from, CaseIn, PreNearest};
 ghost use Rattle.types.specs.Tables.{joined_case, BothClasses};
 
-use language::{NO_TYPE, ROOT_PLACE, SUPER_PLACE, TYPE_REFUSAL, Type, class_entry};
+use language::{NO_TYPE, ROOT_PLACE, Refusal, SUPER_PLACE, Type, class_entry};
 
 pub mod slots;
 
-// What typing answers of an expression: bool, a class, null, or a refusal's number and line.
+// The type of an expression: bool, a class, or null.
 #[derive(Clone, Copy)]
 pub enum Typing {
     Bool,
     Class(u32),
     Null,
-    Refusal(u32, u32),
 }
 
-// The answer with the expression's effect, a set of classes; a refusal has none.
+// What typing answers of an expression that it accepts: its type, and its effect, a set of classes.
 #[derive(Clone, Copy)]
-pub struct Answer {
+pub struct Typed {
     pub typing: Typing,
     pub effect: u64,
 }
 
 // A refusal on the line of row `at`.
-pub fn refused(number: u32, at: usize) -> Answer
+pub fn refused(number: u32, at: usize) -> Refusal
     requires { at < 65536 }
-    ensures { result ≡ answer (Typing.Refusal number (at + 1)) 0 }
+    ensures { result ≡ refusal number (at + 1) }
 {
-    Answer {
-        typing: Typing::Refusal(number, at as u32 + 1),
-        effect: 0,
+    Refusal {
+        number,
+        line: at as u32 + 1,
     }
 }
 
-// An answer with no effect.
-pub fn plain(typing: Typing) -> Answer
-    ensures { result ≡ answer typing 0 }
+// A type with no effect.
+pub fn plain(typing: Typing) -> Typed
+    ensures { result ≡ typed_case typing 0 }
 {
-    Answer { typing, effect: 0 }
+    Typed { typing, effect: 0 }
 }
 
 // A declared type as an expression has it.
+#[tactic(auto, unfolding(crate::specs::Answers::case_of_number))]
 pub fn typing_of(t: Type) -> Typing
     ensures { result ≡ case_of_number t.number }
 {
@@ -65,44 +65,31 @@ pub fn number_of(t: Typing) -> u32
         Typing::Bool => Type::BOOL,
         Typing::Class(c) => c,
         Typing::Null => NO_TYPE,
-        Typing::Refusal(_, _) => NO_TYPE,
     }
 }
 
 // The answer's case for a stored number.
+#[tactic(auto, unfolding(crate::specs::Answers::stored_case))]
 pub fn typing_at(number: u32) -> Typing
     ensures { result ≡ stored_case number }
 {
     if number == NO_TYPE {
-        return Typing::Null;
-    }
-    typing_of(Type::from_number(number))
-}
-
-// Whether an answer is a refusal.
-pub fn is_refusal(a: Answer) -> bool
-    ensures { result ≡ is_refusal a.typing }
-{
-    let t = a.typing;
-    match t {
-        Typing::Bool => false,
-        Typing::Class(_) => false,
-        Typing::Null => false,
-        Typing::Refusal(_, _) => true,
+        Typing::Null
+    } else {
+        typing_of(Type::from_number(number))
     }
 }
 
 // Whether a number is bool's or a declared class's.
+#[tactic(auto, unfolding(crate::specs::Answers::names_type))]
 pub fn is_type(count: u32, number: u32) -> bool
     ensures { result ≡ names_type count number }
 {
-    if number == Type::BOOL {
-        return true;
-    }
-    number <= count
+    number == Type::BOOL || number <= count
 }
 
 // Whether every class of the first is in the second.
+#[tactic(auto, unfolding(language::specs::Effects::within))]
 pub fn is_within(inner: u64, outer: u64) -> bool
     ensures { result ≡ within inner outer }
 {
@@ -110,6 +97,7 @@ pub fn is_within(inner: u64, outer: u64) -> bool
 }
 
 // The class after an effect: a state class whose root is in it becomes that root.
+#[tactic(auto, unfolding(crate::specs::Tables::applied))]
 pub fn apply(table: &[u16], effect: u64, class: u32) -> u32
     requires { (class * 576 + 514 < length table.now) × (root_in table.now class ≤ 64) }
     ensures { result ≡ applied table.now effect class }
@@ -123,6 +111,7 @@ pub fn apply(table: &[u16], effect: u64, class: u32) -> u32
 }
 
 // Whether a value of an expression's type may stand where a type is declared: null fits every class and never bool.
+#[tactic(auto, unfolding(crate::specs::Tables::is_fitting))]
 pub fn is_fitting(above: &[u64], t: Typing, u: Type) -> bool
     requires case_in { CaseIn (length above.now) t }
     requires number_le_classes { (u.number ≡ 255 → ⊥) → u.number ≤ 64 }
@@ -130,14 +119,8 @@ pub fn is_fitting(above: &[u64], t: Typing, u: Type) -> bool
 {
     match t {
         Typing::Bool => u.number == Type::BOOL,
-        Typing::Class(c) => {
-            if u.number == Type::BOOL {
-                return false;
-            }
-            classes::is_below(above, c, u.number)
-        }
+        Typing::Class(c) => u.number != Type::BOOL && classes::is_below(above, c, u.number),
         Typing::Null => u.number != Type::BOOL,
-        Typing::Refusal(_, _) => false,
     }
 }
 
@@ -153,30 +136,17 @@ pub fn nearest(table: &[u16], above: &[u64], c: u32, d: u32) -> u32
     k
 }
 
-// The type of two arms together; a refusal of line 0 where they have none.
-pub fn join_types(table: &[u16], above: &[u64], t: Typing, u: Typing) -> Typing
+// The type of two arms together, where they have one.
+#[tactic(auto, unfolding(crate::specs::Tables::joined_case))]
+pub fn join_types(table: &[u16], above: &[u64], t: Typing, u: Typing) -> Option<Typing>
     requires { BothClasses table.now above.now t u }
     ensures { result ≡ joined_case table.now above.now t u }
 {
-    match t {
-        Typing::Bool => match u {
-            Typing::Bool => Typing::Bool,
-            Typing::Class(_) => Typing::Refusal(TYPE_REFUSAL, 0),
-            Typing::Null => Typing::Refusal(TYPE_REFUSAL, 0),
-            Typing::Refusal(_, _) => Typing::Refusal(TYPE_REFUSAL, 0),
-        },
-        Typing::Class(c) => match u {
-            Typing::Class(d) => Typing::Class(nearest(table, above, c, d)),
-            Typing::Null => Typing::Class(c),
-            Typing::Bool => Typing::Refusal(TYPE_REFUSAL, 0),
-            Typing::Refusal(_, _) => Typing::Refusal(TYPE_REFUSAL, 0),
-        },
-        Typing::Null => match u {
-            Typing::Class(d) => Typing::Class(d),
-            Typing::Null => Typing::Null,
-            Typing::Bool => Typing::Refusal(TYPE_REFUSAL, 0),
-            Typing::Refusal(_, _) => Typing::Refusal(TYPE_REFUSAL, 0),
-        },
-        Typing::Refusal(_, _) => Typing::Refusal(TYPE_REFUSAL, 0),
+    match (t, u) {
+        (Typing::Bool, Typing::Bool) => Some(t),
+        (Typing::Class(c), Typing::Class(d)) => Some(Typing::Class(nearest(table, above, c, d))),
+        (Typing::Class(_), Typing::Null) => Some(t),
+        (Typing::Null, Typing::Class(_)) | (Typing::Null, Typing::Null) => Some(u),
+        _ => None,
     }
 }

@@ -5,7 +5,7 @@ ghost use Rattle.types.specs.Tables.{applied_number, applied_slot, joined_number
 ghost use Rattle.types.specs.Tables.{Applicable, PostStore, Changed, Saved, Swapped, PreJoin};
 ghost use Rattle.types.specs.Tables.{PreNumbers};
 
-use super::{Answer, apply, nearest, number_of};
+use super::{Typed, apply, nearest, number_of};
 use language::{NO_TYPE, Type};
 
 // A slot has the number of its declared type in its upper half, and that of its current type in its lower. The numbers of
@@ -24,6 +24,7 @@ pub struct Scope {
 }
 
 // The number of a slot's current type.
+#[tactic(auto, unfolding(crate::specs::Answers::current_in))]
 pub fn current(slot: u32) -> u32
     ensures { result ≡ current_in slot }
 {
@@ -31,6 +32,7 @@ pub fn current(slot: u32) -> u32
 }
 
 // The number of a slot's declared type.
+#[tactic(auto, unfolding(crate::specs::Answers::declared_in))]
 pub fn declared(slot: u32) -> u32
     ensures { result ≡ declared_in slot }
 {
@@ -38,6 +40,7 @@ pub fn declared(slot: u32) -> u32
 }
 
 // The slot with another current type.
+#[tactic(auto, unfolding(crate::specs::Answers::with_current, crate::specs::Answers::slot_of, crate::specs::Answers::declared_in))]
 pub fn with_current(slot: u32, number: u32) -> u32
     ensures { result ≡ with_current slot number }
 {
@@ -45,6 +48,7 @@ pub fn with_current(slot: u32, number: u32) -> u32
 }
 
 // A slot whose current type is its declared one.
+#[tactic(auto, unfolding(crate::specs::Answers::fresh_in, crate::specs::Answers::slot_of))]
 pub fn fresh(number: u32) -> u32
     ensures { result ≡ fresh_in number }
 {
@@ -52,17 +56,16 @@ pub fn fresh(number: u32) -> u32
 }
 
 // The number of a slot's type after an effect.
+#[tactic(auto, unfolding(crate::specs::Tables::applied_number))]
 pub fn apply_number(table: &[u16], effect: u64, number: u32) -> u32
     requires { Applicable table.now number }
     ensures { result ≡ applied_number table.now effect number }
 {
-    if number == Type::BOOL {
-        return number;
+    if number == Type::BOOL || number == NO_TYPE {
+        number
+    } else {
+        apply(table, effect, number)
     }
-    if number == NO_TYPE {
-        return number;
-    }
-    apply(table, effect, number)
 }
 
 // An effect applied to the slots in scope.
@@ -80,7 +83,7 @@ pub fn apply_all(table: &[u16], slots: &mut [u32], size: usize, effect: u64)
 
 // Stores the type of an argument in slot `top + n`, after its effect on the types of the n arguments before
 // it, which stand from `top` on.
-pub fn store_type(table: &[u16], slots: &mut [u32], top: usize, n: usize, r: Answer)
+pub fn store_type(table: &[u16], slots: &mut [u32], top: usize, n: usize, r: Typed)
     requires n_in_bounds { top + n < length slots.old }
     requires by_index { (k : ℕ) → k < n → Applicable table.now (get_or slots.old (top + k) 0) }
     ensures { PostStore table.now slots.old slots.new top n r }
@@ -89,29 +92,20 @@ pub fn store_type(table: &[u16], slots: &mut [u32], top: usize, n: usize, r: Ans
         let place = top + i;
         slots[place] = apply_number(table, r.effect, slots[place]);
     }
-    let t = r.typing;
-    let last = top + n;
-    slots[last] = number_of(t);
+    slots[top + n] = number_of(r.typing);
 }
 
 // The number of a slot's type after two arms.
+#[tactic(auto, unfolding(crate::specs::Tables::joined_number))]
 pub fn join_number(table: &[u16], above: &[u64], a: u32, b: u32) -> u32
     requires { PreNumbers table.now above.now a b }
     ensures { result ≡ joined_number table.now above.now a b }
 {
-    if a == Type::BOOL {
-        return a;
+    if a == Type::BOOL || a == NO_TYPE || b == Type::BOOL || b == NO_TYPE {
+        a
+    } else {
+        nearest(table, above, a, b)
     }
-    if a == NO_TYPE {
-        return a;
-    }
-    if b == Type::BOOL {
-        return a;
-    }
-    if b == NO_TYPE {
-        return a;
-    }
-    nearest(table, above, a, b)
 }
 
 // The slots in scope are copied to a place above them.
@@ -119,9 +113,7 @@ pub fn save(slots: &mut [u32], size: usize, top: usize)
     requires { (top + size ≤ length slots.old) × (size ≤ top) }
     ensures { Saved slots.old slots.new top size }
 {
-    for i in 0..size {
-        slots[top + i] = slots[i];
-    }
+    slots.copy_within(..size, top);
 }
 
 // The slots in scope change places with those saved.
@@ -130,9 +122,7 @@ pub fn swap(slots: &mut [u32], size: usize, top: usize)
     ensures { Swapped slots.old slots.new top size }
 {
     for i in 0..size {
-        let a = slots[i];
-        slots[i] = slots[top + i];
-        slots[top + i] = a;
+        slots.swap(i, top + i);
     }
 }
 

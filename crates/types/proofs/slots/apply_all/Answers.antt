@@ -8,33 +8,12 @@ use Rattle.types.proofs.slots.apply_all.Goals as goal
 pub loop-i-init : goal.loop-i-init
 loop-i-init c = (omega arith, changed_start _ _)
 
-pub offset_bounds-slots-i : goal.offset_bounds-slots-i
-offset_bounds-slots-i c = omega (arith, c.requires.size_in_bounds, c.loop-i.invariant.1.long)
-
-pub bounds-slots-i : goal.bounds-slots-i
-bounds-slots-i c = omega (arith, c.requires.size_in_bounds, c.loop-i.invariant.1.long)
-
-pub current-requires : goal.current-requires
-current-requires c = tt
-
 pub apply_number-requires : goal.apply_number-requires
 apply_number-requires c = applicable_same _ _ _
     (c.current.ensures
     ∙ ap current_in (c.loop-i.invariant.1.rest c.loop-i.i
     (omega arith)))
     (c.requires.by_index c.loop-i.i c.loop-i-test.true)
-
-pub with_current-requires : goal.with_current-requires
-with_current-requires c = tt
-
-pub offset_bounds-slots-i-in-loop-i : goal.offset_bounds-slots-i-in-loop-i
-offset_bounds-slots-i-in-loop-i c = omega (arith, c.requires.size_in_bounds, c.loop-i.invariant.1.long)
-
-pub bounds-slots-i-in-loop-i : goal.bounds-slots-i-in-loop-i
-bounds-slots-i-in-loop-i c = omega (arith, c.requires.size_in_bounds, c.loop-i.invariant.1.long)
-
-pub overflow_step-i : goal.overflow_step-i
-overflow_step-i c = omega (arith, c.requires.size_in_bounds, c.loop-i.invariant.1.long)
 
 pub loop-i-preserved : goal.loop-i-preserved
 loop-i-preserved c = (
@@ -44,9 +23,6 @@ loop-i-preserved c = (
       c.current.ensures
       (c.loop-i.invariant.1.rest c.loop-i.i (omega arith))),
 )
-
-pub shape_of-slots : goal.shape_of-slots
-shape_of-slots c = c.loop-i.invariant.1.long
 
 pub returns : goal.returns
 returns c = changed_end c.loop-i.invariant.1 c.args.size c.loop-i.invariant.0 c.loop-i-test.false

@@ -1,82 +1,17 @@
 -- `types::slots::swap` meets its contract. Assumes nothing.
 use native.Mathlib.Omega.{arith}
-use lib.ListN.{length-set}
 use Rattle.types.proofs.Laws.{swapping_start, swapping_step, swapping_end}
 use Rattle.types.proofs.slots.swap.Goals as goal
 
 pub loop-i-init : goal.loop-i-init
 loop-i-init c = (omega arith, swapping_start _ _)
 
-pub offset_bounds-slots-i : goal.offset_bounds-slots-i
-offset_bounds-slots-i c = omega (
-  arith,
-  c.requires.0,
-  c.requires.1,
-  c.loop-i.invariant.1.swapped.long,
-)
-
-pub bounds-slots-i : goal.bounds-slots-i
-bounds-slots-i c = omega (
-  arith,
-  c.requires.0,
-  c.requires.1,
-  c.loop-i.invariant.1.swapped.long,
-)
-
-pub overflow_add-slots : goal.overflow_add-slots
-overflow_add-slots c = omega (
-  arith,
-  c.requires.0,
-  c.requires.1,
-  c.loop-i.invariant.1.swapped.long,
-)
-
-pub offset_bounds-slots-top : goal.offset_bounds-slots-top
-offset_bounds-slots-top c = omega (
-  arith,
-  c.requires.0,
-  c.requires.1,
-  c.loop-i.invariant.1.swapped.long,
-)
-
-pub bounds-slots-top : goal.bounds-slots-top
-bounds-slots-top c = omega (arith, c.requires.0, c.requires.1, c.loop-i.invariant.1.swapped.long)
-
-pub offset_bounds-slots-i-in-loop-i : goal.offset_bounds-slots-i-in-loop-i
-offset_bounds-slots-i-in-loop-i c = omega (arith, c.requires.0, c.requires.1, c.loop-i.invariant.1.swapped.long)
-
-pub bounds-slots-i-in-loop-i : goal.bounds-slots-i-in-loop-i
-bounds-slots-i-in-loop-i c = omega (arith, c.requires.0, c.requires.1, c.loop-i.invariant.1.swapped.long)
-
-pub overflow_add-slots-in-loop-i : goal.overflow_add-slots-in-loop-i
-overflow_add-slots-in-loop-i c = omega (arith, c.requires.0, c.requires.1, c.loop-i.invariant.1.swapped.long)
-
-pub offset_bounds-slots-top-in-loop-i : goal.offset_bounds-slots-top-in-loop-i
-offset_bounds-slots-top-in-loop-i c = omega (arith, c.requires.0, c.requires.1, c.loop-i.invariant.1.swapped.long)
-
-pub bounds-slots-top-in-loop-i : goal.bounds-slots-top-in-loop-i
-bounds-slots-top-in-loop-i c = simp length-set (omega (
-  arith,
-  c.requires.0,
-  c.requires.1,
-  c.loop-i.invariant.1.swapped.long,
-))
-
-pub overflow_step-i : goal.overflow_step-i
-overflow_step-i c = omega (arith, c.requires.0, c.requires.1, c.loop-i.invariant.1.swapped.long)
-
-pub loop-i-smaller : goal.loop-i-smaller
-loop-i-smaller c = omega (arith, c.requires.0, c.requires.1, c.loop-i.invariant.1.swapped.long)
-
 pub loop-i-preserved : goal.loop-i-preserved
 loop-i-preserved c = (
   omega arith,
-  swapping_step c.loop-i.invariant.1 (omega (arith, c.requires.0))
-      (omega (arith, c.requires.1)),
+  swapping_step c.loop-i.invariant.1 (omega (arith, c.requires.0)) (omega (arith, c.requires.1))
+      c.swap.ensures.len c.swap.ensures.by_index,
 )
-
-pub shape_of-slots : goal.shape_of-slots
-shape_of-slots c = c.loop-i.invariant.1.swapped.long
 
 pub returns : goal.returns
 returns c = swapping_end c.loop-i.invariant.1 c.args.size c.loop-i.invariant.0
