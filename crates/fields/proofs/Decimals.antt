@@ -10,45 +10,54 @@ use lib.Dec.{leb, ltb}
 use lib.ListN.{length, get_or, drop, set, length-append}
 use lib.Seq.{drop-cons, drop-length, sets}
 use Rattle.language.proofs.Filling.{sets_append}
+use Rattle.std.specs.Prelude.{Option, Some, None}
 use Rattle.language.specs.Decimals.{scan, digit_of, add_digit, digits_in, digits}
-use Rattle.language.specs.declared.Decimal.{Decimal}
-use Rattle.language.specs.declared.Decimal.TheVariants.{Is, Bad}
 
-pub scan_bad : (s : List ℕ) → scan Bad s ≡ Bad
+pub scan_bad : (s : List ℕ) → scan None s ≡ None
 unfolding scan
 scan_bad [] = refl
 scan_bad (b ∷ bs) = refl
 
--- one more byte
-pub scan_more : (s : List ℕ) (i v : ℕ) → i < length s
-    → scan (Is v) (drop i s) ≡ scan (add_digit v (digit_of (get_or s i 0))) (drop (i + 1) s)
-unfolding scan
-scan_more s i v h = rw (drop-cons s i 0 h, add-one i)
-
-pub scan_end : (s : List ℕ) (i v : ℕ) → i ≡ length s → scan (Is v) (drop i s) ≡ Is v
-unfolding scan
-scan_end s i v h = ap (λ (k : ℕ). scan (Is v) (drop k s)) h ∙ ap (scan (Is v)) (drop-length s)
-
-pub digit_low : (v k : ℕ) → v * 10 + k ≤ 65535 → add_digit v (Is k) ≡ Is (v * 10 + k)
+pub digit_low : (v k : ℕ) → v * 10 + k ≤ 65535 → add_digit v (Some k) ≡ Some (v * 10 + k)
 digit_low v k h = rw (le-leb (v * 10 + k) 65535 h)
 
-pub digit_high : (v k : ℕ) → 65535 < v * 10 + k → add_digit v (Is k) ≡ Bad
+pub digit_high : (v k : ℕ) → 65535 < v * 10 + k → add_digit v (Some k) ≡ None
 digit_high v k h = rw (lt-leb (v * 10 + k) 65535 h)
 
-abbrev payload : Decimal → ℕ
-payload (Is k) = k
-payload Bad = 0
+-- one more byte: no digit, a digit too many, or a digit
+module _ (s : List ℕ) (i v : ℕ) (h : i < length s) where
+  scan_more : scan (Some v) (drop i s) ≡ scan (add_digit v (digit_of (get_or s i 0))) (drop (i + 1) s)
+  unfolding scan
+  scan_more = rw (drop-cons s i 0 h, add-one i)
 
-low_pick : (t : Bool) (x y : Decimal) → (t ≡ true → payload x ≤ 9) → payload y ≤ 9 → payload (cond t x y) ≤ 9
+  pub scan_stops : digit_of (get_or s i 0) ≡ None → scan (Some v) (drop i s) ≡ None
+  scan_stops d = rw (scan_more, d) (scan_bad (drop (i + 1) s))
+
+  module _ (k : ℕ) (d : digit_of (get_or s i 0) ≡ Some k) where
+    pub scan_high : 65535 < v * 10 + k → scan (Some v) (drop i s) ≡ None
+    scan_high l = rw (scan_more, d, lt-leb (v * 10 + k) 65535 l) (scan_bad (drop (i + 1) s))
+
+    pub scan_low : v * 10 + k ≤ 65535 → scan (Some v) (drop i s) ≡ scan (Some (v * 10 + k)) (drop (i + 1) s)
+    scan_low l = rw (scan_more, d, le-leb (v * 10 + k) 65535 l)
+
+pub scan_end : (s : List ℕ) (i v : ℕ) → i ≡ length s → scan (Some v) (drop i s) ≡ Some v
+unfolding scan
+scan_end s i v h = ap (λ (k : ℕ). scan (Some v) (drop k s)) h ∙ ap (scan (Some v)) (drop-length s)
+
+abbrev payload : Option ℕ → ℕ
+payload (Some k) = k
+payload None = 0
+
+low_pick : (t : Bool) (x y : Option ℕ) → (t ≡ true → payload x ≤ 9) → payload y ≤ 9 → payload (cond t x y) ≤ 9
 low_pick true x y f g = f refl
 low_pick false x y f g = g
 
-pub digit_small : (b k : ℕ) → digit_of b ≡ Is k → k ≤ 9
+pub digit_small : (b k : ℕ) → digit_of b ≡ Some k → k ≤ 9
 unfolding digit_of
 digit_small b k e =
     let h : payload (digit_of b) ≤ 9 =
-    low_pick (leb 48 b) (cond (leb b 57) (Is (b - 48)) Bad) Bad
-    (λ p. low_pick (leb b 57) (Is (b - 48)) Bad (λ q. omega (arith, leb-true b 57 q)) (omega arith))
+    low_pick (leb 48 b) (cond (leb b 57) (Some (b - 48)) None) None
+    (λ p. low_pick (leb b 57) (Some (b - 48)) None (λ q. omega (arith, leb-true b 57 q)) (omega arith))
     (omega arith) in
     omega (arith, ap payload e)
 

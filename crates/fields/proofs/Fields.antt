@@ -1,66 +1,57 @@
 -- Laws of fields and of the numbers in them. Assumes nothing.
 use mathlib.Core.Path.{◌≡◌, refl, sym, ap, ◌∙◌}
 use mathlib.Core.Bool.{Bool, true, false, cond}
-use mathlib.Core.List.{List, [], ◌∷◌, ◌++◌}
-use Prim.Native.Nat.{ℕ, suc, ◌+◌, ◌-◌, ◌≤◌, ◌<◌}
+use Rattle.std.proofs.lemmas.List.{take_all}
+use mathlib.Core.List.{List, [], ◌∷◌}
+use Prim.Native.Nat.{ℕ, suc, ◌+◌, ◌≤◌, ◌<◌}
 use native.Mathlib.Numerals.{add-one}
 use native.Mathlib.Omega.{arith}
-use borrow.Author.Tests.{ne_eqb, eq-eqb}
-use lib.ListN.{length, get_or, take, drop, length-drop, drop_of_length-le}
-use lib.Seq.{drop-cons, drop-length, take-suc, get_or-drop, append_snoc}
+use borrow.Author.Tests.{ne_eqb, eq-eqb, ltb-false}
+use lib.Dec.{ltb}
+use lib.ListN.{length, get_or, take, drop, drop_of_length-le}
+use lib.Seq.{drop-cons}
+use Rattle.std.specs.Prelude.{Option, Some, None}
+use Rattle.std.specs.List.{position_or_len, position}
 use Rattle.language.specs.Decimals.{decimal_of}
 use Rattle.language.specs.TextLines.{field, is_end, taken, number_of}
 use Rattle.fields.specs.Places.{taken_at, number_at}
-use Rattle.language.specs.declared.Decimal.TheVariants.{Is, Bad}
-use Rattle.language.specs.declared.Taken.{Taken}
-use Rattle.language.specs.declared.Taken.TheVariants.{Number, NoNumber}
 
--- the part from at to e goes on, or ends
-pub field_end : (s : List ℕ) (e : ℕ) → e < length s → is_end (get_or s e 0) ≡ true → field (drop e s) ≡ []
+-- a field ends at the first byte that ends one, or with the text
+field_first_end : (s : List ℕ) → take (position_or_len is_end s) s ≡ field s
 unfolding field
-field_end s e h t = ap field (drop-cons s e 0 h)
-    ∙ ap (λ (b : Bool). cond b [] (get_or s e 0 ∷ field (drop (suc e) s))) t
+field_first_end [] = refl
+field_first_end (b ∷ s) = go (is_end b) refl (field_first_end s)
+  where
+    go : (t : Bool) → is_end b ≡ t → take (position_or_len is_end s) s ≡ field s
+        → take (position_or_len is_end (b ∷ s)) (b ∷ s) ≡ cond t [] (b ∷ field s)
+    go true e ih = rw e refl
+    go false e ih =
+        let n : 1 + position_or_len is_end s ≡ suc (position_or_len is_end s) = omega arith in
+        rw (e, n) (ap (λ (r : List ℕ). b ∷ r) ih)
 
-pub field_all : (s : List ℕ) (e : ℕ) → e ≡ length s → field (drop e s) ≡ []
-unfolding field
-field_all s e h = ap (λ (k : ℕ). field (drop k s)) h ∙ ap field (drop-length s)
+pub field_cut : (s : List ℕ) (n : ℕ) → position is_end s ≡ Some n → take n s ≡ field s
+field_cut s n e = go (ltb (position_or_len is_end s) (length s)) e
+  where
+    go : (t : Bool) → cond t (Some (position_or_len is_end s)) None ≡ Some n → take n s ≡ field s
+    go true e = let q : position_or_len is_end s ≡ n = cc in rw (← q) (field_first_end s)
+    go false e = absurd (cc)
 
-pub field_more : (s : List ℕ) (at e : ℕ) → at ≤ e → e < length s → is_end (get_or s e 0) ≡ false
-    → field (drop at s) ≡ take (e - at) (drop at s) ++ field (drop e s)
-    → field (drop at s) ≡ take (e + 1 - at) (drop at s) ++ field (drop (e + 1) s)
-unfolding field
-field_more s at e l h t q =
-    let d : List ℕ = drop at s in
-    let k : e + 1 - at ≡ suc (e - at) = omega arith in
-    let here : at + (e - at) ≡ e = omega arith in
-    let byte : get_or d (e - at) 0 ≡ get_or s e 0 = get_or-drop at s (e - at) 0 ∙ ap (λ (x : ℕ). get_or s x 0) here in
-    let more : take (e + 1 - at) d ≡ take (e - at) d ++ (get_or s e 0 ∷ []) = ap (λ (x : ℕ). take x d) k
-    ∙ (take-suc d (e - at) 0 (omega (arith, length-drop at s))
-    ∙ ap (λ (x : ℕ). take (e - at) d ++ (x ∷ [])) byte) in
-    let step : field (drop e s) ≡ get_or s e 0 ∷ field (drop (e + 1) s) = ap field (drop-cons s e 0 h)
-    ∙ (ap (λ (b : Bool). cond b [] (get_or s e 0 ∷ field (drop (suc e) s))) t
-    ∙ ap (λ (x : ℕ). get_or s e 0 ∷ field (drop x s)) (sym (add-one e))) in
-    q ∙ (ap (λ (x : List ℕ). take (e - at) d ++ x) step
-    ∙ (sym (append_snoc (take (e - at) d) (get_or s e 0) (field (drop (e + 1) s)))
-    ∙ ap (λ (x : List ℕ). x ++ field (drop (e + 1) s)) (sym more)))
-
-pub is_tab : (b : ℕ) → b ≡ 9 → is_end b ≡ true
-is_tab b e = ap is_end e
-
-pub is_feed : (b : ℕ) → b ≡ 10 → is_end b ≡ true
-is_feed b e = ap is_end e
-
-pub is_other : (b : ℕ) → (b ≡ 9 → ⊥) → (b ≡ 10 → ⊥) → is_end b ≡ false
-is_other b f g = rw (ne_eqb b 9 f, ne_eqb b 10 g)
+pub field_whole : (s : List ℕ) → position is_end s ≡ None → s ≡ field s
+field_whole s e = go (ltb (position_or_len is_end s) (length s)) refl e
+  where
+    go : (t : Bool) → ltb (position_or_len is_end s) (length s) ≡ t
+        → cond t (Some (position_or_len is_end s)) None ≡ None → s ≡ field s
+    go true q e = absurd (cc)
+    go false q e = sym (take_all _ s (ltb-false _ _ q)) ∙ field_first_end s
 
 -- the number at a place: past the end none, and none without a tab
 module _ (at : ℕ) (s : List ℕ) where
-  pub number_past : length s ≤ at → NoNumber ≡ number_at at s
+  pub number_past : length s ≤ at → None ≡ number_at at s
   unfolding number_of
   number_past h = rw (drop_of_length-le s h)
 
   module _ (h : at < length s) where
-    pub number_no_tab : (get_or s at 0 ≡ 9 → ⊥) → NoNumber ≡ number_at at s
+    pub number_no_tab : (get_or s at 0 ≡ 9 → ⊥) → None ≡ number_at at s
     unfolding number_of
     number_no_tab n = rw (drop-cons s at 0 h, ne_eqb (get_or s at 0) 9 n)
 
@@ -69,20 +60,22 @@ module _ (at : ℕ) (s : List ℕ) where
       unfolding number_of
       number-here = rw (drop-cons s at 0 h, eq-eqb (get_or s at 0) 9 t, ← add-one at, ← e)
 
-      pub number_bad : decimal_of f ≡ Bad → NoNumber ≡ number_at at s
+      pub number_bad : decimal_of f ≡ None → None ≡ number_at at s
       number_bad d = rw (number-here, d)
 
-      pub number_good : (v : ℕ) → decimal_of f ≡ Is v
-          → Number v (at + 1 + length f) ≡ number_at at s
+      pub number_good : (v : ℕ) → decimal_of f ≡ Some v
+          → Some (v, at + 1 + length f) ≡ number_at at s
       number_good v d = let q : at + 1 + length f ≡ at + (1 + length f) = omega arith in
           rw (number-here, d, q)
 
 -- a number found at a place of a text, counted from there
-pub taken_inv : {A : Type 0} (p a q : ℕ) (t : Taken) → taken_at p t ≡ Number a q
-    → ((n : ℕ) → t ≡ Number a n → q ≡ p + n → A) → A
-taken_inv p a q (Number v n) e k = k n (let h : v ≡ a = cc in ap (λ (x : ℕ). Number x n) h) (cc)
-taken_inv p a q NoNumber e k = let z : ◌≡◌ {A = ℕ} 0 1 = cc in absurd (omega arith)
+pub taken_inv : {A : Type 0} (p a q : ℕ) (t : Option (ℕ × ℕ)) → taken_at p t ≡ Some (a, q)
+    → ((n : ℕ) → t ≡ Some (a, n) → q ≡ p + n → A) → A
+taken_inv p a q (Some n) e k =
+    let f : (n.0, p + n.1) ≡ (a, q) = cc in
+    k n.1 (ap (λ (x : ℕ × ℕ). Some (x.0, n.1)) f) (sym (ap (λ (x : ℕ × ℕ). x.1) f))
+taken_inv p a q None e k = absurd (cc)
 
-pub none_inv : (p : ℕ) (t : Taken) → taken_at p t ≡ NoNumber → t ≡ NoNumber
-none_inv p (Number v n) e = let z : ◌≡◌ {A = ℕ} 0 1 = cc in absurd (omega arith)
-none_inv p NoNumber e = refl
+pub none_inv : (p : ℕ) (t : Option (ℕ × ℕ)) → taken_at p t ≡ None → t ≡ None
+none_inv p (Some n) e = absurd (cc)
+none_inv p None e = refl

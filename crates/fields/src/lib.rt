@@ -1,62 +1,58 @@
 // The fields of a line: found, read as decimal numbers and written (document 01, "Lines and rows").
 #![tactic(auto)]
 
-ghost use Rattle.std.specs.Prelude.{◌≡◌, ◌∷◌, ◌++◌, ◌+◌, ◌≤◌, length, take, drop};
+ghost use Rattle.std.specs.Prelude.{◌≡◌, ◌∷◌, ◌+◌, ◌≤◌, length, drop, position, Some};
 ghost use Rattle.std.proofs.lemmas.List.Edits.{sets};
 ghost use Rattle.language.specs.Decimals.{digit_of, scan, decimal_of, digits};
-ghost use Rattle.language.specs.TextLines.{field, tab};
+ghost use Rattle.language.specs.TextLines.{field, is_end, tab};
 ghost use Rattle.fields.specs.Places.{number_at};
 
-use language::{Decimal, LARGEST, Taken};
+use language::LARGEST;
+
+// The most digits that a number has.
+const MOST_DIGITS: usize = 5;
 
 // The number of a digit's byte.
-fn read_digit(b: u8) -> Decimal
+fn read_digit(b: u8) -> Option<u32>
     ensures { result ≡ digit_of b }
 {
     match b {
-        48..=57 => Decimal::Is((b - 48) as u32),
-        _ => Decimal::Bad,
+        b'0'..=b'9' => Some(u32::from(b - b'0')),
+        _ => None,
     }
 }
 
 // The number of a run of digits.
-fn read_digits(s: &[u8]) -> Decimal
-    ensures { result ≡ scan (Decimal.Is 0) s.now }
+fn read_digits(s: &[u8]) -> Option<u32>
+    ensures { result ≡ scan (Some 0) s.now }
 {
-    let mut v: u32 = 0;
-    let mut i = 0;
-    while i < s.len() {
-        let d = read_digit(s[i]);
-        let Decimal::Is(k) = d else {
-            return Decimal::Bad;
-        };
-        let w = v * 10 + k;
-        if LARGEST < w {
-            return Decimal::Bad;
+    let mut value: u32 = 0;
+    for &b in s {
+        let grown = value * 10 + read_digit(b)?;
+        if LARGEST < grown {
+            return None;
         }
-        v = w;
-        i += 1;
+        value = grown;
     }
-    Decimal::Is(v)
+    Some(value)
 }
 
 // The number that a field holds.
 #[tactic(auto, unfolding(language::specs::Decimals::decimal_of))]
-pub fn read_decimal(s: &[u8]) -> Decimal
+pub fn read_decimal(s: &[u8]) -> Option<u32>
     ensures { result ≡ decimal_of s.now }
 {
-    if s.len() == 0 {
-        return Decimal::Bad;
-    }
-    if 5 < s.len() {
-        return Decimal::Bad;
-    }
-    if s[0] == 48 {
-        if 1 < s.len() {
-            return Decimal::Bad;
-        }
+    if s.is_empty() || MOST_DIGITS < s.len() || (s[0] == b'0' && 1 < s.len()) {
+        return None;
     }
     read_digits(s)
+}
+
+// Where the first tab or line feed of a text is.
+fn find_end(s: &[u8]) -> Option<usize>
+    ensures { result ≡ position is_end s.now }
+{
+    s.iter().position(|&b| b == b'\t' || b == b'\n')
 }
 
 // The field at a place: the bytes before the next tab or line feed.
@@ -64,50 +60,37 @@ pub fn find_field(s: &[u8], at: usize) -> &[u8]
     requires { at ≤ length s.now }
     ensures { result.now ≡ field (drop at s.now) }
 {
-    let mut e = at;
-    while e < s.len() {
-        let b = s[e];
-        if b == 9 {
-            return &s[at..e];
-        }
-        if b == 10 {
-            return &s[at..e];
-        }
-        e += 1;
+    let rest = &s[at..];
+    match find_end(rest) {
+        Some(end) => &rest[..end],
+        None => rest,
     }
-    &s[at..]
 }
 
-// A tab at a place, and the number after it.
-pub fn read_number(s: &[u8], at: usize) -> Taken
+// A tab at a place, and the number after it, with the place after that.
+pub fn read_number(s: &[u8], at: usize) -> Option<(u32, usize)>
     ensures { result ≡ number_at at s.now }
 {
-    if s.len() <= at {
-        return Taken::NoNumber;
-    }
-    if s[at] != 9 {
-        return Taken::NoNumber;
+    if s.len() <= at || s[at] != b'\t' {
+        return None;
     }
     let f = find_field(s, at + 1);
-    let d = read_decimal(f);
-    let Decimal::Is(v) = d else {
-        return Taken::NoNumber;
-    };
-    Taken::Number(v, at + 1 + f.len())
+    Some((read_decimal(f)?, at + 1 + f.len()))
 }
 
 // Writes a number's digits at a place, and returns the place after them.
+#[tactic(auto, using(crate::proofs::Decimals::length_low, crate::proofs::Decimals::length_high))]
 pub fn write_decimal(text: &mut [u8], at: usize, n: u32) -> usize
     requires { at + length (digits n) ≤ length text.old }
     ensures { (result ≡ at + length (digits n)) ×
         (text.new ≡ sets text.old at (digits n)) }
 {
     if n < 10 {
-        text[at] = (48 + n) as u8;
+        text[at] = b'0' + n as u8;
         return at + 1;
     }
     let last = write_decimal(text, at, n / 10);
-    text[last] = (48 + n % 10) as u8;
+    text[last] = b'0' + (n % 10) as u8;
     last + 1
 }
 
@@ -117,18 +100,6 @@ pub fn write_number(text: &mut [u8], at: usize, n: u32) -> usize
     ensures { (result ≡ at + 1 + length (digits n)) ×
         (text.new ≡ sets text.old at (tab ∷ digits n)) }
 {
-    text[at] = 9;
+    text[at] = b'\t';
     write_decimal(text, at + 1, n)
-}
-
-// Copies the first bytes of one buffer to another.
-pub fn copy_bytes(from: &[u8], to: &mut [u8], count: usize)
-    requires { (count ≤ length from.now) × (count ≤ length to.old) }
-    ensures { to.new ≡ take count from.now ++ drop count to.old }
-{
-    let mut i = 0;
-    while i < count {
-        to[i] = from[i];
-        i += 1;
-    }
 }

@@ -1,4 +1,5 @@
 -- `fields::read_digit` meets its contract. Assumes nothing.
+use Rattle.std.proofs.Common.{refl}
 use native.Mathlib.Omega.{arith}
 use borrow.Author.Tests.{le-leb, lt-leb}
 use Rattle.language.specs.Decimals.{digit_of}
@@ -6,8 +7,8 @@ use Rattle.fields.proofs.read_digit.Goals as goal
 
 pub returns-in-48-to-57 : goal.returns-in-48-to-57
 unfolding digit_of
-returns-in-48-to-57 c = let b = c.args.b in
-    simp (le-leb 48 b (omega arith), le-leb b 57 (omega arith))
+returns-in-48-to-57 c =
+    rw (c.from.ensures, le-leb 48 c.args.b (omega arith), le-leb c.args.b 57 (omega arith)) refl
 
 pub returns-in_default : goal.returns-in_default
 unfolding digit_of
