@@ -4,7 +4,7 @@ use mathlib.Core.Bool.{true}
 use mathlib.Core.Logic.{◌≢◌, inl, inr}
 use mathlib.Core.Option.{some}
 use mathlib.Core.List.{List, [], ◌∷◌, ◌++◌}
-use Prim.Native.Nat.{ℕ, zero, suc, ◌+◌, ◌-◌, ◌*◌, ◌<◌}
+use Prim.Native.Nat.{ℕ, zero, suc, ◌+◌, ◌*◌, ◌<◌}
 use native.Mathlib.Omega.{arith}
 use borrow.Author.Tests.{eq-eqb, ne_eqb}
 use lib.ListN.{length, set}
@@ -15,8 +15,11 @@ use Rattle.fleet.specs.Entries.{entry, entries}
 use Rattle.fleet.proofs.Entries.{entries_nth}
 use Rattle.fleet.specs.LineLists.{Other, Distinct, distinct_cons}
 use Rattle.fleet.proofs.Summing.{add_distinct, add_within, sums_with}
-use Rattle.sums.specs.Window.{Put, Lacks, HasAt, Found, Sized, Chained, Sums, SumsAfter}
-use native.Mathlib.Numerals.{add-one}
+use Rattle.std.specs.Prelude.{Option, Some, None}
+use Rattle.std.specs.Option.{ok_or}
+use Rattle.sums.specs.declared.Unadded.TheVariants.{Exceeds}
+use Rattle.sums.specs.Window.{Enters, Adds}
+use Rattle.sums.specs.Window.{Put, Lacks, HasAt, Sized, Chained, Sums, SumsAfter}
 use Rattle.sums.proofs.Tables.{put_last, put_at, put_other, chained_same, lacks_each, add_new}
 use Rattle.sums.proofs.Tables.{distinct_last, within_last}
 use Rattle.sums.proofs.Chains.{same_or_other}
@@ -115,16 +118,12 @@ enter_within {T} {H} {N} {n} c s lacks =
     let o = lacks_each T n c.model lacks in
     add_within c (entries T n) s.within ∙ ap is_within (sums_with_new c (entries T n) o)
 
--- What finding a model says of it.
-pub found_some : {T : List ℕ} {n m r : ℕ} → Found T n m r → (r ≡ 0 → ⊥) → HasAt T n m (r - 1)
-found_some {T} {n} {m} {r} f q = f.some (r - 1) (omega (arith, q))
-
 pub has_room : {T H N : List ℕ} {n m e : ℕ} → Sums T H N n → HasAt T n m e → e * 4 + 3 < length T
 has_room s h = omega (arith, h.0, s.count, s.sized.table)
 
 -- A new model's line is the last.
-pub entered : {T H N T' H' N' : List ℕ} {n : ℕ} (c : Counted) → Lacks T n c.model
-    → SumsAfter T H N T' H' N' (entries T n ++ (c ∷ [])) (suc n)
-    → SumsAfter T H N T' H' N' (add c (entries T n)) (n + 1)
-entered {T} {H} {N} {T'} {H'} {N'} {n} c lacks a =
-    rw (add_new c (entries T n) (lacks_each T n c.model lacks), add-one n) a
+pub entered : {T H N : List ℕ} (T' H' N' : List ℕ) {n : ℕ} (c : Counted) (r : Option ℕ) → Sums T H N n
+    → Lacks T n c.model → Enters T H N T' H' N' n c r → Adds T H N T' H' N' n c (ok_or r Exceeds)
+entered T' H' N' c None s lacks e = enter_within c s lacks ∙ e
+entered {T} {H} {N} T' H' N' {n} c (Some k) s lacks e =
+    rw (add_new c (entries T n) (lacks_each T n c.model lacks)) e.2

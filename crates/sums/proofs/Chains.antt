@@ -5,11 +5,11 @@ use mathlib.Core.List.{List}
 use Prim.Native.Nat.{ℕ, zero, suc, ◌+◌, ◌-◌, ◌*◌, ◌/◌, ◌^◌, ◌≤◌, ◌<◌}
 use native.Mathlib.Omega.{arith}
 use lib.Bits.{and_le_r}
-use lib.ListN.{length, length-set, get_or, set, get_or-eq_default}
+use lib.ListN.{length, length-set, get_or, set}
 use lib.Seq.{get_or-set_same, get_or-set_other}
 use Rattle.language.proofs.Lines.{le_or_less, less_or_same}
 use Rattle.fleet.specs.Entries.{entry}
-use Rattle.sums.specs.Window.{bucket_of, bucket_at, Chained, Sums, SomeSums, Found, Cleared}
+use Rattle.sums.specs.Window.{bucket_of, bucket_at, Chained, Sums, SomeSums, Lacks, HasAt, Cleared}
 
 pub bucket_small : (n m : ℕ) → 1 ≤ n → bucket_of n m < n
 unfolding bucket_of
@@ -47,18 +47,8 @@ module _ (T H N : List ℕ) (m : ℕ) where
     ];
   }
 
-  pub walk_end : Walking T H N m 0 → (n : ℕ) → Sums T H N n → Found T n m 0
-  walk_end w n s = record {
-    none = λ _ j l. w.passed n j s l (omega arith);
-    some = λ e q. absurd (omega (arith, q));
-  }
-
-  walk_found : (e : ℕ) → Walking T H N m (suc e) → (entry T e).model ≡ m → (n : ℕ) → Sums T H N n
-      → Found T n m (suc e)
-  walk_found e w f n s = record {
-    none = λ q. absurd (omega (arith, q));
-    some = λ k q. let z : k ≡ e = omega (arith, q) in rw z ((w.own n e s refl).0, f);
-  }
+  pub walk_end : Walking T H N m 0 → (n : ℕ) → Sums T H N n → Lacks T n m
+  walk_end w n s = λ j l. w.passed n j s l (omega arith)
 
 pub same_or_other : (a b : ℕ) → (a ≡ b) ⊎ (a ≢ b)
 same_or_other a b = elim (le_or_less a b) [
@@ -138,9 +128,10 @@ module _ (T H N : List ℕ) (m at : ℕ) (q : at ≡ 0 → ⊥) where
   unfolding entry
   walk_on w other = walk_step T H N m (at - 1) (rw back w) other
 
-  pub walk_at : Walking T H N m at → get_or T ((at - 1) * 4) 0 ≡ m → (n : ℕ) → Sums T H N n → Found T n m at
+  pub walk_at : Walking T H N m at → get_or T ((at - 1) * 4) 0 ≡ m → (n : ℕ) → Sums T H N n
+      → HasAt T n m (at - 1)
   unfolding entry
-  walk_at w same n s = rw (sym back) (walk_found T H N m (at - 1) (rw back w) same n s)
+  walk_at w same n s = ((w.own n (at - 1) s (sym back)).0, same)
 
   pub walk_less : SomeSums T H N → Walking T H N m at → get_or N (at - 1) 0 < at
   walk_less s w = let o = w.own s.count (at - 1) s.sums (omega (arith, q)) in
@@ -149,31 +140,6 @@ module _ (T H N : List ℕ) (m at : ℕ) (q : at ≡ 0 → ⊥) where
       go : (k : ℕ) → get_or N (at - 1) 0 ≡ k → at - 1 < s.count → get_or N (at - 1) 0 < at
       go zero e l = omega (arith, e, q)
       go (suc k) e l = let x = s.sums.chained.next_own (at - 1) k l e in omega (arith, e, x.0)
-
--- The buckets before b are empty.
-pub record Clearing (H₀ H : List ℕ) (b : ℕ) : Type 0 where
-  pub cleared : (i : ℕ) → i < b → get_or H i 0 ≡ 0
-  pub long : length H ≡ length H₀
-
-pub clearing_start : (H : List ℕ) → Clearing H H 0
-clearing_start H = record { cleared = λ i l. absurd (omega (arith, l)); long = refl }
-
-pub clearing_step : {H₀ H : List ℕ} {b : ℕ} → Clearing H₀ H b → b < length H → Clearing H₀ (set H b 0) (b + 1)
-clearing_step {H₀} {H} {b} h l = record {
-  cleared = λ i m. elim (same_or_other i b) [
-    | inl q ↦ rw q (get_or-set_same H b 0 0 l)
-    | inr q ↦ get_or-set_other H b i 0 0 q ∙ h.cleared i (omega (arith, m, q))
-  ];
-  long = length-set H b 0 ∙ h.long;
-}
-
-pub clearing_end : {H₀ H : List ℕ} {b : ℕ} → Clearing H₀ H b → length H ≤ b
-    → Cleared H × (length H ≡ length H₀)
-clearing_end {H₀} {H} {b} h l = (
-  (λ i. elim (le_or_less (length H) i)
-      [ inl m ↦ get_or-eq_default H 0 m | inr m ↦ h.cleared i (omega (arith, m, l)) ]),
-  h.long,
-)
 
 -- Nothing is chained in empty buckets.
 pub chained_none : (T H N : List ℕ) → Cleared H → Chained T H N 0
@@ -185,11 +151,7 @@ chained_none T H N c = record {
 }
 
 -- The entries before e are chained.
-pub record Chaining (T H₀ N₀ H N : List ℕ) (count e : ℕ) : Type 0 where
-  pub within : e ≤ count
+pub record Chaining (T H₀ N₀ H N : List ℕ) (e : ℕ) : Type 0 where
   pub chained : Chained T H N e
   pub heads : length H ≡ length H₀
   pub nexts : length N ≡ length N₀
-
-pub chained_up : {T H N : List ℕ} {e n : ℕ} → Chained T H N e → e ≤ n → n ≤ e → Chained T H N n
-chained_up {T} {H} {N} {e} {n} h l m = let q : e ≡ n = omega (arith, l, m) in rw q at h

@@ -13,8 +13,7 @@ use Rattle.fleet.specs.Ranking.{Counted}
 use Rattle.fleet.specs.Entries.{entry, entries}
 use Rattle.fleet.proofs.Entries.{entry_same}
 use Rattle.fleet.specs.LineLists.{in_models}
-use Rattle.sums.specs.Window.{below, Put, CountsBelow, KeepsEntry}
-use native.Mathlib.Nat.{add-zero}
+use Rattle.sums.specs.Window.{below, Put, KeepsEntry}
 use Rattle.sums.proofs.Tables.{put_last}
 
 in_last : (p : ℕ → Bool) (ds : List Counted) (d : Counted) (b : Bool) → p d.model ≡ b
@@ -42,52 +41,43 @@ module _ (T : List ℕ) (end e : ℕ) where
       ∙ append-nil (below end (entries T e)))
 
 -- The count of the entries so far.
-pub record Counting (T : List ℕ) (count end n e : ℕ) : Type 0 where
-  pub within : e ≤ count
+pub record Counting (T : List ℕ) (end n e : ℕ) : Type 0 where
   pub less : n ≤ e
   pub is : n ≡ length (below end (entries T e))
 
-pub counting_start : (T : List ℕ) (count end : ℕ) → Counting T count end 0 0
+pub counting_start : (T : List ℕ) (end : ℕ) → Counting T end 0 0
 unfolding entries in_models
-counting_start T count end = record { within = omega arith; less = omega arith; is = refl }
+counting_start T end = record { less = omega arith; is = refl }
 
-module _ {T : List ℕ} {count end n e : ℕ} (h : Counting T count end n e) (l : e < count) where
-  counting_one : get_or T (e * 4) 0 < end → Counting T count end (n + 1) (e + 1)
+module _ {T : List ℕ} {end n e : ℕ} (h : Counting T end n e) where
+  pub counting_one : get_or T (e * 4) 0 < end → Counting T end (n + 1) (e + 1)
   counting_one m = record {
-    within = omega (arith, l);
     less = omega (arith, h.less);
     is = rw (below_next T end e m, length-append (below end (entries T e)) (entry T e ∷ []))
         (omega (arith, h.is));
   }
 
-  counting_none : end ≤ get_or T (e * 4) 0 → Counting T count end n (e + 1)
-  counting_none m = record {
-    within = omega (arith, l);
-    less = omega (arith, h.less);
-    is = rw (below_same T end e m) h.is;
-  }
+  pub counting_none : end ≤ get_or T (e * 4) 0 → Counting T end n (e + 1)
+  counting_none m = record { less = omega (arith, h.less); is = rw (below_same T end e m) h.is }
 
 -- The entries kept so far, and those that are still to be looked at.
-pub record Keeping (T₀ T : List ℕ) (count end kept e : ℕ) : Type 0 where
-  pub within : e ≤ count
+pub record Keeping (T₀ T : List ℕ) (end kept e : ℕ) : Type 0 where
   pub less : kept ≤ e
   pub are : entries T kept ≡ below end (entries T₀ e)
   pub rest : (i : ℕ) → e * 4 ≤ i → get_or T₀ i 0 ≡ get_or T i 0
   pub long : length T ≡ length T₀
 
-pub keeping_start : (T : List ℕ) (count end : ℕ) → Keeping T T count end 0 0
+pub keeping_start : (T : List ℕ) (end : ℕ) → Keeping T T end 0 0
 unfolding entries in_models
-keeping_start T count end =
-    record { within = omega arith; less = omega arith; are = refl; rest = λ i l. refl; long = refl }
+keeping_start T end = record { less = omega arith; are = refl; rest = λ i l. refl; long = refl }
 
-module _ {T₀ T : List ℕ} {count end kept e : ℕ} (h : Keeping T₀ T count end kept e) (l : e < count) where
+module _ {T₀ T : List ℕ} {end kept e : ℕ} (h : Keeping T₀ T end kept e) where
   same_model : get_or T₀ (e * 4) 0 ≡ get_or T (e * 4) 0
   same_model = h.rest (e * 4) (omega arith)
 
   keeping_one : {T' : List ℕ} → get_or T (e * 4) 0 < end → Put T T' kept (entry T e)
-      → Keeping T₀ T' count end (kept + 1) (e + 1)
+      → Keeping T₀ T' end (kept + 1) (e + 1)
   keeping_one m o = record {
-    within = omega (arith, l);
     less = omega (arith, h.less);
     are = rw (add-one kept, below_next T₀ end e (omega (arith, m, same_model)))
         (put_last o ∙ rw (h.are, entry_same T₀ T e (λ i x y. h.rest i x)) refl);
@@ -95,9 +85,8 @@ module _ {T₀ T : List ℕ} {count end kept e : ℕ} (h : Keeping T₀ T count 
     long = o.long ∙ h.long;
   }
 
-  keeping_none : end ≤ get_or T (e * 4) 0 → Keeping T₀ T count end kept (e + 1)
+  keeping_none : end ≤ get_or T (e * 4) 0 → Keeping T₀ T end kept (e + 1)
   keeping_none m = record {
-    within = omega (arith, l);
     less = omega (arith, h.less);
     are = rw (below_same T₀ end e (omega (arith, m, same_model))) h.are;
     rest = λ i x. h.rest i (omega (arith, x));
@@ -105,32 +94,10 @@ module _ {T₀ T : List ℕ} {count end kept e : ℕ} (h : Keeping T₀ T count 
   }
 
 -- The two ways of a step.
-pub counting_step : {T : List ℕ} {count end n e r : ℕ} → Counting T count end n e → e < count
-    → CountsBelow T e end r
-    → Counting T count end (n + r) (e + 1)
-counting_step h l o = elim o
-    [ inl x ↦ rw x.0 (counting_one h l x.1) | inr x ↦ rw (x.0, add-zero _) (counting_none h l x.1) ]
-
-pub counted_little : (T : List ℕ) (e end r : ℕ) → CountsBelow T e end r → r ≤ 1
-counted_little T e end r o = elim o [ inl x ↦ omega (arith, x.0) | inr x ↦ omega (arith, x.0) ]
-
-pub counting_end : {T : List ℕ} {count end n e : ℕ} → Counting T count end n e → count ≤ e
-    → n ≡ length (below end (entries T count))
-counting_end {T} {count} {end} {n} {e} h l =
-    let q : e ≡ count = omega (arith, l, h.within) in rw q at h.is
-
-pub keeping_step : {T₀ T T' : List ℕ} {count end kept e r : ℕ} → Keeping T₀ T count end kept e → e < count
-    → KeepsEntry T T' kept e end r → Keeping T₀ T' count end r (e + 1)
-keeping_step h l o = elim o [
-  | inl x ↦ rw x.0 (keeping_one h l x.1.0 x.1.1)
-  | inr x ↦ rw (x.0, x.1.1) (keeping_none h l x.1.0)
-]
-
-pub keeping_end : {T₀ T : List ℕ} {count end kept e : ℕ} → Keeping T₀ T count end kept e → count ≤ e
-    → (entries T kept ≡ below end (entries T₀ count)) × ((kept ≤ count) × (length T ≡ length T₀))
-keeping_end {T₀} {T} {count} {end} {kept} {e} h l =
-    let q : e ≡ count = omega (arith, l, h.within) in
-    (rw q at h.are, ((omega (arith, h.less, q)), h.long))
+pub keeping_step : {T₀ T T' : List ℕ} {end kept e r : ℕ} → Keeping T₀ T end kept e
+    → KeepsEntry T T' kept e end r → Keeping T₀ T' end r (e + 1)
+keeping_step h o = elim o
+    [ inl x ↦ rw x.0 (keeping_one h x.1.0 x.1.1) | inr x ↦ rw (x.0, x.1.1) (keeping_none h x.1.0) ]
 
 -- Between what is kept at least and what is too much.
 pub record Choosing (T : List ℕ) (count low end kept over : ℕ) : Type 0 where

@@ -3,9 +3,8 @@ use mathlib.Core.Path.{◌≡◌, refl, sym, ap, ◌∙◌}
 use mathlib.Core.Bool.{Bool, true, false, cond}
 use mathlib.Core.Logic.{◌⊎◌, inl, inr}
 use mathlib.Core.List.{List, [], ◌∷◌, ◌++◌}
-use Prim.Native.Nat.{ℕ, suc, ◌+◌, ◌/◌, ◌≤◌, ◌<◌}
+use Prim.Native.Nat.{ℕ, ◌+◌, ◌/◌, ◌≤◌, ◌<◌}
 use native.Mathlib.Omega.{arith}
-use native.Mathlib.Numerals.{add-one}
 use borrow.Author.Tests.{le-leb, lt-leb, lt-ltb, le-ltb, ltb-true}
 use lib.Dec.{ltb}
 use lib.ListN.{length}
@@ -17,9 +16,9 @@ use Rattle.fleet.proofs.Entries.{entries_length}
 use Rattle.fleet.specs.LineLists.{Other, Distinct, distinct_nil, distinct_cons, in_models}
 use Rattle.fleet.proofs.Summing.{add_in_models}
 use Rattle.sums.specs.declared.Window.{Window}
-use Rattle.sums.specs.declared.Added.{Added}
-use Rattle.sums.specs.declared.Added.TheVariants.{Full}
-use Rattle.sums.specs.declared.Taken.{Taken}
+use Rattle.std.specs.Prelude.{Option, Result, Err}
+use Rattle.sums.specs.declared.Unadded.{Unadded}
+use Rattle.sums.specs.declared.Unadded.TheVariants.{Full}
 use Rattle.sums.specs.Window.{in_window, below, Lacks, Sized, Chained, SumsAfter, Adds, Open, Narrows}
 use Rattle.sums.specs.Window.{Takes}
 use Rattle.sums.proofs.Tables.{each_entry, entry_each, lacks_each, add_new}
@@ -179,11 +178,10 @@ module _ {T H N : List ℕ} {low : ℕ} {w : Window} (o : Open T H N low w) wher
         (each_chosen (Other c.model) (λ m. ltb m v.end) (entries T w.count)
         (lacks_each T w.count c.model lacks)))
 
-    pub entered_after : {T'' H'' N'' : List ℕ} → low ≤ c.model → c.model < v.end
-        → SumsAfter T' H' N' T'' H'' N'' (entries T' v.count ++ (c ∷ [])) (suc v.count)
-        → SumsAfter T H N T'' H'' N'' (in_models (in_window low v.end) (add c (entries T w.count)))
-        (v.count + 1)
-    entered_after l m a = rw (add-one v.count) record {
+    pub entered_after : {T'' H'' N'' : List ℕ} {k : ℕ} → low ≤ c.model → c.model < v.end
+        → SumsAfter T' H' N' T'' H'' N'' (entries T' v.count ++ (c ∷ [])) k
+        → SumsAfter T H N T'' H'' N'' (in_models (in_window low v.end) (add c (entries T w.count))) k
+    entered_after l m a = record {
       sums = a.sums;
       are = a.are ∙ sym (add_in_models (in_window low v.end) c (entries T w.count)
           ∙ rw (window_in low v.end c.model l m, lower v.end, sym x.after.are)
@@ -212,8 +210,8 @@ opened s ch h n = record {
 }
 
 -- A full table is as it was.
-module _ (T H N T' H' N' : List ℕ) (low : ℕ) (w : Window) (c : Counted) (r : Added)
-    (a : Adds T H N T' H' N' w.count c r) (q : r ≡ Full) where
+module _ (T H N T' H' N' : List ℕ) (low : ℕ) (w : Window) (c : Counted) (r : Result ℕ Unadded)
+    (a : Adds T H N T' H' N' w.count c r) (q : r ≡ Err Full) where
   full : (w.count ≡ length N) × (Lacks T w.count c.model × ((T' ≡ T) × ((H' ≡ H) × (N' ≡ N))))
   full = rw q at a
 
@@ -221,6 +219,6 @@ module _ (T H N T' H' N' : List ℕ) (low : ℕ) (w : Window) (c : Counted) (r :
       → Open T' H' N' low w × ((w.count ≡ length N') × Lacks T' w.count c.model)
   full_open o = let f = full in rw (f.1.1.0, f.1.1.1.0, f.1.1.1.1) (o, (f.0, f.1.0))
 
-  pub full_takes : (T'' H'' N'' : List ℕ) (t : Taken) → Takes T' H' N' T'' H'' N'' low w c t
+  pub full_takes : (T'' H'' N'' : List ℕ) (t : Option Window) → Takes T' H' N' T'' H'' N'' low w c t
       → Takes T H N T'' H'' N'' low w c t
   full_takes T'' H'' N'' t h = let f = full in rw (f.1.1.0, f.1.1.1.0, f.1.1.1.1) at h

@@ -1,16 +1,15 @@
 -- The sums of a window of models in a table of fixed length: entry e has four numbers, model, printed, spoiled, cents.
 -- Entries of one bucket are chained: the bucket's head is the last of them, and each names the one before it; they count
 -- from 1 there, and 0 is none.
-use Rattle.std.specs.Prelude.{◌≡◌, ◌≢◌, ◌⊎◌, Bool, true, false, ◌&&◌, List, ℕ, suc, ◌+◌, ◌-◌, ◌*◌, ◌/◌, ◌^◌, ◌≤◌, ◌<◌, leb, ltb, length, get_or}
+use Rattle.std.specs.Prelude.{◌≡◌, ◌≢◌, ◌⊎◌, Bool, true, false, ◌&&◌, List, [], ◌∷◌, ◌++◌, ℕ, suc, ◌+◌, ◌-◌, ◌*◌, ◌/◌, ◌^◌, ◌≤◌, ◌<◌, leb, ltb, length, get_or}
+use Rattle.std.specs.Prelude.{Option, Some, None, Result, Ok, Err}
 use Rattle.std.specs.Int.Bits.{bit_and}
 use Rattle.fleet.specs.Ranking.{Counted, add, plus, is_within, all_within}
-use Rattle.fleet.specs.Entries.{entry, entries, counted}
+use Rattle.fleet.specs.Entries.{entry, entries}
 use Rattle.fleet.specs.LineLists.{Distinct, in_models}
 use Rattle.sums.specs.declared.Window.{Window}
-use Rattle.sums.specs.declared.Added.{Added}
-use Rattle.sums.specs.declared.Added.TheVariants.{Entered, Exceeds, Full}
-use Rattle.sums.specs.declared.Taken.{Taken}
-use Rattle.sums.specs.declared.Taken.TheVariants.{Within, Past}
+use Rattle.sums.specs.declared.Unadded.{Unadded}
+use Rattle.sums.specs.declared.Unadded.TheVariants.{Exceeds, Full}
 
 -- The models from `low` on that are below `end`.
 abbrev pub in_window : ℕ → ℕ → ℕ → Bool
@@ -58,10 +57,10 @@ Lacks T n m = (j : ℕ) → j < n → (entry T j).model ≢ m
 abbrev pub HasAt : List ℕ → ℕ → ℕ → ℕ → Type 0
 HasAt T n m e = (e < n) × ((entry T e).model ≡ m)
 
--- What finding a model answers: its entry, from 1, or 0.
-pub record Found (T : List ℕ) (n m r : ℕ) : Type 0 where
-  pub none : r ≡ 0 → Lacks T n m
-  pub some : (e : ℕ) → r ≡ suc e → HasAt T n m e
+-- What finding a model answers: its entry.
+abbrev pub Found : List ℕ → ℕ → ℕ → Option ℕ → Type 0
+Found T n m None = Lacks T n m
+Found T n m (Some e) = HasAt T n m e
 
 -- A table with a line put at an entry.
 pub record Put (T T' : List ℕ) (e : ℕ) (c : Counted) : Type 0 where
@@ -69,10 +68,10 @@ pub record Put (T T' : List ℕ) (e : ℕ) (c : Counted) : Type 0 where
   pub same : (i : ℕ) → (i < e * 4) ⊎ (e * 4 + 4 ≤ i) → get_or T i 0 ≡ get_or T' i 0
   pub long : length T' ≡ length T
 
--- What adding to an entry answers: false where a sum goes past the largest.
-pub record Increases (T T' : List ℕ) (e printed spoiled cents : ℕ) (r : Bool) : Type 0 where
-  pub within : r ≡ is_within (plus (entry T e) (counted 0 printed spoiled cents))
-  pub put : r ≡ true → Put T T' e (plus (entry T e) (counted 0 printed spoiled cents))
+-- What adding a line to a model's sums answers.
+abbrev pub Added : Counted → Counted → Option Counted → Type 0
+Added d c None = is_within (plus d c) ≡ false
+Added d c (Some s) = (s ≡ plus d c) × (is_within (plus d c) ≡ true)
 
 -- The sums and slices after a line that was taken.
 pub record SumsAfter (T H N T' H' N' : List ℕ) (es : List Counted) (n : ℕ) : Type 0 where
@@ -80,20 +79,22 @@ pub record SumsAfter (T H N T' H' N' : List ℕ) (es : List Counted) (n : ℕ) :
   pub are : entries T' n ≡ es
   pub kept : (length T' ≡ length T) × ((length H' ≡ length H) × (length N' ≡ length N))
 
+-- What entering the first line of a model answers.
+abbrev pub Enters : (T H N T' H' N' : List ℕ) → ℕ → Counted → Option ℕ → Type 0
+Enters T H N T' H' N' n c None = is_within c ≡ false
+Enters T H N T' H' N' n c (Some k) = (is_within c ≡ true) × (k ≡ suc n)
+    × SumsAfter T H N T' H' N' (entries T n ++ (c ∷ [])) k
+
 -- What adding a line to the sums of a table answers.
-abbrev pub Adds : (T H N T' H' N' : List ℕ) → ℕ → Counted → Added → Type 0
-Adds T H N T' H' N' n c (Entered k) = SumsAfter T H N T' H' N' (add c (entries T n)) k
-Adds T H N T' H' N' n c Exceeds = all_within (add c (entries T n)) ≡ false
-Adds T H N T' H' N' n c Full =
+abbrev pub Adds : (T H N T' H' N' : List ℕ) → ℕ → Counted → Result ℕ Unadded → Type 0
+Adds T H N T' H' N' n c (Ok k) = SumsAfter T H N T' H' N' (add c (entries T n)) k
+Adds T H N T' H' N' n c (Err Exceeds) = all_within (add c (entries T n)) ≡ false
+Adds T H N T' H' N' n c (Err Full) =
     (n ≡ length N) × (Lacks T n c.model × ((T' ≡ T) × ((H' ≡ H) × (N' ≡ N))))
 
 -- Those below a number.
 abbrev pub below : ℕ → List Counted → List Counted
 below end ds = in_models (λ m. ltb m end) ds
-
--- An entry's model is below a number: it counts 1. Else it counts 0.
-abbrev pub CountsBelow : List ℕ → ℕ → ℕ → ℕ → Type 0
-CountsBelow T e end r = ((r ≡ 1) × (get_or T (e * 4) 0 < end)) ⊎ ((r ≡ 0) × (end ≤ get_or T (e * 4) 0))
 
 -- An entry whose model is below a number is put after those kept; another is not.
 abbrev pub KeepsEntry : List ℕ → List ℕ → ℕ → ℕ → ℕ → ℕ → Type 0
@@ -120,9 +121,9 @@ pub record Narrows (T H N T' H' N' : List ℕ) (low : ℕ) (w v : Window) : Type
   pub after : SumsAfter T H N T' H' N' (below v.end (entries T w.count)) v.count
 
 -- What taking a line into a window answers. The window may have become narrower.
-abbrev pub Takes : (T H N T' H' N' : List ℕ) → ℕ → Window → Counted → Taken → Type 0
-Takes T H N T' H' N' low w c (Within v) = (low < v.end) × ((v.end ≤ w.end)
+abbrev pub Takes : (T H N T' H' N' : List ℕ) → ℕ → Window → Counted → Option Window → Type 0
+Takes T H N T' H' N' low w c (Some v) = (low < v.end) × ((v.end ≤ w.end)
     × (SumsAfter T H N T' H' N' (in_models (in_window low v.end) (add c (entries T w.count)))
     v.count))
-Takes T H N T' H' N' low w c Past =
+Takes T H N T' H' N' low w c None =
     (in_window low w.end c.model ≡ true) × (all_within (add c (entries T w.count)) ≡ false)

@@ -2,12 +2,14 @@
 // window is narrowed to its lower models, and the sums of the others are given up.
 #![tactic(auto)]
 
-ghost use Rattle.std.specs.Prelude.{◌≡◌, true, ◌⊎◌, [], ◌∷◌, ◌++◌, ℕ, suc, ◌≤◌, ◌<◌, ◌+◌, ◌*◌, ◌/◌, ltb, length};
-ghost use Rattle.fleet.specs.Ranking.{is_within, plus, most_sum};
-ghost use Rattle.fleet.specs.Entries.{entries, counted};
+ghost use Rattle.std.specs.Prelude.{◌≡◌, ◌⊎◌, [], ◌∷◌, ◌++◌, ℕ, suc, ◌≤◌, ◌<◌, ◌+◌, ◌*◌, ◌/◌, length};
+ghost use Rattle.fleet.specs.Ranking.{is_within};
+ghost use Rattle.fleet.specs.Entries.{entries};
 ghost use Rattle.sums.specs.Window.{bucket_of, Sized, Chained, Sums, SomeSums, Found, Lacks};
-ghost use Rattle.sums.specs.Window.{Put, SumsAfter, Increases, Adds, below, CountsBelow};
+ghost use Rattle.sums.specs.Window.{Put, SumsAfter, Added, Enters, Adds, below};
 ghost use Rattle.sums.specs.Window.{KeepsEntry, Cleared, Open, Narrows, Takes};
+
+use fleet::{Counted, LINE_SIZE};
 
 // How many models have sums, and the first number that is no longer of the window.
 #[derive(Clone, Copy)]
@@ -16,45 +18,48 @@ pub struct Window {
     pub end: u64,
 }
 
-// A line is taken, or takes a sum past the largest.
-#[derive(Drop)]
-pub enum Taken {
-    Within(Window),
-    Past,
-}
-
-// A line is added, and n models have sums; or it takes a sum past the largest; or there is no room for its model.
-#[derive(Drop)]
-enum Added {
-    Entered(usize),
+// Why a line is not added: it takes a sum past the largest, or there is no room for its model.
+#[derive(Clone, Copy)]
+enum Unadded {
     Exceeds,
     Full,
 }
+
+// One more than the largest model.
+pub const ALL_MODELS: u64 = 1 << 32;
+
+// The largest sum.
+const MOST_SUM: u32 = 4000000000;
+
+// What spreads models over the buckets, and by how much its products are shifted.
+const SPREAD: u64 = 2654435769;
+
+const SPREAD_SHIFT: u32 = 18;
 
 // The bucket of a model, of `buckets` buckets.
 fn bucket(model: u32, buckets: usize) -> usize
     requires { 1 ≤ buckets }
     ensures { (result ≡ bucket_of buckets model) × (result < buckets) }
 {
-    let spread = (model as u64 * 2654435769) >> 18;
-    (spread as usize) & (buckets - 1)
+    let spread = (u64::from(model) * SPREAD) >> SPREAD_SHIFT;
+    spread as usize & (buckets - 1)
 }
 
-// The entry of a model, from 1; 0 where it has none.
-fn find(table: &[u32], heads: &[u16], nexts: &[u16], model: u32) -> usize
+// The entry of a model. In the chains entries count from 1.
+fn find(table: &[u32], heads: &[u16], nexts: &[u16], model: u32) -> Option<usize>
     requires { SomeSums table.now heads.now nexts.now }
     ensures { (n : ℕ) → Sums table.now heads.now nexts.now n
         → Found table.now n model result }
 {
-    let b = bucket(model, heads.len());
-    let mut e = heads[b] as usize;
+    // Kept: the chains are u16 in lent memory, where 0 stands for no entry; an Option there would take twice the room.
+    let mut e = usize::from(heads[bucket(model, heads.len())]);
     while e != 0 {
-        if table[(e - 1) * 4] == model {
-            return e;
+        if table[(e - 1) * LINE_SIZE] == model {
+            return Some(e - 1);
         }
-        e = nexts[e - 1] as usize;
+        e = usize::from(nexts[e - 1]);
     }
-    0
+    None
 }
 
 // Puts an entry at the head of its bucket's chain; the entries before it are chained.
@@ -66,126 +71,85 @@ fn chain(table: &[u32], heads: &mut [u16], nexts: &mut [u16], e: usize)
     ensures heads_len_unchanged { length heads.new ≡ length heads.old }
     ensures nexts_len_unchanged { length nexts.new ≡ length nexts.old }
 {
-    let model = table[e * 4];
-    let b = bucket(model, heads.len());
+    let b = bucket(table[e * LINE_SIZE], heads.len());
     nexts[e] = heads[b];
     heads[b] = (e + 1) as u16;
 }
 
-// Two numbers together are past the largest sum.
-fn is_past(a: u32, b: u32) -> bool
-    ensures { result ≡ ltb most_sum (a + b) }
+// No sum of a line is past the largest.
+fn is_within(line: Counted) -> bool
+    ensures { result ≡ is_within line }
 {
-    a as u64 + b as u64 > 4000000000
+    line.printed <= MOST_SUM && line.spoiled <= MOST_SUM && line.cents <= MOST_SUM
 }
 
-// None of three sums goes past the largest by what is added to it.
-fn stays_within(p: u32, s: u32, c: u32, printed: u32, spoiled: u32, cents: u32) -> bool
-    ensures { result ≡ is_within (plus (counted 0 p s c) (counted 0 printed spoiled cents)) }
+// A model's sums with one more line of it, unless one of them goes past the largest.
+fn plus(sums: Counted, line: Counted) -> Option<Counted>
+    ensures { Added sums line result }
 {
-    if is_past(p, printed) {
-        return false;
-    }
-    if is_past(s, spoiled) {
-        return false;
-    }
-    !is_past(c, cents)
+    let sums = Counted {
+        model: sums.model,
+        printed: sums.printed.checked_add(line.printed)?,
+        spoiled: sums.spoiled.checked_add(line.spoiled)?,
+        cents: sums.cents.checked_add(line.cents)?,
+    };
+    is_within(sums).then_some(sums)
 }
 
 // Puts a line at an entry.
-fn put_entry(table: &mut [u32], e: usize, model: u32, printed: u32, spoiled: u32, cents: u32)
+fn put_entry(table: &mut [u32], e: usize, line: Counted)
     requires { e * 4 + 3 < length table.old }
-    ensures { Put table.old table.new e (counted model printed spoiled cents) }
+    ensures { Put table.old table.new e line }
 {
-    table[e * 4] = model;
-    table[e * 4 + 1] = printed;
-    table[e * 4 + 2] = spoiled;
-    table[e * 4 + 3] = cents;
+    table[e * LINE_SIZE] = line.model;
+    table[e * LINE_SIZE + 1] = line.printed;
+    table[e * LINE_SIZE + 2] = line.spoiled;
+    table[e * LINE_SIZE + 3] = line.cents;
 }
 
-// The first line of a model as a new entry; false where a number of it is past the largest sum.
+// The first line of a model as a new entry, unless a number of it is past the largest sum; how many models have sums then.
 fn enter(
     table: &mut [u32],
     heads: &mut [u16],
     nexts: &mut [u16],
     count: usize,
-    model: u32,
-    printed: u32,
-    spoiled: u32,
-    cents: u32,
-) -> bool
+    line: Counted,
+) -> Option<usize>
     requires sums { Sums table.old heads.old nexts.old count }
     requires count_in_bounds { count < length nexts.old }
-    requires lacks { Lacks table.old count model }
-    ensures value { result ≡ is_within (counted model printed spoiled cents) }
-    ensures sums_after { result ≡ true → SumsAfter table.old heads.old nexts.old
-        table.new heads.new nexts.new
-        (entries table.old count ++ (counted model printed spoiled cents ∷ [])) (suc count) }
+    requires lacks { Lacks table.old count line.model }
+    ensures { Enters table.old heads.old nexts.old table.new heads.new nexts.new count line result }
 {
-    if stays_within(0, 0, 0, printed, spoiled, cents) {
-        put_entry(table, count, model, printed, spoiled, cents);
-        chain(table, heads, nexts, count);
-        return true;
+    if !is_within(line) {
+        return None;
     }
-    false
+    put_entry(table, count, line);
+    chain(table, heads, nexts, count);
+    Some(count + 1)
 }
 
-// A further line of a model added to its entry; false where it takes a sum past the largest.
-fn increase(table: &mut [u32], e: usize, printed: u32, spoiled: u32, cents: u32) -> bool
-    requires { e * 4 + 3 < length table.old }
-    ensures { Increases table.old table.new e printed spoiled cents result }
-{
-    let model = table[e * 4];
-    let p = table[e * 4 + 1];
-    let s = table[e * 4 + 2];
-    let c = table[e * 4 + 3];
-    if stays_within(p, s, c, printed, spoiled, cents) {
-        put_entry(table, e, model, p + printed, s + spoiled, c + cents);
-        return true;
-    }
-    false
-}
-
-// Adds a line to the sums of its model.
+// Adds a line to the sums of its model; how many models have sums then.
 fn add(
     table: &mut [u32],
     heads: &mut [u16],
     nexts: &mut [u16],
     count: usize,
-    model: u32,
-    printed: u32,
-    spoiled: u32,
-    cents: u32,
-) -> Added
+    line: Counted,
+) -> Result<usize, Unadded>
     requires { Sums table.old heads.old nexts.old count }
-    ensures { Adds table.old heads.old nexts.old table.new
-        heads.new nexts.new count (counted model printed spoiled cents) result }
+    ensures { Adds table.old heads.old nexts.old table.new heads.new nexts.new count line result }
 {
-    let e = find(table, heads, nexts, model);
-    if e != 0 {
-        if increase(table, e - 1, printed, spoiled, cents) {
-            return Added::Entered(count);
-        }
-        return Added::Exceeds;
+    if let Some(e) = find(table, heads, nexts, line.model) {
+        let Some(sums) = plus(Counted::at(table, e), line) else {
+            return Err(Unadded::Exceeds);
+        };
+        put_entry(table, e, sums);
+        return Ok(count);
     }
     if count == nexts.len() {
-        return Added::Full;
+        return Err(Unadded::Full);
     }
-    if enter(table, heads, nexts, count, model, printed, spoiled, cents) {
-        return Added::Entered(count + 1);
-    }
-    Added::Exceeds
-}
-
-// 1 where the entry's model is below a number, else 0.
-fn counts_below(table: &[u32], e: usize, end: u64) -> usize
-    requires { e * 4 < length table.now }
-    ensures { CountsBelow table.now e end result }
-{
-    if (table[e * 4] as u64) < end {
-        return 1;
-    }
-    0
+    enter(table, heads, nexts, count, line).ok_or(Unadded::Exceeds)
 }
 
 // How many of the first entries are of models below a number.
@@ -194,10 +158,10 @@ fn count_below(table: &[u32], count: usize, end: u64) -> usize
     ensures { result ≡ length (below end (entries table.now count)) }
 {
     let mut n = 0;
-    let mut e = 0;
-    while e < count {
-        n += counts_below(table, e, end);
-        e += 1;
+    for e in 0..count {
+        if u64::from(table[e * LINE_SIZE]) < end {
+            n += 1;
+        }
     }
     n
 }
@@ -228,12 +192,9 @@ fn keep_entry(table: &mut [u32], kept: usize, e: usize, end: u64) -> usize
     requires { (kept ≤ e) × (e * 4 + 3 < length table.old) }
     ensures { KeepsEntry table.old table.new kept e end result }
 {
-    let model = table[e * 4];
-    if (model as u64) < end {
-        let printed = table[e * 4 + 1];
-        let spoiled = table[e * 4 + 2];
-        let cents = table[e * 4 + 3];
-        put_entry(table, kept, model, printed, spoiled, cents);
+    let line = Counted::at(table, e);
+    if u64::from(line.model) < end {
+        put_entry(table, kept, line);
         return kept + 1;
     }
     kept
@@ -247,24 +208,10 @@ fn keep_below(table: &mut [u32], count: usize, end: u64) -> usize
     ensures table_len_unchanged { length table.new ≡ length table.old }
 {
     let mut kept = 0;
-    let mut e = 0;
-    while e < count {
+    for e in 0..count {
         kept = keep_entry(table, kept, e, end);
-        e += 1;
     }
     kept
-}
-
-// Empties every bucket.
-fn clear(heads: &mut [u16])
-    ensures cleared { Cleared heads.new }
-    ensures heads_len_unchanged { length heads.new ≡ length heads.old }
-{
-    let mut b = 0;
-    while b < heads.len() {
-        heads[b] = 0;
-        b += 1;
-    }
 }
 
 // Chains the first entries anew.
@@ -275,11 +222,9 @@ fn chain_all(table: &[u32], heads: &mut [u16], nexts: &mut [u16], count: usize)
     ensures heads_len_unchanged { length heads.new ≡ length heads.old }
     ensures nexts_len_unchanged { length nexts.new ≡ length nexts.old }
 {
-    clear(heads);
-    let mut e = 0;
-    while e < count {
+    heads.fill(0);
+    for e in 0..count {
         chain(table, heads, nexts, e);
-        e += 1;
     }
 }
 
@@ -293,7 +238,7 @@ pub fn open_window(table: &[u32], heads: &mut [u16], nexts: &mut [u16]) -> Windo
     chain_all(table, heads, nexts, 0);
     Window {
         count: 0,
-        end: 4294967296,
+        end: ALL_MODELS,
     }
 }
 
@@ -317,61 +262,44 @@ fn take_narrowed(
     nexts: &mut [u16],
     low: u64,
     w: Window,
-    model: u32,
-    printed: u32,
-    spoiled: u32,
-    cents: u32,
-) -> Taken
+    line: Counted,
+) -> Option<Window>
     requires fact { Open table.old heads.old nexts.old low w }
     requires count_value { w.count ≡ length nexts.old }
-    requires low_le_model { (low ≤ model) × (model < w.end) }
-    requires lacks { Lacks table.old w.count model }
+    requires low_le_model { (low ≤ line.model) × (line.model < w.end) }
+    requires lacks { Lacks table.old w.count line.model }
     ensures { Takes table.old heads.old nexts.old table.new
-        heads.new nexts.new low w (counted model printed spoiled cents) result }
+        heads.new nexts.new low w line result }
 {
     let v = narrow(table, heads, nexts, low, w);
-    if model as u64 >= v.end {
-        return Taken::Within(v);
+    if v.end <= u64::from(line.model) {
+        return Some(v);
     }
-    let count = v.count;
-    if enter(table, heads, nexts, count, model, printed, spoiled, cents) {
-        return Taken::Within(Window {
-            count: count + 1,
-            end: v.end,
-        });
-    }
-    Taken::Past
+    let count = enter(table, heads, nexts, v.count, line)?;
+    Some(Window { count, end: v.end })
 }
 
-// Takes a line into the sums of a window: one of another model is passed over, and the window is narrowed where its table is
-// full.
+// Takes a line into the sums of a window, unless it takes a sum past the largest: a line of a model outside the window is passed
+// over, and the window is narrowed where its table is full.
 pub fn take(
     table: &mut [u32],
     heads: &mut [u16],
     nexts: &mut [u16],
     low: u64,
     w: Window,
-    model: u32,
-    printed: u32,
-    spoiled: u32,
-    cents: u32,
-) -> Taken
+    line: Counted,
+) -> Option<Window>
     requires { Open table.old heads.old nexts.old low w }
     ensures { Takes table.old heads.old nexts.old table.new
-        heads.new nexts.new low w (counted model printed spoiled cents) result }
+        heads.new nexts.new low w line result }
 {
-    let number = model as u64;
-    if number < low {
-        return Taken::Within(w);
+    let number = u64::from(line.model);
+    if number < low || w.end <= number {
+        return Some(w);
     }
-    if number >= w.end {
-        return Taken::Within(w);
-    }
-    let count = w.count;
-    let added = add(table, heads, nexts, count, model, printed, spoiled, cents);
-    match added {
-        Added::Entered(count) => Taken::Within(Window { count, end: w.end }),
-        Added::Exceeds => Taken::Past,
-        Added::Full => take_narrowed(table, heads, nexts, low, w, model, printed, spoiled, cents),
+    match add(table, heads, nexts, w.count, line) {
+        Ok(count) => Some(Window { count, end: w.end }),
+        Err(Unadded::Exceeds) => None,
+        Err(Unadded::Full) => take_narrowed(table, heads, nexts, low, w, line),
     }
 }

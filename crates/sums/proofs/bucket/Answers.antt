@@ -6,4 +6,4 @@ use Rattle.sums.proofs.bucket.Goals as goal
 
 pub returns : goal.returns
 unfolding bucket_of
-returns c = (refl, bucket_small c.args.buckets c.args.model c.requires)
+returns c = rw c.from.ensures (refl, bucket_small c.args.buckets c.args.model c.requires)

@@ -1,10 +1,6 @@
 -- `sums::count_below` meets its contract. Assumes nothing.
-use Prim.Native.Nat.{◌-◌}
 use Rattle.sums.proofs.Narrowing.{Counting}
 use Rattle.sums.proofs.count_below.Given as goal
 
 abbrev pub invariant-loop-e : goal.invariant-loop-e
-invariant-loop-e l = Counting l.table l.count l.end l.n l.e
-
-abbrev pub decreases-loop-e : goal.decreases-loop-e
-decreases-loop-e l = l.count - l.e
+invariant-loop-e l = Counting l.table l.end l.n l.e

@@ -4,9 +4,13 @@ use mathlib.Core.Logic.{inl, inr}
 use Rattle.fleet.specs.Entries.{entry}
 use Rattle.sums.proofs.keep_entry.Goals as goal
 
-pub returns-then-model-end : goal.returns-then-model-end
+pub returns-then-from-end : goal.returns-then-from-end
 unfolding entry
-returns-then-model-end c = inl (refl, (c.if-model-end.true, c.put_entry.ensures))
+returns-then-from-end c = inl (
+  refl,
+  (rw (c.from.ensures, c.at-line.ensures) at c.if-from-end.true, rw c.at-line.ensures at c.put_entry.ensures),
+)
 
 pub returns : goal.returns
-returns c = inr (refl, (c.if-model-end.false, refl))
+unfolding entry
+returns c = inr (refl, (rw (c.from.ensures, c.at-line.ensures) at c.if-from-end.false, refl))

@@ -11,4 +11,4 @@ pub bounds-table-e-3 : goal.bounds-table-e-3
 bounds-table-e-3 c = simp length-set (omega (arith, c.requires))
 
 pub returns : goal.returns
-returns c = let S = c.args in put_four _ S.e S.model S.printed S.spoiled S.cents c.requires
+returns c = let S = c.args in put_four _ S.e S.line.model S.line.printed S.line.spoiled S.line.cents c.requires
