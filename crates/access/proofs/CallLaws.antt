@@ -5,40 +5,15 @@ use mathlib.Core.List.{List}
 use Prim.Native.Nat.{ℕ, suc, ◌+◌, ◌*◌, ◌≤◌, ◌<◌, ◌-◌}
 use lib.ListN.{get_or}
 use Rattle.types.specs.declared.Typing.{Typing}
-use Rattle.types.specs.declared.Typing.TheVariants.{Bool as Bool_case, Class, Null, Refusal}
-use Rattle.types.specs.declared.Answer.{Answer}
-use Rattle.types.specs.Answers.{answer, case_of_number, is_refusal, refusal, stored_case}
+use Rattle.types.specs.declared.Typing.TheVariants.{Class}
+use Rattle.types.specs.Answers.{answer, case_of_number, stored_case}
 use Rattle.types.specs.Tables.{is_fitting, applied}
-use Rattle.access.specs.Calls.{no_method_for, too_many_answer, all_fitting, PreInvoke, method_place}
+use Rattle.access.specs.Calls.{all_fitting, PreInvoke, method_place}
 use Rattle.access.specs.Calls.{PreMethod}
 use native.Mathlib.Omega.{arith}
 use lib.Bits.{bit_or}
 use Rattle.language.specs.Effects.{join}
 use Rattle.types.specs.declared.slots.Scope.{Scope}
-
--- more arguments than any method has parameters
-pub many_refused : (at : ℕ) (t : Typing) (a : Answer) (b : Bool) → b ≡ is_refusal a.typing → b ≡ true
-    → a ≡ too_many_answer at t a
-unfolding too_many_answer
-many_refused at t a b e f = rw (sym e ∙ f)
-
-module _ (at : ℕ) (t : Typing) (a : Answer) (b : Bool) (r : Answer) (e : b ≡ is_refusal a.typing)
-    (f : b ≡ false) where
-  pub many_bool : t ≡ Bool_case → r ≡ refusal 9 at → r ≡ too_many_answer at t a
-  unfolding too_many_answer no_method_for
-  many_bool q h = rw (sym e ∙ f, q) h
-
-  pub many_class : (c : ℕ) → t ≡ Class c → r ≡ refusal 8 at → r ≡ too_many_answer at t a
-  unfolding too_many_answer no_method_for
-  many_class c q h = rw (sym e ∙ f, q) h
-
-  pub many_null : t ≡ Null → r ≡ refusal 9 at → r ≡ too_many_answer at t a
-  unfolding too_many_answer no_method_for
-  many_null q h = rw (sym e ∙ f, q) h
-
-  pub many_refusal : (n l : ℕ) → t ≡ Refusal n l → r ≡ refusal 9 at → r ≡ too_many_answer at t a
-  unfolding too_many_answer no_method_for
-  many_refusal n l q h = rw (sym e ∙ f, q) h
 
 -- arguments one by one
 module _ (R A S : List ℕ) (from row n : ℕ) where

@@ -1,26 +1,23 @@
 -- What Q answers, what it leaves in slots and table, and what it needs.
-use Rattle.std.specs.Prelude.{◌≡◌, Bool, true, false, ◌&&◌, cond, List, ℕ, zero, suc, ◌+◌, ◌*◌, ◌≤◌, ◌<◌, length, get_or, set}
+use Rattle.std.specs.Prelude.{◌≡◌, Bool, true, false, ◌&&◌, List, ℕ, zero, suc, ◌+◌, ◌*◌, ◌≤◌, ◌<◌, length, get_or, set}
 use Rattle.language.specs.Effects.{join}
+use Rattle.language.specs.declared.Refusal.{Refusal}
+use Rattle.language.specs.Refusals.{refusal}
 use Rattle.language.specs.Limits.{bool_number, member_refusal, of_check, type_refusal}
 use Rattle.language.specs.ClassTables.{class_width, methods_from}
 use Rattle.language.specs.MethodTables.{method_width, parameters_place}
 use Rattle.types.specs.declared.Typing.{Typing}
-use Rattle.types.specs.declared.Typing.TheVariants.{Bool as Bool_case, Class, Null, Refusal}
-use Rattle.types.specs.declared.Answer.{Answer}
+use Rattle.types.specs.declared.Typing.TheVariants.{Bool as Bool_case, Class, Null}
 use Rattle.types.specs.declared.slots.Scope.{Scope}
-use Rattle.types.specs.Answers.{answer, case_of_number, is_refusal, current_in, refusal, stored_case}
+use Rattle.types.specs.Answers.{Answer, answer, case_of_number, current_in, refused, stored_case}
 use Rattle.types.specs.Tables.{Applicable, applied, applied_slot, is_fitting, CaseIn, Changed, In_row}
 use Rattle.access.specs.Fields.{InTables, NoClass}
 
 -- Q with more arguments than any method has parameters.
-unfoldable pub no_method_for : ℕ → Typing → Answer
-no_method_for at Bool_case = refusal type_refusal at
-no_method_for at (Class c) = refusal member_refusal at
-no_method_for at Null = refusal type_refusal at
-no_method_for at (Refusal n l) = refusal type_refusal at
-
-unfoldable pub too_many_answer : ℕ → Typing → Answer → Answer
-too_many_answer at t b = cond (is_refusal b.typing) b (no_method_for at t)
+unfoldable pub no_method_for : ℕ → Typing → Refusal
+no_method_for at Bool_case = refusal type_refusal (at + 1)
+no_method_for at (Class c) = refusal member_refusal (at + 1)
+no_method_for at Null = refusal type_refusal (at + 1)
 
 -- n stored arguments fit the types of n lines.
 unfoldable pub all_fitting : List ℕ → List ℕ → List ℕ → ℕ → ℕ → ℕ → Bool
@@ -85,11 +82,11 @@ module _ (R T A M F S C : List ℕ) (at : ℕ) (scope : Scope) (t : Typing) (φ 
       pub noted : C' ≡ set C at (applied T ψ c)
 
     pub data Invoked : Type 0 where
-      no_class : NoClass t → r ≡ refusal type_refusal at → Unchanged → Invoked
-      no_method : (c : ℕ) → t ≡ Class c → called c ≡ 0 → r ≡ refusal member_refusal at → Unchanged → Invoked
+      no_class : NoClass t → r ≡ refused type_refusal at → Unchanged → Invoked
+      no_method : (c : ℕ) → t ≡ Class c → called c ≡ 0 → r ≡ refused member_refusal at → Unchanged → Invoked
       other_count : (c i : ℕ) → t ≡ Class c → called c ≡ suc i → (parameter_count M i ≡ given_count → ⊥)
-          → r ≡ refusal member_refusal at → Unchanged → Invoked
+          → r ≡ refused member_refusal at → Unchanged → Invoked
       unfit : (c i : ℕ) → t ≡ Class c → called c ≡ suc i → parameter_count M i ≡ given_count
-          → arguments_fit i ≡ false → r ≡ refusal type_refusal at → Unchanged → Invoked
+          → arguments_fit i ≡ false → r ≡ refused type_refusal at → Unchanged → Invoked
       done : (c i : ℕ) → t ≡ Class c → called c ≡ suc i → parameter_count M i ≡ given_count
           → arguments_fit i ≡ true → Done c i → Invoked

@@ -1,29 +1,24 @@
 // Methods sought in the class of an expression: Q.
 ghost use Rattle.std.specs.Prelude.{◌≡◌, ◌<◌};
-ghost use Rattle.access.specs.Calls.{too_many_answer, all_fitting, PreFitting, PreInvoke, Invoked};
+ghost use Rattle.access.specs.Calls.{no_method_for, all_fitting, PreFitting, PreInvoke, Invoked};
 
 use super::fields::note;
 use language::{
-    MEMBER_REFUSAL, METHOD_WIDTH, METHODS_FROM, PARAMETERS_PLACE, TYPE_REFUSAL, Type, class_entry,
-    first, second,
+    MEMBER_REFUSAL, METHOD_WIDTH, METHODS_FROM, PARAMETERS_PLACE, Refusal, TYPE_REFUSAL, Type,
+    class_entry, first, second,
 };
 use types::slots::{Scope, apply_all};
-use types::{Answer, Typing, apply, is_fitting, is_refusal, refused, typing_at, typing_of};
+use types::{Typed, Typing, apply, is_fitting, refused, typing_at, typing_of};
 
 // Q with more arguments than any method has parameters: 9 where the receiver is no class, else 8.
-pub fn too_many(receiver: Answer, many: Answer, at: usize) -> Answer
+#[tactic(auto, unfolding(crate::specs::Calls::no_method_for))]
+pub fn too_many(receiver: Typing, at: usize) -> Refusal
     requires { at < 65536 }
-    ensures { result ≡ too_many_answer at receiver.typing many }
+    ensures { result ≡ no_method_for at receiver }
 {
-    if is_refusal(many) {
-        return many;
-    }
-    let t = receiver.typing;
-    match t {
-        Typing::Bool => refused(TYPE_REFUSAL, at),
+    match receiver {
         Typing::Class(_) => refused(MEMBER_REFUSAL, at),
-        Typing::Null => refused(TYPE_REFUSAL, at),
-        Typing::Refusal(_, _) => refused(TYPE_REFUSAL, at),
+        _ => refused(TYPE_REFUSAL, at),
     }
 }
 
@@ -62,40 +57,39 @@ pub fn invoke(
     class_at: &mut [u16],
     at: usize,
     scope: Scope,
-    receiver: Answer,
+    receiver: Typed,
     effect: u64,
-) -> Answer
+) -> Result<Typed, Refusal>
     requires { PreInvoke rows.now table.now above.now methods.now effects.now slots.old at
         scope receiver.typing effect }
     ensures { Invoked rows.now table.now above.now
         methods.now effects.now slots.old class_at.old at scope
         receiver.typing receiver.effect effect slots.new class_at.new result }
 {
-    let t = receiver.typing;
-    let Typing::Class(c) = t else {
-        return refused(TYPE_REFUSAL, at);
+    let Typing::Class(c) = receiver.typing else {
+        return Err(refused(TYPE_REFUSAL, at));
     };
     let class = apply(table, effect, c);
     let name = first(rows, at) as usize;
     let n = second(rows, at) as usize;
     let stored = class_entry(table, class, METHODS_FROM + name) as usize;
     if stored == 0 {
-        return refused(MEMBER_REFUSAL, at);
+        return Err(refused(MEMBER_REFUSAL, at));
     }
     let number = stored - 1;
     let parameters = methods[number * METHOD_WIDTH + PARAMETERS_PLACE] as usize;
     if parameters != n {
-        return refused(MEMBER_REFUSAL, at);
+        return Err(refused(MEMBER_REFUSAL, at));
     }
     let row = methods[number * METHOD_WIDTH] as usize;
     if !are_fitting(rows, above, slots, scope.top, row + 1, n) {
-        return refused(TYPE_REFUSAL, at);
+        return Err(refused(TYPE_REFUSAL, at));
     }
     let own = effects[number];
     apply_all(table, slots, scope.size, own);
     note(class_at, at, class);
-    Answer {
+    Ok(Typed {
         typing: typing_of(Type::from_number(first(rows, row))),
         effect: receiver.effect | effect | own,
-    }
+    })
 }

@@ -2,26 +2,11 @@
 use mathlib.Core.Path.{◌∙◌}
 use native.Mathlib.Omega.{arith}
 use Rattle.access.proofs.CallLaws.{fit_start, fit_step, fit_stop, fit_end}
-use Rattle.types.proofs.Cases.{case_same}
+use Rattle.types.proofs.Laws.{case_same}
 use Rattle.access.proofs.methods.are_fitting.Goals as goal
 
 pub loop-i-init : goal.loop-i-init
 loop-i-init c = (omega arith, fit_start _ _ _ _ _ _)
-
-pub overflow_add-from : goal.overflow_add-from
-overflow_add-from c = omega (arith, c.requires.slots, c.requires.rows, c.well_formed)
-
-pub offset_bounds-slots-from : goal.offset_bounds-slots-from
-offset_bounds-slots-from c = omega (arith, c.requires.slots, c.requires.rows, c.well_formed)
-
-pub bounds-slots-from : goal.bounds-slots-from
-bounds-slots-from c = omega (arith, c.requires.slots, c.requires.rows, c.well_formed)
-
-pub overflow_add-row : goal.overflow_add-row
-overflow_add-row c = omega (arith, c.requires.slots, c.requires.rows, c.well_formed)
-
-pub first-requires : goal.first-requires
-first-requires c = omega (arith, c.requires.slots, c.requires.rows, c.well_formed)
 
 pub is_fitting-requires : goal.is_fitting-requires
 is_fitting-requires c = record {
@@ -42,9 +27,6 @@ returns-then-not-is_fitting c = fit_stop c.args.rows.now c.args.above.now c.args
     c.loop-i.invariant.1 _ _ _ c.typing_at.ensures
     (c.from_number.ensures ∙ c.first.ensures)
     c.is_fitting.ensures c.if-not-is_fitting.true
-
-pub overflow_step-i : goal.overflow_step-i
-overflow_step-i c = omega (arith, c.requires.slots, c.requires.rows, c.well_formed)
 
 pub loop-i-preserved : goal.loop-i-preserved
 loop-i-preserved c = (

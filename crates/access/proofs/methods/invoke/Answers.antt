@@ -1,6 +1,7 @@
 -- `access::methods::invoke` meets its contract. Assumes nothing.
 use mathlib.Core.Path.{refl, sym, ap, ◌∙◌}
 use Prim.Native.Nat.{ℕ, ◌-◌}
+use Rattle.std.specs.Prelude.{Err}
 use native.Mathlib.Omega.{arith}
 use lib.ListN.{set}
 use Rattle.access.specs.Calls.{method_line, no_class, no_method, other_count, unfit, done}
@@ -9,7 +10,7 @@ use Rattle.access.proofs.CallLaws.{place_none, place_some, called_method, done_o
 use Rattle.access.proofs.methods.invoke.Goals as goal
 
 pub returns-in_default : goal.returns-in_default
-returns-in_default c = no_class (no_class_of c.args.receiver.typing c.in_default.not-Class) c.refused.ensures
+returns-in_default c = no_class (no_class_of c.args.receiver.typing c.in_default.not-Class) (ap Err c.refused.ensures)
     (record { slots_same = refl; classes_same = refl })
 
 pub apply-class-requires : goal.apply-class-requires
@@ -28,7 +29,7 @@ pub returns-then-stored-eq0 : goal.returns-then-stored-eq0
 returns-then-stored-eq0 c = no_method _ c.in-Class.is
     (place_none _ _ _ _ _ _ _ c.apply-class.ensures c.first-name.ensures
     c.class_entry-stored.ensures
-    c.if-stored-eq0.true) c.refused-then-stored-eq0.ensures (record { slots_same = refl; classes_same = refl })
+    c.if-stored-eq0.true) (ap Err c.refused-then-stored-eq0.ensures) (record { slots_same = refl; classes_same = refl })
 
 pub overflow_mul-parameters : goal.overflow_mul-parameters
 overflow_mul-parameters c = omega (arith, (called_method c.requires c.in-Class.is c.apply-class.ensures c.first-name.ensures c.class_entry-stored.ensures c.if-stored-eq0.false).inside, c.well_formed)
@@ -47,7 +48,7 @@ returns-then-parameters-n c = other_count _ _ c.in-Class.is
     (place_some _ _ _ _ _ _ _ c.apply-class.ensures c.first-name.ensures
     c.class_entry-stored.ensures
     c.if-stored-eq0.false)
-    (λ e. c.if-parameters-n.true (e ∙ sym c.second-n.ensures)) c.refused-then-parameters-n.ensures
+    (λ e. c.if-parameters-n.true (e ∙ sym c.second-n.ensures)) (ap Err c.refused-then-parameters-n.ensures)
     (record { slots_same = refl; classes_same = refl })
 
 pub overflow_mul-row : goal.overflow_mul-row
@@ -75,7 +76,7 @@ returns-then-not-are_fitting c = unfit _ _ c.in-Class.is
     (c.if-parameters-n.false ∙ c.second-n.ensures)
     (rw (← c.second-n.ensures)
     (sym c.are_fitting.ensures ∙ c.if-not-are_fitting.true))
-    c.refused-then-not-are_fitting.ensures
+    (ap Err c.refused-then-not-are_fitting.ensures)
     (record { slots_same = refl; classes_same = refl })
 
 pub offset_bounds-effects-number : goal.offset_bounds-effects-number
