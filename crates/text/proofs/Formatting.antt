@@ -9,10 +9,11 @@ use borrow.Author.Tests.{eq-eqb, ne_eqb}
 use lib.Dec.{eqb}
 use lib.ListN.{length, get_or, drop, length-append, drop_of_length-le}
 use lib.Seq.{drop-cons, sets}
+use Rattle.std.specs.Prelude.{Ok, Err}
+use Rattle.language.specs.Refusals.{refusal}
 use Rattle.language.specs.Results.{Checked, accept, refuse}
 use Rattle.language.specs.Rows.{row, is_row}
 use Rattle.language.specs.Filling.{before, tally, is_made, made_numbers}
-use Rattle.language.specs.declared.Filled.TheVariants.{Done, Refused}
 use Rattle.language.proofs.Filling.{Left, left_start, left_refused, left_unmade, left_done, left_full}
 use Rattle.language.proofs.Filling.{left_step}
 use Rattle.language.specs.Alphabet.{Alphabet}
@@ -82,7 +83,7 @@ pub record Formatting (α : Alphabet) (rows held₀ held : List ℕ) (i at line 
   pub left : Left 1 (write_rows α rows) (text_from α rows i line) at held₀ held at
 
 pub formatting_odd : (α : Alphabet) (rows : List ℕ) → (length rows % 4 ≡ 0 → ⊥)
-    → Refused 1 0 ≡ tally 1 0 (write_rows α rows)
+    → Err (refusal 1 0) ≡ tally 1 0 (write_rows α rows)
 formatting_odd α rows n = rw (ne_eqb (length rows % 4) 0 n)
 
 pub formatting_odd_held : {A : Type 0} (α : Alphabet) (rows : List ℕ) → (length rows % 4 ≡ 0 → ⊥)
@@ -105,7 +106,7 @@ formatting_start α rows held h =
 
 module _ {α : Alphabet} {rows held₀ held : List ℕ} {i at line : ℕ}
     (p : Formatting α rows held₀ held i at line) where
-  pub formatting_done : length rows ≤ i → Done at ≡ tally 1 0 (write_rows α rows)
+  pub formatting_done : length rows ≤ i → Ok at ≡ tally 1 0 (write_rows α rows)
   formatting_done h = left_done p.left (write_end α (60001 - line) line i rows h) (omega arith)
 
   pub formatting_full : length rows ≤ i → is_made (write_rows α rows) ≡ true
@@ -119,7 +120,7 @@ module _ {α : Alphabet} {rows held₀ held : List ℕ} {i at line : ℕ}
     above : 60000 < line → text_from α rows i line ≡ refuse 2 line
     above l = write_over α line i rows formatting_row (60001 - line) (omega (arith, l, p.high))
 
-    pub formatting_over : 60000 < line → Refused 2 line ≡ tally 1 0 (write_rows α rows)
+    pub formatting_over : 60000 < line → Err (refusal 2 line) ≡ tally 1 0 (write_rows α rows)
     formatting_over l = left_refused p.left 2 line (above l)
 
     pub formatting_over_held : {A : Type 0} → 60000 < line → is_made (write_rows α rows) ≡ true → A
@@ -134,7 +135,7 @@ module _ {α : Alphabet} {rows held₀ held : List ℕ} {i at line : ℕ}
       here = let e : 60001 - line ≡ suc (60000 - line) = omega (arith, l) in
           rw e (write_here α line i rows formatting_row code a b c e₀ e₁ e₂ e₃ (60000 - line))
 
-      pub formatting_bad : is_row (row code a b c) ≡ false → Refused 1 line ≡ tally 1 0 (write_rows α rows)
+      pub formatting_bad : is_row (row code a b c) ≡ false → Err (refusal 1 line) ≡ tally 1 0 (write_rows α rows)
       formatting_bad e = left_refused p.left 1 line (here ∙ rw e)
 
       pub formatting_bad_held : {A : Type 0} → is_row (row code a b c) ≡ false
@@ -213,4 +214,4 @@ rows_are_whole {A} α rows text e k = go (eqb (length rows % 4) 0) e
   where
     go : (t : Bool) → cond t (write_lines α 60000 1 rows) (refuse 1 0) ≡ accept text → A
     go true e = k e
-    go false e = let z : ◌≡◌ {A = ℕ} 0 1 = cc in absurd (omega arith)
+    go false e = absurd (cc)

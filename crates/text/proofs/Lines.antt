@@ -1,6 +1,6 @@
 -- Laws of lines. Assumes nothing.
 use mathlib.Core.Path.{◌≡◌, refl, sym, ap, ◌∙◌}
-use mathlib.Core.Option.{Option, none, some}
+use mathlib.Core.Option.{Option as Maybe, none, some}
 use mathlib.Core.Bool.{Bool, true, false, cond, false≢true}
 use mathlib.Core.List.{List, [], ◌∷◌, ◌++◌, append_assoc}
 use Prim.Native.Nat.{ℕ, zero, suc, ◌+◌, ◌-◌, ◌≤◌, ◌<◌}
@@ -10,6 +10,8 @@ use borrow.Author.Tests.{leb-true, eqb-true}
 use lib.Dec.{eqb, leb}
 use lib.ListN.{length, get_or, drop, set, length-drop, length-append, drop_of_length-le}
 use lib.Seq.{drop-cons, drop-drop, sets}
+use Rattle.std.specs.Prelude.{Option, Some, None}
+use Rattle.language.specs.declared.Line.{Line}
 use Rattle.language.proofs.Filling.{sets_then}
 use Rattle.language.specs.Lists.{given}
 use Rattle.language.specs.Rows.{Letter, letters, code, numbers, letter_among, numbers_after, row, is_row}
@@ -17,24 +19,21 @@ use Rattle.language.specs.Alphabet.{Alphabet, ours}
 use Rattle.language.proofs.Letters.{among_code}
 use Rattle.language.proofs.Rows.{are_numbers, is_row_by}
 use Rattle.language.specs.Decimals.{digits}
-use Rattle.language.specs.TextLines.{number_of, closed, then_line, numbered, line_of}
+use Rattle.language.specs.TextLines.{number_of, line, closed, then_line, numbered, line_of}
 use Rattle.language.specs.TextLines.{line_from, line_text}
 use Rattle.text.specs.Places.{line_at}
 use Rattle.fields.specs.Places.{number_at}
 use Rattle.fields.proofs.Decimals.{length_most}
 use Rattle.fields.proofs.Fields.{taken_inv, none_inv}
-use Rattle.language.specs.declared.Taken.{Taken}
-use Rattle.language.specs.declared.Taken.TheVariants.{Number, NoNumber}
-use Rattle.language.specs.declared.Line.TheVariants.{Row, Malformed}
 use Rattle.language.proofs.Booleans.{and_inv}
 
 -- what stands at a place: past the end nothing, else a byte and the rest
-pub closed_past : (code a b n at : ℕ) (s : List ℕ) → length s ≤ at → closed code a b n (drop at s) ≡ Malformed
+pub closed_past : (code a b n at : ℕ) (s : List ℕ) → length s ≤ at → closed code a b n (drop at s) ≡ None
 unfolding closed
 closed_past code a b n at s h = rw (drop_of_length-le s h)
 
 pub closed_at : (code a b n at : ℕ) (s : List ℕ) → at < length s
-    → closed code a b n (drop at s) ≡ cond (eqb (get_or s at 0) 10) (Row code a b (n + 1)) Malformed
+    → closed code a b n (drop at s) ≡ cond (eqb (get_or s at 0) 10) (Some (line code a b (n + 1))) None
 unfolding closed
 closed_at code a b n at s h = rw (drop-cons s at 0 h)
 
@@ -45,9 +44,9 @@ unfolding closed
 closed_shift code a b at n [] = refl
 closed_shift code a b at n (x ∷ s) = go (eqb x 10)
   where
-    go : (t : Bool) → line_at at (cond t (Row code a b (n + 1)) Malformed) ≡ cond t
-        (Row code a b (at + n + 1)) Malformed
-    go true = let e : at + (n + 1) ≡ at + n + 1 = omega arith in ap (Row code a b) e
+    go : (t : Bool) → line_at at (cond t (Some (line code a b (n + 1))) None) ≡ cond t
+        (Some (line code a b (at + n + 1))) None
+    go true = let e : at + (n + 1) ≡ at + n + 1 = omega arith in ap (λ (m : ℕ). Some (line code a b m)) e
     go false = refl
 
 -- under our own alphabet the byte that a line begins with is its row's code, and says how many numbers follow
@@ -55,14 +54,14 @@ line_ours : (x : ℕ) (s : List ℕ) → line_of ours (x ∷ s) ≡ numbered (nu
 unfolding line_of numbered numbers_after
 line_ours x s = go (letter_among letters x) refl
   where
-    go : (o : Option Letter) → letter_among letters x ≡ o
-        → given o Malformed (λ l. numbered (numbers l) (code l) s)
+    go : (o : Maybe Letter) → letter_among letters x ≡ o
+        → given o None (λ l. numbered (numbers l) (code l) s)
         ≡ numbered (given o 3 (λ l. numbers l)) x s
     go none e = refl
     go (some l) e = rw (among_code letters x l e)
 
 -- the line at a place: past the end none, and by how many numbers its letter takes
-pub line_past : (at : ℕ) (s : List ℕ) → length s ≤ at → Malformed ≡ line_at at (line_of ours (drop at s))
+pub line_past : (at : ℕ) (s : List ℕ) → length s ≤ at → None ≡ line_at at (line_of ours (drop at s))
 unfolding line_of
 line_past at s h = rw (drop_of_length-le s h)
 
@@ -76,22 +75,22 @@ module _ (code at : ℕ) (s : List ℕ) (h : at < length s) (is : code ≡ get_o
   unfolding numbered
   line_none z = sym (rw (line_here, z, closed_shift code 0 0 at 1 (drop (at + 1) s)))
 
-  pub line_unknown : 2 < count → Malformed ≡ line_at at (line_of ours (drop at s))
+  pub line_unknown : 2 < count → None ≡ line_at at (line_of ours (drop at s))
   unfolding numbered
   line_unknown l = let e : count ≡ suc (suc (suc (count - 3))) = omega arith in rw (line_here, e)
 
-  pub line_no_first : (count ≡ 0 → ⊥) → number_at (at + 1) s ≡ NoNumber
-      → Malformed ≡ line_at at (line_of ours (drop at s))
+  pub line_no_first : (count ≡ 0 → ⊥) → number_at (at + 1) s ≡ None
+      → None ≡ line_at at (line_of ours (drop at s))
   unfolding numbered
   line_no_first z e = sym (ap (line_at at) (line_here ∙ go count z))
     where
-      go : (k : ℕ) → (k ≡ 0 → ⊥) → numbered k code (drop (at + 1) s) ≡ Malformed
+      go : (k : ℕ) → (k ≡ 0 → ⊥) → numbered k code (drop (at + 1) s) ≡ None
       go zero n = absurd (n refl)
       go (suc zero) n = rw (none_inv (at + 1) (number_of (drop (at + 1) s)) e)
       go (suc (suc zero)) n = rw (none_inv (at + 1) (number_of (drop (at + 1) s)) e)
       go (suc (suc (suc k))) n = refl
 
-  module _ (a p : ℕ) (first : number_at (at + 1) s ≡ Number a p) where
+  module _ (a p : ℕ) (first : number_at (at + 1) s ≡ Some (a, p)) where
     pub line_one : count ≡ 1 → closed code a 0 p (drop p s) ≡ line_at at (line_of ours (drop at s))
     unfolding numbered
     line_one z = taken_inv (at + 1) a p (number_of (drop (at + 1) s)) first λ n e q.
@@ -106,13 +105,13 @@ module _ (code at : ℕ) (s : List ℕ) (h : at < length s) (is : code ≡ get_o
           ← w,
         ))
 
-    pub line_no_second : count ≡ 2 → number_at p s ≡ NoNumber
-        → Malformed ≡ line_at at (line_of ours (drop at s))
+    pub line_no_second : count ≡ 2 → number_at p s ≡ None
+        → None ≡ line_at at (line_of ours (drop at s))
     unfolding numbered
     line_no_second z f = taken_inv (at + 1) a p (number_of (drop (at + 1) s)) first λ n e q.
         rw (line_here, z, e, drop-drop n (at + 1) s, ← q, none_inv p (number_of (drop p s)) f)
 
-    pub line_two : (b r : ℕ) → count ≡ 2 → number_at p s ≡ Number b r
+    pub line_two : (b r : ℕ) → count ≡ 2 → number_at p s ≡ Some (b, r)
         → closed code a b r (drop r s) ≡ line_at at (line_of ours (drop at s))
     unfolding numbered
     line_two b r z second = taken_inv (at + 1) a p (number_of (drop (at + 1) s)) first λ n e q.
@@ -143,7 +142,7 @@ text_ours : (n a b : ℕ) → numbers_after n < 3 → line_text ours n a b ≡ l
 unfolding numbers_after
 text_ours n a b h = go (letter_among letters n) refl h
   where
-    go : (o : Option Letter) → letter_among letters n ≡ o → given o 3 (λ l. numbers l) < 3
+    go : (o : Maybe Letter) → letter_among letters n ≡ o → given o 3 (λ l. numbers l) < 3
         → line_text ours n a b ≡ line_from n (given o 3 (λ l. numbers l)) a b
     go none e h = absurd (omega (arith, h))
     go (some l) e h = rw (text_by ours n a b l e, among_code letters n l e)
@@ -188,64 +187,73 @@ length_first code a b h n = go (numbers_after code) refl
     go (suc (suc zero)) e = omega (arith, length_two code a b e)
     go (suc (suc (suc k))) e = absurd (omega (arith, h, e))
 
+-- two lines that are the same
+pub line_injective : {c a b n c' a' b' n' : ℕ} → Some (line c a b n) ≡ Some (line c' a' b' n')
+    → (c ≡ c') × (a ≡ a') × (b ≡ b') × (n ≡ n')
+line_injective {c} {a} {b} {n} {c'} {a'} {b'} {n'} e = let f : line c a b n ≡ line c' a' b' n' = cc in (
+  ap (λ (l : Line). l.code) f,
+  ap (λ (l : Line). l.first) f,
+  ap (λ (l : Line). l.second) f,
+  ap (λ (l : Line). l.end) f,
+)
+
 -- a line takes two bytes at least, and no more than there are
 closed_span : (code a b used : ℕ) (s : List ℕ) (code' a' b' n : ℕ)
-    → closed code a b used s ≡ Row code' a' b' n → (n ≡ used + 1) × (1 ≤ length s)
+    → closed code a b used s ≡ Some (line code' a' b' n) → (n ≡ used + 1) × (1 ≤ length s)
 unfolding closed
-closed_span code a b used [] code' a' b' n e = let z : ◌≡◌ {A = ℕ} 0 1 = cc in absurd (omega arith)
+closed_span code a b used [] code' a' b' n e = absurd (cc)
 closed_span code a b used (x ∷ s) code' a' b' n e = go (eqb x 10) e
   where
-    go : (t : Bool) → cond t (Row code a b (used + 1)) Malformed ≡ Row code' a' b' n
+    go : (t : Bool) → cond t (Some (line code a b (used + 1))) None ≡ Some (line code' a' b' n)
         → (n ≡ used + 1) × (1 ≤ suc (length s))
-    go true e = (cc, omega arith)
-    go false e = let z : ◌≡◌ {A = ℕ} 0 1 = cc in absurd (omega arith)
+    go true e = (sym (line_injective e).3, omega arith)
+    go false e = absurd (cc)
 
 -- what follows a letter spans one byte less
 abbrev Span : List ℕ → ℕ → Type 0
 Span s n = (2 ≤ n) × (n ≤ suc (length s))
 
 closed_after : (code a b k : ℕ) (s : List ℕ) (code' a' b' n : ℕ)
-    → closed code a b (1 + k) (drop k s) ≡ Row code' a' b' n → Span s n
+    → closed code a b (1 + k) (drop k s) ≡ Some (line code' a' b' n) → Span s n
 closed_after code a b k s code' a' b' n e =
     let h = closed_span code a b (1 + k) (drop k s) code' a' b' n e in
     (omega (arith, h.0), omega (arith, h.0, h.1, length-drop k s))
 
-one_span : (code : ℕ) (s : List ℕ) (code' a' b' n : ℕ) (t : Taken)
-    → then_line (λ a k. closed code a 0 (1 + k) (drop k s)) t ≡ Row code' a' b' n → Span s n
-one_span code s code' a' b' n (Number a k) e = closed_after code a 0 k s code' a' b' n e
-one_span code s code' a' b' n NoNumber e = let z : ◌≡◌ {A = ℕ} 0 1 = cc in absurd (omega arith)
+one_span : (code : ℕ) (s : List ℕ) (code' a' b' n : ℕ) (t : Option (ℕ × ℕ))
+    → then_line (λ a k. closed code a 0 (1 + k) (drop k s)) t ≡ Some (line code' a' b' n) → Span s n
+one_span code s code' a' b' n (Some t) e = closed_after code t.0 0 t.1 s code' a' b' n e
+one_span code s code' a' b' n None e = absurd (cc)
 
-second_span : (code a k : ℕ) (s : List ℕ) (code' a' b' n : ℕ) (t : Taken)
-    → then_line (λ b m. closed code a b (1 + k + m) (drop (k + m) s)) t ≡ Row code' a' b' n → Span s n
-second_span code a k s code' a' b' n (Number b m) e =
-    let q : 1 + k + m ≡ 1 + (k + m) = omega arith in closed_after code a b (k + m) s code' a' b' n (rw q at e)
-second_span code a k s code' a' b' n NoNumber e = let z : ◌≡◌ {A = ℕ} 0 1 = cc in absurd (omega arith)
+second_span : (code a k : ℕ) (s : List ℕ) (code' a' b' n : ℕ) (t : Option (ℕ × ℕ))
+    → then_line (λ b m. closed code a b (1 + k + m) (drop (k + m) s)) t ≡ Some (line code' a' b' n) → Span s n
+second_span code a k s code' a' b' n (Some t) e =
+    let q : 1 + k + t.1 ≡ 1 + (k + t.1) = omega arith in closed_after code a t.0 (k + t.1) s code' a' b' n (rw q at e)
+second_span code a k s code' a' b' n None e = absurd (cc)
 
-two_span : (code : ℕ) (s : List ℕ) (code' a' b' n : ℕ) (t : Taken)
+two_span : (code : ℕ) (s : List ℕ) (code' a' b' n : ℕ) (t : Option (ℕ × ℕ))
     → then_line (λ a k. then_line (λ b m. closed code a b (1 + k + m) (drop (k + m) s))
-    (number_of (drop k s))) t ≡ Row code' a' b' n → Span s n
-two_span code s code' a' b' n (Number a k) e = second_span code a k s code' a' b' n (number_of (drop k s)) e
-two_span code s code' a' b' n NoNumber e = let z : ◌≡◌ {A = ℕ} 0 1 = cc in absurd (omega arith)
+    (number_of (drop k s))) t ≡ Some (line code' a' b' n) → Span s n
+two_span code s code' a' b' n (Some t) e = second_span code t.0 t.1 s code' a' b' n (number_of (drop t.1 s)) e
+two_span code s code' a' b' n None e = absurd (cc)
 
-numbered_span : (count code : ℕ) (s : List ℕ) (code' a' b' n : ℕ) → numbered count code s ≡ Row code' a' b' n
+numbered_span : (count code : ℕ) (s : List ℕ) (code' a' b' n : ℕ) → numbered count code s ≡ Some (line code' a' b' n)
     → Span s n
 unfolding numbered
 numbered_span zero code s code' a' b' n e = let h = closed_span code 0 0 1 s code' a' b' n e in
     (omega (arith, h.0), omega (arith, h.0, h.1))
 numbered_span (suc zero) code s code' a' b' n e = one_span code s code' a' b' n (number_of s) e
 numbered_span (suc (suc zero)) code s code' a' b' n e = two_span code s code' a' b' n (number_of s) e
-numbered_span (suc (suc (suc k))) code s code' a' b' n e = let z : ◌≡◌ {A = ℕ} 0 1 = cc in
-    absurd (omega arith)
+numbered_span (suc (suc (suc k))) code s code' a' b' n e = absurd (cc)
 
-pub row_span : (α : Alphabet) (s : List ℕ) (code a b n : ℕ) → line_of α s ≡ Row code a b n
+pub row_span : (α : Alphabet) (s : List ℕ) (code a b n : ℕ) → line_of α s ≡ Some (line code a b n)
     → (2 ≤ n) × (n ≤ length s)
 unfolding line_of
-row_span α [] code a b n e = let z : ◌≡◌ {A = ℕ} 0 1 = cc in absurd (omega arith)
+row_span α [] code a b n e = absurd (cc)
 row_span α (x ∷ s) code' a b n e = go (α.letter x) e
   where
-    go : (o : Option Letter) → given o Malformed (λ l. numbered (numbers l) (code l) s) ≡ Row code' a b n
+    go : (o : Maybe Letter) → given o None (λ l. numbered (numbers l) (code l) s) ≡ Some (line code' a b n)
         → Span s n
-    go none e = let z : ◌≡◌ {A = ℕ} 0 1 = cc in absurd (omega arith)
+    go none e = absurd (cc)
     go (some l) e = numbered_span (numbers l) (code l) s code' a b n e
 
 -- a buffer with the line of a row: its letter, its numbers, the line feed
@@ -292,7 +300,7 @@ pub row_letter : {A : Type 0} (n a b c : ℕ) → is_row (row n a b c) ≡ true
 unfolding numbers_after
 row_letter {A} n a b c e k = go (letter_among letters n) refl (row_parts n a b c e).1
   where
-    go : (o : Option Letter) → letter_among letters n ≡ o
+    go : (o : Maybe Letter) → letter_among letters n ≡ o
         → are_numbers (given o 3 (λ l. numbers l)) a b ≡ true → A
     go none q f = absurd (false≢true f)
     go (some l) q f = k l q f (eqb-true c 0 (row_parts n a b c e).0)

@@ -1,5 +1,5 @@
 -- Laws of the reader: what holds between two lines while a text is parsed. Assumes nothing.
-use mathlib.Core.Path.{◌≡◌, refl, ap}
+use mathlib.Core.Path.{◌≡◌, refl, sym, ap}
 use mathlib.Core.Bool.{true}
 use mathlib.Core.List.{List, [], ◌∷◌}
 use mathlib.Core.Logic.{◌⊎◌, ⊎_elim}
@@ -7,35 +7,35 @@ use Prim.Native.Nat.{ℕ, zero, suc, ◌+◌, ◌-◌, ◌*◌, ◌/◌, ◌%◌
 use native.Mathlib.Omega.{arith}
 use lib.ListN.{length, drop, length-append, length-drop, drop_of_length-le}
 use lib.Seq.{drop-cons, drop-drop, sets}
+use Rattle.std.specs.Prelude.{Option, Some, None, Ok, Err}
+use Rattle.language.specs.Refusals.{refusal}
+use Rattle.language.specs.declared.Line.{Line}
 use Rattle.language.specs.Results.{Checked, accept, refuse}
 use Rattle.language.specs.Filling.{before, tally, is_made, made_numbers}
-use Rattle.language.specs.declared.Filled.TheVariants.{Done, Refused}
 use Rattle.language.proofs.Filling.{Left, left_start, left_refused, left_unmade, left_done, left_full}
 use Rattle.language.proofs.Filling.{left_step}
 use Rattle.language.specs.Alphabet.{Alphabet}
-use Rattle.language.specs.TextLines.{line_of}
+use Rattle.language.specs.TextLines.{line as row_line, line_of}
 use Rattle.language.specs.Texts.{with_line, read_lines, read_text}
 use Rattle.text.specs.Places.{line_at}
-use Rattle.language.specs.declared.Line.{Line}
-use Rattle.language.specs.declared.Line.TheVariants.{Row, Malformed}
-use Rattle.text.proofs.Lines.{row_span}
+use Rattle.text.proofs.Lines.{line_injective, row_span}
 
 -- a line found at a place of a text, counted from there
-line_inv : {A : Type 0} (at code a b next : ℕ) (l : Line) → line_at at l ≡ Row code a b next
-    → ((n : ℕ) → l ≡ Row code a b n → next ≡ at + n → A) → A
-line_inv at code a b next (Row code' a' b' n) e k =
-    k n (let h₁ : code' ≡ code = cc in let h₂ : a' ≡ a = cc in let h₃ : b' ≡ b = cc in rw (h₁, h₂, h₃)) (cc)
-line_inv at code a b next Malformed e k = let z : ◌≡◌ {A = ℕ} 0 1 = cc in absurd (omega arith)
+line_inv : {A : Type 0} (at code a b next : ℕ) (l : Option Line) → line_at at l ≡ Some (row_line code a b next)
+    → ((n : ℕ) → l ≡ Some (row_line code a b n) → next ≡ at + n → A) → A
+line_inv at code a b next (Some l) e k = let h = line_injective e in
+    k l.end (rw (← h.0, ← h.1, ← h.2)) (sym h.3)
+line_inv at code a b next None e k = absurd (cc)
 
-bad_inv : (at : ℕ) (l : Line) → line_at at l ≡ Malformed → l ≡ Malformed
-bad_inv at (Row code a b n) e = let z : ◌≡◌ {A = ℕ} 0 1 = cc in absurd (omega arith)
-bad_inv at Malformed e = refl
+bad_inv : (at : ℕ) (l : Option Line) → line_at at l ≡ None → l ≡ None
+bad_inv at (Some l) e = absurd (cc)
+bad_inv at None e = refl
 
 -- one more row is counted
 tally_row : (code a b n : ℕ) (m : Checked (List ℕ))
     → tally 4 n (before (code ∷ a ∷ b ∷ 0 ∷ []) m) ≡ tally 4 (n + 1) m
 tally_row code a b n (accept ys) =
-    let e : n + suc (suc (suc (suc (length ys)))) / 4 ≡ n + 1 + length ys / 4 = omega arith in ap Done e
+    let e : n + suc (suc (suc (suc (length ys)))) / 4 ≡ n + 1 + length ys / 4 = omega arith in ap Ok e
 tally_row code a b n (refuse number line) = refl
 
 read_end : (α : Alphabet) (left line at : ℕ) (s : List ℕ)
@@ -55,18 +55,18 @@ module _ (α : Alphabet) (line at : ℕ) (s : List ℕ) (h : at < length s) wher
   unfolding read_lines
   read_here left = rw (drop-cons s at 0 h)
 
-  read_bad : (left : ℕ) → line_at at (line_of α (drop at s)) ≡ Malformed
+  read_bad : (left : ℕ) → line_at at (line_of α (drop at s)) ≡ None
       → read_lines α (suc left) line (drop at s) ≡ refuse 1 line
   read_bad left e = rw (read_here left, bad_inv at (line_of α (drop at s)) e)
 
-  read_row : (code a b next : ℕ) → line_at at (line_of α (drop at s)) ≡ Row code a b next → (left : ℕ)
+  read_row : (code a b next : ℕ) → line_at at (line_of α (drop at s)) ≡ Some (row_line code a b next) → (left : ℕ)
       → read_lines α (suc left) line (drop at s)
       ≡ before (code ∷ a ∷ b ∷ 0 ∷ []) (read_lines α left (line + 1) (drop next s))
   read_row code a b next e left = line_inv at code a b next (line_of α (drop at s)) e λ n q w.
       rw (read_here left, q, drop-drop n at s, ← w)
 
   -- a line takes two bytes at least, and ends in the text
-  line_span : (code a b next : ℕ) → line_at at (line_of α (drop at s)) ≡ Row code a b next
+  line_span : (code a b next : ℕ) → line_at at (line_of α (drop at s)) ≡ Some (row_line code a b next)
       → (at + 2 ≤ next) × (next ≤ length s)
   line_span code a b next e = line_inv at code a b next (line_of α (drop at s)) e λ n q w.
       let k = row_span α (drop at s) code a b n q in
@@ -95,7 +95,7 @@ parsing_start α text held =
     }
 
 module _ {α : Alphabet} {text held₀ held : List ℕ} {at line : ℕ} (p : Parsing α text held₀ held at line) where
-  pub parsing_done : length text ≤ at → Done (line - 1) ≡ tally 4 0 (read_text α text)
+  pub parsing_done : length text ≤ at → Ok (line - 1) ≡ tally 4 0 (read_text α text)
   parsing_done h = left_done p.left (read_end α (60001 - line) line at text h) (omega arith)
 
   pub parsing_full : length text ≤ at → is_made (read_text α text) ≡ true
@@ -106,7 +106,7 @@ module _ {α : Alphabet} {text held₀ held : List ℕ} {at line : ℕ} (p : Par
     over : 60000 < line → rows_from α text at line ≡ refuse 2 line
     over l = read_over α line at text h (60001 - line) (omega (arith, l, p.high))
 
-    pub parsing_over : 60000 < line → Refused 2 line ≡ tally 4 0 (read_text α text)
+    pub parsing_over : 60000 < line → Err (refusal 2 line) ≡ tally 4 0 (read_text α text)
     parsing_over l = left_refused p.left 2 line (over l)
 
     pub parsing_over_held : {A : Type 0} → 60000 < line → is_made (read_text α text) ≡ true → A
@@ -116,18 +116,18 @@ module _ {α : Alphabet} {text held₀ held : List ℕ} {at line : ℕ} (p : Par
       more : 60001 - line ≡ suc (60000 - line)
       more = omega (arith, l)
 
-      bad : line_at at (line_of α (drop at text)) ≡ Malformed → rows_from α text at line ≡ refuse 1 line
+      bad : line_at at (line_of α (drop at text)) ≡ None → rows_from α text at line ≡ refuse 1 line
       bad e = rw more (read_bad α line at text h (60000 - line) e)
 
-      pub parsing_bad : line_at at (line_of α (drop at text)) ≡ Malformed
-          → Refused 1 line ≡ tally 4 0 (read_text α text)
+      pub parsing_bad : line_at at (line_of α (drop at text)) ≡ None
+          → Err (refusal 1 line) ≡ tally 4 0 (read_text α text)
       parsing_bad e = left_refused p.left 1 line (bad e)
 
-      pub parsing_bad_held : {A : Type 0} → line_at at (line_of α (drop at text)) ≡ Malformed
+      pub parsing_bad_held : {A : Type 0} → line_at at (line_of α (drop at text)) ≡ None
           → is_made (read_text α text) ≡ true → A
       parsing_bad_held e m = left_unmade p.left 1 line (bad e) m
 
-      module _ (code a b next : ℕ) (e : line_at at (line_of α (drop at text)) ≡ Row code a b next) where
+      module _ (code a b next : ℕ) (e : line_at at (line_of α (drop at text)) ≡ Some (row_line code a b next)) where
         -- the row fits the buffer
         pub parsing_fits : (2 * length text ≤ length held₀) ⊎ (240000 ≤ length held₀)
             → (line - 1) * 4 + 4 ≤ length held
@@ -164,9 +164,9 @@ whole_before code a b (accept ys) e = omega (arith, e)
 whole_before code a b (refuse number line) e = refl
 
 whole_line : (line : ℕ) (rest : ℕ → Checked (List ℕ)) → ((n : ℕ) → length (made_numbers (rest n)) % 4 ≡ 0)
-    → (l : Line) → length (made_numbers (with_line line rest l)) % 4 ≡ 0
-whole_line line rest f (Row code a b n) = whole_before code a b (rest n) (f n)
-whole_line line rest f Malformed = refl
+    → (l : Option Line) → length (made_numbers (with_line line rest l)) % 4 ≡ 0
+whole_line line rest f (Some l) = whole_before l.code l.first l.second (rest l.end) (f l.end)
+whole_line line rest f None = refl
 
 pub read_whole : (α : Alphabet) (left line : ℕ) (s : List ℕ)
     → length (made_numbers (read_lines α left line s)) % 4 ≡ 0
@@ -194,7 +194,7 @@ read_short α (suc left) line [] = (omega arith, omega arith)
 read_short α (suc left) line (x ∷ s) =
     go (line_of α (x ∷ s)) refl (λ n. read_short α left (line + 1) (drop n (x ∷ s)))
   where
-    go : (l : Line) → line_of α (x ∷ s) ≡ l
+    go : (l : Option Line) → line_of α (x ∷ s) ≡ l
         → ((n : ℕ) → (length (made_numbers (read_lines α left (line + 1) (drop n (x ∷ s)))) ≤ 2 * length
         (drop n (x ∷ s))) × (length (made_numbers (read_lines α left (line + 1) (drop n (x ∷ s)))) ≤ 4 *
         left))
@@ -202,19 +202,21 @@ read_short α (suc left) line (x ∷ s) =
         ≤ 2 * suc (length s))
         × (length (made_numbers (with_line line (λ used. read_lines α left (line + 1) (drop used (x ∷ s))) l))
         ≤ 4 * suc left)
-    go (Row code a b n) e ih =
-        let k = row_span α (x ∷ s) code a b n e in
+    go (Some l) e ih =
+        let n = l.end in
+        let xs : List ℕ = l.code ∷ l.first ∷ l.second ∷ 0 ∷ [] in
+        let k = row_span α (x ∷ s) l.code l.first l.second n e in
         let m = read_lines α left (line + 1) (drop n (x ∷ s)) in (
           omega (
             arith,
-            short_before (code ∷ a ∷ b ∷ 0 ∷ []) m (2 * length (drop n (x ∷ s))) (ih n).0,
+            short_before xs m (2 * length (drop n (x ∷ s))) (ih n).0,
             length-drop n (x ∷ s),
             k.0,
             k.1,
           ),
-          omega (arith, short_before (code ∷ a ∷ b ∷ 0 ∷ []) m (4 * left) (ih n).1),
+          omega (arith, short_before xs m (4 * left) (ih n).1),
         )
-    go Malformed e ih = (omega arith, omega arith)
+    go None e ih = (omega arith, omega arith)
 
 -- so they fit the buffer that they are held in
 pub read_fits : (α : Alphabet) (text held : List ℕ) → (2 * length text ≤ length held) ⊎ (240000 ≤ length held)

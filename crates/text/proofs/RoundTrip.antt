@@ -1,7 +1,7 @@
 -- Under every alphabet with the two laws, reading what the writer made gives the rows back, and writing what the reader
 -- read gives the text back. Assumes nothing.
 use mathlib.Core.Path.{◌≡◌, refl, sym, ap, ◌∙◌}
-use mathlib.Core.Option.{Option, none, some}
+use mathlib.Core.Option.{Option as Maybe, none, some}
 use mathlib.Core.Bool.{Bool, true, false, cond, false≢true}
 use mathlib.Core.List.{List, [], ◌∷◌, ◌++◌, append_assoc}
 use Prim.Native.Nat.{ℕ, zero, suc, ◌+◌, ◌%◌, ◌≤◌}
@@ -10,6 +10,8 @@ use borrow.Author.Tests.{le-leb, leb-true, eq-eqb, eqb-true}
 use lib.Dec.{eqb, leb}
 use lib.ListN.{length, take, drop, length-append, take-append-drop}
 use lib.Seq.{take-add, drop-append_seam, drop-append-add}
+use Rattle.std.specs.Prelude.{Option, Some, None}
+use Rattle.language.specs.declared.Line.{Line}
 use Rattle.language.specs.Results.{Checked, accept, refuse}
 use Rattle.language.specs.Filling.{before}
 use Rattle.language.specs.Lists.{given}
@@ -18,15 +20,11 @@ use Rattle.language.specs.Alphabet.{Alphabet, Laws}
 use Rattle.language.proofs.Letters.{among_code, code_among}
 use Rattle.language.proofs.Rows.{are_numbers, is_row_by}
 use Rattle.language.specs.Decimals.{digits}
-use Rattle.language.specs.TextLines.{number_of, closed, then_line, numbered, line_of}
+use Rattle.language.specs.TextLines.{line as row_line, number_of, closed, then_line, numbered, line_of}
 use Rattle.language.specs.TextLines.{line_from, line_text}
 use Rattle.language.specs.Texts.{with_line, read_lines, read_text, write_lines, write_rows}
-use Rattle.language.specs.declared.Taken.{Taken}
-use Rattle.language.specs.declared.Taken.TheVariants.{Number, NoNumber}
-use Rattle.language.specs.declared.Line.{Line}
-use Rattle.language.specs.declared.Line.TheVariants.{Row, Malformed}
 use Rattle.fields.proofs.Digits.{number_back, number_forth}
-use Rattle.text.proofs.Lines.{text_by, row_letter}
+use Rattle.text.proofs.Lines.{line_injective, text_by, row_letter}
 use Rattle.text.proofs.Parsing.{read_whole_rows}
 use Rattle.text.proofs.Formatting.{rows_are_whole}
 use Rattle.language.proofs.Booleans.{and_inv}
@@ -34,22 +32,22 @@ use Rattle.language.proofs.Booleans.{and_inv}
 -- ---- after its first byte, a line that was read is the line of its row
 
 module _ {A : Type 0} where
-  no_row : {code a b n : ℕ} → Malformed ≡ Row code a b n → A
-  no_row e = let z : ◌≡◌ {A = ℕ} 0 1 = cc in absurd (omega arith)
+  no_row : {code a b n : ℕ} → None ≡ Some (row_line code a b n) → A
+  no_row e = absurd (cc)
 
   no_rows : {number line : ℕ} {xs : List ℕ} → refuse number line ≡ accept xs → A
-  no_rows e = let z : ◌≡◌ {A = ℕ} 0 1 = cc in absurd (omega arith)
+  no_rows e = absurd (cc)
 
   -- what closes a line is a line feed
   closed_inv : (code a b used : ℕ) (s : List ℕ) (code' a' b' n : ℕ)
-      → closed code a b used s ≡ Row code' a' b' n
+      → closed code a b used s ≡ Some (row_line code' a' b' n)
       → (code ≡ code' → a ≡ a' → b ≡ b' → n ≡ used + 1 → take 1 s ≡ 10 ∷ [] → A) → A
   unfolding closed
   closed_inv code a b used [] code' a' b' n e k = no_row e
   closed_inv code a b used (x ∷ s) code' a' b' n e k = go (eqb x 10) refl e
     where
-      go : (t : Bool) → eqb x 10 ≡ t → cond t (Row code a b (used + 1)) Malformed ≡ Row code' a' b' n → A
-      go true q e = k (cc) (cc) (cc) (cc) (ap (λ (y : ℕ). y ∷ []) (eqb-true x 10 q))
+      go : (t : Bool) → eqb x 10 ≡ t → cond t (Some (row_line code a b (used + 1))) None ≡ Some (row_line code' a' b' n) → A
+      go true q e = let h = line_injective e in k h.0 h.1 h.2 (sym h.3) (ap (λ (y : ℕ). y ∷ []) (eqb-true x 10 q))
       go false q e = no_row e
 
 -- what a line that was read says, after its first byte `x`: its row has the letter's code `y` and the `k` numbers that
@@ -58,15 +56,18 @@ abbrev Numbered : ℕ → ℕ → ℕ → List ℕ → ℕ → ℕ → ℕ → �
 Numbered k y x s c a b n = (c ≡ y) × (are_numbers k a b ≡ true) × (take n (x ∷ s) ≡ line_from x k a b)
 
 module _ (y x : ℕ) (s : List ℕ) (c a b n : ℕ) where
-  none_back : closed y 0 0 1 s ≡ Row c a b n → Numbered 0 y x s c a b n
+  none_back : closed y 0 0 1 s ≡ Some (row_line c a b n) → Numbered 0 y x s c a b n
   none_back e = closed_inv y 0 0 1 s c a b n e λ p q r w f.
       let z : n ≡ 2 = omega (arith, w) in
       rw (z, ← p, ← q, ← r) (refl, refl, ap (λ (t : List ℕ). x ∷ t) f)
 
-  one_back : (t : Taken) → number_of s ≡ t
-      → then_line (λ v m. closed y v 0 (1 + m) (drop m s)) t ≡ Row c a b n → Numbered 1 y x s c a b n
-  one_back NoNumber g e = no_row e
-  one_back (Number v m) g e = closed_inv y v 0 (1 + m) (drop m s) c a b n e λ p q r w f.
+  one_back : (t : Option (ℕ × ℕ)) → number_of s ≡ t
+      → then_line (λ v m. closed y v 0 (1 + m) (drop m s)) t ≡ Some (row_line c a b n) → Numbered 1 y x s c a b n
+  one_back None g e = no_row e
+  one_back (Some t) g e =
+      let v = t.0 in
+      let m = t.1 in
+      closed_inv y v 0 (1 + m) (drop m s) c a b n e λ p q r w f.
       let h = number_back s v m g in
       let z : n ≡ suc (m + 1) = omega (arith, w) in
       rw (z, ← p, ← q, ← r) (
@@ -75,11 +76,13 @@ module _ (y x : ℕ) (s : List ℕ) (c a b n : ℕ) where
         ap (λ (t : List ℕ). x ∷ t) (take-add m 1 s ∙ rw (h.0, f)),
       )
 
-  second_back : (v m : ℕ) → number_of s ≡ Number v m → (t : Taken) → number_of (drop m s) ≡ t
-      → then_line (λ u l. closed y v u (1 + m + l) (drop (m + l) s)) t ≡ Row c a b n
+  second_back : (v m : ℕ) → number_of s ≡ Some (v, m) → (t : Option (ℕ × ℕ)) → number_of (drop m s) ≡ t
+      → then_line (λ u l. closed y v u (1 + m + l) (drop (m + l) s)) t ≡ Some (row_line c a b n)
       → Numbered 2 y x s c a b n
-  second_back v m g NoNumber g' e = no_row e
-  second_back v m g (Number u l) g' e =
+  second_back v m g None g' e = no_row e
+  second_back v m g (Some t) g' e =
+      let u = t.0 in
+      let l = t.1 in
       closed_inv y v u (1 + m + l) (drop (m + l) s) c a b n e λ p q r w f.
       let h = number_back s v m g in
       let i = number_back (drop m s) u l g' in
@@ -90,13 +93,13 @@ module _ (y x : ℕ) (s : List ℕ) (c a b n : ℕ) where
         ap (λ (t : List ℕ). x ∷ t) (take-add (m + l) 1 s ∙ rw (take-add m l s, h.0, i.0, f)),
       )
 
-  two_back : (t : Taken) → number_of s ≡ t
+  two_back : (t : Option (ℕ × ℕ)) → number_of s ≡ t
       → then_line (λ v m. then_line (λ u l. closed y v u (1 + m + l) (drop (m + l) s)) (number_of (drop m s)))
-      t ≡ Row c a b n → Numbered 2 y x s c a b n
-  two_back NoNumber g e = no_row e
-  two_back (Number v m) g e = second_back v m g (number_of (drop m s)) refl e
+      t ≡ Some (row_line c a b n) → Numbered 2 y x s c a b n
+  two_back None g e = no_row e
+  two_back (Some t) g e = second_back t.0 t.1 g (number_of (drop t.1 s)) refl e
 
-numbered_back : (k y x : ℕ) (s : List ℕ) (c a b n : ℕ) → numbered k y s ≡ Row c a b n
+numbered_back : (k y x : ℕ) (s : List ℕ) (c a b n : ℕ) → numbered k y s ≡ Some (row_line c a b n)
     → Numbered k y x s c a b n
 unfolding numbered
 numbered_back zero y x s c a b n e = none_back y x s c a b n e
@@ -111,14 +114,14 @@ letter_row l a b e = is_row_by (code l) a b 0 ∙ rw (code_among l, e)
 
 -- ---- and a line that was written reads back
 
-closed_forth : (code a b used : ℕ) (t : List ℕ) → closed code a b used (10 ∷ t) ≡ Row code a b (used + 1)
+closed_forth : (code a b used : ℕ) (t : List ℕ) → closed code a b used (10 ∷ t) ≡ Some (row_line code a b (used + 1))
 unfolding closed
 closed_forth code a b used t = refl
 
 module _ (y a b : ℕ) (t : List ℕ) where
   one_forth : a ≤ 65535
       → numbered 1 y ((9 ∷ digits a) ++ (10 ∷ []) ++ t)
-      ≡ Row y a 0 (suc (length ((9 ∷ digits a) ++ (10 ∷ []))))
+      ≡ Some (row_line y a 0 (suc (length ((9 ∷ digits a) ++ (10 ∷ [])))))
   unfolding numbered
   one_forth h =
       let w : (9 ∷ digits a) ++ (10 ∷ []) ++ t ≡ (9 ∷ digits a) ++ (10 ∷ t) =
@@ -136,7 +139,7 @@ module _ (y a b : ℕ) (t : List ℕ) where
 
   two_forth : a ≤ 65535 → b ≤ 65535
       → numbered 2 y ((9 ∷ digits a) ++ ((9 ∷ digits b) ++ (10 ∷ [])) ++ t)
-      ≡ Row y a b (suc (length ((9 ∷ digits a) ++ ((9 ∷ digits b) ++ (10 ∷ [])))))
+      ≡ Some (row_line y a b (suc (length ((9 ∷ digits a) ++ ((9 ∷ digits b) ++ (10 ∷ []))))))
   unfolding numbered
   two_forth h i =
       let X : List ℕ = 9 ∷ digits a in
@@ -157,13 +160,13 @@ module _ (y a b : ℕ) (t : List ℕ) where
         n,
       )
 
-  none_forth : numbered 0 y (10 ∷ t) ≡ Row y 0 0 2
+  none_forth : numbered 0 y (10 ∷ t) ≡ Some (row_line y 0 0 2)
   unfolding numbered
   none_forth = closed_forth y 0 0 1 t
 
 -- after its first byte, a line with the numbers of a row is read as that row
 numbered_forth : (k y x a b : ℕ) (t : List ℕ) → are_numbers k a b ≡ true
-    → numbered k y (drop 1 (line_from x k a b ++ t)) ≡ Row y a b (length (line_from x k a b))
+    → numbered k y (drop 1 (line_from x k a b ++ t)) ≡ Some (row_line y a b (length (line_from x k a b)))
 numbered_forth zero y x a b t f =
     let p : a ≡ 0 = eqb-true a 0 (and_inv (eqb a 0) (eqb b 0) f).0 in
     let q : b ≡ 0 = eqb-true b 0 (and_inv (eqb a 0) (eqb b 0) f).1 in
@@ -186,14 +189,14 @@ before_inv xs ys (refuse number line) e k = no_rows e
 
 module _ {α : Alphabet} (laws : Laws α) where
   -- a line that was read is the line of a row
-  line_back : (s : List ℕ) (c a b n : ℕ) → line_of α s ≡ Row c a b n
+  line_back : (s : List ℕ) (c a b n : ℕ) → line_of α s ≡ Some (row_line c a b n)
       → (is_row (row c a b 0) ≡ true) × (take n s ≡ line_text α c a b)
   unfolding line_of
   line_back [] c a b n e = no_row e
   line_back (x ∷ s) c a b n e = go (α.letter x) refl e
     where
-      go : (o : Option Letter) → α.letter x ≡ o
-          → given o Malformed (λ l. numbered (numbers l) (code l) s) ≡ Row c a b n
+      go : (o : Maybe Letter) → α.letter x ≡ o
+          → given o None (λ l. numbered (numbers l) (code l) s) ≡ Some (row_line c a b n)
           → (is_row (row c a b 0) ≡ true) × (take n (x ∷ s) ≡ line_text α c a b)
       go none q e = no_row e
       go (some l) q e =
@@ -212,13 +215,17 @@ module _ {α : Alphabet} (laws : Laws α) where
   lines_back (suc left) line (x ∷ s) rows e =
       go (line_of α (x ∷ s)) refl e (λ n zs f. lines_back left (line + 1) (drop n (x ∷ s)) zs f)
     where
-      go : (l : Line) → line_of α (x ∷ s) ≡ l
+      go : (l : Option Line) → line_of α (x ∷ s) ≡ l
           → with_line line (λ used. read_lines α left (line + 1) (drop used (x ∷ s))) l ≡ accept rows
           → ((n : ℕ) (zs : List ℕ) → read_lines α left (line + 1) (drop n (x ∷ s)) ≡ accept zs
           → write_lines α left (line + 1) zs ≡ accept (drop n (x ∷ s)))
           → write_lines α (suc left) line rows ≡ accept (x ∷ s)
-      go Malformed q e ih = no_rows e
-      go (Row c a b n) q e ih =
+      go None q e ih = no_rows e
+      go (Some l) q e ih =
+          let c = l.code in
+          let a = l.first in
+          let b = l.second in
+          let n = l.end in
           before_inv (c ∷ a ∷ b ∷ 0 ∷ []) rows (read_lines α left (line + 1) (drop n (x ∷ s))) e λ zs f h.
           let w = line_back (x ∷ s) c a b n q in
           rw (h, w.0, ih n zs f, ← w.1, take-append-drop n (x ∷ s))
@@ -230,7 +237,7 @@ module _ {α : Alphabet} (laws : Laws α) where
 
   -- a row's line is read as that row
   line_forth : (n a b c : ℕ) (t : List ℕ) → is_row (row n a b c) ≡ true
-      → (c ≡ 0) × (line_of α (line_text α n a b ++ t) ≡ Row n a b (length (line_text α n a b)))
+      → (c ≡ 0) × (line_of α (line_text α n a b ++ t) ≡ Some (row_line n a b (length (line_text α n a b))))
   unfolding line_of
   line_forth n a b c t e = row_letter n a b c e λ l q f z. (
     z,
@@ -239,7 +246,7 @@ module _ {α : Alphabet} (laws : Laws α) where
   )
 
   -- a text that begins with a line is not empty, and reading the line leaves what follows
-  read_first : (left line c a b n : ℕ) (s : List ℕ) → line_of α s ≡ Row c a b n
+  read_first : (left line c a b n : ℕ) (s : List ℕ) → line_of α s ≡ Some (row_line c a b n)
       → read_lines α (suc left) line s ≡ before (c ∷ a ∷ b ∷ 0 ∷ []) (read_lines α left (line + 1) (drop n s))
   unfolding read_lines line_of
   read_first left line c a b n [] e = no_row e
