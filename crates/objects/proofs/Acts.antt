@@ -7,7 +7,8 @@ use mathlib.Core.Option.{Option, none, some}
 use mathlib.Core.List.{List, map}
 use Prim.Native.Nat.{ℕ, suc, ◌+◌, ◌-◌, ◌*◌, ◌≤◌, ◌<◌}
 use native.Mathlib.Omega.{arith}
-use borrow.Author.Tests.{ne_eqb, eqb-true, eqb-false}
+use borrow.Author.Tests.{eqb-true, eqb-false}
+use Rattle.std.specs.Prelude.{None, Some}
 use lib.Dec.{eqb}
 use lib.ListN.{length, get_or, take, drop, set, length-set}
 use lib.Seq.{get_or-set_other, drop-set-lt}
@@ -79,19 +80,9 @@ spot {T} {s} p j f h l =
 
 -- the same of an object that a word leads to
 pub reached_spot : {T s : List ℕ} {made f o : ℕ} (w : ℕ) → PreObject T s made → f < 256
-    → reached made (meaning w) ≡ At o → Spot T s o f
+    → At o ≡ reached made (meaning w) → Spot T s o f
 reached_spot {made = made} {f} {o} w p l e = let x = reached_at made (meaning w) o e in
     rw x.3 (spot p x.0 f x.2 l)
-
--- the index of a field
-pub index_none : (T s : List ℕ) (o f : ℕ) → get_or T (get_or s o 0 * 576 + f) 0 ≡ 0 → 0 ≡ field_index T s o f
-unfolding field_index
-index_none T s o f e = rw e
-
-pub index_some : (T s : List ℕ) (o f : ℕ) → (get_or T (get_or s o 0 * 576 + f) 0 ≡ 0 → ⊥)
-    → o + get_or T (get_or s o 0 * 576 + f) 0 ≡ field_index T s o f
-unfolding field_index
-index_some T s o f h = rw (ne_eqb (get_or T (get_or s o 0 * 576 + f) 0) 0 h)
 
 -- a value that leads to no object is stuck
 pub load_nothing : {T s : List ℕ} {v : Meaning} {f : ℕ} {n : Counts} → NoObject n.made v
@@ -328,61 +319,62 @@ module _ {A s : List ℕ} {v : Meaning} {c : ℕ} {n : Counts} where
 
 -- ---- by the word of the object, and its index in the store
 
-module _ (T s : List ℕ) (o f : ℕ) {at : ℕ} (e : at ≡ field_index T s o f) where
-  pub index_lacks : at ≡ 0 → get_or T (get_or s o 0 * 576 + f) 0 ≡ 0
+module _ (T s : List ℕ) (o f : ℕ) where
+  abbrev place_in : ℕ
+  place_in = get_or T (get_or s o 0 * 576 + f) 0
+
+  index_lacks : None ≡ field_index T s o f → place_in ≡ 0
   unfolding field_index
-  index_lacks z = go (eqb (get_or T (get_or s o 0 * 576 + f) 0) 0) refl (sym e ∙ z)
+  index_lacks e = go (eqb place_in 0) refl e
     where
-      go : (b : Bool) → eqb (get_or T (get_or s o 0 * 576 + f) 0) 0 ≡ b
-          → cond b 0 (o + get_or T (get_or s o 0 * 576 + f) 0) ≡ 0 → get_or T (get_or s o 0 * 576 + f) 0 ≡ 0
-      go true q h = eqb-true (get_or T (get_or s o 0 * 576 + f) 0) 0 q
-      go false q h = omega arith
+      go : (b : Bool) → eqb place_in 0 ≡ b → None ≡ cond b None (Some (o + place_in)) → place_in ≡ 0
+      go true q h = eqb-true place_in 0 q
+      go false q h = cc
 
-  pub index_has : (at ≡ 0 → ⊥)
-      → (get_or T (get_or s o 0 * 576 + f) 0 ≡ 0 → ⊥) × (at ≡ o + get_or T (get_or s o 0 * 576 + f) 0)
+  index_has : {at : ℕ} → Some at ≡ field_index T s o f → (place_in ≡ 0 → ⊥) × (at ≡ o + place_in)
   unfolding field_index
-  index_has z = go (eqb (get_or T (get_or s o 0 * 576 + f) 0) 0) refl e
+  index_has {at} e = go (eqb place_in 0) refl e
     where
-      go : (b : Bool) → eqb (get_or T (get_or s o 0 * 576 + f) 0) 0 ≡ b
-          → at ≡ cond b 0 (o + get_or T (get_or s o 0 * 576 + f) 0)
-          → (get_or T (get_or s o 0 * 576 + f) 0 ≡ 0 → ⊥) × (at ≡ o + get_or T (get_or s o 0 * 576 + f) 0)
-      go true q h = absurd (z h)
-      go false q h = (λ y. eqb-false (get_or T (get_or s o 0 * 576 + f) 0) 0 q y, h)
+      go : (b : Bool) → eqb place_in 0 ≡ b → Some at ≡ cond b None (Some (o + place_in))
+          → (place_in ≡ 0 → ⊥) × (at ≡ o + place_in)
+      go true q h = cc
+      go false q h = (λ y. eqb-false place_in 0 q y, cc)
 
-  pub index_within : Spot T s o f → (at ≡ 0 → ⊥) → at < length s
-  index_within p z = omega (arith, p.room, p.place, (index_has z).1)
+  pub index_within : {at : ℕ} → Some at ≡ field_index T s o f → Spot T s o f → at < length s
+  index_within e p = omega (arith, p.room, p.place, (index_has e).1)
 
-module _ {T s : List ℕ} (w : ℕ) {o f at : ℕ} {n : Counts} (q : reached n.made (meaning w) ≡ At o)
-    (l : f < 256) (e : at ≡ field_index T s o f) where
-  pub load_lacks : at ≡ 0 → PostLoad T s (meaning w) f n (outcome 17179869184)
-  load_lacks z = let x = reached_at n.made (meaning w) o q in
-      load_missing x.0 x.1 x.2 l (rw x.3 at (index_lacks T s o f e z))
+module _ {T s : List ℕ} (w : ℕ) {o f : ℕ} {n : Counts} (q : At o ≡ reached n.made (meaning w)) (l : f < 256) where
+  pub load_lacks : None ≡ field_index T s o f → PostLoad T s (meaning w) f n (outcome 17179869184)
+  load_lacks e = let x = reached_at n.made (meaning w) o q in
+      load_missing x.0 x.1 x.2 l (rw x.3 at (index_lacks T s o f e))
 
-  pub load_has : {r : ℕ} → (at ≡ 0 → ⊥) → get_or s at 0 < 4294967296
-      → r ≡ word (value_of_number (get_or s at 0))
-      → PostLoad T s (meaning w) f n (outcome r)
-  load_has z m d =
-      let x = reached_at n.made (meaning w) o q in
-      let y = index_has T s o f e z in
-      let a : at ≡ x.0 * object_width + get_or T (get_or s (x.0 * object_width) 0 * 576 + f) 0 =
-      rw x.3 at y.1 in
-      rw (d, a) (load_at x.0 x.1 x.2 l (rw x.3 at y.0) (rw a at m))
+  pub save_lacks : {v : Meaning} → None ≡ field_index T s o f
+      → PostSave T s s (meaning w) v f n (outcome 17179869184)
+  save_lacks e = let x = reached_at n.made (meaning w) o q in
+      save_missing x.0 x.1 x.2 l (rw x.3 at (index_lacks T s o f e))
 
-  pub save_lacks : {v : Meaning} → at ≡ 0 → PostSave T s s (meaning w) v f n (outcome 17179869184)
-  save_lacks z = let x = reached_at n.made (meaning w) o q in
-      save_missing x.0 x.1 x.2 l (rw x.3 at (index_lacks T s o f e z))
+  module _ {at : ℕ} (e : Some at ≡ field_index T s o f) where
+    pub load_has : {r : ℕ} → get_or s at 0 < 4294967296
+        → r ≡ word (value_of_number (get_or s at 0))
+        → PostLoad T s (meaning w) f n (outcome r)
+    load_has m d =
+        let x = reached_at n.made (meaning w) o q in
+        let y = index_has T s o f e in
+        let a : at ≡ x.0 * object_width + get_or T (get_or s (x.0 * object_width) 0 * 576 + f) 0 =
+        rw x.3 at y.1 in
+        rw (d, a) (load_at x.0 x.1 x.2 l (rw x.3 at y.0) (rw a at m))
 
-  pub save_has : (u : ℕ) {s' : List ℕ} → (at ≡ 0 → ⊥) → u < 17179869184 → Small (meaning u)
-      → s' ≡ set s at (value_number (meaning u))
-      → PostSave T s s' (meaning w) (meaning u) f n (outcome u)
-  save_has u z short m d =
-      let x = reached_at n.made (meaning w) o q in
-      let y = index_has T s o f e z in
-      let a : at ≡ x.0 * object_width + get_or T (get_or s (x.0 * object_width) 0 * 576 + f) 0 =
-      rw x.3 at y.1 in
-      rw (d, a) (save_at u x.0 x.1 x.2 l (rw x.3 at y.0) short m)
+    pub save_has : (u : ℕ) {s' : List ℕ} → u < 17179869184 → Small (meaning u)
+        → s' ≡ set s at (value_number (meaning u))
+        → PostSave T s s' (meaning w) (meaning u) f n (outcome u)
+    save_has u short m d =
+        let x = reached_at n.made (meaning w) o q in
+        let y = index_has T s o f e in
+        let a : at ≡ x.0 * object_width + get_or T (get_or s (x.0 * object_width) 0 * 576 + f) 0 =
+        rw x.3 at y.1 in
+        rw (d, a) (save_at u x.0 x.1 x.2 l (rw x.3 at y.0) short m)
 
-module _ {A s : List ℕ} (w : ℕ) {c o : ℕ} (n : Counts) (q : reached n.made (meaning w) ≡ At o) where
+module _ {A s : List ℕ} (w : ℕ) {c o : ℕ} (n : Counts) (q : At o ≡ reached n.made (meaning w)) where
   pub cast_room : PreCast A s c n.made
       → (o + object_width ≤ length s) × (get_or s o 0 ≤ 64) × (get_or s o 0 < length A)
   cast_room p =

@@ -204,7 +204,7 @@ change_fill p j h =
 
 -- ---- by the word of the object, and its index in the store
 
-module _ {R T s : List ℕ} (w : ℕ) {o d : ℕ} (n : Counts) (q : reached n.made (meaning w) ≡ At o) where
+module _ {R T s : List ℕ} (w : ℕ) {o d : ℕ} (n : Counts) (q : At o ≡ reached n.made (meaning w)) where
   pub reached_spots : PreChange R T s w d n → Spots R T s o d
   reached_spots p = let x = reached_at n.made (meaning w) o q in rw x.3 (spots p.new x.0 x.2)
 

@@ -23,7 +23,7 @@ use Rattle.language.specs.State.{Value as Meaning, null, object}
 use Rattle.objects.specs.Values.{Outcome, Counts, outcome, meaning, reached}
 use Rattle.objects.specs.declared.Reached.TheVariants.{At}
 use Rattle.objects.specs.Values.{bare}
-use Rattle.objects.specs.declared.Target.TheVariants.{Body, Fails}
+use Rattle.std.specs.Prelude.{Ok, Err}
 use Rattle.objects.specs.Holding.{Holding}
 use Rattle.objects.specs.Acts.{PreFind, PostFind, NotFound, LetterFrom, MethodsOf, target_at}
 use Rattle.objects.specs.Acts.{target_in}
@@ -118,12 +118,12 @@ module _ {T M s : List ℕ} {m made : ℕ} (p : PreFind T M s m made) (j : ℕ) 
 not_found : {T M s : List ℕ} {v : Meaning} {m given : ℕ} {n : Counts} {calls : ℕ} {o : Outcome} {r : ℕ}
     → outcome r ≡ o
     → ((pre : PreFind T M s m n.made) → NotFound pre.P s v m given n calls o)
-    → PostFind T M s v m given n calls (Fails r)
+    → PostFind T M s v m given n calls (Err r)
 not_found e f = record { is = λ pre. rw e (f pre) }
 
 pub find_nothing : {T M s : List ℕ} {v : Meaning} {m given : ℕ} {n : Counts} {calls : ℕ}
     → NoObject n.made v
-    → PostFind T M s v m given n calls (Fails 17179869184)
+    → PostFind T M s v m given n calls (Err 17179869184)
 unfolding bare
 find_nothing is_truth = not_found outcome_stuck (λ pre.
     record {
@@ -139,7 +139,7 @@ find_nothing {s = s} {n = n} (is_past {j} h) = not_found outcome_stuck (λ pre.
     })
 
 module _ {T M s : List ℕ} {v : Meaning} {m given : ℕ} {n : Counts} {calls : ℕ} where
-  pub find_null : v ≡ null → PostFind T M s v m given n calls (Fails 17179869185)
+  pub find_null : v ≡ null → PostFind T M s v m given n calls (Err 17179869185)
   unfolding bare
   find_null e = not_found outcome_null_pointer (λ pre.
       record {
@@ -150,7 +150,7 @@ module _ {T M s : List ℕ} {v : Meaning} {m given : ℕ} {n : Counts} {calls : 
 
   -- the receiver is object j
   module _ (j : ℕ) (e : v ≡ object j) (h : j < n.made) (l : m < 256) where
-    find-missing : number_in T s j m ≡ 0 → PostFind T M s v m given n calls (Fails 17179869184)
+    find-missing : number_in T s j m ≡ 0 → PostFind T M s v m given n calls (Err 17179869184)
     unfolding bare
     find-missing z = not_found outcome_stuck (λ pre.
         let q = none_sought pre.holding (get_or s (j * object_width) 0) m (pre.holding.sound.declared j h)
@@ -164,7 +164,7 @@ module _ {T M s : List ℕ} {v : Meaning} {m given : ℕ} {n : Counts} {calls : 
     module _ (z : number_in T s j m ≡ 0 → ⊥) where
       -- another number of arguments than the method has parameters
       find-other : (get_or M ((number_in T s j m - 1) * 4 + 2) 0 ≡ given → ⊥)
-          → PostFind T M s v m given n calls (Fails 17179869184)
+          → PostFind T M s v m given n calls (Err 17179869184)
       unfolding bare
       find-other t = not_found outcome_stuck (λ pre.
           let y = sought pre.holding (get_or s (j * object_width) 0) m (pre.holding.sound.declared j h) l
@@ -179,7 +179,7 @@ module _ {T M s : List ℕ} {v : Meaning} {m given : ℕ} {n : Counts} {calls : 
           })
 
       module _ (t : get_or M ((number_in T s j m - 1) * 4 + 2) 0 ≡ given) where
-        find-deep : 64 ≤ calls → PostFind T M s v m given n calls (Fails 17179869199)
+        find-deep : 64 ≤ calls → PostFind T M s v m given n calls (Err 17179869199)
         unfolding bare call_at
         find-deep a = not_found outcome_deep (λ pre.
             let y = sought pre.holding (get_or s (j * object_width) 0) m (pre.holding.sound.declared j h)
@@ -195,7 +195,7 @@ module _ {T M s : List ℕ} {v : Meaning} {m given : ℕ} {n : Counts} {calls : 
             })
 
         find-found : calls < 64
-            → PostFind T M s v m given n calls (Body (get_or M ((number_in T s j m - 1) * 4 + 3) 0))
+            → PostFind T M s v m given n calls (Ok (get_or M ((number_in T s j m - 1) * 4 + 3) 0))
         find-found a = record {
           is = λ pre.
               let y = sought pre.holding (get_or s (j * object_width) 0) m
@@ -225,7 +225,7 @@ module _ {T M s : List ℕ} {v : Meaning} {m given : ℕ} {n : Counts} {calls : 
         allowed : (i : ℕ) → number_in T s j m ≡ suc i → (a b : Bool)
             → eqb (get_or M (i * 4 + 2) 0) given ≡ a → leb 64 calls ≡ b
             → PostFind T M s v m given n calls
-            (cond a (cond b (Fails 17179869199) (Body (get_or M (i * 4 + 3) 0))) (Fails 17179869184))
+            (cond a (cond b (Err 17179869199) (Ok (get_or M (i * 4 + 3) 0))) (Err 17179869184))
         allowed i q true true x y =
             let o : number_in T s j m - 1 ≡ i = omega arith in
             find-deep (λ z. omega arith) (rw o (eqb-true (get_or M (i * 4 + 2) 0) given x))
@@ -243,43 +243,44 @@ module _ {T M s : List ℕ} {v : Meaning} {m given : ℕ} {n : Counts} {calls : 
         go (suc i) q = allowed i q (eqb (get_or M (i * 4 + 2) 0) given) (leb 64 calls) refl refl
 
 pub find_at : {T M s : List ℕ} (w : ℕ) {o m given : ℕ} {n : Counts} {calls : ℕ}
-    → reached n.made (meaning w) ≡ At o → m < 256
+    → At o ≡ reached n.made (meaning w) → m < 256
     → PostFind T M s (meaning w) m given n calls (target_in T M (get_or s o 0) m given calls)
 find_at w {o} {n = n} q l = let x = reached_at n.made (meaning w) o q in
     rw x.3 (find_in x.0 x.1 x.2 l)
 
 pub find_room : {T M s : List ℕ} {m made o : ℕ} (w : ℕ) → PreFind T M s m made
-    → reached made (meaning w) ≡ At o → (o + object_width ≤ length s) × MethodsOf T M (get_or s o 0) m
+    → At o ≡ reached made (meaning w) → (o + object_width ≤ length s) × MethodsOf T M (get_or s o 0) m
 find_room {made = made} {o} w p q = let x = reached_at made (meaning w) o q in
     rw x.3 (omega (arith, p.holding.sound.stored, x.2), methods_of p x.0 x.2)
 
--- what the tables tell, by the tests that are made
-module _ (T M : List ℕ) (c m given calls : ℕ) where
-  abbrev pub stored_number : ℕ
-  stored_number = get_or T (c * 576 + 256 + m) 0
+-- what the tables tell, by the tests that are made: r is what the table of classes has for the method
+module _ (T M : List ℕ) (c m given calls : ℕ) {r : ℕ} (e : r ≡ get_or T (c * 576 + (256 + m)) 0) where
+  number_read : r ≡ get_or T (c * 576 + 256 + m) 0
+  number_read = let z : c * 576 + (256 + m) ≡ c * 576 + 256 + m = omega arith in rw z at e
 
-  pub target_none : stored_number ≡ 0 → Fails 17179869184 ≡ target_in T M c m given calls
+  by_number : target_in T M c m given calls ≡ target_at M r given calls
   unfolding target_in
-  target_none e = rw e
+  by_number = rw number_read
 
-  module _ (z : stored_number ≡ 0 → ⊥) where
-    pub number_suc : stored_number ≡ suc (stored_number - 1)
+  pub target_none : r ≡ 0 → Err 17179869184 ≡ target_in T M c m given calls
+  target_none z = sym (by_number ∙ ap (λ (n : ℕ). target_at M n given calls) z)
+
+  module _ (z : r ≡ 0 → ⊥) where
+    number_suc : r ≡ suc (r - 1)
     number_suc = omega (arith, z)
 
-    by_number : target_in T M c m given calls ≡ allowed_in M (stored_number - 1) given calls
-    unfolding target_in
-    by_number = ap (λ (n : ℕ). target_at M n given calls) number_suc
+    pub method_within : MethodsOf T M c m → (r - 1) * 4 + 4 ≤ length M
+    method_within h = h.methods (r - 1) (sym number_read ∙ number_suc)
 
-    pub target_other : (get_or M ((stored_number - 1) * 4 + 2) 0 ≡ given → ⊥)
-        → Fails 17179869184 ≡ target_in T M c m given calls
-    target_other h = sym (by_number ∙ rw (ne_eqb (get_or M ((stored_number - 1) * 4 + 2) 0) given h))
+    by_suc : target_in T M c m given calls ≡ allowed_in M (r - 1) given calls
+    by_suc = by_number ∙ ap (λ (n : ℕ). target_at M n given calls) number_suc
 
-    module _ (e : get_or M ((stored_number - 1) * 4 + 2) 0 ≡ given) where
-      pub target_deep : 64 ≤ calls → Fails 17179869199 ≡ target_in T M c m given calls
-      target_deep h = sym (by_number
-          ∙ rw (eq-eqb (get_or M ((stored_number - 1) * 4 + 2) 0) given e, le-leb 64 calls h))
+    pub target_other : (get_or M ((r - 1) * 4 + 2) 0 ≡ given → ⊥) → Err 17179869184 ≡ target_in T M c m given calls
+    target_other h = sym (by_suc ∙ rw (ne_eqb (get_or M ((r - 1) * 4 + 2) 0) given h))
 
-      pub target_body : calls < 64
-          → Body (get_or M ((stored_number - 1) * 4 + 3) 0) ≡ target_in T M c m given calls
-      target_body h = sym (by_number
-          ∙ rw (eq-eqb (get_or M ((stored_number - 1) * 4 + 2) 0) given e, lt-leb 64 calls h))
+    module _ (q : get_or M ((r - 1) * 4 + 2) 0 ≡ given) where
+      pub target_deep : 64 ≤ calls → Err 17179869199 ≡ target_in T M c m given calls
+      target_deep h = sym (by_suc ∙ rw (eq-eqb (get_or M ((r - 1) * 4 + 2) 0) given q, le-leb 64 calls h))
+
+      pub target_body : calls < 64 → Ok (get_or M ((r - 1) * 4 + 3) 0) ≡ target_in T M c m given calls
+      target_body h = sym (by_suc ∙ rw (eq-eqb (get_or M ((r - 1) * 4 + 2) 0) given q, lt-leb 64 calls h))

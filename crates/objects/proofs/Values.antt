@@ -8,7 +8,7 @@ use mathlib.Core.Logic.{◌⊎◌, inl, inr}
 use mathlib.Core.List.{List}
 use Prim.Native.Nat.{ℕ, zero, suc, ◌+◌, ◌-◌, ◌*◌, ◌/◌, ◌%◌, ◌≤◌, ◌<◌}
 use native.Mathlib.Omega.{arith}
-use lib.ListN.{length, get_or, set, length-set}
+use lib.ListN.{length, get_or, set, length-set, replicate, length-replicate, get_or-replicate}
 use Rattle.objects.proofs.Nth.{lt_or}
 use Rattle.objects.specs.declared.Value.TheVariants.{Null, Truth, Object}
 use Rattle.objects.specs.declared.Reached.TheVariants.{Null as ReachedNull, Nothing, At}
@@ -19,6 +19,9 @@ use Rattle.objects.specs.Values.{failure}
 use Rattle.objects.specs.declared.Value.{Value}
 use Rattle.objects.specs.Acts.{Written, first_of, IsWord}
 use lib.Seq.{get_or-set_same, get_or-set_other}
+use borrow.Rule.Slice.PartMut.{put_mid}
+use Rattle.std.proofs.Common.{rules}
+use Rattle.std.proofs.lemmas.List.{places}
 use Rattle.language.specs.Results.{ok, stop, bind}
 use Rattle.language.specs.State.{Value as Meaning, null, truth, object, State, Stop, Out}
 use Rattle.language.specs.Store.{value_number, value_of_number}
@@ -123,25 +126,25 @@ stored_object n h =
     ap Object z ∙ ap (λ (k : ℕ). case_of (value_of_number k)) (sym e)
 
 -- what a value leads to
-pub reached_null : (made : ℕ) (m : Meaning) → reached made m ≡ ReachedNull → m ≡ null
+pub reached_null : (made : ℕ) (m : Meaning) → ReachedNull ≡ reached made m → m ≡ null
 reached_null made null e = refl
-reached_null made (truth b) e = let z : ◌≡◌ {A = ℕ} 0 1 = cc in absurd (omega arith)
-reached_null made (object j) e = absurd (go (ltb j made) e)
+reached_null made (truth b) e = cc
+reached_null made (object j) e = go (ltb j made) e
   where
-    go : (t : Bool) → cond t (At (j * object_width)) Nothing ≡ ReachedNull → ⊥
-    go true e = let z : ◌≡◌ {A = ℕ} 0 1 = cc in omega arith
-    go false e = let z : ◌≡◌ {A = ℕ} 0 1 = cc in omega arith
+    go : (t : Bool) → ReachedNull ≡ cond t (At (j * object_width)) Nothing → object j ≡ null
+    go true e = cc
+    go false e = cc
 
-pub reached_at : (made : ℕ) (m : Meaning) (o : ℕ) → reached made m ≡ At o
+pub reached_at : (made : ℕ) (m : Meaning) (o : ℕ) → At o ≡ reached made m
     → (j : ℕ) × (m ≡ object j) × (j < made) × (o ≡ j * object_width)
-reached_at made null o e = let z : ◌≡◌ {A = ℕ} 0 1 = cc in absurd (omega arith)
-reached_at made (truth b) o e = let z : ◌≡◌ {A = ℕ} 0 1 = cc in absurd (omega arith)
+reached_at made null o e = cc
+reached_at made (truth b) o e = cc
 reached_at made (object j) o e = go (ltb j made) refl e
   where
-    go : (t : Bool) → ltb j made ≡ t → cond t (At (j * object_width)) Nothing ≡ At o
+    go : (t : Bool) → ltb j made ≡ t → At o ≡ cond t (At (j * object_width)) Nothing
         → (i : ℕ) × (object j ≡ object i) × (i < made) × (o ≡ i * object_width)
-    go true q e = let z : j * object_width ≡ o = cc in (j, refl, ltb-true j made q, sym z)
-    go false q e = let z : ◌≡◌ {A = ℕ} 0 1 = cc in absurd (omega arith)
+    go true q e = (j, refl, ltb-true j made q, cc)
+    go false q e = cc
 
 -- the index of an object that is there
 pub reached_object : {made j : ℕ} (m : Meaning) → case_of m ≡ Object j → j ≤ made
@@ -188,14 +191,14 @@ pub data NoObject (made : ℕ) : Meaning → Type 0 where
   is_truth : {b : Bool} → NoObject made (truth b)
   is_past : {j : ℕ} → made ≤ j → NoObject made (object j)
 
-pub reached_nothing : (made : ℕ) (m : Meaning) → reached made m ≡ Nothing → NoObject made m
-reached_nothing made null e = let z : ◌≡◌ {A = ℕ} 0 1 = cc in absurd (omega arith)
+pub reached_nothing : (made : ℕ) (m : Meaning) → Nothing ≡ reached made m → NoObject made m
+reached_nothing made null e = cc
 reached_nothing made (truth b) e = is_truth
 reached_nothing made (object j) e = go (ltb j made) refl e
   where
-    go : (t : Bool) → ltb j made ≡ t → cond t (At (j * object_width)) Nothing ≡ Nothing
+    go : (t : Bool) → ltb j made ≡ t → Nothing ≡ cond t (At (j * object_width)) Nothing
         → NoObject made (object j)
-    go true q e = let z : ◌≡◌ {A = ℕ} 0 1 = cc in absurd (omega arith)
+    go true q e = cc
     go false q e = is_past (ltb-false j made q)
 
 -- a result whose slots are not looked at
@@ -279,6 +282,28 @@ written_then {l} {l₁} {l₂} base from i j f low high a b = record {
         → (x < base + from) ⊎ (base + from + (i - from) ≤ x)
     far x (inl h) = inl h
     far x (inr h) = inr (omega arith)
+
+-- a part of a list overwritten
+pub written_part : (l ys : List ℕ) (a k : ℕ) (f : ℕ → ℕ) → a + k ≤ length l → length ys ≡ k
+    → ((i : ℕ) → i < k → get_or ys i 0 ≡ f i) → Written l (put_mid a k l ys) a k f
+written_part l ys a k f h e g = record {
+  long = search (rules, places);
+  inside = λ i b. inside i b;
+  outside = λ x o. outside x o;
+}
+  where
+    inside : (i : ℕ) → i < k → get_or (put_mid a k l ys) (a + i) 0 ≡ f i
+    inside i b = let q = g i b in search (rules, places)
+
+    outside : (x : ℕ) → (x < a) ⊎ (a + k ≤ x) → get_or (put_mid a k l ys) x 0 ≡ get_or l x 0
+    outside x (inl b) = search (rules, places)
+    outside x (inr b) = search (rules, places)
+
+-- the same with one number
+pub written_same : {l ys : List ℕ} {m v : ℕ} (a k : ℕ) (f : ℕ → ℕ) → a + k ≤ length l → ys ≡ replicate m v
+    → m ≡ k → ((i : ℕ) → i < k → v ≡ f i) → Written l (put_mid a k l ys) a k f
+written_same {l} {ys} {v = v} a k f h e q g = written_part l ys a k f h (rw (e, q) (length-replicate k v))
+    (λ i b. rw (e, q) (get_or-replicate k i v 0 b ∙ g i b))
 
 -- ---- outcomes
 

@@ -1,5 +1,6 @@
 -- What the acts on objects require and ensure: each is that of the language's definition.
 use Rattle.std.specs.Prelude.{◌≡◌, cond, List, ℕ, zero, suc, ◌+◌, ◌-◌, ◌*◌, ◌≤◌, ◌<◌, eqb, leb, length, get_or, drop, ◌⊎◌}
+use Rattle.std.specs.Prelude.{Option, None, Some, Result, Ok, Err}
 use Rattle.std.proofs.Math.Option.{some}
 use Rattle.language.specs.Lists.{nth}
 use Rattle.language.specs.Frames.{Frame}
@@ -12,8 +13,6 @@ use Rattle.language.specs.Evaluation.{Limits, do_get, do_set, do_cast}
 use Rattle.language.specs.State.{Object as Thing}
 use Rattle.language.specs.Evaluation.{do_change, do_new, do_call, with_limits, call_at}
 use Rattle.language.specs.Store.{value_number, capacity}
-use Rattle.objects.specs.declared.Target.{Target}
-use Rattle.objects.specs.declared.Target.TheVariants.{Body, Fails}
 use Rattle.objects.specs.Values.{Small, SmallOutcome, told, bare, Outcome, Gave, Counts, outcome}
 use Rattle.objects.specs.Values.{Answer, answer, meaning, no_value}
 use Rattle.objects.specs.Holding.{first_value_of, Sound, Holding, view}
@@ -115,9 +114,9 @@ pub record Spot (T s : List ℕ) (o f : ℕ) : Type 0 where
   pub name : f < 256
   pub place : get_or T (get_or s o 0 * class_width + f) 0 ≤ of_check.fields
 
--- The index of a field; 0 where the class lacks it.
-unfoldable pub field_index : List ℕ → List ℕ → ℕ → ℕ → ℕ
-field_index T s o f = let p = get_or T (get_or s o 0 * class_width + f) 0 in cond (eqb p 0) 0 (o + p)
+-- The index of a field, if the class has it.
+unfoldable pub field_index : List ℕ → List ℕ → ℕ → ℕ → Option ℕ
+field_index T s o f = let p = get_or T (get_or s o 0 * class_width + f) 0 in cond (eqb p 0) None (Some (o + p))
 
 pub record PostLoad (T s : List ℕ) (v : Meaning) (f : ℕ) (n : Counts) (r : Outcome) : Type 0 where
   pub acts : (w : PreObject T s n.made) → Acts w.P s s n (answer r n) (λ t. do_get (world w.P) f v t)
@@ -167,19 +166,19 @@ pub record MethodsOf (T M : List ℕ) (c m : ℕ) : Type 0 where
   pub methods : (i : ℕ) → get_or T (c * class_width + methods_from + m) 0 ≡ suc i
       → i * method_width + method_width ≤ length M
 
--- What the tables tell of a call of method m on an object of class c.
-abbrev pub allowed_in : List ℕ → ℕ → ℕ → ℕ → Target
+-- What the tables tell of a call of method m on an object of class c: the row where the body begins, or an outcome.
+abbrev pub allowed_in : List ℕ → ℕ → ℕ → ℕ → Result ℕ ℕ
 allowed_in M i given calls =
     cond (eqb (get_or M (i * method_width + parameters_place) 0) given)
-    (cond (leb most_calls calls) (Fails (no_value + deep_stop))
-    (Body (get_or M (i * method_width + body_place) 0)))
-    (Fails no_value)
+    (cond (leb most_calls calls) (Err (no_value + deep_stop))
+    (Ok (get_or M (i * method_width + body_place) 0)))
+    (Err no_value)
 
-abbrev pub target_at : List ℕ → ℕ → ℕ → ℕ → Target
-target_at M zero given calls = Fails no_value
+abbrev pub target_at : List ℕ → ℕ → ℕ → ℕ → Result ℕ ℕ
+target_at M zero given calls = Err no_value
 target_at M (suc i) given calls = allowed_in M i given calls
 
-unfoldable pub target_in : List ℕ → List ℕ → ℕ → ℕ → ℕ → ℕ → Target
+unfoldable pub target_in : List ℕ → List ℕ → ℕ → ℕ → ℕ → ℕ → Result ℕ ℕ
 target_in T M c m given calls = target_at M (get_or T (c * class_width + methods_from + m) 0) given calls
 
 -- The method found, which has as many parameters as there are arguments: its receiver's object, and its body, which is in
@@ -208,11 +207,11 @@ pub record NotFound (P : List Class) (s : List ℕ) (v : Meaning) (m given : ℕ
       vs (view P s n γ steps))
   pub fails : (w : Meaning) → r ≡ Gave w → ⊥
 
-abbrev pub FindIs : List ℕ → List ℕ → List ℕ → List Class → Meaning → ℕ → ℕ → Counts → ℕ → Target → Type 0
-FindIs R E s P v m given n calls (Body b) = Found R E s P v m given n calls b
-FindIs R E s P v m given n calls (Fails o) = NotFound P s v m given n calls (outcome o)
+abbrev pub FindIs : List ℕ → List ℕ → List ℕ → List Class → Meaning → ℕ → ℕ → Counts → ℕ → Result ℕ ℕ → Type 0
+FindIs R E s P v m given n calls (Ok b) = Found R E s P v m given n calls b
+FindIs R E s P v m given n calls (Err o) = NotFound P s v m given n calls (outcome o)
 
-pub record PostFind (T M s : List ℕ) (v : Meaning) (m given : ℕ) (n : Counts) (calls : ℕ) (r : Target) : Type
-    0
+pub record PostFind (T M s : List ℕ) (v : Meaning) (m given : ℕ) (n : Counts) (calls : ℕ) (r : Result ℕ ℕ) :
+    Type 0
   where
     pub is : (w : PreFind T M s m n.made) → FindIs w.R w.E s w.P v m given n calls r

@@ -21,7 +21,7 @@ ghost use Rattle.objects.specs.Acts.{LetterFrom, SomeLetter, PreFind, PostFind};
 use language::{
     BODY_PLACE, CLASS_WIDTH, COUNT_PLACE, DEEP_STOP, FULL_STOP, METHOD_WIDTH, METHODS_FROM,
     MOST_CALLS, MOST_OBJECTS, OBJECT_WIDTH, PARAMETERS_PLACE, ROOT_PLACE, ROWS_PLACE, SPENT_STOP,
-    Type, class_entry, letter_at,
+    Type, class_entry, first, letter_at,
 };
 
 // A word is its kind times KIND and its content, which is below KIND. Null is 0; the truth values and the first word of an
@@ -49,9 +49,6 @@ pub const DEEP: u64 = STUCK + DEEP_STOP as u64;
 
 pub const FULL: u64 = STUCK + FULL_STOP as u64;
 
-// How many numbers of an object are for fields; the first is its class.
-const FIELD_PLACES: usize = OBJECT_WIDTH - 1;
-
 // A value. Object(j) is the j-th object made, from 1.
 #[derive(Clone, Copy)]
 pub enum Value {
@@ -69,22 +66,15 @@ pub enum Reached {
     At(usize),
 }
 
-// The row where the body of the method sought begins, or how the call ends without one.
-#[derive(Drop)]
-pub enum Target {
-    Body(usize),
-    Fails(u64),
-}
-
 // The value that a stored number stands for.
 fn decode(n: u32) -> Value
     ensures { result ≡ case_of (value_of_number n) }
 {
     match n {
+        0 => Value::Null,
         1 => Value::Truth(false),
         2 => Value::Truth(true),
-        3..=4294967295 => Value::Object(n - 2),
-        _ => Value::Null,
+        _ => Value::Object(n - 2),
     }
 }
 
@@ -104,10 +94,10 @@ pub fn value_of(w: u64) -> Value
 fn object_of(j: u32) -> Value
     ensures { result ≡ case_of (numbered j) }
 {
-    if j == 0 {
-        return Value::Null;
+    match j {
+        0 => Value::Null,
+        _ => Value::Object(j),
     }
-    Value::Object(j)
 }
 
 // The word of the value that a store has at an index.
@@ -115,11 +105,10 @@ fn read_value(store: &[u32], at: usize) -> u64
     requires { at < length store.now }
     ensures { result ≡ word (value_of_number (get_or store.now at 0)) }
 {
-    let v = decode(store[at]);
-    match v {
+    match decode(store[at]) {
         Value::Null => NULL,
         Value::Truth(b) => truth_word(b),
-        Value::Object(j) => OBJECT + j as u64,
+        Value::Object(j) => OBJECT + u64::from(j),
     }
 }
 
@@ -129,6 +118,9 @@ pub fn truth_word(b: bool) -> u64
 {
     if b { TRUE } else { FALSE }
 }
+
+// The stored number of null.
+const NULL_NUMBER: u32 = 0;
 
 // The stored number of a truth value.
 fn truth_number(b: bool) -> u32
@@ -142,18 +134,11 @@ fn write_value(store: &mut [u32], at: usize, w: u64)
     requires { (at < length store.old) × Small (meaning w) }
     ensures { store.new ≡ set store.old at (value_number (meaning w)) }
 {
-    let v = value_of(w);
-    match v {
-        Value::Null => {
-            store[at] = 0;
-        }
-        Value::Truth(b) => {
-            store[at] = truth_number(b);
-        }
-        Value::Object(j) => {
-            store[at] = j + 2;
-        }
-    }
+    store[at] = match value_of(w) {
+        Value::Null => NULL_NUMBER,
+        Value::Truth(b) => truth_number(b),
+        Value::Object(j) => j + 2,
+    };
 }
 
 // What a value leads to, where `made` objects are made.
@@ -161,16 +146,10 @@ fn reach(w: u64, made: u32) -> Reached
     requires { made ≤ 65535 }
     ensures { result ≡ reached made (meaning w) }
 {
-    let v = value_of(w);
-    match v {
+    match value_of(w) {
         Value::Null => Reached::Null,
-        Value::Truth(_) => Reached::Nothing,
-        Value::Object(j) => {
-            if made < j {
-                return Reached::Nothing;
-            }
-            Reached::At((j - 1) as usize * OBJECT_WIDTH)
-        }
+        Value::Object(j) if j <= made => Reached::At((j - 1) as usize * OBJECT_WIDTH),
+        _ => Reached::Nothing,
     }
 }
 
@@ -186,8 +165,8 @@ fn first_of_field(rows: &[u32], tables: &[u16], c: usize, i: usize) -> u64
     requires { First rows.now tables.now c i }
     ensures { result ≡ word (first_value_of (field_type_in rows.now tables.now c i)) }
 {
-    let r = tables[c * CLASS_WIDTH + ROWS_PLACE + i] as usize;
-    first_value(rows[r * 4 + 1])
+    let row = usize::from(tables[c * CLASS_WIDTH + ROWS_PLACE + i]);
+    first_value(first(rows, row))
 }
 
 // The fields of the object at o from place `from` on get the first values that class c gives them, unused ones null.
@@ -196,17 +175,12 @@ fn fill(rows: &[u32], tables: &[u16], store: &mut [u32], o: usize, c: usize, fro
     ensures { Filled rows.now tables.now store.old store.new
         o c from }
 {
-    let count = tables[c * CLASS_WIDTH + COUNT_PLACE] as usize;
-    let mut i = from;
-    while i < count {
-        let w = first_of_field(rows, tables, c, i);
-        write_value(store, o + 1 + i, w);
-        i += 1;
+    let count = usize::from(tables[c * CLASS_WIDTH + COUNT_PLACE]);
+    let used = from.max(count);
+    for i in from..used {
+        write_value(store, o + 1 + i, first_of_field(rows, tables, c, i));
     }
-    while i < FIELD_PLACES {
-        write_value(store, o + 1 + i, NULL);
-        i += 1;
-    }
+    store[o + 1 + used..o + OBJECT_WIDTH].fill(NULL_NUMBER);
 }
 
 // One of the three counts becomes x.
@@ -240,7 +214,7 @@ pub fn new_object(
     fill(rows, tables, store, o, c as usize, 0);
     store[o] = c;
     put(tally, 1, made + 1);
-    OBJECT + (made as u64 + 1)
+    OBJECT + (u64::from(made) + 1)
 }
 
 // R: an object changed to class d. The fields of its own class's root stay, the others have their first values; where d
@@ -257,8 +231,7 @@ pub fn change_class(
     ensures { PostChange rows.now tables.now store.old
         store.new (meaning w) d (counts_in tally.old) (answered result tally.new) }
 {
-    let to = reach(w, tally[1]);
-    match to {
+    match reach(w, tally[1]) {
         Reached::Null => w,
         Reached::Nothing => STUCK,
         Reached::At(o) => change_at(rows, tables, store, tally, w, o, d),
@@ -276,7 +249,7 @@ fn change_at(
     d: u32,
 ) -> u64
     requires pre_change { PreChange rows.now tables.now store.old w d (counts_in tally.old) }
-    requires w_value { reached (counts_in tally.old).made (meaning w) ≡ At o }
+    requires w_value { At o ≡ reached (counts_in tally.old).made (meaning w) }
     ensures { PostChange rows.now tables.now store.old
         store.new (meaning w) d (counts_in tally.old) (answered result tally.new) }
 {
@@ -294,17 +267,16 @@ fn change_at(
     w
 }
 
-// The index in the store of the field named f of the object at an index; 0 where its class lacks it.
-fn find_field(tables: &[u16], store: &[u32], o: usize, f: usize) -> usize
+// The index in the store of the field named f of the object at an index, if its class has it.
+#[tactic(auto, unfolding(crate::specs::Acts::field_index))]
+fn find_field(tables: &[u16], store: &[u32], o: usize, f: usize) -> Option<usize>
     requires { Spot tables.now store.now o f }
     ensures { result ≡ field_index tables.now store.now o f }
 {
-    let c = store[o];
-    let p = class_entry(tables, c, f) as usize;
-    if p == 0 {
-        return 0;
+    match class_entry(tables, store[o], f) as usize {
+        0 => None,
+        place => Some(o + place),
     }
-    o + p
 }
 
 // G: the field named f of an object.
@@ -314,17 +286,13 @@ pub fn load(tables: &[u16], store: &[u32], tally: &[u32; 3], w: u64, f: usize) -
     ensures { PostLoad tables.now store.now (meaning w) f
         (counts_in tally.now) (outcome result) }
 {
-    let to = reach(w, tally[1]);
-    match to {
+    match reach(w, tally[1]) {
         Reached::Null => NULL_POINTER,
         Reached::Nothing => STUCK,
-        Reached::At(o) => {
-            let at = find_field(tables, store, o, f);
-            if at == 0 {
-                return STUCK;
-            }
-            read_value(store, at)
-        }
+        Reached::At(o) => match find_field(tables, store, o, f) {
+            Some(at) => read_value(store, at),
+            None => STUCK,
+        },
     }
 }
 
@@ -335,18 +303,16 @@ pub fn save(tables: &[u16], store: &mut [u32], tally: &[u32; 3], w: u64, v: u64,
     ensures { PostSave tables.now store.old store.new (meaning w)
         (meaning v) f (counts_in tally.now) (outcome result) }
 {
-    let to = reach(w, tally[1]);
-    match to {
+    match reach(w, tally[1]) {
         Reached::Null => NULL_POINTER,
         Reached::Nothing => STUCK,
-        Reached::At(o) => {
-            let at = find_field(tables, store, o, f);
-            if at == 0 {
-                return STUCK;
+        Reached::At(o) => match find_field(tables, store, o, f) {
+            Some(at) => {
+                write_value(store, at, v);
+                v
             }
-            write_value(store, at, v);
-            v
-        }
+            None => STUCK,
+        },
     }
 }
 
@@ -357,17 +323,11 @@ pub fn cast_object(above: &[u64], store: &[u32], tally: &[u32; 3], w: u64, c: u3
     ensures { PostCast above.now store.now (meaning w) c
         (counts_in tally.now) (outcome result) }
 {
-    let to = reach(w, tally[1]);
-    match to {
+    match reach(w, tally[1]) {
         Reached::Null => w,
         Reached::Nothing => STUCK,
-        Reached::At(o) => {
-            let k = store[o];
-            if classes::is_below(above, k, c) {
-                return w;
-            }
-            BAD_CAST
-        }
+        Reached::At(o) if classes::is_below(above, store[o], c) => w,
+        Reached::At(_) => BAD_CAST,
     }
 }
 
@@ -383,8 +343,8 @@ pub fn find_letter(rows: &[u32], row: usize, letter: u32) -> usize
     b
 }
 
-// Q, once receiver and arguments have values: the body of the receiver's method m. With another number of arguments than
-// the method has parameters the call is stuck.
+// Q, once receiver and arguments have values: the row where the body of the receiver's method m begins, or the outcome of a
+// call without one. With another number of arguments than the method has parameters the call is stuck.
 pub fn find_body(
     tables: &[u16],
     methods: &[u16],
@@ -394,34 +354,40 @@ pub fn find_body(
     m: usize,
     given: usize,
     calls: u32,
-) -> Target
+) -> Result<usize, u64>
     requires { PreFind tables.now methods.now store.now m (counts_in tally.now).made }
     ensures { PostFind tables.now methods.now store.now (meaning w)
         m given (counts_in tally.now) calls result }
 {
-    let to = reach(w, tally[1]);
-    match to {
-        Reached::Null => Target::Fails(NULL_POINTER),
-        Reached::Nothing => Target::Fails(STUCK),
+    match reach(w, tally[1]) {
+        Reached::Null => Err(NULL_POINTER),
+        Reached::Nothing => Err(STUCK),
         Reached::At(o) => find_in(tables, methods, store[o], m, given, calls),
     }
 }
 
 // The body of method m of class c, where the call has as many arguments as it has parameters and may be made.
-fn find_in(tables: &[u16], methods: &[u16], c: u32, m: usize, given: usize, calls: u32) -> Target
+fn find_in(
+    tables: &[u16],
+    methods: &[u16],
+    c: u32,
+    m: usize,
+    given: usize,
+    calls: u32,
+) -> Result<usize, u64>
     requires { MethodsOf tables.now methods.now c m }
     ensures { result ≡ target_in tables.now methods.now c m given calls }
 {
-    let r = tables[c as usize * CLASS_WIDTH + METHODS_FROM + m] as usize;
-    if r == 0 {
-        return Target::Fails(STUCK);
+    let number = class_entry(tables, c, METHODS_FROM + m) as usize;
+    if number == 0 {
+        return Err(STUCK);
     }
-    let i = (r - 1) * METHOD_WIDTH;
-    if methods[i + PARAMETERS_PLACE] as usize != given {
-        return Target::Fails(STUCK);
+    let method = (number - 1) * METHOD_WIDTH;
+    if usize::from(methods[method + PARAMETERS_PLACE]) != given {
+        return Err(STUCK);
     }
     if calls >= MOST_CALLS {
-        return Target::Fails(DEEP);
+        return Err(DEEP);
     }
-    Target::Body(methods[i + BODY_PLACE] as usize)
+    Ok(usize::from(methods[method + BODY_PLACE]))
 }

@@ -1,89 +1,34 @@
+use mathlib.Core.Path.{◌∙◌, sym}
 use native.Mathlib.Omega.{arith}
-use Rattle.objects.proofs.Finding.{number_suc, target_none, target_other, target_deep}
-use Rattle.objects.proofs.Finding.{target_body}
+use Rattle.objects.proofs.Finding.{method_within, target_none, target_other, target_deep, target_body}
 use Rattle.objects.proofs.find_in.Goals as goal
 
-pub returns-then-r-eq0 : goal.returns-then-r-eq0
-returns-then-r-eq0 c = target_none c.args.tables.now c.args.methods.now
-    c.args.c c.args.m c.args.given
-    c.args.calls c.if-r-eq0.true
+pub returns-then-number-eq0 : goal.returns-then-number-eq0
+returns-then-number-eq0 c =
+    target_none _ c.args.methods.now _ _ _ _ c.class_entry-number.ensures c.if-number-eq0.true
 
-pub overflow_mul-i : goal.overflow_mul-i
-overflow_mul-i c = omega (
+pub bounds-methods-method : goal.bounds-methods-method
+bounds-methods-method c = omega (
   arith,
-  c.requires.methods _
-      (number_suc c.args.tables.now c.args.methods.now
-      c.args.c c.args.m c.args.given
-      c.args.calls c.if-r-eq0.false),
-  c.well_formed.1.0,
+  method_within _ _ _ _ c.args.given c.args.calls c.class_entry-number.ensures c.if-number-eq0.false
+      c.requires,
 )
 
-pub overflow_add-i : goal.overflow_add-i
-overflow_add-i c = omega (
-  arith,
-  c.requires.methods _
-      (number_suc c.args.tables.now c.args.methods.now
-      c.args.c c.args.m c.args.given
-      c.args.calls c.if-r-eq0.false),
-  c.well_formed.1.0,
-)
-
-pub offset_bounds-methods-i : goal.offset_bounds-methods-i
-offset_bounds-methods-i c = omega (
-  arith,
-  c.requires.methods _
-      (number_suc c.args.tables.now c.args.methods.now
-      c.args.c c.args.m c.args.given
-      c.args.calls c.if-r-eq0.false),
-  c.well_formed.1.0,
-)
-
-pub bounds-methods-i : goal.bounds-methods-i
-bounds-methods-i c = omega (
-  arith,
-  c.requires.methods _
-      (number_suc c.args.tables.now
-      c.args.methods.now
-      c.args.c c.args.m
-      c.args.given c.args.calls
-      c.if-r-eq0.false),
-)
-
-pub returns-then-methods-i : goal.returns-then-methods-i
-returns-then-methods-i c = target_other c.args.tables.now c.args.methods.now c.args.c c.args.m
-    c.args.given c.args.calls c.if-r-eq0.false c.if-methods-i.true
+pub returns-then-from-given : goal.returns-then-from-given
+returns-then-from-given c = target_other _ _ _ _ _ c.args.calls c.class_entry-number.ensures
+    c.if-number-eq0.false (λ e. c.if-from-given.true (c.from.ensures ∙ e))
 
 pub returns-then-calls-ge-MOST_CALLS : goal.returns-then-calls-ge-MOST_CALLS
-returns-then-calls-ge-MOST_CALLS c = target_deep c.args.tables.now c.args.methods.now c.args.c c.args.m
-    c.args.given c.args.calls c.if-r-eq0.false
-    c.if-methods-i.false c.if-calls-ge-MOST_CALLS.true
+returns-then-calls-ge-MOST_CALLS c = target_deep _ _ _ _ _ _ c.class_entry-number.ensures
+    c.if-number-eq0.false (sym c.from.ensures ∙ c.if-from-given.false) c.if-calls-ge-MOST_CALLS.true
 
-pub overflow_add-result : goal.overflow_add-result
-overflow_add-result c = omega (
+pub bounds-methods-method-2 : goal.bounds-methods-method-2
+bounds-methods-method-2 c = omega (
   arith,
-  c.requires.methods _ (number_suc c.args.tables.now c.args.methods.now
-      c.args.c c.args.m c.args.given c.args.calls
-      c.if-r-eq0.false),
-  c.well_formed.1.0,
-)
-
-pub offset_bounds-methods-i-2 : goal.offset_bounds-methods-i-2
-offset_bounds-methods-i-2 c = omega (
-  arith,
-  c.requires.methods _ (number_suc c.args.tables.now c.args.methods.now
-      c.args.c c.args.m c.args.given c.args.calls
-      c.if-r-eq0.false),
-  c.well_formed.1.0,
-)
-
-pub bounds-methods-i-2 : goal.bounds-methods-i-2
-bounds-methods-i-2 c = omega (
-  arith,
-  c.requires.methods _ (number_suc c.args.tables.now c.args.methods.now
-      c.args.c c.args.m c.args.given c.args.calls c.if-r-eq0.false),
+  method_within _ _ _ _ c.args.given c.args.calls c.class_entry-number.ensures c.if-number-eq0.false
+      c.requires,
 )
 
 pub returns : goal.returns
-returns c = target_body c.args.tables.now c.args.methods.now c.args.c c.args.m
-    c.args.given c.args.calls c.if-r-eq0.false c.if-methods-i.false
-    c.if-calls-ge-MOST_CALLS.false
+returns c = rw c.from-2.ensures (target_body _ _ _ _ _ _ c.class_entry-number.ensures c.if-number-eq0.false
+    (sym c.from.ensures ∙ c.if-from-given.false) c.if-calls-ge-MOST_CALLS.false)

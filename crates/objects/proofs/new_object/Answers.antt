@@ -29,5 +29,5 @@ pub shape_of-store : goal.shape_of-store
 shape_of-store c = simp length-set c.fill.ensures.long
 
 pub returns : goal.returns
-returns c = new_told c.args.tally.now c.put.ensures c.if-made-ge-MOST_OBJECTS.false c.if-store-o.false
-    c.fill.ensures
+returns c = rw c.from.ensures
+    (new_told c.args.tally.now c.put.ensures c.if-made-ge-MOST_OBJECTS.false c.if-store-o.false c.fill.ensures)
