@@ -177,6 +177,14 @@ impl Type {
     {
         Type { number }
     }
+
+    // The type of a class.
+    // Kept: a second constructor that does the same, since document 01 names both.
+    pub fn from_class(class: u32) -> Type
+        ensures { result.number ≡ class }
+    {
+        Type { number: class }
+    }
 }
 
 // A refusal: its number in document 01's list or one of document 02's, and the line that it stands on.
