@@ -2,4 +2,3 @@ pub mod Writing
 pub mod Lines
 pub mod Tabled
 pub mod Renewing
-pub mod Locals

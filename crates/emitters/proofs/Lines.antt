@@ -1,21 +1,21 @@
 -- Laws of lines that are written one for each of a list: types, slots read, fields copied, F lines; and how
 -- many numbers these are. Assumes nothing.
 use mathlib.Core.Path.{◌≡◌, refl, sym, ap, ◌∙◌}
-use mathlib.Core.List.{List, [], ◌∷◌}
-use mathlib.Core.Logic.{◌≢◌}
-use Prim.Native.Nat.{ℕ, zero, suc, ◌+◌, ◌-◌, ◌*◌, ◌<◌}
+use mathlib.Core.List.{List, [], ◌∷◌, ◌++◌}
+use mathlib.Core.Logic.{inl, inr}
+use native.Mathlib.Nat.{eq-or-lt_of_le}
+use Prim.Native.Nat.{ℕ, zero, suc, ◌+◌, ◌-◌, ◌*◌, ◌≤◌, ◌<◌}
 use native.Mathlib.Numerals.{add-one}
 use native.Mathlib.Omega.{arith}
 use lib.ListN.{length, get_or}
-use Rattle.language.specs.Rows.{Letter}
-use Rattle.language.specs.Encoded.{LinesAt, TypesAt}
+use Rattle.language.specs.Encoded.{LinesAt}
 use Rattle.language.specs.Tree.{DeclaredType, type_number, Field}
-use Rattle.language.specs.Layout.{FieldsAt}
 use Rattle.emitters.specs.Writing.{Written, SomeTypes, TypesWritten, SomeFields, CopiesWritten}
-use Rattle.emitters.specs.Writing.{SomeFieldLines, FieldsWritten, FieldRows}
-use Rattle.emitters.specs.Lines.{plain_number, type_lines, read_lines, copy_lines, slot_lines}
+use Rattle.emitters.specs.Writing.{SomeFieldLines, FieldsWritten}
+use Rattle.emitters.specs.Lines.{plain_number, type_lines, read_lines, copy_lines}
 use Rattle.emitters.specs.Lines.{field_lines}
-use Rattle.emitters.proofs.Writing.{written_none, written_then}
+use Rattle.std.proofs.lemmas.List.Concat.{flat_map-append}
+use Rattle.emitters.proofs.Writing.{written_none, written_then, written_as}
 
 -- how many numbers the lines are
 pub types_length : (l : ℕ) (ts : List DeclaredType) → length (type_lines l ts) ≡ 4 * length ts
@@ -38,161 +38,143 @@ unfolding field_lines
 fields_length [] = refl
 fields_length (f ∷ fs) = omega (arith, fields_length fs)
 
--- types
+-- ---- lines one after another: each of them, and the last
+module _ {A : Type 0} (Q : A → ℕ → Type 0) where
+  line_at : (xs : List A) (at row : ℕ) → LinesAt Q xs at → at ≤ row → row < at + length xs
+      → (x : A) × Q x row
+  unfolding LinesAt
+  line_at [] at row r l h = absurd (omega (arith, l, h))
+  line_at (x ∷ xs) at row r l h = elim (eq-or-lt_of_le l) [
+    | inl e ↦ (x, rw e at r.0)
+    | inr n ↦ line_at xs (at + 1) row r.1 (omega (arith, n)) (omega (arith, h))
+  ]
+
+  record Last (xs : List A) (at i : ℕ) : Type 0 where
+    pub front : List A
+    pub last : A
+    pub is : xs ≡ front ++ (last ∷ [])
+    pub before : LinesAt Q front at
+    pub here : Q last (at + i)
+    pub counted : length front ≡ i
+
+  last_line : (xs : List A) (at i : ℕ) → LinesAt Q xs at → length xs ≡ i + 1 → Last xs at i
+  unfolding LinesAt
+  last_line [] at i r e = absurd (omega (arith, e))
+  last_line (x ∷ []) at i r e =
+      let z : i ≡ 0 = omega (arith, e) in
+      let y : at + 0 ≡ at = omega arith in
+      record { front = []; last = x; is = refl; before = tt; here = rw (z, y) r.0; counted = sym z }
+  last_line (x ∷ y ∷ ys) at i r e =
+      let l = last_line (y ∷ ys) (at + 1) (i - 1) r.1 (omega (arith, e)) in
+      let z : at + i ≡ at + 1 + (i - 1) = omega (arith, e) in
+      record {
+        front = x ∷ l.front;
+        last = l.last;
+        is = cc l.is;
+        before = (r.0, l.before);
+        here = rw z l.here;
+        counted = omega (arith, l.counted, e);
+      }
+
+-- ---- types
 module _ {R : List ℕ} {at count : ℕ} where
-  pub types_in : SomeTypes R at count → count ≢ 0 → at * 4 + 3 < length R
-  unfolding LinesAt
-  types_in x h = go x.letter x.ts x.rows x.counted
+  pub types_in : SomeTypes R at count → (row : ℕ) → at ≤ row → row < at + count → row * 4 + 3 < length R
+  types_in x row l h = (line_at _ x.ts at row x.rows l (omega (arith, x.counted, h))).1.within
+
+module _ {R : List ℕ} {at letter place : ℕ} {O : List ℕ} where
+  pub types_none : {i : ℕ} → i ≡ 0 → TypesWritten R at i letter O O place place
+  unfolding type_lines
+  types_none {i} z = record { each = λ l ts r e. go ts e }
     where
-      go : (l : Letter) (ts : List DeclaredType) → TypesAt l R ts at → length ts ≡ count
-          → at * 4 + 3 < length R
-      go l [] r e = absurd (h (sym e))
-      go l (t ∷ ts) r e = r.0.within
+      go : (ts : List DeclaredType) → length ts ≡ i → Written (type_lines letter ts) O O place place
+      go [] e = written_none
+      go (t ∷ ts) e = absurd (omega (arith, e, z))
 
-  pub types_rest : SomeTypes R at count → count ≢ 0 → SomeTypes R (at + 1) (count - 1)
-  unfolding LinesAt
-  types_rest x h = go x.letter x.ts x.rows x.counted
-    where
-      go : (l : Letter) (ts : List DeclaredType) → TypesAt l R ts at → length ts ≡ count
-          → SomeTypes R (at + 1) (count - 1)
-      go l [] r e = absurd (h (sym e))
-      go l (t ∷ ts) r e = record { letter = l; ts = ts; rows = r.1; counted = omega (arith, e) }
+  pub types_more : {O₁ O₂ : List ℕ} {p q i j row n t : ℕ} → row ≡ at + i → j ≡ i + 1 → n ≡ get_or R (row * 4 + 1) 0
+      → t ≡ plain_number n → TypesWritten R at i letter O O₁ place p
+      → Written (letter ∷ t ∷ 0 ∷ 0 ∷ []) O₁ O₂ p q
+      → TypesWritten R at j letter O O₂ place q
+  unfolding type_lines
+  types_more {O₁} {O₂} {p} {q} {i} {j} {row} {n} {t} z k v w a b = record {
+    each = λ l ts r e.
+        let y = last_line _ ts at i r (e ∙ k) in
+        let f : plain_number (type_number y.last) ≡ t =
+        sym (w ∙ ap (λ n. plain_number n) (v ∙ rw z y.here.first)) in
+        rw (y.is, flat_map-append _ y.front (y.last ∷ []), f)
+        (written_then (a.each l y.front y.before y.counted) b);
+  }
 
-  module _ {letter place : ℕ} {O : List ℕ} where
-    pub types_none : count ≡ 0 → TypesWritten R at count letter O O place place
-    unfolding type_lines
-    types_none z = record { each = λ l ts r e. go ts e }
-      where
-        go : (ts : List DeclaredType) → length ts ≡ count → Written (type_lines letter ts) O O place place
-        go [] e = written_none
-        go (t ∷ ts) e = absurd (omega (arith, e, z))
-
-    pub types_step : {O₁ O₂ : List ℕ} {p q n t : ℕ} → count ≢ 0 → n ≡ get_or R (at * 4 + 1) 0
-        → t ≡ plain_number n
-        → Written (letter ∷ t ∷ 0 ∷ 0 ∷ []) O O₁ place p
-        → TypesWritten R (at + 1) (count - 1) letter O₁ O₂ p q
-        → TypesWritten R at count letter O O₂ place q
-    unfolding type_lines LinesAt
-    types_step {O₁} {O₂} {p} {q} {n} {t} h v w a b = record { each = λ l ts r e. go l ts r e }
-      where
-        go : (l : Letter) (ts : List DeclaredType) → TypesAt l R ts at → length ts ≡ count
-            → Written (type_lines letter ts) O O₂ place q
-        go l [] r e = absurd (h (sym e))
-        go l (u ∷ ts) r e =
-            let f : t ≡ plain_number (type_number u) = w ∙ ap (λ n. plain_number n) (v ∙ r.0.first) in
-            rw (← f) (written_then a (b.each l ts r.1 (omega (arith, e))))
-
--- slots read
-pub reads_none : (s count : ℕ) {O : List ℕ} {place : ℕ} → count ≡ 0
-    → Written (read_lines s count) O O place place
+-- ---- slots read
+pub reads_none : (s i : ℕ) {O : List ℕ} {place : ℕ} → i ≡ 0 → Written (read_lines s i) O O place place
 unfolding read_lines
-reads_none s count e = rw e written_none
+reads_none s i e = rw e written_none
 
-pub reads_step : (s count : ℕ) {O O₁ O₂ : List ℕ} {place p q : ℕ} → count ≢ 0
-    → Written (73 ∷ s ∷ 0 ∷ 0 ∷ []) O O₁ place p
-    → Written (read_lines (s + 1) (count - 1)) O₁ O₂ p q → Written (read_lines s count) O O₂ place q
+reads_append : (s k : ℕ) → read_lines s (suc k) ≡ read_lines s k ++ (73 ∷ (s + k) ∷ 0 ∷ 0 ∷ [])
 unfolding read_lines
-reads_step s count {O} {O₁} {O₂} {place} {p} {q} h a b = go count h b
-  where
-    go : (k : ℕ) → k ≢ 0 → Written (read_lines (s + 1) (k - 1)) O₁ O₂ p q
-        → Written (read_lines s k) O O₂ place q
-    go zero h b = absurd (h refl)
-    go (suc k) h b = let e : suc k - 1 ≡ k = omega arith in written_then a (rw (add-one, e) at b)
+reads_append s zero = let e : s + 0 ≡ s = omega arith in rw e refl
+reads_append s (suc k) = let e : s + suc k ≡ suc s + k = omega arith in
+    rw e (ap (λ (l : List ℕ). 73 ∷ s ∷ 0 ∷ 0 ∷ l) (reads_append (suc s) k))
 
--- fields copied
+pub reads_more : (s k i j : ℕ) {O O₁ O₂ : List ℕ} {place p q : ℕ} → i ≡ s + k → j ≡ suc k
+    → Written (read_lines s k) O O₁ place p → Written (73 ∷ i ∷ 0 ∷ 0 ∷ []) O₁ O₂ p q
+    → Written (read_lines s j) O O₂ place q
+reads_more s k i j e f a b = rw f (written_as (written_then a (rw e at b)) (sym (reads_append s k)))
+
+-- ---- fields copied
 module _ {R T : List ℕ} {from count : ℕ} where
-  pub fields_in : SomeFields R T from count → count ≢ 0
-      → (from < length T) × (get_or T from 0 * 4 + 3 < length R)
-  unfolding LinesAt
-  fields_in x h = go x.fs x.rows x.counted
+  pub fields_in : SomeFields R T from count → (entry : ℕ) → from ≤ entry → entry < from + count
+      → (entry < length T) × (get_or T entry 0 * 4 + 3 < length R)
+  fields_in x entry l h =
+      let y = line_at _ x.fs from entry x.rows l (omega (arith, x.counted, h)) in (y.1.0, y.1.1.within)
+
+module _ {R T : List ℕ} {from s place : ℕ} {O : List ℕ} where
+  pub copies_none : {i : ℕ} → i ≡ 0 → CopiesWritten R T from i s O O place place
+  unfolding copy_lines
+  copies_none {i} z = record { each = λ fs r e. go fs e }
     where
-      go : (fs : List Field) → FieldRows R T fs from → length fs ≡ count
-          → (from < length T) × (get_or T from 0 * 4 + 3 < length R)
-      go [] r e = absurd (h (sym e))
-      go (f ∷ fs) r e = (r.0.0, r.0.1.within)
+      go : (fs : List Field) → length fs ≡ i → Written (copy_lines s fs) O O place place
+      go [] e = written_none
+      go (f ∷ fs) e = absurd (omega (arith, e, z))
 
-  pub fields_rest : SomeFields R T from count → count ≢ 0 → SomeFields R T (from + 1) (count - 1)
-  unfolding LinesAt
-  fields_rest x h = go x.fs x.rows x.counted
-    where
-      go : (fs : List Field) → FieldRows R T fs from → length fs ≡ count
-          → SomeFields R T (from + 1) (count - 1)
-      go [] r e = absurd (h (sym e))
-      go (f ∷ fs) r e = record { fs = fs; rows = r.1; counted = omega (arith, e) }
+  pub copies_more : {O₁ O₂ : List ℕ} {p q i j entry row n : ℕ} → entry ≡ from + i → j ≡ i + 1
+      → row ≡ get_or T entry 0 → n ≡ get_or R (row * 4 + 2) 0
+      → CopiesWritten R T from i s O O₁ place p
+      → Written (85 ∷ n ∷ 0 ∷ 0 ∷ 73 ∷ s ∷ 0 ∷ 0 ∷ 71 ∷ n ∷ 0 ∷ 0 ∷ 73 ∷ (s + 1) ∷ 0 ∷ 0 ∷ []) O₁ O₂ p q
+      → CopiesWritten R T from j s O O₂ place q
+  unfolding copy_lines
+  copies_more {O₁} {O₂} {p} {q} {i} {j} {entry} {row} {n} z k v w a b = record {
+    each = λ fs r e.
+        let y = last_line _ fs from i r (e ∙ k) in
+        let g : y.last.name ≡ n = sym (w ∙ rw (v, z) y.here.1.second) in
+        rw (y.is, flat_map-append _ y.front (y.last ∷ []), g)
+        (written_then (a.each y.front y.before y.counted) (rw add-one at b));
+  }
 
-  module _ {s place : ℕ} {O : List ℕ} where
-    pub copies_none : count ≡ 0 → CopiesWritten R T from count s O O place place
-    unfolding copy_lines
-    copies_none z = record { each = λ fs r e. go fs r e }
-      where
-        go : (fs : List Field) → FieldRows R T fs from → length fs ≡ count
-            → Written (copy_lines s fs) O O place place
-        go [] r e = written_none
-        go (f ∷ fs) r e = absurd (omega (arith, e, z))
-
-    pub copies_step : {O₁ O₂ : List ℕ} {p q n : ℕ} → count ≢ 0 → n ≡ get_or R (get_or T from 0 * 4 + 2) 0
-        → Written (85 ∷ n ∷ 0 ∷ 0 ∷ 73 ∷ s ∷ 0 ∷ 0 ∷ 71 ∷ n ∷ 0 ∷ 0 ∷ 73 ∷ (s + 1) ∷ 0 ∷ 0 ∷ []) O O₁ place p
-        → CopiesWritten R T (from + 1) (count - 1) s O₁ O₂ p q → CopiesWritten R T from count s O O₂ place q
-    unfolding copy_lines LinesAt
-    copies_step {O₁} {O₂} {p} {q} {n} h w a b = record { each = λ fs r e. go fs r e }
-      where
-        go : (fs : List Field) → FieldRows R T fs from → length fs ≡ count
-            → Written (copy_lines s fs) O O₂ place q
-        go [] r e = absurd (h (sym e))
-        go (f ∷ fs) r e =
-            let g : n ≡ f.name = w ∙ r.0.1.second in
-            rw (← g) (written_then (rw add-one at a) (b.each fs r.1 (omega (arith, e))))
-
--- F lines
+-- ---- F lines
 module _ {R : List ℕ} {at count : ℕ} where
-  pub field_in : SomeFieldLines R at count → count ≢ 0 → at * 4 + 3 < length R
-  unfolding LinesAt
-  field_in x h = go x.fs x.rows x.counted
+  pub field_in : SomeFieldLines R at count → (row : ℕ) → at ≤ row → row < at + count
+      → row * 4 + 3 < length R
+  field_in x row l h = (line_at _ x.fs at row x.rows l (omega (arith, x.counted, h))).1.within
+
+module _ {R : List ℕ} {at place : ℕ} {O : List ℕ} where
+  pub field_none : {i : ℕ} → i ≡ 0 → FieldsWritten R at i O O place place
+  unfolding field_lines
+  field_none {i} z = record { each = λ fs r e. go fs e }
     where
-      go : (fs : List Field) → FieldsAt R fs at → length fs ≡ count → at * 4 + 3 < length R
-      go [] r e = absurd (h (sym e))
-      go (f ∷ fs) r e = r.0.within
+      go : (fs : List Field) → length fs ≡ i → Written (field_lines fs) O O place place
+      go [] e = written_none
+      go (f ∷ fs) e = absurd (omega (arith, e, z))
 
-  pub field_rest : SomeFieldLines R at count → count ≢ 0 → SomeFieldLines R (at + 1) (count - 1)
-  unfolding LinesAt
-  field_rest x h = go x.fs x.rows x.counted
-    where
-      go : (fs : List Field) → FieldsAt R fs at → length fs ≡ count → SomeFieldLines R (at + 1) (count - 1)
-      go [] r e = absurd (h (sym e))
-      go (f ∷ fs) r e = record { fs = fs; rows = r.1; counted = omega (arith, e) }
-
-  module _ {place : ℕ} {O : List ℕ} where
-    pub field_none : count ≡ 0 → FieldsWritten R at count O O place place
-    unfolding field_lines
-    field_none z = record { each = λ fs r e. go fs r e }
-      where
-        go : (fs : List Field) → FieldsAt R fs at → length fs ≡ count
-            → Written (field_lines fs) O O place place
-        go [] r e = written_none
-        go (f ∷ fs) r e = absurd (omega (arith, e, z))
-
-    pub field_step : {O₁ O₂ : List ℕ} {p q n m t : ℕ} → count ≢ 0 → n ≡ get_or R (at * 4 + 1) 0
-        → t ≡ plain_number n → m ≡ get_or R (at * 4 + 2) 0 → Written (70 ∷ t ∷ m ∷ 0 ∷ []) O O₁ place p
-        → FieldsWritten R (at + 1) (count - 1) O₁ O₂ p q
-        → FieldsWritten R at count O O₂ place q
-    unfolding field_lines LinesAt
-    field_step {O₁} {O₂} {p} {q} {n} {m} {t} h v w x a b = record { each = λ fs r e. go fs r e }
-      where
-        go : (fs : List Field) → FieldsAt R fs at → length fs ≡ count → Written (field_lines fs) O O₂ place q
-        go [] r e = absurd (h (sym e))
-        go (f ∷ fs) r e =
-            let u : t ≡ plain_number (type_number f.type) = w
-            ∙ ap (λ n. plain_number n) (v ∙ r.0.first) in
-            let y : m ≡ f.name = x ∙ r.0.second in
-            rw (← u, ← y) (written_then a (b.each fs r.1 (omega (arith, e))))
-
--- lines of a slot read
-pub slot_zero : {s : ℕ} → s ≡ 0 → slot_lines s ≡ 71 ∷ 254 ∷ 0 ∷ 0 ∷ 73 ∷ 0 ∷ 0 ∷ 0 ∷ []
-slot_zero e = rw e refl
-
-pub slot_other : {s : ℕ} → s ≢ 0 → slot_lines s ≡ 73 ∷ s ∷ 0 ∷ 0 ∷ []
-slot_other {s} h = go s h
-  where
-    go : (s : ℕ) → s ≢ 0 → slot_lines s ≡ 73 ∷ s ∷ 0 ∷ 0 ∷ []
-    go zero h = absurd (h refl)
-    go (suc s) h = refl
+  pub field_more : {O₁ O₂ : List ℕ} {p q i j row n m t : ℕ} → row ≡ at + i → j ≡ i + 1
+      → n ≡ get_or R (row * 4 + 1) 0 → t ≡ plain_number n → m ≡ get_or R (row * 4 + 2) 0 → FieldsWritten R at i O O₁ place p
+      → Written (70 ∷ t ∷ m ∷ 0 ∷ []) O₁ O₂ p q → FieldsWritten R at j O O₂ place q
+  unfolding field_lines
+  field_more {O₁} {O₂} {p} {q} {i} {j} {row} {n} {m} {t} z k v w x a b = record {
+    each = λ fs r e.
+        let y = last_line _ fs at i r (e ∙ k) in
+        let f : plain_number (type_number y.last.type) ≡ t =
+        sym (w ∙ ap (λ n. plain_number n) (v ∙ rw z y.here.first)) in
+        let g : y.last.name ≡ m = sym (x ∙ rw z y.here.second) in
+        rw (y.is, flat_map-append _ y.front (y.last ∷ []), f, g)
+        (written_then (a.each y.front y.before y.counted) b);
+  }

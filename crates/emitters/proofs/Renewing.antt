@@ -1,6 +1,5 @@
 -- Laws of R: the inner block with its copies, then the whole. Assumes nothing.
 use mathlib.Core.Path.{◌≡◌, refl, sym, ◌∙◌}
-use mathlib.Core.Logic.{◌≢◌}
 use mathlib.Core.List.{List, [], ◌∷◌}
 use Prim.Native.Nat.{ℕ, zero, suc, ◌+◌, ◌*◌, ◌≤◌}
 use native.Mathlib.Omega.{arith}
@@ -12,7 +11,7 @@ use Rattle.emitters.specs.Lines.{most_numbers, copy_lines, renew_head, renew_lin
 use Rattle.emitters.specs.Lines.{change_lines, head_length}
 use Rattle.emitters.specs.Writing.{Written, SomeCopies, SomeFields, CopiesWritten, RenewWritten}
 use Rattle.emitters.specs.Writing.{SomeChange, ChangeWritten}
-use Rattle.emitters.proofs.Writing.{written_then, written_as}
+use Rattle.emitters.proofs.Writing.{written_then}
 use Rattle.emitters.proofs.Lines.{copies_length}
 use Rattle.emitters.proofs.Tabled.{fields_tabled}
 
@@ -57,19 +56,13 @@ module _ {R T : List ℕ} {place root count : ℕ} (e : count ≡ get_or T (root
 
 -- ---- the whole
 
-pub head_zero : {s : ℕ} → s ≡ 0 → head_length s ≡ 28
-head_zero e = rw e refl
-
-pub head_other : {s : ℕ} → s ≢ 0 → head_length s ≡ 36
-head_other {s} h = go s h
-  where
-    go : (s : ℕ) → s ≢ 0 → head_length s ≡ 36
-    go zero h = absurd (h refl)
-    go (suc s) h = refl
-
 head_counted : (s n d r : ℕ) → length (change_head s n d r) ≡ head_length s
 head_counted zero n d r = refl
 head_counted (suc s) n d r = refl
+
+head_ended : (s n d r : ℕ) {O O' : List ℕ} {place p : ℕ} → Written (change_head s n d r) O O' place p
+    → p ≡ place + head_length s
+head_ended s n d r h = omega (arith, h.ended, head_counted s n d r)
 
 module _ {R T : List ℕ} {place s d : ℕ} where
   pub change_root : SomeChange R T place s d
@@ -93,53 +86,32 @@ module _ {R T : List ℕ} {place s d r : ℕ} (a : r ≡ get_or T (d * 576 + 514
   root_read : (x : SomeChange R T place s d) → r ≡ (world x.P).root d
   root_read x = a ∙ x.lent.held.headed.classes.roots d x.declared
 
-  pub change_copies : SomeChange R T place s d → (p h : ℕ) → head_length s ≡ h → p ≡ place + h
-      → SomeCopies R T (p + 56) r
-  change_copies x p h e q = rw (root_read x) (root_copies x p (omega (arith, e, q)))
+  pub change_copies : {O O' : List ℕ} {p : ℕ} (n : ℕ) → SomeChange R T place s d
+      → Written (change_head s n d r) O O' place p → SomeCopies R T (p + 56) r
+  change_copies {p = p} n x h = rw (root_read x) (root_copies x p (head_ended s n d r h))
 
-  pub change_after : {O O' : List ℕ} {n p q h : ℕ} → SomeChange R T place s d → head_length s ≡ h
-      → p ≡ place + h → RenewWritten R T n d r O O' p q → q + 4 ≤ most_numbers
+  pub change_after : {O O₁ O₂ : List ℕ} {n p q : ℕ} → SomeChange R T place s d
+      → Written (change_head s n d r) O O₁ place p → RenewWritten R T n d r O₁ O₂ p q → q + 4 ≤ most_numbers
   unfolding root_copies
-  change_after {O} {O'} {n} {p} {q} {h} x e z m =
+  change_after {n = n} {p = p} x h m =
       let m' = rw (root_read x) at m in
-      let w = m'.each (root_copies x p (omega (arith, e, z))) in
+      let w = m'.each (root_copies x p (head_ended s n d r h)) in
       omega (
         arith,
         w.ended,
         renew_length n d ((world x.P).root d) ((world x.P).fields ((world x.P).root d)),
         x.fits,
-        e,
-        z,
+        head_ended s n d r h,
       )
 
-  pub change_done : {O O₁ O₂ O₃ : List ℕ} {n p q p' : ℕ} (xs : List ℕ) → xs ≡ change_head s n d r
-      → Written xs O O₁ place p → RenewWritten R T n d r O₁ O₂ p q → Written (73 ∷ n ∷ 0 ∷ 0 ∷ []) O₂ O₃ q p'
+  pub change_done : {O O₁ O₂ O₃ : List ℕ} {n p q p' : ℕ} → Written (change_head s n d r) O O₁ place p
+      → RenewWritten R T n d r O₁ O₂ p q → Written (73 ∷ n ∷ 0 ∷ 0 ∷ []) O₂ O₃ q p'
       → ChangeWritten R T s n d O O₃ place p'
   unfolding change_lines root_copies
-  change_done {n = n} {p = p} xs e h m l = record {
+  change_done {n = n} {p = p} h m l = record {
     each = λ x.
         let z = root_read x in
-        let w = written_as h e in
-        let h' = rw z at w in
+        let h' = rw z at h in
         let m' = rw z at m in
-        let y : p ≡ place + head_length s = omega (arith, w.ended, head_counted s n d r) in
-        written_then h' (written_then (m'.each (root_copies x p y)) l);
+        written_then h' (written_then (m'.each (root_copies x p (head_ended s n d r h))) l);
   }
-
-pub change_this : {s : ℕ} (n d r : ℕ) → s ≡ 0
-    → 66 ∷ 3 ∷ 3 ∷ 0 ∷ 86 ∷ 1 ∷ 0 ∷ 0 ∷ 86 ∷ (d + 2) ∷ 0 ∷ 0 ∷ 86 ∷ (r + 2) ∷ 0 ∷ 0 ∷ 65 ∷ n ∷ 0 ∷ 0 ∷ 71
-    ∷ 254 ∷ 0 ∷ 0 ∷ 73 ∷ 0 ∷ 0 ∷ 0 ∷ [] ≡ change_head s n d r
-change_this n d r e = rw e refl
-
-pub change_other : {s : ℕ} (n d r : ℕ) → s ≢ 0
-    → 66 ∷ 3 ∷ 2 ∷ 0 ∷ 86 ∷ 1 ∷ 0 ∷ 0 ∷ 86 ∷ (d + 2) ∷ 0 ∷ 0 ∷ 86 ∷ (r + 2) ∷ 0 ∷ 0 ∷ 74 ∷ 0 ∷ 0 ∷ 0 ∷ 90 ∷ 0
-    ∷ 0 ∷ 0 ∷ 65 ∷ n ∷ 0 ∷ 0 ∷ 73 ∷ s ∷ 0 ∷ 0 ∷ 78 ∷ 0 ∷ 0 ∷ 0 ∷ []
-    ≡ change_head s n d r
-change_other {s} n d r h = go s h
-  where
-    go : (s : ℕ) → s ≢ 0
-        → 66 ∷ 3 ∷ 2 ∷ 0 ∷ 86 ∷ 1 ∷ 0 ∷ 0 ∷ 86 ∷ (d + 2) ∷ 0 ∷ 0 ∷ 86 ∷ (r + 2) ∷ 0 ∷ 0 ∷ 74 ∷ 0 ∷ 0 ∷ 0 ∷ 90
-        ∷ 0 ∷ 0 ∷ 0 ∷ 65 ∷ n ∷ 0 ∷ 0 ∷ 73 ∷ s ∷ 0 ∷ 0 ∷ 78 ∷ 0 ∷ 0 ∷ 0 ∷ []
-        ≡ change_head s n d r
-    go zero h = absurd (h refl)
-    go (suc s) h = refl

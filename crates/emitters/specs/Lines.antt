@@ -1,5 +1,6 @@
 -- The numbers of the plain lines for which no child is translated, four to a line: of types, of fields, of slots read, of W and of R.
 use Rattle.std.specs.Prelude.{ℕ, zero, suc, ◌+◌, cond, List, [], ◌∷◌, ◌++◌, eqb, length}
+use Rattle.std.specs.List.{flat_map}
 use Rattle.language.specs.Limits.{bool_number, identity_class, imp_field, id_field}
 use Rattle.language.specs.Rows.{V_local, code, F_field, G_get, B_block, N_null, I_slot, Z_is_null, K_cast}
 use Rattle.language.specs.Rows.{W_new, A_assign, U_set, J_choose}
@@ -9,10 +10,9 @@ use Rattle.language.specs.Tree.{DeclaredType, type_number, Field}
 abbrev pub most_numbers : ℕ
 most_numbers = 1000000
 
--- The numbers of rows.
+-- The numbers of lines.
 abbrev pub all_numbers : List (List ℕ) → List ℕ
-all_numbers [] = []
-all_numbers (r ∷ rs) = r ++ all_numbers rs
+all_numbers = flat_map (λ r. r)
 
 -- A type's number in a plain program.
 abbrev pub plain_number : ℕ → ℕ
@@ -20,13 +20,12 @@ plain_number n = cond (eqb n bool_number) bool_number identity_class
 
 -- Lines of a letter's code, one for each type.
 unfoldable pub type_lines : ℕ → List DeclaredType → List ℕ
-type_lines l [] = []
-type_lines l (t ∷ ts) = l ∷ plain_number (type_number t) ∷ 0 ∷ 0 ∷ type_lines l ts
+type_lines l ts = flat_map (λ t. l ∷ plain_number (type_number t) ∷ 0 ∷ 0 ∷ []) ts
 
 -- F lines of plain types.
 unfoldable pub field_lines : List Field → List ℕ
-field_lines [] = []
-field_lines (f ∷ fs) = code F_field ∷ plain_number (type_number f.type) ∷ f.name ∷ 0 ∷ field_lines fs
+field_lines fs =
+    flat_map (λ (f : Field). code F_field ∷ plain_number (type_number f.type) ∷ f.name ∷ 0 ∷ []) fs
 
 -- Slots read, from one on.
 unfoldable pub read_lines : ℕ → ℕ → List ℕ
@@ -35,13 +34,12 @@ read_lines s (suc k) = code I_slot ∷ s ∷ 0 ∷ 0 ∷ read_lines (suc s) k
 
 -- Fields copied to the object in a slot from the one in the next.
 unfoldable pub copy_lines : ℕ → List Field → List ℕ
-copy_lines o [] = []
-copy_lines o (f ∷ fs) =
+copy_lines o fs = flat_map (λ (f : Field).
     code U_set ∷ f.name ∷ 0 ∷ 0
     ∷ code I_slot ∷ o ∷ 0 ∷ 0
     ∷ code G_get ∷ f.name ∷ 0 ∷ 0
     ∷ code I_slot ∷ suc o ∷ 0 ∷ 0
-    ∷ copy_lines o fs
+    ∷ []) fs
 
 -- Lines of a slot read; of W of a class c, with temporaries from n on; of R's inner block, for a class d with
 -- root r and k fields; and of R of a slot.

@@ -1,10 +1,10 @@
 // W and R: a new object with its Identity, and one that takes the place of another behind its Identity.
 ghost use Rattle.std.specs.Prelude.{◌+◌, ◌*◌, ◌≤◌, ◌<◌};
-ghost use Rattle.emitters.specs.Lines.{most_numbers, new_lines};
+ghost use Rattle.emitters.specs.Lines.{most_numbers, new_lines, change_head, head_length};
 ghost use Rattle.emitters.specs.Writing.{Written, SomeFields, SomeCopies, CopiesWritten, RenewWritten};
 ghost use Rattle.emitters.specs.Writing.{SomeChange, ChangeWritten};
 
-use super::rows::{field_name, put, put_rows};
+use super::rows::{field_name, put};
 use language::{
     ASSIGN, BLOCK, CAST, CHOOSE, CLASS_WIDTH, COUNT_PLACE, GET, ID, IDENTITY, IMP, IS_NULL, LOCAL,
     NEW, NULL, ROOT_PLACE, ROWS_PLACE, SET, SLOT, class_entry,
@@ -25,19 +25,18 @@ pub fn put_copies(
     ensures { CopiesWritten rows.now tables.now from count slot
         out.old out.new place result }
 {
-    if count == 0 {
-        return place;
+    let mut end = place;
+    for entry in from..from + count {
+        let name = field_name(rows, usize::from(tables[entry]));
+        let lines = [
+            [SET, name, 0, 0],
+            [SLOT, slot, 0, 0],
+            [GET, name, 0, 0],
+            [SLOT, slot + 1, 0, 0],
+        ];
+        end = put(out, end, &lines);
     }
-    let row = tables[from] as usize;
-    let name = field_name(rows, row);
-    let lines = [
-        [SET, name, 0, 0],
-        [SLOT, slot, 0, 0],
-        [GET, name, 0, 0],
-        [SLOT, slot + 1, 0, 0],
-    ];
-    let p = put_rows(out, place, &lines);
-    put_copies(rows, tables, out, p, from + 1, count - 1, slot)
+    end
 }
 
 // W: an Identity and a new object that know each other.
@@ -63,7 +62,7 @@ pub fn put_new(out: &mut [u32], place: usize, next: u32, class: u32) -> usize
         [SLOT, o, 0, 0],
         [SLOT, i, 0, 0],
     ];
-    put_rows(out, place, &lines)
+    put(out, place, &lines)
 }
 
 // R's inner block: a new object of the target, its Identity moved to it, the root's fields copied.
@@ -99,18 +98,42 @@ pub fn put_renew(
         [SLOT, i, 0, 0],
         [SLOT, o, 0, 0],
     ];
-    let p = put_rows(out, place, &head);
-    let q = put_copies(
-        rows,
-        tables,
-        out,
-        p,
-        root as usize * CLASS_WIDTH + ROWS_PLACE,
-        count as usize,
-        o,
-    );
-    let identity = [SLOT, i, 0, 0];
-    put(out, q, &identity)
+    let p = put(out, place, &head);
+    let from = root as usize * CLASS_WIDTH + ROWS_PLACE;
+    let q = put_copies(rows, tables, out, p, from, count as usize, o);
+    put(out, q, &[[SLOT, i, 0, 0]])
+}
+
+// What stands before R's inner block, of `this` and of another slot.
+fn put_head(out: &mut [u32], place: usize, slot: u32, next: u32, target: u32, root: u32) -> usize
+    requires { (place + head_length slot ≤ most_numbers) × (target < 65536) × (root < 65536) }
+    ensures { Written (change_head slot next target root) out.old out.new place result }
+{
+    if slot == 0 {
+        let lines = [
+            [BLOCK, 3, 3, 0],
+            [LOCAL, IDENTITY, 0, 0],
+            [LOCAL, target + 2, 0, 0],
+            [LOCAL, root + 2, 0, 0],
+            [ASSIGN, next, 0, 0],
+            [GET, ID, 0, 0],
+            [SLOT, 0, 0, 0],
+        ];
+        put(out, place, &lines)
+    } else {
+        let lines = [
+            [BLOCK, 3, 2, 0],
+            [LOCAL, IDENTITY, 0, 0],
+            [LOCAL, target + 2, 0, 0],
+            [LOCAL, root + 2, 0, 0],
+            [CHOOSE, 0, 0, 0],
+            [IS_NULL, 0, 0, 0],
+            [ASSIGN, next, 0, 0],
+            [SLOT, slot, 0, 0],
+            [NULL, 0, 0, 0],
+        ];
+        put(out, place, &lines)
+    }
 }
 
 // R, of `this` and of another slot.
@@ -129,36 +152,7 @@ pub fn put_change(
         out.old out.new place result }
 {
     let root = class_entry(tables, target, ROOT_PLACE);
-    let i = next;
-    let r = root + 2;
-    if slot == 0 {
-        let head = [
-            [BLOCK, 3, 3, 0],
-            [LOCAL, IDENTITY, 0, 0],
-            [LOCAL, target + 2, 0, 0],
-            [LOCAL, r, 0, 0],
-            [ASSIGN, i, 0, 0],
-            [GET, ID, 0, 0],
-            [SLOT, 0, 0, 0],
-        ];
-        let p = put_rows(out, place, &head);
-        let q = put_renew(rows, tables, out, p, next, target, root);
-        let last = [SLOT, i, 0, 0];
-        return put(out, q, &last);
-    }
-    let head = [
-        [BLOCK, 3, 2, 0],
-        [LOCAL, IDENTITY, 0, 0],
-        [LOCAL, target + 2, 0, 0],
-        [LOCAL, r, 0, 0],
-        [CHOOSE, 0, 0, 0],
-        [IS_NULL, 0, 0, 0],
-        [ASSIGN, i, 0, 0],
-        [SLOT, slot, 0, 0],
-        [NULL, 0, 0, 0],
-    ];
-    let p = put_rows(out, place, &head);
+    let p = put_head(out, place, slot, next, target, root);
     let q = put_renew(rows, tables, out, p, next, target, root);
-    let last = [SLOT, i, 0, 0];
-    put(out, q, &last)
+    put(out, q, &[[SLOT, next, 0, 0]])
 }

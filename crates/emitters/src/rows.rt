@@ -1,45 +1,23 @@
-// Numbers and lines written into the buffer, where there is room for them.
-ghost use Rattle.std.specs.Prelude.{◌≡◌, ◌+◌, ◌*◌, ◌≤◌, ◌<◌, length, get_or, set};
+// Lines written into the buffer, where there is room for their numbers.
+ghost use Rattle.std.specs.Prelude.{◌≡◌, ◌+◌, ◌*◌, ◌≤◌, ◌<◌, length, get_or};
 ghost use Rattle.emitters.specs.Lines.{most_numbers, all_numbers, plain_number, read_lines, slot_lines};
 ghost use Rattle.emitters.specs.Writing.{Written, SomeTypes, TypesWritten, SomeFieldLines};
 ghost use Rattle.emitters.specs.Writing.{FieldsWritten};
 
 use language::{FIELD, GET, ID, IDENTITY, SLOT, Type, first, second};
 
-// One number, where there is room for it.
-pub fn put_number(out: &mut [u32], place: usize, number: u32)
-    ensures { out.new ≡ set out.old place number }
+// Lines one after another.
+pub fn put(out: &mut [u32], place: usize, lines: &[[u32; 4]]) -> usize
+    requires { place + 4 * length lines.now ≤ most_numbers }
+    ensures { Written (all_numbers lines.now) out.old out.new place result }
 {
-    if place < out.len() {
-        out[place] = number;
+    let numbers = lines.as_flattened();
+    for (i, number) in numbers.iter().enumerate() {
+        if place + i < out.len() {
+            out[place + i] = *number;
+        }
     }
-}
-
-// Numbers one after another.
-pub fn put(out: &mut [u32], place: usize, numbers: &[u32]) -> usize
-    requires { place + length numbers.now ≤ most_numbers }
-    ensures { Written numbers.now out.old out.new place result }
-{
-    let mut i = 0;
-    while i < numbers.len() {
-        put_number(out, place + i, numbers[i]);
-        i += 1;
-    }
-    place + i
-}
-
-// Rows one after another.
-pub fn put_rows(out: &mut [u32], place: usize, rows: &[[u32; 4]]) -> usize
-    requires { place + 4 * length rows.now ≤ most_numbers }
-    ensures { Written (all_numbers rows.now) out.old out.new place result }
-{
-    let mut end = place;
-    let mut i = 0;
-    while i < rows.len() {
-        end = put(out, end, &rows[i]);
-        i += 1;
-    }
-    end
+    place + numbers.len()
 }
 
 // Declared class types become Identity, bool stays.
@@ -75,13 +53,12 @@ pub fn put_types(
     ensures { TypesWritten rows.now at count letter out.old out.new
         place result }
 {
-    if count == 0 {
-        return place;
+    let mut end = place;
+    for row in at..at + count {
+        let t = plain_type(first(rows, row));
+        end = put(out, end, &[[letter, t, 0, 0]]);
     }
-    let t = plain_type(first(rows, at));
-    let line = [letter, t, 0, 0];
-    let p = put(out, place, &line);
-    put_types(rows, out, p, at + 1, count - 1, letter)
+    end
 }
 
 // The F lines from row `at` on, with plain types.
@@ -90,13 +67,12 @@ pub fn put_fields(rows: &[u32], out: &mut [u32], place: usize, at: usize, count:
     requires count_bound { place + 4 * count ≤ most_numbers }
     ensures { FieldsWritten rows.now at count out.old out.new place result }
 {
-    if count == 0 {
-        return place;
+    let mut end = place;
+    for row in at..at + count {
+        let t = plain_type(first(rows, row));
+        end = put(out, end, &[[FIELD, t, field_name(rows, row), 0]]);
     }
-    let t = plain_type(first(rows, at));
-    let line = [FIELD, t, field_name(rows, at), 0];
-    let p = put(out, place, &line);
-    put_fields(rows, out, p, at + 1, count - 1)
+    end
 }
 
 // Slots from `slot` on, read.
@@ -104,12 +80,11 @@ pub fn put_reads(out: &mut [u32], place: usize, slot: u32, count: u32) -> usize
     requires { (place + 4 * count ≤ most_numbers) × (slot + count ≤ most_numbers) }
     ensures { Written (read_lines slot count) out.old out.new place result }
 {
-    if count == 0 {
-        return place;
+    let mut end = place;
+    for s in slot..slot + count {
+        end = put(out, end, &[[SLOT, s, 0, 0]]);
     }
-    let line = [SLOT, slot, 0, 0];
-    let p = put(out, place, &line);
-    put_reads(out, p, slot + 1, count - 1)
+    end
 }
 
 // A slot read; `this` is read as its `id`.
@@ -118,9 +93,8 @@ pub fn put_slot(out: &mut [u32], place: usize, slot: u32) -> usize
     ensures { Written (slot_lines slot) out.old out.new place result }
 {
     if slot == 0 {
-        let lines = [GET, ID, 0, 0, SLOT, 0, 0, 0];
-        return put(out, place, &lines);
+        put(out, place, &[[GET, ID, 0, 0], [SLOT, 0, 0, 0]])
+    } else {
+        put(out, place, &[[SLOT, slot, 0, 0]])
     }
-    let line = [SLOT, slot, 0, 0];
-    put(out, place, &line)
 }

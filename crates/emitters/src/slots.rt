@@ -19,10 +19,8 @@ pub fn with_locals(slots: &[u32; 32], scope: Scope, count: usize) -> [u32; 32]
     ensures { Extended slots.now result scope.variables scope.free count }
 {
     let mut s = *slots;
-    let mut i = 0;
-    while i < count {
+    for i in 0..count {
         s[scope.variables + i] = scope.free + i as u32;
-        i += 1;
     }
     s
 }
@@ -32,10 +30,9 @@ pub fn first_slots(count: usize) -> [u32; 32]
     requires { 1 + count ≤ of_translator.slots }
     ensures { Extended (replicate of_translator.slots 0) result 1 1 count }
 {
-    let none = [0u32; 32];
     let this = Scope {
         variables: 1,
         free: 1,
     };
-    with_locals(&none, this, count)
+    with_locals(&[0; 32], this, count)
 }

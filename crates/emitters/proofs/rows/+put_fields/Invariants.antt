@@ -1,4 +1,0 @@
-use Rattle.emitters.proofs.rows.+put_fields.Given as goal
-
-abbrev pub decreases-put_fields : goal.decreases-put_fields
-decreases-put_fields l = l.count
