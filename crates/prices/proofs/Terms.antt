@@ -9,55 +9,54 @@ use borrow.Author.Tests.{leb-true, eqb-true, eqb-false, ne_eqb, le-leb, lt-leb}
 use lib.Dec.{eqb, leb}
 use lib.ListN.{length, take, drop, length-append, length-drop, drop_of_length-le}
 use lib.Seq.{drop-cons, drop-drop}
+use Rattle.std.specs.Prelude.{Option, Some, None}
 use Rattle.language.specs.Limits.{largest}
 use Rattle.language.specs.Results.{Checked, accept, refuse, require, require_inv, accept≢refuse}
 use Rattle.language.specs.Results.{accept_injective}
 use Rattle.language.specs.Decimals.{decimal_of}
 use Rattle.language.specs.TextLines.{line_feed, field, taken, number_of}
 use Rattle.language.specs.WellFormed.{Each, each_nil, each_cons}
-use Rattle.language.specs.declared.Decimal.{Decimal}
-use Rattle.language.specs.declared.Decimal.TheVariants.{Is, Bad}
-use Rattle.language.specs.declared.Taken.{Taken}
-use Rattle.language.specs.declared.Taken.TheVariants.{Number, NoNumber}
 use Rattle.language.proofs.Booleans.{and_inv, not_true}
 use Rattle.fields.specs.Places.{number_at}
 use Rattle.fields.proofs.Digits.{decimal_range}
 use Rattle.fields.proofs.Fields.{taken_inv}
-use Rattle.prices.specs.Terms.{Term, price_term, first_number, then_numbers, ended, term_line}
+use Rattle.prices.specs.Terms.{Term, price_term, first_number, then_numbers, term_numbers, ended, term_line}
 use Rattle.prices.specs.Terms.{is_signed}
 use Rattle.prices.specs.Terms.{next_line, with_term, terms_after, terms_of}
 use Rattle.prices.specs.declared.TermLine.{TermLine}
-use Rattle.prices.specs.declared.TermLine.TheVariants.{Numbers, Malformed}
 
 -- ---- the numbers of a line
 
-taken_range : (used : ℕ) (d : Decimal) (v n : ℕ) → ((k : ℕ) → d ≡ Is k → k ≤ largest)
-    → taken used d ≡ Number v n
+taken_range : (used : ℕ) (d : Option ℕ) (v n : ℕ) → ((k : ℕ) → d ≡ Some k → k ≤ largest)
+    → taken used d ≡ Some (v, n)
     → v ≤ largest
-taken_range used (Is k) v n f e = let q : k ≡ v = cc in rw (← q) (f k refl)
-taken_range used Bad v n f e = let z : ◌≡◌ {A = ℕ} 0 1 = cc in absurd (omega arith)
+taken_range used (Some k) v n f e =
+    let p : ◌≡◌ {A = ℕ × ℕ} (k, used) (v, n) = cc in
+    let q : k ≡ v = ap (λ (x : ℕ × ℕ). x.0) p in
+    rw (← q) (f k refl)
+taken_range used None v n f e = absurd (cc)
 
-first_range : (s : List ℕ) (v n : ℕ) → first_number s ≡ Number v n → v ≤ largest
+first_range : (s : List ℕ) (v n : ℕ) → first_number s ≡ Some (v, n) → v ≤ largest
 first_range s v n e =
     taken_range (length (field s)) (decimal_of (field s)) v n (λ k. decimal_range (field s) k) e
 
-number_of_range : (s : List ℕ) (v n : ℕ) → number_of s ≡ Number v n → v ≤ largest
+number_of_range : (s : List ℕ) (v n : ℕ) → number_of s ≡ Some (v, n) → v ≤ largest
 unfolding number_of
-number_of_range [] v n e = let z : ◌≡◌ {A = ℕ} 0 1 = cc in absurd (omega arith)
+number_of_range [] v n e = absurd (cc)
 number_of_range (b ∷ s) v n e = go (eqb b 9) e
   where
-    go : (t : Bool) → cond t (taken (1 + length (field s)) (decimal_of (field s))) NoNumber ≡ Number v n
+    go : (t : Bool) → cond t (taken (1 + length (field s)) (decimal_of (field s))) None ≡ Some (v, n)
         → v ≤ largest
     go true e =
         taken_range (1 + length (field s)) (decimal_of (field s)) v n (λ k. decimal_range (field s) k) e
-    go false e = let z : ◌≡◌ {A = ℕ} 0 1 = cc in absurd (omega arith)
+    go false e = absurd (cc)
 
-number_range : (at : ℕ) (s : List ℕ) (v n : ℕ) → number_at at s ≡ Number v n → v ≤ largest
+number_range : (at : ℕ) (s : List ℕ) (v n : ℕ) → number_at at s ≡ Some (v, n) → v ≤ largest
 number_range at s v n e =
     taken_inv at v n (number_of (drop at s)) e λ k q w. number_of_range (drop at s) v k q
 
-pub not_numbers : {A : Type 0} {m f l c g u : ℕ} → Malformed ≡ Numbers m f l c g u → A
-not_numbers e = let z : ◌≡◌ {A = ℕ} 0 1 = cc in absurd (omega arith)
+pub not_numbers : {A : Type 0} {m f l c g u : ℕ} → None ≡ Some (term_numbers m f l c g u) → A
+not_numbers e = absurd (cc)
 
 -- What is read of a line.
 pub record LineInRange (s : List ℕ) (model first last cents signing used : ℕ) : Type 0 where
@@ -71,13 +70,13 @@ pub record LineInRange (s : List ℕ) (model first last cents signing used : ℕ
 
 -- A line that is read has its numbers one after another, and then a line feed.
 module _ {A : Type 0} {m f l c g u : ℕ} where
-  pub then_inv : (rest : ℕ → ℕ → TermLine) (t : Taken) → then_numbers rest t ≡ Numbers m f l c g u
-      → ((v at : ℕ) → t ≡ Number v at → rest v at ≡ Numbers m f l c g u → A) → A
-  then_inv rest (Number v at) e k = k v at refl e
-  then_inv rest NoNumber e k = not_numbers e
+  pub then_inv : (rest : ℕ → ℕ → Option TermLine) (t : Option (ℕ × ℕ)) → then_numbers rest t ≡ Some (term_numbers m f l c g u)
+      → ((v at : ℕ) → t ≡ Some (v, at) → rest v at ≡ Some (term_numbers m f l c g u) → A) → A
+  then_inv rest (Some n) e k = k n.0 n.1 refl e
+  then_inv rest None e k = not_numbers e
 
   pub ended_inv : (model first last cents signing used : ℕ) (s : List ℕ)
-      → ended model first last cents signing used s ≡ Numbers m f l c g u
+      → ended model first last cents signing used s ≡ Some (term_numbers m f l c g u)
       → (model ≡ m → first ≡ f → last ≡ l → cents ≡ c → signing ≡ g → used + 1 ≡ u
       → take 1 s ≡ line_feed ∷ [] → 1 ≤ length s → A)
       → A
@@ -86,13 +85,17 @@ module _ {A : Type 0} {m f l c g u : ℕ} where
   ended_inv model first last cents signing used (x ∷ s) e k = go (eqb x line_feed) refl e
     where
       go : (t : Bool) → eqb x line_feed ≡ t
-          → cond t (Numbers model first last cents signing (used + 1)) Malformed ≡ Numbers m f l c g u → A
+          → cond t (Some (term_numbers model first last cents signing (used + 1))) None ≡ Some (term_numbers m f l c g u) → A
       go true q e =
-          k (cc) (cc) (cc) (cc) (cc) (cc) (ap (λ (y : ℕ). y ∷ []) (eqb-true x line_feed q)) (omega arith)
+          let h : term_numbers model first last cents signing (used + 1) ≡ term_numbers m f l c g u = cc in
+          k (ap (λ (t : TermLine). t.model) h) (ap (λ (t : TermLine). t.first) h)
+          (ap (λ (t : TermLine). t.last) h) (ap (λ (t : TermLine). t.cents) h)
+          (ap (λ (t : TermLine). t.signing) h) (ap (λ (t : TermLine). t.end) h)
+          (ap (λ (y : ℕ). y ∷ []) (eqb-true x line_feed q)) (omega arith)
       go false q e = not_numbers e
 
 pub term_line_range : (s : List ℕ) (model first last cents signing used : ℕ)
-    → term_line s ≡ Numbers model first last cents signing used
+    → term_line s ≡ Some (term_numbers model first last cents signing used)
     → LineInRange s model first last cents signing used
 unfolding term_line
 term_line_range s m f l c g u e =
@@ -221,15 +224,16 @@ module _ {seen : List Term} (h : Seen seen) {s : List ℕ} {m f l c g u : ℕ} (
       }
 
 -- A line of a text that is accepted.
-with_inv : {A : Type 0} (seen : List Term) (rest : List Term → ℕ → Checked (List Term)) (line : TermLine)
+with_inv : {A : Type 0} (seen : List Term) (rest : List Term → ℕ → Checked (List Term)) (line : Option TermLine)
     {ts : List Term} → with_term seen rest line ≡ accept ts
-    → ((m f l c g u : ℕ) → line ≡ Numbers m f l c g u → f ≤ l → is_signed g seen ≡ false
+    → ((m f l c g u : ℕ) → line ≡ Some (term_numbers m f l c g u) → f ≤ l → is_signed g seen ≡ false
     → rest (seen ++ (next_term seen m f l c g ∷ [])) u ≡ accept ts → A) → A
-with_inv seen rest Malformed e k = absurd (accept≢refuse 1 (next_line seen) e)
-with_inv seen rest (Numbers m f l c g u) e k =
-    require_inv (leb f l && not (is_signed g seen)) 23 (next_line seen) _ e λ t q.
-    let both = and_inv (leb f l) (not (is_signed g seen)) t in
-    k m f l c g u refl (leb-true f l both.0) (not_true (is_signed g seen) both.1) q
+with_inv seen rest None e k = absurd (accept≢refuse 1 (next_line seen) e)
+with_inv seen rest (Some n) e k =
+    require_inv (leb n.first n.last && not (is_signed n.signing seen)) 23 (next_line seen) _ e λ t q.
+    let both = and_inv (leb n.first n.last) (not (is_signed n.signing seen)) t in
+    k n.model n.first n.last n.cents n.signing n.end refl (leb-true n.first n.last both.0)
+    (not_true (is_signed n.signing seen) both.1) q
 
 after_seen : (seen : List Term) (skip : ℕ) (s : List ℕ) (ts : List Term) → Seen seen
     → terms_after seen skip s ≡ accept ts → Seen ts
@@ -268,11 +272,11 @@ module _ (seen : List Term) (at : ℕ) (s : List ℕ) (h : at < length s) where
   unfolding terms_after
   terms_here = rw (drop-cons s at 0 h)
 
-  pub terms_malformed : term_line (drop at s) ≡ Malformed
+  pub terms_malformed : term_line (drop at s) ≡ None
       → terms_after seen 0 (drop at s) ≡ refuse 1 (next_line seen)
   terms_malformed e = rw (terms_here, e)
 
-  module _ (m f l c g u : ℕ) (e : term_line (drop at s) ≡ Numbers m f l c g u) where
+  module _ (m f l c g u : ℕ) (e : term_line (drop at s) ≡ Some (term_numbers m f l c g u)) where
     pub terms_reversed : l < f → terms_after seen 0 (drop at s) ≡ refuse 23 (next_line seen)
     unfolding require
     terms_reversed q = rw (terms_here, e, lt-leb f l q)

@@ -2,14 +2,13 @@
 -- (document 02, §11: "Days count from 2000-01-01 as 0, up to 65,535, by the Gregorian calendar").
 -- A date is three numbers, which need not be in the calendar. Day 0 is 2000-01-01, and the day after a day has the
 -- calendar's next date.
-use Rattle.std.specs.Prelude.{Bool, true, false, cond, ◌&&◌, ◌||◌, ℕ, zero, suc, ◌%◌, eqb, leb, ltb}
+use Rattle.std.specs.Prelude.{Bool, true, false, cond, ◌&&◌, ◌||◌, ℕ, zero, suc, ◌%◌, eqb, leb, ltb, Result}
 use Rattle.language.specs.Limits.{no_line}
 use Rattle.language.specs.Lists.{choice}
 use Rattle.language.specs.Results.{Checked, accept, refuse, require}
-use Rattle.prices.specs.declared.DayAnswer.{DayAnswer}
-use Rattle.prices.specs.declared.DayAnswer.TheVariants.{Day, Refused}
-use Rattle.prices.specs.declared.DateAnswer.{DateAnswer}
-use Rattle.prices.specs.declared.DateAnswer.TheVariants.{Date as DateIs, Refused as NoDate}
+use Rattle.language.specs.Refusals.{result_of}
+use Rattle.language.specs.declared.Refusal.{Refusal}
+pub use Rattle.prices.specs.declared.Date.{Date}
 
 -- The refusal of a day or date that is not in the calendar or range, the last day of the range, the months of a year.
 abbrev pub date_refusal : ℕ
@@ -20,11 +19,6 @@ last_day = 65535
 
 abbrev pub months : ℕ
 months = 12
-
-pub record Date : Type 0 where
-  pub year : ℕ
-  pub month : ℕ
-  pub day : ℕ
 
 abbrev pub date : ℕ → ℕ → ℕ → Date
 date y m d = record { year = y; month = m; day = d }
@@ -73,16 +67,14 @@ abbrev pub day_in_range : ℕ → Checked ℕ
 day_in_range n = require (leb n last_day) date_refusal no_line λ _. accept n
 
 -- What the two conversions return.
-abbrev pub told_day : Checked ℕ → DayAnswer
-told_day (accept n) = Day n
-told_day (refuse number line) = Refused number line
+abbrev pub told_day : Checked ℕ → Result ℕ Refusal
+told_day day = result_of (λ n. n) day
 
-abbrev pub told_date : Checked ℕ → DateAnswer
-told_date (accept n) = DateIs (date_of n).year (date_of n).month (date_of n).day
-told_date (refuse number line) = NoDate number line
+abbrev pub told_date : Checked ℕ → Result Date Refusal
+told_date day = result_of date_of day
 
-abbrev pub day_answer : ℕ → ℕ → ℕ → DayAnswer
+abbrev pub day_answer : ℕ → ℕ → ℕ → Result ℕ Refusal
 day_answer y m d = told_day (day_of (date y m d))
 
-abbrev pub date_answer : ℕ → DateAnswer
+abbrev pub date_answer : ℕ → Result Date Refusal
 date_answer n = told_date (day_in_range n)

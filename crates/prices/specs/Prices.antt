@@ -1,13 +1,14 @@
 -- The price of a model on a day
 -- (document 02, §11: "the price of the term with the highest signing number among those that hold is answered, or
 -- none"; the terms' 1 and 23 come first, then 24).
-use Rattle.std.specs.Prelude.{Bool, cond, ◌&&◌, List, [], ◌∷◌, ℕ, eqb, leb, ltb}
+use Rattle.std.specs.Prelude.{Bool, cond, ◌&&◌, List, [], ◌∷◌, ℕ, eqb, leb, ltb, Option as Answered, Some, None, Result}
 use Rattle.std.proofs.Math.Option.{Option, none, some}
-use Rattle.language.specs.Results.{Checked, accept, refuse, bind_checked}
+use Rattle.language.specs.Results.{Checked, accept, bind_checked}
 use Rattle.prices.specs.Calendar.{date, day_of, day_in_range}
 use Rattle.prices.specs.Terms.{Term, terms_of}
-use Rattle.prices.specs.declared.PriceAnswer.{PriceAnswer}
-use Rattle.prices.specs.declared.PriceAnswer.TheVariants.{Cents, Unpriced, Refused}
+use Rattle.language.specs.Refusals.{result_of}
+use Rattle.language.specs.declared.Refusal.{Refusal}
+use Rattle.prices.specs.declared.Price.{Price}
 
 -- A term with these edge days covers the day: both edge days belong to it.
 abbrev pub covers : ℕ → ℕ → ℕ → Bool
@@ -32,13 +33,19 @@ unfoldable pub term_on : List ℕ → ℕ → Checked ℕ → Checked (Option Te
 term_on text model day =
     bind_checked (terms_of text) λ ts. bind_checked day λ n. accept (ruling model n ts)
 
-abbrev pub told_price : Checked (Option Term) → PriceAnswer
-told_price (accept none) = Unpriced
-told_price (accept (some t)) = Cents t.cents t.line
-told_price (refuse number line) = Refused number line
+-- The price of a term, and its line.
+abbrev pub price : ℕ → ℕ → Price
+price cents line = record { cents = cents; line = line }
 
-abbrev pub price_on_day : List ℕ → ℕ → ℕ → PriceAnswer
+abbrev pub price_of : Option Term → Answered Price
+price_of none = None
+price_of (some t) = Some (price t.cents t.line)
+
+abbrev pub told_price : Checked (Option Term) → Result (Answered Price) Refusal
+told_price term = result_of price_of term
+
+abbrev pub price_on_day : List ℕ → ℕ → ℕ → Result (Answered Price) Refusal
 price_on_day text model day = told_price (term_on text model (day_in_range day))
 
-abbrev pub price_on_date : List ℕ → ℕ → ℕ → ℕ → ℕ → PriceAnswer
+abbrev pub price_on_date : List ℕ → ℕ → ℕ → ℕ → ℕ → Result (Answered Price) Refusal
 price_on_date text model year month day = told_price (term_on text model (day_of (date year month day)))

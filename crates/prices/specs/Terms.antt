@@ -1,16 +1,13 @@
 -- Price terms as text
 -- (document 02, §11: "A term is a line of five numbers, tabs between, written as in document 01: model, first day, last
 -- day, price in cents, signing number").
-use Rattle.std.specs.Prelude.{Bool, false, cond, ◌&&◌, ◌||◌, not, List, [], ◌∷◌, ◌++◌, ℕ, zero, suc, ◌+◌, ◌-◌, eqb, leb, length, drop}
+use Rattle.std.specs.Prelude.{Bool, false, cond, ◌&&◌, ◌||◌, not, List, [], ◌∷◌, ◌++◌, ℕ, zero, suc, ◌+◌, ◌-◌, eqb, leb, length, drop, Option, Some, None}
 use Rattle.language.specs.Limits.{line_refusal}
 use Rattle.language.specs.Results.{Checked, accept, refuse, require}
 use Rattle.language.specs.Decimals.{decimal_of}
 use Rattle.language.specs.TextLines.{line_feed, field, taken}
-use Rattle.language.specs.declared.Taken.{Taken}
-use Rattle.language.specs.declared.Taken.TheVariants.{Number, NoNumber}
 use Rattle.fields.specs.Places.{number_at}
 use Rattle.prices.specs.declared.TermLine.{TermLine}
-use Rattle.prices.specs.declared.TermLine.TheVariants.{Numbers, Malformed}
 
 -- The refusal of a line whose first day follows its last or whose signing number occurred earlier.
 abbrev pub term_refusal : ℕ
@@ -36,22 +33,32 @@ price_term line model first last cents signing = record {
 }
 
 -- The number that a line begins with.
-abbrev pub first_number : List ℕ → Taken
+abbrev pub first_number : List ℕ → Option (ℕ × ℕ)
 first_number s = taken (length (field s)) (decimal_of (field s))
 
 -- The rest of a line after a number, given the number and the place after it.
-abbrev pub then_numbers : (ℕ → ℕ → TermLine) → Taken → TermLine
-then_numbers rest NoNumber = Malformed
-then_numbers rest (Number v at) = rest v at
+abbrev pub then_numbers : (ℕ → ℕ → Option TermLine) → Option (ℕ × ℕ) → Option TermLine
+then_numbers rest None = None
+then_numbers rest (Some n) = rest n.0 n.1
+
+abbrev pub term_numbers : ℕ → ℕ → ℕ → ℕ → ℕ → ℕ → TermLine
+term_numbers model first last cents signing end = record {
+  model = model;
+  first = first;
+  last = last;
+  cents = cents;
+  signing = signing;
+  end = end;
+}
 
 -- The line feed that ends a line, after `used` bytes of it.
-unfoldable pub ended : ℕ → ℕ → ℕ → ℕ → ℕ → ℕ → List ℕ → TermLine
-ended model first last cents signing used [] = Malformed
+unfoldable pub ended : ℕ → ℕ → ℕ → ℕ → ℕ → ℕ → List ℕ → Option TermLine
+ended model first last cents signing used [] = None
 ended model first last cents signing used (x ∷ s) =
-    cond (eqb x line_feed) (Numbers model first last cents signing (used + 1)) Malformed
+    cond (eqb x line_feed) (Some (term_numbers model first last cents signing (used + 1))) None
 
 -- The term's line that a text begins with.
-unfoldable pub term_line : List ℕ → TermLine
+unfoldable pub term_line : List ℕ → Option TermLine
 term_line s =
     then_numbers (λ model a. then_numbers (λ first b. then_numbers (λ last c. then_numbers (λ cents d.
     then_numbers (λ signing e. ended model first last cents signing e (drop e s))
@@ -68,11 +75,11 @@ next_line seen = suc (length seen)
 
 -- What follows the next line: `rest`, given the terms with the line's term among them and the bytes that the line
 -- takes; or the line's refusal.
-abbrev pub with_term : List Term → (List Term → ℕ → Checked (List Term)) → TermLine → Checked (List Term)
-with_term seen rest Malformed = refuse line_refusal (next_line seen)
-with_term seen rest (Numbers model first last cents signing used) =
-    require (leb first last && not (is_signed signing seen)) term_refusal (next_line seen) λ _.
-    rest (seen ++ (price_term (next_line seen) model first last cents signing ∷ [])) used
+abbrev pub with_term : List Term → (List Term → ℕ → Checked (List Term)) → Option TermLine → Checked (List Term)
+with_term seen rest None = refuse line_refusal (next_line seen)
+with_term seen rest (Some t) =
+    require (leb t.first t.last && not (is_signed t.signing seen)) term_refusal (next_line seen) λ _.
+    rest (seen ++ (price_term (next_line seen) t.model t.first t.last t.cents t.signing ∷ [])) t.end
 
 -- The terms of a text, after those seen; its first `skip` bytes belong to the last line read.
 unfoldable pub terms_after : List Term → ℕ → List ℕ → Checked (List Term)
