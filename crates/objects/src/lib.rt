@@ -74,7 +74,7 @@ fn decode(n: u32) -> Value
         0 => Value::Null,
         1 => Value::Truth(false),
         2 => Value::Truth(true),
-        _ => Value::Object(n - 2),
+        3..=4294967295 => Value::Object(n - 2),
     }
 }
 
