@@ -1,4 +1,3 @@
-pub mod Cases
 mod ChangeLaws
 mod ChoiceLaws
 mod OpenLaws

@@ -1,6 +1,6 @@
 -- Laws of the V lines of a block, read one by one. Assumes nothing.
 use mathlib.Core.Path.{◌≡◌, refl, sym, ap, ap₂, ◌∙◌}
-use mathlib.Core.Bool.{Bool, true, false, cond}
+use mathlib.Core.Bool.{Bool, true, false, cond, false≢true}
 use mathlib.Core.Logic.{⊎_elim}
 use mathlib.Core.List.{List}
 use Prim.Native.Nat.{ℕ, suc, ◌+◌, ◌-◌, ◌*◌, ◌≤◌, ◌<◌}
@@ -8,11 +8,11 @@ use native.Mathlib.Omega.{arith}
 use lib.ListN.{length, get_or, set, length-set}
 use lib.Seq.{get_or-set_same, get_or-set_other}
 use Rattle.language.proofs.Lines.{less_or_same}
-use Rattle.types.specs.declared.Typing.TheVariants.{Null}
-use Rattle.types.specs.declared.Answer.{Answer}
-use Rattle.types.specs.Answers.{answer, fresh_in, refusal, names_type}
+use Rattle.std.specs.Prelude.{Result, Ok, Err}
+use Rattle.language.specs.declared.Refusal.{Refusal}
+use Rattle.language.specs.Refusals.{refusal}
+use Rattle.types.specs.Answers.{fresh_in, names_type}
 use Rattle.typing.specs.Nodes.{opening, PostOpen}
-use Rattle.types.proofs.Cases.{refused_not}
 
 -- V lines one by one
 pub record OpenLeft (R S S' : List ℕ) (count at scope v i : ℕ) : Type 0 where
@@ -39,12 +39,12 @@ module _ {R S S' : List ℕ} {count at scope v i : ℕ} (h : OpenLeft R S S' cou
     (b : Bool) (n : ℕ)
     (en : n ≡ get_or R ((at + 1 + i) * 4 + 1) 0) (e : b ≡ names_type count n) where
   open_turn : opening R count (at + 1) v
-      ≡ cond b (opening R count (at + 1 + i + 1) (v - (i + 1))) (refusal 4 (at + 1 + i))
+      ≡ cond b (opening R count (at + 1 + i + 1) (v - (i + 1))) (Err (refusal 4 (at + 1 + i + 1)))
   unfolding opening
   open_turn =
       let q : v - i ≡ suc (v - (i + 1)) = omega arith in
       h.same ∙ ap (λ (k : ℕ). opening R count (at + 1 + i) k) q
-      ∙ ap (λ (x : Bool). cond x (opening R count (at + 1 + i + 1) (v - (i + 1))) (refusal 4 (at + 1 + i)))
+      ∙ ap (λ (x : Bool). cond x (opening R count (at + 1 + i + 1) (v - (i + 1))) (Err (refusal 4 (at + 1 + i + 1))))
       (sym (e ∙ ap (names_type count) en))
 
   pub open_step : b ≡ true → scope + v ≤ length S → (u : ℕ) → u ≡ fresh_in n
@@ -54,7 +54,7 @@ module _ {R S S' : List ℕ} {count at scope v i : ℕ} (h : OpenLeft R S S' cou
     same =
         let q : at + 1 + i + 1 ≡ at + 1 + (i + 1) = omega arith in
         open_turn ∙ ap (λ (x : Bool). cond x (opening R count (at + 1 + i + 1) (v - (i + 1)))
-        (refusal 4 (at + 1 + i))) f
+        (Err (refusal 4 (at + 1 + i + 1)))) f
         ∙ ap (λ (k : ℕ). opening R count k (v - (i + 1))) q;
     long = length-set S' (scope + i) u ∙ h.long;
     below = λ k m. get_or-set_other S' (scope + i) k u 0 (λ q. omega arith) ∙ h.below k m;
@@ -66,18 +66,18 @@ module _ {R S S' : List ℕ} {count at scope v i : ℕ} (h : OpenLeft R S S' cou
         (less_or_same j i (omega arith));
   }
 
-  pub open_stop : (r : Answer) → b ≡ false → r ≡ refusal 4 (at + 1 + i) → PostOpen R S S' count at scope v r
+  pub open_stop : (r : Result (Unit {0}) Refusal) → b ≡ false → r ≡ Err (refusal 4 (at + 1 + i + 1)) → PostOpen R S S' count at scope v r
   open_stop r f g = record {
     out = g ∙ sym (open_turn ∙ ap (λ (x : Bool). cond x (opening R count (at + 1 + i + 1) (v - (i + 1)))
-        (refusal 4 (at + 1 + i))) f);
+        (Err (refusal 4 (at + 1 + i + 1)))) f);
     long = h.long;
     below = h.below;
     after = λ k m. h.after k (omega arith);
-    filled = λ x. refused_not r 4 (at + 1 + i) g x;
+    filled = λ x. absurd (false≢true (rw g at x));
   }
 
 pub open_end : {R S S' : List ℕ} {count at scope v i : ℕ} → OpenLeft R S S' count at scope v i → v ≤ i
-    → (r : Answer) → r ≡ answer Null 0
+    → (r : Result (Unit {0}) Refusal) → r ≡ Ok tt
     → PostOpen R S S' count at scope v r
 unfolding opening
 open_end {R} {S} {S'} {count} {at} {scope} {v} {i} h l r e = record {

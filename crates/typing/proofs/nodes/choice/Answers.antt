@@ -1,20 +1,35 @@
 -- `typing::nodes::choice` meets its contract. Assumes nothing.
-use mathlib.Core.Path.{refl}
-use Rattle.typing.proofs.ChoiceLaws.{chosen_other, chosen_none, chosen_some, refused_choice}
-use Rattle.typing.proofs.ChoiceLaws.{done_choice}
+use mathlib.Core.Path.{refl, sym, ap, ◌∙◌}
+use mathlib.Core.Bool.{false≢true}
+use Rattle.std.specs.Prelude.{Err}
+use Rattle.language.specs.Effects.{join}
+use Rattle.typing.specs.Nodes.{joined_answer}
+use Rattle.typing.proofs.ChoiceLaws.{chosen_other, chosen_join}
 use Rattle.typing.proofs.nodes.choice.Goals as goal
 
 pub returns-in_default : goal.returns-in_default
-returns-in_default c = refused_choice _ c.refused.ensures
-    (chosen_other _ _ _ _ _ _ _ _ c.in_default.not-Bool c.refused.ensures)
+returns-in_default c = record {
+  out = ap Err c.refused.ensures ∙ chosen_other _ _ _ _ _ _ _ c.in_default.not-Bool;
+  long = refl;
+  rest = λ i l. refl;
+  slots = λ x. absurd (false≢true x);
+}
 
-pub returns-in-Refusal : goal.returns-in-Refusal
-returns-in-Refusal c = refused_choice _ c.refused-in-Refusal.ensures
-    (chosen_none _ _ _ _ _ _ _ _ _ c.in-Bool.is
-    c.join_types-joined.ensures _ _ c.in-Refusal.is
-    c.refused-in-Refusal.ensures)
+pub returns-in_default-join_types : goal.returns-in_default-join_types
+unfolding joined_answer
+returns-in_default-join_types c = record {
+  out = ap Err c.refused-in_default-join_types.ensures
+      ∙ chosen_join _ _ _ _ _ _ _ _ c.in-Bool.is (sym c.in_default-join_types.is ∙ c.join_types.ensures);
+  long = refl;
+  rest = λ i l. refl;
+  slots = λ x. absurd (false≢true x);
+}
 
 pub returns : goal.returns
-returns c = done_choice _ (chosen_some _ _ _ _ _ _ _ _ _ c.in-Bool.is
-    c.join_types-joined.ensures c.in_default-joined.not-Refusal refl)
-    c.join_slots.ensures
+unfolding joined_answer join
+returns c = record {
+  out = chosen_join _ _ _ _ _ _ _ _ c.in-Bool.is (sym c.in-Some.is ∙ c.join_types.ensures);
+  long = c.join_slots.ensures.long;
+  rest = c.join_slots.ensures.rest;
+  slots = λ x. c.join_slots.ensures.below;
+}
