@@ -19,9 +19,10 @@ use Rattle.language.proofs.Tables.{next_rows_long, method_ends_long, class_ends_
 use Rattle.parsing.specs.declared.lines.Limits.{Limits}
 use Rattle.parsing.specs.Columns.{most_of}
 use Rattle.parsing.specs.Places.{rows_from, row_at, has_code, standing, run, Ready, There}
-use Rattle.parsing.specs.Passes.{ToldMethod, ToldMethods, ToldClass, ToldClasses, class_read}
-use Rattle.parsing.specs.declared.lines.Step.{Step}
-use Rattle.parsing.specs.declared.lines.Step.TheVariants.{End, Refused}
+use Rattle.parsing.specs.Passes.{Step, ToldMethod, ToldMethods, ToldClass, ToldClasses, class_read}
+use Rattle.std.specs.Prelude.{Ok, Err}
+use Rattle.language.specs.declared.Refusal.{Refusal}
+use Rattle.language.specs.Refusals.{refusal}
 use Rattle.parsing.proofs.Places.{rows_here, rows_skip, rows_start}
 use Rattle.parsing.proofs.Passes.{told_end, told_failed, told_refuse, told_as, told_nothing, told_stop}
 use Rattle.parsing.proofs.Passes.{told_after, told_close}
@@ -82,11 +83,11 @@ listing_start {L} r = record { ready = r; told = λ f h. (f, h, λ s E' t. t); l
 
 module _ {L : Limits} {R E₀ E : List ℕ} {at i : ℕ} (p : Listing L R E₀ E at i) where
   pub listing_end : standing L 77 (i + 1) (rows_from R i) ≡ false → (f : ℕ) → length (rows_from R at) ≤ f
-      → ToldMethods L R E₀ at (methods (most_of L) f (at + 1) (rows_from R at)) (End i) E
+      → ToldMethods L R E₀ at (methods (most_of L) f (at + 1) (rows_from R at)) (Ok i) E
   unfolding methods_lines methods_ends
   listing_end e f h =
       let t = p.told f h in
-      t.2 (End i) E (told_as (methods_none L t.0 (i + 1) (rows_from R i) e)
+      t.2 (Ok i) E (told_as (methods_none L t.0 (i + 1) (rows_from R i) e)
       (told_nothing [] refl refl p.ready.within p.ready.inside))
 
   module _ (t : There L R i) (e : standing L 77 (i + 1) (rows_from R i) ≡ true) where
@@ -104,28 +105,28 @@ module _ {L : Limits} {R E₀ E : List ℕ} {at i : ℕ} (p : Listing L R E₀ E
         let z : g ≡ suc (g - 1) = omega (arith, k) in
         ap (λ (j : ℕ). methods (most_of L) j (i + 1) (rows_from R i)) z ∙ rw (r, the-record.1)
 
-    pub listing_stop : {s : Step} {n l : ℕ} {E₁ : List ℕ}
+    pub listing_stop : {s : Step} {r : Refusal} {E₁ : List ℕ}
         → ((x : Record) → ToldMethod L R E i (method (most_of L) (i + 1) x (rows_from R (i + 1))) s E₁)
-        → s ≡ Refused n l
+        → s ≡ Err r
         → (f : ℕ) → length (rows_from R at) ≤ f
-        → ToldMethods L R E₀ at (methods (most_of L) f (at + 1) (rows_from R at)) s E₁
-    listing_stop {s} {n} {l} {E₁} u w f h =
+        → ToldMethods L R E₀ at (methods (most_of L) f (at + 1) (rows_from R at)) (Err r) E₁
+    listing_stop {s} {r} {E₁} u w f h =
         let k = p.told f h in
-        k.2 s E₁ (told_as (listing-here k.0 k.1)
+        k.2 (Err r) E₁ (told_as (listing-here k.0 k.1)
         (told_stop (method (most_of L) (i + 1) the-record.0 (rows_from R (i + 1))) _
         (u the-record.0) w))
 
     -- a method takes a row at least
     pub listing_less : {s : Step} {q : ℕ} {E₁ : List ℕ}
         → ((x : Record) → ToldMethod L R E i (method (most_of L) (i + 1) x (rows_from R (i + 1))) s E₁)
-        → s ≡ End q → i < q
+        → s ≡ Ok q → i < q
     unfolding method_lines heading_lines
     listing_less u w = told_end (method (most_of L) (i + 1) the-record.0 (rows_from R (i + 1)))
         (u the-record.0) w λ m x y v b z. omega (arith, y)
 
     pub listing_step : {s : Step} {q : ℕ} {E₁ : List ℕ}
         → ((x : Record) → ToldMethod L R E i (method (most_of L) (i + 1) x (rows_from R (i + 1))) s E₁)
-        → s ≡ End q
+        → s ≡ Ok q
         → length E₁ ≡ length E → Listing L R E₀ E₁ at q
     unfolding after methods_lines methods_ends method_lines heading_lines
     listing_step {s} {q} {E₁} u w o =
@@ -171,14 +172,14 @@ module _ (L : Limits) (R : List ℕ) (at : ℕ) (x : Record) (a : ℕ)
         (methods (most_of L) (length (rows_from R (at + 1))) (a + 1) (rows_from R a)) s E₂
     methods-told = t (length (rows_from R (at + 1))) (fewer R (at + 1) a (omega (arith, p)))
 
-    pub class_stop : {E E₃ : List ℕ} {n l : ℕ} → s ≡ Refused n l
-        → ToldClass L R E at (class_read L x (at + 1) (rows_from R (at + 1))) s E₃
+    pub class_stop : {E E₃ : List ℕ} {r : Refusal} → s ≡ Err r
+        → ToldClass L R E at (class_read L x (at + 1) (rows_from R (at + 1))) (Err r) E₃
     class_stop e = told_as class_is (told_stop
         (methods (most_of L) (length (rows_from R (at + 1))) (a + 1) (rows_from R a)) _ methods-told e)
 
     pub class_close : {E : List ℕ} {n : ℕ}
-        → E₁ ≡ sets E (at + 1) (next_rows (at + 1) (run L 70 (at + 1 + 1) (rows_from R (at + 1)))) → s ≡ End n
-        → ToldClass L R E at (class_read L x (at + 1) (rows_from R (at + 1))) (End n) (set E₂ at n)
+        → E₁ ≡ sets E (at + 1) (next_rows (at + 1) (run L 70 (at + 1 + 1) (rows_from R (at + 1)))) → s ≡ Ok n
+        → ToldClass L R E at (class_read L x (at + 1) (rows_from R (at + 1))) (Ok n) (set E₂ at n)
     unfolding class_lines class_ends
     class_close w e =
         let f = fields_run L (at + 1 + 1) (rows_from R (at + 1)) in
@@ -244,7 +245,7 @@ module _ {L : Limits} {R E₀ E : List ℕ} {i n : ℕ} (p : Classing L R E₀ E
       let z = classes_none L p.left n (i + 1) (rows_from R i) e in
       let c = p.counted [] (rows_from R i) z in
       told_end (all_classes L R)
-      (p.told (End i) E (told_as z (told_nothing [] refl refl p.ready.within p.ready.inside)))
+      (p.told (Ok i) E (told_as z (told_nothing [] refl refl p.ready.within p.ready.inside)))
       refl λ cs x y v b w.
       let s = done_tree cs c.0 (rows_from R i) (rows_from R i) (sym x ∙ c.1) in
       record {
@@ -272,7 +273,7 @@ module _ {L : Limits} {R E₀ E : List ℕ} {i n : ℕ} (p : Classing L R E₀ E
     unfolding classes require
     classing_over h =
         told_failed (all_classes L R)
-        (p.told (Refused 2 (i + 1)) E
+        (p.told (Err (refusal 2 (i + 1))) E
         (told_as (classing-here ∙ rw (the-line.1, le-ltb n L.classes h)) (told_refuse 2 (i + 1))))
         refl
 
@@ -293,18 +294,18 @@ module _ {L : Limits} {R E₀ E : List ℕ} {i n : ℕ} (p : Classing L R E₀ E
 
       module _ {s : Step} {E₁ : List ℕ}
           (u : (x : Record) → ToldClass L R E i (class_read L x (i + 1) (rows_from R (i + 1))) s E₁) where
-        pub classing_stop : {m l : ℕ} → s ≡ Refused m l → all_classes L R ≡ refuse m l
-        classing_stop w = told_failed (all_classes L R)
-            (p.told s E₁ (told_as classing-next (told_stop
-            (class_read L the-line.0 (i + 1) (rows_from R (i + 1))) _ (u the-line.0) w))) w
+        pub classing_stop : {r : Refusal} → s ≡ Err r → all_classes L R ≡ refuse r.number r.line
+        classing_stop {r} w = told_failed (all_classes L R)
+            (p.told (Err r) E₁ (told_as classing-next (told_stop
+            (class_read L the-line.0 (i + 1) (rows_from R (i + 1))) _ (u the-line.0) w))) refl
 
         -- a class takes a row at least
-        pub classing_less : {q : ℕ} → s ≡ End q → i < q
+        pub classing_less : {q : ℕ} → s ≡ Ok q → i < q
         unfolding class_lines
         classing_less w = told_end (class_read L the-line.0 (i + 1) (rows_from R (i + 1)))
             (u the-line.0) w λ c x y v b z. omega (arith, y)
 
-        pub classing_step : {q : ℕ} → s ≡ End q → length E₁ ≡ length E → Classing L R E₀ E₁ q (n + 1)
+        pub classing_step : {q : ℕ} → s ≡ Ok q → length E₁ ≡ length E → Classing L R E₀ E₁ q (n + 1)
         unfolding after classes_lines classes_ends class_lines
         classing_step {q} w o =
             told_end (class_read L the-line.0 (i + 1) (rows_from R (i + 1))) (u the-line.0) w

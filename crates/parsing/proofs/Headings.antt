@@ -23,9 +23,10 @@ use Rattle.language.proofs.Filling.{sets_then}
 use Rattle.parsing.specs.declared.lines.Limits.{Limits}
 use Rattle.parsing.specs.Columns.{most_of}
 use Rattle.parsing.specs.Places.{rows_from, has_code, run}
-use Rattle.parsing.specs.Passes.{ToldNode, ToldMethod}
-use Rattle.parsing.specs.declared.lines.Step.{Step}
-use Rattle.parsing.specs.declared.lines.Step.TheVariants.{End, Refused}
+use Rattle.parsing.specs.Passes.{Step, ToldNode, ToldMethod}
+use Rattle.std.specs.Prelude.{Ok, Err}
+use Rattle.language.specs.declared.Refusal.{Refusal}
+use Rattle.language.specs.Refusals.{refusal}
 use Rattle.parsing.proofs.Places.{rows_skip}
 use Rattle.parsing.proofs.Passes.{told_as, told_refuse, told_stop, told_close}
 
@@ -192,16 +193,16 @@ declared m ts xs e =
 
 module _ (L : Limits) (R : List ℕ) (at : ℕ) (x : Record) (a : ℕ)
     (p : a ≡ at + 1 + run L 80 (at + 1 + 1) (rows_from R (at + 1))) where
-  pub method_over : {E E' : List ℕ} (k : ℕ) → k ≡ a - at - 1 → 8 < k
-      → ToldMethod L R E at (method (most_of L) (at + 1) x (rows_from R (at + 1))) (Refused 2 (at + 10)) E'
+  pub method_over : {E E' : List ℕ} (k : ℕ) {line : ℕ} → k ≡ a - at - 1 → 8 < k → line ≡ at + 10
+      → ToldMethod L R E at (method (most_of L) (at + 1) x (rows_from R (at + 1))) (Err (refusal 2 line)) E'
   unfolding method after
-  method_over k j h =
-      let e : at + 1 + 1 + 8 ≡ at + 10 = omega arith in
+  method_over k {line} j h l =
+      let e : at + 1 + 1 + 8 ≡ line = omega arith in
       told_as (rw (
         parameters_over L (rows_from R (at + 1)) 0 (at + 1 + 1) (omega arith)
             (omega (arith, p, j, h)),
         e,
-      )) (told_refuse 2 (at + 10))
+      )) (told_refuse 2 line)
 
   module _ (k : ℕ) (j : k ≡ a - at - 1) (h : k ≤ 8) (b : ℕ) (q : b ≡ a + run L 88 (a + 1) (rows_from R a))
     where
@@ -229,16 +230,16 @@ module _ (L : Limits) (R : List ℕ) (at : ℕ) (x : Record) (a : ℕ)
           ∙ ap (rows_from R) (sym q) in
           rw (t.all, e₀, e₁, e₂, e₃, e₄)
 
-      pub method_stop : {E E₂ E₃ E₄ : List ℕ} {s : Step} {n l : ℕ}
-          → ToldNode L R E₂ b (body (most_of L) (k + 1) (b + 1) (rows_from R b)) s E₃ → s ≡ Refused n l
-          → ToldMethod L R E at (method (most_of L) (at + 1) x (rows_from R (at + 1))) s E₄
+      pub method_stop : {E E₂ E₃ E₄ : List ℕ} {s : Step} {r : Refusal}
+          → ToldNode L R E₂ b (body (most_of L) (k + 1) (b + 1) (rows_from R b)) s E₃ → s ≡ Err r
+          → ToldMethod L R E at (method (most_of L) (at + 1) x (rows_from R (at + 1))) (Err r) E₄
       method_stop t e = told_as method_is (told_stop (body (most_of L) (k + 1) (b + 1) (rows_from R b)) _ t e)
 
       pub method_close : {E E₁ E₂ E₃ : List ℕ} {s : Step} {n : ℕ}
           → E₁ ≡ sets E (at + 1) (next_rows (at + 1) (run L 80 (at + 1 + 1) (rows_from R (at + 1))))
           → E₂ ≡ sets E₁ a (next_rows a (run L 88 (a + 1) (rows_from R a)))
-          → ToldNode L R E₂ b (body (most_of L) (k + 1) (b + 1) (rows_from R b)) s E₃ → s ≡ End n
-          → ToldMethod L R E at (method (most_of L) (at + 1) x (rows_from R (at + 1))) (End n) (set E₃ at n)
+          → ToldNode L R E₂ b (body (most_of L) (k + 1) (b + 1) (rows_from R b)) s E₃ → s ≡ Ok n
+          → ToldMethod L R E at (method (most_of L) (at + 1) x (rows_from R (at + 1))) (Ok n) (set E₃ at n)
       unfolding method_lines heading_lines method_ends
       method_close {E} {E₁} {E₂} {E₃} {s} {n} w₁ w₂ t e =
           let m = method_ready in

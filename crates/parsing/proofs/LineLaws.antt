@@ -9,6 +9,9 @@ use native.Mathlib.Omega.{arith}
 use borrow.Author.Tests.{eq-eqb, ne_eqb, lt-ltb, le-ltb}
 use lib.ListN.{length, get_or, set, length-set}
 use lib.Seq.{sets}
+use Rattle.std.specs.Prelude.{Ok, Err}
+use Rattle.language.specs.declared.Refusal.{Refusal}
+use Rattle.language.specs.Refusals.{refusal}
 use Rattle.language.specs.Results.{refuse, require}
 use Rattle.language.specs.Rows.{code, Row}
 use Rattle.language.specs.Tree.{DeclaredType, type_of_number}
@@ -16,12 +19,10 @@ use Rattle.language.specs.Form.{done, after, locals}
 use Rattle.language.specs.Tables.{next_rows}
 use Rattle.parsing.specs.declared.lines.Limits.{Limits}
 use Rattle.parsing.specs.Columns.{most_of}
-use Rattle.parsing.specs.Places.{rows_from, refusal_on, standing, run, Ready, There}
-use Rattle.parsing.specs.Passes.{ToldLocals}
-use Rattle.parsing.specs.declared.lines.Step.{Step}
-use Rattle.parsing.specs.declared.lines.Step.TheVariants.{End, Refused}
+use Rattle.parsing.specs.Places.{rows_from, row_checked, standing, run, Ready, There}
+use Rattle.parsing.specs.Passes.{Step, ToldLocals}
 use Rattle.parsing.proofs.Places.{rows_here, Here, next_here, next_refused}
-use Rattle.parsing.proofs.Passes.{told_refuse, told_as, told_nothing, told_after, clash}
+use Rattle.parsing.proofs.Passes.{told_refuse, told_as, told_nothing, told_after}
 
 -- a row that is there has its entry in the table
 pub row_room : {L : Limits} {R E : List ℕ} {at : ℕ} → Ready L R E at → (i : ℕ) → There L R i → i < length E
@@ -100,10 +101,11 @@ pub record Declaring (L : Limits) (R E₀ E : List ℕ) (at count slots i left s
       → ToldLocals L R E₀ at (locals (most_of L) count slots (at + 1) (rows_from R at)) s E'
   pub long : length E ≡ length E₀
 
-pub declaring_start : {L : Limits} {R E : List ℕ} {at : ℕ} (count slots : ℕ)
-    → Ready L R E at → slots ≤ L.slots → Declaring L R E E at count slots at count slots
-declaring_start {L} count slots r h =
-    record { ready = r; sum = refl; small = h; told = λ s E' t. t; long = refl }
+pub declaring_start : {L : Limits} {R E : List ℕ} {at count slots i left scope : ℕ}
+    → i ≡ at → left ≡ count → scope ≡ slots
+    → Ready L R E at → slots ≤ L.slots → Declaring L R E E at count slots i left scope
+declaring_start {L} p q w r h =
+    rw (p, q, w) (record { ready = r; sum = refl; small = h; told = λ s E' t. t; long = refl })
 
 locals_here : (L : Limits) (n left line : ℕ) (rs : List Row) → 0 < left
     → locals (most_of L) left n line rs ≡ locals (most_of L) (suc (left - 1)) n line rs
@@ -112,57 +114,58 @@ locals_here L n left line rs h = let e : left ≡ suc (left - 1) = omega arith i
 
 module _ {L : Limits} {R E₀ E : List ℕ} {at count slots i left scope : ℕ}
     (p : Declaring L R E₀ E at count slots i left scope) where
-  pub declaring_end : left ≤ 0
-      → ToldLocals L R E₀ at (locals (most_of L) count slots (at + 1) (rows_from R at)) (End i) E
-      × ((next : ℕ) → End i ≡ End next → slots + count ≤ L.slots)
+  pub declaring_end : left ≤ 0 → {q : ℕ} → i ≡ q
+      → ToldLocals L R E₀ at (locals (most_of L) count slots (at + 1) (rows_from R at)) (Ok q) E
+      × ((next : ℕ) → ◌≡◌ {A = Step} (Ok q) (Ok next) → slots + count ≤ L.slots)
   unfolding locals next_rows
-  declaring_end h =
-      let z : left ≡ 0 = omega arith in (
-        p.told (End i) E (rw z (told_nothing {lines = λ (ts : List DeclaredType). length ts} [] refl refl
+  declaring_end h {q} e =
+      let z : left ≡ 0 = omega arith in
+      rw (← e) (
+        p.told (Ok i) E (rw z (told_nothing {lines = λ (ts : List DeclaredType). length ts} [] refl refl
             p.ready.within p.ready.inside)),
         λ q e. omega (arith, p.sum, p.small, z),
       )
 
-  refused : {E' : List ℕ} (n : ℕ) → locals (most_of L) left scope (i + 1) (rows_from R i) ≡ refuse n (i + 1)
-      → ToldLocals L R E₀ at (locals (most_of L) count slots (at + 1) (rows_from R at)) (Refused n (i + 1)) E'
-      × ((next : ℕ) → Refused n (i + 1) ≡ End next → slots + count ≤ L.slots)
-  refused {E'} n e = (
-    p.told (Refused n (i + 1)) E' (told_as e (told_refuse n (i + 1))),
-    λ q z. absurd
-        (clash z),
+  refused : {E' : List ℕ} (r : Refusal)
+      → locals (most_of L) left scope (i + 1) (rows_from R i) ≡ refuse r.number r.line
+      → ToldLocals L R E₀ at (locals (most_of L) count slots (at + 1) (rows_from R at)) (Err r) E'
+      × ((next : ℕ) → ◌≡◌ {A = Step} (Err r) (Ok next) → slots + count ≤ L.slots)
+  refused {E'} r e = (
+    p.told (Err r) E' (told_as e (told_refuse r.number r.line)),
+    λ q z. absurd cc,
   )
 
   module _ (h : 0 < left) where
-    pub declaring_refused : {E' : List ℕ} (n : ℕ) → n ≡ refusal_on L (i + 1) (rows_from R i) → (n ≡ 0 → ⊥)
-        → ToldLocals L R E₀ at (locals (most_of L) count slots (at + 1) (rows_from R at)) (Refused n (i + 1))
-        E' × ((next : ℕ) → Refused n (i + 1) ≡ End next → slots + count ≤ L.slots)
+    pub declaring_refused : {E' : List ℕ} {r : Refusal} → row_checked L (i + 1) (rows_from R i) ≡ Err r
+        → ToldLocals L R E₀ at (locals (most_of L) count slots (at + 1) (rows_from R at)) (Err r) E'
+        × ((next : ℕ) → ◌≡◌ {A = Step} (Err r) (Ok next) → slots + count ≤ L.slots)
     unfolding locals
-    declaring_refused n e z =
-        refused n (locals_here L scope left (i + 1) (rows_from R i) h ∙ next_refused L R i n _ e z)
+    declaring_refused {E'} {r} e =
+        refused r (locals_here L scope left (i + 1) (rows_from R i) h ∙ next_refused L R i _ e)
 
     module _ (x : Here L R i) where
       pub declaring_other : {E' : List ℕ} → (get_or R (i * 4) 0 ≡ 86 → ⊥)
           → ToldLocals L R E₀ at (locals (most_of L) count slots (at + 1) (rows_from R at))
-          (Refused 3 (i + 1)) E' × ((next : ℕ) → Refused 3 (i + 1) ≡ End next → slots + count ≤ L.slots)
+          (Err (refusal 3 (i + 1))) E' × ((next : ℕ) → ◌≡◌ {A = Step} (Err (refusal 3 (i + 1))) (Ok next) → slots + count ≤ L.slots)
       unfolding locals require
       declaring_other z =
-          refused 3 (locals_here L scope left (i + 1) (rows_from R i) h ∙ next_here x _
+          refused (refusal 3 (i + 1)) (locals_here L scope left (i + 1) (rows_from R i) h ∙ next_here x _
           ∙ rw (ne_eqb 86 (code x.letter) (λ e. z (sym x.code_is ∙ sym e))))
 
       module _ (v : get_or R (i * 4) 0 ≡ 86) where
         pub declaring_over : {E' : List ℕ} → L.slots ≤ scope
             → ToldLocals L R E₀ at (locals (most_of L) count slots (at + 1) (rows_from R at))
-            (Refused 2 (i + 1)) E'
-            × ((next : ℕ) → Refused 2 (i + 1) ≡ End next → slots + count ≤ L.slots)
+            (Err (refusal 2 (i + 1))) E'
+            × ((next : ℕ) → ◌≡◌ {A = Step} (Err (refusal 2 (i + 1))) (Ok next) → slots + count ≤ L.slots)
         unfolding locals require
         declaring_over o =
-            refused 2 (locals_here L scope left (i + 1) (rows_from R i) h ∙ next_here x _
+            refused (refusal 2 (i + 1)) (locals_here L scope left (i + 1) (rows_from R i) h ∙ next_here x _
             ∙ rw (eq-eqb 86 (code x.letter) (sym v ∙ sym x.code_is), le-ltb scope L.slots o))
 
-        pub declaring_step : There L R i → scope < L.slots
-            → Declaring L R E₀ (set E i (i + 1)) at count slots (i + 1) (left - 1) (scope + 1)
+        pub declaring_step : There L R i → scope < L.slots → {j k n : ℕ} → j ≡ i + 1 → k ≡ left - 1
+            → n ≡ scope + 1 → Declaring L R E₀ (set E i (i + 1)) at count slots j k n
         unfolding locals require next_rows
-        declaring_step t o =
+        declaring_step t o {j} {k} {n} e f g =
             let q : locals (most_of L) left scope (i + 1) (rows_from R i)
             ≡ after (locals (most_of L) (left - 1) (scope + 1) (i + 1 + 1) (rows_from R (i + 1)))
             (λ ts rs. done (type_of_number (get_or R (i * 4 + 1) 0) ∷ ts) rs) =
@@ -172,7 +175,7 @@ module _ {L : Limits} {R E₀ E : List ℕ} {at count slots i left scope : ℕ}
               lt-ltb scope L.slots o,
               add-one scope,
             ) in
-            record {
+            rw (e, f, g) (record {
               ready = ready_at (i + 1) p.ready (length-set E i (i + 1)) (omega (arith, t.0))
                   (omega (arith, t.1));
               sum = omega (arith, p.sum, h);
@@ -182,4 +185,4 @@ module _ {L : Limits} {R E₀ E : List ℕ} {at count slots i left scope : ℕ}
                   (locals (most_of L) (left - 1) (scope + 1) (i + 1 + 1) (rows_from R (i + 1)))
                   refl refl (λ ts. omega arith) (λ ts. refl) d));
               long = length-set E i (i + 1) ∙ p.long;
-            }
+            })

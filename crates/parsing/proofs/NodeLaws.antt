@@ -19,17 +19,16 @@ use Rattle.language.proofs.Letters.{code_injective}
 use Rattle.language.proofs.Tables.{next_rows_long, ends_long}
 use Rattle.parsing.specs.declared.lines.Limits.{Limits}
 use Rattle.parsing.specs.Columns.{most_of}
-use Rattle.parsing.specs.Places.{rows_from, refusal_on, parts_of, parts_at, Ready, There}
-use Rattle.parsing.specs.Passes.{ToldNode, ToldNodes, ToldLocals, Makes, parts_read}
+use Rattle.parsing.specs.Places.{rows_from, row_checked, some_parts, parts_of, parts_at, Ready, There}
+use Rattle.parsing.specs.Passes.{Step, ToldNode, ToldNodes, ToldLocals, Makes, parts_read}
 use Rattle.parsing.specs.declared.nodes.Parts.{Parts}
-use Rattle.parsing.specs.declared.nodes.Parts.TheVariants.{Of, NoNode}
-use Rattle.parsing.specs.declared.lines.Step.{Step}
-use Rattle.parsing.specs.declared.lines.Step.TheVariants.{End, Refused}
+use Rattle.std.specs.Prelude.{Option, None, Ok, Err}
+use Rattle.language.specs.declared.Refusal.{Refusal}
 use Rattle.parsing.proofs.Places.{Here, next_here, next_refused}
 use Rattle.parsing.proofs.Passes.{told_end, told_as, told_nothing, told_one, told_stop, told_after}
 use Rattle.parsing.proofs.Passes.{told_close}
 use Rattle.parsing.proofs.LineLaws.{ready_at}
-use Rattle.parsing.proofs.Shapes.{Shaped, shaped, no_shape}
+use Rattle.parsing.proofs.Shapes.{Shaped, shaped, no_shape, parts_injective}
 
 -- ---- several, one after another
 
@@ -40,17 +39,17 @@ pub record Reading (L : Limits) (R E₀ E : List ℕ) (N : ℕ → List Row → 
       → ToldNodes L R E₀ at (several N count (at + 1) (rows_from R at)) s E'
   pub long : length E ≡ length E₀
 
-pub reading_start : {L : Limits} {R E : List ℕ} {at : ℕ} (N : ℕ → List Row → Checked (Read Expr)) (count : ℕ)
-    → Ready L R E at → Reading L R E E N at count at count
-reading_start {L} N count r = record { ready = r; told = λ s E' t. t; long = refl }
+pub reading_start : {L : Limits} {R E : List ℕ} {at count left : ℕ} (N : ℕ → List Row → Checked (Read Expr))
+    → left ≡ count → Ready L R E at → Reading L R E E N at count at left
+reading_start {L} N e r = rw e (record { ready = r; told = λ s E' t. t; long = refl })
 
 module _ {L : Limits} {R E₀ E : List ℕ} {N : ℕ → List Row → Checked (Read Expr)} {at count i left : ℕ}
     (p : Reading L R E₀ E N at count i left) where
-  pub reading_end : left ≤ 0 → ToldNodes L R E₀ at (several N count (at + 1) (rows_from R at)) (End i) E
+  pub reading_end : left ≤ 0 → ToldNodes L R E₀ at (several N count (at + 1) (rows_from R at)) (Ok i) E
   unfolding several sizes ends_list
   reading_end h =
       let z : left ≡ 0 = omega arith in
-      p.told (End i) E (rw z (told_nothing nil refl refl p.ready.within p.ready.inside))
+      p.told (Ok i) E (rw z (told_nothing nil refl refl p.ready.within p.ready.inside))
 
   module _ (h : 0 < left) where
     several-here : several N left (i + 1) (rows_from R i)
@@ -60,28 +59,28 @@ module _ {L : Limits} {R E₀ E : List ℕ} {N : ℕ → List Row → Checked (R
     several-here = let e : left ≡ suc (left - 1) = omega arith in
         ap (λ (k : ℕ). several N k (i + 1) (rows_from R i)) e
 
-    pub reading_stop : {s : Step} {n l : ℕ} {E₁ : List ℕ} → ToldNode L R E i (N (i + 1) (rows_from R i)) s E₁
-        → s ≡ Refused n l
-        → ToldNodes L R E₀ at (several N count (at + 1) (rows_from R at)) s E₁
-    reading_stop {s} {n} {l} {E₁} t e =
-        p.told s E₁ (told_as several-here (told_stop (N (i + 1) (rows_from R i)) _ t e))
+    pub reading_stop : {s : Step} {r : Refusal} {E₁ : List ℕ} → ToldNode L R E i (N (i + 1) (rows_from R i)) s E₁
+        → s ≡ Err r
+        → ToldNodes L R E₀ at (several N count (at + 1) (rows_from R at)) (Err r) E₁
+    reading_stop {s} {r} {E₁} t e =
+        p.told (Err r) E₁ (told_as several-here (told_stop (N (i + 1) (rows_from R i)) _ t e))
 
     pub reading_step : {s : Step} {q : ℕ} {E₁ : List ℕ} → ToldNode L R E i (N (i + 1) (rows_from R i)) s E₁
-        → s ≡ End q → length E₁ ≡ length E
-        → Reading L R E₀ E₁ N at count q (left - 1)
+        → s ≡ Ok q → length E₁ ≡ length E → {k : ℕ} → k ≡ left - 1
+        → Reading L R E₀ E₁ N at count q k
     unfolding after sizes ends_list
-    reading_step {s} {q} {E₁} t e m = told_end (N (i + 1) (rows_from R i)) t e λ a x y w o z.
+    reading_step {s} {q} {E₁} t e m {k} f = told_end (N (i + 1) (rows_from R i)) t e λ a x y w o z.
         let g : i + 1 + size a ≡ q + 1 = omega (arith, y) in
         let v : several N left (i + 1) (rows_from R i)
         ≡ after (several N (left - 1) (q + 1) (rows_from R q)) (λ es rs. done (cons a es) rs) =
         several-here ∙ rw (x, g) in
-        record {
+        rw f (record {
           ready = ready_at q p.ready m w o;
           told = λ s' E' d. p.told s' E' (told_as v
               (told_after (ends_of i a) (λ es. cons a es) (several N (left - 1) (q + 1) (rows_from R q))
               (omega (arith, y, ends_long i a)) z (λ es. omega (arith, ends_long i a)) (λ es. rw y) d));
           long = m ∙ p.long;
-        }
+        })
 
 -- ---- how many were read
 
@@ -120,12 +119,12 @@ several_count N (suc k) line rs rest es e =
 module _ {L : Limits} {R E E₁ : List ℕ} (at d n v k : ℕ) {s : Step}
     (t : ToldLocals L R E (at + 1) (locals (most_of L) v n (at + 1 + 1) (rows_from R (at + 1))) s E₁)
     (make : List DeclaredType → Exprs → Expr) where
-  pub parts_stop : {m l : ℕ} {E₂ : List ℕ} → s ≡ Refused m l
-      → ToldNode L R E at (parts_read L d n v k make (at + 1) (rows_from R (at + 1))) s E₂
+  pub parts_stop : {r : Refusal} {E₂ : List ℕ} → s ≡ Err r
+      → ToldNode L R E at (parts_read L d n v k make (at + 1) (rows_from R (at + 1))) (Err r) E₂
   unfolding parts_read
   parts_stop e = told_stop (locals (most_of L) v n (at + 1 + 1) (rows_from R (at + 1))) _ t e
 
-  module _ {first : ℕ} (f : s ≡ End first) {s' : Step} {E₂ : List ℕ}
+  module _ {first : ℕ} (f : s ≡ Ok first) {s' : Step} {E₂ : List ℕ}
       (u : ToldNodes L R E₁ first
       (several (λ at rs. node (most_of L) d (n + v) at rs) k (first + 1) (rows_from R first)) s' E₂) where
     rest-stop : (ts : List DeclaredType)
@@ -140,16 +139,16 @@ module _ {L : Limits} {R E E₁ : List ℕ} (at d n v k : ℕ) {s : Step}
         let g : at + 1 + 1 + v ≡ first + 1 = omega (arith, y, c) in
         rw (x, g)
 
-    pub parts_stop_late : {m l : ℕ} {E₃ : List ℕ} → s' ≡ Refused m l
-        → ToldNode L R E at (parts_read L d n v k make (at + 1) (rows_from R (at + 1))) s' E₃
+    pub parts_stop_late : {r : Refusal} {E₃ : List ℕ} → s' ≡ Err r
+        → ToldNode L R E at (parts_read L d n v k make (at + 1) (rows_from R (at + 1))) (Err r) E₃
     parts_stop_late e = told_end (locals (most_of L) v n (at + 1 + 1) (rows_from R (at + 1))) t f
         λ ts x y w o z.
         told_as (rest-stop ts x y)
         (told_stop (several (λ at rs. node (most_of L) d (n + v) at rs) k (first + 1) (rows_from R first))
         _ u e)
 
-    pub parts_close : {q : ℕ} → s' ≡ End q → Makes v k make
-        → ToldNode L R E at (parts_read L d n v k make (at + 1) (rows_from R (at + 1))) (End q)
+    pub parts_close : {q : ℕ} → s' ≡ Ok q → Makes v k make
+        → ToldNode L R E at (parts_read L d n v k make (at + 1) (rows_from R (at + 1))) (Ok q)
         (lib.ListN.set E₂ at q)
     parts_close {q} e m =
         told_end (locals (most_of L) v n (at + 1 + 1) (rows_from R (at + 1))) t f λ ts x y w o z.
@@ -167,7 +166,7 @@ module _ {L : Limits} {R E E₁ : List ℕ} (at d n v k : ℕ) {s : Step}
 
 -- ---- the letter of a node
 
-no_node : (L : Limits) (l : Letter) (a b : ℕ) → parts_of l a b ≡ NoNode
+no_node : (L : Limits) (l : Letter) (a b : ℕ) → parts_of l a b ≡ None
     → (is_node l ≡ false)
     × ((N : ℕ → ℕ → List Row → Checked (Read Expr)) (n line : ℕ) (rs : List Row)
     → node_of (most_of L) N l a b n line rs ≡ refuse 3 line)
@@ -194,7 +193,7 @@ no_node L U_set a b e = absurd (no_shape (sym e))
 no_node L Q_call a b e = absurd (no_shape (sym e))
 no_node L J_choose a b e = absurd (no_shape (sym e))
 
-a_node : (l : Letter) (a b : ℕ) {v k : ℕ} → parts_of l a b ≡ Of v k → is_node l ≡ true
+a_node : (l : Letter) (a b : ℕ) {v k : ℕ} → parts_of l a b ≡ some_parts v k → is_node l ≡ true
 a_node C_class a b e = absurd (no_shape e)
 a_node F_field a b e = absurd (no_shape e)
 a_node M_method a b e = absurd (no_shape e)
@@ -218,7 +217,7 @@ a_node Q_call a b e = refl
 a_node J_choose a b e = refl
 
 -- only a block has locals
-no_locals : (l : Letter) (a b v k : ℕ) → parts_of l a b ≡ Of v k → (code l ≡ 66 → ⊥) → v ≡ 0
+no_locals : (l : Letter) (a b v k : ℕ) → parts_of l a b ≡ some_parts v k → (code l ≡ 66 → ⊥) → v ≡ 0
 no_locals C_class a b v k e z = absurd (no_shape e)
 no_locals F_field a b v k e z = absurd (no_shape e)
 no_locals M_method a b v k e z = absurd (no_shape e)
@@ -227,19 +226,19 @@ no_locals X_effect a b v k e z = absurd (no_shape e)
 no_locals S_start a b v k e z = absurd (no_shape e)
 no_locals B_block a b v k e z = absurd (z refl)
 no_locals V_local a b v k e z = absurd (no_shape e)
-no_locals T_true a b v k e z = cc
-no_locals L_false a b v k e z = cc
-no_locals N_null a b v k e z = cc
-no_locals I_slot a b v k e z = cc
-no_locals Z_is_null a b v k e z = cc
-no_locals G_get a b v k e z = cc
-no_locals K_cast a b v k e z = cc
-no_locals W_new a b v k e z = cc
-no_locals R_change a b v k e z = cc
-no_locals A_assign a b v k e z = cc
-no_locals U_set a b v k e z = cc
-no_locals Q_call a b v k e z = cc
-no_locals J_choose a b v k e z = cc
+no_locals T_true a b v k e z = sym (parts_injective e).0
+no_locals L_false a b v k e z = sym (parts_injective e).0
+no_locals N_null a b v k e z = sym (parts_injective e).0
+no_locals I_slot a b v k e z = sym (parts_injective e).0
+no_locals Z_is_null a b v k e z = sym (parts_injective e).0
+no_locals G_get a b v k e z = sym (parts_injective e).0
+no_locals K_cast a b v k e z = sym (parts_injective e).0
+no_locals W_new a b v k e z = sym (parts_injective e).0
+no_locals R_change a b v k e z = sym (parts_injective e).0
+no_locals A_assign a b v k e z = sym (parts_injective e).0
+no_locals U_set a b v k e z = sym (parts_injective e).0
+no_locals Q_call a b v k e z = sym (parts_injective e).0
+no_locals J_choose a b v k e z = sym (parts_injective e).0
 
 read_none : (L : Limits) (d n v k line : ℕ) (rs : List Row) (make : List DeclaredType → Exprs → Expr) → v ≡ 0
     → k ≡ 0 → parts_read L d n v k make line rs ≡ done (make [] nil) rs
@@ -257,16 +256,16 @@ abbrev second_at : List ℕ → ℕ → ℕ
 second_at R at = get_or R (at * 4 + 2) 0
 
 module _ (L : Limits) (R : List ℕ) (at n : ℕ) where
-  pub node_refused : (d k : ℕ) → k ≡ refusal_on L (at + 1) (rows_from R at) → (k ≡ 0 → ⊥)
-      → node (most_of L) d n (at + 1) (rows_from R at) ≡ refuse k (at + 1)
+  pub node_refused : (d : ℕ) {r : Refusal} → row_checked L (at + 1) (rows_from R at) ≡ Err r
+      → node (most_of L) d n (at + 1) (rows_from R at) ≡ refuse r.number r.line
   unfolding node
-  node_refused zero k e z = next_refused L R at k _ e z
-  node_refused (suc d) k e z = next_refused L R at k _ e z
+  node_refused zero e = next_refused L R at _ e
+  node_refused (suc d) e = next_refused L R at _ e
 
-  pub body_refused : (k : ℕ) → k ≡ refusal_on L (at + 1) (rows_from R at) → (k ≡ 0 → ⊥)
-      → body (most_of L) n (at + 1) (rows_from R at) ≡ refuse k (at + 1)
+  pub body_refused : {r : Refusal} → row_checked L (at + 1) (rows_from R at) ≡ Err r
+      → body (most_of L) n (at + 1) (rows_from R at) ≡ refuse r.number r.line
   unfolding body
-  body_refused k e z = next_refused L R at k _ e z
+  body_refused e = next_refused L R at _ e
 
   module _ (x : Here L R at) where
     pub body_other : (get_or R (at * 4) 0 ≡ 66 → ⊥)
@@ -280,25 +279,25 @@ module _ (L : Limits) (R : List ℕ) (at n : ℕ) where
     unfolding body require
     body_here z = next_here x _ ∙ rw (eq-eqb 66 (code x.letter) (sym z ∙ sym x.code_is))
 
-    parts-here : (w : Parts) → w ≡ parts_at (get_or R (at * 4) 0) (first_at R at) (second_at R at)
+    parts-here : (w : Option Parts) → w ≡ parts_at (get_or R (at * 4) 0) (first_at R at) (second_at R at)
         → parts_of x.letter (first_at R at) (second_at R at) ≡ w
     unfolding parts_at
     parts-here w e = sym (rw x.found at e)
 
-    pub node_other : (d : ℕ) → NoNode ≡ parts_at (get_or R (at * 4) 0) (first_at R at) (second_at R at)
+    pub node_other : (d : ℕ) → None ≡ parts_at (get_or R (at * 4) 0) (first_at R at) (second_at R at)
         → node (most_of L) d n (at + 1) (rows_from R at) ≡ refuse 3 (at + 1)
     unfolding node require
     node_other zero e = next_here x _
-        ∙ rw (no_node L x.letter (first_at R at) (second_at R at) (parts-here NoNode e)).0
+        ∙ rw (no_node L x.letter (first_at R at) (second_at R at) (parts-here None e)).0
     node_other (suc d) e = next_here x _
-        ∙ (no_node L x.letter (first_at R at) (second_at R at) (parts-here NoNode e)).1 _ n (at + 1)
+        ∙ (no_node L x.letter (first_at R at) (second_at R at) (parts-here None e)).1 _ n (at + 1)
         (rows_from R (at + 1))
 
-    module _ {v k : ℕ} (e : Of v k ≡ parts_at (get_or R (at * 4) 0) (first_at R at) (second_at R at)) where
+    module _ {v k : ℕ} (e : some_parts v k ≡ parts_at (get_or R (at * 4) 0) (first_at R at) (second_at R at)) where
       pub node_over : (d : ℕ) → d ≡ 0 → node (most_of L) d n (at + 1) (rows_from R at) ≡ refuse 2 (at + 1)
       unfolding node require
       node_over d z = rw z (next_here x _ ∙ rw (a_node x.letter (first_at R at) (second_at R at)
-          (parts-here (Of v k) e)))
+          (parts-here (some_parts v k) e)))
 
       node-here : (d : ℕ) → (d ≡ 0 → ⊥) → node (most_of L) d n (at + 1) (rows_from R at)
           ≡ node_of (most_of L) (λ n at rs. node (most_of L) (d - 1) n at rs) x.letter (first_at R at)
@@ -311,8 +310,8 @@ module _ (L : Limits) (R : List ℕ) (at n : ℕ) where
       block-children : get_or R (at * 4) 0 ≡ 66 → second_at R at ≡ k
       block-children c =
           let q = code_injective x.letter B_block (x.code_is ∙ c) in
-          let h : Of (first_at R at) (second_at R at) ≡ Of v k = rw q at (parts-here (Of v k) e) in
-          cc
+          let h : some_parts (first_at R at) (second_at R at) ≡ some_parts v k = rw q at (parts-here (some_parts v k) e) in
+          (parts_injective h).1
 
       pub node_empty : (d : ℕ) → (d ≡ 0 → ⊥) → k ≡ 0 → get_or R (at * 4) 0 ≡ 66
           → node (most_of L) d n (at + 1) (rows_from R at) ≡ refuse 3 (at + 1)
@@ -326,16 +325,16 @@ module _ (L : Limits) (R : List ℕ) (at n : ℕ) where
       shape : (d : ℕ) → (get_or R (at * 4) 0 ≡ 66 → k ≡ 0 → ⊥)
           → Shaped L d x.letter (first_at R at) (second_at R at) n (at + 1) v k (rows_from R (at + 1))
       shape d c = shaped L d x.letter (first_at R at) (second_at R at) n (at + 1) v k
-          (rows_from R (at + 1)) (parts-here (Of v k) e)
+          (rows_from R (at + 1)) (parts-here (some_parts v k) e)
           (λ w y. c (sym x.code_is ∙ w) (sym (block-children (sym x.code_is ∙ w)) ∙ y))
 
       pub node_leaf : (d : ℕ) {E : List ℕ} → There L R at → (d ≡ 0 → ⊥) → k ≡ 0 → (get_or R (at * 4) 0 ≡ 66 → ⊥)
-          → ToldNode L R E at (node (most_of L) d n (at + 1) (rows_from R at)) (End (at + 1))
+          → ToldNode L R E at (node (most_of L) d n (at + 1) (rows_from R at)) (Ok (at + 1))
           (lib.ListN.set E at (at + 1))
       unfolding count sizes ends_list next_rows
       node_leaf d t z b c =
           let h = shape (d - 1) (λ w y. c w) in
-          let o : v ≡ 0 = no_locals x.letter (first_at R at) (second_at R at) v k (parts-here (Of v k) e)
+          let o : v ≡ 0 = no_locals x.letter (first_at R at) (second_at R at) v k (parts-here (some_parts v k) e)
           (λ w. c (sym x.code_is ∙ w)) in
           let m = makes_none v k h.make o b h.makes in
           told_as (node-here d z ∙ h.same

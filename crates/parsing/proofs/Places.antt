@@ -21,9 +21,14 @@ use Rattle.language.specs.Form.{record_on, next}
 use Rattle.language.proofs.Letters.{among_code}
 use Rattle.parsing.specs.declared.lines.Limits.{Limits}
 use Rattle.parsing.specs.Columns.{most_of}
-use Rattle.parsing.specs.Places.{rows_from, row_at, refusal_of, refusal_on, has_code, standing, name_at}
+use Rattle.parsing.specs.Places.{rows_from, row_at, row_checked, standing, name_at}
 use Rattle.parsing.specs.Places.{parts_of, parts_at, There}
-use Rattle.parsing.specs.declared.nodes.Parts.TheVariants.{NoNode}
+use Rattle.parsing.specs.declared.nodes.Parts.{Parts}
+use Rattle.std.specs.Prelude as std
+use Rattle.std.specs.Prelude.{None, Some, Result, Ok, Err}
+use Rattle.language.specs.declared.Refusal.{Refusal}
+use Rattle.language.specs.Refusals.{refusal}
+use Rattle.language.proofs.Refusals.{result_ok, result_err}
 use Rattle.language.proofs.Booleans.{and_inv}
 
 -- ---- rows from a place on
@@ -118,15 +123,16 @@ module _ (n a b c : ℕ) where
 
 -- ---- why no record can be taken
 
-pub refusal_past : (L : Limits) (R : List ℕ) (at : ℕ) → length R ≤ at * 4
-    → 3 ≡ refusal_on L (at + 1) (rows_from R at)
-unfolding refusal_on
-refusal_past L R at h = rw (rows_end R at h)
+pub row_past : (L : Limits) (R : List ℕ) (at : ℕ) → length R ≤ at * 4
+    → Err (refusal 3 (at + 1)) ≡ row_checked L (at + 1) (rows_from R at)
+unfolding row_checked
+row_past L R at h = rw (rows_end R at h)
 
 module _ (L : Limits) (R : List ℕ) (at : ℕ) (h : at * 4 + 4 ≤ length R) where
-  pub refusal_malformed : is_row (row_at R at) ≡ false → 1 ≡ refusal_on L (at + 1) (rows_from R at)
-  unfolding refusal_on record_on need_checked
-  refusal_malformed e =
+  pub row_malformed : is_row (row_at R at) ≡ false
+      → Err (refusal 1 (at + 1)) ≡ row_checked L (at + 1) (rows_from R at)
+  unfolding row_checked record_on need_checked
+  row_malformed e =
       rw (
         rows_here R at h,
         unknown (get_or R (at * 4) 0) (get_or R (at * 4 + 1) 0) (get_or R (at * 4 + 2) 0) (get_or R (at * 4 + 3) 0) e,
@@ -138,20 +144,20 @@ module _ (L : Limits) (R : List ℕ) (at : ℕ) (h : at * 4 + 4 ≤ length R) wh
     known-here = known (get_or R (at * 4) 0) (get_or R (at * 4 + 1) 0) (get_or R (at * 4 + 2) 0)
         (get_or R (at * 4 + 3) 0) e
 
-    pub refusal_over : L.rows ≤ at → 2 ≡ refusal_on L (at + 1) (rows_from R at)
-    unfolding refusal_on record_on need_checked require
-    refusal_over o = rw (rows_here R at h, known-here.record_is, lt-leb (at + 1) L.rows (omega arith))
+    pub row_over : L.rows ≤ at → Err (refusal 2 (at + 1)) ≡ row_checked L (at + 1) (rows_from R at)
+    unfolding row_checked record_on need_checked require
+    row_over o = rw (rows_here R at h, known-here.record_is, lt-leb (at + 1) L.rows (omega arith))
 
     name-here : name_at (get_or R (at * 4) 0) (get_or R (at * 4 + 1) 0) (get_or R (at * 4 + 2) 0)
         ≡ name_of known-here.letter (get_or R (at * 4 + 1) 0) (get_or R (at * 4 + 2) 0)
     unfolding name_at
     name-here = rw known-here.found
 
-    pub refusal_name : at < L.rows
+    pub row_named : at < L.rows
         → 255 < name_at (get_or R (at * 4) 0) (get_or R (at * 4 + 1) 0) (get_or R (at * 4 + 2) 0)
-        → 2 ≡ refusal_on L (at + 1) (rows_from R at)
-    unfolding refusal_on record_on need_checked require
-    refusal_name o w =
+        → Err (refusal 2 (at + 1)) ≡ row_checked L (at + 1) (rows_from R at)
+    unfolding row_checked record_on need_checked require
+    row_named o w =
         rw (
           rows_here R at h,
           known-here.record_is,
@@ -173,11 +179,11 @@ module _ (L : Limits) (R : List ℕ) (at : ℕ) (h : at * 4 + 4 ≤ length R) wh
               (rw name-here at w),
         )
 
-    pub refusal_none : at < L.rows
+    pub row_taken : at < L.rows
         → name_at (get_or R (at * 4) 0) (get_or R (at * 4 + 1) 0) (get_or R (at * 4 + 2) 0) ≤ 255
-        → 0 ≡ refusal_on L (at + 1) (rows_from R at)
-    unfolding refusal_on
-    refusal_none o w = rw (rows_here R at h, taken_here o w)
+        → Ok tt ≡ row_checked L (at + 1) (rows_from R at)
+    unfolding row_checked
+    row_taken o w = rw (rows_here R at h, taken_here o w)
 
 -- a record that can be taken
 pub record Here (L : Limits) (R : List ℕ) (at : ℕ) : Type 0 where
@@ -190,28 +196,8 @@ pub record Here (L : Limits) (R : List ℕ) (at : ℕ) : Type 0 where
   pub first_small : get_or R (at * 4 + 1) 0 ≤ 65535
   pub second_small : get_or R (at * 4 + 2) 0 ≤ 65535
 
--- a refused record is refused on its line by a number above 0; one that is not comes of a row that is not
--- malformed
+-- an accepted record comes of a row that is not malformed
 module _ (L : Limits) (line : ℕ) (r : Row) where
-  record_refused : (n l : ℕ) → record_on (most_of L) line r ≡ refuse n l → (l ≡ line) × (n ≡ 0 → ⊥)
-  unfolding record_on need_checked require
-  record_refused n l e = go (record_of r) e
-    where
-      tail : (x : Record) (s t : Bool)
-          → require s limit_refusal line (λ _. require t limit_refusal line (λ _. accept x)) ≡ refuse n l
-          → (l ≡ line) × (n ≡ 0 → ⊥)
-      tail x true true e = let z : ◌≡◌ {A = ℕ} 0 1 = cc in absurd (omega arith)
-      tail x true false e = let p : line ≡ l = cc in let q : 2 ≡ n = cc in (sym p, λ z. omega (arith, q, z))
-      tail x false t e = let p : line ≡ l = cc in let q : 2 ≡ n = cc in (sym p, λ z. omega (arith, q, z))
-
-      go : (o : Option Record)
-          → need_checked o line_refusal line
-          (λ x. require (leb line L.rows) limit_refusal line
-          (λ _. require (leb (name_of x.letter x.first x.second) 255) limit_refusal line
-          (λ _. accept x))) ≡ refuse n l → (l ≡ line) × (n ≡ 0 → ⊥)
-      go none e = let p : line ≡ l = cc in let q : 1 ≡ n = cc in (sym p, λ z. omega (arith, q, z))
-      go (some x) e = tail x (leb line L.rows) (leb (name_of x.letter x.first x.second) 255) e
-
   record_row : (x : Record) → record_on (most_of L) line r ≡ accept x
       → (is_row r ≡ true) × (record_of r ≡ some x)
   unfolding record_on need_checked require
@@ -234,17 +220,16 @@ module _ (L : Limits) (line : ℕ) (r : Row) where
           tail y (leb line L.rows) (leb (name_of y.letter y.first y.second) 255) e in
           (rw q, rw (q, p))
 
-pub here : {L : Limits} (R : List ℕ) (at : ℕ) → 0 ≡ refusal_on L (at + 1) (rows_from R at)
+pub here : {L : Limits} (R : List ℕ) (at : ℕ) → row_checked L (at + 1) (rows_from R at) ≡ Ok tt
     → There L R at → Here L R at
-unfolding refusal_on
+unfolding row_checked
 here {L} R at z t =
     let q = rows_here R at t.1 in
-    go (record_on (most_of L) (at + 1) (row_at R at)) refl (rw q at z)
+    let w = result_ok (λ _. tt) (record_on (most_of L) (at + 1) (row_at R at)) (rw q at z) in
+    go w.a w.is
   where
-    go : (x : Checked Record) → record_on (most_of L) (at + 1) (row_at R at) ≡ x → 0 ≡ refusal_of x
-        → Here L R at
-    go (refuse n l) e w = absurd ((record_refused L (at + 1) (row_at R at) n l e).1 (sym w))
-    go (accept x) e w =
+    go : (x : Record) → record_on (most_of L) (at + 1) (row_at R at) ≡ accept x → Here L R at
+    go x e =
         let p = record_row L (at + 1) (row_at R at) x e in
         let k = known (get_or R (at * 4) 0) (get_or R (at * 4 + 1) 0) (get_or R (at * 4 + 2) 0)
         (get_or R (at * 4 + 3) 0) p.0 in
@@ -261,20 +246,17 @@ here {L} R at z t =
         }
 
 -- a record that must stand here and cannot be taken
-pub next_refused : (L : Limits) {B : Type 0} (R : List ℕ) (at n : ℕ) (k : Record → List Row → Checked B)
-    → n ≡ refusal_on L (at + 1) (rows_from R at) → (n ≡ 0 → ⊥)
-    → next (most_of L) (at + 1) (rows_from R at) k ≡ refuse n (at + 1)
-unfolding refusal_on next bind_checked
-next_refused L {B} R at n k e z = go (rows_from R at) e
+pub next_refused : (L : Limits) {B : Type 0} (R : List ℕ) (at : ℕ) {r : Refusal}
+    (k : Record → List Row → Checked B)
+    → row_checked L (at + 1) (rows_from R at) ≡ Err r
+    → next (most_of L) (at + 1) (rows_from R at) k ≡ refuse r.number r.line
+unfolding row_checked next bind_checked
+next_refused L {B} R at {r} k e = go (rows_from R at) e
   where
-    case : (r : Row) (rs : List Row) (x : Checked Record) → record_on (most_of L) (at + 1) r ≡ x
-        → n ≡ refusal_of x → bind_checked x (λ x. k x rs) ≡ refuse n (at + 1)
-    case r rs (accept x) q e = absurd (z e)
-    case r rs (refuse m l) q e = rw ((record_refused L (at + 1) r m l q).0, e)
-
-    go : (rs : List Row) → n ≡ refusal_on L (at + 1) rs → next (most_of L) (at + 1) rs k ≡ refuse n (at + 1)
-    go [] e = rw e
-    go (r ∷ rs) e = case r rs (record_on (most_of L) (at + 1) r) refl e
+    go : (rs : List Row) → row_checked L (at + 1) rs ≡ Err r
+        → next (most_of L) (at + 1) rs k ≡ refuse r.number r.line
+    go [] e = let p : refusal 3 (at + 1) ≡ r = cc in ap (λ (r : Refusal). refuse r.number r.line) p
+    go (x ∷ rs) e = rw (result_err (λ _. tt) (record_on (most_of L) (at + 1) x) r e)
 
 module _ {L : Limits} {R : List ℕ} {at : ℕ} (x : Here L R at) where
   pub next_here : {B : Type 0} (k : Record → List Row → Checked B)
@@ -287,18 +269,14 @@ module _ {L : Limits} {R : List ℕ} {at : ℕ} (x : Here L R at) where
   unfolding standing
   standing_here n = rw (x.rows, x.taken, x.code_is)
 
-pub standing_refused : (L : Limits) (R : List ℕ) (at n m : ℕ) → n ≡ refusal_on L (at + 1) (rows_from R at)
-    → (n ≡ 0 → ⊥) → false ≡ standing L m (at + 1) (rows_from R at)
-unfolding refusal_on standing
-standing_refused L R at n m e z = go (rows_from R at) e
+pub standing_refused : (L : Limits) (R : List ℕ) (at m : ℕ) {r : Refusal}
+    → row_checked L (at + 1) (rows_from R at) ≡ Err r → false ≡ standing L m (at + 1) (rows_from R at)
+unfolding row_checked standing
+standing_refused L R at m {r} e = go (rows_from R at) e
   where
-    case : (x : Checked Record) → n ≡ refusal_of x → false ≡ has_code m x
-    case (accept x) e = absurd (z e)
-    case (refuse k l) e = refl
-
-    go : (rs : List Row) → n ≡ refusal_on L (at + 1) rs → false ≡ standing L m (at + 1) rs
+    go : (rs : List Row) → row_checked L (at + 1) rs ≡ Err r → false ≡ standing L m (at + 1) rs
     go [] e = refl
-    go (r ∷ rs) e = case (record_on (most_of L) (at + 1) r) e
+    go (x ∷ rs) e = rw (result_err (λ _. tt) (record_on (most_of L) (at + 1) x) r e)
 
 -- ---- names and parts: letters that have none
 
@@ -340,7 +318,7 @@ name_other n a b h70 h77 h71 h85 h81 = go (letter_among letters n) refl
 partless : (l : Letter) (a b : ℕ) → (code l ≡ 84 → ⊥) → (code l ≡ 76 → ⊥) → (code l ≡ 78 → ⊥)
     → (code l ≡ 73 → ⊥) → (code l ≡ 87 → ⊥) → (code l ≡ 82 → ⊥) → (code l ≡ 90 → ⊥) → (code l ≡ 71 → ⊥)
     → (code l ≡ 75 → ⊥) → (code l ≡ 65 → ⊥) → (code l ≡ 85 → ⊥) → (code l ≡ 74 → ⊥) → (code l ≡ 81 → ⊥)
-    → (code l ≡ 66 → ⊥) → parts_of l a b ≡ NoNode
+    → (code l ≡ 66 → ⊥) → parts_of l a b ≡ None
 partless C_class a b h84 h76 h78 h73 h87 h82 h90 h71 h75 h65 h85 h74 h81 h66 = refl
 partless F_field a b h84 h76 h78 h73 h87 h82 h90 h71 h75 h65 h85 h74 h81 h66 = refl
 partless M_method a b h84 h76 h78 h73 h87 h82 h90 h71 h75 h65 h85 h74 h81 h66 = refl
@@ -365,11 +343,11 @@ partless J_choose a b h84 h76 h78 h73 h87 h82 h90 h71 h75 h65 h85 h74 h81 h66 = 
 
 pub parts_other : (n a b : ℕ) → (n ≡ 84 → ⊥) → (n ≡ 76 → ⊥) → (n ≡ 78 → ⊥) → (n ≡ 73 → ⊥) → (n ≡ 87 → ⊥)
     → (n ≡ 82 → ⊥) → (n ≡ 90 → ⊥) → (n ≡ 71 → ⊥) → (n ≡ 75 → ⊥) → (n ≡ 65 → ⊥) → (n ≡ 85 → ⊥) → (n ≡ 74 → ⊥)
-    → (n ≡ 81 → ⊥) → (n ≡ 66 → ⊥) → NoNode ≡ parts_at n a b
+    → (n ≡ 81 → ⊥) → (n ≡ 66 → ⊥) → None ≡ parts_at n a b
 unfolding parts_at
 parts_other n a b h84 h76 h78 h73 h87 h82 h90 h71 h75 h65 h85 h74 h81 h66 = go (letter_among letters n) refl
   where
-    go : (o : Option Letter) → letter_among letters n ≡ o → NoNode ≡ given o NoNode (λ l. parts_of l a b)
+    go : (o : Option Letter) → letter_among letters n ≡ o → ◌≡◌ {A = std.Option Parts} None (given o None (λ l. parts_of l a b))
     go none e = refl
     go (some l) e = let q = among_code letters n l e in
         sym (partless l a b (λ z. h84 (sym q ∙ z)) (λ z. h76 (sym q ∙ z)) (λ z. h78 (sym q ∙ z))

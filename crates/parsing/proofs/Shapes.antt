@@ -1,6 +1,6 @@
 -- Each letter's node is read as its V lines and its children. Assumes nothing.
 use mathlib.Core.List.{append-nil, List, [], ◌∷◌, ◌++◌}
-use mathlib.Core.Path.{◌≡◌, refl}
+use mathlib.Core.Path.{◌≡◌, refl, sym, ap}
 use Prim.Native.Nat.{ℕ, suc, ◌+◌}
 use native.Mathlib.Omega.{arith}
 use borrow.Author.Tests.{ne_eqb}
@@ -16,9 +16,10 @@ use Rattle.language.specs.Form.{Read, done, after, several, locals, node_of, nod
 use Rattle.language.specs.Tables.{next_rows, ends_of, ends_list}
 use Rattle.parsing.specs.declared.lines.Limits.{Limits}
 use Rattle.parsing.specs.Columns.{most_of}
-use Rattle.parsing.specs.Places.{parts_of}
+use Rattle.parsing.specs.Places.{some_parts, parts_of}
 use Rattle.parsing.specs.Passes.{Makes, parts_read}
-use Rattle.parsing.specs.declared.nodes.Parts.TheVariants.{Of, NoNode}
+use Rattle.parsing.specs.declared.nodes.Parts.{Parts}
+use Rattle.std.specs.Prelude.{None}
 
 abbrev first_of : Exprs → Expr
 first_of nil = literal literal_null
@@ -149,13 +150,19 @@ pub record Shaped (L : Limits) (d : ℕ) (l : Letter) (a b n line v k : ℕ) (rs
   pub same : node_of (most_of L) (λ n at rs. node (most_of L) d n at rs) l a b n line rs
       ≡ parts_read L d n v k make line rs
 
-turned : {L : Limits} {d : ℕ} {l : Letter} {a b n line v k v' k' : ℕ} {rs : List Row} → Of v' k' ≡ Of v k
-    → Shaped L d l a b n line v' k' rs → Shaped L d l a b n line v k rs
-turned {L} {d} {l} {a} {b} {n} {line} {v} {k} {v'} {k'} {rs} e s = let p : v ≡ v' = cc in let q : k ≡ k' =
-    cc in rw (p, q) s
+pub parts_injective : {v k v' k' : ℕ} → some_parts v k ≡ some_parts v' k' → (v ≡ v') × (k ≡ k')
+parts_injective {v} {k} {v'} {k'} e =
+    let w : ◌≡◌ {A = Parts} (record { locals = v; children = k }) (record { locals = v'; children = k' }) = cc in
+    (ap (λ (x : Parts). x.locals) w, ap (λ (x : Parts). x.children) w)
 
-pub no_shape : {v k : ℕ} → NoNode ≡ Of v k → ⊥
-no_shape e = let z : ◌≡◌ {A = ℕ} 0 1 = cc in omega arith
+turned : {L : Limits} {d : ℕ} {l : Letter} {a b n line v k v' k' : ℕ} {rs : List Row}
+    → some_parts v' k' ≡ some_parts v k → Shaped L d l a b n line v' k' rs → Shaped L d l a b n line v k rs
+turned {L} {d} {l} {a} {b} {n} {line} {v} {k} {v'} {k'} {rs} e s =
+    let p = parts_injective (sym e) in
+    rw (p.0, p.1) s
+
+pub no_shape : {v k : ℕ} → None ≡ some_parts v k → ⊥
+no_shape e = cc
 
 module _ (L : Limits) (d : ℕ) (n line : ℕ) (rs : List Row) where
   leaf : (e : Expr) → done e rs ≡ parts_read L d n 0 0 (λ ts es. e) line rs
@@ -210,7 +217,7 @@ module _ (L : Limits) (d : ℕ) (n line : ℕ) (rs : List Row) where
       let j : b + 1 ≡ suc b = omega arith in
       rw (h, k, j) (simp after_after)
 
-pub shaped : (L : Limits) (d : ℕ) (l : Letter) (a b n line v k : ℕ) (rs : List Row) → parts_of l a b ≡ Of v k
+pub shaped : (L : Limits) (d : ℕ) (l : Letter) (a b n line v k : ℕ) (rs : List Row) → parts_of l a b ≡ some_parts v k
     → (code l ≡ 66 → b ≡ 0 → ⊥) → Shaped L d l a b n line v k rs
 unfolding node_of size ends_of require parts_read
 shaped L d C_class a b n line v k rs e z = absurd (no_shape e)

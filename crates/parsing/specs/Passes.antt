@@ -1,6 +1,8 @@
 -- What a pass over a part of a program tells: where the part ends and what the table of ends then holds, or the refusal.
-use Rattle.std.specs.Prelude.{◌≡◌, List, ◌∷◌, ◌++◌, ℕ, ◌+◌, ◌*◌, ◌≤◌, length}
+use Rattle.std.specs.Prelude.{◌≡◌, List, ◌∷◌, ◌++◌, ℕ, ◌+◌, ◌*◌, ◌≤◌, length, Result, Ok, Err}
 use Rattle.std.proofs.lemmas.List.Edits.{sets}
+use Rattle.language.specs.declared.Refusal.{Refusal}
+use Rattle.language.specs.Refusals.{refusal}
 use Rattle.language.specs.Results.{Checked, accept, refuse}
 use Rattle.language.specs.Rows.{Row, Record}
 use Rattle.language.specs.Tree.{DeclaredType, Expr, Exprs, count, size, sizes, Declaration, method_lines}
@@ -10,13 +12,15 @@ use Rattle.language.specs.Tables.{next_rows, ends_of, ends_list, method_ends, me
 use Rattle.language.specs.Tables.{classes_ends}
 use Rattle.parsing.specs.declared.lines.Limits.{Limits}
 use Rattle.parsing.specs.Columns.{most_of}
-use Rattle.parsing.specs.declared.lines.Step.{Step}
-use Rattle.parsing.specs.declared.lines.Step.TheVariants.{End, Refused}
 use Rattle.parsing.specs.Places.{rows_from}
+
+-- Where what was read ends, or why it could not be read.
+abbrev pub Step : Type 0
+Step = Result ℕ Refusal
 
 -- What was read of `lines` rows from row `at` on ends there.
 pub record Ended (L : Limits) (numbers : List ℕ) (at lines : ℕ) (rest : List Row) (s : Step) : Type 0 where
-  pub end : s ≡ End (at + lines)
+  pub end : s ≡ Ok (at + lines)
   pub rest_is : rest ≡ rows_from numbers (at + lines)
   pub within : at + lines ≤ L.rows
   pub inside : (at + lines) * 4 ≤ length numbers
@@ -26,7 +30,7 @@ unfoldable pub Tells : Limits → {A : Type 0} → (A → ℕ) → (ℕ → A �
     → Checked (Read A) → Step → List ℕ → Type 0
 Tells L lines ends numbers table at (accept x) s table' =
     Ended L numbers at (lines x.tree) x.rest s × (table' ≡ sets table at (ends at x.tree))
-Tells L lines ends numbers table at (refuse n l) s table' = s ≡ Refused n l
+Tells L lines ends numbers table at (refuse n l) s table' = s ≡ Err (refusal n l)
 
 pub record Told (L : Limits) {A : Type 0} (lines : A → ℕ) (ends : ℕ → A → List ℕ) (numbers table : List ℕ)
     (at : ℕ)

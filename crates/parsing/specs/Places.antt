@@ -1,7 +1,9 @@
 -- Rows by place: what stands at row `at`, whose line is at + 1, and how many lines of a letter stand from there on.
-use Rattle.std.specs.Prelude.{◌≡◌, ◌⊎◌, Bool, false, cond, List, [], ◌∷◌, ℕ, suc, ◌+◌, ◌*◌, ◌%◌, ◌≤◌, ◌<◌, eqb, length, get_or, drop}
+use Rattle.std.specs.Prelude.{◌≡◌, ◌⊎◌, Bool, false, cond, List, [], ◌∷◌, ℕ, suc, ◌+◌, ◌*◌, ◌%◌, ◌≤◌, ◌<◌, eqb, length, get_or, drop, Option, None, Some, Result, Err}
 use Rattle.language.specs.Limits.{place_refusal}
 use Rattle.language.specs.Lists.{given}
+use Rattle.language.specs.declared.Refusal.{Refusal}
+use Rattle.language.specs.Refusals.{refusal, result_of}
 use Rattle.language.specs.Results.{Checked, accept, refuse}
 use Rattle.language.specs.Rows.{Letter, letters, code, letter_among, name_of, Record, Row, row, rows_of}
 use Rattle.language.specs.Rows.{Children, no_node, children, arguments, locals_and_nodes, shape}
@@ -9,7 +11,6 @@ use Rattle.language.specs.Form.{record_on}
 use Rattle.parsing.specs.declared.lines.Limits.{Limits}
 use Rattle.parsing.specs.Columns.{most_of, Fits}
 use Rattle.parsing.specs.declared.nodes.Parts.{Parts}
-use Rattle.parsing.specs.declared.nodes.Parts.TheVariants.{Of, NoNode}
 
 -- The rows from row `at` on, and the row there.
 unfoldable pub rows_from : List ℕ → ℕ → List Row
@@ -20,15 +21,10 @@ row_at numbers at =
     row (get_or numbers (at * 4) 0) (get_or numbers (at * 4 + 1) 0) (get_or numbers (at * 4 + 2) 0)
     (get_or numbers (at * 4 + 3) 0)
 
--- The number of a refusal, and 0 where there is none.
-abbrev pub refusal_of : {A : Type 0} → Checked A → ℕ
-refusal_of (accept a) = 0
-refusal_of (refuse number line) = number
-
--- Why no record can be taken on a line.
-unfoldable pub refusal_on : Limits → ℕ → List Row → ℕ
-refusal_on L line [] = place_refusal
-refusal_on L line (r ∷ rs) = refusal_of (record_on (most_of L) line r)
+-- Can a record be taken on a line, or why not.
+unfoldable pub row_checked : Limits → ℕ → List Row → Result Unit Refusal
+row_checked L line [] = Err (refusal place_refusal line)
+row_checked L line (r ∷ rs) = result_of (λ _. tt) (record_on (most_of L) line r)
 
 -- Is what was read a record of the letter of a code.
 abbrev pub has_code : ℕ → Checked Record → Bool
@@ -49,17 +45,20 @@ unfoldable pub name_at : ℕ → ℕ → ℕ → ℕ
 name_at n a b = given (letter_among letters n) 0 λ l. name_of l a b
 
 -- How many V lines and children a node with these numbers has.
-abbrev pub parts : Children → ℕ → ℕ → Parts
-parts no_node a b = NoNode
-parts (children n) a b = Of 0 n
-parts arguments a b = Of 0 (b + 1)
-parts locals_and_nodes a b = Of a b
+abbrev pub some_parts : ℕ → ℕ → Option Parts
+some_parts v k = Some (record { locals = v; children = k })
 
-abbrev pub parts_of : Letter → ℕ → ℕ → Parts
+abbrev pub parts : Children → ℕ → ℕ → Option Parts
+parts no_node a b = None
+parts (children n) a b = some_parts 0 n
+parts arguments a b = some_parts 0 (b + 1)
+parts locals_and_nodes a b = some_parts a b
+
+abbrev pub parts_of : Letter → ℕ → ℕ → Option Parts
 parts_of l a b = parts (shape l).nodes a b
 
-unfoldable pub parts_at : ℕ → ℕ → ℕ → Parts
-parts_at n a b = given (letter_among letters n) NoNode λ l. parts_of l a b
+unfoldable pub parts_at : ℕ → ℕ → ℕ → Option Parts
+parts_at n a b = given (letter_among letters n) None λ l. parts_of l a b
 
 -- What a pass may count on: limits that it can keep, whole rows, a table with an entry for each row that may be accepted,
 -- a place that is no further than one past the last of these.

@@ -1,5 +1,5 @@
 // The pass over nodes: where each node of a body ends.
-ghost use Rattle.std.specs.Prelude.{◌≡◌, List, ◌+◌, ◌≤◌};
+ghost use Rattle.std.specs.Prelude.{◌≡◌, List, ◌+◌, ◌≤◌, Some};
 ghost use Rattle.language.specs.Limits.{largest};
 ghost use Rattle.language.specs.Tree.{DeclaredType, Expr, Exprs};
 ghost use Rattle.language.specs.Form.{several, node, body};
@@ -7,40 +7,48 @@ ghost use Rattle.parsing.specs.Columns.{most_of};
 ghost use Rattle.parsing.specs.Places.{rows_from, parts_at, Ready, There};
 ghost use Rattle.parsing.specs.Passes.{ToldNode, ToldNodes, Makes, parts_read};
 
-use super::lines::{Limits, Step, pass_locals, refuse_row};
+use super::lines::{Limits, check_row, pass_locals, refusal_at};
 use language::{
     ASSIGN, BLOCK, CALL, CAST, CHANGE, CHOOSE, FALSE, GET, IS_NULL, LIMIT_REFUSAL, NEW, NULL,
-    PLACE_REFUSAL, SET, SLOT, TRUE, first, letter_at, second,
+    PLACE_REFUSAL, Refusal, SET, SLOT, TRUE, first, letter_at, second,
 };
 
 // How many V lines and how many children a node has.
-#[derive(Drop)]
-pub enum Parts {
-    Of(u32, u32),
-    NoNode,
+#[derive(Clone, Copy)]
+pub struct Parts {
+    pub locals: u32,
+    pub children: u32,
+}
+
+impl Parts {
+    // A node without V lines.
+    fn of_children(children: u32) -> Option<Parts>
+        ensures { result ≡ Some (record { locals = 0; children = children }) }
+    {
+        Some(Parts {
+            locals: 0,
+            children,
+        })
+    }
 }
 
 // How many V lines and children follow a node of this letter with these numbers.
-fn parts_of(code: u32, a: u32, b: u32) -> Parts
+#[tactic(auto, using(crate::proofs::Places::parts_other), unfolding(crate::specs::Places::parts_at, language::specs::Rows::letter_among))]
+fn parts_of(code: u32, a: u32, b: u32) -> Option<Parts>
     requires { b ≤ largest }
     ensures { result ≡ parts_at code a b }
 {
     match code {
-        TRUE => Parts::Of(0, 0),
-        FALSE => Parts::Of(0, 0),
-        NULL => Parts::Of(0, 0),
-        SLOT => Parts::Of(0, 0),
-        NEW => Parts::Of(0, 0),
-        CHANGE => Parts::Of(0, 0),
-        IS_NULL => Parts::Of(0, 1),
-        GET => Parts::Of(0, 1),
-        CAST => Parts::Of(0, 1),
-        ASSIGN => Parts::Of(0, 1),
-        SET => Parts::Of(0, 2),
-        CHOOSE => Parts::Of(0, 3),
-        CALL => Parts::Of(0, b + 1),
-        BLOCK => Parts::Of(a, b),
-        _ => Parts::NoNode,
+        TRUE | FALSE | NULL | SLOT | NEW | CHANGE => Parts::of_children(0),
+        IS_NULL | GET | CAST | ASSIGN => Parts::of_children(1),
+        SET => Parts::of_children(2),
+        CHOOSE => Parts::of_children(3),
+        CALL => Parts::of_children(b + 1),
+        BLOCK => Some(Parts {
+            locals: a,
+            children: b,
+        }),
+        _ => None,
     }
 }
 
@@ -53,41 +61,28 @@ fn pass_node(
     nesting: u32,
     slots: u32,
     limits: Limits,
-) -> Step
+) -> Result<usize, Refusal>
     requires { Ready limits rows.now ends.old at × (slots ≤ limits.slots) }
     ensures { ToldNode limits rows.now
         ends.old at (node (most_of limits) nesting slots (at + 1)
         (rows_from rows.now at)) result ends.new }
 {
-    let refusal = refuse_row(rows, at, limits);
-    if refusal != 0 {
-        return Step::Refused(refusal, at as u32 + 1);
-    }
+    check_row(rows, at, limits)?;
     let code = letter_at(rows, at);
-    let parts = parts_of(code, first(rows, at), second(rows, at));
-    let Parts::Of(variables, children) = parts else {
-        return Step::Refused(PLACE_REFUSAL, at as u32 + 1);
+    let Some(parts) = parts_of(code, first(rows, at), second(rows, at)) else {
+        return Err(refusal_at(PLACE_REFUSAL, at));
     };
     if nesting == 0 {
-        return Step::Refused(LIMIT_REFUSAL, at as u32 + 1);
+        return Err(refusal_at(LIMIT_REFUSAL, at));
     }
-    if children == 0 {
+    if parts.children == 0 {
         if code == BLOCK {
-            return Step::Refused(PLACE_REFUSAL, at as u32 + 1); // a block without expressions
+            return Err(refusal_at(PLACE_REFUSAL, at)); // a block without expressions
         }
         ends[at] = (at + 1) as u16;
-        return Step::End(at + 1);
+        return Ok(at + 1);
     }
-    pass_parts(
-        rows,
-        ends,
-        at,
-        nesting - 1,
-        slots,
-        variables,
-        children,
-        limits,
-    )
+    pass_parts(rows, ends, at, nesting - 1, slots, parts, limits)
 }
 
 // Passes what follows a node: its V lines, then its children.
@@ -98,34 +93,27 @@ fn pass_parts(
     at: usize,
     nesting: u32,
     slots: u32,
-    variables: u32,
-    children: u32,
+    parts: Parts,
     limits: Limits,
-) -> Step
+) -> Result<usize, Refusal>
     requires { Ready limits rows.now ends.old at × There limits rows.now at × (slots ≤ limits.slots) }
-    ensures { (make : List DeclaredType → Exprs → Expr) → Makes variables children make
+    ensures { (make : List DeclaredType → Exprs → Expr) → Makes parts.locals parts.children make
         → ToldNode limits rows.now
-        ends.old at (parts_read limits nesting slots variables children make (at + 1)
+        ends.old at (parts_read limits nesting slots parts.locals parts.children make (at + 1)
         (rows_from rows.now (at + 1))) result ends.new }
 {
-    let l = pass_locals(rows, ends, at + 1, variables, slots, limits);
-    let Step::End(first) = l else {
-        return l;
-    };
-    let r = pass_nodes(
+    let first = pass_locals(rows, ends, at + 1, parts.locals, slots, limits)?;
+    let next = pass_nodes(
         rows,
         ends,
         first,
         nesting,
-        slots + variables,
-        children,
+        slots + parts.locals,
+        parts.children,
         limits,
-    );
-    let Step::End(next) = r else {
-        return r;
-    };
+    )?;
     ends[at] = next as u16;
-    r
+    Ok(next)
 }
 
 // Passes `count` nodes, one after another.
@@ -138,38 +126,35 @@ fn pass_nodes(
     slots: u32,
     count: u32,
     limits: Limits,
-) -> Step
+) -> Result<usize, Refusal>
     requires { Ready limits rows.now ends.old at × (slots ≤ limits.slots) }
     ensures { ToldNodes limits rows.now
         ends.old at (several (λ at rs. node (most_of limits) nesting slots at rs) count (at + 1)
         (rows_from rows.now at)) result ends.new }
 {
     let mut i = at;
-    let mut left = count;
-    while 0 < left {
-        let r = pass_node(rows, ends, i, nesting, slots, limits);
-        let Step::End(next) = r else {
-            return r;
-        };
-        i = next;
-        left -= 1;
+    for _ in 0..count {
+        i = pass_node(rows, ends, i, nesting, slots, limits)?;
     }
-    Step::End(i)
+    Ok(i)
 }
 
 // Passes a body: one block.
-pub fn pass_body(rows: &[u32], ends: &mut [u16], at: usize, slots: u32, limits: Limits) -> Step
+pub fn pass_body(
+    rows: &[u32],
+    ends: &mut [u16],
+    at: usize,
+    slots: u32,
+    limits: Limits,
+) -> Result<usize, Refusal>
     requires { Ready limits rows.now ends.old at × (slots ≤ limits.slots) }
     ensures { ToldNode limits rows.now
         ends.old at (body (most_of limits) slots (at + 1) (rows_from rows.now at)) result
         ends.new }
 {
-    let refusal = refuse_row(rows, at, limits);
-    if refusal != 0 {
-        return Step::Refused(refusal, at as u32 + 1);
-    }
+    check_row(rows, at, limits)?;
     if letter_at(rows, at) != BLOCK {
-        return Step::Refused(PLACE_REFUSAL, at as u32 + 1);
+        return Err(refusal_at(PLACE_REFUSAL, at));
     }
     pass_node(rows, ends, at, limits.nesting, slots, limits)
 }

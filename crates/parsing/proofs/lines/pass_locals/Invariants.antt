@@ -1,9 +1,8 @@
 -- V lines: between two of them, what is left to read tells of the whole. Assumes nothing.
+use Prim.Native.Nat.{◌+◌, ◌-◌}
 use Rattle.parsing.proofs.LineLaws.{Declaring}
 use Rattle.parsing.proofs.lines.pass_locals.Given as goal
 
-abbrev pub invariant-loop-left : goal.invariant-loop-left
-invariant-loop-left l = Declaring l.limits l.rows l.initial.ends l.ends l.at l.count l.slots l.i l.left l.scope
-
-abbrev pub decreases-loop-left : goal.decreases-loop-left
-decreases-loop-left l = l.left
+abbrev pub invariant-loop-n : goal.invariant-loop-n
+invariant-loop-n l = Declaring l.limits l.rows l.initial.ends l.ends l.at l.count l.slots (l.at + l.n)
+    (l.count - l.n) (l.slots + l.n)

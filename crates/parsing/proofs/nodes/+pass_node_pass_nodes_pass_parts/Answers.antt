@@ -1,263 +1,133 @@
-use Prim.Native.Nat.{◌+◌}
-use mathlib.Core.Path.{sym, ◌∙◌}
+-- A node: its row, its letter's parts, the nesting; what follows its row; nodes one after another. Assumes nothing.
+use mathlib.Core.Path.{refl, sym, ◌∙◌}
 use Prim.Native.Nat.{◌+◌}
 use native.Mathlib.Omega.{arith}
-use lib.ListN.{length-set}
-use Rattle.parsing.proofs.NodeLaws.{node_refused, node_other, node_over, node_empty, node_leaf}
-use Rattle.parsing.proofs.NodeLaws.{node_parts}
-use Rattle.parsing.proofs.Places.{here, parts_same}
-use Rattle.parsing.proofs.Passes.{told_as, told_refuse}
-use Rattle.parsing.proofs.LineLaws.{row_room}
-use mathlib.Core.Path.{◌∙◌}
-use Rattle.parsing.proofs.NodeLaws.{reading_start, reading_end, reading_stop, reading_step}
-use Rattle.parsing.specs.Columns.{most_of}
-use Rattle.language.specs.Form.{node}
-use mathlib.Core.Path.{refl, ◌∙◌}
-use Rattle.parsing.proofs.NodeLaws.{parts_stop, parts_stop_late, parts_close}
-use Rattle.parsing.proofs.Passes.{told_end}
-use Rattle.parsing.proofs.LineLaws.{ready_at, row_room}
+use Rattle.std.proofs.lemmas.Result.{err_from_is_err_and}
 use Rattle.language.specs.Form.{node, locals, several}
+use Rattle.parsing.specs.Columns.{most_of}
 use Rattle.parsing.specs.Places.{rows_from}
+use Rattle.parsing.proofs.Places.{here, parts_same}
+use Rattle.parsing.proofs.Passes.{told_as, told_refuse, told_end}
+use Rattle.parsing.proofs.LineLaws.{ready_at}
+use Rattle.parsing.proofs.NodeLaws.{node_refused, node_other, node_over, node_empty, node_leaf, node_parts}
+use Rattle.parsing.proofs.NodeLaws.{reading_start, reading_end, reading_stop, reading_step}
+use Rattle.parsing.proofs.NodeLaws.{parts_stop, parts_stop_late, parts_close}
 use Rattle.parsing.proofs.nodes.+pass_node_pass_nodes_pass_parts.Goals as goal
 
--- The measures of the cycle: the nesting left, then the order parts, nodes, node.
+-- ---- a node
 
-pub pass_node-refuse_row-refusal-requires : goal.pass_node-refuse_row-refusal-requires
-pass_node-refuse_row-refusal-requires t c = (
-  c.requires.0.whole,
-  c.requires.0.within,
-  c.requires.0.fits,
+pub pass_node-returns-in_err-check_row : goal.pass_node-returns-in_err-check_row
+pass_node-returns-in_err-check_row t c =
+    let p = err_from_is_err_and c.from_residual.result c.from_residual.ensures.1 in
+    rw (p.1, p.2) (told_as (node_refused c.args.limits c.args.rows.now c.args.at c.args.slots c.args.nesting
+    (sym c.in_err-check_row.ensures.0)) (told_refuse _ _))
+
+pub pass_node-parts_of-requires : goal.pass_node-parts_of-requires
+pass_node-parts_of-requires t c = omega (
+  arith,
+  (here c.args.rows.now c.args.at (sym c.in_ok-check_row.ensures.0) c.in_ok-check_row.ensures.1).second_small,
 )
-
-pub pass_node-overflow_cast-result : goal.pass_node-overflow_cast-result
-pass_node-overflow_cast-result t c = omega (arith, c.requires.0.within, c.requires.0.fits.rows)
-
-pub pass_node-overflow_add-result : goal.pass_node-overflow_add-result
-pass_node-overflow_add-result t c = omega (arith, c.requires.0.within, c.requires.0.fits.rows)
-
-pub pass_node-returns-then-refusal-ne0 : goal.pass_node-returns-then-refusal-ne0
-pass_node-returns-then-refusal-ne0 t c = told_as (node_refused c.args.limits c.args.rows.now c.args.at
-    c.args.slots c.args.nesting c.refuse_row-refusal.result
-    c.refuse_row-refusal.ensures.0 c.if-refusal-ne0.true)
-    (told_refuse c.refuse_row-refusal.result (c.args.at + 1))
-
-pub pass_node-letter_at-code-requires : goal.pass_node-letter_at-code-requires
-pass_node-letter_at-code-requires t c = omega (arith, (c.refuse_row-refusal.ensures.1 c.if-refusal-ne0.false).1)
-
-pub pass_node-first-requires : goal.pass_node-first-requires
-pass_node-first-requires t c = omega (arith, (c.refuse_row-refusal.ensures.1 c.if-refusal-ne0.false).1)
-
-pub pass_node-second-requires : goal.pass_node-second-requires
-pass_node-second-requires t c = omega (arith, (c.refuse_row-refusal.ensures.1 c.if-refusal-ne0.false).1)
-
-pub pass_node-parts_of-parts-requires : goal.pass_node-parts_of-parts-requires
-pass_node-parts_of-parts-requires t c = let x = here c.args.rows.now c.args.at
-    (sym c.if-refusal-ne0.false ∙ c.refuse_row-refusal.ensures.0)
-    (c.refuse_row-refusal.ensures.1 c.if-refusal-ne0.false) in
-    omega (arith, c.second.ensures, x.second_small)
-
-pub pass_node-overflow_cast-result-in_default : goal.pass_node-overflow_cast-result-in_default
-pass_node-overflow_cast-result-in_default t c = omega (arith, c.requires.0.within, c.requires.0.fits.rows)
-
-pub pass_node-overflow_add-result-in_default : goal.pass_node-overflow_add-result-in_default
-pass_node-overflow_add-result-in_default t c = omega (arith, c.requires.0.within, c.requires.0.fits.rows)
 
 pub pass_node-returns-in_default : goal.pass_node-returns-in_default
-pass_node-returns-in_default t c = told_as (node_other c.args.limits c.args.rows.now c.args.at c.args.slots
-    (here c.args.rows.now c.args.at
-    (sym c.if-refusal-ne0.false ∙ c.refuse_row-refusal.ensures.0)
-    (c.refuse_row-refusal.ensures.1 c.if-refusal-ne0.false)) c.args.nesting
-    (sym c.in_default.is ∙ (c.parts_of-parts.ensures
-    ∙ parts_same c.letter_at-code.ensures c.first.ensures
-    c.second.ensures)))
-    (told_refuse 3 (c.args.at + 1))
-
-pub pass_node-overflow_cast-result-then-nesting-eq0 : goal.pass_node-overflow_cast-result-then-nesting-eq0
-pass_node-overflow_cast-result-then-nesting-eq0 t c = omega (arith, c.requires.0.within, c.requires.0.fits.rows)
-
-pub pass_node-overflow_add-result-then-nesting-eq0 : goal.pass_node-overflow_add-result-then-nesting-eq0
-pass_node-overflow_add-result-then-nesting-eq0 t c = omega (arith, c.requires.0.within, c.requires.0.fits.rows)
+pass_node-returns-in_default t c =
+    rw c.refusal_at.ensures (told_as (node_other c.args.limits c.args.rows.now c.args.at c.args.slots
+    (here c.args.rows.now c.args.at (sym c.in_ok-check_row.ensures.0) c.in_ok-check_row.ensures.1)
+    c.args.nesting (sym c.in_default.is ∙ (c.parts_of.ensures
+    ∙ parts_same c.letter_at-code.ensures c.first.ensures c.second.ensures)))
+    (told_refuse 3 (c.args.at + 1)))
 
 pub pass_node-returns-then-nesting-eq0 : goal.pass_node-returns-then-nesting-eq0
-pass_node-returns-then-nesting-eq0 t c = told_as (node_over c.args.limits c.args.rows.now c.args.at c.args.slots
-    (here c.args.rows.now c.args.at
-    (sym c.if-refusal-ne0.false ∙ c.refuse_row-refusal.ensures.0)
-    (c.refuse_row-refusal.ensures.1 c.if-refusal-ne0.false))
-    (sym c.in-Of.is ∙ (c.parts_of-parts.ensures
+pass_node-returns-then-nesting-eq0 t c =
+    rw c.refusal_at-then-nesting-eq0.ensures
+    (told_as (node_over c.args.limits c.args.rows.now c.args.at c.args.slots
+    (here c.args.rows.now c.args.at (sym c.in_ok-check_row.ensures.0) c.in_ok-check_row.ensures.1)
+    (sym c.in-Some.is ∙ (c.parts_of.ensures
     ∙ parts_same c.letter_at-code.ensures c.first.ensures c.second.ensures))
-    c.args.nesting
-    c.if-nesting-eq0.true) (told_refuse 2 (c.args.at + 1))
-
-pub pass_node-overflow_cast-result-then-code-eq-BLOCK : goal.pass_node-overflow_cast-result-then-code-eq-BLOCK
-pass_node-overflow_cast-result-then-code-eq-BLOCK t c = omega (arith, c.requires.0.within, c.requires.0.fits.rows)
-
-pub pass_node-overflow_add-result-then-code-eq-BLOCK : goal.pass_node-overflow_add-result-then-code-eq-BLOCK
-pass_node-overflow_add-result-then-code-eq-BLOCK t c = omega (arith, c.requires.0.within, c.requires.0.fits.rows)
+    c.args.nesting c.if-nesting-eq0.true)
+    (told_refuse 2 (c.args.at + 1)))
 
 pub pass_node-returns-then-code-eq-BLOCK : goal.pass_node-returns-then-code-eq-BLOCK
-pass_node-returns-then-code-eq-BLOCK t c = told_as (node_empty c.args.limits c.args.rows.now c.args.at c.args.slots
-    (here c.args.rows.now c.args.at
-    (sym c.if-refusal-ne0.false ∙ c.refuse_row-refusal.ensures.0)
-    (c.refuse_row-refusal.ensures.1 c.if-refusal-ne0.false))
-    (sym c.in-Of.is ∙ (c.parts_of-parts.ensures
+pass_node-returns-then-code-eq-BLOCK t c =
+    rw c.refusal_at-then-code-eq-BLOCK.ensures
+    (told_as (node_empty c.args.limits c.args.rows.now c.args.at c.args.slots
+    (here c.args.rows.now c.args.at (sym c.in_ok-check_row.ensures.0) c.in_ok-check_row.ensures.1)
+    (sym c.in-Some.is ∙ (c.parts_of.ensures
     ∙ parts_same c.letter_at-code.ensures c.first.ensures c.second.ensures))
-    c.args.nesting c.if-nesting-eq0.false c.if-children-eq0.true
+    c.args.nesting c.if-nesting-eq0.false c.if-parts-eq0.true
     (sym c.letter_at-code.ensures ∙ c.if-code-eq-BLOCK.true))
-    (told_refuse 3 (c.args.at + 1))
+    (told_refuse 3 (c.args.at + 1)))
 
-pub pass_node-overflow_add-ends : goal.pass_node-overflow_add-ends
-pass_node-overflow_add-ends t c = omega (arith, c.requires.0.within, c.requires.0.fits.rows)
-
-pub pass_node-overflow_cast-ends : goal.pass_node-overflow_cast-ends
-pass_node-overflow_cast-ends t c = omega (arith, c.requires.0.within, c.requires.0.fits.rows)
-
-pub pass_node-offset_bounds-ends-at : goal.pass_node-offset_bounds-ends-at
-pass_node-offset_bounds-ends-at t c = omega (arith, c.requires.0.within, c.requires.0.fits.rows)
-
-pub pass_node-bounds-ends-at : goal.pass_node-bounds-ends-at
-pass_node-bounds-ends-at t c = row_room c.requires.0 c.args.at (c.refuse_row-refusal.ensures.1 c.if-refusal-ne0.false)
-
-pub pass_node-overflow_add-result-then-children-eq0 : goal.pass_node-overflow_add-result-then-children-eq0
-pass_node-overflow_add-result-then-children-eq0 t c = omega (arith, c.requires.0.within, c.requires.0.fits.rows)
-
-pub pass_node-returns-then-children-eq0 : goal.pass_node-returns-then-children-eq0
-pass_node-returns-then-children-eq0 t c = node_leaf c.args.limits c.args.rows.now c.args.at c.args.slots
-    (here c.args.rows.now c.args.at
-    (sym c.if-refusal-ne0.false ∙ c.refuse_row-refusal.ensures.0)
-    (c.refuse_row-refusal.ensures.1 c.if-refusal-ne0.false))
-    (sym c.in-Of.is ∙ (c.parts_of-parts.ensures
+pub pass_node-returns-then-parts-eq0 : goal.pass_node-returns-then-parts-eq0
+pass_node-returns-then-parts-eq0 t c = node_leaf c.args.limits c.args.rows.now c.args.at c.args.slots
+    (here c.args.rows.now c.args.at (sym c.in_ok-check_row.ensures.0) c.in_ok-check_row.ensures.1)
+    (sym c.in-Some.is ∙ (c.parts_of.ensures
     ∙ parts_same c.letter_at-code.ensures c.first.ensures c.second.ensures))
-    c.args.nesting (c.refuse_row-refusal.ensures.1 c.if-refusal-ne0.false)
-    c.if-nesting-eq0.false
-    c.if-children-eq0.true (λ e. c.if-code-eq-BLOCK.false (c.letter_at-code.ensures ∙ e))
-
-pub pass_node-overflow_sub-nesting : goal.pass_node-overflow_sub-nesting
-pass_node-overflow_sub-nesting t c = omega (arith, c.requires.0.within, c.requires.0.fits.rows)
-
-pub pass_node-pass_parts-requires : goal.pass_node-pass_parts-requires
-pass_node-pass_parts-requires t c = (
-  omega (arith, c.if-nesting-eq0.false),
-  (c.requires.0, (c.refuse_row-refusal.ensures.1 c.if-refusal-ne0.false), c.requires.1),
-)
-
-pub pass_node-shape_of-ends : goal.pass_node-shape_of-ends
-pass_node-shape_of-ends t c = c.pass_parts.auto.ends
+    c.args.nesting c.in_ok-check_row.ensures.1 c.if-nesting-eq0.false c.if-parts-eq0.true
+    (λ e. c.if-code-eq-BLOCK.false (c.letter_at-code.ensures ∙ e))
 
 pub pass_node-returns : goal.pass_node-returns
 pass_node-returns t c = node_parts c.args.limits c.args.rows.now c.args.at c.args.slots
-    (here c.args.rows.now c.args.at
-    (sym c.if-refusal-ne0.false ∙ c.refuse_row-refusal.ensures.0)
-    (c.refuse_row-refusal.ensures.1 c.if-refusal-ne0.false))
-    (sym c.in-Of.is ∙ (c.parts_of-parts.ensures
+    (here c.args.rows.now c.args.at (sym c.in_ok-check_row.ensures.0) c.in_ok-check_row.ensures.1)
+    (sym c.in-Some.is ∙ (c.parts_of.ensures
     ∙ parts_same c.letter_at-code.ensures c.first.ensures c.second.ensures))
-    c.args.nesting c.if-nesting-eq0.false c.if-children-eq0.false c.pass_parts.ensures
+    c.args.nesting c.if-nesting-eq0.false c.if-parts-eq0.false c.pass_parts.ensures
 
--- The measures of the cycle: the nesting left, then the order parts, nodes, node.
+-- ---- nodes, one after another
 
-pub pass_nodes-loop-left-init : goal.pass_nodes-loop-left-init
-pass_nodes-loop-left-init t c = reading_start (λ at rs. node (most_of c.args.limits)
-    c.args.nesting c.args.slots at rs)
-    c.args.count c.requires.0
+pub pass_nodes-loop-init : goal.pass_nodes-loop-init
+pass_nodes-loop-init t c = reading_start (λ at rs. node (most_of c.args.limits) c.args.nesting c.args.slots at rs)
+    (omega arith) c.requires.0
 
-pub pass_nodes-pass_node-r-requires : goal.pass_nodes-pass_node-r-requires
-pass_nodes-pass_node-r-requires t c = (omega arith, (c.loop-left.invariant.ready, c.requires.1))
+pub pass_nodes-returns-in_err-i : goal.pass_nodes-returns-in_err-i
+pass_nodes-returns-in_err-i t c =
+    let p = err_from_is_err_and c.from_residual.result c.from_residual.ensures.1 in
+    rw (p.1, p.2) (reading_stop c.loop.invariant (omega arith) c.in_err-i.ensures refl)
 
-pub pass_nodes-shape_of-ends-in_default : goal.pass_nodes-shape_of-ends-in_default
-pass_nodes-shape_of-ends-in_default t c = c.pass_node-r.auto.ends ∙ c.loop-left.invariant.long
-
-pub pass_nodes-returns-in_default : goal.pass_nodes-returns-in_default
-pass_nodes-returns-in_default t c = reading_stop c.loop-left.invariant c.loop-left-test.true c.pass_node-r.ensures c.in_default.is
-
-pub pass_nodes-overflow_sub-left : goal.pass_nodes-overflow_sub-left
-pass_nodes-overflow_sub-left t c = omega (arith, c.loop-left-test.true)
-
-pub pass_nodes-loop-left-smaller : goal.pass_nodes-loop-left-smaller
-pass_nodes-loop-left-smaller t c = omega (arith, c.loop-left-test.true)
-
-pub pass_nodes-loop-left-preserved : goal.pass_nodes-loop-left-preserved
-pass_nodes-loop-left-preserved t c = reading_step c.loop-left.invariant c.loop-left-test.true c.pass_node-r.ensures c.in-End.is
-    c.pass_node-r.auto.ends
-
-pub pass_nodes-shape_of-ends : goal.pass_nodes-shape_of-ends
-pass_nodes-shape_of-ends t c = c.loop-left.invariant.long
+pub pass_nodes-loop-preserved : goal.pass_nodes-loop-preserved
+pass_nodes-loop-preserved t c = reading_step c.loop.invariant (omega arith) c.in_ok-i.ensures refl
+    c.pass_node.auto.ends (omega arith)
 
 pub pass_nodes-returns : goal.pass_nodes-returns
-pass_nodes-returns t c = reading_end c.loop-left.invariant c.loop-left-test.false
+pass_nodes-returns t c = reading_end c.loop.invariant (omega arith)
 
--- The measures of the cycle: the nesting left, then the order parts, nodes, node.
+-- ---- what follows a node's row
 
-pub pass_parts-overflow_add-at : goal.pass_parts-overflow_add-at
-pass_parts-overflow_add-at t c = omega (
-  arith,
-  c.requires.0.within,
-  c.requires.0.fits.rows,
-)
-
-pub pass_parts-pass_locals-l-requires : goal.pass_parts-pass_locals-l-requires
-pass_parts-pass_locals-l-requires t c = (
-  ready_at (c.args.at + 1) c.requires.0 refl
-      (omega (arith, c.requires.1.0))
-      (omega (arith, c.requires.1.1)),
+pub pass_parts-pass_locals-requires : goal.pass_parts-pass_locals-requires
+pass_parts-pass_locals-requires t c = (
+  ready_at (c.args.at + 1) c.requires.0 refl (omega arith) (omega arith),
   c.requires.2,
 )
 
-pub pass_parts-shape_of-ends-in_default : goal.pass_parts-shape_of-ends-in_default
-pass_parts-shape_of-ends-in_default t c = c.pass_locals-l.auto.ends
+pub pass_parts-returns-in_err-first : goal.pass_parts-returns-in_err-first
+pass_parts-returns-in_err-first t c =
+    let p = err_from_is_err_and c.from_residual.result c.from_residual.ensures.1 in
+    λ make m. rw (p.1, p.2) (parts_stop c.args.at c.args.nesting c.args.slots c.args.parts.locals
+    c.args.parts.children c.in_err-first.ensures.0 make refl)
 
-pub pass_parts-returns-in_default : goal.pass_parts-returns-in_default
-pass_parts-returns-in_default t c = λ make m. parts_stop c.args.at c.args.nesting c.args.slots
-    c.args.variables c.args.children c.pass_locals-l.ensures.0 make
-    c.in_default.is
-
-pub pass_parts-overflow_add-slots : goal.pass_parts-overflow_add-slots
-pass_parts-overflow_add-slots t c = omega (
-  arith,
-  c.pass_locals-l.ensures.1 c.in-End.first
-      c.in-End.is,
-)
-
-pub pass_parts-pass_nodes-r-requires : goal.pass_parts-pass_nodes-r-requires
-pass_parts-pass_nodes-r-requires t c = (
+pub pass_parts-pass_nodes-requires : goal.pass_parts-pass_nodes-requires
+pass_parts-pass_nodes-requires t c = (
   omega arith,
   (
-    told_end (locals (most_of c.args.limits) c.args.variables
-        c.args.slots (c.args.at + 1 + 1)
-        (rows_from c.args.rows.now (c.args.at + 1))) c.pass_locals-l.ensures.0
-        c.in-End.is λ ts x y w o z.
-        ready_at c.in-End.first c.requires.0 c.pass_locals-l.auto.ends w o,
-    c.pass_locals-l.ensures.1 c.in-End.first c.in-End.is,
+    told_end (locals (most_of c.args.limits) c.args.parts.locals c.args.slots (c.args.at + 1 + 1)
+        (rows_from c.args.rows.now (c.args.at + 1))) c.in_ok-first.ensures.0 refl λ ts x y w o z.
+        ready_at c.in_ok-first.first c.requires.0 c.pass_locals.auto.ends w o,
+    c.in_ok-first.ensures.1 c.in_ok-first.first refl,
   ),
 )
 
-pub pass_parts-shape_of-ends-in_default-r : goal.pass_parts-shape_of-ends-in_default-r
-pass_parts-shape_of-ends-in_default-r t c = c.pass_nodes-r.auto.ends ∙ c.pass_locals-l.auto.ends
-
-pub pass_parts-returns-in_default-r : goal.pass_parts-returns-in_default-r
-pass_parts-returns-in_default-r t c = λ make m. parts_stop_late c.args.at c.args.nesting c.args.slots
-    c.args.variables c.args.children c.pass_locals-l.ensures.0 make c.in-End.is
-    c.pass_nodes-r.ensures c.in_default-r.is
+pub pass_parts-returns-in_err-next : goal.pass_parts-returns-in_err-next
+pass_parts-returns-in_err-next t c =
+    let p = err_from_is_err_and c.from_residual-in_err-next.result c.from_residual-in_err-next.ensures.1 in
+    λ make m. rw (p.1, p.2) (parts_stop_late c.args.at c.args.nesting c.args.slots c.args.parts.locals
+    c.args.parts.children c.in_ok-first.ensures.0 make refl c.in_err-next.ensures refl)
 
 pub pass_parts-overflow_cast-ends : goal.pass_parts-overflow_cast-ends
 pass_parts-overflow_cast-ends t c = told_end (several (λ at rs. node (most_of c.args.limits) c.args.nesting
-    (c.args.slots + c.args.variables) at rs) c.args.children
-    (c.in-End.first + 1) (rows_from c.args.rows.now c.in-End.first))
-    c.pass_nodes-r.ensures c.in-End-r.is λ es x y w o z. omega (arith, w)
-
-pub pass_parts-offset_bounds-ends-at : goal.pass_parts-offset_bounds-ends-at
-pass_parts-offset_bounds-ends-at t c = omega (arith, c.requires.0.within, c.requires.0.fits.rows)
-
-pub pass_parts-bounds-ends-at : goal.pass_parts-bounds-ends-at
-pass_parts-bounds-ends-at t c = omega (
-  arith,
-  row_room c.requires.0 c.args.at c.requires.1,
-  c.pass_locals-l.auto.ends,
-  c.pass_nodes-r.auto.ends,
-)
-
-pub pass_parts-shape_of-ends : goal.pass_parts-shape_of-ends
-pass_parts-shape_of-ends t c = simp length-set (c.pass_nodes-r.auto.ends ∙ c.pass_locals-l.auto.ends)
+    (c.args.slots + c.args.parts.locals) at rs) c.args.parts.children
+    (c.in_ok-first.first + 1) (rows_from c.args.rows.now c.in_ok-first.first))
+    c.in_ok-next.ensures refl λ es x y w o z. omega arith
 
 pub pass_parts-returns : goal.pass_parts-returns
 pass_parts-returns t c = λ make m. parts_close c.args.at c.args.nesting c.args.slots
-    c.args.variables c.args.children c.pass_locals-l.ensures.0 make c.in-End.is
-    c.pass_nodes-r.ensures c.in-End-r.is m
+    c.args.parts.locals c.args.parts.children c.in_ok-first.ensures.0 make refl
+    c.in_ok-next.ensures refl m
