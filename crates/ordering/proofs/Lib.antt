@@ -1,5 +1,4 @@
 pub mod Lines
 pub mod Merging
 pub mod Sorting
-pub mod Comparing
 pub mod Ranking
