@@ -7,7 +7,7 @@ use native.Mathlib.Numerals.{add-one}
 use borrow.Author.Tests.{eq-eqb, ne_eqb}
 use lib.ListN.{length, get_or, drop, set, length-append}
 use lib.Seq.{sets, sets-eq}
-use Rattle.language.specs.Results.{Checked, accept, refuse, bind_checked, require}
+use Rattle.language.specs.Results.{Checked, accept, refuse, bind_checked, require, accept≢refuse}
 use Rattle.language.specs.Rows.{code, Row, Record, rows_of}
 use Rattle.language.specs.Tree.{size, Class, classes_lines, Program}
 use Rattle.language.specs.Form.{after, record_on, next, body, at_end, form}
@@ -16,14 +16,14 @@ use Rattle.language.proofs.Tables.{ends_long, classes_ends_long}
 use Rattle.language.proofs.Filling.{sets_then}
 use Rattle.parsing.specs.declared.lines.Limits.{Limits}
 use Rattle.parsing.specs.Columns.{most_of}
-use Rattle.parsing.specs.Places.{rows_from, refusal_on}
-use Rattle.parsing.specs.Passes.{ToldNode}
+use Rattle.parsing.specs.Places.{rows_from, row_checked}
+use Rattle.parsing.specs.Passes.{Step, ToldNode}
 use Rattle.form.specs.Start.{start_read, Starts, Started}
-use Rattle.parsing.specs.declared.lines.Step.{Step}
-use Rattle.parsing.specs.declared.lines.Step.TheVariants as step
 use Rattle.form.specs.Answers.{formed_of}
 use Rattle.form.specs.declared.Formed.{Formed}
-use Rattle.form.specs.declared.Formed.TheVariants.{InForm, Refused}
+use Rattle.std.specs.Prelude.{Result, Ok, Err}
+use Rattle.language.specs.declared.Refusal.{Refusal}
+use Rattle.language.specs.Refusals.{refusal}
 use Rattle.parsing.proofs.Places.{rows_here, rows_end, Here, next_here, next_refused}
 use Rattle.parsing.proofs.Passes.{told_end, told_failed}
 use Rattle.parsing.proofs.ClassLaws.{Classes, all_classes}
@@ -33,7 +33,7 @@ use Rattle.parsing.proofs.ClassLaws.{Classes, all_classes}
 module _ (L : Limits) (R : List ℕ) (at classes start : ℕ) (p : Program) (n : length p.classes ≡ classes)
     (s : classes_lines p.classes ≡ start) where
   pub finished : length R ≤ at * 4
-      → InForm classes start ≡ formed_of (at_end (most_of L) (at + 1) (rows_from R at) p)
+      → Ok (record { classes = classes; start = start }) ≡ formed_of (at_end (most_of L) (at + 1) (rows_from R at) p)
   unfolding at_end
   finished h = rw (rows_end R at h, n, s)
 
@@ -43,21 +43,21 @@ module _ (L : Limits) (R : List ℕ) (at classes start : ℕ) (p : Program) (n :
     unfolding at_end
     more = rw (rows_here R at h)
 
-    pub not_finished : (k : ℕ) → k ≡ refusal_on L (at + 1) (rows_from R at) → (k ≡ 0 → ⊥)
-        → Refused k (at + 1) ≡ formed_of (at_end (most_of L) (at + 1) (rows_from R at) p)
-    not_finished k e z = rw (more, next_refused L {B = Program} R at k (λ _ _. refuse 3 (at + 1)) e z)
+    pub not_finished : {r : Refusal} → row_checked L (at + 1) (rows_from R at) ≡ Err r
+        → Err r ≡ formed_of (at_end (most_of L) (at + 1) (rows_from R at) p)
+    not_finished e = rw (more, next_refused L {B = Program} R at (λ _ _. refuse 3 (at + 1)) e)
 
-    pub more_follows : Here L R at → Refused 3 (at + 1)
+    pub more_follows : Here L R at → Err (refusal 3 (at + 1))
         ≡ formed_of (at_end (most_of L) (at + 1) (rows_from R at) p)
     more_follows x = rw (more, next_here x {B = Program} (λ _ _. refuse 3 (at + 1)))
 
 -- ---- the start
 
 module _ {cs : List Class} {E E' : List ℕ} {at : ℕ} where
-  start_failed : (x : Checked Program) (n l : ℕ) → x ≡ refuse n l
-      → (Refused n l ≡ formed_of x) × Started cs E at x E'
+  start_failed : (x : Checked Program) (r : Refusal) → x ≡ refuse r.number r.line
+      → (Err r ≡ formed_of x) × Started cs E at x E'
   unfolding Starts
-  start_failed x n l e = (rw e, record { it = rw e tt })
+  start_failed x r e = (rw e, record { it = rw e tt })
 
   started : (L : Limits) (line : ℕ) (rs : List Row) (p : Program) → p.classes ≡ cs
       → E' ≡ sets E at ((at + 1) ∷ ends_of (at + 1) p.start)
@@ -78,33 +78,32 @@ unfolding start_read require
 start_here L R at cs x z = next_here x _ ∙ rw (eq-eqb 83 (code x.letter) (sym z ∙ sym x.code_is))
 
 module _ (L : Limits) (R : List ℕ) (at : ℕ) (cs : List Class) {E E₁ : List ℕ} where
-  pub start_refused : (k : ℕ) → k ≡ refusal_on L (at + 1) (rows_from R at) → (k ≡ 0 → ⊥)
-      → (Refused k (at + 1) ≡ formed_of (start_read L cs (at + 1) (rows_from R at)))
+  pub start_refused : {r : Refusal} → row_checked L (at + 1) (rows_from R at) ≡ Err r
+      → (Err r ≡ formed_of (start_read L cs (at + 1) (rows_from R at)))
       × Started cs E at (start_read L cs (at + 1) (rows_from R at)) E₁
   unfolding start_read
-  start_refused k e z =
-      start_failed (start_read L cs (at + 1) (rows_from R at)) k (at + 1) (next_refused L R at k _ e z)
+  start_refused {r} e = start_failed (start_read L cs (at + 1) (rows_from R at)) r (next_refused L R at _ e)
 
   module _ (x : Here L R at) where
     pub start_other : (get_or R (at * 4) 0 ≡ 83 → ⊥)
-        → (Refused 3 (at + 1) ≡ formed_of (start_read L cs (at + 1) (rows_from R at)))
+        → (Err (refusal 3 (at + 1)) ≡ formed_of (start_read L cs (at + 1) (rows_from R at)))
         × Started cs E at (start_read L cs (at + 1) (rows_from R at)) E₁
     unfolding start_read require
-    start_other z = start_failed (start_read L cs (at + 1) (rows_from R at)) 3 (at + 1)
+    start_other z = start_failed (start_read L cs (at + 1) (rows_from R at)) (refusal 3 (at + 1))
         (next_here x _ ∙ rw (ne_eqb 83 (code x.letter) (λ e. z (sym x.code_is ∙ sym e))))
 
     module _ (z : get_or R (at * 4) 0 ≡ 83) where
       module _ {E₀ : List ℕ} {s : Step}
           (t : ToldNode L R E₀ (at + 1) (body (most_of L) 1 (at + 1 + 1) (rows_from R (at + 1))) s E₁) where
-        pub start_stop : {n l : ℕ} → s ≡ step.Refused n l
-            → (Refused n l ≡ formed_of (start_read L cs (at + 1) (rows_from R at)))
+        pub start_stop : {r : Refusal} → s ≡ Err r
+            → (Err r ≡ formed_of (start_read L cs (at + 1) (rows_from R at)))
             × Started cs E at (start_read L cs (at + 1) (rows_from R at)) E₁
         unfolding after
-        start_stop {n} {l} e = start_failed (start_read L cs (at + 1) (rows_from R at)) n l
+        start_stop {r} e = start_failed (start_read L cs (at + 1) (rows_from R at)) r
             (start_here L R at cs x z
             ∙ rw (told_failed (body (most_of L) 1 (at + 1 + 1) (rows_from R (at + 1))) t e))
 
-        pub start_end : {q classes : ℕ} {r : Formed} → s ≡ step.End q → E₀ ≡ set E at (at + 1)
+        pub start_end : {q classes : ℕ} {r : Result Formed Refusal} → s ≡ Ok q → E₀ ≡ set E at (at + 1)
             → (q ≤ L.rows → q * 4 ≤ length R → q ≤ length E) → length cs ≡ classes → classes_lines cs ≡ at
             → ((p : Program) → length p.classes ≡ classes → classes_lines p.classes ≡ at
             → r ≡ formed_of (at_end (most_of L) (q + 1) (rows_from R q) p))
@@ -126,15 +125,12 @@ module _ (L : Limits) (R : List ℕ) (at : ℕ) (cs : List Class) {E E₁ : List
 -- ---- the whole
 
 module _ (L : Limits) (R E₀ : List ℕ) where
-  pub form_failed : {E' : List ℕ} (n l : ℕ) → all_classes L R ≡ refuse n l
-      → (Refused n l ≡ formed_of (form (most_of L) (rows_of R)))
+  pub form_failed : {E' : List ℕ} (r : Refusal) → all_classes L R ≡ refuse r.number r.line
+      → (Err r ≡ formed_of (form (most_of L) (rows_of R)))
       × ((p : Program) → form (most_of L) (rows_of R) ≡ accept p
       → E' ≡ program_ends p ++ drop (length (program_ends p)) E₀)
   unfolding form after
-  form_failed n l e = (rw e, λ p z. absurd (never p (rw e at z)))
-    where
-      never : (p : Program) → ◌≡◌ {A = Checked Program} (refuse n l) (accept p) → ⊥
-      never p z = let y : ◌≡◌ {A = ℕ} 0 1 = cc in omega arith
+  form_failed r e = (rw e, λ p z. absurd (accept≢refuse _ _ (rw e at z)))
 
   module _ {E : List ℕ} {i n : ℕ} (c : Classes L R E₀ E i n) where
     form-is : form (most_of L) (rows_of R) ≡ start_read L c.list (i + 1) (rows_from R i)
@@ -153,7 +149,7 @@ module _ (L : Limits) (R E₀ : List ℕ) where
           c.rows,
         )
 
-    pub form_done : {E' : List ℕ} {r : Formed} → length E ≡ length E₀
+    pub form_done : {E' : List ℕ} {r : Result Formed Refusal} → length E ≡ length E₀
         → ((cs : List Class) → length cs ≡ n → classes_lines cs ≡ i
         → (r ≡ formed_of (start_read L cs (i + 1) (rows_from R i)))
         × Started cs E i (start_read L cs (i + 1) (rows_from R i)) E')

@@ -1,10 +1,14 @@
--- The answer of the pass over form, by cases (document 01, "Refusals and stops").
-use Rattle.std.specs.Prelude.{length}
-use Rattle.language.specs.Results.{Checked, accept, refuse}
+-- The answer of the pass over form (document 01, "Refusals and stops").
+use Rattle.std.specs.Prelude.{Result, length}
+use Rattle.language.specs.declared.Refusal.{Refusal}
+use Rattle.language.specs.Refusals.{result_of}
+use Rattle.language.specs.Results.{Checked}
 use Rattle.language.specs.Tree.{classes_lines, Program}
 use Rattle.form.specs.declared.Formed.{Formed}
-use Rattle.form.specs.declared.Formed.TheVariants.{InForm, Refused}
 
-abbrev pub formed_of : Checked Program → Formed
-formed_of (accept p) = InForm (length p.classes) (classes_lines p.classes)
-formed_of (refuse number line) = Refused number line
+-- What it finds of a program: how many classes, and the row of the S line.
+abbrev pub found : Program → Formed
+found p = record { classes = length p.classes; start = classes_lines p.classes }
+
+abbrev pub formed_of : Checked Program → Result Formed Refusal
+formed_of = result_of found

@@ -14,59 +14,65 @@ ghost use Rattle.parsing.specs.Places.{rows_from, Ready};
 ghost use Rattle.form.specs.Start.{start_read, Started};
 ghost use Rattle.form.specs.Answers.{formed_of};
 
-use language::{CLASS, LIMIT_REFUSAL, PLACE_REFUSAL, START, letter_at};
+use language::{
+    CLASS, LIMIT_REFUSAL, MOST_CLASSES, MOST_FIELDS, MOST_ROWS, NUMBERS_A_ROW, PLACE_REFUSAL,
+    Refusal, START, letter_at,
+};
 use parsing::classes::pass_class;
-use parsing::lines::{Limits, Step, is_letter, refuse_row};
+use parsing::lines::{Limits, check_row, is_letter, refusal_at};
 use parsing::nodes::pass_body;
 
-// In form, with how many classes and the row of the S line; or a refusal's number and line.
-#[derive(Drop)]
-pub enum Formed {
-    InForm(u32, u32),
-    Refused(u32, u32),
+// What the pass finds of rows in form: how many classes there are, and the row of the S line.
+#[derive(Clone, Copy)]
+pub struct Formed {
+    pub classes: u32,
+    pub start: u32,
 }
 
 // Nothing may follow the start block.
-fn finish(rows: &[u32], at: usize, classes: u32, start: u32, limits: Limits) -> Formed
+fn finish(
+    rows: &[u32],
+    at: usize,
+    classes: u32,
+    start: u32,
+    limits: Limits,
+) -> Result<Formed, Refusal>
     requires { (length rows.now % 4 ≡ 0) × (at ≤ limits.rows) × Fits limits }
     ensures { (p : Program) → length p.classes ≡ classes → classes_lines p.classes ≡ start
         → result ≡ formed_of (at_end (most_of limits) (at + 1) (rows_from rows.now at) p) }
 {
-    if rows.len() <= at * 4 {
-        return Formed::InForm(classes, start);
+    if rows.len() <= at * NUMBERS_A_ROW {
+        return Ok(Formed { classes, start });
     }
-    let refusal = refuse_row(rows, at, limits);
-    if refusal != 0 {
-        return Formed::Refused(refusal, at as u32 + 1);
-    }
-    Formed::Refused(PLACE_REFUSAL, at as u32 + 1)
+    check_row(rows, at, limits)?;
+    Err(refusal_at(PLACE_REFUSAL, at))
 }
 
 // After the classes: the S line, the start block, the end.
-fn pass_start(rows: &[u32], ends: &mut [u16], at: usize, classes: u32, limits: Limits) -> Formed
+fn pass_start(
+    rows: &[u32],
+    ends: &mut [u16],
+    at: usize,
+    classes: u32,
+    limits: Limits,
+) -> Result<Formed, Refusal>
     requires { Ready limits rows.now ends.old at }
     ensures { (cs : List Class) → length cs ≡ classes → classes_lines cs ≡ at →
         (result ≡ formed_of (start_read limits cs (at + 1) (rows_from rows.now at)))
         × Started cs ends.old at (start_read limits cs (at + 1) (rows_from rows.now at))
         ends.new }
 {
-    let refusal = refuse_row(rows, at, limits);
-    if refusal != 0 {
-        return Formed::Refused(refusal, at as u32 + 1);
-    }
+    check_row(rows, at, limits)?;
     if letter_at(rows, at) != START {
-        return Formed::Refused(PLACE_REFUSAL, at as u32 + 1);
+        return Err(refusal_at(PLACE_REFUSAL, at));
     }
     ends[at] = (at + 1) as u16;
-    let r = pass_body(rows, ends, at + 1, 1, limits);
-    match r {
-        Step::End(next) => finish(rows, next, classes, at as u32, limits),
-        Step::Refused(number, line) => Formed::Refused(number, line),
-    }
+    let next = pass_body(rows, ends, at + 1, 1, limits)?;
+    finish(rows, next, classes, at as u32, limits)
 }
 
 // The pass: classes, as long as C lines come, then the start. It fills the table of ends.
-fn pass_form(rows: &[u32], ends: &mut [u16], limits: Limits) -> Formed
+fn pass_form(rows: &[u32], ends: &mut [u16], limits: Limits) -> Result<Formed, Refusal>
     requires { (length rows.now % 4 ≡ 0) ×
         ((length rows.now ≤ 4 * length ends.old) ⊎ (limits.rows ≤ length ends.old)) × Fits limits }
     ensures { (result ≡ formed_of (form (most_of limits) (rows_of rows.now)))
@@ -74,27 +80,19 @@ fn pass_form(rows: &[u32], ends: &mut [u16], limits: Limits) -> Formed
         → ends.new ≡ program_ends p ++ drop (length (program_ends p)) ends.old) }
 {
     let mut i = 0;
-    let mut classes: u32 = 0;
+    let mut classes = 0u32;
     while is_letter(rows, i, CLASS, limits) {
         if limits.classes <= classes {
-            return Formed::Refused(LIMIT_REFUSAL, i as u32 + 1);
+            return Err(refusal_at(LIMIT_REFUSAL, i));
         }
-        let r = pass_class(rows, ends, i, limits);
-        match r {
-            Step::End(next) => {
-                i = next;
-                classes += 1;
-            }
-            Step::Refused(number, line) => {
-                return Formed::Refused(number, line);
-            }
-        }
+        i = pass_class(rows, ends, i, limits)?;
+        classes += 1;
     }
     pass_start(rows, ends, i, classes, limits)
 }
 
 // The pass under the limits of a checked program.
-pub fn check_form(rows: &[u32], ends: &mut [u16]) -> Formed
+pub fn check_form(rows: &[u32], ends: &mut [u16]) -> Result<Formed, Refusal>
     requires { (length rows.now % 4 ≡ 0) ×
         ((length rows.now ≤ 4 * length ends.old) ⊎ (of_check.rows ≤ length ends.old)) }
     ensures { (result ≡ formed_of (form of_check (rows_of rows.now)))
@@ -102,9 +100,9 @@ pub fn check_form(rows: &[u32], ends: &mut [u16]) -> Formed
         → ends.new ≡ program_ends p ++ drop (length (program_ends p)) ends.old) }
 {
     let limits = Limits {
-        rows: 60000,
-        classes: 64,
-        fields: 17,
+        rows: MOST_ROWS as usize,
+        classes: MOST_CLASSES,
+        fields: u32::from(MOST_FIELDS),
         slots: 256,
         nesting: 128,
     };
@@ -112,7 +110,7 @@ pub fn check_form(rows: &[u32], ends: &mut [u16]) -> Formed
 }
 
 // The pass under the limits of the translator's input.
-pub fn check_translatable(rows: &[u32], ends: &mut [u16]) -> Formed
+pub fn check_translatable(rows: &[u32], ends: &mut [u16]) -> Result<Formed, Refusal>
     requires { (length rows.now % 4 ≡ 0) ×
         ((length rows.now ≤ 4 * length ends.old) ⊎ (of_translator.rows ≤ length ends.old)) }
     ensures { (result ≡ formed_of (form of_translator (rows_of rows.now)))
