@@ -6,14 +6,15 @@ use mathlib.Core.Logic.{◌↔◌, ◌≢◌, ◌⊎◌}
 use mathlib.Core.Bool.{true, cond}
 use mathlib.Core.List.{[], ◌∷◌, map}
 use Prim.Native.Nat.{ℕ, ◌%◌, ◌≤◌, ◌<◌}
+use Rattle.std.specs.Prelude.{Ok, Err}
+use Rattle.language.specs.Refusals.{refusal}
 use Rattle.language.specs.Limits.{no_line}
 use Rattle.language.specs.Results.{accept, refuse}
-use Rattle.prices.specs.Calendar.{Date, date, is_leap, days_in, date_of, day_of, day_answer, date_answer}
+use Rattle.prices.specs.Calendar.{date, is_leap, days_in, date_of, day_of, day_answer, date_answer}
+use Rattle.prices.specs.declared.Date.{Date}
 use Rattle.prices.specs.Dates.{InCalendar, Earlier, InRange, HasNoDay, MonthWithoutDays}
 use Rattle.prices.specs.Numbering.{day_number}
 use Rattle.prices.specs.Reports.{Days, month_days}
-use Rattle.prices.specs.declared.DayAnswer.TheVariants.{Day, Refused as NoDay}
-use Rattle.prices.specs.declared.DateAnswer.TheVariants.{Date as DateIs, Refused as NoDate}
 use Rattle.prices.proofs.Numbering.{date_in_calendar, days_of_a_month}
 use Rattle.prices.proofs.DateOrder.{date_of_number, order_kept}
 use Rattle.prices.proofs.Calendar.{day_of_date_of, date_of_day_of, day_refused, range_of_dates, date_of_last}
@@ -91,23 +92,23 @@ month_refusals = month_is_refused
 -- What the services return. For a date it is a day exactly if that is in range and has the date; else it is 24 on no
 -- line.
 pub day_answered : (year month day n : ℕ)
-    → (day_answer year month day ≡ Day n) ↔ ((n ≤ largest_day) × (date_of n ≡ date year month day))
+    → (day_answer year month day ≡ Ok n) ↔ ((n ≤ largest_day) × (date_of n ≡ date year month day))
 day_answered = day_told
 
 pub day_answer_refused : (year month day n k : ℕ)
-    → (day_answer year month day ≡ NoDay n k) ↔ HasNoDay (date year month day) n k
+    → (day_answer year month day ≡ Err (refusal n k)) ↔ HasNoDay (date year month day) n k
 day_answer_refused = day_not_told
 
 -- For a day it is the day's date exactly if the day is in range; else it is 24 on no line.
 pub date_answered : (n year month day : ℕ)
-    → (date_answer n ≡ DateIs year month day) ↔ ((n ≤ largest_day) × (date_of n ≡ date year month day))
+    → (date_answer n ≡ Ok (date year month day)) ↔ ((n ≤ largest_day) × (date_of n ≡ date year month day))
 date_answered = date_told
 
 pub date_answer_refused : (n a b : ℕ)
-    → (date_answer n ≡ NoDate a b) ↔ ((a ≡ bad_date) × (b ≡ no_line) × (largest_day < n))
+    → (date_answer n ≡ Err (refusal a b)) ↔ ((a ≡ bad_date) × (b ≡ no_line) × (largest_day < n))
 date_answer_refused = date_not_told
 
 -- A day is returned for a date exactly if the date is returned for the day.
 pub answers_inverse : (year month day n : ℕ)
-    → (day_answer year month day ≡ Day n) ↔ (date_answer n ≡ DateIs year month day)
+    → (day_answer year month day ≡ Ok n) ↔ (date_answer n ≡ Ok (date year month day))
 answers_inverse = told_back

@@ -7,6 +7,9 @@ use Prim.Native.Nat.{ℕ, suc, ◌+◌, ◌≤◌, ◌<◌}
 use mathlib.Core.List.{List, [], ◌∷◌, ◌++◌}
 use mathlib.Core.Option.{Option, none, some}
 use lib.ListN.{length}
+use Rattle.std.specs.Prelude.{Some, None, Ok, Err}
+use Rattle.prices.specs.Prices.{price}
+use Rattle.language.specs.Refusals.{refusal}
 use Rattle.language.specs.Filling.{answer, buffer}
 use Rattle.language.specs.Results.{accept, refuse}
 use Rattle.language.specs.WellFormed.{Each}
@@ -15,8 +18,6 @@ use Rattle.prices.specs.Terms.{Term, term_line, terms_of}
 use Rattle.prices.specs.Prices.{price_on_day, price_on_date}
 use Rattle.prices.specs.Reports.{Days, month_days, PriceRun, price_runs, cents_on, run_line, run_lines}
 use Rattle.prices.specs.Reports.{price_report}
-use Rattle.prices.specs.declared.TermLine.TheVariants.{Malformed}
-use Rattle.prices.specs.declared.PriceAnswer.TheVariants.{Cents, Unpriced, Refused}
 use Rattle.prices.proofs.Terms.{terms_few}
 use Rattle.promises.specs.Listed.{ListedFilling}
 use Rattle.promises.specs.PriceWords.{largest_day, term_text, TermsOf, BeginsWithTerm, TermsRefusal}
@@ -52,7 +53,7 @@ terms_refusals = terms_refused
 
 -- A line is malformed exactly if the text does not begin with five decimals of at most 65,535, tabs between, and a line
 -- feed.
-pub malformed_exact : (s : List ℕ) → (term_line s ≡ Malformed) ↔ (¬ BeginsWithTerm s)
+pub malformed_exact : (s : List ℕ) → (term_line s ≡ None) ↔ (¬ BeginsWithTerm s)
 malformed_exact = malformed_lines
 
 -- No text has more than 65,536 terms, and none is refused on a line after 65,537.
@@ -69,17 +70,17 @@ refused_at_most = refused_early
 -- signing number.
 pub price_is_highest : (text : List ℕ) (model day : ℕ) (ts : List Term) → terms_of text ≡ accept ts
     → (c l : ℕ)
-    → (price_on_day text model day ≡ Cents c l) ↔ ((day ≤ largest_day) × PricedBy model day ts c l)
+    → (price_on_day text model day ≡ Ok (Some (price c l))) ↔ ((day ≤ largest_day) × PricedBy model day ts c l)
 price_is_highest = priced_by
 
 -- It has none exactly if the day is at most 65,535 and no term holds for the model on the day.
 pub price_is_none : (text : List ℕ) (model day : ℕ) (ts : List Term) → terms_of text ≡ accept ts
-    → (price_on_day text model day ≡ Unpriced) ↔ ((day ≤ largest_day) × NoneHolds model day ts)
+    → (price_on_day text model day ≡ Ok None) ↔ ((day ≤ largest_day) × NoneHolds model day ts)
 price_is_none = unpriced
 
 -- A price is refused exactly as the text is; else with 24 on no line, exactly if the day is past 65,535.
 pub price_refusals : (text : List ℕ) (model day n k : ℕ)
-    → (price_on_day text model day ≡ Refused n k) ↔ PriceRefusal text day n k
+    → (price_on_day text model day ≡ Err (refusal n k)) ↔ PriceRefusal text day n k
 price_refusals = price_refused
 
 -- The price on a date is that on the day with the date; where no day has it, it is refused as day 65,536 is, with the
@@ -96,7 +97,7 @@ price_without_day = price_of_no_date
 -- So a price on a date is refused exactly as the text is; else with 24 on no line, exactly if no day from 0 to 65,535
 -- has the date.
 pub date_price_refusals : (text : List ℕ) (model year month day n k : ℕ)
-    → (price_on_date text model year month day ≡ Refused n k)
+    → (price_on_date text model year month day ≡ Err (refusal n k))
     ↔ DatePriceRefusal text (date year month day) n k
 date_price_refusals = date_price_refused
 
@@ -112,7 +113,7 @@ new_term = one_term_more
 pub new_term_price : (text : List ℕ) (ts : List Term) → terms_of text ≡ accept ts → (t : Term)
     → SignedNext ts t
     → (model day : ℕ) → HoldsOn model day t
-    → price_on_day (text ++ term_text t) model day ≡ Cents t.cents t.line
+    → price_on_day (text ++ term_text t) model day ≡ Ok (Some (price t.cents t.line))
 new_term_price = new_price
 
 pub new_term_cents : (text : List ℕ) (ts : List Term) → terms_of text ≡ accept ts → (t : Term)
@@ -149,11 +150,11 @@ runs_exact = runs_are
 -- The prices by which a report's runs are made are those that are returned for the days.
 pub report_prices : (text : List ℕ) (model day : ℕ) (ts : List Term) → terms_of text ≡ accept ts
     → day ≤ largest_day → (c : ℕ)
-    → (cents_on model ts day ≡ some c) ↔ ((l : ℕ) × (price_on_day text model day ≡ Cents c l))
+    → (cents_on model ts day ≡ some c) ↔ ((l : ℕ) × (price_on_day text model day ≡ Ok (Some (price c l))))
 report_prices = cents_priced
 
 pub report_gaps : (text : List ℕ) (model day : ℕ) (ts : List Term) → terms_of text ≡ accept ts
-    → day ≤ largest_day → (cents_on model ts day ≡ none) ↔ (price_on_day text model day ≡ Unpriced)
+    → day ≤ largest_day → (cents_on model ts day ≡ none) ↔ (price_on_day text model day ≡ Ok None)
 report_gaps = cents_unpriced
 
 -- Bytes are a model's report of a month exactly if they are the lines of the runs of the month's days by its prices.

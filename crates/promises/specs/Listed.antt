@@ -1,6 +1,10 @@
 -- The answers that document 01 lists ("Refusals and stops"): of the reader, the writer, the check, the
 -- translator, a run and a service that fills a lent buffer; refusals by number and line, each with its
 -- condition or with the pass that gives it, and with what was lent unchanged.
+use Rattle.std.specs.Prelude.{Some, None, Result, Ok, Err}
+use Rattle.language.specs.Refusals.{refusal}
+use Rattle.language.specs.declared.Refusal.{Refusal as CodeRefusal}
+use Rattle.language.specs.declared.Line.{Line}
 use Rattle.std.specs.Prelude.{◌≡◌, ◌≢◌, ℕ, ◌+◌, ◌-◌, ◌*◌, ◌/◌, ◌%◌, ◌≤◌, ◌<◌, true, false, List, [], ◌++◌, length, drop}
 use Rattle.std.proofs.Math.Option.{none, some}
 use Rattle.language.specs.Limits.{of_check, line_refusal, limit_refusal, place_refusal, name_refusal}
@@ -14,9 +18,6 @@ use Rattle.language.specs.Results.{Checked, accept, refuse, passed}
 use Rattle.language.specs.Rows.{F_field, written, Row, row_of, record_of, is_row, rows_of}
 use Rattle.language.specs.Alphabet.{ours}
 use Rattle.language.specs.TextLines.{line_of}
-use Rattle.language.specs.declared.Line.TheVariants.{Row as LineRow, Malformed}
-use Rattle.language.specs.declared.Filled.{Filled}
-use Rattle.language.specs.declared.Filled.TheVariants.{Done, Refused}
 use Rattle.language.specs.Tree.{Program}
 use Rattle.language.specs.Uses.{OverLimit}
 use Rattle.language.specs.Form.{form}
@@ -37,14 +38,14 @@ pub record LineOf (rows l : ℕ) : Type 0 where
 -- n lines of a text that hold a row each, and the text after them.
 pub data LinesRead : ℕ → List ℕ → List ℕ → Type 0 where
   no_line_read : {text : List ℕ} → LinesRead 0 text text
-  line_read : {n code a b used : ℕ} {text rest : List ℕ} → line_of ours text ≡ LineRow code a b used
-      → LinesRead n (drop used text) rest → LinesRead (1 + n) text rest
+  line_read : {n : ℕ} {l : Line} {text rest : List ℕ} → line_of ours text ≡ Some l
+      → LinesRead n (drop l.end text) rest → LinesRead (1 + n) text rest
 
 -- The reader: 1 on the first line that is malformed, 2 on line 60,001 where the lines before it hold a row
 -- each.
 pub data ReaderRefusal (text : List ℕ) : ℕ → ℕ → Type 0 where
   malformed_line : {n : ℕ} {rest : List ℕ} → n < of_check.rows → LinesRead n text rest → rest ≢ []
-      → line_of ours rest ≡ Malformed → ReaderRefusal text line_refusal (1 + n)
+      → line_of ours rest ≡ None → ReaderRefusal text line_refusal (1 + n)
   line_too_many : {rest : List ℕ} → LinesRead of_check.rows text rest → rest ≢ []
       → ReaderRefusal text limit_refusal (1 + of_check.rows)
 
@@ -154,10 +155,10 @@ pub data ListedRun (ns : List ℕ) (fuel : ℕ) (store : List ℕ) : Ran → Typ
 -- afterwards: the numbers and then what was there past them; 13 on no line where they do not fit, or a
 -- refusal that is listed for their making, and then the buffer is unchanged.
 pub data ListedFilling (width : ℕ) (Refusal : ℕ → ℕ → Type 0) (made : Checked (List ℕ)) (old : List ℕ) :
-    Filled → List ℕ → Type 0 where
+    Result ℕ CodeRefusal → List ℕ → Type 0 where
   is_filled : {xs : List ℕ} → made ≡ accept xs → length xs ≤ length old
-      → ListedFilling width Refusal made old (Done (length xs / width)) (xs ++ drop (length xs) old)
+      → ListedFilling width Refusal made old (Ok (length xs / width)) (xs ++ drop (length xs) old)
   has_no_room : {xs : List ℕ} → made ≡ accept xs → length old < length xs
-      → ListedFilling width Refusal made old (Refused room_refusal no_line) old
+      → ListedFilling width Refusal made old (Err (refusal room_refusal no_line)) old
   is_not_made : {n l : ℕ} → made ≡ refuse n l → Refusal n l
-      → ListedFilling width Refusal made old (Refused n l) old
+      → ListedFilling width Refusal made old (Err (refusal n l)) old

@@ -1,5 +1,6 @@
 -- The words in which the demands on price terms are stated (document 02, §11): the text of terms, what terms a text may
 -- have, the term that is highest, the runs of days of a report, and what is refused.
+use Rattle.std.specs.Prelude.{Some}
 use Rattle.std.specs.Prelude.{◌≡◌, ◌↔◌, ◌≢◌, ℕ, suc, ◌+◌, ◌≤◌, ◌<◌, List, [], ◌∷◌, ◌++◌, length, drop}
 use Rattle.std.proofs.Math.Option.{Option, some}
 use Rattle.language.specs.Limits.{line_refusal, no_line}
@@ -7,9 +8,9 @@ use Rattle.language.specs.Lists.{nth}
 use Rattle.language.specs.Decimals.{digits}
 use Rattle.language.specs.TextLines.{tab, line_feed}
 use Rattle.language.specs.WellFormed.{Each}
-use Rattle.language.specs.declared.Taken.TheVariants.{Number}
 use Rattle.fields.specs.Places.{number_at}
-use Rattle.prices.specs.Calendar.{Date, date_of}
+use Rattle.prices.specs.Calendar.{date_of}
+use Rattle.prices.specs.declared.Date.{Date}
 use Rattle.prices.specs.Dates.{MonthWithoutDays}
 use Rattle.prices.specs.Terms.{Term, first_number}
 use Rattle.prices.specs.Reports.{Days, PriceRun, cents_on, run_lines}
@@ -198,9 +199,9 @@ pub record BeginsWithRun (s : List ℕ) (r : PriceRun) (rest : List ℕ) : Type 
   pub after_from : ℕ
   pub after_to : ℕ
   pub after_cents : ℕ
-  pub from_read : first_number s ≡ Number r.from after_from
-  pub to_read : number_at after_from s ≡ Number r.to after_to
-  pub cents_read : number_at after_to s ≡ Number r.cents after_cents
+  pub from_read : first_number s ≡ Some (r.from, after_from)
+  pub to_read : number_at after_from s ≡ Some (r.to, after_to)
+  pub cents_read : number_at after_to s ≡ Some (r.cents, after_cents)
   pub ended : drop after_cents s ≡ line_feed ∷ rest
 
 -- A text is the lines of these runs one after another, each read like a term's line, and nothing else.

@@ -1,5 +1,8 @@
 -- What is summed over counted lines: a model's totals, the sums of lines by model, and when lists of lines have the same
 -- ones. These are the words in which the demands on the report over a fleet are stated.
+use Rattle.std.specs.Prelude.{Result, Ok, Err}
+use Rattle.fleet.specs.Ranking.{fault}
+use Rattle.fleet.specs.declared.Fault.{Fault}
 use Rattle.std.specs.Prelude.{◌≡◌, ◌↔◌, ◌≢◌, ℕ, suc, ◌+◌, ◌*◌, ◌%◌, ◌≤◌, ◌<◌, true, cond, List, [], ◌∷◌, ◌++◌, map, eqb, length, take, drop}
 use Rattle.std.proofs.Math.Option.{Option, none, some}
 use Rattle.language.specs.Limits.{numbers_a_row, line_refusal, room_refusal, no_line}
@@ -8,8 +11,6 @@ use Rattle.language.specs.WellFormed.{Each}
 use Rattle.fleet.specs.Ranking.{Counted, sum_refusal, is_before, sums, lines_of}
 use Rattle.fleet.specs.Counts.{Counts, class_refusal, run_counts}
 use Rattle.fleet.specs.Fleet.{Run, numbers_a_run, numbers_a_line, runs_of, lines_of_runs, counted_lines}
-use Rattle.fleet.specs.declared.Reported.{Reported}
-use Rattle.fleet.specs.declared.Reported.TheVariants.{Done, Refused}
 use Rattle.fleet.specs.LineLists.{Distinct}
 use Rattle.fleet.specs.LineLists.{Permuted}
 
@@ -145,9 +146,9 @@ ModelsRefusal counts =
 -- A service that writes a report into lent bytes, and the bytes afterwards: the report and then what was there past it;
 -- 13 on no line where it does not fit, or a refusal that is listed for it, and then the bytes are unchanged.
 pub data ListedReport (Refusal : ℕ → ℕ → Type 0) (made : Checked (List ℕ)) (old : List ℕ) :
-    Reported → List ℕ → Type 0 where
+    Result ℕ Fault → List ℕ → Type 0 where
   is_reported : {bytes : List ℕ} → made ≡ accept bytes → length bytes ≤ length old
-      → ListedReport Refusal made old (Done (length bytes)) (bytes ++ drop (length bytes) old)
+      → ListedReport Refusal made old (Ok (length bytes)) (bytes ++ drop (length bytes) old)
   has_no_room : {bytes : List ℕ} → made ≡ accept bytes → length old < length bytes
-      → ListedReport Refusal made old (Refused room_refusal no_line) old
-  is_not_made : {n k : ℕ} → made ≡ refuse n k → Refusal n k → ListedReport Refusal made old (Refused n k) old
+      → ListedReport Refusal made old (Err (fault room_refusal no_line)) old
+  is_not_made : {n k : ℕ} → made ≡ refuse n k → Refusal n k → ListedReport Refusal made old (Err (fault n k)) old

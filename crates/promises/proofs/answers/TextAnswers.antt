@@ -9,6 +9,7 @@ use lib.ListN.{length, drop}
 use lib.Dec.{eqb, ltb}
 use borrow.Author.Tests.{ltb-true, ltb-false, eqb-true, eqb-false}
 use native.Mathlib.Omega.{arith}
+use Rattle.std.specs.Prelude.{Option as Maybe, Some, None}
 use Rattle.language.specs.Limits.{of_check, numbers_a_row, line_refusal, limit_refusal, no_line}
 use Rattle.language.specs.Lists.{nth, inj}
 use Rattle.language.specs.Results.{Checked, refuse}
@@ -16,7 +17,6 @@ use Rattle.language.specs.Filling.{before}
 use Rattle.language.specs.Rows.{Row, row, is_row, rows_of}
 use Rattle.language.specs.TextLines.{line_of, line_text}
 use Rattle.language.specs.declared.Line.{Line}
-use Rattle.language.specs.declared.Line.TheVariants.{Row as LineRow, Malformed}
 use Rattle.language.specs.Alphabet.{ours}
 use Rattle.language.specs.Texts.{with_line, read_lines, read_text, write_lines, write_rows}
 use Rattle.promises.specs.Listed.{LinesRead, no_line_read, line_read, ReaderRefusal, malformed_line}
@@ -35,9 +35,8 @@ nonempty : {x : ℕ} {s : List ℕ} → x ∷ s ≢ []
 nonempty e = let z = ap length e in omega (arith, z)
 
 -- One line more.
-lines_then : {n code a b used : ℕ} {text s : List ℕ} → LinesRead n text s
-    → line_of ours s ≡ LineRow code a b used
-    → LinesRead (1 + n) text (drop used s)
+lines_then : {n : ℕ} {l : Line} {text s : List ℕ} → LinesRead n text s → line_of ours s ≡ Some l
+    → LinesRead (1 + n) text (drop l.end s)
 lines_then no_line_read e = line_read e no_line_read
 lines_then (line_read e₁ r) e = line_read e₁ (lines_then r e)
 
@@ -60,15 +59,15 @@ module _ (text : List ℕ) where
   lines_refuse (suc left) n line (x ∷ s) h =
       go (line_of ours (x ∷ s)) refl (λ used f. lines_refuse left (1 + n) (line + 1) (drop used (x ∷ s)) f)
     where
-      go : (r : Line) → line_of ours (x ∷ s) ≡ r
+      go : (r : Maybe Line) → line_of ours (x ∷ s) ≡ r
           → ((used : ℕ) → Follows left (1 + n) (line + 1) (drop used (x ∷ s))
           → RefusesOnly (ReaderRefusal text) (read_lines ours left (line + 1) (drop used (x ∷ s))))
           → RefusesOnly (ReaderRefusal text)
           (with_line line (λ used. read_lines ours left (line + 1) (drop used (x ∷ s))) r)
-      go Malformed e f = subst (λ (l : ℕ). RefusesOnly (ReaderRefusal text) {A = List ℕ}
+      go None e f = subst (λ (l : ℕ). RefusesOnly (ReaderRefusal text) {A = List ℕ}
           (refuse line_refusal l))
           (sym h.next) (refuses_as (malformed_line (omega (arith, h.allowed)) h.lines nonempty e))
-      go (LineRow code a b used) e f = only_before (code ∷ a ∷ b ∷ 0 ∷ []) (f used (record {
+      go (Some l) e f = only_before (l.code ∷ l.first ∷ l.second ∷ 0 ∷ []) (f l.end (record {
         allowed = omega (arith, h.allowed);
         next = omega (arith, h.next);
         lines = lines_then h.lines e;

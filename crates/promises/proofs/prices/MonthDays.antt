@@ -5,7 +5,8 @@ use Prim.Native.Nat.{ℕ, suc, ◌+◌, ◌-◌}
 use native.Mathlib.Omega.{arith}
 use Rattle.language.specs.Limits.{no_line}
 use Rattle.language.specs.Results.{Checked, accept, refuse, bind_checked, accept≢refuse, accept_injective}
-use Rattle.prices.specs.Calendar.{Date, date, date_refusal, days_in, date_of, day_of}
+use Rattle.prices.specs.Calendar.{date, date_refusal, days_in, date_of, day_of}
+use Rattle.prices.specs.declared.Date.{Date}
 use Rattle.prices.specs.Dates.{MonthWithoutDays, month_zero, month_past, out_of_range}
 use Rattle.prices.specs.Numbering.{day_number}
 use Rattle.prices.specs.Reports.{Days, days_from, month_days}

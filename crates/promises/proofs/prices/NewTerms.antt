@@ -9,6 +9,10 @@ use Prim.Native.Nat.{ℕ, zero, suc, ◌+◌, ◌≤◌, ◌<◌}
 use native.Mathlib.Omega.{arith}
 use lib.Dec.{leb}
 use lib.ListN.{length}
+use Rattle.std.specs.Prelude.{Option as Maybe, Some, Result, Ok}
+use Rattle.prices.specs.Prices.{price}
+use Rattle.prices.specs.declared.Price.{Price}
+use Rattle.language.specs.declared.Refusal.{Refusal as CodeRefusal}
 use Rattle.language.specs.Lists.{nth_append_one, nth_last}
 use Rattle.language.specs.Limits.{no_line}
 use Rattle.language.specs.Results.{Checked, accept, refuse, require, bind_checked}
@@ -18,8 +22,6 @@ use Rattle.prices.specs.Prices.{ruling, term_on, told_price, price_on_day}
 use Rattle.prices.specs.Reports.{Days, month_days, PriceRun, price_runs, cents_on, run_lines, days_report}
 use Rattle.prices.specs.Reports.{price_report}
 use Rattle.prices.proofs.Rulings.{ruling_append}
-use Rattle.prices.specs.declared.PriceAnswer.{PriceAnswer}
-use Rattle.prices.specs.declared.PriceAnswer.TheVariants.{Cents}
 use Rattle.promises.specs.PriceWords.{term_text, TermsOf, HoldsOn, HighestTerm}
 use Rattle.promises.specs.PriceWords.{SignedNext}
 use Rattle.promises.proofs.prices.TermsRead.{one_more, text_more, terms_accepted}
@@ -66,7 +68,7 @@ module _ (text : List ℕ) (ts : List Term) (e : terms_of text ≡ accept ts) (t
           ];
         }
 
-        pub new_price : price_on_day (text ++ term_text t) model day ≡ Cents t.cents t.line
+        pub new_price : price_on_day (text ++ term_text t) model day ≡ Ok (Some (price t.cents t.line))
         new_price = (priced_by (text ++ term_text t) model day (ts ++ (t ∷ [])) one_term_more t.cents
             t.line).1 (
               (omega (arith, h.to, next.writable.last_to)),
@@ -86,7 +88,7 @@ module _ (text : List ℕ) (ts : List Term) (e : terms_of text ≡ accept ts) (t
         unfolding term_on bind_checked require
         same_price = rw (one_term_more, e) (go (leb day last_day))
           where
-            answered : Bool → List Term → PriceAnswer
+            answered : Bool → List Term → Result (Maybe Price) CodeRefusal
             answered b us = told_price (bind_checked (require b date_refusal no_line (λ _. accept day))
                 (λ n. accept (ruling model n us)))
 

@@ -8,11 +8,11 @@ use Prim.Native.Nat.{ℕ, suc, ◌+◌, ◌≤◌}
 use native.Mathlib.Omega.{arith}
 use lib.ListN.{length, drop}
 use lib.Seq.{drop-append_seam, drop-nil}
+use Rattle.promises.proofs.prices.TermLines.{taken_is}
 use Rattle.language.specs.Limits.{no_line}
 use Rattle.language.specs.Decimals.{digits}
 use Rattle.language.specs.Results.{Checked, accept, refuse, bind_checked, bind_checked_inv, accept≢refuse}
 use Rattle.language.specs.WellFormed.{Each, each_nil, each_cons}
-use Rattle.language.specs.declared.Taken.TheVariants.{Number}
 use Rattle.fields.specs.Places.{number_at}
 use Rattle.prices.specs.Calendar.{date_refusal}
 use Rattle.prices.specs.Terms.{Term, terms_of, first_number}
@@ -175,20 +175,11 @@ report_reads text model year month bytes w =
 one_reading : {s : List ℕ} {r q : PriceRun} {x y : List ℕ} → BeginsWithRun s r x → BeginsWithRun s q y
     → (r ≡ q) × (x ≡ y)
 one_reading {s} {r} {q} {x} {y} a b =
-    let e₁ : Number r.from a.after_from ≡ Number q.from b.after_from = sym a.from_read
-    ∙ b.from_read in
-    let f₁ : r.from ≡ q.from = cc in
-    let g₁ : a.after_from ≡ b.after_from = cc in
-    let e₂ : Number r.to a.after_to ≡ Number q.to b.after_to = sym a.to_read
-    ∙ (ap (λ (i : ℕ). number_at i s) g₁ ∙ b.to_read) in
-    let f₂ : r.to ≡ q.to = cc in
-    let g₂ : a.after_to ≡ b.after_to = cc in
-    let e₃ : Number r.cents a.after_cents ≡ Number q.cents b.after_cents = sym a.cents_read
-    ∙ (ap (λ (i : ℕ). number_at i s) g₂ ∙ b.cents_read) in
-    let f₃ : r.cents ≡ q.cents = cc in
-    let g₃ : a.after_cents ≡ b.after_cents = cc in
-    let e₄ : 10 ∷ x ≡ 10 ∷ y = sym a.ended ∙ (ap (λ (i : ℕ). drop i s) g₃ ∙ b.ended) in
-    (rw (f₁, f₂, f₃), (cc))
+    let from = taken_is (sym a.from_read ∙ b.from_read) in
+    let to = taken_is (sym a.to_read ∙ (ap (λ (i : ℕ). number_at i s) from.1 ∙ b.to_read)) in
+    let cents = taken_is (sym a.cents_read ∙ (ap (λ (i : ℕ). number_at i s) to.1 ∙ b.cents_read)) in
+    let ends : 10 ∷ x ≡ 10 ∷ y = sym a.ended ∙ (ap (λ (i : ℕ). drop i s) cents.1 ∙ b.ended) in
+    (rw (from.0, to.0, cents.0), (cc))
 
 not_empty : (r : PriceRun) (rest : List ℕ) → RunWritable r → run_line r ++ rest ≢ []
 not_empty r rest h e = let a = run_read r rest h in

@@ -9,16 +9,23 @@ use Prim.Native.Nat.{ℕ, zero, suc, ◌≤◌, ◌<◌}
 use native.Mathlib.Omega.{arith}
 use borrow.Author.Tests.{eqb-true, eq-eqb, leb-true, leb-false, le-leb, lt-leb, ltb-true, ltb-false}
 use lib.Dec.{eqb, leb, ltb}
+use Rattle.std.specs.Prelude.{Option as Maybe, Some, None, Result, Ok, Err}
+use Rattle.language.specs.declared.Refusal.{Refusal}
+use Rattle.language.proofs.Refusals.{err_injective}
+use Rattle.prices.specs.declared.Price.{Price}
+use Rattle.promises.proofs.prices.CalendarAnswers.{not_done}
+use Rattle.prices.specs.Prices.{price}
+use Rattle.language.specs.Refusals.{refusal}
 use Rattle.language.proofs.Booleans.{false≢, and_inv}
 use Rattle.language.specs.Limits.{no_line}
 use Rattle.language.specs.Lists.{nth, Never, inj}
 use Rattle.language.specs.Results.{Checked, accept, refuse, require, bind_checked}
-use Rattle.prices.specs.Calendar.{Date, date, date_refusal, date_of, day_of}
+use Rattle.prices.specs.Calendar.{date, date_refusal, date_of, day_of}
+use Rattle.prices.specs.declared.Date.{Date}
 use Rattle.prices.proofs.Calendar.{date_of_day_of, day_refused, no_day}
 use Rattle.prices.specs.Terms.{Term, terms_of}
 use Rattle.prices.specs.Prices.{holds, higher, ruling, term_on, told_price, price_on_day, price_on_date}
 use Rattle.prices.specs.Reports.{cents_of, cents_on}
-use Rattle.prices.specs.declared.PriceAnswer.TheVariants.{Cents, Unpriced, Refused}
 use Rattle.promises.specs.PriceWords.{largest_day, ProperTerms, HoldsOn, HighestTerm, PricedBy}
 use Rattle.promises.specs.PriceWords.{NoneHolds, PriceRefusal, price_by_text, no_such_day}
 use Rattle.promises.specs.PriceWords.{TermsRefusal, DatePriceRefusal, date_price_by_text, no_such_date}
@@ -170,15 +177,15 @@ module _ (model day : ℕ) where
 
 -- ---- the price of a day
 
-module _ {A : Type 0} where
-  not_cents : {n k c l : ℕ} → Refused n k ≡ Cents c l → A
-  not_cents e = let z : ◌≡◌ {A = ℕ} 0 1 = cc in absurd (omega arith)
+-- No price is none.
+cents_none : {A : Type 0} {c l : ℕ}
+    → ◌≡◌ {A = Result (Maybe Price) Refusal} (Ok None) (Ok (Some (price c l))) → A
+cents_none e = absurd (cc)
 
-  not_unpriced : {n k : ℕ} → Refused n k ≡ Unpriced → A
-  not_unpriced e = let z : ◌≡◌ {A = ℕ} 0 1 = cc in absurd (omega arith)
-
-  cents_none : {c l : ℕ} → Unpriced ≡ Cents c l → A
-  cents_none e = let z : ◌≡◌ {A = ℕ} 0 1 = cc in absurd (omega arith)
+price_is : {c l d k : ℕ}
+    → ◌≡◌ {A = Result (Maybe Price) Refusal} (Ok (Some (price c l))) (Ok (Some (price d k))) → (c ≡ d) × (l ≡ k)
+price_is {c} {l} {d} {k} e = let f : price c l ≡ price d k = cc in
+    (ap (λ (p : Price). p.cents) f, ap (λ (p : Price). p.line) f)
 
 module _ (text : List ℕ) (model day : ℕ) where
   price_in : (ts : List Term) → terms_of text ≡ accept ts → day ≤ largest_day
@@ -187,11 +194,11 @@ module _ (text : List ℕ) (model day : ℕ) where
   price_in ts e h = rw (e, le-leb day largest_day h)
 
   price_out : (ts : List Term) → terms_of text ≡ accept ts → largest_day < day
-      → price_on_day text model day ≡ Refused date_refusal no_line
+      → price_on_day text model day ≡ Err (refusal date_refusal no_line)
   unfolding term_on bind_checked require
   price_out ts e h = rw (e, lt-leb day largest_day h)
 
-  price_bad : (n k : ℕ) → terms_of text ≡ refuse n k → price_on_day text model day ≡ Refused n k
+  price_bad : (n k : ℕ) → terms_of text ≡ refuse n k → price_on_day text model day ≡ Err (refusal n k)
   unfolding term_on bind_checked
   price_bad n k e = rw e
 
@@ -201,26 +208,26 @@ module _ (text : List ℕ) (model day : ℕ) where
 
     -- The day has a price exactly if it is in range and a term holds; it is the highest term's.
     pub priced_by : (c l : ℕ)
-        → (price_on_day text model day ≡ Cents c l) ↔ ((day ≤ largest_day) × PricedBy model day ts c l)
+        → (price_on_day text model day ≡ Ok (Some (price c l))) ↔ ((day ≤ largest_day) × PricedBy model day ts c l)
     priced_by c l = (forth (leb day largest_day) refl, back)
       where
-        told : (r : Option Term) → ruling model day ts ≡ r → told_price (accept r) ≡ Cents c l
+        told : (r : Option Term) → ruling model day ts ≡ r → told_price (accept r) ≡ Ok (Some (price c l))
             → PricedBy model day ts c l
         told none q f = cents_none f
         told (some t) q f = record {
           term = t;
           is_highest = (rules_highest model day ts proper t).0 q;
-          cents_are = cc;
-          line_is = cc;
+          cents_are = (price_is f).0;
+          line_is = (price_is f).1;
         }
 
-        forth : (b : Bool) → leb day largest_day ≡ b → price_on_day text model day ≡ Cents c l
+        forth : (b : Bool) → leb day largest_day ≡ b → price_on_day text model day ≡ Ok (Some (price c l))
             → (day ≤ largest_day) × PricedBy model day ts c l
         forth true q f = let h = leb-true day largest_day q in
             (h, told (ruling model day ts) refl (sym (price_in ts e h) ∙ f))
-        forth false q f = not_cents (sym (price_out ts e (leb-false day largest_day q)) ∙ f)
+        forth false q f = not_done (sym (price_out ts e (leb-false day largest_day q)) ∙ f)
 
-        back : (day ≤ largest_day) × PricedBy model day ts c l → price_on_day text model day ≡ Cents c l
+        back : (day ≤ largest_day) × PricedBy model day ts c l → price_on_day text model day ≡ Ok (Some (price c l))
         back w = price_in ts e w.0 ∙ rw (
           (rules_highest model day ts proper w.1.term).1 w.1.is_highest,
           w.1.cents_are,
@@ -228,41 +235,41 @@ module _ (text : List ℕ) (model day : ℕ) where
         )
 
     -- The day has none exactly if it is in range and no term holds.
-    pub unpriced : (price_on_day text model day ≡ Unpriced) ↔ ((day ≤ largest_day) × NoneHolds model day ts)
+    pub unpriced : (price_on_day text model day ≡ Ok None) ↔ ((day ≤ largest_day) × NoneHolds model day ts)
     unpriced = (forth (leb day largest_day) refl, back)
       where
-        told : (r : Option Term) → ruling model day ts ≡ r → told_price (accept r) ≡ Unpriced
+        told : (r : Option Term) → ruling model day ts ≡ r → told_price (accept r) ≡ Ok None
             → NoneHolds model day ts
         told none q f = (rules_none model day ts).0 q
         told (some t) q f = cents_none (sym f)
 
-        forth : (b : Bool) → leb day largest_day ≡ b → price_on_day text model day ≡ Unpriced
+        forth : (b : Bool) → leb day largest_day ≡ b → price_on_day text model day ≡ Ok None
             → (day ≤ largest_day) × NoneHolds model day ts
         forth true q f = let h = leb-true day largest_day q in
             (h, told (ruling model day ts) refl (sym (price_in ts e h) ∙ f))
-        forth false q f = not_unpriced (sym (price_out ts e (leb-false day largest_day q)) ∙ f)
+        forth false q f = not_done (sym (price_out ts e (leb-false day largest_day q)) ∙ f)
 
-        back : (day ≤ largest_day) × NoneHolds model day ts → price_on_day text model day ≡ Unpriced
+        back : (day ≤ largest_day) × NoneHolds model day ts → price_on_day text model day ≡ Ok None
         back w = price_in ts e w.0 ∙ rw ((rules_none model day ts).1 w.1)
 
     -- The prices by which a report's runs are made are those of the days.
     pub cents_priced : day ≤ largest_day → (c : ℕ)
-        → (cents_on model ts day ≡ some c) ↔ ((l : ℕ) × (price_on_day text model day ≡ Cents c l))
+        → (cents_on model ts day ≡ some c) ↔ ((l : ℕ) × (price_on_day text model day ≡ Ok (Some (price c l))))
     cents_priced h c = (forth, back)
       where
-        forth : cents_on model ts day ≡ some c → (l : ℕ) × (price_on_day text model day ≡ Cents c l)
+        forth : cents_on model ts day ≡ some c → (l : ℕ) × (price_on_day text model day ≡ Ok (Some (price c l)))
         forth q = let w = (cents_highest model day ts proper c).0 q in (
           w.0.line,
           (priced_by c w.0.line).1
               (h, record { term = w.0; is_highest = w.1; cents_are = w.2; line_is = refl }),
         )
 
-        back : (l : ℕ) × (price_on_day text model day ≡ Cents c l) → cents_on model ts day ≡ some c
+        back : (l : ℕ) × (price_on_day text model day ≡ Ok (Some (price c l))) → cents_on model ts day ≡ some c
         back w = let p = ((priced_by c w.0).0 w.1).1 in
             (cents_highest model day ts proper c).1 (p.term, p.is_highest, p.cents_are)
 
     pub cents_unpriced : day ≤ largest_day
-        → (cents_on model ts day ≡ none) ↔ (price_on_day text model day ≡ Unpriced)
+        → (cents_on model ts day ≡ none) ↔ (price_on_day text model day ≡ Ok None)
     cents_unpriced h = (
       (λ q. unpriced.1 (h, (rules_none model day ts).0 (no-term (ruling model day ts) q))),
       (λ q. rw ((rules_none model day ts).1 (unpriced.0 q).1)),
@@ -273,36 +280,36 @@ module _ (text : List ℕ) (model day : ℕ) where
         no-term (some t) q = absurd (Never (sym q))
 
   -- A price is refused exactly as listed.
-  pub price_refused : (n k : ℕ) → (price_on_day text model day ≡ Refused n k) ↔ PriceRefusal text day n k
+  pub price_refused : (n k : ℕ) → (price_on_day text model day ≡ Err (refusal n k)) ↔ PriceRefusal text day n k
   price_refused n k = (forth (terms_of text) refl, back)
     where
-      told : (r : Option Term) → told_price (accept r) ≡ Refused n k → PriceRefusal text day n k
-      told none f = not_unpriced (sym f)
-      told (some t) f = not_cents (sym f)
+      told : (r : Option Term) → told_price (accept r) ≡ Err (refusal n k) → PriceRefusal text day n k
+      told none f = not_done (sym f)
+      told (some t) f = not_done (sym f)
 
       by-day : (ts : List Term) → terms_of text ≡ accept ts → (b : Bool) → leb day largest_day ≡ b
-          → price_on_day text model day ≡ Refused n k → PriceRefusal text day n k
+          → price_on_day text model day ≡ Err (refusal n k) → PriceRefusal text day n k
       by-day ts e true q f =
           told (ruling model day ts) (sym (price_in ts e (leb-true day largest_day q)) ∙ f)
       by-day ts e false q f =
           let h = leb-false day largest_day q in
-          let g : Refused date_refusal no_line ≡ Refused n k = sym (price_out ts e h) ∙ f in
-          let a : date_refusal ≡ n = cc in
-          let b : no_line ≡ k = cc in
+          let g : ◌≡◌ {A = Result (Maybe Price) Refusal} (Err (refusal date_refusal no_line)) (Err (refusal n k)) =
+          sym (price_out ts e h) ∙ f in
+          let a = err_injective g in
           let w : PriceRefusal text day date_refusal no_line =
           no_such_day ts ((terms_accepted text ts).0 e) h in
-          rw (a, b) at w
+          rw (a.0, a.1) at w
 
-      forth : (r : Checked (List Term)) → terms_of text ≡ r → price_on_day text model day ≡ Refused n k
+      forth : (r : Checked (List Term)) → terms_of text ≡ r → price_on_day text model day ≡ Err (refusal n k)
           → PriceRefusal text day n k
       forth (accept ts) e f = by-day ts e (leb day largest_day) refl f
       forth (refuse m l) e f =
-          let g : Refused m l ≡ Refused n k = sym (price_bad m l e) ∙ f in
-          let a : m ≡ n = cc in
-          let b : l ≡ k = cc in
-          price_by_text ((terms_refused text n k).0 (rw (a, b) at e))
+          let g : ◌≡◌ {A = Result (Maybe Price) Refusal} (Err (refusal m l)) (Err (refusal n k)) =
+          sym (price_bad m l e) ∙ f in
+          let a = err_injective g in
+          price_by_text ((terms_refused text n k).0 (rw (a.0, a.1) at e))
 
-      back : {n k : ℕ} → PriceRefusal text day n k → price_on_day text model day ≡ Refused n k
+      back : {n k : ℕ} → PriceRefusal text day n k → price_on_day text model day ≡ Err (refusal n k)
       back {n} {k} (price_by_text w) = price_bad n k ((terms_refused text n k).1 w)
       back (no_such_day ts w h) = price_out ts ((terms_accepted text ts).1 w) h
 
@@ -337,13 +344,13 @@ module _ (text : List ℕ) (model year month day : ℕ) where
   by_date j f (no_such_day ts w h) = no_such_date ts w (f h)
 
   pub date_price_refused : (n k : ℕ)
-      → (price_on_date text model year month day ≡ Refused n k) ↔ DatePriceRefusal text asked n k
+      → (price_on_date text model year month day ≡ Err (refusal n k)) ↔ DatePriceRefusal text asked n k
   date_price_refused n k = (forth (day_of asked) refl, back)
     where
       without : (a b : ℕ) → day_of asked ≡ refuse a b → Without
       without a b e = ((day_refused asked a b).0 e).none_has
 
-      forth : (r : Checked ℕ) → day_of asked ≡ r → price_on_date text model year month day ≡ Refused n k
+      forth : (r : Checked ℕ) → day_of asked ≡ r → price_on_date text model year month day ≡ Err (refusal n k)
           → DatePriceRefusal text asked n k
       forth (accept j) e f =
           by_date j (λ h. absurd (omega (arith, h, (date_of_day_of asked j e).0)))
@@ -354,14 +361,14 @@ module _ (text : List ℕ) (model year month day : ℕ) where
           (sym (price_of_no_date text model year month day w) ∙ f))
 
       by-text : {n k : ℕ} → TermsRefusal text n k → (r : Checked ℕ) → day_of asked ≡ r
-          → price_on_date text model year month day ≡ Refused n k
+          → price_on_date text model year month day ≡ Err (refusal n k)
       by-text {n} {k} w (accept j) e = price_of_date text model year month day j e
           ∙ (price_refused text model j n k).1 (price_by_text w)
       by-text {n} {k} w (refuse a b) e = price_of_no_date text model year month day (without a b e)
           ∙ (price_refused text model (suc largest_day) n k).1 (price_by_text w)
 
       back : {n k : ℕ} → DatePriceRefusal text asked n k
-          → price_on_date text model year month day ≡ Refused n k
+          → price_on_date text model year month day ≡ Err (refusal n k)
       back (date_price_by_text w) = by-text w (day_of asked) refl
       back {n} {k} (no_such_date ts w h) = price_of_no_date text model year month day h
           ∙ (price_refused text model (suc largest_day) n k).1 (no_such_day ts w (omega arith))

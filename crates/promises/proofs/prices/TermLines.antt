@@ -4,42 +4,39 @@ use mathlib.Core.Logic.{◌↔◌}
 use mathlib.Core.Bool.{true}
 use mathlib.Core.List.{List, [], ◌∷◌, ◌++◌, append_assoc}
 use Prim.Native.Nat.{ℕ, ◌+◌, ◌≤◌}
-use native.Mathlib.Omega.{arith}
 use lib.ListN.{length, take, drop, length-append, take-append-drop}
 use lib.Seq.{take-add, drop-append_seam}
+use Rattle.std.specs.Prelude.{Option as Maybe, Some, None}
 use Rattle.language.specs.Decimals.{decimal_of, digits}
 use Rattle.language.specs.TextLines.{field, is_end, taken, number_of}
-use Rattle.language.specs.declared.Decimal.{Decimal}
-use Rattle.language.specs.declared.Decimal.TheVariants.{Is, Bad}
-use Rattle.language.specs.declared.Taken.TheVariants.{Number, NoNumber}
 use Rattle.fields.specs.Places.{number_at}
 use Rattle.fields.proofs.Fields.{taken_inv}
 use Rattle.fields.proofs.Digits.{decimal_back, decimal_forth, field_digits, field_first, number_back}
 use Rattle.fields.proofs.Digits.{number_forth}
-use Rattle.prices.specs.Terms.{Term, price_term, first_number, ended, term_line}
+use Rattle.prices.specs.Terms.{Term, term_numbers, price_term, first_number, ended, term_line}
 use Rattle.prices.proofs.Terms.{not_numbers, then_inv, ended_inv, term_line_range}
 use Rattle.prices.specs.declared.TermLine.{TermLine}
-use Rattle.prices.specs.declared.TermLine.TheVariants.{Numbers, Malformed}
 use Rattle.promises.specs.PriceWords.{largest_number, term_text, Writable, BeginsWithTerm}
 
 -- ---- a line that is read
 
-not_taken : {A : Type 0} {v n : ℕ} → NoNumber ≡ Number v n → A
-not_taken e = let z : ◌≡◌ {A = ℕ} 0 1 = cc in absurd (omega arith)
+-- Two numbers that are taken alike.
+pub taken_is : {v n w m : ℕ} → ◌≡◌ {A = Maybe (ℕ × ℕ)} (Some (v, n)) (Some (w, m)) → (v ≡ w) × (n ≡ m)
+taken_is {v} {n} {w} {m} e = let f : ◌≡◌ {A = ℕ × ℕ} (v, n) (w, m) = cc in
+    (ap (λ (p : ℕ × ℕ). p.0) f, ap (λ (p : ℕ × ℕ). p.1) f)
 
 -- A number that is read is written as it is in the text.
-first_back : (s : List ℕ) (v n : ℕ) → first_number s ≡ Number v n → take n s ≡ digits v
+first_back : (s : List ℕ) (v n : ℕ) → first_number s ≡ Some (v, n) → take n s ≡ digits v
 first_back s v n e = go (decimal_of (field s)) refl e
   where
-    go : (d : Decimal) → decimal_of (field s) ≡ d → taken (length (field s)) d ≡ Number v n
+    go : (d : Maybe ℕ) → decimal_of (field s) ≡ d → taken (length (field s)) d ≡ Some (v, n)
         → take n s ≡ digits v
-    go (Is w) p e =
-        let x : w ≡ v = cc in
-        let y : length (field s) ≡ n = cc in
-        rw (← y, field_first s, ← x, decimal_back (field s) w p)
-    go Bad p e = not_taken e
+    go (Some w) p e =
+        let x = taken_is e in
+        rw (← x.1, field_first s, ← x.0, decimal_back (field s) w p)
+    go None p e = absurd (cc)
 
-next_back : (p : ℕ) (s : List ℕ) (v q : ℕ) → number_at p s ≡ Number v q
+next_back : (p : ℕ) (s : List ℕ) (v q : ℕ) → number_at p s ≡ Some (v, q)
     → take q s ≡ take p s ++ (9 ∷ digits v)
 next_back p s v q e = taken_inv p v q (number_of (drop p s)) e λ n f w.
     rw (w, take-add p n s, (number_back (drop p s) v n f).0)
@@ -67,7 +64,7 @@ pub record LineBack (s : List ℕ) (t : Term) (used : ℕ) : Type 0 where
   pub used_to : used ≤ length s
 
 bytes_back : (line : ℕ) (s : List ℕ) (model first last cents signing used : ℕ)
-    → term_line s ≡ Numbers model first last cents signing used
+    → term_line s ≡ Some (term_numbers model first last cents signing used)
     → take used s ≡ term_text (price_term line model first last cents signing)
 unfolding term_line
 bytes_back line s m f l c g used e =
@@ -92,7 +89,7 @@ bytes_back line s m f l c g used e =
     (sym (line_gathered (price_term line m₁ f₁ l₁ c₁ g₁)))
 
 pub line_back : (line : ℕ) (s : List ℕ) (model first last cents signing used : ℕ)
-    → term_line s ≡ Numbers model first last cents signing used
+    → term_line s ≡ Some (term_numbers model first last cents signing used)
     → LineBack s (price_term line model first last cents signing) used
 line_back line s m f l c g used e = let r = term_line_range s m f l c g used e in record {
   writable = record {
@@ -111,7 +108,7 @@ line_back line s m f l c g used e = let r = term_line_range s m f l c g used e i
 
 -- The number after a part of a text is read there.
 pub next_forth : (p : List ℕ) (v u : ℕ) (t : List ℕ) → v ≤ largest_number → is_end u ≡ true
-    → number_at (length p) (p ++ (9 ∷ digits v) ++ (u ∷ t)) ≡ Number v (length (p ++ (9 ∷ digits v)))
+    → number_at (length p) (p ++ (9 ∷ digits v) ++ (u ∷ t)) ≡ Some (v, length (p ++ (9 ∷ digits v)))
 next_forth p v u t h e = rw (
   append_assoc p (9 ∷ digits v) (u ∷ t),
   drop-append_seam p ((9 ∷ digits v) ++ (u ∷ t)),
@@ -120,11 +117,11 @@ next_forth p v u t h e = rw (
 )
 
 pub first_forth : (v u : ℕ) (t : List ℕ) → v ≤ largest_number → is_end u ≡ true
-    → first_number (digits v ++ (u ∷ t)) ≡ Number v (length (digits v))
+    → first_number (digits v ++ (u ∷ t)) ≡ Some (v, length (digits v))
 first_forth v u t h e = rw (field_digits v u t e, decimal_forth v h)
 
 pub line_forth : (t : Term) (rest : List ℕ) → Writable t → term_line (term_text t ++ rest)
-    ≡ Numbers t.model t.first t.last t.cents t.signing (length (term_text t))
+    ≡ Some (term_numbers t.model t.first t.last t.cents t.signing (length (term_text t)))
 unfolding term_line ended
 line_forth t rest h =
     let M : List ℕ = digits t.model in
@@ -143,16 +140,16 @@ line_forth t rest h =
     s₃ ∙ append_assoc (M ++ F) L (C ++ (G ++ (10 ∷ rest))) in
     let s₁ : s ≡ M ++ (F ++ (L ++ (C ++ (G ++ (10 ∷ rest))))) =
     s₂ ∙ append_assoc M F (L ++ (C ++ (G ++ (10 ∷ rest)))) in
-    let n₁ : first_number s ≡ Number t.model (length M) =
+    let n₁ : first_number s ≡ Some (t.model, length M) =
     rw s₁ (first_forth t.model 9 (digits t.first ++ (L ++ (C ++ (G ++ (10 ∷ rest))))) h.model_to
     refl) in
-    let n₂ : number_at (length M) s ≡ Number t.first (length (M ++ F)) =
+    let n₂ : number_at (length M) s ≡ Some (t.first, length (M ++ F)) =
     rw s₂ (next_forth M t.first 9 (digits t.last ++ (C ++ (G ++ (10 ∷ rest)))) h.first_to refl) in
-    let n₃ : number_at (length (M ++ F)) s ≡ Number t.last (length (M ++ F ++ L)) =
+    let n₃ : number_at (length (M ++ F)) s ≡ Some (t.last, length (M ++ F ++ L)) =
     rw s₃ (next_forth (M ++ F) t.last 9 (digits t.cents ++ (G ++ (10 ∷ rest))) h.last_to refl) in
-    let n₄ : number_at (length (M ++ F ++ L)) s ≡ Number t.cents (length (M ++ F ++ L ++ C)) =
+    let n₄ : number_at (length (M ++ F ++ L)) s ≡ Some (t.cents, length (M ++ F ++ L ++ C)) =
     rw s₄ (next_forth (M ++ F ++ L) t.cents 9 (digits t.signing ++ (10 ∷ rest)) h.cents_to refl) in
-    let n₅ : number_at (length (M ++ F ++ L ++ C)) s ≡ Number t.signing (length (M ++ F ++ L ++ C ++ G)) =
+    let n₅ : number_at (length (M ++ F ++ L ++ C)) s ≡ Some (t.signing, length (M ++ F ++ L ++ C ++ G)) =
     rw s₅ (next_forth (M ++ F ++ L ++ C) t.signing 10 rest h.signing_to refl) in
     let d : drop (length (M ++ F ++ L ++ C ++ G)) s ≡ 10 ∷ rest =
     rw s₅ (drop-append_seam (M ++ F ++ L ++ C ++ G) (10 ∷ rest)) in
@@ -162,7 +159,7 @@ line_forth t rest h =
 
 -- Whether a text begins with a term's line.
 pub begins : (s : List ℕ) (model first last cents signing used : ℕ)
-    → term_line s ≡ Numbers model first last cents signing used → BeginsWithTerm s
+    → term_line s ≡ Some (term_numbers model first last cents signing used) → BeginsWithTerm s
 begins s m f l c g used e = let b = line_back 0 s m f l c g used e in record {
   term = price_term 0 m f l c g;
   rest = drop used s;
@@ -171,13 +168,13 @@ begins s m f l c g used e = let b = line_back 0 s m f l c g used e in record {
 }
 
 -- A line is malformed exactly if the text does not begin with the line of a term.
-pub malformed_lines : (s : List ℕ) → (term_line s ≡ Malformed) ↔ (¬ BeginsWithTerm s)
+pub malformed_lines : (s : List ℕ) → (term_line s ≡ None) ↔ (¬ BeginsWithTerm s)
 malformed_lines s = (forth, go (term_line s) refl)
   where
-    forth : term_line s ≡ Malformed → ¬ BeginsWithTerm s
+    forth : term_line s ≡ None → ¬ BeginsWithTerm s
     forth e b = not_numbers (sym e ∙ (ap term_line b.written ∙ line_forth b.term b.rest
         b.writable))
 
-    go : (r : TermLine) → term_line s ≡ r → ¬ BeginsWithTerm s → r ≡ Malformed
-    go Malformed e n = refl
-    go (Numbers m f l c g used) e n = absurd (n (begins s m f l c g used e))
+    go : (r : Maybe TermLine) → term_line s ≡ r → ¬ BeginsWithTerm s → r ≡ None
+    go None e n = refl
+    go (Some t) e n = absurd (n (begins s t.model t.first t.last t.cents t.signing t.end e))

@@ -12,16 +12,16 @@ use borrow.Author.Tests.{leb-true, leb-false, eqb-true, eq-eqb}
 use lib.Dec.{eqb, leb}
 use lib.ListN.{length, drop, length-drop, take-append-drop}
 use lib.Seq.{drop-append_seam, append_snoc}
+use Rattle.std.specs.Prelude.{Option as Maybe, Some, None}
 use Rattle.language.proofs.Booleans.{false≢, or_inl, or_inr}
 use Rattle.language.specs.Limits.{line_refusal}
 use Rattle.language.specs.Lists.{nth, Never, inj, nth_append, nth_append_one, nth_up, nth_lt}
 use Rattle.language.specs.Results.{Checked, accept, refuse, accept≢refuse, accept_injective}
-use Rattle.prices.specs.Terms.{Term, price_term, term_refusal, term_line, is_signed, next_line, terms_after}
+use Rattle.prices.specs.Terms.{Term, term_numbers, price_term, term_refusal, term_line, is_signed, next_line, terms_after}
 use Rattle.prices.specs.Terms.{terms_of}
 use Rattle.prices.proofs.Terms.{next_term, terms_malformed, terms_reversed, terms_repeated, terms_more}
 use Rattle.prices.proofs.Terms.{terms_few}
 use Rattle.prices.specs.declared.TermLine.{TermLine}
-use Rattle.prices.specs.declared.TermLine.TheVariants.{Numbers, Malformed}
 use Rattle.promises.specs.PriceWords.{term_text, terms_text, Writable, ProperTerms, TermsOf}
 use Rattle.promises.specs.PriceWords.{Signed, TermsRefusal, malformed, ends_early, signed_again}
 use Rattle.promises.proofs.prices.TermLines.{LineBack, line_back, line_forth}
@@ -148,45 +148,45 @@ module _ (text : List ℕ) where
   outcome (suc n) seen (x ∷ s) h w =
       go (term_line (x ∷ s)) refl (λ ts k e f. outcome n ts (drop k (x ∷ s)) e f)
     where
-      go : (r : TermLine) → term_line (x ∷ s) ≡ r
+      go : (r : Maybe TermLine) → term_line (x ∷ s) ≡ r
           → ((ts : List Term) (k : ℕ) → length (drop k (x ∷ s)) ≤ n → Follows ts (drop k (x ∷ s))
           → Outcome text (terms_after ts 0 (drop k (x ∷ s))))
           → Outcome text (terms_after seen 0 (x ∷ s))
-      go Malformed q ih = rw (terms_malformed seen 0 (x ∷ s) (omega arith) q)
+      go None q ih = rw (terms_malformed seen 0 (x ∷ s) (omega arith) q)
           (is_refused (malformed seen (x ∷ s) w.proper w.is nonempty ((malformed_lines (x ∷ s)).0 q)))
-      go (Numbers m f l c g used) q ih = by_tests (leb f l) refl (is_signed g seen) refl
+      go (Some r) q ih = by_tests (leb r.first r.last) refl (is_signed r.signing seen) refl
         where
           t : Term
-          t = next_term seen m f l c g
+          t = next_term seen r.model r.first r.last r.cents r.signing
 
           rest : List ℕ
-          rest = drop used (x ∷ s)
+          rest = drop r.end (x ∷ s)
 
-          back : LineBack (x ∷ s) t used
-          back = line_back (next_line seen) (x ∷ s) m f l c g used q
+          back : LineBack (x ∷ s) t r.end
+          back = line_back (next_line seen) (x ∷ s) r.model r.first r.last r.cents r.signing r.end q
 
           all : text ≡ terms_text seen ++ (term_text t ++ rest)
           all = w.is ∙ ap (λ (y : List ℕ). terms_text seen ++ y)
-              (sym (take-append-drop used (x ∷ s)) ∙ ap (λ (y : List ℕ). y ++ rest) back.bytes)
+              (sym (take-append-drop r.end (x ∷ s)) ∙ ap (λ (y : List ℕ). y ++ rest) back.bytes)
 
-          by_tests : (a : Bool) → leb f l ≡ a → (b : Bool) → is_signed g seen ≡ b
+          by_tests : (a : Bool) → leb r.first r.last ≡ a → (b : Bool) → is_signed r.signing seen ≡ b
               → Outcome text (terms_after seen 0 (x ∷ s))
           by_tests false p b o =
-              rw (terms_reversed seen 0 (x ∷ s) (omega arith) m f l c g used q (leb-false f l p))
-              (is_refused (ends_early seen t rest w.proper back.writable all (leb-false f l p)))
-          by_tests true p true o = rw (terms_repeated seen 0 (x ∷ s) (omega arith) m f l c g used q o)
-              (is_refused (signed_again seen t rest w.proper back.writable all (signed_if g seen o)))
+              rw (terms_reversed seen 0 (x ∷ s) (omega arith) r.model r.first r.last r.cents r.signing r.end q (leb-false r.first r.last p))
+              (is_refused (ends_early seen t rest w.proper back.writable all (leb-false r.first r.last p)))
+          by_tests true p true o = rw (terms_repeated seen 0 (x ∷ s) (omega arith) r.model r.first r.last r.cents r.signing r.end q o)
+              (is_refused (signed_again seen t rest w.proper back.writable all (signed_if r.signing seen o)))
           by_tests true p false o =
               rw (
-                terms_more seen 0 (x ∷ s) (omega arith) m f l c g used q (leb-true f l p) o back.used_from,
-                zero-add used,
+                terms_more seen 0 (x ∷ s) (omega arith) r.model r.first r.last r.cents r.signing r.end q (leb-true r.first r.last p) o back.used_from,
+                zero-add r.end,
               )
-              (ih (seen ++ (t ∷ [])) used (omega (arith, h, back.used_from, length-drop used (x ∷ s)))
+              (ih (seen ++ (t ∷ [])) r.end (omega (arith, h, back.used_from, length-drop r.end (x ∷ s)))
               (record {
                 is = all ∙ (sym (append_assoc (terms_text seen) (term_text t) rest)
                     ∙ ap (λ (y : List ℕ). y ++ rest) (sym (text_more seen t)));
-                proper = one_more seen t w.proper back.writable (leb-true f l p) refl
-                    (λ z. false≢ (sym o ∙ signed_is g seen z));
+                proper = one_more seen t w.proper back.writable (leb-true r.first r.last p) refl
+                    (λ z. false≢ (sym o ∙ signed_is r.signing seen z));
               }))
 
 outcome_of : (text : List ℕ) → Outcome text (terms_of text)
@@ -200,7 +200,7 @@ module _ (seen : List Term) (t : Term) (rest : List ℕ) (h : Writable t) where
   abbrev s : List ℕ
   s = term_text t ++ rest
 
-  read : term_line s ≡ Numbers t.model t.first t.last t.cents t.signing (length (term_text t))
+  read : term_line s ≡ Some (term_numbers t.model t.first t.last t.cents t.signing (length (term_text t)))
   read = line_forth t rest h
 
   back : LineBack s (price_term 0 t.model t.first t.last t.cents t.signing)
@@ -272,7 +272,7 @@ terms_refused text n k = (forth (terms_of text) (outcome_of text), answer)
     forth (refuse m l) (is_refused w) e =
         let p : m ≡ n = cc in let q : l ≡ k = cc in rw (p, q) at w
 
-    line-of-one : (ts : List Term) (rest : List ℕ) → rest ≢ [] → term_line rest ≡ Malformed
+    line-of-one : (ts : List Term) (rest : List ℕ) → rest ≢ [] → term_line rest ≡ None
         → terms_after ts 0 rest ≡ refuse line_refusal (next_line ts)
     line-of-one ts [] h q = absurd (h refl)
     line-of-one ts (x ∷ s) h q = terms_malformed ts 0 (x ∷ s) (omega arith) q
