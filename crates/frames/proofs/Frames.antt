@@ -76,6 +76,18 @@ slot_past l q (suc k) h f =
     nth_none (slots_of l (q.base + 1) q.scope) k
     (omega (arith, slots_length l (q.base + 1) q.scope (omega arith)))
 
+-- the same by one test: slots past those in scope are not there, nor is `this` outside of any call
+pub slot_none : (l : List ℕ) (q : Place) (k : ℕ) → (q.scope < k) ⊎ ((k ≡ 0) × (q.calls ≡ 0))
+    → q.base + q.scope < length l → at_slot (frame_of l q) k ≡ none
+slot_none l q k (inl h) f = slot_past l q k h f
+slot_none l q k (inr (z, h)) f = rw z (slot_no_this l q h)
+
+pub slot_some : (l : List ℕ) (q : Place) (k : ℕ) → k ≤ q.scope
+    → ((k ≡ 0) × (q.calls ≡ 0 → ⊥)) ⊎ (k ≡ 0 → ⊥)
+    → q.base + q.scope < length l → at_slot (frame_of l q) k ≡ some (meaning (get_or l (q.base + k) 0))
+slot_some l q k h (inl (z, c)) f = let e : q.base + 0 ≡ q.base = omega arith in rw (z, e) (slot_this l q c)
+slot_some l q k h (inr z) f = slot_at l q k z h f
+
 -- a word put among words
 pub word_put : (l : List ℕ) (at x : ℕ) → ((i : ℕ) → IsWord (get_or l i 0)) → IsWord x → (i : ℕ)
     → IsWord (get_or (set l at x) i 0)
@@ -131,23 +143,12 @@ module _ {l : List ℕ} {k : ℕ} {q : Place} where
   unfolding bare
   read_some n e m = rw (outcome_value n m.short) (record { small = m.small; is = λ t. rw e })
 
-  pub read_zero : k ≡ 0 → at_slot (frame_of l q) 0 ≡ none → PostRead l k q (outcome 17179869184)
-  read_zero z e = read_none (rw z e)
-
-  pub read_this : k ≡ 0 → (n : ℕ) → at_slot (frame_of l q) 0 ≡ some (meaning n) → IsWord n
-      → PostRead l k q (outcome n)
-  read_this z n e m = read_some n (rw z e) m
-
 module _ {l : List ℕ} {k : ℕ} (x : ℕ) {q : Place} (p : Slots l q) (m : IsWord x) where
   -- a slot that is not there
   pub write_none : at_slot (frame_of l q) k ≡ none → PostWrite l l k (meaning x) q (outcome 17179869184)
   unfolding bare
   write_none e = rw outcome_stuck
       (record { long = refl; same = λ i o. refl; words = p.words; small = tt; is = λ t. rw e })
-
-  pub write_zero : k ≡ 0 → at_slot (frame_of l q) 0 ≡ none
-      → PostWrite l l k (meaning x) q (outcome 17179869184)
-  write_zero z e = write_none (rw z e)
 
   -- one that is
   wrote : {l' : List ℕ} (old : Meaning) → at_slot (frame_of l q) k ≡ some old
@@ -165,7 +166,7 @@ module _ {l : List ℕ} {k : ℕ} (x : ℕ) {q : Place} (p : Slots l q) (m : IsW
     is = λ t. rw (e, is);
   })
 
-  pub write_this : k ≡ 0 → (q.calls ≡ 0 → ⊥)
+  write_this : k ≡ 0 → (q.calls ≡ 0 → ⊥)
       → PostWrite l (set l q.base x) k (meaning x) q (outcome x)
   unfolding frame_of
   write_this z c =
@@ -187,7 +188,7 @@ module _ {l : List ℕ} {k : ℕ} (x : ℕ) {q : Place} (p : Slots l q) (m : IsW
           (λ i h. get_or-set_other l q.base (q.base + 1 + i) x 0 (λ p. omega arith)) in
           rw (a, b, d, f)
 
-  pub write_at : (k ≡ 0 → ⊥) → k ≤ q.scope
+  write_at : (k ≡ 0 → ⊥) → k ≤ q.scope
       → PostWrite l (set l (q.base + k) x) k (meaning x) q (outcome x)
   unfolding frame_of slots_of
   write_at z h =
@@ -209,6 +210,11 @@ module _ {l : List ℕ} {k : ℕ} (x : ℕ) {q : Place} (p : Slots l q) (m : IsW
           get_or-set_other l (q.base + 1 + k) q.base x 0 (λ p. omega arith) in
           let b = mapped_set meaning l (q.base + 1) q.scope k x (omega arith) in
           rw (i, a, b)
+
+  pub write_some : k ≤ q.scope → ((k ≡ 0) × (q.calls ≡ 0 → ⊥)) ⊎ (k ≡ 0 → ⊥)
+      → PostWrite l (set l (q.base + k) x) k (meaning x) q (outcome x)
+  write_some h (inl (z, c)) = let e : q.base + k ≡ q.base = omega (arith, z) in rw e (write_this z c)
+  write_some h (inr z) = write_at z h
 
 -- Z of a value, by its case
 pub null_is_true : (m : Meaning) → case_of m ≡ Null → outcome 4294967297 ≡ null_tested m

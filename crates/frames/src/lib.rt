@@ -40,17 +40,10 @@ fn read_slot(slots: &[u64], k: usize, place: Place) -> u64
     requires { Slots slots.now place }
     ensures { PostRead slots.now k place (outcome result) }
 {
-    if place.scope < k {
+    if place.scope < k || k == 0 && place.calls == 0 {
         return STUCK;
     }
-    let base = place.base;
-    if k == 0 {
-        if place.calls == 0 {
-            return STUCK;
-        }
-        return slots[base];
-    }
-    slots[base + k]
+    slots[place.base + k]
 }
 
 // Slot k becomes a value, which is also the answer; where there is no such slot it is stuck.
@@ -58,18 +51,10 @@ fn write_slot(slots: &mut [u64], k: usize, w: u64, place: Place) -> u64
     requires { Slots slots.old place × IsWord w }
     ensures { PostWrite slots.old slots.new k (meaning w) place (outcome result) }
 {
-    if place.scope < k {
+    if place.scope < k || k == 0 && place.calls == 0 {
         return STUCK;
     }
-    let base = place.base;
-    if k == 0 {
-        if place.calls == 0 {
-            return STUCK;
-        }
-        slots[base] = w;
-        return w;
-    }
-    slots[base + k] = w;
+    slots[place.base + k] = w;
     w
 }
 
@@ -77,8 +62,7 @@ fn write_slot(slots: &mut [u64], k: usize, w: u64, place: Place) -> u64
 fn test_null(w: u64) -> u64
     ensures { outcome result ≡ null_tested (meaning w) }
 {
-    let v = objects::value_of(w);
-    match v {
+    match objects::value_of(w) {
         Value::Null => objects::TRUE,
         Value::Truth(_) => STUCK,
         Value::Object(_) => objects::FALSE,
@@ -96,24 +80,24 @@ pub fn open_locals(rows: &[u32], slots: &mut [u64], row: usize, from: usize, n: 
 }
 
 // How many slots a call needs for `this`, n arguments and the locals of its body, which has `size` rows.
+#[tactic(auto, unfolding(crate::specs::Slots::frame_width))]
 pub fn frame_width(size: usize, n: usize) -> usize
     requires { n ≤ 8 }
     ensures { result ≡ frame_width size n }
 {
     if size < MOST_NESTING {
-        return n + 1 + size;
+        n + 1 + size
+    } else {
+        FRAME_ROOM
     }
-    FRAME_ROOM
 }
 
 // How many nodes nest at most in a body of `size` rows.
+#[tactic(auto, unfolding(crate::specs::Slots::most_nested))]
 pub fn most_nested(size: usize) -> usize
     ensures { result ≡ most_nested size }
 {
-    if size < MOST_NESTING {
-        return size;
-    }
-    MOST_NESTING
+    size.min(MOST_NESTING)
 }
 
 // `this` and n arguments, which stand from a place on, become the first slots of a fresh segment.
@@ -122,11 +106,7 @@ pub fn copy_call(slots: &[u64], fresh: &mut [u64], from: usize, n: usize)
     ensures { Written fresh.old fresh.new 0 (n + 1)
         (λ i. get_or slots.now (from + i) 0) }
 {
-    let mut i = 0;
-    while i <= n {
-        fresh[i] = slots[from + i];
-        i += 1;
-    }
+    fresh[..=n].copy_from_slice(&slots[from..=from + n]);
 }
 
 // One of the fuel is taken for a node; true where none is left.
@@ -134,11 +114,10 @@ pub fn runs_out(tally: &mut [u32; 3]) -> bool
     ensures value { result ≡ eqb (get_or tally.old 0 0) 0 }
     ensures tally_after { counts_in tally.new ≡ entered (counts_in tally.old) }
 {
-    let left = tally[0];
-    if left == 0 {
+    if tally[0] == 0 {
         return true;
     }
-    tally[0] = left - 1;
+    tally[0] -= 1;
     false
 }
 
@@ -170,15 +149,7 @@ fn reclassify(
 pub fn is_leaf(k: u32) -> bool
     ensures { result ≡ no_child k }
 {
-    match k {
-        TRUE => true,
-        FALSE => true,
-        NULL => true,
-        SLOT => true,
-        NEW => true,
-        CHANGE => true,
-        _ => false,
-    }
+    matches!(k, TRUE | FALSE | NULL | SLOT | NEW | CHANGE)
 }
 
 // A node without children, entered.
@@ -197,8 +168,7 @@ pub fn leaf(
         slots.now store.new at place (counts_in tally.old)
         (answered result tally.new) }
 {
-    let k = letter_at(rows, at);
-    match k {
+    match letter_at(rows, at) {
         TRUE => objects::TRUE,
         FALSE => objects::FALSE,
         NULL => objects::NULL,
@@ -226,9 +196,8 @@ pub fn apply(
         store.now slots.old slots.new at place
         (counts_in tally.now) (meaning w) (outcome result) }
 {
-    let k = letter_at(rows, at);
     let a = first(rows, at);
-    match k {
+    match letter_at(rows, at) {
         IS_NULL => test_null(w),
         GET => objects::load(tables, store, tally, w, a as usize),
         CAST => objects::cast_object(above, store, tally, w, a),

@@ -5,19 +5,19 @@ use Rattle.objects.specs.Values.{outcome}
 use native.Mathlib.Omega.{arith}
 use Rattle.frames.proofs.apply.Goals as goal
 
-pub letter_at-k-requires : goal.letter_at-k-requires
-letter_at-k-requires c = omega (arith, apply_row c.requires)
+pub letter_at-requires : goal.letter_at-requires
+letter_at-requires c = omega (arith, apply_row c.requires)
 
 pub first-a-requires : goal.first-a-requires
 first-a-requires c = omega (arith, apply_row c.requires)
 
 pub load-requires : goal.load-requires
-load-requires c = let p = pre_load c.requires (sym c.letter_at-k.ensures ∙ c.in-71.is) in
+load-requires c = let p = pre_load c.requires (sym c.letter_at.ensures ∙ c.in-71.is) in
     rw c.first-a.ensures (record { pre_object = p.0; f_bound = p.1 })
 
 pub cast_object-requires : goal.cast_object-requires
 cast_object-requires c = rw c.first-a.ensures (record {
-  pre_cast = pre_cast c.requires (sym c.letter_at-k.ensures ∙ c.in-75.is);
+  pre_cast = pre_cast c.requires (sym c.letter_at.ensures ∙ c.in-75.is);
   word = c.requires.is_word;
 })
 
@@ -25,17 +25,17 @@ pub write_slot-requires : goal.write_slot-requires
 write_slot-requires c = (apply_slots c.requires, c.requires.is_word)
 
 pub returns-in-90 : goal.returns-in-90
-returns-in-90 c = apply_test (sym c.letter_at-k.ensures ∙ c.in-90.is)
+returns-in-90 c = apply_test (sym c.letter_at.ensures ∙ c.in-90.is)
     c.test_null.ensures
 
 pub returns-in-71 : goal.returns-in-71
 returns-in-71 c = apply_get (outcome c.load.result)
-    (sym c.letter_at-k.ensures ∙ c.in-71.is)
+    (sym c.letter_at.ensures ∙ c.in-71.is)
     (rw c.first-a.ensures at c.load.ensures)
 
 pub returns-in-75 : goal.returns-in-75
 returns-in-75 c = apply_cast (outcome c.cast_object.result)
-    (sym c.letter_at-k.ensures ∙ c.in-75.is)
+    (sym c.letter_at.ensures ∙ c.in-75.is)
     (rw c.first-a.ensures at c.cast_object.ensures)
 
 pub shape_of-slots : goal.shape_of-slots

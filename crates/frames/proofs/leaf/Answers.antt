@@ -5,8 +5,8 @@ use Rattle.objects.specs.Values.{outcome}
 use native.Mathlib.Omega.{arith}
 use Rattle.frames.proofs.leaf.Goals as goal
 
-pub letter_at-k-requires : goal.letter_at-k-requires
-letter_at-k-requires c = omega (arith, leaf_row c.requires.pre_leaf)
+pub letter_at-requires : goal.letter_at-requires
+letter_at-requires c = omega (arith, leaf_row c.requires.pre_leaf)
 
 pub first-requires : goal.first-requires
 first-requires c = omega (arith, leaf_row c.requires.pre_leaf)
@@ -20,7 +20,7 @@ first-requires-in-87 c = omega (arith, leaf_row c.requires.pre_leaf)
 pub new_object-requires : goal.new_object-requires
 new_object-requires c = rw c.first-in-87.ensures
     (pre_new c.requires.pre_leaf
-    (sym c.letter_at-k.ensures ∙ c.in-87.is))
+    (sym c.letter_at.ensures ∙ c.in-87.is))
 
 pub reclassify-requires : goal.reclassify-requires
 reclassify-requires c = record {
@@ -30,21 +30,21 @@ reclassify-requires c = record {
 }
 
 pub returns-in-84 : goal.returns-in-84
-returns-in-84 c = leaf_true (sym c.letter_at-k.ensures ∙ c.in-84.is)
+returns-in-84 c = leaf_true (sym c.letter_at.ensures ∙ c.in-84.is)
 
 pub returns-in-76 : goal.returns-in-76
-returns-in-76 c = leaf_false (sym c.letter_at-k.ensures ∙ c.in-76.is)
+returns-in-76 c = leaf_false (sym c.letter_at.ensures ∙ c.in-76.is)
 
 pub returns-in-78 : goal.returns-in-78
-returns-in-78 c = leaf_null (sym c.letter_at-k.ensures ∙ c.in-78.is)
+returns-in-78 c = leaf_null (sym c.letter_at.ensures ∙ c.in-78.is)
 
 pub returns-in-73 : goal.returns-in-73
 returns-in-73 c = leaf_slot (outcome c.read_slot.result)
-    (sym c.letter_at-k.ensures ∙ c.in-73.is)
+    (sym c.letter_at.ensures ∙ c.in-73.is)
     (rw c.first.ensures at c.read_slot.ensures)
 
 pub returns-in-87 : goal.returns-in-87
-returns-in-87 c = leaf_new (sym c.letter_at-k.ensures ∙ c.in-87.is)
+returns-in-87 c = leaf_new (sym c.letter_at.ensures ∙ c.in-87.is)
     (rw c.first-in-87.ensures at c.new_object.ensures)
 
 pub returns-in_default : goal.returns-in_default
