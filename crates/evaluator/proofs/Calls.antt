@@ -6,8 +6,7 @@ use native.Mathlib.Omega.{arith}
 use borrow.Author.Tests.{eq-eqb}
 use lib.ListN.{length, get_or}
 use Rattle.frames.proofs.Frames.{slots_length, slots_ext}
-use Rattle.objects.specs.declared.Target.{Target}
-use Rattle.objects.specs.declared.Target.TheVariants.{Body, Fails}
+use Rattle.std.specs.Prelude.{Ok, Err}
 use Rattle.evaluator.proofs.Arguments.{slots_cons}
 use Rattle.objects.specs.Values.{Outcome, Gave, Raised, Stopped, Stuck, Counts, Answer, meaning}
 use Rattle.objects.specs.Values.{outcome, bare, told, answer}
@@ -246,12 +245,11 @@ run_call W L bodies calls m v vs st j o N h e known method many =
 
 module _ {R E T A M s l s' l' : List ℕ} {at : ℕ} {q : Place} {n : Counts} {r : Answer} {v : Meaning}
     {p : PreEntered R E T A M s l at q n} (x : CallAt p)
-    (g : PostArgs R E T A M s l s' l' (at + 1) q n (get_or R (at * 4 + 2) 0 + 1) r) {b : ℕ} {z : Target}
-    (u : z ≡ Body b)
-    (sought : PostFind T M s' v (get_or R (at * 4 + 1) 0) (get_or R (at * 4 + 2) 0) r.counts q.calls z)
+    (g : PostArgs R E T A M s l s' l' (at + 1) q n (get_or R (at * 4 + 2) 0 + 1) r) {b : ℕ}
+    (sought : PostFind T M s' v (get_or R (at * 4 + 1) 0) (get_or R (at * 4 + 2) 0) r.counts q.calls (Ok b))
   where
     pub found : Found R E s' p.P v (get_or R (at * 4 + 1) 0) (get_or R (at * 4 + 2) 0) r.counts q.calls b
-    found = rw u at (sought.is (call_find x g))
+    found = sought.is (call_find x g)
 
     frame-called : v ≡ meaning (get_or l' q.top 0)
         → frame_of l' (call_place q.top (get_or R (at * 4 + 2) 0) (q.calls + 1))
@@ -290,17 +288,17 @@ module _ {R E T A M s l s' l' : List ℕ} (at : ℕ) {q : Place} {n : Counts} {r
   dv : v ≡ meaning (get_or l' q.top 0)
   dv = refl
 
-  pub call_ends : {o : ℕ} {z : Target} → z ≡ Fails o
-      → PostFind T M s' v (get_or R (at * 4 + 1) 0) (get_or R (at * 4 + 2) 0) r.counts q.calls z
+  pub call_ends : {o : ℕ}
+      → PostFind T M s' v (get_or R (at * 4 + 1) 0) (get_or R (at * 4 + 2) 0) r.counts q.calls (Err o)
       → PostNode R E T A M s l s' l' at q n (answer (outcome o) r.counts)
-  call_ends {o} u sought = record {
+  call_ends {o} sought = record {
     done = λ p F k z.
         let P = p.P in
         let x = call_apart p h in
         let kp = kept_args x g in
         let K : Method → State → Out Meaning = λ N t. calls_of P F (capacity s) q.calls N t in
         let nf : NotFound P s' v (get_or R (at * 4 + 1) 0) (get_or R (at * 4 + 2) 0) r.counts q.calls
-        (outcome o) = rw u at (sought.is (call_find x g)) in
+        (outcome o) = sought.is (call_find x g) in
         let i = nf.is (with_limits F (capacity s)) (slots_of l' (q.top + 1) (get_or R (at * 4 + 2) 0))
         (frame_of l' q) (F - r.counts.left) (arguments_given x g) in
         record {
@@ -314,23 +312,23 @@ module _ {R E T A M s l s' l' : List ℕ} (at : ℕ) {q : Place} {n : Counts} {r
         };
   }
 
-  pub call_done : {s'' l'' : List ℕ} {r' : Answer} {b : ℕ} {z : Target} → z ≡ Body b
-      → PostFind T M s' v (get_or R (at * 4 + 1) 0) (get_or R (at * 4 + 2) 0) r.counts q.calls z
+  pub call_done : {s'' l'' : List ℕ} {r' : Answer} {b : ℕ}
+      → PostFind T M s' v (get_or R (at * 4 + 1) 0) (get_or R (at * 4 + 2) 0) r.counts q.calls (Ok b)
       → PostEnter R E T A M s' l' s'' l'' b (get_or R (at * 4 + 2) 0) q.top (q.calls + 1) r.counts r'
       → PostNode R E T A M s l s'' l'' at q n r'
-  call_done {s''} {l''} {r'} {b} u sought g' = record {
+  call_done {s''} {l''} {r'} {b} sought g' = record {
     done = λ p F k z.
         let P = p.P in
         let x = call_apart p h in
         let kp = kept_args x g in
-        let fo = found x g u sought in
+        let fo = found x g sought in
         let nn : ℕ = get_or R (at * 4 + 2) 0 in
         let K : Method → State → Out Meaning = λ N t. calls_of P F (capacity s) q.calls N t in
-        let i = g'.done (call_enter x g u sought) F (F - r.counts.left) (omega (arith, kp.falls, z)) in
+        let i = g'.done (call_enter x g sought) F (F - r.counts.left) (omega (arith, kp.falls, z)) in
         let fr : frame_of l'' q ≡ frame_of l' q =
         frame_kept l' l'' q i.long
         (λ j o. i.same (q.base + j) (omega (arith, p.ready.frame, p.ready.scoped))) in
-        let is' = rw (room_same s s' kp.stored.long, frame-called x g u sought dv) at (i.is
+        let is' = rw (room_same s s' kp.stored.long, frame-called x g sought dv) at (i.is
         (frame_of l' q)) in
         let method : (world P).method fo.o.class_of x.m ≡ some fo.M =
         rw x.first at fo.method in

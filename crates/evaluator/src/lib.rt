@@ -12,7 +12,7 @@ ghost use Rattle.language.specs.Rows.{code, B_block, U_set, Q_call, J_choose};
 
 use frames::{Place, SEGMENT};
 use language::{ALL_CLASSES, BLOCK, CALL, CHOOSE, SET, first, letter_at, second};
-use objects::{SPENT, STUCK, Target, Value};
+use objects::{NULL, SPENT, STUCK, Value};
 
 // How many values may wait in a node: a receiver and arguments.
 const WAITING: usize = language::MOST_PARAMETERS as usize + 1;
@@ -50,11 +50,11 @@ pub fn eval(
     if frames::runs_out(tally) {
         return SPENT;
     }
-    let k = letter_at(rows, at);
-    if frames::is_leaf(k) {
+    let letter = letter_at(rows, at);
+    if frames::is_leaf(letter) {
         return frames::leaf(rows, tables, store, slots, tally, at, place);
     }
-    match k {
+    match letter {
         BLOCK => block(
             rows, ends, tables, above, methods, store, slots, tally, at, base, scope, top, calls,
         ),
@@ -225,8 +225,7 @@ fn choose(
         return n;
     }
 
-    let v = objects::value_of(n);
-    let Value::Truth(b) = v else {
+    let Value::Truth(b) = objects::value_of(n) else {
         return STUCK;
     };
     let yes = ends[at + 1] as usize;
@@ -312,19 +311,16 @@ fn items(
         store.new slots.new at (place_of base scope top calls)
         (counts_in tally.old) n nothing (answered result tally.new) }
 {
-    let mut r = 0;
+    let mut r = NULL;
     let mut next = at;
-    let mut i = 0;
-    while i < n {
+    for i in 0..n {
         r = eval(
             rows, ends, tables, above, methods, store, slots, tally, next, base, scope, top, calls,
         );
         if r >= STUCK {
             return r;
         }
-
         next = ends[next] as usize;
-        i += 1;
     }
     r
 }
@@ -354,22 +350,17 @@ fn args(
         store.new slots.new at (place_of base scope top calls)
         (counts_in tally.old) n (answered result tally.new) }
 {
-    let mut r = 0;
-    let mut far = top;
+    let mut r = NULL;
     let mut next = at;
-    let mut i = 0;
-    while i < n {
+    for slot in top..top + n {
         r = eval(
-            rows, ends, tables, above, methods, store, slots, tally, next, base, scope, far, calls,
+            rows, ends, tables, above, methods, store, slots, tally, next, base, scope, slot, calls,
         );
         if r >= STUCK {
             return r;
         }
-
-        slots[far] = r;
-        far += 1;
+        slots[slot] = r;
         next = ends[next] as usize;
-        i += 1;
     }
     r
 }
@@ -422,10 +413,9 @@ fn call(
 
     let v = slots[top];
     let m = rows[at * 4 + 1] as usize;
-    let t = objects::find_body(tables, methods, store, tally, v, m, n, calls);
-    match t {
-        Target::Fails(e) => e,
-        Target::Body(b) => {
+    match objects::find_body(tables, methods, store, tally, v, m, n, calls) {
+        Err(outcome) => outcome,
+        Ok(b) => {
             let size = ends[b] as usize - b;
             let width = frames::frame_width(size, n);
             if slots.len() < top + width + WAITING * frames::most_nested(size) {

@@ -1,6 +1,6 @@
 use native.Mathlib.Omega.{arith}
-use mathlib.Core.Path.{refl, ap, ◌∙◌, sym}
-use Prim.Native.Nat.{ℕ}
+use mathlib.Core.Path.{◌≡◌, refl, ap, ◌∙◌, sym}
+use Prim.Native.Nat.{ℕ, ◌+◌, ◌-◌}
 use Rattle.objects.specs.Values.{Gave, counts_in, meaning, outcome}
 use Rattle.objects.proofs.Values.{outcome_value, not_gave, meaning_null, word_of_outcome, outcome_stuck}
 use Rattle.objects.proofs.Values.{case_truth, outcome_spent}
@@ -25,54 +25,44 @@ use Rattle.evaluator.proofs.+args_block_call_choose_enter_fresh_eval_items_one_c
 
 -- `args`
 
-pub args-loop-i-init : goal.args-loop-i-init
-args-loop-i-init t c = args_start c.requires (outcome_value 0 (omega arith) ∙ ap Gave meaning_null)
+pub args-loop-slot-init : goal.args-loop-slot-init
+args-loop-slot-init t c = let e : c.args.top - c.args.top ≡ 0 = omega arith in
+    rw e (args_start c.requires (outcome_value 0 (omega arith) ∙ ap Gave meaning_null))
 
 pub args-eval-r-requires : goal.args-eval-r-requires
 args-eval-r-requires t c = (
-  omega (arith, c.loop-i.invariant.falls),
-  list_first (args_head c.loop-i.invariant c.loop-i-test.true),
+  omega (arith, c.loop-slot.invariant.falls),
+  list_first (args_head c.loop-slot.invariant (omega arith)),
 )
 
 pub args-shape_of-store-then-r-ge-STUCK : goal.args-shape_of-store-then-r-ge-STUCK
 args-shape_of-store-then-r-ge-STUCK t c = c.eval-r.auto.store
-    ∙ c.loop-i.invariant.long_store
+    ∙ c.loop-slot.invariant.long_store
 
 pub args-returns-then-r-ge-STUCK : goal.args-returns-then-r-ge-STUCK
-args-returns-then-r-ge-STUCK t c = args_broken c.loop-i.invariant c.loop-i-test.true
+args-returns-then-r-ge-STUCK t c = args_broken c.loop-slot.invariant (omega arith)
     c.eval-r.ensures
     (not_gave c.eval-r.result c.if-r-ge-STUCK.true)
 
-pub args-offset_bounds-slots-far : goal.args-offset_bounds-slots-far
-args-offset_bounds-slots-far t c = omega (
+pub args-offset_bounds-slots-slot : goal.args-offset_bounds-slots-slot
+args-offset_bounds-slots-slot t c = omega (
   arith,
   c.requires.list.ready.whole,
-  args_room c.loop-i.invariant c.loop-i-test.true
+  args_room c.loop-slot.invariant (omega arith)
       c.eval-r.ensures,
-  c.loop-i.invariant.long_slots,
-  (kept_of (list_first (args_head c.loop-i.invariant c.loop-i-test.true))
+  c.loop-slot.invariant.long_slots,
+  (kept_of (list_first (args_head c.loop-slot.invariant (omega arith)))
       c.eval-r.ensures).long,
 )
 
-pub args-bounds-slots-far : goal.args-bounds-slots-far
-args-bounds-slots-far t c = omega (
+pub args-bounds-slots-slot : goal.args-bounds-slots-slot
+args-bounds-slots-slot t c = omega (
   arith,
   c.requires.list.ready.whole,
-  args_room c.loop-i.invariant c.loop-i-test.true
+  args_room c.loop-slot.invariant (omega arith)
       c.eval-r.ensures,
-  c.loop-i.invariant.long_slots,
-  (kept_of (list_first (args_head c.loop-i.invariant c.loop-i-test.true))
-      c.eval-r.ensures).long,
-)
-
-pub args-overflow_add-far : goal.args-overflow_add-far
-args-overflow_add-far t c = omega (
-  arith,
-  c.requires.list.ready.whole,
-  args_room c.loop-i.invariant c.loop-i-test.true
-      c.eval-r.ensures,
-  c.loop-i.invariant.long_slots,
-  (kept_of (list_first (args_head c.loop-i.invariant c.loop-i-test.true))
+  c.loop-slot.invariant.long_slots,
+  (kept_of (list_first (args_head c.loop-slot.invariant (omega arith)))
       c.eval-r.ensures).long,
 )
 
@@ -80,31 +70,26 @@ pub args-offset_bounds-ends-next : goal.args-offset_bounds-ends-next
 args-offset_bounds-ends-next t c = omega (
   arith,
   c.well_formed.1.0,
-  (args_head c.loop-i.invariant c.loop-i-test.true).in_ends,
+  (args_head c.loop-slot.invariant (omega arith)).in_ends,
 )
 
 pub args-bounds-ends-next : goal.args-bounds-ends-next
-args-bounds-ends-next t c = omega (arith, (args_head c.loop-i.invariant c.loop-i-test.true).in_ends)
+args-bounds-ends-next t c = omega (arith, (args_head c.loop-slot.invariant (omega arith)).in_ends)
 
-pub args-overflow_add-i : goal.args-overflow_add-i
-args-overflow_add-i t c = omega (arith, c.loop-i-test.true)
-
-pub args-loop-i-smaller : goal.args-loop-i-smaller
-args-loop-i-smaller t c = omega (arith, c.loop-i-test.true)
-
-pub args-loop-i-preserved : goal.args-loop-i-preserved
-args-loop-i-preserved t c = args_next c.loop-i.invariant c.loop-i-test.true c.eval-r.ensures
+pub args-loop-slot-preserved : goal.args-loop-slot-preserved
+args-loop-slot-preserved t c = let e : c.loop-slot.slot + 1 - c.args.top ≡ c.loop-slot.slot - c.args.top + 1 = omega arith in
+    rw e (args_next c.loop-slot.invariant (omega arith) c.eval-r.ensures
     c.eval-r.result (outcome_value c.eval-r.result c.if-r-ge-STUCK.false)
     refl
     (word_of_outcome c.eval-r.result c.if-r-ge-STUCK.false
-    (kept_of (list_first (args_head c.loop-i.invariant c.loop-i-test.true))
-    c.eval-r.ensures).small)
+    (kept_of (list_first (args_head c.loop-slot.invariant (omega arith)))
+    c.eval-r.ensures).small))
 
 pub args-shape_of-store : goal.args-shape_of-store
-args-shape_of-store t c = c.loop-i.invariant.long_store
+args-shape_of-store t c = c.loop-slot.invariant.long_store
 
 pub args-returns : goal.args-returns
-args-returns t c = args_ended c.loop-i.invariant c.loop-i-test.false
+args-returns t c = args_ended c.loop-slot.invariant (omega arith)
 
 -- `block`
 
@@ -301,39 +286,34 @@ call-offset_bounds-rows-at-2 t c = omega (arith, (call_apart c.requires.pre_ente
 pub call-bounds-rows-at-2 : goal.call-bounds-rows-at-2
 call-bounds-rows-at-2 t c = omega (arith, (call_apart c.requires.pre_entered c.requires.at_value).row, c.well_formed.0)
 
-pub call-find_body-t-requires : goal.call-find_body-t-requires
-call-find_body-t-requires t c = call_find (call_apart c.requires.pre_entered
+pub call-find_body-requires : goal.call-find_body-requires
+call-find_body-requires t c = call_find (call_apart c.requires.pre_entered
     c.requires.at_value)
     c.args-r.ensures
 
 pub call-offset_bounds-ends-b : goal.call-offset_bounds-ends-b
 call-offset_bounds-ends-b t c = let x = call_apart c.requires.pre_entered c.requires.at_value in
-    let p = call_enter x c.args-r.ensures c.in-Body.is
-    c.find_body-t.ensures in
+    let p = call_enter x c.args-r.ensures c.in-Ok.ensures in
     omega (arith, in_ends p, c.well_formed.1.0)
 
 pub call-bounds-ends-b : goal.call-bounds-ends-b
 call-bounds-ends-b t c = let x = call_apart c.requires.pre_entered c.requires.at_value in
-    let p = call_enter x c.args-r.ensures c.in-Body.is
-    c.find_body-t.ensures in
+    let p = call_enter x c.args-r.ensures c.in-Ok.ensures in
     in_ends p
 
 pub call-overflow_sub-size : goal.call-overflow_sub-size
 call-overflow_sub-size t c = let x = call_apart c.requires.pre_entered c.requires.at_value in
-    let p = call_enter x c.args-r.ensures c.in-Body.is
-    c.find_body-t.ensures in
+    let p = call_enter x c.args-r.ensures c.in-Ok.ensures in
     omega (arith, ends_at p)
 
 pub call-frame_width-width-requires : goal.call-frame_width-width-requires
 call-frame_width-width-requires t c = let x = call_apart c.requires.pre_entered c.requires.at_value in
-    let p = call_enter x c.args-r.ensures c.in-Body.is
-    c.find_body-t.ensures in
+    let p = call_enter x c.args-r.ensures c.in-Ok.ensures in
     p.few
 
 pub call-overflow_add-top : goal.call-overflow_add-top
 call-overflow_add-top t c = let x = call_apart c.requires.pre_entered c.requires.at_value in
-    let p = call_enter x c.args-r.ensures c.in-Body.is
-    c.find_body-t.ensures in
+    let p = call_enter x c.args-r.ensures c.in-Ok.ensures in
     omega (
       arith,
       width_small p c.frame_width-width.ensures,
@@ -347,14 +327,12 @@ call-most_nested-requires t c = tt
 
 pub call-overflow_mul-most_nested : goal.call-overflow_mul-most_nested
 call-overflow_mul-most_nested t c = let x = call_apart c.requires.pre_entered c.requires.at_value in
-    let p = call_enter x c.args-r.ensures c.in-Body.is
-    c.find_body-t.ensures in
+    let p = call_enter x c.args-r.ensures c.in-Ok.ensures in
     omega (arith, nested_small p c.most_nested.ensures)
 
-pub call-overflow_add-top-in-Body : goal.call-overflow_add-top-in-Body
-call-overflow_add-top-in-Body t c = let x = call_apart c.requires.pre_entered c.requires.at_value in
-    let p = call_enter x c.args-r.ensures c.in-Body.is
-    c.find_body-t.ensures in
+pub call-overflow_add-top-in-Ok : goal.call-overflow_add-top-in-Ok
+call-overflow_add-top-in-Ok t c = let x = call_apart c.requires.pre_entered c.requires.at_value in
+    let p = call_enter x c.args-r.ensures c.in-Ok.ensures in
     omega (
       arith,
       width_small p c.frame_width-width.ensures,
@@ -366,14 +344,12 @@ call-overflow_add-top-in-Body t c = let x = call_apart c.requires.pre_entered c.
 
 pub call-overflow_add-calls : goal.call-overflow_add-calls
 call-overflow_add-calls t c = let x = call_apart c.requires.pre_entered c.requires.at_value in
-    let p = call_enter x c.args-r.ensures c.in-Body.is
-    c.find_body-t.ensures in
+    let p = call_enter x c.args-r.ensures c.in-Ok.ensures in
     omega (arith, p.active)
 
 pub call-enter_fresh-requires : goal.call-enter_fresh-requires
 call-enter_fresh-requires t c = let x = call_apart c.requires.pre_entered c.requires.at_value in
-    let p = call_enter x c.args-r.ensures c.in-Body.is
-    c.find_body-t.ensures in (
+    let p = call_enter x c.args-r.ensures c.in-Ok.ensures in (
       omega (arith, c.decreases, (kept_args x c.args-r.ensures).falls),
       (
         p,
@@ -386,13 +362,11 @@ call-shape_of-store-then-top-width-gt1920 t c = c.enter_fresh.auto.store ∙ c.a
 
 pub call-returns-then-top-width-gt1920 : goal.call-returns-then-top-width-gt1920
 call-returns-then-top-width-gt1920 t c = call_done c.args.at c.requires.at_value c.args-r.ensures
-    (outcome_value c.args-r.result (omega (arith, c.if-r-ge-STUCK.false))) c.in-Body.is
-    c.find_body-t.ensures c.enter_fresh.ensures
+    (outcome_value c.args-r.result (omega (arith, c.if-r-ge-STUCK.false))) c.in-Ok.ensures c.enter_fresh.ensures
 
-pub call-overflow_add-top-in-Body-2 : goal.call-overflow_add-top-in-Body-2
-call-overflow_add-top-in-Body-2 t c = let x = call_apart c.requires.pre_entered c.requires.at_value in
-    let p = call_enter x c.args-r.ensures c.in-Body.is
-    c.find_body-t.ensures in
+pub call-overflow_add-top-in-Ok-2 : goal.call-overflow_add-top-in-Ok-2
+call-overflow_add-top-in-Ok-2 t c = let x = call_apart c.requires.pre_entered c.requires.at_value in
+    let p = call_enter x c.args-r.ensures c.in-Ok.ensures in
     omega (
       arith,
       width_small p c.frame_width-width.ensures,
@@ -401,39 +375,34 @@ call-overflow_add-top-in-Body-2 t c = let x = call_apart c.requires.pre_entered 
       c.requires.pre_entered.ready.whole,
     )
 
-pub call-overflow_add-calls-in-Body : goal.call-overflow_add-calls-in-Body
-call-overflow_add-calls-in-Body t c = let x = call_apart c.requires.pre_entered c.requires.at_value in
-    let p = call_enter x c.args-r.ensures c.in-Body.is
-    c.find_body-t.ensures in
+pub call-overflow_add-calls-in-Ok : goal.call-overflow_add-calls-in-Ok
+call-overflow_add-calls-in-Ok t c = let x = call_apart c.requires.pre_entered c.requires.at_value in
+    let p = call_enter x c.args-r.ensures c.in-Ok.ensures in
     omega (arith, p.active)
 
 pub call-eval-requires : goal.call-eval-requires
 call-eval-requires t c = let x = call_apart c.requires.pre_entered c.requires.at_value in
-    let p = call_enter x c.args-r.ensures c.in-Body.is
-    c.find_body-t.ensures in (
+    let p = call_enter x c.args-r.ensures c.in-Ok.ensures in (
       omega (arith, c.decreases, (kept_args x c.args-r.ensures).falls),
       here_pre c.frame_width-width.ensures c.most_nested.ensures
           (omega (arith, c.if-top-width-gt1920.false, p.whole)) p,
     )
 
-pub call-shape_of-store-in-Fails : goal.call-shape_of-store-in-Fails
-call-shape_of-store-in-Fails t c = c.args-r.auto.store
+pub call-shape_of-store-in-Err : goal.call-shape_of-store-in-Err
+call-shape_of-store-in-Err t c = c.args-r.auto.store
 
-pub call-returns-in-Fails : goal.call-returns-in-Fails
-call-returns-in-Fails t c = call_ends c.args.at c.requires.at_value c.args-r.ensures
-    (outcome_value c.args-r.result (omega (arith, c.if-r-ge-STUCK.false))) c.in-Fails.is
-    c.find_body-t.ensures
+pub call-returns-in-Err : goal.call-returns-in-Err
+call-returns-in-Err t c = call_ends c.args.at c.requires.at_value c.args-r.ensures
+    (outcome_value c.args-r.result (omega (arith, c.if-r-ge-STUCK.false))) c.in-Err.ensures
 
 pub call-shape_of-store-else-top-width-gt1920 : goal.call-shape_of-store-else-top-width-gt1920
 call-shape_of-store-else-top-width-gt1920 t c = c.eval.auto.store ∙ c.args-r.auto.store
 
 pub call-returns-else-top-width-gt1920 : goal.call-returns-else-top-width-gt1920
 call-returns-else-top-width-gt1920 t c = let x = call_apart c.requires.pre_entered c.requires.at_value in
-    let p = call_enter x c.args-r.ensures c.in-Body.is
-    c.find_body-t.ensures in
+    let p = call_enter x c.args-r.ensures c.in-Ok.ensures in
     call_done c.args.at c.requires.at_value c.args-r.ensures
-    (outcome_value c.args-r.result (omega (arith, c.if-r-ge-STUCK.false))) c.in-Body.is
-    c.find_body-t.ensures
+    (outcome_value c.args-r.result (omega (arith, c.if-r-ge-STUCK.false))) c.in-Ok.ensures
     (here_done c.frame_width-width.ensures c.most_nested.ensures
     (omega (arith, c.if-top-width-gt1920.false, p.whole)) c.eval.ensures)
 
@@ -463,7 +432,7 @@ choose-returns-in_default t c = rw outcome_stuck (choose_stuck c.args.at
     (outcome_value c.eval-n.result
     c.if-n-ge-STUCK.false)
     (null_or_object (meaning c.eval-n.result)
-    (λ b e. c.in_default.not-Truth b (c.value_of-v.ensures ∙ e))))
+    (λ b e. c.in_default.not-Truth b (c.value_of.ensures ∙ e))))
 
 pub choose-overflow_add-yes : goal.choose-overflow_add-yes
 choose-overflow_add-yes t c = omega (arith, (choose_apart c.requires.pre_entered c.requires.at_value).in_ends)
@@ -494,7 +463,7 @@ choose-returns-then-b t c = choose_yes c.args.at
     c.eval-n.ensures
     (outcome_value c.eval-n.result
     c.if-n-ge-STUCK.false)
-    (case_truth (meaning c.eval-n.result) (sym c.value_of-v.ensures ∙ c.in-Truth.is))
+    (case_truth (meaning c.eval-n.result) (sym c.value_of.ensures ∙ c.in-Truth.is))
     c.if-b.true
     c.eval.ensures
 
@@ -532,7 +501,7 @@ choose-returns t c = choose_no c.args.at
     c.eval-n.ensures
     (outcome_value c.eval-n.result
     c.if-n-ge-STUCK.false)
-    (case_truth (meaning c.eval-n.result) (sym c.value_of-v.ensures ∙ c.in-Truth.is))
+    (case_truth (meaning c.eval-n.result) (sym c.value_of.ensures ∙ c.in-Truth.is))
     c.if-b.false
     c.eval-2.ensures
 
@@ -570,14 +539,14 @@ pub eval-returns-then-runs_out : goal.eval-returns-then-runs_out
 eval-returns-then-runs_out t c = eval_spent outcome_spent (none_left c.runs_out.ensures.value c.if-runs_out.true)
     c.runs_out.ensures.tally_after
 
-pub eval-letter_at-k-requires : goal.eval-letter_at-k-requires
-eval-letter_at-k-requires t c = omega (arith, in_rows c.requires)
+pub eval-letter_at-letter-requires : goal.eval-letter_at-letter-requires
+eval-letter_at-letter-requires t c = omega (arith, in_rows c.requires)
 
 pub eval-leaf-requires : goal.eval-leaf-requires
 eval-leaf-requires t c = record {
   pre_leaf = pre_leaf (pre_entered (some_left c.runs_out.ensures.value c.if-runs_out.false)
       c.runs_out.ensures.tally_after c.requires);
-  at_value = sym (rw c.letter_at-k.ensures at c.is_leaf.ensures) ∙ c.if-is_leaf.true;
+  at_value = sym (rw c.letter_at-letter.ensures at c.is_leaf.ensures) ∙ c.if-is_leaf.true;
 }
 
 pub eval-shape_of-store-then-is_leaf : goal.eval-shape_of-store-then-is_leaf
@@ -599,7 +568,7 @@ eval-block-requires t c = (
   (
     pre_entered (some_left c.runs_out.ensures.value c.if-runs_out.false)
         c.runs_out.ensures.tally_after c.requires,
-    sym c.letter_at-k.ensures ∙ c.in-66.is,
+    sym c.letter_at-letter.ensures ∙ c.in-66.is,
   ),
 )
 
@@ -614,7 +583,7 @@ eval-choose-requires t c = (
   (
     pre_entered (some_left c.runs_out.ensures.value c.if-runs_out.false)
         c.runs_out.ensures.tally_after c.requires,
-    sym c.letter_at-k.ensures ∙ c.in-74.is,
+    sym c.letter_at-letter.ensures ∙ c.in-74.is,
   ),
 )
 
@@ -629,7 +598,7 @@ eval-call-requires t c = (
   (
     pre_entered (some_left c.runs_out.ensures.value c.if-runs_out.false)
         c.runs_out.ensures.tally_after c.requires,
-    sym c.letter_at-k.ensures ∙ c.in-81.is,
+    sym c.letter_at-letter.ensures ∙ c.in-81.is,
   ),
 )
 
@@ -644,7 +613,7 @@ eval-set-requires t c = (
   (
     pre_entered (some_left c.runs_out.ensures.value c.if-runs_out.false)
         c.runs_out.ensures.tally_after c.requires,
-    sym c.letter_at-k.ensures ∙ c.in-85.is,
+    sym c.letter_at-letter.ensures ∙ c.in-85.is,
   ),
 )
 
@@ -660,7 +629,7 @@ eval-one_child-requires t c = (
     pre_entered (some_left c.runs_out.ensures.value c.if-runs_out.false)
         c.runs_out.ensures.tally_after c.requires,
     rest_one c.requires
-        (sym (rw c.letter_at-k.ensures at c.is_leaf.ensures)
+        (sym (rw c.letter_at-letter.ensures at c.is_leaf.ensures)
         ∙ c.if-is_leaf.false)
         (λ e. omega arith)
         (λ e. omega arith)
@@ -729,12 +698,6 @@ items-offset_bounds-ends-next t c = omega (arith, (items_head c.loop-i.invariant
 
 pub items-bounds-ends-next : goal.items-bounds-ends-next
 items-bounds-ends-next t c = omega (arith, (items_head c.loop-i.invariant c.loop-i-test.true).in_ends)
-
-pub items-overflow_add-i : goal.items-overflow_add-i
-items-overflow_add-i t c = omega (arith, c.loop-i-test.true)
-
-pub items-loop-i-smaller : goal.items-loop-i-smaller
-items-loop-i-smaller t c = omega (arith, c.loop-i-test.true)
 
 pub items-loop-i-preserved : goal.items-loop-i-preserved
 items-loop-i-preserved t c = items_next c.loop-i.invariant c.loop-i-test.true c.eval-r.ensures

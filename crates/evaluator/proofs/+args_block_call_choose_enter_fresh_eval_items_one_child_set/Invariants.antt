@@ -34,20 +34,15 @@ decreases-one_child l = get_or l.tally.now 0 0 * 17179869184 + 8589934592
 abbrev pub decreases-set : goal.decreases-set
 decreases-set l = get_or l.tally.now 0 0 * 17179869184 + 8589934592
 
-abbrev pub invariant-args-loop-i : goal.invariant-args-loop-i
-invariant-args-loop-i l =
+abbrev pub invariant-args-loop-slot : goal.invariant-args-loop-slot
+invariant-args-loop-slot l =
     ArgsLoop l.rows l.ends l.tables l.above l.methods l.initial.store l.initial.slots l.at
     (place_of l.base l.scope l.top l.calls) l.n
-    (answer (Gave nothing) (counts_in l.initial.tally)) l.store l.slots (answered l.r l.tally) l.far l.next l.i
-
-abbrev pub decreases-args-loop-i : goal.decreases-args-loop-i
-decreases-args-loop-i l = l.n - l.i
+    (answer (Gave nothing) (counts_in l.initial.tally)) l.store l.slots (answered l.r l.tally) l.slot l.next
+    (l.slot - l.top)
 
 abbrev pub invariant-items-loop-i : goal.invariant-items-loop-i
 invariant-items-loop-i l =
     ItemsLoop l.rows l.ends l.tables l.above l.methods l.initial.store l.initial.slots l.at
     (place_of l.base l.scope l.top l.calls) l.n
     (answer (Gave nothing) (counts_in l.initial.tally)) l.store l.slots (answered l.r l.tally) l.next l.i
-
-abbrev pub decreases-items-loop-i : goal.decreases-items-loop-i
-decreases-items-loop-i l = l.n - l.i
