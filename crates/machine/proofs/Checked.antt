@@ -2,7 +2,7 @@
 use mathlib.Core.Path.{◌≡◌, refl, sym, ap, ◌∙◌}
 use mathlib.Core.Logic.{◌⊎◌, inl, inr}
 use mathlib.Core.List.{List}
-use Prim.Native.Nat.{ℕ, ◌+◌, ◌*◌, ◌≤◌, ◌<◌}
+use Prim.Native.Nat.{ℕ, ◌+◌, ◌-◌, ◌*◌, ◌≤◌, ◌<◌}
 use native.Mathlib.Omega.{arith}
 use lib.ListN.{length}
 use Rattle.language.specs.Limits.{most_fuel}
@@ -10,19 +10,18 @@ use Rattle.language.specs.Results.{ok, stop, accept}
 use Rattle.language.specs.Verdict.{check}
 use Rattle.language.specs.Tree.{Program}
 use Rattle.language.specs.Layout.{start_row}
-use Rattle.language.specs.State.{Value as Meaning, State, Out, stuck}
+use Rattle.language.specs.State.{Value as Meaning, State, Out, raised, spent, deep, full, stuck}
 use Rattle.language.specs.Evaluation.{with_limits, run}
-use Rattle.language.specs.Store.{gave, ended, ran, Ran as Finished, finish, capacity, run_of}
+use Rattle.language.specs.Store.{Outcome as Ended, gave, ended, ran, Ran as Finished, finish, capacity, run_of}
 use Rattle.layout.specs.Held.{Held}
 use Rattle.theory.proofs.acceptance.Acceptance.{check_accepts}
 use Rattle.theory.proofs.soundness.Members.{well_formed_never_stuck, accepted_run}
-use Rattle.objects.specs.Values.{Outcome, Gave, Raised, Stopped, Stuck, SmallOutcome, outcome, case_of}
+use Rattle.objects.specs.Values.{Outcome, Gave, Raised, SmallOutcome, outcome, case_of}
+use Rattle.objects.proofs.Values.{outcome_failure, failure_stopped}
 use Rattle.objects.specs.declared.Value.{Value}
-use Rattle.objects.specs.Values.{stop_of}
-use Rattle.machine.specs.declared.End.{End}
 use Rattle.machine.specs.declared.End.TheVariants.{Gave as EndGave, Raised as EndRaised}
 use Rattle.machine.specs.declared.End.TheVariants.{Stopped as EndStopped}
-use Rattle.machine.specs.declared.Ran.{Ran}
+use Rattle.machine.specs.declared.Stop.TheVariants.{Stuck as StopStuck}
 use Rattle.machine.specs.declared.Run.{Run}
 use Rattle.objects.specs.Acts.{LetterFrom, SomeLetter}
 use Rattle.frames.specs.Slots.{Segment}
@@ -42,25 +41,25 @@ told_gave e h = rw (e, h)
 pub told_raised : {o : Outcome} {n : ℕ} → o ≡ Raised n → EndRaised n ≡ end_told (outcome_of o)
 told_raised e = rw e
 
-told_stop : (n : ℕ) → (14 ≤ n) × (n ≤ 16) → EndStopped n ≡ end_told (ended (stop_of n))
-told_stop n h = go (lt_or n 15) (lt_or n 16)
+-- the words of failures that a run may end with
+pub only_stuck : (o : ℕ) → 17179869184 ≤ o → SmallOutcome (outcome o) → (o ≡ 17179869185 → ⊥)
+    → (o ≡ 17179869186 → ⊥) → (o ≡ 17179869198 → ⊥) → (o ≡ 17179869199 → ⊥) → (o ≡ 17179869200 → ⊥)
+    → o ≡ 17179869184
+only_stuck o h small n p s d f = go (lt_or (o - 17179869184) 3)
   where
-    go : (n < 15) ⊎ (15 ≤ n) → (n < 16) ⊎ (16 ≤ n) → EndStopped n ≡ end_told (ended (stop_of n))
-    go (inl a) b = let z : n ≡ 14 = omega (arith, h) in rw z
-    go (inr a) (inl b) = let z : n ≡ 15 = omega arith in rw z
-    go (inr a) (inr b) = let z : n ≡ 16 = omega (arith, h) in rw z
+    go : (o - 17179869184 < 3) ⊎ (3 ≤ o - 17179869184) → o ≡ 17179869184
+    go (inl a) = omega arith
+    go (inr a) =
+        let z = rw (outcome_failure o h ∙ failure_stopped (o - 17179869184) a) at small in
+        omega (arith, z)
 
-pub told_stopped : {o : Outcome} {n : ℕ} → o ≡ Stopped n → SmallOutcome o
-    → EndStopped n ≡ end_told (outcome_of o)
-told_stopped {n = n} e h = rw e (told_stop n (rw e at h))
-
-stuck_only : (o : Outcome) → SmallOutcome o → EndStopped 0 ≡ end_told (outcome_of o)
-    → outcome_of o ≡ ended stuck
-stuck_only (Gave v) h e = let z : ◌≡◌ {A = ℕ} 0 1 = cc in absurd (omega arith)
-stuck_only (Raised n) h e = let z : ◌≡◌ {A = ℕ} 0 1 = cc in absurd (omega arith)
-stuck_only (Stopped n) h e = let q = e ∙ sym (told_stop n h) in let z : 0 ≡ n = cc in
-    absurd (omega (arith, h))
-stuck_only Stuck h e = refl
+stuck_only : (o : Ended) → EndStopped StopStuck ≡ end_told o → o ≡ ended stuck
+stuck_only (gave v) e = cc
+stuck_only (ended (raised n)) e = cc
+stuck_only (ended spent) e = cc
+stuck_only (ended deep) e = cc
+stuck_only (ended full) e = cc
+stuck_only (ended stuck) e = refl
 
 stuck_end : (x : Out Meaning) (s s' : List ℕ) (a b c : ℕ)
     → finish x s ≡ record { answer = ran (ended stuck) a b c; store = s' } → (t : State) × (x ≡ stop stuck t)
@@ -105,25 +104,17 @@ module _ {R E T A M : List ℕ} (c : PreChecked R E T A M) where
     pub pre_start : PreRun R E T A M l (b + 1)
     pre_start = started c
 
-    module _ {s s' : List ℕ} {fuel : ℕ} {r : Ran} (post : PostRun R E T A M s l s' (b + 1) fuel r) where
-      pub end_small : SmallOutcome (outcome r.outcome)
-      end_small = post.small (started c)
-
-      pub checked_done : (e : End) → e ≡ end_told (outcome_of (outcome r.outcome))
-          → PostChecked R E T A M s s' fuel
-          (record { outcome = e; steps = r.steps; objects = r.objects; changes = r.changes })
-      checked_done e told = record {
-        tells = λ w. record {
-          outcome = outcome_of (outcome r.outcome);
-          is = post.is (started w);
-          told = told;
-        };
-        unstuck = λ z.
-            let q = stuck_only (outcome r.outcome) end_small (sym z ∙ told) in
-            let x = stuck_end (run (with_limits fuel (capacity s)) c.p) s s' r.steps r.objects
-            r.changes (rw q at (post.is (started c))) in
-            well_formed_never_stuck c.p (well c.held) (with_limits fuel (capacity s)) x.0 x.1;
-      }
+    pub checked_done : {s s' : List ℕ} {fuel : ℕ} {r : Run} → PostRun R E T A M s l s' (b + 1) fuel r
+        → PostChecked R E T A M s s' fuel r
+    checked_done {s} {s'} {fuel} {r} post = record {
+      tells = λ w. post.tells (started w);
+      unstuck = λ z.
+          let t = post.tells (started c) in
+          let q = stuck_only t.outcome (sym z ∙ t.told) in
+          let x = stuck_end (run (with_limits fuel (capacity s)) c.p) s s' r.steps r.objects
+          r.changes (rw q at t.is) in
+          well_formed_never_stuck c.p (well c.held) (with_limits fuel (capacity s)) x.0 x.1;
+    }
 
   pub start_low : {b : ℕ} → LetterFrom R 83 0 b → b * 4 + 4 ≤ length R
   start_low f = omega (arith, start_found c.held f, c.held.headed.here.start_line.within)

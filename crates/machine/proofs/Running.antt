@@ -16,7 +16,7 @@ use Rattle.language.specs.Evaluation.{with_limits, run}
 use Rattle.language.specs.Store.{value_number, value_of_number, heap_of_numbers, heap_numbers, object_numbers}
 use Rattle.language.specs.Store.{capacity, stored, finish, finished, ran}
 use Rattle.objects.specs.Values.{Outcome, Gave, Raised, Stopped, Stuck, Counts, Answer, outcome, counts_in}
-use Rattle.objects.specs.Values.{told, bare, answered}
+use Rattle.objects.specs.Values.{told, bare, answered, SmallOutcome}
 use Rattle.frames.specs.declared.Place.{Place}
 use Rattle.frames.specs.Places.{state, frame_of, slots_of}
 use Rattle.objects.specs.Holding.{Holding, Sound}
@@ -24,7 +24,8 @@ use Rattle.objects.proofs.Holding.{fields_few}
 use Rattle.layout.specs.HeldLaws.{start_typed}
 use Rattle.frames.specs.Nodes.{PreEval}
 use Rattle.evaluator.specs.Evaluator.{PostEval}
-use Rattle.machine.specs.Runs.{PreRun, PostRun, outcome_of}
+use Rattle.machine.specs.Runs.{PreRun, PostRun, end_told, outcome_of}
+use Rattle.machine.specs.declared.End.{End}
 use Rattle.frames.specs.Nodes.{evaluated}
 use Rattle.objects.proofs.Values.{value_number_of}
 use Rattle.objects.proofs.Objects.{heap_length}
@@ -187,25 +188,34 @@ pub start_falls : {R E T A M s l s' l' : List ℕ} {at fuel : ℕ} {r : Answer} 
     → r.counts.left ≤ fuel
 start_falls p low g = (kept_of (start_pre p low) g).falls
 
-pub run_done : {R E T A M s l s' l' : List ℕ} {at fuel o : ℕ} (t : List ℕ) → fuel ≤ 4294967295
+pub start_small : {R E T A M s l s' l' : List ℕ} {at fuel : ℕ} {r : Answer} (p : PreRun R E T A M l at)
+    → fuel ≤ 4294967295 → PostEval R E T A M s l s' l' at first_place (first_counts fuel) r
+    → SmallOutcome r.outcome
+start_small p low g = (kept_of (start_pre p low) g).small
+
+pub run_done : {R E T A M s l s' l' : List ℕ} {at fuel : ℕ} (o : ℕ) (t : List ℕ) (e : End) → fuel ≤ 4294967295
     → PostEval R E T A M s l s' l' at first_place (first_counts fuel) (answered o t)
+    → e ≡ end_told (outcome_of (outcome o))
     → PostRun R E T A M s l s' at fuel
-    (record { outcome = o; steps = fuel - get_or t 0 0; objects = get_or t 1 0; changes = get_or t 2 0 })
-run_done {s = s} {l} {s'} {l'} {fuel = fuel} {o} t low g = record {
-  is = λ w.
+    (record { outcome = e; steps = fuel - get_or t 0 0; objects = get_or t 1 0; changes = get_or t 2 0 })
+run_done {s = s} {l} {s'} {l'} {fuel = fuel} o t e low g tells = record {
+  tells = λ w.
       let p = w.checked.p in
       let pre = start_pre w low in
       let d = g.done pre fuel 0 (omega arith) in
       let n : Counts = counts_in t in
       let st : State = state p.classes s' l' first_place n (fuel - n.left) in
-      let e : finish (run (with_limits fuel (capacity s)) p) s ≡ finished (outcome_of (outcome o)) st s
+      let whole : finish (run (with_limits fuel (capacity s)) p) s ≡ finished (outcome_of (outcome o)) st s
       = ap (λ (x : Out Meaning). finish x s) (sym (run_is p.classes s l fuel p refl))
       ∙ (finish_bare (evaluated p.classes fuel (capacity s) 0 p.start
       (state p.classes s l first_place (first_counts fuel) 0)) s
       ∙ (ap (λ (x : Out Meaning). finish x s) (sym d.is) ∙ finish_told (outcome o) st s)) in
-      e ∙ ap₂ (λ (k : ℕ) (y : List ℕ).
-      record { answer = ran (outcome_of (outcome o)) (fuel - n.left) k n.changes; store = y })
-      (heap_length (world p.classes) n.made s')
-      (stored_back pre.ready.holding s s' n.made d.kept.stored.sound d.kept.stored.rest);
-  small = λ w. (kept_of (start_pre w low) g).small;
+      record {
+        outcome = outcome_of (outcome o);
+        is = whole ∙ ap₂ (λ (k : ℕ) (y : List ℕ).
+            record { answer = ran (outcome_of (outcome o)) (fuel - n.left) k n.changes; store = y })
+            (heap_length (world p.classes) n.made s')
+            (stored_back pre.ready.holding s s' n.made d.kept.stored.sound d.kept.stored.rest);
+        told = tells;
+      };
 }

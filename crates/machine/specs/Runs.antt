@@ -8,14 +8,15 @@ use Rattle.language.specs.Store.{capacity, Outcome as Ended, gave, ended, ran, f
 use Rattle.language.specs.Limits.{spent_stop, deep_stop, full_stop}
 use Rattle.language.specs.Layout.{start_row}
 use Rattle.layout.specs.Held.{Held}
-use Rattle.objects.specs.Values.{case_of, stop_of, SmallOutcome, Outcome, Gave}
-use Rattle.objects.specs.Values.{Raised, Stopped, Stuck, outcome}
+use Rattle.objects.specs.Values.{case_of, stop_of, Outcome, Gave}
+use Rattle.objects.specs.Values.{Raised, Stopped, Stuck}
 use Rattle.frames.specs.Slots.{Segment}
-use Rattle.machine.specs.declared.Ran.{Ran}
 use Rattle.machine.specs.declared.Run.{Run}
 use Rattle.machine.specs.declared.End.{End}
 use Rattle.machine.specs.declared.End.TheVariants.{Gave as EndGave, Raised as EndRaised}
 use Rattle.machine.specs.declared.End.TheVariants.{Stopped as EndStopped}
+use Rattle.machine.specs.declared.Stop.{Stop}
+use Rattle.machine.specs.declared.Stop.TheVariants.{Spent, Deep, Full, Stuck as StopStuck}
 
 -- What an outcome means at the end of a run.
 abbrev pub outcome_of : Outcome → Ended
@@ -37,24 +38,21 @@ pub record PreRun (R E T A M l : List ℕ) (at : ℕ) : Type 0 where
   pub start : at ≡ start_row checked.p + 1
   pub segment : Segment l
 
--- Outcome, counts and store are those of the run.
-pub record PostRun (R E T A M s l s' : List ℕ) (at fuel : ℕ) (r : Ran) : Type 0 where
-  pub is : (w : PreRun R E T A M l at)
-      → finish (run (with_limits fuel (capacity s)) w.checked.p) s
-      ≡ record {
-        answer = ran (outcome_of (outcome r.outcome)) r.steps r.objects r.changes;
-        store = s';
-      }
-  pub small : PreRun R E T A M l at → SmallOutcome (outcome r.outcome)
+-- The number by which a stop is told; 0 where no rule goes on.
+abbrev pub stop_told : Stop → ℕ
+stop_told Spent = spent_stop
+stop_told Deep = deep_stop
+stop_told Full = full_stop
+stop_told StopStuck = 0
 
--- How the caller is told of an end: objects count from 1; an exception and a stop are their numbers.
+-- How the caller is told of an end: objects count from 1; an exception is its number.
 abbrev pub end_told : Ended → End
 end_told (gave v) = EndGave (case_of v)
 end_told (ended (raised n)) = EndRaised n
-end_told (ended spent) = EndStopped spent_stop
-end_told (ended deep) = EndStopped deep_stop
-end_told (ended full) = EndStopped full_stop
-end_told (ended stuck) = EndStopped 0
+end_told (ended spent) = EndStopped Spent
+end_told (ended deep) = EndStopped Deep
+end_told (ended full) = EndStopped Full
+end_told (ended stuck) = EndStopped StopStuck
 
 -- The answer and the store tell how a run ended.
 pub record Tells (x : Finished) (s' : List ℕ) (r : Run) : Type 0 where
@@ -62,8 +60,13 @@ pub record Tells (x : Finished) (s' : List ℕ) (r : Run) : Type 0 where
   pub is : x ≡ record { answer = ran outcome r.steps r.objects r.changes; store = s' }
   pub told : r.outcome ≡ end_told outcome
 
+-- Answer and store are those of the run from the start block.
+pub record PostRun (R E T A M s l s' : List ℕ) (at fuel : ℕ) (r : Run) : Type 0 where
+  pub tells : (w : PreRun R E T A M l at)
+      → Tells (finish (run (with_limits fuel (capacity s)) w.checked.p) s) s' r
+
 -- Answer and store are those of the run of the program that the rows hold; it is not stuck.
 pub record PostChecked (R E T A M s s' : List ℕ) (fuel : ℕ) (r : Run) : Type 0 where
   pub tells : (w : PreChecked R E T A M)
       → Tells (finish (run (with_limits fuel (capacity s)) w.p) s) s' r
-  pub unstuck : r.outcome ≡ EndStopped 0 → ⊥
+  pub unstuck : r.outcome ≡ EndStopped StopStuck → ⊥

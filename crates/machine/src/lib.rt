@@ -3,27 +3,43 @@
 
 ghost use Rattle.std.specs.Prelude.{◌≡◌};
 ghost use Rattle.objects.specs.Values.{outcome, SmallOutcome};
-ghost use Rattle.machine.specs.Runs.{PreRun, PostRun, end_told, outcome_of, PreChecked, PostChecked};
+ghost use Rattle.machine.specs.Runs.{PreRun, PostRun, end_told, stop_told, outcome_of, PreChecked, PostChecked};
 
 use frames::{FRAME_ROOM, SEGMENT};
-use language::{ALL_CLASSES, START};
-use objects::{STUCK, Value};
+use language::{ALL_CLASSES, DEEP_STOP, FULL_STOP, SPENT_STOP, START};
+use objects::{BAD_CAST, DEEP, FULL, NULL_POINTER, SPENT, STUCK, Value};
 
-// The answer of a run: the outcome, nodes entered, objects made, changes of class.
-#[derive(Clone, Copy)]
-pub struct Ran {
-    pub outcome: u64,
-    pub steps: u32,
-    pub objects: u32,
-    pub changes: u32,
+// Why a run stopped: no fuel left for a node, a call too many, no room for an object, or no rule that goes on, which no
+// checked program reaches.
+#[derive(Clone, Copy, Debug, PartialEq, Eq)]
+pub enum Stop {
+    Spent,
+    Deep,
+    Full,
+    Stuck,
+}
+
+impl Stop {
+    // The number by which a stop is told.
+    pub fn number(self) -> u32
+        ensures { result ≡ stop_told self }
+    {
+        match self {
+            Stop::Spent => SPENT_STOP,
+            Stop::Deep => DEEP_STOP,
+            Stop::Full => FULL_STOP,
+            Stop::Stuck => 0,
+        }
+    }
 }
 
 // How a run of a checked program ended: with a value, whose objects count from 1, with an exception, or stopped.
+// Kept: an exception is its number, which can be any in the definition (Rattle.language.specs.State, raised).
 #[derive(Clone, Copy)]
 pub enum End {
     Gave(Value),
     Raised(u32),
-    Stopped(u32),
+    Stopped(Stop),
 }
 
 // The answer to the caller: how the run ended, nodes entered, objects made, changes of class.
@@ -46,19 +62,18 @@ fn run_start(
     slots: &mut [u64; SEGMENT],
     at: usize,
     fuel: u32,
-) -> Ran
+) -> Run
     requires { PreRun rows.now ends.now tables.now above.now methods.now slots.old at }
     ensures { PostRun rows.now ends.now tables.now
         above.now methods.now store.old slots.old
         store.new at fuel result }
 {
-    let mut tally = [0u32; 3];
-    tally[0] = fuel;
-    let r = evaluator::eval(
+    let mut tally = [fuel, 0, 0];
+    let outcome = evaluator::eval(
         rows, ends, tables, above, methods, store, slots, &mut tally, at, 0, 0, FRAME_ROOM, 0,
     );
-    Ran {
-        outcome: r,
+    Run {
+        outcome: end_told(outcome),
         steps: fuel - tally[0],
         objects: tally[1],
         changes: tally[2],
@@ -73,10 +88,12 @@ fn end_told(o: u64) -> End
     if o < STUCK {
         return End::Gave(objects::value_of(o));
     }
-    let n = (o - STUCK) as u32;
-    match n {
-        1..=2 => End::Raised(n),
-        _ => End::Stopped(n),
+    match o {
+        NULL_POINTER | BAD_CAST => End::Raised((o - STUCK) as u32),
+        SPENT => End::Stopped(Stop::Spent),
+        DEEP => End::Stopped(Stop::Deep),
+        FULL => End::Stopped(Stop::Full),
+        _ => End::Stopped(Stop::Stuck),
     }
 }
 
@@ -96,7 +113,7 @@ pub fn run_checked(
 {
     let mut slots = [0u64; SEGMENT];
     let start = objects::find_letter(rows, 0, START);
-    let r = run_start(
+    run_start(
         rows,
         ends,
         tables,
@@ -106,12 +123,5 @@ pub fn run_checked(
         &mut slots,
         start + 1,
         fuel,
-    );
-    let o = r.outcome;
-    Run {
-        outcome: end_told(o),
-        steps: r.steps,
-        objects: r.objects,
-        changes: r.changes,
-    }
+    )
 }

@@ -1,5 +1,5 @@
 use native.Mathlib.Omega.{arith}
-use Rattle.machine.proofs.Checked.{some_start, start_low, pre_start, end_small, checked_done}
+use Rattle.machine.proofs.Checked.{some_start, start_low, pre_start, checked_done}
 use Rattle.frames.proofs.Frames.{zeros}
 use Rattle.machine.proofs.run_checked.Goals as goal
 
@@ -9,13 +9,8 @@ find_letter-start-requires c = some_start c.requires
 pub overflow_add-start : goal.overflow_add-start
 overflow_add-start c = omega (arith, start_low c.requires c.find_letter-start.ensures)
 
-pub run_start-r-requires : goal.run_start-r-requires
-run_start-r-requires c = pre_start c.requires c.find_letter-start.ensures zeros
-
-pub end_told-requires : goal.end_told-requires
-end_told-requires c = end_small c.requires c.find_letter-start.ensures zeros
-    c.run_start-r.ensures
+pub run_start-requires : goal.run_start-requires
+run_start-requires c = pre_start c.requires c.find_letter-start.ensures zeros
 
 pub returns : goal.returns
-returns c = checked_done c.requires c.find_letter-start.ensures zeros
-    c.run_start-r.ensures c.end_told.result c.end_told.ensures
+returns c = checked_done c.requires c.find_letter-start.ensures zeros c.run_start.ensures
