@@ -1,3 +1,3 @@
+pub mod Told
 pub mod Standing
 pub mod Walks
-pub mod Told

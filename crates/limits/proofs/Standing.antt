@@ -100,6 +100,23 @@ module _ {R E : List ℕ} {at : ℕ} where
           go k (m ∷ ms) t = let z = stand-after m ms t in
               omega (arith, z, p.each k ms (stand_rest m ms t b z))
 
+-- the methods before a row are passed
+pub record MethodsLeft (R E : List ℕ) (at row : ℕ) : Type 0 where
+  pub rest : SomeMethodsStand R E row
+  pub whole : (q : ℕ) → MethodsPassed R E row q → MethodsPassed R E at q
+
+pub methods_start : {R E : List ℕ} {at : ℕ} → SomeMethodsStand R E at → MethodsLeft R E at at
+methods_start x = record { rest = x; whole = λ q p. p }
+
+module _ {R E : List ℕ} {at row : ℕ} (l : MethodsLeft R E at row) where
+  pub methods_end : get_or R (row * 4) 0 ≢ 77 → MethodsPassed R E at row
+  methods_end h = l.whole row (stand_none h)
+
+  pub methods_more : {b : ℕ} (h : get_or R (row * 4) 0 ≡ 77)
+      → ((w : MethodStanding R E row) → b ≡ row + method_lines w.method) → MethodsLeft R E at b × (row < b)
+  methods_more h s = let x = stand_next h s l.rest in
+      (record { rest = x.0; whole = λ q p. l.whole q (stand_step h s p) }, x.1)
+
 -- classes
 pub no_class : {R : List ℕ} (at : ℕ) → RowAt R (at + classes_lines []) S_start 0 0 → get_or R (at * 4) 0 ≡ 67
     → ⊥

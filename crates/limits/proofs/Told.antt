@@ -1,65 +1,37 @@
 -- Laws of what the limits tell: of form and of fields together. Assumes nothing.
-use mathlib.Core.Path.{◌≡◌, refl, sym, ap, ◌∙◌}
+use mathlib.Core.Path.{◌≡◌, refl, ◌∙◌}
 use mathlib.Core.Bool.{Bool, true, false, cond}
-use mathlib.Core.Logic.{◌≢◌}
 use mathlib.Core.List.{List}
-use Prim.Native.Nat.{ℕ, zero, suc, ◌%◌, ◌≤◌, ◌<◌}
+use Prim.Native.Nat.{ℕ, ◌%◌}
 use native.Mathlib.Omega.{arith}
-use borrow.Author.Tests.{lt-ltb, le-ltb}
 use lib.Dec.{ltb}
 use lib.ListN.{length}
-use Rattle.language.specs.Limits.{of_translator, limit_refusal}
+use Rattle.language.specs.Limits.{of_translator}
 use Rattle.language.specs.Results.{Checked, accept, refuse, Pass, earlier}
 use Rattle.language.specs.Rows.{rows_of}
-use Rattle.language.specs.Tree.{Program}
 use Rattle.language.specs.Form.{form}
 use Rattle.language.specs.Headings.{headings}
 use Rattle.language.specs.Translation.{within_limits}
-use Rattle.language.specs.declared.Filled.{Filled}
-use Rattle.language.specs.declared.Filled.TheVariants as filled
+use Rattle.std.specs.Prelude.{Result, Err}
+use Rattle.language.specs.Refusals.{refusal, result_of}
+use Rattle.language.specs.declared.Refusal.{Refusal}
 use Rattle.form.specs.Answers.{formed_of}
 use Rattle.form.specs.declared.Formed.{Formed}
-use Rattle.form.specs.declared.Formed.TheVariants as formed
-use Rattle.form.specs.declared.Formed.TheVariants.{InForm}
-use Rattle.limits.specs.Bounds.{pass_of, ClassesCounted, SomeCounted, FieldsLimited, told, limits_told}
+use Rattle.limits.specs.Bounds.{verdict, first_refused, ClassesCounted, SomeCounted, FieldsLimited}
 use Rattle.limits.specs.Bounds.{SomeChecked, Limited}
 use Rattle.limits.proofs.Standing.{all_stand}
 
-module _ {f : Formed} {l n k : ℕ} where
-  pub told_form : f ≡ formed.Refused n k → l ≡ 0 → filled.Refused n k ≡ limits_told f l
-  told_form e z = rw (e, z)
-
-  pub told_before : f ≡ formed.Refused n k → l ≢ 0 → l < k → filled.Refused 2 l ≡ limits_told f l
-  told_before e z h = rw e (go l z h)
-    where
-      go : (l : ℕ) → l ≢ 0 → l < k → filled.Refused 2 l ≡ limits_told (formed.Refused n k) l
-      go zero z h = absurd (z refl)
-      go (suc l) z h = rw (lt-ltb (suc l) k h)
-
-  pub told_after : f ≡ formed.Refused n k → l ≢ 0 → k ≤ l → filled.Refused n k ≡ limits_told f l
-  told_after e z h = rw e (go l z h)
-    where
-      go : (l : ℕ) → l ≢ 0 → k ≤ l → filled.Refused n k ≡ limits_told (formed.Refused n k) l
-      go zero z h = absurd (z refl)
-      go (suc l) z h = rw (le-ltb (suc l) k h)
-
-pub told_fields : {f : Formed} {l n s : ℕ} → f ≡ InForm n s → l ≢ 0 → filled.Refused 2 l ≡ limits_told f l
-told_fields {f} {l} {n} {s} e z = rw e (go l z)
-  where
-    go : (l : ℕ) → l ≢ 0 → filled.Refused 2 l ≡ limits_told (InForm n s) l
-    go zero z = absurd (z refl)
-    go (suc l) z = refl
-
-told_earlier : (x : Checked Program) (l : ℕ)
-    → limits_told (formed_of x) l ≡ told (earlier x (pass_of limit_refusal l))
+-- the check of a limit and the code tell the same of two refusals
+told_earlier : {A B : Type 0} (f : A → B) (x : Checked A) (y : Pass)
+    → first_refused (result_of f x) (verdict y) ≡ verdict (earlier x y)
 unfolding earlier
-told_earlier (accept p) zero = refl
-told_earlier (accept p) (suc l) = refl
-told_earlier (refuse n k) zero = refl
-told_earlier (refuse n k) (suc l) = go (ltb (suc l) k)
+told_earlier f (accept a) (accept u) = refl
+told_earlier f (accept a) (refuse m l) = refl
+told_earlier f (refuse n k) (accept u) = refl
+told_earlier f (refuse n k) (refuse m l) = go (ltb l k)
   where
-    go : (b : Bool) → cond b (filled.Refused limit_refusal (suc l)) (filled.Refused n k) ≡ told
-        (cond b (refuse limit_refusal (suc l)) (refuse n k))
+    go : (b : Bool) → ◌≡◌ {A = Result (Unit {0}) Refusal} (cond b (Err (refusal m l)) (Err (refusal n k)))
+        (verdict (cond b (refuse m l) (refuse n k)))
     go true = refl
     go false = refl
 
@@ -80,12 +52,11 @@ module _ {R E T : List ℕ} where
   pub checked_counted : SomeChecked R E T → SomeCounted R E T 0
   checked_counted x = record { P = x.p.classes; k = 1; cs = x.p.classes; counted = all_counted x }
 
-  pub limits_answer : {f : Formed} {l : ℕ} {r : Filled} → f ≡ formed_of (form of_translator (rows_of R))
-      → FieldsLimited R E T 0 l → r ≡ limits_told f l → Limited R E T r
+  pub limits_answer : {f : Result Formed Refusal} {r s : Result (Unit {0}) Refusal}
+      → f ≡ formed_of (form of_translator (rows_of R))
+      → FieldsLimited R E T 0 s → r ≡ first_refused f s → Limited R E T r
   unfolding within_limits headings
-  limits_answer {f} {l} {r} e h q = record {
-    each = λ x. q ∙ (ap (λ (g : Formed). limits_told g l) e ∙
-        (told_earlier (form of_translator (rows_of R)) l
-        ∙ ap (λ (c : Pass). told (earlier (form of_translator (rows_of R)) c))
-        (sym (h.each x.p.classes 1 x.p.classes (all_counted x)))));
+  limits_answer {f} {r} {s} e h q = record {
+    each = λ x. q ∙ rw (e, ← h.each x.p.classes 1 x.p.classes (all_counted x))
+        (told_earlier _ (form of_translator (rows_of R)) _);
   }

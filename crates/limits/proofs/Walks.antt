@@ -4,7 +4,7 @@ use mathlib.Core.Path.{◌≡◌, refl, sym, ap, ◌∙◌}
 use mathlib.Core.Bool.{Bool, true, false, not, ◌||◌}
 use mathlib.Core.Logic.{◌⊎◌, inl, inr, ◌≢◌}
 use mathlib.Core.List.{List, [], ◌∷◌, ◌++◌}
-use Prim.Native.Nat.{ℕ, zero, suc, ◌+◌, ◌-◌, ◌*◌, ◌≤◌, ◌<◌}
+use Prim.Native.Nat.{ℕ, suc, ◌+◌, ◌-◌, ◌*◌, ◌≤◌, ◌<◌}
 use native.Mathlib.Omega.{arith}
 use borrow.Author.Tests.{lt-ltb, le-ltb, ne_eqb, ltb-true}
 use lib.Dec.{eqb}
@@ -20,91 +20,148 @@ use Rattle.language.specs.Translation.{fields_free, names_free}
 use Rattle.language.specs.Encoded.{LinesAt}
 use Rattle.language.specs.Layout.{EachClass, FieldsAt, Run}
 use Rattle.language.proofs.Lines.{le_or_less}
+use Rattle.std.specs.Prelude.{Result, Ok, Err}
+use Rattle.language.specs.Refusals.{refusal}
+use Rattle.language.specs.declared.Refusal.{Refusal}
+use Rattle.language.proofs.Refusals.{result_ok, result_err}
+use Rattle.emitters.specs.Writing.{SomeFieldLines}
+use Rattle.emitters.proofs.Lines.{field_in}
 use Rattle.limits.specs.Standing.{ClassesStand, SomeMethodsStand, SomeClassesStand, MethodsPassed}
-use Rattle.limits.specs.Bounds.{pass_of, ClassesCounted, SomeCounted, FieldsLimited, FieldsFree}
+use Rattle.limits.specs.Bounds.{verdict, ClassesCounted, SomeCounted, FieldsLimited, FieldsFree}
 use Rattle.limits.specs.Bounds.{NamesFree}
 use Rattle.limits.proofs.Standing.{class_positive, class_known, class_stand, class_rest, no_class}
-use Rattle.limits.proofs.Standing.{not_class, class_run, class_counted, class_passed}
+use Rattle.limits.proofs.Standing.{not_class, class_run, class_counted, class_passed, class_next}
 
 -- reserved names
-pass_refuse : (n l : ℕ) → 1 ≤ l → pass_of n l ≡ refuse n l
-pass_refuse n zero h = absurd (omega (arith, h))
-pass_refuse n (suc l) h = refl
-
-reserved : (n : ℕ) → (n ≡ 254) ⊎ (n ≡ 255) → not (eqb n 254 || eqb n 255) ≡ false
+reserved : (n : ℕ) → (n ≡ 254) ⊎ ((n ≢ 254) × (n ≡ 255)) → not (eqb n 254 || eqb n 255) ≡ false
 reserved n (inl e) = rw e refl
-reserved n (inr e) = rw e refl
+reserved n (inr e) = rw e.1 refl
 
 module _ {R : List ℕ} {at count : ℕ} where
-  pub free_none : count ≡ 0 → FieldsFree R at count 0
+  field_rest : SomeFieldLines R at count → count ≢ 0 → SomeFieldLines R (at + 1) (count - 1)
+  unfolding LinesAt
+  field_rest x h = go x.fs x.rows x.counted
+    where
+      go : (fs : List Field) → FieldsAt R fs at → length fs ≡ count → SomeFieldLines R (at + 1) (count - 1)
+      go [] r e = absurd (h (sym e))
+      go (f ∷ fs) r e = record { fs = fs; rows = r.1; counted = omega (arith, e) }
+
+  free_none : count ≡ 0 → FieldsFree R at count (Ok tt)
   unfolding fields_free
   free_none z = record { each = λ fs r e. go fs e }
     where
-      go : (fs : List Field) → length fs ≡ count → fields_free (at + 1) fs ≡ passed
+      go : (fs : List Field) → length fs ≡ count → verdict (fields_free (at + 1) fs) ≡ Ok tt
       go [] e = refl
       go (f ∷ fs) e = absurd (omega (arith, e, z))
 
-  pub free_here : {n : ℕ} (line : ℕ) → line ≡ at + 1 → count ≢ 0 → n ≡ get_or R (at * 4 + 2) 0
-      → (n ≡ 254) ⊎ (n ≡ 255) → FieldsFree R at count line
+  free_here : {n : ℕ} → count ≢ 0 → n ≡ get_or R (at * 4 + 2) 0
+      → (n ≡ 254) ⊎ ((n ≢ 254) × (n ≡ 255)) → FieldsFree R at count (Err (refusal reserved_refusal (at + 1)))
   unfolding fields_free LinesAt require
-  free_here {n} line z h f d = record { each = λ fs r e. go fs r e }
+  free_here {n} h f d = record { each = λ fs r e. go fs r e }
     where
       go : (fs : List Field) → FieldsAt R fs at → length fs ≡ count
-          → fields_free (at + 1) fs ≡ pass_of reserved_refusal line
+          → verdict (fields_free (at + 1) fs) ≡ Err (refusal reserved_refusal (at + 1))
       go [] r e = absurd (h (sym e))
-      go (x ∷ fs) r e = let g : n ≡ x.name = f ∙ r.0.second in let y = reserved n d in
-          rw (z, pass_refuse 12 (at + 1) (omega arith), rw g at y)
+      go (x ∷ fs) r e = let g : n ≡ x.name = f ∙ r.0.second in let y = reserved n d in rw (rw g at y)
 
-  pub free_step : {n line : ℕ} → count ≢ 0 → n ≡ get_or R (at * 4 + 2) 0 → n ≢ 254 → n ≢ 255
-      → FieldsFree R (at + 1) (count - 1) line → FieldsFree R at count line
+  free_step : {n : ℕ} {v : Result (Unit {0}) Refusal} → count ≢ 0 → n ≡ get_or R (at * 4 + 2) 0 → n ≢ 254
+      → n ≢ 255 → FieldsFree R (at + 1) (count - 1) v → FieldsFree R at count v
   unfolding fields_free LinesAt require
-  free_step {n} {line} h x a b p = record { each = λ fs r e. go fs r e }
+  free_step {n} {v} h x a b p = record { each = λ fs r e. go fs r e }
     where
       go : (fs : List Field) → FieldsAt R fs at → length fs ≡ count
-          → fields_free (at + 1) fs ≡ pass_of reserved_refusal line
+          → verdict (fields_free (at + 1) fs) ≡ v
       go [] r e = absurd (h (sym e))
       go (f ∷ fs) r e =
           let g : n ≡ f.name = x ∙ r.0.second in
           rw (ne_eqb f.name 254 (rw g at a), ne_eqb f.name 255 (rw g at b))
           (p.each fs r.1 (omega (arith, e)))
 
+-- no name of the fields before a row is reserved: what the rest answers is the answer
+pub record NamesLeft (R : List ℕ) (at count row : ℕ) : Type 0 where
+  pub rest : SomeFieldLines R row (at + count - row)
+  pub whole : (v : Result (Unit {0}) Refusal) → FieldsFree R row (at + count - row) v → FieldsFree R at count v
+
+module _ {R : List ℕ} {at count : ℕ} where
+  pub names_start : SomeFieldLines R at count → NamesLeft R at count at
+  names_start x = let e : at + count - at ≡ count = omega arith in record { rest = rw e x; whole = rw e (λ v w. w) }
+
+  module _ {row : ℕ} (l : NamesLeft R at count row) where
+    pub names_row : row < at + count → row * 4 + 3 < length R
+    names_row h = field_in l.rest row (omega arith) (omega (arith, h))
+
+    pub names_end : row ≡ at + count → FieldsFree R at count (Ok tt)
+    names_end e = l.whole _ (free_none (omega (arith, e)))
+
+    module _ (h : row < at + count) {n : ℕ} (e : n ≡ get_or R (row * 4 + 2) 0) where
+      pub names_stop : (n ≡ 254) ⊎ ((n ≢ 254) × (n ≡ 255)) → FieldsFree R at count (Err (refusal reserved_refusal (row + 1)))
+      names_stop d = l.whole _ (free_here (λ z. omega (arith, z, h)) e d)
+
+      pub names_more : n ≢ 254 → n ≢ 255 → NamesLeft R at count (row + 1)
+      names_more a b =
+          let k : at + count - row ≢ 0 = λ z. omega (arith, z, h) in
+          let z : at + count - (row + 1) ≡ at + count - row - 1 = omega arith in record {
+            rest = rw z (field_rest l.rest k);
+            whole = rw z (λ v w. l.whole v (free_step k e a b w));
+          }
+
 module _ {R E : List ℕ} {at : ℕ} where
-  pub names_none : get_or R (at * 4) 0 ≢ 67 → NamesFree R E at 0
+  names_none : get_or R (at * 4) 0 ≢ 67 → NamesFree R E at (Ok tt)
   unfolding names_free
   names_none h = record { each = λ k cs t. go k cs t }
     where
-      go : (k : ℕ) (cs : List Class) → ClassesStand R E k cs at → names_free (at + 1) cs ≡ passed
+      go : (k : ℕ) (cs : List Class) → ClassesStand R E k cs at → verdict (names_free (at + 1) cs) ≡ Ok tt
       go k [] t = refl
       go k (c ∷ cs) t = absurd (not_class c cs t h)
 
   module _ {n : ℕ} (s : Run R 70 (at + 1) n) (h : get_or R (at * 4) 0 ≡ 67) where
-    own-fields : {k line : ℕ} (c : Class) (cs : List Class)
-        → ClassesStand R E k (c ∷ cs) at → FieldsFree R (at + 1) n line
-        → fields_free (at + 1 + 1) c.fields ≡ pass_of reserved_refusal line
+    own-fields : {k : ℕ} {v : Result (Unit {0}) Refusal} (c : Class) (cs : List Class)
+        → ClassesStand R E k (c ∷ cs) at → FieldsFree R (at + 1) n v
+        → verdict (fields_free (at + 1 + 1) c.fields) ≡ v
     unfolding EachClass
     own-fields c cs t p = p.each c.fields t.classes.0.fields (sym (class_counted c cs t s))
 
-    pub names_here : {line : ℕ} → line ≢ 0 → FieldsFree R (at + 1) n line → NamesFree R E at line
+    names_here : {r : Refusal} → FieldsFree R (at + 1) n (Err r) → NamesFree R E at (Err r)
     unfolding names_free bind_checked
-    names_here {line} l p = record { each = λ k cs t. go k cs t }
+    names_here {r} p = record { each = λ k cs t. go k cs t }
       where
-        go : (k : ℕ) (cs : List Class)
-            → ClassesStand R E k cs at → names_free (at + 1) cs ≡ pass_of reserved_refusal line
+        go : (k : ℕ) (cs : List Class) → ClassesStand R E k cs at → verdict (names_free (at + 1) cs) ≡ Err r
         go k [] t = absurd (no_class at t.start h)
-        go k (c ∷ cs) t = rw (own-fields c cs t p, pass_refuse 12 line (omega (arith, l)))
+        go k (c ∷ cs) t = rw (result_err (λ u. u) _ r (own-fields c cs t p))
 
-    pub names_step : {line q m : ℕ} → m ≡ 0 → FieldsFree R (at + 1) n m → MethodsPassed R E (at + 1 + n) q
-        → NamesFree R E q line → NamesFree R E at line
+    names_step : {v : Result (Unit {0}) Refusal} {q : ℕ} → FieldsFree R (at + 1) n (Ok tt)
+        → MethodsPassed R E (at + 1 + n) q → NamesFree R E q v → NamesFree R E at v
     unfolding names_free bind_checked
-    names_step {line} {q} {m} l p u v = record { each = λ k cs t. go k cs t }
+    names_step {v} {q} p u w = record { each = λ k cs t. go k cs t }
       where
-        go : (k : ℕ) (cs : List Class)
-            → ClassesStand R E k cs at → names_free (at + 1) cs ≡ pass_of reserved_refusal line
+        go : (k : ℕ) (cs : List Class) → ClassesStand R E k cs at → verdict (names_free (at + 1) cs) ≡ v
         go k [] t = absurd (no_class at t.start h)
         go k (c ∷ cs) t =
             let y = class_passed c cs t s u in
-            let w : q + 1 ≡ at + 1 + class_lines c = omega (arith, y) in
-            rw (own-fields c cs t (rw l at p), ← w) (v.each (suc k) cs (class_rest c cs t q y))
+            let z : q + 1 ≡ at + 1 + class_lines c = omega (arith, y) in
+            let o = result_ok (λ u. u) _ (own-fields c cs t p) in
+            rw (o.is, ← z) (w.each (suc k) cs (class_rest c cs t q y))
+
+-- no class before a row has a reserved name
+pub record ClassesLeft (R E : List ℕ) (at row : ℕ) : Type 0 where
+  pub rest : SomeClassesStand R E row
+  pub whole : (v : Result (Unit {0}) Refusal) → NamesFree R E row v → NamesFree R E at v
+
+pub classes_start : {R E : List ℕ} {at : ℕ} → SomeClassesStand R E at → ClassesLeft R E at at
+classes_start x = record { rest = x; whole = λ v w. w }
+
+module _ {R E : List ℕ} {at row : ℕ} (l : ClassesLeft R E at row) where
+  pub classes_end : get_or R (row * 4) 0 ≢ 67 → NamesFree R E at (Ok tt)
+  classes_end h = l.whole _ (names_none h)
+
+  module _ (h : get_or R (row * 4) 0 ≡ 67) {n : ℕ} (s : Run R 70 (row + 1) n) where
+    pub classes_stop : {r : Refusal} → FieldsFree R (row + 1) n (Err r) → NamesFree R E at (Err r)
+    classes_stop p = l.whole _ (names_here s h p)
+
+    pub classes_more : {q : ℕ} → FieldsFree R (row + 1) n (Ok tt) → MethodsPassed R E (row + 1 + n) q
+        → ClassesLeft R E at q × (row < q)
+    classes_more p u = let x = class_next h s u l.rest in
+        (record { rest = x.0; whole = λ v w. l.whole v (names_step s h p u w) }, x.1)
 
 -- what a check of several things answers, from what its parts do
 required : {B : Type 0} (t : Bool) (n l : ℕ) (k : Bool → Checked B) {c : Checked B} → t ≡ true → k true ≡ c
@@ -265,12 +322,12 @@ module _ {R E T : List ℕ} {at : ℕ} where
       go [] t = absurd (no_class at t.stand.start h)
       go (c ∷ cs) t = let y = counted_super c cs t in omega (arith, y.0, y.1, t.tables.long)
 
-  pub limited_none : get_or R (at * 4) 0 ≢ 67 → FieldsLimited R E T at 0
+  limited_none : get_or R (at * 4) 0 ≢ 67 → FieldsLimited R E T at (Ok tt)
   unfolding check_classes
   limited_none h = record { each = λ P k cs t. go P k cs t }
     where
       go : (P : List Class) (k : ℕ) (cs : List Class)
-          → ClassesCounted P R E T k cs at → check_classes of_translator P k (at + 1) cs ≡ passed
+          → ClassesCounted P R E T k cs at → verdict (check_classes of_translator P k (at + 1) cs) ≡ Ok tt
       go P k [] t = refl
       go P k (c ∷ cs) t = absurd (not_class c cs t.stand h)
 
@@ -285,39 +342,46 @@ module _ {R E T : List ℕ} {at : ℕ} where
     room-is c cs t = let x = counted_super c cs t in
         (z ∙ rw (f, e, x.0, x.2), class_counted c cs t.stand s)
 
-    pub limited_here : (line : ℕ) → line ≡ at + 2 + room → room < n → FieldsLimited R E T at line
+    limited_here : (line : ℕ) → line ≡ at + 2 + room → room < n
+        → FieldsLimited R E T at (Err (refusal limit_refusal line))
     unfolding check_classes
     limited_here line y l = record { each = λ P k cs t. go P k cs t }
       where
         go : (P : List Class) (k : ℕ) (cs : List Class)
-            → ClassesCounted P R E T k cs at → check_classes of_translator P k (at + 1) cs
-            ≡ pass_of limit_refusal line
+            → ClassesCounted P R E T k cs at → verdict (check_classes of_translator P k (at + 1) cs)
+            ≡ Err (refusal limit_refusal line)
         go P k [] t = absurd (no_class at t.stand.start h)
         go P k (c ∷ cs) t =
             let x = room-is c cs t in let q = counted_class c cs t in
             let w : at + 1 + 1 + (16 - length ((world P).fields c.super)) ≡ line = omega (arith, y, x.0) in
             let l' : 16 - length ((world P).fields c.super) < length c.fields =
             omega (arith, x.0, x.1, l) in
-            stopped _ _ (class_over P k (at + 1) c q.0 q.1 l')
-            ∙ (ap (λ (n : ℕ). refuse limit_refusal n) w ∙ sym (pass_refuse 2 line (omega (arith, y))))
+            rw (
+              stopped _ (λ _. check_classes of_translator P (suc k) (at + 1 + class_lines c) cs)
+                  (class_over P k (at + 1) c q.0 q.1 l'),
+              w,
+            )
 
-    pub limited_step : {q line : ℕ} → n ≤ room → MethodsPassed R E (at + 1 + n) q → FieldsLimited R E T q line
-        → FieldsLimited R E T at line
+    limited_step : {q : ℕ} {v : Result (Unit {0}) Refusal} → n ≤ room → MethodsPassed R E (at + 1 + n) q
+        → FieldsLimited R E T q v → FieldsLimited R E T at v
     unfolding check_classes
-    limited_step {q} {line} l u v = record { each = λ P k cs t. go P k cs t }
+    limited_step {q} {v} l u w = record { each = λ P k cs t. go P k cs t }
       where
         go : (P : List Class) (k : ℕ) (cs : List Class)
-            → ClassesCounted P R E T k cs at → check_classes of_translator P k (at + 1) cs
-            ≡ pass_of limit_refusal line
+            → ClassesCounted P R E T k cs at → verdict (check_classes of_translator P k (at + 1) cs) ≡ v
         go P k [] t = absurd (no_class at t.stand.start h)
         go P k (c ∷ cs) t =
             let x = room-is c cs t in let p = counted_class c cs t in let y =
             class_passed c cs t.stand s u in
-            let w : q + 1 ≡ at + 1 + class_lines c = omega (arith, y) in
+            let z : q + 1 ≡ at + 1 + class_lines c = omega (arith, y) in
             let l' : length c.fields ≤ 16 - length ((world P).fields c.super) =
             omega (arith, x.0, x.1, l) in
-            bound _ _ (class_few P k (at + 1) c p.0 p.1 l')
-            (rw (← w) (v.each P (suc k) cs (counted_rest c cs t q y)))
+            rw (
+              bound _ (λ _. check_classes of_translator P (suc k) (at + 1 + class_lines c) cs)
+                  (class_few P k (at + 1) c p.0 p.1 l') refl,
+              ← z,
+            )
+            (w.each P (suc k) cs (counted_rest c cs t q y))
 
     pub counted_stand : SomeCounted R E T at → SomeMethodsStand R E (at + 1 + n)
     counted_stand x = class_stand h s (stands x)
@@ -332,3 +396,27 @@ module _ {R E T : List ℕ} {at : ℕ} where
           record { P = x.P; k = suc x.k; cs = cs; counted = counted_rest c cs t q y },
           omega (arith, y, class_positive c),
         )
+
+-- no class before a row has a field too many
+pub record FieldsLeft (R E T : List ℕ) (at row : ℕ) : Type 0 where
+  pub rest : SomeCounted R E T row
+  pub whole : (v : Result (Unit {0}) Refusal) → FieldsLimited R E T row v → FieldsLimited R E T at v
+
+pub fields_start : {R E T : List ℕ} {at : ℕ} → SomeCounted R E T at → FieldsLeft R E T at at
+fields_start x = record { rest = x; whole = λ v w. w }
+
+module _ {R E T : List ℕ} {at row : ℕ} (l : FieldsLeft R E T at row) where
+  pub fields_end : get_or R (row * 4) 0 ≢ 67 → FieldsLimited R E T at (Ok tt)
+  fields_end h = l.whole _ (limited_none h)
+
+  module _ {n above inherited room : ℕ} (h : get_or R (row * 4) 0 ≡ 67) (s : Run R 70 (row + 1) n)
+      (e : above ≡ get_or R (row * 4 + 2) 0) (f : inherited ≡ get_or T (above * 576 + 515) 0)
+      (z : room ≡ 16 - inherited) where
+    pub fields_stop : (line : ℕ) → line ≡ row + 2 + room → room < n
+        → FieldsLimited R E T at (Err (refusal limit_refusal line))
+    fields_stop line y g = l.whole _ (limited_here s h e f z line y g)
+
+    pub fields_more : {q : ℕ} → n ≤ room → MethodsPassed R E (row + 1 + n) q
+        → FieldsLeft R E T at q × (row < q)
+    fields_more g u = let x = counted_next s h e f z u l.rest in
+        (record { rest = x.0; whole = λ v w. l.whole v (limited_step s h e f z g u w) }, x.1)

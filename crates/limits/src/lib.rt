@@ -1,18 +1,18 @@
 // The translator's own refusals of accepted rows: what passes its limits, and the field names that it keeps for itself.
 #![tactic(auto)]
 
-ghost use Rattle.std.specs.Prelude.{◌≡◌, ◌-◌, ◌*◌, ◌≤◌, length};
+ghost use Rattle.std.specs.Prelude.{◌≡◌, ◌*◌, ◌≤◌, length};
 ghost use Rattle.emitters.specs.Writing.{SomeFieldLines};
 ghost use Rattle.limits.specs.Standing.{SomeMethodsStand, MethodsPassed, SomeClassesStand};
-ghost use Rattle.limits.specs.Bounds.{SomeCounted, FieldsLimited, FieldsFree, NamesFree, limits_told};
+ghost use Rattle.limits.specs.Bounds.{SomeCounted, FieldsLimited, FieldsFree, NamesFree, first_refused};
 ghost use Rattle.limits.specs.Bounds.{SomeChecked, Limited};
-ghost use Rattle.language.specs.Limits.{of_check, of_translator, numbers_a_row};
+ghost use Rattle.language.specs.Limits.{of_check, numbers_a_row};
 
 use emitters::rows::field_name;
 use form::Formed;
 use language::{
-    CLASS, COUNT_PLACE, FIELD, Filled, ID, IMP, LIMIT_REFUSAL, METHOD, class_entry, letter_at,
-    second,
+    CLASS, COUNT_PLACE, FIELD, ID, IMP, LIMIT_REFUSAL, METHOD, RESERVED_REFUSAL, Refusal,
+    class_entry, letter_at, second,
 };
 
 // How many rows the translator's input may have, and how many fields a class of it.
@@ -25,108 +25,90 @@ fn after_methods(rows: &[u32], ends: &[u16], at: usize) -> usize
     requires { SomeMethodsStand rows.now ends.now at }
     ensures { MethodsPassed rows.now ends.now at result }
 {
-    if letter_at(rows, at) != METHOD {
-        return at;
+    let mut row = at;
+    while letter_at(rows, row) == METHOD {
+        row = layout::skip_method(rows, ends, row);
     }
-    let next = layout::skip_method(rows, ends, at);
-    after_methods(rows, ends, next)
+    row
 }
 
-// How many fields a class may add to those it inherits.
-fn field_room(inherited: usize) -> usize
-    ensures { result ≡ of_translator.fields - inherited }
-{
-    if FIELD_LIMIT < inherited {
-        return 0;
-    }
-    FIELD_LIMIT - inherited
-}
-
-// The line of the first field over the limit, from the class at row `at` on; 0 for none.
-fn over_fields(rows: &[u32], ends: &[u16], tables: &[u16], at: usize) -> u32
+// Refuses the first field over the limit, of the classes from row `at` on.
+fn check_fields(rows: &[u32], ends: &[u16], tables: &[u16], at: usize) -> Result<(), Refusal>
     requires { SomeCounted rows.now ends.now tables.now at }
     ensures { FieldsLimited rows.now ends.now tables.now at result }
 {
-    if letter_at(rows, at) != CLASS {
-        return 0;
+    let mut row = at;
+    while letter_at(rows, row) == CLASS {
+        let inherited = class_entry(tables, second(rows, row), COUNT_PLACE) as usize;
+        let room = FIELD_LIMIT.saturating_sub(inherited);
+        let fields = row + 1;
+        let n = layout::count_rows(rows, fields, FIELD);
+        if room < n {
+            let line = (fields + room) as u32 + 1;
+            return Err(Refusal {
+                number: LIMIT_REFUSAL,
+                line,
+            });
+        }
+        row = after_methods(rows, ends, fields + n);
     }
-    let above = second(rows, at);
-    let room = field_room(class_entry(tables, above, COUNT_PLACE) as usize);
-    let fields = at + 1;
-    let n = layout::count_rows(rows, fields, FIELD);
-    if room < n {
-        return (fields + room) as u32 + 1;
-    }
-    let next = after_methods(rows, ends, fields + n);
-    over_fields(rows, ends, tables, next)
+    Ok(())
 }
 
-// The line of the first of `count` F lines with a reserved name; 0 for none.
-fn reserved_field(rows: &[u32], at: usize, count: usize) -> u32
+// Refuses the first of `count` F lines with a reserved name.
+fn check_names(rows: &[u32], at: usize, count: usize) -> Result<(), Refusal>
     requires { SomeFieldLines rows.now at count × (length rows.now ≤ numbers_a_row * of_check.rows) }
     ensures { FieldsFree rows.now at count result }
 {
-    if count == 0 {
-        return 0;
+    for row in at..at + count {
+        let name = field_name(rows, row);
+        if name == ID || name == IMP {
+            return Err(Refusal {
+                number: RESERVED_REFUSAL,
+                line: row as u32 + 1,
+            });
+        }
     }
-    let name = field_name(rows, at);
-    if name == ID {
-        return at as u32 + 1;
-    }
-    if name == IMP {
-        return at as u32 + 1;
-    }
-    reserved_field(rows, at + 1, count - 1)
+    Ok(())
 }
 
 // The same of the classes from row `at` on.
-pub fn reserved_name(rows: &[u32], ends: &[u16], at: usize) -> u32
+pub fn check_reserved(rows: &[u32], ends: &[u16], at: usize) -> Result<(), Refusal>
     requires { SomeClassesStand rows.now ends.now at }
     ensures { NamesFree rows.now ends.now at result }
 {
-    if letter_at(rows, at) != CLASS {
-        return 0;
+    let mut row = at;
+    while letter_at(rows, row) == CLASS {
+        let fields = row + 1;
+        let n = layout::count_rows(rows, fields, FIELD);
+        check_names(rows, fields, n)?;
+        row = after_methods(rows, ends, fields + n);
     }
-    let fields = at + 1;
-    let n = layout::count_rows(rows, fields, FIELD);
-    let line = reserved_field(rows, fields, n);
-    if line != 0 {
-        return line;
-    }
-    let next = after_methods(rows, ends, fields + n);
-    reserved_name(rows, ends, next)
+    Ok(())
 }
 
-// What a field over the limit, on a line or 0, makes of an answer.
-fn with_fields(formed: Formed, line: u32) -> Filled
-    ensures { result ≡ limits_told formed line }
+// Of the refusals of form and of fields the one on the earlier line.
+fn first_refused(
+    formed: Result<Formed, Refusal>,
+    fields: Result<(), Refusal>,
+) -> Result<(), Refusal>
+    ensures { result ≡ first_refused formed fields }
 {
-    match formed {
-        Formed::InForm(n, s) => {
-            if line == 0 {
-                return Filled::Done(0);
-            }
-            Filled::Refused(LIMIT_REFUSAL, line)
-        }
-        Formed::Refused(number, first) => {
-            if line == 0 {
-                return Filled::Refused(number, first);
-            }
-            if line < first {
-                return Filled::Refused(LIMIT_REFUSAL, line);
-            }
-            Filled::Refused(number, first)
-        }
+    let Err(form) = formed else {
+        return fields;
+    };
+    match fields {
+        Err(field) if field.line < form.line => Err(field),
+        _ => Err(form),
     }
 }
 
 // The translator's limits.
-pub fn over_limits(rows: &[u32], ends: &[u16], tables: &[u16]) -> Filled
+pub fn check_limits(rows: &[u32], ends: &[u16], tables: &[u16]) -> Result<(), Refusal>
     requires { SomeChecked rows.now ends.now tables.now }
     ensures { Limited rows.now ends.now tables.now result }
 {
-    let mut scratch = [0u16; ROW_LIMIT];
+    let mut scratch = [0; ROW_LIMIT];
     let formed = form::check_translatable(rows, &mut scratch);
-    let line = over_fields(rows, ends, tables, 0);
-    with_fields(formed, line)
+    first_refused(formed, check_fields(rows, ends, tables, 0))
 }
