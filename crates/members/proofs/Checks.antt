@@ -1,30 +1,68 @@
 -- Laws of the checks: what each line's fault makes of them. Assumes nothing.
-use mathlib.Core.Path.{◌≡◌, refl, ap, ◌∙◌}
+use mathlib.Core.Path.{◌≡◌, refl, sym, ap, ◌∙◌}
 use mathlib.Core.Bool.{Bool, true, false, not, ◌&&◌, cond}
 use mathlib.Core.List.{List, [], ◌∷◌, ◌++◌}
 use Prim.Native.Nat.{ℕ, zero, suc, ◌+◌}
-use native.Mathlib.Omega.{arith}
 use lib.ListN.{length}
 use lib.Dec.{ltb}
+use Rattle.std.specs.Prelude.{Result, Ok, Err}
 use Rattle.language.specs.Limits.{of_check}
 use Rattle.language.specs.Results.{Checked, accept, refuse, Pass, passed, bind_checked, require}
+use Rattle.language.specs.Refusals.{result_of}
+use Rattle.language.specs.declared.Refusal.{Refusal}
+use Rattle.language.proofs.Refusals.{result_ok, result_err}
 use Rattle.language.specs.Tree.{Field, Declaration, Class, method_lines}
 use Rattle.language.specs.World.{place, is_declared, is_declared_type}
 use Rattle.language.specs.Program.{declared, kind_at, is_root_class, is_state_type, world}
 use Rattle.language.specs.Headings.{is_some, may_extend, may_override, check_fields, check_parameters}
 use Rattle.language.specs.Headings.{check_effects, check_methods, check_class}
 use Rattle.members.specs.Answers.{headed}
-use Rattle.members.specs.declared.Headed.{Headed}
-use Rattle.members.specs.declared.Headed.TheVariants.{Passed, Refused}
 use Rattle.members.specs.Faults.{faulty, fault_of_field, fault_of_method, fault_of_effect}
 use Rattle.members.specs.Faults.{fault_of_class, check_heading}
 
 pub faulty_none : (n at : ℕ) (rest : Pass) → n ≡ 0 → faulty n at rest ≡ rest
 faulty_none n at rest e = rw e
 
-pub faulty_some : (n at : ℕ) (rest : Pass) → (n ≡ 0 → ⊥) → faulty n at rest ≡ refuse n at
-faulty_some zero at rest f = absurd (f refl)
-faulty_some (suc n) at rest f = refl
+-- ---- answers as the code gives them
+
+module _ {A : Type 0} (f : Unit {0} → A) where
+  pub refused_is : (x : Pass) (e : Refusal) → x ≡ refuse e.number e.line
+      → ◌≡◌ {A = Result A Refusal} (Err e) (result_of f x)
+  refused_is x e q = rw q
+
+  pub passed_is : (x : Pass) → x ≡ passed → ◌≡◌ {A = Result A Refusal} (Ok (f tt)) (result_of f x)
+  passed_is x q = rw q
+
+  pub is_passed : (x : Pass) {a : A} → ◌≡◌ {A = Result A Refusal} (Ok a) (result_of f x) → x ≡ passed
+  is_passed x q = (result_ok f x (sym q)).is
+
+  pub is_refused : (x : Pass) (e : Refusal) → ◌≡◌ {A = Result A Refusal} (Err e) (result_of f x)
+      → x ≡ refuse e.number e.line
+  is_refused x e q = result_err f x e (sym q)
+
+pub passed_count : (count : ℕ) (x : Pass) (m : ℕ) → ◌≡◌ {A = Result ℕ Refusal} (Ok m) (headed count x)
+    → m ≡ count
+passed_count count (accept a) m e = cc
+passed_count count (refuse n l) m e = absurd (cc)
+
+-- what the answer on one line tells of its fault, and of a check that begins with that line
+abbrev pub line_case : ℕ → ℕ → Result (Unit {0}) Refusal
+line_case n at = result_of (λ u. u) (faulty n at passed)
+
+pub fault_refused : (n at : ℕ) (rest : Pass) (e : Refusal) → Err e ≡ line_case n at
+    → faulty n at rest ≡ refuse e.number e.line
+fault_refused zero at rest e q = absurd (cc)
+fault_refused (suc n) at rest e q = is_refused (λ u. u) (refuse (suc n) at) e q
+
+pub fault_none : (n at : ℕ) → Ok tt ≡ line_case n at → n ≡ 0
+fault_none zero at q = refl
+fault_none (suc n) at q = absurd (cc)
+
+-- two faults that are the same
+pub same_fault : (at : ℕ) {n m : ℕ} → n ≡ m → line_case n at ≡ line_case m at
+same_fault at e = ap (λ n. line_case n at) e
+
+-- ---- checks line by line
 
 four : (a b c d : Bool) (at : ℕ) (rest : Pass)
     → require a 2 at (λ _. require b 4 at (λ _. require (not c) 4 at (λ _. require (not d) 5 at (λ _. rest))))
@@ -90,18 +128,17 @@ module _ (P : List Class) where
   unfolding check_heading
   heading_is super before at m = refl
 
-  pub heading_refused : (super : ℕ) (before : List Declaration) (at : ℕ) (m : Declaration) (n : ℕ)
-      → n ≡ fault_of_method P super before m → (n ≡ 0 → ⊥)
-      → check_heading P super before at m ≡ refuse n at
-  heading_refused super before at m n e z = heading_is super before at m ∙ rw (← e) (faulty_some n at _ z)
+  pub heading_refused : (super : ℕ) (before : List Declaration) (at : ℕ) (m : Declaration) (e : Refusal)
+      → Err e ≡ line_case (fault_of_method P super before m) at
+      → check_heading P super before at m ≡ refuse e.number e.line
+  heading_refused super before at m e q = heading_is super before at m ∙ fault_refused _ at _ e q
 
   pub heading_on : (super : ℕ) (before : List Declaration) (at : ℕ) (m : Declaration)
-      → fault_of_method P super before m ≡ 0
+      → Ok tt ≡ line_case (fault_of_method P super before m) at
       → check_heading P super before at m
       ≡ bind_checked (check_parameters of_check P (at + 1) m.parameters) λ _.
       check_effects of_check P 0 (at + 1 + length m.parameters) m.effects
-  heading_on super before at m e = heading_is super before at m
-      ∙ faulty_none (fault_of_method P super before m) at _ e
+  heading_on super before at m q = heading_is super before at m ∙ faulty_none _ at _ (fault_none _ at q)
 
   pub methods_step : (super : ℕ) (before : List Declaration) (at : ℕ) (m : Declaration)
       (ms : List Declaration)
@@ -137,26 +174,3 @@ bind_passed x y e = rw e
 pub bind_refused : (x y : Pass) (n l : ℕ) → x ≡ refuse n l → bind_checked x (λ _. y) ≡ refuse n l
 unfolding bind_checked
 bind_refused x y n l e = rw e
-
--- an answer as the code gives it
-pub refused_is : (count : ℕ) (x : Pass) (n l : ℕ) → x ≡ refuse n l → Refused n l ≡ headed count x
-refused_is count x n l e = rw e
-
-pub passed_is : (count : ℕ) (x : Pass) → x ≡ passed → Passed count ≡ headed count x
-passed_is count x e = rw e
-
-pub is_passed : (count : ℕ) (x : Pass) (m : ℕ) → Passed m ≡ headed count x → x ≡ passed
-is_passed count (accept tt) m e = refl
-is_passed count (refuse n l) m e = let z : ◌≡◌ {A = ℕ} 0 1 = cc in absurd (omega arith)
-
-pub passed_count : (count : ℕ) (x : Pass) (m : ℕ) → Passed m ≡ headed count x → m ≡ count
-passed_count count (accept a) m e = cc
-passed_count count (refuse n l) m e = let z : ◌≡◌ {A = ℕ} 0 1 = cc in absurd (omega arith)
-
-pub is_refused : (count : ℕ) (x : Pass) (n l : ℕ) → Refused n l ≡ headed count x → x ≡ refuse n l
-is_refused count (accept a) n l e = let z : ◌≡◌ {A = ℕ} 0 1 = cc in absurd (omega arith)
-is_refused count (refuse m k) n l e = let p : n ≡ m = cc in let q : l ≡ k = cc in rw (p, q)
-
--- an answer is not both
-pub not_both : {A : Type 0} {h : Headed} {m n l : ℕ} → h ≡ Passed m → h ≡ Refused n l → A
-not_both p q = let z : ◌≡◌ {A = ℕ} 0 1 = cc in absurd (omega arith)

@@ -8,7 +8,10 @@ use native.Mathlib.Omega.{arith}
 use borrow.Author.Tests.{eqb-true}
 use lib.Dec.{eqb}
 use lib.ListN.{length, get_or}
+use Rattle.std.specs.Prelude.{Ok, Err}
 use Rattle.language.specs.Limits.{of_check}
+use Rattle.language.specs.Refusals.{result_of}
+use Rattle.language.specs.declared.Refusal.{Refusal}
 use Rattle.language.specs.Lists.{nth, given, choice, map_option, Never, inj}
 use Rattle.language.specs.Results.{Pass, passed, bind_checked}
 use Rattle.language.specs.Tree.{Declaration, Class, heading_lines, method_lines}
@@ -21,8 +24,6 @@ use Rattle.language.specs.Layout.{MethodAt}
 use Rattle.language.specs.WellFormed.{MethodInForm}
 use Rattle.layout.specs.Found.{methods_few}
 use Rattle.members.specs.Answers.{headed}
-use Rattle.members.specs.declared.Headed.{Headed}
-use Rattle.members.specs.declared.Headed.TheVariants.{Passed, Refused}
 use Rattle.members.specs.Blocks.{Working}
 use Rattle.members.specs.Faults.{faulty, fault_of_method, check_heading}
 use Rattle.members.specs.Numbers.{placed, own_or, own_number, with_number, Numbered}
@@ -206,23 +207,16 @@ module _ {R E T₀ M₀ F₀ : List ℕ} {r k first count : ℕ} (w : MethodsRea
           ∙ (ap (check_methods of_check P w.super p.before (at + 1)) one.2
           ∙ methods_step P w.super p.before (at + 1) one.0 one.1)
 
-      module _ (a : Headed) (T' M' F' : List ℕ) (f : (v : MethodReady R T M F at k first next count)
-          → (a ≡ headed 1 (check_heading v.line.program.classes v.line.super v.line.before
-          (at + 1)
-          v.line.method))
-          × ((n : ℕ) → a ≡ Passed n
-          → Working v.line.program.classes k T' v.line.fields v.line.rows
-          (with_number v.line.method.name next (own_or v.line.own
-          (method_number v.line.program.classes v.line.super)))
-          × Numbered v.line.program.classes M' F' (next + 1))) where
-        pub entering_refused : (m n : ℕ) → a ≡ Refused m n → a ≡ headed (length w.one.methods) checking
-        entering_refused m n e = e
-            ∙ refused_is (length w.one.methods) _ m n (methods-on ∙ bind_refused _ _ m n
-            (is_refused 1 _ m n (sym e ∙ (f entering_ready).0)))
+      pub entering_refused : (e : Refusal)
+          → Err e ≡ result_of (λ u. u) (check_heading w.program.classes w.super p.before (at + 1) one.0)
+          → Err e ≡ headed (length w.one.methods) checking
+      entering_refused e q = refused_is (λ _. length w.one.methods) _ e
+          (methods-on ∙ bind_refused _ _ e.number e.line (is_refused (λ u. u) _ e q))
 
-        module _ (n : ℕ) (e : a ≡ Passed n) where
+      module _ (q : Ok tt ≡ result_of (λ u. u) (check_heading w.program.classes w.super p.before (at + 1) one.0))
+        where
           fine : check_heading P w.super p.before (at + 1) one.0 ≡ passed
-          fine = is_passed 1 _ n (sym e ∙ (f entering_ready).0)
+          fine = is_passed (λ u. u) _ q
 
           new : p.own one.0.name ≡ none
           new = no_number (p.own one.0.name)
@@ -268,12 +262,15 @@ module _ {R E T₀ M₀ F₀ : List ℕ} {r k first count : ℕ} (w : MethodsRea
           numbers-next i x h = let z : next + 1 + i ≡ next + suc i = omega arith in
               ap (nth (placed_methods P)) z ∙ numbers_on (suc i) x h
 
-          pub entering_step : (n : ℕ) → ((v : MethodStanding R E at) → n ≡ at + method_lines v.method)
+          pub entering_step : (T' M' F' : List ℕ)
+              → Working w.program.classes k T' w.fields w.rows
+              (with_number one.0.name next (own_or p.own (method_number w.program.classes w.super)))
+              × Numbered w.program.classes M' F' (next + 1)
+              → (n : ℕ) → ((v : MethodStanding R E at) → n ≡ at + method_lines v.method)
               → Entering T' M' F' n (next + 1)
-          entering_step n g =
+          entering_step T' M' F' y n g =
               let q : n ≡ at + method_lines one.0 = g entering_here in
               let d : at + method_lines one.0 + 1 ≡ at + 1 + method_lines one.0 = omega arith in
-              let y = (f entering_ready).1 _ e in
               rw q (record {
                 before = one.0 ∷ p.before;
                 own = with_number one.0.name next p.own;
@@ -298,10 +295,10 @@ module _ {R E T₀ M₀ F₀ : List ℕ} {r k first count : ℕ} (w : MethodsRea
       total : next ≡ first + length w.one.methods
       total = omega (arith, p.left, ap length over)
 
-      pub entering_end : Passed (next - first) ≡ headed (length w.one.methods) checking
+      pub entering_end : Ok (next - first) ≡ headed (length w.one.methods) checking
       unfolding check_methods
       entering_end = let z : next - first ≡ length w.one.methods = omega (arith, total) in
-          rw z (passed_is (length w.one.methods) _ (p.answer ∙ ap
+          rw z (passed_is (λ _. length w.one.methods) _ (p.answer ∙ ap
           (check_methods of_check P w.super p.before (at + 1)) over))
 
       pub entering_done : Working w.program.classes k T w.fields w.rows

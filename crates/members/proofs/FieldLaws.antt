@@ -1,30 +1,33 @@
 -- Laws of F lines: their faults, and what holds between two of them. Assumes nothing.
-use mathlib.Core.Path.{◌≡◌, refl, sym, ap, ◌∙◌}
+use mathlib.Core.Path.{◌≡◌, refl, sym, ap, subst, ◌∙◌}
 use mathlib.Core.Bool.{Bool, true, false, not, cond}
 use mathlib.Core.Option.{Option, none, some}
 use mathlib.Core.List.{List, [], ◌∷◌, ◌++◌, append_assoc, append-nil}
-use Prim.Native.Nat.{ℕ, suc, ◌+◌, ◌*◌, ◌≤◌, ◌<◌}
+use Prim.Native.Nat.{ℕ, suc, ◌+◌, ◌-◌, ◌*◌, ◌≤◌, ◌<◌}
 use native.Mathlib.Omega.{arith}
 use borrow.Author.Tests.{eq-eqb, ne_eqb, lt-ltb, le-ltb, ltb-true}
 use lib.Dec.{eqb, ltb}
 use lib.ListN.{length, get_or, set}
+use Rattle.std.specs.Prelude.{Ok, Err}
 use Rattle.language.specs.Limits.{of_check}
-use Rattle.language.specs.Tree.{type_of_number, Field, Class}
+use Rattle.language.specs.Refusals.{result_of}
+use Rattle.language.specs.declared.Refusal.{Refusal}
+use Rattle.language.specs.Rows.{F_field}
+use Rattle.language.specs.Tree.{type_number, type_of_number, Field, Class}
 use Rattle.language.specs.World.{place, is_declared_type}
 use Rattle.language.specs.Program.{is_state_type, world}
 use Rattle.language.specs.Headings.{is_some, check_fields}
 use Rattle.language.specs.ClassTables.{stored_place, rows_from}
-use Rattle.language.specs.Encoded.{LinesAt}
+use Rattle.language.specs.Encoded.{RowAt}
 use Rattle.language.specs.Layout.{FieldsAt}
 use Rattle.language.specs.WellFormed.{Each, each_cons, FieldInForm}
-use Rattle.layout.specs.Found.{FieldHere}
-use Rattle.members.specs.Answers.{headed}
-use Rattle.members.specs.declared.Headed.TheVariants.{Passed, Refused}
 use Rattle.members.specs.Blocks.{Working}
 use Rattle.members.specs.Faults.{faulty, fault_of_field}
 use Rattle.members.specs.Ready.{FieldReady, EnterReady, FieldsReady}
-use Rattle.members.proofs.Checks.{faulty_none, faulty_some, fields_step, refused_is, passed_is}
-use Rattle.members.proofs.Tables.{working_index, working_field}
+use Rattle.members.proofs.Checks.{faulty_none, fields_step, refused_is, passed_is}
+use Rattle.members.proofs.Checks.{line_case, fault_refused, fault_none}
+use Rattle.members.proofs.Loops.{Next, next_line, nil_of, line_among}
+use Rattle.members.proofs.Tables.{working_field}
 
 pub stored_is : (o : Option ℕ) → is_some o ≡ not (eqb (stored_place o) 0)
 stored_is none = refl
@@ -80,23 +83,10 @@ module _ {R T : List ℕ} {r base count : ℕ} (w : FieldReady R T r base count)
 -- ---- entering a field
 
 module _ {R T : List ℕ} {r base : ℕ} (w : EnterReady R T r base) where
-  pub enter_index : (x : ℕ) → x < 576 → base + x < length T
-  enter_index x l = omega (arith, working_index w.working x l, w.base_is)
-
   pub enter_count : get_or T (base + 515) 0 ≡ length w.fields
   enter_count = rw w.base_is w.working.block.count
 
   module _ (f : ℕ) (f-is : f ≡ get_or R (r * 4 + 2) 0) where
-    pub enter_bounds : (get_or T (base + 515) 0 < 17) × (f ≤ 255) × (r * 4 + 3 < length R)
-        × (length R ≤ 240000) × (base + 576 ≤ length T)
-    enter_bounds = (
-      omega (arith, enter_count, w.room),
-      omega (arith, f-is, w.at.line.second, w.at.in_form.name),
-      w.at.line.within,
-      w.short,
-      omega (arith, enter_index 575 (omega arith)),
-    )
-
     pub enter_is : (T' : List ℕ)
         → T' ≡ set (set (set T (base + f) (get_or T (base + 515) 0 + 1))
         (base + 520 + get_or T (base + 515) 0) r) (base + 515) (get_or T (base + 515) 0 + 1)
@@ -125,53 +115,56 @@ sound_field P fs f e =
 
 -- ---- the fields of a class
 
-fields_on : {R : List ℕ} (fs : List Field) (r : ℕ) → FieldsAt R fs r → Each (FieldInForm of_check) fs
-    → 0 < length fs
-    → (f : Field) × (rest : List Field) × (fs ≡ f ∷ rest) × FieldHere R f r × FieldsAt R rest (r + 1)
-    × Each (FieldInForm of_check) rest
-unfolding LinesAt
-fields_on [] r h i l = absurd (omega (arith, l))
-fields_on (f ∷ fs) r h (each_cons i is) l = (f, fs, refl, record { line = h.0; in_form = i }, h.1, is)
-
-pub nil_of : {A : Type 0} (l : List A) → length l ≡ 0 → l ≡ []
-nil_of [] e = refl
-nil_of (x ∷ l) e = absurd (omega (arith, e))
+abbrev FieldRow : List ℕ → Field → ℕ → Type 0
+FieldRow R f i = RowAt R i F_field (type_number f.type) f.name
 
 module _ {R T₀ : List ℕ} {r n base count : ℕ} (w : FieldsReady R T₀ r n base count) where
-  pub record Fielding (T : List ℕ) (i : ℕ) : Type 0 where
+  pub fields_end : 0 < n → r + n ≤ 60000
+  fields_end l =
+      let j = (line_among (FieldRow R) w.own r (r + n - 1) w.here (omega (arith, l))
+      (omega (arith, l, w.n_is))).1 in
+      omega (arith, j.within, w.short, l)
+
+  pub record Fielding (T : List ℕ) (at : ℕ) : Type 0 where
     pub before : List Field
     pub rows : List ℕ
     pub rest : List Field
-    pub here : FieldsAt R rest (r + i)
+    pub here : FieldsAt R rest at
     pub in_form : Each (FieldInForm of_check) rest
-    pub left : i + length rest ≡ n
+    pub sum : at + length rest ≡ r + n
     pub working : Working w.P w.k T before rows w.methods
     pub answer : check_fields of_check w.P w.fields (r + 1) w.own
-        ≡ check_fields of_check w.P before (r + i + 1) rest
+        ≡ check_fields of_check w.P before (at + 1) rest
     pub all : before ++ rest ≡ w.fields ++ w.own
-    pub all_rows : rows ++ rows_from (r + i) rest ≡ w.rows ++ rows_from r w.own
+    pub all_rows : rows ++ rows_from at rest ≡ w.rows ++ rows_from r w.own
 
-  pub fielding_start : Fielding T₀ 0
-  fielding_start = let e : r + 0 ≡ r = omega arith in record {
+  pub fielding_start : Fielding T₀ r
+  fielding_start = record {
     before = w.fields;
     rows = w.rows;
     rest = w.own;
-    here = rw e w.here;
+    here = w.here;
     in_form = w.in_form;
-    left = omega (arith, w.n_is);
+    sum = omega (arith, w.n_is);
     working = w.working;
-    answer = rw e;
+    answer = refl;
     all = refl;
-    all_rows = rw e;
+    all_rows = refl;
   }
 
-  module _ {T : List ℕ} {i : ℕ} (p : Fielding T i) where
-    module _ (l : i < n) where
-      pub next : (f : Field) × (rest : List Field) × (p.rest ≡ f ∷ rest) × FieldHere R f (r + i)
-          × FieldsAt R rest (r + i + 1) × Each (FieldInForm of_check) rest
-      next = fields_on p.rest (r + i) p.here p.in_form (omega (arith, l, p.left))
+  module _ {T : List ℕ} {at : ℕ} (p : Fielding T at) where
+    module _ (l : at < r + n) where
+      pub next : Next (FieldRow R) p.rest at
+      next = next_line (FieldRow R) p.rest at p.here (omega (arith, l, p.sum))
 
-      abbrev pub fielding_ready : FieldReady R T (r + i) base count
+      pub forms : FieldInForm of_check next.one × Each (FieldInForm of_check) next.more
+      forms = go (subst (Each (FieldInForm of_check)) next.is p.in_form)
+        where
+          go : Each (FieldInForm of_check) (next.one ∷ next.more)
+              → FieldInForm of_check next.one × Each (FieldInForm of_check) next.more
+          go (each_cons i is) = (i, is)
+
+      abbrev pub fielding_ready : FieldReady R T at base count
       fielding_ready = record {
         P = w.P;
         k = w.k;
@@ -179,90 +172,81 @@ module _ {R T₀ : List ℕ} {r n base count : ℕ} (w : FieldsReady R T₀ r n 
         rows = p.rows;
         methods = w.methods;
         working = p.working;
-        field = next.0;
-        at = next.3;
+        field = next.one;
+        at = record { line = next.line; in_form = forms.0 };
         base_is = w.base_is;
         count_is = w.count_is;
         short = w.short;
       }
 
-      pub fielding_index : ((r + i) * 4 + 3 < length R) × (length R ≤ 240000)
-      fielding_index = (next.3.line.within, w.short)
-
       fault : check_fields of_check w.P w.fields (r + 1) w.own
-          ≡ faulty (fault_of_field w.P p.before next.0) (r + i + 1)
-          (check_fields of_check w.P (p.before ++ (next.0 ∷ [])) (r + i + 1 + 1) next.1)
-      fault = p.answer ∙ (ap (check_fields of_check w.P p.before (r + i + 1)) next.2 ∙ fields_step
-          w.P p.before (r + i + 1) next.0 next.1)
+          ≡ faulty (fault_of_field w.P p.before next.one) (at + 1)
+          (check_fields of_check w.P (p.before ++ (next.one ∷ [])) (at + 1 + 1) next.more)
+      fault = p.answer ∙ (ap (check_fields of_check w.P p.before (at + 1)) next.is
+          ∙ fields_step w.P p.before (at + 1) next.one next.more)
 
-      module _ (f : ℕ) (e : (v : FieldReady R T (r + i) base count) → f ≡ fault_of_field v.P v.fields
-          v.field) where
-        pub fielding_refused : (f ≡ 0 → ⊥)
-            → Refused f (r + i + 1) ≡ headed 0 (check_fields of_check w.P w.fields (r + 1) w.own)
-        fielding_refused z = refused_is 0 _ f (r + i + 1)
-            (fault ∙ (ap (λ (g : ℕ). faulty g (r + i + 1)
-            (check_fields of_check w.P (p.before ++ (next.0 ∷ [])) (r + i + 1 + 1) next.1))
-            (sym (e fielding_ready))
-            ∙ faulty_some f (r + i + 1) _ z))
+      pub fielding_refused : (e : Refusal)
+          → ((v : FieldReady R T at base count) → Err e ≡ line_case (fault_of_field v.P v.fields v.field) (at + 1))
+          → Err e ≡ result_of (λ u. u) (check_fields of_check w.P w.fields (r + 1) w.own)
+      fielding_refused e q = refused_is (λ u. u) _ e (fault ∙ fault_refused _ (at + 1) _ e (q fielding_ready))
 
-        module _ (z : f ≡ 0) where
-          pub sound : (length p.before < 17) × (place next.0.name p.before ≡ none)
-          sound = sound_field w.P p.before next.0 (sym (e fielding_ready) ∙ z)
+      module _ (q : (v : FieldReady R T at base count)
+          → Ok tt ≡ line_case (fault_of_field v.P v.fields v.field) (at + 1)) where
+        none_is : fault_of_field w.P p.before next.one ≡ 0
+        none_is = fault_none _ (at + 1) (q fielding_ready)
 
-          abbrev pub fielding_enter : EnterReady R T (r + i) base
-          fielding_enter = record {
-            P = w.P;
-            k = w.k;
-            fields = p.before;
-            rows = p.rows;
-            methods = w.methods;
-            working = p.working;
-            field = next.0;
-            at = next.3;
-            base_is = w.base_is;
-            short = w.short;
-            room = sound.0;
-            new = sound.1;
-          }
+        pub sound : (length p.before < 17) × (place next.one.name p.before ≡ none)
+        sound = sound_field w.P p.before next.one none_is
 
-          pub fielding_step : (T' : List ℕ)
-              → ((v : EnterReady R T (r + i) base)
-              → Working v.P v.k T' (v.fields ++ (v.field ∷ [])) (v.rows ++ ((r + i) ∷ []))
-              v.methods)
-              → Fielding T' (i + 1)
-          unfolding rows_from
-          fielding_step T' h =
-              let a : r + (i + 1) ≡ r + i + 1 = omega arith in
-              record {
-                before = p.before ++ (next.0 ∷ []);
-                rows = p.rows ++ ((r + i) ∷ []);
-                rest = next.1;
-                here = rw a next.4;
-                in_form = next.5;
-                left = omega (arith, p.left, ap length next.2);
-                working = h fielding_enter;
-                answer = fault ∙ (faulty_none _ (r + i + 1) _ (sym (e fielding_ready) ∙ z) ∙ rw a);
-                all = append_assoc p.before (next.0 ∷ []) next.1
-                    ∙ (ap (λ (l : List Field). p.before ++ l) (sym next.2) ∙ p.all);
-                all_rows = rw a (append_assoc p.rows ((r + i) ∷ []) (rows_from (r + i + 1) next.1)
-                    ∙ (ap (λ (l : List Field). p.rows ++ rows_from (r + i) l) (sym next.2)
-                    ∙ p.all_rows));
-              }
+        abbrev pub fielding_enter : EnterReady R T at base
+        fielding_enter = record {
+          P = w.P;
+          k = w.k;
+          fields = p.before;
+          rows = p.rows;
+          methods = w.methods;
+          working = p.working;
+          field = next.one;
+          at = record { line = next.line; in_form = forms.0 };
+          base_is = w.base_is;
+          short = w.short;
+          room = sound.0;
+          new = sound.1;
+        }
 
-    module _ (l : n ≤ i) where
+        pub fielding_step : (T' : List ℕ)
+            → ((v : EnterReady R T at base)
+            → Working v.P v.k T' (v.fields ++ (v.field ∷ [])) (v.rows ++ (at ∷ [])) v.methods)
+            → Fielding T' (at + 1)
+        unfolding rows_from
+        fielding_step T' h = record {
+          before = p.before ++ (next.one ∷ []);
+          rows = p.rows ++ (at ∷ []);
+          rest = next.more;
+          here = next.here;
+          in_form = forms.1;
+          sum = omega (arith, p.sum, ap length next.is);
+          working = h fielding_enter;
+          answer = fault ∙ faulty_none _ (at + 1) _ none_is;
+          all = append_assoc p.before (next.one ∷ []) next.more
+              ∙ (ap (λ (l : List Field). p.before ++ l) (sym next.is) ∙ p.all);
+          all_rows = append_assoc p.rows (at ∷ []) (rows_from (at + 1) next.more)
+              ∙ (ap (λ (l : List Field). p.rows ++ rows_from at l) (sym next.is) ∙ p.all_rows);
+        }
+
+    module _ (l : r + n ≤ at) where
       over : p.rest ≡ []
-      over = nil_of p.rest (omega (arith, l, p.left))
+      over = nil_of p.rest (omega (arith, l, p.sum))
 
-      pub fielding_end : Passed 0 ≡ headed 0 (check_fields of_check w.P w.fields (r + 1) w.own)
+      pub fielding_end : Ok tt ≡ result_of (λ u. u) (check_fields of_check w.P w.fields (r + 1) w.own)
       unfolding check_fields
-      fielding_end = passed_is 0 _ (p.answer ∙ rw over)
+      fielding_end = passed_is (λ u. u) _ (p.answer ∙ rw over)
 
-      pub fielding_done : Working w.P w.k T (w.fields ++ w.own) (w.rows ++ rows_from r w.own)
-          w.methods
+      pub fielding_done : Working w.P w.k T (w.fields ++ w.own) (w.rows ++ rows_from r w.own) w.methods
       unfolding rows_from
       fielding_done =
           let a : p.before ≡ w.fields ++ w.own = sym (append-nil p.before)
           ∙ (ap (λ (l : List Field). p.before ++ l) (sym over) ∙ p.all) in
           let b : p.rows ≡ w.rows ++ rows_from r w.own = sym (append-nil p.rows)
-          ∙ (ap (λ (l : List Field). p.rows ++ rows_from (r + i) l) (sym over) ∙ p.all_rows) in
+          ∙ (ap (λ (l : List Field). p.rows ++ rows_from at l) (sym over) ∙ p.all_rows) in
           rw (← a, ← b) p.working

@@ -9,7 +9,10 @@ use borrow.Author.Tests.{eqb-true, eqb-false}
 use lib.Dec.{eqb}
 use lib.ListN.{length, get_or, set}
 use lib.Seq.{get_or-set_same, get_or-set_other}
+use Rattle.std.specs.Prelude.{Ok, Err}
 use Rattle.language.specs.Limits.{of_check}
+use Rattle.language.specs.Refusals.{result_of}
+use Rattle.language.specs.declared.Refusal.{Refusal}
 use Rattle.language.specs.Lists.{nth, choice, nth_lt}
 use Rattle.language.specs.Results.{Pass, passed, bind_checked}
 use Rattle.language.specs.Tree.{Field, Class}
@@ -21,9 +24,6 @@ use Rattle.theory.proofs.lookups.LookupLaws.{each_at}
 use Rattle.theory.proofs.acceptance.AcceptedWell.{effects_well}
 use Rattle.layout.specs.Found.{methods_few}
 use Rattle.layout.specs.Headed.{effects_declared}
-use Rattle.members.specs.Answers.{headed}
-use Rattle.members.specs.declared.Headed.{Headed}
-use Rattle.members.specs.declared.Headed.TheVariants.{Passed, Refused}
 use Rattle.members.specs.Blocks.{Working}
 use Rattle.members.specs.Faults.{fault_of_method, check_heading}
 use Rattle.members.specs.Numbers.{own_or, with_number}
@@ -31,7 +31,7 @@ use Rattle.layout.specs.Walks.{MethodStanding}
 use Rattle.members.specs.Ready.{ParameterLines, EffectsReady, MethodCounted, NumberReady}
 use Rattle.members.specs.Ready.{MethodReady}
 use Rattle.members.proofs.Checks.{heading_refused, heading_on, bind_passed, bind_refused, refused_is}
-use Rattle.members.proofs.Checks.{passed_is, is_passed, is_refused}
+use Rattle.members.proofs.Checks.{passed_is, is_passed, is_refused, line_case}
 use Rattle.layout.proofs.Walks.{parameters_count, effects_count}
 use Rattle.members.proofs.Numbers.{numbered_fewer}
 use Rattle.members.proofs.Tables.{lookups_set, working_index}
@@ -154,48 +154,54 @@ module _ {R T M F : List ℕ} {r k first next count : ℕ} (v : MethodReady R T 
       };
     }
 
-    module _ (n : ℕ) (h : (u : MethodCounted R T M F r p x k first count) → n ≡ fault_of_method
-        u.line.program.classes u.line.super u.line.before u.line.method) where
-      pub method_refused : (n ≡ 0 → ⊥) → Refused n (r + 1) ≡ headed 1 checking
-      method_refused z = refused_is 1 _ n (r + 1)
-          (heading_refused P v.line.super v.line.before (r + 1) v.line.method n (h method_counted)
-          z)
+    pub method_refused : (e : Refusal)
+        → ((u : MethodCounted R T M F r p x k first count)
+        → Err e ≡ line_case (fault_of_method u.line.program.classes u.line.super u.line.before u.line.method)
+        (r + 1))
+        → Err e ≡ result_of (λ u. u) checking
+    method_refused e h = refused_is (λ u. u) _ e
+        (heading_refused P v.line.super v.line.before (r + 1) v.line.method e (h method_counted))
 
-      module _ (z : n ≡ 0) (a : Headed)
-          (i : (u : ParameterLines R (r + 1) p) → (P : List Class) → count ≡ length P
-          → a ≡ headed 0 (check_parameters of_check P (r + 1 + 1) u.types)) where
-        heading : checking ≡ bind_checked (check_parameters of_check P (r + 1 + 1)
-            v.line.method.parameters)
-            (λ _. check_effects of_check P 0 (r + 1 + 1 + length v.line.method.parameters)
-            v.line.method.effects)
-        heading = heading_on P v.line.super v.line.before (r + 1) v.line.method
-            (sym (h method_counted) ∙ z)
+    module _ (h : (u : MethodCounted R T M F r p x k first count)
+        → Ok tt ≡ line_case (fault_of_method u.line.program.classes u.line.super u.line.before u.line.method)
+        (r + 1)) where
+      heading : checking ≡ bind_checked (check_parameters of_check P (r + 1 + 1)
+          v.line.method.parameters)
+          (λ _. check_effects of_check P 0 (r + 1 + 1 + length v.line.method.parameters)
+          v.line.method.effects)
+      heading = heading_on P v.line.super v.line.before (r + 1) v.line.method (h method_counted)
 
-        pub method_parameters_refused : (m l : ℕ) → a ≡ Refused m l → a ≡ headed 1 checking
-        method_parameters_refused m l e = e
-            ∙ refused_is 1 _ m l (heading ∙ bind_refused _ _ m l
-            (is_refused 0 _ m l (sym e ∙ i method_types P v.line.count_is)))
+      pub method_parameters_refused : (e : Refusal)
+          → ((u : ParameterLines R (r + 1) p) → (P : List Class) → count ≡ length P
+          → Err e ≡ result_of (λ u. u) (check_parameters of_check P (r + 1 + 1) u.types))
+          → Err e ≡ result_of (λ u. u) checking
+      method_parameters_refused e i = refused_is (λ u. u) _ e (heading ∙ bind_refused _ _ e.number e.line
+          (is_refused (λ u. u) _ e (i method_types P v.line.count_is)))
 
-        module _ (m : ℕ) (e : a ≡ Passed m) (b : Headed)
-            (j : (u : EffectsReady R T (r + 1 + p) x count)
-            → b ≡ headed 0 (check_effects of_check u.table.P 0 (r + 1 + p + 1) u.lines.effects)) where
-          heading-effects : checking ≡ check_effects of_check P 0 (r + 1 + p + 1) v.line.method.effects
-          heading-effects =
-              let q : r + 1 + p + 1 ≡ r + 1 + 1 + length v.line.method.parameters =
-              omega (arith, counts.0) in
-              heading ∙ (bind_passed _ _ (is_passed 0 _ m (sym e ∙ i method_types P v.line.count_is))
-              ∙ ap (λ (at : ℕ). check_effects of_check P 0 at v.line.method.effects) (sym q))
+      module _ (i : (u : ParameterLines R (r + 1) p) → (P : List Class) → count ≡ length P
+          → Ok tt ≡ result_of (λ u. u) (check_parameters of_check P (r + 1 + 1) u.types)) where
+        heading-effects : checking ≡ check_effects of_check P 0 (r + 1 + p + 1) v.line.method.effects
+        heading-effects =
+            let q : r + 1 + p + 1 ≡ r + 1 + 1 + length v.line.method.parameters =
+            omega (arith, counts.0) in
+            heading ∙ (bind_passed _ _ (is_passed (λ u. u) _ (i method_types P v.line.count_is))
+            ∙ ap (λ (at : ℕ). check_effects of_check P 0 at v.line.method.effects) (sym q))
 
-          pub method_effects_refused : (n l : ℕ) → b ≡ Refused n l → b ≡ headed 1 checking
-          method_effects_refused n l d = d ∙ refused_is 1 _ n l
-              (heading-effects ∙ is_refused 0 _ n l (sym d ∙ j method_effects_ready))
+        pub method_effects_refused : (e : Refusal)
+            → ((u : EffectsReady R T (r + 1 + p) x count)
+            → Err e ≡ result_of (λ u. u) (check_effects of_check u.table.P 0 (r + 1 + p + 1) u.lines.effects))
+            → Err e ≡ result_of (λ u. u) checking
+        method_effects_refused e j = refused_is (λ u. u) _ e
+            (heading-effects ∙ is_refused (λ u. u) _ e (j method_effects_ready))
 
-          module _ (o : ℕ) (d : b ≡ Passed o) where
+        module _ (j : (u : EffectsReady R T (r + 1 + p) x count)
+            → Ok tt ≡ result_of (λ u. u) (check_effects of_check u.table.P 0 (r + 1 + p + 1) u.lines.effects))
+          where
             fine : check_effects of_check P 0 (r + 1 + p + 1) v.line.method.effects ≡ passed
-            fine = is_passed 0 _ o (sym d ∙ j method_effects_ready)
+            fine = is_passed (λ u. u) _ (j method_effects_ready)
 
-            pub method_entered : Passed 1 ≡ headed 1 checking
-            method_entered = passed_is 1 _ (heading-effects ∙ fine)
+            pub method_entered : Ok tt ≡ result_of (λ u. u) checking
+            method_entered = passed_is (λ u. u) _ (heading-effects ∙ fine)
 
             pub small : (i c : ℕ) → nth v.line.method.effects i ≡ some c → c ≤ of_check.classes
             small i c q =

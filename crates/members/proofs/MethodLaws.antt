@@ -5,6 +5,7 @@ use mathlib.Core.Option.{Option, none, some}
 use mathlib.Core.List.{List, [], ◌∷◌}
 use Prim.Native.Nat.{ℕ, suc, ◌+◌, ◌-◌, ◌*◌, ◌≤◌, ◌<◌}
 use native.Mathlib.Omega.{arith}
+use borrow.Author.Tests.{eq-eqb, ne_eqb}
 use lib.ListN.{length, get_or}
 use Rattle.language.specs.Lists.{nth, nth_lt}
 use Rattle.language.specs.Tree.{DeclaredType, type_of_number, Declaration, Class}
@@ -22,7 +23,7 @@ use Rattle.members.specs.Faults.{fault_of_method}
 use Rattle.members.specs.Numbers.{own_or}
 use Rattle.members.specs.Ready.{EffectLines, ParameterLines, OverrideReady, MethodLine, MethodCounted}
 use Rattle.members.proofs.Numbers.{numbered_fewer}
-use Rattle.members.proofs.Loops.{same_number, other_number}
+use Rattle.members.proofs.Loops.{same_number}
 
 -- ---- overriding
 
@@ -78,8 +79,11 @@ module _ {R M F : List ℕ} {r np nx n : ℕ} (w : OverrideReady R M F r np nx n
   pub override_result : (t u : ℕ) → t ≡ get_or R (r * 4 + 1) 0 → u ≡ get_or R (get_or M (n * 4) 0 * 4 + 1) 0
       → (t ≡ u → ⊥)
       → false ≡ may_override w.method (some w.found)
-  override_result t u t-is u-is o = sym (tests ∙ rw (other_number w.method.result d.result
-      (λ e. o (t-is ∙ (w.at.line.first ∙ (e ∙ sym (u-is ∙ over_at.line.first)))))))
+  unfolding d
+  override_result t u t-is u-is o = sym (tests ∙ rw (
+    ← same_number w.method.result d.result w.in_form.result.back here.in_form.result.back,
+    ne_eqb _ _ (λ e. o (t-is ∙ (w.at.line.first ∙ (e ∙ sym (u-is ∙ over_at.line.first))))),
+  ))
 
   module _ (t u : ℕ) (t-is : t ≡ get_or R (r * 4 + 1) 0) (u-is : u ≡ get_or R (get_or M (n * 4) 0 * 4 + 1) 0)
       (e : t ≡ u) where
@@ -87,8 +91,10 @@ module _ {R M F : List ℕ} {r np nx n : ℕ} (w : OverrideReady R M F r np nx n
         ≡ same_types w.method.parameters d.parameters && lines_within w.method.effects
         (effect_of_all d.effects)
     unfolding d
-    after-result = tests ∙ rw (same_number w.method.result d.result w.in_form.result.back
-        here.in_form.result.back (sym (t-is ∙ w.at.line.first) ∙ (e ∙ (u-is ∙ over_at.line.first))))
+    after-result = tests ∙ rw (
+      ← same_number w.method.result d.result w.in_form.result.back here.in_form.result.back,
+      eq-eqb _ _ (sym (t-is ∙ w.at.line.first) ∙ (e ∙ (u-is ∙ over_at.line.first))),
+    )
 
     count_is : get_or M (n * 4 + 2) 0 ≡ length d.parameters
     unfolding d

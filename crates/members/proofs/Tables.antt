@@ -26,9 +26,6 @@ use Rattle.members.specs.Ready.{StateReady, EffectReady}
 
 -- ---- numbers of types and kinds
 
-pub declared_bool : (P : List Class) (t : ℕ) → t ≡ 255 → true ≡ is_declared_type (world P) (type_of_number t)
-declared_bool P t e = rw (eq-eqb t 255 e)
-
 class_type : (t : ℕ) → (t ≡ 255 → ⊥) → type_of_number t ≡ class t
 class_type t n = rw (ne_eqb t 255 n)
 

@@ -1,10 +1,8 @@
--- The answer of the heading pass as the code gives it: that all is well, with how many methods were entered,
--- or a refusal.
-use Rattle.std.specs.Prelude.{ℕ}
-use Rattle.language.specs.Results.{Pass, accept, refuse}
-use Rattle.members.specs.declared.Headed.{Headed}
-use Rattle.members.specs.declared.Headed.TheVariants.{Passed, Refused}
+-- The answer of the heading pass as the code gives it: how many methods were entered where all is well, or a refusal.
+use Rattle.std.specs.Prelude.{ℕ, Result}
+use Rattle.language.specs.Results.{Pass}
+use Rattle.language.specs.Refusals.{result_of}
+use Rattle.language.specs.declared.Refusal.{Refusal}
 
-abbrev pub headed : ℕ → Pass → Headed
-headed methods (accept a) = Passed methods
-headed methods (refuse n l) = Refused n l
+abbrev pub headed : ℕ → Pass → Result ℕ Refusal
+headed methods = result_of (λ _. methods)

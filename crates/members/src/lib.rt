@@ -5,9 +5,7 @@
 pub mod fields;
 pub mod methods;
 
-// What a check answers: that all is well, with how many methods were entered; or a refusal's number and line.
-#[derive(Drop)]
-pub enum Headed {
-    Passed(u32),
-    Refused(u32, u32),
-}
+// The numbers of the kinds of classes, as C lines and the table of classes have them; a class of neither kind has 0.
+pub const ROOT_KIND: u32 = 1;
+
+pub const STATE_KIND: u32 = 2;

@@ -1,27 +1,29 @@
 // The methods of a class: their headings checked, and their numbers entered in the tables.
-ghost use Rattle.std.specs.Prelude.{◌≡◌, true, List, [], ℕ, ◌+◌, ◌*◌, ◌<◌, length};
+ghost use Rattle.std.specs.Prelude.{◌≡◌, List, [], ℕ, ◌+◌, length, Ok};
 ghost use Rattle.std.proofs.Math.Option.{some};
 ghost use Rattle.language.specs.Limits.{of_check};
 ghost use Rattle.language.specs.Tree.{Class};
+ghost use Rattle.language.specs.Results.{passed};
+ghost use Rattle.language.specs.Refusals.{result_of};
 ghost use Rattle.language.specs.Effects.{effect_of_all};
 ghost use Rattle.language.specs.ClassTables.{method_number};
 ghost use Rattle.language.specs.Headings.{may_override, same_types, lines_within};
 ghost use Rattle.language.specs.Headings.{check_parameters, check_effects, check_methods};
 ghost use Rattle.members.specs.Answers.{headed};
 ghost use Rattle.members.specs.Blocks.{Working};
-ghost use Rattle.members.specs.Faults.{fault_of_method, fault_of_effect, check_heading};
+ghost use Rattle.members.specs.Faults.{faulty, fault_of_method, fault_of_effect, check_heading};
 ghost use Rattle.members.specs.Numbers.{Numbered, own_or, own_number, with_number};
 ghost use Rattle.members.specs.Ready.{EffectLines};
 ghost use Rattle.members.specs.Ready.{ClassLines, ParameterLines, OverrideReady, EffectReady};
 ghost use Rattle.members.specs.Ready.{EffectsReady, NumberReady, MethodReady, MethodCounted};
 ghost use Rattle.members.specs.Ready.{MethodsReady};
 
-use super::Headed;
+use super::ROOT_KIND;
 use super::fields::is_declared;
 use language::{
     BODY_PLACE, CLASS_WIDTH, EFFECT, KIND_PLACE, KIND_REFUSAL, METHOD, METHOD_WIDTH, METHODS_FROM,
-    MOST_CLASSES, NAME_REFUSAL, OVERRIDE_REFUSAL, OWNER_PLACE, PARAMETER, PARAMETERS_PLACE, Type,
-    class_entry, first, letter_at, second,
+    MOST_CLASSES, NAME_REFUSAL, OVERRIDE_REFUSAL, OWNER_PLACE, PARAMETER, PARAMETERS_PLACE,
+    Refusal, Type, class_entry, first, letter_at, second,
 };
 
 // The set of the classes on X lines.
@@ -29,11 +31,9 @@ pub fn effect_set(rows: &[u32], r: usize, n: usize) -> u64
     requires { ClassLines rows.now r n }
     ensures { (w : ClassLines rows.now r n) → result ≡ effect_of_all w.lines.effects }
 {
-    let mut set: u64 = 0;
-    let mut i = n;
-    while 0 < i {
-        i -= 1;
-        set = classes::effect_of(first(rows, r + i)) | set;
+    let mut set = 0;
+    for at in r..r + n {
+        set |= classes::effect_of(first(rows, at));
     }
     set
 }
@@ -43,21 +43,10 @@ pub fn lines_within(rows: &[u32], r: usize, n: usize, set: u64) -> bool
     requires { EffectLines rows.now r n }
     ensures { (w : EffectLines rows.now r n) → result ≡ lines_within w.effects set }
 {
-    let mut i = 0;
-    while i < n {
-        let c = first(rows, r + i);
-        if c == Type::OBJECT {
-            return false;
-        }
-        if MOST_CLASSES < c {
-            return false;
-        }
-        if !classes::is_member(set, c) {
-            return false;
-        }
-        i += 1;
-    }
-    true
+    (r..r + n).all(|at| {
+        let c = first(rows, at);
+        c != Type::OBJECT && c <= MOST_CLASSES && classes::is_member(set, c)
+    })
 }
 
 // Have two runs of P lines the same types.
@@ -66,14 +55,7 @@ pub fn same_types(rows: &[u32], p: usize, q: usize, n: usize) -> bool
     ensures { (v : ParameterLines rows.now p n) →
         (w : ParameterLines rows.now q n) → result ≡ same_types v.types w.types }
 {
-    let mut i = 0;
-    while i < n {
-        if first(rows, p + i) != first(rows, q + i) {
-            return false;
-        }
-        i += 1;
-    }
-    true
+    (0..n).all(|i| first(rows, p + i) == first(rows, q + i))
 }
 
 // May the method at a row, with its counts of P and X lines, override the method of number n.
@@ -90,21 +72,15 @@ pub fn may_override(
     ensures { (w : OverrideReady rows.now methods.now effects.now r
         np nx n) → result ≡ may_override w.method (some w.found) }
 {
-    let over = methods[n * METHOD_WIDTH] as usize;
-    if first(rows, r) != first(rows, over) {
-        return false;
-    }
-    if methods[n * METHOD_WIDTH + PARAMETERS_PLACE] as usize != np {
-        return false;
-    }
-    if !same_types(rows, r + 1, over + 1, np) {
-        return false;
-    }
-    lines_within(rows, r + 1 + np, nx, effects[n])
+    let over = usize::from(methods[n * METHOD_WIDTH]);
+    first(rows, r) == first(rows, over)
+        && usize::from(methods[n * METHOD_WIDTH + PARAMETERS_PLACE]) == np
+        && same_types(rows, r + 1, over + 1, np)
+        && lines_within(rows, r + 1 + np, nx, effects[n])
 }
 
-// The first fault of an M line in class k, whose first method has number `first`, or 0.
-pub fn method_fault(
+// Checks the M line of a row in class k, whose first method has number `first`.
+pub fn check_method_line(
     rows: &[u32],
     tables: &[u16],
     methods: &[u16],
@@ -115,81 +91,96 @@ pub fn method_fault(
     k: usize,
     first: usize,
     count: usize,
-) -> u32
+) -> Result<(), Refusal>
     requires { MethodCounted rows.now tables.now methods.now effects.now r np nx k first count }
     ensures { (w : MethodCounted rows.now tables.now methods.now
         effects.now r np nx k first count)
-        → result ≡ fault_of_method w.line.program.classes w.line.super w.line.before
-        w.line.method }
+        → result ≡ result_of (λ u. u) (faulty (fault_of_method w.line.program.classes w.line.super
+        w.line.before w.line.method) (r + 1) passed) }
 {
-    if !is_declared(language::first(rows, r), count) {
-        return NAME_REFUSAL;
-    }
+    let line = r as u32 + 1;
     let name = second(rows, r) as usize;
-    let entry = tables[k * CLASS_WIDTH + METHODS_FROM + name] as usize;
-    if first < entry {
-        return NAME_REFUSAL; // declared in this class before
+    let entry = usize::from(tables[k * CLASS_WIDTH + METHODS_FROM + name]);
+    // An entry above `first` is of a method declared in this class before.
+    if !is_declared(language::first(rows, r), count) || first < entry {
+        return Err(Refusal {
+            number: NAME_REFUSAL,
+            line,
+        });
     }
-    if entry == 0 {
-        return 0;
+    if entry == 0 || may_override(rows, methods, effects, r, np, nx, entry - 1) {
+        return Ok(());
     }
-    if may_override(rows, methods, effects, r, np, nx, entry - 1) {
-        return 0;
-    }
-    OVERRIDE_REFUSAL // the heading differs
+    // The heading differs from the one that it overrides.
+    Err(Refusal {
+        number: OVERRIDE_REFUSAL,
+        line,
+    })
 }
 
 // Checks the P lines of a method.
-pub fn check_parameters(rows: &[u32], r: usize, n: usize, count: usize) -> Headed
+pub fn check_parameters(rows: &[u32], r: usize, n: usize, count: usize) -> Result<(), Refusal>
     requires { ParameterLines rows.now r n }
     ensures { (w : ParameterLines rows.now r n) → (P : List Class) → count ≡ length P
-        → result ≡ headed 0 (check_parameters of_check P (r + 1) w.types) }
+        → result ≡ result_of (λ u. u) (check_parameters of_check P (r + 1) w.types) }
 {
-    let mut i = 0;
-    while i < n {
-        if !is_declared(first(rows, r + i), count) {
-            return Headed::Refused(NAME_REFUSAL, (r + i + 1) as u32);
+    for at in r..r + n {
+        if !is_declared(first(rows, at), count) {
+            return Err(Refusal {
+                number: NAME_REFUSAL,
+                line: at as u32 + 1,
+            });
         }
-        i += 1;
     }
-    Headed::Passed(0)
+    Ok(())
 }
 
-// The first fault of an X line after one that names `last`, or 0.
-pub fn effect_fault(tables: &[u16], c: u32, last: u32, count: usize) -> u32
+// Checks the X line that names class c, after one that names `last`.
+pub fn check_effect(
+    tables: &[u16],
+    c: u32,
+    last: u32,
+    count: usize,
+    line: u32,
+) -> Result<(), Refusal>
     requires { EffectReady tables.now count }
-    ensures { (w : EffectReady tables.now count) → result ≡ fault_of_effect w.P last c }
+    ensures { (w : EffectReady tables.now count) → result ≡
+        result_of (λ u. u) (faulty (fault_of_effect w.P last c) line passed) }
 {
     if count < c as usize {
-        return NAME_REFUSAL;
+        return Err(Refusal {
+            number: NAME_REFUSAL,
+            line,
+        });
     }
-    if class_entry(tables, c, KIND_PLACE) != 1 {
-        return KIND_REFUSAL;
+    if class_entry(tables, c, KIND_PLACE) != ROOT_KIND || c <= last {
+        return Err(Refusal {
+            number: KIND_REFUSAL,
+            line,
+        });
     }
-    if c <= last {
-        return KIND_REFUSAL;
-    }
-    0
+    Ok(())
 }
 
 // Checks the X lines of a method.
-pub fn check_effects(rows: &[u32], tables: &[u16], r: usize, n: usize, count: usize) -> Headed
+pub fn check_effects(
+    rows: &[u32],
+    tables: &[u16],
+    r: usize,
+    n: usize,
+    count: usize,
+) -> Result<(), Refusal>
     requires { EffectsReady rows.now tables.now r n count }
-    ensures { (w : EffectsReady rows.now tables.now r n count) → result ≡ headed 0
-        (check_effects of_check w.table.P 0 (r + 1) w.lines.effects) }
+    ensures { (w : EffectsReady rows.now tables.now r n count) → result ≡
+        result_of (λ u. u) (check_effects of_check w.table.P 0 (r + 1) w.lines.effects) }
 {
-    let mut last: u32 = 0;
-    let mut i = 0;
-    while i < n {
-        let c = first(rows, r + i);
-        let fault = effect_fault(tables, c, last, count);
-        if fault != 0 {
-            return Headed::Refused(fault, (r + i + 1) as u32);
-        }
+    let mut last = 0;
+    for at in r..r + n {
+        let c = first(rows, at);
+        check_effect(tables, c, last, count, at as u32 + 1)?;
         last = c;
-        i += 1;
     }
-    Headed::Passed(0)
+    Ok(())
 }
 
 // Enters method `next`, whose M line is row r of class k, with its counts of P and X lines.
@@ -227,13 +218,13 @@ pub fn check_method(
     first: usize,
     next: usize,
     count: usize,
-) -> Headed
+) -> Result<(), Refusal>
     requires { MethodReady rows.now tables.old methods.old effects.old r k first next count }
     ensures { (w : MethodReady rows.now tables.old methods.old
         effects.old r k first next count)
-        → (result ≡ headed 1 (check_heading w.line.program.classes w.line.super w.line.before (r + 1)
-        w.line.method))
-        × ((n : ℕ) → result ≡ Headed.Passed n
+        → (result ≡ result_of (λ u. u) (check_heading w.line.program.classes w.line.super w.line.before
+        (r + 1) w.line.method))
+        × (result ≡ Ok tt
         → Working w.line.program.classes k tables.new w.line.fields w.line.rows
         (with_number w.line.method.name next (own_or w.line.own
         (method_number w.line.program.classes w.line.super)))
@@ -241,25 +232,17 @@ pub fn check_method(
 {
     let np = layout::count_rows(rows, r + 1, PARAMETER);
     let nx = layout::count_rows(rows, r + 1 + np, EFFECT);
-    let fault = method_fault(rows, tables, methods, effects, r, np, nx, k, first, count);
-    if fault != 0 {
-        return Headed::Refused(fault, (r + 1) as u32);
-    }
-    let p = check_parameters(rows, r + 1, np, count);
-    let Headed::Passed(_) = p else {
-        return p;
-    };
-    let x = check_effects(rows, tables, r + 1 + np, nx, count);
-    let Headed::Passed(_) = x else {
-        return x;
-    };
+    check_method_line(rows, tables, methods, effects, r, np, nx, k, first, count)?;
+    check_parameters(rows, r + 1, np, count)?;
+    check_effects(rows, tables, r + 1 + np, nx, count)?;
     let name = second(rows, r) as usize;
     tables[k * CLASS_WIDTH + METHODS_FROM + name] = (next + 1) as u16;
     enter_method(rows, methods, effects, r, np, nx, k, next);
-    Headed::Passed(1)
+    Ok(())
 }
 
-// Checks and enters the methods of class k: the first of them, if there is one, is at row r and has number `first`.
+// Checks and enters the methods of class k, and answers how many there are: the first of them, if there is one, is at
+// row r and has number `first`.
 pub fn check_methods(
     rows: &[u32],
     ends: &[u16],
@@ -270,13 +253,13 @@ pub fn check_methods(
     k: usize,
     first: usize,
     count: usize,
-) -> Headed
+) -> Result<u32, Refusal>
     requires { MethodsReady rows.now ends.now tables.old methods.old effects.old r k first count }
     ensures { (w : MethodsReady rows.now ends.now tables.old
         methods.old effects.old r k first count)
         → (result ≡ headed (length w.one.methods) (check_methods of_check w.program.classes w.super []
         (r + 1) w.one.methods))
-        × ((n : ℕ) → result ≡ Headed.Passed n
+        × ((n : ℕ) → result ≡ Ok n
         → Working w.program.classes k tables.new w.fields w.rows
         (own_or (own_number first w.one.methods) (method_number w.program.classes w.super))
         × Numbered w.program.classes methods.new effects.new
@@ -285,12 +268,9 @@ pub fn check_methods(
     let mut at = r;
     let mut next = first;
     while letter_at(rows, at) == METHOD {
-        let m = check_method(rows, tables, methods, effects, at, k, first, next, count);
-        let Headed::Passed(_) = m else {
-            return m;
-        };
+        check_method(rows, tables, methods, effects, at, k, first, next, count)?;
         at = layout::skip_method(rows, ends, at);
         next += 1;
     }
-    Headed::Passed((next - first) as u32)
+    Ok((next - first) as u32)
 }

@@ -1,13 +1,15 @@
 -- `members::fields::is_state` meets its contract. Assumes nothing.
-use native.Mathlib.Omega.{arith}
+use Rattle.std.proofs.Common.{arith, ap, ◌∙◌}
+use mathlib.Core.Bool.{not}
+use borrow.Author.Tests.{eq-eqb}
 use Rattle.members.proofs.Tables.{state_bool, state_index, state_is}
 use Rattle.members.proofs.fields.is_state.Goals as goal
 
-pub returns-then-t-eq-BOOL : goal.returns-then-t-eq-BOOL
-returns-then-t-eq-BOOL c = λ w. state_bool w c.if-t-eq-BOOL.true
-
 pub class_entry-requires : goal.class_entry-requires
-class_entry-requires c = omega (arith, state_index c.requires c.if-t-eq-BOOL.false)
+class_entry-requires c = omega (arith, state_index c.requires c.if-t-ne-BOOL.true)
 
-pub returns : goal.returns
-returns c = λ w. state_is w c.if-t-eq-BOOL.false c.class_entry.result c.class_entry.ensures
+pub returns-then-t-ne-BOOL : goal.returns-then-t-ne-BOOL
+returns-then-t-ne-BOOL c = λ w. state_is w c.if-t-ne-BOOL.true c.class_entry.result c.class_entry.ensures
+
+pub returns-else-t-ne-BOOL : goal.returns-else-t-ne-BOOL
+returns-else-t-ne-BOOL c = λ w. ap not (eq-eqb c.args.t 255 c.if-t-ne-BOOL.false) ∙ state_bool w c.if-t-ne-BOOL.false

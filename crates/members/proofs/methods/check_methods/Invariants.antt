@@ -7,9 +7,14 @@ use Rattle.members.specs.Ready.{MethodsReady}
 use Rattle.members.proofs.methods.check_methods.Given as goal
 
 abbrev pub invariant-loop-tables : goal.invariant-loop-tables
-invariant-loop-tables l = (length l.tables ≡ length l.initial.tables) × (length l.methods ≡ length l.initial.methods) × (length l.effects ≡ length l.initial.effects)
-    × ((w : MethodsReady l.rows l.ends l.initial.tables l.initial.methods l.initial.effects l.r l.k l.first l.count)
-    → Entering w l.tables l.methods l.effects l.at l.next)
+invariant-loop-tables l = record {
+  tables_long : length l.tables ≡ length l.initial.tables;
+  methods_long : length l.methods ≡ length l.initial.methods;
+  effects_long : length l.effects ≡ length l.initial.effects;
+  entering : (w : MethodsReady l.rows l.ends l.initial.tables l.initial.methods l.initial.effects l.r l.k l.first
+      l.count)
+      → Entering w l.tables l.methods l.effects l.at l.next;
+}
 
 abbrev pub decreases-loop-tables : goal.decreases-loop-tables
 decreases-loop-tables l = length l.rows - l.at

@@ -1,53 +1,34 @@
 -- `members::methods::check_parameters` meets its contract. Assumes nothing.
-use native.Mathlib.Omega.{arith}
-use Rattle.members.proofs.Loops.{declaring_start, declaring_refused, declaring_step}
-use Rattle.members.proofs.Loops.{declaring_end, types_index}
-use borrow.Author.Tests.{not-true, not-false}
+use Rattle.std.proofs.Common.{arith, rules}
+use Rattle.members.proofs.Loops.{types_index, types_end, declaring_start, declaring_refused, declaring_step}
+use Rattle.members.proofs.Loops.{declaring_end}
 use Rattle.members.proofs.methods.check_parameters.Goals as goal
 
-pub loop-i-init : goal.loop-i-init
-loop-i-init c = λ w P e. declaring_start w P
+pub overflow_add-at-end : goal.overflow_add-at-end
+overflow_add-at-end c = grind (arith, types_end c.requires)
 
-pub overflow_add-r : goal.overflow_add-r
-overflow_add-r c = let j =
-    types_index c.requires c.loop-i.i c.loop-i-test.true in
-    omega (arith, j.0, j.1)
+pub loop-at-init : goal.loop-at-init
+loop-at-init c = λ w P e. declaring_start w P
 
 pub first-requires : goal.first-requires
-first-requires c = let j =
-    types_index c.requires c.loop-i.i c.loop-i-test.true in
-    omega (arith, j.0)
-
-pub overflow_add-result : goal.overflow_add-result
-overflow_add-result c = (let j = types_index c.requires c.loop-i.i c.loop-i-test.true in
-    omega (arith, j.0, j.1, c.loop-i-test.true))
-
-pub overflow_add-result-then-not-is_declared : goal.overflow_add-result-then-not-is_declared
-overflow_add-result-then-not-is_declared c = (let j = types_index c.requires c.loop-i.i c.loop-i-test.true in
-    omega (arith, j.0, j.1, c.loop-i-test.true))
+first-requires c =
+    omega (arith, (types_index c.requires c.loop-at.at c.loop-at.auto.at c.loop-at-test.true).0)
 
 pub overflow_cast-result : goal.overflow_cast-result
-overflow_cast-result c = (let j = types_index c.requires c.loop-i.i c.loop-i-test.true in
-    omega (arith, j.0, j.1, c.loop-i-test.true))
+overflow_cast-result c = let j = types_index c.requires c.loop-at.at c.loop-at.auto.at c.loop-at-test.true in
+    omega (arith, j.0, j.1)
+
+pub overflow_add-result : goal.overflow_add-result
+overflow_add-result c = let j = types_index c.requires c.loop-at.at c.loop-at.auto.at c.loop-at-test.true in
+    omega (arith, j.0, j.1)
 
 pub returns-then-not-is_declared : goal.returns-then-not-is_declared
-returns-then-not-is_declared c = λ w P e. declaring_refused w P c.loop-i.i (c.loop-i.invariant w P e)
-    c.loop-i-test.true c.first.result
-    c.first.ensures c.is_declared.result
-    (c.is_declared.ensures P e) (not-true _ c.if-not-is_declared.true-raw)
+returns-then-not-is_declared c = λ w P e. declaring_refused w P _ (c.loop-at.invariant w P e) c.loop-at-test.true _
+    c.first.ensures _ (c.is_declared.ensures P e) (search rules)
 
-pub overflow_add-i : goal.overflow_add-i
-overflow_add-i c = omega (arith, c.loop-i-test.true)
-
-pub loop-i-smaller : goal.loop-i-smaller
-loop-i-smaller c = omega (arith, c.loop-i-test.true)
-
-pub loop-i-preserved : goal.loop-i-preserved
-loop-i-preserved c = λ w P e. declaring_step w P c.loop-i.i (c.loop-i.invariant w P e)
-    c.loop-i-test.true c.first.result
-    c.first.ensures c.is_declared.result
-    (c.is_declared.ensures P e) (not-false _ c.if-not-is_declared.false-raw)
+pub loop-at-preserved : goal.loop-at-preserved
+loop-at-preserved c = λ w P e. declaring_step w P _ (c.loop-at.invariant w P e) c.loop-at-test.true _
+    c.first.ensures _ (c.is_declared.ensures P e) (search rules)
 
 pub returns : goal.returns
-returns c = λ w P e.
-    declaring_end w P c.loop-i.i (c.loop-i.invariant w P e) c.loop-i-test.false
+returns c = λ w P e. declaring_end w P _ (c.loop-at.invariant w P e) c.loop-at-test.false

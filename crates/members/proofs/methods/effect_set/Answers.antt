@@ -1,40 +1,26 @@
 -- `members::methods::effect_set` meets its contract. Assumes nothing.
-use native.Mathlib.Omega.{arith}
-use Rattle.members.proofs.Loops.{collecting_start, collecting_index, collecting_class}
+use Rattle.std.proofs.Common.{arith}
+use Rattle.members.proofs.Loops.{effects_index, effects_end, collecting_start, collecting_class}
 use Rattle.members.proofs.Loops.{collecting_more, collecting_end}
 use Rattle.members.proofs.methods.effect_set.Goals as goal
 
-pub loop-i-init : goal.loop-i-init
-loop-i-init c = λ w. collecting_start w
+pub overflow_add-at-end : goal.overflow_add-at-end
+overflow_add-at-end c = grind (arith, effects_end c.requires.lines)
 
-pub overflow_sub-i : goal.overflow_sub-i
-overflow_sub-i c = omega (arith, c.loop-i-test.true)
-
-pub overflow_add-r : goal.overflow_add-r
-overflow_add-r c = let j =
-    collecting_index c.requires c.loop-i.set c.loop-i.i
-    (c.loop-i.invariant c.requires) c.loop-i-test.true in omega (arith, j.0, j.1)
+pub loop-at-init : goal.loop-at-init
+loop-at-init c = λ w. collecting_start w
 
 pub first-requires : goal.first-requires
-first-requires c = let j =
-    collecting_index c.requires c.loop-i.set c.loop-i.i
-    (c.loop-i.invariant c.requires) c.loop-i-test.true in omega (arith, j.0)
+first-requires c =
+    omega (arith, (effects_index c.requires.lines c.loop-at.at c.loop-at.auto.at c.loop-at-test.true).0)
 
 pub effect_of-set-requires : goal.effect_of-set-requires
-effect_of-set-requires c = collecting_class c.requires c.loop-i.set c.loop-i.i
-    (c.loop-i.invariant c.requires) c.loop-i-test.true c.first.result
+effect_of-set-requires c = collecting_class c.requires _ _ (c.loop-at.invariant c.requires) c.loop-at-test.true _
     c.first.ensures
 
-pub loop-i-smaller : goal.loop-i-smaller
-loop-i-smaller c = omega (arith, c.loop-i-test.true)
-
-pub loop-i-preserved : goal.loop-i-preserved
-loop-i-preserved c = λ w. collecting_more w c.loop-i.set
-    c.loop-i.i
-    (c.loop-i.invariant w) c.loop-i-test.true c.first.result
-    c.first.ensures c.effect_of-set.result
+pub loop-at-preserved : goal.loop-at-preserved
+loop-at-preserved c = λ w. collecting_more w _ _ (c.loop-at.invariant w) c.loop-at-test.true _ c.first.ensures _
     c.effect_of-set.ensures
 
 pub returns : goal.returns
-returns c = λ w. collecting_end w c.loop-i.set c.loop-i.i (c.loop-i.invariant w)
-    c.loop-i-test.false
+returns c = λ w. collecting_end w _ _ (c.loop-at.invariant w) c.loop-at-test.false

@@ -1,99 +1,127 @@
 -- `members::methods::may_override` meets its contract. Assumes nothing.
-use Prim.Native.Nat.{◌+◌, ◌*◌}
-use native.Mathlib.Omega.{arith}
-use borrow.Author.Tests.{not-true, not-false}
+use Rattle.std.proofs.Common.{arith, ◌≡◌, ◌+◌, ◌*◌, true, get_or, sym, ◌∙◌}
+use mathlib.Core.Bool.{Bool, false≢true}
+use borrow.Author.Tests.{eqb-true, eqb-false}
+use Rattle.language.specs.Headings.{same_types}
+use Rattle.members.specs.Ready.{ParameterLines}
 use Rattle.members.proofs.MethodLaws.{override_index, own_within, override_result, override_count}
 use Rattle.members.proofs.MethodLaws.{own_types, over_types}
 use Rattle.members.proofs.MethodLaws.{override_types, own_lines, override_within}
 use Rattle.members.proofs.methods.may_override.Goals as goal
-
-pub overflow_mul-over : goal.overflow_mul-over
-overflow_mul-over c = (let i = override_index c.requires in let j =
-    own_within c.requires in
-    omega (arith, i.0, i.1, i.2, j.0, j.1, j.2))
-
-pub offset_bounds-methods-n : goal.offset_bounds-methods-n
-offset_bounds-methods-n c = (let i = override_index c.requires in let j =
-    own_within c.requires in
-    omega (arith, i.0, i.1, i.2, j.0, j.1, j.2))
-
-pub bounds-methods-n : goal.bounds-methods-n
-bounds-methods-n c = (let i = override_index c.requires in let j = own_within c.requires in
-    omega (arith, i.0, i.1, i.2, j.0, j.1, j.2))
-
-pub overflow_cast-over : goal.overflow_cast-over
-overflow_cast-over c = (let i = override_index c.requires in let j = own_within c.requires in
-    omega (arith, i.0, i.1, i.2, j.0, j.1, j.2))
-
-pub first-requires : goal.first-requires
-first-requires c = omega (arith, (own_within c.requires).0)
-
-pub first-requires-2 : goal.first-requires-2
-first-requires-2 c = omega (arith, (override_index c.requires).2)
-
-pub returns-then-first : goal.returns-then-first
-returns-then-first c = λ w. override_result w c.first.result c.first-2.result
-    c.first.ensures c.first-2.ensures c.if-first.true
+use Rattle.members.proofs.methods.may_override.Goals.{then-first, else-first, then-from-np, else-from-np}
 
 pub overflow_mul-n : goal.overflow_mul-n
-overflow_mul-n c = (let i = override_index c.requires in let j = own_within c.requires in
-    omega (arith, i.0, i.1, i.2, j.0, j.1, j.2))
+overflow_mul-n c = let i = override_index c.requires in omega (arith, i.0)
+
+pub offset_bounds-methods-n : goal.offset_bounds-methods-n
+offset_bounds-methods-n c = let i = override_index c.requires in omega (arith, i.0)
+
+pub bounds-methods-n : goal.bounds-methods-n
+bounds-methods-n c = let i = override_index c.requires in omega (arith, i.0)
+
+pub first-requires : goal.first-requires
+first-requires c = let j = own_within c.requires in omega (arith, j.0)
+
+pub first-requires-2 : goal.first-requires-2
+first-requires-2 c = let i = override_index c.requires in omega (arith, i.2)
+
+pub overflow_mul-n-then-first : goal.overflow_mul-n-then-first
+overflow_mul-n-then-first c = let i = override_index c.requires in omega (arith, i.0)
 
 pub overflow_add-n : goal.overflow_add-n
-overflow_add-n c = (let i = override_index c.requires in let j = own_within c.requires in
-    omega (arith, i.0, i.1, i.2, j.0, j.1, j.2))
+overflow_add-n c = let i = override_index c.requires in omega (arith, i.0)
 
-pub offset_bounds-methods-n-2 : goal.offset_bounds-methods-n-2
-offset_bounds-methods-n-2 c = (let i = override_index c.requires in let j = own_within c.requires in
-    omega (arith, i.0, i.1, i.2, j.0, j.1, j.2))
+pub offset_bounds-methods-n-then-first : goal.offset_bounds-methods-n-then-first
+offset_bounds-methods-n-then-first c = let i = override_index c.requires in omega (arith, i.0)
 
-pub bounds-methods-n-2 : goal.bounds-methods-n-2
-bounds-methods-n-2 c = (let i = override_index c.requires in let j = own_within c.requires in
-    omega (arith, i.0, i.1, i.2, j.0, j.1, j.2))
-
-pub overflow_cast-methods : goal.overflow_cast-methods
-overflow_cast-methods c = omega (arith, c.shared_slice_known-5-1.given (c.args.n * 4 + 2))
-
-pub returns-then-methods-n : goal.returns-then-methods-n
-returns-then-methods-n c = λ w. override_count w c.first.result c.first-2.result
-    c.first.ensures c.first-2.ensures c.if-first.false
-    c.if-methods-n.true
+pub bounds-methods-n-then-first : goal.bounds-methods-n-then-first
+bounds-methods-n-then-first c = let i = override_index c.requires in omega (arith, i.0)
 
 pub overflow_add-over : goal.overflow_add-over
-overflow_add-over c = (let i = override_index c.requires in let j = own_within c.requires in
-    omega (arith, i.0, i.1, i.2, j.0, j.1, j.2))
+overflow_add-over c =
+    let i = override_index c.requires in let j = own_within c.requires in omega (arith, i.2, j.2)
 
 pub same_types-requires : goal.same_types-requires
-same_types-requires c = (
-  own_types c.requires c.first.result c.first-2.result
-      c.first.ensures c.first-2.ensures
-      c.if-first.false c.if-methods-n.false,
-  over_types c.requires c.first.result c.first-2.result
-      c.first.ensures c.first-2.ensures
-      c.if-first.false c.if-methods-n.false,
-)
-
-pub returns-then-not-same_types : goal.returns-then-not-same_types
-returns-then-not-same_types c = λ w. override_types w c.first.result c.first-2.result c.first.ensures
-    c.first-2.ensures c.if-first.false c.if-methods-n.false
-    c.same_types.result
-    c.same_types.ensures (not-true _ c.if-not-same_types.true-raw)
+same_types-requires c =
+    let second : c.first-2.result ≡ get_or c.args.rows.now (get_or c.args.methods.now (c.args.n * 4) 0 * 4 + 1) 0 =
+    rw c.from-over.ensures at c.first-2.ensures in
+    let same : (c.first.result ≡ c.first-2.result) × (get_or c.args.methods.now (c.args.n * 4 + 2) 0 ≡ c.args.np) =
+    elim c.if-first.branch [
+      | then-first a ↦ (a.if-first.true, sym a.from.ensures ∙ eqb-true _ _ (sym a.value-is ∙ c.if-from-np.true))
+      | else-first a ↦ absurd (a.if-first.false (eqb-true _ _ (sym a.value-is ∙ c.if-from-np.true)))
+    ] in
+    rw c.from-over.ensures (
+      own_types c.requires _ _ c.first.ensures second same.0 same.1,
+      over_types c.requires _ _ c.first.ensures second same.0 same.1,
+    )
 
 pub offset_bounds-effects-n : goal.offset_bounds-effects-n
-offset_bounds-effects-n c = (let i = override_index c.requires in let j = own_within c.requires in
-    omega (arith, i.0, i.1, i.2, j.0, j.1, j.2))
+offset_bounds-effects-n c = let i = override_index c.requires in omega (arith, i.1)
 
 pub bounds-effects-n : goal.bounds-effects-n
-bounds-effects-n c = (let i = override_index c.requires in let j = own_within c.requires in
-    omega (arith, i.0, i.1, i.2, j.0, j.1, j.2))
+bounds-effects-n c = let i = override_index c.requires in omega (arith, i.1)
 
 pub lines_within-requires : goal.lines_within-requires
-lines_within-requires c = own_lines c.requires c.first.result c.first-2.result c.first.ensures
-    c.first-2.ensures c.if-first.false c.if-methods-n.false
-    c.same_types.result c.same_types.ensures
+lines_within-requires c =
+    let second : c.first-2.result ≡ get_or c.args.rows.now (get_or c.args.methods.now (c.args.n * 4) 0 * 4 + 1) 0 =
+    rw c.from-over.ensures at c.first-2.ensures in
+    let tested : (c.if-first.value ≡ true) × (b : Bool) × (b ≡ true)
+    × ((v : ParameterLines c.args.rows.now (c.args.r + 1) c.args.np)
+    → (u : ParameterLines c.args.rows.now (get_or c.args.methods.now (c.args.n * 4) 0 + 1) c.args.np)
+    → b ≡ same_types v.types u.types) =
+    elim c.if-from-np.branch [
+      | then-from-np b ↦ (
+        b.if-from-np.true,
+        b.same_types.result,
+        sym b.value-is ∙ c.if-same_types.true,
+        rw c.from-over.ensures at b.same_types.ensures,
+      )
+      | else-from-np b ↦ absurd (false≢true (sym b.if-from-np.false ∙ (sym b.value-is ∙ c.if-same_types.true)))
+    ] in
+    let same : (c.first.result ≡ c.first-2.result) × (get_or c.args.methods.now (c.args.n * 4 + 2) 0 ≡ c.args.np) =
+    elim c.if-first.branch [
+      | then-first a ↦ (a.if-first.true, sym a.from.ensures ∙ eqb-true _ _ (sym a.value-is ∙ tested.0))
+      | else-first a ↦ absurd (a.if-first.false (eqb-true _ _ (sym a.value-is ∙ tested.0)))
+    ] in
+    own_lines c.requires _ _ c.first.ensures second same.0 same.1 tested.1 tested.3
 
-pub returns : goal.returns
-returns c = λ w. override_within w c.first.result c.first-2.result c.first.ensures
-    c.first-2.ensures c.if-first.false c.if-methods-n.false
-    c.same_types.result c.same_types.ensures
-    (not-false _ c.if-not-same_types.false-raw) c.lines_within.result c.lines_within.ensures
+pub returns-then-same_types : goal.returns-then-same_types
+returns-then-same_types c = λ w.
+    let second : c.first-2.result ≡ get_or c.args.rows.now (get_or c.args.methods.now (c.args.n * 4) 0 * 4 + 1) 0 =
+    rw c.from-over.ensures at c.first-2.ensures in
+    let tested : (c.if-first.value ≡ true) × (b : Bool) × (b ≡ true)
+    × ((v : ParameterLines c.args.rows.now (c.args.r + 1) c.args.np)
+    → (u : ParameterLines c.args.rows.now (get_or c.args.methods.now (c.args.n * 4) 0 + 1) c.args.np)
+    → b ≡ same_types v.types u.types) =
+    elim c.if-from-np.branch [
+      | then-from-np b ↦ (
+        b.if-from-np.true,
+        b.same_types.result,
+        sym b.value-is ∙ c.if-same_types.true,
+        rw c.from-over.ensures at b.same_types.ensures,
+      )
+      | else-from-np b ↦ absurd (false≢true (sym b.if-from-np.false ∙ (sym b.value-is ∙ c.if-same_types.true)))
+    ] in
+    let same : (c.first.result ≡ c.first-2.result) × (get_or c.args.methods.now (c.args.n * 4 + 2) 0 ≡ c.args.np) =
+    elim c.if-first.branch [
+      | then-first a ↦ (a.if-first.true, sym a.from.ensures ∙ eqb-true _ _ (sym a.value-is ∙ tested.0))
+      | else-first a ↦ absurd (a.if-first.false (eqb-true _ _ (sym a.value-is ∙ tested.0)))
+    ] in
+    override_within w _ _ c.first.ensures second same.0 same.1 tested.1 tested.3 tested.2 _ c.lines_within.ensures
+
+pub returns-else-same_types : goal.returns-else-same_types
+returns-else-same_types c = λ w.
+    let second : c.first-2.result ≡ get_or c.args.rows.now (get_or c.args.methods.now (c.args.n * 4) 0 * 4 + 1) 0 =
+    rw c.from-over.ensures at c.first-2.ensures in
+    c.if-same_types.false ∙ elim c.if-first.branch [
+      | then-first a ↦ elim c.if-from-np.branch [
+        | then-from-np b ↦
+            override_types w _ _ c.first.ensures second a.if-first.true
+            (sym a.from.ensures ∙ eqb-true _ _ (sym a.value-is ∙ b.if-from-np.true)) b.same_types.result
+            (rw c.from-over.ensures at b.same_types.ensures) (sym b.value-is ∙ c.if-same_types.false)
+        | else-from-np b ↦
+            override_count w _ _ c.first.ensures second a.if-first.true
+            (λ q. eqb-false _ _ (sym a.value-is ∙ b.if-from-np.false) (a.from.ensures ∙ q))
+      ]
+      | else-first a ↦ override_result w _ _ c.first.ensures second a.if-first.false
+    ]
