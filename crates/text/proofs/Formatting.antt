@@ -197,12 +197,11 @@ write_short α (suc left) line (code ∷ a ∷ b ∷ c ∷ rows) =
         (omega (arith, k, row_short α code a b c e, ih.0), omega (arith, k, row_short α code a b c e, ih.1))
     go false e ih = (omega arith, omega arith)
 
-pub write_fits : (α : Alphabet) (rows held : List ℕ)
-    → (14 * length rows ≤ 4 * length held) ⊎ (840000 ≤ length held)
-    → length (made_numbers (write_rows α rows)) ≤ length held
-write_fits α rows held r = go (eqb (length rows % 4) 0)
+pub write_fits : (α : Alphabet) (rows : List ℕ) (room : ℕ) → (14 * length rows ≤ 4 * room) ⊎ (840000 ≤ room)
+    → length (made_numbers (write_rows α rows)) ≤ room
+write_fits α rows room r = go (eqb (length rows % 4) 0)
   where
-    go : (t : Bool) → length (made_numbers (cond t (write_lines α 60000 1 rows) (refuse 1 0))) ≤ length held
+    go : (t : Bool) → length (made_numbers (cond t (write_lines α 60000 1 rows) (refuse 1 0))) ≤ room
     go true = let k = write_short α 60000 1 rows in
         ⊎_elim (λ r. omega (arith, k.0, r)) (λ r. omega (arith, k.1, r)) r
     go false = omega arith

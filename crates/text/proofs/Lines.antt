@@ -6,7 +6,7 @@ use mathlib.Core.List.{List, [], ◌∷◌, ◌++◌, append_assoc}
 use Prim.Native.Nat.{ℕ, zero, suc, ◌+◌, ◌-◌, ◌≤◌, ◌<◌}
 use native.Mathlib.Numerals.{add-one}
 use native.Mathlib.Omega.{arith}
-use borrow.Author.Tests.{leb-true, eqb-true}
+use borrow.Author.Tests.{leb-true, eqb-true, eq-eqb, ne_eqb}
 use lib.Dec.{eqb, leb}
 use lib.ListN.{length, get_or, drop, set, length-drop, length-append, drop_of_length-le}
 use lib.Seq.{drop-cons, drop-drop, sets}
@@ -32,10 +32,14 @@ pub closed_past : (code a b n at : ℕ) (s : List ℕ) → length s ≤ at → c
 unfolding closed
 closed_past code a b n at s h = rw (drop_of_length-le s h)
 
-pub closed_at : (code a b n at : ℕ) (s : List ℕ) → at < length s
-    → closed code a b n (drop at s) ≡ cond (eqb (get_or s at 0) 10) (Some (line code a b (n + 1))) None
-unfolding closed
-closed_at code a b n at s h = rw (drop-cons s at 0 h)
+module _ (code a b n at : ℕ) (s : List ℕ) (h : at < length s) where
+  pub closed_other : (get_or s at 0 ≡ 10 → ⊥) → closed code a b n (drop at s) ≡ None
+  unfolding closed
+  closed_other e = rw (drop-cons s at 0 h, ne_eqb (get_or s at 0) 10 e)
+
+  pub closed_feed : get_or s at 0 ≡ 10 → closed code a b n (drop at s) ≡ Some (line code a b (n + 1))
+  unfolding closed
+  closed_feed e = rw (drop-cons s at 0 h, eq-eqb (get_or s at 0) 10 e)
 
 -- a line that is closed further on in a text
 closed_shift : (code a b at n : ℕ) (s : List ℕ)

@@ -219,9 +219,9 @@ read_short α (suc left) line (x ∷ s) =
     go None e ih = (omega arith, omega arith)
 
 -- so they fit the buffer that they are held in
-pub read_fits : (α : Alphabet) (text held : List ℕ) → (2 * length text ≤ length held) ⊎ (240000 ≤ length held)
-    → length (made_numbers (read_text α text)) ≤ length held
-read_fits α text held r = let k = read_short α 60000 1 text in
+pub read_fits : (α : Alphabet) (text : List ℕ) (room : ℕ) → (2 * length text ≤ room) ⊎ (240000 ≤ room)
+    → length (made_numbers (read_text α text)) ≤ room
+read_fits α text room r = let k = read_short α 60000 1 text in
     ⊎_elim (λ r. omega (arith, k.0, r)) (λ r. omega (arith, k.1, r)) r
 
 -- rows that were read are whole

@@ -10,7 +10,21 @@ ghost use Rattle.language.specs.TextLines.{line_text};
 ghost use Rattle.language.specs.Texts.{write_rows};
 ghost use Rattle.language.specs.Limits.{of_check};
 
-use language::{Filled, LIMIT_REFUSAL, LINE_REFUSAL, MOST_ROWS, ROOM_REFUSAL};
+use language::{LIMIT_REFUSAL, LINE_REFUSAL, MOST_ROWS, NUMBERS_A_ROW, ROOM_REFUSAL, Refusal};
+
+// The bytes that a row's line has at most.
+const MOST_BYTES: usize = 14;
+
+// Rows up to these numbers have buffers of their own.
+const FEW_ROWS: usize = 64;
+
+const MANY_ROWS: usize = 1024;
+
+const SMALL_ROOM: usize = MOST_BYTES * FEW_ROWS;
+
+const MIDDLE_ROOM: usize = MOST_BYTES * MANY_ROWS;
+
+const MOST_ROOM: usize = MOST_BYTES * MOST_ROWS as usize;
 
 // Writes the line of a row at a place, and answers the place after it.
 fn write_line(text: &mut [u8], at: usize, code: u32, a: u32, b: u32) -> usize
@@ -20,81 +34,85 @@ fn write_line(text: &mut [u8], at: usize, code: u32, a: u32, b: u32) -> usize
 {
     text[at] = (code % 256) as u8;
     let count = language::count_numbers(code);
-    if count == 0 {
-        text[at + 1] = 10;
-        return at + 2;
+    let mut end = at + 1;
+    if 1 <= count {
+        end = fields::write_number(text, end, a);
     }
-    let then = fields::write_number(text, at + 1, a);
-    if count == 1 {
-        text[then] = 10;
-        return then + 1;
+    if 2 <= count {
+        end = fields::write_number(text, end, b);
     }
-    let end = fields::write_number(text, then, b);
-    text[end] = 10;
+    text[end] = b'\n';
     end + 1
 }
 
 // Writes the lines of rows into a text held aside, and answers how long it is or the first refusal.
 // A line has 14 bytes at most, and there are 60,000 rows at most.
-fn format_rows(rows: &[u32], held: &mut [u8]) -> Filled
+fn format_rows(rows: &[u32], held: &mut [u8]) -> Result<usize, Refusal>
     requires { (14 * length rows.now ≤ 4 * length held.old) ⊎ (14 * of_check.rows ≤ length held.old) }
     ensures { (result ≡ tally 1 0 (write_rows ours rows.now))
         × (is_made (write_rows ours rows.now) ≡ true
         → held.new ≡ sets held.old 0 (made_numbers (write_rows ours rows.now))) }
 {
-    if rows.len() % 4 != 0 {
-        return Filled::Refused(LINE_REFUSAL, 0);
+    if rows.len() % NUMBERS_A_ROW != 0 {
+        return Err(Refusal {
+            number: LINE_REFUSAL,
+            line: 0,
+        });
     }
-    let mut i = 0;
-    let mut at = 0;
-    let mut line: u32 = 1;
-    while i < rows.len() {
-        if MOST_ROWS < line {
-            return Filled::Refused(LIMIT_REFUSAL, line);
+    let mut end = 0;
+    for at in 0..rows.len() / NUMBERS_A_ROW {
+        if MOST_ROWS as usize <= at {
+            return Err(Refusal {
+                number: LIMIT_REFUSAL,
+                line: MOST_ROWS + 1,
+            });
         }
-        let code = rows[i];
-        let a = rows[i + 1];
-        let b = rows[i + 2];
-        if !language::is_row(code, a, b, rows[i + 3]) {
-            return Filled::Refused(LINE_REFUSAL, line);
+        let (code, a, b) = (
+            language::letter_at(rows, at),
+            language::first(rows, at),
+            language::second(rows, at),
+        );
+        if !language::is_row(code, a, b, rows[at * NUMBERS_A_ROW + 3]) {
+            return Err(Refusal {
+                number: LINE_REFUSAL,
+                line: at as u32 + 1,
+            });
         }
-        at = write_line(held, at, code, a, b);
-        i += 4;
-        line += 1;
+        end = write_line(held, end, code, a, b);
     }
-    Filled::Done(at)
+    Ok(end)
 }
 
-// Writes rows as text: formatted aside first, and copied where it fits, so that a refusal changes nothing.
-fn write_through(rows: &[u32], held: &mut [u8], text: &mut [u8]) -> Filled
-    requires { (14 * length rows.now ≤ 4 * length held.old) ⊎ (14 * of_check.rows ≤ length held.old) }
+// Writes rows as text: formatted first into a buffer held aside, of as many bytes as the parameter says, and copied where
+// it fits, so that a refusal changes nothing.
+fn write_held<const ROOM: usize>(rows: &[u32], text: &mut [u8]) -> Result<usize, Refusal>
+    requires enough { (14 * length rows.now ≤ 4 * ROOM) ⊎ (14 * of_check.rows ≤ ROOM) }
+    requires bounded { ROOM ≤ 14 * of_check.rows }
     ensures { (result ≡ answer 1 (write_rows ours rows.now) (length text.old))
         × (text.new ≡ buffer (write_rows ours rows.now) text.old) }
 {
-    let formatted = format_rows(rows, held);
-    let Filled::Done(n) = formatted else {
-        return formatted;
-    };
-    if text.len() < n {
-        return Filled::Refused(ROOM_REFUSAL, 0);
+    let mut held = [0u8; ROOM];
+    let count = format_rows(rows, &mut held)?;
+    if text.len() < count {
+        return Err(Refusal {
+            number: ROOM_REFUSAL,
+            line: 0,
+        });
     }
-    fields::copy_bytes(held, text, n);
-    Filled::Done(n)
+    text[..count].copy_from_slice(&held[..count]);
+    Ok(count)
 }
 
 // Writes rows as text. Few rows pay for a short buffer alone.
-pub fn write_text(rows: &[u32], text: &mut [u8]) -> Filled
+pub fn write_text(rows: &[u32], text: &mut [u8]) -> Result<usize, Refusal>
     ensures { (result ≡ answer 1 (write_rows ours rows.now) (length text.old))
         × (text.new ≡ buffer (write_rows ours rows.now) text.old) }
 {
-    if rows.len() <= 256 {
-        let mut held = [0u8; 896];
-        return write_through(rows, &mut held, text);
+    if rows.len() <= FEW_ROWS * NUMBERS_A_ROW {
+        write_held::<SMALL_ROOM>(rows, text)
+    } else if rows.len() <= MANY_ROWS * NUMBERS_A_ROW {
+        write_held::<MIDDLE_ROOM>(rows, text)
+    } else {
+        write_held::<MOST_ROOM>(rows, text)
     }
-    if rows.len() <= 4096 {
-        let mut held = [0u8; 14336];
-        return write_through(rows, &mut held, text);
-    }
-    let mut held = [0u8; 840000];
-    write_through(rows, &mut held, text)
 }

@@ -1,22 +1,15 @@
 -- `reader::close_line` meets its contract. Assumes nothing.
-use mathlib.Core.Path.{sym, ◌∙◌}
-use lib.ListN.{get_or}
-use Rattle.text.proofs.Lines.{closed_past, closed_at}
-use borrow.Author.Tests.{eq-eqb, ne_eqb}
+use Rattle.std.proofs.Common.{sym}
+use Rattle.text.proofs.Lines.{closed_past, closed_other, closed_feed}
 use Rattle.reader.proofs.close_line.Goals as goal
+use Rattle.reader.proofs.close_line.Goals.{then-s-at-via-then-s-at, then-s-at-via-else-s-at+then-s-at-ne10}
 
 pub returns-then-s-at : goal.returns-then-s-at
-returns-then-s-at c = let at = c.args.at in
-    sym (closed_past c.args.code c.args.a c.args.b at at c.args.s.now c.if-s-at.true)
-
-pub returns-then-s-at-ne10 : goal.returns-then-s-at-ne10
-returns-then-s-at-ne10 c = let s = c.args.s.now in
-    let at = c.args.at in
-    sym (closed_at c.args.code c.args.a c.args.b at at s c.if-s-at.false ∙ simp
-    (ne_eqb (get_or s at 0) 10 c.if-s-at-ne10.true))
+returns-then-s-at c = elim c.then-s-at.branch [
+  | then-s-at-via-then-s-at w ↦ sym (closed_past _ _ _ _ _ _ w.if-s-at.true)
+  | then-s-at-via-else-s-at+then-s-at-ne10 w ↦
+      sym (closed_other _ _ _ _ _ _ w.if-s-at.false w.if-s-at-ne10.true)
+]
 
 pub returns : goal.returns
-returns c = let s = c.args.s.now in
-    let at = c.args.at in
-    sym (closed_at c.args.code c.args.a c.args.b at at s c.if-s-at.false ∙ simp
-    (eq-eqb (get_or s at 0) 10 c.if-s-at-ne10.false))
+returns c = sym (closed_feed _ _ _ _ _ _ c.if-s-at.false c.if-s-at-ne10.false)
