@@ -3,7 +3,7 @@
 -- include/fickle.h, which say the functions of Unpacked in words, tell each answer from every other.
 use mathlib.Core.Path.{◌≡◌, refl, ap, ◌∙◌}
 use Prim.Native.Nat.{ℕ, ◌/◌, ◌≤◌, ◌<◌}
-use mathlib.Core.Bool.{true, false, cond}
+use mathlib.Core.Bool.{true, false}
 use mathlib.Core.Option.{Option, none, some}
 use mathlib.Core.List.{List}
 use lib.ListN.{length}
@@ -15,28 +15,24 @@ use Rattle.language.specs.Limits.{numbers_a_row, room_refusal, no_line, null_exc
 use Rattle.language.specs.Limits.{spent_stop}
 use Rattle.language.specs.Limits.{deep_stop, full_stop}
 use Rattle.language.specs.Filling.{answer, made_numbers}
-use Rattle.language.specs.declared.Filled.{Filled}
-use Rattle.language.specs.declared.Filled.TheVariants.{Done, Refused}
+use Rattle.std.specs.Prelude.{Option as Maybe, Some, None, Result, Ok, Err}
+use Rattle.language.specs.Refusals.{refusal as refusal_of}
+use Rattle.language.specs.declared.Refusal.{Refusal as CodeRefusal}
 use Rattle.language.specs.Alphabet.{ours}
 use Rattle.language.specs.Texts.{read_text, write_rows}
 use Rattle.language.specs.Verdict.{Verdict, accepted, refused, verdict}
 use Rattle.language.specs.Translation.{translation}
 use Rattle.language.specs.State.{Value, null, truth, object}
 use Rattle.language.specs.Store.{Outcome, gave, ran, Ran, run_of}
-use Rattle.fleet.specs.Counts.{class_refusal, first_place, Counts, run_counts, counts_through, count_told}
+use Rattle.fleet.specs.Counts.{class_refusal, first_place, Counts, labels, run_counts, counts_through, count_told}
 use Rattle.fleet.specs.Ranking.{report_answer}
 use Rattle.fleet.specs.Fleet.{fleet_report, models_report}
-use Rattle.fleet.specs.declared.Count.TheVariants.{Labels, Refused as NotCounted}
-use Rattle.fleet.specs.declared.Reported.{Reported}
-use Rattle.prices.specs.Calendar.{day_answer, date_answer}
+use Rattle.fleet.specs.declared.Fault.{Fault}
+use Rattle.prices.specs.Calendar.{date, day_answer, date_answer}
 use Rattle.prices.specs.Prices.{price_on_day, price_on_date}
 use Rattle.prices.specs.Reports.{price_report}
-use Rattle.prices.specs.declared.DayAnswer.{DayAnswer}
-use Rattle.prices.specs.declared.DayAnswer.TheVariants.{Day, Refused as NoDay}
-use Rattle.prices.specs.declared.DateAnswer.{DateAnswer}
-use Rattle.prices.specs.declared.DateAnswer.TheVariants.{Date, Refused as NoDate}
-use Rattle.prices.specs.declared.PriceAnswer.{PriceAnswer}
-use Rattle.prices.specs.declared.PriceAnswer.TheVariants.{Cents, Unpriced, Refused as NotPriced}
+use Rattle.prices.specs.declared.Date.{Date}
+use Rattle.prices.specs.declared.Price.{Price}
 use Rattle.promises.specs.Listed.{ListedFilling, is_filled, has_no_room, is_not_made, ListedVerdict}
 use Rattle.promises.specs.Listed.{is_accepted}
 use Rattle.promises.specs.Listed.{is_refused, ListedOutcome, a_value, exception_1, exception_2, stop_14}
@@ -55,7 +51,7 @@ use Rattle.packing.specs.Packed.{report_number, report_told, packed_day, packed_
 use Rattle.packing.specs.Packed.{month_after, day_after, packed_price, cents_after, line_after, priced}
 use Rattle.packing.specs.Unpacked.{number_in, line_in, by_number, unpacked, unpacked_verdict}
 use Rattle.packing.specs.Unpacked.{unpacked_value, without_value, unpacked_run, unpacked_count}
-use Rattle.packing.specs.Unpacked.{unpacked_report}
+use Rattle.packing.specs.Unpacked.{unpacked_report, done_or_refused, price_told}
 use Rattle.packing.specs.Unpacked.{unpacked_day, unpacked_date, unpacked_price}
 use Rattle.packing.proofs.Ranges.{Tellable, tells, OfProgram, tellable, reader_range, writer_range}
 use Rattle.packing.proofs.Ranges.{check_range, run_range}
@@ -80,18 +76,26 @@ refusal_back result other {number} {line} w =
     let b : line_in (refusal number line) ≡ line = omega (arith, w.short) in
     rw (a, b, ne_eqb number 0 (λ e. omega (arith, e, w.numbered)))
 
+-- Both of an answer.
+done_back : {A : Type 0} (done : ℕ → A) (n : ℕ) → n < word → done_or_refused done n ≡ Ok (done n)
+done_back done n h = result_back (λ n. Ok (done n)) (λ number line. Err (refusal_of number line)) n h
+
+refused_back : {A : Type 0} (done : ℕ → A) {number line : ℕ} → Tellable number line
+    → done_or_refused done (refusal number line) ≡ Err (refusal_of number line)
+refused_back done w = refusal_back (λ n. Ok (done n)) (λ number line. Err (refusal_of number line)) w
+
 -- ---- texts, the check, the translation
 
 -- An answer of a service that fills a lent buffer, where two words hold its refusals and the count of what it writes.
 filling_back : (width : ℕ) {Refusal : ℕ → ℕ → Type 0} {made : Checked (List ℕ)} {old after : List ℕ}
-    {a : Filled}
+    {a : Result ℕ CodeRefusal}
     → ListedFilling width Refusal made old a after → ((n l : ℕ) → Refusal n l → Tellable n l)
     → length (made_numbers made) / width < word → unpacked (packed a) ≡ a
 filling_back width (is_filled {xs} e h) range few =
-    result_back Done Refused (length xs / width) (rw (ap (λ c. length (made_numbers c) / width) e) at few)
+    done_back (λ n. n) (length xs / width) (rw (ap (λ c. length (made_numbers c) / width) e) at few)
 filling_back width (has_no_room e h) range few =
-    refusal_back Done Refused (tells room_refusal no_line (omega arith) (omega arith))
-filling_back width (is_not_made {n} {l} e w) range few = refusal_back Done Refused (range n l w)
+    refused_back (λ n. n) (tells room_refusal no_line (omega arith) (omega arith))
+filling_back width (is_not_made {n} {l} e w) range few = refused_back (λ n. n) (range n l w)
 
 -- What the reader returns tells how many rows it wrote, or its refusal.
 pub reader_faithful : (text old : List ℕ)
@@ -184,8 +188,8 @@ count_back : (c : Option Counts) (printed₀ spoiled₀ : ℕ)
     → let a = count_told c in
     unpacked_count (packed_count a) (printed_after a printed₀) (spoiled_after a spoiled₀) ≡ a
 count_back (some c) printed₀ spoiled₀ =
-    result_back (λ _. Labels c.printed c.spoiled) NotCounted 0 (omega arith)
-count_back none printed₀ spoiled₀ = refusal_back (λ _. Labels printed₀ spoiled₀) NotCounted
+    done_back (λ _. labels c.printed c.spoiled) 0 (omega arith)
+count_back none printed₀ spoiled₀ = refused_back (λ _. labels printed₀ spoiled₀)
     (tells class_refusal first_place (omega arith) (omega arith))
 
 -- What counting a run returns and stores tells its two counts, or its refusal.
@@ -201,7 +205,7 @@ pub plain_count_faithful : (rows store : List ℕ) (objects printed spoiled prin
 plain_count_faithful rows store objects printed spoiled =
     count_back (counts_through rows store objects printed spoiled)
 
-report_back : {Refusal : ℕ → ℕ → Type 0} {made : Checked (List ℕ)} {old after : List ℕ} {a : Reported}
+report_back : {Refusal : ℕ → ℕ → Type 0} {made : Checked (List ℕ)} {old after : List ℕ} {a : Result ℕ Fault}
     → ListedReport Refusal made old a after → ((n l : ℕ) → Refusal n l → 1 ≤ n)
     → unpacked_report (report_number a) (report_told a) ≡ a
 report_back (is_reported e h) range = refl
@@ -228,11 +232,10 @@ pub day_faithful : (year month day : ℕ)
     → let a = day_answer year month day in unpacked_day (packed_day a) ≡ a
 day_faithful year month day = go (day_answer year month day) refl
   where
-    go : (a : DayAnswer) → day_answer year month day ≡ a → unpacked_day (packed_day a) ≡ a
-    go (Day n) e = result_back Day NoDay n (omega (arith, ((day_answered year month day n).0 e).0))
-    go (NoDay n l) e = let w = (day_answer_refused year month day n l).0 e in
-        refusal_back Day NoDay
-        (tells n l (omega (arith, w.number_is)) (omega (arith, w.line_is)))
+    go : (a : Result ℕ CodeRefusal) → day_answer year month day ≡ a → unpacked_day (packed_day a) ≡ a
+    go (Ok n) e = done_back (λ n. n) n (omega (arith, ((day_answered year month day n).0 e).0))
+    go (Err r) e = let w = (day_answer_refused year month day r.number r.line).0 e in
+        refused_back (λ n. n) (tells r.number r.line (omega (arith, w.number_is)) (omega (arith, w.line_is)))
 
 -- What is returned and stored for a day tells its date, or the refusal.
 pub date_faithful : (n year₀ month₀ day₀ : ℕ)
@@ -240,21 +243,20 @@ pub date_faithful : (n year₀ month₀ day₀ : ℕ)
     unpacked_date (packed_date a) (year_after a year₀) (month_after a month₀) (day_after a day₀) ≡ a
 date_faithful n year₀ month₀ day₀ = go (date_answer n) refl
   where
-    go : (a : DateAnswer) → date_answer n ≡ a
+    go : (a : Result Date CodeRefusal) → date_answer n ≡ a
         → unpacked_date (packed_date a) (year_after a year₀) (month_after a month₀) (day_after a day₀) ≡ a
-    go (Date y m d) e = result_back (λ _. Date y m d) NoDate 0 (omega arith)
-    go (NoDate k l) e = let w = (date_answer_refused n k l).0 e in
-        refusal_back (λ _. Date year₀ month₀ day₀) NoDate
-        (tells k l (omega (arith, w.0)) (omega (arith, w.1)))
+    go (Ok d) e = done_back (λ _. d) 0 (omega arith)
+    go (Err r) e = let w = (date_answer_refused n r.number r.line).0 e in
+        refused_back (λ _. date year₀ month₀ day₀)
+        (tells r.number r.line (omega (arith, w.0)) (omega (arith, w.1)))
 
-price_back : (a : PriceAnswer) (cents₀ line₀ : ℕ) → ((n l : ℕ) → a ≡ NotPriced n l → Tellable n l)
+price_back : (a : Result (Maybe Price) CodeRefusal) (cents₀ line₀ : ℕ)
+    → ((n l : ℕ) → a ≡ Err (refusal_of n l) → Tellable n l)
     → unpacked_price (packed_price a) (cents_after a cents₀) (line_after a line₀) ≡ a
-price_back (Cents cents line) cents₀ line₀ range =
-    result_back (λ n. cond (eqb n priced) (Cents cents line) Unpriced) NotPriced priced (omega arith)
-price_back Unpriced cents₀ line₀ range =
-    result_back (λ n. cond (eqb n priced) (Cents cents₀ line₀) Unpriced) NotPriced 0 (omega arith)
-price_back (NotPriced n l) cents₀ line₀ range =
-    refusal_back (λ n. cond (eqb n priced) (Cents cents₀ line₀) Unpriced) NotPriced (range n l refl)
+price_back (Ok (Some p)) cents₀ line₀ range = done_back (λ n. price_told n p.cents p.line) priced (omega arith)
+price_back (Ok None) cents₀ line₀ range = done_back (λ n. price_told n cents₀ line₀) 0 (omega arith)
+price_back (Err r) cents₀ line₀ range =
+    refused_back (λ n. price_told n cents₀ line₀) (range r.number r.line refl)
 
 -- What is returned and stored for a price on a day tells its cents and the line of its term, that there is none, or the
 -- refusal.

@@ -43,7 +43,8 @@ use Rattle.promises.proofs.PriceDemands.{terms_refusals, refused_at_most, report
 use Rattle.language.specs.WellFormed.{Each, each_nil, each_cons}
 use Rattle.fleet.specs.Ranking.{Counted}
 use mathlib.Core.Option.{Option}
-use Rattle.prices.specs.Calendar.{Date, date_refusal}
+use Rattle.prices.specs.Calendar.{date_refusal}
+use Rattle.prices.specs.declared.Date.{Date}
 use Rattle.prices.specs.Reports.{PriceRun, run_line, run_lines, price_report}
 use Rattle.prices.proofs.Runs.{line_short}
 use Rattle.packing.specs.Packed.{word}

@@ -1,23 +1,16 @@
 -- Every answer as the numbers that cross to C: the one returned, and those stored where the caller says. What a caller
 -- makes of them is in Unpacked.
-use Rattle.std.specs.Prelude.{◌≡◌, ℕ, suc, ◌+◌, ◌*◌, cond}
-use Rattle.language.specs.declared.Filled.{Filled}
-use Rattle.language.specs.declared.Filled.TheVariants.{Done, Refused}
+use Rattle.std.specs.Prelude.{◌≡◌, ℕ, suc, ◌+◌, ◌*◌, cond, Option, Some, None, Result, Ok, Err}
+use Rattle.language.specs.declared.Refusal.{Refusal}
 use Rattle.language.specs.Limits.{spent_stop, deep_stop, full_stop}
 use Rattle.language.specs.Verdict as verdicts
 use Rattle.language.specs.Verdict.{accepted, refused as not_accepted}
 use Rattle.language.specs.State.{Value as Meaning, null, truth, object, raised, spent, deep, full, stuck}
 use Rattle.language.specs.Store.{Outcome, gave, ended, Answer, refused, ran}
-use Rattle.fleet.specs.declared.Count.{Count}
-use Rattle.fleet.specs.declared.Count.TheVariants.{Labels, Refused as NotCounted}
-use Rattle.fleet.specs.declared.Reported.{Reported}
-use Rattle.fleet.specs.declared.Reported.TheVariants.{Done as Written, Refused as NotWritten}
-use Rattle.prices.specs.declared.DayAnswer.{DayAnswer}
-use Rattle.prices.specs.declared.DayAnswer.TheVariants.{Day, Refused as NoDay}
-use Rattle.prices.specs.declared.DateAnswer.{DateAnswer}
-use Rattle.prices.specs.declared.DateAnswer.TheVariants.{Date, Refused as NoDate}
-use Rattle.prices.specs.declared.PriceAnswer.{PriceAnswer}
-use Rattle.prices.specs.declared.PriceAnswer.TheVariants.{Cents, Unpriced, Refused as NotPriced}
+use Rattle.fleet.specs.declared.Labels.{Labels}
+use Rattle.fleet.specs.declared.Fault.{Fault}
+use Rattle.prices.specs.declared.Date.{Date}
+use Rattle.prices.specs.declared.Price.{Price}
 
 -- One number holds two words of 32 bits: of a refusal, its number and its line.
 abbrev pub word : ℕ
@@ -26,11 +19,20 @@ word = 4294967296
 abbrev pub refusal : ℕ → ℕ → ℕ
 refusal number line = number * word + line
 
+-- What is returned of an answer: a number of what was done, or the refusal.
+abbrev pub packed_by : {A : Type 0} → (A → ℕ) → Result A Refusal → ℕ
+packed_by number_of (Ok a) = number_of a
+packed_by number_of (Err r) = refusal r.number r.line
+
+-- What is stored of it: a number of what was done; else what was there before.
+abbrev pub stored_by : {A : Type 0} → (A → ℕ) → Result A Refusal → ℕ → ℕ
+stored_by number_of (Ok a) before = number_of a
+stored_by number_of (Err r) before = before
+
 -- ---- rows or bytes written: how many, or a refusal
 
-abbrev pub packed : Filled → ℕ
-packed (Done n) = n
-packed (Refused number line) = refusal number line
+abbrev pub packed : Result ℕ Refusal → ℕ
+packed a = packed_by (λ n. n) a
 
 -- ---- the verdict: 0 accepted, or a refusal
 
@@ -109,71 +111,65 @@ changes_after (ran o steps objects changes) before = changes
 
 -- ---- labels of a run: 0 with both counts stored, or a refusal
 
-abbrev pub packed_count : Count → ℕ
-packed_count (Labels printed spoiled) = 0
-packed_count (NotCounted number line) = refusal number line
+abbrev pub packed_count : Result Labels Refusal → ℕ
+packed_count a = packed_by (λ labels. 0) a
 
-abbrev pub printed_after : Count → ℕ → ℕ
-printed_after (Labels printed spoiled) before = printed
-printed_after (NotCounted number line) before = before
+abbrev pub printed_after : Result Labels Refusal → ℕ → ℕ
+printed_after a before = stored_by (λ (labels : Labels). labels.printed) a before
 
-abbrev pub spoiled_after : Count → ℕ → ℕ
-spoiled_after (Labels printed spoiled) before = spoiled
-spoiled_after (NotCounted number line) before = before
+abbrev pub spoiled_after : Result Labels Refusal → ℕ → ℕ
+spoiled_after a before = stored_by (λ (labels : Labels). labels.spoiled) a before
 
--- ---- a report: 0 and how many bytes were written, or a refusal's number and line
+-- ---- a report: 0 and how many bytes were written, or a refusal's number and its place
 
-abbrev pub report_number : Reported → ℕ
-report_number (Written bytes) = 0
-report_number (NotWritten number line) = number
+abbrev pub report_number : Result ℕ Fault → ℕ
+report_number (Ok bytes) = 0
+report_number (Err f) = f.number
 
-abbrev pub report_told : Reported → ℕ
-report_told (Written bytes) = bytes
-report_told (NotWritten number line) = line
+abbrev pub report_told : Result ℕ Fault → ℕ
+report_told (Ok bytes) = bytes
+report_told (Err f) = f.place
 
 -- ---- the calendar: a day's number, or a refusal; 0 with the three numbers of a date stored, or a refusal
 
-abbrev pub packed_day : DayAnswer → ℕ
-packed_day (Day n) = n
-packed_day (NoDay number line) = refusal number line
+abbrev pub packed_day : Result ℕ Refusal → ℕ
+packed_day a = packed a
 
-abbrev pub packed_date : DateAnswer → ℕ
-packed_date (Date year month day) = 0
-packed_date (NoDate number line) = refusal number line
+abbrev pub packed_date : Result Date Refusal → ℕ
+packed_date a = packed_by (λ date. 0) a
 
-abbrev pub year_after : DateAnswer → ℕ → ℕ
-year_after (Date year month day) before = year
-year_after (NoDate number line) before = before
+abbrev pub year_after : Result Date Refusal → ℕ → ℕ
+year_after a before = stored_by (λ (date : Date). date.year) a before
 
-abbrev pub month_after : DateAnswer → ℕ → ℕ
-month_after (Date year month day) before = month
-month_after (NoDate number line) before = before
+abbrev pub month_after : Result Date Refusal → ℕ → ℕ
+month_after a before = stored_by (λ (date : Date). date.month) a before
 
-abbrev pub day_after : DateAnswer → ℕ → ℕ
-day_after (Date year month day) before = day
-day_after (NoDate number line) before = before
+abbrev pub day_after : Result Date Refusal → ℕ → ℕ
+day_after a before = stored_by (λ (date : Date). date.day) a before
 
 -- ---- a price: 1 with its cents and its term's line stored, 0 where there is none, or a refusal
 
 abbrev pub priced : ℕ
 priced = 1
 
-abbrev pub packed_price : PriceAnswer → ℕ
-packed_price (Cents cents line) = priced
-packed_price Unpriced = 0
-packed_price (NotPriced number line) = refusal number line
+abbrev pub is_priced : Option Price → ℕ
+is_priced (Some price) = priced
+is_priced None = 0
 
-abbrev pub cents_after : PriceAnswer → ℕ → ℕ
-cents_after (Cents cents line) before = cents
-cents_after Unpriced before = before
-cents_after (NotPriced number line) before = before
+abbrev pub packed_price : Result (Option Price) Refusal → ℕ
+packed_price a = packed_by is_priced a
 
-abbrev pub line_after : PriceAnswer → ℕ → ℕ
-line_after (Cents cents line) before = line
-line_after Unpriced before = before
-line_after (NotPriced number line) before = before
+abbrev pub cents_after : Result (Option Price) Refusal → ℕ → ℕ
+cents_after (Ok (Some price)) before = price.cents
+cents_after (Ok None) before = before
+cents_after (Err r) before = before
+
+abbrev pub line_after : Result (Option Price) Refusal → ℕ → ℕ
+line_after (Ok (Some price)) before = price.line
+line_after (Ok None) before = before
+line_after (Err r) before = before
 
 -- The answer's number, with what cents and line were before and are afterwards.
-abbrev pub TellsPrice : PriceAnswer → ℕ → ℕ → ℕ → ℕ → ℕ → Type 0
+abbrev pub TellsPrice : Result (Option Price) Refusal → ℕ → ℕ → ℕ → ℕ → ℕ → Type 0
 TellsPrice a number cents₀ cents line₀ line =
     (number ≡ packed_price a) × ((cents ≡ cents_after a cents₀) × (line ≡ line_after a line₀))

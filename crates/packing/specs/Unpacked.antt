@@ -1,23 +1,20 @@
 -- What the numbers mean that cross to C: the way back from those of Packed to the answer. A caller sees the number that is
 -- returned and what is stored afterwards; where a service stores nothing, what the caller had there before. The comments
 -- of include/fickle.h say these functions in words, and Faithful proves that each gives back every answer of its service.
-use Rattle.std.specs.Prelude.{ℕ, zero, suc, ◌/◌, ◌%◌, cond, eqb}
-use Rattle.language.specs.declared.Filled.{Filled}
-use Rattle.language.specs.declared.Filled.TheVariants.{Done, Refused}
+use Rattle.std.specs.Prelude.{ℕ, zero, suc, ◌/◌, ◌%◌, cond, eqb, Option, Some, None, Result, Ok, Err}
+use Rattle.language.specs.Refusals.{refusal as refusal_of}
+use Rattle.language.specs.declared.Refusal.{Refusal}
 use Rattle.language.specs.Limits.{spent_stop, deep_stop, full_stop}
 use Rattle.language.specs.Verdict.{Verdict, accepted, refused as not_accepted}
 use Rattle.language.specs.State.{Value, null, truth, object, raised, spent, deep, full}
 use Rattle.language.specs.Store.{gave, ended, Answer, refused, ran}
-use Rattle.fleet.specs.declared.Count.{Count}
-use Rattle.fleet.specs.declared.Count.TheVariants.{Labels, Refused as NotCounted}
-use Rattle.fleet.specs.declared.Reported.{Reported}
-use Rattle.fleet.specs.declared.Reported.TheVariants.{Done as Written, Refused as NotWritten}
-use Rattle.prices.specs.declared.DayAnswer.{DayAnswer}
-use Rattle.prices.specs.declared.DayAnswer.TheVariants.{Day, Refused as NoDay}
-use Rattle.prices.specs.declared.DateAnswer.{DateAnswer}
-use Rattle.prices.specs.declared.DateAnswer.TheVariants.{Date, Refused as NoDate}
-use Rattle.prices.specs.declared.PriceAnswer.{PriceAnswer}
-use Rattle.prices.specs.declared.PriceAnswer.TheVariants.{Cents, Unpriced, Refused as NotPriced}
+use Rattle.fleet.specs.Counts.{labels}
+use Rattle.fleet.specs.Ranking.{fault}
+use Rattle.fleet.specs.declared.Labels.{Labels}
+use Rattle.fleet.specs.declared.Fault.{Fault}
+use Rattle.prices.specs.Calendar.{date}
+use Rattle.prices.specs.declared.Date.{Date}
+use Rattle.prices.specs.declared.Price.{Price}
 use Rattle.packing.specs.Packed.{word, exception, null_kind, bool_kind, priced}
 
 -- The two words of a number: FICKLE_NUMBER and FICKLE_LINE.
@@ -33,9 +30,13 @@ abbrev pub by_number : {A : Type 0} → (ℕ → A) → (ℕ → ℕ → A) → 
 by_number result refusal w =
     cond (eqb (number_in w) 0) (result (line_in w)) (refusal (number_in w) (line_in w))
 
+-- What was done, where the number is 0; else the refusal.
+abbrev pub done_or_refused : {A : Type 0} → (ℕ → A) → ℕ → Result A Refusal
+done_or_refused done w = by_number (λ n. Ok (done n)) (λ number line. Err (refusal_of number line)) w
+
 -- Reader, writer, translator, report of prices: how many rows or bytes were written.
-abbrev pub unpacked : ℕ → Filled
-unpacked w = by_number Done Refused w
+abbrev pub unpacked : ℕ → Result ℕ Refusal
+unpacked w = done_or_refused (λ n. n) w
 
 -- The check: accepted.
 abbrev pub unpacked_verdict : ℕ → Verdict
@@ -68,22 +69,25 @@ unpacked_run w kind content steps objects changes = by_number
     w
 
 -- Labels of a run, from its store or from its plain run's: the two counts.
-abbrev pub unpacked_count : ℕ → ℕ → ℕ → Count
-unpacked_count w printed spoiled = by_number (λ _. Labels printed spoiled) NotCounted w
+abbrev pub unpacked_count : ℕ → ℕ → ℕ → Result Labels Refusal
+unpacked_count w printed spoiled = done_or_refused (λ _. labels printed spoiled) w
 
 -- Reports over counted lines and over fleets. The number is returned alone; beside it is how many bytes were written,
--- or a refusal's line.
-abbrev pub unpacked_report : ℕ → ℕ → Reported
-unpacked_report number told = cond (eqb number 0) (Written told) (NotWritten number told)
+-- or a refusal's place.
+abbrev pub unpacked_report : ℕ → ℕ → Result ℕ Fault
+unpacked_report number told = cond (eqb number 0) (Ok told) (Err (fault number told))
 
 -- The day of a date: its number.
-abbrev pub unpacked_day : ℕ → DayAnswer
-unpacked_day w = by_number Day NoDay w
+abbrev pub unpacked_day : ℕ → Result ℕ Refusal
+unpacked_day w = unpacked w
 
 -- The date of a day: year, month and day of the month.
-abbrev pub unpacked_date : ℕ → ℕ → ℕ → ℕ → DateAnswer
-unpacked_date w year month day = by_number (λ _. Date year month day) NoDate w
+abbrev pub unpacked_date : ℕ → ℕ → ℕ → ℕ → Result Date Refusal
+unpacked_date w year month day = done_or_refused (λ _. date year month day) w
 
 -- A price on a day or on a date: where the result is 1, the cents and the line of its term; else there is none.
-abbrev pub unpacked_price : ℕ → ℕ → ℕ → PriceAnswer
-unpacked_price w cents line = by_number (λ n. cond (eqb n priced) (Cents cents line) Unpriced) NotPriced w
+abbrev pub price_told : ℕ → ℕ → ℕ → Option Price
+price_told n cents line = cond (eqb n priced) (Some (record { cents = cents; line = line })) None
+
+abbrev pub unpacked_price : ℕ → ℕ → ℕ → Result (Option Price) Refusal
+unpacked_price w cents line = done_or_refused (λ n. price_told n cents line) w
