@@ -12,8 +12,8 @@ ghost use Rattle.language.specs.Translation.{translation};
 ghost use Rattle.language.specs.Filling.{answer, buffer};
 ghost use Rattle.plain.specs.Answers.{PlainWritten, SomeAccepted};
 
-use language::{Filled, RESERVED_REFUSAL, ROOM_REFUSAL};
-use limits::{over_limits, reserved_name};
+use language::{NUMBERS_A_ROW, ROOM_REFUSAL, Refusal};
+use limits::{check_limits, check_reserved};
 use program::emit_program;
 
 // The plain rows, where there is room for them.
@@ -23,18 +23,20 @@ fn write_plain(
     methods: &[u16],
     lookups: &[u16],
     out: &mut [u32],
-) -> Filled
+) -> Result<usize, Refusal>
     requires { SomeProgram rows.now tables.now methods.now lookups.now }
     ensures { PlainWritten rows.now tables.now methods.now
         lookups.now out.old out.new result }
 {
-    let mut none = [0u32; 1];
-    let count = emit_program(rows, tables, methods, lookups, &mut none);
+    let count = emit_program(rows, tables, methods, lookups, &mut []);
     if out.len() < count {
-        return Filled::Refused(ROOM_REFUSAL, 0);
+        return Err(Refusal {
+            number: ROOM_REFUSAL,
+            line: 0,
+        });
     }
     let written = emit_program(rows, tables, methods, lookups, out);
-    Filled::Done(written / 4)
+    Ok(written / NUMBERS_A_ROW)
 }
 
 // Translates rows that the check accepts, with what its passes left in their tables.
@@ -45,18 +47,12 @@ pub fn translate_checked(
     methods: &[u16],
     lookups: &[u16],
     out: &mut [u32],
-) -> Filled
+) -> Result<usize, Refusal>
     requires { SomeAccepted rows.now ends.now tables.now methods.now lookups.now }
     ensures { (result ≡ answer 4 (translation rows.now) (length out.old))
         × (out.new ≡ buffer (translation rows.now) out.old) }
 {
-    let limited = over_limits(rows, ends, tables);
-    let Filled::Done(n) = limited else {
-        return limited;
-    };
-    let line = reserved_name(rows, ends, 0);
-    if line != 0 {
-        return Filled::Refused(RESERVED_REFUSAL, line);
-    }
+    check_limits(rows, ends, tables)?;
+    check_reserved(rows, ends, 0)?;
     write_plain(rows, tables, methods, lookups, out)
 }

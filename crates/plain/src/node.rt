@@ -42,8 +42,7 @@ pub fn emit_node(
     let number = first(rows, at);
     match letter {
         TRUE | FALSE | NULL => {
-            let line = [letter, 0, 0, 0];
-            let p = put(out, place, &line);
+            let p = put(out, place, &[[letter, 0, 0, 0]]);
             Next {
                 place: p,
                 at: at + 1,
@@ -73,29 +72,18 @@ pub fn emit_node(
             }
         }
         IS_NULL => {
-            let line = [IS_NULL, 0, 0, 0];
-            let p = put(out, place, &line);
+            let p = put(out, place, &[[IS_NULL, 0, 0, 0]]);
             emit_node(rows, tables, methods, lookups, slots, out, p, at + 1, scope)
         }
         ASSIGN => {
-            let line = [ASSIGN, slots[number as usize], 0, 0];
-            let p = put(out, place, &line);
+            let p = put(out, place, &[[ASSIGN, slots[number as usize], 0, 0]]);
             emit_node(rows, tables, methods, lookups, slots, out, p, at + 1, scope)
         }
         GET => {
             let lines = [
-                GET,
-                number,
-                0,
-                0,
-                CAST,
-                lookups[at] as u32 + 2,
-                0,
-                0,
-                GET,
-                IMP,
-                0,
-                0,
+                [GET, number, 0, 0],
+                [CAST, lookups[at] as u32 + 2, 0, 0],
+                [GET, IMP, 0, 0],
             ];
             let p = put(out, place, &lines);
             emit_node(rows, tables, methods, lookups, slots, out, p, at + 1, scope)
@@ -104,8 +92,7 @@ pub fn emit_node(
         SET => emit_set(rows, tables, methods, lookups, slots, out, place, at, scope),
         CALL => emit_call(rows, tables, methods, lookups, slots, out, place, at, scope),
         CHOOSE => {
-            let line = [CHOOSE, 0, 0, 0];
-            let p = put(out, place, &line);
+            let p = put(out, place, &[[CHOOSE, 0, 0, 0]]);
             emit_nodes(
                 rows,
                 tables,
@@ -144,8 +131,11 @@ fn emit_cast(
 {
     let object = scope.free;
     let head = [
-        BLOCK, 1, 1, 0, LOCAL, IDENTITY, 0, 0, CHOOSE, 0, 0, 0, IS_NULL, 0, 0, 0, ASSIGN, object,
-        0, 0,
+        [BLOCK, 1, 1, 0],
+        [LOCAL, IDENTITY, 0, 0],
+        [CHOOSE, 0, 0, 0],
+        [IS_NULL, 0, 0, 0],
+        [ASSIGN, object, 0, 0],
     ];
     let p = put(out, place, &head);
     let inner = Scope {
@@ -154,26 +144,11 @@ fn emit_cast(
     };
     let r = emit_node(rows, tables, methods, lookups, slots, out, p, at + 1, inner);
     let tail = [
-        NULL,
-        0,
-        0,
-        0,
-        GET,
-        ID,
-        0,
-        0,
-        CAST,
-        first(rows, at) + 2,
-        0,
-        0,
-        GET,
-        IMP,
-        0,
-        0,
-        SLOT,
-        object,
-        0,
-        0,
+        [NULL, 0, 0, 0],
+        [GET, ID, 0, 0],
+        [CAST, first(rows, at) + 2, 0, 0],
+        [GET, IMP, 0, 0],
+        [SLOT, object, 0, 0],
     ];
     let q = put(out, r.place, &tail);
     Next { place: q, at: r.at }
@@ -204,18 +179,9 @@ fn emit_set(
     let row = class_entry(tables, class, ROWS_BEFORE + field as usize);
     let object = scope.free;
     let head = [
-        BLOCK,
-        2,
-        3,
-        0,
-        LOCAL,
-        IDENTITY,
-        0,
-        0,
-        LOCAL,
-        plain_type(first(rows, row as usize)),
-        0,
-        0,
+        [BLOCK, 2, 3, 0],
+        [LOCAL, IDENTITY, 0, 0],
+        [LOCAL, plain_type(first(rows, row as usize)), 0, 0],
     ];
     let p = put(out, place, &head);
     let inner = Scope {
@@ -236,26 +202,11 @@ fn emit_set(
         object,
     );
     let tail = [
-        SET,
-        name,
-        0,
-        0,
-        CAST,
-        class + 2,
-        0,
-        0,
-        GET,
-        IMP,
-        0,
-        0,
-        SLOT,
-        object,
-        0,
-        0,
-        SLOT,
-        object + 1,
-        0,
-        0,
+        [SET, name, 0, 0],
+        [CAST, class + 2, 0, 0],
+        [GET, IMP, 0, 0],
+        [SLOT, object, 0, 0],
+        [SLOT, object + 1, 0, 0],
     ];
     let q = put(out, r.place, &tail);
     Next { place: q, at: r.at }
@@ -287,7 +238,7 @@ fn emit_call(
     let row = methods[(entry - 1) * METHOD_WIDTH] as usize;
     let object = scope.free;
     let nodes = count + 1;
-    let head = [BLOCK, nodes, count + 2, 0, LOCAL, IDENTITY, 0, 0];
+    let head = [[BLOCK, nodes, count + 2, 0], [LOCAL, IDENTITY, 0, 0]];
     let p = put(out, place, &head);
     let p = put_types(rows, out, p, row + 1, count as usize, LOCAL);
     let inner = Scope {
@@ -308,22 +259,10 @@ fn emit_call(
         object,
     );
     let tail = [
-        CALL,
-        name,
-        count,
-        0,
-        CAST,
-        class + 2,
-        0,
-        0,
-        GET,
-        IMP,
-        0,
-        0,
-        SLOT,
-        object,
-        0,
-        0,
+        [CALL, name, count, 0],
+        [CAST, class + 2, 0, 0],
+        [GET, IMP, 0, 0],
+        [SLOT, object, 0, 0],
     ];
     let q = put(out, r.place, &tail);
     let q = put_reads(out, q, object + 1, count);
@@ -351,8 +290,7 @@ fn emit_block(
 {
     let locals = first(rows, at);
     let count = second(rows, at);
-    let head = [BLOCK, locals, count, 0];
-    let p = put(out, place, &head);
+    let p = put(out, place, &[[BLOCK, locals, count, 0]]);
     let p = put_types(rows, out, p, at + 1, locals as usize, LOCAL);
     let added = with_locals(slots, scope, locals as usize);
     let inner = Scope {
@@ -394,10 +332,7 @@ fn emit_nodes(
         scope.free place count result.place result.at }
 {
     if count == 0 {
-        return Next {
-            place: place,
-            at: at,
-        };
+        return Next { place, at };
     }
     let r = emit_node(rows, tables, methods, lookups, slots, out, place, at, scope);
     emit_nodes(
@@ -436,13 +371,9 @@ fn emit_arguments(
         scope.free place count slot result.place result.at }
 {
     if count == 0 {
-        return Next {
-            place: place,
-            at: at,
-        };
+        return Next { place, at };
     }
-    let line = [ASSIGN, slot, 0, 0];
-    let p = put(out, place, &line);
+    let p = put(out, place, &[[ASSIGN, slot, 0, 0]]);
     let r = emit_node(rows, tables, methods, lookups, slots, out, p, at, scope);
     emit_arguments(
         rows,

@@ -53,8 +53,7 @@ fn emit_method(
         lookups.now out.old out.new at body place count result.place result.at }
 {
     let t = plain_type(first(rows, at));
-    let head = [METHOD, t, second(rows, at), 0];
-    let p = put(out, place, &head);
+    let p = put(out, place, &[[METHOD, t, second(rows, at), 0]]);
     let q = put_types(rows, out, p, at + 1, count, PARAMETER);
     emit_body(rows, tables, methods, lookups, out, q, body, count)
 }
@@ -74,10 +73,7 @@ fn emit_methods(
         lookups.now out.old out.new at place result.place result.at }
 {
     if letter_at(rows, at) != METHOD {
-        return Next {
-            place: place,
-            at: at,
-        };
+        return Next { place, at };
     }
     let parameters = at + 1;
     let p = layout::count_rows(rows, parameters, PARAMETER);
@@ -111,8 +107,7 @@ fn emit_class(
     ensures { ClassEmitted rows.now tables.now methods.now
         lookups.now out.old out.new at place result.place result.at }
 {
-    let head = [CLASS, 0, second(rows, at) + 2, 0];
-    let p = put(out, place, &head);
+    let p = put(out, place, &[[CLASS, 0, second(rows, at) + 2, 0]]);
     let fields = at + 1;
     let n = layout::count_rows(rows, fields, FIELD);
     let q = put_fields(rows, out, p, fields, n);
@@ -134,10 +129,7 @@ fn emit_classes(
         lookups.now out.old out.new at place result.place result.at }
 {
     if letter_at(rows, at) != CLASS {
-        return Next {
-            place: place,
-            at: at,
-        };
+        return Next { place, at };
     }
     let n = emit_class(rows, tables, methods, lookups, out, place, at);
     emit_classes(rows, tables, methods, lookups, out, n.place, n.at)
@@ -156,12 +148,14 @@ pub fn emit_program(
         lookups.now out.old out.new result }
 {
     let head = [
-        CLASS, 0, 0, 0, FIELD, FICKLE, IMP, 0, CLASS, 0, 0, 0, FIELD, IDENTITY, ID, 0,
+        [CLASS, 0, 0, 0],
+        [FIELD, FICKLE, IMP, 0],
+        [CLASS, 0, 0, 0],
+        [FIELD, IDENTITY, ID, 0],
     ];
     let p = put(out, 0, &head);
     let c = emit_classes(rows, tables, methods, lookups, out, p, 0);
-    let line = [START, 0, 0, 0];
-    let q = put(out, c.place, &line);
+    let q = put(out, c.place, &[[START, 0, 0, 0]]);
     let n = emit_body(rows, tables, methods, lookups, out, q, c.at + 1, 0);
     n.place
 }

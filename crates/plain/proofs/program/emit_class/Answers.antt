@@ -5,8 +5,8 @@ use Rattle.plain.proofs.program.emit_class.Goals as goal
 pub second-requires : goal.second-requires
 second-requires c = omega (arith, (class_known c.requires).0)
 
-pub overflow_add-head : goal.overflow_add-head
-overflow_add-head c = omega (arith, (class_known c.requires).2, c.second.ensures)
+pub overflow_add-second : goal.overflow_add-second
+overflow_add-second c = omega (arith, (class_known c.requires).2, c.second.ensures)
 
 pub put-p-requires : goal.put-p-requires
 put-p-requires c = omega (arith, (class_known c.requires).3)
