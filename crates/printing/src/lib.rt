@@ -1,5 +1,6 @@
 // The lines that the two programs print of answers (document 01, "Worked programs"), each written at a place of a lent output that has
 // room for it.
+// Kept: functions that write, no Display. Their contracts say which bytes stand at the place afterwards (`sets`) and which place comes next.
 #![tactic(auto)]
 
 ghost use Rattle.std.specs.Prelude.{◌≡◌, [], ◌∷◌, ◌+◌, ◌≤◌, length};
@@ -7,10 +8,9 @@ ghost use Rattle.std.proofs.lemmas.List.Edits.{sets};
 ghost use Rattle.language.specs.Printed.{refusal_text, counts_text, number_text};
 ghost use Rattle.printing.specs.Told.{value_text, end_text, ran_text, answer_text};
 
-use language::{FALSE, NULL, TRUE};
+use language::{FALSE, NULL, Refusal, TRUE};
 use machine::{End, Run};
 use objects::Value;
-use running::Answer;
 
 // The bytes of what is printed: null, a truth value, an object, an exception, a refusal or stop, and the end of a line.
 const NULL_BYTE: u8 = NULL as u8;
@@ -19,13 +19,13 @@ const TRUE_BYTE: u8 = TRUE as u8;
 
 const FALSE_BYTE: u8 = FALSE as u8;
 
-const OBJECT_BYTE: u8 = 79;
+const OBJECT_BYTE: u8 = b'O';
 
-const EXCEPTION_BYTE: u8 = 69;
+const EXCEPTION_BYTE: u8 = b'E';
 
-const STOP_BYTE: u8 = 33;
+const STOP_BYTE: u8 = b'!';
 
-const LINE_FEED: u8 = 10;
+const LINE_FEED: u8 = b'\n';
 
 // Writes a letter at a place, and returns the place after it.
 pub fn put_letter(out: &mut [u8], at: usize, letter: u8) -> usize
@@ -66,12 +66,8 @@ pub fn put_value(out: &mut [u8], at: usize, value: Value) -> usize
 {
     match value {
         Value::Null => put_letter(out, at, NULL_BYTE),
-        Value::Truth(b) => {
-            if b {
-                return put_letter(out, at, TRUE_BYTE);
-            }
-            put_letter(out, at, FALSE_BYTE)
-        }
+        Value::Truth(true) => put_letter(out, at, TRUE_BYTE),
+        Value::Truth(false) => put_letter(out, at, FALSE_BYTE),
         Value::Object(j) => put_numbered(out, at, OBJECT_BYTE, j),
     }
 }
@@ -85,7 +81,7 @@ pub fn put_outcome(out: &mut [u8], at: usize, outcome: End) -> usize
     match outcome {
         End::Gave(v) => put_value(out, at, v),
         End::Raised(n) => put_numbered(out, at, EXCEPTION_BYTE, n),
-        End::Stopped(n) => put_numbered(out, at, STOP_BYTE, n),
+        End::Stopped(stop) => put_numbered(out, at, STOP_BYTE, stop.number()),
     }
 }
 
@@ -108,19 +104,18 @@ pub fn put_run(out: &mut [u8], at: usize, run: Run) -> usize
     ensures { (result ≡ at + length (ran_text run)) × (result ≤ at + 46)
         × (out.new ≡ sets out.old at (ran_text run)) }
 {
-    let outcome = run.outcome;
-    let then = put_outcome(out, at, outcome);
+    let then = put_outcome(out, at, run.outcome);
     put_counts(out, then, run.steps, run.objects, run.changes)
 }
 
 // Writes the line of an answer.
-pub fn put_answer(out: &mut [u8], at: usize, answer: Answer) -> usize
+pub fn put_answer(out: &mut [u8], at: usize, answer: Result<Run, Refusal>) -> usize
     requires { at + 46 ≤ length out.old }
     ensures { (result ≡ at + length (answer_text answer)) × (result ≤ at + 46)
         × (out.new ≡ sets out.old at (answer_text answer)) }
 {
     match answer {
-        Answer::Refused(number, line) => put_refusal(out, at, number, line),
-        Answer::Ran(run) => put_run(out, at, run),
+        Ok(run) => put_run(out, at, run),
+        Err(refusal) => put_refusal(out, at, refusal.number, refusal.line),
     }
 }
