@@ -1,10 +1,9 @@
 -- What holds between two lines of a scan, and what a scan tells at its end.
 use mathlib.Core.Path.{◌≡◌, refl, sym, ap, ◌∙◌}
 use mathlib.Core.Bool.{Bool, true, false}
-use mathlib.Core.Logic.{◌≢◌}
 use mathlib.Core.Option.{Option, some}
 use mathlib.Core.List.{List, [], ◌∷◌, ◌++◌}
-use Prim.Native.Nat.{ℕ, zero, suc, ◌+◌, ◌≤◌, ◌<◌}
+use Prim.Native.Nat.{ℕ, zero, suc, ◌+◌, ◌<◌}
 use native.Mathlib.Omega.{arith}
 use native.Mathlib.Numerals.{add-one}
 use lib.ListN.{length, take}
@@ -15,7 +14,7 @@ use Rattle.fleet.specs.Entries.{entries}
 use Rattle.fleet.specs.LineLists.{in_models}
 use Rattle.fleet.proofs.Summing.{add_in_models}
 use Rattle.sums.specs.declared.Window.{Window}
-use Rattle.sums.specs.declared.Taken.TheVariants.{Within}
+use Rattle.std.specs.Prelude.{Some, None}
 use Rattle.sums.specs.Window.{in_window, SumsAfter, Open, Takes}
 use Rattle.sums.proofs.Tables.{entry_each}
 use Rattle.sums.proofs.Windows.{within_chosen}
@@ -64,7 +63,7 @@ module _ (ls : List (Option Counted)) (low : ℕ) (T₀ H₀ N₀ : List ℕ) wh
 
     -- A line that was taken into the window.
     pub scan_next : {T' H' N' : List ℕ} (c : Counted) (v : Window) → nth ls i ≡ some (some c)
-        → Takes T H N T' H' N' low w c (Within v) → Scanning ls low T₀ H₀ N₀ T' H' N' (i + 1) v
+        → Takes T H N T' H' N' low w c (Some v) → Scanning ls low T₀ H₀ N₀ T' H' N' (i + 1) v
     unfolding all_count
     scan_next {T'} {H'} {N'} c v e t = let a = t.1.1 in rw (add-one i) record {
       count = rw (take_next ls i (some c) e, count_append (take i ls) (some c ∷ []), s.count) refl;
@@ -94,14 +93,14 @@ module _ (ls : List (Option Counted)) (low : ℕ) (T₀ H₀ N₀ : List ℕ) wh
     clean = rw s.holds at s.opened.sums.within
 
     -- All lines before the limit.
-    pub scan_end : (number limit : ℕ) (r : Scan) → limit ≤ i → i ≤ limit → r.place ≡ limit → r.number ≡ 0
+    pub scan_end : (number limit : ℕ) (r : Scan) → i ≡ limit → r.place ≡ limit → r.refusal ≡ None
         → r.window ≡ w → Scanned number ls limit low T₀ H₀ N₀ T H N r
-    scan_end number limit r l m p n q = let z : r.place ≡ i = p ∙ omega (arith, l, m) in record {
+    scan_end number limit r l p n q = let z : r.place ≡ i = p ∙ sym l in record {
       reached = record {
         within = omega (arith, p);
         count = rw z s.count;
         end = λ _. p;
-        fault = λ f. absurd (f n);
+        fault = λ k f. absurd (cc);
       };
       wide = rw q s.opened.wide;
       most = rw q s.opened.most;
@@ -112,22 +111,22 @@ module _ (ls : List (Option Counted)) (low : ℕ) (T₀ H₀ N₀ : List ℕ) wh
     }
 
     -- A line that is refused.
-    pub scan_fault : {T' H' N' : List ℕ} (number limit found : ℕ) (r : Scan) → i < limit → found ≢ 0
-        → Fault number ls i found → r.place ≡ i → r.number ≡ found → r.window ≡ w
+    pub scan_fault : {T' H' N' : List ℕ} (number limit found : ℕ) (r : Scan) → i < limit
+        → Fault number ls i found → r.place ≡ i → r.refusal ≡ Some found → r.window ≡ w
         → (length T' ≡ length T) × ((length H' ≡ length H) × (length N' ≡ length N))
         → Scanned number ls limit low T₀ H₀ N₀ T' H' N' r
-    scan_fault number limit found r l other f p n q k = record {
+    scan_fault number limit found r l f p n q k = record {
       reached = record {
         within = omega (arith, p, l);
         count = rw p s.count;
-        end = λ z. absurd (other (sym n ∙ z));
-        fault = λ _. rw (p, n) f;
+        end = λ z. absurd (cc);
+        fault = λ m z. let e : found ≡ m = cc in rw (p, ← e) f;
       };
       wide = rw q s.opened.wide;
       most = rw q s.opened.most;
       clean = rw (p, q) clean;
-      opened = λ z. absurd (other (sym n ∙ z));
-      holds = λ z. absurd (other (sym n ∙ z));
+      opened = λ z. absurd (cc);
+      holds = λ z. absurd (cc);
       kept = (k.0 ∙ s.kept.0, (k.1.0 ∙ s.kept.1.0, k.1.1 ∙ s.kept.1.1));
     }
 

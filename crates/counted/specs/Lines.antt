@@ -1,24 +1,7 @@
--- The lines that a report is made of: counted lines, or the lines of a fleet's runs.
-use Rattle.std.specs.Prelude.{Bool, true, false, List, [], ◌∷◌, ℕ}
+-- The lines that a report is made of: which count, and their sums.
+use Rattle.std.specs.Prelude.{Bool, true, false, List, [], ◌∷◌}
 use Rattle.std.proofs.Math.Option.{Option, none, some}
-use Rattle.language.specs.Limits.{line_refusal}
-use Rattle.fleet.specs.Counts.{class_refusal}
 use Rattle.fleet.specs.Ranking.{Counted, add}
-use Rattle.fleet.specs.Fleet.{numbers_a_run, numbers_a_line, runs_of, lines_of_runs, counted_lines}
-
--- The lines that are given: by a fleet, or as they are.
-abbrev pub lines_given : Bool → List ℕ → List ℕ → List ℕ → List (Option Counted)
-lines_given true ns programs stores = lines_of_runs (runs_of ns) programs stores
-lines_given false ns programs stores = counted_lines ns
-
--- How many numbers one takes, and the refusal of one that is none.
-abbrev pub width_given : Bool → ℕ
-width_given true = numbers_a_run
-width_given false = numbers_a_line
-
-abbrev pub number_given : Bool → ℕ
-number_given true = class_refusal
-number_given false = line_refusal
 
 -- All of these lines count.
 unfoldable pub all_count : List (Option Counted) → Bool

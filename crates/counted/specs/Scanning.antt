@@ -1,5 +1,6 @@
 -- What the functions over lines require and give.
-use Rattle.std.specs.Prelude.{◌≡◌, ◌≢◌, true, false, List, ℕ, ◌≤◌, ◌<◌, length, take}
+use Rattle.std.specs.Prelude.{◌≡◌, true, false, List, [], ◌∷◌, ℕ, ◌≤◌, ◌<◌, length, take}
+use Rattle.std.specs.Prelude.{Option as Found, Some, None}
 use Rattle.std.proofs.Math.Option.{Option, none, some}
 use Rattle.language.specs.Lists.{nth}
 use Rattle.fleet.specs.Ranking.{Counted, add, all_within, sum_refusal}
@@ -20,12 +21,19 @@ pub data Fault (number : ℕ) (ls : List (Option Counted)) (place : ℕ) : ℕ �
       → all_within (add c (summed (take place ls))) ≡ false
       → Fault number ls place sum_refusal
 
--- Up to a place, of at most `limit` lines, all lines count; there one is refused with `found`, or none is and that is the limit.
-pub record Reached (number : ℕ) (ls : List (Option Counted)) (limit place found : ℕ) : Type 0 where
+-- The models of lines are numbers of 32 bits.
+pub data Modelled : List (Option Counted) → Type 0 where
+  modelled_nil : Modelled []
+  modelled_none : {ls : List (Option Counted)} → Modelled ls → Modelled (none ∷ ls)
+  modelled_some : {c : Counted} {ls : List (Option Counted)} → c.model < all_models → Modelled ls
+      → Modelled (some c ∷ ls)
+
+-- Up to a place, of at most `limit` lines, all lines count; there one is refused with the number found, or none is and that is the limit.
+pub record Reached (number : ℕ) (ls : List (Option Counted)) (limit place : ℕ) (found : Found ℕ) : Type 0 where
   pub within : place ≤ limit
   pub count : all_count (take place ls) ≡ true
-  pub end : found ≡ 0 → place ≡ limit
-  pub fault : found ≢ 0 → Fault number ls place found
+  pub end : found ≡ None → place ≡ limit
+  pub fault : (k : ℕ) → found ≡ Some k → Fault number ls place k
 
 -- The sums, of the models of a window, of the lines before a place.
 abbrev pub window_sums : ℕ → ℕ → List (Option Counted) → ℕ → List Counted
@@ -36,10 +44,10 @@ window_sums low end ls place = in_models (in_window low end) (summed (take place
 pub record Scanned (number : ℕ) (ls : List (Option Counted)) (limit low : ℕ) (T H N T' H' N' : List ℕ)
     (r : Scan) :
     Type 0 where
-  pub reached : Reached number ls limit r.place r.number
+  pub reached : Reached number ls limit r.place r.refusal
   pub wide : low < r.window.end
   pub most : r.window.end ≤ all_models
   pub clean : all_within (window_sums low r.window.end ls r.place) ≡ true
-  pub opened : r.number ≡ 0 → Open T' H' N' low r.window
-  pub holds : r.number ≡ 0 → entries T' r.window.count ≡ window_sums low r.window.end ls r.place
+  pub opened : r.refusal ≡ None → Open T' H' N' low r.window
+  pub holds : r.refusal ≡ None → entries T' r.window.count ≡ window_sums low r.window.end ls r.place
   pub kept : (length T' ≡ length T) × ((length H' ≡ length H) × (length N' ≡ length N))
