@@ -5,9 +5,10 @@ use native.Mathlib.Omega.{arith}
 use borrow.Author.Tests.{le-leb, lt-leb}
 use Rattle.language.specs.Limits.{no_line}
 use Rattle.language.specs.Results.{refuse, require}
-use Rattle.prices.specs.declared.DayAnswer.TheVariants.{Day, Refused}
-use Rattle.prices.specs.declared.DateAnswer.TheVariants.{Date as DateIs, Refused as NoDate}
-use Rattle.prices.specs.Calendar.{Date, date, date_refusal, last_day, months, date_of, day_of}
+use Rattle.std.specs.Prelude.{Ok, Err}
+use Rattle.language.specs.Refusals.{refusal}
+use Rattle.prices.specs.Calendar.{date, date_refusal, last_day, months, date_of, day_of}
+use Rattle.prices.specs.declared.Date.{Date}
 use Rattle.prices.specs.Calendar.{told_day, day_answer, date_answer}
 use Rattle.prices.specs.Dates.{InCalendar}
 use Rattle.prices.specs.Numbering.{first_year, year_start, month_start, day_number}
@@ -19,7 +20,7 @@ use Rattle.calendar.proofs.Months.{months_most}
 use Rattle.calendar.specs.Found.{YearOf, MonthOf}
 
 -- The refusal of a date as an answer.
-pub refused : (d : Date) → day_of d ≡ refuse date_refusal no_line → Refused 24 0 ≡ told_day (day_of d)
+pub refused : (d : Date) → day_of d ≡ refuse date_refusal no_line → Err (refusal 24 0) ≡ told_day (day_of d)
 refused d e = rw e
 
 -- The days before a month of the years up to 2179 are far fewer than a machine number holds.
@@ -34,15 +35,15 @@ module _ (y m d : ℕ) {years before : ℕ}
   unfolding day_number
   counted = rw (e, f)
 
-  pub counted_past : last_day < years + before + (d - 1) → Refused 24 0 ≡ day_answer y m d
+  pub counted_past : last_day < years + before + (d - 1) → Err (refusal 24 0) ≡ day_answer y m d
   counted_past l = refused (date y m d) (number_past (date y m d) (rw counted at l))
 
   pub counted_in_range : InCalendar (date y m d) → first_year ≤ y → years + before + (d - 1) ≤ last_day
-      → Day (years + before + (d - 1)) ≡ day_answer y m d
+      → Ok (years + before + (d - 1)) ≡ day_answer y m d
   counted_in_range h from l = rw (day_by_number (date y m d) h from (rw counted at l), counted)
 
 -- A day out of range has no date.
-pub day_past : (n : ℕ) → last_day < n → NoDate 24 0 ≡ date_answer n
+pub day_past : (n : ℕ) → last_day < n → Err (refusal 24 0) ≡ date_answer n
 unfolding require
 day_past n h = rw (lt-leb n last_day h)
 
@@ -72,6 +73,6 @@ module _ (n y m : ℕ) {years before : ℕ}
   found_date : date_of n ≡ date (first_year + y) m (n - years - before + 1)
   found_date = ap date_of (sym number_is) ∙ date_of_number _ in_calendar (omega arith)
 
-  pub found : n ≤ last_day → DateIs (first_year + y) m (n - years - before + 1) ≡ date_answer n
+  pub found : n ≤ last_day → Ok (date (first_year + y) m (n - years - before + 1)) ≡ date_answer n
   unfolding require
   found l = rw (le-leb n last_day l, found_date)

@@ -3,23 +3,22 @@ use mathlib.Core.Path.{◌≡◌, refl, sym}
 use mathlib.Core.Bool.{Bool, true, false, cond}
 use Prim.Native.Nat.{ℕ, zero, suc, ◌+◌, ◌-◌, ◌*◌, ◌/◌, ◌%◌, ◌≤◌, ◌<◌}
 use native.Mathlib.Omega.{arith}
-use borrow.Author.Tests.{ltb-true, ltb-false, eqb-true, eqb-false, eq-eqb, ne_eqb}
-use lib.Dec.{eqb, ltb}
+use borrow.Author.Tests.{eqb-true, eqb-false, eq-eqb, ne_eqb}
+use lib.Dec.{eqb}
 use Rattle.prices.specs.Calendar.{is_leap, last_day}
 use Rattle.prices.specs.Numbering.{first_year, days_of_year, year_start}
-use Rattle.prices.proofs.Numbering.{years_mono}
-use Rattle.prices.proofs.Calendar.{years_180}
+use Rattle.calendar.specs.Found.{YearOf}
 
--- The three tests of a leap year, in the order of the code.
-pub leap_400 : (y : ℕ) → y % 400 ≡ 0 → true ≡ is_leap y
+-- The three tests of a leap year.
+leap_400 : (y : ℕ) → y % 400 ≡ 0 → true ≡ is_leap y
 unfolding is_leap
 leap_400 y e = rw (eq-eqb (y % 400) 0 e)
 
-pub century : (y : ℕ) → (y % 400 ≡ 0 → ⊥) → y % 100 ≡ 0 → false ≡ is_leap y
+century : (y : ℕ) → (y % 400 ≡ 0 → ⊥) → y % 100 ≡ 0 → false ≡ is_leap y
 unfolding is_leap
 century y n e = rw (ne_eqb (y % 400) 0 n, eq-eqb (y % 100) 0 e)
 
-pub every_fourth : (y : ℕ) → (y % 400 ≡ 0 → ⊥) → (y % 100 ≡ 0 → ⊥) → eqb (y % 4) 0 ≡ is_leap y
+every_fourth : (y : ℕ) → (y % 400 ≡ 0 → ⊥) → (y % 100 ≡ 0 → ⊥) → eqb (y % 4) 0 ≡ is_leap y
 unfolding is_leap
 every_fourth y n o = rw (ne_eqb (y % 400) 0 n, ne_eqb (y % 100) 0 o)
 
@@ -122,18 +121,16 @@ years_to_2100 y h = omega (arith, years_closed y)
 pub years_past_2100 : (y : ℕ) → y ≤ 200 → 100 < y → 365 * y + (y + 3) / 4 - 1 ≡ year_start y
 years_past_2100 y h k = omega (arith, years_closed y)
 
--- The search for a year begins at one that is not too late.
-pub first_year_guess : (n : ℕ) → year_start (4 * n / 1461) ≤ n
+-- The year of a day is the guess or the next.
+first_year_guess : (n : ℕ) → year_start (4 * n / 1461) ≤ n
 first_year_guess n = omega (arith, years_closed (4 * n / 1461))
 
--- The range ends within the first 180 years.
-pub few_years : (y : ℕ) {n : ℕ} → year_start y ≤ n → n ≤ last_day → y ≤ 179
-few_years y h l = go (ltb 179 y) refl
-  where
-    go : (t : Bool) → ltb 179 y ≡ t → y ≤ 179
-    go true e = absurd (omega (arith, h, l, years_180, years_mono 180 y (ltb-true 179 y e)))
-    go false e = ltb-false 179 y e
+next_year_guess : (n : ℕ) → n ≤ last_day → n < year_start (suc (4 * n / 1461 + 1))
+next_year_guess n h = omega (arith, years_closed (suc (4 * n / 1461 + 1)))
 
--- The code writes the next year as y + 1.
-pub next_year : (y : ℕ) → year_start (y + 1) ≡ year_start (suc y)
-next_year y = let e : y + 1 ≡ suc y = omega arith in rw e
+pub year_guessed : (n : ℕ) → n ≤ last_day → n < year_start (4 * n / 1461 + 1) → YearOf n (4 * n / 1461)
+year_guessed n h l = let e : 4 * n / 1461 + 1 ≡ suc (4 * n / 1461) = omega arith in
+    record { few = omega arith; from = first_year_guess n; to = rw e at l }
+
+pub year_after : (n : ℕ) → n ≤ last_day → year_start (4 * n / 1461 + 1) ≤ n → YearOf n (4 * n / 1461 + 1)
+year_after n h l = record { few = omega arith; from = l; to = next_year_guess n h }

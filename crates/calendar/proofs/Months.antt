@@ -6,7 +6,7 @@ use mathlib.Core.Logic.{◌⊎◌, inl, inr}
 use Prim.Native.Nat.{ℕ, zero, suc, ◌+◌, ◌-◌, ◌*◌, ◌/◌, ◌≤◌, ◌<◌}
 use native.Mathlib.Omega.{arith}
 use borrow.Author.Tests.{ne_eqb}
-use Rattle.prices.specs.Calendar.{is_leap, days_in, months}
+use Rattle.prices.specs.Calendar.{is_leap, days_in, months, has_30_days}
 use Rattle.prices.specs.Numbering.{month_start}
 use Rattle.prices.proofs.Numbering.{days_of_a_month}
 use Rattle.calendar.specs.Found.{common_year, year_like, MonthOf}
@@ -72,9 +72,14 @@ from_march y (suc m) = omega (
 )
 
 -- The days before a month, by whether the year is a leap year and whether the month is before March.
-pub any_year : (b : Bool) (m : ℕ) {r : ℕ} → r ≡ month_start common_year (m - 1) → m < 3
+any_year : (b : Bool) (m : ℕ) {r : ℕ} → r ≡ month_start common_year (m - 1) → m < 3
     → r ≡ month_start (year_like b) (m - 1)
 any_year b m e h = e ∙ before_march (year_like b) (m - 1) (omega arith)
+
+pub days_like : (b : Bool) (m : ℕ) {r : ℕ} → r ≡ month_start common_year (m - 1) → (b ≡ true → m < 3)
+    → r ≡ month_start (year_like b) (m - 1)
+days_like true m e h = any_year true m e (h refl)
+days_like false m e h = e
 
 pub leap_year : (m : ℕ) {r : ℕ} → r ≡ month_start common_year (m - 1) → 3 ≤ m
     → r + 1 ≡ month_start (year_like true) (m - 1)
@@ -109,13 +114,42 @@ unfolding month_start
 months_most y zero = omega arith
 months_most y (suc m) = omega (arith, months_most y m, days_of_a_month y (suc m))
 
--- The search for a month begins at one that is not too late.
-pub first_guess : (y r : ℕ) → r < month_start y months
-    → (1 ≤ r / 32 + 1) × (r / 32 + 1 ≤ months) × (month_start y (r / 32 + 1 - 1) ≤ r)
-first_guess y r h =
+-- Months have at least 30 days, but for at most two that February lacks.
+thirty : (y m : ℕ) → 30 ≤ days_in y (suc (suc (suc m)))
+unfolding days_in
+thirty y m = rw (ne_eqb (suc (suc (suc m))) 2 (λ e. omega arith)) (go (has_30_days (suc (suc (suc m)))))
+  where
+    go : (b : Bool) → 30 ≤ cond b 30 31
+    go true = omega arith
+    go false = omega arith
+
+months_least : (y m : ℕ) → 30 * m ≤ month_start y m + 2
+unfolding month_start days_in
+months_least y zero = omega arith
+months_least y (suc zero) = omega arith
+months_least y (suc (suc zero)) = go (is_leap y)
+  where
+    go : (b : Bool) → 60 ≤ 31 + cond b 29 28 + 2
+    go true = omega arith
+    go false = omega arith
+months_least y (suc (suc (suc m))) = omega (arith, months_least y (suc (suc m)), thirty y m)
+
+-- The month of a day is the guess or the next.
+pub month_guessed : (y r : ℕ) → r < month_start y months → r < month_start y (r / 32 + 1) → MonthOf y r (r / 32 + 1)
+month_guessed y r h l =
     let e : r / 32 + 1 - 1 ≡ r / 32 = omega arith in
-    let m = months_most y months in let k = months_most y (r / 32) in
-    (omega arith, omega (arith, h, m), rw e (omega (arith, k)))
+    let m = months_most y months in
+    let k = months_most y (r / 32) in
+    record { month_from = omega arith; month_to = omega (arith, h, m); from = rw e (omega (arith, k)); to = l }
+
+pub month_after : (y r : ℕ) → r / 32 + 1 < months → month_start y (r / 32 + 1 + 1 - 1) ≤ r
+    → MonthOf y r (r / 32 + 1 + 1)
+month_after y r h l = record {
+  month_from = omega arith;
+  month_to = omega arith;
+  from = l;
+  to = omega (arith, months_least y (r / 32 + 1 + 1));
+}
 
 -- The code writes the next month as m + 1.
 pub next_month : (y m : ℕ) → month_start y (m + 1 - 1) ≡ month_start y m

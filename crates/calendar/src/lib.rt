@@ -6,11 +6,15 @@ ghost use Rattle.prices.specs.Calendar.{last_day, months, is_leap, days_in, day_
 ghost use Rattle.prices.specs.Numbering.{year_start, month_start};
 ghost use Rattle.calendar.specs.Found.{most_years, common_year, year_like, YearOf, MonthOf};
 
-use prices::{DateAnswer, DayAnswer};
+use language::Refusal;
+use prices::Date;
 
 // The refusal of a day or date that is not in the calendar or range, the last day of the range, the years of its first and
 // last day, and the months of a year.
-const DATE_REFUSAL: u32 = 24;
+const NO_DATE: Refusal = Refusal {
+    number: 24,
+    line: 0,
+};
 
 const LAST_DAY: u32 = 65535;
 
@@ -21,16 +25,11 @@ const LAST_YEAR: u32 = 2179;
 const MONTHS: u32 = 12;
 
 // Whether a year is a leap year.
+#[tactic(auto, unfolding(prices::specs::Calendar::is_leap))]
 fn is_leap(year: u32) -> bool
     ensures { result ≡ is_leap year }
 {
-    if year % 400 == 0 {
-        return true;
-    }
-    if year % 100 == 0 {
-        return false;
-    }
-    year % 4 == 0
+    year % 400 == 0 || (year % 100 != 0 && year % 4 == 0)
 }
 
 // The number of days of a month.
@@ -38,14 +37,9 @@ fn is_leap(year: u32) -> bool
 pub fn days_in(year: u32, month: u32) -> u32
     ensures { result ≡ days_in year month }
 {
-    if month == 2 {
-        let leap = is_leap(year);
-        if leap {
-            return 29;
-        }
-        return 28;
-    }
     match month {
+        2 if is_leap(year) => 29,
+        2 => 28,
         4 | 6 | 9 | 11 => 30,
         _ => 31,
     }
@@ -58,10 +52,7 @@ fn year_start(y: u32) -> u32
     ensures { result ≡ year_start y }
 {
     let days = 365 * y + (y + 3) / 4;
-    if 100 < y {
-        return days - 1;
-    }
-    days
+    if 100 < y { days - 1 } else { days }
 }
 
 // The number of days before a month in a year that is not a leap year. If February had 30 days, the months would begin
@@ -71,10 +62,7 @@ fn days_before(month: u32) -> u32
     ensures { result ≡ month_start common_year (month - 1) }
 {
     let days = (367 * month - 362) / 12;
-    if month < 3 {
-        return days;
-    }
-    days - 2
+    if month < 3 { days } else { days - 2 }
 }
 
 // The number of days before a month in its year. In a leap year it is one more from March on.
@@ -83,90 +71,62 @@ fn month_start(leap: bool, month: u32) -> u32
     ensures { result ≡ month_start (year_like leap) (month - 1) }
 {
     let days = days_before(month);
-    if month < 3 {
-        return days;
-    }
-    if leap {
-        return days + 1;
-    }
-    days
+    if leap && 3 <= month { days + 1 } else { days }
 }
 
 // The day of a date. A date is refused that is not in the calendar or whose day is not in range.
-pub fn day_of_date(year: u32, month: u32, day: u32) -> DayAnswer
+pub fn day_of_date(year: u32, month: u32, day: u32) -> Result<u32, Refusal>
     ensures { result ≡ day_answer year month day }
 {
-    if month == 0 {
-        return DayAnswer::Refused(DATE_REFUSAL, 0);
+    if month == 0 || MONTHS < month || day == 0 || days_in(year, month) < day {
+        return Err(NO_DATE);
     }
-    if MONTHS < month {
-        return DayAnswer::Refused(DATE_REFUSAL, 0);
+    if year < FIRST_YEAR || LAST_YEAR < year {
+        return Err(NO_DATE);
     }
-    if day == 0 {
-        return DayAnswer::Refused(DATE_REFUSAL, 0);
-    }
-    let most = days_in(year, month);
-    if most < day {
-        return DayAnswer::Refused(DATE_REFUSAL, 0);
-    }
-    if year < FIRST_YEAR {
-        return DayAnswer::Refused(DATE_REFUSAL, 0);
-    }
-    if LAST_YEAR < year {
-        return DayAnswer::Refused(DATE_REFUSAL, 0);
-    }
-    let years = year_start(year - FIRST_YEAR);
-    let leap = is_leap(year);
-    let months = month_start(leap, month);
-    let n = years + months + (day - 1);
+    let n = year_start(year - FIRST_YEAR) + month_start(is_leap(year), month) + (day - 1);
     if LAST_DAY < n {
-        return DayAnswer::Refused(DATE_REFUSAL, 0);
+        return Err(NO_DATE);
     }
-    DayAnswer::Day(n)
+    Ok(n)
 }
 
-// The year of a day, counted from 2000. Four years have at most 1,461 days, so the search can begin at 4 · day / 1461.
+// The year of a day, counted from 2000. Four years have 1,461 days, or one fewer where a century ends among them, so it is
+// year 4 · day / 1461 or the next.
 fn find_year(day: u32) -> u32
     requires { day ≤ last_day }
     ensures { YearOf day result }
 {
-    let mut y = 4 * day / 1461;
-    while year_start(y + 1) <= day {
-        y += 1;
-    }
-    y
+    let y = 4 * day / 1461;
+    if day < year_start(y + 1) { y } else { y + 1 }
 }
 
-// The month of the day that `rest` days of its year precede. A month has fewer than 32 days, so the search can begin with
-// the month after the first rest / 32 months.
+// The month of the day that `rest` days of its year precede. A month has fewer than 32 days, and about 30 on average, so it
+// is the month after the first rest / 32 months or the next.
 fn find_month(leap: bool, rest: u32) -> u32
     requires { rest < month_start (year_like leap) months }
     ensures { MonthOf (year_like leap) rest result }
 {
-    let mut m = rest / 32 + 1;
-    while m < MONTHS {
-        let next = month_start(leap, m + 1);
-        if rest < next {
-            return m;
-        }
-        m += 1;
+    let month = rest / 32 + 1;
+    if month < MONTHS && month_start(leap, month + 1) <= rest {
+        month + 1
+    } else {
+        month
     }
-    m
 }
 
 // The date of a day. A day is refused that is not in range.
-pub fn date_of_day(day: u32) -> DateAnswer
+pub fn date_of_day(day: u32) -> Result<Date, Refusal>
     ensures { result ≡ date_answer day }
 {
     if LAST_DAY < day {
-        return DateAnswer::Refused(DATE_REFUSAL, 0);
+        return Err(NO_DATE);
     }
     let y = find_year(day);
-    let years = year_start(y);
-    let rest = day - years;
+    let rest = day - year_start(y);
     let year = FIRST_YEAR + y;
     let leap = is_leap(year);
     let month = find_month(leap, rest);
-    let months = month_start(leap, month);
-    DateAnswer::Date(year, month, rest - months + 1)
+    let day = rest - month_start(leap, month) + 1;
+    Ok(Date { year, month, day })
 }
