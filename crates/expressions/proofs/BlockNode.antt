@@ -1,7 +1,7 @@
 -- The node B: the locals it opens, and that what its function answers is what the definition says.
 -- Assumes nothing.
 use mathlib.Core.Path.{◌≡◌, refl, sym, ap, ap₂, subst, ◌∙◌}
-use mathlib.Core.Bool.{Bool, true, false, cond, false≢true}
+use mathlib.Core.Bool.{Bool, true, false, cond}
 use mathlib.Core.Option.{some}
 use mathlib.Core.Logic.{◌⊎◌, inl, inr, ⊎_elim}
 use mathlib.Core.List.{List, [], ◌∷◌, ◌++◌, map}
@@ -26,9 +26,11 @@ use Rattle.language.specs.LookupClasses.{LooksUpAll}
 use Rattle.language.proofs.Lines.{each_line, le_or_less}
 use Rattle.language.specs.WellFormed.{TypeInForm, Each, each_cons}
 use Rattle.layout.specs.Held.{Headed}
-use Rattle.types.specs.declared.Answer.{Answer}
-use Rattle.types.specs.declared.Typing.TheVariants.{Null, Refusal}
-use Rattle.types.specs.Answers.{answer, answer_of, typing_case, is_refusal, numbers, fresh_in, refusal}
+use Rattle.std.specs.Prelude.{Result, Ok, Err}
+use Rattle.language.specs.declared.Refusal.{Refusal}
+use Rattle.language.specs.Refusals.{refusal, result_of}
+use Rattle.language.proofs.Refusals.{result_err}
+use Rattle.types.specs.Answers.{Answer, answer, answer_of, typing_case, numbers, fresh_in}
 use Rattle.types.specs.Answers.{names_type}
 use Rattle.typing.specs.Nodes.{opening, PreOpen, PostOpen}
 use Rattle.expressions.specs.Cycle.{Views, Declared, AcceptedAll, Is}
@@ -43,9 +45,8 @@ use Rattle.expressions.proofs.Slots.{views_of, views_fine, views_long, views_at,
 use Rattle.expressions.proofs.NodeTyping.{block_refused, block_inner, block_done, looks_block}
 
 -- The answer to locals that are declared, or refused.
-abbrev pass_answer : Pass → Answer
-pass_answer (accept u) = answer Null 0
-pass_answer (refuse n l) = answer (Refusal n l) 0
+abbrev pass_answer : Pass → Result (Unit {0}) Refusal
+pass_answer q = result_of (λ (u : Unit {0}). u) q
 
 -- Types that are their numbers' types.
 proper_class : (c : ℕ) → type_of_number (type_number (class c)) ≡ class c → eqb c 255 ≡ false
@@ -77,15 +78,9 @@ unfolding nth
 last_declared W t [] d f = d
 last_declared W t (u ∷ us) d f = last_declared W u us (f 0 u refl) (λ i v e. f (suc i) v e)
 
-pass_tt : (q : Pass) → is_refusal (pass_answer q).typing ≡ false
-    → (q ≡ passed) × (pass_answer q ≡ answer Null 0)
-pass_tt (accept tt) e = (refl, refl)
-pass_tt (refuse n l) e = absurd (false≢true (sym e))
-
-pass_refuse : {X : Type 0} (q : Pass) → is_refusal (pass_answer q).typing ≡ true
-    → ((n l : ℕ) → q ≡ refuse n l → X) → X
-pass_refuse (accept u) e k = absurd (false≢true e)
-pass_refuse (refuse n l) e k = k n l refl
+pass_tt : (q : Pass) → Ok tt ≡ pass_answer q → q ≡ passed
+pass_tt (accept tt) e = refl
+pass_tt (refuse n l) e = absurd (cc)
 
 module _ {p : Program} {R E T A M F : List ℕ} {count : ℕ} (h : Headed R E T A M F p count) where
   abbrev P : List Class
@@ -102,13 +97,13 @@ module _ {p : Program} {R E T A M F : List ℕ} {count : ℕ} (h : Headed R E T 
   unfolding opening locals_declared LinesAt require
   opening_is [] row n f = refl
   opening_is (t ∷ ts) row n (each_cons f fs) =
-      ap (λ (b : Bool). cond b (opening R count (row + 1) (length ts)) (refusal 4 row))
+      ap (λ (b : Bool). cond b (opening R count (row + 1) (length ts)) (Err (refusal 4 (row + 1))))
       (ap (names_type count) n.0.first ∙ names_is t f.back)
       ∙ go (opening_is ts (row + 1) n.1 fs) (is_declared_type (world P) t)
     where
       go : opening R count (row + 1) (length ts) ≡ pass_answer (locals_declared (world P) (row + 1 + 1) ts)
           → (b : Bool)
-          → cond b (opening R count (row + 1) (length ts)) (refusal 4 row)
+          → cond b (opening R count (row + 1) (length ts)) (Err (refusal 4 (row + 1)))
           ≡ pass_answer (require b 4 (row + 1) λ _. locals_declared (world P) (row + 1 + 1) ts)
       go rec true = rec
       go rec false = refl
@@ -136,34 +131,31 @@ module _ {p : Program} {R E T A M F : List ℕ} {count : ℕ} (h : Headed R E T 
       }
 
   pub open_refused : (ts : List DeclaredType) (es : Exprs) (at scope v : ℕ) (γ : Environment)
-      (S S' C : List ℕ) (r : Answer)
+      (S S' C : List ℕ) (f : Refusal)
       → RowAt R at B_block (length ts) (how_many es) → TypesAt V_local R ts (at + 1)
       → v ≡ get_or R (at * 4 + 1) 0
-      → Each TypeInForm ts → PostOpen R S S' count at scope v r → is_refusal r.typing ≡ true
-      → Is (world P) (block ts es) γ at scope S' C r
-  open_refused ts es at scope v γ S S' C r n ln ev pr po e =
+      → Each TypeInForm ts → PostOpen R S S' count at scope v (Err f)
+      → Is (world P) (block ts es) γ at scope S' C (Err f)
+  open_refused ts es at scope v γ S S' C f n ln ev pr po =
       let q : v ≡ length ts = ev ∙ n.first in
-      let o : r ≡ pass_answer (locals_declared (world P) (at + 1 + 1) ts) = po.out
+      let o : Err f ≡ pass_answer (locals_declared (world P) (at + 1 + 1) ts) = po.out
       ∙ (ap (opening R count (at + 1)) q ∙ opening_is ts (at + 1) ln pr) in
-      pass_refuse (locals_declared (world P) (at + 1 + 1) ts)
-      (ap (λ (x : Answer). is_refusal x.typing) (sym o) ∙ e) λ m k d.
-      is_refused m k (block_refused (world P) ts es (at + 1) γ m k d) (o ∙ ap pass_answer d)
+      is_refused _ _ (block_refused (world P) ts es (at + 1) γ _ _
+      (result_err (λ (u : Unit {0}). u) (locals_declared (world P) (at + 1 + 1) ts) f (sym o))) refl
 
   -- The locals of an opened block.
   pub open_done : (ts : List DeclaredType) (es : Exprs) (at scope v : ℕ) (γ : Environment) (S S' : List ℕ)
-      (r : Answer)
       → RowAt R at B_block (length ts) (how_many es) → TypesAt V_local R ts (at + 1)
       → v ≡ get_or R (at * 4 + 1) 0
       → Each TypeInForm ts → Views (world P) γ S scope → scope + length ts ≤ length S
-      → PostOpen R S S' count at scope v r → is_refusal r.typing ≡ false
-      → (r ≡ answer Null 0) × (locals_declared (world P) (at + 1 + 1) ts ≡ passed)
+      → PostOpen R S S' count at scope v (Ok tt)
+      → (locals_declared (world P) (at + 1 + 1) ts ≡ passed)
       × Views (world P) (opened γ (map fresh_slot ts)) S' (scope + v)
-  open_done ts es at scope v γ S S' r n ln ev pr vs l po e = (
-    o ∙ w.1,
-    w.0,
+  open_done ts es at scope v γ S S' n ln ev pr vs l po = (
+    w,
     views_of (world P) (opened γ (map fresh_slot ts)) S' (scope + v)
         (fine_opened (world P) (map fresh_slot ts) (views_fine (world P) vs)
-        (fresh_good (world P) ts (locals_at ts (at + 1 + 1) w.0)))
+        (fresh_good (world P) ts (locals_at ts (at + 1 + 1) w)))
         (omega (arith, q, l, po.long))
         (ap length (numbers_opened γ ts)
         ∙ (length-append (numbers γ) (map fresh_number ts)
@@ -176,13 +168,9 @@ module _ {p : Program} {R E T A M F : List ℕ} {count : ℕ} (h : Headed R E T 
       q : v ≡ length ts
       q = ev ∙ n.first
 
-      o : r ≡ pass_answer (locals_declared (world P) (at + 1 + 1) ts)
-      o = po.out ∙ (ap (opening R count (at + 1)) q ∙ opening_is ts (at + 1) ln pr)
-
-      w : (locals_declared (world P) (at + 1 + 1) ts ≡ passed)
-          × (pass_answer (locals_declared (world P) (at + 1 + 1) ts) ≡ answer Null 0)
+      w : locals_declared (world P) (at + 1 + 1) ts ≡ passed
       w = pass_tt (locals_declared (world P) (at + 1 + 1) ts)
-          (ap (λ (x : Answer). is_refusal x.typing) (sym o) ∙ e)
+          (po.out ∙ (ap (opening R count (at + 1)) q ∙ opening_is ts (at + 1) ln pr))
 
       at_slots : (k : ℕ) → k < scope + v → (scope ≤ k) ⊎ (k < scope)
           → get_or S' k 0 ≡ get_or (numbers γ ++ map fresh_number ts) k 0
@@ -196,9 +184,9 @@ module _ {p : Program} {R E T A M F : List ℕ} {count : ℕ} (h : Headed R E T 
           let en : scope + j ≡ length (numbers γ) + j =
           ap (λ (x : ℕ). x + j) (sym (views_long vs (omega (arith, l)))) in
           ap (λ (x : ℕ). get_or S' x 0) ek
-          ∙ (po.filled e j (omega arith)
+          ∙ (po.filled refl j (omega arith)
           ∙ ((ap fresh_in (types_number V_local R ts (at + 1) ln j (omega (arith, q, m, ge)))
-          ∙ fresh_numbers h ts (locals_at ts (at + 1 + 1) w.0) j (omega (arith, q, m, ge)))
+          ∙ fresh_numbers h ts (locals_at ts (at + 1 + 1) w) j (omega (arith, q, m, ge)))
           ∙ (sym (get_or-append-add (numbers γ) (map fresh_number ts) j 0)
           ∙ ap (λ (x : ℕ). get_or (numbers γ ++ map fresh_number ts) x 0) (sym (ek ∙ en)))))
 

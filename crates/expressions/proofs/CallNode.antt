@@ -1,7 +1,7 @@
 -- The node Q: what its function answers, notes and leaves in the slots is what the definition says.
 -- Assumes nothing.
 use mathlib.Core.Path.{◌≡◌, refl, sym, ap, ap₂, subst, ◌∙◌}
-use mathlib.Core.Bool.{true, false}
+use mathlib.Core.Bool.{true}
 use mathlib.Core.Option.{Option, none, some}
 use mathlib.Core.List.{List}
 use Prim.Native.Nat.{ℕ, suc, ◌+◌, ◌*◌, ◌≤◌, ◌<◌}
@@ -23,13 +23,17 @@ use Rattle.language.specs.LookupClasses.{Notes, LooksUp, LooksUpAll}
 use Rattle.language.proofs.Classes as classes
 use Rattle.layout.specs.Held.{Headed}
 use Rattle.layout.specs.HeldLaws.{few, lower, parameters_few}
-use Rattle.types.specs.declared.Answer.{Answer}
+use Rattle.types.specs.declared.Typed.{Typed as TypedCase}
+use Rattle.std.specs.Prelude.{Ok, Err}
+use Rattle.language.specs.declared.Refusal.{Refusal}
+use Rattle.language.specs.Refusals.{refusal}
+use Rattle.language.proofs.Refusals.{result_err}
 use Rattle.types.specs.declared.slots.Scope.{Scope}
 use Rattle.types.specs.declared.Typing.{Typing}
-use Rattle.types.specs.declared.Typing.TheVariants.{Class as class_case, Refusal}
-use Rattle.types.specs.Answers.{answer, answer_of, case_of_number, typing_case, is_refusal, refusal}
+use Rattle.types.specs.declared.Typing.TheVariants.{Class as class_case}
+use Rattle.types.specs.Answers.{Answer, answer, answer_of, answered, case_of_number, typing_case}
 use Rattle.types.specs.Tables.{Changed, applied, applied_slot}
-use Rattle.access.specs.Calls.{no_class, no_method, other_count, unfit, done, too_many_answer, no_method_for}
+use Rattle.access.specs.Calls.{no_class, no_method, other_count, unfit, done, no_method_for}
 use Rattle.access.specs.Calls.{all_fitting, method_place, method_line, parameter_count, PreMethod, Done}
 use Rattle.access.specs.Calls.{PreInvoke, Invoked}
 use Rattle.access.specs.Fields.{NoClass}
@@ -37,8 +41,8 @@ use Rattle.expressions.specs.Cycle.{Declared, AcceptedAll, Is, stored}
 use Rattle.types.proofs.Laws.{applicable_known}
 use Rattle.expressions.proofs.Worlds.{sound, applied_is}
 use Rattle.expressions.proofs.Typings.{looks_frame, looks_frame_all}
-use Rattle.expressions.proofs.Turns.{declared_known, type_low, answered, not_refused, is_refused}
-use Rattle.expressions.proofs.Turns.{is_accepted, bind_refused, bind_accepted}
+use Rattle.expressions.proofs.Turns.{declared_known, type_low, is_refused}
+use Rattle.expressions.proofs.Turns.{is_accepted, bind_refused}
 use Rattle.expressions.proofs.TypeNumbers.{type_number_case, case_known, applied_low, in_tables}
 use Rattle.expressions.proofs.Slots.{known_slots, applied_views}
 use Rattle.expressions.proofs.ThisKept.{types_count}
@@ -57,7 +61,7 @@ same_kept e f = (
   λ i n. ap (λ (x : List ℕ). get_or x i 0) f,
 )
 
-pub invoked_kept : {R T A M F S C : List ℕ} {at : ℕ} {scope : Scope} {x : Answer} {ψ : ℕ} {S' C' : List ℕ}
+pub invoked_kept : {R T A M F S C : List ℕ} {at : ℕ} {scope : Scope} {x : TypedCase} {ψ : ℕ} {S' C' : List ℕ}
     {r : Answer}
     → Invoked R T A M F S C at scope x.typing x.effect ψ S' C' r
     → (length S' ≡ length S) × ((i : ℕ) → scope.size ≤ i → get_or S' i 0 ≡ get_or S i 0)
@@ -73,21 +77,16 @@ invoked_kept {T = T} {C = C} {at = at} {ψ = ψ} (done c i t z k f d) = (
   λ i n. ap (λ (x : List ℕ). get_or x i 0) d.noted ∙ get_or-set_other C at i (applied T ψ c) 0 n,
 )
 
-many_not : (at : ℕ) (t : ExprType) (q : Answer) → is_refusal q.typing ≡ false → NoClass (typing_case t)
-    → too_many_answer at (typing_case t) q ≡ refusal 9 at
-unfolding too_many_answer no_method_for
-many_not at (known bool) q e k = rw e
-many_not at (known (class c)) q e k = absurd k
-many_not at null_type q e k = rw e
+many_not : (at : ℕ) (t : ExprType) → NoClass (typing_case t)
+    → no_method_for at (typing_case t) ≡ refusal 9 (at + 1)
+unfolding no_method_for
+many_not at (known bool) k = refl
+many_not at (known (class c)) k = absurd k
+many_not at null_type k = refl
 
-many_class_refused : (at c : ℕ) (q : Answer) → is_refusal q.typing ≡ false
-    → too_many_answer at (class_case c) q ≡ refusal 8 at
-unfolding too_many_answer no_method_for
-many_class_refused at c q e = rw e
-
-many_passed : (at : ℕ) (t : Typing) (q : Answer) → is_refusal q.typing ≡ true → too_many_answer at t q ≡ q
-unfolding too_many_answer
-many_passed at t q e = rw e
+many_class_refused : (at c : ℕ) → no_method_for at (class_case c) ≡ refusal 8 (at + 1)
+unfolding no_method_for
+many_class_refused at c = refl
 
 module _ {p : Program} {R E T A M F : List ℕ} {count : ℕ} (h : Headed R E T A M F p count)
   where
@@ -95,14 +94,14 @@ module _ {p : Program} {R E T A M F : List ℕ} {count : ℕ} (h : Headed R E T 
     P = p.classes
 
     pub pre_invoke : (m : ℕ) (es : Exprs) (at next lb : ℕ) (scope : Scope) (γ : Environment) (a : Typed)
-        (b : TypedAll) (S C : List ℕ) (x : Answer)
+        (b : TypedAll) (S C : List ℕ) (x : TypedCase)
         → RowAt R at Q_call m (how_many es) → m < 256
         → type_all (world P) es lb γ ≡ accept b → AcceptedAll (world P) es γ next scope.size S C b
         → scope.size ≤ length S → scope.top + how_many es ≤ length S → Declared (world P) a.type
         → ((i : ℕ) → i < how_many es → get_or S (scope.top + i) 0 ≡ get_or (stored b.types) i 0)
         → x ≡ answered a → PreInvoke R T A M F S at scope x.typing b.effect
     pre_invoke m es at next lb scope γ a b S C x n lm tb ab ls lt da st ex =
-        subst (λ (z : Answer). PreInvoke R T A M F S at scope z.typing b.effect) (sym ex) (record {
+        subst (λ (z : TypedCase). PreInvoke R T A M F S at scope z.typing b.effect) (sym ex) (record {
           row = (n.within, omega (arith, n.within, h.here.short));
           scoped = ls;
           name = omega (arith, n.first, lm);
@@ -120,7 +119,7 @@ module _ {p : Program} {R E T A M F : List ℕ} {count : ℕ} (h : Headed R E T 
         })
 
     pub call_is : (m : ℕ) (e : Expr) (es : Exprs) (at next la lb : ℕ) (scope : Scope) (γ : Environment)
-        (a : Typed) (b : TypedAll) (S C S' C' : List ℕ) (x r : Answer)
+        (a : Typed) (b : TypedAll) (S C S' C' : List ℕ) (x : TypedCase) (r : Answer)
         → RowAt R at Q_call m (how_many es) → m < 256 → next ≡ at + 1 + size e
         → type_of (world P) e la γ ≡ accept a → type_all (world P) es lb a.slots ≡ accept b
         → Declared (world P) a.type → AcceptedAll (world P) es a.slots next scope.size S C b
@@ -130,7 +129,7 @@ module _ {p : Program} {R E T A M F : List ℕ} {count : ℕ} (h : Headed R E T 
         → Invoked R T A M F S C at scope x.typing x.effect b.effect S' C' r
         → Is (world P) (call m e es) γ at scope.size S' C' r
     call_is m e es at next la lb scope γ a b S C S' C' x r n lm en ta tb da ab ls st lka ex i =
-        go (subst (λ (z : Answer). Invoked R T A M F S C at scope z.typing z.effect b.effect S' C' r)
+        go (subst (λ (z : TypedCase). Invoked R T A M F S C at scope z.typing z.effect b.effect S' C' r)
         ex i)
       where
         many : length b.types ≡ how_many es
@@ -236,68 +235,78 @@ module _ {p : Program} {R E T A M F : List ℕ} {count : ℕ} (h : Headed R E T 
         go (done c i t z k f d) = let w = found c i t z in finish c i t w k (sym (fitted w k) ∙ f) d
 
     -- Q with more than 8 arguments: `many` is what the arguments as items give.
-    pub many_is : (m : ℕ) (e : Expr) (es : Exprs) (at next scope la : ℕ) (γ : Environment) (a : Typed)
-        (S C : List ℕ) (x many r : Answer) (t : ExprType) (φ : ℕ)
-        → m < 256 → 8 < how_many es → next ≡ at + 1 + size e
-        → type_of (world P) e la γ ≡ accept a → Declared (world P) a.type → x ≡ answered a
-        → many ≡ answer_of (bind_checked (type_all (world P) es (next + 1) a.slots) λ b. typed
-        (last_type t b.types) b.slots (join φ b.effect))
-        → r ≡ too_many_answer at x.typing many
-        → Is (world P) (call m e es) γ at scope S C r
-    many_is m e es at next scope la γ a S C x many r t φ lm l en ta da ex em er =
-        by-arguments (type_all (world P) es (next + 1) a.slots) refl
+    module _ (m : ℕ) (e : Expr) (es : Exprs) (at next scope la : ℕ) (γ : Environment) (a : Typed)
+        (S C : List ℕ)
       where
-        out : r ≡ too_many_answer at (typing_case a.type) many
-        out = er ∙ ap (λ (z : Answer). too_many_answer at z.typing many) ex
+        abbrev given_items : ExprType → ℕ → Answer
+        given_items t φ = answer_of (bind_checked (type_all (world P) es (next + 1) a.slots) λ b. typed
+            (last_type t b.types) b.slots (join φ b.effect))
 
-        line : next + 1 ≡ at + 1 + 1 + size e
-        line = omega (arith, en)
+        pub many_refused : (f : Refusal) (t : ExprType) (φ : ℕ) → next ≡ at + 1 + size e
+            → type_of (world P) e la γ ≡ accept a → Err f ≡ given_items t φ
+            → Is (world P) (call m e es) γ at scope S C (Err f)
+        unfolding bind_checked
+        many_refused f t φ en ta em =
+            is_refused _ _ (call_arguments (world P) m e es (at + 1) la γ a ta _ _
+            (ap (λ (z : ℕ). type_all (world P) es z a.slots) (sym line) ∙ go (type_all (world P) es (next + 1) a.slots) em))
+            refl
+          where
+            line : next + 1 ≡ at + 1 + 1 + size e
+            line = omega (arith, en)
 
-        by-method : (b : TypedAll) → type_all (world P) es (next + 1) a.slots ≡ accept b
-            → is_refusal many.typing ≡ false → (c : ℕ) → a.type ≡ known (class c)
-            → (o : Option Method) → (world P).method (apply_class (world P) b.effect c) m ≡ o
-            → Is (world P) (call m e es) γ at scope S C r
-        by-method b tb f c q none w =
-            is_refused 8 (at + 1) (call_none (world P) m e es (at + 1) la (next + 1) γ a b ta tb c q w)
-            (out ∙ (ap (λ (z : ExprType). too_many_answer at (typing_case z) many) q
-            ∙ many_class_refused at c many f))
-        by-method b tb f c q (some N) w =
-            let lc = type_low h a.type da c q in
-            let lk : apply_class (world P) b.effect c ≤ count =
-            omega (arith, lc, classes.apply_within P (lower h) b.effect c) in
-            let few = parameters_few h (apply_class (world P) b.effect c) m N w in
-            let many-types = types_count (world P) es (next + 1) a.slots b tb in
-            is_refused 8 (at + 1) (call_count (world P) m e es (at + 1) la (next + 1) γ a b ta tb c q N w
-            (ne_eqb (length b.types) (length N.parameters) (λ y. omega (arith, few, l, many-types, y))))
-            (out ∙ (ap (λ (z : ExprType). too_many_answer at (typing_case z) many) q
-            ∙ many_class_refused at c many f))
+            go : (q : Checked TypedAll)
+                → Err f ≡ answer_of (bind_checked q λ b. typed (last_type t b.types) b.slots (join φ b.effect))
+                → q ≡ refuse f.number f.line
+            go (accept b) em = absurd (cc)
+            go (refuse i k) em = result_err (λ (b : TypedAll). b.effect) (refuse i k) f (let z : Err f ≡ Err (refusal i k) = em in cc)
 
-        by-type : (b : TypedAll) → type_all (world P) es (next + 1) a.slots ≡ accept b
-            → is_refusal many.typing ≡ false → (u : ExprType) → a.type ≡ u
-            → Is (world P) (call m e es) γ at scope S C r
-        by-type b tb f (known bool) q =
-            is_refused 9 (at + 1)
-            (call_not (world P) m e es (at + 1) la (next + 1) γ a b ta tb (known bool) q tt)
-            (out ∙ (ap (λ (z : ExprType). too_many_answer at (typing_case z) many) q
-            ∙ many_not at (known bool) many f tt))
-        by-type b tb f (known (class c)) q =
-            by-method b tb f c q ((world P).method (apply_class (world P) b.effect c) m) refl
-        by-type b tb f null_type q =
-            is_refused 9 (at + 1)
-            (call_not (world P) m e es (at + 1) la (next + 1) γ a b ta tb null_type q tt)
-            (out ∙ (ap (λ (z : ExprType). too_many_answer at (typing_case z) many) q
-            ∙ many_not at null_type many f tt))
+        pub many_is : (x many : TypedCase) (f : Refusal) (t : ExprType) (φ : ℕ)
+            → m < 256 → 8 < how_many es → next ≡ at + 1 + size e
+            → type_of (world P) e la γ ≡ accept a → Declared (world P) a.type → x ≡ answered a
+            → Ok many ≡ given_items t φ → f ≡ no_method_for at x.typing
+            → Is (world P) (call m e es) γ at scope S C (Err f)
+        many_is x many f t φ lm l en ta da ex em er =
+            by-arguments (type_all (world P) es (next + 1) a.slots) refl
+          where
+            out : f ≡ no_method_for at (typing_case a.type)
+            out = er ∙ ap (λ (z : TypedCase). no_method_for at z.typing) ex
 
-        by-arguments : (c : Checked TypedAll) → type_all (world P) es (next + 1) a.slots ≡ c
-            → Is (world P) (call m e es) γ at scope S C r
-        by-arguments (refuse i k) tb =
-            let q : many ≡ answer (Refusal i k) 0 = em ∙ ap answer_of (bind_refused _ _ i k tb) in
-            is_refused i k (call_arguments (world P) m e es (at + 1) la γ a ta i k
-            (ap (λ (z : ℕ). type_all (world P) es z a.slots) (sym line) ∙ tb))
-            (out ∙ (many_passed at (typing_case a.type) many
-            (ap (λ (z : Answer). is_refusal z.typing) q)
-            ∙ q))
-        by-arguments (accept b) tb =
-            by-type b tb (ap (λ (z : Answer). is_refusal z.typing)
-            (em ∙ ap answer_of (bind_accepted _ _ b tb)) ∙
-            not_refused (last_type t b.types)) a.type refl
+            by-method : (b : TypedAll) → type_all (world P) es (next + 1) a.slots ≡ accept b
+                → (c : ℕ) → a.type ≡ known (class c)
+                → (o : Option Method) → (world P).method (apply_class (world P) b.effect c) m ≡ o
+                → Is (world P) (call m e es) γ at scope S C (Err f)
+            by-method b tb c q none w =
+                is_refused 8 (at + 1) (call_none (world P) m e es (at + 1) la (next + 1) γ a b ta tb c q w)
+                (ap Err (out ∙ (ap (λ (z : ExprType). no_method_for at (typing_case z)) q
+                ∙ many_class_refused at c)))
+            by-method b tb c q (some N) w =
+                let lc = type_low h a.type da c q in
+                let lk : apply_class (world P) b.effect c ≤ count =
+                omega (arith, lc, classes.apply_within P (lower h) b.effect c) in
+                let few = parameters_few h (apply_class (world P) b.effect c) m N w in
+                let many-types = types_count (world P) es (next + 1) a.slots b tb in
+                is_refused 8 (at + 1) (call_count (world P) m e es (at + 1) la (next + 1) γ a b ta tb c q N w
+                (ne_eqb (length b.types) (length N.parameters) (λ y. omega (arith, few, l, many-types, y))))
+                (ap Err (out ∙ (ap (λ (z : ExprType). no_method_for at (typing_case z)) q
+                ∙ many_class_refused at c)))
+
+            not_class : (b : TypedAll) → type_all (world P) es (next + 1) a.slots ≡ accept b
+                → (u : ExprType) → a.type ≡ u → NoClass (typing_case u)
+                → Is (world P) (call m e es) γ at scope S C (Err f)
+            not_class b tb u q k =
+                is_refused 9 (at + 1) (call_not (world P) m e es (at + 1) la (next + 1) γ a b ta tb u q k)
+                (ap Err (out ∙ (ap (λ (z : ExprType). no_method_for at (typing_case z)) q ∙ many_not at u k)))
+
+            by-type : (b : TypedAll) → type_all (world P) es (next + 1) a.slots ≡ accept b
+                → (u : ExprType) → a.type ≡ u
+                → Is (world P) (call m e es) γ at scope S C (Err f)
+            by-type b tb (known bool) q = not_class b tb (known bool) q tt
+            by-type b tb (known (class c)) q =
+                by-method b tb c q ((world P).method (apply_class (world P) b.effect c) m) refl
+            by-type b tb null_type q = not_class b tb null_type q tt
+
+            by-arguments : (c : Checked TypedAll) → type_all (world P) es (next + 1) a.slots ≡ c
+                → Is (world P) (call m e es) γ at scope S C (Err f)
+            by-arguments (refuse i k) tb =
+                let z : Ok many ≡ Err (refusal i k) = em ∙ ap answer_of (bind_refused _ _ i k tb) in absurd (cc)
+            by-arguments (accept b) tb = by-type b tb a.type refl

@@ -22,9 +22,9 @@ use Rattle.language.specs.Encoded.{RowAt}
 use Rattle.language.proofs.Lines.{le_or_less}
 use Rattle.layout.specs.Held.{Headed}
 use Rattle.layout.specs.HeldLaws.{few}
-use Rattle.types.specs.declared.Answer.{Answer}
 use Rattle.types.specs.declared.Typing.TheVariants.{Class as class_case}
-use Rattle.types.specs.Answers.{answer, is_refusal, numbers, slot_number, current_in, with_current, refusal}
+use Rattle.types.specs.Answers.{Answer, answer, numbers, slot_number, current_in, with_current, refused}
+use Rattle.std.specs.Prelude.{is_ok}
 use Rattle.types.specs.Tables.{root_in, applied_slot}
 use Rattle.typing.specs.Nodes.{PreChange, PostChange, changed_answer, number_after}
 use Rattle.expressions.specs.Cycle.{Views, Is}
@@ -44,12 +44,12 @@ module _ {p : Program} {R E T A M F : List ℕ} {count : ℕ} (h : Headed R E T 
   P = p.classes
 
   module _ (S : List ℕ) (k d at scope : ℕ) where
-    answer-no-name : leb d (world P).count ≡ false → changed_answer T S count at scope k d ≡ refusal 4 at
+    answer-no-name : leb d (world P).count ≡ false → changed_answer T S count at scope k d ≡ refused 4 at
     unfolding changed_answer world world_with
     answer-no-name e = rw (lt-ltb count d (omega (arith, leb-false d (length P) e, h.counted)))
 
     answer-no-slot : d ≤ count → (k < scope → current_in (get_or S k 0) ≡ 65535)
-        → changed_answer T S count at scope k d ≡ refusal 7 at
+        → changed_answer T S count at scope k d ≡ refused 7 at
     unfolding changed_answer
     answer-no-slot l f = ⊎_elim
         (λ (m : scope ≤ k). rw (le-ltb count d l, le-leb scope k m))
@@ -62,12 +62,12 @@ module _ {p : Program} {R E T A M F : List ℕ} {count : ℕ} (h : Headed R E T 
         (le_or_less scope k)
 
     answer-bool : d ≤ count → k < scope → current_in (get_or S k 0) ≡ 255
-        → changed_answer T S count at scope k d ≡ refusal 11 at
+        → changed_answer T S count at scope k d ≡ refused 11 at
     unfolding changed_answer
     answer-bool l m e = rw (le-ltb count d l, lt-leb scope k m, e)
 
     module _ (c : ℕ) (l : d ≤ count) (m : k < scope) (e : current_in (get_or S k 0) ≡ c) (lc : c ≤ count) where
-      answer-cannot : can_change (world P) c d ≡ false → changed_answer T S count at scope k d ≡ refusal 11 at
+      answer-cannot : can_change (world P) c d ≡ false → changed_answer T S count at scope k d ≡ refused 11 at
       unfolding changed_answer
       answer-cannot f = rw (
         le-ltb count d l,
@@ -184,7 +184,7 @@ module _ {p : Program} {R E T A M F : List ℕ} {count : ℕ} (h : Headed R E T 
           (change_can (world P) k d (at + 1) γ s c el es ec f) o
           (record {
             views = change_views k d scope γ S S' s es v l ld p.long
-                (λ i m. p.slots (ap (λ (x : Answer). is_refusal x.typing) o) i m
+                (λ i m. p.slots (ap is_ok o) i m
                 ∙ ap₂ (λ (x : ℕ) (y : ℕ). number_after T S x y i) n.first n.second);
             declared = declared_known (class d) (low_class h d ld);
             looks = looks_change (world P) C k d γ at;

@@ -17,16 +17,17 @@ use Rattle.language.specs.Typing.{join_currents}
 use Rattle.language.specs.LookupClasses.{LooksUp}
 use Rattle.language.specs.World.{is_declared_type}
 use Rattle.layout.specs.Held.{Headed}
-use Rattle.types.specs.declared.Answer.{Answer}
+use Rattle.types.specs.declared.Typed.{Typed as TypedCase}
+use Rattle.std.specs.Prelude.{Option as CodeOption, Some, None, is_ok}
 use Rattle.types.specs.declared.Typing.{Typing}
-use Rattle.types.specs.declared.Typing.TheVariants.{Class as class_case, Refusal}
-use Rattle.types.specs.Answers.{answer, typing_case, is_refusal, current_in, slot_of, with_current}
-use Rattle.types.specs.Answers.{declared_in, absent, slot_number, refusal}
+use Rattle.types.specs.declared.Typing.TheVariants.{Class as class_case}
+use Rattle.types.specs.Answers.{Answer, answer, answered, typing_case, current_in, slot_of, with_current}
+use Rattle.types.specs.Answers.{declared_in, absent, slot_number, refused}
 use Rattle.types.specs.Tables.{joined_number, Known, joined_slot, joined_case, BothClasses}
 use Rattle.typing.specs.Nodes.{joined_answer, chosen, PreChoice, PostChoice}
 use Rattle.expressions.specs.Cycle.{Views, Declared, Is}
 use Rattle.expressions.proofs.Worlds.{class_low, sound, nearest_is}
-use Rattle.expressions.proofs.Turns.{declared_known, answered, not_refused, is_refused, is_accepted}
+use Rattle.expressions.proofs.Turns.{declared_known, is_refused, is_accepted}
 use Rattle.expressions.proofs.TypeNumbers.{joined_numbers, join_declared}
 use Rattle.expressions.proofs.Environments.{fine_join, numbers_length, has, numbers_join}
 use Rattle.expressions.proofs.Slots.{views_of, views_fine, views_long, views_at, known_slots}
@@ -35,7 +36,7 @@ use Rattle.expressions.proofs.ThisKept.{this_kept}
 use Rattle.expressions.proofs.NodeTyping.{choose_not, choose_apart, choose_done, choose_looks}
 
 chosen_not : (T A : List ℕ) (at φ : ℕ) (t : ExprType) (u v : Typing) → not_bool t ≡ true
-    → chosen T A at (typing_case t) φ u v ≡ refusal 9 at
+    → chosen T A at (typing_case t) φ u v ≡ refused 9 at
 unfolding chosen
 chosen_not T A at φ (known bool) u v e = absurd (false≢true e)
 chosen_not T A at φ (known (class c)) u v e = refl
@@ -48,19 +49,17 @@ chosen_bool T A at φ (known bool) u v e = refl
 chosen_bool T A at φ (known (class c)) u v e = absurd (false≢true (sym e))
 chosen_bool T A at φ null_type u v e = absurd (false≢true (sym e))
 
-joined_typing : (at φ : ℕ) (t : ExprType) → joined_answer at φ (typing_case t) ≡ answer (typing_case t) φ
+joined_typing : (at φ : ℕ) (t : ExprType) → joined_answer at φ (Some (typing_case t)) ≡ answer (typing_case t) φ
 unfolding joined_answer
-joined_typing at φ (known bool) = refl
-joined_typing at φ (known (class c)) = refl
-joined_typing at φ null_type = refl
+joined_typing at φ t = refl
 
-joined_refusal : (at φ : ℕ) → joined_answer at φ (Refusal 9 0) ≡ answer (Refusal 9 (at + 1)) 0
+joined_refused : (at φ : ℕ) → joined_answer at φ None ≡ refused 9 at
 unfolding joined_answer
-joined_refusal at φ = refl
+joined_refused at φ = refl
 
-abbrev joined_result : Option ExprType → Typing
-joined_result none = Refusal 9 0
-joined_result (some t) = typing_case t
+abbrev joined_result : Option ExprType → CodeOption Typing
+joined_result none = None
+joined_result (some t) = Some (typing_case t)
 
 module _ {p : Program} {R E T A M F : List ℕ} {count : ℕ} (h : Headed R E T A M F p count) where
   abbrev P : List Class
@@ -74,7 +73,7 @@ module _ {p : Program} {R E T A M F : List ℕ} {count : ℕ} (h : Headed R E T 
   joined_is (known bool) null_type d e = refl
   joined_is (known (class c)) (known bool) d e = refl
   joined_is (known (class c)) (known (class k)) d e =
-      ap class_case (nearest_is h c k (class_low h c (d.class_in c refl))
+      ap (λ (n : ℕ). Some (class_case n)) (nearest_is h c k (class_low h c (d.class_in c refl))
       (class_low h k (e.class_in k refl)))
   joined_is (known (class c)) null_type d e = refl
   joined_is null_type (known bool) d e = refl
@@ -145,15 +144,15 @@ module _ {p : Program} {R E T A M F : List ℕ} {count : ℕ} (h : Headed R E T 
       (w.1 k (omega (arith, e₁, m)))))
 
   -- J: S has the slots after the second arm, and from `top` on those after the first, S₁.
-  pub pre_choice : (at scope top : ℕ) (b c : Typed) (S₁ S : List ℕ) (y z : Answer) → at * 4 + 3 < length R
+  pub pre_choice : (at scope top : ℕ) (b c : Typed) (S₁ S : List ℕ) (y z : TypedCase) → at * 4 + 3 < length R
       → Declared (world P) b.type → Declared (world P) c.type
       → Views (world P) b.slots S₁ scope → scope ≤ length S₁
       → ((k : ℕ) → k < scope → get_or S (top + k) 0 ≡ get_or S₁ k 0)
       → Views (world P) c.slots S scope → scope ≤ top → top + scope ≤ length S
       → y ≡ answered b → z ≡ answered c → PreChoice T A S at scope top y.typing z.typing
   pre_choice at scope top b c S₁ S y z n db dc v₁ l₁ sv v l lt ey ez =
-      subst (λ (x : Answer). PreChoice T A S at scope top x.typing z.typing) (sym ey)
-      (subst (λ (x : Answer). PreChoice T A S at scope top (typing_case b.type) x.typing) (sym ez)
+      subst (λ (x : TypedCase). PreChoice T A S at scope top x.typing z.typing) (sym ey)
+      (subst (λ (x : TypedCase). PreChoice T A S at scope top (typing_case b.type) x.typing) (sym ez)
       (record {
         low = omega (arith, n, h.here.short);
         types = both_classes b.type c.type db dc;
@@ -168,7 +167,7 @@ module _ {p : Program} {R E T A M F : List ℕ} {count : ℕ} (h : Headed R E T 
       }))
 
   pub choose_is : (e p q : Expr) (at next third scope top la lb lc : ℕ) (γ : Environment) (a b c : Typed)
-      (S₁ S S' C : List ℕ) (x y z r : Answer)
+      (S₁ S S' C : List ℕ) (x y z : TypedCase) (r : Answer)
       → next ≡ at + 1 + size e → third ≡ next + size p
       → type_of (world P) e la γ ≡ accept a → type_of (world P) p lb a.slots ≡ accept b
       → type_of (world P) q lc a.slots ≡ accept c
@@ -190,9 +189,9 @@ module _ {p : Program} {R E T A M F : List ℕ} {count : ℕ} (h : Headed R E T 
       φ = join a.effect (join b.effect c.effect)
 
       out : r ≡ chosen T A at (typing_case a.type) φ (typing_case b.type) (typing_case c.type)
-      out = pc.out ∙ (ap (λ (w : Answer). chosen T A at w.typing
+      out = pc.out ∙ (ap (λ (w : TypedCase). chosen T A at w.typing
           (join w.effect (join y.effect z.effect)) y.typing z.typing) ex
-          ∙ ap₂ (λ (u : Answer) (w : Answer).
+          ∙ ap₂ (λ (u : TypedCase) (w : TypedCase).
           chosen T A at (typing_case a.type) (join a.effect (join u.effect w.effect))
           u.typing w.typing) ey ez)
 
@@ -202,7 +201,7 @@ module _ {p : Program} {R E T A M F : List ℕ} {count : ℕ} (h : Headed R E T 
           is_refused 9 (at + 1) (choose_apart (world P) e p q (at + 1) la lb lc γ a b c ta tb tc f o)
           (out ∙ (chosen_bool T A at φ a.type (typing_case b.type) (typing_case c.type) f
           ∙ (ap (joined_answer at φ) (joined_is b.type c.type db dc ∙ ap joined_result o)
-          ∙ joined_refusal at φ)))
+          ∙ joined_refused at φ)))
       by-join f (some t) o =
           let w : r ≡ answer (typing_case t) φ =
           out ∙ (chosen_bool T A at φ a.type (typing_case b.type) (typing_case c.type) f
@@ -219,7 +218,7 @@ module _ {p : Program} {R E T A M F : List ℕ} {count : ℕ} (h : Headed R E T 
                 pc.long
                 (this_kept (world P) p lb a.slots b tb ∙ sym (this_kept (world P) q lc a.slots c tc))
                 sv
-                (pc.slots (ap (λ (x : Answer). is_refusal x.typing) w ∙ not_refused t));
+                (pc.slots (ap is_ok w));
             declared = joined_declared b.type c.type t db dc o;
             looks = choose_looks (world P) e p q (at + 1) la lb lc γ a b c ta tb tc C at lka
                 (subst (λ (i : ℕ). LooksUp (world P) C p a.slots i) en lkb)

@@ -9,7 +9,7 @@ use Rattle.language.specs.Tree.{bool, class, ExprType, known, null_type}
 use Rattle.language.specs.World.{World}
 use Rattle.language.proofs.Effects.{member_none}
 use Rattle.types.specs.declared.Typing.{Typing}
-use Rattle.types.specs.Answers.{answer}
+use Rattle.types.specs.Answers.{typed_case}
 
 -- Numbers joined bit by bit, in another order.
 or_bits : (x y z : ℕ) → x < 2 → y < 2 → z < 2 → bit_or (bit_or x y) z ≡ bit_or x (bit_or y z)
@@ -57,5 +57,5 @@ pub or_join : (a b : ℕ) → bit_or a b ≡ join a b
 unfolding join
 or_join a b = refl
 
-pub join_or : (t : Typing) (a b : ℕ) → answer t (bit_or a b) ≡ answer t (join a b)
-join_or t a b = ap (answer t) (or_join a b)
+pub join_or : (t : Typing) (a b : ℕ) → typed_case t (bit_or a b) ≡ typed_case t (join a b)
+join_or t a b = ap (typed_case t) (or_join a b)

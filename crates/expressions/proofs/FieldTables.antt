@@ -15,7 +15,7 @@ use Rattle.language.specs.Program.{world}
 use Rattle.language.specs.ClassTables.{stored_place}
 use Rattle.layout.specs.Held.{Headed}
 use Rattle.layout.specs.HeldLaws.{few_fields, fields}
-use Rattle.access.specs.declared.fields.Sought.TheVariants.{Found, Missing}
+use Rattle.std.specs.Prelude.{Some, None}
 use Rattle.access.specs.Fields.{sought_of, field_in, field_place, field_row, PreField}
 
 place_in : (f i : ℕ) (fs : List Field) → place f fs ≡ some i → (x : Field) × (nth fs i ≡ some x)
@@ -73,8 +73,8 @@ module _ {p : Program} {R E T A M F : List ℕ} {count : ℕ} (h : Headed R E T 
   field_is = go (place f ((world P).fields c)) refl
     where
       go : (o : Option ℕ) → place f ((world P).fields c) ≡ o
-          → cond (eqb (field_place T c f) 0) Missing
-          (Found (record { number = get_or R (field_row T c f * 4 + 1) 0 }))
+          → cond (eqb (field_place T c f) 0) None
+          (Some (record { number = get_or R (field_row T c f * 4 + 1) 0 }))
           ≡ sought_of (bind_option o λ i. bind_option (nth ((world P).fields c) i) λ x. some x.type)
       go none e = rw (eq-eqb (field_place T c f) 0 (place_is ∙ ap stored_place e))
       go (some i) e =

@@ -7,7 +7,8 @@ use mathlib.Core.Bool.{Bool, true, false, cond}
 use Prim.Native.Nat.{ℕ, ◌+◌, ◌*◌, ◌≤◌}
 use lib.ListN.{length, get_or}
 use lib.Dec.{leb, ltb}
-use Rattle.language.specs.Results.{need_checked, accept_injective, need_checked_inv, require_inv, refuse}
+use borrow.Author.Tests.{eq-eqb, ne_eqb, le-leb, lt-leb}
+use Rattle.language.specs.Results.{need_checked, accept_injective, need_checked_inv, require_inv}
 use Rattle.language.specs.Results.{require}
 use Rattle.language.specs.Frames.{at_slot}
 use Rattle.language.specs.Tree.{Program, class, known, Class, literal, literal_true, literal_false}
@@ -19,14 +20,12 @@ use Rattle.language.specs.Typing.{Typed, typed, type_of}
 use Rattle.language.specs.LookupClasses.{LooksUp}
 use Rattle.language.proofs.Lines.{le_or_less}
 use Rattle.layout.specs.Held.{Headed}
-use Rattle.types.specs.declared.Answer.{Answer}
 use Rattle.types.specs.declared.Typing.{Typing}
 use Rattle.types.specs.declared.Typing.TheVariants.{Bool as Bool_case, Null}
-use Rattle.types.specs.Answers.{answer, answer_of, case_of_number, refusal}
+use Rattle.types.specs.Answers.{Answer, answer, answer_of, case_of_number, current_in, refused}
 use Rattle.typing.specs.Nodes.{created, slot_read}
 use Rattle.expressions.specs.Cycle.{Views, Accepted, Is}
 use Rattle.expressions.proofs.Lists.{declared_test}
-use Rattle.typing.proofs.Cases.{read_out, read_absent, read_there}
 use Rattle.expressions.proofs.Turns.{declared_bool, declared_null, declared_known, is_accepted}
 use Rattle.expressions.proofs.TypeNumbers.{type_number_case}
 use Rattle.expressions.proofs.Slots.{slot_some, slot_none}
@@ -54,7 +53,7 @@ unfolding created type_of require world world_with
 new_is P R c at γ e = rw e (go (leb c (length P)) refl)
   where
     go : (b : Bool) → leb c (length P) ≡ b
-        → cond (ltb (length P) c) (answer_of (refuse 4 (at + 1))) (answer_of (typed (known (class c)) γ 0))
+        → cond (ltb (length P) c) (refused 4 at) (answer_of (typed (known (class c)) γ 0))
         ≡ answer_of (require b 4 (at + 1) λ _. typed (known (class c)) γ 0)
     go true f = rw (declared_test c (length P) true f)
     go false f = rw (declared_test c (length P) false f)
@@ -67,21 +66,18 @@ module _ {p : Program} {R E T A M F : List ℕ} {count : ℕ} (h : Headed R E T 
       → scope ≤ length S → get_or R (at * 4 + 1) 0 ≡ k
       → slot_read R S at scope
       ≡ answer_of (need_checked (at_slot γ k) 7 (at + 1) λ s. typed (known s.current) γ 0)
-  unfolding need_checked
+  unfolding need_checked slot_read
   slot_reads {γ} {S} {scope} k at v l e = go (at_slot γ k) refl
     where
       go : (o : Option Slot) → at_slot γ k ≡ o
           → slot_read R S at scope ≡ answer_of (need_checked o 7 (at + 1) λ s. typed (known s.current) γ 0)
-      go none q = ⊎_elim
-          (λ m. sym (read_out R S at scope (refusal 7 at) k (sym e) m refl))
-          (λ m. sym (read_absent R S at scope (refusal 7 at) k (sym e) m _ refl (slot_none v l k q m).1
-          refl))
-          (le_or_less scope k)
+      go none q = ⊎_elim (λ m. rw (e, le-leb scope k m))
+          (λ m. rw (e, lt-leb scope k m, eq-eqb (current_in (get_or S k 0)) 65535 (slot_none v l k q m).1)) (le_or_less scope k)
       go (some s) q =
           let w = slot_some h v l k s q in
           let t = type_number_case h s.current (v.current k s q) in
-          sym (read_there R S at scope _ k (sym e) w.0 _ refl (λ z. t.1 (sym w.1 ∙ z)) refl)
-          ∙ ap (λ (x : Typing). answer x 0) (ap case_of_number w.1 ∙ t.0)
+          rw (e, lt-leb scope k w.0, ne_eqb (current_in (get_or S k 0)) 65535 (λ z. t.1 (sym w.1 ∙ z)))
+          (ap (λ (x : Typing). answer x 0) (ap case_of_number w.1 ∙ t.0))
 
   pub slot_is : {γ : Environment} {S C : List ℕ} {scope : ℕ} (k at : ℕ) (r : Answer)
       → Views (world P) γ S scope → scope ≤ length S → get_or R (at * 4 + 1) 0 ≡ k

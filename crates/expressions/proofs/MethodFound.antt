@@ -28,7 +28,7 @@ use Rattle.types.specs.Tables.{is_fitting}
 use Rattle.access.specs.Calls.{all_fitting, method_place, method_line, parameter_count, PreMethod}
 use Rattle.expressions.specs.Cycle.{Declared, stored}
 use Rattle.expressions.proofs.TypeLines.{TypeAt}
-use Rattle.types.proofs.Cases.{case_same}
+use Rattle.types.proofs.Laws.{case_same}
 use Rattle.expressions.proofs.Worlds.{class_low, not_255, fitting_is}
 use Rattle.expressions.proofs.Turns.{type_low, case_low}
 use Rattle.expressions.proofs.TypeNumbers.{type_number_case, not_absent}

@@ -21,40 +21,40 @@ use Rattle.language.specs.LookupClasses.{Notes, LooksUp}
 use Rattle.language.proofs.Classes as classes
 use Rattle.layout.specs.Held.{Headed}
 use Rattle.layout.specs.HeldLaws.{lower}
-use Rattle.types.specs.declared.Answer.{Answer}
+use Rattle.types.specs.declared.Typed.{Typed as TypedCase}
+use Rattle.std.specs.Prelude.{Some, None}
 use Rattle.types.specs.declared.Typing.{Typing}
-use Rattle.access.specs.declared.fields.Sought.{Sought}
-use Rattle.access.specs.declared.fields.Sought.TheVariants.{Found, Missing}
-use Rattle.types.specs.declared.Typing.TheVariants.{Bool as Bool_case, Class as class_case, Null, Refusal}
-use Rattle.types.specs.Answers.{answer, typing_case, refusal}
-use Rattle.access.specs.Fields.{sought_of, field_in, PreField, NoClass, PrePut, put, put_answer, put_noted}
+use Rattle.types.specs.declared.Typing.TheVariants.{Bool as Bool_case, Class as class_case, Null}
+use Rattle.types.specs.Answers.{Answer, answer, answered, typing_case, refused}
+use Rattle.access.specs.Fields.{Sought, sought_of, field_in, PreField, NoClass, PrePut, put, put_answer, put_noted}
 use Rattle.access.specs.Fields.{put_classes}
 use Rattle.types.specs.Tables.{applied, is_fitting}
 use Rattle.expressions.specs.Cycle.{Views, Declared, Is}
 use Rattle.expressions.proofs.Worlds.{applied_is, fitting_is}
 use Rattle.expressions.proofs.Typings.{looks_frame}
-use Rattle.expressions.proofs.Turns.{type_low, case_low, answered, is_refused, is_accepted}
+use Rattle.expressions.proofs.Turns.{type_low, case_low, is_refused, is_accepted}
 use Rattle.expressions.proofs.TypeNumbers.{type_number_case, case_known, applied_low, in_tables}
 use Rattle.expressions.proofs.FieldTables.{field_is, field_declared, field_pre}
 use Rattle.expressions.proofs.NodeTyping.{set_not, set_missing, set_unfit, set_done, set_looks}
 
 -- What is found is not missing, and has one number.
-missing_found : (n : ℕ) → Missing ≡ Found (record { number = n }) → ⊥
+missing_found : (n : ℕ) → ◌≡◌ {A = Sought} None (Some (record { number = n })) → ⊥
 missing_found n e = let z : ◌≡◌ {A = ℕ} 0 1 = cc in omega arith
 
 abbrev sought_number : Sought → ℕ
-sought_number Missing = 0
-sought_number (Found u) = u.number
+sought_number None = 0
+sought_number (Some u) = u.number
 
-found_number : (m n : ℕ) → Found (record { number = m }) ≡ Found (record { number = n }) → m ≡ n
+found_number : (m n : ℕ) → ◌≡◌ {A = Sought} (Some (record { number = m })) (Some (record { number = n }))
+    → m ≡ n
 found_number m n e = ap sought_number e
 
-put_noted_kept : (A C : List ℕ) (at k : ℕ) (y : Answer) (s : Sought)
+put_noted_kept : (A C : List ℕ) (at k : ℕ) (y : TypedCase) (s : Sought)
     → (length (put_noted A C at k y s) ≡ length C)
     × ((i : ℕ) → (i ≡ at → ⊥) → get_or (put_noted A C at k y s) i 0 ≡ get_or C i 0)
 unfolding put_noted
-put_noted_kept A C at k y Missing = (refl, λ i n. refl)
-put_noted_kept A C at k y (Found u) = go (is_fitting A y.typing u.number)
+put_noted_kept A C at k y None = (refl, λ i n. refl)
+put_noted_kept A C at k y (Some u) = go (is_fitting A y.typing u.number)
   where
     go : (b : Bool) → (length (cond b (replaced C at k) C) ≡ length C) ×
         ((i : ℕ) → (i ≡ at → ⊥) → get_or (cond b (replaced C at k) C) i 0 ≡ get_or C i 0)
@@ -62,7 +62,7 @@ put_noted_kept A C at k y (Found u) = go (is_fitting A y.typing u.number)
     go false = (refl, λ i n. refl)
 
 -- What U leaves of the table.
-pub put_kept : (R T A C C' : List ℕ) (at : ℕ) (x y : Answer) → C' ≡ put_classes R T A C at x.typing y
+pub put_kept : (R T A C C' : List ℕ) (at : ℕ) (x y : TypedCase) → C' ≡ put_classes R T A C at x.typing y
     → (length C' ≡ length C) × ((i : ℕ) → (i ≡ at → ⊥) → get_or C' i 0 ≡ get_or C i 0)
 unfolding put_classes
 put_kept R T A C C' at x y e = rw e (go x.typing)
@@ -78,21 +78,19 @@ put_kept R T A C C' at x y e = rw e (go x.typing)
     go (class_case c) = noted (applied T y.effect c)
         (field_in R T (applied T y.effect c) (get_or R (at * 4 + 1) 0))
     go Null = (refl, λ i n. refl)
-    go (Refusal m l) = (refl, λ i n. refl)
 
-put_not : (R T A : List ℕ) (at : ℕ) (t : Typing) (x y : Answer) → NoClass t
-    → put R T A at t x y ≡ refusal 9 at
+put_not : (R T A : List ℕ) (at : ℕ) (t : Typing) (x y : TypedCase) → NoClass t
+    → put R T A at t x y ≡ refused 9 at
 unfolding put
 put_not R T A at Bool_case x y k = refl
 put_not R T A at (class_case c) x y k = absurd k
 put_not R T A at Null x y k = refl
-put_not R T A at (Refusal n l) x y k = refl
 
 module _ {p : Program} {R E T A M F : List ℕ} {count : ℕ} (h : Headed R E T A M F p count) where
   abbrev P : List Class
   P = p.classes
 
-  found_low : (c f : ℕ) → c ≤ count → f < 256 → (n : ℕ) → field_in R T c f ≡ Found (record { number = n })
+  found_low : (c f : ℕ) → c ≤ count → f < 256 → (n : ℕ) → field_in R T c f ≡ Some (record { number = n })
       → (n ≡ 255 → ⊥) → n ≤ 64
   found_low c f l m n e = go (field_type f ((world P).fields c)) refl
     where
@@ -118,7 +116,7 @@ module _ {p : Program} {R E T A M F : List ℕ} {count : ℕ} (h : Headed R E T 
         ∙ field_is h k f k-low lf
 
     put-none : field_type f ((world P).fields k) ≡ none
-        → (put R T A at (class_case c) (answered a) (answered b) ≡ refusal 8 at)
+        → (put R T A at (class_case c) (answered a) (answered b) ≡ refused 8 at)
         × (put_classes R T A C at (class_case c) (answered b) ≡ C)
     unfolding put put_classes put_answer put_noted
     put-none m = (rw (sought-here, m), rw (sought-here, m))
@@ -129,7 +127,7 @@ module _ {p : Program} {R E T A M F : List ℕ} {count : ℕ} (h : Headed R E T 
           (field_declared h k f k-low lf t m)
 
       put-bad : fits (world P) b.type t ≡ false
-          → (put R T A at (class_case c) (answered a) (answered b) ≡ refusal 9 at)
+          → (put R T A at (class_case c) (answered a) (answered b) ≡ refused 9 at)
           × (put_classes R T A C at (class_case c) (answered b) ≡ C)
       unfolding put put_classes put_answer put_noted
       put-bad g = (rw (sought-here, m, fit-here, g), rw (sought-here, m, fit-here, g))
@@ -146,12 +144,12 @@ module _ {p : Program} {R E T A M F : List ℕ} {count : ℕ} (h : Headed R E T 
       )
 
   -- U. The lines of the children's typing may be any.
-  pub pre_put : (f at : ℕ) (a b : Typed) (x y : Answer) → RowAt R at U_set f 0 → f < 256
+  pub pre_put : (f at : ℕ) (a b : Typed) (x y : TypedCase) → RowAt R at U_set f 0 → f < 256
       → Declared (world P) a.type → Declared (world P) b.type → x ≡ answered a → y ≡ answered b
       → PrePut R T A at x.typing y
   pre_put f at a b x y n l da db ex ey =
-      subst (λ (z : Answer). PrePut R T A at z.typing y) (sym ex)
-      (subst (λ (z : Answer). PrePut R T A at (typing_case a.type) z) (sym ey) (record {
+      subst (λ (z : TypedCase). PrePut R T A at z.typing y) (sym ex)
+      (subst (λ (z : TypedCase). PrePut R T A at (typing_case a.type) z) (sym ey) (record {
         row = (n.within, omega (arith, n.within, h.here.short));
         value = case_low h b.type db;
         object = λ c q.
@@ -167,7 +165,7 @@ module _ {p : Program} {R E T A M F : List ℕ} {count : ℕ} (h : Headed R E T 
       }))
 
   pub set_is : (f : ℕ) (e e' : Expr) (at next scope la lb : ℕ) (γ : Environment) (a b : Typed)
-      (S C C' : List ℕ) (x y r : Answer)
+      (S C C' : List ℕ) (x y : TypedCase) (r : Answer)
       → RowAt R at U_set f 0 → f < 256 → next ≡ at + 1 + size e
       → type_of (world P) e la γ ≡ accept a → type_of (world P) e' lb a.slots ≡ accept b
       → Declared (world P) a.type → Declared (world P) b.type → Views (world P) b.slots S scope
@@ -179,10 +177,10 @@ module _ {p : Program} {R E T A M F : List ℕ} {count : ℕ} (h : Headed R E T 
       by-type a.type refl
     where
       out : r ≡ put R T A at (typing_case a.type) (answered a) (answered b)
-      out = er ∙ ap₂ (λ (p : Answer) (q : Answer). put R T A at p.typing p q) ex ey
+      out = er ∙ ap₂ (λ (p : TypedCase) (q : TypedCase). put R T A at p.typing p q) ex ey
 
       table : C' ≡ put_classes R T A C at (typing_case a.type) (answered b)
-      table = ec ∙ ap₂ (λ (p : Answer) (q : Answer). put_classes R T A C at p.typing q) ex ey
+      table = ec ∙ ap₂ (λ (p : TypedCase) (q : TypedCase). put_classes R T A C at p.typing q) ex ey
 
       by-fit : (c : ℕ) → a.type ≡ known (class c) → c ≤ count → (t : DeclaredType)
           → field_type f ((world P).fields (apply_class (world P) b.effect c)) ≡ some t

@@ -1,7 +1,7 @@
 -- How answers follow one another in the cycle: what is given of a node, its children, and what stays.
 -- Assumes nothing.
 use mathlib.Core.Path.{◌≡◌, refl, sym, ap, subst, ◌∙◌}
-use mathlib.Core.Bool.{true, false, false≢true}
+use mathlib.Core.Bool.{true}
 use mathlib.Core.List.{List}
 use Prim.Native.Nat.{ℕ, zero, suc, ◌+◌, ◌-◌, ◌*◌, ◌≤◌, ◌<◌}
 use native.Mathlib.Omega.{arith}
@@ -20,10 +20,13 @@ use Rattle.language.specs.Rows.{code}
 use Rattle.language.proofs.Nodes.{letter_of, head}
 use Rattle.layout.specs.Held.{Headed}
 use Rattle.layout.specs.NodeForms.{of_width, FormParts, FormsParts, form_parts, forms_parts}
-use Rattle.types.specs.declared.Answer.{Answer}
+use Rattle.types.specs.declared.Typed.{Typed as TypedCase}
 use Rattle.types.specs.declared.slots.Scope.{Scope}
-use Rattle.types.specs.declared.Typing.TheVariants.{Refusal}
-use Rattle.types.specs.Answers.{answer, answer_of, typing_case, is_refusal}
+use Rattle.std.specs.Prelude.{Result, Ok, Err}
+use Rattle.std.specs.Result.{IsErrAnd}
+use Rattle.language.specs.declared.Refusal.{Refusal}
+use Rattle.language.specs.Refusals.{refusal}
+use Rattle.types.specs.Answers.{Answer, answer, answer_of, answered, typing_case}
 use Rattle.types.specs.Tables.{CaseIn}
 use Rattle.expressions.specs.Cycle.{Given, GivenAll, Views, Room, Kept, Pre, Post, Declared, Accepted}
 use Rattle.expressions.specs.Cycle.{Is}
@@ -211,33 +214,19 @@ module _ {p : Program} {R E T A M F : List ℕ} {count : ℕ} (h : Headed R E T 
 
 -- ---- answers
 
--- The answer of an accepted child.
-abbrev pub answered : Typed → Answer
-answered a = answer (typing_case a.type) a.effect
-
 -- an answer that is no refusal is an accepted one
-pub accepted_of : {X : Type 0} (q : Checked Typed) {r : Answer} → r ≡ answer_of q
-    → is_refusal r.typing ≡ false
-    → ((a : Typed) → q ≡ accept a → r ≡ answer (typing_case a.type) a.effect → X) → X
-accepted_of (accept a) e f k = k a refl e
-accepted_of (refuse n l) e f k = absurd (false≢true (sym f ∙ ap (λ (x : Answer). is_refusal x.typing) e))
+pub accepted_of : {X : Type 0} (q : Checked Typed) {r : Answer} {x : TypedCase} → r ≡ answer_of q → r ≡ Ok x
+    → ((a : Typed) → q ≡ accept a → x ≡ answered a → X) → X
+accepted_of (accept a) {r} {x} e f k = let g : x ≡ answered a = cc in k a refl g
+accepted_of (refuse n l) e f k = absurd (cc)
 
--- a refusal is passed on
-pub not_refused : (t : ExprType) → is_refusal (typing_case t) ≡ false
-not_refused (known bool) = refl
-not_refused (known (class c)) = refl
-not_refused null_type = refl
-
-pub refused_of : {X : Type 0} (q : Checked Typed) {r : Answer} → r ≡ answer_of q
-    → is_refusal r.typing ≡ true
-    → ((n l : ℕ) → q ≡ refuse n l → r ≡ answer (Refusal n l) 0 → X) → X
-refused_of (accept a) e f k =
-    absurd (false≢true (sym (not_refused a.type) ∙
-    (sym (ap (λ (x : Answer). is_refusal x.typing) e) ∙ f)))
-refused_of (refuse n l) e f k = k n l refl e
+-- what `?` returns of a refusal
+pub passed_on : {A : Type 0} {f : Refusal} (r : Result A Refusal) → IsErrAnd r (λ (y : Refusal). y ≡ f) → r ≡ Err f
+passed_on (Ok x) h = absurd h
+passed_on (Err g) h = ap Err h
 
 pub is_refused : {W : World} {e : Expr} {γ : Environment} {at scope : ℕ} {S C : List ℕ} {r : Answer} (n l : ℕ)
-    → type_of W e (at + 1) γ ≡ refuse n l → r ≡ answer (Refusal n l) 0
+    → type_of W e (at + 1) γ ≡ refuse n l → r ≡ Err (refusal n l)
     → Is W e γ at scope S C r
 is_refused n l e f = record {
   out = f ∙ sym (ap answer_of e);

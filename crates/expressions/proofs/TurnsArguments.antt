@@ -1,7 +1,6 @@
 -- The function arguments: a call's arguments one by one, and their types after the effects of those that
 -- follow. Assumes nothing.
 use mathlib.Core.Path.{◌≡◌, refl, sym, ap, ap₂, subst, ◌∙◌}
-use mathlib.Core.Bool.{true, false}
 use mathlib.Core.Logic.{⊎_elim}
 use mathlib.Core.List.{List, ◌∷◌}
 use Prim.Native.Nat.{ℕ, zero, suc, ◌+◌, ◌-◌, ◌≤◌, ◌<◌}
@@ -10,19 +9,21 @@ use lib.ListN.{length, get_or}
 use Rattle.language.specs.Lists.{nth}
 use Rattle.language.specs.Results.{Checked, accept, refuse, bind_checked, bind_checked_inv, accept≢refuse}
 use Rattle.language.specs.Results.{accept_injective}
-use Rattle.language.specs.Tree.{null_type, Program, Expr, Exprs, cons, size, sizes, count as how_many}
+use Rattle.language.specs.Tree.{Program, Expr, Exprs, cons, size, sizes, count as how_many}
 use Rattle.language.specs.World.{World}
 use Rattle.language.specs.Effects.{join, apply_expr}
 use Rattle.language.specs.Program.{world}
 use Rattle.language.specs.Environment.{Environment}
-use Rattle.language.specs.Typing.{Typed, TypedAll, typed, type_of, type_all}
+use Rattle.language.specs.Typing.{Typed, TypedAll, type_of, type_all}
 use Rattle.language.specs.LookupClasses.{LooksUp}
 use Rattle.language.proofs.Lines.{less_or_same}
 use Rattle.language.proofs.Nodes.{Head}
-use Rattle.types.specs.declared.Answer.{Answer}
+use Rattle.types.specs.declared.Typed.{Typed as TypedCase}
 use Rattle.types.specs.declared.slots.Scope.{Scope}
-use Rattle.types.specs.declared.Typing.TheVariants.{Null}
-use Rattle.types.specs.Answers.{answer, answer_of, case_number, is_refusal}
+use Rattle.std.specs.Prelude.{Result, Ok, Err}
+use Rattle.language.specs.declared.Refusal.{Refusal}
+use Rattle.language.specs.Refusals.{result_of}
+use Rattle.types.specs.Answers.{Answer, case_number}
 use Rattle.types.specs.Tables.{Applicable, Known, applied_number, PostStore}
 use Rattle.expressions.specs.Cycle.{Given, GivenAll, raised, Pre, Post, PreList, AcceptedAll}
 use Rattle.expressions.specs.Cycle.{PostArguments}
@@ -32,7 +33,7 @@ use Rattle.types.proofs.Laws.{known_same}
 use Rattle.expressions.proofs.TypeNumbers.{applied_case}
 use Rattle.expressions.proofs.AppliedNumbers.{applied_none, applied_join, known_applied, known_case}
 use Rattle.expressions.proofs.AppliedNumbers.{known_applicable}
-use Rattle.expressions.proofs.Turns.{pre_of, list_pre, room_next, views_same, bind_refused}
+use Rattle.expressions.proofs.Turns.{pre_of, list_pre, room_next, views_same}
 use Rattle.expressions.proofs.TurnsNodes.{Did, did, failed, after_row, row_of}
 use Rattle.expressions.proofs.TurnsLists.{none_accepted, by_nil, by_list, list_first, list_rest, both}
 use Rattle.expressions.proofs.TurnsLists.{cons_accepted, cons_refused, all_cons, first_after}
@@ -51,12 +52,15 @@ lower_top {scope = scope} {d = d} i n m l g = record {
       (omega arith);
 }
 
+-- An effect so far, joined with those that are accepted.
+abbrev joined_effects : ℕ → Checked TypedAll → Result ℕ Refusal
+joined_effects φ q = result_of (λ (b : TypedAll). join φ b.effect) q
+
 -- What the arguments that are left come to: the definition's answer. Where they are accepted, their effect is
 -- applied to the types of the i that wait, and their own types follow.
-pub record Comes (W : World) (T S S' C' : List ℕ) (at : ℕ) (scope : Scope) (i left φ : ℕ) (r : Answer)
-    (γ : Environment) (es : Exprs) : Type 0 where
-  pub is : r ≡ answer_of (bind_checked (type_all W es (at + 1) γ) λ b. typed null_type b.slots
-      (join φ b.effect))
+pub record Comes (W : World) (T S S' C' : List ℕ) (at : ℕ) (scope : Scope) (i left φ : ℕ)
+    (r : Result ℕ Refusal) (γ : Environment) (es : Exprs) : Type 0 where
+  pub is : r ≡ joined_effects φ (type_all W es (at + 1) γ)
   pub accepted : (b : TypedAll) → type_all W es (at + 1) γ ≡ accept b
       → AcceptedAll W es γ at scope.size S' C' b
   pub waited : (b : TypedAll) → type_all W es (at + 1) γ ≡ accept b → (k : ℕ) → k < i
@@ -65,8 +69,8 @@ pub record Comes (W : World) (T S S' C' : List ℕ) (at : ℕ) (scope : Scope) (
       → get_or S' (scope.top + i + k) 0 ≡ get_or (stored b.types) k 0
 
 -- What typing the arguments that are left keeps, and what they come to.
-pub record PostLeft (R E T A M F S C S' C' : List ℕ) (at : ℕ) (scope : Scope) (n i left φ : ℕ) (r : Answer) :
-    Type 0 where
+pub record PostLeft (R E T A M F S C S' C' : List ℕ) (at : ℕ) (scope : Scope) (n i left φ : ℕ)
+    (r : Result ℕ Refusal) : Type 0 where
   pub slots_long : length S' ≡ length S
   pub classes_long : length C' ≡ length C
   pub between : (k : ℕ) → scope.width ≤ k → k < scope.top → get_or S' k 0 ≡ get_or S k 0
@@ -78,23 +82,19 @@ pub record PostLeft (R E T A M F S C S' C' : List ℕ) (at : ℕ) (scope : Scope
 
 -- an effect so far is joined to that of an argument, then to those of the rest
 argument_out : (W : World) (es : Exprs) (l : ℕ) (a : Typed) (φ : ℕ)
-    → answer_of (bind_checked (type_all W es l a.slots) λ b. typed null_type b.slots
-    (join (join φ a.effect) b.effect))
-    ≡ answer_of (bind_checked (bind_checked (type_all W es l a.slots) λ b. accept (both W a b)) λ b. typed
-    null_type b.slots (join φ b.effect))
+    → joined_effects (join φ a.effect) (type_all W es l a.slots)
+    ≡ joined_effects φ (bind_checked (type_all W es l a.slots) λ b. accept (both W a b))
 unfolding bind_checked
 argument_out W es l a φ = go (type_all W es l a.slots)
   where
     go : (q : Checked TypedAll)
-        → answer_of (bind_checked q λ b. typed null_type b.slots (join (join φ a.effect) b.effect))
-        ≡ answer_of (bind_checked (bind_checked q λ b. accept (both W a b)) λ b. typed null_type b.slots
-        (join φ b.effect))
+        → joined_effects (join φ a.effect) q ≡ joined_effects φ (bind_checked q λ b. accept (both W a b))
     go (refuse n k) = refl
-    go (accept b) = ap (answer Null) (join_assoc φ a.effect b.effect)
+    go (accept b) = ap Ok (join_assoc φ a.effect b.effect)
 
 -- none is left
-left_none : {R E T A M F S C : List ℕ} {at : ℕ} {scope : Scope} {n i left φ : ℕ} {r : Answer} → left ≡ 0
-    → r ≡ answer Null φ → PostLeft R E T A M F S C S C at scope n i left φ r
+left_none : {R E T A M F S C : List ℕ} {at : ℕ} {scope : Scope} {n i left φ : ℕ} {r : Result ℕ Refusal} → left ≡ 0
+    → r ≡ Ok φ → PostLeft R E T A M F S C S C at scope n i left φ r
 unfolding type_of LooksUp bind_checked nth
 left_none {T = T} {S = S} {C} {at} {scope} {n} {i} {left} {φ} {r} z e = record {
   slots_long = refl;
@@ -104,7 +104,7 @@ left_none {T = T} {S = S} {C} {at} {scope} {n} {i} {left} {φ} {r} z e = record 
   after = λ ls k l. refl;
   out = λ ls. by_nil ls.es left ls.many z
       (Comes (world ls.p.classes) T S S C at scope i left φ r ls.γ) (record {
-        is = e ∙ ap (answer Null) (sym (join_none φ));
+        is = e ∙ ap Ok (sym (join_none φ));
         accepted = λ b q.
             none_accepted (world ls.p.classes) ls.γ at scope.size S C b ls.given.views q;
         waited = λ b q k l. sym (ap (λ (x : TypedAll). applied_number T x.effect
@@ -127,10 +127,10 @@ pub record ArgumentsLoop (R E T A M F S C : List ℕ) (at : ℕ) (scope : Scope)
   pub slots_long : length S₁ ≡ length S
   pub classes_long : length C₁ ≡ length C
   pub waiting : (k : ℕ) → k < i → Known scope.count (get_or S₁ (scope.top + k) 0)
-  pub rest : {S' C' : List ℕ} {r : Answer} → PostLeft R E T A M F S₁ C₁ S' C' next scope n i left φ r
+  pub rest : {S' C' : List ℕ} {r : Result ℕ Refusal} → PostLeft R E T A M F S₁ C₁ S' C' next scope n i left φ r
       → PostArguments R E T A M F S C S' C' at scope n r
 
-all_left : {R E T A M F S C S' C' : List ℕ} {at : ℕ} {scope : Scope} {n : ℕ} {r : Answer}
+all_left : {R E T A M F S C S' C' : List ℕ} {at : ℕ} {scope : Scope} {n : ℕ} {r : Result ℕ Refusal}
     → PostLeft R E T A M F S C S' C' at scope n 0 n 0 r → PostArguments R E T A M F S C S' C' at scope n r
 unfolding join
 all_left {scope = scope} o = record {
@@ -162,7 +162,7 @@ arguments_start {n = n} l pre = record {
 
 module _ {R E T A M F S C : List ℕ} {at : ℕ} {scope : Scope} {n : ℕ} {S₁ C₁ : List ℕ} {φ next i : ℕ}
     (w : ArgumentsLoop R E T A M F S C at scope n S₁ C₁ φ next i) where
-  pub arguments_ended : {r : Answer} → n ≤ i → r ≡ answer Null φ
+  pub arguments_ended : {r : Result ℕ Refusal} → n ≤ i → r ≡ Ok φ
       → PostArguments R E T A M F S C S₁ C₁ at scope n r
   arguments_ended m e = w.rest (left_none (omega (arith, w.sum)) e)
 
@@ -179,10 +179,10 @@ module _ {R E T A M F S C : List ℕ} {at : ℕ} {scope : Scope} {n : ℕ} {S₁
     argument_pre = by_list w.pre more (λ _. Pre R E T A M F S₁ next (raised scope i)) λ e es k g.
         pre_of (first_of g)
 
-    module _ {S₂ C₂ : List ℕ} {x : Answer} (q : Post R E T A M F S₁ C₁ S₂ C₂ next (raised scope i) x) where
-      left-fail : is_refusal x.typing ≡ true
-          → PostLeft R E T A M F S₁ C₁ S₂ C₂ next scope n i w.left φ x
-      left-fail f = record {
+    module _ {S₂ C₂ : List ℕ} {r₁ : Answer} (q : Post R E T A M F S₁ C₁ S₂ C₂ next (raised scope i) r₁) where
+      left-fail : {f : Refusal} → r₁ ≡ Err f
+          → PostLeft R E T A M F S₁ C₁ S₂ C₂ next scope n i w.left φ (Err f)
+      left-fail {f} h = record {
         slots_long = q.kept.slots_long;
         classes_long = q.kept.classes_long;
         between = λ k a b. q.kept.between k a (omega arith);
@@ -190,20 +190,18 @@ module _ {R E T A M F S C : List ℕ} {at : ℕ} {scope : Scope} {n : ℕ} {S₁
         after = first_after more q;
         out = λ ls.
             let W = world ls.p.classes in
-            by_list ls more (Comes W T S₁ S₂ C₂ next scope i w.left φ x ls.γ) λ e xs k g.
-            let u = failed (first_of g) q f in
-            let c = cons_refused W e xs next ls.γ u.n u.l u.typed_at in record {
-              is = u.is ∙ sym (ap answer_of (bind_refused (type_all W (cons e xs) (next + 1) ls.γ)
-                  (λ b. typed null_type b.slots (join φ b.effect)) u.n u.l c));
-              accepted = λ b y. absurd (accept≢refuse u.n u.l (sym c ∙ y));
-              waited = λ b y. absurd (accept≢refuse u.n u.l (sym c ∙ y));
-              own = λ b y. absurd (accept≢refuse u.n u.l (sym c ∙ y));
+            by_list ls more (Comes W T S₁ S₂ C₂ next scope i w.left φ (Err f) ls.γ) λ e xs k g.
+            let c = cons_refused W e xs next ls.γ f.number f.line (failed (first_of g) q h) in record {
+              is = sym (ap (joined_effects φ) c);
+              accepted = λ b y. absurd (accept≢refuse f.number f.line (sym c ∙ y));
+              waited = λ b y. absurd (accept≢refuse f.number f.line (sym c ∙ y));
+              own = λ b y. absurd (accept≢refuse f.number f.line (sym c ∙ y));
             };
       }
 
-      pub arguments_broken : is_refusal x.typing ≡ true
-          → PostArguments R E T A M F S C S₂ C₂ at scope n x
-      arguments_broken f = w.rest (left-fail f)
+      pub arguments_broken : {f : Refusal} → r₁ ≡ Err f
+          → PostArguments R E T A M F S C S₂ C₂ at scope n (Err f)
+      arguments_broken h = w.rest (left-fail h)
 
       -- the types that wait stay as they are while an argument is typed
       still : (k : ℕ) → k < i → get_or S₂ (scope.top + k) 0 ≡ get_or S₁ (scope.top + k) 0
@@ -216,7 +214,7 @@ module _ {R E T A M F S C : List ℕ} {at : ℕ} {scope : Scope} {n : ℕ} {S₁
         λ k l. known_applicable w.pre.given.headed (known_same (still k l) (w.waiting k l)),
       )
 
-      module _ (ok : is_refusal x.typing ≡ false) {S₃ : List ℕ} (v : PostStore T S₂ S₃ scope.top i x)
+      module _ {x : TypedCase} (ok : r₁ ≡ Ok x) {S₃ : List ℕ} (v : PostStore T S₂ S₃ scope.top i x)
         where
           -- the argument that was typed, with what is known of all
           by_first : {X : Type 0}
@@ -231,7 +229,7 @@ module _ {R E T A M F S C : List ℕ} {at : ℕ} {scope : Scope} {n : ℕ} {S₁
               (λ (l : k < i). known_same (v.waiting k l)
               (known_applied w.pre.given.headed x.effect (known_same (still k l) (w.waiting k l))))
               (λ (e : k ≡ i). rw e (known_same v.last (by_first λ y xs j g u.
-              known_same (ap (λ (a : Answer). case_number a.typing) u.is)
+              known_same (ap (λ (a : TypedCase). case_number a.typing) u.is)
               (known_case g.headed u.a.type u.accepted.declared))))
               (less_or_same k i (omega arith))
 
@@ -256,7 +254,7 @@ module _ {R E T A M F S C : List ℕ} {at : ℕ} {scope : Scope} {n : ℕ} {S₁
               subst (λ (j : ℕ). PreList R E T A M F S₃ j (raised scope n) (w.left - 1))
               (sym (row_of (list_first g)).end) (list_pre k (rest-given g u))
 
-          module _ {S' C' : List ℕ} {r : Answer}
+          module _ {S' C' : List ℕ} {r : Result ℕ Refusal}
               (o : PostLeft R E T A M F S₃ C₂ S' C' (get_or E next 0) scope n (i + 1) (w.left - 1)
               (join φ x.effect) r)
             where
@@ -279,7 +277,7 @@ module _ {R E T A M F S C : List ℕ} {at : ℕ} {scope : Scope} {n : ℕ} {S₁
                   both-waited k l =
                       y k (omega arith)
                       ∙ (ap (applied_number T b.effect) (v.waiting k l
-                      ∙ ap₂ (applied_number T) (ap (λ (a : Answer). a.effect) u.is) (still k l))
+                      ∙ ap₂ (applied_number T) (ap (λ (a : TypedCase). a.effect) u.is) (still k l))
                       ∙ applied_join g.headed u.a.effect b.effect (w.waiting k l))
 
                   both_own : ((k : ℕ) → k < w.left - 1
@@ -292,7 +290,7 @@ module _ {R E T A M F S C : List ℕ} {at : ℕ} {scope : Scope} {n : ℕ} {S₁
                   both_own f zero l = let k : scope.top + i + 0 ≡ scope.top + i = omega arith in
                       rw k (y i (omega arith)
                       ∙ (ap (applied_number T b.effect)
-                      (v.last ∙ ap (λ (a : Answer). case_number a.typing) u.is)
+                      (v.last ∙ ap (λ (a : TypedCase). case_number a.typing) u.is)
                       ∙ applied_case g.headed b.effect u.a.type u.accepted.declared))
                   both_own f (suc j) l =
                       let k : scope.top + i + suc j ≡ scope.top + (i + 1) + j = omega arith in
@@ -308,14 +306,10 @@ module _ {R E T A M F S C : List ℕ} {at : ℕ} {scope : Scope} {n : ℕ} {S₁
                   let y = o'.out (list_pre k (rest-given g u)) in
                   let c = cons_accepted (world p.classes) e xs next γ u.a u.typed_at in record {
                     is = y.is
-                        ∙ (ap (λ (a : Answer). answer_of
-                        (bind_checked (type_all (world p.classes) xs (next + size e + 1) u.a.slots)
-                        λ b. typed
-                        null_type b.slots (join (join φ a.effect) b.effect))) u.is
+                        ∙ (ap (λ (a : TypedCase). joined_effects (join φ a.effect)
+                        (type_all (world p.classes) xs (next + size e + 1) u.a.slots)) u.is
                         ∙ (argument_out (world p.classes) xs (next + size e + 1) u.a φ
-                        ∙ ap (λ (t : Checked TypedAll).
-                        answer_of (bind_checked t λ b. typed null_type b.slots
-                        (join φ b.effect))) (sym c)));
+                        ∙ ap (joined_effects φ) (sym c)));
                     accepted = λ b t. by-rest u c b t
                         (λ b. AcceptedAll (world p.classes) (cons e xs) γ next scope.size S' C' b)
                         λ b s. all_cons g.headed u o'.classes_long (λ k l. o'.before k l)

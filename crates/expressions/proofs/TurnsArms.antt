@@ -1,6 +1,5 @@
 -- The function choose: J's condition, then both arms from the same slots. Assumes nothing.
 use mathlib.Core.Path.{◌≡◌, refl, sym, ap, subst, ◌∙◌}
-use mathlib.Core.Bool.{true, false}
 use mathlib.Core.List.{List}
 use Prim.Native.Nat.{ℕ, ◌+◌, ◌-◌, ◌*◌, ◌≤◌, ◌<◌}
 use native.Mathlib.Omega.{arith}
@@ -12,10 +11,12 @@ use Rattle.language.specs.Program.{world}
 use Rattle.language.specs.Environment.{Environment}
 use Rattle.language.specs.Typing.{type_of}
 use Rattle.language.specs.Encoded.{Encoded}
-use Rattle.types.specs.declared.Answer.{Answer}
+use Rattle.types.specs.declared.Typed.{Typed as TypedCase}
 use Rattle.types.specs.declared.slots.Scope.{Scope}
 use Rattle.expressions.specs.Cycle.{Given, raised, Views, Room, Kept, Pre, Post, Is}
-use Rattle.types.specs.Answers.{is_refusal}
+use Rattle.std.specs.Prelude.{Ok, Err}
+use Rattle.language.specs.declared.Refusal.{Refusal}
+use Rattle.types.specs.Answers.{Answer}
 use Rattle.types.specs.Tables.{Saved, Swapped}
 use Rattle.typing.specs.Nodes.{PreChoice, PostChoice}
 use Rattle.expressions.proofs.Turns.{parts, pre_of, post_of, in_row, kept_then, kept_slots, room_child}
@@ -88,7 +89,7 @@ module _ {R E T A M F S : List ℕ} {at : ℕ} {scope : Scope} (pre : Pre R E T 
   choose_room = let m = pre.given.room in
       (omega (arith, arm_room_of, m.scoped), omega (arith, m.scoped, m.above), m.above, m.scoped)
 
-  module _ {S₁ C C₁ : List ℕ} {a : Answer} (q₁ : Post R E T A M F S C S₁ C₁ (at + 1) scope a) where
+  module _ {S₁ C C₁ : List ℕ} {r₁ : Answer} (q₁ : Post R E T A M F S C S₁ C₁ (at + 1) scope r₁) where
     kept-1 : Kept S S₁ C C₁ at (get_or E at 0) scope.width scope.top
     unfolding size
     kept-1 = by_node J_choose pre.e pre.given l
@@ -96,17 +97,16 @@ module _ {R E T A M F S : List ℕ} {at : ℕ} {scope : Scope} (pre : Pre R E T 
         kept_in scope.top (row_of g) (row_of (choose_1 g)) (omega arith) (omega arith) (omega arith)
         q₁.kept
 
-    pub choose_fail : is_refusal a.typing ≡ true → Post R E T A M F S C S₁ C₁ at scope a
+    pub choose_fail : {f : Refusal} → r₁ ≡ Err f → Post R E T A M F S C S₁ C₁ at scope (Err f)
     unfolding type_of
-    choose_fail f = post_of kept-1 λ p z γ d g.
-        by_node J_choose z g l (λ w. Is (world p.classes) w γ at scope.size S₁ C₁ a) λ e x y g.
-        let w = failed (choose_1 g) q₁ f in
-        is_refused w.n w.l (bind_refused _ _ _ _ w.typed_at) w.is
+    choose_fail {f} h = post_of kept-1 λ p z γ d g.
+        by_node J_choose z g l (λ w. Is (world p.classes) w γ at scope.size S₁ C₁ (Err f)) λ e x y g.
+        is_refused _ _ (bind_refused _ _ _ _ (failed (choose_1 g) q₁ h)) refl
 
     pub save_pre : (scope.top + scope.size ≤ length S₁) × (scope.size ≤ scope.top)
     save_pre = let r = choose_room in (omega (arith, r.0, q₁.kept.slots_long), r.1)
 
-    module _ (ok₁ : is_refusal a.typing ≡ false) {S₂ : List ℕ} (s : Saved S₁ S₂ scope.top scope.size)
+    module _ {a : TypedCase} (ok₁ : r₁ ≡ Ok a) {S₂ : List ℕ} (s : Saved S₁ S₂ scope.top scope.size)
       where
         slots-2 : length S₂ ≡ length S
         slots-2 = s.long ∙ q₁.kept.slots_long
@@ -128,12 +128,12 @@ module _ {R E T A M F S : List ℕ} {at : ℕ} {scope : Scope} (pre : Pre R E T 
             (sym (row_of (choose_1 g)).end)
             (pre_of (given-2 g))
 
-        module _ {S₃ C₃ : List ℕ} {b : Answer}
-            (q₂ : Post R E T A M F S₂ C₁ S₃ C₃ (get_or E (at + 1) 0) (raised scope scope.size) b) where
+        module _ {S₃ C₃ : List ℕ} {r₂ : Answer}
+            (q₂ : Post R E T A M F S₂ C₁ S₃ C₃ (get_or E (at + 1) 0) (raised scope scope.size) r₂) where
           post-2 : {p : Program} {γ : Environment} {d : ℕ} {e x y : Expr}
               → Given R E T A M F S at scope p (choose e x y) γ d
-              → Post R E T A M F S₂ C₁ S₃ C₃ (at + 1 + size e) (raised scope scope.size) b
-          post-2 g = subst (λ (n : ℕ). Post R E T A M F S₂ C₁ S₃ C₃ n (raised scope scope.size) b)
+              → Post R E T A M F S₂ C₁ S₃ C₃ (at + 1 + size e) (raised scope scope.size) r₂
+          post-2 g = subst (λ (n : ℕ). Post R E T A M F S₂ C₁ S₃ C₃ n (raised scope scope.size) r₂)
               (row_of (choose_1 g)).end q₂
 
           kept-2 : Kept S S₃ C C₃ at (get_or E at 0) scope.width scope.top
@@ -144,17 +144,17 @@ module _ {R E T A M F S : List ℕ} {at : ℕ} {scope : Scope} (pre : Pre R E T 
               (kept_in scope.top (row_of g) (row_of (given-2 g)) (omega arith) (omega arith) (omega arith)
               (post-2 g).kept)
 
-          pub choose_fail_second : is_refusal b.typing ≡ true → Post R E T A M F S C S₃ C₃ at scope b
+          pub choose_fail_second : {f : Refusal} → r₂ ≡ Err f → Post R E T A M F S C S₃ C₃ at scope (Err f)
           unfolding type_of
-          choose_fail_second f = post_of kept-2 λ p z γ d g.
-              by_node J_choose z g l (λ w. Is (world p.classes) w γ at scope.size S₃ C₃ b) λ e x y g.
+          choose_fail_second {f} h = post_of kept-2 λ p z γ d g.
+              by_node J_choose z g l (λ w. Is (world p.classes) w γ at scope.size S₃ C₃ (Err f)) λ e x y g.
               let u = did (choose_1 g) q₁ ok₁ in
-              let w = failed (given-2 g) (post-2 g) f in
+              let w = failed (given-2 g) (post-2 g) h in
               let line : at + 1 + 1 + size e ≡ at + 1 + size e + 1 = omega arith in
-              is_refused w.n w.l
+              is_refused _ _
               (bind_accepted _ _ _ u.typed_at
               ∙ bind_refused _ _ _ _
-              (ap (λ (m : ℕ). type_of (world p.classes) x m u.a.slots) line ∙ w.typed_at)) w.is
+              (ap (λ (m : ℕ). type_of (world p.classes) x m u.a.slots) line ∙ w)) refl
 
           slots-3 : length S₃ ≡ length S
           slots-3 = q₂.kept.slots_long ∙ slots-2
@@ -162,7 +162,7 @@ module _ {R E T A M F S : List ℕ} {at : ℕ} {scope : Scope} (pre : Pre R E T 
           pub swap_pre : (scope.top + scope.size ≤ length S₃) × (scope.size ≤ scope.top)
           swap_pre = let r = choose_room in (omega (arith, r.0, slots-3), r.1)
 
-          module _ (ok₂ : is_refusal b.typing ≡ false) {S₄ : List ℕ}
+          module _ {b : TypedCase} (ok₂ : r₂ ≡ Ok b) {S₄ : List ℕ}
               (w : Swapped S₃ S₄ scope.top scope.size) where
             slots-4 : length S₄ ≡ length S
             slots-4 = w.long ∙ slots-3
@@ -196,13 +196,13 @@ module _ {R E T A M F S : List ℕ} {at : ℕ} {scope : Scope} (pre : Pre R E T 
                 subst (λ (n : ℕ). Pre R E T A M F S₄ n (raised scope scope.size)) (sym (third g))
                 (pre_of (given-3 g))
 
-            module _ {S₅ C₅ : List ℕ} {c : Answer}
+            module _ {S₅ C₅ : List ℕ} {r₃ : Answer}
                 (q₃ : Post R E T A M F S₄ C₃ S₅ C₅ (get_or E (get_or E (at + 1) 0) 0) (raised scope scope.size)
-                c) where
+                r₃) where
               post-3 : {p : Program} {γ : Environment} {d : ℕ} {e x y : Expr}
                   → Given R E T A M F S at scope p (choose e x y) γ d
-                  → Post R E T A M F S₄ C₃ S₅ C₅ (at + 1 + size e + size x) (raised scope scope.size) c
-              post-3 g = subst (λ (n : ℕ). Post R E T A M F S₄ C₃ S₅ C₅ n (raised scope scope.size) c)
+                  → Post R E T A M F S₄ C₃ S₅ C₅ (at + 1 + size e + size x) (raised scope scope.size) r₃
+              post-3 g = subst (λ (n : ℕ). Post R E T A M F S₄ C₃ S₅ C₅ n (raised scope scope.size) r₃)
                   (third g) q₃
 
               kept-3 : Kept S S₅ C C₅ at (get_or E at 0) scope.width scope.top
@@ -216,23 +216,23 @@ module _ {R E T A M F S : List ℕ} {at : ℕ} {scope : Scope} (pre : Pre R E T 
                   (omega arith)
                   (post-3 g).kept)
 
-              pub choose_fail_third : is_refusal c.typing ≡ true
-                  → Post R E T A M F S C S₅ C₅ at scope c
+              pub choose_fail_third : {f : Refusal} → r₃ ≡ Err f
+                  → Post R E T A M F S C S₅ C₅ at scope (Err f)
               unfolding type_of
-              choose_fail_third f = post_of kept-3 λ p z γ d g.
-                  by_node J_choose z g l (λ w. Is (world p.classes) w γ at scope.size S₅ C₅ c)
+              choose_fail_third {f} h = post_of kept-3 λ p z γ d g.
+                  by_node J_choose z g l (λ w. Is (world p.classes) w γ at scope.size S₅ C₅ (Err f))
                   λ e x y g.
                   let u = did (choose_1 g) q₁ ok₁ in
                   let v = did (given-2 g) (post-2 g) ok₂ in
-                  let o = failed (given-3 g) (post-3 g) f in
+                  let o = failed (given-3 g) (post-3 g) h in
                   let line : at + 1 + 1 + size e ≡ at + 1 + size e + 1 = omega arith in
                   let line' : at + 1 + 1 + size e + size x ≡ at + 1 + size e + size x + 1 = omega arith in
-                  is_refused o.n o.l (bind_accepted _ _ _ u.typed_at
+                  is_refused _ _ (bind_accepted _ _ _ u.typed_at
                   ∙ (bind_accepted _ _ _
                   (ap (λ (m : ℕ). type_of (world p.classes) x m u.a.slots) line ∙ v.typed_at)
                   ∙ bind_refused _ _ _ _
-                  (ap (λ (m : ℕ). type_of (world p.classes) y m u.a.slots) line' ∙ o.typed_at)))
-                  o.is
+                  (ap (λ (m : ℕ). type_of (world p.classes) y m u.a.slots) line' ∙ o)))
+                  refl
 
               -- the slots after the first arm stand from the top on
               saved-arm : (k : ℕ) → k < scope.size → get_or S₅ (scope.top + k) 0 ≡ get_or S₃ k 0
@@ -242,9 +242,9 @@ module _ {R E T A M F S : List ℕ} {at : ℕ} {scope : Scope} (pre : Pre R E T 
               slots-5 : length S₅ ≡ length S
               slots-5 = q₃.kept.slots_long ∙ slots-4
 
-              pub choice_pre : is_refusal c.typing ≡ false
+              pub choice_pre : {c : TypedCase} → r₃ ≡ Ok c
                   → PreChoice T A S₅ at scope.size scope.top b.typing c.typing
-              choice_pre ok₃ = by_node J_choose pre.e pre.given l
+              choice_pre {c} ok₃ = by_node J_choose pre.e pre.given l
                   (λ _. PreChoice T A S₅ at scope.size scope.top b.typing c.typing) λ e x y g.
                   let v = did (given-2 g) (post-2 g) ok₂ in
                   let o = did (given-3 g) (post-3 g) ok₃ in
@@ -255,10 +255,10 @@ module _ {R E T A M F S : List ℕ} {at : ℕ} {scope : Scope} (pre : Pre R E T 
                   v.accepted.views (omega (arith, swap_pre.0)) saved-arm o.accepted.views r.1
                   (omega (arith, r.0, slots-5)) v.is o.is
 
-              pub choose_done : {S₆ : List ℕ} {r : Answer} → is_refusal c.typing ≡ false
+              pub choose_done : {S₆ : List ℕ} {c : TypedCase} {r : Answer} → r₃ ≡ Ok c
                   → PostChoice T A S₅ S₆ at scope.size scope.top a b c r
                   → Post R E T A M F S C S₆ C₅ at scope r
-              choose_done {S₆} {r} ok₃ t =
+              choose_done {S₆} {c} {r} ok₃ t =
                   let m = choose_room in
                   post_of (kept_then kept-3 (kept_slots t.long (λ i u v. t.rest i (omega (arith, m.3)))))
                   λ p z γ d g. by_node J_choose z g l (λ w. Is (world p.classes) w γ at scope.size S₆ C₅

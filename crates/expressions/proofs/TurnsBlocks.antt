@@ -1,6 +1,5 @@
 -- The function block: B's V lines, then its expressions. Assumes nothing.
-use mathlib.Core.Path.{◌≡◌, ap, ◌∙◌}
-use mathlib.Core.Bool.{true, false}
+use mathlib.Core.Path.{◌≡◌, ap, subst, ◌∙◌}
 use mathlib.Core.List.{List, map}
 use Prim.Native.Nat.{ℕ, ◌+◌, ◌-◌, ◌*◌, ◌≤◌}
 use native.Mathlib.Omega.{arith}
@@ -15,10 +14,12 @@ use Rattle.language.specs.Environment.{Environment, fresh_slot}
 use Rattle.language.specs.WellFormed.{Each, TypeInForm}
 use Rattle.language.specs.Typing.{typed, last_type, locals_declared, type_all}
 use Rattle.language.specs.Encoded.{NodeAt, TypesAt, Encoded}
-use Rattle.types.specs.declared.Answer.{Answer}
+use Rattle.types.specs.declared.Typed.{Typed as TypedCase}
 use Rattle.types.specs.declared.slots.Scope.{Scope}
 use Rattle.types.specs.declared.Typing.TheVariants.{Null}
-use Rattle.types.specs.Answers.{answer, answer_of, is_refusal}
+use Rattle.std.specs.Prelude.{Result, Ok, Err}
+use Rattle.language.specs.declared.Refusal.{Refusal}
+use Rattle.types.specs.Answers.{Answer, answer_of, typed_case}
 use Rattle.typing.specs.Nodes.{PreOpen, PostOpen}
 use Rattle.expressions.specs.Cycle.{Given, GivenAll, Views, Kept, Pre, Post, Is, PreList, PostItems}
 use Rattle.expressions.specs.Cycle.{grown}
@@ -76,30 +77,31 @@ module _ {R E T A M F S : List ℕ} {at : ℕ} {scope : Scope} (pre : Pre R E T 
       locals-is
       (block_slots g)
 
-  module _ {S₁ : List ℕ} {a : Answer} (o : PostOpen R S S₁ scope.count at scope.size locals a) where
+  module _ {S₁ : List ℕ} {a : Result (Unit {0}) Refusal} (o : PostOpen R S S₁ scope.count at scope.size locals a) where
     kept-open : {C : List ℕ} → Kept S S₁ C C at (get_or E at 0) scope.width scope.top
     kept-open = kept_slots o.long (λ i u v. o.after i (omega (arith, block_few.0)))
 
-    pub block_fail : {C : List ℕ} → is_refusal a.typing ≡ true → Post R E T A M F S C S₁ C at scope a
-    block_fail {C} f = post_of kept-open λ p z γ d g.
-        by_node B_block z g l (λ w. Is (world p.classes) w γ at scope.size S₁ C a) λ ts es g.
-        open_refused g.headed ts es at scope.size locals γ S S₁ C a (block_row g).row
-        (block_locals g) locals-is (block_limits g).2 o f
+    pub block_fail : {C : List ℕ} {f : Refusal} → a ≡ Err f → Post R E T A M F S C S₁ C at scope (Err f)
+    block_fail {C} {f} e = post_of kept-open λ p z γ d g.
+        by_node B_block z g l (λ w. Is (world p.classes) w γ at scope.size S₁ C (Err f)) λ ts es g.
+        open_refused g.headed ts es at scope.size locals γ S S₁ C f (block_row g).row
+        (block_locals g) locals-is (block_limits g).2 (subst (PostOpen R S S₁ scope.count at scope.size locals) e o)
 
-    module _ (ok : is_refusal a.typing ≡ false) where
+    module _ (ok : a ≡ Ok tt) where
       opened-block : {p : Program} {γ : Environment} {d : ℕ} {ts : List DeclaredType} {es : Exprs}
           (g : Given R E T A M F S at scope p (block ts es) γ d)
-          → (a ≡ answer Null 0) × (locals_declared (world p.classes) (at + 1 + 1) ts ≡ passed)
+          → (locals_declared (world p.classes) (at + 1 + 1) ts ≡ passed)
           × Views (world p.classes) (opened γ (map fresh_slot ts)) S₁ (scope.size + locals)
       opened-block {γ = γ} {ts = ts} {es} g =
-          open_done g.headed ts es at scope.size locals γ S S₁ a (block_row g).row
-          (block_locals g) locals-is (block_limits g).2 g.views (block_slots g) o ok
+          open_done g.headed ts es at scope.size locals γ S S₁ (block_row g).row
+          (block_locals g) locals-is (block_limits g).2 g.views (block_slots g)
+          (subst (PostOpen R S S₁ scope.count at scope.size locals) ok o)
 
       given-block : {p : Program} {γ : Environment} {d : ℕ} {ts : List DeclaredType} {es : Exprs}
           (g : Given R E T A M F S at scope p (block ts es) γ d)
           → GivenAll R E T A M F S₁ (at + 1 + locals) (grown scope locals) p es
           (opened γ (map fresh_slot ts)) (d - 1)
-      given-block g = block_all g locals (locals-is ∙ (block_row g).row.first) o.long (opened-block g).2
+      given-block g = block_all g locals (locals-is ∙ (block_row g).row.first) o.long (opened-block g).1
 
       abbrev items_of : {p : Program} {γ : Environment} {d : ℕ} {ts : List DeclaredType} {es : Exprs}
           → Given R E T A M F S at scope p (block ts es) γ d
@@ -111,8 +113,8 @@ module _ {R E T A M F S : List ℕ} {at : ℕ} {scope : Scope} (pre : Pre R E T 
           (λ _. PreList R E T A M F S₁ (at + 1 + locals) (grown scope locals) nodes) λ ts es g.
           items_of g
 
-      module _ {S₂ C C₂ : List ℕ} {r : Answer}
-          (q : PostItems R E T A M F S₁ C S₂ C₂ (at + 1 + locals) (grown scope locals) nodes a r) where
+      module _ {S₂ C C₂ : List ℕ} {last : TypedCase} {r : Answer} (last-is : last ≡ typed_case Null 0)
+          (q : PostItems R E T A M F S₁ C S₂ C₂ (at + 1 + locals) (grown scope locals) nodes last r) where
         kept_block : Kept S S₂ C C₂ at (get_or E at 0) scope.width scope.top
         kept_block = by_node B_block pre.e pre.given l
             (λ _. Kept S S₂ C C₂ at (get_or E at 0) scope.width scope.top)
@@ -130,10 +132,10 @@ module _ {R E T A M F S : List ℕ} {at : ℕ} {scope : Scope} (pre : Pre R E T 
         block_done = post_of kept_block λ p z γ d g.
             by_node B_block z g l (λ w. Is (world p.classes) w γ at scope.size S₂ C₂ r) λ ts es g.
             let b = opened-block g in
-            let w = q.is (items_of g) null_type (ap (λ (y : Answer). y.typing) b.0) in
+            let w = q.is (items_of g) null_type (ap (λ (y : TypedCase). y.typing) last-is) in
             block_is g.headed ts es at scope.size locals γ S S₂ C₂ r (block_row g).row
-            (block_locals g) locals-is g.views (room_slots g.room) b.1
+            (block_locals g) locals-is g.views (room_slots g.room) b.0
             (w.out ∙ ap (λ (φ : ℕ). answer_of (bind_checked
             (type_all (world p.classes) es (at + 1 + locals + 1) (opened γ (map fresh_slot ts))) λ b.
             typed (last_type null_type b.types) b.slots (join φ b.effect)))
-            (ap (λ (y : Answer). y.effect) b.0)) w.accepted
+            (ap (λ (y : TypedCase). y.effect) last-is)) w.accepted

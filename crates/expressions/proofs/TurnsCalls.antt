@@ -1,6 +1,5 @@
 -- The function call: Q's receiver, its arguments, then the node. Assumes nothing.
 use mathlib.Core.Path.{◌≡◌, refl, sym, ap, subst, ◌∙◌}
-use mathlib.Core.Bool.{true, false}
 use mathlib.Core.List.{List}
 use Prim.Native.Nat.{ℕ, ◌+◌, ◌-◌, ◌*◌, ◌≤◌, ◌<◌}
 use native.Mathlib.Omega.{arith}
@@ -12,21 +11,23 @@ use Rattle.language.specs.Program.{world}
 use Rattle.language.specs.Environment.{Environment}
 use Rattle.language.specs.Typing.{TypedAll, type_of, type_all}
 use Rattle.language.specs.Encoded.{NodeAt, Encoded}
-use Rattle.types.specs.declared.Answer.{Answer}
+use Rattle.types.specs.declared.Typed.{Typed as TypedCase}
 use Rattle.types.specs.declared.slots.Scope.{Scope}
 use Rattle.expressions.specs.Cycle.{Given, GivenAll, raised, Views, Kept, Pre, Post, Is, PreList}
 use Rattle.expressions.specs.Cycle.{AcceptedAll, PostItems, PostArguments, ArgumentsAre, stored}
 use Rattle.types.specs.declared.Typing.TheVariants.{Null}
-use Rattle.types.specs.Answers.{answer, is_refusal}
-use Rattle.access.specs.Calls.{too_many_answer, PreInvoke, Invoked}
+use Rattle.std.specs.Prelude.{Result, Ok, Err}
+use Rattle.language.specs.declared.Refusal.{Refusal}
+use Rattle.language.proofs.Refusals.{result_ok, result_err}
+use Rattle.types.specs.Answers.{Answer, typed_case}
+use Rattle.access.specs.Calls.{no_method_for, PreInvoke, Invoked}
 use Rattle.expressions.proofs.Typings.{looks_frame}
 use Rattle.expressions.proofs.Turns.{list_pre, parts, pre_of, post_of, kept_then, kept_slots}
 use Rattle.expressions.proofs.Turns.{kept_classes}
 use Rattle.expressions.proofs.Turns.{room_next, room_child, room_slots, room_raised, is_refused}
 use Rattle.expressions.proofs.Turns.{bind_refused, bind_accepted, one_level}
-use Rattle.expressions.proofs.CallNode.{invoked_kept, pre_invoke, call_is, many_is}
+use Rattle.expressions.proofs.CallNode.{invoked_kept, pre_invoke, call_is, many_is, many_refused}
 use Rattle.expressions.proofs.TurnsNodes.{did, failed, after_row, kept_in, row_of, by_node}
-use Rattle.expressions.proofs.TurnsLists.{all_refused, all_accepted}
 
 module _ {R E T A M F S : List ℕ} {at : ℕ} {scope : Scope} {p : Program} {γ : Environment} {d : ℕ}
     {m : ℕ}
@@ -86,7 +87,7 @@ module _ {R E T A M F S : List ℕ} {at : ℕ} {scope : Scope} (pre : Pre R E T 
       λ m e es g.
       pre_of (call_1 g)
 
-  module _ {S₁ C C₁ : List ℕ} {a : Answer} (q : Post R E T A M F S C S₁ C₁ (at + 1) scope a) where
+  module _ {S₁ C C₁ : List ℕ} {r₁ : Answer} (q : Post R E T A M F S C S₁ C₁ (at + 1) scope r₁) where
     kept-1 : Kept S S₁ C C₁ at (get_or E at 0) scope.width scope.top
     unfolding size
     kept-1 = by_node Q_call pre.e pre.given l
@@ -94,13 +95,13 @@ module _ {R E T A M F S : List ℕ} {at : ℕ} {scope : Scope} (pre : Pre R E T 
         kept_in scope.top (row_of g) (row_of (call_1 g)) (omega arith) (omega arith) (omega arith)
         q.kept
 
-    pub call_fail : is_refusal a.typing ≡ true → Post R E T A M F S C S₁ C₁ at scope a
+    pub call_fail : {f : Refusal} → r₁ ≡ Err f → Post R E T A M F S C S₁ C₁ at scope (Err f)
     unfolding type_of
-    call_fail f = post_of kept-1 λ p z γ d g.
-        by_node Q_call z g l (λ w. Is (world p.classes) w γ at scope.size S₁ C₁ a) λ m e es g.
-        let w = failed (call_1 g) q f in is_refused w.n w.l (bind_refused _ _ _ _ w.typed_at) w.is
+    call_fail {f} h = post_of kept-1 λ p z γ d g.
+        by_node Q_call z g l (λ w. Is (world p.classes) w γ at scope.size S₁ C₁ (Err f)) λ m e es g.
+        is_refused _ _ (bind_refused _ _ _ _ (failed (call_1 g) q h)) refl
 
-    module _ (ok : is_refusal a.typing ≡ false) (given-n : ℕ)
+    module _ {a : TypedCase} (ok : r₁ ≡ Ok a) (given-n : ℕ)
         (given_is : given-n ≡ get_or R (at * 4 + 2) 0) where
       count_of : {p : Program} {γ : Environment} {d m : ℕ} {e : Expr} {es : Exprs}
           → Given R E T A M F S at scope p (call m e es) γ d → given-n ≡ how_many es
@@ -149,45 +150,53 @@ module _ {R E T A M F S : List ℕ} {at : ℕ} {scope : Scope} (pre : Pre R E T 
       )
 
       -- more than 8 arguments
-      pub call_many : {S₂ C₂ : List ℕ} {last many r : Answer} → 8 < given-n → last ≡ answer Null 0
-          → PostItems R E T A M F S₁ C₁ S₂ C₂ next scope given-n last many
-          → r ≡ too_many_answer at a.typing many → Post R E T A M F S C S₂ C₂ at scope r
-      call_many {S₂} {C₂} {last} {many} {r} o ln i e₁ = post_of kept-many λ p z γ d g.
-          by_node Q_call z g l (λ w. Is (world p.classes) w γ at scope.size S₂ C₂ r) λ m e es g.
-          let u = did (call_1 g) q ok in
-          let w = (at_next g).is (items_of g) null_type (ap (λ (y : Answer). y.typing) ln) in
-          many_is g.headed m e es at (at + 1 + size e) scope.size (at + 1 + 1) γ u.a
-          S₂ C₂ a
-          many r null_type last.effect (call_row g).1 (omega (arith, o, count_of g))
-          refl
-          u.typed_at u.accepted.declared u.is w.out e₁
-        where
-          at_next : {p : Program} {γ : Environment} {d m : ℕ} {e : Expr} {es : Exprs}
-              → Given R E T A M F S at scope p (call m e es) γ d
-              → PostItems R E T A M F S₁ C₁ S₂ C₂ (at + 1 + size e) scope given-n last many
-          at_next g = subst (λ (k : ℕ). PostItems R E T A M F S₁ C₁ S₂ C₂ k scope given-n last many)
-              (row_of (call_1 g)).end i
+      module _ {S₂ C₂ : List ℕ} {last : TypedCase} {many : Answer} (o : 8 < given-n)
+          (ln : last ≡ typed_case Null 0)
+          (i : PostItems R E T A M F S₁ C₁ S₂ C₂ next scope given-n last many) where
+        many_next : {p : Program} {γ : Environment} {d m : ℕ} {e : Expr} {es : Exprs}
+            → Given R E T A M F S at scope p (call m e es) γ d
+            → PostItems R E T A M F S₁ C₁ S₂ C₂ (at + 1 + size e) scope given-n last many
+        many_next g = subst (λ (k : ℕ). PostItems R E T A M F S₁ C₁ S₂ C₂ k scope given-n last many)
+            (row_of (call_1 g)).end i
 
-          kept-many : Kept S S₂ C C₂ at (get_or E at 0) scope.width scope.top
-          kept-many = by_node Q_call pre.e pre.given l
-              (λ _. Kept S S₂ C C₂ at (get_or E at 0) scope.width scope.top)
-              λ m e es g.
-              let n = at_next g in
-              kept_then kept-1 (record {
-                slots_long = n.slots_long;
-                classes_long = n.classes_long;
-                between = n.between;
-                before = λ j u. n.before j (omega arith);
-                after = λ j u. n.after (items_of g) j
-                    (omega (arith, u, (call_row g).0.end));
-              })
+        kept-many : Kept S S₂ C C₂ at (get_or E at 0) scope.width scope.top
+        kept-many = by_node Q_call pre.e pre.given l
+            (λ _. Kept S S₂ C C₂ at (get_or E at 0) scope.width scope.top)
+            λ m e es g.
+            let n = many_next g in
+            kept_then kept-1 (record {
+              slots_long = n.slots_long;
+              classes_long = n.classes_long;
+              between = n.between;
+              before = λ j u. n.before j (omega arith);
+              after = λ j u. n.after (items_of g) j
+                  (omega (arith, u, (call_row g).0.end));
+            })
 
-      module _ (o : given-n ≤ 8) {S₂ C₂ : List ℕ} {b : Answer}
-          (i : PostArguments R E T A M F S₁ C₁ S₂ C₂ next scope given-n b) where
+        pub call_fail_many : {f : Refusal} → many ≡ Err f → Post R E T A M F S C S₂ C₂ at scope (Err f)
+        call_fail_many {f} h = post_of kept-many λ p z γ d g.
+            by_node Q_call z g l (λ w. Is (world p.classes) w γ at scope.size S₂ C₂ (Err f)) λ m e es g.
+            let u = did (call_1 g) q ok in
+            let w = (many_next g).is (items_of g) null_type (ap (λ (y : TypedCase). y.typing) ln) in
+            many_refused g.headed m e es at (at + 1 + size e) scope.size (at + 1 + 1) γ u.a
+            S₂ C₂ f null_type last.effect refl u.typed_at (sym h ∙ w.out)
+
+        pub call_many : {x : TypedCase} {f : Refusal} → many ≡ Ok x → f ≡ no_method_for at a.typing
+            → Post R E T A M F S C S₂ C₂ at scope (Err f)
+        call_many {x} {f} h e₁ = post_of kept-many λ p z γ d g.
+            by_node Q_call z g l (λ w. Is (world p.classes) w γ at scope.size S₂ C₂ (Err f)) λ m e es g.
+            let u = did (call_1 g) q ok in
+            let w = (many_next g).is (items_of g) null_type (ap (λ (y : TypedCase). y.typing) ln) in
+            many_is g.headed m e es at (at + 1 + size e) scope.size (at + 1 + 1) γ u.a
+            S₂ C₂ a x f null_type last.effect (call_row g).1 (omega (arith, o, count_of g))
+            refl u.typed_at u.accepted.declared u.is (sym h ∙ w.out) e₁
+
+      module _ (o : given-n ≤ 8) {S₂ C₂ : List ℕ} {r₂ : Result ℕ Refusal}
+          (i : PostArguments R E T A M F S₁ C₁ S₂ C₂ next scope given-n r₂) where
         at_next : {p : Program} {γ : Environment} {d m : ℕ} {e : Expr} {es : Exprs}
             → Given R E T A M F S at scope p (call m e es) γ d
-            → PostArguments R E T A M F S₁ C₁ S₂ C₂ (at + 1 + size e) scope given-n b
-        at_next g = subst (λ (k : ℕ). PostArguments R E T A M F S₁ C₁ S₂ C₂ k scope given-n b)
+            → PostArguments R E T A M F S₁ C₁ S₂ C₂ (at + 1 + size e) scope given-n r₂
+        at_next g = subst (λ (k : ℕ). PostArguments R E T A M F S₁ C₁ S₂ C₂ k scope given-n r₂)
             (row_of (call_1 g)).end i
 
         kept-few : Kept S S₂ C C₂ at (get_or E at 0) scope.width scope.top
@@ -206,20 +215,19 @@ module _ {R E T A M F S : List ℕ} {at : ℕ} {scope : Scope} (pre : Pre R E T 
         outcome : {p : Program} {γ : Environment} {d m : ℕ} {e : Expr} {es : Exprs}
             (g : Given R E T A M F S at scope p (call m e es) γ d)
             → ArgumentsAre (world p.classes) es (did (call_1 g) q ok).a.slots (at + 1 + size e)
-            scope.size scope.top given-n S₂ C₂ b
+            scope.size scope.top given-n S₂ C₂ r₂
         outcome g = (at_next g).is (arguments_of o g)
 
-        pub call_fail_arguments : is_refusal b.typing ≡ true → Post R E T A M F S C S₂ C₂ at scope b
+        pub call_fail_arguments : {f : Refusal} → r₂ ≡ Err f → Post R E T A M F S C S₂ C₂ at scope (Err f)
         unfolding type_of
-        call_fail_arguments f = post_of kept-few λ p z γ d g.
-            by_node Q_call z g l (λ w. Is (world p.classes) w γ at scope.size S₂ C₂ b) λ m e es g.
+        call_fail_arguments {f} h = post_of kept-few λ p z γ d g.
+            by_node Q_call z g l (λ w. Is (world p.classes) w γ at scope.size S₂ C₂ (Err f)) λ m e es g.
             let u = did (call_1 g) q ok in
-            all_refused (type_all (world p.classes) es (at + 1 + size e + 1) u.a.slots)
-            (λ c. record { type = null_type; slots = c.slots; effect = c.effect }) (outcome g).out f
-            λ n k w v.
+            let w = result_err (λ (c : TypedAll). c.effect)
+            (type_all (world p.classes) es (at + 1 + size e + 1) u.a.slots) f (sym (outcome g).out ∙ h) in
             let line : at + 1 + 1 + size e ≡ at + 1 + size e + 1 = omega arith in
-            is_refused n k (bind_accepted _ _ _ u.typed_at ∙ bind_refused _ _ n k
-            (ap (λ (j : ℕ). type_all (world p.classes) es j u.a.slots) line ∙ w)) v
+            is_refused _ _ (bind_accepted _ _ _ u.typed_at ∙ bind_refused _ _ _ _
+            (ap (λ (j : ℕ). type_all (world p.classes) es j u.a.slots) line ∙ w)) refl
 
         room-few : scope.top + given-n ≤ length S₂
         room-few = by_node Q_call pre.e pre.given l (λ _. scope.top + given-n ≤ length S₂) λ m e es g.
@@ -228,34 +236,33 @@ module _ {R E T A M F S : List ℕ} {at : ℕ} {scope : Scope} (pre : Pre R E T 
         slots-few : scope.size ≤ length S₂
         slots-few = omega (arith, room_slots pre.given.room, kept-few.slots_long)
 
-        module _ (done : is_refusal b.typing ≡ false) where
+        module _ {ψ : ℕ} (done : r₂ ≡ Ok ψ) where
           -- the arguments were accepted
           record Argued (p : Program) (es : Exprs) (next₁ : ℕ) (δ : Environment) : Type 0 where
             c : TypedAll
             typed_at : type_all (world p.classes) es (next₁ + 1) δ ≡ accept c
             accepted : AcceptedAll (world p.classes) es δ next₁ scope.size S₂ C₂ c
-            effect_is : b.effect ≡ c.effect
+            effect_is : ψ ≡ c.effect
             kept_types : (j : ℕ) → j < how_many es → get_or S₂ (scope.top + j) 0 ≡ get_or (stored c.types) j 0
 
           argued : {p : Program} {γ : Environment} {d m : ℕ} {e : Expr} {es : Exprs}
               (g : Given R E T A M F S at scope p (call m e es) γ d)
               → Argued p es (at + 1 + size e) (did (call_1 g) q ok).a.slots
           argued {p} {e = e} {es} g =
-              all_accepted (type_all (world p.classes) es (at + 1 + size e + 1)
-              (did (call_1 g) q ok).a.slots)
-              (λ c. record { type = null_type; slots = c.slots; effect = c.effect }) (outcome g).out done
-              λ c w v.
+              let w = result_ok (λ (c : TypedAll). c.effect)
+              (type_all (world p.classes) es (at + 1 + size e + 1) (did (call_1 g) q ok).a.slots)
+              (sym (outcome g).out ∙ done) in
               record {
-                c = c;
-                typed_at = w;
-                accepted = (outcome g).accepted c w;
-                effect_is = ap (λ (y : Answer). y.effect) v;
-                kept_types = λ j k. (outcome g).waiting c w j (omega (arith, k, count_of g));
+                c = w.a;
+                typed_at = w.is;
+                accepted = (outcome g).accepted w.a w.is;
+                effect_is = sym w.gives;
+                kept_types = λ j k. (outcome g).waiting w.a w.is j (omega (arith, k, count_of g));
               }
 
-          pub call_invoke_pre : PreInvoke R T A M F S₂ at scope a.typing b.effect
+          pub call_invoke_pre : PreInvoke R T A M F S₂ at scope a.typing ψ
           call_invoke_pre = by_node Q_call pre.e pre.given l
-              (λ _. PreInvoke R T A M F S₂ at scope a.typing b.effect) λ m e es g.
+              (λ _. PreInvoke R T A M F S₂ at scope a.typing ψ) λ m e es g.
               let u = did (call_1 g) q ok in
               let w = argued g in
               let row = call_row g in
@@ -266,7 +273,7 @@ module _ {R E T A M F S : List ℕ} {at : ℕ} {scope : Scope} (pre : Pre R E T 
               (omega (arith, room-few, count_of g)) u.accepted.declared w.kept_types u.is)
 
           pub call_done : {S₃ C₃ : List ℕ} {r : Answer}
-              → Invoked R T A M F S₂ C₂ at scope a.typing a.effect b.effect S₃ C₃ r
+              → Invoked R T A M F S₂ C₂ at scope a.typing a.effect ψ S₃ C₃ r
               → Post R E T A M F S C S₃ C₃ at scope r
           call_done {S₃} {C₃} {r} v =
               let k = invoked_kept {x = a} v in

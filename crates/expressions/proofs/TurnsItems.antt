@@ -1,6 +1,5 @@
 -- The function items: the expressions of a block one by one. Assumes nothing.
 use mathlib.Core.Path.{◌≡◌, refl, sym, ap, ap₂, subst, ◌∙◌}
-use mathlib.Core.Bool.{true, false}
 use mathlib.Core.List.{List, [], ◌∷◌}
 use Prim.Native.Nat.{ℕ, ◌+◌, ◌-◌, ◌≤◌}
 use native.Mathlib.Omega.{arith}
@@ -16,10 +15,12 @@ use Rattle.language.specs.Environment.{Environment}
 use Rattle.language.specs.Typing.{Typed, TypedAll, typed, last_type, type_of, type_all}
 use Rattle.language.specs.LookupClasses.{LooksUp}
 use Rattle.language.proofs.Nodes.{Head}
-use Rattle.types.specs.declared.Answer.{Answer}
+use Rattle.types.specs.declared.Typed.{Typed as TypedCase}
 use Rattle.types.specs.declared.slots.Scope.{Scope}
 use Rattle.types.specs.declared.Typing.{Typing}
-use Rattle.types.specs.Answers.{answer, answer_of, typing_case, is_refusal}
+use Rattle.std.specs.Prelude.{Ok, Err}
+use Rattle.language.specs.declared.Refusal.{Refusal}
+use Rattle.types.specs.Answers.{Answer, answer, answer_of, typed_case, typing_case}
 use Rattle.expressions.specs.Cycle.{GivenAll, Post, PreList, AcceptedAll, ItemsAre, PostItems}
 use Rattle.expressions.proofs.EffectLaws.{join_assoc, join_none, apply_none}
 use Rattle.expressions.proofs.Turns.{list_pre, bind_refused}
@@ -65,8 +66,8 @@ item_out W es l a t φ = go (type_all W es l a.slots) refl
         apply_none W a.type)) in
         ap₂ (λ (u : ExprType) (ψ : ℕ). answer (typing_case u) ψ) same (join_assoc φ a.effect b.effect)
 
-module _ {R E T A M F S C : List ℕ} {at : ℕ} {scope : Scope} {n : ℕ} {last : Answer} where
-  items_none : {r : Answer} → n ≡ 0 → r ≡ last → PostItems R E T A M F S C S C at scope n last r
+module _ {R E T A M F S C : List ℕ} {at : ℕ} {scope : Scope} {n : ℕ} {last : TypedCase} where
+  items_none : {r : Answer} → n ≡ 0 → r ≡ Ok last → PostItems R E T A M F S C S C at scope n last r
   unfolding type_of LooksUp bind_checked nth
   items_none {r} z e = record {
     slots_long = refl;
@@ -84,11 +85,11 @@ module _ {R E T A M F S C : List ℕ} {at : ℕ} {scope : Scope} {n : ℕ} {last
   }
 
 module _ {R E T A M F S C : List ℕ} {at : ℕ} {scope : Scope} {n : ℕ} (z : n ≡ 0 → ⊥) {S' C' : List ℕ}
-    {x : Answer}
-    (q : Post R E T A M F S C S' C' at scope x) where
-  items_fail : {last : Answer} → is_refusal x.typing ≡ true
-      → PostItems R E T A M F S C S' C' at scope n last x
-  items_fail {last} f = record {
+    {r₁ : Answer}
+    (q : Post R E T A M F S C S' C' at scope r₁) where
+  items_fail : {last : TypedCase} {f : Refusal} → r₁ ≡ Err f
+      → PostItems R E T A M F S C S' C' at scope n last (Err f)
+  items_fail {last} {f} h = record {
     slots_long = q.kept.slots_long;
     classes_long = q.kept.classes_long;
     between = q.kept.between;
@@ -96,18 +97,17 @@ module _ {R E T A M F S C : List ℕ} {at : ℕ} {scope : Scope} {n : ℕ} (z : 
     after = first_after z q;
     is = λ ls t u.
         let W = world ls.p.classes in
-        by_list ls z (λ es. ItemsAre W es ls.γ at scope.size S' C' last t x) λ e xs m g.
-        let w = failed (list_first g) q f in
-        let c = cons_refused W e xs at ls.γ w.n w.l w.typed_at in
+        by_list ls z (λ es. ItemsAre W es ls.γ at scope.size S' C' last t (Err f)) λ e xs m g.
+        let c = cons_refused W e xs at ls.γ f.number f.line (failed (list_first g) q h) in
         record {
-          out = w.is ∙ sym (ap answer_of (bind_refused (type_all W (cons e xs) (at + 1) ls.γ)
-              (λ b. typed (last_type t b.types) b.slots (join last.effect b.effect)) w.n w.l
+          out = sym (ap answer_of (bind_refused (type_all W (cons e xs) (at + 1) ls.γ)
+              (λ b. typed (last_type t b.types) b.slots (join last.effect b.effect)) f.number f.line
               c));
-          accepted = λ b y. absurd (accept≢refuse w.n w.l (sym c ∙ y));
+          accepted = λ b y. absurd (accept≢refuse f.number f.line (sym c ∙ y));
         };
   }
 
-  module _ (ok : is_refusal x.typing ≡ false) {so r : Answer} {S'' C'' : List ℕ}
+  module _ {x : TypedCase} (ok : r₁ ≡ Ok x) {so : TypedCase} {r : Answer} {S'' C'' : List ℕ}
       (o : PostItems R E T A M F S' C' S'' C'' (get_or E at 0) scope (n - 1) so r) where
     rest_at : (e : Expr)
         → Head R E e at → PostItems R E T A M F S' C' S'' C'' (at + size e) scope (n - 1) so r
@@ -131,15 +131,15 @@ module _ {R E T A M F S C : List ℕ} {at : ℕ} {scope : Scope} {n : ℕ} (z : 
       rest_is : so.typing ≡ x.typing
           → ItemsAre W xs first-did.a.slots (at + size e) scope.size S'' C'' so first-did.a.type r
       rest_is same = (rest_at e (row_of (list_first g))).is rest_of first-did.a.type
-          (same ∙ ap (λ (y : Answer). y.typing) first-did.is)
+          (same ∙ ap (λ (y : TypedCase). y.typing) first-did.is)
 
-      both-are : {last : Answer} → so ≡ answer x.typing (join last.effect x.effect) → (t : ExprType)
+      both-are : {last : TypedCase} → so ≡ typed_case x.typing (join last.effect x.effect) → (t : ExprType)
           → ItemsAre W (cons e xs) γ at scope.size S'' C'' last t r
       both-are {last} same t =
-          let rest = rest_is (ap (λ (y : Answer). y.typing) same) in
+          let rest = rest_is (ap (λ (y : TypedCase). y.typing) same) in
           let w = first-did in
-          let f : so.effect ≡ join last.effect w.a.effect = ap (λ (y : Answer). y.effect) same
-          ∙ ap (λ (y : Answer). join last.effect y.effect) w.is in
+          let f : so.effect ≡ join last.effect w.a.effect = ap (λ (y : TypedCase). y.effect) same
+          ∙ ap (λ (y : TypedCase). join last.effect y.effect) w.is in
           let c = cons_accepted W e xs at γ w.a w.typed_at in
           record {
             out = rest.out
@@ -159,8 +159,8 @@ module _ {R E T A M F S C : List ℕ} {at : ℕ} {scope : Scope} {n : ℕ} (z : 
                 (λ i l. (rest_at e (row_of (list_first g))).before i l) (rest.accepted k u));
           }
 
-    items-step : {last : Answer} → PreList R E T A M F S at scope n
-        → so ≡ answer x.typing (join last.effect x.effect)
+    items-step : {last : TypedCase} → PreList R E T A M F S at scope n
+        → so ≡ typed_case x.typing (join last.effect x.effect)
         → PostItems R E T A M F S C S'' C'' at scope n last r
     items-step {last} pre same = record {
       slots_long = o.slots_long ∙ q.kept.slots_long;
@@ -177,9 +177,9 @@ module _ {R E T A M F S C : List ℕ} {at : ℕ} {scope : Scope} {n : ℕ} (z : 
 
 -- ---- the loop over the expressions of a block
 -- so many are left, from a row on; what they come to after those before, all come to
-pub record ItemsLoop (R E T A M F S C : List ℕ) (at : ℕ) (scope : Scope) (n : ℕ) (last : Answer)
+pub record ItemsLoop (R E T A M F S C : List ℕ) (at : ℕ) (scope : Scope) (n : ℕ) (last : TypedCase)
     (S₁ C₁ : List ℕ)
-    (so : Answer) (next left : ℕ) : Type 0 where
+    (so : TypedCase) (next left : ℕ) : Type 0 where
   pub pre : PreList R E T A M F S₁ next scope left
   pub later : at ≤ next
   pub slots_long : length S₁ ≡ length S
@@ -187,37 +187,37 @@ pub record ItemsLoop (R E T A M F S C : List ℕ) (at : ℕ) (scope : Scope) (n 
   pub rest : {S' C' : List ℕ} {r : Answer} → PostItems R E T A M F S₁ C₁ S' C' next scope left so r
       → PostItems R E T A M F S C S' C' at scope n last r
 
-pub items_start : {R E T A M F S C : List ℕ} {at : ℕ} {scope : Scope} {n : ℕ} {last : Answer}
-    → PreList R E T A M F S at scope n → ItemsLoop R E T A M F S C at scope n last S C last at n
-items_start pre = record {
+pub items_start : {R E T A M F S C : List ℕ} {at : ℕ} {scope : Scope} {n : ℕ} {last : TypedCase}
+    {left : ℕ} → PreList R E T A M F S at scope n → left ≡ n → ItemsLoop R E T A M F S C at scope n last S C last at left
+items_start pre e = rw e (record {
   pre = pre;
   later = omega arith;
   slots_long = refl;
   classes_long = refl;
   rest = λ o. o;
-}
+})
 
-module _ {R E T A M F S C : List ℕ} {at : ℕ} {scope : Scope} {n : ℕ} {last : Answer} {S₁ C₁ : List ℕ}
-    {so : Answer}
+module _ {R E T A M F S C : List ℕ} {at : ℕ} {scope : Scope} {n : ℕ} {last : TypedCase} {S₁ C₁ : List ℕ}
+    {so : TypedCase}
     {next left : ℕ} (w : ItemsLoop R E T A M F S C at scope n last S₁ C₁ so next left) where
-  pub items_next : {S₂ C₂ : List ℕ} {x so' : Answer} → (left ≡ 0 → ⊥)
-      → Post R E T A M F S₁ C₁ S₂ C₂ next scope x → is_refusal x.typing ≡ false
-      → so' ≡ answer x.typing (join so.effect x.effect) → length S₂ ≡ length S₁
-      → length C₂ ≡ length C₁
-      → ItemsLoop R E T A M F S C at scope n last S₂ C₂ so' (get_or E next 0) (left - 1)
-  items_next z q ok same a b = record {
+  pub items_next : {S₂ C₂ : List ℕ} {r₁ : Answer} {x so' : TypedCase} → (left ≡ 0 → ⊥)
+      → Post R E T A M F S₁ C₁ S₂ C₂ next scope r₁ → r₁ ≡ Ok x
+      → so' ≡ typed_case x.typing (join so.effect x.effect) → length S₂ ≡ length S₁
+      → length C₂ ≡ length C₁ → {left' : ℕ} → left' ≡ left - 1
+      → ItemsLoop R E T A M F S C at scope n last S₂ C₂ so' (get_or E next 0) left'
+  items_next z q ok same a b e = rw e (record {
     pre = rest_pre w.pre z q ok;
     later = omega (arith, w.later, after_row (first_pre w.pre z));
     slots_long = a ∙ w.slots_long;
     classes_long = b ∙ w.classes_long;
     rest = λ o. w.rest (items-step z q ok o w.pre same);
-  }
+  })
 
-  pub items_ended : {r : Answer} → left ≡ 0 → r ≡ so
+  pub items_ended : {r : Answer} → left ≡ 0 → r ≡ Ok so
       → PostItems R E T A M F S C S₁ C₁ at scope n last r
   items_ended z e = w.rest (items_none z e)
 
-  pub items_broken : {S₂ C₂ : List ℕ} {x : Answer} → (left ≡ 0 → ⊥)
-      → Post R E T A M F S₁ C₁ S₂ C₂ next scope x → is_refusal x.typing ≡ true
-      → PostItems R E T A M F S C S₂ C₂ at scope n last x
+  pub items_broken : {S₂ C₂ : List ℕ} {r₁ : Answer} {f : Refusal} → (left ≡ 0 → ⊥)
+      → Post R E T A M F S₁ C₁ S₂ C₂ next scope r₁ → r₁ ≡ Err f
+      → PostItems R E T A M F S C S₂ C₂ at scope n last (Err f)
   items_broken z q f = w.rest (items_fail z q f)

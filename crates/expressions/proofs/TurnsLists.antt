@@ -1,6 +1,5 @@
 -- Expressions in a row: the first, the rest, and what is typed of both. Assumes nothing.
 use mathlib.Core.Path.{◌≡◌, refl, sym, ap, subst, ◌∙◌}
-use mathlib.Core.Bool.{true, false, false≢true}
 use mathlib.Core.Option.{some}
 use mathlib.Core.List.{List, ◌∷◌}
 use Prim.Native.Nat.{ℕ, zero, suc, ◌+◌, ◌-◌, ◌≤◌, ◌<◌}
@@ -19,15 +18,15 @@ use Rattle.language.specs.LookupClasses.{LooksUp, LooksUpAll}
 use Rattle.language.specs.Translation.{typed_or}
 use Rattle.language.proofs.Nodes.{Head}
 use Rattle.layout.specs.Held.{Headed}
-use Rattle.types.specs.declared.Answer.{Answer}
+use Rattle.types.specs.declared.Typed.{Typed as TypedCase}
 use Rattle.types.specs.declared.slots.Scope.{Scope}
-use Rattle.types.specs.declared.Typing.TheVariants.{Refusal}
-use Rattle.types.specs.Answers.{answer, answer_of, is_refusal}
+use Rattle.std.specs.Prelude.{Ok}
+use Rattle.types.specs.Answers.{Answer}
 use Rattle.expressions.specs.Cycle.{Given, GivenAll, Views, Kept, Pre, Post, Declared, PreList}
 use Rattle.expressions.specs.Cycle.{AcceptedAll}
 use Rattle.expressions.proofs.Typings.{line_free, looks_frame}
 use Rattle.expressions.proofs.TypeNumbers.{declared_after}
-use Rattle.expressions.proofs.Turns.{list_pre, all_parts, pre_of, room_kept, answered, not_refused}
+use Rattle.expressions.proofs.Turns.{list_pre, all_parts, pre_of, room_kept}
 use Rattle.expressions.proofs.Turns.{bind_refused, bind_accepted}
 use Rattle.expressions.proofs.TurnsNodes.{Did, did, row_of}
 
@@ -64,7 +63,7 @@ module _ {R E T A M F S : List ℕ} {at : ℕ} {scope : Scope} {p : Program} {γ
     room = g.room;
   }
 
-  pub list_rest : {e : Expr} {es : Exprs} {S' C C' : List ℕ} {x : Answer} {from to width top' : ℕ}
+  pub list_rest : {e : Expr} {es : Exprs} {S' C C' : List ℕ} {x : TypedCase} {from to width top' : ℕ}
       → GivenAll R E T A M F S at scope p (cons e es) γ d → Kept S S' C C' from to width top'
       → (w : Did (world p.classes) e γ at scope.size S' C' x)
       → GivenAll R E T A M F S' (at + size e) scope p es w.a.slots d
@@ -83,8 +82,8 @@ module _ {R E T A M F S : List ℕ} {at : ℕ} {scope : Scope} {n : ℕ}
   pub first_pre : Pre R E T A M F S at scope
   first_pre = by_list pre z (λ _. Pre R E T A M F S at scope) λ e es m g. pre_of (list_first g)
 
-  pub rest_pre : {S' C C' : List ℕ} {x : Answer} → Post R E T A M F S C S' C' at scope x
-      → is_refusal x.typing ≡ false
+  pub rest_pre : {S' C C' : List ℕ} {r : Answer} {x : TypedCase} → Post R E T A M F S C S' C' at scope r
+      → r ≡ Ok x
       → PreList R E T A M F S' (get_or E at 0) scope (n - 1)
   rest_pre {S'} q ok =
       by_list pre z (λ _. PreList R E T A M F S' (get_or E at 0) scope (n - 1)) λ e es m g.
@@ -116,7 +115,7 @@ unfolding type_of
 cons_refused W e es at γ n l h = bind_refused _ _ n l h
 
 pub all_cons : {p : Program} {R E T A M F : List ℕ} {count : ℕ} {e : Expr} {es : Exprs} {γ : Environment}
-    {at scope : ℕ} {S' C' S'' C'' : List ℕ} {x : Answer} {b : TypedAll}
+    {at scope : ℕ} {S' C' S'' C'' : List ℕ} {x : TypedCase} {b : TypedAll}
     → Headed R E T A M F p count → (w : Did (world p.classes) e γ at scope S' C' x)
     → length C'' ≡ length C' → ((i : ℕ) → i < at + size e → get_or C'' i 0 ≡ get_or C' i 0)
     → AcceptedAll (world p.classes) es w.a.slots (at + size e) scope S'' C'' b
@@ -153,27 +152,9 @@ ends_in : {R E : List ℕ} {at : ℕ} (e : Expr) (es : Exprs)
 unfolding size
 ends_in e es h = omega (arith, h.end)
 
--- the refusal of a list, or what it gives
-pub all_refused : {X : Type 0} (q : Checked TypedAll) (f : TypedAll → Typed) {r : Answer}
-    → r ≡ answer_of (bind_checked q λ b. accept (f b)) → is_refusal r.typing ≡ true
-    → ((n l : ℕ) → q ≡ refuse n l → r ≡ answer (Refusal n l) 0 → X) → X
-unfolding bind_checked
-all_refused (accept b) f e t k =
-    absurd (false≢true (sym (not_refused (f b).type) ∙
-    (sym (ap (λ (x : Answer). is_refusal x.typing) e) ∙ t)))
-all_refused (refuse n l) f e t k = k n l refl e
-
-pub all_accepted : {X : Type 0} (q : Checked TypedAll) (f : TypedAll → Typed) {r : Answer}
-    → r ≡ answer_of (bind_checked q λ b. accept (f b)) → is_refusal r.typing ≡ false
-    → ((b : TypedAll) → q ≡ accept b → r ≡ answered (f b) → X) → X
-unfolding bind_checked
-all_accepted (accept b) f e t k = k b refl e
-all_accepted (refuse n l) f e t k =
-    absurd (false≢true (sym t ∙ ap (λ (x : Answer). is_refusal x.typing) e))
-
 module _ {R E T A M F S C : List ℕ} {at : ℕ} {scope : Scope} {n : ℕ} (z : n ≡ 0 → ⊥) {S' C' : List ℕ}
-    {x : Answer}
-    (q : Post R E T A M F S C S' C' at scope x) where
+    {r : Answer}
+    (q : Post R E T A M F S C S' C' at scope r) where
   pub first_after : {scope' : Scope} (ls : PreList R E T A M F S at scope' n) (i : ℕ)
       → at + sizes ls.es ≤ i → get_or C' i 0 ≡ get_or C i 0
   first_after ls i = by_list ls z (λ es. at + sizes es ≤ i → get_or C' i 0 ≡ get_or C i 0) λ e es m g l.

@@ -1,6 +1,5 @@
 -- Each node's children, and the node that a letter tells. Assumes nothing.
-use mathlib.Core.Path.{◌≡◌}
-use mathlib.Core.Bool.{true, false}
+use mathlib.Core.Path.{◌≡◌, sym, ◌∙◌}
 use mathlib.Core.List.{List}
 use Prim.Native.Nat.{ℕ, ◌+◌, ◌-◌, ◌*◌, ◌≤◌, ◌<◌}
 use native.Mathlib.Omega.{arith}
@@ -15,45 +14,39 @@ use Rattle.language.specs.Encoded.{Encoded}
 use Rattle.language.specs.Rows.{Letter, code}
 use Rattle.language.proofs.Nodes.{EachTree, Head, head, by_row}
 use Rattle.language.proofs.Tables.{size_positive}
-use Rattle.types.specs.declared.Answer.{Answer}
+use Rattle.types.specs.declared.Typed.{Typed as TypedCase}
 use Rattle.types.specs.declared.slots.Scope.{Scope}
-use Rattle.types.specs.declared.Typing.TheVariants.{Refusal}
-use Rattle.types.specs.Answers.{answer, is_refusal}
+use Rattle.std.specs.Prelude.{Ok, Err}
+use Rattle.language.specs.declared.Refusal.{Refusal}
+use Rattle.language.proofs.Refusals.{result_err}
+use Rattle.types.specs.Answers.{Answer, answered}
 use Rattle.expressions.specs.Cycle.{Given, Kept, Pre, Post, Accepted}
-use Rattle.expressions.proofs.Turns.{parts, post_is, kept_wider, room_child, answered, accepted_of}
-use Rattle.expressions.proofs.Turns.{refused_of}
+use Rattle.expressions.proofs.Turns.{parts, post_is, kept_wider, room_child, accepted_of}
 
 -- ---- a child that was accepted, or refused
 
-pub record Did (W : World) (e : Expr) (γ : Environment) (at scope : ℕ) (S C : List ℕ) (r : Answer) : Type 0
+pub record Did (W : World) (e : Expr) (γ : Environment) (at scope : ℕ) (S C : List ℕ) (x : TypedCase) :
+    Type 0
   where
     pub a : Typed
     pub typed_at : type_of W e (at + 1) γ ≡ accept a
-    pub is : r ≡ answered a
+    pub is : x ≡ answered a
     pub accepted : Accepted W e γ at scope S C a
-
-pub record Failed (W : World) (e : Expr) (γ : Environment) (at : ℕ) (r : Answer) : Type 0 where
-  pub n : ℕ
-  pub l : ℕ
-  pub typed_at : type_of W e (at + 1) γ ≡ refuse n l
-  pub is : r ≡ answer (Refusal n l) 0
 
 module _ {R E T A M F S C S' C' : List ℕ} {at : ℕ} {scope : Scope} {p : Program} {e : Expr}
     {γ : Environment}
     {d : ℕ} {r : Answer} where
-  pub did : Given R E T A M F S at scope p e γ d → Post R E T A M F S C S' C' at scope r
-      → is_refusal r.typing ≡ false
-      → Did (world p.classes) e γ at scope.size S' C' r
+  pub did : {x : TypedCase} → Given R E T A M F S at scope p e γ d → Post R E T A M F S C S' C' at scope r
+      → r ≡ Ok x
+      → Did (world p.classes) e γ at scope.size S' C' x
   did g q f = let i = post_is q g in
       accepted_of (type_of (world p.classes) e (at + 1) γ) i.out f λ a t s.
       record { a = a; typed_at = t; is = s; accepted = i.accepted a t }
 
-  pub failed : Given R E T A M F S at scope p e γ d → Post R E T A M F S C S' C' at scope r
-      → is_refusal r.typing ≡ true
-      → Failed (world p.classes) e γ at r
-  failed g q f = let i = post_is q g in
-      refused_of (type_of (world p.classes) e (at + 1) γ) i.out f λ n l t s.
-      record { n = n; l = l; typed_at = t; is = s }
+  pub failed : {f : Refusal} → Given R E T A M F S at scope p e γ d → Post R E T A M F S C S' C' at scope r
+      → r ≡ Err f
+      → type_of (world p.classes) e (at + 1) γ ≡ refuse f.number f.line
+  failed {f} g q h = result_err answered (type_of (world p.classes) e (at + 1) γ) f (sym (post_is q g).out ∙ h)
 
 -- the row after a node
 pub after_row : {R E T A M F S : List ℕ} {at : ℕ} {scope : Scope} → Pre R E T A M F S at scope

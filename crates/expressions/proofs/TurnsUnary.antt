@@ -1,5 +1,5 @@
 -- The functions expression, of a node without child, and unary. Assumes nothing.
-use mathlib.Core.Path.{◌≡◌, refl, sym, ap, ◌∙◌}
+use mathlib.Core.Path.{◌≡◌, refl, sym, ap, subst, ◌∙◌}
 use mathlib.Core.Logic.{inl, inr, ⊎_elim}
 use mathlib.Core.List.{List}
 use Prim.Native.Nat.{ℕ, ◌+◌, ◌*◌, ◌≤◌}
@@ -7,26 +7,25 @@ use native.Mathlib.Omega.{arith}
 use lib.ListN.{length, get_or}
 use Rattle.language.specs.Rows.{T_true, L_false, N_null, I_slot, Z_is_null, G_get, K_cast, W_new, R_change}
 use Rattle.language.specs.Rows.{A_assign}
-use Rattle.language.specs.Results.{Checked, accept, refuse}
-use Rattle.language.specs.Tree.{Program, Expr, change, size}
+use Rattle.language.specs.Tree.{Expr, change, size}
 use Rattle.language.specs.Program.{world}
-use Rattle.language.specs.Environment.{Environment}
-use Rattle.language.specs.Typing.{Typed, type_of}
+use Rattle.language.specs.Typing.{type_of}
 use Rattle.language.specs.Encoded.{RowAt, Encoded}
 use Rattle.language.proofs.Nodes.{head}
 use Rattle.language.proofs.Tables.{size_positive}
-use Rattle.layout.specs.Held.{Headed}
 use Rattle.layout.specs.HeldLaws.{few}
-use Rattle.types.specs.declared.Answer.{Answer}
+use Rattle.types.specs.declared.Typed.{Typed as TypedCase}
+use Rattle.std.specs.Prelude.{Ok, Err}
+use Rattle.language.specs.declared.Refusal.{Refusal}
 use Rattle.types.specs.declared.slots.Scope.{Scope}
 use Rattle.types.specs.declared.Typing.TheVariants.{Bool as Bool_case, Null}
-use Rattle.types.specs.Answers.{answer, is_refusal}
+use Rattle.types.specs.Answers.{Answer, answer}
 use Rattle.types.specs.Tables.{CaseIn, In_row}
 use Rattle.typing.specs.Nodes.{null_tested, created, slot_read, cast_answer, assigned, PreAssign, PreChange}
 use Rattle.typing.specs.Nodes.{PostChange}
 use Rattle.access.specs.Fields.{got, got_classes, PreGet, PreField}
 use Rattle.expressions.specs.Cycle.{Given, Unary, Room, Kept, Pre, Post, Is}
-use Rattle.expressions.proofs.Turns.{pre_of, post_is, post_of, in_row, kept_then, kept_none}
+use Rattle.expressions.proofs.Turns.{bind_refused, is_refused, pre_of, post_of, in_row, kept_then, kept_none}
 use Rattle.expressions.proofs.Turns.{kept_slots}
 use Rattle.expressions.proofs.Turns.{kept_classes, room_next, room_kept, room_slots, type_low}
 use Rattle.expressions.proofs.Turns.{case_low}
@@ -36,7 +35,7 @@ use Rattle.expressions.proofs.Slots.{slot_low}
 use Rattle.expressions.proofs.LeafNodes.{true_is, false_is, null_literal_is, slot_is, new_node_is}
 use Rattle.expressions.proofs.UnaryNodes.{is_null_is, cast_is, assign_is, got_kept, get_is}
 use Rattle.expressions.proofs.ChangeNode.{pre_change, change_is}
-use Rattle.expressions.proofs.TurnsNodes.{did, kept_in, row_of, is_null_child, get_child, get_row}
+use Rattle.expressions.proofs.TurnsNodes.{did, failed, kept_in, row_of, is_null_child, get_child, get_row}
 use Rattle.expressions.proofs.TurnsNodes.{cast_child, cast_row, assign_child, assign_row, by_node}
 
 -- ---- the leaves of `expression`
@@ -131,8 +130,8 @@ module _ {R E T A M F S : List ℕ} {at : ℕ} {scope : Scope} where
       (λ l. by_node A_assign pre.e pre.given l (λ _. Pre R E T A M F S (at + 1) scope) λ k e g.
       pre_of (assign_child g))
 
-  module _ {S' C C' : List ℕ} (pre : Pre R E T A M F S at scope) {x : Answer}
-      (q : Post R E T A M F S C S' C' (at + 1) scope x) where
+  module _ {S' C C' : List ℕ} (pre : Pre R E T A M F S at scope) {r₁ : Answer}
+      (q : Post R E T A M F S C S' C' (at + 1) scope r₁) where
     unary_kept : Unary R at → Kept S S' C C' at (get_or E at 0) scope.width scope.top
     unfolding size
     unary_kept u = unary_case R at u
@@ -153,72 +152,81 @@ module _ {R E T A M F S : List ℕ} {at : ℕ} {scope : Scope} where
         kept_in scope.top (row_of g) (row_of (assign_child g)) (omega arith) (omega arith) (omega arith)
         q.kept)
 
-    pub is_null_post : {r : Answer} → get_or R (at * 4) 0 ≡ 90 → r ≡ null_tested at x.typing x.effect
-        → Post R E T A M F S C S' C' at scope r
-    is_null_post {r} l e = post_of (unary_kept (inl l)) λ p z γ d g.
-        by_node Z_is_null z g l (λ w. Is (world p.classes) w γ at scope.size S' C' r) λ e' g.
-        is_null_is g.headed at x r (post_is q (is_null_child g)) e
+    -- a child's refusal is the node's
+    pub unary_fail : {f : Refusal} → Unary R at → r₁ ≡ Err f → Post R E T A M F S C S' C' at scope (Err f)
+    unfolding type_of
+    unary_fail {f} u e = post_of (unary_kept u) λ p z γ d g.
+        let Q : Expr → Type 0 = λ w. Is (world p.classes) w γ at scope.size S' C' (Err f) in
+        unary_case R at u
+        (λ l. by_node Z_is_null z g l Q λ e' g.
+        is_refused _ _ (bind_refused _ _ _ _ (failed (is_null_child g) q e)) refl)
+        (λ l. by_node G_get z g l Q λ n e' g.
+        is_refused _ _ (bind_refused _ _ _ _ (failed (get_child g) q e)) refl)
+        (λ l. by_node K_cast z g l Q λ c e' g.
+        is_refused _ _ (bind_refused _ _ _ _ (failed (cast_child g) q e)) refl)
+        (λ l. by_node A_assign z g l Q λ k e' g.
+        is_refused _ _ (bind_refused _ _ _ _ (failed (assign_child g) q e)) refl)
 
-    pub cast_post : {r : Answer} → get_or R (at * 4) 0 ≡ 75 → r ≡ cast_answer R scope.count at x
-        → Post R E T A M F S C S' C' at scope r
-    cast_post {r} l e = post_of (unary_kept (inr (inr (inl l)))) λ p z γ d g.
-        by_node K_cast z g l (λ w. Is (world p.classes) w γ at scope.size S' C' r) λ c e' g.
-        cast_is g.headed c at x r (cast_row g) (post_is q (cast_child g)) e
+    module _ {x : TypedCase} (ok : r₁ ≡ Ok x) where
+      pub is_null_post : {r : Answer} → get_or R (at * 4) 0 ≡ 90 → r ≡ null_tested at x.typing x.effect
+          → Post R E T A M F S C S' C' at scope r
+      is_null_post {r} l e = post_of (unary_kept (inl l)) λ p z γ d g.
+          by_node Z_is_null z g l (λ w. Is (world p.classes) w γ at scope.size S' C' r) λ e' g.
+          is_null_is g.headed at x r (did (is_null_child g) q ok) e
 
-    pub assign_post : {r : Answer} → get_or R (at * 4) 0 ≡ 65 → r ≡ assigned R A S' at scope.size x
-        → Post R E T A M F S C S' C' at scope r
-    assign_post {r} l e = post_of (unary_kept (inr (inr (inr l)))) λ p z γ d g.
-        by_node A_assign z g l (λ w. Is (world p.classes) w γ at scope.size S' C' r) λ k e' g.
-        assign_is g.headed k at x r (assign_row g) (room_slots (room_kept g.room q.kept))
-        (post_is q (assign_child g)) e
+      pub cast_post : {r : Answer} → get_or R (at * 4) 0 ≡ 75 → r ≡ cast_answer R scope.count at x
+          → Post R E T A M F S C S' C' at scope r
+      cast_post {r} l e = post_of (unary_kept (inr (inr (inl l)))) λ p z γ d g.
+          by_node K_cast z g l (λ w. Is (world p.classes) w γ at scope.size S' C' r) λ c e' g.
+          cast_is g.headed c at x r (cast_row g) (did (cast_child g) q ok) e
 
-    pub get_post : {C'' : List ℕ} {r : Answer} → get_or R (at * 4) 0 ≡ 71
-        → r ≡ got R T at x.typing x.effect → C'' ≡ got_classes R T C' at x.typing
-        → Post R E T A M F S C S' C'' at scope r
-    get_post {C''} {r} l e f =
-        let k = got_kept pre.given.headed C' at x.typing in
-        let h = head pre.e pre.given.encoded in
-        post_of (kept_then (unary_kept (inr (inl l)))
-        (kept_classes at (ap length f ∙ k.0) (λ i n. ap (λ (w : List ℕ). get_or w i 0) f ∙ k.1 i n)
-        (omega arith) (omega (arith, h.end, size_positive pre.e))))
-        λ p z γ d g. by_node G_get z g l (λ w. Is (world p.classes) w γ at scope.size S' C'' r) λ n e' g.
-        get_is g.headed n at x r (get_row g).0 (get_row g).1 (post_is q (get_child g)) e f
+      pub assign_post : {r : Answer} → get_or R (at * 4) 0 ≡ 65 → r ≡ assigned R A S' at scope.size x
+          → Post R E T A M F S C S' C' at scope r
+      assign_post {r} l e = post_of (unary_kept (inr (inr (inr l)))) λ p z γ d g.
+          by_node A_assign z g l (λ w. Is (world p.classes) w γ at scope.size S' C' r) λ k e' g.
+          assign_is g.headed k at x r (assign_row g) (room_slots (room_kept g.room q.kept))
+          (did (assign_child g) q ok) e
 
-    -- what G and A need
-    pub get_pre : get_or R (at * 4) 0 ≡ 71 → PreGet R T at x.typing
-    get_pre l =
-        record {
-          row = leaf_row pre;
-          field = λ c e. by_node G_get pre.e pre.given l
-              (λ _. PreField R T c (get_or R (at * 4 + 1) 0) × (c ≤ 64))
-              λ f e' g.
-              let w = did (get_child g) q (ap is_refusal e) in
-              let t = case_known w.a.type c (sym (ap (λ (y : Answer). y.typing) w.is) ∙ e) in
-              let n = type_low g.headed w.a.type w.accepted.declared c t in (
-                rw (get_row g).0 (field_pre g.headed c f n (get_row g).1),
-                omega (arith, n, few g.headed),
-              );
-        }
+      pub get_post : {C'' : List ℕ} {r : Answer} → get_or R (at * 4) 0 ≡ 71
+          → r ≡ got R T at x.typing x.effect → C'' ≡ got_classes R T C' at x.typing
+          → Post R E T A M F S C S' C'' at scope r
+      get_post {C''} {r} l e f =
+          let k = got_kept pre.given.headed C' at x.typing in
+          let h = head pre.e pre.given.encoded in
+          post_of (kept_then (unary_kept (inr (inl l)))
+          (kept_classes at (ap length f ∙ k.0) (λ i n. ap (λ (w : List ℕ). get_or w i 0) f ∙ k.1 i n)
+          (omega arith) (omega (arith, h.end, size_positive pre.e))))
+          λ p z γ d g. by_node G_get z g l (λ w. Is (world p.classes) w γ at scope.size S' C'' r) λ n e' g.
+          get_is g.headed n at x r (get_row g).0 (get_row g).1 (did (get_child g) q ok) e f
 
-    answer-in : {p : Program} {γ : Environment} {e : Expr} → Headed R E T A M F p scope.count
-        → Is (world p.classes) e γ (at + 1) scope.size S' C' x → CaseIn (length A) x.typing
-    answer-in {p} {γ} {e} h i = go (type_of (world p.classes) e (at + 1 + 1) γ) refl
-      where
-        go : (w : Checked Typed) → type_of (world p.classes) e (at + 1 + 1) γ ≡ w
-            → CaseIn (length A) x.typing
-        go (accept a) f = rw (i.out, f) (case_low h a.type (i.accepted a f).declared)
-        go (refuse n l) f = rw (i.out, f) tt
+      -- what G and A need
+      pub get_pre : get_or R (at * 4) 0 ≡ 71 → PreGet R T at x.typing
+      get_pre l =
+          record {
+            row = leaf_row pre;
+            field = λ c e. by_node G_get pre.e pre.given l
+                (λ _. PreField R T c (get_or R (at * 4 + 1) 0) × (c ≤ 64))
+                λ f e' g.
+                let w = did (get_child g) q ok in
+                let t = case_known w.a.type c (sym (ap (λ (y : TypedCase). y.typing) w.is) ∙ e) in
+                let n = type_low g.headed w.a.type w.accepted.declared c t in (
+                  rw (get_row g).0 (field_pre g.headed c f n (get_row g).1),
+                  omega (arith, n, few g.headed),
+                );
+          }
 
-    pub assign_pre : get_or R (at * 4) 0 ≡ 65 → PreAssign R A S' at scope.size x.typing
-    assign_pre l = by_node A_assign pre.e pre.given l
-        (λ _. PreAssign R A S' at scope.size x.typing)
-        λ k e g.
-        let ls = room_slots (room_kept g.room q.kept) in
-        record {
-          row = leaf_row pre;
-          scoped = ls;
-          value = answer-in g.headed (post_is q (assign_child g));
-          slot = λ f z m n.
-              let w = did (assign_child g) q f in
-              slot_low g.headed w.accepted.views ls (get_or R (at * 4 + 1) 0) z m n;
-        }
+      pub assign_pre : get_or R (at * 4) 0 ≡ 65 → PreAssign R A S' at scope.size x.typing
+      assign_pre l = by_node A_assign pre.e pre.given l
+          (λ _. PreAssign R A S' at scope.size x.typing)
+          λ k e g.
+          let ls = room_slots (room_kept g.room q.kept) in
+          record {
+            row = leaf_row pre;
+            scoped = ls;
+            value = let w = did (assign_child g) q ok in
+                subst (λ (y : TypedCase). CaseIn (length A) y.typing) (sym w.is)
+                (case_low g.headed w.a.type w.accepted.declared);
+            slot = λ z m n.
+                let w = did (assign_child g) q ok in
+                slot_low g.headed w.accepted.views ls (get_or R (at * 4 + 1) 0) z m n;
+          }

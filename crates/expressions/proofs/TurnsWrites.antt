@@ -1,6 +1,5 @@
 -- The function write: U's two children, then the node. Assumes nothing.
 use mathlib.Core.Path.{◌≡◌, refl, sym, ap, subst, ◌∙◌}
-use mathlib.Core.Bool.{true, false}
 use mathlib.Core.List.{List}
 use Prim.Native.Nat.{ℕ, ◌+◌, ◌-◌, ◌*◌, ◌<◌}
 use native.Mathlib.Omega.{arith}
@@ -11,9 +10,11 @@ use Rattle.language.specs.Program.{world}
 use Rattle.language.specs.Environment.{Environment}
 use Rattle.language.specs.Typing.{type_of}
 use Rattle.language.specs.Encoded.{NodeAt, Encoded}
-use Rattle.types.specs.declared.Answer.{Answer}
+use Rattle.types.specs.declared.Typed.{Typed as TypedCase}
 use Rattle.types.specs.declared.slots.Scope.{Scope}
-use Rattle.types.specs.Answers.{is_refusal}
+use Rattle.std.specs.Prelude.{Ok, Err}
+use Rattle.language.specs.declared.Refusal.{Refusal}
+use Rattle.types.specs.Answers.{Answer}
 use Rattle.access.specs.Fields.{PrePut, put, put_classes}
 use Rattle.expressions.specs.Cycle.{Given, Kept, Pre, Post, Is}
 use Rattle.expressions.proofs.Turns.{parts, pre_of, post_of, kept_then, kept_classes, room_child}
@@ -35,7 +36,7 @@ module _ {R E T A M F S : List ℕ} {at : ℕ} {scope : Scope} {p : Program} {γ
     room = room_child g.room (parts g).0;
   }
 
-  set_second : {f : ℕ} {e e' : Expr} {S' C C' : List ℕ} {x : Answer} {from to : ℕ}
+  set_second : {f : ℕ} {e e' : Expr} {S' C C' : List ℕ} {x : TypedCase} {from to : ℕ}
       → Given R E T A M F S at scope p (set f e e') γ d → Kept S S' C C' from to scope.width scope.top
       → (w : Did (world p.classes) e γ (at + 1) scope.size S' C' x)
       → Given R E T A M F S' (at + 1 + size e) scope p e' w.a.slots (d - 1)
@@ -60,7 +61,7 @@ module _ {R E T A M F S : List ℕ} {at : ℕ} {scope : Scope} (pre : Pre R E T 
       λ f e e' g.
       pre_of (set_first g)
 
-  module _ {S' C C' : List ℕ} {x : Answer} (q : Post R E T A M F S C S' C' (at + 1) scope x) where
+  module _ {S' C C' : List ℕ} {r₁ : Answer} (q : Post R E T A M F S C S' C' (at + 1) scope r₁) where
     kept-first : Kept S S' C C' at (get_or E at 0) scope.width scope.top
     unfolding size
     kept-first = by_node U_set pre.e pre.given l
@@ -68,14 +69,13 @@ module _ {R E T A M F S : List ℕ} {at : ℕ} {scope : Scope} (pre : Pre R E T 
         kept_in scope.top (row_of g) (row_of (set_first g)) (omega arith) (omega arith) (omega arith)
         q.kept
 
-    pub write_fail : is_refusal x.typing ≡ true → Post R E T A M F S C S' C' at scope x
+    pub write_fail : {f : Refusal} → r₁ ≡ Err f → Post R E T A M F S C S' C' at scope (Err f)
     unfolding type_of
-    write_fail f = post_of kept-first λ p z γ d g.
-        by_node U_set z g l (λ w. Is (world p.classes) w γ at scope.size S' C' x) λ n e e' g.
-        let w = failed (set_first g) q f in
-        is_refused w.n w.l (bind_refused _ _ _ _ w.typed_at) w.is
+    write_fail {f} h = post_of kept-first λ p z γ d g.
+        by_node U_set z g l (λ w. Is (world p.classes) w γ at scope.size S' C' (Err f)) λ n e e' g.
+        is_refused _ _ (bind_refused _ _ _ _ (failed (set_first g) q h)) refl
 
-    module _ (ok : is_refusal x.typing ≡ false) where
+    module _ {x : TypedCase} (ok : r₁ ≡ Ok x) where
       pub write_second : Pre R E T A M F S' (get_or E (at + 1) 0) scope
       write_second = by_node U_set pre.e pre.given l
           (λ _. Pre R E T A M F S' (get_or E (at + 1) 0) scope)
@@ -83,12 +83,12 @@ module _ {R E T A M F S : List ℕ} {at : ℕ} {scope : Scope} (pre : Pre R E T 
           subst (λ (n : ℕ). Pre R E T A M F S' n scope) (sym (row_of (set_first g)).end)
           (pre_of (set_second g q.kept (did (set_first g) q ok)))
 
-      module _ {S'' C'' : List ℕ} {y : Answer}
-          (q' : Post R E T A M F S' C' S'' C'' (get_or E (at + 1) 0) scope y) where
+      module _ {S'' C'' : List ℕ} {r₂ : Answer}
+          (q' : Post R E T A M F S' C' S'' C'' (get_or E (at + 1) 0) scope r₂) where
         second : {p : Program} {f : ℕ} {e e' : Expr} {γ : Environment} {d : ℕ}
             → Given R E T A M F S at scope p (set f e e') γ d
-            → Post R E T A M F S' C' S'' C'' (at + 1 + size e) scope y
-        second g = subst (λ (n : ℕ). Post R E T A M F S' C' S'' C'' n scope y) (row_of (set_first g)).end
+            → Post R E T A M F S' C' S'' C'' (at + 1 + size e) scope r₂
+        second g = subst (λ (n : ℕ). Post R E T A M F S' C' S'' C'' n scope r₂) (row_of (set_first g)).end
             q'
 
         kept_second : Kept S S'' C C'' at (get_or E at 0) scope.width scope.top
@@ -100,31 +100,31 @@ module _ {R E T A M F S : List ℕ} {at : ℕ} {scope : Scope} (pre : Pre R E T 
             (kept_in scope.top (row_of g) (row_of (set_second g q.kept (did (set_first g) q ok)))
             (omega arith) (omega arith) (omega arith) (second g).kept)
 
-        pub write_fail_second : is_refusal y.typing ≡ true → Post R E T A M F S C S'' C'' at scope y
+        pub write_fail_second : {f : Refusal} → r₂ ≡ Err f → Post R E T A M F S C S'' C'' at scope (Err f)
         unfolding type_of
-        write_fail_second f = post_of kept_second λ p z γ d g.
-            by_node U_set z g l (λ w. Is (world p.classes) w γ at scope.size S'' C'' y) λ n e e' g.
+        write_fail_second {f} h = post_of kept_second λ p z γ d g.
+            by_node U_set z g l (λ w. Is (world p.classes) w γ at scope.size S'' C'' (Err f)) λ n e e' g.
             let u = did (set_first g) q ok in
-            let w = failed (set_second g q.kept u) (second g) f in
+            let w = failed (set_second g q.kept u) (second g) h in
             let line : at + 1 + size e + 1 ≡ at + 1 + 1 + size e = omega arith in
-            is_refused w.n w.l
+            is_refused _ _
             (bind_accepted _ _ _ u.typed_at
             ∙ bind_refused _ _ _ _
-            (ap (λ (m : ℕ). type_of (world p.classes) e' m u.a.slots) (sym line) ∙ w.typed_at))
-            w.is
+            (ap (λ (m : ℕ). type_of (world p.classes) e' m u.a.slots) (sym line) ∙ w))
+            refl
 
-        pub write_pre : is_refusal y.typing ≡ false → PrePut R T A at x.typing y
-        write_pre f = by_node U_set pre.e pre.given l (λ _. PrePut R T A at x.typing y) λ n e e' g.
+        pub write_pre : {y : TypedCase} → r₂ ≡ Ok y → PrePut R T A at x.typing y
+        write_pre {y} f = by_node U_set pre.e pre.given l (λ _. PrePut R T A at x.typing y) λ n e e' g.
             let u = did (set_first g) q ok in
             let w = did (set_second g q.kept u) (second g) f in
             let r = set_row g in
             pre_put g.headed n at u.a w.a x y r.0.row r.1
             u.accepted.declared w.accepted.declared u.is w.is
 
-        pub write_done : {C''' : List ℕ} {r : Answer} → is_refusal y.typing ≡ false
+        pub write_done : {C''' : List ℕ} {y : TypedCase} {r : Answer} → r₂ ≡ Ok y
             → r ≡ put R T A at x.typing x y → C''' ≡ put_classes R T A C'' at x.typing y
             → Post R E T A M F S C S'' C''' at scope r
-        write_done {C'''} {r} f e₁ e₂ =
+        write_done {C'''} {y} {r} f e₁ e₂ =
             let k = put_kept R T A C'' C''' at x y e₂ in
             post_of (kept_then kept_second (kept_classes at k.0 k.1 (omega arith) (after_row pre)))
             λ p z γ d g. by_node U_set z g l (λ w. Is (world p.classes) w γ at scope.size S'' C''' r)

@@ -12,12 +12,12 @@ use lib.Dec.{eqb, leb, ltb}
 use lib.ListN.{length, get_or, length-set}
 use lib.Seq.{get_or-set_same, get_or-set_other}
 use Rattle.language.specs.Lists.{nth}
-use Rattle.language.specs.Results.{Checked, accept, refuse, bind_checked, need_checked, require}
-use Rattle.language.specs.Results.{accept_injective, bind_checked_inv, need_checked_inv, require_inv}
+use Rattle.language.specs.Results.{Checked, accept, need_checked, require}
+use Rattle.language.specs.Results.{accept_injective, need_checked_inv, require_inv}
 use Rattle.language.specs.Frames.{at_slot}
 use Rattle.language.specs.Tree.{Program, DeclaredType, bool, class, ExprType, known, null_type, Class, Expr}
 use Rattle.language.specs.Tree.{is_null, get, cast, assign}
-use Rattle.language.specs.World.{field_type, is_declared, is_declared_type, World}
+use Rattle.language.specs.World.{field_type, is_declared, is_declared_type}
 use Rattle.language.specs.Program.{world, world_with}
 use Rattle.language.specs.Environment.{Slot, Environment}
 use Rattle.language.specs.Typing.{Typed, typed, not_bool, need_class, fits, type_of}
@@ -25,33 +25,30 @@ use Rattle.language.specs.LookupClasses.{Notes, LooksUp}
 use Rattle.language.specs.Translation.{typed_or, class_or}
 use Rattle.language.proofs.Lines.{le_or_less}
 use Rattle.layout.specs.Held.{Headed}
-use Rattle.types.specs.declared.Answer.{Answer}
+use Rattle.types.specs.declared.Typed.{Typed as TypedCase}
+use Rattle.std.specs.Prelude.{Some, None}
 use Rattle.types.specs.declared.Typing.{Typing}
-use Rattle.types.specs.declared.Typing.TheVariants.{Bool as Bool_case, Class as class_case, Null, Refusal}
-use Rattle.access.specs.declared.fields.Sought.{Sought}
-use Rattle.access.specs.declared.fields.Sought.TheVariants.{Found, Missing}
-use Rattle.types.specs.Answers.{answer, answer_of, typing_case, current_in, refusal}
-use Rattle.access.specs.Fields.{sought_of, field_in, not_class, got, got_classes, found_answer, noted}
+use Rattle.types.specs.declared.Typing.TheVariants.{Bool as Bool_case, Class as class_case, Null}
+use Rattle.types.specs.Answers.{Answer, answer, answer_of, typed_case, typing_case, current_in, refused}
+use Rattle.access.specs.Fields.{Sought, sought_of, field_in, got, got_classes, found_answer, noted}
 use Rattle.types.specs.Tables.{is_fitting}
 use Rattle.typing.specs.Nodes.{null_tested, casted, cast_answer, assigned}
 use Rattle.expressions.specs.Cycle.{Views, Declared, Accepted, Is}
 use Rattle.expressions.proofs.Lists.{declared_test}
 use Rattle.expressions.proofs.Worlds.{class_low, fitting_is}
 use Rattle.expressions.proofs.Typings.{line_free, looks_frame, class_inv}
-use Rattle.expressions.proofs.Turns.{declared_bool, declared_known, type_low, not_refused}
+use Rattle.expressions.proofs.Turns.{declared_bool, declared_known, type_low, bind_accepted}
+use Rattle.expressions.proofs.TurnsNodes.{Did}
 use Rattle.expressions.proofs.TypeNumbers.{type_number_case}
 use Rattle.expressions.proofs.Slots.{slot_some, slot_none}
 use Rattle.expressions.proofs.FieldTables.{field_is, field_declared}
 
 -- ---- Z
 
-null_go : (at : ℕ) (q : Checked Typed)
-    → null_tested at (answer_of q).typing (answer_of q).effect
-    ≡ answer_of (bind_checked q λ a. require (not_bool a.type) 9 (at + 1) λ _. typed (known bool)
-    a.slots a.effect)
-unfolding null_tested bind_checked require
-null_go at (refuse n l) = refl
-null_go at (accept a) = go a.type
+null_go : (at : ℕ) (a : Typed) → null_tested at (typing_case a.type) a.effect
+    ≡ answer_of (require (not_bool a.type) 9 (at + 1) λ _. typed (known bool) a.slots a.effect)
+unfolding null_tested require
+null_go at a = go a.type
   where
     go : (t : ExprType) → null_tested at (typing_case t) a.effect
         ≡ answer_of (require (not_bool t) 9 (at + 1) λ _. typed (known bool) a.slots a.effect)
@@ -59,40 +56,37 @@ null_go at (accept a) = go a.type
     go (known (class c)) = refl
     go null_type = refl
 
-null_is : (W : World) (e : Expr) (at : ℕ) (γ : Environment) → let q = type_of W e (at + 1 + 1) γ in
-    null_tested at (answer_of q).typing (answer_of q).effect ≡ answer_of (type_of W (is_null e) (at + 1) γ)
-unfolding type_of
-null_is W e at γ = null_go at (type_of W e (at + 1 + 1) γ)
-
 module _ {p : Program} {R E T A M F : List ℕ} {count : ℕ} (h : Headed R E T A M F p count) where
   abbrev P : List Class
   P = p.classes
 
-  pub is_null_is : {e : Expr} {γ : Environment} {S C : List ℕ} {scope : ℕ} (at : ℕ) (child r : Answer)
-      → Is (world P) e γ (at + 1) scope S C child
-      → r ≡ null_tested at child.typing child.effect → Is (world P) (is_null e) γ at scope S C r
+  pub is_null_is : {e : Expr} {γ : Environment} {S C : List ℕ} {scope : ℕ} (at : ℕ) (x : TypedCase) (r : Answer)
+      → Did (world P) e γ (at + 1) scope S C x
+      → r ≡ null_tested at x.typing x.effect → Is (world P) (is_null e) γ at scope S C r
   unfolding type_of LooksUp
-  is_null_is {e} {γ} {S} {C} {scope} at child r i f = record {
-    out = f ∙ (ap (λ (x : Answer). null_tested at x.typing x.effect) i.out ∙ null_is (world P)
-        e at γ);
-    accepted = λ a q. bind_checked_inv (type_of (world P) e (at + 1 + 1) γ) _ q λ b p w.
-        require_inv (not_bool b.type) 9 (at + 1) _ w λ d u.
-        subst (λ (x : Typed). Accepted (world P) (is_null e) γ at scope S C x) (accept_injective u)
-        (record { views = (i.accepted b p).views; declared = declared_bool; looks = (i.accepted b p).looks });
-  }
+  is_null_is {e} {γ} {S} {C} {scope} at x r w f =
+      let node : type_of (world P) (is_null e) (at + 1) γ
+      ≡ require (not_bool w.a.type) 9 (at + 1) λ _. typed (known bool) w.a.slots w.a.effect =
+      bind_accepted _ _ w.a w.typed_at in
+      record {
+        out = f ∙ (ap (λ (y : TypedCase). null_tested at y.typing y.effect) w.is
+            ∙ (null_go at w.a ∙ sym (ap answer_of node)));
+        accepted = λ a q. require_inv (not_bool w.a.type) 9 (at + 1) _ (sym node ∙ q) λ d u.
+            subst (λ (y : Typed). Accepted (world P) (is_null e) γ at scope S C y) (accept_injective u)
+            (record { views = w.accepted.views; declared = declared_bool; looks = w.accepted.looks });
+      }
 
   -- ---- K
 
-  casts : (c at : ℕ) (q : Checked Typed) → get_or R (at * 4 + 1) 0 ≡ c
-      → cast_answer R count at (answer_of q)
-      ≡ answer_of (bind_checked q λ a. require (leb c count) 4 (at + 1) λ _. require (not_bool a.type) 9
+  casts : (c at : ℕ) (a : Typed) → get_or R (at * 4 + 1) 0 ≡ c
+      → cast_answer R count at (typed_case (typing_case a.type) a.effect)
+      ≡ answer_of (require (leb c count) 4 (at + 1) λ _. require (not_bool a.type) 9
       (at + 1) λ _. typed (known (class c)) a.slots a.effect)
-  unfolding cast_answer bind_checked require casted
-  casts c at (refuse n l) e = refl
-  casts c at (accept a) e = rw (e, not_refused a.type) (go (leb c count) refl a.type)
+  unfolding cast_answer require casted
+  casts c at a e = rw e (go (leb c count) refl a.type)
     where
       go : (b : Bool) → leb c count ≡ b → (t : ExprType)
-          → cond (ltb count c) (refusal 4 at) (casted at c (typing_case t) a.effect)
+          → cond (ltb count c) (refused 4 at) (casted at c (typing_case t) a.effect)
           ≡ answer_of (require b 4 (at + 1) λ _. require (not_bool t) 9 (at + 1) λ _. typed (known (class c))
           a.slots a.effect)
       go true f (known bool) = rw (declared_test c count true f)
@@ -100,48 +94,51 @@ module _ {p : Program} {R E T A M F : List ℕ} {count : ℕ} (h : Headed R E T 
       go true f null_type = rw (declared_test c count true f)
       go false f t = rw (declared_test c count false f)
 
-  pub cast_is : {e : Expr} {γ : Environment} {S C : List ℕ} {scope : ℕ} (c at : ℕ) (child r : Answer)
-      → get_or R (at * 4 + 1) 0 ≡ c → Is (world P) e γ (at + 1) scope S C child
-      → r ≡ cast_answer R count at child → Is (world P) (cast c e) γ at scope S C r
+  pub cast_is : {e : Expr} {γ : Environment} {S C : List ℕ} {scope : ℕ} (c at : ℕ) (x : TypedCase) (r : Answer)
+      → get_or R (at * 4 + 1) 0 ≡ c → Did (world P) e γ (at + 1) scope S C x
+      → r ≡ cast_answer R count at x → Is (world P) (cast c e) γ at scope S C r
   unfolding type_of LooksUp world world_with
-  cast_is {e} {γ} {S} {C} {scope} c at child r z i f = record {
-    out = f ∙ (ap (cast_answer R count at) i.out ∙ (casts c at (type_of (world P) e (at + 1 + 1) γ) z
-        ∙ ap (λ (n : ℕ). answer_of (bind_checked (type_of (world P) e (at + 1 + 1) γ) λ a. require (leb c n) 4
-        (at + 1) λ _. require (not_bool a.type) 9 (at + 1) λ _.
-        typed (known (class c)) a.slots a.effect)) (sym h.counted)));
-    accepted = λ a q. bind_checked_inv (type_of (world P) e (at + 1 + 1) γ) _ q λ b p w.
-        require_inv (is_declared (world P) c) 4 (at + 1) _ w λ d u.
-        require_inv (not_bool b.type) 9 (at + 1) _ u λ d' u'.
-        subst (λ (x : Typed). Accepted (world P) (cast c e) γ at scope S C x) (accept_injective u')
-        (record {
-          views = (i.accepted b p).views;
-          declared = declared_known (class c) d;
-          looks = (i.accepted b p).looks;
-        });
-  }
+  cast_is {e} {γ} {S} {C} {scope} c at x r z w f =
+      let node : type_of (world P) (cast c e) (at + 1) γ
+      ≡ require (is_declared (world P) c) 4 (at + 1) λ _. require (not_bool w.a.type) 9 (at + 1) λ _.
+      typed (known (class c)) w.a.slots w.a.effect = bind_accepted _ _ w.a w.typed_at in
+      record {
+        out = f ∙ (ap (cast_answer R count at) w.is ∙ (casts c at w.a z
+            ∙ (ap (λ (n : ℕ). answer_of (require (leb c n) 4 (at + 1) λ _. require (not_bool w.a.type) 9
+            (at + 1) λ _. typed (known (class c)) w.a.slots w.a.effect)) (sym h.counted)
+            ∙ sym (ap answer_of node))));
+        accepted = λ a q. require_inv (is_declared (world P) c) 4 (at + 1) _ (sym node ∙ q) λ d u.
+            require_inv (not_bool w.a.type) 9 (at + 1) _ u λ d' u'.
+            subst (λ (y : Typed). Accepted (world P) (cast c e) γ at scope S C y) (accept_injective u')
+            (record {
+              views = w.accepted.views;
+              declared = declared_known (class c) d;
+              looks = w.accepted.looks;
+            });
+      }
 
   -- ---- A
 
   assigns : (S : List ℕ) (scope k at : ℕ) (a : Typed) → Views (world P) a.slots S scope → scope ≤ length S
       → Declared (world P) a.type → get_or R (at * 4 + 1) 0 ≡ k
-      → assigned R A S at scope (answer_of (accept a))
+      → assigned R A S at scope (typed_case (typing_case a.type) a.effect)
       ≡ answer_of (require (not (eqb k 0)) 7 (at + 1) λ _. need_checked (at_slot a.slots k) 7 (at + 1) λ s.
       require (fits (world P) a.type s.current) 9 (at + 1) λ _. accept a)
   unfolding assigned require need_checked
-  assigns S scope zero at a v l d e = rw (e, not_refused a.type)
+  assigns S scope zero at a v l d e = rw e
   assigns S scope (suc k) at a v l d e =
-      rw (e, not_refused a.type, ne_eqb (suc k) 0 (λ z. omega arith)) (go (nth a.slots.slots k) refl)
+      rw (e, ne_eqb (suc k) 0 (λ z. omega arith)) (go (nth a.slots.slots k) refl)
     where
       fit : (s : Slot) (b : Bool) → fits (world P) a.type s.current ≡ b
-          → cond b (answer (typing_case a.type) a.effect) (refusal 9 at)
+          → cond b (answer (typing_case a.type) a.effect) (refused 9 at)
           ≡ answer_of (require b 9 (at + 1) λ _. accept a)
       fit s true q = refl
       fit s false q = refl
 
       go : (o : Option Slot) → nth a.slots.slots k ≡ o
-          → cond (leb scope (suc k)) (refusal 7 at)
+          → cond (leb scope (suc k)) (refused 7 at)
           (cond (is_fitting A (typing_case a.type) (current_in (get_or S (suc k) 0)))
-          (answer (typing_case a.type) a.effect) (refusal 9 at))
+          (answer (typing_case a.type) a.effect) (refused 9 at))
           ≡ answer_of (need_checked o 7 (at + 1) λ s. require (fits (world P) a.type s.current) 9
           (at + 1) λ _. accept a)
       go none q = ⊎_elim
@@ -154,32 +151,29 @@ module _ {p : Program} {R E T A M F : List ℕ} {count : ℕ} (h : Headed R E T 
           (v.current (suc k) s q) in
           rw (lt-leb scope (suc k) w.0, w.1, x) (fit s (fits (world P) a.type s.current) refl)
 
-  pub assign_is : {e : Expr} {γ : Environment} {S C : List ℕ} {scope : ℕ} (k at : ℕ) (child r : Answer)
+  pub assign_is : {e : Expr} {γ : Environment} {S C : List ℕ} {scope : ℕ} (k at : ℕ) (x : TypedCase) (r : Answer)
       → get_or R (at * 4 + 1) 0 ≡ k → scope ≤ length S
-      → Is (world P) e γ (at + 1) scope S C child → r ≡ assigned R A S at scope child
+      → Did (world P) e γ (at + 1) scope S C x → r ≡ assigned R A S at scope x
       → Is (world P) (assign k e) γ at scope S C r
-  unfolding type_of LooksUp bind_checked assigned
-  assign_is {e} {γ} {S} {C} {scope} k at child r z l i f = record {
-    out = f ∙ (ap (assigned R A S at scope) i.out ∙ go (type_of (world P) e (at + 1 + 1) γ) refl);
-    accepted = λ a q. bind_checked_inv (type_of (world P) e (at + 1 + 1) γ) _ q λ b p w.
-        require_inv (not (eqb k 0)) 7 (at + 1) _ w λ d u.
-        need_checked_inv (at_slot b.slots k) 7 (at + 1) _ u λ s p' u'.
-        require_inv (fits (world P) b.type s.current) 9 (at + 1) _ u' λ d' u''.
-        subst (λ (x : Typed). Accepted (world P) (assign k e) γ at scope S C x) (accept_injective u'')
-        (record {
-          views = (i.accepted b p).views;
-          declared = (i.accepted b p).declared;
-          looks = (i.accepted b p).looks;
-        });
-  }
-    where
-      go : (q : Checked Typed) → type_of (world P) e (at + 1 + 1) γ ≡ q
-          → assigned R A S at scope (answer_of q)
-          ≡ answer_of (bind_checked q λ a. require (not (eqb k 0)) 7 (at + 1) λ _. need_checked
-          (at_slot a.slots k) 7 (at + 1) λ s.
-          require (fits (world P) a.type s.current) 9 (at + 1) λ _. accept a)
-      go (accept a) p = let x = i.accepted a p in assigns S scope k at a x.views l x.declared z
-      go (refuse n m) p = refl
+  unfolding type_of LooksUp
+  assign_is {e} {γ} {S} {C} {scope} k at x r z l w f =
+      let node : type_of (world P) (assign k e) (at + 1) γ
+      ≡ require (not (eqb k 0)) 7 (at + 1) λ _. need_checked (at_slot w.a.slots k) 7 (at + 1) λ s.
+      require (fits (world P) w.a.type s.current) 9 (at + 1) λ _. accept w.a =
+      bind_accepted _ _ w.a w.typed_at in
+      record {
+        out = f ∙ (ap (assigned R A S at scope) w.is
+            ∙ (assigns S scope k at w.a w.accepted.views l w.accepted.declared z ∙ sym (ap answer_of node)));
+        accepted = λ a q. require_inv (not (eqb k 0)) 7 (at + 1) _ (sym node ∙ q) λ d u.
+            need_checked_inv (at_slot w.a.slots k) 7 (at + 1) _ u λ s p' u'.
+            require_inv (fits (world P) w.a.type s.current) 9 (at + 1) _ u' λ d' u''.
+            subst (λ (y : Typed). Accepted (world P) (assign k e) γ at scope S C y) (accept_injective u'')
+            (record {
+              views = w.accepted.views;
+              declared = w.accepted.declared;
+              looks = w.accepted.looks;
+            });
+      }
 
   -- ---- G
 
@@ -194,7 +188,7 @@ module _ {p : Program} {R E T A M F : List ℕ} {count : ℕ} (h : Headed R E T 
       → got R T at (typing_case a.type) a.effect
       ≡ answer_of (need_class a.type 9 (at + 1) λ c. need_checked (field_type f ((world P).fields c)) 8
       (at + 1) λ t. typed (known t) a.slots a.effect)
-  unfolding got not_class need_class
+  unfolding got need_class
   gets f at a m d e = go a.type d
     where
       go : (t : ExprType) → Declared (world P) t → got R T at (typing_case t) a.effect
@@ -218,10 +212,9 @@ module _ {p : Program} {R E T A M F : List ℕ} {count : ℕ} (h : Headed R E T 
     where
       go : (s : Sought) → (length (noted C at c s) ≡ length C) ×
           ((i : ℕ) → (i ≡ at → ⊥) → get_or (noted C at c s) i 0 ≡ get_or C i 0)
-      go Missing = (refl, λ i n. refl)
-      go (Found u) = (length-set C at c, λ i n. get_or-set_other C at i c 0 n)
+      go None = (refl, λ i n. refl)
+      go (Some u) = (length-set C at c, λ i n. get_or-set_other C at i c 0 n)
   got_kept C at Null = (refl, λ i n. refl)
-  got_kept C at (Refusal n l) = (refl, λ i n. refl)
 
   got_noted : (C : List ℕ) (c f at : ℕ) (t : DeclaredType) → at < length C → c ≤ count → f < 256
       → get_or R (at * 4 + 1) 0 ≡ f → field_type f ((world P).fields c) ≡ some t
@@ -229,43 +222,39 @@ module _ {p : Program} {R E T A M F : List ℕ} {count : ℕ} (h : Headed R E T 
   unfolding got_classes noted
   got_noted C c f at t l m n e q = rw (e, field_is h c f m n, q) (get_or-set_same C at c 0 l)
 
-  pub get_is : {e : Expr} {γ : Environment} {S C C' : List ℕ} {scope : ℕ} (f at : ℕ) (child r : Answer)
+  pub get_is : {e : Expr} {γ : Environment} {S C C' : List ℕ} {scope : ℕ} (f at : ℕ) (x : TypedCase) (r : Answer)
       → get_or R (at * 4 + 1) 0 ≡ f → f < 256
-      → Is (world P) e γ (at + 1) scope S C child → r ≡ got R T at child.typing child.effect
-      → C' ≡ got_classes R T C at child.typing
+      → Did (world P) e γ (at + 1) scope S C x → r ≡ got R T at x.typing x.effect
+      → C' ≡ got_classes R T C at x.typing
       → Is (world P) (get f e) γ at scope S C' r
-  unfolding type_of LooksUp bind_checked got not_class
-  get_is {e} {γ} {S} {C} {C'} {scope} f at child r z m i x y = record {
-    out = x ∙ (ap (λ (w : Answer). got R T at w.typing w.effect) i.out ∙ go
-        (type_of (world P) e (at + 1 + 1) γ) refl);
-    accepted = λ a q. bind_checked_inv (type_of (world P) e (at + 1 + 1) γ) _ q λ b p w.
-        class_inv b.type 9 (at + 1) _ w λ c tc u.
-        need_checked_inv (field_type f ((world P).fields c)) 8 (at + 1) _ u λ t ft u'.
-        let ac = i.accepted b p in
-        let ct : child.typing ≡ class_case c = ap (λ (w : Answer). w.typing) i.out
-        ∙ (ap (λ (w : Checked Typed). (answer_of w).typing) p ∙ ap typing_case tc) in
-        let l : c ≤ count = type_low h b.type ac.declared c tc in
-        let cc' : C' ≡ got_classes R T C at (class_case c) = y ∙ ap (got_classes R T C at) ct in
-        let k = got_kept C at (class_case c) in
-        let long : length C' ≡ length C = ap length cc' ∙ k.0 in
-        let here : Notes C' at c = λ n. ap (λ (w : List ℕ). get_or w at 0) cc'
-        ∙ got_noted C c f at t (omega (arith, n, long)) l m z ft in
-        let lf : type_of (world P) e 0 γ ≡ accept b = line_free (world P) e (at + 1 + 1) 0 γ p in
-        subst (λ (w : Typed). Accepted (world P) (get f e) γ at scope S C' w) (accept_injective u')
-        (record {
-          views = ac.views;
-          declared = declared_known t (field_declared h c f l m t ft);
-          looks = (
-            (λ n. here n ∙ sym (ap (λ (w : Checked Typed). class_or (typed_or w).type) lf ∙ ap class_or tc)),
-            looks_frame (world P) C C' long e γ (at + 1)
-                (λ j u v. ap (λ (w : List ℕ). get_or w j 0) cc' ∙ k.1 j (λ z. omega arith)) ac.looks,
-          );
-        });
-  }
-    where
-      go : (q : Checked Typed) → type_of (world P) e (at + 1 + 1) γ ≡ q
-          → got R T at (answer_of q).typing (answer_of q).effect
-          ≡ answer_of (bind_checked q λ a. need_class a.type 9 (at + 1) λ c. need_checked
-          (field_type f ((world P).fields c)) 8 (at + 1) λ t. typed (known t) a.slots a.effect)
-      go (accept a) p = gets f at a m (i.accepted a p).declared z
-      go (refuse k l) p = refl
+  unfolding type_of LooksUp
+  get_is {e} {γ} {S} {C} {C'} {scope} f at x r z m w v y =
+      let b = w.a in
+      let ac = w.accepted in
+      let node : type_of (world P) (get f e) (at + 1) γ
+      ≡ need_class b.type 9 (at + 1) λ c. need_checked (field_type f ((world P).fields c)) 8 (at + 1) λ t.
+      typed (known t) b.slots b.effect = bind_accepted _ _ b w.typed_at in
+      record {
+        out = v ∙ (ap (λ (u : TypedCase). got R T at u.typing u.effect) w.is
+            ∙ (gets f at b m ac.declared z ∙ sym (ap answer_of node)));
+        accepted = λ a q. class_inv b.type 9 (at + 1) _ (sym node ∙ q) λ c tc u.
+            need_checked_inv (field_type f ((world P).fields c)) 8 (at + 1) _ u λ t ft u'.
+            let ct : x.typing ≡ class_case c = ap (λ (u : TypedCase). u.typing) w.is ∙ ap typing_case tc in
+            let l : c ≤ count = type_low h b.type ac.declared c tc in
+            let cc' : C' ≡ got_classes R T C at (class_case c) = y ∙ ap (got_classes R T C at) ct in
+            let k = got_kept C at (class_case c) in
+            let long : length C' ≡ length C = ap length cc' ∙ k.0 in
+            let here : Notes C' at c = λ n. ap (λ (u : List ℕ). get_or u at 0) cc'
+            ∙ got_noted C c f at t (omega (arith, n, long)) l m z ft in
+            let lf : type_of (world P) e 0 γ ≡ accept b = line_free (world P) e (at + 1 + 1) 0 γ w.typed_at in
+            subst (λ (u : Typed). Accepted (world P) (get f e) γ at scope S C' u) (accept_injective u')
+            (record {
+              views = ac.views;
+              declared = declared_known t (field_declared h c f l m t ft);
+              looks = (
+                (λ n. here n ∙ sym (ap (λ (u : Checked Typed). class_or (typed_or u).type) lf ∙ ap class_or tc)),
+                looks_frame (world P) C C' long e γ (at + 1)
+                    (λ j u v. ap (λ (w : List ℕ). get_or w j 0) cc' ∙ k.1 j (λ z. omega arith)) ac.looks,
+              );
+            });
+      }

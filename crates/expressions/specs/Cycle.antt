@@ -1,10 +1,12 @@
 -- What the functions of the typing cycle require and ensure. The slots in scope stand from 0 on, slot 0 for
 -- `this`; from a scope's top on the slots are free.
-use Rattle.std.specs.Prelude.{◌≡◌, true, ◌⊎◌, List, map, ℕ, ◌+◌, ◌*◌, ◌≤◌, ◌<◌, length, get_or, take}
+use Rattle.std.specs.Prelude.{Result, ◌≡◌, true, ◌⊎◌, List, map, ℕ, ◌+◌, ◌*◌, ◌≤◌, ◌<◌, length, get_or, take}
 use Rattle.std.proofs.Math.Option.{some}
-use Rattle.language.specs.Results.{accept, bind_checked}
+use Rattle.language.specs.Results.{Checked, accept, bind_checked}
+use Rattle.language.specs.declared.Refusal.{Refusal}
+use Rattle.language.specs.Refusals.{result_of}
 use Rattle.language.specs.Frames.{at_slot}
-use Rattle.language.specs.Tree.{ExprType, known, null_type, class, Expr, Exprs, count as how_many, sizes}
+use Rattle.language.specs.Tree.{ExprType, known, class, Expr, Exprs, count as how_many, sizes}
 use Rattle.language.specs.Tree.{Program}
 use Rattle.language.specs.Lists.{nth}
 use Rattle.language.specs.World.{World, is_declared_type}
@@ -19,9 +21,9 @@ use Rattle.language.specs.Rows.{A_assign, G_get, K_cast, Z_is_null, code}
 use Rattle.language.specs.Limits.{of_check}
 use Rattle.layout.specs.Held.{Headed}
 use Rattle.layout.specs.NodeForms.{of_width}
-use Rattle.types.specs.declared.Answer.{Answer}
+use Rattle.types.specs.declared.Typed.{Typed as TypedCase}
 use Rattle.types.specs.declared.slots.Scope.{Scope}
-use Rattle.types.specs.Answers.{answer_of, typing_case, case_number, numbers}
+use Rattle.types.specs.Answers.{Answer, answer_of, typing_case, case_number, numbers}
 
 -- A row with the letter of a node of one child.
 abbrev pub Unary : List ℕ → ℕ → Type 0
@@ -137,13 +139,13 @@ pub record AcceptedAll (W : World) (es : Exprs) (γ : Environment) (at scope : �
   pub looks : LooksUpAll W C' es γ at
 
 -- A block's list after those that gave `last`, of type t: the last type, and the effects joined to those so far.
-pub record ItemsAre (W : World) (es : Exprs) (γ : Environment) (at scope : ℕ) (S' C' : List ℕ) (last : Answer)
+pub record ItemsAre (W : World) (es : Exprs) (γ : Environment) (at scope : ℕ) (S' C' : List ℕ) (last : TypedCase)
     (t : ExprType) (r : Answer) : Type 0 where
   pub out : r ≡ answer_of (bind_checked (type_all W es (at + 1) γ) λ b. typed (last_type t b.types)
       b.slots (join last.effect b.effect))
   pub accepted : (b : TypedAll) → type_all W es (at + 1) γ ≡ accept b → AcceptedAll W es γ at scope S' C' b
 
-pub record PostItems (R E T A M F S C S' C' : List ℕ) (at : ℕ) (scope : Scope) (n : ℕ) (last r : Answer) :
+pub record PostItems (R E T A M F S C S' C' : List ℕ) (at : ℕ) (scope : Scope) (n : ℕ) (last : TypedCase) (r : Answer) :
     Type 0 where
   pub slots_long : length S' ≡ length S
   pub classes_long : length C' ≡ length C
@@ -158,16 +160,19 @@ pub record PostItems (R E T A M F S C S' C' : List ℕ) (at : ℕ) (scope : Scop
 unfoldable pub stored : List ExprType → List ℕ
 stored ts = map (λ (t : ExprType). case_number (typing_case t)) ts
 
+-- What is answered of a call's arguments: their effects joined.
+abbrev pub effects_of : Checked TypedAll → Result ℕ Refusal
+effects_of q = result_of (λ (b : TypedAll). b.effect) q
+
 -- A call's arguments: their effects joined, and their types stored from the top on.
 pub record ArgumentsAre (W : World) (es : Exprs) (γ : Environment) (at scope top n : ℕ) (S' C' : List ℕ)
-    (r : Answer) : Type 0 where
-  pub out : r ≡ answer_of (bind_checked (type_all W es (at + 1) γ) λ b. typed null_type b.slots
-      b.effect)
+    (r : Result ℕ Refusal) : Type 0 where
+  pub out : r ≡ effects_of (type_all W es (at + 1) γ)
   pub accepted : (b : TypedAll) → type_all W es (at + 1) γ ≡ accept b → AcceptedAll W es γ at scope S' C' b
   pub waiting : (b : TypedAll) → type_all W es (at + 1) γ ≡ accept b → (i : ℕ) → i < n
       → get_or S' (top + i) 0 ≡ get_or (stored b.types) i 0
 
-pub record PostArguments (R E T A M F S C S' C' : List ℕ) (at : ℕ) (scope : Scope) (n : ℕ) (r : Answer) :
+pub record PostArguments (R E T A M F S C S' C' : List ℕ) (at : ℕ) (scope : Scope) (n : ℕ) (r : Result ℕ Refusal) :
     Type 0 where
   pub slots_long : length S' ≡ length S
   pub classes_long : length C' ≡ length C

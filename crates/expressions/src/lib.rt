@@ -7,9 +7,9 @@ ghost use Rattle.expressions.specs.Cycle.{raised, Unary, Pre, Post, PreList, Pos
 
 use access::fields::{get, set};
 use access::methods::{invoke, too_many};
-use language::{first, letter_at, second};
+use language::{Refusal, first, letter_at, second};
 use types::slots::{Scope, save, store_type, swap};
-use types::{Answer, Typing, is_refusal, plain};
+use types::{Typed, Typing, plain};
 use typing::nodes::{assign, cast, change, choice, create, open, read_slot, test_null};
 
 // No method has more parameters.
@@ -28,18 +28,16 @@ pub fn expression(
     class_at: &mut [u16],
     at: usize,
     scope: Scope,
-) -> Answer
+) -> Result<Typed, Refusal>
     requires { Pre rows.now ends.now table.now above.now methods.now effects.now slots.old
         at scope }
     ensures { Post rows.now ends.now table.now above.now
         methods.now effects.now slots.old class_at.old
         slots.new class_at.new at scope result }
 {
-    let letter = letter_at(rows, at);
-    match letter {
-        language::TRUE => plain(Typing::Bool),
-        language::FALSE => plain(Typing::Bool),
-        language::NULL => plain(Typing::Null),
+    match letter_at(rows, at) {
+        language::TRUE | language::FALSE => Ok(plain(Typing::Bool)),
+        language::NULL => Ok(plain(Typing::Null)),
         language::SLOT => read_slot(rows, slots, at, scope),
         language::NEW => create(rows, at, scope),
         language::CHANGE => change(rows, table, slots, at, scope),
@@ -74,7 +72,7 @@ fn unary(
     class_at: &mut [u16],
     at: usize,
     scope: Scope,
-) -> Answer
+) -> Result<Typed, Refusal>
     requires unary { Unary rows.now at }
     requires pre { Pre rows.now ends.now table.now above.now methods.now effects.now slots.old
         at scope }
@@ -93,9 +91,8 @@ fn unary(
         class_at,
         at + 1,
         scope,
-    );
-    let letter = letter_at(rows, at);
-    match letter {
+    )?;
+    match letter_at(rows, at) {
         language::IS_NULL => test_null(child, at),
         language::GET => get(rows, table, class_at, at, child),
         language::CAST => cast(rows, at, scope, child),
@@ -116,7 +113,7 @@ fn write(
     class_at: &mut [u16],
     at: usize,
     scope: Scope,
-) -> Answer
+) -> Result<Typed, Refusal>
     requires at_value { get_or rows.now (at * 4) 0 ≡ code U_set }
     requires pre { Pre rows.now ends.now table.now above.now methods.now effects.now slots.old
         at scope }
@@ -135,17 +132,11 @@ fn write(
         class_at,
         at + 1,
         scope,
-    );
-    if is_refusal(object) {
-        return object;
-    }
+    )?;
     let next = ends[at + 1] as usize;
     let value = expression(
         rows, ends, table, above, methods, effects, slots, class_at, next, scope,
-    );
-    if is_refusal(value) {
-        return value;
-    }
+    )?;
     set(rows, table, above, class_at, at, object, value)
 }
 
@@ -162,7 +153,7 @@ fn call(
     class_at: &mut [u16],
     at: usize,
     scope: Scope,
-) -> Answer
+) -> Result<Typed, Refusal>
     requires at_value { get_or rows.now (at * 4) 0 ≡ code Q_call }
     requires pre { Pre rows.now ends.now table.now above.now methods.now effects.now slots.old
         at scope }
@@ -181,14 +172,11 @@ fn call(
         class_at,
         at + 1,
         scope,
-    );
-    if is_refusal(receiver) {
-        return receiver;
-    }
+    )?;
     let next = ends[at + 1] as usize;
     let n = second(rows, at) as usize;
     if MOST_ARGUMENTS < n {
-        let many = items(
+        items(
             rows,
             ends,
             table,
@@ -201,27 +189,14 @@ fn call(
             scope,
             n,
             plain(Typing::Null),
-        );
-        return too_many(receiver, many, at);
+        )?;
+        return Err(too_many(receiver.typing, at));
     }
     let given = arguments(
         rows, ends, table, above, methods, effects, slots, class_at, next, scope, n,
-    );
-    if is_refusal(given) {
-        return given;
-    }
+    )?;
     invoke(
-        rows,
-        table,
-        above,
-        methods,
-        effects,
-        slots,
-        class_at,
-        at,
-        scope,
-        receiver,
-        given.effect,
+        rows, table, above, methods, effects, slots, class_at, at, scope, receiver, given,
     )
 }
 
@@ -238,7 +213,7 @@ fn choose(
     class_at: &mut [u16],
     at: usize,
     scope: Scope,
-) -> Answer
+) -> Result<Typed, Refusal>
     requires at_value { get_or rows.now (at * 4) 0 ≡ code J_choose }
     requires pre { Pre rows.now ends.now table.now above.now methods.now effects.now slots.old
         at scope }
@@ -257,34 +232,21 @@ fn choose(
         class_at,
         at + 1,
         scope,
-    );
-    if is_refusal(condition) {
-        return condition;
-    }
+    )?;
     let first = ends[at + 1] as usize;
     save(slots, scope.size, scope.top);
-    let top = scope.top + scope.size;
     let arm = Scope {
-        count: scope.count,
-        class: scope.class,
-        size: scope.size,
-        width: scope.width,
-        top,
+        top: scope.top + scope.size,
+        ..scope
     };
     let yes = expression(
         rows, ends, table, above, methods, effects, slots, class_at, first, arm,
-    );
-    if is_refusal(yes) {
-        return yes;
-    }
+    )?;
     let second = ends[first] as usize;
     swap(slots, scope.size, scope.top);
     let no = expression(
         rows, ends, table, above, methods, effects, slots, class_at, second, arm,
-    );
-    if is_refusal(no) {
-        return no;
-    }
+    )?;
     choice(table, above, slots, at, scope, condition, yes, no)
 }
 
@@ -301,7 +263,7 @@ fn block(
     class_at: &mut [u16],
     at: usize,
     scope: Scope,
-) -> Answer
+) -> Result<Typed, Refusal>
     requires at_value { get_or rows.now (at * 4) 0 ≡ code B_block }
     requires pre { Pre rows.now ends.now table.now above.now methods.now effects.now slots.old
         at scope }
@@ -311,17 +273,10 @@ fn block(
 {
     let v = first(rows, at) as usize;
     let n = second(rows, at) as usize;
-    let opened = open(rows, slots, at, scope, v);
-    if is_refusal(opened) {
-        return opened;
-    }
-    let size = scope.size + v;
+    open(rows, slots, at, scope, v)?;
     let inner = Scope {
-        count: scope.count,
-        class: scope.class,
-        size,
-        width: scope.width,
-        top: scope.top,
+        size: scope.size + v,
+        ..scope
     };
     items(
         rows,
@@ -335,7 +290,7 @@ fn block(
         at + 1 + v,
         inner,
         n,
-        opened,
+        plain(Typing::Null),
     )
 }
 
@@ -353,8 +308,8 @@ fn items(
     at: usize,
     scope: Scope,
     n: usize,
-    last: Answer,
-) -> Answer
+    last: Typed,
+) -> Result<Typed, Refusal>
     requires { PreList rows.now ends.now table.now above.now methods.now effects.now slots.old
         at scope n }
     ensures { PostItems rows.now ends.now table.now
@@ -363,26 +318,20 @@ fn items(
 {
     let mut so_far = last;
     let mut next = at;
-    let mut left = n;
-    while left > 0 {
+    for _ in 0..n {
         let r = expression(
             rows, ends, table, above, methods, effects, slots, class_at, next, scope,
-        );
-        if is_refusal(r) {
-            return r;
-        }
-        let t = r.typing;
-        so_far = Answer {
-            typing: t,
+        )?;
+        so_far = Typed {
+            typing: r.typing,
             effect: so_far.effect | r.effect,
         };
         next = ends[next] as usize;
-        left -= 1;
     }
-    so_far
+    Ok(so_far)
 }
 
-// n arguments in a row. Their types are stored from the scope's top on, each with the effects of the later ones applied.
+// n arguments in a row: their effects joined. Their types are stored from the scope's top on, each with the effects of the later ones applied.
 #[cycle(arguments_block_call_choose_expression_items_unary_write)]
 fn arguments(
     rows: &[u32],
@@ -396,7 +345,7 @@ fn arguments(
     at: usize,
     scope: Scope,
     n: usize,
-) -> Answer
+) -> Result<u64, Refusal>
     requires width_le_top { scope.width ≤ scope.top }
     requires pre_list { PreList rows.now ends.now table.now above.now methods.now effects.now slots.old
         at (raised scope n) n }
@@ -404,32 +353,19 @@ fn arguments(
         above.now methods.now effects.now slots.old
         class_at.old slots.new class_at.new at scope n result }
 {
-    let top = scope.top;
     let mut effect = 0;
     let mut next = at;
-    let mut i = 0;
-    while i < n {
-        let place = top + i;
+    for i in 0..n {
         let own = Scope {
-            count: scope.count,
-            class: scope.class,
-            size: scope.size,
-            width: scope.width,
-            top: place,
+            top: scope.top + i,
+            ..scope
         };
         let r = expression(
             rows, ends, table, above, methods, effects, slots, class_at, next, own,
-        );
-        if is_refusal(r) {
-            return r;
-        }
-        store_type(table, slots, top, i, r);
+        )?;
+        store_type(table, slots, scope.top, i, r);
         effect |= r.effect;
         next = ends[next] as usize;
-        i += 1;
     }
-    Answer {
-        typing: Typing::Null,
-        effect,
-    }
+    Ok(effect)
 }

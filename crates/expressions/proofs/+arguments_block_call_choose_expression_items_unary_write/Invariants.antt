@@ -29,11 +29,11 @@ decreases-expression l = (60000 - l.at) * 4 + 1
 abbrev pub decreases-items : goal.decreases-items
 decreases-items l = (60000 - l.at) * 4 + 2
 
-abbrev pub invariant-items-loop-left : goal.invariant-items-loop-left
-invariant-items-loop-left l = ItemsLoop l.rows l.ends l.table l.above l.methods l.effects l.initial.slots l.initial.class_at l.at l.scope l.n l.initial.so_far l.slots l.class_at l.so_far l.next l.left
+abbrev pub invariant-items-loop : goal.invariant-items-loop
+invariant-items-loop l = ItemsLoop l.rows l.ends l.table l.above l.methods l.effects l.initial.slots l.initial.class_at l.at l.scope l.n l.initial.so_far l.slots l.class_at l.so_far l.next (l.n - l.counter)
 
-abbrev pub decreases-items-loop-left : goal.decreases-items-loop-left
-decreases-items-loop-left l = l.left
+abbrev pub decreases-items-loop : goal.decreases-items-loop
+decreases-items-loop l = l.n - l.counter
 
 abbrev pub decreases-unary : goal.decreases-unary
 decreases-unary l = (60000 - l.at) * 4
