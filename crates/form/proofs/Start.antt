@@ -14,7 +14,7 @@ use Rattle.language.specs.Form.{after, record_on, next, body, at_end, form}
 use Rattle.language.specs.Tables.{ends_of, classes_ends, program_ends}
 use Rattle.language.proofs.Tables.{ends_long, classes_ends_long}
 use Rattle.language.proofs.Filling.{sets_then}
-use Rattle.parsing.specs.declared.lines.Limits.{Limits}
+use Rattle.parsing.specs.declared.limits.Limits.{Limits}
 use Rattle.parsing.specs.Columns.{most_of}
 use Rattle.parsing.specs.Places.{rows_from, row_checked}
 use Rattle.parsing.specs.Passes.{Step, ToldNode}

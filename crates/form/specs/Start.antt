@@ -7,7 +7,7 @@ use Rattle.language.specs.Rows.{Row, S_start, same_letter}
 use Rattle.language.specs.Tree.{size, Class, Program}
 use Rattle.language.specs.Form.{after, next, body, at_end}
 use Rattle.language.specs.Tables.{ends_of}
-use Rattle.parsing.specs.declared.lines.Limits.{Limits}
+use Rattle.parsing.specs.declared.limits.Limits.{Limits}
 use Rattle.parsing.specs.Columns.{most_of}
 
 -- What follows the classes: the S line on line `line`, the start block, the end.

@@ -9,7 +9,7 @@ ghost use Rattle.language.specs.Rows.{rows_of};
 ghost use Rattle.language.specs.Tree.{Class, classes_lines, Program};
 ghost use Rattle.language.specs.Form.{at_end, form};
 ghost use Rattle.language.specs.Tables.{program_ends};
-ghost use Rattle.parsing.specs.Columns.{most_of, Fits};
+ghost use Rattle.parsing.specs.Columns.{most_of};
 ghost use Rattle.parsing.specs.Places.{rows_from, Ready};
 ghost use Rattle.form.specs.Start.{start_read, Started};
 ghost use Rattle.form.specs.Answers.{formed_of};
@@ -19,7 +19,8 @@ use language::{
     Refusal, START, letter_at,
 };
 use parsing::classes::pass_class;
-use parsing::lines::{Limits, check_row, is_letter, refusal_at};
+use parsing::limits::Limits;
+use parsing::lines::{check_row, is_letter, refusal_at};
 use parsing::nodes::pass_body;
 
 // What the pass finds of rows in form: how many classes there are, and the row of the S line.
@@ -37,7 +38,7 @@ fn finish(
     start: u32,
     limits: Limits,
 ) -> Result<Formed, Refusal>
-    requires { (length rows.now % 4 ≡ 0) × (at ≤ limits.rows) × Fits limits }
+    requires { (length rows.now % 4 ≡ 0) × (at ≤ limits.rows) }
     ensures { (p : Program) → length p.classes ≡ classes → classes_lines p.classes ≡ start
         → result ≡ formed_of (at_end (most_of limits) (at + 1) (rows_from rows.now at) p) }
 {
@@ -74,7 +75,7 @@ fn pass_start(
 // The pass: classes, as long as C lines come, then the start. It fills the table of ends.
 fn pass_form(rows: &[u32], ends: &mut [u16], limits: Limits) -> Result<Formed, Refusal>
     requires { (length rows.now % 4 ≡ 0) ×
-        ((length rows.now ≤ 4 * length ends.old) ⊎ (limits.rows ≤ length ends.old)) × Fits limits }
+        ((length rows.now ≤ 4 * length ends.old) ⊎ (limits.rows ≤ length ends.old)) }
     ensures { (result ≡ formed_of (form (most_of limits) (rows_of rows.now)))
         × ((p : Program) → form (most_of limits) (rows_of rows.now) ≡ accept p
         → ends.new ≡ program_ends p ++ drop (length (program_ends p)) ends.old) }

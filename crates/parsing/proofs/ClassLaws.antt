@@ -16,7 +16,7 @@ use Rattle.language.specs.Form.{Read, done, after, record_on, if_letter, maybe, 
 use Rattle.language.specs.Form.{class_of, classes}
 use Rattle.language.specs.Tables.{next_rows, method_ends, methods_ends, class_ends, classes_ends}
 use Rattle.language.proofs.Tables.{next_rows_long, method_ends_long, class_ends_long}
-use Rattle.parsing.specs.declared.lines.Limits.{Limits}
+use Rattle.parsing.specs.declared.limits.Limits.{Limits}
 use Rattle.parsing.specs.Columns.{most_of}
 use Rattle.parsing.specs.Places.{rows_from, row_at, has_code, standing, run, Ready, There}
 use Rattle.parsing.specs.Passes.{Step, ToldMethod, ToldMethods, ToldClass, ToldClasses, class_read}

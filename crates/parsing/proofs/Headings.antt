@@ -20,7 +20,7 @@ use Rattle.language.specs.Form.{body, method}
 use Rattle.language.specs.Tables.{next_rows, method_ends}
 use Rattle.language.proofs.Tables.{next_rows_long}
 use Rattle.language.proofs.Filling.{sets_then}
-use Rattle.parsing.specs.declared.lines.Limits.{Limits}
+use Rattle.parsing.specs.declared.limits.Limits.{Limits}
 use Rattle.parsing.specs.Columns.{most_of}
 use Rattle.parsing.specs.Places.{rows_from, has_code, run}
 use Rattle.parsing.specs.Passes.{Step, ToldNode, ToldMethod}

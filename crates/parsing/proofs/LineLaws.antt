@@ -17,7 +17,7 @@ use Rattle.language.specs.Rows.{code, Row}
 use Rattle.language.specs.Tree.{DeclaredType, type_of_number}
 use Rattle.language.specs.Form.{done, after, locals}
 use Rattle.language.specs.Tables.{next_rows}
-use Rattle.parsing.specs.declared.lines.Limits.{Limits}
+use Rattle.parsing.specs.declared.limits.Limits.{Limits}
 use Rattle.parsing.specs.Columns.{most_of}
 use Rattle.parsing.specs.Places.{rows_from, row_checked, standing, run, Ready, There}
 use Rattle.parsing.specs.Passes.{Step, ToldLocals}
@@ -36,7 +36,6 @@ end_room {L} r w i = ⊎_elim (λ h. omega (arith, h, i)) (λ h. omega (arith, h
 pub ready_at : {L : Limits} {R E E' : List ℕ} {at : ℕ} (q : ℕ) → Ready L R E at → length E' ≡ length E
     → q ≤ L.rows → q * 4 ≤ length R → Ready L R E' q
 ready_at {L} q r e w i = record {
-  fits = r.fits;
   whole = r.whole;
   room = rw e r.room;
   within = w;

@@ -17,7 +17,7 @@ use Rattle.language.specs.Form.{Read, done, after, several, locals, node_of, nod
 use Rattle.language.specs.Tables.{next_rows, ends_of, ends_list}
 use Rattle.language.proofs.Letters.{code_injective}
 use Rattle.language.proofs.Tables.{next_rows_long, ends_long}
-use Rattle.parsing.specs.declared.lines.Limits.{Limits}
+use Rattle.parsing.specs.declared.limits.Limits.{Limits}
 use Rattle.parsing.specs.Columns.{most_of}
 use Rattle.parsing.specs.Places.{rows_from, row_checked, some_parts, parts_of, parts_at, Ready, There}
 use Rattle.parsing.specs.Passes.{Step, ToldNode, ToldNodes, ToldLocals, Makes, parts_read}

@@ -13,7 +13,7 @@ use Rattle.language.proofs.Filling.{sets_then}
 use Rattle.std.specs.Prelude.{Ok, Err}
 use Rattle.language.specs.declared.Refusal.{Refusal}
 use Rattle.language.specs.Refusals.{refusal}
-use Rattle.parsing.specs.declared.lines.Limits.{Limits}
+use Rattle.parsing.specs.declared.limits.Limits.{Limits}
 use Rattle.parsing.specs.Places.{rows_from}
 use Rattle.parsing.specs.Passes.{Step, Tells, Told}
 

@@ -19,7 +19,7 @@ use Rattle.language.specs.Rows.{N_null, I_slot, Z_is_null, G_get, K_cast, W_new,
 use Rattle.language.specs.Rows.{Q_call, J_choose}
 use Rattle.language.specs.Form.{record_on, next}
 use Rattle.language.proofs.Letters.{among_code}
-use Rattle.parsing.specs.declared.lines.Limits.{Limits}
+use Rattle.parsing.specs.declared.limits.Limits.{Limits}
 use Rattle.parsing.specs.Columns.{most_of}
 use Rattle.parsing.specs.Places.{rows_from, row_at, row_checked, standing, name_at}
 use Rattle.parsing.specs.Places.{parts_of, parts_at, There}

@@ -14,7 +14,7 @@ use Rattle.language.specs.Tree.{get, cast, new, change, assign, set, call, choos
 use Rattle.language.specs.Tree.{count, size, sizes}
 use Rattle.language.specs.Form.{Read, done, after, several, locals, node_of, node}
 use Rattle.language.specs.Tables.{next_rows, ends_of, ends_list}
-use Rattle.parsing.specs.declared.lines.Limits.{Limits}
+use Rattle.parsing.specs.declared.limits.Limits.{Limits}
 use Rattle.parsing.specs.Columns.{most_of}
 use Rattle.parsing.specs.Places.{some_parts, parts_of}
 use Rattle.parsing.specs.Passes.{Makes, parts_read}

@@ -10,7 +10,7 @@ use Rattle.language.specs.Tree.{methods_lines, Class, class_lines, classes_lines
 use Rattle.language.specs.Form.{Read, done, after, several, locals, node, class_of, fields, methods}
 use Rattle.language.specs.Tables.{next_rows, ends_of, ends_list, method_ends, methods_ends, class_ends}
 use Rattle.language.specs.Tables.{classes_ends}
-use Rattle.parsing.specs.declared.lines.Limits.{Limits}
+use Rattle.parsing.specs.declared.limits.Limits.{Limits}
 use Rattle.parsing.specs.Columns.{most_of}
 use Rattle.parsing.specs.Places.{rows_from}
 

@@ -8,8 +8,8 @@ use Rattle.language.specs.Results.{Checked, accept, refuse}
 use Rattle.language.specs.Rows.{Letter, letters, code, letter_among, name_of, Record, Row, row, rows_of}
 use Rattle.language.specs.Rows.{Children, no_node, children, arguments, locals_and_nodes, shape}
 use Rattle.language.specs.Form.{record_on}
-use Rattle.parsing.specs.declared.lines.Limits.{Limits}
-use Rattle.parsing.specs.Columns.{most_of, Fits}
+use Rattle.parsing.specs.declared.limits.Limits.{Limits}
+use Rattle.parsing.specs.Columns.{most_of}
 use Rattle.parsing.specs.declared.nodes.Parts.{Parts}
 
 -- The rows from row `at` on, and the row there.
@@ -60,10 +60,9 @@ parts_of l a b = parts (shape l).nodes a b
 unfoldable pub parts_at : ℕ → ℕ → ℕ → Option Parts
 parts_at n a b = given (letter_among letters n) None λ l. parts_of l a b
 
--- What a pass may count on: limits that it can keep, whole rows, a table with an entry for each row that may be accepted,
+-- What a pass may count on: whole rows, a table with an entry for each row that may be accepted,
 -- a place that is no further than one past the last of these.
 pub record Ready (L : Limits) (numbers table : List ℕ) (at : ℕ) : Type 0 where
-  pub fits : Fits L
   pub whole : length numbers % 4 ≡ 0
   pub room : (length numbers ≤ 4 * length table) ⊎ (L.rows ≤ length table)
   pub within : at ≤ L.rows

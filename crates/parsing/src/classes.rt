@@ -6,7 +6,8 @@ ghost use Rattle.parsing.specs.Columns.{most_of};
 ghost use Rattle.parsing.specs.Places.{rows_from, Ready, There};
 ghost use Rattle.parsing.specs.Passes.{ToldMethod, ToldMethods, ToldClass, class_read};
 
-use super::lines::{Limits, is_letter, pass_lines, refusal_at};
+use super::limits::Limits;
+use super::lines::{is_letter, pass_lines, refusal_at};
 use super::nodes::pass_body;
 use language::{EFFECT, FIELD, LIMIT_REFUSAL, METHOD, MOST_PARAMETERS, PARAMETER, Refusal};
 

@@ -2,5 +2,6 @@
 #![tactic(auto)]
 
 pub mod classes;
+pub mod limits;
 pub mod lines;
 pub mod nodes;

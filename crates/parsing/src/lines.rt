@@ -5,25 +5,15 @@ ghost use Rattle.language.specs.Form.{locals};
 ghost use Rattle.language.specs.Limits.{of_check};
 ghost use Rattle.language.specs.Refusals.{refusal};
 ghost use Rattle.language.specs.Tables.{next_rows};
-ghost use Rattle.parsing.specs.Columns.{most_of, Fits};
+ghost use Rattle.parsing.specs.Columns.{most_of};
 ghost use Rattle.parsing.specs.Places.{rows_from, row_checked, standing, run, name_at, Ready, There};
 ghost use Rattle.parsing.specs.Passes.{ToldLocals};
 
+use super::limits::Limits;
 use language::{
     CALL, FIELD, GET, LIMIT_REFUSAL, LINE_REFUSAL, LOCAL, METHOD, MOST_NAME, NUMBERS_A_ROW,
     PLACE_REFUSAL, Refusal, SET, letter_at,
 };
-
-// What there may be at most: the numbers in which the columns of the table of limits differ (document 01, "Lines and rows").
-// `fields` is there for the contracts: how many fields a class has is no matter of this pass.
-#[derive(Clone, Copy)]
-pub struct Limits {
-    pub rows: usize,
-    pub classes: u32,
-    pub fields: u32,
-    pub slots: u32,
-    pub nesting: u32,
-}
 
 // A refusal on the line of a row.
 pub fn refusal_at(number: u32, at: usize) -> Refusal
@@ -53,7 +43,7 @@ fn name_of(code: u32, a: u32, b: u32) -> u32
 // too large.
 #[tactic(auto, using(crate::proofs::Places::row_past, crate::proofs::Places::row_malformed, crate::proofs::Places::row_over, crate::proofs::Places::row_named, crate::proofs::Places::row_taken))]
 pub fn check_row(rows: &[u32], at: usize, limits: Limits) -> Result<(), Refusal>
-    requires { (length rows.now % 4 ≡ 0) × (at ≤ limits.rows) × Fits limits }
+    requires { (length rows.now % 4 ≡ 0) × (at ≤ limits.rows) }
     ensures { (result ≡ row_checked limits (at + 1) (rows_from rows.now at)) ×
         OnOk result (There limits rows.now at) }
 {
@@ -76,7 +66,7 @@ pub fn check_row(rows: &[u32], at: usize, limits: Limits) -> Result<(), Refusal>
 // Does a record of this letter stand here.
 #[tactic(auto, using(crate::proofs::Places::here, crate::proofs::Places::standing_here, crate::proofs::Places::standing_refused))]
 pub fn is_letter(rows: &[u32], at: usize, letter: u32, limits: Limits) -> bool
-    requires { (length rows.now % 4 ≡ 0) × (at ≤ limits.rows) × Fits limits }
+    requires { (length rows.now % 4 ≡ 0) × (at ≤ limits.rows) }
     ensures { (result ≡ standing limits letter (at + 1) (rows_from rows.now at)) ×
         (result ≡ true → There limits rows.now at) }
 {

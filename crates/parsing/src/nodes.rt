@@ -7,7 +7,8 @@ ghost use Rattle.parsing.specs.Columns.{most_of};
 ghost use Rattle.parsing.specs.Places.{rows_from, parts_at, Ready, There};
 ghost use Rattle.parsing.specs.Passes.{ToldNode, ToldNodes, Makes, parts_read};
 
-use super::lines::{Limits, check_row, pass_locals, refusal_at};
+use super::limits::Limits;
+use super::lines::{check_row, pass_locals, refusal_at};
 use language::{
     ASSIGN, BLOCK, CALL, CAST, CHANGE, CHOOSE, FALSE, GET, IS_NULL, LIMIT_REFUSAL, NEW, NULL,
     PLACE_REFUSAL, Refusal, SET, SLOT, TRUE, first, letter_at, second,

@@ -12,7 +12,6 @@ use Rattle.form.proofs.pass_form.Goals as goal
 pub loop-limits-init : goal.loop-limits-init
 loop-limits-init c = classing_start c.args.rows.now c.args.ends.now
     (record {
-      fits = c.requires.2;
       whole = c.requires.0;
       room = c.requires.1;
       within = omega arith;

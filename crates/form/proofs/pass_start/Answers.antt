@@ -35,7 +35,6 @@ finish-requires c = (
   c.requires.whole,
   told_end (body (most_of c.args.limits) 1 (c.args.at + 1 + 1) (rows_from c.args.rows.now (c.args.at + 1)))
       c.in_ok-next.ensures refl λ e x y w o z. w,
-  c.requires.fits,
 )
 
 pub returns : goal.returns
