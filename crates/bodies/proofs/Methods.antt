@@ -1,13 +1,9 @@
 -- A method's verdict from what typing its body gives. Assumes nothing.
 use mathlib.Core.Path.{◌≡◌, refl, sym, ap, ap₂, subst, ◌∙◌}
 use mathlib.Core.Bool.{Bool, true, false}
-use mathlib.Core.Logic.{inl, inr, ⊎_elim}
-use mathlib.Core.List.{List, [], ◌∷◌}
+use mathlib.Core.List.{List}
 use Prim.Native.Nat.{ℕ, ◌+◌, ◌*◌, ◌≤◌, ◌<◌}
 use native.Mathlib.Omega.{arith}
-use borrow.Author.Tests.{eqb-false}
-use types.Run.{OneOf}
-use denote.Enum.Declared.{tag_of}
 use lib.ListN.{length, get_or}
 use Rattle.language.specs.Lists.{nth_lt}
 use Rattle.language.specs.Results.{accept, refuse, Pass, passed, accept≢refuse, bind_checked, require}
@@ -26,19 +22,19 @@ use Rattle.layout.specs.Found.{MethodHere, method_here}
 use Rattle.layout.specs.Headed.{MethodHeaded, method_headed, declared_nth}
 use Rattle.layout.specs.NodeForms.{of_width}
 use Rattle.types.specs.declared.Typing.{Typing}
-use Rattle.types.specs.declared.Typing.TheVariants.{Bool as Bool_case, Class as class_case, Null, Refusal}
-use Rattle.types.specs.declared.Answer.{Answer}
+use Rattle.std.specs.Prelude.{Ok, Err}
+use Rattle.language.specs.declared.Refusal.{Refusal}
+use Rattle.language.specs.Refusals.{refusal}
+use Rattle.language.proofs.Refusals.{result_err}
+use Rattle.types.specs.declared.Typed.{Typed as TypedCase}
 use Rattle.types.specs.declared.slots.Scope.{Scope}
-use Rattle.bodies.specs.declared.Verdict.{Verdict}
-use Rattle.bodies.specs.declared.Verdict.TheVariants.{Accepted, Refused}
-use Rattle.types.specs.Answers.{is_refusal, fresh_in}
+use Rattle.types.specs.Answers.{Answer, answered, fresh_in}
 use Rattle.types.specs.Tables.{CaseIn, is_fitting}
 use Rattle.expressions.specs.Cycle.{Given, Views, Pre, Post, Is, Accepted as Accepted_as}
 use Rattle.bodies.specs.Whole.{PreEnter, PostEnter, body_of, body_at, environment_of, type_numbered}
-use Rattle.bodies.specs.Whole.{PreMethodBody, PostMethodBody, verdict_of}
-use Rattle.types.specs.contracts.Typing.{the_type}
+use Rattle.bodies.specs.Whole.{PreMethodBody, PostMethodBody, Verdict, verdict_of}
 use Rattle.expressions.proofs.Worlds.{fitting_is}
-use Rattle.expressions.proofs.Turns.{answered, pre_of, post_is, case_low, type_low, accepted_of, refused_of}
+use Rattle.expressions.proofs.Turns.{pre_of, post_is, case_low, type_low, accepted_of}
 use Rattle.expressions.proofs.TypeNumbers.{type_number_case}
 use Rattle.expressions.proofs.TypeLines.{types_number}
 use Rattle.bodies.proofs.Placed.{placed_effect}
@@ -215,22 +211,6 @@ body_typed {M = M} {number = number} en q = record {
   is = λ w. (typed-is w en q, typed-kept w en q);
 }
 
--- not refused: accepted
-pub not_refusal : (t : Typing) → OneOf (0 ∷ 1 ∷ 2 ∷ []) (tag_of the_type t) → is_refusal t ≡ false
-not_refusal Bool_case k = refl
-not_refusal (class_case c) k = refl
-not_refusal Null k = refl
-not_refusal (Refusal n l) k =
-    absurd (⊎_elim (λ e. eqb-false 3 0 refl e)
-    (λ m. ⊎_elim (λ e. eqb-false 3 1 refl e) (λ e. eqb-false 3 2 refl e) m) k)
-
--- none of the refused ones: one of the others
-pub not_refusal_one : (t : Typing) → ((n l : ℕ) → t ≡ Refusal n l → ⊥) → OneOf (0 ∷ 1 ∷ 2 ∷ []) (tag_of the_type t)
-not_refusal_one Bool_case k = inl refl
-not_refusal_one (class_case c) k = inr (inl refl)
-not_refusal_one Null k = inr (inr refl)
-not_refusal_one (Refusal n l) k = absurd (k n l refl)
-
 -- the definition, by cases
 module _ (W : World) (number : ℕ) (m : PlacedMethod) where
   same_line : type_of W (body_of m) (m.row + 1 + heading_lines m.declaration) (environment_of m)
@@ -284,32 +264,25 @@ module _ {R E T A M F S C S₂ C₂ : List ℕ} {count width number : ℕ} {r : 
 
   -- A verdict that refuses.
   shown_refused : (w : PreMethodBody R E T A M F S count width number) (v : Verdict) (n l : ℕ)
-      → type_numbered (world w.p.classes) number w.m ≡ refuse n l → v ≡ Refused n l → Shown v w
+      → type_numbered (world w.p.classes) number w.m ≡ refuse n l → v ≡ Err (refusal n l) → Shown v w
   shown_refused w v n l e f = (f ∙ sym (ap verdict_of e), λ x. not_passed n l e x)
 
-  pub method_refused : (n l : ℕ) → r.typing ≡ Refusal n l
-      → PostMethodBody R E T A M F S C S₂ C₂ count width number (Refused n l)
-  method_refused n l e = whole (Refused n l) λ w.
+  pub method_refused : {f : Refusal} → r ≡ Err f
+      → PostMethodBody R E T A M F S C S₂ C₂ count width number (Err f)
+  method_refused {f} e = whole (Err f) λ w.
       let W = world w.p.classes in
       let m = w.m in
-      refused_of (type_of W (body_of m) (body_at m + 1) (environment_of m)) (b.is w).0.out
-      (ap is_refusal e) λ k j q o.
-      shown_refused w (Refused n l) k j (by_refusal W number m k j q)
-      (ap refusal-verdict (sym e ∙ ap (λ (x : Answer). x.typing) o))
-    where
-      refusal-verdict : Typing → Verdict
-      refusal-verdict Bool_case = Accepted
-      refusal-verdict (class_case c) = Accepted
-      refusal-verdict Null = Accepted
-      refusal-verdict (Refusal x y) = Refused x y
+      shown_refused w (Err f) f.number f.line (by_refusal W number m _ _
+      (result_err answered (type_of W (body_of m) (body_at m + 1) (environment_of m)) f
+      (sym (b.is w).0.out ∙ e))) refl
 
-  module _ (k : OneOf (0 ∷ 1 ∷ 2 ∷ []) (tag_of the_type r.typing)) where
+  module _ {x : TypedCase} (k : r ≡ Ok x) where
     -- What the body was accepted with.
     record BodyDid (w : PreMethodBody R E T A M F S count width number) : Type 0 where
       a : Typed
       typed_at : type_of (world w.p.classes) (body_of w.m) (body_at w.m + 1) (environment_of w.m)
           ≡ accept a
-      is : r ≡ answered a
+      is : x ≡ answered a
       accepted : Accepted_as (world w.p.classes) (body_of w.m) (environment_of w.m) (body_at w.m)
           b.scope S₂ C₂ a
 
@@ -317,51 +290,51 @@ module _ {R E T A M F S C S₂ C₂ : List ℕ} {count width number : ℕ} {r : 
     body-did w =
         let i = (b.is w).0 in
         accepted_of (type_of (world w.p.classes) (body_of w.m) (body_at w.m + 1)
-        (environment_of w.m)) i.out (not_refusal r.typing k) λ a q o.
+        (environment_of w.m)) i.out k λ a q o.
         record { a = a; typed_at = q; is = o; accepted = i.accepted a q }
 
-    pub body_case : PreMethodBody R E T A M F S count width number → CaseIn (length A) r.typing
-    body_case w = let x = body-did w in
-        subst (λ (y : Answer). CaseIn (length A) y.typing) (sym x.is)
-        (case_low w.headed x.a.type x.accepted.declared)
+    pub body_case : PreMethodBody R E T A M F S count width number → CaseIn (length A) x.typing
+    body_case w = let d = body-did w in
+        subst (λ (y : TypedCase). CaseIn (length A) y.typing) (sym d.is)
+        (case_low w.headed d.a.type d.accepted.declared)
 
     module _ (u : ℕ) (eu : u ≡ get_or R (get_or M (number * 4) 0 * 4 + 1) 0) (g : Bool)
-        (eg : g ≡ is_fitting A r.typing u) where
+        (eg : g ≡ is_fitting A x.typing u) where
       fits-of : (w : PreMethodBody R E T A M F S count width number)
           → g ≡ fits (world w.p.classes) (body-did w).a.type w.m.declaration.result
       fits-of w =
-          let x = body-did w in
-          eg ∙ (ap₂ (λ (t : Typing) (n : ℕ). is_fitting A t n) (ap (λ (y : Answer). y.typing) x.is)
+          let d = body-did w in
+          eg ∙ (ap₂ (λ (t : Typing) (n : ℕ). is_fitting A t n) (ap (λ (y : TypedCase). y.typing) d.is)
           (eu ∙ (ap (λ (n : ℕ). get_or R (n * 4 + 1) 0) (row_is w) ∙ (here w).at.line.first))
-          ∙ fitting_is w.headed x.a.type w.m.declaration.result
-          (type_low w.headed x.a.type x.accepted.declared) (declares w).result)
+          ∙ fitting_is w.headed d.a.type w.m.declaration.result
+          (type_low w.headed d.a.type d.accepted.declared) (declares w).result)
 
-      pub method_unfit : g ≡ false
-          → PostMethodBody R E T A M F S C S₂ C₂ count width number (Refused 9 (get_or M (number * 4) 0 + 1))
-      method_unfit z = whole (Refused 9 (get_or M (number * 4) 0 + 1)) λ w.
-          let x = body-did w in
-          shown_refused w (Refused 9 (get_or M (number * 4) 0 + 1)) 9 (w.m.row + 1)
-          (by-type (world w.p.classes) number w.m x.a x.typed_at (sym (fits-of w) ∙ z))
-          (ap (λ (n : ℕ). Refused 9 (n + 1)) (row_is w))
+      pub method_unfit : g ≡ false → {f : Refusal} → f ≡ refusal 9 (get_or M (number * 4) 0 + 1)
+          → PostMethodBody R E T A M F S C S₂ C₂ count width number (Err f)
+      method_unfit z {f} ef = whole (Err f) λ w.
+          let d = body-did w in
+          shown_refused w (Err f) 9 (w.m.row + 1)
+          (by-type (world w.p.classes) number w.m d.a d.typed_at (sym (fits-of w) ∙ z))
+          (ap Err (ef ∙ ap (λ (n : ℕ). refusal 9 (n + 1)) (row_is w)))
 
-      module _ (z : g ≡ true) (h : Bool) (eh : h ≡ within r.effect (get_or F number 0)) where
+      module _ (z : g ≡ true) (h : Bool) (eh : h ≡ within x.effect (get_or F number 0)) where
         within_of : (w : PreMethodBody R E T A M F S count width number)
             → h ≡ within (body-did w).a.effect ((world w.p.classes).effect number)
-        within_of w = eh ∙ ap₂ within (ap (λ (y : Answer). y.effect) (body-did w).is) (effect_is w)
+        within_of w = eh ∙ ap₂ within (ap (λ (y : TypedCase). y.effect) (body-did w).is) (effect_is w)
 
-        pub method_wide : h ≡ false
-            → PostMethodBody R E T A M F S C S₂ C₂ count width number (Refused 10 (get_or M (number * 4) 0 + 1))
-        method_wide y = whole (Refused 10 (get_or M (number * 4) 0 + 1)) λ w.
-            let x = body-did w in
-            shown_refused w (Refused 10 (get_or M (number * 4) 0 + 1)) 10 (w.m.row + 1)
-            (by-effect (world w.p.classes) number w.m x.a x.typed_at (sym (fits-of w) ∙ z)
+        pub method_wide : h ≡ false → {f : Refusal} → f ≡ refusal 10 (get_or M (number * 4) 0 + 1)
+            → PostMethodBody R E T A M F S C S₂ C₂ count width number (Err f)
+        method_wide y {f} ef = whole (Err f) λ w.
+            let d = body-did w in
+            shown_refused w (Err f) 10 (w.m.row + 1)
+            (by-effect (world w.p.classes) number w.m d.a d.typed_at (sym (fits-of w) ∙ z)
             (sym (within_of w) ∙ y))
-            (ap (λ (n : ℕ). Refused 10 (n + 1)) (row_is w))
+            (ap Err (ef ∙ ap (λ (n : ℕ). refusal 10 (n + 1)) (row_is w)))
 
         pub method_accepted : h ≡ true
-            → PostMethodBody R E T A M F S C S₂ C₂ count width number Accepted
-        method_accepted y = whole Accepted λ w.
-            let x = body-did w in
-            let e = by_both (world w.p.classes) number w.m x.a x.typed_at (sym (fits-of w) ∙ z)
+            → PostMethodBody R E T A M F S C S₂ C₂ count width number (Ok tt)
+        method_accepted y = whole (Ok tt) λ w.
+            let d = body-did w in
+            let e = by_both (world w.p.classes) number w.m d.a d.typed_at (sym (fits-of w) ∙ z)
             (sym (within_of w) ∙ y) in
-            (sym (ap verdict_of e), λ _. x.accepted.looks)
+            (sym (ap verdict_of e), λ _. d.accepted.looks)

@@ -1,11 +1,9 @@
 -- The pass over a program: each turn of its loop, and its end. Assumes nothing.
-use mathlib.Core.Path.{◌≡◌, refl, sym, ap, ap₂, ◌∙◌}
+use mathlib.Core.Path.{◌≡◌, refl, sym, ap, ◌∙◌}
 use mathlib.Core.Option.{some}
 use mathlib.Core.List.{List, [], ◌∷◌}
 use Prim.Native.Nat.{ℕ, suc, ◌+◌, ◌*◌, ◌≤◌, ◌<◌}
 use native.Mathlib.Omega.{arith}
-use types.Run.{OneOf}
-use denote.Enum.Declared.{tag_of}
 use lib.ListN.{length, get_or}
 use Rattle.language.specs.Lists.{nth}
 use Rattle.language.specs.Results.{accept, refuse, Pass, passed, bind_checked}
@@ -18,19 +16,18 @@ use Rattle.language.specs.LookupClasses.{LooksUp}
 use Rattle.language.specs.WellFormed.{Each, each_nil, each_cons}
 use Rattle.language.specs.MethodTables.{PlacedMethod, placed_methods}
 use Rattle.language.specs.Layout.{start_row}
-use Rattle.types.specs.declared.Typing.TheVariants.{Refusal}
-use Rattle.types.specs.declared.Answer.{Answer}
-use Rattle.bodies.specs.declared.Verdict.{Verdict}
-use Rattle.bodies.specs.declared.Verdict.TheVariants.{Accepted, Refused}
-use Rattle.types.specs.Answers.{is_refusal, absent, half}
+use Rattle.std.specs.Prelude.{Ok, Err}
+use Rattle.language.specs.declared.Refusal.{Refusal}
+use Rattle.language.proofs.Refusals.{result_err}
+use Rattle.types.specs.declared.Typed.{Typed as TypedCase}
+use Rattle.types.specs.Answers.{Answer, answered, absent, half}
 use Rattle.expressions.specs.Cycle.{Pre, Post, Is}
 use Rattle.bodies.specs.Whole.{body_of, body_at, environment_of, type_numbered, PreMethodBody}
-use Rattle.bodies.specs.Whole.{PostMethodBody, BodiesReady, BodiesDone, verdict_of}
-use Rattle.types.specs.contracts.Typing.{the_type}
+use Rattle.bodies.specs.Whole.{PostMethodBody, BodiesReady, BodiesDone, Verdict, verdict_of}
 use Rattle.expressions.proofs.Typings.{looks_frame}
-use Rattle.expressions.proofs.Turns.{accepted_of, refused_of}
+use Rattle.expressions.proofs.Turns.{accepted_of}
 use Rattle.bodies.proofs.Placed.{Apart, apart, type_placed, typed_placed, by_classes}
-use Rattle.bodies.proofs.Methods.{not_passed, not_refusal}
+use Rattle.bodies.proofs.Methods.{not_passed}
 use Rattle.bodies.proofs.Starts.{start_scope, start_pre, start_is}
 
 -- ---- the methods from a number on
@@ -180,7 +177,7 @@ module _ {R E T A M F S C S' C' : List ℕ} {count many start width i : ℕ}
 
   module _ (low : i < many) {S'' C'' : List ℕ} {v : Verdict}
       (l : PostMethodBody R E T A M F S' C' S'' C'' count width i v) where
-    pub going_on : v ≡ Accepted → Going R E T A M F S C S'' C'' count many start width (i + 1)
+    pub going_on : v ≡ Ok tt → Going R E T A M F S C S'' C'' count many start width (i + 1)
     unfolding going_method at-method
     going_on e = record {
       slots_long = l.slots_long ∙ w.slots_long;
@@ -198,28 +195,23 @@ module _ {R E T A M F S C S' C' : List ℕ} {count many start width i : ℕ}
           };
     }
       where
-        accepted-pass : (q : Pass) → Accepted ≡ verdict_of q → q ≡ passed
+        accepted-pass : (q : Pass) → Ok tt ≡ verdict_of q → q ≡ passed
         accepted-pass (accept tt) e = refl
-        accepted-pass (refuse n l) e = absurd (let z : ◌≡◌ {A = ℕ} 0 1 = cc in omega arith)
+        accepted-pass (refuse n l) e = absurd (cc)
 
-    pub going_refused : (n j : ℕ) → v ≡ Refused n j
-        → BodiesDone R E T A M F S C C'' count many start width (Refused n j)
+    pub going_refused : {f : Refusal} → v ≡ Err f
+        → BodiesDone R E T A M F S C C'' count many start width (Err f)
     unfolding going_method at-method
-    going_refused n j e = record {
+    going_refused {f} e = record {
       long = l.classes_long ∙ w.classes_long;
       are = λ r.
           let p = r.p in
           let a = at-method low r in
           let is = l.is (going_method low r) in
-          let z = bodies_refused p n j (first_refused a.left n j
-          (refused-pass (type_numbered (world p.classes) i a.m) (sym e ∙ is.out))) in
-          record { out = sym (ap verdict_of z); looks = λ x. not_passed n j z x };
+          let z = bodies_refused p f.number f.line (first_refused a.left f.number f.line
+          (result_err (λ (t : Unit {0}). t) (type_numbered (world p.classes) i a.m) f (sym is.out ∙ e))) in
+          record { out = sym (ap verdict_of z); looks = λ x. not_passed f.number f.line z x };
     }
-      where
-        refused-pass : (q : Pass) → Refused n j ≡ verdict_of q → q ≡ refuse n j
-        refused-pass (accept tt) e = absurd (let z : ◌≡◌ {A = ℕ} 0 1 = cc in omega arith)
-        refused-pass (refuse x y) e = let a : n ≡ x = cc in let b : j ≡ y = cc in
-            ap₂ (λ (u : ℕ) (v : ℕ). refuse u v) (sym a) (sym b)
 
 -- ---- the start block
 
@@ -260,33 +252,27 @@ module _ {R E T A M F S C S' C' : List ℕ} {count many start width i : ℕ}
       pub going_long : length C₂ ≡ length C
       going_long = q.kept.classes_long ∙ w.classes_long
 
-      pub going_start_refused : (x y : ℕ) → a.typing ≡ Refusal x y
-          → BodiesDone R E T A M F S C C₂ count many start width (Refused x y)
-      going_start_refused x y e = record {
+      pub going_start_refused : {f : Refusal} → a ≡ Err f
+          → BodiesDone R E T A M F S C C₂ count many start width (Err f)
+      going_start_refused {f} e = record {
         long = going_long;
         are = λ r.
             let p = r.p in
-            refused_of (type_of (world p.classes) p.start (start_row p + 1 + 1) start_environment)
-            (start_of r).out (ap is_refusal e) λ n l f o.
-            let u : Refusal x y ≡ Refusal n l = sym e ∙ ap (λ (u : Answer). u.typing) o in
-            let v : x ≡ n = cc in
-            let s : y ≡ l = cc in
-            let z = start_refused p (ended r).same n l f in
-            record {
-              out = ap₂ (λ (m : ℕ) (o : ℕ). Refused m o) v s ∙ sym (ap verdict_of z);
-              looks = λ h. not_passed n l z h;
-            };
+            let z = start_refused p (ended r).same f.number f.line (result_err answered
+            (type_of (world p.classes) p.start (start_row p + 1 + 1) start_environment) f
+            (sym (start_of r).out ∙ e)) in
+            record { out = sym (ap verdict_of z); looks = λ h. not_passed f.number f.line z h };
       }
 
-      pub going_accepted : OneOf (0 ∷ 1 ∷ 2 ∷ []) (tag_of the_type a.typing)
-          → BodiesDone R E T A M F S C C₂ count many start width Accepted
+      pub going_accepted : {x : TypedCase} → a ≡ Ok x
+          → BodiesDone R E T A M F S C C₂ count many start width (Ok tt)
       unfolding placed_methods
       going_accepted g = record {
         long = going_long;
         are = λ r.
             let p = r.p in
             accepted_of (type_of (world p.classes) p.start (start_row p + 1 + 1) start_environment)
-            (start_of r).out (not_refusal a.typing g) λ t f o.
+            (start_of r).out g λ t f o.
             let z = start_passed p (ended r).same t f in
             record {
               out = sym (ap verdict_of z);

@@ -13,9 +13,8 @@ use Rattle.language.specs.Program.{world}
 use Rattle.language.specs.Environment.{method_environment, start_environment}
 use Rattle.language.specs.Layout.{start_row}
 use Rattle.layout.specs.Held.{Headed}
-use Rattle.types.specs.declared.Answer.{Answer}
 use Rattle.types.specs.declared.slots.Scope.{Scope}
-use Rattle.types.specs.Answers.{numbers, slot_of, fresh_in, absent, half}
+use Rattle.types.specs.Answers.{Answer, numbers, slot_of, fresh_in, absent, half}
 use Rattle.expressions.specs.Cycle.{Given, Views, Pre, Post, Is}
 use Rattle.bodies.specs.Whole.{BodiesReady}
 use Rattle.expressions.proofs.Worlds.{low_class}

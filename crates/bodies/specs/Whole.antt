@@ -1,9 +1,11 @@
 -- What the functions over methods and over the whole program require and ensure.
-use Rattle.std.specs.Prelude.{◌≡◌, ◌⊎◌, List, ℕ, ◌+◌, ◌*◌, ◌≤◌, ◌<◌, length, get_or}
+use Rattle.std.specs.Prelude.{Result, ◌≡◌, ◌⊎◌, List, ℕ, ◌+◌, ◌*◌, ◌≤◌, ◌<◌, length, get_or}
 use Rattle.std.proofs.Math.Option.{some}
 use Rattle.language.specs.Limits.{of_check}
+use Rattle.language.specs.declared.Refusal.{Refusal}
+use Rattle.language.specs.Refusals.{result_of}
 use Rattle.language.specs.Lists.{nth}
-use Rattle.language.specs.Results.{Pass, accept, refuse, passed}
+use Rattle.language.specs.Results.{Pass, passed}
 use Rattle.language.specs.Tree.{Expr, size, Program}
 use Rattle.language.specs.World.{World}
 use Rattle.language.specs.Program.{world}
@@ -13,13 +15,14 @@ use Rattle.language.specs.LookupClasses.{LooksUp}
 use Rattle.language.specs.MethodTables.{PlacedMethod, placed_methods}
 use Rattle.language.specs.Layout.{body_row, start_row, LooksUpProgram}
 use Rattle.layout.specs.Held.{Headed}
-use Rattle.bodies.specs.declared.Verdict.{Verdict}
-use Rattle.bodies.specs.declared.Verdict.TheVariants.{Accepted, Refused}
 use Rattle.types.specs.Answers.{fresh_in}
 
+-- What the pass answers: that all is accepted, or a refusal.
+abbrev pub Verdict : Type 0
+Verdict = Result (Unit {0}) Refusal
+
 abbrev pub verdict_of : Pass → Verdict
-verdict_of (accept t) = Accepted
-verdict_of (refuse n l) = Refused n l
+verdict_of q = result_of (λ (t : Unit {0}). t) q
 
 -- The slots at the start of a method's body: `this`, then the types of n P lines.
 pub record PreEnter (R S : List ℕ) (from n : ℕ) : Type 0 where

@@ -6,21 +6,14 @@ ghost use Rattle.bodies.specs.Whole.{BodiesDone};
 
 use expressions::expression;
 use language::{
-    BODY_PLACE, EFFECT_REFUSAL, METHOD_WIDTH, NO_TYPE, OWNER_PLACE, PARAMETERS_PLACE, TYPE_REFUSAL,
-    Type, first,
+    BODY_PLACE, EFFECT_REFUSAL, METHOD_WIDTH, NO_TYPE, OWNER_PLACE, PARAMETERS_PLACE, Refusal,
+    TYPE_REFUSAL, Type, first,
 };
 use types::slots::{HALF, Scope, fresh};
-use types::{Typing, is_fitting, is_within};
+use types::{is_fitting, is_within, refused};
 
 // `this` where there is none.
 const NO_THIS: u32 = NO_TYPE * HALF + NO_TYPE;
-
-// What the pass answers: accepted, or a refusal's number and line.
-#[derive(Drop)]
-pub enum Verdict {
-    Accepted,
-    Refused(u32, u32),
-}
 
 // The slots at the start of a method's body: `this`, then the parameters of the P lines from a row on.
 fn enter(rows: &[u32], slots: &mut [u32], owner: u32, from: usize, n: usize)
@@ -46,7 +39,7 @@ fn method(
     count: u32,
     width: usize,
     number: usize,
-) -> Verdict
+) -> Result<(), Refusal>
     requires { PreMethodBody rows.now ends.now table.now above.now methods.now effects.now
         slots.old count width number }
     ensures { PostMethodBody rows.now ends.now table.now
@@ -67,18 +60,14 @@ fn method(
     };
     let r = expression(
         rows, ends, table, above, methods, effects, slots, class_at, body, scope,
-    );
-    let t = r.typing;
-    if let Typing::Refusal(reason, line) = t {
-        return Verdict::Refused(reason, line);
-    }
-    if !is_fitting(above, t, Type::from_number(first(rows, at))) {
-        return Verdict::Refused(TYPE_REFUSAL, at as u32 + 1);
+    )?;
+    if !is_fitting(above, r.typing, Type::from_number(first(rows, at))) {
+        return Err(refused(TYPE_REFUSAL, at));
     }
     if !is_within(r.effect, effects[number]) {
-        return Verdict::Refused(EFFECT_REFUSAL, at as u32 + 1);
+        return Err(refused(EFFECT_REFUSAL, at));
     }
-    Verdict::Accepted
+    Ok(())
 }
 
 // The pass: the methods in order, then the start block, which follows the S line at row `start`. There are
@@ -97,7 +86,7 @@ pub fn check_bodies(
     many: usize,
     start: usize,
     width: usize,
-) -> Verdict
+) -> Result<(), Refusal>
     requires { BodiesReady rows.now ends.now table.now above.now methods.now effects.now
         slots.old count many start width }
     ensures { BodiesDone rows.now ends.now table.now
@@ -105,12 +94,9 @@ pub fn check_bodies(
         class_at.old class_at.new count many start width result }
 {
     for i in 0..many {
-        let v = method(
+        method(
             rows, ends, table, above, methods, effects, slots, class_at, count, width, i,
-        );
-        if let Verdict::Refused(reason, line) = v {
-            return Verdict::Refused(reason, line);
-        }
+        )?;
     }
     slots[0] = NO_THIS;
     let scope = Scope {
@@ -120,7 +106,7 @@ pub fn check_bodies(
         width,
         top: width,
     };
-    let r = expression(
+    expression(
         rows,
         ends,
         table,
@@ -131,10 +117,6 @@ pub fn check_bodies(
         class_at,
         start + 1,
         scope,
-    );
-    let t = r.typing;
-    if let Typing::Refusal(reason, line) = t {
-        return Verdict::Refused(reason, line);
-    }
-    Verdict::Accepted
+    )?;
+    Ok(())
 }

@@ -3,7 +3,8 @@ use mathlib.Core.Path.{◌∙◌}
 use native.Mathlib.Omega.{arith}
 use Rattle.bodies.proofs.Methods.{in_methods, in_effects, enter_ready, parameters_low, row_low}
 use Rattle.bodies.proofs.Methods.{row_inside, body_pre, body_typed, body_case, result_low}
-use Rattle.bodies.proofs.Methods.{not_refusal_one, method_refused, method_unfit, method_wide, method_accepted}
+use Rattle.bodies.proofs.Methods.{method_refused, method_unfit, method_wide, method_accepted}
+use Rattle.expressions.proofs.Turns.{passed_on}
 use Rattle.bodies.proofs.method.Goals as goal
 
 pub overflow_mul-at : goal.overflow_mul-at
@@ -58,18 +59,8 @@ overflow_add-at c = omega (
   row_low c.requires,
 )
 
-pub enter-requires : goal.enter-requires
-enter-requires c = enter_ready c.requires
-
 pub overflow_add-scope : goal.overflow_add-scope
 overflow_add-scope c = omega (arith, parameters_low c.requires)
-
-pub expression-r-requires : goal.expression-r-requires
-expression-r-requires c = body_pre c.requires c.enter.ensures
-
-pub returns-in-Refusal : goal.returns-in-Refusal
-returns-in-Refusal c = method_refused (body_typed c.enter.ensures c.expression-r.ensures) _ _
-    c.in-Refusal.is
 
 pub first-requires : goal.first-requires
 first-requires c = omega (
@@ -78,64 +69,46 @@ first-requires c = omega (
   row_low c.requires,
 )
 
-pub is_fitting-requires : goal.is_fitting-requires
-is_fitting-requires c = record {
-  case_in = body_case (body_typed c.enter.ensures c.expression-r.ensures)
-      (not_refusal_one _ c.in_default.not-Refusal) c.requires;
-  number_le_classes = result_low c.requires _ (c.from_number.ensures ∙ c.first.ensures);
-}
-
-pub overflow_cast-result : goal.overflow_cast-result
-overflow_cast-result c = omega (
-  arith,
-  row_inside c.requires,
-  row_low c.requires,
-)
-
-pub overflow_add-result : goal.overflow_add-result
-overflow_add-result c = omega (
-  arith,
-  row_inside c.requires,
-  row_low c.requires,
-)
-
-pub returns-then-not-is_fitting : goal.returns-then-not-is_fitting
-returns-then-not-is_fitting c = method_unfit (body_typed c.enter.ensures c.expression-r.ensures)
-    (not_refusal_one _ c.in_default.not-Refusal) _
-    (c.from_number.ensures ∙ c.first.ensures) _
-    c.is_fitting.ensures
-    (c.if-not-is_fitting.true)
-
 pub offset_bounds-effects-number : goal.offset_bounds-effects-number
 offset_bounds-effects-number c = omega (arith, in_effects c.requires, c.well_formed)
 
 pub bounds-effects-number : goal.bounds-effects-number
 bounds-effects-number c = in_effects c.requires
 
-pub overflow_cast-result-then-not-is_within : goal.overflow_cast-result-then-not-is_within
-overflow_cast-result-then-not-is_within c = omega (
-  arith,
-  row_inside c.requires,
-  row_low c.requires,
-)
+pub enter-requires : goal.enter-requires
+enter-requires c = enter_ready c.requires
 
-pub overflow_add-result-then-not-is_within : goal.overflow_add-result-then-not-is_within
-overflow_add-result-then-not-is_within c = omega (
-  arith,
-  row_inside c.requires,
-  row_low c.requires,
-)
+pub expression-requires : goal.expression-requires
+expression-requires c = body_pre c.requires c.enter.ensures
+
+pub returns-in_err-r : goal.returns-in_err-r
+returns-in_err-r c = rw (passed_on c.from_residual.result c.from_residual.ensures.1)
+    (method_refused (body_typed c.enter.ensures c.expression.ensures) c.in_err-r.was)
+
+pub is_fitting-requires : goal.is_fitting-requires
+is_fitting-requires c = record {
+  case_in = body_case (body_typed c.enter.ensures c.expression.ensures)
+      c.in_ok-r.was c.requires;
+  number_le_classes = result_low c.requires _ (c.from_number.ensures ∙ c.first.ensures);
+}
+
+pub returns-then-not-is_fitting : goal.returns-then-not-is_fitting
+returns-then-not-is_fitting c = method_unfit (body_typed c.enter.ensures c.expression.ensures)
+    c.in_ok-r.was _
+    (c.from_number.ensures ∙ c.first.ensures) _
+    c.is_fitting.ensures
+    (c.if-not-is_fitting.true) c.refused.ensures
 
 pub returns-then-not-is_within : goal.returns-then-not-is_within
-returns-then-not-is_within c = method_wide (body_typed c.enter.ensures c.expression-r.ensures)
-    (not_refusal_one _ c.in_default.not-Refusal) _ (c.from_number.ensures ∙ c.first.ensures) _
+returns-then-not-is_within c = method_wide (body_typed c.enter.ensures c.expression.ensures)
+    c.in_ok-r.was _ (c.from_number.ensures ∙ c.first.ensures) _
     c.is_fitting.ensures
     (c.if-not-is_fitting.false) _ c.is_within.ensures
-    (c.if-not-is_within.true)
+    (c.if-not-is_within.true) c.refused-then-not-is_within.ensures
 
 pub returns : goal.returns
-returns c = method_accepted (body_typed c.enter.ensures c.expression-r.ensures)
-    (not_refusal_one _ c.in_default.not-Refusal) _ (c.from_number.ensures ∙ c.first.ensures) _
+returns c = method_accepted (body_typed c.enter.ensures c.expression.ensures)
+    c.in_ok-r.was _ (c.from_number.ensures ∙ c.first.ensures) _
     c.is_fitting.ensures
     (c.if-not-is_fitting.false) _ c.is_within.ensures
     (c.if-not-is_within.false)
