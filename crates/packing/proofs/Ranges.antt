@@ -4,7 +4,7 @@ use mathlib.Core.Path.{◌≡◌, refl, sym, ap, ◌∙◌}
 use mathlib.Core.Logic.{inr}
 use Prim.Native.Nat.{ℕ, suc, ◌+◌, ◌-◌, ◌*◌, ◌≤◌, ◌<◌}
 use mathlib.Core.List.{List, [], ◌∷◌, map}
-use lib.ListN.{length, length-map, length-append, replicate, length-replicate}
+use lib.ListN.{length, length-map, length-append}
 use native.Mathlib.Omega.{arith}
 use Rattle.language.specs.Limits.{of_check, numbers_a_row, spent_stop, no_line, line_refusal, limit_refusal}
 use Rattle.language.specs.Limits.{place_refusal, name_refusal, kind_refusal, override_refusal, slot_refusal}
@@ -89,21 +89,11 @@ most_numbers = numbers_a_row * of_check.rows
 abbrev most_bytes : ℕ
 most_bytes = longest_line * of_check.rows
 
-read_into : (room : ℕ) (text : List ℕ) → most_numbers ≤ room
-    → length (made_numbers (read_text ours text)) ≤ room
-read_into room text h = let e = length-replicate {A = ℕ} room 0 in
-    omega (arith, e, read_fits ours text (replicate room 0) (inr (omega (arith, e, h))))
-
 pub numbers_read : (text : List ℕ) → length (made_numbers (read_text ours text)) ≤ most_numbers
-numbers_read text = read_into most_numbers text (omega arith)
-
-written_into : (room : ℕ) (ns : List ℕ) → most_bytes ≤ room
-    → length (made_numbers (write_rows ours ns)) ≤ room
-written_into room ns h = let e = length-replicate {A = ℕ} room 0 in
-    omega (arith, e, write_fits ours ns (replicate room 0) (inr (omega (arith, e, h))))
+numbers_read text = read_fits ours text most_numbers (inr (omega arith))
 
 pub bytes_written : (ns : List ℕ) → length (made_numbers (write_rows ours ns)) ≤ most_bytes
-bytes_written ns = written_into most_bytes ns (omega arith)
+bytes_written ns = write_fits ours ns most_bytes (inr (omega arith))
 
 -- ---- programs
 

@@ -4,6 +4,5 @@
 
 pub mod fleets;
 pub mod price_terms;
-pub mod programs;
 pub mod runs;
 pub mod words;

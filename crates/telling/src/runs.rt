@@ -3,10 +3,10 @@ ghost use Rattle.std.specs.Prelude.{◌≡◌};
 ghost use Rattle.telling.specs.Cases.{packed_end, packed_run, kind_of, content_of, kind_left, content_left};
 ghost use Rattle.telling.specs.Cases.{kind_told, content_told, steps_told, objects_told, changes_told};
 
-use super::words::two_words;
+use super::words::{pack, two_words};
+use language::Refusal;
 use machine::{End, Run};
 use objects::Value;
-use running::Answer;
 
 // The number of an answer where the run ended in an exception.
 const EXCEPTION: u32 = 1000;
@@ -25,21 +25,15 @@ pub fn pack_end(e: End) -> u64
     match e {
         End::Gave(_) => 0,
         End::Raised(n) => two_words(EXCEPTION, n),
-        End::Stopped(n) => two_words(n, 0),
+        End::Stopped(stop) => two_words(stop.number(), 0),
     }
 }
 
 // The answer of a run as one number.
-pub fn pack_run(a: Answer) -> u64
-    ensures { result ≡ packed_run a }
+pub fn pack_run(answer: Result<Run, Refusal>) -> u64
+    ensures { result ≡ packed_run answer }
 {
-    match a {
-        Answer::Refused(number, line) => two_words(number, line),
-        Answer::Ran(r) => {
-            let e = r.outcome;
-            pack_end(e)
-        }
-    }
+    pack(answer.map(|run| pack_end(run.outcome)))
 }
 
 // The kind of a value.
@@ -58,56 +52,47 @@ pub fn content_of(v: Value) -> u32
     ensures { result ≡ content_of v }
 {
     match v {
-        Value::Truth(b) => { if b { 1 } else { 0 } }
-        Value::Object(j) => j,
         Value::Null => 0,
+        Value::Truth(b) => u32::from(b),
+        Value::Object(j) => j,
     }
 }
 
 // Stores the kind and the content of the value in which a run ended, if it did.
-pub fn put_value(e: End, kind: &mut u32, content: &mut u32)
-    ensures kind_after { kind.new ≡ kind_left e kind.old }
-    ensures content_after { content.new ≡ content_left e content.old }
+pub fn put_value(end: End, kind: &mut u32, content: &mut u32)
+    ensures kind_after { kind.new ≡ kind_left end kind.old }
+    ensures content_after { content.new ≡ content_left end content.old }
 {
-    match e {
-        End::Gave(v) => {
-            *kind = kind_of(v);
-            *content = content_of(v);
-        }
-        End::Raised(_) => {}
-        End::Stopped(_) => {}
+    if let End::Gave(v) = end {
+        *kind = kind_of(v);
+        *content = content_of(v);
     }
 }
 
 // Stores them where the run was not refused.
-pub fn tell_value(a: Answer, kind: &mut u32, content: &mut u32)
-    ensures kind_after { kind.new ≡ kind_told a kind.old }
-    ensures content_after { content.new ≡ content_told a content.old }
+pub fn tell_value(answer: Result<Run, Refusal>, kind: &mut u32, content: &mut u32)
+    ensures kind_after { kind.new ≡ kind_told answer kind.old }
+    ensures content_after { content.new ≡ content_told answer content.old }
 {
-    if let Answer::Ran(r) = a {
-        let e = r.outcome;
-        put_value(e, kind, content);
+    if let Ok(run) = answer {
+        put_value(run.outcome, kind, content);
     }
 }
 
-// Stores the counts of a run.
-pub fn put_counts(r: Run, steps: &mut u32, objects: &mut u32, changes: &mut u32)
-    ensures steps_after { steps.new ≡ r.steps }
-    ensures objects_after { objects.new ≡ r.objects }
-    ensures changes_after { changes.new ≡ r.changes }
+// Stores the counts of a run where it was not refused.
+pub fn tell_counts(
+    answer: Result<Run, Refusal>,
+    steps: &mut u32,
+    objects: &mut u32,
+    changes: &mut u32,
+)
+    ensures steps_after { steps.new ≡ steps_told answer steps.old }
+    ensures objects_after { objects.new ≡ objects_told answer objects.old }
+    ensures changes_after { changes.new ≡ changes_told answer changes.old }
 {
-    *steps = r.steps;
-    *objects = r.objects;
-    *changes = r.changes;
-}
-
-// Stores the counts where the run was not refused.
-pub fn tell_counts(a: Answer, steps: &mut u32, objects: &mut u32, changes: &mut u32)
-    ensures steps_after { steps.new ≡ steps_told a steps.old }
-    ensures objects_after { objects.new ≡ objects_told a objects.old }
-    ensures changes_after { changes.new ≡ changes_told a changes.old }
-{
-    if let Answer::Ran(r) = a {
-        put_counts(r, steps, objects, changes);
+    if let Ok(run) = answer {
+        *steps = run.steps;
+        *objects = run.objects;
+        *changes = run.changes;
     }
 }
