@@ -15,7 +15,7 @@ use Rattle.language.specs.Lists.{nth, nth_append_one, nth_lt, nth_some}
 use Rattle.language.specs.Tree.{class, type_of_number, Kind, plain, root, state, unknown, kind_number}
 use Rattle.language.specs.Tree.{kind_of_number, Field, Class}
 use Rattle.language.specs.World.{place, is_declared_type}
-use Rattle.language.specs.Program.{class_at, is_plain, is_root, is_state, is_root_class, is_state_type, world}
+use Rattle.language.specs.Program.{class_at, is_root, is_state, is_root_class, is_state_type, world}
 use Rattle.language.specs.Program.{world_with}
 use Rattle.language.specs.Headings.{may_extend}
 use Rattle.language.specs.ClassTables.{stored_place}
@@ -118,42 +118,6 @@ module _ {T : List ℕ} {count : ℕ} (w : EffectReady T count) (c last : ℕ) w
 
       pub effect_fine : k ≡ 1 → last < c → 0 ≡ fault_of_effect w.P last c
       effect_fine e h = sym (declared-effect ∙ rw (← k-is, eq-eqb k 1 e, lt-ltb last c h))
-
--- which kind may extend which, by their numbers
-
-pub extend_low : (k a : ℕ) → k ≤ 1 → eqb a 0 ≡ may_extend (kind_of_number k) (some (kind_of_number a))
-extend_low k a l = go k l
-  where
-    is_zero : (a : ℕ) → eqb a 0 ≡ is_plain (kind_of_number a)
-    is_zero zero = refl
-    is_zero (suc zero) = refl
-    is_zero (suc (suc zero)) = refl
-    is_zero (suc (suc (suc a))) = ne_eqb (suc (suc (suc a))) 0 (λ e. omega (arith, e))
-
-    go : (k : ℕ) → k ≤ 1 → eqb a 0 ≡ may_extend (kind_of_number k) (some (kind_of_number a))
-    go zero l = is_zero a
-    go (suc zero) l = is_zero a
-    go (suc (suc k)) l = absurd (omega (arith, l))
-
-pub extend_root : (k a : ℕ) → k ≡ 2 → a ≡ 1 → true ≡ may_extend (kind_of_number k) (some (kind_of_number a))
-extend_root k a e q = rw (e, q)
-
-pub extend_state : (k a : ℕ) → k ≡ 2 → (a ≡ 1 → ⊥)
-    → eqb a 2 ≡ may_extend (kind_of_number k) (some (kind_of_number a))
-extend_state k a e n = rw e (go a n)
-  where
-    go : (a : ℕ) → (a ≡ 1 → ⊥) → eqb a 2 ≡ may_extend state (some (kind_of_number a))
-    go zero n = refl
-    go (suc zero) n = absurd (n refl)
-    go (suc (suc zero)) n = refl
-    go (suc (suc (suc a))) n = ne_eqb (suc (suc (suc a))) 2 (λ e. omega (arith, e))
-
-pub extend_none : (k a : ℕ) → 1 < k → (k ≡ 2 → ⊥)
-    → false ≡ may_extend (kind_of_number k) (some (kind_of_number a))
-extend_none zero a l n = absurd (omega (arith, l))
-extend_none (suc zero) a l n = absurd (omega (arith, l))
-extend_none (suc (suc zero)) a l n = absurd (n refl)
-extend_none (suc (suc (suc k))) a l n = refl
 
 -- Object is extended as a plain class is
 pub extend_object : (k : Kind) → may_extend k none ≡ may_extend k (some plain)

@@ -5,7 +5,9 @@
 pub mod fields;
 pub mod methods;
 
-// The numbers of the kinds of classes, as C lines and the table of classes have them; a class of neither kind has 0.
+// The numbers of the kinds of classes, as C lines and the table of classes have them; Object has a plain class's.
+pub const PLAIN_KIND: u32 = 0;
+
 pub const ROOT_KIND: u32 = 1;
 
 pub const STATE_KIND: u32 = 2;
