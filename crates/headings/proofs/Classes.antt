@@ -10,6 +10,7 @@ use borrow.Author.Tests.{eq-eqb, ne_eqb}
 use lib.Dec.{eqb}
 use lib.ListN.{length, get_or, set}
 use lib.Seq.{get_or-set_same, get_or-set_other}
+use Rattle.std.specs.List.{copy_within}
 use Rattle.language.specs.Lists.{nth, given, choice, map_option, Never, inj, nth_lt}
 use Rattle.language.specs.Tree.{Field, Declaration, Class}
 use Rattle.language.specs.World.{Method, place}
@@ -22,7 +23,8 @@ use Rattle.language.specs.ClassTables.{field_rows, method_number, above_at, abov
 use Rattle.language.proofs.Lines.{less_or_same}
 use Rattle.members.specs.Blocks.{Block, Filled, Lookups, Working}
 use Rattle.members.specs.Numbers.{first_number, own_or, own_number}
-use Rattle.headings.specs.Ready.{Copied, StartReady}
+use Rattle.headings.specs.Ready.{StartReady}
+use Rattle.headings.proofs.Copying.{Copied, copied}
 use Rattle.members.proofs.Numbers.{first_after, own_numbered, own_numbers}
 use Rattle.members.proofs.Tables.{kind_numbers, lookups_same, lookups_set}
 
@@ -129,9 +131,9 @@ pub record Started (T T' : List ℕ) (k over : ℕ) : Type 0 where
   pub second : (x : ℕ) → x < 62 → get_or T' (k * 576 + 514 + x) 0 ≡ get_or T (over * 576 + 514 + x) 0
   pub high : (i : ℕ) → k * 576 + 576 ≤ i → get_or T' i 0 ≡ get_or T i 0
 
-pub started : {T T₁ T₂ : List ℕ} {k over : ℕ} → over < k → Copied T T₁ (over * 576) (k * 576) 512
+both_copied : {T T₁ T₂ : List ℕ} {k over : ℕ} → over < k → Copied T T₁ (over * 576) (k * 576) 512
     → Copied T₁ T₂ (over * 576 + 514) (k * 576 + 514) 62 → Started T T₂ k over
-started {k} {over} l a b = record {
+both_copied {k} {over} l a b = record {
   long = b.long ∙ a.long;
   low = λ i h. b.before i (omega (arith, h)) ∙ a.before i h;
   kind = b.before (k * 576 + 512) (omega arith) ∙ a.after (k * 576 + 512) (omega arith);
@@ -152,6 +154,18 @@ module _ {T : List ℕ} {k over kind : ℕ} (w : StartReady T k over kind) where
 
   pub start_index : (k * 576 + 576 ≤ length T) × (over < k) × (k ≤ 64)
   start_index = (omega (arith, within, w.lookups.long), w.earlier, omega (arith, within, w.lookups.few))
+
+  pub started : (T₁ T₂ : List ℕ) → T₁ ≡ copy_within T (over * 576) (over * 576 + 512) (k * 576)
+      → T₂ ≡ copy_within T₁ (over * 576 + 514) (over * 576 + 576) (k * 576 + 514) → Started T T₂ k over
+  started T₁ T₂ e f =
+      let j = start_index in
+      let a : Copied T T₁ (over * 576) (k * 576) 512 =
+      rw e (copied T (over * 576) (over * 576 + 512) (k * 576) 512 refl (omega (arith, j.1)) (omega (arith, j.0)))
+      in
+      let b : Copied T₁ T₂ (over * 576 + 514) (k * 576 + 514) 62 =
+      rw f (copied T₁ (over * 576 + 514) (over * 576 + 576) (k * 576 + 514) 62 (omega arith) (omega (arith, j.1))
+      (omega (arith, j.0, a.long))) in
+      both_copied w.earlier a b
 
   module _ {T' : List ℕ} (s : Started T T' k over) where
     lookups : Lookups w.P k T'

@@ -1,42 +1,35 @@
--- What holds between two turns of the loops that clear or copy a part of the table of classes. Assumes nothing.
-use mathlib.Core.Path.{refl, ◌∙◌}
-use mathlib.Core.List.{List}
-use mathlib.Core.Logic.{⊎_elim}
-use Prim.Native.Nat.{ℕ, ◌+◌, ◌<◌}
+-- What clearing and copying a part of the table of classes leave. Assumes nothing.
+use mathlib.Core.Path.{◌≡◌}
+use mathlib.Core.List.{List, ◌++◌}
+use Prim.Native.Nat.{ℕ, ◌+◌, ◌≤◌, ◌<◌}
 use native.Mathlib.Omega.{arith}
-use lib.ListN.{length, get_or, set, length-set}
-use lib.Seq.{get_or-set_same, get_or-set_other}
-use Rattle.language.proofs.Lines.{less_or_same}
-use Rattle.headings.specs.Ready.{Copied, Cleared}
+use lib.ListN.{length, get_or, drop, replicate}
+use Rattle.std.specs.List.{copy_within}
+use Rattle.std.proofs.lemmas.Grind.{common_steps}
 
-pub cleared_start : (T : List ℕ) → Cleared T T 0
-cleared_start T = record { long = refl; zero = λ i l. absurd (omega (arith, l)) }
+-- A part of a list was copied to a place after it.
+pub record Copied (T T' : List ℕ) (from to n : ℕ) : Type 0 where
+  pub long : length T' ≡ length T
+  pub part : (i : ℕ) → i < n → get_or T' (to + i) 0 ≡ get_or T (from + i) 0
+  pub before : (j : ℕ) → j < to → get_or T' j 0 ≡ get_or T j 0
+  pub after : (j : ℕ) → to + n ≤ j → get_or T' j 0 ≡ get_or T j 0
 
-pub cleared_step : {T T' : List ℕ} {i : ℕ} → Cleared T T' i → i < length T → Cleared T (set T' i 0) (i + 1)
-cleared_step {T} {T'} {i} c h = record {
-  long = length-set T' i 0 ∙ c.long;
-  zero = λ j l. ⊎_elim
-      (λ q. get_or-set_other T' i j 0 0 (λ e. omega (arith, q, e)) ∙ c.zero j q)
-      (λ q. rw q (get_or-set_same T' i 0 0 (omega (arith, h, c.long))))
-      (less_or_same j i (omega (arith, l)));
-}
+-- The first numbers are 0.
+pub record Cleared (T T' : List ℕ) (n : ℕ) : Type 0 where
+  pub long : length T' ≡ length T
+  pub zero : (i : ℕ) → i < n → get_or T' i 0 ≡ 0
 
-pub copied_start : (T : List ℕ) (from to : ℕ) → Copied T T from to 0
-copied_start T from to =
-    record { long = refl; part = λ i l. absurd (omega (arith, l)); before = λ j l. refl; after = λ j l. refl }
+pub cleared : (T S : List ℕ) (n : ℕ) → n ≤ length T → S ≡ replicate n 0 → Cleared T (S ++ drop n T) n
+cleared T S n l e = rw e (record {
+  long = grind (arith, common_steps);
+  zero = λ i h. grind (arith, common_steps);
+})
 
-pub copied_step : {T T' : List ℕ} {from to i : ℕ} → Copied T T' from to i → from + i < to → to + i < length T
-    → Copied T (set T' (to + i) (get_or T' (from + i) 0)) from to (i + 1)
-copied_step {T} {T'} {from} {to} {i} c h k = record {
-  long = length-set T' (to + i) (get_or T' (from + i) 0) ∙ c.long;
-  part = λ j l. ⊎_elim
-      (λ q. get_or-set_other T' (to + i) (to + j) (get_or T' (from + i) 0) 0 (λ e. omega (arith, q, e))
-      ∙ c.part j q)
-      (λ q. rw q (get_or-set_same T' (to + i) (get_or T' (from + i) 0) 0 (omega (arith, k, c.long)) ∙ c.before
-      (from + i) h))
-      (less_or_same j i (omega (arith, l)));
-  before = λ j l. get_or-set_other T' (to + i) j (get_or T' (from + i) 0) 0 (λ e. omega (arith, l, e))
-      ∙ c.before j l;
-  after = λ j l. get_or-set_other T' (to + i) j (get_or T' (from + i) 0) 0 (λ e. omega (arith, l, e))
-      ∙ c.after j (omega (arith, l));
+pub copied : (T : List ℕ) (from end to n : ℕ) → from + n ≡ end → end ≤ to → to + n ≤ length T
+    → Copied T (copy_within T from end to) from to n
+copied T from end to n e l h = record {
+  long = grind (arith, common_steps);
+  part = λ i p. grind (arith, common_steps);
+  before = λ j p. grind (arith, common_steps);
+  after = λ j p. grind (arith, common_steps);
 }

@@ -7,7 +7,10 @@ use Prim.Native.Nat.{ℕ, ◌+◌, ◌*◌, ◌≤◌, ◌<◌}
 use native.Mathlib.Omega.{arith}
 use borrow.Author.Tests.{lt-ltb, le-ltb}
 use lib.ListN.{length, get_or}
+use Rattle.std.specs.Prelude.{Result, Ok, Err}
 use Rattle.language.specs.Limits.{of_check}
+use Rattle.language.specs.Refusals.{refusal, result_of}
+use Rattle.language.specs.declared.Refusal.{Refusal}
 use Rattle.language.specs.Results.{bind_checked}
 use Rattle.language.specs.Tree.{Kind, kind_of_number, Class}
 use Rattle.language.specs.Program.{kind_at, world}
@@ -17,8 +20,6 @@ use Rattle.language.specs.Layout.{Run, ClassAt}
 use Rattle.language.specs.WellFormed.{ClassInForm}
 use Rattle.language.proofs.Classes.{class_count}
 use Rattle.members.specs.Answers.{headed}
-use Rattle.members.specs.declared.Headed.{Headed}
-use Rattle.members.specs.declared.Headed.TheVariants.{Passed, Refused}
 use Rattle.members.specs.Blocks.{Lookups, Working}
 use Rattle.members.specs.Faults.{faulty, fault_of_class}
 use Rattle.members.specs.Numbers.{own_or, own_number, Numbered}
@@ -75,9 +76,9 @@ module _ {R E T M F : List ℕ} {k r first count : ℕ} (w : ClassReady R E T M 
   fault_is = class_is P' k (r + 1) w.one
 
   pub class_late : (over : ℕ) → over ≡ get_or R (r * 4 + 2) 0 → k ≤ over
-      → Refused 4 (r + 1) ≡ headed own (check_class of_check w.program.classes k (r + 1) w.one)
+      → Err (refusal 4 (r + 1)) ≡ headed own (check_class of_check w.program.classes k (r + 1) w.one)
   unfolding fault_of_class
-  class_late over over_is l = refused_is own _ 4 (r + 1) (fault_is ∙ rw
+  class_late over over_is l = refused_is (λ _. own) _ (refusal 4 (r + 1)) (fault_is ∙ rw
       (le-ltb w.one.super k (omega (arith, l, over_is, at.line.second))))
 
   module _ (kind over : ℕ) (kind_is : kind ≡ get_or R (r * 4 + 1) 0) (over_is : over ≡ get_or R (r * 4 + 2) 0)
@@ -115,8 +116,8 @@ module _ {R E T M F : List ℕ} {k r first count : ℕ} (w : ClassReady R E T M 
       fault-kind = rw (lt-ltb w.one.super k earlier, ← extends-is, ← e)
 
       pub class_kind : b ≡ false
-          → Refused 5 (r + 1) ≡ headed own (check_class of_check w.program.classes k (r + 1) w.one)
-      class_kind z = refused_is own _ 5 (r + 1) (fault_is ∙ rw (fault-kind, z))
+          → Err (refusal 5 (r + 1)) ≡ headed own (check_class of_check w.program.classes k (r + 1) w.one)
+      class_kind z = refused_is (λ _. own) _ (refusal 5 (r + 1)) (fault_is ∙ rw (fault-kind, z))
 
       abbrev pub start_ready : StartReady T k over kind
       start_ready = record {
@@ -157,9 +158,6 @@ module _ {R E T M F : List ℕ} {k r first count : ℕ} (w : ClassReady R E T M 
           short = w.standing.short;
         }
 
-        pub methods_here : (r + 1 + n) * 4 < length R
-        methods_here = omega (arith, f.inside)
-
         on : check_class of_check P' k (r + 1) w.one
             ≡ bind_checked (check_fields of_check P' ((world P').fields over) (r + 1 + 1)
             w.one.fields) (λ _.
@@ -171,83 +169,82 @@ module _ {R E T M F : List ℕ} {k r first count : ℕ} (w : ClassReady R E T M 
             check_methods of_check P' o [] (r + 1 + 1 + length w.one.fields) w.one.methods))
             (sym super_is))
 
-        module _ (a : Headed) (T₂ : List ℕ) (g : (v : FieldsReady R T₁ (r + 1) n (k * 576) count)
-            → (a ≡ headed 0 (check_fields of_check v.P v.fields (r + 1 + 1) v.own))
-            × ((n : ℕ) → a ≡ Passed n → Working v.P v.k T₂ (v.fields ++ v.own)
-            (v.rows ++ rows_from (r + 1) v.own) v.methods)) where
-          pub class_fields_refused : (m q : ℕ) → a ≡ Refused m q
-              → a ≡ headed own (check_class of_check w.program.classes k (r + 1) w.one)
-          class_fields_refused m q e = e
-              ∙ refused_is own _ m q
-              (on ∙ bind_refused _ _ m q (is_refused 0 _ m q (sym e ∙ (g fields_ready).0)))
+        pub class_fields_refused : (e : Refusal)
+            → ((v : FieldsReady R T₁ (r + 1) n (k * 576) count)
+            → Err e ≡ result_of (λ u. u) (check_fields of_check v.P v.fields (r + 1 + 1) v.own))
+            → Err e ≡ headed own (check_class of_check w.program.classes k (r + 1) w.one)
+        class_fields_refused e g = refused_is (λ _. own) _ e
+            (on ∙ bind_refused _ _ e.number e.line (is_refused (λ u. u) _ e (g fields_ready)))
 
-          module _ (o : ℕ) (d : a ≡ Passed o) where
-            pub inherited : (m q : ℕ) → method_number w.program.classes over m ≡ some q
-                → q < first
-            inherited m q e = omega (
-              arith,
-              w.first_is,
-              inherited_number P' k w.lookups.earlier over m q e l,
-            )
+        module _ (T₂ : List ℕ) (g : (v : FieldsReady R T₁ (r + 1) n (k * 576) count)
+            → (Ok tt ≡ result_of (λ u. u) (check_fields of_check v.P v.fields (r + 1 + 1) v.own))
+            × Working v.P v.k T₂ (v.fields ++ v.own) (v.rows ++ rows_from (r + 1) v.own) v.methods) where
+          pub inherited : (m q : ℕ) → method_number w.program.classes over m ≡ some q
+              → q < first
+          inherited m q e = omega (
+            arith,
+            w.first_is,
+            inherited_number P' k w.lookups.earlier over m q e l,
+          )
 
-            abbrev pub methods_ready : MethodsReady R E T₂ M F (r + 1 + n) k first count
-            methods_ready = record {
-              program = w.program;
-              standing = w.standing;
-              super = over;
-              fields = (world w.program.classes).fields over ++ w.one.fields;
-              rows = field_rows w.program.classes over
-                  ++ rows_from (r + 1) w.one.fields;
-              working = (g fields_ready).1 o d;
-              inherited = inherited;
-              entered = w.entered;
-              one = w.one;
-              is = w.is;
-              first_is = w.first_is;
-              row_is = omega (arith, n_is, w.row_is);
-              count_is = w.count_is;
-            }
+          abbrev pub methods_ready : MethodsReady R E T₂ M F (r + 1 + n) k first count
+          methods_ready = record {
+            program = w.program;
+            standing = w.standing;
+            super = over;
+            fields = (world w.program.classes).fields over ++ w.one.fields;
+            rows = field_rows w.program.classes over
+                ++ rows_from (r + 1) w.one.fields;
+            working = (g fields_ready).1;
+            inherited = inherited;
+            entered = w.entered;
+            one = w.one;
+            is = w.is;
+            first_is = w.first_is;
+            row_is = omega (arith, n_is, w.row_is);
+            count_is = w.count_is;
+          }
 
-            module _ (h : Headed) (T₃ M₃ F₃ : List ℕ)
-                (i : (v : MethodsReady R E T₂ M F (r + 1 + n) k first count)
-                → (h ≡ headed (length v.one.methods)
-                (check_methods of_check v.program.classes v.super
-                [] (r + 1 + n + 1) v.one.methods))
-                × ((m : ℕ) → h ≡ Passed m → Working v.program.classes k T₃ v.fields v.rows
-                (own_or (own_number first v.one.methods) (method_number v.program.classes v.super))
-                × Numbered v.program.classes M₃ F₃ (first + length v.one.methods))) where
-              pub class_answer : h
-                  ≡ headed own (check_class of_check w.program.classes k (r + 1) w.one)
-              class_answer =
-                  let q : r + 1 + n + 1 ≡ r + 1 + 1 + length w.one.fields = omega (arith, n_is) in
-                  (i methods_ready).0 ∙ ap (headed own) (ap (λ (at : ℕ). check_methods of_check P'
-                  over [] at w.one.methods) q
-                  ∙ sym (on ∙ bind_passed _ _ (is_passed 0 _ o (sym d ∙ (g fields_ready).0))))
+          module _ (h : Result ℕ Refusal) (T₃ M₃ F₃ : List ℕ)
+              (i : (v : MethodsReady R E T₂ M F (r + 1 + n) k first count)
+              → (h ≡ headed (length v.one.methods)
+              (check_methods of_check v.program.classes v.super
+              [] (r + 1 + n + 1) v.one.methods))
+              × ((m : ℕ) → h ≡ Ok m → Working v.program.classes k T₃ v.fields v.rows
+              (own_or (own_number first v.one.methods) (method_number v.program.classes v.super))
+              × Numbered v.program.classes M₃ F₃ (first + length v.one.methods))) where
+            pub class_answer : h
+                ≡ headed own (check_class of_check w.program.classes k (r + 1) w.one)
+            class_answer =
+                let q : r + 1 + n + 1 ≡ r + 1 + 1 + length w.one.fields = omega (arith, n_is) in
+                (i methods_ready).0 ∙ ap (headed own) (ap (λ (at : ℕ). check_methods of_check P'
+                over [] at w.one.methods) q
+                ∙ sym (on ∙ bind_passed _ _ (is_passed (λ u. u) _ (g fields_ready).0)))
 
-              numbers-is : (m : ℕ) → own_or (own_number first w.one.methods)
-                  (method_number P' over) m ≡ method_number P' k m
-              numbers-is m = sym (method_number_of P' k w.lookups.earlier k w.one w.is earlier
-                  (omega arith) m
-                  ∙ (ap (λ (x : ℕ). own_or (own_number x w.one.methods) (method_number P' w.one.super)
-                  m)
-                  (sym w.first_is)
-                  ∙ ap (λ (x : ℕ). own_or (own_number first w.one.methods) (method_number P' x) m)
-                  (sym super_is)))
+            numbers-is : (m : ℕ) → own_or (own_number first w.one.methods)
+                (method_number P' over) m ≡ method_number P' k m
+            numbers-is m = sym (method_number_of P' k w.lookups.earlier k w.one w.is earlier
+                (omega arith) m
+                ∙ (ap (λ (x : ℕ). own_or (own_number x w.one.methods) (method_number P' w.one.super)
+                m)
+                (sym w.first_is)
+                ∙ ap (λ (x : ℕ). own_or (own_number first w.one.methods) (method_number P' x) m)
+                (sym super_is)))
 
-              pub class_done : (m : ℕ) → h ≡ Passed m → Lookups w.program.classes (k + 1) T₃
-                  × Numbered w.program.classes M₃ F₃ (first + length w.one.methods)
-              class_done m p =
-                  let c = w.one in
-                  let e = sym super_is in
-                  let y = (i methods_ready).1 m p in (
-                    lookups_next y.0 c w.is earlier
-                        (sym (fields_of P' k w.lookups.earlier k c w.is earlier (omega arith)
-                        ∙ ap (λ (o : ℕ). (world P').fields o ++ c.fields) e))
-                        (sym (field_rows_of P' k w.lookups.earlier k c w.is earlier (omega arith)
-                        ∙ (ap (λ (o : ℕ). field_rows P' o ++ rows_from (class_row P' k + 1) c.fields) e
-                        ∙ ap (λ (s : ℕ). field_rows P' over ++ rows_from (s + 1)
-                        c.fields)
-                        (sym w.row_is))))
-                        numbers-is,
-                    y.1,
-                  )
+            pub class_done : (m : ℕ) → h ≡ Ok m → Lookups w.program.classes (k + 1) T₃
+                × Numbered w.program.classes M₃ F₃ (first + length w.one.methods)
+            class_done m p =
+                let c = w.one in
+                let e = sym super_is in
+                let y = (i methods_ready).1 m p in (
+                  lookups_next y.0 c w.is earlier
+                      (sym (fields_of P' k w.lookups.earlier k c w.is earlier (omega arith)
+                      ∙ ap (λ (o : ℕ). (world P').fields o ++ c.fields) e))
+                      (sym (field_rows_of P' k w.lookups.earlier k c w.is earlier (omega arith)
+                      ∙ (ap (λ (o : ℕ). field_rows P' o ++ rows_from (class_row P' k + 1) c.fields) e
+                      ∙ ap (λ (s : ℕ). field_rows P' over ++ rows_from (s + 1)
+                      c.fields)
+                      (sym w.row_is))))
+                      numbers-is,
+                  y.1,
+                )

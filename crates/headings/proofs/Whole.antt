@@ -8,7 +8,9 @@ use native.Mathlib.Omega.{arith}
 use lib.Bits.{bit_or}
 use lib.ListN.{length, get_or, set, length-set}
 use lib.Seq.{get_or-set_same, get_or-set_other}
+use Rattle.std.specs.Prelude.{Ok, Err}
 use Rattle.language.specs.Limits.{of_check}
+use Rattle.language.specs.declared.Refusal.{Refusal}
 use Rattle.language.specs.Lists.{nth}
 use Rattle.language.specs.Results.{bind_checked}
 use Rattle.language.specs.Rows.{C_class}
@@ -22,18 +24,17 @@ use Rattle.language.specs.Encoded.{RowAt}
 use Rattle.language.proofs.Lines.{less_or_same}
 use Rattle.layout.specs.Found.{methods_few}
 use Rattle.members.specs.Answers.{headed}
-use Rattle.members.specs.declared.Headed.{Headed}
-use Rattle.members.specs.declared.Headed.TheVariants.{Passed, Refused}
 use Rattle.members.specs.Blocks.{Lookups}
 use Rattle.members.specs.Numbers.{first_number, Numbered}
 use Rattle.members.specs.Ready.{ClassHere}
-use Rattle.headings.specs.Ready.{Cleared, ClassReady, ReadReady, ClassesReady, HeadingsReady}
+use Rattle.headings.proofs.Copying.{Cleared}
+use Rattle.headings.specs.Ready.{ClassReady, ReadReady, ClassesReady, HeadingsReady}
 use Rattle.members.proofs.Checks.{bind_passed, bind_refused, refused_is, passed_is, is_passed}
 use Rattle.members.proofs.Checks.{passed_count}
 use Rattle.members.proofs.Checks.{is_refused}
 use Rattle.members.proofs.Lines.{row_next, class_lines_at}
 use Rattle.members.proofs.Numbers.{first_next, first_few, all_placed, numbered_all}
-use Rattle.members.proofs.FieldLaws.{nil_of}
+use Rattle.members.proofs.Loops.{nil_of}
 use Rattle.headings.proofs.Classes.{above_of}
 
 cons_of : {A : Type 0} (l : List A) → 0 < length l → (x : A) × (xs : List A) × (l ≡ x ∷ xs)
@@ -145,80 +146,78 @@ module _ {R E T₀ A₀ M₀ F₀ : List ℕ} {count : ℕ} (w : ClassesReady R 
       unfolding check_classes
       on = p.answer ∙ ap (check_classes of_check w.program.classes k (r + 1)) one.2
 
-      module _ (a : Headed) (T' M' F' : List ℕ) (f : (v : ClassReady R E T M F k r next count)
-          → (a ≡ headed (length v.one.methods)
-          (check_class of_check v.program.classes k (r + 1) v.one))
-          × ((n : ℕ) → a ≡ Passed n → Lookups v.program.classes (k + 1) T'
+      pub going_refused : (e : Refusal)
+          → ((v : ClassReady R E T M F k r next count)
+          → (Err e ≡ headed (length v.one.methods) (check_class of_check v.program.classes k (r + 1) v.one)))
+          → Err e ≡ headed all (headings of_check w.program.classes)
+      going_refused e f = refused_is (λ _. all) _ e (on ∙ bind_refused _ _ e.number e.line
+          (is_refused (λ _. length one.0.methods) _ e (f going_ready)))
+
+      module _ (n : ℕ) (T' M' F' : List ℕ) (f : (v : ClassReady R E T M F k r next count)
+          → (Ok n ≡ headed (length v.one.methods) (check_class of_check v.program.classes k (r + 1) v.one))
+          × (Lookups v.program.classes (k + 1) T'
           × Numbered v.program.classes M' F' (next + length v.one.methods))) where
-        pub going_refused : (m q : ℕ) → a ≡ Refused m q
-            → a ≡ headed all (headings of_check w.program.classes)
-        going_refused m q e = e
-            ∙ refused_is all _ m q (on ∙ bind_refused _ _ m q
-            (is_refused (length one.0.methods) _ m q (sym e ∙ (f going_ready).0)))
+        -- the class has n methods
+        n_is : n ≡ length one.0.methods
+        n_is = passed_count (length one.0.methods)
+            (check_class of_check w.program.classes k (r + 1) one.0) n (f going_ready).0
 
-        module _ (n : ℕ) (d : a ≡ Passed n) where
-          -- the class has n methods
-          n_is : n ≡ length one.0.methods
-          n_is = passed_count (length one.0.methods)
-              (check_class of_check w.program.classes k (r + 1) one.0) n (sym d ∙ (f going_ready).0)
+        -- there are at most 20,000 in all
+        pub going_count : next + n ≤ 20000
+        going_count = omega (
+          arith,
+          n_is,
+          p.next_is,
+          first_few w.program.classes k one.0 this,
+          methods_few w.standing,
+          w.standing.all,
+          w.standing.short,
+        )
 
-          -- there are at most 20,000 in all
-          pub going_count : next + n ≤ 20000
-          going_count = omega (
-            arith,
-            n_is,
-            p.next_is,
-            first_few w.program.classes k one.0 this,
-            methods_few w.standing,
-            w.standing.all,
-            w.standing.short,
-          )
+        pub super_earlier : (over : ℕ) → over ≡ get_or R (r * 4 + 2) 0 → over < k
+        super_earlier over over_is = omega (
+          arith,
+          over_is,
+          (f going_ready).1.0.earlier k one.0 (omega arith) this,
+          line.second,
+        )
 
-          pub super_earlier : (over : ℕ) → over ≡ get_or R (r * 4 + 2) 0 → over < k
-          super_earlier over over_is = omega (
-            arith,
-            over_is,
-            ((f going_ready).1 n d).0.earlier k one.0 (omega arith) this,
-            line.second,
-          )
+        above-is : (over : ℕ) → over ≡ get_or R (r * 4 + 2) 0 → (b : ℕ) → b ≡ effect_of k
+            → bit_or b (get_or A over 0) ≡ above w.program.classes k
+        unfolding join
+        above-is over over_is b e =
+            let s = over_is ∙ line.second in
+            let c = one.0 in
+            let h : c.super < k = omega (arith, super_earlier over over_is, s) in
+            rw (e, p.aboves over (super_earlier over over_is), s)
+            (sym (above_of w.program.classes k p.lookups.earlier k c this h (omega arith)))
 
-          above-is : (over : ℕ) → over ≡ get_or R (r * 4 + 2) 0 → (b : ℕ) → b ≡ effect_of k
-              → bit_or b (get_or A over 0) ≡ above w.program.classes k
-          unfolding join
-          above-is over over_is b e =
-              let s = over_is ∙ line.second in
-              let c = one.0 in
-              let h : c.super < k = omega (arith, super_earlier over over_is, s) in
-              rw (e, p.aboves over (super_earlier over over_is), s)
-              (sym (above_of w.program.classes k p.lookups.earlier k c this h (omega arith)))
-
-          pub going_step : (over : ℕ) → over ≡ get_or R (r * 4 + 2) 0 → (b : ℕ) → b ≡ effect_of k → (row : ℕ)
-              → ((v : ClassHere R E r) → row ≡ r + class_lines v.one)
-              → Going T' (set A k (bit_or b (get_or A over 0))) M' F' (k + 1) row (next + n)
-          going_step over over_is b e row g =
-              let x = bit_or b (get_or A over 0) in
-              let q : row ≡ r + class_lines one.0 = g going_here in
-              let s : k + 1 ≡ suc k = omega arith in
-              let t : r + class_lines one.0 + 1 ≡ r + 1 + class_lines one.0 = omega arith in
-              record {
-                rest = one.1;
-                left = omega (arith, p.left, ap length one.2);
-                rest_is = rest-on;
-                row_is = omega (arith, q, p.row_is, row_next w.program.classes k one.0 this);
-                answer = on ∙ (bind_passed _ _ (is_passed (length one.0.methods) _ n
-                    (sym d ∙ (f going_ready).0))
-                    ∙ rw (q, s, t));
-                lookups = ((f going_ready).1 n d).0;
-                next_is = omega (arith, n_is, p.next_is, first_next w.program.classes k one.0 this);
-                entered = rw n_is ((f going_ready).1 n d).1;
-                aboves = λ j h. ⊎_elim
-                    (λ y. get_or-set_other A k j x 0 (λ z. omega (arith, z, y)) ∙ p.aboves j y)
-                    (λ y. ap (λ (j : ℕ). get_or (set A k x) j 0) y
-                    ∙ (get_or-set_same A k x 0 going_index.2
-                    ∙ (above-is over over_is b e ∙ ap (above w.program.classes) (sym y))))
-                    (less_or_same j k (omega (arith, h)));
-                long_above = length-set A k x ∙ p.long_above;
-              }
+        pub going_step : (over : ℕ) → over ≡ get_or R (r * 4 + 2) 0 → (b : ℕ) → b ≡ effect_of k → (row : ℕ)
+            → ((v : ClassHere R E r) → row ≡ r + class_lines v.one)
+            → Going T' (set A k (bit_or b (get_or A over 0))) M' F' (k + 1) row (next + n)
+        going_step over over_is b e row g =
+            let x = bit_or b (get_or A over 0) in
+            let q : row ≡ r + class_lines one.0 = g going_here in
+            let s : k + 1 ≡ suc k = omega arith in
+            let t : r + class_lines one.0 + 1 ≡ r + 1 + class_lines one.0 = omega arith in
+            record {
+              rest = one.1;
+              left = omega (arith, p.left, ap length one.2);
+              rest_is = rest-on;
+              row_is = omega (arith, q, p.row_is, row_next w.program.classes k one.0 this);
+              answer = on ∙ (bind_passed _ _ (is_passed (λ _. length one.0.methods) _ (f going_ready).0)
+                  ∙ rw (q, s, t));
+              lookups = (f going_ready).1.0;
+              next_is = omega (arith, n_is, p.next_is, first_next w.program.classes k one.0 this);
+              entered = rw n_is (f going_ready).1.1;
+              aboves = λ j h. ⊎_elim
+                  (λ y. get_or-set_other A k j x 0 (λ z. omega (arith, z, y)) ∙ p.aboves j y)
+                  (λ y. ap (λ (j : ℕ). get_or (set A k x) j 0) y
+                  ∙ (get_or-set_same A k x 0 going_index.2
+                  ∙ (above-is over over_is b e ∙ ap (above w.program.classes) (sym y))))
+                  (less_or_same j k (omega (arith, h)));
+              long_above = length-set A k x ∙ p.long_above;
+            }
 
     module _ (l : count < k) where
       over : p.rest ≡ []
@@ -233,9 +232,9 @@ module _ {R E T₀ A₀ M₀ F₀ : List ℕ} {count : ℕ} (w : ClassesReady R 
       pub going_total : next ≤ 20000
       going_total = omega (arith, total, methods_few w.standing, w.standing.all, w.standing.short)
 
-      pub going_end : Passed next ≡ headed all (headings of_check w.program.classes)
+      pub going_end : Ok next ≡ headed all (headings of_check w.program.classes)
       unfolding check_classes
-      going_end = rw total (passed_is all _ (p.answer ∙ ap
+      going_end = rw total (passed_is (λ _. all) _ (p.answer ∙ ap
           (check_classes of_check w.program.classes k (r + 1)) over))
 
       pub going_done : ClassTables w.program.classes T A × MethodTables w.program.classes M F

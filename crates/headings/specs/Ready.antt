@@ -10,18 +10,6 @@ use Rattle.members.specs.Blocks.{Lookups}
 use Rattle.members.specs.Numbers.{numbers_a_method, most_methods, first_number}
 use Rattle.members.specs.Numbers.{Numbered}
 
--- A part of a list was copied to a place after it.
-pub record Copied (T T' : List ℕ) (from to n : ℕ) : Type 0 where
-  pub long : length T' ≡ length T
-  pub part : (i : ℕ) → i < n → get_or T' (to + i) 0 ≡ get_or T (from + i) 0
-  pub before : (j : ℕ) → j < to → get_or T' j 0 ≡ get_or T j 0
-  pub after : (j : ℕ) → to + n ≤ j → get_or T' j 0 ≡ get_or T j 0
-
--- The first block is clear.
-pub record Cleared (T T' : List ℕ) (n : ℕ) : Type 0 where
-  pub long : length T' ≡ length T
-  pub zero : (i : ℕ) → i < n → get_or T' i 0 ≡ 0
-
 pub record ReadReady (R E T : List ℕ) : Type 0 where
   pub program : Program
   pub standing : ProgramAt R E program

@@ -1,31 +1,28 @@
 // The pass over headings (document 01, "Headings"): classes as they are declared, each with its members.
 #![tactic(auto)]
 
-ghost use Rattle.std.specs.Prelude.{◌≡◌, true, ℕ, ◌+◌, ◌*◌, ◌≤◌, ◌<◌, length};
+ghost use Rattle.std.specs.Prelude.{◌≡◌, ℕ, ◌+◌, length, Ok};
 ghost use Rattle.std.proofs.Math.Option.{some};
 ghost use Rattle.language.specs.Limits.{of_check};
 ghost use Rattle.language.specs.Tree.{kind_of_number, class_lines};
 ghost use Rattle.language.specs.Program.{world};
-ghost use Rattle.language.specs.ClassTables.{ClassTables, class_width, method_number, field_rows};
+ghost use Rattle.language.specs.ClassTables.{ClassTables, method_number, field_rows};
 ghost use Rattle.language.specs.MethodTables.{placed_methods, MethodTables};
 ghost use Rattle.language.specs.Headings.{may_extend, check_class, headings};
 ghost use Rattle.members.specs.Answers.{headed};
 ghost use Rattle.members.specs.Blocks.{Lookups, Working};
 ghost use Rattle.members.specs.Numbers.{Numbered};
 ghost use Rattle.members.specs.Ready.{ClassHere};
-ghost use Rattle.headings.specs.Ready.{Copied, Cleared, ReadReady, StartReady, ClassReady};
+ghost use Rattle.headings.specs.Ready.{ReadReady, StartReady, ClassReady};
 ghost use Rattle.headings.specs.Ready.{ClassesReady, HeadingsReady};
 
 use language::{
-    CLASS, CLASS_WIDTH, FIELD, KIND_PLACE, KIND_REFUSAL, METHOD, NAME_REFUSAL, ROOT_PLACE,
+    CLASS, CLASS_WIDTH, FIELD, KIND_PLACE, KIND_REFUSAL, METHOD, NAME_REFUSAL, ROOT_PLACE, Refusal,
     SUPER_PLACE, first, letter_at, second,
 };
-use members::Headed;
 use members::fields::check_fields;
 use members::methods::check_methods;
-
-// How many numbers a class has in the table from its root on.
-const FROM_ROOT: usize = CLASS_WIDTH - ROOT_PLACE;
+use members::{PLAIN_KIND, ROOT_KIND, STATE_KIND};
 
 // The row after a class.
 fn skip_class(rows: &[u32], ends: &[u16], r: usize) -> usize
@@ -58,44 +55,15 @@ fn read_classes(rows: &[u32], ends: &[u16], tables: &mut [u16]) -> usize
     k
 }
 
-// Clears the block of Object.
-fn clear_object(tables: &mut [u16])
-    requires { class_width ≤ length tables.old }
-    ensures { Cleared tables.old tables.new class_width }
-{
-    let mut i = 0;
-    while i < CLASS_WIDTH {
-        tables[i] = 0;
-        i += 1;
-    }
-}
-
-// Copies a part of the table to another place after it.
-fn copy_part(tables: &mut [u16], from: usize, to: usize, n: usize)
-    requires { (from + n ≤ to) × (to + n ≤ length tables.old) }
-    ensures { Copied tables.old tables.new from to n }
-{
-    let mut i = 0;
-    while i < n {
-        tables[to + i] = tables[from + i];
-        i += 1;
-    }
-}
-
 // May a class of one kind extend one of another; Object is as a plain class.
-fn may_extend(kind: u32, above: u16) -> bool
+fn may_extend(kind: u32, above: u32) -> bool
     ensures { result ≡ may_extend (kind_of_number kind) (some (kind_of_number above)) }
 {
-    if kind <= 1 {
-        return above == 0;
+    match kind {
+        PLAIN_KIND | ROOT_KIND => above == PLAIN_KIND,
+        STATE_KIND => above == ROOT_KIND || above == STATE_KIND,
+        _ => false,
     }
-    if kind == 2 {
-        if above == 1 {
-            return true;
-        }
-        return above == 2;
-    }
-    false
 }
 
 // Starts the block of a class as its superclass's, with its own root.
@@ -107,14 +75,15 @@ fn start_block(tables: &mut [u16], k: usize, over: usize, kind: u32)
 {
     let base = k * CLASS_WIDTH;
     let from = over * CLASS_WIDTH;
-    copy_part(tables, from, base, KIND_PLACE);
-    copy_part(tables, from + ROOT_PLACE, base + ROOT_PLACE, FROM_ROOT);
-    if kind != 2 {
+    tables.copy_within(from..from + KIND_PLACE, base);
+    tables.copy_within(from + ROOT_PLACE..from + CLASS_WIDTH, base + ROOT_PLACE);
+    if kind != STATE_KIND {
         tables[base + ROOT_PLACE] = k as u16;
     }
 }
 
-// Checks class k, fills its block and enters its methods, the first of which has number `first`.
+// Checks class k, fills its block and enters its methods, the first of which has number `first`; answers how many they
+// are.
 fn check_class(
     rows: &[u32],
     ends: &[u16],
@@ -125,30 +94,34 @@ fn check_class(
     r: usize,
     first: usize,
     count: usize,
-) -> Headed
+) -> Result<u32, Refusal>
     requires { ClassReady rows.now ends.now tables.old methods.old effects.old k r first count }
     ensures { (w : ClassReady rows.now ends.now tables.old
         methods.old effects.old k r first count)
         → (result ≡ headed (length w.one.methods) (check_class of_check w.program.classes k (r + 1)
         w.one))
-        × ((n : ℕ) → result ≡ Headed.Passed n → Lookups w.program.classes (k + 1) tables.new
+        × ((n : ℕ) → result ≡ Ok n → Lookups w.program.classes (k + 1) tables.new
         × Numbered w.program.classes methods.new effects.new
         (first + length w.one.methods)) }
 {
     let kind = language::first(rows, r);
     let over = second(rows, r) as usize;
+    let line = r as u32 + 1;
     if k <= over {
-        return Headed::Refused(NAME_REFUSAL, (r + 1) as u32);
+        return Err(Refusal {
+            number: NAME_REFUSAL,
+            line,
+        });
     }
-    if !may_extend(kind, tables[over * CLASS_WIDTH + KIND_PLACE]) {
-        return Headed::Refused(KIND_REFUSAL, (r + 1) as u32);
+    if !may_extend(kind, u32::from(tables[over * CLASS_WIDTH + KIND_PLACE])) {
+        return Err(Refusal {
+            number: KIND_REFUSAL,
+            line,
+        });
     }
     start_block(tables, k, over, kind);
     let n = layout::count_rows(rows, r + 1, FIELD);
-    let f = check_fields(rows, tables, r + 1, n, k * CLASS_WIDTH, count);
-    let Headed::Passed(_) = f else {
-        return f;
-    };
+    check_fields(rows, tables, r + 1, n, k * CLASS_WIDTH, count)?;
     check_methods(
         rows,
         ends,
@@ -162,7 +135,7 @@ fn check_class(
     )
 }
 
-// Checks all classes in order and fills the tables.
+// Checks all classes in order and fills the tables; answers how many methods there are.
 fn check_classes(
     rows: &[u32],
     ends: &[u16],
@@ -171,30 +144,25 @@ fn check_classes(
     methods: &mut [u16],
     effects: &mut [u64],
     count: usize,
-) -> Headed
+) -> Result<u32, Refusal>
     requires { ClassesReady rows.now ends.now tables.old above.old methods.old effects.old count }
     ensures { (w : ClassesReady rows.now ends.now tables.old
         above.old methods.old effects.old count)
         → (result ≡ headed (length (placed_methods w.program.classes)) (headings of_check w.program.classes))
-        × ((n : ℕ) → result ≡ Headed.Passed n
+        × ((n : ℕ) → result ≡ Ok n
         → ClassTables w.program.classes tables.new above.new
         × MethodTables w.program.classes methods.new effects.new) }
 {
-    let mut k = 1;
     let mut r = 0;
     let mut next = 0;
-    while k <= count {
-        let h = check_class(rows, ends, tables, methods, effects, k, r, next, count);
-        let Headed::Passed(n) = h else {
-            return h;
-        };
+    for k in 1..=count {
+        let many = check_class(rows, ends, tables, methods, effects, k, r, next, count)?;
         let over = second(rows, r) as usize;
         above[k] = classes::effect_of(k as u32) | above[over];
         r = skip_class(rows, ends, r);
-        next += n as usize;
-        k += 1;
+        next += many as usize;
     }
-    Headed::Passed(next as u32)
+    Ok(next as u32)
 }
 
 // The pass over headings. Where it passes, the tables hold the classes and the methods, and it tells how many methods
@@ -206,16 +174,16 @@ pub fn check_headings(
     above: &mut [u64],
     methods: &mut [u16],
     effects: &mut [u64],
-) -> Headed
+) -> Result<u32, Refusal>
     requires { HeadingsReady rows.now ends.now tables.old above.old methods.old effects.old }
     ensures { (w : HeadingsReady rows.now ends.now tables.old
         above.old methods.old effects.old)
         → (result ≡ headed (length (placed_methods w.program.classes)) (headings of_check w.program.classes))
-        × ((n : ℕ) → result ≡ Headed.Passed n
+        × ((n : ℕ) → result ≡ Ok n
         → ClassTables w.program.classes tables.new above.new
         × MethodTables w.program.classes methods.new effects.new) }
 {
-    clear_object(tables);
+    tables[..CLASS_WIDTH].fill(0);
     above[0] = 0;
     let count = read_classes(rows, ends, tables);
     check_classes(rows, ends, tables, above, methods, effects, count)
