@@ -7,11 +7,12 @@ use native.Mathlib.Omega.{arith}
 use lib.ListN.{length, drop, get_or, set, length-append, length-drop}
 use Rattle.language.specs.Effects.{join, effect_of}
 use Rattle.language.specs.Results.{accept, refuse, accept≢refuse, accept_injective}
-use Rattle.language.specs.declared.Filled.{Filled}
-use Rattle.language.specs.declared.Filled.TheVariants.{Done, Refused}
-use Rattle.prices.specs.Terms.{Term, term_line, is_signed, next_line, terms_after, terms_of}
-use Rattle.terms.specs.Tables.{is_marked, Marks, Ruled, scanned}
-use Rattle.prices.specs.declared.TermLine.TheVariants.{Numbers, Malformed}
+use Rattle.std.specs.Prelude.{Option as Kept, Some, None, Result, Ok, Err}
+use Rattle.terms.specs.declared.Entry.{Entry}
+use Rattle.language.specs.Refusals.{refusal}
+use Rattle.language.specs.declared.Refusal.{Refusal}
+use Rattle.prices.specs.Terms.{Term, term_numbers, term_line, is_signed, next_line, terms_after, terms_of}
+use Rattle.terms.specs.Tables.{entry, is_marked, Marks, Ruled, scanned}
 use Rattle.prices.proofs.Terms.{next_term, Seen, seen_none, seen_few, seen_more, LineInRange, term_line_range}
 use Rattle.prices.proofs.Terms.{terms_end, terms_malformed, terms_reversed, terms_repeated, terms_more}
 use Rattle.terms.specs.Entering.{term_entered}
@@ -19,13 +20,13 @@ use Rattle.terms.proofs.Entering.{ruled_more}
 use Rattle.terms.proofs.Marking.{marks_more}
 
 -- What is returned: how many terms there are, or the refusal; where they are accepted the table tells which rule.
-abbrev pub Told : List ℕ → ℕ → ℕ → ℕ → List ℕ → Filled → Type 0
+abbrev pub Told : List ℕ → ℕ → ℕ → ℕ → List (Kept Entry) → Result ℕ Refusal → Type 0
 Told text model day count table r =
     (r ≡ scanned (terms_of text))
     × ((ts : List Term) → terms_of text ≡ accept ts → Ruled model day count table ts)
 
 -- Between two lines the terms of the text are those seen and those of the rest.
-pub record Scanning (text : List ℕ) (model day count : ℕ) (marks table : List ℕ) (at line : ℕ) : Type 0 where
+pub record Scanning (text : List ℕ) (model day count : ℕ) (marks : List ℕ) (table : List (Kept Entry)) (at line : ℕ) : Type 0 where
   pub seen : List Term
   pub left : terms_of text ≡ terms_after seen 0 (drop at text)
   pub within : at ≤ length text
@@ -34,7 +35,7 @@ pub record Scanning (text : List ℕ) (model day count : ℕ) (marks table : Lis
   pub ruled : Ruled model day count table seen
   pub good : Seen seen
 
-pub scan_start : (text : List ℕ) (model day count : ℕ) (marks table : List ℕ) → Marks marks []
+pub scan_start : (text : List ℕ) (model day count : ℕ) (marks : List ℕ) (table : List (Kept Entry)) → Marks marks []
     → Ruled model day count table [] → Scanning text model day count marks table 0 1
 scan_start text model day count marks table m r =
     record {
@@ -47,13 +48,13 @@ scan_start text model day count marks table m r =
       good = seen_none;
     }
 
-module _ {text : List ℕ} {model day count : ℕ} {marks table : List ℕ} {at line : ℕ}
+module _ {text : List ℕ} {model day count : ℕ} {marks : List ℕ} {table : List (Kept Entry)} {at line : ℕ}
     (p : Scanning text model day count marks table at line) where
   -- There are at most 65,536 terms, each with a signing number of its own.
   pub scan_line : (1 ≤ line) × (line ≤ 65537)
   scan_line = let few = seen_few p.good in (omega (arith, p.here), omega (arith, p.here, few))
 
-  pub scan_done : length text ≤ at → Told text model day count table (Done (line - 1))
+  pub scan_done : length text ≤ at → Told text model day count table (Ok (line - 1))
   scan_done h =
       let all : terms_of text ≡ accept p.seen = p.left ∙ terms_end p.seen at text h in
       let n : line - 1 ≡ length p.seen = omega (arith, p.here) in (
@@ -61,9 +62,9 @@ module _ {text : List ℕ} {model day count : ℕ} {marks table : List ℕ} {at 
         λ ts e. let q : p.seen ≡ ts = accept_injective (sym all ∙ e) in rw (← q) p.ruled,
       )
 
-  refused : (number : ℕ) (table' : List ℕ)
+  refused : (number : ℕ) (table' : List (Kept Entry))
       → terms_after p.seen 0 (drop at text) ≡ refuse number (next_line p.seen)
-      → Told text model day count table' (Refused number line)
+      → Told text model day count table' (Err (refusal number line))
   refused number table' e =
       let all : terms_of text ≡ refuse number line = p.left
       ∙ (e ∙ ap (λ (n : ℕ). refuse number n) (sym p.here)) in (
@@ -72,11 +73,11 @@ module _ {text : List ℕ} {model day count : ℕ} {marks table : List ℕ} {at 
       )
 
   module _ (h : at < length text) where
-    pub scan_malformed : term_line (drop at text) ≡ Malformed
-        → Told text model day count table (Refused 1 line)
+    pub scan_malformed : term_line (drop at text) ≡ None
+        → Told text model day count table (Err (refusal 1 line))
     scan_malformed e = refused 1 table (terms_malformed p.seen at text h e)
 
-    module _ (m f l c g u : ℕ) (e : term_line (drop at text) ≡ Numbers m f l c g u) where
+    module _ (m f l c g u : ℕ) (e : term_line (drop at text) ≡ Some (term_numbers m f l c g u)) where
       line-range : LineInRange (drop at text) m f l c g u
       line-range = term_line_range (drop at text) m f l c g u e
 
@@ -87,16 +88,16 @@ module _ {text : List ℕ} {model day count : ℕ} {marks table : List ℕ} {at 
       pub scan_used : (1 ≤ u) × (at + u ≤ length text)
       scan_used = (line-range.used_from, omega (arith, line-range.used_to, length-drop at text, h))
 
-      pub scan_reversed : l < f → Told text model day count table (Refused 23 line)
+      pub scan_reversed : l < f → Told text model day count table (Err (refusal 23 line))
       scan_reversed q = refused 23 table (terms_reversed p.seen at text h m f l c g u e q)
 
-      pub scan_repeated : is_marked marks g ≡ true → Told text model day count table (Refused 23 line)
+      pub scan_repeated : is_marked marks g ≡ true → Told text model day count table (Err (refusal 23 line))
       scan_repeated q = refused 23 table
           (terms_repeated p.seen at text h m f l c g u e (sym (p.marked.each g scan_signing) ∙ q))
 
-      pub scan_step : (marks' table' : List ℕ) → f ≤ l → is_marked marks g ≡ false → count ≤ 31
+      pub scan_step : (marks' : List ℕ) (table' : List (Kept Entry)) → f ≤ l → is_marked marks g ≡ false → count ≤ 31
           → marks' ≡ set marks (g / 64) (join (get_or marks (g / 64) 0) (effect_of (g % 64 + 1)))
-          → table' ≡ term_entered model day count m f l line g c table
+          → table' ≡ term_entered model day count m f l (entry line g c) table
           → Scanning text model day count marks' table' (at + u) (line + 1)
       scan_step marks' table' days fresh few v w =
           let new : is_signed g p.seen ≡ false = sym (p.marked.each g scan_signing) ∙ fresh in
@@ -107,6 +108,6 @@ module _ {text : List ℕ} {model day count : ℕ} {marks table : List ℕ} {at 
             here = let n = length-append p.seen (next_term p.seen m f l c g ∷ []) in
                 omega (arith, p.here, n);
             marked = marks_more (next_term p.seen m f l c g) marks' p.marked scan_signing v;
-            ruled = rw (w, p.here) (ruled_more p.ruled few p.good.each m f l c g);
+            ruled = rw (w, p.here) (ruled_more p.ruled few m f l c g);
             good = seen_more p.good line-range new;
           }

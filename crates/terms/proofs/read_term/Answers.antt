@@ -1,42 +1,58 @@
 -- `terms::read_term` meets its contract. Assumes nothing.
-use mathlib.Core.Path.{sym, ◌∙◌}
+use Rattle.std.proofs.Common.{sym, ◌∙◌}
 use Rattle.terms.proofs.Lines.{no_first, no_second, no_third, no_fourth, no_fifth, all_five}
+use Rattle.terms.proofs.Lines.{ended_past, ended_other, ended_feed}
+use Rattle.terms.proofs.read_term.Goals.{then-s-at-via-then-s-at, then-s-at-via-else-s-at+then-s-at-ne10}
 use Rattle.terms.proofs.read_term.Goals as goal
 
-pub returns-in_default : goal.returns-in_default
-returns-in_default c = no_first c.args.s.now (sym c.read_first-one.ensures ∙ c.in_default.is)
+pub returns-in_err-model : goal.returns-in_err-model
+returns-in_err-model c = c.from_residual.ensures ∙ no_first _ (sym c.read_first.ensures ∙ c.in_err-model.was)
 
-pub returns-in_default-two : goal.returns-in_default-two
-returns-in_default-two c = no_second c.args.s.now
-    (sym c.read_first-one.ensures ∙ c.in-Number.is)
-    (sym c.read_number-two.ensures ∙ c.in_default-two.is)
+pub returns-in_err-first : goal.returns-in_err-first
+returns-in_err-first c =
+    let one = sym c.read_first.ensures ∙ c.in_ok-model.was in
+    c.from_residual-in_err-first.ensures ∙ no_second _ one (sym c.read_number.ensures ∙ c.in_err-first.was)
 
-pub returns-in_default-three : goal.returns-in_default-three
-returns-in_default-three c = no_third c.args.s.now
-    (sym c.read_first-one.ensures ∙ c.in-Number.is)
-    (sym c.read_number-two.ensures ∙ c.in-Number-two.is)
-    (sym c.read_number-three.ensures ∙ c.in_default-three.is)
+pub returns-in_err-last : goal.returns-in_err-last
+returns-in_err-last c =
+    let one = sym c.read_first.ensures ∙ c.in_ok-model.was in
+    let two = sym c.read_number.ensures ∙ c.in_ok-first.was in
+    c.from_residual-in_err-last.ensures ∙ no_third _ one two (sym c.read_number-2.ensures ∙ c.in_err-last.was)
 
-pub returns-in_default-four : goal.returns-in_default-four
-returns-in_default-four c = no_fourth c.args.s.now
-    (sym c.read_first-one.ensures ∙ c.in-Number.is)
-    (sym c.read_number-two.ensures ∙ c.in-Number-two.is)
-    (sym c.read_number-three.ensures ∙ c.in-Number-three.is)
-    (sym c.read_number-four.ensures ∙ c.in_default-four.is)
+pub returns-in_err-cents : goal.returns-in_err-cents
+returns-in_err-cents c =
+    let one = sym c.read_first.ensures ∙ c.in_ok-model.was in
+    let two = sym c.read_number.ensures ∙ c.in_ok-first.was in
+    let three = sym c.read_number-2.ensures ∙ c.in_ok-last.was in
+    c.from_residual-in_err-cents.ensures
+    ∙ no_fourth _ one two three (sym c.read_number-3.ensures ∙ c.in_err-cents.was)
 
-pub returns-in_default-five : goal.returns-in_default-five
-returns-in_default-five c = no_fifth c.args.s.now
-    (sym c.read_first-one.ensures ∙ c.in-Number.is)
-    (sym c.read_number-two.ensures ∙ c.in-Number-two.is)
-    (sym c.read_number-three.ensures ∙ c.in-Number-three.is)
-    (sym c.read_number-four.ensures ∙ c.in-Number-four.is)
-    (sym c.read_number-five.ensures ∙ c.in_default-five.is)
+pub returns-in_err-signing : goal.returns-in_err-signing
+returns-in_err-signing c =
+    let one = sym c.read_first.ensures ∙ c.in_ok-model.was in
+    let two = sym c.read_number.ensures ∙ c.in_ok-first.was in
+    let three = sym c.read_number-2.ensures ∙ c.in_ok-last.was in
+    let four = sym c.read_number-3.ensures ∙ c.in_ok-cents.was in
+    c.from_residual-in_err-signing.ensures
+    ∙ no_fifth _ one two three four (sym c.read_number-4.ensures ∙ c.in_err-signing.was)
+
+pub returns-then-s-at : goal.returns-then-s-at
+returns-then-s-at c =
+    let one = sym c.read_first.ensures ∙ c.in_ok-model.was in
+    let two = sym c.read_number.ensures ∙ c.in_ok-first.was in
+    let three = sym c.read_number-2.ensures ∙ c.in_ok-last.was in
+    let four = sym c.read_number-3.ensures ∙ c.in_ok-cents.was in
+    let five = sym c.read_number-4.ensures ∙ c.in_ok-signing.was in
+    all_five _ one two three four five (elim c.then-s-at.branch [
+      | then-s-at-via-then-s-at w ↦ ended_past _ _ _ _ _ _ _ w.if-s-at.true
+      | then-s-at-via-else-s-at+then-s-at-ne10 w ↦ ended_other _ _ _ _ _ _ _ w.if-s-at.false w.if-s-at-ne10.true
+    ])
 
 pub returns : goal.returns
-returns c = all_five c.args.s.now
-    (sym c.read_first-one.ensures ∙ c.in-Number.is)
-    (sym c.read_number-two.ensures ∙ c.in-Number-two.is)
-    (sym c.read_number-three.ensures ∙ c.in-Number-three.is)
-    (sym c.read_number-four.ensures ∙ c.in-Number-four.is)
-    (sym c.read_number-five.ensures ∙ c.in-Number-five.is)
-    c.end_line.ensures
+returns c =
+    let one = sym c.read_first.ensures ∙ c.in_ok-model.was in
+    let two = sym c.read_number.ensures ∙ c.in_ok-first.was in
+    let three = sym c.read_number-2.ensures ∙ c.in_ok-last.was in
+    let four = sym c.read_number-3.ensures ∙ c.in_ok-cents.was in
+    let five = sym c.read_number-4.ensures ∙ c.in_ok-signing.was in
+    all_five _ one two three four five (ended_feed _ _ _ _ _ _ _ c.if-s-at.false c.if-s-at-ne10.false)
