@@ -128,13 +128,13 @@ module _ {R T M C S : List ℕ} {at vars next place : ℕ} where
       (r.0, r.1, r.2, omega (arith, t.low, call_room t))
 
 -- what is read on the way to the method's parameters: its name, how many arguments there are, its entry
-module _ {R T M C S : List ℕ} {at vars next place f l : ℕ} (a : f ≡ get_or R (at * 4 + 1) 0)
-    (d : l ≡ get_or R (at * 4 + 2) 0) where
+module _ {R T M C S : List ℕ} {at vars next place f l class : ℕ} (a : f ≡ get_or R (at * 4 + 1) 0)
+    (d : l ≡ get_or R (at * 4 + 2) 0) (class_is : class ≡ get_or C at 0) where
   pub call_known : SomeCall R T M C S at vars next place
-      → (f < 256) × (get_or C at 0 * 576 + (256 + f) < length T)
+      → (f < 256) × (class * 576 + (256 + f) < length T)
       × (place + 24 + 8 * l ≤ most_numbers) × (next + (l + 1) ≤ most_numbers)
   call_known x = let t = x.task in let n = call_name t in
-      rw (a ∙ n.0, d ∙ n.1, n.2) (
+      rw (a ∙ n.0, d ∙ n.1, class_is ∙ n.2) (
         n.3,
         omega (arith, n.3, n.4, t.setting.lent.held.headed.classes.long),
         omega (arith, call_room t),
@@ -178,60 +178,61 @@ module _ {R T M C S : List ℕ} {at vars next place f l : ℕ} (a : f ≡ get_or
       (rw (z', t.setting.free) (omega (arith, call_room t))) in
       omega (arith, z', d, n.1, rw t.setting.free at em.written.ended, call_room t)
 
-  module _ {i : ℕ} (g : i ≡ get_or T (get_or C at 0 * 576 + (256 + f)) 0) where
+  module _ {i : ℕ} (g : i ≡ get_or T (class * 576 + (256 + f)) 0) where
     -- the entry of the method
     call-entry : {P : List Class} {E : List ℕ} {γ : Environment} {sh : Shape} {m : ℕ} {e : Expr} {es : Exprs}
         (t : NodeTask P E (call m e es) γ sh R T M C S at vars next place) → i ≡ suc (call_method t).2
     call-entry {m = m} t = let n = call_name t in
         let z : call_class t * 576 + (256 + m) ≡ call_class t * 576 + 256 + m = omega arith in
-        rw (a ∙ n.0, n.2, z) at g ∙ (call_method t).3
+        rw (a ∙ n.0, class_is ∙ n.2, z) at g ∙ (call_method t).3
 
     pub call_found : SomeCall R T M C S at vars next place → (1 ≤ i) × ((i - 1) * 4 < length M)
     call_found x = let z = call-entry x.task in
         (omega (arith, z), omega (arith, z, (call_method x.task).4))
 
-    pub call_some_types : SomeCall R T M C S at vars next place → SomeTypes R (get_or M ((i - 1) * 4) 0 + 1) l
-    call_some_types x = let t = x.task in let n = call_name t in let h = call_method t in
-        let z : i - 1 ≡ h.2 = omega (arith, call-entry t) in
-        rw (d ∙ n.1, z) (record { letter = P_parameter; ts = call_types t; rows = h.5; counted = h.0 })
+    module _ {row : ℕ} (row_is : row ≡ get_or M ((i - 1) * 4) 0) where
+      pub call_some_types : SomeCall R T M C S at vars next place → SomeTypes R (row + 1) l
+      call_some_types x = let t = x.task in let n = call_name t in let h = call_method t in
+          let z : i - 1 ≡ h.2 = omega (arith, call-entry t) in
+          rw (row_is, d ∙ n.1, z) (record { letter = P_parameter; ts = call_types t; rows = h.5; counted = h.0 })
 
-    pub call_ended : {O O₁ O₂ : List ℕ} {p q c c' : ℕ} → (x : SomeCall R T M C S at vars next place)
-        → Written (66 ∷ c ∷ c' ∷ 0 ∷ 86 ∷ 1 ∷ 0 ∷ 0 ∷ []) O O₁ place p
-        → TypesWritten R (get_or M ((i - 1) * 4) 0 + 1) l 86 O₁ O₂ p q
-        → q ≡ place + 8 + 4 * l
-    call_ended x w v = let y = call_some_types x in
-        omega (
-          arith,
-          w.ended,
-          (v.each y.letter y.ts y.rows y.counted).ended,
-          types_length 86 y.ts,
-          y.counted,
-        )
+      pub call_ended : {O O₁ O₂ : List ℕ} {p q c c' : ℕ} → (x : SomeCall R T M C S at vars next place)
+          → Written (66 ∷ c ∷ c' ∷ 0 ∷ 86 ∷ 1 ∷ 0 ∷ 0 ∷ []) O O₁ place p
+          → TypesWritten R (row + 1) l 86 O₁ O₂ p q
+          → q ≡ place + 8 + 4 * l
+      call_ended x w v = let y = call_some_types x in
+          omega (
+            arith,
+            w.ended,
+            (v.each y.letter y.ts y.rows y.counted).ended,
+            types_length 86 y.ts,
+            y.counted,
+          )
 
-    pub call_done : {O O₁ O₂ O₃ O₄ O₅ : List ℕ} {p q r p' q' b : ℕ}
-        → Written (66 ∷ (l + 1) ∷ (l + 2) ∷ 0 ∷ 86 ∷ 1 ∷ 0 ∷ 0 ∷ []) O O₁ place p
-        → TypesWritten R (get_or M ((i - 1) * 4) 0 + 1) l 86 O₁ O₂ p q
-        → ArgumentsEmitted R T M C S O₂ O₃ (at + 1) vars (next + (l + 1)) q (l + 1) next r b
-        → Written (81 ∷ f ∷ l ∷ 0 ∷ 75 ∷ (get_or C at 0 + 2) ∷ 0 ∷ 0 ∷ 71 ∷ 255 ∷ 0 ∷ 0 ∷ 73 ∷ next ∷ 0 ∷ 0 ∷
-        [])
-        O₃ O₄ r p'
-        → Written (read_lines (next + 1) l) O₄ O₅ p' q' → CallEmitted R T M C S O O₅ at vars next place q' b
-    unfolding size how_many rows_taken
-    call_done {O} {O₁} {O₂} {O₃} {O₄} {O₅} {p} {q} {r} {p'} {q'} {b} w v o j k = record {
-      each = λ P E m e es γ sh t.
-          let n = call_name t in let h = call_method t in
-          let γ' = (typed_or (type_of (world P) e 0 γ)).slots in
-          let x : SomeCall R T M C S at vars next place =
-          record { P = P; E = E; m = m; e = e; es = es; γ = γ; sh = sh; task = t } in
-          let z : q ≡ place + 8 + 4 * count es = rw (d ∙ n.1) at (call_ended x w v) in
-          let y : i - 1 ≡ h.2 = omega (arith, call-entry t) in
-          let v' = rw (d ∙ n.1, y) at v in
-          let u = v'.each P_parameter (call_types t) h.5 h.0 in
-          let o' = rw (d ∙ n.1) at o in
-          let em = o'.each P E (call_arguments t) (call_shape t) (call_nodes t q z)
-          (omega (arith, nodes_counted (world P) es γ'))
-          (rw (z, t.setting.free) (omega (arith, call_room t))) in
-          whole (written_then w (written_then u (written_then em.written (written_then j k))))
-          (rw (a ∙ n.0, d ∙ n.1, n.2, t.setting.free) (sym (t_call (world P) γ sh m e es h.0 h.1)))
-          (omega (arith, em.passed, nodes_sizes (world P) es γ'));
-    }
+      pub call_done : {O O₁ O₂ O₃ O₄ O₅ : List ℕ} {p q r p' q' b : ℕ}
+          → Written (66 ∷ (l + 1) ∷ (l + 2) ∷ 0 ∷ 86 ∷ 1 ∷ 0 ∷ 0 ∷ []) O O₁ place p
+          → TypesWritten R (row + 1) l 86 O₁ O₂ p q
+          → ArgumentsEmitted R T M C S O₂ O₃ (at + 1) vars (next + (l + 1)) q (l + 1) next r b
+          → Written (81 ∷ f ∷ l ∷ 0 ∷ 75 ∷ (class + 2) ∷ 0 ∷ 0 ∷ 71 ∷ 255 ∷ 0 ∷ 0 ∷ 73 ∷ next ∷ 0 ∷ 0 ∷
+          [])
+          O₃ O₄ r p'
+          → Written (read_lines (next + 1) l) O₄ O₅ p' q' → CallEmitted R T M C S O O₅ at vars next place q' b
+      unfolding size how_many rows_taken
+      call_done {O} {O₁} {O₂} {O₃} {O₄} {O₅} {p} {q} {r} {p'} {q'} {b} w v o j k = record {
+        each = λ P E m e es γ sh t.
+            let n = call_name t in let h = call_method t in
+            let γ' = (typed_or (type_of (world P) e 0 γ)).slots in
+            let x : SomeCall R T M C S at vars next place =
+            record { P = P; E = E; m = m; e = e; es = es; γ = γ; sh = sh; task = t } in
+            let z : q ≡ place + 8 + 4 * count es = rw (d ∙ n.1) at (call_ended x w v) in
+            let y : i - 1 ≡ h.2 = omega (arith, call-entry t) in
+            let v' = rw (row_is, d ∙ n.1, y) at v in
+            let u = v'.each P_parameter (call_types t) h.5 h.0 in
+            let o' = rw (d ∙ n.1) at o in
+            let em = o'.each P E (call_arguments t) (call_shape t) (call_nodes t q z)
+            (omega (arith, nodes_counted (world P) es γ'))
+            (rw (z, t.setting.free) (omega (arith, call_room t))) in
+            whole (written_then w (written_then u (written_then em.written (written_then j k))))
+            (rw (a ∙ n.0, d ∙ n.1, class_is ∙ n.2, t.setting.free) (sym (t_call (world P) γ sh m e es h.0 h.1)))
+            (omega (arith, em.passed, nodes_sizes (world P) es γ'));
+      }

@@ -189,3 +189,22 @@ module _ {R T M C : List ℕ} {at place : ℕ} where
         go P E k (c ∷ cs) t = let d = o.each P E k c cs (class_first c cs t) in let e =
             v.each P E (suc k) cs (class_rest c cs t p b d.written.ended d.passed) in
             whole (written_then d.written e.written) refl (omega (arith, d.passed, e.passed))
+
+-- after some of the classes: what the rest writes makes what all write
+pub record ClassesLeft (R T M C O₀ O : List ℕ) (at₀ place₀ place at : ℕ) : Type 0 where
+  pub rest : SomeClasses R T M C at place
+  pub all : {O' : List ℕ} {q b : ℕ} → ClassesEmitted R T M C O O' at place q b
+      → ClassesEmitted R T M C O₀ O' at₀ place₀ q b
+
+pub classes_start : {R T M C O : List ℕ} {at place : ℕ} → SomeClasses R T M C at place
+    → ClassesLeft R T M C O O at place place at
+classes_start x = record { rest = x; all = λ n. n }
+
+module _ {R T M C O₀ O : List ℕ} {at₀ place₀ place at : ℕ} (l : ClassesLeft R T M C O₀ O at₀ place₀ place at) where
+  pub classes_done : get_or R (at * 4) 0 ≢ 67 → ClassesEmitted R T M C O₀ O at₀ place₀ place at
+  classes_done h = l.all (classes_end h)
+
+  pub classes_more : {O' : List ℕ} {p b : ℕ} → ClassEmitted R T M C O O' at place p b → get_or R (at * 4) 0 ≡ 67
+      → ClassesLeft R T M C O₀ O' at₀ place₀ p b × (at < b)
+  classes_more o h = let x = classes_rest o l.rest h in
+      (record { rest = x.0; all = λ n. l.all (classes_step o h n) }, x.1)

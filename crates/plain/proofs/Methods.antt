@@ -251,3 +251,23 @@ module _ {R T M C : List ℕ} {at place : ℕ} where
           go P E k (m ∷ ms) t = let d = method-emitted m ms t in let e =
               w.each P E k ms (method_rest m ms t r b d.0.ended d.1) in
               whole (written_then d.0 e.written) refl (omega (arith, d.1, e.passed))
+
+-- after some of the methods: what the rest writes makes what all write
+pub record MethodsLeft (R T M C O₀ O : List ℕ) (at₀ place₀ place at : ℕ) : Type 0 where
+  pub rest : SomeMethods R T M C at place
+  pub all : {O' : List ℕ} {q b : ℕ} → MethodsEmitted R T M C O O' at place q b
+      → MethodsEmitted R T M C O₀ O' at₀ place₀ q b
+
+pub methods_start : {R T M C O : List ℕ} {at place : ℕ} → SomeMethods R T M C at place
+    → MethodsLeft R T M C O O at place place at
+methods_start x = record { rest = x; all = λ n. n }
+
+module _ {R T M C O₀ O : List ℕ} {at₀ place₀ place at : ℕ} (l : MethodsLeft R T M C O₀ O at₀ place₀ place at) where
+  pub methods_done : get_or R (at * 4) 0 ≢ 77 → MethodsEmitted R T M C O₀ O at₀ place₀ place at
+  methods_done h = l.all (methods_end h)
+
+  pub methods_more : {p x : ℕ} (v : Run R 80 (at + 1) p) (u : Run R 88 (at + 1 + p) x) {O' : List ℕ} {r b : ℕ}
+      → MethodEmitted R T M C O O' at (at + 1 + p + x) place p r b → get_or R (at * 4) 0 ≡ 77
+      → MethodsLeft R T M C O₀ O' at₀ place₀ r b × (at < b)
+  methods_more v u o h = let x = methods_rest v u o l.rest h in
+      (record { rest = x.0; all = λ n. l.all (methods_step v u o h n) }, x.1)

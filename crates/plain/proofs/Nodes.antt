@@ -165,6 +165,35 @@ module _ {R T M C S O : List ℕ} {at vars next place count : ℕ} where
       go P E none sh k = record { written = written_none; passed = omega arith }
       go P E (also e γ es) sh k = absurd (omega (arith, k, z))
 
+-- after some of the nodes: what the rest writes makes what all write
+pub record NodesLeft (R T M C S O₀ O : List ℕ) (at₀ vars next place₀ count place at left : ℕ) : Type 0 where
+  pub rest : SomeNodes R T M C S at vars next place left
+  pub below : at₀ ≤ at
+  pub all : {O' : List ℕ} {q d : ℕ} → NodesEmitted R T M C S O O' at vars next place left q d
+      → NodesEmitted R T M C S O₀ O' at₀ vars next place₀ count q d
+
+pub left_start : {R T M C S O : List ℕ} {at vars next place count left : ℕ} → left ≡ count
+    → SomeNodes R T M C S at vars next place count
+    → NodesLeft R T M C S O O at vars next place count place at left
+left_start z x = rw z (record { rest = x; below = omega arith; all = λ n. n })
+
+module _ {R T M C S O₀ O : List ℕ} {at₀ vars next place₀ count place at left : ℕ}
+    (l : NodesLeft R T M C S O₀ O at₀ vars next place₀ count place at left) where
+  pub left_end : left ≡ 0 → NodesEmitted R T M C S O₀ O at₀ vars next place₀ count place at
+  left_end z = l.all (nodes_none z)
+
+  pub left_more : {O' : List ℕ} {p b k : ℕ} → left ≡ k + 1 → NodeEmitted R T M C S O O' at vars next place p b
+      → NodesLeft R T M C S O₀ O' at₀ vars next place₀ count p b k
+  left_more {k = k} z m =
+      let h : left ≢ 0 = λ e. omega (arith, z, e) in
+      let r = nodes_rest l.rest h m in
+      let y : left - 1 ≡ k = omega (arith, z) in
+      record {
+        rest = rw y at r.0;
+        below = omega (arith, l.below, r.1);
+        all = λ n. l.all (nodes_step h m (rw (← y) at n));
+      }
+
 module _ {R T M C S : List ℕ} {at vars next place count s : ℕ} where
   pub arguments_first : SomeArguments R T M C S at vars next place count s → count ≢ 0 → (p : ℕ)
       → p ≡ place + 4
@@ -269,3 +298,34 @@ module _ {R T M C S O : List ℕ} {at vars next place count s : ℕ} where
           → Emitted (arguments_numbers (world P) sh s es) (rows_taken es) O O place at place at
       go P E none sh k = record { written = written_none; passed = omega arith }
       go P E (also e γ es) sh k = absurd (omega (arith, k, z))
+
+-- the same of arguments, of which the next is put in slot s
+pub record ArgumentsLeft (R T M C S O₀ O : List ℕ) (at₀ vars next place₀ count s₀ place at left s : ℕ) :
+    Type 0 where
+  pub rest : SomeArguments R T M C S at vars next place left s
+  pub below : at₀ ≤ at
+  pub all : {O' : List ℕ} {q d : ℕ} → ArgumentsEmitted R T M C S O O' at vars next place left s q d
+      → ArgumentsEmitted R T M C S O₀ O' at₀ vars next place₀ count s₀ q d
+
+pub arguments_start : {R T M C S O : List ℕ} {at vars next place count s left : ℕ} → left ≡ count
+    → SomeArguments R T M C S at vars next place count s
+    → ArgumentsLeft R T M C S O O at vars next place count s place at left s
+arguments_start z x = rw z (record { rest = x; below = omega arith; all = λ n. n })
+
+module _ {R T M C S O₀ O : List ℕ} {at₀ vars next place₀ count s₀ place at left s : ℕ}
+    (l : ArgumentsLeft R T M C S O₀ O at₀ vars next place₀ count s₀ place at left s) where
+  pub arguments_end : left ≡ 0 → ArgumentsEmitted R T M C S O₀ O at₀ vars next place₀ count s₀ place at
+  arguments_end z = l.all (arguments_none z)
+
+  pub arguments_more : {O₁ O₂ : List ℕ} {p q b k : ℕ} → left ≡ k + 1
+      → Written (65 ∷ s ∷ 0 ∷ 0 ∷ []) O O₁ place p → NodeEmitted R T M C S O₁ O₂ at vars next p q b
+      → ArgumentsLeft R T M C S O₀ O₂ at₀ vars next place₀ count s₀ q b k (s + 1)
+  arguments_more {k = k} z w m =
+      let h : left ≢ 0 = λ e. omega (arith, z, e) in
+      let r = arguments_rest l.rest h w.ended m in
+      let y : left - 1 ≡ k = omega (arith, z) in
+      record {
+        rest = rw y at r.0;
+        below = omega (arith, l.below, r.1);
+        all = λ n. l.all (arguments_step h w m (rw (← y) at n));
+      }

@@ -125,30 +125,31 @@ module _ {R T M C S : List ℕ} {at vars next place : ℕ} where
       omega (arith, em.written.ended, z, rw t.setting.free at em.written.ended, set_room t)
 
 -- what is read on the way to the field's type: its name, its entry, its row, its number
-module _ {R T M C S : List ℕ} {at vars next place n : ℕ} (a : n ≡ get_or R (at * 4 + 1) 0) where
-  pub set_known : SomeSet R T M C S at vars next place → (n < 256) × (get_or C at 0 * 576 + n < length T)
+module _ {R T M C S : List ℕ} {at vars next place n class : ℕ} (a : n ≡ get_or R (at * 4 + 1) 0)
+    (class_is : class ≡ get_or C at 0) where
+  pub set_known : SomeSet R T M C S at vars next place → (n < 256) × (class * 576 + n < length T)
   set_known x = let t = x.task in let m = set_name t in
-      rw (a ∙ m.0, m.1) (m.2, omega (arith, m.2, m.3, t.setting.lent.held.headed.classes.long))
+      rw (a ∙ m.0, class_is ∙ m.1) (m.2, omega (arith, m.2, m.3, t.setting.lent.held.headed.classes.long))
 
-  module _ {i : ℕ} (b : i ≡ get_or T (get_or C at 0 * 576 + n) 0) where
+  module _ {i : ℕ} (b : i ≡ get_or T (class * 576 + n) 0) where
     -- the entry of the field's row, in the terms of its tree
     set-entry : {P : List Class} {E : List ℕ} {γ : Environment} {sh : Shape} {f : ℕ} {e e' : Expr}
         (t : NodeTask P E (set f e e') γ sh R T M C S at vars next place)
-        → get_or C at 0 * 576 + (519 + i) ≡ set_class t * 576 + 520 + (set_field t).0
+        → class * 576 + (519 + i) ≡ set_class t * 576 + 520 + (set_field t).0
     set-entry t = let m = set_name t in let d = set_field t in
-        omega (arith, m.1, rw (a ∙ m.0, m.1, d.2) at b)
+        omega (arith, class_is ∙ m.1, rw (a ∙ m.0, class_is ∙ m.1, d.2) at b)
 
-    pub set_found : SomeSet R T M C S at vars next place → get_or C at 0 * 576 + (519 + i) < length T
+    pub set_found : SomeSet R T M C S at vars next place → class * 576 + (519 + i) < length T
     set_found x = omega (arith, set-entry x.task, (set_field x.task).3)
 
-    module _ {r : ℕ} (c : r ≡ get_or T (get_or C at 0 * 576 + (519 + i)) 0) where
+    module _ {r : ℕ} (c : r ≡ get_or T (class * 576 + (519 + i)) 0) where
       pub set_within : SomeSet R T M C S at vars next place → r * 4 + 3 < length R
       set_within x = let t = x.task in rw (c, set-entry t) (set_field t).4
 
       pub set_done : {O O₁ O₂ O₃ : List ℕ} {p q p' j l u : ℕ} → l ≡ get_or R (r * 4 + 1) 0 → u ≡ plain_number l
           → Written (66 ∷ 2 ∷ 3 ∷ 0 ∷ 86 ∷ 1 ∷ 0 ∷ 0 ∷ 86 ∷ u ∷ 0 ∷ 0 ∷ []) O O₁ place p
           → ArgumentsEmitted R T M C S O₁ O₂ (at + 1) vars (next + 2) p 2 next q j
-          → Written (85 ∷ n ∷ 0 ∷ 0 ∷ 75 ∷ (get_or C at 0 + 2) ∷ 0 ∷ 0 ∷ 71 ∷ 255 ∷ 0 ∷ 0 ∷ 73 ∷ next ∷ 0 ∷ 0 ∷
+          → Written (85 ∷ n ∷ 0 ∷ 0 ∷ 75 ∷ (class + 2) ∷ 0 ∷ 0 ∷ 71 ∷ 255 ∷ 0 ∷ 0 ∷ 73 ∷ next ∷ 0 ∷ 0 ∷
           73
           ∷ (next + 1) ∷ 0 ∷ 0 ∷ []) O₂ O₃ q p'
           → SetEmitted R T M C S O O₃ at vars next place p' j
@@ -162,6 +163,6 @@ module _ {R T M C S : List ℕ} {at vars next place n : ℕ} (a : n ≡ get_or R
             let em = m.each P E (set_arguments t) (sh ++ (false ∷ false ∷ [])) (set_nodes t p z) refl
             (rw (z, t.setting.free) (omega (arith, set_room t))) in
             whole (written_then w (written_then em.written v))
-            (rw (k', a ∙ d.0, d.1, t.setting.free) (sym (t_set (world P) γ sh f e e')))
+            (rw (k', a ∙ d.0, class_is ∙ d.1, t.setting.free) (sym (t_set (world P) γ sh f e e')))
             (omega (arith, em.passed));
       }

@@ -1,3 +1,4 @@
+pub mod Sources
 pub mod Numbers
 pub mod Tasks
 pub mod Emission

@@ -7,6 +7,7 @@ mod node;
 mod program;
 
 ghost use Rattle.std.specs.Prelude.{◌≡◌, length};
+ghost use Rattle.plain.specs.Sources.{over};
 ghost use Rattle.plain.specs.Emission.{SomeProgram};
 ghost use Rattle.language.specs.Translation.{translation};
 ghost use Rattle.language.specs.Filling.{answer, buffer};
@@ -14,28 +15,21 @@ ghost use Rattle.plain.specs.Answers.{PlainWritten, SomeAccepted};
 
 use language::{NUMBERS_A_ROW, ROOM_REFUSAL, Refusal};
 use limits::{check_limits, check_reserved};
-use program::emit_program;
+use node::Source;
 
 // The plain rows, where there is room for them.
-fn write_plain(
-    rows: &[u32],
-    tables: &[u16],
-    methods: &[u16],
-    lookups: &[u16],
-    out: &mut [u32],
-) -> Result<usize, Refusal>
-    requires { SomeProgram rows.now tables.now methods.now lookups.now }
-    ensures { PlainWritten rows.now tables.now methods.now
-        lookups.now out.old out.new result }
+fn write_plain(source: &Source<'_>, out: &mut [u32]) -> Result<usize, Refusal>
+    requires { over source.now SomeProgram }
+    ensures { over source.now PlainWritten out.old out.new result }
 {
-    let count = emit_program(rows, tables, methods, lookups, &mut []);
+    let count = source.emit_program(&mut []);
     if out.len() < count {
         return Err(Refusal {
             number: ROOM_REFUSAL,
             line: 0,
         });
     }
-    let written = emit_program(rows, tables, methods, lookups, out);
+    let written = source.emit_program(out);
     Ok(written / NUMBERS_A_ROW)
 }
 
@@ -54,5 +48,11 @@ pub fn translate_checked(
 {
     check_limits(rows, ends, tables)?;
     check_reserved(rows, ends, 0)?;
-    write_plain(rows, tables, methods, lookups, out)
+    let source = Source {
+        rows,
+        tables,
+        methods,
+        lookups,
+    };
+    write_plain(&source, out)
 }

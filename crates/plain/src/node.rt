@@ -1,4 +1,5 @@
 // The plain lines of a node, whatever its letter: a cycle of functions, one for each letter with parts of its own.
+ghost use Rattle.plain.specs.Sources.{given_in, left_in};
 ghost use Rattle.plain.specs.Emission.{SomeNode, SomeCast, SomeSet, SomeCall, SomeBlock, SomeNodes};
 ghost use Rattle.plain.specs.Emission.{SomeArguments, NodeEmitted, CastEmitted, SetEmitted};
 ghost use Rattle.plain.specs.Emission.{CallEmitted, BlockEmitted, NodesEmitted, ArgumentsEmitted};
@@ -12,380 +13,248 @@ use language::{
     letter_at, second,
 };
 
+// What is translated: the rows, with the table of classes, that of methods, and the lookup class of each row.
+#[derive(Clone, Copy)]
+pub struct Source<'a> {
+    pub rows: &'a [u32],
+    pub tables: &'a [u16],
+    pub methods: &'a [u16],
+    pub lookups: &'a [u16],
+}
+
 // The next place of the buffer and the next row of the source.
-#[derive(Drop)]
+#[derive(Clone, Copy)]
 pub struct Next {
     pub place: usize,
     pub at: usize,
 }
 
-// The plain lines of the node at row `at`.
-#[cycle(emit_arguments_emit_block_emit_call_emit_cast_emit_node_emit_nodes_emit_set)]
-pub fn emit_node(
-    rows: &[u32],
-    tables: &[u16],
-    methods: &[u16],
-    lookups: &[u16],
-    slots: &[u32; 32],
-    out: &mut [u32],
-    place: usize,
-    at: usize,
-    scope: Scope,
-) -> Next
-    requires { SomeNode rows.now tables.now methods.now lookups.now slots.now at
-        scope.variables scope.free place }
-    ensures { NodeEmitted rows.now tables.now methods.now
-        lookups.now slots.now out.old out.new at scope.variables
-        scope.free place result.place result.at }
-{
-    let letter = letter_at(rows, at);
-    let number = first(rows, at);
-    match letter {
-        TRUE | FALSE | NULL => {
-            let p = put(out, place, &[[letter, 0, 0, 0]]);
-            Next {
-                place: p,
-                at: at + 1,
+impl Source<'_> {
+    // The plain lines of the node at row `at`.
+    #[cycle(nodes)]
+    pub fn emit_node(&self, out: &mut [u32], place: usize, at: usize, scope: Scope<'_>) -> Next
+        requires { given_in self.now scope SomeNode at place }
+        ensures { left_in self.now scope.entry NodeEmitted out.old out.new at place
+            result.place result.at }
+    {
+        let letter = letter_at(self.rows, at);
+        let number = first(self.rows, at);
+        let next = at + 1;
+        match letter {
+            TRUE | FALSE | NULL => {
+                let place = put(out, place, &[[letter, 0, 0, 0]]);
+                Next { place, at: next }
             }
-        }
-        SLOT => {
-            let slot = slots[number as usize];
-            let p = put_slot(out, place, slot);
-            Next {
-                place: p,
-                at: at + 1,
+            SLOT => {
+                let place = put_slot(out, place, scope.slots[number as usize]);
+                Next { place, at: next }
             }
-        }
-        NEW => {
-            let p = put_new(out, place, scope.free, number);
-            Next {
-                place: p,
-                at: at + 1,
+            NEW => {
+                let place = put_new(out, place, scope.free, number);
+                Next { place, at: next }
             }
-        }
-        CHANGE => {
-            let slot = slots[number as usize];
-            let p = put_change(rows, tables, out, place, slot, scope.free, second(rows, at));
-            Next {
-                place: p,
-                at: at + 1,
+            CHANGE => {
+                let slot = scope.slots[number as usize];
+                let target = second(self.rows, at);
+                let place = put_change(
+                    self.rows,
+                    self.tables,
+                    out,
+                    place,
+                    slot,
+                    scope.free,
+                    target,
+                );
+                Next { place, at: next }
             }
+            IS_NULL => {
+                let p = put(out, place, &[[IS_NULL, 0, 0, 0]]);
+                self.emit_node(out, p, next, scope)
+            }
+            ASSIGN => {
+                let p = put(out, place, &[[ASSIGN, scope.slots[number as usize], 0, 0]]);
+                self.emit_node(out, p, next, scope)
+            }
+            GET => {
+                let lines = [
+                    [GET, number, 0, 0],
+                    [CAST, u32::from(self.lookups[at]) + 2, 0, 0],
+                    [GET, IMP, 0, 0],
+                ];
+                let p = put(out, place, &lines);
+                self.emit_node(out, p, next, scope)
+            }
+            CAST => self.emit_cast(out, place, at, scope),
+            SET => self.emit_set(out, place, at, scope),
+            CALL => self.emit_call(out, place, at, scope),
+            CHOOSE => {
+                let p = put(out, place, &[[CHOOSE, 0, 0, 0]]);
+                self.emit_nodes(out, p, next, scope, 3)
+            }
+            _ => self.emit_block(out, place, at, scope),
         }
-        IS_NULL => {
-            let p = put(out, place, &[[IS_NULL, 0, 0, 0]]);
-            emit_node(rows, tables, methods, lookups, slots, out, p, at + 1, scope)
-        }
-        ASSIGN => {
-            let p = put(out, place, &[[ASSIGN, slots[number as usize], 0, 0]]);
-            emit_node(rows, tables, methods, lookups, slots, out, p, at + 1, scope)
-        }
-        GET => {
-            let lines = [
-                [GET, number, 0, 0],
-                [CAST, lookups[at] as u32 + 2, 0, 0],
-                [GET, IMP, 0, 0],
-            ];
-            let p = put(out, place, &lines);
-            emit_node(rows, tables, methods, lookups, slots, out, p, at + 1, scope)
-        }
-        CAST => emit_cast(rows, tables, methods, lookups, slots, out, place, at, scope),
-        SET => emit_set(rows, tables, methods, lookups, slots, out, place, at, scope),
-        CALL => emit_call(rows, tables, methods, lookups, slots, out, place, at, scope),
-        CHOOSE => {
-            let p = put(out, place, &[[CHOOSE, 0, 0, 0]]);
-            emit_nodes(
-                rows,
-                tables,
-                methods,
-                lookups,
-                slots,
-                out,
-                p,
-                at + 1,
-                scope,
-                3,
-            )
-        }
-        _ => emit_block(rows, tables, methods, lookups, slots, out, place, at, scope),
     }
-}
 
-// K.
-#[cycle(emit_arguments_emit_block_emit_call_emit_cast_emit_node_emit_nodes_emit_set)]
-fn emit_cast(
-    rows: &[u32],
-    tables: &[u16],
-    methods: &[u16],
-    lookups: &[u16],
-    slots: &[u32; 32],
-    out: &mut [u32],
-    place: usize,
-    at: usize,
-    scope: Scope,
-) -> Next
-    requires { SomeCast rows.now tables.now methods.now lookups.now slots.now at
-        scope.variables scope.free place }
-    ensures { CastEmitted rows.now tables.now methods.now
-        lookups.now slots.now out.old out.new at scope.variables
-        scope.free place result.place result.at }
-{
-    let object = scope.free;
-    let head = [
-        [BLOCK, 1, 1, 0],
-        [LOCAL, IDENTITY, 0, 0],
-        [CHOOSE, 0, 0, 0],
-        [IS_NULL, 0, 0, 0],
-        [ASSIGN, object, 0, 0],
-    ];
-    let p = put(out, place, &head);
-    let inner = Scope {
-        variables: scope.variables,
-        free: object + 1,
-    };
-    let r = emit_node(rows, tables, methods, lookups, slots, out, p, at + 1, inner);
-    let tail = [
-        [NULL, 0, 0, 0],
-        [GET, ID, 0, 0],
-        [CAST, first(rows, at) + 2, 0, 0],
-        [GET, IMP, 0, 0],
-        [SLOT, object, 0, 0],
-    ];
-    let q = put(out, r.place, &tail);
-    Next { place: q, at: r.at }
-}
-
-// U: the object and the value in temporaries, then the act.
-#[cycle(emit_arguments_emit_block_emit_call_emit_cast_emit_node_emit_nodes_emit_set)]
-fn emit_set(
-    rows: &[u32],
-    tables: &[u16],
-    methods: &[u16],
-    lookups: &[u16],
-    slots: &[u32; 32],
-    out: &mut [u32],
-    place: usize,
-    at: usize,
-    scope: Scope,
-) -> Next
-    requires { SomeSet rows.now tables.now methods.now lookups.now slots.now at scope.variables
-        scope.free place }
-    ensures { SetEmitted rows.now tables.now methods.now
-        lookups.now slots.now out.old out.new at scope.variables
-        scope.free place result.place result.at }
-{
-    let name = first(rows, at);
-    let class = lookups[at] as u32;
-    let field = class_entry(tables, class, name as usize);
-    let row = class_entry(tables, class, ROWS_BEFORE + field as usize);
-    let object = scope.free;
-    let head = [
-        [BLOCK, 2, 3, 0],
-        [LOCAL, IDENTITY, 0, 0],
-        [LOCAL, plain_type(first(rows, row as usize)), 0, 0],
-    ];
-    let p = put(out, place, &head);
-    let inner = Scope {
-        variables: scope.variables,
-        free: object + 2,
-    };
-    let r = emit_arguments(
-        rows,
-        tables,
-        methods,
-        lookups,
-        slots,
-        out,
-        p,
-        at + 1,
-        inner,
-        2,
-        object,
-    );
-    let tail = [
-        [SET, name, 0, 0],
-        [CAST, class + 2, 0, 0],
-        [GET, IMP, 0, 0],
-        [SLOT, object, 0, 0],
-        [SLOT, object + 1, 0, 0],
-    ];
-    let q = put(out, r.place, &tail);
-    Next { place: q, at: r.at }
-}
-
-// Q: the receiver and the arguments in temporaries, then the call.
-#[cycle(emit_arguments_emit_block_emit_call_emit_cast_emit_node_emit_nodes_emit_set)]
-fn emit_call(
-    rows: &[u32],
-    tables: &[u16],
-    methods: &[u16],
-    lookups: &[u16],
-    slots: &[u32; 32],
-    out: &mut [u32],
-    place: usize,
-    at: usize,
-    scope: Scope,
-) -> Next
-    requires { SomeCall rows.now tables.now methods.now lookups.now slots.now at
-        scope.variables scope.free place }
-    ensures { CallEmitted rows.now tables.now methods.now
-        lookups.now slots.now out.old out.new at scope.variables
-        scope.free place result.place result.at }
-{
-    let name = first(rows, at);
-    let count = second(rows, at);
-    let class = lookups[at] as u32;
-    let entry = class_entry(tables, class, METHODS_FROM + name as usize) as usize;
-    let row = methods[(entry - 1) * METHOD_WIDTH] as usize;
-    let object = scope.free;
-    let nodes = count + 1;
-    let head = [[BLOCK, nodes, count + 2, 0], [LOCAL, IDENTITY, 0, 0]];
-    let p = put(out, place, &head);
-    let p = put_types(rows, out, p, row + 1, count as usize, LOCAL);
-    let inner = Scope {
-        variables: scope.variables,
-        free: object + nodes,
-    };
-    let r = emit_arguments(
-        rows,
-        tables,
-        methods,
-        lookups,
-        slots,
-        out,
-        p,
-        at + 1,
-        inner,
-        nodes,
-        object,
-    );
-    let tail = [
-        [CALL, name, count, 0],
-        [CAST, class + 2, 0, 0],
-        [GET, IMP, 0, 0],
-        [SLOT, object, 0, 0],
-    ];
-    let q = put(out, r.place, &tail);
-    let q = put_reads(out, q, object + 1, count);
-    Next { place: q, at: r.at }
-}
-
-// B: its locals become slots of their own.
-#[cycle(emit_arguments_emit_block_emit_call_emit_cast_emit_node_emit_nodes_emit_set)]
-fn emit_block(
-    rows: &[u32],
-    tables: &[u16],
-    methods: &[u16],
-    lookups: &[u16],
-    slots: &[u32; 32],
-    out: &mut [u32],
-    place: usize,
-    at: usize,
-    scope: Scope,
-) -> Next
-    requires { SomeBlock rows.now tables.now methods.now lookups.now slots.now at
-        scope.variables scope.free place }
-    ensures { BlockEmitted rows.now tables.now methods.now
-        lookups.now slots.now out.old out.new at scope.variables
-        scope.free place result.place result.at }
-{
-    let locals = first(rows, at);
-    let count = second(rows, at);
-    let p = put(out, place, &[[BLOCK, locals, count, 0]]);
-    let p = put_types(rows, out, p, at + 1, locals as usize, LOCAL);
-    let added = with_locals(slots, scope, locals as usize);
-    let inner = Scope {
-        variables: scope.variables + locals as usize,
-        free: scope.free + locals,
-    };
-    emit_nodes(
-        rows,
-        tables,
-        methods,
-        lookups,
-        &added,
-        out,
-        p,
-        at + 1 + locals as usize,
-        inner,
-        count,
-    )
-}
-
-// Nodes one after another.
-#[cycle(emit_arguments_emit_block_emit_call_emit_cast_emit_node_emit_nodes_emit_set)]
-fn emit_nodes(
-    rows: &[u32],
-    tables: &[u16],
-    methods: &[u16],
-    lookups: &[u16],
-    slots: &[u32; 32],
-    out: &mut [u32],
-    place: usize,
-    at: usize,
-    scope: Scope,
-    count: u32,
-) -> Next
-    requires { SomeNodes rows.now tables.now methods.now lookups.now slots.now at
-        scope.variables scope.free place count }
-    ensures { NodesEmitted rows.now tables.now methods.now
-        lookups.now slots.now out.old out.new at scope.variables
-        scope.free place count result.place result.at }
-{
-    if count == 0 {
-        return Next { place, at };
+    // K.
+    #[cycle(nodes)]
+    fn emit_cast(&self, out: &mut [u32], place: usize, at: usize, scope: Scope<'_>) -> Next
+        requires { given_in self.now scope SomeCast at place }
+        ensures { left_in self.now scope.entry CastEmitted out.old out.new at place
+            result.place result.at }
+    {
+        let object = scope.free;
+        let head = [
+            [BLOCK, 1, 1, 0],
+            [LOCAL, IDENTITY, 0, 0],
+            [CHOOSE, 0, 0, 0],
+            [IS_NULL, 0, 0, 0],
+            [ASSIGN, object, 0, 0],
+        ];
+        let p = put(out, place, &head);
+        let inner = Scope {
+            free: object + 1,
+            ..scope
+        };
+        let r = self.emit_node(out, p, at + 1, inner);
+        let tail = [
+            [NULL, 0, 0, 0],
+            [GET, ID, 0, 0],
+            [CAST, first(self.rows, at) + 2, 0, 0],
+            [GET, IMP, 0, 0],
+            [SLOT, object, 0, 0],
+        ];
+        let place = put(out, r.place, &tail);
+        Next { place, at: r.at }
     }
-    let r = emit_node(rows, tables, methods, lookups, slots, out, place, at, scope);
-    emit_nodes(
-        rows,
-        tables,
-        methods,
-        lookups,
-        slots,
-        out,
-        r.place,
-        r.at,
-        scope,
-        count - 1,
-    )
-}
 
-// Nodes one after another, each put in its temporary, from `slot` on.
-#[cycle(emit_arguments_emit_block_emit_call_emit_cast_emit_node_emit_nodes_emit_set)]
-fn emit_arguments(
-    rows: &[u32],
-    tables: &[u16],
-    methods: &[u16],
-    lookups: &[u16],
-    slots: &[u32; 32],
-    out: &mut [u32],
-    place: usize,
-    at: usize,
-    scope: Scope,
-    count: u32,
-    slot: u32,
-) -> Next
-    requires { SomeArguments rows.now tables.now methods.now lookups.now slots.now at
-        scope.variables scope.free place count slot }
-    ensures { ArgumentsEmitted rows.now tables.now methods.now
-        lookups.now slots.now out.old out.new at scope.variables
-        scope.free place count slot result.place result.at }
-{
-    if count == 0 {
-        return Next { place, at };
+    // U: the object and the value in temporaries, then the act.
+    #[cycle(nodes)]
+    fn emit_set(&self, out: &mut [u32], place: usize, at: usize, scope: Scope<'_>) -> Next
+        requires { given_in self.now scope SomeSet at place }
+        ensures { left_in self.now scope.entry SetEmitted out.old out.new at place
+            result.place result.at }
+    {
+        let name = first(self.rows, at);
+        let class = u32::from(self.lookups[at]);
+        let field = class_entry(self.tables, class, name as usize) as usize;
+        let row = class_entry(self.tables, class, ROWS_BEFORE + field) as usize;
+        let object = scope.free;
+        let head = [
+            [BLOCK, 2, 3, 0],
+            [LOCAL, IDENTITY, 0, 0],
+            [LOCAL, plain_type(first(self.rows, row)), 0, 0],
+        ];
+        let p = put(out, place, &head);
+        let inner = Scope {
+            free: object + 2,
+            ..scope
+        };
+        let r = self.emit_arguments(out, p, at + 1, inner, 2, object);
+        let tail = [
+            [SET, name, 0, 0],
+            [CAST, class + 2, 0, 0],
+            [GET, IMP, 0, 0],
+            [SLOT, object, 0, 0],
+            [SLOT, object + 1, 0, 0],
+        ];
+        let place = put(out, r.place, &tail);
+        Next { place, at: r.at }
     }
-    let p = put(out, place, &[[ASSIGN, slot, 0, 0]]);
-    let r = emit_node(rows, tables, methods, lookups, slots, out, p, at, scope);
-    emit_arguments(
-        rows,
-        tables,
-        methods,
-        lookups,
-        slots,
-        out,
-        r.place,
-        r.at,
-        scope,
-        count - 1,
-        slot + 1,
-    )
+
+    // Q: the receiver and the arguments in temporaries, then the call.
+    #[cycle(nodes)]
+    fn emit_call(&self, out: &mut [u32], place: usize, at: usize, scope: Scope<'_>) -> Next
+        requires { given_in self.now scope SomeCall at place }
+        ensures { left_in self.now scope.entry CallEmitted out.old out.new at place
+            result.place result.at }
+    {
+        let name = first(self.rows, at);
+        let count = second(self.rows, at);
+        let class = u32::from(self.lookups[at]);
+        let entry = class_entry(self.tables, class, METHODS_FROM + name as usize) as usize;
+        let row = usize::from(self.methods[(entry - 1) * METHOD_WIDTH]);
+        let object = scope.free;
+        let nodes = count + 1;
+        let head = [[BLOCK, nodes, count + 2, 0], [LOCAL, IDENTITY, 0, 0]];
+        let p = put(out, place, &head);
+        let p = put_types(self.rows, out, p, row + 1, count as usize, LOCAL);
+        let inner = Scope {
+            free: object + nodes,
+            ..scope
+        };
+        let r = self.emit_arguments(out, p, at + 1, inner, nodes, object);
+        let tail = [
+            [CALL, name, count, 0],
+            [CAST, class + 2, 0, 0],
+            [GET, IMP, 0, 0],
+            [SLOT, object, 0, 0],
+        ];
+        let q = put(out, r.place, &tail);
+        let place = put_reads(out, q, object + 1, count);
+        Next { place, at: r.at }
+    }
+
+    // B: its locals become slots of their own.
+    #[cycle(nodes)]
+    fn emit_block(&self, out: &mut [u32], place: usize, at: usize, scope: Scope<'_>) -> Next
+        requires { given_in self.now scope SomeBlock at place }
+        ensures { left_in self.now scope.entry BlockEmitted out.old out.new at place
+            result.place result.at }
+    {
+        let locals = first(self.rows, at);
+        let count = second(self.rows, at);
+        let p = put(out, place, &[[BLOCK, locals, count, 0]]);
+        let p = put_types(self.rows, out, p, at + 1, locals as usize, LOCAL);
+        let slots = with_locals(scope, locals as usize);
+        let inner = Scope {
+            slots: &slots,
+            variables: scope.variables + locals as usize,
+            free: scope.free + locals,
+        };
+        self.emit_nodes(out, p, at + 1 + locals as usize, inner, count)
+    }
+
+    // Nodes one after another.
+    #[cycle(nodes)]
+    fn emit_nodes(
+        &self,
+        out: &mut [u32],
+        place: usize,
+        at: usize,
+        scope: Scope<'_>,
+        count: u32,
+    ) -> Next
+        requires { given_in self.now scope SomeNodes at place count }
+        ensures { left_in self.now scope.entry NodesEmitted out.old out.new at place count
+            result.place result.at }
+    {
+        let mut next = Next { place, at };
+        for _ in 0..count {
+            next = self.emit_node(out, next.place, next.at, scope);
+        }
+        next
+    }
+
+    // Nodes one after another, each put in its temporary, from `slot` on.
+    #[cycle(nodes)]
+    fn emit_arguments(
+        &self,
+        out: &mut [u32],
+        place: usize,
+        at: usize,
+        scope: Scope<'_>,
+        count: u32,
+        slot: u32,
+    ) -> Next
+        requires { given_in self.now scope SomeArguments at place count slot }
+        ensures { left_in self.now scope.entry ArgumentsEmitted out.old out.new at place count slot
+            result.place result.at }
+    {
+        let mut next = Next { place, at };
+        for temporary in slot..slot + count {
+            let p = put(out, next.place, &[[ASSIGN, temporary, 0, 0]]);
+            next = self.emit_node(out, p, next.at, scope);
+        }
+        next
+    }
 }

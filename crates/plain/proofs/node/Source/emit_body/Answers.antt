@@ -1,6 +1,6 @@
 use Rattle.plain.proofs.Bodies.{body_known, body_some, body_done}
 use native.Mathlib.Omega.{arith}
-use Rattle.plain.proofs.program.emit_body.Goals as goal
+use Rattle.plain.proofs.node.Source.emit_body.Goals as goal
 
 pub first_slots-slots-requires : goal.first_slots-slots-requires
 first_slots-slots-requires c = body_known c.requires

@@ -1,6 +1,6 @@
 use native.Mathlib.Omega.{arith}
 use Rattle.plain.proofs.Classes.{class_known, class_run, class_fields, class_some, class_done}
-use Rattle.plain.proofs.program.emit_class.Goals as goal
+use Rattle.plain.proofs.node.Source.emit_class.Goals as goal
 
 pub second-requires : goal.second-requires
 second-requires c = omega (arith, (class_known c.requires).0)

@@ -1,6 +1,6 @@
 use Rattle.plain.proofs.Programs.{program_some_classes, program_room, program_some_body, program_done}
 use native.Mathlib.Omega.{arith}
-use Rattle.plain.proofs.program.emit_program.Goals as goal
+use Rattle.plain.proofs.node.Source.emit_program.Goals as goal
 
 pub emit_classes-c-requires : goal.emit_classes-c-requires
 emit_classes-c-requires c = program_some_classes c.requires _ (omega (arith, c.put-p.ensures.ended))

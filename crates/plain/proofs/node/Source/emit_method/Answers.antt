@@ -1,6 +1,6 @@
 use Rattle.plain.proofs.Methods.{method_known, method_types, method_ended, method_body, method_done}
 use native.Mathlib.Omega.{arith}
-use Rattle.plain.proofs.program.emit_method.Goals as goal
+use Rattle.plain.proofs.node.Source.emit_method.Goals as goal
 
 pub put-p-requires : goal.put-p-requires
 put-p-requires c = omega (arith, (method_known c.requires).1)
