@@ -10,7 +10,8 @@ use lib.Seq.{get_or-set_same, get_or-set_other, drop-cons}
 use native.Mathlib.Numerals.{add-one}
 use Rattle.frames.proofs.Frames.{slots_ext, word_put}
 use Rattle.evaluator.proofs.Lists.{FirstAt, list_apart, list_ended, list_first}
-use Rattle.objects.specs.Values.{meaning, Outcome, Gave, Raised, Stopped, Stuck, Counts, Answer, Small, bare}
+use Rattle.objects.specs.declared.Tally.{Tally}
+use Rattle.objects.specs.Values.{meaning, Outcome, Gave, Raised, Stopped, Stuck, Answer, Small, bare}
 use Rattle.objects.specs.Values.{told, answer}
 use Rattle.frames.specs.declared.Place.{Place}
 use Rattle.evaluator.specs.Evaluator.{told_all}
@@ -68,7 +69,7 @@ fails_all (Raised n) vs t x k not e = bare_stop x k e
 fails_all (Stopped n) vs t x k not e = bare_stop x k e
 fails_all Stuck vs t x k not e = bare_stop x k e
 
-pub args_none : {R E T A M s l : List ℕ} {at : ℕ} {q : Place} {n : Counts} {m : ℕ} {v : Meaning} → m ≡ 0
+pub args_none : {R E T A M s l : List ℕ} {at : ℕ} {q : Place} {n : Tally} {m : ℕ} {v : Meaning} → m ≡ 0
     → Small v
     → PostArgs R E T A M s l s l at q n m (answer (Gave v) n)
 unfolding eval_all bare slots_of
@@ -88,7 +89,7 @@ args_none {n = n} z small = record {
 }
 
 -- ready for the next argument
-ready_further : {R E T A M s l s' l' : List ℕ} {P : List Class} {width : ℕ} {q : Place} {n : Counts} {d : ℕ}
+ready_further : {R E T A M s l s' l' : List ℕ} {P : List Class} {width : ℕ} {q : Place} {n : Tally} {d : ℕ}
     {r : Answer}
     (m x : ℕ) → IsWord x → (m ≡ 0 → ⊥) → Ready R E T A M s l P width q n d 0
     → q.top + m + waiting d ≤ length l → Kept P width s l s' l' q n 0 r
@@ -104,7 +105,7 @@ ready_further {l' = l'} {q = q} m x iw z f room k = record {
   counted = omega (arith, f.counted, k.counted);
 }
 
-abbrev args_rest : {R E T A M s l s' l' : List ℕ} {at : ℕ} {q : Place} {n : Counts} {m : ℕ} {r : Answer}
+abbrev args_rest : {R E T A M s l s' l' : List ℕ} {at : ℕ} {q : Place} {n : Tally} {m : ℕ} {r : Answer}
     (p : PreArgs R E T A M s l at q n m) (y : FirstAt p.list)
     (g : PostEval R E T A M s l s' l' at q n r) (x : ℕ)
     → IsWord x → PreArgs R E T A M s' (put l' q.top x) (get_or E at 0) (further q) r.counts (m - 1)
@@ -125,7 +126,7 @@ args_rest {l' = l'} {q = q} {m = m} p y g x iw =
       room = omega (arith, p.room, kp.long, length-set l' q.top x, y.many);
     }
 
-module _ {R E T A M s l s' l' : List ℕ} {at : ℕ} {q : Place} {n : Counts} {m : ℕ} {r : Answer} (z : m ≡ 0 → ⊥)
+module _ {R E T A M s l s' l' : List ℕ} {at : ℕ} {q : Place} {n : Tally} {m : ℕ} {r : Answer} (z : m ≡ 0 → ⊥)
     (g : PostEval R E T A M s l s' l' at q n r) where
   pub args_fail : ((v : Meaning) → r.outcome ≡ Gave v → ⊥) → PostArgs R E T A M s l s' l' at q n m r
   unfolding eval_all
@@ -203,7 +204,7 @@ pub record ArgsLoop (R E T A M s₀ l₀ : List ℕ) (at : ℕ) (q : Place) (m :
       → PostArgs R E T A M s l s' l' next (to q top) r.counts (m - i) r'
       → PostArgs R E T A M s₀ l₀ s' l' at q r₀.counts m r'
 
-pub args_start : {R E T A M s l : List ℕ} {at : ℕ} {q : Place} {n : Counts} {m : ℕ} {o : Outcome}
+pub args_start : {R E T A M s l : List ℕ} {at : ℕ} {q : Place} {n : Tally} {m : ℕ} {o : Outcome}
     → PreArgs R E T A M s l at q n m → o ≡ Gave null
     → ArgsLoop R E T A M s l at q m (answer (Gave null) n) s l (answer o n) q.top at 0
 args_start {m = m} p gave =

@@ -14,7 +14,8 @@ use Rattle.frames.proofs.Frames.{slots_length, words_written, first_word}
 use Rattle.objects.proofs.Nth.{lt_or, nth_ext, nth_past, some_at}
 use Rattle.objects.proofs.Objects.{mapped_at}
 use Rattle.objects.proofs.Values.{meaning_null, meaning_truth}
-use Rattle.objects.specs.Values.{word, meaning, Outcome, Gave, Raised, Stopped, Stuck, Counts, Answer}
+use Rattle.objects.specs.declared.Tally.{Tally}
+use Rattle.objects.specs.Values.{word, meaning, Outcome, Gave, Raised, Stopped, Stuck, Answer}
 use Rattle.objects.specs.Values.{bare, told}
 use Rattle.frames.specs.declared.Place.{Place}
 use Rattle.frames.specs.Places.{slots_of, inside, state, frame_of}
@@ -58,7 +59,7 @@ nth_from : (xs ys : List Meaning) (n j i : ℕ) → length xs ≡ n → n + j �
 nth_from xs ys n j i a e = ap (nth (xs ++ ys)) (sym e ∙ ap (λ (k : ℕ). k + j) (sym a)) ∙ nth_past xs ys j
 
 -- B taken apart
-pub record BlockAt {R E T A M s l : List ℕ} {at : ℕ} {q : Place} {n : Counts}
+pub record BlockAt {R E T A M s l : List ℕ} {at : ℕ} {q : Place} {n : Tally}
     (p : PreEntered R E T A M s l at q n) : Type 0 where
   pub ts : List DeclaredType
   pub es : Exprs
@@ -72,7 +73,7 @@ pub record BlockAt {R E T A M s l : List ℕ} {at : ℕ} {q : Place} {n : Counts
   pub enc : EncodedAll R E es (at + 1 + length ts)
   pub proper : ProperAll p.P p.width (suc (q.scope + length ts)) (p.d - 1) es
 
-pub block_apart : {R E T A M s l : List ℕ} {at : ℕ} {q : Place} {n : Counts}
+pub block_apart : {R E T A M s l : List ℕ} {at : ℕ} {q : Place} {n : Tally}
     (p : PreEntered R E T A M s l at q n) → get_or R (at * 4) 0 ≡ code B_block → BlockAt p
 unfolding Encoded
 block_apart {q = q} p h =
@@ -94,7 +95,7 @@ block_apart {q = q} p h =
       proper = rw scope at w.3;
     }
 
-module _ {R E T A M s l : List ℕ} {at : ℕ} {q : Place} {n : Counts} {p : PreEntered R E T A M s l at q n}
+module _ {R E T A M s l : List ℕ} {at : ℕ} {q : Place} {n : Tally} {p : PreEntered R E T A M s l at q n}
     (x : BlockAt p) where
   pub block_locals : Locals R l (at + 1) (q.base + 1 + q.scope) (get_or R (at * 4 + 1) 0)
   block_locals = record {
@@ -186,7 +187,7 @@ closed_slots l from m v = sym (map-take meaning m (take (m + v) (drop from l)))
     map-take {B = B} f (suc n) (x ∷ xs) = ap (λ (l : List B). f x ∷ l) (map-take f n xs)
 
 -- from the value of the last to that of the block
-close : (o : Outcome) (P : List Class) (s l : List ℕ) (q : Place) (v m : ℕ) (n : Counts) (steps : ℕ)
+close : (o : Outcome) (P : List Class) (s l : List ℕ) (q : Place) (v m : ℕ) (n : Tally) (steps : ℕ)
     (x : Out (List Meaning)) → m ≡ q.scope
     → told o (state P s l (inner q v) n steps) ≡ bare (bind x λ vs t. ok (last_value null vs) t)
     → told o (state P s l q n steps)
@@ -209,7 +210,7 @@ frame_scope : (l : List ℕ) (q : Place) → q.base + 1 + q.scope ≤ length l
 unfolding frame_of
 frame_scope l q h = slots_length l (q.base + 1) q.scope h
 
-pub block_done : {R E T A M s l l' s'' l'' : List ℕ} (at : ℕ) {q : Place} {n : Counts} {r : Answer}
+pub block_done : {R E T A M s l l' s'' l'' : List ℕ} (at : ℕ) {q : Place} {n : Tally} {r : Answer}
     → get_or R (at * 4) 0 ≡ code B_block
     → Opened R l l' (at + 1) (q.base + 1 + q.scope) (get_or R (at * 4 + 1) 0)
     → get_or R (at * 4 + 2) 0 < 4294967296

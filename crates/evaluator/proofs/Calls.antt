@@ -8,7 +8,8 @@ use lib.ListN.{length, get_or}
 use Rattle.frames.proofs.Frames.{slots_length, slots_ext}
 use Rattle.std.specs.Prelude.{Ok, Err}
 use Rattle.evaluator.proofs.Arguments.{slots_cons}
-use Rattle.objects.specs.Values.{Outcome, Gave, Raised, Stopped, Stuck, Counts, Answer, meaning}
+use Rattle.objects.specs.declared.Tally.{Tally}
+use Rattle.objects.specs.Values.{Outcome, Gave, Raised, Stopped, Stuck, Answer, meaning}
 use Rattle.objects.specs.Values.{outcome, bare, told, answer}
 use Rattle.frames.specs.declared.Place.{Place}
 use Rattle.evaluator.specs.Evaluator.{told_all}
@@ -57,7 +58,7 @@ receiver_first P {w} f (type_call M t us found fit) =
     }
 
 -- Q taken apart
-pub record CallAt {R E T A M s l : List ℕ} {at : ℕ} {q : Place} {n : Counts}
+pub record CallAt {R E T A M s l : List ℕ} {at : ℕ} {q : Place} {n : Tally}
     (p : PreEntered R E T A M s l at q n) : Type 0 where
   pub m : ℕ
   pub a : Expr
@@ -73,7 +74,7 @@ pub record CallAt {R E T A M s l : List ℕ} {at : ℕ} {q : Place} {n : Counts}
   pub proper : ProperAll p.P p.width (suc q.scope) (p.d - 1) (cons a es)
   pub all : get_or R (at * 4 + 2) 0 + 1 ≡ count (cons a es)
 
-pub call_apart : {R E T A M s l : List ℕ} {at : ℕ} {q : Place} {n : Counts}
+pub call_apart : {R E T A M s l : List ℕ} {at : ℕ} {q : Place} {n : Tally}
     (p : PreEntered R E T A M s l at q n) → get_or R (at * 4) 0 ≡ code Q_call → CallAt p
 unfolding Encoded count
 call_apart {q = q} p h =
@@ -123,7 +124,7 @@ unfolding inside eval_all
 call_in_a_row W L K m a es s = in_a_row (eval W L K a s) (λ t. eval_all W L K es t)
     (λ v vs t. do_call W L K m v vs t)
 
-module _ {R E T A M s l : List ℕ} {at : ℕ} {q : Place} {n : Counts} {p : PreEntered R E T A M s l at q n}
+module _ {R E T A M s l : List ℕ} {at : ℕ} {q : Place} {n : Tally} {p : PreEntered R E T A M s l at q n}
     (x : CallAt p) where
   abbrev pub call_args : PreArgs R E T A M s l (at + 1) q n (get_or R (at * 4 + 2) 0 + 1)
   call_args = record {
@@ -180,7 +181,7 @@ module _ {R E T A M s l : List ℕ} {at : ℕ} {q : Place} {n : Counts} {p : Pre
           (state p.P s l q n k))
           (rw (e, y) at (g.done call_args F k z).is)
 
-module _ {R E T A M s l s' l' : List ℕ} (at : ℕ) {q : Place} {n : Counts} {r : Answer}
+module _ {R E T A M s l s' l' : List ℕ} (at : ℕ) {q : Place} {n : Tally} {r : Answer}
     (h : get_or R (at * 4) 0 ≡ code Q_call)
     (g : PostArgs R E T A M s l s' l' (at + 1) q n (get_or R (at * 4 + 2) 0 + 1) r)
   where
@@ -243,7 +244,7 @@ run_call W L bodies calls m v vs st j o N h e known method many =
     let le : 64 - calls ≡ suc (64 - (calls + 1)) = omega arith in
     rw (e, known, method, eq-eqb (length vs) (length N.parameters) many, le)
 
-module _ {R E T A M s l s' l' : List ℕ} {at : ℕ} {q : Place} {n : Counts} {r : Answer} {v : Meaning}
+module _ {R E T A M s l s' l' : List ℕ} {at : ℕ} {q : Place} {n : Tally} {r : Answer} {v : Meaning}
     {p : PreEntered R E T A M s l at q n} (x : CallAt p)
     (g : PostArgs R E T A M s l s' l' (at + 1) q n (get_or R (at * 4 + 2) 0 + 1) r) {b : ℕ}
     (sought : PostFind T M s' v (get_or R (at * 4 + 1) 0) (get_or R (at * 4 + 2) 0) r.counts q.calls (Ok b))
@@ -277,7 +278,7 @@ module _ {R E T A M s l s' l' : List ℕ} {at : ℕ} {q : Place} {n : Counts} {r
           typed = found.typed;
         }
 
-module _ {R E T A M s l s' l' : List ℕ} (at : ℕ) {q : Place} {n : Counts} {r : Answer} {w : Meaning}
+module _ {R E T A M s l s' l' : List ℕ} (at : ℕ) {q : Place} {n : Tally} {r : Answer} {w : Meaning}
     (h : get_or R (at * 4) 0 ≡ code Q_call)
     (g : PostArgs R E T A M s l s' l' (at + 1) q n (get_or R (at * 4 + 2) 0 + 1) r)
     (e₁ : r.outcome ≡ Gave w) where

@@ -17,7 +17,8 @@ use Rattle.language.specs.State.{Value as Meaning, null, truth, object, State, O
 use Rattle.language.specs.Evaluation.{need_truth}
 use Rattle.language.specs.Store.{capacity}
 use Rattle.language.proofs.Nodes.{head}
-use Rattle.objects.specs.Values.{Gave, Stuck, Counts, Answer, bare, told, answer, case_of}
+use Rattle.objects.specs.declared.Tally.{Tally}
+use Rattle.objects.specs.Values.{Gave, Stuck, Answer, bare, told, answer, case_of}
 use Rattle.frames.specs.declared.Place.{Place}
 use Rattle.frames.specs.Places.{state, inside}
 use Rattle.layout.specs.ProperNodes.{Proper}
@@ -39,7 +40,7 @@ null_or_object (truth b) other = absurd (other b refl)
 null_or_object (object j) other = inr refl
 
 -- J taken apart
-pub record ChooseAt {R E T A M s l : List ℕ} {at : ℕ} {q : Place} {n : Counts}
+pub record ChooseAt {R E T A M s l : List ℕ} {at : ℕ} {q : Place} {n : Tally}
     (p : PreEntered R E T A M s l at q n) : Type 0 where
   pub a : Expr
   pub b : Expr
@@ -57,7 +58,7 @@ pub record ChooseAt {R E T A M s l : List ℕ} {at : ℕ} {q : Place} {n : Count
   pub proper_b : Proper p.P p.width (suc q.scope) (p.d - 1) b
   pub proper_c : Proper p.P p.width (suc q.scope) (p.d - 1) c
 
-pub choose_apart : {R E T A M s l : List ℕ} {at : ℕ} {q : Place} {n : Counts}
+pub choose_apart : {R E T A M s l : List ℕ} {at : ℕ} {q : Place} {n : Tally}
     (p : PreEntered R E T A M s l at q n) → get_or R (at * 4) 0 ≡ code J_choose → ChooseAt p
 unfolding Encoded
 choose_apart p h =
@@ -82,7 +83,7 @@ choose_apart p h =
       proper_c = w.3;
     }
 
-module _ {R E T A M s l : List ℕ} {at : ℕ} {q : Place} {n : Counts} {p : PreEntered R E T A M s l at q n}
+module _ {R E T A M s l : List ℕ} {at : ℕ} {q : Place} {n : Tally} {p : PreEntered R E T A M s l at q n}
     (x : ChooseAt p) where
   abbrev pub choose_first : PreEval R E T A M s l (at + 1) q n
   choose_first = first_child p x.a x.enc_a x.proper_a
@@ -106,7 +107,7 @@ module _ {R E T A M s l : List ℕ} {at : ℕ} {q : Place} {n : Counts} {p : Pre
           (g.done choose_first F k z).is
           ∙ rw (e', u)
 
-module _ {R E T A M s l s' l' : List ℕ} (at : ℕ) {q : Place} {n : Counts} {r : Answer}
+module _ {R E T A M s l s' l' : List ℕ} (at : ℕ) {q : Place} {n : Tally} {r : Answer}
     (h : get_or R (at * 4) 0 ≡ code J_choose) (g : PostEval R E T A M s l s' l' (at + 1) q n r) where
   pub choose_fail : ((v : Meaning) → r.outcome ≡ Gave v → ⊥) → PostNode R E T A M s l s' l' at q n r
   unfolding inside

@@ -18,7 +18,8 @@ use Rattle.evaluator.proofs.Steps.{kept_of}
 use Rattle.language.specs.State.{Value as Meaning, Out, with_frame}
 use Rattle.language.specs.Store.{capacity}
 use Rattle.language.proofs.Nodes.{head}
-use Rattle.objects.specs.Values.{Outcome, Gave, Raised, Stopped, Stuck, Counts, Answer, bare, told}
+use Rattle.objects.specs.declared.Tally.{Tally}
+use Rattle.objects.specs.Values.{Outcome, Gave, Raised, Stopped, Stuck, Answer, bare, told}
 use Rattle.objects.specs.Holding.{view}
 use Rattle.objects.specs.Acts.{Written, IsWord}
 use Rattle.objects.proofs.Values.{bare_stop}
@@ -65,7 +66,7 @@ width_bounds size n l = go (lt_or size 128)
     go (inl a) = rw (lt-leb 128 size a) (omega arith, omega arith, omega arith)
     go (inr a) = rw (le-leb 128 size a) (omega arith, omega arith, omega arith)
 
-module _ {R E T A M s l : List ℕ} {b n top calls : ℕ} {c : Counts}
+module _ {R E T A M s l : List ℕ} {b n top calls : ℕ} {c : Tally}
     (p : PreEnter R E T A M s l b n top calls c)
   where
     pub width_small : {w : ℕ} → w ≡ frame_width (get_or E b 0 - b) n → w ≤ 264
@@ -77,7 +78,7 @@ module _ {R E T A M s l : List ℕ} {b n top calls : ℕ} {c : Counts}
 -- ---- the body
 
 -- Back in slots γ.
-back : (o : Outcome) (P : List Class) (s l : List ℕ) (q : Place) (n : Counts) (steps : ℕ) (γ : Frame Meaning)
+back : (o : Outcome) (P : List Class) (s l : List ℕ) (q : Place) (n : Tally) (steps : ℕ) (γ : Frame Meaning)
     (x : Out Meaning) → told o (state P s l q n steps) ≡ bare x
     → told o (view P s n γ steps) ≡ bare (bind x λ w t. ok w (with_frame γ t))
 unfolding bare
@@ -90,7 +91,7 @@ back (Raised i) P s l q n steps γ x e = bare_stop x (λ w t. ok w (with_frame �
 back (Stopped i) P s l q n steps γ x e = bare_stop x (λ w t. ok w (with_frame γ t)) e
 back Stuck P s l q n steps γ x e = bare_stop x (λ w t. ok w (with_frame γ t)) e
 
-module _ {R E T A M s l : List ℕ} {b n top calls : ℕ} {c : Counts}
+module _ {R E T A M s l : List ℕ} {b n top calls : ℕ} {c : Tally}
     (x : PreEnter R E T A M s l b n top calls c) where
   pub in_ends : b < length E
   in_ends = (head x.e x.encoded).in_ends
@@ -151,7 +152,7 @@ module _ {R E T A M s l : List ℕ} {b n top calls : ℕ} {c : Counts}
 
 -- ---- in the caller's slots
 
-module _ {R E T A M s l : List ℕ} {b n top calls : ℕ} {c : Counts} {width d : ℕ}
+module _ {R E T A M s l : List ℕ} {b n top calls : ℕ} {c : Tally} {width d : ℕ}
     (ew : width ≡ frame_width (get_or E b 0 - b) n) (ed : d ≡ most_nested (get_or E b 0 - b))
     (room : top + width + waiting d ≤ length l) where
   pub here_pre : PreEnter R E T A M s l b n top calls c
@@ -199,7 +200,7 @@ room_own : (E l₁ : List ℕ) (b n : ℕ) {width : ℕ} → width ≡ frame_wid
 room_own E l₁ b n ew long h =
     let w = width_bounds (get_or E b 0 - b) n h in omega (arith, ew, w.1, w.2)
 
-module _ {R E T A M s l l₁ : List ℕ} {b n top calls : ℕ} {c : Counts} {width : ℕ}
+module _ {R E T A M s l l₁ : List ℕ} {b n top calls : ℕ} {c : Tally} {width : ℕ}
     (ew : width ≡ frame_width (get_or E b 0 - b) n) (long : length l₁ ≡ 1920)
     (ws : (i : ℕ) → IsWord (get_or l₁ i 0)) where
   pub own_pre : PreEnter R E T A M s l b n top calls c → PreEval R E T A M s l₁ b (place_of 0 n width calls) c

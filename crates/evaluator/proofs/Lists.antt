@@ -11,7 +11,8 @@ use Rattle.language.specs.State.{Value as Meaning, State, Out}
 use Rattle.language.specs.Evaluation.{eval_all, last_value}
 use Rattle.language.specs.Store.{capacity}
 use Rattle.language.proofs.Nodes.{head}
-use Rattle.objects.specs.Values.{Outcome, Gave, Raised, Stopped, Stuck, Counts, Answer, Small, bare}
+use Rattle.objects.specs.declared.Tally.{Tally}
+use Rattle.objects.specs.Values.{Outcome, Gave, Raised, Stopped, Stuck, Answer, Small, bare}
 use Rattle.objects.specs.Values.{told, answer}
 use Rattle.frames.specs.declared.Place.{Place}
 use Rattle.frames.specs.Places.{state}
@@ -25,7 +26,7 @@ use Rattle.objects.proofs.Acts.{stored_same}
 use Rattle.evaluator.proofs.Steps.{kept_then, refit, room_same, gives, kept_of}
 
 -- the first of a list, and the rest
-pub record FirstAt {R E T A M s l : List ℕ} {at : ℕ} {q : Place} {n : Counts} {m : ℕ}
+pub record FirstAt {R E T A M s l : List ℕ} {at : ℕ} {q : Place} {n : Tally} {m : ℕ}
     (p : PreList R E T A M s l at q n m) : Type 0 where
   pub e : Expr
   pub es : Exprs
@@ -38,7 +39,7 @@ pub record FirstAt {R E T A M s l : List ℕ} {at : ℕ} {q : Place} {n : Counts
   pub proper_rest : ProperAll p.P p.width (suc q.scope) p.d es
   pub many : m ≡ suc (count es)
 
-pub list_apart : {R E T A M s l : List ℕ} {at : ℕ} {q : Place} {n : Counts} {m : ℕ}
+pub list_apart : {R E T A M s l : List ℕ} {at : ℕ} {q : Place} {n : Tally} {m : ℕ}
     (p : PreList R E T A M s l at q n m) → (m ≡ 0 → ⊥) → FirstAt p
 unfolding EncodedAll count
 list_apart {R} {E} {at = at} {q} p z = go p.es refl
@@ -63,7 +64,7 @@ list_apart {R} {E} {at = at} {q} p z = go p.es refl
         }
 
 -- no expressions are left
-pub list_ended : {R E T A M s l : List ℕ} {at : ℕ} {q : Place} {n : Counts} {m : ℕ}
+pub list_ended : {R E T A M s l : List ℕ} {at : ℕ} {q : Place} {n : Tally} {m : ℕ}
     (p : PreList R E T A M s l at q n m) → m ≡ 0 → p.es ≡ nil
 unfolding count
 list_ended {m = m} p z = go p.es p.many
@@ -72,7 +73,7 @@ list_ended {m = m} p z = go p.es p.many
     go nil h = refl
     go (cons e es) h = absurd (omega arith)
 
-module _ {R E T A M s l : List ℕ} {at : ℕ} {q : Place} {n : Counts} {m : ℕ}
+module _ {R E T A M s l : List ℕ} {at : ℕ} {q : Place} {n : Tally} {m : ℕ}
     {p : PreList R E T A M s l at q n m} (x : FirstAt p) where
   abbrev pub list_first : PreEval R E T A M s l at q n
   list_first = record {
@@ -99,7 +100,7 @@ module _ {R E T A M s l : List ℕ} {at : ℕ} {q : Place} {n : Counts} {m : ℕ
     few = omega (arith, p.few);
   }
 
-pub items_none : {R E T A M s l : List ℕ} {at : ℕ} {q : Place} {n : Counts} {m : ℕ} {last : Meaning} → m ≡ 0
+pub items_none : {R E T A M s l : List ℕ} {at : ℕ} {q : Place} {n : Tally} {m : ℕ} {last : Meaning} → m ≡ 0
     → Small last → PostItems R E T A M s l s l at q n m last (answer (Gave last) n)
 unfolding eval_all bare
 items_none {n = n} z small = record {
@@ -131,7 +132,7 @@ last_push : (x : Out (List Meaning)) (v w : Meaning)
 last_push (ok vs s) v w = refl
 last_push (stop y s) v w = refl
 
-module _ {R E T A M s l s' l' : List ℕ} {at : ℕ} {q : Place} {n : Counts} {m : ℕ} {last : Meaning}
+module _ {R E T A M s l s' l' : List ℕ} {at : ℕ} {q : Place} {n : Tally} {m : ℕ} {last : Meaning}
     {r : Answer}
     (z : m ≡ 0 → ⊥) (g : PostEval R E T A M s l s' l' at q n r) where
   pub items_fail : ((v : Meaning) → r.outcome ≡ Gave v → ⊥) → PostItems R E T A M s l s' l' at q n m last r
@@ -186,7 +187,7 @@ pub record ItemsLoop (R E T A M s₀ l₀ : List ℕ) (at : ℕ) (q : Place) (m 
       → PostItems R E T A M s l s' l' next q r.counts (m - i) v r'
       → PostItems R E T A M s₀ l₀ s' l' at q r₀.counts m last r'
 
-pub items_start : {R E T A M s l : List ℕ} {at : ℕ} {q : Place} {n : Counts} {m : ℕ} {last : Meaning}
+pub items_start : {R E T A M s l : List ℕ} {at : ℕ} {q : Place} {n : Tally} {m : ℕ} {last : Meaning}
     {o : Outcome} → PreList R E T A M s l at q n m → Small last → o ≡ Gave last
     → ItemsLoop R E T A M s l at q m (answer (Gave last) n) s l (answer o n) at 0
 items_start {m = m} {last} p small gave =

@@ -12,7 +12,8 @@ use Rattle.language.specs.State.{Value as Meaning}
 use Rattle.language.specs.Evaluation.{do_set}
 use Rattle.language.specs.Store.{capacity}
 use Rattle.language.proofs.Nodes.{head}
-use Rattle.objects.specs.Values.{Outcome, Gave, Counts, Answer, answer}
+use Rattle.objects.specs.declared.Tally.{Tally}
+use Rattle.objects.specs.Values.{Outcome, Gave, Answer, answer}
 use Rattle.frames.specs.declared.Place.{Place}
 use Rattle.frames.specs.Places.{state, frame_of, inside}
 use Rattle.layout.specs.ProperNodes.{Proper}
@@ -29,7 +30,7 @@ use Rattle.evaluator.proofs.Steps.{gives, kept_of}
 use Rattle.language.specs.Rows.{code, U_set}
 
 -- U taken apart
-pub record SetAt {R E T A M s l : List ℕ} {at : ℕ} {q : Place} {n : Counts}
+pub record SetAt {R E T A M s l : List ℕ} {at : ℕ} {q : Place} {n : Tally}
     (p : PreEntered R E T A M s l at q n) : Type 0 where
   pub f : ℕ
   pub a : Expr
@@ -46,7 +47,7 @@ pub record SetAt {R E T A M s l : List ℕ} {at : ℕ} {q : Place} {n : Counts}
   pub proper_a : Proper p.P p.width (suc q.scope) (p.d - 1) a
   pub proper_b : Proper p.P p.width (suc q.scope) (p.d - 1) b
 
-pub set_apart : {R E T A M s l : List ℕ} {at : ℕ} {q : Place} {n : Counts}
+pub set_apart : {R E T A M s l : List ℕ} {at : ℕ} {q : Place} {n : Tally}
     (p : PreEntered R E T A M s l at q n) → get_or R (at * 4) 0 ≡ code U_set → SetAt p
 unfolding Encoded
 set_apart p h =
@@ -70,7 +71,7 @@ set_apart p h =
       proper_b = w.3;
     }
 
-module _ {R E T A M s l : List ℕ} {at : ℕ} {q : Place} {n : Counts} {p : PreEntered R E T A M s l at q n}
+module _ {R E T A M s l : List ℕ} {at : ℕ} {q : Place} {n : Tally} {p : PreEntered R E T A M s l at q n}
     (x : SetAt p) where
   abbrev pub set_first : PreEval R E T A M s l (at + 1) q n
   set_first = first_child p x.a x.enc_a x.proper_a
@@ -99,7 +100,7 @@ module _ {R E T A M s l : List ℕ} {at : ℕ} {q : Place} {n : Counts} {p : Pre
           (g.done set_first F k z).is
 
 -- U fails with its first child
-pub set_fail : {R E T A M s l s' l' : List ℕ} (at : ℕ) {q : Place} {n : Counts} {r : Answer}
+pub set_fail : {R E T A M s l s' l' : List ℕ} (at : ℕ) {q : Place} {n : Tally} {r : Answer}
     → get_or R (at * 4) 0 ≡ code U_set → PostEval R E T A M s l s' l' (at + 1) q n r
     → ((v : Meaning) → r.outcome ≡ Gave v → ⊥) → PostNode R E T A M s l s' l' at q n r
 unfolding inside
@@ -117,7 +118,7 @@ set_fail {R} {E} {T} {A} {M} {s} {l} {s'} {l'} at {q} {n} {r} h g not = record {
       };
 }
 
-module _ {R E T A M s l s' l' s'' l'' : List ℕ} (at : ℕ) {q : Place} {n : Counts} {r r' : Answer} {v : Meaning}
+module _ {R E T A M s l s' l' s'' l'' : List ℕ} (at : ℕ) {q : Place} {n : Tally} {r r' : Answer} {v : Meaning}
     (h : get_or R (at * 4) 0 ≡ code U_set)
     (g : PostEval R E T A M s l s' l' (at + 1) q n r) (t : r.outcome ≡ Gave v)
     (g' : PostEval R E T A M s' l' s'' l'' (get_or E (at + 1) 0) q r.counts r') where

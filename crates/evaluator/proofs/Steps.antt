@@ -20,7 +20,8 @@ use Rattle.language.specs.Evaluation.{with_limits}
 use Rattle.language.specs.Store.{capacity}
 use Rattle.language.proofs.Nodes.{head}
 use Rattle.objects.specs.Values.{meaning}
-use Rattle.objects.specs.Values.{Outcome, Gave, Raised, Stopped, Stuck, Counts, Answer}
+use Rattle.objects.specs.declared.Tally.{Tally}
+use Rattle.objects.specs.Values.{Outcome, Gave, Raised, Stopped, Stuck, Answer}
 use Rattle.objects.specs.Values.{SmallOutcome, bare, told, answer}
 use Rattle.frames.specs.declared.Place.{Place}
 use Rattle.frames.specs.Places.{state, after}
@@ -55,7 +56,7 @@ stored_then {P} {s} {s'} {s''} {a} {b} {c} x y = record {
         ∙ (sym (drop-drop (n - m) m x)
         ∙ (ap (drop (n - m)) e ∙ (drop-drop (n - m) m y ∙ ap (λ (k : ℕ). drop k y) (sym d))))
 
-pub kept_then : {P : List Class} {s l s' l' s'' l'' : List ℕ} {width : ℕ} {q : Place} {n : Counts}
+pub kept_then : {P : List Class} {s l s' l' s'' l'' : List ℕ} {width : ℕ} {q : Place} {n : Tally}
     {r r' : Answer}
     (z z' z'' : ℕ) → Kept P width s l s' l' q n z r → Kept P width s' l' s'' l'' q r.counts z' r'
     → z + z' ≤ z''
@@ -70,7 +71,7 @@ kept_then z z' z'' a b h = record {
   small = b.small;
 }
 
-pub kept_more : {P : List Class} {s l s' l' : List ℕ} {width : ℕ} {q : Place} {n : Counts} {r : Answer}
+pub kept_more : {P : List Class} {s l s' l' : List ℕ} {width : ℕ} {q : Place} {n : Tally} {r : Answer}
     (z z' : ℕ)
     → Kept P width s l s' l' q n z r → z ≤ z' → Kept P width s l s' l' q n z' r
 kept_more z z' a h =
@@ -85,7 +86,7 @@ kept_more z z' a h =
     }
 
 -- the same with another outcome
-pub kept_as : {P : List Class} {width : ℕ} {s l s' l' : List ℕ} {q : Place} {n : Counts} {r : Answer} (z : ℕ)
+pub kept_as : {P : List Class} {width : ℕ} {s l s' l' : List ℕ} {q : Place} {n : Tally} {r : Answer} (z : ℕ)
     (o : Outcome) → Kept P width s l s' l' q n z r → SmallOutcome o
     → Kept P width s l s' l' q n z (answer o r.counts)
 kept_as z o a m = record {
@@ -100,7 +101,7 @@ kept_as z o a m = record {
 }
 
 -- ready for a child, and for what follows it
-pub ready_child : {R E T A M s l : List ℕ} {P : List Class} {width : ℕ} {q : Place} {n : Counts} {d : ℕ}
+pub ready_child : {R E T A M s l : List ℕ} {P : List Class} {width : ℕ} {q : Place} {n : Tally} {d : ℕ}
     (z d' : ℕ)
     → Ready R E T A M s l P width q n d z → d' ≤ d → Ready R E T A M s l P width q n d' 0
 ready_child z d' f h =
@@ -115,7 +116,7 @@ ready_child z d' f h =
       counted = omega (arith, f.counted);
     }
 
-pub refit : {R E T A M s l s' l' : List ℕ} {P : List Class} {width : ℕ} {q : Place} {n : Counts} {d : ℕ}
+pub refit : {R E T A M s l s' l' : List ℕ} {P : List Class} {width : ℕ} {q : Place} {n : Tally} {d : ℕ}
     {r : Answer}
     (z d' : ℕ) → Ready R E T A M s l P width q n d z → Kept P width s l s' l' q n 0 r → d' ≤ d
     → Ready R E T A M s' l' P width q r.counts d' 0
@@ -131,7 +132,7 @@ refit z d' f k h = record {
 }
 
 -- What evaluating a child of an entered node asks: of the first one, and of one that follows another.
-module _ {R E T A M s l : List ℕ} {at : ℕ} {q : Place} {n : Counts} (p : PreEntered R E T A M s l at q n)
+module _ {R E T A M s l : List ℕ} {at : ℕ} {q : Place} {n : Tally} (p : PreEntered R E T A M s l at q n)
   where
     abbrev pub first_child : {row : ℕ} (e : Expr) → Encoded R E e row
         → Proper p.P p.width (suc q.scope) (p.d - 1) e → PreEval R E T A M s l row q n
@@ -163,7 +164,7 @@ unfolding capacity
 room_same s s' e = ap (λ (n : ℕ). min (n / object_width) 65535) e
 
 -- an answer under the capacity of the store before
-pub then_eval : {R E T A M s l s' l' : List ℕ} {at : ℕ} {q : Place} {n : Counts} {r : Answer} (room : ℕ)
+pub then_eval : {R E T A M s l s' l' : List ℕ} {at : ℕ} {q : Place} {n : Tally} {r : Answer} (room : ℕ)
     → capacity s ≡ room → PostEval R E T A M s l s' l' at q n r
     → (w : PreEval R E T A M s l at q n) (F k : ℕ) → k + n.left ≡ F
     → Done w.P w.width s l s' l' q n F 0 r
@@ -185,12 +186,12 @@ gives t x e h = bare_ok x (rw e at h)
 
 -- ---- eval
 
-pub in_rows : {R E T A M s l : List ℕ} {at : ℕ} {q : Place} {n : Counts} {z : ℕ}
+pub in_rows : {R E T A M s l : List ℕ} {at : ℕ} {q : Place} {n : Tally} {z : ℕ}
     → PreNode R E T A M s l at q n z
     → at * 4 + 3 < length R
 in_rows p = (head p.e p.encoded).row
 
-spent : {R E T A M s l : List ℕ} {at : ℕ} {q : Place} {n : Counts} → n.left ≡ 0
+spent : {R E T A M s l : List ℕ} {at : ℕ} {q : Place} {n : Tally} → n.left ≡ 0
     → PostEval R E T A M s l s l at q n (answer (Stopped 14) n)
 unfolding bare
 spent {s = s} {l} {q = q} {n} z = record {
@@ -216,7 +217,7 @@ spent {s = s} {l} {q = q} {n} z = record {
       };
 }
 
-pub eval_spent : {R E T A M s l : List ℕ} {at : ℕ} {q : Place} {n n' : Counts} {o : Outcome} → o ≡ Stopped 14
+pub eval_spent : {R E T A M s l : List ℕ} {at : ℕ} {q : Place} {n n' : Tally} {o : Outcome} → o ≡ Stopped 14
     → n.left ≡ 0 → n' ≡ entered n → PostEval R E T A M s l s l at q n (answer o n')
 eval_spent {n = n} h z e = rw (h, e ∙ entered_none n z) (spent z)
 
@@ -228,10 +229,10 @@ pub some_left : {left : ℕ} {b : Bool} → b ≡ eqb left 0 → b ≡ false →
 some_left {left} e h = eqb-false left 0 (sym e ∙ h)
 
 -- there is less fuel once a node is entered
-pub left_falls : (n : Counts) {n' : Counts} → (n.left ≡ 0 → ⊥) → n' ≡ entered n → n'.left < n.left
-left_falls n z e = omega (arith, ap (λ (n : Counts). n.left) e, pos_of_ne-zero z)
+pub left_falls : (n : Tally) {n' : Tally} → (n.left ≡ 0 → ⊥) → n' ≡ entered n → n'.left < n.left
+left_falls n z e = omega (arith, ap (λ (n : Tally). n.left) e, pos_of_ne-zero z)
 
-abbrev to_entered : {R E T A M s l : List ℕ} {at : ℕ} {q : Place} {n : Counts} → (n.left ≡ 0 → ⊥)
+abbrev to_entered : {R E T A M s l : List ℕ} {at : ℕ} {q : Place} {n : Tally} → (n.left ≡ 0 → ⊥)
     → PreEval R E T A M s l at q n → PreEntered R E T A M s l at q (entered n)
 to_entered z p =
     let f = p.ready in
@@ -254,7 +255,7 @@ to_entered z p =
       };
     }
 
-from_entered : {R E T A M s l s' l' : List ℕ} {at : ℕ} {q : Place} {n : Counts} {r : Answer}
+from_entered : {R E T A M s l s' l' : List ℕ} {at : ℕ} {q : Place} {n : Tally} {r : Answer}
     → (n.left ≡ 0 → ⊥)
     → PostNode R E T A M s l s' l' at q (entered n) r → PostEval R E T A M s l s' l' at q n r
 from_entered {s = s} {l} {q = q} {n} z p = record {
@@ -279,20 +280,20 @@ from_entered {s = s} {l} {q = q} {n} z p = record {
       };
 }
 
-pub eval_entered : {R E T A M s l s' l' : List ℕ} {at : ℕ} {q : Place} {n n' : Counts} {r : Answer}
+pub eval_entered : {R E T A M s l s' l' : List ℕ} {at : ℕ} {q : Place} {n n' : Tally} {r : Answer}
     → (n.left ≡ 0 → ⊥) → n' ≡ entered n
     → PostNode R E T A M s l s' l' at q n' r → PostEval R E T A M s l s' l' at q n r
 eval_entered z e p = from_entered z (rw e at p)
 
-pub pre_entered : {R E T A M s l : List ℕ} {at : ℕ} {q : Place} {n n' : Counts} → (n.left ≡ 0 → ⊥)
+pub pre_entered : {R E T A M s l : List ℕ} {at : ℕ} {q : Place} {n n' : Tally} → (n.left ≡ 0 → ⊥)
     → n' ≡ entered n → PreEval R E T A M s l at q n → PreEntered R E T A M s l at q n'
 pre_entered z e p = rw e (to_entered z p)
 
-pub pre_leaf : {R E T A M s l : List ℕ} {at : ℕ} {q : Place} {n : Counts} → PreEntered R E T A M s l at q n
+pub pre_leaf : {R E T A M s l : List ℕ} {at : ℕ} {q : Place} {n : Tally} → PreEntered R E T A M s l at q n
     → PreLeaf R T s l at q n
 pre_leaf {E = E} {A = A} {M = M} p = record { E = E; A = A; M = M; node = p }
 
-pub rest_one : {R E T A M s l : List ℕ} {at : ℕ} {q : Place} {n : Counts} → PreEval R E T A M s l at q n
+pub rest_one : {R E T A M s l : List ℕ} {at : ℕ} {q : Place} {n : Tally} → PreEval R E T A M s l at q n
     → no_child (get_or R (at * 4) 0) ≡ false
     → (get_or R (at * 4) 0 ≡ code B_block → ⊥) → (get_or R (at * 4) 0 ≡ code J_choose → ⊥)
     → (get_or R (at * 4) 0 ≡ code Q_call → ⊥)
@@ -304,7 +305,7 @@ rest_one p h h₁ h₂ h₃ h₄ =
 
 -- ---- a node with one child
 
-module _ {R E T A M s l : List ℕ} {at : ℕ} {q : Place} {n : Counts} (p : PreEntered R E T A M s l at q n)
+module _ {R E T A M s l : List ℕ} {at : ℕ} {q : Place} {n : Tally} (p : PreEntered R E T A M s l at q n)
     (h : one_child (get_or R (at * 4) 0) ≡ true) where
   pub one_is : OneChild p.e
   one_is = one_of p.e (rw (head p.e p.encoded).letter at h)
@@ -314,13 +315,13 @@ module _ {R E T A M s l : List ℕ} {at : ℕ} {q : Place} {n : Counts} (p : Pre
       (one_proper p.P p.width (suc q.scope) p.d one_is (node_parts p refl))
 
 -- what a callee keeps, for the program at hand
-pub kept_of : {R E T A M s l s' l' : List ℕ} {at : ℕ} {q : Place} {n : Counts} {r : Answer}
+pub kept_of : {R E T A M s l s' l' : List ℕ} {at : ℕ} {q : Place} {n : Tally} {r : Answer}
     (p : PreEval R E T A M s l at q n) → PostEval R E T A M s l s' l' at q n r
     → Kept p.P p.width s l s' l' q n 0 r
 kept_of {n = n} p g = (g.done p n.left 0 (omega arith)).kept
 
 -- the node again, once its child has a value
-abbrev again : {R E T A M s l s' l' : List ℕ} {at : ℕ} {q : Place} {n : Counts} {r : Answer}
+abbrev again : {R E T A M s l s' l' : List ℕ} {at : ℕ} {q : Place} {n : Tally} {r : Answer}
     (p : PreEntered R E T A M s l at q n) → Kept p.P p.width s l s' l' q n 0 r
     → PreEval R E T A M s' l' at q r.counts
 again p k = record {
@@ -333,7 +334,7 @@ again p k = record {
   proper = p.proper;
 }
 
-pub pre_apply : {R E T A M s l s' l' : List ℕ} {at : ℕ} {q : Place} {n : Counts} {r : Answer} (w : ℕ)
+pub pre_apply : {R E T A M s l s' l' : List ℕ} {at : ℕ} {q : Place} {n : Tally} {r : Answer} (w : ℕ)
     (p : PreEntered R E T A M s l at q n) (h : one_child (get_or R (at * 4) 0) ≡ true)
     → PostEval R E T A M s l s' l' (at + 1) q n r → r.outcome ≡ Gave (meaning w) → w < 17179869184
     → PreApply R T A s' l' at q r.counts w
@@ -347,7 +348,7 @@ pre_apply {E = E} {M = M} w p h g e short =
       is_word = record { short = short; small = small_of e k.small };
     }
 
-module _ {R E T A M s l s' l' : List ℕ} (at : ℕ) {q : Place} {n : Counts} {r : Answer}
+module _ {R E T A M s l s' l' : List ℕ} (at : ℕ) {q : Place} {n : Tally} {r : Answer}
     (h : one_child (get_or R (at * 4) 0) ≡ true) (g : PostEval R E T A M s l s' l' (at + 1) q n r) where
   pub one_fail : ((v : Meaning) → r.outcome ≡ Gave v → ⊥) → PostNode R E T A M s l s' l' at q n r
   one_fail not = record {

@@ -13,7 +13,8 @@ use Rattle.language.specs.Limits.{of_check, most_calls}
 use Rattle.language.specs.WellFormed.{BodyInForm}
 use Rattle.layout.specs.ProperNodes.{Typed, ProperAll}
 use Rattle.objects.specs.Values.{stop_of, SmallOutcome, told, bare, Outcome, Gave}
-use Rattle.objects.specs.Values.{Raised, Stopped, Stuck, Counts, Answer}
+use Rattle.objects.specs.declared.Tally.{Tally}
+use Rattle.objects.specs.Values.{Raised, Stopped, Stuck, Answer}
 use Rattle.objects.specs.Holding.{Holding, view}
 use Rattle.objects.specs.Acts.{Stored, IsWord}
 use Rattle.language.specs.Results.{stop}
@@ -26,7 +27,7 @@ use Rattle.frames.specs.Nodes.{Ready, Kept, Done, evaluated, calls_of, PreEval}
 -- ---- nodes
 
 -- F is the fuel of the whole run, of which k have been spent.
-pub record PostEval (R E T A M s l s' l' : List ℕ) (at : ℕ) (q : Place) (n : Counts) (r : Answer) : Type 0
+pub record PostEval (R E T A M s l s' l' : List ℕ) (at : ℕ) (q : Place) (n : Tally) (r : Answer) : Type 0
   where
     pub done : (w : PreEval R E T A M s l at q n) (F k : ℕ) → k + n.left ≡ F
         → Done w.P w.width s l s' l' q n F 0 r
@@ -50,7 +51,7 @@ evaluated_all P F room calls es s =
     eval_all (world P) (with_limits F room) (λ M s. calls_of P F room calls M s) es s
 
 -- A list of m expressions.
-pub record PreList (R E T A M s l : List ℕ) (at : ℕ) (q : Place) (n : Counts) (m : ℕ) : Type 0 where
+pub record PreList (R E T A M s l : List ℕ) (at : ℕ) (q : Place) (n : Tally) (m : ℕ) : Type 0 where
   pub P : List Class
   pub es : Exprs
   pub width : ℕ
@@ -62,11 +63,11 @@ pub record PreList (R E T A M s l : List ℕ) (at : ℕ) (q : Place) (n : Counts
   pub few : m < 4294967296
 
 -- The arguments of a call go to the top; there is room for them.
-pub record PreArgs (R E T A M s l : List ℕ) (at : ℕ) (q : Place) (n : Counts) (m : ℕ) : Type 0 where
+pub record PreArgs (R E T A M s l : List ℕ) (at : ℕ) (q : Place) (n : Tally) (m : ℕ) : Type 0 where
   pub list : PreList R E T A M s l at q n m
   pub room : q.top + m + waiting list.d ≤ length l
 
-pub record PostItems (R E T A M s l s' l' : List ℕ) (at : ℕ) (q : Place) (n : Counts) (m : ℕ) (last : Meaning)
+pub record PostItems (R E T A M s l s' l' : List ℕ) (at : ℕ) (q : Place) (n : Tally) (m : ℕ) (last : Meaning)
     (r : Answer) : Type 0 where
   pub done : (w : PreList R E T A M s l at q n m) (F k : ℕ) → k + n.left ≡ F
       → Done w.P w.width s l s' l' q n F 0 r
@@ -74,14 +75,14 @@ pub record PostItems (R E T A M s l s' l' : List ℕ) (at : ℕ) (q : Place) (n 
       ok (last_value last vs) t)
 
 -- What argument evaluation comes to: the values stand from the top on.
-pub record DoneAll (P : List Class) (width : ℕ) (s l s' l' : List ℕ) (q : Place) (n : Counts) (F m : ℕ)
+pub record DoneAll (P : List Class) (width : ℕ) (s l s' l' : List ℕ) (q : Place) (n : Tally) (F m : ℕ)
     (r : Answer)
     (o : Out (List Meaning)) : Type 0 where
   pub kept : Kept P width s l s' l' q n 0 r
   pub is : told_all r.outcome (slots_of l' q.top m) (state P s' l' q r.counts (F - r.counts.left))
       ≡ bare o
 
-pub record PostArgs (R E T A M s l s' l' : List ℕ) (at : ℕ) (q : Place) (n : Counts) (m : ℕ) (r : Answer) :
+pub record PostArgs (R E T A M s l s' l' : List ℕ) (at : ℕ) (q : Place) (n : Tally) (m : ℕ) (r : Answer) :
     Type
     0 where
   pub done : (w : PreArgs R E T A M s l at q n m) (F k : ℕ) → k + n.left ≡ F
@@ -92,7 +93,7 @@ pub record PostArgs (R E T A M s l s' l' : List ℕ) (at : ℕ) (q : Place) (n :
 
 -- The body e of a method is at row b; `this` and n arguments are in the slots from top on; `calls` calls are active, this one
 -- included.
-pub record PreEnter (R E T A M s l : List ℕ) (b n top calls : ℕ) (c : Counts) : Type 0 where
+pub record PreEnter (R E T A M s l : List ℕ) (b n top calls : ℕ) (c : Tally) : Type 0 where
   pub P : List Class
   pub e : Expr
   pub holding : Holding R E T A M s P c.made
@@ -111,7 +112,7 @@ abbrev pub call_place : ℕ → ℕ → ℕ → Place
 call_place top n calls = record { base = top; scope = n; top = top; calls = calls }
 
 -- The slots below top are kept, and outcome and state are those of the body, with the caller's slots γ again.
-pub record Entered (P : List Class) (s l s' l' : List ℕ) (e : Expr) (n top calls : ℕ) (c : Counts) (F k : ℕ)
+pub record Entered (P : List Class) (s l s' l' : List ℕ) (e : Expr) (n top calls : ℕ) (c : Tally) (F k : ℕ)
     (r : Answer) : Type 0 where
   pub same : (i : ℕ) → i < top → get_or l' i 0 ≡ get_or l i 0
   pub long : length l' ≡ length l
@@ -125,7 +126,7 @@ pub record Entered (P : List Class) (s l s' l' : List ℕ) (e : Expr) (n top cal
       ≡ bare (bind (evaluated P F (capacity s) calls e (view P s c (frame_of l (call_place top n calls)) k))
       λ w t. ok w (with_frame γ t))
 
-pub record PostEnter (R E T A M s l s' l' : List ℕ) (b n top calls : ℕ) (c : Counts) (r : Answer) : Type 0
+pub record PostEnter (R E T A M s l s' l' : List ℕ) (b n top calls : ℕ) (c : Tally) (r : Answer) : Type 0
   where
     pub done : (w : PreEnter R E T A M s l b n top calls c) (F k : ℕ) → k + c.left ≡ F
         → Entered w.P s l s' l' w.e n top calls c F k r

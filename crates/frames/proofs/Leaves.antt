@@ -16,7 +16,8 @@ use Rattle.language.specs.Encoded.{Encoded}
 use Rattle.language.specs.State.{Value as Meaning, null, truth, object, State, Out}
 use Rattle.language.specs.Evaluation.{need, need_reference, do_change}
 use Rattle.language.proofs.Nodes.{head}
-use Rattle.objects.specs.Values.{Outcome, Gave, Raised, Stopped, Stuck, Counts, outcome, Answer}
+use Rattle.objects.specs.declared.Tally.{Tally}
+use Rattle.objects.specs.Values.{Outcome, Gave, Raised, Stopped, Stuck, outcome, Answer}
 use Rattle.objects.specs.Values.{SmallOutcome, bare, told, answer}
 use Rattle.frames.specs.declared.Place.{Place}
 use Rattle.frames.specs.Places.{state, frame_of, inside, after}
@@ -37,7 +38,7 @@ use Rattle.language.specs.Rows.{code, A_assign, G_get, I_slot, K_cast, L_false, 
 use Rattle.language.specs.Rows.{W_new, Z_is_null}
 
 -- an act as what a node comes to
-pub done_acts : {R E T A M s l s' : List ℕ} {P : List Class} {width : ℕ} {q : Place} {n : Counts} {d : ℕ}
+pub done_acts : {R E T A M s l s' : List ℕ} {P : List Class} {width : ℕ} {q : Place} {n : Tally} {d : ℕ}
     {r : Answer}
     {o : State → Out Meaning} (F k : ℕ) → Ready R E T A M s l P width q n d 1
     → Acts P s s' n r o → k + n.left ≡ F → Done P width s l s' l q n F 1 r (o (state P s l q n k))
@@ -54,7 +55,7 @@ done_acts {l = l} {q = q} {n = n} {r = r} F k f a e = record {
   is = let g : F - r.counts.left ≡ k = omega (arith, a.left) in rw g (a.is (frame_of l q) k);
 }
 
-pub done_same : {R E T A M s l : List ℕ} {P : List Class} {width : ℕ} {q : Place} {n : Counts} {d : ℕ}
+pub done_same : {R E T A M s l : List ℕ} {P : List Class} {width : ℕ} {q : Place} {n : Tally} {d : ℕ}
     (o : Outcome)
     {x : Out Meaning} (F k : ℕ) → Ready R E T A M s l P width q n d 1
     → SmallOutcome o → k + n.left ≡ F → told o (state P s l q n k) ≡ bare x
@@ -79,7 +80,7 @@ unfolding bare
 holds_value none v t e = let z : ◌≡◌ {A = ℕ} 0 1 = cc in absurd (omega arith)
 holds_value (some m) v t e = let z : v ≡ m = cc in rw z
 
-module _ {R T s l : List ℕ} {at : ℕ} {q : Place} {n : Counts} where
+module _ {R T s l : List ℕ} {at : ℕ} {q : Place} {n : Tally} where
   pub leaf_row : PreLeaf R T s l at q n → at * 4 + 3 < length R
   leaf_row p = (head p.node.e p.node.encoded).row
 
@@ -219,7 +220,7 @@ module _ {R T s l : List ℕ} {at : ℕ} {q : Place} {n : Counts} where
     };
   }
 
-pub leaf_rest : {R T s l : List ℕ} {at : ℕ} {q : Place} {n : Counts} → PreLeaf R T s l at q n
+pub leaf_rest : {R T s l : List ℕ} {at : ℕ} {q : Place} {n : Tally} → PreLeaf R T s l at q n
     → no_child (get_or R (at * 4) 0) ≡ true
     → (get_or R (at * 4) 0 ≡ code T_true → ⊥) → (get_or R (at * 4) 0 ≡ code L_false → ⊥)
     → (get_or R (at * 4) 0 ≡ code N_null → ⊥)
@@ -231,7 +232,7 @@ leaf_rest p h a b c d e =
     (λ z. d (x ∙ z)) (λ z. e (x ∙ z))
 
 -- a node with one child, once that has a value
-module _ {R E T A M s l : List ℕ} {at : ℕ} {q : Place} {n : Counts} (p : PreEval R E T A M s l at q n) where
+module _ {R E T A M s l : List ℕ} {at : ℕ} {q : Place} {n : Tally} (p : PreEval R E T A M s l at q n) where
   abbrev object_at : PreObject T s n.made
   object_at = record { R = R; E = E; A = A; M = M; P = p.P; holding = p.ready.holding }
 
@@ -249,7 +250,7 @@ module _ {R E T A M s l : List ℕ} {at : ℕ} {q : Place} {n : Counts} (p : Pre
         declared = omega (arith, (node_rows p c.2).0.row.first, (node_parts p c.2).1);
       }
 
-module _ {R T A s l : List ℕ} {at : ℕ} {q : Place} {n : Counts} {x : ℕ} where
+module _ {R T A s l : List ℕ} {at : ℕ} {q : Place} {n : Tally} {x : ℕ} where
   pub apply_row : PreApply R T A s l at q n x → at * 4 + 3 < length R
   apply_row p = (head p.node.e p.node.encoded).row
 
@@ -283,7 +284,7 @@ module _ {R T A s l : List ℕ} {at : ℕ} {q : Place} {n : Counts} {x : ℕ} wh
       let x = (head p.node.e p.node.encoded).letter in
       x ∙ rest_assign p.node.e (rw x at p.letter) (λ z. a (x ∙ z)) (λ z. b (x ∙ z)) (λ z. c (x ∙ z))
 
-module _ {R T A s l : List ℕ} {at : ℕ} {q : Place} {n : Counts} {v : Meaning} where
+module _ {R T A s l : List ℕ} {at : ℕ} {q : Place} {n : Tally} {v : Meaning} where
   pub apply_test : {r : Outcome} → get_or R (at * 4) 0 ≡ code Z_is_null → r ≡ null_tested v
       → PostApply R T A s l l at q n v r
   unfolding after bare

@@ -15,7 +15,7 @@ use Rattle.language.specs.Evaluation.{Limits, enter, eval}
 use Rattle.language.proofs.Nodes.{letter_of}
 use Rattle.layout.specs.HeldLaws.{parameters_few}
 use Rattle.layout.specs.ProperNodes.{Proper, ProperParts, proper_parts}
-use Rattle.objects.specs.Values.{Counts}
+use Rattle.objects.specs.declared.Tally.{Tally}
 use Rattle.frames.specs.declared.Place.{Place}
 use Rattle.frames.specs.Places.{inside, after}
 use Rattle.frames.specs.Nodes.{one_child, no_child, PreNode}
@@ -75,7 +75,7 @@ one_proper P w n d one_cast h = h.2
 one_proper P w n d one_assign h = h.1
 
 -- a node one level at a time: its rows, and what its form and type tell
-module _ {R E T A M s l : List ℕ} {at : ℕ} {q : Place} {n : Counts} {z : ℕ}
+module _ {R E T A M s l : List ℕ} {at : ℕ} {q : Place} {n : Tally} {z : ℕ}
     (p : PreNode R E T A M s l at q n z) {e : Expr} (h : p.e ≡ e) where
   pub node_rows : Encoded R E e at
   node_rows = subst (λ (e : Expr). Encoded R E e at) h p.encoded

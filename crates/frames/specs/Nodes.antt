@@ -12,7 +12,8 @@ use Rattle.language.specs.Store.{capacity}
 use Rattle.language.specs.Limits.{most_calls}
 use Rattle.layout.specs.ProperNodes.{Proper}
 use Rattle.objects.specs.Values.{SmallOutcome, told, bare, Outcome}
-use Rattle.objects.specs.Values.{Counts, Answer}
+use Rattle.objects.specs.declared.Tally.{Tally}
+use Rattle.objects.specs.Values.{Answer}
 use Rattle.objects.specs.Holding.{Holding}
 use Rattle.objects.specs.Acts.{Stored, IsWord}
 use Rattle.language.specs.Rows.{code, T_true, L_false, N_null, I_slot, Z_is_null, G_get, K_cast, W_new}
@@ -23,7 +24,7 @@ use Rattle.frames.specs.Slots.{waiting, segment_length}
 
 -- Everything fits: a frame of a width at base, waiting values up to top, and room for those of d nested nodes; z is 1
 -- where a node has been entered.
-pub record Ready (R E T A M s l : List ℕ) (P : List Class) (width : ℕ) (q : Place) (n : Counts) (d z : ℕ) :
+pub record Ready (R E T A M s l : List ℕ) (P : List Class) (width : ℕ) (q : Place) (n : Tally) (d z : ℕ) :
     Type 0 where
   pub holding : Holding R E T A M s P n.made
   pub frame : q.base + width ≤ q.top
@@ -35,11 +36,11 @@ pub record Ready (R E T A M s l : List ℕ) (P : List Class) (width : ℕ) (q : 
   pub counted : n.changes + n.left + z ≤ 4294967295
 
 -- The counts once a node has been entered: one fuel less.
-abbrev pub entered : Counts → Counts
+abbrev pub entered : Tally → Tally
 entered n = record { left = n.left - 1; made = n.made; changes = n.changes }
 
 -- What is the same afterwards.
-pub record Kept (P : List Class) (width : ℕ) (s l s' l' : List ℕ) (q : Place) (n : Counts) (z : ℕ)
+pub record Kept (P : List Class) (width : ℕ) (s l s' l' : List ℕ) (q : Place) (n : Tally) (z : ℕ)
     (r : Answer) : Type 0
   where
     pub same : (i : ℕ) → i < q.top → (i < q.base) ⊎ (q.base + width ≤ i) → get_or l' i 0 ≡ get_or l i 0
@@ -51,7 +52,7 @@ pub record Kept (P : List Class) (width : ℕ) (s l s' l' : List ℕ) (q : Place
     pub small : SmallOutcome r.outcome
 
 -- What is kept, and that outcome and state are those of the definition. F is the fuel of the whole run.
-pub record Done (P : List Class) (width : ℕ) (s l s' l' : List ℕ) (q : Place) (n : Counts) (F z : ℕ)
+pub record Done (P : List Class) (width : ℕ) (s l s' l' : List ℕ) (q : Place) (n : Tally) (F z : ℕ)
     (r : Answer)
     (o : Out Meaning) : Type 0 where
   pub kept : Kept P width s l s' l' q n z r
@@ -69,7 +70,7 @@ evaluated_inside P F room calls e s =
     inside (world P) (with_limits F room) (λ M s. calls_of P F room calls M s) e s
 
 -- A node at a row, in form and typed; z is 1 where it has been entered.
-pub record PreNode (R E T A M s l : List ℕ) (at : ℕ) (q : Place) (n : Counts) (z : ℕ) : Type 0 where
+pub record PreNode (R E T A M s l : List ℕ) (at : ℕ) (q : Place) (n : Tally) (z : ℕ) : Type 0 where
   pub P : List Class
   pub e : Expr
   pub width : ℕ
@@ -79,16 +80,16 @@ pub record PreNode (R E T A M s l : List ℕ) (at : ℕ) (q : Place) (n : Counts
   pub proper : Proper P width (suc q.scope) d e
 
 -- Before a node is entered, and once it has been.
-abbrev pub PreEval : List ℕ → List ℕ → List ℕ → List ℕ → List ℕ → List ℕ → List ℕ → ℕ → Place → Counts
+abbrev pub PreEval : List ℕ → List ℕ → List ℕ → List ℕ → List ℕ → List ℕ → List ℕ → ℕ → Place → Tally
     → Type 0
 PreEval R E T A M s l at q n = PreNode R E T A M s l at q n 0
 
-abbrev pub PreEntered : List ℕ → List ℕ → List ℕ → List ℕ → List ℕ → List ℕ → List ℕ → ℕ → Place → Counts
+abbrev pub PreEntered : List ℕ → List ℕ → List ℕ → List ℕ → List ℕ → List ℕ → List ℕ → ℕ → Place → Tally
     → Type 0
 PreEntered R E T A M s l at q n = PreNode R E T A M s l at q n 1
 
 -- The node has been entered, as the k-th step.
-pub record PostNode (R E T A M s l s' l' : List ℕ) (at : ℕ) (q : Place) (n : Counts) (r : Answer) : Type 0
+pub record PostNode (R E T A M s l s' l' : List ℕ) (at : ℕ) (q : Place) (n : Tally) (r : Answer) : Type 0
   where
     pub done : (w : PreEntered R E T A M s l at q n) (F k : ℕ) → k + n.left ≡ F
         → Done w.P w.width s l s' l' q n F 1 r
@@ -103,23 +104,23 @@ no_child k = eqb k (code T_true) || eqb k (code L_false) || eqb k (code N_null) 
     k (code W_new) || eqb k (code R_change)
 
 -- Functions that read no table of ends.
-pub record PreLeaf (R T s l : List ℕ) (at : ℕ) (q : Place) (n : Counts) : Type 0 where
+pub record PreLeaf (R T s l : List ℕ) (at : ℕ) (q : Place) (n : Tally) : Type 0 where
   pub E : List ℕ
   pub A : List ℕ
   pub M : List ℕ
   pub node : PreNode R E T A M s l at q n 1
 
-pub record PostLeaf (R T s l s' : List ℕ) (at : ℕ) (q : Place) (n : Counts) (r : Answer) : Type 0 where
+pub record PostLeaf (R T s l s' : List ℕ) (at : ℕ) (q : Place) (n : Tally) (r : Answer) : Type 0 where
   pub post : (E A M : List ℕ) → PostNode R E T A M s l s' l at q n r
 
-pub record PreApply (R T A s l : List ℕ) (at : ℕ) (q : Place) (n : Counts) (w : ℕ) : Type 0 where
+pub record PreApply (R T A s l : List ℕ) (at : ℕ) (q : Place) (n : Tally) (w : ℕ) : Type 0 where
   pub E : List ℕ
   pub M : List ℕ
   pub node : PreNode R E T A M s l at q n 0
   pub letter : one_child (get_or R (at * 4) 0) ≡ true
   pub is_word : IsWord w
 
-pub record Applied (P : List Class) (width : ℕ) (s l l' : List ℕ) (e : Expr) (q : Place) (n : Counts)
+pub record Applied (P : List Class) (width : ℕ) (s l l' : List ℕ) (e : Expr) (q : Place) (n : Tally)
     (v : Meaning)
     (r : Outcome) : Type 0 where
   pub long : length l' ≡ length l
@@ -129,7 +130,7 @@ pub record Applied (P : List Class) (width : ℕ) (s l l' : List ℕ) (e : Expr)
   pub is : (steps : ℕ)
       → told r (state P s l' q n steps) ≡ bare (after (world P) e v (state P s l q n steps))
 
-pub record PostApply (R T A s l l' : List ℕ) (at : ℕ) (q : Place) (n : Counts) (v : Meaning) (r : Outcome) :
+pub record PostApply (R T A s l l' : List ℕ) (at : ℕ) (q : Place) (n : Tally) (v : Meaning) (r : Outcome) :
     Type 0 where
   pub applied : (E M : List ℕ) (w : PreEval R E T A M s l at q n)
       → Applied w.P w.width s l l' w.e q n v r

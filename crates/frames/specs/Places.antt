@@ -12,7 +12,8 @@ use Rattle.language.specs.Evaluation.{Limits}
 use Rattle.language.specs.State.{initial, with_frame}
 use Rattle.language.specs.Evaluation.{last_value, need, need_truth, need_reference}
 use Rattle.language.specs.Evaluation.{do_get, do_set, do_cast, do_change, do_new, do_call, eval, eval_all}
-use Rattle.objects.specs.Values.{Counts, meaning}
+use Rattle.objects.specs.declared.Tally.{Tally}
+use Rattle.objects.specs.Values.{meaning}
 use Rattle.objects.specs.Holding.{view}
 use Rattle.frames.specs.declared.Place.{Place}
 
@@ -31,7 +32,7 @@ unfoldable pub frame_of : List ℕ → Place → Frame Meaning
 frame_of l q = frame (this_of q.calls (get_or l q.base 0)) (slots_of l (q.base + 1) q.scope)
 
 -- The state that store and slots hold, after `steps` steps.
-abbrev pub state : List Class → List ℕ → List ℕ → Place → Counts → ℕ → State
+abbrev pub state : List Class → List ℕ → List ℕ → Place → Tally → ℕ → State
 state P s l q n steps = view P s n (frame_of l q) steps
 
 -- A node with one child, once that has a value.

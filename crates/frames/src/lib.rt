@@ -1,9 +1,9 @@
 // The slots of the calls under way, and what evaluating a node does that needs no child evaluated.
-// What is done to objects is in the crate objects. Slots are words in lent segments; outcomes and the tally are numbers, as there.
+// What is done to objects is in the crate objects. Slots are words in lent segments; outcomes are words, as there.
 #![tactic(auto)]
 
 ghost use Rattle.std.specs.Prelude.{◌≡◌, true, ◌+◌, ◌*◌, ◌≤◌, eqb, length, get_or};
-ghost use Rattle.objects.specs.Values.{meaning, outcome, counts_in, answered};
+ghost use Rattle.objects.specs.Values.{meaning, outcome, answered};
 ghost use Rattle.objects.specs.Acts.{Written, IsWord};
 ghost use Rattle.frames.specs.Slots.{Slots, Locals, Opened, PostRead, PostWrite, null_tested};
 ghost use Rattle.frames.specs.Slots.{frame_width, most_nested};
@@ -13,7 +13,7 @@ ghost use Rattle.language.specs.Rows.{code, R_change};
 use language::{
     CAST, CHANGE, FALSE, GET, IS_NULL, NEW, NULL, SLOT, TRUE, first, letter_at, second,
 };
-use objects::{STUCK, Value};
+use objects::{Program, STUCK, Tally, Value};
 
 // How many slots a frame has at most, `this` included.
 pub const FRAME_ROOM: usize = 264;
@@ -27,7 +27,7 @@ pub const SEGMENT: usize = 1920;
 
 // Where the slots of the method under way stand: `this` at base, the others after it, of which scope are in scope;
 // values that wait for a call are from top on; `calls` calls are active, and outside of any there is no `this`.
-#[derive(Drop)]
+#[derive(Clone, Copy)]
 pub struct Place {
     pub base: usize,
     pub scope: usize,
@@ -110,39 +110,40 @@ pub fn copy_call(slots: &[u64], fresh: &mut [u64], from: usize, n: usize)
 }
 
 // One of the fuel is taken for a node; true where none is left.
-pub fn runs_out(tally: &mut [u32; 3]) -> bool
-    ensures value { result ≡ eqb (get_or tally.old 0 0) 0 }
-    ensures tally_after { counts_in tally.new ≡ entered (counts_in tally.old) }
+#[tactic(auto, using(crate::proofs::Fuel::entered_none))]
+pub fn runs_out(tally: &mut Tally) -> bool
+    ensures value { result ≡ eqb tally.old.left 0 }
+    ensures tally_after { tally.new ≡ entered tally.old }
 {
-    if tally[0] == 0 {
+    if tally.left == 0 {
         return true;
     }
-    tally[0] -= 1;
+    tally.left -= 1;
     false
 }
 
 // R of what stands in a slot.
 fn reclassify(
-    rows: &[u32],
-    tables: &[u16],
+    program: &Program,
     store: &mut [u32],
     slots: &[u64],
-    tally: &mut [u32; 3],
+    tally: &mut Tally,
     at: usize,
-    place: Place,
+    place: &Place,
 ) -> u64
-    requires pre_leaf { PreLeaf rows.now tables.now store.old slots.now at place (counts_in tally.old) }
-    requires at_value { get_or rows.now (at * 4) 0 ≡ code R_change }
-    ensures { PostLeaf rows.now tables.now store.old
-        slots.now store.new at place (counts_in tally.old)
+    requires pre_leaf { PreLeaf program.now.rows.now program.now.tables.now store.old slots.now
+        at place.now tally.old }
+    requires at_value { get_or program.now.rows.now (at * 4) 0 ≡ code R_change }
+    ensures { PostLeaf program.now.rows.now program.now.tables.now store.old
+        slots.now store.new at place.now tally.old
         (answered result tally.new) }
 {
-    let k = first(rows, at) as usize;
-    let o = read_slot(slots, k, place);
+    let rows = program.rows;
+    let o = read_slot(slots, first(rows, at) as usize, *place);
     if o >= STUCK {
         return o;
     }
-    objects::change_class(rows, tables, store, tally, o, second(rows, at))
+    objects::change_class(program, store, tally, o, second(rows, at))
 }
 
 // The letter of a node without children.
@@ -154,53 +155,53 @@ pub fn is_leaf(k: u32) -> bool
 
 // A node without children, entered.
 pub fn leaf(
-    rows: &[u32],
-    tables: &[u16],
+    program: &Program,
     store: &mut [u32],
     slots: &[u64],
-    tally: &mut [u32; 3],
+    tally: &mut Tally,
     at: usize,
-    place: Place,
+    place: &Place,
 ) -> u64
-    requires pre_leaf { PreLeaf rows.now tables.now store.old slots.now at place (counts_in tally.old) }
-    requires at_value { no_child (get_or rows.now (at * 4) 0) ≡ true }
-    ensures { PostLeaf rows.now tables.now store.old
-        slots.now store.new at place (counts_in tally.old)
+    requires pre_leaf { PreLeaf program.now.rows.now program.now.tables.now store.old slots.now
+        at place.now tally.old }
+    requires at_value { no_child (get_or program.now.rows.now (at * 4) 0) ≡ true }
+    ensures { PostLeaf program.now.rows.now program.now.tables.now store.old
+        slots.now store.new at place.now tally.old
         (answered result tally.new) }
 {
+    let rows = program.rows;
     match letter_at(rows, at) {
         TRUE => objects::TRUE,
         FALSE => objects::FALSE,
         NULL => objects::NULL,
-        SLOT => read_slot(slots, first(rows, at) as usize, place),
-        NEW => objects::new_object(rows, tables, store, tally, first(rows, at)),
-        _ => reclassify(rows, tables, store, slots, tally, at, place),
+        SLOT => read_slot(slots, first(rows, at) as usize, *place),
+        NEW => objects::new_object(program, store, tally, first(rows, at)),
+        _ => reclassify(program, store, slots, tally, at, place),
     }
 }
 
 // A node with one child, once that has a value.
 pub fn apply(
-    rows: &[u32],
-    tables: &[u16],
-    above: &[u64],
+    program: &Program,
     store: &[u32],
     slots: &mut [u64],
-    tally: &[u32; 3],
+    tally: &Tally,
     at: usize,
-    place: Place,
+    place: &Place,
     w: u64,
 ) -> u64
-    requires { PreApply rows.now tables.now above.now store.now slots.old at place
-        (counts_in tally.now) w }
-    ensures { PostApply rows.now tables.now above.now
-        store.now slots.old slots.new at place
-        (counts_in tally.now) (meaning w) (outcome result) }
+    requires { PreApply program.now.rows.now program.now.tables.now program.now.above.now store.now slots.old
+        at place.now tally.now w }
+    ensures { PostApply program.now.rows.now program.now.tables.now program.now.above.now
+        store.now slots.old slots.new at place.now
+        tally.now (meaning w) (outcome result) }
 {
+    let rows = program.rows;
     let a = first(rows, at);
     match letter_at(rows, at) {
         IS_NULL => test_null(w),
-        GET => objects::load(tables, store, tally, w, a as usize),
-        CAST => objects::cast_object(above, store, tally, w, a),
-        _ => write_slot(slots, a as usize, w, place),
+        GET => objects::load(program, store, tally, w, a as usize),
+        CAST => objects::cast_object(program, store, tally, w, a),
+        _ => write_slot(slots, a as usize, w, *place),
     }
 }

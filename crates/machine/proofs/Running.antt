@@ -15,7 +15,8 @@ use Rattle.language.specs.State.{Value as Meaning, State, Out}
 use Rattle.language.specs.Evaluation.{with_limits, run}
 use Rattle.language.specs.Store.{value_number, value_of_number, heap_of_numbers, heap_numbers, object_numbers}
 use Rattle.language.specs.Store.{capacity, stored, finish, finished, ran}
-use Rattle.objects.specs.Values.{Outcome, Gave, Raised, Stopped, Stuck, Counts, Answer, outcome, counts_in}
+use Rattle.objects.specs.declared.Tally.{Tally}
+use Rattle.objects.specs.Values.{Outcome, Gave, Raised, Stopped, Stuck, Answer, outcome}
 use Rattle.objects.specs.Values.{told, bare, answered, SmallOutcome}
 use Rattle.frames.specs.declared.Place.{Place}
 use Rattle.frames.specs.Places.{state, frame_of, slots_of}
@@ -130,7 +131,7 @@ finish_told Stuck t s = refl
 abbrev pub first_place : Place
 first_place = record { base = 0; scope = 0; top = 264; calls = 0 }
 
-abbrev pub first_counts : ℕ → Counts
+abbrev pub first_counts : ℕ → Tally
 first_counts fuel = record { left = fuel; made = 0; changes = 0 }
 
 -- Before the run the store holds no objects.
@@ -193,17 +194,16 @@ pub start_small : {R E T A M s l s' l' : List ℕ} {at fuel : ℕ} {r : Answer} 
     → SmallOutcome r.outcome
 start_small p low g = (kept_of (start_pre p low) g).small
 
-pub run_done : {R E T A M s l s' l' : List ℕ} {at fuel : ℕ} (o : ℕ) (t : List ℕ) (e : End) → fuel ≤ 4294967295
-    → PostEval R E T A M s l s' l' at first_place (first_counts fuel) (answered o t)
+pub run_done : {R E T A M s l s' l' : List ℕ} {at fuel : ℕ} (o : ℕ) (n : Tally) (e : End) → fuel ≤ 4294967295
+    → PostEval R E T A M s l s' l' at first_place (first_counts fuel) (answered o n)
     → e ≡ end_told (outcome_of (outcome o))
     → PostRun R E T A M s l s' at fuel
-    (record { outcome = e; steps = fuel - get_or t 0 0; objects = get_or t 1 0; changes = get_or t 2 0 })
-run_done {s = s} {l} {s'} {l'} {fuel = fuel} o t e low g tells = record {
+    (record { outcome = e; steps = fuel - n.left; objects = n.made; changes = n.changes })
+run_done {s = s} {l} {s'} {l'} {fuel = fuel} o n e low g tells = record {
   tells = λ w.
       let p = w.checked.p in
       let pre = start_pre w low in
       let d = g.done pre fuel 0 (omega arith) in
-      let n : Counts = counts_in t in
       let st : State = state p.classes s' l' first_place n (fuel - n.left) in
       let whole : finish (run (with_limits fuel (capacity s)) p) s ≡ finished (outcome_of (outcome o)) st s
       = ap (λ (x : Out Meaning). finish x s) (sym (run_is p.classes s l fuel p refl))

@@ -3,11 +3,12 @@
 
 ghost use Rattle.std.specs.Prelude.{◌≡◌};
 ghost use Rattle.objects.specs.Values.{outcome, SmallOutcome};
-ghost use Rattle.machine.specs.Runs.{PreRun, PostRun, end_told, stop_told, outcome_of, PreChecked, PostChecked};
+ghost use Rattle.machine.specs.Runs.{PreRun, PostRun, end_told, stop_told, outcome_of};
+ghost use Rattle.machine.specs.Runs.{PreChecked, PostChecked};
 
-use frames::{FRAME_ROOM, SEGMENT};
+use frames::{FRAME_ROOM, Place, SEGMENT};
 use language::{ALL_CLASSES, DEEP_STOP, FULL_STOP, SPENT_STOP, START};
-use objects::{BAD_CAST, DEEP, FULL, NULL_POINTER, SPENT, STUCK, Value};
+use objects::{BAD_CAST, DEEP, FULL, NULL_POINTER, Program, SPENT, STUCK, Tally, Value};
 
 // Why a run stopped: no fuel left for a node, a call too many, no room for an object, or no rule that goes on, which no
 // checked program reaches.
@@ -53,30 +54,35 @@ pub struct Run {
 
 // The start block, at a row, from the first state.
 fn run_start(
-    rows: &[u32],
-    ends: &[u16],
-    tables: &[u16],
-    above: &[u64; ALL_CLASSES],
-    methods: &[u16],
+    program: &Program,
     store: &mut [u32],
     slots: &mut [u64; SEGMENT],
     at: usize,
     fuel: u32,
 ) -> Run
-    requires { PreRun rows.now ends.now tables.now above.now methods.now slots.old at }
-    ensures { PostRun rows.now ends.now tables.now
-        above.now methods.now store.old slots.old
+    requires { PreRun program.now.rows.now program.now.ends.now program.now.tables.now
+        program.now.above.now program.now.methods.now slots.old at }
+    ensures { PostRun program.now.rows.now program.now.ends.now program.now.tables.now
+        program.now.above.now program.now.methods.now store.old slots.old
         store.new at fuel result }
 {
-    let mut tally = [fuel, 0, 0];
-    let outcome = evaluator::eval(
-        rows, ends, tables, above, methods, store, slots, &mut tally, at, 0, 0, FRAME_ROOM, 0,
-    );
+    let mut tally = Tally {
+        left: fuel,
+        made: 0,
+        changes: 0,
+    };
+    let place = Place {
+        base: 0,
+        scope: 0,
+        top: FRAME_ROOM,
+        calls: 0,
+    };
+    let outcome = evaluator::eval(program, store, slots, &mut tally, at, &place);
     Run {
         outcome: end_told(outcome),
-        steps: fuel - tally[0],
-        objects: tally[1],
-        changes: tally[2],
+        steps: fuel - tally.left,
+        objects: tally.made,
+        changes: tally.changes,
     }
 }
 
@@ -113,15 +119,12 @@ pub fn run_checked(
 {
     let mut slots = [0u64; SEGMENT];
     let start = objects::find_letter(rows, 0, START);
-    run_start(
+    let program = Program {
         rows,
         ends,
         tables,
         above,
         methods,
-        store,
-        &mut slots,
-        start + 1,
-        fuel,
-    )
+    };
+    run_start(&program, store, &mut slots, start + 1, fuel)
 }

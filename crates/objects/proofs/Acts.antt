@@ -20,7 +20,8 @@ use Rattle.language.specs.ClassTables.{stored_place}
 use Rattle.language.specs.State.{Value as Meaning, null, object, State, Out}
 use Rattle.language.specs.Store.{value_number, value_of_number, heap_of_numbers}
 use Rattle.objects.specs.declared.Reached.TheVariants.{At}
-use Rattle.objects.specs.Values.{Outcome, Gave, Raised, Stuck, Counts, word, meaning, reached, outcome}
+use Rattle.objects.specs.declared.Tally.{Tally}
+use Rattle.objects.specs.Values.{Outcome, Gave, Raised, Stuck, word, meaning, reached, outcome}
 use Rattle.objects.specs.Values.{Small, SmallOutcome, bare, told, answer}
 use Rattle.language.specs.Evaluation.{do_set}
 use Rattle.objects.specs.Holding.{view, Sound, Holding}
@@ -49,7 +50,7 @@ place_some (some i) p e h = ap some (omega arith)
 pub stored_same : {P : List Class} {s : List ℕ} {made : ℕ} → Sound P made s → Stored P s s made made
 stored_same h = record { long = refl; rest = refl; more = omega arith; sound = h }
 
-pub acts_same : {P : List Class} {s : List ℕ} (n : Counts) (o : Outcome) {g : State → Out Meaning}
+pub acts_same : {P : List Class} {s : List ℕ} (n : Tally) (o : Outcome) {g : State → Out Meaning}
     → Sound P n.made s → SmallOutcome o
     → ((γ : Frame Meaning) (k : ℕ) → told o (view P s n γ k) ≡ bare (g (view P s n γ k)))
     → Acts P s s n (answer o n) g
@@ -85,7 +86,7 @@ reached_spot {made = made} {f} {o} w p l e = let x = reached_at made (meaning w)
     rw x.3 (spot p x.0 f x.2 l)
 
 -- a value that leads to no object is stuck
-pub load_nothing : {T s : List ℕ} {v : Meaning} {f : ℕ} {n : Counts} → NoObject n.made v
+pub load_nothing : {T s : List ℕ} {v : Meaning} {f : ℕ} {n : Tally} → NoObject n.made v
     → PostLoad T s v f n (outcome 17179869184)
 unfolding bare
 load_nothing {s = s} {n = n} is_truth = rw outcome_stuck
@@ -96,7 +97,7 @@ load_nothing {s = s} {n = n} (is_past {j} h) = rw outcome_stuck
           (λ γ k. rw (heap_past (world p.P) n.made s j h));
     })
 
-pub save_nothing : {T s : List ℕ} {v : Meaning} {f : ℕ} {n : Counts} {w : Meaning} → NoObject n.made v
+pub save_nothing : {T s : List ℕ} {v : Meaning} {f : ℕ} {n : Tally} {w : Meaning} → NoObject n.made v
     → PostSave T s s v w f n (outcome 17179869184)
 unfolding bare
 save_nothing {s = s} {n = n} is_truth = rw outcome_stuck
@@ -107,7 +108,7 @@ save_nothing {s = s} {n = n} (is_past {j} h) = rw outcome_stuck
           (λ γ k. rw (heap_past (world p.P) n.made s j h));
     })
 
-pub cast_nothing : {A s : List ℕ} {v : Meaning} {c : ℕ} {n : Counts} → NoObject n.made v
+pub cast_nothing : {A s : List ℕ} {v : Meaning} {c : ℕ} {n : Tally} → NoObject n.made v
     → PostCast A s v c n (outcome 17179869184)
 unfolding bare
 cast_nothing {s = s} {n = n} is_truth = rw outcome_stuck
@@ -118,7 +119,7 @@ cast_nothing {s = s} {n = n} (is_past {j} h) = rw outcome_stuck
           (λ γ k. rw (heap_past (world p.P) n.made s j h));
     })
 
-module _ {T s : List ℕ} {v : Meaning} {f : ℕ} {n : Counts} where
+module _ {T s : List ℕ} {v : Meaning} {f : ℕ} {n : Tally} where
   pub load_null : v ≡ null → PostLoad T s v f n (outcome 17179869185)
   unfolding bare
   load_null e = rw outcome_null_pointer
@@ -166,7 +167,7 @@ module _ {T s : List ℕ} {v : Meaning} {f : ℕ} {n : Counts} where
             (λ γ k. rw (e, heap_at (world P) n.made s j h, at, y, x));
       })
 
-module _ {T s : List ℕ} {v : Meaning} {f : ℕ} {n : Counts} where
+module _ {T s : List ℕ} {v : Meaning} {f : ℕ} {n : Tally} where
   pub save_null : {w : Meaning} → v ≡ null → PostSave T s s v w f n (outcome 17179869185)
   unfolding bare
   save_null e = rw outcome_null_pointer
@@ -288,7 +289,7 @@ module _ {T s : List ℕ} {v : Meaning} {f : ℕ} {n : Counts} where
   save_at u j e h l z short m =
       rw (outcome_value u short) (record { acts = λ pre. save_acts u j e h l z m pre.holding })
 
-module _ {A s : List ℕ} {v : Meaning} {c : ℕ} {n : Counts} where
+module _ {A s : List ℕ} {v : Meaning} {c : ℕ} {n : Tally} where
   pub cast_null : v ≡ null → Small v → PostCast A s v c n (Gave v)
   unfolding bare
   cast_null e m = record { acts = λ p. acts_same n (Gave v) p.holding.sound m (λ γ k. rw e) }
@@ -343,7 +344,7 @@ module _ (T s : List ℕ) (o f : ℕ) where
   pub index_within : {at : ℕ} → Some at ≡ field_index T s o f → Spot T s o f → at < length s
   index_within e p = omega (arith, p.room, p.place, (index_has e).1)
 
-module _ {T s : List ℕ} (w : ℕ) {o f : ℕ} {n : Counts} (q : At o ≡ reached n.made (meaning w)) (l : f < 256) where
+module _ {T s : List ℕ} (w : ℕ) {o f : ℕ} {n : Tally} (q : At o ≡ reached n.made (meaning w)) (l : f < 256) where
   pub load_lacks : None ≡ field_index T s o f → PostLoad T s (meaning w) f n (outcome 17179869184)
   load_lacks e = let x = reached_at n.made (meaning w) o q in
       load_missing x.0 x.1 x.2 l (rw x.3 at (index_lacks T s o f e))
@@ -374,7 +375,7 @@ module _ {T s : List ℕ} (w : ℕ) {o f : ℕ} {n : Counts} (q : At o ≡ reach
         rw x.3 at y.1 in
         rw (d, a) (save_at u x.0 x.1 x.2 l (rw x.3 at y.0) short m)
 
-module _ {A s : List ℕ} (w : ℕ) {c o : ℕ} (n : Counts) (q : At o ≡ reached n.made (meaning w)) where
+module _ {A s : List ℕ} (w : ℕ) {c o : ℕ} (n : Tally) (q : At o ≡ reached n.made (meaning w)) where
   pub cast_room : PreCast A s c n.made
       → (o + object_width ≤ length s) × (get_or s o 0 ≤ 64) × (get_or s o 0 < length A)
   cast_room p =
@@ -395,6 +396,6 @@ module _ {A s : List ℕ} (w : ℕ) {c o : ℕ} (n : Counts) (q : At o ≡ reach
   cast_not_below b = let x = reached_at n.made (meaning w) o q in
       cast_fails x.0 x.1 x.2 (rw x.3 at b)
 
-pub cast_of_null : {A s : List ℕ} (w : ℕ) {c : ℕ} {n : Counts} → meaning w ≡ null → w < 17179869184
+pub cast_of_null : {A s : List ℕ} (w : ℕ) {c : ℕ} {n : Tally} → meaning w ≡ null → w < 17179869184
     → Small (meaning w) → PostCast A s (meaning w) c n (outcome w)
 cast_of_null w e short m = rw (outcome_value w short) (cast_null e m)

@@ -1,6 +1,6 @@
 -- Laws of R. Assumes nothing.
 use Rattle.language.specs.Limits.{object_width}
-use mathlib.Core.Path.{◌≡◌, refl, sym, ap, ap₂, ◌∙◌}
+use mathlib.Core.Path.{◌≡◌, refl, sym, ap, ◌∙◌}
 use mathlib.Core.Bool.{true, false}
 use mathlib.Core.List.{List, ◌++◌, map}
 use Prim.Native.Nat.{ℕ, suc, ◌+◌, ◌*◌, ◌≤◌, ◌<◌}
@@ -13,15 +13,15 @@ use Rattle.language.specs.Program.{world}
 use Rattle.language.specs.State.{Value as Meaning, null, object, initials}
 use Rattle.language.specs.Evaluation.{changed, do_change}
 use Rattle.language.specs.Store.{value_of_number, heap_of_numbers}
-use Rattle.objects.specs.Values.{Outcome, Gave, Stuck, Counts, meaning, reached, outcome}
+use Rattle.objects.specs.declared.Tally.{Tally}
+use Rattle.objects.specs.Values.{Outcome, Gave, Stuck, meaning, reached, outcome}
 use Rattle.objects.specs.declared.Reached.TheVariants.{At}
-use Rattle.objects.specs.Values.{Small, bare, Answer, answer, answered}
+use Rattle.objects.specs.Values.{Small, bare, Answer, answer}
 use Rattle.objects.specs.Holding.{Holding}
 use Rattle.objects.specs.Acts.{Acts, Fill, Filled, PreNew, PreChange, PostChange}
 use Rattle.objects.proofs.Values.{NoObject, is_truth, is_past, reached_at, outcome_value}
 use Rattle.layout.specs.HeldLaws.{roots}
 use Rattle.objects.proofs.Holding.{tables, few_classes, fields_few}
-use Rattle.objects.proofs.Tally.{counts, set_changes}
 use Rattle.objects.proofs.Acts.{acts_same}
 use Rattle.objects.proofs.Objects.{mapped_length, object_at, heap_at}
 use Rattle.objects.proofs.Objects.{heap_past, heap_changed}
@@ -52,7 +52,7 @@ module _ {R E T A M s : List ℕ} {P : List Class} {made : ℕ} (hold : Holding 
       (length (object_at (world P) s (j * object_width)).fields)
       (omega (arith, own, (roots hold.held c (hold.sound.declared j h)).1))
 
-pub change_nothing : {R T s : List ℕ} {v : Meaning} {d : ℕ} {n : Counts} → NoObject n.made v
+pub change_nothing : {R T s : List ℕ} {v : Meaning} {d : ℕ} {n : Tally} → NoObject n.made v
     → PostChange R T s s v d n (answer (outcome 17179869184) n)
 unfolding bare outcome
 change_nothing {s = s} {n = n} is_truth =
@@ -62,7 +62,7 @@ change_nothing {s = s} {n = n} (is_past {j} h) = record {
       (λ γ k. rw (heap_past (world pre.P) n.made s j h));
 }
 
-module _ {R T s : List ℕ} {v : Meaning} {d : ℕ} {n : Counts} where
+module _ {R T s : List ℕ} {v : Meaning} {d : ℕ} {n : Tally} where
   pub change_null : v ≡ null → Small v → PostChange R T s s v d n (answer (Gave v) n)
   unfolding bare
   change_null e m = record { acts = λ pre. acts_same n (Gave v) pre.holding.sound m (λ γ k. rw e) }
@@ -150,15 +150,9 @@ module _ {R T s : List ℕ} {v : Meaning} {d : ℕ} {n : Counts} where
   change_made s₁ j e h many m w =
       record { acts = λ pre. change_acts s₁ j e h many m w pre.holding pre.declared }
 
--- the same of the word, which is returned, and of the tally, which counts the change
-pub same_word : (w : ℕ) (n : Counts) → w < 17179869184 → answer (Gave (meaning w)) n ≡ answer (outcome w) n
+-- the same of the word, which is returned
+pub same_word : (w : ℕ) (n : Tally) → w < 17179869184 → answer (Gave (meaning w)) n ≡ answer (outcome w) n
 same_word w n h = ap (λ (o : Outcome). answer o n) (sym (outcome_value w h))
-
-pub one_change : (w : ℕ) {t' : List ℕ} (t : List ℕ) → w < 17179869184
-    → (2 < length t) × (t' ≡ set t 2 (get_or t 2 0 + 1))
-    → answer (Gave (meaning w)) (counts (get_or t 0 0) (get_or t 1 0) (get_or t 2 0 + 1)) ≡ answered w t'
-one_change w t h (long, q) =
-    rw q (ap₂ (λ o m. answer o m) (sym (outcome_value w h)) (sym (set_changes t (get_or t 2 0 + 1) long)))
 
 -- what R reads in the tables: of the object's class and its root, and of the target
 pub record Spots (R T s : List ℕ) (o d : ℕ) : Type 0 where
@@ -204,7 +198,7 @@ change_fill p j h =
 
 -- ---- by the word of the object, and its index in the store
 
-module _ {R T s : List ℕ} (w : ℕ) {o d : ℕ} (n : Counts) (q : At o ≡ reached n.made (meaning w)) where
+module _ {R T s : List ℕ} (w : ℕ) {o d : ℕ} (n : Tally) (q : At o ≡ reached n.made (meaning w)) where
   pub reached_spots : PreChange R T s w d n → Spots R T s o d
   reached_spots p = let x = reached_at n.made (meaning w) o q in rw x.3 (spots p.new x.0 x.2)
 
@@ -223,6 +217,6 @@ module _ {R T s : List ℕ} (w : ℕ) {o d : ℕ} (n : Counts) (q : At o ≡ rea
   made_at s₁ h m f e = let x = reached_at n.made (meaning w) o q in
       rw (← e, x.3) (change_made s₁ x.0 x.1 x.2 (rw x.3 at h) m (rw x.3 at f))
 
-pub change_of_null : {R T s : List ℕ} (w : ℕ) {d : ℕ} (n : Counts) → meaning w ≡ null → w < 17179869184
+pub change_of_null : {R T s : List ℕ} (w : ℕ) {d : ℕ} (n : Tally) → meaning w ≡ null → w < 17179869184
     → Small (meaning w) → PostChange R T s s (meaning w) d n (answer (outcome w) n)
 change_of_null w n e short m = rw (sym (same_word w n short)) (change_null e m)

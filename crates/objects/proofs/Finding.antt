@@ -20,7 +20,8 @@ use Rattle.language.specs.Encoded.{Encoded}
 use Rattle.language.proofs.Methods.{method_found}
 use Rattle.language.specs.Evaluation.{call_at}
 use Rattle.language.specs.State.{Value as Meaning, null, object}
-use Rattle.objects.specs.Values.{Outcome, Counts, outcome, meaning, reached}
+use Rattle.objects.specs.declared.Tally.{Tally}
+use Rattle.objects.specs.Values.{Outcome, outcome, meaning, reached}
 use Rattle.objects.specs.declared.Reached.TheVariants.{At}
 use Rattle.objects.specs.Values.{bare}
 use Rattle.std.specs.Prelude.{Ok, Err}
@@ -115,13 +116,13 @@ module _ {T M s : List ℕ} {m made : ℕ} (p : PreFind T M s m made) (j : ℕ) 
           (sought p.holding (get_or s (j * object_width) 0) m (p.holding.sound.declared j h) p.name
           z).there
 
-not_found : {T M s : List ℕ} {v : Meaning} {m given : ℕ} {n : Counts} {calls : ℕ} {o : Outcome} {r : ℕ}
+not_found : {T M s : List ℕ} {v : Meaning} {m given : ℕ} {n : Tally} {calls : ℕ} {o : Outcome} {r : ℕ}
     → outcome r ≡ o
     → ((pre : PreFind T M s m n.made) → NotFound pre.P s v m given n calls o)
     → PostFind T M s v m given n calls (Err r)
 not_found e f = record { is = λ pre. rw e (f pre) }
 
-pub find_nothing : {T M s : List ℕ} {v : Meaning} {m given : ℕ} {n : Counts} {calls : ℕ}
+pub find_nothing : {T M s : List ℕ} {v : Meaning} {m given : ℕ} {n : Tally} {calls : ℕ}
     → NoObject n.made v
     → PostFind T M s v m given n calls (Err 17179869184)
 unfolding bare
@@ -138,7 +139,7 @@ find_nothing {s = s} {n = n} (is_past {j} h) = not_found outcome_stuck (λ pre.
       fails = λ w q. let z : ◌≡◌ {A = ℕ} 0 1 = cc in omega arith;
     })
 
-module _ {T M s : List ℕ} {v : Meaning} {m given : ℕ} {n : Counts} {calls : ℕ} where
+module _ {T M s : List ℕ} {v : Meaning} {m given : ℕ} {n : Tally} {calls : ℕ} where
   pub find_null : v ≡ null → PostFind T M s v m given n calls (Err 17179869185)
   unfolding bare
   find_null e = not_found outcome_null_pointer (λ pre.
@@ -242,7 +243,7 @@ module _ {T M s : List ℕ} {v : Meaning} {m given : ℕ} {n : Counts} {calls : 
         go zero q = find-missing q
         go (suc i) q = allowed i q (eqb (get_or M (i * 4 + 2) 0) given) (leb 64 calls) refl refl
 
-pub find_at : {T M s : List ℕ} (w : ℕ) {o m given : ℕ} {n : Counts} {calls : ℕ}
+pub find_at : {T M s : List ℕ} (w : ℕ) {o m given : ℕ} {n : Tally} {calls : ℕ}
     → At o ≡ reached n.made (meaning w) → m < 256
     → PostFind T M s (meaning w) m given n calls (target_in T M (get_or s o 0) m given calls)
 find_at w {o} {n = n} q l = let x = reached_at n.made (meaning w) o q in

@@ -17,7 +17,8 @@ use Rattle.language.specs.Program.{world}
 use Rattle.language.specs.State.{Value as Meaning, null, truth, object, Object as Thing, initial, initials}
 use Rattle.language.specs.Evaluation.{new_object, do_new, with_limits}
 use Rattle.language.specs.Store.{value_number, value_of_number, heap_of_numbers, capacity}
-use Rattle.objects.specs.Values.{Gave, Stopped, Counts, counts_in, outcome}
+use Rattle.objects.specs.declared.Tally.{Tally}
+use Rattle.objects.specs.Values.{Gave, Stopped, outcome}
 use Rattle.objects.specs.Values.{bare, answer, answered}
 use Rattle.objects.specs.Holding.{Sound, Holding}
 use Rattle.objects.specs.Acts.{Stored, Acts, first_of, Fill, Filled, PreNew, PostNew}
@@ -27,7 +28,6 @@ use Rattle.objects.specs.Holding.{first_value_of}
 use Rattle.objects.specs.Acts.{field_type_in}
 use Rattle.objects.specs.Values.{word, meaning, Small}
 use Rattle.objects.proofs.Holding.{tables, fields_few, field_at}
-use Rattle.objects.proofs.Tally.{set_made}
 use Rattle.objects.proofs.Acts.{acts_same}
 use Rattle.objects.proofs.Nth.{lt_or, nth_ext, nth_take, nth_drop, nth_past, some_at}
 use Rattle.objects.proofs.Objects.{mapped_at, mapped_length, object_at, heap_length}
@@ -219,7 +219,7 @@ new_fill {R} {T} {s} {c} p o h = record {
       (field_at p.holding c i f.0 p.declared f.1).0;
 }
 
-pub new_full : (R T s : List ℕ) (c : ℕ) (n : Counts) → capacity s ≤ n.made
+pub new_full : (R T s : List ℕ) (c : ℕ) (n : Tally) → capacity s ≤ n.made
     → PostNew R T s s c n (answer (outcome 17179869200) n)
 unfolding bare outcome
 new_full R T s c n h =
@@ -242,7 +242,7 @@ has_room : (s : List ℕ) (made : ℕ) → made < 65535 → made * object_width 
 unfolding capacity
 has_room s made h k = omega arith
 
-new_acts : (R T s s₁ : List ℕ) (c : ℕ) (n : Counts) → n.made < 65535
+new_acts : (R T s s₁ : List ℕ) (c : ℕ) (n : Tally) → n.made < 65535
     → n.made * object_width + object_width ≤ length s
     → Filled R T s s₁ (n.made * object_width) c 0
     → {E A M : List ℕ} {P : List Class} → Holding R E T A M s P n.made → c ≤ length P → (F : ℕ)
@@ -286,7 +286,7 @@ new_acts R T s s₁ c n h room w {P = P} hold d F =
     only made i k (inl o) = o
     only made i k (inr o) = absurd (omega arith)
 
-new_made : (R T s s₁ : List ℕ) (c : ℕ) (n : Counts) → n.made < 65535
+new_made : (R T s s₁ : List ℕ) (c : ℕ) (n : Tally) → n.made < 65535
     → n.made * object_width + object_width ≤ length s
     → Filled R T s s₁ (n.made * object_width) c 0
     → PostNew R T s (set s₁ (n.made * object_width) c) c n
@@ -295,19 +295,16 @@ new_made : (R T s s₁ : List ℕ) (c : ℕ) (n : Counts) → n.made < 65535
 new_made R T s s₁ c n h room w =
     record { acts = λ pre F. new_acts R T s s₁ c n h room w pre.holding pre.declared F }
 
--- the same of the number that is returned and of the tally, which counts the new object
-pub new_told : {R T s s₁ t' : List ℕ} (t : List ℕ) {c : ℕ} → (1 < length t) × (t' ≡ set t 1 (get_or t 1 0 + 1))
-    → get_or t 1 0 < 65535
-    → get_or t 1 0 * object_width + object_width ≤ length s → Filled R T s s₁ (get_or t 1 0 * object_width) c 0
-    → PostNew R T s (set s₁ (get_or t 1 0 * object_width) c) c (counts_in t)
-    (answered (8589934592 + (get_or t 1 0 + 1)) t')
-new_told {R} {T} {s} {s₁} t {c} (long, q) h room w =
-    let made : ℕ = get_or t 1 0 in
-    let word : ℕ = 8589934592 + (made + 1) in
-    let e : outcome word ≡ Gave (object made) = outcome_value word (omega arith)
-    ∙ ap Gave (meaning_object word made (omega arith) (omega arith)) in
-    let r = ap₂ (λ o m. answer o m) (sym e) (sym (set_made t (made + 1) long)) in
-    rw (q, ← r) (new_made R T s s₁ c (counts_in t) h room w)
+-- the same of the word that is returned
+pub new_told : {R T s s₁ : List ℕ} (n : Tally) {c : ℕ} → n.made < 65535
+    → n.made * object_width + object_width ≤ length s → Filled R T s s₁ (n.made * object_width) c 0
+    → PostNew R T s (set s₁ (n.made * object_width) c) c n
+    (answered (8589934592 + (n.made + 1)) (record { left = n.left; made = n.made + 1; changes = n.changes }))
+new_told {R} {T} {s} {s₁} n {c} h room w =
+    let word : ℕ = 8589934592 + (n.made + 1) in
+    let e : outcome word ≡ Gave (object n.made) = outcome_value word (omega arith)
+    ∙ ap Gave (meaning_object word n.made (omega arith) (omega arith)) in
+    rw e (new_made R T s s₁ c n h room w)
 
 pub first_small : (t : ℕ) → Small (first_value_of t)
 first_small t = go (eqb t 255)

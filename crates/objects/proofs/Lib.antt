@@ -3,7 +3,6 @@ pub mod Nth
 pub mod Objects
 pub mod Values
 pub mod Holding
-mod Tally
 pub mod Acts
 mod Fresh
 mod Changes

@@ -13,7 +13,8 @@ use Rattle.language.specs.Evaluation.{Limits, do_get, do_set, do_cast}
 use Rattle.language.specs.State.{Object as Thing}
 use Rattle.language.specs.Evaluation.{do_change, do_new, do_call, with_limits, call_at}
 use Rattle.language.specs.Store.{value_number, capacity}
-use Rattle.objects.specs.Values.{Small, SmallOutcome, told, bare, Outcome, Gave, Counts, outcome}
+use Rattle.objects.specs.declared.Tally.{Tally}
+use Rattle.objects.specs.Values.{Small, SmallOutcome, told, bare, Outcome, Gave, outcome}
 use Rattle.objects.specs.Values.{Answer, answer, meaning, no_value}
 use Rattle.objects.specs.Holding.{first_value_of, Sound, Holding, view}
 use Rattle.language.specs.WellFormed.{BodyInForm}
@@ -65,7 +66,7 @@ pub record Stored (P : List Class) (s s' : List ℕ) (made made' : ℕ) : Type 0
   pub sound : Sound P made' s'
 
 -- An act on objects is that of the definition, whatever the slots and the steps.
-pub record Acts (P : List Class) (s s' : List ℕ) (n : Counts) (r : Answer) (o : State → Out Meaning) : Type 0
+pub record Acts (P : List Class) (s s' : List ℕ) (n : Tally) (r : Answer) (o : State → Out Meaning) : Type 0
   where
     pub stored : Stored P s s' n.made r.counts.made
     pub left : r.counts.left ≡ n.left
@@ -82,7 +83,7 @@ pub record PreNew (R T s : List ℕ) (c made : ℕ) : Type 0 where
   pub holding : Holding R E T A M s P made
   pub declared : c ≤ length P
 
-pub record PostNew (R T s s' : List ℕ) (c : ℕ) (n : Counts) (r : Answer) : Type 0 where
+pub record PostNew (R T s s' : List ℕ) (c : ℕ) (n : Tally) (r : Answer) : Type 0 where
   pub acts : (w : PreNew R T s c n.made) (F : ℕ)
       → Acts w.P s s' n r (λ t. do_new (world w.P) (with_limits F (capacity s)) c t)
 
@@ -91,12 +92,12 @@ pub record IsWord (w : ℕ) : Type 0 where
   pub short : w < no_value
   pub small : Small (meaning w)
 
-pub record PreChange (R T s : List ℕ) (w d : ℕ) (n : Counts) : Type 0 where
+pub record PreChange (R T s : List ℕ) (w d : ℕ) (n : Tally) : Type 0 where
   pub new : PreNew R T s d n.made
   pub is_word : IsWord w
   pub counted : n.changes + 1 ≤ 4294967295
 
-pub record PostChange (R T s s' : List ℕ) (v : Meaning) (d : ℕ) (n : Counts) (r : Answer) : Type 0 where
+pub record PostChange (R T s s' : List ℕ) (v : Meaning) (d : ℕ) (n : Tally) (r : Answer) : Type 0 where
   pub acts : (w : PreNew R T s d n.made) → Acts w.P s s' n r (λ t. do_change (world w.P) d v t)
 
 pub record PreObject (T s : List ℕ) (made : ℕ) : Type 0 where
@@ -118,10 +119,10 @@ pub record Spot (T s : List ℕ) (o f : ℕ) : Type 0 where
 unfoldable pub field_index : List ℕ → List ℕ → ℕ → ℕ → Option ℕ
 field_index T s o f = let p = get_or T (get_or s o 0 * class_width + f) 0 in cond (eqb p 0) None (Some (o + p))
 
-pub record PostLoad (T s : List ℕ) (v : Meaning) (f : ℕ) (n : Counts) (r : Outcome) : Type 0 where
+pub record PostLoad (T s : List ℕ) (v : Meaning) (f : ℕ) (n : Tally) (r : Outcome) : Type 0 where
   pub acts : (w : PreObject T s n.made) → Acts w.P s s n (answer r n) (λ t. do_get (world w.P) f v t)
 
-pub record PostSave (T s s' : List ℕ) (v v' : Meaning) (f : ℕ) (n : Counts) (r : Outcome) : Type 0 where
+pub record PostSave (T s s' : List ℕ) (v v' : Meaning) (f : ℕ) (n : Tally) (r : Outcome) : Type 0 where
   pub acts : (w : PreObject T s n.made)
       → Acts w.P s s' n (answer r n) (λ t. do_set (world w.P) f v v' t)
 
@@ -134,7 +135,7 @@ pub record PreCast (A s : List ℕ) (c made : ℕ) : Type 0 where
   pub holding : Holding R E T A M s P made
   pub declared : c ≤ length P
 
-pub record PostCast (A s : List ℕ) (v : Meaning) (c : ℕ) (n : Counts) (r : Outcome) : Type 0 where
+pub record PostCast (A s : List ℕ) (v : Meaning) (c : ℕ) (n : Tally) (r : Outcome) : Type 0 where
   pub acts : (w : PreCast A s c n.made)
       → Acts w.P s s n (answer r n) (λ t. do_cast (world w.P) c v t)
 
@@ -183,7 +184,7 @@ target_in T M c m given calls = target_at M (get_or T (c * class_width + methods
 
 -- The method found, which has as many parameters as there are arguments: its receiver's object, and its body, which is in
 -- form and typed.
-pub record Found (R E s : List ℕ) (P : List Class) (v : Meaning) (m given : ℕ) (n : Counts) (calls b : ℕ) :
+pub record Found (R E s : List ℕ) (P : List Class) (v : Meaning) (m given : ℕ) (n : Tally) (calls b : ℕ) :
     Type 0 where
   pub j : ℕ
   pub o : Thing
@@ -197,7 +198,7 @@ pub record Found (R E s : List ℕ) (P : List Class) (v : Meaning) (m given : �
   pub typed : Typed P (body_in P M.number)
   pub allowed : calls < most_calls
 
-pub record NotFound (P : List Class) (s : List ℕ) (v : Meaning) (m given : ℕ) (n : Counts) (calls : ℕ)
+pub record NotFound (P : List Class) (s : List ℕ) (v : Meaning) (m given : ℕ) (n : Tally) (calls : ℕ)
     (r : Outcome) : Type 0 where
   pub small : SmallOutcome r
   pub is : (L : Limits) (vs : List Meaning) (γ : Frame Meaning) (steps : ℕ) → length vs ≡ given
@@ -207,11 +208,11 @@ pub record NotFound (P : List Class) (s : List ℕ) (v : Meaning) (m given : ℕ
       vs (view P s n γ steps))
   pub fails : (w : Meaning) → r ≡ Gave w → ⊥
 
-abbrev pub FindIs : List ℕ → List ℕ → List ℕ → List Class → Meaning → ℕ → ℕ → Counts → ℕ → Result ℕ ℕ → Type 0
+abbrev pub FindIs : List ℕ → List ℕ → List ℕ → List Class → Meaning → ℕ → ℕ → Tally → ℕ → Result ℕ ℕ → Type 0
 FindIs R E s P v m given n calls (Ok b) = Found R E s P v m given n calls b
 FindIs R E s P v m given n calls (Err o) = NotFound P s v m given n calls (outcome o)
 
-pub record PostFind (T M s : List ℕ) (v : Meaning) (m given : ℕ) (n : Counts) (calls : ℕ) (r : Result ℕ ℕ) :
+pub record PostFind (T M s : List ℕ) (v : Meaning) (m given : ℕ) (n : Tally) (calls : ℕ) (r : Result ℕ ℕ) :
     Type 0
   where
     pub is : (w : PreFind T M s m n.made) → FindIs w.R w.E s w.P v m given n calls r

@@ -6,7 +6,7 @@ use Rattle.language.specs.Program.{world}
 use Rattle.language.specs.State.{Value as Meaning, null, truth, State}
 use Rattle.language.specs.Store.{heap_of_numbers}
 use Rattle.layout.specs.Held.{Held}
-use Rattle.objects.specs.Values.{Counts}
+use Rattle.objects.specs.declared.Tally.{Tally}
 use Rattle.language.specs.Limits.{bool_number, object_width, most_objects}
 
 -- A type's first value, by the type's number.
@@ -31,7 +31,7 @@ pub record Holding (R E T A M s : List ℕ) (P : List Class) (made : ℕ) : Type
   pub sound : Sound P made s
 
 -- The state that a store holds, with slots that are given, after `steps` steps.
-abbrev pub view : List Class → List ℕ → Counts → Frame Meaning → ℕ → State
+abbrev pub view : List Class → List ℕ → Tally → Frame Meaning → ℕ → State
 view P s n γ steps = record {
   frame = γ;
   heap = heap_of_numbers (world P) n.made s;

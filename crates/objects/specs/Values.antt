@@ -1,5 +1,5 @@
 -- What the numbers of the evaluator mean: a value's word, an outcome, the tally; and what an outcome with a state tells.
-use Rattle.std.specs.Prelude.{cond, List, [], ℕ, zero, suc, ◌+◌, ◌-◌, ◌*◌, ◌/◌, ◌%◌, ◌≤◌, ◌<◌, eqb, leb, ltb, get_or}
+use Rattle.std.specs.Prelude.{cond, [], ℕ, zero, suc, ◌+◌, ◌-◌, ◌*◌, ◌/◌, ◌%◌, ◌≤◌, ◌<◌, eqb, leb, ltb}
 use Rattle.std.proofs.Math.Option.{none}
 use Rattle.language.specs.Results.{ok, stop}
 use Rattle.language.specs.Frames.{frame}
@@ -7,6 +7,7 @@ use Rattle.language.specs.State.{Value as Meaning, null, truth, object, State, S
 use Rattle.language.specs.State.{full, stuck, Out, with_frame}
 use Rattle.language.specs.Store.{value_number}
 use Rattle.objects.specs.declared.Value.{Value}
+use Rattle.objects.specs.declared.Tally.{Tally}
 use Rattle.objects.specs.declared.Value.TheVariants.{Null, Truth, Object}
 use Rattle.objects.specs.declared.Reached.{Reached}
 use Rattle.objects.specs.declared.Reached.TheVariants.{Null as ReachedNull, Nothing, At}
@@ -67,25 +68,16 @@ failure n = cond (eqb n 0) Stuck (cond (leb n 2) (Raised n) (Stopped n))
 unfoldable pub outcome : ℕ → Outcome
 outcome x = cond (leb no_value x) (failure (x - no_value)) (Gave (meaning x))
 
--- Fuel left, objects made, changes of class: the three numbers of the tally.
-pub record Counts : Type 0 where
-  pub left : ℕ
-  pub made : ℕ
-  pub changes : ℕ
-
-abbrev pub counts_in : List ℕ → Counts
-counts_in t = record { left = get_or t 0 0; made = get_or t 1 0; changes = get_or t 2 0 }
-
--- How evaluating ended, and the counts then; the same of an outcome's number and the tally.
+-- How evaluating ended, and the tally then; the same of an outcome's number and the tally.
 pub record Answer : Type 0 where
   pub outcome : Outcome
-  pub counts : Counts
+  pub counts : Tally
 
-abbrev pub answer : Outcome → Counts → Answer
+abbrev pub answer : Outcome → Tally → Answer
 answer o n = record { outcome = o; counts = n }
 
-abbrev pub answered : ℕ → List ℕ → Answer
-answered r t = answer (outcome r) (counts_in t)
+abbrev pub answered : ℕ → Tally → Answer
+answered r n = answer (outcome r) n
 
 -- A value whose number fits its place in the store; an outcome with such a value, or a stop that there is.
 abbrev pub Small : Meaning → Type 0

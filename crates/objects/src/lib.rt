@@ -1,12 +1,11 @@
 // The acts on the objects of a lent store: W, R, G, U, K, and the method that Q seeks.
-// A value is one word, its kind and its content; only read_value and write_value know how a store holds it. Fuel left, objects
-// made and changes of class are a tally of three numbers. An outcome is one word too, so that it passes in a register: that
-// of a value, or from STUCK on why there is none (specs/Values.antt).
+// A value is one word, its kind and its content; only read_value and write_value know how a store holds it. An outcome is one
+// word too, so that it passes in a register: that of a value, or from STUCK on why there is none (specs/Values.antt).
 #![tactic(auto)]
 
 ghost use Rattle.std.specs.Prelude.{◌≡◌, true, ◌+◌, ◌*◌, ◌≤◌, ◌<◌, length, get_or, set};
 ghost use Rattle.language.specs.Store.{value_number, value_of_number};
-ghost use Rattle.objects.specs.Values.{word, meaning, case_of, reached, outcome, counts_in, answered};
+ghost use Rattle.objects.specs.Values.{word, meaning, case_of, reached, outcome, answered};
 ghost use Rattle.objects.specs.Values.{Small, numbered};
 ghost use Rattle.language.specs.State.{truth};
 ghost use Rattle.objects.specs.Acts.{IsWord, First, Fill, Filled, field_type_in, Spot};
@@ -64,6 +63,25 @@ pub enum Reached {
     Null,
     Nothing,
     At(usize),
+}
+
+// What a run counts: fuel left, objects made, changes of class.
+#[derive(Clone, Copy)]
+pub struct Tally {
+    pub left: u32,
+    pub made: u32,
+    pub changes: u32,
+}
+
+// What a run reads of a checked program: its rows, where each node ends, and the tables of classes, of classes above each
+// class, and of methods.
+#[derive(Clone, Copy)]
+pub struct Program<'a> {
+    pub rows: &'a [u32],
+    pub ends: &'a [u16],
+    pub tables: &'a [u16],
+    pub above: &'a [u64],
+    pub methods: &'a [u16],
 }
 
 // The value that a stored number stands for.
@@ -183,27 +201,13 @@ fn fill(rows: &[u32], tables: &[u16], store: &mut [u32], o: usize, c: usize, fro
     store[o + 1 + used..o + OBJECT_WIDTH].fill(NULL_NUMBER);
 }
 
-// One of the three counts becomes x.
-fn put(tally: &mut [u32], i: usize, x: u32)
-    requires { i < length tally.old }
-    ensures { (i < length tally.old) × (tally.new ≡ set tally.old i x) }
-{
-    tally[i] = x;
-}
-
 // W: a new object of class c.
-pub fn new_object(
-    rows: &[u32],
-    tables: &[u16],
-    store: &mut [u32],
-    tally: &mut [u32; 3],
-    c: u32,
-) -> u64
-    requires { PreNew rows.now tables.now store.old c (counts_in tally.old).made }
-    ensures { PostNew rows.now tables.now store.old
-        store.new c (counts_in tally.old) (answered result tally.new) }
+pub fn new_object(program: &Program, store: &mut [u32], tally: &mut Tally, c: u32) -> u64
+    requires { PreNew program.now.rows.now program.now.tables.now store.old c tally.old.made }
+    ensures { PostNew program.now.rows.now program.now.tables.now store.old
+        store.new c tally.old (answered result tally.new) }
 {
-    let made = tally[1];
+    let made = tally.made;
     if made >= MOST_OBJECTS {
         return FULL;
     }
@@ -211,48 +215,41 @@ pub fn new_object(
     if store.len() < o + OBJECT_WIDTH {
         return FULL;
     }
-    fill(rows, tables, store, o, c as usize, 0);
+    fill(program.rows, program.tables, store, o, c as usize, 0);
     store[o] = c;
-    put(tally, 1, made + 1);
+    tally.made += 1;
     OBJECT + (u64::from(made) + 1)
 }
 
 // R: an object changed to class d. The fields of its own class's root stay, the others have their first values; where d
 // lacks them it is stuck.
-pub fn change_class(
-    rows: &[u32],
-    tables: &[u16],
-    store: &mut [u32],
-    tally: &mut [u32; 3],
-    w: u64,
-    d: u32,
-) -> u64
-    requires { PreChange rows.now tables.now store.old w d (counts_in tally.old) }
-    ensures { PostChange rows.now tables.now store.old
-        store.new (meaning w) d (counts_in tally.old) (answered result tally.new) }
+pub fn change_class(program: &Program, store: &mut [u32], tally: &mut Tally, w: u64, d: u32) -> u64
+    requires { PreChange program.now.rows.now program.now.tables.now store.old w d tally.old }
+    ensures { PostChange program.now.rows.now program.now.tables.now store.old
+        store.new (meaning w) d tally.old (answered result tally.new) }
 {
-    match reach(w, tally[1]) {
+    match reach(w, tally.made) {
         Reached::Null => w,
         Reached::Nothing => STUCK,
-        Reached::At(o) => change_at(rows, tables, store, tally, w, o, d),
+        Reached::At(o) => change_at(program, store, tally, w, o, d),
     }
 }
 
 // The same of the object at an index of the store.
 fn change_at(
-    rows: &[u32],
-    tables: &[u16],
+    program: &Program,
     store: &mut [u32],
-    tally: &mut [u32; 3],
+    tally: &mut Tally,
     w: u64,
     o: usize,
     d: u32,
 ) -> u64
-    requires pre_change { PreChange rows.now tables.now store.old w d (counts_in tally.old) }
-    requires w_value { At o ≡ reached (counts_in tally.old).made (meaning w) }
-    ensures { PostChange rows.now tables.now store.old
-        store.new (meaning w) d (counts_in tally.old) (answered result tally.new) }
+    requires pre_change { PreChange program.now.rows.now program.now.tables.now store.old w d tally.old }
+    requires w_value { At o ≡ reached tally.old.made (meaning w) }
+    ensures { PostChange program.now.rows.now program.now.tables.now store.old
+        store.new (meaning w) d tally.old (answered result tally.new) }
 {
+    let tables = program.tables;
     let old = store[o];
     let root = class_entry(tables, old, ROOT_PLACE);
     let kept = class_entry(tables, root, COUNT_PLACE);
@@ -260,10 +257,9 @@ fn change_at(
     if count < kept {
         return STUCK;
     }
-    fill(rows, tables, store, o, d as usize, kept as usize);
+    fill(program.rows, tables, store, o, d as usize, kept as usize);
     store[o] = d;
-    let changes = tally[2];
-    put(tally, 2, changes + 1);
+    tally.changes += 1;
     w
 }
 
@@ -280,16 +276,16 @@ fn find_field(tables: &[u16], store: &[u32], o: usize, f: usize) -> Option<usize
 }
 
 // G: the field named f of an object.
-pub fn load(tables: &[u16], store: &[u32], tally: &[u32; 3], w: u64, f: usize) -> u64
-    requires pre_object { PreObject tables.now store.now (counts_in tally.now).made }
+pub fn load(program: &Program, store: &[u32], tally: &Tally, w: u64, f: usize) -> u64
+    requires pre_object { PreObject program.now.tables.now store.now tally.now.made }
     requires f_bound { f < 256 }
-    ensures { PostLoad tables.now store.now (meaning w) f
-        (counts_in tally.now) (outcome result) }
+    ensures { PostLoad program.now.tables.now store.now (meaning w) f
+        tally.now (outcome result) }
 {
-    match reach(w, tally[1]) {
+    match reach(w, tally.made) {
         Reached::Null => NULL_POINTER,
         Reached::Nothing => STUCK,
-        Reached::At(o) => match find_field(tables, store, o, f) {
+        Reached::At(o) => match find_field(program.tables, store, o, f) {
             Some(at) => read_value(store, at),
             None => STUCK,
         },
@@ -297,16 +293,16 @@ pub fn load(tables: &[u16], store: &[u32], tally: &[u32; 3], w: u64, f: usize) -
 }
 
 // U: the field named f of an object becomes a value, which is also the answer.
-pub fn save(tables: &[u16], store: &mut [u32], tally: &[u32; 3], w: u64, v: u64, f: usize) -> u64
-    requires pre_object { PreObject tables.now store.old (counts_in tally.now).made }
+pub fn save(program: &Program, store: &mut [u32], tally: &Tally, w: u64, v: u64, f: usize) -> u64
+    requires pre_object { PreObject program.now.tables.now store.old tally.now.made }
     requires f_bound { (f < 256) × IsWord v }
-    ensures { PostSave tables.now store.old store.new (meaning w)
-        (meaning v) f (counts_in tally.now) (outcome result) }
+    ensures { PostSave program.now.tables.now store.old store.new (meaning w)
+        (meaning v) f tally.now (outcome result) }
 {
-    match reach(w, tally[1]) {
+    match reach(w, tally.made) {
         Reached::Null => NULL_POINTER,
         Reached::Nothing => STUCK,
-        Reached::At(o) => match find_field(tables, store, o, f) {
+        Reached::At(o) => match find_field(program.tables, store, o, f) {
             Some(at) => {
                 write_value(store, at, v);
                 v
@@ -317,16 +313,16 @@ pub fn save(tables: &[u16], store: &mut [u32], tally: &[u32; 3], w: u64, v: u64,
 }
 
 // K: an object of class c or below passes, and so does null.
-pub fn cast_object(above: &[u64], store: &[u32], tally: &[u32; 3], w: u64, c: u32) -> u64
-    requires pre_cast { PreCast above.now store.now c (counts_in tally.now).made }
+pub fn cast_object(program: &Program, store: &[u32], tally: &Tally, w: u64, c: u32) -> u64
+    requires pre_cast { PreCast program.now.above.now store.now c tally.now.made }
     requires word { IsWord w }
-    ensures { PostCast above.now store.now (meaning w) c
-        (counts_in tally.now) (outcome result) }
+    ensures { PostCast program.now.above.now store.now (meaning w) c
+        tally.now (outcome result) }
 {
-    match reach(w, tally[1]) {
+    match reach(w, tally.made) {
         Reached::Null => w,
         Reached::Nothing => STUCK,
-        Reached::At(o) if classes::is_below(above, store[o], c) => w,
+        Reached::At(o) if classes::is_below(program.above, store[o], c) => w,
         Reached::At(_) => BAD_CAST,
     }
 }
@@ -346,23 +342,22 @@ pub fn find_letter(rows: &[u32], row: usize, letter: u32) -> usize
 // Q, once receiver and arguments have values: the row where the body of the receiver's method m begins, or the outcome of a
 // call without one. With another number of arguments than the method has parameters the call is stuck.
 pub fn find_body(
-    tables: &[u16],
-    methods: &[u16],
+    program: &Program,
     store: &[u32],
-    tally: &[u32; 3],
+    tally: &Tally,
     w: u64,
     m: usize,
     given: usize,
     calls: u32,
 ) -> Result<usize, u64>
-    requires { PreFind tables.now methods.now store.now m (counts_in tally.now).made }
-    ensures { PostFind tables.now methods.now store.now (meaning w)
-        m given (counts_in tally.now) calls result }
+    requires { PreFind program.now.tables.now program.now.methods.now store.now m tally.now.made }
+    ensures { PostFind program.now.tables.now program.now.methods.now store.now (meaning w)
+        m given tally.now calls result }
 {
-    match reach(w, tally[1]) {
+    match reach(w, tally.made) {
         Reached::Null => Err(NULL_POINTER),
         Reached::Nothing => Err(STUCK),
-        Reached::At(o) => find_in(tables, methods, store[o], m, given, calls),
+        Reached::At(o) => find_in(program.tables, program.methods, store[o], m, given, calls),
     }
 }
 

@@ -1,7 +1,7 @@
 use native.Mathlib.Omega.{arith}
 use mathlib.Core.Path.{◌≡◌, refl, ap, ◌∙◌, sym}
 use Prim.Native.Nat.{ℕ, ◌+◌, ◌-◌}
-use Rattle.objects.specs.Values.{Gave, counts_in, meaning, outcome}
+use Rattle.objects.specs.Values.{Gave, meaning, outcome}
 use Rattle.objects.proofs.Values.{outcome_value, not_gave, meaning_null, word_of_outcome, outcome_stuck}
 use Rattle.objects.proofs.Values.{case_truth, outcome_spent}
 use Rattle.evaluator.proofs.Steps.{kept_of, in_rows, eval_spent, none_left, some_left, left_falls}
@@ -26,7 +26,7 @@ use Rattle.evaluator.proofs.+args_block_call_choose_enter_fresh_eval_items_one_c
 -- `args`
 
 pub args-loop-slot-init : goal.args-loop-slot-init
-args-loop-slot-init t c = let e : c.args.top - c.args.top ≡ 0 = omega arith in
+args-loop-slot-init t c = let e : c.args.place.now.top - c.args.place.now.top ≡ 0 = omega arith in
     rw e (args_start c.requires (outcome_value 0 (omega arith) ∙ ap Gave meaning_null))
 
 pub args-eval-r-requires : goal.args-eval-r-requires
@@ -66,18 +66,18 @@ args-bounds-slots-slot t c = omega (
       c.eval-r.ensures).long,
 )
 
-pub args-offset_bounds-ends-next : goal.args-offset_bounds-ends-next
-args-offset_bounds-ends-next t c = omega (
+pub args-offset_bounds-program-next : goal.args-offset_bounds-program-next
+args-offset_bounds-program-next t c = omega (
   arith,
   c.well_formed.1.0,
   (args_head c.loop-slot.invariant (omega arith)).in_ends,
 )
 
-pub args-bounds-ends-next : goal.args-bounds-ends-next
-args-bounds-ends-next t c = omega (arith, (args_head c.loop-slot.invariant (omega arith)).in_ends)
+pub args-bounds-program-next : goal.args-bounds-program-next
+args-bounds-program-next t c = omega (arith, (args_head c.loop-slot.invariant (omega arith)).in_ends)
 
 pub args-loop-slot-preserved : goal.args-loop-slot-preserved
-args-loop-slot-preserved t c = let e : c.loop-slot.slot + 1 - c.args.top ≡ c.loop-slot.slot - c.args.top + 1 = omega arith in
+args-loop-slot-preserved t c = let e : c.loop-slot.slot + 1 - c.args.place.now.top ≡ c.loop-slot.slot - c.args.place.now.top + 1 = omega arith in
     rw e (args_next c.loop-slot.invariant (omega arith) c.eval-r.ensures
     c.eval-r.result (outcome_value c.eval-r.result c.if-r-ge-STUCK.false)
     refl
@@ -113,34 +113,6 @@ block-overflow_add-at t c = omega (
   c.first-n.ensures,
 )
 
-pub block-overflow_add-base : goal.block-overflow_add-base
-block-overflow_add-base t c = omega (
-  arith,
-  c.requires.pre_entered.ready.frame,
-  c.requires.pre_entered.ready.scoped,
-  c.requires.pre_entered.ready.above,
-  (block_apart c.requires.pre_entered c.requires.at_value).wide,
-  (block_apart c.requires.pre_entered c.requires.at_value).locals,
-  (block_apart c.requires.pre_entered c.requires.at_value).row,
-  c.requires.pre_entered.ready.whole,
-  c.well_formed.0,
-  c.first-n.ensures,
-)
-
-pub block-overflow_add-base-2 : goal.block-overflow_add-base-2
-block-overflow_add-base-2 t c = omega (
-  arith,
-  c.requires.pre_entered.ready.frame,
-  c.requires.pre_entered.ready.scoped,
-  c.requires.pre_entered.ready.above,
-  (block_apart c.requires.pre_entered c.requires.at_value).wide,
-  (block_apart c.requires.pre_entered c.requires.at_value).locals,
-  (block_apart c.requires.pre_entered c.requires.at_value).row,
-  c.requires.pre_entered.ready.whole,
-  c.well_formed.0,
-  c.first-n.ensures,
-)
-
 pub block-open_locals-requires : goal.block-open_locals-requires
 block-open_locals-requires t c = rw c.first-n.ensures
     (block_locals (block_apart c.requires.pre_entered c.requires.at_value))
@@ -161,20 +133,6 @@ block-overflow_add-at-2 t c = omega (
 
 pub block-overflow_add-at-3 : goal.block-overflow_add-at-3
 block-overflow_add-at-3 t c = omega (
-  arith,
-  c.requires.pre_entered.ready.frame,
-  c.requires.pre_entered.ready.scoped,
-  c.requires.pre_entered.ready.above,
-  (block_apart c.requires.pre_entered c.requires.at_value).wide,
-  (block_apart c.requires.pre_entered c.requires.at_value).locals,
-  (block_apart c.requires.pre_entered c.requires.at_value).row,
-  c.requires.pre_entered.ready.whole,
-  c.well_formed.0,
-  c.first-n.ensures,
-)
-
-pub block-overflow_add-scope : goal.block-overflow_add-scope
-block-overflow_add-scope t c = omega (
   arith,
   c.requires.pre_entered.ready.frame,
   c.requires.pre_entered.ready.scoped,
@@ -248,8 +206,8 @@ call-returns-then-r-ge-STUCK t c = call_fail c.args.at
     c.requires.at_value c.args-r.ensures
     (not_gave c.args-r.result c.if-r-ge-STUCK.true)
 
-pub call-offset_bounds-slots-top : goal.call-offset_bounds-slots-top
-call-offset_bounds-slots-top t c = omega (
+pub call-offset_bounds-slots-place : goal.call-offset_bounds-slots-place
+call-offset_bounds-slots-place t c = omega (
   arith,
   top_room (call_apart
       c.requires.pre_entered
@@ -261,8 +219,8 @@ call-offset_bounds-slots-top t c = omega (
   c.requires.pre_entered.ready.whole,
 )
 
-pub call-bounds-slots-top : goal.call-bounds-slots-top
-call-bounds-slots-top t c = omega (
+pub call-bounds-slots-place : goal.call-bounds-slots-place
+call-bounds-slots-place t c = omega (
   arith,
   top_room (call_apart
       c.requires.pre_entered
@@ -291,13 +249,13 @@ call-find_body-requires t c = call_find (call_apart c.requires.pre_entered
     c.requires.at_value)
     c.args-r.ensures
 
-pub call-offset_bounds-ends-b : goal.call-offset_bounds-ends-b
-call-offset_bounds-ends-b t c = let x = call_apart c.requires.pre_entered c.requires.at_value in
+pub call-offset_bounds-program-b : goal.call-offset_bounds-program-b
+call-offset_bounds-program-b t c = let x = call_apart c.requires.pre_entered c.requires.at_value in
     let p = call_enter x c.args-r.ensures c.in-Ok.ensures in
     omega (arith, in_ends p, c.well_formed.1.0)
 
-pub call-bounds-ends-b : goal.call-bounds-ends-b
-call-bounds-ends-b t c = let x = call_apart c.requires.pre_entered c.requires.at_value in
+pub call-bounds-program-b : goal.call-bounds-program-b
+call-bounds-program-b t c = let x = call_apart c.requires.pre_entered c.requires.at_value in
     let p = call_enter x c.args-r.ensures c.in-Ok.ensures in
     in_ends p
 
@@ -311,8 +269,8 @@ call-frame_width-width-requires t c = let x = call_apart c.requires.pre_entered 
     let p = call_enter x c.args-r.ensures c.in-Ok.ensures in
     p.few
 
-pub call-overflow_add-top : goal.call-overflow_add-top
-call-overflow_add-top t c = let x = call_apart c.requires.pre_entered c.requires.at_value in
+pub call-overflow_add-place : goal.call-overflow_add-place
+call-overflow_add-place t c = let x = call_apart c.requires.pre_entered c.requires.at_value in
     let p = call_enter x c.args-r.ensures c.in-Ok.ensures in
     omega (
       arith,
@@ -330,8 +288,8 @@ call-overflow_mul-most_nested t c = let x = call_apart c.requires.pre_entered c.
     let p = call_enter x c.args-r.ensures c.in-Ok.ensures in
     omega (arith, nested_small p c.most_nested.ensures)
 
-pub call-overflow_add-top-in-Ok : goal.call-overflow_add-top-in-Ok
-call-overflow_add-top-in-Ok t c = let x = call_apart c.requires.pre_entered c.requires.at_value in
+pub call-overflow_add-place-in-Ok : goal.call-overflow_add-place-in-Ok
+call-overflow_add-place-in-Ok t c = let x = call_apart c.requires.pre_entered c.requires.at_value in
     let p = call_enter x c.args-r.ensures c.in-Ok.ensures in
     omega (
       arith,
@@ -341,11 +299,6 @@ call-overflow_add-top-in-Ok t c = let x = call_apart c.requires.pre_entered c.re
       (kept_args x c.args-r.ensures).long,
       c.requires.pre_entered.ready.whole,
     )
-
-pub call-overflow_add-calls : goal.call-overflow_add-calls
-call-overflow_add-calls t c = let x = call_apart c.requires.pre_entered c.requires.at_value in
-    let p = call_enter x c.args-r.ensures c.in-Ok.ensures in
-    omega (arith, p.active)
 
 pub call-enter_fresh-requires : goal.call-enter_fresh-requires
 call-enter_fresh-requires t c = let x = call_apart c.requires.pre_entered c.requires.at_value in
@@ -357,35 +310,19 @@ call-enter_fresh-requires t c = let x = call_apart c.requires.pre_entered c.requ
       ),
     )
 
-pub call-shape_of-store-then-top-width-gt1920 : goal.call-shape_of-store-then-top-width-gt1920
-call-shape_of-store-then-top-width-gt1920 t c = c.enter_fresh.auto.store ∙ c.args-r.auto.store
+pub call-shape_of-store-then-place-width-gt1920 : goal.call-shape_of-store-then-place-width-gt1920
+call-shape_of-store-then-place-width-gt1920 t c = c.enter_fresh.auto.store ∙ c.args-r.auto.store
 
-pub call-returns-then-top-width-gt1920 : goal.call-returns-then-top-width-gt1920
-call-returns-then-top-width-gt1920 t c = call_done c.args.at c.requires.at_value c.args-r.ensures
+pub call-returns-then-place-width-gt1920 : goal.call-returns-then-place-width-gt1920
+call-returns-then-place-width-gt1920 t c = call_done c.args.at c.requires.at_value c.args-r.ensures
     (outcome_value c.args-r.result (omega (arith, c.if-r-ge-STUCK.false))) c.in-Ok.ensures c.enter_fresh.ensures
-
-pub call-overflow_add-top-in-Ok-2 : goal.call-overflow_add-top-in-Ok-2
-call-overflow_add-top-in-Ok-2 t c = let x = call_apart c.requires.pre_entered c.requires.at_value in
-    let p = call_enter x c.args-r.ensures c.in-Ok.ensures in
-    omega (
-      arith,
-      width_small p c.frame_width-width.ensures,
-      p.there,
-      (kept_args x c.args-r.ensures).long,
-      c.requires.pre_entered.ready.whole,
-    )
-
-pub call-overflow_add-calls-in-Ok : goal.call-overflow_add-calls-in-Ok
-call-overflow_add-calls-in-Ok t c = let x = call_apart c.requires.pre_entered c.requires.at_value in
-    let p = call_enter x c.args-r.ensures c.in-Ok.ensures in
-    omega (arith, p.active)
 
 pub call-eval-requires : goal.call-eval-requires
 call-eval-requires t c = let x = call_apart c.requires.pre_entered c.requires.at_value in
     let p = call_enter x c.args-r.ensures c.in-Ok.ensures in (
       omega (arith, c.decreases, (kept_args x c.args-r.ensures).falls),
       here_pre c.frame_width-width.ensures c.most_nested.ensures
-          (omega (arith, c.if-top-width-gt1920.false, p.whole)) p,
+          (omega (arith, c.if-place-width-gt1920.false, p.whole)) p,
     )
 
 pub call-shape_of-store-in-Err : goal.call-shape_of-store-in-Err
@@ -395,16 +332,16 @@ pub call-returns-in-Err : goal.call-returns-in-Err
 call-returns-in-Err t c = call_ends c.args.at c.requires.at_value c.args-r.ensures
     (outcome_value c.args-r.result (omega (arith, c.if-r-ge-STUCK.false))) c.in-Err.ensures
 
-pub call-shape_of-store-else-top-width-gt1920 : goal.call-shape_of-store-else-top-width-gt1920
-call-shape_of-store-else-top-width-gt1920 t c = c.eval.auto.store ∙ c.args-r.auto.store
+pub call-shape_of-store-else-place-width-gt1920 : goal.call-shape_of-store-else-place-width-gt1920
+call-shape_of-store-else-place-width-gt1920 t c = c.eval.auto.store ∙ c.args-r.auto.store
 
-pub call-returns-else-top-width-gt1920 : goal.call-returns-else-top-width-gt1920
-call-returns-else-top-width-gt1920 t c = let x = call_apart c.requires.pre_entered c.requires.at_value in
+pub call-returns-else-place-width-gt1920 : goal.call-returns-else-place-width-gt1920
+call-returns-else-place-width-gt1920 t c = let x = call_apart c.requires.pre_entered c.requires.at_value in
     let p = call_enter x c.args-r.ensures c.in-Ok.ensures in
     call_done c.args.at c.requires.at_value c.args-r.ensures
     (outcome_value c.args-r.result (omega (arith, c.if-r-ge-STUCK.false))) c.in-Ok.ensures
     (here_done c.frame_width-width.ensures c.most_nested.ensures
-    (omega (arith, c.if-top-width-gt1920.false, p.whole)) c.eval.ensures)
+    (omega (arith, c.if-place-width-gt1920.false, p.whole)) c.eval.ensures)
 
 -- `choose`
 
@@ -437,11 +374,11 @@ choose-returns-in_default t c = rw outcome_stuck (choose_stuck c.args.at
 pub choose-overflow_add-yes : goal.choose-overflow_add-yes
 choose-overflow_add-yes t c = omega (arith, (choose_apart c.requires.pre_entered c.requires.at_value).in_ends)
 
-pub choose-offset_bounds-ends-at : goal.choose-offset_bounds-ends-at
-choose-offset_bounds-ends-at t c = omega (arith, (choose_apart c.requires.pre_entered c.requires.at_value).in_ends)
+pub choose-offset_bounds-program-at : goal.choose-offset_bounds-program-at
+choose-offset_bounds-program-at t c = omega (arith, (choose_apart c.requires.pre_entered c.requires.at_value).in_ends)
 
-pub choose-bounds-ends-at : goal.choose-bounds-ends-at
-choose-bounds-ends-at t c = omega (arith, (choose_apart c.requires.pre_entered c.requires.at_value).in_ends)
+pub choose-bounds-program-at : goal.choose-bounds-program-at
+choose-bounds-program-at t c = omega (arith, (choose_apart c.requires.pre_entered c.requires.at_value).in_ends)
 
 pub choose-eval-requires : goal.choose-eval-requires
 choose-eval-requires t c = (
@@ -467,15 +404,15 @@ choose-returns-then-b t c = choose_yes c.args.at
     c.if-b.true
     c.eval.ensures
 
-pub choose-offset_bounds-ends-yes : goal.choose-offset_bounds-ends-yes
-choose-offset_bounds-ends-yes t c = omega (
+pub choose-offset_bounds-program-yes : goal.choose-offset_bounds-program-yes
+choose-offset_bounds-program-yes t c = omega (
   arith,
   (choose_apart c.requires.pre_entered c.requires.at_value).end_a,
   (choose_apart c.requires.pre_entered c.requires.at_value).in_ends_b,
 )
 
-pub choose-bounds-ends-yes : goal.choose-bounds-ends-yes
-choose-bounds-ends-yes t c = omega (
+pub choose-bounds-program-yes : goal.choose-bounds-program-yes
+choose-bounds-program-yes t c = omega (
   arith,
   (choose_apart c.requires.pre_entered c.requires.at_value).end_a,
   (choose_apart c.requires.pre_entered c.requires.at_value).in_ends_b,
@@ -561,7 +498,7 @@ pub eval-block-requires : goal.eval-block-requires
 eval-block-requires t c = (
   omega (
     arith,
-    left_falls (counts_in c.args.tally.now)
+    left_falls c.args.tally.now
         (some_left c.runs_out.ensures.value c.if-runs_out.false)
         c.runs_out.ensures.tally_after,
   ),
@@ -576,7 +513,7 @@ pub eval-choose-requires : goal.eval-choose-requires
 eval-choose-requires t c = (
   omega (
     arith,
-    left_falls (counts_in c.args.tally.now)
+    left_falls c.args.tally.now
         (some_left c.runs_out.ensures.value c.if-runs_out.false)
         c.runs_out.ensures.tally_after,
   ),
@@ -591,7 +528,7 @@ pub eval-call-requires : goal.eval-call-requires
 eval-call-requires t c = (
   omega (
     arith,
-    left_falls (counts_in c.args.tally.now)
+    left_falls c.args.tally.now
         (some_left c.runs_out.ensures.value c.if-runs_out.false)
         c.runs_out.ensures.tally_after,
   ),
@@ -606,7 +543,7 @@ pub eval-set-requires : goal.eval-set-requires
 eval-set-requires t c = (
   omega (
     arith,
-    left_falls (counts_in c.args.tally.now)
+    left_falls c.args.tally.now
         (some_left c.runs_out.ensures.value c.if-runs_out.false)
         c.runs_out.ensures.tally_after,
   ),
@@ -621,7 +558,7 @@ pub eval-one_child-requires : goal.eval-one_child-requires
 eval-one_child-requires t c = (
   omega (
     arith,
-    left_falls (counts_in c.args.tally.now)
+    left_falls c.args.tally.now
         (some_left c.runs_out.ensures.value c.if-runs_out.false)
         c.runs_out.ensures.tally_after,
   ),
@@ -693,11 +630,11 @@ items-returns-then-r-ge-STUCK t c = items_broken c.loop-i.invariant c.loop-i-tes
     c.eval-r.ensures refl
     (not_gave c.eval-r.result c.if-r-ge-STUCK.true)
 
-pub items-offset_bounds-ends-next : goal.items-offset_bounds-ends-next
-items-offset_bounds-ends-next t c = omega (arith, (items_head c.loop-i.invariant c.loop-i-test.true).in_ends)
+pub items-offset_bounds-program-next : goal.items-offset_bounds-program-next
+items-offset_bounds-program-next t c = omega (arith, (items_head c.loop-i.invariant c.loop-i-test.true).in_ends)
 
-pub items-bounds-ends-next : goal.items-bounds-ends-next
-items-bounds-ends-next t c = omega (arith, (items_head c.loop-i.invariant c.loop-i-test.true).in_ends)
+pub items-bounds-program-next : goal.items-bounds-program-next
+items-bounds-program-next t c = omega (arith, (items_head c.loop-i.invariant c.loop-i-test.true).in_ends)
 
 pub items-loop-i-preserved : goal.items-loop-i-preserved
 items-loop-i-preserved t c = items_next c.loop-i.invariant c.loop-i-test.true c.eval-r.ensures
@@ -760,11 +697,11 @@ set-returns-then-n-ge-STUCK t c = set_fail c.args.at
 pub set-overflow_add-next : goal.set-overflow_add-next
 set-overflow_add-next t c = omega (arith, (set_apart c.requires.pre_entered c.requires.at_value).in_ends)
 
-pub set-offset_bounds-ends-at : goal.set-offset_bounds-ends-at
-set-offset_bounds-ends-at t c = omega (arith, (set_apart c.requires.pre_entered c.requires.at_value).in_ends)
+pub set-offset_bounds-program-at : goal.set-offset_bounds-program-at
+set-offset_bounds-program-at t c = omega (arith, (set_apart c.requires.pre_entered c.requires.at_value).in_ends)
 
-pub set-bounds-ends-at : goal.set-bounds-ends-at
-set-bounds-ends-at t c = omega (arith, (set_apart c.requires.pre_entered c.requires.at_value).in_ends)
+pub set-bounds-program-at : goal.set-bounds-program-at
+set-bounds-program-at t c = omega (arith, (set_apart c.requires.pre_entered c.requires.at_value).in_ends)
 
 pub set-eval-n2-requires : goal.set-eval-n2-requires
 set-eval-n2-requires t c = (
@@ -790,7 +727,7 @@ set-returns-then-n2-ge-STUCK t c = set_fail_second c.args.at
     (not_gave c.eval-n2.result c.if-n2-ge-STUCK.true)
 
 pub set-first-requires : goal.set-first-requires
-set-first-requires t c = omega (arith, (set_apart c.requires.pre_entered c.requires.at_value).row, c.well_formed.0.1)
+set-first-requires t c = omega (arith, (set_apart c.requires.pre_entered c.requires.at_value).row)
 
 pub set-save-requires : goal.set-save-requires
 set-save-requires t c = let x = set_apart c.requires.pre_entered c.requires.at_value in record {

@@ -4,15 +4,15 @@ use Rattle.objects.specs.Values.{outcome, meaning}
 use native.Mathlib.Omega.{arith}
 use Rattle.frames.proofs.reclassify.Goals as goal
 
-pub first-k-requires : goal.first-k-requires
-first-k-requires c = omega (arith, leaf_row c.requires.pre_leaf)
+pub first-requires : goal.first-requires
+first-requires c = omega (arith, leaf_row c.requires.pre_leaf)
 
 pub read_slot-o-requires : goal.read_slot-o-requires
 read_slot-o-requires c = leaf_slots c.requires.pre_leaf
 
 pub returns-then-o-ge-STUCK : goal.returns-then-o-ge-STUCK
 returns-then-o-ge-STUCK c = change_missing (outcome c.read_slot-o.result) c.requires.at_value
-    (rw c.first-k.ensures at c.read_slot-o.ensures)
+    (rw c.first.ensures at c.read_slot-o.ensures)
     (not_gave c.read_slot-o.result c.if-o-ge-STUCK.true)
 
 pub second-requires : goal.second-requires
@@ -28,6 +28,6 @@ shape_of-store c = c.change_class.auto.store
 
 pub returns : goal.returns
 returns c = change_done (outcome c.read_slot-o.result) (meaning c.read_slot-o.result)
-    c.requires.at_value (rw c.first-k.ensures at c.read_slot-o.ensures)
+    c.requires.at_value (rw c.first.ensures at c.read_slot-o.ensures)
     (outcome_value c.read_slot-o.result c.if-o-ge-STUCK.false)
     (rw c.second.ensures at c.change_class.ensures)

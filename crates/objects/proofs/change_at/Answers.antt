@@ -1,13 +1,12 @@
 use native.Mathlib.Omega.{arith}
-use Rattle.objects.specs.Values.{counts_in}
-use Rattle.objects.proofs.Changes.{reached_spots, fill_at, few_at, made_at, one_change}
+use Rattle.objects.proofs.Changes.{reached_spots, fill_at, few_at, made_at, same_word}
 use Rattle.objects.proofs.change_at.Goals as goal
 
 pub offset_bounds-store-o : goal.offset_bounds-store-o
 offset_bounds-store-o c = omega (
   arith,
   reached_spots c.args.w
-      (counts_in c.args.tally.now) c.requires.w_value
+      c.args.tally.now c.requires.w_value
       c.requires.pre_change,
   c.well_formed.1.1.0,
 )
@@ -16,7 +15,7 @@ pub bounds-store-o : goal.bounds-store-o
 bounds-store-o c = omega (
   arith,
   reached_spots c.args.w
-      (counts_in c.args.tally.now)
+      c.args.tally.now
       c.requires.w_value
       c.requires.pre_change,
 )
@@ -25,7 +24,7 @@ pub class_entry-root-requires : goal.class_entry-root-requires
 class_entry-root-requires c = omega (
   arith,
   reached_spots c.args.w
-      (counts_in c.args.tally.now)
+      c.args.tally.now
       c.requires.w_value
       c.requires.pre_change,
 )
@@ -34,7 +33,7 @@ pub class_entry-kept-requires : goal.class_entry-kept-requires
 class_entry-kept-requires c = omega (
   arith,
   reached_spots c.args.w
-      (counts_in c.args.tally.now)
+      c.args.tally.now
       c.requires.w_value
       c.requires.pre_change,
   c.class_entry-root.ensures,
@@ -55,14 +54,14 @@ fill-requires c = rw (
   c.class_entry-root.ensures,
 )
     (fill_at c.args.w
-    (counts_in c.args.tally.now)
+    c.args.tally.now
     c.requires.w_value
     c.requires.pre_change)
 
 pub offset_bounds-store-o-2 : goal.offset_bounds-store-o-2
 offset_bounds-store-o-2 c = omega (
   arith,
-  reached_spots c.args.w (counts_in c.args.tally.now)
+  reached_spots c.args.w c.args.tally.now
       c.requires.w_value
       c.requires.pre_change,
   c.well_formed.1.1.0,
@@ -71,7 +70,7 @@ offset_bounds-store-o-2 c = omega (
 pub bounds-store-o-2 : goal.bounds-store-o-2
 bounds-store-o-2 c = omega (
   arith,
-  reached_spots c.args.w (counts_in c.args.tally.now)
+  reached_spots c.args.w c.args.tally.now
       c.requires.w_value
       c.requires.pre_change,
   c.fill.ensures.long,
@@ -79,7 +78,7 @@ bounds-store-o-2 c = omega (
 
 pub returns : goal.returns
 returns c = made_at c.args.w
-    (counts_in c.args.tally.now)
+    c.args.tally.now
     c.requires.w_value
     c.fill.new.store
     (rw (
@@ -92,7 +91,4 @@ returns c = made_at c.args.w
       c.class_entry-kept.ensures,
       c.class_entry-root.ensures,
     ) at c.fill.ensures)
-    (one_change c.args.w
-    c.args.tally.now
-    c.requires.pre_change.is_word.short
-    c.put.ensures)
+    (same_word c.args.w _ c.requires.pre_change.is_word.short)
