@@ -1,12 +1,12 @@
 -- Laws of finding the runs of a table and of writing their lines. Assumes nothing.
 use mathlib.Core.Path.{◌≡◌, refl, sym, ap, ◌∙◌}
-use mathlib.Core.Bool.{Bool, true, false}
+use mathlib.Core.Bool.{true, false, false≢true}
 use mathlib.Core.List.{List, [], ◌∷◌, ◌++◌}
 use mathlib.Core.Option.{Option, some}
+use Rattle.std.specs.Prelude.{Option as Kept, Some, None}
 use Prim.Native.Nat.{ℕ, suc, ◌+◌, ◌-◌, ◌*◌, ◌≤◌, ◌<◌}
 use native.Mathlib.Omega.{arith}
-use borrow.Author.Tests.{ltb-true, ltb-false, eqb-true, eqb-false}
-use lib.Dec.{eqb, ltb}
+use borrow.Author.Tests.{eqb-true, eqb-false, eq-eqb}
 use lib.ListN.{length, get_or, set, length-append}
 use lib.Seq.{sets, length-sets}
 use Rattle.language.proofs.Filling.{sets_then}
@@ -14,7 +14,8 @@ use Rattle.language.specs.Decimals.{digits}
 use Rattle.language.specs.Lists.{Never, inj}
 use Rattle.prices.specs.Reports.{PriceRun, price_run, price_runs, run_line, run_lines}
 use Rattle.prices.proofs.Runs.{runs_skip, runs_first, line_short}
-use Rattle.pricing.specs.Runs.{Priced, RunAt}
+use Rattle.terms.specs.declared.Entry.{Entry}
+use Rattle.pricing.specs.Runs.{Priced, RunAt, cents_kept, has_price}
 
 -- a line written number by number
 pub line_written : (held : List ℕ) (at first last cents then next end : ℕ) → then ≡ at + length (digits first)
@@ -29,52 +30,22 @@ line_written held at first last cents then next end e f g =
     (omega (arith, f))
     ∙ sets_then held at then (digits first) ((9 ∷ digits last) ++ ((9 ∷ digits cents) ++ (10 ∷ []))) e
 
--- ---- finding the end of a run
+-- ---- what is kept of a day
 
--- the days from place i to before place j have one price
-pub record Alike (table : List ℕ) (count i j : ℕ) : Type 0 where
-  pub some_days : i < j
-  pub within : j ≤ count
-  pub ruled : (k : ℕ) → i ≤ k → k < j → get_or table (3 * k) 0 ≡ 0 → ⊥
-  pub one_price : (k : ℕ) → i ≤ k → k < j → get_or table (3 * k + 2) 0 ≡ get_or table (3 * i + 2) 0
+pub is_none : (o : Kept Entry) → ((e : Entry) → o ≡ Some e → ⊥) → o ≡ None
+is_none None n = refl
+is_none (Some e) n = absurd (n e refl)
 
-pub alike_start : (table : List ℕ) (count i : ℕ) → i < count → (get_or table (3 * i) 0 ≡ 0 → ⊥)
-    → Alike table count i (i + 1)
-alike_start table count i h n = record {
-  some_days = omega arith;
-  within = omega (arith, h);
-  ruled = λ k l m e. let q : k ≡ i = omega (arith, l, m) in n (rw q at e);
-  one_price = λ k l m. let q : k ≡ i = omega (arith, l, m) in rw q;
-}
+pub has_cents : (o : Kept Entry) (c : ℕ) → has_price o c ≡ true → cents_kept o ≡ some c
+has_cents None c e = absurd (false≢true e)
+has_cents (Some e) c q = ap some (eqb-true e.cents c q)
 
-module _ {table : List ℕ} {count i j : ℕ} (p : Alike table count i j) where
-  pub alike_step : j < count → (get_or table (3 * j) 0 ≡ 0 → ⊥)
-      → get_or table (3 * j + 2) 0 ≡ get_or table (3 * i + 2) 0 → Alike table count i (j + 1)
-  alike_step h n e = record {
-    some_days = omega (arith, p.some_days);
-    within = omega (arith, h);
-    ruled = λ k l m z. ruled-to k l m z (ltb k j) refl;
-    one_price = λ k l m. one-to k l m (ltb k j) refl;
-  }
-    where
-      ruled-to : (k : ℕ) → i ≤ k → k < j + 1 → get_or table (3 * k) 0 ≡ 0 → (t : Bool) → ltb k j ≡ t → ⊥
-      ruled-to k l m z true q = p.ruled k l (ltb-true k j q) z
-      ruled-to k l m z false q = let w : k ≡ j = omega (arith, ltb-false k j q, m) in n (rw w at z)
+pub has_no_cents : (o : Kept Entry) (c : ℕ) → has_price o c ≡ false → cents_kept o ≡ some c → ⊥
+has_no_cents None c e q = Never q
+has_no_cents (Some e) c q r = eqb-false e.cents c q (inj r)
 
-      one-to : (k : ℕ) → i ≤ k → k < j + 1 → (t : Bool) → ltb k j ≡ t
-          → get_or table (3 * k + 2) 0 ≡ get_or table (3 * i + 2) 0
-      one-to k l m true q = p.one_price k l (ltb-true k j q)
-      one-to k l m false q = let w : k ≡ j = omega (arith, ltb-false k j q, m) in rw w e
-
-  pub alike_end : (j < count → (get_or table (3 * j) 0 ≡ 0 → ⊥)
-      → get_or table (3 * j + 2) 0 ≡ get_or table (3 * i + 2) 0 → ⊥) → RunAt table count i j
-  alike_end n = record {
-    some_days = p.some_days;
-    within = p.within;
-    ruled = p.ruled;
-    one_price = p.one_price;
-    ends = n;
-  }
+pub has_own : (o : Kept Entry) {e : Entry} → o ≡ Some e → has_price o e.cents ≡ true
+has_own o {e} q = rw (q, eq-eqb e.cents e.cents refl)
 
 -- ---- writing the runs one after another
 
@@ -109,15 +80,15 @@ writing_start price day count held =
       goal = rw (e, f);
     }
 
-module _ {price : ℕ → Option ℕ} {day count : ℕ} {table held₀ held : List ℕ} {i at : ℕ}
+module _ {price : ℕ → Option ℕ} {day count : ℕ} {table : List (Kept Entry)} {held₀ held : List ℕ} {i at : ℕ}
     (p : Priced price day count table) (w : Writing price day count held₀ held i at) where
   -- a day without a price is passed over
-  pub writing_skip : i < count → get_or table (3 * i) 0 ≡ 0 → Writing price day count held₀ held (i + 1) at
+  pub writing_skip : i < count → get_or table i None ≡ None → Writing price day count held₀ held (i + 1) at
   writing_skip h z =
       let e : count - i ≡ suc (count - (i + 1)) = omega (arith, h) in
       let f : day + (i + 1) ≡ suc (day + i) = omega arith in
       let q : price_runs price (day + i) (count - i) ≡ price_runs price (day + (i + 1)) (count - (i + 1)) =
-      rw (e, f) (runs_skip price (day + i) (count - (i + 1)) (p.none_on i h z)) in
+      rw (e, f) (runs_skip price (day + i) (count - (i + 1)) (p.each i h ∙ ap cents_kept z)) in
       record {
         within = omega (arith, h);
         small = omega (arith, w.small);
@@ -126,53 +97,49 @@ module _ {price : ℕ → Option ℕ} {day count : ℕ} {table held₀ held : Li
         goal = rw q at w.goal;
       }
 
-  module _ (j : ℕ) (r : RunAt table count i j) where
+  module _ (cents j : ℕ) (r : RunAt table count cents i j) where
     -- the run is the first of those that are left
     first_run : price_runs price (day + i) (count - i)
-        ≡ price_run (day + i) (day + j - 1) (get_or table (3 * i + 2) 0)
+        ≡ price_run (day + i) (day + j - 1) cents
         ∷ price_runs price (day + j) (count - j)
     first_run =
         let d : day + i + (j - i - 1) ≡ day + j - 1 = omega (arith, r.some_days) in
         let e : day + i + suc (j - i - 1) ≡ day + j = omega (arith, r.some_days) in
         let f : count - i - suc (j - i - 1) ≡ count - j = omega (arith, r.some_days, r.within) in
-        rw (d, e, f) at (runs_first price (get_or table (3 * i + 2) 0) (j - i - 1) (day + i) (count - i)
+        rw (d, e, f) at (runs_first price cents (j - i - 1) (day + i) (count - i)
         (omega (arith, r.some_days, r.within)) each
-        (λ l q. ends (omega (arith, l, r.some_days)) (rw e at q) (eqb (get_or table (3 * j) 0) 0) refl))
+        (λ l q. ends (omega (arith, l, r.some_days)) (rw e at q)))
       where
-        each : (k : ℕ) → k ≤ j - i - 1 → price (day + i + k) ≡ some (get_or table (3 * i + 2) 0)
+        each : (k : ℕ) → k ≤ j - i - 1 → price (day + i + k) ≡ some cents
         each k l =
             let m : i + k < j = omega (arith, l, r.some_days) in
             let q : day + i + k ≡ day + (i + k) = omega arith in
-            rw q (p.some_on (i + k) (omega (arith, m, r.within)) (r.ruled (i + k) (omega arith) m)
-            ∙ ap some (r.one_price (i + k) (omega arith) m))
+            rw q (p.each (i + k) (omega (arith, m, r.within))
+            ∙ has_cents (get_or table (i + k) None) cents (r.one_price (i + k) (omega arith) m))
 
-        ends : j < count → price (day + j) ≡ some (get_or table (3 * i + 2) 0)
-            → (t : Bool) → eqb (get_or table (3 * j) 0) 0 ≡ t → ⊥
-        ends l e true q =
-            Never (sym (p.none_on j l (eqb-true (get_or table (3 * j) 0) 0 q)) ∙ e)
-        ends l e false q =
-            let n = eqb-false (get_or table (3 * j) 0) 0 q in
-            r.ends l n (inj (sym (p.some_on j l n) ∙ e))
+        ends : j < count → price (day + j) ≡ some cents → ⊥
+        ends l e = has_no_cents (get_or table j None) cents (r.ends l) (sym (p.each j l) ∙ e)
 
     -- its line is short, and fits the buffer
     line_small : day + count ≤ 65536
-        → length (run_line (price_run (day + i) (day + j - 1) (get_or table (3 * i + 2) 0))) ≤ 18
-    line_small h = line_short (day + i) (day + j - 1) (get_or table (3 * i + 2) 0)
+        → length (run_line (price_run (day + i) (day + j - 1) cents)) ≤ 18
+    line_small h = line_short (day + i) (day + j - 1) cents
         (omega (arith, h, r.some_days, r.within)) (omega (arith, h, r.some_days, r.within))
-        (p.small i (omega (arith, r.some_days, r.within)))
+        (p.small i cents (omega (arith, r.some_days, r.within))
+        (has_cents (get_or table i None) cents (r.one_price i (omega arith) r.some_days)))
 
     pub writing_fits : day + count ≤ 65536 → count ≤ 31 → 558 ≤ length held₀
-        → at + length (run_line (price_run (day + i) (day + j - 1) (get_or table (3 * i + 2) 0))) ≤ length held
+        → at + length (run_line (price_run (day + i) (day + j - 1) cents)) ≤ length held
     writing_fits h k l =
         omega (arith, line_small h, k, l, w.small, w.long, r.some_days, r.within)
 
     -- it is written
     pub writing_step : day + count ≤ 65536 → (held' : List ℕ) (at' : ℕ)
-        → at' ≡ at + length (run_line (price_run (day + i) (day + j - 1) (get_or table (3 * i + 2) 0)))
-        → held' ≡ sets held at (run_line (price_run (day + i) (day + j - 1) (get_or table (3 * i + 2) 0)))
+        → at' ≡ at + length (run_line (price_run (day + i) (day + j - 1) cents))
+        → held' ≡ sets held at (run_line (price_run (day + i) (day + j - 1) cents))
         → Writing price day count held₀ held' j at'
     writing_step h held' at' e f =
-        let line : List ℕ = run_line (price_run (day + i) (day + j - 1) (get_or table (3 * i + 2) 0)) in
+        let line : List ℕ = run_line (price_run (day + i) (day + j - 1) cents) in
         let rest : List ℕ = run_lines (price_runs price (day + j) (count - j)) in
         let q : run_lines (price_runs price (day + i) (count - i)) ≡ line ++ rest =
         ap run_lines first_run ∙ lines_first _ _ in
