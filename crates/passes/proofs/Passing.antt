@@ -1,14 +1,16 @@
 -- From pass to pass: what the answer of each tells of its definition, and what the next is called on. Assumes nothing.
-use mathlib.Core.Path.{◌≡◌, refl, sym, ap, ◌∙◌, subst}
+use mathlib.Core.Path.{◌≡◌, sym, ap, ◌∙◌, subst}
 use mathlib.Core.Logic.{◌⊎◌, inl, inr}
 use mathlib.Core.List.{List, ◌++◌}
 use Prim.Native.Nat.{ℕ, ◌+◌, ◌*◌, ◌%◌, ◌≤◌}
 use lib.ListN.{length, drop, replicate, length-replicate}
 use borrow.Author.Tests.{eq-eqb, ne_eqb}
 use native.Mathlib.Omega.{arith}
+use Rattle.std.specs.Prelude.{Result, Ok, Err}
 use Rattle.language.specs.Limits.{of_check}
-use Rattle.language.specs.Results as results
-use Rattle.language.specs.Results.{Pass, accept, refuse, bind_checked, require, accept_injective}
+use Rattle.language.specs.declared.Refusal.{Refusal}
+use Rattle.language.proofs.Refusals.{result_ok, result_err}
+use Rattle.language.specs.Results.{Checked, Pass, passed, accept, refuse, bind_checked, require, accept_injective}
 use Rattle.language.specs.Results.{accept≢refuse}
 use Rattle.language.specs.Rows.{rows_of}
 use Rattle.language.specs.Tree.{Program}
@@ -24,37 +26,30 @@ use Rattle.layout.specs.Standing.{program_at}
 use Rattle.layout.specs.Held.{Headed, Held}
 use Rattle.layout.specs.HeldLaws.{few, lower}
 use Rattle.classes.proofs.Below.{subclasses}
-use Rattle.form.specs.Answers.{formed_of}
+use Rattle.form.specs.Answers.{found, formed_of}
 use Rattle.form.specs.declared.Formed.{Formed}
-use Rattle.form.specs.declared.Formed.TheVariants.{InForm, Refused as NotInForm}
-use Rattle.members.specs.Answers as heads
+use Rattle.members.specs.Answers.{headed}
 use Rattle.headings.specs.Ready.{HeadingsReady}
-use Rattle.members.specs.declared.Headed as answered
-use Rattle.members.specs.declared.Headed.TheVariants.{Passed, Refused as NotPassed}
 use Rattle.members.proofs.Checks.{is_passed, passed_count, is_refused}
-use Rattle.bodies.specs.Whole as typings
-use Rattle.bodies.specs.Whole.{BodiesReady, BodiesAre, BodiesDone}
-use Rattle.bodies.specs.declared.Verdict as typed
-use Rattle.passes.specs.declared.Checked.{Checked}
-use Rattle.passes.specs.declared.Checked.TheVariants.{Accepted, Refused}
-use Rattle.passes.specs.Answers.{checked_case, typed_case}
+use Rattle.bodies.specs.Whole.{BodiesReady, BodiesDone}
+use Rattle.passes.specs.Answers.{checked_case}
 use Rattle.passes.specs.Passes.{Room, ClassRoom, BodyRoom, Stands, Checks, ChecksAbove}
 
 -- ---- answers
 
 -- A refusal is one of the check.
-module _ (R : List ℕ) (n l : ℕ) (e : check R ≡ refuse n l) where
+module _ (R : List ℕ) (r : Refusal) (e : check R ≡ refuse r.number r.line) where
   refused_only : (Q : Program → Type 0) (p : Program) → check R ≡ accept p → Q p
-  refused_only Q p g = absurd (accept≢refuse n l (sym e ∙ g))
+  refused_only Q p g = absurd (accept≢refuse r.number r.line (sym e ∙ g))
 
-  refuses : {E T A M C : List ℕ} → Checks R E T A M C (Refused n l)
+  pub refuses : {E T A M C : List ℕ} → Checks R E T A M C (Err r)
   refuses = record { answer = ap checked_case (sym e); holds = refused_only _ }
 
-  pub refuses_above : {A : List ℕ} → ChecksAbove R A (Refused n l)
+  pub refuses_above : {A : List ℕ} → ChecksAbove R A (Err r)
   refuses_above = record { answer = ap checked_case (sym e); tells = refused_only _ }
 
 -- The table of superclasses of what is held tells which class stands below which.
-pub checks_above : {R E T A M C : List ℕ} {r : Checked} → Checks R E T A M C r → ChecksAbove R A r
+pub checks_above : {R E T A M C : List ℕ} {r : Result ℕ Refusal} → Checks R E T A M C r → ChecksAbove R A r
 checks_above c = record {
   answer = c.answer;
   tells = λ p e. let h = (c.holds p e).1.headed in
@@ -62,26 +57,21 @@ checks_above c = record {
 }
 
 -- Where the check answers accepted, there is the program; else it refuses.
-pub checked_accepted : (c : results.Checked Program) (n : ℕ) → Accepted n ≡ checked_case c
+pub checked_accepted : (c : Checked Program) (n : ℕ) → ◌≡◌ {A = Result ℕ Refusal} (Ok n) (checked_case c)
     → (p : Program) × (c ≡ accept p)
-checked_accepted (accept p) n e = (p, refl)
-checked_accepted (refuse i l) n e = let z : ◌≡◌ {A = ℕ} 0 1 = cc in absurd (omega arith)
+checked_accepted c n e = let x = result_ok (λ (p : Program). length p.classes) c (sym e) in (x.a, x.is)
 
-pub checked_refused : (c : results.Checked Program) (n l : ℕ) → Refused n l ≡ checked_case c → c ≡ refuse n l
-checked_refused (accept p) n l e = let z : ◌≡◌ {A = ℕ} 0 1 = cc in absurd (omega arith)
-checked_refused (refuse i m) n l e = let a : n ≡ i = cc in let b : l ≡ m = cc in rw (a, b)
+pub checked_refused : (c : Checked Program) (r : Refusal) → ◌≡◌ {A = Result ℕ Refusal} (Err r) (checked_case c)
+    → c ≡ refuse r.number r.line
+checked_refused c r e = result_err (λ (p : Program). length p.classes) c r (sym e)
 
 -- ---- form
 
-form_accepted : (c : results.Checked Program) (n s : ℕ) → InForm n s ≡ formed_of c
-    → (p : Program) × (c ≡ accept p) × (length p.classes ≡ n) × (start_row p ≡ s)
-form_accepted (accept p) n s e =
-    let a : length p.classes ≡ n = cc in let b : start_row p ≡ s = cc in (p, refl, a, b)
-form_accepted (refuse i l) n s e = let z : ◌≡◌ {A = ℕ} 0 1 = cc in absurd (omega arith)
-
-form_refused : (c : results.Checked Program) (i l : ℕ) → NotInForm i l ≡ formed_of c → c ≡ refuse i l
-form_refused (accept p) i l e = let z : ◌≡◌ {A = ℕ} 0 1 = cc in absurd (omega arith)
-form_refused (refuse n m) i l e = let a : i ≡ n = cc in let b : l ≡ m = cc in rw (a, b)
+form_accepted : (c : Checked Program) (f : Formed) → ◌≡◌ {A = Result Formed Refusal} (Ok f) (formed_of c)
+    → (p : Program) × (c ≡ accept p) × (length p.classes ≡ f.classes) × (start_row p ≡ f.start)
+form_accepted c f e =
+    let x = result_ok found c (sym e) in
+    (x.a, x.is, ap (λ (f : Formed). f.classes) x.gives, ap (λ (f : Formed). f.start) x.gives)
 
 module _ (R : List ℕ) where
   -- A length that is not a multiple of 4.
@@ -94,13 +84,13 @@ module _ (R : List ℕ) where
     unfolding check whole_rows require
     check-is = rw (eq-eqb (length R % 4) 0 whole)
 
-    pub stands : (E E' : List ℕ) (n s : ℕ) (f : Formed) → f ≡ InForm n s
-        → f ≡ formed_of (form of_check (rows_of R))
+    pub stands : (E E' : List ℕ) (f : Formed)
+        → ◌≡◌ {A = Result Formed Refusal} (Ok f) (formed_of (form of_check (rows_of R)))
         → ((p : Program) → form of_check (rows_of R) ≡ accept p
         → E' ≡ program_ends p ++ drop (length (program_ends p)) E)
-        → Stands R E' n s
-    stands E E' n s f e b ends =
-        let x = form_accepted (form of_check (rows_of R)) n s (sym e ∙ b) in
+        → Stands R E' f.classes f.start
+    stands E E' f b ends =
+        let x = form_accepted (form of_check (rows_of R)) f b in
         record {
           program = x.0;
           formed = x.1;
@@ -109,10 +99,10 @@ module _ (R : List ℕ) where
           started = x.3;
         }
 
-    pub not_in_form : (i l : ℕ) (f : Formed) → f ≡ NotInForm i l → f ≡ formed_of (form of_check (rows_of R))
-        → check R ≡ refuse i l
+    pub not_in_form : (r : Refusal) → ◌≡◌ {A = Result Formed Refusal} (Err r) (formed_of (form of_check (rows_of R)))
+        → check R ≡ refuse r.number r.line
     unfolding three_passes bind_checked
-    not_in_form i l f e b = check-is ∙ rw (form_refused (form of_check (rows_of R)) i l (sym e ∙ b))
+    not_in_form r b = check-is ∙ rw (result_err found (form of_check (rows_of R)) r (sym b))
 
 -- ---- room
 
@@ -203,32 +193,28 @@ ready s r c b = record {
 }
 
 module _ {R E : List ℕ} {n start : ℕ} (s : Stands R E n start) where
-  abbrev P : results.Pass
+  abbrev P : Pass
   P = headings of_check s.program.classes
 
   abbrev count : ℕ
   count = length (placed_methods s.program.classes)
 
-  pub headings_passed : {T A M F : List ℕ} {many : ℕ} (h : answered.Headed) → length R % 4 ≡ 0
-      → h ≡ Passed many
-      → (h ≡ heads.headed count P)
-      × ((m : ℕ) → h ≡ Passed m
-      → ClassTables s.program.classes T A × MethodTables s.program.classes M F)
+  pub headings_passed : {T A M F : List ℕ} {many : ℕ} → length R % 4 ≡ 0
+      → ◌≡◌ {A = Result ℕ Refusal} (Ok many) (headed count P)
+      → ClassTables s.program.classes T A × MethodTables s.program.classes M F
       → HeadingsPassed R E T A M F n many start
-  headings_passed {many = many} h whole e f =
-      let t = f.1 many e in
-      record {
-        whole = whole;
-        stands = s;
-        headed = record {
-          here = s.here;
-          counted = s.counted;
-          passes = is_passed count P many (sym e ∙ f.0);
-          classes = t.0;
-          methods = t.1;
-        };
-        numbered = passed_count count P many (sym e ∙ f.0);
-      }
+  headings_passed {many = many} whole e t = record {
+    whole = whole;
+    stands = s;
+    headed = record {
+      here = s.here;
+      counted = s.counted;
+      passes = is_passed (λ _. count) P e;
+      classes = t.0;
+      methods = t.1;
+    };
+    numbered = passed_count count P many e;
+  }
 
   -- What the check comes to after form.
   after_form : length R % 4 ≡ 0
@@ -236,11 +222,10 @@ module _ {R E : List ℕ} {n start : ℕ} (s : Stands R E n start) where
   unfolding three_passes bind_checked
   after_form whole = check-is R whole ∙ rw s.formed
 
-  pub headings_refused : {T A M C : List ℕ} {i l : ℕ} (h : answered.Headed) → length R % 4 ≡ 0
-      → h ≡ NotPassed i l → h ≡ heads.headed count P → Checks R E T A M C (Refused i l)
+  pub headings_refused : {T A M C : List ℕ} → length R % 4 ≡ 0 → (r : Refusal)
+      → ◌≡◌ {A = Result ℕ Refusal} (Err r) (headed count P) → Checks R E T A M C (Err r)
   unfolding bind_checked
-  headings_refused {i = i} {l = l} h whole e f =
-      refuses R i l (after_form whole ∙ rw (is_refused count P i l (sym e ∙ f)))
+  headings_refused whole r e = refuses R r (after_form whole ∙ rw (is_refused (λ _. count) P r e))
 
 -- ---- bodies
 
@@ -265,27 +250,30 @@ module _ {R E T A M F : List ℕ} {n many start : ℕ} (w : HeadingsPassed R E T
   after_headings = after_form w.stands w.whole ∙ rw w.headed.passes
 
   -- What it answers is what the check does.
-  pub bodies_checked : {C C' : List ℕ} {v : typed.Verdict} {r : Checked}
-      → BodiesDone R E T A M F S C C' n many start width v → r ≡ typed_case n v → Checks R E T A M C' r
+  pub bodies_passed : {C C' : List ℕ} → BodiesDone R E T A M F S C C' n many start width (Ok tt)
+      → Checks R E T A M C' (Ok n)
   unfolding bind_checked
-  bodies_checked {C' = C'} {v} {r} d e = let b = d.are bodies_ready in go (bodies p) refl b
-    where
-      go : (x : Pass) → bodies p ≡ x → BodiesAre p C' v → Checks R E T A M C' r
-      go (accept u) q b =
-          let a : check R ≡ accept p = after_headings ∙ rw q in
-          let k : r ≡ Accepted n = e ∙ ap (typed_case n) (b.out ∙ ap typings.verdict_of q) in
-          record {
-            answer = k ∙ ap Accepted (sym w.stands.counted) ∙ ap checked_case (sym a);
-            holds = λ z g. (
-              F,
-              subst (Held R E T A M F C') (accept_injective (sym a ∙ g))
-                  (record {
-                    headed = subst (Headed R E T A M F p) (sym w.stands.counted) w.headed;
-                    typed = q;
-                    looks = b.looks q;
-                  }),
-            );
-          }
-      go (refuse i l) q b =
-          let k : r ≡ Refused i l = e ∙ ap (typed_case n) (b.out ∙ ap typings.verdict_of q) in
-          rw k (refuses R i l (after_headings ∙ rw q))
+  bodies_passed {C' = C'} d =
+      let y = d.are bodies_ready in
+      let q : bodies p ≡ passed = (result_ok (λ (u : Unit {0}). u) (bodies p) (sym y.out)).is in
+      let a : check R ≡ accept p = after_headings ∙ rw q in
+      record {
+        answer = ap Ok (sym w.stands.counted) ∙ ap checked_case (sym a);
+        holds = λ z g. (
+          F,
+          subst (Held R E T A M F C') (accept_injective (sym a ∙ g))
+              (record {
+                headed = subst (Headed R E T A M F p) (sym w.stands.counted) w.headed;
+                typed = q;
+                looks = y.looks q;
+              }),
+        );
+      }
+
+  pub bodies_refused : {C C' : List ℕ} (r : Refusal) → BodiesDone R E T A M F S C C' n many start width (Err r)
+      → Checks R E T A M C' (Err r)
+  unfolding bind_checked
+  bodies_refused r d =
+      let q : bodies p ≡ refuse r.number r.line =
+      result_err (λ (u : Unit {0}). u) (bodies p) r (sym (d.are bodies_ready).out) in
+      refuses R r (after_headings ∙ rw q)

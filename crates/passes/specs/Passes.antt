@@ -1,6 +1,6 @@
 -- What each part of the check is called on, and what it leaves: rows R, ends E, class tables T A, method table M,
 -- effects F, slots S, lookup classes C.
-use Rattle.std.specs.Prelude.{◌≡◌, ◌⊎◌, List, ℕ, ◌+◌, ◌*◌, ◌%◌, ◌≤◌, length}
+use Rattle.std.specs.Prelude.{◌≡◌, ◌⊎◌, List, Result, ℕ, ◌+◌, ◌*◌, ◌%◌, ◌≤◌, length}
 use Rattle.language.specs.Limits.{of_check}
 use Rattle.language.specs.Results.{accept}
 use Rattle.language.specs.Rows.{rows_of}
@@ -14,7 +14,7 @@ use Rattle.layout.specs.Held.{Held}
 use Rattle.classes.specs.Subclasses.{Subclasses}
 use Rattle.members.specs.Numbers.{numbers_a_method, most_methods}
 use Rattle.bodies.specs.Whole.{Spacious}
-use Rattle.passes.specs.declared.Checked.{Checked}
+use Rattle.language.specs.declared.Refusal.{Refusal}
 use Rattle.passes.specs.Answers.{checked_case}
 
 -- Tables come in sizes: for the numbers of at most 32 rows, of at most 1,024, and of more; for at most 7 classes, and for
@@ -24,6 +24,10 @@ short_numbers = 128
 
 abbrev pub few_numbers : ℕ
 few_numbers = 4096
+
+-- No size needs more slots than 256 for each of 128 levels of nesting, and as many again.
+abbrev pub most_slots : ℕ
+most_slots = 33024
 
 abbrev pub few_classes : ℕ
 few_classes = 7
@@ -56,11 +60,11 @@ pub record Stands (R E : List ℕ) (classes start : ℕ) : Type 0 where
   pub started : start_row program ≡ start
 
 -- The answer is that of the check; rows and tables hold the program that it accepts.
-pub record Checks (R E T A M C : List ℕ) (r : Checked) : Type 0 where
+pub record Checks (R E T A M C : List ℕ) (r : Result ℕ Refusal) : Type 0 where
   pub answer : r ≡ checked_case (check R)
   pub holds : (p : Program) → check R ≡ accept p → (F : List ℕ) × Held R E T A M F C p
 
 -- The same where the table of superclasses alone is kept: it tells which class stands below which.
-pub record ChecksAbove (R A : List ℕ) (r : Checked) : Type 0 where
+pub record ChecksAbove (R A : List ℕ) (r : Result ℕ Refusal) : Type 0 where
   pub answer : r ≡ checked_case (check R)
   pub tells : (p : Program) → check R ≡ accept p → Subclasses p.classes A

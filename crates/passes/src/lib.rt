@@ -1,11 +1,11 @@
 // The check after form: headings, then bodies, with tables that are lent, in sizes by the number of rows.
 #![tactic(auto)]
 
-ghost use Rattle.std.specs.Prelude.{◌≡◌, ◌≤◌, length};
-ghost use Rattle.passes.specs.Answers.{typed_case};
-ghost use Rattle.passes.specs.Passes.{Room, Stands, ClassRoom, BodyRoom, Checks, short_numbers, few_numbers};
+ghost use Rattle.std.specs.Prelude.{◌≤◌, replicate};
+ghost use Rattle.members.specs.Numbers.{most_methods};
+ghost use Rattle.passes.specs.Passes.{Room, Stands, ClassRoom, BodyRoom, Checks, most_slots};
 
-use language::{CLASS_WIDTH, METHOD_WIDTH, MOST_ROWS};
+use language::{CLASS_WIDTH, METHOD_WIDTH, MOST_ROWS, Refusal};
 
 // Tables come in three lengths, by the number of rows: for at most 32, for at most 1,024, and for all that there may be.
 pub const SHORT_ROWS: usize = 32;
@@ -41,30 +41,14 @@ pub const FEW_TABLE: usize = FEW_ENTRIES * CLASS_WIDTH;
 
 // How many slots may be in scope, and how many slots typing takes: as many for each level of nesting, of which there are at
 // most 128, and as many again. Of at most 32 rows no more slots are in scope, and no more nodes nested.
-const WIDTH: usize = 256;
+const ALL_WIDTH: usize = 256;
 
-const SLOTS: usize = WIDTH * 129;
+const ALL_SLOTS: usize = ALL_WIDTH * 129;
 
 const SHORT_SLOTS: usize = SHORT_ROWS * 33;
 
-// Accepted, with its number of classes; or a refusal's number and line.
-#[derive(Drop)]
-pub enum Checked {
-    Accepted(u32),
-    Refused(u32, u32),
-}
-
-// The answer of the body pass, with the number of classes.
-fn answer_of(typed: bodies::Verdict, classes: u32) -> Checked
-    ensures { result ≡ typed_case classes typed }
-{
-    match typed {
-        bodies::Verdict::Accepted => Checked::Accepted(classes),
-        bodies::Verdict::Refused(number, line) => Checked::Refused(number, line),
-    }
-}
-
-// After form: checks headings, then bodies, with tables and slots that are lent, as many for each level of nesting as `width`.
+// After form: checks headings, then bodies, with tables and slots that are lent, as many for each level of nesting as
+// `width`. Answers how many classes there are.
 fn check_with(
     rows: &[u32],
     ends: &[u16],
@@ -77,7 +61,7 @@ fn check_with(
     classes: u32,
     start: u32,
     width: usize,
-) -> Checked
+) -> Result<u32, Refusal>
     requires stands { Stands rows.now ends.now classes start }
     requires room { Room rows.now ends.now methods.old }
     requires class_room { ClassRoom tables.old above.old classes }
@@ -85,66 +69,26 @@ fn check_with(
     ensures { Checks rows.now ends.now tables.new above.new
         methods.new lookups.new result }
 {
-    let headed = headings::check_headings(rows, ends, tables, above, methods, effects);
-    match headed {
-        members::Headed::Passed(many) => {
-            let typed = bodies::check_bodies(
-                rows,
-                ends,
-                tables,
-                above,
-                methods,
-                effects,
-                slots,
-                lookups,
-                classes,
-                many as usize,
-                start as usize,
-                width,
-            );
-            answer_of(typed, classes)
-        }
-        members::Headed::Refused(number, line) => Checked::Refused(number, line),
-    }
-}
-
-// The same for at most 32 rows, with effects and slots of its own.
-fn check_formed_short(
-    rows: &[u32],
-    ends: &[u16],
-    tables: &mut [u16],
-    above: &mut [u64],
-    methods: &mut [u16],
-    lookups: &mut [u16],
-    classes: u32,
-    start: u32,
-) -> Checked
-    requires stands { Stands rows.now ends.now classes start }
-    requires room { Room rows.now ends.now methods.old }
-    requires class_room { ClassRoom tables.old above.old classes }
-    requires rows_len_bound { length rows.now ≤ short_numbers }
-    ensures { Checks rows.now ends.now tables.new above.new
-        methods.new lookups.new result }
-{
-    let mut effects = [0u64; SHORT_METHODS];
-    let mut slots = [0u32; SHORT_SLOTS];
-    check_with(
+    let many = headings::check_headings(rows, ends, tables, above, methods, effects)?;
+    bodies::check_bodies(
         rows,
         ends,
         tables,
         above,
         methods,
-        &mut effects,
-        &mut slots,
+        effects,
+        slots,
         lookups,
         classes,
-        start,
-        SHORT_ROWS,
-    )
+        many as usize,
+        start as usize,
+        width,
+    )?;
+    Ok(classes)
 }
 
-// The same for at most 1,024 rows, with effects and slots of its own.
-fn check_formed_few(
+// The same with effects and slots of its own, as many as rows of a size need.
+fn check_sized<const METHODS: usize, const SLOTS: usize>(
     rows: &[u32],
     ends: &[u16],
     tables: &mut [u16],
@@ -153,15 +97,17 @@ fn check_formed_few(
     lookups: &mut [u16],
     classes: u32,
     start: u32,
-) -> Checked
+    width: usize,
+) -> Result<u32, Refusal>
     requires stands { Stands rows.now ends.now classes start }
     requires room { Room rows.now ends.now methods.old }
     requires class_room { ClassRoom tables.old above.old classes }
-    requires rows_len_bound { length rows.now ≤ few_numbers }
+    requires bounded { (METHODS ≤ most_methods) × (SLOTS ≤ most_slots) }
+    requires body_room { BodyRoom rows.now (replicate METHODS 0) (replicate SLOTS 0) width }
     ensures { Checks rows.now ends.now tables.new above.new
         methods.new lookups.new result }
 {
-    let mut effects = [0u64; FEW_METHODS];
+    let mut effects = [0u64; METHODS];
     let mut slots = [0u32; SLOTS];
     check_with(
         rows,
@@ -174,47 +120,13 @@ fn check_formed_few(
         lookups,
         classes,
         start,
-        WIDTH,
+        width,
     )
 }
 
-// The same for any number of rows, with effects and slots of its own.
-fn check_formed_many(
-    rows: &[u32],
-    ends: &[u16],
-    tables: &mut [u16],
-    above: &mut [u64],
-    methods: &mut [u16],
-    lookups: &mut [u16],
-    classes: u32,
-    start: u32,
-) -> Checked
-    requires stands { Stands rows.now ends.now classes start }
-    requires room { Room rows.now ends.now methods.old }
-    requires class_room { ClassRoom tables.old above.old classes }
-    ensures { Checks rows.now ends.now tables.new above.new
-        methods.new lookups.new result }
-{
-    let mut effects = [0u64; ALL_METHODS];
-    let mut slots = [0u32; SLOTS];
-    check_with(
-        rows,
-        ends,
-        tables,
-        above,
-        methods,
-        &mut effects,
-        &mut slots,
-        lookups,
-        classes,
-        start,
-        WIDTH,
-    )
-}
-
-// After form: checks headings, then bodies, with tables that are lent. Where the rows are accepted, the
-// tables hold what translation and evaluation read; that of lookup classes may be empty, and is filled as far
-// as it goes. Effects and slots, which the check alone reads, are gone when it ends.
+// After form: checks headings, then bodies, with tables that are lent, and answers how many classes there are. Where the
+// rows are accepted, the tables hold what translation and evaluation read; that of lookup classes may be empty, and is
+// filled as far as it goes. Effects and slots, which the check alone reads, are gone when it ends.
 pub fn check_formed(
     rows: &[u32],
     ends: &[u16],
@@ -224,7 +136,7 @@ pub fn check_formed(
     lookups: &mut [u16],
     classes: u32,
     start: u32,
-) -> Checked
+) -> Result<u32, Refusal>
     requires stands { Stands rows.now ends.now classes start }
     requires room { Room rows.now ends.now methods.old }
     requires class_room { ClassRoom tables.old above.old classes }
@@ -232,10 +144,16 @@ pub fn check_formed(
         methods.new lookups.new result }
 {
     if rows.len() <= SHORT_NUMBERS {
-        return check_formed_short(rows, ends, tables, above, methods, lookups, classes, start);
+        return check_sized::<SHORT_METHODS, SHORT_SLOTS>(
+            rows, ends, tables, above, methods, lookups, classes, start, SHORT_ROWS,
+        );
     }
     if rows.len() <= FEW_NUMBERS {
-        return check_formed_few(rows, ends, tables, above, methods, lookups, classes, start);
+        return check_sized::<FEW_METHODS, ALL_SLOTS>(
+            rows, ends, tables, above, methods, lookups, classes, start, ALL_WIDTH,
+        );
     }
-    check_formed_many(rows, ends, tables, above, methods, lookups, classes, start)
+    check_sized::<ALL_METHODS, ALL_SLOTS>(
+        rows, ends, tables, above, methods, lookups, classes, start, ALL_WIDTH,
+    )
 }

@@ -1,24 +1,37 @@
 -- `passes::check_with` meets its contract. Assumes nothing.
+use mathlib.Core.Path.{◌≡◌, refl}
+use Rattle.std.proofs.Common.{rules, Err}
 use Rattle.passes.proofs.Passing.{ready, headings_passed, headings_refused, bodies_ready}
-use Rattle.passes.proofs.Passing.{bodies_checked}
+use Rattle.passes.proofs.Passing.{bodies_passed, bodies_refused}
 use Rattle.passes.proofs.check_with.Goals as goal
 
-pub check_headings-headed-requires : goal.check_headings-headed-requires
-check_headings-headed-requires c = ready c.requires.stands c.requires.room c.requires.class_room c.requires.body_room
+pub check_headings-requires : goal.check_headings-requires
+check_headings-requires c = ready c.requires.stands c.requires.room c.requires.class_room c.requires.body_room
 
-pub check_bodies-typed-requires : goal.check_bodies-typed-requires
-check_bodies-typed-requires c = bodies_ready (headings_passed c.requires.stands _ c.requires.room.whole c.in-Passed.is
-    (c.check_headings-headed.ensures
-    (ready c.requires.stands c.requires.room c.requires.class_room c.requires.body_room)))
-    c.requires.body_room
+pub returns-in_err-many : goal.returns-in_err-many
+returns-in_err-many c =
+    let e : c.from_residual.result ≡ Err c.in_err-many.field-0.0 = search rules in
+    let y = c.in_err-many.ensures
+    (ready c.requires.stands c.requires.room c.requires.class_room c.requires.body_room) in
+    rw e (headings_refused c.requires.stands c.requires.room.whole _ y.0)
 
-pub returns-in-Passed : goal.returns-in-Passed
-returns-in-Passed c = bodies_checked (headings_passed c.requires.stands _ c.requires.room.whole c.in-Passed.is
-    (c.check_headings-headed.ensures
-    (ready c.requires.stands c.requires.room c.requires.class_room c.requires.body_room)))
-    c.requires.body_room c.check_bodies-typed.ensures c.answer_of.ensures
+pub check_bodies-requires : goal.check_bodies-requires
+check_bodies-requires c =
+    let y = c.in_ok-many.ensures
+    (ready c.requires.stands c.requires.room c.requires.class_room c.requires.body_room) in
+    bodies_ready (headings_passed c.requires.stands c.requires.room.whole y.0 (y.1 _ refl)) c.requires.body_room
 
-pub returns-in-Refused : goal.returns-in-Refused
-returns-in-Refused c = headings_refused c.requires.stands _ c.requires.room.whole c.in-Refused.is
-    (c.check_headings-headed.ensures
-    (ready c.requires.stands c.requires.room c.requires.class_room c.requires.body_room)).0
+pub returns-in_err-check_bodies : goal.returns-in_err-check_bodies
+returns-in_err-check_bodies c =
+    let e : c.from_residual-in_err-check_bodies.result ≡ Err c.in_err-check_bodies.field-0.0 = search rules in
+    let y = c.in_ok-many.ensures
+    (ready c.requires.stands c.requires.room c.requires.class_room c.requires.body_room) in
+    rw e (bodies_refused (headings_passed c.requires.stands c.requires.room.whole y.0 (y.1 _ refl))
+    c.requires.body_room _ c.in_err-check_bodies.ensures)
+
+pub returns : goal.returns
+returns c =
+    let y = c.in_ok-many.ensures
+    (ready c.requires.stands c.requires.room c.requires.class_room c.requires.body_room) in
+    bodies_passed (headings_passed c.requires.stands c.requires.room.whole y.0 (y.1 _ refl)) c.requires.body_room
+    c.in_ok-check_bodies.ensures
